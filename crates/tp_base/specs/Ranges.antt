@@ -1,0 +1,22 @@
+-- The ranges of the typed numbers.
+use Rattle.std.specs.Prelude.{ℕ, ◌^◌, ◌<◌}
+
+-- frames of 4,096 bytes: no machine has more than 16,384
+abbrev pub IsFrameNo : ℕ → Type 0
+IsFrameNo n = n < 2 ^ 14
+
+-- lines of 16 bytes or more in that many frames
+abbrev pub IsLine : ℕ → Type 0
+IsLine n = n < 2 ^ 22
+
+-- page colours
+abbrev pub IsColour : ℕ → Type 0
+IsColour n = n < 64
+
+-- domains, and what is numbered after them
+abbrev pub IsDomainNo : ℕ → Type 0
+IsDomainNo n = n < 32
+
+-- a clock, and every sum of cycles
+abbrev pub IsCycles : ℕ → Type 0
+IsCycles n = n < 2 ^ 63

@@ -1,0 +1,160 @@
+// The typed numbers of the machine, each with its range.
+ghost use Rattle.std.specs.Prelude.{◌≡◌, ℕ};
+ghost use Rattle.tp_base.specs.Ranges.{IsFrameNo, IsLine, IsColour, IsDomainNo, IsCycles};
+
+use std::marker::Model;
+
+/// A physical frame number: an address divided by 4,096.
+#[derive(Clone, Copy, Debug, PartialEq, Eq)]
+pub struct FrameNo(u32);
+
+impl Model for FrameNo {
+    ghost Value = { ℕ };
+
+    ghost view = { λ n. n.0 };
+
+    ghost invariant = { λ n. IsFrameNo n.0 };
+
+    ghost inverse = { λ n. record { 0 = n } };
+}
+
+impl FrameNo {
+    /// A frame number below 16,384 (2^14).
+    pub fn new(number: u32) -> Self
+        requires { IsFrameNo number }
+        ensures { result ≡ number }
+    {
+        FrameNo(number)
+    }
+
+    pub fn number(self) -> u32
+        ensures same { result ≡ self }
+        ensures range { IsFrameNo result }
+    {
+        self.0
+    }
+}
+
+/// A physical line number: an address divided by the line size in bytes.
+#[derive(Clone, Copy, Debug, PartialEq, Eq)]
+pub struct Line(u32);
+
+impl Model for Line {
+    ghost Value = { ℕ };
+
+    ghost view = { λ n. n.0 };
+
+    ghost invariant = { λ n. IsLine n.0 };
+
+    ghost inverse = { λ n. record { 0 = n } };
+}
+
+impl Line {
+    /// A line number below 4,194,304 (2^22).
+    pub fn new(number: u32) -> Self
+        requires { IsLine number }
+        ensures { result ≡ number }
+    {
+        Line(number)
+    }
+
+    pub fn number(self) -> u32
+        ensures same { result ≡ self }
+        ensures range { IsLine result }
+    {
+        self.0
+    }
+}
+
+/// A page colour: a frame number modulo the number of colours.
+#[derive(Clone, Copy, Debug, PartialEq, Eq)]
+pub struct Colour(u8);
+
+impl Model for Colour {
+    ghost Value = { ℕ };
+
+    ghost view = { λ n. n.0 };
+
+    ghost invariant = { λ n. IsColour n.0 };
+
+    ghost inverse = { λ n. record { 0 = n } };
+}
+
+impl Colour {
+    /// A colour below 64.
+    pub fn new(number: u8) -> Self
+        requires { IsColour number }
+        ensures { result ≡ number }
+    {
+        Colour(number)
+    }
+
+    pub fn number(self) -> u8
+        ensures same { result ≡ self }
+        ensures range { IsColour result }
+    {
+        self.0
+    }
+}
+
+/// The number of a domain, by its place in the image.
+#[derive(Clone, Copy, Debug, PartialEq, Eq)]
+pub struct DomainNo(u8);
+
+impl Model for DomainNo {
+    ghost Value = { ℕ };
+
+    ghost view = { λ n. n.0 };
+
+    ghost invariant = { λ n. IsDomainNo n.0 };
+
+    ghost inverse = { λ n. record { 0 = n } };
+}
+
+impl DomainNo {
+    /// A domain number below 32.
+    pub fn new(number: u8) -> Self
+        requires { IsDomainNo number }
+        ensures { result ≡ number }
+    {
+        DomainNo(number)
+    }
+
+    pub fn number(self) -> u8
+        ensures same { result ≡ self }
+        ensures range { IsDomainNo result }
+    {
+        self.0
+    }
+}
+
+/// A number of cycles, or a moment on the clock.
+#[derive(Clone, Copy, Debug, PartialEq, Eq)]
+pub struct Cycles(u64);
+
+impl Model for Cycles {
+    ghost Value = { ℕ };
+
+    ghost view = { λ n. n.0 };
+
+    ghost invariant = { λ n. IsCycles n.0 };
+
+    ghost inverse = { λ n. record { 0 = n } };
+}
+
+impl Cycles {
+    /// A number of cycles below 2^63.
+    pub fn new(number: u64) -> Self
+        requires { IsCycles number }
+        ensures { result ≡ number }
+    {
+        Cycles(number)
+    }
+
+    pub fn number(self) -> u64
+        ensures same { result ≡ self }
+        ensures range { IsCycles result }
+    {
+        self.0
+    }
+}
