@@ -1,0 +1,10 @@
+pub mod Fuel
+pub mod ReachLaws
+pub mod ActLaws
+pub mod StepLaws
+pub mod TimeLaws
+pub mod OpeningLaws
+pub mod SwitchLaws
+pub mod WholeLaws
+pub mod ReportLaws
+pub mod ReadingLaws

@@ -1,0 +1,55 @@
+-- Steps of the domain from states that are beside give states that are beside, at equal cost.
+use Rattle.std.proofs.Common.{◌≡◌, ℕ, Bool, true, false, ltb, zero, suc, ◌+◌, ◌-◌, List, ap, refl, subst, subst₂}
+use Rattle.tp_base.specs.Act.{either}
+use Rattle.world_view.specs.Image.{Hardware, Own}
+use Rattle.world_view.specs.Domain.{Dom}
+use Rattle.world_view.specs.Reach.{Touch, Caches, reach_all}
+use Rattle.world_view.specs.Event.{Store, instr, Event, event}
+use Rattle.world_view.specs.Event.Event.{Jump, Run}
+use Rattle.world_view.specs.Machine.{Local, paid, happened, step, steps, stretch}
+use Rattle.world_view.specs.Laws.{BesideStore, BesideCaches, BesideReached, Beside}
+use Rattle.world_view.proofs.ReachLaws.{reach_all_near}
+use Rattle.world_view.proofs.ActLaws.{instr_near}
+
+both_if : (R : Local → Local → Type 0) (x y : Bool) → x ≡ y → (s t a b : Local) → R s a → R t b → R (elim x [ true ↦ s | false ↦ t ]) (elim y [ true ↦ a | false ↦ b ])
+both_if R true true e s t a b h k = h
+both_if R true false e s t a b h k = cc
+both_if R false true e s t a b h k = cc
+both_if R false false e s t a b h k = k
+
+module _ (p : Hardware) (o : Own) (end : ℕ) (first : Local) where
+  -- the same event, of the same domain at the same clock
+  happened_near : (d : Dom) (t : ℕ) (s a : Store) (c k : Caches) (e : Event) → BesideStore p o first.store s a → BesideCaches p o first.caches c k
+      → Beside p o first (happened p o false (record { dom = d; store = s; caches = c; clock = t }) e) (happened p o true (record { dom = d; store = a; caches = k; clock = t }) e)
+  unfolding happened paid
+  happened_near d t s a c k (Jump u) store caches = record { dom = refl; store = store; caches = caches; clock = refl }
+  happened_near d t s a c k Run store caches =
+      let n = (instr_near p o first.store t d).runs s a store in
+      let ts = (instr p o t d s).notes in
+      let r = subst (λ (us : List Touch). BesideReached p o first.caches (reach_all p false c ts) (reach_all p true k us)) n.notes (reach_all_near p o first.caches ts c k n.may caches) in
+      record { dom = ap either n.value; store = n.state; caches = r.caches; clock = ap (λ x. t + (p.base + x)) r.cost }
+
+  pub step_near : (s a : Local) → Beside p o first s a → Beside p o first (step p o false end s) (step p o true end a)
+  unfolding step
+  step_near s a b =
+      subst₂ (λ (d : Dom) (t : ℕ). Beside p o first (happened p o false s (event end s.dom)) (happened p o true (record { dom = d; store = a.store; caches = a.caches; clock = t }) (event end d))) b.dom b.clock
+      (happened_near s.dom s.clock s.store a.store s.caches a.caches (event end s.dom) b.store b.caches)
+
+  steps_near : (n : ℕ) (s a : Local) → Beside p o first s a → Beside p o first (steps p o false end n s) (steps p o true end n a)
+  unfolding steps
+  steps_near zero s a b = b
+  steps_near (suc n) s a b =
+      both_if (Beside p o first) _ _ (ap (λ x. ltb x end) b.clock) _ _ _ _ (steps_near n _ _ (step_near s a b)) b
+
+  pub stretch_near : (s a : Local) → Beside p o first s a → Beside p o first (stretch p o false end s) (stretch p o true end a)
+  stretch_near s a b =
+      subst (λ (t : ℕ). Beside p o first (stretch p o false end s) (steps p o true end (end - t) a)) b.clock (steps_near (end - s.clock) s a b)
+
+-- a state is beside itself
+pub beside_itself : (p : Hardware) (o : Own) (s : Local) → Beside p o s s s
+beside_itself p o s = record {
+  dom = refl;
+  store = record { same = λ f h. refl; outside = λ f h. refl };
+  caches = record { core = refl; same = tt; resident = tt };
+  clock = refl;
+}

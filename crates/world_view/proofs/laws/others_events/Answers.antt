@@ -1,0 +1,5 @@
+use Rattle.world_view.proofs.SwitchLaws.{others_step}
+use Rattle.world_view.proofs.laws.others_events.Goals as goal
+
+pub returns-clause-step : goal.returns-clause-step
+returns-clause-step c = others_step

@@ -1,0 +1,5 @@
+use Rattle.world_view.proofs.StepLaws.{step_near}
+use Rattle.world_view.proofs.laws.own_step.Goals as goal
+
+pub returns : goal.returns
+returns c = record { step = step_near }

@@ -1,0 +1,224 @@
+-- The words of the laws, and the laws.
+use Rattle.std.specs.Prelude.{◌≡◌, ◌≢◌, ℕ, true, false, IsTrue, ◌+◌, ◌-◌, ◌/◌, ◌<◌, ◌≤◌, List, [], ◌∷◌, length, Some}
+use Rattle.world_view.specs.Image.{Hardware, Entry, Own, Image, own_of, own_frame}
+use Rattle.world_view.specs.Reading.{image}
+use Rattle.world_view.specs.Schedule.{entry_in, entry_of_slot, pad_of, start, ended, outgoing}
+use Rattle.world_view.specs.Memory.{Mem, frame_at}
+use Rattle.world_view.specs.Reach.{Touch, Caches, Reached}
+use Rattle.world_view.specs.Event.{Store}
+use Rattle.world_view.specs.Machine.{Local, World, step, part_of, leave_part, enter_part, prefetch_part, flush_part, switch, whole, alone_enter, alone_out}
+use Rattle.world_view.specs.View.{view_whole, view_alone}
+use Rattle.world_view.specs.Report.{largest_of, report, report_apart}
+
+-- ---- what an accepted image gives
+
+abbrev pub IsDomain : Image → ℕ → Type 0
+IsDomain i d = d < length i.owns
+
+-- no frame of the one is a frame of the other
+abbrev pub Apart : Hardware → Own → Own → Type 0
+Apart p e o = (f : ℕ) → IsTrue (own_frame p o f) → own_frame p e f ≡ false
+
+-- the most cycles that one step takes: its base, as touches are free
+abbrev pub largest_step : Hardware → ℕ
+largest_step p = p.base
+
+-- the most cycles from a slot's end to the end of the next switch's work, which is free
+abbrev pub bound : Hardware → ℕ
+bound p = largest_step p - 1
+
+-- the laws hold of it
+pub record Runnable (i : Image) : Type 0 where
+  pub counted : i.all.domains ≡ length i.owns
+  pub timed : 0 < i.all.hardware.base
+  pub named : (k : ℕ) → IsDomain i (entry_of_slot i.all.schedule k).domain
+  pub held : (d : ℕ) → IsDomain i d → (own_of i d).frame < i.all.hardware.frames
+  pub apart : (d e : ℕ) → IsDomain i d → IsDomain i e → d ≢ e → Apart i.all.hardware (own_of i d) (own_of i e)
+  pub padded : (k : ℕ) → bound i.all.hardware ≤ pad_of i.all.schedule k
+
+-- its numbers are within the limits
+pub record InRange (i : Image) : Type 0 where
+  pub domains : length i.owns ≤ 16
+  pub frames : i.all.hardware.frames ≤ 4096
+  pub base : i.all.hardware.base ≤ 1000
+  pub some_entry : 0 < length i.all.schedule
+  pub few_entries : length i.all.schedule ≤ 64
+  pub lengths : (e : ℕ) → (entry_in i.all.schedule e).length ≤ 1000000
+  pub pads : (e : ℕ) → (entry_in i.all.schedule e).pad ≤ 1000000
+  pub codes : (d : ℕ) → length (own_of i d).code ≤ 4096
+
+pub record Accepted (i : Image) : Type 0 where
+  pub runnable : Runnable i
+  pub in_range : InRange i
+
+-- ---- what is alike, for a domain
+
+-- equal in the domain's frames
+abbrev pub SameFrames : Hardware → Own → Mem → Mem → Type 0
+SameFrames p o m k = (f : ℕ) → IsTrue (own_frame p o f) → frame_at m f ≡ frame_at k f
+
+-- equal in the domain's part of the caches that are not made fresh at a switch: there are none as yet
+abbrev pub SameSets : Hardware → Own → Caches → Caches → Type 0
+SameSets p o c k = Unit {0}
+
+-- all lines that the domains share are in those caches: there are none as yet
+abbrev pub Resident : Hardware → Caches → Type 0
+Resident p c = Unit {0}
+
+-- touches that a domain may make: it fetches from its own frames
+abbrev pub May : Hardware → Own → Touch → Type 0
+May p o (Touch.Fetch address) = IsTrue (own_frame p o (address / 4096))
+
+abbrev pub MayAll : Hardware → Own → List Touch → Type 0
+MayAll p o [] = Unit {0}
+MayAll p o (t ∷ ts) = May p o t × MayAll p o ts
+
+-- the whole machine's memory beside that of the domain alone; outside the domain's frames it is still as at first
+pub record BesideStore (p : Hardware) (o : Own) (first s a : Store) : Type 0 where
+  pub same : SameFrames p o s.mem a.mem
+  pub outside : (f : ℕ) → own_frame p o f ≡ false → frame_at s.mem f ≡ frame_at first.mem f
+
+-- the caches likewise
+pub record BesideCaches (p : Hardware) (o : Own) (first c k : Caches) : Type 0 where
+  pub core : c.core ≡ k.core
+  pub same : SameSets p o c k
+  pub resident : Resident p c
+
+-- equal costs, and caches that are beside
+pub record BesideReached (p : Hardware) (o : Own) (first : Caches) (r q : Reached) : Type 0 where
+  pub cost : r.cost ≡ q.cost
+  pub caches : BesideCaches p o first r.caches q.caches
+
+-- the whole machine in a slot of the domain, beside the domain alone
+pub record Beside (p : Hardware) (o : Own) (first s a : Local) : Type 0 where
+  pub dom : s.dom ≡ a.dom
+  pub store : BesideStore p o first.store s.store a.store
+  pub caches : BesideCaches p o first.caches s.caches a.caches
+  pub clock : s.clock ≡ a.clock
+
+-- related inside a slot of the domain
+pub record Within (p : Hardware) (o : Own) (s a : Local) : Type 0 where
+  pub dom : s.dom ≡ a.dom
+  pub frames : SameFrames p o s.store.mem a.store.mem
+  pub core : s.caches.core ≡ a.caches.core
+  pub sets : SameSets p o s.caches a.caches
+  pub clock : s.clock ≡ a.clock
+
+-- related outside the domain's slots
+pub record Apiece (p : Hardware) (o : Own) (s a : Local) : Type 0 where
+  pub dom : s.dom ≡ a.dom
+  pub frames : SameFrames p o s.store.mem a.store.mem
+  pub sets : SameSets p o s.caches a.caches
+
+-- what a state has of the domain's memory and caches, the later one has, too
+pub record Untouched (p : Hardware) (o : Own) (later s : Local) : Type 0 where
+  pub frames : SameFrames p o later.store.mem s.store.mem
+  pub sets : SameSets p o later.caches s.caches
+
+-- ---- time
+
+-- before switch k the clock is at the ended slot's end, or past it by less than the largest step
+pub record InTime (i : Image) (k : ℕ) (w : World) : Type 0 where
+  pub over : ended i.all.schedule k ≤ w.clock
+  pub soon : w.clock < ended i.all.schedule k + largest_step i.all.hardware
+
+-- each switch's cycles are at most its entry's pad
+abbrev pub AllWithinPads : List Entry → List (ℕ × ℕ) → Type 0
+AllWithinPads es [] = Unit {0}
+AllWithinPads es (u ∷ us) = (u.1 ≤ (entry_in es u.0).pad) × AllWithinPads es us
+
+-- ---- the laws
+
+-- what is seen of a domain is what is seen of it alone
+abbrev pub IsolationLaw : Type 0
+IsolationLaw = (i : Image) (d n : ℕ) → Runnable i → IsDomain i d → view_whole i d n ≡ view_alone i.all (own_of i d) d n
+
+-- the report's sections are those of each domain alone
+abbrev pub ReportLaw : Type 0
+ReportLaw = (i : Image) (n : ℕ) → Runnable i → report i n ≡ report_apart i n
+
+-- equal public parts, and equal own parts of d
+pub record Agree (i j : Image) (d : ℕ) : Type 0 where
+  pub all : i.all ≡ j.all
+  pub own : own_of i d ≡ own_of j d
+
+-- whatever the other domains are
+abbrev pub TwoRunLaw : Type 0
+TwoRunLaw = (i j : Image) (d n : ℕ) → Runnable i → Runnable j → IsDomain i d → Agree i j d → view_whole i d n ≡ view_whole j d n
+
+abbrev pub PadLaw : Type 0
+PadLaw = (i : Image) (n : ℕ) → Runnable i → AllWithinPads i.all.schedule (whole i n).used
+
+-- no switch line says more than its pad
+abbrev pub LinesLaw : Type 0
+LinesLaw = (i : Image) (n e : ℕ) → Runnable i → largest_of e (whole i n).used ≤ (entry_in i.all.schedule e).pad
+
+abbrev pub StartLaw : Type 0
+StartLaw = (i : Image) (k : ℕ) → Runnable i → (switch i k (whole i k)).clock ≡ start i.all.schedule k
+
+abbrev pub InTimeLaw : Type 0
+InTimeLaw = (i : Image) (k : ℕ) → Runnable i → InTime i k (whole i k)
+
+-- every image of the form that is read may be run
+abbrev pub ReadingLaw : Type 0
+ReadingLaw = (bytes : List ℕ) (i : Image) → image bytes ≡ Some i → Accepted i
+
+-- ---- the laws of one event and of one phase, of which isolation is made
+
+-- a step of another domain
+abbrev pub OthersStepLaw : Type 0
+OthersStepLaw = (i : Image) (d e : ℕ) (end : ℕ) (s : Local) → Runnable i → IsDomain i d → IsDomain i e → d ≢ e
+    → Untouched i.all.hardware (own_of i d) (step i.all.hardware (own_of i e) false end s) s
+
+-- another domain leaves or enters
+abbrev pub OthersLeaveLaw : Type 0
+OthersLeaveLaw = (i : Image) (d e : ℕ) (c : Caches) → Runnable i → IsDomain i d → IsDomain i e → d ≢ e
+    → SameSets i.all.hardware (own_of i d) (leave_part i (Some e) c).caches c
+
+abbrev pub OthersEnterLaw : Type 0
+OthersEnterLaw = (i : Image) (d e : ℕ) (c : Caches) → Runnable i → IsDomain i d → IsDomain i e → d ≢ e
+    → SameSets i.all.hardware (own_of i d) (enter_part i.all.hardware (own_of i e) false c).caches c
+
+-- the prefetch and the flush, whoever leaves and enters
+abbrev pub PrefetchLaw : Type 0
+PrefetchLaw = (i : Image) (d : ℕ) (c : Caches) → Runnable i → IsDomain i d → SameSets i.all.hardware (own_of i d) (prefetch_part i.all.hardware c).caches c
+
+abbrev pub FlushLaw : Type 0
+FlushLaw = (i : Image) (d : ℕ) (c : Caches) → Runnable i → IsDomain i d → SameSets i.all.hardware (own_of i d) (flush_part i.all.hardware c).caches c
+
+-- the domain's own step, from states that are beside: at equal cost, since the clocks stay equal
+abbrev pub OwnStepLaw : Type 0
+OwnStepLaw = (p : Hardware) (o : Own) (end : ℕ) (first s a : Local) → Beside p o first s a
+    → Beside p o first (step p o false end s) (step p o true end a)
+
+-- a switch from d to another
+abbrev pub SwitchOutLaw : Type 0
+SwitchOutLaw = (i : Image) (k d : ℕ) (w : World) (a : Local) → Runnable i → IsDomain i d
+    → outgoing i.all.schedule k ≡ Some d → (entry_of_slot i.all.schedule k).domain ≢ d
+    → Within i.all.hardware (own_of i d) (part_of d w) a
+    → Apiece i.all.hardware (own_of i d) (part_of d (switch i k w)) (alone_out i.all.hardware (own_of i d) a)
+
+-- a switch from another, or from nobody, to d
+abbrev pub SwitchInLaw : Type 0
+SwitchInLaw = (i : Image) (k d : ℕ) (w : World) (a : Local) → Runnable i → IsDomain i d → InTime i k w
+    → outgoing i.all.schedule k ≢ Some d → (entry_of_slot i.all.schedule k).domain ≡ d
+    → Apiece i.all.hardware (own_of i d) (part_of d w) a
+    → Within i.all.hardware (own_of i d) (part_of d (switch i k w)) (alone_enter i.all (own_of i d) k a)
+
+-- a switch from d to d
+abbrev pub SwitchBothLaw : Type 0
+SwitchBothLaw = (i : Image) (k d : ℕ) (w : World) (a : Local) → Runnable i → IsDomain i d → InTime i k w
+    → outgoing i.all.schedule k ≡ Some d → (entry_of_slot i.all.schedule k).domain ≡ d
+    → Within i.all.hardware (own_of i d) (part_of d w) a
+    → Within i.all.hardware (own_of i d) (part_of d (switch i k w)) (alone_enter i.all (own_of i d) k (alone_out i.all.hardware (own_of i d) a))
+
+-- a switch between others
+abbrev pub SwitchPastLaw : Type 0
+SwitchPastLaw = (i : Image) (k d : ℕ) (w : World) (a : Local) → Runnable i → IsDomain i d
+    → outgoing i.all.schedule k ≢ Some d → (entry_of_slot i.all.schedule k).domain ≢ d
+    → Apiece i.all.hardware (own_of i d) (part_of d w) a
+    → Apiece i.all.hardware (own_of i d) (part_of d (switch i k w)) a
+
+-- from the boot on
+abbrev pub ResidencyLaw : Type 0
+ResidencyLaw = (i : Image) (k : ℕ) → Runnable i → Resident i.all.hardware (switch i k (whole i k)).caches

@@ -1,0 +1,17 @@
+pub mod Image
+pub mod Partial
+pub mod Reading
+pub mod Schedule
+pub mod Memory
+pub mod Domain
+pub mod Instruction
+pub mod Reach
+pub mod Event
+pub mod Machine
+pub mod View
+pub mod Texts
+pub mod Report
+pub mod Status
+pub mod Answer
+pub mod Laws
+pub mod Example

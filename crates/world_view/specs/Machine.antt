@@ -1,0 +1,151 @@
+-- The whole machine, and one domain alone.
+use Rattle.std.specs.Prelude.{ℕ, zero, suc, ◌+◌, ◌-◌, ◌==◌, max, nat_lt, Bool, true, false, List, [], ◌∷◌, ◌++◌, Option, Some, None}
+use Rattle.tp_base.specs.Table.{Table, empty, at, put}
+use Rattle.tp_base.specs.Act.{Done, either}
+use Rattle.world_view.specs.Image.{Hardware, Public, Own, Image, own_of}
+use Rattle.world_view.specs.Schedule.{entry_of_slot, switch_entry, start, slot_end, ended, outgoing}
+use Rattle.world_view.specs.Memory.{placed, all_placed}
+use Rattle.world_view.specs.Domain.{Dom, opening_dom, no_dom}
+use Rattle.world_view.specs.Reach.{Touch, Caches, fresh_core, cold, Reached, unmoved, and_then, reach_all}
+use Rattle.world_view.specs.Event.{Store, instr, Event, event}
+use Rattle.world_view.specs.Event.Event.{Jump, Run}
+
+-- ---- a domain in its slot
+
+-- what it can see and change: on the whole machine all of memory and the caches, not its own part alone
+pub record Local : Type 0 where
+  pub dom : Dom
+  pub store : Store
+  pub caches : Caches
+  pub clock : ℕ
+
+-- the work was done at this clock; its touches are paid now
+unfoldable pub paid : Hardware → Bool → Caches → ℕ → Done Store Touch Dom Dom → Local
+paid p pinned c t r =
+    let q = reach_all p pinned c r.notes in
+    record { dom = either r.value; store = r.state; caches = q.caches; clock = t + (p.base + q.cost) }
+
+unfoldable pub happened : Hardware → Own → Bool → Local → Event → Local
+happened p o pinned s (Jump t) = record s { clock = t }
+happened p o pinned s Run = paid p pinned s.caches s.clock (instr p o s.clock s.dom s.store)
+
+-- one event in a slot that ends then
+unfoldable pub step : Hardware → Own → Bool → ℕ → Local → Local
+step p o pinned end s = happened p o pinned s (event end s.dom)
+
+-- as many steps, at most, while the clock is below the end
+unfoldable pub steps : Hardware → Own → Bool → ℕ → ℕ → Local → Local
+steps p o pinned end zero s = s
+steps p o pinned end (suc n) s = elim (nat_lt s.clock end) [ true ↦ steps p o pinned end n (step p o pinned end s) | false ↦ s ]
+
+-- steps while the clock is below the end: each takes a cycle or more
+abbrev pub stretch : Hardware → Own → Bool → ℕ → Local → Local
+stretch p o pinned end s = steps p o pinned end (end - s.clock) s
+
+-- ---- a switch, in its parts
+
+-- what a clone touches as its domain leaves and enters, and the kernel's shared lines: none as yet
+abbrev pub leave_touches : Hardware → Own → List Touch
+leave_touches p o = []
+
+abbrev pub enter_touches : Hardware → Own → List Touch
+enter_touches p o = []
+
+abbrev pub prefetch_touches : Hardware → List Touch
+prefetch_touches p = []
+
+unfoldable pub leave_part : Image → Option ℕ → Caches → Reached
+leave_part i None c = unmoved c
+leave_part i (Some d) c = reach_all i.all.hardware false c (leave_touches i.all.hardware (own_of i d))
+
+unfoldable pub prefetch_part : Hardware → Caches → Reached
+prefetch_part p c = reach_all p false c (prefetch_touches p)
+
+unfoldable pub flush_part : Hardware → Caches → Reached
+flush_part p c = record { cost = 0; caches = record c { core = fresh_core p } }
+
+unfoldable pub enter_part : Hardware → Own → Bool → Caches → Reached
+enter_part p o pinned c = reach_all p pinned c (enter_touches p o)
+
+unfoldable pub switch_work : Image → Option ℕ → ℕ → Caches → Reached
+switch_work i out d c =
+    let p = i.all.hardware in
+    and_then (and_then (and_then (leave_part i out c) (prefetch_part p)) (flush_part p)) (enter_part p (own_of i d) false)
+
+-- ---- the whole machine
+
+pub record World : Type 0 where
+  pub doms : Table Dom
+  pub store : Store
+  pub caches : Caches
+  pub clock : ℕ
+  pub used : List (ℕ × ℕ)  -- for each switch its entry, and the cycles from the ended slot's end to the end of its work
+
+abbrev pub dom_of : World → ℕ → Dom
+dom_of w d = at no_dom w.doms d
+
+abbrev pub part_of : ℕ → World → Local
+part_of d w = record { dom = dom_of w d; store = w.store; caches = w.caches; clock = w.clock }
+
+unfoldable pub with_part : ℕ → World → Local → World
+with_part d w s = record w { doms = put w.doms d s.dom; store = s.store; caches = s.caches; clock = s.clock }
+
+-- switch k: its work, and then the wait for the next start
+unfoldable pub switch : Image → ℕ → World → World
+switch i k w =
+    let es = i.all.schedule in
+    let r = switch_work i (outgoing es k) (entry_of_slot es k).domain w.caches in
+    let now = w.clock + r.cost in
+    record w { caches = r.caches; clock = max now (start es k); used = w.used ++ (switch_entry es k, now - ended es k) ∷ [] }
+
+unfoldable pub run_slot : Image → ℕ → World → World
+run_slot i k w =
+    let d = (entry_of_slot i.all.schedule k).domain in
+    let before = switch i k w in
+    with_part d before (stretch i.all.hardware (own_of i d) false (slot_end i.all.schedule k) (part_of d before))
+
+-- the domains from number d on, each at its entry
+unfoldable pub opening_doms : List Own → ℕ → Table Dom
+opening_doms [] d = empty
+opening_doms (o ∷ os) d = put (opening_doms os (suc d)) d (opening_dom o)
+
+unfoldable pub opening : Image → World
+opening i = record {
+  doms = opening_doms i.owns 0;
+  store = record { mem = all_placed i.owns };
+  caches = cold i.all.hardware;
+  clock = 0;
+  used = [];
+}
+
+-- after so many slots
+unfoldable pub whole : Image → ℕ → World
+whole i zero = opening i
+whole i (suc k) = run_slot i k (whole i k)
+
+-- ---- the domain alone: one domain, its own frames, and nobody else to switch from or to
+
+unfoldable pub alone_opening : Hardware → Own → Local
+alone_opening p o = record { dom = opening_dom o; store = record { mem = placed o empty }; caches = cold p; clock = 0 }
+
+-- slot k begins: on-core state is fresh, the clock stands at its start, and enter isn't charged
+unfoldable pub alone_enter : Public → Own → ℕ → Local → Local
+alone_enter p o k s =
+    let r = enter_part p.hardware o true (record s.caches { core = fresh_core p.hardware }) in
+    record s { caches = r.caches; clock = start p.schedule k }
+
+-- slot k up to its end
+unfoldable pub alone_in : Public → Own → ℕ → Local → Local
+alone_in p o k s = stretch p.hardware o true (slot_end p.schedule k) (alone_enter p o k s)
+
+-- leave isn't charged either
+unfoldable pub alone_out : Hardware → Own → Local → Local
+alone_out p o s = record s { caches = (reach_all p true s.caches (leave_touches p o)).caches }
+
+unfoldable pub alone_if : Public → Own → ℕ → Local → Bool → Local
+alone_if p o k s true = alone_out p.hardware o (alone_in p o k s)
+alone_if p o k s false = s
+
+unfoldable pub alone : Public → Own → ℕ → ℕ → Local
+alone p o d zero = alone_opening p.hardware o
+alone p o d (suc k) = alone_if p o k (alone p o d k) ((entry_of_slot p.schedule k).domain == d)

@@ -1,0 +1,62 @@
+-- The texts that the program writes.
+use Rattle.std.specs.Prelude.{ℕ, max, ◌==◌, if◌then◌else◌, List, [], ◌∷◌, length, codes, decimal, count_by}
+use Rattle.std.specs.List.{concat, flat_map, range_with_len}
+use Rattle.world_view.specs.Image.{Entry, Image, own_of}
+use Rattle.world_view.specs.Schedule.{entry_in}
+use Rattle.world_view.specs.Machine.{whole}
+use Rattle.world_view.specs.View.{View, view_whole, view_alone}
+use Rattle.world_view.specs.Texts.{section}
+
+-- ---- switches
+
+-- how many switches belong to an entry
+unfoldable pub count_of : ℕ → List (ℕ × ℕ) → ℕ
+count_of e used = count_by (λ u. u.0 == e) used
+
+-- the most cycles that one of them took; 0 where there is none
+unfoldable pub largest_of : ℕ → List (ℕ × ℕ) → ℕ
+largest_of e [] = 0
+largest_of e (u ∷ us) = if u.0 == e then max u.1 (largest_of e us) else largest_of e us
+
+unfoldable pub switch_line : ℕ → ℕ → ℕ → ℕ → List ℕ
+switch_line e largest pad count = concat (codes "switch " ∷ decimal e ∷ codes " used " ∷ decimal largest ∷ codes " pad " ∷ decimal pad ∷ codes " count " ∷ decimal count ∷ codes "\n" ∷ [])
+
+unfoldable pub switch_text : List Entry → List (ℕ × ℕ) → ℕ → List ℕ
+switch_text es used e = switch_line e (largest_of e used) (entry_in es e).pad (count_of e used)
+
+-- a line for each entry
+unfoldable pub switch_lines : List Entry → List (ℕ × ℕ) → List ℕ
+switch_lines es used = flat_map (switch_text es used) (range_with_len 0 (length es))
+
+-- ---- the report
+
+unfoldable pub end_text : List ℕ
+end_text = codes "end\n"
+
+-- the section that a view of domain d gets
+unfoldable pub section_of : Image → (ℕ → View) → ℕ → List ℕ
+section_of i views d = section d (own_of i d).name (views d)
+
+unfoldable pub sections : Image → (ℕ → View) → List ℕ
+sections i views = flat_map (section_of i views) (range_with_len 0 (length i.owns))
+
+-- sections by domain, switch lines by entry, and the end
+unfoldable pub report_with : Image → (ℕ → View) → List (ℕ × ℕ) → List ℕ
+report_with i views used = concat (sections i views ∷ switch_lines i.all.schedule used ∷ end_text ∷ [])
+
+-- the report of the whole machine after n slots
+unfoldable pub report : Image → ℕ → List ℕ
+report i n = report_with i (λ d. view_whole i d n) (whole i n).used
+
+-- the report in which each section is that of its domain alone
+unfoldable pub report_apart : Image → ℕ → List ℕ
+report_apart i n = report_with i (λ d. view_alone i.all (own_of i d) d n) (whole i n).used
+
+-- ---- other texts
+
+unfoldable pub usage_text : List ℕ
+usage_text = codes "usage: tp check|bound|run|alone|gen|demo\n"
+
+-- the bytes are no image
+unfoldable pub refusal_text : List ℕ
+refusal_text = codes "refused K1 at 0 found 0 wanted 0\n"

@@ -1,0 +1,51 @@
+-- What can be seen of a domain: its state, and the words of its pool.
+use Rattle.std.specs.Prelude.{ℕ, ◌-◌, List, length, take, map, filter, slice_get, Option}
+use Rattle.std.specs.List.{range_with_len}
+use Rattle.world_view.specs.declared.DomainStatus.{DomainStatus}
+use Rattle.world_view.specs.declared.Reply.{Reply}
+use Rattle.world_view.specs.Image.{Hardware, Public, Own, Image, own_of, own_frame}
+use Rattle.world_view.specs.Memory.{frame_at, frame_words}
+use Rattle.world_view.specs.Domain.{Thread, Dom}
+use Rattle.world_view.specs.Event.{Store}
+use Rattle.world_view.specs.Machine.{whole, dom_of, alone}
+
+-- a list that may be long: how many, the last, and the first 256
+pub record Log (A : Type 0) : Type 0 where
+  pub count : ℕ
+  pub last : Option A
+  pub first : List A
+
+unfoldable pub log_of : {A : Type 0} → List A → Log A
+log_of xs = record { count = length xs; last = slice_get xs (length xs - 1); first = take 256 xs }
+
+pub record View : Type 0 where
+  pub status : DomainStatus
+  pub retired : ℕ
+  pub thread : Thread
+  pub readings : Log ℕ
+  pub replies : Log Reply
+  pub printed : List ℕ
+  pub frames : List (List ℕ)  -- the words of each frame of the pool
+
+-- the frames of a domain, ascending
+unfoldable pub pool : Hardware → Own → List ℕ
+pool p o = filter (own_frame p o) (range_with_len 0 p.frames)
+
+unfoldable pub view : Hardware → Own → Dom → Store → View
+view p o d s = record {
+  status = d.status;
+  retired = d.retired;
+  thread = d.thread;
+  readings = log_of d.readings;
+  replies = log_of d.replies;
+  printed = d.printed;
+  frames = map (λ f. frame_words (frame_at s.mem f)) (pool p o);
+}
+
+-- domain d of the whole machine after n slots
+unfoldable pub view_whole : Image → ℕ → ℕ → View
+view_whole i d n = let w = whole i n in view i.all.hardware (own_of i d) (dom_of w d) w.store
+
+-- the same domain alone, from the public part and its own
+unfoldable pub view_alone : Public → Own → ℕ → ℕ → View
+view_alone p o d n = let s = alone p o d n in view p.hardware o s.dom s.store

@@ -1,0 +1,50 @@
+//! Laws of the machine over its definitions, each the contract of a function
+//! that does nothing: a caller that calls it may rely on the law.
+ghost use Rattle.world_view.specs.Laws.{ReadingLaw, IsolationLaw, TwoRunLaw, ReportLaw, PadLaw, LinesLaw, StartLaw, InTimeLaw, OthersStepLaw, OthersLeaveLaw, OthersEnterLaw, PrefetchLaw, FlushLaw, OwnStepLaw, SwitchOutLaw, SwitchInLaw, SwitchBothLaw, SwitchPastLaw, ResidencyLaw};
+
+/// Every image of the form that is read may be run, and its numbers are within the limits.
+pub fn reading()
+    ensures accepted { ReadingLaw }
+{}
+
+/// What is seen of a domain is what is seen of it alone, whatever the others are.
+pub fn isolation()
+    ensures isolated { IsolationLaw }
+    ensures two_runs { TwoRunLaw }
+    ensures reported { ReportLaw }
+{}
+
+/// No switch overruns its pad, and each slot begins at exactly its start.
+pub fn pads()
+    ensures used { PadLaw }
+    ensures lines { LinesLaw }
+    ensures start { StartLaw }
+    ensures in_time { InTimeLaw }
+{}
+
+/// An event of another domain, and each phase of a switch, leaves a domain as it was.
+pub fn others_events()
+    ensures step { OthersStepLaw }
+    ensures leave { OthersLeaveLaw }
+    ensures enter { OthersEnterLaw }
+    ensures prefetch { PrefetchLaw }
+    ensures flush { FlushLaw }
+{}
+
+/// A domain's own step does the same among others and alone, at equal cost.
+pub fn own_step()
+    ensures step { OwnStepLaw }
+{}
+
+/// A switch out of a domain, into it, from it to itself, and between others.
+pub fn switches()
+    ensures out { SwitchOutLaw }
+    ensures into { SwitchInLaw }
+    ensures both { SwitchBothLaw }
+    ensures past { SwitchPastLaw }
+{}
+
+/// What the domains share stays where every domain finds it.
+pub fn residency()
+    ensures resident { ResidencyLaw }
+{}
