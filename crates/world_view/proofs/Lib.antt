@@ -8,3 +8,4 @@ pub mod SwitchLaws
 pub mod WholeLaws
 pub mod ReportLaws
 pub mod ReadingLaws
+pub mod CodeLaws

@@ -1,0 +1,6 @@
+pub mod Bytes
+pub mod Causes
+pub mod Sends
+pub mod Calls
+pub mod Objects
+pub mod Adapted

@@ -1,0 +1,38 @@
+//! Where bytes come from and go to.
+//!
+//! A `Source` gives bytes and a `Sink` takes them, in as many calls as they
+//! like. Each counts its faults: a call answers `Failed` only where the count
+//! rose, and every other call leaves the count, so that a caller can tell from
+//! the two counts alone whose fault ended it.
+//!
+//! Each also tells its bytes, what a source has `left` and what a sink has
+//! `written`, where it can. A **silent** object tells nothing: its bytes are
+//! `None` before and after each call, and every clause that names them says
+//! nothing of content, though counts and lengths still hold. The adapters over
+//! std's readers and writers are silent, since no proof knows what the world
+//! outside gives or keeps; the objects in memory tell everything.
+#![tactic(auto)]
+
+mod calls;
+mod mem_sink;
+mod mem_source;
+mod sink;
+mod source;
+mod std_streams;
+mod sure_source;
+
+pub use mem_sink::MemSink;
+pub use mem_source::MemSource;
+pub use sink::{Sink, write_all_of};
+pub use source::{ReadError, Source, read_within};
+pub use std_streams::{StdSink, StdSource};
+pub use sure_source::SureSource;
+use thiserror::Error;
+
+/// A read or a write failed; the object's count of faults rose.
+#[derive(Clone, Copy, Debug, PartialEq, Eq, Error)]
+#[error("a read or a write failed")]
+pub struct Failed;
+
+#[cfg(test)]
+mod tests;

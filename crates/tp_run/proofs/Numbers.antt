@@ -1,0 +1,55 @@
+-- Loops over the numbers below n that write a text for each.
+use Rattle.std.proofs.Common.{◌≡◌, ℕ, zero, suc, ◌+◌, ◌-◌, ◌<◌, List, ◌∷◌, ◌++◌, Option, Ok, Err, refl, sym, ap, ◌∙◌, subst, arith}
+use Rattle.std.specs.List.{flat_map, range_with_len}
+use Rattle.std.proofs.lemmas.List.{append-nil}
+use Rattle.std.proofs.lemmas.List.Concat.{flat_map-append}
+use Rattle.tp_io.specs.Bytes.{after_known}
+use Rattle.tp_io.specs.Sends.{Sends}
+use Rattle.tp_io.proofs.Known.{after_known-after_known}
+use Rattle.tp_run.proofs.Between.{fails_between}
+
+range-add : (a m k : ℕ) → range_with_len a (m + k) ≡ range_with_len a m ++ range_with_len (a + m) k
+range-add a zero k =
+    let e : zero + k ≡ k = omega arith in
+    let s : a + zero ≡ a = omega arith in
+    rw (e, s) refl
+range-add a (suc m) k =
+    let e : suc m + k ≡ suc (m + k) = omega arith in
+    let s : a + suc m ≡ (a + 1) + m = omega arith in
+    rw (e, s) (ap (λ ns. a ∷ ns) (range-add (a + 1) m k))
+
+range_more : (f : ℕ → List ℕ) (i : ℕ) → flat_map f (range_with_len 0 (i + 1)) ≡ flat_map f (range_with_len 0 i) ++ f i
+range_more f i =
+    let s : 0 + i ≡ i = omega arith in
+    ap (flat_map f) (range-add 0 i 1) ∙ flat_map-append f (range_with_len 0 i) (range_with_len (0 + i) 1)
+    ∙ ap (λ text. flat_map f (range_with_len 0 i) ++ text) (append-nil (f (0 + i)) ∙ ap f s)
+
+range_at : (f : ℕ → List ℕ) (n i : ℕ) → i < n → flat_map f (range_with_len 0 n) ≡ flat_map f (range_with_len 0 i) ++ (f i ++ flat_map f (range_with_len (i + 1) (n - (i + 1))))
+range_at f n i h =
+    let e : n ≡ i + suc (n - (i + 1)) = omega arith in
+    let s : 0 + i ≡ i = omega arith in
+    ap (λ k. flat_map f (range_with_len 0 k)) e ∙ ap (flat_map f) (range-add 0 i (suc (n - (i + 1))))
+    ∙ flat_map-append f (range_with_len 0 i) (range_with_len (0 + i) (suc (n - (i + 1))))
+    ∙ ap (λ k. flat_map f (range_with_len 0 i) ++ flat_map f (range_with_len k (suc (n - (i + 1))))) s
+
+-- the exit, where the text of i failed
+pub number_fails : {T U D E : Type 0} (f : ℕ → List ℕ) (n i : ℕ) (old mid new : Option (List ℕ)) (before now : ℕ) (e : D) (d : E)
+    → i < n → mid ≡ after_known old (flat_map f (range_with_len 0 i)) → Sends {T = T} {E = D} mid new before now (Err e) (f i) → Sends {T = U} {E = E} old new before now (Err d) (flat_map f (range_with_len 0 n))
+number_fails {T} {U} {D} {E} f n i old mid new before now e d h put sends =
+    let P : List ℕ → Type 0 = λ text. Sends {T = U} {E = E} old new before now (Err d) text in
+    subst P (sym (range_at f n i h)) (fails_between old mid new before now e d (flat_map f (range_with_len 0 i)) (f i) (flat_map f (range_with_len (i + 1) (n - (i + 1)))) put sends)
+
+-- the step
+pub numbers_more : {T E : Type 0} (f : ℕ → List ℕ) (i : ℕ) (old mid new : Option (List ℕ)) (before now : ℕ) (y : T)
+    → mid ≡ after_known old (flat_map f (range_with_len 0 i)) → Sends {T = T} {E = E} mid new before now (Ok y) (f i) → new ≡ after_known old (flat_map f (range_with_len 0 (i + 1)))
+numbers_more f i old mid new before now y put sends =
+    sends.ok ∙ ap (λ k. after_known k (f i)) put ∙ after_known-after_known old (flat_map f (range_with_len 0 i)) (f i) ∙ ap (after_known old) (sym (range_more f i))
+
+-- the end
+pub numbers_sent : {T E : Type 0} (f : ℕ → List ℕ) (n i : ℕ) (old mid : Option (List ℕ)) (before now : ℕ) (y : T)
+    → n ≡ i → now ≡ before → mid ≡ after_known old (flat_map f (range_with_len 0 i)) → Sends {T = T} {E = E} old mid before now (Ok y) (flat_map f (range_with_len 0 n))
+numbers_sent f n i old mid before now y e steady put = record {
+  ok = put ∙ ap (λ k. after_known old (flat_map f (range_with_len 0 k))) (sym e);
+  front = tt;
+  cause = record { failed = tt; steady = steady; never_falls = omega (arith, steady) };
+}

@@ -1,0 +1,154 @@
+-- One slot, of the code's machine and of the definitions.
+use Rattle.std.proofs.Common.{◌≡◌, ℕ, false, inl, inr, suc, ◌+◌, ◌-◌, ◌%◌, ◌<◌, ◌≤◌, max, List, [], ◌∷◌, ◌++◌, length, map, get_or, Some, refl, sym, ap, ap₂, subst, subst₂, ◌∙◌, arith, add-one, mod-lt}
+use Rattle.std.specs.List.{slice_get}
+use Rattle.std.proofs.Math.ListN.{set}
+use Rattle.std.proofs.lemmas.Bool.{cases_lt}
+use Rattle.std.proofs.lemmas.List.{length-map, length-set, get_or-map}
+use Rattle.std.proofs.lemmas.Option.{slice_get_within}
+use Rattle.tp_base.specs.Table.{at}
+use Rattle.world_view.specs.Image as spec
+use Rattle.world_view.specs.Image.{Image, own_of}
+use Rattle.world_view.specs.Schedule.{entry_of_slot, switch_entry, start, slot_end, no_entry}
+use Rattle.world_view.specs.Memory.{frame_at, frame_words}
+use Rattle.world_view.specs.Domain.{Dom, no_dom}
+use Rattle.world_view.specs.Event.{Store}
+use Rattle.world_view.specs.Machine.{Local, stretch, run_slot, whole, dom_of}
+use Rattle.world_view.specs.View.{View, log_of, view}
+use Rattle.world_view.proofs.CodeLaws.{switch-doms, switch-store, switch-clock, slot_begun, slot_over, run_slot-dom_same, run_slot-dom_other, run_slot-store, run_slot-clock, run_slot-used, pool-one}
+use Rattle.tp_run.specs.declared.domain.Domain.{Domain}
+use Rattle.tp_run.specs.declared.image.Entry.{Entry}
+use Rattle.tp_run.specs.declared.image.Image.{Image as CodeImage}
+use Rattle.tp_run.specs.declared.memory.FrameMemory.{FrameMemory}
+use Rattle.tp_run.specs.declared.used.Used.{Used}
+use Rattle.tp_run.specs.Frames.{HoldsFrames}
+use Rattle.tp_run.specs.ImageViews.{entry_view, own_view}
+use Rattle.tp_run.specs.Views.{image_view, log_view, thread_view}
+use Rattle.tp_run.specs.Stands.{Stands, CountsUpTo}
+use Rattle.tp_run.specs.Moves.{StandsIn, Moves}
+use Rattle.tp_run.specs.Usage.{IsUsed, CountedUpTo}
+use Rattle.tp_run.specs.Worlds.{StandsFor, IsInBounds}
+use Rattle.tp_run.proofs.Elements.{each_set}
+
+-- ---- the entry of a slot
+
+pub entry_of_slot-is : (items : List Entry) (k n : ℕ) (e : Entry) → n ≡ length items → k % n < n → e ≡ get_or items (k % n) e → entry_of_slot (map entry_view items) k ≡ entry_view e
+entry_of_slot-is items k n e long within read =
+    let same : length (map entry_view items) ≡ n = omega (arith, length-map items entry_view, long) in
+    let inside : k % n < length items = omega (arith, within, long) in
+    ap (λ m. get_or (map entry_view items) (k % m) no_entry) same ∙ get_or-map entry_view items (k % n) e no_entry inside ∙ ap entry_view (sym read)
+
+-- ---- the slot
+
+module _ (i : Image) (k : ℕ) (memory : FrameMemory) (domains : List Domain) (used used' : List Used) (clock next last : ℕ) (is : StandsFor i k memory domains used clock next last)
+    (x new : Domain) (begin later : ℕ) (o : spec.Own) (begins : begin ≡ max clock next) (long : length used' ≡ length used)
+    (noted : (us : List (ℕ × ℕ)) → IsUsed used us → IsUsed used' (us ++ (switch_entry i.all.schedule k, clock - last) ∷ [])) where
+  -- the code's domain runs as the definition's does
+  ran : own_of i (entry_of_slot i.all.schedule k).domain ≡ o → slice_get domains (entry_of_slot i.all.schedule k).domain ≡ Some x
+      → Moves (stretch i.all.hardware o false (next + (entry_of_slot i.all.schedule k).length)) memory x begin new later
+      → StandsIn new later (slot_begun i k (whole i k)) (slot_over i k (whole i k))
+  ran owns got moves =
+      let w = whole i k in
+      let d = (entry_of_slot i.all.schedule k).domain in
+      let begun : Local = slot_begun i k w in
+      let stands : Stands x begun.dom = subst (λ m. Stands x (at no_dom m d)) (sym (switch-doms i k w)) (is.each_domain d x got) in
+      let holds : HoldsFrames memory.frames memory.words.items begun.store.mem = subst (λ (s : Store). HoldsFrames memory.frames memory.words.items s.mem) (sym (switch-store i k w)) is.held in
+      let time : begin ≡ begun.clock = begins ∙ ap₂ max is.time is.begins ∙ sym (switch-clock i k w) in
+      let end : next + (entry_of_slot i.all.schedule k).length ≡ slot_end i.all.schedule k = ap (λ n. n + (entry_of_slot i.all.schedule k).length) is.begins in
+      subst₂ (λ (a : spec.Own) (n : ℕ). StandsIn new later begun (stretch i.all.hardware a false n begun)) (sym owns) end (moves begun stands holds time)
+
+  stands_after : own_of i (entry_of_slot i.all.schedule k).domain ≡ o → slice_get domains (entry_of_slot i.all.schedule k).domain ≡ Some x
+      → Moves (stretch i.all.hardware o false (next + (entry_of_slot i.all.schedule k).length)) memory x begin new later
+      → StandsFor i (suc k) memory (set domains (entry_of_slot i.all.schedule k).domain new) used' later
+      (next + (entry_of_slot i.all.schedule k).length + (entry_of_slot i.all.schedule k).pad) (next + (entry_of_slot i.all.schedule k).length)
+  unfolding whole start
+  stands_after owns got moves =
+      let w = whole i k in
+      let e = entry_of_slot i.all.schedule k in
+      let over = ran owns got moves in
+      let kept : (run_slot i k w).store ≡ w.store = run_slot-store i k w ∙ over.store ∙ switch-store i k w in
+      let switches : (run_slot i k w).used ≡ w.used ++ (switch_entry i.all.schedule k, clock - last) ∷ [] =
+      run_slot-used i k w ∙ ap (λ n. w.used ++ (switch_entry i.all.schedule k, n) ∷ []) (ap₂ (λ a b. a - b) (sym is.time) (sym is.ends)) in
+      record {
+        frames = is.frames;
+        held = subst (λ (s : Store). HoldsFrames memory.frames memory.words.items s.mem) (sym kept) is.held;
+        all_domains = length-set domains e.domain new ∙ is.all_domains;
+        each_domain = each_set (λ j y. Stands y (dom_of w j)) (λ j y. Stands y (dom_of (run_slot i k w) j)) domains e.domain new (slice_get_within domains e.domain x got)
+            (subst (Stands new) (sym (run_slot-dom_same i k w)) over.dom)
+            (λ j y apart s. subst (Stands y) (sym (run_slot-dom_other i k w j apart)) s)
+            is.each_domain;
+        all_entries = long ∙ is.all_entries;
+        each_entry = subst (IsUsed used') (sym switches) (noted w.used is.each_entry);
+        time = over.time ∙ sym (run_slot-clock i k w);
+        begins = ap (λ n. n + e.length + e.pad) is.begins;
+        ends = ap (λ n. n + e.length) is.begins;
+      }
+
+  pub stands_next : (e : spec.Entry) → entry_of_slot i.all.schedule k ≡ e → own_of i e.domain ≡ o → slice_get domains e.domain ≡ Some x
+      → Moves (stretch i.all.hardware o false (next + e.length)) memory x begin new later
+      → StandsFor i (k + 1) memory (set domains e.domain new) used' later (next + e.length + e.pad) (next + e.length)
+  stands_next e entry =
+      subst₂ (λ (n : ℕ) (y : spec.Entry). own_of i y.domain ≡ o → slice_get domains y.domain ≡ Some x
+      → Moves (stretch i.all.hardware o false (next + y.length)) memory x begin new later
+      → StandsFor i n memory (set domains y.domain new) used' later (next + y.length + y.pad) (next + y.length))
+      (sym (add-one k)) entry stands_after
+
+-- ---- bounds
+
+pub counts_later : (clock later : ℕ) (d : Domain) → clock ≤ later → CountsUpTo clock d → CountsUpTo later d
+counts_later clock later d h few = record { retired = omega (arith, few.retired); readings = omega (arith, few.readings); replies = omega (arith, few.replies) }
+
+-- the clock goes on, and not far past the slot's end
+clock_after : (clock next begin later end base : ℕ) → begin ≡ max clock next → clock ≤ next + 1001000 → next ≤ end → base ≤ 1000 → (begin < end → later < end + base) → (end ≤ begin → later ≡ begin) → end ≤ later
+    → (clock ≤ later) × (later ≤ end + 1001000)
+clock_after clock next begin later end base is early after short soon done over =
+    elim (cases_lt begin end) [
+      | inl before ↦ let s = soon before in (omega arith, omega arith)
+      | inr past ↦ let s = done past in (omega arith, omega arith)
+    ]
+
+pub in_bounds_next : (k : ℕ) (domains : List Domain) (used used' : List Used) (clock next last d length' pad base : ℕ) (new : Domain) (begin later : ℕ)
+    → IsInBounds k domains used clock next last → k < 65536 → length' ≤ 1000000 → pad ≤ 1000000 → base ≤ 1000 → d < length domains → begin ≡ max clock next
+    → CountsUpTo later new → next + length' ≤ later → (begin < next + length' → later < next + length' + base) → (next + length' ≤ begin → later ≡ begin)
+    → ((n : ℕ) → CountedUpTo n used → CountedUpTo (n + 1) used')
+    → IsInBounds (k + 1) (set domains d new) used' later (next + length' + pad) (next + length')
+in_bounds_next k domains used used' clock next last d length' pad base new begin later was left short_slot short_pad short_base within begins few over soon done counted =
+    let passed = clock_after clock next begin later (next + length') base begins was.clock_soon (omega arith) short_base soon done over in
+    record {
+      slots_left = omega arith;
+      next_soon = omega (arith, was.next_soon);
+      clock_soon = omega (arith, passed.1);
+      last_over = over;
+      few_calls = each_set (λ j y. CountsUpTo clock y) (λ j y. CountsUpTo later y) domains d new within few (λ j y apart s. counts_later clock later y passed.0 s) was.few_calls;
+      few_switches = counted k was.few_switches;
+    }
+
+-- ---- what is seen
+
+pub view_is : (x : Domain) (m : Dom) (p : spec.Hardware) (o : spec.Own) (s : Store) (words : List ℕ) → Stands x m → o.frame < p.frames → words ≡ frame_words (frame_at s.mem o.frame)
+    → record { status = x.status; retired = x.retired; thread = thread_view x.thread; readings = log_view x.readings; replies = log_view x.replies; printed = x.printed.items; frames = words ∷ [] } ≡ view p o m s
+unfolding view
+view_is x m p o s words stands held is =
+    let same : View = record { status = x.status; retired = x.retired; thread = thread_view x.thread; readings = log_of m.readings; replies = log_of m.replies; printed = x.printed.items; frames = frame_words (frame_at s.mem o.frame) ∷ [] } in
+    let here : same ≡ record { status = m.status; retired = m.retired; thread = m.thread; readings = log_of m.readings; replies = log_of m.replies; printed = m.printed; frames = frame_words (frame_at s.mem o.frame) ∷ [] } =
+    subst (λ (m' : Dom). same ≡ record { status = m'.status; retired = m'.retired; thread = m'.thread; readings = log_of m.readings; replies = log_of m.replies; printed = m'.printed; frames = frame_words (frame_at s.mem o.frame) ∷ [] }) stands.same refl in
+    rw (pool-one p o held, stands.readings, stands.replies, is) here
+
+-- ---- what an accepted image says of a slot's entry
+
+module _ (image : CodeImage) (k n : ℕ) (e : Entry) (long : n ≡ length image.all.schedule.items) (read : e ≡ get_or image.all.schedule.items (k % n) e) where
+  pub entry_read : entry_of_slot (image_view image).all.schedule k ≡ entry_view e
+  entry_read =
+      let some : 0 < n = omega (arith, image.accepted.in_range.some_entry, length-map image.all.schedule.items entry_view) in
+      entry_of_slot-is image.all.schedule.items k n e long (mod-lt k some) read
+
+  pub domain_named : e.domain < length image.owns.items
+  domain_named =
+      let named = image.accepted.runnable.named k in
+      let here : e.domain < length (map own_view image.owns.items) = rw entry_read at named in
+      omega (arith, here, length-map image.owns.items own_view)
+
+  pub length_short : e.length ≤ 1000000
+  length_short = rw entry_read at (image.accepted.in_range.lengths (k % length (map entry_view image.all.schedule.items)))
+
+  pub pad_short : e.pad ≤ 1000000
+  pad_short = rw entry_read at (image.accepted.in_range.pads (k % length (map entry_view image.all.schedule.items)))

@@ -1,0 +1,12 @@
+pub mod ImageViews
+pub mod Views
+pub mod Gives
+pub mod Words
+pub mod Pieces
+pub mod Switches
+pub mod Stands
+pub mod Frames
+pub mod Moves
+pub mod Usage
+pub mod Worlds
+pub mod TopCall

@@ -1,0 +1,134 @@
+use super::{write_end, write_refusal, write_section, write_switches, write_usage};
+use crate::image::Entry;
+use crate::log::Log;
+use crate::used::Used;
+use crate::view::{Thread, View};
+use std::test::Fail;
+use tp_io::MemSink;
+use world_view::{DomainStatus, Reply, ThreadState};
+
+const RED: &str = "domain 0 red
+status exited 0
+retired 12
+thread 0 ended pc 00010010 x5=00001806 x31=ffffffff
+readings 0
+replies 2 last 1:10 list 0:0 1:10
+out 3 0010ff
+mem 00000001
+";
+
+const BLUE: &str = "domain 1 blue
+status stopped 2 pc 00010004 value deadbeef
+retired 1
+thread 0 ready pc 00010004
+readings 300 last 77 list 18446744073709551615
+replies 0
+out 0
+mem 00000000
+";
+
+const REST: &str = "switch 0 used 0 pad 6150 count 0
+switch 1 used 4100 pad 5 count 3
+end
+usage: tp check|bound|run|alone|gen|demo
+refused K1 at 0 found 0 wanted 0
+";
+
+#[test]
+fn texts_are_as_written_by_hand(rt: HostRuntime) -> Result<(), Fail> {
+    let mut sink = MemSink::new(rt.alloc(), 4096, 64, &[])?;
+    let no_readings = Log {
+        first: Vec::with_capacity(rt.alloc(), 256)?,
+        count: 0,
+        last: None,
+    };
+    let no_replies = Log {
+        first: Vec::with_capacity(rt.alloc(), 256)?,
+        count: 0,
+        last: None,
+    };
+    let mut readings = Log {
+        first: Vec::with_capacity(rt.alloc(), 256)?,
+        count: 300,
+        last: Some(77),
+    };
+    readings.first.push(u64::MAX)?;
+    let mut replies = Log {
+        first: Vec::with_capacity(rt.alloc(), 256)?,
+        count: 2,
+        last: Some(Reply { code: 1, value: 10 }),
+    };
+    replies.first.push(Reply { code: 0, value: 0 })?;
+    replies.first.push(Reply { code: 1, value: 10 })?;
+
+    let mut regs = [0u32; 32];
+    let ready = Thread {
+        state: ThreadState::Ready,
+        pc: 0x10004,
+        regs,
+    };
+    regs[5] = 0x1806;
+    regs[31] = u32::MAX;
+    let ended = Thread {
+        state: ThreadState::Ended,
+        pc: 0x10010,
+        regs,
+    };
+    let red = View {
+        status: DomainStatus::Exited(0),
+        retired: 12,
+        thread: &ended,
+        readings: &no_readings,
+        replies: &replies,
+        printed: &[0, 0x10, 0xff],
+        words: &[u32::MAX, 1, 1],
+    };
+    let blue = View {
+        status: DomainStatus::Stopped {
+            code: 2,
+            pc: 0x10004,
+            value: 0xdead_beef,
+        },
+        retired: 1,
+        thread: &ready,
+        readings: &readings,
+        replies: &no_replies,
+        printed: &[],
+        words: &[],
+    };
+    let red_written = write_section(&mut sink, 0, "red", &red);
+    let blue_written = write_section(&mut sink, 1, "blue", &blue);
+    red_written?;
+    blue_written?;
+    let entries = [
+        Entry {
+            domain: 0,
+            length: 10000,
+            pad: 6150,
+        },
+        Entry {
+            domain: 1,
+            length: 10000,
+            pad: 5,
+        },
+    ];
+    let used = [
+        Used {
+            largest: 0,
+            count: 0,
+        },
+        Used {
+            largest: 4100,
+            count: 3,
+        },
+    ];
+    write_switches(&mut sink, &entries, &used)?;
+    write_end(&mut sink)?;
+    write_usage(&mut sink)?;
+    write_refusal(&mut sink)?;
+    assert_eq!(rt;
+        sink.bytes(),
+        [RED, BLUE, REST].concat(rt.alloc())?.as_bytes()
+    );
+    Ok(())
+}
