@@ -1,0 +1,59 @@
+//! What the machine's events cost, and the charge of a cost to a clock.
+#![tactic(auto)]
+
+ghost use Rattle.std.specs.Prelude.{◌≡◌, ◌+◌, ◌^◌, ◌<◌};
+ghost use Rattle.tp_base.specs.Ranges.{IsCycles};
+ghost use Rattle.cycle_cost.specs.Costs.{IsCost, ChargesFit};
+
+use tp_base::Cycles;
+
+/// The costs of the machine's events, each 1 to 1,000 cycles.
+#[derive(Clone, Copy, Debug, PartialEq, Eq)]
+pub struct Costs {
+    /// Each instruction.
+    pub base: u32,
+    /// A fetch, load or store, at the first level.
+    pub l1: u32,
+    /// What misses the first level, and each read of a page table entry, at the second level.
+    pub l2: u32,
+    /// What misses the second level.
+    pub mem: u32,
+    /// A dirty line that is written back.
+    pub wb: u32,
+    /// A look-up in the translation buffer.
+    pub tlb: u32,
+    /// A branch that was guessed wrongly.
+    pub mispredict: u32,
+    /// An operation of the kernel, beside the lines that it touches.
+    pub trap: u32,
+    /// A flush, beside the dirty lines that it writes back.
+    pub flush: u32,
+    ghost base_range: { IsCost base },
+    ghost l1_range: { IsCost l1 },
+    ghost l2_range: { IsCost l2 },
+    ghost mem_range: { IsCost mem },
+    ghost wb_range: { IsCost wb },
+    ghost tlb_range: { IsCost tlb },
+    ghost mispredict_range: { IsCost mispredict },
+    ghost trap_range: { IsCost trap },
+    ghost flush_range: { IsCost flush },
+}
+
+/// Adds a number of cycles to a clock.
+pub fn charge(clock: &mut Cycles, cycles: u32)
+    requires { IsCycles (clock.old + cycles) }
+    ensures { clock.new ≡ clock.old + cycles }
+{
+    *clock = Cycles::new(clock.number() + u64::from(cycles));
+}
+
+/// The law that a clock below 2^62 has room for 2^30 charges.
+pub fn charges_fit(clock: u64)
+    requires { clock < 2 ^ 62 }
+    ensures { ChargesFit clock }
+{
+    let _ = clock;
+}
+
+#[cfg(test)]
+mod tests;

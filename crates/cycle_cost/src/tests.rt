@@ -1,0 +1,21 @@
+use super::{Costs, charge, charges_fit};
+use tp_base::Cycles;
+
+#[test]
+fn a_clock_moves_by_what_is_charged(rt: HostRuntime) {
+    let costs = Costs {
+        base: 1,
+        l1: 2,
+        l2: 10,
+        mem: 100,
+        wb: 20,
+        tlb: 1,
+        mispredict: 5,
+        trap: 40,
+        flush: 1000,
+    };
+    let mut clock = Cycles::new(4_611_686_018_427_387_000);
+    charges_fit(clock.number());
+    charge(&mut clock, costs.l1 + costs.l2 + costs.mem + costs.wb);
+    assert_eq!(rt; clock.number(), 4_611_686_018_427_387_132);
+}

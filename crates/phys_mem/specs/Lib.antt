@@ -1,0 +1,5 @@
+pub mod Address
+pub mod Bytes
+pub mod Contents
+pub mod Mem
+pub mod Holds

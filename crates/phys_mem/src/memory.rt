@@ -1,0 +1,235 @@
+ghost use Rattle.std.specs.Prelude.{◌≡◌, ◌≢◌, ℕ, ◌+◌, ◌*◌, ◌/◌, ◌%◌, ◌^◌, ◌<◌, ◌≤◌, length, IfOk};
+ghost use Rattle.byteorder.specs.Endian.{little_bytes};
+ghost use Rattle.tp_base.specs.Table.{empty};
+ghost use Rattle.phys_mem.specs.Address.{frame_of, place_of};
+ghost use Rattle.phys_mem.specs.Bytes.{byte_in, half_in, with_byte_in, with_half_in};
+ghost use Rattle.phys_mem.specs.Contents.{Contents, frame_words, word_of, word_at, byte_at, half_at, with_word, with_byte, with_half, zeroed, zeroed_words, all_zero};
+ghost use Rattle.phys_mem.specs.Mem.{Mem, word, written, zeroed_frame};
+ghost use Rattle.phys_mem.specs.Holds.{Holds};
+
+use byteorder::{ByteOrder, LittleEndian};
+use std::alloc::Global;
+use std::marker::Model;
+use tp_base::{FrameNo, Memory, Zero};
+
+/// A memory of frames of 4,096 bytes, from address 0 on.
+#[derive(Drop)]
+pub struct PhysMem {
+    frames: u32,
+    words: Vec<u32>,
+}
+
+impl Model for PhysMem {
+    ghost use Rattle.std.specs.Prelude.{◌≡◌, ◌*◌, ◌^◌, ◌≤◌, length};
+    ghost use Rattle.phys_mem.specs.Contents.{Contents};
+
+    ghost Value = { Contents };
+
+    ghost view = { λ m. record { frames = m.frames; words = m.words.items } };
+
+    ghost invariant = { λ m. (m.frames ≤ 2 ^ 20) × (length m.words.items ≡ 1024 * m.frames) };
+}
+
+impl PhysMem {
+    /// A memory of so many frames, all of which read zero. A 32-bit address
+    /// reaches 2^20 frames.
+    ///
+    /// # Errors
+    /// `Memory` where no memory is left for it.
+    pub fn new(alloc: Global, frames: u32) -> Result<Self, Memory>
+        requires { frames ≤ 2 ^ 20 }
+        ensures zero { IfOk result (λ memory. memory ≡ all_zero frames) }
+        ensures holds { IfOk result (λ memory. Holds memory empty) }
+    {
+        let words = vec![in alloc; 0; 1024 * frames as usize]?;
+        Ok(PhysMem { frames, words })
+    }
+
+    /// The number of its frames.
+    pub fn frames(&self) -> u32
+        ensures value { result ≡ self.now.frames }
+        ensures range { result ≤ 2 ^ 20 }
+        ensures words { length self.now.words ≡ 1024 * result }
+    {
+        let _ = &self.words;
+        self.frames
+    }
+
+    /// The word at an address of four bytes, a multiple of 4.
+    pub fn read_word(&self, at: u32) -> u32
+        requires within { frame_of at < self.now.frames }
+        requires aligned { at % 4 ≡ 0 }
+        ensures value { result ≡ word_at self.now at }
+        ensures holds { (mem : Mem) → Holds self.now mem → result ≡ word mem (frame_of at) (place_of at) }
+    {
+        self.word(at)
+    }
+
+    /// Writes the word at an address that is a multiple of 4.
+    pub fn write_word(&mut self, at: u32, word: u32)
+        requires within { frame_of at < self.old.frames }
+        requires aligned { at % 4 ≡ 0 }
+        ensures becomes { self.new ≡ with_word self.old at word }
+        ensures frames { self.new.frames ≡ self.old.frames }
+        ensures others { (frame : ℕ) → frame ≢ frame_of at → frame_words self.new frame ≡ frame_words self.old frame }
+        ensures stored { word_at self.new at ≡ word }
+        ensures bytes { (address : ℕ) → address / 4 ≢ at / 4 → byte_at self.new address ≡ byte_at self.old address }
+        ensures holds { (mem : Mem) → Holds self.old mem → Holds self.new (written mem (frame_of at) (place_of at) word) }
+    {
+        self.set_word(at, word);
+    }
+
+    /// The half at an even address.
+    pub fn read_half(&self, at: u32) -> u16
+        requires within { frame_of at < self.now.frames }
+        requires aligned { at % 2 ≡ 0 }
+        ensures value { result ≡ half_at self.now at }
+        ensures holds { (mem : Mem) → Holds self.now mem → result ≡ half_in (word mem (frame_of at) (place_of at)) (at % 4) }
+    {
+        half_of(self.word(at), at % 4)
+    }
+
+    /// Writes the half at an even address; the other half of its word stays.
+    pub fn write_half(&mut self, at: u32, half: u16)
+        requires within { frame_of at < self.old.frames }
+        requires aligned { at % 2 ≡ 0 }
+        ensures becomes { self.new ≡ with_half self.old at half }
+        ensures frames { self.new.frames ≡ self.old.frames }
+        ensures others { (frame : ℕ) → frame ≢ frame_of at → frame_words self.new frame ≡ frame_words self.old frame }
+        ensures stored { half_at self.new at ≡ half }
+        ensures bytes { (address : ℕ) → address / 2 ≢ at / 2 → byte_at self.new address ≡ byte_at self.old address }
+        ensures holds { (mem : Mem) → Holds self.old mem → Holds self.new (written mem (frame_of at) (place_of at)
+            (with_half_in (word mem (frame_of at) (place_of at)) (at % 4) half)) }
+    {
+        let word = self.word(at);
+        self.set_word(at, with_half_of(word, at % 4, half));
+    }
+
+    /// The byte at an address.
+    pub fn read_byte(&self, at: u32) -> u8
+        requires { frame_of at < self.now.frames }
+        ensures value { result ≡ byte_at self.now at }
+        ensures holds { (mem : Mem) → Holds self.now mem → result ≡ byte_in (word mem (frame_of at) (place_of at)) (at % 4) }
+    {
+        byte_of(self.word(at), at % 4)
+    }
+
+    /// Writes the byte at an address; the other bytes of its word stay.
+    pub fn write_byte(&mut self, at: u32, byte: u8)
+        requires { frame_of at < self.old.frames }
+        ensures becomes { self.new ≡ with_byte self.old at byte }
+        ensures frames { self.new.frames ≡ self.old.frames }
+        ensures others { (frame : ℕ) → frame ≢ frame_of at → frame_words self.new frame ≡ frame_words self.old frame }
+        ensures stored { byte_at self.new at ≡ byte }
+        ensures bytes { (address : ℕ) → address ≢ at → byte_at self.new address ≡ byte_at self.old address }
+        ensures holds { (mem : Mem) → Holds self.old mem → Holds self.new (written mem (frame_of at) (place_of at)
+            (with_byte_in (word mem (frame_of at) (place_of at)) (at % 4) byte)) }
+    {
+        let word = self.word(at);
+        self.set_word(at, with_byte_of(word, at % 4, byte));
+    }
+
+    // The word that an address lies in.
+    fn word(&self, at: u32) -> u32
+        requires { frame_of at < self.now.frames }
+        ensures value { result ≡ word_at self.now at }
+        ensures holds { (mem : Mem) → Holds self.now mem → result ≡ word mem (frame_of at) (place_of at) }
+    {
+        let index = at as usize / 4;
+        self.words[index]
+    }
+
+    // Writes the word that an address lies in.
+    fn set_word(&mut self, at: u32, word: u32)
+        requires { frame_of at < self.old.frames }
+        ensures becomes { self.new ≡ with_word self.old at word }
+        ensures stored { word_at self.new at ≡ word }
+        ensures words { (address : ℕ) → address / 4 ≢ at / 4 → word_at self.new address ≡ word_at self.old address }
+        ensures others { (frame : ℕ) → frame ≢ frame_of at → frame_words self.new frame ≡ frame_words self.old frame }
+        ensures holds { (mem : Mem) → Holds self.old mem → Holds self.new (written mem (frame_of at) (place_of at) word) }
+    {
+        self.words[at as usize / 4] = word;
+    }
+
+    fn clear(&mut self, frame: u32)
+        requires { frame < self.old.frames }
+        ensures becomes { self.new ≡ zeroed self.old frame }
+        ensures size { length self.old.words ≡ 1024 * self.old.frames }
+    {
+        zero_words(&mut self.words, frame as usize);
+    }
+}
+
+impl Zero for PhysMem {
+    ghost has_frame = { λ memory frame. frame < memory.frames };
+
+    ghost word = { λ memory frame place. word_of memory frame place };
+
+    ghost zeroed = { λ memory frame. zeroed memory frame };
+
+    fn zero_frame(&mut self, frame: FrameNo)
+        requires { frame < self.old.frames }
+        ensures becomes { self.new ≡ zeroed self.old frame }
+        ensures zero { (i : ℕ) → word_of self.new frame i ≡ 0 }
+        ensures others { (f i : ℕ) → f ≢ frame → word_of self.new f i ≡ word_of self.old f i }
+        ensures held { (f : ℕ) → f < self.old.frames → f < self.new.frames }
+        ensures holds { (mem : Mem) → Holds self.old mem → Holds self.new (zeroed_frame mem frame) }
+    {
+        self.clear(frame.number());
+    }
+}
+
+fn zero_words(words: &mut [u32], frame: usize)
+    requires { 1024 * frame + 1024 ≤ length words.old }
+    ensures { words.new ≡ zeroed_words words.old frame }
+{
+    let start = 1024 * frame;
+    words[start..start + 1024].fill(0);
+}
+
+fn bytes_of(word: u32) -> [u8; 4]
+    ensures { result ≡ little_bytes 4 word }
+{
+    let mut bytes = [0; 4];
+    LittleEndian::write_u32(&mut bytes, word);
+    bytes
+}
+
+#[tactic(auto, unfolding(crate::specs::Bytes::half_in))]
+fn half_of(word: u32, place: u32) -> u16
+    requires { place ≤ 2 }
+    ensures { result ≡ half_in word place }
+{
+    LittleEndian::read_u16(&bytes_of(word)[place as usize..])
+}
+
+#[tactic(auto, unfolding(crate::specs::Bytes::with_half_in))]
+fn with_half_of(word: u32, place: u32, half: u16) -> u32
+    requires { place ≤ 2 }
+    ensures { result ≡ with_half_in word place half }
+{
+    let mut bytes = bytes_of(word);
+    LittleEndian::write_u16(&mut bytes[place as usize..], half);
+    LittleEndian::read_u32(&bytes)
+}
+
+#[tactic(auto, unfolding(crate::specs::Bytes::byte_in))]
+fn byte_of(word: u32, place: u32) -> u8
+    requires { place < 4 }
+    ensures { result ≡ byte_in word place }
+{
+    bytes_of(word)[place as usize]
+}
+
+#[tactic(auto, unfolding(crate::specs::Bytes::with_byte_in))]
+fn with_byte_of(word: u32, place: u32, byte: u8) -> u32
+    requires { place < 4 }
+    ensures { result ≡ with_byte_in word place byte }
+{
+    let mut bytes = bytes_of(word);
+    bytes[place as usize] = byte;
+    LittleEndian::read_u32(&bytes)
+}
+
+#[cfg(test)]
+mod tests;

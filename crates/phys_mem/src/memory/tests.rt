@@ -1,0 +1,45 @@
+ghost use Rattle.std.specs.Prelude.{◌≡◌, ◌+◌, ◌/◌, ◌<◌};
+
+use super::PhysMem;
+use tp_base::{FrameNo, Memory, Zero};
+
+fn blank<Z: Zero>(memory: &mut Z, frame: FrameNo)
+    requires { Z.has_frame memory.old frame }
+    ensures { memory.new ≡ Z.zeroed memory.old frame }
+{
+    memory.zero_frame(frame);
+}
+
+fn bytes_at(memory: &PhysMem, at: u32) -> [u8; 4]
+    requires within { (at + 3) / 4096 < memory.now.frames }
+    requires small { at < 4096 }
+{
+    [
+        memory.read_byte(at),
+        memory.read_byte(at + 1),
+        memory.read_byte(at + 2),
+        memory.read_byte(at + 3),
+    ]
+}
+
+#[test]
+fn words_halves_and_bytes(rt: HostRuntime) -> Result<(), Memory> {
+    let mut memory = PhysMem::new(rt.alloc(), 2)?;
+    assert_eq!(rt; (memory.frames(), memory.read_word(8188)), (2, 0));
+    memory.write_word(4, 0x0403_0201);
+    assert_eq!(rt; bytes_at(&memory, 4), [1, 2, 3, 4]);
+    assert_eq!(rt;
+        (memory.read_half(4), memory.read_half(6)),
+        (0x0201, 0x0403)
+    );
+    memory.write_half(6, 0xabcd);
+    memory.write_byte(5, 0xef);
+    assert_eq!(rt; memory.read_word(4), 0xabcd_ef01);
+    assert_eq!(rt; (memory.read_word(0), memory.read_word(8)), (0, 0));
+    memory.write_word(4096, 5);
+    memory.write_word(8188, 6);
+    blank(&mut memory, FrameNo::new(1));
+    assert_eq!(rt; (memory.read_word(4096), memory.read_word(8188)), (0, 0));
+    assert_eq!(rt; memory.read_word(4), 0xabcd_ef01);
+    Ok(())
+}

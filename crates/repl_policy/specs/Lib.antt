@@ -1,0 +1,6 @@
+pub mod Orders
+pub mod Halves
+pub mod Packed
+pub mod Bits
+pub mod Members
+pub mod Victims

@@ -1,0 +1,170 @@
+//! Replacement policies for a `set_cache`, with the state of a set in one
+//! number of 64 bits. Each keeps the rule on lists of ways in specs/.
+#![tactic(auto)]
+
+ghost use Rattle.repl_policy.specs.Orders.{lru_rule, fifo_rule};
+ghost use Rattle.repl_policy.specs.Halves.{plru_rule, depth_of, UpToSixteen, IsPowerUpToSixteen};
+ghost use Rattle.repl_policy.specs.Packed.{Packs};
+ghost use Rattle.repl_policy.specs.Bits.{Points};
+
+mod order;
+mod tree;
+
+use set_cache::Policy;
+
+/// Gives up the way that was touched or filled longest ago; takes 1 to 16 ways.
+#[derive(Clone, Copy, Debug, PartialEq, Eq)]
+pub struct Lru;
+
+impl Policy for Lru {
+    ghost takes = { λ _ ways. UpToSixteen ways };
+
+    ghost rule = { λ _. lru_rule };
+
+    ghost stands_for = { λ _ ways state list. Packs ways state list };
+
+    ghost use Rattle.repl_policy.specs.Victims.{oldest_below};
+
+    ghost victim_below = { oldest_below };
+
+    fn fresh(&self, ways: u32) -> u64 {
+        order::fresh(ways)
+    }
+
+    fn touch(&self, ways: u32, state: u64, way: u32) -> u64 {
+        order::to_front(ways, state, way)
+    }
+
+    fn fill(&self, ways: u32, state: u64, way: u32) -> u64 {
+        order::to_front(ways, state, way)
+    }
+
+    fn victim(&self, ways: u32, state: u64) -> u32 {
+        order::oldest(ways, state)
+    }
+}
+
+/// Gives up the way that was filled longest ago; takes 1 to 16 ways.
+#[derive(Clone, Copy, Debug, PartialEq, Eq)]
+pub struct Fifo;
+
+impl Policy for Fifo {
+    ghost takes = { λ _ ways. UpToSixteen ways };
+
+    ghost rule = { λ _. fifo_rule };
+
+    ghost stands_for = { λ _ ways state list. Packs ways state list };
+
+    ghost use Rattle.repl_policy.specs.Victims.{oldest_below};
+
+    ghost victim_below = { oldest_below };
+
+    fn fresh(&self, ways: u32) -> u64 {
+        order::fresh(ways)
+    }
+
+    fn touch(&self, _ways: u32, state: u64, _way: u32) -> u64 {
+        state
+    }
+
+    fn fill(&self, ways: u32, state: u64, way: u32) -> u64 {
+        order::to_front(ways, state, way)
+    }
+
+    fn victim(&self, ways: u32, state: u64) -> u32 {
+        order::oldest(ways, state)
+    }
+}
+
+/// Halves the ways down to one, at each halving away from the newest; takes
+/// 1, 2, 4, 8 or 16 ways.
+#[derive(Clone, Copy, Debug, PartialEq, Eq)]
+pub struct TreePlru;
+
+impl Policy for TreePlru {
+    ghost takes = { λ _ ways. IsPowerUpToSixteen ways };
+
+    ghost rule = { λ _. plru_rule };
+
+    ghost stands_for = { λ _ ways state list. Points (depth_of ways) 0 state list };
+
+    ghost use Rattle.repl_policy.specs.Victims.{victim_in_below};
+
+    ghost victim_below = { victim_in_below };
+
+    fn fresh(&self, _ways: u32) -> u64 {
+        0
+    }
+
+    fn touch(&self, ways: u32, state: u64, way: u32) -> u64 {
+        tree::point_away(state, 0, ways, way)
+    }
+
+    fn fill(&self, ways: u32, state: u64, way: u32) -> u64 {
+        tree::point_away(state, 0, ways, way)
+    }
+
+    fn victim(&self, ways: u32, state: u64) -> u32 {
+        tree::victim(state, 0, ways)
+    }
+}
+
+/// One of the policies, chosen when the program runs.
+#[derive(Clone, Copy, Debug, PartialEq, Eq)]
+pub enum AnyPolicy {
+    /// As `Lru`.
+    Lru,
+    /// As `Fifo`.
+    Fifo,
+    /// As `TreePlru`.
+    TreePlru,
+}
+
+impl Policy for AnyPolicy {
+    ghost use Rattle.repl_policy.specs.Members.{any_takes, any_rule, any_stands_for};
+
+    ghost takes = { any_takes };
+
+    ghost rule = { any_rule };
+
+    ghost stands_for = { any_stands_for };
+
+    ghost use Rattle.repl_policy.specs.Victims.{any_victim_below};
+
+    ghost victim_below = { any_victim_below };
+
+    fn fresh(&self, ways: u32) -> u64 {
+        match self {
+            AnyPolicy::Lru => Lru.fresh(ways),
+            AnyPolicy::Fifo => Fifo.fresh(ways),
+            AnyPolicy::TreePlru => TreePlru.fresh(ways),
+        }
+    }
+
+    fn touch(&self, ways: u32, state: u64, way: u32) -> u64 {
+        match self {
+            AnyPolicy::Lru => Lru.touch(ways, state, way),
+            AnyPolicy::Fifo => Fifo.touch(ways, state, way),
+            AnyPolicy::TreePlru => TreePlru.touch(ways, state, way),
+        }
+    }
+
+    fn fill(&self, ways: u32, state: u64, way: u32) -> u64 {
+        match self {
+            AnyPolicy::Lru => Lru.fill(ways, state, way),
+            AnyPolicy::Fifo => Fifo.fill(ways, state, way),
+            AnyPolicy::TreePlru => TreePlru.fill(ways, state, way),
+        }
+    }
+
+    fn victim(&self, ways: u32, state: u64) -> u32 {
+        match self {
+            AnyPolicy::Lru => Lru.victim(ways, state),
+            AnyPolicy::Fifo => Fifo.victim(ways, state),
+            AnyPolicy::TreePlru => TreePlru.victim(ways, state),
+        }
+    }
+}
+
+#[cfg(test)]
+mod tests;

@@ -1,0 +1,4 @@
+pub mod Registers
+pub mod Alu
+pub mod Memory
+pub mod Effect

@@ -1,0 +1,52 @@
+//! What the instructions of RV32I do, as the RISC-V unprivileged specification
+//! says: to the registers, to the program counter and to memory. An instruction
+//! reads and writes no memory here. It is handed what a load found, and it
+//! answers the store that is to be made.
+//!
+//! specs/ has the table, one line an instruction: `Effect` on `Alu` and
+//! `Registers`.
+#![tactic(auto)]
+
+mod alu;
+mod execution;
+mod memory;
+mod registers;
+
+pub use execution::execute;
+pub use memory::{address, misalignment};
+pub use registers::Regs;
+
+/// A store that is to be made.
+#[derive(Clone, Copy, Debug, PartialEq, Eq)]
+pub struct Store {
+    /// A virtual address, a multiple of the size.
+    pub at: u32,
+    /// In bytes: 1, 2 or 4.
+    pub size: u8,
+    /// What is stored, with zeros above that size.
+    pub word: u32,
+}
+
+/// An exception that an instruction raises on itself. The codes are those of the
+/// privileged specification: 0 instruction address misaligned, 3 breakpoint,
+/// 4 load address misaligned, 6 store address misaligned.
+#[derive(Clone, Copy, Debug, PartialEq, Eq)]
+pub struct Trap {
+    pub code: u8,
+    /// The target for code 0, the program counter for 3, the address for 4 and 6.
+    pub value: u32,
+}
+
+/// What an instruction does besides its write of a register.
+#[derive(Clone, Copy, Debug, PartialEq, Eq)]
+pub struct Effect {
+    /// The next program counter; where there is a trap, the instruction's own.
+    pub next: u32,
+    pub store: Option<Store>,
+    /// Whether it is a branch that is taken; jumps are none.
+    pub taken: bool,
+    pub trap: Option<Trap>,
+}
+
+#[cfg(test)]
+mod tests;

@@ -1,0 +1,4 @@
+pub mod Ways
+pub mod Sets
+pub mod Places
+pub mod Steps

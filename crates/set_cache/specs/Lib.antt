@@ -1,0 +1,4 @@
+pub mod Rule
+pub mod Cache
+pub mod Contents
+pub mod Lines

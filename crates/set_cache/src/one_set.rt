@@ -1,0 +1,136 @@
+// One set of a cache, of which a touch reads and changes nothing else.
+ghost use Rattle.std.specs.Prelude.{◌≡◌, ◌<◌, ℕ, List, length, position, is_none};
+ghost use Rattle.set_cache.specs.Cache.{way_of};
+
+use crate::{Held, Policy, Touch};
+use std::alloc::Global;
+use std::marker::Model;
+use tp_base::Memory;
+
+/// What each way holds, and the policy's state.
+#[derive(Drop)]
+pub struct OneSet {
+    places: Vec<Option<Held>>,
+    state: u64,
+}
+
+impl Model for OneSet {
+    ghost use Rattle.set_cache.specs.Contents.{Kept, coded_kept};
+
+    ghost Value = { Kept };
+
+    ghost coded = { coded_kept };
+
+    ghost view = { λ a. record { places = a.places.items; state = a.state } };
+}
+
+/// Where a line is held.
+fn way_of(places: &[Option<Held>], number: u32) -> Option<usize>
+    ensures { result ≡ way_of number places.now }
+{
+    places
+        .iter()
+        .position(|place| place.is_some_and(|held| held.number == number))
+}
+
+/// The least way that holds nothing.
+fn empty_way(places: &[Option<Held>]) -> Option<usize>
+    ensures { result ≡ position is_none places.now }
+{
+    places.iter().position(|place| place.is_none())
+}
+
+impl OneSet {
+    ghost use Rattle.std.specs.Prelude.{◌^◌, ◌≤◌, replicate, IfOk};
+    ghost use Rattle.set_cache.specs.Cache.{CacheSet, step_of, dirty_in};
+    ghost use Rattle.set_cache.specs.Contents.{SetStands, SetSteps, IsOnce};
+    ghost use Rattle.set_cache.specs.Lines.{MovesWays};
+
+    /// A set with nothing in it.
+    pub fn new(alloc: Global, ways: u32, state: u64) -> Result<Self, Memory>
+        ensures places { IfOk result (λ set. set.places ≡ replicate ways None) }
+        ensures state { IfOk result (λ set. set.state ≡ state) }
+    {
+        let mut places = Vec::with_capacity(alloc, ways as usize)?;
+        places.resize(ways as usize, None)?;
+        Ok(OneSet { places, state })
+    }
+
+    /// A touch of a line: a hit where it is held; else it takes a way.
+    pub fn touch<P: Policy>(&mut self, policy: &P, ways: u32, number: u32, store: bool) -> Touch
+        requires taken { P.takes policy.now ways }
+        requires full { length self.old.places ≡ ways }
+        requires valid { (list : List ℕ) × P.stands_for policy.now ways self.old.state list }
+        requires once { IsOnce self.old.places }
+        ensures full { length self.new.places ≡ ways }
+        ensures valid { (list : List ℕ) × P.stands_for policy.now ways self.new.state list }
+        ensures once { IsOnce self.new.places }
+        ensures step { (set : CacheSet) → SetStands (P.stands_for policy.now ways) self.old set
+            → SetSteps (P.stands_for policy.now ways) result self.new (step_of (P.rule policy.now) ways set number store) }
+        ensures moves { MovesWays result number self.old.places self.new.places }
+    {
+        match way_of(&self.places, number) {
+            Some(way) => {
+                if store {
+                    self.places[way] = Some(Held {
+                        number,
+                        dirty: true,
+                    });
+                }
+                self.state = policy.touch(ways, self.state, way as u32);
+                Touch {
+                    hit: true,
+                    victim: None,
+                    dirty_victim: false,
+                }
+            }
+            None => {
+                let way = match empty_way(&self.places) {
+                    Some(way) => way,
+                    None => policy.victim(ways, self.state) as usize,
+                };
+                let old = self.places[way];
+                self.places[way] = Some(Held {
+                    number,
+                    dirty: store,
+                });
+                self.state = policy.fill(ways, self.state, way as u32);
+                Touch {
+                    hit: false,
+                    victim: old.map(|held| held.number),
+                    dirty_victim: old.is_some_and(|held| held.dirty),
+                }
+            }
+        }
+    }
+
+    /// Where the set holds a line.
+    pub fn way_of(&self, number: u32) -> Option<usize>
+        ensures { result ≡ way_of number self.now.places }
+    {
+        way_of(&self.places, number)
+    }
+
+    /// How many lines have a mark.
+    pub fn dirty(&self) -> u32
+        requires { length self.now.places < 2 ^ 32 }
+        ensures exact { result ≡ dirty_in self.now.places }
+        ensures few { result ≤ length self.now.places }
+    {
+        let count = self
+            .places
+            .iter()
+            .filter(|place| place.is_some_and(|held| held.dirty))
+            .count();
+        count as u32
+    }
+
+    /// Empties the set.
+    pub fn clear(&mut self, state: u64)
+        ensures places { self.new.places ≡ replicate (length self.old.places) None }
+        ensures state { self.new.state ≡ state }
+    {
+        self.places.fill(None);
+        self.state = state;
+    }
+}

@@ -1,0 +1,28 @@
+use super::Tlb;
+use repl_policy::Lru;
+use std::test::Fail;
+
+#[test]
+fn a_page_keeps_the_leaf_of_its_last_fill(rt: HostRuntime) -> Result<(), Fail> {
+    let mut tlb = Tlb::new(rt.alloc(), Lru, 1, 2)?;
+    // Pages 1 and 2 fill the set; 1 is looked up again, so 3 takes the way of 2.
+    for (page, leaf, before) in [
+        (1, 11, None),
+        (2, 12, None),
+        (1, 0, Some(11)),
+        (3, 13, None),
+        (2, 22, None),
+        (3, 0, Some(13)),
+        (1, 21, None),
+        (1, 0, Some(21)),
+    ] {
+        let found = tlb.find(page);
+        assert_eq!(rt; found, before, "page {page}");
+        if found.is_none() {
+            tlb.fill(page, leaf);
+        }
+    }
+    assert_eq!(rt; tlb.flush(), 0);
+    assert_eq!(rt; tlb.find(3), None);
+    Ok(())
+}
