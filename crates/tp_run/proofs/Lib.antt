@@ -5,11 +5,17 @@ pub mod Numbers
 pub mod Texts
 pub mod Places
 pub mod Switches
+mod FrameSums
 mod Logs
-mod FrameWords
-mod Moved
 mod Elements
 mod SwitchCounts
+mod Pages
+mod Loading
+mod Steps
+mod Accesses
+mod Instructions
+mod Moved
+mod Frames
 mod Openings
 mod Slots
 pub mod Answers

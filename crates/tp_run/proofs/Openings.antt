@@ -2,10 +2,12 @@
 use Rattle.std.proofs.Common.{◌≡◌, ℕ, ◌-◌, ◌<◌, ◌≤◌, List, [], ◌∷◌, ◌++◌, length, map, get_or, refl, sym, ap, subst, ◌∙◌, arith}
 use Rattle.std.proofs.lemmas.List.{length-append, length-map, map-append, get_or_append_left, get_or_at, get_or-map}
 use Rattle.std.proofs.lemmas.Option.{slice_get_within}
+use Rattle.phys_mem.specs.Contents.{Contents}
+use Rattle.phys_mem.specs.Holds.{Holds}
 use Rattle.world_view.specs.Image as spec
 use Rattle.world_view.specs.Image.{no_own}
 use Rattle.world_view.specs.Schedule.{start, no_entry}
-use Rattle.world_view.specs.Memory.{all_placed}
+use Rattle.world_view.specs.Opening.{all_placed}
 use Rattle.world_view.specs.Domain.{opening_dom}
 use Rattle.world_view.specs.Machine.{opening, whole}
 use Rattle.world_view.specs.Laws.{Accepted}
@@ -14,9 +16,7 @@ use Rattle.tp_run.specs.declared.domain.Domain.{Domain}
 use Rattle.tp_run.specs.declared.image.Entry.{Entry}
 use Rattle.tp_run.specs.declared.image.Image.{Image}
 use Rattle.tp_run.specs.declared.image.Own.{Own}
-use Rattle.tp_run.specs.declared.memory.FrameMemory.{FrameMemory}
 use Rattle.tp_run.specs.declared.used.Used.{Used}
-use Rattle.tp_run.specs.Frames.{HoldsFrames}
 use Rattle.tp_run.specs.ImageViews.{own_view, entry_view}
 use Rattle.tp_run.specs.Stands.{Stands, CountsUpTo, AreOpened}
 use Rattle.tp_run.specs.Usage.{IsUsed, CountedUpTo}
@@ -53,9 +53,9 @@ start_first items last e is some read =
 
 -- ---- the machine
 
-pub stands_first : (owns : List Own) (entries : List Entry) (p : spec.Hardware) (n : ℕ) (memory : FrameMemory) (domains : List Domain) (used : List Used) (last : ℕ) (e : Entry) (begin : ℕ)
+pub stands_first : (owns : List Own) (entries : List Entry) (p : spec.Hardware) (n : ℕ) (memory : Contents) (domains : List Domain) (used : List Used) (last : ℕ) (e : Entry) (begin : ℕ)
     → Accepted (record { all = record { hardware = p; schedule = map entry_view entries; domains = n }; owns = map own_view owns })
-    → memory.frames ≡ p.frames → HoldsFrames memory.frames memory.words.items (all_placed (map own_view owns))
+    → memory.frames ≡ p.frames → Holds memory (all_placed (map own_view owns))
     → AreOpened domains owns → length used ≡ length entries → IsUsed used []
     → last ≡ length entries - 1 → 0 < length entries → e ≡ get_or entries last e → begin ≡ e.pad
     → StandsFor (record { all = record { hardware = p; schedule = map entry_view entries; domains = n }; owns = map own_view owns }) 0 memory domains used 0 begin 0

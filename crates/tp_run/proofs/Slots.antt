@@ -6,10 +6,13 @@ use Rattle.std.proofs.lemmas.Bool.{cases_lt}
 use Rattle.std.proofs.lemmas.List.{length-map, length-set, get_or-map}
 use Rattle.std.proofs.lemmas.Option.{slice_get_within}
 use Rattle.tp_base.specs.Table.{at}
+use Rattle.phys_mem.specs.Contents.{Contents}
+use Rattle.phys_mem.specs.Holds.{Holds}
+use Rattle.phys_mem.specs.Mem.{frame_at}
 use Rattle.world_view.specs.Image as spec
 use Rattle.world_view.specs.Image.{Image, own_of}
 use Rattle.world_view.specs.Schedule.{entry_of_slot, switch_entry, start, slot_end, no_entry}
-use Rattle.world_view.specs.Memory.{frame_at, frame_words}
+use Rattle.world_view.specs.Opening.{frame_words}
 use Rattle.world_view.specs.Domain.{Dom, no_dom}
 use Rattle.world_view.specs.Event.{Store}
 use Rattle.world_view.specs.Machine.{Local, stretch, run_slot, whole, dom_of}
@@ -18,9 +21,7 @@ use Rattle.world_view.proofs.CodeLaws.{switch-doms, switch-store, switch-clock, 
 use Rattle.tp_run.specs.declared.domain.Domain.{Domain}
 use Rattle.tp_run.specs.declared.image.Entry.{Entry}
 use Rattle.tp_run.specs.declared.image.Image.{Image as CodeImage}
-use Rattle.tp_run.specs.declared.memory.FrameMemory.{FrameMemory}
 use Rattle.tp_run.specs.declared.used.Used.{Used}
-use Rattle.tp_run.specs.Frames.{HoldsFrames}
 use Rattle.tp_run.specs.ImageViews.{entry_view, own_view}
 use Rattle.tp_run.specs.Views.{image_view, log_view, thread_view}
 use Rattle.tp_run.specs.Stands.{Stands, CountsUpTo}
@@ -39,38 +40,37 @@ entry_of_slot-is items k n e long within read =
 
 -- ---- the slot
 
-module _ (i : Image) (k : ℕ) (memory : FrameMemory) (domains : List Domain) (used used' : List Used) (clock next last : ℕ) (is : StandsFor i k memory domains used clock next last)
-    (x new : Domain) (begin later : ℕ) (o : spec.Own) (begins : begin ≡ max clock next) (long : length used' ≡ length used)
+module _ (i : Image) (k : ℕ) (memory memory' : Contents) (domains : List Domain) (used used' : List Used) (clock next last : ℕ) (is : StandsFor i k memory domains used clock next last)
+    (x new : Domain) (begin later : ℕ) (o : spec.Own) (begins : begin ≡ max clock next) (kept : memory'.frames ≡ memory.frames) (long : length used' ≡ length used)
     (noted : (us : List (ℕ × ℕ)) → IsUsed used us → IsUsed used' (us ++ (switch_entry i.all.schedule k, clock - last) ∷ [])) where
   -- the code's domain runs as the definition's does
   ran : own_of i (entry_of_slot i.all.schedule k).domain ≡ o → slice_get domains (entry_of_slot i.all.schedule k).domain ≡ Some x
-      → Moves (stretch i.all.hardware o false (next + (entry_of_slot i.all.schedule k).length)) memory x begin new later
-      → StandsIn new later (slot_begun i k (whole i k)) (slot_over i k (whole i k))
+      → Moves (stretch i.all.hardware o false (next + (entry_of_slot i.all.schedule k).length)) memory x begin memory' new later
+      → StandsIn memory' new later (slot_begun i k (whole i k)) (slot_over i k (whole i k))
   ran owns got moves =
       let w = whole i k in
       let d = (entry_of_slot i.all.schedule k).domain in
       let begun : Local = slot_begun i k w in
       let stands : Stands x begun.dom = subst (λ m. Stands x (at no_dom m d)) (sym (switch-doms i k w)) (is.each_domain d x got) in
-      let holds : HoldsFrames memory.frames memory.words.items begun.store.mem = subst (λ (s : Store). HoldsFrames memory.frames memory.words.items s.mem) (sym (switch-store i k w)) is.held in
+      let holds : Holds memory begun.store.mem = subst (λ (s : Store). Holds memory s.mem) (sym (switch-store i k w)) is.held in
       let time : begin ≡ begun.clock = begins ∙ ap₂ max is.time is.begins ∙ sym (switch-clock i k w) in
       let end : next + (entry_of_slot i.all.schedule k).length ≡ slot_end i.all.schedule k = ap (λ n. n + (entry_of_slot i.all.schedule k).length) is.begins in
-      subst₂ (λ (a : spec.Own) (n : ℕ). StandsIn new later begun (stretch i.all.hardware a false n begun)) (sym owns) end (moves begun stands holds time)
+      subst₂ (λ (a : spec.Own) (n : ℕ). StandsIn memory' new later begun (stretch i.all.hardware a false n begun)) (sym owns) end (moves begun stands holds time)
 
   stands_after : own_of i (entry_of_slot i.all.schedule k).domain ≡ o → slice_get domains (entry_of_slot i.all.schedule k).domain ≡ Some x
-      → Moves (stretch i.all.hardware o false (next + (entry_of_slot i.all.schedule k).length)) memory x begin new later
-      → StandsFor i (suc k) memory (set domains (entry_of_slot i.all.schedule k).domain new) used' later
+      → Moves (stretch i.all.hardware o false (next + (entry_of_slot i.all.schedule k).length)) memory x begin memory' new later
+      → StandsFor i (suc k) memory' (set domains (entry_of_slot i.all.schedule k).domain new) used' later
       (next + (entry_of_slot i.all.schedule k).length + (entry_of_slot i.all.schedule k).pad) (next + (entry_of_slot i.all.schedule k).length)
   unfolding whole start
   stands_after owns got moves =
       let w = whole i k in
       let e = entry_of_slot i.all.schedule k in
       let over = ran owns got moves in
-      let kept : (run_slot i k w).store ≡ w.store = run_slot-store i k w ∙ over.store ∙ switch-store i k w in
       let switches : (run_slot i k w).used ≡ w.used ++ (switch_entry i.all.schedule k, clock - last) ∷ [] =
       run_slot-used i k w ∙ ap (λ n. w.used ++ (switch_entry i.all.schedule k, n) ∷ []) (ap₂ (λ a b. a - b) (sym is.time) (sym is.ends)) in
       record {
-        frames = is.frames;
-        held = subst (λ (s : Store). HoldsFrames memory.frames memory.words.items s.mem) (sym kept) is.held;
+        frames = kept ∙ is.frames;
+        held = subst (λ (s : Store). Holds memory' s.mem) (sym (run_slot-store i k w)) over.held;
         all_domains = length-set domains e.domain new ∙ is.all_domains;
         each_domain = each_set (λ j y. Stands y (dom_of w j)) (λ j y. Stands y (dom_of (run_slot i k w) j)) domains e.domain new (slice_get_within domains e.domain x got)
             (subst (Stands new) (sym (run_slot-dom_same i k w)) over.dom)
@@ -84,12 +84,12 @@ module _ (i : Image) (k : ℕ) (memory : FrameMemory) (domains : List Domain) (u
       }
 
   pub stands_next : (e : spec.Entry) → entry_of_slot i.all.schedule k ≡ e → own_of i e.domain ≡ o → slice_get domains e.domain ≡ Some x
-      → Moves (stretch i.all.hardware o false (next + e.length)) memory x begin new later
-      → StandsFor i (k + 1) memory (set domains e.domain new) used' later (next + e.length + e.pad) (next + e.length)
+      → Moves (stretch i.all.hardware o false (next + e.length)) memory x begin memory' new later
+      → StandsFor i (k + 1) memory' (set domains e.domain new) used' later (next + e.length + e.pad) (next + e.length)
   stands_next e entry =
       subst₂ (λ (n : ℕ) (y : spec.Entry). own_of i y.domain ≡ o → slice_get domains y.domain ≡ Some x
-      → Moves (stretch i.all.hardware o false (next + y.length)) memory x begin new later
-      → StandsFor i n memory (set domains y.domain new) used' later (next + y.length + y.pad) (next + y.length))
+      → Moves (stretch i.all.hardware o false (next + y.length)) memory x begin memory' new later
+      → StandsFor i n memory' (set domains y.domain new) used' later (next + y.length + y.pad) (next + y.length))
       (sym (add-one k)) entry stands_after
 
 -- ---- bounds
@@ -124,14 +124,15 @@ in_bounds_next k domains used used' clock next last d length' pad base new begin
 
 -- ---- what is seen
 
-pub view_is : (x : Domain) (m : Dom) (p : spec.Hardware) (o : spec.Own) (s : Store) (words : List ℕ) → Stands x m → o.frame < p.frames → words ≡ frame_words (frame_at s.mem o.frame)
+pub view_is : (x : Domain) (m : Dom) (p : spec.Hardware) (o : spec.Own) (page : spec.Page) (s : Store) (words : List ℕ) → Stands x m → o.pages ≡ page ∷ [] → page.frame < p.frames → words ≡ frame_words (frame_at s.mem page.frame)
     → record { status = x.status; retired = x.retired; thread = thread_view x.thread; readings = log_view x.readings; replies = log_view x.replies; printed = x.printed.items; frames = words ∷ [] } ≡ view p o m s
 unfolding view
-view_is x m p o s words stands held is =
-    let same : View = record { status = x.status; retired = x.retired; thread = thread_view x.thread; readings = log_of m.readings; replies = log_of m.replies; printed = x.printed.items; frames = frame_words (frame_at s.mem o.frame) ∷ [] } in
-    let here : same ≡ record { status = m.status; retired = m.retired; thread = m.thread; readings = log_of m.readings; replies = log_of m.replies; printed = m.printed; frames = frame_words (frame_at s.mem o.frame) ∷ [] } =
-    subst (λ (m' : Dom). same ≡ record { status = m'.status; retired = m'.retired; thread = m'.thread; readings = log_of m.readings; replies = log_of m.replies; printed = m'.printed; frames = frame_words (frame_at s.mem o.frame) ∷ [] }) stands.same refl in
-    rw (pool-one p o held, stands.readings, stands.replies, is) here
+view_is x m p o page s words stands one held is =
+    let f = page.frame in
+    let same : View = record { status = x.status; retired = x.retired; thread = thread_view x.thread; readings = log_of m.readings; replies = log_of m.replies; printed = x.printed.items; frames = frame_words (frame_at s.mem f) ∷ [] } in
+    let here : same ≡ record { status = m.status; retired = m.retired; thread = m.thread; readings = log_of m.readings; replies = log_of m.replies; printed = m.printed; frames = frame_words (frame_at s.mem f) ∷ [] } =
+    subst (λ (m' : Dom). same ≡ record { status = m'.status; retired = m'.retired; thread = m'.thread; readings = log_of m.readings; replies = log_of m.replies; printed = m'.printed; frames = frame_words (frame_at s.mem f) ∷ [] }) stands.same refl in
+    rw (pool-one p o page one held, stands.readings, stands.replies, is) here
 
 -- ---- what an accepted image says of a slot's entry
 

@@ -1,13 +1,13 @@
 -- What switches took, of the code and of the definitions.
-use Rattle.std.proofs.Common.{◌≡◌, ℕ, ◌+◌, ◌<◌, ◌≤◌, max, List, [], ◌∷◌, ◌++◌, length, take, drop, replicate, get_or, refl, sym, ap, subst, ◌∙◌, arith}
+use Rattle.std.proofs.Common.{◌≡◌, ℕ, ◌+◌, ◌<◌, ◌≤◌, max, List, [], ◌∷◌, ◌++◌, length, take, drop, replicate, get_or, refl, sym, ap, subst, ◌∙◌, arith, append-nil}
 use Rattle.std.proofs.Math.ListN.{set}
+use Rattle.std.proofs.lemmas.List.{drop_all, take_all}
 use Rattle.std.proofs.lemmas.Option.{slice_get-get_or}
 use Rattle.world_view.specs.Report.{largest_of, count_of}
 use Rattle.world_view.proofs.CodeLaws.{count_of-push_same, count_of-push_other, largest_of-push_same, largest_of-push_other}
 use Rattle.tp_run.specs.declared.used.Used.{Used}
 use Rattle.tp_run.specs.Usage.{IsUsed, CountedUpTo}
 use Rattle.tp_run.proofs.Elements.{each_set, each_replicate}
-use Rattle.tp_run.proofs.FrameWords.{written_back}
 
 module _ (used : List Used) (e : ℕ) (none : Used) (within : e < length used) where
   pub is_used_noted : (cycles largest : ℕ) (us : List (ℕ × ℕ)) → largest ≡ max (get_or used e none).largest cycles → IsUsed used us
@@ -40,6 +40,11 @@ pub counted_none : (used : List Used) (n : ℕ) → used ≡ replicate n (record
 counted_none used n is = rw is (record { few = λ e. each_replicate (λ u. u.count ≤ 0) n _ (omega arith) e })
 
 -- ---- a slice of all entries, written back
+
+written_back : {A : Type 0} (new items : List A) (n : ℕ) → length new ≡ n → length items ≡ n → take n (new ++ drop (length new) items) ≡ new
+written_back new items n long same =
+    let rest : drop (length new) items ≡ [] = drop_all (length new) items (omega arith) in
+    rw (rest, append-nil new) (take_all n new (omega arith))
 
 module _ (used new : List Used) (n : ℕ) (long : length new ≡ n) (was : length used ≡ n) where
   pub noted_back : (e e' cycles : ℕ) → e ≡ e' → ((us : List (ℕ × ℕ)) → IsUsed used us → IsUsed new (us ++ (e, cycles) ∷ []))

@@ -5,7 +5,6 @@ pub mod Words
 pub mod Pieces
 pub mod Switches
 pub mod Stands
-pub mod Frames
 pub mod Moves
 pub mod Usage
 pub mod Worlds

@@ -1,9 +1,8 @@
 -- What a domain of the code stands for, given all its readings and replies.
-use Rattle.std.specs.Prelude.{◌≡◌, ℕ, ◌<◌, ◌≤◌, List, length, map, slice_get, slice_index_or, Some}
-use Rattle.world_view.specs.declared.Instr.{Instr}
-use Rattle.world_view.specs.declared.Instr.TheVariants.{Addi, Jal, Ecall}
+use Rattle.std.specs.Prelude.{◌≡◌, ℕ, ◌^◌, ◌<◌, ◌≤◌, IsTrue, List, length, map, slice_get, slice_index_or, Some}
 use Rattle.world_view.specs.declared.Reply.{Reply}
-use Rattle.world_view.specs.Image.{no_own}
+use Rattle.world_view.specs.Image as spec
+use Rattle.world_view.specs.Image.{no_own, own_frame}
 use Rattle.world_view.specs.Domain.{Dom, opening_dom}
 use Rattle.world_view.specs.View.{log_of}
 use Rattle.tp_run.specs.declared.domain.Domain.{Domain}
@@ -37,11 +36,10 @@ pub record CountsUpTo (clock : ℕ) (d : Domain) : Type 0 where
   pub readings : d.readings.count ≤ clock
   pub replies : d.replies.count ≤ clock
 
--- the registers that it names are there
-abbrev pub IsEncodable : Instr → Type 0
-IsEncodable (Addi rd rs1 imm) = (rd < 32) × (rs1 < 32)
-IsEncodable (Jal rd offset) = rd < 32
-IsEncodable Ecall = Unit {0}
+-- a memory of so many frames has all frames of a domain
+pub record HasFrames (o : spec.Own) (frames : ℕ) : Type 0 where
+  pub few : frames ≤ 2 ^ 20
+  pub each : (p : spec.Hardware) (f : ℕ) → IsTrue (own_frame p o f) → f < frames
 
 -- each of these is a domain at its entry
 pub record AreOpened (domains : List Domain) (owns : List Own) : Type 0 where

@@ -3,6 +3,7 @@ use Rattle.std.specs.Prelude.{[], ◌∷◌}
 use Rattle.world_view.specs.Image as spec
 use Rattle.world_view.specs.Domain as domain_spec
 use Rattle.world_view.specs.View as view_spec
+use Rattle.phys_mem.specs.Contents.{frame_words}
 use Rattle.tp_run.specs.declared.image.Image.{Image}
 use Rattle.tp_run.specs.declared.log.Log.{Log}
 use Rattle.tp_run.specs.declared.view.Thread.{Thread}
@@ -27,5 +28,5 @@ view_view v = record {
   readings = log_view v.readings.now;
   replies = log_view v.replies.now;
   printed = v.printed.now;
-  frames = v.words.now ∷ [];
+  frames = frame_words v.memory.now v.frame ∷ [];
 }

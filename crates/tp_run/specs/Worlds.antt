@@ -1,19 +1,19 @@
 -- What the code's machine stands for.
 use Rattle.std.specs.Prelude.{◌≡◌, ℕ, ◌+◌, ◌*◌, ◌≤◌, List, length, slice_get, Some}
+use Rattle.phys_mem.specs.Contents.{Contents}
+use Rattle.phys_mem.specs.Holds.{Holds}
 use Rattle.world_view.specs.Image.{Image}
 use Rattle.world_view.specs.Schedule.{start, ended}
 use Rattle.world_view.specs.Machine.{whole, dom_of}
 use Rattle.tp_run.specs.declared.domain.Domain.{Domain}
-use Rattle.tp_run.specs.declared.memory.FrameMemory.{FrameMemory}
 use Rattle.tp_run.specs.declared.used.Used.{Used}
-use Rattle.tp_run.specs.Frames.{HoldsFrames}
 use Rattle.tp_run.specs.Stands.{Stands, CountsUpTo}
 use Rattle.tp_run.specs.Usage.{IsUsed, CountedUpTo}
 
 -- these stand for the whole machine after so many slots; the next slot begins at `next`, and the last one ended at `last`
-pub record StandsFor (i : Image) (slots : ℕ) (memory : FrameMemory) (domains : List Domain) (used : List Used) (clock next last : ℕ) : Type 0 where
+pub record StandsFor (i : Image) (slots : ℕ) (memory : Contents) (domains : List Domain) (used : List Used) (clock next last : ℕ) : Type 0 where
   pub frames : memory.frames ≡ i.all.hardware.frames
-  pub held : HoldsFrames memory.frames memory.words.items (whole i slots).store.mem
+  pub held : Holds memory (whole i slots).store.mem
   pub all_domains : length domains ≡ length i.owns
   pub each_domain : (d : ℕ) (x : Domain) → slice_get domains d ≡ Some x → Stands x (dom_of (whole i slots) d)
   pub all_entries : length used ≡ length i.all.schedule

@@ -4,6 +4,7 @@ ghost use Rattle.std.specs.Prelude.{◌≤◌, vec_capacity};
 use crate::image::Own;
 use crate::log::Log;
 use crate::view::Thread;
+use rv_core::Regs;
 use std::alloc::Global;
 use tp_base::Memory;
 use world_view::{DomainStatus, Reply, ThreadState};
@@ -43,7 +44,7 @@ impl Domain {
             thread: Thread {
                 state: ThreadState::Ready,
                 pc: own.entry,
-                regs: [0; 32],
+                regs: Regs::new(),
             },
             retired: 0,
             readings: Log::new(alloc)?,

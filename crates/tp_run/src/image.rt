@@ -1,6 +1,8 @@
 // The record of an image that is accepted.
 ghost use Rattle.tp_run.specs.ImageViews.{IsAcceptedImage};
 
+use world_view::Rights;
+
 /// What all domains share of the machine.
 #[derive(Clone, Copy)]
 pub struct Hardware {
@@ -27,18 +29,25 @@ pub struct Public {
     pub domains: u32,
 }
 
+/// A page of a domain's address space.
+#[derive(Drop)]
+pub struct Page {
+    /// Its address divided by 4,096.
+    pub number: u32,
+    /// The frame in which it is placed.
+    pub frame: u32,
+    pub rights: Rights,
+    /// Its first bytes; zeros follow.
+    pub bytes: Vec<u8>,
+}
+
 /// What is one domain's own.
 #[derive(Drop)]
 pub struct Own {
     pub name: String,
-    /// The frame in which its page is placed.
-    pub frame: u32,
-    /// The number of its page in its own address space.
-    pub page: u32,
     /// The address at which it begins.
     pub entry: u32,
-    /// The first bytes of its page.
-    pub code: Vec<u8>,
+    pub pages: Vec<Page>,
 }
 
 /// An image that is accepted.

@@ -1,87 +1,101 @@
-// What an instruction and a kernel call do to a domain.
-ghost use Rattle.std.specs.Prelude.{◌≡◌, ◌+◌, ◌^◌, ◌<◌, ◌≤◌, IfSome};
+// What traps, counters, kernel calls and instructions do to a domain.
+ghost use Rattle.std.specs.Prelude.{◌≡◌, ℕ, ◌+◌, ◌^◌, ◌<◌, ◌≤◌, List};
+ghost use Rattle.world_view.specs.declared.Reply.{Reply};
 ghost use Rattle.world_view.specs.Instruction as spec;
-ghost use Rattle.tp_run.specs.Stands.{Becomes, IsEncodable};
+ghost use Rattle.world_view.specs.Event.{noted};
+ghost use Rattle.tp_run.specs.Stands.{Becomes, dom_view};
 
 use crate::domain::{Domain, PRINTED};
-use world_view::{DomainStatus, Instr, Reply, ThreadState};
+use rv_core::Trap;
+use rv_decode::{Counter, Instr};
+use world_view::{DomainStatus, Reply, ThreadState};
 
-// ---- decoding
+// ---- exceptions
 
-// A number of so many bits, the highest of them its sign, as a word.
-fn sign_extended(bits: u32, n: u32) -> u32
-    requires some { 1 ≤ bits }
-    requires fewer { bits < 32 }
-    requires fits { n < 2 ^ bits }
-    ensures value { result ≡ spec.sign_extended bits n }
-{
-    if n < 1 << (bits - 1) {
-        n
-    } else {
-        n + (u32::MAX - ((1 << bits) - 1))
-    }
-}
-
-/// The instruction that a word encodes, if it is one.
-#[tactic(auto, unfolding(world_view::specs::Instruction::decode))]
-pub fn decode(word: u32) -> Option<Instr>
-    ensures value { result ≡ spec.decode word }
-    ensures encodable { IfSome result IsEncodable }
-{
-    let rd = (word >> 7 & 31) as u8;
-    let rs1 = (word >> 15 & 31) as u8;
-    if word & 127 == 19 && word >> 12 & 7 == 0 {
-        let imm = sign_extended(12, word >> 20);
-        Some(Instr::Addi { rd, rs1, imm })
-    } else if word & 127 == 111 {
-        let high = (word >> 31) * (1 << 20) + (word >> 12 & 255) * (1 << 12);
-        let low = (word >> 20 & 1) * (1 << 11) + (word >> 21 & 1023) * 2;
-        let offset = sign_extended(21, high + low);
-        Some(Instr::Jal { rd, offset })
-    } else if word == 115 {
-        Some(Instr::Ecall)
-    } else {
-        None
-    }
-}
-
-// ---- registers and threads
-
-fn register(regs: &[u32; 32], x: u8) -> u32
-    requires register { x < 32 }
-    ensures value { result ≡ spec.register regs.now x }
-{
-    if x == 0 { 0 } else { regs[usize::from(x)] }
-}
-
-fn set_register(regs: &mut [u32; 32], x: u8, word: u32)
-    requires register { x < 32 }
-    ensures regs { regs.new ≡ spec.with_register regs.old x word }
-{
-    if x != 0 {
-        regs[usize::from(x)] = word;
-    }
-}
-
-fn next_pc(pc: u32) -> u32
-    ensures value { result ≡ spec.next_pc pc }
-{
-    pc.wrapping_add(4)
-}
-
-/// Stops the domain by an exception with this code, where it stands.
-#[tactic(auto, unfolding(world_view::specs::Instruction::stopped))]
-pub fn stop(domain: &mut Domain, code: u8, value: u32)
-    ensures becomes { Becomes (spec.stopped code value) domain.old domain.new }
+/// Stops the domain by an exception, where it stands.
+#[tactic(auto, unfolding(world_view::specs::Instruction::trapped, world_view::specs::Instruction::stopped))]
+pub fn stop(domain: &mut Domain, trap: Trap)
+    ensures becomes { Becomes (spec.trapped trap) domain.old domain.new }
     ensures retired { domain.new.retired ≡ domain.old.retired }
     ensures readings { domain.new.readings.count ≡ domain.old.readings.count }
     ensures replies { domain.new.replies.count ≡ domain.old.replies.count }
 {
     domain.status = DomainStatus::Stopped {
-        code,
+        code: trap.code,
         pc: domain.thread.pc,
-        value,
+        value: trap.value,
     };
+}
+
+// ---- counters
+
+fn low_half(n: u64) -> u32
+    ensures value { result ≡ spec.low_half n }
+{
+    (n & 0xffff_ffff) as u32
+}
+
+fn high_half(n: u64) -> u32
+    ensures value { result ≡ spec.high_half n }
+{
+    (n >> 32) as u32
+}
+
+/// What a read of a counter gives, at a clock in cycles.
+pub fn counter_value(counter: Counter, now: u64, domain: &Domain) -> u32
+    ensures value { (readings : List ℕ) (replies : List Reply) → result ≡ spec.counter_value counter now (dom_view domain.now readings replies) }
+{
+    match counter {
+        Counter::Cycle | Counter::Time => low_half(now),
+        Counter::Instret => low_half(domain.retired),
+        Counter::CycleHigh | Counter::TimeHigh => high_half(now),
+        Counter::InstretHigh => high_half(domain.retired),
+    }
+}
+
+// ---- what retires
+
+// Records a counter's value that the domain read.
+#[tactic(auto, unfolding(world_view::specs::Instruction::read_out))]
+fn read_out(domain: &mut Domain, value: u32)
+    requires readings { domain.old.readings.count < 2 ^ 63 }
+    ensures becomes { Becomes (spec.read_out value) domain.old domain.new }
+    ensures retired { domain.new.retired ≡ domain.old.retired }
+    ensures readings { domain.new.readings.count ≡ domain.old.readings.count + 1 }
+    ensures replies { domain.new.replies.count ≡ domain.old.replies.count }
+{
+    domain.readings.push(u64::from(value));
+}
+
+// The domain goes on there, and one more instruction has retired.
+#[tactic(auto, unfolding(world_view::specs::Instruction::retired_at))]
+fn retire(domain: &mut Domain, next: u32)
+    requires retired { domain.old.retired < 2 ^ 63 }
+    ensures becomes { Becomes (λ d. spec.retired_at next d.thread.regs d) domain.old domain.new }
+    ensures retired { domain.new.retired ≡ domain.old.retired + 1 }
+    ensures readings { domain.new.readings.count ≡ domain.old.readings.count }
+    ensures replies { domain.new.replies.count ≡ domain.old.replies.count }
+{
+    domain.thread.pc = next;
+    domain.retired += 1;
+}
+
+/// Ends an instruction whose registers are written: the counter's value that it
+/// read is recorded, and the domain goes on at `next`.
+pub fn finish(domain: &mut Domain, instr: Instr, value: u32, next: u32)
+    requires retired { domain.old.retired < 2 ^ 63 }
+    requires readings { domain.old.readings.count < 2 ^ 63 }
+    ensures becomes { Becomes (λ d. spec.retired_at next d.thread.regs (noted instr value d)) domain.old domain.new }
+    ensures retired { domain.new.retired ≡ domain.old.retired + 1 }
+    ensures readings { domain.new.readings.count ≤ domain.old.readings.count + 1 }
+    ensures replies { domain.new.replies.count ≡ domain.old.replies.count }
+{
+    if let Instr::ReadCounter { .. } = instr {
+        read_out(domain, value);
+        retire(domain, next);
+        return;
+    }
+    retire(domain, next);
 }
 
 // ---- kernel calls
@@ -95,9 +109,9 @@ fn reply_to(domain: &mut Domain, reply: Reply)
     ensures readings { domain.new.readings.count ≡ domain.old.readings.count }
     ensures replies { domain.new.replies.count ≡ domain.old.replies.count + 1 }
 {
-    set_register(&mut domain.thread.regs, 10, reply.code);
-    set_register(&mut domain.thread.regs, 11, reply.value);
-    domain.thread.pc = next_pc(domain.thread.pc);
+    domain.thread.regs.set(10, reply.code);
+    domain.thread.regs.set(11, reply.value);
+    domain.thread.pc = domain.thread.pc.wrapping_add(4);
     domain.replies.push(reply);
 }
 
@@ -118,17 +132,17 @@ fn put_byte(domain: &mut Domain, a: u32)
     }
 }
 
-// The kernel call in x17, with the argument in x10.
+/// The kernel call in x17, with the argument in x10.
 #[tactic(auto, unfolding(world_view::specs::Instruction::call, world_view::specs::Instruction::called, world_view::specs::Instruction::exited))]
-fn call(domain: &mut Domain)
+pub fn call(domain: &mut Domain)
     requires replies { domain.old.replies.count < 2 ^ 63 }
     ensures becomes { Becomes spec.call domain.old domain.new }
     ensures retired { domain.new.retired ≡ domain.old.retired }
     ensures readings { domain.new.readings.count ≡ domain.old.readings.count }
     ensures replies { domain.new.replies.count ≤ domain.old.replies.count + 1 }
 {
-    let number = register(&domain.thread.regs, 17);
-    let a = register(&domain.thread.regs, 10);
+    let number = domain.thread.regs.get(17);
+    let a = domain.thread.regs.get(10);
     match number {
         0 => {
             domain.status = DomainStatus::Exited(a);
@@ -138,52 +152,3 @@ fn call(domain: &mut Domain)
         _ => reply_to(domain, Reply { code: 1, value: 0 }),
     }
 }
-
-// ---- instructions
-
-// Goes to the target, or stops the domain where no instruction can stand.
-#[tactic(auto, unfolding(world_view::specs::Instruction::jumped, world_view::specs::Instruction::retired_at))]
-fn jump(domain: &mut Domain, rd: u8, target: u32)
-    requires register { rd < 32 }
-    requires retired { domain.old.retired < 2 ^ 63 }
-    ensures becomes { Becomes (spec.jumped rd target) domain.old domain.new }
-    ensures retired { domain.new.retired ≤ domain.old.retired + 1 }
-    ensures readings { domain.new.readings.count ≡ domain.old.readings.count }
-    ensures replies { domain.new.replies.count ≡ domain.old.replies.count }
-{
-    if target % 4 != 0 {
-        stop(domain, 0, target);
-        return;
-    }
-    set_register(&mut domain.thread.regs, rd, next_pc(domain.thread.pc));
-    domain.thread.pc = target;
-    domain.retired += 1;
-}
-
-/// Executes one instruction.
-#[tactic(auto, unfolding(world_view::specs::Instruction::executed, world_view::specs::Instruction::retired_at))]
-pub fn execute(instr: Instr, domain: &mut Domain)
-    requires registers { IsEncodable instr }
-    requires retired { domain.old.retired < 2 ^ 63 }
-    requires replies { domain.old.replies.count < 2 ^ 63 }
-    ensures becomes { Becomes (spec.executed instr) domain.old domain.new }
-    ensures retired { domain.new.retired ≤ domain.old.retired + 1 }
-    ensures readings { domain.new.readings.count ≡ domain.old.readings.count }
-    ensures replies { domain.new.replies.count ≤ domain.old.replies.count + 1 }
-{
-    match instr {
-        Instr::Addi { rd, rs1, imm } => {
-            let sum = register(&domain.thread.regs, rs1).wrapping_add(imm);
-            set_register(&mut domain.thread.regs, rd, sum);
-            domain.thread.pc = next_pc(domain.thread.pc);
-            domain.retired += 1;
-        }
-        Instr::Jal { rd, offset } => {
-            jump(domain, rd, domain.thread.pc.wrapping_add(offset));
-        }
-        Instr::Ecall => call(domain),
-    }
-}
-
-#[cfg(test)]
-mod tests;

@@ -1,6 +1,7 @@
 //! The top call: words and an image in, a report and a status out.
 #![tactic(auto)]
 
+mod access;
 mod call;
 mod domain;
 mod image;

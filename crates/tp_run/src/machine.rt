@@ -7,10 +7,11 @@ ghost use Rattle.tp_run.specs.Worlds.{StandsFor, IsInBounds};
 
 use crate::domain::Domain;
 use crate::image::{Image, Own};
-use crate::memory::FrameMemory;
+use crate::memory::load_pages;
 use crate::slot::stretch;
 use crate::used::{Used, note_switch, switch_entry};
 use crate::view::View;
+use phys_mem::PhysMem;
 use std::alloc::Global;
 use tp_base::Memory;
 
@@ -19,7 +20,7 @@ use tp_base::Memory;
 #[derive(Drop)]
 pub struct Machine<'a> {
     pub image: &'a Image,
-    pub memory: FrameMemory,
+    pub memory: PhysMem,
     pub domains: Vec<Domain>,
     /// By entry of the schedule.
     pub used: Vec<Used>,
@@ -47,7 +48,7 @@ impl<'a> Machine<'a> {
         ensures slots { IfOk result (λ m. m.slots ≡ 0) }
         ensures image { IfOk result (λ m. m.image.now ≡ image.now) }
     {
-        let memory = FrameMemory::load(alloc, image)?;
+        let memory = load_pages(alloc, image)?;
         let domains = open_all(alloc, image.owns.as_slice())?;
         let used = unused(alloc, image.all.schedule.len())?;
         let last = image.all.schedule.len() - 1;
@@ -79,7 +80,7 @@ impl<'a> Machine<'a> {
         self.clock = stretch(
             &self.image.all.hardware,
             &self.image.owns[d],
-            &self.memory,
+            &mut self.memory,
             &mut self.domains[d],
             begin,
             end,
@@ -93,6 +94,7 @@ impl<'a> Machine<'a> {
     pub fn view(&self, d: usize) -> View<'_>
         requires domain { d < length self.now.image.now.owns.items }
         ensures view { view_view result ≡ view_whole (image_view self.now.image.now) d self.now.slots }
+        ensures frame { result.frame < result.memory.now.frames }
     {
         let domain = &self.domains[d];
         View {
@@ -102,7 +104,8 @@ impl<'a> Machine<'a> {
             readings: &domain.readings,
             replies: &domain.replies,
             printed: domain.printed.as_slice(),
-            words: self.memory.frame(self.image.owns[d].frame),
+            memory: &self.memory,
+            frame: self.image.owns[d].pages[0].frame,
         }
     }
 

@@ -5,16 +5,17 @@ ghost use Rattle.toml.specs.Data.{as_table};
 ghost use Rattle.toml.specs.View.{view, table_view, array_view};
 ghost use Rattle.world_view.specs.Reading as spec;
 ghost use Rattle.tp_run.specs.Gives.{Gives};
-ghost use Rattle.tp_run.specs.ImageViews.{entry_view, own_view};
+ghost use Rattle.tp_run.specs.ImageViews.{entry_view, own_view, page_view};
 ghost use Rattle.tp_run.specs.Views.{image_view};
 
-use crate::image::{Entry, Hardware, Image, Own, Public};
+use crate::image::{Entry, Hardware, Image, Own, Page, Public};
 use crate::keys::{array_at, number_at, text_at};
 use crate::refused::Refused;
 use hex::FromHexError;
 use std::alloc::Global;
 use toml::value::Array;
 use toml::{Table, Value};
+use world_view::Rights;
 
 /// Bytes of a page, the most that its code may have.
 const PAGE_BYTES: usize = 4096;
@@ -73,6 +74,22 @@ fn is_name(text: &str) -> bool
     has_name_bytes(text.as_bytes())
 }
 
+// Page 16, in this frame, to be read and executed.
+fn code_page(frame: u32, code: Vec<u8>) -> Page
+    ensures value { page_view result ≡ spec.code_page frame code.items }
+{
+    Page {
+        number: 16,
+        frame,
+        rights: Rights {
+            read: true,
+            write: false,
+            execute: true,
+        },
+        bytes: code,
+    }
+}
+
 /// A domain, whose page is placed in this frame.
 #[tactic(auto, unfolding(world_view::specs::Reading::own_in))]
 fn own_in(alloc: Global, frame: u32, value: &Value) -> Result<Own, Refused>
@@ -87,13 +104,8 @@ fn own_in(alloc: Global, frame: u32, value: &Value) -> Result<Own, Refused>
     let segment = only_item(array_at(table, "segment")?)?;
     let code = segment_of(alloc, segment)?;
     let name = String::from_str(alloc, name)?;
-    Ok(Own {
-        name,
-        frame,
-        page: 16,
-        entry,
-        code,
-    })
+    let pages = vec![in alloc; code_page(frame, code)]?;
+    Ok(Own { name, entry, pages })
 }
 
 #[tactic(auto, unfolding(world_view::specs::Reading::two_owns))]

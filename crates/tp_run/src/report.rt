@@ -1,5 +1,6 @@
 // The text of a report.
-ghost use Rattle.std.specs.Prelude.{◌≡◌, ◌∷◌, [], length};
+ghost use Rattle.std.specs.Prelude.{◌≡◌, ◌<◌, ◌∷◌, [], length};
+ghost use Rattle.phys_mem.specs.Contents.{frame_words};
 ghost use Rattle.world_view.specs.Texts as spec;
 ghost use Rattle.world_view.specs.Report as report_spec;
 ghost use Rattle.tp_io.specs.Sends.{Sends};
@@ -10,6 +11,7 @@ use crate::image::Entry;
 use crate::pieces::{Piece, write_pieces};
 use crate::used::Used;
 use crate::view::View;
+use phys_mem::PhysMem;
 use tp_io::{Failed, Sink, write_all_of};
 
 /// Writes the section of a domain.
@@ -20,6 +22,7 @@ pub fn write_section<'a, K: Sink>(
     name: &'a str,
     view: &'a View<'a>,
 ) -> Result<(), Failed>
+    requires within { view.now.frame < view.now.memory.now.frames }
     ensures { Sends (K.written out.old) (K.written out.new) (K.faults out.old) (K.faults out.new) result (spec.section domain name.now (view_view view.now)) }
 {
     write_pieces(
@@ -37,7 +40,7 @@ pub fn write_section<'a, K: Sink>(
             Piece::State(view.thread.state),
             Piece::Text(" pc "),
             Piece::Hex(view.thread.pc),
-            Piece::Registers(&view.thread.regs),
+            Piece::Registers(view.thread.regs.words()),
             Piece::Text("\nreadings "),
             Piece::Readings(view.readings),
             Piece::Text("\nreplies "),
@@ -46,20 +49,24 @@ pub fn write_section<'a, K: Sink>(
             Piece::Number(view.printed.len() as u64),
             Piece::Bytes(view.printed),
             Piece::Text("\nmem "),
-            Piece::Hex(memory_sum(view.words)),
+            Piece::Hex(memory_sum(view.memory, view.frame)),
             Piece::Text("\n"),
         ],
     )
 }
 
-// The sum of the words, modulo 2^32.
+// The sum of all words of a frame, modulo 2^32.
 #[tactic(auto, unfolding(world_view::specs::Texts::memory_sum))]
-fn memory_sum(words: &[u32]) -> u32
-    ensures { result ≡ spec.memory_sum (words.now ∷ []) }
+fn memory_sum(memory: &PhysMem, frame: u32) -> u32
+    requires within { frame < memory.now.frames }
+    ensures { result ≡ spec.memory_sum (frame_words memory.now frame ∷ []) }
 {
+    // There are at most 2^20 frames, so that no address is too large.
+    prove!(frame < memory.frames());
+    let start = 4096 * frame;
     let mut sum = 0u32;
-    for word in words {
-        sum = sum.wrapping_add(*word);
+    for i in 0..1024 {
+        sum = sum.wrapping_add(memory.read_word(start + 4 * i));
     }
     sum
 }

@@ -1,5 +1,7 @@
 // What can be seen of a domain.
 use crate::log::Log;
+use phys_mem::PhysMem;
+use rv_core::Regs;
 use world_view::{DomainStatus, Reply, ThreadState};
 
 /// A thread: where it is in its life, its place, and its registers.
@@ -7,7 +9,7 @@ use world_view::{DomainStatus, Reply, ThreadState};
 pub struct Thread {
     pub state: ThreadState,
     pub pc: u32,
-    pub regs: [u32; 32],
+    pub regs: Regs,
 }
 
 /// What can be seen of a domain. It lends, and owns nothing.
@@ -20,6 +22,7 @@ pub struct View<'a> {
     pub readings: &'a Log<u64>,
     pub replies: &'a Log<Reply>,
     pub printed: &'a [u8],
-    /// The words of its frame.
-    pub words: &'a [u32],
+    pub memory: &'a PhysMem,
+    /// Its frame of that memory.
+    pub frame: u32,
 }

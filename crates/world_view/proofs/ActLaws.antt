@@ -1,17 +1,25 @@
 -- Actions of a domain from memories that are beside: one law of `>>=`, one of each primitive, and one line for each definition.
-use Rattle.std.proofs.Common.{◌≡◌, ℕ, Bool, true, false, cond, eqb, ◌/◌, ◌⊎◌, List, [], ◌∷◌, ◌++◌, Option, Some, None, ap, ap₂, refl, ◌∙◌, subst, IsTrue, inl, inr, eq-eqb, mod-lt, lit<}
+use Rattle.std.proofs.Common.{◌≡◌, ℕ, Bool, true, false, cond, eqb, ◌||◌, ◌/◌, ◌⊎◌, List, [], ◌∷◌, ◌++◌, Option, Some, None, ap, ap₂, refl, sym, ◌∙◌, subst, IsTrue, inl, inr, eq-eqb, true≢false, mod-lt, lit<}
+use Rattle.std.specs.List.{list_any}
 use Rattle.std.proofs.Math.Arith.{digits_div}
-use Rattle.tp_base.specs.Table.{at}
+use Rattle.std.proofs.lemmas.Option.{none-some, same_Some}
+use Rattle.tp_base.specs.Table.{empty, at, put, at-put}
 use Rattle.tp_base.specs.Act.{Done, go_on, ◌>>=◌, ◌>>◌, give, stop, note}
-use Rattle.world_view.specs.declared.Instr.{Instr}
-use Rattle.world_view.specs.Image.{Hardware, Own, own_frame}
-use Rattle.world_view.specs.Memory.{Frame, word}
+use Rattle.phys_mem.specs.Mem.{Mem, Frame, frame_at, word, written, frame_at-written_other}
+use Rattle.rv_decode.specs.declared.Instr.{Instr}
+use Rattle.rv_decode.specs.declared.Instr.TheVariants as instr
+use Rattle.rv_decode.specs.declared.LoadWidth.{LoadWidth}
+use Rattle.rv_core.specs.Effect.{Outcome}
+use Rattle.rv_core.specs.declared.Store.{Store as StoreMade}
+use Rattle.rv_core.specs.declared.Trap.{Trap}
+use Rattle.world_view.specs.declared.Access.{Access}
+use Rattle.world_view.specs.Image.{Hardware, Page, Own, own_frame}
 use Rattle.world_view.specs.Domain.{Dom}
-use Rattle.world_view.specs.Instruction.{stopped}
+use Rattle.world_view.specs.Instruction.{stopped, trapped}
 use Rattle.world_view.specs.Reach.{Touch}
-use Rattle.world_view.specs.Reach.Touch.{Fetch}
-use Rattle.world_view.specs.Event.{Store, Act, touch, frame_for, or_stop, translate, address_in, read, perform, instr}
-use Rattle.world_view.specs.Laws.{MayAll, BesideStore}
+use Rattle.world_view.specs.Reach.Touch.{Fetch, Load, Store as StoreTouch}
+use Rattle.world_view.specs.Event.{Store, Act, permits, page_fault, page_in, permitted, touch, frame_for, or_stop, translate, address_in, read, write, unless, load, store, loaded, settle, execute, perform, instruction}
+use Rattle.world_view.specs.Laws.{May, MayAll, BesideStore}
 
 pub may_append : (p : Hardware) (o : Own) (ts us : List Touch) → MayAll p o ts → MayAll p o us → MayAll p o (ts ++ us)
 may_append p o [] us h k = k
@@ -21,6 +29,17 @@ may_append p o (t ∷ ts) us h k = (h.0, may_append p o ts us h.1 k)
 abbrev pub Known : {A : Type 0} → (A → Type 0) → Dom ⊎ A → Type 0
 Known P (inl d) = Unit {0}
 Known P (inr a) = P a
+
+or_right : (a b : Bool) → IsTrue b → IsTrue (a || b)
+or_right true b h = refl
+or_right false b h = h
+
+own_page_if : (q : Page) (pages : List Page) (n : ℕ) (page : Page) (b : Bool) → cond b (Some q) (page_in pages n) ≡ Some page
+    → (page_in pages n ≡ Some page → IsTrue (list_any (λ r. eqb r.frame page.frame) pages)) → IsTrue (list_any (λ r. eqb r.frame page.frame) (q ∷ pages))
+own_page_if q pages n page true h rest =
+    let same : q ≡ page = same_Some q page h in
+    rw (eq-eqb q.frame page.frame (ap (λ (x : Page). x.frame) same)) refl
+own_page_if q pages n page false h rest = or_right (eqb q.frame page.frame) _ (rest h)
 
 module _ (p : Hardware) (o : Own) (first : Store) where
   -- the same touches, all of them allowed, memories that are beside, and the same value, which meets P
@@ -81,15 +100,32 @@ module _ (p : Hardware) (o : Own) (first : Store) where
   unfolding stop
   stop_any d = record { runs = λ s k b. record { notes = refl; may = tt; state = b; value = refl; known = tt } }
 
-  own_page : (d : Dom) (b : Bool) → Known Mine (or_stop d (cond b (Some o.frame) None))
+  known_if : (d : Dom) (b : Bool) (f : ℕ) → Mine f → Known Mine (or_stop d (cond b (Some f) None))
   unfolding or_stop
-  own_page d true = eq-eqb o.frame o.frame refl
-  own_page d false = tt
+  known_if d true f own = own
+  known_if d false f own = tt
 
-  translate_near : (d : Dom) (va : ℕ) → Near Mine (translate o d va)
+  -- the page of an address is one's own
+  own_page : (pages : List Page) (n : ℕ) (page : Page) → page_in pages n ≡ Some page → IsTrue (list_any (λ q. eqb q.frame page.frame) pages)
+  unfolding page_in
+  own_page [] n page h = absurd (none-some page h)
+  own_page (q ∷ pages) n page h = own_page_if q pages n page (eqb q.number n) h (own_page pages n page)
+
+  known_permitted : (d : Dom) (a : Access) (found : Option Page) → ((page : Page) → found ≡ Some page → Mine page.frame) → Known Mine (or_stop d (permitted a found))
+  unfolding or_stop permitted
+  known_permitted d a None own = tt
+  known_permitted d a (Some page) own = known_if d (permits page.rights a) page.frame (own page refl)
+
+  translate_near : (d : Dom) (a : Access) (va : ℕ) → Near Mine (translate o d a va)
   unfolding translate frame_for
-  translate_near d va = record {
-    runs = λ s k b. record { notes = refl; may = tt; state = b; value = refl; known = own_page (stopped 12 va d) (eqb (va / 4096) o.page) };
+  translate_near d a va = record {
+    runs = λ s k b. record {
+      notes = refl;
+      may = tt;
+      state = b;
+      value = refl;
+      known = known_permitted (stopped (page_fault a) va d) a (page_in o.pages (va / 4096)) (own_page o.pages (va / 4096));
+    };
   }
 
   -- an address in frame f is in frame f
@@ -97,11 +133,21 @@ module _ (p : Hardware) (o : Own) (first : Store) where
   unfolding address_in
   frame_of_address f va = digits_div f (mod-lt va (lit< tt))
 
-  fetch_own : (f va : ℕ) → Mine f → Near Any (touch (Fetch (address_in f va)))
+  own_address : (f va : ℕ) → Mine f → Mine (address_in f va / 4096)
+  own_address f va own = ap (own_frame p o) (frame_of_address f va) ∙ own
+
+  touch_any : (t : Touch) → May p o t → Near Any (touch t)
   unfolding touch note
-  fetch_own f va own = record {
-    runs = λ s k b. record { notes = refl; may = (ap (own_frame p o) (frame_of_address f va) ∙ own, tt); state = b; value = refl; known = tt };
-  }
+  touch_any t may = record { runs = λ s k b. record { notes = refl; may = (may, tt); state = b; value = refl; known = tt } }
+
+  fetch_own : (f va : ℕ) → Mine f → Near Any (touch (Fetch (address_in f va)))
+  fetch_own f va own = touch_any (Fetch (address_in f va)) (own_address f va own)
+
+  load_own : (f va : ℕ) → Mine f → Near Any (touch (Load (address_in f va)))
+  load_own f va own = touch_any (Load (address_in f va)) (own_address f va own)
+
+  store_own : (f va : ℕ) → Mine f → Near Any (touch (StoreTouch (address_in f va)))
+  store_own f va own = touch_any (StoreTouch (address_in f va)) (own_address f va own)
 
   read_near : (f i : ℕ) → Mine f → Near Any (read f i)
   unfolding read word
@@ -109,14 +155,64 @@ module _ (p : Hardware) (o : Own) (first : Store) where
     runs = λ s k b. record { notes = refl; may = tt; state = b; value = ap (λ (x : Frame). inr (at 0 x i)) (b.same f own); known = tt };
   }
 
-ruleset near_rules = (bind_mine, bind_any, then_any, give_any, stop_any, translate_near, fetch_own, read_near)
+  -- a write to an own frame
+  written_same : (m k : Mem) (f i v g : ℕ) → frame_at m f ≡ frame_at k f → frame_at m g ≡ frame_at k g → frame_at (written m f i v) g ≡ frame_at (written k f i v) g
+  unfolding frame_at written
+  written_same m k f i v g e h =
+      rw (at-put empty m f g (put (at empty m f) i v), at-put empty k f g (put (at empty k f) i v)) (ap₂ (λ (x y : Frame). cond (eqb g f) (put x i v) y) e h)
+
+  write_near : (f i v : ℕ) → Mine f → Near Any (write f i v)
+  unfolding write
+  write_near f i v own = record {
+    runs = λ s k b. record {
+      notes = refl;
+      may = tt;
+      state = record {
+        same = λ g h. written_same s.mem k.mem f i v g (b.same f own) (b.same g h);
+        outside = λ g h. frame_at-written_other s.mem f i v g (λ e. true≢false (sym own ∙ ap (own_frame p o) (sym e) ∙ h)) ∙ b.outside g h;
+      };
+      value = refl;
+      known = tt;
+    };
+  }
+
+  unless_any : (trap : Option Trap) (d : Dom) → Near Any (unless trap d)
+  unfolding unless
+  unless_any None d = give_any tt
+  unless_any (Some trap) d = stop_any (trapped trap d)
+
+ruleset near_rules = (bind_mine, bind_any, then_any, give_any, stop_any, translate_near, fetch_own, load_own, store_own, read_near, write_near, unless_any)
 
 module _ (p : Hardware) (o : Own) (first : Store) where
-  perform_near : (w : ℕ) (d : Dom) (i : Option Instr) → Near p o first (Any p o first) (perform w d i)
-  unfolding perform
-  perform_near w d None = search near_rules depth 40
-  perform_near w d (Some i) = search near_rules depth 40
+  load_near : (d : Dom) (width : LoadWidth) (va : ℕ) → Near p o first (Any p o first) (load o d width va)
+  unfolding load
+  load_near d width va = search near_rules depth 40
 
-  pub instr_near : (t : ℕ) (d : Dom) → Near p o first (Any p o first) (instr p o t d)
-  unfolding instr
-  instr_near t d = search (near_rules, perform_near) depth 40
+  store_near : (d : Dom) (s : Option StoreMade) → Near p o first (Any p o first) (store o d s)
+  unfolding store
+  store_near d None = search near_rules depth 40
+  store_near d (Some s) = search near_rules depth 40
+
+  loaded_near : (t : ℕ) (d : Dom) (i : Instr) → Near p o first (Any p o first) (loaded o t d i)
+  unfolding loaded
+  loaded_near t d (instr.Load width rd rs1 offset) = load_near d width _
+  loaded_near t d (instr.ReadCounter counter rd) = search near_rules depth 40
+  loaded_near t d _ = search near_rules depth 40
+
+  settle_near : (d : Dom) (i : Instr) (value : ℕ) (out : Outcome) → Near p o first (Any p o first) (settle o d i value out)
+  unfolding settle
+  settle_near d i value out = search (near_rules, store_near) depth 40
+
+  execute_near : (t : ℕ) (d : Dom) (i : Instr) → Near p o first (Any p o first) (execute o t d i)
+  unfolding execute
+  execute_near t d i = search (near_rules, loaded_near, settle_near) depth 40
+
+  perform_near : (t : ℕ) (d : Dom) (w : ℕ) (i : Option Instr) → Near p o first (Any p o first) (perform o t d w i)
+  unfolding perform
+  perform_near t d w None = search near_rules depth 40
+  perform_near t d w (Some instr.Ecall) = search near_rules depth 40
+  perform_near t d w (Some i) = execute_near t d i
+
+  pub instruction_near : (t : ℕ) (d : Dom) → Near p o first (Any p o first) (instruction p o t d)
+  unfolding instruction
+  instruction_near t d = search (near_rules, perform_near) depth 40

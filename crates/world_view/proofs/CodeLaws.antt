@@ -1,23 +1,28 @@
 -- What code that runs the machine wants to know of its definitions.
-use Rattle.std.proofs.Common.{◌≡◌, ◌≢◌, ℕ, zero, suc, ◌+◌, ◌-◌, ◌*◌, ◌/◌, ◌<◌, ◌≤◌, max, Bool, true, false, cond, eqb, List, [], ◌∷◌, ◌++◌, length, filter, Option, Some, None, inl, inr, refl, sym, ap, ◌∙◌, arith, add-zero, eq-eqb, ne_eqb}
-use Rattle.std.specs.List.{range_with_len, sum_by}
+use Rattle.std.proofs.Common.{◌≡◌, ◌≢◌, ℕ, zero, suc, ◌+◌, ◌-◌, ◌*◌, ◌/◌, ◌<◌, ◌≤◌, max, Bool, true, false, cond, eqb, ◌||◌, List, [], ◌∷◌, ◌++◌, length, filter, Option, Some, None, inl, inr, refl, sym, ap, ◌∙◌, arith, add-zero, eq-eqb, ne_eqb, IsTrue}
+use Rattle.std.specs.List.{range_with_len, sum_by, list_any}
 use Rattle.std.proofs.lemmas.Bool.{cases_Bool, cases_eq, cases_lt}
 use Rattle.std.proofs.lemmas.List.{get_or_past}
 use Rattle.std.proofs.lemmas.List.Sums.{sum_by-append}
-use Rattle.tp_base.specs.Table.{empty, at, at-empty, at-put_same, at-put_other}
-use Rattle.tp_base.specs.Act.{◌>>=◌, ◌>>◌, go_on, give, stop, note, either}
-use Rattle.world_view.specs.declared.Instr.{Instr}
-use Rattle.world_view.specs.Image.{Hardware, Own, Image, own_of}
+use Rattle.std.proofs.lemmas.Option.{none-some, same_Some}
+use Rattle.tp_base.specs.Table.{empty, at, put, at-empty, at-put_same, at-put_other}
+use Rattle.tp_base.specs.Act.{◌>>=◌, go_on, give, either}
+use Rattle.phys_mem.specs.Mem.{Frame, Mem, frame_at, word}
+use Rattle.rv_decode.specs.declared.Instr.{Instr}
+use Rattle.rv_decode.specs.declared.Instr.TheVariants as instr
+use Rattle.rv_decode.specs.declared.Counter.{Counter}
+use Rattle.world_view.specs.declared.Access.{Access}
+use Rattle.world_view.specs.Image.{Hardware, Page, Own, Image, own_of, own_frame}
 use Rattle.world_view.specs.Schedule.{entry_of_slot, switch_entry, start, slot_end, ended, outgoing}
-use Rattle.world_view.specs.Memory.{Frame, Mem, frame_at, word, word_of, tabled, page_frame, placed}
+use Rattle.world_view.specs.Opening.{word_of, tabled, page_frame}
 use Rattle.world_view.specs.Domain.{Dom, opening_dom, no_dom, is_running}
-use Rattle.world_view.specs.Instruction.{decode, executed, stopped}
+use Rattle.world_view.specs.Instruction.{stopped}
 use Rattle.world_view.specs.Reach.{Touch, Caches, reach, and_then, reach_all}
-use Rattle.world_view.specs.Event.{Store, touch, frame_for, or_stop, translate, place, read, perform, instr, event}
+use Rattle.world_view.specs.Event.{Store, Act, permits, page_fault, page_in, permitted, frame_for, or_stop, translate, loaded, noted, execute, perform, instruction, event}
 use Rattle.world_view.specs.Machine.{Local, paid, happened, step, stretch, World, dom_of, part_of, with_part, switch, run_slot, whole}
 use Rattle.world_view.specs.View.{pool}
 use Rattle.world_view.specs.Laws.{Runnable, IsDomain}
-use Rattle.world_view.proofs.OpeningLaws.{placed_same, placed_other, opening_dom_is}
+use Rattle.world_view.proofs.OpeningLaws.{opening_dom_is}
 use Rattle.world_view.proofs.TimeLaws.{switch_free}
 use Rattle.world_view.specs.Report.{largest_of, count_of}
 
@@ -43,73 +48,168 @@ word_of-past bytes i h =
     let past : length bytes ≤ 4 * i = omega arith in
     rw (get_or_past bytes (4 * i) 0 past, get_or_past bytes (4 * i + 1) 0 (omega arith), get_or_past bytes (4 * i + 2) 0 (omega arith), get_or_past bytes (4 * i + 3) 0 (omega arith))
 
-at-page_frame : (code : List ℕ) (i : ℕ) → at 0 (page_frame code) i ≡ word_of code i
+at-page_frame : (bytes : List ℕ) (i : ℕ) → at 0 (page_frame bytes) i ≡ word_of bytes i
 unfolding page_frame
-at-page_frame code i =
-    elim (cases_lt i ((length code + 3) / 4)) [
-      | inl within ↦ at-tabled (word_of code) ((length code + 3) / 4) i within
-      | inr past ↦ at-tabled_past (word_of code) ((length code + 3) / 4) i past ∙ sym (word_of-past code i past)
+at-page_frame bytes i =
+    elim (cases_lt i ((length bytes + 3) / 4)) [
+      | inl within ↦ at-tabled (word_of bytes) ((length bytes + 3) / 4) i within
+      | inr past ↦ at-tabled_past (word_of bytes) ((length bytes + 3) / 4) i past ∙ sym (word_of-past bytes i past)
     ]
 
--- a placed page in its frame, and every other frame
-pub word-placed_same : (o : Own) (m : Mem) (i : ℕ) → word (placed o m) o.frame i ≡ word_of o.code i
-unfolding word
-word-placed_same o m i = ap (λ (x : Frame). at 0 x i) (placed_same o m) ∙ at-page_frame o.code i
-
-pub word-placed_other : (o : Own) (m : Mem) (f i : ℕ) → f ≢ o.frame → word (placed o m) f i ≡ word m f i
-unfolding word
-word-placed_other o m f i other = ap (λ (x : Frame). at 0 x i) (placed_other o m f other)
-
--- memory in which nothing is placed
-pub word-empty : (f i : ℕ) → word empty f i ≡ 0
+-- a page in its frame, and every other frame
+pub word-placed_same : (m : Mem) (f i : ℕ) (bytes : List ℕ) → word (put m f (page_frame bytes)) f i ≡ word_of bytes i
 unfolding word frame_at
-word-empty f i = ap (λ (x : Frame). at 0 x i) (at-empty {A = Frame} empty f) ∙ at-empty 0 i
+word-placed_same m f i bytes = ap (λ (x : Frame). at 0 x i) (at-put_same empty m f (page_frame bytes)) ∙ at-page_frame bytes i
 
--- ---- one instruction, which changes nothing but its domain
+pub word-placed_other : (m : Mem) (f g i : ℕ) (bytes : List ℕ) → g ≢ f → word (put m f (page_frame bytes)) g i ≡ word m g i
+unfolding word frame_at
+word-placed_other m f g i bytes other = ap (λ (x : Frame). at 0 x i) (at-put_other empty m f g (page_frame bytes) other)
 
-module _ (p : Hardware) (o : Own) (t : ℕ) (d : Dom) (s : Store) where
-  pub instr_missed : frame_for o d.thread.pc ≡ None → either (instr p o t d s).value ≡ stopped 12 d.thread.pc d
-  unfolding instr ◌>>=◌ ◌>>◌ go_on translate or_stop either
-  instr_missed e = rw e
+-- ---- pages
 
-  pub instr_undefined : (f : ℕ) → frame_for o d.thread.pc ≡ Some f → decode (word s.mem f (place d.thread.pc)) ≡ None
-      → either (instr p o t d s).value ≡ stopped 2 (word s.mem f (place d.thread.pc)) d
-  unfolding instr ◌>>=◌ ◌>>◌ go_on translate or_stop touch note read perform stop either
-  instr_undefined f e n = rw (e, n)
+pub page_in-here : (page : Page) (pages : List Page) (n : ℕ) → page.number ≡ n → page_in (page ∷ pages) n ≡ Some page
+unfolding page_in
+page_in-here page pages n e = rw (eq-eqb page.number n e)
 
-  pub instr_executed : (f : ℕ) (i : Instr) → frame_for o d.thread.pc ≡ Some f → decode (word s.mem f (place d.thread.pc)) ≡ Some i
-      → either (instr p o t d s).value ≡ executed i d
-  unfolding instr ◌>>=◌ ◌>>◌ go_on translate or_stop touch note read perform give either
-  instr_executed f i e n = rw (e, n)
+pub page_in-there : (page : Page) (pages : List Page) (n : ℕ) → page.number ≢ n → page_in (page ∷ pages) n ≡ page_in pages n
+unfolding page_in
+page_in-there page pages n other = rw (ne_eqb page.number n other)
 
-  decoded_state : (f : ℕ) (v : Option Instr) → frame_for o d.thread.pc ≡ Some f → decode (word s.mem f (place d.thread.pc)) ≡ v → (instr p o t d s).state ≡ s
-  unfolding instr ◌>>=◌ ◌>>◌ go_on translate or_stop touch note read perform give stop
-  decoded_state f None e n = rw (e, n)
-  decoded_state f (Some i) e n = rw (e, n)
+pub page_in-none : (n : ℕ) → page_in [] n ≡ None
+unfolding page_in
+page_in-none n = refl
 
-  instr_state_by : (v : Option ℕ) → frame_for o d.thread.pc ≡ v → (instr p o t d s).state ≡ s
-  unfolding instr ◌>>=◌ ◌>>◌ go_on translate or_stop
-  instr_state_by None e = rw e
-  instr_state_by (Some f) e = decoded_state f _ e refl
+pub permitted-page : (a : Access) (page : Page) → permitted a (Some page) ≡ cond (permits page.rights a) (Some page.frame) None
+unfolding permitted
+permitted-page a page = refl
 
-  instr_state : (instr p o t d s).state ≡ s
-  instr_state = instr_state_by _ refl
+pub permitted-none : (a : Access) → permitted a None ≡ None
+unfolding permitted
+permitted-none a = refl
+
+or_here : (a b : Bool) → a ≡ true → IsTrue (a || b)
+or_here true b h = refl
+or_here false b h = absurd (cc)
+
+or_there : (a b : Bool) → IsTrue b → IsTrue (a || b)
+or_there true b h = refl
+or_there false b h = h
+
+abbrev HasFrame : List Page → ℕ → Type 0
+HasFrame pages f = IsTrue (list_any (λ page. eqb page.frame f) pages)
+
+frame_if : (page : Page) (a : Access) (f : ℕ) (b : Bool) → cond b (Some page.frame) None ≡ Some f → page.frame ≡ f
+frame_if page a f true e = same_Some page.frame f e
+frame_if page a f false e = absurd (none-some f e)
+
+permitted_own : (page : Page) (pages : List Page) (a : Access) (n f : ℕ) (b : Bool) → permitted a (cond b (Some page) (page_in pages n)) ≡ Some f
+    → (permitted a (page_in pages n) ≡ Some f → HasFrame pages f) → HasFrame (page ∷ pages) f
+unfolding permitted
+permitted_own page pages a n f true e rest = or_here (eqb page.frame f) _ (eq-eqb page.frame f (frame_if page a f (permits page.rights a) e))
+permitted_own page pages a n f false e rest = or_there (eqb page.frame f) _ (rest e)
+
+frame_of_own : (pages : List Page) (a : Access) (n f : ℕ) → permitted a (page_in pages n) ≡ Some f → HasFrame pages f
+unfolding page_in permitted
+frame_of_own [] a n f e = absurd (none-some f e)
+frame_of_own (page ∷ pages) a n f e = permitted_own page pages a n f (eqb page.number n) e (frame_of_own pages a n f)
+
+-- an address's frame is one of the domain's
+pub frame_for-own : (p : Hardware) (o : Own) (a : Access) (va f : ℕ) → frame_for o a va ≡ Some f → IsTrue (own_frame p o f)
+unfolding frame_for
+frame_for-own p o a va f e = frame_of_own o.pages a (va / 4096) f e
+
+-- ---- steps of a domain, by what they end with and what they leave
+
+module _ {A B : Type 0} (x : Act A) (y : A → Act B) (s : Store) where
+  pub bind_value : (a : A) → (x s).value ≡ inr a → ((x >>= y) s).value ≡ (y a (x s).state).value
+  unfolding ◌>>=◌ go_on
+  bind_value a e = rw e
+
+  pub bind_state : (a : A) → (x s).value ≡ inr a → ((x >>= y) s).state ≡ (y a (x s).state).state
+  unfolding ◌>>=◌ go_on
+  bind_state a e = rw e
+
+  pub stop_value : (d : Dom) → (x s).value ≡ inl d → ((x >>= y) s).value ≡ inl d
+  unfolding ◌>>=◌ go_on
+  stop_value d e = rw e
+
+  pub stop_state : (d : Dom) → (x s).value ≡ inl d → ((x >>= y) s).state ≡ (x s).state
+  unfolding ◌>>=◌ go_on
+  stop_state d e = rw e
+
+module _ (o : Own) (d : Dom) (a : Access) (va : ℕ) (s : Store) where
+  pub translate_value : (v : Option ℕ) → frame_for o a va ≡ v → (translate o d a va s).value ≡ or_stop (stopped (page_fault a) va d) v
+  unfolding translate
+  translate_value v e = rw e
+
+  pub translate_state : (translate o d a va s).state ≡ s
+  unfolding translate
+  translate_state = refl
+
+pub noted-other : (i : Instr) (value : ℕ) (d : Dom) → ((c : Counter) (rd : ℕ) → i ≢ instr.ReadCounter c rd) → noted i value d ≡ d
+unfolding noted
+noted-other (instr.ReadCounter c rd) value d other = absurd (other c rd refl)
+noted-other (instr.Lui rd imm) value d other = refl
+noted-other (instr.Auipc rd imm) value d other = refl
+noted-other (instr.Jal rd offset) value d other = refl
+noted-other (instr.Jalr rd rs1 offset) value d other = refl
+noted-other (instr.Branch comparison rs1 rs2 offset) value d other = refl
+noted-other (instr.Load width rd rs1 offset) value d other = refl
+noted-other (instr.Store width rs1 rs2 offset) value d other = refl
+noted-other (instr.Immediate operation rd rs1 imm) value d other = refl
+noted-other (instr.Register operation rd rs1 rs2) value d other = refl
+noted-other instr.Fence value d other = refl
+noted-other instr.Ecall value d other = refl
+noted-other instr.Ebreak value d other = refl
+
+pub loaded-other : (o : Own) (t : ℕ) (d : Dom) (i : Instr) → ((w : _) (rd rs1 offset : ℕ) → i ≢ instr.Load w rd rs1 offset) → ((c : Counter) (rd : ℕ) → i ≢ instr.ReadCounter c rd)
+    → loaded o t d i ≡ give 0
+unfolding loaded
+loaded-other o t d (instr.ReadCounter c rd) load other = absurd (other c rd refl)
+loaded-other o t d (instr.Lui rd imm) load other = refl
+loaded-other o t d (instr.Auipc rd imm) load other = refl
+loaded-other o t d (instr.Jal rd offset) load other = refl
+loaded-other o t d (instr.Jalr rd rs1 offset) load other = refl
+loaded-other o t d (instr.Branch comparison rs1 rs2 offset) load other = refl
+loaded-other o t d (instr.Load width rd rs1 offset) load other = absurd (load width rd rs1 offset refl)
+loaded-other o t d (instr.Store width rs1 rs2 offset) load other = refl
+loaded-other o t d (instr.Immediate operation rd rs1 imm) load other = refl
+loaded-other o t d (instr.Register operation rd rs1 rs2) load other = refl
+loaded-other o t d instr.Fence load other = refl
+loaded-other o t d instr.Ecall load other = refl
+loaded-other o t d instr.Ebreak load other = refl
+
+pub perform-other : (o : Own) (t : ℕ) (d : Dom) (w : ℕ) (i : Instr) → i ≢ instr.Ecall → perform o t d w (Some i) ≡ execute o t d i
+unfolding perform
+perform-other o t d w (instr.ReadCounter c rd) other = refl
+perform-other o t d w (instr.Lui rd imm) other = refl
+perform-other o t d w (instr.Auipc rd imm) other = refl
+perform-other o t d w (instr.Jal rd offset) other = refl
+perform-other o t d w (instr.Jalr rd rs1 offset) other = refl
+perform-other o t d w (instr.Branch comparison rs1 rs2 offset) other = refl
+perform-other o t d w (instr.Load width rd rs1 offset) other = refl
+perform-other o t d w (instr.Store width rs1 rs2 offset) other = refl
+perform-other o t d w (instr.Immediate operation rd rs1 imm) other = refl
+perform-other o t d w (instr.Register operation rd rs1 rs2) other = refl
+perform-other o t d w instr.Fence other = refl
+perform-other o t d w instr.Ecall other = absurd (other refl)
+perform-other o t d w instr.Ebreak other = refl
 
 -- touches are free
 touches_free : (p : Hardware) (pinned : Bool) (c : Caches) (ts : List Touch) → reach_all p pinned c ts ≡ record { cost = 0; caches = c }
 unfolding reach_all reach and_then
 touches_free p pinned c [] = refl
-touches_free p pinned c (Touch.Fetch a ∷ ts) = let rest = touches_free p pinned c ts in rw rest
+touches_free p pinned c (t ∷ ts) = let rest = touches_free p pinned c ts in rw rest
 
-pub step-running : (p : Hardware) (o : Own) (end : ℕ) (s : Local) → is_running s.dom.status ≡ true
-    → step p o false end s ≡ record s { dom = either (instr p o s.clock s.dom s.store).value; clock = s.clock + p.base }
-unfolding step event happened paid
-step-running p o end s runs =
-    rw (runs, touches_free p false s.caches (instr p o s.clock s.dom s.store).notes, instr_state p o s.clock s.dom s.store, add-zero p.base)
+module _ (p : Hardware) (o : Own) (end : ℕ) (s : Local) where
+  pub step-running : is_running s.dom.status ≡ true
+      → step p o false end s ≡ record s { dom = either (instruction p o s.clock s.dom s.store).value; store = (instruction p o s.clock s.dom s.store).state; clock = s.clock + p.base }
+  unfolding step event happened paid
+  step-running runs = rw (runs, touches_free p false s.caches (instruction p o s.clock s.dom s.store).notes, add-zero p.base)
 
-pub step-still : (p : Hardware) (o : Own) (end : ℕ) (s : Local) → is_running s.dom.status ≡ false → step p o false end s ≡ record s { clock = end }
-unfolding step event happened
-step-still p o end s still = rw still
+  pub step-still : is_running s.dom.status ≡ false → step p o false end s ≡ record s { clock = end }
+  unfolding step event happened
+  step-still still = rw still
 
 -- ---- a switch, whose work is free
 
@@ -189,9 +289,21 @@ only_one f a (suc n) low high =
           rw there (only_one f (a + 1) n (omega (arith, other)) (omega arith))
     ]
 
-pub pool-one : (p : Hardware) (o : Own) → o.frame < p.frames → pool p o ≡ o.frame ∷ []
+or_false : (b : Bool) → (b || false) ≡ b
+or_false true = refl
+or_false false = refl
+
+same_filter : (f a n : ℕ) → filter (λ x. eqb f x || false) (range_with_len a n) ≡ filter (λ x. eqb x f) (range_with_len a n)
+same_filter f a zero = refl
+same_filter f a (suc n) =
+    elim (cases_eq a f) [
+      | inl same ↦ rw (eq-eqb a f same, eq-eqb f a (sym same)) (ap (λ xs. a ∷ xs) (same_filter f (a + 1) n))
+      | inr other ↦ rw (ne_eqb a f other, ne_eqb f a (λ e. other (sym e))) (same_filter f (a + 1) n)
+    ]
+
+pub pool-one : (p : Hardware) (o : Own) (page : Page) → o.pages ≡ page ∷ [] → page.frame < p.frames → pool p o ≡ page.frame ∷ []
 unfolding pool
-pool-one p o h = only_one o.frame 0 p.frames (omega arith) (omega arith)
+pool-one p o page one h = rw one (same_filter page.frame 0 p.frames ∙ only_one page.frame 0 p.frames (omega arith) (omega arith))
 
 -- ---- what switches took, with one more
 

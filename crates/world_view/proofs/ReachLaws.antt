@@ -2,13 +2,12 @@
 use Rattle.std.proofs.Common.{◌≡◌, Bool, true, false, ◌+◌, List, [], ◌∷◌, refl, ap₂, arith}
 use Rattle.world_view.specs.Image.{Hardware, Own}
 use Rattle.world_view.specs.Reach.{Touch, Caches, reach, and_then, reach_all}
-use Rattle.world_view.specs.Reach.Touch.{Fetch}
 use Rattle.world_view.specs.Laws.{May, MayAll, BesideCaches, BesideReached}
 
 module _ (p : Hardware) (o : Own) (first : Caches) where
   reach_near : (t : Touch) (c k : Caches) → May p o t → BesideCaches p o first c k → BesideReached p o first (reach p false c t) (reach p true k t)
   unfolding reach
-  reach_near (Fetch address) c k may b = record { cost = refl; caches = b }
+  reach_near t c k may b = record { cost = refl; caches = b }
 
   -- equal costs, and caches that are still beside
   pub reach_all_near : (ts : List Touch) (c k : Caches) → MayAll p o ts → BesideCaches p o first c k → BesideReached p o first (reach_all p false c ts) (reach_all p true k ts)
@@ -22,7 +21,7 @@ module _ (p : Hardware) (o : Own) (first : Caches) where
 module _ (p : Hardware) (pinned : Bool) where
   free : (t : Touch) (c : Caches) → (reach p pinned c t).cost ≡ 0
   unfolding reach
-  free (Fetch address) c = refl
+  free t c = refl
 
   -- as yet touches are free
   pub all_free : (ts : List Touch) (c : Caches) → (reach_all p pinned c ts).cost ≡ 0

@@ -1,15 +1,15 @@
 -- What holds of each image that is read.
-use Rattle.std.proofs.Common.{◌≡◌, ◌≢◌, ℕ, zero, suc, ◌%◌, ◌<◌, ◌≤◌, ℤ, pos, negsuc, Bool, true, false, ◌&&◌, List, [], ◌∷◌, length, codes, nat_le, Option, Some, None, option_and_then, refl, sym, ap, ◌∙◌, subst, arith}
+use Rattle.std.proofs.Common.{slice_index_or, ◌≡◌, ◌≢◌, ℕ, zero, suc, ◌%◌, ◌<◌, ◌≤◌, ℤ, pos, negsuc, Bool, true, false, ◌&&◌, List, [], ◌∷◌, length, codes, nat_le, Option, Some, None, option_and_then, refl, sym, ap, ◌∙◌, subst, arith, ◌||◌, IsTrue, eqb}
 use Rattle.std.specs.Result.{result_ok}
 use Rattle.std.proofs.lemmas.Bool.{leb-true, eqb-true, ne_eqb, and_parts}
 use Rattle.std.proofs.lemmas.Option.{none-some, same_Some, cond_some}
 use Rattle.hex.specs.Hex.{decode_of}
 use Rattle.toml.specs.Data.{Data, Items, no_items, item, Members, get_member, as_integer, as_table}
 use Rattle.world_view.specs.Partial.{◌>>=◌, when}
-use Rattle.world_view.specs.Image.{Hardware, Entry, Own, Image, own_of}
+use Rattle.world_view.specs.Image.{Hardware, Entry, Own, Image, own_of, own_frame}
 use Rattle.world_view.specs.Schedule.{entry_in}
-use Rattle.world_view.specs.Reading.{text_at, array_at, ranged, number_at, is_name, code_of, segment_of, only_item, own_in, two_owns, entry_of, each_item, schedule_of, thin_hardware, image_of, document, image}
-use Rattle.world_view.specs.Laws.{Apart, Accepted}
+use Rattle.world_view.specs.Reading.{text_at, array_at, ranged, number_at, is_name, code_of, segment_of, only_item, own_in, two_owns, entry_of, each_item, schedule_of, thin_hardware, code_page, image_of, document, image}
+use Rattle.world_view.specs.Laws.{Apart, Accepted, IsPage, no_page}
 
 -- ---- the links of a chain
 
@@ -67,8 +67,9 @@ segment_of_small d code h =
 
 -- what holds of a domain that was read
 record IsPlaced (number : ℕ) (o : Own) : Type 0 where
-  frame : o.frame ≡ number
-  code : length o.code ≤ 4096
+  code : List ℕ
+  pages : o.pages ≡ code_page number code ∷ []
+  small : length code ≤ 4096
 
 own_in_placed : (frame : ℕ) (d : Data) (o : Own) → own_in frame d ≡ Some o → IsPlaced frame o
 unfolding own_in
@@ -81,7 +82,7 @@ own_in_placed frame d o h =
     let segment = link (only_item segments.value) _ o segments.rest in
     let code = link (segment_of segment.value) _ o segment.rest in
     let same = same_Some _ o code.rest in
-    subst (IsPlaced frame) same (record { frame = refl; code = segment_of_small segment.value code.value code.found })
+    subst (IsPlaced frame) same (record { code = code.value; pages = refl; small = segment_of_small segment.value code.value code.found })
 
 -- two domains, each in its frame
 record ArePlaced (owns : List Own) : Type 0 where
@@ -168,15 +169,35 @@ placed_at es x y first second zero below = first
 placed_at es x y first second (suc zero) below = second
 placed_at es x y first second (suc (suc d)) below = absurd (omega arith)
 
-code_at_small : (es : List Entry) (x y : Own) → IsPlaced 0 x → IsPlaced 1 y → (d : ℕ) → length (own_of (thin_image es (x ∷ y ∷ [])) d).code ≤ 4096
-code_at_small es x y first second zero = first.code
-code_at_small es x y first second (suc zero) = second.code
-code_at_small es x y first second (suc (suc d)) = omega arith
+or_false : (b : Bool) → (b || false) ≡ true → b ≡ true
+or_false true h = refl
+or_false false h = h
+
+one_page : (number : ℕ) (code : List ℕ) → length code ≤ 4096 → (k : ℕ) → IsPage (slice_index_or (code_page number code ∷ []) k no_page)
+one_page number code small zero = record { number = omega arith; bytes = small }
+one_page number code small (suc k) = record { number = omega arith; bytes = omega arith }
+
+page_small : (number : ℕ) (o : Own) → IsPlaced number o → (k : ℕ) → IsPage (slice_index_or o.pages k no_page)
+page_small number o placed k = rw placed.pages (one_page number placed.code placed.small k)
+
+pages_at_small : (es : List Entry) (x y : Own) → IsPlaced 0 x → IsPlaced 1 y → (d k : ℕ) → IsPage (slice_index_or (own_of (thin_image es (x ∷ y ∷ [])) d).pages k no_page)
+pages_at_small es x y first second zero k = page_small 0 x first k
+pages_at_small es x y first second (suc zero) k = page_small 1 y second k
+pages_at_small es x y first second (suc (suc d)) k = record { number = omega arith; bytes = omega arith }
+
+-- its one frame
+frame_is : (p : Hardware) (number : ℕ) (o : Own) (f : ℕ) → IsPlaced number o → IsTrue (own_frame p o f) → number ≡ f
+frame_is p number o f placed held =
+    let one : (eqb number f || false) ≡ true = rw placed.pages at held in
+    eqb-true number f (or_false (eqb number f) one)
+
+frame_not : (p : Hardware) (number : ℕ) (o : Own) (f : ℕ) → IsPlaced number o → number ≢ f → own_frame p o f ≡ false
+frame_not p number o f placed other = rw (placed.pages, ne_eqb number f other) refl
 
 placed_apart : (p : Hardware) (d e : ℕ) (x y : Own) → IsPlaced d x → IsPlaced e y → d ≢ e → Apart p x y
 placed_apart p d e x y first second different f held =
-    let there : f ≡ y.frame = eqb-true f y.frame held in
-    ne_eqb f x.frame (λ (here : f ≡ x.frame). different (sym first.frame ∙ sym here ∙ there ∙ second.frame))
+    let there : e ≡ f = frame_is p e y f second held in
+    frame_not p d x f first (λ (here : d ≡ f). different (here ∙ sym there))
 
 thin_accepted : (es : List Entry) (x y : Own) → IsSchedule es → IsPlaced 0 x → IsPlaced 1 y → Accepted (thin_image es (x ∷ y ∷ []))
 thin_accepted es x y schedule first second =
@@ -186,7 +207,7 @@ thin_accepted es x y schedule first second =
         counted = refl;
         timed = omega arith;
         named = λ k. let e = schedule.each (k % length es) in omega (arith, e.domain);
-        held = λ d below. rw (placed d below).frame below;
+        held = λ d f below held. let same = frame_is thin_hardware d _ f (placed d below) held in omega arith;
         apart = λ d e below under different. placed_apart thin_hardware d e _ _ (placed d below) (placed e under) different;
         padded = λ k. omega arith;
       };
@@ -198,7 +219,8 @@ thin_accepted es x y schedule first second =
         few_entries = schedule.few;
         lengths = λ k. (schedule.each k).length;
         pads = λ k. (schedule.each k).pad;
-        codes = code_at_small es x y first second;
+        pages = pages_at_small es x y first second;
+        one_page = λ d below. rw (placed d below).pages refl;
       };
     }
 

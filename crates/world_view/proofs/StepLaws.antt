@@ -4,12 +4,12 @@ use Rattle.tp_base.specs.Act.{either}
 use Rattle.world_view.specs.Image.{Hardware, Own}
 use Rattle.world_view.specs.Domain.{Dom}
 use Rattle.world_view.specs.Reach.{Touch, Caches, reach_all}
-use Rattle.world_view.specs.Event.{Store, instr, Event, event}
+use Rattle.world_view.specs.Event.{Store, instruction, Event, event}
 use Rattle.world_view.specs.Event.Event.{Jump, Run}
 use Rattle.world_view.specs.Machine.{Local, paid, happened, step, steps, stretch}
 use Rattle.world_view.specs.Laws.{BesideStore, BesideCaches, BesideReached, Beside}
 use Rattle.world_view.proofs.ReachLaws.{reach_all_near}
-use Rattle.world_view.proofs.ActLaws.{instr_near}
+use Rattle.world_view.proofs.ActLaws.{instruction_near}
 
 both_if : (R : Local → Local → Type 0) (x y : Bool) → x ≡ y → (s t a b : Local) → R s a → R t b → R (elim x [ true ↦ s | false ↦ t ]) (elim y [ true ↦ a | false ↦ b ])
 both_if R true true e s t a b h k = h
@@ -24,8 +24,8 @@ module _ (p : Hardware) (o : Own) (end : ℕ) (first : Local) where
   unfolding happened paid
   happened_near d t s a c k (Jump u) store caches = record { dom = refl; store = store; caches = caches; clock = refl }
   happened_near d t s a c k Run store caches =
-      let n = (instr_near p o first.store t d).runs s a store in
-      let ts = (instr p o t d s).notes in
+      let n = (instruction_near p o first.store t d).runs s a store in
+      let ts = (instruction p o t d s).notes in
       let r = subst (λ (us : List Touch). BesideReached p o first.caches (reach_all p false c ts) (reach_all p true k us)) n.notes (reach_all_near p o first.caches ts c k n.may caches) in
       record { dom = ap either n.value; store = n.state; caches = r.caches; clock = ap (λ x. t + (p.base + x)) r.cost }
 

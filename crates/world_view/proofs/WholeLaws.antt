@@ -4,7 +4,8 @@ use Rattle.std.specs.List.{range_with_len}
 use Rattle.tp_base.specs.Table.{at-put_other, at-put_same}
 use Rattle.world_view.specs.Image.{Hardware, Public, Own, Image, own_of, own_frame}
 use Rattle.world_view.specs.Schedule.{entry_of_slot, slot_end}
-use Rattle.world_view.specs.Memory.{frame_at, frame_words}
+use Rattle.phys_mem.specs.Mem.{frame_at}
+use Rattle.world_view.specs.Opening.{frame_words}
 use Rattle.world_view.specs.Domain.{Dom, no_dom}
 use Rattle.world_view.specs.Event.{Store}
 use Rattle.world_view.specs.Machine.{Local, stretch, dom_of, part_of, with_part, switch, run_slot, opening, whole, alone_opening, alone_enter, alone_in, alone_out, alone_if, alone}

@@ -1,10 +1,11 @@
 -- The state of one domain.
-use Rattle.std.specs.Prelude.{ℕ, Bool, true, false, List, [], replicate}
+use Rattle.std.specs.Prelude.{ℕ, Bool, true, false, List, []}
 use Rattle.world_view.specs.declared.DomainStatus.{DomainStatus}
 use Rattle.world_view.specs.declared.DomainStatus.TheVariants.{Running, Exited}
 use Rattle.world_view.specs.declared.ThreadState.{ThreadState}
 use Rattle.world_view.specs.declared.ThreadState.TheVariants.{Ready}
 use Rattle.world_view.specs.declared.Reply.{Reply}
+use Rattle.rv_core.specs.Registers.{zeros}
 use Rattle.world_view.specs.Image.{Own}
 
 pub record Thread : Type 0 where
@@ -28,7 +29,7 @@ is_running _ = false
 unfoldable pub opening_dom : Own → Dom
 opening_dom o = record {
   status = Running;
-  thread = record { state = Ready; pc = o.entry; regs = replicate 32 0 };
+  thread = record { state = Ready; pc = o.entry; regs = zeros };
   retired = 0;
   readings = [];
   replies = [];

@@ -1,28 +1,32 @@
--- A worked run, computed from the definitions alone: each domain prints one byte and exits.
-use Rattle.std.specs.Prelude.{◌≡◌, ℕ, List, [], ◌∷◌, codes, refl, replicate}
-use Rattle.world_view.specs.declared.DomainStatus.TheVariants.{Exited}
-use Rattle.world_view.specs.declared.ThreadState.TheVariants.{Ended}
+-- A worked run, computed from the definitions alone: each domain reads the clock, prints a byte, reads the clock again, and exits.
+use Rattle.std.specs.Prelude.{◌≡◌, ℕ, List, [], ◌∷◌, codes, refl, slice_set, ◌+◌}
 use Rattle.tp_base.specs.Table.{empty, at, put}
 use Rattle.tp_base.specs.Act.{go_on, ◌>>=◌, ◌>>◌, give, stop, note, either}
+use Rattle.phys_mem.specs.Mem.{frame_at, word, written}
+use Rattle.rv_core.specs.Registers.{zeros}
+use Rattle.world_view.specs.declared.DomainStatus.TheVariants.{Exited}
+use Rattle.world_view.specs.declared.ThreadState.TheVariants.{Ended}
 use Rattle.world_view.specs.Image.{Image, own_of}
-use Rattle.world_view.specs.Reading.{thin_hardware}
+use Rattle.world_view.specs.Reading.{thin_hardware, code_page}
 use Rattle.world_view.specs.Schedule.{start}
-use Rattle.world_view.specs.Memory.{frame_at, word, frame_words, tabled, page_frame, placed, all_placed}
+use Rattle.world_view.specs.Opening.{frame_words, tabled, page_frame, pages_placed, placed, all_placed}
 use Rattle.world_view.specs.Domain.{opening_dom, no_dom}
-use Rattle.world_view.specs.Instruction.{decode, stopped, retired_at, replied, exited, put_byte, called, call, jumped, executed}
+use Rattle.world_view.specs.Instruction.{stopped, trapped, retired_at, read_out, replied, exited, put_byte, called, call}
 use Rattle.world_view.specs.Reach.{reach, and_then, reach_all}
-use Rattle.world_view.specs.Event.{touch, frame_for, or_stop, translate, address_in, read, perform, instr, event}
+use Rattle.world_view.specs.Event.{page_in, permitted, frame_for, touch, or_stop, translate, address_in, read, write, unless, load, store, loaded, noted, settle, execute, perform, instruction, event}
 use Rattle.world_view.specs.Machine.{paid, happened, step, steps, leave_part, prefetch_part, flush_part, enter_part, switch_work, with_part, switch, run_slot, opening_doms, opening, whole, alone_opening, alone_enter, alone_in, alone_out, alone_if, alone}
 use Rattle.world_view.specs.View.{View, log_of, pool, view, view_whole, view_alone}
 use Rattle.world_view.specs.Texts.{memory_sum}
 use Rattle.world_view.specs.Report.{count_of, largest_of}
 
--- addi x10, x0, byte; addi x17, x0, 1; ecall; addi x17, x0, 0; ecall
-abbrev pub print_and_exit : ℕ → List ℕ
-print_and_exit byte =
-    0x13 ∷ 0x05 ∷ byte ∷ 0x04
+-- rdcycle x5; addi x10, x0, byte; addi x17, x0, 1; ecall; rdcycle x6; addi x17, x0, 0; ecall
+abbrev pub timed_print : ℕ → List ℕ
+timed_print byte =
+    0xf3 ∷ 0x22 ∷ 0 ∷ 0xc0
+    ∷ 0x13 ∷ 0x05 ∷ byte ∷ 0x04
     ∷ 0x93 ∷ 0x08 ∷ 0x10 ∷ 0
     ∷ 0x73 ∷ 0 ∷ 0 ∷ 0
+    ∷ 0x73 ∷ 0x23 ∷ 0 ∷ 0xc0
     ∷ 0x93 ∷ 0x08 ∷ 0 ∷ 0
     ∷ 0x73 ∷ 0 ∷ 0 ∷ 0 ∷ []
 
@@ -34,17 +38,17 @@ two_domains = record {
     domains = 2;
   };
   owns =
-      record { name = codes "red"; frame = 0; page = 16; entry = 65536; code = print_and_exit 0x10 }
-      ∷ record { name = codes "blue"; frame = 1; page = 16; entry = 65536; code = print_and_exit 0x20 } ∷ [];
+      record { name = codes "red"; entry = 65536; pages = code_page 0 (timed_print 0x10) ∷ [] }
+      ∷ record { name = codes "blue"; entry = 65536; pages = code_page 1 (timed_print 0x20) ∷ [] } ∷ [];
 }
 
--- what is seen of a domain that printed a byte and exited, but for its memory
-abbrev pub printed_and_exited : ℕ → View
-printed_and_exited byte = record {
+-- what is seen of such a domain, but for its memory, by the byte and the clock at its first instruction
+abbrev pub printed_in_time : ℕ → ℕ → View
+printed_in_time byte clock = record {
   status = Exited 0;
-  retired = 3;
-  thread = record { state = Ended; pc = 0x10010; regs = replicate 32 0 };
-  readings = log_of [];
+  retired = 5;
+  thread = record { state = Ended; pc = 0x10018; regs = slice_set (slice_set zeros 5 clock) 6 (clock + 4) };
+  readings = log_of (clock ∷ (clock + 4) ∷ []);
   replies = log_of (record { code = 0; value = 0 } ∷ []);
   printed = byte ∷ [];
   frames = [];
@@ -52,24 +56,20 @@ printed_and_exited byte = record {
 
 -- all that a run computes with
 pub everything : ℕ
-unfolding empty at put go_on ◌>>=◌ ◌>>◌ give stop note either start frame_at word frame_words tabled page_frame placed all_placed opening_dom no_dom decode stopped retired_at replied exited put_byte called call jumped executed reach and_then reach_all touch frame_for or_stop translate address_in read perform instr event paid happened step steps leave_part prefetch_part flush_part enter_part switch_work with_part switch run_slot opening_doms opening whole alone_opening alone_enter alone_in alone_out alone_if alone log_of pool view view_whole view_alone memory_sum count_of largest_of two_domains
+unfolding empty at put go_on ◌>>=◌ ◌>>◌ give stop note either start frame_at word written frame_words tabled page_frame pages_placed placed all_placed opening_dom no_dom stopped trapped retired_at read_out replied exited put_byte called call reach and_then reach_all page_in permitted frame_for touch or_stop translate address_in read write unless load store loaded noted settle execute perform instruction event paid happened step steps leave_part prefetch_part flush_part enter_part switch_work with_part switch run_slot opening_doms opening whole alone_opening alone_enter alone_in alone_out alone_if alone log_of pool view view_whole view_alone memory_sum count_of largest_of two_domains
 everything = 0
 
-pub red : record (view_whole two_domains 0 4) { frames = [] } ≡ printed_and_exited 0x41
+pub red : record (view_whole two_domains 0 4) { frames = [] } ≡ printed_in_time 0x41 6150
 unfolding everything
 red = refl
 
-pub red_memory : memory_sum (view_whole two_domains 0 4).frames ≡ 0x0420171f
+pub red_memory : memory_sum (view_whole two_domains 0 4).frames ≡ 0x84205d85
 unfolding everything
 red_memory = refl
 
-pub blue : record (view_whole two_domains 1 4) { frames = [] } ≡ printed_and_exited 0x42
+pub blue : record (view_whole two_domains 1 4) { frames = [] } ≡ printed_in_time 0x42 22300
 unfolding everything
 blue = refl
-
-pub blue_memory : memory_sum (view_whole two_domains 1 4).frames ≡ 0x0430171f
-unfolding everything
-blue_memory = refl
 
 pub red_alone : view_whole two_domains 0 4 ≡ view_alone two_domains.all (own_of two_domains 0) 0 4
 unfolding everything

@@ -1,5 +1,7 @@
 -- What an image says: the hardware, the schedule, and what each domain has of its own.
 use Rattle.std.specs.Prelude.{ℕ, Bool, ◌==◌, List, [], slice_index_or}
+use Rattle.std.specs.List.{list_any}
+use Rattle.world_view.specs.declared.Rights.{Rights}
 
 -- the machine that all domains share
 pub record Hardware : Type 0 where
@@ -18,24 +20,29 @@ pub record Public : Type 0 where
   pub schedule : List Entry
   pub domains : ℕ  -- how many there are
 
+-- a page of a domain's address space
+pub record Page : Type 0 where
+  pub number : ℕ  -- its address divided by 4,096
+  pub frame : ℕ  -- where it is placed
+  pub rights : Rights
+  pub bytes : List ℕ  -- its first bytes; zeros follow
+
 -- one domain's own part
 pub record Own : Type 0 where
   pub name : List ℕ
-  pub frame : ℕ  -- where its page is placed
-  pub page : ℕ  -- the number of its page in its own address space
   pub entry : ℕ  -- the address at which it begins
-  pub code : List ℕ  -- the first bytes of its page
+  pub pages : List Page
 
 pub record Image : Type 0 where
   pub all : Public
   pub owns : List Own
 
 abbrev pub no_own : Own
-no_own = record { name = []; frame = 0; page = 0; entry = 0; code = [] }
+no_own = record { name = []; entry = 0; pages = [] }
 
 abbrev pub own_of : Image → ℕ → Own
 own_of i d = slice_index_or i.owns d no_own
 
 -- whether a frame is of the domain's pool
 abbrev pub own_frame : Hardware → Own → ℕ → Bool
-own_frame p o f = f == o.frame
+own_frame p o f = list_any (λ page. page.frame == f) o.pages

@@ -1,9 +1,9 @@
 -- The words of the laws, and the laws.
-use Rattle.std.specs.Prelude.{◌≡◌, ◌≢◌, ℕ, true, false, IsTrue, ◌+◌, ◌-◌, ◌/◌, ◌<◌, ◌≤◌, List, [], ◌∷◌, length, Some}
-use Rattle.world_view.specs.Image.{Hardware, Entry, Own, Image, own_of, own_frame}
+use Rattle.std.specs.Prelude.{◌≡◌, ◌≢◌, ℕ, true, false, IsTrue, ◌+◌, ◌-◌, ◌/◌, ◌<◌, ◌≤◌, ◌^◌, List, [], ◌∷◌, length, slice_index_or, Some}
+use Rattle.world_view.specs.Image.{Hardware, Entry, Page, Own, Image, own_of, own_frame}
 use Rattle.world_view.specs.Reading.{image}
 use Rattle.world_view.specs.Schedule.{entry_in, entry_of_slot, pad_of, start, ended, outgoing}
-use Rattle.world_view.specs.Memory.{Mem, frame_at}
+use Rattle.phys_mem.specs.Mem.{Mem, frame_at}
 use Rattle.world_view.specs.Reach.{Touch, Caches, Reached}
 use Rattle.world_view.specs.Event.{Store}
 use Rattle.world_view.specs.Machine.{Local, World, step, part_of, leave_part, enter_part, prefetch_part, flush_part, switch, whole, alone_enter, alone_out}
@@ -32,9 +32,17 @@ pub record Runnable (i : Image) : Type 0 where
   pub counted : i.all.domains ≡ length i.owns
   pub timed : 0 < i.all.hardware.base
   pub named : (k : ℕ) → IsDomain i (entry_of_slot i.all.schedule k).domain
-  pub held : (d : ℕ) → IsDomain i d → (own_of i d).frame < i.all.hardware.frames
+  pub held : (d f : ℕ) → IsDomain i d → IsTrue (own_frame i.all.hardware (own_of i d) f) → f < i.all.hardware.frames
   pub apart : (d e : ℕ) → IsDomain i d → IsDomain i e → d ≢ e → Apart i.all.hardware (own_of i d) (own_of i e)
   pub padded : (k : ℕ) → bound i.all.hardware ≤ pad_of i.all.schedule k
+
+-- where there is no page
+abbrev pub no_page : Page
+no_page = record { number = 0; frame = 0; rights = record { read = false; write = false; execute = false }; bytes = [] }
+
+pub record IsPage (page : Page) : Type 0 where
+  pub number : page.number < 2 ^ 20
+  pub bytes : length page.bytes ≤ 4096
 
 -- its numbers are within the limits
 pub record InRange (i : Image) : Type 0 where
@@ -45,7 +53,8 @@ pub record InRange (i : Image) : Type 0 where
   pub few_entries : length i.all.schedule ≤ 64
   pub lengths : (e : ℕ) → (entry_in i.all.schedule e).length ≤ 1000000
   pub pads : (e : ℕ) → (entry_in i.all.schedule e).pad ≤ 1000000
-  pub codes : (d : ℕ) → length (own_of i d).code ≤ 4096
+  pub pages : (d k : ℕ) → IsPage (slice_index_or (own_of i d).pages k no_page)
+  pub one_page : (d : ℕ) → IsDomain i d → length (own_of i d).pages ≡ 1  -- as yet
 
 pub record Accepted (i : Image) : Type 0 where
   pub runnable : Runnable i
@@ -65,9 +74,11 @@ SameSets p o c k = Unit {0}
 abbrev pub Resident : Hardware → Caches → Type 0
 Resident p c = Unit {0}
 
--- touches that a domain may make: it fetches from its own frames
+-- touches that a domain may make: of its own frames
 abbrev pub May : Hardware → Own → Touch → Type 0
 May p o (Touch.Fetch address) = IsTrue (own_frame p o (address / 4096))
+May p o (Touch.Load address) = IsTrue (own_frame p o (address / 4096))
+May p o (Touch.Store address) = IsTrue (own_frame p o (address / 4096))
 
 abbrev pub MayAll : Hardware → Own → List Touch → Type 0
 MayAll p o [] = Unit {0}

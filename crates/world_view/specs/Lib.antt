@@ -2,7 +2,7 @@ pub mod Image
 pub mod Partial
 pub mod Reading
 pub mod Schedule
-pub mod Memory
+pub mod Opening
 pub mod Domain
 pub mod Instruction
 pub mod Reach

@@ -4,10 +4,10 @@ use Rattle.tp_base.specs.Table.{Table, empty, at, put}
 use Rattle.tp_base.specs.Act.{Done, either}
 use Rattle.world_view.specs.Image.{Hardware, Public, Own, Image, own_of}
 use Rattle.world_view.specs.Schedule.{entry_of_slot, switch_entry, start, slot_end, ended, outgoing}
-use Rattle.world_view.specs.Memory.{placed, all_placed}
+use Rattle.world_view.specs.Opening.{placed, all_placed}
 use Rattle.world_view.specs.Domain.{Dom, opening_dom, no_dom}
 use Rattle.world_view.specs.Reach.{Touch, Caches, fresh_core, cold, Reached, unmoved, and_then, reach_all}
-use Rattle.world_view.specs.Event.{Store, instr, Event, event}
+use Rattle.world_view.specs.Event.{Store, instruction, Event, event}
 use Rattle.world_view.specs.Event.Event.{Jump, Run}
 
 -- ---- a domain in its slot
@@ -27,7 +27,7 @@ paid p pinned c t r =
 
 unfoldable pub happened : Hardware → Own → Bool → Local → Event → Local
 happened p o pinned s (Jump t) = record s { clock = t }
-happened p o pinned s Run = paid p pinned s.caches s.clock (instr p o s.clock s.dom s.store)
+happened p o pinned s Run = paid p pinned s.caches s.clock (instruction p o s.clock s.dom s.store)
 
 -- one event in a slot that ends then
 unfoldable pub step : Hardware → Own → Bool → ℕ → Local → Local

@@ -1,9 +1,11 @@
--- What touches cost, and the caches after them. Costs are in cycles. As yet there is one kind of touch, it is free, and nothing is cached.
+-- What touches cost, and the caches after them. Costs are in cycles. As yet every touch is free, and nothing is cached.
 use Rattle.std.specs.Prelude.{ℕ, ◌+◌, Bool, List, [], ◌∷◌}
 use Rattle.world_view.specs.Image.{Hardware}
 
 pub data Touch : Type 0 where
   Fetch : ℕ → Touch  -- an instruction is fetched from this physical address
+  Load : ℕ → Touch
+  Store : ℕ → Touch
 
 -- what each switch makes fresh
 pub record Core : Type 0 where
@@ -28,7 +30,7 @@ unmoved c = record { cost = 0; caches = c }
 
 -- `pinned`: the domain is alone, and finds the kernel's lines always there
 unfoldable pub reach : Hardware → Bool → Caches → Touch → Reached
-reach p pinned c (Fetch address) = unmoved c
+reach p pinned c touch = unmoved c
 
 -- one after the other
 unfoldable pub and_then : Reached → (Caches → Reached) → Reached

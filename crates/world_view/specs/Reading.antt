@@ -1,6 +1,6 @@
 -- The image that bytes are, read from what TOML's own definition finds in them.
 -- Today it is the thin form: two domains of one page each, and a schedule. Other keys aren't looked at.
-use Rattle.std.specs.Prelude.{ℕ, ◌&&◌, ◌||◌, nat_le, ℤ, pos, negsuc, Bool, not, if◌then◌else◌, List, [], ◌∷◌, length, codes, Option, Some, None}
+use Rattle.std.specs.Prelude.{true, false, ℕ, ◌&&◌, ◌||◌, nat_le, ℤ, pos, negsuc, Bool, not, if◌then◌else◌, List, [], ◌∷◌, length, codes, Option, Some, None}
 use Rattle.std.specs.Result.{result_ok}
 use Rattle.std.specs.List.{list_all}
 use Rattle.std.specs.Str.{is_utf8, bytes_eq}
@@ -8,7 +8,8 @@ use Rattle.toml.specs.Data.{Data, Items, no_items, item, Members, get_member, as
 use Rattle.toml.specs.Parse.{parse_document}
 use Rattle.hex.specs.Hex.{decode_of}
 use Rattle.world_view.specs.Partial.{◌>>=◌, ◌>>◌, when}
-use Rattle.world_view.specs.Image.{Hardware, Entry, Own, Image}
+use Rattle.world_view.specs.declared.Rights.{Rights}
+use Rattle.world_view.specs.Image.{Hardware, Entry, Page, Own, Image}
 
 -- ---- the value of a key, of the type that is wanted
 
@@ -58,6 +59,14 @@ abbrev pub only_item : Items → Option Data
 only_item (item d no_items) = Some d
 only_item _ = None
 
+-- to be read and executed
+abbrev pub rx : Rights
+rx = record { read = true; write = false; execute = true }
+
+-- page 16, in this frame
+abbrev pub code_page : ℕ → List ℕ → Page
+code_page frame code = record { number = 16; frame = frame; rights = rx; bytes = code }
+
 -- a domain, whose page is placed in this frame
 unfoldable pub own_in : ℕ → Data → Option Own
 own_in frame d = do
@@ -68,7 +77,7 @@ own_in frame d = do
   segments ← array_at (codes "segment") t
   segment ← only_item segments
   code ← segment_of segment
-  Some (record { name = name; frame = frame; page = 16; entry = entry; code = code })
+  Some (record { name = name; entry = entry; pages = code_page frame code ∷ [] })
 
 -- two domains of different names, domain d in frame d
 unfoldable pub two_owns : Items → Option (List Own)

@@ -4,7 +4,8 @@ use Rattle.std.specs.List.{range_with_len}
 use Rattle.world_view.specs.declared.DomainStatus.{DomainStatus}
 use Rattle.world_view.specs.declared.Reply.{Reply}
 use Rattle.world_view.specs.Image.{Hardware, Public, Own, Image, own_of, own_frame}
-use Rattle.world_view.specs.Memory.{frame_at, frame_words}
+use Rattle.phys_mem.specs.Mem.{frame_at}
+use Rattle.world_view.specs.Opening.{frame_words}
 use Rattle.world_view.specs.Domain.{Thread, Dom}
 use Rattle.world_view.specs.Event.{Store}
 use Rattle.world_view.specs.Machine.{whole, dom_of, alone}

@@ -34,12 +34,21 @@ pub struct Reply {
     pub value: u32,
 }
 
-/// An instruction that was decoded: registers below 32, immediates as words.
+/// What an access to memory is for.
 #[derive(Clone, Copy, Debug, PartialEq, Eq)]
-pub enum Instr {
-    Addi { rd: u8, rs1: u8, imm: u32 },
-    Jal { rd: u8, offset: u32 },
-    Ecall,
+pub enum Access {
+    /// The fetch of an instruction.
+    Fetch,
+    Load,
+    Store,
+}
+
+/// What a page may be used for.
+#[derive(Clone, Copy, Debug, PartialEq, Eq)]
+pub struct Rights {
+    pub read: bool,
+    pub write: bool,
+    pub execute: bool,
 }
 
 /// What the words of the command line ask for.

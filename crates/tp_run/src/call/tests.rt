@@ -23,6 +23,18 @@ const SPINS_REPORT: &str =
 const FRESH_REPORT: &str =
     "domain 0 red\nstatus running\nretired 0\nthread 0 ready pc 00010000\nreadings 0\nreplies 0\nout 0\nmem 0420171f\ndomain 1 blue\nstatus running\nretired 0\nthread 0 ready pc 00010000\nreadings 0\nreplies 0\nout 0\nmem 0430171f\nswitch 0 used 0 pad 6150 count 0\nswitch 1 used 0 pad 6150 count 0\nend\n";
 
+// What is seen of blue after it printed B.
+const BLUE: &str =
+    "domain 1 blue\nstatus exited 0\nretired 3\nthread 0 ended pc 00010010\nreadings 0\nreplies 1 last 0:0 list 0:0\nout 1 42\nmem 0430171f\n";
+
+// Reads the cycle counter before and after it prints A, or B.
+const READS_A: &str = "f32200c0130510049308100073000000732300c09308000073000000";
+
+const READS_B: &str = "f32200c0130520049308100073000000732300c09308000073000000";
+
+const READS_REPORT: &str =
+    "domain 0 red\nstatus exited 0\nretired 5\nthread 0 ended pc 00010018 x5=00001806 x6=0000180a\nreadings 2 last 6154 list 6150 6154\nreplies 1 last 0:0 list 0:0\nout 1 41\nmem 84205d85\ndomain 1 blue\nstatus exited 0\nretired 5\nthread 0 ended pc 00010018 x5=0000571c x6=00005720\nreadings 2 last 22304 list 22300 22304\nreplies 1 last 0:0 list 0:0\nout 1 42\nmem 84305d85\nswitch 0 used 0 pad 6150 count 2\nswitch 1 used 0 pad 6150 count 2\nend\n";
+
 const USAGE: &str = "usage: tp check|bound|run|alone|gen|demo\n";
 
 const REFUSAL: &str = "refused K1 at 0 found 0 wanted 0\n";
@@ -105,6 +117,65 @@ fn images_are_run(rt: HostRuntime) -> Result<(), Fail> {
         prints.as_bytes(),
         Status::Done,
         FRESH_REPORT,
+    )
+}
+
+// What is seen of red, with this program, after a slot of its own and one of blue's.
+fn expect_red(rt: &impl Abort, alloc: Global, program: &str, section: &str) -> Result<(), Fail> {
+    let bytes = image(alloc, program, PRINTS_B)?;
+    let report = format!(in alloc;
+        "domain 0 red\n{section}\n{BLUE}switch 0 used 0 pad 6150 count 1\nswitch 1 used 0 pad 6150 count 1\nend\n"
+    )?;
+    expect(
+        rt,
+        alloc,
+        "tp run --slots 2",
+        bytes.as_bytes(),
+        Status::Done,
+        report.as_str(),
+    )
+}
+
+#[test]
+fn counters_give_the_clock_before_their_instruction(rt: HostRuntime) -> Result<(), Fail> {
+    let alloc = rt.alloc();
+    let reads = image(alloc, READS_A, READS_B)?;
+    expect(
+        &rt,
+        alloc,
+        "tp run --slots 4",
+        reads.as_bytes(),
+        Status::Done,
+        READS_REPORT,
+    )
+}
+
+#[test]
+fn a_domain_stops_at_what_it_may_not_do(rt: HostRuntime) -> Result<(), Fail> {
+    let alloc = rt.alloc();
+
+    // A store to its own code.
+    expect_red(
+        &rt,
+        alloc,
+        "b702010023a40200",
+        "status stopped 15 pc 00010004 value 00010008\nretired 1\nthread 0 ready pc 00010004 x5=00010000\nreadings 0\nreplies 0\nout 0\nmem 0003a6da",
+    )?;
+
+    // A jump to address 2.
+    expect_red(
+        &rt,
+        alloc,
+        "67002000",
+        "status stopped 0 pc 00010000 value 00000002\nretired 0\nthread 0 ready pc 00010000\nreadings 0\nreplies 0\nout 0\nmem 00200067",
+    )?;
+
+    // A misaligned branch that isn't taken, and then a write of a counter.
+    expect_red(
+        &rt,
+        alloc,
+        "63110000731000c0",
+        "status stopped 2 pc 00010004 value c0001073\nretired 1\nthread 0 ready pc 00010004\nreadings 0\nreplies 0\nout 0\nmem c00021d6",
     )
 }
 

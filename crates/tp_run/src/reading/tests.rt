@@ -1,6 +1,7 @@
 use super::read_image;
 use crate::refused::Refused;
 use std::test::Fail;
+use world_view::Rights;
 
 const IMAGE: &str = r#"
 frames = 64
@@ -30,8 +31,14 @@ pad = 6150
 
 # more"#;
 
-// The name, the frame, the page, the entry and the code's bytes of each domain, and the entries.
-const IMAGE_READ: &str = "red 0 16 65536 20, blue 1 16 65536 20, 0 10000 6150, 1 10000 6150, ";
+// The name and the entry of each domain, the number, frame and bytes of its pages, and the schedule's entries.
+const IMAGE_READ: &str = "red 65536: 16 0 20, blue 65536: 16 1 20, 0 10000 6150, 1 10000 6150, ";
+
+const READ_AND_EXECUTE: Rights = Rights {
+    read: true,
+    write: false,
+    execute: true,
+};
 
 const RED_CODE: &str = "1305100493081000730000009308000073000000";
 
@@ -80,15 +87,17 @@ fn two_domains_are_read(rt: HostRuntime) -> Result<(), Fail> {
     let image = read_image(alloc, IMAGE.as_bytes())?;
     let mut read = String::new(alloc);
     for own in &image.owns {
-        write!(
-            read,
-            "{} {} {} {} {}, ",
-            own.name,
-            own.frame,
-            own.page,
-            own.entry,
-            own.code.len()
-        )?;
+        write!(read, "{} {}: ", own.name, own.entry)?;
+        for page in &own.pages {
+            write!(
+                read,
+                "{} {} {}, ",
+                page.number,
+                page.frame,
+                page.bytes.len()
+            )?;
+            assert_eq!(rt; page.rights, READ_AND_EXECUTE);
+        }
     }
     for entry in &image.all.schedule {
         write!(read, "{} {} {}, ", entry.domain, entry.length, entry.pad)?;

@@ -3,6 +3,8 @@ use crate::image::Entry;
 use crate::log::Log;
 use crate::used::Used;
 use crate::view::{Thread, View};
+use phys_mem::PhysMem;
+use rv_core::Regs;
 use std::test::Fail;
 use tp_io::MemSink;
 use world_view::{DomainStatus, Reply, ThreadState};
@@ -24,7 +26,7 @@ thread 0 ready pc 00010004
 readings 300 last 77 list 18446744073709551615
 replies 0
 out 0
-mem 00000000
+mem 0001feed
 ";
 
 const REST: &str = "switch 0 used 0 pad 6150 count 0
@@ -61,14 +63,21 @@ fn texts_are_as_written_by_hand(rt: HostRuntime) -> Result<(), Fail> {
     replies.first.push(Reply { code: 0, value: 0 })?;
     replies.first.push(Reply { code: 1, value: 10 })?;
 
-    let mut regs = [0u32; 32];
+    let mut memory = PhysMem::new(rt.alloc(), 2)?;
+    memory.write_word(0, u32::MAX);
+    memory.write_word(4, 1);
+    memory.write_word(4092, 1);
+    memory.write_word(4096, 0x0001_0000);
+    memory.write_word(8188, 0xfeed);
+
+    let mut regs = Regs::new();
     let ready = Thread {
         state: ThreadState::Ready,
         pc: 0x10004,
         regs,
     };
-    regs[5] = 0x1806;
-    regs[31] = u32::MAX;
+    regs.set(5, 0x1806);
+    regs.set(31, u32::MAX);
     let ended = Thread {
         state: ThreadState::Ended,
         pc: 0x10010,
@@ -81,7 +90,8 @@ fn texts_are_as_written_by_hand(rt: HostRuntime) -> Result<(), Fail> {
         readings: &no_readings,
         replies: &replies,
         printed: &[0, 0x10, 0xff],
-        words: &[u32::MAX, 1, 1],
+        memory: &memory,
+        frame: 0,
     };
     let blue = View {
         status: DomainStatus::Stopped {
@@ -94,7 +104,8 @@ fn texts_are_as_written_by_hand(rt: HostRuntime) -> Result<(), Fail> {
         readings: &readings,
         replies: &no_replies,
         printed: &[],
-        words: &[],
+        memory: &memory,
+        frame: 1,
     };
     let red_written = write_section(&mut sink, 0, "red", &red);
     let blue_written = write_section(&mut sink, 1, "blue", &blue);

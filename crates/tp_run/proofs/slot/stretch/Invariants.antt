@@ -9,7 +9,8 @@ invariant-loop-clock l = record {
   few : CountsUpTo l.clock l.domain;
   soon : l.now < l.end → l.clock < l.end + l.hardware.base;
   still : l.end ≤ l.now → l.clock ≡ l.now;
-  so_far : GoesOn (hardware_view l.hardware) (own_view l.own) l.end l.memory l.fn.domain l.now l.domain l.clock;
+  frames : l.memory.frames ≡ l.fn.memory.frames;
+  so_far : GoesOn (hardware_view l.hardware) (own_view l.own) l.end l.fn.memory l.fn.domain l.now l.memory l.domain l.clock;
 }
 
 abbrev pub decreases-loop-clock : goal.decreases-loop-clock

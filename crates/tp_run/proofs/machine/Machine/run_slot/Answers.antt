@@ -6,7 +6,7 @@ use Rattle.world_view.specs.Schedule as schedule
 use Rattle.tp_run.specs.ImageViews.{own_view, entry_view}
 use Rattle.tp_run.specs.Views.{image_view}
 use Rattle.tp_run.specs.Usage.{IsUsed, CountedUpTo}
-use Rattle.tp_run.proofs.FrameWords.{own_at, held_at}
+use Rattle.tp_run.proofs.Pages.{own_at, held_at}
 use Rattle.tp_run.proofs.SwitchCounts.{noted_back, counted_back, length_back}
 use Rattle.tp_run.proofs.Slots.{entry_read, domain_named, length_short, pad_short, counts_later, stands_next, in_bounds_next}
 use Rattle.tp_run.proofs.machine.Machine.run_slot.Goals as goal
@@ -17,7 +17,7 @@ stretch-self-requires-clause-held c =
     let entries : c.len-entries.result ≡ length m.image.now.all.schedule.items = search rules in
     let named = domain_named m.image.now m.slots c.len-entries.result c.index-entry.result.now entries c.index-entry.ensures in
     let within : c.from-d.result < length m.image.now.owns.items = omega (arith, named, c.from-d.ensures) in
-    rw m.stands.frames (held_at m.image.now c.from-d.result c.index.result.now within c.index.ensures)
+    held_at m.image.now c.from-d.result c.index.result.now within c.index.ensures m.memory.frames m.stands.frames
 
 pub stretch-self-requires-clause-few : goal.stretch-self-requires-clause-few
 stretch-self-requires-clause-few c =
@@ -47,7 +47,7 @@ invariant_of-self-clause-stands c =
     let was : length m.used.items ≡ m.used.len = search rules in
     let es_long : length i.all.schedule ≡ c.len-entries.result = length-map m.image.now.all.schedule.items entry_view ∙ sym entries in
     let noted : (us : List (ℕ × ℕ)) → IsUsed m.used.items us → IsUsed c.note_switch.new.used (us ++ (c.switch_entry-switched.result, m.clock - m.ended) ∷ []) = rw c.as_mut_slice.ensures.value at c.note_switch.ensures.noted in
-    stands_next i m.slots m.memory m.domains.items m.used.items _ m.clock m.start m.ended m.stands x c.stretch-self.new.domain c.max-begin.result c.stretch-self.result (own_view o) c.max-begin.ensures
+    stands_next i m.slots m.memory c.stretch-self.new.memory m.domains.items m.used.items _ m.clock m.start m.ended m.stands x c.stretch-self.new.domain c.max-begin.result c.stretch-self.result (own_view o) c.max-begin.ensures c.stretch-self.ensures.frames
     (length_back m.used.items c.note_switch.new.used m.used.len long was)
     (noted_back m.used.items c.note_switch.new.used m.used.len long was c.switch_entry-switched.result (schedule.switch_entry i.all.schedule m.slots) (m.clock - m.ended) (c.switch_entry-switched.ensures.value i.all.schedule es_long) noted)
     e entry (own_at m.image.now.owns.items c.from-d.result o owned c.index.ensures) got c.stretch-self.ensures.becomes

@@ -1,0 +1,38 @@
+#!/usr/bin/env bash
+# Runs a hot loop of loads, arithmetic and branches in `tp`, and prints how many
+# instructions it ran in a second. Run by hand; no part of the gate.
+#
+# usage: bench/hot_loop.sh [SLOTS]     (200 slots of a million cycles each, if not said)
+set -eu
+cd "$(dirname "$0")/.."
+slots=${1:-200}
+tp=crates/tp/out/tp
+[ -x "$tp" ] || (cd crates/tp && rt run -- run --slots 0 < ../../examples/two-domains.toml > /dev/null)
+
+#   lui  x5, 0x10        its own page
+#   lw   x6, 0(x5)       the loop
+#   add  x7, x7, x6
+#   addi x8, x8, 1
+#   xor  x9, x7, x8
+#   slt  x10, x9, x7
+#   bne  x8, x0, -20
+#   jal  x0, -24
+loop=b702010003a30200b383630013041400b3c4830033a57400e31604fe6ff09ffe
+
+image=$(mktemp)
+trap 'rm -f "$image"' EXIT
+{
+    for name in red blue; do
+        printf '[[domain]]\nname = "%s"\nentry = 0x10000\n' "$name"
+        printf 'segment = [{ page = 16, pages = 1, rights = "rx", hex = "%s" }]\n' "$loop"
+    done
+    printf '[[schedule]]\ndomain = 0\nlength = 1000000\npad = 0\n'
+    printf '[[schedule]]\ndomain = 1\nlength = 1000000\npad = 0\n'
+} > "$image"
+
+begin=$(date +%s%N)
+report=$("$tp" run --slots "$slots" < "$image")
+end=$(date +%s%N)
+retired=$(printf '%s\n' "$report" | awk '$1 == "retired" { sum += $2 } END { print sum }')
+printf '%s instructions in %s ms: %s million a second\n' "$retired" \
+    "$(((end - begin) / 1000000))" "$((retired * 1000 / (end - begin)))"
