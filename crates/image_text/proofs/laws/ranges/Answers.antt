@@ -1,0 +1,5 @@
+use Rattle.image_text.proofs.Ranges.{ranges_law}
+use Rattle.image_text.proofs.laws.ranges.Goals as goal
+
+pub returns : goal.returns
+returns c = ranges_law

@@ -1,0 +1,9 @@
+use Rattle.std.proofs.Common.{◌≡◌, drop, map}
+use Rattle.toml.specs.View.{items_view}
+use Rattle.image_text.specs.Rows.{all_items}
+use Rattle.image_text.specs.Unknown as spec
+use Rattle.image_text.specs.Views.{row_view}
+use Rattle.image_text.proofs.unknown.known_domains.Given as goal
+
+abbrev pub invariant-loop-value : goal.invariant-loop-value
+invariant-loop-value l = all_items (spec.known_domain l.version (map row_view l.rows)) (items_view (drop l.value-index l.values)) ≡ all_items (spec.known_domain l.version (map row_view l.rows)) (items_view l.values)

@@ -1,0 +1,5 @@
+pub mod Rows
+pub mod Unknown
+pub mod Record
+pub mod Views
+pub mod Reads

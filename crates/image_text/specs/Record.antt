@@ -1,0 +1,236 @@
+-- The record of an image's table. What is missing, or of another type, reads as zero or empty, and a number outside its row's range as the least of it: the key table says where something is.
+use Rattle.std.specs.Prelude.{◌≡◌, ℕ, ◌<◌, ◌≤◌, ◌^◌, ◌&&◌, nat_le, ℤ, pos, negsuc, if◌then◌else◌, List, [], ◌∷◌, length, codes, slice_index_or, Option, Some, None, Result, Ok, Err}
+use Rattle.std.specs.Str.{is_utf8}
+use Rattle.toml.specs.Data.{Data, Items, no_items, item, Members, no_members, get_member}
+use Rattle.toml.specs.Parse.{parse_document}
+use Rattle.image_text.specs.Rows.{items_or_none, items_at, Broken}
+use Rattle.image_text.specs.Unknown.{broken_key}
+use Rattle.image_text.specs.declared.refusal.Refusal.{Refusal}
+
+-- ---- the record
+
+-- a cache or the translation buffer
+pub record Cache : Type 0 where
+  pub sets : ℤ
+  pub ways : ℤ
+  pub policy : List ℕ
+
+-- in cycles
+pub record Costs : Type 0 where
+  pub base : ℤ
+  pub l1 : ℤ
+  pub l2 : ℤ
+  pub mem : ℤ
+  pub wb : ℤ
+  pub tlb : ℤ
+  pub mispredict : ℤ
+  pub trap : ℤ
+  pub flush : ℤ
+
+pub record Segment : Type 0 where
+  pub page : ℕ
+  pub pages : ℕ
+  pub rights : List ℕ
+  pub hex : List ℕ
+
+-- an interrupt of a line, at a cycle
+pub record Moment : Type 0 where
+  pub at : ℤ
+  pub line : ℤ
+
+pub record Domain : Type 0 where
+  pub name : List ℕ
+  pub colours : List ℤ
+  pub entry : ℕ
+  pub segments : List Segment
+  pub caps : List (List ℕ)
+  pub lines : List ℤ
+  pub moments : List Moment
+
+pub record Entry : Type 0 where
+  pub domain : ℤ
+  pub length : ℤ
+  pub pad : ℤ
+
+pub record Image : Type 0 where
+  pub frames : ℤ
+  pub shared : ℤ
+  pub line : ℤ
+  pub l1i : Cache
+  pub l1d : Cache
+  pub l2 : Cache
+  pub tlb : Cache
+  pub predictor : ℤ
+  pub costs : Costs
+  pub domains : List Domain
+  pub schedule : List Entry
+
+-- ---- values
+
+abbrev pub integer_of : Option Data → ℤ
+integer_of (Some (Data.integer z)) = z
+integer_of _ = pos 0
+
+abbrev pub text_of : Option Data → List ℕ
+text_of (Some (Data.string s)) = s
+text_of _ = []
+
+abbrev pub table_of : Option Data → Members
+table_of (Some (Data.table t)) = t
+table_of _ = no_members
+
+-- a number of the range, else the least of it
+abbrev pub ranged : ℕ → ℕ → ℤ → ℕ
+ranged low high (pos n) = if nat_le low n && nat_le n high then n else low
+ranged low high (negsuc n) = low
+
+abbrev pub integer_at : List ℕ → Members → ℤ
+integer_at key t = integer_of (get_member key t)
+
+abbrev pub natural_at : List ℕ → ℕ → ℕ → Members → ℕ
+natural_at key low high t = ranged low high (integer_at key t)
+
+abbrev pub text_at : List ℕ → Members → List ℕ
+text_at key t = text_of (get_member key t)
+
+abbrev pub map_items : {A : Type 0} → (Data → A) → Items → List A
+map_items f no_items = []
+map_items f (item d ds) = f d ∷ map_items f ds
+
+-- the integers, or the texts, of an array
+abbrev pub integers_at : List ℕ → Members → List ℤ
+integers_at key t = map_items (λ d. integer_of (Some d)) (items_at key t)
+
+abbrev pub texts_at : List ℕ → Members → List (List ℕ)
+texts_at key t = map_items (λ d. text_of (Some d)) (items_at key t)
+
+-- ---- the parts
+
+unfoldable pub cache_of : Members → Cache
+cache_of t = record { sets = integer_at (codes "sets") t; ways = integer_at (codes "ways") t; policy = text_at (codes "policy") t }
+
+abbrev pub cache_at : List ℕ → Members → Cache
+cache_at key t = cache_of (table_of (get_member key t))
+
+unfoldable pub costs_of : Members → Costs
+costs_of t = record {
+  base = integer_at (codes "base") t;
+  l1 = integer_at (codes "l1") t;
+  l2 = integer_at (codes "l2") t;
+  mem = integer_at (codes "mem") t;
+  wb = integer_at (codes "wb") t;
+  tlb = integer_at (codes "tlb") t;
+  mispredict = integer_at (codes "mispredict") t;
+  trap = integer_at (codes "trap") t;
+  flush = integer_at (codes "flush") t;
+}
+
+unfoldable pub segment_of : Members → Segment
+segment_of t = record {
+  page = natural_at (codes "page") 0 1048575 t;
+  pages = natural_at (codes "pages") 1 64 t;
+  rights = text_at (codes "rights") t;
+  hex = text_at (codes "hex") t;
+}
+
+abbrev pub segment_in : Data → Segment
+segment_in d = segment_of (table_of (Some d))
+
+-- the integer at a place of a pair
+abbrev pub first_item : Items → ℤ
+first_item no_items = pos 0
+first_item (item d ds) = integer_of (Some d)
+
+abbrev pub second_item : Items → ℤ
+second_item no_items = pos 0
+second_item (item d ds) = first_item ds
+
+abbrev pub moment_in : Data → Moment
+moment_in d = record { at = first_item (items_or_none (Some d)); line = second_item (items_or_none (Some d)) }
+
+unfoldable pub domain_of : Members → Domain
+domain_of t = record {
+  name = text_at (codes "name") t;
+  colours = integers_at (codes "colours") t;
+  entry = natural_at (codes "entry") 0 4294967295 t;
+  segments = map_items segment_in (items_at (codes "segment") t);
+  caps = texts_at (codes "caps") t;
+  lines = integers_at (codes "lines") t;
+  moments = map_items moment_in (items_at (codes "moments") t);
+}
+
+abbrev pub domain_in : Data → Domain
+domain_in d = domain_of (table_of (Some d))
+
+unfoldable pub entry_of : Members → Entry
+entry_of t = record { domain = integer_at (codes "domain") t; length = integer_at (codes "length") t; pad = integer_at (codes "pad") t }
+
+abbrev pub entry_in : Data → Entry
+entry_in d = entry_of (table_of (Some d))
+
+unfoldable pub record_of : Members → Image
+record_of t = record {
+  frames = integer_at (codes "frames") t;
+  shared = integer_at (codes "shared") t;
+  line = integer_at (codes "line") t;
+  l1i = cache_at (codes "l1i") t;
+  l1d = cache_at (codes "l1d") t;
+  l2 = cache_at (codes "l2") t;
+  tlb = cache_at (codes "tlb") t;
+  predictor = integer_at (codes "predictor") t;
+  costs = costs_of (table_of (get_member (codes "costs") t));
+  domains = map_items domain_in (items_at (codes "domain") t);
+  schedule = map_items entry_in (items_at (codes "schedule") t);
+}
+
+-- ---- the image that bytes are
+
+-- the table that bytes are, if they are UTF-8 and TOML
+unfoldable pub document : List ℕ → Option Members
+document bytes = if is_utf8 bytes then parse_document bytes else None
+
+-- K1: the bytes are no text of TOML
+abbrev pub not_toml : Refusal
+not_toml = record { rule = 1; at = pos 0; found = pos 0; wanted = pos 0 }
+
+-- K2: a row of the key table is broken
+abbrev pub broken_row : Broken → Refusal
+broken_row b = record { rule = 2; at = pos b.row; found = pos b.found; wanted = pos 0 }
+
+abbrev pub read_whole : Members → Option Broken → Result Image Refusal
+read_whole t (Some b) = Err (broken_row b)
+read_whole t None = Ok (record_of t)
+
+abbrev pub read_table : Option Members → Result Image Refusal
+read_table None = Err not_toml
+read_table (Some t) = read_whole t (broken_key t)
+
+-- the record of the bytes, or the refusal by the first two rules
+unfoldable pub image_of : List ℕ → Result Image Refusal
+image_of bytes = read_table (document bytes)
+
+-- ---- what the key table gives
+
+pub record IsSegment (s : Segment) : Type 0 where
+  pub page : s.page < 2 ^ 20
+  pub some : 1 ≤ s.pages
+  pub few : s.pages ≤ 64
+
+abbrev pub no_segment : Segment
+no_segment = record { page = 0; pages = 1; rights = []; hex = [] }
+
+abbrev pub no_domain : Domain
+no_domain = record { name = []; colours = []; entry = 0; segments = []; caps = []; lines = []; moments = [] }
+
+abbrev pub domain_at : Image → ℕ → Domain
+domain_at i d = slice_index_or i.domains d no_domain
+
+-- numbers and lists are in the ranges of their rows
+pub record InKeyRanges (i : Image) : Type 0 where
+  pub entry : (d : ℕ) → (domain_at i d).entry < 2 ^ 32
+  pub few_segments : (d : ℕ) → length (domain_at i d).segments ≤ 16
+  pub segments : (d k : ℕ) → IsSegment (slice_index_or (domain_at i d).segments k no_segment)
+
+-- of every image that bytes are
+abbrev pub RangesLaw : Type 0
+RangesLaw = (bytes : List ℕ) (i : Image) → image_of bytes ≡ Ok i → InKeyRanges i

@@ -1,0 +1,19 @@
+//! The record that an image's text gives, or the refusal by the two rules that
+//! speak of the text: that it is TOML, and that its keys are those of the key
+//! table.
+#![tactic(auto)]
+
+mod key_table;
+mod kinds;
+pub mod laws;
+mod lookup;
+mod raw;
+mod reading;
+mod refusal;
+mod rows;
+mod unknown;
+mod values;
+
+pub use raw::{Raw, RawCache, RawCosts, RawDomain, RawEntry, RawMoment, RawSegment};
+pub use reading::read_image;
+pub use refusal::{ReadRefusal, Refusal};

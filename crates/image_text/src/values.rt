@@ -1,0 +1,124 @@
+// Values at keys. What is missing, or of another type, reads as zero or empty:
+// the key table says where something is.
+ghost use Rattle.std.specs.Prelude.{◌≡◌, map, Some, string_bytes};
+ghost use Rattle.toml.specs.View.{view, items_view, table_view};
+ghost use Rattle.toml.specs.Data.{get_member, no_members};
+ghost use Rattle.image_text.specs.Record as spec;
+ghost use Rattle.image_text.specs.Reads.{Reads};
+
+use crate::lookup::{get, items_at};
+use crate::refusal::ReadRefusal;
+use std::alloc::Global;
+use toml::{Table, Value};
+
+pub fn integer_of(value: &Value) -> i64
+    ensures value { result ≡ spec.integer_of (Some (view value.now)) }
+{
+    match value.as_integer() {
+        Some(number) => number,
+        None => 0,
+    }
+}
+
+pub fn integer_at(table: &Table, key: &str) -> i64
+    ensures value { result ≡ spec.integer_at key.now (table_view table.now) }
+{
+    match get(table, key) {
+        Some(value) => integer_of(value),
+        None => 0,
+    }
+}
+
+/// A number of the range, else the least of it.
+fn ranged(number: i64, low: u32, high: u32) -> u32
+    ensures value { result ≡ spec.ranged low high number }
+{
+    match u32::try_from(number) {
+        Ok(number) => {
+            if low <= number && number <= high {
+                number
+            } else {
+                low
+            }
+        }
+        Err(_) => low,
+    }
+}
+
+pub fn natural_at(table: &Table, key: &str, low: u32, high: u32) -> u32
+    ensures value { result ≡ spec.natural_at key.now low high (table_view table.now) }
+{
+    ranged(integer_at(table, key), low, high)
+}
+
+fn text_of(value: &Value) -> &str
+    ensures value { result.now ≡ spec.text_of (Some (view value.now)) }
+{
+    match value.as_str() {
+        Some(text) => text,
+        None => "",
+    }
+}
+
+pub fn text_at(alloc: Global, table: &Table, key: &str) -> Result<String, ReadRefusal>
+    ensures read { Reads (λ text. string_bytes text) result (spec.text_at key.now (table_view table.now)) }
+{
+    let text = match get(table, key) {
+        Some(value) => text_of(value),
+        None => "",
+    };
+    Ok(String::from_str(alloc, text)?)
+}
+
+/// The table that a value is; the caller's empty one for any other value.
+pub fn table_of<'a>(value: &'a Value, empty: &'a Table) -> &'a Table
+    requires empty { table_view empty.now ≡ no_members }
+    ensures value { table_view result.now ≡ spec.table_of (Some (view value.now)) }
+{
+    match value.as_table() {
+        Some(table) => table,
+        None => empty,
+    }
+}
+
+pub fn table_at<'a>(table: &'a Table, key: &str, empty: &'a Table) -> &'a Table
+    requires empty { table_view empty.now ≡ no_members }
+    ensures value { table_view result.now ≡ spec.table_of (get_member key.now (table_view table.now)) }
+{
+    match get(table, key) {
+        Some(value) => table_of(value, empty),
+        None => empty,
+    }
+}
+
+fn integers_of(alloc: Global, values: &[Value]) -> Result<Vec<i64>, ReadRefusal>
+    ensures read { Reads (λ found. found.items) result (spec.map_items (λ d. spec.integer_of (Some d)) (items_view values.now)) }
+{
+    let mut found = Vec::new(alloc);
+    for value in values {
+        found.push(integer_of(value))?;
+    }
+    Ok(found)
+}
+
+pub fn integers_at(alloc: Global, table: &Table, key: &str) -> Result<Vec<i64>, ReadRefusal>
+    ensures read { Reads (λ found. found.items) result (spec.integers_at key.now (table_view table.now)) }
+{
+    integers_of(alloc, items_at(table, key))
+}
+
+fn texts_of(alloc: Global, values: &[Value]) -> Result<Vec<String>, ReadRefusal>
+    ensures read { Reads (λ found. map (λ text. string_bytes text) found.items) result (spec.map_items (λ d. spec.text_of (Some d)) (items_view values.now)) }
+{
+    let mut found = Vec::new(alloc);
+    for value in values {
+        found.push(String::from_str(alloc, text_of(value))?)?;
+    }
+    Ok(found)
+}
+
+pub fn texts_at(alloc: Global, table: &Table, key: &str) -> Result<Vec<String>, ReadRefusal>
+    ensures read { Reads (λ found. map (λ text. string_bytes text) found.items) result (spec.texts_at key.now (table_view table.now)) }
+{
+    texts_of(alloc, items_at(table, key))
+}
