@@ -1,0 +1,71 @@
+-- The numbers of an entry that the rule of the schedule lets through.
+use Rattle.std.proofs.Common.{◌≡◌, ℕ, ◌<◌, ◌≤◌, not, false, List, [], ◌∷◌, length, map, take, get_or, None, Some, subst, arith}
+use Rattle.std.specs.Prelude.{ℤ, pos, negsuc, Option, if◌then◌else◌}
+use Rattle.std.specs.List.{All}
+use Rattle.std.proofs.Math.ListN.{get_or-map}
+use Rattle.std.proofs.lemmas.List.{length-map}
+use Rattle.std.proofs.lemmas.List.Elements.{All-from_get_or}
+use Rattle.std.proofs.lemmas.Bool.Decides.{nat_tests}
+use Rattle.image_text.specs.declared.raw.RawEntry.{RawEntry}
+use Rattle.image_text.specs.declared.raw.Raw.{Raw}
+use Rattle.image_text.specs.declared.refusal.Refusal.{Refusal}
+use Rattle.image_text.specs.Record.{Entry as TextEntry}
+use Rattle.image_text.specs.Reads.{raw_view, domain_view, entry_view}
+use Rattle.image_check.specs.Cases.{first_in, outside, refusal}
+use Rattle.image_check.specs.Rules.{is_number, k16_case, k16_entry}
+use Rattle.image_check.specs.Public.{Entry, natural_of, entry_of, IsSmall}
+use Rattle.image_check.specs.Checking.{first_broken}
+use Rattle.image_check.proofs.FirstCases.{if_first, if_rest, first_in_none}
+use Rattle.image_check.proofs.Kept.{kept, few_domains, entries_pass}
+
+pub record Passed (domains : ℕ) (e : Entry) : Type 0 where
+  pub domain : e.domain < domains
+  pub length : e.length ≤ 1000000
+  pub pad : e.pad ≤ 1000000
+
+number_below : (many : ℕ) (x : ℤ) → not (is_number many x) ≡ false → natural_of x < many
+number_below many (pos n) h = grind (arith, nat_tests, h)
+number_below many (negsuc n) h = cc
+
+most_inside : (low high : ℕ) (x : ℤ) → outside (pos low) (pos high) x ≡ false → natural_of x ≤ high
+most_inside low high (pos n) h = grind (arith, nat_tests, h)
+most_inside low high (negsuc n) h = omega arith
+
+passed : (domains place : ℕ) (e : TextEntry) → k16_case domains place e ≡ None → Passed domains (entry_of e)
+unfolding k16_case entry_of
+passed domains place e n =
+    let last : Option Refusal = if outside (pos 0) (pos 1000000) e.pad then Some (refusal 16 (pos place) e.pad (pos 4)) else None in
+    let later : Option Refusal = if outside (pos 1000) (pos 1000000) e.length then Some (refusal 16 (pos place) e.length (pos 3)) else last in
+    let first = refusal 16 (pos place) e.domain (pos 2) in
+    let second = refusal 16 (pos place) e.length (pos 3) in
+    let third = refusal 16 (pos place) e.pad (pos 4) in
+    let a = if_rest (not (is_number domains e.domain)) first later n in
+    let b = if_rest (outside (pos 1000) (pos 1000000) e.length) second last a in
+    record {
+      domain = number_below domains e.domain (if_first (not (is_number domains e.domain)) first later n);
+      length = most_inside 1000 1000000 e.length (if_first (outside (pos 1000) (pos 1000000) e.length) second last a);
+      pad = most_inside 0 1000000 e.pad (if_first (outside (pos 0) (pos 1000000) e.pad) third None b);
+    }
+
+pub entry_passed : (domains : ℕ) (es : List TextEntry) → first_in (k16_entry domains) es ≡ None → (e : ℕ) → e < length es → (d : TextEntry) → Passed domains (entry_of (get_or es e d))
+entry_passed domains es n e l d = passed domains (length (take e es)) (get_or es e d) (first_in_none (k16_entry domains) es n e l d)
+
+small : (domains : ℕ) (e : Entry) → domains ≤ 16 → Passed domains e → IsSmall e
+small domains e few p = record { domain = omega (arith, few, p.domain); length = omega (arith, p.length); pad = omega (arith, p.pad) }
+
+all_small : (domains : ℕ) (es : List RawEntry) → domains ≤ 16 → first_in (k16_entry domains) (map entry_view es) ≡ None → All (λ e. IsSmall (entry_of (entry_view e))) es
+all_small domains [] few n = λ k d l. absurd (omega (arith, l))
+all_small domains (x ∷ es) few n =
+    All-from_get_or (λ e. IsSmall (entry_of (entry_view e))) (x ∷ es) x (λ k l.
+    let P : TextEntry → Type 0 = λ e. IsSmall (entry_of e) in
+    let p = entry_passed domains (map entry_view (x ∷ es)) n k (omega (arith, length-map es entry_view, l)) (entry_view x) in
+    subst P (get_or-map entry_view (x ∷ es) k x) (small domains (entry_of (get_or (map entry_view (x ∷ es)) k (entry_view x))) few p))
+
+-- of an image that breaks no rule
+pub small_entries : (raw : Raw) → first_broken (raw_view raw) ≡ None → All (λ e. IsSmall (entry_of (entry_view e))) raw.schedule.items
+small_entries raw n =
+    let i = raw_view raw in
+    all_small (length i.domains) raw.schedule.items (few_domains i n) (entries_pass i (kept i n).schedule)
+
+pub few_raw_domains : (raw : Raw) → first_broken (raw_view raw) ≡ None → length raw.domains.items ≤ 16
+few_raw_domains raw n = omega (arith, length-map raw.domains.items domain_view, few_domains (raw_view raw) n)

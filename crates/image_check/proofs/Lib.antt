@@ -1,0 +1,6 @@
+pub mod FirstCases
+pub mod Kept
+pub mod Entries
+pub mod Owns
+pub mod Running
+pub mod Ranges

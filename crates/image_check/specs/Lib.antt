@@ -1,0 +1,10 @@
+pub mod Cases
+pub mod Rules
+pub mod Segments
+pub mod Checking
+pub mod Public
+pub mod Own
+pub mod Laws
+pub mod Views
+pub mod Standing
+pub mod Answers

@@ -1,0 +1,58 @@
+-- What is one domain's own in an image.
+use Rattle.std.specs.Prelude.{ℕ, ◌*◌, ◌||◌, false, List, [], ◌∷◌, map, codes, slice_index_or, Option, Some, None, suc}
+use Rattle.std.specs.Str.{bytes_eq}
+use Rattle.image_text.specs.Record.{Image, Domain, Segment as TextSegment}
+use Rattle.image_check.specs.declared.own.Rights.{Rights}
+use Rattle.image_check.specs.Public.{most_pages}
+use Rattle.image_check.specs.Segments.{bytes_in, has_execute}
+
+-- pages of a domain's address space, one after the other
+pub record Segment : Type 0 where
+  pub page : ℕ  -- the first page's address divided by 4,096
+  pub pages : ℕ
+  pub rights : Rights
+  pub bytes : List ℕ  -- the first bytes; zeros follow to the end of the pages
+
+pub record Own : Type 0 where
+  pub name : List ℕ
+  pub entry : ℕ  -- the address at which it begins
+  pub first_frame : ℕ  -- its pages stand in frames from here on, in the order of its segments
+  pub segments : List Segment
+
+abbrev pub rights_of : List ℕ → Rights
+rights_of s = record {
+  read = bytes_eq s (codes "r") || (bytes_eq s (codes "rw") || (bytes_eq s (codes "rx") || bytes_eq s (codes "rwx")));
+  write = bytes_eq s (codes "rw") || bytes_eq s (codes "rwx");
+  execute = has_execute s;
+}
+
+abbrev pub bytes_or_none : Option (List ℕ) → List ℕ
+bytes_or_none (Some bytes) = bytes
+bytes_or_none None = []
+
+unfoldable pub segment_of : TextSegment → Segment
+segment_of s = record { page = s.page; pages = s.pages; rights = rights_of s.rights; bytes = bytes_or_none (bytes_in s.hex) }
+
+-- domain d
+unfoldable pub own_from : ℕ → Domain → Own
+own_from d o = record { name = o.name; entry = o.entry; first_frame = most_pages * d; segments = map segment_of o.segments }
+
+-- domains from number d on
+unfoldable pub owns_from : ℕ → List Domain → List Own
+owns_from d [] = []
+owns_from d (o ∷ os) = own_from d o ∷ owns_from (suc d) os
+
+unfoldable pub owns_of : Image → List Own
+owns_of i = owns_from 0 i.domains
+
+abbrev pub no_own : Own
+no_own = record { name = []; entry = 0; first_frame = 0; segments = [] }
+
+abbrev pub own_at : List Own → ℕ → Own
+own_at owns d = slice_index_or owns d no_own
+
+abbrev pub no_segment : Segment
+no_segment = record { page = 0; pages = 1; rights = record { read = false; write = false; execute = false }; bytes = [] }
+
+abbrev pub segment_at : Own → ℕ → Segment
+segment_at o k = slice_index_or o.segments k no_segment

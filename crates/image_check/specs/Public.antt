@@ -1,0 +1,50 @@
+-- What all domains may know of an image: the hardware, and the schedule.
+use Rattle.std.specs.Prelude.{ℕ, ◌*◌, ◌<◌, ◌^◌, ℤ, pos, negsuc, List, length, map, slice_index_or}
+use Rattle.image_text.specs.Record.{Image, Entry as TextEntry}
+
+-- the machine that all domains share
+pub record Hardware : Type 0 where
+  pub frames : ℕ  -- of 4,096 bytes
+  pub base : ℕ  -- cycles of an instruction, before what it touches
+
+-- a slot for a domain, and the pad of the switch that ends it, in cycles
+pub record Entry : Type 0 where
+  pub domain : ℕ
+  pub length : ℕ
+  pub pad : ℕ
+
+pub record Public : Type 0 where
+  pub hardware : Hardware
+  pub schedule : List Entry
+  pub domains : ℕ  -- how many there are
+
+-- a number that isn't negative
+abbrev pub natural_of : ℤ → ℕ
+natural_of (pos n) = n
+natural_of (negsuc n) = 0
+
+-- the most pages of a domain: 16 segments of 64 pages
+abbrev pub most_pages : ℕ
+most_pages = 1024
+
+-- as yet a domain has a frame for each page that it may have, and an instruction takes one cycle
+unfoldable pub hardware_of : Image → Hardware
+hardware_of i = record { frames = most_pages * length i.domains; base = 1 }
+
+unfoldable pub entry_of : TextEntry → Entry
+entry_of e = record { domain = natural_of e.domain; length = natural_of e.length; pad = natural_of e.pad }
+
+unfoldable pub public_of : Image → Public
+public_of i = record { hardware = hardware_of i; schedule = map entry_of i.schedule; domains = length i.domains }
+
+abbrev pub no_entry : Entry
+no_entry = record { domain = 0; length = 0; pad = 0 }
+
+abbrev pub entry_in : List Entry → ℕ → Entry
+entry_in es e = slice_index_or es e no_entry
+
+-- its numbers fit those of the code
+pub record IsSmall (e : Entry) : Type 0 where
+  pub domain : e.domain < 2 ^ 8
+  pub length : e.length < 2 ^ 32
+  pub pad : e.pad < 2 ^ 32

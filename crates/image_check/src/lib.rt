@@ -1,0 +1,18 @@
+//! The rules that an image must keep, each with the numbers of its first broken
+//! case; and an image that keeps them all, with what all domains may know of it
+//! and what each has of its own.
+#![tactic(auto)]
+
+mod checked;
+pub mod laws;
+mod own;
+mod public;
+mod refusal;
+mod rules;
+mod segments;
+
+pub use checked::{Checked, check};
+pub use image_text::Refusal;
+pub use own::{Own, Rights, Segment};
+pub use public::{Entry, Hardware, Public};
+pub use refusal::CheckRefusal;

@@ -1,0 +1,90 @@
+// What all domains may know of an image.
+ghost use Rattle.std.specs.Prelude.{◌≡◌, map, None};
+ghost use Rattle.std.specs.List.{All};
+ghost use Rattle.image_text.specs.Reads.{raw_view, entry_view as text_entry_view};
+ghost use Rattle.image_check.specs.Answers.{Makes};
+ghost use Rattle.image_check.specs.Checking.{first_broken};
+ghost use Rattle.image_check.specs.Public as spec;
+ghost use Rattle.image_check.specs.Views.{entry_view, public_view};
+
+use crate::refusal::CheckRefusal;
+use image_text::{Raw, RawEntry};
+use std::alloc::Global;
+
+/// The most pages of a domain: 16 segments of 64 pages.
+pub const MOST_PAGES: u32 = 1024;
+
+/// What all domains share of the machine.
+#[derive(Clone, Copy, Debug, PartialEq, Eq)]
+pub struct Hardware {
+    /// Frames of 4,096 bytes.
+    pub frames: u32,
+    /// Cycles of an instruction, before what it touches.
+    pub base: u32,
+}
+
+/// A slot of a domain, and the pad of the switch that ends it, in cycles.
+#[derive(Clone, Copy, Debug, PartialEq, Eq)]
+pub struct Entry {
+    pub domain: u8,
+    pub length: u32,
+    pub pad: u32,
+}
+
+/// What all domains may know: the hardware, and the schedule.
+#[derive(Drop)]
+pub struct Public {
+    pub hardware: Hardware,
+    pub schedule: Vec<Entry>,
+    /// How many domains there are.
+    pub domains: u32,
+}
+
+/// A number that isn't negative, else 0.
+fn natural_of(number: i64) -> u64
+    ensures { result ≡ spec.natural_of number }
+{
+    u64::try_from(number).unwrap_or(0)
+}
+
+#[tactic(auto, unfolding(crate::specs::Public::entry_of))]
+fn entry_of(entry: &RawEntry) -> Entry
+    requires small { spec.IsSmall (spec.entry_of (text_entry_view entry.now)) }
+    ensures { entry_view result ≡ spec.entry_of (text_entry_view entry.now) }
+{
+    Entry {
+        domain: natural_of(entry.domain) as u8,
+        length: natural_of(entry.length) as u32,
+        pad: natural_of(entry.pad) as u32,
+    }
+}
+
+fn schedule_of(alloc: Global, entries: &[RawEntry]) -> Result<Vec<Entry>, CheckRefusal>
+    requires small { All (λ e. spec.IsSmall (spec.entry_of (text_entry_view e))) entries.now }
+    ensures { Makes (λ v. map entry_view v.items) result (map spec.entry_of (map text_entry_view entries.now)) }
+{
+    let mut schedule = Vec::new(alloc);
+    for entry in entries {
+        schedule.push(entry_of(entry))?;
+    }
+    Ok(schedule)
+}
+
+/// What all domains may know of an image that breaks no rule.
+#[tactic(auto, unfolding(crate::specs::Public::public_of, crate::specs::Public::hardware_of), using(crate::proofs::Entries::few_raw_domains, crate::proofs::Entries::small_entries))]
+pub fn public_of(alloc: Global, raw: &Raw) -> Result<Public, CheckRefusal>
+    requires accepted { first_broken (raw_view raw.now) ≡ None }
+    ensures { Makes public_view result (spec.public_of (raw_view raw.now)) }
+{
+    let schedule = schedule_of(alloc, raw.schedule.as_slice())?;
+    let domains = raw.domains.len() as u32;
+    let hardware = Hardware {
+        frames: MOST_PAGES * domains,
+        base: 1,
+    };
+    Ok(Public {
+        hardware,
+        schedule,
+        domains,
+    })
+}

@@ -1,0 +1,163 @@
+// The rules of numbers, names and the schedule, each with its first broken case.
+ghost use Rattle.std.specs.Prelude.{◌≡◌, ◌≤◌, ◌<◌, ◌^◌, map, length, IfSome};
+ghost use Rattle.std.specs.List.{list_all};
+ghost use Rattle.image_text.specs.Reads.{raw_view, domain_view, entry_view};
+ghost use Rattle.image_check.specs.Cases as cases;
+ghost use Rattle.image_check.specs.Rules as spec;
+
+use image_text::{Raw, RawDomain, RawEntry, Refusal};
+
+fn refusal(rule: u8, at: i64, found: i64, wanted: i64) -> Refusal
+    ensures { result ≡ cases.refusal rule at found wanted }
+{
+    Refusal {
+        rule,
+        at,
+        found,
+        wanted,
+    }
+}
+
+fn outside(low: i64, high: i64, number: i64) -> bool
+    ensures { result ≡ cases.outside low high number }
+{
+    number < low || high < number
+}
+
+fn range_case(rule: u8, at: i64, low: u32, high: u32, number: i64) -> Option<Refusal>
+    ensures { result ≡ cases.range_case rule at low high number }
+{
+    if number < i64::from(low) {
+        return Some(refusal(rule, at, number, i64::from(low)));
+    }
+    if i64::from(high) < number {
+        return Some(refusal(rule, at, number, i64::from(high)));
+    }
+    None
+}
+
+/// K4: 64 to 4,096 frames.
+#[tactic(auto, unfolding(crate::specs::Rules::k4))]
+pub fn k4(raw: &Raw) -> Option<Refusal>
+    ensures { result ≡ spec.k4 (raw_view raw.now) }
+{
+    range_case(4, 0, 64, 4096, raw.frames)
+}
+
+fn has_name_bytes(text: &[u8]) -> bool
+    ensures { result ≡ list_all spec.is_name_byte text.now }
+{
+    text.iter().all(|&c| matches!(c, b'a'..=b'z' | b'0'..=b'9'))
+}
+
+fn is_name(text: &str) -> bool
+    ensures { result ≡ spec.is_name text.now }
+{
+    if text.is_empty() || text.len() > 16 {
+        return false;
+    }
+    has_name_bytes(text.as_bytes())
+}
+
+/// The place of the first domain of this name.
+fn named_so(name: &str, domains: &[RawDomain]) -> Option<usize>
+    requires few { length domains.now ≤ 16 }
+    ensures value { result ≡ cases.first_in (spec.named_so name.now) (map domain_view domains.now) }
+    ensures small { IfSome result (λ e. e < 16) }
+{
+    for (e, domain) in domains.iter().enumerate() {
+        if domain.name.as_str() == name {
+            return Some(e);
+        }
+    }
+    None
+}
+
+#[tactic(auto, unfolding(crate::specs::Rules::k7_domain))]
+fn k7_domain(earlier: &[RawDomain], domain: &RawDomain) -> Option<Refusal>
+    requires few { length earlier.now ≤ 16 }
+    ensures { result ≡ spec.k7_domain (map domain_view earlier.now) (domain_view domain.now) }
+{
+    let d = earlier.len() as i64;
+    let name = domain.name.as_str();
+    if !is_name(name) {
+        return Some(refusal(7, d, name.len() as i64, 16));
+    }
+    match named_so(name, earlier) {
+        Some(e) => Some(refusal(7, d, e as i64, 0)),
+        None => None,
+    }
+}
+
+fn k7_domains(domains: &[RawDomain]) -> Option<Refusal>
+    requires few { length domains.now ≤ 16 }
+    ensures { result ≡ cases.first_in spec.k7_domain (map domain_view domains.now) }
+{
+    for (d, domain) in domains.iter().enumerate() {
+        if let Some(refusal) = k7_domain(&domains[..d], domain) {
+            return Some(refusal);
+        }
+    }
+    None
+}
+
+/// K7: 1 to 16 domains, each of a name of its own.
+#[tactic(auto, unfolding(crate::specs::Rules::k7))]
+pub fn k7(raw: &Raw) -> Option<Refusal>
+    ensures { result ≡ spec.k7 (raw_view raw.now) }
+{
+    let domains = raw.domains.as_slice();
+    if domains.is_empty() || 16 < domains.len() {
+        return Some(refusal(7, 16, domains.len() as i64, 16));
+    }
+    k7_domains(domains)
+}
+
+fn is_number(many: usize, number: i64) -> bool
+    requires small { many < 2 ^ 63 }
+    ensures { result ≡ spec.is_number many number }
+{
+    0 <= number && number < many as i64
+}
+
+#[tactic(auto, unfolding(crate::specs::Rules::k16_case))]
+fn k16_case(domains: usize, place: usize, entry: &RawEntry) -> Option<Refusal>
+    requires domains { domains < 2 ^ 63 }
+    requires place { place < 2 ^ 63 }
+    ensures { result ≡ spec.k16_case domains place (entry_view entry.now) }
+{
+    if !is_number(domains, entry.domain) {
+        return Some(refusal(16, place as i64, entry.domain, 2));
+    }
+    if outside(1000, 1_000_000, entry.length) {
+        return Some(refusal(16, place as i64, entry.length, 3));
+    }
+    if outside(0, 1_000_000, entry.pad) {
+        return Some(refusal(16, place as i64, entry.pad, 4));
+    }
+    None
+}
+
+fn k16_entries(domains: usize, entries: &[RawEntry]) -> Option<Refusal>
+    requires domains { domains < 2 ^ 63 }
+    ensures { result ≡ cases.first_in (spec.k16_entry domains) (map entry_view entries.now) }
+{
+    for (place, entry) in entries.iter().enumerate() {
+        if let Some(refusal) = k16_case(domains, place, entry) {
+            return Some(refusal);
+        }
+    }
+    None
+}
+
+/// K16: 1 to 64 entries, each of a domain that is there, a length and a pad.
+#[tactic(auto, unfolding(crate::specs::Rules::k16))]
+pub fn k16(raw: &Raw) -> Option<Refusal>
+    ensures { result ≡ spec.k16 (raw_view raw.now) }
+{
+    let entries = raw.schedule.as_slice();
+    if entries.is_empty() || 64 < entries.len() {
+        return Some(refusal(16, 0, entries.len() as i64, 1));
+    }
+    k16_entries(raw.domains.len(), entries)
+}

@@ -1,0 +1,190 @@
+// K12, the rule of segments: their pages, rights and bytes, and the entry.
+ghost use Rattle.std.specs.Prelude.{◌≡◌, ◌<◌, ◌^◌, map, length, Some};
+ghost use Rattle.std.specs.List.{list_any};
+ghost use Rattle.image_text.specs.Reads.{raw_view, domain_view, segment_view};
+ghost use Rattle.image_check.specs.Answers.{Makes};
+ghost use Rattle.image_check.specs.Cases.{first_in};
+ghost use Rattle.image_check.specs.Segments as spec;
+
+use crate::refusal::CheckRefusal;
+use hex::FromHexError;
+use image_text::{Raw, RawDomain, RawSegment, Refusal};
+use std::alloc::Global;
+
+/// The pages of an address space: 4 GiB of 4,096 bytes.
+const ALL_PAGES: u32 = 1_048_576;
+
+fn broken(d: usize, found: usize, case: u8) -> Refusal
+    requires domain { d < 2 ^ 63 }
+    requires found { found < 2 ^ 63 }
+    ensures { Some result ≡ spec.broken d found case }
+{
+    Refusal {
+        rule: 12,
+        at: d as i64,
+        found: found as i64,
+        wanted: i64::from(case),
+    }
+}
+
+/// The rights to execute, and perhaps others.
+pub fn has_execute(rights: &str) -> bool
+    ensures { result ≡ spec.has_execute rights.now }
+{
+    rights == "x" || (rights == "rx" || rights == "rwx")
+}
+
+fn is_rights(rights: &str) -> bool
+    ensures { result ≡ spec.is_rights rights.now }
+{
+    rights == "r" || (rights == "rw" || has_execute(rights))
+}
+
+fn has_page(segment: &RawSegment, page: u32) -> bool
+    ensures { result ≡ spec.has_page (segment_view segment.now) page }
+{
+    segment.page <= page && u64::from(page) < u64::from(segment.page) + u64::from(segment.pages)
+}
+
+fn share_page(segment: &RawSegment, earlier: &RawSegment) -> bool
+    ensures { result ≡ spec.share_page (segment_view segment.now) (segment_view earlier.now) }
+{
+    u64::from(earlier.page) < u64::from(segment.page) + u64::from(segment.pages)
+        && u64::from(segment.page) < u64::from(earlier.page) + u64::from(earlier.pages)
+}
+
+fn shares_any(segment: &RawSegment, earlier: &[RawSegment]) -> bool
+    ensures { result ≡ list_any (spec.share_page (segment_view segment.now)) (map segment_view earlier.now) }
+{
+    for other in earlier {
+        if share_page(segment, other) {
+            return true;
+        }
+    }
+    false
+}
+
+/// The cases of the bytes: none, more than the pages hold, pages of another.
+fn bytes_case(
+    alloc: Global,
+    d: usize,
+    earlier: &[RawSegment],
+    segment: &RawSegment,
+) -> Result<Option<Refusal>, CheckRefusal>
+    requires domain { d < 2 ^ 63 }
+    requires place { length earlier.now < 2 ^ 63 }
+    ensures { Makes (λ o. o) result (spec.bytes_case d (map segment_view earlier.now) (segment_view segment.now) (spec.bytes_in (segment_view segment.now).hex)) }
+{
+    let place = earlier.len();
+    match hex::decode(alloc, segment.hex.as_str()) {
+        Ok(bytes) => {
+            if segment.pages as usize * 4096 < bytes.len() {
+                return Ok(Some(broken(d, place, 4)));
+            }
+            if shares_any(segment, earlier) {
+                return Ok(Some(broken(d, place, 5)));
+            }
+            Ok(None)
+        }
+        Err(FromHexError::OutOfMemory) => Err(CheckRefusal::Memory),
+        Err(_) => Ok(Some(broken(d, place, 3))),
+    }
+}
+
+#[tactic(auto, unfolding(crate::specs::Segments::segment_case))]
+fn segment_case(
+    alloc: Global,
+    d: usize,
+    earlier: &[RawSegment],
+    segment: &RawSegment,
+) -> Result<Option<Refusal>, CheckRefusal>
+    requires domain { d < 2 ^ 63 }
+    requires place { length earlier.now < 2 ^ 63 }
+    ensures { Makes (λ o. o) result (spec.segment_case d (map segment_view earlier.now) (segment_view segment.now)) }
+{
+    if u64::from(ALL_PAGES) < u64::from(segment.page) + u64::from(segment.pages) {
+        return Ok(Some(broken(d, earlier.len(), 1)));
+    }
+    if !is_rights(segment.rights.as_str()) {
+        return Ok(Some(broken(d, earlier.len(), 2)));
+    }
+    bytes_case(alloc, d, earlier, segment)
+}
+
+fn segments_case(
+    alloc: Global,
+    d: usize,
+    segments: &[RawSegment],
+) -> Result<Option<Refusal>, CheckRefusal>
+    requires domain { d < 2 ^ 63 }
+    ensures { Makes (λ o. o) result (first_in (spec.segment_case d) (map segment_view segments.now)) }
+{
+    for (place, segment) in segments.iter().enumerate() {
+        if let Some(refusal) = segment_case(alloc, d, &segments[..place], segment)? {
+            return Ok(Some(refusal));
+        }
+    }
+    Ok(None)
+}
+
+fn executes(page: u32, segment: &RawSegment) -> bool
+    ensures { result ≡ spec.executes page (segment_view segment.now) }
+{
+    has_execute(segment.rights.as_str()) && has_page(segment, page)
+}
+
+fn any_executes(page: u32, segments: &[RawSegment]) -> bool
+    ensures { result ≡ list_any (spec.executes page) (map segment_view segments.now) }
+{
+    for segment in segments {
+        if executes(page, segment) {
+            return true;
+        }
+    }
+    false
+}
+
+#[tactic(auto, unfolding(crate::specs::Segments::entry_case))]
+fn entry_case(d: usize, domain: &RawDomain) -> Option<Refusal>
+    requires domain { d < 2 ^ 63 }
+    ensures { result ≡ spec.entry_case d (domain_view domain.now) }
+{
+    if domain.entry % 4 == 0 && any_executes(domain.entry / 4096, domain.segments.as_slice()) {
+        None
+    } else {
+        Some(broken(d, domain.entry as usize, 6))
+    }
+}
+
+#[tactic(auto, unfolding(crate::specs::Segments::k12_domain))]
+fn k12_domain(
+    alloc: Global,
+    earlier: &[RawDomain],
+    domain: &RawDomain,
+) -> Result<Option<Refusal>, CheckRefusal>
+    requires domain { length earlier.now < 2 ^ 63 }
+    ensures { Makes (λ o. o) result (spec.k12_domain (map domain_view earlier.now) (domain_view domain.now)) }
+{
+    if let Some(refusal) = segments_case(alloc, earlier.len(), domain.segments.as_slice())? {
+        return Ok(Some(refusal));
+    }
+    Ok(entry_case(earlier.len(), domain))
+}
+
+/// K12: the pages, rights and bytes of segments, and the entry.
+///
+/// # Errors
+///
+/// `Memory` alone.
+#[tactic(auto, unfolding(crate::specs::Segments::k12))]
+pub fn k12(alloc: Global, raw: &Raw) -> Result<Option<Refusal>, CheckRefusal>
+    ensures { Makes (λ o. o) result (spec.k12 (raw_view raw.now)) }
+{
+    let domains = raw.domains.as_slice();
+    for (d, domain) in domains.iter().enumerate() {
+        if let Some(refusal) = k12_domain(alloc, &domains[..d], domain)? {
+            return Ok(Some(refusal));
+        }
+    }
+    Ok(None)
+}
