@@ -22,8 +22,13 @@ loop=b702010003a30200b383630013041400b3c4830033a57400e31604fe6ff09ffe
 image=$(mktemp)
 trap 'rm -f "$image"' EXIT
 {
+    printf 'frames = 64\nshared = 512\nline = 64\npredictor = 16\n'
+    for cache in l1i l1d l2 tlb; do
+        printf '%s = { sets = 16, ways = 2, policy = "lru" }\n' "$cache"
+    done
+    printf 'costs = { base = 1, l1 = 1, l2 = 8, mem = 40, wb = 10, tlb = 1, mispredict = 3, trap = 10, flush = 20 }\n'
     for name in red blue; do
-        printf '[[domain]]\nname = "%s"\nentry = 0x10000\n' "$name"
+        printf '[[domain]]\nname = "%s"\ncolours = []\nentry = 0x10000\n' "$name"
         printf 'segment = [{ page = 16, pages = 1, rights = "rx", hex = "%s" }]\n' "$loop"
     done
     printf '[[schedule]]\ndomain = 0\nlength = 1000000\npad = 0\n'

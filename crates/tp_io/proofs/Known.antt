@@ -1,8 +1,10 @@
--- Bytes that are told, in pieces.
-use Rattle.std.proofs.Common.{◌≡◌, ℕ, ◌+◌, ◌-◌, List, [], ◌++◌, length, take, drop, Option, Some, None, refl, ap, sym, ◌∙◌, append_assoc, arith}
+-- Bytes that are told, in pieces, and how many more a sink surely takes.
+use Rattle.std.proofs.Common.{◌≡◌, ℕ, ◌+◌, ◌-◌, ◌<◌, ◌≤◌, List, [], ◌++◌, length, take, drop, Option, Some, None, refl, ap, sym, ◌∙◌, append_assoc, arith}
 use Rattle.std.proofs.lemmas.List.{append-nil, take_rest, length-append, take-append-le}
+use Rattle.std.proofs.lemmas.Option.{same_Some}
 use Rattle.std.proofs.Math.Seq.{take-add, take-append-add}
 use Rattle.tp_io.specs.Bytes.{before_known, after_known, TakesSome, PutsFront}
+use Rattle.tp_io.specs.Sure.{less, Exceeds}
 
 pub after_known-after_known : (known : Option (List ℕ)) (xs ys : List ℕ) → after_known (after_known known xs) ys ≡ after_known known (xs ++ ys)
 after_known-after_known None xs ys = refl
@@ -35,3 +37,40 @@ front_more old mid new xs ys put (n, within, e) =
 pub front_of_first : (old new : Option (List ℕ)) (xs ys : List ℕ) → PutsFront old new xs → PutsFront old new (xs ++ ys)
 front_of_first old new xs ys (n, within, e) =
     (n, omega (arith, length-append xs ys), e ∙ ap (after_known old) (sym (take-append-le n xs ys within)))
+
+-- ---- what a sink surely takes
+
+less-less : (sure : Option ℕ) (m n : ℕ) → less (less sure m) n ≡ less sure (m + n)
+less-less None m n = refl
+less-less (Some k) m n =
+    let e : k - m - n ≡ k - (m + n) = omega arith in
+    ap Some e
+
+pub less-none : (sure : Option ℕ) → less sure 0 ≡ sure
+less-none None = refl
+less-none (Some k) =
+    let e : k - 0 ≡ k = omega arith in
+    ap Some e
+
+-- one more write, after s bytes
+pub less_more : (old mid new : Option ℕ) (s n : ℕ) → mid ≡ less old s → new ≡ less mid n → new ≡ less old (s + n)
+less_more old mid new s n so_far more = more ∙ ap (λ k. less k n) so_far ∙ less-less old s n
+
+-- one more text
+pub less_text : (old mid new : Option ℕ) (xs ys : List ℕ) → mid ≡ less old (length xs) → new ≡ less mid (length ys) → new ≡ less old (length (xs ++ ys))
+less_text old mid new xs ys so_far more = less_more old mid new (length xs) (length ys) so_far more ∙ ap (less old) (sym (length-append xs ys))
+
+-- what was too long after s bytes was too long with them
+pub too_long_rest : (old mid : Option ℕ) (s : ℕ) (rest all : List ℕ) → mid ≡ less old s → s + length rest ≤ length all → Exceeds mid rest → Exceeds old all
+too_long_rest None mid s rest all so_far within long = tt
+too_long_rest (Some k) None s rest all so_far within long = absurd (cc)
+too_long_rest (Some k) (Some n) s rest all so_far within long =
+    let left : n ≡ k - s = same_Some _ _ so_far in
+    omega arith
+
+pub too_long_more : (old mid : Option ℕ) (xs ys : List ℕ) → mid ≡ less old (length xs) → Exceeds mid ys → Exceeds old (xs ++ ys)
+too_long_more old mid xs ys so_far long = too_long_rest old mid (length xs) ys (xs ++ ys) so_far (omega (arith, length-append xs ys)) long
+
+pub too_long_first : (old : Option ℕ) (xs ys : List ℕ) → Exceeds old xs → Exceeds old (xs ++ ys)
+too_long_first None xs ys long = tt
+too_long_first (Some k) xs ys long = omega (arith, length-append xs ys)

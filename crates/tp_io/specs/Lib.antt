@@ -1,5 +1,6 @@
 pub mod Bytes
 pub mod Causes
+pub mod Sure
 pub mod Sends
 pub mod Calls
 pub mod Objects

@@ -1,5 +1,5 @@
 -- Sources and sinks in memory, as their callers see them.
-use Rattle.std.specs.Prelude.{ℕ, ◌-◌, ◌<◌, ◌≤◌, min, List, ◌++◌, length, take, drop, Result, Ok, Err}
+use Rattle.std.specs.Prelude.{ℕ, ◌-◌, ◌<◌, ◌≤◌, min, List, [], ◌∷◌, ◌++◌, length, take, drop, Option, Some, None, Result, Ok, Err}
 use Rattle.tp_io.specs.Calls.{Calls, call_made, call_failed, IsFaultless}
 
 pub record SourceState : Type 0 where
@@ -30,6 +30,15 @@ taken k wanted = min k.most (min (k.room - length k.bytes) wanted)
 abbrev pub after_write : {E : Type 0} → SinkState → List ℕ → Result ℕ E → SinkState
 after_write k piece (Ok n) = record k { bytes = k.bytes ++ take n piece; calls = call_made k.calls }
 after_write k piece (Err _) = record k { calls = call_failed k.calls }
+
+-- where no call is listed, all the room that is left
+abbrev pub sure_room : List ℕ → ℕ → Option ℕ
+sure_room [] left = Some left
+sure_room (_ ∷ _) left = None
+
+-- how many more bytes a sink surely takes
+abbrev pub surely_taken : SinkState → Option ℕ
+surely_taken k = sure_room k.calls.failing (k.room - length k.bytes)
 
 -- a piece that isn't empty finds no room left
 pub record FindsNoRoom (k : SinkState) (piece : List ℕ) : Type 0 where

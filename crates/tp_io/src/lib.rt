@@ -11,6 +11,11 @@
 //! nothing of content, though counts and lengths still hold. The adapters over
 //! std's readers and writers are silent, since no proof knows what the world
 //! outside gives or keeps; the objects in memory tell everything.
+//!
+//! A sink also tells how many more bytes it `sure`ly takes, where it can: it
+//! doesn't fail for a text that is no longer, and has that much less left to
+//! promise. An adapter promises nothing, and a sink in memory all its room,
+//! unless some of its calls are to fail.
 #![tactic(auto)]
 
 mod calls;

@@ -2,7 +2,8 @@ ghost use Rattle.std.specs.Prelude.{◌≡◌, ◌<◌, ◌≤◌, ◌↔◌, �
 ghost use Rattle.tp_io.specs.Bytes.{Puts};
 ghost use Rattle.tp_io.specs.Causes.{HasCause};
 ghost use Rattle.tp_io.specs.Calls.{FailsNext, no_calls};
-ghost use Rattle.tp_io.specs.Objects.{taken, after_write, FindsNoRoom, IsFaultlessWithRoom};
+ghost use Rattle.tp_io.specs.Objects.{taken, after_write, surely_taken, FindsNoRoom, IsFaultlessWithRoom};
+ghost use Rattle.tp_io.specs.Sure.{Spends};
 
 use crate::calls::CallCount;
 use crate::{Failed, Sink};
@@ -13,7 +14,8 @@ use tp_base::Memory;
 /// Room for bytes in memory, which is reserved when it is made and never grows.
 /// A call takes at most so many bytes. The calls with listed numbers fail, the
 /// first call having number 1, and so does one that finds no room left for a
-/// piece that isn't empty; no others.
+/// piece that isn't empty; no others. So where none is listed, it surely takes as
+/// many more bytes as it has room left.
 #[derive(Drop)]
 pub struct MemSink {
     bytes: Vec<u8>,
@@ -63,9 +65,12 @@ impl Sink for MemSink {
 
     ghost faults = { λ k. k.calls.faults };
 
+    ghost sure = { surely_taken };
+
     fn write(&mut self, piece: &[u8]) -> Result<usize, Failed>
         ensures bytes { Puts (Some self.old.bytes) (Some self.new.bytes) result piece.now }
         ensures cause { HasCause self.old.calls.faults self.new.calls.faults result }
+        ensures room { Spends (surely_taken self.old) (surely_taken self.new) result piece.now }
 
         // The call fails exactly where it is listed or finds no room.
         ensures failed { IsErr result ↔ (FailsNext self.old.calls ⊎ FindsNoRoom self.old piece.now) }

@@ -3,6 +3,7 @@ ghost use Rattle.std.specs.Prelude.{◌≡◌, ◌<◌, ◌≤◌, ℕ, [], None
 ghost use Rattle.std.specs.Io.KnownBytes.{Appends, ReadConsumes};
 ghost use Rattle.tp_io.specs.Bytes.{Puts, Takes};
 ghost use Rattle.tp_io.specs.Causes.{HasCause, one_more};
+ghost use Rattle.tp_io.specs.Sure.{Spends};
 
 use crate::{Failed, Sink, Source};
 use std::io;
@@ -91,9 +92,12 @@ impl<W: Write> Sink for StdSink<W> {
 
     ghost faults = { λ k. k.faults };
 
+    ghost sure = { λ _. None };
+
     fn write(&mut self, piece: &[u8]) -> Result<usize, Failed>
         ensures bytes { Puts None None result piece.now }
         ensures cause { HasCause self.old.faults self.new.faults result }
+        ensures room { Spends None None result piece.now }
         ensures counted { OnErr result (self.new.faults ≡ one_more self.old.faults) }
         ensures empty { piece.now ≡ [] → result ≡ Ok 0 }
         ensures untouched { piece.now ≡ [] → self.new ≡ self.old }

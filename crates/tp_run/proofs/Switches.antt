@@ -3,11 +3,11 @@ use Rattle.std.proofs.Common.{◌≡◌, ℕ, zero, suc, ◌+◌, ◌<◌, ◌�
 use Rattle.std.specs.Prelude.{slice_get, slice_index_or, Some}
 use Rattle.std.specs.List.{flat_map, range_with_len}
 use Rattle.std.proofs.lemmas.List.{length-map}
-use Rattle.world_view.specs.Schedule.{entry_in}
+use Rattle.image_check.specs.Public.{entry_in}
 use Rattle.world_view.specs.Report.{count_of, largest_of, switch_text, switch_lines}
-use Rattle.tp_run.specs.declared.image.Entry.{Entry}
-use Rattle.tp_run.specs.declared.used.Used.{Used}
-use Rattle.tp_run.specs.ImageViews.{entry_view}
+use Rattle.image_check.specs.declared.public.Entry.{Entry}
+use Rattle.world_view.specs.declared.view.Used.{Used}
+use Rattle.image_check.specs.Views.{entry_view}
 use Rattle.tp_run.specs.Switches.{no_entry, used_in, switch_at, switches_text}
 
 -- what agrees at each number writes the same texts

@@ -1,11 +1,5 @@
-pub mod ImageViews
-pub mod Views
-pub mod Gives
 pub mod Words
 pub mod Pieces
 pub mod Switches
-pub mod Stands
-pub mod Moves
-pub mod Usage
-pub mod Worlds
 pub mod TopCall
+pub mod Accepting

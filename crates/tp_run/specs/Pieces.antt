@@ -1,11 +1,12 @@
 -- The texts of pieces.
 use Rattle.std.specs.Prelude.{ℕ, List, ◌++◌, decimal}
+use Rattle.std.specs.Fmt.{signed_decimal}
 use Rattle.world_view.specs.Texts.{h8, status_text, state_text, registers_text, reading_text, reply_text, log_text, bytes_text}
 use Rattle.tp_run.specs.declared.pieces.Part.{Part}
 use Rattle.tp_run.specs.declared.pieces.Part.TheVariants as part
 use Rattle.tp_run.specs.declared.pieces.Piece.{Piece}
-use Rattle.tp_run.specs.declared.pieces.Piece.TheVariants.{Text, Number, Hex, Status, State, Registers, Readings, Replies, Bytes}
-use Rattle.tp_run.specs.Views.{log_view}
+use Rattle.tp_run.specs.declared.pieces.Piece.TheVariants.{Text, Number, Signed, Hex, Status, State, Registers, Readings, Replies, Bytes}
+use Rattle.world_view.specs.Kept.{log_view}
 
 abbrev pub part_text : Part → List ℕ
 part_text (part.Text text) = text.now
@@ -15,6 +16,7 @@ part_text (part.Hex word) = h8 word
 abbrev pub piece_text : Piece → List ℕ
 piece_text (Text text) = text.now
 piece_text (Number n) = decimal n
+piece_text (Signed z) = signed_decimal z
 piece_text (Hex word) = h8 word
 piece_text (Status status) = status_text status
 piece_text (State state) = state_text state

@@ -2,8 +2,8 @@
 use Rattle.std.specs.Prelude.{ℕ, List, length, slice_index_or}
 use Rattle.std.specs.List.{flat_map, range_with_len}
 use Rattle.world_view.specs.Report.{switch_line}
-use Rattle.tp_run.specs.declared.image.Entry.{Entry}
-use Rattle.tp_run.specs.declared.used.Used.{Used}
+use Rattle.image_check.specs.declared.public.Entry.{Entry}
+use Rattle.world_view.specs.declared.view.Used.{Used}
 
 abbrev pub no_entry : Entry
 no_entry = record { domain = 0; length = 0; pad = 0 }

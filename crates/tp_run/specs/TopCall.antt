@@ -1,13 +1,14 @@
 -- What the top call answers, and what it does to its source and its sink.
-use Rattle.std.specs.Prelude.{◌≡◌, ◌≢◌, ℕ, ◌+◌, ◌≤◌, List, length, map, Option, Some, None, String, string_bytes}
+use Rattle.std.specs.Prelude.{◌≡◌, ◌≢◌, ℕ, ◌+◌, ◌≤◌, List, length, map, Option, Some, None, Ok, String, string_bytes}
 use Rattle.std.specs.Global.{Global}
 use Rattle.tp_io.specs.Bytes.{before_known, after_known, AtEnd, PutsFront}
 use Rattle.world_view.specs.declared.Command.TheVariants.{Run}
 use Rattle.world_view.specs.declared.status.Status.{Status}
 use Rattle.world_view.specs.declared.status.Status.TheVariants.{Done, Refused, ReadFault, WriteFault, Memory}
+use Rattle.image_check.specs.Public.{entry_in}
 use Rattle.world_view.specs.Image.{Image, own_of}
-use Rattle.world_view.specs.Reading.{most_bytes, image_within}
-use Rattle.world_view.specs.Schedule.{entry_in, start}
+use Rattle.world_view.specs.Reading.{most_bytes, image}
+use Rattle.world_view.specs.Schedule.{start}
 use Rattle.world_view.specs.Machine.{switch, whole}
 use Rattle.world_view.specs.View.{view_whole, view_alone}
 use Rattle.world_view.specs.Report.{largest_of, report_apart}
@@ -40,12 +41,11 @@ Writes Memory due old new = new ≡ old
 Writes WriteFault due old new = PutsFront old new due.1
 Writes status due old new = (status ≡ due.0) × (new ≡ after_known old due.1)
 
--- these are all bytes that the source gave, or one more than an image may have
-pub record ReadOut (left left' : Option (List ℕ)) : Type 0 where
+-- one byte more was taken than an image may have
+pub record IsOver (left left' : Option (List ℕ)) : Type 0 where
   pub bytes : List ℕ
   pub took : left ≡ before_known bytes left'
-  pub whole : length bytes ≤ most_bytes → AtEnd left'
-  pub few : length bytes ≤ most_bytes + 1
+  pub many : length bytes ≡ most_bytes + 1
 
 -- neither a read failed nor memory ran out: the source had these bytes, and the answer to them was due
 pub record Answered (words : List (List ℕ)) (status : Status) (left left' written written' : Option (List ℕ)) : Type 0 where
@@ -58,22 +58,23 @@ pub record Answered (words : List (List ℕ)) (status : Status) (left left' writ
 -- a run that was done: all that the source gave, the image that it is, and the number of slots
 pub record Ran (words : List (List ℕ)) (left left' : Option (List ℕ)) : Type 0 where
   pub bytes : List ℕ
-  pub image : Image
+  pub found : Image
   pub slots : ℕ
   pub took : left ≡ before_known bytes left'
   pub whole : AtEnd left'
+  pub few : length bytes ≤ most_bytes
   pub asked : command words ≡ Some (Run slots)
-  pub read : image_within bytes ≡ Some image
+  pub read : image bytes ≡ Ok found
 
 -- each section that was written is that of its domain alone
 pub record Isolated (words : List (List ℕ)) (left left' written written' : Option (List ℕ)) : Type 0 where
   pub ran : Ran words left left'
-  pub wrote : written' ≡ after_known written (report_apart ran.image ran.slots)
-  pub views : (d : ℕ) → IsDomain ran.image d → view_whole ran.image d ran.slots ≡ view_alone ran.image.all (own_of ran.image d) d ran.slots
+  pub wrote : written' ≡ after_known written (report_apart ran.found ran.slots)
+  pub views : (d : ℕ) → IsDomain ran.found d → view_whole ran.found d ran.slots ≡ view_alone ran.found.all (own_of ran.found d) d ran.slots
 
 -- no switch overran its pad, no switch line says more than its pad, and each slot began at exactly its start
 pub record Padded (words : List (List ℕ)) (left left' : Option (List ℕ)) : Type 0 where
   pub ran : Ran words left left'
-  pub used : AllWithinPads ran.image.all.schedule (whole ran.image ran.slots).used
-  pub lines : (e : ℕ) → largest_of e (whole ran.image ran.slots).used ≤ (entry_in ran.image.all.schedule e).pad
-  pub starts : (k : ℕ) → (switch ran.image k (whole ran.image k)).clock ≡ start ran.image.all.schedule k
+  pub used : AllWithinPads ran.found.all.schedule (whole ran.found ran.slots).used
+  pub lines : (e : ℕ) → largest_of e (whole ran.found ran.slots).used ≤ (entry_in ran.found.all.schedule e).pad
+  pub starts : (k : ℕ) → (switch ran.found k (whole ran.found k)).clock ≡ start ran.found.all.schedule k

@@ -1,16 +1,16 @@
 // Texts that are written piece by piece.
 ghost use Rattle.std.specs.Prelude.{◌≤◌, ◌*◌, ℕ, List, length, decimal};
+ghost use Rattle.std.specs.Fmt.{signed_decimal};
 ghost use Rattle.std.specs.List.{flat_map};
 ghost use Rattle.hex.specs.Hex.{encode_lower};
 ghost use Rattle.world_view.specs.Texts as spec;
 ghost use Rattle.tp_io.specs.Sends.{Sends};
 ghost use Rattle.tp_run.specs.Pieces.{after, part_text, piece_text};
-ghost use Rattle.tp_run.specs.Views.{log_view};
+ghost use Rattle.world_view.specs.Kept.{log_view};
 
-use crate::log::Log;
 use itoa::Buffer;
 use tp_io::{Failed, Sink, write_all_of};
-use world_view::{DomainStatus, Reply, ThreadState};
+use world_view::{DomainStatus, Log, Reply, ThreadState};
 
 // How many bytes are written in hexadecimal at once.
 const CHUNK: usize = 32;
@@ -21,6 +21,8 @@ pub enum Piece<'a> {
     Text(&'a str),
     /// In decimal.
     Number(u64),
+    /// In decimal, after a `-` where it is negative.
+    Signed(i64),
     /// In eight hexadecimal digits.
     Hex(u32),
     Status(DomainStatus),
@@ -46,7 +48,7 @@ trait WriteText {
     ghost text: { Self → List ℕ };
 
     fn write_text<K: Sink>(&self, out: &mut K) -> Result<(), Failed>
-        ensures { Sends (K.written out.old) (K.written out.new) (K.faults out.old) (K.faults out.new) result (text self.now) };
+        ensures { Sends (K.written out.old) (K.written out.new) (K.faults out.old) (K.faults out.new) (K.sure out.old) (K.sure out.new) result (text self.now) };
 }
 
 impl WriteText for Part<'_> {
@@ -68,6 +70,7 @@ impl WriteText for Piece<'_> {
         match *self {
             Piece::Text(text) => write_all_of(out, text.as_bytes()),
             Piece::Number(number) => write_number(out, number),
+            Piece::Signed(number) => write_signed(out, number),
             Piece::Hex(word) => write_word(out, word),
             Piece::Status(status) => write_status(out, status),
             Piece::State(state) => write_state(out, state),
@@ -107,20 +110,20 @@ impl WriteText for Reply {
 
 /// Writes the pieces one after another.
 pub fn write_pieces<K: Sink>(out: &mut K, pieces: &[Piece<'_>]) -> Result<(), Failed>
-    ensures { Sends (K.written out.old) (K.written out.new) (K.faults out.old) (K.faults out.new) result (flat_map piece_text pieces.now) }
+    ensures { Sends (K.written out.old) (K.written out.new) (K.faults out.old) (K.faults out.new) (K.sure out.old) (K.sure out.new) result (flat_map piece_text pieces.now) }
 {
     write_each(out, "", pieces)
 }
 
 fn write_parts<K: Sink>(out: &mut K, parts: &[Part<'_>]) -> Result<(), Failed>
-    ensures { Sends (K.written out.old) (K.written out.new) (K.faults out.old) (K.faults out.new) result (flat_map part_text parts.now) }
+    ensures { Sends (K.written out.old) (K.written out.new) (K.faults out.old) (K.faults out.new) (K.sure out.old) (K.sure out.new) result (flat_map part_text parts.now) }
 {
     write_each(out, "", parts)
 }
 
 // Writes the items in order, each after the same text.
 fn write_each<K: Sink, T: WriteText>(out: &mut K, before: &str, items: &[T]) -> Result<(), Failed>
-    ensures { Sends (K.written out.old) (K.written out.new) (K.faults out.old) (K.faults out.new) result (flat_map (after before.now T.text) items.now) }
+    ensures { Sends (K.written out.old) (K.written out.new) (K.faults out.old) (K.faults out.new) (K.sure out.old) (K.sure out.new) result (flat_map (after before.now T.text) items.now) }
 {
     for item in items {
         write_after(out, before, item)?;
@@ -129,22 +132,29 @@ fn write_each<K: Sink, T: WriteText>(out: &mut K, before: &str, items: &[T]) -> 
 }
 
 fn write_after<K: Sink, T: WriteText>(out: &mut K, before: &str, item: &T) -> Result<(), Failed>
-    ensures { Sends (K.written out.old) (K.written out.new) (K.faults out.old) (K.faults out.new) result (after before.now T.text item.now) }
+    ensures { Sends (K.written out.old) (K.written out.new) (K.faults out.old) (K.faults out.new) (K.sure out.old) (K.sure out.new) result (after before.now T.text item.now) }
 {
     write_all_of(out, before.as_bytes())?;
     item.write_text(out)
 }
 
 fn write_number<K: Sink>(out: &mut K, number: u64) -> Result<(), Failed>
-    ensures { Sends (K.written out.old) (K.written out.new) (K.faults out.old) (K.faults out.new) result (decimal number) }
+    ensures { Sends (K.written out.old) (K.written out.new) (K.faults out.old) (K.faults out.new) (K.sure out.old) (K.sure out.new) result (decimal number) }
 {
     let mut buffer = Buffer::new();
     write_all_of(out, buffer.format(number).as_bytes())
 }
 
+fn write_signed<K: Sink>(out: &mut K, number: i64) -> Result<(), Failed>
+    ensures { Sends (K.written out.old) (K.written out.new) (K.faults out.old) (K.faults out.new) (K.sure out.old) (K.sure out.new) result (signed_decimal number) }
+{
+    let mut digits = Buffer::new();
+    write_all_of(out, digits.format(number).as_bytes())
+}
+
 #[tactic(auto, unfolding(world_view::specs::Texts::h8))]
 fn write_word<K: Sink>(out: &mut K, word: u32) -> Result<(), Failed>
-    ensures { Sends (K.written out.old) (K.written out.new) (K.faults out.old) (K.faults out.new) result (spec.h8 word) }
+    ensures { Sends (K.written out.old) (K.written out.new) (K.faults out.old) (K.faults out.new) (K.sure out.old) (K.sure out.new) result (spec.h8 word) }
 {
     let mut digits = [0u8; 8];
     let bytes = word.to_be_bytes();
@@ -154,7 +164,7 @@ fn write_word<K: Sink>(out: &mut K, word: u32) -> Result<(), Failed>
 
 #[tactic(auto, unfolding(world_view::specs::Texts::status_text))]
 fn write_status<K: Sink>(out: &mut K, status: DomainStatus) -> Result<(), Failed>
-    ensures { Sends (K.written out.old) (K.written out.new) (K.faults out.old) (K.faults out.new) result (spec.status_text status) }
+    ensures { Sends (K.written out.old) (K.written out.new) (K.faults out.old) (K.faults out.new) (K.sure out.old) (K.sure out.new) result (spec.status_text status) }
 {
     match status {
         DomainStatus::Running => write_all_of(out, b"running"),
@@ -165,14 +175,14 @@ fn write_status<K: Sink>(out: &mut K, status: DomainStatus) -> Result<(), Failed
 
 #[tactic(auto, unfolding(world_view::specs::Texts::exited_text))]
 fn write_exited<K: Sink>(out: &mut K, code: u32) -> Result<(), Failed>
-    ensures { Sends (K.written out.old) (K.written out.new) (K.faults out.old) (K.faults out.new) result (spec.exited_text code) }
+    ensures { Sends (K.written out.old) (K.written out.new) (K.faults out.old) (K.faults out.new) (K.sure out.old) (K.sure out.new) result (spec.exited_text code) }
 {
     write_parts(out, &[Part::Text("exited "), Part::Number(u64::from(code))])
 }
 
 #[tactic(auto, unfolding(world_view::specs::Texts::stopped_text))]
 fn write_stopped<K: Sink>(out: &mut K, code: u8, pc: u32, value: u32) -> Result<(), Failed>
-    ensures { Sends (K.written out.old) (K.written out.new) (K.faults out.old) (K.faults out.new) result (spec.stopped_text code pc value) }
+    ensures { Sends (K.written out.old) (K.written out.new) (K.faults out.old) (K.faults out.new) (K.sure out.old) (K.sure out.new) result (spec.stopped_text code pc value) }
 {
     write_parts(
         out,
@@ -189,7 +199,7 @@ fn write_stopped<K: Sink>(out: &mut K, code: u8, pc: u32, value: u32) -> Result<
 
 #[tactic(auto, unfolding(world_view::specs::Texts::state_text))]
 fn write_state<K: Sink>(out: &mut K, state: ThreadState) -> Result<(), Failed>
-    ensures { Sends (K.written out.old) (K.written out.new) (K.faults out.old) (K.faults out.new) result (spec.state_text state) }
+    ensures { Sends (K.written out.old) (K.written out.new) (K.faults out.old) (K.faults out.new) (K.sure out.old) (K.sure out.new) result (spec.state_text state) }
 {
     match state {
         ThreadState::Ready => write_all_of(out, b"ready"),
@@ -199,7 +209,7 @@ fn write_state<K: Sink>(out: &mut K, state: ThreadState) -> Result<(), Failed>
 
 #[tactic(auto, unfolding(world_view::specs::Texts::registers_text))]
 fn write_registers<K: Sink>(out: &mut K, regs: &[u32]) -> Result<(), Failed>
-    ensures { Sends (K.written out.old) (K.written out.new) (K.faults out.old) (K.faults out.new) result (spec.registers_text regs.now) }
+    ensures { Sends (K.written out.old) (K.written out.new) (K.faults out.old) (K.faults out.new) (K.sure out.old) (K.sure out.new) result (spec.registers_text regs.now) }
 {
     for (x, word) in regs.iter().enumerate() {
         write_register(out, x, *word)?;
@@ -209,7 +219,7 @@ fn write_registers<K: Sink>(out: &mut K, regs: &[u32]) -> Result<(), Failed>
 
 #[tactic(auto, unfolding(world_view::specs::Texts::register_text))]
 fn write_register<K: Sink>(out: &mut K, x: usize, word: u32) -> Result<(), Failed>
-    ensures { Sends (K.written out.old) (K.written out.new) (K.faults out.old) (K.faults out.new) result (spec.register_text (x, word)) }
+    ensures { Sends (K.written out.old) (K.written out.new) (K.faults out.old) (K.faults out.new) (K.sure out.old) (K.sure out.new) result (spec.register_text (x, word)) }
 {
     if word == 0 {
         return Ok(());
@@ -228,7 +238,7 @@ fn write_register<K: Sink>(out: &mut K, x: usize, word: u32) -> Result<(), Faile
 // The count, and where there is any the last and the kept ones.
 #[tactic(auto, unfolding(world_view::specs::Texts::log_text, world_view::specs::Texts::spaced))]
 fn write_log<K: Sink, T: WriteText>(out: &mut K, log: &Log<T>) -> Result<(), Failed>
-    ensures { Sends (K.written out.old) (K.written out.new) (K.faults out.old) (K.faults out.new) result (spec.log_text T.text (log_view log.now)) }
+    ensures { Sends (K.written out.old) (K.written out.new) (K.faults out.old) (K.faults out.new) (K.sure out.old) (K.sure out.new) result (spec.log_text T.text (log_view log.now)) }
 {
     write_number(out, log.count)?;
     write_last(out, &log.last)?;
@@ -237,7 +247,7 @@ fn write_log<K: Sink, T: WriteText>(out: &mut K, log: &Log<T>) -> Result<(), Fai
 
 #[tactic(auto, unfolding(world_view::specs::Texts::last_text, world_view::specs::Texts::spaced))]
 fn write_last<K: Sink, T: WriteText>(out: &mut K, last: &Option<T>) -> Result<(), Failed>
-    ensures { Sends (K.written out.old) (K.written out.new) (K.faults out.old) (K.faults out.new) result (spec.last_text T.text last.now) }
+    ensures { Sends (K.written out.old) (K.written out.new) (K.faults out.old) (K.faults out.new) (K.sure out.old) (K.sure out.new) result (spec.last_text T.text last.now) }
 {
     match last {
         Some(item) => write_last_item(out, item),
@@ -247,7 +257,7 @@ fn write_last<K: Sink, T: WriteText>(out: &mut K, last: &Option<T>) -> Result<()
 
 #[tactic(auto, unfolding(world_view::specs::Texts::last_text, world_view::specs::Texts::spaced))]
 fn write_last_item<K: Sink, T: WriteText>(out: &mut K, item: &T) -> Result<(), Failed>
-    ensures { Sends (K.written out.old) (K.written out.new) (K.faults out.old) (K.faults out.new) result (spec.last_text T.text (Some item.now)) }
+    ensures { Sends (K.written out.old) (K.written out.new) (K.faults out.old) (K.faults out.new) (K.sure out.old) (K.sure out.new) result (spec.last_text T.text (Some item.now)) }
 {
     write_after(out, " last ", item)?;
     write_all_of(out, b" list")
@@ -255,7 +265,7 @@ fn write_last_item<K: Sink, T: WriteText>(out: &mut K, item: &T) -> Result<(), F
 
 #[tactic(auto, unfolding(world_view::specs::Texts::bytes_text))]
 fn write_bytes<K: Sink>(out: &mut K, bytes: &[u8]) -> Result<(), Failed>
-    ensures { Sends (K.written out.old) (K.written out.new) (K.faults out.old) (K.faults out.new) result (spec.bytes_text bytes.now) }
+    ensures { Sends (K.written out.old) (K.written out.new) (K.faults out.old) (K.faults out.new) (K.sure out.old) (K.sure out.new) result (spec.bytes_text bytes.now) }
 {
     if bytes.is_empty() {
         return Ok(());
@@ -266,7 +276,7 @@ fn write_bytes<K: Sink>(out: &mut K, bytes: &[u8]) -> Result<(), Failed>
 
 // Writes bytes in hexadecimal.
 fn write_digits<K: Sink>(out: &mut K, bytes: &[u8]) -> Result<(), Failed>
-    ensures { Sends (K.written out.old) (K.written out.new) (K.faults out.old) (K.faults out.new) result (encode_lower bytes.now) }
+    ensures { Sends (K.written out.old) (K.written out.new) (K.faults out.old) (K.faults out.new) (K.sure out.old) (K.sure out.new) result (encode_lower bytes.now) }
 {
     let mut sent = 0;
     while sent < bytes.len() {
@@ -279,7 +289,7 @@ fn write_digits<K: Sink>(out: &mut K, bytes: &[u8]) -> Result<(), Failed>
 
 fn write_chunk<K: Sink>(out: &mut K, bytes: &[u8]) -> Result<(), Failed>
     requires { length bytes.now ≤ CHUNK }
-    ensures { Sends (K.written out.old) (K.written out.new) (K.faults out.old) (K.faults out.new) result (encode_lower bytes.now) }
+    ensures { Sends (K.written out.old) (K.written out.new) (K.faults out.old) (K.faults out.new) (K.sure out.old) (K.sure out.new) result (encode_lower bytes.now) }
 {
     let mut buffer = [0u8; 2 * CHUNK];
     let digits = &mut buffer[..2 * bytes.len()];

@@ -1,49 +1,77 @@
 // The words of the command line.
-ghost use Rattle.std.specs.Prelude.{◌≡◌, ◌≤◌, IfSome, length, map, string_bytes};
-ghost use Rattle.world_view.specs.Answer as spec;
+ghost use Rattle.std.specs.Prelude.{◌≡◌, ◌≤◌, IfOk, IfSome, false, map, string_bytes};
+ghost use Rattle.clap.specs.Words.{app_of, found_of, rows_of, subcommand_rows_of};
+ghost use Rattle.clap.specs.declared.builder.command.Command.TheViews.{out-Command};
+ghost use Rattle.world_view.specs.Answer as answer_spec;
+ghost use Rattle.world_view.specs.Words as spec;
 ghost use Rattle.tp_run.specs.Words.{RunsFewSlots};
 
+use clap::error::ErrorKind;
+use clap::{Arg, ArgAction, ArgMatches};
+use std::alloc::{AllocError, Global};
+use tp_base::Memory;
 use world_view::Command;
 
-/// What the words ask for: `None` where they are no command.
-pub fn command(words: &[String]) -> Option<Command>
-    ensures value { result ≡ spec.command (map (λ w. string_bytes w) words.now) }
-    ensures range { IfSome result RunsFewSlots }
+/// What the words ask for, the first being the program's name: `None` exactly
+/// where clap finds a fault in them. `Err` is for want of memory alone.
+pub fn command(alloc: Global, words: &[String]) -> Result<Option<Command>, Memory>
+    ensures value { IfOk result (λ asked. asked ≡ answer_spec.command (map (λ w. string_bytes w) words.now)) }
+    ensures range { IfOk result (λ asked. IfSome asked RunsFewSlots) }
 {
-    let [_, verb, option, number] = words else {
-        return None;
-    };
-    if verb.as_str() != "run" || option.as_str() != "--slots" {
-        return None;
+    let command = tp_command(alloc)?;
+    match command.try_get_matches_from(words) {
+        Ok(matches) => Ok(Some(asked(&matches))),
+        Err(error) => match error.kind() {
+            ErrorKind::OutOfMemory => Err(Memory),
+            _ => Ok(None),
+        },
     }
-    let slots = slots_of(number.as_bytes())?;
-    Some(Command::Run { slots })
 }
 
-/// A number of slots, at most 65,536, in one to five decimal digits.
-#[tactic(auto, unfolding(world_view::specs::Answer::slots_of))]
-fn slots_of(text: &[u8]) -> Option<u32>
-    ensures value { result ≡ spec.slots_of text.now }
+// The program's command, with its subcommands.
+fn tp_command<'a>(alloc: Global) -> Result<clap::Command<'a>, AllocError>
+    ensures app { IfOk result (λ c. app_of c ≡ spec.tp_app) }
+{
+    let run = run_command(alloc)?;
+    clap::Command::new(alloc, "tp")
+        .subcommand_required(true)
+        .subcommand(run)
+}
+
+fn run_command<'a>(alloc: Global) -> Result<clap::Command<'a>, AllocError>
+    ensures app { IfOk result (λ c. app_of c ≡ spec.run_app) }
+    ensures local { IfOk result (λ c. (out-Command c).has_globals ≡ false) }
+{
+    let slots = Arg::new(alloc, "slots")
+        .long("slots")
+        .action(ArgAction::Set)
+        .required(true)
+        .value_parser(clap::value_parser!(u32).range(0..=65536));
+    clap::Command::new(alloc, "run").arg(slots)
+}
+
+// What the matches ask for. There is no match without a subcommand and its
+// options, so the zeros are never asked for.
+fn asked(matches: &ArgMatches<'_>) -> Command
+    ensures value { result ≡ spec.asked_for (subcommand_rows_of matches.now) }
+    ensures range { RunsFewSlots result }
+{
+    match matches.subcommand() {
+        Some((_, found)) => Command::Run {
+            slots: slots_in(found).unwrap_or(0),
+        },
+        None => Command::Run { slots: 0 },
+    }
+}
+
+// The value of `--slots`. Its parser let at most 65,536 through already.
+#[tactic(auto, unfolding(world_view::specs::Words::slots_in))]
+fn slots_in(found: &ArgMatches<'_>) -> Option<u32>
+    ensures value { result ≡ spec.slots_in (rows_of (found_of found.now)) }
     ensures range { IfSome result (λ n. n ≤ 65536) }
 {
-    if text.is_empty() || text.len() > 5 {
-        return None;
-    }
-    number_of(text).filter(|number| *number <= 65536)
-}
-
-fn number_of(text: &[u8]) -> Option<u32>
-    requires few_digits { length text.now ≤ 5 }
-    ensures value { result ≡ spec.digits_from 0 text.now }
-{
-    let mut number = 0u32;
-    for &c in text {
-        if !c.is_ascii_digit() {
-            return None;
-        }
-        number = 10 * number + u32::from(c - b'0');
-    }
-    Some(number)
+    let slots = found.get_one::<u32>("slots")?;
+    (slots <= 65536).then_some(slots)
 }
 
 #[cfg(test)]

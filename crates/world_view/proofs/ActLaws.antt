@@ -1,8 +1,6 @@
 -- Actions of a domain from memories that are beside: one law of `>>=`, one of each primitive, and one line for each definition.
-use Rattle.std.proofs.Common.{◌≡◌, ℕ, Bool, true, false, cond, eqb, ◌||◌, ◌/◌, ◌⊎◌, List, [], ◌∷◌, ◌++◌, Option, Some, None, ap, ap₂, refl, sym, ◌∙◌, subst, IsTrue, inl, inr, eq-eqb, true≢false, mod-lt, lit<}
-use Rattle.std.specs.List.{list_any}
+use Rattle.std.proofs.Common.{◌≡◌, ℕ, Bool, true, false, cond, eqb, ◌/◌, ◌⊎◌, List, [], ◌∷◌, ◌++◌, Option, Some, None, ap, ap₂, refl, sym, ◌∙◌, subst, IsTrue, inl, inr, true≢false, mod-lt, lit<}
 use Rattle.std.proofs.Math.Arith.{digits_div}
-use Rattle.std.proofs.lemmas.Option.{none-some, same_Some}
 use Rattle.tp_base.specs.Table.{empty, at, put, at-put}
 use Rattle.tp_base.specs.Act.{Done, go_on, ◌>>=◌, ◌>>◌, give, stop, note}
 use Rattle.phys_mem.specs.Mem.{Mem, Frame, frame_at, word, written, frame_at-written_other}
@@ -13,13 +11,16 @@ use Rattle.rv_core.specs.Effect.{Outcome}
 use Rattle.rv_core.specs.declared.Store.{Store as StoreMade}
 use Rattle.rv_core.specs.declared.Trap.{Trap}
 use Rattle.world_view.specs.declared.Access.{Access}
-use Rattle.world_view.specs.Image.{Hardware, Page, Own, own_frame}
+use Rattle.image_check.specs.Public.{Hardware}
+use Rattle.image_check.specs.Own.{Own}
+use Rattle.world_view.specs.Image.{own_frame}
 use Rattle.world_view.specs.Domain.{Dom}
 use Rattle.world_view.specs.Instruction.{stopped, trapped}
 use Rattle.world_view.specs.Reach.{Touch}
 use Rattle.world_view.specs.Reach.Touch.{Fetch, Load, Store as StoreTouch}
-use Rattle.world_view.specs.Event.{Store, Act, permits, page_fault, page_in, permitted, touch, frame_for, or_stop, translate, address_in, read, write, unless, load, store, loaded, settle, execute, perform, instruction}
+use Rattle.world_view.specs.Event.{Store, Act, Page, permits, page_fault, page_in, permitted, touch, frame_for, or_stop, translate, address_in, read, write, unless, load, store, loaded, settle, execute, perform, instruction}
 use Rattle.world_view.specs.Laws.{May, MayAll, BesideStore}
+use Rattle.world_view.proofs.Lookups.{own_page}
 
 pub may_append : (p : Hardware) (o : Own) (ts us : List Touch) → MayAll p o ts → MayAll p o us → MayAll p o (ts ++ us)
 may_append p o [] us h k = k
@@ -29,17 +30,6 @@ may_append p o (t ∷ ts) us h k = (h.0, may_append p o ts us h.1 k)
 abbrev pub Known : {A : Type 0} → (A → Type 0) → Dom ⊎ A → Type 0
 Known P (inl d) = Unit {0}
 Known P (inr a) = P a
-
-or_right : (a b : Bool) → IsTrue b → IsTrue (a || b)
-or_right true b h = refl
-or_right false b h = h
-
-own_page_if : (q : Page) (pages : List Page) (n : ℕ) (page : Page) (b : Bool) → cond b (Some q) (page_in pages n) ≡ Some page
-    → (page_in pages n ≡ Some page → IsTrue (list_any (λ r. eqb r.frame page.frame) pages)) → IsTrue (list_any (λ r. eqb r.frame page.frame) (q ∷ pages))
-own_page_if q pages n page true h rest =
-    let same : q ≡ page = same_Some q page h in
-    rw (eq-eqb q.frame page.frame (ap (λ (x : Page). x.frame) same)) refl
-own_page_if q pages n page false h rest = or_right (eqb q.frame page.frame) _ (rest h)
 
 module _ (p : Hardware) (o : Own) (first : Store) where
   -- the same touches, all of them allowed, memories that are beside, and the same value, which meets P
@@ -105,12 +95,6 @@ module _ (p : Hardware) (o : Own) (first : Store) where
   known_if d true f own = own
   known_if d false f own = tt
 
-  -- the page of an address is one's own
-  own_page : (pages : List Page) (n : ℕ) (page : Page) → page_in pages n ≡ Some page → IsTrue (list_any (λ q. eqb q.frame page.frame) pages)
-  unfolding page_in
-  own_page [] n page h = absurd (none-some page h)
-  own_page (q ∷ pages) n page h = own_page_if q pages n page (eqb q.number n) h (own_page pages n page)
-
   known_permitted : (d : Dom) (a : Access) (found : Option Page) → ((page : Page) → found ≡ Some page → Mine page.frame) → Known Mine (or_stop d (permitted a found))
   unfolding or_stop permitted
   known_permitted d a None own = tt
@@ -124,7 +108,7 @@ module _ (p : Hardware) (o : Own) (first : Store) where
       may = tt;
       state = b;
       value = refl;
-      known = known_permitted (stopped (page_fault a) va d) a (page_in o.pages (va / 4096)) (own_page o.pages (va / 4096));
+      known = known_permitted (stopped (page_fault a) va d) a (page_in o.first_frame o.segments (va / 4096)) (own_page p o (va / 4096));
     };
   }
 

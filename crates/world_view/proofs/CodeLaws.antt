@@ -1,7 +1,8 @@
 -- What code that runs the machine wants to know of its definitions.
-use Rattle.std.proofs.Common.{◌≡◌, ◌≢◌, ℕ, zero, suc, ◌+◌, ◌-◌, ◌*◌, ◌/◌, ◌<◌, ◌≤◌, max, Bool, true, false, cond, eqb, ◌||◌, List, [], ◌∷◌, ◌++◌, length, filter, Option, Some, None, inl, inr, refl, sym, ap, ◌∙◌, arith, add-zero, eq-eqb, ne_eqb, IsTrue}
-use Rattle.std.specs.List.{range_with_len, sum_by, list_any}
-use Rattle.std.proofs.lemmas.Bool.{cases_Bool, cases_eq, cases_lt}
+use Rattle.std.proofs.Common.{◌≡◌, ◌≢◌, ℕ, zero, suc, ◌+◌, ◌-◌, ◌*◌, ◌/◌, ◌<◌, ◌≤◌, max, Bool, true, false, cond, eqb, ◌&&◌, nat_le, nat_lt, List, [], ◌∷◌, ◌++◌, length, filter, Option, Some, None, inl, inr, refl, sym, ap, ◌∙◌, subst, arith, add-zero, eq-eqb, ne_eqb, IsTrue}
+use Rattle.std.specs.List.{range_with_len, sum_by}
+use Rattle.std.proofs.lemmas.Bool.{cases_Bool, cases_eq, cases_lt, le-leb, lt-ltb, lt-leb, le-ltb}
+use Rattle.std.proofs.Math.Bool.{and-false}
 use Rattle.std.proofs.lemmas.List.{get_or_past}
 use Rattle.std.proofs.lemmas.List.Sums.{sum_by-append}
 use Rattle.std.proofs.lemmas.Option.{none-some, same_Some}
@@ -12,16 +13,20 @@ use Rattle.rv_decode.specs.declared.Instr.{Instr}
 use Rattle.rv_decode.specs.declared.Instr.TheVariants as instr
 use Rattle.rv_decode.specs.declared.Counter.{Counter}
 use Rattle.world_view.specs.declared.Access.{Access}
-use Rattle.world_view.specs.Image.{Hardware, Page, Own, Image, own_of, own_frame}
+use Rattle.image_check.specs.Public.{Hardware}
+use Rattle.image_check.specs.Own.{Own}
+use Rattle.world_view.specs.Image.{Image, own_of, own_frame, pages_in}
 use Rattle.world_view.specs.Schedule.{entry_of_slot, switch_entry, start, slot_end, ended, outgoing}
 use Rattle.world_view.specs.Opening.{word_of, tabled, page_frame}
 use Rattle.world_view.specs.Domain.{Dom, opening_dom, no_dom, is_running}
 use Rattle.world_view.specs.Instruction.{stopped}
 use Rattle.world_view.specs.Reach.{Touch, Caches, reach, and_then, reach_all}
-use Rattle.world_view.specs.Event.{Store, Act, permits, page_fault, page_in, permitted, frame_for, or_stop, translate, loaded, noted, execute, perform, instruction, event}
+use Rattle.world_view.specs.Event.{Store, Act, Page, permits, page_fault, page_in, permitted, frame_for, or_stop, translate, loaded, noted, execute, perform, instruction, event}
 use Rattle.world_view.specs.Machine.{Local, paid, happened, step, stretch, World, dom_of, part_of, with_part, switch, run_slot, whole}
 use Rattle.world_view.specs.View.{pool}
-use Rattle.world_view.specs.Laws.{Runnable, IsDomain}
+use Rattle.world_view.specs.Laws.{IsDomain}
+use Rattle.world_view.proofs.Separate.{Separated}
+use Rattle.world_view.proofs.Lookups.{own_page}
 use Rattle.world_view.proofs.OpeningLaws.{opening_dom_is}
 use Rattle.world_view.proofs.TimeLaws.{switch_free}
 use Rattle.world_view.specs.Report.{largest_of, count_of}
@@ -67,18 +72,6 @@ word-placed_other m f g i bytes other = ap (λ (x : Frame). at 0 x i) (at-put_ot
 
 -- ---- pages
 
-pub page_in-here : (page : Page) (pages : List Page) (n : ℕ) → page.number ≡ n → page_in (page ∷ pages) n ≡ Some page
-unfolding page_in
-page_in-here page pages n e = rw (eq-eqb page.number n e)
-
-pub page_in-there : (page : Page) (pages : List Page) (n : ℕ) → page.number ≢ n → page_in (page ∷ pages) n ≡ page_in pages n
-unfolding page_in
-page_in-there page pages n other = rw (ne_eqb page.number n other)
-
-pub page_in-none : (n : ℕ) → page_in [] n ≡ None
-unfolding page_in
-page_in-none n = refl
-
 pub permitted-page : (a : Access) (page : Page) → permitted a (Some page) ≡ cond (permits page.rights a) (Some page.frame) None
 unfolding permitted
 permitted-page a page = refl
@@ -87,36 +80,19 @@ pub permitted-none : (a : Access) → permitted a None ≡ None
 unfolding permitted
 permitted-none a = refl
 
-or_here : (a b : Bool) → a ≡ true → IsTrue (a || b)
-or_here true b h = refl
-or_here false b h = absurd (cc)
+permitted_some : (a : Access) (page : Page) (f : ℕ) (b : Bool) → cond b (Some page.frame) None ≡ Some f → page.frame ≡ f
+permitted_some a page f true e = same_Some page.frame f e
+permitted_some a page f false e = absurd (none-some f e)
 
-or_there : (a b : Bool) → IsTrue b → IsTrue (a || b)
-or_there true b h = refl
-or_there false b h = h
-
-abbrev HasFrame : List Page → ℕ → Type 0
-HasFrame pages f = IsTrue (list_any (λ page. eqb page.frame f) pages)
-
-frame_if : (page : Page) (a : Access) (f : ℕ) (b : Bool) → cond b (Some page.frame) None ≡ Some f → page.frame ≡ f
-frame_if page a f true e = same_Some page.frame f e
-frame_if page a f false e = absurd (none-some f e)
-
-permitted_own : (page : Page) (pages : List Page) (a : Access) (n f : ℕ) (b : Bool) → permitted a (cond b (Some page) (page_in pages n)) ≡ Some f
-    → (permitted a (page_in pages n) ≡ Some f → HasFrame pages f) → HasFrame (page ∷ pages) f
+frame_of_page : (p : Hardware) (o : Own) (a : Access) (n f : ℕ) (v : Option Page) → page_in o.first_frame o.segments n ≡ v → permitted a v ≡ Some f → IsTrue (own_frame p o f)
 unfolding permitted
-permitted_own page pages a n f true e rest = or_here (eqb page.frame f) _ (eq-eqb page.frame f (frame_if page a f (permits page.rights a) e))
-permitted_own page pages a n f false e rest = or_there (eqb page.frame f) _ (rest e)
-
-frame_of_own : (pages : List Page) (a : Access) (n f : ℕ) → permitted a (page_in pages n) ≡ Some f → HasFrame pages f
-unfolding page_in permitted
-frame_of_own [] a n f e = absurd (none-some f e)
-frame_of_own (page ∷ pages) a n f e = permitted_own page pages a n f (eqb page.number n) e (frame_of_own pages a n f)
+frame_of_page p o a n f None found e = absurd (none-some f e)
+frame_of_page p o a n f (Some page) found e = rw (sym (permitted_some a page f (permits page.rights a) e)) (own_page p o n page found)
 
 -- an address's frame is one of the domain's
 pub frame_for-own : (p : Hardware) (o : Own) (a : Access) (va f : ℕ) → frame_for o a va ≡ Some f → IsTrue (own_frame p o f)
 unfolding frame_for
-frame_for-own p o a va f e = frame_of_own o.pages a (va / 4096) f e
+frame_for-own p o a va f e = frame_of_page p o a (va / 4096) f (page_in o.first_frame o.segments (va / 4096)) refl e
 
 -- ---- steps of a domain, by what they end with and what they leave
 
@@ -265,45 +241,41 @@ whole-suc i k = refl
 
 -- ---- the opening
 
-pub whole_first-dom : (i : Image) (d : ℕ) → Runnable i → IsDomain i d → dom_of (whole i 0) d ≡ opening_dom (own_of i d)
+pub whole_first-dom : (i : Image) (d : ℕ) → Separated i → IsDomain i d → dom_of (whole i 0) d ≡ opening_dom (own_of i d)
 unfolding whole
 whole_first-dom i d r is = opening_dom_is i r d is
 
--- ---- a domain's pool is its frame
+-- ---- a domain's pool is its frames, from the first on
 
-none_below : (f a n : ℕ) → f < a → filter (λ x. eqb x f) (range_with_len a n) ≡ []
-none_below f a zero h = refl
-none_below f a (suc n) h =
-    let other : eqb a f ≡ false = ne_eqb a f (omega arith) in
-    rw other (none_below f (a + 1) n (omega arith))
+none_past : (b a n : ℕ) → b ≤ a → (low : ℕ) → filter (λ x. nat_le low x && nat_lt x b) (range_with_len a n) ≡ []
+none_past b a zero past low = refl
+none_past b a (suc n) past low =
+    let out : nat_lt a b ≡ false = le-ltb a b past in
+    rw (out, and-false (nat_le low a)) (none_past b (a + 1) n (omega arith) low)
 
-only_one : (f a n : ℕ) → a ≤ f → f < a + n → filter (λ x. eqb x f) (range_with_len a n) ≡ f ∷ []
-only_one f a zero low high = absurd (omega arith)
-only_one f a (suc n) low high =
-    elim (cases_eq a f) [
-      | inl same ↦
-          let here : eqb a f ≡ true = eq-eqb a f same in
-          rw (here, none_below f (a + 1) n (omega arith)) (ap (λ x. x ∷ []) same)
+all_between : (low n a m : ℕ) → low ≤ a → n ≤ m → filter (λ x. nat_le low x && nat_lt x (a + n)) (range_with_len a m) ≡ range_with_len a n
+all_between low zero a m past few = none_past (a + 0) a m (omega arith) low
+all_between low (suc n) a zero past few = absurd (omega arith)
+all_between low (suc n) a (suc m) past few =
+    let here : nat_le low a ≡ true = le-leb low a past in
+    let below : nat_lt a (a + suc n) ≡ true = lt-ltb a (a + suc n) (omega arith) in
+    rw (here, below) (ap (λ xs. a ∷ xs) (subst (λ (b : ℕ). filter (λ x. nat_le low x && nat_lt x b) (range_with_len (a + 1) m) ≡ range_with_len (a + 1) n) (omega arith) (all_between low n (a + 1) m (omega arith) (omega arith))))
+
+between : (low n a m : ℕ) → a ≤ low → low + n ≤ a + m → filter (λ x. nat_le low x && nat_lt x (low + n)) (range_with_len a m) ≡ range_with_len low n
+between low zero a zero before few = refl
+between low (suc n) a zero before few = absurd (omega arith)
+between low n a (suc m) before few =
+    elim (cases_eq a low) [
+      | inl same ↦ subst (λ (x : ℕ). filter (λ y. nat_le low y && nat_lt y (low + n)) (range_with_len x (suc m)) ≡ range_with_len low n) (sym same) (all_between low n low (suc m) (omega arith) (omega arith))
       | inr other ↦
-          let there : eqb a f ≡ false = ne_eqb a f other in
-          rw there (only_one f (a + 1) n (omega (arith, other)) (omega arith))
+          let out : nat_le low a ≡ false = lt-leb low a (omega (arith, other)) in
+          rw out (between low n (a + 1) m (omega (arith, other)) (omega arith))
     ]
 
-or_false : (b : Bool) → (b || false) ≡ b
-or_false true = refl
-or_false false = refl
-
-same_filter : (f a n : ℕ) → filter (λ x. eqb f x || false) (range_with_len a n) ≡ filter (λ x. eqb x f) (range_with_len a n)
-same_filter f a zero = refl
-same_filter f a (suc n) =
-    elim (cases_eq a f) [
-      | inl same ↦ rw (eq-eqb a f same, eq-eqb f a (sym same)) (ap (λ xs. a ∷ xs) (same_filter f (a + 1) n))
-      | inr other ↦ rw (ne_eqb a f other, ne_eqb f a (λ e. other (sym e))) (same_filter f (a + 1) n)
-    ]
-
-pub pool-one : (p : Hardware) (o : Own) (page : Page) → o.pages ≡ page ∷ [] → page.frame < p.frames → pool p o ≡ page.frame ∷ []
+-- where memory has them all
+pub pool-frames : (p : Hardware) (o : Own) → o.first_frame + pages_in o.segments ≤ p.frames → pool p o ≡ range_with_len o.first_frame (pages_in o.segments)
 unfolding pool
-pool-one p o page one h = rw one (same_filter page.frame 0 p.frames ∙ only_one page.frame 0 p.frames (omega arith) (omega arith))
+pool-frames p o held = between o.first_frame (pages_in o.segments) 0 p.frames (omega arith) (omega arith)
 
 -- ---- what switches took, with one more
 

@@ -1,4 +1,6 @@
 pub mod Fuel
+pub mod Separate
+pub mod Lookups
 pub mod ReachLaws
 pub mod ActLaws
 pub mod StepLaws
@@ -7,5 +9,8 @@ pub mod OpeningLaws
 pub mod SwitchLaws
 pub mod WholeLaws
 pub mod ReportLaws
-pub mod ReadingLaws
 pub mod CodeLaws
+pub mod Logs
+pub mod Pools
+pub mod ReadingLaws
+pub mod WordsLaws

@@ -1,6 +1,7 @@
 -- Touches from caches that are beside.
 use Rattle.std.proofs.Common.{◌≡◌, Bool, true, false, ◌+◌, List, [], ◌∷◌, refl, ap₂, arith}
-use Rattle.world_view.specs.Image.{Hardware, Own}
+use Rattle.image_check.specs.Public.{Hardware}
+use Rattle.image_check.specs.Own.{Own}
 use Rattle.world_view.specs.Reach.{Touch, Caches, reach, and_then, reach_all}
 use Rattle.world_view.specs.Laws.{May, MayAll, BesideCaches, BesideReached}
 

@@ -1,13 +1,14 @@
 -- The report of the whole machine, and the sections of each domain alone.
 use Rattle.std.proofs.Common.{◌≡◌, ℕ, Bool, true, false, cond, eqb, zero, suc, ◌+◌, ◌<◌, ◌≤◌, max, List, [], ◌∷◌, ◌++◌, length, ap, ap₂, refl, subst, arith, eqb-true}
 use Rattle.std.specs.List.{concat, flat_map, range_with_len}
-use Rattle.world_view.specs.Image.{Entry, Image, own_of}
-use Rattle.world_view.specs.Schedule.{entry_in}
+use Rattle.image_check.specs.Public.{Entry, entry_in}
+use Rattle.world_view.specs.Image.{Image, own_of}
 use Rattle.world_view.specs.Machine.{whole}
 use Rattle.world_view.specs.View.{view_whole, view_alone}
 use Rattle.world_view.specs.Texts.{section}
 use Rattle.world_view.specs.Report.{largest_of, section_of, sections, switch_lines, end_text, report_with, report, report_apart}
-use Rattle.world_view.specs.Laws.{IsDomain, Runnable, AllWithinPads}
+use Rattle.world_view.specs.Laws.{IsDomain, AllWithinPads}
+use Rattle.world_view.proofs.Separate.{Separated}
 use Rattle.world_view.proofs.WholeLaws.{isolated}
 
 -- texts of numbers in turn are the same where each is
@@ -15,11 +16,11 @@ same_texts : (f g : ℕ → List ℕ) (a n : ℕ) → ((x : ℕ) → x < a + n �
 same_texts f g a zero same = refl
 same_texts f g a (suc n) same = ap₂ (λ x y. x ++ y) (same a (omega arith)) (same_texts f g (a + 1) n (λ x h. same x (omega arith)))
 
-section_same : (i : Image) (n d : ℕ) → Runnable i → IsDomain i d → section_of i (λ e. view_whole i e n) d ≡ section_of i (λ e. view_alone i.all (own_of i e) e n) d
+section_same : (i : Image) (n d : ℕ) → Separated i → IsDomain i d → section_of i (λ e. view_whole i e n) d ≡ section_of i (λ e. view_alone i.all (own_of i e) e n) d
 unfolding section_of
 section_same i n d r is = ap (section d (own_of i d).name) (isolated i d n r is)
 
-pub reported_apart : (i : Image) (n : ℕ) → Runnable i → report i n ≡ report_apart i n
+pub reported_apart : (i : Image) (n : ℕ) → Separated i → report i n ≡ report_apart i n
 unfolding report report_apart report_with sections
 reported_apart i n r =
     let whole_section = section_of i (λ d. view_whole i d n) in

@@ -1,20 +1,22 @@
 -- What one event and one phase do to a domain, its own or another's.
 use Rattle.std.proofs.Common.{◌≡◌, ◌≢◌, ℕ, true, false, ap, sym, refl, subst}
-use Rattle.world_view.specs.Image.{Own, Image, own_of}
+use Rattle.image_check.specs.Own.{Own}
+use Rattle.world_view.specs.Image.{Image, own_of}
 use Rattle.world_view.specs.Schedule.{entry_of_slot, outgoing}
 use Rattle.world_view.specs.Reach.{Caches, fresh_core, and_then}
 use Rattle.world_view.specs.Machine.{Local, World, step, enter_touches, leave_part, prefetch_part, flush_part, enter_part, switch_work, part_of, switch, alone_enter, alone_out}
-use Rattle.world_view.specs.Laws.{IsDomain, Runnable, SameFrames, BesideStore, BesideReached, Within, Apiece, Untouched, InTime, MayAll}
+use Rattle.world_view.specs.Laws.{IsDomain, SameFrames, BesideStore, BesideReached, Within, Apiece, Untouched, InTime, MayAll}
+use Rattle.world_view.proofs.Separate.{Separated}
 use Rattle.world_view.proofs.ReachLaws.{reach_all_near}
 use Rattle.world_view.proofs.StepLaws.{step_near, beside_itself}
 use Rattle.world_view.proofs.TimeLaws.{switch_on_time}
 
 -- what another domain did to its own frames alone
-pub others_frames : (i : Image) (d e : ℕ) → Runnable i → IsDomain i d → IsDomain i e → d ≢ e → (later s a : Local)
+pub others_frames : (i : Image) (d e : ℕ) → Separated i → IsDomain i d → IsDomain i e → d ≢ e → (later s a : Local)
     → BesideStore i.all.hardware (own_of i e) s.store later.store a.store → SameFrames i.all.hardware (own_of i d) later.store.mem s.store.mem
 others_frames i d e r is ie ne later s a b f own = b.outside f (r.apart e d ie is (λ q. ne (sym q)) f own)
 
-pub others_step : (i : Image) (d e end : ℕ) (s : Local) → Runnable i → IsDomain i d → IsDomain i e → d ≢ e
+pub others_step : (i : Image) (d e end : ℕ) (s : Local) → Separated i → IsDomain i d → IsDomain i e → d ≢ e
     → Untouched i.all.hardware (own_of i d) (step i.all.hardware (own_of i e) false end s) s
 others_step i d e end s r is ie ne =
     let p = i.all.hardware in
@@ -38,7 +40,7 @@ module _ (i : Image) (k d : ℕ) (w : World) (a : Local) where
   entered o c l may =
       reach_all_near i.all.hardware o c (enter_touches i.all.hardware o) (flush_part i.all.hardware c).caches (record l { core = fresh_core i.all.hardware }) may (record { core = refl; same = tt; resident = tt })
 
-module _ (i : Image) (k : ℕ) (r : Runnable i) (w : World) (time : InTime i k w) where
+module _ (i : Image) (k : ℕ) (r : Separated i) (w : World) (time : InTime i k w) where
   enter_core : (o : Own) (a : Local) → o ≡ own_of i (entry_of_slot i.all.schedule k).domain → (switch i k w).caches.core ≡ (alone_enter i.all o k a).caches.core
   unfolding switch switch_work and_then alone_enter
   enter_core o a same =

@@ -1,14 +1,17 @@
 -- When slots end and begin.
 use Rattle.std.proofs.Common.{◌≡◌, ℕ, Bool, true, false, cond, ltb, zero, suc, ◌+◌, ◌-◌, ◌<◌, ◌≤◌, List, [], ◌∷◌, ◌++◌, Option, Some, None, refl, arith, ltb-true}
 use Rattle.std.proofs.lemmas.Bool.Decides.{nat_tests}
-use Rattle.world_view.specs.Image.{Hardware, Entry, Own, Image, own_of}
+use Rattle.image_check.specs.Public.{Hardware, Entry}
+use Rattle.image_check.specs.Own.{Own}
+use Rattle.world_view.specs.Image.{Image, own_of}
 use Rattle.world_view.specs.Schedule.{entry_of_slot, pad_of, start, slot_end, ended, outgoing}
 use Rattle.world_view.specs.Domain.{is_running}
 use Rattle.world_view.specs.Reach.{Caches, and_then}
 use Rattle.world_view.specs.Event.{event}
 use Rattle.world_view.specs.Event.Event.{Jump, Run}
 use Rattle.world_view.specs.Machine.{Local, World, paid, happened, step, steps, stretch, leave_part, prefetch_part, flush_part, enter_part, switch_work, with_part, part_of, switch, run_slot, opening, whole}
-use Rattle.world_view.specs.Laws.{Runnable, bound, InTime, AllWithinPads}
+use Rattle.world_view.specs.Laws.{bound, InTime, AllWithinPads}
+use Rattle.world_view.proofs.Separate.{Separated}
 use Rattle.world_view.proofs.Fuel.{step_later}
 use Rattle.world_view.proofs.ReachLaws.{all_free}
 
@@ -92,7 +95,7 @@ switch_on_time i k w padded time =
 
 -- ---- all slots
 
-module _ (i : Image) (r : Runnable i) where
+module _ (i : Image) (r : Separated i) where
   slot_in_time : (k : ℕ) → InTime i k (whole i k) → InTime i (suc k) (whole i (suc k))
   unfolding whole run_slot with_part
   slot_in_time k time =
@@ -117,7 +120,7 @@ within_append : (es : List Entry) (us vs : List (ℕ × ℕ)) → AllWithinPads 
 within_append es [] vs h k = k
 within_append es (u ∷ us) vs h k = (h.0, within_append es us vs h.1 k)
 
-pub used_within : (i : Image) (n : ℕ) → Runnable i → AllWithinPads i.all.schedule (whole i n).used
+pub used_within : (i : Image) (n : ℕ) → Separated i → AllWithinPads i.all.schedule (whole i n).used
 unfolding whole opening run_slot with_part switch
 used_within i zero r = tt
 used_within i (suc k) r = within_append i.all.schedule (whole i k).used _ (used_within i k r) (used_in_pad i k (whole i k) (r.padded k) (in_time i r k), tt)

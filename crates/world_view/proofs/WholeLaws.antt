@@ -2,7 +2,9 @@
 use Rattle.std.proofs.Common.{◌≡◌, ◌≢◌, ℕ, Bool, true, false, cond, eqb, zero, suc, List, [], ◌∷◌, ap, ap₂, sym, ◌∙◌, refl, subst, arith, true≢false, ◌⊎◌, inl, inr, eqb-true, eq-eqb, map, filter}
 use Rattle.std.specs.List.{range_with_len}
 use Rattle.tp_base.specs.Table.{at-put_other, at-put_same}
-use Rattle.world_view.specs.Image.{Hardware, Public, Own, Image, own_of, own_frame}
+use Rattle.image_check.specs.Public.{Hardware, Public}
+use Rattle.image_check.specs.Own.{Own}
+use Rattle.world_view.specs.Image.{Image, own_of, own_frame}
 use Rattle.world_view.specs.Schedule.{entry_of_slot, slot_end}
 use Rattle.phys_mem.specs.Mem.{frame_at}
 use Rattle.world_view.specs.Opening.{frame_words}
@@ -10,7 +12,8 @@ use Rattle.world_view.specs.Domain.{Dom, no_dom}
 use Rattle.world_view.specs.Event.{Store}
 use Rattle.world_view.specs.Machine.{Local, stretch, dom_of, part_of, with_part, switch, run_slot, opening, whole, alone_opening, alone_enter, alone_in, alone_out, alone_if, alone}
 use Rattle.world_view.specs.View.{log_of, pool, view, view_whole, view_alone}
-use Rattle.world_view.specs.Laws.{IsDomain, Runnable, SameFrames, Beside, Within, Apiece, Agree}
+use Rattle.world_view.specs.Laws.{IsDomain, SameFrames, Beside, Within, Apiece, Agree}
+use Rattle.world_view.proofs.Separate.{Separated}
 use Rattle.world_view.proofs.StepLaws.{stretch_near, beside_itself}
 use Rattle.world_view.proofs.TimeLaws.{in_time}
 use Rattle.world_view.proofs.OpeningLaws.{opening_dom_is, opening_frames}
@@ -30,7 +33,7 @@ abbrev Joined : Image → ℕ → ℕ → Type 0
 Joined i d zero = Apiece i.all.hardware (own_of i d) (part_of d (whole i 0)) (alone i.all (own_of i d) d 0)
 Joined i d (suc k) = JoinedIf i d k (eqb (entry_of_slot i.all.schedule k).domain d)
 
-module _ (i : Image) (r : Runnable i) where
+module _ (i : Image) (r : Separated i) where
   -- the domain's own slot: steps from states that are beside
   slot_within : (p : Hardware) (o : Own) (end : ℕ) (s a : Local) → Within p o s a → Within p o (stretch p o false end s) (stretch p o true end a)
   slot_within p o end s a h =
@@ -148,13 +151,13 @@ same_view p o d e s t dom frames =
       frames = y;
     }) dom same
 
-pub isolated : (i : Image) (d n : ℕ) → Runnable i → IsDomain i d → view_whole i d n ≡ view_alone i.all (own_of i d) d n
+pub isolated : (i : Image) (d n : ℕ) → Separated i → IsDomain i d → view_whole i d n ≡ view_alone i.all (own_of i d) d n
 unfolding view_whole view_alone
 isolated i d n r is =
     let h = seen i r d is n (joined i r d is n) in
     same_view i.all.hardware (own_of i d) _ _ _ _ h.0 h.1
 
-pub two_runs : (i j : Image) (d n : ℕ) → Runnable i → Runnable j → IsDomain i d → Agree i j d → view_whole i d n ≡ view_whole j d n
+pub two_runs : (i j : Image) (d n : ℕ) → Separated i → Separated j → IsDomain i d → Agree i j d → view_whole i d n ≡ view_whole j d n
 two_runs i j d n r q is a =
     let is' : IsDomain j d = omega (arith, r.counted, q.counted, ap (λ (x : Public). x.domains) a.all) in
     isolated i d n r is ∙ ap₂ (λ (p : Public) (o : Own). view_alone p o d n) a.all a.own ∙ sym (isolated j d n q is')

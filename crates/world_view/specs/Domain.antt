@@ -6,7 +6,7 @@ use Rattle.world_view.specs.declared.ThreadState.{ThreadState}
 use Rattle.world_view.specs.declared.ThreadState.TheVariants.{Ready}
 use Rattle.world_view.specs.declared.Reply.{Reply}
 use Rattle.rv_core.specs.Registers.{zeros}
-use Rattle.world_view.specs.Image.{Own}
+use Rattle.image_check.specs.Own.{Own}
 
 pub record Thread : Type 0 where
   pub state : ThreadState

@@ -1,5 +1,5 @@
 -- One event of a domain in its slot: what happens, as a function of the domain, the memory and the clock, with what it touches.
-use Rattle.std.specs.Prelude.{ℕ, ◌+◌, ◌*◌, ◌/◌, ◌%◌, ◌==◌, Bool, if◌then◌else◌, List, [], ◌∷◌, Option, Some, None, ◌⊎◌}
+use Rattle.std.specs.Prelude.{ℕ, ◌+◌, ◌-◌, ◌*◌, ◌/◌, ◌%◌, ◌==◌, ◌&&◌, nat_le, nat_lt, Bool, if◌then◌else◌, List, [], ◌∷◌, Option, Some, None, ◌⊎◌}
 use Rattle.std.proofs.Common.{inl, inr}
 use Rattle.tp_base.specs.Act as act
 use Rattle.tp_base.specs.Act.{◌>>=◌, ◌>>◌, Done, give, stop, note}
@@ -15,8 +15,9 @@ use Rattle.rv_core.specs.declared.Store.{Store as StoreMade}
 use Rattle.rv_core.specs.declared.Trap.{Trap}
 use Rattle.world_view.specs.declared.Access.{Access}
 use Rattle.world_view.specs.declared.Access.TheVariants as access
-use Rattle.world_view.specs.declared.Rights.{Rights}
-use Rattle.world_view.specs.Image.{Hardware, Page, Own}
+use Rattle.image_check.specs.declared.own.Rights.{Rights}
+use Rattle.image_check.specs.Public.{Hardware}
+use Rattle.image_check.specs.Own.{Segment, Own}
 use Rattle.world_view.specs.Domain.{Dom, is_running}
 use Rattle.world_view.specs.Instruction.{stopped, trapped, retired_at, counter_value, read_out, call}
 use Rattle.world_view.specs.Reach.{Touch}
@@ -43,10 +44,19 @@ page_fault access.Fetch = 12
 page_fault access.Load = 13
 page_fault access.Store = 15
 
--- the page of this number
-unfoldable pub page_in : List Page → ℕ → Option Page
-page_in [] n = None
-page_in (page ∷ pages) n = if page.number == n then Some page else page_in pages n
+-- a page: the frame in which it stands, and what it may be used for
+pub record Page : Type 0 where
+  pub frame : ℕ
+  pub rights : Rights
+
+-- the page of a number is one of the segment's
+abbrev pub has_page : Segment → ℕ → Bool
+has_page s n = nat_le s.page n && nat_lt n (s.page + s.pages)
+
+-- the page of this number, among segments that stand in frames from f on
+unfoldable pub page_in : ℕ → List Segment → ℕ → Option Page
+page_in f [] n = None
+page_in f (s ∷ ss) n = if has_page s n then Some (record { frame = f + (n - s.page); rights = s.rights }) else page_in (f + s.pages) ss n
 
 unfoldable pub permitted : Access → Option Page → Option ℕ
 permitted a None = None
@@ -54,7 +64,7 @@ permitted a (Some page) = if permits page.rights a then Some page.frame else Non
 
 -- the frame of an address's page, where the page is there and has the right
 unfoldable pub frame_for : Own → Access → ℕ → Option ℕ
-frame_for o a va = permitted a (page_in o.pages (va / 4096))
+frame_for o a va = permitted a (page_in o.first_frame o.segments (va / 4096))
 
 -- ---- primitives
 

@@ -1,15 +1,15 @@
--- A worked run, computed from the definitions alone: each domain reads the clock, prints a byte, reads the clock again, and exits.
-use Rattle.std.specs.Prelude.{◌≡◌, ℕ, List, [], ◌∷◌, codes, refl, slice_set, ◌+◌}
+-- Worked runs, computed from the definitions alone. In the first each domain prints a byte and exits; in the second it reads the clock before and after it prints.
+use Rattle.std.specs.Prelude.{◌≡◌, ℕ, true, false, List, [], ◌∷◌, codes, refl, slice_set, ◌+◌}
 use Rattle.tp_base.specs.Table.{empty, at, put}
 use Rattle.tp_base.specs.Act.{go_on, ◌>>=◌, ◌>>◌, give, stop, note, either}
 use Rattle.phys_mem.specs.Mem.{frame_at, word, written}
 use Rattle.rv_core.specs.Registers.{zeros}
 use Rattle.world_view.specs.declared.DomainStatus.TheVariants.{Exited}
 use Rattle.world_view.specs.declared.ThreadState.TheVariants.{Ended}
-use Rattle.world_view.specs.Image.{Image, own_of}
-use Rattle.world_view.specs.Reading.{thin_hardware, code_page}
+use Rattle.image_check.specs.Own.{Segment}
+use Rattle.world_view.specs.Image.{Image, own_of, pages_in}
 use Rattle.world_view.specs.Schedule.{start}
-use Rattle.world_view.specs.Opening.{frame_words, tabled, page_frame, pages_placed, placed, all_placed}
+use Rattle.world_view.specs.Opening.{frame_words, tabled, page_frame, pages_placed, segments_placed, placed, all_placed}
 use Rattle.world_view.specs.Domain.{opening_dom, no_dom}
 use Rattle.world_view.specs.Instruction.{stopped, trapped, retired_at, read_out, replied, exited, put_byte, called, call}
 use Rattle.world_view.specs.Reach.{reach, and_then, reach_all}
@@ -18,6 +18,15 @@ use Rattle.world_view.specs.Machine.{paid, happened, step, steps, leave_part, pr
 use Rattle.world_view.specs.View.{View, log_of, pool, view, view_whole, view_alone}
 use Rattle.world_view.specs.Texts.{memory_sum}
 use Rattle.world_view.specs.Report.{count_of, largest_of}
+
+-- addi x10, x0, byte; addi x17, x0, 1; ecall; addi x17, x0, 0; ecall
+abbrev pub print : ℕ → List ℕ
+print byte =
+    0x13 ∷ 0x05 ∷ byte ∷ 0x04
+    ∷ 0x93 ∷ 0x08 ∷ 0x10 ∷ 0
+    ∷ 0x73 ∷ 0 ∷ 0 ∷ 0
+    ∷ 0x93 ∷ 0x08 ∷ 0 ∷ 0
+    ∷ 0x73 ∷ 0 ∷ 0 ∷ 0 ∷ []
 
 -- rdcycle x5; addi x10, x0, byte; addi x17, x0, 1; ecall; rdcycle x6; addi x17, x0, 0; ecall
 abbrev pub timed_print : ℕ → List ℕ
@@ -30,19 +39,43 @@ timed_print byte =
     ∷ 0x93 ∷ 0x08 ∷ 0 ∷ 0
     ∷ 0x73 ∷ 0 ∷ 0 ∷ 0 ∷ []
 
-unfoldable pub two_domains : Image
-two_domains = record {
+-- a page of code
+abbrev pub code_at_16 : List ℕ → Segment
+code_at_16 code = record { page = 16; pages = 1; rights = record { read = true; write = false; execute = true }; bytes = code }
+
+-- red and blue, in slots of 10,000 cycles in turn
+unfoldable pub two_domains : List ℕ → List ℕ → Image
+two_domains red blue = record {
   all = record {
-    hardware = thin_hardware;
+    hardware = record { frames = 2048; base = 1 };
     schedule = record { domain = 0; length = 10000; pad = 6150 } ∷ record { domain = 1; length = 10000; pad = 6150 } ∷ [];
     domains = 2;
   };
   owns =
-      record { name = codes "red"; entry = 65536; pages = code_page 0 (timed_print 0x10) ∷ [] }
-      ∷ record { name = codes "blue"; entry = 65536; pages = code_page 1 (timed_print 0x20) ∷ [] } ∷ [];
+      record { name = codes "red"; entry = 65536; first_frame = 0; segments = code_at_16 red ∷ [] }
+      ∷ record { name = codes "blue"; entry = 65536; first_frame = 1024; segments = code_at_16 blue ∷ [] } ∷ [];
 }
 
--- what is seen of such a domain, but for its memory, by the byte and the clock at its first instruction
+-- one that prints A beside one that prints B
+abbrev pub prints : Image
+prints = two_domains (print 0x10) (print 0x20)
+
+abbrev pub timed_prints : Image
+timed_prints = two_domains (timed_print 0x10) (timed_print 0x20)
+
+-- what is seen of a domain that printed a byte, but for its memory
+abbrev pub printed_byte : ℕ → View
+printed_byte byte = record {
+  status = Exited 0;
+  retired = 3;
+  thread = record { state = Ended; pc = 0x10010; regs = zeros };
+  readings = log_of [];
+  replies = log_of (record { code = 0; value = 0 } ∷ []);
+  printed = byte ∷ [];
+  frames = [];
+}
+
+-- what is seen of one that read the clock, too, by the byte and the clock at its first instruction
 abbrev pub printed_in_time : ℕ → ℕ → View
 printed_in_time byte clock = record {
   status = Exited 0;
@@ -56,30 +89,54 @@ printed_in_time byte clock = record {
 
 -- all that a run computes with
 pub everything : ℕ
-unfolding empty at put go_on ◌>>=◌ ◌>>◌ give stop note either start frame_at word written frame_words tabled page_frame pages_placed placed all_placed opening_dom no_dom stopped trapped retired_at read_out replied exited put_byte called call reach and_then reach_all page_in permitted frame_for touch or_stop translate address_in read write unless load store loaded noted settle execute perform instruction event paid happened step steps leave_part prefetch_part flush_part enter_part switch_work with_part switch run_slot opening_doms opening whole alone_opening alone_enter alone_in alone_out alone_if alone log_of pool view view_whole view_alone memory_sum count_of largest_of two_domains
+unfolding empty at put go_on ◌>>=◌ ◌>>◌ give stop note either start frame_at word written frame_words tabled page_frame pages_placed segments_placed placed all_placed pages_in opening_dom no_dom stopped trapped retired_at read_out replied exited put_byte called call reach and_then reach_all page_in permitted frame_for touch or_stop translate address_in read write unless load store loaded noted settle execute perform instruction event paid happened step steps leave_part prefetch_part flush_part enter_part switch_work with_part switch run_slot opening_doms opening whole alone_opening alone_enter alone_in alone_out alone_if alone log_of pool view view_whole view_alone memory_sum count_of largest_of two_domains
 everything = 0
 
-pub red : record (view_whole two_domains 0 4) { frames = [] } ≡ printed_in_time 0x41 6150
+-- ---- the first run, of four slots
+
+pub red : record (view_whole prints 0 4) { frames = [] } ≡ printed_byte 0x41
 unfolding everything
 red = refl
 
-pub red_memory : memory_sum (view_whole two_domains 0 4).frames ≡ 0x84205d85
+pub red_memory : memory_sum (view_whole prints 0 4).frames ≡ 0x0420171f
 unfolding everything
 red_memory = refl
 
-pub blue : record (view_whole two_domains 1 4) { frames = [] } ≡ printed_in_time 0x42 22300
+pub blue : record (view_whole prints 1 4) { frames = [] } ≡ printed_byte 0x42
 unfolding everything
 blue = refl
 
-pub red_alone : view_whole two_domains 0 4 ≡ view_alone two_domains.all (own_of two_domains 0) 0 4
+pub blue_memory : memory_sum (view_whole prints 1 4).frames ≡ 0x0430171f
 unfolding everything
-red_alone = refl
+blue_memory = refl
 
-pub first_switch : (count_of 0 (whole two_domains 4).used ≡ 2) × (largest_of 0 (whole two_domains 4).used ≡ 0)
+pub blue_alone : view_whole prints 1 4 ≡ view_alone prints.all (own_of prints 1) 1 4
+unfolding everything
+blue_alone = refl
+
+-- ---- the second
+
+pub timed_red : record (view_whole timed_prints 0 4) { frames = [] } ≡ printed_in_time 0x41 6150
+unfolding everything
+timed_red = refl
+
+pub timed_red_memory : memory_sum (view_whole timed_prints 0 4).frames ≡ 0x84205d85
+unfolding everything
+timed_red_memory = refl
+
+pub timed_blue : record (view_whole timed_prints 1 4) { frames = [] } ≡ printed_in_time 0x42 22300
+unfolding everything
+timed_blue = refl
+
+pub timed_red_alone : view_whole timed_prints 0 4 ≡ view_alone timed_prints.all (own_of timed_prints 0) 0 4
+unfolding everything
+timed_red_alone = refl
+
+pub first_switch : (count_of 0 (whole timed_prints 4).used ≡ 2) × (largest_of 0 (whole timed_prints 4).used ≡ 0)
 unfolding everything
 first_switch = (refl, refl)
 
 -- four slots of 10,000 cycles, each after a pad of 6,150
-pub clock : (whole two_domains 4).clock ≡ 64600
+pub clock : (whole timed_prints 4).clock ≡ 64600
 unfolding everything
 clock = refl

@@ -1,8 +1,11 @@
 -- The words of the laws, and the laws.
-use Rattle.std.specs.Prelude.{◌≡◌, ◌≢◌, ℕ, true, false, IsTrue, ◌+◌, ◌-◌, ◌/◌, ◌<◌, ◌≤◌, ◌^◌, List, [], ◌∷◌, length, slice_index_or, Some}
-use Rattle.world_view.specs.Image.{Hardware, Entry, Page, Own, Image, own_of, own_frame}
+use Rattle.std.specs.Prelude.{◌≡◌, ◌≢◌, ℕ, true, false, IsTrue, ◌+◌, ◌-◌, ◌/◌, ◌<◌, ◌≤◌, List, [], ◌∷◌, length, Some, Ok}
+use Rattle.image_check.specs.Public.{Hardware, Entry, entry_in}
+use Rattle.image_check.specs.Own.{Own}
+use Rattle.image_check.specs.Laws as check
+use Rattle.world_view.specs.Image.{Image, own_of, own_frame}
 use Rattle.world_view.specs.Reading.{image}
-use Rattle.world_view.specs.Schedule.{entry_in, entry_of_slot, pad_of, start, ended, outgoing}
+use Rattle.world_view.specs.Schedule.{entry_of_slot, start, ended, outgoing}
 use Rattle.phys_mem.specs.Mem.{Mem, frame_at}
 use Rattle.world_view.specs.Reach.{Touch, Caches, Reached}
 use Rattle.world_view.specs.Event.{Store}
@@ -15,10 +18,6 @@ use Rattle.world_view.specs.Report.{largest_of, report, report_apart}
 abbrev pub IsDomain : Image → ℕ → Type 0
 IsDomain i d = d < length i.owns
 
--- no frame of the one is a frame of the other
-abbrev pub Apart : Hardware → Own → Own → Type 0
-Apart p e o = (f : ℕ) → IsTrue (own_frame p o f) → own_frame p e f ≡ false
-
 -- the most cycles that one step takes: its base, as touches are free
 abbrev pub largest_step : Hardware → ℕ
 largest_step p = p.base
@@ -28,37 +27,8 @@ abbrev pub bound : Hardware → ℕ
 bound p = largest_step p - 1
 
 -- the laws hold of it
-pub record Runnable (i : Image) : Type 0 where
-  pub counted : i.all.domains ≡ length i.owns
-  pub timed : 0 < i.all.hardware.base
-  pub named : (k : ℕ) → IsDomain i (entry_of_slot i.all.schedule k).domain
-  pub held : (d f : ℕ) → IsDomain i d → IsTrue (own_frame i.all.hardware (own_of i d) f) → f < i.all.hardware.frames
-  pub apart : (d e : ℕ) → IsDomain i d → IsDomain i e → d ≢ e → Apart i.all.hardware (own_of i d) (own_of i e)
-  pub padded : (k : ℕ) → bound i.all.hardware ≤ pad_of i.all.schedule k
-
--- where there is no page
-abbrev pub no_page : Page
-no_page = record { number = 0; frame = 0; rights = record { read = false; write = false; execute = false }; bytes = [] }
-
-pub record IsPage (page : Page) : Type 0 where
-  pub number : page.number < 2 ^ 20
-  pub bytes : length page.bytes ≤ 4096
-
--- its numbers are within the limits
-pub record InRange (i : Image) : Type 0 where
-  pub domains : length i.owns ≤ 16
-  pub frames : i.all.hardware.frames ≤ 4096
-  pub base : i.all.hardware.base ≤ 1000
-  pub some_entry : 0 < length i.all.schedule
-  pub few_entries : length i.all.schedule ≤ 64
-  pub lengths : (e : ℕ) → (entry_in i.all.schedule e).length ≤ 1000000
-  pub pads : (e : ℕ) → (entry_in i.all.schedule e).pad ≤ 1000000
-  pub pages : (d k : ℕ) → IsPage (slice_index_or (own_of i d).pages k no_page)
-  pub one_page : (d : ℕ) → IsDomain i d → length (own_of i d).pages ≡ 1  -- as yet
-
-pub record Accepted (i : Image) : Type 0 where
-  pub runnable : Runnable i
-  pub in_range : InRange i
+abbrev pub Runnable : Image → Type 0
+Runnable i = check.Runnable i.all i.owns
 
 -- ---- what is alike, for a domain
 
@@ -170,9 +140,9 @@ StartLaw = (i : Image) (k : ℕ) → Runnable i → (switch i k (whole i k)).clo
 abbrev pub InTimeLaw : Type 0
 InTimeLaw = (i : Image) (k : ℕ) → Runnable i → InTime i k (whole i k)
 
--- every image of the form that is read may be run
+-- every image that breaks no rule may be run
 abbrev pub ReadingLaw : Type 0
-ReadingLaw = (bytes : List ℕ) (i : Image) → image bytes ≡ Some i → Accepted i
+ReadingLaw = (bytes : List ℕ) (i : Image) → image bytes ≡ Ok i → Runnable i
 
 -- ---- the laws of one event and of one phase, of which isolation is made
 

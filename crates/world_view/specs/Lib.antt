@@ -9,9 +9,12 @@ pub mod Reach
 pub mod Event
 pub mod Machine
 pub mod View
+pub mod Kept
+pub mod Views
 pub mod Texts
 pub mod Report
 pub mod Status
+pub mod Words
 pub mod Answer
 pub mod Laws
 pub mod Example

@@ -2,7 +2,9 @@
 use Rattle.std.specs.Prelude.{ℕ, zero, suc, ◌+◌, ◌-◌, ◌==◌, max, nat_lt, Bool, true, false, List, [], ◌∷◌, ◌++◌, Option, Some, None}
 use Rattle.tp_base.specs.Table.{Table, empty, at, put}
 use Rattle.tp_base.specs.Act.{Done, either}
-use Rattle.world_view.specs.Image.{Hardware, Public, Own, Image, own_of}
+use Rattle.image_check.specs.Public.{Hardware, Public}
+use Rattle.image_check.specs.Own.{Own}
+use Rattle.world_view.specs.Image.{Image, own_of}
 use Rattle.world_view.specs.Schedule.{entry_of_slot, switch_entry, start, slot_end, ended, outgoing}
 use Rattle.world_view.specs.Opening.{placed, all_placed}
 use Rattle.world_view.specs.Domain.{Dom, opening_dom, no_dom}

@@ -1,9 +1,9 @@
 -- The memory in which each domain's pages stand in their frames.
-use Rattle.std.specs.Prelude.{ℕ, zero, suc, ◌+◌, ◌*◌, ◌/◌, ◌^◌, List, [], ◌∷◌, length, map, slice_index}
+use Rattle.std.specs.Prelude.{ℕ, zero, suc, ◌+◌, ◌*◌, ◌/◌, ◌^◌, List, [], ◌∷◌, length, map, take, drop, slice_index}
 use Rattle.std.specs.List.{range_with_len}
 use Rattle.tp_base.specs.Table.{empty, at, put}
 use Rattle.phys_mem.specs.Mem.{Frame, Mem}
-use Rattle.world_view.specs.Image.{Page, Own}
+use Rattle.image_check.specs.Own.{Segment, Own}
 
 -- all words of a frame, in order
 unfoldable pub frame_words : Frame → List ℕ
@@ -21,12 +21,18 @@ tabled f (suc n) = put (tabled f n) n (f n)
 unfoldable pub page_frame : List ℕ → Frame
 page_frame bytes = tabled (word_of bytes) ((length bytes + 3) / 4)
 
-unfoldable pub pages_placed : List Page → Mem → Mem
-pages_placed [] m = m
-pages_placed (page ∷ pages) m = put (pages_placed pages m) page.frame (page_frame page.bytes)
+-- so many pages in frames from f on; the bytes fill them in turn, and zeros follow
+unfoldable pub pages_placed : ℕ → ℕ → List ℕ → Mem → Mem
+pages_placed f zero bytes m = m
+pages_placed f (suc n) bytes m = pages_placed (suc f) n (drop 4096 bytes) (put m f (page_frame (take 4096 bytes)))
+
+-- segments, one after the other in frames from f on
+unfoldable pub segments_placed : ℕ → List Segment → Mem → Mem
+segments_placed f [] m = m
+segments_placed f (s ∷ ss) m = segments_placed (f + s.pages) ss (pages_placed f s.pages s.bytes m)
 
 unfoldable pub placed : Own → Mem → Mem
-placed o m = pages_placed o.pages m
+placed o m = segments_placed o.first_frame o.segments m
 
 unfoldable pub all_placed : List Own → Mem
 all_placed [] = empty

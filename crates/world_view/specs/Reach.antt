@@ -1,6 +1,6 @@
 -- What touches cost, and the caches after them. Costs are in cycles. As yet every touch is free, and nothing is cached.
 use Rattle.std.specs.Prelude.{ℕ, ◌+◌, Bool, List, [], ◌∷◌}
-use Rattle.world_view.specs.Image.{Hardware}
+use Rattle.image_check.specs.Public.{Hardware}
 
 pub data Touch : Type 0 where
   Fetch : ℕ → Touch  -- an instruction is fetched from this physical address

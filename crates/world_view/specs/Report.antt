@@ -1,8 +1,10 @@
 -- The texts that the program writes.
 use Rattle.std.specs.Prelude.{ℕ, max, ◌==◌, if◌then◌else◌, List, [], ◌∷◌, length, codes, decimal, count_by}
+use Rattle.std.specs.Fmt.{signed_decimal}
 use Rattle.std.specs.List.{concat, flat_map, range_with_len}
-use Rattle.world_view.specs.Image.{Entry, Image, own_of}
-use Rattle.world_view.specs.Schedule.{entry_in}
+use Rattle.image_text.specs.declared.refusal.Refusal.{Refusal}
+use Rattle.image_check.specs.Public.{Entry, entry_in}
+use Rattle.world_view.specs.Image.{Image, own_of}
 use Rattle.world_view.specs.Machine.{whole}
 use Rattle.world_view.specs.View.{View, view_whole, view_alone}
 use Rattle.world_view.specs.Texts.{section}
@@ -57,6 +59,9 @@ report_apart i n = report_with i (λ d. view_alone i.all (own_of i d) d n) (whol
 unfoldable pub usage_text : List ℕ
 usage_text = codes "usage: tp check|bound|run|alone|gen|demo\n"
 
--- the bytes are no image
-unfoldable pub refusal_text : List ℕ
-refusal_text = codes "refused K1 at 0 found 0 wanted 0\n"
+-- the rule that is broken, and its three numbers
+unfoldable pub refusal_text : Refusal → List ℕ
+refusal_text r = concat (codes "refused K" ∷ decimal r.rule ∷ codes " at " ∷ signed_decimal r.at ∷ codes " found " ∷ signed_decimal r.found ∷ codes " wanted " ∷ signed_decimal r.wanted ∷ codes "\n" ∷ [])
+
+unfoldable pub too_long_text : List ℕ
+too_long_text = codes "too long\n"

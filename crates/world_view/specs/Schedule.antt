@@ -1,12 +1,6 @@
 -- When slots begin and end. Entries are taken cyclically; switch k leads into slot k, and belongs to the entry of the slot that ended.
-use Rattle.std.specs.Prelude.{ℕ, zero, suc, ◌+◌, ◌-◌, ◌%◌, List, length, slice_index_or, Option, Some, None}
-use Rattle.world_view.specs.Image.{Entry}
-
-abbrev pub no_entry : Entry
-no_entry = record { domain = 0; length = 0; pad = 0 }
-
-abbrev pub entry_in : List Entry → ℕ → Entry
-entry_in es e = slice_index_or es e no_entry
+use Rattle.std.specs.Prelude.{ℕ, zero, suc, ◌+◌, ◌-◌, ◌%◌, List, length, Option, Some, None}
+use Rattle.image_check.specs.Public.{Entry, entry_in}
 
 -- the entry of slot k
 abbrev pub entry_of_slot : List Entry → ℕ → Entry

@@ -1,9 +1,11 @@
 -- What can be seen of a domain: its state, and the words of its pool.
-use Rattle.std.specs.Prelude.{ℕ, ◌-◌, List, length, take, map, filter, slice_get, Option}
+use Rattle.std.specs.Prelude.{◌≡◌, ℕ, ◌-◌, ◌<◌, min, IsSome, List, length, take, map, filter, slice_get, Option}
 use Rattle.std.specs.List.{range_with_len}
 use Rattle.world_view.specs.declared.DomainStatus.{DomainStatus}
 use Rattle.world_view.specs.declared.Reply.{Reply}
-use Rattle.world_view.specs.Image.{Hardware, Public, Own, Image, own_of, own_frame}
+use Rattle.image_check.specs.Public.{Hardware, Public}
+use Rattle.image_check.specs.Own.{Own}
+use Rattle.world_view.specs.Image.{Image, own_of, own_frame}
 use Rattle.phys_mem.specs.Mem.{frame_at}
 use Rattle.world_view.specs.Opening.{frame_words}
 use Rattle.world_view.specs.Domain.{Thread, Dom}
@@ -18,6 +20,11 @@ pub record Log (A : Type 0) : Type 0 where
 
 unfoldable pub log_of : {A : Type 0} → List A → Log A
 log_of xs = record { count = length xs; last = slice_get xs (length xs - 1); first = take 256 xs }
+
+-- it keeps all of a short list, and the last of every list that isn't empty
+pub record IsKept {A : Type 0} (l : Log A) : Type 0 where
+  pub first : length l.first ≡ min 256 l.count
+  pub last : 0 < l.count → IsSome l.last
 
 pub record View : Type 0 where
   pub status : DomainStatus

@@ -5,9 +5,14 @@
 #![tactic(auto)]
 
 pub mod laws;
+mod log;
+mod seen;
 mod status;
+mod view;
 
+pub use log::Log;
 pub use status::Status;
+pub use view::{Thread, Used, View};
 
 /// What became of a domain.
 #[derive(Clone, Copy, Debug, PartialEq, Eq)]
@@ -41,14 +46,6 @@ pub enum Access {
     Fetch,
     Load,
     Store,
-}
-
-/// What a page may be used for.
-#[derive(Clone, Copy, Debug, PartialEq, Eq)]
-pub struct Rights {
-    pub read: bool,
-    pub write: bool,
-    pub execute: bool,
 }
 
 /// What the words of the command line ask for.

@@ -16,12 +16,14 @@ pub enum Status {
     WriteFault,
     /// Memory ran out.
     Memory,
+    /// The source gave more bytes than an image may have.
+    TooLong,
 }
 
 impl Status {
     ghost use Rattle.world_view.specs.Status.{number_of};
 
-    /// The exit code, 0 to 5.
+    /// The exit code, 0 to 6.
     pub fn number(self) -> u8
         ensures { result ≡ number_of self }
     {
@@ -32,6 +34,7 @@ impl Status {
             Status::ReadFault => 3,
             Status::WriteFault => 4,
             Status::Memory => 5,
+            Status::TooLong => 6,
         }
     }
 }
@@ -49,6 +52,7 @@ mod tests {
             (Status::ReadFault, 3),
             (Status::WriteFault, 4),
             (Status::Memory, 5),
+            (Status::TooLong, 6),
         ] {
             assert_eq!(rt; status.number(), number, "at {status:?}");
         }

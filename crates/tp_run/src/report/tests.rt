@@ -1,13 +1,10 @@
-use super::{write_end, write_refusal, write_section, write_switches, write_usage};
-use crate::image::Entry;
-use crate::log::Log;
-use crate::used::Used;
-use crate::view::{Thread, View};
+use super::{write_end, write_refusal, write_section, write_switches, write_too_long, write_usage};
+use image_check::{Entry, Refusal};
 use phys_mem::PhysMem;
 use rv_core::Regs;
 use std::test::Fail;
 use tp_io::MemSink;
-use world_view::{DomainStatus, Reply, ThreadState};
+use world_view::{DomainStatus, Log, Reply, Thread, ThreadState, Used, View};
 
 const RED: &str = "domain 0 red
 status exited 0
@@ -23,7 +20,7 @@ const BLUE: &str = "domain 1 blue
 status stopped 2 pc 00010004 value deadbeef
 retired 1
 thread 0 ready pc 00010004
-readings 300 last 77 list 18446744073709551615
+readings 1 last 18446744073709551615 list 18446744073709551615
 replies 0
 out 0
 mem 0001feed
@@ -33,7 +30,8 @@ const REST: &str = "switch 0 used 0 pad 6150 count 0
 switch 1 used 4100 pad 5 count 3
 end
 usage: tp check|bound|run|alone|gen|demo
-refused K1 at 0 found 0 wanted 0
+refused K4 at 0 found -9223372036854775808 wanted 64
+too long
 ";
 
 #[test]
@@ -51,8 +49,8 @@ fn texts_are_as_written_by_hand(rt: HostRuntime) -> Result<(), Fail> {
     };
     let mut readings = Log {
         first: Vec::with_capacity(rt.alloc(), 256)?,
-        count: 300,
-        last: Some(77),
+        count: 1,
+        last: Some(u64::MAX),
     };
     readings.first.push(u64::MAX)?;
     let mut replies = Log {
@@ -63,12 +61,13 @@ fn texts_are_as_written_by_hand(rt: HostRuntime) -> Result<(), Fail> {
     replies.first.push(Reply { code: 0, value: 0 })?;
     replies.first.push(Reply { code: 1, value: 10 })?;
 
-    let mut memory = PhysMem::new(rt.alloc(), 2)?;
+    let mut memory = PhysMem::new(rt.alloc(), 3)?;
     memory.write_word(0, u32::MAX);
     memory.write_word(4, 1);
     memory.write_word(4092, 1);
     memory.write_word(4096, 0x0001_0000);
-    memory.write_word(8188, 0xfeed);
+    memory.write_word(8188, 0xfe00);
+    memory.write_word(8192, 0xed);
 
     let mut regs = Regs::new();
     let ready = Thread {
@@ -91,7 +90,8 @@ fn texts_are_as_written_by_hand(rt: HostRuntime) -> Result<(), Fail> {
         replies: &replies,
         printed: &[0, 0x10, 0xff],
         memory: &memory,
-        frame: 0,
+        first_frame: 0,
+        frames: 1,
     };
     let blue = View {
         status: DomainStatus::Stopped {
@@ -105,7 +105,8 @@ fn texts_are_as_written_by_hand(rt: HostRuntime) -> Result<(), Fail> {
         replies: &no_replies,
         printed: &[],
         memory: &memory,
-        frame: 1,
+        first_frame: 1,
+        frames: 2,
     };
     let red_written = write_section(&mut sink, 0, "red", &red);
     let blue_written = write_section(&mut sink, 1, "blue", &blue);
@@ -136,7 +137,14 @@ fn texts_are_as_written_by_hand(rt: HostRuntime) -> Result<(), Fail> {
     write_switches(&mut sink, &entries, &used)?;
     write_end(&mut sink)?;
     write_usage(&mut sink)?;
-    write_refusal(&mut sink)?;
+    let refusal = Refusal {
+        rule: 4,
+        at: 0,
+        found: i64::MIN,
+        wanted: 64,
+    };
+    write_refusal(&mut sink, &refusal)?;
+    write_too_long(&mut sink)?;
     assert_eq!(rt;
         sink.bytes(),
         [RED, BLUE, REST].concat(rt.alloc())?.as_bytes()

@@ -7,4 +7,4 @@ use Rattle.tp_run.proofs.pieces.write_each.Goals as goal
 pub returns-in_err-write_after : goal.returns-in_err-write_after
 returns-in_err-write_after g c =
     let p = err_from_is_err_and c.from_residual.result c.from_residual.ensures.1 in
-    rw (p.1, ← c.loop-item.invariant.steady) (sends_at (after c.args.before.now g.T.WriteText.text) c.args.items.now c.loop-item.item-index c.item-item.result _ _ _ _ _ c.in_err-write_after.field-0.0 _ (search rules) c.item-item.is c.loop-item.invariant.so_far (rw c.in_err-write_after.was at c.write_after.ensures))
+    rw (p.1, ← c.loop-item.invariant.steady) (sends_at (after c.args.before.now g.T.WriteText.text) c.args.items.now c.loop-item.item-index c.item-item.result _ _ _ _ _ c.in_err-write_after.field-0.0 _ (search rules) c.item-item.is c.loop-item.invariant.so_far c.loop-item.invariant.left (rw c.in_err-write_after.was at c.write_after.ensures))

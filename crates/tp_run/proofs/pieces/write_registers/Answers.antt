@@ -3,7 +3,7 @@ use Rattle.std.specs.List.{enumerate_from}
 use Rattle.std.proofs.lemmas.List.FromFn.{length-enumerate_from}
 use Rattle.std.proofs.lemmas.Result.{err_from_is_err_and}
 use Rattle.world_view.specs.Texts.{register_text, registers_text}
-use Rattle.tp_io.proofs.Each.{sends_at, sent_more, sent_all}
+use Rattle.tp_io.proofs.Each.{sends_at, sent_more, less_each, sent_all}
 use Rattle.tp_run.proofs.Places.{place_at}
 use Rattle.tp_run.proofs.pieces.write_registers.Goals as goal
 
@@ -13,7 +13,7 @@ returns-in_err-write_register g c =
     let p = err_from_is_err_and c.from_residual.result c.from_residual.ensures.1 in
     let xs = enumerate_from 0 c.args.regs.now in
     let within : c.loop-x.x < length xs = omega (arith, length-enumerate_from 0 c.args.regs.now) in
-    rw (p.1, ← c.loop-x.invariant.steady) (sends_at register_text xs c.loop-x.x (c.loop-x.x, get_or c.args.regs.now c.loop-x.x 0) _ _ _ _ _ c.in_err-write_register.field-0.0 _ within (sym (place_at c.args.regs.now c.loop-x.x (search rules))) c.loop-x.invariant.so_far (rw c.in_err-write_register.was at c.write_register.ensures))
+    rw (p.1, ← c.loop-x.invariant.steady) (sends_at register_text xs c.loop-x.x (c.loop-x.x, get_or c.args.regs.now c.loop-x.x 0) _ _ _ _ _ c.in_err-write_register.field-0.0 _ within (sym (place_at c.args.regs.now c.loop-x.x (search rules))) c.loop-x.invariant.so_far c.loop-x.invariant.left (rw c.in_err-write_register.was at c.write_register.ensures))
 
 pub loop-x-preserved : goal.loop-x-preserved
 loop-x-preserved g c =
@@ -21,6 +21,7 @@ loop-x-preserved g c =
     let within : c.loop-x.x < length xs = omega (arith, length-enumerate_from 0 c.args.regs.now) in
     record {
       so_far = sent_more register_text xs c.loop-x.x (c.loop-x.x, get_or c.args.regs.now c.loop-x.x 0) _ _ _ _ _ _ within (place_at c.args.regs.now c.loop-x.x (search rules)) c.loop-x.invariant.so_far (rw c.in_ok-write_register.was at c.write_register.ensures);
+      left = less_each register_text xs c.loop-x.x (c.loop-x.x, get_or c.args.regs.now c.loop-x.x 0) _ _ _ within (place_at c.args.regs.now c.loop-x.x (search rules)) c.loop-x.invariant.left (rw c.in_ok-write_register.was at c.write_register.ensures).room;
       steady = search rules;
     }
 
@@ -28,4 +29,4 @@ pub returns : goal.returns
 unfolding registers_text
 returns g c =
     let end : length (enumerate_from 0 c.args.regs.now) ≤ c.loop-x.x = omega (arith, length-enumerate_from 0 c.args.regs.now) in
-    sent_all register_text (enumerate_from 0 c.args.regs.now) c.loop-x.x _ _ _ _ _ end c.loop-x.invariant.steady c.loop-x.invariant.so_far
+    sent_all register_text (enumerate_from 0 c.args.regs.now) c.loop-x.x _ _ _ _ _ end c.loop-x.invariant.steady c.loop-x.invariant.so_far c.loop-x.invariant.left

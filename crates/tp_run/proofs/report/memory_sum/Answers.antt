@@ -1,9 +1,13 @@
-use Rattle.std.proofs.Common.{◌≡◌, ◌+◌, ◌*◌, rules}
-use Rattle.phys_mem.specs.Contents.{word_at}
-use Rattle.tp_run.proofs.FrameSums.{frame_sum_more}
+use Rattle.std.proofs.Common.{refl}
+use Rattle.world_view.specs.Texts.{memory_sum}
+use Rattle.tp_run.proofs.FrameSums.{memory_sum_more}
 use Rattle.tp_run.proofs.report.memory_sum.Goals as goal
+
+pub loop-i-init : goal.loop-i-init
+unfolding memory_sum
+loop-i-init c = refl
 
 pub loop-i-preserved : goal.loop-i-preserved
 loop-i-preserved c =
-    let word : c.read_word-sum.result ≡ word_at c.args.memory.now (4096 * c.args.frame + 4 * c.loop-i.i) = c.read_word-sum.ensures.value in
-    rw word (frame_sum_more c.args.memory.now c.args.frame c.loop-i.i c.loop-i.sum (search rules) c.requires.within (search rules) c.loop-i.invariant)
+    let v = c.args.view.now in
+    rw c.frame_sum-sum.ensures.value (memory_sum_more v.memory.now v.first_frame c.loop-i.i c.loop-i.sum c.loop-i.invariant)

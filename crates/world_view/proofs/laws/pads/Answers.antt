@@ -1,16 +1,17 @@
-use Rattle.world_view.proofs.TimeLaws.{used_within, on_time, in_time}
 use Rattle.world_view.specs.Machine.{whole}
+use Rattle.world_view.proofs.Separate.{separated}
+use Rattle.world_view.proofs.TimeLaws.{used_within, on_time, in_time}
 use Rattle.world_view.proofs.ReportLaws.{largest_within}
 use Rattle.world_view.proofs.laws.pads.Goals as goal
 
 pub returns-clause-used : goal.returns-clause-used
-returns-clause-used c = used_within
+returns-clause-used c i n r = used_within i n (separated i r)
 
 pub returns-clause-start : goal.returns-clause-start
-returns-clause-start c i k r = on_time i r k
+returns-clause-start c i k r = on_time i (separated i r) k
 
 pub returns-clause-in_time : goal.returns-clause-in_time
-returns-clause-in_time c i k r = in_time i r k
+returns-clause-in_time c i k r = in_time i (separated i r) k
 
 pub returns-clause-lines : goal.returns-clause-lines
-returns-clause-lines c i n e r = largest_within i.all.schedule e (whole i n).used (used_within i n r)
+returns-clause-lines c i n e r = largest_within i.all.schedule e (whole i n).used (used_within i n (separated i r))

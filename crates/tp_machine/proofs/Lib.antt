@@ -1,0 +1,11 @@
+mod Elements
+mod SwitchCounts
+mod Pages
+mod Loading
+mod Steps
+mod Accesses
+mod Instructions
+mod Moved
+mod Frames
+mod Openings
+mod Slots

@@ -1,0 +1,118 @@
+-- Pages placed in a memory.
+use Rattle.std.proofs.Common.{◌≡◌, ◌≢◌, ℕ, zero, suc, ◌+◌, ◌*◌, ◌/◌, ◌%◌, ◌<◌, ◌≤◌, List, [], ◌∷◌, length, min, take, drop, inl, inr, refl, sym, ap, subst, ◌∙◌, arith, add-one}
+use Rattle.std.proofs.lemmas.Bool.{cases_eq}
+use Rattle.std.proofs.lemmas.List.{drop_more, drop_all}
+use Rattle.phys_mem.specs.Contents.{Contents}
+use Rattle.phys_mem.specs.Holds.{Holds}
+use Rattle.phys_mem.specs.Mem.{Mem, word, written, word-written_same, word-written_place, word-written_frame}
+use Rattle.tp_base.specs.Table.{empty, put}
+use Rattle.image_check.specs.Own as spec
+use Rattle.world_view.specs.Opening.{word_of, page_frame, pages_placed, segments_placed, placed, all_placed}
+use Rattle.world_view.proofs.CodeLaws.{word-placed_same, word-placed_other}
+
+-- ---- a page
+
+-- the first n places of a frame written
+unfoldable pub filled : Mem → ℕ → (ℕ → ℕ) → ℕ → Mem
+filled m f words zero = m
+filled m f words (suc n) = written (filled m f words n) f n (words n)
+
+module _ (m : Mem) (f : ℕ) (words : ℕ → ℕ) where
+  word-filled_same : (n i : ℕ) → i < n → word (filled m f words n) f i ≡ words i
+  unfolding filled
+  word-filled_same zero i h = absurd (omega arith)
+  word-filled_same (suc n) i h =
+      elim (cases_eq i n) [
+        | inl same ↦ rw same (word-written_same (filled m f words n) f n (words n))
+        | inr other ↦ word-written_place (filled m f words n) f n (words n) i other ∙ word-filled_same n i (omega arith)
+      ]
+
+  word-filled_other : (n g i : ℕ) → g ≢ f → word (filled m f words n) g i ≡ word m g i
+  unfolding filled
+  word-filled_other zero g i other = refl
+  word-filled_other (suc n) g i other = word-written_frame (filled m f words n) f n (words n) g i other ∙ word-filled_other n g i other
+
+  pub filled-none : filled m f words 0 ≡ m
+  unfolding filled
+  filled-none = refl
+
+  filled-suc : (n : ℕ) → filled m f words (suc n) ≡ written (filled m f words n) f n (words n)
+  unfolding filled
+  filled-suc n = refl
+
+  pub filled-more : (n at w : ℕ) → at ≡ 4096 * f + 4 * n → n < 1024 → w ≡ words n → written (filled m f words n) (at / 4096) (at % 4096 / 4) w ≡ filled m f words (n + 1)
+  filled-more n at w is h same =
+      let frame : at / 4096 ≡ f = omega arith in
+      let place : at % 4096 / 4 ≡ n = omega arith in
+      rw (frame, place, same, add-one n) (sym (filled-suc n))
+
+pub holds_placed : (memory : Contents) (m : Mem) (f : ℕ) (bytes : List ℕ) → Holds memory (filled m f (word_of bytes) 1024) → Holds memory (put m f (page_frame bytes))
+holds_placed memory m f bytes holds = record {
+  size = holds.size;
+  same = λ g i in_memory in_frame.
+      holds.same g i in_memory in_frame
+      ∙ elim (cases_eq g f) [
+        | inl same ↦ rw same (word-filled_same m f (word_of bytes) 1024 i in_frame ∙ sym (word-placed_same m f i bytes))
+        | inr other ↦ word-filled_other m f (word_of bytes) 1024 g i other ∙ sym (word-placed_other m f g i bytes other)
+      ];
+}
+
+-- ---- pages of a segment, from the first on
+
+pub take_front : {A : Type 0} (n : ℕ) (xs : List A) → take (min (length xs) n) xs ≡ take n xs
+take_front zero xs = let none : min (length xs) 0 ≡ 0 = omega arith in rw none refl
+take_front (suc n) [] = let none : min 0 (suc n) ≡ 0 = omega arith in rw none refl
+take_front (suc n) (x ∷ xs) = let more : min (suc (length xs)) (suc n) ≡ suc (min (length xs) n) = omega arith in rw more (ap (λ ys. x ∷ ys) (take_front n xs))
+
+pub drop_front : {A : Type 0} (n : ℕ) (xs : List A) → drop (min (length xs) n) xs ≡ drop n xs
+drop_front zero xs = let none : min (length xs) 0 ≡ 0 = omega arith in rw none refl
+drop_front (suc n) [] = let none : min 0 (suc n) ≡ 0 = omega arith in rw none refl
+drop_front (suc n) (x ∷ xs) = let more : min (suc (length xs)) (suc n) ≡ suc (min (length xs) n) = omega arith in rw more (drop_front n xs)
+
+-- some of the work is done: this holds what is done, and what is left to do gives what is due
+pub record Placing (memory : Contents) (left : Mem → Mem) (due : Mem) : Type 0 where
+  pub done : Mem
+  pub holds : Holds memory done
+  pub same : left done ≡ due
+
+pub begun : (memory : Contents) (m : Mem) (left : Mem → Mem) → Holds memory m → Placing memory left (left m)
+begun memory m left h = record { done = m; holds = h; same = refl }
+
+pub finished : (memory : Contents) (left : Mem → Mem) (due : Mem) → ((m : Mem) → left m ≡ m) → Placing memory left due → Holds memory due
+finished memory left due none p = subst (Holds memory) (sym (none p.done) ∙ p.same) p.holds
+
+pub went_on : (memory memory' : Contents) (left left' step : Mem → Mem) (due : Mem) → ((m : Mem) → left m ≡ left' (step m)) → ((m : Mem) → Holds memory m → Holds memory' (step m))
+    → Placing memory left due → Placing memory' left' due
+went_on memory memory' left left' step due more moved p = record { done = step p.done; holds = moved p.done p.holds; same = sym (more p.done) ∙ p.same }
+
+pub no_page : (f n : ℕ) (bytes : List ℕ) → n ≡ 0 → (m : Mem) → pages_placed f n bytes m ≡ m
+unfolding pages_placed
+no_page f n bytes none m = rw none refl
+
+pub one_page : (f n n' : ℕ) (bytes : List ℕ) → n ≡ suc n' → (m : Mem) → pages_placed f n bytes m ≡ pages_placed (f + 1) n' (drop 4096 bytes) (put m f (page_frame (take 4096 bytes)))
+unfolding pages_placed
+one_page f n n' bytes some m = rw (some, add-one f) refl
+
+-- ---- segments of a domain, from the first on
+
+pub no_segment : (f : ℕ) (m : Mem) → segments_placed f [] m ≡ m
+unfolding segments_placed
+no_segment f m = refl
+
+pub one_segment : (f : ℕ) (s : spec.Segment) (ss : List spec.Segment) (m : Mem) → segments_placed f (s ∷ ss) m ≡ segments_placed (f + s.pages) ss (pages_placed f s.pages s.bytes m)
+unfolding segments_placed
+one_segment f s ss m = refl
+
+pub placed_all : (o : spec.Own) (m : Mem) → segments_placed o.first_frame o.segments m ≡ placed o m
+unfolding placed
+placed_all o m = refl
+
+-- ---- domains, from the last to the first
+
+pub owns_none : (owns : List spec.Own) (k : ℕ) → length owns ≤ k → all_placed (drop k owns) ≡ empty
+unfolding all_placed
+owns_none owns k h = rw (drop_all k owns h) refl
+
+pub owns_more : (owns : List spec.Own) (k : ℕ) → k < length owns → placed (spec.own_at owns k) (all_placed (drop (k + 1) owns)) ≡ all_placed (drop k owns)
+unfolding all_placed
+owns_more owns k h = ap all_placed (sym (drop_more owns k spec.no_own h))

@@ -1,0 +1,13 @@
+//! The machine: an accepted image, loaded and run slot by slot. Its type keeps
+//! that it stands for the definition of the whole machine after so many slots.
+#![tactic(auto)]
+
+mod access;
+mod domain;
+mod instruction;
+mod machine;
+mod memory;
+mod slot;
+mod used;
+
+pub use machine::Machine;

@@ -1,0 +1,129 @@
+use super::Machine;
+use image_check::{CheckRefusal, Checked, check};
+use image_text::{ReadRefusal, read_image};
+use std::alloc::Global;
+use std::test::Fail;
+use tp_base::Memory;
+use world_view::{DomainStatus, Reply, Used, View};
+
+// What every image begins with.
+const MACHINE: &str = "frames = 64
+shared = 512
+line = 64
+l1i = { sets = 16, ways = 2, policy = \"lru\" }
+l1d = { sets = 16, ways = 2, policy = \"lru\" }
+l2 = { sets = 256, ways = 4, policy = \"lru\" }
+tlb = { sets = 4, ways = 2, policy = \"lru\" }
+predictor = 16
+costs = { base = 1, l1 = 1, l2 = 8, mem = 40, wb = 10, tlb = 1, mispredict = 3, trap = 10, flush = 20 }
+";
+
+// Two domains. Red reads the clock, stores it in the second page of its data
+// segment, prints `A` and exits; blue jumps to itself.
+const DOMAINS: &str = "[[domain]]
+name = \"red\"
+colours = [1]
+entry = 0x10004
+segment = [
+  { page = 32, pages = 3, rights = \"rw\", hex = \"01020304\" },
+  { page = 16, pages = 1, rights = \"rx\", hex = \"6f000000f32200c037130200232053401305100493081000730000009308000073000000\" },
+]
+[[domain]]
+name = \"blue\"
+colours = [2]
+entry = 0x10000
+segment = [{ page = 16, pages = 1, rights = \"x\", hex = \"6f000000\" }]
+[[schedule]]
+domain = 0
+length = 1000
+pad = 100
+[[schedule]]
+domain = 1
+length = 2000
+pad = 50
+";
+
+fn two_domains(alloc: Global) -> Result<Option<Checked>, Memory> {
+    let mut text = String::from_str(alloc, MACHINE)?;
+    text.push_str(DOMAINS)?;
+    let raw = match read_image(alloc, text.as_bytes()) {
+        Ok(raw) => raw,
+        Err(ReadRefusal::Memory) => return Err(Memory),
+        Err(ReadRefusal::Broken(_)) => return Ok(None),
+    };
+    match check(alloc, raw) {
+        Ok(image) => Ok(Some(image)),
+        Err(CheckRefusal::Memory) => Err(Memory),
+        Err(CheckRefusal::Broken(_)) => Ok(None),
+    }
+}
+
+#[derive(Clone, Copy, Debug, PartialEq, Eq)]
+struct Seen {
+    status: DomainStatus,
+    retired: u64,
+    pc: u32,
+    /// The first and the last.
+    readings: (u64, u64),
+    /// How many, and the last.
+    replies: (u64, Reply),
+    printed: usize,
+    pool: u32,
+    frame: u32,
+    /// A word of the second page.
+    word: u32,
+}
+
+fn told(view: &View<'_>) -> Option<Seen> {
+    if view.readings() == 0 || view.replies() == 0 || view.pool_len() < 2 {
+        return None;
+    }
+    let pc = view.thread(0).pc;
+    Some(Seen {
+        status: view.status(),
+        retired: view.retired(),
+        pc,
+        readings: (view.reading(0), view.last_reading()),
+        replies: (view.replies(), view.last_reply()),
+        printed: view.printed().len(),
+        pool: view.pool_len(),
+        frame: view.pool_frame(1).number(),
+        word: view.pool_word(1, 256),
+    })
+}
+
+// Red after three slots, and what the switches of the first entry took.
+fn ran(alloc: Global) -> Result<Option<(Seen, Used)>, Memory> {
+    let Some(image) = two_domains(alloc)? else {
+        return Ok(None);
+    };
+    image.runnable();
+    let mut machine = Machine::load(alloc, &image)?;
+    machine.run_slot();
+    machine.run_slot();
+    machine.run_slot();
+    let used = machine.used(0);
+    Ok(told(&machine.view(0)).map(|seen| (seen, used)))
+}
+
+// The first slot begins after the last entry's pad, at 50.
+#[test]
+fn slots_are_run(rt: HostRuntime) -> Result<(), Fail> {
+    let red = Seen {
+        status: DomainStatus::Exited(0),
+        retired: 6,
+        pc: 0x1_0020,
+        readings: (50, 50),
+        replies: (1, Reply { code: 0, value: 0 }),
+        printed: 1,
+        pool: 4,
+        frame: 1,
+        word: 50,
+    };
+    let used = Used {
+        largest: 0,
+        count: 1,
+    };
+    assert_eq!(rt; ran(rt.alloc())?, Some((red, used)));
+    Ok(())
+}

@@ -1,0 +1,195 @@
+// A domain in its slot.
+ghost use Rattle.std.specs.Prelude.{◌≡◌, ℕ, ◌+◌, ◌^◌, ◌<◌, ◌≤◌, List, false, None};
+ghost use Rattle.phys_mem.specs.Holds.{Holds};
+ghost use Rattle.rv_core.specs.Effect.{effect_of};
+ghost use Rattle.rv_core.specs.Memory.{address_of, misalignment_of};
+ghost use Rattle.rv_decode.specs.Ranges.{HasRegisters};
+ghost use Rattle.world_view.specs.declared.Reply.{Reply};
+ghost use Rattle.world_view.specs.Event as event;
+ghost use Rattle.image_check.specs.Public as image_spec;
+ghost use Rattle.world_view.specs.Machine as spec;
+ghost use Rattle.image_check.specs.Views.{own_view, hardware_view};
+ghost use Rattle.tp_machine.specs.Stands.{CountsUpTo, HasFrames, dom_view};
+ghost use Rattle.tp_machine.specs.Moves.{Answers, Leaves, Moves};
+
+use crate::access::{frame_for, load, page_fault, physical, store};
+use crate::domain::Domain;
+use crate::instruction::{call, counter_value, finish, stop};
+use image_check::{Hardware, Own};
+use phys_mem::PhysMem;
+use rv_core::{Trap, address, misalignment};
+use rv_decode::{Instr, decode};
+use world_view::{Access, DomainStatus};
+
+// ---- an instruction
+
+// What the instruction needs from outside the registers, at a clock: what a
+// load finds at its address, or a counter's value.
+fn loaded(
+    own: &Own,
+    memory: &PhysMem,
+    domain: &Domain,
+    now: u64,
+    instr: Instr,
+    at: u32,
+) -> Result<u32, Trap>
+    requires held { HasFrames (own_view own.now) memory.now.frames }
+    requires address { at ≡ address_of domain.now.thread.regs instr }
+    requires aligned { misalignment_of instr at ≡ None }
+    ensures answers { (s : event.Store) (readings : List ℕ) (replies : List Reply) → Holds memory.now s.mem
+        → Answers (dom_view domain.now readings replies) result memory.now (event.loaded (own_view own.now) now (dom_view domain.now readings replies) instr s) }
+{
+    match instr {
+        Instr::Load { width, .. } => load(own, memory, width, at),
+        Instr::ReadCounter { counter, .. } => Ok(counter_value(counter, now, domain)),
+        _ => Ok(0),
+    }
+}
+
+// The effect of an instruction: a trap, or a store, the registers and the next
+// instruction.
+fn settle(own: &Own, memory: &mut PhysMem, domain: &mut Domain, instr: Instr, value: u32)
+    requires held { HasFrames (own_view own.now) memory.old.frames }
+    requires registers { HasRegisters instr }
+    requires retired { domain.old.retired < 2 ^ 63 }
+    requires readings { domain.old.readings.count < 2 ^ 63 }
+    ensures leaves { Leaves (λ d. event.settle (own_view own.now) d instr value (effect_of d.thread.regs d.thread.pc instr value)) memory.old domain.old memory.new domain.new }
+    ensures frames { memory.new.frames ≡ memory.old.frames }
+    ensures retired { domain.new.retired ≤ domain.old.retired + 1 }
+    ensures readings { domain.new.readings.count ≤ domain.old.readings.count + 1 }
+    ensures replies { domain.new.replies.count ≡ domain.old.replies.count }
+{
+    let pc = domain.thread.pc;
+    let effect = rv_core::execute(&mut domain.thread.regs, pc, instr, value);
+    if let Some(trap) = effect.trap {
+        stop(domain, trap);
+        return;
+    }
+    match store(own, memory, effect.store) {
+        Ok(()) => finish(domain, instr, value, effect.next),
+        Err(trap) => stop(domain, trap),
+    }
+}
+
+// An instruction that is no kernel call. Misaligned loads and stores trap
+// before their address is translated.
+fn execute(own: &Own, memory: &mut PhysMem, domain: &mut Domain, now: u64, instr: Instr)
+    requires held { HasFrames (own_view own.now) memory.old.frames }
+    requires registers { HasRegisters instr }
+    requires retired { domain.old.retired < 2 ^ 63 }
+    requires readings { domain.old.readings.count < 2 ^ 63 }
+    ensures leaves { Leaves (λ d. event.execute (own_view own.now) now d instr) memory.old domain.old memory.new domain.new }
+    ensures frames { memory.new.frames ≡ memory.old.frames }
+    ensures retired { domain.new.retired ≤ domain.old.retired + 1 }
+    ensures readings { domain.new.readings.count ≤ domain.old.readings.count + 1 }
+    ensures replies { domain.new.replies.count ≡ domain.old.replies.count }
+{
+    let at = address(&domain.thread.regs, instr);
+    if let Some(trap) = misalignment(instr, at) {
+        stop(domain, trap);
+        return;
+    }
+    match loaded(own, memory, domain, now, instr, at) {
+        Ok(value) => settle(own, memory, domain, instr, value),
+        Err(trap) => stop(domain, trap),
+    }
+}
+
+// The domain's next instruction, at a clock.
+fn run_instruction(own: &Own, memory: &mut PhysMem, domain: &mut Domain, now: u64)
+    requires held { HasFrames (own_view own.now) memory.old.frames }
+    requires retired { domain.old.retired < 2 ^ 63 }
+    requires readings { domain.old.readings.count < 2 ^ 63 }
+    requires replies { domain.old.replies.count < 2 ^ 63 }
+    ensures leaves { (p : image_spec.Hardware) → Leaves (event.instruction p (own_view own.now) now) memory.old domain.old memory.new domain.new }
+    ensures frames { memory.new.frames ≡ memory.old.frames }
+    ensures retired { domain.new.retired ≤ domain.old.retired + 1 }
+    ensures readings { domain.new.readings.count ≤ domain.old.readings.count + 1 }
+    ensures replies { domain.new.replies.count ≤ domain.old.replies.count + 1 }
+{
+    let pc = domain.thread.pc;
+    let Some(frame) = frame_for(own, Access::Fetch, pc) else {
+        stop(domain, page_fault(Access::Fetch, pc));
+        return;
+    };
+    let word = memory.read_word(physical(frame, pc / 4 * 4));
+    let Some(instr) = decode(word) else {
+        stop(
+            domain,
+            Trap {
+                code: 2,
+                value: word,
+            },
+        );
+        return;
+    };
+    match instr {
+        Instr::Ecall => call(domain),
+        _ => execute(own, memory, domain, now, instr),
+    }
+}
+
+// ---- a slot
+
+/// One event of the domain in a slot that ends then. Answers the new clock,
+/// in cycles, which may be past the end by less than an instruction takes.
+pub fn step(
+    hardware: &Hardware,
+    own: &Own,
+    memory: &mut PhysMem,
+    domain: &mut Domain,
+    now: u64,
+    end: u64,
+) -> u64
+    requires timed { 0 < hardware.now.base }
+    requires short { hardware.now.base ≤ 1000 }
+    requires held { HasFrames (own_view own.now) memory.old.frames }
+    requires before { now < end }
+    requires end { end < 2 ^ 62 }
+    requires few { CountsUpTo now domain.old }
+    ensures becomes { Moves (spec.step (hardware_view hardware.now) (own_view own.now) false end) memory.old domain.old now memory.new domain.new result }
+    ensures frames { memory.new.frames ≡ memory.old.frames }
+    ensures few { CountsUpTo result domain.new }
+    ensures later { now < result }
+    ensures soon { result < end + hardware.now.base }
+{
+    match domain.status {
+        DomainStatus::Running => {
+            run_instruction(own, memory, domain, now);
+            now + u64::from(hardware.base)
+        }
+        _ => end,
+    }
+}
+
+/// Events while the clock is below the end. Answers the clock after them.
+pub fn stretch(
+    hardware: &Hardware,
+    own: &Own,
+    memory: &mut PhysMem,
+    domain: &mut Domain,
+    now: u64,
+    end: u64,
+) -> u64
+    requires timed { 0 < hardware.now.base }
+    requires short { hardware.now.base ≤ 1000 }
+    requires held { HasFrames (own_view own.now) memory.old.frames }
+    requires before { now < 2 ^ 62 }
+    requires end { end < 2 ^ 62 }
+    requires few { CountsUpTo now domain.old }
+    ensures becomes { Moves (spec.stretch (hardware_view hardware.now) (own_view own.now) false end) memory.old domain.old now memory.new domain.new result }
+    ensures frames { memory.new.frames ≡ memory.old.frames }
+    ensures few { CountsUpTo result domain.new }
+    ensures over { end ≤ result }
+    ensures soon { now < end → result < end + hardware.now.base }
+    ensures done { end ≤ now → result ≡ now }
+{
+    let mut clock = now;
+    while clock < end {
+        clock = step(hardware, own, memory, domain, clock, end);
+    }
+    clock
+}
+
+#[cfg(test)]
+mod tests;

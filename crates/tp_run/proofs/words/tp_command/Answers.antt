@@ -1,0 +1,16 @@
+use Rattle.std.proofs.Common.{ap, ap₂, ◌∙◌}
+use Rattle.std.proofs.lemmas.Result.{IfOk-weaker}
+use Rattle.clap.specs.Words.{App, with_subcommand}
+use Rattle.clap.specs.Simple.{app_of_fields, on_top}
+use Rattle.world_view.specs.Words.{tp_app, required}
+use Rattle.tp_run.proofs.words.tp_command.Goals as goal
+
+-- one link for each subcommand
+pub returns : goal.returns
+unfolding tp_app
+returns c =
+    let top = ap app_of_fields c.subcommand_required.ensures ∙ ap (on_top required) c.new.ensures.app in
+    let run = ap (λ (a : App). a.top) c.in_ok-run.ensures.app in
+    record {
+      app = IfOk-weaker c.subcommand.result _ _ (λ made adds. adds.shape c.in_ok-run.ensures.local ∙ ap₂ with_subcommand top run) c.subcommand.ensures;
+    }
