@@ -1,13 +1,13 @@
 -- The ranges of the typed numbers.
 use Rattle.std.specs.Prelude.{ℕ, ◌^◌, ◌<◌}
 
--- frames of 4,096 bytes: no machine has more than 16,384
+-- frames of 4,096 bytes: no machine has more than 32,768
 abbrev pub IsFrameNo : ℕ → Type 0
-IsFrameNo n = n < 2 ^ 14
+IsFrameNo n = n < 2 ^ 15
 
 -- lines of 16 bytes or more in that many frames
 abbrev pub IsLine : ℕ → Type 0
-IsLine n = n < 2 ^ 22
+IsLine n = n < 2 ^ 23
 
 -- page colours
 abbrev pub IsColour : ℕ → Type 0

@@ -19,7 +19,7 @@ impl Model for FrameNo {
 }
 
 impl FrameNo {
-    /// A frame number below 16,384 (2^14).
+    /// A frame number below 32,768 (2^15).
     pub fn new(number: u32) -> Self
         requires { IsFrameNo number }
         ensures { result ≡ number }
@@ -50,7 +50,7 @@ impl Model for Line {
 }
 
 impl Line {
-    /// A line number below 4,194,304 (2^22).
+    /// A line number below 8,388,608 (2^23).
     pub fn new(number: u32) -> Self
         requires { IsLine number }
         ensures { result ≡ number }

@@ -42,10 +42,12 @@ pub struct Machine<'a> {
 }
 
 impl<'a> Machine<'a> {
-    ghost use Rattle.std.specs.Prelude.{◌≡◌, ◌+◌, ◌<◌, length, IfOk};
-    ghost use Rattle.world_view.specs.Image.{image_from};
+    ghost use Rattle.std.specs.Prelude.{◌≡◌, ◌+◌, ◌<◌, ◌≤◌, length, IfOk};
+    ghost use Rattle.image_check.specs.Public.{entry_in};
+    ghost use Rattle.world_view.specs.Image.{image_from, own_of};
     ghost use Rattle.world_view.specs.Machine as spec;
-    ghost use Rattle.world_view.specs.View.{view_whole};
+    ghost use Rattle.world_view.specs.Schedule as schedule;
+    ghost use Rattle.world_view.specs.View.{view_whole, view_alone};
     ghost use Rattle.world_view.specs.Views.{view_view};
     ghost use Rattle.world_view.specs.Report.{largest_of, count_of};
     ghost use Rattle.tp_machine.specs.Usage.{IsUsed};
@@ -77,11 +79,12 @@ impl<'a> Machine<'a> {
     }
 
     /// Switches to the domain of the next slot, waits for its start, and runs it.
-    /// Never allocates.
+    /// The slot begins at exactly its start. Never allocates.
     pub fn run_slot(&mut self)
         requires slots { self.old.slots < 65536 }
         ensures slots { self.new.slots ≡ self.old.slots + 1 }
         ensures image { self.new.image.now ≡ self.old.image.now }
+        ensures begins { (spec.switch (image_from self.old.image.now) self.old.slots (spec.whole (image_from self.old.image.now) self.old.slots)).clock ≡ schedule.start (image_from self.old.image.now).all.schedule self.old.slots }
     {
         let public = self.image.public();
         let entries = public.schedule.len();
@@ -104,10 +107,12 @@ impl<'a> Machine<'a> {
         self.slots += 1;
     }
 
-    /// What is seen of a domain after the slots that have run.
+    /// What is seen of a domain after the slots that have run: what is seen of it
+    /// alone after them.
     pub fn view(&self, d: u8) -> View<'_>
         requires domain { d < length (image_from self.now.image.now).owns }
         ensures view { view_view result ≡ view_whole (image_from self.now.image.now) d self.now.slots }
+        ensures alone { view_view result ≡ view_alone (image_from self.now.image.now).all (own_of (image_from self.now.image.now) d) d self.now.slots }
     {
         let own = self.image.own(usize::from(d));
         let domain = &self.domains[usize::from(d)];
@@ -124,11 +129,12 @@ impl<'a> Machine<'a> {
         }
     }
 
-    /// What the switches of an entry took.
+    /// What the switches of an entry took: none more than the entry's pad.
     pub fn used(&self, entry: u32) -> Used
         requires entry { entry < length (image_from self.now.image.now).all.schedule }
         ensures largest { result.largest ≡ largest_of entry (spec.whole (image_from self.now.image.now) self.now.slots).used }
         ensures count { result.count ≡ count_of entry (spec.whole (image_from self.now.image.now) self.now.slots).used }
+        ensures within { result.largest ≤ (entry_in (image_from self.now.image.now).all.schedule entry).pad }
     {
         self.used[entry as usize]
     }

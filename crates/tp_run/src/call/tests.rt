@@ -220,35 +220,21 @@ fn a_domain_stops_at_what_it_may_not_do(rt: HostRuntime) -> Result<(), Fail> {
     )
 }
 
+// These words are no command, whatever the image.
+fn expect_usage(rt: &impl Abort, alloc: Global, line: &str) -> Result<(), Fail> {
+    let prints = image(alloc, PRINTS_A, PRINTS_B)?;
+    expect(rt, alloc, line, prints.as_bytes(), Status::Usage, USAGE)
+}
+
 #[test]
 fn other_words_have_the_usage_line(rt: HostRuntime) -> Result<(), Fail> {
     let alloc = rt.alloc();
-    let prints = image(alloc, PRINTS_A, PRINTS_B)?;
-    expect(&rt, alloc, "tp", prints.as_bytes(), Status::Usage, USAGE)?;
-    expect(
-        &rt,
-        alloc,
-        "tp run",
-        prints.as_bytes(),
-        Status::Usage,
-        USAGE,
-    )?;
-    expect(
-        &rt,
-        alloc,
-        "tp run --slots 65537",
-        prints.as_bytes(),
-        Status::Usage,
-        USAGE,
-    )?;
-    expect(
-        &rt,
-        alloc,
-        "tp fly",
-        prints.as_bytes(),
-        Status::Usage,
-        USAGE,
-    )
+    expect_usage(&rt, alloc, "tp")?;
+    expect_usage(&rt, alloc, "tp run")?;
+    expect_usage(&rt, alloc, "tp run --slots 65537")?;
+    expect_usage(&rt, alloc, "tp fly")?;
+    expect_usage(&rt, alloc, "tp help")?;
+    expect_usage(&rt, alloc, "tp run --help")
 }
 
 #[test]

@@ -7,6 +7,8 @@ use Rattle.world_view.specs.Schedule as schedule
 use Rattle.world_view.specs.Machine.{stretch}
 use Rattle.tp_machine.specs.Moves.{Moves}
 use Rattle.tp_machine.specs.Usage.{IsUsed, CountedUpTo}
+use Rattle.world_view.proofs.Separate.{separated}
+use Rattle.world_view.proofs.TimeLaws.{on_time}
 use Rattle.tp_machine.proofs.Pages.{held_at}
 use Rattle.tp_machine.proofs.SwitchCounts.{noted_back, counted_back, length_back}
 use Rattle.tp_machine.proofs.Slots.{schedule_long, entry_read, domain_named, length_short, pad_short, counts_later, stands_next, in_bounds_next}
@@ -125,3 +127,9 @@ invariant_of-self-clause-in_bounds c =
     m.in_bounds c.requires.slots (omega (arith, len, c.from.ensures)) (omega (arith, pad, c.from-2.ensures)) short within c.max-begin.ensures
     c.stretch-self.ensures.few c.stretch-self.ensures.over c.stretch-self.ensures.soon c.stretch-self.ensures.done
     (counted_back m.used.items c.note_switch.new.used m.used.len long was counted)
+
+pub returns-clause-begins : goal.returns-clause-begins
+returns-clause-begins c =
+    let m = c.args.self.now in
+    let i = image_from m.image.now in
+    on_time i (separated i m.accepted) m.slots

@@ -1,10 +1,12 @@
-use Rattle.std.proofs.Common.{◌≡◌, ◌<◌, length, map, refl, sym, arith}
+use Rattle.std.proofs.Common.{◌≡◌, ◌<◌, length, map, refl, sym, arith, ◌∙◌}
 use Rattle.std.proofs.lemmas.Option.{slice_get_read}
 use Rattle.image_check.specs.Views.{segment_view, own_view}
 use Rattle.world_view.specs.Image.{image_from, own_of, pages_in}
 use Rattle.world_view.specs.Machine.{whole, dom_of}
 use Rattle.world_view.specs.View.{view_whole}
 use Rattle.world_view.proofs.Logs.{kept_of}
+use Rattle.world_view.proofs.Separate.{separated}
+use Rattle.world_view.proofs.WholeLaws.{isolated}
 use Rattle.tp_machine.proofs.Pages.{held_at, pool_few}
 use Rattle.tp_machine.proofs.Slots.{view_is}
 use Rattle.tp_machine.proofs.machine.Machine.view.Goals as goal
@@ -35,9 +37,9 @@ invariant_of-result c =
       replies_kept = rw stands.replies (kept_of (dom_of (whole i m.slots) c.args.d).replies);
     }
 
-pub returns : goal.returns
+pub returns-clause-view : goal.returns-clause-view
 unfolding view_whole
-returns c =
+returns-clause-view c =
     let m = c.args.self.now in
     let i = image_from m.image.now in
     let w = whole i m.slots in
@@ -49,4 +51,10 @@ returns c =
     let stands = m.stands.each_domain c.args.d x (slice_get_read m.domains.items (length m.domains.items) c.args.d x refl within read) in
     let held = held_at i m.accepted c.args.d c.requires.domain o m.memory.frames own m.stands.frames in
     let pages : c.pages_of.result ≡ pages_in (map segment_view o.segments.items) = rw c.as_slice-2.ensures.value at c.pages_of.ensures.value in
-    record { view = rw (sym own, pages, c.as_slice.ensures.value) (view_is x (dom_of w c.args.d) i.all.hardware (own_view o) m.memory w.store stands m.stands.held held.all m.stands.frames) }
+    rw (sym own, pages, c.as_slice.ensures.value) (view_is x (dom_of w c.args.d) i.all.hardware (own_view o) m.memory w.store stands m.stands.held held.all m.stands.frames)
+
+pub returns-clause-alone : goal.returns-clause-alone
+returns-clause-alone c =
+    let m = c.args.self.now in
+    let i = image_from m.image.now in
+    returns-clause-view c ∙ isolated i c.args.d m.slots (separated i m.accepted) c.requires.domain
