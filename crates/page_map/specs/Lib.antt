@@ -1,0 +1,5 @@
+pub mod Words
+pub mod Tables
+pub mod Changes
+pub mod Reached
+pub mod Bench

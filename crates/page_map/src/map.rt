@@ -1,0 +1,224 @@
+ghost use Rattle.std.specs.Prelude.{◌≡◌, ◌≢◌, ℕ, ◌/◌, ◌%◌, ◌^◌, ◌<◌, ◌≤◌, true, Some, None, IfOk, IfErr};
+ghost use Rattle.phys_mem.specs.Contents.{byte_at};
+ghost use Rattle.phys_mem.specs.Mem.{Mem, word};
+ghost use Rattle.phys_mem.specs.Holds.{Holds};
+ghost use Rattle.sv32_walk.specs.Entry.{vpn_0, vpn_1};
+ghost use Rattle.sv32_walk.specs.Walk.{entry_address};
+ghost use Rattle.sv32_walk.specs.Translation.{first_entry};
+ghost use Rattle.page_map.specs.Words.{are_good};
+ghost use Rattle.page_map.specs.Tables.{IsPageMap, IsNoTable, IsBlank, StandsWith, has_table, has_page, map_refusal, install_refusal};
+ghost use Rattle.page_map.specs.Changes.{table_entry, page_entry, mapped, unmapped, installed, uninstalled};
+
+use crate::MapRefusal;
+use crate::entry::{frame_in, is_valid, leaf_word, table_word};
+use phys_mem::PhysMem;
+use std::marker::Model;
+use tp_base::FrameNo;
+
+// What a page has in bytes, and what the pages of one table have together.
+const PAGE: u32 = 4096;
+
+const REGION: u32 = 4_194_304;
+
+/// The page tables of one domain, by the frame of their root. They stand in
+/// memory, which each call is handed.
+#[derive(Drop)]
+pub struct PageMap {
+    root: FrameNo,
+}
+
+impl Model for PageMap {
+    ghost use Rattle.std.specs.Prelude.{ℕ};
+
+    ghost Value = { ℕ };
+
+    ghost view = { λ m. m.root };
+}
+
+// An entry of a table: its physical address and its word.
+#[derive(Clone, Copy)]
+struct Slot {
+    at: u32,
+    word: u32,
+}
+
+impl PageMap {
+    /// The tables of a root in a frame.
+    pub fn new(root: FrameNo) -> Self
+        ensures { result ≡ root }
+    {
+        PageMap { root }
+    }
+
+    /// The frame of the root.
+    pub fn root(&self) -> FrameNo
+        ensures { result ≡ self.now }
+    {
+        self.root
+    }
+
+    /// Maps the page at a virtual address to a frame, with rights 1 read, 2
+    /// write, 4 execute, and answers the physical address of the leaf that it
+    /// wrote.
+    ///
+    /// # Errors
+    /// `BadAddress` where the address is no multiple of 4,096; `Mapped` where
+    /// it has a valid leaf; `NoTable` where no table is installed for it.
+    /// Memory is unchanged then.
+    #[tactic(auto, using(crate::proofs::RefusalLemmas::map_unaligned, crate::proofs::RefusalLemmas::map_taken, crate::proofs::RefusalLemmas::map_no_table, crate::proofs::RefusalLemmas::map_free))]
+    pub fn map(
+        &mut self,
+        mem: &mut PhysMem,
+        va: u32,
+        frame: FrameNo,
+        rights: u8,
+    ) -> Result<u32, MapRefusal>
+        requires tables { StandsWith mem.old (λ m. IsPageMap m self.old mem.old.frames) }
+        requires frame { frame < mem.old.frames }
+        requires no_root { frame ≢ self.old }
+        requires no_table { StandsWith mem.old (λ m. IsNoTable m self.old frame) }
+        requires rights { are_good rights ≡ true }
+        ensures refused { (m : Mem) → Holds mem.old m → IfErr result (λ refusal. map_refusal m self.old va ≡ Some refusal) }
+        ensures allowed { (m : Mem) → Holds mem.old m → IfOk result (λ at. map_refusal m self.old va ≡ None) }
+        ensures entry { (m : Mem) → Holds mem.old m → IfOk result (λ at. at ≡ page_entry m self.old va) }
+        ensures mapped { (m : Mem) → Holds mem.old m → IfOk result (λ at. Holds mem.new (mapped m self.old va frame rights)) }
+        ensures others { IfOk result (λ at. (address : ℕ) → address / 4 ≢ at / 4 → byte_at mem.new address ≡ byte_at mem.old address) }
+        ensures unchanged { IfErr result (λ refusal. mem.new ≡ mem.old) }
+        ensures frames { mem.new.frames ≡ mem.old.frames }
+        ensures root { self.new ≡ self.old }
+    {
+        if !va.is_multiple_of(PAGE) {
+            return Err(MapRefusal::BadAddress);
+        }
+        let pointer = self.pointer(mem, va);
+        if !is_valid(pointer.word) {
+            return Err(MapRefusal::NoTable);
+        }
+        let leaf = leaf_of(mem, frame_in(pointer.word), va);
+        if is_valid(leaf.word) {
+            return Err(MapRefusal::Mapped);
+        }
+        mem.write_word(leaf.at, leaf_word(frame, rights));
+        Ok(leaf.at)
+    }
+
+    /// Clears the valid leaf of the page that a virtual address lies in, and
+    /// answers its physical address.
+    pub fn unmap(&mut self, mem: &mut PhysMem, va: u32) -> u32
+        requires tables { StandsWith mem.old (λ m. IsPageMap m self.old mem.old.frames) }
+        requires page { StandsWith mem.old (λ m. has_page m self.old va ≡ true) }
+        ensures entry { (m : Mem) → Holds mem.old m → result ≡ page_entry m self.old va }
+        ensures unmapped { (m : Mem) → Holds mem.old m → Holds mem.new (unmapped m self.old va) }
+        ensures others { (address : ℕ) → address / 4 ≢ result / 4 → byte_at mem.new address ≡ byte_at mem.old address }
+        ensures frames { mem.new.frames ≡ mem.old.frames }
+        ensures root { self.new ≡ self.old }
+    {
+        let pointer = self.pointer(mem, va);
+        let leaf = leaf_of(mem, frame_in(pointer.word), va);
+        mem.write_word(leaf.at, 0);
+        leaf.at
+    }
+
+    /// Installs a blank frame as the table for the 4 MiB at a virtual address,
+    /// and answers the physical address of the root's entry.
+    ///
+    /// # Errors
+    /// `BadAddress` where the address is no multiple of 4,194,304; `Mapped`
+    /// where the root's entry is valid. Memory is unchanged then.
+    #[tactic(auto, using(crate::proofs::RefusalLemmas::install_unaligned, crate::proofs::RefusalLemmas::install_taken, crate::proofs::RefusalLemmas::install_free))]
+    pub fn install_table(
+        &mut self,
+        mem: &mut PhysMem,
+        va: u32,
+        frame: FrameNo,
+    ) -> Result<u32, MapRefusal>
+        requires tables { StandsWith mem.old (λ m. IsPageMap m self.old mem.old.frames) }
+        requires frame { frame < mem.old.frames }
+        requires no_root { frame ≢ self.old }
+        requires no_table { StandsWith mem.old (λ m. IsNoTable m self.old frame) }
+        requires blank { StandsWith mem.old (λ m. IsBlank m frame) }
+        ensures refused { (m : Mem) → Holds mem.old m → IfErr result (λ refusal. install_refusal m self.old va ≡ Some refusal) }
+        ensures allowed { (m : Mem) → Holds mem.old m → IfOk result (λ at. install_refusal m self.old va ≡ None) }
+        ensures entry { IfOk result (λ at. at ≡ table_entry self.old va) }
+        ensures installed { (m : Mem) → Holds mem.old m → IfOk result (λ at. Holds mem.new (installed m self.old va frame)) }
+        ensures others { IfOk result (λ at. (address : ℕ) → address / 4 ≢ at / 4 → byte_at mem.new address ≡ byte_at mem.old address) }
+        ensures unchanged { IfErr result (λ refusal. mem.new ≡ mem.old) }
+        ensures frames { mem.new.frames ≡ mem.old.frames }
+        ensures root { self.new ≡ self.old }
+    {
+        if !va.is_multiple_of(REGION) {
+            return Err(MapRefusal::BadAddress);
+        }
+        let pointer = self.pointer(mem, va);
+        if is_valid(pointer.word) {
+            return Err(MapRefusal::Mapped);
+        }
+        mem.write_word(pointer.at, table_word(frame));
+        Ok(pointer.at)
+    }
+
+    /// Clears the root's valid entry for a virtual address, and answers its
+    /// physical address. The table itself stays as it is.
+    pub fn uninstall_table(&mut self, mem: &mut PhysMem, va: u32) -> u32
+        requires tables { StandsWith mem.old (λ m. IsPageMap m self.old mem.old.frames) }
+        requires table { StandsWith mem.old (λ m. has_table m self.old va ≡ true) }
+        ensures entry { result ≡ table_entry self.old va }
+        ensures uninstalled { (m : Mem) → Holds mem.old m → Holds mem.new (uninstalled m self.old va) }
+        ensures others { (address : ℕ) → address / 4 ≢ result / 4 → byte_at mem.new address ≡ byte_at mem.old address }
+        ensures frames { mem.new.frames ≡ mem.old.frames }
+        ensures root { self.new ≡ self.old }
+    {
+        let pointer = self.pointer(mem, va);
+        mem.write_word(pointer.at, 0);
+        pointer.at
+    }
+
+    // The root's entry for an address.
+    #[tactic(auto, unfolding(sv32_walk::specs::Entry::vpn_1))]
+    fn pointer(&self, mem: &PhysMem, va: u32) -> Slot
+        requires { self.now < mem.now.frames }
+        ensures address { result.at ≡ table_entry self.now va }
+        ensures frame { result.at / 4096 ≡ self.now }
+        ensures place { result.at % 4096 / 4 ≡ vpn_1 va }
+        ensures aligned { result.at % 4 ≡ 0 }
+        ensures word { (m : Mem) → Holds mem.now m → result.word ≡ first_entry m self.now va }
+    {
+        entry_of(mem, self.root.number(), va >> 22)
+    }
+}
+
+// The entry for an address in a table.
+#[tactic(auto, unfolding(sv32_walk::specs::Entry::vpn_0))]
+fn leaf_of(mem: &PhysMem, table: u32, va: u32) -> Slot
+    requires { table < mem.now.frames }
+    ensures address { result.at ≡ entry_address table (vpn_0 va) }
+    ensures frame { result.at / 4096 ≡ table }
+    ensures place { result.at % 4096 / 4 ≡ vpn_0 va }
+    ensures aligned { result.at % 4 ≡ 0 }
+    ensures word { (m : Mem) → Holds mem.now m → result.word ≡ word m table (vpn_0 va) }
+{
+    entry_of(mem, table, (va >> 12) & 0x3ff)
+}
+
+// The entry of a table at an index.
+#[tactic(auto, unfolding(sv32_walk::specs::Walk::entry_address))]
+fn entry_of(mem: &PhysMem, table: u32, index: u32) -> Slot
+    requires within { table < mem.now.frames }
+    requires index { index < 1024 }
+    ensures address { result.at ≡ entry_address table index }
+    ensures frame { result.at / 4096 ≡ table }
+    ensures place { result.at % 4096 / 4 ≡ index }
+    ensures aligned { result.at % 4 ≡ 0 }
+    ensures word { (m : Mem) → Holds mem.now m → result.word ≡ word m table index }
+{
+    // The number of frames bounds the address.
+    let _frames = mem.frames();
+    let at = table * 4096 + index * 4;
+    Slot {
+        at,
+        word: mem.read_word(at),
+    }
+}
+
+#[cfg(test)]
+mod tests;
