@@ -97,7 +97,7 @@ module _ (memory : Contents) (root next : ℕ) (b : IsBench memory root next) wh
     mapped_bench : (rights : ℕ) → map_refusal b.mem root va ≡ None → Holds new (mapped b.mem root va next rights) → IsBench new root next
     mapped_bench rights allowed holds =
         let table : has_table b.mem root va ≡ true = unrefused_table b.mem root va allowed in
-        let low : table_of b.mem root va < next = b.only.each (vpn_1 va) (vpn_1-below va address) table in
+        let low : table_of b.mem root va < next = b.only.each (vpn_1 va) (vpn_1-below va) table in
         record {
           mem = mapped b.mem root va next rights;
           holds = holds;

@@ -83,7 +83,7 @@ pointer-points entry root frames p = subst Points (sym p.pointer) (points-table 
 module _ (mem : Mem) (root frames va : ℕ) (k : IsPageMap mem root frames) (within : va < 2 ^ 32) where
   -- the pointer for an address
   pub pointer_at : has_table mem root va ≡ true → IsPointer (first_entry mem root va) root frames
-  pointer_at table = k.tables (vpn_1 va) (vpn_1-below va within) table
+  pointer_at table = k.tables (vpn_1 va) (vpn_1-below va) table
 
   -- a write to the table of an address leaves the root as it is
   pub root_stays : has_table mem root va ≡ true → (place value i : ℕ)

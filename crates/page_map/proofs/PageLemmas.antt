@@ -58,11 +58,11 @@ module _ (mem : Mem) (root frames va value : ℕ) (k : IsPageMap mem root frames
     | inl region ↦
         let same_table : table_of mem root at ≡ table_of mem root va = ap (λ (i : ℕ). ppn (word mem root i)) region in
         ap (λ (t : ℕ). word (written mem (table_of mem root va) (vpn_0 va) value) t (vpn_0 at)) same_table
-        ∙ word-written_place mem (table_of mem root va) (vpn_0 va) value (vpn_0 at) (other_place at va apart region)
+        ∙ word-written_place mem (table_of mem root va) (vpn_0 va) value (vpn_0 at) (other_place at va at_fits address apart region)
         ∙ ap (λ (t : ℕ). word mem t (vpn_0 at)) (sym same_table)
     | inr region ↦
         word-written_frame mem (table_of mem root va) (vpn_0 va) value (table_of mem root at) (vpn_0 at)
-        (λ e. region (k.once (vpn_1 at) (vpn_1 va) (vpn_1-below at at_fits) (vpn_1-below va address) at_table table e))
+        (λ e. region (k.once (vpn_1 at) (vpn_1 va) (vpn_1-below at) (vpn_1-below va) at_table table e))
   ]
 
   pub walk_elsewhere : (at : ℕ) (access : Access) → at < 2 ^ 32 → at / 4096 ≢ va / 4096

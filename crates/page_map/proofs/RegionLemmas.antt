@@ -19,9 +19,9 @@ pub region_is : (at va : ℕ) → at / 4194304 ≡ va / 4194304 → vpn_1 at ≡
 unfolding vpn_1
 region_is at va e = omega arith
 
-pub other_region : (at va : ℕ) → at / 4194304 ≢ va / 4194304 → vpn_1 at ≢ vpn_1 va
+pub other_region : (at va : ℕ) → at < 2 ^ 32 → va < 2 ^ 32 → at / 4194304 ≢ va / 4194304 → vpn_1 at ≢ vpn_1 va
 unfolding vpn_1
-other_region at va apart e = apart (omega arith)
+other_region at va at_fits fits apart e = apart (omega arith)
 
 module _ (mem : Mem) (root frames va value : ℕ) (k : IsPageMap mem root frames) where
   -- an address of another region
@@ -32,7 +32,7 @@ module _ (mem : Mem) (root frames va value : ℕ) (k : IsPageMap mem root frames
       let first : first_entry new root at ≡ first_entry mem root at = word-written_place mem root (vpn_1 va) value (vpn_1 at) apart in
       elim (bool_cases (has_table mem root at)) [
         | inl table ↦
-            let p : IsPointer (first_entry mem root at) root frames = k.tables (vpn_1 at) (vpn_1-below at fits) table in
+            let p : IsPointer (first_entry mem root at) root frames = k.tables (vpn_1 at) (vpn_1-below at) table in
             walk_same mem new frames root at access k.in_memory first
             (word-written_frame mem root (vpn_1 va) value (table_of mem root at) (vpn_0 at) p.apart)
         | inr none ↦

@@ -95,9 +95,9 @@ walk_same m n frames root va access in_root first second =
 
 -- ---- addresses
 
-pub vpn_1-below : (va : ℕ) → va < 2 ^ 32 → vpn_1 va < 1024
+pub vpn_1-below : (va : ℕ) → vpn_1 va < 1024
 unfolding vpn_1
-vpn_1-below va e = omega arith
+vpn_1-below va = omega arith
 
 pub vpn_0-below : (va : ℕ) → vpn_0 va < 1024
 unfolding vpn_0
@@ -111,6 +111,6 @@ pub same_place : (at va : ℕ) → at / 4096 ≡ va / 4096 → vpn_0 at ≡ vpn_
 unfolding vpn_0
 same_place at va e = omega arith
 
-pub other_place : (at va : ℕ) → at / 4096 ≢ va / 4096 → vpn_1 at ≡ vpn_1 va → vpn_0 at ≢ vpn_0 va
+pub other_place : (at va : ℕ) → at < 2 ^ 32 → va < 2 ^ 32 → at / 4096 ≢ va / 4096 → vpn_1 at ≡ vpn_1 va → vpn_0 at ≢ vpn_0 va
 unfolding vpn_0 vpn_1
-other_place at va apart region place = apart (omega arith)
+other_place at va at_fits fits apart region place = apart (omega arith)

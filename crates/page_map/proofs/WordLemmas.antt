@@ -3,8 +3,9 @@ use Rattle.std.proofs.Common.{arith, ◌≡◌, ◌∙◌, ap, sym, refl, inl, i
 use Rattle.sv32_walk.specs.declared.access.Access.{Access}
 use Rattle.sv32_walk.specs.declared.access.Access.TheVariants.{Fetch, Load, Store}
 use Rattle.sv32_walk.specs.Entry.{bit, valid, readable, writable, executable, user, accessed, dirty, ppn}
-use Rattle.sv32_walk.specs.Walk.{permits}
+use Rattle.sv32_walk.specs.Walk.{is_leaf, permits}
 use Rattle.sv32_walk.specs.Translation.{Allows, Points}
+use Rattle.sv32_walk.proofs.EntryLemmas.{allowed-leaf}
 use Rattle.page_map.specs.Words.{are_good, give, table_word, leaf_bits, leaf_word}
 
 -- ---- zero
@@ -142,3 +143,18 @@ allows-leaf frame rights access is_good given =
 pub refuses-leaf : (frame rights : ℕ) (access : Access) → are_good rights ≡ true → give rights access ≡ false
     → permits access (leaf_word frame rights) ≡ false
 refuses-leaf frame rights access is_good given = permits-leaf frame rights (few rights (good rights is_good)) access ∙ given
+
+-- a good right is to read, or to execute
+some_right : (rights : ℕ) → Good rights → (give rights Load ≡ true) ⊎ (give rights Fetch ≡ true)
+unfolding give
+some_right rights (read e) = inl (ap (λ (n : ℕ). eqb n 1) (let m : rights % 2 ≡ 1 = omega arith in m))
+some_right rights (read_write e) = inl (ap (λ (n : ℕ). eqb n 1) (let m : rights % 2 ≡ 1 = omega arith in m))
+some_right rights (execute e) = inr (ap (λ (n : ℕ). eqb n 1) (let m : rights / 4 % 2 ≡ 1 = omega arith in m))
+some_right rights (read_execute e) = inl (ap (λ (n : ℕ). eqb n 1) (let m : rights % 2 ≡ 1 = omega arith in m))
+some_right rights (all_three e) = inl (ap (λ (n : ℕ). eqb n 1) (let m : rights % 2 ≡ 1 = omega arith in m))
+
+pub leaf-good : (frame rights : ℕ) → are_good rights ≡ true → is_leaf (leaf_word frame rights) ≡ true
+leaf-good frame rights is_good = elim (some_right rights (good rights is_good)) [
+  | inl reads ↦ allowed-leaf Load (leaf_word frame rights) (allows-leaf frame rights Load is_good reads)
+  | inr runs ↦ allowed-leaf Fetch (leaf_word frame rights) (allows-leaf frame rights Fetch is_good runs)
+]

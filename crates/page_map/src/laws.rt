@@ -1,17 +1,20 @@
 //! Laws of the definitions: what a caller may rely on after each call. The
 //! premises are the conditions of the call, and that it is not refused.
-ghost use Rattle.std.specs.Prelude.{◌≡◌, ◌≢◌, ℕ, ◌/◌, ◌^◌, ◌<◌, Bool, true, false, Ok, Err};
+ghost use Rattle.std.specs.Prelude.{◌≡◌, ◌≢◌, ℕ, ◌/◌, ◌^◌, ◌<◌, Bool, true, false, Ok, Err, IfOk};
 ghost use Rattle.tp_base.specs.Table.{empty};
 ghost use Rattle.phys_mem.specs.Mem.{Mem};
 ghost use Rattle.sv32_walk.specs.declared.access.Access.{Access};
 ghost use Rattle.sv32_walk.specs.Entry.{ppn};
 ghost use Rattle.sv32_walk.specs.Walk.{walk};
 ghost use Rattle.page_map.specs.Words.{are_good, give, leaf_word};
-ghost use Rattle.page_map.specs.Tables.{IsPageMap, IsNoTable, IsBlank, has_table, has_page};
+ghost use Rattle.page_map.specs.Tables.{IsPageMap, IsNoTable, IsBlank, StandsWith, has_table, has_page};
 ghost use Rattle.page_map.specs.Changes.{mapped, unmapped, installed, uninstalled, CanMap, CanUnmap, CanInstall, CanUninstall};
 ghost use Rattle.page_map.specs.Reached.{IsIn, PagesIn, ReachesIn, IsSealed};
 
-use sv32_walk::WalkFault;
+use crate::{MapRefusal, PageMap};
+use phys_mem::PhysMem;
+use sv32_walk::{Access, WalkFault, walk};
+use tp_base::FrameNo;
 
 /// A root that reads zero has no tables, and nothing is reached from it; in an
 /// empty memory each frame reads zero.
@@ -120,3 +123,28 @@ pub fn sealed()
     ensures uninstall { (m : Mem) (root frames va : ℕ) → CanUninstall m root frames va
         → IsSealed m root → IsSealed (uninstalled m root va) root }
 {}
+
+/// Maps a page and then walks to it: the walk sees the new leaf, whatever an
+/// earlier one saw.
+///
+/// # Errors
+/// Those of `PageMap::map`.
+pub fn map_and_walk(
+    map: &mut PageMap,
+    mem: &mut PhysMem,
+    va: u32,
+    frame: FrameNo,
+    rights: u8,
+    access: Access,
+) -> Result<Result<u32, WalkFault>, MapRefusal>
+    requires tables { StandsWith mem.old (λ m. IsPageMap m map.old mem.old.frames × IsNoTable m map.old frame) }
+    requires frame { frame < mem.old.frames }
+    requires no_root { frame ≢ map.old }
+    requires rights { are_good rights ≡ true }
+    ensures leaf { IfOk result (λ end. give rights access ≡ true → end ≡ Ok (leaf_word frame rights)) }
+    ensures fault { IfOk result (λ end. give rights access ≡ false → end ≡ Err WalkFault.Page) }
+{
+    map.map(mem, va, frame, rights)?;
+    let end = walk(mem, map.root().number(), va, access);
+    Ok(end.result)
+}

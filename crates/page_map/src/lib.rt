@@ -10,5 +10,6 @@ pub mod laws;
 mod map;
 mod refusal;
 
+pub use entry::{leaf_word, table_word};
 pub use map::PageMap;
 pub use refusal::MapRefusal;

@@ -183,7 +183,7 @@ impl PageMap {
         ensures aligned { result.at % 4 ≡ 0 }
         ensures word { (m : Mem) → Holds mem.now m → result.word ≡ first_entry m self.now va }
     {
-        entry_of(mem, self.root.number(), va >> 22)
+        entry_of(mem, self.root.number(), (va >> 22) & 0x3ff)
     }
 }
 

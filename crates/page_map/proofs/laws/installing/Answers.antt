@@ -8,7 +8,7 @@ returns-clause-fault c = λ m root frames va frame at access can same.
 
 pub returns-clause-others : goal.returns-clause-others
 returns-clause-others c = λ m root frames va frame at access can fits apart.
-    elsewhere m root frames va (table_word frame) can.tables at access fits (other_region at va apart)
+    elsewhere m root frames va (table_word frame) can.tables at access fits (other_region at va fits can.address apart)
 
 pub returns-clause-same : goal.returns-clause-same
 returns-clause-same c = λ m root frames va frame at access can fits. installed_same m root frames va frame can at access fits
