@@ -1,6 +1,7 @@
 -- What each domain has of its own, in an image that breaks no rule.
-use Rattle.std.proofs.Common.{◌≡◌, ℕ, zero, suc, ◌+◌, ◌*◌, ◌<◌, ◌≤◌, not, List, [], ◌∷◌, length, map, take, get_or, Option, None, Some, refl, sym, ap, subst, ◌∙◌, arith, ◌⊎◌, inl, inr}
-use Rattle.std.specs.Prelude.{nat_lt, pos, if◌then◌else◌}
+use Rattle.std.proofs.Common.{◌≡◌, ℕ, zero, suc, ◌+◌, ◌*◌, ◌<◌, ◌≤◌, Bool, true, false, ◌||◌, not, List, [], ◌∷◌, length, map, take, get_or, Option, None, Some, refl, sym, ap, subst, ◌∙◌, arith, ◌⊎◌, inl, inr}
+use Rattle.std.specs.Prelude.{nat_lt, pos, codes, if◌then◌else◌}
+use Rattle.std.specs.Str.{bytes_eq}
 use Rattle.std.specs.List.{list_any}
 use Rattle.std.proofs.lemmas.List.{length-map, get_or-map, get_or_past}
 use Rattle.std.proofs.lemmas.Bool.{cases_lt, ltb-false}
@@ -8,9 +9,9 @@ use Rattle.image_text.specs.Record.{Image, Domain, Segment as TextSegment, IsSeg
 use Rattle.image_text.specs.declared.refusal.Refusal.{Refusal}
 use Rattle.image_check.specs.Cases.{first_in, refusal}
 use Rattle.image_check.specs.Segments.{k12, k12_domain, segment_case, entry_case, bytes_case, bytes_in, is_rights, share_page, broken}
-use Rattle.image_check.specs.Public.{most_pages}
-use Rattle.image_check.specs.Own.{Own, segment_of, bytes_or_none, own_from, owns_from, owns_of, no_own, own_at, no_segment}
-use Rattle.image_check.specs.Laws.{IsSegment, IsOwn}
+use Rattle.image_check.specs.Public.{most_frames}
+use Rattle.image_check.specs.Own.{Own, rights_of, segment_of, bytes_or_none, own_from, owns_from, owns_of, no_own, own_at, no_segment}
+use Rattle.image_check.specs.Laws.{AreRights, IsSegment, IsOwn}
 use Rattle.image_check.proofs.FirstCases.{or_first, if_first, if_rest, first_in_none}
 
 -- ---- the list of owns
@@ -48,6 +49,30 @@ bytes_few d earlier s (Some bytes) n =
     let more : Option Refusal = if list_any (share_page s) earlier then broken d (length earlier) 5 else None in
     ltb-false (s.pages * 4096) (length bytes) (if_first (nat_lt (s.pages * 4096) (length bytes)) (refusal 12 (pos d) (pos (length earlier)) (pos 4)) more n)
 
+-- by the five texts of rights: r, rw, x, rx, rwx
+rights_some : (r rw x rx rwx : Bool) → not (r || (rw || (x || (rx || rwx)))) ≡ false → (r || (rw || (rx || rwx))) || (x || (rx || rwx)) ≡ true
+rights_some true rw x rx rwx e = refl
+rights_some false true x rx rwx e = refl
+rights_some false false x true rwx e = refl
+rights_some false false x false true e = refl
+rights_some false false true false false e = refl
+rights_some false false false false false e = absurd (cc)
+
+rights_read : (r rw rx rwx : Bool) → rw || rwx ≡ true → r || (rw || (rx || rwx)) ≡ true
+rights_read true rw rx rwx e = refl
+rights_read false true rx rwx e = refl
+rights_read false false true rwx e = refl
+rights_read false false false true e = refl
+rights_read false false false false e = absurd (cc)
+
+rights_sound : (s : TextSegment) → not (is_rights s.rights) ≡ false → AreRights (rights_of s.rights)
+rights_sound s e =
+    let is = λ (text : List ℕ). bytes_eq s.rights text in
+    record {
+      some = rights_some (is (codes "r")) (is (codes "rw")) (is (codes "x")) (is (codes "rx")) (is (codes "rwx")) e;
+      write_reads = rights_read (is (codes "r")) (is (codes "rw")) (is (codes "rx")) (is (codes "rwx"));
+    }
+
 segment_sound : (d : ℕ) (earlier : List TextSegment) (s : TextSegment) → segment_case d earlier s ≡ None → IsTextSegment s → IsSegment (segment_of s)
 unfolding segment_case segment_of
 segment_sound d earlier s n ranges =
@@ -59,11 +84,18 @@ segment_sound d earlier s n ranges =
       page = ltb-false 1048576 (s.page + s.pages) (if_first (nat_lt 1048576 (s.page + s.pages)) first later n);
       some = ranges.some;
       few = ranges.few;
+      rights = rights_sound s (if_first (not (is_rights s.rights)) second bytes (if_rest (nat_lt 1048576 (s.page + s.pages)) first later n));
       bytes = bytes_few d earlier s (bytes_in s.hex) (if_rest (not (is_rights s.rights)) second bytes (if_rest (nat_lt 1048576 (s.page + s.pages)) first later n));
     }
 
 no_segment_sound : IsSegment no_segment
-no_segment_sound = record { page = omega arith; some = omega arith; few = omega arith; bytes = omega arith }
+no_segment_sound = record {
+  page = omega arith;
+  some = omega arith;
+  few = omega arith;
+  rights = record { some = refl; write_reads = λ e. refl };
+  bytes = omega arith;
+}
 
 segments_sound : (d : ℕ) (ss : List TextSegment) → first_in (segment_case d) ss ≡ None → ((k : ℕ) → IsTextSegment (get_or ss k no_text_segment)) → (k : ℕ) → IsSegment (get_or (map segment_of ss) k no_segment)
 segments_sound d ss n ranges k = either (cases_lt k (length ss))
@@ -98,6 +130,6 @@ owns_sound i ranges n d = either (cases_lt d (length i.domains))
     either (inl l) = subst IsOwn (sym (owns_at i d l)) (own_sound i d ranges n l)
     either (inr m) = subst IsOwn (sym (get_or_past (owns_of i) d no_own (omega (arith, owns_length i, m)))) no_own_sound
 
-pub owns_placed : (i : Image) (d : ℕ) → d < length i.domains → (own_at (owns_of i) d).first_frame ≡ most_pages * d
+pub owns_placed : (i : Image) (d : ℕ) → d < length i.domains → (own_at (owns_of i) d).first_frame ≡ most_frames * d
 unfolding own_from
 owns_placed i d l = ap (λ (o : Own). o.first_frame) (owns_at i d l)

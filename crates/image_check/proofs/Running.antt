@@ -6,7 +6,7 @@ use Rattle.std.proofs.lemmas.Bool.{cases_lt}
 use Rattle.image_text.specs.Record.{Entry as TextEntry}
 use Rattle.image_check.specs.Cases.{first_in}
 use Rattle.image_check.specs.Rules.{k16_entry}
-use Rattle.image_check.specs.Public.{Entry, entry_of, no_entry, public_of, hardware_of, entry_in, most_pages}
+use Rattle.image_check.specs.Public.{Entry, entry_of, no_entry, public_of, hardware_of, entry_in, most_frames}
 use Rattle.image_check.specs.Laws.{RunnableLaw}
 use Rattle.image_check.proofs.Kept.{kept, domains_within, entries_within, entries_pass}
 use Rattle.image_check.proofs.Entries.{Passed, entry_passed}
@@ -46,7 +46,7 @@ runnable_law i ranges n =
       counted = sym many;
       some_domain = omega (arith, many, domains.least);
       few_domains = omega (arith, many, domains.most);
-      frames = ap (λ n. most_pages * n) (sym many);
+      frames = ap (λ n. most_frames * n) (sym many);
       base = refl;
       some_entry = omega (arith, long, entries.least);
       few_entries = omega (arith, long, entries.most);

@@ -1,9 +1,9 @@
 -- What is one domain's own in an image.
-use Rattle.std.specs.Prelude.{ℕ, ◌*◌, ◌||◌, false, List, [], ◌∷◌, map, codes, slice_index_or, Option, Some, None, suc}
+use Rattle.std.specs.Prelude.{ℕ, ◌*◌, ◌||◌, true, false, List, [], ◌∷◌, map, codes, slice_index_or, Option, Some, None, suc}
 use Rattle.std.specs.Str.{bytes_eq}
 use Rattle.image_text.specs.Record.{Image, Domain, Segment as TextSegment}
 use Rattle.image_check.specs.declared.own.Rights.{Rights}
-use Rattle.image_check.specs.Public.{most_pages}
+use Rattle.image_check.specs.Public.{most_frames}
 use Rattle.image_check.specs.Segments.{bytes_in, has_execute}
 
 -- pages of a domain's address space, one after the other
@@ -16,7 +16,7 @@ pub record Segment : Type 0 where
 pub record Own : Type 0 where
   pub name : List ℕ
   pub entry : ℕ  -- the address at which it begins
-  pub first_frame : ℕ  -- its pages stand in frames from here on, in the order of its segments
+  pub first_frame : ℕ  -- its page tables and its pages stand in frames from here on
   pub segments : List Segment
 
 abbrev pub rights_of : List ℕ → Rights
@@ -35,7 +35,7 @@ segment_of s = record { page = s.page; pages = s.pages; rights = rights_of s.rig
 
 -- domain d
 unfoldable pub own_from : ℕ → Domain → Own
-own_from d o = record { name = o.name; entry = o.entry; first_frame = most_pages * d; segments = map segment_of o.segments }
+own_from d o = record { name = o.name; entry = o.entry; first_frame = most_frames * d; segments = map segment_of o.segments }
 
 -- domains from number d on
 unfoldable pub owns_from : ℕ → List Domain → List Own
@@ -52,7 +52,7 @@ abbrev pub own_at : List Own → ℕ → Own
 own_at owns d = slice_index_or owns d no_own
 
 abbrev pub no_segment : Segment
-no_segment = record { page = 0; pages = 1; rights = record { read = false; write = false; execute = false }; bytes = [] }
+no_segment = record { page = 0; pages = 1; rights = record { read = true; write = false; execute = false }; bytes = [] }
 
 abbrev pub segment_at : Own → ℕ → Segment
 segment_at o k = slice_index_or o.segments k no_segment

@@ -23,13 +23,13 @@ abbrev pub natural_of : ℤ → ℕ
 natural_of (pos n) = n
 natural_of (negsuc n) = 0
 
--- the most pages of a domain: 16 segments of 64 pages
-abbrev pub most_pages : ℕ
-most_pages = 1024
+-- the most frames of a domain: a root, and for each of 16 segments two tables and 64 pages
+abbrev pub most_frames : ℕ
+most_frames = 1057
 
--- as yet a domain has a frame for each page that it may have, and an instruction takes one cycle
+-- as yet each domain has all frames that it may want, and an instruction takes one cycle
 unfoldable pub hardware_of : Image → Hardware
-hardware_of i = record { frames = most_pages * length i.domains; base = 1 }
+hardware_of i = record { frames = most_frames * length i.domains; base = 1 }
 
 unfoldable pub entry_of : TextEntry → Entry
 entry_of e = record { domain = natural_of e.domain; length = natural_of e.length; pad = natural_of e.pad }

@@ -7,7 +7,7 @@ ghost use Rattle.image_check.specs.Own as spec;
 ghost use Rattle.image_check.specs.Segments.{bytes_in};
 ghost use Rattle.image_check.specs.Views.{segment_view, own_view};
 
-use crate::public::MOST_PAGES;
+use crate::public::MOST_FRAMES;
 use crate::refusal::CheckRefusal;
 use crate::segments::has_execute;
 use hex::FromHexError;
@@ -39,7 +39,7 @@ pub struct Own {
     pub name: String,
     /// The address at which it begins.
     pub entry: u32,
-    /// Its pages stand in frames from here on, in the order of its segments.
+    /// Its page tables and its pages stand in frames from here on.
     pub first_frame: u32,
     pub segments: Vec<Segment>,
 }
@@ -98,7 +98,7 @@ fn own_from(alloc: Global, d: usize, domain: &RawDomain) -> Result<Own, CheckRef
     Ok(Own {
         name,
         entry: domain.entry,
-        first_frame: MOST_PAGES * d as u32,
+        first_frame: MOST_FRAMES * d as u32,
         segments,
     })
 }

@@ -11,8 +11,9 @@ use crate::refusal::CheckRefusal;
 use image_text::{Raw, RawEntry};
 use std::alloc::Global;
 
-/// The most pages of a domain: 16 segments of 64 pages.
-pub const MOST_PAGES: u32 = 1024;
+/// The most frames of a domain: a root, two tables for each of 16 segments, and
+/// 64 pages for each.
+pub const MOST_FRAMES: u32 = 1057;
 
 /// What all domains share of the machine.
 #[derive(Clone, Copy, Debug, PartialEq, Eq)]
@@ -79,7 +80,7 @@ pub fn public_of(alloc: Global, raw: &Raw) -> Result<Public, CheckRefusal>
     let schedule = schedule_of(alloc, raw.schedule.as_slice())?;
     let domains = raw.domains.len() as u32;
     let hardware = Hardware {
-        frames: MOST_PAGES * domains,
+        frames: MOST_FRAMES * domains,
         base: 1,
     };
     Ok(Public {

@@ -1,5 +1,5 @@
 -- Translations, loads and stores, of the code and of the definitions.
-use Rattle.std.proofs.Common.{◌≡◌, ◌≢◌, ◌⊎◌, ℕ, ◌%◌, ◌<◌, inl, inr, Some, None, Ok, Err, refl, sym, ap, subst, ◌∙◌, arith}
+use Rattle.std.proofs.Common.{◌≡◌, ◌≢◌, ◌⊎◌, ℕ, ◌%◌, ◌<◌, inl, inr, Some, None, Result, Ok, Err, refl, sym, ap, subst, ◌∙◌, arith}
 use Rattle.phys_mem.specs.Address.{frame_of, place_of}
 use Rattle.phys_mem.specs.Contents.{Contents, word_of}
 use Rattle.phys_mem.specs.Holds.{Holds}
@@ -9,13 +9,17 @@ use Rattle.rv_core.specs.declared.Store.{Store as StoreMade}
 use Rattle.rv_core.specs.declared.Trap.{Trap}
 use Rattle.rv_decode.specs.declared.LoadWidth.{LoadWidth}
 use Rattle.rv_decode.specs.declared.LoadWidth.TheVariants.{Byte, Half, Word, ByteUnsigned, HalfUnsigned}
-use Rattle.world_view.specs.declared.Access.{Access}
-use Rattle.world_view.specs.declared.Access.TheVariants as access
+use Rattle.sv32_walk.specs.declared.access.Access.{Access}
+use Rattle.sv32_walk.specs.declared.access.Access.TheVariants as access
+use Rattle.sv32_walk.specs.declared.access.WalkFault.{WalkFault}
+use Rattle.sv32_walk.specs.Entry.{ppn}
+use Rattle.sv32_walk.specs.Walk.{walk}
+use Rattle.image_check.specs.Public.{Hardware}
 use Rattle.image_check.specs.Own.{Own}
 use Rattle.world_view.specs.Domain.{Dom}
 use Rattle.world_view.specs.Instruction.{trapped, stopped}
 use Rattle.world_view.specs.Reach.Touch.{Load, Store as StoreTouch}
-use Rattle.world_view.specs.Event.{Store, page_fault, frame_for, or_stop, translate, place, address_in, touch, read, part_of_word, stored_in, load, store}
+use Rattle.world_view.specs.Event.{Store, fault_code, frame_or_stop, translate, place, address_in, touch, read, part_of_word, stored_in, load, store}
 use Rattle.world_view.proofs.CodeLaws.{translate_value, translate_state}
 use Rattle.tp_machine.specs.Moves.{Answers}
 use Rattle.tp_machine.proofs.Steps.{given, touched, was_read, was_written, answers_then, answers_next, answers_stop}
@@ -41,59 +45,63 @@ store_aligned size a b (inr (inr four)) e h =
 
 -- ---- translation
 
-module _ (o : Own) (d : Dom) (a : Access) (va : ℕ) (s : Store) (memory : Contents) (holds : Holds memory s.mem) where
-  pub translated : (f : ℕ) → frame_for o a va ≡ Some f → Answers d (Ok f) memory (translate o d a va s)
-  unfolding or_stop
-  translated f e = record {
-    value = translate_value o d a va s (Some f) e;
-    held = subst (λ (t : Store). Holds memory t.mem) (sym (translate_state o d a va s)) holds;
+module _ (p : Hardware) (o : Own) (d : Dom) (a : Access) (va : ℕ) (s : Store) (memory : Contents) (holds : Holds memory s.mem) (same : p.frames ≡ memory.frames) where
+  walked : (r : Result ℕ WalkFault) → ((m : Mem) → Holds memory m → r ≡ (walk m memory.frames o.first_frame va a).result) → (walk s.mem p.frames o.first_frame va a).result ≡ r
+  walked r is = ap (λ (n : ℕ). (walk s.mem n o.first_frame va a).result) same ∙ sym (is s.mem holds)
+
+  pub translated : (leaf f : ℕ) → ((m : Mem) → Holds memory m → Ok leaf ≡ (walk m memory.frames o.first_frame va a).result) → f ≡ ppn leaf → Answers d (Ok f) memory (translate p o d a va s)
+  unfolding frame_or_stop
+  translated leaf f is page = record {
+    value = translate_value p o d a va s (Ok leaf) (walked (Ok leaf) is) ∙ ap (λ (x : ℕ). inr x) (sym page);
+    held = subst (λ (t : Store). Holds memory t.mem) (sym (translate_state p o d a va s)) holds;
   }
 
-  pub faulted : (trap : Trap) → trap ≡ record { code = page_fault a; value = va } → frame_for o a va ≡ None → Answers {A = ℕ} d (Err trap) memory (translate o d a va s)
-  unfolding or_stop trapped
-  faulted trap is e = record {
-    value = translate_value o d a va s None e ∙ ap (λ (x : Trap). inl (stopped x.code x.value d)) (sym is);
-    held = subst (λ (t : Store). Holds memory t.mem) (sym (translate_state o d a va s)) holds;
+  pub faulted : (e : WalkFault) (trap : Trap) → ((m : Mem) → Holds memory m → Err e ≡ (walk m memory.frames o.first_frame va a).result) → trap ≡ record { code = fault_code a e; value = va }
+      → Answers {A = ℕ} d (Err trap) memory (translate p o d a va s)
+  unfolding frame_or_stop trapped
+  faulted e trap is same_trap = record {
+    value = translate_value p o d a va s (Err e) (walked (Err e) is) ∙ ap (λ (x : Trap). inl (stopped x.code x.value d)) (sym same_trap);
+    held = subst (λ (t : Store). Holds memory t.mem) (sym (translate_state p o d a va s)) holds;
   }
 
 -- ---- a load
 
-module _ (o : Own) (d : Dom) (width : LoadWidth) (va : ℕ) (s : Store) (memory : Contents) (holds : Holds memory s.mem) where
-  pub load_faulted : (trap : Trap) → trap ≡ record { code = page_fault access.Load; value = va } → frame_for o access.Load va ≡ None → Answers {A = ℕ} d (Err trap) memory (load o d width va s)
+module _ (p : Hardware) (o : Own) (d : Dom) (width : LoadWidth) (va : ℕ) (s : Store) (memory : Contents) where
+  pub load_faulted : (trap : Trap) → Answers {A = ℕ} d (Err trap) memory (translate p o d access.Load va s) → Answers {A = ℕ} d (Err trap) memory (load p o d width va s)
   unfolding load
-  load_faulted trap is e = answers_stop (translate o d access.Load va) _ d s memory trap (faulted o d access.Load va s memory holds trap is e)
+  load_faulted trap fault = answers_stop (translate p o d access.Load va) _ d s memory trap fault
 
-  pub load_found : (f v at : ℕ) → frame_for o access.Load va ≡ Some f → frame_of at ≡ f → place_of at ≡ place va → at % 4 ≡ va % 4
+  pub load_found : (f v at : ℕ) → Answers d (Ok f) memory (translate p o d access.Load va s) → frame_of at ≡ f → place_of at ≡ place va → at % 4 ≡ va % 4
       → ((m : Mem) → Holds memory m → v ≡ part_of_word (load_size width) (word m (frame_of at) (place_of at)) (at % 4))
-      → Answers d (Ok v) memory (load o d width va s)
+      → Answers d (Ok v) memory (load p o d width va s)
   unfolding load read
-  load_found f v at e frame place' low is =
+  load_found f v at page frame place' low is =
       let found : (m : Mem) → Holds memory m → v ≡ part_of_word (load_size width) (word m f (place va)) (va % 4) = rw (frame, place', low) at is in
-      answers_then (translate o d access.Load va) _ d s memory f memory (Ok v) (translated o d access.Load va s memory holds f e) (λ s1 h1.
+      answers_then (translate p o d access.Load va) _ d s memory f memory (Ok v) page (λ s1 h1.
       answers_next (touch (Load (address_in f va))) _ d s1 memory tt memory (Ok v) (touched d s1 memory h1 (Load (address_in f va))) (λ s2 h2.
       answers_then (read f (place va)) _ d s2 memory (word s2.mem f (place va)) memory (Ok v) (was_read d s2 memory h2 f (place va) (word s2.mem f (place va)) refl) (λ s3 h3.
       given d s3 memory h3 v (part_of_word (load_size width) (word s2.mem f (place va)) (va % 4)) (sym (found s2.mem h2)))))
 
 -- ---- a store
 
-pub store_none : (o : Own) (d : Dom) (s : Store) (memory : Contents) → Holds memory s.mem → Answers d (Ok tt) memory (store o d None s)
+pub store_none : (p : Hardware) (o : Own) (d : Dom) (s : Store) (memory : Contents) → Holds memory s.mem → Answers d (Ok tt) memory (store p o d None s)
 unfolding store
-store_none o d s memory holds = given d s memory holds tt tt refl
+store_none p o d s memory holds = given d s memory holds tt tt refl
 
-module _ (o : Own) (d : Dom) (made : StoreMade) (s : Store) (memory : Contents) (holds : Holds memory s.mem) where
-  pub store_faulted : (trap : Trap) → trap ≡ record { code = page_fault access.Store; value = made.at } → frame_for o access.Store made.at ≡ None → Answers d (Err trap) memory (store o d (Some made) s)
+module _ (p : Hardware) (o : Own) (d : Dom) (made : StoreMade) (s : Store) (memory : Contents) where
+  pub store_faulted : (trap : Trap) → Answers {A = ℕ} d (Err trap) memory (translate p o d access.Store made.at s) → Answers d (Err trap) memory (store p o d (Some made) s)
   unfolding store
-  store_faulted trap is e = answers_stop (translate o d access.Store made.at) _ d s memory trap (faulted o d access.Store made.at s memory holds trap is e)
+  store_faulted trap fault = answers_stop (translate p o d access.Store made.at) _ d s memory trap fault
 
-  pub store_made : (f at : ℕ) (memory' : Contents) → frame_for o access.Store made.at ≡ Some f → f < memory.frames → frame_of at ≡ f → place_of at ≡ place made.at → at % 4 ≡ made.at % 4
+  pub store_made : (f at : ℕ) (memory' : Contents) → Answers d (Ok f) memory (translate p o d access.Store made.at s) → f < memory.frames → frame_of at ≡ f → place_of at ≡ place made.at → at % 4 ≡ made.at % 4
       → ((m : Mem) → Holds memory m → Holds memory' (written m (frame_of at) (place_of at) (stored_in made.size (word m (frame_of at) (place_of at)) (at % 4) made.word)))
-      → Answers d (Ok tt) memory' (store o d (Some made) s)
+      → Answers d (Ok tt) memory' (store p o d (Some made) s)
   unfolding store read
-  store_made f at memory' e within frame place' low written' =
+  store_made f at memory' page within frame place' low written' =
       let w = word_of memory f (place made.at) in
       let inside : place made.at < 1024 = omega arith in
       let stored : (m : Mem) → Holds memory m → Holds memory' (written m f (place made.at) (stored_in made.size (word m f (place made.at)) (made.at % 4) made.word)) = rw (frame, place', low) at written' in
-      answers_then (translate o d access.Store made.at) _ d s memory f memory' (Ok tt) (translated o d access.Store made.at s memory holds f e) (λ s1 h1.
+      answers_then (translate p o d access.Store made.at) _ d s memory f memory' (Ok tt) page (λ s1 h1.
       answers_next (touch (StoreTouch (address_in f made.at))) _ d s1 memory tt memory' (Ok tt) (touched d s1 memory h1 (StoreTouch (address_in f made.at))) (λ s2 h2.
       answers_then (read f (place made.at)) _ d s2 memory w memory' (Ok tt) (was_read d s2 memory h2 f (place made.at) w (ap (λ x. inr x) (sym (h2.same f (place made.at) within inside)))) (λ s3 h3.
       was_written d s3 memory' f (place made.at) (stored_in made.size w (made.at % 4) made.word)

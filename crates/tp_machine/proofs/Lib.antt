@@ -6,6 +6,6 @@ mod Steps
 mod Accesses
 mod Instructions
 mod Moved
-mod Frames
+mod FrameWords
 mod Openings
 mod Slots

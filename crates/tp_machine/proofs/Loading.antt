@@ -1,14 +1,15 @@
 -- Pages placed in a memory.
-use Rattle.std.proofs.Common.{◌≡◌, ◌≢◌, ℕ, zero, suc, ◌+◌, ◌*◌, ◌/◌, ◌%◌, ◌<◌, ◌≤◌, List, [], ◌∷◌, length, min, take, drop, inl, inr, refl, sym, ap, subst, ◌∙◌, arith, add-one}
+use Rattle.std.proofs.Common.{◌≡◌, ◌≢◌, ℕ, zero, suc, ◌+◌, ◌*◌, ◌/◌, ◌%◌, ◌<◌, ◌≤◌, List, [], ◌∷◌, length, min, take, drop, inl, inr, true, false, refl, sym, ap, subst, ◌∙◌, arith, add-one}
 use Rattle.std.proofs.lemmas.Bool.{cases_eq}
 use Rattle.std.proofs.lemmas.List.{drop_more, drop_all}
 use Rattle.phys_mem.specs.Contents.{Contents}
 use Rattle.phys_mem.specs.Holds.{Holds}
-use Rattle.phys_mem.specs.Mem.{Mem, word, written, word-written_same, word-written_place, word-written_frame}
-use Rattle.tp_base.specs.Table.{empty, put}
+use Rattle.phys_mem.specs.Mem.{Frame, Mem, word, written, word-written_same, word-written_place, word-written_frame}
+use Rattle.tp_base.specs.Table.{empty, at, put}
 use Rattle.image_check.specs.Own as spec
-use Rattle.world_view.specs.Opening.{word_of, page_frame, pages_placed, segments_placed, placed, all_placed}
-use Rattle.world_view.proofs.CodeLaws.{word-placed_same, word-placed_other}
+use Rattle.world_view.specs.Frames.{has_region, table_frame, page_frame}
+use Rattle.world_view.specs.Opening.{tabled, leaf_entry, table_placed, tables_placed, page_words, pages_placed, segments_placed, placed, all_placed}
+use Rattle.world_view.proofs.OpeningLaws.{word-put_same, word-put_other}
 
 -- ---- a page
 
@@ -46,16 +47,32 @@ module _ (m : Mem) (f : ℕ) (words : ℕ → ℕ) where
       let place : at % 4096 / 4 ≡ n = omega arith in
       rw (frame, place, same, add-one n) (sym (filled-suc n))
 
-pub holds_placed : (memory : Contents) (m : Mem) (f : ℕ) (bytes : List ℕ) → Holds memory (filled m f (word_of bytes) 1024) → Holds memory (put m f (page_frame bytes))
-holds_placed memory m f bytes holds = record {
+-- a frame that was filled may be put at once
+pub holds_put : (memory : Contents) (m : Mem) (f : ℕ) (words : ℕ → ℕ) (x : Frame) → ((i : ℕ) → i < 1024 → at 0 x i ≡ words i) → Holds memory (filled m f words 1024) → Holds memory (put m f x)
+holds_put memory m f words x is holds = record {
   size = holds.size;
   same = λ g i in_memory in_frame.
       holds.same g i in_memory in_frame
       ∙ elim (cases_eq g f) [
-        | inl same ↦ rw same (word-filled_same m f (word_of bytes) 1024 i in_frame ∙ sym (word-placed_same m f i bytes))
-        | inr other ↦ word-filled_other m f (word_of bytes) 1024 g i other ∙ sym (word-placed_other m f g i bytes other)
+        | inl same ↦ rw same (word-filled_same m f words 1024 i in_frame ∙ sym (word-put_same m f i x ∙ is i in_frame))
+        | inr other ↦ word-filled_other m f words 1024 g i other ∙ sym (word-put_other m f g i x other)
       ];
 }
+
+-- ---- tables, by ascending regions
+
+module _ (o : spec.Own) (m : Mem) where
+  pub tables_none : tables_placed o 0 m ≡ m
+  unfolding tables_placed
+  tables_none = refl
+
+  pub tables_more : (r : ℕ) → has_region o.segments r ≡ true → tables_placed o (r + 1) m ≡ put (tables_placed o r m) (table_frame o r) (tabled (λ i. leaf_entry o (1024 * r + i)) 1024)
+  unfolding tables_placed table_placed
+  tables_more r some = rw (add-one r, some) refl
+
+  pub tables_same : (r : ℕ) → has_region o.segments r ≡ false → tables_placed o (r + 1) m ≡ tables_placed o r m
+  unfolding tables_placed
+  tables_same r none = rw (add-one r, none) refl
 
 -- ---- pages of a segment, from the first on
 
@@ -85,27 +102,23 @@ pub went_on : (memory memory' : Contents) (left left' step : Mem → Mem) (due :
     → Placing memory left due → Placing memory' left' due
 went_on memory memory' left left' step due more moved p = record { done = step p.done; holds = moved p.done p.holds; same = sym (more p.done) ∙ p.same }
 
-pub no_page : (f n : ℕ) (bytes : List ℕ) → n ≡ 0 → (m : Mem) → pages_placed f n bytes m ≡ m
+pub no_page : (o : spec.Own) (n many : ℕ) (bytes : List ℕ) → many ≡ 0 → (m : Mem) → pages_placed o n many bytes m ≡ m
 unfolding pages_placed
-no_page f n bytes none m = rw none refl
+no_page o n many bytes none m = rw none refl
 
-pub one_page : (f n n' : ℕ) (bytes : List ℕ) → n ≡ suc n' → (m : Mem) → pages_placed f n bytes m ≡ pages_placed (f + 1) n' (drop 4096 bytes) (put m f (page_frame (take 4096 bytes)))
+pub one_page : (o : spec.Own) (n many many' : ℕ) (bytes : List ℕ) → many ≡ suc many' → (m : Mem) → pages_placed o n many bytes m ≡ pages_placed o (n + 1) many' (drop 4096 bytes) (put m (page_frame o n) (page_words (take 4096 bytes)))
 unfolding pages_placed
-one_page f n n' bytes some m = rw (some, add-one f) refl
+one_page o n many many' bytes some m = rw (some, add-one n) refl
 
 -- ---- segments of a domain, from the first on
 
-pub no_segment : (f : ℕ) (m : Mem) → segments_placed f [] m ≡ m
+pub no_segment : (o : spec.Own) (m : Mem) → segments_placed o [] m ≡ m
 unfolding segments_placed
-no_segment f m = refl
+no_segment o m = refl
 
-pub one_segment : (f : ℕ) (s : spec.Segment) (ss : List spec.Segment) (m : Mem) → segments_placed f (s ∷ ss) m ≡ segments_placed (f + s.pages) ss (pages_placed f s.pages s.bytes m)
+pub one_segment : (o : spec.Own) (s : spec.Segment) (ss : List spec.Segment) (m : Mem) → segments_placed o (s ∷ ss) m ≡ segments_placed o ss (pages_placed o s.page s.pages s.bytes m)
 unfolding segments_placed
-one_segment f s ss m = refl
-
-pub placed_all : (o : spec.Own) (m : Mem) → segments_placed o.first_frame o.segments m ≡ placed o m
-unfolding placed
-placed_all o m = refl
+one_segment o s ss m = refl
 
 -- ---- domains, from the last to the first
 

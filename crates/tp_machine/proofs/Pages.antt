@@ -1,18 +1,19 @@
 -- The segments of a domain, of the code and of the definitions.
-use Rattle.std.proofs.Common.{◌≡◌, ℕ, Bool, true, false, cond, ◌/◌, ◌+◌, ◌-◌, ◌<◌, ◌≤◌, ◌^◌, List, [], ◌∷◌, length, map, drop, get_or, Some, None, sym, ap, subst, ◌∙◌, arith}
-use Rattle.std.proofs.lemmas.List.{drop_more, drop_all}
+use Rattle.std.proofs.Common.{◌≡◌, ℕ, Bool, true, false, cond, ◌+◌, ◌-◌, ◌<◌, ◌≤◌, ◌^◌, min, List, [], ◌∷◌, length, map, drop, get_or, Some, None, refl, sym, ap, subst, ◌∙◌, arith, add-one, zero, suc, inl, inr}
+use Rattle.std.proofs.lemmas.Bool.{cases_Bool, le-leb, lt-ltb}
+use Rattle.std.proofs.lemmas.List.{drop_more, drop_all, length-map, get_or-map}
 use Rattle.image_check.specs.Own as spec
+use Rattle.image_check.specs.Laws.{IsSegment, IsOwn}
 use Rattle.image_check.specs.declared.own.Own.{Own}
 use Rattle.image_check.specs.declared.own.Segment.{Segment}
 use Rattle.image_check.specs.Views.{segment_view, own_view}
-use Rattle.world_view.specs.Image.{Image, own_of, pages_in}
-use Rattle.world_view.specs.declared.Access.{Access}
-use Rattle.world_view.specs.Event.{has_page, page_in, permits, permitted, frame_for}
+use Rattle.world_view.specs.Image.{Image, own_of}
+use Rattle.world_view.specs.Frames.{has_page, meets, has_region, regions_below, pages_below, pages_in, frames_in}
+use Rattle.world_view.specs.Opening.{rights_in}
 use Rattle.world_view.specs.Laws.{IsDomain, Runnable}
-use Rattle.world_view.proofs.Separate.{own_pages, frame_within}
-use Rattle.world_view.proofs.Lookups.{page_in-here, page_in-there, page_in-none}
-use Rattle.world_view.proofs.CodeLaws.{permitted-page, permitted-none}
-use Rattle.tp_machine.specs.Stands.{HasFrames}
+use Rattle.world_view.proofs.Counts.{region_more, region_same, is_page, pages_low}
+use Rattle.world_view.proofs.Separate.{own_frames_end}
+use Rattle.tp_machine.specs.Stands.{HasFrames, HasPages}
 
 -- ---- segments from one on
 
@@ -31,37 +32,74 @@ module _ (segments : List Segment) (k : ℕ) where
   unfolding pages_in
   pages_none h = ap pages_in (none h)
 
--- ---- a search from the first segment on
+  pub below_more : (n : ℕ) (q : Segment) → k < length segments → q ≡ get_or segments k q
+      → pages_below (map segment_view (drop k segments)) n ≡ min q.pages (n - q.page) + pages_below (map segment_view (drop (k + 1) segments)) n
+  unfolding pages_below
+  below_more n q h is = ap (λ ss. pages_below ss n) (more q h is)
 
-module _ (segments : List Segment) (f k n : ℕ) where
-  page_here : (q : Segment) → k < length segments → q ≡ get_or segments k q → has_page (segment_view q) n ≡ true
-      → page_in f (map segment_view (drop k segments)) n ≡ Some (record { frame = f + (n - q.page); rights = q.rights })
-  page_here q h is e = ap (λ xs. page_in f xs n) (more segments k q h is) ∙ page_in-here f (segment_view q) (map segment_view (drop (k + 1) segments)) n e
+  pub below_none : (n : ℕ) → length segments ≤ k → pages_below (map segment_view (drop k segments)) n ≡ 0
+  unfolding pages_below
+  below_none n h = ap (λ ss. pages_below ss n) (none h)
 
-  pub page_there : (q : Segment) → k < length segments → q ≡ get_or segments k q → has_page (segment_view q) n ≡ false
-      → page_in f (map segment_view (drop k segments)) n ≡ page_in (f + q.pages) (map segment_view (drop (k + 1) segments)) n
-  page_there q h is other = ap (λ xs. page_in f xs n) (more segments k q h is) ∙ page_in-there f (segment_view q) (map segment_view (drop (k + 1) segments)) n other
+  -- ---- a search from this segment on
 
-  page_nowhere : length segments ≤ k → page_in f (map segment_view (drop k segments)) n ≡ None
-  page_nowhere h = ap (λ xs. page_in f xs n) (none segments k h) ∙ page_in-none f n
+  pub region_here : (r : ℕ) (q : Segment) → k < length segments → q ≡ get_or segments k q → meets (segment_view q) r ≡ true → has_region (map segment_view (drop k segments)) r ≡ true
+  unfolding has_region
+  region_here r q h is e = ap (λ ss. has_region ss r) (more q h is) ∙ rw e refl
 
-module _ (o : Own) (a : Access) (va f k : ℕ) (rest : page_in f (map segment_view (drop k o.segments.items)) (va / 4096) ≡ page_in o.first_frame (map segment_view o.segments.items) (va / 4096)) where
-  pub frame_found : (q : Segment) (b : Bool) → k < length o.segments.items → q ≡ get_or o.segments.items k q → has_page (segment_view q) (va / 4096) ≡ true → permits q.rights a ≡ b
-      → cond b (Some (f + (va / 4096 - q.page))) None ≡ frame_for (own_view o) a va
-  unfolding frame_for
-  frame_found q b h is e right =
-      ap (λ x. cond x (Some (f + (va / 4096 - q.page))) None) (sym right)
-      ∙ sym (permitted-page a (record { frame = f + (va / 4096 - q.page); rights = q.rights }))
-      ∙ ap (permitted a) (sym (page_here o.segments.items f k (va / 4096) q h is e) ∙ rest)
+  pub region_there : (r : ℕ) (q : Segment) → k < length segments → q ≡ get_or segments k q → meets (segment_view q) r ≡ false
+      → has_region (map segment_view (drop k segments)) r ≡ has_region (map segment_view (drop (k + 1) segments)) r
+  unfolding has_region
+  region_there r q h is e = ap (λ ss. has_region ss r) (more q h is) ∙ rw e refl
 
-  pub frame_missing : length o.segments.items ≤ k → None ≡ frame_for (own_view o) a va
-  unfolding frame_for
-  frame_missing h = sym (permitted-none a) ∙ ap (permitted a) (sym (page_nowhere o.segments.items f k (va / 4096) h) ∙ rest)
+  pub region_nowhere : (r : ℕ) → length segments ≤ k → has_region (map segment_view (drop k segments)) r ≡ false
+  unfolding has_region
+  region_nowhere r h = ap (λ ss. has_region ss r) (none h)
 
--- ---- a memory that has a domain's frames
+  pub rights_here : (n : ℕ) (q : Segment) → k < length segments → q ≡ get_or segments k q → has_page (segment_view q) n ≡ true → rights_in (map segment_view (drop k segments)) n ≡ Some q.rights
+  unfolding rights_in
+  rights_here n q h is e = ap (λ ss. rights_in ss n) (more q h is) ∙ rw e refl
 
-pub has_frames : (o : spec.Own) (frames : ℕ) → frames ≤ 2 ^ 20 → o.first_frame + pages_in o.segments ≤ frames → HasFrames o frames
-has_frames o frames few all = record { few = few; all = all; each = λ p f own. let within = frame_within p o f own in omega (arith, within.1, all) }
+  pub rights_there : (n : ℕ) (q : Segment) → k < length segments → q ≡ get_or segments k q → has_page (segment_view q) n ≡ false
+      → rights_in (map segment_view (drop k segments)) n ≡ rights_in (map segment_view (drop (k + 1) segments)) n
+  unfolding rights_in
+  rights_there n q h is e = ap (λ ss. rights_in ss n) (more q h is) ∙ rw e refl
+
+  pub rights_nowhere : (n : ℕ) → length segments ≤ k → rights_in (map segment_view (drop k segments)) n ≡ None
+  unfolding rights_in
+  rights_nowhere n h = ap (λ ss. rights_in ss n) (none h)
+
+-- ---- regions, one after the other
+
+pub region_counted : (ss : List spec.Segment) (r n x : ℕ) (b : Bool) → has_region ss r ≡ b → n ≡ regions_below ss r → n ≤ r → x ≡ cond b 1 0 → (n + x ≡ regions_below ss (r + 1)) × (n + x ≤ r + 1)
+region_counted ss r n x true some below few one = let more = region_more ss r some in (rw (add-one r) (omega (arith, more, below, one)), omega (arith, few, one))
+region_counted ss r n x false none below few nought = let same = region_same ss r none in (rw (add-one r) (omega (arith, same, below, nought)), omega (arith, few, nought))
+
+-- ---- the pages of a segment are the domain's
+
+segment_pages : (ss : List spec.Segment) (k n : ℕ) → k < length ss → has_page (get_or ss k spec.no_segment) n ≡ true → is_page ss n ≡ true
+unfolding is_page
+segment_pages [] k n h there = absurd (omega arith)
+segment_pages (s ∷ ss) zero n h there = rw there refl
+segment_pages (s ∷ ss) (suc k) n h there =
+    elim (cases_Bool (has_page s n)) [
+      | inl here ↦ rw here refl
+      | inr elsewhere ↦ rw elsewhere (segment_pages ss k n (omega (arith, h)) there)
+    ]
+
+pub has_pages : (o : Own) (k : ℕ) (q : Segment) → k < length o.segments.items → q ≡ get_or o.segments.items k q → HasPages (own_view o) q.page q.pages
+has_pages o k q h is = record {
+  each = λ n low high.
+      let ss = map segment_view o.segments.items in
+      let at : get_or ss k spec.no_segment ≡ segment_view q = get_or-map segment_view o.segments.items k q spec.no_segment h ∙ ap segment_view (sym is) in
+      pages_low ss n (segment_pages ss k n (omega (arith, h, length-map o.segments.items segment_view)) (rw (at, le-leb q.page n low, lt-ltb n (q.page + q.pages) high) refl));
+}
+
+-- a segment's pages have numbers of 20 bits
+pub segment_few : (o : Own) (k : ℕ) (q : Segment) → IsOwn (own_view o) → k < length o.segments.items → q ≡ get_or o.segments.items k q → q.page + q.pages ≤ 2 ^ 20
+segment_few o k q sound h is =
+    let at : get_or (map segment_view o.segments.items) k spec.no_segment ≡ segment_view q = get_or-map segment_view o.segments.items k q spec.no_segment h ∙ ap segment_view (sym is) in
+    (subst IsSegment at (sound.segments k)).page
 
 -- ---- what an accepted image says of a domain
 
@@ -71,12 +109,15 @@ module _ (i : Image) (r : Runnable i) (d : ℕ) (is : IsDomain i d) where
   held_at o frames same e =
       let most = r.frames in
       let domains = r.few_domains in
-      let pages = own_pages i r d is in
-      subst (λ (x : spec.Own). HasFrames x frames) (sym same) (has_frames (own_of i d) frames (omega (arith, most, domains, e)) (omega (arith, pages, most, is, e)))
+      let end = own_frames_end i r d is in
+      subst (λ (x : spec.Own). HasFrames x frames) (sym same) (record { few = omega (arith, most, domains, e); all = omega (arith, end, most, is, e) })
 
-  -- so its pool is small, and within the memory
-  pub pool_few : (o : Own) → own_view o ≡ own_of i d → o.first_frame + pages_in (map segment_view o.segments.items) ≤ 16384
+  -- so its pool is small
+  pub pool_few : (o : Own) → own_view o ≡ own_of i d → o.first_frame + frames_in (map segment_view o.segments.items) ≤ 2 ^ 15
   pool_few o same =
-      let pages = own_pages i r d is in
+      let end = own_frames_end i r d is in
       let domains = r.few_domains in
-      subst (λ (x : spec.Own). x.first_frame + pages_in x.segments ≤ 16384) (sym same) (omega (arith, pages, domains, is))
+      subst (λ (x : spec.Own). x.first_frame + frames_in x.segments ≤ 2 ^ 15) (sym same) (omega (arith, end, domains, is))
+
+  pub sound_at : (o : Own) → own_view o ≡ own_of i d → IsOwn (own_view o)
+  sound_at o same = subst IsOwn (sym same) (r.sound d)

@@ -12,7 +12,8 @@ use Rattle.phys_mem.specs.Holds.{Holds}
 use Rattle.phys_mem.specs.Mem.{frame_at}
 use Rattle.image_check.specs.Public as spec
 use Rattle.image_check.specs.Own.{Own}
-use Rattle.world_view.specs.Image.{Image, own_of, pages_in}
+use Rattle.world_view.specs.Image.{Image, own_of}
+use Rattle.world_view.specs.Frames.{frames_in}
 use Rattle.image_check.specs.Public.{no_entry}
 use Rattle.world_view.specs.Schedule.{entry_of_slot, switch_entry, start, slot_end}
 use Rattle.world_view.specs.Opening.{frame_words}
@@ -35,7 +36,7 @@ use Rattle.tp_machine.specs.Moves.{StandsIn, Moves}
 use Rattle.tp_machine.specs.Usage.{IsUsed, CountedUpTo}
 use Rattle.tp_machine.specs.Worlds.{StandsFor, IsInBounds}
 use Rattle.tp_machine.proofs.Elements.{each_set}
-use Rattle.tp_machine.proofs.Frames.{frames_are}
+use Rattle.tp_machine.proofs.FrameWords.{frames_are}
 
 -- ---- the entry of a slot
 
@@ -131,15 +132,15 @@ in_bounds_next k domains used used' clock next last d length' pad base new begin
 
 -- ---- what is seen
 
-pub view_is : (x : Domain) (m : Dom) (p : spec.Hardware) (o : Own) (memory : Contents) (s : Store) → Stands x m → Holds memory s.mem → o.first_frame + pages_in o.segments ≤ memory.frames → memory.frames ≡ p.frames
-    → record { status = x.status; retired = x.retired; thread = thread_view x.thread; readings = log_view x.readings; replies = log_view x.replies; printed = x.printed.items; frames = map (contents.frame_words memory) (range_with_len o.first_frame (pages_in o.segments)) } ≡ view p o m s
+pub view_is : (x : Domain) (m : Dom) (p : spec.Hardware) (o : Own) (memory : Contents) (s : Store) → Stands x m → Holds memory s.mem → o.first_frame + frames_in o.segments ≤ memory.frames → memory.frames ≡ p.frames
+    → record { status = x.status; retired = x.retired; thread = thread_view x.thread; readings = log_view x.readings; replies = log_view x.replies; printed = x.printed.items; frames = map (contents.frame_words memory) (range_with_len o.first_frame (frames_in o.segments)) } ≡ view p o m s
 unfolding view
 view_is x m p o memory s stands holds within frames =
-    let fs = map (λ f. frame_words (frame_at s.mem f)) (range_with_len o.first_frame (pages_in o.segments)) in
+    let fs = map (λ f. frame_words (frame_at s.mem f)) (range_with_len o.first_frame (frames_in o.segments)) in
     let same : View = record { status = x.status; retired = x.retired; thread = thread_view x.thread; readings = log_of m.readings; replies = log_of m.replies; printed = x.printed.items; frames = fs } in
     let here : same ≡ record { status = m.status; retired = m.retired; thread = m.thread; readings = log_of m.readings; replies = log_of m.replies; printed = m.printed; frames = fs } =
     subst (λ (m' : Dom). same ≡ record { status = m'.status; retired = m'.retired; thread = m'.thread; readings = log_of m.readings; replies = log_of m.replies; printed = m'.printed; frames = fs }) stands.same refl in
-    rw (pool-frames p o (omega (arith, within, frames)), stands.readings, stands.replies, frames_are memory s.mem o.first_frame (pages_in o.segments) holds within) here
+    rw (pool-frames p o (omega (arith, within, frames)), stands.readings, stands.replies, frames_are memory s.mem o.first_frame (frames_in o.segments) holds within) here
 
 -- ---- what an accepted image says of a slot's entry
 

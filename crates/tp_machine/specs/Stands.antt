@@ -1,9 +1,8 @@
 -- What a domain of the code stands for, given all its readings and replies.
-use Rattle.std.specs.Prelude.{◌≡◌, ℕ, ◌+◌, ◌^◌, ◌<◌, ◌≤◌, IsTrue, List, length, slice_get, Some}
+use Rattle.std.specs.Prelude.{◌≡◌, ℕ, ◌+◌, ◌^◌, ◌<◌, ◌≤◌, List, length, slice_get, Some}
 use Rattle.world_view.specs.declared.Reply.{Reply}
-use Rattle.image_check.specs.Public.{Hardware}
 use Rattle.image_check.specs.Own.{Own, own_at}
-use Rattle.world_view.specs.Image.{own_frame, pages_in}
+use Rattle.world_view.specs.Frames.{pages_below, pages_in, frames_in}
 use Rattle.world_view.specs.Domain.{Dom, opening_dom}
 use Rattle.world_view.specs.View.{log_of}
 use Rattle.tp_machine.specs.declared.domain.Domain.{Domain}
@@ -36,15 +35,18 @@ pub record CountsUpTo (clock : ℕ) (d : Domain) : Type 0 where
   pub readings : d.readings.count ≤ clock
   pub replies : d.replies.count ≤ clock
 
+-- no frame's number is too large
+abbrev pub HasFewFrames : Own → Type 0
+HasFewFrames o = o.first_frame + frames_in o.segments ≤ 2 ^ 15
+
 -- a memory of so many frames has all frames of a domain
 pub record HasFrames (o : Own) (frames : ℕ) : Type 0 where
-  pub few : frames ≤ 2 ^ 20
-  pub all : o.first_frame + pages_in o.segments ≤ frames
-  pub each : (p : Hardware) (f : ℕ) → IsTrue (own_frame p o f) → f < frames
+  pub few : frames ≤ 2 ^ 15
+  pub all : o.first_frame + frames_in o.segments ≤ frames
 
--- so that no frame's address is too large
-abbrev pub HasFewPages : Own → Type 0
-HasFewPages o = o.first_frame + pages_in o.segments ≤ 2 ^ 20
+-- so many pages, from one on, are the domain's
+pub record HasPages (o : Own) (page pages : ℕ) : Type 0 where
+  pub each : (n : ℕ) → page ≤ n → n < page + pages → pages_below o.segments n < pages_in o.segments
 
 -- the first of these domains are at their entries
 pub record AreOpened (domains : List Domain) (owns : List Own) (n : ℕ) : Type 0 where

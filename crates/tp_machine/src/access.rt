@@ -1,72 +1,52 @@
-// A domain's accesses to its memory, by its segments.
-ghost use Rattle.std.specs.Prelude.{◌≡◌, ◌⊎◌, ◌*◌, ◌%◌, ◌^◌, ◌<◌, IsTrue, IfSome};
+// A domain's accesses to its memory, by its page tables.
+ghost use Rattle.std.specs.Prelude.{◌≡◌, ◌⊎◌, ◌*◌, ◌%◌, ◌^◌, ◌<◌, ◌≤◌, IfOk, IfSome};
 ghost use Rattle.phys_mem.specs.Address.{frame_of, place_of};
 ghost use Rattle.phys_mem.specs.Holds.{Holds};
 ghost use Rattle.phys_mem.specs.Mem.{Mem, word, written};
 ghost use Rattle.rv_core.specs.Effect.{IsStore};
 ghost use Rattle.rv_core.specs.Memory.{load_size};
 ghost use Rattle.image_check.specs.Public.{Hardware};
-ghost use Rattle.image_check.specs.Views.{segment_view, own_view};
-ghost use Rattle.world_view.specs.Image.{own_frame};
+ghost use Rattle.image_check.specs.Views.{own_view};
 ghost use Rattle.world_view.specs.Event as spec;
-ghost use Rattle.tp_machine.specs.Stands.{HasFrames, HasFewPages};
 ghost use Rattle.tp_machine.specs.Moves.{Finds};
 
-use image_check::{Own, Rights, Segment};
+use image_check::Own;
 use phys_mem::PhysMem;
 use rv_core::{Store, Trap};
 use rv_decode::LoadWidth;
-use world_view::Access;
+use sv32_walk::{Access, WalkFault, walk};
 
 // ---- translation
 
-fn permits(rights: Rights, access: Access) -> bool
-    ensures value { result ≡ spec.permits rights access }
+// The exception of an access whose walk faults.
+fn fault_code(access: Access, fault: WalkFault) -> u8
+    ensures value { result ≡ spec.fault_code access fault }
 {
-    match access {
-        Access::Fetch => rights.execute,
-        Access::Load => rights.read,
-        Access::Store => rights.write,
+    match (access, fault) {
+        (Access::Fetch, WalkFault::Page) => 12,
+        (Access::Load, WalkFault::Page) => 13,
+        (Access::Store, WalkFault::Page) => 15,
+        (Access::Fetch, WalkFault::Access) => 1,
+        (Access::Load, WalkFault::Access) => 5,
+        (Access::Store, WalkFault::Access) => 7,
     }
 }
 
-fn has_page(segment: &Segment, page: u32) -> bool
-    ensures value { result ≡ spec.has_page (segment_view segment.now) page }
+/// The frame of an address's page, by a walk of the domain's page tables, or
+/// the exception of a walk that faults.
+pub fn translate(own: &Own, memory: &PhysMem, access: Access, va: u32) -> Result<u32, Trap>
+    ensures finds { (p : Hardware) → p.frames ≡ memory.now.frames → Finds (λ d. spec.translate p (own_view own.now) d access va) result memory.now memory.now }
+    ensures within { IfOk result (λ f. f < memory.now.frames) }
+    ensures few { IfOk result (λ f. f < 2 ^ 20) }
 {
-    segment.page <= page && page - segment.page < segment.pages
-}
-
-/// The frame of an address's page, where the page is there and has the right.
-pub fn frame_for(own: &Own, access: Access, va: u32) -> Option<u32>
-    requires few { HasFewPages (own_view own.now) }
-    ensures value { result ≡ spec.frame_for (own_view own.now) access va }
-    ensures own { (p : Hardware) → IfSome result (λ f. IsTrue (own_frame p (own_view own.now) f)) }
-{
-    let page = va / 4096;
-    let mut frame = own.first_frame;
-    for segment in own.segments.as_slice() {
-        if has_page(segment, page) {
-            return if permits(segment.rights, access) {
-                Some(frame + (page - segment.page))
-            } else {
-                None
-            };
-        }
-        frame += segment.pages;
+    let _frames = memory.frames();
+    match walk(memory, own.first_frame, va, access).result {
+        Ok(leaf) => Ok(leaf >> 10),
+        Err(fault) => Err(Trap {
+            code: fault_code(access, fault),
+            value: va,
+        }),
     }
-    None
-}
-
-/// The exception of an access to an address that has no frame for it.
-pub fn page_fault(access: Access, va: u32) -> Trap
-    ensures trap { result ≡ record { code = spec.page_fault access; value = va } }
-{
-    let code = match access {
-        Access::Fetch => 12,
-        Access::Load => 13,
-        Access::Store => 15,
-    };
-    Trap { code, value: va }
 }
 
 /// The physical address of a virtual one in a frame.
@@ -95,15 +75,12 @@ fn read(memory: &PhysMem, width: LoadWidth, at: u32) -> u32
 }
 
 /// What a load finds at an aligned virtual address, with zeros above it, or the
-/// page fault.
+/// exception of its walk.
 pub fn load(own: &Own, memory: &PhysMem, width: LoadWidth, at: u32) -> Result<u32, Trap>
-    requires held { HasFrames (own_view own.now) memory.now.frames }
     requires aligned { at % load_size width ≡ 0 }
-    ensures finds { Finds (λ d. spec.load (own_view own.now) d width at) result memory.now memory.now }
+    ensures finds { (p : Hardware) → p.frames ≡ memory.now.frames → Finds (λ d. spec.load p (own_view own.now) d width at) result memory.now memory.now }
 {
-    let Some(frame) = frame_for(own, Access::Load, at) else {
-        return Err(page_fault(Access::Load, at));
-    };
+    let frame = translate(own, memory, Access::Load, at)?;
     Ok(read(memory, width, physical(frame, at)))
 }
 
@@ -126,19 +103,16 @@ fn write(memory: &mut PhysMem, at: u32, size: u8, value: u32)
 }
 
 /// Makes a store, where there is one, at an aligned virtual address, or answers
-/// the page fault.
+/// the exception of its walk.
 pub fn store(own: &Own, memory: &mut PhysMem, made: Option<Store>) -> Result<(), Trap>
-    requires held { HasFrames (own_view own.now) memory.old.frames }
     requires store { IfSome made IsStore }
-    ensures finds { Finds (λ d. spec.store (own_view own.now) d made) result memory.old memory.new }
+    ensures finds { (p : Hardware) → p.frames ≡ memory.old.frames → Finds (λ d. spec.store p (own_view own.now) d made) result memory.old memory.new }
     ensures frames { memory.new.frames ≡ memory.old.frames }
 {
     let Some(made) = made else {
         return Ok(());
     };
-    let Some(frame) = frame_for(own, Access::Store, made.at) else {
-        return Err(page_fault(Access::Store, made.at));
-    };
+    let frame = translate(own, memory, Access::Store, made.at)?;
     write(memory, physical(frame, made.at), made.size, made.word);
     Ok(())
 }

@@ -4,6 +4,7 @@
 
 mod access;
 mod domain;
+mod frames;
 mod instruction;
 mod machine;
 mod memory;

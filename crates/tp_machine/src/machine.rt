@@ -1,18 +1,18 @@
 // The whole machine: all domains, one slot after another.
-ghost use Rattle.std.specs.Prelude.{◌≡◌, ◌+◌, ◌≤◌, ◌^◌, [], length, map, IfOk};
+ghost use Rattle.std.specs.Prelude.{◌≡◌, ◌+◌, ◌≤◌, [], length, IfOk};
 ghost use Rattle.image_check.specs.Own.{owns_of};
-ghost use Rattle.image_check.specs.Views.{segment_view};
-ghost use Rattle.world_view.specs.Image.{image_from, pages_in};
+ghost use Rattle.world_view.specs.Image.{image_from};
 ghost use Rattle.world_view.specs.Laws.{Runnable};
 ghost use Rattle.tp_machine.specs.Stands.{AreOpened};
 ghost use Rattle.tp_machine.specs.Usage.{IsUsed, CountedUpTo};
 ghost use Rattle.tp_machine.specs.Worlds.{StandsFor, IsInBounds};
 
 use crate::domain::Domain;
+use crate::frames::frames_in;
 use crate::memory::load_pages;
 use crate::slot::stretch;
 use crate::used::{note_switch, switch_entry};
-use image_check::{Checked, Segment};
+use image_check::Checked;
 use phys_mem::PhysMem;
 use std::alloc::Global;
 use tp_base::Memory;
@@ -125,7 +125,7 @@ impl<'a> Machine<'a> {
             printed: domain.printed.as_slice(),
             memory: &self.memory,
             first_frame: own.first_frame,
-            frames: pages_of(own.segments.as_slice()),
+            frames: frames_in(own.segments.as_slice()),
         }
     }
 
@@ -146,18 +146,6 @@ impl<'a> Machine<'a> {
     {
         self.used.as_slice()
     }
-}
-
-// How many pages segments have.
-fn pages_of(segments: &[Segment]) -> u32
-    requires few { pages_in (map segment_view segments.now) ≤ 2 ^ 20 }
-    ensures value { result ≡ pages_in (map segment_view segments.now) }
-{
-    let mut pages = 0;
-    for segment in segments {
-        pages += segment.pages;
-    }
-    pages
 }
 
 // ---- loading

@@ -9,17 +9,18 @@ ghost use Rattle.world_view.specs.Event as event;
 ghost use Rattle.image_check.specs.Public as image_spec;
 ghost use Rattle.world_view.specs.Machine as spec;
 ghost use Rattle.image_check.specs.Views.{own_view, hardware_view};
-ghost use Rattle.tp_machine.specs.Stands.{CountsUpTo, HasFrames, dom_view};
+ghost use Rattle.tp_machine.specs.Stands.{CountsUpTo, dom_view};
 ghost use Rattle.tp_machine.specs.Moves.{Answers, Leaves, Moves};
 
-use crate::access::{frame_for, load, page_fault, physical, store};
+use crate::access::{load, physical, store, translate};
 use crate::domain::Domain;
 use crate::instruction::{call, counter_value, finish, stop};
 use image_check::{Hardware, Own};
 use phys_mem::PhysMem;
 use rv_core::{Trap, address, misalignment};
 use rv_decode::{Instr, decode};
-use world_view::{Access, DomainStatus};
+use sv32_walk::Access;
+use world_view::DomainStatus;
 
 // ---- an instruction
 
@@ -33,11 +34,10 @@ fn loaded(
     instr: Instr,
     at: u32,
 ) -> Result<u32, Trap>
-    requires held { HasFrames (own_view own.now) memory.now.frames }
     requires address { at ≡ address_of domain.now.thread.regs instr }
     requires aligned { misalignment_of instr at ≡ None }
-    ensures answers { (s : event.Store) (readings : List ℕ) (replies : List Reply) → Holds memory.now s.mem
-        → Answers (dom_view domain.now readings replies) result memory.now (event.loaded (own_view own.now) now (dom_view domain.now readings replies) instr s) }
+    ensures answers { (p : image_spec.Hardware) (s : event.Store) (readings : List ℕ) (replies : List Reply) → p.frames ≡ memory.now.frames → Holds memory.now s.mem
+        → Answers (dom_view domain.now readings replies) result memory.now (event.loaded p (own_view own.now) now (dom_view domain.now readings replies) instr s) }
 {
     match instr {
         Instr::Load { width, .. } => load(own, memory, width, at),
@@ -49,11 +49,10 @@ fn loaded(
 // The effect of an instruction: a trap, or a store, the registers and the next
 // instruction.
 fn settle(own: &Own, memory: &mut PhysMem, domain: &mut Domain, instr: Instr, value: u32)
-    requires held { HasFrames (own_view own.now) memory.old.frames }
     requires registers { HasRegisters instr }
     requires retired { domain.old.retired < 2 ^ 63 }
     requires readings { domain.old.readings.count < 2 ^ 63 }
-    ensures leaves { Leaves (λ d. event.settle (own_view own.now) d instr value (effect_of d.thread.regs d.thread.pc instr value)) memory.old domain.old memory.new domain.new }
+    ensures leaves { (p : image_spec.Hardware) → p.frames ≡ memory.old.frames → Leaves (λ d. event.settle p (own_view own.now) d instr value (effect_of d.thread.regs d.thread.pc instr value)) memory.old domain.old memory.new domain.new }
     ensures frames { memory.new.frames ≡ memory.old.frames }
     ensures retired { domain.new.retired ≤ domain.old.retired + 1 }
     ensures readings { domain.new.readings.count ≤ domain.old.readings.count + 1 }
@@ -74,11 +73,10 @@ fn settle(own: &Own, memory: &mut PhysMem, domain: &mut Domain, instr: Instr, va
 // An instruction that is no kernel call. Misaligned loads and stores trap
 // before their address is translated.
 fn execute(own: &Own, memory: &mut PhysMem, domain: &mut Domain, now: u64, instr: Instr)
-    requires held { HasFrames (own_view own.now) memory.old.frames }
     requires registers { HasRegisters instr }
     requires retired { domain.old.retired < 2 ^ 63 }
     requires readings { domain.old.readings.count < 2 ^ 63 }
-    ensures leaves { Leaves (λ d. event.execute (own_view own.now) now d instr) memory.old domain.old memory.new domain.new }
+    ensures leaves { (p : image_spec.Hardware) → p.frames ≡ memory.old.frames → Leaves (λ d. event.execute p (own_view own.now) now d instr) memory.old domain.old memory.new domain.new }
     ensures frames { memory.new.frames ≡ memory.old.frames }
     ensures retired { domain.new.retired ≤ domain.old.retired + 1 }
     ensures readings { domain.new.readings.count ≤ domain.old.readings.count + 1 }
@@ -97,20 +95,22 @@ fn execute(own: &Own, memory: &mut PhysMem, domain: &mut Domain, now: u64, instr
 
 // The domain's next instruction, at a clock.
 fn run_instruction(own: &Own, memory: &mut PhysMem, domain: &mut Domain, now: u64)
-    requires held { HasFrames (own_view own.now) memory.old.frames }
     requires retired { domain.old.retired < 2 ^ 63 }
     requires readings { domain.old.readings.count < 2 ^ 63 }
     requires replies { domain.old.replies.count < 2 ^ 63 }
-    ensures leaves { (p : image_spec.Hardware) → Leaves (event.instruction p (own_view own.now) now) memory.old domain.old memory.new domain.new }
+    ensures leaves { (p : image_spec.Hardware) → p.frames ≡ memory.old.frames → Leaves (event.instruction p (own_view own.now) now) memory.old domain.old memory.new domain.new }
     ensures frames { memory.new.frames ≡ memory.old.frames }
     ensures retired { domain.new.retired ≤ domain.old.retired + 1 }
     ensures readings { domain.new.readings.count ≤ domain.old.readings.count + 1 }
     ensures replies { domain.new.replies.count ≤ domain.old.replies.count + 1 }
 {
     let pc = domain.thread.pc;
-    let Some(frame) = frame_for(own, Access::Fetch, pc) else {
-        stop(domain, page_fault(Access::Fetch, pc));
-        return;
+    let frame = match translate(own, memory, Access::Fetch, pc) {
+        Ok(frame) => frame,
+        Err(trap) => {
+            stop(domain, trap);
+            return;
+        }
     };
     let word = memory.read_word(physical(frame, pc / 4 * 4));
     let Some(instr) = decode(word) else {
@@ -143,7 +143,7 @@ pub fn step(
 ) -> u64
     requires timed { 0 < hardware.now.base }
     requires short { hardware.now.base ≤ 1000 }
-    requires held { HasFrames (own_view own.now) memory.old.frames }
+    requires held { hardware.now.frames ≡ memory.old.frames }
     requires before { now < end }
     requires end { end < 2 ^ 62 }
     requires few { CountsUpTo now domain.old }
@@ -173,7 +173,7 @@ pub fn stretch(
 ) -> u64
     requires timed { 0 < hardware.now.base }
     requires short { hardware.now.base ≤ 1000 }
-    requires held { HasFrames (own_view own.now) memory.old.frames }
+    requires held { hardware.now.frames ≡ memory.old.frames }
     requires before { now < 2 ^ 62 }
     requires end { end < 2 ^ 62 }
     requires few { CountsUpTo now domain.old }

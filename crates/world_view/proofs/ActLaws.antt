@@ -1,5 +1,5 @@
 -- Actions of a domain from memories that are beside: one law of `>>=`, one of each primitive, and one line for each definition.
-use Rattle.std.proofs.Common.{◌≡◌, ℕ, Bool, true, false, cond, eqb, ◌/◌, ◌⊎◌, List, [], ◌∷◌, ◌++◌, Option, Some, None, ap, ap₂, refl, sym, ◌∙◌, subst, IsTrue, inl, inr, true≢false, mod-lt, lit<}
+use Rattle.std.proofs.Common.{◌≡◌, ℕ, cond, eqb, ◌/◌, ◌⊎◌, List, [], ◌∷◌, ◌++◌, Option, Some, None, Result, Ok, Err, ap, ap₂, refl, sym, ◌∙◌, subst, IsTrue, inl, inr, true≢false, mod-lt, lit<, arith}
 use Rattle.std.proofs.Math.Arith.{digits_div}
 use Rattle.tp_base.specs.Table.{empty, at, put, at-put}
 use Rattle.tp_base.specs.Act.{Done, go_on, ◌>>=◌, ◌>>◌, give, stop, note}
@@ -10,17 +10,20 @@ use Rattle.rv_decode.specs.declared.LoadWidth.{LoadWidth}
 use Rattle.rv_core.specs.Effect.{Outcome}
 use Rattle.rv_core.specs.declared.Store.{Store as StoreMade}
 use Rattle.rv_core.specs.declared.Trap.{Trap}
-use Rattle.world_view.specs.declared.Access.{Access}
+use Rattle.sv32_walk.specs.declared.access.Access.{Access}
+use Rattle.sv32_walk.specs.declared.access.WalkFault.{WalkFault}
+use Rattle.sv32_walk.specs.Entry.{ppn}
+use Rattle.sv32_walk.specs.Walk.{Walk, walk}
 use Rattle.image_check.specs.Public.{Hardware}
 use Rattle.image_check.specs.Own.{Own}
-use Rattle.world_view.specs.Image.{own_frame}
+use Rattle.world_view.specs.Frames.{own_frame}
 use Rattle.world_view.specs.Domain.{Dom}
-use Rattle.world_view.specs.Instruction.{stopped, trapped}
+use Rattle.world_view.specs.Instruction.{trapped}
 use Rattle.world_view.specs.Reach.{Touch}
-use Rattle.world_view.specs.Reach.Touch.{Fetch, Load, Store as StoreTouch}
-use Rattle.world_view.specs.Event.{Store, Act, Page, permits, page_fault, page_in, permitted, touch, frame_for, or_stop, translate, address_in, read, write, unless, load, store, loaded, settle, execute, perform, instruction}
-use Rattle.world_view.specs.Laws.{May, MayAll, BesideStore}
-use Rattle.world_view.proofs.Lookups.{own_page}
+use Rattle.world_view.specs.Reach.Touch.{Look, Fetch, Load, Store as StoreTouch}
+use Rattle.world_view.specs.Event.{Store, Act, touch, found, frame_or_stop, translate, address_in, read, write, unless, load, store, loaded, settle, execute, perform, instruction}
+use Rattle.world_view.specs.Laws.{May, MayAll, IsPageFrame, BesideStore}
+use Rattle.world_view.proofs.TableLaws.{own_page, good_same, walk_reads, walk_page, walk_alike}
 
 pub may_append : (p : Hardware) (o : Own) (ts us : List Touch) → MayAll p o ts → MayAll p o us → MayAll p o (ts ++ us)
 may_append p o [] us h k = k
@@ -43,9 +46,9 @@ module _ (p : Hardware) (o : Own) (first : Store) where
   pub record Near {A : Type 0} (P : A → Type 0) (x : Act A) : Type 0 where
     pub runs : (s a : Store) → BesideStore p o first s a → Alike P (x s) (x a)
 
-  -- a frame of one's own
-  abbrev pub Mine : ℕ → Type 0
-  Mine f = IsTrue (own_frame p o f)
+  -- a frame of one's own that holds a page
+  abbrev pub Page : ℕ → Type 0
+  Page f = IsPageFrame o f
 
   abbrev pub Any : {A : Type 0} → A → Type 0
   Any v = Unit {0}
@@ -72,8 +75,8 @@ module _ (p : Hardware) (o : Own) (first : Store) where
         subst (λ (v : Dom ⊎ A). Alike Q (go_on (x s) f (x s).value) (go_on (x a) f v)) n.value (on_near P Q (x s) (x a) f (x s).value n n.known g);
   }
 
-  bind_mine : {B : Type 0} (x : Act ℕ) (f : ℕ → Act B) → Near Mine x → ((a : ℕ) → Mine a → Near Any (f a)) → Near Any (x >>= f)
-  bind_mine x f h g = bind_near Mine Any x f h g
+  bind_page : {B : Type 0} (x : Act ℕ) (f : ℕ → Act B) → Near Page x → ((a : ℕ) → Page a → Near Any (f a)) → Near Any (x >>= f)
+  bind_page x f h g = bind_near Page Any x f h g
 
   bind_any : {A B : Type 0} (x : Act A) (f : A → Act B) → Near Any x → ((a : A) → Near Any (f a)) → Near Any (x >>= f)
   bind_any x f h g = bind_near Any Any x f h (λ a _. g a)
@@ -90,26 +93,24 @@ module _ (p : Hardware) (o : Own) (first : Store) where
   unfolding stop
   stop_any d = record { runs = λ s k b. record { notes = refl; may = tt; state = b; value = refl; known = tt } }
 
-  known_if : (d : Dom) (b : Bool) (f : ℕ) → Mine f → Known Mine (or_stop d (cond b (Some f) None))
-  unfolding or_stop
-  known_if d true f own = own
-  known_if d false f own = tt
+  known_frame : (d : Dom) (a : Access) (va : ℕ) (r : Result ℕ WalkFault) → ((leaf : ℕ) → r ≡ Ok leaf → Page (ppn leaf)) → Known Page (frame_or_stop d a va r)
+  unfolding frame_or_stop
+  known_frame d a va (Ok leaf) page = page leaf refl
+  known_frame d a va (Err f) page = tt
 
-  known_permitted : (d : Dom) (a : Access) (found : Option Page) → ((page : Page) → found ≡ Some page → Mine page.frame) → Known Mine (or_stop d (permitted a found))
-  unfolding or_stop permitted
-  known_permitted d a None own = tt
-  known_permitted d a (Some page) own = known_if d (permits page.rights a) page.frame (own page refl)
-
-  translate_near : (d : Dom) (a : Access) (va : ℕ) → Near Mine (translate o d a va)
-  unfolding translate frame_for
+  -- the walk is the same in both memories, and comes to a page of the domain
+  translate_near : (d : Dom) (a : Access) (va : ℕ) → Near Page (translate p o d a va)
+  unfolding translate
   translate_near d a va = record {
-    runs = λ s k b. record {
-      notes = refl;
-      may = tt;
-      state = b;
-      value = refl;
-      known = known_permitted (stopped (page_fault a) va d) a (page_in o.first_frame o.segments (va / 4096)) (own_page p o (va / 4096));
-    };
+    runs = λ s k b.
+        let same : walk s.mem p.frames o.first_frame va a ≡ walk k.mem p.frames o.first_frame va a = sym (walk_alike p o s.mem b.good va a k.mem b.same) in
+        record {
+          notes = ap (λ (w : Walk). Look (va / 4096) w.reads (found w.result) ∷ []) same;
+          may = (walk_reads p o s.mem b.good va a, tt);
+          state = b;
+          value = ap (λ (w : Walk). frame_or_stop d a va w.result) same;
+          known = known_frame d a va (walk s.mem p.frames o.first_frame va a).result (walk_page p o s.mem b.good va a);
+        };
   }
 
   -- an address in frame f is in frame f
@@ -117,43 +118,44 @@ module _ (p : Hardware) (o : Own) (first : Store) where
   unfolding address_in
   frame_of_address f va = digits_div f (mod-lt va (lit< tt))
 
-  own_address : (f va : ℕ) → Mine f → Mine (address_in f va / 4096)
-  own_address f va own = ap (own_frame p o) (frame_of_address f va) ∙ own
+  own_address : (f va : ℕ) → Page f → IsTrue (own_frame p o (address_in f va / 4096))
+  own_address f va is = ap (own_frame p o) (frame_of_address f va) ∙ own_page p o f is
 
   touch_any : (t : Touch) → May p o t → Near Any (touch t)
   unfolding touch note
   touch_any t may = record { runs = λ s k b. record { notes = refl; may = (may, tt); state = b; value = refl; known = tt } }
 
-  fetch_own : (f va : ℕ) → Mine f → Near Any (touch (Fetch (address_in f va)))
+  fetch_own : (f va : ℕ) → Page f → Near Any (touch (Fetch (address_in f va)))
   fetch_own f va own = touch_any (Fetch (address_in f va)) (own_address f va own)
 
-  load_own : (f va : ℕ) → Mine f → Near Any (touch (Load (address_in f va)))
+  load_own : (f va : ℕ) → Page f → Near Any (touch (Load (address_in f va)))
   load_own f va own = touch_any (Load (address_in f va)) (own_address f va own)
 
-  store_own : (f va : ℕ) → Mine f → Near Any (touch (StoreTouch (address_in f va)))
+  store_own : (f va : ℕ) → Page f → Near Any (touch (StoreTouch (address_in f va)))
   store_own f va own = touch_any (StoreTouch (address_in f va)) (own_address f va own)
 
-  read_near : (f i : ℕ) → Mine f → Near Any (read f i)
+  read_near : (f i : ℕ) → Page f → Near Any (read f i)
   unfolding read word
   read_near f i own = record {
-    runs = λ s k b. record { notes = refl; may = tt; state = b; value = ap (λ (x : Frame). inr (at 0 x i)) (b.same f own); known = tt };
+    runs = λ s k b. record { notes = refl; may = tt; state = b; value = ap (λ (x : Frame). inr (at 0 x i)) (b.same f (own_page p o f own)); known = tt };
   }
 
-  -- a write to an own frame
+  -- a write to a page leaves the page tables as they are
   written_same : (m k : Mem) (f i v g : ℕ) → frame_at m f ≡ frame_at k f → frame_at m g ≡ frame_at k g → frame_at (written m f i v) g ≡ frame_at (written k f i v) g
   unfolding frame_at written
   written_same m k f i v g e h =
       rw (at-put empty m f g (put (at empty m f) i v), at-put empty k f g (put (at empty k f) i v)) (ap₂ (λ (x y : Frame). cond (eqb g f) (put x i v) y) e h)
 
-  write_near : (f i v : ℕ) → Mine f → Near Any (write f i v)
+  write_near : (f i v : ℕ) → Page f → Near Any (write f i v)
   unfolding write
-  write_near f i v own = record {
+  write_near f i v is = record {
     runs = λ s k b. record {
       notes = refl;
       may = tt;
       state = record {
-        same = λ g h. written_same s.mem k.mem f i v g (b.same f own) (b.same g h);
-        outside = λ g h. frame_at-written_other s.mem f i v g (λ e. true≢false (sym own ∙ ap (own_frame p o) (sym e) ∙ h)) ∙ b.outside g h;
+        good = good_same p o s.mem (written s.mem f i v) b.good (λ g low high. frame_at-written_other s.mem f i v g (λ e. omega (arith, is.0, high, e)));
+        same = λ g h. written_same s.mem k.mem f i v g (b.same f (own_page p o f is)) (b.same g h);
+        outside = λ g h. frame_at-written_other s.mem f i v g (λ e. true≢false (sym (own_page p o f is) ∙ ap (own_frame p o) (sym e) ∙ h)) ∙ b.outside g h;
       };
       value = refl;
       known = tt;
@@ -165,33 +167,33 @@ module _ (p : Hardware) (o : Own) (first : Store) where
   unless_any None d = give_any tt
   unless_any (Some trap) d = stop_any (trapped trap d)
 
-ruleset near_rules = (bind_mine, bind_any, then_any, give_any, stop_any, translate_near, fetch_own, load_own, store_own, read_near, write_near, unless_any)
+ruleset near_rules = (bind_page, bind_any, then_any, give_any, stop_any, translate_near, fetch_own, load_own, store_own, read_near, write_near, unless_any)
 
 module _ (p : Hardware) (o : Own) (first : Store) where
-  load_near : (d : Dom) (width : LoadWidth) (va : ℕ) → Near p o first (Any p o first) (load o d width va)
+  load_near : (d : Dom) (width : LoadWidth) (va : ℕ) → Near p o first (Any p o first) (load p o d width va)
   unfolding load
   load_near d width va = search near_rules depth 40
 
-  store_near : (d : Dom) (s : Option StoreMade) → Near p o first (Any p o first) (store o d s)
+  store_near : (d : Dom) (s : Option StoreMade) → Near p o first (Any p o first) (store p o d s)
   unfolding store
   store_near d None = search near_rules depth 40
   store_near d (Some s) = search near_rules depth 40
 
-  loaded_near : (t : ℕ) (d : Dom) (i : Instr) → Near p o first (Any p o first) (loaded o t d i)
+  loaded_near : (t : ℕ) (d : Dom) (i : Instr) → Near p o first (Any p o first) (loaded p o t d i)
   unfolding loaded
   loaded_near t d (instr.Load width rd rs1 offset) = load_near d width _
   loaded_near t d (instr.ReadCounter counter rd) = search near_rules depth 40
   loaded_near t d _ = search near_rules depth 40
 
-  settle_near : (d : Dom) (i : Instr) (value : ℕ) (out : Outcome) → Near p o first (Any p o first) (settle o d i value out)
+  settle_near : (d : Dom) (i : Instr) (value : ℕ) (out : Outcome) → Near p o first (Any p o first) (settle p o d i value out)
   unfolding settle
   settle_near d i value out = search (near_rules, store_near) depth 40
 
-  execute_near : (t : ℕ) (d : Dom) (i : Instr) → Near p o first (Any p o first) (execute o t d i)
+  execute_near : (t : ℕ) (d : Dom) (i : Instr) → Near p o first (Any p o first) (execute p o t d i)
   unfolding execute
   execute_near t d i = search (near_rules, loaded_near, settle_near) depth 40
 
-  perform_near : (t : ℕ) (d : Dom) (w : ℕ) (i : Option Instr) → Near p o first (Any p o first) (perform o t d w i)
+  perform_near : (t : ℕ) (d : Dom) (w : ℕ) (i : Option Instr) → Near p o first (Any p o first) (perform p o t d w i)
   unfolding perform
   perform_near t d w None = search near_rules depth 40
   perform_near t d w (Some instr.Ecall) = search near_rules depth 40

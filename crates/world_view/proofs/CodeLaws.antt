@@ -1,51 +1,36 @@
 -- What code that runs the machine wants to know of its definitions.
-use Rattle.std.proofs.Common.{◌≡◌, ◌≢◌, ℕ, zero, suc, ◌+◌, ◌-◌, ◌*◌, ◌/◌, ◌<◌, ◌≤◌, max, Bool, true, false, cond, eqb, ◌&&◌, nat_le, nat_lt, List, [], ◌∷◌, ◌++◌, length, filter, Option, Some, None, inl, inr, refl, sym, ap, ◌∙◌, subst, arith, add-zero, eq-eqb, ne_eqb, IsTrue}
+use Rattle.std.proofs.Common.{◌≡◌, ◌≢◌, ℕ, zero, suc, ◌+◌, ◌-◌, ◌*◌, ◌/◌, ◌≤◌, max, Bool, true, false, cond, eqb, ◌&&◌, nat_le, nat_lt, List, [], ◌∷◌, ◌++◌, length, filter, Some, Result, inl, inr, refl, sym, ap, ◌∙◌, subst, arith, add-zero, eq-eqb, ne_eqb}
 use Rattle.std.specs.List.{range_with_len, sum_by}
 use Rattle.std.proofs.lemmas.Bool.{cases_Bool, cases_eq, cases_lt, le-leb, lt-ltb, lt-leb, le-ltb}
 use Rattle.std.proofs.Math.Bool.{and-false}
 use Rattle.std.proofs.lemmas.List.{get_or_past}
 use Rattle.std.proofs.lemmas.List.Sums.{sum_by-append}
-use Rattle.std.proofs.lemmas.Option.{none-some, same_Some}
-use Rattle.tp_base.specs.Table.{empty, at, put, at-empty, at-put_same, at-put_other}
+use Rattle.tp_base.specs.Table.{at, at-put_same, at-put_other}
 use Rattle.tp_base.specs.Act.{◌>>=◌, go_on, give, either}
-use Rattle.phys_mem.specs.Mem.{Frame, Mem, frame_at, word}
 use Rattle.rv_decode.specs.declared.Instr.{Instr}
 use Rattle.rv_decode.specs.declared.Instr.TheVariants as instr
 use Rattle.rv_decode.specs.declared.Counter.{Counter}
-use Rattle.world_view.specs.declared.Access.{Access}
+use Rattle.sv32_walk.specs.declared.access.Access.{Access}
+use Rattle.sv32_walk.specs.declared.access.WalkFault.{WalkFault}
+use Rattle.sv32_walk.specs.Walk.{walk}
 use Rattle.image_check.specs.Public.{Hardware}
 use Rattle.image_check.specs.Own.{Own}
-use Rattle.world_view.specs.Image.{Image, own_of, own_frame, pages_in}
+use Rattle.world_view.specs.Image.{Image, own_of}
+use Rattle.world_view.specs.Frames.{frames_in}
 use Rattle.world_view.specs.Schedule.{entry_of_slot, switch_entry, start, slot_end, ended, outgoing}
-use Rattle.world_view.specs.Opening.{word_of, tabled, page_frame}
+use Rattle.world_view.specs.Opening.{word_of, page_words}
 use Rattle.world_view.specs.Domain.{Dom, opening_dom, no_dom, is_running}
-use Rattle.world_view.specs.Instruction.{stopped}
 use Rattle.world_view.specs.Reach.{Touch, Caches, reach, and_then, reach_all}
-use Rattle.world_view.specs.Event.{Store, Act, Page, permits, page_fault, page_in, permitted, frame_for, or_stop, translate, loaded, noted, execute, perform, instruction, event}
+use Rattle.world_view.specs.Event.{Store, Act, frame_or_stop, translate, loaded, noted, execute, perform, instruction, event}
 use Rattle.world_view.specs.Machine.{Local, paid, happened, step, stretch, World, dom_of, part_of, with_part, switch, run_slot, whole}
 use Rattle.world_view.specs.View.{pool}
 use Rattle.world_view.specs.Laws.{IsDomain}
 use Rattle.world_view.proofs.Separate.{Separated}
-use Rattle.world_view.proofs.Lookups.{own_page}
-use Rattle.world_view.proofs.OpeningLaws.{opening_dom_is}
+use Rattle.world_view.proofs.OpeningLaws.{at-tabled, at-tabled_past, opening_dom_is}
 use Rattle.world_view.proofs.TimeLaws.{switch_free}
 use Rattle.world_view.specs.Report.{largest_of, count_of}
 
 -- ---- memory at its opening
-
-at-tabled : (f : ℕ → ℕ) (n i : ℕ) → i < n → at 0 (tabled f n) i ≡ f i
-unfolding tabled
-at-tabled f zero i h = absurd (omega arith)
-at-tabled f (suc n) i h =
-    elim (cases_eq i n) [
-      | inl same ↦ rw same (at-put_same 0 (tabled f n) n (f n))
-      | inr other ↦ at-put_other 0 (tabled f n) n i (f n) other ∙ at-tabled f n i (omega arith)
-    ]
-
-at-tabled_past : (f : ℕ → ℕ) (n i : ℕ) → n ≤ i → at 0 (tabled f n) i ≡ 0
-unfolding tabled
-at-tabled_past f zero i h = at-empty 0 i
-at-tabled_past f (suc n) i h = at-put_other 0 (tabled f n) n i (f n) (omega arith) ∙ at-tabled_past f n i (omega arith)
 
 -- past the last byte there are zeros
 word_of-past : (bytes : List ℕ) (i : ℕ) → (length bytes + 3) / 4 ≤ i → word_of bytes i ≡ 0
@@ -53,46 +38,13 @@ word_of-past bytes i h =
     let past : length bytes ≤ 4 * i = omega arith in
     rw (get_or_past bytes (4 * i) 0 past, get_or_past bytes (4 * i + 1) 0 (omega arith), get_or_past bytes (4 * i + 2) 0 (omega arith), get_or_past bytes (4 * i + 3) 0 (omega arith))
 
-at-page_frame : (bytes : List ℕ) (i : ℕ) → at 0 (page_frame bytes) i ≡ word_of bytes i
-unfolding page_frame
-at-page_frame bytes i =
+pub at-page_words : (bytes : List ℕ) (i : ℕ) → at 0 (page_words bytes) i ≡ word_of bytes i
+unfolding page_words
+at-page_words bytes i =
     elim (cases_lt i ((length bytes + 3) / 4)) [
       | inl within ↦ at-tabled (word_of bytes) ((length bytes + 3) / 4) i within
       | inr past ↦ at-tabled_past (word_of bytes) ((length bytes + 3) / 4) i past ∙ sym (word_of-past bytes i past)
     ]
-
--- a page in its frame, and every other frame
-pub word-placed_same : (m : Mem) (f i : ℕ) (bytes : List ℕ) → word (put m f (page_frame bytes)) f i ≡ word_of bytes i
-unfolding word frame_at
-word-placed_same m f i bytes = ap (λ (x : Frame). at 0 x i) (at-put_same empty m f (page_frame bytes)) ∙ at-page_frame bytes i
-
-pub word-placed_other : (m : Mem) (f g i : ℕ) (bytes : List ℕ) → g ≢ f → word (put m f (page_frame bytes)) g i ≡ word m g i
-unfolding word frame_at
-word-placed_other m f g i bytes other = ap (λ (x : Frame). at 0 x i) (at-put_other empty m f g (page_frame bytes) other)
-
--- ---- pages
-
-pub permitted-page : (a : Access) (page : Page) → permitted a (Some page) ≡ cond (permits page.rights a) (Some page.frame) None
-unfolding permitted
-permitted-page a page = refl
-
-pub permitted-none : (a : Access) → permitted a None ≡ None
-unfolding permitted
-permitted-none a = refl
-
-permitted_some : (a : Access) (page : Page) (f : ℕ) (b : Bool) → cond b (Some page.frame) None ≡ Some f → page.frame ≡ f
-permitted_some a page f true e = same_Some page.frame f e
-permitted_some a page f false e = absurd (none-some f e)
-
-frame_of_page : (p : Hardware) (o : Own) (a : Access) (n f : ℕ) (v : Option Page) → page_in o.first_frame o.segments n ≡ v → permitted a v ≡ Some f → IsTrue (own_frame p o f)
-unfolding permitted
-frame_of_page p o a n f None found e = absurd (none-some f e)
-frame_of_page p o a n f (Some page) found e = rw (sym (permitted_some a page f (permits page.rights a) e)) (own_page p o n page found)
-
--- an address's frame is one of the domain's
-pub frame_for-own : (p : Hardware) (o : Own) (a : Access) (va f : ℕ) → frame_for o a va ≡ Some f → IsTrue (own_frame p o f)
-unfolding frame_for
-frame_for-own p o a va f e = frame_of_page p o a (va / 4096) f (page_in o.first_frame o.segments (va / 4096)) refl e
 
 -- ---- steps of a domain, by what they end with and what they leave
 
@@ -113,12 +65,12 @@ module _ {A B : Type 0} (x : Act A) (y : A → Act B) (s : Store) where
   unfolding ◌>>=◌ go_on
   stop_state d e = rw e
 
-module _ (o : Own) (d : Dom) (a : Access) (va : ℕ) (s : Store) where
-  pub translate_value : (v : Option ℕ) → frame_for o a va ≡ v → (translate o d a va s).value ≡ or_stop (stopped (page_fault a) va d) v
+module _ (p : Hardware) (o : Own) (d : Dom) (a : Access) (va : ℕ) (s : Store) where
+  pub translate_value : (r : Result ℕ WalkFault) → (walk s.mem p.frames o.first_frame va a).result ≡ r → (translate p o d a va s).value ≡ frame_or_stop d a va r
   unfolding translate
-  translate_value v e = rw e
+  translate_value r e = ap (frame_or_stop d a va) e
 
-  pub translate_state : (translate o d a va s).state ≡ s
+  pub translate_state : (translate p o d a va s).state ≡ s
   unfolding translate
   translate_state = refl
 
@@ -138,38 +90,38 @@ noted-other instr.Fence value d other = refl
 noted-other instr.Ecall value d other = refl
 noted-other instr.Ebreak value d other = refl
 
-pub loaded-other : (o : Own) (t : ℕ) (d : Dom) (i : Instr) → ((w : _) (rd rs1 offset : ℕ) → i ≢ instr.Load w rd rs1 offset) → ((c : Counter) (rd : ℕ) → i ≢ instr.ReadCounter c rd)
-    → loaded o t d i ≡ give 0
+pub loaded-other : (p : Hardware) (o : Own) (t : ℕ) (d : Dom) (i : Instr) → ((w : _) (rd rs1 offset : ℕ) → i ≢ instr.Load w rd rs1 offset) → ((c : Counter) (rd : ℕ) → i ≢ instr.ReadCounter c rd)
+    → loaded p o t d i ≡ give 0
 unfolding loaded
-loaded-other o t d (instr.ReadCounter c rd) load other = absurd (other c rd refl)
-loaded-other o t d (instr.Lui rd imm) load other = refl
-loaded-other o t d (instr.Auipc rd imm) load other = refl
-loaded-other o t d (instr.Jal rd offset) load other = refl
-loaded-other o t d (instr.Jalr rd rs1 offset) load other = refl
-loaded-other o t d (instr.Branch comparison rs1 rs2 offset) load other = refl
-loaded-other o t d (instr.Load width rd rs1 offset) load other = absurd (load width rd rs1 offset refl)
-loaded-other o t d (instr.Store width rs1 rs2 offset) load other = refl
-loaded-other o t d (instr.Immediate operation rd rs1 imm) load other = refl
-loaded-other o t d (instr.Register operation rd rs1 rs2) load other = refl
-loaded-other o t d instr.Fence load other = refl
-loaded-other o t d instr.Ecall load other = refl
-loaded-other o t d instr.Ebreak load other = refl
+loaded-other p o t d (instr.ReadCounter c rd) load other = absurd (other c rd refl)
+loaded-other p o t d (instr.Lui rd imm) load other = refl
+loaded-other p o t d (instr.Auipc rd imm) load other = refl
+loaded-other p o t d (instr.Jal rd offset) load other = refl
+loaded-other p o t d (instr.Jalr rd rs1 offset) load other = refl
+loaded-other p o t d (instr.Branch comparison rs1 rs2 offset) load other = refl
+loaded-other p o t d (instr.Load width rd rs1 offset) load other = absurd (load width rd rs1 offset refl)
+loaded-other p o t d (instr.Store width rs1 rs2 offset) load other = refl
+loaded-other p o t d (instr.Immediate operation rd rs1 imm) load other = refl
+loaded-other p o t d (instr.Register operation rd rs1 rs2) load other = refl
+loaded-other p o t d instr.Fence load other = refl
+loaded-other p o t d instr.Ecall load other = refl
+loaded-other p o t d instr.Ebreak load other = refl
 
-pub perform-other : (o : Own) (t : ℕ) (d : Dom) (w : ℕ) (i : Instr) → i ≢ instr.Ecall → perform o t d w (Some i) ≡ execute o t d i
+pub perform-other : (p : Hardware) (o : Own) (t : ℕ) (d : Dom) (w : ℕ) (i : Instr) → i ≢ instr.Ecall → perform p o t d w (Some i) ≡ execute p o t d i
 unfolding perform
-perform-other o t d w (instr.ReadCounter c rd) other = refl
-perform-other o t d w (instr.Lui rd imm) other = refl
-perform-other o t d w (instr.Auipc rd imm) other = refl
-perform-other o t d w (instr.Jal rd offset) other = refl
-perform-other o t d w (instr.Jalr rd rs1 offset) other = refl
-perform-other o t d w (instr.Branch comparison rs1 rs2 offset) other = refl
-perform-other o t d w (instr.Load width rd rs1 offset) other = refl
-perform-other o t d w (instr.Store width rs1 rs2 offset) other = refl
-perform-other o t d w (instr.Immediate operation rd rs1 imm) other = refl
-perform-other o t d w (instr.Register operation rd rs1 rs2) other = refl
-perform-other o t d w instr.Fence other = refl
-perform-other o t d w instr.Ecall other = absurd (other refl)
-perform-other o t d w instr.Ebreak other = refl
+perform-other p o t d w (instr.ReadCounter c rd) other = refl
+perform-other p o t d w (instr.Lui rd imm) other = refl
+perform-other p o t d w (instr.Auipc rd imm) other = refl
+perform-other p o t d w (instr.Jal rd offset) other = refl
+perform-other p o t d w (instr.Jalr rd rs1 offset) other = refl
+perform-other p o t d w (instr.Branch comparison rs1 rs2 offset) other = refl
+perform-other p o t d w (instr.Load width rd rs1 offset) other = refl
+perform-other p o t d w (instr.Store width rs1 rs2 offset) other = refl
+perform-other p o t d w (instr.Immediate operation rd rs1 imm) other = refl
+perform-other p o t d w (instr.Register operation rd rs1 rs2) other = refl
+perform-other p o t d w instr.Fence other = refl
+perform-other p o t d w instr.Ecall other = absurd (other refl)
+perform-other p o t d w instr.Ebreak other = refl
 
 -- touches are free
 touches_free : (p : Hardware) (pinned : Bool) (c : Caches) (ts : List Touch) → reach_all p pinned c ts ≡ record { cost = 0; caches = c }
@@ -273,9 +225,9 @@ between low n a (suc m) before few =
     ]
 
 -- where memory has them all
-pub pool-frames : (p : Hardware) (o : Own) → o.first_frame + pages_in o.segments ≤ p.frames → pool p o ≡ range_with_len o.first_frame (pages_in o.segments)
+pub pool-frames : (p : Hardware) (o : Own) → o.first_frame + frames_in o.segments ≤ p.frames → pool p o ≡ range_with_len o.first_frame (frames_in o.segments)
 unfolding pool
-pool-frames p o held = between o.first_frame (pages_in o.segments) 0 p.frames (omega arith) (omega arith)
+pool-frames p o held = between o.first_frame (frames_in o.segments) 0 p.frames (omega arith) (omega arith)
 
 -- ---- what switches took, with one more
 

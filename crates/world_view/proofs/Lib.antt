@@ -1,11 +1,13 @@
 pub mod Fuel
+pub mod Counts
 pub mod Separate
-pub mod Lookups
+pub mod TableLaws
 pub mod ReachLaws
 pub mod ActLaws
 pub mod StepLaws
 pub mod TimeLaws
 pub mod OpeningLaws
+pub mod OpenedWalks
 pub mod SwitchLaws
 pub mod WholeLaws
 pub mod ReportLaws

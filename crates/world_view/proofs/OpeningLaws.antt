@@ -1,16 +1,56 @@
 -- The whole machine at first, as each domain sees it.
-use Rattle.std.proofs.Common.{◌≡◌, ◌≢◌, ℕ, false, zero, suc, ◌+◌, ◌<◌, ◌≤◌, List, [], ◌∷◌, get_or, length, take, drop, inl, inr, ◌⊎◌, ap, sym, ◌∙◌, refl, subst, arith, IsTrue, add-zero}
-use Rattle.std.proofs.lemmas.Bool.{cases_lt, cases_eq}
-use Rattle.tp_base.specs.Table.{empty, at, put, at-put_other, at-put_same}
-use Rattle.phys_mem.specs.Mem.{Mem, Frame, frame_at}
+use Rattle.std.proofs.Common.{◌≡◌, ◌≢◌, ℕ, false, true, Bool, cond, zero, suc, ◌+◌, ◌*◌, ◌<◌, ◌≤◌, List, [], ◌∷◌, get_or, length, take, drop, Option, Some, None, inl, inr, ap, sym, ◌∙◌, refl, subst, arith, add-zero, true≢false}
+use Rattle.std.proofs.lemmas.Bool.{cases_Bool, cases_eq, le-leb, lt-ltb}
+use Rattle.std.proofs.Math.Bool.{or-true}
+use Rattle.tp_base.specs.Table.{empty, at, put, at-empty, at-put_other, at-put_same}
+use Rattle.phys_mem.specs.Mem.{Mem, Frame, frame_at, word}
+use Rattle.sv32_walk.specs.Entry.{valid, ppn}
+use Rattle.page_map.specs.Words.{table_word, leaf_word, leaf_bits}
+use Rattle.page_map.specs.Tables.{IsPageMap}
+use Rattle.page_map.specs.Reached.{leaf_at}
+use Rattle.sv32_walk.specs.Walk.{is_leaf}
+use Rattle.page_map.proofs.WordLemmas.{valid-zero, ppn-table, leaf-good}
+use Rattle.image_check.specs.Laws.{IsOwn}
+use Rattle.image_check.specs.declared.own.Rights.{Rights}
 use Rattle.image_check.specs.Public.{Hardware}
 use Rattle.image_check.specs.Own.{Segment, Own, no_own}
-use Rattle.world_view.specs.Image.{Image, own_of, own_frame, pages_in}
-use Rattle.world_view.specs.Opening.{page_frame, pages_placed, segments_placed, placed, all_placed}
+use Rattle.world_view.specs.Image.{Image, own_of}
+use Rattle.world_view.specs.Frames.{has_page, has_region, frames_in, table_frame, first_page_frame, page_frame, own_frame}
+use Rattle.world_view.specs.Opening.{put_word, tabled, root_entry, rights_in, rights_number, leaf_with, leaf_entry, root_placed, table_placed, tables_placed, page_words, pages_placed, segments_placed, placed, all_placed}
 use Rattle.world_view.specs.Domain.{opening_dom, no_dom}
 use Rattle.world_view.specs.Machine.{opening_doms, opening, alone_opening}
-use Rattle.world_view.specs.Laws.{IsDomain, SameFrames}
-use Rattle.world_view.proofs.Separate.{Separated, frame_within, frame_without}
+use Rattle.world_view.specs.Laws.{IsDomain, SameFrames, IsTableFrame, IsPageFrame, Good}
+use Rattle.world_view.proofs.Counts.{region_before, region_once, is_page, pages_low, rights_there, rights_are_good}
+use Rattle.world_view.proofs.Separate.{Separated}
+use Rattle.world_view.proofs.TableLaws.{frame_inside, good_same}
+
+-- ---- the values of a function
+
+put_word-same : (x : Frame) (i w : ℕ) → at 0 x i ≡ 0 → at 0 (put_word x i w) i ≡ w
+unfolding put_word
+put_word-same x i zero none = none
+put_word-same x i (suc w) none = at-put_same 0 x i (suc w)
+
+put_word-other : (x : Frame) (i w j : ℕ) → j ≢ i → at 0 (put_word x i w) j ≡ at 0 x j
+unfolding put_word
+put_word-other x i zero j other = refl
+put_word-other x i (suc w) j other = at-put_other 0 x i j (suc w) other
+
+pub at-tabled_past : (f : ℕ → ℕ) (n i : ℕ) → n ≤ i → at 0 (tabled f n) i ≡ 0
+unfolding tabled
+at-tabled_past f zero i h = at-empty 0 i
+at-tabled_past f (suc n) i h = put_word-other (tabled f n) n (f n) i (omega arith) ∙ at-tabled_past f n i (omega arith)
+
+pub at-tabled : (f : ℕ → ℕ) (n i : ℕ) → i < n → at 0 (tabled f n) i ≡ f i
+unfolding tabled
+at-tabled f zero i h = absurd (omega arith)
+at-tabled f (suc n) i h =
+    elim (cases_eq i n) [
+      | inl same ↦ rw same (put_word-same (tabled f n) n (f n) (at-tabled_past f n n (omega arith)))
+      | inr other ↦ put_word-other (tabled f n) n (f n) i other ∙ at-tabled f n i (omega arith)
+    ]
+
+-- ---- a frame that was put
 
 put_frame_same : (m : Mem) (f g : ℕ) (x : Frame) → g ≡ f → frame_at (put m g x) f ≡ x
 unfolding frame_at
@@ -20,58 +60,255 @@ put_frame_other : (m : Mem) (f g : ℕ) (x : Frame) → f ≢ g → frame_at (pu
 unfolding frame_at
 put_frame_other m f g x other = at-put_other empty m g f x other
 
--- pages leave other frames
-pages_other : (g n : ℕ) (bytes : List ℕ) (m : Mem) (f : ℕ) → (f < g) ⊎ (g + n ≤ f) → frame_at (pages_placed g n bytes m) f ≡ frame_at m f
-unfolding pages_placed
-pages_other g zero bytes m f out = refl
-pages_other g (suc n) bytes m f out =
-    pages_other (suc g) n (drop 4096 bytes) (put m g (page_frame (take 4096 bytes))) f (elim out [ inl below ↦ inl (omega arith) | inr past ↦ inr (omega arith) ])
-    ∙ put_frame_other m f g (page_frame (take 4096 bytes)) (elim out [ inl below ↦ λ e. omega arith | inr past ↦ λ e. omega arith ])
+pub word-put_same : (m : Mem) (f i : ℕ) (x : Frame) → word (put m f x) f i ≡ at 0 x i
+unfolding word frame_at
+word-put_same m f i x = ap (λ (y : Frame). at 0 y i) (at-put_same empty m f x)
 
--- memories that are equal in a frame, or the frame is one of these pages': then they are equal there once the pages are placed
-pages_same : (g n : ℕ) (bytes : List ℕ) (m k : Mem) (f : ℕ) → ((f < g) ⊎ (g + n ≤ f) → frame_at m f ≡ frame_at k f)
-    → frame_at (pages_placed g n bytes m) f ≡ frame_at (pages_placed g n bytes k) f
-unfolding pages_placed
-pages_same g zero bytes m k f same = same (elim (cases_lt f g) [ inl below ↦ inl below | inr past ↦ inr (omega arith) ])
-pages_same g (suc n) bytes m k f same =
-    let x = page_frame (take 4096 bytes) in
-    pages_same (suc g) n (drop 4096 bytes) (put m g x) (put k g x) f (λ out.
+pub word-put_other : (m : Mem) (f g i : ℕ) (x : Frame) → g ≢ f → word (put m f x) g i ≡ word m g i
+unfolding word frame_at
+word-put_other m f g i x other = ap (λ (y : Frame). at 0 y i) (at-put_other empty m f g x other)
+
+-- equal frames stay equal
+put_alike : (m k : Mem) (g : ℕ) (x : Frame) (f : ℕ) → frame_at m f ≡ frame_at k f → frame_at (put m g x) f ≡ frame_at (put k g x) f
+put_alike m k g x f same =
     elim (cases_eq f g) [
       | inl here ↦ put_frame_same m f g x (sym here) ∙ sym (put_frame_same k f g x (sym here))
-      | inr other ↦ put_frame_other m f g x other ∙ same (elim out [ inl below ↦ inl (omega (arith, below, other)) | inr past ↦ inr (omega arith) ]) ∙ sym (put_frame_other k f g x other)
-    ])
+      | inr other ↦ put_frame_other m f g x other ∙ same ∙ sym (put_frame_other k f g x other)
+    ]
 
--- so do segments
-segments_other : (ss : List Segment) (g : ℕ) (m : Mem) (f : ℕ) → (f < g) ⊎ (g + pages_in ss ≤ f) → frame_at (segments_placed g ss m) f ≡ frame_at m f
-unfolding segments_placed pages_in
-segments_other [] g m f out = refl
-segments_other (s ∷ ss) g m f out =
-    segments_other ss (g + s.pages) (pages_placed g s.pages s.bytes m) f (elim out [ inl below ↦ inl (omega arith) | inr past ↦ inr (omega arith) ])
-    ∙ pages_other g s.pages s.bytes m f (elim out [ inl below ↦ inl below | inr past ↦ inr (omega arith) ])
+-- ---- what is placed
 
-segments_same : (ss : List Segment) (g : ℕ) (m k : Mem) (f : ℕ) → ((f < g) ⊎ (g + pages_in ss ≤ f) → frame_at m f ≡ frame_at k f)
-    → frame_at (segments_placed g ss m) f ≡ frame_at (segments_placed g ss k) f
-unfolding segments_placed pages_in
-segments_same [] g m k f same = same (elim (cases_lt f g) [ inl below ↦ inl below | inr past ↦ inr (omega arith) ])
-segments_same (s ∷ ss) g m k f same =
-    segments_same ss (g + s.pages) (pages_placed g s.pages s.bytes m) (pages_placed g s.pages s.bytes k) f (λ out.
-    pages_same g s.pages s.bytes m k f (λ far. same (elim far [
-      | inl below ↦ inl below
-      | inr past ↦ elim out [ inl below ↦ absurd (omega (arith, below, past)) | inr beyond ↦ inr (omega (arith, beyond)) ]
-    ])))
+module _ (o : Own) (f : ℕ) where
+  tables_alike : (r : ℕ) (m k : Mem) → frame_at m f ≡ frame_at k f → frame_at (tables_placed o r m) f ≡ frame_at (tables_placed o r k) f
+  unfolding tables_placed table_placed
+  tables_alike zero m k same = same
+  tables_alike (suc r) m k same =
+      elim (cases_Bool (has_region o.segments r)) [
+        | inl some ↦ rw some (put_alike (tables_placed o r m) (tables_placed o r k) (table_frame o r) _ f (tables_alike r m k same))
+        | inr none ↦ rw none (tables_alike r m k same)
+      ]
+
+  pages_alike : (n many : ℕ) (bytes : List ℕ) (m k : Mem) → frame_at m f ≡ frame_at k f → frame_at (pages_placed o n many bytes m) f ≡ frame_at (pages_placed o n many bytes k) f
+  unfolding pages_placed
+  pages_alike n zero bytes m k same = same
+  pages_alike n (suc many) bytes m k same =
+      let x = page_words (take 4096 bytes) in
+      pages_alike (suc n) many (drop 4096 bytes) (put m (page_frame o n) x) (put k (page_frame o n) x) (put_alike m k (page_frame o n) x f same)
+
+  segments_alike : (ss : List Segment) (m k : Mem) → frame_at m f ≡ frame_at k f → frame_at (segments_placed o ss m) f ≡ frame_at (segments_placed o ss k) f
+  unfolding segments_placed
+  segments_alike [] m k same = same
+  segments_alike (s ∷ ss) m k same =
+      segments_alike ss (pages_placed o s.page s.pages s.bytes m) (pages_placed o s.page s.pages s.bytes k) (pages_alike s.page s.pages s.bytes m k same)
+
+  pub placed_alike : (m k : Mem) → frame_at m f ≡ frame_at k f → frame_at (placed o m) f ≡ frame_at (placed o k) f
+  unfolding placed root_placed
+  placed_alike m k same =
+      segments_alike o.segments _ _ (tables_alike 1024 _ _ (put_alike m k o.first_frame _ f same))
+
+  -- tables leave each frame that holds none
+  tables_other : (r : ℕ) (m : Mem) → r ≤ 1024 → ((q : ℕ) → q < 1024 → has_region o.segments q ≡ true → f ≢ table_frame o q) → frame_at (tables_placed o r m) f ≡ frame_at m f
+  unfolding tables_placed table_placed
+  tables_other zero m few out = refl
+  tables_other (suc r) m few out =
+      elim (cases_Bool (has_region o.segments r)) [
+        | inl some ↦ rw some (put_frame_other (tables_placed o r m) f (table_frame o r) _ (out r (omega arith) some) ∙ tables_other r m (omega arith) out)
+        | inr none ↦ rw none (tables_other r m (omega arith) out)
+      ]
+
+  -- pages leave each frame that holds none of them
+  pages_other : (n many : ℕ) (bytes : List ℕ) (m : Mem) → ((q : ℕ) → n ≤ q → q < n + many → f ≢ page_frame o q) → frame_at (pages_placed o n many bytes m) f ≡ frame_at m f
+  unfolding pages_placed
+  pages_other n zero bytes m out = refl
+  pages_other n (suc many) bytes m out =
+      let x = page_words (take 4096 bytes) in
+      pages_other (suc n) many (drop 4096 bytes) (put m (page_frame o n) x) (λ q low high. out q (omega (arith, low)) (omega (arith, high)))
+      ∙ put_frame_other m f (page_frame o n) x (out n (omega arith) (omega arith))
+
+  segments_other : (ss : List Segment) (m : Mem) → ((q : ℕ) → is_page ss q ≡ true → f ≢ page_frame o q) → frame_at (segments_placed o ss m) f ≡ frame_at m f
+  unfolding segments_placed is_page
+  segments_other [] m out = refl
+  segments_other (s ∷ ss) m out =
+      segments_other ss (pages_placed o s.page s.pages s.bytes m) (λ q there. out q (rw there (or-true (has_page s q))))
+      ∙ pages_other s.page s.pages s.bytes m (λ q low high. out q (rw (le-leb s.page q low, lt-ltb q (s.page + s.pages) high) refl))
+
+-- ---- where tables and pages stand
+
+module _ (o : Own) where
+  table_low : (r : ℕ) → r < 1024 → has_region o.segments r ≡ true → IsTableFrame o (table_frame o r)
+  table_low r below some = let before = region_before o.segments r 1024 some below in (omega arith, omega (arith, before))
+
+  page_low : (n : ℕ) → is_page o.segments n ≡ true → IsPageFrame o (page_frame o n)
+  page_low n there = let low = pages_low o.segments n there in (omega arith, omega (arith, low))
+
+  -- frames of others are left
+  pub placed_other : (p : Hardware) (m : Mem) (f : ℕ) → own_frame p o f ≡ false → frame_at (placed o m) f ≡ frame_at m f
+  unfolding placed root_placed
+  placed_other p m f other =
+      let outside = λ (g : ℕ) (low : o.first_frame ≤ g) (high : g < o.first_frame + frames_in o.segments) (e : f ≡ g).
+      true≢false (sym (frame_inside p o g low high) ∙ ap (own_frame p o) (sym e) ∙ other) in
+      segments_other o f o.segments _ (λ q there. let low = page_low q there in outside (page_frame o q) (omega (arith, low.0)) low.1)
+      ∙ tables_other o f 1024 _ (omega arith) (λ q below some. let low = table_low q below some in outside (table_frame o q) (omega (arith, low.0)) (omega (arith, low.1)))
+      ∙ put_frame_other m f o.first_frame (tabled (root_entry o) 1024) (outside o.first_frame (omega arith) (omega arith))
+
+  -- pages stand past the tables
+  segments_past : (m : Mem) (f : ℕ) → f < first_page_frame o → frame_at (segments_placed o o.segments m) f ≡ frame_at m f
+  segments_past m f h = segments_other o f o.segments m (λ q there e. omega (arith, h, e))
+
+  -- the tables below region r, of which one is that of region q
+  module _ (q : ℕ) (some : has_region o.segments q ≡ true) where
+    table_last : (m : Mem) → frame_at (tables_placed o (suc q) m) (table_frame o q) ≡ tabled (λ i. leaf_entry o (1024 * q + i)) 1024
+    unfolding tables_placed table_placed
+    table_last m = rw some (put_frame_same (tables_placed o q m) (table_frame o q) (table_frame o q) _ refl)
+
+    table_at : (r : ℕ) (m : Mem) → q < r → frame_at (tables_placed o r m) (table_frame o q) ≡ tabled (λ i. leaf_entry o (1024 * q + i)) 1024
+    unfolding tables_placed table_placed
+    table_at zero m h = absurd (omega arith)
+    table_at (suc r) m h =
+        elim (cases_eq q r) [
+          | inl same ↦ subst (λ (x : ℕ). frame_at (tables_placed o (suc x) m) (table_frame o q) ≡ tabled (λ i. leaf_entry o (1024 * q + i)) 1024) same (table_last m)
+          | inr other ↦
+              elim (cases_Bool (has_region o.segments r)) [
+                | inl more ↦
+                    let before = region_before o.segments q r some (omega (arith, h, other)) in
+                    rw more (put_frame_other (tables_placed o r m) (table_frame o q) (table_frame o r) _ (λ e. omega (arith, before, e)) ∙ table_at r m (omega (arith, h, other)))
+                | inr none ↦ rw none (table_at r m (omega (arith, h, other)))
+              ]
+        ]
+
+  -- ---- the words of the page tables
+
+  pub root_words : (m : Mem) (i : ℕ) → i < 1024 → word (placed o m) o.first_frame i ≡ root_entry o i
+  unfolding placed root_placed word
+  root_words m i below =
+      ap (λ (x : Frame). at 0 x i) (
+      segments_past _ o.first_frame (omega arith)
+      ∙ tables_other o o.first_frame 1024 _ (omega arith) (λ q h some e. omega (arith, e))
+      ∙ put_frame_same m o.first_frame o.first_frame _ refl)
+      ∙ at-tabled (root_entry o) 1024 i below
+
+  pub table_words : (m : Mem) (r j : ℕ) → r < 1024 → j < 1024 → has_region o.segments r ≡ true → word (placed o m) (table_frame o r) j ≡ leaf_entry o (1024 * r + j)
+  unfolding placed word
+  table_words m r j below j_below some =
+      let low = table_low r below some in
+      ap (λ (x : Frame). at 0 x j) (segments_past _ (table_frame o r) low.1 ∙ table_at r some 1024 _ below)
+      ∙ at-tabled (λ i. leaf_entry o (1024 * r + i)) 1024 j j_below
+
+  -- a valid entry of the root is that of a region that has a page
+  root_some : (r : ℕ) → valid (root_entry o r) ≡ true → has_region o.segments r ≡ true
+  unfolding root_entry
+  root_some r is_valid =
+      elim (cases_Bool (has_region o.segments r)) [
+        | inl some ↦ some
+        | inr none ↦ absurd (true≢false (sym (rw none at is_valid) ∙ valid-zero))
+      ]
+
+  pub root_is : (r : ℕ) → has_region o.segments r ≡ true → root_entry o r ≡ table_word (table_frame o r)
+  unfolding root_entry
+  root_is r some = rw some refl
+
+  leaf_frame : (frame rights : ℕ) → rights < 8 → ppn (leaf_word frame rights) ≡ frame
+  unfolding ppn leaf_word leaf_bits
+  leaf_frame frame rights few = omega (arith, few)
+
+  few_rights : (r w x : Bool) → cond r 1 0 + cond w 2 0 + cond x 4 0 < 8
+  few_rights true true true = omega arith
+  few_rights true true false = omega arith
+  few_rights true false true = omega arith
+  few_rights true false false = omega arith
+  few_rights false true true = omega arith
+  few_rights false true false = omega arith
+  few_rights false false true = omega arith
+  few_rights false false false = omega arith
+
+  leaf_low : (n : ℕ) (v : Option Rights) → rights_in o.segments n ≡ v → valid (leaf_with o n v) ≡ true → IsPageFrame o (ppn (leaf_with o n v))
+  unfolding leaf_with
+  leaf_low n None e is_valid = absurd (true≢false (sym is_valid ∙ valid-zero))
+  leaf_low n (Some r) e is_valid =
+      subst (IsPageFrame o) (sym (leaf_frame (page_frame o n) (rights_number r) (few_rights r.read r.write r.execute))) (page_low n (rights_there o.segments n r e))
+
+  -- an entry that is valid is a leaf
+  leaf_is : (n : ℕ) (v : Option Rights) → IsOwn o → rights_in o.segments n ≡ v → valid (leaf_with o n v) ≡ true → is_leaf (leaf_with o n v) ≡ true
+  unfolding leaf_with
+  leaf_is n None sound e is_valid = absurd (true≢false (sym is_valid ∙ valid-zero))
+  leaf_is n (Some r) sound e is_valid = leaf-good (page_frame o n) (rights_number r) (rights_are_good o n r sound e)
+
+  entry_is : (n : ℕ) → IsOwn o → valid (leaf_entry o n) ≡ true → is_leaf (leaf_entry o n) ≡ true
+  unfolding leaf_entry
+  entry_is n sound is_valid = leaf_is n (rights_in o.segments n) sound refl is_valid
+
+  entry_low : (n : ℕ) → valid (leaf_entry o n) ≡ true → IsPageFrame o (ppn (leaf_entry o n))
+  unfolding leaf_entry
+  entry_low n is_valid = leaf_low n (rights_in o.segments n) refl is_valid
+
+  -- ---- the domain reaches its own frames alone
+
+  module _ (p : Hardware) (m : Mem) (sound : IsOwn o) (held : o.first_frame + frames_in o.segments ≤ p.frames) where
+    some_at : (i : ℕ) → i < 1024 → valid (word (placed o m) o.first_frame i) ≡ true → has_region o.segments i ≡ true
+    some_at i below is_valid = root_some i (ap valid (sym (root_words m i below)) ∙ is_valid)
+
+    entry_at : (i : ℕ) → i < 1024 → valid (word (placed o m) o.first_frame i) ≡ true → word (placed o m) o.first_frame i ≡ table_word (table_frame o i)
+    entry_at i below is_valid = root_words m i below ∙ root_is i (some_at i below is_valid)
+
+    table_is : (i : ℕ) → i < 1024 → valid (word (placed o m) o.first_frame i) ≡ true → ppn (word (placed o m) o.first_frame i) ≡ table_frame o i
+    table_is i below is_valid = ap ppn (entry_at i below is_valid) ∙ ppn-table (table_frame o i)
+
+    placed_map : IsPageMap (placed o m) o.first_frame p.frames
+    placed_map = record {
+      in_memory = omega (arith, held);
+      tables = λ i below is_valid.
+          let table = table_is i below is_valid in
+          let low = table_low i below (some_at i below is_valid) in
+          record {
+            pointer = entry_at i below is_valid ∙ ap table_word (sym table);
+            in_memory = omega (arith, table, low.1, held);
+            apart = λ e. omega (arith, table, low.0, e);
+          };
+      once = λ i j i_below j_below i_valid j_valid e.
+          let same : table_frame o i ≡ table_frame o j = sym (table_is i i_below i_valid) ∙ e ∙ table_is j j_below j_valid in
+          region_once o.segments i j (some_at i i_below i_valid) (some_at j j_below j_valid) (omega (arith, same));
+    }
+
+    leaf_words : (i j : ℕ) → i < 1024 → j < 1024 → valid (word (placed o m) o.first_frame i) ≡ true → leaf_at (placed o m) o.first_frame i j ≡ leaf_entry o (1024 * i + j)
+    leaf_words i j i_below j_below i_valid =
+        ap (λ (f : ℕ). word (placed o m) f j) (table_is i i_below i_valid) ∙ table_words m i j i_below j_below (some_at i i_below i_valid)
+
+    pub good_placed : Good p o (placed o m)
+    good_placed = record {
+      map = placed_map;
+      tables = record {
+        each = λ i below is_valid. subst (IsTableFrame o) (sym (table_is i below is_valid)) (table_low i below (some_at i below is_valid));
+      };
+      pages = record {
+        each = λ i j i_below j_below i_valid j_valid.
+            let leaf = leaf_words i j i_below j_below i_valid in
+            subst (λ (w : ℕ). IsPageFrame o (ppn w)) (sym leaf) (entry_low (1024 * i + j) (ap valid (sym leaf) ∙ j_valid));
+      };
+      leaves = record {
+        each = λ i j i_below j_below i_valid j_valid.
+            let leaf = leaf_words i j i_below j_below i_valid in
+            subst (λ (w : ℕ). is_leaf w ≡ true) (sym leaf) (entry_is (1024 * i + j) sound (ap valid (sym leaf) ∙ j_valid));
+      };
+    }
+
+-- ---- all domains
+
+-- frames that no domain has are empty
+none_placed : (p : Hardware) (os : List Own) (f : ℕ) → ((e : ℕ) → e < length os → own_frame p (get_or os e no_own) f ≡ false) → frame_at (all_placed os) f ≡ frame_at empty f
+unfolding all_placed
+none_placed p [] f out = refl
+none_placed p (o ∷ os) f out = placed_other o p (all_placed os) f (out 0 (omega arith)) ∙ none_placed p os f (λ e h. out (suc e) (omega (arith, h)))
 
 -- domain d's frames, where no other domain has them
-pub placed_once : (p : Hardware) (os : List Own) (d f : ℕ) → d < length os → IsTrue (own_frame p (get_or os d no_own) f)
+pub placed_once : (p : Hardware) (os : List Own) (d f : ℕ) → d < length os
     → ((e : ℕ) → e < length os → e ≢ d → own_frame p (get_or os e no_own) f ≡ false)
     → frame_at (all_placed os) f ≡ frame_at (placed (get_or os d no_own) empty) f
-unfolding all_placed placed
-placed_once p [] d f lt own apart = absurd (omega arith)
-placed_once p (o ∷ os) zero f lt own apart =
-    let within = frame_within p o f own in
-    segments_same o.segments o.first_frame (all_placed os) empty f (λ out. elim out [ inl below ↦ absurd (omega (arith, within.0, below)) | inr past ↦ absurd (omega (arith, within.1, past)) ])
-placed_once p (o ∷ os) (suc d) f lt own apart =
-    segments_other o.segments o.first_frame (all_placed os) f (frame_without p o f (apart 0 (omega arith) (λ z. cc)))
-    ∙ placed_once p os d f (omega arith) own (λ e l ne. apart (suc e) (omega arith) (λ q. ne (omega arith)))
+unfolding all_placed
+placed_once p [] d f lt apart = absurd (omega arith)
+placed_once p (o ∷ os) zero f lt apart = placed_alike o f (all_placed os) empty (none_placed p os f (λ e h. apart (suc e) (omega (arith, h)) (λ z. cc)))
+placed_once p (o ∷ os) (suc d) f lt apart =
+    placed_other o p (all_placed os) f (apart 0 (omega arith) (λ z. cc))
+    ∙ placed_once p os d f (omega arith) (λ e l ne. apart (suc e) (omega (arith, l)) (λ q. ne (omega arith)))
 
 doms_at : (os : List Own) (b j : ℕ) → j < length os → at no_dom (opening_doms os b) (b + j) ≡ opening_dom (get_or os j no_own)
 unfolding opening_doms
@@ -89,4 +326,13 @@ module _ (i : Image) (r : Separated i) where
   pub opening_frames : (d : ℕ) → IsDomain i d → SameFrames i.all.hardware (own_of i d) (opening i).store.mem (alone_opening i.all.hardware (own_of i d)).store.mem
   unfolding opening alone_opening
   opening_frames d is f own =
-      placed_once i.all.hardware i.owns d f is own (λ e ie ne. r.apart e d ie is ne f own)
+      placed_once i.all.hardware i.owns d f is (λ e ie ne. r.apart e d ie is ne f own)
+
+  -- each domain reaches its own frames alone
+  pub opening_good : (d : ℕ) → IsDomain i d → Good i.all.hardware (own_of i d) (opening i).store.mem
+  unfolding opening alone_opening
+  opening_good d is =
+      let p = i.all.hardware in
+      let o = own_of i d in
+      good_same p o (placed o empty) (all_placed i.owns) (good_placed o p empty (r.sound d) (r.held d is))
+      (λ f low high. opening_frames d is f (frame_inside p o f low (omega (arith, high))))

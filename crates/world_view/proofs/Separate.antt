@@ -5,9 +5,11 @@ use Rattle.std.proofs.Math.Bool.{and-false}
 use Rattle.image_check.specs.Public.{Hardware}
 use Rattle.image_check.specs.Own.{Segment, Own, no_segment}
 use Rattle.image_check.specs.Laws.{IsSegment, IsOwn}
-use Rattle.world_view.specs.Image.{Image, own_of, own_frame, pages_in}
+use Rattle.world_view.specs.Image.{Image, own_of}
+use Rattle.world_view.specs.Frames.{own_frame, pages_in, frames_in}
 use Rattle.world_view.specs.Schedule.{entry_of_slot, pad_of}
 use Rattle.world_view.specs.Laws.{IsDomain, Runnable, bound}
+use Rattle.world_view.proofs.Counts.{regions_few}
 
 -- no frame of the one is a frame of the other
 abbrev pub Apart : Hardware → Own → Own → Type 0
@@ -17,7 +19,8 @@ pub record Separated (i : Image) : Type 0 where
   pub counted : i.all.domains ≡ length i.owns
   pub timed : 0 < i.all.hardware.base
   pub named : (k : ℕ) → IsDomain i (entry_of_slot i.all.schedule k).domain
-  pub held : (d f : ℕ) → IsDomain i d → IsTrue (own_frame i.all.hardware (own_of i d) f) → f < i.all.hardware.frames
+  pub held : (d : ℕ) → IsDomain i d → (own_of i d).first_frame + frames_in (own_of i d).segments ≤ i.all.hardware.frames
+  pub sound : (d : ℕ) → IsOwn (own_of i d)
   pub apart : (d e : ℕ) → IsDomain i d → IsDomain i e → d ≢ e → Apart i.all.hardware (own_of i d) (own_of i e)
   pub padded : (k : ℕ) → bound i.all.hardware ≤ pad_of i.all.schedule k
 
@@ -30,17 +33,21 @@ pages_few (s ∷ ss) each =
     let rest = pages_few ss (λ k. each (suc k)) in
     omega (arith, here, rest)
 
-pages_within : (o : Own) → IsOwn o → pages_in o.segments ≤ 1024
-pages_within o own = let few = pages_few o.segments own.segments in let short = own.few in omega (arith, few, short)
+frames_within : (o : Own) → IsOwn o → frames_in o.segments ≤ 1057
+frames_within o own =
+    let few = pages_few o.segments own.segments in
+    let tables = regions_few o.segments 1024 own.segments in
+    let short = own.few in
+    omega (arith, few, tables, short)
 
 -- a frame of the domain lies among those from its first on
-pub frame_within : (p : Hardware) (o : Own) (f : ℕ) → IsTrue (own_frame p o f) → (o.first_frame ≤ f) × (f < o.first_frame + pages_in o.segments)
-frame_within p o f own = let parts = and_parts _ _ own in (leb-true o.first_frame f parts.0, ltb-true f (o.first_frame + pages_in o.segments) parts.1)
+pub frame_within : (p : Hardware) (o : Own) (f : ℕ) → IsTrue (own_frame p o f) → (o.first_frame ≤ f) × (f < o.first_frame + frames_in o.segments)
+frame_within p o f own = let parts = and_parts _ _ own in (leb-true o.first_frame f parts.0, ltb-true f (o.first_frame + frames_in o.segments) parts.1)
 
 -- and what lies elsewhere is none
-frame_outside : (p : Hardware) (o : Own) (f : ℕ) → (f < o.first_frame) ⊎ (o.first_frame + pages_in o.segments ≤ f) → own_frame p o f ≡ false
+frame_outside : (p : Hardware) (o : Own) (f : ℕ) → (f < o.first_frame) ⊎ (o.first_frame + frames_in o.segments ≤ f) → own_frame p o f ≡ false
 frame_outside p o f (inl below) = rw (lt-leb o.first_frame f below) refl
-frame_outside p o f (inr past) = rw (le-ltb f (o.first_frame + pages_in o.segments) past) (and-false (nat_le o.first_frame f))
+frame_outside p o f (inr past) = rw (le-ltb f (o.first_frame + frames_in o.segments) past) (and-false (nat_le o.first_frame f))
 
 frame_past : (a b f : ℕ) → a ≤ f → (nat_le a f && nat_lt f b) ≡ false → b ≤ f
 frame_past a b f past other =
@@ -49,30 +56,30 @@ frame_past a b f past other =
       | inr beyond ↦ beyond
     ]
 
-pub frame_without : (p : Hardware) (o : Own) (f : ℕ) → own_frame p o f ≡ false → (f < o.first_frame) ⊎ (o.first_frame + pages_in o.segments ≤ f)
+pub frame_without : (p : Hardware) (o : Own) (f : ℕ) → own_frame p o f ≡ false → (f < o.first_frame) ⊎ (o.first_frame + frames_in o.segments ≤ f)
 frame_without p o f other =
     elim (cases_lt f o.first_frame) [
       | inl below ↦ inl below
-      | inr past ↦ inr (frame_past o.first_frame (o.first_frame + pages_in o.segments) f past other)
+      | inr past ↦ inr (frame_past o.first_frame (o.first_frame + frames_in o.segments) f past other)
     ]
 
 module _ (i : Image) (r : Runnable i) where
-  -- its pages end before those of the next domain
-  pub own_pages : (d : ℕ) → IsDomain i d → (own_of i d).first_frame + pages_in (own_of i d).segments ≤ 1024 * d + 1024
-  own_pages d is = let first = r.placed d is in let few = pages_within (own_of i d) (r.sound d) in omega (arith, first, few)
+  -- its frames end before those of the next domain
+  pub own_frames_end : (d : ℕ) → IsDomain i d → (own_of i d).first_frame + frames_in (own_of i d).segments ≤ 1057 * d + 1057
+  own_frames_end d is = let first = r.placed d is in let few = frames_within (own_of i d) (r.sound d) in omega (arith, first, few)
 
-  own_frames : (d f : ℕ) → IsDomain i d → IsTrue (own_frame i.all.hardware (own_of i d) f) → (1024 * d ≤ f) × (f < 1024 * d + 1024)
+  own_frames : (d f : ℕ) → IsDomain i d → IsTrue (own_frame i.all.hardware (own_of i d) f) → (1057 * d ≤ f) × (f < 1057 * d + 1057)
   own_frames d f is own =
       let within = frame_within i.all.hardware (own_of i d) f own in
       let first = r.placed d is in
-      let few = pages_within (own_of i d) (r.sound d) in
+      let few = frames_within (own_of i d) (r.sound d) in
       (omega (arith, within.0, first), omega (arith, within.1, first, few))
 
   separate : (d e : ℕ) → IsDomain i d → IsDomain i e → d ≢ e → Apart i.all.hardware (own_of i d) (own_of i e)
   separate d e is ie other f own =
       let mine = own_frames e f ie own in
       let first = r.placed d is in
-      let few = pages_within (own_of i d) (r.sound d) in
+      let few = frames_within (own_of i d) (r.sound d) in
       frame_outside i.all.hardware (own_of i d) f (elim (cases_lt d e) [
         | inl before ↦ inr (omega (arith, mine.0, first, few, before))
         | inr past ↦ inl (omega (arith, mine.1, first, past, other))
@@ -83,7 +90,8 @@ module _ (i : Image) (r : Runnable i) where
     counted = r.counted;
     timed = let base = r.base in omega (arith, base);
     named = λ k. r.named (k % length i.all.schedule) (mod-lt k r.some_entry);
-    held = λ d f is own. let within = own_frames d f is own in let frames = r.frames in omega (arith, within.1, frames, is);
+    held = λ d is. let end = own_frames_end d is in let frames = r.frames in omega (arith, end, frames, is);
+    sound = r.sound;
     apart = separate;
     padded = λ k. let base = r.base in omega (arith, base);
   }

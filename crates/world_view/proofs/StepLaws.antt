@@ -8,7 +8,7 @@ use Rattle.world_view.specs.Reach.{Touch, Caches, reach_all}
 use Rattle.world_view.specs.Event.{Store, instruction, Event, event}
 use Rattle.world_view.specs.Event.Event.{Jump, Run}
 use Rattle.world_view.specs.Machine.{Local, paid, happened, step, steps, stretch}
-use Rattle.world_view.specs.Laws.{BesideStore, BesideCaches, BesideReached, Beside}
+use Rattle.world_view.specs.Laws.{Good, BesideStore, BesideCaches, BesideReached, Beside}
 use Rattle.world_view.proofs.ReachLaws.{reach_all_near}
 use Rattle.world_view.proofs.ActLaws.{instruction_near}
 
@@ -47,10 +47,10 @@ module _ (p : Hardware) (o : Own) (end : ℕ) (first : Local) where
       subst (λ (t : ℕ). Beside p o first (stretch p o false end s) (steps p o true end (end - t) a)) b.clock (steps_near (end - s.clock) s a b)
 
 -- a state is beside itself
-pub beside_itself : (p : Hardware) (o : Own) (s : Local) → Beside p o s s s
-beside_itself p o s = record {
+pub beside_itself : (p : Hardware) (o : Own) (s : Local) → Good p o s.store.mem → Beside p o s s s
+beside_itself p o s good = record {
   dom = refl;
-  store = record { same = λ f h. refl; outside = λ f h. refl };
+  store = record { good = good; same = λ f h. refl; outside = λ f h. refl };
   caches = record { core = refl; same = tt; resident = tt };
   clock = refl;
 }

@@ -5,7 +5,7 @@ use Rattle.world_view.specs.Image.{Image, own_of}
 use Rattle.world_view.specs.Schedule.{entry_of_slot, outgoing}
 use Rattle.world_view.specs.Reach.{Caches, fresh_core, and_then}
 use Rattle.world_view.specs.Machine.{Local, World, step, enter_touches, leave_part, prefetch_part, flush_part, enter_part, switch_work, part_of, switch, alone_enter, alone_out}
-use Rattle.world_view.specs.Laws.{IsDomain, SameFrames, BesideStore, BesideReached, Within, Apiece, Untouched, InTime, MayAll}
+use Rattle.world_view.specs.Laws.{IsDomain, SameFrames, Good, BesideStore, BesideReached, Within, Apiece, Untouched, InTime, MayAll}
 use Rattle.world_view.proofs.Separate.{Separated}
 use Rattle.world_view.proofs.ReachLaws.{reach_all_near}
 use Rattle.world_view.proofs.StepLaws.{step_near, beside_itself}
@@ -16,12 +16,12 @@ pub others_frames : (i : Image) (d e : ℕ) → Separated i → IsDomain i d →
     → BesideStore i.all.hardware (own_of i e) s.store later.store a.store → SameFrames i.all.hardware (own_of i d) later.store.mem s.store.mem
 others_frames i d e r is ie ne later s a b f own = b.outside f (r.apart e d ie is (λ q. ne (sym q)) f own)
 
-pub others_step : (i : Image) (d e end : ℕ) (s : Local) → Separated i → IsDomain i d → IsDomain i e → d ≢ e
+pub others_step : (i : Image) (d e end : ℕ) (s : Local) → Separated i → IsDomain i d → IsDomain i e → d ≢ e → Good i.all.hardware (own_of i e) s.store.mem
     → Untouched i.all.hardware (own_of i d) (step i.all.hardware (own_of i e) false end s) s
-others_step i d e end s r is ie ne =
+others_step i d e end s r is ie ne good =
     let p = i.all.hardware in
     let o = own_of i e in
-    let b = step_near p o end s s s (beside_itself p o s) in
+    let b = step_near p o end s s s (beside_itself p o s good) in
     record { frames = others_frames i d e r is ie ne (step p o false end s) s (step p o true end s) b.store; sets = tt }
 
 module _ (i : Image) (k d : ℕ) (w : World) (a : Local) where

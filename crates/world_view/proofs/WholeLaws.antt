@@ -1,10 +1,12 @@
 -- The whole machine beside each domain alone, slot after slot.
 use Rattle.std.proofs.Common.{◌≡◌, ◌≢◌, ℕ, Bool, true, false, cond, eqb, zero, suc, List, [], ◌∷◌, ap, ap₂, sym, ◌∙◌, refl, subst, arith, true≢false, ◌⊎◌, inl, inr, eqb-true, eq-eqb, map, filter}
+use Rattle.std.proofs.lemmas.Bool.{cases_eq}
 use Rattle.std.specs.List.{range_with_len}
 use Rattle.tp_base.specs.Table.{at-put_other, at-put_same}
 use Rattle.image_check.specs.Public.{Hardware, Public}
 use Rattle.image_check.specs.Own.{Own}
-use Rattle.world_view.specs.Image.{Image, own_of, own_frame}
+use Rattle.world_view.specs.Image.{Image, own_of}
+use Rattle.world_view.specs.Frames.{own_frame}
 use Rattle.world_view.specs.Schedule.{entry_of_slot, slot_end}
 use Rattle.phys_mem.specs.Mem.{frame_at}
 use Rattle.world_view.specs.Opening.{frame_words}
@@ -12,11 +14,12 @@ use Rattle.world_view.specs.Domain.{Dom, no_dom}
 use Rattle.world_view.specs.Event.{Store}
 use Rattle.world_view.specs.Machine.{Local, stretch, dom_of, part_of, with_part, switch, run_slot, opening, whole, alone_opening, alone_enter, alone_in, alone_out, alone_if, alone}
 use Rattle.world_view.specs.View.{log_of, pool, view, view_whole, view_alone}
-use Rattle.world_view.specs.Laws.{IsDomain, SameFrames, Beside, Within, Apiece, Agree}
+use Rattle.world_view.specs.Laws.{IsDomain, SameFrames, Good, Beside, Within, Apiece, Agree}
 use Rattle.world_view.proofs.Separate.{Separated}
+use Rattle.world_view.proofs.TableLaws.{frame_inside, good_same}
 use Rattle.world_view.proofs.StepLaws.{stretch_near, beside_itself}
 use Rattle.world_view.proofs.TimeLaws.{in_time}
-use Rattle.world_view.proofs.OpeningLaws.{opening_dom_is, opening_frames}
+use Rattle.world_view.proofs.OpeningLaws.{opening_dom_is, opening_frames, opening_good}
 use Rattle.world_view.proofs.SwitchLaws.{others_frames, switch_apiece, switch_out, switch_in, switch_both}
 
 same_or_not : (d e : ℕ) (b : Bool) → eqb d e ≡ b → (d ≡ e) ⊎ (d ≢ e)
@@ -34,28 +37,56 @@ Joined i d zero = Apiece i.all.hardware (own_of i d) (part_of d (whole i 0)) (al
 Joined i d (suc k) = JoinedIf i d k (eqb (entry_of_slot i.all.schedule k).domain d)
 
 module _ (i : Image) (r : Separated i) where
+  -- a slot leaves the page tables of each domain good: those of the domain that runs, and all others untouched
+  good_after : (k d : ℕ) → IsDomain i d → ((e : ℕ) → IsDomain i e → Good i.all.hardware (own_of i e) (whole i k).store.mem)
+      → Good i.all.hardware (own_of i d) (whole i (suc k)).store.mem
+  unfolding whole run_slot with_part switch
+  good_after k d is good =
+      let p = i.all.hardware in
+      let es = i.all.schedule in
+      let e = (entry_of_slot es k).domain in
+      let s = part_of e (switch i k (whole i k)) in
+      let n = stretch_near p (own_of i e) (slot_end es k) s s s (beside_itself p (own_of i e) s (good e (r.named k))) in
+      elim (cases_eq d e) [
+        | inl same ↦ subst (λ (x : ℕ). Good p (own_of i x) (stretch p (own_of i e) false (slot_end es k) s).store.mem) (sym same) n.store.good
+        | inr apart ↦
+            good_same p (own_of i d) (whole i k).store.mem (stretch p (own_of i e) false (slot_end es k) s).store.mem (good d is)
+            (λ f low high. n.store.outside f (r.apart e d (r.named k) is (λ q. apart (sym q)) f (frame_inside p (own_of i d) f low (omega (arith, high)))))
+      ]
+
+  -- before and after each slot
+  pub all_good : (k d : ℕ) → IsDomain i d → Good i.all.hardware (own_of i d) (whole i k).store.mem
+  unfolding whole
+  all_good zero d is = opening_good i r d is
+  all_good (suc k) d is = good_after k d is (all_good k)
+
   -- the domain's own slot: steps from states that are beside
-  slot_within : (p : Hardware) (o : Own) (end : ℕ) (s a : Local) → Within p o s a → Within p o (stretch p o false end s) (stretch p o true end a)
-  slot_within p o end s a h =
+  slot_within : (p : Hardware) (o : Own) (end : ℕ) (s a : Local) → Good p o s.store.mem → Within p o s a → Within p o (stretch p o false end s) (stretch p o true end a)
+  slot_within p o end s a good h =
       let b : Beside p o s s a = record {
         dom = h.dom;
-        store = record { same = h.frames; outside = λ f x. refl };
+        store = record { good = good; same = h.frames; outside = λ f x. refl };
         caches = record { core = h.core; same = tt; resident = tt };
         clock = h.clock;
       } in
       let n = stretch_near p o end s s a b in
       record { dom = n.dom; frames = n.store.same; core = n.caches.core; sets = tt; clock = n.clock }
 
+  -- a switch leaves memory as it is
+  begun_good : (k d : ℕ) → IsDomain i d → Good i.all.hardware (own_of i d) (switch i k (whole i k)).store.mem
+  unfolding switch
+  begun_good k d is = all_good k d is
+
   -- slot k is the domain's own
-  own_slot : (k d : ℕ) (a : Local) → (entry_of_slot i.all.schedule k).domain ≡ d → Within i.all.hardware (own_of i d) (part_of d (switch i k (whole i k))) (alone_enter i.all (own_of i d) k a)
+  own_slot : (k d : ℕ) (a : Local) → IsDomain i d → (entry_of_slot i.all.schedule k).domain ≡ d → Within i.all.hardware (own_of i d) (part_of d (switch i k (whole i k))) (alone_enter i.all (own_of i d) k a)
       → Within i.all.hardware (own_of i d) (part_of d (whole i (suc k))) (alone_in i.all (own_of i d) k a)
   unfolding whole run_slot with_part alone_in
-  own_slot k d a is h =
+  own_slot k d a within is h =
       let p = i.all.hardware in
       let es = i.all.schedule in
       let begun = switch i k (whole i k) in
       subst (λ (x : ℕ). Within p (own_of i d) (part_of d (with_part x begun (stretch p (own_of i x) false (slot_end es k) (part_of x begun)))) (stretch p (own_of i d) true (slot_end es k) (alone_enter i.all (own_of i d) k a))) (sym is)
-      (let n = slot_within p (own_of i d) (slot_end es k) (part_of d begun) (alone_enter i.all (own_of i d) k a) h in
+      (let n = slot_within p (own_of i d) (slot_end es k) (part_of d begun) (alone_enter i.all (own_of i d) k a) (begun_good k d within) h in
       record {
         dom = at-put_same no_dom begun.doms d _ ∙ n.dom;
         frames = n.frames;
@@ -74,7 +105,7 @@ module _ (i : Image) (r : Separated i) where
       let e = (entry_of_slot es k).domain in
       let begun = switch i k (whole i k) in
       let s = part_of e begun in
-      let n = stretch_near p (own_of i e) (slot_end es k) s s s (beside_itself p (own_of i e) s) in
+      let n = stretch_near p (own_of i e) (slot_end es k) s s s (beside_itself p (own_of i e) s (begun_good k e (r.named k))) in
       record {
         dom = at-put_other no_dom begun.doms e d _ (λ q. ne (sym q)) ∙ h.dom;
         frames = λ f own. others_frames i d e r is (r.named k) (λ q. ne (sym q)) (stretch p (own_of i e) false (slot_end es k) s) s (stretch p (own_of i e) true (slot_end es k) s) n.store f own ∙ h.frames f own;
@@ -108,7 +139,7 @@ module _ (i : Image) (r : Separated i) where
     next_if : (k : ℕ) (b : Bool) → eqb (entry_of_slot i.all.schedule k).domain d ≡ b → Joined i d k → JoinedIf i d k b
     next_if k true t j =
         let e : (entry_of_slot i.all.schedule k).domain ≡ d = eqb-true (entry_of_slot i.all.schedule k).domain d t in
-        own_slot k d (alone i.all (own_of i d) d k) e (entered k e j)
+        own_slot k d (alone i.all (own_of i d) d k) is e (entered k e j)
     next_if k false t j =
         others_slot k d (alone i.all (own_of i d) d k) is (λ q. true≢false (sym (eq-eqb (entry_of_slot i.all.schedule k).domain d q) ∙ t)) (switched k j)
 

@@ -1,5 +1,5 @@
 -- One event of a domain in its slot: what happens, as a function of the domain, the memory and the clock, with what it touches.
-use Rattle.std.specs.Prelude.{ℕ, ◌+◌, ◌-◌, ◌*◌, ◌/◌, ◌%◌, ◌==◌, ◌&&◌, nat_le, nat_lt, Bool, if◌then◌else◌, List, [], ◌∷◌, Option, Some, None, ◌⊎◌}
+use Rattle.std.specs.Prelude.{ℕ, ◌+◌, ◌*◌, ◌/◌, ◌%◌, ◌==◌, Bool, true, false, if◌then◌else◌, [], ◌∷◌, Option, Some, None, Result, Ok, Err, ◌⊎◌}
 use Rattle.std.proofs.Common.{inl, inr}
 use Rattle.tp_base.specs.Act as act
 use Rattle.tp_base.specs.Act.{◌>>=◌, ◌>>◌, Done, give, stop, note}
@@ -13,15 +13,18 @@ use Rattle.rv_core.specs.Effect.{Outcome, effect_of}
 use Rattle.rv_core.specs.Memory.{load_size, address_of, misalignment_of}
 use Rattle.rv_core.specs.declared.Store.{Store as StoreMade}
 use Rattle.rv_core.specs.declared.Trap.{Trap}
-use Rattle.world_view.specs.declared.Access.{Access}
-use Rattle.world_view.specs.declared.Access.TheVariants as access
-use Rattle.image_check.specs.declared.own.Rights.{Rights}
+use Rattle.sv32_walk.specs.declared.access.Access.{Access}
+use Rattle.sv32_walk.specs.declared.access.Access.TheVariants as access
+use Rattle.sv32_walk.specs.declared.access.WalkFault.{WalkFault}
+use Rattle.sv32_walk.specs.declared.access.WalkFault.TheVariants as fault
+use Rattle.sv32_walk.specs.Entry.{ppn}
+use Rattle.sv32_walk.specs.Walk.{walk}
 use Rattle.image_check.specs.Public.{Hardware}
-use Rattle.image_check.specs.Own.{Segment, Own}
+use Rattle.image_check.specs.Own.{Own}
 use Rattle.world_view.specs.Domain.{Dom, is_running}
 use Rattle.world_view.specs.Instruction.{stopped, trapped, retired_at, counter_value, read_out, call}
 use Rattle.world_view.specs.Reach.{Touch}
-use Rattle.world_view.specs.Reach.Touch.{Fetch, Load, Store as StoreTouch}
+use Rattle.world_view.specs.Reach.Touch.{Look, Fetch, Load, Store as StoreTouch}
 
 -- all that domains may change beside their own state
 pub record Store : Type 0 where
@@ -31,53 +34,34 @@ pub record Store : Type 0 where
 abbrev pub Act : Type 0 → Type 0
 Act A = act.Act Store Touch Dom A
 
--- ---- pages
-
-abbrev pub permits : Rights → Access → Bool
-permits r access.Fetch = r.execute
-permits r access.Load = r.read
-permits r access.Store = r.write
-
--- instruction, load or store page fault
-abbrev pub page_fault : Access → ℕ
-page_fault access.Fetch = 12
-page_fault access.Load = 13
-page_fault access.Store = 15
-
--- a page: the frame in which it stands, and what it may be used for
-pub record Page : Type 0 where
-  pub frame : ℕ
-  pub rights : Rights
-
--- the page of a number is one of the segment's
-abbrev pub has_page : Segment → ℕ → Bool
-has_page s n = nat_le s.page n && nat_lt n (s.page + s.pages)
-
--- the page of this number, among segments that stand in frames from f on
-unfoldable pub page_in : ℕ → List Segment → ℕ → Option Page
-page_in f [] n = None
-page_in f (s ∷ ss) n = if has_page s n then Some (record { frame = f + (n - s.page); rights = s.rights }) else page_in (f + s.pages) ss n
-
-unfoldable pub permitted : Access → Option Page → Option ℕ
-permitted a None = None
-permitted a (Some page) = if permits page.rights a then Some page.frame else None
-
--- the frame of an address's page, where the page is there and has the right
-unfoldable pub frame_for : Own → Access → ℕ → Option ℕ
-frame_for o a va = permitted a (page_in o.first_frame o.segments (va / 4096))
-
 -- ---- primitives
 
 unfoldable pub touch : Touch → Act (Unit {0})
 touch t = note t
 
-unfoldable pub or_stop : {A : Type 0} → Dom → Option A → Dom ⊎ A
-or_stop d None = inl d
-or_stop d (Some a) = inr a
+-- the exception of a walk that faults: instruction, load or store page fault, or access fault
+abbrev pub fault_code : Access → WalkFault → ℕ
+fault_code access.Fetch fault.Page = 12
+fault_code access.Load fault.Page = 13
+fault_code access.Store fault.Page = 15
+fault_code access.Fetch fault.Access = 1
+fault_code access.Load fault.Access = 5
+fault_code access.Store fault.Access = 7
 
--- the frame of an address; a page fault stops the domain
-unfoldable pub translate : Own → Dom → Access → ℕ → Act ℕ
-translate o d a va = λ s. record { notes = []; state = s; value = or_stop (stopped (page_fault a) va d) (frame_for o a va) }
+abbrev pub found : Result ℕ WalkFault → Bool
+found (Ok leaf) = true
+found (Err f) = false
+
+-- the frame of the page that the walk found, else the domain is stopped
+unfoldable pub frame_or_stop : Dom → Access → ℕ → Result ℕ WalkFault → Dom ⊎ ℕ
+frame_or_stop d a va (Ok leaf) = inr (ppn leaf)
+frame_or_stop d a va (Err f) = inl (stopped (fault_code a f) va d)
+
+-- the frame of an address, by a walk of the domain's page tables as they are now
+unfoldable pub translate : Hardware → Own → Dom → Access → ℕ → Act ℕ
+translate p o d a va = λ s.
+    let w = walk s.mem p.frames o.first_frame va a in
+    record { notes = Look (va / 4096) w.reads (found w.result) ∷ []; state = s; value = frame_or_stop d a va w.result }
 
 -- the place of a word in its page
 abbrev pub place : ℕ → ℕ
@@ -108,17 +92,17 @@ part_of_word size word place = if size == 1 then byte_in word place else if size
 abbrev pub stored_in : ℕ → ℕ → ℕ → ℕ → ℕ
 stored_in size word place value = if size == 1 then with_byte_in word place value else if size == 2 then with_half_in word place value else value
 
-unfoldable pub load : Own → Dom → LoadWidth → ℕ → Act ℕ
-load o d width va = do
-  f ← translate o d access.Load va
+unfoldable pub load : Hardware → Own → Dom → LoadWidth → ℕ → Act ℕ
+load p o d width va = do
+  f ← translate p o d access.Load va
   touch (Load (address_in f va))
   w ← read f (place va)
   give (part_of_word (load_size width) w (va % 4))
 
-unfoldable pub store : Own → Dom → Option StoreMade → Act (Unit {0})
-store o d None = give tt
-store o d (Some s) = do
-  f ← translate o d access.Store s.at
+unfoldable pub store : Hardware → Own → Dom → Option StoreMade → Act (Unit {0})
+store p o d None = give tt
+store p o d (Some s) = do
+  f ← translate p o d access.Store s.at
   touch (StoreTouch (address_in f s.at))
   w ← read f (place s.at)
   write f (place s.at) (stored_in s.size w (s.at % 4) s.word)
@@ -126,10 +110,10 @@ store o d (Some s) = do
 -- ---- an instruction at a clock
 
 -- what the instruction needs from outside the registers: what a load finds, or a counter's value
-unfoldable pub loaded : Own → ℕ → Dom → Instr → Act ℕ
-loaded o t d (instr.Load width rd rs1 offset) = load o d width (address_of d.thread.regs (instr.Load width rd rs1 offset))
-loaded o t d (instr.ReadCounter counter rd) = give (counter_value counter t d)
-loaded o t d _ = give 0
+unfoldable pub loaded : Hardware → Own → ℕ → Dom → Instr → Act ℕ
+loaded p o t d (instr.Load width rd rs1 offset) = load p o d width (address_of d.thread.regs (instr.Load width rd rs1 offset))
+loaded p o t d (instr.ReadCounter counter rd) = give (counter_value counter t d)
+loaded p o t d _ = give 0
 
 -- a counter's value is recorded as a reading
 unfoldable pub noted : Instr → ℕ → Dom → Dom
@@ -137,31 +121,31 @@ noted (instr.ReadCounter counter rd) value d = read_out value d
 noted _ value d = d
 
 -- the effect: a trap, or a store, the registers and the next instruction
-unfoldable pub settle : Own → Dom → Instr → ℕ → Outcome → Act Dom
-settle o d i value out = do
+unfoldable pub settle : Hardware → Own → Dom → Instr → ℕ → Outcome → Act Dom
+settle p o d i value out = do
   unless out.effect.trap d
-  store o d out.effect.store
+  store p o d out.effect.store
   give (retired_at out.effect.next out.regs (noted i value d))
 
 -- misaligned loads and stores trap before their address is translated
-unfoldable pub execute : Own → ℕ → Dom → Instr → Act Dom
-execute o t d i = do
+unfoldable pub execute : Hardware → Own → ℕ → Dom → Instr → Act Dom
+execute p o t d i = do
   unless (misalignment_of i (address_of d.thread.regs i)) d
-  value ← loaded o t d i
-  settle o d i value (effect_of d.thread.regs d.thread.pc i value)
+  value ← loaded p o t d i
+  settle p o d i value (effect_of d.thread.regs d.thread.pc i value)
 
 -- 2: the word is no instruction. An ECALL is a kernel call.
-unfoldable pub perform : Own → ℕ → Dom → ℕ → Option Instr → Act Dom
-perform o t d w None = stop (stopped 2 w d)
-perform o t d w (Some instr.Ecall) = give (call d)
-perform o t d w (Some i) = execute o t d i
+unfoldable pub perform : Hardware → Own → ℕ → Dom → ℕ → Option Instr → Act Dom
+perform p o t d w None = stop (stopped 2 w d)
+perform p o t d w (Some instr.Ecall) = give (call d)
+perform p o t d w (Some i) = execute p o t d i
 
 unfoldable pub instruction : Hardware → Own → ℕ → Dom → Act Dom
 instruction p o t d = do
-  f ← translate o d access.Fetch d.thread.pc
+  f ← translate p o d access.Fetch d.thread.pc
   touch (Fetch (address_in f d.thread.pc))
   w ← read f (place d.thread.pc)
-  perform o t d w (decode_of w)
+  perform p o t d w (decode_of w)
 
 -- ---- what comes next
 

@@ -3,17 +3,21 @@ use Rattle.std.specs.Prelude.{◌≡◌, ℕ, true, false, List, [], ◌∷◌, 
 use Rattle.tp_base.specs.Table.{empty, at, put}
 use Rattle.tp_base.specs.Act.{go_on, ◌>>=◌, ◌>>◌, give, stop, note, either}
 use Rattle.phys_mem.specs.Mem.{frame_at, word, written}
+use Rattle.sv32_walk.specs.Entry.{bit, ppn, ppn_0, ppn_1, with_ppn, vpn_0, vpn_1}
+use Rattle.sv32_walk.specs.Walk.{leaf, superpage, first_level, last_level, entry_address, from_table, from_entry, walk}
+use Rattle.page_map.specs.Words.{table_word, leaf_word, leaf_bits}
 use Rattle.rv_core.specs.Registers.{zeros}
 use Rattle.world_view.specs.declared.DomainStatus.TheVariants.{Exited}
 use Rattle.world_view.specs.declared.ThreadState.TheVariants.{Ended}
 use Rattle.image_check.specs.Own.{Segment}
-use Rattle.world_view.specs.Image.{Image, own_of, pages_in}
+use Rattle.world_view.specs.Image.{Image, own_of}
+use Rattle.world_view.specs.Frames.{has_region, regions_below, pages_below, pages_in}
 use Rattle.world_view.specs.Schedule.{start}
-use Rattle.world_view.specs.Opening.{frame_words, tabled, page_frame, pages_placed, segments_placed, placed, all_placed}
+use Rattle.world_view.specs.Opening.{frame_words, put_word, tabled, root_entry, rights_in, leaf_with, leaf_entry, root_placed, table_placed, tables_placed, page_words, pages_placed, segments_placed, placed, all_placed}
 use Rattle.world_view.specs.Domain.{opening_dom, no_dom}
 use Rattle.world_view.specs.Instruction.{stopped, trapped, retired_at, read_out, replied, exited, put_byte, called, call}
 use Rattle.world_view.specs.Reach.{reach, and_then, reach_all}
-use Rattle.world_view.specs.Event.{page_in, permitted, frame_for, touch, or_stop, translate, address_in, read, write, unless, load, store, loaded, noted, settle, execute, perform, instruction, event}
+use Rattle.world_view.specs.Event.{touch, frame_or_stop, translate, address_in, read, write, unless, load, store, loaded, noted, settle, execute, perform, instruction, event}
 use Rattle.world_view.specs.Machine.{paid, happened, step, steps, leave_part, prefetch_part, flush_part, enter_part, switch_work, with_part, switch, run_slot, opening_doms, opening, whole, alone_opening, alone_enter, alone_in, alone_out, alone_if, alone}
 use Rattle.world_view.specs.View.{View, log_of, pool, view, view_whole, view_alone}
 use Rattle.world_view.specs.Texts.{memory_sum}
@@ -47,13 +51,13 @@ code_at_16 code = record { page = 16; pages = 1; rights = record { read = true; 
 unfoldable pub two_domains : List ℕ → List ℕ → Image
 two_domains red blue = record {
   all = record {
-    hardware = record { frames = 2048; base = 1 };
+    hardware = record { frames = 2114; base = 1 };
     schedule = record { domain = 0; length = 10000; pad = 6150 } ∷ record { domain = 1; length = 10000; pad = 6150 } ∷ [];
     domains = 2;
   };
   owns =
       record { name = codes "red"; entry = 65536; first_frame = 0; segments = code_at_16 red ∷ [] }
-      ∷ record { name = codes "blue"; entry = 65536; first_frame = 1024; segments = code_at_16 blue ∷ [] } ∷ [];
+      ∷ record { name = codes "blue"; entry = 65536; first_frame = 1057; segments = code_at_16 blue ∷ [] } ∷ [];
 }
 
 -- one that prints A beside one that prints B
@@ -89,7 +93,7 @@ printed_in_time byte clock = record {
 
 -- all that a run computes with
 pub everything : ℕ
-unfolding empty at put go_on ◌>>=◌ ◌>>◌ give stop note either start frame_at word written frame_words tabled page_frame pages_placed segments_placed placed all_placed pages_in opening_dom no_dom stopped trapped retired_at read_out replied exited put_byte called call reach and_then reach_all page_in permitted frame_for touch or_stop translate address_in read write unless load store loaded noted settle execute perform instruction event paid happened step steps leave_part prefetch_part flush_part enter_part switch_work with_part switch run_slot opening_doms opening whole alone_opening alone_enter alone_in alone_out alone_if alone log_of pool view view_whole view_alone memory_sum count_of largest_of two_domains
+unfolding empty at put go_on ◌>>=◌ ◌>>◌ give stop note either start frame_at word written frame_words put_word tabled root_entry rights_in leaf_with leaf_entry root_placed table_placed tables_placed page_words pages_placed segments_placed placed all_placed has_region regions_below pages_below pages_in table_word leaf_word leaf_bits bit ppn ppn_0 ppn_1 with_ppn vpn_0 vpn_1 leaf superpage first_level last_level entry_address from_table from_entry walk opening_dom no_dom stopped trapped retired_at read_out replied exited put_byte called call reach and_then reach_all touch frame_or_stop translate address_in read write unless load store loaded noted settle execute perform instruction event paid happened step steps leave_part prefetch_part flush_part enter_part switch_work with_part switch run_slot opening_doms opening whole alone_opening alone_enter alone_in alone_out alone_if alone log_of pool view view_whole view_alone memory_sum count_of largest_of two_domains
 everything = 0
 
 -- ---- the first run, of four slots
@@ -98,7 +102,7 @@ pub red : record (view_whole prints 0 4) { frames = [] } ≡ printed_byte 0x41
 unfolding everything
 red = refl
 
-pub red_memory : memory_sum (view_whole prints 0 4).frames ≡ 0x0420171f
+pub red_memory : memory_sum (view_whole prints 0 4).frames ≡ 0x0420237b
 unfolding everything
 red_memory = refl
 
@@ -106,7 +110,7 @@ pub blue : record (view_whole prints 1 4) { frames = [] } ≡ printed_byte 0x42
 unfolding everything
 blue = refl
 
-pub blue_memory : memory_sum (view_whole prints 1 4).frames ≡ 0x0430171f
+pub blue_memory : memory_sum (view_whole prints 1 4).frames ≡ 0x04512b7b
 unfolding everything
 blue_memory = refl
 
@@ -120,7 +124,7 @@ pub timed_red : record (view_whole timed_prints 0 4) { frames = [] } ≡ printed
 unfolding everything
 timed_red = refl
 
-pub timed_red_memory : memory_sum (view_whole timed_prints 0 4).frames ≡ 0x84205d85
+pub timed_red_memory : memory_sum (view_whole timed_prints 0 4).frames ≡ 0x842069e1
 unfolding everything
 timed_red_memory = refl
 

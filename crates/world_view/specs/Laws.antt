@@ -1,12 +1,23 @@
 -- The words of the laws, and the laws.
-use Rattle.std.specs.Prelude.{◌≡◌, ◌≢◌, ℕ, true, false, IsTrue, ◌+◌, ◌-◌, ◌/◌, ◌<◌, ◌≤◌, List, [], ◌∷◌, length, Some, Ok}
+use Rattle.std.specs.Prelude.{◌≡◌, ◌≢◌, ℕ, true, false, IsTrue, ◌+◌, ◌-◌, ◌/◌, ◌<◌, ◌≤◌, ◌^◌, List, [], ◌∷◌, length, Some, None, Result, Ok, Err}
+use Rattle.image_check.specs.declared.own.Rights.{Rights}
 use Rattle.image_check.specs.Public.{Hardware, Entry, entry_in}
 use Rattle.image_check.specs.Own.{Own}
 use Rattle.image_check.specs.Laws as check
-use Rattle.world_view.specs.Image.{Image, own_of, own_frame}
+use Rattle.sv32_walk.specs.declared.access.Access.{Access}
+use Rattle.sv32_walk.specs.declared.access.WalkFault.{WalkFault}
+use Rattle.sv32_walk.specs.declared.access.WalkFault.TheVariants as fault
+use Rattle.sv32_walk.specs.Entry.{valid}
+use Rattle.sv32_walk.specs.Walk.{is_leaf, walk}
+use Rattle.page_map.specs.Words.{give, leaf_word}
+use Rattle.page_map.specs.Tables.{IsPageMap}
+use Rattle.page_map.specs.Reached.{leaf_at, TablesIn, PagesIn}
+use Rattle.world_view.specs.Image.{Image, own_of}
+use Rattle.world_view.specs.Frames.{own_frame, frames_in, first_page_frame, page_frame}
+use Rattle.world_view.specs.Opening.{rights_in, rights_number}
 use Rattle.world_view.specs.Reading.{image}
 use Rattle.world_view.specs.Schedule.{entry_of_slot, start, ended, outgoing}
-use Rattle.phys_mem.specs.Mem.{Mem, frame_at}
+use Rattle.phys_mem.specs.Mem.{Mem, frame_at, word}
 use Rattle.world_view.specs.Reach.{Touch, Caches, Reached}
 use Rattle.world_view.specs.Event.{Store}
 use Rattle.world_view.specs.Machine.{Local, World, step, part_of, leave_part, enter_part, prefetch_part, flush_part, switch, whole, alone_enter, alone_out}
@@ -44,8 +55,14 @@ SameSets p o c k = Unit {0}
 abbrev pub Resident : Hardware → Caches → Type 0
 Resident p c = Unit {0}
 
+-- physical addresses in the domain's frames
+abbrev pub AllOwn : Hardware → Own → List ℕ → Type 0
+AllOwn p o [] = Unit {0}
+AllOwn p o (address ∷ addresses) = IsTrue (own_frame p o (address / 4096)) × AllOwn p o addresses
+
 -- touches that a domain may make: of its own frames
 abbrev pub May : Hardware → Own → Touch → Type 0
+May p o (Touch.Look page reads found) = AllOwn p o reads
 May p o (Touch.Fetch address) = IsTrue (own_frame p o (address / 4096))
 May p o (Touch.Load address) = IsTrue (own_frame p o (address / 4096))
 May p o (Touch.Store address) = IsTrue (own_frame p o (address / 4096))
@@ -54,8 +71,28 @@ abbrev pub MayAll : Hardware → Own → List Touch → Type 0
 MayAll p o [] = Unit {0}
 MayAll p o (t ∷ ts) = May p o t × MayAll p o ts
 
+-- a frame of the domain that holds a table, other than the root, and one that holds a page
+abbrev pub IsTableFrame : Own → ℕ → Type 0
+IsTableFrame o f = (o.first_frame < f) × (f < first_page_frame o)
+
+abbrev pub IsPageFrame : Own → ℕ → Type 0
+IsPageFrame o f = (first_page_frame o ≤ f) × (f < o.first_frame + frames_in o.segments)
+
+-- each valid entry of a table is a leaf
+pub record AreLeaves (m : Mem) (root : ℕ) : Type 0 where
+  pub each : (i j : ℕ) → i < 1024 → j < 1024 → valid (word m root i) ≡ true → valid (leaf_at m root i j) ≡ true → is_leaf (leaf_at m root i j) ≡ true
+
+-- the domain reaches its own frames alone: each valid entry of its root points to a table of its own, and each leaf to
+-- a frame of its own that holds no table
+pub record Good (p : Hardware) (o : Own) (m : Mem) : Type 0 where
+  pub map : IsPageMap m o.first_frame p.frames
+  pub tables : TablesIn (IsTableFrame o) m o.first_frame
+  pub pages : PagesIn (IsPageFrame o) m o.first_frame
+  pub leaves : AreLeaves m o.first_frame
+
 -- the whole machine's memory beside that of the domain alone; outside the domain's frames it is still as at first
 pub record BesideStore (p : Hardware) (o : Own) (first s a : Store) : Type 0 where
+  pub good : Good p o s.mem
   pub same : SameFrames p o s.mem a.mem
   pub outside : (f : ℕ) → own_frame p o f ≡ false → frame_at s.mem f ≡ frame_at first.mem f
 
@@ -140,6 +177,33 @@ StartLaw = (i : Image) (k : ℕ) → Runnable i → (switch i k (whole i k)).clo
 abbrev pub InTimeLaw : Type 0
 InTimeLaw = (i : Image) (k : ℕ) → Runnable i → InTime i k (whole i k)
 
+-- a walk of a domain's page tables in the memory that the machine opens with
+abbrev pub opening_walk : Image → ℕ → ℕ → Access → Result ℕ WalkFault
+opening_walk i d va a = (walk (whole i 0).store.mem i.all.hardware.frames (own_of i d).first_frame va a).result
+
+-- it comes to the page that one of the domain's segments has there, where its rights let the access through
+abbrev pub OpeningPageLaw : Type 0
+OpeningPageLaw = (i : Image) (d va : ℕ) (a : Access) (r : Rights) → Runnable i → IsDomain i d → va < 2 ^ 32
+    → rights_in (own_of i d).segments (va / 4096) ≡ Some r → give (rights_number r) a ≡ true
+    → opening_walk i d va a ≡ Ok (leaf_word (page_frame (own_of i d) (va / 4096)) (rights_number r))
+
+-- else it is a page fault
+abbrev pub OpeningRightsLaw : Type 0
+OpeningRightsLaw = (i : Image) (d va : ℕ) (a : Access) (r : Rights) → Runnable i → IsDomain i d → va < 2 ^ 32
+    → rights_in (own_of i d).segments (va / 4096) ≡ Some r → give (rights_number r) a ≡ false → opening_walk i d va a ≡ Err fault.Page
+
+abbrev pub OpeningNoPageLaw : Type 0
+OpeningNoPageLaw = (i : Image) (d va : ℕ) (a : Access) → Runnable i → IsDomain i d → va < 2 ^ 32
+    → rights_in (own_of i d).segments (va / 4096) ≡ None → opening_walk i d va a ≡ Err fault.Page
+
+-- each page has a frame of its own
+abbrev pub OpeningFramesLaw : Type 0
+OpeningFramesLaw = (o : Own) (n m : ℕ) (r q : Rights) → rights_in o.segments n ≡ Some r → rights_in o.segments m ≡ Some q → page_frame o n ≡ page_frame o m → n ≡ m
+
+-- before and after each slot, whoever ran, each domain reaches its own frames alone
+abbrev pub ReachLaw : Type 0
+ReachLaw = (i : Image) (k d : ℕ) → Runnable i → IsDomain i d → Good i.all.hardware (own_of i d) (whole i k).store.mem
+
 -- every image that breaks no rule may be run
 abbrev pub ReadingLaw : Type 0
 ReadingLaw = (bytes : List ℕ) (i : Image) → image bytes ≡ Ok i → Runnable i
@@ -149,6 +213,7 @@ ReadingLaw = (bytes : List ℕ) (i : Image) → image bytes ≡ Ok i → Runnabl
 -- a step of another domain
 abbrev pub OthersStepLaw : Type 0
 OthersStepLaw = (i : Image) (d e : ℕ) (end : ℕ) (s : Local) → Runnable i → IsDomain i d → IsDomain i e → d ≢ e
+    → Good i.all.hardware (own_of i e) s.store.mem
     → Untouched i.all.hardware (own_of i d) (step i.all.hardware (own_of i e) false end s) s
 
 -- another domain leaves or enters

@@ -1,4 +1,5 @@
 pub mod Image
+pub mod Frames
 pub mod Partial
 pub mod Reading
 pub mod Schedule

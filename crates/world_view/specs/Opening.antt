@@ -1,38 +1,84 @@
--- The memory in which each domain's pages stand in their frames.
-use Rattle.std.specs.Prelude.{ℕ, zero, suc, ◌+◌, ◌*◌, ◌/◌, ◌^◌, List, [], ◌∷◌, length, map, take, drop, slice_index}
+-- The memory in which each domain's page tables and pages stand in their frames.
+use Rattle.std.specs.Prelude.{ℕ, zero, suc, ◌+◌, ◌*◌, ◌/◌, ◌^◌, if◌then◌else◌, List, [], ◌∷◌, length, map, take, drop, slice_index, Option, Some, None}
 use Rattle.std.specs.List.{range_with_len}
 use Rattle.tp_base.specs.Table.{empty, at, put}
 use Rattle.phys_mem.specs.Mem.{Frame, Mem}
+use Rattle.page_map.specs.Words.{table_word, leaf_word}
+use Rattle.image_check.specs.declared.own.Rights.{Rights}
 use Rattle.image_check.specs.Own.{Segment, Own}
+use Rattle.world_view.specs.Frames.{has_page, has_region, table_frame, page_frame}
 
 -- all words of a frame, in order
 unfoldable pub frame_words : Frame → List ℕ
 frame_words x = map (at 0 x) (range_with_len 0 1024)
 
--- word i of bytes, least byte first; zeros follow the last
-abbrev pub word_of : List ℕ → ℕ → ℕ
-word_of bytes i = slice_index bytes (4 * i) + 2 ^ 8 * slice_index bytes (4 * i + 1) + 2 ^ 16 * slice_index bytes (4 * i + 2) + 2 ^ 24 * slice_index bytes (4 * i + 3)
+-- a word at a place where nothing was put yet; a zero need not be put
+unfoldable pub put_word : Frame → ℕ → ℕ → Frame
+put_word x i zero = x
+put_word x i (suc w) = put x i (suc w)
 
 -- the first n values of f
 unfoldable pub tabled : (ℕ → ℕ) → ℕ → Frame
 tabled f zero = empty
-tabled f (suc n) = put (tabled f n) n (f n)
+tabled f (suc n) = put_word (tabled f n) n (f n)
 
-unfoldable pub page_frame : List ℕ → Frame
-page_frame bytes = tabled (word_of bytes) ((length bytes + 3) / 4)
+-- ---- page tables
 
--- so many pages in frames from f on; the bytes fill them in turn, and zeros follow
-unfoldable pub pages_placed : ℕ → ℕ → List ℕ → Mem → Mem
-pages_placed f zero bytes m = m
-pages_placed f (suc n) bytes m = pages_placed (suc f) n (drop 4096 bytes) (put m f (page_frame (take 4096 bytes)))
+-- the root's entry for a region points to the region's table
+unfoldable pub root_entry : Own → ℕ → ℕ
+root_entry o r = if has_region o.segments r then table_word (table_frame o r) else 0
 
--- segments, one after the other in frames from f on
-unfoldable pub segments_placed : ℕ → List Segment → Mem → Mem
-segments_placed f [] m = m
-segments_placed f (s ∷ ss) m = segments_placed (f + s.pages) ss (pages_placed f s.pages s.bytes m)
+-- the rights of a page, if there is that page
+unfoldable pub rights_in : List Segment → ℕ → Option Rights
+rights_in [] n = None
+rights_in (s ∷ ss) n = if has_page s n then Some s.rights else rights_in ss n
+
+-- 1 read, 2 write, 4 execute
+abbrev pub rights_number : Rights → ℕ
+rights_number r = (if r.read then 1 else 0) + (if r.write then 2 else 0) + (if r.execute then 4 else 0)
+
+unfoldable pub leaf_with : Own → ℕ → Option Rights → ℕ
+leaf_with o n None = 0
+leaf_with o n (Some r) = leaf_word (page_frame o n) (rights_number r)
+
+-- a table's entry for a page names the page's frame
+unfoldable pub leaf_entry : Own → ℕ → ℕ
+leaf_entry o n = leaf_with o n (rights_in o.segments n)
+
+unfoldable pub root_placed : Own → Mem → Mem
+root_placed o m = put m o.first_frame (tabled (root_entry o) 1024)
+
+unfoldable pub table_placed : Own → ℕ → Mem → Mem
+table_placed o r m = put m (table_frame o r) (tabled (λ i. leaf_entry o (1024 * r + i)) 1024)
+
+-- the tables of the regions below r that have a page
+unfoldable pub tables_placed : Own → ℕ → Mem → Mem
+tables_placed o zero m = m
+tables_placed o (suc r) m = if has_region o.segments r then table_placed o r (tables_placed o r m) else tables_placed o r m
+
+-- ---- pages
+
+-- word i of bytes, least byte first; zeros follow the last
+abbrev pub word_of : List ℕ → ℕ → ℕ
+word_of bytes i = slice_index bytes (4 * i) + 2 ^ 8 * slice_index bytes (4 * i + 1) + 2 ^ 16 * slice_index bytes (4 * i + 2) + 2 ^ 24 * slice_index bytes (4 * i + 3)
+
+unfoldable pub page_words : List ℕ → Frame
+page_words bytes = tabled (word_of bytes) ((length bytes + 3) / 4)
+
+-- so many pages, from page n on; the bytes fill them in turn, and zeros follow
+unfoldable pub pages_placed : Own → ℕ → ℕ → List ℕ → Mem → Mem
+pages_placed o n zero bytes m = m
+pages_placed o n (suc many) bytes m = pages_placed o (suc n) many (drop 4096 bytes) (put m (page_frame o n) (page_words (take 4096 bytes)))
+
+-- the pages of segments, one after the other
+unfoldable pub segments_placed : Own → List Segment → Mem → Mem
+segments_placed o [] m = m
+segments_placed o (s ∷ ss) m = segments_placed o ss (pages_placed o s.page s.pages s.bytes m)
+
+-- ---- domains
 
 unfoldable pub placed : Own → Mem → Mem
-placed o m = segments_placed o.first_frame o.segments m
+placed o m = segments_placed o o.segments (tables_placed o 1024 (root_placed o m))
 
 unfoldable pub all_placed : List Own → Mem
 all_placed [] = empty

@@ -5,7 +5,8 @@ use Rattle.world_view.specs.declared.DomainStatus.{DomainStatus}
 use Rattle.world_view.specs.declared.Reply.{Reply}
 use Rattle.image_check.specs.Public.{Hardware, Public}
 use Rattle.image_check.specs.Own.{Own}
-use Rattle.world_view.specs.Image.{Image, own_of, own_frame}
+use Rattle.world_view.specs.Image.{Image, own_of}
+use Rattle.world_view.specs.Frames.{own_frame}
 use Rattle.phys_mem.specs.Mem.{frame_at}
 use Rattle.world_view.specs.Opening.{frame_words}
 use Rattle.world_view.specs.Domain.{Thread, Dom}

@@ -1,6 +1,6 @@
 //! Laws of the machine over its definitions, each the contract of a function
 //! that does nothing: a caller that calls it may rely on the law.
-ghost use Rattle.world_view.specs.Laws.{ReadingLaw, IsolationLaw, TwoRunLaw, ReportLaw, PadLaw, LinesLaw, StartLaw, InTimeLaw, OthersStepLaw, OthersLeaveLaw, OthersEnterLaw, PrefetchLaw, FlushLaw, OwnStepLaw, SwitchOutLaw, SwitchInLaw, SwitchBothLaw, SwitchPastLaw, ResidencyLaw};
+ghost use Rattle.world_view.specs.Laws.{ReadingLaw, IsolationLaw, TwoRunLaw, ReportLaw, PadLaw, LinesLaw, StartLaw, InTimeLaw, OpeningPageLaw, OpeningRightsLaw, OpeningNoPageLaw, OpeningFramesLaw, ReachLaw, OthersStepLaw, OthersLeaveLaw, OthersEnterLaw, PrefetchLaw, FlushLaw, OwnStepLaw, SwitchOutLaw, SwitchInLaw, SwitchBothLaw, SwitchPastLaw, ResidencyLaw};
 
 /// Every image of the form that is read may be run, and its numbers are within the limits.
 pub fn reading()
@@ -20,6 +20,23 @@ pub fn pads()
     ensures lines { LinesLaw }
     ensures start { StartLaw }
     ensures in_time { InTimeLaw }
+{}
+
+/// The page tables that the machine opens with are those of the domains'
+/// segments: a walk comes to the page that a segment has at its address, where
+/// the segment's rights let the access through, and is a page fault otherwise;
+/// and each page of a domain has a frame of its own.
+pub fn opening()
+    ensures page { OpeningPageLaw }
+    ensures rights { OpeningRightsLaw }
+    ensures no_page { OpeningNoPageLaw }
+    ensures frames { OpeningFramesLaw }
+{}
+
+/// Each domain's page tables reach its own frames alone, before and after each
+/// slot: so much holds of the one memory in which all tables stand.
+pub fn reach()
+    ensures own { ReachLaw }
 {}
 
 /// An event of another domain, and each phase of a switch, leaves a domain as it was.

@@ -39,15 +39,6 @@ pub struct Reply {
     pub value: u32,
 }
 
-/// What an access to memory is for.
-#[derive(Clone, Copy, Debug, PartialEq, Eq)]
-pub enum Access {
-    /// The fetch of an instruction.
-    Fetch,
-    Load,
-    Store,
-}
-
 /// What the words of the command line ask for.
 #[derive(Clone, Copy, Debug, PartialEq, Eq)]
 pub enum Command {

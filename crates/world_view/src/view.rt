@@ -38,7 +38,7 @@ pub struct View<'a> {
     pub first_frame: u32,
     pub frames: u32,
     ghost held: { first_frame + frames ≤ memory.now.frames },
-    ghost few: { first_frame + frames ≤ 2 ^ 14 },
+    ghost few: { first_frame + frames ≤ 2 ^ 15 },
     ghost readings_kept: { IsKept (log_view readings.now) },
     ghost replies_kept: { IsKept (log_view replies.now) },
 }

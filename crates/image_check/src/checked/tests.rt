@@ -409,7 +409,7 @@ fn an_image_is_accepted(rt: HostRuntime) -> Result<(), CheckRefusal> {
     checked.runnable();
     let public = checked.public();
     let hardware = Hardware {
-        frames: 2048,
+        frames: 2114,
         base: 1,
     };
     let entry = Entry {
@@ -423,7 +423,7 @@ fn an_image_is_accepted(rt: HostRuntime) -> Result<(), CheckRefusal> {
     let own = checked.own(1);
     assert_eq!(rt;
         (own.name.as_str(), own.entry, own.first_frame),
-        ("blue", 65540, 1024)
+        ("blue", 65540, 1057)
     );
     assert_eq!(rt; own.segments.len(), 2);
     is_segment(

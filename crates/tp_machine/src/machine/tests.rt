@@ -19,14 +19,15 @@ costs = { base = 1, l1 = 1, l2 = 8, mem = 40, wb = 10, tlb = 1, mispredict = 3, 
 ";
 
 // Two domains. Red reads the clock, stores it in the second page of its data
-// segment, prints `A` and exits; blue jumps to itself.
+// segment, which has a table of its own, prints `A` and exits; blue jumps to
+// itself.
 const DOMAINS: &str = "[[domain]]
 name = \"red\"
 colours = [1]
 entry = 0x10004
 segment = [
-  { page = 32, pages = 3, rights = \"rw\", hex = \"01020304\" },
-  { page = 16, pages = 1, rights = \"rx\", hex = \"6f000000f32200c037130200232053401305100493081000730000009308000073000000\" },
+  { page = 1023, pages = 2, rights = \"rw\", hex = \"01020304\" },
+  { page = 16, pages = 1, rights = \"rx\", hex = \"6f000000f32200c037034000232053401305100493081000730000009308000073000000\" },
 ]
 [[domain]]
 name = \"blue\"
@@ -70,12 +71,12 @@ struct Seen {
     printed: usize,
     pool: u32,
     frame: u32,
-    /// A word of the second page.
+    /// A word of the last page.
     word: u32,
 }
 
 fn told(view: &View<'_>) -> Option<Seen> {
-    if view.readings() == 0 || view.replies() == 0 || view.pool_len() < 2 {
+    if view.readings() == 0 || view.replies() == 0 || view.frames < 6 {
         return None;
     }
     let pc = view.thread(0).pc;
@@ -87,8 +88,8 @@ fn told(view: &View<'_>) -> Option<Seen> {
         replies: (view.replies(), view.last_reply()),
         printed: view.printed().len(),
         pool: view.pool_len(),
-        frame: view.pool_frame(1).number(),
-        word: view.pool_word(1, 256),
+        frame: view.pool_frame(5).number(),
+        word: view.pool_word(5, 256),
     })
 }
 
@@ -116,8 +117,8 @@ fn slots_are_run(rt: HostRuntime) -> Result<(), Fail> {
         readings: (50, 50),
         replies: (1, Reply { code: 0, value: 0 }),
         printed: 1,
-        pool: 4,
-        frame: 1,
+        pool: 6,
+        frame: 5,
         word: 50,
     };
     let used = Used {

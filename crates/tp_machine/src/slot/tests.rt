@@ -1,10 +1,8 @@
-ghost use Rattle.std.specs.Prelude.{IfOk};
-ghost use Rattle.image_check.specs.Views.{own_view};
-ghost use Rattle.tp_machine.specs.Stands.{HasFrames};
+ghost use Rattle.std.specs.Prelude.{◌≡◌, IfOk};
 
 use super::stretch;
 use crate::domain::Domain;
-use image_check::{Hardware, Own, Rights, Segment};
+use image_check::{Hardware, Own};
 use phys_mem::PhysMem;
 use std::alloc::Global;
 use std::test::Fail;
@@ -30,52 +28,35 @@ struct Row {
     clock: u64,
 }
 
-// A domain with a page to read and execute, and after it one to read and write.
-#[tactic(auto, using(crate::proofs::Pages::has_frames), unfolding(world_view::specs::Image::pages_in))]
-fn two_pages(alloc: Global) -> Result<Own, Memory>
-    ensures held { IfOk result (λ o. HasFrames (own_view o) 2) }
+// The memory of a domain whose root is frame 0, and its one table frame 1. Its
+// page at the entry may be read and executed, the next read and written; the
+// one after that lies outside memory.
+fn tables(alloc: Global) -> Result<PhysMem, Memory>
+    ensures frames { IfOk result (λ memory. memory.frames ≡ 4) }
 {
-    let rx = Rights {
-        read: true,
-        write: false,
-        execute: true,
-    };
-    let rw = Rights {
-        read: true,
-        write: true,
-        execute: false,
-    };
-    let code = Segment {
-        page: 16,
-        pages: 1,
-        rights: rx,
-        bytes: Vec::new(alloc),
-    };
-    let data = Segment {
-        page: 17,
-        pages: 1,
-        rights: rw,
-        bytes: Vec::new(alloc),
-    };
-    let segments = Vec::from_array(alloc, [code, data])?;
-    Ok(Own {
-        name: String::new(alloc),
-        entry: ENTRY,
-        first_frame: 0,
-        segments,
-    })
+    let mut memory = PhysMem::new(alloc, 4)?;
+    memory.write_word(0x0000, 0x401);
+    memory.write_word(0x1040, 0x85b);
+    memory.write_word(0x1044, 0xcd7);
+    memory.write_word(0x1048, 0x24df);
+    Ok(memory)
 }
 
 fn ran(alloc: Global, program: [u32; 5]) -> Result<(Domain, u64), Memory> {
-    let own = two_pages(alloc)?;
-    let mut memory = PhysMem::new(alloc, 2)?;
-    memory.write_word(0, program[0]);
-    memory.write_word(4, program[1]);
-    memory.write_word(8, program[2]);
-    memory.write_word(12, program[3]);
-    memory.write_word(16, program[4]);
+    let own = Own {
+        name: String::new(alloc),
+        entry: ENTRY,
+        first_frame: 0,
+        segments: Vec::new(alloc),
+    };
+    let mut memory = tables(alloc)?;
+    memory.write_word(0x2000, program[0]);
+    memory.write_word(0x2004, program[1]);
+    memory.write_word(0x2008, program[2]);
+    memory.write_word(0x200c, program[3]);
+    memory.write_word(0x2010, program[4]);
     let mut domain = Domain::open(alloc, &own)?;
-    let hardware = Hardware { frames: 2, base: 7 };
+    let hardware = Hardware { frames: 4, base: 7 };
     let clock = stretch(&hardware, &own, &mut memory, &mut domain, 0, END);
     Ok((domain, clock))
 }
@@ -89,6 +70,8 @@ const JAL_SELF: u32 = 0x6f;
 const LI_A7_1: u32 = 0x0010_0893;
 
 const LUI_X6_16: u32 = 0x0001_0337;
+
+const LUI_X6_18: u32 = 0x0001_2337;
 
 const LW_X5_X6: u32 = 0x0003_2283;
 
@@ -181,6 +164,33 @@ fn domains_run(rt: HostRuntime) -> Result<(), Fail> {
             program: [0x0002_0337, LW_X5_X6, JAL_SELF, 0, 0],
             status: stopped(13, ENTRY + 4, 0x2_0000),
             pc: ENTRY + 4,
+            retired: 1,
+            clock: END,
+            ..spins
+        },
+        // lui x6, 18; lw x5, 0(x6): the page lies outside memory
+        Row {
+            program: [LUI_X6_18, LW_X5_X6, JAL_SELF, 0, 0],
+            status: stopped(5, ENTRY + 4, 0x1_2000),
+            pc: ENTRY + 4,
+            retired: 1,
+            clock: END,
+            ..spins
+        },
+        // lui x6, 18; sw x0, 0(x6)
+        Row {
+            program: [LUI_X6_18, 0x0003_2023, JAL_SELF, 0, 0],
+            status: stopped(7, ENTRY + 4, 0x1_2000),
+            pc: ENTRY + 4,
+            retired: 1,
+            clock: END,
+            ..spins
+        },
+        // jal x0, 8192
+        Row {
+            program: [0x0000_206f, 0, 0, 0, 0],
+            status: stopped(1, 0x1_2000, 0x1_2000),
+            pc: 0x1_2000,
             retired: 1,
             clock: END,
             ..spins

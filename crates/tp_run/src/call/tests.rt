@@ -21,17 +21,17 @@ const PRINTS_B: &str = "1305200493081000730000009308000073000000";
 const SPINS: &str = "6f000000";
 
 const REPORT: &str =
-    "domain 0 red\nstatus exited 0\nretired 3\nthread 0 ended pc 00010010\nreadings 0\nreplies 1 last 0:0 list 0:0\nout 1 41\nmem 0420171f\ndomain 1 blue\nstatus exited 0\nretired 3\nthread 0 ended pc 00010010\nreadings 0\nreplies 1 last 0:0 list 0:0\nout 1 42\nmem 0430171f\nswitch 0 used 0 pad 6150 count 2\nswitch 1 used 0 pad 6150 count 2\nend\n";
+    "domain 0 red\nstatus exited 0\nretired 3\nthread 0 ended pc 00010010\nreadings 0\nreplies 1 last 0:0 list 0:0\nout 1 41\nmem 0420237b\ndomain 1 blue\nstatus exited 0\nretired 3\nthread 0 ended pc 00010010\nreadings 0\nreplies 1 last 0:0 list 0:0\nout 1 42\nmem 04512b7b\nswitch 0 used 0 pad 6150 count 2\nswitch 1 used 0 pad 6150 count 2\nend\n";
 
 const SPINS_REPORT: &str =
-    "domain 0 red\nstatus running\nretired 10000\nthread 0 ready pc 00010000\nreadings 0\nreplies 0\nout 0\nmem 0000006f\ndomain 1 blue\nstatus exited 0\nretired 3\nthread 0 ended pc 00010010\nreadings 0\nreplies 1 last 0:0 list 0:0\nout 1 42\nmem 0430171f\nswitch 0 used 0 pad 6150 count 1\nswitch 1 used 0 pad 6150 count 1\nend\n";
+    "domain 0 red\nstatus running\nretired 10000\nthread 0 ready pc 00010000\nreadings 0\nreplies 0\nout 0\nmem 00000ccb\ndomain 1 blue\nstatus exited 0\nretired 3\nthread 0 ended pc 00010010\nreadings 0\nreplies 1 last 0:0 list 0:0\nout 1 42\nmem 04512b7b\nswitch 0 used 0 pad 6150 count 1\nswitch 1 used 0 pad 6150 count 1\nend\n";
 
 const FRESH_REPORT: &str =
-    "domain 0 red\nstatus running\nretired 0\nthread 0 ready pc 00010000\nreadings 0\nreplies 0\nout 0\nmem 0420171f\ndomain 1 blue\nstatus running\nretired 0\nthread 0 ready pc 00010000\nreadings 0\nreplies 0\nout 0\nmem 0430171f\nswitch 0 used 0 pad 6150 count 0\nswitch 1 used 0 pad 6150 count 0\nend\n";
+    "domain 0 red\nstatus running\nretired 0\nthread 0 ready pc 00010000\nreadings 0\nreplies 0\nout 0\nmem 0420237b\ndomain 1 blue\nstatus running\nretired 0\nthread 0 ready pc 00010000\nreadings 0\nreplies 0\nout 0\nmem 04512b7b\nswitch 0 used 0 pad 6150 count 0\nswitch 1 used 0 pad 6150 count 0\nend\n";
 
 // What is seen of blue after it printed B.
 const BLUE: &str =
-    "domain 1 blue\nstatus exited 0\nretired 3\nthread 0 ended pc 00010010\nreadings 0\nreplies 1 last 0:0 list 0:0\nout 1 42\nmem 0430171f\n";
+    "domain 1 blue\nstatus exited 0\nretired 3\nthread 0 ended pc 00010010\nreadings 0\nreplies 1 last 0:0 list 0:0\nout 1 42\nmem 04512b7b\n";
 
 // Reads the cycle counter before and after it prints A, or B.
 const READS_A: &str = "f32200c0130510049308100073000000732300c09308000073000000";
@@ -39,7 +39,7 @@ const READS_A: &str = "f32200c0130510049308100073000000732300c09308000073000000"
 const READS_B: &str = "f32200c0130520049308100073000000732300c09308000073000000";
 
 const READS_REPORT: &str =
-    "domain 0 red\nstatus exited 0\nretired 5\nthread 0 ended pc 00010018 x5=00001806 x6=0000180a\nreadings 2 last 6154 list 6150 6154\nreplies 1 last 0:0 list 0:0\nout 1 41\nmem 84205d85\ndomain 1 blue\nstatus exited 0\nretired 5\nthread 0 ended pc 00010018 x5=0000571c x6=00005720\nreadings 2 last 22304 list 22300 22304\nreplies 1 last 0:0 list 0:0\nout 1 42\nmem 84305d85\nswitch 0 used 0 pad 6150 count 2\nswitch 1 used 0 pad 6150 count 2\nend\n";
+    "domain 0 red\nstatus exited 0\nretired 5\nthread 0 ended pc 00010018 x5=00001806 x6=0000180a\nreadings 2 last 6154 list 6150 6154\nreplies 1 last 0:0 list 0:0\nout 1 41\nmem 842069e1\ndomain 1 blue\nstatus exited 0\nretired 5\nthread 0 ended pc 00010018 x5=0000571c x6=00005720\nreadings 2 last 22304 list 22300 22304\nreplies 1 last 0:0 list 0:0\nout 1 42\nmem 845171e1\nswitch 0 used 0 pad 6150 count 2\nswitch 1 used 0 pad 6150 count 2\nend\n";
 
 const USAGE: &str = "usage: tp check|bound|run|alone|gen|demo\n";
 
@@ -49,7 +49,7 @@ const MACHINE: &str =
 
 // REPORT, with a bar after what each write takes.
 const PIECES: &str =
-    "domain |0| |red|\nstatus |exited |0|\nretired |3|\nthread 0 |ended| pc |00010010|\nreadings |0|\nreplies |1| last |0|:|0| list| |0|:|0|\nout |1| |41|\nmem |0420171f|\n|domain |1| |blue|\nstatus |exited |0|\nretired |3|\nthread 0 |ended| pc |00010010|\nreadings |0|\nreplies |1| last |0|:|0| list| |0|:|0|\nout |1| |42|\nmem |0430171f|\n|switch |0| used |0| pad |6150| count |2|\n|switch |1| used |0| pad |6150| count |2|\n|end\n|";
+    "domain |0| |red|\nstatus |exited |0|\nretired |3|\nthread 0 |ended| pc |00010010|\nreadings |0|\nreplies |1| last |0|:|0| list| |0|:|0|\nout |1| |41|\nmem |0420237b|\n|domain |1| |blue|\nstatus |exited |0|\nretired |3|\nthread 0 |ended| pc |00010010|\nreadings |0|\nreplies |1| last |0|:|0| list| |0|:|0|\nout |1| |42|\nmem |04512b7b|\n|switch |0| used |0| pad |6150| count |2|\n|switch |1| used |0| pad |6150| count |2|\n|end\n|";
 
 // What every image ends with.
 const SCHEDULE: &str =
@@ -200,7 +200,7 @@ fn a_domain_stops_at_what_it_may_not_do(rt: HostRuntime) -> Result<(), Fail> {
         &rt,
         alloc,
         "b702010023a40200",
-        "status stopped 15 pc 00010004 value 00010008\nretired 1\nthread 0 ready pc 00010004 x5=00010000\nreadings 0\nreplies 0\nout 0\nmem 0003a6da",
+        "status stopped 15 pc 00010004 value 00010008\nretired 1\nthread 0 ready pc 00010004 x5=00010000\nreadings 0\nreplies 0\nout 0\nmem 0003b336",
     )?;
 
     // A jump to address 2.
@@ -208,7 +208,7 @@ fn a_domain_stops_at_what_it_may_not_do(rt: HostRuntime) -> Result<(), Fail> {
         &rt,
         alloc,
         "67002000",
-        "status stopped 0 pc 00010000 value 00000002\nretired 0\nthread 0 ready pc 00010000\nreadings 0\nreplies 0\nout 0\nmem 00200067",
+        "status stopped 0 pc 00010000 value 00000002\nretired 0\nthread 0 ready pc 00010000\nreadings 0\nreplies 0\nout 0\nmem 00200cc3",
     )?;
 
     // A misaligned branch that isn't taken, and then a write of a counter.
@@ -216,7 +216,7 @@ fn a_domain_stops_at_what_it_may_not_do(rt: HostRuntime) -> Result<(), Fail> {
         &rt,
         alloc,
         "63110000731000c0",
-        "status stopped 2 pc 00010004 value c0001073\nretired 1\nthread 0 ready pc 00010004\nreadings 0\nreplies 0\nout 0\nmem c00021d6",
+        "status stopped 2 pc 00010004 value c0001073\nretired 1\nthread 0 ready pc 00010004\nreadings 0\nreplies 0\nout 0\nmem c0002e32",
     )
 }
 

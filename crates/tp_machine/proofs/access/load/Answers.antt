@@ -1,30 +1,23 @@
-use Rattle.std.proofs.Common.{◌<◌, sym, arith}
+use Rattle.std.proofs.lemmas.Result.{err_from_is_err_and}
 use Rattle.image_check.specs.Views.{own_view}
 use Rattle.tp_machine.proofs.Accesses.{load_faulted, load_found, load_aligned}
 use Rattle.tp_machine.proofs.access.load.Goals as goal
 
-pub returns-in_default : goal.returns-in_default
-returns-in_default c = record {
-  finds = λ d s h. load_faulted (own_view c.args.own.now) d c.args.width c.args.at s c.args.memory.now h c.page_fault.result c.page_fault.ensures.trap (sym c.in_default.ensures.value);
-}
-
-pub physical-requires : goal.physical-requires
-physical-requires c =
-    let f = c.in-Some.frame in
-    let within : f < c.args.memory.now.frames = c.requires.held.each (record { frames = 0; base = 0 }) f (c.in-Some.ensures.own (record { frames = 0; base = 0 })) in
-    record { frame = omega (arith, c.requires.held.few) }
+pub returns-in_err-frame : goal.returns-in_err-frame
+returns-in_err-frame c =
+    let e = err_from_is_err_and c.from_residual.result c.from_residual.ensures.1 in
+    record {
+      finds = λ p same d s h. rw (e.1, e.2) (load_faulted p (own_view c.args.own.now) d c.args.width c.args.at s c.args.memory.now c.in_err-frame.field-0.0 (c.in_err-frame.ensures.finds p same d s h));
+    }
 
 pub read-requires-clause-within : goal.read-requires-clause-within
-read-requires-clause-within c =
-    let f = c.in-Some.frame in
-    let within : f < c.args.memory.now.frames = c.requires.held.each (record { frames = 0; base = 0 }) f (c.in-Some.ensures.own (record { frames = 0; base = 0 })) in
-    omega (arith, c.physical.ensures.frame)
+read-requires-clause-within c = rw c.physical.ensures.frame c.in_ok-frame.ensures.within
 
 pub read-requires-clause-aligned : goal.read-requires-clause-aligned
 read-requires-clause-aligned c = load_aligned c.args.width c.physical.result c.args.at c.physical.ensures.low c.requires.aligned
 
 pub returns : goal.returns
 returns c = record {
-  finds = λ d s h. load_found (own_view c.args.own.now) d c.args.width c.args.at s c.args.memory.now h c.in-Some.frame c.read.result c.physical.result (sym c.in-Some.ensures.value)
+  finds = λ p same d s h. load_found p (own_view c.args.own.now) d c.args.width c.args.at s c.args.memory.now c.in_ok-frame.frame c.read.result c.physical.result (c.in_ok-frame.ensures.finds p same d s h)
       c.physical.ensures.frame c.physical.ensures.place c.physical.ensures.low c.read.ensures.value;
 }

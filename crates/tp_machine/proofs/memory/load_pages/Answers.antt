@@ -6,7 +6,7 @@ use Rattle.image_check.specs.Public.{Public}
 use Rattle.world_view.specs.Image.{image_from}
 use Rattle.world_view.specs.Opening.{all_placed}
 use Rattle.tp_machine.proofs.Loading.{owns_none, owns_more}
-use Rattle.tp_machine.proofs.Pages.{held_at}
+use Rattle.tp_machine.proofs.Pages.{held_at, sound_at}
 use Rattle.tp_machine.proofs.memory.load_pages.Goals as goal
 
 pub loop-left-init : goal.loop-left-init
@@ -20,11 +20,15 @@ loop-left-init c =
       holds = subst (Holds c.in_ok-memory.memory) (sym (owns_none owns c.public-public.result.now.domains (omega arith))) c.in_ok-memory.ensures.holds;
     }
 
-pub place_segments-requires : goal.place_segments-requires
-place_segments-requires c =
+pub place_domain-requires : goal.place_domain-requires
+place_domain-requires c =
     let k : ℕ = c.loop-left.left - 1 in
+    let i = image_from c.args.image.now in
     let below : k < length (owns_of c.args.image.now) = omega (arith, c.loop-left.invariant.within) in
-    record { held = held_at (image_from c.args.image.now) c.runnable.ensures k below c.own.result.now c.loop-left.memory.frames c.own.ensures c.loop-left.invariant.frames }
+    record {
+      held = held_at i c.runnable.ensures k below c.own.result.now c.loop-left.memory.frames c.own.ensures c.loop-left.invariant.frames;
+      sound = sound_at i c.runnable.ensures k below c.own.result.now c.own.ensures;
+    }
 
 pub loop-left-preserved : goal.loop-left-preserved
 loop-left-preserved c =
@@ -35,6 +39,6 @@ loop-left-preserved c =
     let before : Holds c.loop-left.memory (all_placed (drop (k + 1) owns)) = rw next c.loop-left.invariant.holds in
     record {
       within = omega (arith, c.loop-left.invariant.within);
-      frames = c.place_segments.ensures.frames ∙ c.loop-left.invariant.frames;
-      holds = subst (Holds c.place_segments.new.memory) (owns_more owns k below) (rw c.own.ensures at (c.place_segments.ensures.placed (all_placed (drop (k + 1) owns)) before));
+      frames = c.place_domain.ensures.frames ∙ c.loop-left.invariant.frames;
+      holds = subst (Holds c.place_domain.new.memory) (owns_more owns k below) (rw c.own.ensures at (c.place_domain.ensures.placed (all_placed (drop (k + 1) owns)) before));
     }

@@ -1,12 +1,11 @@
 use Rattle.std.proofs.Common.{◌≡◌}
 use Rattle.phys_mem.specs.Holds.{Holds}
 use Rattle.phys_mem.specs.Mem.{Mem}
-use Rattle.world_view.specs.Opening as spec
 use Rattle.tp_machine.proofs.Loading.{filled}
-use Rattle.tp_machine.proofs.memory.place_page.Given as goal
+use Rattle.tp_machine.proofs.memory.place_frame.Given as goal
 
 abbrev pub invariant-loop-i : goal.invariant-loop-i
-invariant-loop-i l = record {
-  placed : (m : Mem) → Holds l.fn.memory m → Holds l.memory (filled m l.frame (spec.word_of l.bytes) l.i);
+invariant-loop-i g l = record {
+  placed : (m : Mem) → Holds l.fn.memory m → Holds l.memory (filled m l.frame (g.W.Words.words l.words) l.i);
   frames : l.memory.frames ≡ l.fn.memory.frames;
 }

@@ -1,33 +1,53 @@
-use Rattle.std.proofs.Common.{◌≡◌, ◌+◌, ◌-◌, length, min, take, drop, suc, ap, ◌∙◌, rules, arith}
+use Rattle.std.proofs.Common.{◌≡◌, ◌+◌, ◌-◌, ◌<◌, ℕ, length, min, take, drop, suc, ap, subst, ◌∙◌, rules, arith}
 use Rattle.tp_base.specs.Table.{put}
+use Rattle.phys_mem.specs.Holds.{Holds}
 use Rattle.phys_mem.specs.Mem.{Mem}
-use Rattle.world_view.specs.Opening.{page_frame, pages_placed}
+use Rattle.image_check.specs.Views.{own_view}
+use Rattle.world_view.specs.Frames.{page_frame}
+use Rattle.world_view.specs.Opening.{page_words, pages_placed}
+use Rattle.world_view.proofs.CodeLaws.{at-page_words}
 use Rattle.tp_machine.proofs.Loading.{take_front, drop_front, finished, went_on, no_page, one_page}
 use Rattle.tp_machine.proofs.memory.place_segment.Goals as goal
 
-pub loop-page-preserved : goal.loop-page-preserved
-loop-page-preserved c =
-    let first = c.args.first in
+pub place_frame-requires-clause-frame : goal.place_frame-requires-clause-frame
+place_frame-requires-clause-frame c =
     let s = c.args.segment.now in
-    let k = c.loop-page.page in
-    let rest = c.loop-page.rest.now in
+    let k = c.loop-i.i in
+    let below : k < s.pages = search rules in
+    let low = c.requires.pages.each (s.page + k) (omega arith) (omega (arith, below)) in
+    omega (arith, low, c.page_frame-frame.ensures.value, c.requires.held.all, c.loop-i.invariant.frames)
+
+pub place_frame-requires-clause-few : goal.place_frame-requires-clause-few
+place_frame-requires-clause-few c = omega (arith, c.requires.held.few, c.loop-i.invariant.frames)
+
+pub loop-i-preserved : goal.loop-i-preserved
+loop-i-preserved c =
+    let o = own_view c.args.own.now in
+    let s = c.args.segment.now in
+    let k = c.loop-i.i in
+    let n = s.page + k in
+    let rest = c.loop-i.rest.now in
+    let bytes = c.split_at.result.0.now in
     let size : c.min.result ≡ min (length rest) 4096 = search rules in
-    let front : c.split_at.result.0.now ≡ take 4096 rest = c.split_at.ensures.front ∙ ap (λ n. take n rest) size ∙ take_front 4096 rest in
-    let back : c.split_at.result.1.now ≡ drop 4096 rest = c.split_at.ensures.back ∙ ap (λ n. drop n rest) size ∙ drop_front 4096 rest in
-    let next : first + (k + 1) ≡ first + k + 1 = omega arith in
+    let front : bytes ≡ take 4096 rest = c.split_at.ensures.front ∙ ap (λ i. take i rest) size ∙ take_front 4096 rest in
+    let back : c.split_at.result.1.now ≡ drop 4096 rest = c.split_at.ensures.back ∙ ap (λ i. drop i rest) size ∙ drop_front 4096 rest in
+    let next : s.page + (k + 1) ≡ n + 1 = omega arith in
     let some : s.pages - k ≡ suc (s.pages - (k + 1)) = omega arith in
-    let more : (m : Mem) → pages_placed (first + k) (s.pages - k) rest m ≡ pages_placed (first + (k + 1)) (s.pages - (k + 1)) c.split_at.result.1.now (put m (first + k) (page_frame c.split_at.result.0.now)) =
-    λ m. rw (front, back, next) (one_page (first + k) (s.pages - k) (s.pages - (k + 1)) rest some m) in
+    let more : (m : Mem) → pages_placed o n (s.pages - k) rest m ≡ pages_placed o (s.page + (k + 1)) (s.pages - (k + 1)) c.split_at.result.1.now (put m (page_frame o n) (page_words bytes)) =
+    λ m. rw (front, back, next) (one_page o n (s.pages - k) (s.pages - (k + 1)) rest some m) in
+    let moved : (m : Mem) → Holds c.loop-i.memory m → Holds c.place_frame.new.memory (put m (page_frame o n) (page_words bytes)) =
+    λ m h. subst (λ (f : ℕ). Holds c.place_frame.new.memory (put m f (page_words bytes))) c.page_frame-frame.ensures.value (c.place_frame.ensures.placed m (page_words bytes) h (λ i below. at-page_words bytes i)) in
     record {
-      placed = λ m h. went_on c.loop-page.memory c.place_page.new.memory (pages_placed (first + k) (s.pages - k) rest) (pages_placed (first + (k + 1)) (s.pages - (k + 1)) c.split_at.result.1.now)
-          (λ x. put x (first + k) (page_frame c.split_at.result.0.now)) (pages_placed first s.pages s.bytes.items m) more c.place_page.ensures.placed (c.loop-page.invariant.placed m h);
-      frames = c.place_page.ensures.frames ∙ c.loop-page.invariant.frames;
+      placed = λ m h. went_on c.loop-i.memory c.place_frame.new.memory (pages_placed o n (s.pages - k) rest) (pages_placed o (s.page + (k + 1)) (s.pages - (k + 1)) c.split_at.result.1.now)
+          (λ x. put x (page_frame o n) (page_words bytes)) (pages_placed o s.page s.pages s.bytes.items m) more moved (c.loop-i.invariant.placed m h);
+      frames = c.place_frame.ensures.frames ∙ c.loop-i.invariant.frames;
     }
 
 pub returns-clause-placed : goal.returns-clause-placed
 returns-clause-placed c m h =
-    let first = c.args.first in
+    let o = own_view c.args.own.now in
     let s = c.args.segment.now in
-    let k = c.loop-page.page in
-    let end : s.pages - k ≡ 0 = omega arith in
-    finished c.loop-page.memory (pages_placed (first + k) (s.pages - k) c.loop-page.rest.now) (pages_placed first s.pages s.bytes.items m) (no_page (first + k) (s.pages - k) c.loop-page.rest.now end) (c.loop-page.invariant.placed m h)
+    let n = s.page + c.loop-i.i in
+    let left = s.pages - c.loop-i.i in
+    let end : left ≡ 0 = omega arith in
+    finished c.loop-i.memory (pages_placed o n left c.loop-i.rest.now) (pages_placed o s.page s.pages s.bytes.items m) (no_page o n left c.loop-i.rest.now end) (c.loop-i.invariant.placed m h)

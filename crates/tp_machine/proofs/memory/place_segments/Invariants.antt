@@ -1,15 +1,13 @@
-use Rattle.std.proofs.Common.{◌≡◌, ◌+◌, map, drop}
+use Rattle.std.proofs.Common.{◌≡◌, map, drop}
 use Rattle.phys_mem.specs.Holds.{Holds}
 use Rattle.phys_mem.specs.Mem.{Mem}
 use Rattle.image_check.specs.Views.{segment_view, own_view}
-use Rattle.world_view.specs.Image.{pages_in}
 use Rattle.world_view.specs.Opening as spec
 use Rattle.tp_machine.proofs.Loading.{Placing}
 use Rattle.tp_machine.proofs.memory.place_segments.Given as goal
 
 abbrev pub invariant-loop-segment : goal.invariant-loop-segment
 invariant-loop-segment l = record {
-  placed : (m : Mem) → Holds l.fn.memory m → Placing l.memory (spec.segments_placed l.frame (map segment_view (drop l.segment-index l.own.segments.items))) (spec.placed (own_view l.own) m);
-  pages : l.frame + pages_in (map segment_view (drop l.segment-index l.own.segments.items)) ≡ l.own.first_frame + pages_in (map segment_view l.own.segments.items);
+  placed : (m : Mem) → Holds l.fn.memory m → Placing l.memory (spec.segments_placed (own_view l.own) (map segment_view (drop l.segment-index l.own.segments.items))) (spec.segments_placed (own_view l.own) (map segment_view l.own.segments.items) m);
   frames : l.memory.frames ≡ l.fn.memory.frames;
 }

@@ -5,21 +5,21 @@ use Rattle.tp_machine.proofs.slot.loaded.Goals as goal
 
 pub returns-in-Load : goal.returns-in-Load
 returns-in-Load c = record {
-  answers = λ s readings replies h.
+  answers = λ p s readings replies same h.
       let d = dom_view c.args.domain.now readings replies in
-      loaded_load (own_view c.args.own.now) c.args.now d c.args.instr s c.args.memory.now c.in-Load.width c.in-Load.rd c.in-Load.rs1 c.in-Load.offset c.args.at c.load.result
-      c.in-Load.is c.requires.address (c.load.ensures.finds d s h);
+      loaded_load p (own_view c.args.own.now) c.args.now d c.args.instr s c.args.memory.now c.in-Load.width c.in-Load.rd c.in-Load.rs1 c.in-Load.offset c.args.at c.load.result
+      c.in-Load.is c.requires.address (c.load.ensures.finds p same d s h);
 }
 
 pub returns-in-ReadCounter : goal.returns-in-ReadCounter
 returns-in-ReadCounter c = record {
-  answers = λ s readings replies h.
-      loaded_counter (own_view c.args.own.now) c.args.now (dom_view c.args.domain.now readings replies) c.args.instr s c.args.memory.now c.in-ReadCounter.counter c.in-ReadCounter.rd c.counter_value.result
+  answers = λ p s readings replies same h.
+      loaded_counter p (own_view c.args.own.now) c.args.now (dom_view c.args.domain.now readings replies) c.args.instr s c.args.memory.now c.in-ReadCounter.counter c.in-ReadCounter.rd c.counter_value.result
       h c.in-ReadCounter.is (c.counter_value.ensures.value readings replies);
 }
 
 pub returns-in_default : goal.returns-in_default
 returns-in_default c = record {
-  answers = λ s readings replies h.
-      loaded_other (own_view c.args.own.now) c.args.now (dom_view c.args.domain.now readings replies) c.args.instr s c.args.memory.now h c.in_default.not-Load c.in_default.not-ReadCounter;
+  answers = λ p s readings replies same h.
+      loaded_other p (own_view c.args.own.now) c.args.now (dom_view c.args.domain.now readings replies) c.args.instr s c.args.memory.now h c.in_default.not-Load c.in_default.not-ReadCounter;
 }

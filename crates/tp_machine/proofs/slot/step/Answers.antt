@@ -6,7 +6,7 @@ use Rattle.tp_machine.proofs.slot.step.Goals as goal
 pub returns-in-Running-clause-becomes : goal.returns-in-Running-clause-becomes
 returns-in-Running-clause-becomes c =
     moves_running (hardware_view c.args.hardware.now) (own_view c.args.own.now) c.args.end c.args.memory.now c.run_instruction.new.memory c.args.domain.now c.run_instruction.new.domain c.args.now (c.args.now + c.from.result)
-    c.in-Running.is (c.run_instruction.ensures.leaves (hardware_view c.args.hardware.now)) (ap (λ n. c.args.now + n) c.from.ensures)
+    c.in-Running.is (c.run_instruction.ensures.leaves (hardware_view c.args.hardware.now) c.requires.held) (ap (λ n. c.args.now + n) c.from.ensures)
 
 pub returns-in_default : goal.returns-in_default
 returns-in_default c = record {

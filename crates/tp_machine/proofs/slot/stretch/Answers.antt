@@ -1,11 +1,10 @@
-use Rattle.std.proofs.Common.{sym, subst, ◌∙◌, arith}
+use Rattle.std.proofs.Common.{sym, ◌∙◌, arith}
 use Rattle.image_check.specs.Views.{own_view, hardware_view}
-use Rattle.tp_machine.specs.Stands.{HasFrames}
 use Rattle.tp_machine.proofs.Moved.{goes_on, moves_over}
 use Rattle.tp_machine.proofs.slot.stretch.Goals as goal
 
 pub step-clock-requires-clause-held : goal.step-clock-requires-clause-held
-step-clock-requires-clause-held c = subst (HasFrames (own_view c.args.own.now)) (sym c.loop-clock.invariant.frames) c.requires.held
+step-clock-requires-clause-held c = c.requires.held ∙ sym c.loop-clock.invariant.frames
 
 pub loop-clock-preserved : goal.loop-clock-preserved
 loop-clock-preserved c = record {

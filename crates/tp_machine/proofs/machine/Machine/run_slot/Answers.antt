@@ -9,7 +9,6 @@ use Rattle.tp_machine.specs.Moves.{Moves}
 use Rattle.tp_machine.specs.Usage.{IsUsed, CountedUpTo}
 use Rattle.world_view.proofs.Separate.{separated}
 use Rattle.world_view.proofs.TimeLaws.{on_time}
-use Rattle.tp_machine.proofs.Pages.{held_at}
 use Rattle.tp_machine.proofs.SwitchCounts.{noted_back, counted_back, length_back}
 use Rattle.tp_machine.proofs.Slots.{schedule_long, entry_read, domain_named, length_short, pad_short, counts_later, stands_next, in_bounds_next}
 use Rattle.tp_machine.proofs.machine.Machine.run_slot.Goals as goal
@@ -54,11 +53,8 @@ overflow_add-self c =
 pub stretch-self-requires-clause-held : goal.stretch-self-requires-clause-held
 stretch-self-requires-clause-held c =
     let m = c.args.self.now in
-    let i = image_from m.image.now in
     let p = c.public-public.result.now in
-    let entries : c.len-entries.result ≡ length p.schedule.items = search rules in
-    let named = domain_named i m.accepted p c.public-public.ensures m.slots c.len-entries.result c.index-entry.result.now entries c.index-entry.ensures in
-    held_at i m.accepted c.from-d.result (omega (arith, named, c.from-d.ensures)) c.own.result.now m.memory.frames c.own.ensures m.stands.frames
+    ap (λ (q : spec.Public). q.hardware.frames) c.public-public.ensures ∙ sym m.stands.frames
 
 pub stretch-self-requires-clause-end : goal.stretch-self-requires-clause-end
 stretch-self-requires-clause-end c =

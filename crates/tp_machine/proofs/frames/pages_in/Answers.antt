@@ -1,6 +1,6 @@
 use Rattle.std.proofs.Common.{◌≡◌, ◌<◌, ◌≤◌, length, get_or, rules, arith}
 use Rattle.tp_machine.proofs.Pages.{pages_more, pages_none}
-use Rattle.tp_machine.proofs.machine.pages_of.Goals as goal
+use Rattle.tp_machine.proofs.frames.pages_in.Goals as goal
 
 pub overflow_add-pages : goal.overflow_add-pages
 overflow_add-pages c =

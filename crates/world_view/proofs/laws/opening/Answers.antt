@@ -1,0 +1,11 @@
+use Rattle.world_view.proofs.Separate.{separated}
+use Rattle.world_view.proofs.OpenedWalks.{opened_page, opened_refused, opened_nowhere, pages_apart}
+use Rattle.world_view.proofs.laws.opening.Goals as goal
+
+pub returns : goal.returns
+returns c = record {
+  page = λ i d va a q r is fits e given. opened_page i (separated i r) d is va a q fits e given;
+  rights = λ i d va a q r is fits e refused. opened_refused i (separated i r) d is va a q fits e refused;
+  no_page = λ i d va a r is fits e. opened_nowhere i (separated i r) d is va a fits e;
+  frames = pages_apart;
+}

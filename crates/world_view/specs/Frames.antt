@@ -1,0 +1,60 @@
+-- In which frames a domain's page tables and pages stand: its root, then a table for each region that has a page, by
+-- ascending regions, then its pages, by ascending numbers. A page's number is its address divided by 4,096; region r is
+-- the 4 MiB of the pages from 1,024 * r on.
+use Rattle.std.specs.Prelude.{ℕ, zero, suc, ◌+◌, ◌-◌, ◌*◌, ◌&&◌, ◌||◌, min, nat_le, nat_lt, Bool, false, if◌then◌else◌, List, [], ◌∷◌}
+use Rattle.image_check.specs.Public.{Hardware}
+use Rattle.image_check.specs.Own.{Segment, Own}
+
+-- ---- what a domain has
+
+-- the page is one of the segment's
+abbrev pub has_page : Segment → ℕ → Bool
+has_page s n = nat_le s.page n && nat_lt n (s.page + s.pages)
+
+-- some page of the segment lies in the region
+abbrev pub meets : Segment → ℕ → Bool
+meets s r = nat_lt s.page (1024 * r + 1024) && nat_lt (1024 * r) (s.page + s.pages)
+
+-- some page lies in the region
+unfoldable pub has_region : List Segment → ℕ → Bool
+has_region [] r = false
+has_region (s ∷ ss) r = meets s r || has_region ss r
+
+-- ---- how many there are
+
+-- regions below r that have a page
+unfoldable pub regions_below : List Segment → ℕ → ℕ
+regions_below ss zero = 0
+regions_below ss (suc r) = regions_below ss r + (if has_region ss r then 1 else 0)
+
+-- pages below page n
+unfoldable pub pages_below : List Segment → ℕ → ℕ
+pages_below [] n = 0
+pages_below (s ∷ ss) n = min s.pages (n - s.page) + pages_below ss n
+
+abbrev pub regions_in : List Segment → ℕ
+regions_in ss = regions_below ss 1024
+
+unfoldable pub pages_in : List Segment → ℕ
+pages_in [] = 0
+pages_in (s ∷ ss) = s.pages + pages_in ss
+
+abbrev pub frames_in : List Segment → ℕ
+frames_in ss = 1 + regions_in ss + pages_in ss
+
+-- ---- where they stand; the root stands in the first frame
+
+-- the table of a region
+abbrev pub table_frame : Own → ℕ → ℕ
+table_frame o r = o.first_frame + 1 + regions_below o.segments r
+
+-- the least frame of a page
+abbrev pub first_page_frame : Own → ℕ
+first_page_frame o = o.first_frame + 1 + regions_in o.segments
+
+abbrev pub page_frame : Own → ℕ → ℕ
+page_frame o n = first_page_frame o + pages_below o.segments n
+
+-- whether a frame is of the domain's pool
+abbrev pub own_frame : Hardware → Own → ℕ → Bool
+own_frame p o f = nat_le o.first_frame f && nat_lt f (o.first_frame + frames_in o.segments)
