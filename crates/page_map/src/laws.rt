@@ -1,13 +1,14 @@
 //! Laws of the definitions: what a caller may rely on after each call. The
 //! premises are the conditions of the call, and that it is not refused.
-ghost use Rattle.std.specs.Prelude.{◌≡◌, ◌≢◌, ℕ, ◌/◌, ◌^◌, ◌<◌, Bool, true, false, Ok, Err, IfOk};
+ghost use Rattle.std.specs.Prelude.{◌≡◌, ◌≢◌, ℕ, ◌/◌, ◌^◌, ◌<◌, Bool, true, false, Ok, Err, Some, IfOk, IfErr};
 ghost use Rattle.tp_base.specs.Table.{empty};
 ghost use Rattle.phys_mem.specs.Mem.{Mem};
+ghost use Rattle.phys_mem.specs.Holds.{Holds};
 ghost use Rattle.sv32_walk.specs.declared.access.Access.{Access};
 ghost use Rattle.sv32_walk.specs.Entry.{ppn};
 ghost use Rattle.sv32_walk.specs.Walk.{walk};
 ghost use Rattle.page_map.specs.Words.{are_good, give, leaf_word};
-ghost use Rattle.page_map.specs.Tables.{IsPageMap, IsNoTable, IsBlank, StandsWith, has_table, has_page};
+ghost use Rattle.page_map.specs.Tables.{IsPageMap, IsNoTable, IsBlank, StandsWith, has_table, has_page, map_refusal};
 ghost use Rattle.page_map.specs.Changes.{mapped, unmapped, installed, uninstalled, CanMap, CanUnmap, CanInstall, CanUninstall};
 ghost use Rattle.page_map.specs.Reached.{IsIn, PagesIn, ReachesIn, IsSealed};
 
@@ -141,6 +142,8 @@ pub fn map_and_walk(
     requires frame { frame < mem.old.frames }
     requires no_root { frame ≢ map.old }
     requires rights { are_good rights ≡ true }
+    ensures refused { (m : Mem) → Holds mem.old m → IfErr result (λ refusal. map_refusal m map.old va ≡ Some refusal) }
+    ensures mapped { (m : Mem) → Holds mem.old m → IfOk result (λ end. Holds mem.new (mapped m map.old va frame rights)) }
     ensures leaf { IfOk result (λ end. give rights access ≡ true → end ≡ Ok (leaf_word frame rights)) }
     ensures fault { IfOk result (λ end. give rights access ≡ false → end ≡ Err WalkFault.Page) }
 {

@@ -1,15 +1,16 @@
 -- Walks of a domain's page tables stay in its own frames, as long as its tables are as they were.
-use Rattle.std.proofs.Common.{◌≡◌, ℕ, ◌+◌, ◌/◌, ◌<◌, ◌≤◌, true, false, inl, inr, refl, sym, ap, subst, ◌∙◌, arith, IsTrue, true≢false}
-use Rattle.std.specs.Prelude.{Ok}
+use Rattle.std.proofs.Common.{◌≡◌, ◌≢◌, ℕ, ◌+◌, ◌/◌, ◌<◌, ◌≤◌, true, false, inl, inr, refl, sym, ap, subst, ◌∙◌, arith, IsTrue, true≢false}
+use Rattle.std.specs.Prelude.{Ok, Err}
 use Rattle.std.proofs.lemmas.Bool.{cases_Bool, le-leb, lt-ltb}
 use Rattle.tp_base.specs.Table.{at}
 use Rattle.phys_mem.specs.Mem.{Mem, Frame, frame_at, word}
 use Rattle.sv32_walk.specs.declared.access.Access.{Access}
 use Rattle.sv32_walk.specs.declared.access.Access.TheVariants as access
+use Rattle.sv32_walk.specs.declared.access.WalkFault.TheVariants as fault
 use Rattle.sv32_walk.specs.Entry.{valid, ppn, vpn_0, vpn_1}
 use Rattle.sv32_walk.specs.Walk.{walk, is_leaf, permits, entry_address}
-use Rattle.sv32_walk.specs.Translation.{Points, first_entry, HasLeaf, big, small}
-use Rattle.sv32_walk.proofs.WalkLemmas.{leaf_in_words, both_read}
+use Rattle.sv32_walk.specs.Translation.{Points, first_entry, HasLeaf, big, small, LeavesMemory, root_outside, table_outside, big_outside, page_outside}
+use Rattle.sv32_walk.proofs.WalkLemmas.{leaf_in_words, outside_in_words, both_read}
 use Rattle.page_map.specs.Tables.{IsPointer, has_table, table_of}
 use Rattle.page_map.specs.Reached.{leaf_at}
 use Rattle.page_map.proofs.WalkLemmas.{no_entry, walk_same, vpn_0-below, vpn_1-below}
@@ -115,6 +116,19 @@ module _ (p : Hardware) (o : Own) (m : Mem) (g : Good p o m) (va : ℕ) (a : Acc
   -- and comes to a page of the domain
   pub walk_page : (leaf : ℕ) → (walk m p.frames o.first_frame va a).result ≡ Ok leaf → IsPageFrame o (ppn leaf)
   walk_page leaf e = page_of_leaf leaf ((leaf_in_words m p.frames o.first_frame va a leaf).0 e)
+
+  within_memory : o.first_frame + frames_in o.segments ≤ p.frames → LeavesMemory m p.frames o.first_frame va a → ⊥
+  within_memory held (root_outside past) = absurd (omega (arith, held, past))
+  within_memory held (table_outside in_root q past) = let table = (pointer q.is_valid).in_memory in absurd (omega (arith, table, past))
+  within_memory held (big_outside b past) =
+      true≢false (sym b.allowed.permission ∙ pointer_permits (first_entry m o.first_frame va) a (points b.allowed.is_valid))
+  within_memory held (page_outside q past) =
+      let page = g.pages.each (vpn_1 va) (vpn_0 va) (vpn_1-below va) (vpn_0-below va) q.pointer.is_valid q.allowed.is_valid in
+      absurd (omega (arith, page.1, held, past))
+
+  -- within memory
+  pub walk_inside : o.first_frame + frames_in o.segments ≤ p.frames → (walk m p.frames o.first_frame va a).result ≢ Err fault.Access
+  walk_inside held e = within_memory held ((outside_in_words m p.frames o.first_frame va a).0 e)
 
   -- so it is the same wherever these frames are
   pub walk_alike : (k : Mem) → SameFrames p o m k → walk k p.frames o.first_frame va a ≡ walk m p.frames o.first_frame va a

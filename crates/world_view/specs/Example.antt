@@ -1,8 +1,10 @@
 -- Worked runs, computed from the definitions alone. In the first each domain prints a byte and exits; in the second it reads the clock before and after it prints.
-use Rattle.std.specs.Prelude.{◌≡◌, ℕ, true, false, List, [], ◌∷◌, codes, refl, slice_set, ◌+◌}
+use Rattle.std.specs.Prelude.{◌≡◌, ℕ, true, false, Ok, Err, List, [], ◌∷◌, codes, refl, slice_set, ◌+◌, ◌*◌}
 use Rattle.tp_base.specs.Table.{empty, at, put}
 use Rattle.tp_base.specs.Act.{go_on, ◌>>=◌, ◌>>◌, give, stop, note, either}
 use Rattle.phys_mem.specs.Mem.{frame_at, word, written}
+use Rattle.sv32_walk.specs.declared.access.Access.TheVariants as access
+use Rattle.sv32_walk.specs.declared.access.WalkFault.TheVariants as fault
 use Rattle.sv32_walk.specs.Entry.{bit, ppn, ppn_0, ppn_1, with_ppn, vpn_0, vpn_1}
 use Rattle.sv32_walk.specs.Walk.{leaf, superpage, first_level, last_level, entry_address, from_table, from_entry, walk}
 use Rattle.page_map.specs.Words.{table_word, leaf_word, leaf_bits}
@@ -95,6 +97,35 @@ printed_in_time byte clock = record {
 pub everything : ℕ
 unfolding empty at put go_on ◌>>=◌ ◌>>◌ give stop note either start frame_at word written frame_words put_word tabled root_entry rights_in leaf_with leaf_entry root_placed table_placed tables_placed page_words pages_placed segments_placed placed all_placed has_region regions_below pages_below pages_in table_word leaf_word leaf_bits bit ppn ppn_0 ppn_1 with_ppn vpn_0 vpn_1 leaf superpage first_level last_level entry_address from_table from_entry walk opening_dom no_dom stopped trapped retired_at read_out replied exited put_byte called call reach and_then reach_all touch frame_or_stop translate address_in read write unless load store loaded noted settle execute perform instruction event paid happened step steps leave_part prefetch_part flush_part enter_part switch_work with_part switch run_slot opening_doms opening whole alone_opening alone_enter alone_in alone_out alone_if alone log_of pool view view_whole view_alone memory_sum count_of largest_of two_domains
 everything = 0
+
+-- ---- the memory that it opens with
+
+-- blue's root points to the table in the next frame, whose entry for page 16 is a leaf to read and to execute
+pub blue_table : word (whole prints 0).store.mem 1057 0 ≡ 1058 * 1024 + 0x01
+unfolding everything
+blue_table = refl
+
+pub blue_leaf : word (whole prints 0).store.mem 1058 16 ≡ 1059 * 1024 + 0x5b
+unfolding everything
+blue_leaf = refl
+
+pub blue_code : word (whole prints 0).store.mem 1059 0 ≡ 0x04200513
+unfolding everything
+blue_code = refl
+
+-- so it fetches from its page and loads, and doesn't store
+pub blue_fetches : (walk (whole prints 0).store.mem 2114 1057 0x10004 access.Fetch).result ≡ Ok (1059 * 1024 + 0x5b)
+unfolding everything
+blue_fetches = refl
+
+pub blue_stores : (walk (whole prints 0).store.mem 2114 1057 0x10004 access.Store).result ≡ Err fault.Page
+unfolding everything
+blue_stores = refl
+
+-- and there is no page 17
+pub blue_past : (walk (whole prints 0).store.mem 2114 1057 0x11000 access.Load).result ≡ Err fault.Page
+unfolding everything
+blue_past = refl
 
 -- ---- the first run, of four slots
 

@@ -204,6 +204,11 @@ OpeningFramesLaw = (o : Own) (n m : ℕ) (r q : Rights) → rights_in o.segments
 abbrev pub ReachLaw : Type 0
 ReachLaw = (i : Image) (k d : ℕ) → Runnable i → IsDomain i d → Good i.all.hardware (own_of i d) (whole i k).store.mem
 
+-- so no walk leaves memory: there are page faults, and no access fault
+abbrev pub NoAccessFaultLaw : Type 0
+NoAccessFaultLaw = (i : Image) (k d va : ℕ) (a : Access) → Runnable i → IsDomain i d
+    → (walk (whole i k).store.mem i.all.hardware.frames (own_of i d).first_frame va a).result ≢ Err fault.Access
+
 -- every image that breaks no rule may be run
 abbrev pub ReadingLaw : Type 0
 ReadingLaw = (bytes : List ℕ) (i : Image) → image bytes ≡ Ok i → Runnable i

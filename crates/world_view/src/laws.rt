@@ -1,6 +1,6 @@
 //! Laws of the machine over its definitions, each the contract of a function
 //! that does nothing: a caller that calls it may rely on the law.
-ghost use Rattle.world_view.specs.Laws.{ReadingLaw, IsolationLaw, TwoRunLaw, ReportLaw, PadLaw, LinesLaw, StartLaw, InTimeLaw, OpeningPageLaw, OpeningRightsLaw, OpeningNoPageLaw, OpeningFramesLaw, ReachLaw, OthersStepLaw, OthersLeaveLaw, OthersEnterLaw, PrefetchLaw, FlushLaw, OwnStepLaw, SwitchOutLaw, SwitchInLaw, SwitchBothLaw, SwitchPastLaw, ResidencyLaw};
+ghost use Rattle.world_view.specs.Laws.{ReadingLaw, IsolationLaw, TwoRunLaw, ReportLaw, PadLaw, LinesLaw, StartLaw, InTimeLaw, OpeningPageLaw, OpeningRightsLaw, OpeningNoPageLaw, OpeningFramesLaw, ReachLaw, NoAccessFaultLaw, OthersStepLaw, OthersLeaveLaw, OthersEnterLaw, PrefetchLaw, FlushLaw, OwnStepLaw, SwitchOutLaw, SwitchInLaw, SwitchBothLaw, SwitchPastLaw, ResidencyLaw};
 
 /// Every image of the form that is read may be run, and its numbers are within the limits.
 pub fn reading()
@@ -34,9 +34,11 @@ pub fn opening()
 {}
 
 /// Each domain's page tables reach its own frames alone, before and after each
-/// slot: so much holds of the one memory in which all tables stand.
+/// slot: so much holds of the one memory in which all tables stand. So no walk
+/// of theirs is an access fault.
 pub fn reach()
     ensures own { ReachLaw }
+    ensures no_access_fault { NoAccessFaultLaw }
 {}
 
 /// An event of another domain, and each phase of a switch, leaves a domain as it was.

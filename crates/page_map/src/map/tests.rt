@@ -43,6 +43,19 @@ fn map_page(
     map.map(mem, va, FrameNo::new(frame), rights)
 }
 
+// Maps a page and loads from it.
+fn map_and_load(
+    mem: &mut PhysMem,
+    map: &mut PageMap,
+    va: u32,
+    frame: u32,
+) -> Result<Result<u32, WalkFault>, MapRefusal>
+    requires bench { IsBench mem.old map.old frame }
+    requires few { frame < 60 }
+{
+    laws::map_and_walk(map, mem, va, FrameNo::new(frame), 1, Access::Load)
+}
+
 // A fetch, a load and a store at an address.
 fn walks(mem: &PhysMem, map: &PageMap, va: u32) -> [Result<u32, WalkFault>; 3] {
     let root = map.root().number();
@@ -128,6 +141,10 @@ fn refusals(rt: HostRuntime) -> Result<(), Memory> {
     );
     assert_eq!(rt; walks(&mem, &map, 0x0040_5000), [Ok(0x1cdf); 3]);
     assert_eq!(rt; walks(&mem, &map, 0x0040_6000), [Err(WalkFault::Page); 3]);
+    assert_eq!(rt;
+        map_and_load(&mut mem, &mut map, 0x0040_6000, 7),
+        Ok(Ok(0x1c53))
+    );
     Ok(())
 }
 

@@ -19,6 +19,8 @@ returns c =
     let root : c.number.result ≡ c.args.map.now = search rules in
     let ends = rw (root, c.map.ensures.frames) at sees in
     record {
+      refused = λ m h. tt;
+      mapped = λ m h. c.in_ok-map.ensures.mapped m h;
       leaf = λ given. ends ∙ mapped_leaf t.mem c.args.map.now c.args.mem.now.frames c.args.va c.args.frame c.args.rights c.args.va c.args.access can refl given;
       fault = λ refused. ends ∙ mapped_fault t.mem c.args.map.now c.args.mem.now.frames c.args.va c.args.frame c.args.rights c.args.va c.args.access can refl refused;
     }
