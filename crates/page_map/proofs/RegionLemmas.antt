@@ -25,9 +25,9 @@ other_region at va at_fits fits apart e = apart (omega arith)
 
 module _ (mem : Mem) (root frames va value : ℕ) (k : IsPageMap mem root frames) where
   -- an address of another region
-  pub elsewhere : (at : ℕ) (access : Access) → at < 2 ^ 32 → vpn_1 at ≢ vpn_1 va
+  pub elsewhere : (at : ℕ) (access : Access) → vpn_1 at ≢ vpn_1 va
       → walk (written mem root (vpn_1 va) value) frames root at access ≡ walk mem frames root at access
-  elsewhere at access fits apart =
+  elsewhere at access apart =
       let new : Mem = written mem root (vpn_1 va) value in
       let first : first_entry new root at ≡ first_entry mem root at = word-written_place mem root (vpn_1 va) value (vpn_1 at) apart in
       elim (bool_cases (has_table mem root at)) [
@@ -73,13 +73,13 @@ module _ (mem : Mem) (root frames va : ℕ) where
       (subst (λ (f : ℕ). f < frames) (sym named) can.in_memory)
       ∙ last_invalid frames access (second_entry new root at) (not_valid _ second)
 
-  pub installed_same : (frame : ℕ) → CanInstall mem root frames va frame → (at : ℕ) (access : Access) → at < 2 ^ 32
+  pub installed_same : (frame : ℕ) → CanInstall mem root frames va frame → (at : ℕ) (access : Access)
       → (walk (installed mem root va frame) frames root at access).result ≡ (walk mem frames root at access).result
-  installed_same frame can at access fits = elim (cases_eq (vpn_1 at) (vpn_1 va)) [
+  installed_same frame can at access = elim (cases_eq (vpn_1 at) (vpn_1 va)) [
     | inl same ↦
         let none : has_table mem root at ≡ false =
         ap (λ (i : ℕ). valid (word mem root i)) same ∙ uninstalled_yet mem root va can.allowed in
         blank_fault frame can at access same
         ∙ sym (ap (λ (w : Walk). w.result) (no_entry mem frames root at access can.tables.in_memory none))
-    | inr apart ↦ ap (λ (w : Walk). w.result) (elsewhere mem root frames va (table_word frame) can.tables at access fits apart)
+    | inr apart ↦ ap (λ (w : Walk). w.result) (elsewhere mem root frames va (table_word frame) can.tables at access apart)
   ]

@@ -82,7 +82,6 @@ pub fn installing()
         → at < 2 ^ 32 → at / 4194304 ≢ va / 4194304
         → walk (installed m root va frame) frames root at access ≡ walk m frames root at access }
     ensures same { (m : Mem) (root frames va frame at : ℕ) (access : Access) → CanInstall m root frames va frame
-        → at < 2 ^ 32
         → (walk (installed m root va frame) frames root at access).result ≡ (walk m frames root at access).result }
 {}
 

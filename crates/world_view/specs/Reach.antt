@@ -3,7 +3,9 @@ use Rattle.std.specs.Prelude.{ℕ, ◌+◌, Bool, List, [], ◌∷◌}
 use Rattle.image_check.specs.Public.{Hardware}
 
 pub data Touch : Type 0 where
-  Look : ℕ → List ℕ → Bool → Touch  -- a page's translation is looked up: its number, the physical addresses of the entries that its walk reads, and whether it is found
+  -- a page's translation is looked up: its number, the physical addresses of the entries that its walk reads, and
+  -- whether it is found
+  Look : ℕ → List ℕ → Bool → Touch
   Fetch : ℕ → Touch  -- an instruction is fetched from this physical address
   Load : ℕ → Touch
   Store : ℕ → Touch

@@ -220,6 +220,28 @@ fn a_domain_stops_at_what_it_may_not_do(rt: HostRuntime) -> Result<(), Fail> {
     )
 }
 
+// One domain with three pages under two tables, and the later pages first: it
+// stores in the last page, loads from the one before, and stores past the last.
+const TWO_TABLES: &str =
+    "[[domain]]\nname = \"red\"\ncolours = []\nentry = 0x10000\nsegment = [{ page = 1023, pages = 2, rights = \"rw\", hex = \"01020304\" }, { page = 16, pages = 1, rights = \"rx\", hex = \"b70240001303100023a0620037f43f0083230400b714400023a06400\" }]\n[[schedule]]\ndomain = 0\nlength = 10000\npad = 6150\n";
+
+const TWO_TABLES_REPORT: &str =
+    "domain 0 red\nstatus stopped 15 pc 00010018 value 00401000\nretired 6\nthread 0 ready pc 00010018 x5=00400000 x6=00000001 x7=04030201 x8=003ff000 x9=00401000\nreadings 0\nreplies 0\nout 0\nmem 059eb28e\nswitch 0 used 0 pad 6150 count 1\nend\n";
+
+#[test]
+fn pages_are_reached_by_their_tables(rt: HostRuntime) -> Result<(), Fail> {
+    let alloc = rt.alloc();
+    let image = format!(in alloc; "{MACHINE}{TWO_TABLES}")?;
+    expect(
+        &rt,
+        alloc,
+        "tp run --slots 1",
+        image.as_bytes(),
+        Status::Done,
+        TWO_TABLES_REPORT,
+    )
+}
+
 // These words are no command, whatever the image.
 fn expect_usage(rt: &impl Abort, alloc: Global, line: &str) -> Result<(), Fail> {
     let prints = image(alloc, PRINTS_A, PRINTS_B)?;

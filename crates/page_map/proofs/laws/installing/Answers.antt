@@ -8,10 +8,10 @@ returns-clause-fault c = λ m root frames va frame at access can same.
 
 pub returns-clause-others : goal.returns-clause-others
 returns-clause-others c = λ m root frames va frame at access can fits apart.
-    elsewhere m root frames va (table_word frame) can.tables at access fits (other_region at va fits can.address apart)
+    elsewhere m root frames va (table_word frame) can.tables at access (other_region at va fits can.address apart)
 
 pub returns-clause-same : goal.returns-clause-same
-returns-clause-same c = λ m root frames va frame at access can fits. installed_same m root frames va frame can at access fits
+returns-clause-same c = λ m root frames va frame at access can. installed_same m root frames va frame can at access
 
 pub returns-clause-there : goal.returns-clause-there
 returns-clause-there c = λ m root frames va frame can. table_there m root frames va frame can.tables

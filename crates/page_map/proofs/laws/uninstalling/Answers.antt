@@ -7,7 +7,7 @@ returns-clause-fault c = λ m root frames va at access can same.
 
 pub returns-clause-others : goal.returns-clause-others
 returns-clause-others c = λ m root frames va at access can fits apart.
-    elsewhere m root frames va 0 can.tables at access fits (other_region at va fits can.address apart)
+    elsewhere m root frames va 0 can.tables at access (other_region at va fits can.address apart)
 
 pub returns-clause-gone : goal.returns-clause-gone
 returns-clause-gone c = λ m root frames va can. table_gone m root frames va can.tables
