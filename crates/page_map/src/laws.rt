@@ -142,6 +142,7 @@ pub fn map_and_walk(
     requires no_root { frame ≢ map.old }
     requires rights { are_good rights ≡ true }
     ensures refused { (m : Mem) → Holds mem.old m → IfErr result (λ refusal. map_refusal m map.old va ≡ Some refusal) }
+    ensures unchanged { IfErr result (λ refusal. mem.new ≡ mem.old) }
     ensures mapped { (m : Mem) → Holds mem.old m → IfOk result (λ end. Holds mem.new (mapped m map.old va frame rights)) }
     ensures leaf { IfOk result (λ end. give rights access ≡ true → end ≡ Ok (leaf_word frame rights)) }
     ensures fault { IfOk result (λ end. give rights access ≡ false → end ≡ Err WalkFault.Page) }

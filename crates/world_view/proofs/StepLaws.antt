@@ -36,7 +36,7 @@ module _ (p : Hardware) (o : Own) (end : ℕ) (first : Local) where
       subst₂ (λ (d : Dom) (t : ℕ). Beside p o first (happened p o false s (event end s.dom)) (happened p o true (record { dom = d; store = a.store; caches = a.caches; clock = t }) (event end d))) b.dom b.clock
       (happened_near s.dom s.clock s.store a.store s.caches a.caches (event end s.dom) b.store b.caches)
 
-  steps_near : (n : ℕ) (s a : Local) → Beside p o first s a → Beside p o first (steps p o false end n s) (steps p o true end n a)
+  pub steps_near : (n : ℕ) (s a : Local) → Beside p o first s a → Beside p o first (steps p o false end n s) (steps p o true end n a)
   unfolding steps
   steps_near zero s a b = b
   steps_near (suc n) s a b =

@@ -1,5 +1,5 @@
 -- The whole machine beside each domain alone, slot after slot.
-use Rattle.std.proofs.Common.{◌≡◌, ◌≢◌, ℕ, Bool, true, false, cond, eqb, zero, suc, List, [], ◌∷◌, ap, ap₂, sym, ◌∙◌, refl, subst, arith, true≢false, ◌⊎◌, inl, inr, eqb-true, eq-eqb, map, filter}
+use Rattle.std.proofs.Common.{◌≡◌, ◌≢◌, ℕ, Bool, true, false, cond, eqb, zero, suc, ◌-◌, List, [], ◌∷◌, ap, ap₂, sym, ◌∙◌, refl, subst, arith, true≢false, ◌⊎◌, inl, inr, eqb-true, eq-eqb, map, filter}
 use Rattle.std.proofs.lemmas.Bool.{cases_eq}
 use Rattle.std.specs.List.{range_with_len}
 use Rattle.tp_base.specs.Table.{at-put_other, at-put_same}
@@ -12,12 +12,12 @@ use Rattle.phys_mem.specs.Mem.{frame_at}
 use Rattle.world_view.specs.Opening.{frame_words}
 use Rattle.world_view.specs.Domain.{Dom, no_dom}
 use Rattle.world_view.specs.Event.{Store}
-use Rattle.world_view.specs.Machine.{Local, stretch, dom_of, part_of, with_part, switch, run_slot, opening, whole, alone_opening, alone_enter, alone_in, alone_out, alone_if, alone}
+use Rattle.world_view.specs.Machine.{Local, steps, stretch, dom_of, part_of, with_part, switch, run_slot, opening, whole, alone_opening, alone_enter, alone_in, alone_out, alone_if, alone}
 use Rattle.world_view.specs.View.{log_of, pool, view, view_whole, view_alone}
-use Rattle.world_view.specs.Laws.{IsDomain, SameFrames, Good, Beside, Within, Apiece, Agree}
+use Rattle.world_view.specs.Laws.{IsDomain, SameFrames, Good, memory_in, Beside, Within, Apiece, Agree}
 use Rattle.world_view.proofs.Separate.{Separated}
 use Rattle.world_view.proofs.TableLaws.{frame_inside, good_same}
-use Rattle.world_view.proofs.StepLaws.{stretch_near, beside_itself}
+use Rattle.world_view.proofs.StepLaws.{steps_near, stretch_near, beside_itself}
 use Rattle.world_view.proofs.TimeLaws.{in_time}
 use Rattle.world_view.proofs.OpeningLaws.{opening_dom_is, opening_frames, opening_good}
 use Rattle.world_view.proofs.SwitchLaws.{others_frames, switch_apiece, switch_out, switch_in, switch_both}
@@ -37,28 +37,37 @@ Joined i d zero = Apiece i.all.hardware (own_of i d) (part_of d (whole i 0)) (al
 Joined i d (suc k) = JoinedIf i d k (eqb (entry_of_slot i.all.schedule k).domain d)
 
 module _ (i : Image) (r : Separated i) where
-  -- a slot leaves the page tables of each domain good: those of the domain that runs, and all others untouched
+  -- steps of a slot leave the page tables of each domain good: those of the domain that runs, and all others untouched
+  good_in : (k n d : ℕ) → IsDomain i d → ((e : ℕ) → IsDomain i e → Good i.all.hardware (own_of i e) (whole i k).store.mem)
+      → Good i.all.hardware (own_of i d) (memory_in i k n)
+  unfolding switch
+  good_in k n d is good =
+      let p = i.all.hardware in
+      let end = slot_end i.all.schedule k in
+      let e = (entry_of_slot i.all.schedule k).domain in
+      let s = part_of e (switch i k (whole i k)) in
+      let b = steps_near p (own_of i e) end s n s s (beside_itself p (own_of i e) s (good e (r.named k))) in
+      elim (cases_eq d e) [
+        | inl same ↦ subst (λ (x : ℕ). Good p (own_of i x) (steps p (own_of i e) false end n s).store.mem) (sym same) b.store.good
+        | inr apart ↦
+            good_same p (own_of i d) (whole i k).store.mem (steps p (own_of i e) false end n s).store.mem (good d is)
+            (λ f low high. b.store.outside f (r.apart e d (r.named k) is (λ q. apart (sym q)) f (frame_inside p (own_of i d) f low (omega (arith, high)))))
+      ]
+
   good_after : (k d : ℕ) → IsDomain i d → ((e : ℕ) → IsDomain i e → Good i.all.hardware (own_of i e) (whole i k).store.mem)
       → Good i.all.hardware (own_of i d) (whole i (suc k)).store.mem
-  unfolding whole run_slot with_part switch
-  good_after k d is good =
-      let p = i.all.hardware in
-      let es = i.all.schedule in
-      let e = (entry_of_slot es k).domain in
-      let s = part_of e (switch i k (whole i k)) in
-      let n = stretch_near p (own_of i e) (slot_end es k) s s s (beside_itself p (own_of i e) s (good e (r.named k))) in
-      elim (cases_eq d e) [
-        | inl same ↦ subst (λ (x : ℕ). Good p (own_of i x) (stretch p (own_of i e) false (slot_end es k) s).store.mem) (sym same) n.store.good
-        | inr apart ↦
-            good_same p (own_of i d) (whole i k).store.mem (stretch p (own_of i e) false (slot_end es k) s).store.mem (good d is)
-            (λ f low high. n.store.outside f (r.apart e d (r.named k) is (λ q. apart (sym q)) f (frame_inside p (own_of i d) f low (omega (arith, high)))))
-      ]
+  unfolding whole run_slot with_part
+  good_after k d is good = good_in k (slot_end i.all.schedule k - (switch i k (whole i k)).clock) d is good
 
   -- before and after each slot
   pub all_good : (k d : ℕ) → IsDomain i d → Good i.all.hardware (own_of i d) (whole i k).store.mem
   unfolding whole
   all_good zero d is = opening_good i r d is
   all_good (suc k) d is = good_after k d is (all_good k)
+
+  -- and at each of its moments
+  pub always_good : (k n d : ℕ) → IsDomain i d → Good i.all.hardware (own_of i d) (memory_in i k n)
+  always_good k n d is = good_in k n d is (all_good k)
 
   -- the domain's own slot: steps from states that are beside
   slot_within : (p : Hardware) (o : Own) (end : ℕ) (s a : Local) → Good p o s.store.mem → Within p o s a → Within p o (stretch p o false end s) (stretch p o true end a)

@@ -16,11 +16,11 @@ use Rattle.world_view.specs.Image.{Image, own_of}
 use Rattle.world_view.specs.Frames.{own_frame, frames_in, first_page_frame, page_frame}
 use Rattle.world_view.specs.Opening.{rights_in, rights_number}
 use Rattle.world_view.specs.Reading.{image}
-use Rattle.world_view.specs.Schedule.{entry_of_slot, start, ended, outgoing}
+use Rattle.world_view.specs.Schedule.{entry_of_slot, start, slot_end, ended, outgoing}
 use Rattle.phys_mem.specs.Mem.{Mem, frame_at, word}
 use Rattle.world_view.specs.Reach.{Touch, Caches, Reached}
 use Rattle.world_view.specs.Event.{Store}
-use Rattle.world_view.specs.Machine.{Local, World, step, part_of, leave_part, enter_part, prefetch_part, flush_part, switch, whole, alone_enter, alone_out}
+use Rattle.world_view.specs.Machine.{Local, World, step, steps, part_of, leave_part, enter_part, prefetch_part, flush_part, switch, whole, alone_enter, alone_out}
 use Rattle.world_view.specs.View.{view_whole, view_alone}
 use Rattle.world_view.specs.Report.{largest_of, report, report_apart}
 
@@ -200,14 +200,20 @@ OpeningNoPageLaw = (i : Image) (d va : ℕ) (a : Access) → Runnable i → IsDo
 abbrev pub OpeningFramesLaw : Type 0
 OpeningFramesLaw = (o : Own) (n m : ℕ) (r q : Rights) → rights_in o.segments n ≡ Some r → rights_in o.segments m ≡ Some q → page_frame o n ≡ page_frame o m → n ≡ m
 
--- before and after each slot, whoever ran, each domain reaches its own frames alone
+-- the memory in slot k after so many of its steps
+abbrev pub memory_in : Image → ℕ → ℕ → Mem
+memory_in i k n =
+    let d = (entry_of_slot i.all.schedule k).domain in
+    (steps i.all.hardware (own_of i d) false (slot_end i.all.schedule k) n (part_of d (switch i k (whole i k)))).store.mem
+
+-- at each moment of each slot, whoever runs, each domain reaches its own frames alone
 abbrev pub ReachLaw : Type 0
-ReachLaw = (i : Image) (k d : ℕ) → Runnable i → IsDomain i d → Good i.all.hardware (own_of i d) (whole i k).store.mem
+ReachLaw = (i : Image) (k n d : ℕ) → Runnable i → IsDomain i d → Good i.all.hardware (own_of i d) (memory_in i k n)
 
 -- so no walk leaves memory: there are page faults, and no access fault
 abbrev pub NoAccessFaultLaw : Type 0
-NoAccessFaultLaw = (i : Image) (k d va : ℕ) (a : Access) → Runnable i → IsDomain i d
-    → (walk (whole i k).store.mem i.all.hardware.frames (own_of i d).first_frame va a).result ≢ Err fault.Access
+NoAccessFaultLaw = (i : Image) (k n d va : ℕ) (a : Access) → Runnable i → IsDomain i d
+    → (walk (memory_in i k n) i.all.hardware.frames (own_of i d).first_frame va a).result ≢ Err fault.Access
 
 -- every image that breaks no rule may be run
 abbrev pub ReadingLaw : Type 0

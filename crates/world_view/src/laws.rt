@@ -33,9 +33,9 @@ pub fn opening()
     ensures frames { OpeningFramesLaw }
 {}
 
-/// Each domain's page tables reach its own frames alone, before and after each
-/// slot: so much holds of the one memory in which all tables stand. So no walk
-/// of theirs is an access fault.
+/// Each domain's page tables reach its own frames alone, at each moment of each
+/// slot, whoever runs: so much holds of the one memory in which all tables
+/// stand. So no walk of theirs is an access fault.
 pub fn reach()
     ensures own { ReachLaw }
     ensures no_access_fault { NoAccessFaultLaw }

@@ -20,6 +20,7 @@ returns c =
     let ends = rw (root, c.map.ensures.frames) at sees in
     record {
       refused = λ m h. tt;
+      unchanged = tt;
       mapped = λ m h. c.in_ok-map.ensures.mapped m h;
       leaf = λ given. ends ∙ mapped_leaf t.mem c.args.map.now c.args.mem.now.frames c.args.va c.args.frame c.args.rights c.args.va c.args.access can refl given;
       fault = λ refused. ends ∙ mapped_fault t.mem c.args.map.now c.args.mem.now.frames c.args.va c.args.frame c.args.rights c.args.va c.args.access can refl refused;
