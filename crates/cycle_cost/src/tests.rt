@@ -1,3 +1,4 @@
+// The charge of the costs of one load, near the end of the clock.
 use super::{Costs, charge, charges_fit};
 use tp_base::Cycles;
 

@@ -9,12 +9,13 @@ use Rattle.std.proofs.lemmas.Bool.Decides.{nat_tests}
 use Rattle.image_text.specs.declared.raw.RawEntry.{RawEntry}
 use Rattle.image_text.specs.declared.raw.Raw.{Raw}
 use Rattle.image_text.specs.declared.refusal.Refusal.{Refusal}
-use Rattle.image_text.specs.Record.{Entry as TextEntry}
-use Rattle.image_text.specs.Reads.{raw_view, domain_view, entry_view}
+use Rattle.image_text.specs.Record.{RawEntry as TextEntry}
+use Rattle.image_text.specs.Reads.{raw_model}
+use Rattle.image_text.specs.Models.{domain_model, entry_model}
 use Rattle.image_check.specs.Cases.{first_in, outside, refusal}
 use Rattle.image_check.specs.Rules.{is_number, k16_case, k16_entry}
 use Rattle.image_check.specs.Public.{Entry, natural_of, entry_of, IsSmall}
-use Rattle.image_check.specs.Checking.{first_broken}
+use Rattle.image_check.specs.Checking.{broken}
 use Rattle.image_check.proofs.FirstCases.{if_first, if_rest, first_in_none}
 use Rattle.image_check.proofs.Kept.{kept, few_domains, entries_pass}
 
@@ -53,19 +54,19 @@ entry_passed domains es n e l d = passed domains (length (take e es)) (get_or es
 small : (domains : ℕ) (e : Entry) → domains ≤ 16 → Passed domains e → IsSmall e
 small domains e few p = record { domain = omega (arith, few, p.domain); length = omega (arith, p.length); pad = omega (arith, p.pad) }
 
-all_small : (domains : ℕ) (es : List RawEntry) → domains ≤ 16 → first_in (k16_entry domains) (map entry_view es) ≡ None → All (λ e. IsSmall (entry_of (entry_view e))) es
+all_small : (domains : ℕ) (es : List RawEntry) → domains ≤ 16 → first_in (k16_entry domains) (map entry_model es) ≡ None → All (λ e. IsSmall (entry_of (entry_model e))) es
 all_small domains [] few n = λ k d l. absurd (omega (arith, l))
 all_small domains (x ∷ es) few n =
-    All-from_get_or (λ e. IsSmall (entry_of (entry_view e))) (x ∷ es) x (λ k l.
+    All-from_get_or (λ e. IsSmall (entry_of (entry_model e))) (x ∷ es) x (λ k l.
     let P : TextEntry → Type 0 = λ e. IsSmall (entry_of e) in
-    let p = entry_passed domains (map entry_view (x ∷ es)) n k (omega (arith, length-map es entry_view, l)) (entry_view x) in
-    subst P (get_or-map entry_view (x ∷ es) k x) (small domains (entry_of (get_or (map entry_view (x ∷ es)) k (entry_view x))) few p))
+    let p = entry_passed domains (map entry_model (x ∷ es)) n k (omega (arith, length-map es entry_model, l)) (entry_model x) in
+    subst P (get_or-map entry_model (x ∷ es) k x) (small domains (entry_of (get_or (map entry_model (x ∷ es)) k (entry_model x))) few p))
 
 -- of an image that breaks no rule
-pub small_entries : (raw : Raw) → first_broken (raw_view raw) ≡ None → All (λ e. IsSmall (entry_of (entry_view e))) raw.schedule.items
+pub small_entries : (raw : Raw) → broken (raw_model raw) ≡ [] → All (λ e. IsSmall (entry_of (entry_model e))) raw.schedule.items
 small_entries raw n =
-    let i = raw_view raw in
+    let i = raw_model raw in
     all_small (length i.domains) raw.schedule.items (few_domains i n) (entries_pass i (kept i n).schedule)
 
-pub few_raw_domains : (raw : Raw) → first_broken (raw_view raw) ≡ None → length raw.domains.items ≤ 16
-few_raw_domains raw n = omega (arith, length-map raw.domains.items domain_view, few_domains (raw_view raw) n)
+pub few_raw_domains : (raw : Raw) → broken (raw_model raw) ≡ [] → length raw.domains.items ≤ 16
+few_raw_domains raw n = omega (arith, length-map raw.domains.items domain_model, few_domains (raw_model raw) n)

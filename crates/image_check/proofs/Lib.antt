@@ -3,4 +3,3 @@ pub mod Kept
 pub mod Entries
 pub mod Owns
 pub mod Running
-pub mod Ranges

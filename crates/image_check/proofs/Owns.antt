@@ -5,7 +5,7 @@ use Rattle.std.specs.Str.{bytes_eq}
 use Rattle.std.specs.List.{list_any}
 use Rattle.std.proofs.lemmas.List.{length-map, get_or-map, get_or_past}
 use Rattle.std.proofs.lemmas.Bool.{cases_lt, ltb-false}
-use Rattle.image_text.specs.Record.{Image, Domain, Segment as TextSegment, IsSegment as IsTextSegment, InKeyRanges, domain_at, no_domain, no_segment as no_text_segment}
+use Rattle.image_text.specs.Record.{Raw, RawDomain, RawSegment, IsRawSegment, InKeyRanges, raw_domain, no_raw_domain, no_raw_segment}
 use Rattle.image_text.specs.declared.refusal.Refusal.{Refusal}
 use Rattle.image_check.specs.Cases.{first_in, refusal}
 use Rattle.image_check.specs.Segments.{k12, k12_domain, segment_case, entry_case, bytes_case, bytes_in, is_rights, share_page, broken}
@@ -16,16 +16,16 @@ use Rattle.image_check.proofs.FirstCases.{or_first, if_first, if_rest, first_in_
 
 -- ---- the list of owns
 
-owns_from_length : (k : ℕ) (os : List Domain) → length (owns_from k os) ≡ length os
+owns_from_length : (k : ℕ) (os : List RawDomain) → length (owns_from k os) ≡ length os
 unfolding owns_from
 owns_from_length k [] = refl
 owns_from_length k (o ∷ os) = ap suc (owns_from_length (suc k) os)
 
-pub owns_length : (i : Image) → length (owns_of i) ≡ length i.domains
+pub owns_length : (i : Raw) → length (owns_of i) ≡ length i.domains
 unfolding owns_of
 owns_length i = owns_from_length 0 i.domains
 
-owns_from_at : (k : ℕ) (os : List Domain) (d : ℕ) → d < length os → get_or (owns_from k os) d no_own ≡ own_from (k + d) (get_or os d no_domain)
+owns_from_at : (k : ℕ) (os : List RawDomain) (d : ℕ) → d < length os → get_or (owns_from k os) d no_own ≡ own_from (k + d) (get_or os d no_raw_domain)
 unfolding owns_from
 owns_from_at k [] d l = absurd (omega arith)
 owns_from_at k (o ∷ os) zero l =
@@ -33,17 +33,17 @@ owns_from_at k (o ∷ os) zero l =
     ap (λ n. own_from n o) e
 owns_from_at k (o ∷ os) (suc d) l =
     let e : suc k + d ≡ k + suc d = omega arith in
-    owns_from_at (suc k) os d (omega arith) ∙ ap (λ n. own_from n (get_or os d no_domain)) e
+    owns_from_at (suc k) os d (omega arith) ∙ ap (λ n. own_from n (get_or os d no_raw_domain)) e
 
-pub owns_at : (i : Image) (d : ℕ) → d < length i.domains → own_at (owns_of i) d ≡ own_from d (domain_at i d)
+pub owns_at : (i : Raw) (d : ℕ) → d < length i.domains → own_at (owns_of i) d ≡ own_from d (raw_domain i.domains d)
 unfolding owns_of
 owns_at i d l =
     let e : 0 + d ≡ d = omega arith in
-    owns_from_at 0 i.domains d l ∙ ap (λ n. own_from n (domain_at i d)) e
+    owns_from_at 0 i.domains d l ∙ ap (λ n. own_from n (raw_domain i.domains d)) e
 
 -- ---- segments
 
-bytes_few : (d : ℕ) (earlier : List TextSegment) (s : TextSegment) (bytes : Option (List ℕ)) → bytes_case d earlier s bytes ≡ None → length (bytes_or_none bytes) ≤ s.pages * 4096
+bytes_few : (d : ℕ) (earlier : List RawSegment) (s : RawSegment) (bytes : Option (List ℕ)) → bytes_case d earlier s bytes ≡ None → length (bytes_or_none bytes) ≤ s.pages * 4096
 bytes_few d earlier s None n = cc
 bytes_few d earlier s (Some bytes) n =
     let more : Option Refusal = if list_any (share_page s) earlier then broken d (length earlier) 5 else None in
@@ -65,7 +65,7 @@ rights_read false false true rwx e = refl
 rights_read false false false true e = refl
 rights_read false false false false e = absurd (cc)
 
-rights_sound : (s : TextSegment) → not (is_rights s.rights) ≡ false → AreRights (rights_of s.rights)
+rights_sound : (s : RawSegment) → not (is_rights s.rights) ≡ false → AreRights (rights_of s.rights)
 rights_sound s e =
     let is = λ (text : List ℕ). bytes_eq s.rights text in
     record {
@@ -73,7 +73,7 @@ rights_sound s e =
       write_reads = rights_read (is (codes "r")) (is (codes "rw")) (is (codes "rx")) (is (codes "rwx"));
     }
 
-segment_sound : (d : ℕ) (earlier : List TextSegment) (s : TextSegment) → segment_case d earlier s ≡ None → IsTextSegment s → IsSegment (segment_of s)
+segment_sound : (d : ℕ) (earlier : List RawSegment) (s : RawSegment) → segment_case d earlier s ≡ None → IsRawSegment s → IsSegment (segment_of s)
 unfolding segment_case segment_of
 segment_sound d earlier s n ranges =
     let bytes = bytes_case d earlier s (bytes_in s.hex) in
@@ -97,23 +97,23 @@ no_segment_sound = record {
   bytes = omega arith;
 }
 
-segments_sound : (d : ℕ) (ss : List TextSegment) → first_in (segment_case d) ss ≡ None → ((k : ℕ) → IsTextSegment (get_or ss k no_text_segment)) → (k : ℕ) → IsSegment (get_or (map segment_of ss) k no_segment)
+segments_sound : (d : ℕ) (ss : List RawSegment) → first_in (segment_case d) ss ≡ None → ((k : ℕ) → IsRawSegment (get_or ss k no_raw_segment)) → (k : ℕ) → IsSegment (get_or (map segment_of ss) k no_segment)
 segments_sound d ss n ranges k = either (cases_lt k (length ss))
   where
     either : (k < length ss) ⊎ (length ss ≤ k) → IsSegment (get_or (map segment_of ss) k no_segment)
     either (inl l) =
-        let here = segment_sound d (take k ss) (get_or ss k no_text_segment) (first_in_none (segment_case d) ss n k l no_text_segment) (ranges k) in
-        subst IsSegment (sym (get_or-map segment_of ss k no_text_segment no_segment l)) here
+        let here = segment_sound d (take k ss) (get_or ss k no_raw_segment) (first_in_none (segment_case d) ss n k l no_raw_segment) (ranges k) in
+        subst IsSegment (sym (get_or-map segment_of ss k no_raw_segment no_segment l)) here
     either (inr m) = subst IsSegment (sym (get_or_past (map segment_of ss) k no_segment (omega (arith, length-map ss segment_of, m)))) no_segment_sound
 
 -- ---- owns
 
-own_sound : (i : Image) (d : ℕ) → InKeyRanges i → k12 i ≡ None → d < length i.domains → IsOwn (own_from d (domain_at i d))
+own_sound : (i : Raw) (d : ℕ) → InKeyRanges i → k12 i ≡ None → d < length i.domains → IsOwn (own_from d (raw_domain i.domains d))
 unfolding k12 k12_domain own_from
 own_sound i d ranges n l =
-    let o = domain_at i d in
+    let o = raw_domain i.domains d in
     let place = length (take d i.domains) in
-    let here = or_first (first_in (segment_case place) o.segments) (entry_case place o) (first_in_none k12_domain i.domains n d l no_domain) in
+    let here = or_first (first_in (segment_case place) o.segments) (entry_case place o) (first_in_none k12_domain i.domains n d l no_raw_domain) in
     record {
       entry = ranges.entry d;
       few = omega (arith, length-map o.segments segment_of, ranges.few_segments d);
@@ -123,13 +123,13 @@ own_sound i d ranges n l =
 no_own_sound : IsOwn no_own
 no_own_sound = record { entry = omega arith; few = omega arith; segments = λ k. subst IsSegment (sym (get_or_past [] k no_segment (omega arith))) no_segment_sound }
 
-pub owns_sound : (i : Image) → InKeyRanges i → k12 i ≡ None → (d : ℕ) → IsOwn (own_at (owns_of i) d)
+pub owns_sound : (i : Raw) → InKeyRanges i → k12 i ≡ None → (d : ℕ) → IsOwn (own_at (owns_of i) d)
 owns_sound i ranges n d = either (cases_lt d (length i.domains))
   where
     either : (d < length i.domains) ⊎ (length i.domains ≤ d) → IsOwn (own_at (owns_of i) d)
     either (inl l) = subst IsOwn (sym (owns_at i d l)) (own_sound i d ranges n l)
     either (inr m) = subst IsOwn (sym (get_or_past (owns_of i) d no_own (omega (arith, owns_length i, m)))) no_own_sound
 
-pub owns_placed : (i : Image) (d : ℕ) → d < length i.domains → (own_at (owns_of i) d).first_frame ≡ most_frames * d
+pub owns_placed : (i : Raw) (d : ℕ) → d < length i.domains → (own_at (owns_of i) d).first_frame ≡ most_frames * d
 unfolding own_from
 owns_placed i d l = ap (λ (o : Own). o.first_frame) (owns_at i d l)

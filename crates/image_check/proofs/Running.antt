@@ -3,7 +3,7 @@ use Rattle.std.proofs.Common.{◌≡◌, ℕ, ◌*◌, ◌<◌, ◌≤◌, List,
 use Rattle.std.specs.Prelude.{pos}
 use Rattle.std.proofs.lemmas.List.{length-map, get_or-map, get_or_past}
 use Rattle.std.proofs.lemmas.Bool.{cases_lt}
-use Rattle.image_text.specs.Record.{Entry as TextEntry}
+use Rattle.image_text.specs.Record.{RawEntry}
 use Rattle.image_check.specs.Cases.{first_in}
 use Rattle.image_check.specs.Rules.{k16_entry}
 use Rattle.image_check.specs.Public.{Entry, entry_of, no_entry, public_of, hardware_of, entry_in, most_frames}
@@ -12,11 +12,11 @@ use Rattle.image_check.proofs.Kept.{kept, domains_within, entries_within, entrie
 use Rattle.image_check.proofs.Entries.{Passed, entry_passed}
 use Rattle.image_check.proofs.Owns.{owns_length, owns_sound, owns_placed}
 
-no_text_entry : TextEntry
+no_text_entry : RawEntry
 no_text_entry = record { domain = pos 0; length = pos 0; pad = pos 0 }
 
 -- an entry of the schedule
-entry_in_passed : (domains : ℕ) (es : List TextEntry) → first_in (k16_entry domains) es ≡ None → (e : ℕ) → e < length es → Passed domains (entry_in (map entry_of es) e)
+entry_in_passed : (domains : ℕ) (es : List RawEntry) → first_in (k16_entry domains) es ≡ None → (e : ℕ) → e < length es → Passed domains (entry_in (map entry_of es) e)
 entry_in_passed domains es n e l =
     let P : Entry → Type 0 = λ x. Passed domains x in
     subst P (sym (get_or-map entry_of es e no_text_entry no_entry l)) (entry_passed domains es n e l no_text_entry)
@@ -26,7 +26,7 @@ record Short (e : Entry) : Type 0 where
   pub length : e.length ≤ 1000000
   pub pad : e.pad ≤ 1000000
 
-all_short : (domains : ℕ) (es : List TextEntry) → first_in (k16_entry domains) es ≡ None → (e : ℕ) → Short (entry_in (map entry_of es) e)
+all_short : (domains : ℕ) (es : List RawEntry) → first_in (k16_entry domains) es ≡ None → (e : ℕ) → Short (entry_in (map entry_of es) e)
 all_short domains es n e = either (cases_lt e (length es))
   where
     either : (e < length es) ⊎ (length es ≤ e) → Short (entry_in (map entry_of es) e)

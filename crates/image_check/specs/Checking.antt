@@ -1,19 +1,26 @@
--- The rules in their order, and the first that is broken.
-use Rattle.std.specs.Prelude.{List, [], ◌∷◌, Option, None}
+-- The rules in their order, and those that an image breaks.
+use Rattle.std.specs.Prelude.{nat_eq, Bool, if◌then◌else◌, List, [], ◌∷◌, Option, Some, None}
 use Rattle.image_text.specs.declared.refusal.Refusal.{Refusal}
-use Rattle.image_text.specs.Record.{Image}
-use Rattle.image_check.specs.Cases.{or_else}
+use Rattle.image_text.specs.Record.{Raw}
 use Rattle.image_check.specs.Rules.{k4, k7, k16}
 use Rattle.image_check.specs.Segments.{k12}
 
--- the first of some rules that is broken
-abbrev pub first_rule : List (Image → Option Refusal) → Image → Option Refusal
-first_rule [] i = None
-first_rule (k ∷ ks) i = or_else (k i) (first_rule ks i)
-
--- a rule is tested only where none before it is broken
-unfoldable pub rules : List (Image → Option Refusal)
+unfoldable pub rules : List (Raw → Option Refusal)
 rules = k4 ∷ k7 ∷ k12 ∷ k16 ∷ []
 
-unfoldable pub first_broken : Image → Option Refusal
-first_broken i = first_rule rules i
+-- K17, the rule of pads, is the one whose break leaves later rules to be tested
+abbrev pub is_of_pads : Refusal → Bool
+is_of_pads r = nat_eq r.rule 17
+
+abbrev pub broken_then : Option Refusal → List Refusal → List Refusal
+broken_then None later = later
+broken_then (Some r) later = r ∷ (if is_of_pads r then later else [])
+
+-- a rule is tested only where none before it but K17 is broken
+abbrev pub broken_of : List (Raw → Option Refusal) → Raw → List Refusal
+broken_of [] i = []
+broken_of (k ∷ ks) i = broken_then (k i) (broken_of ks i)
+
+-- the broken rules in their order, each with its first broken case
+unfoldable pub broken : Raw → List Refusal
+broken i = broken_of rules i

@@ -1,10 +1,25 @@
--- What an image that breaks no rule is, in natural numbers.
-use Rattle.std.specs.Prelude.{◌≡◌, ℕ, ◌+◌, ◌*◌, ◌<◌, ◌≤◌, ◌^◌, ◌||◌, true, List, length, None}
-use Rattle.image_text.specs.Record.{Image, InKeyRanges}
+-- What an image that breaks no rule is: no rule has a broken case, and in natural numbers it can be run.
+use Rattle.std.specs.Prelude.{◌≡◌, ℕ, ◌+◌, ◌*◌, ◌<◌, ◌≤◌, ◌^◌, ◌||◌, ◌↔◌, true, [], length, None}
+use Rattle.image_text.specs.Record as text
+use Rattle.image_text.specs.Record.{InKeyRanges}
 use Rattle.image_check.specs.declared.own.Rights.{Rights}
-use Rattle.image_check.specs.Checking.{first_broken}
-use Rattle.image_check.specs.Public.{Public, public_of, entry_in, most_frames}
-use Rattle.image_check.specs.Own.{Segment, Own, owns_of, own_at, segment_at}
+use Rattle.image_check.specs.Rules.{k4, k7, k16}
+use Rattle.image_check.specs.Segments.{k12}
+use Rattle.image_check.specs.Checking.{broken}
+use Rattle.image_check.specs.Public.{entry_in, most_frames}
+use Rattle.image_check.specs.Own.{Segment, Own, segment_at}
+use Rattle.image_check.specs.Image.{Image, image_from, own_of}
+
+-- no rule has a broken case
+pub record Keeps (i : text.Raw) : Type 0 where
+  pub frames : k4 i ≡ None
+  pub domains : k7 i ≡ None
+  pub segments : k12 i ≡ None
+  pub schedule : k16 i ≡ None
+
+-- the list of broken rules is empty exactly where no rule has a broken case
+abbrev pub AcceptanceLaw : Type 0
+AcceptanceLaw = (i : text.Raw) → (broken i ≡ []) ↔ Keeps i
 
 -- a page has some right, and one that is written is read, too
 pub record AreRights (r : Rights) : Type 0 where
@@ -23,19 +38,20 @@ pub record IsOwn (o : Own) : Type 0 where
   pub few : length o.segments ≤ 16
   pub segments : (k : ℕ) → IsSegment (segment_at o k)
 
-pub record Runnable (p : Public) (owns : List Own) : Type 0 where
-  pub counted : p.domains ≡ length owns
-  pub some_domain : 0 < length owns
-  pub few_domains : length owns ≤ 16
-  pub frames : p.hardware.frames ≡ most_frames * length owns
-  pub base : p.hardware.base ≡ 1  -- as yet
-  pub some_entry : 0 < length p.schedule
-  pub few_entries : length p.schedule ≤ 64
-  pub named : (e : ℕ) → e < length p.schedule → (entry_in p.schedule e).domain < length owns
-  pub lengths : (e : ℕ) → (entry_in p.schedule e).length ≤ 1000000
-  pub pads : (e : ℕ) → (entry_in p.schedule e).pad ≤ 1000000
-  pub sound : (d : ℕ) → IsOwn (own_at owns d)
-  pub placed : (d : ℕ) → d < length owns → (own_at owns d).first_frame ≡ most_frames * d
+pub record Runnable (i : Image) : Type 0 where
+  pub counted : i.all.domains ≡ length i.owns
+  pub some_domain : 0 < length i.owns
+  pub few_domains : length i.owns ≤ 16
+  pub frames : i.all.hardware.frames ≡ most_frames * length i.owns
+  pub base : i.all.hardware.base ≡ 1  -- as yet
+  pub some_entry : 0 < length i.all.schedule
+  pub few_entries : length i.all.schedule ≤ 64
+  pub named : (e : ℕ) → e < length i.all.schedule → (entry_in i.all.schedule e).domain < length i.owns
+  pub lengths : (e : ℕ) → (entry_in i.all.schedule e).length ≤ 1000000
+  pub pads : (e : ℕ) → (entry_in i.all.schedule e).pad ≤ 1000000
+  pub sound : (d : ℕ) → IsOwn (own_of i d)
+  pub placed : (d : ℕ) → d < length i.owns → (own_of i d).first_frame ≡ most_frames * d
 
+-- an image in the ranges of its keys that breaks no rule can be run
 abbrev pub RunnableLaw : Type 0
-RunnableLaw = (i : Image) → InKeyRanges i → first_broken i ≡ None → Runnable (public_of i) (owns_of i)
+RunnableLaw = (i : text.Raw) → InKeyRanges i → broken i ≡ [] → Runnable (image_from i)

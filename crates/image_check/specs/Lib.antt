@@ -4,7 +4,8 @@ pub mod Segments
 pub mod Checking
 pub mod Public
 pub mod Own
+pub mod Image
 pub mod Laws
-pub mod Views
+pub mod Models
 pub mod Standing
-pub mod Answers
+pub mod Outcomes

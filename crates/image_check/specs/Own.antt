@@ -1,7 +1,7 @@
 -- What is one domain's own in an image.
 use Rattle.std.specs.Prelude.{ℕ, ◌*◌, ◌||◌, true, false, List, [], ◌∷◌, map, codes, slice_index_or, Option, Some, None, suc}
 use Rattle.std.specs.Str.{bytes_eq}
-use Rattle.image_text.specs.Record.{Image, Domain, Segment as TextSegment}
+use Rattle.image_text.specs.Record.{Raw, RawDomain, RawSegment}
 use Rattle.image_check.specs.declared.own.Rights.{Rights}
 use Rattle.image_check.specs.Public.{most_frames}
 use Rattle.image_check.specs.Segments.{bytes_in, has_execute}
@@ -30,19 +30,29 @@ abbrev pub bytes_or_none : Option (List ℕ) → List ℕ
 bytes_or_none (Some bytes) = bytes
 bytes_or_none None = []
 
-unfoldable pub segment_of : TextSegment → Segment
-segment_of s = record { page = s.page; pages = s.pages; rights = rights_of s.rights; bytes = bytes_or_none (bytes_in s.hex) }
+unfoldable pub segment_of : RawSegment → Segment
+segment_of s = record {
+  page = s.page;
+  pages = s.pages;
+  rights = rights_of s.rights;
+  bytes = bytes_or_none (bytes_in s.hex);
+}
 
 -- domain d
-unfoldable pub own_from : ℕ → Domain → Own
-own_from d o = record { name = o.name; entry = o.entry; first_frame = most_frames * d; segments = map segment_of o.segments }
+unfoldable pub own_from : ℕ → RawDomain → Own
+own_from d o = record {
+  name = o.name;
+  entry = o.entry;
+  first_frame = most_frames * d;
+  segments = map segment_of o.segments;
+}
 
 -- domains from number d on
-unfoldable pub owns_from : ℕ → List Domain → List Own
+unfoldable pub owns_from : ℕ → List RawDomain → List Own
 owns_from d [] = []
 owns_from d (o ∷ os) = own_from d o ∷ owns_from (suc d) os
 
-unfoldable pub owns_of : Image → List Own
+unfoldable pub owns_of : Raw → List Own
 owns_of i = owns_from 0 i.domains
 
 abbrev pub no_own : Own

@@ -1,6 +1,6 @@
 -- What all domains may know of an image: the hardware, and the schedule.
 use Rattle.std.specs.Prelude.{ℕ, ◌*◌, ◌<◌, ◌^◌, ℤ, pos, negsuc, List, length, map, slice_index_or}
-use Rattle.image_text.specs.Record.{Image, Entry as TextEntry}
+use Rattle.image_text.specs.Record.{Raw, RawEntry}
 
 -- the machine that all domains share
 pub record Hardware : Type 0 where
@@ -28,14 +28,18 @@ abbrev pub most_frames : ℕ
 most_frames = 1057
 
 -- as yet each domain has all frames that it may want, and an instruction takes one cycle
-unfoldable pub hardware_of : Image → Hardware
+unfoldable pub hardware_of : Raw → Hardware
 hardware_of i = record { frames = most_frames * length i.domains; base = 1 }
 
-unfoldable pub entry_of : TextEntry → Entry
+unfoldable pub entry_of : RawEntry → Entry
 entry_of e = record { domain = natural_of e.domain; length = natural_of e.length; pad = natural_of e.pad }
 
-unfoldable pub public_of : Image → Public
-public_of i = record { hardware = hardware_of i; schedule = map entry_of i.schedule; domains = length i.domains }
+unfoldable pub public_of : Raw → Public
+public_of i = record {
+  hardware = hardware_of i;
+  schedule = map entry_of i.schedule;
+  domains = length i.domains;
+}
 
 abbrev pub no_entry : Entry
 no_entry = record { domain = 0; length = 0; pad = 0 }

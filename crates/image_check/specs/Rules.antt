@@ -1,14 +1,14 @@
 -- The rules of numbers, names and the schedule, each with its first broken case.
-use Rattle.std.specs.Prelude.{ℕ, ◌&&◌, ◌||◌, not, nat_le, nat_lt, ℤ, pos, int_lt, Bool, if◌then◌else◌, List, length, Option, Some, None}
+use Rattle.std.specs.Prelude.{ℕ, ◌&&◌, ◌||◌, not, nat_le, ℤ, pos, int_lt, Bool, if◌then◌else◌, List, length, Option, Some, None}
 use Rattle.std.specs.List.{list_all}
 use Rattle.std.specs.Str.{bytes_eq}
 use Rattle.image_text.specs.declared.refusal.Refusal.{Refusal}
-use Rattle.image_text.specs.Record.{Image, Domain, Entry}
-use Rattle.image_check.specs.Cases.{first_in, refusal, outside, range_case}
+use Rattle.image_text.specs.Record.{Raw, RawDomain, RawEntry}
+use Rattle.image_check.specs.Cases.{or_else, first_in, refusal, outside, range_case, count_case}
 
 -- ---- K4: 64 to 4,096 frames
 
-unfoldable pub k4 : Image → Option Refusal
+unfoldable pub k4 : Raw → Option Refusal
 k4 i = range_case 4 (pos 0) 64 4096 i.frames
 
 -- ---- K7: 1 to 16 domains, each of a name of its own
@@ -21,7 +21,7 @@ abbrev pub is_name : List ℕ → Bool
 is_name s = (nat_le 1 (length s) && nat_le (length s) 16) && list_all is_name_byte s
 
 -- where the name stands among the domains of this place and after it
-abbrev pub named_so : List ℕ → List Domain → Domain → Option ℕ
+abbrev pub named_so : List ℕ → List RawDomain → RawDomain → Option ℕ
 named_so name earlier o = if bytes_eq o.name name then Some (length earlier) else None
 
 -- an earlier domain of the same name
@@ -29,11 +29,13 @@ abbrev pub same_name : ℕ → Option ℕ → Option Refusal
 same_name d None = None
 same_name d (Some e) = Some (refusal 7 (pos d) (pos e) (pos 0))
 
-unfoldable pub k7_domain : List Domain → Domain → Option Refusal
-k7_domain earlier o = if is_name o.name then same_name (length earlier) (first_in (named_so o.name) earlier) else Some (refusal 7 (pos (length earlier)) (pos (length o.name)) (pos 16))
+unfoldable pub k7_domain : List RawDomain → RawDomain → Option Refusal
+k7_domain earlier o =
+    if is_name o.name then same_name (length earlier) (first_in (named_so o.name) earlier)
+    else Some (refusal 7 (pos (length earlier)) (pos (length o.name)) (pos 16))
 
-unfoldable pub k7 : Image → Option Refusal
-k7 i = if nat_lt (length i.domains) 1 || nat_lt 16 (length i.domains) then Some (refusal 7 (pos 16) (pos (length i.domains)) (pos 16)) else first_in k7_domain i.domains
+unfoldable pub k7 : Raw → Option Refusal
+k7 i = or_else (count_case 7 16 16 16 (length i.domains)) (first_in k7_domain i.domains)
 
 -- ---- K16: 1 to 64 entries, each of a domain that is there, a length and a pad
 
@@ -41,15 +43,15 @@ k7 i = if nat_lt (length i.domains) 1 || nat_lt 16 (length i.domains) then Some 
 abbrev pub is_number : ℕ → ℤ → Bool
 is_number many x = not (int_lt x (pos 0)) && int_lt x (pos many)
 
-unfoldable pub k16_case : ℕ → ℕ → Entry → Option Refusal
+unfoldable pub k16_case : ℕ → ℕ → RawEntry → Option Refusal
 k16_case domains place e =
     if not (is_number domains e.domain) then Some (refusal 16 (pos place) e.domain (pos 2))
     else if outside (pos 1000) (pos 1000000) e.length then Some (refusal 16 (pos place) e.length (pos 3))
     else if outside (pos 0) (pos 1000000) e.pad then Some (refusal 16 (pos place) e.pad (pos 4))
     else None
 
-abbrev pub k16_entry : ℕ → List Entry → Entry → Option Refusal
+abbrev pub k16_entry : ℕ → List RawEntry → RawEntry → Option Refusal
 k16_entry domains earlier e = k16_case domains (length earlier) e
 
-unfoldable pub k16 : Image → Option Refusal
-k16 i = if nat_lt (length i.schedule) 1 || nat_lt 64 (length i.schedule) then Some (refusal 16 (pos 0) (pos (length i.schedule)) (pos 1)) else first_in (k16_entry (length i.domains)) i.schedule
+unfoldable pub k16 : Raw → Option Refusal
+k16 i = or_else (count_case 16 0 1 64 (length i.schedule)) (first_in (k16_entry (length i.domains)) i.schedule)

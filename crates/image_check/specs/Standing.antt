@@ -1,12 +1,12 @@
 -- When parts in the code stand for an image that breaks no rule.
-use Rattle.std.specs.Prelude.{◌≡◌, List, None}
-use Rattle.image_text.specs.Record.{Image, InKeyRanges}
-use Rattle.image_check.specs.Checking.{first_broken}
+use Rattle.std.specs.Prelude.{◌≡◌, List, []}
+use Rattle.image_text.specs.Record.{Raw, InKeyRanges}
+use Rattle.image_check.specs.Checking.{broken}
 use Rattle.image_check.specs.Public.{Public, public_of}
 use Rattle.image_check.specs.Own.{Own, owns_of}
 
-pub record IsAccepted (i : Image) (p : Public) (owns : List Own) : Type 0 where
+pub record IsAccepted (i : Raw) (p : Public) (owns : List Own) : Type 0 where
   pub ranges : InKeyRanges i
-  pub accepted : first_broken i ≡ None
+  pub accepted : broken i ≡ []
   pub public_is : p ≡ public_of i
   pub owns_are : owns ≡ owns_of i

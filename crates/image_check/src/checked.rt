@@ -1,20 +1,17 @@
 // An image that breaks no rule.
-ghost use Rattle.std.specs.Prelude.{◌≡◌, ◌<◌, length, None, IfOk, IfErr};
-ghost use Rattle.image_text.specs.Record.{InKeyRanges};
-ghost use Rattle.image_text.specs.Reads.{raw_view};
-ghost use Rattle.image_check.specs.Answers.{Makes, IsFirst};
-ghost use Rattle.image_check.specs.Checking as checking;
+ghost use Rattle.std.specs.Prelude.{◌≡◌, ◌<◌, [], length, slice_get, IfOk, IfErr};
+ghost use Rattle.image_text.specs.Reads.{raw_model};
+ghost use Rattle.image_check.specs.Outcomes.{Makes, IsFirst};
+ghost use Rattle.image_check.specs.Checking.{broken};
 ghost use Rattle.image_check.specs.Laws.{Runnable};
-ghost use Rattle.image_check.specs.Own as own_spec;
-ghost use Rattle.image_check.specs.Public as public_spec;
-ghost use Rattle.image_check.specs.Views.{public_view, own_view};
+ghost use Rattle.image_check.specs.Image.{image_from, own_of};
+ghost use Rattle.image_check.specs.Models.{public_model, own_model};
 
-use crate::laws;
 use crate::own::{Own, owns_of};
 use crate::public::{Public, public_of};
-use crate::refusal::CheckRefusal;
 use crate::rules::{k4, k7, k16};
 use crate::segments::k12;
+use crate::{CheckRefusal, laws};
 use image_text::{Raw, Refusal};
 use std::alloc::Global;
 use std::marker::Model;
@@ -29,22 +26,23 @@ pub struct Checked {
 
 impl Model for Checked {
     ghost use Rattle.std.specs.Prelude.{map};
-    ghost use Rattle.image_text.specs.Record.{Image};
-    ghost use Rattle.image_text.specs.Reads.{raw_view};
-    ghost use Rattle.image_check.specs.Views.{public_view, own_view};
+    ghost use Rattle.image_text.specs.Record.{Raw};
+    ghost use Rattle.image_text.specs.Reads.{raw_model};
+    ghost use Rattle.image_check.specs.Models.{public_model, own_model};
     ghost use Rattle.image_check.specs.Standing.{IsAccepted};
 
-    ghost Value = { Image };
+    ghost Value = { Raw };
 
-    ghost view = { λ c. raw_view c.raw };
+    ghost view = { λ c. raw_model c.raw };
 
-    ghost invariant = { λ c. IsAccepted (raw_view c.raw) (public_view c.public) (map own_view c.owns.items) };
+    ghost invariant = { λ c. IsAccepted (raw_model c.raw) (public_model c.public)
+        (map own_model c.owns.items) };
 }
 
 impl Checked {
     /// That it breaks no rule, in natural numbers.
     pub fn runnable(&self)
-        ensures { Runnable (public_spec.public_of self.now) (own_spec.owns_of self.now) }
+        ensures { Runnable (image_from self.now) }
     {
         let _ = &self.raw;
         laws::runnable();
@@ -52,24 +50,24 @@ impl Checked {
 
     /// What all domains may know.
     pub fn public(&self) -> &Public
-        ensures { public_view result.now ≡ public_spec.public_of self.now }
+        ensures { public_model result.now ≡ (image_from self.now).all }
     {
         &self.public
     }
 
     /// What is domain `d`'s own; there are `public().domains` of them.
     pub fn own(&self, d: usize) -> &Own
-        requires domain { d < length (own_spec.owns_of self.now) }
-        ensures { own_view result.now ≡ own_spec.own_at (own_spec.owns_of self.now) d }
+        requires domain { d < length (image_from self.now).owns }
+        ensures { own_model result.now ≡ own_of (image_from self.now) d }
     {
         &self.owns[d]
     }
 }
 
-/// The first broken rule, in the order of the rules.
-#[tactic(auto, unfolding(crate::specs::Checking::first_broken, crate::specs::Checking::rules))]
+/// The first item of the list of broken rules.
+#[tactic(auto, unfolding(crate::specs::Checking::broken, crate::specs::Checking::rules))]
 fn first_broken(alloc: Global, raw: &Raw) -> Result<Option<Refusal>, CheckRefusal>
-    ensures { Makes (λ o. o) result (checking.first_broken (raw_view raw.now)) }
+    ensures { Makes (λ o. o) result (slice_get (broken (raw_model raw.now)) 0) }
 {
     if let Some(refusal) = k4(raw) {
         return Ok(Some(refusal));
@@ -86,17 +84,17 @@ fn first_broken(alloc: Global, raw: &Raw) -> Result<Option<Refusal>, CheckRefusa
     Ok(None)
 }
 
-/// The image, where it breaks no rule.
+/// The image, where the list of the rules that it breaks is empty.
 ///
 /// # Errors
 ///
-/// `Broken` with the first rule that it breaks and the three numbers of its
-/// first broken case; `Memory` where memory runs out.
+/// `Broken` with the first item of that list: the first broken rule, and the
+/// three numbers of its first broken case. `Memory` where memory runs out.
+#[tactic(auto, using(crate::proofs::Kept::empty_without_first))]
 pub fn check(alloc: Global, raw: Raw) -> Result<Checked, CheckRefusal>
-    requires ranges { InKeyRanges (raw_view raw) }
-    ensures refused { IfErr result (IsFirst (checking.first_broken (raw_view raw))) }
-    ensures accepted { IfOk result (λ c. checking.first_broken c ≡ None) }
-    ensures same { IfOk result (λ c. c ≡ raw_view raw) }
+    ensures refused { IfErr result (IsFirst (broken (raw_model raw))) }
+    ensures accepted { IfOk result (λ c. broken c ≡ []) }
+    ensures same { IfOk result (λ c. c ≡ raw_model raw) }
 {
     if let Some(refusal) = first_broken(alloc, &raw)? {
         return Err(CheckRefusal::Broken(refusal));

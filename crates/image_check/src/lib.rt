@@ -7,12 +7,11 @@ mod checked;
 pub mod laws;
 mod own;
 mod public;
-mod refusal;
 mod rules;
 mod segments;
 
 pub use checked::{Checked, check};
-pub use image_text::Refusal;
+/// Why an image is not accepted: the first rule that it breaks, or want of memory.
+pub use image_text::{ReadRefusal as CheckRefusal, Refusal};
 pub use own::{Own, Rights, Segment};
 pub use public::{Entry, Hardware, Public};
-pub use refusal::CheckRefusal;

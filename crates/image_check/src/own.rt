@@ -1,16 +1,15 @@
 // What is one domain's own.
-ghost use Rattle.std.specs.Prelude.{◌≡◌, ◌<◌, map, None};
-ghost use Rattle.image_text.specs.Reads.{raw_view, domain_view, segment_view as text_segment_view};
-ghost use Rattle.image_check.specs.Answers.{Makes};
-ghost use Rattle.image_check.specs.Checking.{first_broken};
+ghost use Rattle.std.specs.Prelude.{◌≡◌, ◌<◌, [], map};
+ghost use Rattle.image_text.specs.Reads.{raw_model};
+ghost use Rattle.image_text.specs.Models.{domain_model, segment_model as text_segment_model};
+ghost use Rattle.image_check.specs.Outcomes.{Makes};
+ghost use Rattle.image_check.specs.Checking.{broken};
 ghost use Rattle.image_check.specs.Own as spec;
-ghost use Rattle.image_check.specs.Segments.{bytes_in};
-ghost use Rattle.image_check.specs.Views.{segment_view, own_view};
+ghost use Rattle.image_check.specs.Models.{segment_model, own_model};
 
+use crate::CheckRefusal;
 use crate::public::MOST_FRAMES;
-use crate::refusal::CheckRefusal;
-use crate::segments::has_execute;
-use hex::FromHexError;
+use crate::segments::{bytes_in, has_execute};
 use image_text::{Raw, RawDomain, RawSegment};
 use std::alloc::Global;
 
@@ -54,32 +53,22 @@ fn rights_of(text: &str) -> Rights
     }
 }
 
-/// The bytes that a text of hexadecimal digits writes, else none.
-fn bytes_of(alloc: Global, text: &str) -> Result<Vec<u8>, CheckRefusal>
-    ensures { Makes (λ v. v.items) result (spec.bytes_or_none (bytes_in text.now)) }
-{
-    match hex::decode(alloc, text) {
-        Ok(bytes) => Ok(bytes),
-        Err(FromHexError::OutOfMemory) => Err(CheckRefusal::Memory),
-        Err(_) => Ok(Vec::new(alloc)),
-    }
-}
-
 #[tactic(auto, unfolding(crate::specs::Own::segment_of))]
 fn segment_of(alloc: Global, segment: &RawSegment) -> Result<Segment, CheckRefusal>
-    ensures { Makes segment_view result (spec.segment_of (text_segment_view segment.now)) }
+    ensures { Makes segment_model result (spec.segment_of (text_segment_model segment.now)) }
 {
-    let bytes = bytes_of(alloc, segment.hex.as_str())?;
+    let bytes = bytes_in(alloc, segment.hex.as_str())?;
     Ok(Segment {
         page: segment.page,
         pages: segment.pages,
         rights: rights_of(segment.rights.as_str()),
-        bytes,
+        bytes: bytes.unwrap_or(Vec::new(alloc)),
     })
 }
 
 fn segments_of(alloc: Global, texts: &[RawSegment]) -> Result<Vec<Segment>, CheckRefusal>
-    ensures { Makes (λ v. map segment_view v.items) result (map spec.segment_of (map text_segment_view texts.now)) }
+    ensures { Makes (λ v. map segment_model v.items) result
+        (map spec.segment_of (map text_segment_model texts.now)) }
 {
     let mut segments = Vec::new(alloc);
     for text in texts {
@@ -91,7 +80,7 @@ fn segments_of(alloc: Global, texts: &[RawSegment]) -> Result<Vec<Segment>, Chec
 #[tactic(auto, unfolding(crate::specs::Own::own_from))]
 fn own_from(alloc: Global, d: usize, domain: &RawDomain) -> Result<Own, CheckRefusal>
     requires few { d < 16 }
-    ensures { Makes own_view result (spec.own_from d (domain_view domain.now)) }
+    ensures { Makes own_model result (spec.own_from d (domain_model domain.now)) }
 {
     let name = String::from_str(alloc, domain.name.as_str())?;
     let segments = segments_of(alloc, domain.segments.as_slice())?;
@@ -106,8 +95,8 @@ fn own_from(alloc: Global, d: usize, domain: &RawDomain) -> Result<Own, CheckRef
 /// What is each domain's own, of an image that breaks no rule.
 #[tactic(auto, unfolding(crate::specs::Own::owns_of, crate::specs::Own::owns_from), using(crate::proofs::Entries::few_raw_domains))]
 pub fn owns_of(alloc: Global, raw: &Raw) -> Result<Vec<Own>, CheckRefusal>
-    requires accepted { first_broken (raw_view raw.now) ≡ None }
-    ensures { Makes (λ v. map own_view v.items) result (spec.owns_of (raw_view raw.now)) }
+    requires accepted { broken (raw_model raw.now) ≡ [] }
+    ensures { Makes (λ v. map own_model v.items) result (spec.owns_of (raw_model raw.now)) }
 {
     let mut owns = Vec::new(alloc);
     for (d, domain) in raw.domains.as_slice().iter().enumerate() {

@@ -1,13 +1,14 @@
 // What all domains may know of an image.
-ghost use Rattle.std.specs.Prelude.{◌≡◌, map, None};
+ghost use Rattle.std.specs.Prelude.{◌≡◌, [], map};
 ghost use Rattle.std.specs.List.{All};
-ghost use Rattle.image_text.specs.Reads.{raw_view, entry_view as text_entry_view};
-ghost use Rattle.image_check.specs.Answers.{Makes};
-ghost use Rattle.image_check.specs.Checking.{first_broken};
+ghost use Rattle.image_text.specs.Reads.{raw_model};
+ghost use Rattle.image_text.specs.Models.{entry_model as text_entry_model};
+ghost use Rattle.image_check.specs.Outcomes.{Makes};
+ghost use Rattle.image_check.specs.Checking.{broken};
 ghost use Rattle.image_check.specs.Public as spec;
-ghost use Rattle.image_check.specs.Views.{entry_view, public_view};
+ghost use Rattle.image_check.specs.Models.{entry_model, public_model};
 
-use crate::refusal::CheckRefusal;
+use crate::CheckRefusal;
 use image_text::{Raw, RawEntry};
 use std::alloc::Global;
 
@@ -50,8 +51,8 @@ fn natural_of(number: i64) -> u64
 
 #[tactic(auto, unfolding(crate::specs::Public::entry_of))]
 fn entry_of(entry: &RawEntry) -> Entry
-    requires small { spec.IsSmall (spec.entry_of (text_entry_view entry.now)) }
-    ensures { entry_view result ≡ spec.entry_of (text_entry_view entry.now) }
+    requires small { spec.IsSmall (spec.entry_of (text_entry_model entry.now)) }
+    ensures { entry_model result ≡ spec.entry_of (text_entry_model entry.now) }
 {
     Entry {
         domain: natural_of(entry.domain) as u8,
@@ -61,8 +62,9 @@ fn entry_of(entry: &RawEntry) -> Entry
 }
 
 fn schedule_of(alloc: Global, entries: &[RawEntry]) -> Result<Vec<Entry>, CheckRefusal>
-    requires small { All (λ e. spec.IsSmall (spec.entry_of (text_entry_view e))) entries.now }
-    ensures { Makes (λ v. map entry_view v.items) result (map spec.entry_of (map text_entry_view entries.now)) }
+    requires small { All (λ e. spec.IsSmall (spec.entry_of (text_entry_model e))) entries.now }
+    ensures { Makes (λ v. map entry_model v.items) result
+        (map spec.entry_of (map text_entry_model entries.now)) }
 {
     let mut schedule = Vec::new(alloc);
     for entry in entries {
@@ -74,8 +76,8 @@ fn schedule_of(alloc: Global, entries: &[RawEntry]) -> Result<Vec<Entry>, CheckR
 /// What all domains may know of an image that breaks no rule.
 #[tactic(auto, unfolding(crate::specs::Public::public_of, crate::specs::Public::hardware_of), using(crate::proofs::Entries::few_raw_domains, crate::proofs::Entries::small_entries))]
 pub fn public_of(alloc: Global, raw: &Raw) -> Result<Public, CheckRefusal>
-    requires accepted { first_broken (raw_view raw.now) ≡ None }
-    ensures { Makes public_view result (spec.public_of (raw_view raw.now)) }
+    requires accepted { broken (raw_model raw.now) ≡ [] }
+    ensures { Makes public_model result (spec.public_of (raw_model raw.now)) }
 {
     let schedule = schedule_of(alloc, raw.schedule.as_slice())?;
     let domains = raw.domains.len() as u32;

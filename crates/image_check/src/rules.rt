@@ -1,7 +1,8 @@
 // The rules of numbers, names and the schedule, each with its first broken case.
-ghost use Rattle.std.specs.Prelude.{◌≡◌, ◌≤◌, ◌<◌, ◌^◌, map, length, IfSome};
+ghost use Rattle.std.specs.Prelude.{◌≡◌, ◌≤◌, ◌<◌, ◌^◌, map, length, IfSome, IfNone};
 ghost use Rattle.std.specs.List.{list_all};
-ghost use Rattle.image_text.specs.Reads.{raw_view, domain_view, entry_view};
+ghost use Rattle.image_text.specs.Reads.{raw_model};
+ghost use Rattle.image_text.specs.Models.{domain_model, entry_model};
 ghost use Rattle.image_check.specs.Cases as cases;
 ghost use Rattle.image_check.specs.Rules as spec;
 
@@ -36,10 +37,22 @@ fn range_case(rule: u8, at: i64, low: u32, high: u32, number: i64) -> Option<Ref
     None
 }
 
+/// How many there are, where they are not 1 to `most`.
+fn count_case(rule: u8, at: u32, wanted: u32, most: usize, many: usize) -> Option<Refusal>
+    requires small { many < 2 ^ 63 }
+    ensures value { result ≡ cases.count_case rule at wanted most many }
+    ensures few { IfNone result (many ≤ most) }
+{
+    if many == 0 || most < many {
+        return Some(refusal(rule, i64::from(at), many as i64, i64::from(wanted)));
+    }
+    None
+}
+
 /// K4: 64 to 4,096 frames.
 #[tactic(auto, unfolding(crate::specs::Rules::k4))]
 pub fn k4(raw: &Raw) -> Option<Refusal>
-    ensures { result ≡ spec.k4 (raw_view raw.now) }
+    ensures { result ≡ spec.k4 (raw_model raw.now) }
 {
     range_case(4, 0, 64, 4096, raw.frames)
 }
@@ -62,7 +75,7 @@ fn is_name(text: &str) -> bool
 /// The place of the first domain of this name.
 fn named_so(name: &str, domains: &[RawDomain]) -> Option<usize>
     requires few { length domains.now ≤ 16 }
-    ensures value { result ≡ cases.first_in (spec.named_so name.now) (map domain_view domains.now) }
+    ensures value { result ≡ cases.first_in (spec.named_so name.now) (map domain_model domains.now) }
     ensures small { IfSome result (λ e. e < 16) }
 {
     for (e, domain) in domains.iter().enumerate() {
@@ -76,7 +89,7 @@ fn named_so(name: &str, domains: &[RawDomain]) -> Option<usize>
 #[tactic(auto, unfolding(crate::specs::Rules::k7_domain))]
 fn k7_domain(earlier: &[RawDomain], domain: &RawDomain) -> Option<Refusal>
     requires few { length earlier.now ≤ 16 }
-    ensures { result ≡ spec.k7_domain (map domain_view earlier.now) (domain_view domain.now) }
+    ensures { result ≡ spec.k7_domain (map domain_model earlier.now) (domain_model domain.now) }
 {
     let d = earlier.len() as i64;
     let name = domain.name.as_str();
@@ -91,7 +104,7 @@ fn k7_domain(earlier: &[RawDomain], domain: &RawDomain) -> Option<Refusal>
 
 fn k7_domains(domains: &[RawDomain]) -> Option<Refusal>
     requires few { length domains.now ≤ 16 }
-    ensures { result ≡ cases.first_in spec.k7_domain (map domain_view domains.now) }
+    ensures { result ≡ cases.first_in spec.k7_domain (map domain_model domains.now) }
 {
     for (d, domain) in domains.iter().enumerate() {
         if let Some(refusal) = k7_domain(&domains[..d], domain) {
@@ -104,11 +117,11 @@ fn k7_domains(domains: &[RawDomain]) -> Option<Refusal>
 /// K7: 1 to 16 domains, each of a name of its own.
 #[tactic(auto, unfolding(crate::specs::Rules::k7))]
 pub fn k7(raw: &Raw) -> Option<Refusal>
-    ensures { result ≡ spec.k7 (raw_view raw.now) }
+    ensures { result ≡ spec.k7 (raw_model raw.now) }
 {
     let domains = raw.domains.as_slice();
-    if domains.is_empty() || 16 < domains.len() {
-        return Some(refusal(7, 16, domains.len() as i64, 16));
+    if let Some(refusal) = count_case(7, 16, 16, 16, domains.len()) {
+        return Some(refusal);
     }
     k7_domains(domains)
 }
@@ -124,7 +137,7 @@ fn is_number(many: usize, number: i64) -> bool
 fn k16_case(domains: usize, place: usize, entry: &RawEntry) -> Option<Refusal>
     requires domains { domains < 2 ^ 63 }
     requires place { place < 2 ^ 63 }
-    ensures { result ≡ spec.k16_case domains place (entry_view entry.now) }
+    ensures { result ≡ spec.k16_case domains place (entry_model entry.now) }
 {
     if !is_number(domains, entry.domain) {
         return Some(refusal(16, place as i64, entry.domain, 2));
@@ -140,7 +153,7 @@ fn k16_case(domains: usize, place: usize, entry: &RawEntry) -> Option<Refusal>
 
 fn k16_entries(domains: usize, entries: &[RawEntry]) -> Option<Refusal>
     requires domains { domains < 2 ^ 63 }
-    ensures { result ≡ cases.first_in (spec.k16_entry domains) (map entry_view entries.now) }
+    ensures { result ≡ cases.first_in (spec.k16_entry domains) (map entry_model entries.now) }
 {
     for (place, entry) in entries.iter().enumerate() {
         if let Some(refusal) = k16_case(domains, place, entry) {
@@ -153,11 +166,11 @@ fn k16_entries(domains: usize, entries: &[RawEntry]) -> Option<Refusal>
 /// K16: 1 to 64 entries, each of a domain that is there, a length and a pad.
 #[tactic(auto, unfolding(crate::specs::Rules::k16))]
 pub fn k16(raw: &Raw) -> Option<Refusal>
-    ensures { result ≡ spec.k16 (raw_view raw.now) }
+    ensures { result ≡ spec.k16 (raw_model raw.now) }
 {
     let entries = raw.schedule.as_slice();
-    if entries.is_empty() || 64 < entries.len() {
-        return Some(refusal(16, 0, entries.len() as i64, 1));
+    if let Some(refusal) = count_case(16, 0, 1, 64, entries.len()) {
+        return Some(refusal);
     }
     k16_entries(raw.domains.len(), entries)
 }

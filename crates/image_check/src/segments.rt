@@ -1,12 +1,13 @@
 // K12, the rule of segments: their pages, rights and bytes, and the entry.
-ghost use Rattle.std.specs.Prelude.{◌≡◌, ◌<◌, ◌^◌, map, length, Some};
+ghost use Rattle.std.specs.Prelude.{◌≡◌, ◌<◌, ◌^◌, map, length, Some, option_map};
 ghost use Rattle.std.specs.List.{list_any};
-ghost use Rattle.image_text.specs.Reads.{raw_view, domain_view, segment_view};
-ghost use Rattle.image_check.specs.Answers.{Makes};
+ghost use Rattle.image_text.specs.Reads.{raw_model};
+ghost use Rattle.image_text.specs.Models.{domain_model, segment_model};
+ghost use Rattle.image_check.specs.Outcomes.{Makes};
 ghost use Rattle.image_check.specs.Cases.{first_in};
 ghost use Rattle.image_check.specs.Segments as spec;
 
-use crate::refusal::CheckRefusal;
+use crate::CheckRefusal;
 use hex::FromHexError;
 use image_text::{Raw, RawDomain, RawSegment, Refusal};
 use std::alloc::Global;
@@ -41,20 +42,21 @@ fn is_rights(rights: &str) -> bool
 }
 
 fn has_page(segment: &RawSegment, page: u32) -> bool
-    ensures { result ≡ spec.has_page (segment_view segment.now) page }
+    ensures { result ≡ spec.has_page (segment_model segment.now) page }
 {
     segment.page <= page && u64::from(page) < u64::from(segment.page) + u64::from(segment.pages)
 }
 
 fn share_page(segment: &RawSegment, earlier: &RawSegment) -> bool
-    ensures { result ≡ spec.share_page (segment_view segment.now) (segment_view earlier.now) }
+    ensures { result ≡ spec.share_page (segment_model segment.now) (segment_model earlier.now) }
 {
     u64::from(earlier.page) < u64::from(segment.page) + u64::from(segment.pages)
         && u64::from(segment.page) < u64::from(earlier.page) + u64::from(earlier.pages)
 }
 
 fn shares_any(segment: &RawSegment, earlier: &[RawSegment]) -> bool
-    ensures { result ≡ list_any (spec.share_page (segment_view segment.now)) (map segment_view earlier.now) }
+    ensures { result ≡ list_any (spec.share_page (segment_model segment.now))
+        (map segment_model earlier.now) }
 {
     for other in earlier {
         if share_page(segment, other) {
@@ -64,31 +66,40 @@ fn shares_any(segment: &RawSegment, earlier: &[RawSegment]) -> bool
     false
 }
 
-/// The cases of the bytes: none, more than the pages hold, pages of another.
+/// The bytes that a text of hexadecimal digits writes, if it writes any.
+///
+/// # Errors
+///
+/// `Memory` alone.
+pub fn bytes_in(alloc: Global, hex: &str) -> Result<Option<Vec<u8>>, CheckRefusal>
+    ensures { Makes (option_map (λ v. v.items)) result (spec.bytes_in hex.now) }
+{
+    match hex::decode(alloc, hex) {
+        Ok(bytes) => Ok(Some(bytes)),
+        Err(FromHexError::OutOfMemory) => Err(CheckRefusal::Memory),
+        Err(_) => Ok(None),
+    }
+}
+
+/// The cases of the bytes: more than the pages hold; then pages of another segment.
 fn bytes_case(
-    alloc: Global,
     d: usize,
     earlier: &[RawSegment],
     segment: &RawSegment,
-) -> Result<Option<Refusal>, CheckRefusal>
+    bytes: &[u8],
+) -> Option<Refusal>
     requires domain { d < 2 ^ 63 }
     requires place { length earlier.now < 2 ^ 63 }
-    ensures { Makes (λ o. o) result (spec.bytes_case d (map segment_view earlier.now) (segment_view segment.now) (spec.bytes_in (segment_view segment.now).hex)) }
+    ensures { result ≡ spec.bytes_case d (map segment_model earlier.now)
+        (segment_model segment.now) (Some bytes.now) }
 {
-    let place = earlier.len();
-    match hex::decode(alloc, segment.hex.as_str()) {
-        Ok(bytes) => {
-            if segment.pages as usize * 4096 < bytes.len() {
-                return Ok(Some(broken(d, place, 4)));
-            }
-            if shares_any(segment, earlier) {
-                return Ok(Some(broken(d, place, 5)));
-            }
-            Ok(None)
-        }
-        Err(FromHexError::OutOfMemory) => Err(CheckRefusal::Memory),
-        Err(_) => Ok(Some(broken(d, place, 3))),
+    if segment.pages as usize * 4096 < bytes.len() {
+        return Some(broken(d, earlier.len(), 4));
     }
+    if shares_any(segment, earlier) {
+        return Some(broken(d, earlier.len(), 5));
+    }
+    None
 }
 
 #[tactic(auto, unfolding(crate::specs::Segments::segment_case))]
@@ -100,7 +111,8 @@ fn segment_case(
 ) -> Result<Option<Refusal>, CheckRefusal>
     requires domain { d < 2 ^ 63 }
     requires place { length earlier.now < 2 ^ 63 }
-    ensures { Makes (λ o. o) result (spec.segment_case d (map segment_view earlier.now) (segment_view segment.now)) }
+    ensures { Makes (λ o. o) result
+        (spec.segment_case d (map segment_model earlier.now) (segment_model segment.now)) }
 {
     if u64::from(ALL_PAGES) < u64::from(segment.page) + u64::from(segment.pages) {
         return Ok(Some(broken(d, earlier.len(), 1)));
@@ -108,7 +120,10 @@ fn segment_case(
     if !is_rights(segment.rights.as_str()) {
         return Ok(Some(broken(d, earlier.len(), 2)));
     }
-    bytes_case(alloc, d, earlier, segment)
+    match bytes_in(alloc, segment.hex.as_str())? {
+        None => Ok(Some(broken(d, earlier.len(), 3))),
+        Some(bytes) => Ok(bytes_case(d, earlier, segment, &bytes)),
+    }
 }
 
 fn segments_case(
@@ -117,7 +132,7 @@ fn segments_case(
     segments: &[RawSegment],
 ) -> Result<Option<Refusal>, CheckRefusal>
     requires domain { d < 2 ^ 63 }
-    ensures { Makes (λ o. o) result (first_in (spec.segment_case d) (map segment_view segments.now)) }
+    ensures { Makes (λ o. o) result (first_in (spec.segment_case d) (map segment_model segments.now)) }
 {
     for (place, segment) in segments.iter().enumerate() {
         if let Some(refusal) = segment_case(alloc, d, &segments[..place], segment)? {
@@ -128,13 +143,13 @@ fn segments_case(
 }
 
 fn executes(page: u32, segment: &RawSegment) -> bool
-    ensures { result ≡ spec.executes page (segment_view segment.now) }
+    ensures { result ≡ spec.executes page (segment_model segment.now) }
 {
     has_execute(segment.rights.as_str()) && has_page(segment, page)
 }
 
 fn any_executes(page: u32, segments: &[RawSegment]) -> bool
-    ensures { result ≡ list_any (spec.executes page) (map segment_view segments.now) }
+    ensures { result ≡ list_any (spec.executes page) (map segment_model segments.now) }
 {
     for segment in segments {
         if executes(page, segment) {
@@ -147,7 +162,7 @@ fn any_executes(page: u32, segments: &[RawSegment]) -> bool
 #[tactic(auto, unfolding(crate::specs::Segments::entry_case))]
 fn entry_case(d: usize, domain: &RawDomain) -> Option<Refusal>
     requires domain { d < 2 ^ 63 }
-    ensures { result ≡ spec.entry_case d (domain_view domain.now) }
+    ensures { result ≡ spec.entry_case d (domain_model domain.now) }
 {
     if domain.entry % 4 == 0 && any_executes(domain.entry / 4096, domain.segments.as_slice()) {
         None
@@ -163,7 +178,8 @@ fn k12_domain(
     domain: &RawDomain,
 ) -> Result<Option<Refusal>, CheckRefusal>
     requires domain { length earlier.now < 2 ^ 63 }
-    ensures { Makes (λ o. o) result (spec.k12_domain (map domain_view earlier.now) (domain_view domain.now)) }
+    ensures { Makes (λ o. o) result
+        (spec.k12_domain (map domain_model earlier.now) (domain_model domain.now)) }
 {
     if let Some(refusal) = segments_case(alloc, earlier.len(), domain.segments.as_slice())? {
         return Ok(Some(refusal));
@@ -178,7 +194,7 @@ fn k12_domain(
 /// `Memory` alone.
 #[tactic(auto, unfolding(crate::specs::Segments::k12))]
 pub fn k12(alloc: Global, raw: &Raw) -> Result<Option<Refusal>, CheckRefusal>
-    ensures { Makes (λ o. o) result (spec.k12 (raw_view raw.now)) }
+    ensures { Makes (λ o. o) result (spec.k12 (raw_model raw.now)) }
 {
     let domains = raw.domains.as_slice();
     for (d, domain) in domains.iter().enumerate() {

@@ -1,2 +1,6 @@
+-- The lemmas of the crate.
 pub mod Counts
+pub mod KeyRows
+pub mod WholeRows
 pub mod Ranges
+pub mod Numbers

@@ -1,16 +1,13 @@
 -- The numbers and lists of an image that is read are in the ranges of their rows.
-use Rattle.std.proofs.Common.{◌≡◌, ℕ, zero, suc, ◌+◌, ◌<◌, ◌≤◌, ◌^◌, ◌&&◌, nat_le, ℤ, pos, negsuc, Bool, true, false, if◌then◌else◌, List, [], ◌∷◌, length, take, drop, codes, slice_index_or, Option, Some, None, Result, Ok, Err, IfOk, refl, sym, arith, lit<, lit≤}
+use Rattle.std.proofs.Common.{◌≡◌, ℕ, zero, suc, ◌<◌, ◌≤◌, ◌^◌, ◌&&◌, nat_le, ℤ, pos, negsuc, Bool, true, false, if◌then◌else◌, length, codes, slice_index_or, Option, Some, None, IfOk, refl, sym, arith, lit<, lit≤}
 use Rattle.std.proofs.lemmas.Bool.{leb-true, and_parts, true≢false}
-use Rattle.std.proofs.lemmas.Option.{none-some}
 use Rattle.std.proofs.lemmas.Result.{IfOk-at_ok}
 use Rattle.toml.specs.Data.{Data, Items, no_items, item, Members, no_members, get_member}
-use Rattle.image_text.specs.Rows.{Row, needs, SomeTables, count_items, some_tables, fits, fits_if, whole_in, whole_item, items_or_none, items_at, passes, first_failing, broken_in, Broken, first_or, first_broken, key_rows}
-use Rattle.image_text.specs.Unknown.{or_broken, broken_key}
-use Rattle.image_text.specs.Record.{Domain, integer_at, ranged, map_items, table_of, segment_of, segment_in, domain_of, domain_in, record_of, document, read_whole, read_table, image_of, IsSegment, no_segment, no_domain, domain_at, InKeyRanges, RangesLaw}
-use Rattle.image_text.specs.Reads.{Answers, raw_view}
+use Rattle.image_text.specs.Rows.{Row, needs, SomeTables, all_items, count_items, some_tables, fits, fits_if, whole_in, whole_item, items_or_none, items_at, broken_in, Broken, key_rows}
+use Rattle.image_text.specs.Unknown.{broken_key}
+use Rattle.image_text.specs.Record.{RawDomain, integer_at, ranged, map_items, table_of, segment_of, segment_in, domain_of, domain_in, record_of, document, read_whole, read_table, image_of, IsRawSegment, no_raw_segment, no_raw_domain, raw_domain, AreInKeyRanges, InKeyRanges, RangesLaw}
 use Rattle.image_text.specs.declared.kinds.Place.TheVariants.{Domain as DomainPlace}
-use Rattle.image_text.specs.declared.raw.Raw.{Raw}
-use Rattle.image_text.specs.declared.refusal.ReadRefusal.{ReadRefusal}
+use Rattle.image_text.proofs.WholeRows.{all_pass, whole_from, first_whole, rows_whole}
 
 -- ---- numbers
 
@@ -37,20 +34,12 @@ each_at f P none q each no_items k = q
 each_at f P none q each (item d ds) zero = each d
 each_at f P none q each (item d ds) (suc k) = each_at f P none q each ds k
 
-record Passed (test : Bool) (rest : Option ℕ) : Type 0 where
-  holds : test ≡ true
-  later : rest ≡ None
-
-passed : (test : Bool) (n : ℕ) (rest : Option ℕ) → (if test then rest else Some n) ≡ None → Passed test rest
-passed true n rest h = record { holds = refl; later = h }
-passed false n rest h = absurd (none-some n (sym h))
-
--- and what holds of each value whose item passes, where none fails
+-- and what holds of each value whose item passes, where all pass
 passing_at : {A : Type 0} (test : Data → Bool) (f : Data → A) (P : A → Type 0) (none : A) → P none → ((d : Data) → test d ≡ true → P (f d))
-    → (n : ℕ) (ds : Items) → first_failing test n ds ≡ None → (k : ℕ) → P (slice_index_or (map_items f ds) k none)
-passing_at test f P none q each n no_items h k = q
-passing_at test f P none q each n (item d ds) h zero = each d (passed (test d) n _ h).holds
-passing_at test f P none q each n (item d ds) h (suc k) = passing_at test f P none q each (n + 1) ds (passed (test d) n _ h).later k
+    → (ds : Items) → all_items test ds ≡ true → (k : ℕ) → P (slice_index_or (map_items f ds) k none)
+passing_at test f P none q each no_items h k = q
+passing_at test f P none q each (item d ds) h zero = each d (and_parts (test d) (all_items test ds) h).0
+passing_at test f P none q each (item d ds) h (suc k) = passing_at test f P none q each ds (and_parts (test d) (all_items test ds) h).1 k
 
 length-map_items : {A : Type 0} (f : Data → A) (ds : Items) → length (map_items f ds) ≡ count_items ds
 length-map_items f no_items = refl
@@ -61,7 +50,7 @@ length-map_items f (item d ds) = let rest = length-map_items f ds in omega (arit
 abbrev segment_row : Row
 segment_row = needs 14 DomainPlace (codes "segment") (SomeTables 16)
 
-abbrev Few : Domain → Type 0
+abbrev Few : RawDomain → Type 0
 Few d = length d.segments ≤ 16
 
 few_items : (ds : Items) → some_tables 16 ds ≡ true → length (map_items segment_in ds) ≤ 16
@@ -101,41 +90,13 @@ few_item (Data.boolean b) h = none_in
 few_item (Data.datetime t) h = none_in
 few_item (Data.array ds) h = none_in
 
--- ---- no row is broken
-
-record NoneBroken (o : Option ℕ) (rest : Option Broken) : Type 0 where
-  first : o ≡ None
-  later : rest ≡ None
-
-none_broken : (row : ℕ) (o : Option ℕ) (rest : Option Broken) → first_or row o rest ≡ None → NoneBroken o rest
-none_broken row None rest h = record { first = refl; later = h }
-none_broken row (Some found) rest h = absurd (none-some _ (sym h))
-
-whole_from : (version : ℕ) (n : ℕ) (rows : List Row) (t : Members) → first_broken version rows t ≡ None → first_broken version (drop n rows) t ≡ None
-unfolding first_broken
-whole_from version zero rows t h = h
-whole_from version (suc n) [] t h = h
-whole_from version (suc n) (r ∷ rows) t h = whole_from version n rows t (none_broken r.number _ _ h).later
-
-first_whole : (version : ℕ) (r : Row) (rows : List Row) (t : Members) → first_broken version (r ∷ rows) t ≡ None → broken_in version r t ≡ None
-unfolding first_broken
-first_whole version r rows t h = (none_broken r.number _ _ h).first
-
-segments_whole : (t : Members) → first_broken 1 (take 25 key_rows) t ≡ None → first_failing (passes DomainPlace segment_row) 0 (items_at (codes "domain") t) ≡ None
+segments_whole : (t : Members) → broken_key t ≡ None → all_items (whole_item segment_row) (items_at (codes "domain") t) ≡ true
 unfolding key_rows broken_in
-segments_whole t h = first_whole 1 segment_row _ t (whole_from 1 13 _ t h)
-
-no_first : (first rest : Option Broken) → or_broken first rest ≡ None → first ≡ None
-no_first None rest h = refl
-no_first (Some b) rest h = absurd (none-some b (sym h))
-
-rows_whole : (t : Members) → broken_key t ≡ None → first_broken 1 (take 25 key_rows) t ≡ None
-unfolding broken_key
-rows_whole t h = no_first _ _ h
+segments_whole t h = all_pass (whole_item segment_row) 0 (items_at (codes "domain") t) (first_whole 1 segment_row _ t (whole_from 1 13 _ t (rows_whole t h)))
 
 -- ---- the record
 
-is_segment : (t : Members) → IsSegment (segment_of t)
+is_segment : (t : Members) → IsRawSegment (segment_of t)
 unfolding segment_of
 is_segment t =
     let page = ranged_between 0 1048575 (integer_at (codes "page") t) (lit≤ tt) in
@@ -143,11 +104,11 @@ is_segment t =
     record { page = let most = page.most in omega (arith, most); some = pages.least; few = pages.most }
 
 -- what holds of each domain of a table
-record InRange (d : Domain) : Type 0 where
+record InRange (d : RawDomain) : Type 0 where
   entry : d.entry < 2 ^ 32
-  segments : (k : ℕ) → IsSegment (slice_index_or d.segments k no_segment)
+  segments : (k : ℕ) → IsRawSegment (slice_index_or d.segments k no_raw_segment)
 
-no_segment_is : IsSegment no_segment
+no_segment_is : IsRawSegment no_raw_segment
 no_segment_is = record { page = lit< tt; some = lit≤ tt; few = lit≤ tt }
 
 in_range : (t : Members) → InRange (domain_of t)
@@ -156,21 +117,19 @@ in_range t =
     let entry = (ranged_between 0 4294967295 (integer_at (codes "entry") t) (lit≤ tt)).most in
     record {
       entry = omega (arith, entry);
-      segments = each_at segment_in IsSegment no_segment no_segment_is (λ d. is_segment (table_of (Some d))) (items_at (codes "segment") t);
+      segments = each_at segment_in IsRawSegment no_raw_segment no_segment_is (λ d. is_segment (table_of (Some d))) (items_at (codes "segment") t);
     }
 
-no_domain_in_range : InRange no_domain
+no_domain_in_range : InRange no_raw_domain
 no_domain_in_range = record { entry = lit< tt; segments = λ k. no_segment_is }
 
-domains_in_range : (t : Members) (d : ℕ) → InRange (domain_at (record_of t) d)
-unfolding record_of
-domains_in_range t = each_at domain_in InRange no_domain no_domain_in_range (λ d. in_range (table_of (Some d))) (items_at (codes "domain") t)
+domains_in_range : (t : Members) (d : ℕ) → InRange (raw_domain (map_items domain_in (items_at (codes "domain") t)) d)
+domains_in_range t = each_at domain_in InRange no_raw_domain no_domain_in_range (λ d. in_range (table_of (Some d))) (items_at (codes "domain") t)
 
-domains_few : (t : Members) → broken_key t ≡ None → (d : ℕ) → Few (domain_at (record_of t) d)
-unfolding record_of
-domains_few t h = passing_at (whole_item segment_row) domain_in Few no_domain (lit≤ tt) few_item 0 (items_at (codes "domain") t) (segments_whole t (rows_whole t h))
+domains_few : (t : Members) → broken_key t ≡ None → (d : ℕ) → Few (raw_domain (map_items domain_in (items_at (codes "domain") t)) d)
+domains_few t h = passing_at (whole_item segment_row) domain_in Few no_raw_domain (lit≤ tt) few_item (items_at (codes "domain") t) (segments_whole t h)
 
-in_key_ranges : (t : Members) → broken_key t ≡ None → InKeyRanges (record_of t)
+pub in_key_ranges : (t : Members) → broken_key t ≡ None → AreInKeyRanges (map_items domain_in (items_at (codes "domain") t))
 in_key_ranges t h = record {
   entry = λ d. (domains_in_range t d).entry;
   few_segments = domains_few t h;
@@ -179,8 +138,12 @@ in_key_ranges t h = record {
 
 -- ---- the image that bytes are
 
+of_record : (t : Members) → broken_key t ≡ None → InKeyRanges (record_of t)
+unfolding record_of
+of_record t h = in_key_ranges t h
+
 of_whole : (t : Members) (b : Option Broken) → broken_key t ≡ b → IfOk (read_whole t b) InKeyRanges
-of_whole t None h = in_key_ranges t h
+of_whole t None h = of_record t h
 of_whole t (Some b) h = tt
 
 of_table : (o : Option Members) → IfOk (read_table o) InKeyRanges
@@ -190,7 +153,3 @@ of_table (Some t) = of_whole t (broken_key t) refl
 pub ranges_law : RangesLaw
 unfolding image_of
 ranges_law bytes i h = IfOk-at_ok InKeyRanges h (of_table (document bytes))
-
-pub ranges_answered : (bytes : List ℕ) (result : Result Raw ReadRefusal) → Answers raw_view result (image_of bytes) → IfOk result (λ raw. InKeyRanges (raw_view raw))
-ranges_answered bytes (Ok raw) h = ranges_law bytes (raw_view raw) h
-ranges_answered bytes (Err e) h = tt

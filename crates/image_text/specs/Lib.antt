@@ -1,5 +1,7 @@
+-- The definitions of the crate.
 pub mod Rows
 pub mod Unknown
 pub mod Record
-pub mod Views
+pub mod Models
 pub mod Reads
+pub mod Numbers

@@ -10,13 +10,13 @@ use Rattle.image_text.specs.declared.refusal.Refusal.{Refusal}
 -- ---- the record
 
 -- a cache or the translation buffer
-pub record Cache : Type 0 where
+pub record RawCache : Type 0 where
   pub sets : ℤ
   pub ways : ℤ
   pub policy : List ℕ
 
 -- in cycles
-pub record Costs : Type 0 where
+pub record RawCosts : Type 0 where
   pub base : ℤ
   pub l1 : ℤ
   pub l2 : ℤ
@@ -27,43 +27,43 @@ pub record Costs : Type 0 where
   pub trap : ℤ
   pub flush : ℤ
 
-pub record Segment : Type 0 where
+pub record RawSegment : Type 0 where
   pub page : ℕ
   pub pages : ℕ
   pub rights : List ℕ
   pub hex : List ℕ
 
 -- an interrupt of a line, at a cycle
-pub record Moment : Type 0 where
+pub record RawMoment : Type 0 where
   pub at : ℤ
   pub line : ℤ
 
-pub record Domain : Type 0 where
+pub record RawDomain : Type 0 where
   pub name : List ℕ
   pub colours : List ℤ
   pub entry : ℕ
-  pub segments : List Segment
+  pub segments : List RawSegment
   pub caps : List (List ℕ)
   pub lines : List ℤ
-  pub moments : List Moment
+  pub moments : List RawMoment
 
-pub record Entry : Type 0 where
+pub record RawEntry : Type 0 where
   pub domain : ℤ
   pub length : ℤ
   pub pad : ℤ
 
-pub record Image : Type 0 where
+pub record Raw : Type 0 where
   pub frames : ℤ
   pub shared : ℤ
   pub line : ℤ
-  pub l1i : Cache
-  pub l1d : Cache
-  pub l2 : Cache
-  pub tlb : Cache
+  pub l1i : RawCache
+  pub l1d : RawCache
+  pub l2 : RawCache
+  pub tlb : RawCache
   pub predictor : ℤ
-  pub costs : Costs
-  pub domains : List Domain
-  pub schedule : List Entry
+  pub costs : RawCosts
+  pub domains : List RawDomain
+  pub schedule : List RawEntry
 
 -- ---- values
 
@@ -106,13 +106,13 @@ texts_at key t = map_items (λ d. text_of (Some d)) (items_at key t)
 
 -- ---- the parts
 
-unfoldable pub cache_of : Members → Cache
+unfoldable pub cache_of : Members → RawCache
 cache_of t = record { sets = integer_at (codes "sets") t; ways = integer_at (codes "ways") t; policy = text_at (codes "policy") t }
 
-abbrev pub cache_at : List ℕ → Members → Cache
+abbrev pub cache_at : List ℕ → Members → RawCache
 cache_at key t = cache_of (table_of (get_member key t))
 
-unfoldable pub costs_of : Members → Costs
+unfoldable pub costs_of : Members → RawCosts
 costs_of t = record {
   base = integer_at (codes "base") t;
   l1 = integer_at (codes "l1") t;
@@ -125,7 +125,10 @@ costs_of t = record {
   flush = integer_at (codes "flush") t;
 }
 
-unfoldable pub segment_of : Members → Segment
+abbrev pub costs_at : Members → RawCosts
+costs_at t = costs_of (table_of (get_member (codes "costs") t))
+
+unfoldable pub segment_of : Members → RawSegment
 segment_of t = record {
   page = natural_at (codes "page") 0 1048575 t;
   pages = natural_at (codes "pages") 1 64 t;
@@ -133,7 +136,7 @@ segment_of t = record {
   hex = text_at (codes "hex") t;
 }
 
-abbrev pub segment_in : Data → Segment
+abbrev pub segment_in : Data → RawSegment
 segment_in d = segment_of (table_of (Some d))
 
 -- the integer at a place of a pair
@@ -145,10 +148,10 @@ abbrev pub second_item : Items → ℤ
 second_item no_items = pos 0
 second_item (item d ds) = first_item ds
 
-abbrev pub moment_in : Data → Moment
+abbrev pub moment_in : Data → RawMoment
 moment_in d = record { at = first_item (items_or_none (Some d)); line = second_item (items_or_none (Some d)) }
 
-unfoldable pub domain_of : Members → Domain
+unfoldable pub domain_of : Members → RawDomain
 domain_of t = record {
   name = text_at (codes "name") t;
   colours = integers_at (codes "colours") t;
@@ -159,16 +162,16 @@ domain_of t = record {
   moments = map_items moment_in (items_at (codes "moments") t);
 }
 
-abbrev pub domain_in : Data → Domain
+abbrev pub domain_in : Data → RawDomain
 domain_in d = domain_of (table_of (Some d))
 
-unfoldable pub entry_of : Members → Entry
+unfoldable pub entry_of : Members → RawEntry
 entry_of t = record { domain = integer_at (codes "domain") t; length = integer_at (codes "length") t; pad = integer_at (codes "pad") t }
 
-abbrev pub entry_in : Data → Entry
+abbrev pub entry_in : Data → RawEntry
 entry_in d = entry_of (table_of (Some d))
 
-unfoldable pub record_of : Members → Image
+unfoldable pub record_of : Members → Raw
 record_of t = record {
   frames = integer_at (codes "frames") t;
   shared = integer_at (codes "shared") t;
@@ -178,7 +181,7 @@ record_of t = record {
   l2 = cache_at (codes "l2") t;
   tlb = cache_at (codes "tlb") t;
   predictor = integer_at (codes "predictor") t;
-  costs = costs_of (table_of (get_member (codes "costs") t));
+  costs = costs_at t;
   domains = map_items domain_in (items_at (codes "domain") t);
   schedule = map_items entry_in (items_at (codes "schedule") t);
 }
@@ -197,40 +200,46 @@ not_toml = record { rule = 1; at = pos 0; found = pos 0; wanted = pos 0 }
 abbrev pub broken_row : Broken → Refusal
 broken_row b = record { rule = 2; at = pos b.row; found = pos b.found; wanted = pos 0 }
 
-abbrev pub read_whole : Members → Option Broken → Result Image Refusal
+abbrev pub read_whole : Members → Option Broken → Result Raw Refusal
 read_whole t (Some b) = Err (broken_row b)
 read_whole t None = Ok (record_of t)
 
-abbrev pub read_table : Option Members → Result Image Refusal
+abbrev pub read_table : Option Members → Result Raw Refusal
 read_table None = Err not_toml
 read_table (Some t) = read_whole t (broken_key t)
 
 -- the record of the bytes, or the refusal by the first two rules
-unfoldable pub image_of : List ℕ → Result Image Refusal
+unfoldable pub image_of : List ℕ → Result Raw Refusal
 image_of bytes = read_table (document bytes)
 
 -- ---- what the key table gives
 
-pub record IsSegment (s : Segment) : Type 0 where
+pub record IsRawSegment (s : RawSegment) : Type 0 where
   pub page : s.page < 2 ^ 20
   pub some : 1 ≤ s.pages
   pub few : s.pages ≤ 64
 
-abbrev pub no_segment : Segment
-no_segment = record { page = 0; pages = 1; rights = []; hex = [] }
+abbrev pub no_raw_segment : RawSegment
+no_raw_segment = record { page = 0; pages = 1; rights = []; hex = [] }
 
-abbrev pub no_domain : Domain
-no_domain = record { name = []; colours = []; entry = 0; segments = []; caps = []; lines = []; moments = [] }
+abbrev pub no_raw_domain : RawDomain
+no_raw_domain = record { name = []; colours = []; entry = 0; segments = []; caps = []; lines = []; moments = [] }
 
-abbrev pub domain_at : Image → ℕ → Domain
-domain_at i d = slice_index_or i.domains d no_domain
+abbrev pub raw_domain : List RawDomain → ℕ → RawDomain
+raw_domain domains d = slice_index_or domains d no_raw_domain
 
--- numbers and lists are in the ranges of their rows
-pub record InKeyRanges (i : Image) : Type 0 where
-  pub entry : (d : ℕ) → (domain_at i d).entry < 2 ^ 32
-  pub few_segments : (d : ℕ) → length (domain_at i d).segments ≤ 16
-  pub segments : (d k : ℕ) → IsSegment (slice_index_or (domain_at i d).segments k no_segment)
+abbrev pub raw_segment : RawDomain → ℕ → RawSegment
+raw_segment o k = slice_index_or o.segments k no_raw_segment
+
+-- numbers and lists of domains are in the ranges of their rows
+pub record AreInKeyRanges (domains : List RawDomain) : Type 0 where
+  pub entry : (d : ℕ) → (raw_domain domains d).entry < 2 ^ 32
+  pub few_segments : (d : ℕ) → length (raw_domain domains d).segments ≤ 16
+  pub segments : (d k : ℕ) → IsRawSegment (raw_segment (raw_domain domains d) k)
+
+abbrev pub InKeyRanges : Raw → Type 0
+InKeyRanges i = AreInKeyRanges i.domains
 
 -- of every image that bytes are
 abbrev pub RangesLaw : Type 0
-RangesLaw = (bytes : List ℕ) (i : Image) → image_of bytes ≡ Ok i → InKeyRanges i
+RangesLaw = (bytes : List ℕ) (i : Raw) → image_of bytes ≡ Ok i → InKeyRanges i

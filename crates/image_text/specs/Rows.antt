@@ -39,11 +39,18 @@ abbrev pub count_items : Items → ℕ
 count_items no_items = 0
 count_items (item d ds) = 1 + count_items ds
 
+-- there are 1 to so many
+abbrev pub are_some : ℕ → Items → Bool
+are_some most ds = nat_le 1 (count_items ds) && nat_le (count_items ds) most
+
 abbrev pub some_tables : ℕ → Items → Bool
-some_tables most ds = (nat_le 1 (count_items ds) && nat_le (count_items ds) most) && all_items (fits_one Table) ds
+some_tables most ds = are_some most ds && all_items (fits_one Table) ds
+
+abbrev pub are_integers : Data → Data → Bool
+are_integers x y = fits_one Integer x && fits_one Integer y
 
 abbrev pub is_pair : Option Items → Bool
-is_pair (Some (item x (item y no_items))) = fits_one Integer x && fits_one Integer y
+is_pair (Some (item x (item y no_items))) = are_integers x y
 is_pair _ = false
 
 abbrev pub is_pair_value : Data → Bool
@@ -173,6 +180,9 @@ passes _ row d = whole_item row d
 abbrev pub first_failing : (Data → Bool) → ℕ → Items → Option ℕ
 first_failing p n no_items = None
 first_failing p n (item d ds) = if p d then first_failing p (n + 1) ds else Some n
+
+abbrev pub first_broken_item : Row → Items → Option ℕ
+first_broken_item row ds = first_failing (passes row.place row) 0 ds
 
 -- the least domain or entry in which the row is broken, else 0
 abbrev pub broken_at : Place → Row → Members → Option ℕ

@@ -1,9 +1,9 @@
 // The key table, and its least broken row.
-ghost use Rattle.std.specs.Prelude.{◌≡◌, ◌<◌, ◌^◌, take, drop, option_map, IfSome};
+ghost use Rattle.std.specs.Prelude.{◌≡◌, ◌<◌, ◌^◌, map, option_map, IfSome};
 ghost use Rattle.toml.specs.View.{table_view};
-ghost use Rattle.image_text.specs.Rows.{key_rows, version_of, first_broken as spec_first_broken};
 ghost use Rattle.image_text.specs.Unknown as spec;
-ghost use Rattle.image_text.specs.Views.{broken_view};
+ghost use Rattle.image_text.specs.Rows.{key_rows};
+ghost use Rattle.image_text.specs.Models.{row_model, broken_model};
 
 use crate::kinds::{Field, Kind, Place, Simple};
 use crate::rows::{Broken, Row, first_broken};
@@ -71,7 +71,7 @@ const COST_FIELDS: [Field<'static>; 9] = [
     integer!("flush"),
 ];
 
-const KEY_ROWS: [Row<'static>; 25] = [
+static KEY_ROWS: [Row<'static>; 25] = [
     needs!(1, Top, "frames", Kind::One(Simple::Integer)),
     needs!(2, Top, "shared", Kind::One(Simple::Integer)),
     needs!(3, Top, "line", Kind::One(Simple::Integer)),
@@ -104,33 +104,39 @@ const KEY_ROWS: [Row<'static>; 25] = [
     needs!(25, Entry, "pad", Kind::One(Simple::Integer)),
 ];
 
+/// The key table. For the prover it stands in a function of its own: its rows
+/// are compared with the definitions' once.
 #[tactic(auto, unfolding(crate::specs::Rows::key_rows, crate::specs::Rows::cache_fields, crate::specs::Rows::cost_fields))]
+fn key_rows() -> &'static [Row<'static>]
+    ensures rows { map row_model result.now ≡ key_rows }
+{
+    &KEY_ROWS
+}
+
 fn first_rows(table: &Table) -> Option<Broken>
-    ensures value { option_map broken_view result ≡ spec_first_broken (version_of (table_view table.now)) (take 25 key_rows) (table_view table.now) }
+    ensures value { option_map broken_model result ≡ spec.first_rows (table_view table.now) }
     ensures small { IfSome result (λ broken. broken.found < 2 ^ 63) }
 {
-    first_broken(VERSION, &KEY_ROWS[..25], table)
+    first_broken(VERSION, &key_rows()[..25], table)
 }
 
-#[tactic(auto, unfolding(crate::specs::Rows::key_rows, crate::specs::Rows::cache_fields, crate::specs::Rows::cost_fields))]
 fn later_rows(table: &Table) -> Option<Broken>
-    ensures value { option_map broken_view result ≡ spec_first_broken (version_of (table_view table.now)) (drop 25 key_rows) (table_view table.now) }
+    ensures value { option_map broken_model result ≡ spec.later_rows (table_view table.now) }
     ensures small { IfSome result (λ broken. broken.found < 2 ^ 63) }
 {
-    first_broken(VERSION, &KEY_ROWS[25..], table)
+    first_broken(VERSION, &key_rows()[25..], table)
 }
 
-#[tactic(auto, unfolding(crate::specs::Rows::key_rows, crate::specs::Rows::cache_fields, crate::specs::Rows::cost_fields))]
 fn no_other_keys(table: &Table) -> bool
-    ensures value { result ≡ spec.all_known (version_of (table_view table.now)) key_rows (table_view table.now) }
+    ensures value { result ≡ spec.no_other_keys (table_view table.now) }
 {
-    all_known(VERSION, &KEY_ROWS, table)
+    all_known(VERSION, key_rows(), table)
 }
 
 /// The least row that the image's table breaks.
 #[tactic(auto, unfolding(crate::specs::Unknown::broken_key))]
 pub fn broken_key(table: &Table) -> Option<Broken>
-    ensures value { option_map broken_view result ≡ spec.broken_key (table_view table.now) }
+    ensures value { option_map broken_model result ≡ spec.broken_key (table_view table.now) }
     ensures small { IfSome result (λ broken. broken.found < 2 ^ 63) }
 {
     if let Some(broken) = first_rows(table) {

@@ -1,9 +1,8 @@
 // What a value must be.
-ghost use Rattle.std.specs.Prelude.{◌≡◌, ◌&&◌, nat_le, map, Some};
+ghost use Rattle.std.specs.Prelude.{◌≡◌, map, Some};
 ghost use Rattle.toml.specs.View.{view, items_view, table_view};
 ghost use Rattle.image_text.specs.Rows as spec;
-ghost use Rattle.image_text.specs.Views.{field_view, kind_view};
-ghost use Rattle.image_text.specs.declared.kinds.Simple.TheVariants.{Integer as IntegerSimple};
+ghost use Rattle.image_text.specs.Models.{field_model, kind_model};
 
 use crate::lookup::get;
 use toml::{Table, Value};
@@ -86,7 +85,7 @@ fn all_fit(simple: Simple, values: &[Value]) -> bool
 
 #[tactic(auto, using(crate::proofs::Counts::item_count))]
 fn are_some(most: u32, values: &[Value]) -> bool
-    ensures value { result ≡ (nat_le 1 (spec.count_items (items_view values.now)) && nat_le (spec.count_items (items_view values.now)) most) }
+    ensures value { result ≡ spec.are_some most (items_view values.now) }
 {
     1 <= values.len() && values.len() <= most as usize
 }
@@ -100,8 +99,8 @@ fn some_tables(most: u32, values: &[Value]) -> bool
     all_fit(Simple::Table, values)
 }
 
-fn both_integers(first: &Value, second: &Value) -> bool
-    ensures value { result ≡ (spec.fits_one IntegerSimple (view first.now) && spec.fits_one IntegerSimple (view second.now)) }
+fn are_integers(first: &Value, second: &Value) -> bool
+    ensures value { result ≡ spec.are_integers (view first.now) (view second.now) }
 {
     fits_one(Simple::Integer, first) && fits_one(Simple::Integer, second)
 }
@@ -113,7 +112,7 @@ fn is_pair_of(values: &[Value]) -> bool
     if values.len() != 2 {
         return false;
     }
-    both_integers(&values[0], &values[1])
+    are_integers(&values[0], &values[1])
 }
 
 fn is_pair(value: &Value) -> bool
@@ -137,7 +136,7 @@ fn all_pairs(values: &[Value]) -> bool
 }
 
 fn has_field(field: &Field<'_>, table: &Table) -> bool
-    ensures value { result ≡ spec.has_field (field_view field.now) (table_view table.now) }
+    ensures value { result ≡ spec.has_field (field_model field.now) (table_view table.now) }
 {
     match get(table, field.key) {
         Some(value) => fits_one(field.simple, value),
@@ -146,7 +145,7 @@ fn has_field(field: &Field<'_>, table: &Table) -> bool
 }
 
 fn has_all(fields: &[Field<'_>], table: &Table) -> bool
-    ensures value { result ≡ spec.has_all (map field_view fields.now) (table_view table.now) }
+    ensures value { result ≡ spec.has_all (map field_model fields.now) (table_view table.now) }
 {
     for field in fields {
         if !has_field(field, table) {
@@ -158,7 +157,7 @@ fn has_all(fields: &[Field<'_>], table: &Table) -> bool
 
 #[tactic(auto, unfolding(crate::specs::Rows::fits))]
 pub fn fits(kind: Kind<'_>, value: &Value) -> bool
-    ensures value { result ≡ spec.fits (kind_view kind.entry) (view value.now) }
+    ensures value { result ≡ spec.fits (kind_model kind.entry) (view value.now) }
 {
     match kind {
         Kind::One(simple) => fits_one(simple, value),

@@ -3,6 +3,7 @@
 //! table.
 #![tactic(auto)]
 
+mod items;
 mod key_table;
 mod kinds;
 pub mod laws;

@@ -1,25 +1,40 @@
 // The record of an image, as its text says it: numbers of any size, where the
 // key table names no range.
+ghost use Rattle.std.specs.Prelude.{map};
+ghost use Rattle.image_text.specs.Record.{AreInKeyRanges};
+ghost use Rattle.image_text.specs.Models.{domain_model};
 
 /// A cache, or the translation buffer.
 #[derive(Drop)]
 pub struct RawCache {
+    /// How many sets.
     pub sets: i64,
+    /// How many ways each set has.
     pub ways: i64,
+    /// The name of its replacement policy.
     pub policy: String,
 }
 
 /// Costs in cycles.
 #[derive(Clone, Copy, Debug, PartialEq, Eq)]
 pub struct RawCosts {
+    /// Of each instruction.
     pub base: i64,
+    /// Of a touch of a first-level cache.
     pub l1: i64,
+    /// Of a touch of the second-level cache.
     pub l2: i64,
+    /// Of a touch of memory.
     pub mem: i64,
+    /// Of a line that is written back.
     pub wb: i64,
+    /// Of a look into the translation buffer.
     pub tlb: i64,
+    /// Of a branch that was predicted wrongly.
     pub mispredict: i64,
+    /// Of an entry into the kernel, and of a return from it.
     pub trap: i64,
+    /// Of the flush at a switch, before the lines that it writes back.
     pub flush: i64,
 }
 
@@ -30,44 +45,59 @@ pub struct RawSegment {
     pub page: u32,
     /// How many there are, 1 to 64.
     pub pages: u32,
+    /// The letters of its rights, as they are written.
     pub rights: String,
+    /// Its first bytes, as they are written.
     pub hex: String,
 }
 
 /// An interrupt of a line, at a cycle.
 #[derive(Clone, Copy, Debug, PartialEq, Eq)]
 pub struct RawMoment {
+    /// The cycle.
     pub at: i64,
+    /// The line's number.
     pub line: i64,
 }
 
+/// What an image says of a domain.
 #[derive(Drop)]
 pub struct RawDomain {
     pub name: String,
+    /// The colours of its frames.
     pub colours: Vec<i64>,
     /// The address at which it begins.
     pub entry: u32,
-    /// 1 to 16 of them.
+    /// At most 16 of them.
     pub segments: Vec<RawSegment>,
+    /// Its capabilities, as they are written.
     pub caps: Vec<String>,
+    /// The interrupt lines that it has.
     pub lines: Vec<i64>,
+    /// When its lines interrupt it.
     pub moments: Vec<RawMoment>,
 }
 
 /// A slot of a domain, and the pad of the switch that ends it, in cycles.
 #[derive(Clone, Copy, Debug, PartialEq, Eq)]
 pub struct RawEntry {
+    /// The domain's number, from 0.
     pub domain: i64,
+    /// Cycles.
     pub length: i64,
+    /// Cycles.
     pub pad: i64,
 }
 
+/// The record of an image that breaks no row of the key table: its numbers and
+/// lists are in the ranges of their keys.
 #[derive(Drop)]
 pub struct Raw {
+    /// Of 4,096 bytes.
     pub frames: i64,
-    /// Bytes.
+    /// Bytes that all domains share.
     pub shared: i64,
-    /// Bytes.
+    /// Bytes of a cache's line.
     pub line: i64,
     pub l1i: RawCache,
     pub l1d: RawCache,
@@ -78,4 +108,5 @@ pub struct Raw {
     pub costs: RawCosts,
     pub domains: Vec<RawDomain>,
     pub schedule: Vec<RawEntry>,
+    pub ghost in_ranges: { AreInKeyRanges (map domain_model domains.items) },
 }

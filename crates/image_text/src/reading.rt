@@ -1,19 +1,20 @@
 // The record of an image's table.
-ghost use Rattle.std.specs.Prelude.{◌≡◌, ◌<◌, ◌^◌, map, Some, IfOk, codes};
+ghost use Rattle.std.specs.Prelude.{◌≡◌, ◌<◌, ◌^◌, map, None, Some, codes};
 ghost use Rattle.toml.specs.View.{view, items_view, table_view};
 ghost use Rattle.toml.specs.Data.{get_member};
 ghost use Rattle.image_text.specs.Record as spec;
-ghost use Rattle.image_text.specs.Reads.{Reads, Answers, cache_view, costs_view, segment_view, moment_view, domain_view, entry_view, raw_view};
-ghost use Rattle.image_text.specs.Views.{broken_view};
+ghost use Rattle.image_text.specs.Unknown.{broken_key as spec_broken_key};
+ghost use Rattle.image_text.specs.Models.{broken_model, cache_model, costs_model, segment_model, moment_model};
+ghost use Rattle.image_text.specs.Models.{domain_model, entry_model};
+ghost use Rattle.image_text.specs.Reads.{Reads, Agrees, raw_model};
 
+use crate::items::{Item, read_items};
 use crate::key_table::broken_key;
 use crate::lookup::{items_at, items_of};
 use crate::raw::{Raw, RawCache, RawCosts, RawDomain, RawEntry, RawMoment, RawSegment};
 use crate::refusal::{ReadRefusal, Refusal};
 use crate::rows::Broken;
-use crate::values::{
-    integer_at, integer_of, integers_at, natural_at, table_at, table_of, text_at, texts_at,
-};
+use crate::values::{integer_at, integer_of, integers_at, natural_at, table_at, table_of, text_at};
 use std::alloc::Global;
 use toml::{Table, Value};
 
@@ -27,7 +28,7 @@ const NOT_TOML: Refusal = Refusal {
 
 #[tactic(auto, unfolding(crate::specs::Record::cache_of))]
 fn cache_of(alloc: Global, table: &Table) -> Result<RawCache, ReadRefusal>
-    ensures read { Reads cache_view result (spec.cache_of (table_view table.now)) }
+    ensures read { Reads cache_model result (spec.cache_of (table_view table.now)) }
 {
     let policy = text_at(alloc, table, "policy")?;
     Ok(RawCache {
@@ -38,7 +39,7 @@ fn cache_of(alloc: Global, table: &Table) -> Result<RawCache, ReadRefusal>
 }
 
 fn cache_at(alloc: Global, table: &Table, key: &str) -> Result<RawCache, ReadRefusal>
-    ensures read { Reads cache_view result (spec.cache_at key.now (table_view table.now)) }
+    ensures read { Reads cache_model result (spec.cache_at key.now (table_view table.now)) }
 {
     let empty = Table::new(alloc);
     cache_of(alloc, table_at(table, key, &empty))
@@ -46,7 +47,7 @@ fn cache_at(alloc: Global, table: &Table, key: &str) -> Result<RawCache, ReadRef
 
 #[tactic(auto, unfolding(crate::specs::Record::costs_of))]
 fn costs_of(table: &Table) -> RawCosts
-    ensures value { costs_view result ≡ spec.costs_of (table_view table.now) }
+    ensures value { costs_model result ≡ spec.costs_of (table_view table.now) }
 {
     RawCosts {
         base: integer_at(table, "base"),
@@ -62,7 +63,7 @@ fn costs_of(table: &Table) -> RawCosts
 }
 
 fn costs_at(alloc: Global, table: &Table) -> RawCosts
-    ensures value { costs_view result ≡ spec.costs_of (spec.table_of (get_member (codes "costs") (table_view table.now))) }
+    ensures value { costs_model result ≡ spec.costs_at (table_view table.now) }
 {
     let empty = Table::new(alloc);
     costs_of(table_at(table, "costs", &empty))
@@ -70,7 +71,7 @@ fn costs_at(alloc: Global, table: &Table) -> RawCosts
 
 #[tactic(auto, unfolding(crate::specs::Record::segment_of))]
 fn segment_of(alloc: Global, table: &Table) -> Result<RawSegment, ReadRefusal>
-    ensures read { Reads segment_view result (spec.segment_of (table_view table.now)) }
+    ensures read { Reads segment_model result (spec.segment_of (table_view table.now)) }
 {
     let rights = text_at(alloc, table, "rights")?;
     let hex = text_at(alloc, table, "hex")?;
@@ -82,15 +83,17 @@ fn segment_of(alloc: Global, table: &Table) -> Result<RawSegment, ReadRefusal>
     })
 }
 
-fn segments_of(alloc: Global, values: &[Value]) -> Result<Vec<RawSegment>, ReadRefusal>
-    ensures read { Reads (λ found. map segment_view found.items) result (spec.map_items spec.segment_in (items_view values.now)) }
-{
-    let empty = Table::new(alloc);
-    let mut found = Vec::new(alloc);
-    for value in values {
-        found.push(segment_of(alloc, table_of(value, &empty))?)?;
+impl Item for RawSegment {
+    ghost Part = { spec.RawSegment };
+
+    ghost model = { segment_model };
+
+    ghost part_in = { spec.segment_in };
+
+    fn read(alloc: Global, value: &Value) -> Result<Self, ReadRefusal> {
+        let empty = Table::new(alloc);
+        segment_of(alloc, table_of(value, &empty))
     }
-    Ok(found)
 }
 
 fn first_item(values: &[Value]) -> i64
@@ -112,7 +115,7 @@ fn second_item(values: &[Value]) -> i64
 }
 
 fn moment_of(value: &Value) -> RawMoment
-    ensures value { moment_view result ≡ spec.moment_in (view value.now) }
+    ensures value { moment_model result ≡ spec.moment_in (view value.now) }
 {
     let pair = items_of(value);
     RawMoment {
@@ -121,26 +124,28 @@ fn moment_of(value: &Value) -> RawMoment
     }
 }
 
-fn moments_of(alloc: Global, values: &[Value]) -> Result<Vec<RawMoment>, ReadRefusal>
-    ensures read { Reads (λ found. map moment_view found.items) result (spec.map_items spec.moment_in (items_view values.now)) }
-{
-    let mut found = Vec::new(alloc);
-    for value in values {
-        found.push(moment_of(value))?;
+impl Item for RawMoment {
+    ghost Part = { spec.RawMoment };
+
+    ghost model = { moment_model };
+
+    ghost part_in = { spec.moment_in };
+
+    fn read(_alloc: Global, value: &Value) -> Result<Self, ReadRefusal> {
+        Ok(moment_of(value))
     }
-    Ok(found)
 }
 
 #[tactic(auto, unfolding(crate::specs::Record::domain_of))]
 fn domain_of(alloc: Global, table: &Table) -> Result<RawDomain, ReadRefusal>
-    ensures read { Reads domain_view result (spec.domain_of (table_view table.now)) }
+    ensures read { Reads domain_model result (spec.domain_of (table_view table.now)) }
 {
     let name = text_at(alloc, table, "name")?;
     let colours = integers_at(alloc, table, "colours")?;
-    let segments = segments_of(alloc, items_at(table, "segment"))?;
-    let caps = texts_at(alloc, table, "caps")?;
+    let segments = read_items(alloc, items_at(table, "segment"))?;
+    let caps = read_items(alloc, items_at(table, "caps"))?;
     let lines = integers_at(alloc, table, "lines")?;
-    let moments = moments_of(alloc, items_at(table, "moments"))?;
+    let moments = read_items(alloc, items_at(table, "moments"))?;
     Ok(RawDomain {
         name,
         colours,
@@ -152,20 +157,22 @@ fn domain_of(alloc: Global, table: &Table) -> Result<RawDomain, ReadRefusal>
     })
 }
 
-fn domains_of(alloc: Global, values: &[Value]) -> Result<Vec<RawDomain>, ReadRefusal>
-    ensures read { Reads (λ found. map domain_view found.items) result (spec.map_items spec.domain_in (items_view values.now)) }
-{
-    let empty = Table::new(alloc);
-    let mut found = Vec::new(alloc);
-    for value in values {
-        found.push(domain_of(alloc, table_of(value, &empty))?)?;
+impl Item for RawDomain {
+    ghost Part = { spec.RawDomain };
+
+    ghost model = { domain_model };
+
+    ghost part_in = { spec.domain_in };
+
+    fn read(alloc: Global, value: &Value) -> Result<Self, ReadRefusal> {
+        let empty = Table::new(alloc);
+        domain_of(alloc, table_of(value, &empty))
     }
-    Ok(found)
 }
 
 #[tactic(auto, unfolding(crate::specs::Record::entry_of))]
 fn entry_of(table: &Table) -> RawEntry
-    ensures value { entry_view result ≡ spec.entry_of (table_view table.now) }
+    ensures value { entry_model result ≡ spec.entry_of (table_view table.now) }
 {
     RawEntry {
         domain: integer_at(table, "domain"),
@@ -174,27 +181,30 @@ fn entry_of(table: &Table) -> RawEntry
     }
 }
 
-fn entries_of(alloc: Global, values: &[Value]) -> Result<Vec<RawEntry>, ReadRefusal>
-    ensures read { Reads (λ found. map entry_view found.items) result (spec.map_items spec.entry_in (items_view values.now)) }
-{
-    let empty = Table::new(alloc);
-    let mut found = Vec::new(alloc);
-    for value in values {
-        found.push(entry_of(table_of(value, &empty)))?;
+impl Item for RawEntry {
+    ghost Part = { spec.RawEntry };
+
+    ghost model = { entry_model };
+
+    ghost part_in = { spec.entry_in };
+
+    fn read(alloc: Global, value: &Value) -> Result<Self, ReadRefusal> {
+        let empty = Table::new(alloc);
+        Ok(entry_of(table_of(value, &empty)))
     }
-    Ok(found)
 }
 
 #[tactic(auto, unfolding(crate::specs::Record::record_of))]
 fn record_of(alloc: Global, table: &Table) -> Result<Raw, ReadRefusal>
-    ensures read { Reads raw_view result (spec.record_of (table_view table.now)) }
+    requires whole { spec_broken_key (table_view table.now) ≡ None }
+    ensures read { Reads raw_model result (spec.record_of (table_view table.now)) }
 {
     let l1i = cache_at(alloc, table, "l1i")?;
     let l1d = cache_at(alloc, table, "l1d")?;
     let l2 = cache_at(alloc, table, "l2")?;
     let tlb = cache_at(alloc, table, "tlb")?;
-    let domains = domains_of(alloc, items_at(table, "domain"))?;
-    let schedule = entries_of(alloc, items_at(table, "schedule"))?;
+    let domains = read_items(alloc, items_at(table, "domain"))?;
+    let schedule = read_items(alloc, items_at(table, "schedule"))?;
     Ok(Raw {
         frames: integer_at(table, "frames"),
         shared: integer_at(table, "shared"),
@@ -213,7 +223,7 @@ fn record_of(alloc: Global, table: &Table) -> Result<Raw, ReadRefusal>
 /// The refusal of the second rule, that names the row.
 fn broken_row(broken: Broken) -> Refusal
     requires small { broken.found < 2 ^ 63 }
-    ensures value { result ≡ spec.broken_row (broken_view broken) }
+    ensures value { result ≡ spec.broken_row (broken_model broken) }
 {
     Refusal {
         rule: 2,
@@ -224,7 +234,7 @@ fn broken_row(broken: Broken) -> Refusal
 }
 
 fn read_table(alloc: Global, table: &Table) -> Result<Raw, ReadRefusal>
-    ensures answers { Answers raw_view result (spec.read_table (Some (table_view table.now))) }
+    ensures found { Agrees raw_model result (spec.read_table (Some (table_view table.now))) }
 {
     match broken_key(table) {
         Some(broken) => Err(ReadRefusal::Broken(broken_row(broken))),
@@ -234,7 +244,7 @@ fn read_table(alloc: Global, table: &Table) -> Result<Raw, ReadRefusal>
 
 #[tactic(auto, unfolding(crate::specs::Record::image_of, crate::specs::Record::document))]
 fn read_text(alloc: Global, bytes: &[u8]) -> Result<Raw, ReadRefusal>
-    ensures answers { Answers raw_view result (spec.image_of bytes.now) }
+    ensures found { Agrees raw_model result (spec.image_of bytes.now) }
 {
     match toml::table_from_slice(alloc, bytes) {
         Ok(table) => read_table(alloc, &table),
@@ -248,12 +258,15 @@ fn read_text(alloc: Global, bytes: &[u8]) -> Result<Raw, ReadRefusal>
     }
 }
 
-/// The record that the bytes of an image give. Refused by K1 where they are no
-/// text of TOML, and by K2 where they break a row of the key table: the least
-/// such row is named, and the least domain or entry that breaks it.
+/// The record that the bytes of an image give.
+///
+/// # Errors
+///
+/// `Broken` with K1 where the bytes are no UTF-8 or no TOML, and with K2 where
+/// they break a row of the key table: the least such row, and the least domain
+/// or entry that breaks it, from 0. `Memory` where memory runs out.
 pub fn read_image(alloc: Global, bytes: &[u8]) -> Result<Raw, ReadRefusal>
-    ensures answers { Answers raw_view result (spec.image_of bytes.now) }
-    ensures ranges { IfOk result (λ raw. spec.InKeyRanges (raw_view raw)) }
+    ensures found { Agrees raw_model result (spec.image_of bytes.now) }
 {
     read_text(alloc, bytes)
 }

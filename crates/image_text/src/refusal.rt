@@ -5,12 +5,16 @@ ghost use Rattle.image_text.specs.declared.refusal.ReadRefusal.TheVariants as re
 use std::alloc::{AllocError, AllocFailed};
 use thiserror::Error;
 
-/// A broken rule, 1 for K1 and so on, and its three numbers.
+/// A broken rule, and its three numbers; what they are differs from rule to rule.
 #[derive(Clone, Copy, Debug, PartialEq, Eq)]
 pub struct Refusal {
+    /// 1 for K1, and so on.
     pub rule: u8,
+    /// Where it is broken: K2 names the row of the key table.
     pub at: i64,
+    /// What stands there: K2 names the domain or entry, from 0.
     pub found: i64,
+    /// What is wanted there, else 0.
     pub wanted: i64,
 }
 
@@ -20,6 +24,7 @@ pub enum ReadRefusal {
     /// The bytes are no text of TOML, or a row of the key table is broken.
     #[error("the image breaks a rule")]
     Broken(Refusal),
+    /// Memory ran out before the image was read.
     #[error("memory ran out")]
     Memory,
 }
@@ -39,3 +44,6 @@ impl<T: Drop> From<AllocFailed<T>> for ReadRefusal {
         ReadRefusal::Memory
     }
 }
+
+#[cfg(test)]
+mod tests;

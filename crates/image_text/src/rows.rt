@@ -2,7 +2,7 @@
 ghost use Rattle.std.specs.Prelude.{◌≡◌, ◌<◌, ◌^◌, map, option_map, IfSome};
 ghost use Rattle.toml.specs.View.{view, items_view, table_view};
 ghost use Rattle.image_text.specs.Rows as spec;
-ghost use Rattle.image_text.specs.Views.{row_view, broken_view};
+ghost use Rattle.image_text.specs.Models.{row_model, broken_model};
 
 use crate::kinds::{Kind, Place, fits};
 use crate::lookup::{get, items_at};
@@ -29,7 +29,7 @@ pub struct Broken {
 
 #[tactic(auto, unfolding(crate::specs::Rows::whole_in))]
 fn whole_in(row: &Row<'_>, table: &Table) -> bool
-    ensures value { result ≡ spec.whole_in (row_view row.now) (table_view table.now) }
+    ensures value { result ≡ spec.whole_in (row_model row.now) (table_view table.now) }
 {
     match get(table, row.key) {
         Some(value) => fits(row.kind, value),
@@ -39,7 +39,7 @@ fn whole_in(row: &Row<'_>, table: &Table) -> bool
 
 #[tactic(auto, unfolding(crate::specs::Rows::whole_item))]
 fn whole_item(row: &Row<'_>, value: &Value) -> bool
-    ensures value { result ≡ spec.whole_item (row_view row.now) (view value.now) }
+    ensures value { result ≡ spec.whole_item (row_model row.now) (view value.now) }
 {
     match value.as_table() {
         Some(table) => whole_in(row, table),
@@ -48,7 +48,7 @@ fn whole_item(row: &Row<'_>, value: &Value) -> bool
 }
 
 fn all_whole(row: &Row<'_>, values: &[Value]) -> bool
-    ensures value { result ≡ spec.all_items (spec.whole_item (row_view row.now)) (items_view values.now) }
+    ensures value { result ≡ spec.all_items (spec.whole_item (row_model row.now)) (items_view values.now) }
 {
     for value in values {
         if !whole_item(row, value) {
@@ -60,7 +60,7 @@ fn all_whole(row: &Row<'_>, values: &[Value]) -> bool
 
 #[tactic(auto, unfolding(crate::specs::Rows::whole_segments))]
 fn whole_segments(row: &Row<'_>, value: &Value) -> bool
-    ensures value { result ≡ spec.whole_segments (row_view row.now) (view value.now) }
+    ensures value { result ≡ spec.whole_segments (row_model row.now) (view value.now) }
 {
     match value.as_table() {
         Some(table) => all_whole(row, items_at(table, "segment")),
@@ -69,7 +69,7 @@ fn whole_segments(row: &Row<'_>, value: &Value) -> bool
 }
 
 fn passes(row: &Row<'_>, value: &Value) -> bool
-    ensures value { result ≡ spec.passes row.now.place (row_view row.now) (view value.now) }
+    ensures value { result ≡ spec.passes row.now.place (row_model row.now) (view value.now) }
 {
     match row.place {
         Place::Segment => whole_segments(row, value),
@@ -80,7 +80,7 @@ fn passes(row: &Row<'_>, value: &Value) -> bool
 }
 
 fn first_failing(row: &Row<'_>, values: &[Value]) -> Option<usize>
-    ensures value { result ≡ spec.first_failing (spec.passes row.now.place (row_view row.now)) 0 (items_view values.now) }
+    ensures value { result ≡ spec.first_broken_item (row_model row.now) (items_view values.now) }
     ensures small { IfSome result (λ number. number < 2 ^ 63) }
 {
     for (number, value) in values.iter().enumerate() {
@@ -92,7 +92,7 @@ fn first_failing(row: &Row<'_>, values: &[Value]) -> Option<usize>
 }
 
 fn broken_at(row: &Row<'_>, table: &Table) -> Option<usize>
-    ensures value { result ≡ spec.broken_at row.now.place (row_view row.now) (table_view table.now) }
+    ensures value { result ≡ spec.broken_at row.now.place (row_model row.now) (table_view table.now) }
     ensures small { IfSome result (λ number. number < 2 ^ 63) }
 {
     match row.place {
@@ -105,7 +105,7 @@ fn broken_at(row: &Row<'_>, table: &Table) -> Option<usize>
 
 #[tactic(auto, unfolding(crate::specs::Rows::broken_in))]
 fn broken_in(version: u8, row: &Row<'_>, table: &Table) -> Option<usize>
-    ensures value { result ≡ spec.broken_in version (row_view row.now) (table_view table.now) }
+    ensures value { result ≡ spec.broken_in version (row_model row.now) (table_view table.now) }
     ensures small { IfSome result (λ number. number < 2 ^ 63) }
 {
     if row.since > version {
@@ -117,7 +117,8 @@ fn broken_in(version: u8, row: &Row<'_>, table: &Table) -> Option<usize>
 /// The first of these rows that is broken.
 #[tactic(auto, unfolding(crate::specs::Rows::first_broken))]
 pub fn first_broken(version: u8, rows: &[Row<'_>], table: &Table) -> Option<Broken>
-    ensures value { option_map broken_view result ≡ spec.first_broken version (map row_view rows.now) (table_view table.now) }
+    ensures value { option_map broken_model result
+        ≡ spec.first_broken version (map row_model rows.now) (table_view table.now) }
     ensures small { IfSome result (λ broken. broken.found < 2 ^ 63) }
 {
     for row in rows {

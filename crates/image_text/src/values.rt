@@ -1,11 +1,12 @@
 // Values at keys. What is missing, or of another type, reads as zero or empty:
 // the key table says where something is.
-ghost use Rattle.std.specs.Prelude.{◌≡◌, map, Some, string_bytes};
-ghost use Rattle.toml.specs.View.{view, items_view, table_view};
+ghost use Rattle.std.specs.Prelude.{◌≡◌, ℕ, ℤ, List, Some, string_bytes};
+ghost use Rattle.toml.specs.View.{view, table_view};
 ghost use Rattle.toml.specs.Data.{get_member, no_members};
 ghost use Rattle.image_text.specs.Record as spec;
 ghost use Rattle.image_text.specs.Reads.{Reads};
 
+use crate::items::{Item, read_items};
 use crate::lookup::{get, items_at};
 use crate::refusal::ReadRefusal;
 use std::alloc::Global;
@@ -91,34 +92,33 @@ pub fn table_at<'a>(table: &'a Table, key: &str, empty: &'a Table) -> &'a Table
     }
 }
 
-fn integers_of(alloc: Global, values: &[Value]) -> Result<Vec<i64>, ReadRefusal>
-    ensures read { Reads (λ found. found.items) result (spec.map_items (λ d. spec.integer_of (Some d)) (items_view values.now)) }
-{
-    let mut found = Vec::new(alloc);
-    for value in values {
-        found.push(integer_of(value))?;
+impl Item for i64 {
+    ghost Part = { ℤ };
+
+    ghost model = { λ number. number };
+
+    ghost part_in = { λ d. spec.integer_of (Some d) };
+
+    fn read(_alloc: Global, value: &Value) -> Result<Self, ReadRefusal> {
+        Ok(integer_of(value))
     }
-    Ok(found)
 }
 
+#[tactic(auto, using(crate::proofs::Counts::plain_integers))]
 pub fn integers_at(alloc: Global, table: &Table, key: &str) -> Result<Vec<i64>, ReadRefusal>
     ensures read { Reads (λ found. found.items) result (spec.integers_at key.now (table_view table.now)) }
 {
-    integers_of(alloc, items_at(table, key))
+    read_items(alloc, items_at(table, key))
 }
 
-fn texts_of(alloc: Global, values: &[Value]) -> Result<Vec<String>, ReadRefusal>
-    ensures read { Reads (λ found. map (λ text. string_bytes text) found.items) result (spec.map_items (λ d. spec.text_of (Some d)) (items_view values.now)) }
-{
-    let mut found = Vec::new(alloc);
-    for value in values {
-        found.push(String::from_str(alloc, text_of(value))?)?;
+impl Item for String {
+    ghost Part = { List ℕ };
+
+    ghost model = { λ text. string_bytes text };
+
+    ghost part_in = { λ d. spec.text_of (Some d) };
+
+    fn read(alloc: Global, value: &Value) -> Result<Self, ReadRefusal> {
+        Ok(String::from_str(alloc, text_of(value))?)
     }
-    Ok(found)
-}
-
-pub fn texts_at(alloc: Global, table: &Table, key: &str) -> Result<Vec<String>, ReadRefusal>
-    ensures read { Reads (λ found. map (λ text. string_bytes text) found.items) result (spec.texts_at key.now (table_view table.now)) }
-{
-    texts_of(alloc, items_at(table, key))
 }

@@ -1,10 +1,11 @@
+// The first-level cache of instructions, in which nothing is ever dirty.
 use set_cache::{Policy, SetCache};
 use std::alloc::Global;
 use std::marker::Model;
 use tp_base::{Line, Memory};
 
-/// A first-level cache of instructions. It holds physical lines, and none is
-/// ever dirty.
+/// A first-level cache of instructions. It keeps the numbers of physical
+/// lines, and none is ever dirty.
 #[derive(Drop)]
 pub struct L1I<P: Policy> {
     cache: SetCache<P>,
@@ -12,55 +13,51 @@ pub struct L1I<P: Policy> {
 
 impl<P: Policy> Model for L1I<P> {
     ghost use Rattle.set_cache.specs.Contents.{Contents, coded_contents};
+    ghost use Rattle.set_cache.specs.Lines.{IsClean};
 
     ghost Value = { Contents P };
 
     ghost coded = { coded_contents P.code };
 
     ghost view = { λ a. a.cache };
+
+    ghost invariant = { λ a. IsClean a.cache };
 }
 
 impl<P: Policy> L1I<P> {
-    ghost use Rattle.std.specs.Prelude.{◌≡◌, ◌≢◌, ◌<◌, ◌*◌, ◌%◌, ◌^◌, ℕ, false, true, length, is_some, IfOk};
-    ghost use Rattle.tp_base.specs.Table.{empty};
-    ghost use Rattle.set_cache.specs.Cache.{Sets, touch_of};
-    ghost use Rattle.set_cache.specs.Contents.{StandsFor, SameShape, HitSteps, kept_at, shape_of};
-    ghost use Rattle.set_cache.specs.Lines.{place_in};
+    ghost use Rattle.std.specs.Prelude.{◌≡◌, IfOk};
+    ghost use Rattle.set_cache.specs.Lines.{IsClean, dirty_kept};
+    ghost use Rattle.set_cache.specs.Calls.{IsGeometry, IsNew, TellsHit, IsFlush};
 
     /// A cache of fresh sets.
+    ///
+    /// # Errors
+    ///
+    /// `Memory`, where memory ran out.
     pub fn new(alloc: Global, policy: P, sets: u32, ways: u32) -> Result<Self, Memory>
-        requires taken { P.takes policy ways }
-        requires some_set { 0 < sets }
-        requires small { sets * ways < 2 ^ 32 }
-        ensures policy { IfOk result (λ cache. cache.policy ≡ policy) }
-        ensures ways { IfOk result (λ cache. cache.ways ≡ ways) }
-        ensures sets { IfOk result (λ cache. length cache.table ≡ sets) }
-        ensures fresh { IfOk result (λ cache. StandsFor P.stands_for cache empty) }
+        requires geometry { IsGeometry (P.takes policy) sets ways }
+        ensures made { IfOk result (λ cache. IsNew P.takes P.stands_for policy sets ways cache) }
+        ensures clean { IfOk result (λ cache. IsClean cache) }
     {
-        Ok(L1I {
-            cache: SetCache::new(alloc, policy, sets, ways)?,
-        })
+        let cache = SetCache::new(alloc, policy, sets, ways)?;
+        Ok(L1I { cache })
     }
 
-    /// A fetch from a line; whether it was held.
+    /// A fetch from a line; whether it was here. No line is dirty then.
+    #[inline(always)]
     pub fn fetch(&mut self, line: Line) -> bool
-        ensures shape { SameShape self.old self.new }
-        ensures step { (sets : Sets) → StandsFor P.stands_for self.old sets
-            → HitSteps P.stands_for result self.new (touch_of (shape_of P.rule self.old) sets line false) }
-        ensures other_sets { (s : ℕ) → s ≢ line % length self.old.table
-            → kept_at self.new.table s ≡ kept_at self.old.table s }
-        ensures hit { result ≡ is_some (place_in self.old line) }
-        ensures held { is_some (place_in self.new line) ≡ true }
+        ensures touch { TellsHit P.takes P.rule P.stands_for result line self.old self.new }
+        ensures clean { IsClean self.new }
+        ensures none_counted { dirty_kept self.new ≡ 0 }
     {
         self.cache.touch(line.number(), false).hit
     }
 
     /// Makes every set fresh, and answers 0, since nothing is written back.
     pub fn flush(&mut self) -> u32
-        ensures shape { SameShape self.old self.new }
         ensures zero { result ≡ 0 }
-        ensures fresh { StandsFor P.stands_for self.new empty }
-        ensures none { (line : ℕ) → place_in self.new line ≡ None }
+        ensures flush { IsFlush P.takes P.rule P.stands_for result self.old self.new }
+        ensures clean { IsClean self.new }
     {
         self.cache.flush();
         0

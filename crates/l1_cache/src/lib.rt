@@ -6,3 +6,6 @@ mod instructions;
 
 pub use data::L1D;
 pub use instructions::L1I;
+
+#[cfg(test)]
+mod tests;

@@ -1,16 +1,15 @@
 -- Each change keeps the facts of page tables.
-use Rattle.std.proofs.Common.{◌≡◌, ◌≢◌, ◌∙◌, ap, sym, subst, refl, inl, inr, ◌⊎◌, ℕ, ◌^◌, ◌<◌, Bool, true, false, not, ◌&&◌, cond, true≢false}
+use Rattle.std.proofs.Common.{◌≡◌, ◌≢◌, ◌∙◌, ap, sym, subst, refl, inl, inr, ◌⊎◌, ℕ, ◌<◌, Bool, true, false, not, cond, true≢false}
 use Rattle.std.proofs.lemmas.Bool.{cases_eq}
 use Rattle.std.specs.Prelude.{Some, None}
 use Rattle.tp_base.specs.Table.{empty}
 use Rattle.phys_mem.specs.Mem.{Mem, word, written, word-written_same, word-written_place, word-written_frame, word-empty}
-use Rattle.sv32_walk.specs.Entry.{valid, ppn, vpn_0, vpn_1}
+use Rattle.sv32_walk.specs.PageTableEntry.{valid, ppn, vpn_1, table_word}
 use Rattle.sv32_walk.specs.Translation.{first_entry, Points}
+use Rattle.sv32_walk.proofs.EntryLemmas.{first_of_both}
+use Rattle.sv32_walk.proofs.WordLemmas.{valid-zero, ppn-table, points-table}
 use Rattle.page_map.specs.declared.refusal.MapRefusal.TheVariants as refusal
-use Rattle.page_map.specs.Words.{table_word, leaf_word}
-use Rattle.page_map.specs.Tables.{IsPointer, IsPageMap, IsNoTable, IsBlank, has_table, has_page, table_of, map_refusal, install_refusal}
-use Rattle.page_map.specs.Changes.{mapped, unmapped}
-use Rattle.page_map.proofs.WordLemmas.{valid-zero, ppn-table, points-table}
+use Rattle.page_map.specs.Tables.{IsPointer, IsPageMap, TablesOnce, IsNoTable, IsBlank, has_table, has_page, table_of, map_refusal, install_refusal}
 use Rattle.page_map.proofs.WalkLemmas.{vpn_1-below}
 
 -- ---- what a word is after a write
@@ -39,7 +38,8 @@ at_write mem frame place value other i = elim (cases_eq other frame) [
 -- ---- what the absence of a refusal says
 
 table_of_three : (aligned page table : Bool)
-    → cond (not aligned) (Some refusal.BadAddress) (cond page (Some refusal.Mapped) (cond table None (Some refusal.NoTable))) ≡ None → table ≡ true
+    → cond (not aligned) (Some refusal.BadAddress) (cond page (Some refusal.Mapped) (cond table None (Some refusal.NoTable))) ≡ None
+    → table ≡ true
 table_of_three true false true e = refl
 table_of_three true false false e = absurd (cc)
 table_of_three true true table e = absurd (cc)
@@ -59,10 +59,6 @@ pub uninstalled_yet : (mem : Mem) (root va : ℕ) → install_refusal mem root v
 unfolding install_refusal
 uninstalled_yet mem root va e = table_of_two _ _ e
 
-first_of_both : (a b : Bool) → a && b ≡ true → a ≡ true
-first_of_both true b e = refl
-first_of_both false b e = e
-
 pub page_table : (mem : Mem) (root va : ℕ) → has_page mem root va ≡ true → has_table mem root va ≡ true
 page_table mem root va e = first_of_both _ _ e
 
@@ -80,41 +76,51 @@ pointer-table frame root frames within apart =
 pub pointer-points : (entry root frames : ℕ) → IsPointer entry root frames → Points entry
 pointer-points entry root frames p = subst Points (sym p.pointer) (points-table (ppn entry))
 
-module _ (mem : Mem) (root frames va : ℕ) (k : IsPageMap mem root frames) (within : va < 2 ^ 32) where
+module _ (mem : Mem) (root frames va : ℕ) (k : IsPageMap mem root frames) (table : has_table mem root va ≡ true) where
   -- the pointer for an address
-  pub pointer_at : has_table mem root va ≡ true → IsPointer (first_entry mem root va) root frames
-  pointer_at table = k.tables (vpn_1 va) (vpn_1-below va) table
+  pub pointer_at : IsPointer (first_entry mem root va) root frames
+  pointer_at = k.tables (vpn_1 va) (vpn_1-below va) table
 
   -- a write to the table of an address leaves the root as it is
-  pub root_stays : has_table mem root va ≡ true → (place value i : ℕ)
-      → word (written mem (table_of mem root va) place value) root i ≡ word mem root i
-  root_stays table place value i =
-      let p : IsPointer (first_entry mem root va) root frames = pointer_at table in
+  pub root_stays : (place value i : ℕ) → word (written mem (table_of mem root va) place value) root i ≡ word mem root i
+  root_stays place value i =
+      let p : IsPointer (first_entry mem root va) root frames = pointer_at in
       word-written_frame mem (table_of mem root va) place value root i (λ e. p.apart (sym e))
 
 -- ---- a root as it was
 
-pub kept_by : (m n : Mem) (root frames : ℕ) → ((i : ℕ) → word n root i ≡ word m root i) → IsPageMap m root frames → IsPageMap n root frames
-kept_by m n root frames same k = record {
-  in_memory = k.in_memory;
-  tables = λ i below is_valid.
-      subst (λ (e : ℕ). IsPointer e root frames) (sym (same i)) (k.tables i below (ap valid (sym (same i)) ∙ is_valid));
-  once = λ i j i_below j_below i_valid j_valid e.
-      k.once i j i_below j_below (ap valid (sym (same i)) ∙ i_valid) (ap valid (sym (same j)) ∙ j_valid)
-      (ap ppn (sym (same i)) ∙ e ∙ ap ppn (same j));
-}
+module _ (m n : Mem) (root : ℕ) (same : (i : ℕ) → i < 1024 → word n root i ≡ word m root i) where
+  was_valid : (i : ℕ) → i < 1024 → valid (word n root i) ≡ true → valid (word m root i) ≡ true
+  was_valid i below is_valid = ap valid (sym (same i below)) ∙ is_valid
 
-module _ (mem : Mem) (root frames va : ℕ) (k : IsPageMap mem root frames) where
-  pub mapped_kept : va < 2 ^ 32 → has_table mem root va ≡ true → (frame rights : ℕ) → IsPageMap (mapped mem root va frame rights) root frames
-  mapped_kept within table frame rights =
-      kept_by mem (mapped mem root va frame rights) root frames
-      (root_stays mem root frames va k within table (vpn_0 va) (leaf_word frame rights)) k
+  pub kept_by : (frames : ℕ) → IsPageMap m root frames → IsPageMap n root frames
+  kept_by frames k = record {
+    in_memory = k.in_memory;
+    tables = λ i below is_valid.
+        subst (λ (e : ℕ). IsPointer e root frames) (sym (same i below)) (k.tables i below (was_valid i below is_valid));
+  }
 
-  pub unmapped_kept : va < 2 ^ 32 → has_table mem root va ≡ true → IsPageMap (unmapped mem root va) root frames
-  unmapped_kept within table =
-      kept_by mem (unmapped mem root va) root frames (root_stays mem root frames va k within table (vpn_0 va) 0) k
+  pub once_by : TablesOnce m root → TablesOnce n root
+  once_by o = record {
+    once = λ i j i_below j_below i_valid j_valid e.
+        o.once i j i_below j_below (was_valid i i_below i_valid) (was_valid j j_below j_valid)
+        (ap ppn (sym (same i i_below)) ∙ e ∙ ap ppn (same j j_below));
+  }
 
--- ---- a root with another entry
+-- ---- a word in the table of an address
+
+module _ (mem : Mem) (root frames va value place : ℕ) (k : IsPageMap mem root frames) (table : has_table mem root va ≡ true) where
+  pub table_kept : IsPageMap (written mem (table_of mem root va) place value) root frames
+  table_kept =
+      kept_by mem (written mem (table_of mem root va) place value) root
+      (λ i below. root_stays mem root frames va k table place value i) frames k
+
+  pub table_once : TablesOnce mem root → TablesOnce (written mem (table_of mem root va) place value) root
+  table_once o =
+      once_by mem (written mem (table_of mem root va) place value) root
+      (λ i below. root_stays mem root frames va k table place value i) o
+
+-- ---- a word in the root
 
 -- the entries of the root after one was written
 pub data RootAt (mem : Mem) (root place value i : ℕ) : Type 0 where
@@ -128,73 +134,76 @@ root_at mem root place value i = elim (cases_eq i place) [
   | inr apart ↦ there apart (word-written_place mem root place value i apart)
 ]
 
-module _ (mem : Mem) (root frames place frame : ℕ) (k : IsPageMap mem root frames) (no : IsNoTable mem root frame) (in_memory : frame < frames) (apart : frame ≢ root) where
-  installed_tables : (i : ℕ) → i < 1024 → valid (word (written mem root place (table_word frame)) root i) ≡ true
-      → RootAt mem root place (table_word frame) i → IsPointer (word (written mem root place (table_word frame)) root i) root frames
-  installed_tables i below is_valid (here at is) =
-      subst (λ (e : ℕ). IsPointer e root frames) (sym is) (pointer-table frame root frames in_memory apart)
-  installed_tables i below is_valid (there at is) =
+abbrev pub new_root : Mem → ℕ → ℕ → ℕ → ℕ → ℕ
+new_root mem root place value i = word (written mem root place value) root i
+
+module _ (mem : Mem) (root place value : ℕ) where
+  abbrev new : ℕ → ℕ
+  new i = new_root mem root place value i
+
+  root_pointer : (frames : ℕ) → (valid value ≡ true → IsPointer value root frames) → IsPageMap mem root frames
+      → (i : ℕ) → i < 1024 → RootAt mem root place value i → valid (new i) ≡ true → IsPointer (new i) root frames
+  root_pointer frames given k i below (here at is) is_valid =
+      subst (λ (e : ℕ). IsPointer e root frames) (sym is) (given (ap valid (sym is) ∙ is_valid))
+  root_pointer frames given k i below (there at is) is_valid =
       subst (λ (e : ℕ). IsPointer e root frames) (sym is) (k.tables i below (ap valid (sym is) ∙ is_valid))
 
-  installed_once : (i j : ℕ) → i < 1024 → j < 1024
-      → valid (word (written mem root place (table_word frame)) root i) ≡ true → valid (word (written mem root place (table_word frame)) root j) ≡ true
-      → ppn (word (written mem root place (table_word frame)) root i) ≡ ppn (word (written mem root place (table_word frame)) root j)
-      → RootAt mem root place (table_word frame) i → RootAt mem root place (table_word frame) j → i ≡ j
-  installed_once i j i_below j_below i_valid j_valid e (here i_at i_is) (here j_at j_is) = i_at ∙ sym j_at
-  installed_once i j i_below j_below i_valid j_valid e (here i_at i_is) (there j_at j_is) =
-      absurd (no.unnamed j j_below (ap valid (sym j_is) ∙ j_valid) (ap ppn (sym j_is) ∙ sym e ∙ ap ppn i_is ∙ ppn-table frame))
-  installed_once i j i_below j_below i_valid j_valid e (there i_at i_is) (here j_at j_is) =
-      absurd (no.unnamed i i_below (ap valid (sym i_is) ∙ i_valid) (ap ppn (sym i_is) ∙ e ∙ ap ppn j_is ∙ ppn-table frame))
-  installed_once i j i_below j_below i_valid j_valid e (there i_at i_is) (there j_at j_is) =
-      k.once i j i_below j_below (ap valid (sym i_is) ∙ i_valid) (ap valid (sym j_is) ∙ j_valid) (ap ppn (sym i_is) ∙ e ∙ ap ppn j_is)
-
-  pub installed_kept : IsPageMap (written mem root place (table_word frame)) root frames
-  installed_kept = record {
+  -- a valid word points to a table
+  pub root_kept : (frames : ℕ) → (valid value ≡ true → IsPointer value root frames) → IsPageMap mem root frames
+      → IsPageMap (written mem root place value) root frames
+  root_kept frames given k = record {
     in_memory = k.in_memory;
-    tables = λ i below is_valid. installed_tables i below is_valid (root_at mem root place (table_word frame) i);
-    once = λ i j i_below j_below i_valid j_valid e.
-        installed_once i j i_below j_below i_valid j_valid e (root_at mem root place (table_word frame) i) (root_at mem root place (table_word frame) j);
+    tables = λ i below. root_pointer frames given k i below (root_at mem root place value i);
   }
+
+  module _ (given : valid value ≡ true → IsNoTable mem root (ppn value)) (o : TablesOnce mem root) where
+    -- the new word's table is none of the others
+    apart_from : (i j : ℕ) → j < 1024 → new i ≡ value → new j ≡ word mem root j
+        → valid (new i) ≡ true → valid (new j) ≡ true → ppn (new i) ≢ ppn (new j)
+    apart_from i j j_below i_is j_is i_valid j_valid e =
+        let no : IsNoTable mem root (ppn value) = given (ap valid (sym i_is) ∙ i_valid) in
+        no.unnamed j j_below (ap valid (sym j_is) ∙ j_valid) (ap ppn (sym j_is) ∙ sym e ∙ ap ppn i_is)
+
+    one_place : (i j : ℕ) → i < 1024 → j < 1024 → RootAt mem root place value i → RootAt mem root place value j
+        → valid (new i) ≡ true → valid (new j) ≡ true → ppn (new i) ≡ ppn (new j) → i ≡ j
+    one_place i j i_below j_below (here i_at i_is) (here j_at j_is) i_valid j_valid e = i_at ∙ sym j_at
+    one_place i j i_below j_below (here i_at i_is) (there j_at j_is) i_valid j_valid e =
+        absurd (apart_from i j j_below i_is j_is i_valid j_valid e)
+    one_place i j i_below j_below (there i_at i_is) (here j_at j_is) i_valid j_valid e =
+        absurd (apart_from j i i_below j_is i_is j_valid i_valid (sym e))
+    one_place i j i_below j_below (there i_at i_is) (there j_at j_is) i_valid j_valid e =
+        o.once i j i_below j_below (ap valid (sym i_is) ∙ i_valid) (ap valid (sym j_is) ∙ j_valid)
+        (ap ppn (sym i_is) ∙ e ∙ ap ppn j_is)
+
+    pub root_once : TablesOnce (written mem root place value) root
+    root_once = record {
+      once = λ i j i_below j_below.
+          one_place i j i_below j_below (root_at mem root place value i) (root_at mem root place value j);
+    }
+
+-- ---- words that are zero
+
+pub never : {A : Type 0} → valid 0 ≡ true → A
+never e = absurd (true≢false (sym e ∙ valid-zero))
 
 pub not_valid : (entry : ℕ) → entry ≡ 0 → valid entry ≡ false
 not_valid entry e = ap valid e ∙ valid-zero
 
-module _ (mem : Mem) (root frames place : ℕ) (k : IsPageMap mem root frames) where
-  -- a valid entry of the root stood there before
-  pub still : (i : ℕ) → valid (word (written mem root place 0) root i) ≡ true → word (written mem root place 0) root i ≡ word mem root i
-  still i is_valid = elim (cases_eq i place) [
-    | inl same ↦ absurd (true≢false (sym is_valid ∙ not_valid _
-        (ap (λ (p : ℕ). word (written mem root place 0) root p) same ∙ word-written_same mem root place 0)))
-    | inr apart ↦ word-written_place mem root place 0 i apart
-  ]
-
-  pub uninstalled_kept : IsPageMap (written mem root place 0) root frames
-  uninstalled_kept = record {
-    in_memory = k.in_memory;
-    tables = λ i below is_valid.
-        let is : word (written mem root place 0) root i ≡ word mem root i = still i is_valid in
-        subst (λ (e : ℕ). IsPointer e root frames) (sym is) (k.tables i below (ap valid (sym is) ∙ is_valid));
-    once = λ i j i_below j_below i_valid j_valid e.
-        let i_is : word (written mem root place 0) root i ≡ word mem root i = still i i_valid in
-        let j_is : word (written mem root place 0) root j ≡ word mem root j = still j j_valid in
-        k.once i j i_below j_below (ap valid (sym i_is) ∙ i_valid) (ap valid (sym j_is) ∙ j_valid) (ap ppn (sym i_is) ∙ e ∙ ap ppn j_is);
-  }
-
--- ---- a root that reads zero
-
 module _ (mem : Mem) (root : ℕ) (blank : IsBlank mem root) where
-  pub none_valid : (i : ℕ) → i < 1024 → valid (word mem root i) ≡ false
-  none_valid i below = not_valid _ (blank.zero i below)
+  pub none_valid : {A : Type 0} (i : ℕ) → i < 1024 → valid (word mem root i) ≡ true → A
+  none_valid i below is_valid = absurd (true≢false (sym is_valid ∙ not_valid _ (blank.zero i below)))
 
   pub blank_tables : (frames : ℕ) → root < frames → IsPageMap mem root frames
   blank_tables frames in_memory = record {
     in_memory = in_memory;
-    tables = λ i below is_valid. absurd (true≢false (sym is_valid ∙ none_valid i below));
-    once = λ i j i_below j_below i_valid j_valid e. absurd (true≢false (sym i_valid ∙ none_valid i i_below));
+    tables = λ i below is_valid. none_valid i below is_valid;
   }
 
+  pub blank_once : TablesOnce mem root
+  blank_once = record { once = λ i j i_below j_below i_valid j_valid e. none_valid i i_below i_valid }
+
   pub blank_unnamed : (frame : ℕ) → IsNoTable mem root frame
-  blank_unnamed frame = record { unnamed = λ i below is_valid. absurd (true≢false (sym is_valid ∙ none_valid i below)) }
+  blank_unnamed frame = record { unnamed = λ i below is_valid. none_valid i below is_valid }
 
 pub blank_empty : (frame : ℕ) → IsBlank empty frame
 blank_empty frame = record { zero = λ i below. word-empty frame i }

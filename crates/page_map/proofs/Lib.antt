@@ -1,9 +1,9 @@
 pub mod WriteLemmas
 pub mod RefusalLemmas
-pub mod WordLemmas
 pub mod WalkLemmas
 pub mod KeptLemmas
 pub mod PageLemmas
 pub mod ReachLemmas
 pub mod RegionLemmas
-pub mod BenchLemmas
+pub mod ReachedWalks
+pub mod TestLemmas

@@ -2,7 +2,7 @@
 use Rattle.std.proofs.Common.{◌≡◌, ◌≢◌, ℕ, ◌%◌, true, false, eq-eqb, ne_eqb}
 use Rattle.std.specs.Prelude.{Some, None}
 use Rattle.phys_mem.specs.Mem.{Mem}
-use Rattle.sv32_walk.specs.Entry.{valid}
+use Rattle.sv32_walk.specs.PageTableEntry.{valid}
 use Rattle.sv32_walk.specs.Translation.{first_entry, second_entry}
 use Rattle.page_map.specs.declared.refusal.MapRefusal.TheVariants as refusal
 use Rattle.page_map.specs.Tables.{map_refusal, install_refusal}

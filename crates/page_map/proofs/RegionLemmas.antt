@@ -1,36 +1,36 @@
 -- What walks come to after an entry of the root was written or cleared.
 use Rattle.std.proofs.Common.{arith, ◌≡◌, ◌≢◌, ◌∙◌, ap, sym, subst, refl, inl, inr, ℕ, ◌/◌, ◌^◌, ◌<◌, true, false}
-use Rattle.std.proofs.lemmas.Bool.{cases_eq}
+use Rattle.std.proofs.lemmas.Bool.{cases_eq, cases_Bool}
 use Rattle.std.specs.Prelude.{Err}
 use Rattle.phys_mem.specs.Mem.{Mem, word, written, word-written_same, word-written_place, word-written_frame}
 use Rattle.sv32_walk.specs.declared.access.Access.{Access}
 use Rattle.sv32_walk.specs.declared.access.WalkFault.TheVariants as fault
-use Rattle.sv32_walk.specs.Entry.{valid, ppn, vpn_0, vpn_1}
+use Rattle.sv32_walk.specs.PageTableEntry.{valid, ppn, vpn_0, vpn_1, table_word}
 use Rattle.sv32_walk.specs.Walk.{Walk, walk}
 use Rattle.sv32_walk.specs.Translation.{first_entry, second_entry, Points}
-use Rattle.page_map.specs.Words.{table_word}
 use Rattle.page_map.specs.Tables.{IsPointer, IsPageMap, has_table, table_of}
 use Rattle.page_map.specs.Changes.{installed, uninstalled, CanInstall}
-use Rattle.page_map.proofs.WordLemmas.{ppn-table, points-table}
-use Rattle.page_map.proofs.WalkLemmas.{bool_cases, last_invalid, by_table, no_entry, walk_same, vpn_1-below, vpn_0-below}
+use Rattle.sv32_walk.proofs.WordLemmas.{ppn-table, points-table}
+use Rattle.page_map.specs.Walks.{FaultsIn, SameElsewhere}
+use Rattle.page_map.proofs.WalkLemmas.{last_invalid, by_table, no_entry, walk_same, vpn_1-below, vpn_0-below}
 use Rattle.page_map.proofs.KeptLemmas.{uninstalled_yet, not_valid}
 
-pub region_is : (at va : ℕ) → at / 4194304 ≡ va / 4194304 → vpn_1 at ≡ vpn_1 va
+region_is : (at va : ℕ) → at / 4194304 ≡ va / 4194304 → vpn_1 at ≡ vpn_1 va
 unfolding vpn_1
 region_is at va e = omega arith
 
-pub other_region : (at va : ℕ) → at < 2 ^ 32 → va < 2 ^ 32 → at / 4194304 ≢ va / 4194304 → vpn_1 at ≢ vpn_1 va
+other_region : (at va : ℕ) → at < 2 ^ 32 → va < 2 ^ 32 → at / 4194304 ≢ va / 4194304 → vpn_1 at ≢ vpn_1 va
 unfolding vpn_1
 other_region at va at_fits fits apart e = apart (omega arith)
 
 module _ (mem : Mem) (root frames va value : ℕ) (k : IsPageMap mem root frames) where
   -- an address of another region
-  pub elsewhere : (at : ℕ) (access : Access) → vpn_1 at ≢ vpn_1 va
+  elsewhere : (at : ℕ) (access : Access) → vpn_1 at ≢ vpn_1 va
       → walk (written mem root (vpn_1 va) value) frames root at access ≡ walk mem frames root at access
   elsewhere at access apart =
       let new : Mem = written mem root (vpn_1 va) value in
       let first : first_entry new root at ≡ first_entry mem root at = word-written_place mem root (vpn_1 va) value (vpn_1 at) apart in
-      elim (bool_cases (has_table mem root at)) [
+      elim (cases_Bool (has_table mem root at)) [
         | inl table ↦
             let p : IsPointer (first_entry mem root at) root frames = k.tables (vpn_1 at) (vpn_1-below at) table in
             walk_same mem new frames root at access k.in_memory first
@@ -39,6 +39,11 @@ module _ (mem : Mem) (root frames va value : ℕ) (k : IsPageMap mem root frames
             no_entry new frames root at access k.in_memory (ap valid first ∙ none)
             ∙ sym (no_entry mem frames root at access k.in_memory none)
       ]
+
+  pub region_elsewhere : SameElsewhere 4194304 va mem (written mem root (vpn_1 va) value) frames root
+  region_elsewhere = record {
+    each = λ at access at_fits fits apart. elsewhere at access (other_region at va at_fits fits apart);
+  }
 
   pub first_is : (at : ℕ) → vpn_1 at ≡ vpn_1 va → first_entry (written mem root (vpn_1 va) value) root at ≡ value
   first_is at same =
@@ -53,13 +58,14 @@ module _ (mem : Mem) (root frames va : ℕ) where
   pub table_gone : IsPageMap mem root frames → has_table (uninstalled mem root va) root va ≡ false
   table_gone k = not_valid _ (first_is mem root frames va 0 k va refl)
 
-  pub uninstalled_fault : IsPageMap mem root frames → (at : ℕ) (access : Access) → vpn_1 at ≡ vpn_1 va
-      → (walk (uninstalled mem root va) frames root at access).result ≡ Err fault.Page
-  uninstalled_fault k at access same =
-      ap (λ (w : Walk). w.result) (no_entry (uninstalled mem root va) frames root at access k.in_memory
-      (not_valid _ (first_is mem root frames va 0 k at same)))
+  pub uninstalled_fault : IsPageMap mem root frames → FaultsIn 4194304 va (uninstalled mem root va) frames root
+  uninstalled_fault k = record {
+    each = λ at access same.
+        ap (λ (w : Walk). w.result) (no_entry (uninstalled mem root va) frames root at access k.in_memory
+        (not_valid _ (first_is mem root frames va 0 k at (region_is at va same))));
+  }
 
-  pub blank_fault : (frame : ℕ) → CanInstall mem root frames va frame → (at : ℕ) (access : Access) → vpn_1 at ≡ vpn_1 va
+  blank_fault : (frame : ℕ) → CanInstall mem root frames va frame → (at : ℕ) (access : Access) → vpn_1 at ≡ vpn_1 va
       → (walk (installed mem root va frame) frames root at access).result ≡ Err fault.Page
   blank_fault frame can at access same =
       let new : Mem = installed mem root va frame in
@@ -67,11 +73,14 @@ module _ (mem : Mem) (root frames va : ℕ) where
       let named : ppn (first_entry new root at) ≡ frame = ap ppn first ∙ ppn-table frame in
       let second : second_entry new root at ≡ 0 =
       ap (λ (f : ℕ). word new f (vpn_0 at)) named
-      ∙ word-written_frame mem root (vpn_1 va) (table_word frame) frame (vpn_0 at) can.no_root
+      ∙ word-written_frame mem root (vpn_1 va) (table_word frame) frame (vpn_0 at) can.apart.no_root
       ∙ can.blank.zero (vpn_0 at) (vpn_0-below at) in
       by_table new frames root at access can.tables.in_memory (subst Points (sym first) (points-table frame))
       (subst (λ (f : ℕ). f < frames) (sym named) can.in_memory)
       ∙ last_invalid frames access (second_entry new root at) (not_valid _ second)
+
+  pub installed_fault : (frame : ℕ) → CanInstall mem root frames va frame → FaultsIn 4194304 va (installed mem root va frame) frames root
+  installed_fault frame can = record { each = λ at access same. blank_fault frame can at access (region_is at va same) }
 
   pub installed_same : (frame : ℕ) → CanInstall mem root frames va frame → (at : ℕ) (access : Access)
       → (walk (installed mem root va frame) frames root at access).result ≡ (walk mem frames root at access).result

@@ -1,18 +1,16 @@
 -- What a walk of a root's tables comes to.
-use Rattle.std.proofs.Common.{arith, ◌≡◌, ◌≢◌, ◌∙◌, ap, sym, refl, inl, inr, ◌⊎◌, [], ◌∷◌, ℕ, ◌/◌, ◌^◌, ◌<◌, Bool, true, false, not, ◌&&◌, ◌||◌, lt-ltb}
+use Rattle.std.proofs.Common.{arith, ◌≡◌, ◌≢◌, ◌∙◌, ap, sym, refl, inl, inr, [], ◌∷◌, ℕ, ◌/◌, ◌^◌, ◌<◌, Bool, true, false, not, ◌&&◌, ◌||◌, lt-ltb}
+use Rattle.std.proofs.lemmas.Bool.{cases_Bool}
 use Rattle.std.specs.Prelude.{Option, Some, None, Result, Err}
 use Rattle.phys_mem.specs.Mem.{Mem, word}
 use Rattle.sv32_walk.specs.declared.access.Access.{Access}
 use Rattle.sv32_walk.specs.declared.access.WalkFault.{WalkFault}
 use Rattle.sv32_walk.specs.declared.access.WalkFault.TheVariants as fault
-use Rattle.sv32_walk.specs.Entry.{valid, readable, writable, user, ppn, vpn_0, vpn_1}
-use Rattle.sv32_walk.specs.Walk.{is_reserved, is_leaf, permits, is_marked, leaf, first_level, last_level, from_table, from_entry, entry_address, Walk, walk}
+use Rattle.sv32_walk.specs.PageTableEntry.{valid, readable, writable, ppn, vpn_0, vpn_1, is_reserved, is_leaf, permits}
+use Rattle.sv32_walk.specs.Walk.{leaf, first_level, last_level, from_table, from_entry, entry_address, Walk, walk}
 use Rattle.sv32_walk.specs.Translation.{Points, first_entry, second_entry}
 use Rattle.sv32_walk.proofs.EntryLemmas.{pointer-reserved, pointer-leaf, pointer-clean}
-
-pub bool_cases : (b : Bool) → (b ≡ true) ⊎ (b ≡ false)
-bool_cases true = inl refl
-bool_cases false = inr refl
+use Rattle.page_map.specs.Reached.{SameTables}
 
 -- ---- an entry
 
@@ -27,21 +25,16 @@ pub last_invalid : (frames : ℕ) (access : Access) (entry : ℕ) → valid entr
 unfolding last_level
 last_invalid frames access entry e = rw (invalid entry e)
 
-no_test : (u p m : Bool) → p ≡ false → u && (p && m) ≡ false
-no_test true p m e = rw (e)
-no_test false p m e = refl
-
-pub last_refused : (frames : ℕ) (access : Access) (entry : ℕ) → permits access entry ≡ false → last_level frames access entry ≡ Err fault.Page
+pub last_refused : (frames : ℕ) (access : Access) (entry : ℕ) → permits access entry ≡ false
+    → last_level frames access entry ≡ Err fault.Page
 unfolding last_level leaf
-last_refused frames access entry e =
-    let tests : user entry && (permits access entry && is_marked access entry) ≡ false = no_test (user entry) (permits access entry) (is_marked access entry) e in
-    elim (bool_cases (is_reserved entry)) [
-      | inl bad ↦ rw (bad)
-      | inr kept ↦ elim (bool_cases (is_leaf entry)) [
-        | inl a_leaf ↦ rw (kept, a_leaf, tests)
-        | inr no_leaf ↦ rw (kept, no_leaf)
-      ]
-    ]
+last_refused frames access entry e = elim (cases_Bool (is_reserved entry)) [
+  | inl bad ↦ rw (bad)
+  | inr kept ↦ elim (cases_Bool (is_leaf entry)) [
+    | inl a_leaf ↦ rw (kept, a_leaf, e)
+    | inr no_leaf ↦ rw (kept, no_leaf)
+  ]
+]
 
 -- ---- a walk
 
@@ -103,14 +96,22 @@ pub vpn_0-below : (va : ℕ) → vpn_0 va < 1024
 unfolding vpn_0
 vpn_0-below va = omega arith
 
-pub same_region : (at va : ℕ) → at / 4096 ≡ va / 4096 → vpn_1 at ≡ vpn_1 va
-unfolding vpn_1
-same_region at va e = omega arith
-
-pub same_place : (at va : ℕ) → at / 4096 ≡ va / 4096 → vpn_0 at ≡ vpn_0 va
-unfolding vpn_0
-same_place at va e = omega arith
-
 pub other_place : (at va : ℕ) → at < 2 ^ 32 → va < 2 ^ 32 → at / 4096 ≢ va / 4096 → vpn_1 at ≡ vpn_1 va → vpn_0 at ≢ vpn_0 va
 unfolding vpn_0 vpn_1
 other_place at va at_fits fits apart region place = apart (omega arith)
+
+-- ---- page tables as they were
+
+pub walk_by_tables : (old new : Mem) (frames root va : ℕ) (access : Access) → root < frames → SameTables old new root
+    → walk new frames root va access ≡ walk old frames root va access
+walk_by_tables old new frames root va access in_root same =
+    let first : first_entry new root va ≡ first_entry old root va = same.in_root (vpn_1 va) (vpn_1-below va) in
+    elim (cases_Bool (valid (first_entry old root va))) [
+      | inl table ↦
+          walk_same old new frames root va access in_root first
+          (ap (λ (e : ℕ). word new (ppn e) (vpn_0 va)) (sym first)
+          ∙ same.in_tables (vpn_1 va) (vpn_0 va) (vpn_1-below va) (vpn_0-below va) table)
+      | inr none ↦
+          no_entry new frames root va access in_root (ap valid first ∙ none)
+          ∙ sym (no_entry old frames root va access in_root none)
+    ]

@@ -1,10 +1,10 @@
 -- What each call makes of memory: one word is written.
-use Rattle.std.specs.Prelude.{◌≡◌, ◌≢◌, ℕ, ◌^◌, ◌<◌, true, None}
+use Rattle.std.specs.Prelude.{◌≡◌, ℕ, ◌<◌, true, None}
 use Rattle.phys_mem.specs.Mem.{Mem, written}
-use Rattle.sv32_walk.specs.Entry.{vpn_0, vpn_1}
+use Rattle.sv32_walk.specs.PageTableEntry.{vpn_0, vpn_1, are_good, table_word, leaf_word}
 use Rattle.sv32_walk.specs.Walk.{entry_address}
-use Rattle.page_map.specs.Words.{are_good, table_word, leaf_word}
-use Rattle.page_map.specs.Tables.{IsPageMap, IsNoTable, IsBlank, has_table, has_page, table_of, map_refusal, install_refusal}
+use Rattle.page_map.specs.Tables.{IsPageMap, IsBlank, has_table, has_page, table_of, map_refusal, install_refusal}
+use Rattle.page_map.specs.Reached.{IsApart}
 
 -- the physical address of the entry for an address in the root, and in its table
 abbrev pub table_entry : ℕ → ℕ → ℕ
@@ -31,28 +31,22 @@ uninstalled mem root va = written mem root (vpn_1 va) 0
 
 pub record CanMap (mem : Mem) (root frames va frame rights : ℕ) : Type 0 where
   pub tables : IsPageMap mem root frames
-  pub address : va < 2 ^ 32
   pub allowed : map_refusal mem root va ≡ None
   pub in_memory : frame < frames
-  pub no_root : frame ≢ root
-  pub no_table : IsNoTable mem root frame
+  pub apart : IsApart mem root frame
   pub rights_are_good : are_good rights ≡ true
 
 pub record CanUnmap (mem : Mem) (root frames va : ℕ) : Type 0 where
   pub tables : IsPageMap mem root frames
-  pub address : va < 2 ^ 32
   pub page : has_page mem root va ≡ true
 
 pub record CanInstall (mem : Mem) (root frames va frame : ℕ) : Type 0 where
   pub tables : IsPageMap mem root frames
-  pub address : va < 2 ^ 32
   pub allowed : install_refusal mem root va ≡ None
   pub in_memory : frame < frames
-  pub no_root : frame ≢ root
-  pub no_table : IsNoTable mem root frame
+  pub apart : IsApart mem root frame
   pub blank : IsBlank mem frame
 
 pub record CanUninstall (mem : Mem) (root frames va : ℕ) : Type 0 where
   pub tables : IsPageMap mem root frames
-  pub address : va < 2 ^ 32
   pub table : has_table mem root va ≡ true

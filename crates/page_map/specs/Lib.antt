@@ -1,5 +1,4 @@
-pub mod Words
 pub mod Tables
-pub mod Changes
 pub mod Reached
-pub mod Bench
+pub mod Changes
+pub mod Walks

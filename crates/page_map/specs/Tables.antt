@@ -4,11 +4,10 @@ use Rattle.std.specs.Prelude.{◌≡◌, ◌≢◌, ℕ, ◌%◌, ◌<◌, Bool,
 use Rattle.phys_mem.specs.Contents.{Contents}
 use Rattle.phys_mem.specs.Mem.{Mem, word}
 use Rattle.phys_mem.specs.Holds.{Holds}
-use Rattle.sv32_walk.specs.Entry.{valid, ppn}
+use Rattle.sv32_walk.specs.PageTableEntry.{valid, ppn, table_word}
 use Rattle.sv32_walk.specs.Translation.{first_entry, second_entry}
 use Rattle.page_map.specs.declared.refusal.MapRefusal.{MapRefusal}
 use Rattle.page_map.specs.declared.refusal.MapRefusal.TheVariants as refusal
-use Rattle.page_map.specs.Words.{table_word}
 
 -- ---- what stands for an address
 
@@ -32,16 +31,22 @@ pub record IsPointer (entry root frames : ℕ) : Type 0 where
   pub in_memory : ppn entry < frames
   pub apart : ppn entry ≢ root
 
--- the tables of a root, in a memory of so many frames; no table is installed twice
+-- the tables of a root, in a memory of so many frames
 pub record IsPageMap (mem : Mem) (root frames : ℕ) : Type 0 where
   pub in_memory : root < frames
-  pub tables : (place : ℕ) → place < 1024 → valid (word mem root place) ≡ true → IsPointer (word mem root place) root frames
-  pub once : (place other : ℕ) → place < 1024 → other < 1024 → valid (word mem root place) ≡ true → valid (word mem root other) ≡ true
+  pub tables : (place : ℕ) → place < 1024 → valid (word mem root place) ≡ true
+      → IsPointer (word mem root place) root frames
+
+-- no table is installed twice
+pub record TablesOnce (mem : Mem) (root : ℕ) : Type 0 where
+  pub once : (place other : ℕ) → place < 1024 → other < 1024
+      → valid (word mem root place) ≡ true → valid (word mem root other) ≡ true
       → ppn (word mem root place) ≡ ppn (word mem root other) → place ≡ other
 
 -- a frame that no valid entry of the root names
 pub record IsNoTable (mem : Mem) (root frame : ℕ) : Type 0 where
-  pub unnamed : (place : ℕ) → place < 1024 → valid (word mem root place) ≡ true → ppn (word mem root place) ≢ frame
+  pub unnamed : (place : ℕ) → place < 1024 → valid (word mem root place) ≡ true
+      → ppn (word mem root place) ≢ frame
 
 -- a frame that reads zero
 pub record IsBlank (mem : Mem) (frame : ℕ) : Type 0 where

@@ -1,3 +1,4 @@
+// Why a call is refused.
 use thiserror::Error;
 
 /// Why a page is not mapped, or a table not installed.

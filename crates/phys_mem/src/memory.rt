@@ -1,3 +1,4 @@
+// Physical memory: all its words, and the calls that read and write parts of them.
 ghost use Rattle.std.specs.Prelude.{◌≡◌, ◌≢◌, ℕ, ◌+◌, ◌*◌, ◌/◌, ◌%◌, ◌^◌, ◌<◌, ◌≤◌, length, IfOk};
 ghost use Rattle.byteorder.specs.Endian.{little_bytes};
 ghost use Rattle.tp_base.specs.Table.{empty};
@@ -31,8 +32,8 @@ impl Model for PhysMem {
 }
 
 impl PhysMem {
-    /// A memory of so many frames, all of which read zero. A 32-bit address
-    /// reaches 2^20 frames.
+    /// A memory of so many frames, up to 2^20, all of which read zero: 32-bit
+    /// addresses name the bytes of so many.
     ///
     /// # Errors
     /// `Memory` where no memory is left for it.
@@ -45,7 +46,7 @@ impl PhysMem {
         Ok(PhysMem { frames, words })
     }
 
-    /// The number of its frames.
+    /// The number of its frames, up to 2^20.
     pub fn frames(&self) -> u32
         ensures value { result ≡ self.now.frames }
         ensures range { result ≤ 2 ^ 20 }
@@ -55,74 +56,86 @@ impl PhysMem {
         self.frames
     }
 
-    /// The word at an address of four bytes, a multiple of 4.
+    /// The word at an address, a multiple of 4, in memory.
     pub fn read_word(&self, at: u32) -> u32
         requires within { frame_of at < self.now.frames }
         requires aligned { at % 4 ≡ 0 }
         ensures value { result ≡ word_at self.now at }
-        ensures holds { (mem : Mem) → Holds self.now mem → result ≡ word mem (frame_of at) (place_of at) }
+        ensures holds { (mem : Mem) → Holds self.now mem
+            → result ≡ word mem (frame_of at) (place_of at) }
     {
         self.word(at)
     }
 
-    /// Writes the word at an address that is a multiple of 4.
+    /// Writes the word at an address, a multiple of 4, in memory; every other
+    /// word stays.
     pub fn write_word(&mut self, at: u32, word: u32)
         requires within { frame_of at < self.old.frames }
         requires aligned { at % 4 ≡ 0 }
         ensures becomes { self.new ≡ with_word self.old at word }
         ensures frames { self.new.frames ≡ self.old.frames }
-        ensures others { (frame : ℕ) → frame ≢ frame_of at → frame_words self.new frame ≡ frame_words self.old frame }
+        ensures others { (frame : ℕ) → frame ≢ frame_of at
+            → frame_words self.new frame ≡ frame_words self.old frame }
         ensures stored { word_at self.new at ≡ word }
-        ensures bytes { (address : ℕ) → address / 4 ≢ at / 4 → byte_at self.new address ≡ byte_at self.old address }
-        ensures holds { (mem : Mem) → Holds self.old mem → Holds self.new (written mem (frame_of at) (place_of at) word) }
+        ensures bytes { (address : ℕ) → address / 4 ≢ at / 4
+            → byte_at self.new address ≡ byte_at self.old address }
+        ensures holds { (mem : Mem) → Holds self.old mem
+            → Holds self.new (written mem (frame_of at) (place_of at) word) }
     {
         self.set_word(at, word);
     }
 
-    /// The half at an even address.
+    /// The half at an even address in memory.
     pub fn read_half(&self, at: u32) -> u16
         requires within { frame_of at < self.now.frames }
         requires aligned { at % 2 ≡ 0 }
         ensures value { result ≡ half_at self.now at }
-        ensures holds { (mem : Mem) → Holds self.now mem → result ≡ half_in (word mem (frame_of at) (place_of at)) (at % 4) }
+        ensures holds { (mem : Mem) → Holds self.now mem
+            → result ≡ half_in (word mem (frame_of at) (place_of at)) (at % 4) }
     {
         half_of(self.word(at), at % 4)
     }
 
-    /// Writes the half at an even address; the other half of its word stays.
+    /// Writes the half at an even address in memory; every other half stays.
     pub fn write_half(&mut self, at: u32, half: u16)
         requires within { frame_of at < self.old.frames }
         requires aligned { at % 2 ≡ 0 }
         ensures becomes { self.new ≡ with_half self.old at half }
         ensures frames { self.new.frames ≡ self.old.frames }
-        ensures others { (frame : ℕ) → frame ≢ frame_of at → frame_words self.new frame ≡ frame_words self.old frame }
+        ensures others { (frame : ℕ) → frame ≢ frame_of at
+            → frame_words self.new frame ≡ frame_words self.old frame }
         ensures stored { half_at self.new at ≡ half }
-        ensures bytes { (address : ℕ) → address / 2 ≢ at / 2 → byte_at self.new address ≡ byte_at self.old address }
-        ensures holds { (mem : Mem) → Holds self.old mem → Holds self.new (written mem (frame_of at) (place_of at)
+        ensures bytes { (address : ℕ) → address / 2 ≢ at / 2
+            → byte_at self.new address ≡ byte_at self.old address }
+        ensures holds { (mem : Mem) → Holds self.old mem
+            → Holds self.new (written mem (frame_of at) (place_of at)
             (with_half_in (word mem (frame_of at) (place_of at)) (at % 4) half)) }
     {
         let word = self.word(at);
         self.set_word(at, with_half_of(word, at % 4, half));
     }
 
-    /// The byte at an address.
+    /// The byte at an address in memory.
     pub fn read_byte(&self, at: u32) -> u8
         requires { frame_of at < self.now.frames }
         ensures value { result ≡ byte_at self.now at }
-        ensures holds { (mem : Mem) → Holds self.now mem → result ≡ byte_in (word mem (frame_of at) (place_of at)) (at % 4) }
+        ensures holds { (mem : Mem) → Holds self.now mem
+            → result ≡ byte_in (word mem (frame_of at) (place_of at)) (at % 4) }
     {
         byte_of(self.word(at), at % 4)
     }
 
-    /// Writes the byte at an address; the other bytes of its word stay.
+    /// Writes the byte at an address in memory; every other byte stays.
     pub fn write_byte(&mut self, at: u32, byte: u8)
         requires { frame_of at < self.old.frames }
         ensures becomes { self.new ≡ with_byte self.old at byte }
         ensures frames { self.new.frames ≡ self.old.frames }
-        ensures others { (frame : ℕ) → frame ≢ frame_of at → frame_words self.new frame ≡ frame_words self.old frame }
+        ensures others { (frame : ℕ) → frame ≢ frame_of at
+            → frame_words self.new frame ≡ frame_words self.old frame }
         ensures stored { byte_at self.new at ≡ byte }
         ensures bytes { (address : ℕ) → address ≢ at → byte_at self.new address ≡ byte_at self.old address }
-        ensures holds { (mem : Mem) → Holds self.old mem → Holds self.new (written mem (frame_of at) (place_of at)
+        ensures holds { (mem : Mem) → Holds self.old mem
+            → Holds self.new (written mem (frame_of at) (place_of at)
             (with_byte_in (word mem (frame_of at) (place_of at)) (at % 4) byte)) }
     {
         let word = self.word(at);
@@ -133,7 +146,8 @@ impl PhysMem {
     fn word(&self, at: u32) -> u32
         requires { frame_of at < self.now.frames }
         ensures value { result ≡ word_at self.now at }
-        ensures holds { (mem : Mem) → Holds self.now mem → result ≡ word mem (frame_of at) (place_of at) }
+        ensures holds { (mem : Mem) → Holds self.now mem
+            → result ≡ word mem (frame_of at) (place_of at) }
     {
         let index = at as usize / 4;
         self.words[index]
@@ -144,9 +158,12 @@ impl PhysMem {
         requires { frame_of at < self.old.frames }
         ensures becomes { self.new ≡ with_word self.old at word }
         ensures stored { word_at self.new at ≡ word }
-        ensures words { (address : ℕ) → address / 4 ≢ at / 4 → word_at self.new address ≡ word_at self.old address }
-        ensures others { (frame : ℕ) → frame ≢ frame_of at → frame_words self.new frame ≡ frame_words self.old frame }
-        ensures holds { (mem : Mem) → Holds self.old mem → Holds self.new (written mem (frame_of at) (place_of at) word) }
+        ensures words { (address : ℕ) → address / 4 ≢ at / 4
+            → word_at self.new address ≡ word_at self.old address }
+        ensures others { (frame : ℕ) → frame ≢ frame_of at
+            → frame_words self.new frame ≡ frame_words self.old frame }
+        ensures holds { (mem : Mem) → Holds self.old mem
+            → Holds self.new (written mem (frame_of at) (place_of at) word) }
     {
         self.words[at as usize / 4] = word;
     }
@@ -172,7 +189,7 @@ impl Zero for PhysMem {
         ensures becomes { self.new ≡ zeroed self.old frame }
         ensures zero { (i : ℕ) → word_of self.new frame i ≡ 0 }
         ensures others { (f i : ℕ) → f ≢ frame → word_of self.new f i ≡ word_of self.old f i }
-        ensures held { (f : ℕ) → f < self.old.frames → f < self.new.frames }
+        ensures in_memory { (f : ℕ) → f < self.old.frames → f < self.new.frames }
         ensures holds { (mem : Mem) → Holds self.old mem → Holds self.new (zeroed_frame mem frame) }
     {
         self.clear(frame.number());

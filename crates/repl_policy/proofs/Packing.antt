@@ -238,3 +238,33 @@ highest n state list packs some le = of (all_ways n list) (last_way-all_ways n l
         let len : length ws ≡ n - 1 = omega (arith, order.complete) in
         let read : pack (w ∷ ws) / 2 ^ (4 * (n - 1)) ≡ last_way w ws = last_way-pack w ws (n - 1) len (AllBelow-weaker n 16 (w ∷ ws) le order.below) in
         (rw is (read ∙ last), subst (λ (v : ℕ). v < n) last (last_way_lt n w ws order.below.1 order.below.0))
+
+-- ---- a way that is in front already
+
+none_without : (way : ℕ) (order : List ℕ) → times way order ≡ 0 → without order way ≡ order
+none_without way [] none = refl
+none_without way (w ∷ ws) none =
+    elim (cases_eq w way) [
+      | inl same ↦ let t : eqb w way ≡ true = grind (arith, nat_tests) in absurd (grind (arith, nat_tests))
+      | inr other ↦
+          let t : eqb w way ≡ false = grind (arith, nat_tests) in
+          let rest : times way ws ≡ 0 = grind (arith, nat_tests) in
+          rw t (ap (λ (zs : List ℕ). w ∷ zs) (none_without way ws rest))
+    ]
+
+front_again : (n way state : ℕ) (order : List ℕ) → IsOrder n order → AllBelow 16 order → way < n → state ≡ pack order → state % 16 ≡ way
+    → way + 16 * pack (without order way) ≡ state
+front_again n way state [] is below lt packed first = absurd (omega (arith, is.complete))
+front_again n way state (w ∷ ws) is below lt packed first =
+    let same : w ≡ way = omega (arith, below.0) in
+    let t : eqb w way ≡ true = grind (arith, nat_tests) in
+    let one : times way (w ∷ ws) ≡ 1 = is.once way lt in
+    let none : times way ws ≡ 0 = grind (arith, nat_tests) in
+    rw t (ap (λ (zs : List ℕ). way + 16 * pack zs) (none_without way ws none) ∙ omega arith)
+
+-- where a way is the newest already, the order stays as it is
+pub Packs-newest : (n state way : ℕ) (list : List ℕ) → Packs n state list → n ≤ 16 → way < n → state % 16 ≡ way → Packs n state (to_front list way)
+Packs-newest n state way list packs le lt first =
+    let all : List ℕ = all_ways n list in
+    let same = front_again n way state all packs.order (AllBelow-weaker n 16 all le packs.order.below) lt packs.packed first in
+    subst (λ (s : ℕ). Packs n s (to_front list way)) same (Packs-to_front n state way list packs lt)

@@ -25,8 +25,8 @@ victim_in (suc depth) low list = victim_in depth (low + other_half depth low lis
 abbrev pub depth_of : ℕ → ℕ
 depth_of ways = if ways == 16 then 4 else (if ways == 8 then 3 else (if ways == 4 then 2 else (if ways == 2 then 1 else 0)))
 
-abbrev pub plru_rule : Rule
-plru_rule = record { touched = to_front; filled = to_front; victim = λ ways list. victim_in (depth_of ways) 0 list }
+abbrev pub plru_rule : ℕ → Rule
+plru_rule ways = record { touched = to_front; filled = to_front; victim = victim_in (depth_of ways) 0 }
 
 -- any number of ways from 1 to 16
 abbrev pub UpToSixteen : ℕ → Type 0

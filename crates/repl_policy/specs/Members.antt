@@ -13,7 +13,7 @@ any_takes Lru ways = UpToSixteen ways
 any_takes Fifo ways = UpToSixteen ways
 any_takes TreePlru ways = IsPowerUpToSixteen ways
 
-abbrev pub any_rule : AnyPolicy → Rule
+abbrev pub any_rule : AnyPolicy → ℕ → Rule
 any_rule Lru = lru_rule
 any_rule Fifo = fifo_rule
 any_rule TreePlru = plru_rule

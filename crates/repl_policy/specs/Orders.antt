@@ -30,9 +30,9 @@ abbrev pub oldest : ℕ → List ℕ → ℕ
 oldest ways list = unwrap_or (least_unlisted ways list) (last_way 0 list)
 
 -- least recently used: a hit or a fill moves the way to the front
-abbrev pub lru_rule : Rule
-lru_rule = record { touched = to_front; filled = to_front; victim = oldest }
+abbrev pub lru_rule : ℕ → Rule
+lru_rule ways = record { touched = to_front; filled = to_front; victim = oldest ways }
 
 -- first in, first out: only a fill does
-abbrev pub fifo_rule : Rule
-fifo_rule = record { touched = λ list way. list; filled = to_front; victim = oldest }
+abbrev pub fifo_rule : ℕ → Rule
+fifo_rule ways = record { touched = λ list way. list; filled = to_front; victim = oldest ways }

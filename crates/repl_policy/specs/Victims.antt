@@ -36,7 +36,8 @@ half_away_le : (middle : ℕ) (newest : Option ℕ) → half_away middle newest 
 half_away_le middle None = omega arith
 half_away_le middle (Some way) = elim (ltb way middle) as (λ b. cond b 1 0 ≤ 1) [ true ↦ omega arith | false ↦ omega arith ]
 
-victim_in_lt : (depth low : ℕ) (list : List ℕ) → victim_in depth low list < low + 2 ^ depth
+-- from a range, the victim lies in it
+pub victim_in_lt : (depth low : ℕ) (list : List ℕ) → victim_in depth low list < low + 2 ^ depth
 victim_in_lt zero low list = omega arith
 victim_in_lt (suc depth) low list =
     let half : ℕ = other_half depth low list in
@@ -53,7 +54,7 @@ pub victim_in_below : {P : Type 0} (policy : P) (ways : ℕ) (list : List ℕ) �
     → victim_in (depth_of ways) 0 list < ways
 victim_in_below policy ways list taken below = let h = victim_in_lt (depth_of ways) 0 list in omega (arith, h, taken.2)
 
-pub any_victim_below : (policy : AnyPolicy) (ways : ℕ) (list : List ℕ) → any_takes policy ways → All (λ way. way < ways) list → (any_rule policy).victim ways list < ways
+pub any_victim_below : (policy : AnyPolicy) (ways : ℕ) (list : List ℕ) → any_takes policy ways → All (λ way. way < ways) list → (any_rule policy ways).victim list < ways
 any_victim_below Lru ways list taken below = oldest_lt ways list taken.0 below
 any_victim_below Fifo ways list taken below = oldest_lt ways list taken.0 below
 any_victim_below TreePlru ways list taken below = victim_in_below TreePlru ways list taken below

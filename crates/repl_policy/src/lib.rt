@@ -2,6 +2,7 @@
 //! number of 64 bits. Each keeps the rule on lists of ways in specs/.
 #![tactic(auto)]
 
+ghost use Rattle.std.specs.Prelude.{◌≢◌, ◌<◌, ◌≤◌, ℕ, List};
 ghost use Rattle.repl_policy.specs.Orders.{lru_rule, fifo_rule};
 ghost use Rattle.repl_policy.specs.Halves.{plru_rule, depth_of, UpToSixteen, IsPowerUpToSixteen};
 ghost use Rattle.repl_policy.specs.Packed.{Packs};
@@ -27,18 +28,22 @@ impl Policy for Lru {
 
     ghost victim_below = { oldest_below };
 
+    #[inline(always)]
     fn fresh(&self, ways: u32) -> u64 {
         order::fresh(ways)
     }
 
+    #[inline(always)]
     fn touch(&self, ways: u32, state: u64, way: u32) -> u64 {
         order::to_front(ways, state, way)
     }
 
+    #[inline(always)]
     fn fill(&self, ways: u32, state: u64, way: u32) -> u64 {
         order::to_front(ways, state, way)
     }
 
+    #[inline(always)]
     fn victim(&self, ways: u32, state: u64) -> u32 {
         order::oldest(ways, state)
     }
@@ -59,18 +64,22 @@ impl Policy for Fifo {
 
     ghost victim_below = { oldest_below };
 
+    #[inline(always)]
     fn fresh(&self, ways: u32) -> u64 {
         order::fresh(ways)
     }
 
+    #[inline(always)]
     fn touch(&self, _ways: u32, state: u64, _way: u32) -> u64 {
         state
     }
 
+    #[inline(always)]
     fn fill(&self, ways: u32, state: u64, way: u32) -> u64 {
         order::to_front(ways, state, way)
     }
 
+    #[inline(always)]
     fn victim(&self, ways: u32, state: u64) -> u32 {
         order::oldest(ways, state)
     }
@@ -92,18 +101,22 @@ impl Policy for TreePlru {
 
     ghost victim_below = { victim_in_below };
 
+    #[inline(always)]
     fn fresh(&self, _ways: u32) -> u64 {
         0
     }
 
+    #[inline(always)]
     fn touch(&self, ways: u32, state: u64, way: u32) -> u64 {
         tree::point_away(state, 0, ways, way)
     }
 
+    #[inline(always)]
     fn fill(&self, ways: u32, state: u64, way: u32) -> u64 {
         tree::point_away(state, 0, ways, way)
     }
 
+    #[inline(always)]
     fn victim(&self, ways: u32, state: u64) -> u32 {
         tree::victim(state, 0, ways)
     }
@@ -133,6 +146,7 @@ impl Policy for AnyPolicy {
 
     ghost victim_below = { any_victim_below };
 
+    #[inline(always)]
     fn fresh(&self, ways: u32) -> u64 {
         match self {
             AnyPolicy::Lru => Lru.fresh(ways),
@@ -141,6 +155,7 @@ impl Policy for AnyPolicy {
         }
     }
 
+    #[inline(always)]
     fn touch(&self, ways: u32, state: u64, way: u32) -> u64 {
         match self {
             AnyPolicy::Lru => Lru.touch(ways, state, way),
@@ -149,6 +164,7 @@ impl Policy for AnyPolicy {
         }
     }
 
+    #[inline(always)]
     fn fill(&self, ways: u32, state: u64, way: u32) -> u64 {
         match self {
             AnyPolicy::Lru => Lru.fill(ways, state, way),
@@ -157,6 +173,7 @@ impl Policy for AnyPolicy {
         }
     }
 
+    #[inline(always)]
     fn victim(&self, ways: u32, state: u64) -> u32 {
         match self {
             AnyPolicy::Lru => Lru.victim(ways, state),
@@ -164,6 +181,18 @@ impl Policy for AnyPolicy {
             AnyPolicy::TreePlru => TreePlru.victim(ways, state),
         }
     }
+}
+
+/// The law that neither least recently used nor the tree gives up the way that
+/// was touched last, where there are two ways or more.
+pub fn touched_way_stays(ways: u32, way: u32)
+    requires two { 2 ≤ ways }
+    requires below { way < ways }
+    ensures lru { (list : List ℕ) → (lru_rule ways).victim ((lru_rule ways).touched list way) ≢ way }
+    ensures plru { IsPowerUpToSixteen ways → (list : List ℕ)
+        → (plru_rule ways).victim ((plru_rule ways).touched list way) ≢ way }
+{
+    let _ = (ways, way);
 }
 
 #[cfg(test)]

@@ -1,4 +1,4 @@
-//! An order of ways in one number, four bits a way, the newest lowest.
+// An order of ways in one number, four bits a way, the newest lowest.
 ghost use Rattle.std.specs.Prelude.{◌≡◌, ℕ, ◌<◌, ◌≤◌, List, [], length};
 ghost use Rattle.repl_policy.specs.Orders.{without, to_front, oldest};
 ghost use Rattle.repl_policy.specs.Packed.{AllBelow, Packs, pack};
@@ -34,16 +34,23 @@ fn without(state: u64, count: u32, way: u32) -> u64
 }
 
 /// The order in which a way is the newest.
+#[inline(always)]
 pub fn to_front(ways: u32, state: u64, way: u32) -> u64
     requires few { ways ≤ 16 }
     requires below { way < ways }
     requires valid { (list : List ℕ) × Packs ways state list }
     ensures { (list : List ℕ) → Packs ways state list → Packs ways result (to_front list way) }
 {
-    u64::from(way) + 16 * without(state, ways, way)
+    // Where the way is the newest already, nothing moves.
+    let newest = u64::from(way);
+    if state % 16 == newest {
+        return state;
+    }
+    newest + 16 * without(state, ways, way)
 }
 
 /// The last way of the order.
+#[inline(always)]
 pub fn oldest(ways: u32, state: u64) -> u32
     requires some { 0 < ways }
     requires few { ways ≤ 16 }

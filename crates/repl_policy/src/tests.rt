@@ -1,3 +1,4 @@
+// The three policies beside plain lists of ways.
 use super::AnyPolicy;
 use set_cache::SetCache;
 use std::test::Fail;
@@ -29,9 +30,9 @@ struct PlainSet {
 }
 
 impl PlainSet {
-    // Whether the line was held, and the line that was given up.
+    // Whether the line was here, and the line that was given up.
     fn touch(&mut self, ways: usize, line: u32) -> Result<(bool, Option<u32>), Fail> {
-        if let Some(way) = self.lines.iter().position(|held| *held == line) {
+        if let Some(way) = self.lines.iter().position(|kept| *kept == line) {
             if self.policy != AnyPolicy::Fifo {
                 self.order.retain(|listed| *listed != way);
                 self.order.insert(0, way)?;
@@ -44,9 +45,9 @@ impl PlainSet {
             self.lines.push(line)?;
         } else {
             way = self.victim(ways);
-            if let Some(held) = self.lines.get_mut(way) {
-                victim = Some(*held);
-                *held = line;
+            if let Some(kept) = self.lines.get_mut(way) {
+                victim = Some(*kept);
+                *kept = line;
             }
         }
         self.order.retain(|listed| *listed != way);

@@ -1,5 +1,5 @@
-//! A tree of halves of the ways in one number, a bit a range, at the number of
-//! the range's middle: 0 where the victim goes to the lower half.
+// A tree of halves of the ways in one number, a bit a range, at the number of
+// the range's middle: 0 where the victim goes to the lower half.
 ghost use Rattle.std.specs.Prelude.{◌≡◌, ℕ, ◌+◌, ◌^◌, ◌<◌, ◌≤◌, List};
 ghost use Rattle.std.specs.Int.{bit_at};
 ghost use Rattle.repl_policy.specs.Orders.{to_front};

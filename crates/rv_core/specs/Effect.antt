@@ -65,7 +65,7 @@ effect_of regs pc (Store width rs1 rs2 offset) loaded = access regs pc (alignmen
 effect_of regs pc (Immediate operation rd rs1 imm) loaded = register_write regs pc rd (value_of operation (register regs rs1) imm)
 effect_of regs pc (Register operation rd rs1 rs2) loaded = register_write regs pc rd (value_of operation (register regs rs1) (register regs rs2))
 effect_of regs pc Fence loaded = continuation regs pc
-effect_of regs pc Ecall loaded = continuation regs pc
+effect_of regs pc Ecall loaded = exception regs pc (record { code = 8; value = 0 })
 effect_of regs pc Ebreak loaded = exception regs pc (record { code = 3; value = pc })
 effect_of regs pc (ReadCounter counter rd) loaded = register_write regs pc rd loaded
 

@@ -99,12 +99,14 @@ fn branch(pc: u32, target: u32, taken: bool) -> Effect
 /// Runs one instruction at the address `pc`, and answers its effect.
 ///
 /// `loaded` is what a load found, with zeros above it, or the value of a counter
-/// that is read; for every other instruction it doesn't count.
+/// that is read; for every other instruction it doesn't count. The numbers of
+/// the instruction's registers are below 32.
 ///
 /// A jump or a taken branch to an address that is no multiple of 4 traps, as do
-/// a misaligned load or store and EBREAK; where there is a trap, nothing else
-/// changes. ECALL is no trap here: it goes on at the next instruction and
-/// changes nothing, since the call is its caller's to make. FENCE changes nothing.
+/// a misaligned load or store, EBREAK and ECALL; where there is a trap, nothing
+/// else changes (RISC-V unprivileged specification, "RV32I Base Integer
+/// Instruction Set"). A caller that makes an ECALL's call itself takes the ECALL
+/// before it runs it. FENCE changes nothing.
 pub fn execute(regs: &mut Regs, pc: u32, instr: Instr, loaded: u32) -> Effect
     requires registers { HasRegisters instr }
     ensures regs { regs.new ≡ (effect_of regs.old pc instr loaded).regs }
@@ -159,7 +161,8 @@ pub fn execute(regs: &mut Regs, pc: u32, instr: Instr, loaded: u32) -> Effect
             let word = compute(operation, regs.get(rs1), regs.get(rs2));
             write_register(regs, pc, rd, word)
         }
-        Instr::Fence | Instr::Ecall => go_on(pc),
+        Instr::Fence => go_on(pc),
+        Instr::Ecall => raise(pc, Trap { code: 8, value: 0 }),
         Instr::Ebreak => raise(pc, Trap { code: 3, value: pc }),
         Instr::ReadCounter { rd, .. } => write_register(regs, pc, rd, loaded),
     }

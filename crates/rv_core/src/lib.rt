@@ -28,12 +28,14 @@ pub struct Store {
 }
 
 /// An exception that an instruction raises on itself. The codes are those of the
-/// privileged specification: 0 instruction address misaligned, 3 breakpoint,
-/// 4 load address misaligned, 6 store address misaligned.
+/// privileged specification, "Machine Cause Register": 0 instruction address
+/// misaligned, 3 breakpoint, 4 load address misaligned, 6 store address
+/// misaligned, 8 environment call from user mode.
 #[derive(Clone, Copy, Debug, PartialEq, Eq)]
 pub struct Trap {
     pub code: u8,
-    /// The target for code 0, the program counter for 3, the address for 4 and 6.
+    /// The target for code 0, the program counter for 3, the address for 4 and
+    /// 6, and 0 for 8.
     pub value: u32,
 }
 

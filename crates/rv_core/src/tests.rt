@@ -335,7 +335,7 @@ const LOADS: [(u32, u32, u32, u32, Option<u32>); 52] = [
 ];
 
 // Of everything else: the word, its place, the words in x5 and x6, what is loaded;
-// then x7, which held 0x7777, the next place, whether it is a branch taken, and
+// then x7, which was 0x7777, the next place, whether it is a branch taken, and
 // the trap's code and value.
 #[rattlefmt::skip]
 const OTHERS: [(u32, [u32; 4], u32, u32, bool, Option<(u8, u32)>); 50] = [
@@ -408,7 +408,7 @@ const OTHERS: [(u32, [u32; 4], u32, u32, bool, Option<(u8, u32)>); 50] = [
     // fence
     (0x0ff0_000f, [0x0001_0000, 1, 2, 0], 0x7777, 0x0001_0004, false, None),
     // ecall
-    (0x0000_0073, [0x0001_0000, 1, 2, 0], 0x7777, 0x0001_0004, false, None),
+    (0x0000_0073, [0x0001_0000, 1, 2, 0], 0x7777, 0x0001_0000, false, Some((8, 0))),
     // ebreak
     (0x0010_0073, [0x0001_0000, 1, 2, 0], 0x7777, 0x0001_0000, false, Some((3, 0x0001_0000))),
     // ebreak
@@ -450,7 +450,7 @@ struct Outcome {
     misaligned: Option<Trap>,
 }
 
-// Registers of which x5, x6 and x7 hold these words, and the others their numbers.
+// Registers of which x5, x6 and x7 have these words, and the others their numbers.
 fn registers(x5: u32, x6: u32, x7: u32) -> Regs {
     let mut regs = Regs::new();
     for x in 0..32u8 {
@@ -462,7 +462,7 @@ fn registers(x5: u32, x6: u32, x7: u32) -> Regs {
     regs
 }
 
-// x7 holds 0x7777 before.
+// x7 is 0x7777 before.
 fn ran(word: u32, pc: u32, x5: u32, x6: u32, loaded: u32) -> Option<Outcome> {
     let instr = decode(word)?;
     let mut regs = registers(x5, x6, 0x7777);

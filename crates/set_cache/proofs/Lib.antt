@@ -1,3 +1,4 @@
+pub mod Powers
 pub mod Ways
 pub mod Sets
 pub mod Places

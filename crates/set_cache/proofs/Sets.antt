@@ -6,15 +6,17 @@ use Rattle.std.proofs.lemmas.List.Elements.{All-set}
 use Rattle.std.proofs.lemmas.List.Quantifiers.{position-Some}
 use Rattle.std.proofs.lemmas.List.Sums.{sum_by_more}
 use Rattle.std.proofs.lemmas.Bool.{cases_eq, cases_lt, false≢true}
-use Rattle.std.specs.Prelude.{All, sum_by}
+use Rattle.std.specs.Prelude.{All, sum_by, ◌||◌, unwrap_or}
+use Rattle.std.specs.Int.{IsPowerOfTwo}
 use Rattle.tp_base.specs.Table.{put, empty, at-put_same, at-put_other, at-empty}
 use Rattle.set_cache.specs.Rule.{Rule}
 use Rattle.set_cache.specs.declared.Touch.{Touch}
-use Rattle.set_cache.specs.declared.Held.{Held}
+use Rattle.set_cache.specs.declared.KeptLine.{KeptLine}
 use Rattle.set_cache.specs.Cache.{CacheSet, Sets, set_at, step_of, touch_of, dirty_below, dirty_in, dirty_of, fresh_set, is_line, way_of}
-use Rattle.set_cache.specs.Contents.{Kept, Contents, SetStands, SetSteps, StandsFor, CacheSteps, IsFresh, IsSound, IsOnce, IsHome, kept_at, shape_of}
-use Rattle.set_cache.specs.Lines.{MovesWays, MovesLines, place_in, dirty_kept}
-use Rattle.set_cache.proofs.Ways.{way_of_none}
+use Rattle.set_cache.specs.Contents.{KeptSet, Contents, SetStands, SetSteps, StandsFor, SameShape, CacheSteps, IsFresh, IsSound, IsOnce, IsHome, kept_at, shape_of}
+use Rattle.set_cache.specs.Lines.{MovesLines, MovesMarks, place_in, mark_of, mark_in, dirty_kept}
+use Rattle.set_cache.specs.Calls.{IsTouch}
+use Rattle.set_cache.proofs.Ways.{way_of_none, ways_of, some_at, kept_before}
 
 -- what holds of each element holds of one that was read
 pub read_at : {X : Type 0} (P : X → Type 0) (xs : List X) (i : ℕ) (x : X) → i < length xs → x ≡ get_or xs i x
@@ -28,19 +30,19 @@ set_at-put_other : (ways : ℕ) (sets : Sets) (k s : ℕ) (v : CacheSet) → s �
 set_at-put_other ways sets k s v n = at-put_other (fresh_set ways) sets k s v n
 
 -- a step of one set is a step of the cache
-pub table_steps : {P : Type 0} (stands : P → ℕ → ℕ → List ℕ → Type 0) (rule : P → Rule) (policy : P) (ways : ℕ) (table : List Kept)
-    (i : ℕ) (old new : Kept) (answer : Touch) (number : ℕ) (store : Bool) (sets : Sets)
+pub table_steps : {P : Type 0} (stands : P → ℕ → ℕ → List ℕ → Type 0) (rule : P → ℕ → Rule) (policy : P) (ways : ℕ) (table : List KeptSet)
+    (i : ℕ) (old new : KeptSet) (answer : Touch) (number : ℕ) (store : Bool) (sets : Sets)
     → i ≡ number % length table → i < length table → old ≡ get_or table i old
-    → ((s : CacheSet) → SetStands (stands policy ways) old s → SetSteps (stands policy ways) answer new (step_of (rule policy) ways s number store))
+    → ((s : CacheSet) → SetStands (stands policy ways) old s → SetSteps (stands policy ways) answer new (step_of (rule policy ways) s number store))
     → StandsFor stands (record { policy = policy; ways = ways; table = table }) sets
     → CacheSteps stands answer (record { policy = policy; ways = ways; table = set table i new })
     (touch_of (shape_of rule (record { policy = policy; ways = ways; table = table })) sets number store)
 table_steps {P} stands rule policy ways table i old new answer number store sets is below read step for =
     let here : old ≡ kept_at table i = read ∙ get_or_default table i old _ below in
     let stands_here : SetStands (stands policy ways) old (set_at ways sets i) =
-    subst (λ (k : Kept). SetStands (stands policy ways) k (set_at ways sets i)) (sym here) (for.each i below) in
-    let s : SetSteps (stands policy ways) answer new (step_of (rule policy) ways (set_at ways sets i) number store) = step (set_at ways sets i) stands_here in
-    let next : CacheSet = (step_of (rule policy) ways (set_at ways sets i) number store).next in
+    subst (λ (k : KeptSet). SetStands (stands policy ways) k (set_at ways sets i)) (sym here) (for.each i below) in
+    let s : SetSteps (stands policy ways) answer new (step_of (rule policy ways) (set_at ways sets i) number store) = step (set_at ways sets i) stands_here in
+    let next : CacheSet = (step_of (rule policy ways) (set_at ways sets i) number store).next in
     let each : (k : ℕ) → k < length (set table i new) → SetStands (stands policy ways) (kept_at (set table i new) k) (set_at ways (put sets i next) k) =
     λ k lt. elim (cases_eq k i) [
       | inl same ↦
@@ -50,10 +52,10 @@ table_steps {P} stands rule policy ways table i old new answer number store sets
           rw (get_or-set_other table i k new _ other, set_at-put_other ways sets i k next other) (for.each k (omega (arith, length-set table i new)))
     ] in
     subst (λ (j : ℕ). CacheSteps {P = P} stands answer (record { policy = policy; ways = ways; table = set table i new })
-    (let step = step_of (rule policy) ways (set_at ways sets j) number store in record { answer = step.answer; next = put sets j step.next })) is
+    (let step = step_of (rule policy ways) (set_at ways sets j) number store in record { answer = step.answer; next = put sets j step.next })) is
     (record { answered = s.answered; next = record { each = each } })
 
-pub fresh_stands : {P : Type 0} (stands : P → ℕ → ℕ → List ℕ → Type 0) (policy : P) (ways : ℕ) (table : List Kept)
+pub fresh_stands : {P : Type 0} (stands : P → ℕ → ℕ → List ℕ → Type 0) (policy : P) (ways : ℕ) (table : List KeptSet)
     → All (IsFresh (stands policy ways) ways) table → StandsFor stands (record { policy = policy; ways = ways; table = table }) empty
 fresh_stands stands policy ways table fresh = record {
   each = λ s lt. rw (at-empty (fresh_set ways) s) (fresh s (record { places = []; state = 0 }) lt);
@@ -68,11 +70,11 @@ none_fresh (suc ways) number zero = refl
 none_fresh (suc ways) number (suc k) = none_fresh ways number k
 
 -- nothing stands in a fresh set
-none_in_fresh : (stands : ℕ → List ℕ → Type 0) (ways : ℕ) (table : List Kept) → All (IsFresh stands ways) table
+none_in_fresh : (stands : ℕ → List ℕ → Type 0) (ways : ℕ) (table : List KeptSet) → All (IsFresh stands ways) table
     → (s number k : ℕ) → is_line number (get_or (kept_at table s).places k None) ≡ false
 none_in_fresh stands ways table fresh s number k =
     elim (cases_lt s (length table)) [
-      | inl lt ↦ subst (λ (ps : List (Option Held)). is_line number (get_or ps k None) ≡ false) (fresh s (record { places = []; state = 0 }) lt).same (none_fresh ways number k)
+      | inl lt ↦ subst (λ (ps : List (Option KeptLine)). is_line number (get_or ps k None) ≡ false) (fresh s (record { places = []; state = 0 }) lt).same (none_fresh ways number k)
       | inr ge ↦ rw (get_or_past table s (record { places = []; state = 0 }) ge) (none_past number k)
     ]
 
@@ -82,61 +84,26 @@ pub none-stands : {P : Type 0} (stands : P → ℕ → ℕ → List ℕ → Type
 none-stands stands contents for some number =
     let ways : ℕ = contents.ways in
     let s : ℕ = number % length contents.table in
-    let places : List (Option Held) = (kept_at contents.table s).places in
+    let places : List (Option KeptLine) = (kept_at contents.table s).places in
     let is : replicate ways None ≡ places = sym (ap (λ (set : CacheSet). set.places) (at-empty (fresh_set ways) s)) ∙ (for.each s (omega arith)).same in
-    let none : way_of number places ≡ None = way_of_none number places (λ k. subst (λ (ps : List (Option Held)). is_line number (get_or ps k None) ≡ false) is (none_fresh ways number k)) in
+    let none : way_of number places ≡ None = way_of_none number places (λ k. subst (λ (ps : List (Option KeptLine)). is_line number (get_or ps k None) ≡ false) is (none_fresh ways number k)) in
     ap (option_map (λ (way : ℕ). s * ways + way)) none
 
 -- fresh sets are sound
-pub fresh_sound : {P : Type 0} (takes : P → ℕ → Type 0) (stands : P → ℕ → ℕ → List ℕ → Type 0) (policy : P) (ways : ℕ) (table : List Kept)
-    → takes policy ways → 0 < length table → length table * ways < 2 ^ 32 → All (λ (kept : Kept). length kept.places ≡ ways) table
+pub fresh_sound : {P : Type 0} (takes : P → ℕ → Type 0) (stands : P → ℕ → ℕ → List ℕ → Type 0) (policy : P) (ways : ℕ) (table : List KeptSet)
+    → takes policy ways → IsPowerOfTwo (length table) → length table * ways < 2 ^ 32 → All (λ (kept : KeptSet). length kept.places ≡ ways) table
     → All (IsFresh (stands policy ways) ways) table
     → IsSound takes stands (record { policy = policy; ways = ways; table = table })
-fresh_sound takes stands policy ways table taken some small full fresh = record {
+fresh_sound takes stands policy ways table taken power small full fresh = record {
   taken = taken;
-  some_set = some;
+  power = power;
   small = small;
   full = full;
   valid = λ k d lt. ([], (fresh k d lt).listed);
   once = λ k d lt number i j hi hj. absurd (false≢true (
-      sym (subst (λ (ps : List (Option Held)). is_line number (get_or ps i None) ≡ false) (fresh k d lt).same (none_fresh ways number i)) ∙ hi));
+      sym (subst (λ (ps : List (Option KeptLine)). is_line number (get_or ps i None) ≡ false) (fresh k d lt).same (none_fresh ways number i)) ∙ hi));
   home = λ s number way t. absurd (false≢true (sym (none_in_fresh (stands policy ways) ways table fresh s number way) ∙ t));
 }
-
--- a write of one set keeps the cache sound
-pub sound_put : {P : Type 0} (takes : P → ℕ → Type 0) (stands : P → ℕ → ℕ → List ℕ → Type 0) (policy : P) (ways : ℕ) (table : List Kept)
-    (i : ℕ) (old new : Kept) (answer : Touch) (number : ℕ)
-    → IsSound takes stands (record { policy = policy; ways = ways; table = table })
-    → i ≡ number % length table → i < length table → old ≡ get_or table i old
-    → length new.places ≡ ways → (list : List ℕ) × stands policy ways new.state list → IsOnce new.places
-    → MovesWays answer number old.places new.places
-    → IsSound takes stands (record { policy = policy; ways = ways; table = set table i new })
-sound_put takes stands policy ways table i old new answer number sound is below read full valid once moves =
-    let count : length (set table i new) ≡ length table = length-set table i new in
-    let here : old ≡ kept_at table i = read ∙ get_or_default table i old _ below in
-    record {
-      taken = sound.taken;
-      some_set = rw count sound.some_set;
-      small = rw count sound.small;
-      full = All-set (λ (k : Kept). length k.places ≡ ways) table i new full sound.full;
-      valid = All-set (λ (k : Kept). (list : List ℕ) × stands policy ways k.state list) table i new valid sound.valid;
-      once = All-set (λ (k : Kept). IsOnce k.places) table i new once sound.once;
-      home = λ s other way t.
-          ap (λ (n : ℕ). other % n) count ∙
-          elim (cases_eq s i) [
-            | inl same ↦
-                let u : is_line other (get_or new.places way None) ≡ true =
-                subst (λ (k : Kept). is_line other (get_or k.places way None) ≡ true) (get_or-set_same table i new _ below)
-                (subst (λ (j : ℕ). is_line other (get_or (kept_at (set table i new) j).places way None) ≡ true) same t) in
-                elim (cases_eq other number) [
-                  | inl touched ↦ ap (λ (n : ℕ). n % length table) touched ∙ sym is ∙ sym same
-                  | inr apart ↦
-                      sound.home i other way (subst (λ (k : Kept). is_line other (get_or k.places way None) ≡ true) here (moves.came other way apart u)) ∙ sym same
-                ]
-            | inr apart ↦
-                sound.home s other way (subst (λ (k : Kept). is_line other (get_or k.places way None) ≡ true) (get_or-set_other table i s new _ apart) t)
-          ];
-    }
 
 is_some-map : (f : ℕ → ℕ) (o : Option ℕ) → is_some (option_map f o) ≡ is_some o
 is_some-map f None = refl
@@ -146,71 +113,141 @@ some_way : (o : Option ℕ) → is_some o ≡ true → (way : ℕ) × (o ≡ Som
 some_way None t = absurd (false≢true t)
 some_way (Some way) t = (way, refl)
 
--- the place of a line, by its set and what is kept there
-abbrev place_by : ℕ → ℕ → ℕ → Kept → Option ℕ
+-- a line that a set keeps is at home there
+at_home : (table : List KeptSet) (i : ℕ) (old : KeptSet) (number : ℕ) → old ≡ kept_at table i → IsHome table
+    → is_some (way_of number old.places) ≡ true → number % length table ≡ i
+at_home table i old number here home kept =
+    let found = some_way (way_of number old.places) kept in
+    let at = position-Some (is_line number) old.places found.0 None found.1 in
+    home i number found.0 (subst (λ (k : KeptSet). is_line number (get_or k.places found.0 None) ≡ true) here at.1)
+
+-- what one set keeps after a touch of a line at home there is at home
+home_there : (table : List KeptSet) (i : ℕ) (old new : KeptSet) (answer : Touch) (number : ℕ) → IsHome table
+    → number % length table ≡ i → old ≡ kept_at table i → MovesLines answer number (ways_of old.places) (ways_of new.places)
+    → (other way : ℕ) → is_line other (get_or new.places way None) ≡ true → other % length table ≡ i
+home_there table i old new answer number home is here moves other way t =
+    elim (cases_eq other number) [
+      | inl touched ↦ ap (λ (n : ℕ). n % length table) touched ∙ is
+      | inr apart ↦
+          let kept : is_some (way_of other new.places) ≡ true = some_at other new.places way t in
+          at_home table i old other here home (sym (ap is_some (kept_before answer number (ways_of old.places) (ways_of new.places) moves other apart kept)) ∙ kept)
+    ]
+
+-- a write of one set keeps the cache sound
+pub sound_put : {P : Type 0} (takes : P → ℕ → Type 0) (stands : P → ℕ → ℕ → List ℕ → Type 0) (policy : P) (ways : ℕ) (table : List KeptSet)
+    (i : ℕ) (old new : KeptSet) (answer : Touch) (number : ℕ)
+    → IsSound takes stands (record { policy = policy; ways = ways; table = table })
+    → i ≡ number % length table → i < length table → old ≡ get_or table i old
+    → length new.places ≡ ways → (list : List ℕ) × stands policy ways new.state list → IsOnce new.places
+    → MovesLines answer number (ways_of old.places) (ways_of new.places)
+    → IsSound takes stands (record { policy = policy; ways = ways; table = set table i new })
+sound_put takes stands policy ways table i old new answer number sound is below read full valid once moves =
+    let count : length (set table i new) ≡ length table = length-set table i new in
+    let here : old ≡ kept_at table i = read ∙ get_or_default table i old _ below in
+    record {
+      taken = sound.taken;
+      power = rw count sound.power;
+      small = rw count sound.small;
+      full = All-set (λ (k : KeptSet). length k.places ≡ ways) table i new full sound.full;
+      valid = All-set (λ (k : KeptSet). (list : List ℕ) × stands policy ways k.state list) table i new valid sound.valid;
+      once = All-set (λ (k : KeptSet). IsOnce k.places) table i new once sound.once;
+      home = λ s other way t.
+          ap (λ (n : ℕ). other % n) count ∙
+          elim (cases_eq s i) [
+            | inl same ↦
+                let u : is_line other (get_or new.places way None) ≡ true =
+                subst (λ (k : KeptSet). is_line other (get_or k.places way None) ≡ true) (get_or-set_same table i new _ below)
+                (subst (λ (j : ℕ). is_line other (get_or (kept_at (set table i new) j).places way None) ≡ true) same t) in
+                home_there table i old new answer number sound.home (sym is) here moves other way u ∙ sym same
+            | inr apart ↦
+                sound.home s other way (subst (λ (k : KeptSet). is_line other (get_or k.places way None) ≡ true) (get_or-set_other table i s new _ apart) t)
+          ];
+    }
+
+-- ---- what is read of a line's set, before and after a write of one set
+
+of_old : {A : Type 0} (f : ℕ → KeptSet → A) (table : List KeptSet) (i : ℕ) (old : KeptSet) (number : ℕ) → old ≡ kept_at table i → number % length table ≡ i
+    → f (number % length table) (kept_at table (number % length table)) ≡ f i old
+of_old f table i old number here e = ap (λ (j : ℕ). f j (kept_at table j)) e ∙ ap (f i) (sym here)
+
+of_new : {A : Type 0} (f : ℕ → KeptSet → A) (table : List KeptSet) (i : ℕ) (new : KeptSet) (number : ℕ) → i < length table → number % length table ≡ i
+    → f (number % length (set table i new)) (kept_at (set table i new) (number % length (set table i new))) ≡ f i new
+of_new f table i new number below e =
+    let written : List KeptSet = set table i new in
+    ap (λ (n : ℕ). f (number % n) (kept_at written (number % n))) (length-set table i new)
+    ∙ ap (λ (j : ℕ). f j (kept_at written j)) e ∙ ap (f i) (get_or-set_same table i new _ below)
+
+of_else : {A : Type 0} (f : ℕ → KeptSet → A) (table : List KeptSet) (i : ℕ) (new : KeptSet) (number : ℕ) → number % length table ≢ i
+    → f (number % length (set table i new)) (kept_at (set table i new) (number % length (set table i new)))
+    ≡ f (number % length table) (kept_at table (number % length table))
+of_else f table i new number n =
+    let written : List KeptSet = set table i new in
+    ap (λ (m : ℕ). f (number % m) (kept_at written (number % m))) (length-set table i new)
+    ∙ ap (f (number % length table)) (get_or-set_other table i (number % length table) new _ n)
+
+-- the place of a line, and its mark, by its set and what is kept there
+abbrev place_by : ℕ → ℕ → ℕ → KeptSet → Option ℕ
 place_by ways number s kept = option_map (λ (way : ℕ). s * ways + way) (way_of number kept.places)
 
-place_old : {P : Type 0} (policy : P) (ways : ℕ) (table : List Kept) (i : ℕ) (old : Kept) (number : ℕ) → old ≡ kept_at table i → number % length table ≡ i
-    → place_in (record { policy = policy; ways = ways; table = table }) number ≡ place_by ways number i old
-place_old policy ways table i old number here e =
-    ap (λ (j : ℕ). place_by ways number j (kept_at table j)) e ∙ ap (place_by ways number i) (sym here)
-
-place_new : {P : Type 0} (policy : P) (ways : ℕ) (table : List Kept) (i : ℕ) (new : Kept) (number : ℕ) → i < length table → number % length table ≡ i
-    → place_in (record { policy = policy; ways = ways; table = set table i new }) number ≡ place_by ways number i new
-place_new policy ways table i new number below e =
-    let written : List Kept = set table i new in
-    ap (λ (n : ℕ). place_by ways number (number % n) (kept_at written (number % n))) (length-set table i new)
-    ∙ ap (λ (j : ℕ). place_by ways number j (kept_at written j)) e
-    ∙ ap (place_by ways number i) (get_or-set_same table i new _ below)
-
-place_else : {P : Type 0} (policy : P) (ways : ℕ) (table : List Kept) (i : ℕ) (new : Kept) (number : ℕ) → number % length table ≢ i
-    → place_in (record { policy = policy; ways = ways; table = set table i new }) number ≡ place_in (record { policy = policy; ways = ways; table = table }) number
-place_else policy ways table i new number n =
-    let written : List Kept = set table i new in
-    ap (λ (m : ℕ). place_by ways number (number % m) (kept_at written (number % m))) (length-set table i new)
-    ∙ ap (place_by ways number (number % length table)) (get_or-set_other table i (number % length table) new _ n)
-
--- a line that the set holds is at home there
-at_home : (table : List Kept) (i : ℕ) (old : Kept) (number : ℕ) → old ≡ kept_at table i → IsHome table
-    → is_some (way_of number old.places) ≡ true → number % length table ≡ i
-at_home table i old number here home held =
-    let found = some_way (way_of number old.places) held in
-    let at = position-Some (is_line number) old.places found.0 None found.1 in
-    home i number found.0 (subst (λ (k : Kept). is_line number (get_or k.places found.0 None) ≡ true) here at.1)
+abbrev mark_by : ℕ → ℕ → KeptSet → Option Bool
+mark_by number s kept = mark_of kept.places number
 
 -- the lines of the whole cache move as those of the one set do
-pub lines_move : {P : Type 0} (policy : P) (ways : ℕ) (table : List Kept) (i : ℕ) (old new : Kept) (answer : Touch) (number : ℕ)
+pub lines_move : {P : Type 0} (policy : P) (ways : ℕ) (table : List KeptSet) (i : ℕ) (old new : KeptSet) (answer : Touch) (number : ℕ)
     → i ≡ number % length table → i < length table → old ≡ get_or table i old → IsHome table
-    → MovesWays answer number old.places new.places
-    → MovesLines answer number (record { policy = policy; ways = ways; table = table }) (record { policy = policy; ways = ways; table = set table i new })
+    → MovesLines answer number (ways_of old.places) (ways_of new.places)
+    → MovesLines answer number (place_in (record { policy = policy; ways = ways; table = table })) (place_in (record { policy = policy; ways = ways; table = set table i new }))
 lines_move policy ways table i old new answer number is below read home moves =
     let here : old ≡ kept_at table i = read ∙ get_or_default table i old _ below in
     let f : ℕ → ℕ = λ (way : ℕ). i * ways + way in
-    let was = place_old policy ways table i old number here (sym is) in
-    let becomes = place_new policy ways table i new number below (sym is) in
+    let was = of_old (place_by ways number) table i old number here (sym is) in
+    let becomes = of_new (place_by ways number) table i new number below (sym is) in
     record {
       hit = moves.hit ∙ sym (is_some-map f (way_of number old.places)) ∙ sym (ap is_some was);
       spares = moves.spares;
       stays = λ h. becomes ∙ ap (option_map f) (moves.stays h) ∙ sym was;
-      held = ap is_some becomes ∙ is_some-map f (way_of number new.places) ∙ moves.held;
+      here = ap is_some becomes ∙ is_some-map f (way_of number new.places) ∙ moves.here;
       others = λ other n v. elim (cases_eq (other % length table) i) [
-        | inl same ↦ place_new policy ways table i new other below same ∙ ap (option_map f) (moves.others other n v) ∙ sym (place_old policy ways table i old other here same)
-        | inr apart ↦ place_else policy ways table i new other apart
+        | inl same ↦
+            of_new (place_by ways other) table i new other below same ∙ ap (option_map f) (moves.others other n v) ∙ sym (of_old (place_by ways other) table i old other here same)
+        | inr apart ↦ of_else (place_by ways other) table i new other apart
       ];
       given_up = λ victim e.
           let gone = moves.given_up victim e in
-          let near : victim % length table ≡ i = at_home table i old victim here home (ap is_some gone.0 ∙ moves.held) in (
-            place_old policy ways table i old victim here near ∙ ap (option_map f) gone.0 ∙ sym becomes,
-            place_new policy ways table i new victim below near ∙ ap (option_map f) gone.1,
+          let near : victim % length table ≡ i = at_home table i old victim here home (ap is_some gone.0 ∙ moves.here) in (
+            of_old (place_by ways victim) table i old victim here near ∙ ap (option_map f) gone.0 ∙ sym becomes,
+            of_new (place_by ways victim) table i new victim below near ∙ ap (option_map f) gone.1,
           );
     }
 
-dirty_take : {P : Type 0} (stands : P → ℕ → ℕ → List ℕ → Type 0) (policy : P) (ways : ℕ) (table : List Kept) (sets : Sets) (n : ℕ)
+-- and so do their marks
+pub marks_move : {P : Type 0} (policy : P) (ways : ℕ) (table : List KeptSet) (i : ℕ) (old new : KeptSet) (answer : Touch) (number : ℕ) (store : Bool)
+    → i ≡ number % length table → i < length table → old ≡ get_or table i old → IsHome table
+    → MovesLines answer number (ways_of old.places) (ways_of new.places)
+    → MovesMarks answer number store (mark_of old.places) (mark_of new.places)
+    → MovesMarks answer number store (mark_in (record { policy = policy; ways = ways; table = table })) (mark_in (record { policy = policy; ways = ways; table = set table i new }))
+marks_move policy ways table i old new answer number store is below read home moves marks =
+    let here : old ≡ kept_at table i = read ∙ get_or_default table i old _ below in
+    record {
+      own = of_new (mark_by number) table i new number below (sym is) ∙ marks.own
+          ∙ ap (λ (mark : Option Bool). Some (store || unwrap_or mark false)) (sym (of_old (mark_by number) table i old number here (sym is)));
+      others = λ other n v. elim (cases_eq (other % length table) i) [
+        | inl same ↦ of_new (mark_by other) table i new other below same ∙ marks.others other n v ∙ sym (of_old (mark_by other) table i old other here same)
+        | inr apart ↦ of_else (mark_by other) table i new other apart
+      ];
+      given_up = λ victim e.
+          let gone = marks.given_up victim e in
+          let near : victim % length table ≡ i = at_home table i old victim here home (ap is_some (moves.given_up victim e).0 ∙ moves.here) in
+          (of_old (mark_by victim) table i old victim here near ∙ gone.0, of_new (mark_by victim) table i new victim below near ∙ gone.1);
+      clean = marks.clean;
+    }
+
+dirty_take : {P : Type 0} (stands : P → ℕ → ℕ → List ℕ → Type 0) (policy : P) (ways : ℕ) (table : List KeptSet) (sets : Sets) (n : ℕ)
     → n ≤ length table → StandsFor stands (record { policy = policy; ways = ways; table = table }) sets
-    → sum_by (λ (k : Kept). dirty_in k.places) (take n table) ≡ dirty_below ways sets n
+    → sum_by (λ (k : KeptSet). dirty_in k.places) (take n table) ≡ dirty_below ways sets n
 dirty_take stands policy ways table sets zero below for = refl
 dirty_take stands policy ways table sets (suc n) below for =
-    let dirty : Kept → ℕ = λ k. dirty_in k.places in
+    let dirty : KeptSet → ℕ = λ k. dirty_in k.places in
     let one : sum_by dirty (take (n + 1) table) ≡ sum_by dirty (take n table) + dirty (kept_at table n) =
     sum_by_more dirty table n (record { places = []; state = 0 }) (omega arith) in
     let rest : sum_by dirty (take n table) ≡ dirty_below ways sets n = dirty_take stands policy ways table sets n (omega arith) for in
@@ -218,9 +255,27 @@ dirty_take stands policy ways table sets (suc n) below for =
     ap (λ i. sum_by dirty (take i table)) (sym (add-one n)) ∙ one ∙ omega (arith, rest, here)
 
 -- the marks that are kept are those of the sets
-pub dirty-stands : {P : Type 0} (stands : P → ℕ → ℕ → List ℕ → Type 0) (rule : P → Rule) (contents : Contents P) (sets : Sets)
+pub dirty-stands : {P : Type 0} (stands : P → ℕ → ℕ → List ℕ → Type 0) (rule : P → ℕ → Rule) (contents : Contents P) (sets : Sets)
     → StandsFor stands contents sets → dirty_kept contents ≡ dirty_of (shape_of rule contents) sets
 dirty-stands stands rule contents sets for =
     let whole : take (length contents.table) contents.table ≡ contents.table = take_all (length contents.table) contents.table (omega arith) in
-    ap (sum_by (λ (k : Kept). dirty_in k.places)) (sym whole)
+    ap (sum_by (λ (k : KeptSet). dirty_in k.places)) (sym whole)
     ∙ dirty_take stands contents.policy contents.ways contents.table sets (length contents.table) (omega arith) for
+
+-- a touch of the set of a line is a touch of the cache
+pub table_touch : {P : Type 0} (takes : P → ℕ → Type 0) (rule : P → ℕ → Rule) (stands : P → ℕ → ℕ → List ℕ → Type 0) (policy : P) (ways : ℕ) (table : List KeptSet)
+    (i : ℕ) (old new : KeptSet) (answer : Touch) (number : ℕ) (store : Bool)
+    → IsSound takes stands (record { policy = policy; ways = ways; table = table })
+    → i ≡ number % length table → i < length table → old ≡ get_or table i old
+    → length new.places ≡ ways → (list : List ℕ) × stands policy ways new.state list → IsOnce new.places
+    → ((s : CacheSet) → SetStands (stands policy ways) old s → SetSteps (stands policy ways) answer new (step_of (rule policy ways) s number store))
+    → MovesLines answer number (ways_of old.places) (ways_of new.places) → MovesMarks answer number store (mark_of old.places) (mark_of new.places)
+    → IsTouch takes rule stands answer number store (record { policy = policy; ways = ways; table = table }) (record { policy = policy; ways = ways; table = set table i new })
+table_touch takes rule stands policy ways table i old new answer number store sound is below read full valid once step moves marks = record {
+  shape = record { same_policy = refl; same_ways = refl; same_sets = length-set table i new };
+  sound = sound_put takes stands policy ways table i old new answer number sound is below read full valid once moves;
+  step = λ sets for. table_steps stands rule policy ways table i old new answer number store sets is below read step for;
+  other_sets = λ s n. get_or-set_other table i s new _ (λ e. n (e ∙ is));
+  moves = lines_move policy ways table i old new answer number is below read sound.home moves;
+  marks = marks_move policy ways table i old new answer number store is below read sound.home moves marks;
+}

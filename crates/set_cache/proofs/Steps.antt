@@ -12,21 +12,21 @@ pub set_at-touch_other : (shape : Shape) (sets : Sets) (number : ℕ) (store : B
     → set_at shape.ways (touch_of shape sets number store).next s ≡ set_at shape.ways sets s
 set_at-touch_other shape sets number store s n =
     at-put_other (fresh_set shape.ways) sets (number % shape.count) s
-    (step_of shape.rule shape.ways (set_at shape.ways sets (number % shape.count)) number store).next n
+    (step_of shape.rule (set_at shape.ways sets (number % shape.count)) number store).next n
 
 -- and steps its own
 pub set_at-touch_same : (shape : Shape) (sets : Sets) (number : ℕ) (store : Bool)
     → set_at shape.ways (touch_of shape sets number store).next (number % shape.count)
-    ≡ (step_of shape.rule shape.ways (set_at shape.ways sets (number % shape.count)) number store).next
+    ≡ (step_of shape.rule (set_at shape.ways sets (number % shape.count)) number store).next
 set_at-touch_same shape sets number store =
     at-put_same (fresh_set shape.ways) sets (number % shape.count)
-    (step_of shape.rule shape.ways (set_at shape.ways sets (number % shape.count)) number store).next
+    (step_of shape.rule (set_at shape.ways sets (number % shape.count)) number store).next
 
-length-step_by : (rule : Rule) (ways : ℕ) (set : CacheSet) (number : ℕ) (store : Bool) (found : Option ℕ)
-    → length (step_by rule ways set number store found).next.places ≡ length set.places
-length-step_by rule ways set number true (Some way) = length-set set.places way (Some (record { number = number; dirty = true }))
-length-step_by rule ways set number false (Some way) = refl
-length-step_by rule ways set number store None = length-set set.places _ (Some (record { number = number; dirty = store }))
+length-step_by : (rule : Rule) (set : CacheSet) (number : ℕ) (store : Bool) (found : Option ℕ)
+    → length (step_by rule set number store found).next.places ≡ length set.places
+length-step_by rule set number true (Some way) = length-set set.places way (Some (record { number = number; dirty = true }))
+length-step_by rule set number false (Some way) = refl
+length-step_by rule set number store None = length-set set.places _ (Some (record { number = number; dirty = store }))
 
 -- every set has its ways
 pub record IsFull (ways : ℕ) (sets : Sets) : Type 0 where
@@ -40,8 +40,8 @@ IsFull-touch shape sets number store full =
     let s : ℕ = number % shape.count in
     let set : CacheSet = set_at shape.ways sets s in
     record {
-      each = at-put_by (fresh_set shape.ways) sets s (step_of shape.rule shape.ways set number store).next (λ _ (one : CacheSet). length one.places ≡ shape.ways)
-          (length-step_by shape.rule shape.ways set number store (way_of number set.places) ∙ full.each s)
+      each = at-put_by (fresh_set shape.ways) sets s (step_of shape.rule set number store).next (λ _ (one : CacheSet). length one.places ≡ shape.ways)
+          (length-step_by shape.rule set number store (way_of number set.places) ∙ full.each s)
           (λ j _. full.each j);
     }
 

@@ -3,17 +3,17 @@ use Rattle.std.specs.Prelude.{ℕ, zero, suc, ◌%◌, ◌+◌, ◌*◌, Bool, t
 use Rattle.tp_base.specs.Table.{Table, at, put}
 use Rattle.set_cache.specs.Rule.{Rule}
 use Rattle.set_cache.specs.declared.Touch.{Touch}
-use Rattle.set_cache.specs.declared.Held.{Held}
+use Rattle.set_cache.specs.declared.KeptLine.{KeptLine}
 
--- the policy's rule, the number of ways of a set, and the number of sets
+-- the policy's rule at this number of ways, that number, and the number of sets
 pub record Shape : Type 0 where
   pub rule : Rule
   pub ways : ℕ
   pub count : ℕ
 
--- one set: what each way holds, and the policy's list
+-- one set: what each way keeps, and the policy's list
 pub record CacheSet : Type 0 where
-  pub places : List (Option Held)
+  pub places : List (Option KeptLine)
   pub order : List ℕ
 
 -- a set with nothing in it
@@ -27,23 +27,23 @@ Sets = Table CacheSet
 abbrev pub set_at : ℕ → Sets → ℕ → CacheSet
 set_at ways sets s = at (fresh_set ways) sets s
 
--- whether a way holds this line
-abbrev pub is_line : ℕ → Option Held → Bool
+-- whether a way keeps this line
+abbrev pub is_line : ℕ → Option KeptLine → Bool
 is_line number None = false
-is_line number (Some held) = held.number == number
+is_line number (Some line) = line.number == number
 
--- whether a way holds a line with a mark
-abbrev pub is_dirty : Option Held → Bool
+-- whether a way keeps a line with a mark
+abbrev pub is_dirty : Option KeptLine → Bool
 is_dirty None = false
-is_dirty (Some held) = held.dirty
+is_dirty (Some line) = line.dirty
 
--- where a set holds a line
-abbrev pub way_of : ℕ → List (Option Held) → Option ℕ
+-- the way at which a set keeps a line
+abbrev pub way_of : ℕ → List (Option KeptLine) → Option ℕ
 way_of number places = position (is_line number) places
 
 -- the way that a miss takes: the least empty one, else the victim
-abbrev pub way_for : Rule → ℕ → CacheSet → ℕ
-way_for rule ways set = unwrap_or (position is_none set.places) (rule.victim ways set.order)
+abbrev pub way_for : Rule → CacheSet → ℕ
+way_for rule set = unwrap_or (position is_none set.places) (rule.victim set.order)
 
 -- what a touch of one set answers and leaves
 pub record SetStep : Type 0 where
@@ -60,25 +60,25 @@ hit_at rule set number store way = record {
   };
 }
 
--- a miss gives up what the way holds; the line is marked exactly on a store
+-- a miss gives up what the way keeps; the line is marked exactly on a store
 abbrev pub miss_at : Rule → CacheSet → ℕ → Bool → ℕ → SetStep
 miss_at rule set number store way =
     let old = slice_index_or set.places way None in
     record {
-      answer = record { hit = false; victim = option_map (λ held. held.number) old; dirty_victim = is_dirty old };
+      answer = record { hit = false; victim = option_map (λ line. line.number) old; dirty_victim = is_dirty old };
       next = record {
         places = slice_set set.places way (Some (record { number = number; dirty = store }));
         order = rule.filled set.order way;
       };
     }
 
-abbrev pub step_by : Rule → ℕ → CacheSet → ℕ → Bool → Option ℕ → SetStep
-step_by rule ways set number store (Some way) = hit_at rule set number store way
-step_by rule ways set number store None = miss_at rule set number store (way_for rule ways set)
+abbrev pub step_by : Rule → CacheSet → ℕ → Bool → Option ℕ → SetStep
+step_by rule set number store (Some way) = hit_at rule set number store way
+step_by rule set number store None = miss_at rule set number store (way_for rule set)
 
 -- a touch of one set
-abbrev pub step_of : Rule → ℕ → CacheSet → ℕ → Bool → SetStep
-step_of rule ways set number store = step_by rule ways set number store (way_of number set.places)
+abbrev pub step_of : Rule → CacheSet → ℕ → Bool → SetStep
+step_of rule set number store = step_by rule set number store (way_of number set.places)
 
 -- what a touch of the cache answers and leaves
 pub record CacheStep : Type 0 where
@@ -89,7 +89,7 @@ pub record CacheStep : Type 0 where
 abbrev pub touch_of : Shape → Sets → ℕ → Bool → CacheStep
 touch_of shape sets number store =
     let s = number % shape.count in
-    let step = step_of shape.rule shape.ways (set_at shape.ways sets s) number store in
+    let step = step_of shape.rule (set_at shape.ways sets s) number store in
     record { answer = step.answer; next = put sets s step.next }
 
 -- the place of a line: its set times the ways, plus its way
@@ -99,7 +99,7 @@ place_of shape sets number =
     option_map (λ way. s * shape.ways + way) (way_of number (set_at shape.ways sets s).places)
 
 -- how many lines of a set have a mark
-abbrev pub dirty_in : List (Option Held) → ℕ
+abbrev pub dirty_in : List (Option KeptLine) → ℕ
 dirty_in places = count_by is_dirty places
 
 -- how many lines of the first sets have a mark

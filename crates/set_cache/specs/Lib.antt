@@ -2,3 +2,4 @@ pub mod Rule
 pub mod Cache
 pub mod Contents
 pub mod Lines
+pub mod Calls

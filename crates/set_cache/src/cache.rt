@@ -1,5 +1,8 @@
 // The whole cache, whose calls each work on the one set of a number, but for
 // those that count or empty all.
+ghost use Rattle.std.specs.Prelude.{◌≡◌, ◌%◌, ◌<◌};
+ghost use Rattle.std.specs.Int.{IsPowerOfTwo};
+
 use crate::one_set::OneSet;
 use crate::{Policy, Touch};
 use std::alloc::Global;
@@ -7,7 +10,7 @@ use std::marker::Model;
 use tp_base::Memory;
 
 /// A set-associative store of numbers: a number stands in the set of its
-/// remainder by the number of sets.
+/// remainder by the number of sets, which is a power of two.
 #[derive(Drop)]
 pub struct SetCache<P: Policy> {
     policy: P,
@@ -28,24 +31,31 @@ impl<P: Policy> Model for SetCache<P> {
         (record { policy = a.policy; ways = a.ways; table = a.table.items }) };
 }
 
+/// The set of a number: its low bits.
+#[inline(always)]
+fn set_of(number: u32, sets: usize) -> usize
+    requires { IsPowerOfTwo sets }
+    ensures value { result ≡ number % sets }
+    ensures below { result < sets }
+{
+    number as usize & (sets - 1)
+}
+
 impl<P: Policy> SetCache<P> {
-    ghost use Rattle.std.specs.Prelude.{◌≡◌, ◌≢◌, ◌<◌, ◌≤◌, ◌*◌, ◌%◌, ◌^◌, ℕ, length, is_some, IfOk, IfSome};
-    ghost use Rattle.tp_base.specs.Table.{empty};
-    ghost use Rattle.set_cache.specs.Cache.{Sets, touch_of, place_of, dirty_of};
-    ghost use Rattle.set_cache.specs.Contents.{StandsFor, SameShape, CacheSteps, IsSound, kept_at, shape_of};
-    ghost use Rattle.set_cache.specs.Lines.{MovesLines, place_in, dirty_kept};
+    ghost use Rattle.std.specs.Prelude.{◌≤◌, ◌*◌, ℕ, length, is_some, IfOk, IfSome};
+    ghost use Rattle.set_cache.specs.Cache.{Sets, place_of, dirty_of};
+    ghost use Rattle.set_cache.specs.Contents.{StandsFor, IsSound, shape_of};
+    ghost use Rattle.set_cache.specs.Lines.{place_in, dirty_kept};
+    ghost use Rattle.set_cache.specs.Calls.{IsGeometry, IsNew, IsTouch, IsFlush};
 
     /// A cache of fresh sets.
+    ///
+    /// # Errors
+    ///
+    /// `Memory`, where memory ran out.
     pub fn new(alloc: Global, policy: P, sets: u32, ways: u32) -> Result<Self, Memory>
-        requires taken { P.takes policy ways }
-        requires some_set { 0 < sets }
-        requires small { sets * ways < 2 ^ 32 }
-        ensures policy { IfOk result (λ cache. cache.policy ≡ policy) }
-        ensures ways { IfOk result (λ cache. cache.ways ≡ ways) }
-        ensures sets { IfOk result (λ cache. length cache.table ≡ sets) }
-        ensures sound { IfOk result (λ cache. IsSound P.takes P.stands_for cache) }
-        ensures fresh { IfOk result (λ cache. StandsFor P.stands_for cache empty) }
-        ensures none { IfOk result (λ cache. (number : ℕ) → place_in cache number ≡ None) }
+        requires geometry { IsGeometry (P.takes policy) sets ways }
+        ensures made { IfOk result (λ cache. IsNew P.takes P.stands_for policy sets ways cache) }
     {
         let mut table = Vec::with_capacity(alloc, sets as usize)?;
         for _ in 0..sets {
@@ -60,25 +70,17 @@ impl<P: Policy> SetCache<P> {
 
     /// A touch of a line, which marks it if it is a store. On a miss the line
     /// takes the least empty way of its set, else the victim's.
+    #[inline(always)]
     pub fn touch(&mut self, number: u32, store: bool) -> Touch
-        ensures shape { SameShape self.old self.new }
-        ensures sound { IsSound P.takes P.stands_for self.new }
-
-        // In the table of sets it is the definition's touch; no other set changes.
-        ensures step { (sets : Sets) → StandsFor P.stands_for self.old sets
-            → CacheSteps P.stands_for result self.new (touch_of (shape_of P.rule self.old) sets number store) }
-        ensures other_sets { (s : ℕ) → s ≢ number % length self.old.table
-            → kept_at self.new.table s ≡ kept_at self.old.table s }
-
-        // The line is held then, and every other line keeps its place but the victim.
-        ensures moves { MovesLines result number self.old self.new }
+        ensures touch { IsTouch P.takes P.rule P.stands_for result number store self.old self.new }
     {
-        let place = number as usize % self.table.len();
-        let set = &mut self.table[place];
+        let index = set_of(number, self.table.len());
+        let set = &mut self.table[index];
         set.touch(&self.policy, self.ways, number, store)
     }
 
-    /// Whether a line is held.
+    /// Whether a line is here.
+    #[inline(always)]
     pub fn holds(&self, number: u32) -> bool
         ensures here { result ≡ is_some (place_in self.now number) }
         ensures stands { (sets : Sets) → StandsFor P.stands_for self.now sets
@@ -87,7 +89,8 @@ impl<P: Policy> SetCache<P> {
         self.place_of(number).is_some()
     }
 
-    /// The place of a line, where it is held: its set times the ways, plus its way.
+    /// The place of a line, where it is here: its set times the ways, plus its way.
+    #[inline(always)]
     pub fn place_of(&self, number: u32) -> Option<u32>
         ensures here { result ≡ place_in self.now number }
         ensures stands { (sets : Sets) → StandsFor P.stands_for self.now sets
@@ -95,10 +98,10 @@ impl<P: Policy> SetCache<P> {
         ensures below { IfSome result (λ place. place < length self.now.table * self.now.ways) }
         ensures sound { IsSound P.takes P.stands_for self.now }
     {
-        let place = number as usize % self.table.len();
-        let set = &self.table[place];
+        let index = set_of(number, self.table.len());
+        let set = &self.table[index];
         let way = set.way_of(number)?;
-        Some(place as u32 * self.ways + way as u32)
+        Some(index as u32 * self.ways + way as u32)
     }
 
     /// The number of lines with a dirty mark.
@@ -118,14 +121,7 @@ impl<P: Policy> SetCache<P> {
     /// Makes every set fresh, its policy state too, and answers how many lines
     /// had a dirty mark.
     pub fn flush(&mut self) -> u32
-        ensures shape { SameShape self.old self.new }
-        ensures sound { IsSound P.takes P.stands_for self.new }
-        ensures count { result ≡ dirty_kept self.old }
-        ensures stands { (sets : Sets) → StandsFor P.stands_for self.old sets
-            → result ≡ dirty_of (shape_of P.rule self.old) sets }
-        ensures few { result ≤ length self.old.table * self.old.ways }
-        ensures fresh { StandsFor P.stands_for self.new empty }
-        ensures none { (number : ℕ) → place_in self.new number ≡ None }
+        ensures flush { IsFlush P.takes P.rule P.stands_for result self.old self.new }
     {
         let total = self.dirty();
         let state = self.policy.fresh(self.ways);

@@ -1,5 +1,5 @@
 //! A set-associative store of numbers, as lines or pages, under any
-//! replacement policy. It holds the numbers, their dirty marks and the
+//! replacement policy. It keeps the numbers, their dirty marks and the
 //! policy's state, and no data.
 #![tactic(auto)]
 
@@ -10,9 +10,9 @@ mod policy;
 pub use cache::SetCache;
 pub use policy::{Policy, victims_are_ways};
 
-/// A line that a way holds.
+/// A line that a way keeps.
 #[derive(Clone, Copy, Debug, PartialEq, Eq)]
-pub struct Held {
+pub struct KeptLine {
     /// The line's number.
     pub number: u32,
     /// Whether it was stored to since it came.
@@ -22,10 +22,10 @@ pub struct Held {
 /// What a touch found, and the line that it gave up for the new one.
 #[derive(Clone, Copy, Debug, PartialEq, Eq)]
 pub struct Touch {
-    /// Whether the line was held.
+    /// Whether the line was here.
     pub hit: bool,
     /// The number of the line that was given up; `None` at a hit, and where a way was empty.
     pub victim: Option<u32>,
-    /// Whether the line that was given up had a dirty mark.
+    /// Whether a line was given up that had a dirty mark.
     pub dirty_victim: bool,
 }

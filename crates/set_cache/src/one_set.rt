@@ -2,39 +2,41 @@
 ghost use Rattle.std.specs.Prelude.{◌≡◌, ◌<◌, ℕ, List, length, position, is_none};
 ghost use Rattle.set_cache.specs.Cache.{way_of};
 
-use crate::{Held, Policy, Touch};
+use crate::{KeptLine, Policy, Touch};
 use std::alloc::Global;
 use std::marker::Model;
 use tp_base::Memory;
 
-/// What each way holds, and the policy's state.
+/// What each way keeps, and the policy's state.
 #[derive(Drop)]
 pub struct OneSet {
-    places: Vec<Option<Held>>,
+    places: Vec<Option<KeptLine>>,
     state: u64,
 }
 
 impl Model for OneSet {
-    ghost use Rattle.set_cache.specs.Contents.{Kept, coded_kept};
+    ghost use Rattle.set_cache.specs.Contents.{KeptSet, coded_set};
 
-    ghost Value = { Kept };
+    ghost Value = { KeptSet };
 
-    ghost coded = { coded_kept };
+    ghost coded = { coded_set };
 
     ghost view = { λ a. record { places = a.places.items; state = a.state } };
 }
 
-/// Where a line is held.
-fn way_of(places: &[Option<Held>], number: u32) -> Option<usize>
+/// The way at which a line is kept.
+#[inline(always)]
+fn way_of(places: &[Option<KeptLine>], number: u32) -> Option<usize>
     ensures { result ≡ way_of number places.now }
 {
     places
         .iter()
-        .position(|place| place.is_some_and(|held| held.number == number))
+        .position(|place| place.is_some_and(|line| line.number == number))
 }
 
-/// The least way that holds nothing.
-fn empty_way(places: &[Option<Held>]) -> Option<usize>
+/// The least way that keeps nothing.
+#[inline(always)]
+fn empty_way(places: &[Option<KeptLine>]) -> Option<usize>
     ensures { result ≡ position is_none places.now }
 {
     places.iter().position(|place| place.is_none())
@@ -44,7 +46,7 @@ impl OneSet {
     ghost use Rattle.std.specs.Prelude.{◌^◌, ◌≤◌, replicate, IfOk};
     ghost use Rattle.set_cache.specs.Cache.{CacheSet, step_of, dirty_in};
     ghost use Rattle.set_cache.specs.Contents.{SetStands, SetSteps, IsOnce};
-    ghost use Rattle.set_cache.specs.Lines.{MovesWays};
+    ghost use Rattle.set_cache.specs.Lines.{MovesLines, MovesMarks, mark_of};
 
     /// A set with nothing in it.
     pub fn new(alloc: Global, ways: u32, state: u64) -> Result<Self, Memory>
@@ -56,7 +58,8 @@ impl OneSet {
         Ok(OneSet { places, state })
     }
 
-    /// A touch of a line: a hit where it is held; else it takes a way.
+    /// A touch of a line: a hit where it is here; else it takes a way.
+    #[inline(always)]
     pub fn touch<P: Policy>(&mut self, policy: &P, ways: u32, number: u32, store: bool) -> Touch
         requires taken { P.takes policy.now ways }
         requires full { length self.old.places ≡ ways }
@@ -66,13 +69,16 @@ impl OneSet {
         ensures valid { (list : List ℕ) × P.stands_for policy.now ways self.new.state list }
         ensures once { IsOnce self.new.places }
         ensures step { (set : CacheSet) → SetStands (P.stands_for policy.now ways) self.old set
-            → SetSteps (P.stands_for policy.now ways) result self.new (step_of (P.rule policy.now) ways set number store) }
-        ensures moves { MovesWays result number self.old.places self.new.places }
+            → SetSteps (P.stands_for policy.now ways) result self.new
+            (step_of (P.rule policy.now ways) set number store) }
+        ensures moves { MovesLines result number
+            (λ line. way_of line self.old.places) (λ line. way_of line self.new.places) }
+        ensures marks { MovesMarks result number store (mark_of self.old.places) (mark_of self.new.places) }
     {
         match way_of(&self.places, number) {
             Some(way) => {
                 if store {
-                    self.places[way] = Some(Held {
+                    self.places[way] = Some(KeptLine {
                         number,
                         dirty: true,
                     });
@@ -90,21 +96,22 @@ impl OneSet {
                     None => policy.victim(ways, self.state) as usize,
                 };
                 let old = self.places[way];
-                self.places[way] = Some(Held {
+                self.places[way] = Some(KeptLine {
                     number,
                     dirty: store,
                 });
                 self.state = policy.fill(ways, self.state, way as u32);
                 Touch {
                     hit: false,
-                    victim: old.map(|held| held.number),
-                    dirty_victim: old.is_some_and(|held| held.dirty),
+                    victim: old.map(|line| line.number),
+                    dirty_victim: old.is_some_and(|line| line.dirty),
                 }
             }
         }
     }
 
-    /// Where the set holds a line.
+    /// The way at which the set keeps a line.
+    #[inline(always)]
     pub fn way_of(&self, number: u32) -> Option<usize>
         ensures { result ≡ way_of number self.now.places }
     {
@@ -120,7 +127,7 @@ impl OneSet {
         let count = self
             .places
             .iter()
-            .filter(|place| place.is_some_and(|held| held.dirty))
+            .filter(|place| place.is_some_and(|line| line.dirty))
             .count();
         count as u32
     }

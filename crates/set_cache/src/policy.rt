@@ -8,8 +8,8 @@ pub trait Policy: Drop {
     /// The numbers of ways that it takes.
     ghost takes: { Self → ℕ → Type 0 };
 
-    /// What it does, on lists of ways.
-    ghost rule: { Self → Rule };
+    /// What it does with that many ways, on lists of ways.
+    ghost rule: { Self → ℕ → Rule };
 
     /// The state of a set with that many ways stands for a list of them, newest first.
     ghost stands_for: { Self → ℕ → ℕ → List ℕ → Type 0 };
@@ -25,7 +25,7 @@ pub trait Policy: Drop {
         requires valid { (list : List ℕ) × stands_for self.now ways state list }
         requires below { way < ways }
         ensures { (list : List ℕ) → stands_for self.now ways state list
-            → stands_for self.now ways result ((rule self.now).touched list way) };
+            → stands_for self.now ways result ((rule self.now ways).touched list way) };
 
     /// The state after a fill of a way.
     fn fill(&self, ways: u32, state: u64, way: u32) -> u64
@@ -33,7 +33,7 @@ pub trait Policy: Drop {
         requires valid { (list : List ℕ) × stands_for self.now ways state list }
         requires below { way < ways }
         ensures { (list : List ℕ) → stands_for self.now ways state list
-            → stands_for self.now ways result ((rule self.now).filled list way) };
+            → stands_for self.now ways result ((rule self.now ways).filled list way) };
 
     /// The way to give up where none is empty.
     fn victim(&self, ways: u32, state: u64) -> u32
@@ -41,18 +41,18 @@ pub trait Policy: Drop {
         requires valid { (list : List ℕ) × stands_for self.now ways state list }
         ensures below { result < ways }
         ensures chosen { (list : List ℕ) → stands_for self.now ways state list
-            → result ≡ (rule self.now).victim ways list };
+            → result ≡ (rule self.now ways).victim list };
 
     /// The way that the rule gives up is one of the ways.
     ghost victim_below: { (policy : Self) (ways : ℕ) (list : List ℕ) → takes policy ways
-        → All (λ way. way < ways) list → (rule policy).victim ways list < ways };
+        → All (λ way. way < ways) list → (rule policy ways).victim list < ways };
 }
 
 /// The law that the way which a rule gives up is one of the ways.
 pub fn victims_are_ways<P: Policy>(policy: &P, ways: u32)
     requires { P.takes policy.now ways }
     ensures { (list : List ℕ) → All (λ way. way < ways) list
-        → (P.rule policy.now).victim ways list < ways }
+        → (P.rule policy.now ways).victim list < ways }
 {
     let _ = policy;
     let _ = ways;

@@ -1,2 +1,4 @@
 pub mod EntryLemmas
+pub mod WordLemmas
 pub mod WalkLemmas
+pub mod KeptLeafLemmas

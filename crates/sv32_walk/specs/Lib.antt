@@ -1,3 +1,4 @@
-pub mod Entry
+pub mod PageTableEntry
 pub mod Walk
 pub mod Translation
+pub mod KeptLeaf

@@ -1,4 +1,4 @@
--- A translation buffer: which pages it holds, and the kept leaf word of each.
+-- A translation buffer: which pages it keeps, and the kept leaf word of each.
 use Rattle.std.specs.Prelude.{◌≡◌, ℕ, false, List, Option, option_map, is_some, slice_index, refl, if◌then◌else◌}
 use Rattle.std.specs.Coded.{Coded, code_by, coded×, coded_ℕ, coded_list}
 use Rattle.set_cache.specs.Cache.{Shape, Sets, touch_of, place_of}
@@ -17,7 +17,7 @@ coded_buffer {P} p = code_by (Contents P × List ℕ) (coded× (coded_contents p
 abbrev pub leaf_of : {P : Type 0} → Buffer P → ℕ → Option ℕ
 leaf_of buffer page = option_map (λ place. slice_index buffer.leaves place) (place_in buffer.pages page)
 
--- a look-up: a touch where the page is held, else nothing
+-- a look-up: a touch where the page is here, else nothing
 abbrev pub found_of : Shape → Sets → ℕ → Sets
 found_of shape sets page = if is_some (place_of shape sets page) then (touch_of shape sets page false).next else sets
 

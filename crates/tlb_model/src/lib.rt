@@ -29,33 +29,35 @@ impl<P: Policy> Model for Tlb<P> {
 }
 
 impl<P: Policy> Tlb<P> {
-    ghost use Rattle.std.specs.Prelude.{◌≡◌, ◌≢◌, ◌<◌, ◌*◌, ◌^◌, ℕ, length, is_some, IfOk, IfNone};
+    ghost use Rattle.std.specs.Prelude.{◌≡◌, ◌≢◌, ℕ, Some, None, is_some, IfOk, IfNone};
     ghost use Rattle.tp_base.specs.Table.{empty};
     ghost use Rattle.set_cache.specs.Cache.{Sets, place_of};
     ghost use Rattle.set_cache.specs.Contents.{StandsFor, SameShape, shape_of};
+    ghost use Rattle.set_cache.specs.Calls.{IsGeometry, IsNew};
     ghost use Rattle.tlb_model.specs.Buffer.{leaf_of, found_of, filled_of};
 
-    /// A buffer that holds no page.
+    /// A buffer that keeps no page.
+    ///
+    /// # Errors
+    ///
+    /// `Memory`, where memory ran out.
     pub fn new(alloc: Global, policy: P, sets: u32, ways: u32) -> Result<Self, Memory>
-        requires taken { P.takes policy ways }
-        requires some_set { 0 < sets }
-        requires small { sets * ways < 2 ^ 32 }
-        ensures policy { IfOk result (λ tlb. tlb.pages.policy ≡ policy) }
-        ensures ways { IfOk result (λ tlb. tlb.pages.ways ≡ ways) }
-        ensures sets { IfOk result (λ tlb. length tlb.pages.table ≡ sets) }
-        ensures fresh { IfOk result (λ tlb. StandsFor P.stands_for tlb.pages empty) }
+        requires geometry { IsGeometry (P.takes policy) sets ways }
+        ensures made { IfOk result (λ tlb. IsNew P.takes P.stands_for policy sets ways tlb.pages) }
         ensures none { IfOk result (λ tlb. (page : ℕ) → leaf_of tlb page ≡ None) }
     {
-        let mut leaves = Vec::with_capacity(alloc, (sets * ways) as usize)?;
-        leaves.resize((sets * ways) as usize, 0)?;
+        let places = (sets * ways) as usize;
+        let mut leaves = Vec::with_capacity(alloc, places)?;
+        leaves.resize(places, 0)?;
         Ok(Tlb {
             pages: SetCache::new(alloc, policy, sets, ways)?,
             leaves,
         })
     }
 
-    /// The leaf word that is kept for a page, where it is held: a touch then.
+    /// The leaf word that is kept for a page, where it is here: a touch then.
     /// A look-up that misses changes nothing.
+    #[inline(always)]
     pub fn find(&mut self, page: u32) -> Option<u32>
         ensures leaf { result ≡ leaf_of self.old page }
         ensures missed { IfNone result (self.new ≡ self.old) }
@@ -73,10 +75,10 @@ impl<P: Policy> Tlb<P> {
         Some(self.leaves[place as usize])
     }
 
-    /// Keeps the leaf word of a page that isn't held. What is kept for another
+    /// Keeps the leaf word of a page that isn't here. What is kept for another
     /// page then was kept for it before.
     pub fn fill(&mut self, page: u32, leaf: u32)
-        requires { leaf_of self.old page ≡ None }
+        requires missing { leaf_of self.old page ≡ None }
         ensures filled { leaf_of self.new page ≡ Some leaf }
         ensures others { (other word : ℕ) → other ≢ page
             → leaf_of self.new other ≡ Some word → leaf_of self.old other ≡ Some word }
@@ -85,9 +87,8 @@ impl<P: Policy> Tlb<P> {
             → StandsFor P.stands_for self.new.pages (filled_of (shape_of P.rule self.old.pages) sets page) }
     {
         self.pages.touch(page, false);
-        if let Some(place) = self.pages.place_of(page) {
-            self.leaves[place as usize] = leaf;
-        }
+        let place = self.pages.place_of(page).unwrap();
+        self.leaves[place as usize] = leaf;
     }
 
     /// Empties the buffer, its policy states too, and answers 0, since nothing

@@ -1,3 +1,4 @@
+// Pages that come and go, and a buffer of one place.
 use super::Tlb;
 use repl_policy::Lru;
 use std::test::Fail;
@@ -24,5 +25,17 @@ fn a_page_keeps_the_leaf_of_its_last_fill(rt: HostRuntime) -> Result<(), Fail> {
     }
     assert_eq!(rt; tlb.flush(), 0);
     assert_eq!(rt; tlb.find(3), None);
+    Ok(())
+}
+
+#[test]
+fn one_place_keeps_the_last_page(rt: HostRuntime) -> Result<(), Fail> {
+    let mut tlb = Tlb::new(rt.alloc(), Lru, 1, 1)?;
+    for page in [1_048_575, 0] {
+        assert_eq!(rt; tlb.find(page), None);
+        tlb.fill(page, page + 1);
+        assert_eq!(rt; tlb.find(page), Some(page + 1));
+    }
+    assert_eq!(rt; tlb.find(1_048_575), None);
     Ok(())
 }

@@ -1,0 +1,1 @@
+-- No lemma stands here: the search finds what the contracts want.

@@ -1,3 +1,5 @@
+// The error for want of memory.
+
 use std::alloc::{AllocError, AllocFailed};
 use thiserror::Error;
 

@@ -1,4 +1,5 @@
-// The typed numbers of the machine, each with its range.
+// The typed numbers of the machine, each with its range. They are written out one by one, since a
+// macro can write neither contracts nor a `Model`.
 ghost use Rattle.std.specs.Prelude.{◌≡◌, ℕ};
 ghost use Rattle.tp_base.specs.Ranges.{IsFrameNo, IsLine, IsColour, IsDomainNo, IsCycles};
 
@@ -22,11 +23,12 @@ impl FrameNo {
     /// A frame number below 32,768 (2^15).
     pub fn new(number: u32) -> Self
         requires { IsFrameNo number }
-        ensures { result ≡ number }
+        ensures value { result ≡ number }
     {
         FrameNo(number)
     }
 
+    /// It as an integer below 32,768.
     pub fn number(self) -> u32
         ensures same { result ≡ self }
         ensures range { IsFrameNo result }
@@ -53,11 +55,12 @@ impl Line {
     /// A line number below 8,388,608 (2^23).
     pub fn new(number: u32) -> Self
         requires { IsLine number }
-        ensures { result ≡ number }
+        ensures value { result ≡ number }
     {
         Line(number)
     }
 
+    /// It as an integer below 8,388,608.
     pub fn number(self) -> u32
         ensures same { result ≡ self }
         ensures range { IsLine result }
@@ -84,11 +87,12 @@ impl Colour {
     /// A colour below 64.
     pub fn new(number: u8) -> Self
         requires { IsColour number }
-        ensures { result ≡ number }
+        ensures value { result ≡ number }
     {
         Colour(number)
     }
 
+    /// It as an integer below 64.
     pub fn number(self) -> u8
         ensures same { result ≡ self }
         ensures range { IsColour result }
@@ -115,11 +119,12 @@ impl DomainNo {
     /// A domain number below 32.
     pub fn new(number: u8) -> Self
         requires { IsDomainNo number }
-        ensures { result ≡ number }
+        ensures value { result ≡ number }
     {
         DomainNo(number)
     }
 
+    /// It as an integer below 32.
     pub fn number(self) -> u8
         ensures same { result ≡ self }
         ensures range { IsDomainNo result }
@@ -146,11 +151,12 @@ impl Cycles {
     /// A number of cycles below 2^63.
     pub fn new(number: u64) -> Self
         requires { IsCycles number }
-        ensures { result ≡ number }
+        ensures value { result ≡ number }
     {
         Cycles(number)
     }
 
+    /// It as an integer below 2^63.
     pub fn number(self) -> u64
         ensures same { result ≡ self }
         ensures range { IsCycles result }

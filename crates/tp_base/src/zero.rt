@@ -20,7 +20,7 @@ pub trait Zero {
         ensures becomes { self.new ≡ zeroed self.old frame }
         ensures zero { (i : ℕ) → word self.new frame i ≡ 0 }
         ensures others { (f i : ℕ) → f ≢ frame → word self.new f i ≡ word self.old f i }
-        ensures held { (f : ℕ) → has_frame self.old f → has_frame self.new f };
+        ensures frames { (f : ℕ) → has_frame self.old f → has_frame self.new f };
 }
 
 #[cfg(test)]

@@ -16,11 +16,15 @@ AtEnd known = IfSome known (λ xs. xs ≡ [])
 -- a read took the bytes that it put at the front of the buffer, or nothing where it failed;
 -- it put none only at the end of the input, or into an empty buffer
 abbrev pub Takes : {E : Type 0} → Option (List ℕ) → Option (List ℕ) → Result ℕ E → List ℕ → Type 0
-Takes old new result buffer = MatchResult result (λ n. (n ≤ length buffer) × (old ≡ before_known (take n buffer) new) × (n ≡ 0 → 0 < length buffer → AtEnd new)) (λ _. new ≡ old)
+Takes old new result buffer = MatchResult result
+    (λ n. (n ≤ length buffer) × (old ≡ before_known (take n buffer) new) × (n ≡ 0 → 0 < length buffer → AtEnd new))
+    (λ _. new ≡ old)
 
 -- a write appended the front of the piece, some of it unless the piece is empty, or nothing where it failed
 abbrev pub Puts : {E : Type 0} → Option (List ℕ) → Option (List ℕ) → Result ℕ E → List ℕ → Type 0
-Puts old new result piece = MatchResult result (λ n. (n ≤ length piece) × (new ≡ after_known old (take n piece)) × (0 < length piece → 0 < n)) (λ _. new ≡ old)
+Puts old new result piece = MatchResult result
+    (λ n. (n ≤ length piece) × (new ≡ after_known old (take n piece)) × (0 < length piece → 0 < n))
+    (λ _. new ≡ old)
 
 -- some bytes were taken
 abbrev pub TakesSome : Option (List ℕ) → Option (List ℕ) → Type 0

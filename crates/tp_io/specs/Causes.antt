@@ -1,5 +1,5 @@
--- When an object that counts its faults may answer that it failed.
-use Rattle.std.specs.Prelude.{◌≡◌, ℕ, ◌+◌, ◌-◌, ◌^◌, ◌≤◌, min, Result, OnOk, OnErr}
+-- What a count of faults tells of a call.
+use Rattle.std.specs.Prelude.{◌≡◌, ℕ, ◌+◌, ◌-◌, ◌^◌, ◌≤◌, min}
 
 -- one more, in a count that stays at u64's greatest number
 abbrev pub one_more : ℕ → ℕ
@@ -9,8 +9,8 @@ one_more n = min (n + 1) (2 ^ 64 - 1)
 abbrev pub Rose : ℕ → ℕ → Type 0
 Rose before now = one_more before ≤ now
 
--- a failure comes only where the count rose, a success leaves the count, and it never falls
-pub record HasCause {T E : Type 0} (before now : ℕ) (result : Result T E) : Type 0 where
-  pub failed : OnErr result (Rose before now)
-  pub steady : OnOk result (now ≡ before)
+-- the count tells whether a call failed: it rose where the call did, stays where it didn't, and never falls
+pub record TellsFault (failed : Type 0) (before now : ℕ) : Type 0 where
+  pub rose : failed → Rose before now
+  pub steady : ¬ failed → now ≡ before
   pub never_falls : before ≤ now

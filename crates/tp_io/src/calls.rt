@@ -24,8 +24,9 @@ impl Model for CallCount {
 }
 
 impl CallCount {
+    /// No calls yet, of which those with these numbers will fail.
     pub fn new(alloc: Global, failing: &[u64]) -> Result<Self, AllocError>
-        ensures { IfOk result (λ c. c ≡ no_calls failing.now) }
+        ensures value { IfOk result (λ c. c ≡ no_calls failing.now) }
     {
         Ok(CallCount {
             made: 0,
@@ -55,7 +56,7 @@ impl CallCount {
 
 // Whether the call after so many is listed; one past every u64 isn't.
 fn is_listed(failing: &[u64], made: u64) -> bool
-    ensures { IsTrue result ↔ Contains failing.now (made + 1) }
+    ensures listed { IsTrue result ↔ Contains failing.now (made + 1) }
 {
     match made.checked_add(1) {
         Some(number) => failing.contains(&number),

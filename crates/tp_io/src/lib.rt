@@ -21,6 +21,7 @@
 mod calls;
 mod mem_sink;
 mod mem_source;
+mod send;
 mod sink;
 mod source;
 mod std_streams;
@@ -28,9 +29,10 @@ mod sure_source;
 
 pub use mem_sink::MemSink;
 pub use mem_source::MemSource;
-pub use sink::{Sink, write_all_of};
+pub use send::write_all_of;
+pub use sink::Sink;
 pub use source::{ReadError, Source, read_within};
-pub use std_streams::{StdSink, StdSource};
+pub use std_streams::StdStream;
 pub use sure_source::SureSource;
 use thiserror::Error;
 

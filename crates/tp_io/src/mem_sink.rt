@@ -1,8 +1,9 @@
-ghost use Rattle.std.specs.Prelude.{◌≡◌, ◌<◌, ◌≤◌, ◌↔◌, ◌⊎◌, [], Some, length, IfOk, IsOk, IsErr};
+// A sink in memory.
+ghost use Rattle.std.specs.Prelude.{◌≡◌, ◌<◌, ◌≤◌, ◌↔◌, ◌⊎◌, [], Some, length, IsTrue, IfOk, IsOk, IsErr};
 ghost use Rattle.tp_io.specs.Bytes.{Puts};
-ghost use Rattle.tp_io.specs.Causes.{HasCause};
-ghost use Rattle.tp_io.specs.Calls.{FailsNext, no_calls};
-ghost use Rattle.tp_io.specs.Objects.{taken, after_write, surely_taken, FindsNoRoom, IsFaultlessWithRoom};
+ghost use Rattle.tp_io.specs.Causes.{TellsFault};
+ghost use Rattle.tp_io.specs.Calls.{FailsNext};
+ghost use Rattle.tp_io.specs.Objects.{new_sink, taken, after_write, surely_taken, FindsNoRoom, IsFaultlessWithRoom};
 ghost use Rattle.tp_io.specs.Sure.{Spends};
 
 use crate::calls::CallCount;
@@ -26,9 +27,9 @@ pub struct MemSink {
 
 impl Model for MemSink {
     ghost use Rattle.std.specs.Prelude.{vec_len, vec_capacity};
-    ghost use Rattle.tp_io.specs.Objects.{SinkState, IsSinkSound};
+    ghost use Rattle.tp_io.specs.Objects.{MemSinkState, IsSinkSound};
 
-    ghost Value = { SinkState };
+    ghost Value = { MemSinkState };
 
     ghost view = { λ k. record { bytes = k.bytes.items; room = k.room; most = k.most; calls = k.calls } };
 
@@ -37,10 +38,14 @@ impl Model for MemSink {
 
 impl MemSink {
     /// An empty sink with `room` for so many bytes, which takes at most `most` a
-    /// call, and whose calls with the numbers in `failing` fail.
+    /// call, and whose calls with the numbers in `failing`, from 1, fail.
+    ///
+    /// # Errors
+    ///
+    /// `Memory` where memory ran out.
     pub fn new(alloc: Global, room: usize, most: usize, failing: &[u64]) -> Result<Self, Memory>
         requires { 0 < most }
-        ensures { IfOk result (λ k. k ≡ record { bytes = []; room = room; most = most; calls = no_calls failing.now }) }
+        ensures value { IfOk result (λ k. k ≡ new_sink room most failing.now) }
     {
         Ok(MemSink {
             bytes: Vec::with_capacity(alloc, room)?,
@@ -58,6 +63,13 @@ impl MemSink {
     {
         &self.bytes
     }
+
+    // Whether a piece that isn't empty finds no room left.
+    fn is_full_for(&self, piece: &[u8]) -> bool
+        ensures full { IsTrue result ↔ FindsNoRoom self.now piece.now }
+    {
+        self.bytes.len() >= self.room && !piece.is_empty()
+    }
 }
 
 impl Sink for MemSink {
@@ -69,7 +81,7 @@ impl Sink for MemSink {
 
     fn write(&mut self, piece: &[u8]) -> Result<usize, Failed>
         ensures bytes { Puts (Some self.old.bytes) (Some self.new.bytes) result piece.now }
-        ensures cause { HasCause self.old.calls.faults self.new.calls.faults result }
+        ensures cause { TellsFault (IsErr result) self.old.calls.faults self.new.calls.faults }
         ensures room { Spends (surely_taken self.old) (surely_taken self.new) result piece.now }
 
         // The call fails exactly where it is listed or finds no room.
@@ -84,11 +96,11 @@ impl Sink for MemSink {
         ensures faultless { IsFaultlessWithRoom self.new }
     {
         let listed = self.calls.begin();
-        let left = self.room - self.bytes.len();
-        if listed || (left == 0 && !piece.is_empty()) {
+        if listed || self.is_full_for(piece) {
             self.calls.fault();
             return Err(Failed);
         }
+        let left = self.room - self.bytes.len();
         let count = self.most.min(left).min(piece.len());
         self.bytes.extend_from_slice(&piece[..count]).unwrap();
         Ok(count)

@@ -1,8 +1,9 @@
+// A source in memory.
 ghost use Rattle.std.specs.Prelude.{◌≡◌, ◌<◌, ◌≤◌, ◌↔◌, ◌++◌, [], Some, drop, take, length, min, IfOk, IsOk, IsErr, vec_len};
 ghost use Rattle.tp_io.specs.Bytes.{Takes};
-ghost use Rattle.tp_io.specs.Causes.{HasCause};
-ghost use Rattle.tp_io.specs.Calls.{FailsNext, IsFaultless, no_calls};
-ghost use Rattle.tp_io.specs.Objects.{given, after_read};
+ghost use Rattle.tp_io.specs.Causes.{TellsFault};
+ghost use Rattle.tp_io.specs.Calls.{FailsNext, IsFaultless};
+ghost use Rattle.tp_io.specs.Objects.{new_source, given, after_read};
 
 use crate::calls::CallCount;
 use crate::{Failed, Source};
@@ -23,9 +24,9 @@ pub struct MemSource {
 impl Model for MemSource {
     ghost use Rattle.std.specs.Prelude.{◌<◌, ◌≤◌, drop, vec_len};
     ghost use Rattle.tp_io.specs.Calls.{IsFaultless};
-    ghost use Rattle.tp_io.specs.Objects.{SourceState, IsSourceSound};
+    ghost use Rattle.tp_io.specs.Objects.{MemSourceState, IsSourceSound};
 
-    ghost Value = { SourceState };
+    ghost Value = { MemSourceState };
 
     ghost view = { λ s. record { rest = drop s.at s.bytes.items; most = s.most; calls = s.calls } };
 
@@ -34,10 +35,14 @@ impl Model for MemSource {
 
 impl MemSource {
     /// A source of copies of these bytes that gives at most `most` a call, and
-    /// whose calls with the numbers in `failing` fail.
+    /// whose calls with the numbers in `failing`, from 1, fail.
+    ///
+    /// # Errors
+    ///
+    /// `Memory` where memory ran out.
     pub fn new(alloc: Global, bytes: &[u8], most: usize, failing: &[u64]) -> Result<Self, Memory>
         requires { 0 < most }
-        ensures { IfOk result (λ s. s ≡ record { rest = bytes.now; most = most; calls = no_calls failing.now }) }
+        ensures value { IfOk result (λ s. s ≡ new_source bytes.now most failing.now) }
     {
         Ok(MemSource {
             bytes: Vec::from_slice(alloc, bytes)?,
@@ -55,7 +60,7 @@ impl Source for MemSource {
 
     fn read(&mut self, buf: &mut [u8]) -> Result<usize, Failed>
         ensures bytes { Takes (Some self.old.rest) (Some self.new.rest) result buf.new }
-        ensures cause { HasCause self.old.calls.faults self.new.calls.faults result }
+        ensures cause { TellsFault (IsErr result) self.old.calls.faults self.new.calls.faults }
 
         // The call fails exactly where it is listed.
         ensures listed { IsErr result ↔ FailsNext self.old.calls }

@@ -1,5 +1,6 @@
-ghost use Rattle.std.specs.Prelude.{◌≡◌, ◌<◌, ◌≤◌, ◌+◌, ◌^◌, List, ℕ, length, Option, IfOk, OnErr, IsErrOf};
-ghost use Rattle.tp_io.specs.Causes.{HasCause, Rose};
+// Where bytes come from, and reading to the end.
+ghost use Rattle.std.specs.Prelude.{◌≡◌, ◌<◌, ◌≤◌, ◌+◌, ◌^◌, List, ℕ, length, Option, IfOk, Err, OnErr, IsErr};
+ghost use Rattle.tp_io.specs.Causes.{TellsFault};
 ghost use Rattle.tp_io.specs.Bytes.{Takes, TakesSome, AtEnd, before_known};
 ghost use Rattle.tp_io.specs.declared.source.ReadError.TheVariants.{Failed as FailedRead, Memory};
 
@@ -17,9 +18,14 @@ pub trait Source {
 
     /// Puts the next bytes at the front of the buffer, and says how many. 0 for
     /// a buffer that isn't empty is the end of the input.
+    ///
+    /// # Errors
+    ///
+    /// `Failed` where the source failed: its count of faults rose, and it took
+    /// no bytes.
     fn read(&mut self, buf: &mut [u8]) -> Result<usize, Failed>
         ensures bytes { Takes (left self.old) (left self.new) result buf.new }
-        ensures cause { HasCause (faults self.old) (faults self.new) result };
+        ensures cause { TellsFault (IsErr result) (faults self.old) (faults self.new) };
 }
 
 /// Why reading to the end gave no bytes.
@@ -60,6 +66,11 @@ impl<T: Drop> From<AllocFailed<T>> for ReadError {
 /// Reads to the end, or until it has `most + 1` bytes, whichever comes first,
 /// so that more than `most` bytes tell that the input is too long. What it read
 /// before an error is lost.
+///
+/// # Errors
+///
+/// `ReadError::Failed` where the source failed, and `ReadError::Memory` where
+/// memory ran out, which leaves the count of faults.
 pub fn read_within<S: Source>(
     alloc: Global,
     source: &mut S,
@@ -70,9 +81,7 @@ pub fn read_within<S: Source>(
     ensures whole { IfOk result (λ v. length v.items ≤ most → AtEnd (S.left source.new)) }
     ensures most { IfOk result (λ v. length v.items ≤ most + 1) }
 
-    // Only the source's failure changes its count.
-    ensures failed { IsErrOf result ReadError.Failed → Rose (S.faults source.old) (S.faults source.new) }
-    ensures steady { (result ≡ Err ReadError.Failed → ⊥) → S.faults source.new ≡ S.faults source.old }
+    ensures cause { TellsFault (result ≡ Err ReadError.Failed) (S.faults source.old) (S.faults source.new) }
     ensures lost { OnErr result (TakesSome (S.left source.old) (S.left source.new)) }
 {
     let mut found = Vec::new(alloc);

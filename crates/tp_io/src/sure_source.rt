@@ -1,6 +1,7 @@
-ghost use Rattle.std.specs.Prelude.{◌≡◌, ◌≤◌, Some, drop, length, min, List, ℕ, IfOk, IsOk, vec_len};
+// A source in memory that never fails.
+ghost use Rattle.std.specs.Prelude.{◌≡◌, ◌≤◌, Some, drop, length, min, List, ℕ, IfOk, IsOk, IsErr, vec_len};
 ghost use Rattle.tp_io.specs.Bytes.{Takes};
-ghost use Rattle.tp_io.specs.Causes.{HasCause};
+ghost use Rattle.tp_io.specs.Causes.{TellsFault};
 
 use crate::mem_source::copy_front;
 use crate::{Failed, Source};
@@ -24,7 +25,7 @@ impl Model for SureSource {
 impl SureSource {
     /// A source of these bytes.
     pub fn new(bytes: Vec<u8>) -> Self
-        ensures { result ≡ bytes.items }
+        ensures value { result ≡ bytes.items }
     {
         SureSource { bytes, at: 0 }
     }
@@ -37,7 +38,7 @@ impl Source for SureSource {
 
     fn read(&mut self, buf: &mut [u8]) -> Result<usize, Failed>
         ensures bytes { Takes (Some self.old) (Some self.new) result buf.new }
-        ensures cause { HasCause 0 0 result }
+        ensures cause { TellsFault (IsErr result) 0 0 }
         ensures sure { IsOk result }
         ensures given { IfOk result (λ n. n ≡ min (length self.old) (length buf.old)) }
     {

@@ -20,15 +20,15 @@ use Rattle.rv_decode.specs.declared.LoadWidth.{LoadWidth}
 use Rattle.rv_decode.specs.declared.Instr.TheVariants as instr
 use Rattle.sv32_walk.specs.declared.access.Access.TheVariants as access
 use Rattle.image_check.specs.Public.{Hardware}
-use Rattle.image_check.specs.Own.{Own}
 use Rattle.world_view.specs.Domain.{Dom}
 use Rattle.world_view.specs.Instruction.{counter_value, trapped, stopped, retired_at, read_out, call}
-use Rattle.world_view.specs.Reach.Touch.{Fetch}
-use Rattle.world_view.specs.Event.{Store, Act, load, translate, place, address_in, touch, read, unless, store, loaded, noted, settle, execute, perform, instruction}
+use Rattle.world_view.specs.Cost.Touch.{Fetch}
+use Rattle.world_view.specs.Event.{Storage, Act, load, translate, place, address_in, touch, read, unless, store, loaded, noted, settle, execute, perform, instruction}
 use Rattle.world_view.proofs.CodeLaws.{noted-other, loaded-other, perform-other}
-use Rattle.tp_machine.specs.declared.domain.Domain.{Domain}
-use Rattle.tp_machine.specs.Stands.{Stands, Becomes, dom_view}
-use Rattle.tp_machine.specs.Moves.{Answers, IsLeft}
+use Rattle.world_view.specs.declared.domain.Domain.{Domain}
+use Rattle.tp_machine.specs.Stands.{Stands, Becomes}
+use Rattle.world_view.specs.Models.{dom_model}
+use Rattle.tp_machine.specs.Moves.{EndsAs, IsLeft}
 use Rattle.tp_machine.proofs.Steps.{given, touched, was_read, passed, raised, left_then, left_stop, left_next, left_stop_next, left_given, left_stopped, becomes_then}
 
 -- ---- the end of an instruction
@@ -42,7 +42,7 @@ module _ (next value : ℕ) (old new : Domain) where
   pub finish_other : (i : Instr) → ((c : Counter) (rd : ℕ) → i ≢ instr.ReadCounter c rd) → Becomes (λ d. retired_at next d.thread.regs d) old new
       → Becomes (λ d. retired_at next d.thread.regs (noted i value d)) old new
   finish_other i other retired readings replies r q =
-      let d = dom_view old readings replies in
+      let d = dom_model old readings replies in
       subst (λ (m : Dom). Stands new (retired_at next d.thread.regs m)) (sym (noted-other i value d other)) (retired readings replies r q)
 
 -- ---- stores
@@ -118,119 +118,119 @@ finished_same new out next value i regs d e same stands =
     (subst (Stands new) (retired_same next value i regs d) stands)
 
 -- a store that faults was one
-pub faulted_keeps : (p : Hardware) (o : Own) (d : Dom) (i : Instr) (loaded : ℕ) (pc : ℕ) (made : Option StoreMade) (s : Store) (memory : Contents) (trap : Trap) (regs : List ℕ)
-    → (effect_of regs pc i loaded).effect.store ≡ made → Answers d (Err trap) memory (store p o d made s) → (effect_of regs pc i loaded).regs ≡ regs
+pub faulted_keeps : (p : Hardware) (root : ℕ) (d : Dom) (i : Instr) (loaded : ℕ) (pc : ℕ) (made : Option StoreMade) (s : Storage) (memory : Contents) (trap : Trap) (regs : List ℕ)
+    → (effect_of regs pc i loaded).effect.store ≡ made → EndsAs d (Err trap) memory (store p root d made s) → (effect_of regs pc i loaded).regs ≡ regs
 unfolding store give
-faulted_keeps p o d i loaded pc None s memory trap regs e answers = absurd (inr-inl answers.value)
+faulted_keeps p root d i loaded pc None s memory trap regs e answers = absurd (inr-inl answers.value)
   where
     inr-inl : {A B : Type 0} {a : A} {b : B} → inr b ≢ inl a
     inr-inl e = cc
-faulted_keeps p o d i loaded pc (Some made) s memory trap regs e answers = store_keeps regs made pc i loaded e
+faulted_keeps p root d i loaded pc (Some made) s memory trap regs e answers = store_keeps regs made pc i loaded e
 
 -- ---- what an instruction needs from outside
 
-module _ (p : Hardware) (o : Own) (t : ℕ) (d : Dom) (i : Instr) (s : Store) (memory : Contents) where
-  pub loaded_load : (width : LoadWidth) (rd rs1 offset at : ℕ) (result : Result ℕ Trap) → i ≡ instr.Load width rd rs1 offset → at ≡ address_of d.thread.regs i → Answers d result memory (load p o d width at s)
-      → Answers d result memory (loaded p o t d i s)
+module _ (p : Hardware) (root : ℕ) (t : ℕ) (d : Dom) (i : Instr) (s : Storage) (memory : Contents) where
+  pub loaded_load : (width : LoadWidth) (rd rs1 offset at : ℕ) (result : Result ℕ Trap) → i ≡ instr.Load width rd rs1 offset → at ≡ address_of d.thread.regs i → EndsAs d result memory (load p root d width at s)
+      → EndsAs d result memory (loaded p root t d i s)
   unfolding loaded
   loaded_load width rd rs1 offset at result e is found =
-      subst (λ (j : Instr). Answers d result memory (loaded p o t d j s)) (sym e)
-      (subst (λ (x : ℕ). Answers d result memory (load p o d width x s)) (is ∙ ap (address_of d.thread.regs) e) found)
+      subst (λ (j : Instr). EndsAs d result memory (loaded p root t d j s)) (sym e)
+      (subst (λ (x : ℕ). EndsAs d result memory (load p root d width x s)) (is ∙ ap (address_of d.thread.regs) e) found)
 
-  pub loaded_counter : (counter : Counter) (rd v : ℕ) → Holds memory s.mem → i ≡ instr.ReadCounter counter rd → v ≡ counter_value counter t d → Answers d (Ok v) memory (loaded p o t d i s)
+  pub loaded_counter : (counter : Counter) (rd v : ℕ) → Holds memory s.mem → i ≡ instr.ReadCounter counter rd → v ≡ counter_value counter t d → EndsAs d (Ok v) memory (loaded p root t d i s)
   unfolding loaded
   loaded_counter counter rd v holds e is =
-      subst (λ (j : Instr). Answers d (Ok v) memory (loaded p o t d j s)) (sym e) (given d s memory holds v (counter_value counter t d) (sym is))
+      subst (λ (j : Instr). EndsAs d (Ok v) memory (loaded p root t d j s)) (sym e) (given d s memory holds v (counter_value counter t d) (sym is))
 
   pub loaded_other : Holds memory s.mem → ((w : LoadWidth) (rd rs1 offset : ℕ) → i ≢ instr.Load w rd rs1 offset) → ((c : Counter) (rd : ℕ) → i ≢ instr.ReadCounter c rd)
-      → Answers d (Ok 0) memory (loaded p o t d i s)
+      → EndsAs d (Ok 0) memory (loaded p root t d i s)
   loaded_other holds not_load not_counter =
-      subst (λ (x : Act ℕ). Answers d (Ok 0) memory (x s)) (sym (loaded-other p o t d i not_load not_counter)) (given d s memory holds 0 0 refl)
+      subst (λ (x : Act ℕ). EndsAs d (Ok 0) memory (x s)) (sym (loaded-other p root t d i not_load not_counter)) (given d s memory holds 0 0 refl)
 
 -- ---- the effect
 
-module _ (p : Hardware) (o : Own) (d : Dom) (i : Instr) (value : ℕ) (out : Outcome) (s : Store) (memory : Contents) (new : Domain) (holds : Holds memory s.mem) where
-  pub settle_trapped : (trap : Trap) → out.effect.trap ≡ Some trap → Stands new (trapped trap d) → IsLeft memory new (settle p o d i value out s)
+module _ (p : Hardware) (root : ℕ) (d : Dom) (i : Instr) (value : ℕ) (out : Outcome) (s : Storage) (memory : Contents) (new : Domain) (holds : Holds memory s.mem) where
+  pub settle_trapped : (trap : Trap) → out.effect.trap ≡ Some trap → Stands new (trapped trap d) → IsLeft memory new (settle p root d i value out s)
   unfolding settle
   settle_trapped trap e stands =
-      left_stop_next (unless out.effect.trap d) _ d s memory new trap (subst (λ (t : Option Trap). Answers d (Err trap) memory (unless t d s)) (sym e) (raised d s memory holds trap)) stands
+      left_stop_next (unless out.effect.trap d) _ d s memory new trap (subst (λ (t : Option Trap). EndsAs d (Err trap) memory (unless t d s)) (sym e) (raised d s memory holds trap)) stands
 
-  goes_by : out.effect.trap ≡ None → Answers d (Ok tt) memory (unless out.effect.trap d s)
-  goes_by e = subst (λ (t : Option Trap). Answers d (Ok tt) memory (unless t d s)) (sym e) (passed d s memory holds)
+  goes_by : out.effect.trap ≡ None → EndsAs d (Ok tt) memory (unless out.effect.trap d s)
+  goes_by e = subst (λ (t : Option Trap). EndsAs d (Ok tt) memory (unless t d s)) (sym e) (passed d s memory holds)
 
-  pub settle_faulted : (memory' : Contents) (trap : Trap) → out.effect.trap ≡ None → ((t : Store) → Holds memory t.mem → Answers d (Err trap) memory' (store p o d out.effect.store t)) → Stands new (trapped trap d)
-      → IsLeft memory' new (settle p o d i value out s)
+  pub settle_faulted : (memory' : Contents) (trap : Trap) → out.effect.trap ≡ None → ((t : Storage) → Holds memory t.mem → EndsAs d (Err trap) memory' (store p root d out.effect.store t)) → Stands new (trapped trap d)
+      → IsLeft memory' new (settle p root d i value out s)
   unfolding settle
   settle_faulted memory' trap e found stands =
       left_next (unless out.effect.trap d) _ d s memory new tt memory' (goes_by e) (λ t h.
-      left_stop_next (store p o d out.effect.store) _ d t memory' new trap (found t h) stands)
+      left_stop_next (store p root d out.effect.store) _ d t memory' new trap (found t h) stands)
 
-  pub settle_finished : (memory' : Contents) → out.effect.trap ≡ None → ((t : Store) → Holds memory t.mem → Answers d (Ok tt) memory' (store p o d out.effect.store t))
-      → Stands new (retired_at out.effect.next out.regs (noted i value d)) → IsLeft memory' new (settle p o d i value out s)
+  pub settle_finished : (memory' : Contents) → out.effect.trap ≡ None → ((t : Storage) → Holds memory t.mem → EndsAs d (Ok tt) memory' (store p root d out.effect.store t))
+      → Stands new (retired_at out.effect.next out.regs (noted i value d)) → IsLeft memory' new (settle p root d i value out s)
   unfolding settle give
   settle_finished memory' e found stands =
       left_next (unless out.effect.trap d) _ d s memory new tt memory' (goes_by e) (λ t h.
-      left_next (store p o d out.effect.store) _ d t memory' new tt memory' (found t h) (λ u k.
+      left_next (store p root d out.effect.store) _ d t memory' new tt memory' (found t h) (λ u k.
       left_given (retired_at out.effect.next out.regs (noted i value d)) u memory' new k stands))
 
 -- ---- an instruction that is no kernel call
 
-module _ (p : Hardware) (o : Own) (t : ℕ) (d : Dom) (i : Instr) (s : Store) (memory : Contents) (new : Domain) (holds : Holds memory s.mem) where
-  pub execute_misaligned : (trap : Trap) → misalignment_of i (address_of d.thread.regs i) ≡ Some trap → Stands new (trapped trap d) → IsLeft memory new (execute p o t d i s)
+module _ (p : Hardware) (root : ℕ) (t : ℕ) (d : Dom) (i : Instr) (s : Storage) (memory : Contents) (new : Domain) (holds : Holds memory s.mem) where
+  pub execute_misaligned : (trap : Trap) → misalignment_of i (address_of d.thread.regs i) ≡ Some trap → Stands new (trapped trap d) → IsLeft memory new (execute p root t d i s)
   unfolding execute
   execute_misaligned trap e stands =
       left_stop_next (unless (misalignment_of i (address_of d.thread.regs i)) d) _ d s memory new trap
-      (subst (λ (x : Option Trap). Answers d (Err trap) memory (unless x d s)) (sym e) (raised d s memory holds trap)) stands
+      (subst (λ (x : Option Trap). EndsAs d (Err trap) memory (unless x d s)) (sym e) (raised d s memory holds trap)) stands
 
-  aligned : misalignment_of i (address_of d.thread.regs i) ≡ None → Answers d (Ok tt) memory (unless (misalignment_of i (address_of d.thread.regs i)) d s)
-  aligned e = subst (λ (x : Option Trap). Answers d (Ok tt) memory (unless x d s)) (sym e) (passed d s memory holds)
+  aligned : misalignment_of i (address_of d.thread.regs i) ≡ None → EndsAs d (Ok tt) memory (unless (misalignment_of i (address_of d.thread.regs i)) d s)
+  aligned e = subst (λ (x : Option Trap). EndsAs d (Ok tt) memory (unless x d s)) (sym e) (passed d s memory holds)
 
-  pub execute_faulted : (trap : Trap) → misalignment_of i (address_of d.thread.regs i) ≡ None → ((u : Store) → Holds memory u.mem → Answers d (Err trap) memory (loaded p o t d i u)) → Stands new (trapped trap d)
-      → IsLeft memory new (execute p o t d i s)
+  pub execute_faulted : (trap : Trap) → misalignment_of i (address_of d.thread.regs i) ≡ None → ((u : Storage) → Holds memory u.mem → EndsAs d (Err trap) memory (loaded p root t d i u)) → Stands new (trapped trap d)
+      → IsLeft memory new (execute p root t d i s)
   unfolding execute
   execute_faulted trap e found stands =
       left_next (unless (misalignment_of i (address_of d.thread.regs i)) d) _ d s memory new tt memory (aligned e) (λ u h.
-      left_stop (loaded p o t d i) _ d u memory new trap (found u h) stands)
+      left_stop (loaded p root t d i) _ d u memory new trap (found u h) stands)
 
-  pub execute_settled : (value : ℕ) (memory' : Contents) → misalignment_of i (address_of d.thread.regs i) ≡ None → ((u : Store) → Holds memory u.mem → Answers d (Ok value) memory (loaded p o t d i u))
-      → ((u : Store) → Holds memory u.mem → IsLeft memory' new (settle p o d i value (effect_of d.thread.regs d.thread.pc i value) u))
-      → IsLeft memory' new (execute p o t d i s)
+  pub execute_settled : (value : ℕ) (memory' : Contents) → misalignment_of i (address_of d.thread.regs i) ≡ None → ((u : Storage) → Holds memory u.mem → EndsAs d (Ok value) memory (loaded p root t d i u))
+      → ((u : Storage) → Holds memory u.mem → IsLeft memory' new (settle p root d i value (effect_of d.thread.regs d.thread.pc i value) u))
+      → IsLeft memory' new (execute p root t d i s)
   unfolding execute
   execute_settled value memory' e found rest =
       left_next (unless (misalignment_of i (address_of d.thread.regs i)) d) _ d s memory new tt memory' (aligned e) (λ u h.
-      left_then (loaded p o t d i) _ d u memory new value memory' (found u h) rest)
+      left_then (loaded p root t d i) _ d u memory new value memory' (found u h) rest)
 
 -- ---- the next instruction
 
-module _ (p : Hardware) (o : Own) (t : ℕ) (d : Dom) (s : Store) (memory : Contents) (new : Domain) where
-  pub instruction_missed : (trap : Trap) → Answers {A = ℕ} d (Err trap) memory (translate p o d access.Fetch d.thread.pc s) → Stands new (trapped trap d)
-      → IsLeft memory new (instruction p o t d s)
+module _ (p : Hardware) (root : ℕ) (t : ℕ) (d : Dom) (s : Storage) (memory : Contents) (new : Domain) where
+  pub instruction_missed : (trap : Trap) → EndsAs {A = ℕ} d (Err trap) memory (translate p root d access.Fetch d.thread.pc s) → Stands new (trapped trap d)
+      → IsLeft memory new (instruction p root t d s)
   unfolding instruction
-  instruction_missed trap fault stands = left_stop (translate p o d access.Fetch d.thread.pc) _ d s memory new trap fault stands
+  instruction_missed trap fault stands = left_stop (translate p root d access.Fetch d.thread.pc) _ d s memory new trap fault stands
 
-  instruction_read : (f w at : ℕ) (memory' : Contents) → Answers d (Ok f) memory (translate p o d access.Fetch d.thread.pc s) → frame_of at ≡ f → place_of at ≡ place d.thread.pc
+  instruction_read : (f w at : ℕ) (memory' : Contents) → EndsAs d (Ok f) memory (translate p root d access.Fetch d.thread.pc s) → frame_of at ≡ f → place_of at ≡ place d.thread.pc
       → ((m : Mem) → Holds memory m → w ≡ word m (frame_of at) (place_of at))
-      → ((u : Store) → Holds memory u.mem → IsLeft memory' new (perform p o t d w (decode_of w) u))
-      → IsLeft memory' new (instruction p o t d s)
+      → ((u : Storage) → Holds memory u.mem → IsLeft memory' new (perform p root t d w (decode_of w) u))
+      → IsLeft memory' new (instruction p root t d s)
   unfolding instruction read
   instruction_read f w at memory' page frame place' is rest =
       let found : (m : Mem) → Holds memory m → w ≡ word m f (place d.thread.pc) = rw (frame, place') at is in
-      left_then (translate p o d access.Fetch d.thread.pc) _ d s memory new f memory' page (λ s1 h1.
+      left_then (translate p root d access.Fetch d.thread.pc) _ d s memory new f memory' page (λ s1 h1.
       left_next (touch (Fetch (address_in f d.thread.pc))) _ d s1 memory new tt memory' (touched d s1 memory h1 (Fetch (address_in f d.thread.pc))) (λ s2 h2.
       left_then (read f (place d.thread.pc)) _ d s2 memory new w memory' (was_read d s2 memory h2 f (place d.thread.pc) w (ap (λ x. inr x) (sym (found s2.mem h2)))) rest))
 
-  module _ (f w at : ℕ) (page : Answers d (Ok f) memory (translate p o d access.Fetch d.thread.pc s)) (frame : frame_of at ≡ f) (place' : place_of at ≡ place d.thread.pc)
+  module _ (f w at : ℕ) (page : EndsAs d (Ok f) memory (translate p root d access.Fetch d.thread.pc s)) (frame : frame_of at ≡ f) (place' : place_of at ≡ place d.thread.pc)
       (is : (m : Mem) → Holds memory m → w ≡ word m (frame_of at) (place_of at)) where
-    pub instruction_undefined : (trap : Trap) → trap ≡ record { code = 2; value = w } → decode_of w ≡ None → Stands new (trapped trap d) → IsLeft memory new (instruction p o t d s)
+    pub instruction_undefined : (trap : Trap) → trap ≡ record { code = 2; value = w } → decode_of w ≡ None → Stands new (trapped trap d) → IsLeft memory new (instruction p root t d s)
     unfolding perform trapped
     instruction_undefined trap same none stands =
         instruction_read f w at memory page frame place' is (λ u h.
         rw none (left_stopped (stopped 2 w d) u memory new h (subst (λ (x : Trap). Stands new (stopped x.code x.value d)) same stands)))
 
-    pub instruction_called : decode_of w ≡ Some instr.Ecall → Stands new (call d) → IsLeft memory new (instruction p o t d s)
+    pub instruction_called : decode_of w ≡ Some instr.Ecall → Stands new (call d) → IsLeft memory new (instruction p root t d s)
     unfolding perform
     instruction_called some stands = instruction_read f w at memory page frame place' is (λ u h. rw some (left_given (call d) u memory new h stands))
 
-    pub instruction_executed : (i : Instr) (memory' : Contents) → decode_of w ≡ Some i → i ≢ instr.Ecall → ((u : Store) → Holds memory u.mem → IsLeft memory' new (execute p o t d i u))
-        → IsLeft memory' new (instruction p o t d s)
-    instruction_executed i memory' some other rest = instruction_read f w at memory' page frame place' is (λ u h. rw (some, perform-other p o t d w i other) (rest u h))
+    pub instruction_executed : (i : Instr) (memory' : Contents) → decode_of w ≡ Some i → i ≢ instr.Ecall → ((u : Storage) → Holds memory u.mem → IsLeft memory' new (execute p root t d i u))
+        → IsLeft memory' new (instruction p root t d s)
+    instruction_executed i memory' some other rest = instruction_read f w at memory' page frame place' is (λ u h. rw (some, perform-other p root t d w i other) (rest u h))

@@ -1,6 +1,7 @@
 mod Elements
 mod SwitchCounts
 mod Pages
+mod PoolReads
 mod Loading
 mod Steps
 mod Accesses

@@ -6,6 +6,7 @@ use Rattle.phys_mem.specs.Contents.{Contents}
 use Rattle.phys_mem.specs.Holds.{Holds}
 use Rattle.phys_mem.specs.Mem.{Frame, Mem, word, written, word-written_same, word-written_place, word-written_frame}
 use Rattle.tp_base.specs.Table.{empty, at, put}
+use Rattle.image_check.specs.Public.{Hardware}
 use Rattle.image_check.specs.Own as spec
 use Rattle.world_view.specs.Frames.{has_region, table_frame, page_frame}
 use Rattle.world_view.specs.Opening.{tabled, leaf_entry, table_placed, tables_placed, page_words, pages_placed, segments_placed, placed, all_placed}
@@ -61,16 +62,16 @@ holds_put memory m f words x is holds = record {
 
 -- ---- tables, by ascending regions
 
-module _ (o : spec.Own) (m : Mem) where
-  pub tables_none : tables_placed o 0 m ≡ m
+module _ (p : Hardware) (o : spec.Own) (m : Mem) where
+  pub tables_none : tables_placed p o 0 m ≡ m
   unfolding tables_placed
   tables_none = refl
 
-  pub tables_more : (r : ℕ) → has_region o.segments r ≡ true → tables_placed o (r + 1) m ≡ put (tables_placed o r m) (table_frame o r) (tabled (λ i. leaf_entry o (1024 * r + i)) 1024)
+  pub tables_more : (r : ℕ) → has_region o.segments r ≡ true → tables_placed p o (r + 1) m ≡ put (tables_placed p o r m) (table_frame p o r) (tabled (λ i. leaf_entry p o (1024 * r + i)) 1024)
   unfolding tables_placed table_placed
   tables_more r some = rw (add-one r, some) refl
 
-  pub tables_same : (r : ℕ) → has_region o.segments r ≡ false → tables_placed o (r + 1) m ≡ tables_placed o r m
+  pub tables_same : (r : ℕ) → has_region o.segments r ≡ false → tables_placed p o (r + 1) m ≡ tables_placed p o r m
   unfolding tables_placed
   tables_same r none = rw (add-one r, none) refl
 
@@ -102,30 +103,30 @@ pub went_on : (memory memory' : Contents) (left left' step : Mem → Mem) (due :
     → Placing memory left due → Placing memory' left' due
 went_on memory memory' left left' step due more moved p = record { done = step p.done; holds = moved p.done p.holds; same = sym (more p.done) ∙ p.same }
 
-pub no_page : (o : spec.Own) (n many : ℕ) (bytes : List ℕ) → many ≡ 0 → (m : Mem) → pages_placed o n many bytes m ≡ m
+pub no_page : (p : Hardware) (o : spec.Own) (n many : ℕ) (bytes : List ℕ) → many ≡ 0 → (m : Mem) → pages_placed p o n many bytes m ≡ m
 unfolding pages_placed
-no_page o n many bytes none m = rw none refl
+no_page p o n many bytes none m = rw none refl
 
-pub one_page : (o : spec.Own) (n many many' : ℕ) (bytes : List ℕ) → many ≡ suc many' → (m : Mem) → pages_placed o n many bytes m ≡ pages_placed o (n + 1) many' (drop 4096 bytes) (put m (page_frame o n) (page_words (take 4096 bytes)))
+pub one_page : (p : Hardware) (o : spec.Own) (n many many' : ℕ) (bytes : List ℕ) → many ≡ suc many' → (m : Mem) → pages_placed p o n many bytes m ≡ pages_placed p o (n + 1) many' (drop 4096 bytes) (put m (page_frame p o n) (page_words (take 4096 bytes)))
 unfolding pages_placed
-one_page o n many many' bytes some m = rw (some, add-one n) refl
+one_page p o n many many' bytes some m = rw (some, add-one n) refl
 
 -- ---- segments of a domain, from the first on
 
-pub no_segment : (o : spec.Own) (m : Mem) → segments_placed o [] m ≡ m
+pub no_segment : (p : Hardware) (o : spec.Own) (m : Mem) → segments_placed p o [] m ≡ m
 unfolding segments_placed
-no_segment o m = refl
+no_segment p o m = refl
 
-pub one_segment : (o : spec.Own) (s : spec.Segment) (ss : List spec.Segment) (m : Mem) → segments_placed o (s ∷ ss) m ≡ segments_placed o ss (pages_placed o s.page s.pages s.bytes m)
+pub one_segment : (p : Hardware) (o : spec.Own) (s : spec.Segment) (ss : List spec.Segment) (m : Mem) → segments_placed p o (s ∷ ss) m ≡ segments_placed p o ss (pages_placed p o s.page s.pages s.bytes m)
 unfolding segments_placed
-one_segment o s ss m = refl
+one_segment p o s ss m = refl
 
 -- ---- domains, from the last to the first
 
-pub owns_none : (owns : List spec.Own) (k : ℕ) → length owns ≤ k → all_placed (drop k owns) ≡ empty
+pub owns_none : (p : Hardware) (owns : List spec.Own) (k : ℕ) → length owns ≤ k → all_placed p (drop k owns) ≡ empty
 unfolding all_placed
-owns_none owns k h = rw (drop_all k owns h) refl
+owns_none p owns k h = rw (drop_all k owns h) refl
 
-pub owns_more : (owns : List spec.Own) (k : ℕ) → k < length owns → placed (spec.own_at owns k) (all_placed (drop (k + 1) owns)) ≡ all_placed (drop k owns)
+pub owns_more : (p : Hardware) (owns : List spec.Own) (k : ℕ) → k < length owns → placed p (spec.own_at owns k) (all_placed p (drop (k + 1) owns)) ≡ all_placed p (drop k owns)
 unfolding all_placed
-owns_more owns k h = ap all_placed (sym (drop_more owns k spec.no_own h))
+owns_more p owns k h = ap (all_placed p) (sym (drop_more owns k spec.no_own h))

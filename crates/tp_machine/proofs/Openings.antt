@@ -6,70 +6,76 @@ use Rattle.phys_mem.specs.Contents.{Contents}
 use Rattle.phys_mem.specs.Holds.{Holds}
 use Rattle.image_check.specs.Own.{Own, own_at}
 use Rattle.image_check.specs.Public as spec
-use Rattle.image_check.specs.Public.{no_entry}
+use Rattle.image_check.specs.Public.{Hardware, no_entry}
 use Rattle.image_check.specs.declared.public.Entry.{Entry}
-use Rattle.image_check.specs.Views.{entry_view}
+use Rattle.image_check.specs.Models.{entry_model}
 use Rattle.world_view.specs.declared.view.Used.{Used}
-use Rattle.world_view.specs.Image.{Image}
+use Rattle.image_check.specs.Image.{Image}
 use Rattle.world_view.specs.Schedule.{start}
 use Rattle.world_view.specs.Opening.{all_placed}
 use Rattle.world_view.specs.Domain.{opening_dom}
 use Rattle.world_view.specs.Machine.{opening, whole}
-use Rattle.world_view.specs.Laws.{Runnable}
+use Rattle.image_check.specs.Laws.{Runnable}
 use Rattle.world_view.proofs.Separate.{separated}
 use Rattle.world_view.proofs.CodeLaws.{whole_first-dom}
-use Rattle.tp_machine.specs.declared.domain.Domain.{Domain}
+use Rattle.world_view.specs.declared.domain.Domain.{Domain}
 use Rattle.tp_machine.specs.Stands.{Stands, CountsUpTo, AreOpened}
+use Rattle.tp_machine.specs.Placing.{IsPlaced}
 use Rattle.tp_machine.specs.Usage.{IsUsed, CountedUpTo}
 use Rattle.tp_machine.specs.Worlds.{StandsFor, IsInBounds}
 use Rattle.tp_machine.proofs.Elements.{each_push}
 
 -- ---- domains at their entries
 
-pub opened_none : (owns : List Own) → AreOpened [] owns 0
-opened_none owns = record { all = refl; stand = λ d x got. cc; few = λ d x got. cc }
+pub opened_none : (p : Hardware) (owns : List Own) → AreOpened p owns 0 []
+opened_none p owns = record { all = refl; stand = λ d x got. cc; placed = λ d x got. cc; few = λ d x got. cc }
 
-pub opened_more : (domains : List Domain) (owns : List Own) (n : ℕ) (x : Domain) → AreOpened domains owns n → Stands x (opening_dom (own_at owns n)) → CountsUpTo 0 x
-    → AreOpened (domains ++ x ∷ []) owns (n + 1)
-opened_more domains owns n x old stands few =
+pub opened_more : (p : Hardware) (domains : List Domain) (owns : List Own) (n : ℕ) (x : Domain) → AreOpened p owns n domains
+    → Stands x (opening_dom (own_at owns n)) → IsPlaced p (own_at owns n) x → CountsUpTo 0 x
+    → AreOpened p owns (n + 1) (domains ++ x ∷ [])
+opened_more p domains owns n x old stands placed few =
     let at = λ (j : ℕ). opening_dom (own_at owns j) in
+    let own = λ (j : ℕ). own_at owns j in
     record {
       all = omega (arith, old.all, length-append domains (x ∷ []));
       stand = each_push (λ j y. Stands y (at j)) (λ j y. Stands y (at j)) domains x (subst (λ (j : ℕ). Stands x (at j)) (sym old.all) stands) (λ j y h s. s) old.stand;
+      placed = each_push (λ j y. IsPlaced p (own j) y) (λ j y. IsPlaced p (own j) y) domains x (subst (λ (j : ℕ). IsPlaced p (own j) x) (sym old.all) placed) (λ j y h s. s) old.placed;
       few = each_push (λ j y. CountsUpTo 0 y) (λ j y. CountsUpTo 0 y) domains x few (λ j y h s. s) old.few;
     }
 
 -- ---- the first start
 
-start_first : (es : List spec.Entry) (items : List Entry) (last : ℕ) (e : Entry) → map entry_view items ≡ es → last ≡ length items - 1 → 0 < length items → e ≡ get_or items last e → start es 0 ≡ e.pad
+start_first : (es : List spec.Entry) (items : List Entry) (last : ℕ) (e : Entry) → map entry_model items ≡ es → last ≡ length items - 1 → 0 < length items → e ≡ get_or items last e → start es 0 ≡ e.pad
 unfolding start
 start_first es items last e same is some read =
-    let at : length es - 1 ≡ last = omega (arith, ap (λ (xs : List spec.Entry). length xs) same, length-map items entry_view) in
+    let at : length es - 1 ≡ last = omega (arith, ap (λ (xs : List spec.Entry). length xs) same, length-map items entry_model) in
     ap (λ n. (get_or es n no_entry).pad) at ∙ ap (λ (xs : List spec.Entry). (get_or xs last no_entry).pad) (sym same)
-    ∙ ap (λ x. x.pad) (get_or-map entry_view items last e no_entry (omega arith)) ∙ ap (λ (x : Entry). x.pad) (sym read)
+    ∙ ap (λ x. x.pad) (get_or-map entry_model items last e no_entry (omega arith)) ∙ ap (λ (x : Entry). x.pad) (sym read)
 
 -- ---- the machine
 
-module _ (i : Image) (r : Runnable i) (items : List Entry) (entries : map entry_view items ≡ i.all.schedule) where
+module _ (i : Image) (r : Runnable i) (items : List Entry) (entries : map entry_model items ≡ i.all.schedule) where
   pub entries_some : 0 < length items
-  entries_some = omega (arith, r.some_entry, length-map items entry_view, ap (λ (xs : List spec.Entry). length xs) entries)
+  entries_some = omega (arith, r.some_entry, length-map items entry_model, ap (λ (xs : List spec.Entry). length xs) entries)
 
   entries_long : length items ≡ length i.all.schedule
-  entries_long = sym (length-map items entry_view) ∙ ap (λ (xs : List spec.Entry). length xs) entries
+  entries_long = sym (length-map items entry_model) ∙ ap (λ (xs : List spec.Entry). length xs) entries
 
   pub stands_first : (memory : Contents) (domains : List Domain) (used : List Used) (last : ℕ) (e : Entry) (begin : ℕ)
-      → memory.frames ≡ i.all.hardware.frames → Holds memory (all_placed i.owns)
-      → AreOpened domains i.owns (length i.owns) → length used ≡ length items → IsUsed used []
+      → memory.frames ≡ i.all.hardware.frames → Holds memory (all_placed i.all.hardware i.owns)
+      → AreOpened i.all.hardware i.owns (length i.owns) domains → length used ≡ length items → IsUsed used []
       → last ≡ length items - 1 → e ≡ get_or items last e → begin ≡ e.pad
-      → StandsFor i 0 memory domains used 0 begin 0
+      → StandsFor i 0 (record { memory = memory; domains = domains; used = used; clock = 0; next = begin; last = 0 })
   unfolding whole opening
   stands_first memory domains used last e begin frames holds opened all unused is read pad = record {
     frames = frames;
-    held = holds;
+    holds = holds;
     all_domains = opened.all;
     each_domain = λ d x got.
         let within : d < length i.owns = omega (arith, slice_get_within domains d x got, opened.all) in
         subst (Stands x) (sym (whole_first-dom i d (separated i r) within)) (opened.stand d x got);
+    each_place = opened.placed;
+    caches = refl;
     all_entries = all ∙ entries_long;
     each_entry = unused;
     time = refl;
@@ -79,13 +85,14 @@ module _ (i : Image) (r : Runnable i) (items : List Entry) (entries : map entry_
 
   pub last_pad : (e : ℕ) (x : Entry) → e < length items → x ≡ get_or items e x → x.pad ≤ 1000000
   last_pad e x within read =
-      let is : get_or i.all.schedule e no_entry ≡ entry_view x =
-      ap (λ (xs : List spec.Entry). get_or xs e no_entry) (sym entries) ∙ get_or-map entry_view items e x no_entry within ∙ ap entry_view (sym read) in
+      let is : get_or i.all.schedule e no_entry ≡ entry_model x =
+      ap (λ (xs : List spec.Entry). get_or xs e no_entry) (sym entries) ∙ get_or-map entry_model items e x no_entry within ∙ ap entry_model (sym read) in
       rw is at (r.pads e)
 
-pub in_bounds_first : (domains : List Domain) (owns : List Own) (n : ℕ) (used : List Used) (begin : ℕ) → AreOpened domains owns n → CountedUpTo 0 used → begin ≤ 1000000
-    → IsInBounds 0 domains used 0 begin 0
-in_bounds_first domains owns n used begin opened few soon = record {
+pub in_bounds_first : (p : Hardware) (memory : Contents) (domains : List Domain) (owns : List Own) (n : ℕ) (used : List Used) (begin : ℕ)
+    → AreOpened p owns n domains → CountedUpTo 0 used → begin ≤ 1000000
+    → IsInBounds 0 (record { memory = memory; domains = domains; used = used; clock = 0; next = begin; last = 0 })
+in_bounds_first p memory domains owns n used begin opened few soon = record {
   slots_left = omega arith;
   next_soon = omega arith;
   clock_soon = omega arith;

@@ -1,6 +1,6 @@
 -- One slot, of the code's machine and of the definitions.
 use Rattle.std.proofs.Common.{◌≡◌, ℕ, false, inl, inr, suc, ◌+◌, ◌-◌, ◌%◌, ◌<◌, ◌≤◌, max, List, [], ◌∷◌, ◌++◌, length, map, get_or, Some, refl, sym, ap, ap₂, subst, subst₂, ◌∙◌, arith, add-one, mod-lt}
-use Rattle.std.specs.List.{slice_get, range_with_len}
+use Rattle.std.specs.List.{slice_get, All}
 use Rattle.std.proofs.Math.ListN.{set}
 use Rattle.std.proofs.lemmas.Bool.{cases_lt}
 use Rattle.std.proofs.lemmas.List.{length-map, length-set, get_or-map}
@@ -12,78 +12,93 @@ use Rattle.phys_mem.specs.Holds.{Holds}
 use Rattle.phys_mem.specs.Mem.{frame_at}
 use Rattle.image_check.specs.Public as spec
 use Rattle.image_check.specs.Own.{Own}
-use Rattle.world_view.specs.Image.{Image, own_of}
-use Rattle.world_view.specs.Frames.{frames_in}
+use Rattle.image_check.specs.Image.{Image, own_of}
+use Rattle.world_view.specs.Frames.{pool, root_of}
 use Rattle.image_check.specs.Public.{no_entry}
 use Rattle.world_view.specs.Schedule.{entry_of_slot, switch_entry, start, slot_end}
 use Rattle.world_view.specs.Opening.{frame_words}
 use Rattle.world_view.specs.Domain.{Dom, no_dom}
-use Rattle.world_view.specs.Event.{Store}
+use Rattle.world_view.specs.Event.{Storage}
 use Rattle.world_view.specs.Machine.{Local, stretch, run_slot, whole, dom_of}
 use Rattle.world_view.specs.View.{View, log_of, view}
-use Rattle.world_view.specs.Laws.{Runnable}
+use Rattle.image_check.specs.Laws.{Runnable}
 use Rattle.world_view.proofs.Separate.{separated}
-use Rattle.world_view.proofs.CodeLaws.{switch-doms, switch-store, switch-clock, slot_begun, slot_over, run_slot-dom_same, run_slot-dom_other, run_slot-store, run_slot-clock, run_slot-used, pool-frames}
-use Rattle.tp_machine.specs.declared.domain.Domain.{Domain}
+use Rattle.world_view.proofs.CodeLaws.{switch-doms, switch-storage, switch-clock, slot_begun, slot_over, run_slot-dom_same, run_slot-dom_other, run_slot-storage, run_slot-clock, run_slot-used}
+use Rattle.world_view.proofs.PoolLaws.{in_pool}
+use Rattle.world_view.specs.declared.domain.Domain.{Domain}
 use Rattle.image_check.specs.declared.public.Entry.{Entry}
-use Rattle.image_check.specs.declared.public.Public.{Public}
 use Rattle.world_view.specs.declared.view.Used.{Used}
-use Rattle.image_check.specs.Views.{entry_view, public_view}
-use Rattle.world_view.specs.Kept.{log_view}
-use Rattle.world_view.specs.Views.{thread_view}
-use Rattle.tp_machine.specs.Stands.{Stands, CountsUpTo}
+use Rattle.image_check.specs.Models.{entry_model}
+use Rattle.world_view.specs.Models.{dom_model, seen_of}
+use Rattle.tp_machine.specs.Stands.{Stands, CountsUpTo, SamePlace}
+use Rattle.tp_machine.specs.Placing.{IsPlaced}
 use Rattle.tp_machine.specs.Moves.{StandsIn, Moves}
 use Rattle.tp_machine.specs.Usage.{IsUsed, CountedUpTo}
-use Rattle.tp_machine.specs.Worlds.{StandsFor, IsInBounds}
+use Rattle.tp_machine.specs.Worlds.{Kept, StandsFor, IsInBounds}
 use Rattle.tp_machine.proofs.Elements.{each_set}
+use Rattle.tp_machine.proofs.PoolReads.{either_default}
 use Rattle.tp_machine.proofs.FrameWords.{frames_are}
 
 -- ---- the entry of a slot
 
-pub entry_of_slot-is : (items : List Entry) (k n : ℕ) (e : Entry) → n ≡ length items → k % n < n → e ≡ get_or items (k % n) e → entry_of_slot (map entry_view items) k ≡ entry_view e
-entry_of_slot-is items k n e long within read =
-    let same : length (map entry_view items) ≡ n = omega (arith, length-map items entry_view, long) in
+entry_of_slot-is : (items : List Entry) (k n : ℕ) (e d : Entry) → n ≡ length items → k % n < n → e ≡ get_or items (k % n) d → entry_of_slot (map entry_model items) k ≡ entry_model e
+entry_of_slot-is items k n e d long within read =
+    let same : length (map entry_model items) ≡ n = omega (arith, length-map items entry_model, long) in
     let inside : k % n < length items = omega (arith, within, long) in
-    ap (λ m. get_or (map entry_view items) (k % m) no_entry) same ∙ get_or-map entry_view items (k % n) e no_entry inside ∙ ap entry_view (sym read)
+    ap (λ m. get_or (map entry_model items) (k % m) no_entry) same ∙ get_or-map entry_model items (k % n) d no_entry inside ∙ ap entry_model (sym read)
 
 -- ---- the slot
 
-module _ (i : Image) (k : ℕ) (memory memory' : Contents) (domains : List Domain) (used used' : List Used) (clock next last : ℕ) (is : StandsFor i k memory domains used clock next last)
-    (x new : Domain) (begin later : ℕ) (o : Own) (begins : begin ≡ max clock next) (kept : memory'.frames ≡ memory.frames) (long : length used' ≡ length used)
+-- what the machine keeps
+abbrev pub kept : Contents → List Domain → List Used → ℕ → ℕ → ℕ → Kept
+kept memory domains used clock next last = record { memory = memory; domains = domains; used = used; clock = clock; next = next; last = last }
+
+module _ (i : Image) (k : ℕ) (memory memory' : Contents) (domains : List Domain) (used used' : List Used) (clock next last : ℕ) (is : StandsFor i k (kept memory domains used clock next last))
+    (x new : Domain) (begin later : ℕ) (begins : begin ≡ max clock next) (same : memory'.frames ≡ memory.frames) (place : SamePlace x new) (long : length used' ≡ length used)
     (noted : (us : List (ℕ × ℕ)) → IsUsed used us → IsUsed used' (us ++ (switch_entry i.all.schedule k, clock - last) ∷ [])) where
+  -- whichever domain's root it has, the code's domain runs as the definition's does
+  abbrev pub Runs : ℕ → Type 0
+  Runs length = (o : Own) → x.root ≡ root_of i.all.hardware o → Moves (stretch i.all.hardware o false (next + length)) memory x begin memory' new later
+
   -- the code's domain runs as the definition's does
-  ran : own_of i (entry_of_slot i.all.schedule k).domain ≡ o → slice_get domains (entry_of_slot i.all.schedule k).domain ≡ Some x
-      → Moves (stretch i.all.hardware o false (next + (entry_of_slot i.all.schedule k).length)) memory x begin memory' new later
+  ran : slice_get domains (entry_of_slot i.all.schedule k).domain ≡ Some x → Runs (entry_of_slot i.all.schedule k).length
       → StandsIn memory' new later (slot_begun i k (whole i k)) (slot_over i k (whole i k))
-  ran owns got moves =
+  ran got moves =
       let w = whole i k in
       let d = (entry_of_slot i.all.schedule k).domain in
       let begun : Local = slot_begun i k w in
       let stands : Stands x begun.dom = subst (λ m. Stands x (at no_dom m d)) (sym (switch-doms i k w)) (is.each_domain d x got) in
-      let holds : Holds memory begun.store.mem = subst (λ (s : Store). Holds memory s.mem) (sym (switch-store i k w)) is.held in
+      let holds : Holds memory begun.storage.mem = subst (λ (s : Storage). Holds memory s.mem) (sym (switch-storage i k w)) is.holds in
       let time : begin ≡ begun.clock = begins ∙ ap₂ max is.time is.begins ∙ sym (switch-clock i k w) in
       let end : next + (entry_of_slot i.all.schedule k).length ≡ slot_end i.all.schedule k = ap (λ n. n + (entry_of_slot i.all.schedule k).length) is.begins in
-      subst₂ (λ (a : Own) (n : ℕ). StandsIn memory' new later begun (stretch i.all.hardware a false n begun)) (sym owns) end (moves begun stands holds time)
+      subst (λ (n : ℕ). StandsIn memory' new later begun (stretch i.all.hardware (own_of i d) false n begun)) end (moves (own_of i d) (is.each_place d x got).root begun stands holds time)
 
-  stands_after : own_of i (entry_of_slot i.all.schedule k).domain ≡ o → slice_get domains (entry_of_slot i.all.schedule k).domain ≡ Some x
-      → Moves (stretch i.all.hardware o false (next + (entry_of_slot i.all.schedule k).length)) memory x begin memory' new later
-      → StandsFor i (suc k) memory' (set domains (entry_of_slot i.all.schedule k).domain new) used' later
-      (next + (entry_of_slot i.all.schedule k).length + (entry_of_slot i.all.schedule k).pad) (next + (entry_of_slot i.all.schedule k).length)
+  placed_after : (o : Own) → IsPlaced i.all.hardware o x → IsPlaced i.all.hardware o new
+  placed_after o at = record { root = place.root ∙ at.root; pool = place.pool ∙ at.pool }
+
+  stands_after : slice_get domains (entry_of_slot i.all.schedule k).domain ≡ Some x → Runs (entry_of_slot i.all.schedule k).length
+      → StandsFor i (suc k) (kept memory' (set domains (entry_of_slot i.all.schedule k).domain new) used' later
+      (next + (entry_of_slot i.all.schedule k).length + (entry_of_slot i.all.schedule k).pad) (next + (entry_of_slot i.all.schedule k).length))
   unfolding whole start
-  stands_after owns got moves =
+  stands_after got moves =
       let w = whole i k in
       let e = entry_of_slot i.all.schedule k in
-      let over = ran owns got moves in
+      let over = ran got moves in
       let switches : (run_slot i k w).used ≡ w.used ++ (switch_entry i.all.schedule k, clock - last) ∷ [] =
       run_slot-used i k w ∙ ap (λ n. w.used ++ (switch_entry i.all.schedule k, n) ∷ []) (ap₂ (λ a b. a - b) (sym is.time) (sym is.ends)) in
       record {
-        frames = kept ∙ is.frames;
-        held = subst (λ (s : Store). Holds memory' s.mem) (sym (run_slot-store i k w)) over.held;
+        frames = same ∙ is.frames;
+        holds = subst (λ (s : Storage). Holds memory' s.mem) (sym (run_slot-storage i k w)) over.holds;
         all_domains = length-set domains e.domain new ∙ is.all_domains;
         each_domain = each_set (λ j y. Stands y (dom_of w j)) (λ j y. Stands y (dom_of (run_slot i k w) j)) domains e.domain new (slice_get_within domains e.domain x got)
             (subst (Stands new) (sym (run_slot-dom_same i k w)) over.dom)
             (λ j y apart s. subst (Stands y) (sym (run_slot-dom_other i k w j apart)) s)
             is.each_domain;
+        each_place = each_set (λ j y. IsPlaced i.all.hardware (own_of i j) y) (λ j y. IsPlaced i.all.hardware (own_of i j) y) domains e.domain new (slice_get_within domains e.domain x got)
+            (placed_after (own_of i e.domain) (is.each_place e.domain x got))
+            (λ j y apart s. s)
+            is.each_place;
+        caches = refl;
         all_entries = long ∙ is.all_entries;
         each_entry = subst (IsUsed used') (sym switches) (noted w.used is.each_entry);
         time = over.time ∙ sym (run_slot-clock i k w);
@@ -91,13 +106,11 @@ module _ (i : Image) (k : ℕ) (memory memory' : Contents) (domains : List Domai
         ends = ap (λ n. n + e.length) is.begins;
       }
 
-  pub stands_next : (e : spec.Entry) → entry_of_slot i.all.schedule k ≡ e → own_of i e.domain ≡ o → slice_get domains e.domain ≡ Some x
-      → Moves (stretch i.all.hardware o false (next + e.length)) memory x begin memory' new later
-      → StandsFor i (k + 1) memory' (set domains e.domain new) used' later (next + e.length + e.pad) (next + e.length)
+  pub stands_next : (e : spec.Entry) → entry_of_slot i.all.schedule k ≡ e → slice_get domains e.domain ≡ Some x → Runs e.length
+      → StandsFor i (k + 1) (kept memory' (set domains e.domain new) used' later (next + e.length + e.pad) (next + e.length))
   stands_next e entry =
-      subst₂ (λ (n : ℕ) (y : spec.Entry). own_of i y.domain ≡ o → slice_get domains y.domain ≡ Some x
-      → Moves (stretch i.all.hardware o false (next + y.length)) memory x begin memory' new later
-      → StandsFor i n memory' (set domains y.domain new) used' later (next + y.length + y.pad) (next + y.length))
+      subst₂ (λ (n : ℕ) (y : spec.Entry). slice_get domains y.domain ≡ Some x → Runs y.length
+      → StandsFor i n (kept memory' (set domains y.domain new) used' later (next + y.length + y.pad) (next + y.length)))
       (sym (add-one k)) entry stands_after
 
 -- ---- bounds
@@ -114,12 +127,12 @@ clock_after clock next begin later end base is early after short soon done over 
       | inr past ↦ let s = done past in (omega arith, omega arith)
     ]
 
-pub in_bounds_next : (k : ℕ) (domains : List Domain) (used used' : List Used) (clock next last d length' pad base : ℕ) (new : Domain) (begin later : ℕ)
-    → IsInBounds k domains used clock next last → k < 65536 → length' ≤ 1000000 → pad ≤ 1000000 → base ≤ 1000 → d < length domains → begin ≡ max clock next
+pub in_bounds_next : (k : ℕ) (memory memory' : Contents) (domains : List Domain) (used used' : List Used) (clock next last d length' pad base : ℕ) (new : Domain) (begin later : ℕ)
+    → IsInBounds k (kept memory domains used clock next last) → k < 65536 → length' ≤ 1000000 → pad ≤ 1000000 → base ≤ 1000 → d < length domains → begin ≡ max clock next
     → CountsUpTo later new → next + length' ≤ later → (begin < next + length' → later < next + length' + base) → (next + length' ≤ begin → later ≡ begin)
     → ((n : ℕ) → CountedUpTo n used → CountedUpTo (n + 1) used')
-    → IsInBounds (k + 1) (set domains d new) used' later (next + length' + pad) (next + length')
-in_bounds_next k domains used used' clock next last d length' pad base new begin later was left short_slot short_pad short_base within begins few over soon done counted =
+    → IsInBounds (k + 1) (kept memory' (set domains d new) used' later (next + length' + pad) (next + length'))
+in_bounds_next k memory memory' domains used used' clock next last d length' pad base new begin later was left short_slot short_pad short_base within begins few over soon done counted =
     let passed = clock_after clock next begin later (next + length') base begins was.clock_soon (omega arith) short_base soon done over in
     record {
       slots_left = omega arith;
@@ -132,35 +145,40 @@ in_bounds_next k domains used used' clock next last d length' pad base new begin
 
 -- ---- what is seen
 
-pub view_is : (x : Domain) (m : Dom) (p : spec.Hardware) (o : Own) (memory : Contents) (s : Store) → Stands x m → Holds memory s.mem → o.first_frame + frames_in o.segments ≤ memory.frames → memory.frames ≡ p.frames
-    → record { status = x.status; retired = x.retired; thread = thread_view x.thread; readings = log_view x.readings; replies = log_view x.replies; printed = x.printed.items; frames = map (contents.frame_words memory) (range_with_len o.first_frame (frames_in o.segments)) } ≡ view p o m s
+pub view_is : (x : Domain) (m : Dom) (p : spec.Hardware) (o : Own) (memory : Contents) (s : Storage) → Stands x m → IsPlaced p o x → Holds memory s.mem → memory.frames ≡ p.frames
+    → seen_of x memory ≡ view p o m s
 unfolding view
-view_is x m p o memory s stands holds within frames =
-    let fs = map (λ f. frame_words (frame_at s.mem f)) (range_with_len o.first_frame (frames_in o.segments)) in
-    let same : View = record { status = x.status; retired = x.retired; thread = thread_view x.thread; readings = log_of m.readings; replies = log_of m.replies; printed = x.printed.items; frames = fs } in
-    let here : same ≡ record { status = m.status; retired = m.retired; thread = m.thread; readings = log_of m.readings; replies = log_of m.replies; printed = m.printed; frames = fs } =
-    subst (λ (m' : Dom). same ≡ record { status = m'.status; retired = m'.retired; thread = m'.thread; readings = log_of m.readings; replies = log_of m.replies; printed = m'.printed; frames = fs }) stands.same refl in
-    rw (pool-frames p o (omega (arith, within, frames)), stands.readings, stands.replies, frames_are memory s.mem o.first_frame (frames_in o.segments) holds within) here
+view_is x m p o memory s stands placed holds frames =
+    let fs = map (λ f. frame_words (frame_at s.mem f)) (pool p o) in
+    let seen : Dom → View = λ d. record { status = d.status; retired = d.retired; thread = d.thread; readings = log_of m.readings; replies = log_of m.replies; printed = d.printed; pool = pool p o; frames = fs } in
+    let same : seen (dom_model x m.readings m.replies) ≡ seen m = ap seen stands.same in
+    let words : map (contents.frame_words memory) (pool p o) ≡ fs =
+    frames_are memory s.mem (pool p o) holds (λ n h. subst (λ (size : ℕ). get_or (pool p o) n 0 < size) (sym frames) (in_pool p o n h)) in
+    rw (placed.pool, stands.readings, stands.replies, words) same
+
+pub pool_in_memory : (p : spec.Hardware) (o : Own) (x : Domain) (memory : Contents) → IsPlaced p o x → memory.frames ≡ p.frames → All (λ f. f < memory.frames) x.pool.items
+pool_in_memory p o x memory placed frames =
+    subst (λ (fs : List ℕ). All (λ f. f < memory.frames) fs) (sym placed.pool)
+    (λ k d h. subst₂ (λ (f size : ℕ). f < size) (either_default (pool p o) k 0 d h) (sym frames) (in_pool p o k h))
 
 -- ---- what an accepted image says of a slot's entry
 
-module _ (i : Image) (r : Runnable i) (p : Public) (same : public_view p ≡ i.all) (k n : ℕ) (e : Entry) (long : n ≡ length p.schedule.items) (read : e ≡ get_or p.schedule.items (k % n) e) where
-  schedule_is : map entry_view p.schedule.items ≡ i.all.schedule
-  schedule_is = ap (λ (x : spec.Public). x.schedule) same
-
+module _ (i : Image) (r : Runnable i) (items : List Entry) (same : map entry_model items ≡ i.all.schedule) (k n : ℕ) (e d : Entry) (long : n ≡ length items) (read : e ≡ get_or items (k % n) d) where
   pub schedule_long : length i.all.schedule ≡ n
-  schedule_long = ap (λ (xs : List spec.Entry). length xs) (sym schedule_is) ∙ length-map p.schedule.items entry_view ∙ sym long
+  schedule_long = ap (λ (xs : List spec.Entry). length xs) (sym same) ∙ length-map items entry_model ∙ sym long
 
-  pub entry_read : entry_of_slot i.all.schedule k ≡ entry_view e
+  pub entry_some : 0 < n
+  entry_some = omega (arith, r.some_entry, schedule_long)
+
+  pub entry_read : entry_model e ≡ entry_of_slot i.all.schedule k
   entry_read =
-      let some : 0 < n = omega (arith, r.some_entry, schedule_long) in
-      ap (λ (xs : List spec.Entry). entry_of_slot xs k) (sym schedule_is) ∙ entry_of_slot-is p.schedule.items k n e long (mod-lt k some) read
+      sym (ap (λ (xs : List spec.Entry). entry_of_slot xs k) (sym same) ∙ entry_of_slot-is items k n e d long (mod-lt k entry_some) read)
 
   pub domain_named : e.domain < length i.owns
-  domain_named = rw entry_read at ((separated i r).named k)
+  domain_named = rw (sym entry_read) at ((separated i r).named k)
 
   pub length_short : e.length ≤ 1000000
-  length_short = rw entry_read at (r.lengths (k % length i.all.schedule))
+  length_short = rw (sym entry_read) at (r.lengths (k % length i.all.schedule))
 
   pub pad_short : e.pad ≤ 1000000
-  pad_short = rw entry_read at (r.pads (k % length i.all.schedule))
+  pad_short = rw (sym entry_read) at (r.pads (k % length i.all.schedule))

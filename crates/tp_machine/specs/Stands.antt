@@ -1,33 +1,45 @@
--- What a domain of the code stands for, given all its readings and replies.
+-- What a domain of the code stands for, and how its counts grow.
 use Rattle.std.specs.Prelude.{◌≡◌, ℕ, ◌+◌, ◌^◌, ◌<◌, ◌≤◌, List, length, slice_get, Some}
 use Rattle.world_view.specs.declared.Reply.{Reply}
-use Rattle.image_check.specs.Own.{Own, own_at}
-use Rattle.world_view.specs.Frames.{pages_below, pages_in, frames_in}
+use Rattle.world_view.specs.declared.domain.Domain.{Domain}
 use Rattle.world_view.specs.Domain.{Dom, opening_dom}
 use Rattle.world_view.specs.View.{log_of}
-use Rattle.tp_machine.specs.declared.domain.Domain.{Domain}
-use Rattle.world_view.specs.Kept.{log_view}
-use Rattle.world_view.specs.Views.{thread_view}
-
-abbrev pub dom_view : Domain → List ℕ → List Reply → Dom
-dom_view d readings replies = record {
-  status = d.status;
-  thread = thread_view d.thread;
-  retired = d.retired;
-  readings = readings;
-  replies = replies;
-  printed = d.printed.items;
-}
+use Rattle.world_view.specs.LogModel.{log_model}
+use Rattle.world_view.specs.Models.{dom_model}
+use Rattle.image_check.specs.Public.{Hardware}
+use Rattle.image_check.specs.Own.{Own, own_at}
+use Rattle.tp_machine.specs.Placing.{IsPlaced}
 
 -- the code's domain stands for this one
 pub record Stands (d : Domain) (m : Dom) : Type 0 where
-  pub same : dom_view d m.readings m.replies ≡ m
-  pub readings : log_view d.readings ≡ log_of m.readings
-  pub replies : log_view d.replies ≡ log_of m.replies
+  pub same : dom_model d m.readings m.replies ≡ m
+  pub readings : log_model d.readings ≡ log_of m.readings
+  pub replies : log_model d.replies ≡ log_of m.replies
 
 -- whatever old stands for, new stands for f of it
 abbrev pub Becomes : (Dom → Dom) → Domain → Domain → Type 0
-Becomes f old new = (readings : List ℕ) (replies : List Reply) → log_view old.readings ≡ log_of readings → log_view old.replies ≡ log_of replies → Stands new (f (dom_view old readings replies))
+Becomes f old new = (readings : List ℕ) (replies : List Reply)
+    → log_model old.readings ≡ log_of readings → log_model old.replies ≡ log_of replies
+    → Stands new (f (dom_model old readings replies))
+
+-- ---- counts, and the frames, which stay
+
+pub record SamePlace (old new : Domain) : Type 0 where
+  pub root : new.root ≡ old.root
+  pub pool : new.pool.items ≡ old.pool.items
+
+-- one more of each still fits
+pub record HasRoom (d : Domain) : Type 0 where
+  pub retired : d.retired < 2 ^ 63
+  pub readings : d.readings.count < 2 ^ 63
+  pub replies : d.replies.count < 2 ^ 63
+
+-- each count grows by at most so much, and the frames are the same
+pub record Grows (a b c : ℕ) (old new : Domain) : Type 0 where
+  pub retired : new.retired ≤ old.retired + a
+  pub readings : new.readings.count ≤ old.readings.count + b
+  pub replies : new.replies.count ≤ old.replies.count + c
+  pub place : SamePlace old new
 
 -- no count is past the clock
 pub record CountsUpTo (clock : ℕ) (d : Domain) : Type 0 where
@@ -35,21 +47,9 @@ pub record CountsUpTo (clock : ℕ) (d : Domain) : Type 0 where
   pub readings : d.readings.count ≤ clock
   pub replies : d.replies.count ≤ clock
 
--- no frame's number is too large
-abbrev pub HasFewFrames : Own → Type 0
-HasFewFrames o = o.first_frame + frames_in o.segments ≤ 2 ^ 15
-
--- a memory of so many frames has all frames of a domain
-pub record HasFrames (o : Own) (frames : ℕ) : Type 0 where
-  pub few : frames ≤ 2 ^ 15
-  pub all : o.first_frame + frames_in o.segments ≤ frames
-
--- so many pages, from one on, are the domain's
-pub record HasPages (o : Own) (page pages : ℕ) : Type 0 where
-  pub each : (n : ℕ) → page ≤ n → n < page + pages → pages_below o.segments n < pages_in o.segments
-
--- the first of these domains are at their entries
-pub record AreOpened (domains : List Domain) (owns : List Own) (n : ℕ) : Type 0 where
+-- ---- the first n of these domains are at their entries, in their frames
+pub record AreOpened (p : Hardware) (owns : List Own) (n : ℕ) (domains : List Domain) : Type 0 where
   pub all : length domains ≡ n
   pub stand : (d : ℕ) (x : Domain) → slice_get domains d ≡ Some x → Stands x (opening_dom (own_at owns d))
+  pub placed : (d : ℕ) (x : Domain) → slice_get domains d ≡ Some x → IsPlaced p (own_at owns d) x
   pub few : (d : ℕ) (x : Domain) → slice_get domains d ≡ Some x → CountsUpTo 0 x

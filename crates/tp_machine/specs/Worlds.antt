@@ -2,31 +2,44 @@
 use Rattle.std.specs.Prelude.{◌≡◌, ℕ, ◌+◌, ◌*◌, ◌≤◌, List, length, slice_get, Some}
 use Rattle.phys_mem.specs.Contents.{Contents}
 use Rattle.phys_mem.specs.Holds.{Holds}
-use Rattle.world_view.specs.Image.{Image}
-use Rattle.world_view.specs.Schedule.{start, ended}
+use Rattle.image_check.specs.Image.{Image, own_of}
+use Rattle.world_view.specs.Cost.{cold}
+use Rattle.world_view.specs.Schedule.{start, last_end}
 use Rattle.world_view.specs.Machine.{whole, dom_of}
-use Rattle.tp_machine.specs.declared.domain.Domain.{Domain}
+use Rattle.world_view.specs.declared.domain.Domain.{Domain}
 use Rattle.world_view.specs.declared.view.Used.{Used}
 use Rattle.tp_machine.specs.Stands.{Stands, CountsUpTo}
+use Rattle.tp_machine.specs.Placing.{IsPlaced}
 use Rattle.tp_machine.specs.Usage.{IsUsed, CountedUpTo}
 
--- these stand for the whole machine after so many slots; the next slot begins at `next`, and the last one ended at `last`
-pub record StandsFor (i : Image) (slots : ℕ) (memory : Contents) (domains : List Domain) (used : List Used) (clock next last : ℕ) : Type 0 where
-  pub frames : memory.frames ≡ i.all.hardware.frames
-  pub held : Holds memory (whole i slots).store.mem
-  pub all_domains : length domains ≡ length i.owns
-  pub each_domain : (d : ℕ) (x : Domain) → slice_get domains d ≡ Some x → Stands x (dom_of (whole i slots) d)
-  pub all_entries : length used ≡ length i.all.schedule
-  pub each_entry : IsUsed used (whole i slots).used
-  pub time : clock ≡ (whole i slots).clock
-  pub begins : next ≡ start i.all.schedule slots
-  pub ends : last ≡ ended i.all.schedule slots
+-- what the code's machine keeps
+pub record Kept : Type 0 where
+  pub memory : Contents
+  pub domains : List Domain
+  pub used : List Used
+  pub clock : ℕ
+  pub next : ℕ  -- when the next slot begins
+  pub last : ℕ  -- when the last slot ended
+
+-- it stands for the whole machine after so many slots
+pub record StandsFor (i : Image) (slots : ℕ) (k : Kept) : Type 0 where
+  pub frames : k.memory.frames ≡ i.all.hardware.frames
+  pub holds : Holds k.memory (whole i slots).storage.mem
+  pub all_domains : length k.domains ≡ length i.owns
+  pub each_domain : (d : ℕ) (x : Domain) → slice_get k.domains d ≡ Some x → Stands x (dom_of (whole i slots) d)
+  pub each_place : (d : ℕ) (x : Domain) → slice_get k.domains d ≡ Some x → IsPlaced i.all.hardware (own_of i d) x
+  pub caches : (whole i slots).caches ≡ cold i.all.hardware  -- the code keeps none as yet
+  pub all_entries : length k.used ≡ length i.all.schedule
+  pub each_entry : IsUsed k.used (whole i slots).used
+  pub time : k.clock ≡ (whole i slots).clock
+  pub begins : k.next ≡ start i.all.schedule slots
+  pub ends : k.last ≡ last_end i.all.schedule slots
 
 -- so that no number is too large
-pub record IsInBounds (slots : ℕ) (domains : List Domain) (used : List Used) (clock next last : ℕ) : Type 0 where
+pub record IsInBounds (slots : ℕ) (k : Kept) : Type 0 where
   pub slots_left : slots ≤ 65536
-  pub next_soon : next ≤ 2000000 * (slots + 1)
-  pub clock_soon : clock ≤ next + 1001000
-  pub last_over : last ≤ clock
-  pub few_calls : (d : ℕ) (x : Domain) → slice_get domains d ≡ Some x → CountsUpTo clock x
-  pub few_switches : CountedUpTo slots used
+  pub next_soon : k.next ≤ 2000000 * (slots + 1)
+  pub clock_soon : k.clock ≤ k.next + 1001000
+  pub last_over : k.last ≤ k.clock
+  pub few_calls : (d : ℕ) (x : Domain) → slice_get k.domains d ≡ Some x → CountsUpTo k.clock x
+  pub few_switches : CountedUpTo slots k.used

@@ -6,15 +6,14 @@ ghost use Rattle.phys_mem.specs.Mem.{Mem, word, written};
 ghost use Rattle.rv_core.specs.Effect.{IsStore};
 ghost use Rattle.rv_core.specs.Memory.{load_size};
 ghost use Rattle.image_check.specs.Public.{Hardware};
-ghost use Rattle.image_check.specs.Views.{own_view};
 ghost use Rattle.world_view.specs.Event as spec;
-ghost use Rattle.tp_machine.specs.Moves.{Finds};
+ghost use Rattle.tp_machine.specs.Moves.{Finds, stored};
 
-use image_check::Own;
 use phys_mem::PhysMem;
 use rv_core::{Store, Trap};
 use rv_decode::LoadWidth;
-use sv32_walk::{Access, WalkFault, walk};
+use sv32_walk::{Access, PageTableEntry, WalkFault, walk};
+use tp_base::FrameNo;
 
 // ---- translation
 
@@ -32,16 +31,17 @@ fn fault_code(access: Access, fault: WalkFault) -> u8
     }
 }
 
-/// The frame of an address's page, by a walk of the domain's page tables, or
+/// The frame of an address's page, by a walk of the page tables of a root, or
 /// the exception of a walk that faults.
-pub fn translate(own: &Own, memory: &PhysMem, access: Access, va: u32) -> Result<u32, Trap>
-    ensures finds { (p : Hardware) → p.frames ≡ memory.now.frames → Finds (λ d. spec.translate p (own_view own.now) d access va) result memory.now memory.now }
+pub fn translate(root: FrameNo, memory: &PhysMem, access: Access, va: u32) -> Result<u32, Trap>
+    ensures finds { (p : Hardware) → p.frames ≡ memory.now.frames
+        → Finds (λ d. spec.translate p root d access va) result memory.now memory.now }
     ensures within { IfOk result (λ f. f < memory.now.frames) }
     ensures few { IfOk result (λ f. f < 2 ^ 20) }
 {
     let _frames = memory.frames();
-    match walk(memory, own.first_frame, va, access).result {
-        Ok(leaf) => Ok(leaf >> 10),
+    match walk(memory, root.number(), va, access).result {
+        Ok(leaf) => Ok(PageTableEntry(leaf).frame()),
         Err(fault) => Err(Trap {
             code: fault_code(access, fault),
             value: va,
@@ -65,7 +65,8 @@ pub fn physical(frame: u32, va: u32) -> u32
 fn read(memory: &PhysMem, width: LoadWidth, at: u32) -> u32
     requires within { frame_of at < memory.now.frames }
     requires aligned { at % load_size width ≡ 0 }
-    ensures value { (m : Mem) → Holds memory.now m → result ≡ spec.part_of_word (load_size width) (word m (frame_of at) (place_of at)) (at % 4) }
+    ensures value { (m : Mem) → Holds memory.now m
+        → result ≡ spec.part_of_word (load_size width) (word m (frame_of at) (place_of at)) (at % 4) }
 {
     match width {
         LoadWidth::Byte | LoadWidth::ByteUnsigned => u32::from(memory.read_byte(at)),
@@ -76,11 +77,12 @@ fn read(memory: &PhysMem, width: LoadWidth, at: u32) -> u32
 
 /// What a load finds at an aligned virtual address, with zeros above it, or the
 /// exception of its walk.
-pub fn load(own: &Own, memory: &PhysMem, width: LoadWidth, at: u32) -> Result<u32, Trap>
+pub fn load(root: FrameNo, memory: &PhysMem, width: LoadWidth, at: u32) -> Result<u32, Trap>
     requires aligned { at % load_size width ≡ 0 }
-    ensures finds { (p : Hardware) → p.frames ≡ memory.now.frames → Finds (λ d. spec.load p (own_view own.now) d width at) result memory.now memory.now }
+    ensures finds { (p : Hardware) → p.frames ≡ memory.now.frames
+        → Finds (λ d. spec.load p root d width at) result memory.now memory.now }
 {
-    let frame = translate(own, memory, Access::Load, at)?;
+    let frame = translate(root, memory, Access::Load, at)?;
     Ok(read(memory, width, physical(frame, at)))
 }
 
@@ -92,7 +94,8 @@ fn write(memory: &mut PhysMem, at: u32, size: u8, value: u32)
     requires size { (size ≡ 1) ⊎ ((size ≡ 2) ⊎ (size ≡ 4)) }
     requires aligned { at % size ≡ 0 }
     requires cut { value < 2 ^ (8 * size) }
-    ensures holds { (m : Mem) → Holds memory.old m → Holds memory.new (written m (frame_of at) (place_of at) (spec.stored_in size (word m (frame_of at) (place_of at)) (at % 4) value)) }
+    ensures holds { (m : Mem) → Holds memory.old m
+        → Holds memory.new (stored m (frame_of at) (place_of at) size (at % 4) value) }
     ensures frames { memory.new.frames ≡ memory.old.frames }
 {
     match size {
@@ -104,15 +107,16 @@ fn write(memory: &mut PhysMem, at: u32, size: u8, value: u32)
 
 /// Makes a store, where there is one, at an aligned virtual address, or answers
 /// the exception of its walk.
-pub fn store(own: &Own, memory: &mut PhysMem, made: Option<Store>) -> Result<(), Trap>
+pub fn store(root: FrameNo, memory: &mut PhysMem, made: Option<Store>) -> Result<(), Trap>
     requires store { IfSome made IsStore }
-    ensures finds { (p : Hardware) → p.frames ≡ memory.old.frames → Finds (λ d. spec.store p (own_view own.now) d made) result memory.old memory.new }
+    ensures finds { (p : Hardware) → p.frames ≡ memory.old.frames
+        → Finds (λ d. spec.store p root d made) result memory.old memory.new }
     ensures frames { memory.new.frames ≡ memory.old.frames }
 {
     let Some(made) = made else {
         return Ok(());
     };
-    let frame = translate(own, memory, Access::Store, made.at)?;
+    let frame = translate(root, memory, Access::Store, made.at)?;
     write(memory, physical(frame, made.at), made.size, made.word);
     Ok(())
 }

@@ -3,12 +3,12 @@ ghost use Rattle.std.specs.Prelude.{◌≡◌, ℕ, ◌+◌, ◌^◌, ◌<◌, �
 ghost use Rattle.world_view.specs.declared.Reply.{Reply};
 ghost use Rattle.world_view.specs.Instruction as spec;
 ghost use Rattle.world_view.specs.Event.{noted};
-ghost use Rattle.tp_machine.specs.Stands.{Becomes, dom_view};
+ghost use Rattle.world_view.specs.Models.{dom_model};
+ghost use Rattle.tp_machine.specs.Stands.{Becomes, HasRoom, Grows};
 
-use crate::domain::{Domain, PRINTED};
 use rv_core::Trap;
 use rv_decode::{Counter, Instr};
-use world_view::{DomainStatus, Reply, ThreadState};
+use world_view::{Domain, DomainStatus, PRINTED, Reply, ThreadState};
 
 // ---- exceptions
 
@@ -16,9 +16,7 @@ use world_view::{DomainStatus, Reply, ThreadState};
 #[tactic(auto, unfolding(world_view::specs::Instruction::trapped, world_view::specs::Instruction::stopped))]
 pub fn stop(domain: &mut Domain, trap: Trap)
     ensures becomes { Becomes (spec.trapped trap) domain.old domain.new }
-    ensures retired { domain.new.retired ≡ domain.old.retired }
-    ensures readings { domain.new.readings.count ≡ domain.old.readings.count }
-    ensures replies { domain.new.replies.count ≡ domain.old.replies.count }
+    ensures grows { Grows 0 0 0 domain.old domain.new }
 {
     domain.status = DomainStatus::Stopped {
         code: trap.code,
@@ -43,7 +41,8 @@ fn high_half(n: u64) -> u32
 
 /// What a read of a counter gives, at a clock in cycles.
 pub fn counter_value(counter: Counter, now: u64, domain: &Domain) -> u32
-    ensures value { (readings : List ℕ) (replies : List Reply) → result ≡ spec.counter_value counter now (dom_view domain.now readings replies) }
+    ensures value { (readings : List ℕ) (replies : List Reply)
+        → result ≡ spec.counter_value counter now (dom_model domain.now readings replies) }
 {
     match counter {
         Counter::Cycle | Counter::Time => low_half(now),
@@ -60,9 +59,7 @@ pub fn counter_value(counter: Counter, now: u64, domain: &Domain) -> u32
 fn read_out(domain: &mut Domain, value: u32)
     requires readings { domain.old.readings.count < 2 ^ 63 }
     ensures becomes { Becomes (spec.read_out value) domain.old domain.new }
-    ensures retired { domain.new.retired ≡ domain.old.retired }
-    ensures readings { domain.new.readings.count ≡ domain.old.readings.count + 1 }
-    ensures replies { domain.new.replies.count ≡ domain.old.replies.count }
+    ensures grows { Grows 0 1 0 domain.old domain.new }
 {
     domain.readings.push(u64::from(value));
 }
@@ -72,9 +69,7 @@ fn read_out(domain: &mut Domain, value: u32)
 fn retire(domain: &mut Domain, next: u32)
     requires retired { domain.old.retired < 2 ^ 63 }
     ensures becomes { Becomes (λ d. spec.retired_at next d.thread.regs d) domain.old domain.new }
-    ensures retired { domain.new.retired ≡ domain.old.retired + 1 }
-    ensures readings { domain.new.readings.count ≡ domain.old.readings.count }
-    ensures replies { domain.new.replies.count ≡ domain.old.replies.count }
+    ensures grows { Grows 1 0 0 domain.old domain.new }
 {
     domain.thread.pc = next;
     domain.retired += 1;
@@ -83,12 +78,9 @@ fn retire(domain: &mut Domain, next: u32)
 /// Ends an instruction whose registers are written: the counter's value that it
 /// read is recorded, and the domain goes on at `next`.
 pub fn finish(domain: &mut Domain, instr: Instr, value: u32, next: u32)
-    requires retired { domain.old.retired < 2 ^ 63 }
-    requires readings { domain.old.readings.count < 2 ^ 63 }
+    requires room { HasRoom domain.old }
     ensures becomes { Becomes (λ d. spec.retired_at next d.thread.regs (noted instr value d)) domain.old domain.new }
-    ensures retired { domain.new.retired ≡ domain.old.retired + 1 }
-    ensures readings { domain.new.readings.count ≤ domain.old.readings.count + 1 }
-    ensures replies { domain.new.replies.count ≡ domain.old.replies.count }
+    ensures grows { Grows 1 1 0 domain.old domain.new }
 {
     if let Instr::ReadCounter { .. } = instr {
         read_out(domain, value);
@@ -105,9 +97,7 @@ pub fn finish(domain: &mut Domain, instr: Instr, value: u32, next: u32)
 fn reply_to(domain: &mut Domain, reply: Reply)
     requires replies { domain.old.replies.count < 2 ^ 63 }
     ensures becomes { Becomes (spec.replied reply.code reply.value) domain.old domain.new }
-    ensures retired { domain.new.retired ≡ domain.old.retired }
-    ensures readings { domain.new.readings.count ≡ domain.old.readings.count }
-    ensures replies { domain.new.replies.count ≡ domain.old.replies.count + 1 }
+    ensures grows { Grows 0 0 1 domain.old domain.new }
 {
     domain.thread.regs.set(10, reply.code);
     domain.thread.regs.set(11, reply.value);
@@ -120,9 +110,7 @@ fn reply_to(domain: &mut Domain, reply: Reply)
 fn put_byte(domain: &mut Domain, a: u32)
     requires replies { domain.old.replies.count < 2 ^ 63 }
     ensures becomes { Becomes (spec.put_byte a) domain.old domain.new }
-    ensures retired { domain.new.retired ≡ domain.old.retired }
-    ensures readings { domain.new.readings.count ≡ domain.old.readings.count }
-    ensures replies { domain.new.replies.count ≡ domain.old.replies.count + 1 }
+    ensures grows { Grows 0 0 1 domain.old domain.new }
 {
     if domain.printed.len() < PRINTED {
         domain.printed.push((a & 0xff) as u8).unwrap();
@@ -137,9 +125,7 @@ fn put_byte(domain: &mut Domain, a: u32)
 pub fn call(domain: &mut Domain)
     requires replies { domain.old.replies.count < 2 ^ 63 }
     ensures becomes { Becomes spec.call domain.old domain.new }
-    ensures retired { domain.new.retired ≡ domain.old.retired }
-    ensures readings { domain.new.readings.count ≡ domain.old.readings.count }
-    ensures replies { domain.new.replies.count ≤ domain.old.replies.count + 1 }
+    ensures grows { Grows 0 0 1 domain.old domain.new }
 {
     let number = domain.thread.regs.get(17);
     let a = domain.thread.regs.get(10);

@@ -4,10 +4,12 @@
 
 mod access;
 mod domain;
-mod frames;
 mod instruction;
 mod machine;
 mod memory;
+mod placement;
+mod pool;
+mod segments;
 mod slot;
 mod used;
 

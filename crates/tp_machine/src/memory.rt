@@ -1,22 +1,22 @@
 // The memory of the machine before its first slot.
-ghost use Rattle.std.specs.Prelude.{◌≡◌, ℕ, ◌+◌, ◌*◌, ◌^◌, ◌<◌, ◌≤◌, ◌-◌, slice_index, IfOk};
+ghost use Rattle.std.specs.Prelude.{◌≡◌, ℕ, ◌+◌, ◌*◌, ◌^◌, ◌<◌, ◌≤◌, length, slice_index, IfOk};
 ghost use Rattle.tp_base.specs.Table.{at, put};
 ghost use Rattle.phys_mem.specs.Holds.{Holds};
 ghost use Rattle.phys_mem.specs.Mem.{Mem, Frame};
-ghost use Rattle.image_check.specs.Laws.{IsOwn};
-ghost use Rattle.image_check.specs.Views.{own_view};
-ghost use Rattle.world_view.specs.Image.{image_from};
-ghost use Rattle.world_view.specs.Frames as frames;
+ghost use Rattle.image_check.specs.Models.{hardware_model, own_model};
+ghost use Rattle.image_check.specs.Image.{image_from};
 ghost use Rattle.world_view.specs.Opening as spec;
-ghost use Rattle.tp_machine.specs.Stands.{HasFrames, HasFewFrames, HasPages};
+ghost use Rattle.tp_machine.specs.Placing.{HasPages};
+ghost use Rattle.tp_machine.specs.Stands.{AreOpened};
 
-use crate::frames::{
-    REGIONS, first_page_frame, has_region, leaf_entry, page_frame, root_entry, table_frame,
-};
-use image_check::{Checked, Own, Segment};
+use crate::placement::Placement;
+use crate::pool::REGIONS;
+use crate::segments::has_region;
+use image_check::{Checked, Segment};
 use phys_mem::PhysMem;
 use std::alloc::Global;
-use tp_base::Memory;
+use tp_base::{FrameNo, Memory};
+use world_view::Domain;
 
 /// Bytes of a page.
 const PAGE_BYTES: usize = 4096;
@@ -26,9 +26,10 @@ const PAGE_BYTES: usize = 4096;
 ///
 /// # Errors
 /// `Memory` where no memory is left for it.
-pub fn load_pages(alloc: Global, image: &Checked) -> Result<PhysMem, Memory>
+pub fn load_pages(alloc: Global, image: &Checked, domains: &[Domain]) -> Result<PhysMem, Memory>
+    requires opened { AreOpened (image_from image.now).all.hardware (image_from image.now).owns (length (image_from image.now).owns) domains.now }
     ensures frames { IfOk result (λ memory. memory.frames ≡ (image_from image.now).all.hardware.frames) }
-    ensures holds { IfOk result (λ memory. Holds memory (spec.all_placed (image_from image.now).owns)) }
+    ensures holds { IfOk result (λ memory. Holds memory (spec.all_placed (image_from image.now).all.hardware (image_from image.now).owns)) }
 {
     image.runnable();
     let public = image.public();
@@ -37,87 +38,85 @@ pub fn load_pages(alloc: Global, image: &Checked) -> Result<PhysMem, Memory>
     let mut left = public.domains as usize;
     while left > 0 {
         left -= 1;
-        place_domain(&mut memory, image.own(left));
+        let placement = Placement::new(
+            &public.hardware,
+            image.own(left),
+            domains[left].pool.as_slice(),
+        );
+        place_domain(&mut memory, &placement);
     }
     Ok(memory)
 }
 
 // Places a domain's page tables and pages in its frames.
 #[tactic(auto, unfolding(world_view::specs::Opening::placed))]
-fn place_domain(memory: &mut PhysMem, own: &Own)
-    requires held { HasFrames (own_view own.now) memory.old.frames }
-    requires sound { IsOwn (own_view own.now) }
-    ensures placed { (m : Mem) → Holds memory.old m → Holds memory.new (spec.placed (own_view own.now) m) }
+fn place_domain(memory: &mut PhysMem, at: &Placement<'_>)
+    requires size { memory.old.frames ≡ at.now.hardware.now.frames }
+    ensures placed { (m : Mem) → Holds memory.old m
+        → Holds memory.new (spec.placed (hardware_model at.now.hardware.now) (own_model at.now.own.now) m) }
     ensures frames { memory.new.frames ≡ memory.old.frames }
 {
-    let first = first_page_frame(own);
-    place_frame(memory, own.first_frame, &Root { own });
-    place_tables(memory, own, first);
-    place_segments(memory, own, first);
+    place_frame(memory, at.root_frame(), &Root { at });
+    place_tables(memory, at);
+    place_segments(memory, at);
 }
 
 // ---- page tables
 
-// Places the table of a region, if it has a page. The least frame of a page is
-// `first`.
-fn place_table(memory: &mut PhysMem, own: &Own, first: u32, region: u32)
-    requires held { HasFrames (own_view own.now) memory.old.frames }
-    requires sound { IsOwn (own_view own.now) }
-    requires first { first ≡ frames.first_page_frame (own_view own.now) }
+// Places the table of a region, if it has a page.
+fn place_table(memory: &mut PhysMem, at: &Placement<'_>, region: u32)
+    requires size { memory.old.frames ≡ at.now.hardware.now.frames }
     requires region { region < 1024 }
-    ensures placed { (m : Mem) → Holds memory.old (spec.tables_placed (own_view own.now) region m) → Holds memory.new (spec.tables_placed (own_view own.now) (region + 1) m) }
+    ensures placed { (m : Mem)
+        → Holds memory.old (spec.tables_placed (hardware_model at.now.hardware.now) (own_model at.now.own.now) region m)
+        → Holds memory.new (spec.tables_placed (hardware_model at.now.hardware.now) (own_model at.now.own.now) (region + 1) m) }
     ensures frames { memory.new.frames ≡ memory.old.frames }
 {
-    if !has_region(own.segments.as_slice(), region) {
+    if !has_region(at.own.segments.as_slice(), region) {
         return;
     }
-    let frame = table_frame(own, region);
-    place_frame(memory, frame, &Table { own, first, region });
+    place_frame(memory, at.table_frame(region), &Table { at, region });
 }
 
-// Places the tables of all regions that have a page. The least frame of a page
-// is `first`.
-fn place_tables(memory: &mut PhysMem, own: &Own, first: u32)
-    requires held { HasFrames (own_view own.now) memory.old.frames }
-    requires sound { IsOwn (own_view own.now) }
-    requires first { first ≡ frames.first_page_frame (own_view own.now) }
-    ensures placed { (m : Mem) → Holds memory.old m → Holds memory.new (spec.tables_placed (own_view own.now) 1024 m) }
+// Places the tables of all regions that have a page.
+fn place_tables(memory: &mut PhysMem, at: &Placement<'_>)
+    requires size { memory.old.frames ≡ at.now.hardware.now.frames }
+    ensures placed { (m : Mem) → Holds memory.old m
+        → Holds memory.new (spec.tables_placed (hardware_model at.now.hardware.now) (own_model at.now.own.now) 1024 m) }
     ensures frames { memory.new.frames ≡ memory.old.frames }
 {
     for region in 0..REGIONS {
-        place_table(memory, own, first, region);
+        place_table(memory, at, region);
     }
 }
 
 // ---- pages
 
-// Places a domain's segments. The least frame of a page is `first`.
-fn place_segments(memory: &mut PhysMem, own: &Own, first: u32)
-    requires held { HasFrames (own_view own.now) memory.old.frames }
-    requires sound { IsOwn (own_view own.now) }
-    requires first { first ≡ frames.first_page_frame (own_view own.now) }
-    ensures placed { (m : Mem) → Holds memory.old m → Holds memory.new (spec.segments_placed (own_view own.now) (own_view own.now).segments m) }
+// Places a domain's segments.
+fn place_segments(memory: &mut PhysMem, at: &Placement<'_>)
+    requires size { memory.old.frames ≡ at.now.hardware.now.frames }
+    ensures placed { (m : Mem) → Holds memory.old m → Holds memory.new
+        (spec.segments_placed (hardware_model at.now.hardware.now) (own_model at.now.own.now) (own_model at.now.own.now).segments m) }
     ensures frames { memory.new.frames ≡ memory.old.frames }
 {
-    for segment in own.segments.as_slice() {
-        place_segment(memory, own, first, segment);
+    for segment in at.own.segments.as_slice() {
+        place_segment(memory, at, segment);
     }
 }
 
 // Places a segment's pages.
-fn place_segment(memory: &mut PhysMem, own: &Own, first: u32, segment: &Segment)
-    requires held { HasFrames (own_view own.now) memory.old.frames }
-    requires first { first ≡ frames.first_page_frame (own_view own.now) }
+fn place_segment(memory: &mut PhysMem, at: &Placement<'_>, segment: &Segment)
+    requires size { memory.old.frames ≡ at.now.hardware.now.frames }
     requires few { segment.now.page + segment.now.pages ≤ 2 ^ 20 }
-    requires pages { HasPages (own_view own.now) segment.now.page segment.now.pages }
-    ensures placed { (m : Mem) → Holds memory.old m → Holds memory.new (spec.pages_placed (own_view own.now) segment.now.page segment.now.pages segment.now.bytes.items m) }
+    requires pages { HasPages (own_model at.now.own.now) segment.now.page segment.now.pages }
+    ensures placed { (m : Mem) → Holds memory.old m → Holds memory.new
+        (spec.pages_placed (hardware_model at.now.hardware.now) (own_model at.now.own.now) segment.now.page segment.now.pages segment.now.bytes.items m) }
     ensures frames { memory.new.frames ≡ memory.old.frames }
 {
     let mut rest = segment.bytes.as_slice();
     for i in 0..segment.pages {
         let (bytes, left) = rest.split_at(rest.len().min(PAGE_BYTES));
-        let frame = page_frame(own, first, segment.page + i);
-        place_frame(memory, frame, &Page { bytes });
+        place_frame(memory, at.page_frame(segment.page + i), &Page { bytes });
         rest = left;
     }
 }
@@ -126,12 +125,9 @@ fn place_segment(memory: &mut PhysMem, own: &Own, first: u32, segment: &Segment)
 
 // What stands in a frame, word by word.
 trait Words {
-    ghost sound: { Self → Type 0 };
-
     ghost words: { Self → ℕ → ℕ };
 
     fn word(&self, i: u32) -> u32
-        requires sound { sound self.now }
         requires place { i < 1024 }
         ensures value { result ≡ words self.now i };
 }
@@ -139,34 +135,30 @@ trait Words {
 // A domain's root.
 #[derive(Drop)]
 struct Root<'a> {
-    own: &'a Own,
+    at: &'a Placement<'a>,
 }
 
 impl<'a> Words for Root<'a> {
-    ghost sound = { λ root. HasFewFrames (own_view root.own.now) };
-
-    ghost words = { λ root. spec.root_entry (own_view root.own.now) };
+    ghost words = { λ root. spec.root_entry (hardware_model root.at.now.hardware.now) (own_model root.at.now.own.now) };
 
     fn word(&self, i: u32) -> u32 {
-        root_entry(self.own, i)
+        self.at.root_entry(i)
     }
 }
 
-// The table of a region. The least frame of a page is `first`.
+// The table of a region.
 #[derive(Drop)]
 struct Table<'a> {
-    own: &'a Own,
-    first: u32,
+    at: &'a Placement<'a>,
     region: u32,
+    ghost few: { region < 1024 },
 }
 
 impl<'a> Words for Table<'a> {
-    ghost sound = { λ table. HasFewFrames (own_view table.own.now) × IsOwn (own_view table.own.now) × (table.first ≡ frames.first_page_frame (own_view table.own.now)) × (table.region < 1024) };
-
-    ghost words = { λ table i. spec.leaf_entry (own_view table.own.now) (1024 * table.region + i) };
+    ghost words = { λ table i. spec.leaf_entry (hardware_model table.at.now.hardware.now) (own_model table.at.now.own.now) (1024 * table.region + i) };
 
     fn word(&self, i: u32) -> u32 {
-        leaf_entry(self.own, self.first, 1024 * self.region + i)
+        self.at.leaf_entry(1024 * self.region + i)
     }
 }
 
@@ -177,8 +169,6 @@ struct Page<'a> {
 }
 
 impl<'a> Words for Page<'a> {
-    ghost sound = { λ page. Unit {0} };
-
     ghost words = { λ page. spec.word_of page.bytes.now };
 
     // The least byte comes first.
@@ -202,15 +192,15 @@ fn byte_at(bytes: &[u8], i: usize) -> u32
 }
 
 // Fills a frame.
-fn place_frame<W: Words>(memory: &mut PhysMem, frame: u32, words: &W)
+fn place_frame<W: Words>(memory: &mut PhysMem, frame: FrameNo, words: &W)
     requires frame { frame < memory.old.frames }
-    requires few { memory.old.frames ≤ 2 ^ 20 }
-    requires sound { W.sound words.now }
-    ensures placed { (m : Mem) (x : Frame) → Holds memory.old m → ((i : ℕ) → i < 1024 → at 0 x i ≡ W.words words.now i) → Holds memory.new (put m frame x) }
+    ensures placed { (m : Mem) (x : Frame) → Holds memory.old m → ((i : ℕ) → i < 1024 → at 0 x i ≡ W.words words.now i)
+        → Holds memory.new (put m frame x) }
     ensures frames { memory.new.frames ≡ memory.old.frames }
 {
+    let number = frame.number();
     for i in 0..1024 {
         let word = words.word(i);
-        memory.write_word(4096 * frame + 4 * i, word);
+        memory.write_word(4096 * number + 4 * i, word);
     }
 }

@@ -8,39 +8,36 @@ ghost use Rattle.world_view.specs.declared.Reply.{Reply};
 ghost use Rattle.world_view.specs.Event as event;
 ghost use Rattle.image_check.specs.Public as image_spec;
 ghost use Rattle.world_view.specs.Machine as spec;
-ghost use Rattle.image_check.specs.Views.{own_view, hardware_view};
-ghost use Rattle.tp_machine.specs.Stands.{CountsUpTo, dom_view};
-ghost use Rattle.tp_machine.specs.Moves.{Answers, Leaves, Moves};
+ghost use Rattle.image_check.specs.Own.{Own};
+ghost use Rattle.image_check.specs.Models.{hardware_model};
+ghost use Rattle.world_view.specs.Frames.{root_of};
+ghost use Rattle.world_view.specs.Models.{dom_model};
+ghost use Rattle.tp_machine.specs.Stands.{HasRoom, Grows, SamePlace, CountsUpTo};
+ghost use Rattle.tp_machine.specs.Moves.{IsTimed, EndsAs, Leaves, Moves};
 
 use crate::access::{load, physical, store, translate};
-use crate::domain::Domain;
 use crate::instruction::{call, counter_value, finish, stop};
-use image_check::{Hardware, Own};
+use image_check::Hardware;
 use phys_mem::PhysMem;
 use rv_core::{Trap, address, misalignment};
 use rv_decode::{Instr, decode};
 use sv32_walk::Access;
-use world_view::DomainStatus;
+use world_view::{Domain, DomainStatus};
 
 // ---- an instruction
 
 // What the instruction needs from outside the registers, at a clock: what a
 // load finds at its address, or a counter's value.
-fn loaded(
-    own: &Own,
-    memory: &PhysMem,
-    domain: &Domain,
-    now: u64,
-    instr: Instr,
-    at: u32,
-) -> Result<u32, Trap>
+fn loaded(memory: &PhysMem, domain: &Domain, now: u64, instr: Instr, at: u32) -> Result<u32, Trap>
     requires address { at ≡ address_of domain.now.thread.regs instr }
     requires aligned { misalignment_of instr at ≡ None }
-    ensures answers { (p : image_spec.Hardware) (s : event.Store) (readings : List ℕ) (replies : List Reply) → p.frames ≡ memory.now.frames → Holds memory.now s.mem
-        → Answers (dom_view domain.now readings replies) result memory.now (event.loaded p (own_view own.now) now (dom_view domain.now readings replies) instr s) }
+    ensures finds { (p : image_spec.Hardware) (s : event.Storage) (readings : List ℕ) (replies : List Reply)
+        → p.frames ≡ memory.now.frames → Holds memory.now s.mem
+        → EndsAs (dom_model domain.now readings replies) result memory.now
+        (event.loaded p domain.now.root now (dom_model domain.now readings replies) instr s) }
 {
     match instr {
-        Instr::Load { width, .. } => load(own, memory, width, at),
+        Instr::Load { width, .. } => load(domain.root, memory, width, at),
         Instr::ReadCounter { counter, .. } => Ok(counter_value(counter, now, domain)),
         _ => Ok(0),
     }
@@ -48,15 +45,14 @@ fn loaded(
 
 // The effect of an instruction: a trap, or a store, the registers and the next
 // instruction.
-fn settle(own: &Own, memory: &mut PhysMem, domain: &mut Domain, instr: Instr, value: u32)
+fn settle(memory: &mut PhysMem, domain: &mut Domain, instr: Instr, value: u32)
     requires registers { HasRegisters instr }
-    requires retired { domain.old.retired < 2 ^ 63 }
-    requires readings { domain.old.readings.count < 2 ^ 63 }
-    ensures leaves { (p : image_spec.Hardware) → p.frames ≡ memory.old.frames → Leaves (λ d. event.settle p (own_view own.now) d instr value (effect_of d.thread.regs d.thread.pc instr value)) memory.old domain.old memory.new domain.new }
+    requires room { HasRoom domain.old }
+    ensures leaves { (p : image_spec.Hardware) → p.frames ≡ memory.old.frames → Leaves
+        (λ d. event.settle p domain.old.root d instr value (effect_of d.thread.regs d.thread.pc instr value))
+        memory.old domain.old memory.new domain.new }
     ensures frames { memory.new.frames ≡ memory.old.frames }
-    ensures retired { domain.new.retired ≤ domain.old.retired + 1 }
-    ensures readings { domain.new.readings.count ≤ domain.old.readings.count + 1 }
-    ensures replies { domain.new.replies.count ≡ domain.old.replies.count }
+    ensures grows { Grows 1 1 0 domain.old domain.new }
 {
     let pc = domain.thread.pc;
     let effect = rv_core::execute(&mut domain.thread.regs, pc, instr, value);
@@ -64,7 +60,7 @@ fn settle(own: &Own, memory: &mut PhysMem, domain: &mut Domain, instr: Instr, va
         stop(domain, trap);
         return;
     }
-    match store(own, memory, effect.store) {
+    match store(domain.root, memory, effect.store) {
         Ok(()) => finish(domain, instr, value, effect.next),
         Err(trap) => stop(domain, trap),
     }
@@ -72,40 +68,35 @@ fn settle(own: &Own, memory: &mut PhysMem, domain: &mut Domain, instr: Instr, va
 
 // An instruction that is no kernel call. Misaligned loads and stores trap
 // before their address is translated.
-fn execute(own: &Own, memory: &mut PhysMem, domain: &mut Domain, now: u64, instr: Instr)
+fn execute(memory: &mut PhysMem, domain: &mut Domain, now: u64, instr: Instr)
     requires registers { HasRegisters instr }
-    requires retired { domain.old.retired < 2 ^ 63 }
-    requires readings { domain.old.readings.count < 2 ^ 63 }
-    ensures leaves { (p : image_spec.Hardware) → p.frames ≡ memory.old.frames → Leaves (λ d. event.execute p (own_view own.now) now d instr) memory.old domain.old memory.new domain.new }
+    requires room { HasRoom domain.old }
+    ensures leaves { (p : image_spec.Hardware) → p.frames ≡ memory.old.frames → Leaves
+        (λ d. event.execute p domain.old.root now d instr) memory.old domain.old memory.new domain.new }
     ensures frames { memory.new.frames ≡ memory.old.frames }
-    ensures retired { domain.new.retired ≤ domain.old.retired + 1 }
-    ensures readings { domain.new.readings.count ≤ domain.old.readings.count + 1 }
-    ensures replies { domain.new.replies.count ≡ domain.old.replies.count }
+    ensures grows { Grows 1 1 0 domain.old domain.new }
 {
     let at = address(&domain.thread.regs, instr);
     if let Some(trap) = misalignment(instr, at) {
         stop(domain, trap);
         return;
     }
-    match loaded(own, memory, domain, now, instr, at) {
-        Ok(value) => settle(own, memory, domain, instr, value),
+    match loaded(memory, domain, now, instr, at) {
+        Ok(value) => settle(memory, domain, instr, value),
         Err(trap) => stop(domain, trap),
     }
 }
 
 // The domain's next instruction, at a clock.
-fn run_instruction(own: &Own, memory: &mut PhysMem, domain: &mut Domain, now: u64)
-    requires retired { domain.old.retired < 2 ^ 63 }
-    requires readings { domain.old.readings.count < 2 ^ 63 }
-    requires replies { domain.old.replies.count < 2 ^ 63 }
-    ensures leaves { (p : image_spec.Hardware) → p.frames ≡ memory.old.frames → Leaves (event.instruction p (own_view own.now) now) memory.old domain.old memory.new domain.new }
+fn run_instruction(memory: &mut PhysMem, domain: &mut Domain, now: u64)
+    requires room { HasRoom domain.old }
+    ensures leaves { (p : image_spec.Hardware) → p.frames ≡ memory.old.frames → Leaves
+        (event.instruction p domain.old.root now) memory.old domain.old memory.new domain.new }
     ensures frames { memory.new.frames ≡ memory.old.frames }
-    ensures retired { domain.new.retired ≤ domain.old.retired + 1 }
-    ensures readings { domain.new.readings.count ≤ domain.old.readings.count + 1 }
-    ensures replies { domain.new.replies.count ≤ domain.old.replies.count + 1 }
+    ensures grows { Grows 1 1 1 domain.old domain.new }
 {
     let pc = domain.thread.pc;
-    let frame = match translate(own, memory, Access::Fetch, pc) {
+    let frame = match translate(domain.root, memory, Access::Fetch, pc) {
         Ok(frame) => frame,
         Err(trap) => {
             stop(domain, trap);
@@ -125,7 +116,7 @@ fn run_instruction(own: &Own, memory: &mut PhysMem, domain: &mut Domain, now: u6
     };
     match instr {
         Instr::Ecall => call(domain),
-        _ => execute(own, memory, domain, now, instr),
+        _ => execute(memory, domain, now, instr),
     }
 }
 
@@ -135,27 +126,27 @@ fn run_instruction(own: &Own, memory: &mut PhysMem, domain: &mut Domain, now: u6
 /// in cycles, which may be past the end by less than an instruction takes.
 pub fn step(
     hardware: &Hardware,
-    own: &Own,
     memory: &mut PhysMem,
     domain: &mut Domain,
     now: u64,
     end: u64,
 ) -> u64
-    requires timed { 0 < hardware.now.base }
-    requires short { hardware.now.base ≤ 1000 }
-    requires held { hardware.now.frames ≡ memory.old.frames }
+    requires timed { IsTimed (hardware_model hardware.now) }
+    requires size { hardware.now.frames ≡ memory.old.frames }
     requires before { now < end }
     requires end { end < 2 ^ 62 }
     requires few { CountsUpTo now domain.old }
-    ensures becomes { Moves (spec.step (hardware_view hardware.now) (own_view own.now) false end) memory.old domain.old now memory.new domain.new result }
+    ensures becomes { (o : Own) → domain.old.root ≡ root_of (hardware_model hardware.now) o
+        → Moves (spec.step (hardware_model hardware.now) o false end) memory.old domain.old now memory.new domain.new result }
     ensures frames { memory.new.frames ≡ memory.old.frames }
+    ensures place { SamePlace domain.old domain.new }
     ensures few { CountsUpTo result domain.new }
     ensures later { now < result }
     ensures soon { result < end + hardware.now.base }
 {
     match domain.status {
         DomainStatus::Running => {
-            run_instruction(own, memory, domain, now);
+            run_instruction(memory, domain, now);
             now + u64::from(hardware.base)
         }
         _ => end,
@@ -165,20 +156,20 @@ pub fn step(
 /// Events while the clock is below the end. Answers the clock after them.
 pub fn stretch(
     hardware: &Hardware,
-    own: &Own,
     memory: &mut PhysMem,
     domain: &mut Domain,
     now: u64,
     end: u64,
 ) -> u64
-    requires timed { 0 < hardware.now.base }
-    requires short { hardware.now.base ≤ 1000 }
-    requires held { hardware.now.frames ≡ memory.old.frames }
+    requires timed { IsTimed (hardware_model hardware.now) }
+    requires size { hardware.now.frames ≡ memory.old.frames }
     requires before { now < 2 ^ 62 }
     requires end { end < 2 ^ 62 }
     requires few { CountsUpTo now domain.old }
-    ensures becomes { Moves (spec.stretch (hardware_view hardware.now) (own_view own.now) false end) memory.old domain.old now memory.new domain.new result }
+    ensures becomes { (o : Own) → domain.old.root ≡ root_of (hardware_model hardware.now) o
+        → Moves (spec.stretch (hardware_model hardware.now) o false end) memory.old domain.old now memory.new domain.new result }
     ensures frames { memory.new.frames ≡ memory.old.frames }
+    ensures place { SamePlace domain.old domain.new }
     ensures few { CountsUpTo result domain.new }
     ensures over { end ≤ result }
     ensures soon { now < end → result < end + hardware.now.base }
@@ -186,7 +177,7 @@ pub fn stretch(
 {
     let mut clock = now;
     while clock < end {
-        clock = step(hardware, own, memory, domain, clock, end);
+        clock = step(hardware, memory, domain, clock, end);
     }
     clock
 }

@@ -1,31 +1,30 @@
 -- What is due, from what was read and what was written.
-use Rattle.std.proofs.Common.{◌≡◌, ℕ, ◌+◌, ◌-◌, ◌^◌, ◌<◌, ◌≤◌, leb, true, false, List, [], ◌++◌, length, Option, Some, None, Result, Ok, Err, refl, sym, ap, ◌∙◌, subst, subst₂, arith, ◌⊎◌, inl, inr}
+use Rattle.std.proofs.Common.{◌≡◌, ◌≢◌, ℕ, ◌+◌, ◌-◌, ◌^◌, ◌<◌, ◌≤◌, leb, true, false, List, [], ◌++◌, length, Option, Some, None, Result, Ok, Err, refl, sym, ap, ◌∙◌, subst, arith, ◌⊎◌, inl, inr}
 use Rattle.std.specs.Prelude.{OnOk, OnErr}
 use Rattle.std.proofs.lemmas.List.{length-append, append-nil}
 use Rattle.std.proofs.lemmas.Option.{same_Some}
+use Rattle.std.proofs.lemmas.Bool.{cases_lt}
 use Rattle.std.proofs.lemmas.Bool.Decides.{nat_tests}
 use Rattle.tp_io.specs.Bytes.{before_known, after_known, AtEnd}
-use Rattle.tp_io.specs.Causes.{Rose}
-use Rattle.tp_io.specs.Sends.{Sends}
+use Rattle.tp_io.specs.Sends.{SinkState, Sent, CutShort, Sends}
 use Rattle.tp_io.specs.Sure.{Exceeds}
 use Rattle.image_text.specs.declared.refusal.Refusal.{Refusal}
-use Rattle.image_text.specs.Record as text
-use Rattle.world_view.specs.declared.Command.{Command}
-use Rattle.world_view.specs.declared.Command.TheVariants.{Run}
-use Rattle.world_view.specs.declared.status.Status.{Status}
-use Rattle.world_view.specs.declared.status.Status.TheVariants.{Done, Refused, Usage, ReadFault, WriteFault, Memory, TooLong}
+use Rattle.image_check.specs.Image.{Image}
 use Rattle.world_view.specs.Reading.{image, most_bytes}
-use Rattle.world_view.specs.Report.{report, usage_text, refusal_text, too_long_text}
-use Rattle.world_view.specs.Answer.{Answer, answer, answer_by, answer_of_bytes, answer_of_image, command}
-use Rattle.world_view.specs.Laws.{Runnable}
+use Rattle.world_view.specs.Machine.{whole}
+use Rattle.image_check.specs.Laws.{Runnable}
 use Rattle.world_view.proofs.Separate.{separated}
 use Rattle.world_view.proofs.ReadingLaws.{read_runs}
 use Rattle.world_view.proofs.WholeLaws.{isolated}
-use Rattle.world_view.proofs.ReportLaws.{reported_apart, largest_within}
-use Rattle.world_view.proofs.TimeLaws.{used_within, on_time}
-use Rattle.world_view.specs.Machine.{whole}
-use Rattle.world_view.specs.Image.{Image, image_from}
-use Rattle.tp_run.specs.TopCall.{Writes, Ran, Isolated, Padded, OfImage}
+use Rattle.world_view.proofs.TimeLaws.{used_within, on_time, largest_within}
+use Rattle.tp_report.specs.Report.{report, usage_text, refusal_text, too_long_text}
+use Rattle.tp_report.proofs.ReportLaws.{reported_apart}
+use Rattle.tp_run.specs.declared.Command.{Command}
+use Rattle.tp_run.specs.declared.Command.TheVariants.{Run}
+use Rattle.tp_run.specs.declared.status.Status.{Status}
+use Rattle.tp_run.specs.declared.status.Status.TheVariants.{Done, Refused, Usage, ReadFault, WriteFault, Memory, TooLong}
+use Rattle.tp_run.specs.Answer.{Answer, answer, answer_by, answer_of_bytes, answer_unless_broken, answer_of_image, command}
+use Rattle.tp_run.specs.TopCall.{Writes, EndsUsage, Delivers, ComesTo, IsOver, ReadsImage, Isolated, Padded}
 
 -- ---- what was written
 
@@ -37,36 +36,68 @@ HasText Usage = Unit {0}
 HasText TooLong = Unit {0}
 HasText _ = ⊥
 
-pub wrote : {T E : Type 0} {p q : Option ℕ} (status result : Status) (text : List ℕ) (old new : Option (List ℕ)) (before now : ℕ) (r : Result T E) → HasText status
-    → Sends old new before now p q r text → OnOk r (result ≡ status) → OnErr r (result ≡ WriteFault) → Writes result (status, text) old new
-wrote Done result text old new before now (Ok x) h sends ok err = rw ok (refl, sends.ok)
-wrote Refused result text old new before now (Ok x) h sends ok err = rw ok (refl, sends.ok)
-wrote Usage result text old new before now (Ok x) h sends ok err = rw ok (refl, sends.ok)
-wrote TooLong result text old new before now (Ok x) h sends ok err = rw ok (refl, sends.ok)
-wrote ReadFault result text old new before now (Ok x) h sends ok err = absurd h
-wrote WriteFault result text old new before now (Ok x) h sends ok err = absurd h
-wrote Memory result text old new before now (Ok x) h sends ok err = absurd h
-wrote status result text old new before now (Err e) h sends ok err = rw err sends.front
+writes_own : (status : Status) (text : List ℕ) (old new : Option (List ℕ)) → HasText status → new ≡ after_known old text → Writes status (status, text) old new
+writes_own Done text old new h put = (refl, put)
+writes_own Refused text old new h put = (refl, put)
+writes_own Usage text old new h put = (refl, put)
+writes_own TooLong text old new h put = (refl, put)
+writes_own ReadFault text old new h put = absurd h
+writes_own WriteFault text old new h put = absurd h
+writes_own Memory text old new h put = absurd h
 
--- a write failed, so the text is longer than what the sink surely takes
-pub too_long_for : {T E : Type 0} {p q : Option ℕ} (status result : Status) (text : List ℕ) (old new : Option (List ℕ)) (before now : ℕ) (r : Result T E) → HasText status
-    → Sends old new before now p q r text → OnOk r (result ≡ status) → result ≡ WriteFault → Exceeds p text
-too_long_for status result text old new before now (Ok x) h sends ok fault = absurd (subst HasText (sym ok ∙ fault) h)
-too_long_for status result text old new before now (Err e) h sends ok fault = sends.short
+sent_delivered : (status : Status) (text : List ℕ) (old new : SinkState) → HasText status → Sent old new text → Delivers (status, text) status old new
+sent_delivered status text old new h sent = record {
+  wrote = writes_own status text old.written new.written h sent.written;
+  no_read = λ e. subst HasText e h;
+  fault = record { rose = λ e. absurd (subst HasText e h); steady = λ _. sent.steady; never_falls = omega (arith, sent.steady) };
+  short = λ e. absurd (subst HasText e h);
+}
+
+cut_is_no_read : WriteFault ≢ ReadFault
+cut_is_no_read e = cc
+
+cut_delivered : (due : Answer) (old new : SinkState) → CutShort old new due.1 → Delivers due WriteFault old new
+cut_delivered due old new cut = record {
+  wrote = cut.front;
+  no_read = cut_is_no_read;
+  fault = record { rose = λ _. cut.rose; steady = λ other. absurd (other refl); never_falls = cut.never_falls };
+  short = λ _. cut.short;
+}
+
+-- a text was written after all that may fail, or the sink failed
+pub delivered : {T E : Type 0} (status result : Status) (text : List ℕ) (old new : SinkState) (r : Result T E) → HasText status
+    → Sends old new r text → OnOk r (result ≡ status) → OnErr r (result ≡ WriteFault) → Delivers (status, text) result old new
+delivered status result text old new (Ok x) h sends ok err = subst (λ s. Delivers (status, text) s old new) (sym ok) (sent_delivered status text old new h sends)
+delivered status result text old new (Err e) h sends ok err = subst (λ s. Delivers (status, text) s old new) (sym err) (cut_delivered (status, text) old new sends)
+
+want_is_no_read : Memory ≢ ReadFault
+want_is_no_read e = cc
+
+want_is_no_fault : Memory ≢ WriteFault
+want_is_no_fault e = cc
+
+-- memory ran out
+pub nothing_held : (due : Answer) (s : SinkState) → Delivers due Memory s s
+nothing_held due s = record {
+  wrote = refl;
+  no_read = want_is_no_read;
+  fault = record { rose = λ e. absurd (want_is_no_fault e); steady = λ _. refl; never_falls = omega arith };
+  short = λ e. absurd (want_is_no_fault e);
+}
 
 -- ---- what was read
-
--- all bytes were taken
-pub all_taken : (bytes items : List ℕ) (rest : Option (List ℕ)) → Some bytes ≡ before_known items rest → AtEnd rest → bytes ≡ items
-all_taken bytes items None e end = absurd (cc)
-all_taken bytes items (Some xs) e end = same_Some _ _ e ∙ ap (λ ys. items ++ ys) end ∙ append-nil items
 
 pub none_taken : (left : Option (List ℕ)) → left ≡ before_known [] left
 none_taken None = refl
 none_taken (Some xs) = refl
 
+-- all bytes were taken
+all_taken : (bytes items : List ℕ) (rest : Option (List ℕ)) → Some bytes ≡ before_known items rest → AtEnd rest → bytes ≡ items
+all_taken bytes items None e end = absurd (cc)
+all_taken bytes items (Some xs) e end = same_Some _ _ e ∙ ap (λ ys. items ++ ys) end ∙ append-nil items
+
 -- more bytes came than an image has
-pub over_taken : (bytes items : List ℕ) (rest : Option (List ℕ)) → Some bytes ≡ before_known items rest → most_bytes < length items → most_bytes < length bytes
+over_taken : (bytes items : List ℕ) (rest : Option (List ℕ)) → Some bytes ≡ before_known items rest → most_bytes < length items → most_bytes < length bytes
 over_taken bytes items None e over = absurd (cc)
 over_taken bytes items (Some xs) e over =
     let long : length bytes ≡ length items + length xs = ap length (same_Some _ _ e) ∙ length-append items xs in
@@ -78,113 +109,172 @@ pub usage_due : (words : List (List ℕ)) (bytes : List ℕ) → command words �
 unfolding answer answer_by
 usage_due words bytes c = rw c
 
-pub too_long_due : (words : List (List ℕ)) (bytes : List ℕ) (c : Command) → command words ≡ Some c → most_bytes < length bytes → answer words bytes ≡ (TooLong, too_long_text)
-unfolding answer answer_by answer_of_bytes
-too_long_due words bytes c asked over =
-    let test : leb (length bytes) most_bytes ≡ false = grind (arith, nat_tests) in
-    rw (asked, test)
+pub bytes_due : (words : List (List ℕ)) (bytes : List ℕ) (c : Command) → command words ≡ Some c → answer words bytes ≡ answer_of_bytes c bytes
+unfolding answer answer_by
+bytes_due words bytes c asked = rw asked
 
-pub image_due : (words : List (List ℕ)) (bytes : List ℕ) (c : Command) → command words ≡ Some c → length bytes ≤ most_bytes → answer words bytes ≡ answer_of_image c (image bytes)
-unfolding answer answer_by answer_of_bytes
-image_due words bytes c asked few =
-    let test : leb (length bytes) most_bytes ≡ true = grind (arith, nat_tests) in
-    rw (asked, test)
+pub too_long_due : (bytes : List ℕ) (c : Command) → most_bytes < length bytes → answer_of_bytes c bytes ≡ (TooLong, too_long_text)
+unfolding answer_of_bytes
+too_long_due bytes c over = let test : leb (length bytes) most_bytes ≡ false = grind (arith, nat_tests) in rw test
+
+pub image_due : (bytes : List ℕ) (c : Command) → length bytes ≤ most_bytes → answer_of_bytes c bytes ≡ answer_unless_broken c (image bytes)
+unfolding answer_of_bytes
+image_due bytes c few = let test : leb (length bytes) most_bytes ≡ true = grind (arith, nat_tests) in rw test
 
 -- a rule is broken
-pub broken_due : (c : Command) (bytes : List ℕ) (r : Refusal) → image bytes ≡ Err r → answer_of_image c (image bytes) ≡ (Refused, refusal_text r)
+pub broken_due : (c : Command) (bytes : List ℕ) (r : Refusal) → length bytes ≤ most_bytes → image bytes ≡ Err r → answer_of_bytes c bytes ≡ (Refused, refusal_text r)
+unfolding answer_unless_broken
+broken_due c bytes r few broken = image_due bytes c few ∙ ap (answer_unless_broken c) broken
+
+pub unbroken_due : (c : Command) (bytes : List ℕ) (i : Image) → length bytes ≤ most_bytes → image bytes ≡ Ok i → answer_of_bytes c bytes ≡ answer_of_image c i
+unfolding answer_unless_broken
+unbroken_due c bytes i few read = image_due bytes c few ∙ ap (answer_unless_broken c) read
+
+pub run_due : (n : ℕ) (i : Image) → answer_of_image (Run n) i ≡ (Done, report i n)
 unfolding answer_of_image
-broken_due (Run n) bytes r broken = rw broken
+run_due n i = refl
 
-pub run_due : (n : ℕ) (bytes : List ℕ) (i : Image) → image bytes ≡ Ok i → answer_of_image (Run n) (image bytes) ≡ (Done, report i n)
-unfolding answer_of_image
-run_due n bytes i read = rw read
+-- the same is due to all bytes of a source as to those that were taken
+pub same_due : (words : List (List ℕ)) (c : Command) (bytes items : List ℕ) (rest : Option (List ℕ)) → command words ≡ Some c → Some bytes ≡ before_known items rest → (length items ≤ most_bytes → AtEnd rest)
+    → answer_of_bytes c items ≡ answer words bytes
+same_due words c bytes items rest asked took whole = elim (cases_lt most_bytes (length items)) [
+  | inl over ↦ too_long_due items c over ∙ sym (too_long_due bytes c (over_taken bytes items rest took over)) ∙ sym (bytes_due words bytes c asked)
+  | inr few ↦ ap (answer_of_bytes c) (sym (all_taken bytes items rest took (whole few))) ∙ sym (bytes_due words bytes c asked)
+]
 
-pub done_due : (words : List (List ℕ)) (bytes : List ℕ) (n : ℕ) (i : Image) → length bytes ≤ most_bytes → command words ≡ Some (Run n) → image bytes ≡ Ok i → answer words bytes ≡ (Done, report i n)
-done_due words bytes n i few asked read = image_due words bytes (Run n) asked few ∙ run_due n bytes i read
+pub told_delivers : (words : List (List ℕ)) (c : Command) (bytes items : List ℕ) (rest : Option (List ℕ)) (result : Status) (old new : SinkState)
+    → command words ≡ Some c → Some bytes ≡ before_known items rest → (length items ≤ most_bytes → AtEnd rest) → Delivers (answer_of_bytes c items) result old new → Delivers (answer words bytes) result old new
+told_delivers words c bytes items rest result old new asked took whole = subst (λ due. Delivers due result old new) (same_due words c bytes items rest asked took whole)
 
--- ---- a run
+pub usage_delivers : (words : List (List ℕ)) (bytes : List ℕ) (result : Status) (old new : SinkState) → command words ≡ None → Delivers (Usage, usage_text) result old new → Delivers (answer words bytes) result old new
+usage_delivers words bytes result old new none = subst (λ due. Delivers due result old new) (sym (usage_due words bytes none))
 
-pub report_of_same : {T E : Type 0} {p q : Option ℕ} (x y : text.Image) (k n : ℕ) (old new : Option (List ℕ)) (before now : ℕ) (r : Result T E) → x ≡ y → k ≡ n
-    → Sends old new before now p q r (report (image_from x) k) → Sends old new before now p q r (report (image_from y) n)
-report_of_same {T} {E} {p} {q} x y k n old new before now r same all sends =
-    subst₂ (λ (z : text.Image) (j : ℕ). Sends {T = T} {E = E} old new before now p q r (report (image_from z) j)) same all sends
+-- ---- what a status tells
+
+-- the status that is due to an image, or to what is none
+abbrev IsOfImage : Status → Type 0
+IsOfImage Done = Unit {0}
+IsOfImage Refused = Unit {0}
+IsOfImage _ = ⊥
+
+of_image : (c : Command) (found : Result Image Refusal) → IsOfImage (answer_unless_broken c found).0
+unfolding answer_unless_broken answer_of_image
+of_image (Run n) (Ok i) = tt
+of_image c (Err r) = tt
+
+-- usage is due to no bytes
+pub no_usage : (c : Command) (items : List ℕ) → Usage ≡ (answer_of_bytes c items).0 → ⊥
+no_usage c items e = elim (cases_lt most_bytes (length items)) [
+  | inl over ↦ let same = e ∙ ap (λ (a : Answer). a.0) (too_long_due items c over) in absurd (cc same)
+  | inr few ↦ subst IsOfImage (sym (e ∙ ap (λ (a : Answer). a.0) (image_due items c few))) (of_image c (image items))
+]
+
+-- another status than TooLong is due to all bytes of an image
+pub is_few : (c : Command) (items : List ℕ) (status : Status) → status ≡ (answer_of_bytes c items).0 → status ≢ TooLong → length items ≤ most_bytes
+is_few c items status e other = elim (cases_lt most_bytes (length items)) [
+  | inl over ↦ absurd (other (e ∙ ap (λ (a : Answer). a.0) (too_long_due items c over)))
+  | inr few ↦ few
+]
+
+-- TooLong is due to more
+pub is_over : (c : Command) (items : List ℕ) → TooLong ≡ (answer_of_bytes c items).0 → most_bytes < length items
+is_over c items e = elim (cases_lt most_bytes (length items)) [
+  | inl over ↦ over
+  | inr few ↦ absurd (subst IsOfImage (sym (e ∙ ap (λ (a : Answer). a.0) (image_due items c few))) (of_image c (image items)))
+]
 
 -- ---- the top call
 
--- what was written after the image was read, for all bytes of the source
-pub image_wrote : (words : List (List ℕ)) (bytes items : List ℕ) (c : Command) (result : Status) (old new : Option (List ℕ)) → bytes ≡ items → command words ≡ Some c → length items ≤ most_bytes
-    → Writes result (answer_of_image c (image items)) old new → Writes result (answer words bytes) old new
-image_wrote words bytes items c result old new same asked few w =
-    subst (λ (due : Answer). Writes result due old new) (sym (ap (answer words) same ∙ image_due words items c asked few)) w
+done_is_due : (due : Answer) (result : Status) (old new : SinkState) → Delivers due result old new → result ≡ Done → (Done ≡ due.0) × (new.written ≡ after_known old.written due.1)
+done_is_due due result old new d done = subst (λ s. Writes s due old.written new.written) done d.wrote
 
--- the same, of what is too long
-pub image_too_long : (words : List (List ℕ)) (bytes items : List ℕ) (c : Command) (sure : Option ℕ) → bytes ≡ items → command words ≡ Some c → length items ≤ most_bytes
-    → Exceeds sure (answer_of_image c (image items)).1 → Exceeds sure (answer words bytes).1
-image_too_long words bytes items c sure same asked few long =
-    subst (λ (due : Answer). Exceeds sure due.1) (sym (ap (answer words) same ∙ image_due words items c asked few)) long
+-- how the reading ends where the status tells that an image was found, or what is none
+pub done_reads : (c : Command) (items : List ℕ) (result : Status) (old new : SinkState) → Delivers (answer_of_bytes c items) result old new → result ≡ Done → length items ≤ most_bytes
+done_reads c items result old new d done =
+    let due = done_is_due (answer_of_bytes c items) result old new d done in is_few c items Done due.0 (λ e. cc e)
 
-refused_not_done : Done ≡ Refused → ⊥
-refused_not_done e = cc
+pub refused_reads : (c : Command) (items : List ℕ) (result : Status) (old new : SinkState) → Delivers (answer_of_bytes c items) result old new → result ≡ Refused → length items ≤ most_bytes
+refused_reads c items result old new d refused =
+    let due : (Refused ≡ (answer_of_bytes c items).0) × (new.written ≡ after_known old.written (answer_of_bytes c items).1) = subst (λ s. Writes s (answer_of_bytes c items) old.written new.written) refused d.wrote in
+    is_few c items Refused due.0 (λ e. cc e)
 
--- a text was due at Done alone, so there was an image
-done_image : (n : ℕ) (found : Result Image Refusal) (old new : Option (List ℕ)) → Writes Done (answer_of_image (Run n) found) old new
-    → (i : Image) × (found ≡ Ok i) × (new ≡ after_known old (report i n))
-unfolding answer_of_image
-done_image n (Err r) old new w = absurd (refused_not_done w.0)
-done_image n (Ok i) old new w = (i, refl, w.1)
+pub too_long_reads : (c : Command) (items : List ℕ) (result : Status) (old new : SinkState) → Delivers (answer_of_bytes c items) result old new → result ≡ TooLong → most_bytes < length items
+too_long_reads c items result old new d over =
+    let due : (TooLong ≡ (answer_of_bytes c items).0) × (new.written ≡ after_known old.written (answer_of_bytes c items).1) = subst (λ s. Writes s (answer_of_bytes c items) old.written new.written) over d.wrote in
+    is_over c items due.0
 
-pub ran : (words : List (List ℕ)) (items : List ℕ) (c : Command) (left left' old new : Option (List ℕ)) → left ≡ before_known items left' → AtEnd left' → command words ≡ Some c → length items ≤ most_bytes
-    → Writes Done (answer_of_image c (image items)) old new → (r : Ran words left left') × (new ≡ after_known old (report r.found r.slots))
-ran words items (Run n) left left' old new took end asked few w =
-    let (i, read, wrote) = done_image n (image items) old new w in
-    (record { bytes = items; found = i; slots = n; took = took; whole = end; few = few; asked = asked; read = read }, wrote)
+pub is_no_usage : (c : Command) (items : List ℕ) (result : Status) (old new : SinkState) → Delivers (answer_of_bytes c items) result old new → result ≡ Usage → ⊥
+is_no_usage c items result old new d usage =
+    let due : (Usage ≡ (answer_of_bytes c items).0) × (new.written ≡ after_known old.written (answer_of_bytes c items).1) = subst (λ s. Writes s (answer_of_bytes c items) old.written new.written) usage d.wrote in
+    no_usage c items due.0
 
-ran_runs : (words : List (List ℕ)) (left left' : Option (List ℕ)) (r : Ran words left left') → Runnable r.found
-ran_runs words left left' r = read_runs r.bytes r.found r.read
+-- words that are no command
+pub ends_usage : (result : Status) (old new : SinkState) → Delivers (Usage, usage_text) result old new → EndsUsage result old.written new.written
+ends_usage Usage old new d = d.wrote.1
+ends_usage WriteFault old new d = d.wrote
+ends_usage Memory old new d = d.wrote
+ends_usage ReadFault old new d = d.no_read refl
+ends_usage Done old new d = absurd (cc d.wrote.0)
+ends_usage Refused old new d = absurd (cc d.wrote.0)
+ends_usage TooLong old new d = absurd (cc d.wrote.0)
 
-pub is_isolated : (words : List (List ℕ)) (left left' old new : Option (List ℕ)) (r : Ran words left left') → new ≡ after_known old (report r.found r.slots) → Isolated words left left' old new
-is_isolated words left left' old new r wrote =
-    let runs = separated r.found (ran_runs words left left' r) in
+-- no write failed
+pub completes : (due : Answer) (result : Status) (old new : SinkState) → Delivers due result old new → new.faults ≡ old.faults → old.faults < 2 ^ 64 - 1 → ComesTo due result
+completes due Done old new d same low = inl d.wrote.0
+completes due Refused old new d same low = inl d.wrote.0
+completes due Usage old new d same low = inl d.wrote.0
+completes due TooLong old new d same low = inl d.wrote.0
+completes due Memory old new d same low = inr refl
+completes due ReadFault old new d same low = absurd (d.no_read refl)
+completes due WriteFault old new d same low = let rose = d.fault.rose refl in absurd (omega arith)
+
+-- the sink surely takes the text
+pub completes_surely : (due : Answer) (result : Status) (old new : SinkState) (room : ℕ) → Delivers due result old new → old.sure ≡ Some room → length due.1 ≤ room → ComesTo due result ⊎ (result ≡ ReadFault)
+completes_surely due Done old new room d sure fits = inl (inl d.wrote.0)
+completes_surely due Refused old new room d sure fits = inl (inl d.wrote.0)
+completes_surely due Usage old new room d sure fits = inl (inl d.wrote.0)
+completes_surely due TooLong old new room d sure fits = inl (inl d.wrote.0)
+completes_surely due Memory old new room d sure fits = inl (inr refl)
+completes_surely due ReadFault old new room d sure fits = inr refl
+completes_surely due WriteFault old new room d sure fits =
+    let over : room < length due.1 = subst (λ (s : Option ℕ). Exceeds s due.1) sure (d.short refl) in absurd (omega arith)
+
+-- ---- a run that was done
+
+done_image : (n : ℕ) (found : Result Image Refusal) → Done ≡ (answer_unless_broken (Run n) found).0 → (i : Image) × (found ≡ Ok i) × (answer_unless_broken (Run n) found ≡ (Done, report i n))
+unfolding answer_unless_broken answer_of_image
+done_image n (Err r) e = absurd (cc e)
+done_image n (Ok i) e = (i, refl, refl)
+
+pub ran : (n : ℕ) (items : List ℕ) (left left' : Option (List ℕ)) (result : Status) (old new : SinkState)
+    → left ≡ before_known items left' → (length items ≤ most_bytes → AtEnd left') → Delivers (answer_of_bytes (Run n) items) result old new → result ≡ Done
+    → (r : ReadsImage left left') × (new.written ≡ after_known old.written (report r.found n))
+ran n items left left' result old new took whole d done =
+    let few = done_reads (Run n) items result old new d done in
+    let due = done_is_due (answer_of_bytes (Run n) items) result old new d done in
+    let (i, read, is) = done_image n (image items) (due.0 ∙ ap (λ (a : Answer). a.0) (image_due items (Run n) few)) in (
+      record { bytes = items; found = i; took = took; whole = whole few; few = few; read = read },
+      due.1 ∙ ap (λ (a : Answer). after_known old.written a.1) (image_due items (Run n) few ∙ is),
+    )
+
+read_separated : (left left' : Option (List ℕ)) (r : ReadsImage left left') → Runnable r.found
+read_separated left left' r = read_runs r.bytes r.found r.read
+
+pub is_isolated : (n : ℕ) (left left' old new : Option (List ℕ)) (r : ReadsImage left left') → new ≡ after_known old (report r.found n) → Isolated n left left' old new
+is_isolated n left left' old new r wrote =
+    let runs = separated r.found (read_separated left left' r) in
     record {
       ran = r;
-      wrote = wrote ∙ ap (after_known old) (reported_apart r.found r.slots runs);
-      views = λ d is. isolated r.found d r.slots runs is;
+      wrote = wrote ∙ ap (after_known old) (reported_apart r.found n runs);
+      views = λ d is. isolated r.found d n runs is;
     }
 
-pub is_padded : (words : List (List ℕ)) (left left' : Option (List ℕ)) (r : Ran words left left') → Padded words left left'
-is_padded words left left' r =
-    let runs = separated r.found (ran_runs words left left' r) in
+pub is_padded : (n : ℕ) (left left' : Option (List ℕ)) (r : ReadsImage left left') → Padded n left left'
+is_padded n left left' r =
+    let runs = separated r.found (read_separated left left' r) in
     record {
       ran = r;
-      used = used_within r.found r.slots runs;
-      lines = λ e. largest_within r.found.all.schedule e (whole r.found r.slots).used (used_within r.found r.slots runs);
+      used = used_within r.found n runs;
+      lines = λ e. largest_within r.found.all.schedule e (whole r.found n).used (used_within r.found n runs);
       starts = λ k. on_time r.found runs k;
     }
-
--- an image was asked for and read, and no write failed: it was run, but for want of memory
-pub completes : (words : List (List ℕ)) (bytes : List ℕ) (n : ℕ) (i : Image) (result : Status) (old new : Option (List ℕ)) (before now : ℕ)
-    → OfImage result → Writes result (answer words bytes) old new → length bytes ≤ most_bytes → command words ≡ Some (Run n) → image bytes ≡ Ok i
-    → (result ≡ WriteFault → Rose before now) → now ≡ before → before < 2 ^ 64 - 1 → (result ≡ Done) ⊎ (result ≡ Memory)
-completes words bytes n i Done old new before now kind w few asked read fault same low = inl refl
-completes words bytes n i Memory old new before now kind w few asked read fault same low = inr refl
-completes words bytes n i Refused old new before now kind w few asked read fault same low =
-    let due : Refused ≡ Done = w.0 ∙ ap (λ (a : Answer). a.0) (done_due words bytes n i few asked read) in absurd (cc due)
-completes words bytes n i WriteFault old new before now kind w few asked read fault same low = let rose = fault refl in absurd (omega arith)
-completes words bytes n i Usage old new before now kind w few asked read fault same low = absurd kind
-completes words bytes n i ReadFault old new before now kind w few asked read fault same low = absurd kind
-completes words bytes n i TooLong old new before now kind w few asked read fault same low = absurd kind
-
--- the same, where the sink surely takes the report
-pub completes_surely : (words : List (List ℕ)) (bytes : List ℕ) (n : ℕ) (i : Image) (result : Status) (old new : Option (List ℕ)) (sure : Option ℕ) (room : ℕ)
-    → OfImage result → Writes result (answer words bytes) old new → length bytes ≤ most_bytes → command words ≡ Some (Run n) → image bytes ≡ Ok i
-    → (result ≡ WriteFault → Exceeds sure (answer words bytes).1) → sure ≡ Some room → length (report i n) ≤ room → (result ≡ Done) ⊎ (result ≡ Memory) ⊎ (result ≡ ReadFault)
-completes_surely words bytes n i Done old new sure room kind w few asked read long is fits = inl refl
-completes_surely words bytes n i Memory old new sure room kind w few asked read long is fits = inr (inl refl)
-completes_surely words bytes n i Refused old new sure room kind w few asked read long is fits =
-    let due : Refused ≡ Done = w.0 ∙ ap (λ (a : Answer). a.0) (done_due words bytes n i few asked read) in absurd (cc due)
-completes_surely words bytes n i WriteFault old new sure room kind w few asked read long is fits =
-    let over : Exceeds (Some room) (report i n) = subst₂ (λ (s : Option ℕ) (due : Answer). Exceeds s due.1) is (done_due words bytes n i few asked read) (long refl) in
-    absurd (omega (arith, over))
-completes_surely words bytes n i Usage old new sure room kind w few asked read long is fits = absurd kind
-completes_surely words bytes n i ReadFault old new sure room kind w few asked read long is fits = absurd kind
-completes_surely words bytes n i TooLong old new sure room kind w few asked read long is fits = absurd kind

@@ -1,9 +1,4 @@
-pub mod Between
-pub mod Digits
-pub mod Numbers
-pub mod Texts
-pub mod Places
-pub mod Switches
-pub mod FrameSums
+pub mod WordsLaws
+pub mod Accepted
 pub mod Answers
 pub mod Reports

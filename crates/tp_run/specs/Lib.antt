@@ -1,5 +1,6 @@
+pub mod Partial
 pub mod Words
-pub mod Pieces
-pub mod Switches
+pub mod Status
+pub mod Answer
 pub mod TopCall
 pub mod Accepting

@@ -1,8 +1,73 @@
--- What is known of a command.
-use Rattle.std.specs.Prelude.{◌≤◌}
-use Rattle.world_view.specs.declared.Command.{Command}
-use Rattle.world_view.specs.declared.Command.TheVariants.{Run}
+-- The words of the command line: the program's command, as clap reads it, and what its matches ask for.
+use Rattle.std.specs.Prelude.{ℕ, ◌≤◌, pos, true, if◌then◌else◌, List, [], ◌∷◌, codes, fold, Option, Some, None}
+use Rattle.std.specs.Str.{bytes_eq}
+use Rattle.std.specs.Str.Parse.{digits_value, without_leading_plus}
+use Rattle.clap.specs.Words.{App, Rule, Row, Shape, Text, Kinds, new_app, new_rule, with_rule, with_subcommand, one_of}
+use Rattle.clap.specs.Simple.{on_top}
+use Rattle.clap.specs.ValueTests.{is_unsigned_in}
+use Rattle.clap.specs.declared.builder.action.ArgAction.TheVariants.{Set}
+use Rattle.clap.specs.declared.builder.value_parser.ValueParser.TheVariants as vp
+use Rattle.tp_run.specs.declared.Command.{Command}
+use Rattle.tp_run.specs.declared.Command.TheVariants.{Run}
+use Rattle.tp_run.specs.Partial.{◌>>=◌, ◌>>◌, when}
+
+-- ---- the program's command
+
+-- `--slots N`, a whole number 0 to 65,536
+abbrev pub slots_rule : Rule
+slots_rule = record (new_rule (codes "slots")) {
+  long = Some (codes "slots");
+  action = Some Set;
+  required = true;
+  parser = Some (vp.Signed (pos 0) (pos 65536));
+}
+
+abbrev pub run_app : App
+run_app = with_rule (new_app (codes "run")) slots_rule
+
+-- a subcommand must be named
+abbrev pub required : Shape → Shape
+required s = record s { subcommand_required = true }
+
+-- `tp`, with its subcommands
+unfoldable pub tp_app : App
+tp_app = fold with_subcommand (on_top required (new_app (codes "tp"))) (
+    run_app.top
+    ∷ [])
+
+-- ---- what its matches ask for
+
+-- the number that a text writes, where it is a whole number 0 to 65,536
+abbrev pub slots_of : Text → Option ℕ
+slots_of text = when (is_unsigned_in 0 65536 text) >> Some (digits_value 10 (without_leading_plus text))
+
+-- the value of `--slots`
+unfoldable pub slots_in : List Row → Option ℕ
+slots_in rows = one_of (codes "slots") rows >>= slots_of
+
+-- clap takes no words without a subcommand, no other name of one, and no other value of `--slots`: these are never asked for
+abbrev pub or_zero : Option ℕ → ℕ
+or_zero None = 0
+or_zero (Some n) = n
+
+abbrev pub never_asked : Command
+never_asked = Run 0
+
+-- what a subcommand asks for, by its name and what was found for its options: one case for each
+abbrev pub asked_by : Text → List Row → Command
+asked_by name rows = if bytes_eq name (codes "run") then Run (or_zero (slots_in rows)) else never_asked
+
+abbrev pub asked_for : Option (Text × List Row) → Command
+asked_for None = never_asked
+asked_for (Some p) = asked_by p.0 p.1
+
+-- a command exactly where there is no fault; help that is asked for is a fault, too
+abbrev pub unless_faulty : Kinds → Command → Option Command
+unless_faulty [] asked = Some asked
+unless_faulty (k ∷ ks) asked = None
+
+-- ---- what is known of a command
 
 -- its slots are at most 65,536
 abbrev pub RunsFewSlots : Command → Type 0
-RunsFewSlots (Run slots) = slots ≤ 65536
+RunsFewSlots (Run n) = n ≤ 65536

@@ -1,25 +1,26 @@
 // The top call.
-ghost use Rattle.std.specs.Prelude.{◌≡◌, ◌≢◌, ◌<◌, ◌≤◌, ◌-◌, ◌^◌, ◌⊎◌, List, ℕ, Option, Some, None, Ok, length, OnOk, OnErr};
+ghost use Rattle.std.specs.Prelude.{◌≡◌, ◌≢◌, ◌<◌, ◌≤◌, ◌-◌, ◌^◌, ◌⊎◌};
+ghost use Rattle.std.specs.Prelude.{List, ℕ, Some, None, length, OnOk, OnErr};
 ghost use Rattle.tp_io.specs.Bytes.{AtEnd};
-ghost use Rattle.tp_io.specs.Causes.{Rose};
-ghost use Rattle.tp_io.specs.Sure.{Exceeds};
-ghost use Rattle.world_view.specs.Image as image_spec;
-ghost use Rattle.world_view.specs.Reading as reading_spec;
-ghost use Rattle.world_view.specs.Report as report_spec;
-ghost use Rattle.world_view.specs.Answer as spec;
-ghost use Rattle.tp_run.specs.TopCall.{Writes, Answered, IsOver, Isolated, Padded, OfImage, words_of};
+ghost use Rattle.tp_io.specs.Causes.{TellsFault};
+ghost use Rattle.tp_io.specs.Sink.{state};
+ghost use Rattle.image_check.specs.Image.{image_from};
+ghost use Rattle.world_view.specs.Reading.{image};
+ghost use Rattle.tp_run.specs.Answer as spec;
+ghost use Rattle.tp_run.specs.TopCall.{Writes, EndsUsage, Delivers, ComesTo, Answered, IsOver};
+ghost use Rattle.tp_run.specs.TopCall.{Isolated, Padded, words_of};
 ghost use Rattle.tp_run.specs.Accepting.{Accepts};
 ghost use Rattle.tp_run.specs.Words.{RunsFewSlots};
 
-use crate::report::{write_refusal, write_too_long, write_usage};
 use crate::run::run_image;
 use crate::words::command;
+use crate::{Command, Status};
 use image_check::{CheckRefusal, Checked, check};
-use image_text::{ReadRefusal, read_image};
+use image_text::read_image;
 use std::alloc::Global;
 use tp_base::Memory;
 use tp_io::{Failed, ReadError, Sink, Source, read_within};
-use world_view::{Command, Status};
+use tp_report::{write_refusal, write_too_long, write_usage};
 
 /// The most bytes of an image.
 const MOST_BYTES: usize = 1_048_576;
@@ -38,45 +39,53 @@ pub fn tp_main<S: Source, K: Sink>(
 
     // The status and the text are those that the words and all bytes of the source have coming:
     // of a source that tells its bytes, and of one that doesn't.
-    ensures told { (bytes : List ℕ) → S.left src.old ≡ Some bytes → Writes result (spec.answer (words_of words.now) bytes) (K.written out.old) (K.written out.new) }
-    ensures answered { result ≢ Status.ReadFault → result ≢ Status.Memory → Answered (words_of words.now) result (S.left src.old) (S.left src.new) (K.written out.old) (K.written out.new) }
+    ensures told { (bytes : List ℕ) → S.left src.old ≡ Some bytes
+        → Writes result (spec.answer (words_of words.now) bytes) (K.written out.old) (K.written out.new) }
+    ensures answered { result ≢ Status.ReadFault → result ≢ Status.Memory
+        → Answered (words_of words.now) result (S.left src.old) (S.left src.new)
+        (K.written out.old) (K.written out.new) }
+
+    // Words that are no command have the usage line, and leave the source as it was.
+    ensures no_command { spec.command (words_of words.now) ≡ None
+        → EndsUsage result (K.written out.old) (K.written out.new) }
+    ensures untouched { spec.command (words_of words.now) ≡ None → src.new ≡ src.old }
+    ensures usage { result ≡ Status.Usage → spec.command (words_of words.now) ≡ None }
 
     // What is read.
     ensures done_reads { result ≡ Status.Done → AtEnd (S.left src.new) }
     ensures refused_reads { result ≡ Status.Refused → AtEnd (S.left src.new) }
     ensures too_long_reads { result ≡ Status.TooLong → IsOver (S.left src.old) (S.left src.new) }
-    ensures untouched { spec.command (words_of words.now) ≡ None → S.left src.new ≡ S.left src.old }
 
-    // When each status comes that no text decides.
-    ensures usage { result ≡ Status.Usage → spec.command (words_of words.now) ≡ None }
-    ensures read_fault { result ≡ Status.ReadFault → Rose (S.faults src.old) (S.faults src.new) }
-    ensures no_read_fault { result ≢ Status.ReadFault → S.faults src.new ≡ S.faults src.old }
-    ensures write_fault { result ≡ Status.WriteFault → Rose (K.faults out.old) (K.faults out.new) }
-    ensures no_write_fault { result ≢ Status.WriteFault → K.faults out.new ≡ K.faults out.old }
+    // A failed read, and a failed write, come where they are told.
+    ensures read_fault { TellsFault (result ≡ Status.ReadFault) (S.faults src.old) (S.faults src.new) }
+    ensures write_fault { TellsFault (result ≡ Status.WriteFault) (K.faults out.old) (K.faults out.new) }
 
     // Nothing is written before all that may fail is done.
     ensures nothing_read { result ≡ Status.ReadFault → K.written out.new ≡ K.written out.old }
     ensures nothing_held { result ≡ Status.Memory → K.written out.new ≡ K.written out.old }
 
-    // An image that is asked for is run, but for want of memory.
-    ensures complete { (bytes : List ℕ) (slots : ℕ) (image : image_spec.Image)
-        → S.left src.old ≡ Some bytes → length bytes ≤ reading_spec.most_bytes → spec.command (words_of words.now) ≡ Some (Command.Run slots) → reading_spec.image bytes ≡ Ok image
+    // Where no read and no write failed, the status is the one that is due, but for want of memory.
+    ensures complete { (bytes : List ℕ) → S.left src.old ≡ Some bytes
         → S.faults src.new ≡ S.faults src.old → K.faults out.new ≡ K.faults out.old
-        → (result ≡ Status.Done) ⊎ (result ≡ Status.Memory) }
+        → ComesTo (spec.answer (words_of words.now) bytes) result }
 
-    // So is one whose report the sink surely takes, unless a read fails.
-    ensures complete_sure { (bytes : List ℕ) (slots : ℕ) (image : image_spec.Image) (room : ℕ)
-        → S.left src.old ≡ Some bytes → length bytes ≤ reading_spec.most_bytes → spec.command (words_of words.now) ≡ Some (Command.Run slots) → reading_spec.image bytes ≡ Ok image
-        → K.sure out.old ≡ Some room → length (report_spec.report image slots) ≤ room
-        → (result ≡ Status.Done) ⊎ (result ≡ Status.Memory) ⊎ (result ≡ Status.ReadFault) }
+    // So it is where the sink surely takes the text that is due, unless a read fails.
+    ensures complete_sure { (bytes : List ℕ) (room : ℕ)
+        → S.left src.old ≡ Some bytes → K.sure out.old ≡ Some room
+        → length (spec.answer (words_of words.now) bytes).1 ≤ room
+        → ComesTo (spec.answer (words_of words.now) bytes) result ⊎ (result ≡ Status.ReadFault) }
 
-    // What each domain's section says, that domain alone says; and no switch overran its pad.
-    ensures isolation { result ≡ Status.Done → Isolated (words_of words.now) (S.left src.old) (S.left src.new) (K.written out.old) (K.written out.new) }
-    ensures pad { result ≡ Status.Done → Padded (words_of words.now) (S.left src.old) (S.left src.new) }
+    // A run that is done: what each domain's section says, that domain alone says; no switch overran its pad.
+    ensures isolation { (slots : ℕ)
+        → spec.command (words_of words.now) ≡ Some (Command.Run slots) → result ≡ Status.Done
+        → Isolated slots (S.left src.old) (S.left src.new) (K.written out.old) (K.written out.new) }
+    ensures pad { (slots : ℕ)
+        → spec.command (words_of words.now) ≡ Some (Command.Run slots) → result ≡ Status.Done
+        → Padded slots (S.left src.old) (S.left src.new) }
 {
     let command = match command(alloc, words) {
         Ok(Some(command)) => command,
-        Ok(None) => return ended(Status::Usage, write_usage(out)),
+        Ok(None) => return status_unless_failed(Status::Usage, write_usage(out)),
         Err(Memory) => return Status::Memory,
     };
     let bytes = match read_within(alloc, src, MOST_BYTES) {
@@ -84,57 +93,52 @@ pub fn tp_main<S: Source, K: Sink>(
         Err(ReadError::Failed) => return Status::ReadFault,
         Err(ReadError::Memory) => return Status::Memory,
     };
-    if bytes.len() > MOST_BYTES {
-        return ended(Status::TooLong, write_too_long(out));
-    }
     answer_bytes(alloc, command, bytes.as_slice(), out)
 }
 
-// Answers the bytes of an image that isn't too long.
+// Answers all bytes of a source, or one more than an image may have.
 fn answer_bytes<K: Sink>(alloc: Global, command: Command, bytes: &[u8], out: &mut K) -> Status
     requires range { RunsFewSlots command }
-    ensures wrote { Writes result (spec.answer_of_image command (reading_spec.image bytes.now)) (K.written out.old) (K.written out.new) }
-    ensures kind { OfImage result }
-    ensures fault { result ≡ Status.WriteFault → Rose (K.faults out.old) (K.faults out.new) }
-    ensures steady { result ≢ Status.WriteFault → K.faults out.new ≡ K.faults out.old }
-    ensures short { result ≡ Status.WriteFault → Exceeds (K.sure out.old) (spec.answer_of_image command (reading_spec.image bytes.now)).1 }
+    ensures delivers { Delivers (spec.answer_of_bytes command bytes.now)
+        result (state K.Sink out.old) (state K.Sink out.new) }
 {
-    let image = match accepted(alloc, bytes) {
-        Ok(image) => image,
-        Err(CheckRefusal::Memory) => return Status::Memory,
+    if bytes.len() > MOST_BYTES {
+        return status_unless_failed(Status::TooLong, write_too_long(out));
+    }
+    match accepted(alloc, bytes) {
+        Ok(image) => answer_image(alloc, command, &image, out),
+        Err(CheckRefusal::Memory) => Status::Memory,
         Err(CheckRefusal::Broken(refusal)) => {
-            return ended(Status::Refused, write_refusal(out, &refusal));
+            status_unless_failed(Status::Refused, write_refusal(out, &refusal))
         }
-    };
-    run_image(alloc, &image, slots_of(command), out)
+    }
+}
+
+// Answers an image that breaks no rule, by command.
+#[tactic(auto, unfolding(crate::specs::Answer::answer_of_image))]
+fn answer_image<K: Sink>(alloc: Global, command: Command, image: &Checked, out: &mut K) -> Status
+    requires range { RunsFewSlots command }
+    ensures delivers { Delivers (spec.answer_of_image command (image_from image.now))
+        result (state K.Sink out.old) (state K.Sink out.new) }
+{
+    match command {
+        Command::Run { slots } => run_image(alloc, image, slots, out),
+    }
 }
 
 // The image that bytes are, where it breaks no rule.
 #[tactic(auto, unfolding(world_view::specs::Reading::image, world_view::specs::Reading::checked))]
 fn accepted(alloc: Global, bytes: &[u8]) -> Result<Checked, CheckRefusal>
-    ensures accepts { Accepts result (reading_spec.image bytes.now) }
+    ensures accepts { Accepts result (image bytes.now) }
 {
-    let raw = match read_image(alloc, bytes) {
-        Ok(raw) => raw,
-        Err(ReadRefusal::Memory) => return Err(CheckRefusal::Memory),
-        Err(ReadRefusal::Broken(refusal)) => return Err(CheckRefusal::Broken(refusal)),
-    };
-    check(alloc, raw)
-}
-
-// How many slots the command runs.
-fn slots_of(command: Command) -> u32
-    requires range { RunsFewSlots command }
-    ensures value { command ≡ Command.Run result }
-    ensures few { result ≤ 65536 }
-{
-    match command {
-        Command::Run { slots } => slots,
+    match read_image(alloc, bytes) {
+        Ok(raw) => check(alloc, raw),
+        Err(refusal) => Err(refusal),
     }
 }
 
 // The status, unless its text could not be written.
-pub fn ended(status: Status, written: Result<(), Failed>) -> Status
+pub fn status_unless_failed(status: Status, written: Result<(), Failed>) -> Status
     ensures ok { OnOk written (result ≡ status) }
     ensures err { OnErr written (result ≡ Status.WriteFault) }
 {

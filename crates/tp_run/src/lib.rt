@@ -2,9 +2,16 @@
 #![tactic(auto)]
 
 mod call;
-mod pieces;
-mod report;
 mod run;
+mod status;
 mod words;
 
 pub use call::tp_main;
+pub use status::Status;
+
+/// What the words of the command line ask for.
+#[derive(Clone, Copy, Debug, PartialEq, Eq)]
+pub enum Command {
+    /// Run the image for so many slots, 0 to 65,536.
+    Run { slots: u32 },
+}

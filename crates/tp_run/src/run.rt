@@ -1,30 +1,26 @@
 // A run of an image: so many slots, and then the report.
-ghost use Rattle.std.specs.Prelude.{◌≡◌, ◌≢◌, ◌<◌, ◌≤◌, length};
-ghost use Rattle.tp_io.specs.Causes.{Rose};
+ghost use Rattle.std.specs.Prelude.{◌≡◌, ◌<◌, ◌≤◌, length};
 ghost use Rattle.tp_io.specs.Sends.{Sends};
-ghost use Rattle.tp_io.specs.Sure.{Exceeds};
+ghost use Rattle.tp_io.specs.Sink.{state};
 ghost use Rattle.image_check.specs.Own.{owns_of};
-ghost use Rattle.world_view.specs.Image.{image_from};
+ghost use Rattle.image_check.specs.Image.{image_from};
 ghost use Rattle.world_view.specs.View.{view_whole};
-ghost use Rattle.world_view.specs.Report as spec;
-ghost use Rattle.tp_run.specs.TopCall.{Writes, OfRun};
+ghost use Rattle.tp_report.specs.Report as spec;
+ghost use Rattle.tp_run.specs.TopCall.{Delivers};
 
-use crate::call::ended;
-use crate::report::{write_end, write_section, write_switches};
+use crate::Status;
+use crate::call::status_unless_failed;
 use image_check::Checked;
 use std::alloc::Global;
 use tp_io::{Failed, Sink};
 use tp_machine::Machine;
-use world_view::Status;
+use tp_report::{write_end, write_section, write_switches};
 
 /// Runs the image for so many slots and writes the report.
 pub fn run_image<K: Sink>(alloc: Global, image: &Checked, slots: u32, out: &mut K) -> Status
     requires { slots ≤ 65536 }
-    ensures wrote { Writes result (Status.Done, spec.report (image_from image.now) slots) (K.written out.old) (K.written out.new) }
-    ensures kind { OfRun result }
-    ensures fault { result ≡ Status.WriteFault → Rose (K.faults out.old) (K.faults out.new) }
-    ensures steady { result ≢ Status.WriteFault → K.faults out.new ≡ K.faults out.old }
-    ensures short { result ≡ Status.WriteFault → Exceeds (K.sure out.old) (spec.report (image_from image.now) slots) }
+    ensures delivers { Delivers (Status.Done, spec.report (image_from image.now) slots)
+        result (state K.Sink out.old) (state K.Sink out.new) }
 {
     let mut machine = match Machine::load(alloc, image) {
         Ok(machine) => machine,
@@ -33,12 +29,13 @@ pub fn run_image<K: Sink>(alloc: Global, image: &Checked, slots: u32, out: &mut 
     for slot in 0..slots {
         machine.run_slot();
     }
-    ended(Status::Done, write_report(out, &machine))
+    status_unless_failed(Status::Done, write_report(out, &machine))
 }
 
 // The report after the slots that have run.
 fn write_report<K: Sink>(out: &mut K, machine: &Machine<'_>) -> Result<(), Failed>
-    ensures { Sends (K.written out.old) (K.written out.new) (K.faults out.old) (K.faults out.new) (K.sure out.old) (K.sure out.new) result (spec.report (image_from machine.now.image.now) machine.now.slots) }
+    ensures sends { Sends (state K.Sink out.old) (state K.Sink out.new)
+        result (spec.report (image_from machine.now.image.now) machine.now.slots) }
 {
     write_sections(out, machine)?;
     let public = machine.image.public();
@@ -48,7 +45,9 @@ fn write_report<K: Sink>(out: &mut K, machine: &Machine<'_>) -> Result<(), Faile
 
 // The section of each domain.
 fn write_sections<K: Sink>(out: &mut K, machine: &Machine<'_>) -> Result<(), Failed>
-    ensures { Sends (K.written out.old) (K.written out.new) (K.faults out.old) (K.faults out.new) (K.sure out.old) (K.sure out.new) result (spec.sections (image_from machine.now.image.now) (λ d. view_whole (image_from machine.now.image.now) d machine.now.slots)) }
+    ensures sends { Sends (state K.Sink out.old) (state K.Sink out.new)
+        result (spec.sections (image_from machine.now.image.now)
+        (λ d. view_whole (image_from machine.now.image.now) d machine.now.slots)) }
 {
     for d in 0..domains_of(machine.image) {
         write_domain(out, machine, d)?;
@@ -64,10 +63,12 @@ fn domains_of(image: &Checked) -> u8
     image.public().domains as u8
 }
 
-#[tactic(auto, unfolding(world_view::specs::Report::section_of))]
+#[tactic(auto, unfolding(tp_report::specs::Report::section_of))]
 fn write_domain<K: Sink>(out: &mut K, machine: &Machine<'_>, d: u8) -> Result<(), Failed>
     requires { d < length (image_from machine.now.image.now).owns }
-    ensures { Sends (K.written out.old) (K.written out.new) (K.faults out.old) (K.faults out.new) (K.sure out.old) (K.sure out.new) result (spec.section_of (image_from machine.now.image.now) (λ e. view_whole (image_from machine.now.image.now) e machine.now.slots) d) }
+    ensures sends { Sends (state K.Sink out.old) (state K.Sink out.new)
+        result (spec.section_of (image_from machine.now.image.now)
+        (λ e. view_whole (image_from machine.now.image.now) e machine.now.slots) d) }
 {
     let own = machine.image.own(usize::from(d));
     write_section(out, d, own.name.as_str(), &machine.view(d))

@@ -2,15 +2,15 @@
 ghost use Rattle.std.specs.Prelude.{◌≡◌, ◌≤◌, IfOk, IfSome, false, map, string_bytes};
 ghost use Rattle.clap.specs.Words.{app_of, found_of, rows_of, subcommand_rows_of};
 ghost use Rattle.clap.specs.declared.builder.command.Command.TheViews.{out-Command};
-ghost use Rattle.world_view.specs.Answer as answer_spec;
-ghost use Rattle.world_view.specs.Words as spec;
+ghost use Rattle.tp_run.specs.Answer as answer_spec;
+ghost use Rattle.tp_run.specs.Words as spec;
 ghost use Rattle.tp_run.specs.Words.{RunsFewSlots};
 
+use crate::Command;
 use clap::error::ErrorKind;
 use clap::{Arg, ArgAction, ArgMatches};
 use std::alloc::{AllocError, Global};
 use tp_base::Memory;
-use world_view::Command;
 
 /// What the words ask for, the first being the program's name: `None` exactly
 /// where clap finds a fault in them. `Err` is for want of memory alone.
@@ -50,22 +50,22 @@ fn run_command<'a>(alloc: Global) -> Result<clap::Command<'a>, AllocError>
     clap::Command::new(alloc, "run").arg(slots)
 }
 
-// What the matches ask for. There is no match without a subcommand and its
-// options, so the zeros are never asked for.
+// What the matches ask for, by the subcommand's name. clap gives no matches
+// without one of the names above and its options, so the rest is never asked for.
 fn asked(matches: &ArgMatches<'_>) -> Command
     ensures value { result ≡ spec.asked_for (subcommand_rows_of matches.now) }
     ensures range { RunsFewSlots result }
 {
     match matches.subcommand() {
-        Some((_, found)) => Command::Run {
+        Some(("run", found)) => Command::Run {
             slots: slots_in(found).unwrap_or(0),
         },
-        None => Command::Run { slots: 0 },
+        _ => Command::Run { slots: 0 },
     }
 }
 
 // The value of `--slots`. Its parser let at most 65,536 through already.
-#[tactic(auto, unfolding(world_view::specs::Words::slots_in))]
+#[tactic(auto, unfolding(crate::specs::Words::slots_in))]
 fn slots_in(found: &ArgMatches<'_>) -> Option<u32>
     ensures value { result ≡ spec.slots_in (rows_of (found_of found.now)) }
     ensures range { IfSome result (λ n. n ≤ 65536) }

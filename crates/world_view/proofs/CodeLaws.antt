@@ -15,20 +15,19 @@ use Rattle.sv32_walk.specs.declared.access.WalkFault.{WalkFault}
 use Rattle.sv32_walk.specs.Walk.{walk}
 use Rattle.image_check.specs.Public.{Hardware}
 use Rattle.image_check.specs.Own.{Own}
-use Rattle.world_view.specs.Image.{Image, own_of}
-use Rattle.world_view.specs.Frames.{frames_in}
-use Rattle.world_view.specs.Schedule.{entry_of_slot, switch_entry, start, slot_end, ended, outgoing}
+use Rattle.image_check.specs.Image.{Image, own_of}
+use Rattle.world_view.specs.Frames.{root_of}
+use Rattle.world_view.specs.Schedule.{entry_of_slot, switch_entry, start, slot_end, last_end, outgoing}
 use Rattle.world_view.specs.Opening.{word_of, page_words}
 use Rattle.world_view.specs.Domain.{Dom, opening_dom, no_dom, is_running}
-use Rattle.world_view.specs.Reach.{Touch, Caches, reach, and_then, reach_all}
-use Rattle.world_view.specs.Event.{Store, Act, frame_or_stop, translate, loaded, noted, execute, perform, instruction, event}
+use Rattle.world_view.specs.Cost.{Touch, Caches, touched, and_then, touched_all}
+use Rattle.world_view.specs.Event.{Storage, Act, frame_or_stop, translate, loaded, noted, execute, perform, instruction, event}
 use Rattle.world_view.specs.Machine.{Local, paid, happened, step, stretch, World, dom_of, part_of, with_part, switch, run_slot, whole}
-use Rattle.world_view.specs.View.{pool}
-use Rattle.world_view.specs.Laws.{IsDomain}
+use Rattle.world_view.specs.Relations.{IsDomain}
 use Rattle.world_view.proofs.Separate.{Separated}
 use Rattle.world_view.proofs.OpeningLaws.{at-tabled, at-tabled_past, opening_dom_is}
 use Rattle.world_view.proofs.TimeLaws.{switch_free}
-use Rattle.world_view.specs.Report.{largest_of, count_of}
+use Rattle.world_view.specs.Used.{largest_of, count_of}
 
 -- ---- memory at its opening
 
@@ -48,7 +47,7 @@ at-page_words bytes i =
 
 -- ---- steps of a domain, by what they end with and what they leave
 
-module _ {A B : Type 0} (x : Act A) (y : A → Act B) (s : Store) where
+module _ {A B : Type 0} (x : Act A) (y : A → Act B) (s : Storage) where
   pub bind_value : (a : A) → (x s).value ≡ inr a → ((x >>= y) s).value ≡ (y a (x s).state).value
   unfolding ◌>>=◌ go_on
   bind_value a e = rw e
@@ -65,12 +64,12 @@ module _ {A B : Type 0} (x : Act A) (y : A → Act B) (s : Store) where
   unfolding ◌>>=◌ go_on
   stop_state d e = rw e
 
-module _ (p : Hardware) (o : Own) (d : Dom) (a : Access) (va : ℕ) (s : Store) where
-  pub translate_value : (r : Result ℕ WalkFault) → (walk s.mem p.frames o.first_frame va a).result ≡ r → (translate p o d a va s).value ≡ frame_or_stop d a va r
+module _ (p : Hardware) (root : ℕ) (d : Dom) (a : Access) (va : ℕ) (s : Storage) where
+  pub translate_value : (r : Result ℕ WalkFault) → (walk s.mem p.frames root va a).result ≡ r → (translate p root d a va s).value ≡ frame_or_stop d a va r
   unfolding translate
   translate_value r e = ap (frame_or_stop d a va) e
 
-  pub translate_state : (translate p o d a va s).state ≡ s
+  pub translate_state : (translate p root d a va s).state ≡ s
   unfolding translate
   translate_state = refl
 
@@ -90,50 +89,50 @@ noted-other instr.Fence value d other = refl
 noted-other instr.Ecall value d other = refl
 noted-other instr.Ebreak value d other = refl
 
-pub loaded-other : (p : Hardware) (o : Own) (t : ℕ) (d : Dom) (i : Instr) → ((w : _) (rd rs1 offset : ℕ) → i ≢ instr.Load w rd rs1 offset) → ((c : Counter) (rd : ℕ) → i ≢ instr.ReadCounter c rd)
-    → loaded p o t d i ≡ give 0
+pub loaded-other : (p : Hardware) (root : ℕ) (t : ℕ) (d : Dom) (i : Instr) → ((w : _) (rd rs1 offset : ℕ) → i ≢ instr.Load w rd rs1 offset) → ((c : Counter) (rd : ℕ) → i ≢ instr.ReadCounter c rd)
+    → loaded p root t d i ≡ give 0
 unfolding loaded
-loaded-other p o t d (instr.ReadCounter c rd) load other = absurd (other c rd refl)
-loaded-other p o t d (instr.Lui rd imm) load other = refl
-loaded-other p o t d (instr.Auipc rd imm) load other = refl
-loaded-other p o t d (instr.Jal rd offset) load other = refl
-loaded-other p o t d (instr.Jalr rd rs1 offset) load other = refl
-loaded-other p o t d (instr.Branch comparison rs1 rs2 offset) load other = refl
-loaded-other p o t d (instr.Load width rd rs1 offset) load other = absurd (load width rd rs1 offset refl)
-loaded-other p o t d (instr.Store width rs1 rs2 offset) load other = refl
-loaded-other p o t d (instr.Immediate operation rd rs1 imm) load other = refl
-loaded-other p o t d (instr.Register operation rd rs1 rs2) load other = refl
-loaded-other p o t d instr.Fence load other = refl
-loaded-other p o t d instr.Ecall load other = refl
-loaded-other p o t d instr.Ebreak load other = refl
+loaded-other p root t d (instr.ReadCounter c rd) load other = absurd (other c rd refl)
+loaded-other p root t d (instr.Lui rd imm) load other = refl
+loaded-other p root t d (instr.Auipc rd imm) load other = refl
+loaded-other p root t d (instr.Jal rd offset) load other = refl
+loaded-other p root t d (instr.Jalr rd rs1 offset) load other = refl
+loaded-other p root t d (instr.Branch comparison rs1 rs2 offset) load other = refl
+loaded-other p root t d (instr.Load width rd rs1 offset) load other = absurd (load width rd rs1 offset refl)
+loaded-other p root t d (instr.Store width rs1 rs2 offset) load other = refl
+loaded-other p root t d (instr.Immediate operation rd rs1 imm) load other = refl
+loaded-other p root t d (instr.Register operation rd rs1 rs2) load other = refl
+loaded-other p root t d instr.Fence load other = refl
+loaded-other p root t d instr.Ecall load other = refl
+loaded-other p root t d instr.Ebreak load other = refl
 
-pub perform-other : (p : Hardware) (o : Own) (t : ℕ) (d : Dom) (w : ℕ) (i : Instr) → i ≢ instr.Ecall → perform p o t d w (Some i) ≡ execute p o t d i
+pub perform-other : (p : Hardware) (root : ℕ) (t : ℕ) (d : Dom) (w : ℕ) (i : Instr) → i ≢ instr.Ecall → perform p root t d w (Some i) ≡ execute p root t d i
 unfolding perform
-perform-other p o t d w (instr.ReadCounter c rd) other = refl
-perform-other p o t d w (instr.Lui rd imm) other = refl
-perform-other p o t d w (instr.Auipc rd imm) other = refl
-perform-other p o t d w (instr.Jal rd offset) other = refl
-perform-other p o t d w (instr.Jalr rd rs1 offset) other = refl
-perform-other p o t d w (instr.Branch comparison rs1 rs2 offset) other = refl
-perform-other p o t d w (instr.Load width rd rs1 offset) other = refl
-perform-other p o t d w (instr.Store width rs1 rs2 offset) other = refl
-perform-other p o t d w (instr.Immediate operation rd rs1 imm) other = refl
-perform-other p o t d w (instr.Register operation rd rs1 rs2) other = refl
-perform-other p o t d w instr.Fence other = refl
-perform-other p o t d w instr.Ecall other = absurd (other refl)
-perform-other p o t d w instr.Ebreak other = refl
+perform-other p root t d w (instr.ReadCounter c rd) other = refl
+perform-other p root t d w (instr.Lui rd imm) other = refl
+perform-other p root t d w (instr.Auipc rd imm) other = refl
+perform-other p root t d w (instr.Jal rd offset) other = refl
+perform-other p root t d w (instr.Jalr rd rs1 offset) other = refl
+perform-other p root t d w (instr.Branch comparison rs1 rs2 offset) other = refl
+perform-other p root t d w (instr.Load width rd rs1 offset) other = refl
+perform-other p root t d w (instr.Store width rs1 rs2 offset) other = refl
+perform-other p root t d w (instr.Immediate operation rd rs1 imm) other = refl
+perform-other p root t d w (instr.Register operation rd rs1 rs2) other = refl
+perform-other p root t d w instr.Fence other = refl
+perform-other p root t d w instr.Ecall other = absurd (other refl)
+perform-other p root t d w instr.Ebreak other = refl
 
 -- touches are free
-touches_free : (p : Hardware) (pinned : Bool) (c : Caches) (ts : List Touch) → reach_all p pinned c ts ≡ record { cost = 0; caches = c }
-unfolding reach_all reach and_then
+touches_free : (p : Hardware) (pinned : Bool) (c : Caches) (ts : List Touch) → touched_all p pinned c ts ≡ record { cost = 0; caches = c }
+unfolding touched_all touched and_then
 touches_free p pinned c [] = refl
 touches_free p pinned c (t ∷ ts) = let rest = touches_free p pinned c ts in rw rest
 
 module _ (p : Hardware) (o : Own) (end : ℕ) (s : Local) where
   pub step-running : is_running s.dom.status ≡ true
-      → step p o false end s ≡ record s { dom = either (instruction p o s.clock s.dom s.store).value; store = (instruction p o s.clock s.dom s.store).state; clock = s.clock + p.base }
+      → step p o false end s ≡ record s { dom = either (instruction p (root_of p o) s.clock s.dom s.storage).value; storage = (instruction p (root_of p o) s.clock s.dom s.storage).state; clock = s.clock + p.base }
   unfolding step event happened paid
-  step-running runs = rw (runs, touches_free p false s.caches (instruction p o s.clock s.dom s.store).notes, add-zero p.base)
+  step-running runs = rw (runs, touches_free p false s.caches (instruction p (root_of p o) s.clock s.dom s.storage).notes, add-zero p.base)
 
   pub step-still : is_running s.dom.status ≡ false → step p o false end s ≡ record s { clock = end }
   unfolding step event happened
@@ -146,15 +145,15 @@ module _ (i : Image) (k : ℕ) (w : World) where
   unfolding switch
   switch-doms = refl
 
-  pub switch-store : (switch i k w).store ≡ w.store
+  pub switch-storage : (switch i k w).storage ≡ w.storage
   unfolding switch
-  switch-store = refl
+  switch-storage = refl
 
   pub switch-clock : (switch i k w).clock ≡ max w.clock (start i.all.schedule k)
   unfolding switch
   switch-clock = rw (switch_free i (outgoing i.all.schedule k) (entry_of_slot i.all.schedule k).domain w.caches, add-zero w.clock)
 
-  pub switch-used : (switch i k w).used ≡ w.used ++ (switch_entry i.all.schedule k, w.clock - ended i.all.schedule k) ∷ []
+  pub switch-used : (switch i k w).used ≡ w.used ++ (switch_entry i.all.schedule k, w.clock - last_end i.all.schedule k) ∷ []
   unfolding switch
   switch-used = rw (switch_free i (outgoing i.all.schedule k) (entry_of_slot i.all.schedule k).domain w.caches, add-zero w.clock)
 
@@ -175,15 +174,15 @@ module _ (i : Image) (k : ℕ) (w : World) where
       at-put_other no_dom (switch i k w).doms (entry_of_slot i.all.schedule k).domain d slot_over.dom other
       ∙ ap (λ m. at no_dom m d) switch-doms
 
-  pub run_slot-store : (run_slot i k w).store ≡ slot_over.store
+  pub run_slot-storage : (run_slot i k w).storage ≡ slot_over.storage
   unfolding run_slot with_part
-  run_slot-store = refl
+  run_slot-storage = refl
 
   pub run_slot-clock : (run_slot i k w).clock ≡ slot_over.clock
   unfolding run_slot with_part
   run_slot-clock = refl
 
-  pub run_slot-used : (run_slot i k w).used ≡ w.used ++ (switch_entry i.all.schedule k, w.clock - ended i.all.schedule k) ∷ []
+  pub run_slot-used : (run_slot i k w).used ≡ w.used ++ (switch_entry i.all.schedule k, w.clock - last_end i.all.schedule k) ∷ []
   unfolding run_slot with_part
   run_slot-used = switch-used
 
@@ -196,38 +195,6 @@ whole-suc i k = refl
 pub whole_first-dom : (i : Image) (d : ℕ) → Separated i → IsDomain i d → dom_of (whole i 0) d ≡ opening_dom (own_of i d)
 unfolding whole
 whole_first-dom i d r is = opening_dom_is i r d is
-
--- ---- a domain's pool is its frames, from the first on
-
-none_past : (b a n : ℕ) → b ≤ a → (low : ℕ) → filter (λ x. nat_le low x && nat_lt x b) (range_with_len a n) ≡ []
-none_past b a zero past low = refl
-none_past b a (suc n) past low =
-    let out : nat_lt a b ≡ false = le-ltb a b past in
-    rw (out, and-false (nat_le low a)) (none_past b (a + 1) n (omega arith) low)
-
-all_between : (low n a m : ℕ) → low ≤ a → n ≤ m → filter (λ x. nat_le low x && nat_lt x (a + n)) (range_with_len a m) ≡ range_with_len a n
-all_between low zero a m past few = none_past (a + 0) a m (omega arith) low
-all_between low (suc n) a zero past few = absurd (omega arith)
-all_between low (suc n) a (suc m) past few =
-    let here : nat_le low a ≡ true = le-leb low a past in
-    let below : nat_lt a (a + suc n) ≡ true = lt-ltb a (a + suc n) (omega arith) in
-    rw (here, below) (ap (λ xs. a ∷ xs) (subst (λ (b : ℕ). filter (λ x. nat_le low x && nat_lt x b) (range_with_len (a + 1) m) ≡ range_with_len (a + 1) n) (omega arith) (all_between low n (a + 1) m (omega arith) (omega arith))))
-
-between : (low n a m : ℕ) → a ≤ low → low + n ≤ a + m → filter (λ x. nat_le low x && nat_lt x (low + n)) (range_with_len a m) ≡ range_with_len low n
-between low zero a zero before few = refl
-between low (suc n) a zero before few = absurd (omega arith)
-between low n a (suc m) before few =
-    elim (cases_eq a low) [
-      | inl same ↦ subst (λ (x : ℕ). filter (λ y. nat_le low y && nat_lt y (low + n)) (range_with_len x (suc m)) ≡ range_with_len low n) (sym same) (all_between low n low (suc m) (omega arith) (omega arith))
-      | inr other ↦
-          let out : nat_le low a ≡ false = lt-leb low a (omega (arith, other)) in
-          rw out (between low n (a + 1) m (omega (arith, other)) (omega arith))
-    ]
-
--- where memory has them all
-pub pool-frames : (p : Hardware) (o : Own) → o.first_frame + frames_in o.segments ≤ p.frames → pool p o ≡ range_with_len o.first_frame (frames_in o.segments)
-unfolding pool
-pool-frames p o held = between o.first_frame (frames_in o.segments) 0 p.frames (omega arith) (omega arith)
 
 -- ---- what switches took, with one more
 

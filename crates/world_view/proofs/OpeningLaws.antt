@@ -4,25 +4,26 @@ use Rattle.std.proofs.lemmas.Bool.{cases_Bool, cases_eq, le-leb, lt-ltb}
 use Rattle.std.proofs.Math.Bool.{or-true}
 use Rattle.tp_base.specs.Table.{empty, at, put, at-empty, at-put_other, at-put_same}
 use Rattle.phys_mem.specs.Mem.{Mem, Frame, frame_at, word}
-use Rattle.sv32_walk.specs.Entry.{valid, ppn}
-use Rattle.page_map.specs.Words.{table_word, leaf_word, leaf_bits}
-use Rattle.page_map.specs.Tables.{IsPageMap}
-use Rattle.page_map.specs.Reached.{leaf_at}
-use Rattle.sv32_walk.specs.Walk.{is_leaf}
-use Rattle.page_map.proofs.WordLemmas.{valid-zero, ppn-table, leaf-good}
+use Rattle.sv32_walk.specs.PageTableEntry.{valid, ppn}
+use Rattle.sv32_walk.specs.PageTableEntry.{table_word, leaf_word, leaf_bits}
+use Rattle.page_map.specs.Tables.{IsPageMap, TablesOnce}
+use Rattle.page_map.specs.Reached.{leaf_at, PagesIn, IsApart}
+use Rattle.sv32_walk.specs.PageTableEntry.{is_leaf}
+use Rattle.sv32_walk.proofs.WordLemmas.{valid-zero, ppn-table, leaf-good}
 use Rattle.image_check.specs.Laws.{IsOwn}
 use Rattle.image_check.specs.declared.own.Rights.{Rights}
 use Rattle.image_check.specs.Public.{Hardware}
 use Rattle.image_check.specs.Own.{Segment, Own, no_own}
-use Rattle.world_view.specs.Image.{Image, own_of}
-use Rattle.world_view.specs.Frames.{has_page, has_region, frames_in, table_frame, first_page_frame, page_frame, own_frame}
+use Rattle.image_check.specs.Image.{Image, own_of}
+use Rattle.world_view.specs.Frames.{has_page, has_region, regions_below, regions_in, pages_below, frames_in, pool, root_of, table_frame, page_frame, own_frame}
 use Rattle.world_view.specs.Opening.{put_word, tabled, root_entry, rights_in, rights_number, leaf_with, leaf_entry, root_placed, table_placed, tables_placed, page_words, pages_placed, segments_placed, placed, all_placed}
 use Rattle.world_view.specs.Domain.{opening_dom, no_dom}
 use Rattle.world_view.specs.Machine.{opening_doms, opening, alone_opening}
-use Rattle.world_view.specs.Laws.{IsDomain, SameFrames, IsTableFrame, IsPageFrame, Good}
-use Rattle.world_view.proofs.Counts.{region_before, region_once, is_page, pages_low, rights_there, rights_are_good}
+use Rattle.world_view.specs.Relations.{IsDomain, IsOwnFrame, SameFrames, Good}
+use Rattle.world_view.proofs.Counts.{region_before, region_once, is_page, pages_low, page_once, rights_there, rights_are_good}
+use Rattle.world_view.proofs.PoolLaws.{pool_own, pool_inside, pool_once, own_inside}
 use Rattle.world_view.proofs.Separate.{Separated}
-use Rattle.world_view.proofs.TableLaws.{frame_inside, good_same}
+use Rattle.world_view.proofs.TableLaws.{good_same, tables_of_frames}
 
 -- ---- the values of a function
 
@@ -78,124 +79,162 @@ put_alike m k g x f same =
 
 -- ---- what is placed
 
-module _ (o : Own) (f : ℕ) where
-  tables_alike : (r : ℕ) (m k : Mem) → frame_at m f ≡ frame_at k f → frame_at (tables_placed o r m) f ≡ frame_at (tables_placed o r k) f
+module _ (p : Hardware) (o : Own) (f : ℕ) where
+  tables_alike : (r : ℕ) (m k : Mem) → frame_at m f ≡ frame_at k f → frame_at (tables_placed p o r m) f ≡ frame_at (tables_placed p o r k) f
   unfolding tables_placed table_placed
   tables_alike zero m k same = same
   tables_alike (suc r) m k same =
       elim (cases_Bool (has_region o.segments r)) [
-        | inl some ↦ rw some (put_alike (tables_placed o r m) (tables_placed o r k) (table_frame o r) _ f (tables_alike r m k same))
+        | inl some ↦ rw some (put_alike (tables_placed p o r m) (tables_placed p o r k) (table_frame p o r) _ f (tables_alike r m k same))
         | inr none ↦ rw none (tables_alike r m k same)
       ]
 
-  pages_alike : (n many : ℕ) (bytes : List ℕ) (m k : Mem) → frame_at m f ≡ frame_at k f → frame_at (pages_placed o n many bytes m) f ≡ frame_at (pages_placed o n many bytes k) f
+  pages_alike : (n many : ℕ) (bytes : List ℕ) (m k : Mem) → frame_at m f ≡ frame_at k f → frame_at (pages_placed p o n many bytes m) f ≡ frame_at (pages_placed p o n many bytes k) f
   unfolding pages_placed
   pages_alike n zero bytes m k same = same
   pages_alike n (suc many) bytes m k same =
       let x = page_words (take 4096 bytes) in
-      pages_alike (suc n) many (drop 4096 bytes) (put m (page_frame o n) x) (put k (page_frame o n) x) (put_alike m k (page_frame o n) x f same)
+      pages_alike (suc n) many (drop 4096 bytes) (put m (page_frame p o n) x) (put k (page_frame p o n) x) (put_alike m k (page_frame p o n) x f same)
 
-  segments_alike : (ss : List Segment) (m k : Mem) → frame_at m f ≡ frame_at k f → frame_at (segments_placed o ss m) f ≡ frame_at (segments_placed o ss k) f
+  segments_alike : (ss : List Segment) (m k : Mem) → frame_at m f ≡ frame_at k f → frame_at (segments_placed p o ss m) f ≡ frame_at (segments_placed p o ss k) f
   unfolding segments_placed
   segments_alike [] m k same = same
   segments_alike (s ∷ ss) m k same =
-      segments_alike ss (pages_placed o s.page s.pages s.bytes m) (pages_placed o s.page s.pages s.bytes k) (pages_alike s.page s.pages s.bytes m k same)
+      segments_alike ss (pages_placed p o s.page s.pages s.bytes m) (pages_placed p o s.page s.pages s.bytes k) (pages_alike s.page s.pages s.bytes m k same)
 
-  pub placed_alike : (m k : Mem) → frame_at m f ≡ frame_at k f → frame_at (placed o m) f ≡ frame_at (placed o k) f
+  pub placed_alike : (m k : Mem) → frame_at m f ≡ frame_at k f → frame_at (placed p o m) f ≡ frame_at (placed p o k) f
   unfolding placed root_placed
   placed_alike m k same =
-      segments_alike o.segments _ _ (tables_alike 1024 _ _ (put_alike m k o.first_frame _ f same))
+      segments_alike o.segments _ _ (tables_alike 1024 _ _ (put_alike m k (root_of p o) _ f same))
 
   -- tables leave each frame that holds none
-  tables_other : (r : ℕ) (m : Mem) → r ≤ 1024 → ((q : ℕ) → q < 1024 → has_region o.segments q ≡ true → f ≢ table_frame o q) → frame_at (tables_placed o r m) f ≡ frame_at m f
+  tables_other : (r : ℕ) (m : Mem) → r ≤ 1024 → ((q : ℕ) → q < 1024 → has_region o.segments q ≡ true → f ≢ table_frame p o q) → frame_at (tables_placed p o r m) f ≡ frame_at m f
   unfolding tables_placed table_placed
   tables_other zero m few out = refl
   tables_other (suc r) m few out =
       elim (cases_Bool (has_region o.segments r)) [
-        | inl some ↦ rw some (put_frame_other (tables_placed o r m) f (table_frame o r) _ (out r (omega arith) some) ∙ tables_other r m (omega arith) out)
+        | inl some ↦ rw some (put_frame_other (tables_placed p o r m) f (table_frame p o r) _ (out r (omega arith) some) ∙ tables_other r m (omega arith) out)
         | inr none ↦ rw none (tables_other r m (omega arith) out)
       ]
 
   -- pages leave each frame that holds none of them
-  pages_other : (n many : ℕ) (bytes : List ℕ) (m : Mem) → ((q : ℕ) → n ≤ q → q < n + many → f ≢ page_frame o q) → frame_at (pages_placed o n many bytes m) f ≡ frame_at m f
+  pages_other : (n many : ℕ) (bytes : List ℕ) (m : Mem) → ((q : ℕ) → n ≤ q → q < n + many → f ≢ page_frame p o q) → frame_at (pages_placed p o n many bytes m) f ≡ frame_at m f
   unfolding pages_placed
   pages_other n zero bytes m out = refl
   pages_other n (suc many) bytes m out =
       let x = page_words (take 4096 bytes) in
-      pages_other (suc n) many (drop 4096 bytes) (put m (page_frame o n) x) (λ q low high. out q (omega (arith, low)) (omega (arith, high)))
-      ∙ put_frame_other m f (page_frame o n) x (out n (omega arith) (omega arith))
+      pages_other (suc n) many (drop 4096 bytes) (put m (page_frame p o n) x) (λ q low high. out q (omega (arith, low)) (omega (arith, high)))
+      ∙ put_frame_other m f (page_frame p o n) x (out n (omega arith) (omega arith))
 
-  segments_other : (ss : List Segment) (m : Mem) → ((q : ℕ) → is_page ss q ≡ true → f ≢ page_frame o q) → frame_at (segments_placed o ss m) f ≡ frame_at m f
+  segments_other : (ss : List Segment) (m : Mem) → ((q : ℕ) → is_page ss q ≡ true → f ≢ page_frame p o q) → frame_at (segments_placed p o ss m) f ≡ frame_at m f
   unfolding segments_placed is_page
   segments_other [] m out = refl
   segments_other (s ∷ ss) m out =
-      segments_other ss (pages_placed o s.page s.pages s.bytes m) (λ q there. out q (rw there (or-true (has_page s q))))
+      segments_other ss (pages_placed p o s.page s.pages s.bytes m) (λ q there. out q (rw there (or-true (has_page s q))))
       ∙ pages_other s.page s.pages s.bytes m (λ q low high. out q (rw (le-leb s.page q low, lt-ltb q (s.page + s.pages) high) refl))
 
 -- ---- where tables and pages stand
 
-module _ (o : Own) where
-  table_low : (r : ℕ) → r < 1024 → has_region o.segments r ≡ true → IsTableFrame o (table_frame o r)
-  table_low r below some = let before = region_before o.segments r 1024 some below in (omega arith, omega (arith, before))
+module _ (p : Hardware) (o : Own) (enough : frames_in o.segments ≤ length (pool p o)) where
+  root_place : 0 < length (pool p o)
+  root_place = omega (arith, enough)
 
-  page_low : (n : ℕ) → is_page o.segments n ≡ true → IsPageFrame o (page_frame o n)
-  page_low n there = let low = pages_low o.segments n there in (omega arith, omega (arith, low))
+  table_place : (r : ℕ) → r < 1024 → has_region o.segments r ≡ true → 1 + regions_below o.segments r < 1 + regions_in o.segments
+  table_place r below some = let before = region_before o.segments r 1024 some below in omega (arith, before)
+
+  page_place : (n : ℕ) → is_page o.segments n ≡ true → 1 + regions_in o.segments + pages_below o.segments n < length (pool p o)
+  page_place n there = let low = pages_low o.segments n there in omega (arith, low, enough)
+
+  table_in : (r : ℕ) → r < 1024 → has_region o.segments r ≡ true → 1 + regions_below o.segments r < length (pool p o)
+  table_in r below some = let place = table_place r below some in omega (arith, place, enough)
+
+  pub own_root : IsOwnFrame p o (root_of p o)
+  own_root = pool_own p o 0 root_place
+
+  pub own_table : (r : ℕ) → r < 1024 → has_region o.segments r ≡ true → IsOwnFrame p o (table_frame p o r)
+  own_table r below some = pool_own p o (1 + regions_below o.segments r) (table_in r below some)
+
+  pub own_page : (n : ℕ) → is_page o.segments n ≡ true → IsOwnFrame p o (page_frame p o n)
+  own_page n there = pool_own p o (1 + regions_in o.segments + pages_below o.segments n) (page_place n there)
+
+  table_no_root : (r : ℕ) → r < 1024 → has_region o.segments r ≡ true → table_frame p o r ≢ root_of p o
+  table_no_root r below some e =
+      let same = pool_once p o (1 + regions_below o.segments r) 0 (table_in r below some) root_place e in
+      omega (arith, same)
+
+  page_no_root : (n : ℕ) → is_page o.segments n ≡ true → page_frame p o n ≢ root_of p o
+  page_no_root n there e =
+      let same = pool_once p o (1 + regions_in o.segments + pages_below o.segments n) 0 (page_place n there) root_place e in
+      omega (arith, same)
+
+  page_no_table : (n r : ℕ) → is_page o.segments n ≡ true → r < 1024 → has_region o.segments r ≡ true → page_frame p o n ≢ table_frame p o r
+  page_no_table n r there below some e =
+      let same = pool_once p o (1 + regions_in o.segments + pages_below o.segments n) (1 + regions_below o.segments r) (page_place n there) (table_in r below some) e in
+      let place = table_place r below some in
+      omega (arith, same, place)
+
+  tables_once : (r q : ℕ) → r < 1024 → q < 1024 → has_region o.segments r ≡ true → has_region o.segments q ≡ true → table_frame p o r ≡ table_frame p o q → r ≡ q
+  tables_once r q r_below q_below some more e =
+      let same = pool_once p o (1 + regions_below o.segments r) (1 + regions_below o.segments q) (table_in r r_below some) (table_in q q_below more) e in
+      region_once o.segments r q some more (omega (arith, same))
+
+  -- each page has a frame of its own
+  pub pages_once : (n m : ℕ) → is_page o.segments n ≡ true → is_page o.segments m ≡ true → page_frame p o n ≡ page_frame p o m → n ≡ m
+  pages_once n m there other e =
+      let same = pool_once p o (1 + regions_in o.segments + pages_below o.segments n) (1 + regions_in o.segments + pages_below o.segments m) (page_place n there) (page_place m other) e in
+      page_once o.segments n m there other (omega (arith, same))
 
   -- frames of others are left
-  pub placed_other : (p : Hardware) (m : Mem) (f : ℕ) → own_frame p o f ≡ false → frame_at (placed o m) f ≡ frame_at m f
+  pub placed_other : (m : Mem) (f : ℕ) → own_frame p o f ≡ false → frame_at (placed p o m) f ≡ frame_at m f
   unfolding placed root_placed
-  placed_other p m f other =
-      let outside = λ (g : ℕ) (low : o.first_frame ≤ g) (high : g < o.first_frame + frames_in o.segments) (e : f ≡ g).
-      true≢false (sym (frame_inside p o g low high) ∙ ap (own_frame p o) (sym e) ∙ other) in
-      segments_other o f o.segments _ (λ q there. let low = page_low q there in outside (page_frame o q) (omega (arith, low.0)) low.1)
-      ∙ tables_other o f 1024 _ (omega arith) (λ q below some. let low = table_low q below some in outside (table_frame o q) (omega (arith, low.0)) (omega (arith, low.1)))
-      ∙ put_frame_other m f o.first_frame (tabled (root_entry o) 1024) (outside o.first_frame (omega arith) (omega arith))
-
-  -- pages stand past the tables
-  segments_past : (m : Mem) (f : ℕ) → f < first_page_frame o → frame_at (segments_placed o o.segments m) f ≡ frame_at m f
-  segments_past m f h = segments_other o f o.segments m (λ q there e. omega (arith, h, e))
+  placed_other m f other =
+      let outside = λ (g : ℕ) (own : IsOwnFrame p o g) (e : f ≡ g). true≢false (sym own ∙ ap (own_frame p o) (sym e) ∙ other) in
+      segments_other p o f o.segments _ (λ q there. outside (page_frame p o q) (own_page q there))
+      ∙ tables_other p o f 1024 _ (omega arith) (λ q below some. outside (table_frame p o q) (own_table q below some))
+      ∙ put_frame_other m f (root_of p o) (tabled (root_entry p o) 1024) (outside (root_of p o) own_root)
 
   -- the tables below region r, of which one is that of region q
-  module _ (q : ℕ) (some : has_region o.segments q ≡ true) where
-    table_last : (m : Mem) → frame_at (tables_placed o (suc q) m) (table_frame o q) ≡ tabled (λ i. leaf_entry o (1024 * q + i)) 1024
+  module _ (q : ℕ) (q_below : q < 1024) (some : has_region o.segments q ≡ true) where
+    table_last : (m : Mem) → frame_at (tables_placed p o (suc q) m) (table_frame p o q) ≡ tabled (λ i. leaf_entry p o (1024 * q + i)) 1024
     unfolding tables_placed table_placed
-    table_last m = rw some (put_frame_same (tables_placed o q m) (table_frame o q) (table_frame o q) _ refl)
+    table_last m = rw some (put_frame_same (tables_placed p o q m) (table_frame p o q) (table_frame p o q) _ refl)
 
-    table_at : (r : ℕ) (m : Mem) → q < r → frame_at (tables_placed o r m) (table_frame o q) ≡ tabled (λ i. leaf_entry o (1024 * q + i)) 1024
+    table_at : (r : ℕ) (m : Mem) → q < r → r ≤ 1024 → frame_at (tables_placed p o r m) (table_frame p o q) ≡ tabled (λ i. leaf_entry p o (1024 * q + i)) 1024
     unfolding tables_placed table_placed
-    table_at zero m h = absurd (omega arith)
-    table_at (suc r) m h =
+    table_at zero m h few = absurd (omega arith)
+    table_at (suc r) m h few =
         elim (cases_eq q r) [
-          | inl same ↦ subst (λ (x : ℕ). frame_at (tables_placed o (suc x) m) (table_frame o q) ≡ tabled (λ i. leaf_entry o (1024 * q + i)) 1024) same (table_last m)
+          | inl same ↦ subst (λ (x : ℕ). frame_at (tables_placed p o (suc x) m) (table_frame p o q) ≡ tabled (λ i. leaf_entry p o (1024 * q + i)) 1024) same (table_last m)
           | inr other ↦
               elim (cases_Bool (has_region o.segments r)) [
                 | inl more ↦
-                    let before = region_before o.segments q r some (omega (arith, h, other)) in
-                    rw more (put_frame_other (tables_placed o r m) (table_frame o q) (table_frame o r) _ (λ e. omega (arith, before, e)) ∙ table_at r m (omega (arith, h, other)))
-                | inr none ↦ rw none (table_at r m (omega (arith, h, other)))
+                    rw more (put_frame_other (tables_placed p o r m) (table_frame p o q) (table_frame p o r) _ (λ e. other (tables_once q r q_below (omega (arith, few)) some more e))
+                    ∙ table_at r m (omega (arith, h, other)) (omega (arith, few)))
+                | inr none ↦ rw none (table_at r m (omega (arith, h, other)) (omega (arith, few)))
               ]
         ]
 
   -- ---- the words of the page tables
 
-  pub root_words : (m : Mem) (i : ℕ) → i < 1024 → word (placed o m) o.first_frame i ≡ root_entry o i
+  pub root_words : (m : Mem) (i : ℕ) → i < 1024 → word (placed p o m) (root_of p o) i ≡ root_entry p o i
   unfolding placed root_placed word
   root_words m i below =
       ap (λ (x : Frame). at 0 x i) (
-      segments_past _ o.first_frame (omega arith)
-      ∙ tables_other o o.first_frame 1024 _ (omega arith) (λ q h some e. omega (arith, e))
-      ∙ put_frame_same m o.first_frame o.first_frame _ refl)
-      ∙ at-tabled (root_entry o) 1024 i below
+      segments_other p o (root_of p o) o.segments _ (λ q there e. page_no_root q there (sym e))
+      ∙ tables_other p o (root_of p o) 1024 _ (omega arith) (λ q h some e. table_no_root q h some (sym e))
+      ∙ put_frame_same m (root_of p o) (root_of p o) _ refl)
+      ∙ at-tabled (root_entry p o) 1024 i below
 
-  pub table_words : (m : Mem) (r j : ℕ) → r < 1024 → j < 1024 → has_region o.segments r ≡ true → word (placed o m) (table_frame o r) j ≡ leaf_entry o (1024 * r + j)
+  pub table_words : (m : Mem) (r j : ℕ) → r < 1024 → j < 1024 → has_region o.segments r ≡ true → word (placed p o m) (table_frame p o r) j ≡ leaf_entry p o (1024 * r + j)
   unfolding placed word
   table_words m r j below j_below some =
-      let low = table_low r below some in
-      ap (λ (x : Frame). at 0 x j) (segments_past _ (table_frame o r) low.1 ∙ table_at r some 1024 _ below)
-      ∙ at-tabled (λ i. leaf_entry o (1024 * r + i)) 1024 j j_below
+      ap (λ (x : Frame). at 0 x j) (
+      segments_other p o (table_frame p o r) o.segments _ (λ q there e. page_no_table q r there below some (sym e))
+      ∙ table_at r below some 1024 _ below (omega arith))
+      ∙ at-tabled (λ i. leaf_entry p o (1024 * r + i)) 1024 j j_below
 
   -- a valid entry of the root is that of a region that has a page
-  root_some : (r : ℕ) → valid (root_entry o r) ≡ true → has_region o.segments r ≡ true
+  root_some : (r : ℕ) → valid (root_entry p o r) ≡ true → has_region o.segments r ≡ true
   unfolding root_entry
   root_some r is_valid =
       elim (cases_Bool (has_region o.segments r)) [
@@ -203,7 +242,7 @@ module _ (o : Own) where
         | inr none ↦ absurd (true≢false (sym (rw none at is_valid) ∙ valid-zero))
       ]
 
-  pub root_is : (r : ℕ) → has_region o.segments r ≡ true → root_entry o r ≡ table_word (table_frame o r)
+  pub root_is : (r : ℕ) → has_region o.segments r ≡ true → root_entry p o r ≡ table_word (table_frame p o r)
   unfolding root_entry
   root_is r some = rw some refl
 
@@ -221,69 +260,91 @@ module _ (o : Own) where
   few_rights false false true = omega arith
   few_rights false false false = omega arith
 
-  leaf_low : (n : ℕ) (v : Option Rights) → rights_in o.segments n ≡ v → valid (leaf_with o n v) ≡ true → IsPageFrame o (ppn (leaf_with o n v))
+  -- what is so of each page's frame is so of each frame that a leaf names
+  leaf_names : (P : ℕ → Type 0) → ((n : ℕ) → is_page o.segments n ≡ true → P (page_frame p o n)) → (n : ℕ) (v : Option Rights) → rights_in o.segments n ≡ v
+      → valid (leaf_with p o n v) ≡ true → P (ppn (leaf_with p o n v))
   unfolding leaf_with
-  leaf_low n None e is_valid = absurd (true≢false (sym is_valid ∙ valid-zero))
-  leaf_low n (Some r) e is_valid =
-      subst (IsPageFrame o) (sym (leaf_frame (page_frame o n) (rights_number r) (few_rights r.read r.write r.execute))) (page_low n (rights_there o.segments n r e))
+  leaf_names P is n None e is_valid = absurd (true≢false (sym is_valid ∙ valid-zero))
+  leaf_names P is n (Some r) e is_valid =
+      subst P (sym (leaf_frame (page_frame p o n) (rights_number r) (few_rights r.read r.write r.execute))) (is n (rights_there o.segments n r e))
 
   -- an entry that is valid is a leaf
-  leaf_is : (n : ℕ) (v : Option Rights) → IsOwn o → rights_in o.segments n ≡ v → valid (leaf_with o n v) ≡ true → is_leaf (leaf_with o n v) ≡ true
+  leaf_is : (n : ℕ) (v : Option Rights) → IsOwn o → rights_in o.segments n ≡ v → valid (leaf_with p o n v) ≡ true → is_leaf (leaf_with p o n v) ≡ true
   unfolding leaf_with
   leaf_is n None sound e is_valid = absurd (true≢false (sym is_valid ∙ valid-zero))
-  leaf_is n (Some r) sound e is_valid = leaf-good (page_frame o n) (rights_number r) (rights_are_good o n r sound e)
+  leaf_is n (Some r) sound e is_valid = leaf-good (page_frame p o n) (rights_number r) (rights_are_good o n r sound e)
 
-  entry_is : (n : ℕ) → IsOwn o → valid (leaf_entry o n) ≡ true → is_leaf (leaf_entry o n) ≡ true
+  entry_is : (n : ℕ) → IsOwn o → valid (leaf_entry p o n) ≡ true → is_leaf (leaf_entry p o n) ≡ true
   unfolding leaf_entry
   entry_is n sound is_valid = leaf_is n (rights_in o.segments n) sound refl is_valid
 
-  entry_low : (n : ℕ) → valid (leaf_entry o n) ≡ true → IsPageFrame o (ppn (leaf_entry o n))
+  entry_names : (P : ℕ → Type 0) → ((n : ℕ) → is_page o.segments n ≡ true → P (page_frame p o n)) → (n : ℕ) → valid (leaf_entry p o n) ≡ true → P (ppn (leaf_entry p o n))
   unfolding leaf_entry
-  entry_low n is_valid = leaf_low n (rights_in o.segments n) refl is_valid
+  entry_names P is n is_valid = leaf_names P is n (rights_in o.segments n) refl is_valid
 
   -- ---- the domain reaches its own frames alone
 
-  module _ (p : Hardware) (m : Mem) (sound : IsOwn o) (held : o.first_frame + frames_in o.segments ≤ p.frames) where
-    some_at : (i : ℕ) → i < 1024 → valid (word (placed o m) o.first_frame i) ≡ true → has_region o.segments i ≡ true
+  module _ (m : Mem) (sound : IsOwn o) where
+    some_at : (i : ℕ) → i < 1024 → valid (word (placed p o m) (root_of p o) i) ≡ true → has_region o.segments i ≡ true
     some_at i below is_valid = root_some i (ap valid (sym (root_words m i below)) ∙ is_valid)
 
-    entry_at : (i : ℕ) → i < 1024 → valid (word (placed o m) o.first_frame i) ≡ true → word (placed o m) o.first_frame i ≡ table_word (table_frame o i)
+    entry_at : (i : ℕ) → i < 1024 → valid (word (placed p o m) (root_of p o) i) ≡ true → word (placed p o m) (root_of p o) i ≡ table_word (table_frame p o i)
     entry_at i below is_valid = root_words m i below ∙ root_is i (some_at i below is_valid)
 
-    table_is : (i : ℕ) → i < 1024 → valid (word (placed o m) o.first_frame i) ≡ true → ppn (word (placed o m) o.first_frame i) ≡ table_frame o i
-    table_is i below is_valid = ap ppn (entry_at i below is_valid) ∙ ppn-table (table_frame o i)
+    table_is : (i : ℕ) → i < 1024 → valid (word (placed p o m) (root_of p o) i) ≡ true → ppn (word (placed p o m) (root_of p o) i) ≡ table_frame p o i
+    table_is i below is_valid = ap ppn (entry_at i below is_valid) ∙ ppn-table (table_frame p o i)
 
-    placed_map : IsPageMap (placed o m) o.first_frame p.frames
+    placed_map : IsPageMap (placed p o m) (root_of p o) p.frames
     placed_map = record {
-      in_memory = omega (arith, held);
+      in_memory = pool_inside p o 0 root_place;
       tables = λ i below is_valid.
           let table = table_is i below is_valid in
-          let low = table_low i below (some_at i below is_valid) in
+          let some = some_at i below is_valid in
           record {
             pointer = entry_at i below is_valid ∙ ap table_word (sym table);
-            in_memory = omega (arith, table, low.1, held);
-            apart = λ e. omega (arith, table, low.0, e);
+            in_memory = subst (λ (f : ℕ). f < p.frames) (sym table) (own_inside p o _ (own_table i below some));
+            apart = λ e. table_no_root i below some (sym table ∙ e);
           };
-      once = λ i j i_below j_below i_valid j_valid e.
-          let same : table_frame o i ≡ table_frame o j = sym (table_is i i_below i_valid) ∙ e ∙ table_is j j_below j_valid in
-          region_once o.segments i j (some_at i i_below i_valid) (some_at j j_below j_valid) (omega (arith, same));
     }
 
-    leaf_words : (i j : ℕ) → i < 1024 → j < 1024 → valid (word (placed o m) o.first_frame i) ≡ true → leaf_at (placed o m) o.first_frame i j ≡ leaf_entry o (1024 * i + j)
-    leaf_words i j i_below j_below i_valid =
-        ap (λ (f : ℕ). word (placed o m) f j) (table_is i i_below i_valid) ∙ table_words m i j i_below j_below (some_at i i_below i_valid)
+    placed_once_each : TablesOnce (placed p o m) (root_of p o)
+    placed_once_each = record {
+      once = λ i j i_below j_below i_valid j_valid e.
+          let same : table_frame p o i ≡ table_frame p o j = sym (table_is i i_below i_valid) ∙ e ∙ table_is j j_below j_valid in
+          tables_once i j i_below j_below (some_at i i_below i_valid) (some_at j j_below j_valid) same;
+    }
 
-    pub good_placed : Good p o (placed o m)
+    leaf_words : (i j : ℕ) → i < 1024 → j < 1024 → valid (word (placed p o m) (root_of p o) i) ≡ true → leaf_at (placed p o m) (root_of p o) i j ≡ leaf_entry p o (1024 * i + j)
+    leaf_words i j i_below j_below i_valid =
+        ap (λ (f : ℕ). word (placed p o m) f j) (table_is i i_below i_valid) ∙ table_words m i j i_below j_below (some_at i i_below i_valid)
+
+    page_apart : (n : ℕ) → is_page o.segments n ≡ true → IsApart (placed p o m) (root_of p o) (page_frame p o n)
+    page_apart n there = record {
+      no_root = page_no_root n there;
+      no_table = record {
+        unnamed = λ i below is_valid e. page_no_table n i there below (some_at i below is_valid) (sym e ∙ table_is i below is_valid);
+      };
+    }
+
+    pages_are : (P : ℕ → Type 0) → ((n : ℕ) → is_page o.segments n ≡ true → P (page_frame p o n)) → PagesIn P (placed p o m) (root_of p o)
+    pages_are P is = record {
+      each = λ i j i_below j_below i_valid j_valid.
+          let leaf = leaf_words i j i_below j_below i_valid in
+          subst (λ (w : ℕ). P (ppn w)) (sym leaf) (entry_names P is (1024 * i + j) (ap valid (sym leaf) ∙ j_valid));
+    }
+
+    pub good_placed : Good p o (placed p o m)
     good_placed = record {
       map = placed_map;
-      tables = record {
-        each = λ i below is_valid. subst (IsTableFrame o) (sym (table_is i below is_valid)) (table_low i below (some_at i below is_valid));
+      once = placed_once_each;
+      root = own_root;
+      reaches = record {
+        tables = record {
+          each = λ i below is_valid. subst (IsOwnFrame p o) (sym (table_is i below is_valid)) (own_table i below (some_at i below is_valid));
+        };
+        pages = pages_are (IsOwnFrame p o) own_page;
       };
-      pages = record {
-        each = λ i j i_below j_below i_valid j_valid.
-            let leaf = leaf_words i j i_below j_below i_valid in
-            subst (λ (w : ℕ). IsPageFrame o (ppn w)) (sym leaf) (entry_low (1024 * i + j) (ap valid (sym leaf) ∙ j_valid));
-      };
+      sealed = pages_are (IsApart (placed p o m) (root_of p o)) page_apart;
       leaves = record {
         each = λ i j i_below j_below i_valid j_valid.
             let leaf = leaf_words i j i_below j_below i_valid in
@@ -293,22 +354,31 @@ module _ (o : Own) where
 
 -- ---- all domains
 
+-- a domain that finds enough frames in its pool leaves those of others
+abbrev Leaves : Hardware → Own → Type 0
+Leaves p o = (m : Mem) (f : ℕ) → own_frame p o f ≡ false → frame_at (placed p o m) f ≡ frame_at m f
+
 -- frames that no domain has are empty
-none_placed : (p : Hardware) (os : List Own) (f : ℕ) → ((e : ℕ) → e < length os → own_frame p (get_or os e no_own) f ≡ false) → frame_at (all_placed os) f ≡ frame_at empty f
+none_placed : (p : Hardware) (os : List Own) (f : ℕ) → ((e : ℕ) → e < length os → Leaves p (get_or os e no_own)) → ((e : ℕ) → e < length os → own_frame p (get_or os e no_own) f ≡ false)
+    → frame_at (all_placed p os) f ≡ frame_at empty f
 unfolding all_placed
-none_placed p [] f out = refl
-none_placed p (o ∷ os) f out = placed_other o p (all_placed os) f (out 0 (omega arith)) ∙ none_placed p os f (λ e h. out (suc e) (omega (arith, h)))
+none_placed p [] f leaves out = refl
+none_placed p (o ∷ os) f leaves out =
+    leaves 0 (omega arith) (all_placed p os) f (out 0 (omega arith))
+    ∙ none_placed p os f (λ e h. leaves (suc e) (omega (arith, h))) (λ e h. out (suc e) (omega (arith, h)))
 
 -- domain d's frames, where no other domain has them
-pub placed_once : (p : Hardware) (os : List Own) (d f : ℕ) → d < length os
+pub placed_once : (p : Hardware) (os : List Own) (d f : ℕ) → d < length os → ((e : ℕ) → e < length os → Leaves p (get_or os e no_own))
     → ((e : ℕ) → e < length os → e ≢ d → own_frame p (get_or os e no_own) f ≡ false)
-    → frame_at (all_placed os) f ≡ frame_at (placed (get_or os d no_own) empty) f
+    → frame_at (all_placed p os) f ≡ frame_at (placed p (get_or os d no_own) empty) f
 unfolding all_placed
-placed_once p [] d f lt apart = absurd (omega arith)
-placed_once p (o ∷ os) zero f lt apart = placed_alike o f (all_placed os) empty (none_placed p os f (λ e h. apart (suc e) (omega (arith, h)) (λ z. cc)))
-placed_once p (o ∷ os) (suc d) f lt apart =
-    placed_other o p (all_placed os) f (apart 0 (omega arith) (λ z. cc))
-    ∙ placed_once p os d f (omega arith) (λ e l ne. apart (suc e) (omega (arith, l)) (λ q. ne (omega arith)))
+placed_once p [] d f lt leaves apart = absurd (omega arith)
+placed_once p (o ∷ os) zero f lt leaves apart =
+    placed_alike p o f (all_placed p os) empty
+    (none_placed p os f (λ e h. leaves (suc e) (omega (arith, h))) (λ e h. apart (suc e) (omega (arith, h)) (λ z. cc)))
+placed_once p (o ∷ os) (suc d) f lt leaves apart =
+    leaves 0 (omega arith) (all_placed p os) f (apart 0 (omega arith) (λ z. cc))
+    ∙ placed_once p os d f (omega arith) (λ e h. leaves (suc e) (omega (arith, h))) (λ e l ne. apart (suc e) (omega (arith, l)) (λ q. ne (omega arith)))
 
 doms_at : (os : List Own) (b j : ℕ) → j < length os → at no_dom (opening_doms os b) (b + j) ≡ opening_dom (get_or os j no_own)
 unfolding opening_doms
@@ -323,16 +393,17 @@ module _ (i : Image) (r : Separated i) where
   unfolding opening
   opening_dom_is d is = ap (at no_dom (opening_doms i.owns 0)) (omega arith) ∙ doms_at i.owns 0 d is
 
-  pub opening_frames : (d : ℕ) → IsDomain i d → SameFrames i.all.hardware (own_of i d) (opening i).store.mem (alone_opening i.all.hardware (own_of i d)).store.mem
+  pub opening_frames : (d : ℕ) → IsDomain i d → SameFrames i.all.hardware (own_of i d) (opening i).storage.mem (alone_opening i.all.hardware (own_of i d)).storage.mem
   unfolding opening alone_opening
   opening_frames d is f own =
-      placed_once i.all.hardware i.owns d f is (λ e ie ne. r.apart e d ie is ne f own)
+      let p = i.all.hardware in
+      placed_once p i.owns d f is (λ e ie. placed_other p (own_of i e) (r.enough e ie)) (λ e ie ne. r.apart e d ie is ne f own)
 
   -- each domain reaches its own frames alone
-  pub opening_good : (d : ℕ) → IsDomain i d → Good i.all.hardware (own_of i d) (opening i).store.mem
+  pub opening_good : (d : ℕ) → IsDomain i d → Good i.all.hardware (own_of i d) (opening i).storage.mem
   unfolding opening alone_opening
   opening_good d is =
       let p = i.all.hardware in
       let o = own_of i d in
-      good_same p o (placed o empty) (all_placed i.owns) (good_placed o p empty (r.sound d) (r.held d is))
-      (λ f low high. opening_frames d is f (frame_inside p o f low (omega (arith, high))))
+      let good = good_placed p o (r.enough d is) empty (r.sound d) in
+      good_same p o (placed p o empty) (all_placed p i.owns) good (tables_of_frames p o (placed p o empty) (all_placed p i.owns) good (opening_frames d is))

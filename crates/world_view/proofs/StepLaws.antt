@@ -4,12 +4,13 @@ use Rattle.tp_base.specs.Act.{either}
 use Rattle.image_check.specs.Public.{Hardware}
 use Rattle.image_check.specs.Own.{Own}
 use Rattle.world_view.specs.Domain.{Dom}
-use Rattle.world_view.specs.Reach.{Touch, Caches, reach_all}
-use Rattle.world_view.specs.Event.{Store, instruction, Event, event}
+use Rattle.world_view.specs.Cost.{Touch, Caches, touched_all}
+use Rattle.world_view.specs.Event.{Storage, instruction, Event, event}
 use Rattle.world_view.specs.Event.Event.{Jump, Run}
 use Rattle.world_view.specs.Machine.{Local, paid, happened, step, steps, stretch}
-use Rattle.world_view.specs.Laws.{Good, BesideStore, BesideCaches, BesideReached, Beside}
-use Rattle.world_view.proofs.ReachLaws.{reach_all_near}
+use Rattle.world_view.specs.Frames.{root_of}
+use Rattle.world_view.specs.Relations.{Good, BesideStorage, BesideCaches, BesideTouched, Beside}
+use Rattle.world_view.proofs.CostLaws.{touched_all_near}
 use Rattle.world_view.proofs.ActLaws.{instruction_near}
 
 both_if : (R : Local → Local → Type 0) (x y : Bool) → x ≡ y → (s t a b : Local) → R s a → R t b → R (elim x [ true ↦ s | false ↦ t ]) (elim y [ true ↦ a | false ↦ b ])
@@ -20,21 +21,21 @@ both_if R false false e s t a b h k = k
 
 module _ (p : Hardware) (o : Own) (end : ℕ) (first : Local) where
   -- the same event, of the same domain at the same clock
-  happened_near : (d : Dom) (t : ℕ) (s a : Store) (c k : Caches) (e : Event) → BesideStore p o first.store s a → BesideCaches p o first.caches c k
-      → Beside p o first (happened p o false (record { dom = d; store = s; caches = c; clock = t }) e) (happened p o true (record { dom = d; store = a; caches = k; clock = t }) e)
+  happened_near : (d : Dom) (t : ℕ) (s a : Storage) (c k : Caches) (e : Event) → BesideStorage p o first.storage s a → BesideCaches p o first.caches c k
+      → Beside p o first (happened p o false (record { dom = d; storage = s; caches = c; clock = t }) e) (happened p o true (record { dom = d; storage = a; caches = k; clock = t }) e)
   unfolding happened paid
-  happened_near d t s a c k (Jump u) store caches = record { dom = refl; store = store; caches = caches; clock = refl }
-  happened_near d t s a c k Run store caches =
-      let n = (instruction_near p o first.store t d).runs s a store in
-      let ts = (instruction p o t d s).notes in
-      let r = subst (λ (us : List Touch). BesideReached p o first.caches (reach_all p false c ts) (reach_all p true k us)) n.notes (reach_all_near p o first.caches ts c k n.may caches) in
-      record { dom = ap either n.value; store = n.state; caches = r.caches; clock = ap (λ x. t + (p.base + x)) r.cost }
+  happened_near d t s a c k (Jump u) storage caches = record { dom = refl; storage = storage; caches = caches; clock = refl }
+  happened_near d t s a c k Run storage caches =
+      let n = (instruction_near p o first.storage (λ _. Unit {0}) t d).runs s a storage tt in
+      let ts = (instruction p (root_of p o) t d s).notes in
+      let r = subst (λ (us : List Touch). BesideTouched p o first.caches (touched_all p false c ts) (touched_all p true k us)) n.notes (touched_all_near p o first.caches ts c k n.may caches) in
+      record { dom = ap either n.value; storage = n.state; caches = r.caches; clock = ap (λ x. t + (p.base + x)) r.cost }
 
   pub step_near : (s a : Local) → Beside p o first s a → Beside p o first (step p o false end s) (step p o true end a)
   unfolding step
   step_near s a b =
-      subst₂ (λ (d : Dom) (t : ℕ). Beside p o first (happened p o false s (event end s.dom)) (happened p o true (record { dom = d; store = a.store; caches = a.caches; clock = t }) (event end d))) b.dom b.clock
-      (happened_near s.dom s.clock s.store a.store s.caches a.caches (event end s.dom) b.store b.caches)
+      subst₂ (λ (d : Dom) (t : ℕ). Beside p o first (happened p o false s (event end s.dom)) (happened p o true (record { dom = d; storage = a.storage; caches = a.caches; clock = t }) (event end d))) b.dom b.clock
+      (happened_near s.dom s.clock s.storage a.storage s.caches a.caches (event end s.dom) b.storage b.caches)
 
   pub steps_near : (n : ℕ) (s a : Local) → Beside p o first s a → Beside p o first (steps p o false end n s) (steps p o true end n a)
   unfolding steps
@@ -47,10 +48,10 @@ module _ (p : Hardware) (o : Own) (end : ℕ) (first : Local) where
       subst (λ (t : ℕ). Beside p o first (stretch p o false end s) (steps p o true end (end - t) a)) b.clock (steps_near (end - s.clock) s a b)
 
 -- a state is beside itself
-pub beside_itself : (p : Hardware) (o : Own) (s : Local) → Good p o s.store.mem → Beside p o s s s
+pub beside_itself : (p : Hardware) (o : Own) (s : Local) → Good p o s.storage.mem → Beside p o s s s
 beside_itself p o s good = record {
   dom = refl;
-  store = record { good = good; same = λ f h. refl; outside = λ f h. refl };
+  storage = record { good = good; same = λ f h. refl; outside = λ f h. refl };
   caches = record { core = refl; same = tt; resident = tt };
   clock = refl;
 }

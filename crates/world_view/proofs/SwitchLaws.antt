@@ -1,28 +1,37 @@
 -- What one event and one phase do to a domain, its own or another's.
 use Rattle.std.proofs.Common.{◌≡◌, ◌≢◌, ℕ, true, false, ap, sym, refl, subst}
+use Rattle.tp_base.specs.Table.{at-put_other}
 use Rattle.image_check.specs.Own.{Own}
-use Rattle.world_view.specs.Image.{Image, own_of}
+use Rattle.image_check.specs.Image.{Image, own_of}
 use Rattle.world_view.specs.Schedule.{entry_of_slot, outgoing}
-use Rattle.world_view.specs.Reach.{Caches, fresh_core, and_then}
-use Rattle.world_view.specs.Machine.{Local, World, step, enter_touches, leave_part, prefetch_part, flush_part, enter_part, switch_work, part_of, switch, alone_enter, alone_out}
-use Rattle.world_view.specs.Laws.{IsDomain, SameFrames, Good, BesideStore, BesideReached, Within, Apiece, Untouched, InTime, MayAll}
+use Rattle.world_view.specs.Domain.{no_dom}
+use Rattle.world_view.specs.Cost.{Caches, fresh_core, and_then}
+use Rattle.world_view.specs.Machine.{Local, World, step, enter_touches, leave_part, prefetch_part, flush_part, enter_part, switch_work, part_of, with_part, switch, alone_enter, alone_out}
+use Rattle.world_view.specs.Laws.{event_of}
+use Rattle.world_view.specs.Relations.{IsDomain, SameFrames, Good, BesideStorage, BesideTouched, Within, Apiece, Untouched, InTime, MayAll}
 use Rattle.world_view.proofs.Separate.{Separated}
-use Rattle.world_view.proofs.ReachLaws.{reach_all_near}
+use Rattle.world_view.proofs.CostLaws.{touched_all_near}
 use Rattle.world_view.proofs.StepLaws.{step_near, beside_itself}
 use Rattle.world_view.proofs.TimeLaws.{switch_on_time}
 
 -- what another domain did to its own frames alone
 pub others_frames : (i : Image) (d e : ℕ) → Separated i → IsDomain i d → IsDomain i e → d ≢ e → (later s a : Local)
-    → BesideStore i.all.hardware (own_of i e) s.store later.store a.store → SameFrames i.all.hardware (own_of i d) later.store.mem s.store.mem
+    → BesideStorage i.all.hardware (own_of i e) s.storage later.storage a.storage → SameFrames i.all.hardware (own_of i d) later.storage.mem s.storage.mem
 others_frames i d e r is ie ne later s a b f own = b.outside f (r.apart e d ie is (λ q. ne (sym q)) f own)
 
-pub others_step : (i : Image) (d e end : ℕ) (s : Local) → Separated i → IsDomain i d → IsDomain i e → d ≢ e → Good i.all.hardware (own_of i e) s.store.mem
-    → Untouched i.all.hardware (own_of i d) (step i.all.hardware (own_of i e) false end s) s
-others_step i d e end s r is ie ne good =
+pub others_step : (i : Image) (d e end : ℕ) (w : World) → Separated i → IsDomain i d → IsDomain i e → d ≢ e → Good i.all.hardware (own_of i e) w.storage.mem
+    → Untouched i.all.hardware (own_of i d) d (event_of i e end w) w
+unfolding event_of with_part
+others_step i d e end w r is ie ne good =
     let p = i.all.hardware in
     let o = own_of i e in
+    let s = part_of e w in
     let b = step_near p o end s s s (beside_itself p o s good) in
-    record { frames = others_frames i d e r is ie ne (step p o false end s) s (step p o true end s) b.store; sets = tt }
+    record {
+      dom = at-put_other no_dom w.doms e d _ ne;
+      frames = others_frames i d e r is ie ne (step p o false end s) s (step p o true end s) b.storage;
+      sets = tt;
+    }
 
 module _ (i : Image) (k d : ℕ) (w : World) (a : Local) where
   -- the memory and the domains stay in a switch
@@ -35,10 +44,10 @@ module _ (i : Image) (k d : ℕ) (w : World) (a : Local) where
   switch_out h = record { dom = h.dom; frames = h.frames; sets = tt }
 
   -- fresh on-core state, and the same touches on both sides
-  entered : (o : Own) (c l : Caches) → MayAll i.all.hardware o (enter_touches i.all.hardware o) → BesideReached i.all.hardware o c (enter_part i.all.hardware o false (flush_part i.all.hardware c).caches) (enter_part i.all.hardware o true (record l { core = fresh_core i.all.hardware }))
+  entered : (o : Own) (c l : Caches) → MayAll i.all.hardware o (enter_touches i.all.hardware o) → BesideTouched i.all.hardware o c (enter_part i.all.hardware o false (flush_part i.all.hardware c).caches) (enter_part i.all.hardware o true (record l { core = fresh_core i.all.hardware }))
   unfolding enter_part flush_part
   entered o c l may =
-      reach_all_near i.all.hardware o c (enter_touches i.all.hardware o) (flush_part i.all.hardware c).caches (record l { core = fresh_core i.all.hardware }) may (record { core = refl; same = tt; resident = tt })
+      touched_all_near i.all.hardware o c (enter_touches i.all.hardware o) (flush_part i.all.hardware c).caches (record l { core = fresh_core i.all.hardware }) may (record { core = refl; same = tt; resident = tt })
 
 module _ (i : Image) (k : ℕ) (r : Separated i) (w : World) (time : InTime i k w) where
   enter_core : (o : Own) (a : Local) → o ≡ own_of i (entry_of_slot i.all.schedule k).domain → (switch i k w).caches.core ≡ (alone_enter i.all o k a).caches.core

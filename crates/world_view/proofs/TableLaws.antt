@@ -1,145 +1,89 @@
--- Walks of a domain's page tables stay in its own frames, as long as its tables are as they were.
-use Rattle.std.proofs.Common.{◌≡◌, ◌≢◌, ℕ, ◌+◌, ◌/◌, ◌<◌, ◌≤◌, true, false, inl, inr, refl, sym, ap, subst, ◌∙◌, arith, IsTrue, true≢false}
+-- Page tables by which a domain reaches its own frames alone: where they are as they were, they are good, and walks of
+-- them stay in its frames.
+use Rattle.std.proofs.Common.{◌≡◌, ◌≢◌, ℕ, ◌<◌, true, sym, ap, subst, ◌∙◌}
 use Rattle.std.specs.Prelude.{Ok, Err}
-use Rattle.std.proofs.lemmas.Bool.{cases_Bool, le-leb, lt-ltb}
 use Rattle.tp_base.specs.Table.{at}
 use Rattle.phys_mem.specs.Mem.{Mem, Frame, frame_at, word}
 use Rattle.sv32_walk.specs.declared.access.Access.{Access}
-use Rattle.sv32_walk.specs.declared.access.Access.TheVariants as access
 use Rattle.sv32_walk.specs.declared.access.WalkFault.TheVariants as fault
-use Rattle.sv32_walk.specs.Entry.{valid, ppn, vpn_0, vpn_1}
-use Rattle.sv32_walk.specs.Walk.{walk, is_leaf, permits, entry_address}
-use Rattle.sv32_walk.specs.Translation.{Points, first_entry, HasLeaf, big, small, LeavesMemory, root_outside, table_outside, big_outside, page_outside}
-use Rattle.sv32_walk.proofs.WalkLemmas.{leaf_in_words, outside_in_words, both_read}
-use Rattle.page_map.specs.Tables.{IsPointer, has_table, table_of}
-use Rattle.page_map.specs.Reached.{leaf_at}
-use Rattle.page_map.proofs.WalkLemmas.{no_entry, walk_same, vpn_0-below, vpn_1-below}
-use Rattle.page_map.proofs.KeptLemmas.{pointer-points, kept_by}
+use Rattle.sv32_walk.specs.PageTableEntry.{valid, ppn, is_leaf}
+use Rattle.sv32_walk.specs.Walk.{walk}
+use Rattle.page_map.specs.Reached.{leaf_at, PagesIn, IsApart, SameTables}
+use Rattle.page_map.proofs.KeptLemmas.{kept_by, once_by}
+use Rattle.page_map.proofs.ReachLemmas.{same_reaches, same_sealed}
+use Rattle.page_map.proofs.ReachedWalks.{walk_reads, walk_page, walk_inside}
+use Rattle.page_map.proofs.WalkLemmas.{walk_by_tables}
 use Rattle.image_check.specs.Public.{Hardware}
 use Rattle.image_check.specs.Own.{Own}
-use Rattle.world_view.specs.Frames.{own_frame, frames_in, first_page_frame}
-use Rattle.world_view.specs.Laws.{SameFrames, AllOwn, IsTableFrame, IsPageFrame, Good}
+use Rattle.world_view.specs.Frames.{root_of}
+use Rattle.world_view.specs.Relations.{IsOwnFrame, SameFrames, AllOwn, Good}
+use Rattle.world_view.proofs.PoolLaws.{own_inside}
 
--- ---- frames
+-- a frame of the domain's own that holds none of its page tables
+pub record IsPage (p : Hardware) (o : Own) (m : Mem) (f : ℕ) : Type 0 where
+  pub own : IsOwnFrame p o f
+  pub apart : IsApart m (root_of p o) f
 
-pub frame_inside : (p : Hardware) (o : Own) (f : ℕ) → o.first_frame ≤ f → f < o.first_frame + frames_in o.segments → IsTrue (own_frame p o f)
-frame_inside p o f low high = rw (le-leb o.first_frame f low, lt-ltb f (o.first_frame + frames_in o.segments) high) refl
+-- ---- a memory in which the tables are the same
 
-pub own_root : (p : Hardware) (o : Own) → IsTrue (own_frame p o o.first_frame)
-own_root p o = frame_inside p o o.first_frame (omega arith) (omega arith)
-
-pub own_table : (p : Hardware) (o : Own) (f : ℕ) → IsTableFrame o f → IsTrue (own_frame p o f)
-own_table p o f is = frame_inside p o f (omega (arith, is.0)) (omega (arith, is.1))
-
-pub own_page : (p : Hardware) (o : Own) (f : ℕ) → IsPageFrame o f → IsTrue (own_frame p o f)
-own_page p o f is = frame_inside p o f (omega (arith, is.0)) is.1
-
-pub same_word : (m k : Mem) (f i : ℕ) → frame_at k f ≡ frame_at m f → word k f i ≡ word m f i
-unfolding word
-same_word m k f i e = ap (λ (x : Frame). at 0 x i) e
-
--- ---- a memory in which the root and the tables are the same
-
-module _ (p : Hardware) (o : Own) (m k : Mem) (g : Good p o m) (same : (f : ℕ) → o.first_frame ≤ f → f < first_page_frame o → frame_at k f ≡ frame_at m f) where
-  root_same : (i : ℕ) → word k o.first_frame i ≡ word m o.first_frame i
-  root_same i = same_word m k o.first_frame i (same o.first_frame (omega arith) (omega arith))
-
-  leaf_same : (i j : ℕ) → i < 1024 → valid (word m o.first_frame i) ≡ true → leaf_at k o.first_frame i j ≡ leaf_at m o.first_frame i j
-  leaf_same i j below is_valid =
-      let table = g.tables.each i below is_valid in
-      ap (λ (e : ℕ). word k (ppn e) j) (root_same i)
-      ∙ same_word m k (ppn (word m o.first_frame i)) j (same (ppn (word m o.first_frame i)) (omega (arith, table.0)) table.1)
-
-  pub good_same : Good p o k
-  good_same = record {
-    map = kept_by m k o.first_frame p.frames root_same g.map;
-    tables = record {
-      each = λ i below is_valid. subst (λ (e : ℕ). IsTableFrame o (ppn e)) (sym (root_same i)) (g.tables.each i below (ap valid (sym (root_same i)) ∙ is_valid));
-    };
-    pages = record {
-      each = λ i j i_below j_below i_valid j_valid.
-          let was : valid (word m o.first_frame i) ≡ true = ap valid (sym (root_same i)) ∙ i_valid in
-          let leaf = leaf_same i j i_below was in
-          subst (λ (w : ℕ). IsPageFrame o (ppn w)) (sym leaf) (g.pages.each i j i_below j_below was (ap valid (sym leaf) ∙ j_valid));
-    };
+module _ (p : Hardware) (o : Own) (m k : Mem) (g : Good p o m) where
+  pub good_same : SameTables m k (root_of p o) → Good p o k
+  good_same same = record {
+    map = kept_by m k (root_of p o) same.in_root p.frames g.map;
+    once = once_by m k (root_of p o) same.in_root g.once;
+    root = g.root;
+    reaches = same_reaches m k (root_of p o) same (IsOwnFrame p o) g.reaches;
+    sealed = same_sealed m k (root_of p o) same g.sealed;
     leaves = record {
       each = λ i j i_below j_below i_valid j_valid.
-          let was : valid (word m o.first_frame i) ≡ true = ap valid (sym (root_same i)) ∙ i_valid in
-          let leaf = leaf_same i j i_below was in
+          let was : valid (word m (root_of p o) i) ≡ true = ap valid (sym (same.in_root i i_below)) ∙ i_valid in
+          let leaf = same.in_tables i j i_below j_below was in
           subst (λ (w : ℕ). is_leaf w ≡ true) (sym leaf) (g.leaves.each i j i_below j_below was (ap valid (sym leaf) ∙ j_valid));
     };
   }
 
+  same_word : (f i : ℕ) → frame_at k f ≡ frame_at m f → word k f i ≡ word m f i
+  unfolding word
+  same_word f i e = ap (λ (x : Frame). at 0 x i) e
+
+  -- where all of the domain's frames are the same, so are its tables
+  pub tables_of_frames : ((f : ℕ) → IsOwnFrame p o f → frame_at k f ≡ frame_at m f) → SameTables m k (root_of p o)
+  tables_of_frames same =
+      let in_root : (i : ℕ) → word k (root_of p o) i ≡ word m (root_of p o) i = λ i. same_word (root_of p o) i (same (root_of p o) g.root) in
+      record {
+        in_root = λ i below. in_root i;
+        in_tables = λ i j i_below j_below is_valid.
+            ap (λ (e : ℕ). word k (ppn e) j) (in_root i)
+            ∙ same_word (ppn (word m (root_of p o) i)) j (same (ppn (word m (root_of p o) i)) (g.reaches.tables.each i i_below is_valid));
+      }
+
 -- ---- walks
 
-entry_frame : (table index : ℕ) → index < 1024 → entry_address table index / 4096 ≡ table
-unfolding entry_address
-entry_frame table index below = omega (arith, below)
-
--- a pointer permits no access
-pointer_permits : (entry : ℕ) (a : Access) → Points entry → permits a entry ≡ false
-pointer_permits entry access.Fetch p = p.no_execute
-pointer_permits entry access.Load p = p.no_read
-pointer_permits entry access.Store p = p.no_write
-
 module _ (p : Hardware) (o : Own) (m : Mem) (g : Good p o m) (va : ℕ) (a : Access) where
-  pointer : has_table m o.first_frame va ≡ true → IsPointer (first_entry m o.first_frame va) o.first_frame p.frames
-  pointer there = g.map.tables (vpn_1 va) (vpn_1-below va) there
+  -- a walk reads the domain's frames alone
+  pub own_reads : AllOwn p o (walk m p.frames (root_of p o) va a).reads
+  own_reads = walk_reads m (root_of p o) p.frames g.map va a (IsOwnFrame p o) g.root g.reaches.tables
 
-  points : has_table m o.first_frame va ≡ true → Points (first_entry m o.first_frame va)
-  points there = pointer-points (first_entry m o.first_frame va) o.first_frame p.frames (pointer there)
-
-  own_entry : (table index : ℕ) → index < 1024 → IsTrue (own_frame p o table) → IsTrue (own_frame p o (entry_address table index / 4096))
-  own_entry table index below own = ap (own_frame p o) (entry_frame table index below) ∙ own
-
-  root_read : IsTrue (own_frame p o (entry_address o.first_frame (vpn_1 va) / 4096))
-  root_read = own_entry o.first_frame (vpn_1 va) (vpn_1-below va) (own_root p o)
-
-  -- it reads the domain's frames alone
-  pub walk_reads : AllOwn p o (walk m p.frames o.first_frame va a).reads
-  walk_reads =
-      elim (cases_Bool (has_table m o.first_frame va)) [
-        | inl there ↦
-            let table = g.tables.each (vpn_1 va) (vpn_1-below va) there in
-            let at_table = own_entry (table_of m o.first_frame va) (vpn_0 va) (vpn_0-below va) (own_table p o (table_of m o.first_frame va) table) in
-            rw (both_read m p.frames o.first_frame va a g.map.in_memory (points there) (pointer there).in_memory) (root_read, (at_table, tt))
-        | inr none ↦ rw (no_entry m p.frames o.first_frame va a g.map.in_memory none) (root_read, tt)
-      ]
-
-  page_of_leaf : (leaf : ℕ) → HasLeaf m p.frames o.first_frame va a leaf → IsPageFrame o (ppn leaf)
-  page_of_leaf leaf (big b within is) =
-      absurd (true≢false (sym b.allowed.permission ∙ pointer_permits (first_entry m o.first_frame va) a (points b.allowed.is_valid)))
-  page_of_leaf leaf (small q within is) =
-      subst (λ (w : ℕ). IsPageFrame o (ppn w)) (sym is)
-      (g.pages.each (vpn_1 va) (vpn_0 va) (vpn_1-below va) (vpn_0-below va) q.pointer.is_valid q.allowed.is_valid)
+  pages : PagesIn (IsPage p o m) m (root_of p o)
+  pages = record {
+    each = λ i j i_below j_below i_valid j_valid. record {
+      own = g.reaches.pages.each i j i_below j_below i_valid j_valid;
+      apart = g.sealed.each i j i_below j_below i_valid j_valid;
+    };
+  }
 
   -- and comes to a page of the domain
-  pub walk_page : (leaf : ℕ) → (walk m p.frames o.first_frame va a).result ≡ Ok leaf → IsPageFrame o (ppn leaf)
-  walk_page leaf e = page_of_leaf leaf ((leaf_in_words m p.frames o.first_frame va a leaf).0 e)
-
-  within_memory : o.first_frame + frames_in o.segments ≤ p.frames → LeavesMemory m p.frames o.first_frame va a → ⊥
-  within_memory held (root_outside past) = absurd (omega (arith, held, past))
-  within_memory held (table_outside in_root q past) = let table = (pointer q.is_valid).in_memory in absurd (omega (arith, table, past))
-  within_memory held (big_outside b past) =
-      true≢false (sym b.allowed.permission ∙ pointer_permits (first_entry m o.first_frame va) a (points b.allowed.is_valid))
-  within_memory held (page_outside q past) =
-      let page = g.pages.each (vpn_1 va) (vpn_0 va) (vpn_1-below va) (vpn_0-below va) q.pointer.is_valid q.allowed.is_valid in
-      absurd (omega (arith, page.1, held, past))
+  pub own_page : (leaf : ℕ) → (walk m p.frames (root_of p o) va a).result ≡ Ok leaf → IsPage p o m (ppn leaf)
+  own_page leaf e = walk_page m (root_of p o) p.frames g.map va a (IsPage p o m) pages leaf e
 
   -- within memory
-  pub walk_inside : o.first_frame + frames_in o.segments ≤ p.frames → (walk m p.frames o.first_frame va a).result ≢ Err fault.Access
-  walk_inside held e = within_memory held ((outside_in_words m p.frames o.first_frame va a).0 e)
+  pub no_access_fault : (walk m p.frames (root_of p o) va a).result ≢ Err fault.Access
+  no_access_fault =
+      walk_inside m (root_of p o) p.frames g.map va a (record {
+        each = λ i j i_below j_below i_valid j_valid. own_inside p o _ (g.reaches.pages.each i j i_below j_below i_valid j_valid);
+      })
 
   -- so it is the same wherever these frames are
-  pub walk_alike : (k : Mem) → SameFrames p o m k → walk k p.frames o.first_frame va a ≡ walk m p.frames o.first_frame va a
+  pub walk_alike : (k : Mem) → SameFrames p o m k → walk k p.frames (root_of p o) va a ≡ walk m p.frames (root_of p o) va a
   walk_alike k same =
-      let first : first_entry k o.first_frame va ≡ first_entry m o.first_frame va = same_word m k o.first_frame (vpn_1 va) (sym (same o.first_frame (own_root p o))) in
-      elim (cases_Bool (has_table m o.first_frame va)) [
-        | inl there ↦
-            let table = own_table p o (table_of m o.first_frame va) (g.tables.each (vpn_1 va) (vpn_1-below va) there) in
-            walk_same m k p.frames o.first_frame va a g.map.in_memory first
-            (same_word m k (table_of m o.first_frame va) (vpn_0 va) (sym (same (table_of m o.first_frame va) table)))
-        | inr none ↦
-            no_entry k p.frames o.first_frame va a g.map.in_memory (ap valid first ∙ none)
-            ∙ sym (no_entry m p.frames o.first_frame va a g.map.in_memory none)
-      ]
+      walk_by_tables m k p.frames (root_of p o) va a g.map.in_memory (tables_of_frames p o m k g (λ f own. sym (same f own)))

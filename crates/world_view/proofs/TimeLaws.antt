@@ -1,19 +1,20 @@
 -- When slots end and begin.
-use Rattle.std.proofs.Common.{◌≡◌, ℕ, Bool, true, false, cond, ltb, zero, suc, ◌+◌, ◌-◌, ◌<◌, ◌≤◌, List, [], ◌∷◌, ◌++◌, Option, Some, None, refl, arith, ltb-true}
+use Rattle.std.proofs.Common.{◌≡◌, ℕ, Bool, true, false, cond, eqb, eqb-true, ltb, max, subst, zero, suc, ◌+◌, ◌-◌, ◌<◌, ◌≤◌, List, [], ◌∷◌, ◌++◌, Option, Some, None, refl, arith, ltb-true}
 use Rattle.std.proofs.lemmas.Bool.Decides.{nat_tests}
-use Rattle.image_check.specs.Public.{Hardware, Entry}
+use Rattle.image_check.specs.Public.{Hardware, Entry, entry_in}
 use Rattle.image_check.specs.Own.{Own}
-use Rattle.world_view.specs.Image.{Image, own_of}
-use Rattle.world_view.specs.Schedule.{entry_of_slot, pad_of, start, slot_end, ended, outgoing}
+use Rattle.image_check.specs.Image.{Image, own_of}
+use Rattle.world_view.specs.Schedule.{entry_of_slot, pad_of, start, slot_end, last_end, outgoing}
 use Rattle.world_view.specs.Domain.{is_running}
-use Rattle.world_view.specs.Reach.{Caches, and_then}
+use Rattle.world_view.specs.Cost.{Caches, and_then}
 use Rattle.world_view.specs.Event.{event}
 use Rattle.world_view.specs.Event.Event.{Jump, Run}
 use Rattle.world_view.specs.Machine.{Local, World, paid, happened, step, steps, stretch, leave_part, prefetch_part, flush_part, enter_part, switch_work, with_part, part_of, switch, run_slot, opening, whole}
-use Rattle.world_view.specs.Laws.{bound, InTime, AllWithinPads}
+use Rattle.world_view.specs.Used.{largest_of}
+use Rattle.world_view.specs.Relations.{bound, InTime, AllWithinPads}
 use Rattle.world_view.proofs.Separate.{Separated}
 use Rattle.world_view.proofs.Fuel.{step_later}
-use Rattle.world_view.proofs.ReachLaws.{all_free}
+use Rattle.world_view.proofs.CostLaws.{all_free}
 
 module _ (p : Hardware) (timed : 0 < p.base) (o : Own) (pinned : Bool) (end : ℕ) where
   soon_if : (s : Local) (b : Bool) → s.clock < end → (happened p o pinned s (cond b Run (Jump end))).clock < end + p.base
@@ -25,6 +26,21 @@ module _ (p : Hardware) (timed : 0 < p.base) (o : Own) (pinned : Bool) (end : �
   step_soon : (s : Local) → s.clock < end → (step p o pinned end s).clock < end + p.base
   unfolding step event
   step_soon s h = soon_if s (is_running s.dom.status) h
+
+  IsSoon : Local → Type 0
+  IsSoon s = s.clock < end + p.base
+
+  soon_step : (b : Bool) (n : ℕ) (s : Local) → ltb s.clock end ≡ b → IsSoon s → ((t : Local) → IsSoon t → IsSoon (steps p o pinned end n t))
+      → IsSoon (elim b [ true ↦ steps p o pinned end n (step p o pinned end s) | false ↦ s ])
+  unfolding IsSoon
+  soon_step true n s t soon next = next (step p o pinned end s) (step_soon s (ltb-true s.clock end t))
+  soon_step false n s t soon next = soon
+
+  -- so do any number of steps
+  pub steps_soon : (n : ℕ) (s : Local) → s.clock < end + p.base → (steps p o pinned end n s).clock < end + p.base
+  unfolding steps IsSoon
+  steps_soon zero s soon = soon
+  steps_soon (suc n) s soon = soon_step (ltb s.clock end) n s refl soon (steps_soon n)
 
   EndsSoon : Local → Type 0
   EndsSoon s = (end ≤ s.clock) × (s.clock < end + p.base)
@@ -71,12 +87,12 @@ switch_free i out d c =
     let entered = all_free p false [] in
     omega (arith, entered)
 
-pub pad_after : (es : List Entry) (k : ℕ) → start es k ≡ ended es k + pad_of es k
+pub pad_after : (es : List Entry) (k : ℕ) → start es k ≡ last_end es k + pad_of es k
 unfolding start
 pad_after es zero = omega arith
 pad_after es (suc k) = refl
 
-pub used_in_pad : (i : Image) (k : ℕ) (w : World) → bound i.all.hardware ≤ pad_of i.all.schedule k → InTime i k w → (w.clock + (switch_work i (outgoing i.all.schedule k) (entry_of_slot i.all.schedule k).domain w.caches).cost) - ended i.all.schedule k ≤ pad_of i.all.schedule k
+pub used_in_pad : (i : Image) (k : ℕ) (w : World) → bound i.all.hardware ≤ pad_of i.all.schedule k → InTime i k w → (w.clock + (switch_work i (outgoing i.all.schedule k) (entry_of_slot i.all.schedule k).domain w.caches).cost) - last_end i.all.schedule k ≤ pad_of i.all.schedule k
 used_in_pad i k w padded time =
     let free = switch_free i (outgoing i.all.schedule k) (entry_of_slot i.all.schedule k).domain w.caches in
     let over = time.over in
@@ -124,3 +140,14 @@ pub used_within : (i : Image) (n : ℕ) → Separated i → AllWithinPads i.all.
 unfolding whole opening run_slot with_part switch
 used_within i zero r = tt
 used_within i (suc k) r = within_append i.all.schedule (whole i k).used _ (used_within i k r) (used_in_pad i k (whole i k) (r.padded k) (in_time i r k), tt)
+
+largest_if : (e largest pad : ℕ) (u : ℕ × ℕ) (b : Bool) → eqb u.0 e ≡ b → largest ≤ pad → (u.0 ≡ e → u.1 ≤ pad) → cond b (max u.1 largest) largest ≤ pad
+largest_if e largest pad u true t h k = let here = k (eqb-true u.0 e t) in omega arith
+largest_if e largest pad u false t h k = h
+
+-- the largest of an entry's switches is within its pad
+pub largest_within : (es : List Entry) (e : ℕ) (us : List (ℕ × ℕ)) → AllWithinPads es us → largest_of e us ≤ (entry_in es e).pad
+unfolding largest_of
+largest_within es e [] h = omega arith
+largest_within es e (u ∷ us) h =
+    largest_if e (largest_of e us) (entry_in es e).pad u (eqb u.0 e) refl (largest_within es e us h.1) (λ q. subst (λ (x : ℕ). u.1 ≤ (entry_in es x).pad) q h.0)

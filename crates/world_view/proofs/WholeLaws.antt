@@ -5,18 +5,19 @@ use Rattle.std.specs.List.{range_with_len}
 use Rattle.tp_base.specs.Table.{at-put_other, at-put_same}
 use Rattle.image_check.specs.Public.{Hardware, Public}
 use Rattle.image_check.specs.Own.{Own}
-use Rattle.world_view.specs.Image.{Image, own_of}
-use Rattle.world_view.specs.Frames.{own_frame}
+use Rattle.image_check.specs.Image.{Image, own_of}
+use Rattle.world_view.specs.Frames.{own_frame, pool}
 use Rattle.world_view.specs.Schedule.{entry_of_slot, slot_end}
 use Rattle.phys_mem.specs.Mem.{frame_at}
 use Rattle.world_view.specs.Opening.{frame_words}
 use Rattle.world_view.specs.Domain.{Dom, no_dom}
-use Rattle.world_view.specs.Event.{Store}
+use Rattle.world_view.specs.Event.{Storage}
 use Rattle.world_view.specs.Machine.{Local, steps, stretch, dom_of, part_of, with_part, switch, run_slot, opening, whole, alone_opening, alone_enter, alone_in, alone_out, alone_if, alone}
-use Rattle.world_view.specs.View.{log_of, pool, view, view_whole, view_alone}
-use Rattle.world_view.specs.Laws.{IsDomain, SameFrames, Good, memory_in, Beside, Within, Apiece, Agree}
+use Rattle.world_view.specs.View.{log_of, view, view_whole, view_alone}
+use Rattle.world_view.specs.Relations.{IsDomain, SameFrames, Good, Beside, Within, Apiece, Agree}
+use Rattle.world_view.specs.Laws.{local_in}
 use Rattle.world_view.proofs.Separate.{Separated}
-use Rattle.world_view.proofs.TableLaws.{frame_inside, good_same}
+use Rattle.world_view.proofs.TableLaws.{good_same, tables_of_frames}
 use Rattle.world_view.proofs.StepLaws.{steps_near, stretch_near, beside_itself}
 use Rattle.world_view.proofs.TimeLaws.{in_time}
 use Rattle.world_view.proofs.OpeningLaws.{opening_dom_is, opening_frames, opening_good}
@@ -38,8 +39,8 @@ Joined i d (suc k) = JoinedIf i d k (eqb (entry_of_slot i.all.schedule k).domain
 
 module _ (i : Image) (r : Separated i) where
   -- steps of a slot leave the page tables of each domain good: those of the domain that runs, and all others untouched
-  good_in : (k n d : ℕ) → IsDomain i d → ((e : ℕ) → IsDomain i e → Good i.all.hardware (own_of i e) (whole i k).store.mem)
-      → Good i.all.hardware (own_of i d) (memory_in i k n)
+  good_in : (k n d : ℕ) → IsDomain i d → ((e : ℕ) → IsDomain i e → Good i.all.hardware (own_of i e) (whole i k).storage.mem)
+      → Good i.all.hardware (own_of i d) (local_in i k n).storage.mem
   unfolding switch
   good_in k n d is good =
       let p = i.all.hardware in
@@ -48,41 +49,43 @@ module _ (i : Image) (r : Separated i) where
       let s = part_of e (switch i k (whole i k)) in
       let b = steps_near p (own_of i e) end s n s s (beside_itself p (own_of i e) s (good e (r.named k))) in
       elim (cases_eq d e) [
-        | inl same ↦ subst (λ (x : ℕ). Good p (own_of i x) (steps p (own_of i e) false end n s).store.mem) (sym same) b.store.good
+        | inl same ↦ subst (λ (x : ℕ). Good p (own_of i x) (steps p (own_of i e) false end n s).storage.mem) (sym same) b.storage.good
         | inr apart ↦
-            good_same p (own_of i d) (whole i k).store.mem (steps p (own_of i e) false end n s).store.mem (good d is)
-            (λ f low high. b.store.outside f (r.apart e d (r.named k) is (λ q. apart (sym q)) f (frame_inside p (own_of i d) f low (omega (arith, high)))))
+            let m = (whole i k).storage.mem in
+            let later = (steps p (own_of i e) false end n s).storage.mem in
+            good_same p (own_of i d) m later (good d is)
+            (tables_of_frames p (own_of i d) m later (good d is) (λ f own. b.storage.outside f (r.apart e d (r.named k) is (λ q. apart (sym q)) f own)))
       ]
 
-  good_after : (k d : ℕ) → IsDomain i d → ((e : ℕ) → IsDomain i e → Good i.all.hardware (own_of i e) (whole i k).store.mem)
-      → Good i.all.hardware (own_of i d) (whole i (suc k)).store.mem
+  good_after : (k d : ℕ) → IsDomain i d → ((e : ℕ) → IsDomain i e → Good i.all.hardware (own_of i e) (whole i k).storage.mem)
+      → Good i.all.hardware (own_of i d) (whole i (suc k)).storage.mem
   unfolding whole run_slot with_part
   good_after k d is good = good_in k (slot_end i.all.schedule k - (switch i k (whole i k)).clock) d is good
 
   -- before and after each slot
-  pub all_good : (k d : ℕ) → IsDomain i d → Good i.all.hardware (own_of i d) (whole i k).store.mem
+  pub all_good : (k d : ℕ) → IsDomain i d → Good i.all.hardware (own_of i d) (whole i k).storage.mem
   unfolding whole
   all_good zero d is = opening_good i r d is
   all_good (suc k) d is = good_after k d is (all_good k)
 
   -- and at each of its moments
-  pub always_good : (k n d : ℕ) → IsDomain i d → Good i.all.hardware (own_of i d) (memory_in i k n)
+  pub always_good : (k n d : ℕ) → IsDomain i d → Good i.all.hardware (own_of i d) (local_in i k n).storage.mem
   always_good k n d is = good_in k n d is (all_good k)
 
   -- the domain's own slot: steps from states that are beside
-  slot_within : (p : Hardware) (o : Own) (end : ℕ) (s a : Local) → Good p o s.store.mem → Within p o s a → Within p o (stretch p o false end s) (stretch p o true end a)
+  slot_within : (p : Hardware) (o : Own) (end : ℕ) (s a : Local) → Good p o s.storage.mem → Within p o s a → Within p o (stretch p o false end s) (stretch p o true end a)
   slot_within p o end s a good h =
       let b : Beside p o s s a = record {
         dom = h.dom;
-        store = record { good = good; same = h.frames; outside = λ f x. refl };
+        storage = record { good = good; same = h.frames; outside = λ f x. refl };
         caches = record { core = h.core; same = tt; resident = tt };
         clock = h.clock;
       } in
       let n = stretch_near p o end s s a b in
-      record { dom = n.dom; frames = n.store.same; core = n.caches.core; sets = tt; clock = n.clock }
+      record { dom = n.dom; frames = n.storage.same; core = n.caches.core; sets = tt; clock = n.clock }
 
   -- a switch leaves memory as it is
-  begun_good : (k d : ℕ) → IsDomain i d → Good i.all.hardware (own_of i d) (switch i k (whole i k)).store.mem
+  begun_good : (k d : ℕ) → IsDomain i d → Good i.all.hardware (own_of i d) (switch i k (whole i k)).storage.mem
   unfolding switch
   begun_good k d is = all_good k d is
 
@@ -117,7 +120,7 @@ module _ (i : Image) (r : Separated i) where
       let n = stretch_near p (own_of i e) (slot_end es k) s s s (beside_itself p (own_of i e) s (begun_good k e (r.named k))) in
       record {
         dom = at-put_other no_dom begun.doms e d _ (λ q. ne (sym q)) ∙ h.dom;
-        frames = λ f own. others_frames i d e r is (r.named k) (λ q. ne (sym q)) (stretch p (own_of i e) false (slot_end es k) s) s (stretch p (own_of i e) true (slot_end es k) s) n.store f own ∙ h.frames f own;
+        frames = λ f own. others_frames i d e r is (r.named k) (λ q. ne (sym q)) (stretch p (own_of i e) false (slot_end es k) s) s (stretch p (own_of i e) true (slot_end es k) s) n.storage f own ∙ h.frames f own;
         sets = tt;
       }
 
@@ -157,13 +160,13 @@ module _ (i : Image) (r : Separated i) where
     joined zero = record { dom = opening_dom_is i r d is; frames = opening_frames i r d is; sets = tt }
     joined (suc k) = next_if k _ refl (joined k)
 
-    seen_if : (k : ℕ) (b : Bool) → JoinedIf i d k b → (dom_of (whole i (suc k)) d ≡ (alone_if i.all (own_of i d) k (alone i.all (own_of i d) d k) b).dom) × SameFrames i.all.hardware (own_of i d) (whole i (suc k)).store.mem (alone_if i.all (own_of i d) k (alone i.all (own_of i d) d k) b).store.mem
+    seen_if : (k : ℕ) (b : Bool) → JoinedIf i d k b → (dom_of (whole i (suc k)) d ≡ (alone_if i.all (own_of i d) k (alone i.all (own_of i d) d k) b).dom) × SameFrames i.all.hardware (own_of i d) (whole i (suc k)).storage.mem (alone_if i.all (own_of i d) k (alone i.all (own_of i d) d k) b).storage.mem
     unfolding alone_if alone_out
     seen_if k true j = (j.dom, j.frames)
     seen_if k false j = (j.dom, j.frames)
 
     -- its state and its frames are those of the domain alone
-    seen : (k : ℕ) → Joined i d k → (dom_of (whole i k) d ≡ (alone i.all (own_of i d) d k).dom) × SameFrames i.all.hardware (own_of i d) (whole i k).store.mem (alone i.all (own_of i d) d k).store.mem
+    seen : (k : ℕ) → Joined i d k → (dom_of (whole i k) d ≡ (alone i.all (own_of i d) d k).dom) × SameFrames i.all.hardware (own_of i d) (whole i k).storage.mem (alone i.all (own_of i d) d k).storage.mem
     unfolding alone
     seen zero j = (j.dom, j.frames)
     seen (suc k) j = seen_if k _ j
@@ -176,7 +179,7 @@ same_map {B} q f g same (x ∷ xs) =
       | false ↦ λ t. same_map q f g same xs
     ] refl
 
-same_view : (p : Hardware) (o : Own) (d e : Dom) (s t : Store) → d ≡ e → SameFrames p o s.mem t.mem → view p o d s ≡ view p o e t
+same_view : (p : Hardware) (o : Own) (d e : Dom) (s t : Storage) → d ≡ e → SameFrames p o s.mem t.mem → view p o d s ≡ view p o e t
 unfolding view pool
 same_view p o d e s t dom frames =
     let xs = range_with_len 0 p.frames in
@@ -188,6 +191,7 @@ same_view p o d e s t dom frames =
       readings = log_of x.readings;
       replies = log_of x.replies;
       printed = x.printed;
+      pool = pool p o;
       frames = y;
     }) dom same
 

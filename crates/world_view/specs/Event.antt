@@ -17,22 +17,21 @@ use Rattle.sv32_walk.specs.declared.access.Access.{Access}
 use Rattle.sv32_walk.specs.declared.access.Access.TheVariants as access
 use Rattle.sv32_walk.specs.declared.access.WalkFault.{WalkFault}
 use Rattle.sv32_walk.specs.declared.access.WalkFault.TheVariants as fault
-use Rattle.sv32_walk.specs.Entry.{ppn}
+use Rattle.sv32_walk.specs.PageTableEntry.{ppn}
 use Rattle.sv32_walk.specs.Walk.{walk}
 use Rattle.image_check.specs.Public.{Hardware}
-use Rattle.image_check.specs.Own.{Own}
 use Rattle.world_view.specs.Domain.{Dom, is_running}
 use Rattle.world_view.specs.Instruction.{stopped, trapped, retired_at, counter_value, read_out, call}
-use Rattle.world_view.specs.Reach.{Touch}
-use Rattle.world_view.specs.Reach.Touch.{Look, Fetch, Load, Store as StoreTouch}
+use Rattle.world_view.specs.Cost.{Touch}
+use Rattle.world_view.specs.Cost.Touch.{Look, Fetch, Load, Store as StoreTouch}
 
 -- all that domains may change beside their own state
-pub record Store : Type 0 where
+pub record Storage : Type 0 where
   pub mem : Mem
 
 -- steps over the memory that note their touches, and may end early with the domain as it then is
 abbrev pub Act : Type 0 → Type 0
-Act A = act.Act Store Touch Dom A
+Act A = act.Act Storage Touch Dom A
 
 -- ---- primitives
 
@@ -57,10 +56,10 @@ unfoldable pub frame_or_stop : Dom → Access → ℕ → Result ℕ WalkFault �
 frame_or_stop d a va (Ok leaf) = inr (ppn leaf)
 frame_or_stop d a va (Err f) = inl (stopped (fault_code a f) va d)
 
--- the frame of an address, by a walk of the domain's page tables as they are now
-unfoldable pub translate : Hardware → Own → Dom → Access → ℕ → Act ℕ
-translate p o d a va = λ s.
-    let w = walk s.mem p.frames o.first_frame va a in
+-- the frame of an address, by a walk of the page tables of root r as they are now
+unfoldable pub translate : Hardware → ℕ → Dom → Access → ℕ → Act ℕ
+translate p r d a va = λ s.
+    let w = walk s.mem p.frames r va a in
     record { notes = Look (va / 4096) w.reads (found w.result) ∷ []; state = s; value = frame_or_stop d a va w.result }
 
 -- the place of a word in its page
@@ -92,17 +91,17 @@ part_of_word size word place = if size == 1 then byte_in word place else if size
 abbrev pub stored_in : ℕ → ℕ → ℕ → ℕ → ℕ
 stored_in size word place value = if size == 1 then with_byte_in word place value else if size == 2 then with_half_in word place value else value
 
-unfoldable pub load : Hardware → Own → Dom → LoadWidth → ℕ → Act ℕ
-load p o d width va = do
-  f ← translate p o d access.Load va
+unfoldable pub load : Hardware → ℕ → Dom → LoadWidth → ℕ → Act ℕ
+load p r d width va = do
+  f ← translate p r d access.Load va
   touch (Load (address_in f va))
   w ← read f (place va)
   give (part_of_word (load_size width) w (va % 4))
 
-unfoldable pub store : Hardware → Own → Dom → Option StoreMade → Act (Unit {0})
-store p o d None = give tt
-store p o d (Some s) = do
-  f ← translate p o d access.Store s.at
+unfoldable pub store : Hardware → ℕ → Dom → Option StoreMade → Act (Unit {0})
+store p r d None = give tt
+store p r d (Some s) = do
+  f ← translate p r d access.Store s.at
   touch (StoreTouch (address_in f s.at))
   w ← read f (place s.at)
   write f (place s.at) (stored_in s.size w (s.at % 4) s.word)
@@ -110,10 +109,10 @@ store p o d (Some s) = do
 -- ---- an instruction at a clock
 
 -- what the instruction needs from outside the registers: what a load finds, or a counter's value
-unfoldable pub loaded : Hardware → Own → ℕ → Dom → Instr → Act ℕ
-loaded p o t d (instr.Load width rd rs1 offset) = load p o d width (address_of d.thread.regs (instr.Load width rd rs1 offset))
-loaded p o t d (instr.ReadCounter counter rd) = give (counter_value counter t d)
-loaded p o t d _ = give 0
+unfoldable pub loaded : Hardware → ℕ → ℕ → Dom → Instr → Act ℕ
+loaded p r t d (instr.Load width rd rs1 offset) = load p r d width (address_of d.thread.regs (instr.Load width rd rs1 offset))
+loaded p r t d (instr.ReadCounter counter rd) = give (counter_value counter t d)
+loaded p r t d _ = give 0
 
 -- a counter's value is recorded as a reading
 unfoldable pub noted : Instr → ℕ → Dom → Dom
@@ -121,31 +120,31 @@ noted (instr.ReadCounter counter rd) value d = read_out value d
 noted _ value d = d
 
 -- the effect: a trap, or a store, the registers and the next instruction
-unfoldable pub settle : Hardware → Own → Dom → Instr → ℕ → Outcome → Act Dom
-settle p o d i value out = do
+unfoldable pub settle : Hardware → ℕ → Dom → Instr → ℕ → Outcome → Act Dom
+settle p r d i value out = do
   unless out.effect.trap d
-  store p o d out.effect.store
+  store p r d out.effect.store
   give (retired_at out.effect.next out.regs (noted i value d))
 
 -- misaligned loads and stores trap before their address is translated
-unfoldable pub execute : Hardware → Own → ℕ → Dom → Instr → Act Dom
-execute p o t d i = do
+unfoldable pub execute : Hardware → ℕ → ℕ → Dom → Instr → Act Dom
+execute p r t d i = do
   unless (misalignment_of i (address_of d.thread.regs i)) d
-  value ← loaded p o t d i
-  settle p o d i value (effect_of d.thread.regs d.thread.pc i value)
+  value ← loaded p r t d i
+  settle p r d i value (effect_of d.thread.regs d.thread.pc i value)
 
 -- 2: the word is no instruction. An ECALL is a kernel call.
-unfoldable pub perform : Hardware → Own → ℕ → Dom → ℕ → Option Instr → Act Dom
-perform p o t d w None = stop (stopped 2 w d)
-perform p o t d w (Some instr.Ecall) = give (call d)
-perform p o t d w (Some i) = execute p o t d i
+unfoldable pub perform : Hardware → ℕ → ℕ → Dom → ℕ → Option Instr → Act Dom
+perform p r t d w None = stop (stopped 2 w d)
+perform p r t d w (Some instr.Ecall) = give (call d)
+perform p r t d w (Some i) = execute p r t d i
 
-unfoldable pub instruction : Hardware → Own → ℕ → Dom → Act Dom
-instruction p o t d = do
-  f ← translate p o d access.Fetch d.thread.pc
+unfoldable pub instruction : Hardware → ℕ → ℕ → Dom → Act Dom
+instruction p r t d = do
+  f ← translate p r d access.Fetch d.thread.pc
   touch (Fetch (address_in f d.thread.pc))
   w ← read f (place d.thread.pc)
-  perform p o t d w (decode_of w)
+  perform p r t d w (decode_of w)
 
 -- ---- what comes next
 

@@ -1,29 +1,29 @@
 -- Worked runs, computed from the definitions alone. In the first each domain prints a byte and exits; in the second it reads the clock before and after it prints.
-use Rattle.std.specs.Prelude.{◌≡◌, ℕ, true, false, Ok, Err, List, [], ◌∷◌, codes, refl, slice_set, ◌+◌, ◌*◌}
+use Rattle.std.specs.Prelude.{◌≡◌, ℕ, true, false, Ok, Err, List, [], ◌∷◌, codes, refl, slice_set, length, replicate, ◌+◌, ◌*◌}
 use Rattle.tp_base.specs.Table.{empty, at, put}
 use Rattle.tp_base.specs.Act.{go_on, ◌>>=◌, ◌>>◌, give, stop, note, either}
 use Rattle.phys_mem.specs.Mem.{frame_at, word, written}
 use Rattle.sv32_walk.specs.declared.access.Access.TheVariants as access
 use Rattle.sv32_walk.specs.declared.access.WalkFault.TheVariants as fault
-use Rattle.sv32_walk.specs.Entry.{bit, ppn, ppn_0, ppn_1, with_ppn, vpn_0, vpn_1}
+use Rattle.sv32_walk.specs.PageTableEntry.{bit, ppn, ppn_0, ppn_1, with_ppn, vpn_0, vpn_1}
 use Rattle.sv32_walk.specs.Walk.{leaf, superpage, first_level, last_level, entry_address, from_table, from_entry, walk}
-use Rattle.page_map.specs.Words.{table_word, leaf_word, leaf_bits}
+use Rattle.sv32_walk.specs.PageTableEntry.{table_word, leaf_word, leaf_bits}
 use Rattle.rv_core.specs.Registers.{zeros}
 use Rattle.world_view.specs.declared.DomainStatus.TheVariants.{Exited}
 use Rattle.world_view.specs.declared.ThreadState.TheVariants.{Ended}
 use Rattle.image_check.specs.Own.{Segment}
-use Rattle.world_view.specs.Image.{Image, own_of}
-use Rattle.world_view.specs.Frames.{has_region, regions_below, pages_below, pages_in}
+use Rattle.image_check.specs.Image.{Image, own_of}
+use Rattle.world_view.specs.Frames.{has_region, regions_below, pages_below, pages_in, pool, pool_frame}
 use Rattle.world_view.specs.Schedule.{start}
 use Rattle.world_view.specs.Opening.{frame_words, put_word, tabled, root_entry, rights_in, leaf_with, leaf_entry, root_placed, table_placed, tables_placed, page_words, pages_placed, segments_placed, placed, all_placed}
-use Rattle.world_view.specs.Domain.{opening_dom, no_dom}
-use Rattle.world_view.specs.Instruction.{stopped, trapped, retired_at, read_out, replied, exited, put_byte, called, call}
-use Rattle.world_view.specs.Reach.{reach, and_then, reach_all}
+use Rattle.rv_decode.specs.declared.Counter.TheVariants.{Cycle, Time, Instret, CycleHigh, TimeHigh, InstretHigh}
+use Rattle.world_view.specs.Domain.{Dom, opening_dom, no_dom}
+use Rattle.world_view.specs.Instruction.{counter_value, stopped, trapped, retired_at, read_out, replied, exited, put_byte, called, call}
+use Rattle.world_view.specs.Cost.{touched, and_then, touched_all}
 use Rattle.world_view.specs.Event.{touch, frame_or_stop, translate, address_in, read, write, unless, load, store, loaded, noted, settle, execute, perform, instruction, event}
 use Rattle.world_view.specs.Machine.{paid, happened, step, steps, leave_part, prefetch_part, flush_part, enter_part, switch_work, with_part, switch, run_slot, opening_doms, opening, whole, alone_opening, alone_enter, alone_in, alone_out, alone_if, alone}
-use Rattle.world_view.specs.View.{View, log_of, pool, view, view_whole, view_alone}
-use Rattle.world_view.specs.Texts.{memory_sum}
-use Rattle.world_view.specs.Report.{count_of, largest_of}
+use Rattle.world_view.specs.View.{View, log_of, view, view_whole, view_alone, memory_sum}
+use Rattle.world_view.specs.Used.{count_of, largest_of}
 
 -- addi x10, x0, byte; addi x17, x0, 1; ecall; addi x17, x0, 0; ecall
 abbrev pub print : ℕ → List ℕ
@@ -78,6 +78,7 @@ printed_byte byte = record {
   readings = log_of [];
   replies = log_of (record { code = 0; value = 0 } ∷ []);
   printed = byte ∷ [];
+  pool = [];
   frames = [];
 }
 
@@ -90,46 +91,47 @@ printed_in_time byte clock = record {
   readings = log_of (clock ∷ (clock + 4) ∷ []);
   replies = log_of (record { code = 0; value = 0 } ∷ []);
   printed = byte ∷ [];
+  pool = [];
   frames = [];
 }
 
 -- all that a run computes with
 pub everything : ℕ
-unfolding empty at put go_on ◌>>=◌ ◌>>◌ give stop note either start frame_at word written frame_words put_word tabled root_entry rights_in leaf_with leaf_entry root_placed table_placed tables_placed page_words pages_placed segments_placed placed all_placed has_region regions_below pages_below pages_in table_word leaf_word leaf_bits bit ppn ppn_0 ppn_1 with_ppn vpn_0 vpn_1 leaf superpage first_level last_level entry_address from_table from_entry walk opening_dom no_dom stopped trapped retired_at read_out replied exited put_byte called call reach and_then reach_all touch frame_or_stop translate address_in read write unless load store loaded noted settle execute perform instruction event paid happened step steps leave_part prefetch_part flush_part enter_part switch_work with_part switch run_slot opening_doms opening whole alone_opening alone_enter alone_in alone_out alone_if alone log_of pool view view_whole view_alone memory_sum count_of largest_of two_domains
+unfolding empty at put go_on ◌>>=◌ ◌>>◌ give stop note either start frame_at word written frame_words put_word tabled root_entry rights_in leaf_with leaf_entry root_placed table_placed tables_placed page_words pages_placed segments_placed placed all_placed has_region regions_below pages_below pages_in table_word leaf_word leaf_bits bit ppn ppn_0 ppn_1 with_ppn vpn_0 vpn_1 leaf superpage first_level last_level entry_address from_table from_entry walk opening_dom no_dom stopped trapped retired_at read_out replied exited put_byte called call touched and_then touched_all touch frame_or_stop translate address_in read write unless load store loaded noted settle execute perform instruction event paid happened step steps leave_part prefetch_part flush_part enter_part switch_work with_part switch run_slot opening_doms opening whole alone_opening alone_enter alone_in alone_out alone_if alone log_of pool pool_frame view view_whole view_alone memory_sum count_of largest_of two_domains
 everything = 0
 
 -- ---- the memory that it opens with
 
 -- blue's root points to the table in the next frame, whose entry for page 16 is a leaf to read and to execute
-pub blue_table : word (whole prints 0).store.mem 1057 0 ≡ 1058 * 1024 + 0x01
+pub blue_table : word (whole prints 0).storage.mem 1057 0 ≡ 1058 * 1024 + 0x01
 unfolding everything
 blue_table = refl
 
-pub blue_leaf : word (whole prints 0).store.mem 1058 16 ≡ 1059 * 1024 + 0x5b
+pub blue_leaf : word (whole prints 0).storage.mem 1058 16 ≡ 1059 * 1024 + 0x5b
 unfolding everything
 blue_leaf = refl
 
-pub blue_code : word (whole prints 0).store.mem 1059 0 ≡ 0x04200513
+pub blue_code : word (whole prints 0).storage.mem 1059 0 ≡ 0x04200513
 unfolding everything
 blue_code = refl
 
 -- so it fetches from its page and loads, and doesn't store
-pub blue_fetches : (walk (whole prints 0).store.mem 2114 1057 0x10004 access.Fetch).result ≡ Ok (1059 * 1024 + 0x5b)
+pub blue_fetches : (walk (whole prints 0).storage.mem 2114 1057 0x10004 access.Fetch).result ≡ Ok (1059 * 1024 + 0x5b)
 unfolding everything
 blue_fetches = refl
 
-pub blue_stores : (walk (whole prints 0).store.mem 2114 1057 0x10004 access.Store).result ≡ Err fault.Page
+pub blue_stores : (walk (whole prints 0).storage.mem 2114 1057 0x10004 access.Store).result ≡ Err fault.Page
 unfolding everything
 blue_stores = refl
 
 -- and there is no page 17
-pub blue_past : (walk (whole prints 0).store.mem 2114 1057 0x11000 access.Load).result ≡ Err fault.Page
+pub blue_past : (walk (whole prints 0).storage.mem 2114 1057 0x11000 access.Load).result ≡ Err fault.Page
 unfolding everything
 blue_past = refl
 
 -- ---- the first run, of four slots
 
-pub red : record (view_whole prints 0 4) { frames = [] } ≡ printed_byte 0x41
+pub red : record (view_whole prints 0 4) { pool = []; frames = [] } ≡ printed_byte 0x41
 unfolding everything
 red = refl
 
@@ -137,7 +139,7 @@ pub red_memory : memory_sum (view_whole prints 0 4).frames ≡ 0x0420237b
 unfolding everything
 red_memory = refl
 
-pub blue : record (view_whole prints 1 4) { frames = [] } ≡ printed_byte 0x42
+pub blue : record (view_whole prints 1 4) { pool = []; frames = [] } ≡ printed_byte 0x42
 unfolding everything
 blue = refl
 
@@ -151,7 +153,7 @@ blue_alone = refl
 
 -- ---- the second
 
-pub timed_red : record (view_whole timed_prints 0 4) { frames = [] } ≡ printed_in_time 0x41 6150
+pub timed_red : record (view_whole timed_prints 0 4) { pool = []; frames = [] } ≡ printed_in_time 0x41 6150
 unfolding everything
 timed_red = refl
 
@@ -159,7 +161,7 @@ pub timed_red_memory : memory_sum (view_whole timed_prints 0 4).frames ≡ 0x842
 unfolding everything
 timed_red_memory = refl
 
-pub timed_blue : record (view_whole timed_prints 1 4) { frames = [] } ≡ printed_in_time 0x42 22300
+pub timed_blue : record (view_whole timed_prints 1 4) { pool = []; frames = [] } ≡ printed_in_time 0x42 22300
 unfolding everything
 timed_blue = refl
 
@@ -175,3 +177,46 @@ first_switch = (refl, refl)
 pub clock : (whole timed_prints 4).clock ≡ 64600
 unfolding everything
 clock = refl
+
+-- ---- counters past 32 bits
+
+-- 3 * 2^32 + 5, in its halves
+abbrev pub late : ℕ
+late = 12884901893
+
+pub clock_low : counter_value Cycle late no_dom ≡ 5
+clock_low = refl
+
+pub clock_high : counter_value CycleHigh late no_dom ≡ 3
+clock_high = refl
+
+pub time_low : counter_value Time late no_dom ≡ 5
+time_low = refl
+
+pub time_high : counter_value TimeHigh late no_dom ≡ 3
+time_high = refl
+
+pub retired_low : counter_value Instret 0 (record no_dom { retired = late }) ≡ 5
+retired_low = refl
+
+pub retired_high : counter_value InstretHigh 0 (record no_dom { retired = late }) ≡ 3
+retired_high = refl
+
+-- ---- kernel calls at their ends
+
+-- a code past 255 is kept whole
+pub wide_code : (called 0 70000 no_dom).status ≡ Exited 70000
+unfolding everything
+wide_code = refl
+
+-- the last byte of the most that a domain prints, and one more: 11 is OutputFull
+abbrev pub printed_so_many : ℕ → Dom
+printed_so_many n = record no_dom { printed = replicate n 0x41 }
+
+pub last_byte : length (called 1 0x42 (printed_so_many 4095)).printed ≡ 4096
+unfolding everything
+last_byte = refl
+
+pub no_byte_more : ((called 1 0x42 (printed_so_many 4096)).printed ≡ replicate 4096 0x41) × ((called 1 0x42 (printed_so_many 4096)).replies ≡ record { code = 11; value = 0 } ∷ [])
+unfolding everything
+no_byte_more = (refl, refl)

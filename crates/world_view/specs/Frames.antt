@@ -1,7 +1,8 @@
--- In which frames a domain's page tables and pages stand: its root, then a table for each region that has a page, by
--- ascending regions, then its pages, by ascending numbers. A page's number is its address divided by 4,096; region r is
--- the 4 MiB of the pages from 1,024 * r on.
-use Rattle.std.specs.Prelude.{ℕ, zero, suc, ◌+◌, ◌-◌, ◌*◌, ◌&&◌, ◌||◌, min, nat_le, nat_lt, Bool, false, if◌then◌else◌, List, [], ◌∷◌}
+-- A domain's pool, and in which of its frames page tables and pages stand: its root, then a table for each region that
+-- has a page, by ascending regions, then its pages, by ascending numbers. A page's number is its address divided by
+-- 4,096; region r is the 4 MiB of the pages from 1,024 * r on.
+use Rattle.std.specs.Prelude.{ℕ, zero, suc, ◌+◌, ◌-◌, ◌*◌, ◌&&◌, ◌||◌, min, nat_le, nat_lt, Bool, false, if◌then◌else◌, List, [], ◌∷◌, filter, slice_index_or}
+use Rattle.std.specs.List.{range_with_len}
 use Rattle.image_check.specs.Public.{Hardware}
 use Rattle.image_check.specs.Own.{Segment, Own}
 
@@ -42,19 +43,28 @@ pages_in (s ∷ ss) = s.pages + pages_in ss
 abbrev pub frames_in : List Segment → ℕ
 frames_in ss = 1 + regions_in ss + pages_in ss
 
--- ---- where they stand; the root stands in the first frame
+-- ---- the pool
+
+-- whether a frame of memory is of the domain's pool
+abbrev pub own_frame : Hardware → Own → ℕ → Bool
+own_frame p o f = nat_lt f p.frames && (nat_le o.first_frame f && nat_lt f (o.first_frame + frames_in o.segments))
+
+-- its frames, ascending
+unfoldable pub pool : Hardware → Own → List ℕ
+pool p o = filter (own_frame p o) (range_with_len 0 p.frames)
+
+-- the frame at place n of the pool
+unfoldable pub pool_frame : Hardware → Own → ℕ → ℕ
+pool_frame p o n = slice_index_or (pool p o) n 0
+
+-- ---- where they stand
+
+abbrev pub root_of : Hardware → Own → ℕ
+root_of p o = pool_frame p o 0
 
 -- the table of a region
-abbrev pub table_frame : Own → ℕ → ℕ
-table_frame o r = o.first_frame + 1 + regions_below o.segments r
+abbrev pub table_frame : Hardware → Own → ℕ → ℕ
+table_frame p o r = pool_frame p o (1 + regions_below o.segments r)
 
--- the least frame of a page
-abbrev pub first_page_frame : Own → ℕ
-first_page_frame o = o.first_frame + 1 + regions_in o.segments
-
-abbrev pub page_frame : Own → ℕ → ℕ
-page_frame o n = first_page_frame o + pages_below o.segments n
-
--- whether a frame is of the domain's pool
-abbrev pub own_frame : Hardware → Own → ℕ → Bool
-own_frame p o f = nat_le o.first_frame f && nat_lt f (o.first_frame + frames_in o.segments)
+abbrev pub page_frame : Hardware → Own → ℕ → ℕ
+page_frame p o n = pool_frame p o (1 + regions_in o.segments + pages_below o.segments n)

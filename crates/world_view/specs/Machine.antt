@@ -4,12 +4,13 @@ use Rattle.tp_base.specs.Table.{Table, empty, at, put}
 use Rattle.tp_base.specs.Act.{Done, either}
 use Rattle.image_check.specs.Public.{Hardware, Public}
 use Rattle.image_check.specs.Own.{Own}
-use Rattle.world_view.specs.Image.{Image, own_of}
-use Rattle.world_view.specs.Schedule.{entry_of_slot, switch_entry, start, slot_end, ended, outgoing}
+use Rattle.image_check.specs.Image.{Image, own_of}
+use Rattle.world_view.specs.Schedule.{entry_of_slot, switch_entry, start, slot_end, last_end, outgoing}
+use Rattle.world_view.specs.Frames.{root_of}
 use Rattle.world_view.specs.Opening.{placed, all_placed}
 use Rattle.world_view.specs.Domain.{Dom, opening_dom, no_dom}
-use Rattle.world_view.specs.Reach.{Touch, Caches, fresh_core, cold, Reached, unmoved, and_then, reach_all}
-use Rattle.world_view.specs.Event.{Store, instruction, Event, event}
+use Rattle.world_view.specs.Cost.{Touch, Caches, fresh_core, cold, Touched, at_no_cost, and_then, touched_all}
+use Rattle.world_view.specs.Event.{Storage, instruction, Event, event}
 use Rattle.world_view.specs.Event.Event.{Jump, Run}
 
 -- ---- a domain in its slot
@@ -17,19 +18,19 @@ use Rattle.world_view.specs.Event.Event.{Jump, Run}
 -- what it can see and change: on the whole machine all of memory and the caches, not its own part alone
 pub record Local : Type 0 where
   pub dom : Dom
-  pub store : Store
+  pub storage : Storage
   pub caches : Caches
   pub clock : ℕ
 
 -- the work was done at this clock; its touches are paid now
-unfoldable pub paid : Hardware → Bool → Caches → ℕ → Done Store Touch Dom Dom → Local
+unfoldable pub paid : Hardware → Bool → Caches → ℕ → Done Storage Touch Dom Dom → Local
 paid p pinned c t r =
-    let q = reach_all p pinned c r.notes in
-    record { dom = either r.value; store = r.state; caches = q.caches; clock = t + (p.base + q.cost) }
+    let q = touched_all p pinned c r.notes in
+    record { dom = either r.value; storage = r.state; caches = q.caches; clock = t + (p.base + q.cost) }
 
 unfoldable pub happened : Hardware → Own → Bool → Local → Event → Local
 happened p o pinned s (Jump t) = record s { clock = t }
-happened p o pinned s Run = paid p pinned s.caches s.clock (instruction p o s.clock s.dom s.store)
+happened p o pinned s Run = paid p pinned s.caches s.clock (instruction p (root_of p o) s.clock s.dom s.storage)
 
 -- one event in a slot that ends then
 unfoldable pub step : Hardware → Own → Bool → ℕ → Local → Local
@@ -56,20 +57,20 @@ enter_touches p o = []
 abbrev pub prefetch_touches : Hardware → List Touch
 prefetch_touches p = []
 
-unfoldable pub leave_part : Image → Option ℕ → Caches → Reached
-leave_part i None c = unmoved c
-leave_part i (Some d) c = reach_all i.all.hardware false c (leave_touches i.all.hardware (own_of i d))
+unfoldable pub leave_part : Image → Option ℕ → Caches → Touched
+leave_part i None c = at_no_cost c
+leave_part i (Some d) c = touched_all i.all.hardware false c (leave_touches i.all.hardware (own_of i d))
 
-unfoldable pub prefetch_part : Hardware → Caches → Reached
-prefetch_part p c = reach_all p false c (prefetch_touches p)
+unfoldable pub prefetch_part : Hardware → Caches → Touched
+prefetch_part p c = touched_all p false c (prefetch_touches p)
 
-unfoldable pub flush_part : Hardware → Caches → Reached
+unfoldable pub flush_part : Hardware → Caches → Touched
 flush_part p c = record { cost = 0; caches = record c { core = fresh_core p } }
 
-unfoldable pub enter_part : Hardware → Own → Bool → Caches → Reached
-enter_part p o pinned c = reach_all p pinned c (enter_touches p o)
+unfoldable pub enter_part : Hardware → Own → Bool → Caches → Touched
+enter_part p o pinned c = touched_all p pinned c (enter_touches p o)
 
-unfoldable pub switch_work : Image → Option ℕ → ℕ → Caches → Reached
+unfoldable pub switch_work : Image → Option ℕ → ℕ → Caches → Touched
 switch_work i out d c =
     let p = i.all.hardware in
     and_then (and_then (and_then (leave_part i out c) (prefetch_part p)) (flush_part p)) (enter_part p (own_of i d) false)
@@ -78,7 +79,7 @@ switch_work i out d c =
 
 pub record World : Type 0 where
   pub doms : Table Dom
-  pub store : Store
+  pub storage : Storage
   pub caches : Caches
   pub clock : ℕ
   pub used : List (ℕ × ℕ)  -- for each switch its entry, and the cycles from the ended slot's end to the end of its work
@@ -87,10 +88,10 @@ abbrev pub dom_of : World → ℕ → Dom
 dom_of w d = at no_dom w.doms d
 
 abbrev pub part_of : ℕ → World → Local
-part_of d w = record { dom = dom_of w d; store = w.store; caches = w.caches; clock = w.clock }
+part_of d w = record { dom = dom_of w d; storage = w.storage; caches = w.caches; clock = w.clock }
 
 unfoldable pub with_part : ℕ → World → Local → World
-with_part d w s = record w { doms = put w.doms d s.dom; store = s.store; caches = s.caches; clock = s.clock }
+with_part d w s = record w { doms = put w.doms d s.dom; storage = s.storage; caches = s.caches; clock = s.clock }
 
 -- switch k: its work, and then the wait for the next start
 unfoldable pub switch : Image → ℕ → World → World
@@ -98,7 +99,7 @@ switch i k w =
     let es = i.all.schedule in
     let r = switch_work i (outgoing es k) (entry_of_slot es k).domain w.caches in
     let now = w.clock + r.cost in
-    record w { caches = r.caches; clock = max now (start es k); used = w.used ++ (switch_entry es k, now - ended es k) ∷ [] }
+    record w { caches = r.caches; clock = max now (start es k); used = w.used ++ (switch_entry es k, now - last_end es k) ∷ [] }
 
 unfoldable pub run_slot : Image → ℕ → World → World
 run_slot i k w =
@@ -114,7 +115,7 @@ opening_doms (o ∷ os) d = put (opening_doms os (suc d)) d (opening_dom o)
 unfoldable pub opening : Image → World
 opening i = record {
   doms = opening_doms i.owns 0;
-  store = record { mem = all_placed i.owns };
+  storage = record { mem = all_placed i.all.hardware i.owns };
   caches = cold i.all.hardware;
   clock = 0;
   used = [];
@@ -128,7 +129,7 @@ whole i (suc k) = run_slot i k (whole i k)
 -- ---- the domain alone: one domain, its own frames, and nobody else to switch from or to
 
 unfoldable pub alone_opening : Hardware → Own → Local
-alone_opening p o = record { dom = opening_dom o; store = record { mem = placed o empty }; caches = cold p; clock = 0 }
+alone_opening p o = record { dom = opening_dom o; storage = record { mem = placed p o empty }; caches = cold p; clock = 0 }
 
 -- slot k begins: on-core state is fresh, the clock stands at its start, and enter isn't charged
 unfoldable pub alone_enter : Public → Own → ℕ → Local → Local
@@ -142,7 +143,7 @@ alone_in p o k s = stretch p.hardware o true (slot_end p.schedule k) (alone_ente
 
 -- leave isn't charged either
 unfoldable pub alone_out : Hardware → Own → Local → Local
-alone_out p o s = record s { caches = (reach_all p true s.caches (leave_touches p o)).caches }
+alone_out p o s = record s { caches = (touched_all p true s.caches (leave_touches p o)).caches }
 
 unfoldable pub alone_if : Public → Own → ℕ → Local → Bool → Local
 alone_if p o k s true = alone_out p.hardware o (alone_in p o k s)

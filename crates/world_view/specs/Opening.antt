@@ -3,10 +3,11 @@ use Rattle.std.specs.Prelude.{ℕ, zero, suc, ◌+◌, ◌*◌, ◌/◌, ◌^◌
 use Rattle.std.specs.List.{range_with_len}
 use Rattle.tp_base.specs.Table.{empty, at, put}
 use Rattle.phys_mem.specs.Mem.{Frame, Mem}
-use Rattle.page_map.specs.Words.{table_word, leaf_word}
+use Rattle.sv32_walk.specs.PageTableEntry.{table_word, leaf_word}
 use Rattle.image_check.specs.declared.own.Rights.{Rights}
+use Rattle.image_check.specs.Public.{Hardware}
 use Rattle.image_check.specs.Own.{Segment, Own}
-use Rattle.world_view.specs.Frames.{has_page, has_region, table_frame, page_frame}
+use Rattle.world_view.specs.Frames.{has_page, has_region, root_of, table_frame, page_frame}
 
 -- all words of a frame, in order
 unfoldable pub frame_words : Frame → List ℕ
@@ -25,8 +26,8 @@ tabled f (suc n) = put_word (tabled f n) n (f n)
 -- ---- page tables
 
 -- the root's entry for a region points to the region's table
-unfoldable pub root_entry : Own → ℕ → ℕ
-root_entry o r = if has_region o.segments r then table_word (table_frame o r) else 0
+unfoldable pub root_entry : Hardware → Own → ℕ → ℕ
+root_entry p o r = if has_region o.segments r then table_word (table_frame p o r) else 0
 
 -- the rights of a page, if there is that page
 unfoldable pub rights_in : List Segment → ℕ → Option Rights
@@ -37,24 +38,24 @@ rights_in (s ∷ ss) n = if has_page s n then Some s.rights else rights_in ss n
 abbrev pub rights_number : Rights → ℕ
 rights_number r = (if r.read then 1 else 0) + (if r.write then 2 else 0) + (if r.execute then 4 else 0)
 
-unfoldable pub leaf_with : Own → ℕ → Option Rights → ℕ
-leaf_with o n None = 0
-leaf_with o n (Some r) = leaf_word (page_frame o n) (rights_number r)
+unfoldable pub leaf_with : Hardware → Own → ℕ → Option Rights → ℕ
+leaf_with p o n None = 0
+leaf_with p o n (Some r) = leaf_word (page_frame p o n) (rights_number r)
 
 -- a table's entry for a page names the page's frame
-unfoldable pub leaf_entry : Own → ℕ → ℕ
-leaf_entry o n = leaf_with o n (rights_in o.segments n)
+unfoldable pub leaf_entry : Hardware → Own → ℕ → ℕ
+leaf_entry p o n = leaf_with p o n (rights_in o.segments n)
 
-unfoldable pub root_placed : Own → Mem → Mem
-root_placed o m = put m o.first_frame (tabled (root_entry o) 1024)
+unfoldable pub root_placed : Hardware → Own → Mem → Mem
+root_placed p o m = put m (root_of p o) (tabled (root_entry p o) 1024)
 
-unfoldable pub table_placed : Own → ℕ → Mem → Mem
-table_placed o r m = put m (table_frame o r) (tabled (λ i. leaf_entry o (1024 * r + i)) 1024)
+unfoldable pub table_placed : Hardware → Own → ℕ → Mem → Mem
+table_placed p o r m = put m (table_frame p o r) (tabled (λ i. leaf_entry p o (1024 * r + i)) 1024)
 
 -- the tables of the regions below r that have a page
-unfoldable pub tables_placed : Own → ℕ → Mem → Mem
-tables_placed o zero m = m
-tables_placed o (suc r) m = if has_region o.segments r then table_placed o r (tables_placed o r m) else tables_placed o r m
+unfoldable pub tables_placed : Hardware → Own → ℕ → Mem → Mem
+tables_placed p o zero m = m
+tables_placed p o (suc r) m = if has_region o.segments r then table_placed p o r (tables_placed p o r m) else tables_placed p o r m
 
 -- ---- pages
 
@@ -66,20 +67,20 @@ unfoldable pub page_words : List ℕ → Frame
 page_words bytes = tabled (word_of bytes) ((length bytes + 3) / 4)
 
 -- so many pages, from page n on; the bytes fill them in turn, and zeros follow
-unfoldable pub pages_placed : Own → ℕ → ℕ → List ℕ → Mem → Mem
-pages_placed o n zero bytes m = m
-pages_placed o n (suc many) bytes m = pages_placed o (suc n) many (drop 4096 bytes) (put m (page_frame o n) (page_words (take 4096 bytes)))
+unfoldable pub pages_placed : Hardware → Own → ℕ → ℕ → List ℕ → Mem → Mem
+pages_placed p o n zero bytes m = m
+pages_placed p o n (suc many) bytes m = pages_placed p o (suc n) many (drop 4096 bytes) (put m (page_frame p o n) (page_words (take 4096 bytes)))
 
 -- the pages of segments, one after the other
-unfoldable pub segments_placed : Own → List Segment → Mem → Mem
-segments_placed o [] m = m
-segments_placed o (s ∷ ss) m = segments_placed o ss (pages_placed o s.page s.pages s.bytes m)
+unfoldable pub segments_placed : Hardware → Own → List Segment → Mem → Mem
+segments_placed p o [] m = m
+segments_placed p o (s ∷ ss) m = segments_placed p o ss (pages_placed p o s.page s.pages s.bytes m)
 
 -- ---- domains
 
-unfoldable pub placed : Own → Mem → Mem
-placed o m = segments_placed o o.segments (tables_placed o 1024 (root_placed o m))
+unfoldable pub placed : Hardware → Own → Mem → Mem
+placed p o m = segments_placed p o o.segments (tables_placed p o 1024 (root_placed p o m))
 
-unfoldable pub all_placed : List Own → Mem
-all_placed [] = empty
-all_placed (o ∷ os) = placed o (all_placed os)
+unfoldable pub all_placed : Hardware → List Own → Mem
+all_placed p [] = empty
+all_placed p (o ∷ os) = placed p o (all_placed p os)

@@ -24,9 +24,9 @@ abbrev pub slot_end : List Entry → ℕ → ℕ
 slot_end es k = start es k + (entry_of_slot es k).length
 
 -- the end of the slot before switch k
-abbrev pub ended : List Entry → ℕ → ℕ
-ended es zero = 0
-ended es (suc k) = slot_end es k
+abbrev pub last_end : List Entry → ℕ → ℕ
+last_end es zero = 0
+last_end es (suc k) = slot_end es k
 
 -- who leaves at switch k: nobody at the boot
 abbrev pub outgoing : List Entry → ℕ → Option ℕ

@@ -1,16 +1,16 @@
 -- What can be seen of a domain: its state, and the words of its pool.
-use Rattle.std.specs.Prelude.{◌≡◌, ℕ, ◌-◌, ◌<◌, min, IsSome, List, length, take, map, filter, slice_get, Option}
-use Rattle.std.specs.List.{range_with_len}
+use Rattle.std.specs.Prelude.{◌≡◌, ℕ, ◌-◌, ◌<◌, ◌%◌, ◌^◌, min, IsSome, List, length, take, map, sum, slice_get, Option}
+use Rattle.std.specs.List.{concat}
 use Rattle.world_view.specs.declared.DomainStatus.{DomainStatus}
 use Rattle.world_view.specs.declared.Reply.{Reply}
 use Rattle.image_check.specs.Public.{Hardware, Public}
 use Rattle.image_check.specs.Own.{Own}
-use Rattle.world_view.specs.Image.{Image, own_of}
-use Rattle.world_view.specs.Frames.{own_frame}
+use Rattle.image_check.specs.Image.{Image, own_of}
+use Rattle.world_view.specs.Frames.{pool}
 use Rattle.phys_mem.specs.Mem.{frame_at}
 use Rattle.world_view.specs.Opening.{frame_words}
 use Rattle.world_view.specs.Domain.{Thread, Dom}
-use Rattle.world_view.specs.Event.{Store}
+use Rattle.world_view.specs.Event.{Storage}
 use Rattle.world_view.specs.Machine.{whole, dom_of, alone}
 
 -- a list that may be long: how many, the last, and the first 256
@@ -34,13 +34,10 @@ pub record View : Type 0 where
   pub readings : Log ℕ
   pub replies : Log Reply
   pub printed : List ℕ
-  pub frames : List (List ℕ)  -- the words of each frame of the pool
+  pub pool : List ℕ  -- its frames' numbers, ascending
+  pub frames : List (List ℕ)  -- the words of each of them
 
--- the frames of a domain, ascending
-unfoldable pub pool : Hardware → Own → List ℕ
-pool p o = filter (own_frame p o) (range_with_len 0 p.frames)
-
-unfoldable pub view : Hardware → Own → Dom → Store → View
+unfoldable pub view : Hardware → Own → Dom → Storage → View
 view p o d s = record {
   status = d.status;
   retired = d.retired;
@@ -48,13 +45,18 @@ view p o d s = record {
   readings = log_of d.readings;
   replies = log_of d.replies;
   printed = d.printed;
+  pool = pool p o;
   frames = map (λ f. frame_words (frame_at s.mem f)) (pool p o);
 }
 
 -- domain d of the whole machine after n slots
 unfoldable pub view_whole : Image → ℕ → ℕ → View
-view_whole i d n = let w = whole i n in view i.all.hardware (own_of i d) (dom_of w d) w.store
+view_whole i d n = let w = whole i n in view i.all.hardware (own_of i d) (dom_of w d) w.storage
 
 -- the same domain alone, from the public part and its own
 unfoldable pub view_alone : Public → Own → ℕ → ℕ → View
-view_alone p o d n = let s = alone p o d n in view p.hardware o s.dom s.store
+view_alone p o d n = let s = alone p o d n in view p.hardware o s.dom s.storage
+
+-- the sum of all words of the pool, modulo 2^32
+unfoldable pub memory_sum : List (List ℕ) → ℕ
+memory_sum frames = sum (concat frames) % 2 ^ 32

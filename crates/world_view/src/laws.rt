@@ -1,6 +1,6 @@
 //! Laws of the machine over its definitions, each the contract of a function
 //! that does nothing: a caller that calls it may rely on the law.
-ghost use Rattle.world_view.specs.Laws.{ReadingLaw, IsolationLaw, TwoRunLaw, ReportLaw, PadLaw, LinesLaw, StartLaw, InTimeLaw, OpeningPageLaw, OpeningRightsLaw, OpeningNoPageLaw, OpeningFramesLaw, ReachLaw, NoAccessFaultLaw, OthersStepLaw, OthersLeaveLaw, OthersEnterLaw, PrefetchLaw, FlushLaw, OwnStepLaw, SwitchOutLaw, SwitchInLaw, SwitchBothLaw, SwitchPastLaw, ResidencyLaw};
+ghost use Rattle.world_view.specs.Laws.{ReadingLaw, IsolationLaw, TwoRunLaw, PadLaw, LargestLaw, StartLaw, InTimeLaw, ClockLaw, OpeningPageLaw, OpeningRightsLaw, OpeningNoPageLaw, OpeningFramesLaw, ReachLaw, NoAccessFaultLaw, OthersStepLaw, OthersLeaveLaw, OthersEnterLaw, PrefetchLaw, FlushLaw, OwnStepLaw, SwitchOutLaw, SwitchInLaw, SwitchBothLaw, SwitchPastLaw, ResidencyLaw};
 
 /// Every image of the form that is read may be run, and its numbers are within the limits.
 pub fn reading()
@@ -11,15 +11,17 @@ pub fn reading()
 pub fn isolation()
     ensures isolated { IsolationLaw }
     ensures two_runs { TwoRunLaw }
-    ensures reported { ReportLaw }
 {}
 
-/// No switch overruns its pad, and each slot begins at exactly its start.
+/// No switch overruns its pad, and each slot begins at exactly its start. The
+/// limits of an image and of a run keep every clock far from the end of its
+/// range.
 pub fn pads()
     ensures used { PadLaw }
-    ensures lines { LinesLaw }
+    ensures largest { LargestLaw }
     ensures start { StartLaw }
     ensures in_time { InTimeLaw }
+    ensures fit { ClockLaw }
 {}
 
 /// The page tables that the machine opens with are those of the domains'
@@ -41,7 +43,8 @@ pub fn reach()
     ensures no_access_fault { NoAccessFaultLaw }
 {}
 
-/// An event of another domain, and each phase of a switch, leaves a domain as it was.
+/// An event of another domain leaves a domain, its memory and its part of the
+/// caches as they were, and each phase of a switch that part.
 pub fn others_events()
     ensures step { OthersStepLaw }
     ensures leave { OthersLeaveLaw }

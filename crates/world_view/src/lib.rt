@@ -1,18 +1,17 @@
 //! What the machine is: the values that definitions and code share. The
-//! definitions themselves stand in specs/, from the bytes of an image to the
-//! text of a report, and the laws about them are the contracts of the
-//! functions of `laws`.
+//! definitions themselves stand in specs/, from the bytes of an image to what
+//! is seen of a domain, among others and alone, and the laws about them are
+//! the contracts of the functions of `laws`.
 #![tactic(auto)]
 
+mod domain;
 pub mod laws;
 mod log;
-mod seen;
-mod status;
 mod view;
 
+pub use domain::{Domain, PRINTED, Thread};
 pub use log::Log;
-pub use status::Status;
-pub use view::{Thread, Used, View};
+pub use view::{Used, View};
 
 /// What became of a domain.
 #[derive(Clone, Copy, Debug, PartialEq, Eq)]
@@ -37,11 +36,4 @@ pub enum ThreadState {
 pub struct Reply {
     pub code: u32,
     pub value: u32,
-}
-
-/// What the words of the command line ask for.
-#[derive(Clone, Copy, Debug, PartialEq, Eq)]
-pub enum Command {
-    /// Run the image for so many slots, 0 to 65,536.
-    Run { slots: u32 },
 }

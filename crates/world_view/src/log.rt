@@ -19,12 +19,12 @@ pub struct Log<T> {
 impl<T: Copy> Log<T> {
     ghost use Rattle.std.specs.Prelude.{◌≡◌, ◌+◌, ◌^◌, ◌<◌, [], ◌∷◌, ◌++◌, List, IfOk};
     ghost use Rattle.world_view.specs.View.{log_of};
-    ghost use Rattle.world_view.specs.Kept.{log_view};
+    ghost use Rattle.world_view.specs.LogModel.{log_model};
 
     /// An empty log, with room for all that it will keep.
     #[tactic(auto, unfolding(crate::specs::View::log_of))]
     pub fn new(alloc: Global) -> Result<Self, Memory>
-        ensures empty { IfOk result (λ log. log_view log ≡ log_of []) }
+        ensures empty { IfOk result (λ log. log_model log ≡ log_of []) }
     {
         Ok(Log {
             first: Vec::with_capacity(alloc, KEPT)?,
@@ -36,7 +36,7 @@ impl<T: Copy> Log<T> {
     /// Adds an item. Never allocates.
     pub fn push(&mut self, item: T)
         requires count { self.old.count < 2 ^ 63 }
-        ensures pushed { (all : List T) → log_view self.old ≡ log_of all → log_view self.new ≡ log_of (all ++ item ∷ []) }
+        ensures pushed { (all : List T) → log_model self.old ≡ log_of all → log_model self.new ≡ log_of (all ++ item ∷ []) }
         ensures count { self.new.count ≡ self.old.count + 1 }
     {
         keep(&mut self.first, item);

@@ -1,7 +1,9 @@
-ghost use Rattle.std.specs.Prelude.{◌≡◌, ◌+◌, ◌<◌, true, IfOk};
-ghost use Rattle.page_map.specs.Words.{are_good};
-ghost use Rattle.page_map.specs.Tables.{StandsWith, has_table, has_page};
-ghost use Rattle.page_map.specs.Bench.{IsBench};
+// Page tables of 64 frames with the root in frame 2, changed and walked. What is
+// written stands in the manual's section on Sv32.
+ghost use Rattle.std.specs.Prelude.{◌≡◌, ℕ, ◌+◌, ◌<◌, ◌≤◌, true, IfOk};
+ghost use Rattle.sv32_walk.specs.PageTableEntry.{are_good};
+ghost use Rattle.page_map.specs.Tables.{IsPageMap, IsBlank, StandsWith, has_table, has_page};
+ghost use Rattle.page_map.specs.Reached.{TablesIn};
 
 use super::PageMap;
 use crate::{MapRefusal, laws};
@@ -10,18 +12,29 @@ use std::alloc::Global;
 use sv32_walk::{Access, WalkFault, walk};
 use tp_base::{FrameNo, Memory};
 
-// 64 frames, and tables with their root in frame 2.
+// Each function below says for the prover that from a frame on all are blank and
+// no tables: that is what the next call asks.
+
 fn open(alloc: Global) -> Result<(PhysMem, PageMap), Memory>
-    ensures { IfOk result (λ bench. IsBench bench.0 bench.1 3) }
+    ensures size { IfOk result (λ opened. opened.0.frames ≡ 64) }
+    ensures root { IfOk result (λ opened. opened.1 ≡ 2) }
+    ensures ready { IfOk result (λ opened. StandsWith opened.0 (λ m. IsPageMap m opened.1 opened.0.frames
+        × (TablesIn (λ table. table < 3) m opened.1 × ((f : ℕ) → 3 ≤ f → IsBlank m f)))) }
 {
     let mem = PhysMem::new(alloc, 64)?;
     Ok((mem, PageMap::new(FrameNo::new(2))))
 }
 
 fn install(mem: &mut PhysMem, map: &mut PageMap, va: u32, frame: u32) -> Result<u32, MapRefusal>
-    requires bench { IsBench mem.old map.old frame }
-    requires few { frame < 60 }
-    ensures bench { IsBench mem.new map.new (frame + 1) }
+    requires size { mem.old.frames ≡ 64 }
+    requires root { map.old ≡ 2 }
+    requires few { (2 < frame) × (frame < 60) }
+    requires ready { StandsWith mem.old (λ m. IsPageMap m map.old mem.old.frames
+        × (TablesIn (λ table. table < frame) m map.old × ((f : ℕ) → frame ≤ f → IsBlank m f))) }
+    ensures size { mem.new.frames ≡ 64 }
+    ensures root { map.new ≡ 2 }
+    ensures ready { StandsWith mem.new (λ m. IsPageMap m map.new mem.new.frames
+        × (TablesIn (λ table. table < frame + 1) m map.new × ((f : ℕ) → frame + 1 ≤ f → IsBlank m f))) }
     ensures there { IfOk result (λ at. StandsWith mem.new (λ m. has_table m map.new va ≡ true)) }
 {
     map.install_table(mem, va, FrameNo::new(frame))
@@ -34,26 +47,19 @@ fn map_page(
     frame: u32,
     rights: u8,
 ) -> Result<u32, MapRefusal>
-    requires bench { IsBench mem.old map.old frame }
-    requires few { frame < 60 }
+    requires size { mem.old.frames ≡ 64 }
+    requires root { map.old ≡ 2 }
+    requires few { (2 < frame) × (frame < 60) }
     requires rights { are_good rights ≡ true }
-    ensures bench { IsBench mem.new map.new frame }
+    requires ready { StandsWith mem.old (λ m. IsPageMap m map.old mem.old.frames
+        × (TablesIn (λ table. table < frame) m map.old × ((f : ℕ) → frame ≤ f → IsBlank m f))) }
+    ensures size { mem.new.frames ≡ 64 }
+    ensures root { map.new ≡ 2 }
+    ensures ready { StandsWith mem.new (λ m. IsPageMap m map.new mem.new.frames
+        × (TablesIn (λ table. table < frame) m map.new × ((f : ℕ) → frame ≤ f → IsBlank m f))) }
     ensures there { IfOk result (λ at. StandsWith mem.new (λ m. has_page m map.new va ≡ true)) }
 {
     map.map(mem, va, FrameNo::new(frame), rights)
-}
-
-// Maps a page and loads from it.
-fn map_and_load(
-    mem: &mut PhysMem,
-    map: &mut PageMap,
-    va: u32,
-    frame: u32,
-) -> Result<Result<u32, WalkFault>, MapRefusal>
-    requires bench { IsBench mem.old map.old frame }
-    requires few { frame < 60 }
-{
-    laws::map_and_walk(map, mem, va, FrameNo::new(frame), 1, Access::Load)
 }
 
 // A fetch, a load and a store at an address.
@@ -141,10 +147,6 @@ fn refusals(rt: HostRuntime) -> Result<(), Memory> {
     );
     assert_eq!(rt; walks(&mem, &map, 0x0040_5000), [Ok(0x1cdf); 3]);
     assert_eq!(rt; walks(&mem, &map, 0x0040_6000), [Err(WalkFault::Page); 3]);
-    assert_eq!(rt;
-        map_and_load(&mut mem, &mut map, 0x0040_6000, 7),
-        Ok(Ok(0x1c53))
-    );
     Ok(())
 }
 
@@ -174,10 +176,28 @@ fn clearing(rt: HostRuntime) -> Result<(), Memory> {
 fn laws_are_called() {
     laws::opening();
     laws::kept();
+    laws::once();
     laws::mapping();
     laws::unmapping();
     laws::installing();
     laws::uninstalling();
     laws::pools();
+    laws::reaching();
     laws::sealed();
+    laws::beside();
+}
+
+#[test]
+fn texts(rt: HostRuntime) -> Result<(), Memory> {
+    let texts = format!(in rt.alloc();
+        "{}; {}; {}",
+        MapRefusal::BadAddress,
+        MapRefusal::Mapped,
+        MapRefusal::NoTable
+    )?;
+    assert_eq!(rt;
+        texts.as_str(),
+        "the address is not aligned; the address is mapped already; no table is installed for the address"
+    );
+    Ok(())
 }

@@ -1,3 +1,4 @@
+// A memory read and written in parts, and one of the most frames at its end.
 ghost use Rattle.std.specs.Prelude.{◌≡◌, ◌+◌, ◌/◌, ◌<◌};
 
 use super::PhysMem;
@@ -41,5 +42,25 @@ fn words_halves_and_bytes(rt: HostRuntime) -> Result<(), Memory> {
     blank(&mut memory, FrameNo::new(1));
     assert_eq!(rt; (memory.read_word(4096), memory.read_word(8188)), (0, 0));
     assert_eq!(rt; memory.read_word(4), 0xabcd_ef01);
+    Ok(())
+}
+
+// A machine has 4,096 frames at most: the last word of such a memory.
+#[test]
+fn the_last_word_of_the_most_frames(rt: HostRuntime) -> Result<(), Memory> {
+    let mut memory = PhysMem::new(rt.alloc(), 4096)?;
+    memory.write_word(0x00ff_fffc, 0x8765_4321);
+    memory.write_byte(0x00ff_fffd, 0xab);
+    let read = (
+        memory.frames(),
+        memory.read_word(0x00ff_fffc),
+        memory.read_half(0x00ff_fffe),
+        memory.read_byte(0x00ff_ffff),
+        memory.read_word(0x00ff_fff8),
+        memory.read_word(0),
+    );
+    assert_eq!(rt; read, (4096, 0x8765_ab21, 0x8765, 0x87, 0, 0));
+    blank(&mut memory, FrameNo::new(4095));
+    assert_eq!(rt; memory.read_word(0x00ff_fffc), 0);
     Ok(())
 }

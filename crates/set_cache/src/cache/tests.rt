@@ -1,5 +1,6 @@
+// What a touch answers, row by row, and caches at the ends of their sizes.
 use super::SetCache;
-use crate::Policy;
+use crate::{Policy, Touch};
 use std::test::Fail;
 
 // Gives up way 0, always.
@@ -11,7 +12,7 @@ impl Policy for First {
 
     ghost takes = { λ _ ways. 0 < ways };
 
-    ghost rule = { λ _. record { touched = λ list _. list; filled = λ list _. list; victim = λ _ _. 0 } };
+    ghost rule = { λ _ _. record { touched = λ list _. list; filled = λ list _. list; victim = λ _. 0 } };
 
     ghost stands_for = { λ _ _ _ _. Unit {0} };
 
@@ -34,29 +35,78 @@ impl Policy for First {
     }
 }
 
-// Two sets of two ways: lines 4, 6 and 8 meet in set 0.
+const HIT: Touch = Touch {
+    hit: true,
+    victim: None,
+    dirty_victim: false,
+};
+
+const TOOK_AN_EMPTY_WAY: Touch = Touch {
+    hit: false,
+    victim: None,
+    dirty_victim: false,
+};
+
+fn gave_up(number: u32, dirty: bool) -> Touch {
+    Touch {
+        hit: false,
+        victim: Some(number),
+        dirty_victim: dirty,
+    }
+}
+
+// The first line whose touch answers otherwise than its row says.
+fn first_wrong(cache: &mut SetCache<First>, rows: &[(u32, bool, Touch)]) -> Option<u32> {
+    for (number, store, wanted) in rows {
+        if cache.touch(*number, *store) != *wanted {
+            return Some(*number);
+        }
+    }
+    None
+}
+
 #[test]
 fn a_victim_is_given_up_with_its_mark(rt: HostRuntime) -> Result<(), Fail> {
+    // Two sets of two ways: lines 4, 6 and 8 meet in set 0.
     let mut cache = SetCache::new(rt.alloc(), First, 2, 2)?;
     let rows = [
-        (4, true, false, None, false),
-        (7, false, false, None, false),
-        (6, false, false, None, false),
-        (6, true, true, None, false),
-        (8, false, false, Some(4), true),
-        (6, false, true, None, false),
+        (4, true, TOOK_AN_EMPTY_WAY),
+        (7, false, TOOK_AN_EMPTY_WAY),
+        (6, false, TOOK_AN_EMPTY_WAY),
+        (6, true, HIT),
+        (8, false, gave_up(4, true)),
+        (6, false, HIT),
     ];
-    for (number, store, hit, victim, dirty_victim) in rows {
-        let touch = cache.touch(number, store);
-        assert_eq!(rt; touch.hit, hit);
-        assert_eq!(rt; touch.victim, victim);
-        assert_eq!(rt; touch.dirty_victim, dirty_victim);
-    }
+    assert_eq!(rt; first_wrong(&mut cache, &rows), None);
     assert_eq!(rt; cache.place_of(7), Some(2));
     assert!(rt; !cache.holds(4));
-    assert_eq!(rt; cache.dirty(), 1);
-    assert_eq!(rt; cache.flush(), 1);
+    assert_eq!(rt; (cache.dirty(), cache.flush(), cache.dirty()), (1, 1, 0));
     assert!(rt; !cache.holds(6));
-    assert_eq!(rt; cache.dirty(), 0);
+    Ok(())
+}
+
+#[test]
+fn one_set_and_one_way_are_enough(rt: HostRuntime) -> Result<(), Fail> {
+    let mut one_place = SetCache::new(rt.alloc(), First, 1, 1)?;
+    let rows = [
+        (u32::MAX, true, TOOK_AN_EMPTY_WAY),
+        (u32::MAX, false, HIT),
+        (0, false, gave_up(u32::MAX, true)),
+        (1, true, gave_up(0, false)),
+    ];
+    assert_eq!(rt; first_wrong(&mut one_place, &rows), None);
+    let mut one_way = SetCache::new(rt.alloc(), First, 2, 1)?;
+    let rows = [
+        (u32::MAX, false, TOOK_AN_EMPTY_WAY),
+        (4, false, TOOK_AN_EMPTY_WAY),
+        (3, true, gave_up(u32::MAX, false)),
+        (4, true, HIT),
+    ];
+    assert_eq!(rt; first_wrong(&mut one_way, &rows), None);
+    let mut one_set = SetCache::new(rt.alloc(), First, 1, 16)?;
+    for number in 0..16 {
+        assert_eq!(rt; one_set.touch(number, false), TOOK_AN_EMPTY_WAY);
+    }
+    assert_eq!(rt; one_set.touch(u32::MAX, false), gave_up(0, false));
     Ok(())
 }

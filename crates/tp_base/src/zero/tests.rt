@@ -1,3 +1,4 @@
+// A map of two frames that meets the trait.
 ghost use Rattle.std.specs.Prelude.{◌<◌, cond, eqb};
 
 use super::Zero;

@@ -1,3 +1,4 @@
+// A run of two domains, slot by slot.
 use super::Machine;
 use image_check::{CheckRefusal, Checked, check};
 use image_text::{ReadRefusal, read_image};
@@ -69,14 +70,14 @@ struct Seen {
     /// How many, and the last.
     replies: (u64, Reply),
     printed: usize,
-    pool: u32,
+    pool: usize,
     frame: u32,
     /// A word of the last page.
     word: u32,
 }
 
 fn told(view: &View<'_>) -> Option<Seen> {
-    if view.readings() == 0 || view.replies() == 0 || view.frames < 6 {
+    if view.readings() == 0 || view.replies() == 0 || view.pool_len() < 6 {
         return None;
     }
     let pc = view.thread(0).pc;

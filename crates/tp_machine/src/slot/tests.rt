@@ -1,13 +1,15 @@
+// Programs of a few instructions, and what is left after a slot.
 ghost use Rattle.std.specs.Prelude.{◌≡◌, IfOk};
+ghost use Rattle.tp_machine.specs.Stands.{CountsUpTo};
 
 use super::stretch;
-use crate::domain::Domain;
-use image_check::{Hardware, Own};
+use image_check::Hardware;
 use phys_mem::PhysMem;
+use rv_core::Regs;
 use std::alloc::Global;
 use std::test::Fail;
-use tp_base::Memory;
-use world_view::DomainStatus;
+use tp_base::{FrameNo, Memory};
+use world_view::{Domain, DomainStatus, Log, PRINTED, Thread, ThreadState};
 
 const ENTRY: u32 = 0x1_0000;
 
@@ -42,22 +44,38 @@ fn tables(alloc: Global) -> Result<PhysMem, Memory>
     Ok(memory)
 }
 
+// A domain at its entry, whose root stands in frame 0.
+fn domain(alloc: Global) -> Result<Domain, Memory>
+    ensures few { IfOk result (CountsUpTo 0) }
+{
+    let mut pool = Vec::new(alloc);
+    pool.push(FrameNo::new(0))?;
+    Ok(Domain {
+        status: DomainStatus::Running,
+        thread: Thread {
+            state: ThreadState::Ready,
+            pc: ENTRY,
+            regs: Regs::new(),
+        },
+        retired: 0,
+        readings: Log::new(alloc)?,
+        replies: Log::new(alloc)?,
+        printed: Vec::with_capacity(alloc, PRINTED)?,
+        root: FrameNo::new(0),
+        pool,
+    })
+}
+
 fn ran(alloc: Global, program: [u32; 5]) -> Result<(Domain, u64), Memory> {
-    let own = Own {
-        name: String::new(alloc),
-        entry: ENTRY,
-        first_frame: 0,
-        segments: Vec::new(alloc),
-    };
     let mut memory = tables(alloc)?;
     memory.write_word(0x2000, program[0]);
     memory.write_word(0x2004, program[1]);
     memory.write_word(0x2008, program[2]);
     memory.write_word(0x200c, program[3]);
     memory.write_word(0x2010, program[4]);
-    let mut domain = Domain::open(alloc, &own)?;
+    let mut domain = domain(alloc)?;
     let hardware = Hardware { frames: 4, base: 7 };
-    let clock = stretch(&hardware, &own, &mut memory, &mut domain, 0, END);
+    let clock = stretch(&hardware, &mut memory, &mut domain, 0, END);
     Ok((domain, clock))
 }
 

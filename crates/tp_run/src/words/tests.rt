@@ -1,62 +1,58 @@
+// Lines of words, and what they ask for.
 use super::command;
-use std::alloc::Global;
-use std::process::Abort;
+use crate::Command;
 use std::test::Fail;
-use world_view::Command;
 
-// The words of this line ask for so many slots, or for nothing.
-fn expect(rt: &impl Abort, alloc: Global, line: &str, slots: Option<u32>) -> Result<(), Fail> {
-    let mut words = Vec::new(alloc);
-    for word in line.split_whitespace() {
-        words.push(String::from_str(alloc, word)?)?;
+// A line, a bar, and the number of slots that it asks for, if it asks for a run.
+const LINES: &str = "tp run --slots 4|4
+tp run --slots=4|4
+tp run --slots 0|0
+tp run --slots 65536|65536
+tp run --slots 00004|4
+tp run --slots 000004|4
+tp run --slots +4|4
+tp run --slots=-0|0
+|
+tp|
+tp fly|
+tp fly --slots 4|
+tp help|
+tp help run|
+tp --help|
+tp -h|
+tp --version|
+tp run|
+tp run --help|
+tp run --slot 4|
+tp run --slots|
+tp run --slots 65537|
+tp run --slots 99999999999999999999|
+tp run --slots x|
+tp run --slots 4x|
+tp run --slots -1|
+tp run --slots=-1|
+tp run --slots=|
+tp run --slots 4 5|
+tp run --slots 4 x|
+tp run --slots 4 --slots 5|";
+
+#[test]
+fn words_ask_for_slots_or_for_nothing(rt: HostRuntime) -> Result<(), Fail> {
+    let alloc = rt.alloc();
+    for row in LINES.split('\n') {
+        let mut fields = row.split('|');
+        let line = fields.next().unwrap_or("");
+        let slots = fields.next().unwrap_or("").parse::<u32>().ok();
+        let mut words = Vec::new(alloc);
+        for word in line.split_whitespace() {
+            words.push(String::from_str(alloc, word)?)?;
+        }
+        let asked = command(alloc, words.as_slice())?;
+        assert_eq!(rt;
+            asked,
+            slots.map(|slots| Command::Run { slots }),
+            "at {line}"
+        );
     }
-    let wanted = slots.map(|slots| Command::Run { slots });
-    assert_eq!(rt; command(alloc, words.as_slice())?, wanted, "at {line}");
     Ok(())
-}
-
-#[test]
-fn words_ask_for_slots(rt: HostRuntime) -> Result<(), Fail> {
-    let alloc = rt.alloc();
-    expect(&rt, alloc, "tp run --slots 4", Some(4))?;
-    expect(&rt, alloc, "tp run --slots=4", Some(4))?;
-    expect(&rt, alloc, "tp run --slots 0", Some(0))?;
-    expect(&rt, alloc, "tp run --slots 65536", Some(65536))?;
-    expect(&rt, alloc, "tp run --slots 00004", Some(4))?;
-    expect(&rt, alloc, "tp run --slots 000004", Some(4))?;
-    expect(&rt, alloc, "tp run --slots +4", Some(4))?;
-    expect(&rt, alloc, "tp run --slots=-0", Some(0))
-}
-
-#[test]
-fn other_words_are_no_command(rt: HostRuntime) -> Result<(), Fail> {
-    let alloc = rt.alloc();
-    expect(&rt, alloc, "", None)?;
-    expect(&rt, alloc, "tp", None)?;
-    expect(&rt, alloc, "tp fly", None)?;
-    expect(&rt, alloc, "tp fly --slots 4", None)?;
-    expect(&rt, alloc, "tp help", None)?;
-    expect(&rt, alloc, "tp help run", None)?;
-    expect(&rt, alloc, "tp --help", None)?;
-    expect(&rt, alloc, "tp -h", None)?;
-    expect(&rt, alloc, "tp --version", None)?;
-    expect(&rt, alloc, "tp run", None)?;
-    expect(&rt, alloc, "tp run --help", None)?;
-    expect(&rt, alloc, "tp run --slot 4", None)?;
-    expect(&rt, alloc, "tp run --slots", None)
-}
-
-#[test]
-fn other_values_are_no_slots(rt: HostRuntime) -> Result<(), Fail> {
-    let alloc = rt.alloc();
-    expect(&rt, alloc, "tp run --slots 65537", None)?;
-    expect(&rt, alloc, "tp run --slots 99999999999999999999", None)?;
-    expect(&rt, alloc, "tp run --slots x", None)?;
-    expect(&rt, alloc, "tp run --slots 4x", None)?;
-    expect(&rt, alloc, "tp run --slots -1", None)?;
-    expect(&rt, alloc, "tp run --slots=-1", None)?;
-    expect(&rt, alloc, "tp run --slots=", None)?;
-    expect(&rt, alloc, "tp run --slots 4 5", None)?;
-    expect(&rt, alloc, "tp run --slots 4 x", None)?;
-    expect(&rt, alloc, "tp run --slots 4 --slots 5", None)
 }

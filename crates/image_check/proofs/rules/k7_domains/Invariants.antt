@@ -1,8 +1,8 @@
 use Rattle.std.proofs.Common.{◌≡◌, take, drop, map}
-use Rattle.image_text.specs.Reads.{domain_view}
+use Rattle.image_text.specs.Models.{domain_model}
 use Rattle.image_check.specs.Cases.{first_case, first_in}
 use Rattle.image_check.specs.Rules as spec
 use Rattle.image_check.proofs.rules.k7_domains.Given as goal
 
 abbrev pub invariant-loop-d : goal.invariant-loop-d
-invariant-loop-d l = first_case spec.k7_domain (map domain_view (take l.d l.domains)) (map domain_view (drop l.d l.domains)) ≡ first_in spec.k7_domain (map domain_view l.domains)
+invariant-loop-d l = first_case spec.k7_domain (map domain_model (take l.d l.domains)) (map domain_model (drop l.d l.domains)) ≡ first_in spec.k7_domain (map domain_model l.domains)

@@ -1,3 +1,4 @@
+-- The loop: what is left of it decides as the whole does.
 use Rattle.std.proofs.Common.{◌≡◌, drop}
 use Rattle.toml.specs.View.{items_view}
 use Rattle.image_text.specs.Rows as spec

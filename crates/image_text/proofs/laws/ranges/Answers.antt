@@ -1,5 +1,6 @@
+-- The law of ranges.
 use Rattle.image_text.proofs.Ranges.{ranges_law}
 use Rattle.image_text.proofs.laws.ranges.Goals as goal
 
 pub returns : goal.returns
-returns c = ranges_law
+returns c = record { ranges = ranges_law }

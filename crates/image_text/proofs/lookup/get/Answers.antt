@@ -1,3 +1,4 @@
+-- The value at a key.
 use Rattle.toml.proofs.Views.{table_get}
 use Rattle.image_text.proofs.lookup.get.Goals as goal
 

@@ -1,8 +1,9 @@
+-- The loop: what is left of it decides as the whole does.
 use Rattle.std.proofs.Common.{◌≡◌, drop}
 use Rattle.toml.specs.View.{items_view}
 use Rattle.image_text.specs.Rows as spec
-use Rattle.image_text.specs.Views.{row_view}
+use Rattle.image_text.specs.Models.{row_model}
 use Rattle.image_text.proofs.rows.all_whole.Given as goal
 
 abbrev pub invariant-loop-value : goal.invariant-loop-value
-invariant-loop-value l = spec.all_items (spec.whole_item (row_view l.row)) (items_view (drop l.value-index l.values)) ≡ spec.all_items (spec.whole_item (row_view l.row)) (items_view l.values)
+invariant-loop-value l = spec.all_items (spec.whole_item (row_model l.row)) (items_view (drop l.value-index l.values)) ≡ spec.all_items (spec.whole_item (row_model l.row)) (items_view l.values)

@@ -1,8 +1,9 @@
+-- The loop: what is left of it decides as the whole does.
 use Rattle.std.proofs.Common.{◌≡◌, drop, map}
 use Rattle.toml.specs.View.{table_view}
 use Rattle.image_text.specs.Rows as spec
-use Rattle.image_text.specs.Views.{row_view}
+use Rattle.image_text.specs.Models.{row_model}
 use Rattle.image_text.proofs.rows.first_broken.Given as goal
 
 abbrev pub invariant-loop-row : goal.invariant-loop-row
-invariant-loop-row l = spec.first_broken l.version (map row_view (drop l.row-index l.rows)) (table_view l.table) ≡ spec.first_broken l.version (map row_view l.rows) (table_view l.table)
+invariant-loop-row l = spec.first_broken l.version (map row_model (drop l.row-index l.rows)) (table_view l.table) ≡ spec.first_broken l.version (map row_model l.rows) (table_view l.table)

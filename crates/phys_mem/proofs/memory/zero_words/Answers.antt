@@ -1,3 +1,4 @@
+-- Words of which a frame was filled with zeros.
 use Rattle.std.proofs.Common.{arith, ◌≡◌, ◌≤◌, ◌∙◌, ap, length, List, take, drop, replicate, ◌++◌, ℕ, ◌+◌, ◌*◌}
 use Rattle.std.proofs.lemmas.List.{drop-drop, length-take, length-drop}
 use Rattle.phys_mem.specs.Contents.{zeros, zeroed_words}

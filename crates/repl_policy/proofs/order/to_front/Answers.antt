@@ -1,7 +1,7 @@
 use Rattle.std.proofs.Common.{arith, subst, ◌≡◌, ◌+◌, ◌*◌, ◌≤◌, ℕ, List, length}
 use Rattle.repl_policy.specs.Orders.{to_front, without}
 use Rattle.repl_policy.specs.Packed.{AllBelow, Packs, pack, all_ways}
-use Rattle.repl_policy.proofs.Packing.{room_in_front, AllBelow-weaker, Packs-to_front}
+use Rattle.repl_policy.proofs.Packing.{room_in_front, AllBelow-weaker, Packs-to_front, Packs-newest}
 use Rattle.repl_policy.proofs.order.to_front.Goals as goal
 
 -- what the recursive call answers, at a list
@@ -25,8 +25,12 @@ overflow_add-result c =
     let room = room_in_front c.args.ways c.args.way c.args.state list packs c.requires.below c.requires.few in
     omega arith
 
+pub returns-then-state-newest : goal.returns-then-state-newest
+returns-then-state-newest c = λ list packs.
+    Packs-newest c.args.ways c.args.state c.args.way list packs c.requires.few c.requires.below (omega (arith, c.from-newest.ensures, c.if-state-newest.true))
+
 pub returns : goal.returns
 returns c = λ list packs.
     let rest = kept c.args.ways c.args.state c.args.way c.without.result list c.requires.few c.without.ensures.value packs in
-    let state : c.args.way + 16 * pack (without (all_ways c.args.ways list) c.args.way) ≡ c.from.result + 16 * c.without.result = omega (arith, c.from.ensures) in
+    let state : c.args.way + 16 * pack (without (all_ways c.args.ways list) c.args.way) ≡ c.from-newest.result + 16 * c.without.result = omega (arith, c.from-newest.ensures) in
     subst (λ (s : ℕ). Packs c.args.ways s (to_front list c.args.way)) state (Packs-to_front c.args.ways c.args.state c.args.way list packs c.requires.below)

@@ -1,3 +1,4 @@
+-- The law that both tables are one.
 use Rattle.std.proofs.Common.{◌≡◌, Some}
 use Rattle.rv_decode.specs.Table.{decode_of}
 use Rattle.rv_decode.proofs.WordLaws.{decode_of-word}

@@ -1,3 +1,4 @@
+-- The exit where memory runs out.
 use Rattle.std.proofs.lemmas.Result.{err_from_is_err_and}
 use Rattle.tp_io.proofs.Known.{took_more}
 use Rattle.tp_io.proofs.source.read_within.Goals as goal

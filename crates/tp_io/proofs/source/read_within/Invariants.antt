@@ -1,3 +1,4 @@
+-- The loop that reads to the end.
 use Rattle.std.proofs.Common.{◌≡◌, ◌+◌, ◌-◌, ◌≤◌, length}
 use Rattle.tp_io.specs.Bytes.{before_known}
 use Rattle.tp_io.proofs.source.read_within.Given as goal

@@ -1,5 +1,4 @@
 use Rattle.std.proofs.lemmas.Result.{err_from_is_err_and}
-use Rattle.image_check.specs.Views.{own_view}
 use Rattle.tp_machine.proofs.Accesses.{load_faulted, load_found, load_aligned}
 use Rattle.tp_machine.proofs.access.load.Goals as goal
 
@@ -7,7 +6,7 @@ pub returns-in_err-frame : goal.returns-in_err-frame
 returns-in_err-frame c =
     let e = err_from_is_err_and c.from_residual.result c.from_residual.ensures.1 in
     record {
-      finds = λ p same d s h. rw (e.1, e.2) (load_faulted p (own_view c.args.own.now) d c.args.width c.args.at s c.args.memory.now c.in_err-frame.field-0.0 (c.in_err-frame.ensures.finds p same d s h));
+      finds = λ p same d s h. rw (e.1, e.2) (load_faulted p c.args.root d c.args.width c.args.at s c.args.memory.now c.in_err-frame.field-0.0 (c.in_err-frame.ensures.finds p same d s h));
     }
 
 pub read-requires-clause-within : goal.read-requires-clause-within
@@ -18,6 +17,6 @@ read-requires-clause-aligned c = load_aligned c.args.width c.physical.result c.a
 
 pub returns : goal.returns
 returns c = record {
-  finds = λ p same d s h. load_found p (own_view c.args.own.now) d c.args.width c.args.at s c.args.memory.now c.in_ok-frame.frame c.read.result c.physical.result (c.in_ok-frame.ensures.finds p same d s h)
+  finds = λ p same d s h. load_found p c.args.root d c.args.width c.args.at s c.args.memory.now c.in_ok-frame.frame c.read.result c.physical.result (c.in_ok-frame.ensures.finds p same d s h)
       c.physical.ensures.frame c.physical.ensures.place c.physical.ensures.low c.read.ensures.value;
 }

@@ -9,7 +9,5 @@ returns-in-ReadCounter-clause-becomes c =
 pub returns : goal.returns
 returns c = record {
   becomes = finish_other c.args.next c.args.value c.args.domain.now c.retire-2.new.domain c.args.instr c.in_default.not-ReadCounter c.retire-2.ensures.becomes;
-  retired = c.retire-2.ensures.retired;
-  readings = omega (arith, c.retire-2.ensures.readings);
-  replies = c.retire-2.ensures.replies;
+  grows = let g = c.retire-2.ensures.grows in record { retired = g.retired; readings = let few = g.readings in omega (arith, few); replies = g.replies; place = g.place };
 }

@@ -9,7 +9,7 @@ abbrev pub invariant-loop-left : goal.invariant-loop-left
 invariant-loop-left l = record {
   within : l.left ≤ length (owns_of l.image);
   frames : l.memory.frames ≡ (public_of l.image).hardware.frames;
-  holds : Holds l.memory (spec.all_placed (drop l.left (owns_of l.image)));
+  holds : Holds l.memory (spec.all_placed (public_of l.image).hardware (drop l.left (owns_of l.image)));
 }
 
 abbrev pub decreases-loop-left : goal.decreases-loop-left

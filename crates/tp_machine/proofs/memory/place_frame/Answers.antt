@@ -11,14 +11,14 @@ loop-i-init g c = record {
 
 pub loop-i-preserved : goal.loop-i-preserved
 loop-i-preserved g c =
-    let frame = c.args.frame in
     let words = g.W.Words.words c.args.words.now in
     let i = c.loop-i.i in
     let below : i < 1024 = omega arith in
+    let at : 4096 * c.number-number.result + 4 * i ≡ 4096 * c.args.frame + 4 * i = omega (arith, c.number-number.ensures.same) in
     record {
       placed = λ m h. subst (Holds c.write_word.new.self)
-          (filled-more m frame words i (4096 * frame + 4 * i) c.word-word.result refl below c.word-word.ensures.value)
-          (c.write_word.ensures.holds (filled m frame words i) (c.loop-i.invariant.placed m h));
+          (filled-more m c.args.frame words i (4096 * c.number-number.result + 4 * i) c.word-word.result at below c.word-word.ensures.value)
+          (c.write_word.ensures.holds (filled m c.args.frame words i) (c.loop-i.invariant.placed m h));
       frames = search rules;
     }
 

@@ -1,60 +1,62 @@
 use Rattle.std.proofs.Common.{◌≡◌, ◌+◌, ◌<◌, ◌≤◌, length, map, drop, get_or, refl, sym, ap, subst, ◌∙◌, rules}
 use Rattle.phys_mem.specs.Mem.{Mem}
-use Rattle.image_check.specs.Views.{segment_view, own_view}
+use Rattle.image_check.specs.Models.{segment_model, hardware_model, own_model}
 use Rattle.world_view.specs.Opening.{pages_placed, segments_placed}
-use Rattle.tp_machine.specs.Stands.{HasFrames}
 use Rattle.tp_machine.proofs.Pages.{more, none, has_pages, segment_few}
 use Rattle.tp_machine.proofs.Loading.{begun, finished, went_on, no_segment, one_segment}
 use Rattle.tp_machine.proofs.memory.place_segments.Goals as goal
 
 pub loop-segment-init : goal.loop-segment-init
 loop-segment-init c =
-    let o = own_view c.args.own.now in
-    record { placed = λ m h. begun c.args.memory.now m (segments_placed o o.segments) h; frames = refl }
+    let p = hardware_model c.args.at.now.hardware.now in
+    let o = own_model c.args.at.now.own.now in
+    record { placed = λ m h. begun c.args.memory.now m (segments_placed p o o.segments) h; frames = refl }
 
-pub place_segment-requires-clause-held : goal.place_segment-requires-clause-held
-place_segment-requires-clause-held c = subst (HasFrames (own_view c.args.own.now)) (sym c.loop-segment.invariant.frames) c.requires.held
+pub place_segment-requires-clause-size : goal.place_segment-requires-clause-size
+place_segment-requires-clause-size c = c.loop-segment.invariant.frames ∙ c.requires.size
 
 pub place_segment-requires-clause-few : goal.place_segment-requires-clause-few
 place_segment-requires-clause-few c =
-    let segments = c.args.own.now.segments.items in
+    let segments = c.args.at.now.own.now.segments.items in
     let k = c.loop-segment.segment-index in
     let q = c.segment-item.result in
     let within : k < length segments = search rules in
     let is : q ≡ get_or segments k q = search rules in
-    segment_few c.args.own.now k q c.requires.sound within is
+    segment_few c.args.at.now.own.now k q c.args.at.now.has_pool.sound within is
 
 pub place_segment-requires-clause-pages : goal.place_segment-requires-clause-pages
 place_segment-requires-clause-pages c =
-    let segments = c.args.own.now.segments.items in
+    let segments = c.args.at.now.own.now.segments.items in
     let k = c.loop-segment.segment-index in
     let q = c.segment-item.result in
     let within : k < length segments = search rules in
     let is : q ≡ get_or segments k q = search rules in
-    has_pages c.args.own.now k q within is
+    has_pages c.args.at.now.own.now k q within is
 
 pub loop-segment-preserved : goal.loop-segment-preserved
 loop-segment-preserved c =
-    let o = own_view c.args.own.now in
-    let segments = c.args.own.now.segments.items in
+    let p = hardware_model c.args.at.now.hardware.now in
+    let o = own_model c.args.at.now.own.now in
+    let segments = c.args.at.now.own.now.segments.items in
     let k = c.loop-segment.segment-index in
     let q = c.segment-item.result in
     let within : k < length segments = search rules in
     let is : q ≡ get_or segments k q = search rules in
-    let rest = map segment_view (drop (k + 1) segments) in
-    let step : (m : Mem) → segments_placed o (map segment_view (drop k segments)) m ≡ segments_placed o rest (pages_placed o q.page q.pages q.bytes.items m) =
-    λ m. ap (λ ss. segments_placed o ss m) (more segments k q within is) ∙ one_segment o (segment_view q) rest m in
+    let rest = map segment_model (drop (k + 1) segments) in
+    let step : (m : Mem) → segments_placed p o (map segment_model (drop k segments)) m ≡ segments_placed p o rest (pages_placed p o q.page q.pages q.bytes.items m) =
+    λ m. ap (λ ss. segments_placed p o ss m) (more segments k q within is) ∙ one_segment p o (segment_model q) rest m in
     record {
-      placed = λ m h. went_on c.loop-segment.memory c.place_segment.new.memory (segments_placed o (map segment_view (drop k segments))) (segments_placed o rest) (pages_placed o q.page q.pages q.bytes.items) (segments_placed o o.segments m)
+      placed = λ m h. went_on c.loop-segment.memory c.place_segment.new.memory (segments_placed p o (map segment_model (drop k segments))) (segments_placed p o rest) (pages_placed p o q.page q.pages q.bytes.items) (segments_placed p o o.segments m)
           step c.place_segment.ensures.placed (c.loop-segment.invariant.placed m h);
       frames = c.place_segment.ensures.frames ∙ c.loop-segment.invariant.frames;
     }
 
 pub returns-clause-placed : goal.returns-clause-placed
 returns-clause-placed c m h =
-    let o = own_view c.args.own.now in
-    let segments = c.args.own.now.segments.items in
+    let p = hardware_model c.args.at.now.hardware.now in
+    let o = own_model c.args.at.now.own.now in
+    let segments = c.args.at.now.own.now.segments.items in
     let k = c.loop-segment.segment-index in
     let past : length segments ≤ k = search rules in
-    finished c.loop-segment.memory (segments_placed o (map segment_view (drop k segments))) (segments_placed o o.segments m)
-    (λ x. ap (λ ss. segments_placed o ss x) (none segments k past) ∙ no_segment o x) (c.loop-segment.invariant.placed m h)
+    finished c.loop-segment.memory (segments_placed p o (map segment_model (drop k segments))) (segments_placed p o o.segments m)
+    (λ x. ap (λ ss. segments_placed p o ss x) (none segments k past) ∙ no_segment p o x) (c.loop-segment.invariant.placed m h)

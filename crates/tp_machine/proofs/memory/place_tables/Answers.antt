@@ -1,15 +1,16 @@
 use Rattle.std.proofs.Common.{◌≡◌, refl, sym, subst, ◌∙◌, arith}
 use Rattle.phys_mem.specs.Holds.{Holds}
-use Rattle.image_check.specs.Views.{own_view}
-use Rattle.tp_machine.specs.Stands.{HasFrames}
+use Rattle.image_check.specs.Models.{hardware_model, own_model}
 use Rattle.tp_machine.proofs.Loading.{tables_none}
 use Rattle.tp_machine.proofs.memory.place_tables.Goals as goal
 
 pub loop-region-init : goal.loop-region-init
-loop-region-init c = record { placed = λ m h. subst (Holds c.args.memory.now) (sym (tables_none (own_view c.args.own.now) m)) h; frames = refl }
+loop-region-init c =
+    let at = c.args.at.now in
+    record { placed = λ m h. subst (Holds c.args.memory.now) (sym (tables_none (hardware_model at.hardware.now) (own_model at.own.now) m)) h; frames = refl }
 
-pub place_table-requires-clause-held : goal.place_table-requires-clause-held
-place_table-requires-clause-held c = subst (HasFrames (own_view c.args.own.now)) (sym c.loop-region.invariant.frames) c.requires.held
+pub place_table-requires-clause-size : goal.place_table-requires-clause-size
+place_table-requires-clause-size c = c.loop-region.invariant.frames ∙ c.requires.size
 
 pub loop-region-preserved : goal.loop-region-preserved
 loop-region-preserved c = record {

@@ -1,23 +1,22 @@
 use Rattle.std.proofs.Common.{sym, ap, ◌∙◌}
 use Rattle.rv_core.specs.Memory.{misalignment_of}
-use Rattle.image_check.specs.Views.{own_view}
-use Rattle.tp_machine.specs.Stands.{dom_view}
+use Rattle.world_view.specs.Models.{dom_model}
 use Rattle.tp_machine.proofs.Instructions.{execute_misaligned, execute_faulted, execute_settled}
 use Rattle.tp_machine.proofs.slot.execute.Goals as goal
 
 pub returns-in-Some-clause-leaves : goal.returns-in-Some-clause-leaves
 returns-in-Some-clause-leaves c p same s readings replies h r q =
-    execute_misaligned p (own_view c.args.own.now) c.args.now (dom_view c.args.domain.now readings replies) c.args.instr s c.args.memory.now c.stop.new.domain h c.in-Some.trap
+    execute_misaligned p c.args.domain.now.root c.args.now (dom_model c.args.domain.now readings replies) c.args.instr s c.args.memory.now c.stop.new.domain h c.in-Some.trap
     (ap (misalignment_of c.args.instr) (sym c.address-at.ensures.address) ∙ sym c.in-Some.ensures.trap) (c.stop.ensures.becomes readings replies r q)
 
 pub returns-in-Ok-clause-leaves : goal.returns-in-Ok-clause-leaves
 returns-in-Ok-clause-leaves c p same s readings replies h r q =
-    execute_settled p (own_view c.args.own.now) c.args.now (dom_view c.args.domain.now readings replies) c.args.instr s c.args.memory.now c.settle.new.domain h c.in-Ok.value c.settle.new.memory
+    execute_settled p c.args.domain.now.root c.args.now (dom_model c.args.domain.now readings replies) c.args.instr s c.args.memory.now c.settle.new.domain h c.in-Ok.value c.settle.new.memory
     (ap (misalignment_of c.args.instr) (sym c.address-at.ensures.address) ∙ sym c.in_default.ensures.trap)
-    (λ u k. c.in-Ok.ensures.answers p u readings replies same k) (λ u k. c.settle.ensures.leaves p same u readings replies k r q)
+    (λ u k. c.in-Ok.ensures.finds p u readings replies same k) (λ u k. c.settle.ensures.leaves p same u readings replies k r q)
 
 pub returns-in-Err-clause-leaves : goal.returns-in-Err-clause-leaves
 returns-in-Err-clause-leaves c p same s readings replies h r q =
-    execute_faulted p (own_view c.args.own.now) c.args.now (dom_view c.args.domain.now readings replies) c.args.instr s c.args.memory.now c.stop-in-Err.new.domain h c.in-Err.trap
+    execute_faulted p c.args.domain.now.root c.args.now (dom_model c.args.domain.now readings replies) c.args.instr s c.args.memory.now c.stop-in-Err.new.domain h c.in-Err.trap
     (ap (misalignment_of c.args.instr) (sym c.address-at.ensures.address) ∙ sym c.in_default.ensures.trap)
-    (λ u k. c.in-Err.ensures.answers p u readings replies same k) (c.stop-in-Err.ensures.becomes readings replies r q)
+    (λ u k. c.in-Err.ensures.finds p u readings replies same k) (c.stop-in-Err.ensures.becomes readings replies r q)

@@ -1,10 +1,10 @@
 use Rattle.std.proofs.Common.{sym, ◌∙◌, arith}
-use Rattle.image_check.specs.Views.{own_view, hardware_view}
-use Rattle.tp_machine.proofs.Moved.{goes_on, moves_over}
+use Rattle.image_check.specs.Models.{hardware_model}
+use Rattle.tp_machine.proofs.Moved.{goes_first, goes_on, moves_over}
 use Rattle.tp_machine.proofs.slot.stretch.Goals as goal
 
-pub step-clock-requires-clause-held : goal.step-clock-requires-clause-held
-step-clock-requires-clause-held c = c.requires.held ∙ sym c.loop-clock.invariant.frames
+pub step-clock-requires-clause-size : goal.step-clock-requires-clause-size
+step-clock-requires-clause-size c = c.requires.size ∙ sym c.loop-clock.invariant.frames
 
 pub loop-clock-preserved : goal.loop-clock-preserved
 loop-clock-preserved c = record {
@@ -12,12 +12,16 @@ loop-clock-preserved c = record {
   soon = λ h. c.step-clock.ensures.soon;
   still = λ h. omega arith;
   frames = c.step-clock.ensures.frames ∙ c.loop-clock.invariant.frames;
-  so_far = goes_on (hardware_view c.args.hardware.now) (own_view c.args.own.now) c.args.end c.args.memory.now c.loop-clock.memory c.step-clock.new.memory
+  place = record {
+    root = c.step-clock.ensures.place.root ∙ c.loop-clock.invariant.place.root;
+    pool = c.step-clock.ensures.place.pool ∙ c.loop-clock.invariant.place.pool;
+  };
+  so_far = λ o is. goes_on (hardware_model c.args.hardware.now) o c.args.end c.args.memory.now c.loop-clock.memory c.step-clock.new.memory
       c.args.domain.now c.loop-clock.domain c.step-clock.new.domain c.args.now c.loop-clock.clock c.step-clock.result
-      c.requires.timed c.loop-clock.invariant.so_far c.loop-clock-test.true c.step-clock.ensures.becomes;
+      c.requires.timed.some (c.loop-clock.invariant.so_far o is) c.loop-clock-test.true (c.step-clock.ensures.becomes o (c.loop-clock.invariant.place.root ∙ is));
 }
 
 pub returns-clause-becomes : goal.returns-clause-becomes
-returns-clause-becomes c =
-    moves_over (hardware_view c.args.hardware.now) (own_view c.args.own.now) c.args.end c.args.memory.now c.loop-clock.memory c.args.domain.now c.loop-clock.domain c.args.now c.loop-clock.clock
-    c.requires.timed c.loop-clock.invariant.so_far c.loop-clock-test.false
+returns-clause-becomes c o is =
+    moves_over (hardware_model c.args.hardware.now) o c.args.end c.args.memory.now c.loop-clock.memory c.args.domain.now c.loop-clock.domain c.args.now c.loop-clock.clock
+    c.requires.timed.some (c.loop-clock.invariant.so_far o is) c.loop-clock-test.false

@@ -1,6 +1,8 @@
 use Rattle.std.proofs.Common.{◌≡◌, ◌+◌, ◌<◌, ◌≤◌, ◌-◌}
-use Rattle.image_check.specs.Views.{own_view, hardware_view}
-use Rattle.tp_machine.specs.Stands.{CountsUpTo}
+use Rattle.image_check.specs.Own.{Own}
+use Rattle.image_check.specs.Models.{hardware_model}
+use Rattle.world_view.specs.Frames.{root_of}
+use Rattle.tp_machine.specs.Stands.{CountsUpTo, SamePlace}
 use Rattle.tp_machine.proofs.Moved.{GoesOn}
 use Rattle.tp_machine.proofs.slot.stretch.Given as goal
 
@@ -10,7 +12,9 @@ invariant-loop-clock l = record {
   soon : l.now < l.end → l.clock < l.end + l.hardware.base;
   still : l.end ≤ l.now → l.clock ≡ l.now;
   frames : l.memory.frames ≡ l.fn.memory.frames;
-  so_far : GoesOn (hardware_view l.hardware) (own_view l.own) l.end l.fn.memory l.fn.domain l.now l.memory l.domain l.clock;
+  place : SamePlace l.fn.domain l.domain;
+  so_far : (o : Own) → l.fn.domain.root ≡ root_of (hardware_model l.hardware) o
+      → GoesOn (hardware_model l.hardware) o l.end l.fn.memory l.fn.domain l.now l.memory l.domain l.clock;
 }
 
 abbrev pub decreases-loop-clock : goal.decreases-loop-clock

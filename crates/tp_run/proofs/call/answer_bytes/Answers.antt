@@ -1,27 +1,32 @@
-use Rattle.std.proofs.Common.{sym, subst}
-use Rattle.world_view.specs.declared.Command.{Command}
-use Rattle.world_view.specs.declared.status.Status.TheVariants.{Refused}
-use Rattle.world_view.specs.Reading.{image}
-use Rattle.world_view.specs.Answer.{answer_of_image}
-use Rattle.tp_io.specs.Sure.{Exceeds}
-use Rattle.tp_run.specs.TopCall.{Writes}
-use Rattle.tp_run.proofs.Answers.{wrote, too_long_for, broken_due, run_due}
+use Rattle.std.proofs.Common.{◌≤◌, ◌<◌, length, sym, subst, rules}
+use Rattle.world_view.specs.Reading.{most_bytes}
+use Rattle.tp_io.specs.Sink.{state}
+use Rattle.tp_run.specs.Answer.{Answer}
+use Rattle.tp_run.specs.TopCall.{Delivers}
+use Rattle.tp_run.specs.declared.status.Status.TheVariants.{Refused, TooLong}
+use Rattle.tp_run.proofs.Answers.{delivered, too_long_due, broken_due, unbroken_due}
 use Rattle.tp_run.proofs.call.answer_bytes.Goals as goal
 
-pub returns-in-Err-Broken-clause-wrote : goal.returns-in-Err-Broken-clause-wrote
-returns-in-Err-Broken-clause-wrote g c =
-    rw (broken_due c.args.command c.args.bytes.now _ (rw c.in-Err-Broken.field-0-is at c.in-Err-Broken.ensures.accepts)) (wrote Refused c.ended.result _ _ _ _ _ c.write_refusal.result tt (rw c.in-Err-Broken.refusal-is at c.write_refusal.ensures) c.ended.ensures.ok c.ended.ensures.err)
+pub returns-then-bytes-gt-MOST_BYTES : goal.returns-then-bytes-gt-MOST_BYTES
+returns-then-bytes-gt-MOST_BYTES g c =
+    let over : most_bytes < length c.args.bytes.now = search rules in
+    record {
+      delivers = rw (too_long_due c.args.bytes.now c.args.command over)
+          (delivered TooLong c.status_unless_failed.result _ _ _ c.write_too_long.result tt c.write_too_long.ensures.sends c.status_unless_failed.ensures.ok c.status_unless_failed.ensures.err);
+    }
 
-pub returns-clause-wrote : goal.returns-clause-wrote
-returns-clause-wrote g c =
-    subst (λ (asked : Command). Writes c.run_image.result (answer_of_image asked (image c.args.bytes.now)) (g.K.Sink.written c.args.out.now) (g.K.Sink.written c.run_image.new.out)) (sym c.slots_of.ensures.value)
-    (rw (run_due c.slots_of.result c.args.bytes.now _ c.in-Ok.ensures.accepts) c.run_image.ensures.wrote)
+pub returns-in-Ok : goal.returns-in-Ok
+returns-in-Ok g c =
+    let few : length c.args.bytes.now ≤ most_bytes = search rules in
+    record {
+      delivers = subst (λ (due : Answer). Delivers due c.answer_image.result (state g.K.Sink c.args.out.now) (state g.K.Sink c.answer_image.new.out))
+          (sym (unbroken_due c.args.command c.args.bytes.now _ few c.in-Ok.ensures.accepts)) c.answer_image.ensures.delivers;
+    }
 
-pub returns-in-Err-Broken-clause-short : goal.returns-in-Err-Broken-clause-short
-returns-in-Err-Broken-clause-short g c fault =
-    rw (broken_due c.args.command c.args.bytes.now _ (rw c.in-Err-Broken.field-0-is at c.in-Err-Broken.ensures.accepts)) (too_long_for Refused c.ended.result _ _ _ _ _ c.write_refusal.result tt (rw c.in-Err-Broken.refusal-is at c.write_refusal.ensures) c.ended.ensures.ok fault)
-
-pub returns-clause-short : goal.returns-clause-short
-returns-clause-short g c fault =
-    subst (λ (asked : Command). Exceeds (g.K.Sink.sure c.args.out.now) (answer_of_image asked (image c.args.bytes.now)).1) (sym c.slots_of.ensures.value)
-    (rw (run_due c.slots_of.result c.args.bytes.now _ c.in-Ok.ensures.accepts) (c.run_image.ensures.short fault))
+pub returns-in-Err-Broken : goal.returns-in-Err-Broken
+returns-in-Err-Broken g c =
+    let few : length c.args.bytes.now ≤ most_bytes = search rules in
+    record {
+      delivers = rw (broken_due c.args.command c.args.bytes.now _ few (rw c.in-Err-Broken.field-0-is at c.in-Err-Broken.ensures.accepts))
+          (delivered Refused c.status_unless_failed-in-Err-Broken.result _ _ _ c.write_refusal.result tt (rw c.in-Err-Broken.refusal-is at c.write_refusal.ensures.sends) c.status_unless_failed-in-Err-Broken.ensures.ok c.status_unless_failed-in-Err-Broken.ensures.err);
+    }

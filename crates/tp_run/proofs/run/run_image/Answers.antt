@@ -1,20 +1,23 @@
-use Rattle.std.proofs.Common.{◌≡◌, ◌∙◌, arith}
-use Rattle.world_view.specs.declared.status.Status.TheVariants.{Done}
-use Rattle.tp_run.proofs.Answers.{wrote, too_long_for, report_of_same}
+use Rattle.std.proofs.Common.{◌≡◌, ◌∙◌, arith, subst₂, ℕ}
+use Rattle.image_text.specs.Record as text
+use Rattle.image_check.specs.Image.{image_from}
+use Rattle.tp_io.specs.Sink.{state}
+use Rattle.tp_report.specs.Report.{report}
+use Rattle.tp_run.specs.declared.status.Status.TheVariants.{Done}
+use Rattle.tp_run.specs.TopCall.{Delivers}
+use Rattle.tp_run.proofs.Answers.{delivered, nothing_held}
 use Rattle.tp_run.proofs.run.run_image.Goals as goal
 
-pub returns-clause-wrote : goal.returns-clause-wrote
-returns-clause-wrote g c =
-    let m = c.loop-slot.machine in
-    let over : c.loop-slot.slot ≡ c.args.slots = omega arith in
-    wrote Done c.ended.result _ _ _ _ _ c.write_report.result tt
-    (report_of_same m.image.now c.args.image.now m.slots c.args.slots _ _ _ _ c.write_report.result c.loop-slot.invariant.image (c.loop-slot.invariant.slots ∙ over) c.write_report.ensures)
-    c.ended.ensures.ok c.ended.ensures.err
+pub returns-in-Err : goal.returns-in-Err
+returns-in-Err g c = record { delivers = nothing_held _ _ }
 
-pub returns-clause-short : goal.returns-clause-short
-returns-clause-short g c fault =
+pub returns : goal.returns
+returns g c =
     let m = c.loop-slot.machine in
     let over : c.loop-slot.slot ≡ c.args.slots = omega arith in
-    too_long_for Done c.ended.result _ _ _ _ _ c.write_report.result tt
-    (report_of_same m.image.now c.args.image.now m.slots c.args.slots _ _ _ _ c.write_report.result c.loop-slot.invariant.image (c.loop-slot.invariant.slots ∙ over) c.write_report.ensures)
-    c.ended.ensures.ok fault
+    let old = state g.K.Sink c.args.out.now in
+    let new = state g.K.Sink c.write_report.new.out in
+    record {
+      delivers = subst₂ (λ (x : text.Raw) (n : ℕ). Delivers (Done, report (image_from x) n) c.status_unless_failed.result old new) c.loop-slot.invariant.image (c.loop-slot.invariant.slots ∙ over)
+          (delivered Done c.status_unless_failed.result (report (image_from m.image.now) m.slots) old new c.write_report.result tt c.write_report.ensures.sends c.status_unless_failed.ensures.ok c.status_unless_failed.ensures.err);
+    }

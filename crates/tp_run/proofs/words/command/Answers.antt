@@ -1,7 +1,7 @@
 use Rattle.std.proofs.Common.{◌≡◌, None, Some, sym, ap, subst, ◌∙◌, inl, inr}
 use Rattle.clap.specs.Words.{App, IsAmong, kind_of, fault_of, is_simple, is_simple_and_free, subcommand_of}
-use Rattle.world_view.specs.Answer.{command}
-use Rattle.world_view.proofs.WordsLaws.{tp_is_simple, tp_is_free, taken, refused}
+use Rattle.tp_run.specs.Answer.{command}
+use Rattle.tp_run.proofs.WordsLaws.{tp_is_simple, tp_is_free, taken, refused}
 use Rattle.tp_run.specs.TopCall.{words_of}
 use Rattle.tp_run.proofs.words.command.Goals as goal
 

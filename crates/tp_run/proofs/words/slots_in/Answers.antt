@@ -1,9 +1,9 @@
 use Rattle.std.proofs.Common.{codes, ap, ◌∙◌, rules}
 use Rattle.clap.specs.Words.{found_of, one_text}
 use Rattle.clap.proofs.WalkLemmas.{one_text-rows}
-use Rattle.world_view.specs.Partial.{◌>>=◌}
-use Rattle.world_view.specs.Words.{slots_of, slots_in}
-use Rattle.world_view.proofs.WordsLaws.{given}
+use Rattle.tp_run.specs.Partial.{◌>>=◌}
+use Rattle.tp_run.specs.Words.{slots_of, slots_in}
+use Rattle.tp_run.proofs.WordsLaws.{given}
 use Rattle.tp_run.proofs.words.slots_in.Goals as goal
 
 pub returns-in_err-slots-clause-value : goal.returns-in_err-slots-clause-value

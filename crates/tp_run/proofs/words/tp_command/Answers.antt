@@ -2,7 +2,7 @@ use Rattle.std.proofs.Common.{ap, ap₂, ◌∙◌}
 use Rattle.std.proofs.lemmas.Result.{IfOk-weaker}
 use Rattle.clap.specs.Words.{App, with_subcommand}
 use Rattle.clap.specs.Simple.{app_of_fields, on_top}
-use Rattle.world_view.specs.Words.{tp_app, required}
+use Rattle.tp_run.specs.Words.{tp_app, required}
 use Rattle.tp_run.proofs.words.tp_command.Goals as goal
 
 -- one link for each subcommand

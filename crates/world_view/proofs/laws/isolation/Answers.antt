@@ -1,6 +1,5 @@
 use Rattle.world_view.proofs.Separate.{separated}
 use Rattle.world_view.proofs.WholeLaws.{isolated, two_runs}
-use Rattle.world_view.proofs.ReportLaws.{reported_apart}
 use Rattle.world_view.proofs.laws.isolation.Goals as goal
 
 pub returns-clause-isolated : goal.returns-clause-isolated
@@ -8,6 +7,3 @@ returns-clause-isolated c i d n r = isolated i d n (separated i r)
 
 pub returns-clause-two_runs : goal.returns-clause-two_runs
 returns-clause-two_runs c i j d n r q = two_runs i j d n (separated i r) (separated j q)
-
-pub returns-clause-reported : goal.returns-clause-reported
-returns-clause-reported c i n r = reported_apart i n (separated i r)

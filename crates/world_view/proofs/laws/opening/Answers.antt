@@ -7,5 +7,5 @@ returns c = record {
   page = λ i d va a q r is fits e given. opened_page i (separated i r) d is va a q fits e given;
   rights = λ i d va a q r is fits e refused. opened_refused i (separated i r) d is va a q fits e refused;
   no_page = λ i d va a r is fits e. opened_nowhere i (separated i r) d is va a fits e;
-  frames = pages_apart;
+  frames = λ i d n m q s r is. pages_apart i d n m q s (separated i r) is;
 }

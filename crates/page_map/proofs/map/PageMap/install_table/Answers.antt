@@ -1,3 +1,4 @@
+-- A table that was installed.
 use Rattle.page_map.proofs.WriteLemmas.{holds_at}
 use Rattle.page_map.proofs.map.PageMap.install_table.Goals as goal
 

@@ -1,3 +1,4 @@
+-- A table that was uninstalled.
 use Rattle.std.proofs.Common.{refl}
 use Rattle.page_map.proofs.WriteLemmas.{holds_at}
 use Rattle.page_map.proofs.map.PageMap.uninstall_table.Goals as goal

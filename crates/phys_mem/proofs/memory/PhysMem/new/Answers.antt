@@ -1,3 +1,4 @@
+-- A new memory.
 use Rattle.std.proofs.Common.{rules, ◌≡◌, subst, sym}
 use Rattle.tp_base.specs.Table.{empty}
 use Rattle.phys_mem.specs.Contents.{Contents, zeros, all_zero}

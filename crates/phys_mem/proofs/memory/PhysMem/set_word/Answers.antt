@@ -1,3 +1,4 @@
+-- A word that was written.
 use Rattle.std.proofs.Common.{rules, sym, subst}
 use Rattle.phys_mem.specs.Contents.{Contents}
 use Rattle.phys_mem.specs.Holds.{Holds}

@@ -1,3 +1,4 @@
+-- A byte that was written.
 use Rattle.std.proofs.Common.{arith, rules, ◌≡◌, ◌∙◌, ap, subst, ℕ, ◌%◌}
 use Rattle.phys_mem.specs.Address.{frame_of, place_of}
 use Rattle.phys_mem.specs.Mem.{written}

@@ -1,3 +1,4 @@
+-- A frame that was zeroed.
 use Rattle.std.proofs.Common.{arith, rules, ◌≡◌, ◌∙◌, ap, sym, subst}
 use Rattle.phys_mem.specs.Contents.{Contents, word_of, zeroed}
 use Rattle.phys_mem.specs.Mem.{zeroed_frame}

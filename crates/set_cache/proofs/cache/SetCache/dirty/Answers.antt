@@ -1,6 +1,6 @@
 use Rattle.std.proofs.Common.{length, ◌≡◌, ◌∙◌, take, ap, arith, take_all}
 use Rattle.std.specs.Prelude.{sum_by}
-use Rattle.set_cache.specs.Contents.{Kept}
+use Rattle.set_cache.specs.Contents.{KeptSet}
 use Rattle.set_cache.specs.Cache.{dirty_in}
 use Rattle.set_cache.specs.Lines.{dirty_kept}
 use Rattle.set_cache.proofs.Sets.{dirty-stands}
@@ -13,7 +13,7 @@ returns-clause-here g c =
     let lengths : length c.deref-set-items.result.now ≡ length table = ap length same in
     let n : c.loop-set.set-index ≡ length table = omega arith in
     let all : take c.loop-set.set-index table ≡ table = ap (λ i. take i table) n ∙ take_all (length table) table (omega arith) in
-    c.loop-set.invariant.counted ∙ ap (sum_by (λ (k : Kept). dirty_in k.places)) all
+    c.loop-set.invariant.counted ∙ ap (sum_by (λ (k : KeptSet). dirty_in k.places)) all
 
 pub returns-clause-stands : goal.returns-clause-stands
 returns-clause-stands g c = λ sets for.

@@ -7,7 +7,6 @@ pub returns-clause-below : goal.returns-clause-below
 returns-clause-below g c =
     let s = c.self.inside in
     let way : c.in_ok-way.way < s.ways = search (rules, common_steps) in
-    let set : c.args.number % c.len.result < length s.table.items = omega arith in
-    let fits : c.args.number % c.len.result * s.ways + c.in_ok-way.way < length s.table.items * s.ways =
-    (let row = row_fits (c.args.number % c.len.result) s.ways (length s.table.items) s.ways set (omega arith) in omega (arith, row)) in
+    let fits : c.set_of-index.result * s.ways + c.in_ok-way.way < length s.table.items * s.ways =
+    (let row = row_fits c.set_of-index.result s.ways (length s.table.items) s.ways (omega arith) (omega arith) in omega (arith, row)) in
     rw (← c.self.view_is) fits

@@ -1,7 +1,7 @@
 use Rattle.std.proofs.Common.{◌≡◌, ◌-◌, ◌<◌, length, map, ap, rules, arith}
 use Rattle.image_check.specs.Public as spec
-use Rattle.image_check.specs.Views.{entry_view}
-use Rattle.world_view.specs.Image.{image_from}
+use Rattle.image_check.specs.Models.{entry_model}
+use Rattle.image_check.specs.Image.{image_from}
 use Rattle.tp_machine.proofs.Openings.{entries_some, stands_first, last_pad, in_bounds_first}
 use Rattle.tp_machine.proofs.machine.Machine.load.Goals as goal
 
@@ -10,7 +10,7 @@ invariant_of-result-clause-stands c =
     let i = image_from c.args.image.now in
     let r = c.runnable.ensures in
     let items = c.public-public.result.now.schedule.items in
-    let entries : map entry_view items ≡ i.all.schedule = ap (λ (p : spec.Public). p.schedule) c.public-public.ensures in
+    let entries : map entry_model items ≡ i.all.schedule = ap (λ (p : spec.Public). p.schedule) c.public-public.ensures in
     let some = entries_some i r items entries in
     let long : length c.in_ok-used.used.items ≡ length items = search rules in
     let last : c.len-last.result - 1 ≡ length items - 1 = search rules in
@@ -22,8 +22,8 @@ invariant_of-result-clause-in_bounds c =
     let i = image_from c.args.image.now in
     let r = c.runnable.ensures in
     let items = c.public-public.result.now.schedule.items in
-    let entries : map entry_view items ≡ i.all.schedule = ap (λ (p : spec.Public). p.schedule) c.public-public.ensures in
+    let entries : map entry_model items ≡ i.all.schedule = ap (λ (p : spec.Public). p.schedule) c.public-public.ensures in
     let some = entries_some i r items entries in
     let last : c.len-last.result - 1 < length items = search rules in
     let short = last_pad i r items entries (c.len-last.result - 1) c.index.result.now last (search rules) in
-    in_bounds_first c.in_ok-domains.domains.items i.owns (length i.owns) c.in_ok-used.used.items c.from.result c.in_ok-domains.ensures.opened c.in_ok-used.ensures.few (omega (arith, short, c.from.ensures))
+    in_bounds_first i.all.hardware c.in_ok-memory.memory c.in_ok-domains.domains.items i.owns (length i.owns) c.in_ok-used.used.items c.from.result c.in_ok-domains.ensures.opened c.in_ok-used.ensures.few (omega (arith, short, c.from.ensures))

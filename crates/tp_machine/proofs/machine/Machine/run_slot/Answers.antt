@@ -1,78 +1,53 @@
-use Rattle.std.proofs.Common.{◌≡◌, ℕ, false, ◌+◌, ◌-◌, ◌<◌, ◌≤◌, List, [], ◌∷◌, ◌++◌, length, refl, sym, ap, subst, ◌∙◌, rules, arith}
+use Rattle.std.proofs.Common.{◌≡◌, ℕ, ◌+◌, ◌-◌, ◌≤◌, ◌<◌, [], ◌∷◌, ◌++◌, length, map, List, false, refl, sym, ap, subst, ◌∙◌, rules, arith}
+use Rattle.std.proofs.lemmas.List.{length-map}
 use Rattle.std.proofs.lemmas.Option.{slice_get_read}
 use Rattle.image_check.specs.Public as spec
-use Rattle.image_check.specs.Views.{hardware_view, own_view, entry_view}
-use Rattle.world_view.specs.Image.{image_from}
-use Rattle.world_view.specs.Schedule as schedule
+use Rattle.image_check.specs.Own.{Own}
+use Rattle.image_check.specs.Models.{entry_model, hardware_model}
+use Rattle.image_check.specs.Image.{image_from}
+use Rattle.world_view.specs.Frames.{root_of}
 use Rattle.world_view.specs.Machine.{stretch}
-use Rattle.tp_machine.specs.Moves.{Moves}
-use Rattle.tp_machine.specs.Usage.{IsUsed, CountedUpTo}
+use Rattle.world_view.specs.Schedule as schedule
 use Rattle.world_view.proofs.Separate.{separated}
 use Rattle.world_view.proofs.TimeLaws.{on_time}
+use Rattle.tp_machine.specs.Moves.{IsTimed, Moves}
+use Rattle.tp_machine.specs.Usage.{IsUsed, CountedUpTo}
 use Rattle.tp_machine.proofs.SwitchCounts.{noted_back, counted_back, length_back}
-use Rattle.tp_machine.proofs.Slots.{schedule_long, entry_read, domain_named, length_short, pad_short, counts_later, stands_next, in_bounds_next}
+use Rattle.tp_machine.proofs.Slots.{stands_next, in_bounds_next, counts_later}
 use Rattle.tp_machine.proofs.machine.Machine.run_slot.Goals as goal
 
-pub own-requires : goal.own-requires
-own-requires c =
-    let m = c.args.self.now in
-    let i = image_from m.image.now in
-    let p = c.public-public.result.now in
-    let entries : c.len-entries.result ≡ length p.schedule.items = search rules in
-    let named = domain_named i m.accepted p c.public-public.ensures m.slots c.len-entries.result c.index-entry.result.now entries c.index-entry.ensures in
-    record { domain = omega (arith, named, c.from-d.ensures) }
-
 pub index_mut-requires : goal.index_mut-requires
-index_mut-requires c =
-    let m = c.args.self.now in
-    let i = image_from m.image.now in
-    let p = c.public-public.result.now in
-    let entries : c.len-entries.result ≡ length p.schedule.items = search rules in
-    let named = domain_named i m.accepted p c.public-public.ensures m.slots c.len-entries.result c.index-entry.result.now entries c.index-entry.ensures in
-    omega (arith, named, c.from-d.ensures, m.stands.all_domains)
+index_mut-requires c = omega (arith, c.next_entry-entry.ensures.domain, c.from-d.ensures, c.args.self.now.stands.all_domains)
 
 pub overflow_add-end : goal.overflow_add-end
 overflow_add-end c =
     let m = c.args.self.now in
-    let i = image_from m.image.now in
-    let p = c.public-public.result.now in
-    let entries : c.len-entries.result ≡ length p.schedule.items = search rules in
-    let len = length_short i m.accepted p c.public-public.ensures m.slots c.len-entries.result c.index-entry.result.now entries c.index-entry.ensures in
-    omega (arith, len, c.from.ensures, m.in_bounds.next_soon, m.in_bounds.slots_left)
+    omega (arith, c.next_entry-entry.ensures.length, c.from.ensures, m.in_bounds.next_soon, m.in_bounds.slots_left)
 
 pub overflow_add-self : goal.overflow_add-self
 overflow_add-self c =
     let m = c.args.self.now in
-    let i = image_from m.image.now in
-    let p = c.public-public.result.now in
-    let entries : c.len-entries.result ≡ length p.schedule.items = search rules in
-    let len = length_short i m.accepted p c.public-public.ensures m.slots c.len-entries.result c.index-entry.result.now entries c.index-entry.ensures in
-    let pad = pad_short i m.accepted p c.public-public.ensures m.slots c.len-entries.result c.index-entry.result.now entries c.index-entry.ensures in
-    omega (arith, len, pad, c.from.ensures, c.from-2.ensures, m.in_bounds.next_soon, m.in_bounds.slots_left)
+    let e = c.next_entry-entry.ensures in
+    omega (arith, e.length, e.pad, c.from.ensures, c.from-2.ensures, m.in_bounds.next_soon, m.in_bounds.slots_left)
 
-pub stretch-self-requires-clause-held : goal.stretch-self-requires-clause-held
-stretch-self-requires-clause-held c =
-    let m = c.args.self.now in
-    let p = c.public-public.result.now in
-    ap (λ (q : spec.Public). q.hardware.frames) c.public-public.ensures ∙ sym m.stands.frames
+pub stretch-self-requires-clause-timed : goal.stretch-self-requires-clause-timed
+stretch-self-requires-clause-timed c =
+    let base = c.args.self.now.accepted.base in
+    let same = ap (λ (q : spec.Public). q.hardware.base) c.public-public.ensures in
+    record { some = omega (arith, base, same); short = omega (arith, base, same) }
+
+pub stretch-self-requires-clause-size : goal.stretch-self-requires-clause-size
+stretch-self-requires-clause-size c = ap (λ (q : spec.Public). q.hardware.frames) c.public-public.ensures ∙ sym c.args.self.now.stands.frames
 
 pub stretch-self-requires-clause-end : goal.stretch-self-requires-clause-end
 stretch-self-requires-clause-end c =
     let m = c.args.self.now in
-    let i = image_from m.image.now in
-    let p = c.public-public.result.now in
-    let entries : c.len-entries.result ≡ length p.schedule.items = search rules in
-    let len = length_short i m.accepted p c.public-public.ensures m.slots c.len-entries.result c.index-entry.result.now entries c.index-entry.ensures in
-    omega (arith, len, c.from.ensures, m.in_bounds.next_soon, m.in_bounds.slots_left)
+    omega (arith, c.next_entry-entry.ensures.length, c.from.ensures, m.in_bounds.next_soon, m.in_bounds.slots_left)
 
 pub stretch-self-requires-clause-few : goal.stretch-self-requires-clause-few
 stretch-self-requires-clause-few c =
     let m = c.args.self.now in
-    let i = image_from m.image.now in
-    let p = c.public-public.result.now in
-    let entries : c.len-entries.result ≡ length p.schedule.items = search rules in
-    let named = domain_named i m.accepted p c.public-public.ensures m.slots c.len-entries.result c.index-entry.result.now entries c.index-entry.ensures in
-    let within : c.from-d.result < length m.domains.items = omega (arith, named, c.from-d.ensures, m.stands.all_domains) in
+    let within : c.from-d.result < length m.domains.items = omega (arith, c.next_entry-entry.ensures.domain, c.from-d.ensures, m.stands.all_domains) in
     let x = c.index_mut.result.now in
     let got = slice_get_read m.domains.items (length m.domains.items) c.from-d.result x refl within c.index_mut.ensures.value in
     counts_later m.clock c.max-begin.result x (omega (arith, c.max-begin.ensures)) (m.in_bounds.few_calls c.from-d.result x got)
@@ -83,44 +58,38 @@ invariant_of-self-clause-stands c =
     let i = image_from m.image.now in
     let p = c.public-public.result.now in
     let x = c.index_mut.result.now in
-    let o = c.own.result.now in
-    let entries : c.len-entries.result ≡ length p.schedule.items = search rules in
-    let named = domain_named i m.accepted p c.public-public.ensures m.slots c.len-entries.result c.index-entry.result.now entries c.index-entry.ensures in
-    let within : c.from-d.result < length m.domains.items = omega (arith, named, c.from-d.ensures, m.stands.all_domains) in
+    let within : c.from-d.result < length m.domains.items = omega (arith, c.next_entry-entry.ensures.domain, c.from-d.ensures, m.stands.all_domains) in
     let got = slice_get_read m.domains.items (length m.domains.items) c.from-d.result x refl within c.index_mut.ensures.value in
     let e : spec.Entry = record { domain = c.from-d.result; length = c.from.result; pad = c.from-2.result } in
-    let same : entry_view c.index-entry.result.now ≡ e = rw (c.from-d.ensures, c.from.ensures, c.from-2.ensures) in
-    let entry : schedule.entry_of_slot i.all.schedule m.slots ≡ e = entry_read i m.accepted p c.public-public.ensures m.slots c.len-entries.result c.index-entry.result.now entries c.index-entry.ensures ∙ same in
+    let same : entry_model c.next_entry-entry.result ≡ e = rw (c.from-d.ensures, c.from.ensures, c.from-2.ensures) in
+    let entry : schedule.entry_of_slot i.all.schedule m.slots ≡ e = sym c.next_entry-entry.ensures.entry ∙ same in
     let long : length c.note_switch.new.used ≡ m.used.len = search rules in
     let was : length m.used.items ≡ m.used.len = search rules in
-    let es_long : length i.all.schedule ≡ c.len-entries.result = schedule_long i m.accepted p c.public-public.ensures m.slots c.len-entries.result c.index-entry.result.now entries c.index-entry.ensures in
-    let noted : (us : List (ℕ × ℕ)) → IsUsed m.used.items us → IsUsed c.note_switch.new.used (us ++ (c.switch_entry-switched.result, m.clock - m.ended) ∷ []) = rw c.as_mut_slice.ensures.value at c.note_switch.ensures.noted in
-    let hardware : hardware_view p.hardware ≡ i.all.hardware = ap (λ (q : spec.Public). q.hardware) c.public-public.ensures in
-    let moves = subst (λ (h : spec.Hardware). Moves (stretch h (own_view o) false (m.start + c.from.result)) m.memory x c.max-begin.result c.stretch-self.new.memory c.stretch-self.new.domain c.stretch-self.result) hardware c.stretch-self.ensures.becomes in
-    stands_next i m.slots m.memory c.stretch-self.new.memory m.domains.items m.used.items _ m.clock m.start m.ended m.stands x c.stretch-self.new.domain c.max-begin.result c.stretch-self.result (own_view o) c.max-begin.ensures c.stretch-self.ensures.frames
+    let schedule_is : map entry_model p.schedule.items ≡ i.all.schedule = ap (λ (q : spec.Public). q.schedule) c.public-public.ensures in
+    let entries : c.len-entries.result ≡ length p.schedule.items = search rules in
+    let es_long : length i.all.schedule ≡ c.len-entries.result = ap (λ (xs : List spec.Entry). length xs) (sym schedule_is) ∙ length-map p.schedule.items entry_model ∙ sym entries in
+    let noted : (us : List (ℕ × ℕ)) → IsUsed m.used.items us → IsUsed c.note_switch.new.used (us ++ (c.switch_entry-switched.result, m.clock - m.last_end) ∷ []) = rw c.as_mut_slice.ensures.value at c.note_switch.ensures.noted in
+    let hardware : hardware_model p.hardware ≡ i.all.hardware = ap (λ (q : spec.Public). q.hardware) c.public-public.ensures in
+    let runs = subst (λ (h : spec.Hardware). (o : Own) → x.root ≡ root_of h o → Moves (stretch h o false (m.start + c.from.result)) m.memory x c.max-begin.result c.stretch-self.new.memory c.stretch-self.new.domain c.stretch-self.result) hardware c.stretch-self.ensures.becomes in
+    stands_next i m.slots m.memory c.stretch-self.new.memory m.domains.items m.used.items _ m.clock m.start m.last_end m.stands x c.stretch-self.new.domain c.max-begin.result c.stretch-self.result c.max-begin.ensures c.stretch-self.ensures.frames c.stretch-self.ensures.place
     (length_back m.used.items c.note_switch.new.used m.used.len long was)
-    (noted_back m.used.items c.note_switch.new.used m.used.len long was c.switch_entry-switched.result (schedule.switch_entry i.all.schedule m.slots) (m.clock - m.ended) (c.switch_entry-switched.ensures.value i.all.schedule es_long) noted)
-    e entry (sym c.own.ensures) got moves
+    (noted_back m.used.items c.note_switch.new.used m.used.len long was c.switch_entry-switched.result (schedule.switch_entry i.all.schedule m.slots) (m.clock - m.last_end) (c.switch_entry-switched.ensures.value i.all.schedule es_long) noted)
+    e entry got runs
 
 pub invariant_of-self-clause-in_bounds : goal.invariant_of-self-clause-in_bounds
 invariant_of-self-clause-in_bounds c =
     let m = c.args.self.now in
-    let i = image_from m.image.now in
     let p = c.public-public.result.now in
-    let e = c.index-entry.result.now in
-    let entries : c.len-entries.result ≡ length p.schedule.items = search rules in
-    let named = domain_named i m.accepted p c.public-public.ensures m.slots c.len-entries.result e entries c.index-entry.ensures in
-    let within : c.from-d.result < length m.domains.items = omega (arith, named, c.from-d.ensures, m.stands.all_domains) in
-    let len = length_short i m.accepted p c.public-public.ensures m.slots c.len-entries.result e entries c.index-entry.ensures in
-    let pad = pad_short i m.accepted p c.public-public.ensures m.slots c.len-entries.result e entries c.index-entry.ensures in
+    let e = c.next_entry-entry.ensures in
+    let within : c.from-d.result < length m.domains.items = omega (arith, e.domain, c.from-d.ensures, m.stands.all_domains) in
     let long : length c.note_switch.new.used ≡ m.used.len = search rules in
     let was : length m.used.items ≡ m.used.len = search rules in
     let counted : (n : ℕ) → CountedUpTo n m.used.items → CountedUpTo (n + 1) c.note_switch.new.used = rw c.as_mut_slice.ensures.value at c.note_switch.ensures.few in
-    let base : p.hardware.base ≡ i.all.hardware.base = ap (λ (q : spec.Public). q.hardware.base) c.public-public.ensures in
+    let base = ap (λ (q : spec.Public). q.hardware.base) c.public-public.ensures in
     let one = m.accepted.base in
     let short : p.hardware.base ≤ 1000 = omega (arith, base, one) in
-    in_bounds_next m.slots m.domains.items m.used.items _ m.clock m.start m.ended c.from-d.result c.from.result c.from-2.result p.hardware.base c.stretch-self.new.domain c.max-begin.result c.stretch-self.result
-    m.in_bounds c.requires.slots (omega (arith, len, c.from.ensures)) (omega (arith, pad, c.from-2.ensures)) short within c.max-begin.ensures
+    in_bounds_next m.slots m.memory c.stretch-self.new.memory m.domains.items m.used.items _ m.clock m.start m.last_end c.from-d.result c.from.result c.from-2.result p.hardware.base c.stretch-self.new.domain c.max-begin.result c.stretch-self.result
+    m.in_bounds c.requires.slots (omega (arith, e.length, c.from.ensures)) (omega (arith, e.pad, c.from-2.ensures)) short within c.max-begin.ensures
     c.stretch-self.ensures.few c.stretch-self.ensures.over c.stretch-self.ensures.soon c.stretch-self.ensures.done
     (counted_back m.used.items c.note_switch.new.used m.used.len long was counted)
 

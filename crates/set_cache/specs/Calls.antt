@@ -1,0 +1,54 @@
+-- What the calls of a cache promise, each named once. `takes`, `rule` and `stands` are the policy's members.
+use Rattle.std.specs.Prelude.{◌≡◌, ◌≢◌, ℕ, ◌<◌, ◌≤◌, ◌*◌, ◌%◌, ◌^◌, Bool, false, List, length, Option, None}
+use Rattle.std.specs.Int.{IsPowerOfTwo}
+use Rattle.tp_base.specs.Table.{empty}
+use Rattle.set_cache.specs.Rule.{Rule}
+use Rattle.set_cache.specs.Cache.{Sets, touch_of, dirty_of}
+use Rattle.set_cache.specs.Contents.{Contents, StandsFor, SameShape, CacheSteps, IsSound, kept_at, shape_of}
+use Rattle.set_cache.specs.Lines.{MovesLines, MovesMarks, place_in, mark_in, dirty_kept}
+use Rattle.set_cache.specs.declared.Touch.{Touch}
+
+-- the sizes that a cache can have, by the numbers of ways that its policy takes
+pub record IsGeometry (takes : ℕ → Type 0) (sets ways : ℕ) : Type 0 where
+  pub taken : takes ways
+  pub power : IsPowerOfTwo sets
+  pub small : sets * ways < 2 ^ 32
+
+-- a cache of this policy and these sizes, with no line
+pub record IsNew {P : Type 0} (takes : P → ℕ → Type 0) (stands : P → ℕ → ℕ → List ℕ → Type 0)
+    (policy : P) (sets ways : ℕ) (contents : Contents P) : Type 0 where
+  pub same_policy : contents.policy ≡ policy
+  pub same_ways : contents.ways ≡ ways
+  pub same_sets : length contents.table ≡ sets
+  pub sound : IsSound takes stands contents
+  pub fresh : StandsFor stands contents empty
+  pub none : (number : ℕ) → place_in contents number ≡ None
+
+-- a touch of a line, with what it answers: in the table of sets it is the definition's (`step`)
+pub record IsTouch {P : Type 0} (takes : P → ℕ → Type 0) (rule : P → ℕ → Rule) (stands : P → ℕ → ℕ → List ℕ → Type 0)
+    (answer : Touch) (number : ℕ) (store : Bool) (old new : Contents P) : Type 0 where
+  pub shape : SameShape old new
+  pub sound : IsSound takes stands new
+  pub step : (sets : Sets) → StandsFor stands old sets → CacheSteps stands answer new (touch_of (shape_of rule old) sets number store)
+  pub other_sets : (s : ℕ) → s ≢ number % length old.table → kept_at new.table s ≡ kept_at old.table s
+  pub moves : MovesLines answer number (place_in old) (place_in new)
+  pub marks : MovesMarks answer number store (mark_in old) (mark_in new)
+
+-- a touch that is no store, of whose answer only the hit is told
+pub record TellsHit {P : Type 0} (takes : P → ℕ → Type 0) (rule : P → ℕ → Rule) (stands : P → ℕ → ℕ → List ℕ → Type 0)
+    (hit : Bool) (number : ℕ) (old new : Contents P) : Type 0 where
+  pub answer : Touch
+  pub told : hit ≡ answer.hit
+  pub touch : IsTouch takes rule stands answer number false old new
+
+-- a flush, with the number of lines that had a mark
+pub record IsFlush {P : Type 0} (takes : P → ℕ → Type 0) (rule : P → ℕ → Rule) (stands : P → ℕ → ℕ → List ℕ → Type 0)
+    (count : ℕ) (old new : Contents P) : Type 0 where
+  pub shape : SameShape old new
+  pub was_sound : IsSound takes stands old
+  pub sound : IsSound takes stands new
+  pub marked : count ≡ dirty_kept old
+  pub stands_for : (sets : Sets) → StandsFor stands old sets → count ≡ dirty_of (shape_of rule old) sets
+  pub few : count ≤ length old.table * old.ways
+  pub fresh : StandsFor stands new empty
+  pub none : (number : ℕ) → place_in new number ≡ None

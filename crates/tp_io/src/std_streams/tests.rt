@@ -1,0 +1,83 @@
+// What no clause says of the adapters: that an error of std is answered as one.
+use super::StdStream;
+use crate::{Failed, Sink, Source};
+use std::io;
+use std::io::{ErrorKind, Read, Write};
+
+// A reader that fails at its first call, and then gives its bytes.
+#[derive(Drop)]
+struct FailsOnce {
+    failed: bool,
+    bytes: &'static [u8],
+}
+
+impl Read for FailsOnce {
+    fn read(&mut self, buf: &mut [u8]) -> io::Result<usize> {
+        if !self.failed {
+            self.failed = true;
+            return Err(ErrorKind::Interrupted.into());
+        }
+        self.bytes.read(buf)
+    }
+}
+
+#[test]
+fn a_failed_read_is_counted_and_the_next_one_gives(rt: HostRuntime) {
+    let mut source = StdStream::new(FailsOnce {
+        failed: false,
+        bytes: b"x",
+    });
+    let mut buf = [0u8; 4];
+    let cases = [(Err(Failed), 1, 0), (Ok(1), 1, b'x'), (Ok(0), 1, b'x')];
+    for (outcome, faults, first) in cases {
+        assert_eq!(rt; source.read(&mut buf), outcome);
+        assert_eq!(rt; (source.faults, buf[0]), (faults, first));
+    }
+}
+
+// A writer that notes how many bytes it took, and how many when it was flushed.
+#[derive(Drop)]
+struct Noting {
+    most: usize,
+    flushes: bool,
+    taken: usize,
+    flushed: usize,
+}
+
+impl Write for Noting {
+    fn write(&mut self, buf: &[u8]) -> io::Result<usize> {
+        let count = self.most.min(buf.len());
+        self.taken = self.taken.saturating_add(count);
+        Ok(count)
+    }
+
+    fn flush(&mut self) -> io::Result<()> {
+        if !self.flushes {
+            return Err(ErrorKind::Other.into());
+        }
+        self.flushed = self.taken;
+        Ok(())
+    }
+}
+
+// Each write is flushed once its bytes were taken.
+#[test]
+fn a_write_is_flushed(rt: HostRuntime) {
+    let cases = [
+        (9, true, Ok(3), 0, 3, 3),
+        (2, true, Ok(2), 0, 2, 2),
+        (0, true, Err(Failed), 1, 0, 0),
+        (9, false, Err(Failed), 1, 3, 0),
+    ];
+    for (most, flushes, outcome, faults, taken, flushed) in cases {
+        let mut sink = StdStream::new(Noting {
+            most,
+            flushes,
+            taken: 0,
+            flushed: 0,
+        });
+        assert_eq!(rt; sink.write(b"two"), outcome, "{most} {flushes}");
+        let seen = (sink.faults, sink.inner.taken, sink.inner.flushed);
+        assert_eq!(rt; seen, (faults, taken, flushed), "{most} {flushes}");
+    }
+}

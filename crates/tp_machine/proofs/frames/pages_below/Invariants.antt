@@ -1,7 +1,0 @@
-use Rattle.std.proofs.Common.{◌≡◌, ◌+◌, map, drop}
-use Rattle.image_check.specs.Views.{segment_view}
-use Rattle.world_view.specs.Frames.{pages_below}
-use Rattle.tp_machine.proofs.frames.pages_below.Given as goal
-
-abbrev pub invariant-loop-segment : goal.invariant-loop-segment
-invariant-loop-segment l = l.pages + pages_below (map segment_view (drop l.segment-index l.segments)) l.page ≡ pages_below (map segment_view l.segments) l.page

@@ -1,0 +1,8 @@
+pub mod Digits
+pub mod Numbers
+pub mod Texts
+pub mod Sections
+pub mod Places
+pub mod Switches
+pub mod Sums
+pub mod ReportLaws

@@ -1,0 +1,40 @@
+-- The report of the whole machine, and the sections of each domain alone.
+use Rattle.std.proofs.Common.{◌≡◌, ℕ, Bool, true, false, cond, eqb, zero, suc, ◌+◌, ◌<◌, ◌≤◌, max, List, [], ◌∷◌, ◌++◌, length, ap, ap₂, refl, subst, arith, eqb-true}
+use Rattle.std.specs.List.{concat, flat_map, range_with_len}
+use Rattle.image_check.specs.Public.{Entry, entry_in}
+use Rattle.image_check.specs.Image.{Image, own_of}
+use Rattle.world_view.specs.Machine.{whole}
+use Rattle.world_view.specs.View.{view_whole, view_alone}
+use Rattle.tp_report.specs.Texts.{section}
+use Rattle.world_view.specs.Used.{largest_of}
+use Rattle.tp_report.specs.Laws.{SaysWithinPad}
+use Rattle.tp_report.specs.Report.{switch_text, section_of, sections, switch_lines, end_text, report_with, report, report_apart}
+use Rattle.world_view.specs.Relations.{IsDomain, AllWithinPads}
+use Rattle.world_view.proofs.Separate.{Separated}
+use Rattle.world_view.proofs.TimeLaws.{largest_within}
+use Rattle.world_view.proofs.WholeLaws.{isolated}
+
+-- texts of numbers in turn are the same where each is
+same_texts : (f g : ℕ → List ℕ) (a n : ℕ) → ((x : ℕ) → x < a + n → f x ≡ g x) → flat_map f (range_with_len a n) ≡ flat_map g (range_with_len a n)
+same_texts f g a zero same = refl
+same_texts f g a (suc n) same = ap₂ (λ x y. x ++ y) (same a (omega arith)) (same_texts f g (a + 1) n (λ x h. same x (omega arith)))
+
+section_same : (i : Image) (n d : ℕ) → Separated i → IsDomain i d → section_of i (λ e. view_whole i e n) d ≡ section_of i (λ e. view_alone i.all (own_of i e) e n) d
+unfolding section_of
+section_same i n d r is = ap (section d (own_of i d).name) (isolated i d n r is)
+
+pub reported_apart : (i : Image) (n : ℕ) → Separated i → report i n ≡ report_apart i n
+unfolding report report_apart report_with sections
+reported_apart i n r =
+    let whole_section = section_of i (λ d. view_whole i d n) in
+    let alone_section = section_of i (λ d. view_alone i.all (own_of i d) d n) in
+    let same : (d : ℕ) → d < 0 + length i.owns → whole_section d ≡ alone_section d = λ d h. section_same i n d r (omega arith) in
+    ap (λ (xs : List ℕ). concat (xs ∷ switch_lines i.all.schedule (whole i n).used ∷ end_text ∷ [])) (same_texts whole_section alone_section 0 (length i.owns) same)
+
+pub says_within : (i : Image) (n e : ℕ) → AllWithinPads i.all.schedule (whole i n).used → SaysWithinPad i n e
+unfolding switch_text
+says_within i n e within = record {
+  cycles = largest_of e (whole i n).used;
+  within = largest_within i.all.schedule e (whole i n).used within;
+  line = refl;
+}

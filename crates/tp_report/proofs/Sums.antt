@@ -1,0 +1,38 @@
+-- Sums of the words of a pool's frames.
+use Rattle.std.proofs.Common.{◌≡◌, ℕ, ◌+◌, ◌%◌, ◌^◌, ◌<◌, ◌≤◌, List, [], ◌∷◌, ◌++◌, length, take, get_or, ap, ◌∙◌, arith}
+use Rattle.std.specs.Prelude.{sum, slice_index, slice_index_or}
+use Rattle.std.specs.List.{concat}
+use Rattle.std.proofs.lemmas.List.{append-nil, take_more, take_all}
+use Rattle.std.proofs.lemmas.List.Sums.{sum_by_more, sum_by-append}
+use Rattle.world_view.specs.View.{memory_sum}
+
+sum_concat_more : (xss : List (List ℕ)) (ys : List ℕ) → sum (concat (xss ++ ys ∷ [])) ≡ sum (concat xss) + sum ys
+sum_concat_more [] ys = let same = ap sum (append-nil ys) in omega (arith, same)
+sum_concat_more (xs ∷ xss) ys =
+    let rest = sum_concat_more xss ys in
+    let left = sum_by-append (λ x. x) xs (concat (xss ++ ys ∷ [])) in
+    let right = sum_by-append (λ x. x) xs (concat xss) in
+    omega (arith, rest, left, right)
+
+-- the sum of the first words, and the next
+pub frame_sum_more : (words : List ℕ) (w word total : ℕ) → w < length words → word ≡ slice_index words w → total ≡ sum (take w words) % 2 ^ 32
+    → (total + word) % 2 ^ 32 ≡ sum (take (w + 1) words) % 2 ^ 32
+frame_sum_more words w word total within is so_far =
+    let more : sum (take (w + 1) words) ≡ sum (take w words) + slice_index words w = sum_by_more (λ x. x) words w 0 within in
+    omega (arith, is, more, so_far)
+
+pub frame_sum_all : (words : List ℕ) (w total : ℕ) → length words ≤ w → total ≡ sum (take w words) % 2 ^ 32 → total ≡ sum words % 2 ^ 32
+frame_sum_all words w total h so_far = so_far ∙ ap (λ xs. sum xs % 2 ^ 32) (take_all w words h)
+
+-- the sum of the words of frames in turn, and the next
+pub memory_sum_more : (frames : List (List ℕ)) (i part total : ℕ) → i < length frames → part ≡ sum (slice_index_or frames i []) % 2 ^ 32 → total ≡ memory_sum (take i frames)
+    → (total + part) % 2 ^ 32 ≡ memory_sum (take (i + 1) frames)
+unfolding memory_sum
+memory_sum_more frames i part total within is so_far =
+    let all : sum (concat (take (i + 1) frames)) ≡ sum (concat (take i frames)) + sum (slice_index_or frames i []) =
+    ap (λ xs. sum (concat xs)) (take_more frames i [] within) ∙ sum_concat_more (take i frames) (get_or frames i []) in
+    omega (arith, is, all, so_far)
+
+-- all of them
+pub memory_sum_all : (frames : List (List ℕ)) (i total : ℕ) → length frames ≤ i → total ≡ memory_sum (take i frames) → total ≡ memory_sum frames
+memory_sum_all frames i total h so_far = so_far ∙ ap memory_sum (take_all i frames h)

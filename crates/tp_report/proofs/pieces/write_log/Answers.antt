@@ -1,0 +1,22 @@
+use Rattle.std.proofs.Common.{◌≡◌, ◌≢◌, Some, rules}
+use Rattle.std.proofs.lemmas.Result.{err_from_is_err_and}
+use Rattle.tp_io.proofs.InTurn.{then_sends, cut_between}
+use Rattle.tp_report.specs.Texts.{last_text}
+use Rattle.tp_report.proofs.Texts.{log_text-some}
+use Rattle.tp_report.proofs.pieces.write_log.Goals as goal
+
+pub returns-in_err-write_last : goal.returns-in_err-write_last
+returns-in_err-write_last g c =
+    let p = err_from_is_err_and c.from_residual-in_err-write_last.result c.from_residual-in_err-write_last.ensures.1 in
+    let l = g.L.Items.log c.args.log.now in
+    let some : l.count ≢ 0 = search rules in
+    rw (p.1, log_text-some g.T.WriteText.text l some, c.last.ensures.value) (record { sends = cut_between _ _ _ _ _ _ (rw c.count-count.ensures.value at c.in_ok-write_number.ensures.sends) c.in_err-write_last.ensures.sends })
+
+pub returns : goal.returns
+returns g c =
+    let l = g.L.Items.log c.args.log.now in
+    let some : l.count ≢ 0 = search rules in
+    rw (log_text-some g.T.WriteText.text l some, c.last.ensures.value) (record {
+      sends = then_sends _ _ _ c.write_kept.result _ _ (rw c.count-count.ensures.value at c.in_ok-write_number.ensures.sends)
+          (then_sends _ _ _ c.write_kept.result _ _ c.in_ok-write_last.ensures.sends c.write_kept.ensures.sends);
+    })

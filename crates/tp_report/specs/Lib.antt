@@ -1,0 +1,5 @@
+pub mod Texts
+pub mod Report
+pub mod Laws
+pub mod Pieces
+pub mod Switches

@@ -1,0 +1,59 @@
+-- The texts that the program writes.
+use Rattle.std.specs.Prelude.{ℕ, List, [], ◌∷◌, length, codes, decimal}
+use Rattle.std.specs.Fmt.{signed_decimal}
+use Rattle.std.specs.List.{concat, flat_map, range_with_len}
+use Rattle.image_text.specs.declared.refusal.Refusal.{Refusal}
+use Rattle.image_check.specs.Public.{Entry, entry_in}
+use Rattle.image_check.specs.Image.{Image, own_of}
+use Rattle.world_view.specs.Machine.{whole}
+use Rattle.world_view.specs.Used.{count_of, largest_of}
+use Rattle.world_view.specs.View.{View, view_whole, view_alone}
+use Rattle.tp_report.specs.Texts.{section}
+
+-- ---- switches
+
+unfoldable pub switch_line : ℕ → ℕ → ℕ → ℕ → List ℕ
+switch_line e largest pad count = concat (codes "switch " ∷ decimal e ∷ codes " used " ∷ decimal largest ∷ codes " pad " ∷ decimal pad ∷ codes " count " ∷ decimal count ∷ codes "\n" ∷ [])
+
+unfoldable pub switch_text : List Entry → List (ℕ × ℕ) → ℕ → List ℕ
+switch_text es used e = switch_line e (largest_of e used) (entry_in es e).pad (count_of e used)
+
+-- a line for each entry
+unfoldable pub switch_lines : List Entry → List (ℕ × ℕ) → List ℕ
+switch_lines es used = flat_map (switch_text es used) (range_with_len 0 (length es))
+
+-- ---- the report
+
+unfoldable pub end_text : List ℕ
+end_text = codes "end\n"
+
+-- the section that a view of domain d gets
+unfoldable pub section_of : Image → (ℕ → View) → ℕ → List ℕ
+section_of i views d = section d (own_of i d).name (views d)
+
+unfoldable pub sections : Image → (ℕ → View) → List ℕ
+sections i views = flat_map (section_of i views) (range_with_len 0 (length i.owns))
+
+-- sections by domain, switch lines by entry, and the end
+unfoldable pub report_with : Image → (ℕ → View) → List (ℕ × ℕ) → List ℕ
+report_with i views used = concat (sections i views ∷ switch_lines i.all.schedule used ∷ end_text ∷ [])
+
+-- the report of the whole machine after n slots
+unfoldable pub report : Image → ℕ → List ℕ
+report i n = report_with i (λ d. view_whole i d n) (whole i n).used
+
+-- the report in which each section is that of its domain alone
+unfoldable pub report_apart : Image → ℕ → List ℕ
+report_apart i n = report_with i (λ d. view_alone i.all (own_of i d) d n) (whole i n).used
+
+-- ---- other texts
+
+unfoldable pub usage_text : List ℕ
+usage_text = codes "usage: tp check|bound|run|alone|gen|demo\n"
+
+-- the rule that is broken, and its three numbers
+unfoldable pub refusal_text : Refusal → List ℕ
+refusal_text r = concat (codes "refused K" ∷ decimal r.rule ∷ codes " at " ∷ signed_decimal r.at ∷ codes " found " ∷ signed_decimal r.found ∷ codes " wanted " ∷ signed_decimal r.wanted ∷ codes "\n" ∷ [])
+
+unfoldable pub too_long_text : List ℕ
+too_long_text = codes "too long\n"

@@ -1,0 +1,10 @@
+//! The texts that the program writes, and what writes them piece by piece.
+#![tactic(auto)]
+
+pub mod laws;
+mod pieces;
+mod report;
+
+pub use report::{
+    write_end, write_refusal, write_section, write_switches, write_too_long, write_usage,
+};

@@ -1,0 +1,176 @@
+// The text of a report.
+ghost use Rattle.std.specs.Prelude.{◌≡◌, ◌%◌, ◌^◌, ◌<◌, [], length, slice_index_or, sum};
+ghost use Rattle.tp_report.specs.Texts as spec;
+ghost use Rattle.tp_report.specs.Report as report_spec;
+ghost use Rattle.tp_io.specs.Sends.{Sends};
+ghost use Rattle.tp_io.specs.Sink.{state};
+ghost use Rattle.world_view.specs.View as view_spec;
+ghost use Rattle.world_view.specs.Models.{thread_model, view_model};
+ghost use Rattle.tp_report.specs.Switches.{switches_text};
+
+use crate::pieces::{Piece, write_pieces};
+use image_check::{Entry, Refusal};
+use tp_io::{Failed, Sink, write_all_of};
+use world_view::{Thread, Used, View};
+
+/// Writes the section of a domain.
+pub fn write_section<K: Sink>(
+    out: &mut K,
+    domain: u8,
+    name: &str,
+    view: &View<'_>,
+) -> Result<(), Failed>
+    ensures sends { Sends (state K.Sink out.old) (state K.Sink out.new)
+        result (spec.section domain name.now (view_model view.now)) }
+{
+    write_section_of(out, domain, name, view, &view.thread(0))
+}
+
+// Writes the section of a domain with this thread.
+fn write_section_of<'a, K: Sink>(
+    out: &mut K,
+    domain: u8,
+    name: &'a str,
+    view: &'a View<'a>,
+    thread: &'a Thread,
+) -> Result<(), Failed>
+    requires { thread_model thread.now ≡ (view_model view.now).thread }
+    ensures sends { Sends (state K.Sink out.old) (state K.Sink out.new)
+        result (spec.section domain name.now (view_model view.now)) }
+{
+    let printed = view.printed();
+    write_pieces(
+        out,
+        &[
+            Piece::Text("domain "),
+            Piece::Number(u64::from(domain)),
+            Piece::Text(" "),
+            Piece::Text(name),
+            Piece::Text("\nstatus "),
+            Piece::Status(view.status()),
+            Piece::Text("\nretired "),
+            Piece::Number(view.retired()),
+            Piece::Text("\nthread 0 "),
+            Piece::State(thread.state),
+            Piece::Text(" pc "),
+            Piece::Hex(thread.pc),
+            Piece::Registers(thread.regs.words()),
+            Piece::Text("\nreadings "),
+            Piece::Readings(view),
+            Piece::Text("\nreplies "),
+            Piece::Replies(view),
+            Piece::Text("\nout "),
+            Piece::Number(printed.len() as u64),
+            Piece::Bytes(printed),
+            Piece::Text("\nmem "),
+            Piece::Hex(memory_sum(view)),
+            Piece::Text("\n"),
+        ],
+    )
+}
+
+// The sum of all words of the pool, modulo 2^32.
+fn memory_sum(view: &View<'_>) -> u32
+    ensures value { result ≡ view_spec.memory_sum (view_model view.now).frames }
+{
+    let mut sum = 0u32;
+    for i in 0..view.pool_len() {
+        sum = sum.wrapping_add(frame_sum(view, i));
+    }
+    sum
+}
+
+// The sum of all words of a frame of the pool, modulo 2^32.
+fn frame_sum(view: &View<'_>, i: usize) -> u32
+    requires place { i < length (view_model view.now).pool }
+    ensures value { result ≡ sum (slice_index_or (view_model view.now).frames i []) % 2 ^ 32 }
+{
+    let mut sum = 0u32;
+    for w in 0..1024 {
+        sum = sum.wrapping_add(view.pool_word(i, w));
+    }
+    sum
+}
+
+/// Writes the line of each schedule entry.
+#[tactic(auto, unfolding(crate::specs::Switches::switches_text))]
+pub fn write_switches<K: Sink>(out: &mut K, entries: &[Entry], used: &[Used]) -> Result<(), Failed>
+    requires { length used.now ≡ length entries.now }
+    ensures sends { Sends (state K.Sink out.old) (state K.Sink out.new)
+        result (switches_text entries.now used.now) }
+{
+    for e in 0..entries.len() {
+        write_switch(out, e, entries[e].pad, used[e])?;
+    }
+    Ok(())
+}
+
+#[tactic(auto, unfolding(crate::specs::Report::switch_line))]
+fn write_switch<K: Sink>(out: &mut K, entry: usize, pad: u32, used: Used) -> Result<(), Failed>
+    ensures sends { Sends (state K.Sink out.old) (state K.Sink out.new)
+        result (report_spec.switch_line entry used.largest pad used.count) }
+{
+    write_pieces(
+        out,
+        &[
+            Piece::Text("switch "),
+            Piece::Number(entry as u64),
+            Piece::Text(" used "),
+            Piece::Number(used.largest),
+            Piece::Text(" pad "),
+            Piece::Number(u64::from(pad)),
+            Piece::Text(" count "),
+            Piece::Number(u64::from(used.count)),
+            Piece::Text("\n"),
+        ],
+    )
+}
+
+/// Writes the last line of a report.
+#[tactic(auto, unfolding(crate::specs::Report::end_text))]
+pub fn write_end<K: Sink>(out: &mut K) -> Result<(), Failed>
+    ensures sends { Sends (state K.Sink out.old) (state K.Sink out.new) result report_spec.end_text }
+{
+    write_all_of(out, b"end\n")
+}
+
+/// Writes what the words of the command line may be.
+#[tactic(auto, unfolding(crate::specs::Report::usage_text))]
+pub fn write_usage<K: Sink>(out: &mut K) -> Result<(), Failed>
+    ensures sends { Sends (state K.Sink out.old) (state K.Sink out.new) result report_spec.usage_text }
+{
+    write_all_of(out, b"usage: tp check|bound|run|alone|gen|demo\n")
+}
+
+/// Writes the rule that an image breaks, and its three numbers.
+#[tactic(auto, unfolding(crate::specs::Report::refusal_text))]
+pub fn write_refusal<K: Sink>(out: &mut K, refusal: &Refusal) -> Result<(), Failed>
+    ensures sends { Sends (state K.Sink out.old) (state K.Sink out.new)
+        result (report_spec.refusal_text refusal.now) }
+{
+    write_pieces(
+        out,
+        &[
+            Piece::Text("refused K"),
+            Piece::Number(u64::from(refusal.rule)),
+            Piece::Text(" at "),
+            Piece::Signed(refusal.at),
+            Piece::Text(" found "),
+            Piece::Signed(refusal.found),
+            Piece::Text(" wanted "),
+            Piece::Signed(refusal.wanted),
+            Piece::Text("\n"),
+        ],
+    )
+}
+
+/// Writes that the image is too long.
+#[tactic(auto, unfolding(crate::specs::Report::too_long_text))]
+pub fn write_too_long<K: Sink>(out: &mut K) -> Result<(), Failed>
+    ensures sends { Sends (state K.Sink out.old) (state K.Sink out.new) result report_spec.too_long_text }
+{
+    write_all_of(out, b"too long\n")
+}
+
+#[cfg(test)]
+mod tests;

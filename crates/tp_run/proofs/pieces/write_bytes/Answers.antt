@@ -1,9 +1,0 @@
-use Rattle.std.proofs.Common.{◌≢◌, length, rules}
-use Rattle.tp_io.proofs.InTurn.{then_sends}
-use Rattle.tp_run.proofs.Texts.{bytes_text-some}
-use Rattle.tp_run.proofs.pieces.write_bytes.Goals as goal
-
-pub returns : goal.returns
-returns g c =
-    let some : length c.args.bytes.now ≢ 0 = search rules in
-    rw (bytes_text-some c.args.bytes.now some) (then_sends _ _ _ _ _ _ _ _ _ _ (rw c.in_ok-write_all_of.was at c.write_all_of.ensures) c.write_digits.ensures)

@@ -1,0 +1,42 @@
+-- What the program answers to its words and the bytes of its source.
+use Rattle.std.specs.Prelude.{ℕ, nat_le, if◌then◌else◌, List, length, Option, Some, None, Result, Ok, Err}
+use Rattle.clap.specs.Words.{fault_of, subcommand_of}
+use Rattle.image_text.specs.declared.refusal.Refusal.{Refusal}
+use Rattle.image_check.specs.Image.{Image}
+use Rattle.world_view.specs.Reading.{most_bytes, image}
+use Rattle.tp_report.specs.Report.{report, usage_text, refusal_text, too_long_text}
+use Rattle.tp_run.specs.declared.Command.{Command}
+use Rattle.tp_run.specs.declared.Command.TheVariants.{Run}
+use Rattle.tp_run.specs.declared.status.Status.{Status}
+use Rattle.tp_run.specs.declared.status.Status.TheVariants.{Done, Refused, Usage, TooLong}
+use Rattle.tp_run.specs.Words.{tp_app, asked_for, unless_faulty}
+
+-- ---- words
+
+-- what the words ask for, where clap finds no fault in them; the first is the program's name
+unfoldable pub command : List (List ℕ) → Option Command
+command words = unless_faulty (fault_of tp_app words) (asked_for (subcommand_of tp_app words))
+
+-- ---- the answer: a status and a text
+
+abbrev pub Answer : Type 0
+Answer = Status × List ℕ
+
+-- to an image that breaks no rule, by command
+unfoldable pub answer_of_image : Command → Image → Answer
+answer_of_image (Run n) i = (Done, report i n)
+
+unfoldable pub answer_unless_broken : Command → Result Image Refusal → Answer
+answer_unless_broken c (Ok i) = answer_of_image c i
+answer_unless_broken c (Err r) = (Refused, refusal_text r)
+
+-- an image that is too long isn't read
+unfoldable pub answer_of_bytes : Command → List ℕ → Answer
+answer_of_bytes c bytes = if nat_le (length bytes) most_bytes then answer_unless_broken c (image bytes) else (TooLong, too_long_text)
+
+unfoldable pub answer_by : Option Command → List ℕ → Answer
+answer_by None bytes = (Usage, usage_text)
+answer_by (Some c) bytes = answer_of_bytes c bytes
+
+unfoldable pub answer : List (List ℕ) → List ℕ → Answer
+answer words bytes = answer_by (command words) bytes

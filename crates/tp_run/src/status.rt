@@ -1,0 +1,64 @@
+// How the program ends.
+ghost use Rattle.std.specs.Prelude.{◌≡◌};
+
+use std::process::ExitCode;
+
+/// How the program ends.
+#[derive(Clone, Copy, Debug, PartialEq, Eq)]
+pub enum Status {
+    /// The command did its work.
+    Done,
+    /// The image breaks a rule.
+    Refused,
+    /// The words are no command.
+    Usage,
+    /// The source failed.
+    ReadFault,
+    /// The sink failed.
+    WriteFault,
+    /// Memory ran out.
+    Memory,
+    /// The source gave more bytes than an image may have.
+    TooLong,
+}
+
+impl Status {
+    ghost use Rattle.tp_run.specs.Status.{number_of};
+    ghost use Rattle.std.specs.Process.{exit_status};
+
+    /// The exit code, 0 to 6.
+    pub fn exit_code(self) -> ExitCode
+        ensures number { exit_status result ≡ number_of self }
+    {
+        ExitCode::from(match self {
+            Status::Done => 0,
+            Status::Refused => 1,
+            Status::Usage => 2,
+            Status::ReadFault => 3,
+            Status::WriteFault => 4,
+            Status::Memory => 5,
+            Status::TooLong => 6,
+        })
+    }
+}
+
+#[cfg(test)]
+mod tests {
+    use super::Status;
+    use std::process::ExitCode;
+
+    #[test]
+    fn statuses_have_their_numbers(rt: HostRuntime) {
+        for (status, number) in [
+            (Status::Done, 0),
+            (Status::Refused, 1),
+            (Status::Usage, 2),
+            (Status::ReadFault, 3),
+            (Status::WriteFault, 4),
+            (Status::Memory, 5),
+            (Status::TooLong, 6),
+        ] {
+            assert_eq!(rt; status.exit_code(), ExitCode::from(number), "at {status:?}");
+        }
+    }
+}
