@@ -1,0 +1,21 @@
+-- What a second level keeps.
+use Rattle.std.specs.Prelude.{◌≡◌, ℕ, length, refl}
+use Rattle.std.specs.Coded.{Coded, code_by, coded×, coded_ℕ}
+use Rattle.set_cache.specs.Contents.{Contents, coded_contents}
+use Rattle.set_cache.specs.Lines.{IsClean}
+use Rattle.l2_colour.specs.Colours.{IsColoured, colours_of}
+
+-- the bytes of a line, and the cache
+pub record L2Contents (P : Type 0) : Type 0 where
+  pub line_size : ℕ
+  pub cache : Contents P
+
+abbrev pub coded_l2 : {P : Type 0} → Coded P → Coded (L2Contents P)
+coded_l2 {P} p =
+    code_by (ℕ × Contents P) (coded× coded_ℕ (coded_contents p)) (λ c. (c.line_size, c.cache)) (λ t. record { line_size = t.0; cache = t.1 }) (λ _. refl)
+
+-- what is true of every second level with this many colours
+pub record IsL2 {P : Type 0} (colours : ℕ) (l2 : L2Contents P) : Type 0 where
+  pub coloured : IsColoured l2.line_size (length l2.cache.table)
+  pub counted : colours ≡ colours_of l2.line_size (length l2.cache.table)
+  pub clean : IsClean l2.cache

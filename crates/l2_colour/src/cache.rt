@@ -1,0 +1,104 @@
+// The second level over a cache of sets, in which nothing is ever dirty.
+use set_cache::{Policy, SetCache};
+use std::alloc::Global;
+use std::marker::Model;
+use tp_base::{Colour, FrameNo, Line, Memory};
+
+/// The bytes of a frame.
+const FRAME_SIZE: u32 = 4096;
+
+/// A second-level cache. It keeps the numbers of physical lines, and none is
+/// ever dirty. Its sets are shared out by colours: a line uses only sets of the
+/// colour of its frame.
+#[derive(Drop)]
+pub struct L2<P: Policy> {
+    line_size: u32,
+    colours: u32,
+    cache: SetCache<P>,
+}
+
+impl<P: Policy> Model for L2<P> {
+    ghost use Rattle.l2_colour.specs.Contents.{L2Contents, coded_l2, IsL2};
+
+    ghost Value = { L2Contents P };
+
+    ghost coded = { coded_l2 P.code };
+
+    ghost view = { λ a. record { line_size = a.line_size; cache = a.cache } };
+
+    ghost invariant = { λ a. IsL2 a.colours (record { line_size = a.line_size; cache = a.cache }) };
+}
+
+impl<P: Policy> L2<P> {
+    ghost use Rattle.std.specs.Prelude.{◌≡◌, ◌≢◌, ◌↔◌, ◌<◌, ◌≤◌, ℕ, length, IfOk};
+    ghost use Rattle.set_cache.specs.Contents.{kept_at};
+    ghost use Rattle.set_cache.specs.Lines.{IsClean};
+    ghost use Rattle.set_cache.specs.Calls.{IsGeometry, IsNew, TellsHit};
+    ghost use Rattle.l2_colour.specs.Colours.{
+      IsColoured,
+      colours_of,
+      colour_of_frame,
+      colour_of_line,
+      colour_of_set,
+    };
+
+    /// A cache of fresh sets, for lines of this many bytes.
+    ///
+    /// # Errors
+    ///
+    /// `Memory`, where memory ran out.
+    pub fn new(
+        alloc: Global,
+        line_size: u32,
+        policy: P,
+        sets: u32,
+        ways: u32,
+    ) -> Result<Self, Memory>
+        requires coloured { IsColoured line_size sets }
+        requires geometry { IsGeometry (P.takes policy) sets ways }
+        ensures line_size { IfOk result (λ l2. l2.line_size ≡ line_size) }
+        ensures made { IfOk result (λ l2. IsNew P.takes P.stands_for policy sets ways l2.cache) }
+        ensures clean { IfOk result (λ l2. IsClean l2.cache) }
+    {
+        let colours = sets * line_size / FRAME_SIZE;
+        let cache = SetCache::new(alloc, policy, sets, ways)?;
+        Ok(L2 {
+            line_size,
+            colours,
+            cache,
+        })
+    }
+
+    /// A touch of a line; whether it was here. It changes sets of the colour of
+    /// the line's frame alone, and no line is dirty then.
+    #[inline(always)]
+    pub fn touch(&mut self, line: Line) -> bool
+        ensures line_size { self.new.line_size ≡ self.old.line_size }
+        ensures touch { TellsHit P.takes P.rule P.stands_for result line self.old.cache self.new.cache }
+        ensures colour { (s : ℕ) → colour_of_set self.old.line_size s
+            ≢ colour_of_line self.old.line_size (length self.old.cache.table) line
+            → kept_at self.new.cache.table s ≡ kept_at self.old.cache.table s }
+        ensures clean { IsClean self.new.cache }
+    {
+        self.cache.touch(line.number(), false).hit
+    }
+
+    /// The colour of a frame: its number modulo the number of colours.
+    pub fn colour_of(&self, frame: FrameNo) -> Colour
+        ensures colour { result ≡ colour_of_frame self.now.line_size (length self.now.cache.table) frame }
+    {
+        Colour::new((frame.number() % self.colours) as u8)
+    }
+
+    /// The sets of a colour: its first, and the one after its last.
+    pub fn sets_of(&self, colour: Colour) -> (u32, u32)
+        requires below { colour < colours_of self.now.line_size (length self.now.cache.table) }
+        ensures sets { (s : ℕ)
+            → (result.0 ≤ s) × (s < result.1) ↔ colour_of_set self.now.line_size s ≡ colour }
+        ensures within { result.1 ≤ length self.now.cache.table }
+    {
+        let lines = FRAME_SIZE / self.line_size;
+        let first = u32::from(colour.number()) * lines;
+        (first, first + lines)
+    }
+}

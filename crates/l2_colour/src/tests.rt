@@ -1,0 +1,47 @@
+// Colours and their sets, at the ends of the sizes too.
+use super::L2;
+use repl_policy::Lru;
+use std::test::Fail;
+use tp_base::{Colour, FrameNo, Line};
+
+// Lines of 64 bytes in 128 sets: two colours of 64 sets.
+#[test]
+fn a_line_meets_lines_of_its_colour_alone(rt: HostRuntime) -> Result<(), Fail> {
+    let mut l2 = L2::new(rt.alloc(), 64, Lru, 128, 1)?;
+    assert_eq!(rt; l2.sets_of(Colour::new(0)), (0, 64));
+    assert_eq!(rt; l2.sets_of(Colour::new(1)), (64, 128));
+    for (frame, colour) in [(0, 0), (1, 1), (2, 0), (32_767, 1)] {
+        assert_eq!(rt; l2.colour_of(FrameNo::new(frame)).number(), colour);
+    }
+    // Lines 5 of frames 0, 2 and 3, and the greatest line.
+    let rows = [
+        (5, false),
+        (133, false),
+        (197, false),
+        (133, true),
+        (5, false),
+        (197, true),
+        (8_388_607, false),
+        (5, true),
+    ];
+    for (line, hit) in rows {
+        assert_eq!(rt; l2.touch(Line::new(line)), hit, "line {line}");
+    }
+    Ok(())
+}
+
+#[test]
+fn one_colour_has_every_set(rt: HostRuntime) -> Result<(), Fail> {
+    let l2 = L2::new(rt.alloc(), 16, Lru, 256, 1)?;
+    assert_eq!(rt; l2.sets_of(Colour::new(0)), (0, 256));
+    assert_eq!(rt; l2.colour_of(FrameNo::new(32_767)).number(), 0);
+    Ok(())
+}
+
+#[test]
+fn there_are_up_to_64_colours(rt: HostRuntime) -> Result<(), Fail> {
+    let l2 = L2::new(rt.alloc(), 128, Lru, 2048, 16)?;
+    assert_eq!(rt; l2.sets_of(Colour::new(63)), (2016, 2048));
+    assert_eq!(rt; l2.colour_of(FrameNo::new(32_767)).number(), 63);
+    Ok(())
+}
