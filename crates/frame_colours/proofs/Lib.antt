@@ -1,0 +1,4 @@
+pub mod Ascending
+pub mod Pools
+pub mod Placed
+pub mod Disjoint
