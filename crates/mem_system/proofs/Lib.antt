@@ -1,0 +1,4 @@
+pub mod Leaves
+pub mod Touches
+pub mod TouchLaws
+pub mod TestLemmas

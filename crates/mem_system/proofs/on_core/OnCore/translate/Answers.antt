@@ -1,0 +1,21 @@
+-- At a hit the kept leaf answers as the walk does; at a miss the walk itself.
+use Rattle.std.proofs.Common.{sym}
+use Rattle.mem_system.proofs.Leaves.{answered, translated_within}
+use Rattle.mem_system.proofs.on_core.OnCore.translate.Goals as goal
+
+pub returns-in-Some-clause-result : goal.returns-in-Some-clause-result
+returns-in-Some-clause-result g c = λ m holds.
+    rw (← c.self.view_is) (answered m c.args.mem.now.frames c.args.root c.args.va c.in-Some.leaf c.args.access c.at_leaf.result c.self.inside.tlb
+    c.at_leaf.ensures.end c.requires.frames (sym c.in-Some.ensures.leaf))
+
+pub returns-in-Some-clause-within : goal.returns-in-Some-clause-within
+returns-in-Some-clause-within g c = λ m holds keeps.
+    translated_within m c.args.mem.now.frames c.args.root c.args.va c.args.access c.at_leaf.result c.ranges.va.fits (returns-in-Some-clause-result g c m holds keeps)
+
+pub returns-in-None-clause-within : goal.returns-in-None-clause-within
+returns-in-None-clause-within g c = λ m holds keeps.
+    translated_within m c.args.mem.now.frames c.args.root c.args.va c.args.access c.walk_and_fill.result.result c.ranges.va.fits (c.walk_and_fill.ensures.result m holds)
+
+pub returns-in-None-clause-makes : goal.returns-in-None-clause-makes
+returns-in-None-clause-makes g c = λ m holds keeps.
+    rw (← c.self.view_is, ← c.in-None.ensures.missed) (c.walk_and_fill.ensures.makes m holds)

@@ -1,0 +1,128 @@
+-- What the code keeps, the hierarchy that it is, and the caches that it stands for.
+use Rattle.std.specs.Prelude.{◌≡◌, ℕ, ◌≤◌, Bool, List, length, refl}
+use Rattle.std.specs.Coded.{Coded, code_by, coded×, coded_ℕ, coded_bool, coded_list}
+use Rattle.set_cache.specs.Rule.{Rule}
+use Rattle.set_cache.specs.Cache.{CacheStep}
+use Rattle.set_cache.specs.Contents.{Contents, StandsFor, coded_contents, shape_of}
+use Rattle.tlb_model.specs.Buffer.{Buffer, coded_buffer}
+use Rattle.branch_pred.specs.Guesses.{Guesses}
+use Rattle.l2_colour.specs.Colours.{IsColoured, colours_of}
+use Rattle.l2_colour.specs.Contents.{L2Contents, coded_l2}
+use Rattle.mem_system.specs.Hierarchy.{CostTable, Hierarchy}
+use Rattle.mem_system.specs.Cost.{Touch, Core, Caches, Touched, Below, touched, touched_all}
+
+-- what one core has
+pub record CoreContents (P : Type 0) : Type 0 where
+  pub costs : CostTable
+  pub pinned : Bool
+  pub l1i : Contents P
+  pub l1d : Contents P
+  pub tlb : Buffer P
+  pub guesses : Guesses
+
+pub record SystemContents (P : Type 0) : Type 0 where
+  pub core : CoreContents P
+  pub l2 : L2Contents P
+
+-- what is true of a second level with these sizes
+pub record IsSecondLevel {P : Type 0} (line_size colours : ℕ) (l2 : L2Contents P) : Type 0 where
+  pub kept : line_size ≡ l2.line_size
+  pub least : 16 ≤ line_size
+  pub coloured : IsColoured line_size (length l2.cache.table)
+  pub counted : colours ≡ colours_of line_size (length l2.cache.table)
+
+-- a core over a second level
+abbrev pub system : {P : Type 0} → CoreContents P → L2Contents P → SystemContents P
+system core l2 = record { core = core; l2 = l2 }
+
+abbrev pub coded_costs : Coded CostTable
+coded_costs =
+    code_by (ℕ × (ℕ × (ℕ × (ℕ × (ℕ × (ℕ × (ℕ × (ℕ × ℕ))))))))
+    (coded× coded_ℕ (coded× coded_ℕ (coded× coded_ℕ (coded× coded_ℕ (coded× coded_ℕ (coded× coded_ℕ (coded× coded_ℕ (coded× coded_ℕ coded_ℕ))))))))
+    (λ c. (c.base, (c.l1, (c.l2, (c.mem, (c.wb, (c.tlb, (c.mispredict, (c.trap, c.flush)))))))))
+    (λ t. record {
+      base = t.0;
+      l1 = t.1.0;
+      l2 = t.1.1.0;
+      mem = t.1.1.1.0;
+      wb = t.1.1.1.1.0;
+      tlb = t.1.1.1.1.1.0;
+      mispredict = t.1.1.1.1.1.1.0;
+      trap = t.1.1.1.1.1.1.1.0;
+      flush = t.1.1.1.1.1.1.1.1;
+    })
+    (λ _. refl)
+
+abbrev pub coded_guesses : Coded Guesses
+coded_guesses = code_by (List ℕ) (coded_list coded_ℕ) (λ g. g.counters) (λ l. record { counters = l }) (λ _. refl)
+
+abbrev pub coded_core : {P : Type 0} → Coded P → Coded (CoreContents P)
+coded_core {P} p =
+    code_by (CostTable × (Bool × (Contents P × (Contents P × (Buffer P × Guesses)))))
+    (coded× coded_costs (coded× coded_bool (coded× (coded_contents p) (coded× (coded_contents p) (coded× (coded_buffer p) coded_guesses)))))
+    (λ c. (c.costs, (c.pinned, (c.l1i, (c.l1d, (c.tlb, c.guesses))))))
+    (λ t. record { costs = t.0; pinned = t.1.0; l1i = t.1.1.0; l1d = t.1.1.1.0; tlb = t.1.1.1.1.0; guesses = t.1.1.1.1.1 })
+    (λ _. refl)
+
+abbrev pub coded_system : {P : Type 0} → Coded P → Coded (SystemContents P)
+coded_system {P} p =
+    code_by (CoreContents P × L2Contents P) (coded× (coded_core p) (coded_l2 p)) (λ s. (s.core, s.l2)) (λ t. record { core = t.0; l2 = t.1 }) (λ _. refl)
+
+-- the hierarchy that it is, by the policies' rules
+abbrev pub hierarchy_of : {P : Type 0} → (P → ℕ → Rule) → SystemContents P → Hierarchy
+hierarchy_of rule s = record {
+  costs = s.core.costs;
+  line_size = s.l2.line_size;
+  counters = length s.core.guesses.counters;
+  l1i = shape_of rule s.core.l1i;
+  l1d = shape_of rule s.core.l1d;
+  l2 = shape_of rule s.l2.cache;
+  tlb = shape_of rule s.core.tlb.pages;
+}
+
+-- ---- the caches that it stands for
+
+-- on-core state, set by set; the buffer by its pages alone
+pub record CoreStands {P : Type 0} (stands : P → ℕ → ℕ → List ℕ → Type 0) (kept : CoreContents P) (core : Core) : Type 0 where
+  pub l1i : StandsFor stands kept.l1i core.l1i
+  pub l1d : StandsFor stands kept.l1d core.l1d
+  pub tlb : StandsFor stands kept.tlb.pages core.tlb
+  pub guesses : kept.guesses ≡ core.guesses
+
+pub record SystemStands {P : Type 0} (stands : P → ℕ → ℕ → List ℕ → Type 0) (kept : SystemContents P) (caches : Caches) : Type 0 where
+  pub core : CoreStands stands kept.core caches.core
+  pub l2 : StandsFor stands kept.l2.cache caches.l2
+
+-- ---- what calls promise
+
+-- whether it was a hit is the step's, and what is kept stands for the sets that it leaves
+pub record HitSteps {P : Type 0} (stands : P → ℕ → ℕ → List ℕ → Type 0) (hit : Bool) (kept : Contents P) (step : CacheStep) : Type 0 where
+  pub told : hit ≡ step.answer.hit
+  pub next : StandsFor stands kept step.next
+
+-- the cycles are the definition's, and what is kept stands for the second level that it leaves
+pub record BelowSteps {P : Type 0} (stands : P → ℕ → ℕ → List ℕ → Type 0) (cycles : ℕ) (kept : L2Contents P) (below : Below) : Type 0 where
+  pub cost : cycles ≡ below.cost
+  pub next : StandsFor stands kept.cache below.l2
+
+-- the same of all caches
+pub record SystemSteps {P : Type 0} (stands : P → ℕ → ℕ → List ℕ → Type 0) (cycles : ℕ) (kept : SystemContents P) (touched : Touched) : Type 0 where
+  pub cost : cycles ≡ touched.cost
+  pub next : SystemStands stands kept touched.caches
+
+-- a call made a touch: the hierarchy stays, and for all caches that the old system stands for the cycles are the touch's,
+-- and the new system stands for the caches that it leaves
+pub record MakesTouch {P : Type 0} (rule : P → ℕ → Rule) (stands : P → ℕ → ℕ → List ℕ → Type 0) (touch : Touch) (cycles : ℕ)
+    (old new : SystemContents P) : Type 0 where
+  pub same : hierarchy_of rule new ≡ hierarchy_of rule old
+  pub pinned : new.core.pinned ≡ old.core.pinned
+  pub steps : (caches : Caches) → SystemStands stands old caches
+      → SystemSteps stands cycles new (touched (hierarchy_of rule old) old.core.pinned caches touch)
+
+-- the same of touches one after the other
+pub record MakesTouches {P : Type 0} (rule : P → ℕ → Rule) (stands : P → ℕ → ℕ → List ℕ → Type 0) (touches : List Touch) (cycles : ℕ)
+    (old new : SystemContents P) : Type 0 where
+  pub same : hierarchy_of rule new ≡ hierarchy_of rule old
+  pub pinned : new.core.pinned ≡ old.core.pinned
+  pub steps : (caches : Caches) → SystemStands stands old caches
+      → SystemSteps stands cycles new (touched_all (hierarchy_of rule old) old.core.pinned caches touches)

@@ -1,0 +1,158 @@
+-- What touches cost, in cycles, and the caches after them. On-core state sees a touch first; the lines that it passes on
+-- go to the second level.
+use Rattle.std.specs.Prelude.{ℕ, ◌+◌, ◌*◌, ◌==◌, ◌&&◌, Bool, true, false, not, if◌then◌else◌, List, [], ◌∷◌, is_some}
+use Rattle.tp_base.specs.Table.{empty}
+use Rattle.set_cache.specs.Cache.{Sets, CacheStep, touch_of, place_of, dirty_of}
+use Rattle.tlb_model.specs.Buffer.{found_of, filled_of}
+use Rattle.branch_pred.specs.Guesses.{Guesses, fresh_guesses, guess_of, learned}
+use Rattle.mem_system.specs.Hierarchy.{Hierarchy, colour_of_line}
+
+pub data Touch : Type 0 where
+  Fetch : ℕ → Touch  -- an instruction is fetched from this physical line
+  Load : ℕ → Touch
+  Store : ℕ → Touch
+  WalkRead : ℕ → Touch  -- a walk reads an entry in this physical line
+  -- a page's translation is looked up: its number, the lines of the entries that its walk reads, and whether it is found
+  Look : ℕ → List ℕ → Bool → Touch
+  Branch : ℕ → Bool → Touch  -- a branch at this pc, and whether it is taken
+  EmptyTlb : Touch
+  Flush : Touch  -- everything on the core is made fresh
+  Charge : ℕ → Touch  -- so many cycles, and nothing else
+
+-- what each flush makes fresh; the buffer is a map over page numbers alone
+pub record Core : Type 0 where
+  pub l1i : Sets
+  pub l1d : Sets
+  pub tlb : Sets
+  pub guesses : Guesses
+
+pub record Caches : Type 0 where
+  pub core : Core
+  pub l2 : Sets
+
+unfoldable pub fresh_core : Hierarchy → Core
+fresh_core h = record { l1i = empty; l1d = empty; tlb = empty; guesses = fresh_guesses h.counters }
+
+-- caches that hold nothing
+unfoldable pub cold : Hierarchy → Caches
+cold h = record { core = fresh_core h; l2 = empty }
+
+-- ---- on the core: the cost there, the state after it, and the lines that go on to the second level, in order
+
+pub record PassedOn : Type 0 where
+  pub cost : ℕ
+  pub core : Core
+  pub lines : List ℕ
+
+-- a line goes on where the first level doesn't hold it
+abbrev pub unless_hit : Bool → ℕ → List ℕ
+unless_hit true line = []
+unless_hit false line = line ∷ []
+
+unfoldable pub fetched : Hierarchy → Core → ℕ → CacheStep → PassedOn
+fetched h core line step = record {
+  cost = h.costs.l1;
+  core = record core { l1i = step.next };
+  lines = unless_hit step.answer.hit line;
+}
+
+-- a dirty victim is written back
+unfoldable pub accessed : Hierarchy → Core → ℕ → CacheStep → PassedOn
+accessed h core line step = record {
+  cost = h.costs.l1 + (if step.answer.dirty_victim then h.costs.wb else 0);
+  core = record core { l1d = step.next };
+  lines = unless_hit step.answer.hit line;
+}
+
+-- a look-up, by whether the page is held, else by whether its walk finds it
+unfoldable pub looked : Hierarchy → Core → ℕ → List ℕ → Bool → Bool → PassedOn
+looked h core page reads found true = record {
+  cost = h.costs.tlb;
+  core = record core { tlb = found_of h.tlb core.tlb page };
+  lines = [];
+}
+looked h core page reads true false = record {
+  cost = h.costs.tlb;
+  core = record core { tlb = filled_of h.tlb core.tlb page };
+  lines = reads;
+}
+looked h core page reads false false = record { cost = h.costs.tlb; core = core; lines = reads }
+
+abbrev pub is_wrong : Bool → Bool → Bool
+is_wrong guess taken = if guess then not taken else taken
+
+unfoldable pub branched : Hierarchy → Core → ℕ → Bool → PassedOn
+branched h core pc taken = record {
+  cost = if is_wrong (guess_of core.guesses pc) taken then h.costs.mispredict else 0;
+  core = record core { guesses = learned core.guesses pc taken };
+  lines = [];
+}
+
+-- the dirty lines are written back
+unfoldable pub flushed : Hierarchy → Core → PassedOn
+flushed h core = record {
+  cost = h.costs.flush + h.costs.wb * dirty_of h.l1d core.l1d;
+  core = fresh_core h;
+  lines = [];
+}
+
+unfoldable pub on_core : Hierarchy → Core → Touch → PassedOn
+on_core h core (Fetch line) = fetched h core line (touch_of h.l1i core.l1i line false)
+on_core h core (Load line) = accessed h core line (touch_of h.l1d core.l1d line false)
+on_core h core (Store line) = accessed h core line (touch_of h.l1d core.l1d line true)
+on_core h core (WalkRead line) = record { cost = 0; core = core; lines = line ∷ [] }
+on_core h core (Look page reads found) = looked h core page reads found (is_some (place_of h.tlb core.tlb page))
+on_core h core (Branch pc taken) = branched h core pc taken
+on_core h core EmptyTlb = record { cost = 0; core = record core { tlb = empty }; lines = [] }
+on_core h core Flush = flushed h core
+on_core h core (Charge cycles) = record { cost = cycles; core = core; lines = [] }
+
+-- ---- at the second level
+
+pub record Below : Type 0 where
+  pub cost : ℕ
+  pub l2 : Sets
+
+unfoldable pub below_by : Hierarchy → CacheStep → Below
+below_by h step = record { cost = h.costs.l2 + (if step.answer.hit then 0 else h.costs.mem); l2 = step.next }
+
+-- a line that is always there counts as a hit and changes nothing
+unfoldable pub below_if : Bool → Hierarchy → Sets → ℕ → Below
+below_if true h sets line = record { cost = h.costs.l2; l2 = sets }
+below_if false h sets line = below_by h (touch_of h.l2 sets line false)
+
+-- `pinned`: the kernel's lines, which have colour 0, are always there
+unfoldable pub below : Hierarchy → Bool → Sets → ℕ → Below
+below h pinned sets line = below_if (pinned && colour_of_line h line == 0) h sets line
+
+unfoldable pub below_all : Hierarchy → Bool → Sets → List ℕ → Below
+below_all h pinned sets [] = record { cost = 0; l2 = sets }
+below_all h pinned sets (line ∷ lines) =
+    let first = below h pinned sets line in
+    let rest = below_all h pinned first.l2 lines in
+    record { cost = first.cost + rest.cost; l2 = rest.l2 }
+
+-- ---- both: a cost, and the caches after it
+
+pub record Touched : Type 0 where
+  pub cost : ℕ
+  pub caches : Caches
+
+abbrev pub at_no_cost : Caches → Touched
+at_no_cost caches = record { cost = 0; caches = caches }
+
+unfoldable pub pass_on : Hierarchy → Bool → Sets → PassedOn → Touched
+pass_on h pinned sets passed =
+    let b = below_all h pinned sets passed.lines in
+    record { cost = passed.cost + b.cost; caches = record { core = passed.core; l2 = b.l2 } }
+
+unfoldable pub touched : Hierarchy → Bool → Caches → Touch → Touched
+touched h pinned caches touch = pass_on h pinned caches.l2 (on_core h caches.core touch)
+
+-- one after the other
+unfoldable pub and_then : Touched → (Caches → Touched) → Touched
+and_then r f = let q = f r.caches in record { cost = r.cost + q.cost; caches = q.caches }
+
+unfoldable pub touched_all : Hierarchy → Bool → Caches → List Touch → Touched
+touched_all h pinned caches [] = at_no_cost caches
+touched_all h pinned caches (t ∷ ts) = and_then (touched h pinned caches t) (λ k. touched_all h pinned k ts)

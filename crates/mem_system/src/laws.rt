@@ -1,0 +1,90 @@
+//! Laws of the definitions: what touches cost and change, in words.
+ghost use Rattle.std.specs.Prelude.{◌≡◌, ◌≢◌, ℕ, ◌≤◌, ◌%◌, Bool, true, false, List, length, All};
+ghost use Rattle.set_cache.specs.Cache.{set_at};
+ghost use Rattle.l2_colour.specs.Colours.{IsColoured};
+ghost use Rattle.branch_pred.specs.Guesses.{place_of, counter_of};
+ghost use Rattle.mem_system.specs.Hierarchy.{Hierarchy, colour_of_line};
+ghost use Rattle.mem_system.specs.Cost.{
+  Touch,
+  Fetch,
+  Load,
+  Store,
+  WalkRead,
+  Look,
+  Caches,
+  touched,
+};
+ghost use Rattle.mem_system.specs.TouchLaws.{
+  lines_in_l1i,
+  lines_in_l1d,
+  lines_in_l2,
+  pages_in_tlb,
+  pcs_in,
+  is_flush,
+  empties_tlb,
+  holds,
+  IsCost,
+};
+
+/// A line of one colour never moves a line of another in the second level: a
+/// touch whose lines all have other colours leaves the set of a line, with all
+/// that it keeps, as it was. And no touch changes a set of a line of colour 0
+/// where those are pinned.
+pub fn colours_keep_apart()
+    ensures apart { (h : Hierarchy) (pinned : Bool) (caches : Caches) (touch : Touch) (line : ℕ)
+        → IsColoured h.line_size h.l2.count
+        → All (λ other. colour_of_line h other ≢ colour_of_line h line) (lines_in_l2 touch)
+        → set_at h.l2.ways (touched h pinned caches touch).caches.l2 (line % h.l2.count)
+        ≡ set_at h.l2.ways caches.l2 (line % h.l2.count) }
+    ensures pinned { (h : Hierarchy) (caches : Caches) (touch : Touch) (line : ℕ)
+        → IsColoured h.line_size h.l2.count → colour_of_line h line ≡ 0
+        → set_at h.l2.ways (touched h true caches touch).caches.l2 (line % h.l2.count)
+        ≡ set_at h.l2.ways caches.l2 (line % h.l2.count) }
+{}
+
+/// Each cost is one of the table's.
+pub fn costs_are_the_tables()
+    ensures cost { (h : Hierarchy) (pinned : Bool) (caches : Caches) (touch : Touch)
+        → IsCost h caches.core touch (touched h pinned caches touch).cost }
+{}
+
+/// A touch of what is held costs no more than it would from any other caches.
+pub fn hits_cost_least()
+    ensures fetch { (h : Hierarchy) (pinned : Bool) (caches others : Caches) (line : ℕ)
+        → holds h.l1i caches.core.l1i line ≡ true
+        → (touched h pinned caches (Fetch line)).cost ≤ (touched h pinned others (Fetch line)).cost }
+    ensures load { (h : Hierarchy) (pinned : Bool) (caches others : Caches) (line : ℕ)
+        → holds h.l1d caches.core.l1d line ≡ true
+        → (touched h pinned caches (Load line)).cost ≤ (touched h pinned others (Load line)).cost }
+    ensures store { (h : Hierarchy) (pinned : Bool) (caches others : Caches) (line : ℕ)
+        → holds h.l1d caches.core.l1d line ≡ true
+        → (touched h pinned caches (Store line)).cost ≤ (touched h pinned others (Store line)).cost }
+    ensures walk_read { (h : Hierarchy) (pinned : Bool) (caches others : Caches) (line : ℕ)
+        → holds h.l2 caches.l2 line ≡ true
+        → (touched h pinned caches (WalkRead line)).cost ≤ (touched h pinned others (WalkRead line)).cost }
+    ensures look { (h : Hierarchy) (pinned : Bool) (caches others : Caches) (page : ℕ) (reads : List ℕ) (found : Bool)
+        → holds h.tlb caches.core.tlb page ≡ true
+        → (touched h pinned caches (Look page reads found)).cost
+        ≤ (touched h pinned others (Look page reads found)).cost }
+{}
+
+/// What isn't touched stays on the core but for a flush: each set of the first
+/// level and of the buffer in which no line or page of the touch stands, and
+/// each counter that no branch of the touch uses. Emptying the buffer changes
+/// the buffer alone.
+pub fn the_untouched_stays()
+    ensures l1i { (h : Hierarchy) (pinned : Bool) (caches : Caches) (touch : Touch) (s : ℕ)
+        → is_flush touch ≡ false → All (λ line. line % h.l1i.count ≢ s) (lines_in_l1i touch)
+        → set_at h.l1i.ways (touched h pinned caches touch).caches.core.l1i s ≡ set_at h.l1i.ways caches.core.l1i s }
+    ensures l1d { (h : Hierarchy) (pinned : Bool) (caches : Caches) (touch : Touch) (s : ℕ)
+        → is_flush touch ≡ false → All (λ line. line % h.l1d.count ≢ s) (lines_in_l1d touch)
+        → set_at h.l1d.ways (touched h pinned caches touch).caches.core.l1d s ≡ set_at h.l1d.ways caches.core.l1d s }
+    ensures tlb { (h : Hierarchy) (pinned : Bool) (caches : Caches) (touch : Touch) (s : ℕ)
+        → empties_tlb touch ≡ false → All (λ page. page % h.tlb.count ≢ s) (pages_in_tlb touch)
+        → set_at h.tlb.ways (touched h pinned caches touch).caches.core.tlb s ≡ set_at h.tlb.ways caches.core.tlb s }
+    ensures guesses { (h : Hierarchy) (pinned : Bool) (caches : Caches) (touch : Touch) (pc : ℕ)
+        → is_flush touch ≡ false
+        → All (λ other. place_of (length caches.core.guesses.counters) other
+        ≢ place_of (length caches.core.guesses.counters) pc) (pcs_in touch)
+        → counter_of (touched h pinned caches touch).caches.core.guesses pc ≡ counter_of caches.core.guesses pc }
+{}

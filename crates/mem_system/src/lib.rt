@@ -1,0 +1,21 @@
+//! The memory hierarchy of the machine: what each touch of it costs, to the
+//! cycle, and what it leaves behind in the caches, the translation buffer and
+//! the branch predictor.
+//!
+//! specs/Cost.antt has the costs and the next caches as functions of touches;
+//! each call here is one touch.
+#![tactic(auto)]
+
+mod geometry;
+mod laws;
+mod on_core;
+#[cfg(test)]
+mod plain;
+mod second_level;
+mod system;
+
+pub use geometry::{CacheGeometry, Geometry};
+pub use laws::{colours_keep_apart, costs_are_the_tables, hits_cost_least, the_untouched_stays};
+pub use on_core::{OnCore, Translated};
+pub use second_level::SecondLevel;
+pub use system::MemSystem;

@@ -1,0 +1,382 @@
+// What a core has of its own. Each call sees the core first, and hands on to
+// the second level what the core doesn't hold.
+ghost use Rattle.std.specs.Prelude.{◌≡◌, ◌<◌, ◌^◌};
+ghost use Rattle.sv32_walk.specs.PageTableEntry.{ppn};
+ghost use Rattle.sv32_walk.specs.KeptLeaf.{end_at};
+ghost use Rattle.mem_system.specs.Translation.{address_in, translated};
+
+use crate::{CacheGeometry, SecondLevel};
+use branch_pred::Predictor;
+use cycle_cost::Costs;
+use l1_cache::{L1D, L1I};
+use phys_mem::PhysMem;
+use set_cache::Policy;
+use std::alloc::Global;
+use std::marker::Model;
+use sv32_walk::{Access, PageTableEntry, WalkFault, Walked, walk};
+use tlb_model::Tlb;
+use tp_base::{Line, Memory};
+
+/// What an address is translated to, and what that cost.
+#[derive(Clone, Copy, Debug, PartialEq, Eq)]
+pub struct Translated {
+    /// The physical address, or why there is none.
+    pub result: Result<u32, WalkFault>,
+    /// The cost, in cycles.
+    pub cycles: u32,
+}
+
+/// What one core has of its own: the first-level caches, the translation
+/// buffer and the branch predictor; and what all touches cost.
+#[derive(Drop)]
+pub struct OnCore<P: Policy> {
+    costs: Costs,
+    pinned: bool,
+    l1i: L1I<P>,
+    l1d: L1D<P>,
+    tlb: Tlb<P>,
+    predictor: Predictor,
+}
+
+impl<P: Policy> Model for OnCore<P> {
+    ghost use Rattle.std.specs.Prelude.{◌*◌, ◌≤◌, ◌^◌, length};
+    ghost use Rattle.mem_system.specs.Contents.{CoreContents, coded_core};
+    ghost use Rattle.mem_system.specs.Geometry.{costs_of};
+
+    ghost Value = { CoreContents P };
+
+    ghost coded = { coded_core P.code };
+
+    ghost view = { λ a. record {
+      costs = costs_of a.costs;
+      pinned = a.pinned;
+      l1i = a.l1i;
+      l1d = a.l1d;
+      tlb = a.tlb;
+      guesses = a.predictor;
+    } };
+
+    ghost invariant = { λ a. length a.l1d.table * a.l1d.ways ≤ 2 ^ 14 };
+}
+
+impl<P: Policy> OnCore<P> {
+    ghost use Rattle.std.specs.Prelude.{
+      ◌≡◌,
+      ◌≤◌,
+      ◌<◌,
+      ◌^◌,
+      ◌*◌,
+      ◌/◌,
+      ℕ,
+      IfOk,
+      None,
+      false,
+      is_some,
+      take,
+      slice_index,
+      if◌then◌else◌,
+    };
+    ghost use Rattle.std.specs.Int.{IsPowerOfTwo};
+    ghost use Rattle.tp_base.specs.Table.{empty};
+    ghost use Rattle.branch_pred.specs.Guesses.{fresh_guesses};
+    ghost use Rattle.phys_mem.specs.Mem.{Mem};
+    ghost use Rattle.phys_mem.specs.Holds.{Holds};
+    ghost use Rattle.sv32_walk.specs.Walk.{walk};
+    ghost use Rattle.set_cache.specs.Cache.{Sets, place_of};
+    ghost use Rattle.set_cache.specs.Contents.{StandsFor, shape_of};
+    ghost use Rattle.l2_colour.specs.Contents.{L2Contents};
+    ghost use Rattle.tlb_model.specs.Buffer.{leaf_of};
+    ghost use Rattle.mem_system.specs.Cost.{
+      Fetch,
+      Load,
+      Store,
+      WalkRead,
+      Branch,
+      EmptyTlb,
+      Flush,
+      below,
+      below_all,
+    };
+    ghost use Rattle.mem_system.specs.Contents.{
+      system,
+      hierarchy_of,
+      CoreStands,
+      BelowSteps,
+      MakesTouch,
+    };
+    ghost use Rattle.mem_system.specs.Geometry.{IsCache, shape_by, costs_of};
+    ghost use Rattle.mem_system.specs.Translation.{KeepsLeaves, look_of, lines_of, translated};
+
+    /// A core whose caches hold nothing.
+    ///
+    /// # Errors
+    ///
+    /// `Memory`, where memory ran out.
+    pub fn new(
+        alloc: Global,
+        counters: u32,
+        l1i: CacheGeometry<P>,
+        l1d: CacheGeometry<P>,
+        tlb: CacheGeometry<P>,
+        costs: Costs,
+        pinned: bool,
+    ) -> Result<Self, Memory>
+        requires counters { IsPowerOfTwo counters }
+        requires l1i { IsCache P.takes l1i }
+        requires l1d { IsCache P.takes l1d }
+        requires tlb { IsCache P.takes tlb }
+        requires dirty { l1d.sets * l1d.ways ≤ 2 ^ 14 }
+        ensures costs { IfOk result (λ core. core.costs ≡ costs_of costs) }
+        ensures pinned { IfOk result (λ core. core.pinned ≡ pinned) }
+        ensures l1i { IfOk result (λ core. shape_of P.rule core.l1i ≡ shape_by P.rule l1i) }
+        ensures l1d { IfOk result (λ core. shape_of P.rule core.l1d ≡ shape_by P.rule l1d) }
+        ensures tlb { IfOk result (λ core. shape_of P.rule core.tlb.pages ≡ shape_by P.rule tlb) }
+        ensures fresh { IfOk result (λ core. CoreStands P.stands_for core
+            (record { l1i = empty; l1d = empty; tlb = empty; guesses = fresh_guesses counters })) }
+        ensures kept { IfOk result (λ core. (mem : Mem) (frames root : ℕ) → KeepsLeaves mem frames root core.tlb) }
+    {
+        Ok(OnCore {
+            costs,
+            pinned,
+            l1i: L1I::new(alloc, l1i.policy, l1i.sets, l1i.ways)?,
+            l1d: L1D::new(alloc, l1d.policy, l1d.sets, l1d.ways)?,
+            tlb: Tlb::new(alloc, tlb.policy, tlb.sets, tlb.ways)?,
+            predictor: Predictor::new(alloc, counters)?,
+        })
+    }
+
+    /// What each event costs, in cycles.
+    pub fn costs(&self) -> Costs
+        ensures table { costs_of result ≡ self.now.costs }
+    {
+        self.costs
+    }
+
+    /// The cost of a line at the second level.
+    #[tactic(auto, unfolding(crate::specs::Cost::below, crate::specs::Cost::below_if, crate::specs::Cost::below_by, crate::specs::Hierarchy::colour_of_line))]
+    fn below(&self, l2: &mut SecondLevel<P>, line: Line) -> u32
+        ensures same { hierarchy_of P.rule (system self.now l2.new) ≡ hierarchy_of P.rule (system self.now l2.old) }
+        ensures few { result ≤ 2000 }
+        ensures steps { (sets : Sets) → StandsFor P.stands_for l2.old.cache sets
+            → BelowSteps P.stands_for result l2.new
+            (below (hierarchy_of P.rule (system self.now l2.old)) self.now.pinned sets line) }
+    {
+        if self.pinned && l2.colour_of(line) == 0 {
+            return self.costs.l2;
+        }
+        if l2.touch(line) {
+            self.costs.l2
+        } else {
+            self.costs.l2 + self.costs.mem
+        }
+    }
+
+    /// The cost of a fetch from a line.
+    #[tactic(auto, unfolding(crate::specs::Cost::touched, crate::specs::Cost::on_core, crate::specs::Cost::fetched, crate::specs::Cost::pass_on, crate::specs::Cost::below_all))]
+    #[inline(always)]
+    pub fn fetch(&mut self, l2: &mut SecondLevel<P>, line: Line) -> u32
+        ensures few { result ≤ 3000 }
+        ensures makes { MakesTouch P.rule P.stands_for (Fetch line) result
+            (system self.old l2.old) (system self.new l2.new) }
+    {
+        if self.l1i.fetch(line) {
+            return self.costs.l1;
+        }
+        self.costs.l1 + self.below(l2, line)
+    }
+
+    /// The cost of a load from a line, or of a store to it.
+    #[tactic(auto, unfolding(crate::specs::Cost::touched, crate::specs::Cost::on_core, crate::specs::Cost::accessed, crate::specs::Cost::pass_on, crate::specs::Cost::below_all))]
+    #[inline(always)]
+    pub fn access(&mut self, l2: &mut SecondLevel<P>, line: Line, store: bool) -> u32
+        ensures few { result ≤ 4000 }
+        ensures makes { MakesTouch P.rule P.stands_for (if store then Store line else Load line) result
+            (system self.old l2.old) (system self.new l2.new) }
+    {
+        let found = if store {
+            self.l1d.store(line)
+        } else {
+            self.l1d.load(line)
+        };
+        if found.hit {
+            return self.costs.l1;
+        }
+        let mut cycles = self.costs.l1;
+        if found.dirty_victim {
+            cycles += self.costs.wb;
+        }
+        cycles + self.below(l2, line)
+    }
+
+    /// The cost of a walk's read of an entry in a line.
+    #[tactic(auto, unfolding(crate::specs::Cost::touched, crate::specs::Cost::on_core, crate::specs::Cost::pass_on, crate::specs::Cost::below_all))]
+    pub fn walk_read(&self, l2: &mut SecondLevel<P>, line: Line) -> u32
+        ensures few { result ≤ 2000 }
+        ensures makes { MakesTouch P.rule P.stands_for (WalkRead line) result
+            (system self.now l2.old) (system self.now l2.new) }
+    {
+        self.below(l2, line)
+    }
+
+    /// The cost of a branch at a pc, which is taken or not.
+    #[tactic(auto, unfolding(crate::specs::Cost::touched, crate::specs::Cost::on_core, crate::specs::Cost::branched, crate::specs::Cost::pass_on, crate::specs::Cost::below_all))]
+    #[inline(always)]
+    pub fn branch(&mut self, pc: u32, taken: bool) -> u32
+        ensures few { result ≤ 1000 }
+        ensures makes { (l2 : L2Contents P)
+            → MakesTouch P.rule P.stands_for (Branch pc taken) result (system self.old l2) (system self.new l2) }
+    {
+        let guess = self.predictor.guess(pc);
+        self.predictor.learn(pc, taken);
+        if guess == taken {
+            0
+        } else {
+            self.costs.mispredict
+        }
+    }
+
+    /// Empties the translation buffer, at no cost.
+    #[tactic(auto, unfolding(crate::specs::Cost::touched, crate::specs::Cost::on_core, crate::specs::Cost::pass_on, crate::specs::Cost::below_all))]
+    pub fn empty_tlb(&mut self)
+        ensures kept { (mem : Mem) (frames root : ℕ) → KeepsLeaves mem frames root self.new.tlb }
+        ensures makes { (l2 : L2Contents P)
+            → MakesTouch P.rule P.stands_for EmptyTlb 0 (system self.old l2) (system self.new l2) }
+    {
+        self.tlb.flush();
+    }
+
+    /// Makes everything on the core fresh; the cost of it.
+    #[tactic(auto, unfolding(crate::specs::Cost::touched, crate::specs::Cost::on_core, crate::specs::Cost::flushed, crate::specs::Cost::fresh_core, crate::specs::Cost::pass_on, crate::specs::Cost::below_all))]
+    pub fn flush(&mut self) -> u32
+        ensures kept { (mem : Mem) (frames root : ℕ) → KeepsLeaves mem frames root self.new.tlb }
+        ensures makes { (l2 : L2Contents P)
+            → MakesTouch P.rule P.stands_for Flush result (system self.old l2) (system self.new l2) }
+    {
+        let dirty = self.l1d.flush();
+        self.l1i.flush();
+        self.tlb.flush();
+        self.predictor.reset();
+        self.costs.flush + self.costs.wb * dirty
+    }
+
+    /// The cost of the reads that a walk made.
+    #[tactic(auto, unfolding(crate::specs::Cost::below_all, crate::specs::Translation::lines_of))]
+    fn read_entries(&self, l2: &mut SecondLevel<P>, walked: &Walked) -> u32
+        requires two { walked.now.count ≤ 2 }
+        requires small { (i : ℕ) → i < walked.now.count → slice_index walked.now.reads i < 2 ^ 27 }
+        ensures same { hierarchy_of P.rule (system self.now l2.new) ≡ hierarchy_of P.rule (system self.now l2.old) }
+        ensures few { result ≤ 4000 }
+        ensures steps { (sets : Sets) → StandsFor P.stands_for l2.old.cache sets
+            → BelowSteps P.stands_for result l2.new
+            (below_all (hierarchy_of P.rule (system self.now l2.old)) self.now.pinned sets
+            (lines_of l2.old.line_size (take walked.now.count walked.now.reads))) }
+    {
+        if walked.count == 0 {
+            return 0;
+        }
+        let first = self.below(l2, l2.line_of(walked.reads[0]));
+        if walked.count == 1 {
+            return first;
+        }
+        first + self.below(l2, l2.line_of(walked.reads[1]))
+    }
+
+    /// The translation of an address whose page the buffer doesn't hold: by a
+    /// walk, whose leaf is kept where it finds one.
+    #[tactic(auto, unfolding(crate::specs::Cost::touched, crate::specs::Cost::on_core, crate::specs::Cost::looked, crate::specs::Cost::pass_on, crate::specs::Translation::look_of), using(crate::proofs::Leaves::reads_of))]
+    fn walk_and_fill(
+        &mut self,
+        l2: &mut SecondLevel<P>,
+        mem: &PhysMem,
+        root: u32,
+        va: u32,
+        access: Access,
+    ) -> Translated
+        requires frames { mem.now.frames ≤ 2 ^ 15 }
+        requires missing { leaf_of self.old.tlb (va / 4096) ≡ None }
+        requires absent { (sets : Sets) → StandsFor P.stands_for self.old.tlb.pages sets
+            → is_some (place_of (shape_of P.rule self.old.tlb.pages) sets (va / 4096)) ≡ false }
+        ensures few { result.cycles ≤ 5000 }
+        ensures kept { (m : Mem) → Holds mem.now m → KeepsLeaves m mem.now.frames root self.old.tlb
+            → KeepsLeaves m mem.now.frames root self.new.tlb }
+        ensures result { (m : Mem) → Holds mem.now m
+            → result.result ≡ translated va (walk m mem.now.frames root va access).result }
+        ensures makes { (m : Mem) → Holds mem.now m
+            → MakesTouch P.rule P.stands_for (look_of l2.old.line_size va (walk m mem.now.frames root va access))
+            result.cycles (system self.old l2.old) (system self.new l2.new) }
+    {
+        let walked = walk(mem, root, va, access);
+        let cycles = self.costs.tlb + self.read_entries(l2, &walked);
+        match walked.result {
+            Ok(leaf) => {
+                self.tlb.fill(va / 4096, leaf);
+                Translated {
+                    result: Ok(address_in(leaf, va)),
+                    cycles,
+                }
+            }
+            Err(fault) => Translated {
+                result: Err(fault),
+                cycles,
+            },
+        }
+    }
+
+    /// The physical address of a virtual one for an access from user mode, by
+    /// the tables whose root is in a frame, and the cost of the look-up. Where
+    /// the buffer holds the page its kept leaf answers, and no walk is made.
+    ///
+    /// Each kept leaf is the one that its walk finds in this memory from this
+    /// root: what every clause but the cost's bound asks, and what is so again
+    /// after the call. What changes memory or the root has to keep that or to
+    /// empty the buffer.
+    #[tactic(auto, unfolding(crate::specs::Cost::touched, crate::specs::Cost::on_core, crate::specs::Cost::looked, crate::specs::Cost::pass_on, crate::specs::Cost::below_all, crate::specs::Translation::look_of))]
+    #[inline(always)]
+    pub fn translate(
+        &mut self,
+        l2: &mut SecondLevel<P>,
+        mem: &PhysMem,
+        root: u32,
+        va: u32,
+        access: Access,
+    ) -> Translated
+        requires frames { mem.now.frames ≤ 2 ^ 15 }
+        ensures few { result.cycles ≤ 5000 }
+        ensures kept { (m : Mem) → Holds mem.now m → KeepsLeaves m mem.now.frames root self.old.tlb
+            → KeepsLeaves m mem.now.frames root self.new.tlb }
+        ensures result { (m : Mem) → Holds mem.now m → KeepsLeaves m mem.now.frames root self.old.tlb
+            → result.result ≡ translated va (walk m mem.now.frames root va access).result }
+        ensures within { (m : Mem) → Holds mem.now m → KeepsLeaves m mem.now.frames root self.old.tlb
+            → IfOk result.result (λ at. at / 4096 < mem.now.frames) }
+        ensures makes { (m : Mem) → Holds mem.now m → KeepsLeaves m mem.now.frames root self.old.tlb
+            → MakesTouch P.rule P.stands_for (look_of l2.old.line_size va (walk m mem.now.frames root va access))
+            result.cycles (system self.old l2.old) (system self.new l2.new) }
+    {
+        match self.tlb.find(va / 4096) {
+            Some(leaf) => Translated {
+                result: at_leaf(leaf, va, access),
+                cycles: self.costs.tlb,
+            },
+            None => self.walk_and_fill(l2, mem, root, va, access),
+        }
+    }
+}
+
+/// The physical address of a virtual one in the page of a leaf.
+#[tactic(auto, unfolding(sv32_walk::specs::PageTableEntry::ppn))]
+fn address_in(leaf: u32, va: u32) -> u32
+    ensures address { ppn leaf < 2 ^ 20 → result ≡ address_in leaf va }
+{
+    ((leaf >> 10) << 12) + (va & 0xfff)
+}
+
+/// What an access comes to at a page whose leaf is known.
+fn at_leaf(leaf: u32, va: u32, access: Access) -> Result<u32, WalkFault>
+    ensures end { ppn leaf < 2 ^ 20 → result ≡ translated va (end_at access leaf) }
+{
+    if PageTableEntry(leaf).permits(access) {
+        Ok(address_in(leaf, va))
+    } else {
+        Err(WalkFault::Page)
+    }
+}

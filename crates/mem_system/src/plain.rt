@@ -1,0 +1,275 @@
+// The hierarchy as plain lists, for the tests: 2 ways in 16 sets at the first
+// level, 4 in 256 at the second, 2 in 4 of the buffer; 16 counters; lines of 64
+// bytes, and so 4 colours.
+use repl_policy::AnyPolicy;
+use std::alloc::Global;
+use std::test::Fail;
+use sv32_walk::Access;
+
+// A line or page that is kept.
+#[derive(Clone, Copy)]
+struct Kept {
+    number: u32,
+    way: usize,
+    dirty: bool,
+}
+
+// What a touch found, and whether it gave up a dirty line.
+#[derive(Clone, Copy)]
+struct Found {
+    hit: bool,
+    dirty_victim: bool,
+}
+
+// A cache as one list of what it keeps, newest first.
+#[derive(Drop)]
+struct PlainCache {
+    policy: AnyPolicy,
+    // The bits of a number that tell its set.
+    mask: u32,
+    ways: usize,
+    kept: Vec<Kept>,
+}
+
+impl PlainCache {
+    fn new(alloc: Global, policy: AnyPolicy, mask: u32, ways: usize) -> Self {
+        PlainCache {
+            policy,
+            mask,
+            ways,
+            kept: Vec::new(alloc),
+        }
+    }
+
+    fn holds(&self, number: u32) -> bool {
+        self.kept.iter().any(|kept| kept.number == number)
+    }
+
+    fn touch(&mut self, number: u32, store: bool) -> Result<Found, Fail> {
+        let mask = self.mask;
+        let set = number & mask;
+        if let Some(place) = self.kept.iter().position(|kept| kept.number == number) {
+            self.touch_again(place, store)?;
+            return Ok(Found {
+                hit: true,
+                dirty_victim: false,
+            });
+        }
+        let filled = self
+            .kept
+            .iter()
+            .filter(|kept| kept.number & mask == set)
+            .count();
+        let way = if filled < self.ways {
+            filled
+        } else {
+            self.victim(set)
+        };
+        let dirty_victim = self.kept.iter().any(|kept| kept.number & mask == set
+            && kept.way == way
+            && kept.dirty);
+        self.kept
+            .retain(|kept| kept.number & mask != set || kept.way != way);
+        let line = Kept {
+            number,
+            way,
+            dirty: store,
+        };
+        self.kept.insert(0, line)?;
+        Ok(Found {
+            hit: false,
+            dirty_victim,
+        })
+    }
+
+    fn touch_again(&mut self, place: usize, store: bool) -> Result<(), Fail> {
+        if let Some(kept) = self.kept.get_mut(place) {
+            kept.dirty = kept.dirty || store;
+            let again = *kept;
+            if self.policy != AnyPolicy::Fifo {
+                self.kept.retain(|other| other.number != again.number);
+                self.kept.insert(0, again)?;
+            }
+        }
+        Ok(())
+    }
+
+    fn victim(&self, set: u32) -> usize {
+        if self.policy == AnyPolicy::TreePlru {
+            return self.victim_by_halves(set);
+        }
+        let mut oldest = 0;
+        for kept in &self.kept {
+            if kept.number & self.mask == set {
+                oldest = kept.way;
+            }
+        }
+        oldest
+    }
+
+    // Away from the half of the newest of 4 ways, then from the newest of 2.
+    fn victim_by_halves(&self, set: u32) -> usize {
+        let mut low = 0;
+        for (half, below) in [(2, 3), (1, 1)] {
+            let newest = self.kept.iter().find(|kept| kept.number & self.mask == set
+                && kept.way | below == low | below);
+            if half < self.ways && newest.is_some_and(|kept| kept.way & half == 0) {
+                low |= half;
+            }
+        }
+        low
+    }
+}
+
+// A page's frame, and what its leaf permits.
+#[derive(Clone, Copy)]
+struct PlainLeaf {
+    frame: u32,
+    loads: bool,
+    stores: bool,
+    fetches: bool,
+}
+
+// Pages 0x400 on lie in frames 16 on under a table: of four pages the first is
+// not mapped, one is read, one written too, one fetched. A page of 4 MiB from
+// page 0x800 on is read and written; no other page is mapped.
+fn leaf_of(page: u32) -> Option<PlainLeaf> {
+    let frame = page & 63;
+    match (page >> 10, page & 3) {
+        (1, 1) => Some(PlainLeaf {
+            frame: frame + 16,
+            loads: true,
+            stores: false,
+            fetches: false,
+        }),
+        (1, 2) => Some(PlainLeaf {
+            frame: frame + 16,
+            loads: true,
+            stores: true,
+            fetches: false,
+        }),
+        (1, 3) => Some(PlainLeaf {
+            frame: frame + 16,
+            loads: false,
+            stores: false,
+            fetches: true,
+        }),
+        (2, _) => Some(PlainLeaf {
+            frame,
+            loads: true,
+            stores: true,
+            fetches: false,
+        }),
+        _ => None,
+    }
+}
+
+// What an access to an address comes to.
+fn address_of(va: u32, access: Access) -> Option<u32> {
+    let leaf = leaf_of(va >> 12)?;
+    let permitted = match access {
+        Access::Fetch => leaf.fetches,
+        Access::Load => leaf.loads,
+        Access::Store => leaf.stores,
+    };
+    if permitted {
+        Some((leaf.frame << 12) | (va & 0xfff))
+    } else {
+        None
+    }
+}
+
+#[derive(Drop)]
+pub struct PlainSystem {
+    pinned: bool,
+    l1i: PlainCache,
+    l1d: PlainCache,
+    l2: PlainCache,
+    tlb: PlainCache,
+    counters: [u8; 16],
+}
+
+impl PlainSystem {
+    pub fn new(alloc: Global, policy: AnyPolicy, pinned: bool) -> Self {
+        PlainSystem {
+            pinned,
+            l1i: PlainCache::new(alloc, policy, 15, 2),
+            l1d: PlainCache::new(alloc, policy, 15, 2),
+            l2: PlainCache::new(alloc, policy, 255, 4),
+            tlb: PlainCache::new(alloc, policy, 3, 2),
+            counters: [1; 16],
+        }
+    }
+
+    // Past the first level.
+    pub fn below(&mut self, line: u32) -> Result<u16, Fail> {
+        if self.pinned && line / 64 % 4 == 0 {
+            return Ok(8);
+        }
+        let found = self.l2.touch(line, false)?;
+        Ok(if found.hit { 8 } else { 48 })
+    }
+
+    pub fn fetch(&mut self, line: u32) -> Result<u32, Fail> {
+        if self.l1i.touch(line, false)?.hit {
+            return Ok(1);
+        }
+        Ok(1 + u32::from(self.below(line)?))
+    }
+
+    pub fn access(&mut self, line: u32, store: bool) -> Result<u32, Fail> {
+        let found = self.l1d.touch(line, store)?;
+        if found.hit {
+            return Ok(1);
+        }
+        let back = if found.dirty_victim { 10 } else { 0 };
+        Ok(1 + back + u32::from(self.below(line)?))
+    }
+
+    pub fn branch(&mut self, pc: u32, taken: bool) -> u32 {
+        let counter = &mut self.counters[pc as usize / 4 % 16];
+        let cost = if (*counter >= 2) == taken { 0 } else { 3 };
+        *counter = if taken {
+            counter.saturating_add(1).min(3)
+        } else {
+            counter.saturating_sub(1)
+        };
+        cost
+    }
+
+    // The root is in frame 2, and the table of pages 0x400 on in frame 3.
+    pub fn translate(&mut self, va: u32, access: Access) -> Result<(Option<u32>, u32), Fail> {
+        let page = va >> 12;
+        let address = address_of(va, access);
+        if self.tlb.holds(page) {
+            self.tlb.touch(page, false)?;
+            return Ok((address, 1));
+        }
+        let mut cycles = 1 + u32::from(self.below(128)?);
+        if page >> 10 == 1 {
+            cycles += u32::from(self.below(192 + (page & 1023) / 16)?);
+        }
+        if address.is_some() {
+            self.tlb.touch(page, false)?;
+        }
+        Ok((address, cycles))
+    }
+
+    pub fn empty_tlb(&mut self) {
+        self.tlb.kept.clear();
+    }
+
+    pub fn flush(&mut self) -> u32 {
+        let mut cycles = 20u32;
+        for kept in &self.l1d.kept {
+            if kept.dirty {
+                cycles = cycles.saturating_add(10);
+            }
+        }
+        self.l1i.kept.clear();
+        self.l1d.kept.clear();
+        self.tlb.kept.clear();
+        self.counters = [1; 16];
+        cycles
+    }
+}
