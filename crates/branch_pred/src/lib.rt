@@ -39,7 +39,7 @@ impl Model for Predictor {
 
 /// The next state of a counter.
 fn next_counter(counter: u8, taken: bool) -> u8
-    requires { counter < 4 }
+    requires small { counter < 4 }
     ensures next { result ≡ next_counter taken counter }
     ensures small { result < 4 }
 {
@@ -57,7 +57,7 @@ fn next_counter(counter: u8, taken: bool) -> u8
 /// The place of the counter of the branch at this pc.
 #[inline(always)]
 fn index_in(counters: &[u8], pc: u32) -> usize
-    requires { IsPowerOfTwo (length counters.now) }
+    requires power { IsPowerOfTwo (length counters.now) }
     ensures place { result ≡ place_of (length counters.now) pc }
     ensures below { result < length counters.now }
 {
@@ -74,8 +74,7 @@ impl Predictor {
         requires power { IsPowerOfTwo counters }
         ensures fresh { IfOk result (λ predictor. predictor ≡ fresh_guesses counters) }
     {
-        let mut fresh = Vec::with_capacity(alloc, counters as usize)?;
-        fresh.resize(counters as usize, 1)?;
+        let fresh = vec![in alloc; 1; counters as usize]?;
         Ok(Predictor { counters: fresh })
     }
 

@@ -41,16 +41,16 @@ pub struct Costs {
 
 /// Adds a number of cycles to a clock.
 pub fn charge(clock: &mut Cycles, cycles: u32)
-    requires { IsCycles (clock.old + cycles) }
-    ensures { clock.new ≡ clock.old + cycles }
+    requires room { IsCycles (clock.old + cycles) }
+    ensures becomes { clock.new ≡ clock.old + cycles }
 {
     *clock = Cycles::new(clock.number() + u64::from(cycles));
 }
 
 /// The law that a clock below 2^62 has room for 2^30 charges.
 pub fn charges_fit(clock: u64)
-    requires { clock < 2 ^ 62 }
-    ensures { ChargesFit clock }
+    requires early { clock < 2 ^ 62 }
+    ensures fits { ChargesFit clock }
 {
     let _ = clock;
 }

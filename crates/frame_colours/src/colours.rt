@@ -31,7 +31,7 @@ impl AllColours {
         requires frames { frames ≤ 2 ^ 15 }
         requires some { 0 < colours }
         requires few { colours ≤ 64 }
-        ensures { result ≡ whole_of frames colours }
+        ensures whole { result ≡ whole_of frames colours }
     {
         AllColours { frames, colours }
     }
@@ -44,7 +44,8 @@ impl AllColours {
     #[tactic(auto, using(crate::proofs::Disjoint::apart_by_lists))]
     pub fn split(self, alloc: Global, lists: &[Vec<u8>]) -> Result<Vec<ColourShare>, Memory>
         requires disjoint { AreDisjoint self.colours (colours_in lists.now) }
-        ensures shares { IfOk result (λ shares. shares.items ≡ map (share_of self) (colours_in lists.now)) }
+        ensures shares { IfOk result (λ shares.
+            shares.items ≡ map (share_of self) (colours_in lists.now)) }
         ensures apart { IfOk result (λ shares. AreApart shares.items) }
     {
         let AllColours { frames, colours } = self;

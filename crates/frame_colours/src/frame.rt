@@ -35,13 +35,13 @@ impl<S> Model for Frame<S> {
 impl<S> Frame<S> {
     /// Its number.
     pub fn number(&self) -> FrameNo
-        ensures { result ≡ self.now }
+        ensures number { result ≡ self.now }
     {
         self.number
     }
 
     pub(crate) fn of(number: FrameNo) -> Self
-        ensures { result ≡ number }
+        ensures number { result ≡ number }
     {
         Frame {
             number,
@@ -53,7 +53,7 @@ impl<S> Frame<S> {
 impl Frame<Free> {
     /// The frame as a page, with all its words zero.
     pub fn hold<Z: Zero>(self, memory: &mut Z) -> Frame<Held>
-        requires { Z.has_frame memory.old self }
+        requires there { Z.has_frame memory.old self }
         ensures frame { result ≡ self }
         ensures memory { memory.new ≡ Z.zeroed memory.old self }
         ensures zero { (i : ℕ) → Z.word memory.new self i ≡ 0 }
@@ -67,7 +67,7 @@ impl Frame<Free> {
 
     /// The frame as a page table, with all its words zero.
     pub fn table<Z: Zero>(self, memory: &mut Z) -> Frame<Table>
-        requires { Z.has_frame memory.old self }
+        requires there { Z.has_frame memory.old self }
         ensures frame { result ≡ self }
         ensures memory { memory.new ≡ Z.zeroed memory.old self }
         ensures zero { (i : ℕ) → Z.word memory.new self i ≡ 0 }
@@ -83,7 +83,7 @@ impl Frame<Free> {
 impl Frame<Held> {
     /// The frame, no longer a page.
     pub fn release(self) -> Frame<Free>
-        ensures { result ≡ self }
+        ensures same { result ≡ self }
     {
         Frame::of(self.number)
     }
@@ -92,7 +92,7 @@ impl Frame<Held> {
 impl Frame<Table> {
     /// The frame, no longer a page table.
     pub fn release(self) -> Frame<Free>
-        ensures { result ≡ self }
+        ensures same { result ≡ self }
     {
         Frame::of(self.number)
     }

@@ -32,8 +32,8 @@ pub fn free_lists()
     ensures fresh { (share : Share) → IsFreeList (all_free share) }
     ensures all { (share : Share) (f : ℕ) → IsOwn share f → is_free (all_free share) f ≡ true }
     ensures taken { (list : FreeList) → IsFreeList list → IsFreeList (without_least list) }
-    ensures given { (list : FreeList) (f : ℕ) → IsFreeList list → IsOwn list.share f → is_free list f ≡ false
-        → IsFreeList (with_frame list f) }
+    ensures given { (list : FreeList) (f : ℕ) → IsFreeList list → IsOwn list.share f
+        → is_free list f ≡ false → IsFreeList (with_frame list f) }
     ensures again { (list : FreeList) (f : ℕ) → IsFreeList list → slice_get list.free 0 ≡ Some f
         → with_frame (without_least list) f ≡ list }
     ensures determined { (a b : FreeList) → a.share ≡ b.share → IsFreeList a → IsFreeList b
@@ -66,9 +66,12 @@ pub fn two_pools(
     requires some { 0 < colours }
     requires few { colours ≤ 64 }
     requires disjoint { are_disjoint colours (first.now ∷ second.now ∷ []) ≡ true }
-    ensures first { IfOk result (λ pools. pools.0 ≡ all_free (share_of (whole_of frames colours) first.now)) }
-    ensures second { IfOk result (λ pools. pools.1 ≡ all_free (share_of (whole_of frames colours) second.now)) }
-    ensures apart { IfOk result (λ pools. (f : ℕ) → is_free pools.0 f ≡ true → is_free pools.1 f ≡ false) }
+    ensures first { IfOk result (λ pools.
+        pools.0 ≡ all_free (share_of (whole_of frames colours) first.now)) }
+    ensures second { IfOk result (λ pools.
+        pools.1 ≡ all_free (share_of (whole_of frames colours) second.now)) }
+    ensures apart { IfOk result (λ pools. (f : ℕ)
+        → is_free pools.0 f ≡ true → is_free pools.1 f ≡ false) }
 {
     let first = Vec::from_slice(alloc, first)?;
     let second = Vec::from_slice(alloc, second)?;

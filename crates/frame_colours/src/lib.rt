@@ -15,7 +15,7 @@ mod share;
 pub use colours::AllColours;
 pub use frame::{Frame, Free, Held, Table};
 pub use pool::Pool;
-pub use share::ColourShare;
+pub use share::{ColourShare, pool_length};
 
 #[cfg(test)]
 mod tests;

@@ -52,6 +52,18 @@ impl Pool {
         }
     }
 
+    /// The numbers of its free frames, ascending.
+    ///
+    /// # Errors
+    /// `Memory` where no memory is left for the list.
+    pub fn list(&self, alloc: Global) -> Result<Vec<FrameNo>, Memory>
+        ensures free { IfOk result (λ frames. frames.items ≡ self.now.free) }
+    {
+        let mut frames = Vec::from_slice(alloc, self.free.as_slice())?;
+        frames.reverse();
+        Ok(frames)
+    }
+
     /// The least free frame; `None` exactly where none is free.
     pub fn take(&mut self) -> Option<Frame<Free>>
         ensures value { result ≡ slice_get self.old.free 0 }
@@ -61,7 +73,8 @@ impl Pool {
         ensures was_free { IfSome result (λ frame. is_free self.old frame ≡ true) }
         ensures gone { IfSome result (λ frame. is_free self.new frame ≡ false) }
         ensures least { IfSome result (λ frame. (f : ℕ) → is_free self.old f ≡ true → frame ≤ f) }
-        ensures others { IfSome result (λ frame. (f : ℕ) → f ≢ frame → is_free self.new f ≡ is_free self.old f) }
+        ensures others { IfSome result (λ frame. (f : ℕ)
+            → f ≢ frame → is_free self.new f ≡ is_free self.old f) }
         ensures again { IfSome result (λ frame. with_frame self.new frame ≡ self.old) }
         ensures none { IfNone result ((f : ℕ) → is_free self.old f ≡ false) }
     {
@@ -97,7 +110,8 @@ fn put(numbers: &mut Vec<FrameNo>, number: FrameNo)
 // The place of a number in numbers that descend.
 fn place_in(numbers: &[FrameNo], number: u32) -> usize
     ensures within { result ≤ length numbers.now }
-    ensures after { (k : ℕ) → result ≤ k → k < length numbers.now → slice_index numbers.now k < number }
+    ensures after { (k : ℕ) → result ≤ k → k < length numbers.now
+        → slice_index numbers.now k < number }
     ensures before { 0 < result → number ≤ slice_index numbers.now (result - 1) }
 {
     let mut place = numbers.len();

@@ -1,11 +1,38 @@
 // A share of the colours, and its frames.
-ghost use Rattle.std.specs.Prelude.{◌≡◌, ◌^◌, ◌<◌, ◌≤◌, length, IfOk, reverse};
+ghost use Rattle.std.specs.Prelude.{◌≡◌, ◌<◌, ◌≤◌, length, IfOk, reverse};
 ghost use Rattle.std.specs.Vec.{vec_capacity};
-ghost use Rattle.frame_colours.specs.Colours.{has_colour, pool};
+ghost use Rattle.frame_colours.specs.Colours.{colour_of, has, has_colour, pool, share_of, whole_of};
 
 use std::alloc::Global;
 use std::marker::Model;
 use tp_base::{FrameNo, Memory};
+
+// Whether the colour of a frame is one of a list.
+fn is_coloured(colours: u32, own: &[u8], frame: u32) -> bool
+    requires some { 0 < colours }
+    requires few { colours ≤ 64 }
+    ensures value { result ≡ has own.now (colour_of colours frame) }
+{
+    own.contains(&((frame % colours) as u8))
+}
+
+/// How many of the frames 0 to `frames - 1` have a colour of the list, where
+/// each has the colour of its number modulo `colours`, 1 to 64.
+pub fn pool_length(frames: u32, colours: u32, own: &[u8]) -> u32
+    requires some { 0 < colours }
+    requires few { colours ≤ 64 }
+    ensures value { result ≡ length (pool (share_of (whole_of frames colours) own.now)) }
+{
+    let mut count = 0;
+    let mut frame = 0;
+    while frame < frames {
+        if is_coloured(colours, own, frame) {
+            count += 1;
+        }
+        frame += 1;
+    }
+    count
+}
 
 // What a share says. It may be let go, which a share itself may not.
 #[derive(Drop)]
@@ -30,23 +57,9 @@ impl Model for Part {
 
 impl Part {
     fn has_colour(&self, frame: u32) -> bool
-        ensures { result ≡ has_colour self.now frame }
+        ensures value { result ≡ has_colour self.now frame }
     {
-        self.own.contains(&((frame % self.colours) as u8))
-    }
-
-    fn count(&self) -> usize
-        ensures { result ≡ length (pool self.now) }
-    {
-        let mut count = 0;
-        let mut frame = 0;
-        while frame < self.frames {
-            if self.has_colour(frame) {
-                count += 1;
-            }
-            frame += 1;
-        }
-        count
+        is_coloured(self.colours, &self.own, frame)
     }
 
     // Its frames, the greatest first.
@@ -54,7 +67,10 @@ impl Part {
         ensures frames { IfOk result (λ frames. reverse frames.items ≡ pool self.now) }
         ensures room { IfOk result (λ frames. length (pool self.now) ≤ vec_capacity frames) }
     {
-        let mut frames = Vec::with_capacity(alloc, self.count())?;
+        let mut frames = Vec::with_capacity(
+            alloc,
+            pool_length(self.frames, self.colours, &self.own) as usize,
+        )?;
         let mut frame = self.frames;
         while frame > 0 {
             frame -= 1;

@@ -48,7 +48,8 @@ fn is_known(version: u8, place: Place, rows: &[Row<'_>], key: &str) -> bool
 }
 
 fn all_keys_known(version: u8, place: Place, rows: &[Row<'_>], table: &Table) -> bool
-    ensures value { result ≡ spec.all_keys_known version place (map row_model rows.now) (table_view table.now) }
+    ensures value { result
+        ≡ spec.all_keys_known version place (map row_model rows.now) (table_view table.now) }
 {
     for (key, _value) in table.iter() {
         if !is_known(version, place, rows, key.as_str()) {

@@ -8,7 +8,8 @@ use Rattle.tlb_model.specs.Buffer.{Buffer, coded_buffer}
 use Rattle.branch_pred.specs.Guesses.{Guesses}
 use Rattle.l2_colour.specs.Colours.{IsColoured, colours_of}
 use Rattle.l2_colour.specs.Contents.{L2Contents, coded_l2}
-use Rattle.mem_system.specs.Hierarchy.{CostTable, Hierarchy}
+use Rattle.cycle_cost.specs.Costs.{CostTable}
+use Rattle.mem_system.specs.Hierarchy.{Hierarchy}
 use Rattle.mem_system.specs.Cost.{Touch, Core, Caches, Touched, Below, touched, touched_all}
 
 -- what one core has

@@ -2,16 +2,14 @@
 use Rattle.std.specs.Prelude.{ℕ, ◌*◌, ◌^◌, ◌≤◌}
 use Rattle.std.specs.Int.{IsPowerOfTwo}
 use Rattle.cycle_cost.specs.declared.Costs.{Costs}
+pub use Rattle.cycle_cost.specs.Models.{costs_of}
 use Rattle.set_cache.specs.Rule.{Rule}
 use Rattle.set_cache.specs.Cache.{Shape}
 use Rattle.set_cache.specs.Calls as cache
 use Rattle.l2_colour.specs.Colours.{IsColoured}
-use Rattle.mem_system.specs.Hierarchy.{CostTable, Hierarchy}
+use Rattle.mem_system.specs.Hierarchy.{Hierarchy}
 use Rattle.mem_system.specs.declared.geometry.CacheGeometry.{CacheGeometry}
 use Rattle.mem_system.specs.declared.geometry.Geometry.{Geometry}
-
-abbrev pub costs_of : Costs → CostTable
-costs_of c = record { base = c.base; l1 = c.l1; l2 = c.l2; mem = c.mem; wb = c.wb; tlb = c.tlb; mispredict = c.mispredict; trap = c.trap; flush = c.flush }
 
 abbrev pub shape_by : {P : Type 0} → (P → ℕ → Rule) → CacheGeometry P → Shape
 shape_by rule g = record { rule = rule g.policy g.ways; ways = g.ways; count = g.sets }

@@ -1,19 +1,8 @@
--- What decides costs: the table of costs, the bytes of a line, and the shape of each part.
+-- What decides costs: their table, the bytes of a line, and the shape of each part.
 use Rattle.std.specs.Prelude.{ℕ}
+use Rattle.cycle_cost.specs.Costs.{CostTable}
 use Rattle.set_cache.specs.Cache.{Shape}
 use Rattle.l2_colour.specs.Colours as colours
-
--- in cycles
-pub record CostTable : Type 0 where
-  pub base : ℕ  -- each instruction
-  pub l1 : ℕ  -- a fetch, load or store, at the first level
-  pub l2 : ℕ  -- what misses the first level, and a walk's read, at the second level
-  pub mem : ℕ  -- what misses the second level
-  pub wb : ℕ  -- a dirty line that is written back
-  pub tlb : ℕ  -- a look-up in the translation buffer
-  pub mispredict : ℕ  -- a branch that was guessed wrongly
-  pub trap : ℕ  -- an operation of the kernel, beside the lines that it touches
-  pub flush : ℕ  -- a flush, beside the dirty lines that it writes back
 
 pub record Hierarchy : Type 0 where
   pub costs : CostTable

@@ -61,9 +61,10 @@ pub fn hits_cost_least()
         → (touched h pinned caches (Store line)).cost ≤ (touched h pinned others (Store line)).cost }
     ensures walk_read { (h : Hierarchy) (pinned : Bool) (caches others : Caches) (line : ℕ)
         → holds h.l2 caches.l2 line ≡ true
-        → (touched h pinned caches (WalkRead line)).cost ≤ (touched h pinned others (WalkRead line)).cost }
-    ensures look { (h : Hierarchy) (pinned : Bool) (caches others : Caches) (page : ℕ) (reads : List ℕ) (found : Bool)
-        → holds h.tlb caches.core.tlb page ≡ true
+        → (touched h pinned caches (WalkRead line)).cost
+        ≤ (touched h pinned others (WalkRead line)).cost }
+    ensures look { (h : Hierarchy) (pinned : Bool) (caches others : Caches) (page : ℕ) (reads : List ℕ)
+        (found : Bool) → holds h.tlb caches.core.tlb page ≡ true
         → (touched h pinned caches (Look page reads found)).cost
         ≤ (touched h pinned others (Look page reads found)).cost }
 {}
@@ -75,16 +76,20 @@ pub fn hits_cost_least()
 pub fn the_untouched_stays()
     ensures l1i { (h : Hierarchy) (pinned : Bool) (caches : Caches) (touch : Touch) (s : ℕ)
         → is_flush touch ≡ false → All (λ line. line % h.l1i.count ≢ s) (lines_in_l1i touch)
-        → set_at h.l1i.ways (touched h pinned caches touch).caches.core.l1i s ≡ set_at h.l1i.ways caches.core.l1i s }
+        → set_at h.l1i.ways (touched h pinned caches touch).caches.core.l1i s
+        ≡ set_at h.l1i.ways caches.core.l1i s }
     ensures l1d { (h : Hierarchy) (pinned : Bool) (caches : Caches) (touch : Touch) (s : ℕ)
         → is_flush touch ≡ false → All (λ line. line % h.l1d.count ≢ s) (lines_in_l1d touch)
-        → set_at h.l1d.ways (touched h pinned caches touch).caches.core.l1d s ≡ set_at h.l1d.ways caches.core.l1d s }
+        → set_at h.l1d.ways (touched h pinned caches touch).caches.core.l1d s
+        ≡ set_at h.l1d.ways caches.core.l1d s }
     ensures tlb { (h : Hierarchy) (pinned : Bool) (caches : Caches) (touch : Touch) (s : ℕ)
         → empties_tlb touch ≡ false → All (λ page. page % h.tlb.count ≢ s) (pages_in_tlb touch)
-        → set_at h.tlb.ways (touched h pinned caches touch).caches.core.tlb s ≡ set_at h.tlb.ways caches.core.tlb s }
+        → set_at h.tlb.ways (touched h pinned caches touch).caches.core.tlb s
+        ≡ set_at h.tlb.ways caches.core.tlb s }
     ensures guesses { (h : Hierarchy) (pinned : Bool) (caches : Caches) (touch : Touch) (pc : ℕ)
         → is_flush touch ≡ false
         → All (λ other. place_of (length caches.core.guesses.counters) other
         ≢ place_of (length caches.core.guesses.counters) pc) (pcs_in touch)
-        → counter_of (touched h pinned caches touch).caches.core.guesses pc ≡ counter_of caches.core.guesses pc }
+        → counter_of (touched h pinned caches touch).caches.core.guesses pc
+        ≡ counter_of caches.core.guesses pc }
 {}

@@ -133,7 +133,8 @@ impl<P: Policy> OnCore<P> {
         ensures tlb { IfOk result (λ core. shape_of P.rule core.tlb.pages ≡ shape_by P.rule tlb) }
         ensures fresh { IfOk result (λ core. CoreStands P.stands_for core
             (record { l1i = empty; l1d = empty; tlb = empty; guesses = fresh_guesses counters })) }
-        ensures kept { IfOk result (λ core. (mem : Mem) (frames root : ℕ) → KeepsLeaves mem frames root core.tlb) }
+        ensures kept { IfOk result (λ core. (mem : Mem) (frames root : ℕ)
+            → KeepsLeaves mem frames root core.tlb) }
     {
         Ok(OnCore {
             costs,
@@ -155,7 +156,8 @@ impl<P: Policy> OnCore<P> {
     /// The cost of a line at the second level.
     #[tactic(auto, unfolding(crate::specs::Cost::below, crate::specs::Cost::below_if, crate::specs::Cost::below_by, crate::specs::Hierarchy::colour_of_line))]
     fn below(&self, l2: &mut SecondLevel<P>, line: Line) -> u32
-        ensures same { hierarchy_of P.rule (system self.now l2.new) ≡ hierarchy_of P.rule (system self.now l2.old) }
+        ensures same { hierarchy_of P.rule (system self.now l2.new)
+            ≡ hierarchy_of P.rule (system self.now l2.old) }
         ensures few { result ≤ 2000 }
         ensures steps { (sets : Sets) → StandsFor P.stands_for l2.old.cache sets
             → BelowSteps P.stands_for result l2.new
@@ -224,7 +226,8 @@ impl<P: Policy> OnCore<P> {
     pub fn branch(&mut self, pc: u32, taken: bool) -> u32
         ensures few { result ≤ 1000 }
         ensures makes { (l2 : L2Contents P)
-            → MakesTouch P.rule P.stands_for (Branch pc taken) result (system self.old l2) (system self.new l2) }
+            → MakesTouch P.rule P.stands_for (Branch pc taken) result
+            (system self.old l2) (system self.new l2) }
     {
         let guess = self.predictor.guess(pc);
         self.predictor.learn(pc, taken);
@@ -264,7 +267,8 @@ impl<P: Policy> OnCore<P> {
     fn read_entries(&self, l2: &mut SecondLevel<P>, walked: &Walked) -> u32
         requires two { walked.now.count ≤ 2 }
         requires small { (i : ℕ) → i < walked.now.count → slice_index walked.now.reads i < 2 ^ 27 }
-        ensures same { hierarchy_of P.rule (system self.now l2.new) ≡ hierarchy_of P.rule (system self.now l2.old) }
+        ensures same { hierarchy_of P.rule (system self.now l2.new)
+            ≡ hierarchy_of P.rule (system self.now l2.old) }
         ensures few { result ≤ 4000 }
         ensures steps { (sets : Sets) → StandsFor P.stands_for l2.old.cache sets
             → BelowSteps P.stands_for result l2.new
@@ -302,7 +306,8 @@ impl<P: Policy> OnCore<P> {
         ensures result { (m : Mem) → Holds mem.now m
             → result.result ≡ translated va (walk m mem.now.frames root va access).result }
         ensures makes { (m : Mem) → Holds mem.now m
-            → MakesTouch P.rule P.stands_for (look_of l2.old.line_size va (walk m mem.now.frames root va access))
+            → MakesTouch P.rule P.stands_for
+            (look_of l2.old.line_size va (walk m mem.now.frames root va access))
             result.cycles (system self.old l2.old) (system self.new l2.new) }
     {
         let walked = walk(mem, root, va, access);
@@ -349,7 +354,8 @@ impl<P: Policy> OnCore<P> {
         ensures within { (m : Mem) → Holds mem.now m → KeepsLeaves m mem.now.frames root self.old.tlb
             → IfOk result.result (λ at. at / 4096 < mem.now.frames) }
         ensures makes { (m : Mem) → Holds mem.now m → KeepsLeaves m mem.now.frames root self.old.tlb
-            → MakesTouch P.rule P.stands_for (look_of l2.old.line_size va (walk m mem.now.frames root va access))
+            → MakesTouch P.rule P.stands_for
+            (look_of l2.old.line_size va (walk m mem.now.frames root va access))
             result.cycles (system self.old l2.old) (system self.new l2.new) }
     {
         match self.tlb.find(va / 4096) {

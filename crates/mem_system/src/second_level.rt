@@ -66,7 +66,8 @@ impl<P: Policy> SecondLevel<P> {
         ensures line_size { self.new.line_size ≡ self.old.line_size }
         ensures shape { SameShape self.old.cache self.new.cache }
         ensures step { (sets : Sets) → StandsFor P.stands_for self.old.cache sets
-            → HitSteps P.stands_for result self.new.cache (touch_of (shape_of P.rule self.old.cache) sets line false) }
+            → HitSteps P.stands_for result self.new.cache
+            (touch_of (shape_of P.rule self.old.cache) sets line false) }
     {
         self.l2.touch(line)
     }

@@ -50,7 +50,8 @@ impl<P: Policy> MemSystem<P> {
         pinned: bool,
     ) -> Result<Self, Memory>
         requires geometry { IsGeometry P.takes geometry }
-        ensures hierarchy { IfOk result (λ system. hierarchy_of P.rule system ≡ hierarchy_by P.rule geometry costs) }
+        ensures hierarchy { IfOk result (λ system.
+            hierarchy_of P.rule system ≡ hierarchy_by P.rule geometry costs) }
         ensures pinned { IfOk result (λ system. system.core.pinned ≡ pinned) }
         ensures cold { IfOk result (λ system.
             SystemStands P.stands_for system (cold (hierarchy_by P.rule geometry costs))) }
@@ -126,7 +127,8 @@ impl<P: Policy> MemSystem<P> {
         ensures within { (m : Mem) → Holds mem.now m → KeepsLeaves m mem.now.frames root self.old.core.tlb
             → IfOk result.result (λ at. at / 4096 < mem.now.frames) }
         ensures makes { (m : Mem) → Holds mem.now m → KeepsLeaves m mem.now.frames root self.old.core.tlb
-            → MakesTouch P.rule P.stands_for (look_of self.old.l2.line_size va (walk m mem.now.frames root va access))
+            → MakesTouch P.rule P.stands_for
+            (look_of self.old.l2.line_size va (walk m mem.now.frames root va access))
             result.cycles self.old self.new }
     {
         self.core.translate(&mut self.l2, mem, root, va, access)

@@ -1,10 +1,14 @@
 -- For the tests: what their memory is after each call: from a frame on all are blank and no tables.
-use Rattle.std.proofs.Common.{arith, ◌≡◌, ◌≢◌, ◌∙◌, sym, subst, ℕ, ◌+◌, ◌<◌, ◌≤◌, true}
-use Rattle.std.specs.Prelude.{None, Result, Ok, Err, IfOk, IfErr}
+use Rattle.std.proofs.Common.{arith, ◌≡◌, ◌≢◌, ◌∙◌, sym, ap, subst, ℕ, ◌+◌, ◌<◌, ◌≤◌, true, inl, inr, Some, [], ◌∷◌}
+use Rattle.std.proofs.lemmas.Bool.{cases_eq}
+use Rattle.std.specs.Prelude.{None, Result, Ok, Err, IfOk, IfErr, slice_get}
 use Rattle.tp_base.specs.Table.{empty}
-use Rattle.phys_mem.specs.Contents.{Contents}
-use Rattle.phys_mem.specs.Mem.{Mem, word, word-written_frame}
+use Rattle.frame_colours.specs.Colours.{pool, whole_of, share_of}
+use Rattle.frame_colours.specs.FreeList.{FreeList, all_free}
+use Rattle.phys_mem.specs.Contents.{Contents, zeroed}
+use Rattle.phys_mem.specs.Mem.{Mem, word, zeroed_frame, word-empty, word-written_frame, word-zeroed_same, word-zeroed_other}
 use Rattle.phys_mem.specs.Holds.{Holds}
+use Rattle.phys_mem.proofs.HoldsLemmas.{holds-zeroed}
 use Rattle.sv32_walk.specs.PageTableEntry.{ppn, vpn_0, vpn_1, are_good, table_word, leaf_word}
 use Rattle.sv32_walk.proofs.WordLemmas.{ppn-table, valid-leaf}
 use Rattle.page_map.specs.declared.refusal.MapRefusal.{MapRefusal}
@@ -12,7 +16,7 @@ use Rattle.page_map.specs.Tables.{IsPageMap, IsBlank, StandsWith, has_table, has
 use Rattle.page_map.specs.Reached.{TablesIn, IsApart}
 use Rattle.page_map.specs.Changes.{mapped, installed}
 use Rattle.page_map.proofs.WalkLemmas.{vpn_1-below}
-use Rattle.page_map.proofs.KeptLemmas.{unrefused_table, table_kept, root_kept, pointer-table, blank_tables, blank_empty}
+use Rattle.page_map.proofs.KeptLemmas.{unrefused_table, table_kept, root_kept, pointer-table, blank_tables}
 use Rattle.page_map.proofs.PageLemmas.{page_by}
 use Rattle.page_map.proofs.RegionLemmas.{table_there}
 use Rattle.page_map.proofs.ReachLemmas.{table_tables, root_tables, blank_in}
@@ -22,15 +26,33 @@ abbrev pub Ready : ℕ → ℕ → ℕ → Mem → Type 0
 Ready root frames next m =
     IsPageMap m root frames × (TablesIn (λ table. table < next) m root × ((f : ℕ) → next ≤ f → IsBlank m f))
 
-pub ready_new : (memory : Contents) → memory.frames ≡ 64 → Holds memory empty → StandsWith memory (Ready 2 memory.frames 3)
-ready_new memory size holds = record {
-  mem = empty;
-  holds = holds;
-  so = (
-    blank_tables empty 2 (blank_empty 2) memory.frames (omega (arith, size)),
-    ((blank_in (λ table. table < 3) empty 2 (blank_empty 2)).tables, λ f past. blank_empty f),
-  );
+-- of 64 frames in four colours, the least of the third colour
+pub least_of : (list : FreeList) → list ≡ all_free (share_of (whole_of 64 4) (2 ∷ [])) → slice_get list.free 0 ≡ Some 2
+unfolding pool
+least_of list is = ap (λ (l : FreeList). slice_get l.free 0) is
+
+-- the root's frame was zeroed in a memory that read zero
+blank_zeroed : (root f : ℕ) → IsBlank (zeroed_frame empty root) f
+blank_zeroed root f = record {
+  zero = λ i below. elim (cases_eq f root) [
+    | inl same ↦ ap (λ (g : ℕ). word (zeroed_frame empty root) g i) same ∙ word-zeroed_same empty root i
+    | inr other ↦ word-zeroed_other empty root f i other ∙ word-empty f i
+  ];
 }
+
+pub ready_new : (memory : Contents) (root : ℕ) → memory.frames ≡ 64 → root ≡ 2 → Holds memory empty
+    → StandsWith (zeroed memory root) (Ready root memory.frames 3)
+ready_new memory root size root_is holds =
+    let m : Mem = zeroed_frame empty root in
+    let in_memory : root < memory.frames = omega (arith, size, root_is) in
+    record {
+      mem = m;
+      holds = holds-zeroed memory empty root in_memory holds;
+      so = (
+        blank_tables m root (blank_zeroed root root) memory.frames in_memory,
+        ((blank_in (λ table. table < 3) m root (blank_zeroed root root)).tables, λ f past. blank_zeroed root f),
+      );
+    }
 
 module _ (memory : Contents) (root next : ℕ) (size : memory.frames ≡ 64) (root_is : root ≡ 2) (past : 2 < next) (few : next < 60)
     (b : StandsWith memory (Ready root memory.frames next)) where

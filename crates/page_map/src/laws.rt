@@ -17,10 +17,12 @@ use sv32_walk::WalkFault;
 /// A root that reads zero has no tables, and nothing is reached from it; in an
 /// empty memory each frame reads zero.
 pub fn opening()
-    ensures tables { (m : Mem) (root frames : ℕ) → root < frames → IsBlank m root → IsPageMap m root frames }
+    ensures tables { (m : Mem) (root frames : ℕ) → root < frames → IsBlank m root
+        → IsPageMap m root frames }
     ensures once { (m : Mem) (root : ℕ) → IsBlank m root → TablesOnce m root }
     ensures no_table { (m : Mem) (root frame : ℕ) → IsBlank m root → IsNoTable m root frame }
-    ensures pool { (pool : ℕ → Bool) (m : Mem) (root : ℕ) → IsBlank m root → ReachesIn (IsIn pool) m root }
+    ensures pool { (pool : ℕ → Bool) (m : Mem) (root : ℕ) → IsBlank m root
+        → ReachesIn (IsIn pool) m root }
     ensures sealed { (m : Mem) (root : ℕ) → IsBlank m root → IsSealed m root }
     ensures empty { (frame : ℕ) → IsBlank empty frame }
 {}
@@ -56,10 +58,13 @@ pub fn mapping()
     ensures there { (m : Mem) (root frames va frame rights : ℕ) → CanMap m root frames va frame rights
         → has_page (mapped m root va frame rights) root va ≡ true }
     ensures leaf { (m : Mem) (root frames va frame rights at : ℕ) (access : Access)
-        → CanMap m root frames va frame rights → at / 4096 ≡ va / 4096 → rights_permit rights access ≡ true
-        → (walk (mapped m root va frame rights) frames root at access).result ≡ Ok (leaf_word frame rights) }
+        → CanMap m root frames va frame rights → at / 4096 ≡ va / 4096
+        → rights_permit rights access ≡ true
+        → (walk (mapped m root va frame rights) frames root at access).result
+        ≡ Ok (leaf_word frame rights) }
     ensures fault { (m : Mem) (root frames va frame rights at : ℕ) (access : Access)
-        → CanMap m root frames va frame rights → at / 4096 ≡ va / 4096 → rights_permit rights access ≡ false
+        → CanMap m root frames va frame rights → at / 4096 ≡ va / 4096
+        → rights_permit rights access ≡ false
         → (walk (mapped m root va frame rights) frames root at access).result ≡ Err WalkFault.Page }
     ensures others { (m : Mem) (root frames va frame rights : ℕ)
         → CanMap m root frames va frame rights → TablesOnce m root
@@ -114,8 +119,9 @@ pub fn pools()
     ensures install { (pool : ℕ → Bool) (m : Mem) (root frames va frame : ℕ)
         → CanInstall m root frames va frame → ReachesIn (IsIn pool) m root → IsIn pool frame
         → ReachesIn (IsIn pool) (installed m root va frame) root }
-    ensures uninstall { (pool : ℕ → Bool) (m : Mem) (root frames va : ℕ) → CanUninstall m root frames va
-        → ReachesIn (IsIn pool) m root → ReachesIn (IsIn pool) (uninstalled m root va) root }
+    ensures uninstall { (pool : ℕ → Bool) (m : Mem) (root frames va : ℕ)
+        → CanUninstall m root frames va → ReachesIn (IsIn pool) m root
+        → ReachesIn (IsIn pool) (uninstalled m root va) root }
 {}
 
 /// What a walk reaches: it reads in the root and the tables alone, and ends at

@@ -11,6 +11,7 @@ ghost use Rattle.page_map.specs.Reached.{IsApart};
 ghost use Rattle.page_map.specs.Changes.{table_entry, page_entry, mapped, unmapped, installed, uninstalled};
 
 use crate::MapRefusal;
+use frame_colours::{Frame, Table};
 use phys_mem::PhysMem;
 use std::marker::Model;
 use sv32_walk::{PageTableEntry, leaf_word, table_word};
@@ -21,11 +22,11 @@ const PAGE: u32 = 4096;
 
 const REGION: u32 = 4_194_304;
 
-/// The page tables of one domain, by the frame of their root. They stand in
-/// memory, which each call is handed.
+/// The page tables of one domain, which own the frame of their root. They
+/// stand in memory, which each call is handed.
 #[derive(Drop)]
 pub struct PageMap {
-    root: FrameNo,
+    root: Frame<Table>,
 }
 
 impl Model for PageMap {
@@ -45,17 +46,17 @@ struct Placed {
 
 impl PageMap {
     /// The tables of a root in a frame, which has to be in memory at each call.
-    pub fn new(root: FrameNo) -> Self
-        ensures { result ≡ root }
+    pub fn new(root: Frame<Table>) -> Self
+        ensures value { result ≡ root }
     {
         PageMap { root }
     }
 
-    /// The frame of the root.
+    /// The number of the root's frame.
     pub fn root(&self) -> FrameNo
-        ensures { result ≡ self.now }
+        ensures value { result ≡ self.now }
     {
-        self.root
+        self.root.number()
     }
 
     /// Maps the page at a virtual address to a frame of memory in which none of
@@ -84,7 +85,8 @@ impl PageMap {
             → IfErr result (λ refusal. map_refusal m self.old va ≡ Some refusal) }
         ensures allowed { (m : Mem) → Holds mem.old m
             → IfOk result (λ at. map_refusal m self.old va ≡ None) }
-        ensures entry { (m : Mem) → Holds mem.old m → IfOk result (λ at. at ≡ page_entry m self.old va) }
+        ensures entry { (m : Mem) → Holds mem.old m
+            → IfOk result (λ at. at ≡ page_entry m self.old va) }
         ensures mapped { (m : Mem) → Holds mem.old m
             → IfOk result (λ at. Holds mem.new (mapped m self.old va frame rights)) }
         ensures others { IfOk result (λ at. (address : ℕ) → address / 4 ≢ at / 4
@@ -189,21 +191,21 @@ impl PageMap {
     // The root's entry for an address.
     #[tactic(auto, unfolding(sv32_walk::specs::PageTableEntry::vpn_1))]
     fn pointer(&self, mem: &PhysMem, va: u32) -> Placed
-        requires { self.now < mem.now.frames }
+        requires within { self.now < mem.now.frames }
         ensures address { result.at ≡ table_entry self.now va }
         ensures frame { result.at / 4096 ≡ self.now }
         ensures place { result.at % 4096 / 4 ≡ vpn_1 va }
         ensures aligned { result.at % 4 ≡ 0 }
         ensures word { (m : Mem) → Holds mem.now m → result.entry.0 ≡ first_entry m self.now va }
     {
-        entry_of(mem, self.root.number(), (va >> 22) & 0x3ff)
+        entry_of(mem, self.root().number(), (va >> 22) & 0x3ff)
     }
 }
 
 // The entry for an address in a table.
 #[tactic(auto, unfolding(sv32_walk::specs::PageTableEntry::vpn_0))]
 fn leaf_of(mem: &PhysMem, table: u32, va: u32) -> Placed
-    requires { table < mem.now.frames }
+    requires within { table < mem.now.frames }
     ensures address { result.at ≡ entry_address table (vpn_0 va) }
     ensures frame { result.at / 4096 ≡ table }
     ensures place { result.at % 4096 / 4 ≡ vpn_0 va }

@@ -38,7 +38,7 @@ impl PhysMem {
     /// # Errors
     /// `Memory` where no memory is left for it.
     pub fn new(alloc: Global, frames: u32) -> Result<Self, Memory>
-        requires { frames ≤ 2 ^ 20 }
+        requires few { frames ≤ 2 ^ 20 }
         ensures zero { IfOk result (λ memory. memory ≡ all_zero frames) }
         ensures holds { IfOk result (λ memory. Holds memory empty) }
     {
@@ -117,7 +117,7 @@ impl PhysMem {
 
     /// The byte at an address in memory.
     pub fn read_byte(&self, at: u32) -> u8
-        requires { frame_of at < self.now.frames }
+        requires within { frame_of at < self.now.frames }
         ensures value { result ≡ byte_at self.now at }
         ensures holds { (mem : Mem) → Holds self.now mem
             → result ≡ byte_in (word mem (frame_of at) (place_of at)) (at % 4) }
@@ -127,13 +127,14 @@ impl PhysMem {
 
     /// Writes the byte at an address in memory; every other byte stays.
     pub fn write_byte(&mut self, at: u32, byte: u8)
-        requires { frame_of at < self.old.frames }
+        requires within { frame_of at < self.old.frames }
         ensures becomes { self.new ≡ with_byte self.old at byte }
         ensures frames { self.new.frames ≡ self.old.frames }
         ensures others { (frame : ℕ) → frame ≢ frame_of at
             → frame_words self.new frame ≡ frame_words self.old frame }
         ensures stored { byte_at self.new at ≡ byte }
-        ensures bytes { (address : ℕ) → address ≢ at → byte_at self.new address ≡ byte_at self.old address }
+        ensures bytes { (address : ℕ) → address ≢ at
+            → byte_at self.new address ≡ byte_at self.old address }
         ensures holds { (mem : Mem) → Holds self.old mem
             → Holds self.new (written mem (frame_of at) (place_of at)
             (with_byte_in (word mem (frame_of at) (place_of at)) (at % 4) byte)) }
@@ -144,7 +145,7 @@ impl PhysMem {
 
     // The word that an address lies in.
     fn word(&self, at: u32) -> u32
-        requires { frame_of at < self.now.frames }
+        requires within { frame_of at < self.now.frames }
         ensures value { result ≡ word_at self.now at }
         ensures holds { (mem : Mem) → Holds self.now mem
             → result ≡ word mem (frame_of at) (place_of at) }
@@ -155,7 +156,7 @@ impl PhysMem {
 
     // Writes the word that an address lies in.
     fn set_word(&mut self, at: u32, word: u32)
-        requires { frame_of at < self.old.frames }
+        requires within { frame_of at < self.old.frames }
         ensures becomes { self.new ≡ with_word self.old at word }
         ensures stored { word_at self.new at ≡ word }
         ensures words { (address : ℕ) → address / 4 ≢ at / 4
@@ -169,7 +170,7 @@ impl PhysMem {
     }
 
     fn clear(&mut self, frame: u32)
-        requires { frame < self.old.frames }
+        requires within { frame < self.old.frames }
         ensures becomes { self.new ≡ zeroed self.old frame }
         ensures size { length self.old.words ≡ 1024 * self.old.frames }
     {
@@ -185,7 +186,7 @@ impl Zero for PhysMem {
     ghost zeroed = { λ memory frame. zeroed memory frame };
 
     fn zero_frame(&mut self, frame: FrameNo)
-        requires { frame < self.old.frames }
+        requires within { frame < self.old.frames }
         ensures becomes { self.new ≡ zeroed self.old frame }
         ensures zero { (i : ℕ) → word_of self.new frame i ≡ 0 }
         ensures others { (f i : ℕ) → f ≢ frame → word_of self.new f i ≡ word_of self.old f i }
@@ -197,15 +198,15 @@ impl Zero for PhysMem {
 }
 
 fn zero_words(words: &mut [u32], frame: usize)
-    requires { 1024 * frame + 1024 ≤ length words.old }
-    ensures { words.new ≡ zeroed_words words.old frame }
+    requires within { 1024 * frame + 1024 ≤ length words.old }
+    ensures becomes { words.new ≡ zeroed_words words.old frame }
 {
     let start = 1024 * frame;
     words[start..start + 1024].fill(0);
 }
 
 fn bytes_of(word: u32) -> [u8; 4]
-    ensures { result ≡ little_bytes 4 word }
+    ensures value { result ≡ little_bytes 4 word }
 {
     let mut bytes = [0; 4];
     LittleEndian::write_u32(&mut bytes, word);
@@ -214,16 +215,16 @@ fn bytes_of(word: u32) -> [u8; 4]
 
 #[tactic(auto, unfolding(crate::specs::Bytes::half_in))]
 fn half_of(word: u32, place: u32) -> u16
-    requires { place ≤ 2 }
-    ensures { result ≡ half_in word place }
+    requires place { place ≤ 2 }
+    ensures value { result ≡ half_in word place }
 {
     LittleEndian::read_u16(&bytes_of(word)[place as usize..])
 }
 
 #[tactic(auto, unfolding(crate::specs::Bytes::with_half_in))]
 fn with_half_of(word: u32, place: u32, half: u16) -> u32
-    requires { place ≤ 2 }
-    ensures { result ≡ with_half_in word place half }
+    requires place { place ≤ 2 }
+    ensures value { result ≡ with_half_in word place half }
 {
     let mut bytes = bytes_of(word);
     LittleEndian::write_u16(&mut bytes[place as usize..], half);
@@ -232,16 +233,16 @@ fn with_half_of(word: u32, place: u32, half: u16) -> u32
 
 #[tactic(auto, unfolding(crate::specs::Bytes::byte_in))]
 fn byte_of(word: u32, place: u32) -> u8
-    requires { place < 4 }
-    ensures { result ≡ byte_in word place }
+    requires place { place < 4 }
+    ensures value { result ≡ byte_in word place }
 {
     bytes_of(word)[place as usize]
 }
 
 #[tactic(auto, unfolding(crate::specs::Bytes::with_byte_in))]
 fn with_byte_of(word: u32, place: u32, byte: u8) -> u32
-    requires { place < 4 }
-    ensures { result ≡ with_byte_in word place byte }
+    requires place { place < 4 }
+    ensures value { result ≡ with_byte_in word place byte }
 {
     let mut bytes = bytes_of(word);
     bytes[place as usize] = byte;

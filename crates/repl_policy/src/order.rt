@@ -5,8 +5,8 @@ ghost use Rattle.repl_policy.specs.Packed.{AllBelow, Packs, pack};
 
 /// The order of a set with nothing in it: the least way is the oldest.
 pub fn fresh(ways: u32) -> u64
-    requires { ways ≤ 16 }
-    ensures { Packs ways result [] }
+    requires few { ways ≤ 16 }
+    ensures fresh { Packs ways result [] }
 {
     let mut state = 0;
     for way in 0..ways {
@@ -18,8 +18,8 @@ pub fn fresh(ways: u32) -> u64
 /// The first `count` ways of the order, without a way.
 fn without(state: u64, count: u32, way: u32) -> u64
     ensures small { result ≤ state }
-    ensures value { (order : List ℕ) → length order ≡ count → AllBelow 16 order → state ≡ pack order
-        → result ≡ pack (without order way) }
+    ensures value { (order : List ℕ) → length order ≡ count → AllBelow 16 order
+        → state ≡ pack order → result ≡ pack (without order way) }
 {
     if count == 0 {
         return 0;
@@ -39,7 +39,7 @@ pub fn to_front(ways: u32, state: u64, way: u32) -> u64
     requires few { ways ≤ 16 }
     requires below { way < ways }
     requires valid { (list : List ℕ) × Packs ways state list }
-    ensures { (list : List ℕ) → Packs ways state list → Packs ways result (to_front list way) }
+    ensures moved { (list : List ℕ) → Packs ways state list → Packs ways result (to_front list way) }
 {
     // Where the way is the newest already, nothing moves.
     let newest = u64::from(way);

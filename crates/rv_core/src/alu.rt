@@ -6,7 +6,7 @@ use rv_decode::{Comparison, Operation};
 
 /// A shift takes the low five bits of `b`.
 pub fn compute(operation: Operation, a: u32, b: u32) -> u32
-    ensures { result ≡ value_of operation a b }
+    ensures value { result ≡ value_of operation a b }
 {
     match operation {
         Operation::Add => a.wrapping_add(b),
@@ -23,7 +23,7 @@ pub fn compute(operation: Operation, a: u32, b: u32) -> u32
 }
 
 pub fn holds(comparison: Comparison, a: u32, b: u32) -> bool
-    ensures { result ≡ holds comparison a b }
+    ensures value { result ≡ holds comparison a b }
 {
     match comparison {
         Comparison::Equal => a == b,

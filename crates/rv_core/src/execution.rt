@@ -9,7 +9,7 @@ use crate::{Effect, Regs, Store, Trap};
 use rv_decode::{Instr, StoreWidth};
 
 fn go_on(pc: u32) -> Effect
-    ensures { result ≡ (continuation [] pc).effect }
+    ensures effect { result ≡ (continuation [] pc).effect }
 {
     Effect {
         next: pc.wrapping_add(4),
@@ -20,7 +20,7 @@ fn go_on(pc: u32) -> Effect
 }
 
 fn raise(pc: u32, trap: Trap) -> Effect
-    ensures { result ≡ (exception [] pc trap).effect }
+    ensures effect { result ≡ (exception [] pc trap).effect }
 {
     Effect {
         next: pc,
@@ -31,7 +31,7 @@ fn raise(pc: u32, trap: Trap) -> Effect
 }
 
 fn write_register(regs: &mut Regs, pc: u32, rd: u8, word: u32) -> Effect
-    requires { rd < 32 }
+    requires below { rd < 32 }
     ensures regs { regs.new ≡ (register_write regs.old pc rd word).regs }
     ensures effect { result ≡ (register_write regs.old pc rd word).effect }
 {
@@ -40,7 +40,7 @@ fn write_register(regs: &mut Regs, pc: u32, rd: u8, word: u32) -> Effect
 }
 
 fn write_memory(pc: u32, width: StoreWidth, at: u32, word: u32) -> Effect
-    ensures { result ≡ (memory_write [] pc width at word).effect }
+    ensures effect { result ≡ (memory_write [] pc width at word).effect }
 {
     Effect {
         next: pc.wrapping_add(4),
@@ -55,7 +55,7 @@ fn write_memory(pc: u32, width: StoreWidth, at: u32, word: u32) -> Effect
 }
 
 fn arrive(pc: u32, target: u32, taken: bool) -> Effect
-    ensures { result ≡ (arrival [] [] pc target taken).effect }
+    ensures effect { result ≡ (arrival [] [] pc target taken).effect }
 {
     if target % 4 != 0 {
         return raise(
@@ -75,7 +75,7 @@ fn arrive(pc: u32, target: u32, taken: bool) -> Effect
 }
 
 fn jump(regs: &mut Regs, pc: u32, rd: u8, target: u32) -> Effect
-    requires { rd < 32 }
+    requires below { rd < 32 }
     ensures regs { regs.new ≡ (jump regs.old pc rd target).regs }
     ensures effect { result ≡ (jump regs.old pc rd target).effect }
 {
@@ -87,7 +87,7 @@ fn jump(regs: &mut Regs, pc: u32, rd: u8, target: u32) -> Effect
 }
 
 fn branch(pc: u32, target: u32, taken: bool) -> Effect
-    ensures { result ≡ (branch [] pc target taken).effect }
+    ensures effect { result ≡ (branch [] pc target taken).effect }
 {
     if taken {
         arrive(pc, target, true)

@@ -7,7 +7,7 @@ use crate::{Regs, Trap};
 use rv_decode::{Instr, LoadWidth, StoreWidth};
 
 fn load_is_aligned(width: LoadWidth, at: u32) -> bool
-    ensures { result ≡ (at % load_size width == 0) }
+    ensures value { result ≡ (at % load_size width == 0) }
 {
     match width {
         LoadWidth::Byte | LoadWidth::ByteUnsigned => true,
@@ -17,7 +17,7 @@ fn load_is_aligned(width: LoadWidth, at: u32) -> bool
 }
 
 fn store_is_aligned(width: StoreWidth, at: u32) -> bool
-    ensures { result ≡ (at % store_size width == 0) }
+    ensures value { result ≡ (at % store_size width == 0) }
 {
     match width {
         StoreWidth::Byte => true,
@@ -28,7 +28,7 @@ fn store_is_aligned(width: StoreWidth, at: u32) -> bool
 
 /// In bytes.
 pub fn store_size(width: StoreWidth) -> u8
-    ensures { result ≡ store_size width }
+    ensures value { result ≡ store_size width }
 {
     match width {
         StoreWidth::Byte => 1,
@@ -40,7 +40,7 @@ pub fn store_size(width: StoreWidth) -> u8
 /// The register's word after a load that found `loaded`, whose bits above the
 /// load's size don't count.
 pub fn loaded_word(width: LoadWidth, loaded: u32) -> u32
-    ensures { result ≡ loaded_word width loaded }
+    ensures value { result ≡ loaded_word width loaded }
 {
     match width {
         LoadWidth::Byte => {
@@ -59,7 +59,7 @@ pub fn loaded_word(width: LoadWidth, loaded: u32) -> u32
 
 /// What a store writes of a register's word.
 pub fn stored_word(width: StoreWidth, word: u32) -> u32
-    ensures { result ≡ stored_word width word }
+    ensures value { result ≡ stored_word width word }
 {
     match width {
         StoreWidth::Byte => word & 0xff,

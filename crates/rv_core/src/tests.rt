@@ -10,7 +10,7 @@ const PC: u32 = 0x0001_0000;
 
 // Of operations on x5 and x6: the word, the words in both, and then in x7.
 #[rattlefmt::skip]
-const REGISTER_OPERATIONS: [(u32, u32, u32, u32); 177] = [
+const ADD_AND_SUB: [(u32, u32, u32, u32); 30] = [
     // add x7, x5, x6
     (0x0062_83b3, 0, 0, 0), (0x0062_83b3, 1, 1, 2),
     (0x0062_83b3, 0, 1, 1), (0x0062_83b3, 0xffff_ffff, 1, 0),
@@ -29,6 +29,10 @@ const REGISTER_OPERATIONS: [(u32, u32, u32, u32); 177] = [
     (0x4062_83b3, 0x8000_0000, 0x7fff_ffff, 1), (0x4062_83b3, 0x7fff_ffff, 0x8000_0000, 0xffff_ffff),
     (0x4062_83b3, 0x8000_0000, 0x8000_0000, 0), (0x4062_83b3, 0x8000_0000, 0xffff_ffff, 0x8000_0001),
     (0x4062_83b3, 0x1234_5678, 0x0f0f_f0f0, 0x0324_6588),
+];
+
+#[rattlefmt::skip]
+const SLL: [(u32, u32, u32, u32); 24] = [
     // sll x7, x5, x6
     (0x0062_93b3, 1, 0, 1), (0x0062_93b3, 1, 1, 2),
     (0x0062_93b3, 1, 0x1f, 0x8000_0000), (0x0062_93b3, 1, 0x20, 1),
@@ -42,6 +46,10 @@ const REGISTER_OPERATIONS: [(u32, u32, u32, u32); 177] = [
     (0x0062_93b3, 0x7fff_ffff, 0, 0x7fff_ffff), (0x0062_93b3, 0x7fff_ffff, 1, 0xffff_fffe),
     (0x0062_93b3, 0x7fff_ffff, 0x1f, 0x8000_0000), (0x0062_93b3, 0x7fff_ffff, 0x20, 0x7fff_ffff),
     (0x0062_93b3, 0x7fff_ffff, 0x21, 0xffff_fffe), (0x0062_93b3, 0x7fff_ffff, 0xffff_ffff, 0x8000_0000),
+];
+
+#[rattlefmt::skip]
+const SLT_AND_SLTU: [(u32, u32, u32, u32); 30] = [
     // slt x7, x5, x6
     (0x0062_a3b3, 0, 0, 0), (0x0062_a3b3, 1, 1, 0),
     (0x0062_a3b3, 0, 1, 1), (0x0062_a3b3, 0xffff_ffff, 1, 1),
@@ -60,6 +68,10 @@ const REGISTER_OPERATIONS: [(u32, u32, u32, u32); 177] = [
     (0x0062_b3b3, 0x8000_0000, 0x7fff_ffff, 0), (0x0062_b3b3, 0x7fff_ffff, 0x8000_0000, 1),
     (0x0062_b3b3, 0x8000_0000, 0x8000_0000, 0), (0x0062_b3b3, 0x8000_0000, 0xffff_ffff, 1),
     (0x0062_b3b3, 0x1234_5678, 0x0f0f_f0f0, 0),
+];
+
+#[rattlefmt::skip]
+const XOR_OR_AND: [(u32, u32, u32, u32); 45] = [
     // xor x7, x5, x6
     (0x0062_c3b3, 0, 0, 0), (0x0062_c3b3, 1, 1, 0),
     (0x0062_c3b3, 0, 1, 1), (0x0062_c3b3, 0xffff_ffff, 1, 0xffff_fffe),
@@ -69,32 +81,6 @@ const REGISTER_OPERATIONS: [(u32, u32, u32, u32); 177] = [
     (0x0062_c3b3, 0x8000_0000, 0x7fff_ffff, 0xffff_ffff), (0x0062_c3b3, 0x7fff_ffff, 0x8000_0000, 0xffff_ffff),
     (0x0062_c3b3, 0x8000_0000, 0x8000_0000, 0), (0x0062_c3b3, 0x8000_0000, 0xffff_ffff, 0x7fff_ffff),
     (0x0062_c3b3, 0x1234_5678, 0x0f0f_f0f0, 0x1d3b_a688),
-    // srl x7, x5, x6
-    (0x0062_d3b3, 1, 0, 1), (0x0062_d3b3, 1, 1, 0),
-    (0x0062_d3b3, 1, 0x1f, 0), (0x0062_d3b3, 1, 0x20, 1),
-    (0x0062_d3b3, 1, 0x21, 0), (0x0062_d3b3, 1, 0xffff_ffff, 0),
-    (0x0062_d3b3, 0xffff_ffff, 0, 0xffff_ffff), (0x0062_d3b3, 0xffff_ffff, 1, 0x7fff_ffff),
-    (0x0062_d3b3, 0xffff_ffff, 0x1f, 1), (0x0062_d3b3, 0xffff_ffff, 0x20, 0xffff_ffff),
-    (0x0062_d3b3, 0xffff_ffff, 0x21, 0x7fff_ffff), (0x0062_d3b3, 0xffff_ffff, 0xffff_ffff, 1),
-    (0x0062_d3b3, 0x8000_0000, 0, 0x8000_0000), (0x0062_d3b3, 0x8000_0000, 1, 0x4000_0000),
-    (0x0062_d3b3, 0x8000_0000, 0x1f, 1), (0x0062_d3b3, 0x8000_0000, 0x20, 0x8000_0000),
-    (0x0062_d3b3, 0x8000_0000, 0x21, 0x4000_0000), (0x0062_d3b3, 0x8000_0000, 0xffff_ffff, 1),
-    (0x0062_d3b3, 0x7fff_ffff, 0, 0x7fff_ffff), (0x0062_d3b3, 0x7fff_ffff, 1, 0x3fff_ffff),
-    (0x0062_d3b3, 0x7fff_ffff, 0x1f, 0), (0x0062_d3b3, 0x7fff_ffff, 0x20, 0x7fff_ffff),
-    (0x0062_d3b3, 0x7fff_ffff, 0x21, 0x3fff_ffff), (0x0062_d3b3, 0x7fff_ffff, 0xffff_ffff, 0),
-    // sra x7, x5, x6
-    (0x4062_d3b3, 1, 0, 1), (0x4062_d3b3, 1, 1, 0),
-    (0x4062_d3b3, 1, 0x1f, 0), (0x4062_d3b3, 1, 0x20, 1),
-    (0x4062_d3b3, 1, 0x21, 0), (0x4062_d3b3, 1, 0xffff_ffff, 0),
-    (0x4062_d3b3, 0xffff_ffff, 0, 0xffff_ffff), (0x4062_d3b3, 0xffff_ffff, 1, 0xffff_ffff),
-    (0x4062_d3b3, 0xffff_ffff, 0x1f, 0xffff_ffff), (0x4062_d3b3, 0xffff_ffff, 0x20, 0xffff_ffff),
-    (0x4062_d3b3, 0xffff_ffff, 0x21, 0xffff_ffff), (0x4062_d3b3, 0xffff_ffff, 0xffff_ffff, 0xffff_ffff),
-    (0x4062_d3b3, 0x8000_0000, 0, 0x8000_0000), (0x4062_d3b3, 0x8000_0000, 1, 0xc000_0000),
-    (0x4062_d3b3, 0x8000_0000, 0x1f, 0xffff_ffff), (0x4062_d3b3, 0x8000_0000, 0x20, 0x8000_0000),
-    (0x4062_d3b3, 0x8000_0000, 0x21, 0xc000_0000), (0x4062_d3b3, 0x8000_0000, 0xffff_ffff, 0xffff_ffff),
-    (0x4062_d3b3, 0x7fff_ffff, 0, 0x7fff_ffff), (0x4062_d3b3, 0x7fff_ffff, 1, 0x3fff_ffff),
-    (0x4062_d3b3, 0x7fff_ffff, 0x1f, 0), (0x4062_d3b3, 0x7fff_ffff, 0x20, 0x7fff_ffff),
-    (0x4062_d3b3, 0x7fff_ffff, 0x21, 0x3fff_ffff), (0x4062_d3b3, 0x7fff_ffff, 0xffff_ffff, 0),
     // or x7, x5, x6
     (0x0062_e3b3, 0, 0, 0), (0x0062_e3b3, 1, 1, 1),
     (0x0062_e3b3, 0, 1, 1), (0x0062_e3b3, 0xffff_ffff, 1, 0xffff_ffff),
@@ -115,9 +101,43 @@ const REGISTER_OPERATIONS: [(u32, u32, u32, u32); 177] = [
     (0x0062_f3b3, 0x1234_5678, 0x0f0f_f0f0, 0x0204_5070),
 ];
 
+#[rattlefmt::skip]
+const SRL: [(u32, u32, u32, u32); 24] = [
+    // srl x7, x5, x6
+    (0x0062_d3b3, 1, 0, 1), (0x0062_d3b3, 1, 1, 0),
+    (0x0062_d3b3, 1, 0x1f, 0), (0x0062_d3b3, 1, 0x20, 1),
+    (0x0062_d3b3, 1, 0x21, 0), (0x0062_d3b3, 1, 0xffff_ffff, 0),
+    (0x0062_d3b3, 0xffff_ffff, 0, 0xffff_ffff), (0x0062_d3b3, 0xffff_ffff, 1, 0x7fff_ffff),
+    (0x0062_d3b3, 0xffff_ffff, 0x1f, 1), (0x0062_d3b3, 0xffff_ffff, 0x20, 0xffff_ffff),
+    (0x0062_d3b3, 0xffff_ffff, 0x21, 0x7fff_ffff), (0x0062_d3b3, 0xffff_ffff, 0xffff_ffff, 1),
+    (0x0062_d3b3, 0x8000_0000, 0, 0x8000_0000), (0x0062_d3b3, 0x8000_0000, 1, 0x4000_0000),
+    (0x0062_d3b3, 0x8000_0000, 0x1f, 1), (0x0062_d3b3, 0x8000_0000, 0x20, 0x8000_0000),
+    (0x0062_d3b3, 0x8000_0000, 0x21, 0x4000_0000), (0x0062_d3b3, 0x8000_0000, 0xffff_ffff, 1),
+    (0x0062_d3b3, 0x7fff_ffff, 0, 0x7fff_ffff), (0x0062_d3b3, 0x7fff_ffff, 1, 0x3fff_ffff),
+    (0x0062_d3b3, 0x7fff_ffff, 0x1f, 0), (0x0062_d3b3, 0x7fff_ffff, 0x20, 0x7fff_ffff),
+    (0x0062_d3b3, 0x7fff_ffff, 0x21, 0x3fff_ffff), (0x0062_d3b3, 0x7fff_ffff, 0xffff_ffff, 0),
+];
+
+#[rattlefmt::skip]
+const SRA: [(u32, u32, u32, u32); 24] = [
+    // sra x7, x5, x6
+    (0x4062_d3b3, 1, 0, 1), (0x4062_d3b3, 1, 1, 0),
+    (0x4062_d3b3, 1, 0x1f, 0), (0x4062_d3b3, 1, 0x20, 1),
+    (0x4062_d3b3, 1, 0x21, 0), (0x4062_d3b3, 1, 0xffff_ffff, 0),
+    (0x4062_d3b3, 0xffff_ffff, 0, 0xffff_ffff), (0x4062_d3b3, 0xffff_ffff, 1, 0xffff_ffff),
+    (0x4062_d3b3, 0xffff_ffff, 0x1f, 0xffff_ffff), (0x4062_d3b3, 0xffff_ffff, 0x20, 0xffff_ffff),
+    (0x4062_d3b3, 0xffff_ffff, 0x21, 0xffff_ffff), (0x4062_d3b3, 0xffff_ffff, 0xffff_ffff, 0xffff_ffff),
+    (0x4062_d3b3, 0x8000_0000, 0, 0x8000_0000), (0x4062_d3b3, 0x8000_0000, 1, 0xc000_0000),
+    (0x4062_d3b3, 0x8000_0000, 0x1f, 0xffff_ffff), (0x4062_d3b3, 0x8000_0000, 0x20, 0x8000_0000),
+    (0x4062_d3b3, 0x8000_0000, 0x21, 0xc000_0000), (0x4062_d3b3, 0x8000_0000, 0xffff_ffff, 0xffff_ffff),
+    (0x4062_d3b3, 0x7fff_ffff, 0, 0x7fff_ffff), (0x4062_d3b3, 0x7fff_ffff, 1, 0x3fff_ffff),
+    (0x4062_d3b3, 0x7fff_ffff, 0x1f, 0), (0x4062_d3b3, 0x7fff_ffff, 0x20, 0x7fff_ffff),
+    (0x4062_d3b3, 0x7fff_ffff, 0x21, 0x3fff_ffff), (0x4062_d3b3, 0x7fff_ffff, 0xffff_ffff, 0),
+];
+
 // Of operations on x5 and an immediate: the word, the word in x5, and then in x7.
 #[rattlefmt::skip]
-const IMMEDIATE_OPERATIONS: [(u32, u32, u32); 105] = [
+const ADDI: [(u32, u32, u32); 13] = [
     // addi x7, x5, 0
     (0x0002_8393, 0x7fff_ffff, 0x7fff_ffff),
     // addi x7, x5, 1
@@ -132,6 +152,10 @@ const IMMEDIATE_OPERATIONS: [(u32, u32, u32); 105] = [
     // addi x7, x5, -2048
     (0x8002_8393, 0, 0xffff_f800), (0x8002_8393, 0xffff_ffff, 0xffff_f7ff),
     (0x8002_8393, 0x8000_0000, 0x7fff_f800),
+];
+
+#[rattlefmt::skip]
+const SLTI_AND_SLTIU: [(u32, u32, u32); 26] = [
     // slti x7, x5, 0
     (0x0002_a393, 0x7fff_ffff, 0),
     // slti x7, x5, 1
@@ -160,6 +184,10 @@ const IMMEDIATE_OPERATIONS: [(u32, u32, u32); 105] = [
     // sltiu x7, x5, -2048
     (0x8002_b393, 0, 1), (0x8002_b393, 0xffff_ffff, 0),
     (0x8002_b393, 0x8000_0000, 1),
+];
+
+#[rattlefmt::skip]
+const XORI_ORI_ANDI: [(u32, u32, u32); 39] = [
     // xori x7, x5, 0
     (0x0002_c393, 0x7fff_ffff, 0x7fff_ffff),
     // xori x7, x5, 1
@@ -202,6 +230,10 @@ const IMMEDIATE_OPERATIONS: [(u32, u32, u32); 105] = [
     // andi x7, x5, -2048
     (0x8002_f393, 0, 0), (0x8002_f393, 0xffff_ffff, 0xffff_f800),
     (0x8002_f393, 0x8000_0000, 0x8000_0000),
+];
+
+#[rattlefmt::skip]
+const SLLI_SRLI_SRAI: [(u32, u32, u32); 27] = [
     // slli x7, x5, 0
     (0x0002_9393, 1, 1), (0x0002_9393, 0xffff_ffff, 0xffff_ffff),
     (0x0002_9393, 0x8000_0000, 0x8000_0000),
@@ -294,7 +326,7 @@ const STORES: [(u32, u32, u32, u32, u8, Option<u32>); 15] = [
 // Of loads: the word, the word in x5, what memory holds, the address, and then x7;
 // nothing where the address is misaligned.
 #[rattlefmt::skip]
-const LOADS: [(u32, u32, u32, u32, Option<u32>); 52] = [
+const LB_AND_LH: [(u32, u32, u32, u32, Option<u32>); 22] = [
     // lb x7, -4(x5)
     (0xffc2_8383, 0x8004, 0, 0x8000, Some(0)), (0xffc2_8383, 0x8004, 0x7f, 0x8000, Some(0x7f)),
     (0xffc2_8383, 0x8004, 0x80, 0x8000, Some(0xffff_ff80)), (0xffc2_8383, 0x8004, 0xff, 0x8000, Some(0xffff_ffff)),
@@ -303,15 +335,6 @@ const LOADS: [(u32, u32, u32, u32, Option<u32>); 52] = [
     (0xffc2_9383, 0x8004, 0, 0x8000, Some(0)), (0xffc2_9383, 0x8004, 0x7fff, 0x8000, Some(0x7fff)),
     (0xffc2_9383, 0x8004, 0x8000, 0x8000, Some(0xffff_8000)), (0xffc2_9383, 0x8004, 0xffff, 0x8000, Some(0xffff_ffff)),
     (0xffc2_9383, 0x8004, 0x80, 0x8000, Some(0x80)),
-    // lw x7, -4(x5)
-    (0xffc2_a383, 0x8004, 0, 0x8000, Some(0)), (0xffc2_a383, 0x8004, 0xffff_ffff, 0x8000, Some(0xffff_ffff)),
-    (0xffc2_a383, 0x8004, 0x8000_0000, 0x8000, Some(0x8000_0000)), (0xffc2_a383, 0x8004, 0x7fff_ffff, 0x8000, Some(0x7fff_ffff)),
-    // lbu x7, -4(x5)
-    (0xffc2_c383, 0x8004, 0, 0x8000, Some(0)), (0xffc2_c383, 0x8004, 0x7f, 0x8000, Some(0x7f)),
-    (0xffc2_c383, 0x8004, 0x80, 0x8000, Some(0x80)), (0xffc2_c383, 0x8004, 0xff, 0x8000, Some(0xff)),
-    // lhu x7, -4(x5)
-    (0xffc2_d383, 0x8004, 0, 0x8000, Some(0)), (0xffc2_d383, 0x8004, 0x7fff, 0x8000, Some(0x7fff)),
-    (0xffc2_d383, 0x8004, 0x8000, 0x8000, Some(0x8000)), (0xffc2_d383, 0x8004, 0xffff, 0x8000, Some(0xffff)),
     // lb x7, 2047(x5)
     (0x7ff2_8383, 0xffff_f801, 0x17, 0, Some(0x17)), (0x7ff2_8383, 0xffff_f802, 0x17, 1, Some(0x17)),
     (0x7ff2_8383, 0x0001_0001, 0x17, 0x0001_0800, Some(0x17)), (0x7ff2_8383, 0x0001_0002, 0x17, 0x0001_0801, Some(0x17)),
@@ -320,10 +343,27 @@ const LOADS: [(u32, u32, u32, u32, Option<u32>); 52] = [
     (0x7ff2_9383, 0xffff_f801, 0x17, 0, Some(0x17)), (0x7ff2_9383, 0xffff_f802, 0x17, 1, None),
     (0x7ff2_9383, 0x0001_0001, 0x17, 0x0001_0800, Some(0x17)), (0x7ff2_9383, 0x0001_0002, 0x17, 0x0001_0801, None),
     (0x7ff2_9383, 0x0001_0003, 0x17, 0x0001_0802, Some(0x17)), (0x7ff2_9383, 0x0001_0004, 0x17, 0x0001_0803, None),
+];
+
+#[rattlefmt::skip]
+const LW: [(u32, u32, u32, u32, Option<u32>); 10] = [
+    // lw x7, -4(x5)
+    (0xffc2_a383, 0x8004, 0, 0x8000, Some(0)), (0xffc2_a383, 0x8004, 0xffff_ffff, 0x8000, Some(0xffff_ffff)),
+    (0xffc2_a383, 0x8004, 0x8000_0000, 0x8000, Some(0x8000_0000)), (0xffc2_a383, 0x8004, 0x7fff_ffff, 0x8000, Some(0x7fff_ffff)),
     // lw x7, 2047(x5)
     (0x7ff2_a383, 0xffff_f801, 0x17, 0, Some(0x17)), (0x7ff2_a383, 0xffff_f802, 0x17, 1, None),
     (0x7ff2_a383, 0x0001_0001, 0x17, 0x0001_0800, Some(0x17)), (0x7ff2_a383, 0x0001_0002, 0x17, 0x0001_0801, None),
     (0x7ff2_a383, 0x0001_0003, 0x17, 0x0001_0802, None), (0x7ff2_a383, 0x0001_0004, 0x17, 0x0001_0803, None),
+];
+
+#[rattlefmt::skip]
+const LBU_AND_LHU: [(u32, u32, u32, u32, Option<u32>); 20] = [
+    // lbu x7, -4(x5)
+    (0xffc2_c383, 0x8004, 0, 0x8000, Some(0)), (0xffc2_c383, 0x8004, 0x7f, 0x8000, Some(0x7f)),
+    (0xffc2_c383, 0x8004, 0x80, 0x8000, Some(0x80)), (0xffc2_c383, 0x8004, 0xff, 0x8000, Some(0xff)),
+    // lhu x7, -4(x5)
+    (0xffc2_d383, 0x8004, 0, 0x8000, Some(0)), (0xffc2_d383, 0x8004, 0x7fff, 0x8000, Some(0x7fff)),
+    (0xffc2_d383, 0x8004, 0x8000, 0x8000, Some(0x8000)), (0xffc2_d383, 0x8004, 0xffff, 0x8000, Some(0xffff)),
     // lbu x7, 2047(x5)
     (0x7ff2_c383, 0xffff_f801, 0x17, 0, Some(0x17)), (0x7ff2_c383, 0xffff_f802, 0x17, 1, Some(0x17)),
     (0x7ff2_c383, 0x0001_0001, 0x17, 0x0001_0800, Some(0x17)), (0x7ff2_c383, 0x0001_0002, 0x17, 0x0001_0801, Some(0x17)),
@@ -338,7 +378,7 @@ const LOADS: [(u32, u32, u32, u32, Option<u32>); 52] = [
 // then x7, which was 0x7777, the next place, whether it is a branch taken, and
 // the trap's code and value.
 #[rattlefmt::skip]
-const OTHERS: [(u32, [u32; 4], u32, u32, bool, Option<(u8, u32)>); 50] = [
+const LUI_AND_AUIPC: [(u32, [u32; 4], u32, u32, bool, Option<(u8, u32)>); 7] = [
     // lui x7, 0x80000
     (0x8000_03b7, [0x0001_0000, 0, 0, 0], 0x8000_0000, 0x0001_0004, false, None),
     // lui x7, 0xfffff
@@ -353,6 +393,10 @@ const OTHERS: [(u32, [u32; 4], u32, u32, bool, Option<(u8, u32)>); 50] = [
     (0x8000_0397, [0x8000_0ffc, 0, 0, 0], 0xffc, 0x8000_1000, false, None),
     // auipc x7, 1
     (0x0000_1397, [0xffff_fffc, 0, 0, 0], 0xffc, 0, false, None),
+];
+
+#[rattlefmt::skip]
+const JAL: [(u32, [u32; 4], u32, u32, bool, Option<(u8, u32)>); 7] = [
     // jal x7, 0
     (0x0000_03ef, [0x0001_0000, 0, 0, 0], 0x0001_0004, 0x0001_0000, false, None),
     // jal x7, 0xffffc
@@ -367,6 +411,10 @@ const OTHERS: [(u32, [u32; 4], u32, u32, bool, Option<(u8, u32)>); 50] = [
     (0xffff_f3ef, [0x0001_0000, 0, 0, 0], 0x7777, 0x0001_0000, false, Some((0, 0xfffe))),
     // jal x0, 16
     (0x0100_006f, [0x0001_0000, 0, 0, 0], 0x7777, 0x0001_0010, false, None),
+];
+
+#[rattlefmt::skip]
+const JALR: [(u32, [u32; 4], u32, u32, bool, Option<(u8, u32)>); 10] = [
     // jalr x7, 0(x5)
     (0x0002_83e7, [0x0001_0000, 0x0002_0000, 0, 0], 0x0001_0004, 0x0002_0000, false, None),
     // jalr x7, 1(x5)
@@ -387,6 +435,10 @@ const OTHERS: [(u32, [u32; 4], u32, u32, bool, Option<(u8, u32)>); 50] = [
     (0x0003_83e7, [0x0001_0000, 0, 0, 0], 0x7777, 0x0001_0000, false, Some((0, 0x7776))),
     // jalr x0, 0(x5)
     (0x0002_8067, [0x0001_0000, 0xffff_fffd, 0, 0], 0x7777, 0xffff_fffc, false, None),
+];
+
+#[rattlefmt::skip]
+const ENDS_OF_BRANCHES: [(u32, [u32; 4], u32, u32, bool, Option<(u8, u32)>); 9] = [
     // beq x5, x6, 2
     (0x0062_8163, [0x0001_0000, 1, 1, 0], 0x7777, 0x0001_0000, false, Some((0, 0x0001_0002))),
     // beq x5, x6, 2
@@ -405,6 +457,10 @@ const OTHERS: [(u32, [u32; 4], u32, u32, bool, Option<(u8, u32)>); 50] = [
     (0x8062_e063, [0x0001_0000, 0, 0xffff_ffff, 0], 0x7777, 0xf000, true, None),
     // beq x5, x5, 4
     (0x0052_8263, [0xffff_fffc, 9, 0, 0], 0x7777, 0, true, None),
+];
+
+#[rattlefmt::skip]
+const FENCES_AND_CALLS: [(u32, [u32; 4], u32, u32, bool, Option<(u8, u32)>); 5] = [
     // fence
     (0x0ff0_000f, [0x0001_0000, 1, 2, 0], 0x7777, 0x0001_0004, false, None),
     // ecall
@@ -415,6 +471,10 @@ const OTHERS: [(u32, [u32; 4], u32, u32, bool, Option<(u8, u32)>); 50] = [
     (0x0010_0073, [0xffff_fffc, 1, 2, 0], 0x7777, 0xffff_fffc, false, Some((3, 0xffff_fffc))),
     // fence
     (0x0ff0_000f, [0xffff_fffc, 1, 2, 0], 0x7777, 0, false, None),
+];
+
+#[rattlefmt::skip]
+const COUNTERS: [(u32, [u32; 4], u32, u32, bool, Option<(u8, u32)>); 7] = [
     // csrrs x7, cycle, x0
     (0xc000_23f3, [0x0001_0000, 1, 2, 0xffff_ffff], 0xffff_ffff, 0x0001_0004, false, None),
     // csrrs x7, time, x0
@@ -429,6 +489,10 @@ const OTHERS: [(u32, [u32; 4], u32, u32, bool, Option<(u8, u32)>); 50] = [
     (0xc820_23f3, [0x0001_0000, 1, 2, 0x7fff_ffff], 0x7fff_ffff, 0x0001_0004, false, None),
     // csrrs x0, cycle, x0
     (0xc000_2073, [0x0001_0000, 1, 2, 9], 0x7777, 0x0001_0004, false, None),
+];
+
+#[rattlefmt::skip]
+const REGISTER_ZERO_AND_SELF: [(u32, [u32; 4], u32, u32, bool, Option<(u8, u32)>); 5] = [
     // addi x0, x5, 1
     (0x0012_8013, [0x0001_0000, 1, 2, 0], 0x7777, 0x0001_0004, false, None),
     // add x7, x0, x0
@@ -495,20 +559,70 @@ fn compare(rt: &impl Abort, word: u32, x5: u32, x6: u32, ran: Option<Outcome>, w
     assert_eq!(rt; ran, Some(wanted), "at {word:08x} {x5:x} {x6:x}");
 }
 
-#[test]
-fn operations(rt: HostRuntime) {
-    for (word, x5, x6, x7) in REGISTER_OPERATIONS {
-        let wanted = left(registers(x5, x6, x7), PC + 4, false, None);
-        compare(&rt, word, x5, x6, ran(word, PC, x5, x6, 0), wanted);
+// A table of its own for each test: the prover reads a long one slowly.
+fn check_operations(rt: &impl Abort, rows: &[(u32, u32, u32, u32)]) {
+    for (word, x5, x6, x7) in rows {
+        let wanted = left(registers(*x5, *x6, *x7), PC + 4, false, None);
+        let found = ran(*word, PC, *x5, *x6, 0);
+        compare(rt, *word, *x5, *x6, found, wanted);
     }
 }
 
 #[test]
-fn operations_on_immediates(rt: HostRuntime) {
-    for (word, x5, x7) in IMMEDIATE_OPERATIONS {
-        let wanted = left(registers(x5, 6, x7), PC + 4, false, None);
-        compare(&rt, word, x5, 6, ran(word, PC, x5, 6, 0), wanted);
+fn add_and_sub(rt: HostRuntime) {
+    check_operations(&rt, &ADD_AND_SUB);
+}
+
+#[test]
+fn sll(rt: HostRuntime) {
+    check_operations(&rt, &SLL);
+}
+
+#[test]
+fn slt_and_sltu(rt: HostRuntime) {
+    check_operations(&rt, &SLT_AND_SLTU);
+}
+
+#[test]
+fn xor_or_and(rt: HostRuntime) {
+    check_operations(&rt, &XOR_OR_AND);
+}
+
+#[test]
+fn srl(rt: HostRuntime) {
+    check_operations(&rt, &SRL);
+}
+
+#[test]
+fn sra(rt: HostRuntime) {
+    check_operations(&rt, &SRA);
+}
+
+fn check_operations_on_immediates(rt: &impl Abort, rows: &[(u32, u32, u32)]) {
+    for (word, x5, x7) in rows {
+        let wanted = left(registers(*x5, 6, *x7), PC + 4, false, None);
+        compare(rt, *word, *x5, 6, ran(*word, PC, *x5, 6, 0), wanted);
     }
+}
+
+#[test]
+fn addi(rt: HostRuntime) {
+    check_operations_on_immediates(&rt, &ADDI);
+}
+
+#[test]
+fn slti_and_sltiu(rt: HostRuntime) {
+    check_operations_on_immediates(&rt, &SLTI_AND_SLTIU);
+}
+
+#[test]
+fn xori_ori_andi(rt: HostRuntime) {
+    check_operations_on_immediates(&rt, &XORI_ORI_ANDI);
+}
+
+#[test]
+fn slli_srli_srai(rt: HostRuntime) {
+    check_operations_on_immediates(&rt, &SLLI_SRLI_SRAI);
 }
 
 #[test]
@@ -520,22 +634,40 @@ fn branches(rt: HostRuntime) {
     }
 }
 
-#[test]
-fn loads(rt: HostRuntime) {
-    for (word, x5, loaded, at, x7) in LOADS {
+fn check_loads(rt: &impl Abort, rows: &[(u32, u32, u32, u32, Option<u32>)]) {
+    for (word, x5, loaded, at, x7) in rows {
         let trap = match x7 {
             Some(_) => None,
-            None => Some(Trap { code: 4, value: at }),
+            None => Some(Trap {
+                code: 4,
+                value: *at,
+            }),
         };
         let next = if x7.is_some() { PC + 4 } else { PC };
-        let regs = registers(x5, 6, x7.unwrap_or(0x7777));
+        let regs = registers(*x5, 6, x7.unwrap_or(0x7777));
         let wanted = Outcome {
-            at,
+            at: *at,
             misaligned: trap,
             ..left(regs, next, false, trap)
         };
-        compare(&rt, word, x5, loaded, ran(word, PC, x5, 6, loaded), wanted);
+        let found = ran(*word, PC, *x5, 6, *loaded);
+        compare(rt, *word, *x5, *loaded, found, wanted);
     }
+}
+
+#[test]
+fn lb_and_lh(rt: HostRuntime) {
+    check_loads(&rt, &LB_AND_LH);
+}
+
+#[test]
+fn lw(rt: HostRuntime) {
+    check_loads(&rt, &LW);
+}
+
+#[test]
+fn lbu_and_lhu(rt: HostRuntime) {
+    check_loads(&rt, &LBU_AND_LHU);
 }
 
 // What is left of a store; nothing is stored where its address is misaligned.
@@ -565,11 +697,49 @@ fn stores(rt: HostRuntime) {
     }
 }
 
-#[test]
-fn everything_else(rt: HostRuntime) {
-    for (word, [pc, x5, x6, loaded], x7, next, taken, trap) in OTHERS {
+// A row of everything else.
+type Other = (u32, [u32; 4], u32, u32, bool, Option<(u8, u32)>);
+
+fn check_others(rt: &impl Abort, rows: &[Other]) {
+    for (word, [pc, x5, x6, loaded], x7, next, taken, trap) in rows {
         let trap = trap.map(|(code, value)| Trap { code, value });
-        let wanted = left(registers(x5, x6, x7), next, taken, trap);
-        compare(&rt, word, x5, x6, ran(word, pc, x5, x6, loaded), wanted);
+        let wanted = left(registers(*x5, *x6, *x7), *next, *taken, trap);
+        let found = ran(*word, *pc, *x5, *x6, *loaded);
+        compare(rt, *word, *x5, *x6, found, wanted);
     }
+}
+
+#[test]
+fn lui_and_auipc(rt: HostRuntime) {
+    check_others(&rt, &LUI_AND_AUIPC);
+}
+
+#[test]
+fn jal(rt: HostRuntime) {
+    check_others(&rt, &JAL);
+}
+
+#[test]
+fn jalr(rt: HostRuntime) {
+    check_others(&rt, &JALR);
+}
+
+#[test]
+fn ends_of_branches(rt: HostRuntime) {
+    check_others(&rt, &ENDS_OF_BRANCHES);
+}
+
+#[test]
+fn fences_and_calls(rt: HostRuntime) {
+    check_others(&rt, &FENCES_AND_CALLS);
+}
+
+#[test]
+fn counters(rt: HostRuntime) {
+    check_others(&rt, &COUNTERS);
+}
+
+#[test]
+fn register_zero_and_self(rt: HostRuntime) {
+    check_others(&rt, &REGISTER_ZERO_AND_SELF);
 }

@@ -10,7 +10,7 @@ use crate::fields::*;
 use crate::{Comparison, Counter, Instr, LoadWidth, Operation, StoreWidth};
 
 fn comparison_of(funct3: u32) -> Option<Comparison>
-    ensures { result ≡ comparison_of funct3 }
+    ensures value { result ≡ comparison_of funct3 }
 {
     match funct3 {
         0b000 => Some(Comparison::Equal),
@@ -24,7 +24,7 @@ fn comparison_of(funct3: u32) -> Option<Comparison>
 }
 
 fn load_width_of(funct3: u32) -> Option<LoadWidth>
-    ensures { result ≡ load_width_of funct3 }
+    ensures value { result ≡ load_width_of funct3 }
 {
     match funct3 {
         0b000 => Some(LoadWidth::Byte),
@@ -37,7 +37,7 @@ fn load_width_of(funct3: u32) -> Option<LoadWidth>
 }
 
 fn store_width_of(funct3: u32) -> Option<StoreWidth>
-    ensures { result ≡ store_width_of funct3 }
+    ensures value { result ≡ store_width_of funct3 }
 {
     match funct3 {
         0b000 => Some(StoreWidth::Byte),
@@ -48,7 +48,7 @@ fn store_width_of(funct3: u32) -> Option<StoreWidth>
 }
 
 fn immediate_operation_of(funct3: u32, funct7: u32) -> Option<Operation>
-    ensures { result ≡ immediate_operation_of funct3 funct7 }
+    ensures value { result ≡ immediate_operation_of funct3 funct7 }
 {
     match (funct3, funct7) {
         (0b000, _) => Some(Operation::Add),
@@ -65,7 +65,7 @@ fn immediate_operation_of(funct3: u32, funct7: u32) -> Option<Operation>
 }
 
 fn register_operation_of(funct3: u32, funct7: u32) -> Option<Operation>
-    ensures { result ≡ register_operation_of funct3 funct7 }
+    ensures value { result ≡ register_operation_of funct3 funct7 }
 {
     match (funct7, funct3) {
         (0b000_0000, 0b000) => Some(Operation::Add),
@@ -84,7 +84,7 @@ fn register_operation_of(funct3: u32, funct7: u32) -> Option<Operation>
 
 // The immediate of an operation: a shift keeps its amount where others keep rs2.
 fn operand_of(word: u32) -> u32
-    ensures { result ≡ operand_of (funct3_of word) word }
+    ensures value { result ≡ operand_of (funct3_of word) word }
 {
     match funct3(word) {
         0b001 | 0b101 => u32::from(rs2(word)),
@@ -93,7 +93,7 @@ fn operand_of(word: u32) -> u32
 }
 
 fn counter_of(csr: u32) -> Option<Counter>
-    ensures { result ≡ counter_of csr }
+    ensures value { result ≡ counter_of csr }
 {
     match csr {
         0xc00 => Some(Counter::Cycle),
@@ -108,7 +108,7 @@ fn counter_of(csr: u32) -> Option<Counter>
 
 // CSRRS, CSRRC, CSRRSI and CSRRCI only read where their rs1 field is 0.
 fn system_of(word: u32) -> Option<Instr>
-    ensures { result ≡ system_of word }
+    ensures value { result ≡ system_of word }
 {
     match funct3(word) {
         0b000 => match word {

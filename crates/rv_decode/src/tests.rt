@@ -14,9 +14,10 @@ use crate::Operation::{
     Xor,
 };
 use crate::{Instr, LoadWidth, StoreWidth, decode};
+use std::process::Abort;
 
 #[rattlefmt::skip]
-const LEGAL: [(u32, Instr); 102] = [
+const UPPER_IMMEDIATES: [(u32, Instr); 12] = [
     // lui x0, 0
     (0x0000_0037, Lui { rd: 0, imm: 0 }),
     // lui x31, 1048575
@@ -41,6 +42,10 @@ const LEGAL: [(u32, Instr); 102] = [
     (0x7fff_f397, Auipc { rd: 7, imm: 0x7fff_f000 }),
     // auipc x16, 74565
     (0x1234_5817, Auipc { rd: 16, imm: 0x1234_5000 }),
+];
+
+#[rattlefmt::skip]
+const JUMPS: [(u32, Instr); 13] = [
     // jal x0, 0
     (0x0000_006f, Jal { rd: 0, offset: 0 }),
     // jal x31, -2
@@ -67,6 +72,10 @@ const LEGAL: [(u32, Instr); 102] = [
     (0x8000_82e7, Jalr { rd: 5, rs1: 1, offset: 0xffff_f800 }),
     // jalr x8, 1(x16)
     (0x0018_0467, Jalr { rd: 8, rs1: 16, offset: 1 }),
+];
+
+#[rattlefmt::skip]
+const BRANCHES: [(u32, Instr); 14] = [
     // beq x0, x0, 0
     (0x0000_0063, Branch { comparison: Equal, rs1: 0, rs2: 0, offset: 0 }),
     // beq x31, x31, -2
@@ -95,6 +104,10 @@ const LEGAL: [(u32, Instr); 102] = [
     (0x8000_7063, Branch { comparison: GreaterOrEqualUnsigned, rs1: 0, rs2: 0, offset: 0xffff_f000 }),
     // bgeu x31, x31, 2048
     (0x01ff_f0e3, Branch { comparison: GreaterOrEqualUnsigned, rs1: 31, rs2: 31, offset: 2048 }),
+];
+
+#[rattlefmt::skip]
+const LOADS: [(u32, Instr); 10] = [
     // lb x0, 0(x0)
     (0x0000_0003, Load { width: LoadWidth::Byte, rd: 0, rs1: 0, offset: 0 }),
     // lb x1, -1(x2)
@@ -115,6 +128,10 @@ const LEGAL: [(u32, Instr); 102] = [
     (0x7ff0_5f03, Load { width: LoadWidth::HalfUnsigned, rd: 30, rs1: 0, offset: 2047 }),
     // lhu x31, -2048(x31)
     (0x800f_df83, Load { width: LoadWidth::HalfUnsigned, rd: 31, rs1: 31, offset: 0xffff_f800 }),
+];
+
+#[rattlefmt::skip]
+const STORES: [(u32, Instr); 6] = [
     // sb x0, 0(x0)
     (0x0000_0023, Store { width: StoreWidth::Byte, rs1: 0, rs2: 0, offset: 0 }),
     // sb x2, -1(x1)
@@ -127,6 +144,10 @@ const LEGAL: [(u32, Instr); 102] = [
     (0x0020_afa3, Store { width: StoreWidth::Word, rs1: 1, rs2: 2, offset: 31 }),
     // sw x0, 32(x30)
     (0x020f_2023, Store { width: StoreWidth::Word, rs1: 30, rs2: 0, offset: 32 }),
+];
+
+#[rattlefmt::skip]
+const IMMEDIATES: [(u32, Instr); 12] = [
     // addi x0, x0, -1
     (0xfff0_0013, Immediate { operation: Add, rd: 0, rs1: 0, imm: 0xffff_ffff }),
     // addi x1, x2, 2047
@@ -151,6 +172,10 @@ const LEGAL: [(u32, Instr); 102] = [
     (0x0200_7013, Immediate { operation: And, rd: 0, rs1: 0, imm: 32 }),
     // andi x1, x2, 0
     (0x0001_7093, Immediate { operation: And, rd: 1, rs1: 2, imm: 0 }),
+];
+
+#[rattlefmt::skip]
+const SHIFTS: [(u32, Instr); 9] = [
     // slli x0, x0, 0
     (0x0000_1013, Immediate { operation: ShiftLeft, rd: 0, rs1: 0, imm: 0 }),
     // slli x1, x2, 31
@@ -169,6 +194,10 @@ const LEGAL: [(u32, Instr); 102] = [
     (0x41f0_5f13, Immediate { operation: ShiftRightArithmetic, rd: 30, rs1: 0, imm: 31 }),
     // srai x31, x31, 16
     (0x410f_df93, Immediate { operation: ShiftRightArithmetic, rd: 31, rs1: 31, imm: 16 }),
+];
+
+#[rattlefmt::skip]
+const REGISTERS: [(u32, Instr); 10] = [
     // add x12, x0, x31
     (0x01f0_0633, Register { operation: Add, rd: 12, rs1: 0, rs2: 31 }),
     // sub x31, x31, x31
@@ -189,6 +218,10 @@ const LEGAL: [(u32, Instr); 102] = [
     (0x0044_6833, Register { operation: Or, rd: 16, rs1: 8, rs2: 4 }),
     // and x30, x0, x17
     (0x0110_7f33, Register { operation: And, rd: 30, rs1: 0, rs2: 17 }),
+];
+
+#[rattlefmt::skip]
+const FENCES_AND_CALLS: [(u32, Instr); 7] = [
     // fence
     (0x0ff0_000f, Fence),
     // fence r, w
@@ -199,6 +232,14 @@ const LEGAL: [(u32, Instr); 102] = [
     (0x0000_0073, Ecall),
     // ebreak
     (0x0010_0073, Ebreak),
+    // fence, other fields
+    (0xffff_8f8f, Fence),
+    // fence rd rs1
+    (0x000f_8f8f, Fence),
+];
+
+#[rattlefmt::skip]
+const COUNTERS: [(u32, Instr); 9] = [
     // csrrs x1, cycle, x0
     (0xc000_20f3, ReadCounter { counter: Cycle, rd: 1 }),
     // csrrs x6, time, x0
@@ -217,14 +258,10 @@ const LEGAL: [(u32, Instr); 102] = [
     (0xc810_6ff3, ReadCounter { counter: TimeHigh, rd: 31 }),
     // csrrci x7, instret, 0
     (0xc020_73f3, ReadCounter { counter: Instret, rd: 7 }),
-    // fence, other fields
-    (0xffff_8f8f, Fence),
-    // fence rd rs1
-    (0x000f_8f8f, Fence),
 ];
 
-const ILLEGAL: [u32; 145] = [
-    // reserved funct3 of JALR, branches, loads, stores and fences (FENCE.I is among the last)
+// Reserved funct3 of JALR, branches, loads, stores and fences (FENCE.I is among the last).
+const RESERVED_FUNCT3: [u32; 24] = [
     0x0041_10e7,
     0x0041_20e7,
     0x0041_30e7,
@@ -249,7 +286,10 @@ const ILLEGAL: [u32; 145] = [
     0x0000_500f,
     0x0000_600f,
     0x0000_700f,
-    // reserved funct7 of shifts by an immediate
+];
+
+// Reserved funct7 of shifts by an immediate.
+const RESERVED_SHIFTS: [u32; 18] = [
     0x0251_1093,
     0x0451_1093,
     0x0851_1093,
@@ -268,7 +308,10 @@ const ILLEGAL: [u32; 145] = [
     0x8051_5093,
     0xc051_5093,
     0xfe51_5093,
-    // reserved funct7 of operations on two registers
+];
+
+// Reserved funct7 of operations on two registers.
+const RESERVED_OPERATIONS: [u32; 22] = [
     0x4031_10b3,
     0x4031_20b3,
     0x4031_30b3,
@@ -291,7 +334,10 @@ const ILLEGAL: [u32; 145] = [
     0x4831_60b3,
     0x0e31_70b3,
     0x5031_70b3,
-    // products and divisions of the M extension
+];
+
+// Products and divisions of the M extension.
+const PRODUCTS: [u32; 8] = [
     0x0231_00b3,
     0x0231_10b3,
     0x0231_20b3,
@@ -300,7 +346,10 @@ const ILLEGAL: [u32; 145] = [
     0x0231_50b3,
     0x0231_60b3,
     0x0231_70b3,
-    // system words: calls with other fields, returns, waits, writes of counters, other registers
+];
+
+// System words: calls with other fields, returns, waits, writes of counters, other registers.
+const SYSTEM_WORDS: [u32; 31] = [
     0x0000_00f3,
     0x0000_8073,
     0x0010_00f3,
@@ -332,7 +381,10 @@ const ILLEGAL: [u32; 145] = [
     0xb000_20f3,
     0xc000_40f3,
     0xc020_40f3,
-    // other opcodes: 64-bit words, floats, atomics, vectors, custom and reserved ones
+];
+
+// Other opcodes: 64-bit words, floats, atomics, vectors, custom and reserved ones.
+const OTHER_OPCODES: [u32; 21] = [
     0x0031_0087,
     0x0031_008b,
     0x0031_009b,
@@ -354,7 +406,10 @@ const ILLEGAL: [u32; 145] = [
     0x0031_00f7,
     0x0031_00fb,
     0x0031_00ff,
-    // compressed words, and each legal opcode with a low bit cleared
+];
+
+// Compressed words, and each legal opcode with a low bit cleared.
+const OTHER_WORDS: [u32; 21] = [
     0x0000_0000,
     0x0000_0001,
     0x0000_0002,
@@ -378,12 +433,100 @@ const ILLEGAL: [u32; 145] = [
     0x0000_006e,
 ];
 
+fn check(rt: &impl Abort, rows: &[(u32, Instr)]) {
+    for (word, instr) in rows {
+        assert_eq!(rt; decode(*word), Some(*instr), "at {word:08x}");
+    }
+}
+
+fn check_illegal(rt: &impl Abort, words: &[u32]) {
+    for word in words {
+        assert_eq!(rt; decode(*word), None, "at {word:08x}");
+    }
+}
+
+// A table of its own for each test: the prover reads a long one slowly.
 #[test]
-fn words_mean_what_the_manual_says(rt: HostRuntime) {
-    for (word, instr) in LEGAL {
-        assert_eq!(rt; decode(word), Some(instr), "at {word:08x}");
-    }
-    for word in ILLEGAL {
-        assert_eq!(rt; decode(word), None, "at {word:08x}");
-    }
+fn upper_immediates(rt: HostRuntime) {
+    check(&rt, &UPPER_IMMEDIATES);
+}
+
+#[test]
+fn jumps(rt: HostRuntime) {
+    check(&rt, &JUMPS);
+}
+
+#[test]
+fn branches(rt: HostRuntime) {
+    check(&rt, &BRANCHES);
+}
+
+#[test]
+fn loads(rt: HostRuntime) {
+    check(&rt, &LOADS);
+}
+
+#[test]
+fn stores(rt: HostRuntime) {
+    check(&rt, &STORES);
+}
+
+#[test]
+fn immediates(rt: HostRuntime) {
+    check(&rt, &IMMEDIATES);
+}
+
+#[test]
+fn shifts(rt: HostRuntime) {
+    check(&rt, &SHIFTS);
+}
+
+#[test]
+fn registers(rt: HostRuntime) {
+    check(&rt, &REGISTERS);
+}
+
+#[test]
+fn fences_and_calls(rt: HostRuntime) {
+    check(&rt, &FENCES_AND_CALLS);
+}
+
+#[test]
+fn counters(rt: HostRuntime) {
+    check(&rt, &COUNTERS);
+}
+
+#[test]
+fn no_reserved_funct3(rt: HostRuntime) {
+    check_illegal(&rt, &RESERVED_FUNCT3);
+}
+
+#[test]
+fn no_reserved_shifts(rt: HostRuntime) {
+    check_illegal(&rt, &RESERVED_SHIFTS);
+}
+
+#[test]
+fn no_reserved_operations(rt: HostRuntime) {
+    check_illegal(&rt, &RESERVED_OPERATIONS);
+}
+
+#[test]
+fn no_products(rt: HostRuntime) {
+    check_illegal(&rt, &PRODUCTS);
+}
+
+#[test]
+fn no_system_words(rt: HostRuntime) {
+    check_illegal(&rt, &SYSTEM_WORDS);
+}
+
+#[test]
+fn no_other_opcodes(rt: HostRuntime) {
+    check_illegal(&rt, &OTHER_OPCODES);
+}
+
+#[test]
+fn no_other_words(rt: HostRuntime) {
+    check_illegal(&rt, &OTHER_WORDS);
 }

@@ -34,7 +34,7 @@ impl<P: Policy> Model for SetCache<P> {
 /// The set of a number: its low bits.
 #[inline(always)]
 fn set_of(number: u32, sets: usize) -> usize
-    requires { IsPowerOfTwo sets }
+    requires power { IsPowerOfTwo sets }
     ensures value { result ≡ number % sets }
     ensures below { result < sets }
 {

@@ -27,7 +27,7 @@ impl Model for OneSet {
 /// The way at which a line is kept.
 #[inline(always)]
 fn way_of(places: &[Option<KeptLine>], number: u32) -> Option<usize>
-    ensures { result ≡ way_of number places.now }
+    ensures value { result ≡ way_of number places.now }
 {
     places
         .iter()
@@ -37,7 +37,7 @@ fn way_of(places: &[Option<KeptLine>], number: u32) -> Option<usize>
 /// The least way that keeps nothing.
 #[inline(always)]
 fn empty_way(places: &[Option<KeptLine>]) -> Option<usize>
-    ensures { result ≡ position is_none places.now }
+    ensures value { result ≡ position is_none places.now }
 {
     places.iter().position(|place| place.is_none())
 }
@@ -53,8 +53,7 @@ impl OneSet {
         ensures places { IfOk result (λ set. set.places ≡ replicate ways None) }
         ensures state { IfOk result (λ set. set.state ≡ state) }
     {
-        let mut places = Vec::with_capacity(alloc, ways as usize)?;
-        places.resize(ways as usize, None)?;
+        let places = vec![in alloc; None; ways as usize]?;
         Ok(OneSet { places, state })
     }
 
@@ -113,14 +112,14 @@ impl OneSet {
     /// The way at which the set keeps a line.
     #[inline(always)]
     pub fn way_of(&self, number: u32) -> Option<usize>
-        ensures { result ≡ way_of number self.now.places }
+        ensures value { result ≡ way_of number self.now.places }
     {
         way_of(&self.places, number)
     }
 
     /// How many lines have a mark.
     pub fn dirty(&self) -> u32
-        requires { length self.now.places < 2 ^ 32 }
+        requires few { length self.now.places < 2 ^ 32 }
         ensures exact { result ≡ dirty_in self.now.places }
         ensures few { result ≤ length self.now.places }
     {

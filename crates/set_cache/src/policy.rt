@@ -16,15 +16,15 @@ pub trait Policy: Drop {
 
     /// The state of a set with nothing in it.
     fn fresh(&self, ways: u32) -> u64
-        requires { takes self.now ways }
-        ensures { stands_for self.now ways result [] };
+        requires taken { takes self.now ways }
+        ensures fresh { stands_for self.now ways result [] };
 
     /// The state after a hit on a way.
     fn touch(&self, ways: u32, state: u64, way: u32) -> u64
         requires taken { takes self.now ways }
         requires valid { (list : List ℕ) × stands_for self.now ways state list }
         requires below { way < ways }
-        ensures { (list : List ℕ) → stands_for self.now ways state list
+        ensures touched { (list : List ℕ) → stands_for self.now ways state list
             → stands_for self.now ways result ((rule self.now ways).touched list way) };
 
     /// The state after a fill of a way.
@@ -32,7 +32,7 @@ pub trait Policy: Drop {
         requires taken { takes self.now ways }
         requires valid { (list : List ℕ) × stands_for self.now ways state list }
         requires below { way < ways }
-        ensures { (list : List ℕ) → stands_for self.now ways state list
+        ensures filled { (list : List ℕ) → stands_for self.now ways state list
             → stands_for self.now ways result ((rule self.now ways).filled list way) };
 
     /// The way to give up where none is empty.
@@ -50,8 +50,8 @@ pub trait Policy: Drop {
 
 /// The law that the way which a rule gives up is one of the ways.
 pub fn victims_are_ways<P: Policy>(policy: &P, ways: u32)
-    requires { P.takes policy.now ways }
-    ensures { (list : List ℕ) → All (λ way. way < ways) list
+    requires taken { P.takes policy.now ways }
+    ensures below { (list : List ℕ) → All (λ way. way < ways) list
         → (P.rule policy.now ways).victim list < ways }
 {
     let _ = policy;

@@ -27,7 +27,8 @@ pub fn translation()
     ensures both_read { (mem : Mem) (frames root va : ℕ) (access : Access)
         → root < frames → Points (first_entry mem root va) → ppn (first_entry mem root va) < frames
         → (walk mem frames root va access).reads
-        ≡ entry_address root (vpn_1 va) ∷ entry_address (ppn (first_entry mem root va)) (vpn_0 va) ∷ [] }
+        ≡ entry_address root (vpn_1 va)
+        ∷ entry_address (ppn (first_entry mem root va)) (vpn_0 va) ∷ [] }
 {}
 
 /// A leaf that one walk found answers every access to its page as a walk would,
@@ -44,7 +45,8 @@ pub fn kept_leaf()
 /// what its rights permit; it is always accessed, and dirty exactly with W. A
 /// table's word names its frame and is a pointer.
 pub fn entry_words()
-    ensures frame { (frame rights : ℕ) → are_good rights ≡ true → ppn (leaf_word frame rights) ≡ frame }
+    ensures frame { (frame rights : ℕ) → are_good rights ≡ true
+        → ppn (leaf_word frame rights) ≡ frame }
     ensures rights { (frame rights : ℕ) (access : Access) → are_good rights ≡ true
         → permits access (leaf_word frame rights) ≡ rights_permit rights access }
     ensures accessed { (frame rights : ℕ) → are_good rights ≡ true

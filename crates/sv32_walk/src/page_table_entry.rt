@@ -29,7 +29,7 @@ const DIRTY: u32 = 7;
 /// The word of an entry that points to the table in a frame: V is set alone.
 #[tactic(auto, unfolding(crate::specs::PageTableEntry::table_word))]
 pub fn table_word(frame: FrameNo) -> u32
-    ensures { result ≡ table_word frame }
+    ensures value { result ≡ table_word frame }
 {
     (frame.number() << 10) + (1 << VALID)
 }
@@ -39,8 +39,8 @@ pub fn table_word(frame: FrameNo) -> u32
 /// where the page may be written: so no walk has to set a bit.
 #[tactic(auto, unfolding(crate::specs::PageTableEntry::leaf_word, crate::specs::PageTableEntry::leaf_bits))]
 pub fn leaf_word(frame: FrameNo, rights: u8) -> u32
-    requires { are_good rights ≡ true }
-    ensures { result ≡ leaf_word frame rights }
+    requires good { are_good rights ≡ true }
+    ensures value { result ≡ leaf_word frame rights }
 {
     let rights = u32::from(rights);
     let dirty = (rights & 2) << 6;
@@ -51,7 +51,7 @@ pub fn leaf_word(frame: FrameNo, rights: u8) -> u32
 impl PageTableEntry {
     /// Whether V is set.
     pub fn is_valid(self) -> bool
-        ensures { result ≡ valid self.0 }
+        ensures value { result ≡ valid self.0 }
     {
         self.bit(VALID)
     }
@@ -70,7 +70,7 @@ impl PageTableEntry {
     /// set. Of a leaf that a walk found this is all that a walk of another
     /// access to the same page asks.
     pub fn permits(self, access: Access) -> bool
-        ensures { result ≡ permits access self.0 }
+        ensures value { result ≡ permits access self.0 }
     {
         self.bit(USER) && self.has_right(access) && self.is_marked(access)
     }
@@ -124,7 +124,7 @@ impl PageTableEntry {
 
     #[tactic(auto, unfolding(crate::specs::Walk::leaf))]
     fn leaf(self, access: Access, frame: u32, frames: u32) -> Result<u32, WalkFault>
-        requires { frame < 2 ^ 22 }
+        requires range { frame < 2 ^ 22 }
         ensures value { result ≡ leaf frames access self.0 frame }
         ensures page { IfOk result (λ leaf. ppn leaf < frames) }
     {
@@ -138,25 +138,25 @@ impl PageTableEntry {
     }
 
     fn is_reserved(self) -> bool
-        ensures { result ≡ is_reserved self.0 }
+        ensures value { result ≡ is_reserved self.0 }
     {
         !self.bit(VALID) || (!self.bit(READ) && self.bit(WRITE))
     }
 
     fn is_leaf(self) -> bool
-        ensures { result ≡ is_leaf self.0 }
+        ensures value { result ≡ is_leaf self.0 }
     {
         self.bit(READ) || self.bit(EXECUTE)
     }
 
     fn is_pointer(self) -> bool
-        ensures { result ≡ is_pointer self.0 }
+        ensures value { result ≡ is_pointer self.0 }
     {
         !(self.bit(ACCESSED) || self.bit(DIRTY) || self.bit(USER))
     }
 
     fn has_right(self, access: Access) -> bool
-        ensures { result ≡ has_right access self.0 }
+        ensures value { result ≡ has_right access self.0 }
     {
         match access {
             Access::Fetch => self.bit(EXECUTE),
@@ -166,7 +166,7 @@ impl PageTableEntry {
     }
 
     fn is_marked(self, access: Access) -> bool
-        ensures { result ≡ is_marked access self.0 }
+        ensures value { result ≡ is_marked access self.0 }
     {
         match access {
             Access::Fetch | Access::Load => self.bit(ACCESSED),
@@ -176,8 +176,8 @@ impl PageTableEntry {
 
     #[tactic(auto, unfolding(crate::specs::PageTableEntry::bit))]
     fn bit(self, place: u32) -> bool
-        requires { place < 32 }
-        ensures { result ≡ bit self.0 place }
+        requires place { place < 32 }
+        ensures value { result ≡ bit self.0 place }
     {
         (self.0 >> place) & 1 == 1
     }
@@ -185,7 +185,7 @@ impl PageTableEntry {
     // PPN[0].
     #[tactic(auto, unfolding(crate::specs::PageTableEntry::ppn_0))]
     fn low_frame(self) -> u32
-        ensures { result ≡ ppn_0 self.0 }
+        ensures value { result ≡ ppn_0 self.0 }
     {
         (self.0 >> 10) & 0x3ff
     }
@@ -201,7 +201,7 @@ impl PageTableEntry {
 
     #[tactic(auto, unfolding(crate::specs::PageTableEntry::with_ppn, crate::specs::PageTableEntry::ppn))]
     fn with_frame(self, frame: u32) -> u32
-        requires { frame < 2 ^ 22 }
+        requires range { frame < 2 ^ 22 }
         ensures value { result ≡ with_ppn self.0 frame }
         ensures frame { ppn result ≡ frame }
     {

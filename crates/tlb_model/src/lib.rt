@@ -46,12 +46,9 @@ impl<P: Policy> Tlb<P> {
         ensures made { IfOk result (λ tlb. IsNew P.takes P.stands_for policy sets ways tlb.pages) }
         ensures none { IfOk result (λ tlb. (page : ℕ) → leaf_of tlb page ≡ None) }
     {
-        let places = (sets * ways) as usize;
-        let mut leaves = Vec::with_capacity(alloc, places)?;
-        leaves.resize(places, 0)?;
         Ok(Tlb {
             pages: SetCache::new(alloc, policy, sets, ways)?,
-            leaves,
+            leaves: vec![in alloc; 0; (sets * ways) as usize]?,
         })
     }
 

@@ -22,7 +22,7 @@ impl Model for FrameNo {
 impl FrameNo {
     /// A frame number below 32,768 (2^15).
     pub fn new(number: u32) -> Self
-        requires { IsFrameNo number }
+        requires range { IsFrameNo number }
         ensures value { result ≡ number }
     {
         FrameNo(number)
@@ -54,7 +54,7 @@ impl Model for Line {
 impl Line {
     /// A line number below 8,388,608 (2^23).
     pub fn new(number: u32) -> Self
-        requires { IsLine number }
+        requires range { IsLine number }
         ensures value { result ≡ number }
     {
         Line(number)
@@ -86,7 +86,7 @@ impl Model for Colour {
 impl Colour {
     /// A colour below 64.
     pub fn new(number: u8) -> Self
-        requires { IsColour number }
+        requires range { IsColour number }
         ensures value { result ≡ number }
     {
         Colour(number)
@@ -118,7 +118,7 @@ impl Model for DomainNo {
 impl DomainNo {
     /// A domain number below 32.
     pub fn new(number: u8) -> Self
-        requires { IsDomainNo number }
+        requires range { IsDomainNo number }
         ensures value { result ≡ number }
     {
         DomainNo(number)
@@ -150,7 +150,7 @@ impl Model for Cycles {
 impl Cycles {
     /// A number of cycles below 2^63.
     pub fn new(number: u64) -> Self
-        requires { IsCycles number }
+        requires range { IsCycles number }
         ensures value { result ≡ number }
     {
         Cycles(number)

@@ -16,7 +16,7 @@ pub trait Zero {
 
     /// Sets a frame that it holds to zero; every other frame stays.
     fn zero_frame(&mut self, frame: FrameNo)
-        requires { has_frame self.old frame }
+        requires within { has_frame self.old frame }
         ensures becomes { self.new ≡ zeroed self.old frame }
         ensures zero { (i : ℕ) → word self.new frame i ≡ 0 }
         ensures others { (f i : ℕ) → f ≢ frame → word self.new f i ≡ word self.old f i }

@@ -44,7 +44,7 @@ impl MemSink {
     ///
     /// `Memory` where memory ran out.
     pub fn new(alloc: Global, room: usize, most: usize, failing: &[u64]) -> Result<Self, Memory>
-        requires { 0 < most }
+        requires some { 0 < most }
         ensures value { IfOk result (λ k. k ≡ new_sink room most failing.now) }
     {
         Ok(MemSink {
@@ -91,7 +91,8 @@ impl Sink for MemSink {
         ensures within { length self.new.bytes ≤ self.new.room }
 
         // With no call listed and room left it doesn't fail, and its count is 0.
-        ensures sure { self.old.calls.failing ≡ [] → length self.old.bytes < self.old.room → IsOk result }
+        ensures sure { self.old.calls.failing ≡ []
+            → length self.old.bytes < self.old.room → IsOk result }
         ensures faultless_before { IsFaultlessWithRoom self.old }
         ensures faultless { IsFaultlessWithRoom self.new }
     {

@@ -41,7 +41,7 @@ impl MemSource {
     ///
     /// `Memory` where memory ran out.
     pub fn new(alloc: Global, bytes: &[u8], most: usize, failing: &[u64]) -> Result<Self, Memory>
-        requires { 0 < most }
+        requires some { 0 < most }
         ensures value { IfOk result (λ s. s ≡ new_source bytes.now most failing.now) }
     {
         Ok(MemSource {
@@ -85,7 +85,7 @@ impl Source for MemSource {
 /// Copies what fits of the bytes into the buffer, at most `most`, and says how
 /// many.
 pub fn copy_front(bytes: &[u8], most: usize, buf: &mut [u8]) -> usize
-    requires { 0 < most }
+    requires some { 0 < most }
     ensures count { result ≡ min most (min (length bytes.now) (length buf.old)) }
     ensures copied { bytes.now ≡ take result buf.new ++ drop result bytes.now }
     ensures end { result ≡ 0 → 0 < length buf.old → bytes.now ≡ [] }

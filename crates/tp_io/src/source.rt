@@ -76,7 +76,7 @@ pub fn read_within<S: Source>(
     source: &mut S,
     most: usize,
 ) -> Result<Vec<u8>, ReadError>
-    requires { most < 2 ^ 32 }
+    requires few { most < 2 ^ 32 }
     ensures taken { IfOk result (λ v. S.left source.old ≡ before_known v.items (S.left source.new)) }
     ensures whole { IfOk result (λ v. length v.items ≤ most → AtEnd (S.left source.new)) }
     ensures most { IfOk result (λ v. length v.items ≤ most + 1) }

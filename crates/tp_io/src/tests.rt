@@ -2,18 +2,25 @@
 ghost use Rattle.std.specs.Prelude.{None};
 
 use crate::{Failed, MemSink, MemSource, ReadError, Sink, SureSource, read_within, write_all_of};
+use std::alloc::Global;
 use std::test::Fail;
 use tp_base::Memory;
+
+// How many of `size` bytes are read, 64 a call, where this call fails.
+fn read(alloc: Global, size: usize, call: u64, most: u16) -> Result<Option<usize>, Memory> {
+    let bytes = vec![in alloc; 7; size]?;
+    let mut source = MemSource::new(alloc, &bytes, 64, &[call])?;
+    match read_within(alloc, &mut source, usize::from(most)) {
+        Ok(found) => Ok(Some(found.len())),
+        Err(_) => Ok(None),
+    }
+}
 
 // 200 bytes, 64 a call, are 64, 64, 64 and 8 bytes, and a fifth call that finds the end;
 // no bytes at all are one call.
 #[test]
-fn a_source_fails_at_its_listed_call(rt: HostRuntime) -> Result<(), Fail> {
-    let mut bytes = [0u8; 200];
-    for i in 0..200 {
-        bytes[i] = i as u8;
-    }
-    let cases: [(usize, u64, u16, Option<usize>); 9] = [
+fn a_source_fails_at_its_listed_call(rt: HostRuntime) -> Result<(), Memory> {
+    let cases = [
         (0, 1, 1000, None),
         (0, 2, 1000, Some(0)),
         (200, 1, 1000, None),
@@ -25,32 +32,37 @@ fn a_source_fails_at_its_listed_call(rt: HostRuntime) -> Result<(), Fail> {
         (200, 2, 63, Some(64)),
     ];
     for (size, call, most, wanted) in cases {
-        let mut source = MemSource::new(rt.alloc(), &bytes[..size], 64, &[call])?;
-        let found = read_within(rt.alloc(), &mut source, usize::from(most));
-        let count = match &found {
-            Ok(found) => Some(found.len()),
-            Err(_) => None,
-        };
-        assert_eq!(rt; count, wanted, "call {call} of {size} within {most}");
+        let found = read(rt.alloc(), size, call, most)?;
+        assert_eq!(rt; found, wanted, "call {call} of {size} within {most}");
     }
     Ok(())
+}
+
+// How many of so many bytes a sure source gives.
+fn read_surely(alloc: Global, count: usize) -> Result<usize, Fail> {
+    let mut source = SureSource::new(vec![in alloc; 7; count]?);
+    Ok(read_within(alloc, &mut source, 10000)?.len())
 }
 
 // A buffer of `read_within` is 4,096 bytes.
 #[test]
 fn a_sure_source_gives_all(rt: HostRuntime) -> Result<(), Fail> {
     for count in [0, 4096, 5000] {
-        let mut source = SureSource::new(vec![in rt.alloc(); 7; count]?);
-        let found = read_within(rt.alloc(), &mut source, 10000)?;
-        assert_eq!(rt; found.len(), count);
+        assert_eq!(rt; read_surely(rt.alloc(), count)?, count);
     }
     Ok(())
 }
 
+// Whether a piece is sent, 4 bytes a call, where this call fails, and how much of it.
+fn sent(alloc: Global, call: u64, room: usize) -> Result<(bool, usize), Memory> {
+    let mut sink = MemSink::new(alloc, room, 4, &[call])?;
+    let sent = write_all_of(&mut sink, b"fourteen bytes");
+    Ok((sent.is_ok(), sink.bytes().len()))
+}
+
 // 14 bytes, 4 a call, are 4, 4, 4 and 2 bytes.
 #[test]
-fn a_sink_fails_at_its_listed_call_or_without_room(rt: HostRuntime) -> Result<(), Fail> {
-    let piece = b"fourteen bytes";
+fn a_sink_fails_at_its_listed_call_or_without_room(rt: HostRuntime) -> Result<(), Memory> {
     let cases = [
         (1, 100, 0),
         (2, 100, 4),
@@ -61,13 +73,8 @@ fn a_sink_fails_at_its_listed_call_or_without_room(rt: HostRuntime) -> Result<()
         (9, 0, 0),
     ];
     for (call, room, wanted) in cases {
-        let mut sink = MemSink::new(rt.alloc(), room, 4, &[call])?;
-        let sent = write_all_of(&mut sink, piece);
-        assert_eq!(rt;
-            (sent.is_ok(), sink.bytes().len()),
-            (wanted == 14, wanted),
-            "call {call} in {room}"
-        );
+        let found = sent(rt.alloc(), call, room)?;
+        assert_eq!(rt; found, (wanted == 14, wanted), "call {call} in {room}");
     }
     Ok(())
 }
@@ -92,15 +99,17 @@ fn a_sink_may_promise_nothing(rt: HostRuntime) {
 }
 
 #[test]
-fn errors_say_what_failed(rt: HostRuntime) -> Result<(), Fail> {
-    let cases = [
-        (Failed.to_string(rt.alloc())?, "a read or a write failed"),
-        (ReadError::Failed.to_string(rt.alloc())?, "a read failed"),
-        (ReadError::Memory.to_string(rt.alloc())?, "memory ran out"),
-        (Memory.to_string(rt.alloc())?, "memory ran out"),
-    ];
-    for (text, wanted) in &cases {
-        assert_eq!(rt; text.as_str(), *wanted);
-    }
+fn errors_say_what_failed(rt: HostRuntime) -> Result<(), Memory> {
+    let texts = format!(in rt.alloc();
+        "{}; {}; {}; {}",
+        Failed,
+        ReadError::Failed,
+        ReadError::Memory,
+        Memory
+    )?;
+    assert_eq!(rt;
+        texts.as_str(),
+        "a read or a write failed; a read failed; memory ran out; memory ran out"
+    );
     Ok(())
 }

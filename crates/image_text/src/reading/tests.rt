@@ -168,13 +168,13 @@ fn expect(rt: &impl Abort, found: Result<Option<Refusal>, ReadRefusal>, wanted: 
     assert_eq!(rt; found, Ok(wanted));
 }
 
+fn expect_of(rt: &impl Abort, alloc: Global, old: &str, new: &str, wanted: Option<Refusal>) {
+    assert_eq!(rt; answer_to(alloc, old, new), Ok(wanted), "{old} to {new}");
+}
+
 fn all_break(rt: &impl Abort, alloc: Global, changes: &[Change]) {
     for &(old, new, row, found) in changes {
-        assert_eq!(rt;
-            answer_to(alloc, old, new),
-            Ok(by(2, row, found)),
-            "{old} to {new}"
-        );
+        expect_of(rt, alloc, old, new, by(2, row, found));
     }
 }
 
@@ -189,18 +189,18 @@ fn a_broken_row_is_named(rt: HostRuntime) {
     expect(&rt, answer(alloc, b""), by(2, 1, 0));
     expect(&rt, answer(alloc, b"frames = "), by(1, 0, 0));
     expect(&rt, answer(alloc, b"frames = 64 # \xff"), by(1, 0, 0));
-    expect(
-        &rt,
-        answer_to(alloc, "= 64", "= 9223372036854775808"),
-        by(1, 0, 0),
-    );
+    expect_of(&rt, alloc, "= 64", "= 9223372036854775808", by(1, 0, 0));
+}
+
+fn is_read(rt: &impl Abort, alloc: Global, old: &str, new: &str) {
+    assert!(rt; IMAGE.contains(old), "{old} is none of the image");
+    expect_of(rt, alloc, old, new, None);
 }
 
 #[test]
 fn what_breaks_no_row_is_read(rt: HostRuntime) {
     for (old, new) in READ {
-        assert!(rt; IMAGE.contains(old), "{old} is none of the image");
-        assert_eq!(rt; answer_to(rt.alloc(), old, new), Ok(None), "{old} to {new}");
+        is_read(&rt, rt.alloc(), old, new);
     }
     expect(&rt, with_segments(rt.alloc(), 15), None);
 }
@@ -211,33 +211,51 @@ fn frames_of(alloc: Global, written: &str) -> Result<i64, ReadRefusal> {
     Ok(read_image(alloc, text.as_bytes())?.frames)
 }
 
+fn has_frames(rt: &impl Abort, alloc: Global, written: &str, number: i64) {
+    assert_eq!(rt; frames_of(alloc, written), Ok(number), "{written}");
+}
+
 #[test]
 fn numbers_are_read_as_they_are_written(rt: HostRuntime) {
     for (written, number) in NUMBERS {
-        assert_eq!(rt; frames_of(rt.alloc(), written), Ok(number), "{written}");
+        has_frames(&rt, rt.alloc(), written, number);
     }
 }
 
-// The image with numbers that differ, and with optional keys of blue.
-fn full_image(alloc: Global) -> Result<Raw, ReadRefusal> {
-    let keys =
-        "[2]\ncaps = [\"irq 3\", \"page 32\"]\nlines = [3, -5]\nmoments = [[9000, 3], [25000, -1]]\n";
-    let text = IMAGE.replace(alloc, "[2]\n", keys)?;
-    let text = text.replace(
-        alloc,
+/// Texts of the image, and what stands in their place where numbers differ and
+/// blue has optional keys.
+const FULL: [(&str, &str); 4] = [
+    (
+        "[2]\n",
+        "[2]\ncaps = [\"irq 3\", \"page 32\"]\nlines = [3, -5]\nmoments = [[9000, 3], [25000, -1]]\n",
+    ),
+    (
         "l1i = { sets = 16, ways = 2, policy = \"lru\"",
         "l1i = { sets = 32, ways = 1, policy = \"fifo\"",
-    )?;
-    let text = text.replace(alloc, "base = 1, l1 = 1", "base = 2, l1 = 5")?;
-    let text = text.replace(alloc, "wb = 10, tlb = 1", "wb = 9, tlb = 7")?;
+    ),
+    ("base = 1, l1 = 1", "base = 2, l1 = 5"),
+    ("wb = 10, tlb = 1", "wb = 9, tlb = 7"),
+];
+
+fn full_image(alloc: Global) -> Result<Raw, ReadRefusal> {
+    let mut text = String::from_str(alloc, IMAGE)?;
+    for (old, new) in FULL {
+        text = text.replace(alloc, old, new)?;
+    }
     read_image(alloc, text.as_bytes())
 }
 
+fn are_numbers(rt: &impl Abort, found: &[i64], wanted: &[i64]) {
+    assert_eq!(rt; found, wanted);
+}
+
+fn is_text(rt: &impl Abort, found: &str, wanted: &str) {
+    assert_eq!(rt; found, wanted);
+}
+
 fn is_cache(rt: &impl Abort, cache: &RawCache, sets: i64, ways: i64, policy: &str) {
-    assert_eq!(rt;
-        (cache.sets, cache.ways, cache.policy.as_str()),
-        (sets, ways, policy)
-    );
+    are_numbers(rt, &[cache.sets, cache.ways], &[sets, ways]);
+    is_text(rt, cache.policy.as_str(), policy);
 }
 
 fn is_machine(rt: &impl Abort, raw: &Raw) {
@@ -252,9 +270,10 @@ fn is_machine(rt: &impl Abort, raw: &Raw) {
         trap: 10,
         flush: 20,
     };
-    assert_eq!(rt;
-        (raw.frames, raw.shared, raw.line, raw.predictor),
-        (64, 512, 64, 16)
+    are_numbers(
+        rt,
+        &[raw.frames, raw.shared, raw.line, raw.predictor],
+        &[64, 512, 64, 16],
     );
     assert_eq!(rt; raw.costs, costs);
     is_cache(rt, &raw.l1i, 32, 1, "fifo");
@@ -263,44 +282,57 @@ fn is_machine(rt: &impl Abort, raw: &Raw) {
     is_cache(rt, &raw.tlb, 4, 2, "lru");
 }
 
-fn is_code(rt: &impl Abort, segments: &[RawSegment], hex: &str) {
-    assert_eq!(rt; segments.len(), 1);
-    let segment = &segments[0];
-    assert_eq!(rt; (segment.page, segment.pages), (16, 1));
-    assert_eq!(rt;
-        (segment.rights.as_str(), segment.hex.as_str()),
-        ("rx", hex)
+fn is_code(rt: &impl Abort, segment: &RawSegment, hex: &str) {
+    are_numbers(
+        rt,
+        &[i64::from(segment.page), i64::from(segment.pages)],
+        &[16, 1],
     );
+    is_text(rt, segment.rights.as_str(), "rx");
+    is_text(rt, segment.hex.as_str(), hex);
+}
+
+fn has_code(rt: &impl Abort, segments: &[RawSegment], hex: &str) {
+    assert_eq!(rt; segments.len(), 1);
+    is_code(rt, &segments[0], hex);
 }
 
 fn is_red(rt: &impl Abort, domain: &RawDomain) {
-    assert_eq!(rt; (domain.name.as_str(), domain.entry), ("red", 65536));
-    assert_eq!(rt; domain.colours.as_slice(), [1].as_slice());
-    assert_eq!(rt;
-        (domain.caps.len(), domain.lines.len(), domain.moments.len()),
-        (0, 0, 0)
-    );
-    is_code(rt, domain.segments.as_slice(), RED_HEX);
+    is_text(rt, domain.name.as_str(), "red");
+    are_numbers(rt, &[i64::from(domain.entry)], &[65536]);
+    are_numbers(rt, domain.colours.as_slice(), &[1]);
+    are_numbers(rt, domain.lines.as_slice(), &[]);
+    are_moments(rt, domain.moments.as_slice(), &[]);
+    assert_eq!(rt; domain.caps.len(), 0);
+    has_code(rt, domain.segments.as_slice(), RED_HEX);
 }
 
 fn is_blue(rt: &impl Abort, domain: &RawDomain) {
-    let moments = [
-        RawMoment { at: 9000, line: 3 },
-        RawMoment {
-            at: 25000,
-            line: -1,
-        },
-    ];
-    assert_eq!(rt; (domain.name.as_str(), domain.entry), ("blue", 65536));
-    assert_eq!(rt; domain.colours.as_slice(), [2].as_slice());
-    assert_eq!(rt; domain.lines.as_slice(), [3, -5].as_slice());
-    assert_eq!(rt; domain.moments.as_slice(), moments.as_slice());
-    assert_eq!(rt; domain.caps.len(), 2);
-    assert_eq!(rt;
-        (domain.caps[0].as_str(), domain.caps[1].as_str()),
-        ("irq 3", "page 32")
-    );
-    is_code(rt, domain.segments.as_slice(), BLUE_HEX);
+    is_text(rt, domain.name.as_str(), "blue");
+    are_numbers(rt, &[i64::from(domain.entry)], &[65536]);
+    are_numbers(rt, domain.colours.as_slice(), &[2]);
+    are_numbers(rt, domain.lines.as_slice(), &[3, -5]);
+    are_moments(rt, domain.moments.as_slice(), &BLUE_MOMENTS);
+    are_caps(rt, domain.caps.as_slice(), "irq 3", "page 32");
+    has_code(rt, domain.segments.as_slice(), BLUE_HEX);
+}
+
+const BLUE_MOMENTS: [RawMoment; 2] = [
+    RawMoment { at: 9000, line: 3 },
+    RawMoment {
+        at: 25000,
+        line: -1,
+    },
+];
+
+fn are_moments(rt: &impl Abort, found: &[RawMoment], wanted: &[RawMoment]) {
+    assert_eq!(rt; found, wanted);
+}
+
+fn are_caps(rt: &impl Abort, caps: &[String], first: &str, second: &str) {
+    assert_eq!(rt; caps.len(), 2);
+    is_text(rt, caps[0].as_str(), first);
+    is_text(rt, caps[1].as_str(), second);
 }
 
 #[test]

@@ -1,4 +1,5 @@
-// Worked rows, and the whole hierarchy beside plain lists.
+// Worked rows, and the whole hierarchy beside plain lists. For the prover the
+// calls with contracts stand in functions with none, each proved alone.
 ghost use Rattle.std.specs.Prelude.{◌≡◌, ◌≤◌, ◌^◌, IfOk};
 
 use crate::plain::PlainSystem;
@@ -7,6 +8,7 @@ use cycle_cost::Costs;
 use phys_mem::PhysMem;
 use repl_policy::AnyPolicy;
 use std::alloc::Global;
+use std::process::Abort;
 use std::test::Fail;
 use sv32_walk::{Access, WalkFault};
 use tp_base::{Line, Memory};
@@ -44,61 +46,137 @@ fn small(alloc: Global, policy: AnyPolicy, pinned: bool) -> Result<MemSystem<Any
     MemSystem::new(alloc, geometry, COSTS, pinned)
 }
 
+// A touch of a line or at a pc.
+#[derive(Clone, Copy)]
+enum Touch {
+    Fetch(u32),
+    Load(u32),
+    Store(u32),
+    WalkRead(u32),
+    Branch(u32, bool),
+    Flush,
+}
+
+fn cost_of(system: &mut MemSystem<AnyPolicy>, touch: Touch) -> u32 {
+    match touch {
+        Touch::Fetch(line) => system.fetch(line_at(line)),
+        Touch::Load(line) => system.access(line_at(line), false),
+        Touch::Store(line) => system.access(line_at(line), true),
+        Touch::WalkRead(line) => system.walk_read(line_at(line)),
+        Touch::Branch(pc, taken) => system.branch(pc, taken),
+        Touch::Flush => system.flush(),
+    }
+}
+
+// A number of a line is below 2^23.
+fn line_at(number: u32) -> Line {
+    Line::new(number & 0x7f_ffff)
+}
+
+// Each touch costs what stands beside it.
+fn costs_are(rt: &impl Abort, system: &mut MemSystem<AnyPolicy>, rows: &[(Touch, u32)]) {
+    for &(touch, cycles) in rows {
+        assert_eq!(rt; cost_of(system, touch), cycles);
+    }
+}
+
+static OF_A_DIRTY_VICTIM: [(Touch, u32); 7] = [
+    (Touch::Store(100), 49),
+    (Touch::Store(116), 49),
+    (Touch::Load(132), 59),
+    (Touch::Load(100), 19),
+    (Touch::WalkRead(100), 8),
+    (Touch::WalkRead(7), 48),
+    (Touch::Flush, 20),
+];
+
 #[test]
 fn a_dirty_victim_is_charged(rt: HostRuntime) -> Result<(), Fail> {
     let mut system = small(rt.alloc(), AnyPolicy::Lru, false)?;
-    for (line, store, cycles) in [
-        (100, true, 49),
-        (116, true, 49),
-        (132, false, 59),
-        (100, false, 19),
-    ] {
-        assert_eq!(rt;
-            system.access(Line::new(line), store),
-            cycles,
-            "line {line}"
-        );
-    }
-    assert_eq!(rt; system.walk_read(Line::new(100)), 8);
-    assert_eq!(rt; system.walk_read(Line::new(7)), 48);
-    assert_eq!(rt; system.flush(), 20);
+    costs_are(&rt, &mut system, &OF_A_DIRTY_VICTIM);
     Ok(())
 }
+
+// Lines of the frames 4, 1, 32,767, and 4 again.
+static OF_PINNED_LINES: [(Touch, u32); 4] = [
+    (Touch::WalkRead(256), 8),
+    (Touch::WalkRead(64), 48),
+    (Touch::WalkRead(2_097_151), 48),
+    (Touch::WalkRead(256), 8),
+];
 
 #[test]
 fn pinned_lines_are_always_there(rt: HostRuntime) -> Result<(), Fail> {
     let mut system = small(rt.alloc(), AnyPolicy::Lru, true)?;
-    // Lines of frames 4, 1 and 32,767.
-    for (line, cycles) in [(256, 8), (64, 48), (2_097_151, 48), (256, 8)] {
-        assert_eq!(rt; system.walk_read(Line::new(line)), cycles, "line {line}");
-    }
+    costs_are(&rt, &mut system, &OF_PINNED_LINES);
     Ok(())
+}
+
+// 64 frames with these words, at places that count words.
+fn memory_with(alloc: Global, words: &[(u32, u32)]) -> Result<PhysMem, Memory>
+    ensures frames { IfOk result (λ mem. mem.frames ≤ 2 ^ 15) }
+{
+    let mut mem = PhysMem::new(alloc, 64)?;
+    for &(place, word) in words {
+        mem.write_word(place % 0x10000 * 4, word);
+    }
+    Ok(mem)
+}
+
+// What the address 0x00405008 is translated to, and the cost.
+fn looked_up(
+    system: &mut MemSystem<AnyPolicy>,
+    mem: &PhysMem,
+    access: Access,
+) -> (Result<u32, WalkFault>, u32)
+    requires frames { mem.now.frames ≤ 2 ^ 15 }
+{
+    let translated = system.translate(mem, 2, 0x0040_5008, access);
+    (translated.result, translated.cycles)
+}
+
+fn is_translated(
+    rt: &impl Abort,
+    system: &mut MemSystem<AnyPolicy>,
+    mem: &PhysMem,
+    access: Access,
+    wanted: Result<u32, WalkFault>,
+    cycles: u32,
+)
+    requires frames { mem.now.frames ≤ 2 ^ 15 }
+{
+    assert_eq!(rt; looked_up(system, mem, access), (wanted, cycles));
 }
 
 // A page of 4 KiB in frame 5 that is only read.
 #[test]
 fn a_kept_leaf_is_asked_for_its_rights(rt: HostRuntime) -> Result<(), Fail> {
     let mut system = small(rt.alloc(), AnyPolicy::Lru, false)?;
-    let mut mem = PhysMem::new(rt.alloc(), 64)?;
-    mem.write_word(0x2004, 0xc01);
-    mem.write_word(0x3014, 0x1453);
-    for (access, result, cycles) in [
-        (Access::Store, Err(WalkFault::Page), 97),
-        (Access::Load, Ok(0x5008), 17),
-        (Access::Load, Ok(0x5008), 1),
-        (Access::Store, Err(WalkFault::Page), 1),
-    ] {
-        let translated = system.translate(&mem, 2, 0x0040_5008, access);
-        assert_eq!(rt; (translated.result, translated.cycles), (result, cycles));
-    }
+    let mem = memory_with(rt.alloc(), &[(0x801, 0xc01), (0xc05, 0x1453)])?;
+    is_translated(
+        &rt,
+        &mut system,
+        &mem,
+        Access::Store,
+        Err(WalkFault::Page),
+        97,
+    );
+    is_translated(&rt, &mut system, &mem, Access::Load, Ok(0x5008), 17);
+    is_translated(&rt, &mut system, &mem, Access::Load, Ok(0x5008), 1);
+    is_translated(
+        &rt,
+        &mut system,
+        &mem,
+        Access::Store,
+        Err(WalkFault::Page),
+        1,
+    );
     system.empty_tlb();
-    let translated = system.translate(&mem, 2, 0x0040_5008, Access::Load);
-    assert_eq!(rt; translated.cycles, 17);
+    is_translated(&rt, &mut system, &mem, Access::Load, Ok(0x5008), 17);
     Ok(())
 }
 
-#[test]
-fn the_largest_hierarchy_is_made_at_once(rt: HostRuntime) -> Result<(), Fail> {
+fn largest(alloc: Global) -> Result<MemSystem<AnyPolicy>, Memory> {
     let geometry = Geometry {
         line_size: 16,
         counters: 4096,
@@ -107,31 +185,42 @@ fn the_largest_hierarchy_is_made_at_once(rt: HostRuntime) -> Result<(), Fail> {
         l2: cache(AnyPolicy::Lru, 16_384, 16),
         tlb: cache(AnyPolicy::Lru, 256, 16),
     };
-    let mut system = MemSystem::new(rt.alloc(), geometry, COSTS, false)?;
-    let line = system.line_of(0x07ff_ffff);
-    assert_eq!(rt; system.fetch(line), 49);
-    assert_eq!(rt; system.fetch(line), 1);
-    assert_eq!(rt; system.branch(0x10000, true), 3);
-    assert_eq!(rt; system.branch(0x10000, true), 0);
+    MemSystem::new(alloc, geometry, COSTS, false)
+}
+
+// The last line of memory, and a branch that is learnt at once.
+static OF_THE_LARGEST: [(Touch, u32); 4] = [
+    (Touch::Fetch(0x007f_ffff), 49),
+    (Touch::Fetch(0x007f_ffff), 1),
+    (Touch::Branch(0x10000, true), 3),
+    (Touch::Branch(0x10000, true), 0),
+];
+
+#[test]
+fn the_largest_hierarchy_is_made_at_once(rt: HostRuntime) -> Result<(), Fail> {
+    let mut system = largest(rt.alloc())?;
+    assert_eq!(rt; system.line_of(0x07ff_ffff).number(), 0x007f_ffff);
+    costs_are(&rt, &mut system, &OF_THE_LARGEST);
     assert_eq!(rt; system.costs().trap, 10);
     Ok(())
 }
 
-// The tables of plain lists: pages 0x400 on under a table in frame 3, and one
-// page of 4 MiB from page 0x800 on.
-fn tables(alloc: Global) -> Result<PhysMem, Memory>
-    ensures frames { IfOk result (λ mem. mem.frames ≤ 2 ^ 15) }
-{
-    let mut mem = PhysMem::new(alloc, 64)?;
-    mem.write_word(0x2004, 0xc01);
-    mem.write_word(0x2008, 0xd7);
-    mem.write_word(0x3004, (17 << 10) | 0x53);
-    mem.write_word(0x3008, (18 << 10) | 0xd7);
-    mem.write_word(0x300c, (19 << 10) | 0x59);
-    mem.write_word(0x3044, (33 << 10) | 0x53);
-    mem.write_word(0x3048, (34 << 10) | 0xd7);
-    mem.write_word(0x304c, (35 << 10) | 0x59);
-    Ok(mem)
+// The tables of plain lists: pages 0x400 on under a table in frame 3, in frames
+// 17, 18, 19, 33, 34 and 35, and one page of 4 MiB from page 0x800 on.
+static TABLES: [(u32, u32); 8] = [
+    (0x801, 0xc01),
+    (0x802, 0xd7),
+    (0xc01, 0x4453),
+    (0xc02, 0x48d7),
+    (0xc03, 0x4c59),
+    (0xc11, 0x8453),
+    (0xc12, 0x88d7),
+    (0xc13, 0x8c59),
+];
+
+// For the prover the words come from a function of their own.
+fn words_of_tables() -> &'static [(u32, u32)] {
+    &TABLES
 }
 
 fn access_of(number: u32) -> Access {
@@ -210,16 +299,44 @@ fn first_wrong_line(
     Ok(None)
 }
 
+// The first step and the first line at which the two differ.
+fn first_wrong(
+    alloc: Global,
+    mem: &PhysMem,
+    policy: AnyPolicy,
+    pinned: bool,
+) -> Result<(Option<u32>, Option<u32>), Fail>
+    requires frames { mem.now.frames ≤ 2 ^ 15 }
+{
+    let mut system = small(alloc, policy, pinned)?;
+    let mut plain = PlainSystem::new(alloc, policy, pinned);
+    let step = first_wrong_step(&mut system, &mut plain, mem)?;
+    let line = first_wrong_line(&mut system, &mut plain)?;
+    Ok((step, line))
+}
+
+fn is_right(rt: &impl Abort, found: (Option<u32>, Option<u32>)) {
+    assert_eq!(rt; found, (None, None));
+}
+
+// Not pinned, and pinned.
+fn does_as_plain_lists(
+    rt: &impl Abort,
+    alloc: Global,
+    mem: &PhysMem,
+    policy: AnyPolicy,
+) -> Result<(), Fail>
+    requires frames { mem.now.frames ≤ 2 ^ 15 }
+{
+    is_right(rt, first_wrong(alloc, mem, policy, false)?);
+    is_right(rt, first_wrong(alloc, mem, policy, true)?);
+    Ok(())
+}
+
 #[test]
 fn it_does_as_plain_lists_do(rt: HostRuntime) -> Result<(), Fail> {
-    let mem = tables(rt.alloc())?;
-    for policy in [AnyPolicy::Lru, AnyPolicy::Fifo, AnyPolicy::TreePlru] {
-        for pinned in [false, true] {
-            let mut system = small(rt.alloc(), policy, pinned)?;
-            let mut plain = PlainSystem::new(rt.alloc(), policy, pinned);
-            assert_eq!(rt; first_wrong_step(&mut system, &mut plain, &mem)?, None);
-            assert_eq!(rt; first_wrong_line(&mut system, &mut plain)?, None);
-        }
-    }
-    Ok(())
+    let mem = memory_with(rt.alloc(), words_of_tables())?;
+    does_as_plain_lists(&rt, rt.alloc(), &mem, AnyPolicy::Lru)?;
+    does_as_plain_lists(&rt, rt.alloc(), &mem, AnyPolicy::Fifo)?;
+    does_as_plain_lists(&rt, rt.alloc(), &mem, AnyPolicy::TreePlru)
 }

@@ -1,16 +1,37 @@
 // Page tables of 64 frames with the root in frame 2, changed and walked. What is
 // written stands in the manual's section on Sv32.
 ghost use Rattle.std.specs.Prelude.{◌≡◌, ℕ, ◌+◌, ◌<◌, ◌≤◌, true, IfOk};
+ghost use Rattle.phys_mem.specs.Contents.{zeroed};
 ghost use Rattle.sv32_walk.specs.PageTableEntry.{are_good};
 ghost use Rattle.page_map.specs.Tables.{IsPageMap, IsBlank, StandsWith, has_table, has_page};
 ghost use Rattle.page_map.specs.Reached.{TablesIn};
 
 use super::PageMap;
 use crate::{MapRefusal, laws};
+use frame_colours::{AllColours, Frame, Pool, Table};
 use phys_mem::PhysMem;
 use std::alloc::Global;
 use sv32_walk::{Access, WalkFault, walk};
 use tp_base::{FrameNo, Memory};
+
+// The frame of the root: of 64 frames in four colours, the least one of colour 2.
+fn root_frame(alloc: Global, mem: &mut PhysMem) -> Result<Frame<Table>, Memory>
+    requires size { mem.old.frames ≡ 64 }
+    ensures number { IfOk result (λ root. root ≡ 2) }
+    ensures zeroed { IfOk result (λ root. mem.new ≡ zeroed mem.old root) }
+{
+    let colours = vec![in alloc; Vec::from_slice(alloc, &[2])?]?;
+    let mut shares = AllColours::new(64, 4).split(alloc, &colours)?;
+    let share = shares.remove(0);
+    shares.destroy_empty();
+    match Pool::new(alloc, share) {
+        Ok(mut pool) => Ok(pool.take().unwrap().table(mem)),
+        Err((share, error)) => {
+            share.discard();
+            Err(error)
+        }
+    }
+}
 
 // Each function below says for the prover that from a frame on all are blank and
 // no tables: that is what the next call asks.
@@ -21,8 +42,9 @@ fn open(alloc: Global) -> Result<(PhysMem, PageMap), Memory>
     ensures ready { IfOk result (λ opened. StandsWith opened.0 (λ m. IsPageMap m opened.1 opened.0.frames
         × (TablesIn (λ table. table < 3) m opened.1 × ((f : ℕ) → 3 ≤ f → IsBlank m f)))) }
 {
-    let mem = PhysMem::new(alloc, 64)?;
-    Ok((mem, PageMap::new(FrameNo::new(2))))
+    let mut mem = PhysMem::new(alloc, 64)?;
+    let root = root_frame(alloc, &mut mem)?;
+    Ok((mem, PageMap::new(root)))
 }
 
 fn install(mem: &mut PhysMem, map: &mut PageMap, va: u32, frame: u32) -> Result<u32, MapRefusal>
@@ -77,7 +99,7 @@ fn page_with(
     alloc: Global,
     rights: u8,
 ) -> Result<(Result<u32, MapRefusal>, [Result<u32, WalkFault>; 3]), Memory>
-    requires { are_good rights ≡ true }
+    requires rights { are_good rights ≡ true }
 {
     let (mut mem, mut map) = open(alloc)?;
     let _ = install(&mut mem, &mut map, 0x0040_0000, 3);

@@ -5,8 +5,8 @@ use super::PhysMem;
 use tp_base::{FrameNo, Memory, Zero};
 
 fn blank<Z: Zero>(memory: &mut Z, frame: FrameNo)
-    requires { Z.has_frame memory.old frame }
-    ensures { memory.new ≡ Z.zeroed memory.old frame }
+    requires within { Z.has_frame memory.old frame }
+    ensures becomes { memory.new ≡ Z.zeroed memory.old frame }
 {
     memory.zero_frame(frame);
 }

@@ -86,27 +86,46 @@ fn a_victim_is_given_up_with_its_mark(rt: HostRuntime) -> Result<(), Fail> {
 }
 
 #[test]
-fn one_set_and_one_way_are_enough(rt: HostRuntime) -> Result<(), Fail> {
-    let mut one_place = SetCache::new(rt.alloc(), First, 1, 1)?;
+fn one_place_is_enough(rt: HostRuntime) -> Result<(), Fail> {
+    let mut cache = SetCache::new(rt.alloc(), First, 1, 1)?;
     let rows = [
         (u32::MAX, true, TOOK_AN_EMPTY_WAY),
         (u32::MAX, false, HIT),
         (0, false, gave_up(u32::MAX, true)),
         (1, true, gave_up(0, false)),
     ];
-    assert_eq!(rt; first_wrong(&mut one_place, &rows), None);
-    let mut one_way = SetCache::new(rt.alloc(), First, 2, 1)?;
+    assert_eq!(rt; first_wrong(&mut cache, &rows), None);
+    Ok(())
+}
+
+#[test]
+fn one_way_is_enough(rt: HostRuntime) -> Result<(), Fail> {
+    let mut cache = SetCache::new(rt.alloc(), First, 2, 1)?;
     let rows = [
         (u32::MAX, false, TOOK_AN_EMPTY_WAY),
         (4, false, TOOK_AN_EMPTY_WAY),
         (3, true, gave_up(u32::MAX, false)),
         (4, true, HIT),
     ];
-    assert_eq!(rt; first_wrong(&mut one_way, &rows), None);
-    let mut one_set = SetCache::new(rt.alloc(), First, 1, 16)?;
-    for number in 0..16 {
-        assert_eq!(rt; one_set.touch(number, false), TOOK_AN_EMPTY_WAY);
+    assert_eq!(rt; first_wrong(&mut cache, &rows), None);
+    Ok(())
+}
+
+// How many of the lines 0, 1 and so on took an empty way.
+fn filled(cache: &mut SetCache<First>, lines: u32) -> u32 {
+    let mut count = 0u32;
+    for number in 0..lines {
+        if cache.touch(number, false) == TOOK_AN_EMPTY_WAY {
+            count = count.saturating_add(1);
+        }
     }
-    assert_eq!(rt; one_set.touch(u32::MAX, false), gave_up(0, false));
+    count
+}
+
+#[test]
+fn one_set_is_enough(rt: HostRuntime) -> Result<(), Fail> {
+    let mut cache = SetCache::new(rt.alloc(), First, 1, 16)?;
+    assert_eq!(rt; filled(&mut cache, 16), 16);
+    assert_eq!(rt; cache.touch(u32::MAX, false), gave_up(0, false));
     Ok(())
 }

@@ -60,24 +60,28 @@ impl Write for Noting {
     }
 }
 
+// What a write of three bytes answers, the faults, and what was taken and flushed.
+fn written(most: usize, flushes: bool) -> (Result<usize, Failed>, u64, usize, usize) {
+    let mut sink = StdStream::new(Noting {
+        most,
+        flushes,
+        taken: 0,
+        flushed: 0,
+    });
+    let outcome = sink.write(b"two");
+    (outcome, sink.faults, sink.inner.taken, sink.inner.flushed)
+}
+
 // Each write is flushed once its bytes were taken.
 #[test]
 fn a_write_is_flushed(rt: HostRuntime) {
     let cases = [
-        (9, true, Ok(3), 0, 3, 3),
-        (2, true, Ok(2), 0, 2, 2),
-        (0, true, Err(Failed), 1, 0, 0),
-        (9, false, Err(Failed), 1, 3, 0),
+        (9, true, (Ok(3), 0, 3, 3)),
+        (2, true, (Ok(2), 0, 2, 2)),
+        (0, true, (Err(Failed), 1, 0, 0)),
+        (9, false, (Err(Failed), 1, 3, 0)),
     ];
-    for (most, flushes, outcome, faults, taken, flushed) in cases {
-        let mut sink = StdStream::new(Noting {
-            most,
-            flushes,
-            taken: 0,
-            flushed: 0,
-        });
-        assert_eq!(rt; sink.write(b"two"), outcome, "{most} {flushes}");
-        let seen = (sink.faults, sink.inner.taken, sink.inner.flushed);
-        assert_eq!(rt; seen, (faults, taken, flushed), "{most} {flushes}");
+    for (most, flushes, wanted) in cases {
+        assert_eq!(rt; written(most, flushes), wanted, "{most} {flushes}");
     }
 }

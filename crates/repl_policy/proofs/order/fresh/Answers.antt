@@ -13,4 +13,4 @@ pub returns : goal.returns
 returns c =
     let end : c.loop-way.way ≡ c.args.ways = omega arith in
     let state : pack (unlisted c.args.ways []) ≡ c.loop-way.state = ap (λ (n : ℕ). pack (unlisted n [])) (sym end) ∙ sym c.loop-way.invariant in
-    subst (λ (s : ℕ). Packs c.args.ways s []) state (Packs-fresh c.args.ways)
+    record { fresh = subst (λ (s : ℕ). Packs c.args.ways s []) state (Packs-fresh c.args.ways) }

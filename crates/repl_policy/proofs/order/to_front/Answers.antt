@@ -26,11 +26,15 @@ overflow_add-result c =
     omega arith
 
 pub returns-then-state-newest : goal.returns-then-state-newest
-returns-then-state-newest c = λ list packs.
-    Packs-newest c.args.ways c.args.state c.args.way list packs c.requires.few c.requires.below (omega (arith, c.from-newest.ensures, c.if-state-newest.true))
+returns-then-state-newest c = record {
+  moved = λ list packs.
+      Packs-newest c.args.ways c.args.state c.args.way list packs c.requires.few c.requires.below (omega (arith, c.from-newest.ensures, c.if-state-newest.true));
+}
 
 pub returns : goal.returns
-returns c = λ list packs.
-    let rest = kept c.args.ways c.args.state c.args.way c.without.result list c.requires.few c.without.ensures.value packs in
-    let state : c.args.way + 16 * pack (without (all_ways c.args.ways list) c.args.way) ≡ c.from-newest.result + 16 * c.without.result = omega (arith, c.from-newest.ensures) in
-    subst (λ (s : ℕ). Packs c.args.ways s (to_front list c.args.way)) state (Packs-to_front c.args.ways c.args.state c.args.way list packs c.requires.below)
+returns c = record {
+  moved = λ list packs.
+      let rest = kept c.args.ways c.args.state c.args.way c.without.result list c.requires.few c.without.ensures.value packs in
+      let state : c.args.way + 16 * pack (without (all_ways c.args.ways list) c.args.way) ≡ c.from-newest.result + 16 * c.without.result = omega (arith, c.from-newest.ensures) in
+      subst (λ (s : ℕ). Packs c.args.ways s (to_front list c.args.way)) state (Packs-to_front c.args.ways c.args.state c.args.way list packs c.requires.below);
+}

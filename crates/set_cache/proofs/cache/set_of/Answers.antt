@@ -4,14 +4,14 @@ use Rattle.set_cache.proofs.Powers.{positive, low_bits}
 use Rattle.set_cache.proofs.cache.set_of.Goals as goal
 
 pub overflow_sub-result : goal.overflow_sub-result
-overflow_sub-result c = let some = positive c.args.sets c.requires in omega arith
+overflow_sub-result c = let some = positive c.args.sets c.requires.power in omega arith
 
 pub returns-clause-value : goal.returns-clause-value
-returns-clause-value c = low_bits c.args.number c.args.sets c.requires
+returns-clause-value c = low_bits c.args.number c.args.sets c.requires.power
 
 pub returns-clause-below : goal.returns-clause-below
 returns-clause-below c =
-    let some = positive c.args.sets c.requires in
-    let same = low_bits c.args.number c.args.sets c.requires in
+    let some = positive c.args.sets c.requires.power in
+    let same = low_bits c.args.number c.args.sets c.requires.power in
     let small = mod_below c.args.number c.args.sets some in
     omega arith

@@ -20,22 +20,22 @@ invariant_of-self-2 c = (rest_is_free_list c.self.inside.part c.in_ok-number.num
 pub returns-clause-own : goal.returns-clause-own
 returns-clause-own c =
     let own : IsOwn c.self.inside.part c.in_ok-number.number = (sound c).own c.in_ok-number.number (has_head c.in_ok-number.number (reverse c.pop.new.self.items)) in
-    subst (λ (list : FreeList). IsOwn list.share c.of.result) c.self.view_is (subst (λ n. IsOwn c.self.inside.part n) (sym c.of.ensures) own)
+    subst (λ (list : FreeList). IsOwn list.share c.of.result) c.self.view_is (subst (λ n. IsOwn c.self.inside.part n) (sym c.of.ensures.number) own)
 
 pub returns-clause-gone : goal.returns-clause-gone
-returns-clause-gone c = ap (has (reverse c.pop.new.self.items)) c.of.ensures ∙ least_is_gone c.self.inside.part c.in_ok-number.number (reverse c.pop.new.self.items) (sound c)
+returns-clause-gone c = ap (has (reverse c.pop.new.self.items)) c.of.ensures.number ∙ least_is_gone c.self.inside.part c.in_ok-number.number (reverse c.pop.new.self.items) (sound c)
 
 pub returns-clause-least : goal.returns-clause-least
 returns-clause-least c = λ f there.
     let among = ap (λ xs. has xs f) (sym (split c)) ∙ ap (λ (list : FreeList). is_free list f) c.self.view_is ∙ there in
     let least = least_is_least c.self.inside.part c.in_ok-number.number (reverse c.pop.new.self.items) (sound c) f among in
-    omega (arith, c.of.ensures)
+    omega (arith, c.of.ensures.number)
 
 pub returns-clause-sound : goal.returns-clause-sound
 returns-clause-sound c = (invariant_of-self-2 c).0
 
 pub returns-clause-again : goal.returns-clause-again
 returns-clause-again c =
-    ap (λ n. of c.self.inside.part (placed (reverse c.pop.new.self.items) n)) c.of.ensures
+    ap (λ n. of c.self.inside.part (placed (reverse c.pop.new.self.items) n)) c.of.ensures.number
     ∙ ap (of c.self.inside.part) (placed_first c.self.inside.part c.in_ok-number.number (reverse c.pop.new.self.items) (sound c) ∙ sym (split c))
     ∙ c.self.view_is

@@ -6,7 +6,7 @@ use Rattle.frame_colours.proofs.share.Part.descending.Goals as goal
 pub push_reserved-requires : goal.push_reserved-requires
 push_reserved-requires c =
     let room : length c.loop-frame.frames.items < length (pool c.args.self.now) =
-    room_for c.args.self.now c.loop-frame.frames.items (c.loop-frame.frame - 1) c.loop-frame.frame (sym c.has_colour.ensures ∙ c.if-has_colour.true)
+    room_for c.args.self.now c.loop-frame.frames.items (c.loop-frame.frame - 1) c.loop-frame.frame (sym c.has_colour.ensures.value ∙ c.if-has_colour.true)
     (omega (arith, c.loop-frame-test.true)) c.loop-frame.invariant.1 c.loop-frame.invariant.0 in
     search rules
 

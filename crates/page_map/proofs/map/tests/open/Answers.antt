@@ -1,12 +1,13 @@
 -- For the tests: the memory that they begin with.
-use Rattle.std.proofs.Common.{rules, ◌≡◌, subst, sym, ℕ}
-use Rattle.page_map.specs.Tables.{StandsWith}
-use Rattle.page_map.proofs.TestLemmas.{Ready, ready_new}
+use Rattle.std.proofs.Common.{rules, ◌≡◌}
+use Rattle.phys_mem.specs.Contents.{zeroed}
+use Rattle.page_map.proofs.TestLemmas.{ready_new}
 use Rattle.page_map.proofs.map.tests.open.Goals as goal
 
 pub returns-clause-ready : goal.returns-clause-ready
 returns-clause-ready c =
     let size : c.in_ok-mem.mem.frames ≡ 64 = search rules in
-    let root : c.new-3.result ≡ 2 = search rules in
-    subst (λ (r : ℕ). StandsWith c.in_ok-mem.mem (Ready r c.in_ok-mem.mem.frames 3)) (sym root)
-    (ready_new c.in_ok-mem.mem size c.in_ok-mem.ensures.holds)
+    let root : c.in_ok-root.root ≡ 2 = search rules in
+    let zeroed_is : c.root_frame.new.mem ≡ zeroed c.in_ok-mem.mem c.in_ok-root.root = search rules in
+    let same : c.new-2.result ≡ c.in_ok-root.root = search rules in
+    rw (zeroed_is, same) (ready_new c.in_ok-mem.mem c.in_ok-root.root size root c.in_ok-mem.ensures.holds)

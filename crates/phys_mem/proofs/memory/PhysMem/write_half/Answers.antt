@@ -22,5 +22,5 @@ returns-clause-bytes c =
 pub returns-clause-holds : goal.returns-clause-holds
 returns-clause-holds c = λ mem holds.
     subst (λ (value : ℕ). Holds c.set_word.new.self (written mem (frame_of c.args.at) (place_of c.args.at) value))
-    (c.with_half_of.ensures ∙ ap (λ (word : ℕ). with_half_in word (c.args.at % 4) c.args.half) (c.word-word.ensures.holds mem holds))
+    (c.with_half_of.ensures.value ∙ ap (λ (word : ℕ). with_half_in word (c.args.at % 4) c.args.half) (c.word-word.ensures.holds mem holds))
     (c.set_word.ensures.holds mem holds)

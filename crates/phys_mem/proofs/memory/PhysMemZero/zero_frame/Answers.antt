@@ -23,4 +23,4 @@ pub returns-clause-holds : goal.returns-clause-holds
 returns-clause-holds c = λ mem holds.
     let becomes : c.clear.new.self ≡ zeroed c.args.self.now c.args.frame = search rules in
     subst (λ (memory : Contents). Holds memory (zeroed_frame mem c.args.frame)) (sym becomes)
-    (holds-zeroed c.args.self.now mem c.args.frame c.requires holds)
+    (holds-zeroed c.args.self.now mem c.args.frame c.requires.within holds)

@@ -3,10 +3,10 @@ use Rattle.std.proofs.Common.{arith, refl, sym, subst}
 use Rattle.repl_policy.specs.declared.AnyPolicy.TheVariants.{Lru}
 use Rattle.l2_colour.specs.Colours.{IsColoured}
 use Rattle.mem_system.proofs.TestLemmas.{is_cache}
-use Rattle.mem_system.proofs.system.tests.the_largest_hierarchy_is_made_at_once.Goals as goal
+use Rattle.mem_system.proofs.system.tests.largest.Goals as goal
 
 pub new-requires : goal.new-requires
-new-requires g c = record {
+new-requires c = record {
   geometry = record {
     least = omega arith;
     coloured = subst (IsColoured 16) (sym c.cache-3.ensures.sets) (record { whole_lines = refl; whole_colours = refl; some = omega arith; few = omega arith });
