@@ -12,11 +12,12 @@ use Rattle.image_text.specs.declared.refusal.Refusal.{Refusal}
 use Rattle.image_text.specs.Record.{RawEntry as TextEntry}
 use Rattle.image_text.specs.Reads.{raw_model}
 use Rattle.image_text.specs.Models.{domain_model, entry_model}
-use Rattle.image_check.specs.Cases.{first_in, outside, refusal}
+use Rattle.hardware_check.specs.Cases.{first_in, outside, refusal}
 use Rattle.image_check.specs.Rules.{is_number, k16_case, k16_entry}
-use Rattle.image_check.specs.Public.{Entry, natural_of, entry_of, IsSmall}
+use Rattle.hardware_check.specs.Hardware.{natural_of}
+use Rattle.image_check.specs.Public.{Entry, entry_of, IsSmall}
 use Rattle.image_check.specs.Checking.{broken}
-use Rattle.image_check.proofs.FirstCases.{if_first, if_rest, first_in_none}
+use Rattle.hardware_check.proofs.FirstCases.{if_first, if_rest, first_in_none}
 use Rattle.image_check.proofs.Kept.{kept, few_domains, entries_pass}
 
 pub record Passed (domains : ℕ) (e : Entry) : Type 0 where

@@ -1,5 +1,5 @@
-pub mod FirstCases
 pub mod Kept
 pub mod Entries
 pub mod Owns
+pub mod Shares
 pub mod Running

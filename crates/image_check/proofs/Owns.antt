@@ -1,45 +1,27 @@
 -- What each domain has of its own, in an image that breaks no rule.
-use Rattle.std.proofs.Common.{◌≡◌, ℕ, zero, suc, ◌+◌, ◌*◌, ◌<◌, ◌≤◌, Bool, true, false, ◌||◌, not, List, [], ◌∷◌, length, map, take, get_or, Option, None, Some, refl, sym, ap, subst, ◌∙◌, arith, ◌⊎◌, inl, inr}
+use Rattle.std.proofs.Common.{◌≡◌, ℕ, ◌+◌, ◌*◌, ◌<◌, ◌≤◌, Bool, true, false, ◌||◌, not, List, [], length, map, take, get_or, Option, None, Some, refl, sym, subst, arith, ◌⊎◌, inl, inr}
 use Rattle.std.specs.Prelude.{nat_lt, pos, codes, if◌then◌else◌}
 use Rattle.std.specs.Str.{bytes_eq}
 use Rattle.std.specs.List.{list_any}
 use Rattle.std.proofs.lemmas.List.{length-map, get_or-map, get_or_past}
 use Rattle.std.proofs.lemmas.Bool.{cases_lt, ltb-false}
-use Rattle.image_text.specs.Record.{Raw, RawDomain, RawSegment, IsRawSegment, InKeyRanges, raw_domain, no_raw_domain, no_raw_segment}
+use Rattle.image_text.specs.Record.{Raw, RawSegment, IsRawSegment, InKeyRanges, raw_domain, no_raw_domain, no_raw_segment}
 use Rattle.image_text.specs.declared.refusal.Refusal.{Refusal}
-use Rattle.image_check.specs.Cases.{first_in, refusal}
+use Rattle.hardware_check.specs.Cases.{first_in, refusal}
 use Rattle.image_check.specs.Segments.{k12, k12_domain, segment_case, entry_case, bytes_case, bytes_in, is_rights, share_page, broken}
-use Rattle.image_check.specs.Public.{most_frames}
-use Rattle.image_check.specs.Own.{Own, rights_of, segment_of, bytes_or_none, own_from, owns_from, owns_of, no_own, own_at, no_segment}
+use Rattle.image_check.specs.Own.{rights_of, segment_of, bytes_or_none, own_from, owns_of, no_own, own_at, no_segment}
 use Rattle.image_check.specs.Laws.{AreRights, IsSegment, IsOwn}
-use Rattle.image_check.proofs.FirstCases.{or_first, if_first, if_rest, first_in_none}
+use Rattle.hardware_check.proofs.FirstCases.{or_first, if_first, if_rest, first_in_none}
 
 -- ---- the list of owns
 
-owns_from_length : (k : ℕ) (os : List RawDomain) → length (owns_from k os) ≡ length os
-unfolding owns_from
-owns_from_length k [] = refl
-owns_from_length k (o ∷ os) = ap suc (owns_from_length (suc k) os)
-
 pub owns_length : (i : Raw) → length (owns_of i) ≡ length i.domains
 unfolding owns_of
-owns_length i = owns_from_length 0 i.domains
+owns_length i = length-map i.domains own_from
 
-owns_from_at : (k : ℕ) (os : List RawDomain) (d : ℕ) → d < length os → get_or (owns_from k os) d no_own ≡ own_from (k + d) (get_or os d no_raw_domain)
-unfolding owns_from
-owns_from_at k [] d l = absurd (omega arith)
-owns_from_at k (o ∷ os) zero l =
-    let e : k ≡ k + 0 = omega arith in
-    ap (λ n. own_from n o) e
-owns_from_at k (o ∷ os) (suc d) l =
-    let e : suc k + d ≡ k + suc d = omega arith in
-    owns_from_at (suc k) os d (omega arith) ∙ ap (λ n. own_from n (get_or os d no_raw_domain)) e
-
-pub owns_at : (i : Raw) (d : ℕ) → d < length i.domains → own_at (owns_of i) d ≡ own_from d (raw_domain i.domains d)
+pub owns_at : (i : Raw) (d : ℕ) → d < length i.domains → own_at (owns_of i) d ≡ own_from (raw_domain i.domains d)
 unfolding owns_of
-owns_at i d l =
-    let e : 0 + d ≡ d = omega arith in
-    owns_from_at 0 i.domains d l ∙ ap (λ n. own_from n (raw_domain i.domains d)) e
+owns_at i d l = get_or-map own_from i.domains d no_raw_domain no_own l
 
 -- ---- segments
 
@@ -108,7 +90,7 @@ segments_sound d ss n ranges k = either (cases_lt k (length ss))
 
 -- ---- owns
 
-own_sound : (i : Raw) (d : ℕ) → InKeyRanges i → k12 i ≡ None → d < length i.domains → IsOwn (own_from d (raw_domain i.domains d))
+own_sound : (i : Raw) (d : ℕ) → InKeyRanges i → k12 i ≡ None → d < length i.domains → IsOwn (own_from (raw_domain i.domains d))
 unfolding k12 k12_domain own_from
 own_sound i d ranges n l =
     let o = raw_domain i.domains d in
@@ -129,7 +111,3 @@ owns_sound i ranges n d = either (cases_lt d (length i.domains))
     either : (d < length i.domains) ⊎ (length i.domains ≤ d) → IsOwn (own_at (owns_of i) d)
     either (inl l) = subst IsOwn (sym (owns_at i d l)) (own_sound i d ranges n l)
     either (inr m) = subst IsOwn (sym (get_or_past (owns_of i) d no_own (omega (arith, owns_length i, m)))) no_own_sound
-
-pub owns_placed : (i : Raw) (d : ℕ) → d < length i.domains → (own_at (owns_of i) d).first_frame ≡ most_frames * d
-unfolding own_from
-owns_placed i d l = ap (λ (o : Own). o.first_frame) (owns_at i d l)

@@ -1,16 +1,19 @@
 -- That an image that breaks no rule is runnable.
-use Rattle.std.proofs.Common.{◌≡◌, ℕ, ◌*◌, ◌<◌, ◌≤◌, List, length, map, None, refl, sym, ap, subst, arith, ◌⊎◌, inl, inr}
+use Rattle.std.proofs.Common.{◌≡◌, ℕ, ◌<◌, ◌≤◌, List, length, map, None, refl, sym, subst, arith, ◌⊎◌, inl, inr}
 use Rattle.std.specs.Prelude.{pos}
 use Rattle.std.proofs.lemmas.List.{length-map, get_or-map, get_or_past}
 use Rattle.std.proofs.lemmas.Bool.{cases_lt}
 use Rattle.image_text.specs.Record.{RawEntry}
-use Rattle.image_check.specs.Cases.{first_in}
+use Rattle.hardware_check.specs.Cases.{first_in}
 use Rattle.image_check.specs.Rules.{k16_entry}
-use Rattle.image_check.specs.Public.{Entry, entry_of, no_entry, public_of, hardware_of, entry_in, most_frames}
+use Rattle.hardware_check.specs.Hardware.{hardware_of}
+use Rattle.hardware_check.proofs.Built.{hardware_law}
+use Rattle.image_check.specs.Public.{Entry, entry_of, no_entry, public_of, entry_in}
 use Rattle.image_check.specs.Laws.{RunnableLaw}
-use Rattle.image_check.proofs.Kept.{kept, domains_within, entries_within, entries_pass}
+use Rattle.image_check.proofs.Kept.{kept, keeps_hardware, domains_within, entries_within, entries_pass}
 use Rattle.image_check.proofs.Entries.{Passed, entry_passed}
-use Rattle.image_check.proofs.Owns.{owns_length, owns_sound, owns_placed}
+use Rattle.image_check.proofs.Owns.{owns_length, owns_sound}
+use Rattle.image_check.proofs.Shares.{disjoint_colours, pools_enough}
 
 no_text_entry : RawEntry
 no_text_entry = record { domain = pos 0; length = pos 0; pad = pos 0 }
@@ -46,13 +49,14 @@ runnable_law i ranges n =
       counted = sym many;
       some_domain = omega (arith, many, domains.least);
       few_domains = omega (arith, many, domains.most);
-      frames = ap (λ n. most_frames * n) (sym many);
+      hardware = hardware_law i (keeps_hardware i n);
       base = refl;
+      disjoint = disjoint_colours i rules;
+      pools = λ d l. pools_enough i rules d (omega (arith, many, l));
       some_entry = omega (arith, long, entries.least);
       few_entries = omega (arith, long, entries.most);
       named = λ e l. omega (arith, many, (entry_in_passed (length i.domains) i.schedule pass e (omega (arith, long, l))).domain);
       lengths = λ e. (all_short (length i.domains) i.schedule pass e).length;
       pads = λ e. (all_short (length i.domains) i.schedule pass e).pad;
       sound = owns_sound i ranges rules.segments;
-      placed = λ d l. owns_placed i d (omega (arith, many, l));
     }

@@ -1,19 +1,31 @@
 -- What an image that breaks no rule is: no rule has a broken case, and in natural numbers it can be run.
-use Rattle.std.specs.Prelude.{◌≡◌, ℕ, ◌+◌, ◌*◌, ◌<◌, ◌≤◌, ◌^◌, ◌||◌, ◌↔◌, true, [], length, None}
+use Rattle.std.specs.Prelude.{◌≡◌, ℕ, ◌+◌, ◌*◌, ◌<◌, ◌≤◌, ◌^◌, ◌||◌, ◌↔◌, true, [], length, map, None}
 use Rattle.image_text.specs.Record as text
 use Rattle.image_text.specs.Record.{InKeyRanges}
 use Rattle.image_check.specs.declared.own.Rights.{Rights}
-use Rattle.image_check.specs.Rules.{k4, k7, k16}
+use Rattle.frame_colours.specs.Colours.{AreDisjoint, pool}
+use Rattle.hardware_check.specs.Hardware.{IsHardware, colours_of}
+use Rattle.hardware_check.specs.Rules.{k3, k4, k5, k6, k11}
+use Rattle.image_check.specs.Rules.{k7, k16}
+use Rattle.image_check.specs.Colours.{k8, k9, k10}
 use Rattle.image_check.specs.Segments.{k12}
 use Rattle.image_check.specs.Checking.{broken}
-use Rattle.image_check.specs.Public.{entry_in, most_frames}
+use Rattle.image_check.specs.Public.{entry_in}
 use Rattle.image_check.specs.Own.{Segment, Own, segment_at}
+use Rattle.image_check.specs.Pages.{frames_in, share_of}
 use Rattle.image_check.specs.Image.{Image, image_from, own_of}
 
 -- no rule has a broken case
 pub record Keeps (i : text.Raw) : Type 0 where
+  pub parts : k3 i ≡ None
   pub frames : k4 i ≡ None
+  pub colours : k5 i ≡ None
+  pub costs : k6 i ≡ None
   pub domains : k7 i ≡ None
+  pub named : k8 i ≡ None
+  pub apart : k9 i ≡ None
+  pub pools : k10 i ≡ None
+  pub shared : k11 i ≡ None
   pub segments : k12 i ≡ None
   pub schedule : k16 i ≡ None
 
@@ -42,15 +54,16 @@ pub record Runnable (i : Image) : Type 0 where
   pub counted : i.all.domains ≡ length i.owns
   pub some_domain : 0 < length i.owns
   pub few_domains : length i.owns ≤ 16
-  pub frames : i.all.hardware.frames ≡ most_frames * length i.owns
+  pub hardware : IsHardware i.all.hardware
   pub base : i.all.hardware.base ≡ 1  -- as yet
+  pub disjoint : AreDisjoint (colours_of i.all.hardware) (map (λ o. o.colours) i.owns)
+  pub pools : (d : ℕ) → d < length i.owns → frames_in (own_of i d).segments ≤ length (pool (share_of i.all.hardware (own_of i d)))
   pub some_entry : 0 < length i.all.schedule
   pub few_entries : length i.all.schedule ≤ 64
   pub named : (e : ℕ) → e < length i.all.schedule → (entry_in i.all.schedule e).domain < length i.owns
   pub lengths : (e : ℕ) → (entry_in i.all.schedule e).length ≤ 1000000
   pub pads : (e : ℕ) → (entry_in i.all.schedule e).pad ≤ 1000000
   pub sound : (d : ℕ) → IsOwn (own_of i d)
-  pub placed : (d : ℕ) → d < length i.owns → (own_of i d).first_frame ≡ most_frames * d
 
 -- an image in the ranges of its keys that breaks no rule can be run
 abbrev pub RunnableLaw : Type 0

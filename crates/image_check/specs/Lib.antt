@@ -1,9 +1,10 @@
-pub mod Cases
 pub mod Rules
 pub mod Segments
+pub mod Own
+pub mod Pages
+pub mod Colours
 pub mod Checking
 pub mod Public
-pub mod Own
 pub mod Image
 pub mod Laws
 pub mod Models

@@ -1,15 +1,12 @@
 -- What contracts see of the parts of an image in the code.
 use Rattle.std.specs.Prelude.{map, string_bytes}
+pub use Rattle.hardware_check.specs.Models.{hardware_model}
 use Rattle.image_check.specs.Public as public_spec
 use Rattle.image_check.specs.Own as own_spec
-use Rattle.image_check.specs.declared.public.Hardware.{Hardware}
 use Rattle.image_check.specs.declared.public.Entry.{Entry}
 use Rattle.image_check.specs.declared.public.Public.{Public}
 use Rattle.image_check.specs.declared.own.Segment.{Segment}
 use Rattle.image_check.specs.declared.own.Own.{Own}
-
-abbrev pub hardware_model : Hardware → public_spec.Hardware
-hardware_model h = record { frames = h.frames; base = h.base }
 
 abbrev pub entry_model : Entry → public_spec.Entry
 entry_model e = record { domain = e.domain; length = e.length; pad = e.pad }
@@ -27,7 +24,7 @@ segment_model s = record { page = s.page; pages = s.pages; rights = s.rights; by
 abbrev pub own_model : Own → own_spec.Own
 own_model o = record {
   name = string_bytes o.name;
+  colours = o.colours.items;
   entry = o.entry;
-  first_frame = o.first_frame;
   segments = map segment_model o.segments.items;
 }

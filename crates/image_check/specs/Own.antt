@@ -1,9 +1,10 @@
 -- What is one domain's own in an image.
-use Rattle.std.specs.Prelude.{ℕ, ◌*◌, ◌||◌, true, false, List, [], ◌∷◌, map, codes, slice_index_or, Option, Some, None, suc}
+use Rattle.std.specs.Prelude.{ℕ, ◌<◌, ◌≤◌, ◌^◌, ◌||◌, true, false, List, [], length, map, codes, slice_index_or, Option, Some, None}
 use Rattle.std.specs.Str.{bytes_eq}
+use Rattle.std.specs.List.{All}
 use Rattle.image_text.specs.Record.{Raw, RawDomain, RawSegment}
+use Rattle.hardware_check.specs.Hardware.{natural_of}
 use Rattle.image_check.specs.declared.own.Rights.{Rights}
-use Rattle.image_check.specs.Public.{most_frames}
 use Rattle.image_check.specs.Segments.{bytes_in, has_execute}
 
 -- pages of a domain's address space, one after the other
@@ -15,8 +16,8 @@ pub record Segment : Type 0 where
 
 pub record Own : Type 0 where
   pub name : List ℕ
+  pub colours : List ℕ  -- of its frames
   pub entry : ℕ  -- the address at which it begins
-  pub first_frame : ℕ  -- its page tables and its pages stand in frames from here on
   pub segments : List Segment
 
 abbrev pub rights_of : List ℕ → Rights
@@ -38,25 +39,24 @@ segment_of s = record {
   bytes = bytes_or_none (bytes_in s.hex);
 }
 
--- domain d
-unfoldable pub own_from : ℕ → RawDomain → Own
-own_from d o = record {
+-- its numbers and lists fit those of the code
+pub record IsSmallDomain (o : RawDomain) : Type 0 where
+  pub colours : All (λ x. natural_of x < 2 ^ 8) o.colours
+  pub segments : length o.segments ≤ 16
+
+unfoldable pub own_from : RawDomain → Own
+own_from o = record {
   name = o.name;
+  colours = map natural_of o.colours;
   entry = o.entry;
-  first_frame = most_frames * d;
   segments = map segment_of o.segments;
 }
 
--- domains from number d on
-unfoldable pub owns_from : ℕ → List RawDomain → List Own
-owns_from d [] = []
-owns_from d (o ∷ os) = own_from d o ∷ owns_from (suc d) os
-
 unfoldable pub owns_of : Raw → List Own
-owns_of i = owns_from 0 i.domains
+owns_of i = map own_from i.domains
 
 abbrev pub no_own : Own
-no_own = record { name = []; entry = 0; first_frame = 0; segments = [] }
+no_own = record { name = []; colours = []; entry = 0; segments = [] }
 
 abbrev pub own_at : List Own → ℕ → Own
 own_at owns d = slice_index_or owns d no_own

@@ -1,11 +1,8 @@
 -- What all domains may know of an image: the hardware, and the schedule.
-use Rattle.std.specs.Prelude.{ℕ, ◌*◌, ◌<◌, ◌^◌, ℤ, pos, negsuc, List, length, map, slice_index_or}
+use Rattle.std.specs.Prelude.{ℕ, ◌<◌, ◌^◌, List, length, map, slice_index_or}
 use Rattle.image_text.specs.Record.{Raw, RawEntry}
-
--- the machine that all domains share
-pub record Hardware : Type 0 where
-  pub frames : ℕ  -- of 4,096 bytes
-  pub base : ℕ  -- cycles of an instruction, before what it touches
+pub use Rattle.hardware_check.specs.Hardware.{Hardware}
+use Rattle.hardware_check.specs.Hardware.{natural_of, hardware_of}
 
 -- a slot for a domain, and the pad of the switch that ends it, in cycles
 pub record Entry : Type 0 where
@@ -17,19 +14,6 @@ pub record Public : Type 0 where
   pub hardware : Hardware
   pub schedule : List Entry
   pub domains : ℕ  -- how many there are
-
--- a number that isn't negative
-abbrev pub natural_of : ℤ → ℕ
-natural_of (pos n) = n
-natural_of (negsuc n) = 0
-
--- the most frames of a domain: a root, and for each of 16 segments two tables and 64 pages
-abbrev pub most_frames : ℕ
-most_frames = 1057
-
--- as yet each domain has all frames that it may want, and an instruction takes one cycle
-unfoldable pub hardware_of : Raw → Hardware
-hardware_of i = record { frames = most_frames * length i.domains; base = 1 }
 
 unfoldable pub entry_of : RawEntry → Entry
 entry_of e = record { domain = natural_of e.domain; length = natural_of e.length; pad = natural_of e.pad }

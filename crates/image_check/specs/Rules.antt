@@ -1,15 +1,10 @@
--- The rules of numbers, names and the schedule, each with its first broken case.
+-- The rules of names and of the schedule, each with its first broken case.
 use Rattle.std.specs.Prelude.{ℕ, ◌&&◌, ◌||◌, not, nat_le, ℤ, pos, int_lt, Bool, if◌then◌else◌, List, length, Option, Some, None}
 use Rattle.std.specs.List.{list_all}
 use Rattle.std.specs.Str.{bytes_eq}
 use Rattle.image_text.specs.declared.refusal.Refusal.{Refusal}
 use Rattle.image_text.specs.Record.{Raw, RawDomain, RawEntry}
-use Rattle.image_check.specs.Cases.{or_else, first_in, refusal, outside, range_case, count_case}
-
--- ---- K4: 64 to 4,096 frames
-
-unfoldable pub k4 : Raw → Option Refusal
-k4 i = range_case 4 (pos 0) 64 4096 i.frames
+use Rattle.hardware_check.specs.Cases.{or_else, first_in, refusal, outside, count_case}
 
 -- ---- K7: 1 to 16 domains, each of a name of its own
 

@@ -6,7 +6,7 @@ use Rattle.std.specs.Str.{bytes_eq}
 use Rattle.hex.specs.Hex.{decode_of}
 use Rattle.image_text.specs.declared.refusal.Refusal.{Refusal}
 use Rattle.image_text.specs.Record.{Raw, RawDomain, RawSegment}
-use Rattle.image_check.specs.Cases.{or_else, first_in, refusal}
+use Rattle.hardware_check.specs.Cases.{or_else, first_in, refusal}
 
 -- domain d, the segment at a place or the entry, and the case
 abbrev pub broken : ℕ → ℕ → ℕ → Option Refusal

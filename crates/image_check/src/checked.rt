@@ -7,11 +7,13 @@ ghost use Rattle.image_check.specs.Laws.{Runnable};
 ghost use Rattle.image_check.specs.Image.{image_from, own_of};
 ghost use Rattle.image_check.specs.Models.{public_model, own_model};
 
+use crate::colours::{k8, k9, k10};
 use crate::own::{Own, owns_of};
 use crate::public::{Public, public_of};
-use crate::rules::{k4, k7, k16};
+use crate::rules::{k7, k16};
 use crate::segments::k12;
 use crate::{CheckRefusal, laws};
+use hardware_check::{k3, k4, k5, k6, k11};
 use image_text::{Raw, Refusal};
 use std::alloc::Global;
 use std::marker::Model;
@@ -42,7 +44,7 @@ impl Model for Checked {
 impl Checked {
     /// That it breaks no rule, in natural numbers.
     pub fn runnable(&self)
-        ensures { Runnable (image_from self.now) }
+        ensures runnable { Runnable (image_from self.now) }
     {
         let _ = &self.raw;
         laws::runnable();
@@ -50,7 +52,7 @@ impl Checked {
 
     /// What all domains may know.
     pub fn public(&self) -> &Public
-        ensures { public_model result.now ≡ (image_from self.now).all }
+        ensures value { public_model result.now ≡ (image_from self.now).all }
     {
         &self.public
     }
@@ -58,7 +60,7 @@ impl Checked {
     /// What is domain `d`'s own; there are `public().domains` of them.
     pub fn own(&self, d: usize) -> &Own
         requires domain { d < length (image_from self.now).owns }
-        ensures { own_model result.now ≡ own_of (image_from self.now) d }
+        ensures value { own_model result.now ≡ own_of (image_from self.now) d }
     {
         &self.owns[d]
     }
@@ -67,21 +69,39 @@ impl Checked {
 /// The first item of the list of broken rules.
 #[tactic(auto, unfolding(crate::specs::Checking::broken, crate::specs::Checking::rules))]
 fn first_broken(alloc: Global, raw: &Raw) -> Result<Option<Refusal>, CheckRefusal>
-    ensures { Makes (λ o. o) result (slice_get (broken (raw_model raw.now)) 0) }
+    ensures value { Makes (λ o. o) result (slice_get (broken (raw_model raw.now)) 0) }
 {
+    if let Some(refusal) = k3(raw) {
+        return Ok(Some(refusal));
+    }
     if let Some(refusal) = k4(raw) {
+        return Ok(Some(refusal));
+    }
+    if let Some(refusal) = k5(raw) {
+        return Ok(Some(refusal));
+    }
+    if let Some(refusal) = k6(raw) {
         return Ok(Some(refusal));
     }
     if let Some(refusal) = k7(raw) {
         return Ok(Some(refusal));
     }
+    if let Some(refusal) = k8(raw) {
+        return Ok(Some(refusal));
+    }
+    if let Some(refusal) = k9(raw) {
+        return Ok(Some(refusal));
+    }
+    if let Some(refusal) = k10(alloc, raw)? {
+        return Ok(Some(refusal));
+    }
+    if let Some(refusal) = k11(raw) {
+        return Ok(Some(refusal));
+    }
     if let Some(refusal) = k12(alloc, raw)? {
         return Ok(Some(refusal));
     }
-    if let Some(refusal) = k16(raw) {
-        return Ok(Some(refusal));
-    }
-    Ok(None)
+    Ok(k16(raw))
 }
 
 /// The image, where the list of the rules that it breaks is empty.

@@ -4,14 +4,18 @@
 #![tactic(auto)]
 
 mod checked;
+mod colours;
 pub mod laws;
 mod own;
 mod public;
+mod regions;
 mod rules;
 mod segments;
 
 pub use checked::{Checked, check};
+/// The machine, which the rules of `hardware_check` let through.
+pub use hardware_check::{CacheShape, Hardware, Policy};
 /// Why an image is not accepted: the first rule that it breaks, or want of memory.
 pub use image_text::{ReadRefusal as CheckRefusal, Refusal};
 pub use own::{Own, Rights, Segment};
-pub use public::{Entry, Hardware, Public};
+pub use public::{Entry, Public};

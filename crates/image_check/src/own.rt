@@ -1,15 +1,17 @@
 // What is one domain's own.
-ghost use Rattle.std.specs.Prelude.{◌≡◌, ◌<◌, [], map};
+ghost use Rattle.std.specs.Prelude.{◌≡◌, ◌<◌, ◌^◌, [], map};
+ghost use Rattle.std.specs.List.{All};
 ghost use Rattle.image_text.specs.Reads.{raw_model};
 ghost use Rattle.image_text.specs.Models.{domain_model, segment_model as text_segment_model};
+ghost use Rattle.hardware_check.specs.Hardware.{natural_of as spec_natural_of};
 ghost use Rattle.image_check.specs.Outcomes.{Makes};
 ghost use Rattle.image_check.specs.Checking.{broken};
 ghost use Rattle.image_check.specs.Own as spec;
 ghost use Rattle.image_check.specs.Models.{segment_model, own_model};
 
 use crate::CheckRefusal;
-use crate::public::MOST_FRAMES;
 use crate::segments::{bytes_in, has_execute};
+use hardware_check::natural_of;
 use image_text::{Raw, RawDomain, RawSegment};
 use std::alloc::Global;
 
@@ -36,15 +38,15 @@ pub struct Segment {
 #[derive(Drop)]
 pub struct Own {
     pub name: String,
+    /// The colours of its frames.
+    pub colours: Vec<u8>,
     /// The address at which it begins.
     pub entry: u32,
-    /// Its page tables and its pages stand in frames from here on.
-    pub first_frame: u32,
     pub segments: Vec<Segment>,
 }
 
 fn rights_of(text: &str) -> Rights
-    ensures { result ≡ spec.rights_of text.now }
+    ensures value { result ≡ spec.rights_of text.now }
 {
     Rights {
         read: text == "r" || (text == "rw" || (text == "rx" || text == "rwx")),
@@ -55,7 +57,7 @@ fn rights_of(text: &str) -> Rights
 
 #[tactic(auto, unfolding(crate::specs::Own::segment_of))]
 fn segment_of(alloc: Global, segment: &RawSegment) -> Result<Segment, CheckRefusal>
-    ensures { Makes segment_model result (spec.segment_of (text_segment_model segment.now)) }
+    ensures value { Makes segment_model result (spec.segment_of (text_segment_model segment.now)) }
 {
     let bytes = bytes_in(alloc, segment.hex.as_str())?;
     Ok(Segment {
@@ -67,7 +69,7 @@ fn segment_of(alloc: Global, segment: &RawSegment) -> Result<Segment, CheckRefus
 }
 
 fn segments_of(alloc: Global, texts: &[RawSegment]) -> Result<Vec<Segment>, CheckRefusal>
-    ensures { Makes (λ v. map segment_model v.items) result
+    ensures value { Makes (λ v. map segment_model v.items) result
         (map spec.segment_of (map text_segment_model texts.now)) }
 {
     let mut segments = Vec::new(alloc);
@@ -77,30 +79,59 @@ fn segments_of(alloc: Global, texts: &[RawSegment]) -> Result<Vec<Segment>, Chec
     Ok(segments)
 }
 
+/// Numbers below 256, in bytes.
+///
+/// # Errors
+///
+/// `Memory` alone.
+pub fn bytes_of(alloc: Global, numbers: &[i64]) -> Result<Vec<u8>, CheckRefusal>
+    requires small { All (λ x. spec_natural_of x < 2 ^ 8) numbers.now }
+    ensures value { Makes (λ v. v.items) result (map spec_natural_of numbers.now) }
+{
+    let mut bytes = Vec::new(alloc);
+    for number in numbers {
+        bytes.push(natural_of(*number) as u8)?;
+    }
+    Ok(bytes)
+}
+
 #[tactic(auto, unfolding(crate::specs::Own::own_from))]
-fn own_from(alloc: Global, d: usize, domain: &RawDomain) -> Result<Own, CheckRefusal>
-    requires few { d < 16 }
-    ensures { Makes own_model result (spec.own_from d (domain_model domain.now)) }
+fn own_from(alloc: Global, domain: &RawDomain) -> Result<Own, CheckRefusal>
+    requires small { spec.IsSmallDomain (domain_model domain.now) }
+    ensures value { Makes own_model result (spec.own_from (domain_model domain.now)) }
 {
     let name = String::from_str(alloc, domain.name.as_str())?;
+    let colours = bytes_of(alloc, domain.colours.as_slice())?;
     let segments = segments_of(alloc, domain.segments.as_slice())?;
     Ok(Own {
         name,
+        colours,
         entry: domain.entry,
-        first_frame: MOST_FRAMES * d as u32,
         segments,
     })
 }
 
-/// What is each domain's own, of an image that breaks no rule.
-#[tactic(auto, unfolding(crate::specs::Own::owns_of, crate::specs::Own::owns_from), using(crate::proofs::Entries::few_raw_domains))]
-pub fn owns_of(alloc: Global, raw: &Raw) -> Result<Vec<Own>, CheckRefusal>
-    requires accepted { broken (raw_model raw.now) ≡ [] }
-    ensures { Makes (λ v. map own_model v.items) result (spec.owns_of (raw_model raw.now)) }
+fn owns_in(alloc: Global, domains: &[RawDomain]) -> Result<Vec<Own>, CheckRefusal>
+    requires small { All (λ o. spec.IsSmallDomain (domain_model o)) domains.now }
+    ensures value { Makes (λ v. map own_model v.items) result
+        (map spec.own_from (map domain_model domains.now)) }
 {
     let mut owns = Vec::new(alloc);
-    for (d, domain) in raw.domains.as_slice().iter().enumerate() {
-        owns.push(own_from(alloc, d, domain)?)?;
+    for domain in domains {
+        owns.push(own_from(alloc, domain)?)?;
     }
     Ok(owns)
+}
+
+/// What is each domain's own, of an image that breaks no rule.
+///
+/// # Errors
+///
+/// `Memory` alone.
+#[tactic(auto, unfolding(crate::specs::Own::owns_of))]
+pub fn owns_of(alloc: Global, raw: &Raw) -> Result<Vec<Own>, CheckRefusal>
+    requires accepted { broken (raw_model raw.now) ≡ [] }
+    ensures value { Makes (λ v. map own_model v.items) result (spec.owns_of (raw_model raw.now)) }
+{
+    owns_in(alloc, raw.domains.as_slice())
 }

@@ -9,21 +9,9 @@ ghost use Rattle.image_check.specs.Public as spec;
 ghost use Rattle.image_check.specs.Models.{entry_model, public_model};
 
 use crate::CheckRefusal;
+use hardware_check::{Hardware, hardware_of, natural_of};
 use image_text::{Raw, RawEntry};
 use std::alloc::Global;
-
-/// The most frames of a domain: a root, two tables for each of 16 segments, and
-/// 64 pages for each.
-pub const MOST_FRAMES: u32 = 1057;
-
-/// What all domains share of the machine.
-#[derive(Clone, Copy, Debug, PartialEq, Eq)]
-pub struct Hardware {
-    /// Frames of 4,096 bytes.
-    pub frames: u32,
-    /// Cycles of an instruction, before what it touches.
-    pub base: u32,
-}
 
 /// A slot of a domain, and the pad of the switch that ends it, in cycles.
 #[derive(Clone, Copy, Debug, PartialEq, Eq)]
@@ -42,17 +30,10 @@ pub struct Public {
     pub domains: u32,
 }
 
-/// A number that isn't negative, else 0.
-fn natural_of(number: i64) -> u64
-    ensures { result ≡ spec.natural_of number }
-{
-    u64::try_from(number).unwrap_or(0)
-}
-
 #[tactic(auto, unfolding(crate::specs::Public::entry_of))]
 fn entry_of(entry: &RawEntry) -> Entry
     requires small { spec.IsSmall (spec.entry_of (text_entry_model entry.now)) }
-    ensures { entry_model result ≡ spec.entry_of (text_entry_model entry.now) }
+    ensures value { entry_model result ≡ spec.entry_of (text_entry_model entry.now) }
 {
     Entry {
         domain: natural_of(entry.domain) as u8,
@@ -63,7 +44,7 @@ fn entry_of(entry: &RawEntry) -> Entry
 
 fn schedule_of(alloc: Global, entries: &[RawEntry]) -> Result<Vec<Entry>, CheckRefusal>
     requires small { All (λ e. spec.IsSmall (spec.entry_of (text_entry_model e))) entries.now }
-    ensures { Makes (λ v. map entry_model v.items) result
+    ensures value { Makes (λ v. map entry_model v.items) result
         (map spec.entry_of (map text_entry_model entries.now)) }
 {
     let mut schedule = Vec::new(alloc);
@@ -74,19 +55,19 @@ fn schedule_of(alloc: Global, entries: &[RawEntry]) -> Result<Vec<Entry>, CheckR
 }
 
 /// What all domains may know of an image that breaks no rule.
-#[tactic(auto, unfolding(crate::specs::Public::public_of, crate::specs::Public::hardware_of), using(crate::proofs::Entries::few_raw_domains, crate::proofs::Entries::small_entries))]
+///
+/// # Errors
+///
+/// `Memory` alone.
+#[tactic(auto, unfolding(crate::specs::Public::public_of), using(crate::proofs::Entries::few_raw_domains, crate::proofs::Entries::small_entries))]
 pub fn public_of(alloc: Global, raw: &Raw) -> Result<Public, CheckRefusal>
     requires accepted { broken (raw_model raw.now) ≡ [] }
-    ensures { Makes public_model result (spec.public_of (raw_model raw.now)) }
+    ensures value { Makes public_model result (spec.public_of (raw_model raw.now)) }
 {
     let schedule = schedule_of(alloc, raw.schedule.as_slice())?;
     let domains = raw.domains.len() as u32;
-    let hardware = Hardware {
-        frames: MOST_FRAMES * domains,
-        base: 1,
-    };
     Ok(Public {
-        hardware,
+        hardware: hardware_of(raw),
         schedule,
         domains,
     })

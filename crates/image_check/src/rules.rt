@@ -1,70 +1,22 @@
-// The rules of numbers, names and the schedule, each with its first broken case.
+// The rules of names and of the schedule, each with its first broken case.
 ghost use Rattle.std.specs.Prelude.{◌≡◌, ◌≤◌, ◌<◌, ◌^◌, map, length, IfSome, IfNone};
 ghost use Rattle.std.specs.List.{list_all};
 ghost use Rattle.image_text.specs.Reads.{raw_model};
 ghost use Rattle.image_text.specs.Models.{domain_model, entry_model};
-ghost use Rattle.image_check.specs.Cases as cases;
+ghost use Rattle.hardware_check.specs.Cases as cases;
 ghost use Rattle.image_check.specs.Rules as spec;
 
+use hardware_check::cases::{count_case, outside, refusal};
 use image_text::{Raw, RawDomain, RawEntry, Refusal};
 
-fn refusal(rule: u8, at: i64, found: i64, wanted: i64) -> Refusal
-    ensures { result ≡ cases.refusal rule at found wanted }
-{
-    Refusal {
-        rule,
-        at,
-        found,
-        wanted,
-    }
-}
-
-fn outside(low: i64, high: i64, number: i64) -> bool
-    ensures { result ≡ cases.outside low high number }
-{
-    number < low || high < number
-}
-
-fn range_case(rule: u8, at: i64, low: u32, high: u32, number: i64) -> Option<Refusal>
-    ensures { result ≡ cases.range_case rule at low high number }
-{
-    if number < i64::from(low) {
-        return Some(refusal(rule, at, number, i64::from(low)));
-    }
-    if i64::from(high) < number {
-        return Some(refusal(rule, at, number, i64::from(high)));
-    }
-    None
-}
-
-/// How many there are, where they are not 1 to `most`.
-fn count_case(rule: u8, at: u32, wanted: u32, most: usize, many: usize) -> Option<Refusal>
-    requires small { many < 2 ^ 63 }
-    ensures value { result ≡ cases.count_case rule at wanted most many }
-    ensures few { IfNone result (many ≤ most) }
-{
-    if many == 0 || most < many {
-        return Some(refusal(rule, i64::from(at), many as i64, i64::from(wanted)));
-    }
-    None
-}
-
-/// K4: 64 to 4,096 frames.
-#[tactic(auto, unfolding(crate::specs::Rules::k4))]
-pub fn k4(raw: &Raw) -> Option<Refusal>
-    ensures { result ≡ spec.k4 (raw_model raw.now) }
-{
-    range_case(4, 0, 64, 4096, raw.frames)
-}
-
 fn has_name_bytes(text: &[u8]) -> bool
-    ensures { result ≡ list_all spec.is_name_byte text.now }
+    ensures value { result ≡ list_all spec.is_name_byte text.now }
 {
     text.iter().all(|&c| matches!(c, b'a'..=b'z' | b'0'..=b'9'))
 }
 
 fn is_name(text: &str) -> bool
-    ensures { result ≡ spec.is_name text.now }
+    ensures value { result ≡ spec.is_name text.now }
 {
     if text.is_empty() || text.len() > 16 {
         return false;
@@ -89,7 +41,7 @@ fn named_so(name: &str, domains: &[RawDomain]) -> Option<usize>
 #[tactic(auto, unfolding(crate::specs::Rules::k7_domain))]
 fn k7_domain(earlier: &[RawDomain], domain: &RawDomain) -> Option<Refusal>
     requires few { length earlier.now ≤ 16 }
-    ensures { result ≡ spec.k7_domain (map domain_model earlier.now) (domain_model domain.now) }
+    ensures value { result ≡ spec.k7_domain (map domain_model earlier.now) (domain_model domain.now) }
 {
     let d = earlier.len() as i64;
     let name = domain.name.as_str();
@@ -104,7 +56,7 @@ fn k7_domain(earlier: &[RawDomain], domain: &RawDomain) -> Option<Refusal>
 
 fn k7_domains(domains: &[RawDomain]) -> Option<Refusal>
     requires few { length domains.now ≤ 16 }
-    ensures { result ≡ cases.first_in spec.k7_domain (map domain_model domains.now) }
+    ensures value { result ≡ cases.first_in spec.k7_domain (map domain_model domains.now) }
 {
     for (d, domain) in domains.iter().enumerate() {
         if let Some(refusal) = k7_domain(&domains[..d], domain) {
@@ -117,7 +69,7 @@ fn k7_domains(domains: &[RawDomain]) -> Option<Refusal>
 /// K7: 1 to 16 domains, each of a name of its own.
 #[tactic(auto, unfolding(crate::specs::Rules::k7))]
 pub fn k7(raw: &Raw) -> Option<Refusal>
-    ensures { result ≡ spec.k7 (raw_model raw.now) }
+    ensures value { result ≡ spec.k7 (raw_model raw.now) }
 {
     let domains = raw.domains.as_slice();
     if let Some(refusal) = count_case(7, 16, 16, 16, domains.len()) {
@@ -128,7 +80,7 @@ pub fn k7(raw: &Raw) -> Option<Refusal>
 
 fn is_number(many: usize, number: i64) -> bool
     requires small { many < 2 ^ 63 }
-    ensures { result ≡ spec.is_number many number }
+    ensures value { result ≡ spec.is_number many number }
 {
     0 <= number && number < many as i64
 }
@@ -137,7 +89,7 @@ fn is_number(many: usize, number: i64) -> bool
 fn k16_case(domains: usize, place: usize, entry: &RawEntry) -> Option<Refusal>
     requires domains { domains < 2 ^ 63 }
     requires place { place < 2 ^ 63 }
-    ensures { result ≡ spec.k16_case domains place (entry_model entry.now) }
+    ensures value { result ≡ spec.k16_case domains place (entry_model entry.now) }
 {
     if !is_number(domains, entry.domain) {
         return Some(refusal(16, place as i64, entry.domain, 2));
@@ -153,7 +105,7 @@ fn k16_case(domains: usize, place: usize, entry: &RawEntry) -> Option<Refusal>
 
 fn k16_entries(domains: usize, entries: &[RawEntry]) -> Option<Refusal>
     requires domains { domains < 2 ^ 63 }
-    ensures { result ≡ cases.first_in (spec.k16_entry domains) (map entry_model entries.now) }
+    ensures value { result ≡ cases.first_in (spec.k16_entry domains) (map entry_model entries.now) }
 {
     for (place, entry) in entries.iter().enumerate() {
         if let Some(refusal) = k16_case(domains, place, entry) {
@@ -166,7 +118,7 @@ fn k16_entries(domains: usize, entries: &[RawEntry]) -> Option<Refusal>
 /// K16: 1 to 64 entries, each of a domain that is there, a length and a pad.
 #[tactic(auto, unfolding(crate::specs::Rules::k16))]
 pub fn k16(raw: &Raw) -> Option<Refusal>
-    ensures { result ≡ spec.k16 (raw_model raw.now) }
+    ensures value { result ≡ spec.k16 (raw_model raw.now) }
 {
     let entries = raw.schedule.as_slice();
     if let Some(refusal) = count_case(16, 0, 1, 64, entries.len()) {

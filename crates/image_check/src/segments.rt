@@ -4,7 +4,7 @@ ghost use Rattle.std.specs.List.{list_any};
 ghost use Rattle.image_text.specs.Reads.{raw_model};
 ghost use Rattle.image_text.specs.Models.{domain_model, segment_model};
 ghost use Rattle.image_check.specs.Outcomes.{Makes};
-ghost use Rattle.image_check.specs.Cases.{first_in};
+ghost use Rattle.hardware_check.specs.Cases.{first_in};
 ghost use Rattle.image_check.specs.Segments as spec;
 
 use crate::CheckRefusal;
@@ -18,7 +18,7 @@ const ALL_PAGES: u32 = 1_048_576;
 fn broken(d: usize, found: usize, case: u8) -> Refusal
     requires domain { d < 2 ^ 63 }
     requires found { found < 2 ^ 63 }
-    ensures { Some result ≡ spec.broken d found case }
+    ensures value { Some result ≡ spec.broken d found case }
 {
     Refusal {
         rule: 12,
@@ -30,32 +30,32 @@ fn broken(d: usize, found: usize, case: u8) -> Refusal
 
 /// The rights to execute, and perhaps others.
 pub fn has_execute(rights: &str) -> bool
-    ensures { result ≡ spec.has_execute rights.now }
+    ensures value { result ≡ spec.has_execute rights.now }
 {
     rights == "x" || (rights == "rx" || rights == "rwx")
 }
 
 fn is_rights(rights: &str) -> bool
-    ensures { result ≡ spec.is_rights rights.now }
+    ensures value { result ≡ spec.is_rights rights.now }
 {
     rights == "r" || (rights == "rw" || has_execute(rights))
 }
 
 fn has_page(segment: &RawSegment, page: u32) -> bool
-    ensures { result ≡ spec.has_page (segment_model segment.now) page }
+    ensures value { result ≡ spec.has_page (segment_model segment.now) page }
 {
     segment.page <= page && u64::from(page) < u64::from(segment.page) + u64::from(segment.pages)
 }
 
 fn share_page(segment: &RawSegment, earlier: &RawSegment) -> bool
-    ensures { result ≡ spec.share_page (segment_model segment.now) (segment_model earlier.now) }
+    ensures value { result ≡ spec.share_page (segment_model segment.now) (segment_model earlier.now) }
 {
     u64::from(earlier.page) < u64::from(segment.page) + u64::from(segment.pages)
         && u64::from(segment.page) < u64::from(earlier.page) + u64::from(earlier.pages)
 }
 
 fn shares_any(segment: &RawSegment, earlier: &[RawSegment]) -> bool
-    ensures { result ≡ list_any (spec.share_page (segment_model segment.now))
+    ensures value { result ≡ list_any (spec.share_page (segment_model segment.now))
         (map segment_model earlier.now) }
 {
     for other in earlier {
@@ -72,7 +72,7 @@ fn shares_any(segment: &RawSegment, earlier: &[RawSegment]) -> bool
 ///
 /// `Memory` alone.
 pub fn bytes_in(alloc: Global, hex: &str) -> Result<Option<Vec<u8>>, CheckRefusal>
-    ensures { Makes (option_map (λ v. v.items)) result (spec.bytes_in hex.now) }
+    ensures value { Makes (option_map (λ v. v.items)) result (spec.bytes_in hex.now) }
 {
     match hex::decode(alloc, hex) {
         Ok(bytes) => Ok(Some(bytes)),
@@ -90,7 +90,7 @@ fn bytes_case(
 ) -> Option<Refusal>
     requires domain { d < 2 ^ 63 }
     requires place { length earlier.now < 2 ^ 63 }
-    ensures { result ≡ spec.bytes_case d (map segment_model earlier.now)
+    ensures value { result ≡ spec.bytes_case d (map segment_model earlier.now)
         (segment_model segment.now) (Some bytes.now) }
 {
     if segment.pages as usize * 4096 < bytes.len() {
@@ -111,7 +111,7 @@ fn segment_case(
 ) -> Result<Option<Refusal>, CheckRefusal>
     requires domain { d < 2 ^ 63 }
     requires place { length earlier.now < 2 ^ 63 }
-    ensures { Makes (λ o. o) result
+    ensures value { Makes (λ o. o) result
         (spec.segment_case d (map segment_model earlier.now) (segment_model segment.now)) }
 {
     if u64::from(ALL_PAGES) < u64::from(segment.page) + u64::from(segment.pages) {
@@ -132,7 +132,7 @@ fn segments_case(
     segments: &[RawSegment],
 ) -> Result<Option<Refusal>, CheckRefusal>
     requires domain { d < 2 ^ 63 }
-    ensures { Makes (λ o. o) result (first_in (spec.segment_case d) (map segment_model segments.now)) }
+    ensures value { Makes (λ o. o) result (first_in (spec.segment_case d) (map segment_model segments.now)) }
 {
     for (place, segment) in segments.iter().enumerate() {
         if let Some(refusal) = segment_case(alloc, d, &segments[..place], segment)? {
@@ -143,13 +143,13 @@ fn segments_case(
 }
 
 fn executes(page: u32, segment: &RawSegment) -> bool
-    ensures { result ≡ spec.executes page (segment_model segment.now) }
+    ensures value { result ≡ spec.executes page (segment_model segment.now) }
 {
     has_execute(segment.rights.as_str()) && has_page(segment, page)
 }
 
 fn any_executes(page: u32, segments: &[RawSegment]) -> bool
-    ensures { result ≡ list_any (spec.executes page) (map segment_model segments.now) }
+    ensures value { result ≡ list_any (spec.executes page) (map segment_model segments.now) }
 {
     for segment in segments {
         if executes(page, segment) {
@@ -162,7 +162,7 @@ fn any_executes(page: u32, segments: &[RawSegment]) -> bool
 #[tactic(auto, unfolding(crate::specs::Segments::entry_case))]
 fn entry_case(d: usize, domain: &RawDomain) -> Option<Refusal>
     requires domain { d < 2 ^ 63 }
-    ensures { result ≡ spec.entry_case d (domain_model domain.now) }
+    ensures value { result ≡ spec.entry_case d (domain_model domain.now) }
 {
     if domain.entry % 4 == 0 && any_executes(domain.entry / 4096, domain.segments.as_slice()) {
         None
@@ -178,7 +178,7 @@ fn k12_domain(
     domain: &RawDomain,
 ) -> Result<Option<Refusal>, CheckRefusal>
     requires domain { length earlier.now < 2 ^ 63 }
-    ensures { Makes (λ o. o) result
+    ensures value { Makes (λ o. o) result
         (spec.k12_domain (map domain_model earlier.now) (domain_model domain.now)) }
 {
     if let Some(refusal) = segments_case(alloc, earlier.len(), domain.segments.as_slice())? {
@@ -194,7 +194,7 @@ fn k12_domain(
 /// `Memory` alone.
 #[tactic(auto, unfolding(crate::specs::Segments::k12))]
 pub fn k12(alloc: Global, raw: &Raw) -> Result<Option<Refusal>, CheckRefusal>
-    ensures { Makes (λ o. o) result (spec.k12 (raw_model raw.now)) }
+    ensures value { Makes (λ o. o) result (spec.k12 (raw_model raw.now)) }
 {
     let domains = raw.domains.as_slice();
     for (d, domain) in domains.iter().enumerate() {

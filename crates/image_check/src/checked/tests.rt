@@ -1,9 +1,10 @@
 // Rows: an image with one place changed, and the first rule that it breaks; and
 // an image that is accepted, with what it says.
 use super::{Checked, check};
-use crate::CheckRefusal;
 use crate::own::{Own, Rights};
-use crate::public::{Entry, Hardware};
+use crate::public::Entry;
+use crate::{CacheShape, CheckRefusal, Hardware, Policy};
+use cycle_cost::Costs;
 use image_text::{Refusal, read_image};
 use std::alloc::Global;
 use std::process::Abort;
@@ -63,7 +64,139 @@ const BLUE_CODE: &str = r#"{ page = 16, pages = 1, rights = "rx", hex = "6f00000
 /// the place, what is found, and what is wanted. Rule 0: none is broken.
 type Row = (&'static str, &'static str, usize, (u8, i64, i64, i64));
 
-const ROWS: [Row; 42] = [
+/// From red's colours to blue's.
+const TWO_LISTS: &str = r#"[1]
+entry = 0x10000
+segment = [{ page = 16, pages = 1, rights = "rx", hex = "1300FF" }]
+[[domain]]
+name = "blue"
+colours = [2]"#;
+
+/// Of 32 colours, with two frames each: the shared region's third frame would
+/// be frame 64.
+const NARROW: &str = r#"frames = 64
+shared = 8256
+line = 64
+l1i = { sets = 16, ways = 2, policy = "lru" }
+l1d = { sets = 16, ways = 2, policy = "lru" }
+l2 = { sets = 2048, ways = 4, policy = "lru" }
+tlb = { sets = 4, ways = 2, policy = "lru" }
+predictor = 16
+costs = { base = 1, l1 = 1, l2 = 8, mem = 40, wb = 10, tlb = 1, mispredict = 3, trap = 10, flush = 20 }
+[[domain]]
+name = "red"
+colours = [1, 2, 3, 31]
+entry = 0x10000
+segment = [{ page = 16, pages = 1, rights = "rx", hex = "" }]
+[[schedule]]
+domain = 0
+length = 10000
+pad = 6150
+"#;
+
+const ROWS: [Row; 109] = [
+    // K3: the line, which decides the colours, too
+    ("line = 64", "line = 48", 1, (3, 1, 48, 1)),
+    ("line = 64", "line = 8", 1, (3, 1, 8, 1)),
+    ("line = 64", "line = 256", 1, (3, 1, 256, 1)),
+    ("line = 64", "line = -64", 1, (3, 1, -64, 1)),
+    ("line = 64", "line = 16", 1, (5, 0, 1, 2)),
+    ("line = 64", "line = 128", 1, (10, 1, 8, 10)),
+    // K3: caches, buffer, predictor
+    ("l1i = { sets = 16", "l1i = { sets = 0", 1, (3, 2, 0, 1)),
+    ("l1i = { sets = 16", "l1i = { sets = 1024", 1, (0, 0, 0, 0)),
+    (
+        "l1i = { sets = 16",
+        "l1i = { sets = 2048",
+        1,
+        (3, 2, 2048, 1),
+    ),
+    (
+        "l1i = { sets = 16, ways = 2, policy = \"lru\"",
+        "l1i = { sets = 3, ways = 0, policy = \"rlu\"",
+        1,
+        (3, 2, 3, 1),
+    ),
+    (
+        "l1i = { sets = 16, ways = 2, policy = \"lru\"",
+        "l1i = { sets = 1, ways = 0, policy = \"rlu\"",
+        1,
+        (3, 2, 0, 2),
+    ),
+    (
+        "l1d = { sets = 16, ways = 2",
+        "l1d = { sets = 1, ways = 16",
+        1,
+        (0, 0, 0, 0),
+    ),
+    (
+        "l1d = { sets = 16, ways = 2",
+        "l1d = { sets = 16, ways = 17",
+        1,
+        (3, 3, 17, 2),
+    ),
+    (
+        "l1d = { sets = 16",
+        "l1d = { sets = 2048",
+        1,
+        (3, 3, 2048, 1),
+    ),
+    (
+        "l2 = { sets = 256",
+        "l2 = { sets = 4611686018427387904",
+        1,
+        (3, 4, 4_611_686_018_427_387_904, 1),
+    ),
+    (
+        "l2 = { sets = 256",
+        "l2 = { sets = 32768",
+        1,
+        (3, 4, 32768, 1),
+    ),
+    (
+        "l2 = { sets = 256, ways = 4, policy = \"lru\"",
+        "l2 = { sets = 256, ways = 4, policy = \"LRU\"",
+        1,
+        (3, 4, 4, 3),
+    ),
+    (
+        "l2 = { sets = 256, ways = 4, policy = \"lru\"",
+        "l2 = { sets = 256, ways = 3, policy = \"fifo\"",
+        1,
+        (0, 0, 0, 0),
+    ),
+    (
+        "tlb = { sets = 4, ways = 2, policy = \"lru\"",
+        "tlb = { sets = 512, ways = 3, policy = \"plru\"",
+        1,
+        (3, 5, 512, 1),
+    ),
+    (
+        "tlb = { sets = 4, ways = 2, policy = \"lru\"",
+        "tlb = { sets = 256, ways = 3, policy = \"plru\"",
+        1,
+        (3, 5, 3, 4),
+    ),
+    (
+        "tlb = { sets = 4, ways = 2, policy = \"lru\"",
+        "tlb = { sets = 256, ways = 16, policy = \"plru\"",
+        1,
+        (0, 0, 0, 0),
+    ),
+    ("predictor = 16", "predictor = 4096", 1, (0, 0, 0, 0)),
+    ("predictor = 16", "predictor = 8192", 1, (3, 6, 8192, 1)),
+    (
+        "predictor = 16",
+        "predictor = -9223372036854775808",
+        1,
+        (3, 6, i64::MIN, 1),
+    ),
+    (
+        "frames = 64\nshared = 512\nline = 64",
+        "frames = 63\nshared = 0\nline = 48",
+        1,
+        (3, 1, 48, 1),
+    ),
     // K4
     ("frames = 64", "frames = 63", 1, (4, 0, 63, 64)),
     ("frames = 64", "frames = 4096", 1, (0, 0, 0, 0)),
@@ -75,6 +208,43 @@ const ROWS: [Row; 42] = [
         1,
         (4, 0, i64::MAX, 4096),
     ),
+    // K5
+    ("l2 = { sets = 256", "l2 = { sets = 64", 1, (5, 0, 1, 2)),
+    ("l2 = { sets = 256", "l2 = { sets = 128", 1, (8, 1, 2, 2)),
+    ("l2 = { sets = 256", "l2 = { sets = 4096", 1, (10, 0, 1, 7)),
+    (
+        "l2 = { sets = 256",
+        "l2 = { sets = 8192",
+        1,
+        (5, 0, 128, 64),
+    ),
+    (
+        "l2 = { sets = 256",
+        "l2 = { sets = 16384",
+        1,
+        (5, 0, 256, 64),
+    ),
+    // K6: one place after the other
+    ("base = 1", "base = 0", 1, (6, 1, 0, 1)),
+    ("l1 = 1,", "l1 = 1001,", 1, (6, 2, 1001, 1000)),
+    ("l2 = 8,", "l2 = -8,", 1, (6, 3, -8, 1)),
+    (
+        "mem = 40",
+        "mem = 9223372036854775807",
+        1,
+        (6, 4, i64::MAX, 1000),
+    ),
+    ("wb = 10", "wb = 0", 1, (6, 5, 0, 1)),
+    ("tlb = 1,", "tlb = 1001,", 1, (6, 6, 1001, 1000)),
+    ("mispredict = 3", "mispredict = 0", 1, (6, 7, 0, 1)),
+    (
+        "trap = 10",
+        "trap = -9223372036854775808",
+        1,
+        (6, 8, i64::MIN, 1),
+    ),
+    ("flush = 20", "flush = 1001", 1, (6, 9, 1001, 1000)),
+    ("flush = 20", "flush = 1000", 1, (0, 0, 0, 0)),
     // K7
     (BLUE, ANOTHER, 16, (7, 16, 17, 16)),
     (BLUE, ANOTHER, 15, (7, 2, 1, 0)),
@@ -84,6 +254,87 @@ const ROWS: [Row; 42] = [
     ("\"blue\"", "\"z9\"", 1, (0, 0, 0, 0)),
     ("\"blue\"", "\"Red\"", 1, (7, 1, 3, 16)),
     ("\"blue\"", "\"red\"", 1, (7, 1, 0, 0)),
+    // K8
+    ("colours = [2]", "colours = [0]", 1, (8, 1, 0, 4)),
+    ("colours = [2]", "colours = [3, 2]", 1, (0, 0, 0, 0)),
+    ("colours = [2]", "colours = [2, 4]", 1, (8, 1, 4, 4)),
+    ("colours = [2]", "colours = [2, 3, 2]", 1, (8, 1, 2, 4)),
+    ("colours = [2]", "colours = [-2]", 1, (8, 1, -2, 4)),
+    (
+        "colours = [2]",
+        "colours = [9223372036854775807]",
+        1,
+        (8, 1, i64::MAX, 4),
+    ),
+    // K9; a colour of the kernel in the same list comes first
+    ("colours = [1]", "colours = [2]", 1, (9, 1, 2, 0)),
+    ("colours = [2]", "colours = [3, 1, 2]", 1, (9, 1, 1, 0)),
+    (
+        TWO_LISTS,
+        "[2]\nentry = 0x10000\nsegment = [{ page = 16, pages = 1, rights = \"rx\", hex = \"1300FF\" }]\n[[domain]]\nname = \"blue\"\ncolours = [2, 0]",
+        1,
+        (8, 1, 0, 4),
+    ),
+    // K10: pages, regions of pages, and a region past the last page
+    (
+        "page = 16, pages = 1,",
+        "page = 16, pages = 12,",
+        1,
+        (10, 0, 16, 18),
+    ),
+    (
+        "page = 16, pages = 1,",
+        "page = 16, pages = 11,",
+        1,
+        (10, 0, 16, 17),
+    ),
+    (
+        "page = 16, pages = 1,",
+        "page = 16, pages = 10,",
+        1,
+        (0, 0, 0, 0),
+    ),
+    (
+        "page = 16, pages = 1,",
+        "page = 1020, pages = 10,",
+        1,
+        (10, 0, 16, 17),
+    ),
+    (
+        "page = 16, pages = 1,",
+        "page = 1020, pages = 9,",
+        1,
+        (12, 0, 65536, 6),
+    ),
+    (
+        "page = 16, pages = 1,",
+        "page = 1048575, pages = 10,",
+        1,
+        (10, 0, 16, 17),
+    ),
+    (
+        "page = 16, pages = 1,",
+        "page = 1048575, pages = 9,",
+        1,
+        (12, 0, 0, 1),
+    ),
+    ("colours = [2]", "colours = []", 1, (10, 1, 0, 10)),
+    // K11
+    ("shared = 512", "shared = 20480", 1, (11, 2, 5, 4)),
+    ("shared = 512", "shared = 16384", 1, (0, 0, 0, 0)),
+    ("shared = 512", "shared = 64", 1, (0, 0, 0, 0)),
+    ("shared = 512", "shared = 500", 1, (11, 1, 500, 65536)),
+    ("shared = 512", "shared = 0", 1, (11, 1, 0, 65536)),
+    ("shared = 512", "shared = -512", 1, (11, 1, -512, 65536)),
+    ("shared = 512", "shared = 65536", 1, (11, 2, 16, 4)),
+    ("shared = 512", "shared = 65600", 1, (11, 1, 65600, 65536)),
+    (
+        "shared = 512",
+        "shared = 9223372036854775807",
+        1,
+        (11, 1, i64::MAX, 65536),
+    ),
+    (IMAGE, NARROW, 1, (11, 3, 64, 64)),
     // K12, cases 1 to 5
     (
         BLUE_CODE,
@@ -225,11 +476,11 @@ fn is_blue(rt: &impl Abort, own: &Own) {
     assert_eq!(rt;
         (
             own.name.as_str(),
+            own.colours.as_slice(),
             own.entry,
-            own.first_frame,
             own.segments.len()
         ),
-        ("blue", 65540, 1057, 2)
+        ("blue", [2].as_slice(), 65540, 2)
     );
     for (segment, (page, pages, write)) in own
         .segments
@@ -253,16 +504,50 @@ fn is_blue(rt: &impl Abort, own: &Own) {
     assert_eq!(rt; own.segments[1].bytes.as_slice(), [].as_slice());
 }
 
+fn shape(sets: u32, ways: u32) -> CacheShape {
+    CacheShape {
+        sets,
+        ways,
+        policy: Policy::Lru,
+    }
+}
+
+fn hardware() -> Hardware {
+    Hardware {
+        frames: 64,
+        base: 1,
+        shared: 512,
+        line: 64,
+        l1i: shape(16, 2),
+        l1d: shape(16, 2),
+        l2: CacheShape {
+            sets: 256,
+            ways: 4,
+            policy: Policy::Lru,
+        },
+        tlb: shape(4, 2),
+        predictor: 16,
+        costs: Costs {
+            base: 1,
+            l1: 1,
+            l2: 8,
+            mem: 40,
+            wb: 10,
+            tlb: 1,
+            mispredict: 3,
+            trap: 10,
+            flush: 20,
+        },
+    }
+}
+
 #[test]
 fn an_image_is_accepted(rt: HostRuntime) -> Result<(), CheckRefusal> {
     let checked = checked(rt.alloc(), IMAGE)?;
     checked.runnable();
 
     let public = checked.public();
-    let hardware = Hardware {
-        frames: 2114,
-        base: 1,
-    };
+    let hardware = hardware();
     let last = Entry {
         domain: 1,
         length: 1000,

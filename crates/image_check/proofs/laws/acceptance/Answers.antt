@@ -2,4 +2,4 @@ use Rattle.image_check.proofs.Kept.{acceptance_law}
 use Rattle.image_check.proofs.laws.acceptance.Goals as goal
 
 pub returns : goal.returns
-returns c = acceptance_law
+returns c = record { acceptance = acceptance_law }

@@ -1,6 +1,6 @@
 use Rattle.std.proofs.Common.{◌≡◌, take, drop, map}
 use Rattle.image_text.specs.Models.{segment_model}
-use Rattle.image_check.specs.Cases.{first_case, first_in}
+use Rattle.hardware_check.specs.Cases.{first_case, first_in}
 use Rattle.image_check.specs.Segments as spec
 use Rattle.image_check.proofs.segments.segments_case.Given as goal
 

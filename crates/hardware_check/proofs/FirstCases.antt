@@ -2,7 +2,7 @@
 use Rattle.std.proofs.Common.{◌≡◌, ℕ, zero, suc, ◌<◌, Bool, true, false, List, [], ◌∷◌, ◌++◌, length, take, get_or, Option, Some, None, refl, sym, subst, arith}
 use Rattle.std.specs.Prelude.{if◌then◌else◌}
 use Rattle.std.proofs.lemmas.List.{append_assoc, append-nil}
-use Rattle.image_check.specs.Cases.{or_else, first_case, first_in}
+use Rattle.hardware_check.specs.Cases.{or_else, first_case, first_in}
 
 pub or_first : {A : Type 0} (o rest : Option A) → or_else o rest ≡ None → o ≡ None
 or_first (Some x) rest n = n

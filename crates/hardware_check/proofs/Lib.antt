@@ -1,0 +1,3 @@
+pub mod FirstCases
+pub mod Parts
+pub mod Built

@@ -1,0 +1,118 @@
+-- The machine that an image says, in natural numbers.
+use Rattle.std.specs.Prelude.{◌≡◌, ℕ, ◌+◌, ◌-◌, ◌*◌, ◌/◌, ◌%◌, ◌^◌, ◌<◌, ◌≤◌, IsTrue, ℤ, pos, negsuc, if◌then◌else◌, List, codes}
+use Rattle.std.specs.Str.{bytes_eq}
+use Rattle.std.specs.Int.{is_power_of_two}
+use Rattle.cycle_cost.specs.Costs.{CostTable, AreCosts}
+use Rattle.image_text.specs.Record.{Raw, RawCache, RawCosts}
+use Rattle.hardware_check.specs.declared.hardware.Policy.{Policy}
+use Rattle.hardware_check.specs.declared.hardware.Policy.TheVariants.{Lru, Fifo, Plru}
+
+-- a cache, or the translation buffer
+pub record CacheShape : Type 0 where
+  pub sets : ℕ
+  pub ways : ℕ
+  pub policy : Policy
+
+pub record Hardware : Type 0 where
+  pub frames : ℕ  -- of 4,096 bytes
+  pub base : ℕ  -- cycles of an instruction, before what it touches
+  pub shared : ℕ  -- bytes of the kernel's shared region
+  pub line : ℕ  -- bytes
+  pub l1i : CacheShape
+  pub l1d : CacheShape
+  pub l2 : CacheShape
+  pub tlb : CacheShape
+  pub predictor : ℕ  -- counters
+  pub costs : CostTable
+
+-- the page colours: as many as frames fill the second level's sets
+abbrev pub colours_of : Hardware → ℕ
+colours_of h = h.l2.sets * h.line / 4096
+
+-- the frames of the shared region, one for each 4,096 bytes of it that are begun
+abbrev pub shared_frames : Hardware → ℕ
+shared_frames h = (h.shared + 4095) / 4096
+
+-- the last of them: they have colour 0, so each is as many frames after the one before as there are colours
+abbrev pub last_shared_frame : Hardware → ℕ
+last_shared_frame h = (shared_frames h - 1) * colours_of h
+
+-- ---- what an image says
+
+-- a number that isn't negative
+abbrev pub natural_of : ℤ → ℕ
+natural_of (pos n) = n
+natural_of (negsuc n) = 0
+
+-- a text that is no policy's name stands for least recently used
+abbrev pub policy_of : List ℕ → Policy
+policy_of s = if bytes_eq s (codes "fifo") then Fifo else if bytes_eq s (codes "plru") then Plru else Lru
+
+unfoldable pub shape_of : RawCache → CacheShape
+shape_of c = record { sets = natural_of c.sets; ways = natural_of c.ways; policy = policy_of c.policy }
+
+unfoldable pub costs_of : RawCosts → CostTable
+costs_of c = record {
+  base = natural_of c.base;
+  l1 = natural_of c.l1;
+  l2 = natural_of c.l2;
+  mem = natural_of c.mem;
+  wb = natural_of c.wb;
+  tlb = natural_of c.tlb;
+  mispredict = natural_of c.mispredict;
+  trap = natural_of c.trap;
+  flush = natural_of c.flush;
+}
+
+-- as yet an instruction takes one cycle, whatever the costs say
+unfoldable pub hardware_of : Raw → Hardware
+hardware_of i = record {
+  frames = natural_of i.frames;
+  base = 1;
+  shared = natural_of i.shared;
+  line = natural_of i.line;
+  l1i = shape_of i.l1i;
+  l1d = shape_of i.l1d;
+  l2 = shape_of i.l2;
+  tlb = shape_of i.tlb;
+  predictor = natural_of i.predictor;
+  costs = costs_of i.costs;
+}
+
+-- its numbers fit those of the code
+pub record IsSmallShape (c : CacheShape) : Type 0 where
+  pub sets : c.sets < 2 ^ 32
+  pub ways : c.ways < 2 ^ 32
+
+-- ---- what it is where no rule is broken
+
+-- a power of two of a range
+pub record IsSize (low high n : ℕ) : Type 0 where
+  pub least : low ≤ n
+  pub most : n ≤ high
+  pub power : IsTrue (is_power_of_two n)
+
+pub record IsCache (most_sets : ℕ) (c : CacheShape) : Type 0 where
+  pub sets : IsSize 1 most_sets c.sets
+  pub some_way : 0 < c.ways
+  pub few_ways : c.ways ≤ 16
+  pub tree : c.policy ≡ Plru → IsTrue (is_power_of_two c.ways)
+
+pub record IsHardware (h : Hardware) : Type 0 where
+  pub least_frames : 64 ≤ h.frames
+  pub most_frames : h.frames ≤ 4096
+  pub line : IsSize 16 128 h.line
+  pub l1i : IsCache 1024 h.l1i
+  pub l1d : IsCache 1024 h.l1d
+  pub l2 : IsCache 16384 h.l2
+  pub tlb : IsCache 256 h.tlb
+  pub predictor : IsSize 1 4096 h.predictor
+  pub costs : AreCosts h.costs
+  pub some_colours : 2 ≤ colours_of h
+  pub few_colours : colours_of h ≤ 64
+  pub whole_colours : colours_of h * 4096 ≡ h.l2.sets * h.line
+  pub some_shared : h.line ≤ h.shared
+  pub few_shared : h.shared ≤ 65536
+  pub whole_lines : h.shared % h.line ≡ 0
+  pub shared_in_ways : shared_frames h ≤ h.l2.ways  -- a way of colour 0's sets for each frame
+  pub shared_in_memory : last_shared_frame h < h.frames

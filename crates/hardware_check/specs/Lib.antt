@@ -1,0 +1,5 @@
+pub mod Cases
+pub mod Hardware
+pub mod Rules
+pub mod Models
+pub mod Laws

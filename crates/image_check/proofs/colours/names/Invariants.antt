@@ -1,0 +1,6 @@
+use Rattle.std.proofs.Common.{◌≡◌, drop}
+use Rattle.image_check.specs.Colours as spec
+use Rattle.image_check.proofs.colours.names.Given as goal
+
+abbrev pub invariant-loop-other : goal.invariant-loop-other
+invariant-loop-other l = spec.names (drop l.other-index l.colours) l.colour ≡ spec.names l.colours l.colour
