@@ -23,12 +23,15 @@ image=$(mktemp)
 trap 'rm -f "$image"' EXIT
 {
     printf 'frames = 64\nshared = 512\nline = 64\npredictor = 16\n'
-    for cache in l1i l1d l2 tlb; do
+    for cache in l1i l1d tlb; do
         printf '%s = { sets = 16, ways = 2, policy = "lru" }\n' "$cache"
     done
+    printf 'l2 = { sets = 256, ways = 4, policy = "lru" }\n'
     printf 'costs = { base = 1, l1 = 1, l2 = 8, mem = 40, wb = 10, tlb = 1, mispredict = 3, trap = 10, flush = 20 }\n'
+    colour=0
     for name in red blue; do
-        printf '[[domain]]\nname = "%s"\ncolours = []\nentry = 0x10000\n' "$name"
+        colour=$((colour + 1))
+        printf '[[domain]]\nname = "%s"\ncolours = [%s]\nentry = 0x10000\n' "$name" "$colour"
         printf 'segment = [{ page = 16, pages = 1, rights = "rx", hex = "%s" }]\n' "$loop"
     done
     printf '[[schedule]]\ndomain = 0\nlength = 1000000\npad = 0\n'

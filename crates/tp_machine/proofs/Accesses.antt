@@ -14,7 +14,7 @@ use Rattle.sv32_walk.specs.declared.access.Access.TheVariants as access
 use Rattle.sv32_walk.specs.declared.access.WalkFault.{WalkFault}
 use Rattle.sv32_walk.specs.PageTableEntry.{ppn}
 use Rattle.sv32_walk.specs.Walk.{walk}
-use Rattle.image_check.specs.Public.{Hardware}
+use Rattle.hardware_check.specs.Hardware.{Hardware}
 use Rattle.world_view.specs.Domain.{Dom}
 use Rattle.world_view.specs.Instruction.{trapped, stopped}
 use Rattle.world_view.specs.Cost.Touch.{Load, Store as StoreTouch}

@@ -19,7 +19,7 @@ use Rattle.rv_decode.specs.declared.Instr.{Instr}
 use Rattle.rv_decode.specs.declared.LoadWidth.{LoadWidth}
 use Rattle.rv_decode.specs.declared.Instr.TheVariants as instr
 use Rattle.sv32_walk.specs.declared.access.Access.TheVariants as access
-use Rattle.image_check.specs.Public.{Hardware}
+use Rattle.hardware_check.specs.Hardware.{Hardware}
 use Rattle.world_view.specs.Domain.{Dom}
 use Rattle.world_view.specs.Instruction.{counter_value, trapped, stopped, retired_at, read_out, call}
 use Rattle.world_view.specs.Cost.Touch.{Fetch}

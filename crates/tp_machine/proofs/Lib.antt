@@ -10,3 +10,4 @@ mod Moved
 mod FrameWords
 mod Openings
 mod Slots
+mod Taking

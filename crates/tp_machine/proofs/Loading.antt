@@ -6,9 +6,10 @@ use Rattle.phys_mem.specs.Contents.{Contents}
 use Rattle.phys_mem.specs.Holds.{Holds}
 use Rattle.phys_mem.specs.Mem.{Frame, Mem, word, written, word-written_same, word-written_place, word-written_frame}
 use Rattle.tp_base.specs.Table.{empty, at, put}
-use Rattle.image_check.specs.Public.{Hardware}
+use Rattle.hardware_check.specs.Hardware.{Hardware}
 use Rattle.image_check.specs.Own as spec
-use Rattle.world_view.specs.Frames.{has_region, table_frame, page_frame}
+use Rattle.image_check.specs.Pages.{has_region}
+use Rattle.world_view.specs.Frames.{table_frame, page_frame}
 use Rattle.world_view.specs.Opening.{tabled, leaf_entry, table_placed, tables_placed, page_words, pages_placed, segments_placed, placed, all_placed}
 use Rattle.world_view.proofs.OpeningLaws.{word-put_same, word-put_other}
 

@@ -4,7 +4,7 @@ use Rattle.phys_mem.specs.Contents.{Contents}
 use Rattle.phys_mem.specs.Holds.{Holds}
 use Rattle.world_view.specs.declared.DomainStatus.{DomainStatus}
 use Rattle.world_view.specs.declared.DomainStatus.TheVariants.{Running, Exited, Stopped}
-use Rattle.image_check.specs.Public.{Hardware}
+use Rattle.hardware_check.specs.Hardware.{Hardware}
 use Rattle.image_check.specs.Own.{Own}
 use Rattle.world_view.specs.Frames.{root_of}
 use Rattle.world_view.specs.Domain.{Dom, is_running}

@@ -6,7 +6,8 @@ use Rattle.phys_mem.specs.Contents.{Contents}
 use Rattle.phys_mem.specs.Holds.{Holds}
 use Rattle.image_check.specs.Own.{Own, own_at}
 use Rattle.image_check.specs.Public as spec
-use Rattle.image_check.specs.Public.{Hardware, no_entry}
+use Rattle.hardware_check.specs.Hardware.{Hardware}
+use Rattle.image_check.specs.Public.{no_entry}
 use Rattle.image_check.specs.declared.public.Entry.{Entry}
 use Rattle.image_check.specs.Models.{entry_model}
 use Rattle.world_view.specs.declared.view.Used.{Used}
@@ -31,7 +32,7 @@ pub opened_none : (p : Hardware) (owns : List Own) → AreOpened p owns 0 []
 opened_none p owns = record { all = refl; stand = λ d x got. cc; placed = λ d x got. cc; few = λ d x got. cc }
 
 pub opened_more : (p : Hardware) (domains : List Domain) (owns : List Own) (n : ℕ) (x : Domain) → AreOpened p owns n domains
-    → Stands x (opening_dom (own_at owns n)) → IsPlaced p (own_at owns n) x → CountsUpTo 0 x
+    → Stands x (opening_dom (own_at owns n)) → IsPlaced p (own_at owns n) x.frames → CountsUpTo 0 x
     → AreOpened p owns (n + 1) (domains ++ x ∷ [])
 opened_more p domains owns n x old stands placed few =
     let at = λ (j : ℕ). opening_dom (own_at owns j) in
@@ -39,7 +40,7 @@ opened_more p domains owns n x old stands placed few =
     record {
       all = omega (arith, old.all, length-append domains (x ∷ []));
       stand = each_push (λ j y. Stands y (at j)) (λ j y. Stands y (at j)) domains x (subst (λ (j : ℕ). Stands x (at j)) (sym old.all) stands) (λ j y h s. s) old.stand;
-      placed = each_push (λ j y. IsPlaced p (own j) y) (λ j y. IsPlaced p (own j) y) domains x (subst (λ (j : ℕ). IsPlaced p (own j) x) (sym old.all) placed) (λ j y h s. s) old.placed;
+      placed = each_push (λ j y. IsPlaced p (own j) y.frames) (λ j y. IsPlaced p (own j) y.frames) domains x (subst (λ (j : ℕ). IsPlaced p (own j) x.frames) (sym old.all) placed) (λ j y h s. s) old.placed;
       few = each_push (λ j y. CountsUpTo 0 y) (λ j y. CountsUpTo 0 y) domains x few (λ j y h s. s) old.few;
     }
 

@@ -8,12 +8,12 @@ use Rattle.image_check.specs.declared.own.Own.{Own}
 use Rattle.image_check.specs.declared.own.Segment.{Segment}
 use Rattle.image_check.specs.Models.{segment_model, own_model}
 use Rattle.image_check.specs.Image.{Image, own_of}
-use Rattle.world_view.specs.Frames.{has_page, meets, has_region, regions_below, pages_below, pages_in, frames_in}
+use Rattle.image_check.specs.Pages.{has_page, meets, has_region, regions_below, pages_below, pages_in}
 use Rattle.world_view.specs.Opening.{rights_in}
 use Rattle.world_view.specs.Relations.{IsDomain}
 use Rattle.world_view.proofs.Counts.{region_more, region_same, is_page, pages_low}
 use Rattle.world_view.proofs.Separate.{separated}
-use Rattle.image_check.specs.Public.{Hardware as spec_Hardware}
+use Rattle.hardware_check.specs.Hardware.{Hardware as spec_Hardware}
 use Rattle.tp_machine.specs.Placing.{HasPool, HasPages}
 
 -- ---- segments from one on
@@ -100,10 +100,9 @@ module _ (i : Image) (r : Runnable i) (d : ℕ) (is : IsDomain i d) where
   -- its pool has all that it wants
   pub has_pool : (o : Own) (h : spec_Hardware) → own_model o ≡ own_of i d → h ≡ i.all.hardware → HasPool h (own_model o)
   has_pool o h same is_hardware =
-      let most = r.frames in
-      let domains = r.few_domains in
+      let most = r.hardware.most_frames in
       subst₂ (λ (p : spec_Hardware) (x : spec.Own). HasPool p x) (sym is_hardware) (sym same) (record {
-        few = omega (arith, most, domains);
+        few = omega (arith, most);
         enough = (separated i r).enough d is;
         sound = r.sound d;
       })

@@ -11,6 +11,7 @@ use Rattle.phys_mem.specs.Contents.{Contents}
 use Rattle.phys_mem.specs.Holds.{Holds}
 use Rattle.phys_mem.specs.Mem.{frame_at}
 use Rattle.image_check.specs.Public as spec
+use Rattle.hardware_check.specs.Hardware.{Hardware}
 use Rattle.image_check.specs.Own.{Own}
 use Rattle.image_check.specs.Image.{Image, own_of}
 use Rattle.world_view.specs.Frames.{pool, root_of}
@@ -30,11 +31,11 @@ use Rattle.image_check.specs.declared.public.Entry.{Entry}
 use Rattle.world_view.specs.declared.view.Used.{Used}
 use Rattle.image_check.specs.Models.{entry_model}
 use Rattle.world_view.specs.Models.{dom_model, seen_of}
-use Rattle.tp_machine.specs.Stands.{Stands, CountsUpTo, SamePlace}
+use Rattle.tp_machine.specs.Stands.{Stands, CountsUpTo}
 use Rattle.tp_machine.specs.Placing.{IsPlaced}
 use Rattle.tp_machine.specs.Moves.{StandsIn, Moves}
 use Rattle.tp_machine.specs.Usage.{IsUsed, CountedUpTo}
-use Rattle.tp_machine.specs.Worlds.{Kept, StandsFor, IsInBounds}
+use Rattle.tp_machine.specs.Worlds.{kept, StandsFor, IsInBounds}
 use Rattle.tp_machine.proofs.Elements.{each_set}
 use Rattle.tp_machine.proofs.PoolReads.{either_default}
 use Rattle.tp_machine.proofs.FrameWords.{frames_are}
@@ -49,16 +50,12 @@ entry_of_slot-is items k n e d long within read =
 
 -- ---- the slot
 
--- what the machine keeps
-abbrev pub kept : Contents → List Domain → List Used → ℕ → ℕ → ℕ → Kept
-kept memory domains used clock next last = record { memory = memory; domains = domains; used = used; clock = clock; next = next; last = last }
-
 module _ (i : Image) (k : ℕ) (memory memory' : Contents) (domains : List Domain) (used used' : List Used) (clock next last : ℕ) (is : StandsFor i k (kept memory domains used clock next last))
-    (x new : Domain) (begin later : ℕ) (begins : begin ≡ max clock next) (same : memory'.frames ≡ memory.frames) (place : SamePlace x new) (long : length used' ≡ length used)
+    (x new : Domain) (begin later : ℕ) (begins : begin ≡ max clock next) (same : memory'.frames ≡ memory.frames) (place : new.frames ≡ x.frames) (long : length used' ≡ length used)
     (noted : (us : List (ℕ × ℕ)) → IsUsed used us → IsUsed used' (us ++ (switch_entry i.all.schedule k, clock - last) ∷ [])) where
   -- whichever domain's root it has, the code's domain runs as the definition's does
   abbrev pub Runs : ℕ → Type 0
-  Runs length = (o : Own) → x.root ≡ root_of i.all.hardware o → Moves (stretch i.all.hardware o false (next + length)) memory x begin memory' new later
+  Runs length = (o : Own) → x.frames.map ≡ root_of i.all.hardware o → Moves (stretch i.all.hardware o false (next + length)) memory x begin memory' new later
 
   -- the code's domain runs as the definition's does
   ran : slice_get domains (entry_of_slot i.all.schedule k).domain ≡ Some x → Runs (entry_of_slot i.all.schedule k).length
@@ -73,8 +70,8 @@ module _ (i : Image) (k : ℕ) (memory memory' : Contents) (domains : List Domai
       let end : next + (entry_of_slot i.all.schedule k).length ≡ slot_end i.all.schedule k = ap (λ n. n + (entry_of_slot i.all.schedule k).length) is.begins in
       subst (λ (n : ℕ). StandsIn memory' new later begun (stretch i.all.hardware (own_of i d) false n begun)) end (moves (own_of i d) (is.each_place d x got).root begun stands holds time)
 
-  placed_after : (o : Own) → IsPlaced i.all.hardware o x → IsPlaced i.all.hardware o new
-  placed_after o at = record { root = place.root ∙ at.root; pool = place.pool ∙ at.pool }
+  placed_after : (o : Own) → IsPlaced i.all.hardware o x.frames → IsPlaced i.all.hardware o new.frames
+  placed_after o at = subst (IsPlaced i.all.hardware o) (sym place) at
 
   stands_after : slice_get domains (entry_of_slot i.all.schedule k).domain ≡ Some x → Runs (entry_of_slot i.all.schedule k).length
       → StandsFor i (suc k) (kept memory' (set domains (entry_of_slot i.all.schedule k).domain new) used' later
@@ -94,7 +91,7 @@ module _ (i : Image) (k : ℕ) (memory memory' : Contents) (domains : List Domai
             (subst (Stands new) (sym (run_slot-dom_same i k w)) over.dom)
             (λ j y apart s. subst (Stands y) (sym (run_slot-dom_other i k w j apart)) s)
             is.each_domain;
-        each_place = each_set (λ j y. IsPlaced i.all.hardware (own_of i j) y) (λ j y. IsPlaced i.all.hardware (own_of i j) y) domains e.domain new (slice_get_within domains e.domain x got)
+        each_place = each_set (λ j y. IsPlaced i.all.hardware (own_of i j) y.frames) (λ j y. IsPlaced i.all.hardware (own_of i j) y.frames) domains e.domain new (slice_get_within domains e.domain x got)
             (placed_after (own_of i e.domain) (is.each_place e.domain x got))
             (λ j y apart s. s)
             is.each_place;
@@ -145,7 +142,7 @@ in_bounds_next k memory memory' domains used used' clock next last d length' pad
 
 -- ---- what is seen
 
-pub view_is : (x : Domain) (m : Dom) (p : spec.Hardware) (o : Own) (memory : Contents) (s : Storage) → Stands x m → IsPlaced p o x → Holds memory s.mem → memory.frames ≡ p.frames
+pub view_is : (x : Domain) (m : Dom) (p : Hardware) (o : Own) (memory : Contents) (s : Storage) → Stands x m → IsPlaced p o x.frames → Holds memory s.mem → memory.frames ≡ p.frames
     → seen_of x memory ≡ view p o m s
 unfolding view
 view_is x m p o memory s stands placed holds frames =
@@ -156,7 +153,7 @@ view_is x m p o memory s stands placed holds frames =
     frames_are memory s.mem (pool p o) holds (λ n h. subst (λ (size : ℕ). get_or (pool p o) n 0 < size) (sym frames) (in_pool p o n h)) in
     rw (placed.pool, stands.readings, stands.replies, words) same
 
-pub pool_in_memory : (p : spec.Hardware) (o : Own) (x : Domain) (memory : Contents) → IsPlaced p o x → memory.frames ≡ p.frames → All (λ f. f < memory.frames) x.pool.items
+pub pool_in_memory : (p : Hardware) (o : Own) (x : Domain) (memory : Contents) → IsPlaced p o x.frames → memory.frames ≡ p.frames → All (λ f. f < memory.frames) x.frames.pool.items
 pool_in_memory p o x memory placed frames =
     subst (λ (fs : List ℕ). All (λ f. f < memory.frames) fs) (sym placed.pool)
     (λ k d h. subst₂ (λ (f size : ℕ). f < size) (either_default (pool p o) k 0 d h) (sym frames) (in_pool p o k h))

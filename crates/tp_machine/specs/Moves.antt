@@ -6,7 +6,7 @@ use Rattle.phys_mem.specs.Contents.{Contents}
 use Rattle.phys_mem.specs.Holds.{Holds}
 use Rattle.phys_mem.specs.Mem.{Mem, word, written}
 use Rattle.rv_core.specs.declared.Trap.{Trap}
-use Rattle.image_check.specs.Public.{Hardware}
+use Rattle.hardware_check.specs.Hardware.{Hardware}
 use Rattle.world_view.specs.declared.Reply.{Reply}
 use Rattle.world_view.specs.declared.domain.Domain.{Domain}
 use Rattle.world_view.specs.Domain.{Dom}

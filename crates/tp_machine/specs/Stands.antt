@@ -6,8 +6,9 @@ use Rattle.world_view.specs.Domain.{Dom, opening_dom}
 use Rattle.world_view.specs.View.{log_of}
 use Rattle.world_view.specs.LogModel.{log_model}
 use Rattle.world_view.specs.Models.{dom_model}
-use Rattle.image_check.specs.Public.{Hardware}
+use Rattle.hardware_check.specs.Hardware.{Hardware}
 use Rattle.image_check.specs.Own.{Own, own_at}
+use Rattle.image_check.specs.Image.{Image, own_of}
 use Rattle.tp_machine.specs.Placing.{IsPlaced}
 
 -- the code's domain stands for this one
@@ -24,10 +25,6 @@ Becomes f old new = (readings : List ℕ) (replies : List Reply)
 
 -- ---- counts, and the frames, which stay
 
-pub record SamePlace (old new : Domain) : Type 0 where
-  pub root : new.root ≡ old.root
-  pub pool : new.pool.items ≡ old.pool.items
-
 -- one more of each still fits
 pub record HasRoom (d : Domain) : Type 0 where
   pub retired : d.retired < 2 ^ 63
@@ -39,7 +36,7 @@ pub record Grows (a b c : ℕ) (old new : Domain) : Type 0 where
   pub retired : new.retired ≤ old.retired + a
   pub readings : new.readings.count ≤ old.readings.count + b
   pub replies : new.replies.count ≤ old.replies.count + c
-  pub place : SamePlace old new
+  pub frames : new.frames ≡ old.frames
 
 -- no count is past the clock
 pub record CountsUpTo (clock : ℕ) (d : Domain) : Type 0 where
@@ -47,9 +44,19 @@ pub record CountsUpTo (clock : ℕ) (d : Domain) : Type 0 where
   pub readings : d.readings.count ≤ clock
   pub replies : d.replies.count ≤ clock
 
+-- ---- a domain of the code is domain d of an image at its entry, in its frames
+pub record IsOpened (i : Image) (d : ℕ) (x : Domain) : Type 0 where
+  pub stands : Stands x (opening_dom (own_of i d))
+  pub placed : IsPlaced i.all.hardware (own_of i d) x.frames
+  pub few : CountsUpTo 0 x
+
 -- ---- the first n of these domains are at their entries, in their frames
 pub record AreOpened (p : Hardware) (owns : List Own) (n : ℕ) (domains : List Domain) : Type 0 where
   pub all : length domains ≡ n
   pub stand : (d : ℕ) (x : Domain) → slice_get domains d ≡ Some x → Stands x (opening_dom (own_at owns d))
-  pub placed : (d : ℕ) (x : Domain) → slice_get domains d ≡ Some x → IsPlaced p (own_at owns d) x
+  pub placed : (d : ℕ) (x : Domain) → slice_get domains d ≡ Some x → IsPlaced p (own_at owns d) x.frames
   pub few : (d : ℕ) (x : Domain) → slice_get domains d ≡ Some x → CountsUpTo 0 x
+
+-- all domains of an image are
+abbrev pub AllOpened : Image → List Domain → Type 0
+AllOpened i domains = AreOpened i.all.hardware i.owns (length i.owns) domains

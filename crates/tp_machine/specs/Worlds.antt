@@ -21,13 +21,16 @@ pub record Kept : Type 0 where
   pub next : ℕ  -- when the next slot begins
   pub last : ℕ  -- when the last slot ended
 
+abbrev pub kept : Contents → List Domain → List Used → ℕ → ℕ → ℕ → Kept
+kept memory domains used clock next last = record { memory = memory; domains = domains; used = used; clock = clock; next = next; last = last }
+
 -- it stands for the whole machine after so many slots
 pub record StandsFor (i : Image) (slots : ℕ) (k : Kept) : Type 0 where
   pub frames : k.memory.frames ≡ i.all.hardware.frames
   pub holds : Holds k.memory (whole i slots).storage.mem
   pub all_domains : length k.domains ≡ length i.owns
   pub each_domain : (d : ℕ) (x : Domain) → slice_get k.domains d ≡ Some x → Stands x (dom_of (whole i slots) d)
-  pub each_place : (d : ℕ) (x : Domain) → slice_get k.domains d ≡ Some x → IsPlaced i.all.hardware (own_of i d) x
+  pub each_place : (d : ℕ) (x : Domain) → slice_get k.domains d ≡ Some x → IsPlaced i.all.hardware (own_of i d) x.frames
   pub caches : (whole i slots).caches ≡ cold i.all.hardware  -- the code keeps none as yet
   pub all_entries : length k.used ≡ length i.all.schedule
   pub each_entry : IsUsed k.used (whole i slots).used

@@ -5,7 +5,7 @@ ghost use Rattle.phys_mem.specs.Holds.{Holds};
 ghost use Rattle.phys_mem.specs.Mem.{Mem, word, written};
 ghost use Rattle.rv_core.specs.Effect.{IsStore};
 ghost use Rattle.rv_core.specs.Memory.{load_size};
-ghost use Rattle.image_check.specs.Public.{Hardware};
+ghost use Rattle.hardware_check.specs.Hardware.{Hardware};
 ghost use Rattle.world_view.specs.Event as spec;
 ghost use Rattle.tp_machine.specs.Moves.{Finds, stored};
 

@@ -79,7 +79,8 @@ fn retire(domain: &mut Domain, next: u32)
 /// read is recorded, and the domain goes on at `next`.
 pub fn finish(domain: &mut Domain, instr: Instr, value: u32, next: u32)
     requires room { HasRoom domain.old }
-    ensures becomes { Becomes (λ d. spec.retired_at next d.thread.regs (noted instr value d)) domain.old domain.new }
+    ensures becomes { Becomes (λ d. spec.retired_at next d.thread.regs (noted instr value d))
+        domain.old domain.new }
     ensures grows { Grows 1 1 0 domain.old domain.new }
 {
     if let Instr::ReadCounter { .. } = instr {

@@ -4,11 +4,11 @@
 
 mod access;
 mod domain;
+mod frames;
 mod instruction;
 mod machine;
 mod memory;
 mod placement;
-mod pool;
 mod segments;
 mod slot;
 mod used;

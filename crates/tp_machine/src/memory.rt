@@ -1,39 +1,36 @@
 // The memory of the machine before its first slot.
-ghost use Rattle.std.specs.Prelude.{◌≡◌, ℕ, ◌+◌, ◌*◌, ◌^◌, ◌<◌, ◌≤◌, length, slice_index, IfOk};
-ghost use Rattle.tp_base.specs.Table.{at, put};
+ghost use Rattle.std.specs.Prelude.{◌≡◌, ℕ, ◌+◌, ◌*◌, ◌^◌, ◌<◌, ◌≤◌, slice_index};
+ghost use Rattle.tp_base.specs.Table.{empty, at, put};
 ghost use Rattle.phys_mem.specs.Holds.{Holds};
 ghost use Rattle.phys_mem.specs.Mem.{Mem, Frame};
-ghost use Rattle.image_check.specs.Models.{hardware_model, own_model};
+ghost use Rattle.hardware_check.specs.Models.{hardware_model};
+ghost use Rattle.image_check.specs.Models.{own_model};
 ghost use Rattle.image_check.specs.Image.{image_from};
 ghost use Rattle.world_view.specs.Opening as spec;
-ghost use Rattle.tp_machine.specs.Placing.{HasPages};
-ghost use Rattle.tp_machine.specs.Stands.{AreOpened};
+ghost use Rattle.tp_machine.specs.Placing.{HasPages, placed_all};
+ghost use Rattle.tp_machine.specs.Stands.{AllOpened};
 
 use crate::placement::Placement;
-use crate::pool::REGIONS;
-use crate::segments::has_region;
+use crate::segments::{REGIONS, has_region};
 use image_check::{Checked, Segment};
 use phys_mem::PhysMem;
-use std::alloc::Global;
-use tp_base::{FrameNo, Memory};
+use tp_base::FrameNo;
 use world_view::Domain;
 
 /// Bytes of a page.
 const PAGE_BYTES: usize = 4096;
 
-/// The memory in which the page tables and pages of each domain stand in their
-/// frames.
-///
-/// # Errors
-/// `Memory` where no memory is left for it.
-pub fn load_pages(alloc: Global, image: &Checked, domains: &[Domain]) -> Result<PhysMem, Memory>
-    requires opened { AreOpened (image_from image.now).all.hardware (image_from image.now).owns (length (image_from image.now).owns) domains.now }
-    ensures frames { IfOk result (λ memory. memory.frames ≡ (image_from image.now).all.hardware.frames) }
-    ensures holds { IfOk result (λ memory. Holds memory (spec.all_placed (image_from image.now).all.hardware (image_from image.now).owns)) }
+/// Places the page tables and pages of each domain in their frames, in a memory
+/// that reads zero.
+pub fn load_pages(image: &Checked, domains: &[Domain], memory: &mut PhysMem)
+    requires opened { AllOpened (image_from image.now) domains.now }
+    requires size { memory.old.frames ≡ (image_from image.now).all.hardware.frames }
+    requires blank { Holds memory.old empty }
+    ensures size { memory.new.frames ≡ memory.old.frames }
+    ensures holds { Holds memory.new (placed_all (image_from image.now)) }
 {
     image.runnable();
     let public = image.public();
-    let mut memory = PhysMem::new(alloc, public.hardware.frames)?;
     // From the last domain to the first, as the definition places them.
     let mut left = public.domains as usize;
     while left > 0 {
@@ -41,11 +38,10 @@ pub fn load_pages(alloc: Global, image: &Checked, domains: &[Domain]) -> Result<
         let placement = Placement::new(
             &public.hardware,
             image.own(left),
-            domains[left].pool.as_slice(),
+            domains[left].frames.pool.as_slice(),
         );
-        place_domain(&mut memory, &placement);
+        place_domain(memory, &placement);
     }
-    Ok(memory)
 }
 
 // Places a domain's page tables and pages in its frames.
@@ -68,8 +64,10 @@ fn place_table(memory: &mut PhysMem, at: &Placement<'_>, region: u32)
     requires size { memory.old.frames ≡ at.now.hardware.now.frames }
     requires region { region < 1024 }
     ensures placed { (m : Mem)
-        → Holds memory.old (spec.tables_placed (hardware_model at.now.hardware.now) (own_model at.now.own.now) region m)
-        → Holds memory.new (spec.tables_placed (hardware_model at.now.hardware.now) (own_model at.now.own.now) (region + 1) m) }
+        → Holds memory.old
+        (spec.tables_placed (hardware_model at.now.hardware.now) (own_model at.now.own.now) region m)
+        → Holds memory.new
+        (spec.tables_placed (hardware_model at.now.hardware.now) (own_model at.now.own.now) (region + 1) m) }
     ensures frames { memory.new.frames ≡ memory.old.frames }
 {
     if !has_region(at.own.segments.as_slice(), region) {
@@ -82,7 +80,8 @@ fn place_table(memory: &mut PhysMem, at: &Placement<'_>, region: u32)
 fn place_tables(memory: &mut PhysMem, at: &Placement<'_>)
     requires size { memory.old.frames ≡ at.now.hardware.now.frames }
     ensures placed { (m : Mem) → Holds memory.old m
-        → Holds memory.new (spec.tables_placed (hardware_model at.now.hardware.now) (own_model at.now.own.now) 1024 m) }
+        → Holds memory.new
+        (spec.tables_placed (hardware_model at.now.hardware.now) (own_model at.now.own.now) 1024 m) }
     ensures frames { memory.new.frames ≡ memory.old.frames }
 {
     for region in 0..REGIONS {
@@ -139,7 +138,8 @@ struct Root<'a> {
 }
 
 impl<'a> Words for Root<'a> {
-    ghost words = { λ root. spec.root_entry (hardware_model root.at.now.hardware.now) (own_model root.at.now.own.now) };
+    ghost words = { λ root.
+        spec.root_entry (hardware_model root.at.now.hardware.now) (own_model root.at.now.own.now) };
 
     fn word(&self, i: u32) -> u32 {
         self.at.root_entry(i)
@@ -155,7 +155,9 @@ struct Table<'a> {
 }
 
 impl<'a> Words for Table<'a> {
-    ghost words = { λ table i. spec.leaf_entry (hardware_model table.at.now.hardware.now) (own_model table.at.now.own.now) (1024 * table.region + i) };
+    ghost words = { λ table i.
+        spec.leaf_entry (hardware_model table.at.now.hardware.now) (own_model table.at.now.own.now)
+        (1024 * table.region + i) };
 
     fn word(&self, i: u32) -> u32 {
         self.at.leaf_entry(1024 * self.region + i)
@@ -194,7 +196,8 @@ fn byte_at(bytes: &[u8], i: usize) -> u32
 // Fills a frame.
 fn place_frame<W: Words>(memory: &mut PhysMem, frame: FrameNo, words: &W)
     requires frame { frame < memory.old.frames }
-    ensures placed { (m : Mem) (x : Frame) → Holds memory.old m → ((i : ℕ) → i < 1024 → at 0 x i ≡ W.words words.now i)
+    ensures placed { (m : Mem) (x : Frame) → Holds memory.old m
+        → ((i : ℕ) → i < 1024 → at 0 x i ≡ W.words words.now i)
         → Holds memory.new (put m frame x) }
     ensures frames { memory.new.frames ≡ memory.old.frames }
 {

@@ -1,13 +1,20 @@
 // What a domain's segments have: pages, regions and rights.
 ghost use Rattle.std.specs.Prelude.{◌≡◌, ◌<◌, ◌≤◌, ◌^◌, map};
 ghost use Rattle.image_check.specs.Models.{segment_model};
-ghost use Rattle.world_view.specs.Frames as spec;
+ghost use Rattle.image_check.specs.Pages as spec;
+ghost use Rattle.tp_machine.specs.Placing.{AreSegments};
 ghost use Rattle.world_view.specs.Opening as opening;
 
 use image_check::{Rights, Segment};
 
+/// How many regions there are.
+pub const REGIONS: u32 = 1024;
+
 // Pages of a region, the 4 MiB of one table.
 const REGION_PAGES: u32 = 1024;
+
+// How many page numbers there are.
+const PAGES: u32 = 1 << 20;
 
 fn has_page(segment: &Segment, page: u32) -> bool
     ensures value { result ≡ spec.has_page (segment_model segment.now) page }
@@ -61,6 +68,15 @@ pub fn regions_below(segments: &[Segment], region: u32) -> u32
         regions += u32::from(has_region(segments, r));
     }
     regions
+}
+
+/// How many pages there are.
+pub fn pages_in(segments: &[Segment]) -> u32
+    requires few { spec.pages_in (map segment_model segments.now) ≤ 2 ^ 15 }
+    requires sound { AreSegments (map segment_model segments.now) }
+    ensures value { result ≡ spec.pages_in (map segment_model segments.now) }
+{
+    pages_below(segments, PAGES)
 }
 
 /// How many pages there are below one.

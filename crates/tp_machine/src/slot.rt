@@ -6,13 +6,13 @@ ghost use Rattle.rv_core.specs.Memory.{address_of, misalignment_of};
 ghost use Rattle.rv_decode.specs.Ranges.{HasRegisters};
 ghost use Rattle.world_view.specs.declared.Reply.{Reply};
 ghost use Rattle.world_view.specs.Event as event;
-ghost use Rattle.image_check.specs.Public as image_spec;
+ghost use Rattle.hardware_check.specs.Hardware as hardware_spec;
 ghost use Rattle.world_view.specs.Machine as spec;
 ghost use Rattle.image_check.specs.Own.{Own};
-ghost use Rattle.image_check.specs.Models.{hardware_model};
+ghost use Rattle.hardware_check.specs.Models.{hardware_model};
 ghost use Rattle.world_view.specs.Frames.{root_of};
 ghost use Rattle.world_view.specs.Models.{dom_model};
-ghost use Rattle.tp_machine.specs.Stands.{HasRoom, Grows, SamePlace, CountsUpTo};
+ghost use Rattle.tp_machine.specs.Stands.{HasRoom, Grows, CountsUpTo};
 ghost use Rattle.tp_machine.specs.Moves.{IsTimed, EndsAs, Leaves, Moves};
 
 use crate::access::{load, physical, store, translate};
@@ -22,22 +22,31 @@ use phys_mem::PhysMem;
 use rv_core::{Trap, address, misalignment};
 use rv_decode::{Instr, decode};
 use sv32_walk::Access;
+use tp_base::FrameNo;
 use world_view::{Domain, DomainStatus};
 
 // ---- an instruction
 
 // What the instruction needs from outside the registers, at a clock: what a
 // load finds at its address, or a counter's value.
-fn loaded(memory: &PhysMem, domain: &Domain, now: u64, instr: Instr, at: u32) -> Result<u32, Trap>
+fn loaded(
+    root: FrameNo,
+    memory: &PhysMem,
+    domain: &Domain,
+    now: u64,
+    instr: Instr,
+    at: u32,
+) -> Result<u32, Trap>
     requires address { at ≡ address_of domain.now.thread.regs instr }
     requires aligned { misalignment_of instr at ≡ None }
-    ensures finds { (p : image_spec.Hardware) (s : event.Storage) (readings : List ℕ) (replies : List Reply)
+    ensures finds { (p : hardware_spec.Hardware) (s : event.Storage)
+        (readings : List ℕ) (replies : List Reply)
         → p.frames ≡ memory.now.frames → Holds memory.now s.mem
         → EndsAs (dom_model domain.now readings replies) result memory.now
-        (event.loaded p domain.now.root now (dom_model domain.now readings replies) instr s) }
+        (event.loaded p root now (dom_model domain.now readings replies) instr s) }
 {
     match instr {
-        Instr::Load { width, .. } => load(domain.root, memory, width, at),
+        Instr::Load { width, .. } => load(root, memory, width, at),
         Instr::ReadCounter { counter, .. } => Ok(counter_value(counter, now, domain)),
         _ => Ok(0),
     }
@@ -45,11 +54,11 @@ fn loaded(memory: &PhysMem, domain: &Domain, now: u64, instr: Instr, at: u32) ->
 
 // The effect of an instruction: a trap, or a store, the registers and the next
 // instruction.
-fn settle(memory: &mut PhysMem, domain: &mut Domain, instr: Instr, value: u32)
+fn settle(root: FrameNo, memory: &mut PhysMem, domain: &mut Domain, instr: Instr, value: u32)
     requires registers { HasRegisters instr }
     requires room { HasRoom domain.old }
-    ensures leaves { (p : image_spec.Hardware) → p.frames ≡ memory.old.frames → Leaves
-        (λ d. event.settle p domain.old.root d instr value (effect_of d.thread.regs d.thread.pc instr value))
+    ensures leaves { (p : hardware_spec.Hardware) → p.frames ≡ memory.old.frames → Leaves
+        (λ d. event.settle p root d instr value (effect_of d.thread.regs d.thread.pc instr value))
         memory.old domain.old memory.new domain.new }
     ensures frames { memory.new.frames ≡ memory.old.frames }
     ensures grows { Grows 1 1 0 domain.old domain.new }
@@ -60,7 +69,7 @@ fn settle(memory: &mut PhysMem, domain: &mut Domain, instr: Instr, value: u32)
         stop(domain, trap);
         return;
     }
-    match store(domain.root, memory, effect.store) {
+    match store(root, memory, effect.store) {
         Ok(()) => finish(domain, instr, value, effect.next),
         Err(trap) => stop(domain, trap),
     }
@@ -68,11 +77,11 @@ fn settle(memory: &mut PhysMem, domain: &mut Domain, instr: Instr, value: u32)
 
 // An instruction that is no kernel call. Misaligned loads and stores trap
 // before their address is translated.
-fn execute(memory: &mut PhysMem, domain: &mut Domain, now: u64, instr: Instr)
+fn execute(root: FrameNo, memory: &mut PhysMem, domain: &mut Domain, now: u64, instr: Instr)
     requires registers { HasRegisters instr }
     requires room { HasRoom domain.old }
-    ensures leaves { (p : image_spec.Hardware) → p.frames ≡ memory.old.frames → Leaves
-        (λ d. event.execute p domain.old.root now d instr) memory.old domain.old memory.new domain.new }
+    ensures leaves { (p : hardware_spec.Hardware) → p.frames ≡ memory.old.frames → Leaves
+        (λ d. event.execute p root now d instr) memory.old domain.old memory.new domain.new }
     ensures frames { memory.new.frames ≡ memory.old.frames }
     ensures grows { Grows 1 1 0 domain.old domain.new }
 {
@@ -81,22 +90,22 @@ fn execute(memory: &mut PhysMem, domain: &mut Domain, now: u64, instr: Instr)
         stop(domain, trap);
         return;
     }
-    match loaded(memory, domain, now, instr, at) {
-        Ok(value) => settle(memory, domain, instr, value),
+    match loaded(root, memory, domain, now, instr, at) {
+        Ok(value) => settle(root, memory, domain, instr, value),
         Err(trap) => stop(domain, trap),
     }
 }
 
 // The domain's next instruction, at a clock.
-fn run_instruction(memory: &mut PhysMem, domain: &mut Domain, now: u64)
+fn run_instruction(root: FrameNo, memory: &mut PhysMem, domain: &mut Domain, now: u64)
     requires room { HasRoom domain.old }
-    ensures leaves { (p : image_spec.Hardware) → p.frames ≡ memory.old.frames → Leaves
-        (event.instruction p domain.old.root now) memory.old domain.old memory.new domain.new }
+    ensures leaves { (p : hardware_spec.Hardware) → p.frames ≡ memory.old.frames → Leaves
+        (event.instruction p root now) memory.old domain.old memory.new domain.new }
     ensures frames { memory.new.frames ≡ memory.old.frames }
     ensures grows { Grows 1 1 1 domain.old domain.new }
 {
     let pc = domain.thread.pc;
-    let frame = match translate(domain.root, memory, Access::Fetch, pc) {
+    let frame = match translate(root, memory, Access::Fetch, pc) {
         Ok(frame) => frame,
         Err(trap) => {
             stop(domain, trap);
@@ -116,7 +125,7 @@ fn run_instruction(memory: &mut PhysMem, domain: &mut Domain, now: u64)
     };
     match instr {
         Instr::Ecall => call(domain),
-        _ => execute(memory, domain, now, instr),
+        _ => execute(root, memory, domain, now, instr),
     }
 }
 
@@ -136,17 +145,19 @@ pub fn step(
     requires before { now < end }
     requires end { end < 2 ^ 62 }
     requires few { CountsUpTo now domain.old }
-    ensures becomes { (o : Own) → domain.old.root ≡ root_of (hardware_model hardware.now) o
-        → Moves (spec.step (hardware_model hardware.now) o false end) memory.old domain.old now memory.new domain.new result }
+    ensures becomes { (o : Own) → domain.old.frames.map ≡ root_of (hardware_model hardware.now) o
+        → Moves (spec.step (hardware_model hardware.now) o false end)
+        memory.old domain.old now memory.new domain.new result }
     ensures frames { memory.new.frames ≡ memory.old.frames }
-    ensures place { SamePlace domain.old domain.new }
+    ensures place { domain.new.frames ≡ domain.old.frames }
     ensures few { CountsUpTo result domain.new }
     ensures later { now < result }
     ensures soon { result < end + hardware.now.base }
 {
     match domain.status {
         DomainStatus::Running => {
-            run_instruction(memory, domain, now);
+            let root = domain.frames.map.root();
+            run_instruction(root, memory, domain, now);
             now + u64::from(hardware.base)
         }
         _ => end,
@@ -166,10 +177,11 @@ pub fn stretch(
     requires before { now < 2 ^ 62 }
     requires end { end < 2 ^ 62 }
     requires few { CountsUpTo now domain.old }
-    ensures becomes { (o : Own) → domain.old.root ≡ root_of (hardware_model hardware.now) o
-        → Moves (spec.stretch (hardware_model hardware.now) o false end) memory.old domain.old now memory.new domain.new result }
+    ensures becomes { (o : Own) → domain.old.frames.map ≡ root_of (hardware_model hardware.now) o
+        → Moves (spec.stretch (hardware_model hardware.now) o false end)
+        memory.old domain.old now memory.new domain.new result }
     ensures frames { memory.new.frames ≡ memory.old.frames }
-    ensures place { SamePlace domain.old domain.new }
+    ensures place { domain.new.frames ≡ domain.old.frames }
     ensures few { CountsUpTo result domain.new }
     ensures over { end ≤ result }
     ensures soon { now < end → result < end + hardware.now.base }

@@ -1,5 +1,7 @@
 //! Laws of the report over its definitions, each the contract of a function
 //! that does nothing: a caller that calls it may rely on the law.
+ghost use Rattle.std.specs.Prelude.{◌≡◌, codes, pos, negsuc};
+ghost use Rattle.tp_report.specs.Report.{switch_line, end_text, usage_text, refusal_text, too_long_text};
 ghost use Rattle.tp_report.specs.Laws.{ReportLaw, LinesLaw};
 
 /// The report's sections are those of each domain alone.
@@ -10,4 +12,18 @@ pub fn isolation()
 /// No switch line says more than its pad.
 pub fn pads()
     ensures lines { LinesLaw }
+{}
+
+/// Texts as written by hand, of the least numbers and of the greatest; whole
+/// sections are in the runs of the program.
+pub fn texts()
+    ensures least { switch_line 0 0 6150 0 ≡ codes "switch 0 used 0 pad 6150 count 0\n" }
+    ensures greatest { switch_line 1 18446744073709551615 5 3
+        ≡ codes "switch 1 used 18446744073709551615 pad 5 count 3\n" }
+    ensures end { end_text ≡ codes "end\n" }
+    ensures usage { usage_text ≡ codes "usage: tp check|bound|run|alone|gen|demo\n" }
+    ensures refusal { refusal_text
+        (record { rule = 4; at = pos 0; found = negsuc 9223372036854775807; wanted = pos 64 })
+        ≡ codes "refused K4 at 0 found -9223372036854775808 wanted 64\n" }
+    ensures too_long { too_long_text ≡ codes "too long\n" }
 {}

@@ -375,7 +375,7 @@ fn write_digits<K: Sink>(out: &mut K, bytes: &[u8]) -> Result<(), Failed>
 }
 
 fn write_chunk<K: Sink>(out: &mut K, bytes: &[u8]) -> Result<(), Failed>
-    requires { length bytes.now ≤ CHUNK }
+    requires few { length bytes.now ≤ CHUNK }
     ensures sends { Sends (state K.Sink out.old) (state K.Sink out.new) result (encode_lower bytes.now) }
 {
     let mut buffer = [0u8; 2 * CHUNK];

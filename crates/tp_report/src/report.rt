@@ -34,7 +34,7 @@ fn write_section_of<'a, K: Sink>(
     view: &'a View<'a>,
     thread: &'a Thread,
 ) -> Result<(), Failed>
-    requires { thread_model thread.now ≡ (view_model view.now).thread }
+    requires first { thread_model thread.now ≡ (view_model view.now).thread }
     ensures sends { Sends (state K.Sink out.old) (state K.Sink out.new)
         result (spec.section domain name.now (view_model view.now)) }
 {
@@ -95,7 +95,7 @@ fn frame_sum(view: &View<'_>, i: usize) -> u32
 /// Writes the line of each schedule entry.
 #[tactic(auto, unfolding(crate::specs::Switches::switches_text))]
 pub fn write_switches<K: Sink>(out: &mut K, entries: &[Entry], used: &[Used]) -> Result<(), Failed>
-    requires { length used.now ≡ length entries.now }
+    requires paired { length used.now ≡ length entries.now }
     ensures sends { Sends (state K.Sink out.old) (state K.Sink out.new)
         result (switches_text entries.now used.now) }
 {
@@ -171,6 +171,3 @@ pub fn write_too_long<K: Sink>(out: &mut K) -> Result<(), Failed>
 {
     write_all_of(out, b"too long\n")
 }
-
-#[cfg(test)]
-mod tests;

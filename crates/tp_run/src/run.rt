@@ -18,7 +18,7 @@ use tp_report::{write_end, write_section, write_switches};
 
 /// Runs the image for so many slots and writes the report.
 pub fn run_image<K: Sink>(alloc: Global, image: &Checked, slots: u32, out: &mut K) -> Status
-    requires { slots ≤ 65536 }
+    requires few { slots ≤ 65536 }
     ensures delivers { Delivers (Status.Done, spec.report (image_from image.now) slots)
         result (state K.Sink out.old) (state K.Sink out.new) }
 {
@@ -65,7 +65,7 @@ fn domains_of(image: &Checked) -> u8
 
 #[tactic(auto, unfolding(tp_report::specs::Report::section_of))]
 fn write_domain<K: Sink>(out: &mut K, machine: &Machine<'_>, d: u8) -> Result<(), Failed>
-    requires { d < length (image_from machine.now.image.now).owns }
+    requires domain { d < length (image_from machine.now.image.now).owns }
     ensures sends { Sends (state K.Sink out.old) (state K.Sink out.new)
         result (spec.section_of (image_from machine.now.image.now)
         (λ e. view_whole (image_from machine.now.image.now) e machine.now.slots) d) }

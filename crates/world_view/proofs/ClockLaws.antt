@@ -1,12 +1,10 @@
 -- Every clock of a run is far from the end of its range, by the limits of an image and of a run.
-use Rattle.std.proofs.Common.{◌≡◌, ℕ, zero, suc, false, ◌+◌, ◌*◌, ◌<◌, ◌≤◌, ◌^◌, length, arith}
-use Rattle.image_check.specs.Public.{entry_in}
+use Rattle.std.proofs.Common.{ℕ, zero, suc, false, ◌+◌, ◌*◌, ◌≤◌, arith}
 use Rattle.image_check.specs.Image.{Image, own_of}
-use Rattle.world_view.specs.Schedule.{entry_of_slot, switch_entry, pad_of, start, slot_end, last_end, outgoing}
-use Rattle.world_view.specs.Machine.{Local, part_of, switch, whole}
+use Rattle.world_view.specs.Schedule.{entry_of_slot, start, slot_end, last_end, outgoing}
+use Rattle.world_view.specs.Machine.{part_of, switch, whole}
 use Rattle.image_check.specs.Laws.{Runnable}
-use Rattle.world_view.specs.Relations.{largest_step}
-use Rattle.world_view.specs.Laws.{local_in, ClocksFit}
+use Rattle.world_view.specs.Laws.{ClocksFit}
 use Rattle.world_view.proofs.Separate.{separated}
 use Rattle.world_view.proofs.TimeLaws.{switch_free, steps_soon, in_time, on_time}
 

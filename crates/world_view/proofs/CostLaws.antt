@@ -1,6 +1,6 @@
 -- Touches from caches that are beside.
 use Rattle.std.proofs.Common.{◌≡◌, Bool, true, false, ◌+◌, List, [], ◌∷◌, refl, ap₂, arith}
-use Rattle.image_check.specs.Public.{Hardware}
+use Rattle.hardware_check.specs.Hardware.{Hardware}
 use Rattle.image_check.specs.Own.{Own}
 use Rattle.world_view.specs.Cost.{Touch, Caches, touched, and_then, touched_all}
 use Rattle.world_view.specs.Relations.{May, MayAll, BesideCaches, BesideTouched}

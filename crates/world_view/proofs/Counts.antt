@@ -7,7 +7,7 @@ use Rattle.image_check.specs.declared.own.Rights.{Rights}
 use Rattle.image_check.specs.Own.{Segment, Own, no_segment}
 use Rattle.image_check.specs.Laws.{AreRights, IsSegment, IsOwn}
 use Rattle.sv32_walk.specs.PageTableEntry.{are_good}
-use Rattle.world_view.specs.Frames.{has_page, meets, has_region, regions_below, pages_below, pages_in}
+use Rattle.image_check.specs.Pages.{has_page, meets, has_region, regions_below, pages_below, pages_in}
 use Rattle.world_view.specs.Opening.{rights_in, rights_number}
 
 -- ---- regions

@@ -1,6 +1,6 @@
 -- A stretch is one step and then a stretch, so nobody above sees how it is counted.
 use Rattle.std.proofs.Common.{◌≡◌, ℕ, Bool, true, false, cond, ltb, zero, suc, ◌-◌, ◌<◌, ◌≤◌, sym, ◌∙◌, refl, arith, ltb-true, lt-ltb, le-ltb}
-use Rattle.image_check.specs.Public.{Hardware}
+use Rattle.hardware_check.specs.Hardware.{Hardware}
 use Rattle.image_check.specs.Own.{Own}
 use Rattle.world_view.specs.Domain.{is_running}
 use Rattle.world_view.specs.Event.{event}

@@ -15,3 +15,4 @@ pub mod WholeLaws
 pub mod CodeLaws
 pub mod Logs
 pub mod ReadingLaws
+pub mod Parts

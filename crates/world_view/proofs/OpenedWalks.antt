@@ -14,11 +14,12 @@ use Rattle.sv32_walk.specs.PageTableEntry.{rights_permit, table_word, leaf_word}
 use Rattle.sv32_walk.proofs.WordLemmas.{valid-zero, ppn-table, points-table, ppn-leaf, allows-leaf, refuses-leaf}
 use Rattle.page_map.proofs.WalkLemmas.{last_invalid, last_refused, by_table, no_entry, vpn_0-below, vpn_1-below}
 use Rattle.image_check.specs.declared.own.Rights.{Rights}
-use Rattle.image_check.specs.Public.{Hardware}
+use Rattle.hardware_check.specs.Hardware.{Hardware}
 use Rattle.image_check.specs.Own.{Own}
 use Rattle.image_check.specs.Laws.{IsOwn}
 use Rattle.image_check.specs.Image.{Image, own_of}
-use Rattle.world_view.specs.Frames.{has_region, frames_in, pool, root_of, table_frame, page_frame}
+use Rattle.image_check.specs.Pages.{has_region, frames_in}
+use Rattle.world_view.specs.Frames.{pool, root_of, table_frame, page_frame}
 use Rattle.world_view.specs.Opening.{root_entry, rights_in, rights_number, leaf_with, leaf_entry, placed}
 use Rattle.world_view.specs.Machine.{opening, whole, alone_opening}
 use Rattle.world_view.specs.Relations.{IsDomain}

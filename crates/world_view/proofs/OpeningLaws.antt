@@ -1,5 +1,5 @@
 -- The whole machine at first, as each domain sees it.
-use Rattle.std.proofs.Common.{◌≡◌, ◌≢◌, ℕ, false, true, Bool, cond, zero, suc, ◌+◌, ◌*◌, ◌<◌, ◌≤◌, List, [], ◌∷◌, get_or, length, take, drop, Option, Some, None, inl, inr, ap, sym, ◌∙◌, refl, subst, arith, add-zero, true≢false}
+use Rattle.std.proofs.Common.{◌≡◌, ◌≢◌, ℕ, false, true, Bool, cond, zero, suc, ◌+◌, ◌*◌, ◌<◌, ◌≤◌, List, [], ◌∷◌, get_or, length, take, drop, Option, Some, None, ◌⊎◌, inl, inr, ap, sym, ◌∙◌, refl, subst, arith, add-zero, true≢false}
 use Rattle.std.proofs.lemmas.Bool.{cases_Bool, cases_eq, le-leb, lt-ltb}
 use Rattle.std.proofs.Math.Bool.{or-true}
 use Rattle.tp_base.specs.Table.{empty, at, put, at-empty, at-put_other, at-put_same}
@@ -12,10 +12,11 @@ use Rattle.sv32_walk.specs.PageTableEntry.{is_leaf}
 use Rattle.sv32_walk.proofs.WordLemmas.{valid-zero, ppn-table, leaf-good}
 use Rattle.image_check.specs.Laws.{IsOwn}
 use Rattle.image_check.specs.declared.own.Rights.{Rights}
-use Rattle.image_check.specs.Public.{Hardware}
+use Rattle.hardware_check.specs.Hardware.{Hardware}
 use Rattle.image_check.specs.Own.{Segment, Own, no_own}
 use Rattle.image_check.specs.Image.{Image, own_of}
-use Rattle.world_view.specs.Frames.{has_page, has_region, regions_below, regions_in, pages_below, frames_in, pool, root_of, table_frame, page_frame, own_frame}
+use Rattle.image_check.specs.Pages.{has_page, has_region, regions_below, regions_in, pages_below, frames_in}
+use Rattle.world_view.specs.Frames.{pool, pool_frame, root_of, table_frame, page_frame, own_frame}
 use Rattle.world_view.specs.Opening.{put_word, tabled, root_entry, rights_in, rights_number, leaf_with, leaf_entry, root_placed, table_placed, tables_placed, page_words, pages_placed, segments_placed, placed, all_placed}
 use Rattle.world_view.specs.Domain.{opening_dom, no_dom}
 use Rattle.world_view.specs.Machine.{opening_doms, opening, alone_opening}
@@ -136,52 +137,52 @@ module _ (p : Hardware) (o : Own) (f : ℕ) where
 -- ---- where tables and pages stand
 
 module _ (p : Hardware) (o : Own) (enough : frames_in o.segments ≤ length (pool p o)) where
-  root_place : 0 < length (pool p o)
+  root_place : 4 < length (pool p o)
   root_place = omega (arith, enough)
 
-  table_place : (r : ℕ) → r < 1024 → has_region o.segments r ≡ true → 1 + regions_below o.segments r < 1 + regions_in o.segments
+  table_place : (r : ℕ) → r < 1024 → has_region o.segments r ≡ true → 5 + regions_below o.segments r < 5 + regions_in o.segments
   table_place r below some = let before = region_before o.segments r 1024 some below in omega (arith, before)
 
-  page_place : (n : ℕ) → is_page o.segments n ≡ true → 1 + regions_in o.segments + pages_below o.segments n < length (pool p o)
+  page_place : (n : ℕ) → is_page o.segments n ≡ true → 5 + regions_in o.segments + pages_below o.segments n < length (pool p o)
   page_place n there = let low = pages_low o.segments n there in omega (arith, low, enough)
 
-  table_in : (r : ℕ) → r < 1024 → has_region o.segments r ≡ true → 1 + regions_below o.segments r < length (pool p o)
+  table_in : (r : ℕ) → r < 1024 → has_region o.segments r ≡ true → 5 + regions_below o.segments r < length (pool p o)
   table_in r below some = let place = table_place r below some in omega (arith, place, enough)
 
   pub own_root : IsOwnFrame p o (root_of p o)
-  own_root = pool_own p o 0 root_place
+  own_root = pool_own p o 4 root_place
 
   pub own_table : (r : ℕ) → r < 1024 → has_region o.segments r ≡ true → IsOwnFrame p o (table_frame p o r)
-  own_table r below some = pool_own p o (1 + regions_below o.segments r) (table_in r below some)
+  own_table r below some = pool_own p o (5 + regions_below o.segments r) (table_in r below some)
 
   pub own_page : (n : ℕ) → is_page o.segments n ≡ true → IsOwnFrame p o (page_frame p o n)
-  own_page n there = pool_own p o (1 + regions_in o.segments + pages_below o.segments n) (page_place n there)
+  own_page n there = pool_own p o (5 + regions_in o.segments + pages_below o.segments n) (page_place n there)
 
   table_no_root : (r : ℕ) → r < 1024 → has_region o.segments r ≡ true → table_frame p o r ≢ root_of p o
   table_no_root r below some e =
-      let same = pool_once p o (1 + regions_below o.segments r) 0 (table_in r below some) root_place e in
+      let same = pool_once p o (5 + regions_below o.segments r) 4 (table_in r below some) root_place e in
       omega (arith, same)
 
   page_no_root : (n : ℕ) → is_page o.segments n ≡ true → page_frame p o n ≢ root_of p o
   page_no_root n there e =
-      let same = pool_once p o (1 + regions_in o.segments + pages_below o.segments n) 0 (page_place n there) root_place e in
+      let same = pool_once p o (5 + regions_in o.segments + pages_below o.segments n) 4 (page_place n there) root_place e in
       omega (arith, same)
 
   page_no_table : (n r : ℕ) → is_page o.segments n ≡ true → r < 1024 → has_region o.segments r ≡ true → page_frame p o n ≢ table_frame p o r
   page_no_table n r there below some e =
-      let same = pool_once p o (1 + regions_in o.segments + pages_below o.segments n) (1 + regions_below o.segments r) (page_place n there) (table_in r below some) e in
+      let same = pool_once p o (5 + regions_in o.segments + pages_below o.segments n) (5 + regions_below o.segments r) (page_place n there) (table_in r below some) e in
       let place = table_place r below some in
       omega (arith, same, place)
 
   tables_once : (r q : ℕ) → r < 1024 → q < 1024 → has_region o.segments r ≡ true → has_region o.segments q ≡ true → table_frame p o r ≡ table_frame p o q → r ≡ q
   tables_once r q r_below q_below some more e =
-      let same = pool_once p o (1 + regions_below o.segments r) (1 + regions_below o.segments q) (table_in r r_below some) (table_in q q_below more) e in
+      let same = pool_once p o (5 + regions_below o.segments r) (5 + regions_below o.segments q) (table_in r r_below some) (table_in q q_below more) e in
       region_once o.segments r q some more (omega (arith, same))
 
   -- each page has a frame of its own
   pub pages_once : (n m : ℕ) → is_page o.segments n ≡ true → is_page o.segments m ≡ true → page_frame p o n ≡ page_frame p o m → n ≡ m
   pages_once n m there other e =
-      let same = pool_once p o (1 + regions_in o.segments + pages_below o.segments n) (1 + regions_in o.segments + pages_below o.segments m) (page_place n there) (page_place m other) e in
+      let same = pool_once p o (5 + regions_in o.segments + pages_below o.segments n) (5 + regions_in o.segments + pages_below o.segments m) (page_place n there) (page_place m other) e in
       page_once o.segments n m there other (omega (arith, same))
 
   -- frames of others are left
@@ -192,6 +193,28 @@ module _ (p : Hardware) (o : Own) (enough : frames_in o.segments ≤ length (poo
       segments_other p o f o.segments _ (λ q there. outside (page_frame p o q) (own_page q there))
       ∙ tables_other p o f 1024 _ (omega arith) (λ q below some. outside (table_frame p o q) (own_table q below some))
       ∙ put_frame_other m f (root_of p o) (tabled (root_entry p o) 1024) (outside (root_of p o) own_root)
+
+  -- and so are those that hold neither the root, nor a table, nor a page
+  pub placed_past : (n : ℕ) → n < length (pool p o) → (n < 4) ⊎ (frames_in o.segments ≤ n) → (m : Mem) → frame_at (placed p o m) (pool_frame p o n) ≡ frame_at m (pool_frame p o n)
+  unfolding placed root_placed
+  placed_past n within past m =
+      segments_other p o (pool_frame p o n) o.segments _ (λ q there e.
+      let same = pool_once p o n (5 + regions_in o.segments + pages_below o.segments q) within (page_place q there) e in
+      let low = pages_low o.segments q there in
+      apart _ same (omega arith) (omega (arith, low)))
+      ∙ tables_other p o (pool_frame p o n) 1024 _ (omega arith) (λ q below some e.
+      let same = pool_once p o n (5 + regions_below o.segments q) within (table_in q below some) e in
+      let place = table_place q below some in
+      apart _ same (omega arith) (omega (arith, place)))
+      ∙ put_frame_other m (pool_frame p o n) (root_of p o) (tabled (root_entry p o) 1024) (λ e.
+      apart 4 (pool_once p o n 4 within root_place e) (omega arith) (omega arith))
+    where
+      -- none of those places is so low, or so high
+      apart : (k : ℕ) → n ≡ k → 4 ≤ k → k < frames_in o.segments → ⊥
+      apart k same above below = elim past [
+        | inl low ↦ omega (arith, same, above, low)
+        | inr high ↦ omega (arith, same, below, high)
+      ]
 
   -- the tables below region r, of which one is that of region q
   module _ (q : ℕ) (q_below : q < 1024) (some : has_region o.segments q ≡ true) where
@@ -296,7 +319,7 @@ module _ (p : Hardware) (o : Own) (enough : frames_in o.segments ≤ length (poo
 
     placed_map : IsPageMap (placed p o m) (root_of p o) p.frames
     placed_map = record {
-      in_memory = pool_inside p o 0 root_place;
+      in_memory = pool_inside p o 4 root_place;
       tables = λ i below is_valid.
           let table = table_is i below is_valid in
           let some = some_at i below is_valid in
@@ -359,7 +382,7 @@ abbrev Leaves : Hardware → Own → Type 0
 Leaves p o = (m : Mem) (f : ℕ) → own_frame p o f ≡ false → frame_at (placed p o m) f ≡ frame_at m f
 
 -- frames that no domain has are empty
-none_placed : (p : Hardware) (os : List Own) (f : ℕ) → ((e : ℕ) → e < length os → Leaves p (get_or os e no_own)) → ((e : ℕ) → e < length os → own_frame p (get_or os e no_own) f ≡ false)
+pub none_placed : (p : Hardware) (os : List Own) (f : ℕ) → ((e : ℕ) → e < length os → Leaves p (get_or os e no_own)) → ((e : ℕ) → e < length os → own_frame p (get_or os e no_own) f ≡ false)
     → frame_at (all_placed p os) f ≡ frame_at empty f
 unfolding all_placed
 none_placed p [] f leaves out = refl

@@ -1,7 +1,7 @@
 -- Steps of the domain from states that are beside give states that are beside, at equal cost.
 use Rattle.std.proofs.Common.{◌≡◌, ℕ, Bool, true, false, ltb, zero, suc, ◌+◌, ◌-◌, List, ap, refl, subst, subst₂}
 use Rattle.tp_base.specs.Act.{either}
-use Rattle.image_check.specs.Public.{Hardware}
+use Rattle.hardware_check.specs.Hardware.{Hardware}
 use Rattle.image_check.specs.Own.{Own}
 use Rattle.world_view.specs.Domain.{Dom}
 use Rattle.world_view.specs.Cost.{Touch, Caches, touched_all}

@@ -1,6 +1,6 @@
 -- Page tables by which a domain reaches its own frames alone: where they are as they were, they are good, and walks of
 -- them stay in its frames.
-use Rattle.std.proofs.Common.{◌≡◌, ◌≢◌, ℕ, ◌<◌, true, sym, ap, subst, ◌∙◌}
+use Rattle.std.proofs.Common.{◌≡◌, ◌≢◌, ℕ, true, sym, ap, subst, ◌∙◌}
 use Rattle.std.specs.Prelude.{Ok, Err}
 use Rattle.tp_base.specs.Table.{at}
 use Rattle.phys_mem.specs.Mem.{Mem, Frame, frame_at, word}
@@ -8,12 +8,12 @@ use Rattle.sv32_walk.specs.declared.access.Access.{Access}
 use Rattle.sv32_walk.specs.declared.access.WalkFault.TheVariants as fault
 use Rattle.sv32_walk.specs.PageTableEntry.{valid, ppn, is_leaf}
 use Rattle.sv32_walk.specs.Walk.{walk}
-use Rattle.page_map.specs.Reached.{leaf_at, PagesIn, IsApart, SameTables}
+use Rattle.page_map.specs.Reached.{PagesIn, IsApart, SameTables}
 use Rattle.page_map.proofs.KeptLemmas.{kept_by, once_by}
 use Rattle.page_map.proofs.ReachLemmas.{same_reaches, same_sealed}
 use Rattle.page_map.proofs.ReachedWalks.{walk_reads, walk_page, walk_inside}
 use Rattle.page_map.proofs.WalkLemmas.{walk_by_tables}
-use Rattle.image_check.specs.Public.{Hardware}
+use Rattle.hardware_check.specs.Hardware.{Hardware}
 use Rattle.image_check.specs.Own.{Own}
 use Rattle.world_view.specs.Frames.{root_of}
 use Rattle.world_view.specs.Relations.{IsOwnFrame, SameFrames, AllOwn, Good}

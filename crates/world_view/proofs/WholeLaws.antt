@@ -1,12 +1,12 @@
 -- The whole machine beside each domain alone, slot after slot.
-use Rattle.std.proofs.Common.{◌≡◌, ◌≢◌, ℕ, Bool, true, false, cond, eqb, zero, suc, ◌-◌, List, [], ◌∷◌, ap, ap₂, sym, ◌∙◌, refl, subst, arith, true≢false, ◌⊎◌, inl, inr, eqb-true, eq-eqb, map, filter}
+use Rattle.std.proofs.Common.{◌≡◌, ◌≢◌, ℕ, Bool, true, false, eqb, zero, suc, ◌-◌, ◌<◌, length, get_or, List, [], ◌∷◌, ap, ap₂, sym, ◌∙◌, refl, subst, arith, true≢false, ◌⊎◌, inl, inr, eqb-true, eq-eqb, map}
 use Rattle.std.proofs.lemmas.Bool.{cases_eq}
-use Rattle.std.specs.List.{range_with_len}
 use Rattle.tp_base.specs.Table.{at-put_other, at-put_same}
-use Rattle.image_check.specs.Public.{Hardware, Public}
+use Rattle.hardware_check.specs.Hardware.{Hardware}
+use Rattle.image_check.specs.Public.{Public}
 use Rattle.image_check.specs.Own.{Own}
 use Rattle.image_check.specs.Image.{Image, own_of}
-use Rattle.world_view.specs.Frames.{own_frame, pool}
+use Rattle.world_view.specs.Frames.{pool}
 use Rattle.world_view.specs.Schedule.{entry_of_slot, slot_end}
 use Rattle.phys_mem.specs.Mem.{frame_at}
 use Rattle.world_view.specs.Opening.{frame_words}
@@ -16,6 +16,7 @@ use Rattle.world_view.specs.Machine.{Local, steps, stretch, dom_of, part_of, wit
 use Rattle.world_view.specs.View.{log_of, view, view_whole, view_alone}
 use Rattle.world_view.specs.Relations.{IsDomain, SameFrames, Good, Beside, Within, Apiece, Agree}
 use Rattle.world_view.specs.Laws.{local_in}
+use Rattle.world_view.proofs.PoolLaws.{own_at_place}
 use Rattle.world_view.proofs.Separate.{Separated}
 use Rattle.world_view.proofs.TableLaws.{good_same, tables_of_frames}
 use Rattle.world_view.proofs.StepLaws.{steps_near, stretch_near, beside_itself}
@@ -171,19 +172,15 @@ module _ (i : Image) (r : Separated i) where
     seen zero j = (j.dom, j.frames)
     seen (suc k) j = seen_if k _ j
 
-same_map : {B : Type 0} (q : ℕ → Bool) (f g : ℕ → B) → ((x : ℕ) → q x ≡ true → f x ≡ g x) → (xs : List ℕ) → map f (filter q xs) ≡ map g (filter q xs)
-same_map q f g same [] = refl
-same_map {B} q f g same (x ∷ xs) =
-    elim (q x) as (λ b. q x ≡ b → map f (cond b (x ∷ filter q xs) (filter q xs)) ≡ map g (cond b (x ∷ filter q xs) (filter q xs))) [
-      | true ↦ λ t. ap₂ (λ y ys. y ∷ ys) (same x t) (same_map q f g same xs)
-      | false ↦ λ t. same_map q f g same xs
-    ] refl
+-- what agrees on each item gives the same list
+same_map : {B : Type 0} (f g : ℕ → B) (xs : List ℕ) → ((n : ℕ) → n < length xs → f (get_or xs n 0) ≡ g (get_or xs n 0)) → map f xs ≡ map g xs
+same_map f g [] same = refl
+same_map f g (x ∷ xs) same = ap₂ (λ y ys. y ∷ ys) (same 0 (omega arith)) (same_map f g xs (λ n h. same (suc n) (omega (arith, h))))
 
 same_view : (p : Hardware) (o : Own) (d e : Dom) (s t : Storage) → d ≡ e → SameFrames p o s.mem t.mem → view p o d s ≡ view p o e t
-unfolding view pool
+unfolding view
 same_view p o d e s t dom frames =
-    let xs = range_with_len 0 p.frames in
-    let same = same_map (own_frame p o) (λ f. frame_words (frame_at s.mem f)) (λ f. frame_words (frame_at t.mem f)) (λ f own. ap frame_words (frames f own)) xs in
+    let same = same_map (λ f. frame_words (frame_at s.mem f)) (λ f. frame_words (frame_at t.mem f)) (pool p o) (λ n h. ap frame_words (frames _ (own_at_place p o n h))) in
     ap₂ (λ (x : Dom) (y : List (List ℕ)). record {
       status = x.status;
       retired = x.retired;

@@ -1,6 +1,6 @@
 -- What touches cost, and the caches after them. Costs are in cycles. As yet every touch is free, and nothing is cached.
 use Rattle.std.specs.Prelude.{ℕ, ◌+◌, Bool, List, [], ◌∷◌}
-use Rattle.image_check.specs.Public.{Hardware}
+use Rattle.hardware_check.specs.Hardware.{Hardware}
 
 pub data Touch : Type 0 where
   -- a page's translation is looked up: its number, the physical addresses of the entries that its walk reads, and

@@ -19,7 +19,7 @@ use Rattle.sv32_walk.specs.declared.access.WalkFault.{WalkFault}
 use Rattle.sv32_walk.specs.declared.access.WalkFault.TheVariants as fault
 use Rattle.sv32_walk.specs.PageTableEntry.{ppn}
 use Rattle.sv32_walk.specs.Walk.{walk}
-use Rattle.image_check.specs.Public.{Hardware}
+use Rattle.hardware_check.specs.Hardware.{Hardware}
 use Rattle.world_view.specs.Domain.{Dom, is_running}
 use Rattle.world_view.specs.Instruction.{stopped, trapped, retired_at, counter_value, read_out, call}
 use Rattle.world_view.specs.Cost.{Touch}

@@ -11,9 +11,12 @@ use Rattle.sv32_walk.specs.PageTableEntry.{table_word, leaf_word, leaf_bits}
 use Rattle.rv_core.specs.Registers.{zeros}
 use Rattle.world_view.specs.declared.DomainStatus.TheVariants.{Exited}
 use Rattle.world_view.specs.declared.ThreadState.TheVariants.{Ended}
+use Rattle.frame_colours.specs.Colours as colours
+use Rattle.hardware_check.specs.declared.hardware.Policy.TheVariants.{Lru}
+use Rattle.hardware_check.specs.Hardware.{Hardware}
 use Rattle.image_check.specs.Own.{Segment}
 use Rattle.image_check.specs.Image.{Image, own_of}
-use Rattle.world_view.specs.Frames.{has_region, regions_below, pages_below, pages_in, pool, pool_frame}
+use Rattle.image_check.specs.Pages.{has_region, regions_below, pages_below, pages_in}
 use Rattle.world_view.specs.Schedule.{start}
 use Rattle.world_view.specs.Opening.{frame_words, put_word, tabled, root_entry, rights_in, leaf_with, leaf_entry, root_placed, table_placed, tables_placed, page_words, pages_placed, segments_placed, placed, all_placed}
 use Rattle.rv_decode.specs.declared.Counter.TheVariants.{Cycle, Time, Instret, CycleHigh, TimeHigh, InstretHigh}
@@ -49,17 +52,32 @@ timed_print byte =
 abbrev pub code_at_16 : List ℕ → Segment
 code_at_16 code = record { page = 16; pages = 1; rights = record { read = true; write = false; execute = true }; bytes = code }
 
+-- 64 frames of 4 colours
+abbrev pub small_machine : Hardware
+small_machine = record {
+  frames = 64;
+  base = 1;
+  shared = 512;
+  line = 64;
+  l1i = record { sets = 16; ways = 2; policy = Lru };
+  l1d = record { sets = 16; ways = 2; policy = Lru };
+  l2 = record { sets = 256; ways = 4; policy = Lru };
+  tlb = record { sets = 4; ways = 2; policy = Lru };
+  predictor = 16;
+  costs = record { base = 1; l1 = 1; l2 = 8; mem = 40; wb = 10; tlb = 1; mispredict = 3; trap = 10; flush = 20 };
+}
+
 -- red and blue, in slots of 10,000 cycles in turn
 unfoldable pub two_domains : List ℕ → List ℕ → Image
 two_domains red blue = record {
   all = record {
-    hardware = record { frames = 2114; base = 1 };
+    hardware = small_machine;
     schedule = record { domain = 0; length = 10000; pad = 6150 } ∷ record { domain = 1; length = 10000; pad = 6150 } ∷ [];
     domains = 2;
   };
   owns =
-      record { name = codes "red"; entry = 65536; first_frame = 0; segments = code_at_16 red ∷ [] }
-      ∷ record { name = codes "blue"; entry = 65536; first_frame = 1057; segments = code_at_16 blue ∷ [] } ∷ [];
+      record { name = codes "red"; colours = 1 ∷ []; entry = 65536; segments = code_at_16 red ∷ [] }
+      ∷ record { name = codes "blue"; colours = 2 ∷ []; entry = 65536; segments = code_at_16 blue ∷ [] } ∷ [];
 }
 
 -- one that prints A beside one that prints B
@@ -97,35 +115,35 @@ printed_in_time byte clock = record {
 
 -- all that a run computes with
 pub everything : ℕ
-unfolding empty at put go_on ◌>>=◌ ◌>>◌ give stop note either start frame_at word written frame_words put_word tabled root_entry rights_in leaf_with leaf_entry root_placed table_placed tables_placed page_words pages_placed segments_placed placed all_placed has_region regions_below pages_below pages_in table_word leaf_word leaf_bits bit ppn ppn_0 ppn_1 with_ppn vpn_0 vpn_1 leaf superpage first_level last_level entry_address from_table from_entry walk opening_dom no_dom stopped trapped retired_at read_out replied exited put_byte called call touched and_then touched_all touch frame_or_stop translate address_in read write unless load store loaded noted settle execute perform instruction event paid happened step steps leave_part prefetch_part flush_part enter_part switch_work with_part switch run_slot opening_doms opening whole alone_opening alone_enter alone_in alone_out alone_if alone log_of pool pool_frame view view_whole view_alone memory_sum count_of largest_of two_domains
+unfolding empty at put go_on ◌>>=◌ ◌>>◌ give stop note either start frame_at word written frame_words put_word tabled root_entry rights_in leaf_with leaf_entry root_placed table_placed tables_placed page_words pages_placed segments_placed placed all_placed has_region regions_below pages_below pages_in table_word leaf_word leaf_bits bit ppn ppn_0 ppn_1 with_ppn vpn_0 vpn_1 leaf superpage first_level last_level entry_address from_table from_entry walk opening_dom no_dom stopped trapped retired_at read_out replied exited put_byte called call touched and_then touched_all touch frame_or_stop translate address_in read write unless load store loaded noted settle execute perform instruction event paid happened step steps leave_part prefetch_part flush_part enter_part switch_work with_part switch run_slot opening_doms opening whole alone_opening alone_enter alone_in alone_out alone_if alone log_of colours.pool colours.frame_at view view_whole view_alone memory_sum count_of largest_of two_domains
 everything = 0
 
 -- ---- the memory that it opens with
 
 -- blue's root points to the table in the next frame, whose entry for page 16 is a leaf to read and to execute
-pub blue_table : word (whole prints 0).storage.mem 1057 0 ≡ 1058 * 1024 + 0x01
+pub blue_table : word (whole prints 0).storage.mem 18 0 ≡ 22 * 1024 + 0x01
 unfolding everything
 blue_table = refl
 
-pub blue_leaf : word (whole prints 0).storage.mem 1058 16 ≡ 1059 * 1024 + 0x5b
+pub blue_leaf : word (whole prints 0).storage.mem 22 16 ≡ 26 * 1024 + 0x5b
 unfolding everything
 blue_leaf = refl
 
-pub blue_code : word (whole prints 0).storage.mem 1059 0 ≡ 0x04200513
+pub blue_code : word (whole prints 0).storage.mem 26 0 ≡ 0x04200513
 unfolding everything
 blue_code = refl
 
 -- so it fetches from its page and loads, and doesn't store
-pub blue_fetches : (walk (whole prints 0).storage.mem 2114 1057 0x10004 access.Fetch).result ≡ Ok (1059 * 1024 + 0x5b)
+pub blue_fetches : (walk (whole prints 0).storage.mem 64 18 0x10004 access.Fetch).result ≡ Ok (26 * 1024 + 0x5b)
 unfolding everything
 blue_fetches = refl
 
-pub blue_stores : (walk (whole prints 0).storage.mem 2114 1057 0x10004 access.Store).result ≡ Err fault.Page
+pub blue_stores : (walk (whole prints 0).storage.mem 64 18 0x10004 access.Store).result ≡ Err fault.Page
 unfolding everything
 blue_stores = refl
 
 -- and there is no page 17
-pub blue_past : (walk (whole prints 0).storage.mem 2114 1057 0x11000 access.Load).result ≡ Err fault.Page
+pub blue_past : (walk (whole prints 0).storage.mem 64 18 0x11000 access.Load).result ≡ Err fault.Page
 unfolding everything
 blue_past = refl
 
@@ -135,7 +153,7 @@ pub red : record (view_whole prints 0 4) { pool = []; frames = [] } ≡ printed_
 unfolding everything
 red = refl
 
-pub red_memory : memory_sum (view_whole prints 0 4).frames ≡ 0x0420237b
+pub red_memory : memory_sum (view_whole prints 0 4).frames ≡ 0x0420cf7b
 unfolding everything
 red_memory = refl
 
@@ -143,7 +161,7 @@ pub blue : record (view_whole prints 1 4) { pool = []; frames = [] } ≡ printed
 unfolding everything
 blue = refl
 
-pub blue_memory : memory_sum (view_whole prints 1 4).frames ≡ 0x04512b7b
+pub blue_memory : memory_sum (view_whole prints 1 4).frames ≡ 0x0430d77b
 unfolding everything
 blue_memory = refl
 
@@ -157,7 +175,7 @@ pub timed_red : record (view_whole timed_prints 0 4) { pool = []; frames = [] } 
 unfolding everything
 timed_red = refl
 
-pub timed_red_memory : memory_sum (view_whole timed_prints 0 4).frames ≡ 0x842069e1
+pub timed_red_memory : memory_sum (view_whole timed_prints 0 4).frames ≡ 0x842115e1
 unfolding everything
 timed_red_memory = refl
 

@@ -1,16 +1,18 @@
 -- The laws of the machine over its definitions, each as a type; they are the clauses of the functions of `laws`.
-use Rattle.std.specs.Prelude.{◌≡◌, ◌≢◌, ℕ, true, false, ◌+◌, ◌/◌, ◌<◌, ◌≤◌, ◌^◌, List, Some, None, Result, Ok, Err}
+use Rattle.std.specs.Prelude.{◌≡◌, ◌≢◌, ℕ, true, false, ◌+◌, ◌/◌, ◌%◌, ◌<◌, ◌≤◌, ◌^◌, ◌⊎◌, List, ◌∷◌, ◌++◌, length, Some, None, Result, Ok, Err}
 use Rattle.image_check.specs.declared.own.Rights.{Rights}
-use Rattle.image_check.specs.Public.{Hardware, entry_in}
+use Rattle.hardware_check.specs.Hardware.{Hardware, colours_of}
+use Rattle.image_check.specs.Public.{entry_in}
 use Rattle.image_check.specs.Own.{Own}
 use Rattle.sv32_walk.specs.declared.access.Access.{Access}
 use Rattle.sv32_walk.specs.declared.access.WalkFault.{WalkFault}
 use Rattle.sv32_walk.specs.declared.access.WalkFault.TheVariants as fault
 use Rattle.sv32_walk.specs.Walk.{walk}
 use Rattle.sv32_walk.specs.PageTableEntry.{rights_permit, leaf_word}
-use Rattle.phys_mem.specs.Mem.{Mem}
 use Rattle.image_check.specs.Image.{Image, own_of}
-use Rattle.world_view.specs.Frames.{root_of, page_frame, frames_in}
+use Rattle.phys_mem.specs.Mem.{word}
+use Rattle.image_check.specs.Pages.{frames_in}
+use Rattle.world_view.specs.Frames.{own_frame, pool, pool_frame, root_of, page_frame, clone_frames, first_tables, page_frames, free_frames}
 use Rattle.world_view.specs.Opening.{rights_in, rights_number}
 use Rattle.world_view.specs.Reading.{image}
 use Rattle.world_view.specs.Schedule.{entry_of_slot, start, slot_end, outgoing}
@@ -19,7 +21,7 @@ use Rattle.world_view.specs.Machine.{Local, World, step, steps, part_of, with_pa
 use Rattle.world_view.specs.View.{view_whole, view_alone}
 use Rattle.world_view.specs.Used.{largest_of}
 use Rattle.image_check.specs.Laws.{Runnable}
-use Rattle.world_view.specs.Relations.{IsDomain, Agree, SameSets, Resident, Good, Beside, Within, Apiece, Untouched, InTime, AllWithinPads}
+use Rattle.world_view.specs.Relations.{IsDomain, IsOwnFrame, Agree, SameSets, Resident, Good, Beside, Within, Apiece, Untouched, InTime, AllWithinPads}
 
 -- ---- isolation
 
@@ -104,6 +106,38 @@ abbrev pub OpeningFramesLaw : Type 0
 OpeningFramesLaw = (i : Image) (d n m : ℕ) (r q : Rights) → Runnable i → IsDomain i d
     → rights_in (own_of i d).segments n ≡ Some r → rights_in (own_of i d).segments m ≡ Some q
     → page_frame i.all.hardware (own_of i d) n ≡ page_frame i.all.hardware (own_of i d) m → n ≡ m
+
+-- all frames of its pool but the root, the tables and the pages read zero: those of its kernel clone, and those that are
+-- free
+abbrev pub OpeningZeroLaw : Type 0
+OpeningZeroLaw = (i : Image) (d n j : ℕ) → Runnable i → IsDomain i d
+    → n < length (pool i.all.hardware (own_of i d)) → (n < 4) ⊎ (frames_in (own_of i d).segments ≤ n)
+    → word (whole i 0).storage.mem (pool_frame i.all.hardware (own_of i d) n) j ≡ 0
+
+-- and so do frames that are of no domain's pool
+abbrev pub OpeningElsewhereLaw : Type 0
+OpeningElsewhereLaw = (i : Image) (f j : ℕ) → Runnable i
+    → ((d : ℕ) → IsDomain i d → own_frame i.all.hardware (own_of i d) f ≡ false)
+    → word (whole i 0).storage.mem f j ≡ 0
+
+-- ---- whose the frames are
+
+-- no frame is of two domains' pools
+abbrev pub PoolsApartLaw : Type 0
+PoolsApartLaw = (i : Image) (d e f : ℕ) → Runnable i → IsDomain i d → IsDomain i e → d ≢ e
+    → IsOwnFrame i.all.hardware (own_of i d) f → own_frame i.all.hardware (own_of i e) f ≡ false
+
+-- none of them has the kernel's colour, which is 0
+abbrev pub KernelColourLaw : Type 0
+KernelColourLaw = (i : Image) (d f : ℕ) → Runnable i → IsDomain i d → IsOwnFrame i.all.hardware (own_of i d) f
+    → f % colours_of i.all.hardware ≢ 0
+
+-- a domain's pool has, in this order, the frames of its kernel clone, its root, its tables, its pages, and what is free
+abbrev pub PoolPartsLaw : Type 0
+PoolPartsLaw = (i : Image) (d : ℕ) → Runnable i → IsDomain i d →
+    let p = i.all.hardware in
+    let o = own_of i d in
+    pool p o ≡ clone_frames p o ++ root_of p o ∷ (first_tables p o ++ (page_frames p o ++ free_frames p o))
 
 -- ---- page tables while the machine runs
 

@@ -32,8 +32,8 @@ seen_of d memory = record {
   readings = log_model d.readings;
   replies = log_model d.replies;
   printed = d.printed.items;
-  pool = d.pool.items;
-  frames = map (frame_words memory) d.pool.items;
+  pool = d.frames.pool.items;
+  frames = map (frame_words memory) d.frames.pool.items;
 }
 
 abbrev pub view_model : View → view.View

@@ -5,9 +5,10 @@ use Rattle.tp_base.specs.Table.{empty, at, put}
 use Rattle.phys_mem.specs.Mem.{Frame, Mem}
 use Rattle.sv32_walk.specs.PageTableEntry.{table_word, leaf_word}
 use Rattle.image_check.specs.declared.own.Rights.{Rights}
-use Rattle.image_check.specs.Public.{Hardware}
+use Rattle.hardware_check.specs.Hardware.{Hardware}
 use Rattle.image_check.specs.Own.{Segment, Own}
-use Rattle.world_view.specs.Frames.{has_page, has_region, root_of, table_frame, page_frame}
+use Rattle.image_check.specs.Pages.{has_page, has_region}
+use Rattle.world_view.specs.Frames.{root_of, table_frame, page_frame}
 
 -- all words of a frame, in order
 unfoldable pub frame_words : Frame → List ℕ

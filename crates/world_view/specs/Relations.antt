@@ -5,7 +5,8 @@ use Rattle.sv32_walk.specs.PageTableEntry.{is_leaf}
 use Rattle.phys_mem.specs.Mem.{Mem, frame_at, word}
 use Rattle.page_map.specs.Tables.{IsPageMap, TablesOnce}
 use Rattle.page_map.specs.Reached.{leaf_at, ReachesIn, IsSealed}
-use Rattle.image_check.specs.Public.{Hardware, Entry, entry_in}
+use Rattle.hardware_check.specs.Hardware.{Hardware}
+use Rattle.image_check.specs.Public.{Entry, entry_in}
 use Rattle.image_check.specs.Own.{Own}
 use Rattle.image_check.specs.Image.{Image, own_of}
 use Rattle.world_view.specs.Frames.{own_frame, root_of}

@@ -3,7 +3,8 @@ use Rattle.std.specs.Prelude.{◌≡◌, ℕ, ◌-◌, ◌<◌, ◌%◌, ◌^◌
 use Rattle.std.specs.List.{concat}
 use Rattle.world_view.specs.declared.DomainStatus.{DomainStatus}
 use Rattle.world_view.specs.declared.Reply.{Reply}
-use Rattle.image_check.specs.Public.{Hardware, Public}
+use Rattle.hardware_check.specs.Hardware.{Hardware}
+use Rattle.image_check.specs.Public.{Public}
 use Rattle.image_check.specs.Own.{Own}
 use Rattle.image_check.specs.Image.{Image, own_of}
 use Rattle.world_view.specs.Frames.{pool}

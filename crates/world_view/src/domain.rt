@@ -2,6 +2,8 @@
 ghost use Rattle.std.specs.Prelude.{◌≤◌, vec_capacity};
 
 use crate::{DomainStatus, Log, Reply, ThreadState};
+use frame_colours::{Frame, Held, Pool, Table};
+use page_map::PageMap;
 use rv_core::Regs;
 use tp_base::FrameNo;
 
@@ -16,6 +18,22 @@ pub struct Thread {
     pub regs: Regs,
 }
 
+/// The frames of a domain, each by what it is used as.
+#[derive(Drop)]
+pub struct DomainFrames {
+    /// All frames of its pool, ascending.
+    pub pool: Vec<FrameNo>,
+    /// Its page tables, by their root.
+    pub map: PageMap,
+    /// The tables that it began with, by ascending regions.
+    pub tables: Vec<Frame<Table>>,
+    /// Those that are kept for good: the text (two), the stack and the data of
+    /// its kernel clone, then its pages.
+    pub kept: Vec<Frame<Held>>,
+    /// Those that are used as nothing.
+    pub free: Pool,
+}
+
 /// The state of a domain, with room for all that it may print.
 #[derive(Drop)]
 pub struct Domain {
@@ -28,9 +46,6 @@ pub struct Domain {
     /// Of kernel calls.
     pub replies: Log<Reply>,
     pub printed: Vec<u8>,
-    /// The frame in which the root of its page tables stands.
-    pub root: FrameNo,
-    /// The frames of its pool, ascending.
-    pub pool: Vec<FrameNo>,
+    pub frames: DomainFrames,
     ghost room: { 4096 ≤ vec_capacity printed },
 }

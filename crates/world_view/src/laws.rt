@@ -1,6 +1,6 @@
 //! Laws of the machine over its definitions, each the contract of a function
 //! that does nothing: a caller that calls it may rely on the law.
-ghost use Rattle.world_view.specs.Laws.{ReadingLaw, IsolationLaw, TwoRunLaw, PadLaw, LargestLaw, StartLaw, InTimeLaw, ClockLaw, OpeningPageLaw, OpeningRightsLaw, OpeningNoPageLaw, OpeningFramesLaw, ReachLaw, NoAccessFaultLaw, OthersStepLaw, OthersLeaveLaw, OthersEnterLaw, PrefetchLaw, FlushLaw, OwnStepLaw, SwitchOutLaw, SwitchInLaw, SwitchBothLaw, SwitchPastLaw, ResidencyLaw};
+ghost use Rattle.world_view.specs.Laws.{ReadingLaw, IsolationLaw, TwoRunLaw, PadLaw, LargestLaw, StartLaw, InTimeLaw, ClockLaw, OpeningPageLaw, OpeningRightsLaw, OpeningNoPageLaw, OpeningFramesLaw, OpeningZeroLaw, OpeningElsewhereLaw, PoolsApartLaw, KernelColourLaw, PoolPartsLaw, ReachLaw, NoAccessFaultLaw, OthersStepLaw, OthersLeaveLaw, OthersEnterLaw, PrefetchLaw, FlushLaw, OwnStepLaw, SwitchOutLaw, SwitchInLaw, SwitchBothLaw, SwitchPastLaw, ResidencyLaw};
 
 /// Every image of the form that is read may be run, and its numbers are within the limits.
 pub fn reading()
@@ -27,12 +27,23 @@ pub fn pads()
 /// The page tables that the machine opens with are those of the domains'
 /// segments: a walk comes to the page that a segment has at its address, where
 /// the segment's rights let the access through, and is a page fault otherwise;
-/// and each page of a domain has a frame of its own.
+/// and each page of a domain has a frame of its own. All other frames read zero.
 pub fn opening()
     ensures page { OpeningPageLaw }
     ensures rights { OpeningRightsLaw }
     ensures no_page { OpeningNoPageLaw }
     ensures frames { OpeningFramesLaw }
+    ensures zero { OpeningZeroLaw }
+    ensures elsewhere { OpeningElsewhereLaw }
+{}
+
+/// Memory is shared out by colours: each frame is of one domain's pool at most,
+/// none of the kernel's colour is of any, and what stands in a pool at first is
+/// known by its place.
+pub fn pools()
+    ensures apart { PoolsApartLaw }
+    ensures kernel { KernelColourLaw }
+    ensures parts { PoolPartsLaw }
 {}
 
 /// Each domain's page tables reach its own frames alone, at each moment of each

@@ -9,7 +9,7 @@ pub mod laws;
 mod log;
 mod view;
 
-pub use domain::{Domain, PRINTED, Thread};
+pub use domain::{Domain, DomainFrames, PRINTED, Thread};
 pub use log::Log;
 pub use view::{Used, View};
 

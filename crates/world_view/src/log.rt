@@ -36,7 +36,8 @@ impl<T: Copy> Log<T> {
     /// Adds an item. Never allocates.
     pub fn push(&mut self, item: T)
         requires count { self.old.count < 2 ^ 63 }
-        ensures pushed { (all : List T) → log_model self.old ≡ log_of all → log_model self.new ≡ log_of (all ++ item ∷ []) }
+        ensures pushed { (all : List T) → log_model self.old ≡ log_of all
+            → log_model self.new ≡ log_of (all ++ item ∷ []) }
         ensures count { self.new.count ≡ self.old.count + 1 }
     {
         keep(&mut self.first, item);
@@ -48,7 +49,8 @@ impl<T: Copy> Log<T> {
 // Keeps the item if it is one of the first.
 fn keep<T: Copy>(first: &mut Vec<T>, item: T)
     requires room { 256 ≤ vec_capacity first.old }
-    ensures first { (all : List T) → first.old.items ≡ take 256 all → first.new.items ≡ take 256 (all ++ item ∷ []) }
+    ensures first { (all : List T) → first.old.items ≡ take 256 all
+        → first.new.items ≡ take 256 (all ++ item ∷ []) }
     ensures room { 256 ≤ vec_capacity first.new }
 {
     if first.len() >= KEPT {

@@ -23,7 +23,7 @@ pub struct Used {
 pub struct View<'a> {
     domain: &'a Domain,
     memory: &'a PhysMem,
-    ghost in_memory: { All (λ f. f < memory.now.frames) domain.now.pool.items },
+    ghost in_memory: { All (λ f. f < memory.now.frames) domain.now.frames.pool.items },
     ghost readings_kept: { IsKept (log_model domain.now.readings) },
     ghost replies_kept: { IsKept (log_model domain.now.replies) },
 }

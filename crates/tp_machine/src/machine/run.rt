@@ -4,6 +4,7 @@ use crate::memory::load_pages;
 use crate::slot::stretch;
 use crate::used::{note_switch, switch_entry};
 use image_check::{Checked, Entry};
+use phys_mem::PhysMem;
 use std::alloc::Global;
 use tp_base::Memory;
 use world_view::{Used, View};
@@ -30,9 +31,10 @@ impl<'a> Machine<'a> {
         ensures image { IfOk result (λ m. m.image.now ≡ image.now) }
     {
         image.runnable();
-        let domains = open_all(alloc, image)?;
-        let memory = load_pages(alloc, image, domains.as_slice())?;
         let public = image.public();
+        let mut memory = PhysMem::new(alloc, public.hardware.frames)?;
+        let domains = open_all(alloc, image, &mut memory)?;
+        load_pages(image, domains.as_slice(), &mut memory);
         let used = unused(alloc, public.schedule.len())?;
         let last = public.schedule.len() - 1;
         Ok(Machine {
@@ -82,7 +84,8 @@ impl<'a> Machine<'a> {
 
     // The entry of the next slot.
     fn next_entry(&self) -> Entry
-        ensures entry { entry_model result ≡ schedule.entry_of_slot (image_of self.now).all.schedule self.now.slots }
+        ensures entry { entry_model result
+            ≡ schedule.entry_of_slot (image_of self.now).all.schedule self.now.slots }
         ensures domain { result.domain < length (image_of self.now).owns }
         ensures length { result.length ≤ 1000000 }
         ensures pad { result.pad ≤ 1000000 }
@@ -96,7 +99,8 @@ impl<'a> Machine<'a> {
     pub fn view(&self, d: u8) -> View<'_>
         requires domain { d < length (image_of self.now).owns }
         ensures view { view_model result ≡ view_whole (image_of self.now) d self.now.slots }
-        ensures alone { view_model result ≡ view_alone (image_of self.now).all (own_of (image_of self.now) d) d self.now.slots }
+        ensures alone { view_model result
+            ≡ view_alone (image_of self.now).all (own_of (image_of self.now) d) d self.now.slots }
     {
         View::new(&self.domains[usize::from(d)], &self.memory)
     }

@@ -77,7 +77,7 @@ struct Seen {
 }
 
 fn told(view: &View<'_>) -> Option<Seen> {
-    if view.readings() == 0 || view.replies() == 0 || view.pool_len() < 6 {
+    if view.readings() == 0 || view.replies() == 0 || view.pool_len() < 10 {
         return None;
     }
     let pc = view.thread(0).pc;
@@ -89,8 +89,8 @@ fn told(view: &View<'_>) -> Option<Seen> {
         replies: (view.replies(), view.last_reply()),
         printed: view.printed().len(),
         pool: view.pool_len(),
-        frame: view.pool_frame(5).number(),
-        word: view.pool_word(5, 256),
+        frame: view.pool_frame(9).number(),
+        word: view.pool_word(9, 256),
     })
 }
 
@@ -118,8 +118,8 @@ fn slots_are_run(rt: HostRuntime) -> Result<(), Fail> {
         readings: (50, 50),
         replies: (1, Reply { code: 0, value: 0 }),
         printed: 1,
-        pool: 6,
-        frame: 5,
+        pool: 16,
+        frame: 37,
         word: 50,
     };
     let used = Used {

@@ -3,13 +3,16 @@ ghost use Rattle.std.specs.Prelude.{◌≡◌, IfOk};
 ghost use Rattle.tp_machine.specs.Stands.{CountsUpTo};
 
 use super::stretch;
-use image_check::Hardware;
+use cycle_cost::Costs;
+use frame_colours::{AllColours, Pool};
+use hardware_check::{CacheShape, Hardware, Policy};
+use page_map::PageMap;
 use phys_mem::PhysMem;
 use rv_core::Regs;
 use std::alloc::Global;
 use std::test::Fail;
-use tp_base::{FrameNo, Memory};
-use world_view::{Domain, DomainStatus, Log, PRINTED, Thread, ThreadState};
+use tp_base::Memory;
+use world_view::{Domain, DomainFrames, DomainStatus, Log, PRINTED, Thread, ThreadState};
 
 const ENTRY: u32 = 0x1_0000;
 
@@ -30,26 +33,53 @@ struct Row {
     clock: u64,
 }
 
-// The memory of a domain whose root is frame 0, and its one table frame 1. Its
-// page at the entry may be read and executed, the next read and written; the
-// one after that lies outside memory.
+// The memory of a domain whose root is frame 1, without the root's entry for the
+// one table, frame 0. The page at the entry may be read and executed, the next
+// read and written; the one after that lies outside memory.
 fn tables(alloc: Global) -> Result<PhysMem, Memory>
     ensures frames { IfOk result (λ memory. memory.frames ≡ 4) }
 {
     let mut memory = PhysMem::new(alloc, 4)?;
-    memory.write_word(0x0000, 0x401);
-    memory.write_word(0x1040, 0x85b);
-    memory.write_word(0x1044, 0xcd7);
-    memory.write_word(0x1048, 0x24df);
+    memory.write_word(0x0040, 0x85b);
+    memory.write_word(0x0044, 0xcd7);
+    memory.write_word(0x0048, 0x24df);
     Ok(memory)
 }
 
-// A domain at its entry, whose root stands in frame 0.
-fn domain(alloc: Global) -> Result<Domain, Memory>
+// The frames of a domain whose root is frame 1, the first of the second of two colours.
+fn frames(alloc: Global, memory: &mut PhysMem) -> Result<DomainFrames, Memory>
+    requires frames { memory.old.frames ≡ 4 }
+    ensures frames { memory.new.frames ≡ 4 }
+{
+    let colours = vec![in alloc; 1]?;
+    let lists = vec![in alloc; colours]?;
+    let mut shares = AllColours::new(4, 2).split(alloc, &lists)?;
+    let share = shares.remove(0);
+    shares.destroy_empty();
+    let mut free = match Pool::new(alloc, share) {
+        Ok(pool) => pool,
+        Err((share, error)) => {
+            share.discard();
+            return Err(error);
+        }
+    };
+    let pool = free.list(alloc)?;
+    let Some(root) = free.take() else {
+        return Err(Memory);
+    };
+    Ok(DomainFrames {
+        pool,
+        map: PageMap::new(root.table(memory)),
+        tables: Vec::new(alloc),
+        kept: Vec::new(alloc),
+        free,
+    })
+}
+
+// A domain at its entry.
+fn domain(alloc: Global, frames: DomainFrames) -> Result<Domain, Memory>
     ensures few { IfOk result (CountsUpTo 0) }
 {
-    let mut pool = Vec::new(alloc);
-    pool.push(FrameNo::new(0))?;
     Ok(Domain {
         status: DomainStatus::Running,
         thread: Thread {
@@ -61,21 +91,56 @@ fn domain(alloc: Global) -> Result<Domain, Memory>
         readings: Log::new(alloc)?,
         replies: Log::new(alloc)?,
         printed: Vec::with_capacity(alloc, PRINTED)?,
-        root: FrameNo::new(0),
-        pool,
+        frames,
     })
+}
+
+const SHAPE: CacheShape = CacheShape {
+    sets: 128,
+    ways: 1,
+    policy: Policy::Lru,
+};
+
+// A machine of two colours, whose instructions take 7 cycles.
+fn hardware() -> Hardware
+    ensures frames { result.frames ≡ 4 }
+    ensures base { result.base ≡ 7 }
+{
+    Hardware {
+        frames: 4,
+        base: 7,
+        shared: 64,
+        line: 64,
+        l1i: SHAPE,
+        l1d: SHAPE,
+        l2: SHAPE,
+        tlb: SHAPE,
+        predictor: 1,
+        costs: Costs {
+            base: 1,
+            l1: 1,
+            l2: 1,
+            mem: 1,
+            wb: 1,
+            tlb: 1,
+            mispredict: 1,
+            trap: 1,
+            flush: 1,
+        },
+    }
 }
 
 fn ran(alloc: Global, program: [u32; 5]) -> Result<(Domain, u64), Memory> {
     let mut memory = tables(alloc)?;
+    let frames = frames(alloc, &mut memory)?;
+    memory.write_word(0x1000, 0x001);
     memory.write_word(0x2000, program[0]);
     memory.write_word(0x2004, program[1]);
     memory.write_word(0x2008, program[2]);
     memory.write_word(0x200c, program[3]);
     memory.write_word(0x2010, program[4]);
-    let mut domain = domain(alloc)?;
-    let hardware = Hardware { frames: 4, base: 7 };
-    let clock = stretch(&hardware, &mut memory, &mut domain, 0, END);
+    let mut domain = domain(alloc, frames)?;
+    let clock = stretch(&hardware(), &mut memory, &mut domain, 0, END);
     Ok((domain, clock))
 }
 

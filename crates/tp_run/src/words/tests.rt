@@ -1,6 +1,8 @@
 // Lines of words, and what they ask for.
 use super::command;
 use crate::Command;
+use std::alloc::Global;
+use std::process::Abort;
 use std::test::Fail;
 
 // A line, a bar, and the number of slots that it asks for, if it asks for a run.
@@ -36,23 +38,30 @@ tp run --slots 4 5|
 tp run --slots 4 x|
 tp run --slots 4 --slots 5|";
 
+fn asked_in(alloc: Global, line: &str) -> Result<Option<Command>, Fail> {
+    let mut words = Vec::new(alloc);
+    for word in line.split_whitespace() {
+        words.reserve(1)?;
+        words.push_reserved(String::from_str(alloc, word)?);
+    }
+    Ok(command(alloc, words.as_slice())?)
+}
+
+fn is_asked(rt: &impl Abort, line: &str, asked: Option<Command>, slots: Option<u32>) {
+    assert_eq!(rt;
+        asked,
+        slots.map(|slots| Command::Run { slots }),
+        "at {line}"
+    );
+}
+
 #[test]
 fn words_ask_for_slots_or_for_nothing(rt: HostRuntime) -> Result<(), Fail> {
-    let alloc = rt.alloc();
     for row in LINES.split('\n') {
         let mut fields = row.split('|');
         let line = fields.next().unwrap_or("");
         let slots = fields.next().unwrap_or("").parse::<u32>().ok();
-        let mut words = Vec::new(alloc);
-        for word in line.split_whitespace() {
-            words.push(String::from_str(alloc, word)?)?;
-        }
-        let asked = command(alloc, words.as_slice())?;
-        assert_eq!(rt;
-            asked,
-            slots.map(|slots| Command::Run { slots }),
-            "at {line}"
-        );
+        is_asked(&rt, line, asked_in(rt.alloc(), line)?, slots);
     }
     Ok(())
 }

@@ -13,7 +13,7 @@ impl<'a> View<'a> {
 
     /// What can be seen of a domain whose frames are in this memory.
     pub fn new(domain: &'a Domain, memory: &'a PhysMem) -> Self
-        requires in_memory { All (λ f. f < memory.now.frames) domain.now.pool.items }
+        requires in_memory { All (λ f. f < memory.now.frames) domain.now.frames.pool.items }
         requires readings { IsKept (log_model domain.now.readings) }
         requires replies { IsKept (log_model domain.now.replies) }
         ensures view { view_model result ≡ seen_of domain.now memory.now }
@@ -99,7 +99,7 @@ impl<'a> View<'a> {
     pub fn pool_len(&self) -> usize
         ensures value { result ≡ length (view_model self.now).pool }
     {
-        self.domain.pool.len()
+        self.domain.frames.pool.len()
     }
 
     /// A frame of its pool, by its place: they ascend.
@@ -107,7 +107,7 @@ impl<'a> View<'a> {
         requires place { i < length (view_model self.now).pool }
         ensures value { slice_get (view_model self.now).pool i ≡ Some result }
     {
-        self.domain.pool[i]
+        self.domain.frames.pool[i]
     }
 
     /// Word `w` of the frame at a place of its pool.
@@ -119,7 +119,7 @@ impl<'a> View<'a> {
     {
         // This tells the prover alone that all words are in the memory's frames.
         self.memory.frames();
-        let frame = self.domain.pool[i].number();
+        let frame = self.domain.frames.pool[i].number();
         self.memory.read_word(4096 * frame + 4 * w)
     }
 }

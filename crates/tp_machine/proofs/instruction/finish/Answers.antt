@@ -9,5 +9,5 @@ returns-in-ReadCounter-clause-becomes c =
 pub returns : goal.returns
 returns c = record {
   becomes = finish_other c.args.next c.args.value c.args.domain.now c.retire-2.new.domain c.args.instr c.in_default.not-ReadCounter c.retire-2.ensures.becomes;
-  grows = let g = c.retire-2.ensures.grows in record { retired = g.retired; readings = let few = g.readings in omega (arith, few); replies = g.replies; place = g.place };
+  grows = let g = c.retire-2.ensures.grows in record { retired = g.retired; readings = let few = g.readings in omega (arith, few); replies = g.replies; frames = g.frames };
 }

@@ -1,7 +1,17 @@
-use Rattle.image_check.specs.Own.{owns_of}
-use Rattle.image_check.specs.Public.{public_of}
+use Rattle.std.proofs.Common.{◌≡◌, drop}
+use Rattle.phys_mem.specs.Holds.{Holds}
+use Rattle.tp_base.specs.Table.{empty}
+use Rattle.image_check.specs.Image.{image_from}
+use Rattle.tp_machine.specs.Placing.{all_shares}
 use Rattle.tp_machine.specs.Stands.{AreOpened}
 use Rattle.tp_machine.proofs.machine.open_all.Given as goal
 
 abbrev pub invariant-loop-d : goal.invariant-loop-d
-invariant-loop-d l = AreOpened (public_of l.image).hardware (owns_of l.image) l.d l.domains.items
+invariant-loop-d l =
+    let i = image_from l.image in
+    record {
+      opened : AreOpened i.all.hardware i.owns l.d l.domains.items;
+      shares : l.shares.items ≡ drop l.d (all_shares i);
+      blank : Holds l.fn.memory empty → Holds l.memory empty;
+      size : l.memory.frames ≡ l.fn.memory.frames;
+    }

@@ -1,10 +1,11 @@
-use Rattle.std.proofs.Common.{◌≡◌, ℕ, ◌<◌, ◌+◌, ◌-◌, length, drop, sym, subst, subst₂, ◌∙◌, ap, refl, arith}
+use Rattle.std.proofs.Common.{◌≡◌, ℕ, ◌<◌, ◌+◌, ◌-◌, length, drop, sym, subst, subst₂, ◌∙◌, ap, arith}
 use Rattle.std.proofs.lemmas.Option.{slice_get-get_or}
 use Rattle.phys_mem.specs.Holds.{Holds}
-use Rattle.phys_mem.specs.Contents.{Contents}
 use Rattle.image_check.specs.Own.{Own, owns_of, own_at}
-use Rattle.image_check.specs.Public.{Public, Hardware}
-use Rattle.image_check.specs.Models.{hardware_model, own_model}
+use Rattle.hardware_check.specs.Hardware.{Hardware}
+use Rattle.image_check.specs.Public.{Public}
+use Rattle.hardware_check.specs.Models.{hardware_model}
+use Rattle.image_check.specs.Models.{own_model}
 use Rattle.image_check.specs.Image.{image_from}
 use Rattle.world_view.specs.Frames.{pool}
 use Rattle.world_view.specs.Opening.{placed, all_placed}
@@ -16,19 +17,18 @@ pub loop-left-init : goal.loop-left-init
 loop-left-init c =
     let i = image_from c.args.image.now in
     let owns = owns_of c.args.image.now in
-    let all : c.public-public.result.now.domains ≡ length owns = ap (λ (p : Public). p.domains) c.public-public.ensures ∙ c.runnable.ensures.counted in
-    let frames : c.public-public.result.now.hardware.frames ≡ i.all.hardware.frames = ap (λ (p : Public). p.hardware.frames) c.public-public.ensures in
+    let all : c.public-public.result.now.domains ≡ length owns = ap (λ (p : Public). p.domains) c.public-public.ensures.value ∙ c.runnable.ensures.runnable.counted in
     record {
       within = omega arith;
-      frames = ap (λ (x : Contents). x.frames) c.in_ok-memory.ensures.zero ∙ frames;
-      holds = subst (Holds c.in_ok-memory.memory) (sym (owns_none i.all.hardware owns c.public-public.result.now.domains (omega arith))) c.in_ok-memory.ensures.holds;
+      frames = c.requires.size;
+      holds = subst (Holds c.args.memory.now) (sym (owns_none i.all.hardware owns c.public-public.result.now.domains (omega arith))) c.requires.blank;
     }
 
 pub new-placement-requires-clause-has_pool : goal.new-placement-requires-clause-has_pool
 new-placement-requires-clause-has_pool c =
     let i = image_from c.args.image.now in
     let below : c.loop-left.left - 1 < length (owns_of c.args.image.now) = omega (arith, c.loop-left.invariant.within) in
-    has_pool i c.runnable.ensures (c.loop-left.left - 1) below c.own.result.now (hardware_model c.public-public.result.now.hardware) c.own.ensures (ap (λ (p : Public). p.hardware) c.public-public.ensures)
+    has_pool i c.runnable.ensures.runnable (c.loop-left.left - 1) below c.own.result.now (hardware_model c.public-public.result.now.hardware) c.own.ensures.value (ap (λ (p : Public). p.hardware) c.public-public.ensures.value)
 
 pub new-placement-requires-clause-is_pool : goal.new-placement-requires-clause-is_pool
 new-placement-requires-clause-is_pool c =
@@ -37,7 +37,7 @@ new-placement-requires-clause-is_pool c =
     let domains = c.args.domains.now in
     let below : k < length domains = omega (arith, c.loop-left.invariant.within, c.requires.opened.all) in
     let placed = c.requires.opened.placed k _ (slice_get-get_or domains k c.index-domains-left.result below) in
-    subst₂ (λ (h : Hardware) (o : Own). c.as_slice.result.now ≡ pool h o) (sym (ap (λ (p : Public). p.hardware) c.public-public.ensures)) (sym c.own.ensures) (c.as_slice.ensures.value ∙ placed.pool)
+    subst₂ (λ (h : Hardware) (o : Own). c.as_slice.result.now ≡ pool h o) (sym (ap (λ (p : Public). p.hardware) c.public-public.ensures.value)) (sym c.own.ensures.value) (c.as_slice.ensures.value ∙ placed.pool)
 
 pub loop-left-preserved : goal.loop-left-preserved
 loop-left-preserved c =
@@ -47,8 +47,8 @@ loop-left-preserved c =
     let below : k < length owns = omega (arith, c.loop-left.invariant.within) in
     let next : k + 1 ≡ c.loop-left.left = omega arith in
     let before : Holds c.loop-left.memory (all_placed i.all.hardware (drop (k + 1) owns)) = rw next c.loop-left.invariant.holds in
-    let hardware : hardware_model c.new-placement.result.hardware.now ≡ i.all.hardware = ap hardware_model c.new-placement.ensures.hardware ∙ ap (λ (p : Public). p.hardware) c.public-public.ensures in
-    let own : own_model c.new-placement.result.own.now ≡ own_at owns k = ap own_model c.new-placement.ensures.own ∙ c.own.ensures in
+    let hardware : hardware_model c.new-placement.result.hardware.now ≡ i.all.hardware = ap hardware_model c.new-placement.ensures.hardware ∙ ap (λ (p : Public). p.hardware) c.public-public.ensures.value in
+    let own : own_model c.new-placement.result.own.now ≡ own_at owns k = ap own_model c.new-placement.ensures.own ∙ c.own.ensures.value in
     record {
       within = omega (arith, c.loop-left.invariant.within);
       frames = c.place_domain.ensures.frames ∙ c.loop-left.invariant.frames;

@@ -1,7 +1,8 @@
 use Rattle.std.proofs.Common.{ℕ, subst}
 use Rattle.tp_base.specs.Table.{put}
 use Rattle.phys_mem.specs.Holds.{Holds}
-use Rattle.image_check.specs.Models.{hardware_model, own_model}
+use Rattle.hardware_check.specs.Models.{hardware_model}
+use Rattle.image_check.specs.Models.{own_model}
 use Rattle.world_view.specs.Opening.{tabled, root_entry, root_placed, placed}
 use Rattle.world_view.proofs.OpeningLaws.{at-tabled}
 use Rattle.tp_machine.proofs.memory.place_domain.Goals as goal

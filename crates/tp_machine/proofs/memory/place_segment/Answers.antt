@@ -2,7 +2,8 @@ use Rattle.std.proofs.Common.{◌≡◌, ◌+◌, ◌-◌, ◌<◌, ℕ, length,
 use Rattle.tp_base.specs.Table.{put}
 use Rattle.phys_mem.specs.Holds.{Holds}
 use Rattle.phys_mem.specs.Mem.{Mem}
-use Rattle.image_check.specs.Models.{hardware_model, own_model}
+use Rattle.hardware_check.specs.Models.{hardware_model}
+use Rattle.image_check.specs.Models.{own_model}
 use Rattle.world_view.specs.Frames.{page_frame}
 use Rattle.world_view.specs.Opening.{page_words, pages_placed}
 use Rattle.world_view.proofs.CodeLaws.{at-page_words}

@@ -1,7 +1,8 @@
 use Rattle.std.proofs.Common.{◌≡◌, ◌+◌, ◌-◌}
 use Rattle.phys_mem.specs.Holds.{Holds}
 use Rattle.phys_mem.specs.Mem.{Mem}
-use Rattle.image_check.specs.Models.{hardware_model, own_model}
+use Rattle.hardware_check.specs.Models.{hardware_model}
+use Rattle.image_check.specs.Models.{own_model}
 use Rattle.world_view.specs.Opening as spec
 use Rattle.tp_machine.proofs.Loading.{Placing}
 use Rattle.tp_machine.proofs.memory.place_segment.Given as goal

@@ -1,6 +1,7 @@
-use Rattle.std.proofs.Common.{◌≡◌, ◌+◌, ◌<◌, ◌≤◌, length, map, drop, get_or, refl, sym, ap, subst, ◌∙◌, rules}
+use Rattle.std.proofs.Common.{◌≡◌, ◌+◌, ◌<◌, ◌≤◌, length, map, drop, get_or, refl, ap, ◌∙◌, rules}
 use Rattle.phys_mem.specs.Mem.{Mem}
-use Rattle.image_check.specs.Models.{segment_model, hardware_model, own_model}
+use Rattle.hardware_check.specs.Models.{hardware_model}
+use Rattle.image_check.specs.Models.{segment_model, own_model}
 use Rattle.world_view.specs.Opening.{pages_placed, segments_placed}
 use Rattle.tp_machine.proofs.Pages.{more, none, has_pages, segment_few}
 use Rattle.tp_machine.proofs.Loading.{begun, finished, went_on, no_segment, one_segment}

@@ -1,7 +1,8 @@
 use Rattle.std.proofs.Common.{◌≡◌, map, drop}
 use Rattle.phys_mem.specs.Holds.{Holds}
 use Rattle.phys_mem.specs.Mem.{Mem}
-use Rattle.image_check.specs.Models.{segment_model, hardware_model, own_model}
+use Rattle.hardware_check.specs.Models.{hardware_model}
+use Rattle.image_check.specs.Models.{segment_model, own_model}
 use Rattle.world_view.specs.Opening as spec
 use Rattle.tp_machine.proofs.Loading.{Placing}
 use Rattle.tp_machine.proofs.memory.place_segments.Given as goal

@@ -1,8 +1,9 @@
 use Rattle.std.proofs.Common.{◌≡◌, ◌+◌, ◌*◌, ℕ, true, false, sym, subst}
 use Rattle.tp_base.specs.Table.{put}
 use Rattle.phys_mem.specs.Holds.{Holds}
-use Rattle.image_check.specs.Models.{hardware_model, own_model}
-use Rattle.world_view.specs.Frames.{has_region}
+use Rattle.hardware_check.specs.Models.{hardware_model}
+use Rattle.image_check.specs.Models.{own_model}
+use Rattle.image_check.specs.Pages.{has_region}
 use Rattle.world_view.specs.Opening.{tabled, leaf_entry, tables_placed}
 use Rattle.world_view.proofs.OpeningLaws.{at-tabled}
 use Rattle.tp_machine.proofs.Loading.{tables_more, tables_same}

@@ -1,6 +1,7 @@
 use Rattle.std.proofs.Common.{◌≡◌, refl, sym, subst, ◌∙◌, arith}
 use Rattle.phys_mem.specs.Holds.{Holds}
-use Rattle.image_check.specs.Models.{hardware_model, own_model}
+use Rattle.hardware_check.specs.Models.{hardware_model}
+use Rattle.image_check.specs.Models.{own_model}
 use Rattle.tp_machine.proofs.Loading.{tables_none}
 use Rattle.tp_machine.proofs.memory.place_tables.Goals as goal
 

@@ -1,6 +1,6 @@
 use Rattle.std.proofs.Common.{◌≡◌, ◌<◌, ◌≤◌, true, false, length, get_or, sym, ◌∙◌, rules}
 use Rattle.image_check.specs.Models.{segment_model}
-use Rattle.world_view.specs.Frames.{meets}
+use Rattle.image_check.specs.Pages.{meets}
 use Rattle.tp_machine.proofs.Pages.{region_here, region_there, region_nowhere}
 use Rattle.tp_machine.proofs.segments.has_region.Goals as goal
 

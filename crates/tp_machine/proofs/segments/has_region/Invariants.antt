@@ -1,6 +1,6 @@
 use Rattle.std.proofs.Common.{◌≡◌, map, drop}
 use Rattle.image_check.specs.Models.{segment_model}
-use Rattle.world_view.specs.Frames.{has_region}
+use Rattle.image_check.specs.Pages.{has_region}
 use Rattle.tp_machine.proofs.segments.has_region.Given as goal
 
 abbrev pub invariant-loop-segment : goal.invariant-loop-segment

@@ -1,6 +1,6 @@
 use Rattle.std.proofs.Common.{◌≡◌, ◌+◌, map, drop}
 use Rattle.image_check.specs.Models.{segment_model}
-use Rattle.world_view.specs.Frames.{pages_below}
+use Rattle.image_check.specs.Pages.{pages_below}
 use Rattle.tp_machine.proofs.segments.pages_below.Given as goal
 
 abbrev pub invariant-loop-segment : goal.invariant-loop-segment

@@ -1,6 +1,6 @@
 use Rattle.std.proofs.Common.{◌≡◌, cond, map, refl, sym, arith}
 use Rattle.image_check.specs.Models.{segment_model}
-use Rattle.world_view.specs.Frames.{regions_below}
+use Rattle.image_check.specs.Pages.{regions_below}
 use Rattle.tp_machine.proofs.Pages.{region_counted}
 use Rattle.tp_machine.proofs.segments.regions_below.Goals as goal
 

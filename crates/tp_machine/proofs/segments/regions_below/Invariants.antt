@@ -1,6 +1,6 @@
 use Rattle.std.proofs.Common.{◌≡◌, ◌≤◌, map}
 use Rattle.image_check.specs.Models.{segment_model}
-use Rattle.world_view.specs.Frames.{regions_below}
+use Rattle.image_check.specs.Pages.{regions_below}
 use Rattle.tp_machine.proofs.segments.regions_below.Given as goal
 
 abbrev pub invariant-loop-r : goal.invariant-loop-r

@@ -1,6 +1,6 @@
 use Rattle.std.proofs.Common.{◌≡◌, ◌<◌, ◌≤◌, true, false, length, get_or, sym, ◌∙◌, rules}
 use Rattle.image_check.specs.Models.{segment_model}
-use Rattle.world_view.specs.Frames.{has_page}
+use Rattle.image_check.specs.Pages.{has_page}
 use Rattle.tp_machine.proofs.Pages.{rights_here, rights_there, rights_nowhere}
 use Rattle.tp_machine.proofs.segments.rights_of.Goals as goal
 

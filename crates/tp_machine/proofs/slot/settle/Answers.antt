@@ -15,13 +15,13 @@ returns-in-Some-clause-leaves c p held s readings replies h r q =
     let trap = c.in-Some.trap in
     let out = effect_of old.thread.regs old.thread.pc c.args.instr c.args.value in
     let nothing = rw c.in-Some.is at c.execute-effect.ensures.trap in
-    settle_trapped p c.args.domain.now.root d c.args.instr c.args.value out s c.args.memory.now c.stop.new.domain h trap
+    settle_trapped p c.args.root d c.args.instr c.args.value out s c.args.memory.now c.stop.new.domain h trap
     (ap (λ (e : Effect). e.trap) (sym c.execute-effect.ensures.effect) ∙ c.in-Some.is)
     (trapped_same c.stop.new.domain trap d c.execute-effect.new.regs nothing.regs (c.stop.ensures.becomes readings replies r q))
 
 pub returns-in-Ok-clause-leaves : goal.returns-in-Ok-clause-leaves
 returns-in-Ok-clause-leaves c p held s readings replies h r q =
-    let o = c.args.domain.now.root in
+    let o = c.args.root in
     let old = c.args.domain.now in
     let d = dom_model old readings replies in
     let out = effect_of old.thread.regs old.thread.pc c.args.instr c.args.value in
@@ -34,7 +34,7 @@ returns-in-Ok-clause-leaves c p held s readings replies h r q =
 
 pub returns-in-Err-clause-leaves : goal.returns-in-Err-clause-leaves
 returns-in-Err-clause-leaves c p held s readings replies h r q =
-    let o = c.args.domain.now.root in
+    let o = c.args.root in
     let old = c.args.domain.now in
     let d = dom_model old readings replies in
     let trap = c.in-Err.trap in

@@ -1,8 +1,8 @@
 use Rattle.std.proofs.Common.{◌≡◌, ◌+◌, ◌<◌, ◌≤◌, ◌-◌}
 use Rattle.image_check.specs.Own.{Own}
-use Rattle.image_check.specs.Models.{hardware_model}
+use Rattle.hardware_check.specs.Models.{hardware_model}
 use Rattle.world_view.specs.Frames.{root_of}
-use Rattle.tp_machine.specs.Stands.{CountsUpTo, SamePlace}
+use Rattle.tp_machine.specs.Stands.{CountsUpTo}
 use Rattle.tp_machine.proofs.Moved.{GoesOn}
 use Rattle.tp_machine.proofs.slot.stretch.Given as goal
 
@@ -12,8 +12,8 @@ invariant-loop-clock l = record {
   soon : l.now < l.end → l.clock < l.end + l.hardware.base;
   still : l.end ≤ l.now → l.clock ≡ l.now;
   frames : l.memory.frames ≡ l.fn.memory.frames;
-  place : SamePlace l.fn.domain l.domain;
-  so_far : (o : Own) → l.fn.domain.root ≡ root_of (hardware_model l.hardware) o
+  place : l.domain.frames ≡ l.fn.domain.frames;
+  so_far : (o : Own) → l.fn.domain.frames.map ≡ root_of (hardware_model l.hardware) o
       → GoesOn (hardware_model l.hardware) o l.end l.fn.memory l.fn.domain l.now l.memory l.domain l.clock;
 }
 

@@ -21,9 +21,9 @@ pub write_switches-requires : goal.write_switches-requires
 write_switches-requires g c =
     let i = image_from c.args.machine.now.image.now in
     let items = c.public-public.result.now.schedule.items in
-    let entries : map entry_model items ≡ i.all.schedule = ap (λ (p : spec.Public). p.schedule) c.public-public.ensures in
+    let entries : map entry_model items ≡ i.all.schedule = ap (λ (p : spec.Public). p.schedule) c.public-public.ensures.value in
     let long : length items ≡ length i.all.schedule = omega (arith, length-map items entry_model, ap (λ (es : _). length es) entries) in
-    rw c.as_slice.ensures.value (c.all_used.ensures.all ∙ sym long)
+    record { paired = rw c.as_slice.ensures.value (c.all_used.ensures.all ∙ sym long) }
 
 pub returns-in_err-write_switches : goal.returns-in_err-write_switches
 returns-in_err-write_switches g c =
@@ -31,7 +31,7 @@ returns-in_err-write_switches g c =
     let i = image_from m.image.now in
     let items = c.public-public.result.now.schedule.items in
     let p = err_from_is_err_and c.from_residual-in_err-write_switches.result c.from_residual-in_err-write_switches.ensures.1 in
-    let entries : map entry_model items ≡ i.all.schedule = ap (λ (q : spec.Public). q.schedule) c.public-public.ensures in
+    let entries : map entry_model items ≡ i.all.schedule = ap (λ (q : spec.Public). q.schedule) c.public-public.ensures.value in
     let long : length items ≡ length i.all.schedule = omega (arith, length-map items entry_model, ap (λ (es : _). length es) entries) in
     let lines : switches_text items c.all_used.result.now ≡ switch_lines i.all.schedule (whole i m.slots).used = kept_lines i.all.schedule items c.all_used.result.now (whole i m.slots).used entries (c.all_used.ensures.all ∙ sym long) c.all_used.ensures.each in
     rw (p.1, report_parts i m.slots) (record { sends = cut_between _ _ _ _ _ _ c.in_ok-write_sections.ensures.sends (rw (c.as_slice.ensures.value, lines) at c.in_err-write_switches.ensures.sends) })
@@ -41,7 +41,7 @@ returns g c =
     let m = c.args.machine.now in
     let i = image_from m.image.now in
     let items = c.public-public.result.now.schedule.items in
-    let entries : map entry_model items ≡ i.all.schedule = ap (λ (q : spec.Public). q.schedule) c.public-public.ensures in
+    let entries : map entry_model items ≡ i.all.schedule = ap (λ (q : spec.Public). q.schedule) c.public-public.ensures.value in
     let long : length items ≡ length i.all.schedule = omega (arith, length-map items entry_model, ap (λ (es : _). length es) entries) in
     let lines : switches_text items c.all_used.result.now ≡ switch_lines i.all.schedule (whole i m.slots).used = kept_lines i.all.schedule items c.all_used.result.now (whole i m.slots).used entries (c.all_used.ensures.all ∙ sym long) c.all_used.ensures.each in
     rw (report_parts i m.slots) (record {

@@ -1,5 +1,5 @@
 // Images that break a rule.
-use super::{MACHINE, PRINTS_A, PRINTS_B, SCHEDULE, answer, domains, image};
+use super::{MACHINE, PRINTS_A, PRINTS_B, SCHEDULE, domains, expect, image};
 use crate::Status;
 use std::alloc::Global;
 use std::process::Abort;
@@ -7,12 +7,15 @@ use std::test::Fail;
 
 // The image is refused with this line.
 fn refuses_text(rt: &impl Abort, alloc: Global, text: &str, line: &str) -> Result<(), Fail> {
-    let run = "tp run --slots 0";
-    let (status, written) = answer(alloc, run, text.as_bytes(), 4096, &[], &[])?;
     let wanted = format!(in alloc; "refused {line}\n")?;
-    assert_eq!(rt; status, Status::Refused, "at {line}");
-    assert_eq!(rt; written.as_slice(), wanted.as_bytes(), "at {line}");
-    Ok(())
+    expect(
+        rt,
+        alloc,
+        "tp run --slots 0",
+        text,
+        Status::Refused,
+        wanted.as_str(),
+    )
 }
 
 // So is the image of two domains, with one text in the place of another. A row
@@ -66,11 +69,24 @@ domain = 1|domain = \"blue\"|K2 at 23 found 1 wanted 0
 // Numbers, names and the schedule, a case each.
 const VALUES: &str = "frames = 64|frames = 63|K4 at 0 found 63 wanted 64
 frames = 64|frames = 9223372036854775807|K4 at 0 found 9223372036854775807 wanted 4096
+frames = 64|frames = -9223372036854775808|K4 at 0 found -9223372036854775808 wanted 64
 name = \"red\"|name = \"Red\"|K7 at 0 found 3 wanted 16
 name = \"blue\"|name = \"red\"|K7 at 1 found 0 wanted 0
 domain = 1|domain = 2|K16 at 1 found 2 wanted 2
 1~length = 10000|1~length = 999|K16 at 1 found 999 wanted 3
 1~length = 10000~pad = 6150|1~length = 10000~pad = -1|K16 at 1 found -1 wanted 4";
+
+// The machine and its colours, a rule or two each.
+const GEOMETRY: &str = "line = 64|line = 48|K3 at 1 found 48 wanted 1
+sets = 256|sets = 4611686018427387904|K3 at 4 found 4611686018427387904 wanted 1
+sets = 256|sets = 64|K5 at 0 found 1 wanted 2
+base = 1|base = 0|K6 at 1 found 0 wanted 1
+flush = 20|flush = 1001|K6 at 9 found 1001 wanted 1000
+colours = [2]|colours = [0]|K8 at 1 found 0 wanted 4
+colours = [1]|colours = [2]|K9 at 1 found 2 wanted 0
+pages = 1|pages = 12|K10 at 0 found 16 wanted 18
+shared = 512|shared = 9223372036854775807|K11 at 1 found 9223372036854775807 wanted 65536
+shared = 512|shared = 20480|K11 at 2 found 5 wanted 4";
 
 // Segments, a case each; the next two are of the entry. Of the last four each
 // breaks two cases at once, and the first is named.
@@ -87,25 +103,65 @@ entry = 0x10000~segment = [{ page = 16, pages = 1|entry = 0x10002~segment = [{ p
 
 #[test]
 fn images_that_break_a_rule_are_refused(rt: HostRuntime) -> Result<(), Fail> {
-    let alloc = rt.alloc();
-    for table in [KEYS, KEYS_OF_ITEMS, VALUES, SEGMENTS] {
-        refuses(&rt, alloc, table)?;
-    }
+    refuses(&rt, rt.alloc(), KEYS)?;
+    refuses(&rt, rt.alloc(), KEYS_OF_ITEMS)?;
+    refuses(&rt, rt.alloc(), VALUES)?;
+    refuses(&rt, rt.alloc(), GEOMETRY)?;
+    refuses(&rt, rt.alloc(), SEGMENTS)
+}
 
-    // No text, no domains, no entries, and more bytes than a page holds.
-    let no_domains = format!(in alloc; "{MACHINE}domain = []\n{SCHEDULE}")?;
+fn without_domains(alloc: Global) -> Result<String, Fail> {
+    Ok(format!(in alloc; "{MACHINE}domain = []\n{SCHEDULE}")?)
+}
+
+fn without_entries(alloc: Global) -> Result<String, Fail> {
     let two = domains(alloc, PRINTS_A, PRINTS_B)?;
-    let no_entries = format!(in alloc; "{MACHINE}schedule = []\n{two}")?;
+    Ok(format!(in alloc; "{MACHINE}schedule = []\n{two}")?)
+}
+
+// Both domains have a colour, and the second the kernel's, too: the rule of the
+// kernel's colour comes first.
+fn a_kernel_colour_beside_a_shared_one(alloc: Global) -> Result<String, Fail> {
+    let with_kernel = image(alloc, PRINTS_A, PRINTS_B)?.replace(alloc, "[2]", "[2, 0]")?;
+    Ok(with_kernel.replace(alloc, "[1]", "[2]")?)
+}
+
+// More bytes than a page holds.
+fn too_full(alloc: Global) -> Result<String, Fail> {
     let page = "00".repeat(alloc, 4097)?;
-    let full = domains(alloc, PRINTS_A, page.as_str())?;
-    let too_full = format!(in alloc; "{MACHINE}{full}{SCHEDULE}")?;
-    for (text, line) in [
-        ("", "K2 at 1 found 0 wanted 0"),
-        (no_domains.as_str(), "K7 at 16 found 0 wanted 16"),
-        (no_entries.as_str(), "K16 at 0 found 0 wanted 1"),
-        (too_full.as_str(), "K12 at 1 found 0 wanted 4"),
-    ] {
-        refuses_text(&rt, alloc, text, line)?;
-    }
-    Ok(())
+    image(alloc, PRINTS_A, page.as_str())
+}
+
+fn refuses_made(
+    rt: &impl Abort,
+    alloc: Global,
+    made: Result<String, Fail>,
+    line: &str,
+) -> Result<(), Fail> {
+    refuses_text(rt, alloc, made?.as_str(), line)
+}
+
+#[test]
+fn images_that_lack_something_or_have_too_much_are_refused(rt: HostRuntime) -> Result<(), Fail> {
+    let alloc = rt.alloc();
+    refuses_text(&rt, alloc, "", "K2 at 1 found 0 wanted 0")?;
+    refuses_made(
+        &rt,
+        alloc,
+        without_domains(alloc),
+        "K7 at 16 found 0 wanted 16",
+    )?;
+    refuses_made(
+        &rt,
+        alloc,
+        without_entries(alloc),
+        "K16 at 0 found 0 wanted 1",
+    )?;
+    refuses_made(
+        &rt,
+        alloc,
+        a_kernel_colour_beside_a_shared_one(alloc),
+        "K8 at 1 found 0 wanted 4",
+    )?;
+    refuses_made(&rt, alloc, too_full(alloc), "K12 at 1 found 0 wanted 4")
 }

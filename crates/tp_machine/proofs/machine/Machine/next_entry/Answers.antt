@@ -10,7 +10,7 @@ returns-clause-domain c =
     let m = c.args.self.now in
     let i = image_from m.image.now in
     let items = c.as_slice-entries.result.now in
-    let same : map entry_model items ≡ i.all.schedule = ap (map entry_model) c.as_slice-entries.ensures.value ∙ ap (λ (p : spec.Public). p.schedule) c.public.ensures in
+    let same : map entry_model items ≡ i.all.schedule = ap (map entry_model) c.as_slice-entries.ensures.value ∙ ap (λ (p : spec.Public). p.schedule) c.public.ensures.value in
     domain_named i m.accepted items same m.slots (length items) _ _ refl refl
 
 pub returns-clause-length : goal.returns-clause-length
@@ -18,7 +18,7 @@ returns-clause-length c =
     let m = c.args.self.now in
     let i = image_from m.image.now in
     let items = c.as_slice-entries.result.now in
-    let same : map entry_model items ≡ i.all.schedule = ap (map entry_model) c.as_slice-entries.ensures.value ∙ ap (λ (p : spec.Public). p.schedule) c.public.ensures in
+    let same : map entry_model items ≡ i.all.schedule = ap (map entry_model) c.as_slice-entries.ensures.value ∙ ap (λ (p : spec.Public). p.schedule) c.public.ensures.value in
     length_short i m.accepted items same m.slots (length items) _ _ refl refl
 
 pub returns-clause-pad : goal.returns-clause-pad
@@ -26,5 +26,5 @@ returns-clause-pad c =
     let m = c.args.self.now in
     let i = image_from m.image.now in
     let items = c.as_slice-entries.result.now in
-    let same : map entry_model items ≡ i.all.schedule = ap (map entry_model) c.as_slice-entries.ensures.value ∙ ap (λ (p : spec.Public). p.schedule) c.public.ensures in
+    let same : map entry_model items ≡ i.all.schedule = ap (map entry_model) c.as_slice-entries.ensures.value ∙ ap (λ (p : spec.Public). p.schedule) c.public.ensures.value in
     pad_short i m.accepted items same m.slots (length items) _ _ refl refl

@@ -2,15 +2,17 @@ use Rattle.std.proofs.Common.{◌≡◌, ℕ, ◌+◌, ◌-◌, ◌≤◌, ◌<�
 use Rattle.std.proofs.lemmas.List.{length-map}
 use Rattle.std.proofs.lemmas.Option.{slice_get_read}
 use Rattle.image_check.specs.Public as spec
+use Rattle.hardware_check.specs.Hardware.{Hardware}
 use Rattle.image_check.specs.Own.{Own}
-use Rattle.image_check.specs.Models.{entry_model, hardware_model}
+use Rattle.hardware_check.specs.Models.{hardware_model}
+use Rattle.image_check.specs.Models.{entry_model}
 use Rattle.image_check.specs.Image.{image_from}
 use Rattle.world_view.specs.Frames.{root_of}
 use Rattle.world_view.specs.Machine.{stretch}
 use Rattle.world_view.specs.Schedule as schedule
 use Rattle.world_view.proofs.Separate.{separated}
 use Rattle.world_view.proofs.TimeLaws.{on_time}
-use Rattle.tp_machine.specs.Moves.{IsTimed, Moves}
+use Rattle.tp_machine.specs.Moves.{Moves}
 use Rattle.tp_machine.specs.Usage.{IsUsed, CountedUpTo}
 use Rattle.tp_machine.proofs.SwitchCounts.{noted_back, counted_back, length_back}
 use Rattle.tp_machine.proofs.Slots.{stands_next, in_bounds_next, counts_later}
@@ -33,11 +35,11 @@ overflow_add-self c =
 pub stretch-self-requires-clause-timed : goal.stretch-self-requires-clause-timed
 stretch-self-requires-clause-timed c =
     let base = c.args.self.now.accepted.base in
-    let same = ap (λ (q : spec.Public). q.hardware.base) c.public-public.ensures in
+    let same = ap (λ (q : spec.Public). q.hardware.base) c.public-public.ensures.value in
     record { some = omega (arith, base, same); short = omega (arith, base, same) }
 
 pub stretch-self-requires-clause-size : goal.stretch-self-requires-clause-size
-stretch-self-requires-clause-size c = ap (λ (q : spec.Public). q.hardware.frames) c.public-public.ensures ∙ sym c.args.self.now.stands.frames
+stretch-self-requires-clause-size c = ap (λ (q : spec.Public). q.hardware.frames) c.public-public.ensures.value ∙ sym c.args.self.now.stands.frames
 
 pub stretch-self-requires-clause-end : goal.stretch-self-requires-clause-end
 stretch-self-requires-clause-end c =
@@ -65,12 +67,12 @@ invariant_of-self-clause-stands c =
     let entry : schedule.entry_of_slot i.all.schedule m.slots ≡ e = sym c.next_entry-entry.ensures.entry ∙ same in
     let long : length c.note_switch.new.used ≡ m.used.len = search rules in
     let was : length m.used.items ≡ m.used.len = search rules in
-    let schedule_is : map entry_model p.schedule.items ≡ i.all.schedule = ap (λ (q : spec.Public). q.schedule) c.public-public.ensures in
+    let schedule_is : map entry_model p.schedule.items ≡ i.all.schedule = ap (λ (q : spec.Public). q.schedule) c.public-public.ensures.value in
     let entries : c.len-entries.result ≡ length p.schedule.items = search rules in
     let es_long : length i.all.schedule ≡ c.len-entries.result = ap (λ (xs : List spec.Entry). length xs) (sym schedule_is) ∙ length-map p.schedule.items entry_model ∙ sym entries in
     let noted : (us : List (ℕ × ℕ)) → IsUsed m.used.items us → IsUsed c.note_switch.new.used (us ++ (c.switch_entry-switched.result, m.clock - m.last_end) ∷ []) = rw c.as_mut_slice.ensures.value at c.note_switch.ensures.noted in
-    let hardware : hardware_model p.hardware ≡ i.all.hardware = ap (λ (q : spec.Public). q.hardware) c.public-public.ensures in
-    let runs = subst (λ (h : spec.Hardware). (o : Own) → x.root ≡ root_of h o → Moves (stretch h o false (m.start + c.from.result)) m.memory x c.max-begin.result c.stretch-self.new.memory c.stretch-self.new.domain c.stretch-self.result) hardware c.stretch-self.ensures.becomes in
+    let hardware : hardware_model p.hardware ≡ i.all.hardware = ap (λ (q : spec.Public). q.hardware) c.public-public.ensures.value in
+    let runs = subst (λ (h : Hardware). (o : Own) → x.frames.map ≡ root_of h o → Moves (stretch h o false (m.start + c.from.result)) m.memory x c.max-begin.result c.stretch-self.new.memory c.stretch-self.new.domain c.stretch-self.result) hardware c.stretch-self.ensures.becomes in
     stands_next i m.slots m.memory c.stretch-self.new.memory m.domains.items m.used.items _ m.clock m.start m.last_end m.stands x c.stretch-self.new.domain c.max-begin.result c.stretch-self.result c.max-begin.ensures c.stretch-self.ensures.frames c.stretch-self.ensures.place
     (length_back m.used.items c.note_switch.new.used m.used.len long was)
     (noted_back m.used.items c.note_switch.new.used m.used.len long was c.switch_entry-switched.result (schedule.switch_entry i.all.schedule m.slots) (m.clock - m.last_end) (c.switch_entry-switched.ensures.value i.all.schedule es_long) noted)
@@ -85,7 +87,7 @@ invariant_of-self-clause-in_bounds c =
     let long : length c.note_switch.new.used ≡ m.used.len = search rules in
     let was : length m.used.items ≡ m.used.len = search rules in
     let counted : (n : ℕ) → CountedUpTo n m.used.items → CountedUpTo (n + 1) c.note_switch.new.used = rw c.as_mut_slice.ensures.value at c.note_switch.ensures.few in
-    let base = ap (λ (q : spec.Public). q.hardware.base) c.public-public.ensures in
+    let base = ap (λ (q : spec.Public). q.hardware.base) c.public-public.ensures.value in
     let one = m.accepted.base in
     let short : p.hardware.base ≤ 1000 = omega (arith, base, one) in
     in_bounds_next m.slots m.memory c.stretch-self.new.memory m.domains.items m.used.items _ m.clock m.start m.last_end c.from-d.result c.from.result c.from-2.result p.hardware.base c.stretch-self.new.domain c.max-begin.result c.stretch-self.result

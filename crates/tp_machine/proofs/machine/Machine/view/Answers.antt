@@ -1,7 +1,6 @@
-use Rattle.std.proofs.Common.{◌≡◌, ◌∙◌, ℕ, ◌<◌, length, get_or, refl, sym, subst, subst₂, List, arith}
+use Rattle.std.proofs.Common.{◌∙◌, ◌<◌, length, refl, arith}
 use Rattle.std.proofs.lemmas.Option.{slice_get_read}
 use Rattle.image_check.specs.Image.{image_from, own_of}
-use Rattle.world_view.specs.Frames.{pool}
 use Rattle.world_view.specs.Machine.{whole, dom_of}
 use Rattle.world_view.specs.View.{view_whole}
 use Rattle.world_view.proofs.Logs.{kept_of}

@@ -1,6 +1,7 @@
-use Rattle.std.proofs.Common.{◌≡◌, ◌+◌, ◌<◌, ◌≤◌, ◌^◌, length, map, ap, ap₂, arith}
-use Rattle.image_check.specs.Models.{hardware_model, own_model}
-use Rattle.world_view.specs.Frames.{regions_in, pages_below, frames_in, pool}
+use Rattle.std.proofs.Common.{◌≡◌, ◌+◌, ap₂, arith}
+use Rattle.hardware_check.specs.Models.{hardware_model}
+use Rattle.image_check.specs.Models.{own_model}
+use Rattle.image_check.specs.Pages.{regions_in, pages_below}
 use Rattle.tp_machine.proofs.PoolReads.{pool_read, read_inside, page_place, frames_few}
 use Rattle.tp_machine.proofs.placement.Placement.page_frame.Goals as goal
 
@@ -17,7 +18,7 @@ overflow_add-place c =
     let at = c.args.self.now in
     let p = hardware_model at.hardware.now in
     let o = own_model at.own.now in
-    let place : at.first_page + c.pages_below.result ≡ 1 + regions_in o.segments + pages_below o.segments c.args.page =
+    let place : at.first_page + c.pages_below.result ≡ 5 + regions_in o.segments + pages_below o.segments c.args.page =
     ap₂ (λ a b. a + b) at.follows (rw c.as_slice.ensures.value at c.pages_below.ensures.value) in
     let within = page_place p o at.pool.now at.is_pool at.has_pool c.args.page c.requires.there in
     let few = frames_few p o at.has_pool in
@@ -28,7 +29,7 @@ bounds-self-place c =
     let at = c.args.self.now in
     let p = hardware_model at.hardware.now in
     let o = own_model at.own.now in
-    let place : at.first_page + c.pages_below.result ≡ 1 + regions_in o.segments + pages_below o.segments c.args.page =
+    let place : at.first_page + c.pages_below.result ≡ 5 + regions_in o.segments + pages_below o.segments c.args.page =
     ap₂ (λ a b. a + b) at.follows (rw c.as_slice.ensures.value at c.pages_below.ensures.value) in
     let within = page_place p o at.pool.now at.is_pool at.has_pool c.args.page c.requires.there in
     rw place within
@@ -38,17 +39,17 @@ returns-clause-value c =
     let at = c.args.self.now in
     let p = hardware_model at.hardware.now in
     let o = own_model at.own.now in
-    let place : at.first_page + c.pages_below.result ≡ 1 + regions_in o.segments + pages_below o.segments c.args.page =
+    let place : at.first_page + c.pages_below.result ≡ 5 + regions_in o.segments + pages_below o.segments c.args.page =
     ap₂ (λ a b. a + b) at.follows (rw c.as_slice.ensures.value at c.pages_below.ensures.value) in
     let within = page_place p o at.pool.now at.is_pool at.has_pool c.args.page c.requires.there in
-    rw place (pool_read p o at.pool.now at.is_pool at.has_pool (1 + regions_in o.segments + pages_below o.segments c.args.page) c.index-self-place.result within)
+    rw place (pool_read p o at.pool.now at.is_pool at.has_pool (5 + regions_in o.segments + pages_below o.segments c.args.page) c.index-self-place.result within)
 
 pub returns-clause-within : goal.returns-clause-within
 returns-clause-within c =
     let at = c.args.self.now in
     let p = hardware_model at.hardware.now in
     let o = own_model at.own.now in
-    let place : at.first_page + c.pages_below.result ≡ 1 + regions_in o.segments + pages_below o.segments c.args.page =
+    let place : at.first_page + c.pages_below.result ≡ 5 + regions_in o.segments + pages_below o.segments c.args.page =
     ap₂ (λ a b. a + b) at.follows (rw c.as_slice.ensures.value at c.pages_below.ensures.value) in
     let within = page_place p o at.pool.now at.is_pool at.has_pool c.args.page c.requires.there in
-    rw place (read_inside p o at.pool.now at.is_pool at.has_pool (1 + regions_in o.segments + pages_below o.segments c.args.page) c.index-self-place.result within)
+    rw place (read_inside p o at.pool.now at.is_pool at.has_pool (5 + regions_in o.segments + pages_below o.segments c.args.page) c.index-self-place.result within)

@@ -1,5 +1,6 @@
-use Rattle.std.proofs.Common.{◌<◌, length, arith}
-use Rattle.image_check.specs.Models.{hardware_model, own_model}
+use Rattle.std.proofs.Common.{arith}
+use Rattle.hardware_check.specs.Models.{hardware_model}
+use Rattle.image_check.specs.Models.{own_model}
 use Rattle.tp_machine.proofs.PoolReads.{long, pool_read, read_inside}
 use Rattle.tp_machine.proofs.placement.Placement.root_frame.Goals as goal
 
@@ -9,7 +10,7 @@ returns-clause-value c =
     let p = hardware_model at.hardware.now in
     let o = own_model at.own.now in
     let all = long p o at.pool.now at.is_pool at.has_pool in
-    pool_read p o at.pool.now at.is_pool at.has_pool 0 c.index-self-0.result (omega (arith, all))
+    pool_read p o at.pool.now at.is_pool at.has_pool 4 c.index-self-4.result (omega (arith, all))
 
 pub returns-clause-within : goal.returns-clause-within
 returns-clause-within c =
@@ -17,4 +18,4 @@ returns-clause-within c =
     let p = hardware_model at.hardware.now in
     let o = own_model at.own.now in
     let all = long p o at.pool.now at.is_pool at.has_pool in
-    read_inside p o at.pool.now at.is_pool at.has_pool 0 c.index-self-0.result (omega (arith, all))
+    read_inside p o at.pool.now at.is_pool at.has_pool 4 c.index-self-4.result (omega (arith, all))

@@ -1,6 +1,7 @@
-use Rattle.std.proofs.Common.{◌≡◌, ◌+◌, ◌<◌, length, sym}
-use Rattle.image_check.specs.Models.{hardware_model, own_model}
-use Rattle.world_view.specs.Frames.{regions_below}
+use Rattle.std.proofs.Common.{◌≡◌, ◌+◌}
+use Rattle.hardware_check.specs.Models.{hardware_model}
+use Rattle.image_check.specs.Models.{own_model}
+use Rattle.image_check.specs.Pages.{regions_below}
 use Rattle.tp_machine.proofs.PoolReads.{pool_read, read_inside, table_place}
 use Rattle.tp_machine.proofs.placement.Placement.table_frame.Goals as goal
 
@@ -18,7 +19,7 @@ returns-clause-value c =
     let p = hardware_model at.hardware.now in
     let o = own_model at.own.now in
     let place : c.regions_below-place.result ≡ regions_below o.segments c.args.region = rw c.as_slice.ensures.value at c.regions_below-place.ensures.value in
-    rw place (pool_read p o at.pool.now at.is_pool at.has_pool (1 + regions_below o.segments c.args.region) c.index-self-place.result (table_place p o at.pool.now at.is_pool at.has_pool c.args.region c.requires.region c.requires.some))
+    rw place (pool_read p o at.pool.now at.is_pool at.has_pool (5 + regions_below o.segments c.args.region) c.index-self-place.result (table_place p o at.pool.now at.is_pool at.has_pool c.args.region c.requires.region c.requires.some))
 
 pub returns-clause-within : goal.returns-clause-within
 returns-clause-within c =
@@ -26,4 +27,4 @@ returns-clause-within c =
     let p = hardware_model at.hardware.now in
     let o = own_model at.own.now in
     let place : c.regions_below-place.result ≡ regions_below o.segments c.args.region = rw c.as_slice.ensures.value at c.regions_below-place.ensures.value in
-    rw place (read_inside p o at.pool.now at.is_pool at.has_pool (1 + regions_below o.segments c.args.region) c.index-self-place.result (table_place p o at.pool.now at.is_pool at.has_pool c.args.region c.requires.region c.requires.some))
+    rw place (read_inside p o at.pool.now at.is_pool at.has_pool (5 + regions_below o.segments c.args.region) c.index-self-place.result (table_place p o at.pool.now at.is_pool at.has_pool c.args.region c.requires.region c.requires.some))

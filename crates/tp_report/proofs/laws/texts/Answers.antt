@@ -1,0 +1,29 @@
+-- Computed from the definitions.
+use Rattle.std.proofs.Common.{refl}
+use Rattle.std.specs.Fmt.{digits}
+use Rattle.tp_report.specs.Report.{switch_line, end_text, usage_text, refusal_text, too_long_text}
+use Rattle.tp_report.proofs.laws.texts.Goals as goal
+
+pub returns-clause-least : goal.returns-clause-least
+unfolding switch_line digits
+returns-clause-least c = refl
+
+pub returns-clause-greatest : goal.returns-clause-greatest
+unfolding switch_line digits
+returns-clause-greatest c = refl
+
+pub returns-clause-end : goal.returns-clause-end
+unfolding end_text
+returns-clause-end c = refl
+
+pub returns-clause-usage : goal.returns-clause-usage
+unfolding usage_text
+returns-clause-usage c = refl
+
+pub returns-clause-refusal : goal.returns-clause-refusal
+unfolding refusal_text digits
+returns-clause-refusal c = refl
+
+pub returns-clause-too_long : goal.returns-clause-too_long
+unfolding too_long_text
+returns-clause-too_long c = refl
