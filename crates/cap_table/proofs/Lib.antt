@@ -1,0 +1,4 @@
+pub mod OwnerLemmas
+pub mod SoundLemmas
+pub mod RevokeLemmas
+pub mod UseLemmas

@@ -1,0 +1,4 @@
+pub mod Items
+pub mod Totals
+pub mod LineLaws
+pub mod PlaceLaws

@@ -1,0 +1,5 @@
+-- What a kernel operation touches.
+pub mod Footprints
+pub mod Models
+pub mod Laws
+pub mod Example

@@ -1,0 +1,5 @@
+pub mod Parts
+pub mod Places
+pub mod Turns
+pub mod Changes
+pub mod Ended

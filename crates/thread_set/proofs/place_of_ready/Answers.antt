@@ -1,0 +1,13 @@
+use Rattle.std.proofs.Common.{rules, tests}
+use Rattle.std.proofs.lemmas.Iterator.{YieldsList-from_slice}
+use Rattle.std.proofs.lemmas.Iterator.Consumers.{YieldsList-from_chain}
+use Rattle.std.proofs.lemmas.Iterator.Search.{position_from_yields_List}
+use Rattle.thread_set.specs.Threads.{is_ready}
+use Rattle.thread_set.proofs.place_of_ready.Goals as goal
+
+pub returns : goal.returns
+returns c = record {
+  place = position_from_yields_List (λ x. is_ready x.state) _ _ _ c.position.ensures.ran
+      (YieldsList-from_chain (YieldsList-from_slice c.args.first.now (cc)) (YieldsList-from_slice c.args.second.now (cc)) (cc) (cc))
+      (λ x b q k. search (rules, tests));
+}
