@@ -1,0 +1,177 @@
+-- What the parts of the bound are the worst of.
+use Rattle.std.proofs.Common.{◌≡◌, ◌∙◌, ◌<◌, ◌≤◌, ◌+◌, ◌*◌, ◌/◌, ℕ, List, length, Option, Some, None, Bool, true, false, ap, refl, arith, lit≤, inl, inr}
+use Rattle.std.specs.Prelude.{if◌then◌else◌}
+use Rattle.std.proofs.lemmas.Nat.{mul-le}
+use Rattle.std.proofs.Math.Nat.{le-max_left, le-max_right, max-eq_left, max-eq_right}
+use Rattle.cycle_cost.specs.Costs.{CostTable}
+use Rattle.kernel_clone.specs.Footprints.{Layout, WorkDone, touches, data_count, is_of_switch, leave_op, enter_op, shared_lines}
+use Rattle.kernel_clone.specs.Footprints as clone
+use Rattle.kernel_clone.specs.Laws.{shared_count, zeroed_count, IsPlain}
+use Rattle.pad_bound.specs.Bound.{MachineShape, IsShape, worst_fetch, worst_access, lines_in_frame, lines_of_shared, most_entries, most_written, most_dirty, worst_instruction, worst_operation, worst_leave, worst_enter, worst_prefetch, worst_flush, bound_of}
+use Rattle.pad_bound.specs.Worst.{worst_of, IsCloneOf, IsCallWork, AreNoDearer, alloc_work, revoke_work, prefetch_touches}
+use Rattle.pad_bound.proofs.Costs.{worst_of-touches, worst_of-prefetch, written_count}
+
+-- ---- operations
+
+frame_lines : (s : MachineShape) (l : Layout) → IsCloneOf s l → clone.lines_in_frame l ≡ lines_in_frame s.line
+frame_lines s l of = ap (λ (n : ℕ). 4096 / n) of.line
+
+few_zeroed : (l : Layout) (zeroed : Option ℕ) → zeroed_count l zeroed ≤ clone.lines_in_frame l
+few_zeroed l None = omega arith
+few_zeroed l (Some frame) = omega arith
+
+few_written : (s : MachineShape) (l : Layout) (w : WorkDone) → IsCloneOf s l → IsCallWork w → written_count l w ≤ most_written s
+few_written s l w of is =
+    let lines : lines_in_frame s.line ≤ most_written s = le-max_left (lines_in_frame s.line) most_entries in
+    let entries : most_entries ≤ most_written s = le-max_right (lines_in_frame s.line) most_entries in
+    elim is.not_both [
+      | inl none ↦
+          let zeroed : zeroed_count l w.zeroed ≡ 0 = ap (zeroed_count l) none in
+          let few = is.few in
+          omega (arith, zeroed, few, entries)
+      | inr none ↦
+          let written : length w.entries ≡ 0 = ap length none in
+          let zeroed = few_zeroed l w.zeroed in
+          let same = frame_lines s l of in
+          omega (arith, zeroed, written, same, lines)
+    ]
+
+-- a call that writes so many lines
+call_costs : (c : CostTable) (l : Layout) (w : WorkDone) → is_of_switch w.op ≡ false
+    → worst_of c (touches l w) ≡ 4 * worst_fetch c + (5 + written_count l w) * worst_access c
+call_costs c l w call =
+    let whole = worst_of-touches c l w in
+    let stored : data_count w.op ≡ 2 = ap (λ (b : Bool). if b then 1 else 2) call in
+    let loaded : shared_count w.op ≡ 1 = ap (λ (b : Bool). if b then 0 else 1) call in
+    let count : 2 + data_count w.op + shared_count w.op + written_count l w ≡ 5 + written_count l w = omega (arith, stored, loaded) in
+    whole ∙ ap (λ (n : ℕ). 4 * worst_fetch c + n * worst_access c) count
+
+pub operation_covers : (s : MachineShape) (l : Layout) (w : WorkDone) → IsCloneOf s l → IsCallWork w
+    → s.costs.trap + worst_of s.costs (touches l w) ≤ worst_operation s
+unfolding worst_operation
+operation_covers s l w of is =
+    let costs = call_costs s.costs l w is.call in
+    let few = few_written s l w of is in
+    let access : ℕ = worst_access s.costs in
+    let same : access ≤ access = omega arith in
+    let written : written_count l w * access ≤ most_written s * access = mul-le (written_count l w) access (most_written s) access few same in
+    omega (arith, costs, written)
+
+-- where the work writes as many as there can be
+reached : (s : MachineShape) (l : Layout) (w : WorkDone) → is_of_switch w.op ≡ false → written_count l w ≡ most_written s
+    → s.costs.trap + worst_of s.costs (touches l w) ≡ worst_operation s
+unfolding worst_operation
+reached s l w call most =
+    let costs = call_costs s.costs l w call in
+    let written : written_count l w * worst_access s.costs ≡ most_written s * worst_access s.costs = ap (λ (n : ℕ). n * worst_access s.costs) most in
+    omega (arith, costs, written)
+
+pub alloc_is_call : (frame : ℕ) → IsCallWork (alloc_work frame)
+alloc_is_call frame = record { call = refl; few = lit≤ tt; not_both = inr refl }
+
+pub revoke_is_call : (entries : List ℕ) → length entries ≡ most_entries → IsCallWork (revoke_work entries)
+revoke_is_call entries most = record { call = refl; few = omega (arith, most); not_both = inl refl }
+
+pub alloc_reaches : (s : MachineShape) (l : Layout) (frame : ℕ) → IsCloneOf s l → most_entries ≤ lines_in_frame s.line
+    → s.costs.trap + worst_of s.costs (touches l (alloc_work frame)) ≡ worst_operation s
+alloc_reaches s l frame of many =
+    let lines : most_written s ≡ lines_in_frame s.line = max-eq_left many in
+    let same = frame_lines s l of in
+    let count : written_count l (alloc_work frame) ≡ most_written s = omega (arith, same, lines) in
+    reached s l (alloc_work frame) refl count
+
+pub revoke_reaches : (s : MachineShape) (l : Layout) (entries : List ℕ) → IsCloneOf s l
+    → lines_in_frame s.line ≤ most_entries → length entries ≡ most_entries
+    → s.costs.trap + worst_of s.costs (touches l (revoke_work entries)) ≡ worst_operation s
+revoke_reaches s l entries of few most =
+    let lines : most_written s ≡ most_entries = max-eq_right few in
+    let count : written_count l (revoke_work entries) ≡ most_written s = omega (arith, most, lines) in
+    reached s l (revoke_work entries) refl count
+
+-- a switch, which writes nothing but its clone's own lines
+switch_costs : (c : CostTable) (l : Layout) (w : WorkDone) → IsPlain w → is_of_switch w.op ≡ true
+    → worst_of c (touches l w) ≡ 4 * worst_fetch c + 3 * worst_access c
+switch_costs c l w plain switch =
+    let whole = worst_of-touches c l w in
+    let stored : data_count w.op ≡ 1 = ap (λ (b : Bool). if b then 1 else 2) switch in
+    let loaded : shared_count w.op ≡ 0 = ap (λ (b : Bool). if b then 0 else 1) switch in
+    let zeroed : zeroed_count l w.zeroed ≡ 0 = ap (zeroed_count l) plain.zeroed in
+    let written : length w.entries ≡ 0 = ap length plain.entries in
+    let count : 2 + data_count w.op + shared_count w.op + written_count l w ≡ 3 = omega (arith, stored, loaded, zeroed, written) in
+    whole ∙ ap (λ (n : ℕ). 4 * worst_fetch c + n * worst_access c) count
+
+pub leave_costs : (s : MachineShape) (l : Layout) (w : WorkDone) → IsPlain w → w.op ≡ leave_op
+    → s.costs.trap + worst_of s.costs (touches l w) ≡ worst_leave s
+unfolding worst_leave
+leave_costs s l w plain leave =
+    let costs = switch_costs s.costs l w plain (rw leave refl) in
+    omega (arith, costs)
+
+pub enter_costs : (s : MachineShape) (l : Layout) (w : WorkDone) → IsPlain w → w.op ≡ enter_op
+    → worst_of s.costs (touches l w) ≡ worst_enter s
+unfolding worst_enter
+enter_costs s l w plain enter = switch_costs s.costs l w plain (rw enter refl)
+
+-- ---- the switch's own parts
+
+pub prefetch_costs : (s : MachineShape) (l : Layout) → IsCloneOf s l → worst_of s.costs (prefetch_touches l) ≡ worst_prefetch s
+unfolding worst_prefetch
+prefetch_costs s l of =
+    let lines : shared_lines l ≡ lines_of_shared s = rw (of.line, of.shared) refl in
+    worst_of-prefetch s.costs l ∙ ap (λ (n : ℕ). n * worst_access s.costs) lines
+
+pub flush_covers : (s : MachineShape) (dirty : ℕ) → dirty ≤ most_dirty s → s.costs.flush + s.costs.wb * dirty ≤ worst_flush s
+unfolding worst_flush
+flush_covers s dirty few =
+    let same : s.costs.wb ≤ s.costs.wb = omega arith in
+    let written : s.costs.wb * dirty ≤ s.costs.wb * most_dirty s = mul-le s.costs.wb dirty s.costs.wb (most_dirty s) same few in
+    omega (arith, written)
+
+-- ---- the sum
+
+pub bound_covers : (s : MachineShape) (slot_end start step leave prefetch flush enter : ℕ)
+    → start < slot_end → step ≤ worst_instruction s + worst_operation s
+    → leave ≤ worst_leave s → prefetch ≤ worst_prefetch s → flush ≤ worst_flush s → enter ≤ worst_enter s
+    → start + step + leave + prefetch + flush + enter ≤ slot_end + bound_of s
+unfolding bound_of
+bound_covers s slot_end start step leave prefetch flush enter early a b c d e = omega (arith, early, a, b, c, d, e)
+
+some_instruction : (s : MachineShape) → IsShape s → 1 ≤ worst_instruction s
+unfolding worst_instruction
+some_instruction s is = let some = is.costs.base.some in omega (arith, some)
+
+pub bound_reached : (s : MachineShape) (start : ℕ) → IsShape s
+    → start + worst_instruction s + worst_operation s + worst_leave s + worst_prefetch s + worst_flush s + worst_enter s
+    ≡ start + 1 + bound_of s
+unfolding bound_of
+bound_reached s start is = let some = some_instruction s is in omega (arith, some)
+
+-- ---- costs that grow
+
+no_dearer_access : (c d : CostTable) → AreNoDearer c d → worst_access c ≤ worst_access d
+no_dearer_access c d le = let a = le.l1 in let b = le.l2 in let e = le.mem in let f = le.wb in omega (arith, a, b, e, f)
+
+pub no_dearer : (s t : MachineShape) → AreNoDearer s.costs t.costs → s.line ≡ t.line → s.shared ≡ t.shared
+    → s.sets ≡ t.sets → s.ways ≡ t.ways → bound_of s ≤ bound_of t
+unfolding bound_of worst_instruction worst_operation worst_leave worst_enter worst_prefetch worst_flush
+no_dearer s t le line shared sets ways =
+    let access = no_dearer_access s.costs t.costs le in
+    let lines : most_written s ≤ most_written t = rw line (omega arith) in
+    let loaded : lines_of_shared s ≤ lines_of_shared t = rw (line, shared) (omega arith) in
+    let dirty : most_dirty s ≤ most_dirty t = rw (sets, ways) (omega arith) in
+    let a : most_written s * worst_access s.costs ≤ most_written t * worst_access t.costs
+    = mul-le (most_written s) (worst_access s.costs) (most_written t) (worst_access t.costs) lines access in
+    let b : lines_of_shared s * worst_access s.costs ≤ lines_of_shared t * worst_access t.costs
+    = mul-le (lines_of_shared s) (worst_access s.costs) (lines_of_shared t) (worst_access t.costs) loaded access in
+    let wb = le.wb in
+    let c : s.costs.wb * most_dirty s ≤ t.costs.wb * most_dirty t
+    = mul-le s.costs.wb (most_dirty s) t.costs.wb (most_dirty t) wb dirty in
+    let base = le.base in
+    let l1 = le.l1 in
+    let l2 = le.l2 in
+    let mem = le.mem in
+    let tlb = le.tlb in
+    let mispredict = le.mispredict in
+    let trap = le.trap in
+    let flush = le.flush in
+    omega (arith, a, b, c, base, l1, l2, mem, wb, tlb, mispredict, trap, flush)

@@ -1,0 +1,64 @@
+//! Laws of the bound: what each of its parts is the worst of.
+ghost use Rattle.std.specs.Prelude.{◌≡◌, ℕ, ◌+◌, ◌*◌, ◌<◌, ◌≤◌, List, length};
+ghost use Rattle.kernel_clone.specs.Footprints.{Layout, WorkDone, touches, leave_op, enter_op};
+ghost use Rattle.kernel_clone.specs.Laws.{IsPlain};
+ghost use Rattle.pad_bound.specs.Bound.{MachineShape, IsShape, lines_in_frame, most_entries, most_dirty};
+ghost use Rattle.pad_bound.specs.Bound.{worst_instruction, worst_operation, worst_leave, worst_enter};
+ghost use Rattle.pad_bound.specs.Bound.{worst_prefetch, worst_flush, bound_of};
+ghost use Rattle.pad_bound.specs.Worst.{worst_of, IsCloneOf, IsCallWork, AreNoDearer, prefetch_touches};
+ghost use Rattle.pad_bound.specs.Worst.{alloc_work, revoke_work};
+
+/// Each call's and delivery's trap, and what it touches at its worst, is within
+/// the operation; an ALLOC reaches it where a frame has 63 lines or more, and
+/// else a REVOKE of 63 entries. A leave and an enter touch just what theirs sum.
+pub fn kernel_touches()
+    ensures operation { (s : MachineShape) (l : Layout) (w : WorkDone) → IsCloneOf s l → IsCallWork w
+        → s.costs.trap + worst_of s.costs (touches l w) ≤ worst_operation s }
+    ensures alloc { (s : MachineShape) (l : Layout) (frame : ℕ) → IsCloneOf s l
+        → most_entries ≤ lines_in_frame s.line
+        → s.costs.trap + worst_of s.costs (touches l (alloc_work frame)) ≡ worst_operation s }
+    ensures revoke { (s : MachineShape) (l : Layout) (entries : List ℕ) → IsCloneOf s l
+        → lines_in_frame s.line ≤ most_entries → length entries ≡ most_entries
+        → s.costs.trap + worst_of s.costs (touches l (revoke_work entries)) ≡ worst_operation s }
+    // the works that reach it are such work
+    ensures alloc_is_call { (frame : ℕ) → IsCallWork (alloc_work frame) }
+    ensures revoke_is_call { (entries : List ℕ) → length entries ≡ most_entries
+        → IsCallWork (revoke_work entries) }
+    ensures leave { (s : MachineShape) (l : Layout) (w : WorkDone) → IsPlain w
+        → w.op ≡ leave_op → s.costs.trap + worst_of s.costs (touches l w) ≡ worst_leave s }
+    ensures enter { (s : MachineShape) (l : Layout) (w : WorkDone) → IsPlain w
+        → w.op ≡ enter_op → worst_of s.costs (touches l w) ≡ worst_enter s }
+{}
+
+/// The prefetch is a load of each shared line, each at its worst.
+pub fn prefetches()
+    ensures prefetch { (s : MachineShape) (l : Layout) → IsCloneOf s l
+        → worst_of s.costs (prefetch_touches l) ≡ worst_prefetch s }
+{}
+
+/// A flush that writes back any number of lines that the cache can hold is
+/// within the bound's.
+pub fn flushes()
+    ensures flush { (s : MachineShape) (dirty : ℕ) → dirty ≤ most_dirty s
+        → s.costs.flush + s.costs.wb * dirty ≤ worst_flush s }
+{}
+
+/// An instruction, with its operation, that begins before the slot's end, and
+/// the parts of the switch after it, end by the bound past the slot's end; at
+/// their worst, begun in the slot's last cycle, they end just there.
+pub fn late_steps()
+    ensures within { (s : MachineShape) (slot_end start step leave prefetch flush enter : ℕ)
+        → start < slot_end → step ≤ worst_instruction s + worst_operation s
+        → leave ≤ worst_leave s → prefetch ≤ worst_prefetch s → flush ≤ worst_flush s
+        → enter ≤ worst_enter s
+        → start + step + leave + prefetch + flush + enter ≤ slot_end + bound_of s }
+    ensures reached { (s : MachineShape) (start : ℕ) → IsShape s
+        → start + worst_instruction s + worst_operation s + worst_leave s + worst_prefetch s
+        + worst_flush s + worst_enter s ≡ start + 1 + bound_of s }
+{}
+
+/// No cost that grows makes the bound smaller.
+pub fn grows_with_costs()
+    ensures bound { (s t : MachineShape) → AreNoDearer s.costs t.costs → s.line ≡ t.line
+        → s.shared ≡ t.shared → s.sets ≡ t.sets → s.ways ≡ t.ways → bound_of s ≤ bound_of t }
+{}

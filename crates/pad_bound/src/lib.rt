@@ -1,0 +1,48 @@
+//! The bound on a switch: the most cycles past a slot's end at which the next
+//! domain has entered, whatever ran before.
+#![tactic(auto)]
+
+ghost use Rattle.std.specs.Prelude.{◌≡◌, ◌^◌, ◌<◌};
+ghost use Rattle.pad_bound.specs.Bound.{worst_instruction, worst_operation, worst_leave, worst_enter};
+ghost use Rattle.pad_bound.specs.Bound.{worst_prefetch, worst_flush, bound_of, IsShape};
+ghost use Rattle.pad_bound.specs.Models.{shape_model};
+
+mod laws;
+mod shape;
+
+pub use laws::{flushes, grows_with_costs, kernel_touches, late_steps, prefetches};
+pub use shape::{Bound, Shape};
+
+/// The most cycles that a switch uses past a slot's end, with its parts, in cycles.
+#[tactic(auto, unfolding(crate::specs::Bound::bound_of))]
+pub fn bound(shape: &Shape) -> Bound
+    requires shape { IsShape (shape_model shape.now) }
+    ensures instruction { result.instruction ≡ worst_instruction (shape_model shape.now) }
+    ensures operation { result.operation ≡ worst_operation (shape_model shape.now) }
+    ensures leave { result.leave ≡ worst_leave (shape_model shape.now) }
+    ensures prefetch { result.prefetch ≡ worst_prefetch (shape_model shape.now) }
+    ensures flush { result.flush ≡ worst_flush (shape_model shape.now) }
+    ensures enter { result.enter ≡ worst_enter (shape_model shape.now) }
+    ensures total { result.total ≡ bound_of (shape_model shape.now) }
+    ensures few { result.total < 2 ^ 26 }
+{
+    let instruction = shape.instruction();
+    let operation = shape.operation();
+    let leave = shape.leave();
+    let prefetch = shape.prefetch();
+    let flush = shape.flush();
+    let enter = shape.enter();
+    let total = instruction + operation + leave + prefetch + flush + enter - 1;
+    Bound {
+        instruction,
+        operation,
+        leave,
+        prefetch,
+        flush,
+        enter,
+        total,
+    }
+}
+
+#[cfg(test)]
+mod tests;

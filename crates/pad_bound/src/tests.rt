@@ -1,0 +1,49 @@
+// The bounds of two machines, worked out by hand.
+use super::{Bound, Shape, bound};
+use cycle_cost::Costs;
+
+#[test]
+fn bounds_are_as_worked_out(rt: HostRuntime) {
+    // A line at its worst is fetched in 49 cycles and accessed in 59.
+    let costs = Costs {
+        base: 1,
+        l1: 1,
+        l2: 8,
+        mem: 40,
+        wb: 10,
+        tlb: 1,
+        mispredict: 3,
+        trap: 10,
+        flush: 20,
+    };
+    let small = Shape {
+        costs,
+        line: 64,
+        shared: 512,
+        sets: 16,
+        ways: 2,
+    };
+    let of_small = Bound {
+        instruction: 306,
+        operation: 4277,
+        leave: 383,
+        prefetch: 472,
+        flush: 340,
+        enter: 373,
+        total: 6150,
+    };
+    assert_eq!(rt; bound(&small), of_small);
+    // 256 lines in a frame and 4,096 shared lines.
+    let fine = Shape {
+        line: 16,
+        shared: 65536,
+        ..small
+    };
+    let of_fine = Bound {
+        operation: 15605,
+        prefetch: 241664,
+        total: 258670,
+        ..of_small
+    };
+    assert_eq!(rt; bound(&fine), of_fine);
+}
