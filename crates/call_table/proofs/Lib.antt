@@ -1,0 +1,17 @@
+pub mod ClaimLaws
+pub mod StepLaws
+pub mod ClaimLawsSlots
+pub mod CallLawsSteps
+pub mod CallLaws
+pub mod CallLawsDelete
+pub mod Refusals
+pub mod TablesClaims
+pub mod TablesSlots
+pub mod TablesMeaning
+pub mod ConfinedSteps
+pub mod ConfinedTables
+pub mod ConfinedCalls
+pub mod MeaningSteps
+pub mod MeaningRights
+pub mod MeaningCalls
+pub mod MeaningRevoke

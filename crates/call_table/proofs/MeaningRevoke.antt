@@ -1,0 +1,359 @@
+-- What DELETE and REVOKE come to: no address reaches a frame that no slot maps any more.
+use Rattle.std.proofs.Common.{◌≡◌, ◌≢◌, ◌⊎◌, ◌∙◌, ap, sym, subst, refl, inl, inr, ℕ, zero, suc, ◌+◌, ◌-◌, ◌<◌, ◌≤◌, Bool, true, false, true≢false, not, arith, eq-eqb, ne_eqb, length, length-set, get_or, Option, Some, None}
+use Rattle.std.specs.Prelude.{nat_eq}
+use Rattle.std.proofs.lemmas.Bool.{and_parts, cases_eq, cases_lt}
+use Rattle.std.proofs.lemmas.List.{get_or_past}
+use Rattle.tp_base.specs.Act.{◌>>◌, give}
+use Rattle.phys_mem.specs.Mem.{Mem, word, word-written_same, word-written_frame}
+use Rattle.sv32_walk.specs.PageTableEntry.{valid, ppn, vpn_0, vpn_1}
+use Rattle.page_map.specs.Tables.{has_table, table_of}
+use Rattle.page_map.specs.Reached.{leaf_at as entry_at, PagesIn}
+use Rattle.page_map.specs.Changes.{unmapped}
+use Rattle.page_map.proofs.KeptLemmas.{at_write, kept_by, never}
+use Rattle.page_map.proofs.ReachedWalks.{walk_page}
+use Rattle.cap_table.specs.declared.Cap.{Cap}
+use Rattle.cap_table.specs.declared.Cap.TheVariants as cap
+use Rattle.cap_table.specs.Slots.{Slots, cap_at, with_cap, page_of, mapped_at, alike, same_number, is_revoked, revoked_count}
+use Rattle.call_table.specs.Domain.{Dom, replied, placed, done, with_caps}
+use Rattle.call_table.specs.Claims.{Claim, Estate, is_mine, claims, claim_of, place_of, frame_of, is_shared, leaf_at, IsEstate}
+use Rattle.call_table.specs.Calls.{with_slot, clear_entry, drop_slot, delete, drop_if, drop_others, revoke}
+use Rattle.call_table.specs.Laws.{Kept, IsUnreached, IsRevoked}
+use Rattle.call_table.proofs.TablesClaims.{some_same, leaf_entry, leaf_frame}
+use Rattle.call_table.proofs.TablesSlots.{claim_at, claim_within, cap_same, cap_other}
+use Rattle.call_table.proofs.TablesMeaning.{page_tables}
+use Rattle.call_table.proofs.ConfinedCalls.{Ready, ready, still_ready, revoked_no_table}
+use Rattle.call_table.proofs.MeaningSteps.{Whatever, Gives, given, bind_gives, give_gives, unmap_gives, buffer_gives, nothing_gives, check_gives, filled_gives}
+use Rattle.call_table.proofs.MeaningCalls.{claim_past, claim_other}
+
+-- some claim says that the frame is mapped at a place
+pub record Claimed (e : Estate) (caps : Slots) (g r t : ℕ) : Type 0 where
+  pub slot : ℕ
+  pub by_cap : Bool
+  pub claim : claims e caps slot ≡ Claim.Leaf by_cap g (Some (r, t))
+
+-- the root is as it was at first, and each leaf is a claimed page's
+pub record Leaves (e : Estate) (first : Mem) (x : Dom) (n : Mem) : Type 0 where
+  pub ready : Ready e x n
+  pub root : (r : ℕ) → word n e.root r ≡ word first e.root r
+  pub leaf : (r t : ℕ) → valid (word n e.root r) ≡ true → valid (entry_at n e.root r t) ≡ true
+      → Claimed e x.caps (ppn (entry_at n e.root r t)) r t
+
+claimed_frame : (e : Estate) (caps : Slots) (f g r t : ℕ) → f ≡ g → Claimed e caps f r t → Claimed e caps g r t
+claimed_frame e caps f g r t same c = subst (λ (n : ℕ). Claimed e caps n r t) same c
+
+first_leaves : (e : Estate) (d : Dom) (m : Mem) → Kept e d m → Leaves e m d m
+first_leaves e d m h = record {
+  ready = ready e d m h;
+  root = λ r. refl;
+  leaf = λ r t r_ok ok.
+      let l = leaf_entry e.root (is_mine e) (claims e d.caps) m h.facts r t r_ok ok in
+      claimed_frame e d.caps l.frame (ppn (entry_at m e.root r t)) r t (sym (leaf_frame (claims e d.caps) (entry_at m e.root r t) r t l))
+      (record { slot = l.slot; by_cap = l.by_cap; claim = l.claim });
+}
+
+same_place : (b b' : Bool) (f g r t q u : ℕ) → Claim.Leaf b f (Some (r, t)) ≡ Claim.Leaf b' g (Some (q, u)) → (r ≡ q) × (t ≡ u)
+unfolding leaf_at
+same_place b b' f g r t q u e =
+    let pair : (r, t) ≡ (q, u) = some_same (ap leaf_at e) in
+    (ap (λ (p : ℕ × ℕ). p.0) pair, ap (λ (p : ℕ × ℕ). p.1) pair)
+
+-- ---- one slot is dropped
+
+module _ (e : Estate) (first : Mem) (x : Dom) (n : Mem) (l : Leaves e first x n) (i : ℕ) (below : i < length x.caps) where
+  -- a claim of another slot stays
+  other_claim : (g r t : ℕ) (c : Claimed e x.caps g r t) → c.slot ≢ i → Claimed e (with_slot x i None).caps g r t
+  unfolding with_caps
+  other_claim g r t c other = record { slot = c.slot; by_cap = c.by_cap; claim = claim_other e x.caps i c.slot None other ∙ c.claim }
+
+  -- the slot stands for no entry: nothing is cleared
+  loose_leaves : (k : Claim) → claim_of (cap_at x.caps i) ≡ k → leaf_at k ≡ None → Leaves e first (with_slot x i None) n
+  unfolding leaf_at
+  loose_leaves k is none = record {
+    ready = still_ready e x n l.ready i n (λ q. refl);
+    root = l.root;
+    leaf = λ r t r_ok ok.
+        let c = l.leaf r t r_ok ok in
+        other_claim (ppn (entry_at n e.root r t)) r t c (λ (same : c.slot ≡ i).
+        let at : k ≡ Claim.Leaf c.by_cap (ppn (entry_at n e.root r t)) (Some (r, t)) =
+        sym is ∙ sym (claim_within e x.caps i below) ∙ ap (claims e x.caps) (sym same) ∙ c.claim in
+        let no : None ≡ Some (r, t) = sym none ∙ ap leaf_at at in
+        absurd (cc no));
+  }
+
+  module _ (f rights va : ℕ) (is : cap_at x.caps i ≡ Some (cap.Frame f rights (Some va))) where
+    mapped_there : has_table n e.root va ≡ true
+    mapped_there = l.ready.mapped i f rights va is
+
+    root_same : (q : ℕ) → word (unmapped n e.root va) e.root q ≡ word n e.root q
+    root_same q =
+        word-written_frame n (table_of n e.root va) (vpn_0 va) 0 e.root q (λ s. l.ready.tables.apart (vpn_1 va) mapped_there (sym s))
+
+    -- each entry is as it was, or cleared
+    entry_by : (r t : ℕ) → (entry_at (unmapped n e.root va) e.root r t ≡ 0) ⊎ (entry_at (unmapped n e.root va) e.root r t ≡ entry_at n e.root r t)
+    entry_by r t =
+        let table : entry_at (unmapped n e.root va) e.root r t ≡ word (unmapped n e.root va) (ppn (word n e.root r)) t =
+        ap (λ (w : ℕ). word (unmapped n e.root va) (ppn w) t) (root_same r) in
+        elim (at_write n (table_of n e.root va) (vpn_0 va) 0 (ppn (word n e.root r)) t) [
+          | inl here ↦ inl (table ∙ here.2)
+          | inr there ↦ inr (table ∙ there)
+        ]
+
+    cleared : (r t : ℕ) → r ≡ vpn_1 va → t ≡ vpn_0 va → entry_at (unmapped n e.root va) e.root r t ≡ 0
+    cleared r t at_root at_table =
+        ap (λ (w : ℕ). word (unmapped n e.root va) (ppn w) t) (root_same r)
+        ∙ ap (λ (q : ℕ). word (unmapped n e.root va) (ppn (word n e.root q)) t) at_root
+        ∙ ap (λ (u : ℕ). word (unmapped n e.root va) (table_of n e.root va) u) at_table
+        ∙ word-written_same n (table_of n e.root va) (vpn_0 va) 0
+
+    unmapped_leaf : (r t : ℕ) → valid (word (unmapped n e.root va) e.root r) ≡ true → valid (entry_at (unmapped n e.root va) e.root r t) ≡ true
+        → Claimed e (with_slot x i None).caps (ppn (entry_at (unmapped n e.root va) e.root r t)) r t
+    unfolding claim_of place_of
+    unmapped_leaf r t r_ok ok = elim (entry_by r t) [
+      | inl gone ↦ never (ap valid (sym gone) ∙ ok)
+      | inr same ↦
+          let c = l.leaf r t (ap valid (sym (root_same r)) ∙ r_ok) (ap valid (sym same) ∙ ok) in
+          claimed_frame e (with_slot x i None).caps (ppn (entry_at n e.root r t)) (ppn (entry_at (unmapped n e.root va) e.root r t)) r t (ap ppn (sym same))
+          (other_claim (ppn (entry_at n e.root r t)) r t c (λ (at : c.slot ≡ i).
+          let place = same_place c.by_cap true (ppn (entry_at n e.root r t)) f r t (vpn_1 va) (vpn_0 va)
+          (sym c.claim ∙ ap (claims e x.caps) at ∙ claim_at e x.caps i (cap.Frame f rights (Some va)) is) in
+          never (ap valid (sym (cleared r t place.0 place.1)) ∙ ok)))
+    ]
+
+    unmapped_leaves : Leaves e first (with_slot x i None) (unmapped n e.root va)
+    unmapped_leaves = record {
+      ready = still_ready e x n l.ready i (unmapped n e.root va) root_same;
+      root = λ q. root_same q ∙ l.root q;
+      leaf = unmapped_leaf;
+    }
+
+  module _ (P : Dom → Mem → Type 0) (g : (k : Mem) → Leaves e first (with_slot x i None) k → P (with_slot x i None) k) where
+    dropped : (c : Option Cap) → cap_at x.caps i ≡ c → ((f : ℕ) (w : Option ℕ) → c ≢ Some (cap.Table f w))
+        → Gives Whatever P ((clear_entry e.root c >> give (with_slot x i None)) n)
+    unfolding clear_entry claim_of place_of leaf_at
+    dropped (Some (cap.Frame f rights (Some va))) is no_table =
+        unmap_gives Whatever P n e.root va _ (give_gives Whatever P (unmapped n e.root va) _ (g (unmapped n e.root va) (unmapped_leaves f rights va is)))
+    dropped (Some (cap.Frame f rights None)) is no_table =
+        nothing_gives Whatever P n _ (give_gives Whatever P n _ (g n (loose_leaves (Claim.Leaf true f None) (ap claim_of is) refl)))
+    dropped (Some (cap.Irq line)) is no_table =
+        nothing_gives Whatever P n _ (give_gives Whatever P n _ (g n (loose_leaves Claim.Nothing (ap claim_of is) refl)))
+    dropped None is no_table =
+        nothing_gives Whatever P n _ (give_gives Whatever P n _ (g n (loose_leaves Claim.Nothing (ap claim_of is) refl)))
+    dropped (Some (cap.Table f w)) is no_table = absurd (no_table f w refl)
+
+    drop_leaves : ((f : ℕ) (w : Option ℕ) → cap_at x.caps i ≢ Some (cap.Table f w)) → Gives Whatever P (drop_slot e i x n)
+    unfolding drop_slot
+    drop_leaves no_table = dropped (cap_at x.caps i) refl no_table
+
+-- ---- a frame that no slot maps is not reached
+
+leaf_cap : (c : Option Cap) (b : Bool) (f : ℕ) (p : ℕ × ℕ) → claim_of c ≡ Claim.Leaf b f (Some p) → (page_of c ≡ Some f) × (mapped_at c ≢ None)
+unfolding claim_of place_of
+leaf_cap None b f p e = absurd (cc e)
+leaf_cap (Some (cap.Irq line)) b f p e = absurd (cc e)
+leaf_cap (Some (cap.Table g w)) b f p e = absurd (cc e)
+leaf_cap (Some (cap.Frame g rights None)) b f p e = absurd (cc e)
+leaf_cap (Some (cap.Frame g rights (Some va))) b f p e = (cc e, λ none. cc none)
+
+page_claim : (c : Option Cap) (f : ℕ) → page_of c ≡ Some f → (frame_of (claim_of c) ≡ Some f) × (is_shared (claim_of c) ≡ true)
+unfolding claim_of frame_of is_shared
+page_claim None f e = absurd (cc e)
+page_claim (Some (cap.Irq line)) f e = absurd (cc e)
+page_claim (Some (cap.Table g w)) f e = absurd (cc e)
+page_claim (Some (cap.Frame g rights w)) f e = (e, refl)
+
+module _ (e : Estate) (d : Dom) (m : Mem) (w : IsEstate e) (h : Kept e d m) (a f : ℕ) (below : a < length d.caps) (named : page_of (cap_at d.caps a) ≡ Some f) where
+  module _ (x : Dom) (n : Mem) (l : Leaves e m x n) (long : length x.caps ≡ length d.caps)
+      (unmapped_all : (i : ℕ) → page_of (cap_at x.caps i) ≡ Some f → mapped_at (cap_at x.caps i) ≡ None) where
+    not_for_good : (s : ℕ) → length d.caps ≤ s → frame_of (claims e x.caps s) ≢ Some f
+    not_for_good s past is =
+        let was : claims e x.caps s ≡ claims e d.caps s =
+        claim_past e x.caps s (omega (arith, past, long)) ∙ ap (λ (k : ℕ). get_or e.fixed (s - k) Claim.Nothing) long ∙ sym (claim_past e d.caps s past) in
+        let own : frame_of (claims e d.caps a) ≡ Some f = ap frame_of (claim_within e d.caps a below) ∙ (page_claim (cap_at d.caps a) f named).0 in
+        let shared : is_shared (claims e d.caps s) ≡ true = (h.facts.apart a s f (λ q. absurd (omega (arith, below, past, q))) own (ap frame_of (sym was) ∙ is)).1 in
+        true≢false (sym shared ∙ ap is_shared (claim_past e d.caps s past) ∙ w.alone (s - length d.caps))
+
+    not_claimed : (r t : ℕ) → Claimed e x.caps f r t → ⊥
+    unfolding frame_of
+    not_claimed r t c = elim (cases_lt c.slot (length d.caps)) [
+      | inl within ↦
+          let parts = leaf_cap (cap_at x.caps c.slot) c.by_cap f (r, t) (sym (claim_within e x.caps c.slot (omega (arith, within, long))) ∙ c.claim) in
+          parts.1 (unmapped_all c.slot parts.0)
+      | inr past ↦ not_for_good c.slot past (ap frame_of c.claim)
+    ]
+
+    abbrev IsClaimed : ℕ → Type 0
+    IsClaimed g = (r : ℕ) × (t : ℕ) × Claimed e x.caps g r t
+
+    pages : PagesIn IsClaimed n e.root
+    pages = record { each = λ r t r_below t_below r_ok ok. (r, t, l.leaf r t r_ok ok) }
+
+    unreached : IsUnreached e n f
+    unreached = record {
+      none = λ va leaf access is same.
+          let map = kept_by m n e.root (λ r r_below. l.root r) e.share.frames (page_tables e d m h).map in
+          let c = subst IsClaimed same (walk_page n e.root e.share.frames map va access IsClaimed pages leaf is) in
+          not_claimed c.0 c.1 c.2;
+    }
+
+  -- ---- DELETE
+
+  page_no_table : (c : Option Cap) → page_of c ≡ Some f → (g : ℕ) (v : Option ℕ) → c ≢ Some (cap.Table g v)
+  page_no_table None e g v is = cc is
+  page_no_table (Some (cap.Irq line)) e g v is = cc e
+  page_no_table (Some (cap.Table g' v')) e g v is = absurd (cc e)
+  page_no_table (Some (cap.Frame g' r v')) e g v is = cc is
+
+  module _ (others : (i : ℕ) → i ≢ a → page_of (cap_at d.caps i) ≢ Some f) where
+    unnamed : (i : ℕ) → page_of (cap_at (with_cap d.caps a None) i) ≢ Some f
+    unnamed i is = elim (cases_eq i a) [
+      | inl same ↦
+          let none : cap_at (with_cap d.caps a None) i ≡ None = ap (λ (j : ℕ). cap_at (with_cap d.caps a None) j) same ∙ cap_same d.caps a None below in
+          let no : None ≡ Some f = ap page_of (sym none) ∙ is in
+          cc no
+      | inr other ↦ others i other (ap page_of (sym (cap_other d.caps a i None other)) ∙ is)
+    ]
+
+    abbrev Unreached : Dom → Mem → Type 0
+    Unreached x n = IsUnreached e n f
+
+    drop_unreached : (k : Mem) → Leaves e m (with_slot d a None) k → IsUnreached e k f
+    unfolding with_caps
+    drop_unreached k l = unreached (with_slot d a None) k l (length-set d.caps a None) (λ i is. absurd (unnamed i is))
+
+    delete_unreached : Gives Whatever Unreached (delete e d a m)
+    unfolding delete
+    delete_unreached =
+        filled_gives Whatever Unreached m d (λ _. tt) a _ (λ _ c is.
+        check_gives Whatever Unreached m d (λ _. tt) 12 _ _ (λ _.
+        bind_gives Whatever Unreached Unreached (drop_slot e a d) _ m
+        (drop_leaves e m d m (first_leaves e d m h) a below Unreached (λ k l. drop_unreached k l) (page_no_table (cap_at d.caps a) named))
+        (λ x n none.
+        buffer_gives Whatever Unreached n _
+        (give_gives Whatever Unreached n _ none))))
+
+  -- ---- REVOKE
+
+  -- the slots before i name the frame no more, but for the one that is asked
+  record Revoking (i : ℕ) (x : Dom) (n : Mem) : Type 0 where
+    leaves : Leaves e m x n
+    long : length x.caps ≡ length d.caps
+    self : page_of (cap_at x.caps a) ≡ Some f
+    before : (j : ℕ) → j < i → j ≢ a → page_of (cap_at x.caps j) ≢ Some f
+
+  start : Revoking 0 d m
+  start = record {
+    leaves = first_leaves e d m h;
+    long = refl;
+    self = named;
+    before = λ j less. absurd (omega (arith, less));
+  }
+
+  not_same : (t : Bool) → not t ≡ true → t ≡ false
+  not_same true e = absurd (cc e)
+  not_same false e = refl
+
+  alike_page : (c z : Option Cap) → page_of c ≡ Some f → page_of z ≡ Some f → alike c z ≡ true
+  alike_page None z c_is z_is = absurd (cc c_is)
+  alike_page (Some (cap.Irq line)) z c_is z_is = absurd (cc c_is)
+  alike_page (Some (cap.Table g v)) z c_is z_is = absurd (cc c_is)
+  alike_page (Some (cap.Frame g r v)) z c_is z_is =
+      let same : g ≡ f = cc c_is in
+      ap (λ (p : Option ℕ). same_number (Some g) p) z_is ∙ eq-eqb g f same
+
+  module _ (i : ℕ) (i_below : i < length d.caps) (x : Dom) (n : Mem) (r : Revoking i x n) where
+    dropped_before : is_revoked x.caps a i ≡ true → (k : Mem) → Leaves e m (with_slot x i None) k → Revoking (suc i) (with_slot x i None) k
+    unfolding with_caps
+    dropped_before hit k l =
+        let apart : i ≢ a = λ same. true≢false (sym (eq-eqb i a same) ∙ not_same (nat_eq i a) (and_parts _ _ hit).0) in
+        record {
+          leaves = l;
+          long = length-set x.caps i None ∙ r.long;
+          self = ap page_of (cap_other x.caps i a None (λ same. apart (sym same))) ∙ r.self;
+          before = λ j less other is. elim (cases_eq j i) [
+            | inl same ↦
+                let none : cap_at (with_cap x.caps i None) j ≡ None =
+                ap (λ (q : ℕ). cap_at (with_cap x.caps i None) q) same ∙ cap_same x.caps i None (omega (arith, i_below, r.long)) in
+                let no : None ≡ Some f = ap page_of (sym none) ∙ is in
+                cc no
+            | inr apart_j ↦ r.before j (omega (arith, less, apart_j)) other (ap page_of (sym (cap_other x.caps i j None apart_j)) ∙ is)
+          ];
+        }
+
+    kept_before : is_revoked x.caps a i ≡ false → Revoking (suc i) x n
+    kept_before missed = record {
+      leaves = r.leaves;
+      long = r.long;
+      self = r.self;
+      before = λ j less other is. elim (cases_eq j i) [
+        | inl same ↦
+            let here : page_of (cap_at x.caps i) ≡ Some f = ap (λ (q : ℕ). page_of (cap_at x.caps q)) (sym same) ∙ is in
+            let apart : i ≢ a = λ s. other (same ∙ s) in
+            let taken : is_revoked x.caps a i ≡ true = rw (ne_eqb i a apart, alike_page (cap_at x.caps a) (cap_at x.caps i) r.self here) refl in
+            true≢false (sym taken ∙ missed)
+        | inr apart_j ↦ r.before j (omega (arith, less, apart_j)) other is
+      ];
+    }
+
+    drop_if_before : (t : Bool) → is_revoked x.caps a i ≡ t → Gives Whatever (Revoking (suc i)) (drop_if e i x t n)
+    unfolding drop_if
+    drop_if_before true hit =
+        drop_leaves e m x n r.leaves i (omega (arith, i_below, r.long)) (Revoking (suc i)) (dropped_before hit) (λ g v. revoked_no_table x.caps a i g v hit)
+    drop_if_before false missed = give_gives Whatever (Revoking (suc i)) n x (kept_before missed)
+
+  drop_others_before : (count i : ℕ) (x : Dom) (n : Mem) → i + count ≡ 64 → Revoking i x n → Gives Whatever (Revoking 64) (drop_others e a count i x n)
+  unfolding drop_others
+  drop_others_before zero i x n all r =
+      let last : i ≡ 64 = omega (arith, all) in
+      give_gives Whatever (Revoking 64) n x (subst (λ (j : ℕ). Revoking j x n) last r)
+  drop_others_before (suc count) i x n all r =
+      bind_gives Whatever (Revoking (suc i)) (Revoking 64) (drop_if e i x (is_revoked x.caps a i)) (λ y. drop_others e a count (suc i) y) n
+      (drop_if_before i (omega (arith, all, h.slots)) x n r (is_revoked x.caps a i) refl)
+      (λ y k s. drop_others_before count (suc i) y k (omega (arith, all)) s)
+
+  abbrev Revoked : Dom → Mem → Type 0
+  Revoked x n = IsRevoked e x n a f
+
+  revoked_after : (count : ℕ) (x : Dom) (n : Mem) → Revoking 64 x n → Revoked (done count x) n
+  unfolding replied placed
+  revoked_after count x n r =
+      let alone : (i : ℕ) → i ≢ a → page_of (cap_at x.caps i) ≢ Some f = λ i other is. elim (cases_lt i 64) [
+        | inl less ↦ r.before i less other is
+        | inr past ↦
+            let none : cap_at x.caps i ≡ None = get_or_past x.caps i None (omega (arith, past, r.long, h.slots)) in
+            let no : None ≡ Some f = ap page_of (sym none) ∙ is in
+            cc no
+      ] in
+      record {
+        alone = alone;
+        unreached = λ not_mapped. unreached x n r.leaves r.long (λ i is. elim (cases_eq i a) [
+          | inl same ↦ ap (λ (j : ℕ). mapped_at (cap_at x.caps j)) same ∙ not_mapped
+          | inr other ↦ absurd (alone i other is)
+        ]);
+      }
+
+  revoke_gives : Gives Whatever Revoked (revoke e d a m)
+  unfolding revoke
+  revoke_gives =
+      filled_gives Whatever Revoked m d (λ _. tt) a _ (λ _ c is.
+      bind_gives Whatever (Revoking 64) Revoked (drop_others e a 64 0 d) _ m (drop_others_before 64 0 d m (omega arith) start) (λ x n r.
+      buffer_gives Whatever Revoked n _
+      (give_gives Whatever Revoked n _ (revoked_after (revoked_count d.caps a) x n r))))
+
+-- ---- the laws
+
+page_within : (caps : Slots) (a f : ℕ) → page_of (cap_at caps a) ≡ Some f → a < length caps
+page_within caps a f named = elim (cases_lt a (length caps)) [
+  | inl below ↦ below
+  | inr past ↦ let no : None ≡ Some f = ap page_of (sym (get_or_past caps a None past)) ∙ named in absurd (cc no)
+]
+
+module _ (e : Estate) (d x : Dom) (m : Mem) (a f : ℕ) (w : IsEstate e) (h : Kept e d m) (named : page_of (cap_at d.caps a) ≡ Some f) where
+  pub delete_means : (delete e d a m).value ≡ inr x → ((i : ℕ) → i ≢ a → page_of (cap_at d.caps i) ≢ Some f) → IsUnreached e (delete e d a m).state f
+  delete_means is others =
+      given Whatever (λ (y : Dom) (n : Mem). IsUnreached e n f) (delete e d a m)
+      (delete_unreached e d m w h a f (page_within d.caps a f named) named others) x is
+
+  pub revoke_means : (revoke e d a m).value ≡ inr x → IsRevoked e x (revoke e d a m).state a f
+  revoke_means is =
+      given Whatever (λ (y : Dom) (n : Mem). IsRevoked e y n a f) (revoke e d a m)
+      (revoke_gives e d m w h a f (page_within d.caps a f named) named) x is

@@ -1,0 +1,5 @@
+pub mod Domain
+pub mod Claims
+pub mod Calls
+pub mod Laws
+pub mod Example

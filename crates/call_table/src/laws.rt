@@ -1,0 +1,35 @@
+//! Laws of kernel calls over their definitions, each the contract of a function
+//! that does nothing: a caller that calls it may rely on the law.
+ghost use Rattle.call_table.specs.Laws.{CallsKeepLaw, RefusalLaw, ConfinedLaw, PageTablesLaw, StoreLaw, MapLaw, DeleteLaw, RevokeLaw, AllocLaw, NoWiderLaw, CopiesLaw, PoolLaw};
+
+/// Every call keeps the facts of a domain's frames and page tables.
+pub fn calls_keep()
+    ensures kept { CallsKeepLaw }
+{}
+
+/// A call that is refused gives its code, and changes and does nothing else.
+pub fn refusals()
+    ensures refused { RefusalLaw }
+{}
+
+/// A call reads and changes the domain's own frames alone.
+pub fn calls_are_confined()
+    ensures confined { ConfinedLaw }
+{}
+
+/// What the facts mean for page tables, and that stores into pages keep them.
+pub fn page_tables()
+    ensures tables { PageTablesLaw }
+    ensures stores { StoreLaw }
+{}
+
+/// What calls mean for the program.
+pub fn meaning()
+    ensures map { MapLaw }
+    ensures delete { DeleteLaw }
+    ensures revoke { RevokeLaw }
+    ensures alloc { AllocLaw }
+    ensures no_wider { NoWiderLaw }
+    ensures copies { CopiesLaw }
+    ensures pool { PoolLaw }
+{}

@@ -1,0 +1,13 @@
+pub mod Logs
+pub mod Paths
+pub mod Ties
+pub mod TiesTables
+pub mod TiesSlots
+pub mod TiesCalls
+pub mod Frees
+pub mod Drops
+pub mod DropsAll
+pub mod FreesAlloc
+pub mod DropsDelete
+pub mod FreesRevoked
+pub mod DropsRevoke

@@ -1,0 +1,58 @@
+-- ALLOC: each refusal, and the frame that is taken.
+use Rattle.std.proofs.Common.{rules, refl, ◌≡◌, ◌∙◌, ap, sym, ℕ, true, false, is_some, Option, Some, None, []}
+use Rattle.std.specs.Prelude.{slice_get}
+use Rattle.cap_table.specs.declared.Cap.{Cap}
+use Rattle.cap_table.specs.Slots.{cap_at, is_filled, with_cap}
+use Rattle.kernel_call.specs.declared.error.CallError.TheVariants as error
+use Rattle.kernel_call.proofs.FreesAlloc.{ends_past, ends_slot, ends_kind, ends_none, ends_taken, least_unnamed}
+use Rattle.kernel_call.proofs.frames.alloc.Goals as goal
+
+empty : (c : Option Cap) → is_some c ≡ false → c ≡ None
+empty None e = refl
+empty (Some x) e = absurd (cc e)
+
+full : (c : Option Cap) → is_some c ≡ true → is_filled c ≡ true
+full None e = absurd (cc e)
+full (Some x) e = refl
+
+pub returns-then-a-ge-SLOTS-clause-does : goal.returns-then-a-ge-SLOTS-clause-does
+returns-then-a-ge-SLOTS-clause-does c = λ e readings replies m h.
+    ends_past e c.args.domain.now c.args.memory.now readings replies m c.args.a c.args.b error.BadSlot h c.if-a-ge-SLOTS.true refl
+
+pub returns-then-is_some-clause-does : goal.returns-then-is_some-clause-does
+returns-then-is_some-clause-does c = λ e readings replies m h.
+    let used : is_some (cap_at c.args.domain.now.caps c.args.a) ≡ true = search rules in
+    ends_slot e c.args.domain.now c.args.domain.now c.args.memory.now readings replies m c.args.a c.args.b h c.if-a-ge-SLOTS.false error.Used refl
+    (full (cap_at c.args.domain.now.caps c.args.a) used)
+
+pub returns-then-b-gt1-clause-does : goal.returns-then-b-gt1-clause-does
+returns-then-b-gt1-clause-does c = λ e readings replies m h.
+    let unused : is_some (cap_at c.args.domain.now.caps c.args.a) ≡ false = search rules in
+    ends_kind e c.args.domain.now c.args.domain.now c.args.memory.now readings replies m c.args.a c.args.b h c.if-a-ge-SLOTS.false
+    (empty (cap_at c.args.domain.now.caps c.args.a) unused) error.WrongKind refl c.if-b-gt1.true
+
+pub returns-in_default-clause-does : goal.returns-in_default-clause-does
+returns-in_default-clause-does c = λ e readings replies m h.
+    let unused : is_some (cap_at c.args.domain.now.caps c.args.a) ≡ false = search rules in
+    let none : slice_get c.args.domain.now.pool.free 0 ≡ None = sym c.take.ensures.value ∙ c.in_default.is in
+    ends_none e c.args.domain.now _ c.args.memory.now readings replies m c.args.a c.args.b h c.if-a-ge-SLOTS.false
+    (empty (cap_at c.args.domain.now.caps c.args.a) unused) c.if-b-gt1.false error.NoFrame refl none refl refl c.take.ensures.becomes
+
+pub put-requires-clause-new : goal.put-requires-clause-new
+put-requires-clause-new c =
+    let v = c.requires.valid in
+    c.given_of-given.ensures.new c.args.domain.now.caps
+    (least_unnamed v.estate c.args.memory.now v.mem c.args.domain.now v.facts c.in-Some.frame (sym c.take.ensures.value ∙ c.in-Some.is))
+
+pub returns-clause-does : goal.returns-clause-does
+returns-clause-does c = λ e readings replies m h.
+    let unused : is_some (cap_at c.args.domain.now.caps c.args.a) ≡ false = search rules in
+    let number : c.number-number.result ≡ c.in-Some.frame = search rules in
+    let t = ends_taken e c.args.domain.now c.args.domain.now c.args.memory.now readings replies m c.args.a c.args.b h c.if-a-ge-SLOTS.false
+    (empty (cap_at c.args.domain.now.caps c.args.a) unused) c.if-b-gt1.false c.in-Some.frame c.given_of-given.new.memory c.put.new.self c.take.new.self
+    (record { value = 0; work = c.zeroing.result })
+    (sym c.take.ensures.value ∙ c.in-Some.is)
+    (c.put.ensures.becomes ∙ ap (λ (x : Cap). with_cap c.args.domain.now.caps c.args.a (Some x)) c.given_of-given.ensures.given)
+    c.take.ensures.becomes (c.given_of-given.ensures.zeroed m h.holds) refl
+    (c.zeroing.ensures.work ∙ ap (λ (n : ℕ). record { op = 2; zeroed = Some n; entries = [] }) number) in
+    record { value = t.value; holds = t.holds; work = t.told; has = record { root = t.root; pool = t.free; slots = t.slots } }

@@ -1,0 +1,6 @@
+pub mod Logs
+pub mod LogModel
+pub mod Models
+pub mod Facts
+pub mod Entries
+pub mod Calls

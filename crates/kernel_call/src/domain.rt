@@ -1,0 +1,91 @@
+// The state of one domain.
+ghost use Rattle.std.specs.Prelude.{◌≡◌, ◌≤◌, [], IfOk, vec_capacity};
+ghost use Rattle.call_table.specs.Domain.{Dom};
+
+use crate::Log;
+use call_table::{DomainStatus, Reply};
+use cap_table::CapTable;
+use frame_colours::{Frame, Held, Pool, Table};
+use irq_partition::IrqPart;
+use kernel_clone::CloneLayout;
+use page_map::PageMap;
+use std::alloc::Global;
+use thread_set::ThreadSet;
+use tp_base::Memory;
+
+/// The most bytes that a domain prints.
+pub const PRINTED: usize = 4096;
+
+/// The state of a domain, with room for all that it may keep.
+#[derive(Drop)]
+pub struct Domain {
+    pub status: DomainStatus,
+    pub threads: ThreadSet,
+    /// Its capabilities, which own the frames that they name.
+    pub caps: CapTable,
+    pub interrupts: IrqPart,
+    /// Its page tables, by their root.
+    pub map: PageMap,
+    /// The frames of its share, and which of them are used as nothing.
+    pub pool: Pool,
+    /// The tables that it began with, by ascending regions.
+    pub tables: Vec<Frame<Table>>,
+    /// The frames that it keeps for good: those of its kernel clone, then the
+    /// pages that no capability named at first.
+    pub kept: Vec<Frame<Held>>,
+    pub layout: CloneLayout,
+    /// Instructions.
+    pub retired: u64,
+    /// Of the counters.
+    pub readings: Log<u64>,
+    /// Of kernel calls.
+    pub replies: Log<Reply>,
+    pub printed: Vec<u8>,
+    ghost room: { 4096 ≤ vec_capacity printed },
+}
+
+impl Domain {
+    ghost use Rattle.kernel_call.specs.Models.{IsNew};
+
+    /// A running domain of these parts, that has done nothing yet.
+    ///
+    /// # Errors
+    /// `Memory` where no memory is left for its logs.
+    pub fn new(
+        alloc: Global,
+        pool: Pool,
+        tables: Vec<Frame<Table>>,
+        kept: Vec<Frame<Held>>,
+        caps: CapTable,
+        map: PageMap,
+        interrupts: IrqPart,
+        threads: ThreadSet,
+        layout: CloneLayout,
+    ) -> Result<Domain, Memory>
+        ensures made { IfOk result IsNew }
+        ensures pool { IfOk result (λ d. d.pool ≡ pool) }
+        ensures tables { IfOk result (λ d. d.tables ≡ tables) }
+        ensures kept { IfOk result (λ d. d.kept ≡ kept) }
+        ensures caps { IfOk result (λ d. d.caps ≡ caps) }
+        ensures map { IfOk result (λ d. d.map ≡ map) }
+        ensures interrupts { IfOk result (λ d. d.interrupts ≡ interrupts) }
+        ensures threads { IfOk result (λ d. d.threads ≡ threads) }
+        ensures layout { IfOk result (λ d. d.layout ≡ layout) }
+    {
+        Ok(Domain {
+            status: DomainStatus::Running,
+            threads,
+            caps,
+            interrupts,
+            map,
+            pool,
+            tables,
+            kept,
+            layout,
+            retired: 0,
+            readings: Log::new(alloc)?,
+            replies: Log::new(alloc)?,
+            printed: Vec::with_capacity(alloc, PRINTED)?,
+        })
+    }
+}

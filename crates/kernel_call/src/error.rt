@@ -1,0 +1,73 @@
+// Why a kernel call is refused.
+ghost use Rattle.std.specs.Prelude.{◌≡◌};
+
+use page_map::MapRefusal;
+use thiserror::Error;
+
+/// Why a kernel call is refused: the first of these that is so.
+#[derive(Clone, Copy, Debug, PartialEq, Eq, Error)]
+pub enum CallError {
+    #[error("no call has this number")]
+    BadCall,
+    #[error("no slot has this number")]
+    BadSlot,
+    #[error("the slot is empty")]
+    Empty,
+    #[error("the slot is in use")]
+    Used,
+    #[error("a capability of another kind is wanted")]
+    WrongKind,
+    #[error("these rights may not be given")]
+    BadRights,
+    #[error("the address is not aligned, or nothing is mapped there")]
+    BadAddress,
+    #[error("something is mapped or installed already")]
+    Mapped,
+    #[error("no table is installed for the address")]
+    NoTable,
+    #[error("no frame is free")]
+    NoFrame,
+    #[error("no more bytes can be printed")]
+    OutputFull,
+    #[error("a page is mapped through the table")]
+    InUse,
+}
+
+impl CallError {
+    ghost use Rattle.std.specs.Prelude.{◌≡◌};
+    ghost use Rattle.kernel_call.specs.Facts.{code_of};
+
+    /// The code of its reply, 1 to 12.
+    pub fn code(self) -> u32
+        ensures value { result ≡ code_of self }
+    {
+        match self {
+            CallError::BadCall => 1,
+            CallError::BadSlot => 2,
+            CallError::Empty => 3,
+            CallError::Used => 4,
+            CallError::WrongKind => 5,
+            CallError::BadRights => 6,
+            CallError::BadAddress => 7,
+            CallError::Mapped => 8,
+            CallError::NoTable => 9,
+            CallError::NoFrame => 10,
+            CallError::OutputFull => 11,
+            CallError::InUse => 12,
+        }
+    }
+}
+
+/// The same refusal of a call.
+pub fn refusal_error(refusal: MapRefusal) -> CallError
+    ensures value { code_of result ≡ error_of refusal }
+{
+    match refusal {
+        MapRefusal::BadAddress => CallError::BadAddress,
+        MapRefusal::Mapped => CallError::Mapped,
+        MapRefusal::NoTable => CallError::NoTable,
+    }
+}
+
+ghost use Rattle.call_table.specs.Calls.{error_of};
+ghost use Rattle.kernel_call.specs.Facts.{code_of};

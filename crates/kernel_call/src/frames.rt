@@ -1,0 +1,174 @@
+// Calls that take frames and give them back: ALLOC, DELETE and REVOKE.
+ghost use Rattle.std.specs.Prelude.{◌≡◌, ◌<◌, ◌≤◌, false, take, IfErr, IfSome};
+ghost use Rattle.phys_mem.specs.Mem.{Mem, zeroed_frame};
+ghost use Rattle.phys_mem.specs.Holds.{Holds};
+ghost use Rattle.frame_colours.specs.Colours.{IsOwn};
+ghost use Rattle.frame_colours.specs.FreeList.{is_free};
+ghost use Rattle.page_map.specs.Tables.{StandsWith};
+ghost use Rattle.cap_table.specs.Slots.{Slots};
+ghost use Rattle.cap_table.specs.Owning.{IsUnnamed, IsNew, given_cap};
+ghost use Rattle.call_table.specs.Calls as spec;
+ghost use Rattle.kernel_call.specs.Facts.{Valid, Does, KeepsRest};
+ghost use Rattle.kernel_call.specs.Entries.{clear_at, CanClear, Leaves, CanUnmapAll, Unmaps, given_back};
+
+use crate::error::CallError;
+use crate::outcome::{Done, no_work, writing, zeroing};
+use crate::slots::filled;
+use crate::{Domain, SLOTS};
+use cap_table::{Given, Gone, Revoked};
+use frame_colours::{Frame, Free, Held, Pool, Table};
+use kernel_clone::Work;
+use page_map::PageMap;
+use phys_mem::PhysMem;
+
+const ALLOC: u8 = 2;
+
+const DELETE: u8 = 7;
+
+const REVOKE: u8 = 8;
+
+// The rights of a page that was allocated: to read, to write and to execute.
+const ALL_RIGHTS: u8 = 7;
+
+/// ALLOC: slot `a` names the least free frame, zeroed: a page where `b` is 0, a
+/// table where it is 1.
+pub fn alloc(domain: &mut Domain, memory: &mut PhysMem, a: u32, b: u32) -> Result<Done, CallError>
+    requires valid { Valid memory.old domain.old }
+    ensures does { Does 2 (λ e d. spec.alloc e d a b) result memory.old domain.old memory.new domain.new }
+    ensures unchanged { IfErr result (λ error. domain.new ≡ domain.old) }
+    ensures memory { IfErr result (λ error. memory.new ≡ memory.old) }
+    ensures rest { KeepsRest domain.old domain.new }
+    ensures frames { memory.new.frames ≡ memory.old.frames }
+{
+    if a >= SLOTS {
+        return Err(CallError::BadSlot);
+    }
+    if domain.caps.get(a).is_some() {
+        return Err(CallError::Used);
+    }
+    if b > 1 {
+        return Err(CallError::WrongKind);
+    }
+    let Some(frame) = domain.pool.take() else {
+        return Err(CallError::NoFrame);
+    };
+    let number = frame.number().number();
+    let given = given_of(frame, memory, b);
+    domain.caps.put(a, given);
+    Ok(Done {
+        value: 0,
+        work: zeroing(ALLOC, number),
+    })
+}
+
+// A frame that was free as what a slot is given: a page where `b` is 0, else a
+// table. It is zeroed.
+fn given_of(frame: Frame<Free>, memory: &mut PhysMem, b: u32) -> Given
+    requires there { frame < memory.old.frames }
+    ensures given { given_cap result ≡ spec.fresh_cap b frame }
+    ensures new { (slots : Slots) → IsUnnamed slots frame → IsNew slots result }
+    ensures zeroed { (m : Mem) → Holds memory.old m → Holds memory.new (zeroed_frame m frame) }
+    ensures frames { memory.new.frames ≡ memory.old.frames }
+{
+    if b == 0 {
+        return Given::Page(frame.hold(memory), ALL_RIGHTS);
+    }
+    Given::Table(frame.table(memory))
+}
+
+/// DELETE: empties slot `a`, and clears the entry for which it accounted. A
+/// frame that no slot names then is free.
+pub fn delete(domain: &mut Domain, memory: &mut PhysMem, a: u32) -> Result<Done, CallError>
+    requires valid { Valid memory.old domain.old }
+    ensures does { Does 7 (λ e d. spec.delete e d a) result memory.old domain.old memory.new domain.new }
+    ensures unchanged { IfErr result (λ error. domain.new ≡ domain.old) }
+    ensures memory { IfErr result (λ error. memory.new ≡ memory.old) }
+    ensures rest { KeepsRest domain.old domain.new }
+    ensures frames { memory.new.frames ≡ memory.old.frames }
+{
+    filled(domain, a)?;
+    if domain.caps.in_use(a) {
+        return Err(CallError::InUse);
+    }
+    let gone = domain.caps.delete(a);
+    let work = clear_entry(&mut domain.map, memory, gone.unmapped, gone.uninstalled);
+    let Gone { held, table, .. } = gone;
+    give_back(&mut domain.pool, held, table);
+    Ok(Done { value: 0, work })
+}
+
+// Clears the entry for which a capability accounted, where it did: the leaf of
+// a page that was mapped, or the root's entry of a table that was installed.
+fn clear_entry(
+    map: &mut PageMap,
+    memory: &mut PhysMem,
+    unmapped: Option<u32>,
+    uninstalled: Option<u32>,
+) -> Work
+    requires there { StandsWith memory.old (λ m. CanClear m map.old memory.old.frames unmapped uninstalled) }
+    ensures clears { (m : Mem) → Holds memory.old m
+        → Leaves 7 memory.new result (clear_at map.old unmapped uninstalled m) }
+    ensures map { map.new ≡ map.old }
+    ensures frames { memory.new.frames ≡ memory.old.frames }
+{
+    if let Some(va) = unmapped {
+        return writing(DELETE, map.unmap(memory, va));
+    }
+    if let Some(va) = uninstalled {
+        return writing(DELETE, map.uninstall_table(memory, va));
+    }
+    no_work(DELETE)
+}
+
+// Frees the frames that no slot names any more.
+fn give_back(pool: &mut Pool, held: Option<Frame<Held>>, table: Option<Frame<Table>>)
+    requires own_page { IfSome held (λ f. IsOwn pool.old.share f) }
+    requires page_out { IfSome held (λ f. is_free pool.old f ≡ false) }
+    requires own_table { IfSome table (λ f. IsOwn pool.old.share f) }
+    requires table_out { IfSome table (λ f. is_free pool.old f ≡ false) }
+    ensures becomes { pool.new ≡ given_back pool.old held table }
+{
+    if let Some(frame) = held {
+        pool.give(frame.release());
+        return;
+    }
+    if let Some(frame) = table {
+        pool.give(frame.release());
+    }
+}
+
+/// REVOKE: deletes every other slot that names the same page or line as slot
+/// `a`, and gives their number.
+pub fn revoke(domain: &mut Domain, memory: &mut PhysMem, a: u32) -> Result<Done, CallError>
+    requires valid { Valid memory.old domain.old }
+    ensures does { Does 8 (λ e d. spec.revoke e d a) result memory.old domain.old memory.new domain.new }
+    ensures unchanged { IfErr result (λ error. domain.new ≡ domain.old) }
+    ensures memory { IfErr result (λ error. memory.new ≡ memory.old) }
+    ensures rest { KeepsRest domain.old domain.new }
+    ensures frames { memory.new.frames ≡ memory.old.frames }
+{
+    filled(domain, a)?;
+    let revoked = domain.caps.revoke(a);
+    Ok(Done {
+        value: revoked.count,
+        work: clear_all(&mut domain.map, memory, &revoked),
+    })
+}
+
+// Clears the leaves of the pages that were revoked.
+fn clear_all(map: &mut PageMap, memory: &mut PhysMem, revoked: &Revoked) -> Work
+    requires few { revoked.now.written ≤ 64 }
+    requires there { StandsWith memory.old (λ m.
+        CanUnmapAll m map.old memory.old.frames (take revoked.now.written revoked.now.entries)) }
+    ensures unmaps { (m : Mem) → Holds memory.old m
+        → Unmaps 8 map.old (take revoked.now.written revoked.now.entries) m memory.new result }
+    ensures map { map.new ≡ map.old }
+    ensures frames { memory.new.frames ≡ memory.old.frames }
+{
+    let mut work = no_work(REVOKE);
+    for i in 0..revoked.written as usize {
+        work.entries[i] = map.unmap(memory, revoked.entries[i]);
+    }
+    work.count = revoked.written;
+    work
+}

@@ -1,0 +1,21 @@
+//! Kernel calls of a domain: its state in code, and each call on it and on
+//! memory, which does what the definitions of `call_table` say.
+#![tactic(auto)]
+
+mod calls;
+mod domain;
+mod error;
+mod frames;
+mod log;
+mod outcome;
+mod slots;
+mod tables;
+
+pub use calls::call;
+pub use domain::{Domain, PRINTED};
+pub use error::CallError;
+pub use log::{KEPT, Log};
+pub use outcome::Outcome;
+
+/// How many slots a domain has for capabilities.
+pub const SLOTS: u32 = 64;

@@ -1,0 +1,57 @@
+// What a kernel call comes to.
+ghost use Rattle.std.specs.Prelude.{◌≡◌, [], ◌∷◌, Some, None};
+ghost use Rattle.kernel_clone.specs.Models.{work_model};
+
+use call_table::Reply;
+use kernel_clone::Work;
+
+/// What a kernel call answered, where it did, and what its footprint depends on.
+#[derive(Clone, Copy)]
+pub struct Outcome {
+    /// None at an EXIT.
+    pub reply: Option<Reply>,
+    pub work: Work,
+}
+
+/// What a call that was done gives, and did.
+#[derive(Clone, Copy)]
+pub struct Done {
+    pub value: u32,
+    pub work: Work,
+}
+
+/// An operation that zeroed no frame and wrote no entry.
+pub fn no_work(op: u8) -> Work
+    ensures work { work_model result ≡ record { op = op; zeroed = None; entries = [] } }
+{
+    Work {
+        op,
+        zeroed: None,
+        count: 0,
+        entries: [0; 64],
+    }
+}
+
+/// One that zeroed a frame.
+pub fn zeroing(op: u8, frame: u32) -> Work
+    ensures work { work_model result ≡ record { op = op; zeroed = Some frame; entries = [] } }
+{
+    Work {
+        zeroed: Some(frame),
+        ..no_work(op)
+    }
+}
+
+/// One that wrote an entry, at a physical address in bytes.
+pub fn writing(op: u8, entry: u32) -> Work
+    ensures work { work_model result ≡ record { op = op; zeroed = None; entries = entry ∷ [] } }
+{
+    let mut entries = [0; 64];
+    entries[0] = entry;
+    Work {
+        op,
+        zeroed: None,
+        count: 1,
+        entries,
+    }
+}

@@ -1,0 +1,89 @@
+// Calls on slots alone, and what several calls read of a slot.
+ghost use Rattle.std.specs.Prelude.{◌≡◌, ◌<◌, Some, None, IfOk, IfErr};
+ghost use Rattle.cap_table.specs.Slots.{cap_at, copied};
+ghost use Rattle.call_table.specs.Calls as spec;
+ghost use Rattle.kernel_call.specs.Facts.{Valid, Finds, Does, KeepsRest, code_of};
+
+use crate::error::CallError;
+use crate::outcome::{Done, no_work};
+use crate::{Domain, SLOTS};
+use cap_table::Cap;
+use phys_mem::PhysMem;
+
+const COPY: u8 = 6;
+
+/// The capability in a slot.
+#[tactic(auto, unfolding(call_table::specs::Calls::filled))]
+pub fn filled(domain: &Domain, slot: u32) -> Result<Cap, CallError>
+    ensures finds { Finds (λ d. spec.filled d slot) result domain.now }
+    ensures below { IfOk result (λ c. slot < 64) }
+    ensures there { IfOk result (λ c. cap_at domain.now.caps slot ≡ Some c) }
+{
+    if slot >= SLOTS {
+        return Err(CallError::BadSlot);
+    }
+    domain.caps.get(slot).ok_or(CallError::Empty)
+}
+
+/// No right that the other lacks: sums of 1 read, 2 write and 4 execute.
+fn is_within(rights: u32, wider: u8) -> bool
+    ensures value { result ≡ spec.is_within rights wider }
+{
+    let wider = u32::from(wider);
+    rights % 2 <= wider % 2 && rights / 2 % 2 <= wider / 2 % 2 && rights / 4 % 2 <= wider / 4 % 2
+}
+
+/// Whether a capability with such rights may give these.
+pub fn may_give(held: u8, rights: u32) -> bool
+    ensures value { result ≡ spec.may_give held rights }
+{
+    matches!(rights, 1 | 3 | 4 | 5 | 7) && is_within(rights, held)
+}
+
+// The rights of a capability's copy, where it may be copied with these. An
+// interrupt line has none.
+fn copied_rights(cap: Cap, rights: u32) -> Result<u8, CallError>
+    ensures refused { IfErr result (λ error. spec.copy_refusal cap rights ≡ Some (code_of error)) }
+    ensures allowed { IfOk result (λ narrower. spec.copy_refusal cap rights ≡ None) }
+    ensures copied { IfOk result (λ narrower. copied (Some cap) narrower ≡ copied (Some cap) rights) }
+{
+    match cap {
+        Cap::Table { .. } => Err(CallError::WrongKind),
+        Cap::Frame { rights: held, .. } => {
+            if !may_give(held, rights) {
+                return Err(CallError::BadRights);
+            }
+            Ok(rights as u8)
+        }
+        Cap::Irq { .. } => Ok(0),
+    }
+}
+
+/// COPY: slot `b` names what slot `a` does: the same page with rights `c`, not
+/// mapped, or the same line.
+pub fn copy(
+    domain: &mut Domain,
+    memory: &PhysMem,
+    a: u32,
+    b: u32,
+    c: u32,
+) -> Result<Done, CallError>
+    requires valid { Valid memory.now domain.old }
+    ensures does { Does 6 (λ e d. spec.copy d a b c) result memory.now domain.old memory.now domain.new }
+    ensures rest { KeepsRest domain.old domain.new }
+    ensures unchanged { IfErr result (λ error. domain.new ≡ domain.old) }
+{
+    if a >= SLOTS || b >= SLOTS {
+        return Err(CallError::BadSlot);
+    }
+    let cap = domain.caps.get(a).ok_or(CallError::Empty)?;
+    if domain.caps.get(b).is_some() {
+        return Err(CallError::Used);
+    }
+    let rights = copied_rights(cap, c)?;
+    domain.caps.copy(a, b, rights);
+    Ok(Done {
+        value: 0,
+        work: no_work(COPY),
+    })
+}
