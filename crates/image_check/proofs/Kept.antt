@@ -46,7 +46,8 @@ kept i e =
     let from10 = from9.1 in
     let from11 = from10.1 in
     let from12 = from11.1 in
-    let from16 = from12.1 in
+    let from13 = from12.1 in
+    let from16 = from13.1 in
     record {
       parts = from3.0;
       frames = from4.0;
@@ -58,12 +59,13 @@ kept i e =
       pools = from10.0;
       shared = from11.0;
       segments = from12.0;
+      capabilities = from13.0;
       schedule = from16.0;
     }
 
 unbroken : (i : Raw) → Keeps i → broken i ≡ []
 unfolding broken rules
-unbroken i k = rw (k.parts, k.frames, k.colours, k.costs, k.domains, k.named, k.apart, k.pools, k.shared, k.segments, k.schedule) refl
+unbroken i k = rw (k.parts, k.frames, k.colours, k.costs, k.domains, k.named, k.apart, k.pools, k.shared, k.segments, k.capabilities, k.schedule) refl
 
 pub acceptance_law : AcceptanceLaw
 acceptance_law i = (kept i, unbroken i)

@@ -1,5 +1,7 @@
 pub mod Kept
 pub mod Entries
+pub mod CapTexts
+pub mod Slots
 pub mod Owns
 pub mod Shares
 pub mod Running

@@ -1,16 +1,20 @@
 -- What each domain has of its own, in an image that breaks no rule.
-use Rattle.std.proofs.Common.{◌≡◌, ℕ, ◌+◌, ◌*◌, ◌<◌, ◌≤◌, Bool, true, false, ◌||◌, not, List, [], length, map, take, get_or, Option, None, Some, refl, sym, subst, arith, ◌⊎◌, inl, inr}
+use Rattle.std.proofs.Common.{◌≡◌, ◌≢◌, ℕ, ◌+◌, ◌*◌, ◌<◌, ◌≤◌, Bool, true, false, ◌||◌, not, List, [], length, map, take, get_or, length-take, Option, None, Some, refl, sym, ◌∙◌, subst, true≢false, arith, ◌⊎◌, inl, inr}
 use Rattle.std.specs.Prelude.{nat_lt, pos, codes, if◌then◌else◌}
 use Rattle.std.specs.Str.{bytes_eq}
 use Rattle.std.specs.List.{list_any}
-use Rattle.std.proofs.lemmas.List.{length-map, get_or-map, get_or_past}
-use Rattle.std.proofs.lemmas.Bool.{cases_lt, ltb-false}
+use Rattle.std.proofs.lemmas.List.{length-map, get_or-map, get_or-take, get_or_past}
+use Rattle.std.proofs.lemmas.Bool.{cases_Bool, cases_lt, ltb-false, ltb-true, lt-ltb, leb-true, and_parts}
 use Rattle.image_text.specs.Record.{Raw, RawSegment, IsRawSegment, InKeyRanges, raw_domain, no_raw_domain, no_raw_segment}
 use Rattle.image_text.specs.declared.refusal.Refusal.{Refusal}
 use Rattle.hardware_check.specs.Cases.{first_in, refusal}
+use Rattle.image_check.specs.declared.capabilities.InitialCap.TheVariants.{None as NoCap, Page, Irq}
 use Rattle.image_check.specs.Segments.{k12, k12_domain, segment_case, entry_case, bytes_case, bytes_in, is_rights, share_page, broken}
-use Rattle.image_check.specs.Own.{rights_of, segment_of, bytes_or_none, own_from, owns_of, no_own, own_at, no_segment}
+use Rattle.image_check.specs.Capabilities.{k13}
+use Rattle.image_check.specs.Pages.{has_page}
+use Rattle.image_check.specs.Own.{Segment, rights_of, segment_of, bytes_or_none, cap_of, own_from, owns_of, no_own, own_at, no_segment}
 use Rattle.image_check.specs.Laws.{AreRights, IsSegment, IsOwn}
+use Rattle.image_check.proofs.Slots.{any_false, few_lines, slots, has_its_page, named_once}
 use Rattle.hardware_check.proofs.FirstCases.{or_first, if_first, if_rest, first_in_none}
 
 -- ---- the list of owns
@@ -88,26 +92,94 @@ segments_sound d ss n ranges k = either (cases_lt k (length ss))
         subst IsSegment (sym (get_or-map segment_of ss k no_raw_segment no_segment l)) here
     either (inr m) = subst IsSegment (sym (get_or_past (map segment_of ss) k no_segment (omega (arith, length-map ss segment_of, m)))) no_segment_sound
 
+-- the segment shares no page with an earlier one
+none_shared : (d : ℕ) (earlier : List RawSegment) (s : RawSegment) (bytes : Option (List ℕ)) → bytes_case d earlier s bytes ≡ None → list_any (share_page s) earlier ≡ false
+none_shared d earlier s None n = absurd (cc n)
+none_shared d earlier s (Some bytes) n =
+    let shared : Option Refusal = if list_any (share_page s) earlier then broken d (length earlier) 5 else None in
+    if_first (list_any (share_page s) earlier) (refusal 12 (pos d) (pos (length earlier)) (pos 5)) None
+    (if_rest (nat_lt (s.pages * 4096) (length bytes)) (refusal 12 (pos d) (pos (length earlier)) (pos 4)) shared n)
+
+shares_none : (d : ℕ) (earlier : List RawSegment) (s : RawSegment) → segment_case d earlier s ≡ None → list_any (share_page s) earlier ≡ false
+unfolding segment_case
+shares_none d earlier s n =
+    let bytes = bytes_case d earlier s (bytes_in s.hex) in
+    let later : Option Refusal = if not (is_rights s.rights) then broken d (length earlier) 2 else bytes in
+    let first = refusal 12 (pos d) (pos (length earlier)) (pos 1) in
+    let second = refusal 12 (pos d) (pos (length earlier)) (pos 2) in
+    none_shared d earlier s (bytes_in s.hex) (if_rest (not (is_rights s.rights)) second bytes (if_rest (nat_lt 1048576 (s.page + s.pages)) first later n))
+
+-- a page of both is shared
+both_share : (s e : RawSegment) (n : ℕ) → share_page s e ≡ false → has_page (segment_of e) n ≡ true → has_page (segment_of s) n ≡ false
+unfolding segment_of
+both_share s e n none here = by_case (cases_Bool (has_page (segment_of s) n))
+  where
+    by_case : (has_page (segment_of s) n ≡ true) ⊎ (has_page (segment_of s) n ≡ false) → has_page (segment_of s) n ≡ false
+    by_case (inr no_page) = no_page
+    by_case (inl there) =
+        let low : e.page < s.page + s.pages = omega (arith, leb-true e.page n (and_parts _ _ here).0, ltb-true n (s.page + s.pages) (and_parts _ _ there).1) in
+        let high : s.page < e.page + e.pages = omega (arith, leb-true s.page n (and_parts _ _ there).0, ltb-true n (e.page + e.pages) (and_parts _ _ here).1) in
+        let both : share_page s e ≡ true = rw (lt-ltb e.page (s.page + s.pages) low, lt-ltb s.page (e.page + e.pages) high) refl in
+        absurd (true≢false (sym both ∙ none))
+
+segments_apart : (d : ℕ) (ss : List RawSegment) → first_in (segment_case d) ss ≡ None → (j k n : ℕ) → j < k → k < length (map segment_of ss)
+    → has_page (get_or (map segment_of ss) j no_segment) n ≡ true → has_page (get_or (map segment_of ss) k no_segment) n ≡ false
+segments_apart d ss none j k n less below here =
+    let within : k < length ss = omega (arith, length-map ss segment_of, below) in
+    let before : j < length ss = omega (arith, less, within) in
+    let s = get_or ss k no_raw_segment in
+    let e = get_or (take k ss) j no_raw_segment in
+    let case = first_in_none (segment_case d) ss none k within no_raw_segment in
+    let apart = any_false (share_page s) (take k ss) (shares_none d (take k ss) s case) j (omega (arith, length-take k ss, less, within)) no_raw_segment in
+    let same : e ≡ get_or ss j no_raw_segment = get_or-take k ss j no_raw_segment less in
+    let at_j : has_page (segment_of e) n ≡ true =
+    subst (λ (x : RawSegment). has_page (segment_of x) n ≡ true) (sym same)
+    (subst (λ (x : Segment). has_page x n ≡ true) (get_or-map segment_of ss j no_raw_segment no_segment before) here) in
+    subst (λ (x : Segment). has_page x n ≡ false) (sym (get_or-map segment_of ss k no_raw_segment no_segment within)) (both_share s e n apart at_j)
+
 -- ---- owns
 
-own_sound : (i : Raw) (d : ℕ) → InKeyRanges i → k12 i ≡ None → d < length i.domains → IsOwn (own_from (raw_domain i.domains d))
+own_sound : (i : Raw) (d : ℕ) → InKeyRanges i → k12 i ≡ None → k13 i ≡ None → d < length i.domains → IsOwn (own_from (raw_domain i.domains d))
 unfolding k12 k12_domain own_from
-own_sound i d ranges n l =
+own_sound i d ranges n caps l =
     let o = raw_domain i.domains d in
     let place = length (take d i.domains) in
+    let has = slots i caps d l in
     let here = or_first (first_in (segment_case place) o.segments) (entry_case place o) (first_in_none k12_domain i.domains n d l no_raw_domain) in
     record {
       entry = ranges.entry d;
       few = omega (arith, length-map o.segments segment_of, ranges.few_segments d);
       segments = segments_sound place o.segments here (ranges.segments d);
+      apart = segments_apart place o.segments here;
+      few_caps = omega (arith, length-map o.caps cap_of, has.few);
+      pages = has_its_page o has;
+      page_once = λ j k m. named_once o has (Page m) (λ (z : Page m ≡ NoCap). cc) j k;
+      few_lines = few_lines o;
+      line_once = λ j k m. named_once o has (Irq m) (λ (z : Irq m ≡ NoCap). cc) j k;
     }
 
 no_own_sound : IsOwn no_own
-no_own_sound = record { entry = omega arith; few = omega arith; segments = λ k. subst IsSegment (sym (get_or_past [] k no_segment (omega arith))) no_segment_sound }
+no_own_sound = record {
+  entry = omega arith;
+  few = omega arith;
+  segments = λ k. subst IsSegment (sym (get_or_past [] k no_segment (omega arith))) no_segment_sound;
+  apart = λ j k n less below here. absurd (omega (arith, below));
+  few_caps = omega arith;
+  pages = λ k n e. absurd (no_page n (sym (get_or_past [] k NoCap (omega arith)) ∙ e));
+  page_once = λ j k n other e. absurd (no_page n (sym (get_or_past [] j NoCap (omega arith)) ∙ e));
+  few_lines = λ k n e. absurd (no_line n (sym (get_or_past [] k NoCap (omega arith)) ∙ e));
+  line_once = λ j k n other e. absurd (no_line n (sym (get_or_past [] j NoCap (omega arith)) ∙ e));
+}
+  where
+    no_page : (n : ℕ) → NoCap ≢ Page n
+    no_page n e = cc
 
-pub owns_sound : (i : Raw) → InKeyRanges i → k12 i ≡ None → (d : ℕ) → IsOwn (own_at (owns_of i) d)
-owns_sound i ranges n d = either (cases_lt d (length i.domains))
+    no_line : (n : ℕ) → NoCap ≢ Irq n
+    no_line n e = cc
+
+pub owns_sound : (i : Raw) → InKeyRanges i → k12 i ≡ None → k13 i ≡ None → (d : ℕ) → IsOwn (own_at (owns_of i) d)
+owns_sound i ranges n caps d = either (cases_lt d (length i.domains))
   where
     either : (d < length i.domains) ⊎ (length i.domains ≤ d) → IsOwn (own_at (owns_of i) d)
-    either (inl l) = subst IsOwn (sym (owns_at i d l)) (own_sound i d ranges n l)
+    either (inl l) = subst IsOwn (sym (owns_at i d l)) (own_sound i d ranges n caps l)
     either (inr m) = subst IsOwn (sym (get_or_past (owns_of i) d no_own (omega (arith, owns_length i, m)))) no_own_sound

@@ -58,5 +58,5 @@ runnable_law i ranges n =
       named = λ e l. omega (arith, many, (entry_in_passed (length i.domains) i.schedule pass e (omega (arith, long, l))).domain);
       lengths = λ e. (all_short (length i.domains) i.schedule pass e).length;
       pads = λ e. (all_short (length i.domains) i.schedule pass e).pad;
-      sound = owns_sound i ranges rules.segments;
+      sound = owns_sound i ranges rules.segments rules.capabilities;
     }

@@ -17,11 +17,12 @@ use Rattle.hardware_check.specs.Laws.{KeepsParts}
 use Rattle.hardware_check.proofs.FirstCases.{if_first, first_in_none}
 use Rattle.hardware_check.proofs.Parts.{Within, inside, colours_sound}
 use Rattle.image_check.specs.Colours.{is_same, names, k8, k8_colour, k8_domain, k9, k9_domain, k9_colour, coloured_so, same_colour, k10, k10_domain, k10_case, need_case, need_of, whole_in}
-use Rattle.image_check.specs.Own.{Own, Segment, IsSmallDomain, no_own, own_at, own_from, owns_of, segment_of}
+use Rattle.image_check.specs.Own.{Own, Segment, IsSmallDomain, IsSmallOwn, no_own, own_at, own_from, owns_of, segment_of}
 use Rattle.image_check.specs.Pages.{regions_below, frames_in, share_of}
 use Rattle.image_check.specs.Laws.{Keeps}
 use Rattle.image_check.specs.Checking.{broken}
 use Rattle.image_check.proofs.Kept.{kept, keeps_parts}
+use Rattle.image_check.proofs.Slots.{slots, small_caps}
 use Rattle.image_check.proofs.Owns.{owns_at, owns_length}
 
 -- ---- K8: a colour is from 1 on, and below the number of colours
@@ -59,8 +60,17 @@ small_domains raw k n = λ d o l.
     let m = small_domain (raw_model raw) k n raw.in_ranges d (omega (arith, length-map raw.domains.items domain_model, l)) in
     subst IsSmallDomain (get_or-map domain_model raw.domains.items d o no_raw_domain l) m
 
-pub small_owns : (raw : Raw) → broken (raw_model raw) ≡ [] → All (λ o. IsSmallDomain (domain_model o)) raw.domains.items
-small_owns raw n = small_domains raw (keeps_parts (raw_model raw) n) (kept (raw_model raw) n).named
+small_own : (i : text.Raw) → Keeps i → KeepsParts i → text.InKeyRanges i → (d : ℕ) → d < length i.domains → IsSmallOwn (raw_domain i.domains d)
+small_own i rules k ranges d l = record {
+  colours = (small_domain i k rules.named ranges d l).colours;
+  caps = small_caps (raw_domain i.domains d) (slots i rules.capabilities d l) (ranges.segments d);
+}
+
+pub small_owns : (raw : Raw) → broken (raw_model raw) ≡ [] → All (λ o. IsSmallOwn (domain_model o)) raw.domains.items
+small_owns raw n = λ d o l.
+    let i = raw_model raw in
+    let m = small_own i (kept i n) (keeps_parts i n) raw.in_ranges d (omega (arith, length-map raw.domains.items domain_model, l)) in
+    subst IsSmallOwn (get_or-map domain_model raw.domains.items d o no_raw_domain l) m
 
 -- ---- where a colour stands in a list
 

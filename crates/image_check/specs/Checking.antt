@@ -6,9 +6,10 @@ use Rattle.hardware_check.specs.Rules.{k3, k4, k5, k6, k11}
 use Rattle.image_check.specs.Rules.{k7, k16}
 use Rattle.image_check.specs.Colours.{k8, k9, k10}
 use Rattle.image_check.specs.Segments.{k12}
+use Rattle.image_check.specs.Capabilities.{k13}
 
 unfoldable pub rules : List (Raw → Option Refusal)
-rules = k3 ∷ k4 ∷ k5 ∷ k6 ∷ k7 ∷ k8 ∷ k9 ∷ k10 ∷ k11 ∷ k12 ∷ k16 ∷ []
+rules = k3 ∷ k4 ∷ k5 ∷ k6 ∷ k7 ∷ k8 ∷ k9 ∷ k10 ∷ k11 ∷ k12 ∷ k13 ∷ k16 ∷ []
 
 -- K17, the rule of pads, is the one whose break leaves later rules to be tested
 abbrev pub is_of_pads : Refusal → Bool

@@ -14,7 +14,7 @@ is_same x y = not (int_lt x y || int_lt y x)
 
 -- whether a number stands in a list
 abbrev pub names : List ℤ → ℤ → Bool
-names colours x = list_any (λ y. is_same y x) colours
+names numbers x = list_any (λ y. is_same y x) numbers
 
 -- ---- K8: a domain's colours, each from 1 on and below the number of colours, and named once
 

@@ -1,18 +1,22 @@
 -- What an image that breaks no rule is: no rule has a broken case, and in natural numbers it can be run.
-use Rattle.std.specs.Prelude.{◌≡◌, ℕ, ◌+◌, ◌*◌, ◌<◌, ◌≤◌, ◌^◌, ◌||◌, ◌↔◌, true, [], length, map, None}
+use Rattle.std.specs.Prelude.{◌≡◌, ◌≢◌, ℕ, ◌+◌, ◌*◌, ◌<◌, ◌≤◌, ◌^◌, ◌||◌, ◌↔◌, true, false, List, [], ◌++◌, length, map, codes, decimal, Some, None}
 use Rattle.image_text.specs.Record as text
 use Rattle.image_text.specs.Record.{InKeyRanges}
 use Rattle.image_check.specs.declared.own.Rights.{Rights}
+use Rattle.image_check.specs.declared.capabilities.InitialCap.{InitialCap}
+use Rattle.image_check.specs.declared.capabilities.InitialCap.TheVariants.{None as NoCap, Page, Irq}
 use Rattle.frame_colours.specs.Colours.{AreDisjoint, pool}
 use Rattle.hardware_check.specs.Hardware.{IsHardware, colours_of}
 use Rattle.hardware_check.specs.Rules.{k3, k4, k5, k6, k11}
 use Rattle.image_check.specs.Rules.{k7, k16}
 use Rattle.image_check.specs.Colours.{k8, k9, k10}
 use Rattle.image_check.specs.Segments.{k12}
+use Rattle.image_check.specs.Capabilities.{k13}
+use Rattle.image_check.specs.CapTexts.{cap_in, IsShort}
 use Rattle.image_check.specs.Checking.{broken}
 use Rattle.image_check.specs.Public.{entry_in}
-use Rattle.image_check.specs.Own.{Segment, Own, segment_at}
-use Rattle.image_check.specs.Pages.{frames_in, share_of}
+use Rattle.image_check.specs.Own.{Segment, Own, segment_at, cap_at}
+use Rattle.image_check.specs.Pages.{has_page, has_page_in, frames_in, share_of}
 use Rattle.image_check.specs.Image.{Image, image_from, own_of}
 
 -- no rule has a broken case
@@ -27,11 +31,22 @@ pub record Keeps (i : text.Raw) : Type 0 where
   pub pools : k10 i ≡ None
   pub shared : k11 i ≡ None
   pub segments : k12 i ≡ None
+  pub capabilities : k13 i ≡ None
   pub schedule : k16 i ≡ None
 
 -- the list of broken rules is empty exactly where no rule has a broken case
 abbrev pub AcceptanceLaw : Type 0
 AcceptanceLaw = (i : text.Raw) → (broken i ≡ []) ↔ Keeps i
+
+-- how a capability is written
+abbrev pub cap_text : InitialCap → List ℕ
+cap_text NoCap = codes "none"
+cap_text (Page n) = codes "page " ++ decimal n
+cap_text (Irq n) = codes "irq " ++ decimal n
+
+-- a text names what is written so, in at most ten digits, and nothing else
+abbrev pub CapTextLaw : Type 0
+CapTextLaw = (s : List ℕ) (c : InitialCap) → (cap_in s ≡ Some c) ↔ ((s ≡ cap_text c) × IsShort c)
 
 -- a page has some right, and one that is written is read, too
 pub record AreRights (r : Rights) : Type 0 where
@@ -49,6 +64,13 @@ pub record IsOwn (o : Own) : Type 0 where
   pub entry : o.entry < 2 ^ 32
   pub few : length o.segments ≤ 16
   pub segments : (k : ℕ) → IsSegment (segment_at o k)
+  pub apart : (j k n : ℕ) → j < k → k < length o.segments
+      → has_page (segment_at o j) n ≡ true → has_page (segment_at o k) n ≡ false
+  pub few_caps : length o.caps ≤ 64
+  pub pages : (k n : ℕ) → cap_at o k ≡ Page n → has_page_in o.segments n ≡ true
+  pub page_once : (j k n : ℕ) → j ≢ k → cap_at o j ≡ Page n → cap_at o k ≢ Page n
+  pub few_lines : (k n : ℕ) → cap_at o k ≡ Irq n → n < 32
+  pub line_once : (j k n : ℕ) → j ≢ k → cap_at o j ≡ Irq n → cap_at o k ≢ Irq n
 
 pub record Runnable (i : Image) : Type 0 where
   pub counted : i.all.domains ≡ length i.owns

@@ -1,8 +1,10 @@
 pub mod Rules
 pub mod Segments
+pub mod CapTexts
 pub mod Own
 pub mod Pages
 pub mod Colours
+pub mod Capabilities
 pub mod Checking
 pub mod Public
 pub mod Image

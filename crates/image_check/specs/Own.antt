@@ -1,11 +1,14 @@
 -- What is one domain's own in an image.
-use Rattle.std.specs.Prelude.{ℕ, ◌<◌, ◌≤◌, ◌^◌, ◌||◌, true, false, List, [], length, map, codes, slice_index_or, Option, Some, None}
+use Rattle.std.specs.Prelude.{ℕ, ◌<◌, ◌≤◌, ◌^◌, ◌||◌, nat_lt, ⊤, true, false, if◌then◌else◌, List, [], length, map, codes, slice_index_or, Option, Some, None}
 use Rattle.std.specs.Str.{bytes_eq}
 use Rattle.std.specs.List.{All}
 use Rattle.image_text.specs.Record.{Raw, RawDomain, RawSegment}
 use Rattle.hardware_check.specs.Hardware.{natural_of}
 use Rattle.image_check.specs.declared.own.Rights.{Rights}
+use Rattle.image_check.specs.declared.capabilities.InitialCap.{InitialCap}
+use Rattle.image_check.specs.declared.capabilities.InitialCap.TheVariants.{None as NoCap, Page, Irq}
 use Rattle.image_check.specs.Segments.{bytes_in, has_execute}
+use Rattle.image_check.specs.CapTexts.{cap_in}
 
 -- pages of a domain's address space, one after the other
 pub record Segment : Type 0 where
@@ -19,6 +22,7 @@ pub record Own : Type 0 where
   pub colours : List ℕ  -- of its frames
   pub entry : ℕ  -- the address at which it begins
   pub segments : List Segment
+  pub caps : List InitialCap  -- what each capability slot names as it begins
 
 abbrev pub rights_of : List ℕ → Rights
 rights_of s = record {
@@ -39,10 +43,33 @@ segment_of s = record {
   bytes = bytes_or_none (bytes_in s.hex);
 }
 
+-- a slot names what its text names. A line's number is below 32 by a later rule; until then one above 31 can't be had, and
+-- leaves the slot empty
+abbrev pub own_cap : Option InitialCap → InitialCap
+own_cap None = NoCap
+own_cap (Some NoCap) = NoCap
+own_cap (Some (Page n)) = Page n
+own_cap (Some (Irq n)) = if nat_lt n 32 then Irq n else NoCap
+
+unfoldable pub cap_of : List ℕ → InitialCap
+cap_of s = own_cap (cap_in s)
+
+-- a page's number fits that of the code
+abbrev pub IsSmallCap : Option InitialCap → Type 0
+IsSmallCap None = ⊤
+IsSmallCap (Some NoCap) = ⊤
+IsSmallCap (Some (Page n)) = n < 2 ^ 32
+IsSmallCap (Some (Irq n)) = ⊤
+
 -- its numbers and lists fit those of the code
 pub record IsSmallDomain (o : RawDomain) : Type 0 where
   pub colours : All (λ x. natural_of x < 2 ^ 8) o.colours
   pub segments : length o.segments ≤ 16
+
+-- and the numbers of what is its own
+pub record IsSmallOwn (o : RawDomain) : Type 0 where
+  pub colours : All (λ x. natural_of x < 2 ^ 8) o.colours
+  pub caps : All (λ s. IsSmallCap (cap_in s)) o.caps
 
 unfoldable pub own_from : RawDomain → Own
 own_from o = record {
@@ -50,13 +77,14 @@ own_from o = record {
   colours = map natural_of o.colours;
   entry = o.entry;
   segments = map segment_of o.segments;
+  caps = map cap_of o.caps;
 }
 
 unfoldable pub owns_of : Raw → List Own
 owns_of i = map own_from i.domains
 
 abbrev pub no_own : Own
-no_own = record { name = []; colours = []; entry = 0; segments = [] }
+no_own = record { name = []; colours = []; entry = 0; segments = []; caps = [] }
 
 abbrev pub own_at : List Own → ℕ → Own
 own_at owns d = slice_index_or owns d no_own
@@ -66,3 +94,7 @@ no_segment = record { page = 0; pages = 1; rights = record { read = true; write 
 
 abbrev pub segment_at : Own → ℕ → Segment
 segment_at o k = slice_index_or o.segments k no_segment
+
+-- the slot's, or nothing past the last
+abbrev pub cap_at : Own → ℕ → InitialCap
+cap_at o k = slice_index_or o.caps k NoCap

@@ -11,6 +11,11 @@ use Rattle.image_check.specs.Own.{Segment, Own}
 abbrev pub has_page : Segment → ℕ → Bool
 has_page s n = nat_le s.page n && nat_lt n (s.page + s.pages)
 
+-- the page is one of some segment's
+unfoldable pub has_page_in : List Segment → ℕ → Bool
+has_page_in [] n = false
+has_page_in (s ∷ ss) n = has_page s n || has_page_in ss n
+
 -- some page of the segment lies in the region
 abbrev pub meets : Segment → ℕ → Bool
 meets s r = nat_lt s.page (1024 * r + 1024) && nat_lt (1024 * r) (s.page + s.pages)

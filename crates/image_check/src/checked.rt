@@ -7,6 +7,7 @@ ghost use Rattle.image_check.specs.Laws.{Runnable};
 ghost use Rattle.image_check.specs.Image.{image_from, own_of};
 ghost use Rattle.image_check.specs.Models.{public_model, own_model};
 
+use crate::capabilities::k13;
 use crate::colours::{k8, k9, k10};
 use crate::own::{Own, owns_of};
 use crate::public::{Public, public_of};
@@ -99,6 +100,9 @@ fn first_broken(alloc: Global, raw: &Raw) -> Result<Option<Refusal>, CheckRefusa
         return Ok(Some(refusal));
     }
     if let Some(refusal) = k12(alloc, raw)? {
+        return Ok(Some(refusal));
+    }
+    if let Some(refusal) = k13(raw) {
         return Ok(Some(refusal));
     }
     Ok(k16(raw))

@@ -21,11 +21,12 @@ use hardware_check::{colours_in, frames_in};
 use image_text::{Raw, RawDomain, Refusal};
 use std::alloc::Global;
 
-fn names(colours: &[i64], colour: i64) -> bool
-    ensures value { result ≡ spec.names colours.now colour }
+/// Whether a number stands in a list.
+pub fn names(numbers: &[i64], number: i64) -> bool
+    ensures value { result ≡ spec.names numbers.now number }
 {
-    for other in colours {
-        if *other == colour {
+    for other in numbers {
+        if *other == number {
             return true;
         }
     }

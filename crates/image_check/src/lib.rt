@@ -3,6 +3,7 @@
 //! and what each has of its own.
 #![tactic(auto)]
 
+mod capabilities;
 mod checked;
 mod colours;
 pub mod laws;
@@ -12,6 +13,7 @@ mod regions;
 mod rules;
 mod segments;
 
+pub use capabilities::InitialCap;
 pub use checked::{Checked, check};
 /// The machine, which the rules of `hardware_check` let through.
 pub use hardware_check::{CacheShape, Hardware, Policy};

@@ -1,15 +1,17 @@
 // What is one domain's own.
-ghost use Rattle.std.specs.Prelude.{◌≡◌, ◌<◌, ◌^◌, [], map};
+ghost use Rattle.std.specs.Prelude.{◌≡◌, ◌<◌, ◌^◌, [], map, string_bytes};
 ghost use Rattle.std.specs.List.{All};
 ghost use Rattle.image_text.specs.Reads.{raw_model};
 ghost use Rattle.image_text.specs.Models.{domain_model, segment_model as text_segment_model};
 ghost use Rattle.hardware_check.specs.Hardware.{natural_of as spec_natural_of};
 ghost use Rattle.image_check.specs.Outcomes.{Makes};
 ghost use Rattle.image_check.specs.Checking.{broken};
+ghost use Rattle.image_check.specs.CapTexts.{cap_in as spec_cap_in};
 ghost use Rattle.image_check.specs.Own as spec;
 ghost use Rattle.image_check.specs.Models.{segment_model, own_model};
 
 use crate::CheckRefusal;
+use crate::capabilities::{InitialCap, Named, cap_in};
 use crate::segments::{bytes_in, has_execute};
 use hardware_check::natural_of;
 use image_text::{Raw, RawDomain, RawSegment};
@@ -43,6 +45,9 @@ pub struct Own {
     /// The address at which it begins.
     pub entry: u32,
     pub segments: Vec<Segment>,
+    /// What each capability slot names as it begins; at most 64. A line above
+    /// 31, which a later rule bars, leaves its slot empty.
+    pub caps: Vec<InitialCap>,
 }
 
 fn rights_of(text: &str) -> Rights
@@ -95,24 +100,55 @@ pub fn bytes_of(alloc: Global, numbers: &[i64]) -> Result<Vec<u8>, CheckRefusal>
     Ok(bytes)
 }
 
+#[tactic(auto, unfolding(crate::specs::Own::cap_of))]
+fn cap_of(text: &str) -> InitialCap
+    requires small { spec.IsSmallCap (spec_cap_in text.now) }
+    ensures value { result ≡ spec.cap_of text.now }
+{
+    match cap_in(text) {
+        Some(Named::Page(page)) => InitialCap::Page(page as u32),
+        Some(Named::Irq(line)) => {
+            if line < 32 {
+                InitialCap::Irq(line as u8)
+            } else {
+                InitialCap::None
+            }
+        }
+        _ => InitialCap::None,
+    }
+}
+
+fn caps_of(alloc: Global, texts: &[String]) -> Result<Vec<InitialCap>, CheckRefusal>
+    requires small { All (λ s. spec.IsSmallCap (spec_cap_in (string_bytes s))) texts.now }
+    ensures value { Makes (λ v. v.items) result (map spec.cap_of (map (λ s. string_bytes s) texts.now)) }
+{
+    let mut caps = Vec::new(alloc);
+    for text in texts {
+        caps.push(cap_of(text.as_str()))?;
+    }
+    Ok(caps)
+}
+
 #[tactic(auto, unfolding(crate::specs::Own::own_from))]
 fn own_from(alloc: Global, domain: &RawDomain) -> Result<Own, CheckRefusal>
-    requires small { spec.IsSmallDomain (domain_model domain.now) }
+    requires small { spec.IsSmallOwn (domain_model domain.now) }
     ensures value { Makes own_model result (spec.own_from (domain_model domain.now)) }
 {
     let name = String::from_str(alloc, domain.name.as_str())?;
     let colours = bytes_of(alloc, domain.colours.as_slice())?;
     let segments = segments_of(alloc, domain.segments.as_slice())?;
+    let caps = caps_of(alloc, domain.caps.as_slice())?;
     Ok(Own {
         name,
         colours,
         entry: domain.entry,
         segments,
+        caps,
     })
 }
 
 fn owns_in(alloc: Global, domains: &[RawDomain]) -> Result<Vec<Own>, CheckRefusal>
-    requires small { All (λ o. spec.IsSmallDomain (domain_model o)) domains.now }
+    requires small { All (λ o. spec.IsSmallOwn (domain_model o)) domains.now }
     ensures value { Makes (λ v. map own_model v.items) result
         (map spec.own_from (map domain_model domains.now)) }
 {

@@ -41,10 +41,11 @@ fn is_rights(rights: &str) -> bool
     rights == "r" || (rights == "rw" || has_execute(rights))
 }
 
-fn has_page(segment: &RawSegment, page: u32) -> bool
+/// Whether the page is one of the segment's.
+pub fn has_page(segment: &RawSegment, page: u64) -> bool
     ensures value { result ≡ spec.has_page (segment_model segment.now) page }
 {
-    segment.page <= page && u64::from(page) < u64::from(segment.page) + u64::from(segment.pages)
+    u64::from(segment.page) <= page && page < u64::from(segment.page) + u64::from(segment.pages)
 }
 
 fn share_page(segment: &RawSegment, earlier: &RawSegment) -> bool
@@ -142,13 +143,13 @@ fn segments_case(
     Ok(None)
 }
 
-fn executes(page: u32, segment: &RawSegment) -> bool
+fn executes(page: u64, segment: &RawSegment) -> bool
     ensures value { result ≡ spec.executes page (segment_model segment.now) }
 {
     has_execute(segment.rights.as_str()) && has_page(segment, page)
 }
 
-fn any_executes(page: u32, segments: &[RawSegment]) -> bool
+fn any_executes(page: u64, segments: &[RawSegment]) -> bool
     ensures value { result ≡ list_any (spec.executes page) (map segment_model segments.now) }
 {
     for segment in segments {
@@ -164,7 +165,9 @@ fn entry_case(d: usize, domain: &RawDomain) -> Option<Refusal>
     requires domain { d < 2 ^ 63 }
     ensures value { result ≡ spec.entry_case d (domain_model domain.now) }
 {
-    if domain.entry % 4 == 0 && any_executes(domain.entry / 4096, domain.segments.as_slice()) {
+    if domain.entry % 4 == 0
+        && any_executes(u64::from(domain.entry / 4096), domain.segments.as_slice())
+    {
         None
     } else {
         Some(broken(d, domain.entry as usize, 6))

@@ -3,7 +3,7 @@
 use super::{Checked, check};
 use crate::own::{Own, Rights};
 use crate::public::Entry;
-use crate::{CacheShape, CheckRefusal, Hardware, Policy};
+use crate::{CacheShape, CheckRefusal, Hardware, InitialCap, Policy};
 use cycle_cost::Costs;
 use image_text::{Refusal, read_image};
 use std::alloc::Global;
@@ -27,7 +27,9 @@ segment = [{ page = 16, pages = 1, rights = "rx", hex = "1300FF" }]
 name = "blue"
 colours = [2]
 entry = 0x10004
+caps = ["page 16", "none", "irq 3", "none"]
 segment = [{ page = 16, pages = 1, rights = "rx", hex = "6f000000" }, { page = 32, pages = 3, rights = "rw", hex = "" }]
+lines = [7, 3]
 [[schedule]]
 domain = 0
 length = 10000
@@ -42,7 +44,9 @@ const BLUE: &str = r#"[[domain]]
 name = "blue"
 colours = [2]
 entry = 0x10004
+caps = ["page 16", "none", "irq 3", "none"]
 segment = [{ page = 16, pages = 1, rights = "rx", hex = "6f000000" }, { page = 32, pages = 3, rights = "rw", hex = "" }]
+lines = [7, 3]
 "#;
 
 const ANOTHER: &str = r#"[[domain]]
@@ -94,7 +98,7 @@ length = 10000
 pad = 6150
 "#;
 
-const ROWS: [Row; 109] = [
+const ROWS: [Row; 144] = [
     // K3: the line, which decides the colours, too
     ("line = 64", "line = 48", 1, (3, 1, 48, 1)),
     ("line = 64", "line = 8", 1, (3, 1, 8, 1)),
@@ -385,6 +389,72 @@ const ROWS: [Row; 109] = [
     ("0x10004", "0x10002", 1, (12, 1, 65538, 6)),
     ("0x10004", "0x11000", 1, (12, 1, 69632, 6)),
     ("0x10004", "0x10ffc", 1, (0, 0, 0, 0)),
+    // K13, case 1, which comes before those of any slot
+    ("\"none\", ", "\"none\", ", 61, (0, 0, 0, 0)),
+    ("\"none\", ", "\"none\", ", 62, (13, 1, 65, 1)),
+    ("\"none\", ", "\"\", ", 62, (13, 1, 65, 1)),
+    // K13, case 2: what is no text of a slot
+    ("\"none\"", "\"\"", 1, (13, 1, 1, 2)),
+    ("\"none\"", "\"None\"", 1, (13, 1, 1, 2)),
+    ("\"none\"", "\"none none\"", 1, (13, 1, 1, 2)),
+    ("\"none\"", "\"line 3\"", 1, (13, 1, 1, 2)),
+    ("page 16", "page", 1, (13, 1, 0, 2)),
+    ("page 16", "page ", 1, (13, 1, 0, 2)),
+    ("page 16", "page16", 1, (13, 1, 0, 2)),
+    ("page 16", "page  16", 1, (13, 1, 0, 2)),
+    ("page 16", "page 16 ", 1, (13, 1, 0, 2)),
+    ("page 16", "Page 16", 1, (13, 1, 0, 2)),
+    ("page 16", "page 0016", 1, (13, 1, 0, 2)),
+    ("page 16", "page 00", 1, (13, 1, 0, 2)),
+    ("page 16", "page +16", 1, (13, 1, 0, 2)),
+    ("page 16", "page 0x10", 1, (13, 1, 0, 2)),
+    ("page 16", "page 10000000016", 1, (13, 1, 0, 2)),
+    // K13, case 3: a page before and after, of another domain, of ten digits
+    ("page 16", "page 0", 1, (13, 1, 0, 3)),
+    ("page 16", "page 15", 1, (13, 1, 0, 3)),
+    ("page 16", "page 17", 1, (13, 1, 0, 3)),
+    ("page 16", "page 34", 1, (0, 0, 0, 0)),
+    ("page 16", "page 35", 1, (13, 1, 0, 3)),
+    ("page 16", "page 4294967312", 1, (13, 1, 0, 3)),
+    (
+        "colours = [1]",
+        "colours = [1]\ncaps = [\"page 16\", \"page 32\"]",
+        1,
+        (13, 0, 1, 3),
+    ),
+    // K13, case 4
+    ("irq 3", "irq 4", 1, (13, 1, 2, 4)),
+    ("irq 3", "irq 4294967299", 1, (13, 1, 2, 4)),
+    ("lines = [7, 3]", "lines = [-3]", 1, (13, 1, 2, 4)),
+    (
+        "colours = [1]",
+        "colours = [1]\ncaps = [\"irq 9999999999\", \"irq 0\"]\nlines = [0, 9999999999]",
+        1,
+        (0, 0, 0, 0),
+    ),
+    (
+        "colours = [1]",
+        "colours = [1]\ncaps = [\"irq 4294967296\"]\nlines = [0]",
+        1,
+        (13, 0, 0, 4),
+    ),
+    // K13, case 5: a page, a line; a place that is empty may be named again
+    ("\"none\"", "\"page 16\"", 1, (13, 1, 1, 5)),
+    ("\"none\"", "\"irq 3\"", 1, (13, 1, 2, 5)),
+    ("\"none\"", "\"page 32\"", 1, (0, 0, 0, 0)),
+    // K13 after K12, and before K16
+    (
+        "colours = [1]\nentry = 0x10000",
+        "colours = [1]\ncaps = [\"\"]\nentry = 2",
+        1,
+        (12, 0, 2, 6),
+    ),
+    (
+        "lines = [7, 3]\n[[schedule]]\ndomain = 0",
+        "lines = [7]\n[[schedule]]\ndomain = 2",
+        1,
+        (13, 1, 2, 4),
+    ),
     // K16
     (RED_ENTRY, SHORT_ENTRY, 64, (16, 0, 65, 1)),
     (RED_ENTRY, SHORT_ENTRY, 63, (0, 0, 0, 0)),
@@ -430,8 +500,8 @@ const ROWS: [Row; 109] = [
         (7, 0, 3, 16),
     ),
     (
-        "\"\" }]\n[[schedule]]\ndomain = 0",
-        "\"1\" }]\n[[schedule]]\ndomain = 2",
+        "\"\" }]\nlines = [7, 3]\n[[schedule]]\ndomain = 0",
+        "\"1\" }]\nlines = [7]\n[[schedule]]\ndomain = 2",
         1,
         (12, 1, 1, 3),
     ),
@@ -471,7 +541,8 @@ fn the_first_broken_case_is_named(rt: HostRuntime) {
     }
 }
 
-// Blue has code, and three pages of data that are zero.
+// Blue has code, three pages of data that are zero, and capabilities in slots 0
+// and 2.
 fn is_blue(rt: &impl Abort, own: &Own) {
     assert_eq!(rt;
         (
@@ -502,6 +573,13 @@ fn is_blue(rt: &impl Abort, own: &Own) {
         [0x6f, 0, 0, 0].as_slice()
     );
     assert_eq!(rt; own.segments[1].bytes.as_slice(), [].as_slice());
+    let caps = [
+        InitialCap::Page(16),
+        InitialCap::None,
+        InitialCap::Irq(3),
+        InitialCap::None,
+    ];
+    assert_eq!(rt; own.caps.as_slice(), caps.as_slice());
 }
 
 fn shape(sets: u32, ways: u32) -> CacheShape {

@@ -3,4 +3,4 @@ use Rattle.image_check.specs.Colours as spec
 use Rattle.image_check.proofs.colours.names.Given as goal
 
 abbrev pub invariant-loop-other : goal.invariant-loop-other
-invariant-loop-other l = spec.names (drop l.other-index l.colours) l.colour ≡ spec.names l.colours l.colour
+invariant-loop-other l = spec.names (drop l.other-index l.numbers) l.number ≡ spec.names l.numbers l.number

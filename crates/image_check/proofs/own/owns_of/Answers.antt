@@ -1,6 +1,11 @@
-use Rattle.std.proofs.Common.{rules}
+use Rattle.std.proofs.Common.{sym, subst}
+use Rattle.std.specs.List.{All}
+use Rattle.image_text.specs.Models.{domain_model}
+use Rattle.image_check.specs.Own.{IsSmallOwn}
 use Rattle.image_check.proofs.Shares.{small_owns}
 use Rattle.image_check.proofs.own.owns_of.Goals as goal
 
 pub owns_in-requires : goal.owns_in-requires
-owns_in-requires c = let all = small_owns c.args.raw.now c.requires.accepted in search (rules, all)
+owns_in-requires c =
+    let all = small_owns c.args.raw.now c.requires.accepted in
+    record { small = subst (All (λ o. IsSmallOwn (domain_model o))) (sym c.as_slice.ensures.value) all }
