@@ -1,7 +1,7 @@
 // The pool of a share: its free frames.
 ghost use Rattle.std.specs.Prelude.{◌≡◌, ◌≢◌, ℕ, ◌-◌, ◌<◌, ◌≤◌, true, false, Some, None, length, reverse, slice_get, slice_index, IfOk, IfErr, IfSome, IfNone};
 ghost use Rattle.std.specs.Vec.{vec_len, vec_capacity};
-ghost use Rattle.frame_colours.specs.Colours.{IsOwn, has};
+ghost use Rattle.frame_colours.specs.Colours.{IsOwn, has, pool};
 ghost use Rattle.frame_colours.specs.FreeList.{IsFreeList, is_free, all_free, without_least, with_frame, placed};
 
 use crate::frame::{Frame, Free};
@@ -10,18 +10,20 @@ use std::alloc::Global;
 use std::marker::Model;
 use tp_base::{FrameNo, Memory};
 
-/// The free frames of a share. It has room for all of the share's frames, so
-/// that only `new` takes memory.
+/// The frames of a share, and which of them are free. It has room for all of
+/// them, so that only `new` takes memory.
 #[derive(Drop)]
 pub struct Pool {
     part: Part,
+    // All of them, ascending.
+    all: Vec<FrameNo>,
     // The greatest first: the least is taken, and frames that come back are
     // mostly small ones, so the work is done at the end.
     free: Vec<FrameNo>,
 }
 
 impl Model for Pool {
-    ghost use Rattle.std.specs.Prelude.{◌≤◌, length, reverse};
+    ghost use Rattle.std.specs.Prelude.{◌≡◌, ◌≤◌, length, reverse};
     ghost use Rattle.frame_colours.specs.Colours.{pool};
     ghost use Rattle.frame_colours.specs.FreeList.{FreeList, IsFreeList};
 
@@ -30,7 +32,7 @@ impl Model for Pool {
     ghost view = { λ p. record { share = p.part; free = reverse p.free.items } };
 
     ghost invariant = { λ p. IsFreeList (record { share = p.part; free = reverse p.free.items })
-        × (length (pool p.part) ≤ p.free.cap) };
+        × (length (pool p.part) ≤ p.free.cap) × (p.all.items ≡ pool p.part) };
 }
 
 impl Pool {
@@ -43,25 +45,23 @@ impl Pool {
         ensures sound { IfOk result (λ pool. IsFreeList pool) }
         ensures back { IfErr result (λ error. error.0 ≡ share) }
     {
-        match share.part.descending(alloc) {
-            Ok(free) => {
-                let ColourShare { part } = share;
-                Ok(Pool { part, free })
-            }
-            Err(error) => Err((share, error)),
-        }
+        let free = match share.part.descending(alloc) {
+            Ok(free) => free,
+            Err(error) => return Err((share, error)),
+        };
+        let all = match reversed(alloc, free.as_slice()) {
+            Ok(all) => all,
+            Err(error) => return Err((share, error)),
+        };
+        let ColourShare { part } = share;
+        Ok(Pool { part, all, free })
     }
 
-    /// The numbers of its free frames, ascending.
-    ///
-    /// # Errors
-    /// `Memory` where no memory is left for the list.
-    pub fn list(&self, alloc: Global) -> Result<Vec<FrameNo>, Memory>
-        ensures free { IfOk result (λ frames. frames.items ≡ self.now.free) }
+    /// The numbers of all frames of its share, free or not, ascending.
+    pub fn frames(&self) -> &[FrameNo]
+        ensures frames { result.now ≡ pool self.now.share }
     {
-        let mut frames = Vec::from_slice(alloc, self.free.as_slice())?;
-        frames.reverse();
-        Ok(frames)
+        self.all.as_slice()
     }
 
     /// The least free frame; `None` exactly where none is free.
@@ -93,6 +93,15 @@ impl Pool {
     {
         put(&mut self.free, frame.number());
     }
+}
+
+// The same numbers, the last first.
+fn reversed(alloc: Global, numbers: &[FrameNo]) -> Result<Vec<FrameNo>, Memory>
+    ensures reversed { IfOk result (λ r. r.items ≡ reverse numbers.now) }
+{
+    let mut reversed = Vec::from_slice(alloc, numbers)?;
+    reversed.reverse();
+    Ok(reversed)
 }
 
 // Puts a number in its place in numbers that descend.

@@ -1,13 +1,5 @@
-mod Elements
-mod SwitchCounts
-mod Pages
-mod PoolReads
-mod Loading
-mod Steps
-mod Accesses
-mod Instructions
-mod Moved
-mod FrameWords
-mod Openings
-mod Slots
-mod Taking
+pub mod FrameWords
+pub mod Elements
+pub mod SwitchCounts
+pub mod Openings
+pub mod Slots

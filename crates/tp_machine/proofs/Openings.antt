@@ -1,10 +1,10 @@
 -- The machine before its first slot.
-use Rattle.std.proofs.Common.{◌≡◌, ℕ, ◌+◌, ◌-◌, ◌<◌, ◌≤◌, List, [], ◌∷◌, ◌++◌, length, map, get_or, refl, sym, ap, subst, ◌∙◌, arith}
-use Rattle.std.proofs.lemmas.List.{length-append, length-map, get_or-map}
+use Rattle.std.proofs.Common.{◌≡◌, ℕ, ◌-◌, ◌<◌, ◌≤◌, List, [], length, map, get_or, refl, sym, ap, subst, ◌∙◌, arith}
+use Rattle.std.proofs.lemmas.List.{length-map, get_or-map}
 use Rattle.std.proofs.lemmas.Option.{slice_get_within}
 use Rattle.phys_mem.specs.Contents.{Contents}
 use Rattle.phys_mem.specs.Holds.{Holds}
-use Rattle.image_check.specs.Own.{Own, own_at}
+use Rattle.image_check.specs.Own.{Own}
 use Rattle.image_check.specs.Public as spec
 use Rattle.hardware_check.specs.Hardware.{Hardware}
 use Rattle.image_check.specs.Public.{no_entry}
@@ -14,35 +14,15 @@ use Rattle.world_view.specs.declared.view.Used.{Used}
 use Rattle.image_check.specs.Image.{Image}
 use Rattle.world_view.specs.Schedule.{start}
 use Rattle.world_view.specs.Opening.{all_placed}
-use Rattle.world_view.specs.Domain.{opening_dom}
 use Rattle.world_view.specs.Machine.{opening, whole}
 use Rattle.image_check.specs.Laws.{Runnable}
 use Rattle.world_view.proofs.Separate.{separated}
 use Rattle.world_view.proofs.CodeLaws.{whole_first-dom}
-use Rattle.world_view.specs.declared.domain.Domain.{Domain}
-use Rattle.tp_machine.specs.Stands.{Stands, CountsUpTo, AreOpened}
-use Rattle.tp_machine.specs.Placing.{IsPlaced}
+use Rattle.kernel_call.specs.declared.domain.Domain.{Domain}
+use Rattle.kernel_call.specs.Models.{Stands}
+use Rattle.domain_open.specs.Placing.{AreOpened}
 use Rattle.tp_machine.specs.Usage.{IsUsed, CountedUpTo}
 use Rattle.tp_machine.specs.Worlds.{StandsFor, IsInBounds}
-use Rattle.tp_machine.proofs.Elements.{each_push}
-
--- ---- domains at their entries
-
-pub opened_none : (p : Hardware) (owns : List Own) → AreOpened p owns 0 []
-opened_none p owns = record { all = refl; stand = λ d x got. cc; placed = λ d x got. cc; few = λ d x got. cc }
-
-pub opened_more : (p : Hardware) (domains : List Domain) (owns : List Own) (n : ℕ) (x : Domain) → AreOpened p owns n domains
-    → Stands x (opening_dom (own_at owns n)) → IsPlaced p (own_at owns n) x.frames → CountsUpTo 0 x
-    → AreOpened p owns (n + 1) (domains ++ x ∷ [])
-opened_more p domains owns n x old stands placed few =
-    let at = λ (j : ℕ). opening_dom (own_at owns j) in
-    let own = λ (j : ℕ). own_at owns j in
-    record {
-      all = omega (arith, old.all, length-append domains (x ∷ []));
-      stand = each_push (λ j y. Stands y (at j)) (λ j y. Stands y (at j)) domains x (subst (λ (j : ℕ). Stands x (at j)) (sym old.all) stands) (λ j y h s. s) old.stand;
-      placed = each_push (λ j y. IsPlaced p (own j) y.frames) (λ j y. IsPlaced p (own j) y.frames) domains x (subst (λ (j : ℕ). IsPlaced p (own j) x.frames) (sym old.all) placed) (λ j y h s. s) old.placed;
-      few = each_push (λ j y. CountsUpTo 0 y) (λ j y. CountsUpTo 0 y) domains x few (λ j y h s. s) old.few;
-    }
 
 -- ---- the first start
 
@@ -74,8 +54,8 @@ module _ (i : Image) (r : Runnable i) (items : List Entry) (entries : map entry_
     all_domains = opened.all;
     each_domain = λ d x got.
         let within : d < length i.owns = omega (arith, slice_get_within domains d x got, opened.all) in
-        subst (Stands x) (sym (whole_first-dom i d (separated i r) within)) (opened.stand d x got);
-    each_place = opened.placed;
+        subst (Stands x) (sym (whole_first-dom i d (separated i r) within)) (opened.each d x got).stands;
+    each_estate = λ d x got. (opened.each d x got).has;
     caches = refl;
     all_entries = all ∙ entries_long;
     each_entry = unused;
@@ -98,6 +78,6 @@ in_bounds_first p memory domains owns n used begin opened few soon = record {
   next_soon = omega arith;
   clock_soon = omega arith;
   last_over = omega arith;
-  few_calls = opened.few;
+  few_calls = λ d x got. (opened.each d x got).few;
   few_switches = few;
 }

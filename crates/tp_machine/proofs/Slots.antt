@@ -14,30 +14,42 @@ use Rattle.image_check.specs.Public as spec
 use Rattle.hardware_check.specs.Hardware.{Hardware}
 use Rattle.image_check.specs.Own.{Own}
 use Rattle.image_check.specs.Image.{Image, own_of}
-use Rattle.world_view.specs.Frames.{pool, root_of}
+use Rattle.image_check.specs.Pages.{share_of}
+use Rattle.frame_colours.specs.Colours as colours
+use Rattle.frame_colours.specs.Colours.{Share}
+use Rattle.frame_colours.specs.FreeList.{FreeList}
+use Rattle.thread_set.specs.Threads.{all_of}
+use Rattle.cap_table.specs.Slots.{Slots}
+use Rattle.call_table.specs.Domain.{Dom}
+use Rattle.call_table.specs.Claims.{is_mine, claims, Facts}
+use Rattle.kernel_call.specs.Logs.{log_of}
+use Rattle.kernel_call.specs.Models.{dom_model, Stands, CountsUpTo}
+use Rattle.kernel_call.specs.Facts.{Has, HasFacts}
+use Rattle.kernel_call.specs.declared.domain.Domain.{Domain}
+use Rattle.world_view.specs.Frames.{pool}
+use Rattle.world_view.specs.Kernel.{estate, no_dom}
+use Rattle.world_view.specs.Relations.{IsDomain}
+use Rattle.world_view.proofs.OpeningFacts.{kernel_of}
+use Rattle.world_view.proofs.WholeLaws.{all_facts}
 use Rattle.image_check.specs.Public.{no_entry}
 use Rattle.world_view.specs.Schedule.{entry_of_slot, switch_entry, start, slot_end}
 use Rattle.world_view.specs.Opening.{frame_words}
-use Rattle.world_view.specs.Domain.{Dom, no_dom}
 use Rattle.world_view.specs.Event.{Storage}
 use Rattle.world_view.specs.Machine.{Local, stretch, run_slot, whole, dom_of}
-use Rattle.world_view.specs.View.{View, log_of, view}
+use Rattle.world_view.specs.View.{View, view}
 use Rattle.image_check.specs.Laws.{Runnable}
 use Rattle.world_view.proofs.Separate.{separated}
 use Rattle.world_view.proofs.CodeLaws.{switch-doms, switch-storage, switch-clock, slot_begun, slot_over, run_slot-dom_same, run_slot-dom_other, run_slot-storage, run_slot-clock, run_slot-used}
 use Rattle.world_view.proofs.PoolLaws.{in_pool}
-use Rattle.world_view.specs.declared.domain.Domain.{Domain}
 use Rattle.image_check.specs.declared.public.Entry.{Entry}
 use Rattle.world_view.specs.declared.view.Used.{Used}
 use Rattle.image_check.specs.Models.{entry_model}
-use Rattle.world_view.specs.Models.{dom_model, seen_of}
-use Rattle.tp_machine.specs.Stands.{Stands, CountsUpTo}
-use Rattle.tp_machine.specs.Placing.{IsPlaced}
-use Rattle.tp_machine.specs.Moves.{StandsIn, Moves}
+use Rattle.world_view.specs.Models.{seen_of}
+use Rattle.domain_step.specs.Moves.{StandsIn, Moves}
 use Rattle.tp_machine.specs.Usage.{IsUsed, CountedUpTo}
-use Rattle.tp_machine.specs.Worlds.{kept, StandsFor, IsInBounds}
+use Rattle.tp_machine.specs.Worlds.{Kept, kept, StandsFor, HaveFacts, IsInBounds}
 use Rattle.tp_machine.proofs.Elements.{each_set}
-use Rattle.tp_machine.proofs.PoolReads.{either_default}
+use Rattle.domain_open.proofs.PoolReads.{either_default}
 use Rattle.tp_machine.proofs.FrameWords.{frames_are}
 
 -- ---- the entry of a slot
@@ -50,30 +62,52 @@ entry_of_slot-is items k n e d long within read =
 
 -- ---- the slot
 
-module _ (i : Image) (k : ℕ) (memory memory' : Contents) (domains : List Domain) (used used' : List Used) (clock next last : ℕ) (is : StandsFor i k (kept memory domains used clock next last))
-    (x new : Domain) (begin later : ℕ) (begins : begin ≡ max clock next) (same : memory'.frames ≡ memory.frames) (place : new.frames ≡ x.frames) (long : length used' ≡ length used)
-    (noted : (us : List (ℕ × ℕ)) → IsUsed used us → IsUsed used' (us ++ (switch_entry i.all.schedule k, clock - last) ∷ [])) where
-  -- whichever domain's root it has, the code's domain runs as the definition's does
-  abbrev pub Runs : ℕ → Type 0
-  Runs length = (o : Own) → x.frames.map ≡ root_of i.all.hardware o → Moves (stretch i.all.hardware o false (next + length)) memory x begin memory' new later
+-- a domain of the machine has its facts
+pub facts_at : (i : Image) → Runnable i → (k : ℕ) (s : Kept) → StandsFor i k s → (d : ℕ) (x : Domain) → IsDomain i d → slice_get s.domains d ≡ Some x
+    → HasFacts (estate i.all.hardware (own_of i d)) s.memory (whole i k).storage.mem x
+unfolding estate
+facts_at i r k s is d x domain got =
+    let p = i.all.hardware in
+    let o = own_of i d in
+    let caps : (dom_of (whole i k) d).caps ≡ x.caps = sym (ap (λ (m : Dom). m.caps) (is.each_domain d x got).same) in
+    record {
+      estate = (kernel_of i (separated i r) d domain).has_estate;
+      frames = sym is.frames;
+      has = is.each_estate d x got;
+      holds = is.holds;
+      facts = subst (λ (slots : Slots). Facts (estate p o).root (is_mine (estate p o)) (claims (estate p o) slots) (whole i k).storage.mem) caps
+          (all_facts i (separated i r) k d domain).facts;
+    }
 
+pub all_at : (i : Image) → Runnable i → (k : ℕ) (s : Kept) → StandsFor i k s → HaveFacts i k s
+all_at i r k s is = record {
+  each = λ d x got. facts_at i r k s is d x (omega (arith, slice_get_within s.domains d x got, is.all_domains)) got;
+}
+
+module _ (i : Image) (r : Runnable i) (k : ℕ) (memory memory' : Contents) (domains : List Domain) (used used' : List Used) (clock next last : ℕ) (is : StandsFor i k (kept memory domains used clock next last))
+    (x new : Domain) (begin later : ℕ) (begins : begin ≡ max clock next) (same : memory'.frames ≡ memory.frames) (long : length used' ≡ length used)
+    (noted : (us : List (ℕ × ℕ)) → IsUsed used us → IsUsed used' (us ++ (switch_entry i.all.schedule k, clock - last) ∷ [])) where
   -- the code's domain runs as the definition's does
-  ran : slice_get domains (entry_of_slot i.all.schedule k).domain ≡ Some x → Runs (entry_of_slot i.all.schedule k).length
-      → StandsIn memory' new later (slot_begun i k (whole i k)) (slot_over i k (whole i k))
+  abbrev pub Ran : ℕ → Type 0
+  Ran length = Moves i.all.hardware (λ o. stretch i.all.hardware o false (next + length)) memory x begin memory' new later
+
+  ran : slice_get domains (entry_of_slot i.all.schedule k).domain ≡ Some x → Ran (entry_of_slot i.all.schedule k).length
+      → StandsIn i.all.hardware (own_of i (entry_of_slot i.all.schedule k).domain) memory' new later (slot_begun i k (whole i k)) (slot_over i k (whole i k))
   ran got moves =
       let w = whole i k in
+      let p = i.all.hardware in
       let d = (entry_of_slot i.all.schedule k).domain in
+      let o = own_of i d in
+      let domain : IsDomain i d = (separated i r).named k in
       let begun : Local = slot_begun i k w in
       let stands : Stands x begun.dom = subst (λ m. Stands x (at no_dom m d)) (sym (switch-doms i k w)) (is.each_domain d x got) in
-      let holds : Holds memory begun.storage.mem = subst (λ (s : Storage). Holds memory s.mem) (sym (switch-storage i k w)) is.holds in
+      let facts : HasFacts (estate p o) memory begun.storage.mem x =
+      subst (λ (s : Storage). HasFacts (estate p o) memory s.mem x) (sym (switch-storage i k w)) (facts_at i r k (kept memory domains used clock next last) is d x domain got) in
       let time : begin ≡ begun.clock = begins ∙ ap₂ max is.time is.begins ∙ sym (switch-clock i k w) in
       let end : next + (entry_of_slot i.all.schedule k).length ≡ slot_end i.all.schedule k = ap (λ n. n + (entry_of_slot i.all.schedule k).length) is.begins in
-      subst (λ (n : ℕ). StandsIn memory' new later begun (stretch i.all.hardware (own_of i d) false n begun)) end (moves (own_of i d) (is.each_place d x got).root begun stands holds time)
+      subst (λ (n : ℕ). StandsIn p o memory' new later begun (stretch p o false n begun)) end (moves o begun (kernel_of i (separated i r) d domain) stands facts time)
 
-  placed_after : (o : Own) → IsPlaced i.all.hardware o x.frames → IsPlaced i.all.hardware o new.frames
-  placed_after o at = subst (IsPlaced i.all.hardware o) (sym place) at
-
-  stands_after : slice_get domains (entry_of_slot i.all.schedule k).domain ≡ Some x → Runs (entry_of_slot i.all.schedule k).length
+  stands_after : slice_get domains (entry_of_slot i.all.schedule k).domain ≡ Some x → Ran (entry_of_slot i.all.schedule k).length
       → StandsFor i (suc k) (kept memory' (set domains (entry_of_slot i.all.schedule k).domain new) used' later
       (next + (entry_of_slot i.all.schedule k).length + (entry_of_slot i.all.schedule k).pad) (next + (entry_of_slot i.all.schedule k).length))
   unfolding whole start
@@ -85,16 +119,16 @@ module _ (i : Image) (k : ℕ) (memory memory' : Contents) (domains : List Domai
       run_slot-used i k w ∙ ap (λ n. w.used ++ (switch_entry i.all.schedule k, n) ∷ []) (ap₂ (λ a b. a - b) (sym is.time) (sym is.ends)) in
       record {
         frames = same ∙ is.frames;
-        holds = subst (λ (s : Storage). Holds memory' s.mem) (sym (run_slot-storage i k w)) over.holds;
+        holds = subst (λ (s : Storage). Holds memory' s.mem) (sym (run_slot-storage i k w)) over.facts.holds;
         all_domains = length-set domains e.domain new ∙ is.all_domains;
         each_domain = each_set (λ j y. Stands y (dom_of w j)) (λ j y. Stands y (dom_of (run_slot i k w) j)) domains e.domain new (slice_get_within domains e.domain x got)
             (subst (Stands new) (sym (run_slot-dom_same i k w)) over.dom)
             (λ j y apart s. subst (Stands y) (sym (run_slot-dom_other i k w j apart)) s)
             is.each_domain;
-        each_place = each_set (λ j y. IsPlaced i.all.hardware (own_of i j) y.frames) (λ j y. IsPlaced i.all.hardware (own_of i j) y.frames) domains e.domain new (slice_get_within domains e.domain x got)
-            (placed_after (own_of i e.domain) (is.each_place e.domain x got))
+        each_estate = each_set (λ j y. Has (estate i.all.hardware (own_of i j)) y) (λ j y. Has (estate i.all.hardware (own_of i j)) y) domains e.domain new (slice_get_within domains e.domain x got)
+            over.facts.has
             (λ j y apart s. s)
-            is.each_place;
+            is.each_estate;
         caches = refl;
         all_entries = long ∙ is.all_entries;
         each_entry = subst (IsUsed used') (sym switches) (noted w.used is.each_entry);
@@ -103,10 +137,10 @@ module _ (i : Image) (k : ℕ) (memory memory' : Contents) (domains : List Domai
         ends = ap (λ n. n + e.length) is.begins;
       }
 
-  pub stands_next : (e : spec.Entry) → entry_of_slot i.all.schedule k ≡ e → slice_get domains e.domain ≡ Some x → Runs e.length
+  pub stands_next : (e : spec.Entry) → entry_of_slot i.all.schedule k ≡ e → slice_get domains e.domain ≡ Some x → Ran e.length
       → StandsFor i (k + 1) (kept memory' (set domains e.domain new) used' later (next + e.length + e.pad) (next + e.length))
   stands_next e entry =
-      subst₂ (λ (n : ℕ) (y : spec.Entry). slice_get domains y.domain ≡ Some x → Runs y.length
+      subst₂ (λ (n : ℕ) (y : spec.Entry). slice_get domains y.domain ≡ Some x → Ran y.length
       → StandsFor i n (kept memory' (set domains y.domain new) used' later (next + y.length + y.pad) (next + y.length)))
       (sym (add-one k)) entry stands_after
 
@@ -142,20 +176,24 @@ in_bounds_next k memory memory' domains used used' clock next last d length' pad
 
 -- ---- what is seen
 
-pub view_is : (x : Domain) (m : Dom) (p : Hardware) (o : Own) (memory : Contents) (s : Storage) → Stands x m → IsPlaced p o x.frames → Holds memory s.mem → memory.frames ≡ p.frames
+share_is : (p : Hardware) (o : Own) (x : Domain) → Has (estate p o) x → x.pool.share ≡ share_of p o
+unfolding estate
+share_is p o x has = ap (λ (list : FreeList). list.share) has.pool
+
+pub view_is : (x : Domain) (m : Dom) (p : Hardware) (o : Own) (memory : Contents) (s : Storage) → Stands x m → Has (estate p o) x → Holds memory s.mem → memory.frames ≡ p.frames
     → seen_of x memory ≡ view p o m s
 unfolding view
-view_is x m p o memory s stands placed holds frames =
+view_is x m p o memory s stands has holds frames =
     let fs = map (λ f. frame_words (frame_at s.mem f)) (pool p o) in
-    let seen : Dom → View = λ d. record { status = d.status; retired = d.retired; thread = d.thread; readings = log_of m.readings; replies = log_of m.replies; printed = d.printed; pool = pool p o; frames = fs } in
+    let seen : Dom → View = λ d. record { status = d.status; retired = d.retired; threads = all_of d.threads; readings = log_of m.readings; replies = log_of m.replies; printed = d.printed; pool = pool p o; frames = fs } in
     let same : seen (dom_model x m.readings m.replies) ≡ seen m = ap seen stands.same in
     let words : map (contents.frame_words memory) (pool p o) ≡ fs =
     frames_are memory s.mem (pool p o) holds (λ n h. subst (λ (size : ℕ). get_or (pool p o) n 0 < size) (sym frames) (in_pool p o n h)) in
-    rw (placed.pool, stands.readings, stands.replies, words) same
+    rw (share_is p o x has, stands.readings, stands.replies, words) same
 
-pub pool_in_memory : (p : Hardware) (o : Own) (x : Domain) (memory : Contents) → IsPlaced p o x.frames → memory.frames ≡ p.frames → All (λ f. f < memory.frames) x.frames.pool.items
-pool_in_memory p o x memory placed frames =
-    subst (λ (fs : List ℕ). All (λ f. f < memory.frames) fs) (sym placed.pool)
+pub pool_in_memory : (p : Hardware) (o : Own) (x : Domain) (memory : Contents) → Has (estate p o) x → memory.frames ≡ p.frames → All (λ f. f < memory.frames) (colours.pool x.pool.share)
+pool_in_memory p o x memory has frames =
+    subst (λ (s : Share). All (λ f. f < memory.frames) (colours.pool s)) (sym (share_is p o x has))
     (λ k d h. subst₂ (λ (f size : ℕ). f < size) (either_default (pool p o) k 0 d h) (sym frames) (in_pool p o k h))
 
 -- ---- what an accepted image says of a slot's entry

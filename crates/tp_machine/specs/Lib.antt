@@ -1,6 +1,3 @@
-pub mod Placing
-pub mod Stands
-pub mod Moves
 pub mod Usage
 pub mod Worlds
 pub mod Models

@@ -6,10 +6,11 @@ use Rattle.image_check.specs.Image.{Image, own_of}
 use Rattle.world_view.specs.Cost.{cold}
 use Rattle.world_view.specs.Schedule.{start, last_end}
 use Rattle.world_view.specs.Machine.{whole, dom_of}
-use Rattle.world_view.specs.declared.domain.Domain.{Domain}
+use Rattle.world_view.specs.Kernel.{estate}
+use Rattle.kernel_call.specs.declared.domain.Domain.{Domain}
+use Rattle.kernel_call.specs.Models.{Stands, CountsUpTo}
+use Rattle.kernel_call.specs.Facts.{Has, HasFacts}
 use Rattle.world_view.specs.declared.view.Used.{Used}
-use Rattle.tp_machine.specs.Stands.{Stands, CountsUpTo}
-use Rattle.tp_machine.specs.Placing.{IsPlaced}
 use Rattle.tp_machine.specs.Usage.{IsUsed, CountedUpTo}
 
 -- what the code's machine keeps
@@ -30,13 +31,18 @@ pub record StandsFor (i : Image) (slots : ℕ) (k : Kept) : Type 0 where
   pub holds : Holds k.memory (whole i slots).storage.mem
   pub all_domains : length k.domains ≡ length i.owns
   pub each_domain : (d : ℕ) (x : Domain) → slice_get k.domains d ≡ Some x → Stands x (dom_of (whole i slots) d)
-  pub each_place : (d : ℕ) (x : Domain) → slice_get k.domains d ≡ Some x → IsPlaced i.all.hardware (own_of i d) x.frames
+  pub each_estate : (d : ℕ) (x : Domain) → slice_get k.domains d ≡ Some x → Has (estate i.all.hardware (own_of i d)) x
   pub caches : (whole i slots).caches ≡ cold i.all.hardware  -- the code keeps none as yet
   pub all_entries : length k.used ≡ length i.all.schedule
   pub each_entry : IsUsed k.used (whole i slots).used
   pub time : k.clock ≡ (whole i slots).clock
   pub begins : k.next ≡ start i.all.schedule slots
   pub ends : k.last ≡ last_end i.all.schedule slots
+
+-- each domain has its facts, of its frames, capabilities and page tables, in this memory
+pub record HaveFacts (i : Image) (slots : ℕ) (k : Kept) : Type 0 where
+  pub each : (d : ℕ) (x : Domain) → slice_get k.domains d ≡ Some x
+      → HasFacts (estate i.all.hardware (own_of i d)) k.memory (whole i slots).storage.mem x
 
 -- so that no number is too large
 pub record IsInBounds (slots : ℕ) (k : Kept) : Type 0 where

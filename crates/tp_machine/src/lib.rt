@@ -2,15 +2,7 @@
 //! that it stands for the definition of the whole machine after so many slots.
 #![tactic(auto)]
 
-mod access;
-mod domain;
-mod frames;
-mod instruction;
 mod machine;
-mod memory;
-mod placement;
-mod segments;
-mod slot;
 mod used;
 
 pub use machine::Machine;

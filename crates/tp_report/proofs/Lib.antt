@@ -1,7 +1,6 @@
 pub mod Digits
 pub mod Numbers
 pub mod Texts
-pub mod Sections
 pub mod Places
 pub mod Switches
 pub mod Sums

@@ -1,7 +1,6 @@
 -- The report of the whole machine, and the sections of each domain alone.
-use Rattle.std.proofs.Common.{◌≡◌, ℕ, Bool, true, false, cond, eqb, zero, suc, ◌+◌, ◌<◌, ◌≤◌, max, List, [], ◌∷◌, ◌++◌, length, ap, ap₂, refl, subst, arith, eqb-true}
+use Rattle.std.proofs.Common.{◌≡◌, ℕ, zero, suc, ◌+◌, ◌<◌, List, [], ◌∷◌, ◌++◌, length, ap, ap₂, refl, arith}
 use Rattle.std.specs.List.{concat, flat_map, range_with_len}
-use Rattle.image_check.specs.Public.{Entry, entry_in}
 use Rattle.image_check.specs.Image.{Image, own_of}
 use Rattle.world_view.specs.Machine.{whole}
 use Rattle.world_view.specs.View.{view_whole, view_alone}

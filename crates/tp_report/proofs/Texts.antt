@@ -5,7 +5,7 @@ use Rattle.std.specs.List.{flat_map}
 use Rattle.std.proofs.lemmas.List.{append-nil}
 use Rattle.std.proofs.lemmas.Bool.{ne_eqb}
 use Rattle.hex.specs.Hex.{encode_lower}
-use Rattle.world_view.specs.View.{Log}
+use Rattle.kernel_call.specs.Logs.{Log}
 use Rattle.tp_report.specs.Texts.{spaced, last_text, items_text, log_text, bytes_text}
 use Rattle.tp_report.specs.Pieces.{after}
 

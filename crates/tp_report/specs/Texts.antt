@@ -1,14 +1,16 @@
 -- The text of a domain's section.
-use Rattle.std.specs.Prelude.{ℕ, ◌%◌, ◌^◌, ◌==◌, if◌then◌else◌, List, [], ◌∷◌, ◌++◌, length, sum, codes, decimal, Option, Some, None}
+use Rattle.std.specs.Prelude.{ℕ, ◌==◌, if◌then◌else◌, List, [], ◌∷◌, ◌++◌, length, codes, decimal, Option, Some, None}
 use Rattle.std.specs.Int.{to_be_bytes, w32}
 use Rattle.std.specs.List.{concat, flat_map, enumerate_from}
 use Rattle.hex.specs.Hex.{encode_lower}
-use Rattle.world_view.specs.declared.DomainStatus.{DomainStatus}
-use Rattle.world_view.specs.declared.DomainStatus.TheVariants.{Running, Exited, Stopped}
-use Rattle.world_view.specs.declared.ThreadState.{ThreadState}
-use Rattle.world_view.specs.declared.ThreadState.TheVariants.{Ready, Ended}
-use Rattle.world_view.specs.declared.Reply.{Reply}
-use Rattle.world_view.specs.View.{Log, View, memory_sum}
+use Rattle.thread_set.specs.declared.Thread.{Thread}
+use Rattle.thread_set.specs.declared.ThreadState.{ThreadState}
+use Rattle.thread_set.specs.declared.ThreadState.TheVariants.{Never, Ready, Waiting, Ended}
+use Rattle.call_table.specs.declared.DomainStatus.{DomainStatus}
+use Rattle.call_table.specs.declared.DomainStatus.TheVariants.{Running, Exited, Stopped}
+use Rattle.call_table.specs.declared.Reply.{Reply}
+use Rattle.kernel_call.specs.Logs.{Log}
+use Rattle.world_view.specs.View.{View, memory_sum}
 
 -- eight hexadecimal digits
 unfoldable pub h8 : ℕ → List ℕ
@@ -27,10 +29,13 @@ status_text Running = codes "running"
 status_text (Exited code) = exited_text code
 status_text (Stopped code pc value) = stopped_text code pc value
 
--- ---- a thread
+-- ---- threads
 
+-- one that was never started has no line, and so shows no state
 unfoldable pub state_text : ThreadState → List ℕ
+state_text Never = []
 state_text Ready = codes "ready"
+state_text (Waiting line) = codes "waiting " ++ decimal line
 state_text Ended = codes "ended"
 
 -- a register that isn't zero
@@ -39,6 +44,23 @@ register_text (x, word) = if word == 0 then [] else concat (codes " x" ∷ decim
 
 unfoldable pub registers_text : List ℕ → List ℕ
 registers_text regs = flat_map register_text (enumerate_from 0 regs)
+
+-- a line, begun by its line feed
+unfoldable pub thread_line : ℕ → Thread → List ℕ
+thread_line t x = concat (codes "\nthread " ∷ decimal t ∷ codes " " ∷ state_text x.state ∷ codes " pc " ∷ h8 x.pc ∷ registers_text x.regs ∷ [])
+
+-- where a thread in this state was ever started
+abbrev pub if_started : ThreadState → List ℕ → List ℕ
+if_started Never text = []
+if_started _ text = text
+
+-- thread t's line, if it was ever started
+unfoldable pub thread_text : ℕ × Thread → List ℕ
+thread_text (t, x) = if_started x.state (thread_line t x)
+
+-- of threads by their numbers
+unfoldable pub threads_text : List Thread → List ℕ
+threads_text threads = flat_map thread_text (enumerate_from 0 threads)
 
 -- ---- logs
 
@@ -71,14 +93,21 @@ bytes_text bytes = if length bytes == 0 then [] else codes " " ++ encode_lower b
 
 -- ---- the section of domain d
 
-unfoldable pub section : ℕ → List ℕ → View → List ℕ
-section d name v = concat (
+-- what stands above the threads
+unfoldable pub head_text : ℕ → List ℕ → View → List ℕ
+head_text d name v = concat (
     codes "domain " ∷ decimal d ∷ codes " " ∷ name
     ∷ codes "\nstatus " ∷ status_text v.status
-    ∷ codes "\nretired " ∷ decimal v.retired
-    ∷ codes "\nthread 0 " ∷ state_text v.thread.state ∷ codes " pc " ∷ h8 v.thread.pc ∷ registers_text v.thread.regs
-    ∷ codes "\nreadings " ∷ log_text reading_text v.readings
+    ∷ codes "\nretired " ∷ decimal v.retired ∷ [])
+
+-- what stands below them
+unfoldable pub rest_text : View → List ℕ
+rest_text v = concat (
+    codes "\nreadings " ∷ log_text reading_text v.readings
     ∷ codes "\nreplies " ∷ log_text reply_text v.replies
     ∷ codes "\nout " ∷ decimal (length v.printed) ∷ bytes_text v.printed
     ∷ codes "\nmem " ∷ h8 (memory_sum v.frames)
     ∷ codes "\n" ∷ [])
+
+unfoldable pub section : ℕ → List ℕ → View → List ℕ
+section d name v = head_text d name v ++ (threads_text v.threads ++ rest_text v)

@@ -1,7 +1,10 @@
 //! Laws of the report over its definitions, each the contract of a function
 //! that does nothing: a caller that calls it may rely on the law.
-ghost use Rattle.std.specs.Prelude.{◌≡◌, codes, pos, negsuc};
+ghost use Rattle.std.specs.Prelude.{◌≡◌, ℕ, List, [], ◌∷◌, codes, pos, negsuc};
+ghost use Rattle.rv_core.specs.Registers.{zeros, with_register};
+ghost use Rattle.thread_set.specs.declared.ThreadState.TheVariants.{Never, Ready, Waiting, Ended};
 ghost use Rattle.tp_report.specs.Report.{switch_line, end_text, usage_text, refusal_text, too_long_text};
+ghost use Rattle.tp_report.specs.Texts.{thread_text, threads_text};
 ghost use Rattle.tp_report.specs.Laws.{ReportLaw, LinesLaw};
 
 /// The report's sections are those of each domain alone.
@@ -14,8 +17,8 @@ pub fn pads()
     ensures lines { LinesLaw }
 {}
 
-/// Texts as written by hand, of the least numbers and of the greatest; whole
-/// sections are in the runs of the program.
+/// Texts as written by hand, of the least numbers and of the greatest, and of
+/// threads in each state; whole sections are in the runs of the program.
 pub fn texts()
     ensures least { switch_line 0 0 6150 0 ≡ codes "switch 0 used 0 pad 6150 count 0\n" }
     ensures greatest { switch_line 1 18446744073709551615 5 3
@@ -26,4 +29,15 @@ pub fn texts()
         (record { rule = 4; at = pos 0; found = negsuc 9223372036854775807; wanted = pos 64 })
         ≡ codes "refused K4 at 0 found -9223372036854775808 wanted 64\n" }
     ensures too_long { too_long_text ≡ codes "too long\n" }
+    ensures waiting { thread_text (1, record { state = Waiting 12; pc = 4294967292; regs = zeros })
+        ≡ codes "\nthread 1 waiting 12 pc fffffffc" }
+    ensures second { thread_text (3, record { state = Ended; pc = 65536; regs = with_register zeros 10 2 })
+        ≡ codes "\nthread 3 ended pc 00010000 x10=00000002" }
+    ensures never { (t pc : ℕ) (regs : List ℕ)
+        → thread_text (t, record { state = Never; pc = pc; regs = regs }) ≡ [] }
+    ensures ascending { threads_text
+        (record { state = Ready; pc = 65540; regs = with_register zeros 31 4294967295 }
+        ∷ record { state = Never; pc = 0; regs = zeros }
+        ∷ record { state = Waiting 0; pc = 65544; regs = zeros } ∷ [])
+        ≡ codes "\nthread 0 ready pc 00010004 x31=ffffffff\nthread 2 waiting 0 pc 00010008" }
 {}

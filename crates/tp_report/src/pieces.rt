@@ -7,12 +7,14 @@ ghost use Rattle.tp_report.specs.Texts as spec;
 ghost use Rattle.tp_io.specs.Sends.{Sends};
 ghost use Rattle.tp_io.specs.Sink.{state};
 ghost use Rattle.tp_report.specs.Pieces.{after, part_text, piece_text};
-ghost use Rattle.world_view.specs.View.{Log, IsKept};
+ghost use Rattle.kernel_call.specs.Logs.{Log, IsKept};
 ghost use Rattle.world_view.specs.Models.{view_model};
 
+use call_table::{DomainStatus, Reply};
 use itoa::Buffer;
+use thread_set::ThreadState;
 use tp_io::{Failed, Sink, write_all_of};
-use world_view::{DomainStatus, Reply, ThreadState, View};
+use world_view::View;
 
 // How many bytes are written in hexadecimal at once.
 const CHUNK: usize = 32;
@@ -215,7 +217,11 @@ fn write_state<K: Sink>(out: &mut K, of: ThreadState) -> Result<(), Failed>
     ensures sends { Sends (state K.Sink out.old) (state K.Sink out.new) result (spec.state_text of) }
 {
     match of {
+        ThreadState::Never => Ok(()),
         ThreadState::Ready => write_all_of(out, b"ready"),
+        ThreadState::Waiting(line) => {
+            write_after(out, "waiting ", &Part::Number(u64::from(line)))
+        }
         ThreadState::Ended => write_all_of(out, b"ended"),
     }
 }

@@ -5,15 +5,20 @@ ghost use Rattle.tp_report.specs.Report as report_spec;
 ghost use Rattle.tp_io.specs.Sends.{Sends};
 ghost use Rattle.tp_io.specs.Sink.{state};
 ghost use Rattle.world_view.specs.View as view_spec;
-ghost use Rattle.world_view.specs.Models.{thread_model, view_model};
+ghost use Rattle.world_view.specs.Models.{view_model};
 ghost use Rattle.tp_report.specs.Switches.{switches_text};
 
 use crate::pieces::{Piece, write_pieces};
 use image_check::{Entry, Refusal};
+use thread_set::{Thread, ThreadState};
 use tp_io::{Failed, Sink, write_all_of};
-use world_view::{Thread, Used, View};
+use world_view::{Used, View};
+
+// How many threads a domain has.
+const THREADS: u8 = 8;
 
 /// Writes the section of a domain.
+#[tactic(auto, unfolding(crate::specs::Texts::section))]
 pub fn write_section<K: Sink>(
     out: &mut K,
     domain: u8,
@@ -23,22 +28,22 @@ pub fn write_section<K: Sink>(
     ensures sends { Sends (state K.Sink out.old) (state K.Sink out.new)
         result (spec.section domain name.now (view_model view.now)) }
 {
-    write_section_of(out, domain, name, view, &view.thread(0))
+    write_head(out, domain, name, view)?;
+    write_threads(out, view)?;
+    write_rest(out, view)
 }
 
-// Writes the section of a domain with this thread.
-fn write_section_of<'a, K: Sink>(
+// Writes what stands above the threads.
+#[tactic(auto, unfolding(crate::specs::Texts::head_text))]
+fn write_head<'a, K: Sink>(
     out: &mut K,
     domain: u8,
     name: &'a str,
-    view: &'a View<'a>,
-    thread: &'a Thread,
+    view: &View<'_>,
 ) -> Result<(), Failed>
-    requires first { thread_model thread.now ≡ (view_model view.now).thread }
     ensures sends { Sends (state K.Sink out.old) (state K.Sink out.new)
-        result (spec.section domain name.now (view_model view.now)) }
+        result (spec.head_text domain name.now (view_model view.now)) }
 {
-    let printed = view.printed();
     write_pieces(
         out,
         &[
@@ -50,11 +55,20 @@ fn write_section_of<'a, K: Sink>(
             Piece::Status(view.status()),
             Piece::Text("\nretired "),
             Piece::Number(view.retired()),
-            Piece::Text("\nthread 0 "),
-            Piece::State(thread.state),
-            Piece::Text(" pc "),
-            Piece::Hex(thread.pc),
-            Piece::Registers(thread.regs.words()),
+        ],
+    )
+}
+
+// Writes what stands below the threads.
+#[tactic(auto, unfolding(crate::specs::Texts::rest_text))]
+fn write_rest<'a, K: Sink>(out: &mut K, view: &'a View<'a>) -> Result<(), Failed>
+    ensures sends { Sends (state K.Sink out.old) (state K.Sink out.new)
+        result (spec.rest_text (view_model view.now)) }
+{
+    let printed = view.printed();
+    write_pieces(
+        out,
+        &[
             Piece::Text("\nreadings "),
             Piece::Readings(view),
             Piece::Text("\nreplies "),
@@ -65,6 +79,49 @@ fn write_section_of<'a, K: Sink>(
             Piece::Text("\nmem "),
             Piece::Hex(memory_sum(view)),
             Piece::Text("\n"),
+        ],
+    )
+}
+
+// Writes the line of each thread that was ever started.
+#[tactic(auto, unfolding(crate::specs::Texts::threads_text))]
+fn write_threads<K: Sink>(out: &mut K, view: &View<'_>) -> Result<(), Failed>
+    ensures sends { Sends (state K.Sink out.old) (state K.Sink out.new)
+        result (spec.threads_text (view_model view.now).threads) }
+{
+    for t in 0..THREADS {
+        write_thread(out, t, &view.thread(t))?;
+    }
+    Ok(())
+}
+
+// Writes the line of thread `t`, if it was ever started.
+#[tactic(auto, unfolding(crate::specs::Texts::thread_text))]
+fn write_thread<K: Sink>(out: &mut K, t: u8, thread: &Thread) -> Result<(), Failed>
+    ensures sends { Sends (state K.Sink out.old) (state K.Sink out.new)
+        result (spec.thread_text (t, thread.now)) }
+{
+    match thread.state {
+        ThreadState::Never => Ok(()),
+        _ => write_thread_line(out, t, thread),
+    }
+}
+
+#[tactic(auto, unfolding(crate::specs::Texts::thread_line))]
+fn write_thread_line<K: Sink>(out: &mut K, t: u8, thread: &Thread) -> Result<(), Failed>
+    ensures sends { Sends (state K.Sink out.old) (state K.Sink out.new)
+        result (spec.thread_line t thread.now) }
+{
+    write_pieces(
+        out,
+        &[
+            Piece::Text("\nthread "),
+            Piece::Number(u64::from(t)),
+            Piece::Text(" "),
+            Piece::State(thread.state),
+            Piece::Text(" pc "),
+            Piece::Hex(thread.pc),
+            Piece::Registers(thread.regs.words()),
         ],
     )
 }

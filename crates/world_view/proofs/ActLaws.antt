@@ -1,12 +1,13 @@
 -- Actions of a domain from memories that are beside: one law of `>>=`, one of each primitive, and one line for each definition.
-use Rattle.std.proofs.Common.{◌≡◌, ℕ, cond, eqb, ◌/◌, ◌⊎◌, List, [], ◌∷◌, ◌++◌, Option, Some, None, Result, Ok, Err, ap, ap₂, refl, sym, ◌∙◌, subst, inl, inr, true≢false, mod-lt, lit<}
+use Rattle.std.proofs.Common.{◌≡◌, ℕ, cond, eqb, ◌/◌, ◌⊎◌, List, [], ◌∷◌, ◌++◌, Option, length, Some, None, Result, Ok, Err, ap, ap₂, refl, sym, ◌∙◌, subst, inl, inr, true≢false, mod-lt, lit<}
 use Rattle.std.proofs.Math.Arith.{digits_div}
 use Rattle.tp_base.specs.Table.{empty, at, put, at-put}
-use Rattle.tp_base.specs.Act.{Done, go_on, ◌>>=◌, ◌>>◌, give, stop, note}
-use Rattle.phys_mem.specs.Mem.{Mem, Frame, frame_at, word, written, frame_at-written_other, word-written_frame}
+use Rattle.tp_base.specs.Act.{Done, go_on, ◌>>=◌, ◌>>◌, give, stop, note, either}
+use Rattle.phys_mem.specs.Mem.{Mem, Frame, frame_at, word, written, frame_at-written_other}
 use Rattle.rv_decode.specs.declared.Instr.{Instr}
 use Rattle.rv_decode.specs.declared.Instr.TheVariants as instr
 use Rattle.rv_decode.specs.declared.LoadWidth.{LoadWidth}
+use Rattle.rv_core.specs.Registers.{register}
 use Rattle.rv_core.specs.Effect.{Outcome}
 use Rattle.rv_core.specs.declared.Store.{Store as StoreMade}
 use Rattle.rv_core.specs.declared.Trap.{Trap}
@@ -14,57 +15,54 @@ use Rattle.sv32_walk.specs.declared.access.Access.{Access}
 use Rattle.sv32_walk.specs.declared.access.WalkFault.{WalkFault}
 use Rattle.sv32_walk.specs.PageTableEntry.{ppn}
 use Rattle.sv32_walk.specs.Walk.{Walk, walk}
+use Rattle.call_table.specs.Domain.{Dom, placed}
+use Rattle.call_table.specs.Calls.{call}
+use Rattle.call_table.specs.Claims.{is_mine, claims, Facts}
+use Rattle.cap_table.specs.Slots.{Slots}
+use Rattle.call_table.proofs.CallLawsDelete.{calls_keep}
+use Rattle.call_table.proofs.ConfinedCalls.{calls_are_confined}
+use Rattle.call_table.proofs.TablesMeaning.{stored}
 use Rattle.hardware_check.specs.Hardware.{Hardware}
 use Rattle.image_check.specs.Own.{Own}
-use Rattle.world_view.specs.Frames.{own_frame, root_of}
-use Rattle.world_view.specs.Domain.{Dom}
-use Rattle.world_view.specs.Instruction.{trapped}
+use Rattle.world_view.specs.Frames.{own_frame}
+use Rattle.world_view.specs.Kernel.{estate, layout}
+use Rattle.world_view.specs.Instruction.{stopped, trapped, retired_at, read_out}
 use Rattle.world_view.specs.Cost.{Touch}
 use Rattle.world_view.specs.Cost.Touch.{Look, Fetch, Load, Store as StoreTouch}
-use Rattle.world_view.specs.Event.{Storage, Act, touch, found, frame_or_stop, translate, address_in, read, write, unless, load, store, loaded, settle, execute, perform, instruction}
-use Rattle.world_view.specs.Relations.{IsOwnFrame, IsOwnAddress, May, MayAll, BesideStorage}
-use Rattle.world_view.proofs.TableLaws.{IsPage, good_same, own_reads, own_page, walk_alike}
-use Rattle.page_map.specs.Reached.{SameTables}
-use Rattle.page_map.proofs.ReachLemmas.{same_beside}
+use Rattle.world_view.specs.Event.{Storage, Act, touch, found, fault_code, frame_or_stop, translate, address_in, read, write, unless, load, store, loaded, noted, settle, execute, call_touches, make_call, perform, instruction}
+use Rattle.world_view.specs.Relations.{IsOwnFrame, IsOwnAddress, May, MayAll, IsKernel, HasFacts, BesideStorage}
+use Rattle.world_view.proofs.TableLaws.{IsPage, walkable, own_reads, own_page, walk_alike, mine_own, own_mine, not_mine}
+use Rattle.world_view.proofs.KernelTouches.{may_append, call_may}
 
-pub may_append : (p : Hardware) (o : Own) (ts us : List Touch) → MayAll p o ts → MayAll p o us → MayAll p o (ts ++ us)
-may_append p o [] us h k = k
-may_append p o (t ∷ ts) us h k = (h.0, may_append p o ts us h.1 k)
+-- what is known of the value and of what is left, if there is a value; else the facts of the domain with which it ended
+abbrev pub Known : {A : Type 0} → Hardware → Own → (A → Storage → Type 0) → Dom ⊎ A → Storage → Type 0
+Known p o P (inl d) s = HasFacts p o d s
+Known p o P (inr a) s = P a s
 
--- what is known of the value and of what is left, if there is a value
-abbrev pub Known : {A : Type 0} → (A → Storage → Type 0) → Dom ⊎ A → Storage → Type 0
-Known P (inl d) s = Unit {0}
-Known P (inr a) s = P a s
+-- the facts hold of every domain with the same capabilities
+pub facts_of : (p : Hardware) (o : Own) (d x : Dom) (s : Storage) → x.caps ≡ d.caps → HasFacts p o d s → HasFacts p o x s
+facts_of p o d x s e h = record {
+  slots = ap length e ∙ h.slots;
+  facts = subst (λ (caps : Slots). Facts (estate p o).root (is_mine (estate p o)) (claims (estate p o) caps) s.mem) (sym e) h.facts;
+}
 
-module _ (p : Hardware) (o : Own) (first : Storage) where
+module _ (p : Hardware) (o : Own) (d : Dom) (first : Storage) where
   -- the same touches, all of them allowed, memories that are beside, and the same value, which meets P with what is left
   pub record Alike {A : Type 0} (P : A → Storage → Type 0) (r q : Done Storage Touch Dom A) : Type 0 where
     pub notes : r.notes ≡ q.notes
     pub may : MayAll p o r.notes
     pub state : BesideStorage p o first r.state q.state
     pub value : r.value ≡ q.value
-    pub known : Known P r.value r.state
+    pub known : Known p o P r.value r.state
 
   -- from memories that are beside, of which the whole machine's meets H
   pub record Near {A : Type 0} (H : Storage → Type 0) (P : A → Storage → Type 0) (x : Act A) : Type 0 where
     pub runs : (s a : Storage) → BesideStorage p o first s a → H s → Alike P (x s) (x a)
 
-  -- the frame holds a page of the domain's own
-  abbrev pub Page : ℕ → Storage → Type 0
-  Page f s = IsPage p o s.mem f
-
-  -- nothing more is known
-  abbrev pub Any : {A : Type 0} → A → Storage → Type 0
-  Any v s = Unit {0}
-
-  -- what was known still is
-  abbrev pub Still : {A : Type 0} → (Storage → Type 0) → A → Storage → Type 0
-  Still H v s = H s
-
   on_near : {A B : Type 0} (P : A → Storage → Type 0) (Q : B → Storage → Type 0) (r q : Done Storage Touch Dom A) (f : A → Act B) (v : Dom ⊎ A)
-      → Alike P r q → Known P v r.state → ((a : A) → Near (P a) Q (f a)) → Alike Q (go_on r f v) (go_on q f v)
+      → Alike P r q → Known p o P v r.state → ((a : A) → Near (P a) Q (f a)) → Alike Q (go_on r f v) (go_on q f v)
   unfolding go_on
-  on_near P Q r q f (inl d) h k g = record { notes = h.notes; may = h.may; state = h.state; value = refl; known = tt }
+  on_near P Q r q f (inl x) h k g = record { notes = h.notes; may = h.may; state = h.state; value = refl; known = k }
   on_near P Q r q f (inr a) h k g =
       let n = (g a).runs r.state q.state h.state k in
       record {
@@ -84,57 +82,81 @@ module _ (p : Hardware) (o : Own) (first : Storage) where
         subst (λ (v : Dom ⊎ A). Alike Q (go_on (x s) f (x s).value) (go_on (x a) f v)) n.value (on_near P Q (x s) (x a) f (x s).value n n.known g);
   }
 
-  bind_page : {B : Type 0} (H : Storage → Type 0) (x : Act ℕ) (f : ℕ → Act B) → Near H Page x → ((a : ℕ) → Near (Page a) Any (f a)) → Near H Any (x >>= f)
-  bind_page H x f h g = bind_near H Page Any x f h g
+  -- the facts still hold of the domain
+  abbrev pub Held : Storage → Type 0
+  Held s = HasFacts p o d s
 
-  bind_still : {A B : Type 0} (H : Storage → Type 0) (x : Act A) (f : A → Act B) → Near H (Still H) x → ((a : A) → Near H Any (f a)) → Near H Any (x >>= f)
-  bind_still H x f h g = bind_near H (Still H) Any x f h g
+  -- and the frame holds a page of its own
+  pub record Page (f : ℕ) (s : Storage) : Type 0 where
+    pub held : Held s
+    pub page : IsPage p o d s.mem f
 
-  bind_any : {A B : Type 0} (H : Storage → Type 0) (x : Act A) (f : A → Act B) → Near H Any x → ((a : A) → Near (Any a) Any (f a)) → Near H Any (x >>= f)
-  bind_any H x f h g = bind_near H Any Any x f h g
+  -- nothing is known of the value
+  abbrev pub Any : {A : Type 0} → A → Storage → Type 0
+  Any v s = Held s
 
-  then_still : {A B : Type 0} (H : Storage → Type 0) (x : Act A) (y : Act B) → Near H (Still H) x → Near H Any y → Near H Any (x >> y)
+  -- the facts hold of the domain that it gives
+  abbrev pub Ends : Dom → Storage → Type 0
+  Ends x s = HasFacts p o x s
+
+  -- what was known still is
+  abbrev pub Still : {A : Type 0} → (Storage → Type 0) → A → Storage → Type 0
+  Still H v s = H s
+
+  bind_page : {B : Type 0} (Q : B → Storage → Type 0) (x : Act ℕ) (f : ℕ → Act B) → Near Held Page x → ((a : ℕ) → Near (Page a) Q (f a)) → Near Held Q (x >>= f)
+  bind_page Q x f h g = bind_near Held Page Q x f h g
+
+  bind_still : {A B : Type 0} (Q : B → Storage → Type 0) (H : Storage → Type 0) (x : Act A) (f : A → Act B) → Near H (Still H) x → ((a : A) → Near H Q (f a)) → Near H Q (x >>= f)
+  bind_still Q H x f h g = bind_near H (Still H) Q x f h g
+
+  bind_any : {A B : Type 0} (Q : B → Storage → Type 0) (H : Storage → Type 0) (x : Act A) (f : A → Act B) → Near H Any x → ((a : A) → Near Held Q (f a)) → Near H Q (x >>= f)
+  bind_any Q H x f h g = bind_near H Any Q x f h g
+
+  then_still : {A B : Type 0} (Q : B → Storage → Type 0) (H : Storage → Type 0) (x : Act A) (y : Act B) → Near H (Still H) x → Near H Q y → Near H Q (x >> y)
   unfolding ◌>>◌
-  then_still H x y h g = bind_near H (Still H) Any x (λ _. y) h (λ a. g)
+  then_still Q H x y h g = bind_near H (Still H) Q x (λ _. y) h (λ a. g)
 
-  then_any : {A B : Type 0} (H : Storage → Type 0) (x : Act A) (y : Act B) → Near H Any x → Near (λ s. Unit {0}) Any y → Near H Any (x >> y)
+  then_any : {A B : Type 0} (Q : B → Storage → Type 0) (H : Storage → Type 0) (x : Act A) (y : Act B) → Near H Any x → Near Held Q y → Near H Q (x >> y)
   unfolding ◌>>◌
-  then_any H x y h g = bind_near H Any Any x (λ _. y) h (λ a. g)
+  then_any Q H x y h g = bind_near H Any Q x (λ _. y) h (λ a. g)
 
-  give_any : {A : Type 0} (H : Storage → Type 0) (a : A) → Near H Any (give a)
+  give_any : {A : Type 0} (a : A) → Near Held Any (give a)
   unfolding give
-  give_any H a = record { runs = λ s k b h. record { notes = refl; may = tt; state = b; value = refl; known = tt } }
+  give_any a = record { runs = λ s k b h. record { notes = refl; may = tt; state = b; value = refl; known = h } }
 
-  give_still : {A : Type 0} (H : Storage → Type 0) (a : A) → Near H (Still H) (give a)
+  -- the domain that is given has the same capabilities
+  give_ends : (x : Dom) → x.caps ≡ d.caps → Near Held Ends (give x)
   unfolding give
-  give_still H a = record { runs = λ s k b h. record { notes = refl; may = tt; state = b; value = refl; known = h } }
+  give_ends x same = record { runs = λ s k b h. record { notes = refl; may = tt; state = b; value = refl; known = facts_of p o d x s same h } }
 
-  stop_any : {A : Type 0} (H : Storage → Type 0) (d : Dom) → Near {A = A} H Any (stop d)
+  stop_at : {A : Type 0} (P : A → Storage → Type 0) (H : Storage → Type 0) (x : Dom) → x.caps ≡ d.caps → ((s : Storage) → H s → Held s) → Near H P (stop x)
   unfolding stop
-  stop_any H d = record { runs = λ s k b h. record { notes = refl; may = tt; state = b; value = refl; known = tt } }
+  stop_at P H x same held = record { runs = λ s k b h. record { notes = refl; may = tt; state = b; value = refl; known = facts_of p o d x s same (held s h) } }
 
-  stop_still : {A : Type 0} (H : Storage → Type 0) (d : Dom) → Near {A = A} H (Still H) (stop d)
-  unfolding stop
-  stop_still H d = record { runs = λ s k b h. record { notes = refl; may = tt; state = b; value = refl; known = tt } }
+  stop_stopped : {A : Type 0} (P : A → Storage → Type 0) (code value : ℕ) → Near Held P (stop {A = A} (stopped code value d))
+  unfolding stopped
+  stop_stopped P code value = stop_at P Held (stopped code value d) refl (λ s h. h)
 
-  known_frame : (d : Dom) (a : Access) (va : ℕ) (s : Storage) (r : Result ℕ WalkFault) → ((leaf : ℕ) → r ≡ Ok leaf → Page (ppn leaf) s) → Known Page (frame_or_stop d a va r) s
-  unfolding frame_or_stop
-  known_frame d a va s (Ok leaf) page = page leaf refl
-  known_frame d a va s (Err f) page = tt
+  known_frame : (a : Access) (va : ℕ) (s : Storage) (r : Result ℕ WalkFault) → Held s → ((leaf : ℕ) → r ≡ Ok leaf → Page (ppn leaf) s) → Known p o Page (frame_or_stop d a va r) s
+  unfolding frame_or_stop stopped
+  known_frame a va s (Ok leaf) held page = page leaf refl
+  known_frame a va s (Err f) held page = facts_of p o d (stopped (fault_code a f) va d) s refl held
 
   -- the walk is the same in both memories, and comes to a page of the domain
-  translate_near : (H : Storage → Type 0) (d : Dom) (a : Access) (va : ℕ) → Near H Page (translate p (root_of p o) d a va)
+  translate_near : (a : Access) (va : ℕ) → Near Held Page (translate p (estate p o).root d a va)
   unfolding translate
-  translate_near H d a va = record {
+  translate_near a va = record {
     runs = λ s k b h.
-        let root = root_of p o in
-        let same : walk s.mem p.frames root va a ≡ walk k.mem p.frames root va a = sym (walk_alike p o s.mem b.good va a k.mem b.same) in
+        let root = (estate p o).root in
+        let tables = walkable p o d s.mem h in
+        let same : walk s.mem p.frames root va a ≡ walk k.mem p.frames root va a = sym (walk_alike p o root (IsPage p o d s.mem) s.mem tables va a k.mem b.same) in
         record {
           notes = ap (λ (w : Walk). Look (va / 4096) w.reads (found w.result) ∷ []) same;
-          may = (own_reads p o s.mem b.good va a, tt);
+          may = (own_reads p o root (IsPage p o d s.mem) s.mem tables va a, tt);
           state = b;
           value = ap (λ (w : Walk). frame_or_stop d a va w.result) same;
-          known = known_frame d a va s (walk s.mem p.frames root va a).result (own_page p o s.mem b.good va a);
+          known = known_frame a va s (walk s.mem p.frames root va a).result h
+              (λ leaf is. record { held = h; page = own_page p o root (IsPage p o d s.mem) s.mem tables va a leaf is });
         };
   }
 
@@ -151,86 +173,119 @@ module _ (p : Hardware) (o : Own) (first : Storage) where
   touch_still H t may = record { runs = λ s k b h. record { notes = refl; may = (may s h, tt); state = b; value = refl; known = h } }
 
   fetch_page : (f va : ℕ) → Near (Page f) (Still (Page f)) (touch (Fetch (address_in f va)))
-  fetch_page f va = touch_still (Page f) (Fetch (address_in f va)) (λ s page. own_address f va page.own)
+  fetch_page f va = touch_still (Page f) (Fetch (address_in f va)) (λ s is. own_address f va is.page.own)
 
   load_page : (f va : ℕ) → Near (Page f) (Still (Page f)) (touch (Load (address_in f va)))
-  load_page f va = touch_still (Page f) (Load (address_in f va)) (λ s page. own_address f va page.own)
+  load_page f va = touch_still (Page f) (Load (address_in f va)) (λ s is. own_address f va is.page.own)
 
   store_page : (f va : ℕ) → Near (Page f) (Still (Page f)) (touch (StoreTouch (address_in f va)))
-  store_page f va = touch_still (Page f) (StoreTouch (address_in f va)) (λ s page. own_address f va page.own)
+  store_page f va = touch_still (Page f) (StoreTouch (address_in f va)) (λ s is. own_address f va is.page.own)
 
   read_page : (f i : ℕ) → Near (Page f) (Still (Page f)) (read f i)
   unfolding read word
   read_page f i = record {
-    runs = λ s k b h. record { notes = refl; may = tt; state = b; value = ap (λ (x : Frame). inr (at 0 x i)) (b.same f h.own); known = h };
+    runs = λ s k b h. record { notes = refl; may = tt; state = b; value = ap (λ (x : Frame). inr (at 0 x i)) (b.same f h.page.own); known = h };
   }
 
-  -- a write to a page leaves the page tables as they are
+  -- the last use of the page
+  read_last : (f i : ℕ) → Near (Page f) Any (read f i)
+  unfolding read word
+  read_last f i = record {
+    runs = λ s k b h. record { notes = refl; may = tt; state = b; value = ap (λ (x : Frame). inr (at 0 x i)) (b.same f h.page.own); known = h.held };
+  }
+
   written_same : (m k : Mem) (f i v g : ℕ) → frame_at m f ≡ frame_at k f → frame_at m g ≡ frame_at k g → frame_at (written m f i v) g ≡ frame_at (written k f i v) g
   unfolding frame_at written
   written_same m k f i v g e h =
       rw (at-put empty m f g (put (at empty m f) i v), at-put empty k f g (put (at empty k f) i v)) (ap₂ (λ (x y : Frame). cond (eqb g f) (put x i v) y) e h)
 
-  written_tables : (m : Mem) (f i v : ℕ) → IsPage p o m f → SameTables m (written m f i v) (root_of p o)
-  written_tables m f i v page = same_beside m (written m f i v) (root_of p o) f page.apart (λ g j other. word-written_frame m f i v g j other)
-
+  -- a store into a page changes no fact
   write_page : (f i v : ℕ) → Near (Page f) Any (write f i v)
   unfolding write
   write_page f i v = record {
-    runs = λ s k b page. record {
+    runs = λ s k b h. record {
       notes = refl;
       may = tt;
       state = record {
-        good = good_same p o s.mem (written s.mem f i v) b.good (written_tables s.mem f i v page);
-        same = λ g h. written_same s.mem k.mem f i v g (b.same f page.own) (b.same g h);
-        outside = λ g h. frame_at-written_other s.mem f i v g (λ e. true≢false (sym page.own ∙ ap (own_frame p o) (sym e) ∙ h)) ∙ b.outside g h;
+        same = λ g own. written_same s.mem k.mem f i v g (b.same f h.page.own) (b.same g own);
+        outside = λ g out. frame_at-written_other s.mem f i v g (λ e. true≢false (sym h.page.own ∙ ap (own_frame p o) (sym e) ∙ out)) ∙ b.outside g out;
       };
       value = refl;
-      known = tt;
+      known = stored (estate p o) d s.mem h.held f i v h.page.frame;
     };
   }
 
-  unless_still : (H : Storage → Type 0) (trap : Option Trap) (d : Dom) → Near H (Still H) (unless trap d)
-  unfolding unless
-  unless_still H None d = give_still H tt
-  unless_still H (Some trap) d = stop_still H (trapped trap d)
+  unless_still : (trap : Option Trap) → Near Held (Still Held) (unless trap d)
+  unfolding unless trapped stopped
+  unless_still None = record { runs = (give_any tt).runs }
+  unless_still (Some trap) = stop_at (Still Held) Held (trapped trap d) refl (λ s h. h)
 
-ruleset near_rules = (bind_page, bind_still, bind_any, then_still, then_any, give_any, stop_any, translate_near, fetch_page, load_page, store_page, read_page, write_page, unless_still)
+  -- a kernel call does the same work in the domain's own frames, and keeps the facts
+  call_near : IsKernel p o → Near Held Ends (make_call (estate p o) (layout p o) d)
+  unfolding make_call
+  call_near kernel = record {
+    runs = λ s k b h.
+        let e = estate p o in
+        let c = calls_are_confined e d s.mem k.mem h (λ f mine. b.same f (mine_own p o f mine)) in
+        record {
+          notes = ap (call_touches (layout p o) (register d.threads.current.regs 17)) c.notes;
+          may = call_may p o kernel (register d.threads.current.regs 17) (call e d s.mem).notes c.work;
+          state = record {
+            same = λ f own. c.same f (own_mine p o f own);
+            outside = λ f out. c.outside f (not_mine p o f out) ∙ b.outside f out;
+          };
+          value = ap (λ (v : Dom ⊎ Dom). inr (either v)) c.value;
+          known = calls_keep e d s.mem kernel.has_estate h;
+        };
+  }
 
--- whatever is known at first
-module _ (p : Hardware) (o : Own) (first : Storage) (H : Storage → Type 0) where
-  load_near : (d : Dom) (width : LoadWidth) (va : ℕ) → Near p o first H (Any p o first) (load p (root_of p o) d width va)
+ruleset near_rules = (bind_page, bind_still, bind_any, then_still, then_any, give_any, stop_stopped, translate_near, fetch_page, load_page, store_page, read_page, read_last, write_page, unless_still)
+
+module _ (p : Hardware) (o : Own) (d : Dom) (first : Storage) where
+  load_near : (width : LoadWidth) (va : ℕ) → Near p o d first (Held p o d first) (Any p o d first) (load p (estate p o).root d width va)
   unfolding load
-  load_near d width va = search near_rules depth 40
+  load_near width va = search near_rules depth 40
 
-  store_near : (d : Dom) (s : Option StoreMade) → Near p o first H (Any p o first) (store p (root_of p o) d s)
+  store_near : (s : Option StoreMade) → Near p o d first (Held p o d first) (Any p o d first) (store p (estate p o).root d s)
   unfolding store
-  store_near d None = search near_rules depth 40
-  store_near d (Some s) = search near_rules depth 40
+  store_near None = search near_rules depth 40
+  store_near (Some s) = search near_rules depth 40
 
-  loaded_near : (t : ℕ) (d : Dom) (i : Instr) → Near p o first H (Any p o first) (loaded p (root_of p o) t d i)
+  loaded_near : (t : ℕ) (i : Instr) → Near p o d first (Held p o d first) (Any p o d first) (loaded p (estate p o).root t d i)
   unfolding loaded
-  loaded_near t d (instr.Load width rd rs1 offset) = load_near d width _
-  loaded_near t d (instr.ReadCounter counter rd) = search near_rules depth 40
-  loaded_near t d _ = search near_rules depth 40
+  loaded_near t (instr.Load width rd rs1 offset) = load_near width _
+  loaded_near t (instr.ReadCounter counter rd) = search near_rules depth 40
+  loaded_near t _ = search near_rules depth 40
 
-module _ (p : Hardware) (o : Own) (first : Storage) (H : Storage → Type 0) where
-  settle_near : (d : Dom) (i : Instr) (value : ℕ) (out : Outcome) → Near p o first H (Any p o first) (settle p (root_of p o) d i value out)
+  -- an instruction leaves the capabilities
+  noted_caps : (i : Instr) (value : ℕ) → (noted i value d).caps ≡ d.caps
+  unfolding noted read_out
+  noted_caps (instr.ReadCounter counter rd) value = refl
+  noted_caps _ value = refl
+
+  retired_caps : (next : ℕ) (regs : List ℕ) (i : Instr) (value : ℕ) → (retired_at next regs (noted i value d)).caps ≡ d.caps
+  unfolding retired_at placed
+  retired_caps next regs i value = noted_caps i value
+
+module _ (p : Hardware) (o : Own) (d : Dom) (first : Storage) where
+  settle_near : (i : Instr) (value : ℕ) (out : Outcome) → Near p o d first (Held p o d first) (Ends p o d first) (settle p (estate p o).root d i value out)
   unfolding settle
-  settle_near d i value out = search (near_rules, store_near) depth 40
+  settle_near i value out =
+      then_still p o d first (Ends p o d first) (Held p o d first) _ _ (unless_still p o d first out.effect.trap)
+      (then_any p o d first (Ends p o d first) (Held p o d first) _ _ (store_near p o d first out.effect.store)
+      (give_ends p o d first _ (retired_caps p o d first out.effect.next out.regs i value)))
 
-module _ (p : Hardware) (o : Own) (first : Storage) (H : Storage → Type 0) where
-  execute_near : (t : ℕ) (d : Dom) (i : Instr) → Near p o first H (Any p o first) (execute p (root_of p o) t d i)
+  execute_near : (t : ℕ) (i : Instr) → Near p o d first (Held p o d first) (Ends p o d first) (execute p (estate p o).root t d i)
   unfolding execute
-  execute_near t d i = search (near_rules, loaded_near, settle_near) depth 40
+  execute_near t i = search (near_rules, loaded_near, settle_near) depth 40
 
-  perform_near : (t : ℕ) (d : Dom) (w : ℕ) (i : Option Instr) → Near p o first H (Any p o first) (perform p (root_of p o) t d w i)
+module _ (p : Hardware) (o : Own) (d : Dom) (first : Storage) (kernel : IsKernel p o) where
+  perform_near : (t : ℕ) (w : ℕ) (i : Option Instr) → Near p o d first (Held p o d first) (Ends p o d first) (perform p (estate p o) (layout p o) t d w i)
   unfolding perform
-  perform_near t d w None = search near_rules depth 40
-  perform_near t d w (Some instr.Ecall) = search near_rules depth 40
-  perform_near t d w (Some i) = execute_near t d i
+  perform_near t w None = stop_stopped p o d first (Ends p o d first) 2 w
+  perform_near t w (Some instr.Ecall) = call_near p o d first kernel
+  perform_near t w (Some i) = execute_near p o d first t i
 
-module _ (p : Hardware) (o : Own) (first : Storage) (H : Storage → Type 0) where
-  pub instruction_near : (t : ℕ) (d : Dom) → Near p o first H (Any p o first) (instruction p (root_of p o) t d)
+  pub instruction_near : (t : ℕ) → Near p o d first (Held p o d first) (Ends p o d first) (instruction p (estate p o) (layout p o) t d)
   unfolding instruction
-  instruction_near t d = search (near_rules, perform_near) depth 40
+  instruction_near t = search (near_rules, perform_near) depth 40

@@ -15,10 +15,12 @@ use Rattle.sv32_walk.specs.Walk.{walk}
 use Rattle.hardware_check.specs.Hardware.{Hardware}
 use Rattle.image_check.specs.Own.{Own}
 use Rattle.image_check.specs.Image.{Image, own_of}
-use Rattle.world_view.specs.Frames.{root_of}
 use Rattle.world_view.specs.Schedule.{entry_of_slot, switch_entry, start, slot_end, last_end, outgoing}
 use Rattle.world_view.specs.Opening.{word_of, page_words}
-use Rattle.world_view.specs.Domain.{Dom, opening_dom, no_dom, is_running}
+use Rattle.call_table.specs.Domain.{Dom, is_running}
+use Rattle.call_table.specs.Claims.{Estate}
+use Rattle.kernel_clone.specs.Footprints.{Layout}
+use Rattle.world_view.specs.Kernel.{opening_dom, estate, layout, no_dom}
 use Rattle.world_view.specs.Cost.{Touch, Caches, touched, and_then, touched_all}
 use Rattle.world_view.specs.Event.{Storage, Act, frame_or_stop, translate, loaded, noted, execute, perform, instruction, event}
 use Rattle.world_view.specs.Machine.{Local, paid, happened, step, stretch, World, dom_of, part_of, with_part, switch, run_slot, whole}
@@ -105,21 +107,21 @@ loaded-other p root t d instr.Fence load other = refl
 loaded-other p root t d instr.Ecall load other = refl
 loaded-other p root t d instr.Ebreak load other = refl
 
-pub perform-other : (p : Hardware) (root : ℕ) (t : ℕ) (d : Dom) (w : ℕ) (i : Instr) → i ≢ instr.Ecall → perform p root t d w (Some i) ≡ execute p root t d i
+pub perform-other : (p : Hardware) (e : Estate) (l : Layout) (t : ℕ) (d : Dom) (w : ℕ) (i : Instr) → i ≢ instr.Ecall → perform p e l t d w (Some i) ≡ execute p e.root t d i
 unfolding perform
-perform-other p root t d w (instr.ReadCounter c rd) other = refl
-perform-other p root t d w (instr.Lui rd imm) other = refl
-perform-other p root t d w (instr.Auipc rd imm) other = refl
-perform-other p root t d w (instr.Jal rd offset) other = refl
-perform-other p root t d w (instr.Jalr rd rs1 offset) other = refl
-perform-other p root t d w (instr.Branch comparison rs1 rs2 offset) other = refl
-perform-other p root t d w (instr.Load width rd rs1 offset) other = refl
-perform-other p root t d w (instr.Store width rs1 rs2 offset) other = refl
-perform-other p root t d w (instr.Immediate operation rd rs1 imm) other = refl
-perform-other p root t d w (instr.Register operation rd rs1 rs2) other = refl
-perform-other p root t d w instr.Fence other = refl
-perform-other p root t d w instr.Ecall other = absurd (other refl)
-perform-other p root t d w instr.Ebreak other = refl
+perform-other p e l t d w (instr.ReadCounter c rd) other = refl
+perform-other p e l t d w (instr.Lui rd imm) other = refl
+perform-other p e l t d w (instr.Auipc rd imm) other = refl
+perform-other p e l t d w (instr.Jal rd offset) other = refl
+perform-other p e l t d w (instr.Jalr rd rs1 offset) other = refl
+perform-other p e l t d w (instr.Branch comparison rs1 rs2 offset) other = refl
+perform-other p e l t d w (instr.Load width rd rs1 offset) other = refl
+perform-other p e l t d w (instr.Store width rs1 rs2 offset) other = refl
+perform-other p e l t d w (instr.Immediate operation rd rs1 imm) other = refl
+perform-other p e l t d w (instr.Register operation rd rs1 rs2) other = refl
+perform-other p e l t d w instr.Fence other = refl
+perform-other p e l t d w instr.Ecall other = absurd (other refl)
+perform-other p e l t d w instr.Ebreak other = refl
 
 -- touches are free
 touches_free : (p : Hardware) (pinned : Bool) (c : Caches) (ts : List Touch) → touched_all p pinned c ts ≡ record { cost = 0; caches = c }
@@ -129,9 +131,9 @@ touches_free p pinned c (t ∷ ts) = let rest = touches_free p pinned c ts in rw
 
 module _ (p : Hardware) (o : Own) (end : ℕ) (s : Local) where
   pub step-running : is_running s.dom.status ≡ true
-      → step p o false end s ≡ record s { dom = either (instruction p (root_of p o) s.clock s.dom s.storage).value; storage = (instruction p (root_of p o) s.clock s.dom s.storage).state; clock = s.clock + p.base }
+      → step p o false end s ≡ record s { dom = either (instruction p (estate p o) (layout p o) s.clock s.dom s.storage).value; storage = (instruction p (estate p o) (layout p o) s.clock s.dom s.storage).state; clock = s.clock + p.base }
   unfolding step event happened paid
-  step-running runs = rw (runs, touches_free p false s.caches (instruction p (root_of p o) s.clock s.dom s.storage).notes, add-zero p.base)
+  step-running runs = rw (runs, touches_free p false s.caches (instruction p (estate p o) (layout p o) s.clock s.dom s.storage).notes, add-zero p.base)
 
   pub step-still : is_running s.dom.status ≡ false → step p o false end s ≡ record s { clock = end }
   unfolding step event happened
@@ -191,7 +193,7 @@ whole-suc i k = refl
 
 -- ---- the opening
 
-pub whole_first-dom : (i : Image) (d : ℕ) → Separated i → IsDomain i d → dom_of (whole i 0) d ≡ opening_dom (own_of i d)
+pub whole_first-dom : (i : Image) (d : ℕ) → Separated i → IsDomain i d → dom_of (whole i 0) d ≡ opening_dom i.all.hardware (own_of i d)
 unfolding whole
 whole_first-dom i d r is = opening_dom_is i r d is
 

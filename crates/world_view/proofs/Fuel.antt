@@ -2,7 +2,7 @@
 use Rattle.std.proofs.Common.{◌≡◌, ℕ, Bool, true, false, cond, ltb, zero, suc, ◌-◌, ◌<◌, ◌≤◌, sym, ◌∙◌, refl, arith, ltb-true, lt-ltb, le-ltb}
 use Rattle.hardware_check.specs.Hardware.{Hardware}
 use Rattle.image_check.specs.Own.{Own}
-use Rattle.world_view.specs.Domain.{is_running}
+use Rattle.call_table.specs.Domain.{is_running}
 use Rattle.world_view.specs.Event.{event}
 use Rattle.world_view.specs.Event.Event.{Jump, Run}
 use Rattle.world_view.specs.Machine.{Local, paid, happened, step, steps, stretch}

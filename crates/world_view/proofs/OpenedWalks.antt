@@ -21,14 +21,16 @@ use Rattle.image_check.specs.Image.{Image, own_of}
 use Rattle.image_check.specs.Pages.{has_region, frames_in}
 use Rattle.world_view.specs.Frames.{pool, root_of, table_frame, page_frame}
 use Rattle.world_view.specs.Opening.{root_entry, rights_in, rights_number, leaf_with, leaf_entry, placed}
+use Rattle.world_view.specs.Kernel.{opening_dom, estate}
 use Rattle.world_view.specs.Machine.{opening, whole, alone_opening}
 use Rattle.world_view.specs.Relations.{IsDomain}
 use Rattle.world_view.specs.Laws.{opening_walk}
 use Rattle.world_view.proofs.Counts.{rights_there, rights_region, rights_are_good}
 use Rattle.world_view.proofs.PoolLaws.{own_inside}
 use Rattle.world_view.proofs.Separate.{Separated}
-use Rattle.world_view.proofs.TableLaws.{walk_alike}
-use Rattle.world_view.proofs.OpeningLaws.{own_root, own_table, own_page, pages_once, root_words, table_words, root_is, good_placed, opening_frames}
+use Rattle.world_view.proofs.TableLaws.{IsPage, walkable, walk_alike}
+use Rattle.world_view.proofs.OpeningFacts.{placed_facts}
+use Rattle.world_view.proofs.OpeningLaws.{own_root, own_table, own_page, pages_once, root_words, table_words, root_is, opening_frames}
 
 -- the indices of an address are those of its page
 page_place : (va : ℕ) → va < 2 ^ 32 → 1024 * vpn_1 va + vpn_0 va ≡ va / 4096
@@ -124,9 +126,11 @@ module _ (i : Image) (r : Separated i) (d : ℕ) (is : IsDomain i d) (va : ℕ) 
   own = own_of i d
 
   own_walk : opening_walk i d va a ≡ (walk (placed hardware own empty) hardware.frames (root_of hardware own) va a).result
-  unfolding whole alone_opening
+  unfolding whole alone_opening estate
   own_walk =
-      ap (λ (w : Walk). w.result) (walk_alike hardware own (placed hardware own empty) (good_placed hardware own (r.enough d is) empty (r.sound d)) va a (opening i).storage.mem (λ f mine. sym (opening_frames i r d is f mine)))
+      let dom = opening_dom hardware own in
+      let m = placed hardware own empty in
+      ap (λ (w : Walk). w.result) (walk_alike hardware own (estate hardware own).root (IsPage hardware own dom m) m (walkable hardware own dom m (placed_facts hardware own (r.enough d is) (r.sound d) empty)) va a (opening i).storage.mem (λ f mine. sym (opening_frames i r d is f mine)))
 
   pub opened_page : (q : Rights) → va < 2 ^ 32 → rights_in own.segments (va / 4096) ≡ Some q → rights_permit (rights_number q) a ≡ true
       → opening_walk i d va a ≡ Ok (leaf_word (page_frame hardware own (va / 4096)) (rights_number q))

@@ -1,30 +1,23 @@
 -- The whole machine at first, as each domain sees it.
-use Rattle.std.proofs.Common.{◌≡◌, ◌≢◌, ℕ, false, true, Bool, cond, zero, suc, ◌+◌, ◌*◌, ◌<◌, ◌≤◌, List, [], ◌∷◌, get_or, length, take, drop, Option, Some, None, ◌⊎◌, inl, inr, ap, sym, ◌∙◌, refl, subst, arith, add-zero, true≢false}
+use Rattle.std.proofs.Common.{◌≡◌, ◌≢◌, ℕ, false, true, zero, suc, ◌+◌, ◌*◌, ◌<◌, ◌≤◌, List, [], ◌∷◌, get_or, length, take, drop, ◌⊎◌, inl, inr, ap, sym, ◌∙◌, refl, subst, arith, add-zero, true≢false}
 use Rattle.std.proofs.lemmas.Bool.{cases_Bool, cases_eq, le-leb, lt-ltb}
 use Rattle.std.proofs.Math.Bool.{or-true}
 use Rattle.tp_base.specs.Table.{empty, at, put, at-empty, at-put_other, at-put_same}
 use Rattle.phys_mem.specs.Mem.{Mem, Frame, frame_at, word}
-use Rattle.sv32_walk.specs.PageTableEntry.{valid, ppn}
-use Rattle.sv32_walk.specs.PageTableEntry.{table_word, leaf_word, leaf_bits}
-use Rattle.page_map.specs.Tables.{IsPageMap, TablesOnce}
-use Rattle.page_map.specs.Reached.{leaf_at, PagesIn, IsApart}
-use Rattle.sv32_walk.specs.PageTableEntry.{is_leaf}
-use Rattle.sv32_walk.proofs.WordLemmas.{valid-zero, ppn-table, leaf-good}
-use Rattle.image_check.specs.Laws.{IsOwn}
-use Rattle.image_check.specs.declared.own.Rights.{Rights}
+use Rattle.sv32_walk.specs.PageTableEntry.{valid, table_word}
+use Rattle.sv32_walk.proofs.WordLemmas.{valid-zero}
 use Rattle.hardware_check.specs.Hardware.{Hardware}
 use Rattle.image_check.specs.Own.{Segment, Own, no_own}
 use Rattle.image_check.specs.Image.{Image, own_of}
 use Rattle.image_check.specs.Pages.{has_page, has_region, regions_below, regions_in, pages_below, frames_in}
 use Rattle.world_view.specs.Frames.{pool, pool_frame, root_of, table_frame, page_frame, own_frame}
-use Rattle.world_view.specs.Opening.{put_word, tabled, root_entry, rights_in, rights_number, leaf_with, leaf_entry, root_placed, table_placed, tables_placed, page_words, pages_placed, segments_placed, placed, all_placed}
-use Rattle.world_view.specs.Domain.{opening_dom, no_dom}
+use Rattle.world_view.specs.Opening.{put_word, tabled, root_entry, leaf_entry, root_placed, table_placed, tables_placed, page_words, pages_placed, segments_placed, placed, all_placed}
+use Rattle.world_view.specs.Kernel.{opening_dom, no_dom}
 use Rattle.world_view.specs.Machine.{opening_doms, opening, alone_opening}
-use Rattle.world_view.specs.Relations.{IsDomain, IsOwnFrame, SameFrames, Good}
-use Rattle.world_view.proofs.Counts.{region_before, region_once, is_page, pages_low, page_once, rights_there, rights_are_good}
-use Rattle.world_view.proofs.PoolLaws.{pool_own, pool_inside, pool_once, own_inside}
+use Rattle.world_view.specs.Relations.{IsDomain, IsOwnFrame, SameFrames}
+use Rattle.world_view.proofs.Counts.{region_before, region_once, is_page, pages_low, page_once}
+use Rattle.world_view.proofs.PoolLaws.{pool_own, pool_once}
 use Rattle.world_view.proofs.Separate.{Separated}
-use Rattle.world_view.proofs.TableLaws.{good_same, tables_of_frames}
 
 -- ---- the values of a function
 
@@ -137,16 +130,16 @@ module _ (p : Hardware) (o : Own) (f : ℕ) where
 -- ---- where tables and pages stand
 
 module _ (p : Hardware) (o : Own) (enough : frames_in o.segments ≤ length (pool p o)) where
-  root_place : 4 < length (pool p o)
+  pub root_place : 4 < length (pool p o)
   root_place = omega (arith, enough)
 
-  table_place : (r : ℕ) → r < 1024 → has_region o.segments r ≡ true → 5 + regions_below o.segments r < 5 + regions_in o.segments
+  pub table_place : (r : ℕ) → r < 1024 → has_region o.segments r ≡ true → 5 + regions_below o.segments r < 5 + regions_in o.segments
   table_place r below some = let before = region_before o.segments r 1024 some below in omega (arith, before)
 
-  page_place : (n : ℕ) → is_page o.segments n ≡ true → 5 + regions_in o.segments + pages_below o.segments n < length (pool p o)
+  pub page_place : (n : ℕ) → is_page o.segments n ≡ true → 5 + regions_in o.segments + pages_below o.segments n < length (pool p o)
   page_place n there = let low = pages_low o.segments n there in omega (arith, low, enough)
 
-  table_in : (r : ℕ) → r < 1024 → has_region o.segments r ≡ true → 5 + regions_below o.segments r < length (pool p o)
+  pub table_in : (r : ℕ) → r < 1024 → has_region o.segments r ≡ true → 5 + regions_below o.segments r < length (pool p o)
   table_in r below some = let place = table_place r below some in omega (arith, place, enough)
 
   pub own_root : IsOwnFrame p o (root_of p o)
@@ -239,25 +232,31 @@ module _ (p : Hardware) (o : Own) (enough : frames_in o.segments ≤ length (poo
 
   -- ---- the words of the page tables
 
-  pub root_words : (m : Mem) (i : ℕ) → i < 1024 → word (placed p o m) (root_of p o) i ≡ root_entry p o i
-  unfolding placed root_placed word
-  root_words m i below =
-      ap (λ (x : Frame). at 0 x i) (
+  pub root_whole : (m : Mem) → frame_at (placed p o m) (root_of p o) ≡ tabled (root_entry p o) 1024
+  unfolding placed root_placed
+  root_whole m =
       segments_other p o (root_of p o) o.segments _ (λ q there e. page_no_root q there (sym e))
       ∙ tables_other p o (root_of p o) 1024 _ (omega arith) (λ q h some e. table_no_root q h some (sym e))
-      ∙ put_frame_same m (root_of p o) (root_of p o) _ refl)
-      ∙ at-tabled (root_entry p o) 1024 i below
+      ∙ put_frame_same m (root_of p o) (root_of p o) _ refl
+
+  pub table_whole : (m : Mem) (r : ℕ) → r < 1024 → has_region o.segments r ≡ true
+      → frame_at (placed p o m) (table_frame p o r) ≡ tabled (λ i. leaf_entry p o (1024 * r + i)) 1024
+  unfolding placed
+  table_whole m r below some =
+      segments_other p o (table_frame p o r) o.segments _ (λ q there e. page_no_table q r there below some (sym e))
+      ∙ table_at r below some 1024 _ below (omega arith)
+
+  pub root_words : (m : Mem) (i : ℕ) → i < 1024 → word (placed p o m) (root_of p o) i ≡ root_entry p o i
+  unfolding word
+  root_words m i below = ap (λ (x : Frame). at 0 x i) (root_whole m) ∙ at-tabled (root_entry p o) 1024 i below
 
   pub table_words : (m : Mem) (r j : ℕ) → r < 1024 → j < 1024 → has_region o.segments r ≡ true → word (placed p o m) (table_frame p o r) j ≡ leaf_entry p o (1024 * r + j)
-  unfolding placed word
+  unfolding word
   table_words m r j below j_below some =
-      ap (λ (x : Frame). at 0 x j) (
-      segments_other p o (table_frame p o r) o.segments _ (λ q there e. page_no_table q r there below some (sym e))
-      ∙ table_at r below some 1024 _ below (omega arith))
-      ∙ at-tabled (λ i. leaf_entry p o (1024 * r + i)) 1024 j j_below
+      ap (λ (x : Frame). at 0 x j) (table_whole m r below some) ∙ at-tabled (λ i. leaf_entry p o (1024 * r + i)) 1024 j j_below
 
   -- a valid entry of the root is that of a region that has a page
-  root_some : (r : ℕ) → valid (root_entry p o r) ≡ true → has_region o.segments r ≡ true
+  pub root_some : (r : ℕ) → valid (root_entry p o r) ≡ true → has_region o.segments r ≡ true
   unfolding root_entry
   root_some r is_valid =
       elim (cases_Bool (has_region o.segments r)) [
@@ -268,112 +267,6 @@ module _ (p : Hardware) (o : Own) (enough : frames_in o.segments ≤ length (poo
   pub root_is : (r : ℕ) → has_region o.segments r ≡ true → root_entry p o r ≡ table_word (table_frame p o r)
   unfolding root_entry
   root_is r some = rw some refl
-
-  leaf_frame : (frame rights : ℕ) → rights < 8 → ppn (leaf_word frame rights) ≡ frame
-  unfolding ppn leaf_word leaf_bits
-  leaf_frame frame rights few = omega (arith, few)
-
-  few_rights : (r w x : Bool) → cond r 1 0 + cond w 2 0 + cond x 4 0 < 8
-  few_rights true true true = omega arith
-  few_rights true true false = omega arith
-  few_rights true false true = omega arith
-  few_rights true false false = omega arith
-  few_rights false true true = omega arith
-  few_rights false true false = omega arith
-  few_rights false false true = omega arith
-  few_rights false false false = omega arith
-
-  -- what is so of each page's frame is so of each frame that a leaf names
-  leaf_names : (P : ℕ → Type 0) → ((n : ℕ) → is_page o.segments n ≡ true → P (page_frame p o n)) → (n : ℕ) (v : Option Rights) → rights_in o.segments n ≡ v
-      → valid (leaf_with p o n v) ≡ true → P (ppn (leaf_with p o n v))
-  unfolding leaf_with
-  leaf_names P is n None e is_valid = absurd (true≢false (sym is_valid ∙ valid-zero))
-  leaf_names P is n (Some r) e is_valid =
-      subst P (sym (leaf_frame (page_frame p o n) (rights_number r) (few_rights r.read r.write r.execute))) (is n (rights_there o.segments n r e))
-
-  -- an entry that is valid is a leaf
-  leaf_is : (n : ℕ) (v : Option Rights) → IsOwn o → rights_in o.segments n ≡ v → valid (leaf_with p o n v) ≡ true → is_leaf (leaf_with p o n v) ≡ true
-  unfolding leaf_with
-  leaf_is n None sound e is_valid = absurd (true≢false (sym is_valid ∙ valid-zero))
-  leaf_is n (Some r) sound e is_valid = leaf-good (page_frame p o n) (rights_number r) (rights_are_good o n r sound e)
-
-  entry_is : (n : ℕ) → IsOwn o → valid (leaf_entry p o n) ≡ true → is_leaf (leaf_entry p o n) ≡ true
-  unfolding leaf_entry
-  entry_is n sound is_valid = leaf_is n (rights_in o.segments n) sound refl is_valid
-
-  entry_names : (P : ℕ → Type 0) → ((n : ℕ) → is_page o.segments n ≡ true → P (page_frame p o n)) → (n : ℕ) → valid (leaf_entry p o n) ≡ true → P (ppn (leaf_entry p o n))
-  unfolding leaf_entry
-  entry_names P is n is_valid = leaf_names P is n (rights_in o.segments n) refl is_valid
-
-  -- ---- the domain reaches its own frames alone
-
-  module _ (m : Mem) (sound : IsOwn o) where
-    some_at : (i : ℕ) → i < 1024 → valid (word (placed p o m) (root_of p o) i) ≡ true → has_region o.segments i ≡ true
-    some_at i below is_valid = root_some i (ap valid (sym (root_words m i below)) ∙ is_valid)
-
-    entry_at : (i : ℕ) → i < 1024 → valid (word (placed p o m) (root_of p o) i) ≡ true → word (placed p o m) (root_of p o) i ≡ table_word (table_frame p o i)
-    entry_at i below is_valid = root_words m i below ∙ root_is i (some_at i below is_valid)
-
-    table_is : (i : ℕ) → i < 1024 → valid (word (placed p o m) (root_of p o) i) ≡ true → ppn (word (placed p o m) (root_of p o) i) ≡ table_frame p o i
-    table_is i below is_valid = ap ppn (entry_at i below is_valid) ∙ ppn-table (table_frame p o i)
-
-    placed_map : IsPageMap (placed p o m) (root_of p o) p.frames
-    placed_map = record {
-      in_memory = pool_inside p o 4 root_place;
-      tables = λ i below is_valid.
-          let table = table_is i below is_valid in
-          let some = some_at i below is_valid in
-          record {
-            pointer = entry_at i below is_valid ∙ ap table_word (sym table);
-            in_memory = subst (λ (f : ℕ). f < p.frames) (sym table) (own_inside p o _ (own_table i below some));
-            apart = λ e. table_no_root i below some (sym table ∙ e);
-          };
-    }
-
-    placed_once_each : TablesOnce (placed p o m) (root_of p o)
-    placed_once_each = record {
-      once = λ i j i_below j_below i_valid j_valid e.
-          let same : table_frame p o i ≡ table_frame p o j = sym (table_is i i_below i_valid) ∙ e ∙ table_is j j_below j_valid in
-          tables_once i j i_below j_below (some_at i i_below i_valid) (some_at j j_below j_valid) same;
-    }
-
-    leaf_words : (i j : ℕ) → i < 1024 → j < 1024 → valid (word (placed p o m) (root_of p o) i) ≡ true → leaf_at (placed p o m) (root_of p o) i j ≡ leaf_entry p o (1024 * i + j)
-    leaf_words i j i_below j_below i_valid =
-        ap (λ (f : ℕ). word (placed p o m) f j) (table_is i i_below i_valid) ∙ table_words m i j i_below j_below (some_at i i_below i_valid)
-
-    page_apart : (n : ℕ) → is_page o.segments n ≡ true → IsApart (placed p o m) (root_of p o) (page_frame p o n)
-    page_apart n there = record {
-      no_root = page_no_root n there;
-      no_table = record {
-        unnamed = λ i below is_valid e. page_no_table n i there below (some_at i below is_valid) (sym e ∙ table_is i below is_valid);
-      };
-    }
-
-    pages_are : (P : ℕ → Type 0) → ((n : ℕ) → is_page o.segments n ≡ true → P (page_frame p o n)) → PagesIn P (placed p o m) (root_of p o)
-    pages_are P is = record {
-      each = λ i j i_below j_below i_valid j_valid.
-          let leaf = leaf_words i j i_below j_below i_valid in
-          subst (λ (w : ℕ). P (ppn w)) (sym leaf) (entry_names P is (1024 * i + j) (ap valid (sym leaf) ∙ j_valid));
-    }
-
-    pub good_placed : Good p o (placed p o m)
-    good_placed = record {
-      map = placed_map;
-      once = placed_once_each;
-      root = own_root;
-      reaches = record {
-        tables = record {
-          each = λ i below is_valid. subst (IsOwnFrame p o) (sym (table_is i below is_valid)) (own_table i below (some_at i below is_valid));
-        };
-        pages = pages_are (IsOwnFrame p o) own_page;
-      };
-      sealed = pages_are (IsApart (placed p o m) (root_of p o)) page_apart;
-      leaves = record {
-        each = λ i j i_below j_below i_valid j_valid.
-            let leaf = leaf_words i j i_below j_below i_valid in
-            subst (λ (w : ℕ). is_leaf w ≡ true) (sym leaf) (entry_is (1024 * i + j) sound (ap valid (sym leaf) ∙ j_valid));
-      };
-    }
 
 -- ---- all domains
 
@@ -403,30 +296,21 @@ placed_once p (o ∷ os) (suc d) f lt leaves apart =
     leaves 0 (omega arith) (all_placed p os) f (apart 0 (omega arith) (λ z. cc))
     ∙ placed_once p os d f (omega arith) (λ e h. leaves (suc e) (omega (arith, h))) (λ e l ne. apart (suc e) (omega (arith, l)) (λ q. ne (omega arith)))
 
-doms_at : (os : List Own) (b j : ℕ) → j < length os → at no_dom (opening_doms os b) (b + j) ≡ opening_dom (get_or os j no_own)
+doms_at : (p : Hardware) (os : List Own) (b j : ℕ) → j < length os → at no_dom (opening_doms p os b) (b + j) ≡ opening_dom p (get_or os j no_own)
 unfolding opening_doms
-doms_at [] b j h = absurd (omega arith)
-doms_at (o ∷ os) b zero h = rw add-zero (at-put_same no_dom (opening_doms os (suc b)) b (opening_dom o))
-doms_at (o ∷ os) b (suc j) h =
-    at-put_other no_dom (opening_doms os (suc b)) b (b + suc j) (opening_dom o) (omega arith)
-    ∙ ap (at no_dom (opening_doms os (suc b))) (omega arith) ∙ doms_at os (suc b) j (omega arith)
+doms_at p [] b j h = absurd (omega arith)
+doms_at p (o ∷ os) b zero h = rw add-zero (at-put_same no_dom (opening_doms p os (suc b)) b (opening_dom p o))
+doms_at p (o ∷ os) b (suc j) h =
+    at-put_other no_dom (opening_doms p os (suc b)) b (b + suc j) (opening_dom p o) (omega arith)
+    ∙ ap (at no_dom (opening_doms p os (suc b))) (omega arith) ∙ doms_at p os (suc b) j (omega arith)
 
 module _ (i : Image) (r : Separated i) where
-  pub opening_dom_is : (d : ℕ) → IsDomain i d → at no_dom (opening i).doms d ≡ opening_dom (own_of i d)
+  pub opening_dom_is : (d : ℕ) → IsDomain i d → at no_dom (opening i).doms d ≡ opening_dom i.all.hardware (own_of i d)
   unfolding opening
-  opening_dom_is d is = ap (at no_dom (opening_doms i.owns 0)) (omega arith) ∙ doms_at i.owns 0 d is
+  opening_dom_is d is = ap (at no_dom (opening_doms i.all.hardware i.owns 0)) (omega arith) ∙ doms_at i.all.hardware i.owns 0 d is
 
   pub opening_frames : (d : ℕ) → IsDomain i d → SameFrames i.all.hardware (own_of i d) (opening i).storage.mem (alone_opening i.all.hardware (own_of i d)).storage.mem
   unfolding opening alone_opening
   opening_frames d is f own =
       let p = i.all.hardware in
       placed_once p i.owns d f is (λ e ie. placed_other p (own_of i e) (r.enough e ie)) (λ e ie ne. r.apart e d ie is ne f own)
-
-  -- each domain reaches its own frames alone
-  pub opening_good : (d : ℕ) → IsDomain i d → Good i.all.hardware (own_of i d) (opening i).storage.mem
-  unfolding opening alone_opening
-  opening_good d is =
-      let p = i.all.hardware in
-      let o = own_of i d in
-      let good = good_placed p o (r.enough d is) empty (r.sound d) in
-      good_same p o (placed p o empty) (all_placed p i.owns) good (tables_of_frames p o (placed p o empty) (all_placed p i.owns) good (opening_frames d is))

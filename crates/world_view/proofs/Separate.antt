@@ -4,7 +4,7 @@ use Rattle.std.proofs.lemmas.Bool.{and_parts}
 use Rattle.std.proofs.lemmas.List.{get_or-map}
 use Rattle.std.proofs.Math.Bool.{and-false}
 use Rattle.frame_colours.specs.Colours.{has, list_at}
-use Rattle.hardware_check.specs.Hardware.{Hardware, colours_of}
+use Rattle.hardware_check.specs.Hardware.{Hardware, IsHardware, colours_of}
 use Rattle.image_check.specs.Own.{Own, no_own}
 use Rattle.image_check.specs.Pages.{frames_in}
 use Rattle.image_check.specs.Laws.{IsOwn, Runnable}
@@ -25,6 +25,7 @@ pub record Separated (i : Image) : Type 0 where
   pub sound : (d : ℕ) → IsOwn (own_of i d)
   pub apart : (d e : ℕ) → IsDomain i d → IsDomain i e → d ≢ e → Apart i.all.hardware (own_of i d) (own_of i e)
   pub padded : (k : ℕ) → bound i.all.hardware ≤ pad_of i.all.schedule k
+  pub hardware : IsHardware i.all.hardware
 
 module _ (i : Image) (r : Runnable i) where
   -- the colours of a domain, among those of all
@@ -49,4 +50,5 @@ module _ (i : Image) (r : Runnable i) where
     sound = r.sound;
     apart = separate;
     padded = λ k. let base = r.base in omega (arith, base);
+    hardware = r.hardware;
   }

@@ -4,13 +4,14 @@ use Rattle.tp_base.specs.Table.{at-put_other}
 use Rattle.image_check.specs.Own.{Own}
 use Rattle.image_check.specs.Image.{Image, own_of}
 use Rattle.world_view.specs.Schedule.{entry_of_slot, outgoing}
-use Rattle.world_view.specs.Domain.{no_dom}
+use Rattle.world_view.specs.Kernel.{no_dom}
 use Rattle.world_view.specs.Cost.{Caches, fresh_core, and_then}
-use Rattle.world_view.specs.Machine.{Local, World, step, enter_touches, leave_part, prefetch_part, flush_part, enter_part, switch_work, part_of, with_part, switch, alone_enter, alone_out}
+use Rattle.world_view.specs.Machine.{Local, World, step, enter_touches, leave_part, prefetch_part, flush_part, enter_part, switch_work, dom_of, part_of, with_part, switch, alone_enter, alone_out}
 use Rattle.world_view.specs.Laws.{event_of}
-use Rattle.world_view.specs.Relations.{IsDomain, SameFrames, Good, BesideStorage, BesideTouched, Within, Apiece, Untouched, InTime, MayAll}
+use Rattle.world_view.specs.Relations.{IsDomain, SameFrames, HasFacts, BesideStorage, BesideTouched, Within, Apiece, Untouched, InTime, MayAll}
 use Rattle.world_view.proofs.Separate.{Separated}
 use Rattle.world_view.proofs.CostLaws.{touched_all_near}
+use Rattle.world_view.proofs.OpeningFacts.{kernel_of}
 use Rattle.world_view.proofs.StepLaws.{step_near, beside_itself}
 use Rattle.world_view.proofs.TimeLaws.{switch_on_time}
 
@@ -19,14 +20,14 @@ pub others_frames : (i : Image) (d e : ℕ) → Separated i → IsDomain i d →
     → BesideStorage i.all.hardware (own_of i e) s.storage later.storage a.storage → SameFrames i.all.hardware (own_of i d) later.storage.mem s.storage.mem
 others_frames i d e r is ie ne later s a b f own = b.outside f (r.apart e d ie is (λ q. ne (sym q)) f own)
 
-pub others_step : (i : Image) (d e end : ℕ) (w : World) → Separated i → IsDomain i d → IsDomain i e → d ≢ e → Good i.all.hardware (own_of i e) w.storage.mem
+pub others_step : (i : Image) (d e end : ℕ) (w : World) → Separated i → IsDomain i d → IsDomain i e → d ≢ e → HasFacts i.all.hardware (own_of i e) (dom_of w e) w.storage
     → Untouched i.all.hardware (own_of i d) d (event_of i e end w) w
 unfolding event_of with_part
-others_step i d e end w r is ie ne good =
+others_step i d e end w r is ie ne facts =
     let p = i.all.hardware in
     let o = own_of i e in
     let s = part_of e w in
-    let b = step_near p o end s s s (beside_itself p o s good) in
+    let b = step_near p o end s s s (beside_itself p o s (kernel_of i r e ie) facts) in
     record {
       dom = at-put_other no_dom w.doms e d _ ne;
       frames = others_frames i d e r is ie ne (step p o false end s) s (step p o true end s) b.storage;

@@ -6,7 +6,7 @@ use Rattle.image_check.specs.Public.{Entry, entry_in}
 use Rattle.image_check.specs.Own.{Own}
 use Rattle.image_check.specs.Image.{Image, own_of}
 use Rattle.world_view.specs.Schedule.{entry_of_slot, pad_of, start, slot_end, last_end, outgoing}
-use Rattle.world_view.specs.Domain.{is_running}
+use Rattle.call_table.specs.Domain.{is_running}
 use Rattle.world_view.specs.Cost.{Caches, and_then}
 use Rattle.world_view.specs.Event.{event}
 use Rattle.world_view.specs.Event.Event.{Jump, Run}

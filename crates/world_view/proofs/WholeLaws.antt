@@ -1,7 +1,7 @@
 -- The whole machine beside each domain alone, slot after slot.
 use Rattle.std.proofs.Common.{◌≡◌, ◌≢◌, ℕ, Bool, true, false, eqb, zero, suc, ◌-◌, ◌<◌, length, get_or, List, [], ◌∷◌, ap, ap₂, sym, ◌∙◌, refl, subst, arith, true≢false, ◌⊎◌, inl, inr, eqb-true, eq-eqb, map}
 use Rattle.std.proofs.lemmas.Bool.{cases_eq}
-use Rattle.tp_base.specs.Table.{at-put_other, at-put_same}
+use Rattle.tp_base.specs.Table.{at, put, at-put_other, at-put_same}
 use Rattle.hardware_check.specs.Hardware.{Hardware}
 use Rattle.image_check.specs.Public.{Public}
 use Rattle.image_check.specs.Own.{Own}
@@ -10,18 +10,24 @@ use Rattle.world_view.specs.Frames.{pool}
 use Rattle.world_view.specs.Schedule.{entry_of_slot, slot_end}
 use Rattle.phys_mem.specs.Mem.{frame_at}
 use Rattle.world_view.specs.Opening.{frame_words}
-use Rattle.world_view.specs.Domain.{Dom, no_dom}
+use Rattle.thread_set.specs.Threads.{all_of}
+use Rattle.call_table.specs.Domain.{Dom}
+use Rattle.call_table.specs.Claims.{is_mine, claims}
+use Rattle.kernel_call.specs.Logs.{log_of}
+use Rattle.world_view.specs.Kernel.{estate, opening_dom, no_dom}
 use Rattle.world_view.specs.Event.{Storage}
 use Rattle.world_view.specs.Machine.{Local, steps, stretch, dom_of, part_of, with_part, switch, run_slot, opening, whole, alone_opening, alone_enter, alone_in, alone_out, alone_if, alone}
-use Rattle.world_view.specs.View.{log_of, view, view_whole, view_alone}
-use Rattle.world_view.specs.Relations.{IsDomain, SameFrames, Good, Beside, Within, Apiece, Agree}
-use Rattle.world_view.specs.Laws.{local_in}
+use Rattle.world_view.specs.View.{view, view_whole, view_alone}
+use Rattle.world_view.specs.Relations.{IsDomain, SameFrames, IsKernel, HasFacts, Beside, Within, Apiece, Agree}
+use Rattle.world_view.specs.Laws.{world_in}
 use Rattle.world_view.proofs.PoolLaws.{own_at_place}
 use Rattle.world_view.proofs.Separate.{Separated}
-use Rattle.world_view.proofs.TableLaws.{good_same, tables_of_frames}
+use Rattle.world_view.proofs.TableLaws.{mine_own}
+use Rattle.world_view.proofs.FactsSame.{facts_same}
+use Rattle.world_view.proofs.OpeningFacts.{kernel_of, opening_facts}
 use Rattle.world_view.proofs.StepLaws.{steps_near, stretch_near, beside_itself}
 use Rattle.world_view.proofs.TimeLaws.{in_time}
-use Rattle.world_view.proofs.OpeningLaws.{opening_dom_is, opening_frames, opening_good}
+use Rattle.world_view.proofs.OpeningLaws.{opening_dom_is, opening_frames}
 use Rattle.world_view.proofs.SwitchLaws.{others_frames, switch_apiece, switch_out, switch_in, switch_both}
 
 same_or_not : (d e : ℕ) (b : Bool) → eqb d e ≡ b → (d ≡ e) ⊎ (d ≢ e)
@@ -38,57 +44,71 @@ abbrev Joined : Image → ℕ → ℕ → Type 0
 Joined i d zero = Apiece i.all.hardware (own_of i d) (part_of d (whole i 0)) (alone i.all (own_of i d) d 0)
 Joined i d (suc k) = JoinedIf i d k (eqb (entry_of_slot i.all.schedule k).domain d)
 
+-- the facts hold of a domain that is the same, in a memory in which its frames are
+pub facts_with : (p : Hardware) (o : Own) (d e : Dom) (s t : Storage) → e ≡ d → SameFrames p o t.mem s.mem → HasFacts p o d s → HasFacts p o e t
+facts_with p o d e s t is same h =
+    subst (λ (x : Dom). HasFacts p o x t) (sym is)
+    (record {
+      slots = h.slots;
+      facts = facts_same (estate p o).root (is_mine (estate p o)) (claims (estate p o) d.caps) s.mem t.mem h.facts (λ f mine. same f (mine_own p o f mine));
+    })
+
 module _ (i : Image) (r : Separated i) where
-  -- steps of a slot leave the page tables of each domain good: those of the domain that runs, and all others untouched
-  good_in : (k n d : ℕ) → IsDomain i d → ((e : ℕ) → IsDomain i e → Good i.all.hardware (own_of i e) (whole i k).storage.mem)
-      → Good i.all.hardware (own_of i d) (local_in i k n).storage.mem
-  unfolding switch
-  good_in k n d is good =
+  -- steps of a slot keep the facts of each domain: those of the domain that runs, and all others untouched
+  facts_in : (k n d : ℕ) → IsDomain i d → ((e : ℕ) → IsDomain i e → HasFacts i.all.hardware (own_of i e) (dom_of (whole i k) e) (whole i k).storage)
+      → HasFacts i.all.hardware (own_of i d) (dom_of (world_in i k n) d) (world_in i k n).storage
+  unfolding switch with_part
+  facts_in k n d is facts =
       let p = i.all.hardware in
       let end = slot_end i.all.schedule k in
       let e = (entry_of_slot i.all.schedule k).domain in
-      let s = part_of e (switch i k (whole i k)) in
-      let b = steps_near p (own_of i e) end s n s s (beside_itself p (own_of i e) s (good e (r.named k))) in
+      let before = switch i k (whole i k) in
+      let s = part_of e before in
+      let later = steps p (own_of i e) false end n s in
+      let b = steps_near p (own_of i e) end s n s s (beside_itself p (own_of i e) s (kernel_of i r e (r.named k)) (facts e (r.named k))) in
       elim (cases_eq d e) [
-        | inl same ↦ subst (λ (x : ℕ). Good p (own_of i x) (steps p (own_of i e) false end n s).storage.mem) (sym same) b.storage.good
+        | inl same ↦
+            subst (λ (x : ℕ). HasFacts p (own_of i x) (at no_dom (put before.doms e later.dom) x) later.storage) (sym same)
+            (facts_with p (own_of i e) later.dom _ later.storage later.storage (at-put_same no_dom before.doms e later.dom) (λ f own. refl) b.facts)
         | inr apart ↦
-            let m = (whole i k).storage.mem in
-            let later = (steps p (own_of i e) false end n s).storage.mem in
-            good_same p (own_of i d) m later (good d is)
-            (tables_of_frames p (own_of i d) m later (good d is) (λ f own. b.storage.outside f (r.apart e d (r.named k) is (λ q. apart (sym q)) f own)))
+            facts_with p (own_of i d) (dom_of (whole i k) d) _ (whole i k).storage later.storage (at-put_other no_dom before.doms e d later.dom apart)
+            (λ f own. b.storage.outside f (r.apart e d (r.named k) is (λ q. apart (sym q)) f own)) (facts d is)
       ]
 
-  good_after : (k d : ℕ) → IsDomain i d → ((e : ℕ) → IsDomain i e → Good i.all.hardware (own_of i e) (whole i k).storage.mem)
-      → Good i.all.hardware (own_of i d) (whole i (suc k)).storage.mem
-  unfolding whole run_slot with_part
-  good_after k d is good = good_in k (slot_end i.all.schedule k - (switch i k (whole i k)).clock) d is good
+  facts_after : (k d : ℕ) → IsDomain i d → ((e : ℕ) → IsDomain i e → HasFacts i.all.hardware (own_of i e) (dom_of (whole i k) e) (whole i k).storage)
+      → HasFacts i.all.hardware (own_of i d) (dom_of (whole i (suc k)) d) (whole i (suc k)).storage
+  unfolding whole run_slot
+  facts_after k d is facts = facts_in k (slot_end i.all.schedule k - (switch i k (whole i k)).clock) d is facts
 
   -- before and after each slot
-  pub all_good : (k d : ℕ) → IsDomain i d → Good i.all.hardware (own_of i d) (whole i k).storage.mem
+  pub all_facts : (k d : ℕ) → IsDomain i d → HasFacts i.all.hardware (own_of i d) (dom_of (whole i k) d) (whole i k).storage
   unfolding whole
-  all_good zero d is = opening_good i r d is
-  all_good (suc k) d is = good_after k d is (all_good k)
+  all_facts zero d is =
+      facts_with i.all.hardware (own_of i d) (opening_dom i.all.hardware (own_of i d)) _ (opening i).storage (opening i).storage (opening_dom_is i r d is) (λ f own. refl) (opening_facts i r d is)
+  all_facts (suc k) d is = facts_after k d is (all_facts k)
 
   -- and at each of its moments
-  pub always_good : (k n d : ℕ) → IsDomain i d → Good i.all.hardware (own_of i d) (local_in i k n).storage.mem
-  always_good k n d is = good_in k n d is (all_good k)
+  pub always_facts : (k n d : ℕ) → IsDomain i d → HasFacts i.all.hardware (own_of i d) (dom_of (world_in i k n) d) (world_in i k n).storage
+  always_facts k n d is = facts_in k n d is (all_facts k)
 
   -- the domain's own slot: steps from states that are beside
-  slot_within : (p : Hardware) (o : Own) (end : ℕ) (s a : Local) → Good p o s.storage.mem → Within p o s a → Within p o (stretch p o false end s) (stretch p o true end a)
-  slot_within p o end s a good h =
+  slot_within : (p : Hardware) (o : Own) (end : ℕ) (s a : Local) → IsKernel p o → HasFacts p o s.dom s.storage → Within p o s a → Within p o (stretch p o false end s) (stretch p o true end a)
+  slot_within p o end s a kernel facts h =
       let b : Beside p o s s a = record {
+        kernel = kernel;
         dom = h.dom;
-        storage = record { good = good; same = h.frames; outside = λ f x. refl };
+        facts = facts;
+        storage = record { same = h.frames; outside = λ f x. refl };
         caches = record { core = h.core; same = tt; resident = tt };
         clock = h.clock;
       } in
       let n = stretch_near p o end s s a b in
       record { dom = n.dom; frames = n.storage.same; core = n.caches.core; sets = tt; clock = n.clock }
 
-  -- a switch leaves memory as it is
-  begun_good : (k d : ℕ) → IsDomain i d → Good i.all.hardware (own_of i d) (switch i k (whole i k)).storage.mem
+  -- a switch leaves domains and memory as they are
+  begun_facts : (k d : ℕ) → IsDomain i d → HasFacts i.all.hardware (own_of i d) (dom_of (switch i k (whole i k)) d) (switch i k (whole i k)).storage
   unfolding switch
-  begun_good k d is = all_good k d is
+  begun_facts k d is = all_facts k d is
 
   -- slot k is the domain's own
   own_slot : (k d : ℕ) (a : Local) → IsDomain i d → (entry_of_slot i.all.schedule k).domain ≡ d → Within i.all.hardware (own_of i d) (part_of d (switch i k (whole i k))) (alone_enter i.all (own_of i d) k a)
@@ -99,7 +119,7 @@ module _ (i : Image) (r : Separated i) where
       let es = i.all.schedule in
       let begun = switch i k (whole i k) in
       subst (λ (x : ℕ). Within p (own_of i d) (part_of d (with_part x begun (stretch p (own_of i x) false (slot_end es k) (part_of x begun)))) (stretch p (own_of i d) true (slot_end es k) (alone_enter i.all (own_of i d) k a))) (sym is)
-      (let n = slot_within p (own_of i d) (slot_end es k) (part_of d begun) (alone_enter i.all (own_of i d) k a) (begun_good k d within) h in
+      (let n = slot_within p (own_of i d) (slot_end es k) (part_of d begun) (alone_enter i.all (own_of i d) k a) (kernel_of i r d within) (begun_facts k d within) h in
       record {
         dom = at-put_same no_dom begun.doms d _ ∙ n.dom;
         frames = n.frames;
@@ -118,7 +138,7 @@ module _ (i : Image) (r : Separated i) where
       let e = (entry_of_slot es k).domain in
       let begun = switch i k (whole i k) in
       let s = part_of e begun in
-      let n = stretch_near p (own_of i e) (slot_end es k) s s s (beside_itself p (own_of i e) s (begun_good k e (r.named k))) in
+      let n = stretch_near p (own_of i e) (slot_end es k) s s s (beside_itself p (own_of i e) s (kernel_of i r e (r.named k)) (begun_facts k e (r.named k))) in
       record {
         dom = at-put_other no_dom begun.doms e d _ (λ q. ne (sym q)) ∙ h.dom;
         frames = λ f own. others_frames i d e r is (r.named k) (λ q. ne (sym q)) (stretch p (own_of i e) false (slot_end es k) s) s (stretch p (own_of i e) true (slot_end es k) s) n.storage f own ∙ h.frames f own;
@@ -184,7 +204,7 @@ same_view p o d e s t dom frames =
     ap₂ (λ (x : Dom) (y : List (List ℕ)). record {
       status = x.status;
       retired = x.retired;
-      thread = x.thread;
+      threads = all_of x.threads;
       readings = log_of x.readings;
       replies = log_of x.replies;
       printed = x.printed;

@@ -1,5 +1,6 @@
 -- What touches cost, and the caches after them. Costs are in cycles. As yet every touch is free, and nothing is cached.
 use Rattle.std.specs.Prelude.{ℕ, ◌+◌, Bool, List, [], ◌∷◌}
+use Rattle.kernel_clone.specs.Footprints.{LineTouch}
 use Rattle.hardware_check.specs.Hardware.{Hardware}
 
 pub data Touch : Type 0 where
@@ -9,6 +10,8 @@ pub data Touch : Type 0 where
   Fetch : ℕ → Touch  -- an instruction is fetched from this physical address
   Load : ℕ → Touch
   Store : ℕ → Touch
+  Line : LineTouch → Touch  -- the kernel touches a physical line
+  Empty : Touch  -- the translation buffer is emptied
 
 -- what each switch makes fresh
 pub record Core : Type 0 where

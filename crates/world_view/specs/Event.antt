@@ -1,8 +1,8 @@
 -- One event of a domain in its slot: what happens, as a function of the domain, the memory and the clock, with what it touches.
-use Rattle.std.specs.Prelude.{ℕ, ◌+◌, ◌*◌, ◌/◌, ◌%◌, ◌==◌, Bool, true, false, if◌then◌else◌, [], ◌∷◌, Option, Some, None, Result, Ok, Err, ◌⊎◌}
+use Rattle.std.specs.Prelude.{ℕ, ◌+◌, ◌*◌, ◌/◌, ◌%◌, ◌==◌, Bool, true, false, if◌then◌else◌, List, [], ◌∷◌, ◌++◌, map, Option, Some, None, Result, Ok, Err, ◌⊎◌}
 use Rattle.std.proofs.Common.{inl, inr}
 use Rattle.tp_base.specs.Act as act
-use Rattle.tp_base.specs.Act.{◌>>=◌, ◌>>◌, Done, give, stop, note}
+use Rattle.tp_base.specs.Act.{◌>>=◌, ◌>>◌, Done, give, stop, note, either}
 use Rattle.phys_mem.specs.Mem.{Mem, word, written}
 use Rattle.phys_mem.specs.Bytes.{byte_in, half_in, with_byte_in, with_half_in}
 use Rattle.rv_decode.specs.Table.{decode_of}
@@ -20,10 +20,14 @@ use Rattle.sv32_walk.specs.declared.access.WalkFault.TheVariants as fault
 use Rattle.sv32_walk.specs.PageTableEntry.{ppn}
 use Rattle.sv32_walk.specs.Walk.{walk}
 use Rattle.hardware_check.specs.Hardware.{Hardware}
-use Rattle.world_view.specs.Domain.{Dom, is_running}
-use Rattle.world_view.specs.Instruction.{stopped, trapped, retired_at, counter_value, read_out, call}
+use Rattle.rv_core.specs.Registers.{register}
+use Rattle.kernel_clone.specs.Footprints.{Layout, touches}
+use Rattle.call_table.specs.Domain.{Dom, is_running}
+use Rattle.call_table.specs.Claims.{Estate}
+use Rattle.call_table.specs.Calls.{Note, work_of, call}
+use Rattle.world_view.specs.Instruction.{stopped, trapped, retired_at, counter_value, read_out}
 use Rattle.world_view.specs.Cost.{Touch}
-use Rattle.world_view.specs.Cost.Touch.{Look, Fetch, Load, Store as StoreTouch}
+use Rattle.world_view.specs.Cost.Touch.{Look, Fetch, Load, Store as StoreTouch, Line, Empty}
 
 -- all that domains may change beside their own state
 pub record Storage : Type 0 where
@@ -110,7 +114,7 @@ store p r d (Some s) = do
 
 -- what the instruction needs from outside the registers: what a load finds, or a counter's value
 unfoldable pub loaded : Hardware → ℕ → ℕ → Dom → Instr → Act ℕ
-loaded p r t d (instr.Load width rd rs1 offset) = load p r d width (address_of d.thread.regs (instr.Load width rd rs1 offset))
+loaded p r t d (instr.Load width rd rs1 offset) = load p r d width (address_of d.threads.current.regs (instr.Load width rd rs1 offset))
 loaded p r t d (instr.ReadCounter counter rd) = give (counter_value counter t d)
 loaded p r t d _ = give 0
 
@@ -129,22 +133,46 @@ settle p r d i value out = do
 -- misaligned loads and stores trap before their address is translated
 unfoldable pub execute : Hardware → ℕ → ℕ → Dom → Instr → Act Dom
 execute p r t d i = do
-  unless (misalignment_of i (address_of d.thread.regs i)) d
+  unless (misalignment_of i (address_of d.threads.current.regs i)) d
   value ← loaded p r t d i
-  settle p r d i value (effect_of d.thread.regs d.thread.pc i value)
+  settle p r d i value (effect_of d.threads.current.regs d.threads.current.pc i value)
 
--- 2: the word is no instruction. An ECALL is a kernel call.
-unfoldable pub perform : Hardware → ℕ → ℕ → Dom → ℕ → Option Instr → Act Dom
-perform p r t d w None = stop (stopped 2 w d)
-perform p r t d w (Some instr.Ecall) = give (call d)
-perform p r t d w (Some i) = execute p r t d i
+-- ---- a kernel call
 
-unfoldable pub instruction : Hardware → ℕ → ℕ → Dom → Act Dom
-instruction p r t d = do
-  f ← translate p r d access.Fetch d.thread.pc
-  touch (Fetch (address_in f d.thread.pc))
-  w ← read f (place d.thread.pc)
-  perform p r t d w (decode_of w)
+-- whether the work of a call empties the translation buffer
+unfoldable pub empties : List Note → Bool
+empties [] = false
+empties (Note.Emptied ∷ ns) = true
+empties (_ ∷ ns) = empties ns
+
+-- the footprint of its operation in the domain's kernel clone, and then the buffer
+unfoldable pub call_touches : Layout → ℕ → List Note → List Touch
+call_touches l number notes = map Line (touches l (work_of number notes)) ++ (if empties notes then Empty ∷ [] else [])
+
+-- the call that the current thread makes
+unfoldable pub make_call : Estate → Layout → Dom → Act Dom
+make_call e l d = λ s.
+    let r = call e d s.mem in
+    record {
+      notes = call_touches l (register d.threads.current.regs 17) r.notes;
+      state = record { mem = r.state };
+      value = inr (either r.value);
+    }
+
+-- ---- an instruction, with the kernel call that it makes
+
+-- 2: the word is no instruction
+unfoldable pub perform : Hardware → Estate → Layout → ℕ → Dom → ℕ → Option Instr → Act Dom
+perform p e l t d w None = stop (stopped 2 w d)
+perform p e l t d w (Some instr.Ecall) = make_call e l d
+perform p e l t d w (Some i) = execute p e.root t d i
+
+unfoldable pub instruction : Hardware → Estate → Layout → ℕ → Dom → Act Dom
+instruction p e l t d = do
+  f ← translate p e.root d access.Fetch d.threads.current.pc
+  touch (Fetch (address_in f d.threads.current.pc))
+  w ← read f (place d.threads.current.pc)
+  perform p e l t d w (decode_of w)
 
 -- ---- what comes next
 

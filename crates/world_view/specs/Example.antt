@@ -1,7 +1,7 @@
 -- Worked runs, computed from the definitions alone. In the first each domain prints a byte and exits; in the second it reads the clock before and after it prints.
-use Rattle.std.specs.Prelude.{◌≡◌, ℕ, true, false, Ok, Err, List, [], ◌∷◌, codes, refl, slice_set, length, replicate, ◌+◌, ◌*◌}
+use Rattle.std.specs.Prelude.{◌≡◌, ℕ, true, false, Ok, Err, List, [], ◌∷◌, codes, refl, slice_set, replicate, ◌+◌, ◌*◌}
 use Rattle.tp_base.specs.Table.{empty, at, put}
-use Rattle.tp_base.specs.Act.{go_on, ◌>>=◌, ◌>>◌, give, stop, note, either}
+use Rattle.tp_base.specs.Act.{go_on, ◌>>=◌, ◌>>◌, give, stop, note, check, either}
 use Rattle.phys_mem.specs.Mem.{frame_at, word, written}
 use Rattle.sv32_walk.specs.declared.access.Access.TheVariants as access
 use Rattle.sv32_walk.specs.declared.access.WalkFault.TheVariants as fault
@@ -9,8 +9,17 @@ use Rattle.sv32_walk.specs.PageTableEntry.{bit, ppn, ppn_0, ppn_1, with_ppn, vpn
 use Rattle.sv32_walk.specs.Walk.{leaf, superpage, first_level, last_level, entry_address, from_table, from_entry, walk}
 use Rattle.sv32_walk.specs.PageTableEntry.{table_word, leaf_word, leaf_bits}
 use Rattle.rv_core.specs.Registers.{zeros}
-use Rattle.world_view.specs.declared.DomainStatus.TheVariants.{Exited}
-use Rattle.world_view.specs.declared.ThreadState.TheVariants.{Ended}
+use Rattle.thread_set.specs.declared.Thread.{Thread}
+use Rattle.thread_set.specs.declared.ThreadState.TheVariants.{Ended}
+use Rattle.thread_set.specs.Threads as threads
+use Rattle.thread_set.specs.Threads.{never, turned_to, yielded, given_way, with_current, all_ended}
+use Rattle.cap_table.specs.Slots as slots
+use Rattle.kernel_clone.specs.Footprints.{text_touches, stack_touches, data_touches, shared_touches, zeroed_touches, entry_touches, touches}
+use Rattle.call_table.specs.declared.DomainStatus.TheVariants.{Exited}
+use Rattle.call_table.specs.Domain as domain
+use Rattle.call_table.specs.Claims.{frame_of, is_shared, leaf_at, place_of, region_of, claim_of, all_claims, claims, frames_in, is_named, free_frames, least_free}
+use Rattle.call_table.specs.Calls as calls
+use Rattle.kernel_call.specs.Logs.{log_of}
 use Rattle.frame_colours.specs.Colours as colours
 use Rattle.hardware_check.specs.declared.hardware.Policy.TheVariants.{Lru}
 use Rattle.hardware_check.specs.Hardware.{Hardware}
@@ -20,12 +29,12 @@ use Rattle.image_check.specs.Pages.{has_region, regions_below, pages_below, page
 use Rattle.world_view.specs.Schedule.{start}
 use Rattle.world_view.specs.Opening.{frame_words, put_word, tabled, root_entry, rights_in, leaf_with, leaf_entry, root_placed, table_placed, tables_placed, page_words, pages_placed, segments_placed, placed, all_placed}
 use Rattle.rv_decode.specs.declared.Counter.TheVariants.{Cycle, Time, Instret, CycleHigh, TimeHigh, InstretHigh}
-use Rattle.world_view.specs.Domain.{Dom, opening_dom, no_dom}
-use Rattle.world_view.specs.Instruction.{counter_value, stopped, trapped, retired_at, read_out, replied, exited, put_byte, called, call}
+use Rattle.world_view.specs.Kernel.{first_cap, first_slots, opening_dom, stays, page_numbers, kept_pages, first_regions, fixed_claims, estate, layout, no_dom}
+use Rattle.world_view.specs.Instruction.{counter_value, stopped, trapped, retired_at, read_out}
 use Rattle.world_view.specs.Cost.{touched, and_then, touched_all}
-use Rattle.world_view.specs.Event.{touch, frame_or_stop, translate, address_in, read, write, unless, load, store, loaded, noted, settle, execute, perform, instruction, event}
+use Rattle.world_view.specs.Event.{touch, frame_or_stop, translate, address_in, read, write, unless, load, store, loaded, noted, settle, execute, empties, call_touches, make_call, perform, instruction, event}
 use Rattle.world_view.specs.Machine.{paid, happened, step, steps, leave_part, prefetch_part, flush_part, enter_part, switch_work, with_part, switch, run_slot, opening_doms, opening, whole, alone_opening, alone_enter, alone_in, alone_out, alone_if, alone}
-use Rattle.world_view.specs.View.{View, log_of, view, view_whole, view_alone, memory_sum}
+use Rattle.world_view.specs.View.{View, view, view_whole, view_alone, memory_sum}
 use Rattle.world_view.specs.Used.{count_of, largest_of}
 
 -- addi x10, x0, byte; addi x17, x0, 1; ecall; addi x17, x0, 0; ecall
@@ -76,8 +85,8 @@ two_domains red blue = record {
     domains = 2;
   };
   owns =
-      record { name = codes "red"; colours = 1 ∷ []; entry = 65536; segments = code_at_16 red ∷ [] }
-      ∷ record { name = codes "blue"; colours = 2 ∷ []; entry = 65536; segments = code_at_16 blue ∷ [] } ∷ [];
+      record { name = codes "red"; colours = 1 ∷ []; entry = 65536; segments = code_at_16 red ∷ []; caps = [] }
+      ∷ record { name = codes "blue"; colours = 2 ∷ []; entry = 65536; segments = code_at_16 blue ∷ []; caps = [] } ∷ [];
 }
 
 -- one that prints A beside one that prints B
@@ -87,12 +96,16 @@ prints = two_domains (print 0x10) (print 0x20)
 abbrev pub timed_prints : Image
 timed_prints = two_domains (timed_print 0x10) (timed_print 0x20)
 
+-- thread 0 is ended there, and no other was ever started
+abbrev pub ended_alone : ℕ → List ℕ → List Thread
+ended_alone pc regs = record { state = Ended; pc = pc; regs = regs } ∷ replicate 7 never
+
 -- what is seen of a domain that printed a byte, but for its memory
 abbrev pub printed_byte : ℕ → View
 printed_byte byte = record {
   status = Exited 0;
   retired = 3;
-  thread = record { state = Ended; pc = 0x10010; regs = zeros };
+  threads = ended_alone 0x10010 zeros;
   readings = log_of [];
   replies = log_of (record { code = 0; value = 0 } ∷ []);
   printed = byte ∷ [];
@@ -105,7 +118,7 @@ abbrev pub printed_in_time : ℕ → ℕ → View
 printed_in_time byte clock = record {
   status = Exited 0;
   retired = 5;
-  thread = record { state = Ended; pc = 0x10018; regs = slice_set (slice_set zeros 5 clock) 6 (clock + 4) };
+  threads = ended_alone 0x10018 (slice_set (slice_set zeros 5 clock) 6 (clock + 4));
   readings = log_of (clock ∷ (clock + 4) ∷ []);
   replies = log_of (record { code = 0; value = 0 } ∷ []);
   printed = byte ∷ [];
@@ -115,7 +128,7 @@ printed_in_time byte clock = record {
 
 -- all that a run computes with
 pub everything : ℕ
-unfolding empty at put go_on ◌>>=◌ ◌>>◌ give stop note either start frame_at word written frame_words put_word tabled root_entry rights_in leaf_with leaf_entry root_placed table_placed tables_placed page_words pages_placed segments_placed placed all_placed has_region regions_below pages_below pages_in table_word leaf_word leaf_bits bit ppn ppn_0 ppn_1 with_ppn vpn_0 vpn_1 leaf superpage first_level last_level entry_address from_table from_entry walk opening_dom no_dom stopped trapped retired_at read_out replied exited put_byte called call touched and_then touched_all touch frame_or_stop translate address_in read write unless load store loaded noted settle execute perform instruction event paid happened step steps leave_part prefetch_part flush_part enter_part switch_work with_part switch run_slot opening_doms opening whole alone_opening alone_enter alone_in alone_out alone_if alone log_of colours.pool colours.frame_at view view_whole view_alone memory_sum count_of largest_of two_domains
+unfolding empty at put go_on ◌>>=◌ ◌>>◌ give stop note either start frame_at word written frame_words put_word tabled root_entry rights_in leaf_with leaf_entry root_placed table_placed tables_placed page_words pages_placed segments_placed placed all_placed has_region regions_below pages_below pages_in table_word leaf_word leaf_bits bit ppn ppn_0 ppn_1 with_ppn vpn_0 vpn_1 leaf superpage first_level last_level entry_address from_table from_entry walk first_cap first_slots opening_dom stays page_numbers kept_pages first_regions fixed_claims estate layout no_dom threads.opening never turned_to yielded given_way with_current all_ended domain.opening domain.placed domain.replied domain.exited domain.with_caps calls.zeroed_in calls.entries_in calls.work_of calls.zero_out calls.page_refusal calls.table_refusal calls.map_at calls.unmap_at calls.install_at calls.uninstall_at calls.empty_buffer calls.some_or calls.is_slot calls.filled calls.allowed calls.put_byte calls.alloc calls.install calls.map_page calls.unmap calls.unless_refused calls.copy calls.clear_entry calls.drop_slot calls.delete calls.drop_if calls.drop_others calls.revoke calls.call_of calls.call slots.maps_in slots.in_use slots.count_in frame_of is_shared leaf_at place_of region_of claim_of all_claims claims frames_in is_named free_frames least_free text_touches stack_touches data_touches shared_touches zeroed_touches entry_touches touches check stopped trapped retired_at read_out touched and_then touched_all touch frame_or_stop translate address_in read write unless load store loaded noted settle execute empties call_touches make_call perform instruction event paid happened step steps leave_part prefetch_part flush_part enter_part switch_work with_part switch run_slot opening_doms opening whole alone_opening alone_enter alone_in alone_out alone_if alone log_of colours.pool colours.frame_at view view_whole view_alone memory_sum count_of largest_of two_domains
 everything = 0
 
 -- ---- the memory that it opens with
@@ -219,22 +232,3 @@ retired_low = refl
 
 pub retired_high : counter_value InstretHigh 0 (record no_dom { retired = late }) ≡ 3
 retired_high = refl
-
--- ---- kernel calls at their ends
-
--- a code past 255 is kept whole
-pub wide_code : (called 0 70000 no_dom).status ≡ Exited 70000
-unfolding everything
-wide_code = refl
-
--- the last byte of the most that a domain prints, and one more: 11 is OutputFull
-abbrev pub printed_so_many : ℕ → Dom
-printed_so_many n = record no_dom { printed = replicate n 0x41 }
-
-pub last_byte : length (called 1 0x42 (printed_so_many 4095)).printed ≡ 4096
-unfolding everything
-last_byte = refl
-
-pub no_byte_more : ((called 1 0x42 (printed_so_many 4096)).printed ≡ replicate 4096 0x41) × ((called 1 0x42 (printed_so_many 4096)).replies ≡ record { code = 11; value = 0 } ∷ [])
-unfolding everything
-no_byte_more = (refl, refl)

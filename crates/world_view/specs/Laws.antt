@@ -17,11 +17,11 @@ use Rattle.world_view.specs.Opening.{rights_in, rights_number}
 use Rattle.world_view.specs.Reading.{image}
 use Rattle.world_view.specs.Schedule.{entry_of_slot, start, slot_end, outgoing}
 use Rattle.world_view.specs.Cost.{Caches}
-use Rattle.world_view.specs.Machine.{Local, World, step, steps, part_of, with_part, leave_part, enter_part, prefetch_part, flush_part, switch_work, switch, whole, alone_enter, alone_out}
+use Rattle.world_view.specs.Machine.{Local, World, step, steps, dom_of, part_of, with_part, leave_part, enter_part, prefetch_part, flush_part, switch_work, switch, whole, alone_enter, alone_out}
 use Rattle.world_view.specs.View.{view_whole, view_alone}
 use Rattle.world_view.specs.Used.{largest_of}
 use Rattle.image_check.specs.Laws.{Runnable}
-use Rattle.world_view.specs.Relations.{IsDomain, IsOwnFrame, Agree, SameSets, Resident, Good, Beside, Within, Apiece, Untouched, InTime, AllWithinPads}
+use Rattle.world_view.specs.Relations.{IsDomain, IsOwnFrame, Agree, SameSets, Resident, IsKernel, HasFacts, ReachesOwn, Beside, Within, Apiece, Untouched, InTime, AllWithinPads}
 
 -- ---- isolation
 
@@ -139,18 +139,32 @@ PoolPartsLaw = (i : Image) (d : ℕ) → Runnable i → IsDomain i d →
     let o = own_of i d in
     pool p o ≡ clone_frames p o ++ root_of p o ∷ (first_tables p o ++ (page_frames p o ++ free_frames p o))
 
--- ---- page tables while the machine runs
+-- ---- frames and page tables while the machine runs
 
--- at each moment of each slot, whoever runs, each domain reaches its own frames alone
+-- slot k, after so many of its steps
+abbrev pub world_in : Image → ℕ → ℕ → World
+world_in i k n = with_part (entry_of_slot i.all.schedule k).domain (switch i k (whole i k)) (local_in i k n)
+
+-- at each moment of each slot, whoever runs, the facts of each domain hold: each frame of its pool is free, kept for good, or
+-- named by its capabilities, and its page tables are what these say
+abbrev pub FactsLaw : Type 0
+FactsLaw = (i : Image) (k n d : ℕ) → Runnable i → IsDomain i d
+    → HasFacts i.all.hardware (own_of i d) (dom_of (world_in i k n) d) (world_in i k n).storage
+
+-- so each domain reaches its own frames alone
 abbrev pub ReachLaw : Type 0
 ReachLaw = (i : Image) (k n d : ℕ) → Runnable i → IsDomain i d
-    → Good i.all.hardware (own_of i d) (local_in i k n).storage.mem
+    → ReachesOwn i.all.hardware (own_of i d) (dom_of (world_in i k n) d) (world_in i k n).storage
 
--- so no walk leaves memory: there are page faults, and no access fault
+-- and no walk leaves memory: there are page faults, and no access fault
 abbrev pub NoAccessFaultLaw : Type 0
 NoAccessFaultLaw = (i : Image) (k n d va : ℕ) (a : Access) → Runnable i → IsDomain i d
-    → (walk (local_in i k n).storage.mem i.all.hardware.frames (root_of i.all.hardware (own_of i d)) va a).result
+    → (walk (world_in i k n).storage.mem i.all.hardware.frames (root_of i.all.hardware (own_of i d)) va a).result
     ≢ Err fault.Access
+
+-- what the kernel has of each domain is as it should be
+abbrev pub KernelLaw : Type 0
+KernelLaw = (i : Image) (d : ℕ) → Runnable i → IsDomain i d → IsKernel i.all.hardware (own_of i d)
 
 -- every image that breaks no rule may be run
 abbrev pub ReadingLaw : Type 0
@@ -165,7 +179,7 @@ event_of i e end w = with_part e w (step i.all.hardware (own_of i e) false end (
 -- another domain's event leaves domain d, its memory and its part of the caches
 abbrev pub OthersStepLaw : Type 0
 OthersStepLaw = (i : Image) (d e end : ℕ) (w : World) → Runnable i → IsDomain i d → IsDomain i e → d ≢ e
-    → Good i.all.hardware (own_of i e) w.storage.mem
+    → HasFacts i.all.hardware (own_of i e) (dom_of w e) w.storage
     → Untouched i.all.hardware (own_of i d) d (event_of i e end w) w
 
 -- another domain leaves or enters

@@ -2,14 +2,13 @@ pub mod Frames
 pub mod Reading
 pub mod Schedule
 pub mod Opening
-pub mod Domain
+pub mod Kernel
 pub mod Instruction
 pub mod Cost
 pub mod Event
 pub mod Machine
 pub mod Used
 pub mod View
-pub mod LogModel
 pub mod Models
 pub mod Relations
 pub mod Laws

@@ -7,9 +7,9 @@ use Rattle.image_check.specs.Public.{Public}
 use Rattle.image_check.specs.Own.{Own}
 use Rattle.image_check.specs.Image.{Image, own_of}
 use Rattle.world_view.specs.Schedule.{entry_of_slot, switch_entry, start, slot_end, last_end, outgoing}
-use Rattle.world_view.specs.Frames.{root_of}
 use Rattle.world_view.specs.Opening.{placed, all_placed}
-use Rattle.world_view.specs.Domain.{Dom, opening_dom, no_dom}
+use Rattle.call_table.specs.Domain.{Dom}
+use Rattle.world_view.specs.Kernel.{opening_dom, estate, layout, no_dom}
 use Rattle.world_view.specs.Cost.{Touch, Caches, fresh_core, cold, Touched, at_no_cost, and_then, touched_all}
 use Rattle.world_view.specs.Event.{Storage, instruction, Event, event}
 use Rattle.world_view.specs.Event.Event.{Jump, Run}
@@ -31,7 +31,7 @@ paid p pinned c t r =
 
 unfoldable pub happened : Hardware → Own → Bool → Local → Event → Local
 happened p o pinned s (Jump t) = record s { clock = t }
-happened p o pinned s Run = paid p pinned s.caches s.clock (instruction p (root_of p o) s.clock s.dom s.storage)
+happened p o pinned s Run = paid p pinned s.caches s.clock (instruction p (estate p o) (layout p o) s.clock s.dom s.storage)
 
 -- one event in a slot that ends then
 unfoldable pub step : Hardware → Own → Bool → ℕ → Local → Local
@@ -109,13 +109,13 @@ run_slot i k w =
     with_part d before (stretch i.all.hardware (own_of i d) false (slot_end i.all.schedule k) (part_of d before))
 
 -- the domains from number d on, each at its entry
-unfoldable pub opening_doms : List Own → ℕ → Table Dom
-opening_doms [] d = empty
-opening_doms (o ∷ os) d = put (opening_doms os (suc d)) d (opening_dom o)
+unfoldable pub opening_doms : Hardware → List Own → ℕ → Table Dom
+opening_doms p [] d = empty
+opening_doms p (o ∷ os) d = put (opening_doms p os (suc d)) d (opening_dom p o)
 
 unfoldable pub opening : Image → World
 opening i = record {
-  doms = opening_doms i.owns 0;
+  doms = opening_doms i.all.hardware i.owns 0;
   storage = record { mem = all_placed i.all.hardware i.owns };
   caches = cold i.all.hardware;
   clock = 0;
@@ -130,7 +130,7 @@ whole i (suc k) = run_slot i k (whole i k)
 -- ---- the domain alone: one domain, its own frames, and nobody else to switch from or to
 
 unfoldable pub alone_opening : Hardware → Own → Local
-alone_opening p o = record { dom = opening_dom o; storage = record { mem = placed p o empty }; caches = cold p; clock = 0 }
+alone_opening p o = record { dom = opening_dom p o; storage = record { mem = placed p o empty }; caches = cold p; clock = 0 }
 
 -- slot k begins: on-core state is fresh, the clock stands at its start, and enter isn't charged
 unfoldable pub alone_enter : Public → Own → ℕ → Local → Local

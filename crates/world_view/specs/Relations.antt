@@ -1,15 +1,17 @@
--- The words of the laws: what is alike for a domain, in two states of machines, and what its page tables are.
-use Rattle.std.specs.Prelude.{◌≡◌, ℕ, true, false, IsTrue, ◌/◌, ◌<◌, ◌≤◌, ◌+◌, ◌-◌, List, [], ◌∷◌, length, All}
-use Rattle.sv32_walk.specs.PageTableEntry.{valid}
-use Rattle.sv32_walk.specs.PageTableEntry.{is_leaf}
-use Rattle.phys_mem.specs.Mem.{Mem, frame_at, word}
-use Rattle.page_map.specs.Tables.{IsPageMap, TablesOnce}
-use Rattle.page_map.specs.Reached.{leaf_at, ReachesIn, IsSealed}
-use Rattle.hardware_check.specs.Hardware.{Hardware}
+-- The words of the laws: what is alike for a domain, in two states of machines, and what the kernel has of it.
+use Rattle.std.specs.Prelude.{◌≡◌, ℕ, false, IsTrue, ◌/◌, ◌%◌, ◌<◌, ◌≤◌, ◌+◌, ◌-◌, ◌⊎◌, List, [], ◌∷◌, length, All}
+use Rattle.phys_mem.specs.Mem.{Mem, frame_at}
+use Rattle.kernel_clone.specs.declared.Kind.TheVariants.{Load as LoadLine}
+use Rattle.kernel_clone.specs.Footprints.{LineTouch, IsLayout}
+use Rattle.call_table.specs.Domain.{Dom}
+use Rattle.call_table.specs.Claims.{IsEstate}
+use Rattle.call_table.specs.Laws.{Kept, HasPageTables}
+use Rattle.hardware_check.specs.Hardware.{Hardware, colours_of}
 use Rattle.image_check.specs.Public.{Entry, entry_in}
 use Rattle.image_check.specs.Own.{Own}
 use Rattle.image_check.specs.Image.{Image, own_of}
-use Rattle.world_view.specs.Frames.{own_frame, root_of}
+use Rattle.world_view.specs.Frames.{own_frame}
+use Rattle.world_view.specs.Kernel.{estate, layout}
 use Rattle.world_view.specs.Schedule.{last_end}
 use Rattle.world_view.specs.Cost.{Touch, Caches, Touched}
 use Rattle.world_view.specs.Event.{Storage}
@@ -51,7 +53,7 @@ SameSets p o c k = Unit {0}
 abbrev pub Resident : Hardware → Caches → Type 0
 Resident p c = Unit {0}
 
--- ---- touches that a domain may make: of its own frames
+-- ---- touches that a domain may make: of its own frames, and the kernel for it of what all share
 
 abbrev pub IsOwnAddress : Hardware → Own → ℕ → Type 0
 IsOwnAddress p o address = IsOwnFrame p o (address / 4096)
@@ -59,38 +61,50 @@ IsOwnAddress p o address = IsOwnFrame p o (address / 4096)
 abbrev pub AllOwn : Hardware → Own → List ℕ → Type 0
 AllOwn p o addresses = All (IsOwnAddress p o) addresses
 
+-- the frame in which a physical line lies
+abbrev pub frame_of_line : Hardware → ℕ → ℕ
+frame_of_line p line = line / (4096 / p.line)
+
+-- a kernel operation touches lines of the domain's own frames, and loads lines that all domains share, of colour 0
+abbrev pub IsKernelTouch : Hardware → Own → LineTouch → Type 0
+IsKernelTouch p o t =
+    IsOwnFrame p o (frame_of_line p t.line) ⊎ ((t.kind ≡ LoadLine) × (frame_of_line p t.line % colours_of p ≡ 0))
+
 abbrev pub May : Hardware → Own → Touch → Type 0
 May p o (Touch.Look page reads found) = AllOwn p o reads
 May p o (Touch.Fetch address) = IsOwnAddress p o address
 May p o (Touch.Load address) = IsOwnAddress p o address
 May p o (Touch.Store address) = IsOwnAddress p o address
+May p o (Touch.Line t) = IsKernelTouch p o t
+May p o Touch.Empty = Unit {0}
 
 abbrev pub MayAll : Hardware → Own → List Touch → Type 0
 MayAll p o [] = Unit {0}
 MayAll p o (t ∷ ts) = May p o t × MayAll p o ts
 
--- ---- a domain's page tables
+-- ---- what the kernel has of a domain
 
--- each valid entry of a table is a leaf
-pub record AreLeaves (m : Mem) (root : ℕ) : Type 0 where
-  pub each : (i j : ℕ) → i < 1024 → j < 1024 → valid (word m root i) ≡ true → valid (leaf_at m root i j) ≡ true
-      → is_leaf (leaf_at m root i j) ≡ true
+-- its estate is one, and so is its kernel clone, whose frames are the domain's own
+pub record IsKernel (p : Hardware) (o : Own) : Type 0 where
+  pub has_estate : IsEstate (estate p o)
+  pub has_layout : IsLayout (layout p o)
+  pub text : IsOwnFrame p o (layout p o).text
+  pub more_text : IsOwnFrame p o (layout p o).more_text
+  pub stack : IsOwnFrame p o (layout p o).stack
+  pub data_frame : IsOwnFrame p o (layout p o).data_frame
 
--- page tables by which the domain reaches its own frames alone: the root is its own, so is each table and each page
--- that is reached from it; no table is named twice, and no page lies on the tables themselves
-pub record Good (p : Hardware) (o : Own) (m : Mem) : Type 0 where
-  pub map : IsPageMap m (root_of p o) p.frames
-  pub once : TablesOnce m (root_of p o)
-  pub root : IsOwnFrame p o (root_of p o)
-  pub reaches : ReachesIn (IsOwnFrame p o) m (root_of p o)
-  pub sealed : IsSealed m (root_of p o)
-  pub leaves : AreLeaves m (root_of p o)
+-- the facts of the domain's frames and page tables hold of this state of it, in this memory
+abbrev pub HasFacts : Hardware → Own → Dom → Storage → Type 0
+HasFacts p o d s = Kept (estate p o) d s.mem
+
+-- its page tables reach its own frames alone, each table once, and no page lies on the tables
+abbrev pub ReachesOwn : Hardware → Own → Dom → Storage → Type 0
+ReachesOwn p o d s = HasPageTables (estate p o) d s.mem
 
 -- ---- the whole machine beside the domain alone, within its slot
 
 -- memory: equal in the domain's frames; outside them the whole machine's is still as at first
 pub record BesideStorage (p : Hardware) (o : Own) (first s a : Storage) : Type 0 where
-  pub good : Good p o s.mem
   pub same : SameFrames p o s.mem a.mem
   pub outside : (f : ℕ) → own_frame p o f ≡ false → frame_at s.mem f ≡ frame_at first.mem f
 
@@ -106,7 +120,9 @@ pub record BesideTouched (p : Hardware) (o : Own) (first : Caches) (r q : Touche
   pub caches : BesideCaches p o first r.caches q.caches
 
 pub record Beside (p : Hardware) (o : Own) (first s a : Local) : Type 0 where
+  pub kernel : IsKernel p o
   pub dom : s.dom ≡ a.dom
+  pub facts : HasFacts p o s.dom s.storage
   pub storage : BesideStorage p o first.storage s.storage a.storage
   pub caches : BesideCaches p o first.caches s.caches a.caches
   pub clock : s.clock ≡ a.clock

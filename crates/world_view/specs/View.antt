@@ -1,8 +1,12 @@
 -- What can be seen of a domain: its state, and the words of its pool.
-use Rattle.std.specs.Prelude.{◌≡◌, ℕ, ◌-◌, ◌<◌, ◌%◌, ◌^◌, min, IsSome, List, length, take, map, sum, slice_get, Option}
+use Rattle.std.specs.Prelude.{ℕ, ◌%◌, ◌^◌, List, map, sum}
 use Rattle.std.specs.List.{concat}
-use Rattle.world_view.specs.declared.DomainStatus.{DomainStatus}
-use Rattle.world_view.specs.declared.Reply.{Reply}
+use Rattle.thread_set.specs.declared.Thread.{Thread}
+use Rattle.thread_set.specs.Threads.{all_of}
+use Rattle.call_table.specs.declared.DomainStatus.{DomainStatus}
+use Rattle.call_table.specs.declared.Reply.{Reply}
+use Rattle.call_table.specs.Domain.{Dom}
+use Rattle.kernel_call.specs.Logs.{Log, log_of}
 use Rattle.hardware_check.specs.Hardware.{Hardware}
 use Rattle.image_check.specs.Public.{Public}
 use Rattle.image_check.specs.Own.{Own}
@@ -10,28 +14,13 @@ use Rattle.image_check.specs.Image.{Image, own_of}
 use Rattle.world_view.specs.Frames.{pool}
 use Rattle.phys_mem.specs.Mem.{frame_at}
 use Rattle.world_view.specs.Opening.{frame_words}
-use Rattle.world_view.specs.Domain.{Thread, Dom}
 use Rattle.world_view.specs.Event.{Storage}
 use Rattle.world_view.specs.Machine.{whole, dom_of, alone}
-
--- a list that may be long: how many, the last, and the first 256
-pub record Log (A : Type 0) : Type 0 where
-  pub count : ℕ
-  pub last : Option A
-  pub first : List A
-
-unfoldable pub log_of : {A : Type 0} → List A → Log A
-log_of xs = record { count = length xs; last = slice_get xs (length xs - 1); first = take 256 xs }
-
--- it keeps all of a short list, and the last of every list that isn't empty
-pub record IsKept {A : Type 0} (l : Log A) : Type 0 where
-  pub first : length l.first ≡ min 256 l.count
-  pub last : 0 < l.count → IsSome l.last
 
 pub record View : Type 0 where
   pub status : DomainStatus
   pub retired : ℕ
-  pub thread : Thread
+  pub threads : List Thread  -- eight, by their numbers
   pub readings : Log ℕ
   pub replies : Log Reply
   pub printed : List ℕ
@@ -42,7 +31,7 @@ unfoldable pub view : Hardware → Own → Dom → Storage → View
 view p o d s = record {
   status = d.status;
   retired = d.retired;
-  thread = d.thread;
+  threads = all_of d.threads;
   readings = log_of d.readings;
   replies = log_of d.replies;
   printed = d.printed;

@@ -1,6 +1,6 @@
 //! Laws of the machine over its definitions, each the contract of a function
 //! that does nothing: a caller that calls it may rely on the law.
-ghost use Rattle.world_view.specs.Laws.{ReadingLaw, IsolationLaw, TwoRunLaw, PadLaw, LargestLaw, StartLaw, InTimeLaw, ClockLaw, OpeningPageLaw, OpeningRightsLaw, OpeningNoPageLaw, OpeningFramesLaw, OpeningZeroLaw, OpeningElsewhereLaw, PoolsApartLaw, KernelColourLaw, PoolPartsLaw, ReachLaw, NoAccessFaultLaw, OthersStepLaw, OthersLeaveLaw, OthersEnterLaw, PrefetchLaw, FlushLaw, OwnStepLaw, SwitchOutLaw, SwitchInLaw, SwitchBothLaw, SwitchPastLaw, ResidencyLaw};
+ghost use Rattle.world_view.specs.Laws.{ReadingLaw, IsolationLaw, TwoRunLaw, PadLaw, LargestLaw, StartLaw, InTimeLaw, ClockLaw, OpeningPageLaw, OpeningRightsLaw, OpeningNoPageLaw, OpeningFramesLaw, OpeningZeroLaw, OpeningElsewhereLaw, PoolsApartLaw, KernelColourLaw, PoolPartsLaw, FactsLaw, ReachLaw, NoAccessFaultLaw, KernelLaw, OthersStepLaw, OthersLeaveLaw, OthersEnterLaw, PrefetchLaw, FlushLaw, OwnStepLaw, SwitchOutLaw, SwitchInLaw, SwitchBothLaw, SwitchPastLaw, ResidencyLaw};
 
 /// Every image of the form that is read may be run, and its numbers are within the limits.
 pub fn reading()
@@ -46,12 +46,20 @@ pub fn pools()
     ensures parts { PoolPartsLaw }
 {}
 
-/// Each domain's page tables reach its own frames alone, at each moment of each
-/// slot, whoever runs: so much holds of the one memory in which all tables
-/// stand. So no walk of theirs is an access fault.
+/// The facts of each domain's frames, capabilities and page tables hold at each
+/// moment of each slot, whoever runs, and so each domain's page tables reach its
+/// own frames alone: so much holds of the one memory in which all tables stand.
+/// So no walk of theirs is an access fault.
 pub fn reach()
+    ensures facts { FactsLaw }
     ensures own { ReachLaw }
     ensures no_access_fault { NoAccessFaultLaw }
+{}
+
+/// What the kernel has of each domain is as it should be: whose frames are
+/// claimed for good, and where its kernel clone lies.
+pub fn kernels()
+    ensures kernel { KernelLaw }
 {}
 
 /// An event of another domain leaves a domain, its memory and its part of the

@@ -1,12 +1,13 @@
 // What can be seen of a domain, and of switches.
 ghost use Rattle.std.specs.Prelude.{◌<◌};
 ghost use Rattle.std.specs.List.{All};
-ghost use Rattle.world_view.specs.View.{IsKept};
-ghost use Rattle.world_view.specs.LogModel.{log_model};
+ghost use Rattle.frame_colours.specs.Colours.{pool};
+ghost use Rattle.kernel_call.specs.Logs.{IsKept};
+ghost use Rattle.kernel_call.specs.LogModel.{log_model};
 
 mod seen;
 
-use crate::Domain;
+use kernel_call::Domain;
 use phys_mem::PhysMem;
 
 /// The most cycles that a switch of an entry took, 0 where there was none, and
@@ -23,7 +24,7 @@ pub struct Used {
 pub struct View<'a> {
     domain: &'a Domain,
     memory: &'a PhysMem,
-    ghost in_memory: { All (λ f. f < memory.now.frames) domain.now.frames.pool.items },
+    ghost in_memory: { All (λ f. f < memory.now.frames) (pool domain.now.pool.share) },
     ghost readings_kept: { IsKept (log_model domain.now.readings) },
     ghost replies_kept: { IsKept (log_model domain.now.replies) },
 }

@@ -1,8 +1,8 @@
 // The machine's calls.
-use super::{Machine, open_all, unused};
-use crate::memory::load_pages;
-use crate::slot::stretch;
+use super::{Machine, unused};
 use crate::used::{note_switch, switch_entry};
+use domain_open::{load_pages, open_all};
+use domain_step::stretch;
 use image_check::{Checked, Entry};
 use phys_mem::PhysMem;
 use std::alloc::Global;

@@ -1,11 +1,14 @@
 // A run of two domains, slot by slot.
+mod calls;
+
 use super::Machine;
+use call_table::{DomainStatus, Reply};
 use image_check::{CheckRefusal, Checked, check};
 use image_text::{ReadRefusal, read_image};
 use std::alloc::Global;
 use std::test::Fail;
 use tp_base::Memory;
-use world_view::{DomainStatus, Reply, Used, View};
+use world_view::{Used, View};
 
 // What every image begins with.
 const MACHINE: &str = "frames = 64
@@ -45,9 +48,10 @@ length = 2000
 pad = 50
 ";
 
-fn two_domains(alloc: Global) -> Result<Option<Checked>, Memory> {
+// The image of these domains, if it is accepted.
+fn accepted(alloc: Global, domains: &str) -> Result<Option<Checked>, Memory> {
     let mut text = String::from_str(alloc, MACHINE)?;
-    text.push_str(DOMAINS)?;
+    text.push_str(domains)?;
     let raw = match read_image(alloc, text.as_bytes()) {
         Ok(raw) => raw,
         Err(ReadRefusal::Memory) => return Err(Memory),
@@ -96,7 +100,7 @@ fn told(view: &View<'_>) -> Option<Seen> {
 
 // Red after three slots, and what the switches of the first entry took.
 fn ran(alloc: Global) -> Result<Option<(Seen, Used)>, Memory> {
-    let Some(image) = two_domains(alloc)? else {
+    let Some(image) = accepted(alloc, DOMAINS)? else {
         return Ok(None);
     };
     image.runnable();

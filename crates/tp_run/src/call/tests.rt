@@ -11,6 +11,7 @@ use std::test::Fail;
 use tp_base::Memory;
 use tp_io::{MemSink, MemSource, Source, SureSource};
 
+mod calls;
 mod refusals;
 
 // Prints A, or B, and exits; or jumps to itself.
@@ -52,7 +53,7 @@ const USAGE: &str = "usage: tp check|bound|run|alone|gen|demo\n";
 
 // REPORT, with a bar after what each write takes.
 const PIECES: &str =
-    "domain |0| |red|\nstatus |exited |0|\nretired |3|\nthread 0 |ended| pc |00010010|\nreadings |0|\nreplies |1| last |0|:|0| list| |0|:|0|\nout |1| |41|\nmem |0420cf7b|\n|domain |1| |blue|\nstatus |exited |0|\nretired |3|\nthread 0 |ended| pc |00010010|\nreadings |0|\nreplies |1| last |0|:|0| list| |0|:|0|\nout |1| |42|\nmem |0430d77b|\n|switch |0| used |0| pad |6150| count |2|\n|switch |1| used |0| pad |6150| count |2|\n|end\n|";
+    "domain |0| |red|\nstatus |exited |0|\nretired |3|\nthread |0| |ended| pc |00010010|\nreadings |0|\nreplies |1| last |0|:|0| list| |0|:|0|\nout |1| |41|\nmem |0420cf7b|\n|domain |1| |blue|\nstatus |exited |0|\nretired |3|\nthread |0| |ended| pc |00010010|\nreadings |0|\nreplies |1| last |0|:|0| list| |0|:|0|\nout |1| |42|\nmem |0430d77b|\n|switch |0| used |0| pad |6150| count |2|\n|switch |1| used |0| pad |6150| count |2|\n|end\n|";
 
 // What every image begins with.
 const MACHINE: &str =

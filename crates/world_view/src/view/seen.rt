@@ -1,19 +1,22 @@
 // What a view tells of its domain.
 use super::View;
-use crate::{Domain, DomainStatus, Reply, Thread};
+use call_table::{DomainStatus, Reply};
+use kernel_call::Domain;
 use phys_mem::PhysMem;
+use thread_set::Thread;
 use tp_base::FrameNo;
 
 impl<'a> View<'a> {
     ghost use Rattle.std.specs.Prelude.{◌≡◌, ◌<◌, min, Some, length, slice_get, slice_index, [], slice_index_or};
     ghost use Rattle.std.specs.List.{All};
-    ghost use Rattle.world_view.specs.LogModel.{log_model};
-    ghost use Rattle.world_view.specs.View.{IsKept};
-    ghost use Rattle.world_view.specs.Models.{view_model, seen_of, thread_model};
+    ghost use Rattle.frame_colours.specs.Colours.{pool};
+    ghost use Rattle.kernel_call.specs.LogModel.{log_model};
+    ghost use Rattle.kernel_call.specs.Logs.{IsKept};
+    ghost use Rattle.world_view.specs.Models.{view_model, seen_of};
 
     /// What can be seen of a domain whose frames are in this memory.
     pub fn new(domain: &'a Domain, memory: &'a PhysMem) -> Self
-        requires in_memory { All (λ f. f < memory.now.frames) domain.now.frames.pool.items }
+        requires in_memory { All (λ f. f < memory.now.frames) (pool domain.now.pool.share) }
         requires readings { IsKept (log_model domain.now.readings) }
         requires replies { IsKept (log_model domain.now.replies) }
         ensures view { view_model result ≡ seen_of domain.now memory.now }
@@ -34,12 +37,12 @@ impl<'a> View<'a> {
         self.domain.retired
     }
 
-    /// A thread by its number: as yet a domain has thread 0 alone.
+    /// A thread by its number, below 8.
     pub fn thread(&self, t: u8) -> Thread
-        requires first { t ≡ 0 }
-        ensures value { thread_model result ≡ (view_model self.now).thread }
+        requires below { t < 8 }
+        ensures value { slice_get (view_model self.now).threads t ≡ Some result }
     {
-        self.domain.thread
+        self.domain.threads.thread(t)
     }
 
     /// How many counters were read.
@@ -99,7 +102,7 @@ impl<'a> View<'a> {
     pub fn pool_len(&self) -> usize
         ensures value { result ≡ length (view_model self.now).pool }
     {
-        self.domain.frames.pool.len()
+        self.domain.pool.frames().len()
     }
 
     /// A frame of its pool, by its place: they ascend.
@@ -107,7 +110,7 @@ impl<'a> View<'a> {
         requires place { i < length (view_model self.now).pool }
         ensures value { slice_get (view_model self.now).pool i ≡ Some result }
     {
-        self.domain.frames.pool[i]
+        self.domain.pool.frames()[i]
     }
 
     /// Word `w` of the frame at a place of its pool.
@@ -119,7 +122,7 @@ impl<'a> View<'a> {
     {
         // This tells the prover alone that all words are in the memory's frames.
         self.memory.frames();
-        let frame = self.domain.frames.pool[i].number();
+        let frame = self.domain.pool.frames()[i].number();
         self.memory.read_word(4096 * frame + 4 * w)
     }
 }

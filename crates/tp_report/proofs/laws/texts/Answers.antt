@@ -2,6 +2,8 @@
 use Rattle.std.proofs.Common.{refl}
 use Rattle.std.specs.Fmt.{digits}
 use Rattle.tp_report.specs.Report.{switch_line, end_text, usage_text, refusal_text, too_long_text}
+use Rattle.hex.specs.Hex.{encode_with}
+use Rattle.tp_report.specs.Texts.{h8, state_text, register_text, registers_text, thread_line, thread_text, threads_text}
 use Rattle.tp_report.proofs.laws.texts.Goals as goal
 
 pub returns-clause-least : goal.returns-clause-least
@@ -27,3 +29,19 @@ returns-clause-refusal c = refl
 pub returns-clause-too_long : goal.returns-clause-too_long
 unfolding too_long_text
 returns-clause-too_long c = refl
+
+pub returns-clause-waiting : goal.returns-clause-waiting
+unfolding thread_text thread_line state_text h8 encode_with registers_text register_text digits
+returns-clause-waiting c = refl
+
+pub returns-clause-second : goal.returns-clause-second
+unfolding thread_text thread_line state_text h8 encode_with registers_text register_text digits
+returns-clause-second c = refl
+
+pub returns-clause-never : goal.returns-clause-never
+unfolding thread_text
+returns-clause-never c = λ t pc regs. refl
+
+pub returns-clause-ascending : goal.returns-clause-ascending
+unfolding threads_text thread_text thread_line state_text h8 encode_with registers_text register_text digits
+returns-clause-ascending c = refl

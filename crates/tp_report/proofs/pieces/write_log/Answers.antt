@@ -1,7 +1,6 @@
-use Rattle.std.proofs.Common.{◌≡◌, ◌≢◌, Some, rules}
+use Rattle.std.proofs.Common.{◌≢◌, rules}
 use Rattle.std.proofs.lemmas.Result.{err_from_is_err_and}
 use Rattle.tp_io.proofs.InTurn.{then_sends, cut_between}
-use Rattle.tp_report.specs.Texts.{last_text}
 use Rattle.tp_report.proofs.Texts.{log_text-some}
 use Rattle.tp_report.proofs.pieces.write_log.Goals as goal
 

@@ -1,4 +1,4 @@
-use Rattle.std.proofs.Common.{length, arith, rules}
+use Rattle.std.proofs.Common.{length, rules}
 use Rattle.std.proofs.lemmas.Result.{err_from_is_err_and}
 use Rattle.tp_report.specs.Switches.{switch_at, switches_text}
 use Rattle.tp_report.proofs.Numbers.{number_sent, cut_in_number, numbers_sent}

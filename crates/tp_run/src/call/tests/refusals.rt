@@ -101,13 +101,20 @@ rights = \"rx\", hex = \"1305|rights = \"xr\", hex = \"305|K12 at 0 found 0 want
 segment = [{ page = 16, pages = 1, rights = \"rx\", hex = \"1305|segment = [{ page = 15, pages = 2, rights = \"r\", hex = \"\" }, { page = 16, pages = 1, rights = \"rx\", hex = \"305|K12 at 0 found 1 wanted 3
 entry = 0x10000~segment = [{ page = 16, pages = 1|entry = 0x10002~segment = [{ page = 15, pages = 2, rights = \"r\", hex = \"\" }, { page = 16, pages = 1|K12 at 0 found 1 wanted 5";
 
+// Red's capabilities, a case each but the first.
+const CAPS: &str = "[1]|[1]~caps = [\"page 016\"]|K13 at 0 found 0 wanted 2
+[1]|[1]~caps = [\"page 17\"]|K13 at 0 found 0 wanted 3
+[1]|[1]~caps = [\"irq 3\"]|K13 at 0 found 0 wanted 4
+[1]|[1]~caps = [\"none\", \"page 16\", \"page 16\"]|K13 at 0 found 2 wanted 5";
+
 #[test]
 fn images_that_break_a_rule_are_refused(rt: HostRuntime) -> Result<(), Fail> {
     refuses(&rt, rt.alloc(), KEYS)?;
     refuses(&rt, rt.alloc(), KEYS_OF_ITEMS)?;
     refuses(&rt, rt.alloc(), VALUES)?;
     refuses(&rt, rt.alloc(), GEOMETRY)?;
-    refuses(&rt, rt.alloc(), SEGMENTS)
+    refuses(&rt, rt.alloc(), SEGMENTS)?;
+    refuses(&rt, rt.alloc(), CAPS)
 }
 
 fn without_domains(alloc: Global) -> Result<String, Fail> {
@@ -130,6 +137,13 @@ fn a_kernel_colour_beside_a_shared_one(alloc: Global) -> Result<String, Fail> {
 fn too_full(alloc: Global) -> Result<String, Fail> {
     let page = "00".repeat(alloc, 4097)?;
     image(alloc, PRINTS_A, page.as_str())
+}
+
+// A capability too many.
+fn too_many_caps(alloc: Global) -> Result<String, Fail> {
+    let nones = "\"none\", ".repeat(alloc, 65)?;
+    let caps = format!(in alloc; "[1]\ncaps = [{nones}]")?;
+    Ok(image(alloc, PRINTS_A, PRINTS_B)?.replace(alloc, "[1]", caps.as_str())?)
 }
 
 fn refuses_made(
@@ -163,5 +177,11 @@ fn images_that_lack_something_or_have_too_much_are_refused(rt: HostRuntime) -> R
         a_kernel_colour_beside_a_shared_one(alloc),
         "K8 at 1 found 0 wanted 4",
     )?;
-    refuses_made(&rt, alloc, too_full(alloc), "K12 at 1 found 0 wanted 4")
+    refuses_made(&rt, alloc, too_full(alloc), "K12 at 1 found 0 wanted 4")?;
+    refuses_made(
+        &rt,
+        alloc,
+        too_many_caps(alloc),
+        "K13 at 0 found 65 wanted 1",
+    )
 }

@@ -1,13 +1,24 @@
 use Rattle.image_check.specs.Image.{own_of}
-use Rattle.world_view.specs.Laws.{local_in}
+use Rattle.world_view.specs.Machine.{dom_of}
+use Rattle.world_view.specs.Laws.{world_in}
+use Rattle.world_view.specs.Kernel.{estate}
+use Rattle.call_table.proofs.TablesMeaning.{page_tables}
 use Rattle.world_view.proofs.Separate.{separated}
-use Rattle.world_view.proofs.TableLaws.{no_access_fault}
-use Rattle.world_view.proofs.WholeLaws.{always_good}
+use Rattle.world_view.proofs.TableLaws.{IsPage, walkable, no_access_fault}
+use Rattle.world_view.proofs.WholeLaws.{always_facts}
 use Rattle.world_view.proofs.laws.reach.Goals as goal
 
-pub returns : goal.returns
-returns c = record {
-  own = λ i k n d r is. always_good i (separated i r) k n d is;
-  no_access_fault = λ i k n d va a r is.
-      no_access_fault i.all.hardware (own_of i d) (local_in i k n).storage.mem (always_good i (separated i r) k n d is) va a;
-}
+pub returns-clause-facts : goal.returns-clause-facts
+returns-clause-facts c = λ i k n d r is. always_facts i (separated i r) k n d is
+
+pub returns-clause-own : goal.returns-clause-own
+returns-clause-own c = λ i k n d r is. page_tables (estate i.all.hardware (own_of i d)) (dom_of (world_in i k n) d) (world_in i k n).storage.mem (always_facts i (separated i r) k n d is)
+
+pub returns-clause-no_access_fault : goal.returns-clause-no_access_fault
+unfolding estate
+returns-clause-no_access_fault c = λ i k n d va a r is.
+    let p = i.all.hardware in
+    let o = own_of i d in
+    let m = (world_in i k n).storage.mem in
+    let d' = dom_of (world_in i k n) d in
+    no_access_fault p o (estate p o).root (IsPage p o d' m) m (walkable p o d' m (always_facts i (separated i r) k n d is)) va a (λ f page. page.own)

@@ -21,7 +21,7 @@ invariant_of-self c =
     let out : has (reverse c.self.inside.free.items) c.args.frame ≡ false = subst (λ (list : FreeList). is_free list c.args.frame ≡ false) (sym c.self.view_is) c.requires.out in
     let list : IsFreeList (of c.self.inside.part (placed (reverse c.self.inside.free.items) c.args.frame)) =
     with_frame_is_free_list (of c.self.inside.part (reverse c.self.inside.free.items)) c.args.frame c.self.invariant.0 own out in
-    (subst (λ xs. IsFreeList (of c.self.inside.part xs)) (sym (c.put.ensures.placed ∙ ap (placed (reverse c.self.inside.free.items)) c.number.ensures.number)) list, omega (arith, c.self.invariant.1, c.put.ensures.room))
+    (subst (λ xs. IsFreeList (of c.self.inside.part xs)) (sym (c.put.ensures.placed ∙ ap (placed (reverse c.self.inside.free.items)) c.number.ensures.number)) list, omega (arith, c.self.invariant.1, c.put.ensures.room), c.self.invariant.2)
 
 pub returns-clause-back : goal.returns-clause-back
 returns-clause-back c =

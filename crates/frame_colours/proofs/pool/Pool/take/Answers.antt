@@ -15,7 +15,7 @@ sound : (c : goal.After-of) → IsFreeList (of c.self.inside.part (c.in_ok-numbe
 sound c = subst (λ xs. IsFreeList (of c.self.inside.part xs)) (split c) c.self.invariant.0
 
 pub invariant_of-self-2 : goal.invariant_of-self-2
-invariant_of-self-2 c = (rest_is_free_list c.self.inside.part c.in_ok-number.number (reverse c.pop.new.self.items) (sound c), omega (arith, c.self.invariant.1, c.in_ok-number.ensures.capacity))
+invariant_of-self-2 c = (rest_is_free_list c.self.inside.part c.in_ok-number.number (reverse c.pop.new.self.items) (sound c), omega (arith, c.self.invariant.1, c.in_ok-number.ensures.capacity), c.self.invariant.2)
 
 pub returns-clause-own : goal.returns-clause-own
 returns-clause-own c =

@@ -4,6 +4,7 @@ use Rattle.image_check.specs.Public as spec
 use Rattle.image_check.specs.Models.{entry_model}
 use Rattle.image_check.specs.Image.{image_from}
 use Rattle.tp_machine.proofs.Openings.{entries_some, stands_first, last_pad, in_bounds_first}
+use Rattle.tp_machine.proofs.Slots.{all_at}
 use Rattle.tp_machine.proofs.machine.Machine.load.Goals as goal
 
 pub invariant_of-result-clause-stands : goal.invariant_of-result-clause-stands
@@ -28,3 +29,7 @@ invariant_of-result-clause-in_bounds c =
     let last : c.len-last.result - 1 < length items = search rules in
     let short = last_pad i r items entries (c.len-last.result - 1) c.index.result.now last (search rules) in
     in_bounds_first i.all.hardware c.load_pages.new.memory c.in_ok-domains.domains.items i.owns (length i.owns) c.in_ok-used.used.items c.from.result c.in_ok-domains.ensures.opened c.in_ok-used.ensures.few (omega (arith, short, c.from.ensures))
+
+pub invariant_of-result-clause-facts : goal.invariant_of-result-clause-facts
+invariant_of-result-clause-facts c =
+    ∣ all_at (image_from c.args.image.now) c.runnable.ensures.runnable 0 _ (invariant_of-result-clause-stands c) ∣₁

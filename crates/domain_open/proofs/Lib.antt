@@ -1,0 +1,8 @@
+mod Elements
+mod Loading
+mod Openings
+mod Pages
+pub mod PoolReads
+mod Taking
+mod SlotLaws
+mod Opened

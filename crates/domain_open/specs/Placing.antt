@@ -1,0 +1,70 @@
+-- What the code that opens a domain relies on, and what it leaves.
+use Rattle.std.specs.Prelude.{◌≡◌, ℕ, ◌+◌, ◌^◌, ◌<◌, ◌≤◌, ◌++◌, not, Bool, true, false, List, length, map, filter, slice_get, slice_index_or, Some}
+use Rattle.std.specs.List.{list_any}
+use Rattle.hardware_check.specs.Hardware.{Hardware}
+use Rattle.phys_mem.specs.Mem.{Mem}
+use Rattle.frame_colours.specs.Colours.{Share}
+use Rattle.image_check.specs.Image.{Image}
+use Rattle.world_view.specs.Opening.{all_placed}
+use Rattle.image_check.specs.Own.{Segment, Own, own_at, no_segment}
+use Rattle.image_check.specs.Laws.{IsSegment, IsOwn}
+use Rattle.image_check.specs.Pages.{has_page, pages_below, pages_in, frames_in, share_of}
+use Rattle.world_view.specs.Frames.{pool, clone_frames, first_tables, page_frames}
+use Rattle.cap_table.specs.Slots.{same_number, page_of}
+use Rattle.kernel_clone.specs.Models.{layout_model}
+use Rattle.kernel_call.specs.declared.domain.Domain.{Domain}
+use Rattle.kernel_call.specs.Models.{Stands, CountsUpTo}
+use Rattle.kernel_call.specs.Facts.{Has}
+use Rattle.world_view.specs.Kernel.{first_slots, opening_dom, estate, layout}
+
+-- the domain's pool has all frames that it wants, and no frame's number is too large
+pub record HasPool (p : Hardware) (o : Own) : Type 0 where
+  pub few : p.frames ≤ 2 ^ 15
+  pub enough : frames_in o.segments ≤ length (pool p o)
+  pub sound : IsOwn o
+
+-- each is a segment of an accepted image
+abbrev pub AreSegments : List Segment → Type 0
+AreSegments ss = (k : ℕ) → IsSegment (slice_index_or ss k no_segment)
+
+-- no page is of two segments
+pub record AreApart (ss : List Segment) : Type 0 where
+  pub once : (j k n : ℕ) → j < k → k < length ss
+      → has_page (slice_index_or ss j no_segment) n ≡ true → has_page (slice_index_or ss k no_segment) n ≡ false
+
+-- so many pages, from one on, are the domain's
+pub record HasPages (o : Own) (page pages : ℕ) : Type 0 where
+  pub each : (n : ℕ) → page ≤ n → n < page + pages → pages_below o.segments n < pages_in o.segments
+
+-- the frames of the pages that no capability names at first, ascending
+abbrev pub is_named : Hardware → Own → ℕ → Bool
+is_named p o f = list_any (λ c. same_number (Some f) (page_of c)) (first_slots p o)
+
+unfoldable pub kept_frames : Hardware → Own → List ℕ
+kept_frames p o = filter (λ f. not (is_named p o f)) (page_frames p o)
+
+-- a domain of the code at its entry, with the frames of its share each as what it is used as at first
+pub record IsOpened (p : Hardware) (o : Own) (d : Domain) : Type 0 where
+  pub stands : Stands d (opening_dom p o)
+  pub has : Has (estate p o) d
+  pub tables : d.tables.items ≡ first_tables p o
+  pub kept : d.kept.items ≡ clone_frames p o ++ kept_frames p o
+  pub layout : layout_model d.layout ≡ layout p o
+  pub few : CountsUpTo 0 d
+
+-- the first n of these domains are at their entries
+pub record AreOpened (p : Hardware) (owns : List Own) (n : ℕ) (domains : List Domain) : Type 0 where
+  pub all : length domains ≡ n
+  pub each : (d : ℕ) (x : Domain) → slice_get domains d ≡ Some x → IsOpened p (own_at owns d) x
+
+-- all domains of an image are
+abbrev pub AllOpened : Image → List Domain → Type 0
+AllOpened i domains = AreOpened i.all.hardware i.owns (length i.owns) domains
+
+-- the share of each domain
+abbrev pub all_shares : Image → List Share
+all_shares i = map (share_of i.all.hardware) i.owns
+
+-- the memory that the machine of an image opens with
+abbrev pub placed_all : Image → Mem
+placed_all i = all_placed i.all.hardware i.owns

@@ -1,0 +1,13 @@
+//! The machine before its first slot: each domain in the frames of its share,
+//! at its entry, and the memory with its page tables and pages.
+#![tactic(auto)]
+
+mod frames;
+mod giving;
+mod memory;
+mod open;
+mod placement;
+mod segments;
+
+pub use memory::load_pages;
+pub use open::open_all;

@@ -1,0 +1,5 @@
+mod Steps
+mod Accesses
+mod Instructions
+mod Events
+mod Moved

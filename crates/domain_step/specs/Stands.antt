@@ -1,0 +1,21 @@
+-- How the counts of a domain of the code grow in a step, and which of its parts stay.
+use Rattle.std.specs.Prelude.{◌≡◌, ℕ, ◌+◌, ◌^◌, ◌<◌, ◌≤◌}
+use Rattle.kernel_call.specs.declared.domain.Domain.{Domain}
+
+-- one more of each still fits
+pub record HasRoom (d : Domain) : Type 0 where
+  pub retired : d.retired < 2 ^ 63
+  pub readings : d.readings.count < 2 ^ 63
+  pub replies : d.replies.count < 2 ^ 63
+
+-- each count grows by at most so much
+pub record Grows (a b c : ℕ) (old new : Domain) : Type 0 where
+  pub retired : new.retired ≤ old.retired + a
+  pub readings : new.readings.count ≤ old.readings.count + b
+  pub replies : new.replies.count ≤ old.replies.count + c
+
+-- its frames are used as they were
+pub record KeepsFrames (old new : Domain) : Type 0 where
+  pub caps : new.caps ≡ old.caps
+  pub pool : new.pool ≡ old.pool
+  pub map : new.map ≡ old.map

@@ -1,5 +1,0 @@
-use Rattle.std.proofs.Common.{length}
-use Rattle.tp_machine.proofs.frames.discard_all.Given as goal
-
-abbrev pub decreases-loop-share : goal.decreases-loop-share
-decreases-loop-share l = length l.shares.items

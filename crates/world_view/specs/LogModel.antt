@@ -1,6 +1,0 @@
--- What the code's logs stand for.
-use Rattle.world_view.specs.View as spec
-use Rattle.world_view.specs.declared.log.Log.{Log}
-
-abbrev pub log_model : {T : Type 0} → Log T → spec.Log T
-log_model l = record { count = l.count; last = l.last; first = l.first.items }
