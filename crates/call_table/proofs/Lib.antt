@@ -15,3 +15,6 @@ pub mod MeaningSteps
 pub mod MeaningRights
 pub mod MeaningCalls
 pub mod MeaningRevoke
+pub mod WorkSteps
+pub mod BoundedWork
+pub mod WalksStay

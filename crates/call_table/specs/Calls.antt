@@ -1,7 +1,7 @@
 -- The kernel calls 0 to 8. The number is in x17, the arguments a, b and c are in x10, x11 and x12. A call is refused by the
 -- first of its errors, in the order of their numbers: 1 BadCall, 2 BadSlot, 3 Empty, 4 Used, 5 WrongKind, 6 BadRights,
 -- 7 BadAddress, 8 Mapped, 9 NoTable, 10 NoFrame, 11 OutputFull, 12 InUse.
-use Rattle.std.specs.Prelude.{ℕ, zero, suc, ◌/◌, ◌%◌, Bool, true, false, not, ◌&&◌, nat_eq, nat_le, nat_lt, if◌then◌else◌, List, [], ◌∷◌, ◌++◌, length, Option, Some, None, is_some}
+use Rattle.std.specs.Prelude.{ℕ, zero, suc, ◌/◌, ◌%◌, Bool, true, false, not, ◌&&◌, ◌||◌, nat_eq, nat_le, nat_lt, if◌then◌else◌, List, [], ◌∷◌, ◌++◌, length, Option, Some, None, is_some}
 use Rattle.std.proofs.Common.{inr}
 use Rattle.tp_base.specs.Act as act
 use Rattle.tp_base.specs.Act.{◌>>=◌, ◌>>◌, Done, give, stop, check}
@@ -16,6 +16,7 @@ use Rattle.kernel_clone.specs.Footprints.{WorkDone, bad_call_op}
 use Rattle.cap_table.specs.declared.Cap.{Cap}
 use Rattle.cap_table.specs.declared.Cap.TheVariants as cap
 use Rattle.cap_table.specs.Slots.{cap_at, is_filled, with_cap, copied, noted, in_use, is_revoked, revoked_count}
+use Rattle.call_table.specs.declared.Reply.{Reply}
 use Rattle.call_table.specs.Domain.{Dom, done, refused, exited, with_caps}
 use Rattle.call_table.specs.Claims.{Estate, least_free}
 
@@ -35,6 +36,12 @@ unfoldable pub entries_in : List Note → List ℕ
 entries_in [] = []
 entries_in (Note.Entry at ∷ ns) = at ∷ entries_in ns
 entries_in (_ ∷ ns) = entries_in ns
+
+-- whether they empty the translation buffer
+unfoldable pub empties : List Note → Bool
+empties [] = false
+empties (Note.Emptied ∷ ns) = true
+empties (_ ∷ ns) = empties ns
 
 -- the operation of a call's number: its own, or that of a bad call
 abbrev pub op_of : ℕ → ℕ
@@ -274,3 +281,17 @@ unfoldable pub call : Estate → Dom → Act Dom
 call e d =
     let regs = d.threads.current.regs in
     call_of e d (register regs 17) (register regs 10) (register regs 11) (register regs 12)
+
+-- ---- which calls empty the translation buffer, by their number and their reply
+
+-- UNMAP, DELETE and REVOKE: those that clear entries
+abbrev pub clears_entries : ℕ → Bool
+clears_entries number = nat_eq number 5 || (nat_eq number 7 || nat_eq number 8)
+
+-- the call was done and answers so
+abbrev pub is_done : Option Reply → Bool
+is_done None = false
+is_done (Some reply) = nat_eq reply.code 0
+
+abbrev pub empties_buffer : ℕ → Option Reply → Bool
+empties_buffer number reply = clears_entries number && is_done reply

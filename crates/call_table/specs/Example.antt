@@ -1,14 +1,15 @@
 -- Kernel calls at their ends, computed from the definitions.
-use Rattle.std.specs.Prelude.{◌≡◌, ℕ, [], ◌∷◌, length, replicate, refl}
+use Rattle.std.specs.Prelude.{◌≡◌, ℕ, List, [], ◌∷◌, length, replicate, Some, None, refl}
 use Rattle.tp_base.specs.Table.{empty}
 use Rattle.tp_base.specs.Act.{go_on, ◌>>=◌, ◌>>◌, give, stop, check, either}
 use Rattle.thread_set.specs.Threads as threads
 use Rattle.thread_set.specs.Threads.{with_current, all_ended}
-use Rattle.cap_table.specs.Slots.{empty_slots}
+use Rattle.cap_table.specs.declared.Cap.TheVariants as cap
+use Rattle.cap_table.specs.Slots.{empty_slots, in_use}
 use Rattle.call_table.specs.declared.DomainStatus.TheVariants.{Exited}
-use Rattle.call_table.specs.Domain.{Dom, opening, placed, replied, exited}
+use Rattle.call_table.specs.Domain.{Dom, opening, placed, replied, exited, with_caps}
 use Rattle.call_table.specs.Claims.{Estate}
-use Rattle.call_table.specs.Calls.{put_byte, call_of}
+use Rattle.call_table.specs.Calls.{Note, zeroed_in, entries_in, work_of, empty_buffer, some_or, is_slot, filled, put_byte, clear_entry, drop_slot, delete, call_of}
 
 -- a domain of which the calls below use nothing
 abbrev pub nothing : Estate
@@ -42,3 +43,26 @@ no_byte_more = (refl, refl)
 pub bad_call : (after fresh 9 0).replies ≡ record { code = 1; value = 0 } ∷ []
 unfolding fresh opening threads.opening placed replied with_current call_of stop either
 bad_call = refl
+
+-- ---- the work of calls, and the buffer
+
+abbrev pub notes_after : Dom → ℕ → ℕ → List Note
+notes_after d number a = (call_of nothing d number a 0 0 empty).notes
+
+-- a bad call's operation is 18, and it does nothing
+pub bad_work : work_of 9 (notes_after fresh 9 0) ≡ record { op = 18; zeroed = None; entries = [] }
+unfolding call_of stop work_of zeroed_in entries_in
+bad_work = refl
+
+-- DELETE of an interrupt line writes no entry, and empties the buffer all the same
+abbrev pub with_line : Dom
+with_line = record fresh { caps = Some (cap.Irq 5) ∷ replicate 63 None }
+
+pub line_deleted : notes_after with_line 7 0 ≡ Note.Emptied ∷ []
+unfolding fresh opening threads.opening placed replied with_current with_caps call_of delete filled is_slot some_or drop_slot clear_entry empty_buffer in_use go_on ◌>>◌ ◌>>=◌ give stop check
+line_deleted = refl
+
+-- DELETE of an empty slot is refused, and doesn't empty it
+pub nothing_deleted : notes_after fresh 7 0 ≡ []
+unfolding fresh opening threads.opening empty_slots call_of delete filled is_slot some_or go_on ◌>>◌ ◌>>=◌ give stop check
+nothing_deleted = refl

@@ -1,5 +1,5 @@
 -- What kernel calls keep and what they mean, as laws.
-use Rattle.std.specs.Prelude.{◌≡◌, ◌≢◌, ℕ, ◌<◌, ◌≤◌, ◌⊎◌, ◌/◌, true, false, List, [], ◌∷◌, length, Option, Some, None, Result, Ok}
+use Rattle.std.specs.Prelude.{◌≡◌, ◌≢◌, ℕ, ◌<◌, ◌≤◌, ◌⊎◌, ◌/◌, true, false, List, [], ◌∷◌, length, slice_get, Option, Some, None, Result, Ok}
 use Rattle.std.specs.List.{All}
 use Rattle.std.specs.List.Sorted.{IsStrictlyIncreasing}
 use Rattle.std.proofs.Common.{inl, inr}
@@ -12,11 +12,14 @@ use Rattle.sv32_walk.specs.Walk.{walk}
 use Rattle.page_map.specs.Tables.{IsPageMap, TablesOnce}
 use Rattle.page_map.specs.Reached.{leaf_at, ReachesIn, IsApart, IsSealed}
 use Rattle.frame_colours.specs.Colours.{pool}
+use Rattle.rv_core.specs.Registers.{register}
+use Rattle.pad_bound.specs.Worst.{IsCallWork}
 use Rattle.cap_table.specs.Slots.{Slots, cap_at, page_of, table_of, mapped_at}
 use Rattle.cap_table.specs.declared.Cap.TheVariants as cap
+use Rattle.call_table.specs.declared.Reply.{Reply}
 use Rattle.call_table.specs.Domain.{Dom, refused}
 use Rattle.call_table.specs.Claims.{Claim, Estate, is_mine, claims, is_named, frame_of, Facts, IsEstate}
-use Rattle.call_table.specs.Calls.{Note, alloc, map_page, copy, delete, revoke, call, is_within}
+use Rattle.call_table.specs.Calls.{Note, alloc, map_page, copy, delete, revoke, call, is_within, empties, empties_buffer, op_of, work_of}
 
 -- ---- the facts of a domain and a memory
 
@@ -178,3 +181,39 @@ IsReached e m f = (va : ℕ) × (leaf : ℕ) × (access : Access) × (found_at e
 abbrev pub PoolLaw : Type 0
 PoolLaw = (e : Estate) (d : Dom) (m : Mem) (fs : List ℕ) → Kept e d m
     → IsStrictlyIncreasing fs → All (IsReached e m) fs → length fs ≤ length (pool e.share)
+
+-- ---- the translation buffer
+
+-- the number of the call that the current thread makes
+abbrev pub number_of : Dom → ℕ
+number_of d = register d.threads.current.regs 17
+
+-- the reply that a call gave: the first past those that the domain had; an EXIT gives none
+abbrev pub reply_of : Dom → Done Mem Note Dom Dom → Option Reply
+reply_of d r = slice_get (either r.value).replies (length d.replies)
+
+-- the calls that empty the buffer are UNMAP, DELETE and REVOKE that are done
+abbrev pub EmptiesLaw : Type 0
+EmptiesLaw = (e : Estate) (d : Dom) (m : Mem)
+    → empties (call e d m).notes ≡ empties_buffer (number_of d) (reply_of d (call e d m))
+
+-- each walk that comes to a leaf in one memory comes to it in another
+pub record KeepsWalks (e : Estate) (m k : Mem) : Type 0 where
+  pub each : (va leaf : ℕ) (access : Access)
+      → found_at e m va access ≡ Ok leaf → found_at e k va access ≡ Ok leaf
+
+-- every other call keeps what the buffer may hold
+abbrev pub WalksStayLaw : Type 0
+WalksStayLaw = (e : Estate) (d : Dom) (m : Mem) → Kept e d m → empties (call e d m).notes ≡ false
+    → KeepsWalks e m (call e d m).state
+
+-- ---- the work of a call
+
+-- its operation is that of its number
+abbrev pub OperationLaw : Type 0
+OperationLaw = (e : Estate) (d : Dom) (m : Mem)
+    → (work_of (number_of d) (call e d m).notes).op ≡ op_of (number_of d)
+
+-- it is within what the bound on a switch allows to one call
+abbrev pub WorkLaw : Type 0
+WorkLaw = (e : Estate) (d : Dom) (m : Mem) → IsCallWork (work_of (number_of d) (call e d m).notes)

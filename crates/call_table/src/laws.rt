@@ -1,6 +1,7 @@
 //! Laws of kernel calls over their definitions, each the contract of a function
 //! that does nothing: a caller that calls it may rely on the law.
 ghost use Rattle.call_table.specs.Laws.{CallsKeepLaw, RefusalLaw, ConfinedLaw, PageTablesLaw, StoreLaw, MapLaw, DeleteLaw, RevokeLaw, AllocLaw, NoWiderLaw, CopiesLaw, PoolLaw};
+ghost use Rattle.call_table.specs.Laws.{EmptiesLaw, WalksStayLaw, OperationLaw, WorkLaw};
 
 /// Every call keeps the facts of a domain's frames and page tables.
 pub fn calls_keep()
@@ -32,4 +33,18 @@ pub fn meaning()
     ensures no_wider { NoWiderLaw }
     ensures copies { CopiesLaw }
     ensures pool { PoolLaw }
+{}
+
+/// Which calls empty the translation buffer, and that every other call keeps
+/// each walk that comes to a leaf, so a leaf that is kept stays right.
+pub fn buffer()
+    ensures empties { EmptiesLaw }
+    ensures stays { WalksStayLaw }
+{}
+
+/// What a call tells of its work: its operation, and no more frames and entries
+/// than the bound on a switch allows for.
+pub fn work()
+    ensures operation { OperationLaw }
+    ensures bounded { WorkLaw }
 {}

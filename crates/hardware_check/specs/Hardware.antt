@@ -15,7 +15,6 @@ pub record CacheShape : Type 0 where
 
 pub record Hardware : Type 0 where
   pub frames : ℕ  -- of 4,096 bytes
-  pub base : ℕ  -- cycles of an instruction, before what it touches
   pub shared : ℕ  -- bytes of the kernel's shared region
   pub line : ℕ  -- bytes
   pub l1i : CacheShape
@@ -64,11 +63,9 @@ costs_of c = record {
   flush = natural_of c.flush;
 }
 
--- as yet an instruction takes one cycle, whatever the costs say
 unfoldable pub hardware_of : Raw → Hardware
 hardware_of i = record {
   frames = natural_of i.frames;
-  base = 1;
   shared = natural_of i.shared;
   line = natural_of i.line;
   l1i = shape_of i.l1i;

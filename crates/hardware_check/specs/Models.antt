@@ -10,7 +10,6 @@ shape_model c = record { sets = c.sets; ways = c.ways; policy = c.policy }
 abbrev pub hardware_model : Hardware → spec.Hardware
 hardware_model h = record {
   frames = h.frames;
-  base = h.base;
   shared = h.shared;
   line = h.line;
   l1i = shape_model h.l1i;

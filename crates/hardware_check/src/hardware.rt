@@ -31,8 +31,6 @@ pub struct CacheShape {
 pub struct Hardware {
     /// Frames of 4,096 bytes: 64 to 4,096.
     pub frames: u32,
-    /// Cycles of an instruction, before what it touches.
-    pub base: u32,
     /// Bytes of the kernel's shared region: whole lines, up to 65,536.
     pub shared: u32,
     /// Bytes of a cache's line: a power of two from 16 to 128.

@@ -71,7 +71,6 @@ pub fn hardware_of(raw: &Raw) -> Hardware
 {
     Hardware {
         frames: natural_of(raw.frames) as u32,
-        base: 1,
         shared: natural_of(raw.shared) as u32,
         line: natural_of(raw.line) as u32,
         l1i: shape_of(&raw.l1i),

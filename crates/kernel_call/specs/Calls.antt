@@ -9,7 +9,7 @@ use Rattle.kernel_clone.specs.Models.{work_model}
 use Rattle.thread_set.specs.declared.Thread.{Thread}
 use Rattle.call_table.specs.Domain.{Dom}
 use Rattle.call_table.specs.Claims.{Estate}
-use Rattle.call_table.specs.Calls.{Note, call_of, work_of}
+use Rattle.call_table.specs.Calls.{Note, call_of, work_of, empties, empties_buffer}
 use Rattle.call_table.specs.declared.Reply.{Reply}
 use Rattle.kernel_call.specs.Logs.{log_of}
 use Rattle.kernel_call.specs.LogModel.{log_model}
@@ -28,6 +28,7 @@ pub record IsCalled (e : Estate) (memory : Contents) (d : Domain) (number before
   pub facts : HasFacts e memory r.state d
   pub work : work_model outcome.work ≡ work_of number r.notes
   pub reply : outcome.reply ≡ answer_of number before (either r.value)
+  pub buffer : empties_buffer outcome.work.op outcome.reply ≡ empties r.notes
 
 -- whatever estate, logs and memory the old ones stand for, the new ones stand for what the call leaves
 abbrev pub Calls : ℕ → List ℕ → Outcome → Contents → Domain → Contents → Domain → Type 0

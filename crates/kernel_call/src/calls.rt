@@ -1,5 +1,7 @@
 // The kernel call that a domain makes.
-ghost use Rattle.std.specs.Prelude.{◌≡◌, ◌≢◌, ◌^◌, ◌<◌, IfErr, IfSome, Some, slice_index};
+ghost use Rattle.std.specs.Prelude.{◌≡◌, ◌≢◌, ◌^◌, ◌<◌, ◌≤◌, IfErr, IfSome, Some, slice_index};
+ghost use Rattle.kernel_clone.specs.Models.{work_model, IsWork};
+ghost use Rattle.pad_bound.specs.Worst.{IsCallWork};
 ghost use Rattle.call_table.specs.Domain as domain_spec;
 ghost use Rattle.call_table.specs.Calls as spec;
 ghost use Rattle.kernel_call.specs.Models.{Becomes};
@@ -121,6 +123,11 @@ pub fn call(domain: &mut Domain, memory: &mut PhysMem, number: u32, args: [u32; 
     ensures frames { memory.new.frames ≡ memory.old.frames }
     ensures refused { IfSome result.reply (λ r. r.code ≢ 0 → IsRefused domain.old domain.new r) }
     ensures memory { IfSome result.reply (λ r. r.code ≢ 0 → memory.new ≡ memory.old) }
+    ensures operation { result.work.op ≡ spec.op_of number }
+    ensures work { IsCallWork (work_model result.work) }
+    ensures in_memory { memory.old.frames ≤ 2 ^ 15 → IsWork result.work }
+    ensures buffer { spec.empties_buffer result.work.op result.reply
+        ≡ spec.empties_buffer number result.reply }
 {
     if number == 0 {
         exit(domain, args[0]);

@@ -23,9 +23,11 @@ use phys_mem::PhysMem;
 
 const ALLOC: u8 = 2;
 
-const DELETE: u8 = 7;
+/// The operation of DELETE.
+pub const DELETE: u8 = 7;
 
-const REVOKE: u8 = 8;
+/// The operation of REVOKE.
+pub const REVOKE: u8 = 8;
 
 // The rights of a page that was allocated: to read, to write and to execute.
 const ALL_RIGHTS: u8 = 7;

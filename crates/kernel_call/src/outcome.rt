@@ -1,7 +1,10 @@
 // What a kernel call comes to.
 ghost use Rattle.std.specs.Prelude.{◌≡◌, [], ◌∷◌, Some, None};
 ghost use Rattle.kernel_clone.specs.Models.{work_model};
+ghost use Rattle.call_table.specs.Calls.{clears_entries};
 
+use crate::frames::{DELETE, REVOKE};
+use crate::tables::UNMAP;
 use call_table::Reply;
 use kernel_clone::Work;
 
@@ -11,6 +14,29 @@ pub struct Outcome {
     /// None at an EXIT.
     pub reply: Option<Reply>,
     pub work: Work,
+}
+
+impl Outcome {
+    ghost use Rattle.std.specs.Prelude.{◌≡◌};
+    ghost use Rattle.call_table.specs.Calls.{empties_buffer};
+
+    /// Whether the call empties the translation buffer: an UNMAP, a DELETE or a
+    /// REVOKE that was done.
+    pub fn empties_buffer(&self) -> bool
+        ensures value { result ≡ empties_buffer self.now.work.op self.now.reply }
+    {
+        match self.reply {
+            Some(reply) => reply.code == 0 && clears_entries(self.work.op),
+            None => false,
+        }
+    }
+}
+
+// Whether an operation clears entries of page tables, where it is done.
+fn clears_entries(op: u8) -> bool
+    ensures value { result ≡ clears_entries op }
+{
+    op == UNMAP || op == DELETE || op == REVOKE
 }
 
 /// What a call that was done gives, and did.
@@ -55,3 +81,6 @@ pub fn writing(op: u8, entry: u32) -> Work
         entries,
     }
 }
+
+#[cfg(test)]
+mod tests;

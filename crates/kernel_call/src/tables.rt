@@ -14,7 +14,8 @@ const TABLE: u8 = 3;
 
 const MAP: u8 = 4;
 
-const UNMAP: u8 = 5;
+/// The operation of UNMAP.
+pub const UNMAP: u8 = 5;
 
 // What a page has in bytes, and what the pages of one table have together.
 const PAGE: u32 = 4096;

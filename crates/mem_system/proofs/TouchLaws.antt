@@ -17,15 +17,24 @@ use Rattle.mem_system.specs.TouchLaws.{lines_in_l1i, lines_in_l1d, lines_in_l2, 
 
 -- ---- colours
 
+-- the set of a line has the line's colour
+pub set_colour : (h : Hierarchy) (line : ℕ) → IsColoured h.line_size h.l2.count → colour_of_set h.line_size (line % h.l2.count) ≡ colour_of_line h line
+unfolding colour_of_line
+set_colour h line coloured = line_in_colour h.line_size h.l2.count line coloured
+
+-- a line of another colour than a set's stands in another set
+pub line_elsewhere : (h : Hierarchy) (s line : ℕ) → IsColoured h.line_size h.l2.count → colour_of_set h.line_size s ≢ colour_of_line h line
+    → s ≢ line % h.l2.count
+line_elsewhere h s line coloured apart same = apart (ap (colour_of_set h.line_size) same ∙ set_colour h line coloured)
+
 -- the sets of lines of two colours are two
 sets_apart : (h : Hierarchy) (line other : ℕ) → IsColoured h.line_size h.l2.count → colour_of_line h other ≢ colour_of_line h line
     → line % h.l2.count ≢ other % h.l2.count
-unfolding colour_of_line
-sets_apart h line other coloured apart same =
-    apart (sym (line_in_colour h.line_size h.l2.count other coloured) ∙ ap (colour_of_set h.line_size) (sym same) ∙ line_in_colour h.line_size h.l2.count line coloured)
+sets_apart h line other coloured apart =
+    line_elsewhere h (line % h.l2.count) other coloured (λ same. apart (sym same ∙ set_colour h line coloured))
 
 -- a line that gets to the sets of the second level stands in another set than this one
-abbrev Spares : Hierarchy → Bool → ℕ → ℕ → Type 0
+abbrev pub Spares : Hierarchy → Bool → ℕ → ℕ → Type 0
 Spares h pinned s other = (pinned && colour_of_line h other == 0) ≡ false → s ≢ other % h.l2.count
 
 below_if_spares : (h : Hierarchy) (test : Bool) (sets : Sets) (s other : ℕ) → (test ≡ false → s ≢ other % h.l2.count)
@@ -55,7 +64,7 @@ module _ (P : ℕ → Type 0) where
   looked_all h core page reads true false all = all
   looked_all h core page reads false false all = all
 
-  handed_on : (h : Hierarchy) (core : Core) (touch : Touch) → All P (lines_in_l2 touch) → All P (on_core h core touch).lines
+  pub handed_on : (h : Hierarchy) (core : Core) (touch : Touch) → All P (lines_in_l2 touch) → All P (on_core h core touch).lines
   unfolding on_core fetched accessed branched flushed
   handed_on h core (Fetch line) all = unless_all (touch_of h.l1i core.l1i line false).answer.hit line all
   handed_on h core (Load line) all = unless_all (touch_of h.l1d core.l1d line false).answer.hit line all
@@ -67,7 +76,7 @@ module _ (P : ℕ → Type 0) where
   handed_on h core Flush all = All-nil P
   handed_on h core (Charge cycles) all = All-nil P
 
-touch_spares : (h : Hierarchy) (pinned : Bool) (caches : Caches) (touch : Touch) (s : ℕ) → All (Spares h pinned s) (lines_in_l2 touch)
+pub touch_spares : (h : Hierarchy) (pinned : Bool) (caches : Caches) (touch : Touch) (s : ℕ) → All (Spares h pinned s) (lines_in_l2 touch)
     → set_at h.l2.ways (touched h pinned caches touch).caches.l2 s ≡ set_at h.l2.ways caches.l2 s
 unfolding touched pass_on
 touch_spares h pinned caches touch s spare =
@@ -237,7 +246,7 @@ hit_cost : (hit : Bool) (l2 mem : ℕ) → hit ≡ true → l2 + (if hit then 0 
 hit_cost true l2 mem held = omega arith
 hit_cost false l2 mem held = absurd (true≢false (sym held))
 
-below_if_held : (h : Hierarchy) (test : Bool) (sets : Sets) (line : ℕ) → holds h.l2 sets line ≡ true → (below_if test h sets line).cost ≡ h.costs.l2
+pub below_if_held : (h : Hierarchy) (test : Bool) (sets : Sets) (line : ℕ) → holds h.l2 sets line ≡ true → (below_if test h sets line).cost ≡ h.costs.l2
 unfolding below_if below_by
 below_if_held h true sets line held = refl
 below_if_held h false sets line held = hit_cost (touch_of h.l2 sets line false).answer.hit h.costs.l2 h.costs.mem (held_hit h.l2 sets line false held)
@@ -291,7 +300,7 @@ looked_l1i h core page reads found true = refl
 looked_l1i h core page reads true false = refl
 looked_l1i h core page reads false false = refl
 
-looked_l1d : (h : Hierarchy) (core : Core) (page : ℕ) (reads : List ℕ) (found held : Bool) → (looked h core page reads found held).core.l1d ≡ core.l1d
+pub looked_l1d : (h : Hierarchy) (core : Core) (page : ℕ) (reads : List ℕ) (found held : Bool) → (looked h core page reads found held).core.l1d ≡ core.l1d
 unfolding looked
 looked_l1d h core page reads found true = refl
 looked_l1d h core page reads true false = refl

@@ -180,6 +180,7 @@ impl<P: Policy> OnCore<P> {
         ensures few { result ≤ 3000 }
         ensures makes { MakesTouch P.rule P.stands_for (Fetch line) result
             (system self.old l2.old) (system self.new l2.new) }
+        ensures buffer { self.new.tlb ≡ self.old.tlb }
     {
         if self.l1i.fetch(line) {
             return self.costs.l1;
@@ -194,6 +195,7 @@ impl<P: Policy> OnCore<P> {
         ensures few { result ≤ 4000 }
         ensures makes { MakesTouch P.rule P.stands_for (if store then Store line else Load line) result
             (system self.old l2.old) (system self.new l2.new) }
+        ensures buffer { self.new.tlb ≡ self.old.tlb }
     {
         let found = if store {
             self.l1d.store(line)
@@ -228,6 +230,7 @@ impl<P: Policy> OnCore<P> {
         ensures makes { (l2 : L2Contents P)
             → MakesTouch P.rule P.stands_for (Branch pc taken) result
             (system self.old l2) (system self.new l2) }
+        ensures buffer { self.new.tlb ≡ self.old.tlb }
     {
         let guess = self.predictor.guess(pc);
         self.predictor.learn(pc, taken);

@@ -77,6 +77,7 @@ impl<P: Policy> MemSystem<P> {
     pub fn fetch(&mut self, line: Line) -> u32
         ensures few { result ≤ 3000 }
         ensures makes { MakesTouch P.rule P.stands_for (Fetch line) result self.old self.new }
+        ensures buffer { self.new.core.tlb ≡ self.old.core.tlb }
     {
         self.core.fetch(&mut self.l2, line)
     }
@@ -87,6 +88,7 @@ impl<P: Policy> MemSystem<P> {
         ensures few { result ≤ 4000 }
         ensures makes { MakesTouch P.rule P.stands_for (if store then Store line else Load line) result
             self.old self.new }
+        ensures buffer { self.new.core.tlb ≡ self.old.core.tlb }
     {
         self.core.access(&mut self.l2, line, store)
     }
@@ -95,6 +97,7 @@ impl<P: Policy> MemSystem<P> {
     pub fn walk_read(&mut self, line: Line) -> u32
         ensures few { result ≤ 2000 }
         ensures makes { MakesTouch P.rule P.stands_for (WalkRead line) result self.old self.new }
+        ensures buffer { self.new.core.tlb ≡ self.old.core.tlb }
     {
         self.core.walk_read(&mut self.l2, line)
     }
@@ -104,6 +107,7 @@ impl<P: Policy> MemSystem<P> {
     pub fn branch(&mut self, pc: u32, taken: bool) -> u32
         ensures few { result ≤ 1000 }
         ensures makes { MakesTouch P.rule P.stands_for (Branch pc taken) result self.old self.new }
+        ensures buffer { self.new.core.tlb ≡ self.old.core.tlb }
     {
         self.core.branch(pc, taken)
     }

@@ -1,11 +1,15 @@
-use Rattle.std.proofs.Common.{rules, ◌≡◌, ◌<◌, ℕ, [], None, ap, ◌∙◌}
+use Rattle.std.proofs.Common.{rules, arith, ◌≡◌, ◌<◌, ◌≤◌, ◌^◌, ℕ, [], length, None, ap, sym, subst, ◌∙◌}
 use Rattle.std.specs.Prelude.{slice_index}
-use Rattle.kernel_clone.specs.Models.{work_model}
+use Rattle.kernel_clone.specs.Models.{work_model, IsWork}
+use Rattle.pad_bound.specs.Worst.{IsCallWork}
 use Rattle.call_table.specs.Calls.{call_of, op_of}
+use Rattle.call_table.proofs.BoundedWork.{call_of_empties, call_of_own}
 use Rattle.kernel_call.specs.LogModel.{log_model}
 use Rattle.kernel_call.specs.Models.{dom_model}
 use Rattle.kernel_call.specs.declared.domain.Domain.{Domain}
-use Rattle.kernel_call.proofs.TiesCalls.{facts_still, facts_done, facts_refused, called_exit, called_done, called_refused}
+use Rattle.kernel_call.specs.declared.outcome.Outcome.{Outcome}
+use Rattle.kernel_call.proofs.TiesCalls.{facts_still, facts_done, facts_refused, called_exit, called_done, called_refused, told_work, same_buffer, work_in_memory}
+use Rattle.kernel_call.proofs.Ties.{kept_facts}
 use Rattle.kernel_call.proofs.calls.call.Goals as goal
 
 pub returns-then-number-eq0-clause-calls : goal.returns-then-number-eq0-clause-calls
@@ -29,6 +33,8 @@ returns-in-Ok-clause-calls c e readings replies m h logged kept =
     (c.reply_to.ensures.becomes readings replies
     (ap log_model c.in-Ok.ensures.rest.readings ∙ logged) (ap log_model c.in-Ok.ensures.rest.replies ∙ kept))
     c.reply_to.ensures.outcome
+    (call_of_empties e (dom_model c.args.domain.now readings replies) m c.args.number
+    (slice_index c.args.args 0) (slice_index c.args.args 1) (slice_index c.args.args 2))
 
 pub returns-in-Ok-clause-valid : goal.returns-in-Ok-clause-valid
 returns-in-Ok-clause-valid c =
@@ -61,3 +67,44 @@ returns-in-Err-clause-calls c e readings replies m h logged kept =
     (c.reply_to-in-Err.ensures.becomes readings replies
     (ap log_model c.in-Err.ensures.rest.readings ∙ logged) (ap log_model c.in-Err.ensures.rest.replies ∙ kept))
     did c.reply_to-in-Err.ensures.outcome
+    (call_of_empties e (dom_model c.args.domain.now readings replies) m c.args.number
+    (slice_index c.args.args 0) (slice_index c.args.args 1) (slice_index c.args.args 2))
+
+pub returns-in-Ok-clause-operation : goal.returns-in-Ok-clause-operation
+returns-in-Ok-clause-operation c =
+    let v = c.requires.valid in
+    ap (λ (o : Outcome). o.work.op) c.reply_to.ensures.outcome
+    ∙ (told_work c.args.number v.estate c.args.domain.now c.perform.new.domain c.perform.new.memory [] [] v.mem c.in-Ok.done
+    (slice_index c.args.args 0) (slice_index c.args.args 1) (slice_index c.args.args 2)
+    (c.in-Ok.ensures.does v.estate [] [] v.mem v.facts)).0
+
+pub returns-in-Ok-clause-work : goal.returns-in-Ok-clause-work
+returns-in-Ok-clause-work c =
+    let v = c.requires.valid in
+    subst (λ (o : Outcome). IsCallWork (work_model o.work)) (sym c.reply_to.ensures.outcome)
+    (told_work c.args.number v.estate c.args.domain.now c.perform.new.domain c.perform.new.memory [] [] v.mem c.in-Ok.done
+    (slice_index c.args.args 0) (slice_index c.args.args 1) (slice_index c.args.args 2)
+    (c.in-Ok.ensures.does v.estate [] [] v.mem v.facts)).1
+
+pub returns-in-Ok-clause-buffer : goal.returns-in-Ok-clause-buffer
+returns-in-Ok-clause-buffer c =
+    let v = c.requires.valid in
+    same_buffer c.args.number c.reply_to.result.work.op c.reply_to.result.reply
+    (ap (λ (o : Outcome). o.work.op) c.reply_to.ensures.outcome
+    ∙ (told_work c.args.number v.estate c.args.domain.now c.perform.new.domain c.perform.new.memory [] [] v.mem c.in-Ok.done
+    (slice_index c.args.args 0) (slice_index c.args.args 1) (slice_index c.args.args 2)
+    (c.in-Ok.ensures.does v.estate [] [] v.mem v.facts)).0)
+
+pub returns-in-Ok-clause-in_memory : goal.returns-in-Ok-clause-in_memory
+returns-in-Ok-clause-in_memory c = λ few.
+    let v = c.requires.valid in
+    let ends = c.in-Ok.ensures.does v.estate [] [] v.mem v.facts in
+    let long : length c.in-Ok.done.work.entries ≡ 64 = search rules in
+    let in_share : v.estate.share.frames ≤ 2 ^ 15 = omega (arith, few, v.facts.frames) in
+    let bounded = (told_work c.args.number v.estate c.args.domain.now c.perform.new.domain c.perform.new.memory [] [] v.mem c.in-Ok.done
+    (slice_index c.args.args 0) (slice_index c.args.args 1) (slice_index c.args.args 2) ends).1 in
+    subst (λ (o : Outcome). IsWork o.work) (sym c.reply_to.ensures.outcome)
+    (work_in_memory v.estate in_share c.args.number _ c.in-Ok.done.work long ends.work bounded
+    (call_of_own v.estate (dom_model c.args.domain.now [] []) v.mem c.args.number
+    (slice_index c.args.args 0) (slice_index c.args.args 1) (slice_index c.args.args 2)
+    (kept_facts v.estate c.args.memory.now v.mem c.args.domain.now [] [] v.facts)))

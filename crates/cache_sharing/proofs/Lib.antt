@@ -1,0 +1,6 @@
+-- Lemmas of the laws of shared caches.
+pub mod OwnTouches
+pub mod ResidencyWays
+pub mod Residency
+pub mod Region
+pub mod Worst

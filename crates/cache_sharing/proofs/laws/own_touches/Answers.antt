@@ -1,0 +1,18 @@
+-- What a domain touches.
+use Rattle.cache_sharing.proofs.OwnTouches.{beside_law, others_law, stays_law, prefetch_law, prefetch_stays_law}
+use Rattle.cache_sharing.proofs.laws.own_touches.Goals as goal
+
+pub returns-clause-beside : goal.returns-clause-beside
+returns-clause-beside c = beside_law
+
+pub returns-clause-others : goal.returns-clause-others
+returns-clause-others c = others_law
+
+pub returns-clause-stays : goal.returns-clause-stays
+returns-clause-stays c = stays_law
+
+pub returns-clause-prefetch : goal.returns-clause-prefetch
+returns-clause-prefetch c = prefetch_law
+
+pub returns-clause-prefetch_stays : goal.returns-clause-prefetch_stays
+returns-clause-prefetch_stays c = prefetch_stays_law

@@ -1,0 +1,81 @@
+-- The laws of shared caches, each as a type; they are the clauses of the functions of `laws`.
+use Rattle.std.specs.Prelude.{◌≡◌, ℕ, ◌+◌, ◌-◌, ◌/◌, ◌<◌, ◌≤◌, Bool, true, false, List, ◌++◌, Option}
+use Rattle.set_cache.specs.Cache.{Sets}
+use Rattle.kernel_clone.specs.Footprints.{Layout, IsLayout}
+use Rattle.l2_colour.specs.Colours.{IsColoured, colours_of}
+use Rattle.pad_bound.specs.Bound.{worst_instruction, worst_operation, worst_leave, worst_prefetch, worst_flush, worst_enter, bound_of}
+use Rattle.pad_bound.specs.Worst.{IsCloneOf}
+use Rattle.mem_system.specs.Hierarchy.{Hierarchy}
+use Rattle.mem_system.specs.Cost.{Touch, Caches, cold, and_then, touched_all}
+use Rattle.cache_sharing.specs.Operations.{shared_region, prefetch, switch}
+use Rattle.cache_sharing.specs.Sharing.{IsRegion, IsSharing, HasRoom, AreApart, MayTouchAll, SameSets, Resident, BesideCaches, BesideTouched}
+use Rattle.cache_sharing.specs.Worst.{shape_of, worst_touches, HasWays, IsWithin}
+
+-- touches after touches
+abbrev pub AppendLaw : Type 0
+AppendLaw = (h : Hierarchy) (pinned : Bool) (c : Caches) (ts us : List Touch)
+    → touched_all h pinned c (ts ++ us) ≡ and_then (touched_all h pinned c ts) (λ k. touched_all h pinned k us)
+
+-- ---- a domain's touches
+
+-- cost the same among others as alone, where the kernel's lines are always there
+abbrev pub BesideLaw : Type 0
+BesideLaw = (h : Hierarchy) (own : ℕ → Bool) (region : List ℕ) (first : Sets) (ts : List Touch) (c alone : Caches)
+    → IsSharing h own region → MayTouchAll h own region ts → BesideCaches h own region first c alone
+    → BesideTouched h own region first (touched_all h false c ts) (touched_all h true alone ts)
+
+-- leave the sets of another's colours
+abbrev pub OthersLaw : Type 0
+OthersLaw = (h : Hierarchy) (own others : ℕ → Bool) (region : List ℕ) (ts : List Touch) (c : Caches)
+    → IsSharing h own region → AreApart own others → MayTouchAll h others region ts
+    → SameSets h own (touched_all h false c ts).caches.l2 c.l2
+
+-- and the shared lines in place
+abbrev pub StaysResidentLaw : Type 0
+StaysResidentLaw = (h : Hierarchy) (own : ℕ → Bool) (region : List ℕ) (ts : List Touch) (c : Caches)
+    → IsSharing h own region → MayTouchAll h own region ts → Resident h region c.l2
+    → Resident h region (touched_all h false c ts).caches.l2
+
+-- ---- the prefetch
+
+-- leaves the sets of all domains
+abbrev pub PrefetchLaw : Type 0
+PrefetchLaw = (h : Hierarchy) (own : ℕ → Bool) (region : List ℕ) (c : Caches) → IsSharing h own region
+    → SameSets h own (touched_all h false c (prefetch region)).caches.l2 c.l2
+
+-- and the shared lines in place
+abbrev pub PrefetchStaysLaw : Type 0
+PrefetchStaysLaw = (h : Hierarchy) (own : ℕ → Bool) (region : List ℕ) (c : Caches) → IsSharing h own region → Resident h region c.l2
+    → Resident h region (touched_all h false c (prefetch region)).caches.l2
+
+-- from caches that hold nothing it brings every shared line into the second level, under any policy: a set has a way for
+-- each of its lines, and a miss fills an empty way first
+abbrev pub ResidentLaw : Type 0
+ResidentLaw = (h : Hierarchy) (region : List ℕ) → HasRoom h region
+    → Resident h region (touched_all h false (cold h) (prefetch region)).caches.l2
+
+-- the shared region of a clone has colour 0, and no set has more of its lines than the frames that it has begun
+abbrev pub RegionLaw : Type 0
+RegionLaw = (h : Hierarchy) (l : Layout) → IsLayout l → IsColoured h.line_size h.l2.count → l.line ≡ h.line_size
+    → l.colours ≡ colours_of h.line_size h.l2.count → (l.shared + 4095) / 4096 ≤ h.l2.ways
+    → IsRegion h (shared_region l) × HasRoom h (shared_region l)
+
+-- ---- what it costs at worst
+
+abbrev pub WorstLaw : Type 0
+WorstLaw = (h : Hierarchy) (pinned : Bool) (ts : List Touch) (c : Caches) → HasWays h c
+    → IsWithin h (worst_touches h ts) (touched_all h pinned c ts)
+
+-- a switch, part by part
+abbrev pub SwitchLaw : Type 0
+SwitchLaw = (h : Hierarchy) (shared : ℕ) (out : Option Layout) (into : Layout) (c : Caches) → HasWays h c
+    → IsCloneOf (shape_of h shared) into
+    → let s = shape_of h shared in
+    IsWithin h (worst_leave s + worst_prefetch s + worst_flush s + worst_enter s) (touched_all h false c (switch h.costs out into))
+
+-- begun past a slot's end by less than the largest step, it is done by the bound
+abbrev pub OnTimeLaw : Type 0
+OnTimeLaw = (h : Hierarchy) (shared old_end now : ℕ) (out : Option Layout) (into : Layout) (c : Caches) → HasWays h c
+    → IsCloneOf (shape_of h shared) into → old_end ≤ now
+    → now < old_end + (worst_instruction (shape_of h shared) + worst_operation (shape_of h shared))
+    → now + (touched_all h false c (switch h.costs out into)).cost - old_end ≤ bound_of (shape_of h shared)

@@ -1,0 +1,250 @@
+-- What the steps of calls note: entries that are written, a frame that is zeroed, and the buffer that is emptied.
+use Rattle.std.proofs.Common.{◌≡◌, ◌∙◌, ap, sym, refl, inl, inr, ◌⊎◌, ℕ, ◌+◌, ◌≤◌, Bool, true, false, arith, ltb-true, ◌<◌, List, [], ◌∷◌, ◌++◌, length, Option, Some, None}
+use Rattle.std.proofs.lemmas.List.{length-append, get_or_at}
+use Rattle.std.proofs.lemmas.Option.{slice_get-get_or}
+use Rattle.std.specs.Prelude.{nat_eq, nat_lt, ◌&&◌, slice_get}
+use Rattle.tp_base.specs.Act.{Done, go_on, ◌>>=◌, ◌>>◌, give, stop, check, either}
+use Rattle.phys_mem.specs.Mem.{Mem}
+use Rattle.page_map.specs.declared.refusal.MapRefusal.{MapRefusal}
+use Rattle.page_map.specs.declared.refusal.MapRefusal.TheVariants as refusal
+use Rattle.page_map.specs.Tables.{map_refusal, install_refusal}
+use Rattle.pad_bound.specs.Bound.{most_entries}
+use Rattle.cap_table.specs.declared.Cap.{Cap}
+use Rattle.cap_table.specs.declared.Cap.TheVariants as cap
+use Rattle.cap_table.specs.Slots.{cap_at}
+use Rattle.call_table.specs.declared.Reply.{Reply}
+use Rattle.call_table.specs.Domain.{Dom, placed, replied, done, refused, with_caps}
+use Rattle.call_table.specs.Claims.{Estate}
+use Rattle.call_table.specs.Calls.{Note, Act, zeroed_in, entries_in, empties, is_done, zero_out, page_refusal, table_refusal, map_at, unmap_at, install_at, uninstall_at, empty_buffer, some_or, is_slot, filled, allowed, unless_refused, with_slot, clear_entry, drop_slot}
+
+-- ---- notes one after another
+
+zeroed-append : (ns ms : List Note) → zeroed_in ns ≡ None → zeroed_in (ns ++ ms) ≡ zeroed_in ms
+unfolding zeroed_in
+zeroed-append [] ms none = refl
+zeroed-append (Note.Zeroed f ∷ ns) ms none = absurd (cc none)
+zeroed-append (Note.Entry at ∷ ns) ms none = zeroed-append ns ms none
+zeroed-append (Note.Emptied ∷ ns) ms none = zeroed-append ns ms none
+
+entries-append : (ns ms : List Note) → entries_in (ns ++ ms) ≡ entries_in ns ++ entries_in ms
+unfolding entries_in
+entries-append [] ms = refl
+entries-append (Note.Zeroed f ∷ ns) ms = entries-append ns ms
+entries-append (Note.Entry at ∷ ns) ms = ap (λ (es : List ℕ). at ∷ es) (entries-append ns ms)
+entries-append (Note.Emptied ∷ ns) ms = entries-append ns ms
+
+empties-append : (ns ms : List Note) → empties ns ≡ false → empties (ns ++ ms) ≡ empties ms
+unfolding empties
+empties-append [] ms quiet = refl
+empties-append (Note.Zeroed f ∷ ns) ms quiet = empties-append ns ms quiet
+empties-append (Note.Entry at ∷ ns) ms quiet = empties-append ns ms quiet
+empties-append (Note.Emptied ∷ ns) ms quiet = absurd (cc quiet)
+
+-- at most so many entries, and nothing else
+pub record Writes (n : ℕ) (ns : List Note) : Type 0 where
+  pub zeroed : zeroed_in ns ≡ None
+  pub few : length (entries_in ns) ≤ n
+  pub quiet : empties ns ≡ false
+
+joined : (n k : ℕ) (ns ms : List Note) → Writes n ns → Writes k ms → Writes (n + k) (ns ++ ms)
+joined n k ns ms h g = record {
+  zeroed = zeroed-append ns ms h.zeroed ∙ g.zeroed;
+  few = omega (arith, h.few, g.few, ap length (entries-append ns ms), length-append (entries_in ns) (entries_in ms));
+  quiet = empties-append ns ms h.quiet ∙ g.quiet;
+}
+
+-- ---- slots that are emptied
+
+-- a domain with the replies that it had, and at most so many entries
+abbrev Dropped : Dom → ℕ → Dom ⊎ Dom → List Note → Type 0
+Dropped d n (inl x) ns = ⊥
+Dropped d n (inr x) ns = (x.replies ≡ d.replies) × Writes n ns
+
+pub record Drops (d : Dom) (n : ℕ) (y : Act Dom) : Type 0 where
+  each : (m : Mem) → Dropped d n (y m).value (y m).notes
+
+module _ (d : Dom) (n k : ℕ) where
+  dropped_later : (x : Dom) (ns ms : List Note) (v : Dom ⊎ Dom) → x.replies ≡ d.replies → Writes n ns → Dropped x k v ms
+      → Dropped d (n + k) v (ns ++ ms)
+  dropped_later x ns ms (inl z) same h g = g
+  dropped_later x ns ms (inr z) same h g = (g.0 ∙ same, joined n k ns ms h g.1)
+
+  dropped_on : (r : Done Mem Note Dom Dom) (f : Dom → Act Dom) (v : Dom ⊎ Dom) → Dropped d n v r.notes → ((x : Dom) → Drops x k (f x))
+      → Dropped d (n + k) (go_on r f v).value (go_on r f v).notes
+  unfolding go_on
+  dropped_on r f (inl x) h g = absurd h
+  dropped_on r f (inr x) h g = dropped_later x r.notes (f x r.state).notes (f x r.state).value h.0 h.1 ((g x).each r.state)
+
+  pub drops_then : (y : Act Dom) (f : Dom → Act Dom) → Drops d n y → ((x : Dom) → Drops x k (f x)) → Drops d (n + k) (y >>= f)
+  unfolding ◌>>=◌
+  drops_then y f h g = record { each = λ m. dropped_on (y m) f (y m).value (h.each m) g }
+
+fewer : (d : Dom) (n k : ℕ) (v : Dom ⊎ Dom) (ns : List Note) → n ≤ k → Dropped d n v ns → Dropped d k v ns
+fewer d n k (inl x) ns below h = h
+fewer d n k (inr x) ns below h = (h.0, record { zeroed = h.1.zeroed; few = omega (arith, h.1.few, below); quiet = h.1.quiet })
+
+pub drops_fewer : (d : Dom) (n k : ℕ) (y : Act Dom) → n ≤ k → Drops d n y → Drops d k y
+drops_fewer d n k y below h = record { each = λ m. fewer d n k (y m).value (y m).notes below (h.each m) }
+
+pub give_drops : (d : Dom) → Drops d 0 (give d)
+unfolding give zeroed_in entries_in empties
+give_drops d = record { each = λ m. (refl, record { zeroed = refl; few = omega arith; quiet = refl }) }
+
+cleared : (root i : ℕ) (d : Dom) (c : Option Cap) → Drops d 1 (clear_entry root c >> give (with_slot d i None))
+unfolding clear_entry unmap_at uninstall_at give ◌>>◌ ◌>>=◌ go_on with_caps zeroed_in entries_in empties
+cleared root i d None = record { each = λ m. (refl, record { zeroed = refl; few = omega arith; quiet = refl }) }
+cleared root i d (Some (cap.Frame f rights None)) = record { each = λ m. (refl, record { zeroed = refl; few = omega arith; quiet = refl }) }
+cleared root i d (Some (cap.Frame f rights (Some va))) = record { each = λ m. (refl, record { zeroed = refl; few = omega arith; quiet = refl }) }
+cleared root i d (Some (cap.Table f None)) = record { each = λ m. (refl, record { zeroed = refl; few = omega arith; quiet = refl }) }
+cleared root i d (Some (cap.Table f (Some va))) = record { each = λ m. (refl, record { zeroed = refl; few = omega arith; quiet = refl }) }
+cleared root i d (Some (cap.Irq line)) = record { each = λ m. (refl, record { zeroed = refl; few = omega arith; quiet = refl }) }
+
+-- at most the one entry of the slot
+pub drop_slot_drops : (e : Estate) (i : ℕ) (d : Dom) → Drops d 1 (drop_slot e i d)
+unfolding drop_slot
+drop_slot_drops e i d = cleared e.root i d (cap_at d.caps i)
+
+-- ---- the work of a call
+
+-- the first reply past those that a domain had
+pub first_reply : (d x : Dom) (code value : ℕ) → x.replies ≡ d.replies
+    → slice_get (replied code value x).replies (length d.replies) ≡ Some (record { code = code; value = value })
+unfolding replied placed
+first_reply d x code value same =
+    let new : Reply = record { code = code; value = value } in
+    ap (λ (rs : List Reply). slice_get (rs ++ new ∷ []) (length d.replies)) same
+    ∙ slice_get-get_or (d.replies ++ new ∷ []) (length d.replies) new (omega (arith, length-append d.replies (new ∷ [])))
+    ∙ ap Some (get_or_at d.replies new [] new (length d.replies) refl)
+
+-- of a call that empties the buffer where it is done, or never: whether it does, by its end
+abbrev pub emptied_by : Bool → Dom ⊎ Dom → Bool
+emptied_by t (inl x) = false
+emptied_by t (inr x) = t
+
+pub record IsWork (d : Dom) (t : Bool) (v : Dom ⊎ Dom) (ns : List Note) : Type 0 where
+  pub buffer : empties ns ≡ emptied_by t v
+  pub reply : emptied_by t v ≡ (t && is_done (slice_get (either v).replies (length d.replies)))
+  pub few : length (entries_in ns) ≤ most_entries
+  pub not_both : (zeroed_in ns ≡ None) ⊎ (entries_in ns ≡ [])
+
+pub record Works (d : Dom) (t : Bool) (y : Act Dom) : Type 0 where
+  pub each : (m : Mem) → IsWork d t (y m).value (y m).notes
+
+never_both : (t b : Bool) → b ≡ false → false ≡ (t && b)
+never_both true b e = sym e
+never_both false b e = refl
+
+module _ (d : Dom) (t : Bool) where
+  stopped : (code : ℕ) → nat_eq code 0 ≡ false → IsWork d t (inl (refused code d)) []
+  unfolding either zeroed_in entries_in empties
+  stopped code bad = record {
+    buffer = refl;
+    reply = never_both t _ (ap is_done (first_reply d d code 0 refl) ∙ bad);
+    few = omega arith;
+    not_both = inl refl;
+  }
+
+  pub stop_works : (code : ℕ) → nat_eq code 0 ≡ false → Works d t (stop (refused code d))
+  unfolding stop
+  stop_works code bad = record { each = λ m. stopped code bad }
+
+  pub check_works : (code : ℕ) (b : Bool) (y : Act Dom) → nat_eq code 0 ≡ false → Works d t y → Works d t (check (refused code d) b >> y)
+  unfolding check ◌>>◌ ◌>>=◌ go_on give stop
+  check_works code true y bad h = record { each = λ m. h.each m }
+  check_works code false y bad h = record { each = λ m. stopped code bad }
+
+  pub some_works : {A : Type 0} (code : ℕ) (o : Option A) (f : A → Act Dom) → nat_eq code 0 ≡ false → ((a : A) → Works d t (f a))
+      → Works d t (some_or (refused code d) o >>= f)
+  unfolding some_or ◌>>=◌ go_on give stop
+  some_works code None f bad h = record { each = λ m. stopped code bad }
+  some_works code (Some a) f bad h = record { each = λ m. (h a).each m }
+
+  filled_by : (b : Bool) (o : Option Cap) (f : Cap → Act Dom) → ((c : Cap) → b ≡ true → Works d t (f c))
+      → Works d t ((check (refused 2 d) b >> some_or (refused 3 d) o) >>= f)
+  unfolding check some_or ◌>>◌ ◌>>=◌ go_on give stop
+  filled_by false o f h = record { each = λ m. stopped 2 refl }
+  filled_by true None f h = record { each = λ m. stopped 3 refl }
+  filled_by true (Some c) f h = record { each = λ m. (h c refl).each m }
+
+  pub filled_works : (a : ℕ) (f : Cap → Act Dom) → ((c : Cap) → a < 64 → Works d t (f c)) → Works d t (filled d a >>= f)
+  unfolding filled is_slot
+  filled_works a f h = filled_by (nat_lt a 64) (cap_at d.caps a) f (λ c is. h c (ltb-true a 64 is))
+
+  pub slot_works : (a : ℕ) (y : Act Dom) → Works d t y → Works d t (is_slot d a >> y)
+  unfolding is_slot
+  slot_works a y h = check_works 2 (nat_lt a 64) y refl h
+
+  pub page_refusal_works : (root va : ℕ) (f : Option MapRefusal → Act Dom) → ((r : Option MapRefusal) → Works d t (f r))
+      → Works d t (page_refusal root va >>= f)
+  unfolding page_refusal ◌>>=◌ go_on
+  page_refusal_works root va f h = record { each = λ m. (h (map_refusal m root va)).each m }
+
+  pub table_refusal_works : (root va : ℕ) (f : Option MapRefusal → Act Dom) → ((r : Option MapRefusal) → Works d t (f r))
+      → Works d t (table_refusal root va >>= f)
+  unfolding table_refusal ◌>>=◌ go_on
+  table_refusal_works root va f h = record { each = λ m. (h (install_refusal m root va)).each m }
+
+  pub allowed_works : (o : Option MapRefusal) (y : Act Dom) → Works d t y → Works d t (allowed d o >> y)
+  unfolding allowed ◌>>◌ ◌>>=◌ go_on give stop
+  allowed_works None y h = record { each = λ m. h.each m }
+  allowed_works (Some refusal.BadAddress) y h = record { each = λ m. stopped 7 refl }
+  allowed_works (Some refusal.Mapped) y h = record { each = λ m. stopped 8 refl }
+  allowed_works (Some refusal.NoTable) y h = record { each = λ m. stopped 9 refl }
+
+  pub unless_works : (o : Option ℕ) (y : Act Dom) → ((code : ℕ) → o ≡ Some code → nat_eq code 0 ≡ false) → Works d t y
+      → Works d t (unless_refused d o >> y)
+  unfolding unless_refused ◌>>◌ ◌>>=◌ go_on give stop
+  unless_works None y bad h = record { each = λ m. h.each m }
+  unless_works (Some code) y bad h = record { each = λ m. stopped code (bad code refl) }
+
+-- ---- what a call does last, where it never empties the buffer
+
+module _ (d : Dom) where
+  pub give_works : (x : Dom) → Works d false (give x)
+  unfolding give zeroed_in entries_in empties
+  give_works x = record { each = λ m. record { buffer = refl; reply = refl; few = omega arith; not_both = inl refl } }
+
+  pub zero_works : (f : ℕ) (x : Dom) → Works d false (zero_out f >> give x)
+  unfolding zero_out give ◌>>◌ ◌>>=◌ go_on zeroed_in entries_in empties
+  zero_works f x = record { each = λ m. record { buffer = refl; reply = refl; few = omega arith; not_both = inr refl } }
+
+  pub map_at_works : (root va f rights : ℕ) (x : Dom) → Works d false (map_at root va f rights >> give x)
+  unfolding map_at give ◌>>◌ ◌>>=◌ go_on zeroed_in entries_in empties
+  map_at_works root va f rights x = record { each = λ m. record { buffer = refl; reply = refl; few = omega arith; not_both = inl refl } }
+
+  pub install_at_works : (root va f : ℕ) (x : Dom) → Works d false (install_at root va f >> give x)
+  unfolding install_at give ◌>>◌ ◌>>=◌ go_on zeroed_in entries_in empties
+  install_at_works root va f x = record { each = λ m. record { buffer = refl; reply = refl; few = omega arith; not_both = inl refl } }
+
+  -- ---- and where it empties it
+
+  emptied : (x : Dom) (value : ℕ) (ns : List Note) → x.replies ≡ d.replies → Writes most_entries ns
+      → IsWork d true (inr (done value x)) (ns ++ Note.Emptied ∷ [])
+  unfolding either zeroed_in entries_in empties
+  emptied x value ns same h = record {
+    buffer = empties-append ns (Note.Emptied ∷ []) h.quiet;
+    reply = sym (ap is_done (first_reply d x 0 value same));
+    few = omega (arith, h.few, ap length (entries-append ns (Note.Emptied ∷ [])), length-append (entries_in ns) []);
+    not_both = inl (zeroed-append ns (Note.Emptied ∷ []) h.zeroed);
+  }
+
+  emptied_on : (r : Done Mem Note Dom Dom) (v : Dom ⊎ Dom) (value : ℕ) → Dropped d most_entries v r.notes
+      → IsWork d true (go_on r (λ x. empty_buffer >> give (done value x)) v).value (go_on r (λ x. empty_buffer >> give (done value x)) v).notes
+  unfolding go_on ◌>>◌ ◌>>=◌ empty_buffer give
+  emptied_on r (inl x) value h = absurd h
+  emptied_on r (inr x) value h = emptied x value r.notes h.0 h.1
+
+  pub drops_works : (y : Act Dom) (value : ℕ) → Drops d most_entries y → Works d true (y >>= λ x. empty_buffer >> give (done value x))
+  unfolding ◌>>=◌
+  drops_works y value h = record { each = λ m. emptied_on (y m) (y m).value value (h.each m) }
+
+  pub unmap_at_works : (root va a : ℕ) (c : Option Cap) → Works d true (unmap_at root va >> (empty_buffer >> give (done 0 (with_slot d a c))))
+  unfolding unmap_at empty_buffer give ◌>>◌ ◌>>=◌ go_on with_caps zeroed_in entries_in empties either
+  unmap_at_works root va a c = record {
+    each = λ m. record {
+      buffer = refl;
+      reply = sym (ap is_done (first_reply d (with_slot d a c) 0 0 refl));
+      few = omega arith;
+      not_both = inl refl;
+    };
+  }

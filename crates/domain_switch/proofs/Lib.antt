@@ -1,0 +1,3 @@
+-- Lemmas of the switch.
+pub mod Charges
+pub mod OnTime

@@ -1,0 +1,39 @@
+-- The parts of a switch, one after the other, and when they are done.
+use Rattle.std.proofs.Common.{◌∙◌, arith, Option}
+use Rattle.std.specs.Option.{option_copied}
+use Rattle.std.proofs.Math.Nat.{max-eq_right}
+use Rattle.kernel_clone.specs.Footprints.{Layout}
+use Rattle.kernel_clone.specs.Models.{layout_model, work_model}
+use Rattle.mem_system.specs.Hierarchy.{Hierarchy}
+use Rattle.mem_system.specs.Contents.{hierarchy_of}
+use Rattle.domain_switch.specs.Switch.{layout_if}
+use Rattle.domain_switch.proofs.Charges.{switch_made, enters}
+use Rattle.domain_switch.proofs.OnTime.{done_by}
+use Rattle.domain_switch.proofs.switching.switch.Goals as goal
+
+pub returns-clause-work : goal.returns-clause-work
+returns-clause-work g c caches for =
+    let out : Option Layout = layout_if (option_copied c.args.out) in
+    let into : Layout = layout_model c.args.into.now in
+    let made = switch_made g.P.Policy.rule g.P.Policy.stands_for c.args.system.now.core.costs out into
+    c.leave-left.result c.prefetch-loaded.result c.flush-flushed.result c.charge_footprint-entered.result
+    c.args.system.now c.leave-left.new.system c.prefetch-loaded.new.system c.flush-flushed.new.self c.charge_footprint-entered.new.system
+    c.leave-left.ensures.makes c.prefetch-loaded.ensures.makes c.flush-flushed.ensures.makes
+    (enters g.P.Policy.rule g.P.Policy.stands_for into (work_model c.work_of.result) c.charge_footprint-entered.result
+    c.flush-flushed.new.self c.charge_footprint-entered.new.system c.work_of.ensures.work c.charge_footprint-entered.ensures.makes) in
+    let step = made.steps caches for in
+    record {
+      time = omega (arith, step.cost, c.from.ensures, c.from-2.ensures, c.from-3.ensures, c.from-4.ensures);
+      next = step.next;
+    }
+
+pub returns-clause-within : goal.returns-clause-within
+returns-clause-within g c caches for in_time =
+    let h : Hierarchy = hierarchy_of g.P.Policy.rule c.args.system.now in
+    let done = done_by h c.args.system.now.core.pinned caches (layout_if (option_copied c.args.out)) (layout_model c.args.into.now)
+    c.args.shared c.args.old_end c.args.now c.args.until _ c.requires.into.same c.requires.ended in_time (returns-clause-work g c caches for).time in
+    omega (arith, done)
+
+pub returns-clause-on_time : goal.returns-clause-on_time
+returns-clause-on_time g c caches for in_time =
+    c.max.ensures ∙ max-eq_right (omega (arith, returns-clause-within g c caches for in_time, in_time.pad, c.requires.ended))

@@ -1,0 +1,2 @@
+-- What a switch of domains comes to.
+pub mod Switch

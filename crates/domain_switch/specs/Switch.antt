@@ -1,0 +1,34 @@
+-- What a switch of domains is given, and what it comes to.
+use Rattle.std.specs.Prelude.{◌≡◌, ℕ, ◌+◌, ◌-◌, ◌<◌, ◌≤◌, List, Option, option_map}
+use Rattle.kernel_clone.specs.declared.CloneLayout.{CloneLayout}
+use Rattle.kernel_clone.specs.Footprints.{Layout, IsLayout}
+use Rattle.kernel_clone.specs.Models.{layout_model}
+use Rattle.pad_bound.specs.Bound.{worst_instruction, worst_operation, bound_of}
+use Rattle.pad_bound.specs.Worst.{IsCloneOf}
+use Rattle.mem_system.specs.Hierarchy.{Hierarchy}
+use Rattle.mem_system.specs.Cost.{Caches, Touched}
+use Rattle.mem_system.specs.Contents.{SystemContents, SystemStands}
+use Rattle.cache_sharing.specs.Worst.{shape_of, HasWays}
+
+-- the clone of who was running, if anybody was
+abbrev pub layout_if : Option CloneLayout → Option Layout
+layout_if out = option_map layout_model out
+
+-- a clone of a machine with this hierarchy, and a shared region of so many bytes
+pub record IsCloneOn (h : Hierarchy) (shared : ℕ) (clone : CloneLayout) : Type 0 where
+  pub layout : IsLayout (layout_model clone)
+  pub same : IsCloneOf (shape_of h shared) (layout_model clone)
+
+-- it begins past the slot's end by less than the largest step, and the next start is the bound past
+-- the end or later
+pub record IsInTime (h : Hierarchy) (caches : Caches) (shared old_end now until : ℕ) : Type 0 where
+  pub ways : HasWays h caches
+  pub late : now < old_end + (worst_instruction (shape_of h shared) + worst_operation (shape_of h shared))
+  pub pad : old_end + bound_of (shape_of h shared) ≤ until
+
+-- its work was begun at a clock: used is the clock after the work less the ended slot's end,
+-- and what is kept stands for the caches that the work leaves
+pub record IsSwitched {P : Type 0} (stands : P → ℕ → ℕ → List ℕ → Type 0) (old_end now used : ℕ)
+    (kept : SystemContents P) (work : Touched) : Type 0 where
+  pub time : used ≡ now + work.cost - old_end
+  pub next : SystemStands stands kept work.caches

@@ -1,0 +1,117 @@
+// The switch: what is done between two slots, and the wait for the next one.
+ghost use Rattle.std.specs.Prelude.{◌≡◌, ℕ, ◌+◌, ◌-◌, ◌*◌, ◌/◌, ◌^◌, ◌<◌, ◌≤◌, max, IfSome};
+ghost use Rattle.std.specs.Option.{option_copied};
+ghost use Rattle.phys_mem.specs.Mem.{Mem};
+ghost use Rattle.kernel_clone.specs.Footprints.{IsLayout};
+ghost use Rattle.kernel_clone.specs.Models.{layout_model, work_model, IsWork};
+ghost use Rattle.mem_system.specs.Cost.{Caches, touched_all};
+ghost use Rattle.mem_system.specs.Contents.{SystemStands, MakesTouches, hierarchy_of};
+ghost use Rattle.mem_system.specs.Translation.{KeepsLeaves};
+ghost use Rattle.cache_sharing.specs.Operations.{plain, shared_region, prefetch, leave_if};
+ghost use Rattle.cache_sharing.specs.Operations as spec;
+ghost use Rattle.domain_switch.specs.Switch.{IsCloneOn, IsInTime, IsSwitched, layout_if};
+
+use crate::charging::{charge, charge_footprint};
+use kernel_clone::{CloneLayout, ENTER, LEAVE, Work};
+use mem_system::MemSystem;
+use set_cache::Policy;
+
+/// What a switch took.
+#[derive(Clone, Copy, Debug, PartialEq, Eq)]
+pub struct Switched {
+    /// The cycles from the ended slot's end to the end of the work.
+    pub used: u64,
+    /// The clock after the wait.
+    pub now: u64,
+}
+
+/// Switches from one domain's clone to the next one's, in this order: `out`
+/// leaves, which is nobody at the boot; each line of the region of `shared`
+/// bytes is loaded, ascending; all on-core state is made fresh; `into` enters.
+/// Then the clock waits for `until`, where it isn't past that already.
+///
+/// The slot before ended at `old_end`, the clock is `now`, and the next slot
+/// starts at `until`, all in cycles below 2^62.
+pub fn switch<P: Policy>(
+    system: &mut MemSystem<P>,
+    out: Option<&CloneLayout>,
+    into: &CloneLayout,
+    shared: u32,
+    old_end: u64,
+    now: u64,
+    until: u64,
+) -> Switched
+    requires out { IfSome (option_copied out) (IsCloneOn (hierarchy_of P.rule system.old) shared) }
+    requires into { IsCloneOn (hierarchy_of P.rule system.old) shared into.now }
+    requires ended { old_end ≤ now }
+    requires early { now < 2 ^ 62 }
+    requires near { until < 2 ^ 62 }
+    ensures hierarchy { hierarchy_of P.rule system.new ≡ hierarchy_of P.rule system.old }
+    ensures pinned { system.new.core.pinned ≡ system.old.core.pinned }
+    ensures work { (caches : Caches) → SystemStands P.stands_for system.old caches
+        → IsSwitched P.stands_for old_end now result.used system.new
+        (touched_all (hierarchy_of P.rule system.old) system.old.core.pinned caches
+        (spec.switch system.old.core.costs (layout_if (option_copied out.entry)) (layout_model into.now))) }
+    ensures clock { result.now ≡ max (old_end + result.used) until }
+    ensures within { (caches : Caches) → SystemStands P.stands_for system.old caches
+        → IsInTime (hierarchy_of P.rule system.old) caches shared old_end now until
+        → result.used ≤ until - old_end }
+    ensures on_time { (caches : Caches) → SystemStands P.stands_for system.old caches
+        → IsInTime (hierarchy_of P.rule system.old) caches shared old_end now until
+        → result.now ≡ until }
+    ensures kept { (mem : Mem) (frames root : ℕ) → KeepsLeaves mem frames root system.new.core.tlb }
+    ensures later { now ≤ old_end + result.used }
+    ensures few { old_end + result.used < now + 2 ^ 33 }
+{
+    let left = leave(system, out);
+    let loaded = prefetch(system, into, shared);
+    let flushed = system.flush();
+    let entered = charge_footprint(system, into, &work_of(ENTER));
+    let work = u64::from(left) + u64::from(loaded) + u64::from(flushed) + u64::from(entered);
+    let done = now + work;
+    Switched {
+        used: done - old_end,
+        now: done.max(until),
+    }
+}
+
+/// Charges that a clone leaves, if there is one. Answers the cycles.
+fn leave<P: Policy>(system: &mut MemSystem<P>, out: Option<&CloneLayout>) -> u32
+    requires layout { IfSome (option_copied out) (λ clone. IsLayout (layout_model clone)) }
+    ensures makes { MakesTouches P.rule P.stands_for
+        (leave_if system.old.core.costs (layout_if (option_copied out.entry))) result system.old system.new }
+    ensures few { result ≤ 1317000 }
+{
+    match out {
+        Some(clone) => charge(system, clone, &work_of(LEAVE)),
+        None => 0,
+    }
+}
+
+/// Loads each shared line, ascending. Answers the cycles.
+fn prefetch<P: Policy>(system: &mut MemSystem<P>, layout: &CloneLayout, shared: u32) -> u32
+    requires layout { IsLayout (layout_model layout.now) }
+    requires shared { shared ≡ layout.now.shared }
+    ensures makes { MakesTouches P.rule P.stands_for (prefetch (shared_region (layout_model layout.now)))
+        result system.old system.new }
+    ensures few { result ≤ 16384000 }
+{
+    let mut cycles = 0;
+    for place in 0..shared / layout.line {
+        cycles += system.access(layout.shared_line(place), false);
+    }
+    cycles
+}
+
+/// The work of an operation that writes nothing beside it.
+fn work_of(op: u8) -> Work
+    ensures work { work_model result ≡ plain op }
+    ensures is { IsWork result }
+{
+    Work {
+        op,
+        zeroed: None,
+        count: 0,
+        entries: [0; 64],
+    }
+}

@@ -1,0 +1,33 @@
+-- What holds of the starts of slots.
+use Rattle.std.specs.Prelude.{◌≡◌, ℕ, ◌+◌, ◌*◌, ◌≤◌, List, length, take}
+use Rattle.std.specs.List.{sum_by}
+use Rattle.sched_table.specs.declared.schedule.Entry.{Entry}
+use Rattle.sched_table.specs.Schedule.{IsSchedule, pad_of, start, last_end}
+
+-- a slot and the pad after it
+abbrev pub cycles_of : Entry → ℕ
+cycles_of e = e.length + e.pad
+
+-- the cycles of the first j entries
+unfoldable pub cycles_before : List Entry → ℕ → ℕ
+cycles_before es j = sum_by cycles_of (take j es)
+
+-- of all entries, each once
+abbrev pub round : List Entry → ℕ
+round es = cycles_before es (length es)
+
+-- as many slots later as there are entries, a slot begins one round later
+abbrev pub RoundLaw : Type 0
+RoundLaw = (es : List Entry) (k : ℕ) → start es (k + length es) ≡ start es k + round es
+
+-- no later slot begins earlier
+abbrev pub OrderLaw : Type 0
+OrderLaw = (es : List Entry) (j k : ℕ) → j ≤ k → start es j ≤ start es k
+
+-- each slot begins its switch's pad after the end of the one before, the first after the boot's
+abbrev pub PadLaw : Type 0
+PadLaw = (es : List Entry) (k : ℕ) → start es k ≡ last_end es k + pad_of es k
+
+-- a slot begins after at most so many slots and pads of the greatest length
+abbrev pub SoonLaw : Type 0
+SoonLaw = (es : List Entry) (k : ℕ) → IsSchedule es → start es k ≤ 2000000 * k + 1000000

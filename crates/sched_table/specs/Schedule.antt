@@ -1,0 +1,47 @@
+-- When slots begin and end. Entries are taken cyclically; switch k leads into slot k, and belongs to the entry of the slot that ended.
+use Rattle.std.specs.Prelude.{ℕ, zero, suc, ◌+◌, ◌-◌, ◌%◌, ◌<◌, ◌≤◌, List, length, slice_index_or, Option, Some, None}
+use Rattle.sched_table.specs.declared.schedule.Entry.{Entry}
+
+abbrev pub no_entry : Entry
+no_entry = record { domain = 0; length = 0; pad = 0 }
+
+abbrev pub entry_in : List Entry → ℕ → Entry
+entry_in es e = slice_index_or es e no_entry
+
+-- the entry of slot k
+abbrev pub entry_of_slot : List Entry → ℕ → Entry
+entry_of_slot es k = entry_in es (k % length es)
+
+-- the place of the entry to which switch k belongs: the boot's is the last
+abbrev pub switch_entry : List Entry → ℕ → ℕ
+switch_entry es zero = length es - 1
+switch_entry es (suc k) = k % length es
+
+-- the pad of switch k
+abbrev pub pad_of : List Entry → ℕ → ℕ
+pad_of es k = (entry_in es (switch_entry es k)).pad
+
+-- the clock as slot k begins
+unfoldable pub start : List Entry → ℕ → ℕ
+start es zero = pad_of es 0
+start es (suc k) = start es k + (entry_of_slot es k).length + (entry_of_slot es k).pad
+
+abbrev pub slot_end : List Entry → ℕ → ℕ
+slot_end es k = start es k + (entry_of_slot es k).length
+
+-- the end of the slot before switch k
+abbrev pub last_end : List Entry → ℕ → ℕ
+last_end es zero = 0
+last_end es (suc k) = slot_end es k
+
+-- who leaves at switch k: nobody at the boot
+abbrev pub outgoing : List Entry → ℕ → Option ℕ
+outgoing es zero = None
+outgoing es (suc k) = Some (entry_of_slot es k).domain
+
+-- 1 to 64 entries, each of a length and a pad up to 1,000,000 cycles
+pub record IsSchedule (es : List Entry) : Type 0 where
+  pub some : 0 < length es
+  pub few : length es ≤ 64
+  pub lengths : (e : ℕ) → (entry_in es e).length ≤ 1000000
+  pub pads : (e : ℕ) → (entry_in es e).pad ≤ 1000000

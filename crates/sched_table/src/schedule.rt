@@ -1,0 +1,105 @@
+// Entries, and the starts of their slots.
+ghost use Rattle.std.specs.Prelude.{◌≡◌, ◌+◌, ◌*◌, ◌/◌, ◌≤◌, length, IfOk};
+ghost use Rattle.sched_table.specs.Schedule as spec;
+ghost use Rattle.sched_table.specs.Schedule.{IsSchedule};
+
+use std::alloc::Global;
+use std::marker::Model;
+use tp_base::Memory;
+
+/// A slot of a domain, and the pad of the switch that ends it.
+#[derive(Clone, Copy, Debug, PartialEq, Eq)]
+pub struct Entry {
+    pub domain: u8,
+    /// Of the slot, in cycles.
+    pub length: u32,
+    /// In cycles.
+    pub pad: u32,
+}
+
+/// 1 to 64 entries, whose slots follow one another cyclically. It stands for
+/// their list.
+#[derive(Drop)]
+pub struct Schedule {
+    entries: Vec<Entry>,
+    /// For each entry, the cycles of the slots and pads of those before it.
+    before: Vec<u64>,
+    /// The cycles of all slots and pads.
+    round: u64,
+}
+
+impl Model for Schedule {
+    ghost use Rattle.std.specs.Prelude.{List};
+    ghost use Rattle.sched_table.specs.declared.schedule.Entry.{Entry};
+    ghost use Rattle.sched_table.specs.Tables.{IsTable};
+
+    ghost Value = { List Entry };
+
+    ghost view = { λ s. s.entries.items };
+
+    ghost invariant = { λ s. IsTable s.entries.items s.before.items s.round };
+}
+
+impl Schedule {
+    /// 1 to 64 entries, of lengths and pads up to 1,000,000 cycles.
+    ///
+    /// # Errors
+    ///
+    /// `Memory` where no memory is left for them.
+    pub fn new(alloc: Global, entries: &[Entry]) -> Result<Self, Memory>
+        requires schedule { IsSchedule entries.now }
+        ensures entries { IfOk result (λ s. s ≡ entries.now) }
+    {
+        let mut before = Vec::with_capacity(alloc, entries.len())?;
+        let mut round = 0;
+        for entry in entries {
+            before.push_reserved(round);
+            round += u64::from(entry.length) + u64::from(entry.pad);
+        }
+        let entries = Vec::from_slice(alloc, entries)?;
+        Ok(Schedule {
+            entries,
+            before,
+            round,
+        })
+    }
+
+    /// The number of entries, 1 to 64.
+    pub fn len(&self) -> u32
+        ensures value { result ≡ length self.now }
+        ensures schedule { IsSchedule self.now }
+    {
+        self.entries.len() as u32
+    }
+
+    /// The entry of slot `k`.
+    pub fn entry(&self, k: u32) -> Entry
+        ensures value { result ≡ spec.entry_of_slot self.now k }
+        ensures length { result.length ≤ 1000000 }
+        ensures pad { result.pad ≤ 1000000 }
+    {
+        self.entries[k as usize % self.entries.len()]
+    }
+
+    /// The clock at which slot `k` begins, `k` being up to 65,536, in cycles.
+    pub fn start(&self, k: u32) -> u64
+        requires few { k ≤ 65536 }
+        ensures value { result ≡ spec.start self.now k }
+        ensures soon { result ≤ 2000000 * k + 1000000 }
+    {
+        self.round_start(k) + self.before[k as usize % self.entries.len()]
+    }
+
+    // The clock at which the first slot of slot `k`'s round begins.
+    fn round_start(&self, k: u32) -> u64
+        requires few { k ≤ 65536 }
+        ensures value { result ≡ spec.start self.now (k / length self.now * length self.now) }
+    {
+        let entries = self.entries.len();
+        let last = self.entries[entries - 1];
+        u64::from(last.pad) + u64::from(k) / entries as u64 * self.round
+    }
+}
+
+#[cfg(test)]
+mod tests;
