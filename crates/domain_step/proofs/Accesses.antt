@@ -1,9 +1,14 @@
 -- Translations, loads and stores, of the code and of the definitions.
-use Rattle.std.proofs.Common.{◌≡◌, ◌≢◌, ◌⊎◌, ℕ, ◌%◌, ◌<◌, inl, inr, Some, None, Result, Ok, Err, refl, sym, ap, subst, ◌∙◌, arith}
+use Rattle.std.proofs.Common.{◌≡◌, ◌≢◌, ◌⊎◌, ℕ, ◌+◌, ◌*◌, ◌/◌, ◌%◌, List, inl, inr, Some, None, Result, Ok, Err, refl, sym, ap, ap₂, subst, subst₂, ◌∙◌, arith}
 use Rattle.phys_mem.specs.Address.{frame_of, place_of}
-use Rattle.phys_mem.specs.Contents.{Contents, word_of}
+use Rattle.phys_mem.specs.Contents.{Contents}
 use Rattle.phys_mem.specs.Holds.{Holds}
-use Rattle.phys_mem.specs.Mem.{Mem, word, written}
+use Rattle.phys_mem.specs.Mem.{Mem, word, written, word-written_frame}
+use Rattle.page_map.specs.Reached.{SameTables}
+use Rattle.page_map.proofs.ReachLemmas.{same_beside}
+use Rattle.page_map.proofs.WalkLemmas.{walk_by_tables}
+use Rattle.set_cache.specs.Rule.{Rule}
+use Rattle.cap_table.specs.Slots.{Slots}
 use Rattle.rv_core.specs.Memory.{load_size}
 use Rattle.rv_core.specs.declared.Store.{Store as StoreMade}
 use Rattle.rv_core.specs.declared.Trap.{Trap}
@@ -13,27 +18,39 @@ use Rattle.sv32_walk.specs.declared.access.Access.{Access}
 use Rattle.sv32_walk.specs.declared.access.Access.TheVariants as access
 use Rattle.sv32_walk.specs.declared.access.WalkFault.{WalkFault}
 use Rattle.sv32_walk.specs.PageTableEntry.{ppn}
-use Rattle.sv32_walk.specs.Walk.{walk}
-use Rattle.hardware_check.specs.Hardware.{Hardware}
+use Rattle.sv32_walk.specs.Walk.{Walk, walk}
+use Rattle.tlb_model.specs.Buffer.{Buffer}
+use Rattle.mem_system.specs.Hierarchy.{Hierarchy}
+use Rattle.mem_system.specs.Cost.{Touch, Touched, Load, Store as StoreTouch}
+use Rattle.mem_system.specs.Contents.{SystemContents, MakesTouch}
+use Rattle.mem_system.specs.Translation as translation
+use Rattle.mem_system.specs.Translation.{KeepsLeaves, look_of}
+use Rattle.mem_system.proofs.Leaves.{keeps_by}
 use Rattle.call_table.specs.Domain.{Dom}
+use Rattle.call_table.proofs.TablesMeaning as tables
+use Rattle.world_view.specs.Cost.{hierarchy}
+use Rattle.world_view.specs.Kernel.{estate, no_dom}
 use Rattle.world_view.specs.Instruction.{trapped, stopped}
-use Rattle.world_view.specs.Cost.Touch.{Load, Store as StoreTouch}
-use Rattle.world_view.specs.Event.{Storage, fault_code, frame_or_stop, translate, place, address_in, touch, read, part_of_word, stored_in, load, store}
-use Rattle.world_view.proofs.CodeLaws.{translate_value, translate_state}
-use Rattle.domain_step.specs.Moves.{EndsAs}
-use Rattle.domain_step.proofs.Steps.{given, touched, was_read, was_written, ends_then, ends_next, ends_stop}
+use Rattle.world_view.specs.Event.{Storage, fault_code, frame_or_stop, translate, place, address_in, line_in, part_of_word, stored_in, load, store}
+use Rattle.world_view.specs.Relations.{HasFacts}
+use Rattle.world_view.proofs.TableLaws.{IsPage, Walkable, walkable, own_page}
+use Rattle.world_view.proofs.CodeLaws.{translate_value}
+use Rattle.domain_step.specs.Kept.{Setting, Fits, charged, after, Kept}
+use Rattle.domain_step.specs.Moves.{Yields, Answered, end_of}
+use Rattle.domain_step.proofs.Charges.{touch_kept}
+use Rattle.domain_step.proofs.Yields.{yields_rules, y_found, y_faults}
 
 -- ---- alignment
 
 -- an address is as aligned as its last two bits
-pub load_aligned : (width : LoadWidth) (a b : ℕ) → a % 4 ≡ b % 4 → b % load_size width ≡ 0 → a % load_size width ≡ 0
+pub load_aligned : (width : LoadWidth) (a b : ℕ) → a % 4096 ≡ b % 4096 → b % load_size width ≡ 0 → a % load_size width ≡ 0
 load_aligned Byte a b e h = omega arith
 load_aligned Half a b e h = omega arith
 load_aligned Word a b e h = omega arith
 load_aligned ByteUnsigned a b e h = omega arith
 load_aligned HalfUnsigned a b e h = omega arith
 
-pub store_aligned : (size a b : ℕ) → (size ≡ 1) ⊎ ((size ≡ 2) ⊎ (size ≡ 4)) → a % 4 ≡ b % 4 → b % size ≡ 0 → a % size ≡ 0
+pub store_aligned : (size a b : ℕ) → (size ≡ 1) ⊎ ((size ≡ 2) ⊎ (size ≡ 4)) → a % 4096 ≡ b % 4096 → b % size ≡ 0 → a % size ≡ 0
 store_aligned size a b (inl one) e h = subst (λ (n : ℕ). a % n ≡ 0) (sym one) (omega arith)
 store_aligned size a b (inr (inl two)) e h =
     let even : b % 2 ≡ 0 = subst (λ (n : ℕ). b % n ≡ 0) two h in
@@ -42,72 +59,229 @@ store_aligned size a b (inr (inr four)) e h =
     let by_four : b % 4 ≡ 0 = subst (λ (n : ℕ). b % n ≡ 0) four h in
     subst (λ (n : ℕ). a % n ≡ 0) (sym four) (omega arith)
 
--- ---- translation
-
-module _ (p : Hardware) (root : ℕ) (d : Dom) (a : Access) (va : ℕ) (s : Storage) (memory : Contents) (holds : Holds memory s.mem) (same : p.frames ≡ memory.frames) where
-  walked : (r : Result ℕ WalkFault) → ((m : Mem) → Holds memory m → r ≡ (walk m memory.frames root va a).result) → (walk s.mem p.frames root va a).result ≡ r
-  walked r is = ap (λ (n : ℕ). (walk s.mem n root va a).result) same ∙ sym (is s.mem holds)
-
-  pub translated : (leaf f : ℕ) → ((m : Mem) → Holds memory m → Ok leaf ≡ (walk m memory.frames root va a).result) → f ≡ ppn leaf → EndsAs d (Ok f) memory (translate p root d a va s)
-  unfolding frame_or_stop
-  translated leaf f is page = record {
-    value = translate_value p root d a va s (Ok leaf) (walked (Ok leaf) is) ∙ ap (λ (x : ℕ). inr x) (sym page);
-    holds = subst (λ (t : Storage). Holds memory t.mem) (sym (translate_state p root d a va s)) holds;
-  }
-
-  pub faulted : (e : WalkFault) (trap : Trap) → ((m : Mem) → Holds memory m → Err e ≡ (walk m memory.frames root va a).result) → trap ≡ record { code = fault_code a e; value = va }
-      → EndsAs {A = ℕ} d (Err trap) memory (translate p root d a va s)
-  unfolding frame_or_stop trapped
-  faulted e trap is same_trap = record {
-    value = translate_value p root d a va s (Err e) (walked (Err e) is) ∙ ap (λ (x : Trap). inl (stopped x.code x.value d)) (sym same_trap);
-    holds = subst (λ (t : Storage). Holds memory t.mem) (sym (translate_state p root d a va s)) holds;
-  }
-
--- ---- a load
-
-module _ (p : Hardware) (root : ℕ) (d : Dom) (width : LoadWidth) (va : ℕ) (s : Storage) (memory : Contents) where
-  pub load_faulted : (trap : Trap) → EndsAs {A = ℕ} d (Err trap) memory (translate p root d access.Load va s) → EndsAs {A = ℕ} d (Err trap) memory (load p root d width va s)
-  unfolding load
-  load_faulted trap fault = ends_stop (translate p root d access.Load va) _ d s memory trap fault
-
-  pub load_found : (f v at : ℕ) → EndsAs d (Ok f) memory (translate p root d access.Load va s) → frame_of at ≡ f → place_of at ≡ place va → at % 4 ≡ va % 4
-      → ((m : Mem) → Holds memory m → v ≡ part_of_word (load_size width) (word m (frame_of at) (place_of at)) (at % 4))
-      → EndsAs d (Ok v) memory (load p root d width va s)
-  unfolding load read
-  load_found f v at page frame place' low is =
-      let found : (m : Mem) → Holds memory m → v ≡ part_of_word (load_size width) (word m f (place va)) (va % 4) = rw (frame, place', low) at is in
-      ends_then (translate p root d access.Load va) _ d s memory f memory (Ok v) page (λ s1 h1.
-      ends_next (touch (Load (address_in f va))) _ d s1 memory tt memory (Ok v) (touched d s1 memory h1 (Load (address_in f va))) (λ s2 h2.
-      ends_then (read f (place va)) _ d s2 memory (word s2.mem f (place va)) memory (Ok v) (was_read d s2 memory h2 f (place va) (word s2.mem f (place va)) refl) (λ s3 h3.
-      given d s3 memory h3 v (part_of_word (load_size width) (word s2.mem f (place va)) (va % 4)) (sym (found s2.mem h2)))))
-
--- ---- a store
-
-pub store_none : (p : Hardware) (root : ℕ) (d : Dom) (s : Storage) (memory : Contents) → Holds memory s.mem → EndsAs d (Ok tt) memory (store p root d None s)
-unfolding store
-store_none p o d s memory holds = given d s memory holds tt tt refl
-
-module _ (p : Hardware) (root : ℕ) (d : Dom) (made : StoreMade) (s : Storage) (memory : Contents) where
-  pub store_faulted : (trap : Trap) → EndsAs {A = ℕ} d (Err trap) memory (translate p root d access.Store made.at s) → EndsAs d (Err trap) memory (store p root d (Some made) s)
-  unfolding store
-  store_faulted trap fault = ends_stop (translate p root d access.Store made.at) _ d s memory trap fault
-
-  pub store_made : (f at : ℕ) (memory' : Contents) → EndsAs d (Ok f) memory (translate p root d access.Store made.at s) → f < memory.frames → frame_of at ≡ f → place_of at ≡ place made.at → at % 4 ≡ made.at % 4
-      → ((m : Mem) → Holds memory m → Holds memory' (written m (frame_of at) (place_of at) (stored_in made.size (word m (frame_of at) (place_of at)) (at % 4) made.word)))
-      → EndsAs d (Ok tt) memory' (store p root d (Some made) s)
-  unfolding store read
-  store_made f at memory' page within frame place' low written' =
-      let w = word_of memory f (place made.at) in
-      let inside : place made.at < 1024 = omega arith in
-      let stored : (m : Mem) → Holds memory m → Holds memory' (written m f (place made.at) (stored_in made.size (word m f (place made.at)) (made.at % 4) made.word)) = rw (frame, place', low) at written' in
-      ends_then (translate p root d access.Store made.at) _ d s memory f memory' (Ok tt) page (λ s1 h1.
-      ends_next (touch (StoreTouch (address_in f made.at))) _ d s1 memory tt memory' (Ok tt) (touched d s1 memory h1 (StoreTouch (address_in f made.at))) (λ s2 h2.
-      ends_then (read f (place made.at)) _ d s2 memory w memory' (Ok tt) (was_read d s2 memory h2 f (place made.at) w (ap (λ x. inr x) (sym (h2.same f (place made.at) within inside)))) (λ s3 h3.
-      was_written d s3 memory' f (place made.at) (stored_in made.size w (made.at % 4) made.word)
-      (subst (λ (x : ℕ). Holds memory' (written s3.mem f (place made.at) (stored_in made.size x (made.at % 4) made.word))) (sym (h3.same f (place made.at) within inside)) (stored s3.mem h3)))))
-
 -- a size that is neither 1 nor 2
 pub stored_four : (size : ℕ) → (size ≡ 1) ⊎ ((size ≡ 2) ⊎ (size ≡ 4)) → size ≢ 1 → size ≢ 2 → size ≡ 4
 stored_four size (inl one) a b = absurd (a one)
 stored_four size (inr (inl two)) a b = absurd (b two)
 stored_four size (inr (inr four)) a b = four
+
+-- ---- addresses
+
+module _ (at va : ℕ) (e : at % 4096 ≡ va % 4096) where
+  -- an address with the last digits of another is in a frame where that other one lies there
+  pub address_there : at ≡ address_in (at / 4096) va
+  unfolding address_in
+  address_there = omega (arith, e)
+
+  pub place_there : place_of at ≡ place va
+  place_there = ap (λ (n : ℕ). n / 4) e
+
+  pub low_there : at % 4 ≡ va % 4
+  low_there = omega (arith, e)
+
+module _ {P : Type 0} (rule : P → ℕ → Rule) (w : Setting) (memory : Contents) (system : SystemContents P) (fits : Fits rule w memory system) where
+  pub same_line : w.machine.line ≡ system.l2.line_size
+  unfolding hierarchy
+  same_line = ap (λ (h : Hierarchy). h.line_size) fits.levels
+
+  -- and so is its line
+  pub line_there : (at va line : ℕ) → at % 4096 ≡ va % 4096 → line ≡ at / system.l2.line_size → line ≡ line_in w.machine (at / 4096) va
+  unfolding line_in
+  line_there at va line e is = is ∙ ap₂ (λ (a n : ℕ). a / n) (address_there at va e) (sym same_line)
+
+-- ---- what is kept
+
+-- a domain of which only the capabilities are known
+abbrev pub dom_of : Slots → Dom
+dom_of caps = record no_dom { caps = caps }
+
+inr-is : {A B : Type 0} {a b : B} → ◌≡◌ {A = A ⊎ B} (inr a) (inr b) → a ≡ b
+inr-is e = cc
+
+inl-inr : {A B : Type 0} {a : A} {b : B} → ◌≢◌ {A = A ⊎ B} (inl a) (inr b)
+inl-inr e = cc
+
+module _ {P : Type 0} (rule : P → ℕ → Rule) (stands : P → ℕ → ℕ → List ℕ → Type 0) (w : Setting) (caps : Slots) (root : ℕ) (memory : Contents) where
+  -- the buffer may keep another leaf after a look-up
+  pub looked : (a : Access) (va spent spent' cycles : ℕ) (old new : SystemContents P) (s : Storage) (r : Touched)
+      → Kept rule stands w caps root memory old spent s r → spent' ≡ spent + cycles
+      → ((m : Mem) → Holds memory m → KeepsLeaves m memory.frames root old.core.tlb → MakesTouch rule stands (look_of old.l2.line_size va (walk m memory.frames root va a)) cycles old new)
+      → ((m : Mem) → Holds memory m → KeepsLeaves m memory.frames root old.core.tlb → KeepsLeaves m memory.frames root new.core.tlb)
+      → Kept rule stands w caps root memory new spent' s (charged w r (look_of w.machine.line va (walk s.mem w.machine.frames root va a)))
+  looked a va spent spent' cycles old new s r k more makes keeps =
+      let look = look_of w.machine.line va (walk s.mem w.machine.frames root va a) in
+      let there : MakesTouch rule stands look cycles old new =
+      subst₂ (λ (line frames : ℕ). MakesTouch rule stands (look_of line va (walk s.mem frames root va a)) cycles old new) (sym (same_line rule w memory old k.fits)) (sym k.fits.frames)
+      (makes s.mem k.holds k.leaves) in
+      touch_kept rule stands w memory old new look caps root spent spent' cycles s r there more (keeps s.mem k.holds k.leaves) k
+
+  -- and answers by the walk
+  pub walk_there : (a : Access) (va spent : ℕ) (result : Result ℕ WalkFault) (old : SystemContents P) (s : Storage) (r : Touched)
+      → Kept rule stands w caps root memory old spent s r
+      → ((m : Mem) → Holds memory m → KeepsLeaves m memory.frames root old.core.tlb → result ≡ translation.translated va (walk m memory.frames root va a).result)
+      → result ≡ translation.translated va (walk s.mem w.machine.frames root va a).result
+  walk_there a va spent result old s r k is =
+      is s.mem k.holds k.leaves ∙ ap (λ (n : ℕ). translation.translated va (walk s.mem n root va a).result) (sym k.fits.frames)
+
+  -- any other touch leaves the buffer as it was: of the line of an address
+  pub line_kept : (touch : ℕ → Touch) (at va line spent spent' cycles : ℕ) (old new : SystemContents P) (s : Storage) (r : Touched)
+      → at % 4096 ≡ va % 4096 → line ≡ at / old.l2.line_size → MakesTouch rule stands (touch line) cycles old new → new.core.tlb ≡ old.core.tlb → spent' ≡ spent + cycles
+      → Kept rule stands w caps root memory old spent s r → Kept rule stands w caps root memory new spent' s (charged w r (touch (line_in w.machine (at / 4096) va)))
+  line_kept touch at va line spent spent' cycles old new s r e is makes buffer more k =
+      let there : MakesTouch rule stands (touch (line_in w.machine (at / 4096) va)) cycles old new =
+      subst (λ (n : ℕ). MakesTouch rule stands (touch n) cycles old new) (line_there rule w memory old k.fits at va line e is) makes in
+      let leaves : KeepsLeaves s.mem memory.frames root new.core.tlb = subst (λ (b : Buffer P). KeepsLeaves s.mem memory.frames root b) (sym buffer) k.leaves in
+      touch_kept rule stands w memory old new (touch (line_in w.machine (at / 4096) va)) caps root spent spent' cycles s r there more leaves k
+
+  -- a store to a page changes no walk
+  pub stored_kept : (memory' : Contents) (system : SystemContents P) (spent f i v : ℕ) (s : Storage) (r : Touched)
+      → IsPage w.machine w.own (dom_of caps) s.mem f → memory'.frames ≡ memory.frames → Holds memory' (written s.mem f i v)
+      → Kept rule stands w caps root memory system spent s r → Kept rule stands w caps root memory' system spent (record { mem = written s.mem f i v }) r
+  stored_kept memory' system spent f i v s r page frames holds k =
+      let e = estate w.machine w.own in
+      let d = dom_of caps in
+      let new = written s.mem f i v in
+      let facts : HasFacts w.machine w.own d s = record { slots = k.slots; facts = k.facts } in
+      let same : SameTables s.mem new e.root = same_beside s.mem new e.root f page.frame.apart (λ g j other. word-written_frame s.mem f i v g j other) in
+      let in_memory = (walkable w.machine w.own d s.mem facts).map.in_memory in
+      let walks : (at : ℕ) (a : Access) → walk new memory.frames root at a ≡ walk s.mem memory.frames root at a =
+      λ at a. subst₂ (λ (top n : ℕ). walk new n top at a ≡ walk s.mem n top at a) (sym k.tables) k.fits.frames (walk_by_tables s.mem new w.machine.frames e.root at a in_memory same) in
+      let leaves : KeepsLeaves new memory.frames root system.core.tlb = keeps_by s.mem new memory.frames root system.core.tlb (λ at leaf a small is. ap (λ (x : Walk). x.result) (walks at a) ∙ is) k.leaves in
+      record {
+        fits = record { kernel = k.fits.kernel; frames = k.fits.frames ∙ sym frames; levels = k.fits.levels; pinned = k.fits.pinned };
+        tables = k.tables;
+        slots = k.slots;
+        holds = holds;
+        facts = (tables.stored e d s.mem facts f i v page.frame).facts;
+        leaves = subst (λ (n : ℕ). KeepsLeaves new n root system.core.tlb) (sym frames) leaves;
+        cost = k.cost;
+        caches = k.caches;
+      }
+
+  -- the frame that a walk comes to is a page
+  by_walk : (d : Dom) (a : Access) (va f : ℕ) (s : Storage) → Walkable w.machine w.own (estate w.machine w.own).root (IsPage w.machine w.own (dom_of caps) s.mem) s.mem
+      → (x : Result ℕ WalkFault) → (walk s.mem w.machine.frames (estate w.machine w.own).root va a).result ≡ x → frame_or_stop d a va x ≡ inr f
+      → IsPage w.machine w.own (dom_of caps) s.mem f
+  unfolding frame_or_stop
+  by_walk d a va f s walks (Ok leaf) is same =
+      subst (IsPage w.machine w.own (dom_of caps) s.mem) (inr-is same)
+      (own_page w.machine w.own (estate w.machine w.own).root (IsPage w.machine w.own (dom_of caps) s.mem) s.mem walks va a leaf is)
+  by_walk d a va f s walks (Err x) is same = absurd (inl-inr same)
+
+  pub found_page : (d : Dom) (a : Access) (va f spent : ℕ) (system : SystemContents P) (s : Storage) (r : Touched)
+      → Kept rule stands w caps root memory system spent s r → (translate w.machine root d a va s).value ≡ inr f → IsPage w.machine w.own (dom_of caps) s.mem f
+  found_page d a va f spent system s r k e =
+      let facts : HasFacts w.machine w.own (dom_of caps) s = record { slots = k.slots; facts = k.facts } in
+      let there : (translate w.machine (estate w.machine w.own).root d a va s).value ≡ inr f = subst (λ (top : ℕ). (translate w.machine top d a va s).value ≡ inr f) k.tables e in
+      by_walk d a va f s (walkable w.machine w.own (dom_of caps) s.mem facts) (walk s.mem w.machine.frames (estate w.machine w.own).root va a).result refl
+      (sym (translate_value w.machine (estate w.machine w.own).root d a va s _ refl) ∙ there)
+
+-- ---- translation
+
+module _ (w : Setting) (root : ℕ) (d : Dom) (a : Access) (va : ℕ) (s : Storage) (r : Touched) (K : Storage → Touched → Type 0)
+    (keeps : K s (charged w r (look_of w.machine.line va (walk s.mem w.machine.frames root va a)))) where
+  looks : K (translate w.machine root d a va s).state (after w r (translate w.machine root d a va s).notes)
+  unfolding translate after
+  looks = keeps
+
+  frame_is : (at : ℕ) (x : Result ℕ WalkFault) → Ok at ≡ translation.translated va x → frame_or_stop d a va x ≡ inr (at / 4096)
+  unfolding frame_or_stop
+  frame_is at (Ok leaf) e =
+      let is : at ≡ ppn leaf * 4096 + va % 4096 = ok-is e in
+      ap (λ (n : ℕ). inr n) (omega (arith, is))
+    where
+      ok-is : {x y : ℕ} → ◌≡◌ {A = Result ℕ WalkFault} (Ok x) (Ok y) → x ≡ y
+      ok-is e = cc
+  frame_is at (Err fault) e = cc
+
+  -- an address, whose frame is the walk's
+  pub translated : (at : ℕ) → Ok at ≡ translation.translated va (walk s.mem w.machine.frames root va a).result
+      → Yields w (translate w.machine root d a va) s r (Answered d (Ok (at / 4096)) K)
+  translated at is = record {
+    met = record { value = translate_value w.machine root d a va s _ refl ∙ frame_is at (walk s.mem w.machine.frames root va a).result is; kept = looks };
+  }
+
+  stop_is : (fault : WalkFault) (trap : Trap) → trap ≡ record { code = fault_code a fault; value = va } → (x : Result ℕ WalkFault) → Err fault ≡ translation.translated va x
+      → frame_or_stop d a va x ≡ end_of d (Err trap)
+  unfolding frame_or_stop trapped
+  stop_is fault trap same (Ok leaf) e = cc
+  stop_is fault trap same (Err x) e =
+      let is : fault ≡ x = cc in
+      rw (sym is) (ap (λ (y : Trap). inl (stopped y.code y.value d)) (sym same))
+
+  pub faulted : (fault : WalkFault) (trap : Trap) → Err fault ≡ translation.translated va (walk s.mem w.machine.frames root va a).result
+      → trap ≡ record { code = fault_code a fault; value = va } → Yields w (translate w.machine root d a va) s r (Answered {A = ℕ} d (Err trap) K)
+  faulted fault trap is same = record {
+    met = record { value = translate_value w.machine root d a va s _ refl ∙ stop_is fault trap same (walk s.mem w.machine.frames root va a).result is; kept = looks };
+  }
+
+-- ---- a load
+
+module _ {P : Type 0} (rule : P → ℕ → Rule) (stands : P → ℕ → ℕ → List ℕ → Type 0) (w : Setting) (caps : Slots) (root : ℕ) (memory : Contents) (d : Dom) (s : Storage) (r : Touched) where
+  pub load_faulted : (K : Storage → Touched → Type 0) (width : LoadWidth) (va : ℕ) (trap : Trap) → Yields w (translate w.machine root d access.Load va) s r (Answered {A = ℕ} d (Err trap) K)
+      → Yields w (load w.machine root d width va) s r (Answered {A = ℕ} d (Err trap) K)
+  unfolding load
+  load_faulted K width va trap fault = search (yields_rules, y_faults, fault) depth 40
+
+  pub load_found : (width : LoadWidth) (va v at line spent spent' cycles : ℕ) (mid new : SystemContents P)
+      → Yields w (translate w.machine root d access.Load va) s r (Answered d (Ok (at / 4096)) (Kept rule stands w caps root memory mid spent))
+      → at % 4096 ≡ va % 4096 → line ≡ at / mid.l2.line_size → MakesTouch rule stands (Load line) cycles mid new → new.core.tlb ≡ mid.core.tlb → spent' ≡ spent + cycles
+      → ((m : Mem) → Holds memory m → v ≡ part_of_word (load_size width) (word m (frame_of at) (place_of at)) (at % 4))
+      → Yields w (load w.machine root d width va) s r (Answered d (Ok v) (Kept rule stands w caps root memory new spent'))
+  unfolding load
+  load_found width va v at line spent spent' cycles mid new page e is makes buffer more value =
+      let K = Kept rule stands w caps root memory mid spent in
+      let K' = Kept rule stands w caps root memory new spent' in
+      let f = at / 4096 in
+      let loads : (t : Storage) (q : Touched) → K t q → K' t (charged w q (Load (line_in w.machine f va))) =
+      λ t q k. line_kept rule stands w caps root memory (λ n. Load n) at va line spent spent' cycles mid new t q e is makes buffer more k in
+      let found : (m : Mem) → Holds memory m → v ≡ part_of_word (load_size width) (word m f (place va)) (va % 4) = rw (place_there at va e, low_there at va e) at value in
+      let reads : (t : Storage) (q : Touched) → K t q → ◌≡◌ {A = Dom ⊎ ℕ} (inr (part_of_word (load_size width) (word t.mem f (place va)) (va % 4))) (end_of d (Ok v)) =
+      λ t q k. ap (λ n. inr n) (sym (found t.mem k.holds)) in
+      search (yields_rules, y_found, page, loads, reads) depth 40
+
+  -- ---- a store
+
+  pub store_none : (K : Storage → Touched → Type 0) → K s r → Yields w (store w.machine root d None) s r (Answered d (Ok tt) K)
+  unfolding store
+  store_none K keeps = search (yields_rules, keeps) depth 40
+
+  pub store_faulted : (K : Storage → Touched → Type 0) (made : StoreMade) (trap : Trap) → Yields w (translate w.machine root d access.Store made.at) s r (Answered {A = ℕ} d (Err trap) K)
+      → Yields w (store w.machine root d (Some made)) s r (Answered d (Err trap) K)
+  unfolding store
+  store_faulted K made trap fault = search (yields_rules, y_faults, fault) depth 40
+
+  -- and it is known that a frame holds a page
+  record OnPage (f : ℕ) (system : SystemContents P) (spent : ℕ) (t : Storage) (q : Touched) : Type 0 where
+    kept : Kept rule stands w caps root memory system spent t q
+    page : IsPage w.machine w.own (dom_of caps) t.mem f
+
+  on_page : (va f spent : ℕ) (system : SystemContents P) → Yields w (translate w.machine root d access.Store va) s r (Answered d (Ok f) (Kept rule stands w caps root memory system spent))
+      → Yields w (translate w.machine root d access.Store va) s r (Answered d (Ok f) (OnPage f system spent))
+  unfolding translate
+  on_page va f spent system found =
+      let page = found_page rule stands w caps root memory d access.Store va f spent system s _ found.met.kept found.met.value in
+      record { met = record { value = found.met.value; kept = record { kept = found.met.kept; page = page } } }
+
+  pub store_made : (made : StoreMade) (at line spent spent' cycles : ℕ) (mid new : SystemContents P) (memory' : Contents)
+      → Yields w (translate w.machine root d access.Store made.at) s r (Answered d (Ok (at / 4096)) (Kept rule stands w caps root memory mid spent))
+      → at % 4096 ≡ made.at % 4096 → line ≡ at / mid.l2.line_size
+      → MakesTouch rule stands (StoreTouch line) cycles mid new → new.core.tlb ≡ mid.core.tlb → spent' ≡ spent + cycles → memory'.frames ≡ memory.frames
+      → ((m : Mem) → Holds memory m → Holds memory' (written m (frame_of at) (place_of at) (stored_in made.size (word m (frame_of at) (place_of at)) (at % 4) made.word)))
+      → Yields w (store w.machine root d (Some made)) s r (Answered d (Ok tt) (Kept rule stands w caps root memory' new spent'))
+  unfolding store
+  store_made made at line spent spent' cycles mid new memory' found e is makes buffer more frames write =
+      let f = at / 4096 in
+      let i = place made.at in
+      let page : Yields w (translate w.machine root d access.Store made.at) s r (Answered d (Ok f) (OnPage f mid spent)) = on_page made.at f spent mid found in
+      let stores : (t : Storage) (q : Touched) → OnPage f mid spent t q → OnPage f new spent' t (charged w q (StoreTouch (line_in w.machine f made.at))) =
+      λ t q k. record {
+        kept = line_kept rule stands w caps root memory (λ n. StoreTouch n) at made.at line spent spent' cycles mid new t q e is makes buffer more k.kept;
+        page = k.page;
+      } in
+      let stored : (m : Mem) → Holds memory m → Holds memory' (written m f i (stored_in made.size (word m f i) (made.at % 4) made.word)) =
+      rw (place_there at made.at e, low_there at made.at e) at write in
+      let writes : (t : Storage) (q : Touched) → OnPage f new spent' t q
+      → Kept rule stands w caps root memory' new spent' (record { mem = written t.mem f i (stored_in made.size (word t.mem f i) (made.at % 4) made.word) }) q =
+      λ t q k. stored_kept rule stands w caps root memory memory' new spent' f i (stored_in made.size (word t.mem f i) (made.at % 4) made.word) t q k.page frames (stored t.mem k.kept.holds) k.kept in
+      search (yields_rules, y_found, page, stores, writes) depth 40

@@ -1,10 +1,13 @@
 -- An instruction, of the code and of the definitions.
-use Rattle.std.proofs.Common.{◌≡◌, ◌≢◌, ◌⊎◌, ℕ, ◌+◌, ◌%◌, ◌^◌, inl, inr, Bool, true, false, cond, eqb, List, Option, Some, None, Result, Ok, Err, refl, sym, ap, subst, subst₂, ◌∙◌}
+use Rattle.std.proofs.Common.{◌≡◌, ◌≢◌, ◌⊎◌, ℕ, ◌+◌, ◌*◌, ◌/◌, ◌%◌, ◌^◌, inl, inr, Bool, true, false, cond, eqb, List, Option, Some, None, Result, Ok, Err, refl, sym, ap, ap₂, subst, subst₂, ◌∙◌, arith}
 use Rattle.std.proofs.lemmas.Option.{none-some}
-use Rattle.tp_base.specs.Act.{◌>>=◌, ◌>>◌, go_on, either, give, note}
+use Rattle.tp_base.specs.Act.{◌>>◌, give, either}
 use Rattle.phys_mem.specs.Contents.{Contents}
 use Rattle.phys_mem.specs.Holds.{Holds}
-use Rattle.phys_mem.specs.Mem.{word}
+use Rattle.phys_mem.specs.Mem.{Mem, word}
+use Rattle.phys_mem.specs.Address.{frame_of, place_of}
+use Rattle.set_cache.specs.Rule.{Rule}
+use Rattle.cap_table.specs.Slots.{Slots}
 use Rattle.rv_core.specs.Alu as alu
 use Rattle.rv_core.specs.Effect as effect
 use Rattle.rv_core.specs.Effect.{Outcome, effect_of}
@@ -13,26 +16,30 @@ use Rattle.rv_core.specs.Registers.{register}
 use Rattle.rv_core.specs.declared.Store.{Store as StoreMade}
 use Rattle.rv_core.specs.declared.Trap.{Trap}
 use Rattle.rv_decode.specs.Table.{decode_of}
+use Rattle.rv_decode.specs.declared.Comparison.{Comparison}
 use Rattle.rv_decode.specs.declared.Counter.{Counter}
 use Rattle.rv_decode.specs.declared.Instr.{Instr}
 use Rattle.rv_decode.specs.declared.LoadWidth.{LoadWidth}
 use Rattle.rv_decode.specs.declared.Instr.TheVariants as instr
 use Rattle.sv32_walk.specs.declared.access.Access.TheVariants as access
-use Rattle.hardware_check.specs.Hardware.{Hardware}
+use Rattle.tlb_model.specs.Buffer.{Buffer}
+use Rattle.mem_system.specs.Cost.{Touched, Fetch, Branch}
+use Rattle.mem_system.specs.Contents.{SystemContents, MakesTouch}
+use Rattle.mem_system.specs.Translation.{KeepsLeaves}
 use Rattle.thread_set.specs.Threads.{with_current}
 use Rattle.call_table.specs.Domain.{Dom, placed}
 use Rattle.call_table.specs.Claims.{Estate}
-use Rattle.call_table.specs.Calls.{call}
 use Rattle.kernel_clone.specs.Footprints.{Layout}
-use Rattle.world_view.specs.Instruction.{counter_value, trapped, stopped, retired_at, read_out}
-use Rattle.world_view.specs.Cost.Touch.{Fetch}
-use Rattle.world_view.specs.Event.{Storage, Act, load, translate, place, address_in, touch, read, unless, store, loaded, noted, settle, execute, make_call, perform, instruction}
-use Rattle.world_view.proofs.CodeLaws.{bind_value, bind_state, noted-other, loaded-other, perform-other}
 use Rattle.kernel_call.specs.declared.domain.Domain.{Domain}
-use Rattle.kernel_call.specs.Models.{Stands, Becomes}
-use Rattle.kernel_call.specs.Models.{dom_model}
-use Rattle.domain_step.specs.Moves.{EndsAs, IsLeft}
-use Rattle.domain_step.proofs.Steps.{given, passed, raised, left_then, left_stop, left_next, left_stop_next, left_given, left_stopped, becomes_then}
+use Rattle.kernel_call.specs.Models.{dom_model, Stands, Becomes}
+use Rattle.world_view.specs.Instruction.{counter_value, trapped, stopped, retired_at, read_out}
+use Rattle.world_view.specs.Event.{Storage, load, translate, place, line_in, read, store, loaded, noted, guessed, settle, execute, make_call, perform, instruction}
+use Rattle.world_view.proofs.CodeLaws.{noted-other, loaded-other, guessed-other, perform-other}
+use Rattle.domain_step.specs.Kept.{Setting, charged, Kept}
+use Rattle.domain_step.specs.Moves.{Yields, Answered, Left}
+use Rattle.domain_step.proofs.Charges.{touch_kept}
+use Rattle.domain_step.proofs.Yields.{yields_rules, y_found, y_faults, y_touch, y_give, y_stop, becomes_then}
+use Rattle.domain_step.proofs.Accesses.{line_kept}
 
 -- ---- the end of an instruction
 
@@ -121,142 +128,150 @@ finished_same new out next value i regs d e same stands =
     (subst (Stands new) (retired_same next value i regs d) stands)
 
 -- a store that faults was one
-pub faulted_keeps : (p : Hardware) (root : ℕ) (d : Dom) (i : Instr) (loaded : ℕ) (pc : ℕ) (made : Option StoreMade) (s : Storage) (memory : Contents) (trap : Trap) (regs : List ℕ)
-    → (effect_of regs pc i loaded).effect.store ≡ made → EndsAs d (Err trap) memory (store p root d made s) → (effect_of regs pc i loaded).regs ≡ regs
+pub faulted_keeps : (w : Setting) (K : Storage → Touched → Type 0) (root : ℕ) (d : Dom) (i : Instr) (value pc : ℕ) (made : Option StoreMade) (s : Storage) (r : Touched) (trap : Trap) (regs : List ℕ)
+    → (effect_of regs pc i value).effect.store ≡ made → Yields w (store w.machine root d made) s r (Answered d (Err trap) K) → (effect_of regs pc i value).regs ≡ regs
 unfolding store give
-faulted_keeps p root d i loaded pc None s memory trap regs e answers = absurd (inr-inl answers.value)
+faulted_keeps w K root d i value pc None s r trap regs e answers = absurd (inr-inl answers.met.value)
   where
     inr-inl : {A B : Type 0} {a : A} {b : B} → inr b ≢ inl a
     inr-inl e = cc
-faulted_keeps p root d i loaded pc (Some made) s memory trap regs e answers = store_keeps regs made pc i loaded e
+faulted_keeps w K root d i value pc (Some made) s r trap regs e answers = store_keeps regs made pc i value e
 
 -- ---- what an instruction needs from outside
 
-module _ (p : Hardware) (root : ℕ) (t : ℕ) (d : Dom) (i : Instr) (s : Storage) (memory : Contents) where
-  pub loaded_load : (width : LoadWidth) (rd rs1 offset at : ℕ) (result : Result ℕ Trap) → i ≡ instr.Load width rd rs1 offset → at ≡ address_of d.threads.current.regs i → EndsAs d result memory (load p root d width at s)
-      → EndsAs d result memory (loaded p root t d i s)
+module _ (w : Setting) (K : Storage → Touched → Type 0) (root t : ℕ) (d : Dom) (i : Instr) (s : Storage) (r : Touched) where
+  pub loaded_load : (width : LoadWidth) (rd rs1 offset at : ℕ) (result : Result ℕ Trap) → i ≡ instr.Load width rd rs1 offset → at ≡ address_of d.threads.current.regs i
+      → Yields w (load w.machine root d width at) s r (Answered d result K) → Yields w (loaded w.machine root t d i) s r (Answered d result K)
   unfolding loaded
   loaded_load width rd rs1 offset at result e is found =
-      subst (λ (j : Instr). EndsAs d result memory (loaded p root t d j s)) (sym e)
-      (subst (λ (x : ℕ). EndsAs d result memory (load p root d width x s)) (is ∙ ap (address_of d.threads.current.regs) e) found)
+      subst (λ (j : Instr). Yields w (loaded w.machine root t d j) s r (Answered d result K)) (sym e)
+      (subst (λ (x : ℕ). Yields w (load w.machine root d width x) s r (Answered d result K)) (is ∙ ap (address_of d.threads.current.regs) e) found)
 
-  pub loaded_counter : (counter : Counter) (rd v : ℕ) → Holds memory s.mem → i ≡ instr.ReadCounter counter rd → v ≡ counter_value counter t d → EndsAs d (Ok v) memory (loaded p root t d i s)
+  pub loaded_counter : (counter : Counter) (rd v : ℕ) → K s r → i ≡ instr.ReadCounter counter rd → v ≡ counter_value counter t d → Yields w (loaded w.machine root t d i) s r (Answered d (Ok v) K)
   unfolding loaded
-  loaded_counter counter rd v holds e is =
-      subst (λ (j : Instr). EndsAs d (Ok v) memory (loaded p root t d j s)) (sym e) (given d s memory holds v (counter_value counter t d) (sym is))
+  loaded_counter counter rd v keeps e is = rw (e, is) (y_give w s r (counter_value counter t d) _ (record { value = refl; kept = keeps }))
 
-  pub loaded_other : Holds memory s.mem → ((w : LoadWidth) (rd rs1 offset : ℕ) → i ≢ instr.Load w rd rs1 offset) → ((c : Counter) (rd : ℕ) → i ≢ instr.ReadCounter c rd)
-      → EndsAs d (Ok 0) memory (loaded p root t d i s)
-  loaded_other holds not_load not_counter =
-      subst (λ (x : Act ℕ). EndsAs d (Ok 0) memory (x s)) (sym (loaded-other p root t d i not_load not_counter)) (given d s memory holds 0 0 refl)
+  pub loaded_other : K s r → ((x : LoadWidth) (rd rs1 offset : ℕ) → i ≢ instr.Load x rd rs1 offset) → ((c : Counter) (rd : ℕ) → i ≢ instr.ReadCounter c rd)
+      → Yields w (loaded w.machine root t d i) s r (Answered d (Ok 0) K)
+  loaded_other keeps not_load not_counter = rw (loaded-other w.machine root t d i not_load not_counter) (y_give w s r 0 _ (record { value = refl; kept = keeps }))
+
+-- ---- a branch
+
+module _ {P : Type 0} (rule : P → ℕ → Rule) (stands : P → ℕ → ℕ → List ℕ → Type 0) (w : Setting) (caps : Slots) (root : ℕ) (memory : Contents) (d : Dom) (i : Instr) (pc : ℕ) (taken : Bool) (s : Storage) (r : Touched) where
+  pub guessed_branch : (comparison : Comparison) (rs1 rs2 offset spent spent' cycles : ℕ) (old new : SystemContents P) → i ≡ instr.Branch comparison rs1 rs2 offset
+      → MakesTouch rule stands (Branch pc taken) cycles old new → new.core.tlb ≡ old.core.tlb → spent' ≡ spent + cycles
+      → Kept rule stands w caps root memory old spent s r → Yields w (guessed i pc taken) s r (Answered d (Ok tt) (Kept rule stands w caps root memory new spent'))
+  unfolding guessed
+  guessed_branch comparison rs1 rs2 offset spent spent' cycles old new e makes buffer more k =
+      let leaves : KeepsLeaves s.mem memory.frames root new.core.tlb = subst (λ (b : Buffer P). KeepsLeaves s.mem memory.frames root b) (sym buffer) k.leaves in
+      let keeps = touch_kept rule stands w memory old new (Branch pc taken) caps root spent spent' cycles s r makes more leaves k in
+      rw e (y_touch w s r (Branch pc taken) _ (record { value = refl; kept = keeps }))
+
+  pub guessed_no_branch : (K : Storage → Touched → Type 0) → K s r → ((c : Comparison) (rs1 rs2 offset : ℕ) → i ≢ instr.Branch c rs1 rs2 offset)
+      → Yields w (guessed i pc taken) s r (Answered d (Ok tt) K)
+  guessed_no_branch K keeps other = rw (guessed-other i pc taken other) (y_give w s r tt _ (record { value = refl; kept = keeps }))
 
 -- ---- the effect
 
-module _ (p : Hardware) (root : ℕ) (d : Dom) (i : Instr) (value : ℕ) (out : Outcome) (s : Storage) (memory : Contents) (new : Domain) (holds : Holds memory s.mem) where
-  pub settle_trapped : (trap : Trap) → out.effect.trap ≡ Some trap → Stands new (trapped trap d) → IsLeft memory new (settle p root d i value out s)
-  unfolding settle
-  settle_trapped trap e stands =
-      left_stop_next (unless out.effect.trap d) _ d s memory new trap (subst (λ (t : Option Trap). EndsAs d (Err trap) memory (unless t d s)) (sym e) (raised d s memory holds trap)) stands
+module _ (w : Setting) (K : Storage → Touched → Type 0) (root : ℕ) (d : Dom) (i : Instr) (value : ℕ) (out : Outcome) (s : Storage) (r : Touched) (new : Domain) (keeps : K s r) where
+  pub settle_trapped : (trap : Trap) → out.effect.trap ≡ Some trap → Stands new (trapped trap d) → Yields w (settle w.machine root d i value out) s r (Left new K)
+  unfolding settle either
+  settle_trapped trap e stands = search (yields_rules, e, stands, keeps) depth 40
 
-  goes_by : out.effect.trap ≡ None → EndsAs d (Ok tt) memory (unless out.effect.trap d s)
-  goes_by e = subst (λ (t : Option Trap). EndsAs d (Ok tt) memory (unless t d s)) (sym e) (passed d s memory holds)
+  module _ (K' K'' : Storage → Touched → Type 0) (e : out.effect.trap ≡ None)
+      (guess : (t : Storage) (q : Touched) → K t q → Yields w (guessed i d.threads.current.pc out.effect.taken) t q (Answered d (Ok tt) K')) where
+    settle_goes : (Q : Dom ⊎ Dom → Storage → Touched → Type 0)
+        → ((t : Storage) (q : Touched) → K' t q → Yields w (store w.machine root d out.effect.store >> give (retired_at out.effect.next out.regs (noted i value d))) t q Q)
+        → Yields w (settle w.machine root d i value out) s r Q
+    unfolding settle
+    settle_goes Q rest = search (yields_rules, y_found, e, guess, rest, keeps) depth 40
 
-  pub settle_faulted : (memory' : Contents) (trap : Trap) → out.effect.trap ≡ None → ((t : Storage) → Holds memory t.mem → EndsAs d (Err trap) memory' (store p root d out.effect.store t)) → Stands new (trapped trap d)
-      → IsLeft memory' new (settle p root d i value out s)
-  unfolding settle
-  settle_faulted memory' trap e found stands =
-      left_next (unless out.effect.trap d) _ d s memory new tt memory' (goes_by e) (λ t h.
-      left_stop_next (store p root d out.effect.store) _ d t memory' new trap (found t h) stands)
+    pub settle_faulted : (trap : Trap) → ((t : Storage) (q : Touched) → K' t q → Yields w (store w.machine root d out.effect.store) t q (Answered d (Err trap) K'')) → Stands new (trapped trap d)
+        → Yields w (settle w.machine root d i value out) s r (Left new K'')
+    unfolding either
+    settle_faulted trap fault stands = settle_goes (Left new K'') (λ t q k. search (yields_rules, y_faults, fault, stands, k) depth 40)
 
-  pub settle_finished : (memory' : Contents) → out.effect.trap ≡ None → ((t : Storage) → Holds memory t.mem → EndsAs d (Ok tt) memory' (store p root d out.effect.store t))
-      → Stands new (retired_at out.effect.next out.regs (noted i value d)) → IsLeft memory' new (settle p root d i value out s)
-  unfolding settle give
-  settle_finished memory' e found stands =
-      left_next (unless out.effect.trap d) _ d s memory new tt memory' (goes_by e) (λ t h.
-      left_next (store p root d out.effect.store) _ d t memory' new tt memory' (found t h) (λ u k.
-      left_given (retired_at out.effect.next out.regs (noted i value d)) u memory' new k stands))
+    pub settle_finished : ((t : Storage) (q : Touched) → K' t q → Yields w (store w.machine root d out.effect.store) t q (Answered d (Ok tt) K''))
+        → Stands new (retired_at out.effect.next out.regs (noted i value d)) → Yields w (settle w.machine root d i value out) s r (Left new K'')
+    unfolding either
+    settle_finished stores stands = settle_goes (Left new K'') (λ t q k. search (yields_rules, y_found, stores, stands, k) depth 40)
 
 -- ---- an instruction that is no kernel call
 
-module _ (p : Hardware) (root : ℕ) (t : ℕ) (d : Dom) (i : Instr) (s : Storage) (memory : Contents) (new : Domain) (holds : Holds memory s.mem) where
-  pub execute_misaligned : (trap : Trap) → misalignment_of i (address_of d.threads.current.regs i) ≡ Some trap → Stands new (trapped trap d) → IsLeft memory new (execute p root t d i s)
-  unfolding execute
-  execute_misaligned trap e stands =
-      left_stop_next (unless (misalignment_of i (address_of d.threads.current.regs i)) d) _ d s memory new trap
-      (subst (λ (x : Option Trap). EndsAs d (Err trap) memory (unless x d s)) (sym e) (raised d s memory holds trap)) stands
+module _ (w : Setting) (K : Storage → Touched → Type 0) (root t : ℕ) (d : Dom) (i : Instr) (s : Storage) (r : Touched) (new : Domain) (keeps : K s r) where
+  pub execute_misaligned : (trap : Trap) → misalignment_of i (address_of d.threads.current.regs i) ≡ Some trap → Stands new (trapped trap d) → Yields w (execute w.machine root t d i) s r (Left new K)
+  unfolding execute either
+  execute_misaligned trap e stands = search (yields_rules, e, stands, keeps) depth 40
 
-  aligned : misalignment_of i (address_of d.threads.current.regs i) ≡ None → EndsAs d (Ok tt) memory (unless (misalignment_of i (address_of d.threads.current.regs i)) d s)
-  aligned e = subst (λ (x : Option Trap). EndsAs d (Ok tt) memory (unless x d s)) (sym e) (passed d s memory holds)
+  pub execute_faulted : (K' : Storage → Touched → Type 0) (trap : Trap) → misalignment_of i (address_of d.threads.current.regs i) ≡ None
+      → ((u : Storage) (q : Touched) → K u q → Yields w (loaded w.machine root t d i) u q (Answered {A = ℕ} d (Err trap) K')) → Stands new (trapped trap d)
+      → Yields w (execute w.machine root t d i) s r (Left new K')
+  unfolding execute either
+  execute_faulted K' trap e found stands = search (yields_rules, y_faults, e, found, stands, keeps) depth 40
 
-  pub execute_faulted : (trap : Trap) → misalignment_of i (address_of d.threads.current.regs i) ≡ None → ((u : Storage) → Holds memory u.mem → EndsAs d (Err trap) memory (loaded p root t d i u)) → Stands new (trapped trap d)
-      → IsLeft memory new (execute p root t d i s)
+  pub execute_settled : (value : ℕ) (K' K'' : Storage → Touched → Type 0) → misalignment_of i (address_of d.threads.current.regs i) ≡ None
+      → ((u : Storage) (q : Touched) → K u q → Yields w (loaded w.machine root t d i) u q (Answered d (Ok value) K'))
+      → ((u : Storage) (q : Touched) → K' u q → Yields w (settle w.machine root d i value (effect_of d.threads.current.regs d.threads.current.pc i value)) u q (Left new K''))
+      → Yields w (execute w.machine root t d i) s r (Left new K'')
   unfolding execute
-  execute_faulted trap e found stands =
-      left_next (unless (misalignment_of i (address_of d.threads.current.regs i)) d) _ d s memory new tt memory (aligned e) (λ u h.
-      left_stop (loaded p root t d i) _ d u memory new trap (found u h) stands)
-
-  pub execute_settled : (value : ℕ) (memory' : Contents) → misalignment_of i (address_of d.threads.current.regs i) ≡ None → ((u : Storage) → Holds memory u.mem → EndsAs d (Ok value) memory (loaded p root t d i u))
-      → ((u : Storage) → Holds memory u.mem → IsLeft memory' new (settle p root d i value (effect_of d.threads.current.regs d.threads.current.pc i value) u))
-      → IsLeft memory' new (execute p root t d i s)
-  unfolding execute
-  execute_settled value memory' e found rest =
-      left_next (unless (misalignment_of i (address_of d.threads.current.regs i)) d) _ d s memory new tt memory' (aligned e) (λ u h.
-      left_then (loaded p root t d i) _ d u memory new value memory' (found u h) rest)
+  execute_settled value K' K'' e found rest = search (yields_rules, y_found, e, found, rest, keeps) depth 40
 
 -- ---- the next instruction
 
-module _ (p : Hardware) (e : Estate) (l : Layout) (t : ℕ) (d : Dom) (s : Storage) (memory : Contents) (new : Domain) where
-  pub instruction_missed : (trap : Trap) → EndsAs {A = ℕ} d (Err trap) memory (translate p e.root d access.Fetch d.threads.current.pc s) → Stands new (trapped trap d)
-      → IsLeft memory new (instruction p e l t d s)
-  unfolding instruction
-  instruction_missed trap fault stands = left_stop (translate p e.root d access.Fetch d.threads.current.pc) _ d s memory new trap fault stands
+module _ (w : Setting) (e : Estate) (l : Layout) (t : ℕ) (d : Dom) (s : Storage) (r : Touched) (new : Domain) (root : ℕ) (top : root ≡ e.root) where
+  pub instruction_missed : (K : Storage → Touched → Type 0) (trap : Trap) → Yields w (translate w.machine root d access.Fetch d.threads.current.pc) s r (Answered {A = ℕ} d (Err trap) K)
+      → Stands new (trapped trap d) → Yields w (instruction w.machine e l t d) s r (Left new K)
+  unfolding instruction either
+  instruction_missed K trap missed stands =
+      let fault : Yields w (translate w.machine e.root d access.Fetch d.threads.current.pc) s r (Answered {A = ℕ} d (Err trap) K) =
+      subst (λ (n : ℕ). Yields w (translate w.machine n d access.Fetch d.threads.current.pc) s r (Answered {A = ℕ} d (Err trap) K)) top missed in
+      search (yields_rules, y_faults, fault, stands) depth 40
 
--- what follows once the page is found
-unfoldable fetched : Hardware → Estate → Layout → ℕ → Dom → ℕ → Act Dom
-fetched p e l t d f = do
-  touch (Fetch (address_in f d.threads.current.pc))
-  w ← read f (place d.threads.current.pc)
-  perform p e l t d w (decode_of w)
+  module _ {P : Type 0} (rule : P → ℕ → Rule) (stands : P → ℕ → ℕ → List ℕ → Type 0) (caps : Slots) (memory : Contents) (mid next : SystemContents P) (at line word' spent spent' cycles : ℕ)
+      (page : Yields w (translate w.machine root d access.Fetch d.threads.current.pc) s r (Answered d (Ok (at / 4096)) (Kept rule stands w caps root memory mid spent)))
+      (place' : at % 4096 ≡ d.threads.current.pc % 4096) (is : line ≡ at / mid.l2.line_size) (makes : MakesTouch rule stands (Fetch line) cycles mid next)
+      (buffer : next.core.tlb ≡ mid.core.tlb) (more : spent' ≡ spent + cycles)
+      (found : (m : Mem) → Holds memory m → word' ≡ word m (at / 4096) (place d.threads.current.pc)) where
+    instruction_read : (K : Storage → Touched → Type 0)
+        → ((u : Storage) (q : Touched) → Kept rule stands w caps root memory next spent' u q → Yields w (perform w.machine e l t d word' (decode_of word')) u q (Left new K))
+        → Yields w (instruction w.machine e l t d) s r (Left new K)
+    unfolding instruction
+    instruction_read K rest =
+        let M = Kept rule stands w caps root memory mid spent in
+        let N = Kept rule stands w caps root memory next spent' in
+        let f = at / 4096 in
+        let pc = d.threads.current.pc in
+        let there : Yields w (translate w.machine e.root d access.Fetch pc) s r (Answered d (Ok f) M) =
+        subst (λ (n : ℕ). Yields w (translate w.machine n d access.Fetch pc) s r (Answered d (Ok f) M)) top page in
+        let fetches : (u : Storage) (q : Touched) → M u q → N u (charged w q (Fetch (line_in w.machine f pc))) =
+        λ u q k. line_kept rule stands w caps root memory (λ n. Fetch n) at pc line spent spent' cycles mid next u q place' is makes buffer more k in
+        let goes : (u : Storage) (q : Touched) → N u q → Yields w (perform w.machine e l t d (word u.mem f (place pc)) (decode_of (word u.mem f (place pc)))) u q (Left new K) =
+        λ u q k. subst (λ (x : ℕ). Yields w (perform w.machine e l t d x (decode_of x)) u q (Left new K)) (found u.mem k.holds) (rest u q k) in
+        search (yields_rules, y_found, there, fetches, goes) depth 40
 
--- where the word was found, the instruction is what it performs
-module _ (p : Hardware) (e : Estate) (l : Layout) (t : ℕ) (d : Dom) (s : Storage) (f w : ℕ)
-    (page : (translate p e.root d access.Fetch d.threads.current.pc s).value ≡ inr f) (is : w ≡ word s.mem f (place d.threads.current.pc)) where
-  pub performed_value : (instruction p e l t d s).value ≡ (perform p e l t d w (decode_of w) s).value
-  unfolding instruction fetched translate touch note read ◌>>◌ ◌>>=◌ go_on
-  performed_value =
-      bind_value (translate p e.root d access.Fetch d.threads.current.pc) (fetched p e l t d) s f page
-      ∙ ap (λ (x : ℕ). (perform p e l t d x (decode_of x) s).value) (sym is)
+    pub instruction_undefined : (trap : Trap) → trap ≡ record { code = 2; value = word' } → decode_of word' ≡ None → Stands new (trapped trap d)
+        → Yields w (instruction w.machine e l t d) s r (Left new (Kept rule stands w caps root memory next spent'))
+    unfolding perform trapped either
+    instruction_undefined trap same none stands' =
+        instruction_read (Kept rule stands w caps root memory next spent') (λ u q k.
+        rw none (y_stop w u q (stopped 2 word' d) _ (record { dom = subst (λ (x : Trap). Stands new (stopped x.code x.value d)) same stands'; kept = k })))
 
-  pub performed_state : (instruction p e l t d s).state ≡ (perform p e l t d w (decode_of w) s).state
-  unfolding instruction fetched translate touch note read ◌>>◌ ◌>>=◌ go_on
-  performed_state =
-      bind_state (translate p e.root d access.Fetch d.threads.current.pc) (fetched p e l t d) s f page
-      ∙ ap (λ (x : ℕ). (perform p e l t d x (decode_of x) s).state) (sym is)
+    pub instruction_called : (K : Storage → Touched → Type 0) → decode_of word' ≡ Some instr.Ecall
+        → ((u : Storage) (q : Touched) → Kept rule stands w caps root memory next spent' u q → Yields w (make_call w.machine e l d) u q (Left new K))
+        → Yields w (instruction w.machine e l t d) s r (Left new K)
+    unfolding perform
+    instruction_called K some rest = instruction_read K (λ u q k. rw some (rest u q k))
 
-  pub performed : (memory : Contents) (new : Domain) → IsLeft memory new (perform p e l t d w (decode_of w) s) → IsLeft memory new (instruction p e l t d s)
-  performed memory new left = record {
-    dom = subst (λ (v : Dom ⊎ Dom). Stands new (either v)) (sym performed_value) left.dom;
-    holds = subst (λ (u : Storage). Holds memory u.mem) (sym performed_state) left.holds;
-  }
+    pub instruction_executed : (i : Instr) (K : Storage → Touched → Type 0) → decode_of word' ≡ Some i → i ≢ instr.Ecall
+        → ((u : Storage) (q : Touched) → Kept rule stands w caps root memory next spent' u q → Yields w (execute w.machine root t d i) u q (Left new K))
+        → Yields w (instruction w.machine e l t d) s r (Left new K)
+    instruction_executed i K some other rest =
+        instruction_read K (λ u q k.
+        rw (some, perform-other w.machine e l t d word' i other) (subst (λ (n : ℕ). Yields w (execute w.machine n t d i) u q (Left new K)) top (rest u q k)))
 
-  pub instruction_undefined : (memory : Contents) (new : Domain) (trap : Trap) → Holds memory s.mem → trap ≡ record { code = 2; value = w } → decode_of w ≡ None
-      → Stands new (trapped trap d) → IsLeft memory new (instruction p e l t d s)
-  unfolding perform trapped
-  instruction_undefined memory new trap holds same none stands =
-      let left : IsLeft memory new (perform p e l t d w (decode_of w) s) =
-      rw none (left_stopped (stopped 2 w d) s memory new holds (subst (λ (x : Trap). Stands new (stopped x.code x.value d)) same stands)) in
-      performed memory new left
-
-  pub instruction_executed : (memory : Contents) (new : Domain) (i : Instr) → decode_of w ≡ Some i → i ≢ instr.Ecall → IsLeft memory new (execute p e.root t d i s)
-      → IsLeft memory new (instruction p e l t d s)
-  instruction_executed memory new i some other left =
-      let done : IsLeft memory new (perform p e l t d w (decode_of w) s) = rw (some, perform-other p e l t d w i other) left in
-      performed memory new done
-
-  pub called_value : decode_of w ≡ Some instr.Ecall → (instruction p e l t d s).value ≡ inr (either (call e d s.mem).value)
-  unfolding perform make_call
-  called_value some = performed_value ∙ ap (λ (i : Option Instr). (perform p e l t d w i s).value) some
-
-  pub called_state : decode_of w ≡ Some instr.Ecall → (instruction p e l t d s).state ≡ record { mem = (call e d s.mem).state }
-  unfolding perform make_call
-  called_state some = performed_state ∙ ap (λ (i : Option Instr). (perform p e l t d w i s).state) some
+-- the word of an address is that of the place where its own word begins
+pub found_word : (m : Mem) (x at pc : ℕ) → at % 4096 ≡ pc % 4096 → x ≡ word m (frame_of (at / 4 * 4)) (place_of (at / 4 * 4)) → x ≡ word m (at / 4096) (place pc)
+found_word m x at pc e is =
+    let frame : frame_of (at / 4 * 4) ≡ at / 4096 = omega arith in
+    let there : place_of (at / 4 * 4) ≡ place pc = omega (arith, e) in
+    is ∙ ap₂ (word m) frame there

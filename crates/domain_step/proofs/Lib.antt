@@ -1,5 +1,8 @@
-mod Steps
+mod Charges
+mod Yields
 mod Accesses
 mod Instructions
 mod Events
+mod Calls
 mod Moved
+mod TestLemmas

@@ -1,15 +1,12 @@
--- What the code's domain, memory and clock stand for, in a slot.
-use Rattle.std.specs.Prelude.{◌≡◌, ℕ, ◌<◌, ◌≤◌, List, Result, Ok, Err, ◌⊎◌}
+-- How steps of a domain end where the code answers, and what its domain, memory and hierarchy stand for.
+use Rattle.std.specs.Prelude.{◌≡◌, ℕ, ◌/◌, List, Result, Ok, Err, ◌⊎◌}
 use Rattle.std.proofs.Common.{inl, inr}
-use Rattle.tp_base.specs.Act as act
-use Rattle.tp_base.specs.Act.{Done, either}
-use Rattle.call_table.specs.Claims.{Estate}
-use Rattle.call_table.specs.Calls.{Note}
+use Rattle.tp_base.specs.Act.{either}
 use Rattle.phys_mem.specs.Contents.{Contents}
-use Rattle.phys_mem.specs.Holds.{Holds}
 use Rattle.phys_mem.specs.Mem.{Mem, word, written}
+use Rattle.set_cache.specs.Rule.{Rule}
 use Rattle.rv_core.specs.declared.Trap.{Trap}
-use Rattle.hardware_check.specs.Hardware.{Hardware}
+use Rattle.kernel_clone.specs.Models.{layout_model}
 use Rattle.call_table.specs.declared.Reply.{Reply}
 use Rattle.call_table.specs.Domain.{Dom}
 use Rattle.kernel_call.specs.declared.domain.Domain.{Domain}
@@ -17,87 +14,86 @@ use Rattle.kernel_call.specs.Logs.{log_of}
 use Rattle.kernel_call.specs.LogModel.{log_model}
 use Rattle.kernel_call.specs.Models.{dom_model, Stands}
 use Rattle.kernel_call.specs.Facts.{HasFacts}
-use Rattle.image_check.specs.Own.{Own}
-use Rattle.world_view.specs.Kernel.{estate}
-use Rattle.world_view.specs.Relations.{IsKernel}
+use Rattle.mem_system.specs.Cost.{Touched}
+use Rattle.mem_system.specs.Contents.{SystemContents, SystemStands}
+use Rattle.mem_system.specs.Translation.{KeepsLeaves}
+use Rattle.world_view.specs.Kernel.{estate, layout}
 use Rattle.world_view.specs.Instruction.{trapped}
-use Rattle.world_view.specs.Cost.{Touch}
 use Rattle.world_view.specs.Event.{Storage, Act, stored_in}
 use Rattle.world_view.specs.Machine.{Local}
-
--- the limits by which no clock overflows
-pub record IsTimed (p : Hardware) : Type 0 where
-  pub some : 0 < p.base
-  pub short : p.base ≤ 1000
+use Rattle.domain_step.specs.Kept.{Setting, Fits, after}
 
 -- ---- steps of a domain
+
+-- what steps end with and leave, and the cost so far with theirs, meets Q
+pub record Yields {A : Type 0} (w : Setting) (x : Act A) (s : Storage) (r : Touched)
+    (Q : Dom ⊎ A → Storage → Touched → Type 0) : Type 0 where
+  pub met : Q (x s).value (x s).state (after w r (x s).notes)
 
 -- how they end where the code answers this: a trap stops the domain
 abbrev pub end_of : {A : Type 0} → Dom → Result A Trap → Dom ⊎ A
 end_of d (Ok x) = inr x
 end_of d (Err trap) = inl (trapped trap d)
 
--- steps that end so, and a memory that holds what they leave
-pub record EndsAs {A : Type 0} (d : Dom) (result : Result A Trap) (memory : Contents) (done : Done Storage Touch Dom A) : Type 0 where
-  pub value : done.value ≡ end_of d result
-  pub holds : Holds memory done.state.mem
+-- they end so, and what they leave is kept
+pub record Answered {A : Type 0} (d : Dom) (result : Result A Trap) (K : Storage → Touched → Type 0)
+    (v : Dom ⊎ A) (t : Storage) (q : Touched) : Type 0 where
+  pub value : v ≡ end_of d result
+  pub kept : K t q
 
--- for each domain, and whatever the old memory holds, these steps end as the code answers
-abbrev pub Finds : {A : Type 0} → (Dom → Act A) → Result A Trap → Contents → Contents → Type 0
-Finds f result old new = (d : Dom) (s : Storage) → Holds old s.mem → EndsAs d result new (f d s)
+-- for each domain, and whatever the code keeps, these steps end as it answers, and it keeps what they leave
+abbrev pub Finds : {A : Type 0} → Setting → (Dom → Act A) → Result A Trap
+    → (Storage → Touched → Type 0) → (Storage → Touched → Type 0) → Type 0
+Finds w f result K K' = (d : Dom) (s : Storage) (r : Touched) → K s r
+    → Yields w (f d) s r (Answered d result K')
 
--- a memory and a domain that stand for what steps leave
-pub record IsLeft (memory : Contents) (d : Domain) (done : Done Storage Touch Dom Dom) : Type 0 where
-  pub dom : Stands d (either done.value)
-  pub holds : Holds memory done.state.mem
+-- the domain stands for what they end with, and what they leave is kept
+pub record Left (new : Domain) (K : Storage → Touched → Type 0) (v : Dom ⊎ Dom) (t : Storage) (q : Touched)
+    : Type 0 where
+  pub dom : Stands new (either v)
+  pub kept : K t q
 
--- whatever the old memory and domain stand for, the new ones stand for what these steps leave of it
-abbrev pub Leaves : (Dom → Act Dom) → Contents → Domain → Contents → Domain → Type 0
-Leaves f memory old memory' new = (s : Storage) (readings : List ℕ) (replies : List Reply) → Holds memory s.mem
+-- whatever the old domain stands for and the code keeps, the new one stands for what these steps leave of it
+abbrev pub Leaves : Setting → (Dom → Act Dom) → Domain → (Storage → Touched → Type 0)
+    → Domain → (Storage → Touched → Type 0) → Type 0
+Leaves w f old K new K' = (s : Storage) (r : Touched) (readings : List ℕ) (replies : List Reply) → K s r
     → log_model old.readings ≡ log_of readings → log_model old.replies ≡ log_of replies
-    → IsLeft memory' new (f (dom_model old readings replies) s)
+    → Yields w (f (dom_model old readings replies)) s r (Left new K')
+
+-- ---- parts of steps
+
+-- the frame of the address that an access is translated to
+abbrev pub frame_found : Result ℕ Trap → Result ℕ Trap
+frame_found (Ok at) = Ok (at / 4096)
+frame_found (Err trap) = Err trap
 
 -- a memory in which a store of so many bytes was made, at a place in a word
 abbrev pub stored : Mem → ℕ → ℕ → ℕ → ℕ → ℕ → Mem
 stored m f i size place value = written m f i (stored_in size (word m f i) place value)
 
--- what a kernel call leaves
-pub record IsCalled (e : Estate) (memory : Contents) (d : Domain) (done : act.Done Mem Note Dom Dom) : Type 0 where
-  pub dom : Stands d (either done.value)
-  pub facts : HasFacts e memory done.state d
+-- ---- between events
 
--- ---- events of domain o, which hold the facts of its frames
-
--- a memory and a domain that stand for what steps leave, and have the facts
-pub record IsLeftWith (p : Hardware) (o : Own) (memory : Contents) (d : Domain) (done : Done Storage Touch Dom Dom) : Type 0 where
-  pub dom : Stands d (either done.value)
-  pub facts : HasFacts (estate p o) memory done.state.mem d
-
--- whatever domain o's old memory and state stand for, the new ones stand for what these steps leave of it
-abbrev pub LeavesWith : Hardware → (Own → Dom → Act Dom) → Contents → Domain → Contents → Domain → Type 0
-LeavesWith p f memory old memory' new = (o : Own) (s : Storage) (readings : List ℕ) (replies : List Reply)
-    → IsKernel p o → HasFacts (estate p o) memory s.mem old
-    → log_model old.readings ≡ log_of readings → log_model old.replies ≡ log_of replies
-    → IsLeftWith p o memory' new (f o (dom_model old readings replies) s)
-
--- they stand for this, with caches as they were
-pub record StandsIn (p : Hardware) (o : Own) (memory : Contents) (d : Domain) (clock : ℕ) (first s : Local) : Type 0 where
+-- the code's domain, memory, hierarchy and clock stand for this state of the setting's domain
+pub record StandsIn {P : Type 0} (rule : P → ℕ → Rule) (stands : P → ℕ → ℕ → List ℕ → Type 0) (w : Setting)
+    (memory : Contents) (d : Domain) (system : SystemContents P) (clock : ℕ) (s : Local) : Type 0 where
+  pub fits : Fits rule w memory system
   pub dom : Stands d s.dom
-  pub facts : HasFacts (estate p o) memory s.storage.mem d
-  pub caches : s.caches ≡ first.caches
+  pub facts : HasFacts (estate w.machine w.own) memory s.storage.mem d
+  pub layout : layout_model d.layout ≡ layout w.machine w.own
+  pub leaves : KeepsLeaves s.storage.mem memory.frames d.map system.core.tlb
+  pub caches : SystemStands stands system s.caches
   pub time : clock ≡ s.clock
 
--- whatever domain o's old memory and state and the clock then stand for, the new ones and the later clock stand for f of it
-abbrev pub Moves : Hardware → (Own → Local → Local) → Contents → Domain → ℕ → Contents → Domain → ℕ → Type 0
-Moves p f memory old now memory' new later = (o : Own) (s : Local) → IsKernel p o → Stands old s.dom
-    → HasFacts (estate p o) memory s.storage.mem old → now ≡ s.clock
-    → StandsIn p o memory' new later s (f o s)
+-- whatever the old ones stand for, in whatever setting, the new ones stand for f of it
+abbrev pub Moves : {P : Type 0} → (P → ℕ → Rule) → (P → ℕ → ℕ → List ℕ → Type 0) → (Setting → Local → Local)
+    → Contents → Domain → SystemContents P → ℕ → Contents → Domain → SystemContents P → ℕ → Type 0
+Moves rule stands f memory old system now memory' new system' later = (w : Setting) (s : Local)
+    → StandsIn rule stands w memory old system now s
+    → StandsIn rule stands w memory' new system' later (f w s)
 
--- the facts of some domain of this machine hold of it in a memory, and it stands for some state of a domain
-pub record Runs (p : Hardware) (memory : Contents) (d : Domain) : Type 0 where
-  pub own : Own
-  pub kernel : IsKernel p own
-  pub mem : Mem
-  pub facts : HasFacts (estate p own) memory mem d
-  pub dom : Dom
-  pub stands : Stands d dom
+-- they stand for some state of some domain
+pub record Runs {P : Type 0} (rule : P → ℕ → Rule) (stands : P → ℕ → ℕ → List ℕ → Type 0)
+    (memory : Contents) (d : Domain) (system : SystemContents P) (clock : ℕ) : Type 0 where
+  pub setting : Setting
+  pub state : Local
+  pub stands_in : StandsIn rule stands setting memory d system clock state

@@ -19,3 +19,9 @@ pub record KeepsFrames (old new : Domain) : Type 0 where
   pub caps : new.caps ≡ old.caps
   pub pool : new.pool ≡ old.pool
   pub map : new.map ≡ old.map
+  pub layout : new.layout ≡ old.layout
+
+-- the most that an event takes, in cycles: an instruction's own, its look-up, its fetch, and what a call of the
+-- kernel charges, by the bounds of the calls that charge these
+abbrev pub most_cycles : ℕ
+most_cycles = 1326000

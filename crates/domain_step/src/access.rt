@@ -1,18 +1,24 @@
-// A domain's accesses to its memory, by its page tables.
-ghost use Rattle.std.specs.Prelude.{◌≡◌, ◌⊎◌, ◌*◌, ◌%◌, ◌^◌, ◌<◌, IfOk, IfSome};
+// A domain's accesses to its memory, by its page tables. Each adds what it
+// charged to the cycles spent, also where it ends with an exception.
+ghost use Rattle.std.specs.Prelude.{◌≡◌, ◌+◌, ◌⊎◌, ◌*◌, ◌/◌, ◌%◌, ◌^◌, ◌<◌, ◌≤◌, IfOk, IfSome};
 ghost use Rattle.phys_mem.specs.Address.{frame_of, place_of};
 ghost use Rattle.phys_mem.specs.Holds.{Holds};
 ghost use Rattle.phys_mem.specs.Mem.{Mem, word};
+ghost use Rattle.page_map.specs.Tables.{StandsWith};
 ghost use Rattle.rv_core.specs.Effect.{IsStore};
 ghost use Rattle.rv_core.specs.Memory.{load_size};
-ghost use Rattle.hardware_check.specs.Hardware.{Hardware};
+ghost use Rattle.cap_table.specs.Slots.{Slots};
+ghost use Rattle.mem_system.specs.Translation.{KeepsLeaves};
 ghost use Rattle.world_view.specs.Event as spec;
-ghost use Rattle.domain_step.specs.Moves.{Finds, stored};
+ghost use Rattle.domain_step.specs.Kept.{Setting, Kept};
+ghost use Rattle.domain_step.specs.Moves.{Finds, frame_found, stored};
 
+use mem_system::MemSystem;
 use phys_mem::PhysMem;
 use rv_core::{Store, Trap};
 use rv_decode::LoadWidth;
-use sv32_walk::{Access, PageTableEntry, WalkFault, walk};
+use set_cache::Policy;
+use sv32_walk::{Access, WalkFault};
 use tp_base::FrameNo;
 
 // ---- translation
@@ -31,32 +37,40 @@ fn fault_code(access: Access, fault: WalkFault) -> u8
     }
 }
 
-/// The frame of an address's page, by a walk of the page tables of a root, or
-/// the exception of a walk that faults.
-pub fn translate(root: FrameNo, memory: &PhysMem, access: Access, va: u32) -> Result<u32, Trap>
-    ensures finds { (p : Hardware) → p.frames ≡ memory.now.frames
-        → Finds (λ d. spec.translate p root d access va) result memory.now memory.now }
-    ensures within { IfOk result (λ f. f < memory.now.frames) }
-    ensures few { IfOk result (λ f. f < 2 ^ 20) }
+/// The physical address of a virtual one, by the page tables of a root, or the
+/// exception of a walk that faults.
+#[inline(always)]
+pub fn translate<P: Policy>(
+    memory: &PhysMem,
+    system: &mut MemSystem<P>,
+    spent: &mut u32,
+    root: FrameNo,
+    access: Access,
+    va: u32,
+) -> Result<u32, Trap>
+    requires frames { memory.now.frames ≤ 2 ^ 15 }
+    requires leaves { StandsWith memory.now
+        (λ m. KeepsLeaves m memory.now.frames root system.old.core.tlb) }
+    requires spent { spent.old < 2 ^ 31 }
+    ensures finds { (w : Setting) (caps : Slots)
+        → Finds w (λ d. spec.translate w.machine root d access va) (frame_found result)
+        (Kept P.rule P.stands_for w caps root memory.now system.old spent.old)
+        (Kept P.rule P.stands_for w caps root memory.now system.new spent.new) }
+    ensures leaves { StandsWith memory.now
+        (λ m. KeepsLeaves m memory.now.frames root system.new.core.tlb) }
+    ensures within { IfOk result (λ at. frame_of at < memory.now.frames) }
+    ensures place { IfOk result (λ at. at % 4096 ≡ va % 4096) }
+    ensures few { spent.new ≤ spent.old + 5000 }
 {
-    let _frames = memory.frames();
-    match walk(memory, root.number(), va, access).result {
-        Ok(leaf) => Ok(PageTableEntry(leaf).frame()),
+    let found = system.translate(memory, root.number(), va, access);
+    *spent += found.cycles;
+    match found.result {
+        Ok(at) => Ok(at),
         Err(fault) => Err(Trap {
             code: fault_code(access, fault),
             value: va,
         }),
     }
-}
-
-/// The physical address of a virtual one in a frame.
-pub fn physical(frame: u32, va: u32) -> u32
-    requires frame { frame < 2 ^ 20 }
-    ensures frame { frame_of result ≡ frame }
-    ensures place { place_of result ≡ spec.place va }
-    ensures low { result % 4 ≡ va % 4 }
-{
-    frame * 4096 + va % 4096
 }
 
 // ---- loads
@@ -77,13 +91,30 @@ fn read(memory: &PhysMem, width: LoadWidth, at: u32) -> u32
 
 /// What a load finds at an aligned virtual address, with zeros above it, or the
 /// exception of its walk.
-pub fn load(root: FrameNo, memory: &PhysMem, width: LoadWidth, at: u32) -> Result<u32, Trap>
-    requires aligned { at % load_size width ≡ 0 }
-    ensures finds { (p : Hardware) → p.frames ≡ memory.now.frames
-        → Finds (λ d. spec.load p root d width at) result memory.now memory.now }
+pub fn load<P: Policy>(
+    memory: &PhysMem,
+    system: &mut MemSystem<P>,
+    spent: &mut u32,
+    root: FrameNo,
+    width: LoadWidth,
+    va: u32,
+) -> Result<u32, Trap>
+    requires aligned { va % load_size width ≡ 0 }
+    requires frames { memory.now.frames ≤ 2 ^ 15 }
+    requires leaves { StandsWith memory.now
+        (λ m. KeepsLeaves m memory.now.frames root system.old.core.tlb) }
+    requires spent { spent.old < 2 ^ 31 }
+    ensures finds { (w : Setting) (caps : Slots)
+        → Finds w (λ d. spec.load w.machine root d width va) result
+        (Kept P.rule P.stands_for w caps root memory.now system.old spent.old)
+        (Kept P.rule P.stands_for w caps root memory.now system.new spent.new) }
+    ensures leaves { StandsWith memory.now
+        (λ m. KeepsLeaves m memory.now.frames root system.new.core.tlb) }
+    ensures few { spent.new ≤ spent.old + 9000 }
 {
-    let frame = translate(root, memory, Access::Load, at)?;
-    Ok(read(memory, width, physical(frame, at)))
+    let at = translate(memory, system, spent, root, Access::Load, va)?;
+    *spent += system.access(system.line_of(at), false);
+    Ok(read(memory, width, at))
 }
 
 // ---- stores
@@ -107,16 +138,30 @@ fn write(memory: &mut PhysMem, at: u32, size: u8, value: u32)
 
 /// Makes a store, where there is one, at an aligned virtual address, or answers
 /// the exception of its walk.
-pub fn store(root: FrameNo, memory: &mut PhysMem, made: Option<Store>) -> Result<(), Trap>
+pub fn store<P: Policy>(
+    memory: &mut PhysMem,
+    system: &mut MemSystem<P>,
+    spent: &mut u32,
+    root: FrameNo,
+    made: Option<Store>,
+) -> Result<(), Trap>
     requires store { IfSome made IsStore }
-    ensures finds { (p : Hardware) → p.frames ≡ memory.old.frames
-        → Finds (λ d. spec.store p root d made) result memory.old memory.new }
+    requires frames { memory.old.frames ≤ 2 ^ 15 }
+    requires leaves { StandsWith memory.old
+        (λ m. KeepsLeaves m memory.old.frames root system.old.core.tlb) }
+    requires spent { spent.old < 2 ^ 31 }
+    ensures finds { (w : Setting) (caps : Slots)
+        → Finds w (λ d. spec.store w.machine root d made) result
+        (Kept P.rule P.stands_for w caps root memory.old system.old spent.old)
+        (Kept P.rule P.stands_for w caps root memory.new system.new spent.new) }
     ensures frames { memory.new.frames ≡ memory.old.frames }
+    ensures few { spent.new ≤ spent.old + 9000 }
 {
     let Some(made) = made else {
         return Ok(());
     };
-    let frame = translate(root, memory, Access::Store, made.at)?;
-    write(memory, physical(frame, made.at), made.size, made.word);
+    let at = translate(memory, system, spent, root, Access::Store, made.at)?;
+    *spent += system.access(system.line_of(at), true);
+    write(memory, at, made.size, made.word);
     Ok(())
 }

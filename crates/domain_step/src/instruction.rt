@@ -1,23 +1,32 @@
 // What traps, counters, kernel calls and instructions do to a domain.
-ghost use Rattle.std.specs.Prelude.{◌≡◌, ℕ, ◌+◌, ◌^◌, ◌<◌, List};
-ghost use Rattle.call_table.specs.declared.Reply.{Reply};
-ghost use Rattle.world_view.specs.Instruction as spec;
-ghost use Rattle.world_view.specs.Event.{noted};
+ghost use Rattle.std.specs.Prelude.{◌≡◌, ℕ, ◌+◌, ◌^◌, ◌<◌, ◌≤◌, List, length};
 ghost use Rattle.phys_mem.specs.Mem.{Mem};
+ghost use Rattle.rv_core.specs.Registers.{register};
+ghost use Rattle.kernel_clone.specs.Footprints.{IsLayout};
+ghost use Rattle.kernel_clone.specs.Models.{layout_model, IsWork};
+ghost use Rattle.call_table.specs.declared.Reply.{Reply};
 ghost use Rattle.call_table.specs.Claims.{Estate};
 ghost use Rattle.call_table.specs.Calls as table;
 ghost use Rattle.kernel_call.specs.Logs.{log_of};
 ghost use Rattle.kernel_call.specs.LogModel.{log_model};
 ghost use Rattle.kernel_call.specs.Models.{dom_model, Becomes};
 ghost use Rattle.kernel_call.specs.Facts.{HasFacts, Valid};
+ghost use Rattle.kernel_call.specs.Calls.{IsCalled, KeepsParts};
+ghost use Rattle.world_view.specs.Instruction as spec;
+ghost use Rattle.world_view.specs.Event as event;
+ghost use Rattle.world_view.specs.Kernel.{estate, layout};
 ghost use Rattle.domain_step.specs.Stands.{HasRoom, Grows, KeepsFrames};
-ghost use Rattle.domain_step.specs.Moves.{IsCalled};
+ghost use Rattle.domain_step.specs.Kept.{Setting, KeptOf};
+ghost use Rattle.domain_step.specs.Moves.{Leaves};
 
 use call_table::DomainStatus;
-use kernel_call::Domain;
+use domain_switch::charge;
+use kernel_call::{Domain, Outcome};
+use mem_system::MemSystem;
 use phys_mem::PhysMem;
 use rv_core::Trap;
 use rv_decode::{Counter, Instr};
+use set_cache::Policy;
 
 // ---- exceptions
 
@@ -91,7 +100,7 @@ fn retire(domain: &mut Domain, next: u32)
 /// read is recorded, and the domain goes on at `next`.
 pub fn finish(domain: &mut Domain, instr: Instr, value: u32, next: u32)
     requires room { HasRoom domain.old }
-    ensures becomes { Becomes (λ d. spec.retired_at next d.threads.current.regs (noted instr value d))
+    ensures becomes { Becomes (λ d. spec.retired_at next d.threads.current.regs (event.noted instr value d))
         domain.old domain.new }
     ensures grows { Grows 1 1 0 domain.old domain.new }
     ensures keeps { KeepsFrames domain.old domain.new }
@@ -106,21 +115,53 @@ pub fn finish(domain: &mut Domain, instr: Instr, value: u32, next: u32)
 
 // ---- kernel calls
 
-/// The kernel call in x17, with the arguments in x10, x11 and x12.
+// The kernel call in x17, with the arguments in x10, x11 and x12.
 #[tactic(auto, unfolding(call_table::specs::Calls::call))]
-pub fn call(domain: &mut Domain, memory: &mut PhysMem)
+fn answer(memory: &mut PhysMem, domain: &mut Domain) -> Outcome
     requires valid { Valid memory.old domain.old }
+    requires frames { memory.old.frames ≤ 2 ^ 15 }
     requires replies { domain.old.replies.count < 2 ^ 63 }
     ensures calls { (e : Estate) (readings : List ℕ) (replies : List Reply) (m : Mem)
         → HasFacts e memory.old m domain.old
         → log_model domain.old.readings ≡ log_of readings → log_model domain.old.replies ≡ log_of replies
-        → IsCalled e memory.new domain.new (table.call e (dom_model domain.old readings replies) m) }
+        → IsCalled e memory.new domain.new (register domain.old.threads.active.regs 17) (length replies)
+        result (table.call e (dom_model domain.old readings replies) m) }
+    ensures work { IsWork result.work }
+    ensures keeps { KeepsParts domain.old domain.new }
     ensures frames { memory.new.frames ≡ memory.old.frames }
     ensures grows { Grows 0 0 1 domain.old domain.new }
-    ensures map { domain.new.map ≡ domain.old.map }
 {
     let regs = &domain.threads.active.regs;
     let number = regs.get(17);
     let args = [regs.get(10), regs.get(11), regs.get(12)];
-    kernel_call::call(domain, memory, number, args);
+    kernel_call::call(domain, memory, number, args)
+}
+
+/// The kernel call that the domain makes. Its work is charged, and then the
+/// translation buffer is emptied where the call does that.
+pub fn call<P: Policy>(
+    memory: &mut PhysMem,
+    system: &mut MemSystem<P>,
+    domain: &mut Domain,
+    spent: &mut u32,
+)
+    requires valid { Valid memory.old domain.old }
+    requires clone { IsLayout (layout_model domain.old.layout) }
+    requires frames { memory.old.frames ≤ 2 ^ 15 }
+    requires replies { domain.old.replies.count < 2 ^ 63 }
+    requires spent { spent.old < 2 ^ 31 }
+    ensures leaves { (w : Setting) → Leaves w
+        (λ d. event.make_call w.machine (estate w.machine w.own) (layout w.machine w.own) d)
+        domain.old (KeptOf P.rule P.stands_for w domain.old memory.old system.old spent.old)
+        domain.new (KeptOf P.rule P.stands_for w domain.new memory.new system.new spent.new) }
+    ensures frames { memory.new.frames ≡ memory.old.frames }
+    ensures grows { Grows 0 0 1 domain.old domain.new }
+    ensures few { spent.new ≤ spent.old + 1317000 }
+{
+    let outcome = answer(memory, domain);
+    *spent += charge(system, &domain.layout, &outcome.work);
+    if !outcome.empties_buffer() {
+        return;
+    }
+    system.empty_tlb();
 }

@@ -1,4 +1,5 @@
-//! A domain in its slot: one event after another, as the definitions have it.
+//! A domain in its slot, over the memory hierarchy: one event after another, as
+//! the definitions have it, at its cost to the cycle.
 #![tactic(auto)]
 
 mod access;
@@ -6,3 +7,6 @@ mod instruction;
 mod slot;
 
 pub use slot::{step, stretch};
+
+#[cfg(test)]
+mod tests;

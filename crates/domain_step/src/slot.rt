@@ -1,69 +1,115 @@
 // A domain in its slot.
-ghost use Rattle.std.specs.Prelude.{◌≡◌, ℕ, ◌+◌, ◌^◌, ◌<◌, ◌≤◌, List, false, None};
-ghost use Rattle.phys_mem.specs.Holds.{Holds};
+ghost use Rattle.std.specs.Prelude.{◌≡◌, ℕ, ◌+◌, ◌^◌, ◌<◌, ◌≤◌, List, None, Ok};
+ghost use Rattle.phys_mem.specs.Contents.{Contents};
+ghost use Rattle.page_map.specs.Tables.{StandsWith};
 ghost use Rattle.rv_core.specs.Effect.{effect_of};
 ghost use Rattle.rv_core.specs.Memory.{address_of, misalignment_of};
 ghost use Rattle.rv_decode.specs.Ranges.{HasRegisters};
+ghost use Rattle.cap_table.specs.Slots.{Slots};
 ghost use Rattle.call_table.specs.declared.Reply.{Reply};
-ghost use Rattle.world_view.specs.Event as event;
-ghost use Rattle.hardware_check.specs.Hardware as hardware_spec;
-ghost use Rattle.world_view.specs.Machine as spec;
-ghost use Rattle.hardware_check.specs.Models.{hardware_model};
 ghost use Rattle.kernel_call.specs.Models.{dom_model, CountsUpTo};
+ghost use Rattle.mem_system.specs.Cost.{Touched};
+ghost use Rattle.mem_system.specs.Contents.{hierarchy_of};
+ghost use Rattle.mem_system.specs.Translation.{KeepsLeaves};
+ghost use Rattle.world_view.specs.Event as event;
+ghost use Rattle.world_view.specs.Machine as spec;
 ghost use Rattle.world_view.specs.Kernel.{estate, layout};
-ghost use Rattle.domain_step.specs.Stands.{HasRoom, Grows, KeepsFrames};
-ghost use Rattle.domain_step.specs.Moves.{IsTimed, EndsAs, Leaves, LeavesWith, Moves, Runs};
+ghost use Rattle.domain_step.specs.Stands.{HasRoom, Grows, KeepsFrames, most_cycles};
+ghost use Rattle.domain_step.specs.Kept.{Setting, Kept, KeptOf};
+ghost use Rattle.domain_step.specs.Moves.{Yields, Answered, Finds, Leaves, Moves, Runs};
 
-use crate::access::{load, physical, store, translate};
+use crate::access::{load, store, translate};
 use crate::instruction::{call, counter_value, finish, stop};
 use call_table::DomainStatus;
-use image_check::Hardware;
 use kernel_call::Domain;
+use mem_system::MemSystem;
 use phys_mem::PhysMem;
 use rv_core::{Trap, address, misalignment};
 use rv_decode::{Instr, decode};
+use set_cache::Policy;
 use sv32_walk::Access;
 use tp_base::FrameNo;
 
-// ---- an instruction
+// ---- an instruction. The cycles that it charges are added to those spent.
 
 // What the instruction needs from outside the registers, at a clock: what a
 // load finds at its address, or a counter's value.
-fn loaded(
-    root: FrameNo,
+fn loaded<P: Policy>(
     memory: &PhysMem,
+    system: &mut MemSystem<P>,
     domain: &Domain,
+    spent: &mut u32,
+    root: FrameNo,
     now: u64,
     instr: Instr,
     at: u32,
 ) -> Result<u32, Trap>
     requires address { at ≡ address_of domain.now.threads.active.regs instr }
     requires aligned { misalignment_of instr at ≡ None }
-    ensures finds { (p : hardware_spec.Hardware) (s : event.Storage)
+    requires frames { memory.now.frames ≤ 2 ^ 15 }
+    requires leaves { StandsWith memory.now
+        (λ m. KeepsLeaves m memory.now.frames root system.old.core.tlb) }
+    requires spent { spent.old < 2 ^ 31 }
+    ensures finds { (w : Setting) (caps : Slots) (s : event.Storage) (r : Touched)
         (readings : List ℕ) (replies : List Reply)
-        → p.frames ≡ memory.now.frames → Holds memory.now s.mem
-        → EndsAs (dom_model domain.now readings replies) result memory.now
-        (event.loaded p root now (dom_model domain.now readings replies) instr s) }
+        → Kept P.rule P.stands_for w caps root memory.now system.old spent.old s r
+        → Yields w (event.loaded w.machine root now (dom_model domain.now readings replies) instr) s r
+        (Answered (dom_model domain.now readings replies) result
+        (Kept P.rule P.stands_for w caps root memory.now system.new spent.new)) }
+    ensures leaves { StandsWith memory.now
+        (λ m. KeepsLeaves m memory.now.frames root system.new.core.tlb) }
+    ensures few { spent.new ≤ spent.old + 9000 }
 {
     match instr {
-        Instr::Load { width, .. } => load(root, memory, width, at),
+        Instr::Load { width, .. } => load(memory, system, spent, root, width, at),
         Instr::ReadCounter { counter, .. } => Ok(counter_value(counter, now, domain)),
         _ => Ok(0),
     }
 }
 
-// The effect of an instruction: a trap, or a store, the registers and the next
-// instruction.
-fn settle(root: FrameNo, memory: &mut PhysMem, domain: &mut Domain, instr: Instr, value: u32)
+// A branch is guessed, and taught whether it is taken.
+#[inline(always)]
+fn guess<P: Policy>(system: &mut MemSystem<P>, spent: &mut u32, instr: Instr, pc: u32, taken: bool)
+    requires spent { spent.old < 2 ^ 31 }
+    ensures finds { (w : Setting) (caps : Slots) (root : ℕ) (memory : Contents)
+        → Finds w (λ d. event.guessed instr pc taken) (Ok tt)
+        (Kept P.rule P.stands_for w caps root memory system.old spent.old)
+        (Kept P.rule P.stands_for w caps root memory system.new spent.new) }
+    ensures buffer { system.new.core.tlb ≡ system.old.core.tlb }
+    ensures few { spent.new ≤ spent.old + 1000 }
+{
+    let Instr::Branch { .. } = instr else {
+        return;
+    };
+    *spent += system.branch(pc, taken);
+}
+
+// The effect of an instruction: a trap, or a branch's guess, a store, the
+// registers and the next instruction.
+fn settle<P: Policy>(
+    memory: &mut PhysMem,
+    system: &mut MemSystem<P>,
+    domain: &mut Domain,
+    spent: &mut u32,
+    root: FrameNo,
+    instr: Instr,
+    value: u32,
+)
     requires registers { HasRegisters instr }
     requires room { HasRoom domain.old }
-    ensures leaves { (p : hardware_spec.Hardware) → p.frames ≡ memory.old.frames → Leaves
-        (λ d. event.settle p root d instr value
+    requires frames { memory.old.frames ≤ 2 ^ 15 }
+    requires leaves { StandsWith memory.old
+        (λ m. KeepsLeaves m memory.old.frames root system.old.core.tlb) }
+    requires spent { spent.old < 2 ^ 30 }
+    ensures leaves { (w : Setting) → Leaves w
+        (λ d. event.settle w.machine root d instr value
         (effect_of d.threads.current.regs d.threads.current.pc instr value))
-        memory.old domain.old memory.new domain.new }
+        domain.old (Kept P.rule P.stands_for w domain.old.caps root memory.old system.old spent.old)
+        domain.new (Kept P.rule P.stands_for w domain.old.caps root memory.new system.new spent.new) }
     ensures frames { memory.new.frames ≡ memory.old.frames }
     ensures grows { Grows 1 1 0 domain.old domain.new }
     ensures keeps { KeepsFrames domain.old domain.new }
+    ensures few { spent.new ≤ spent.old + 10000 }
 {
     let pc = domain.threads.active.pc;
     let effect = rv_core::execute(&mut domain.threads.active.regs, pc, instr, value);
@@ -71,7 +117,8 @@ fn settle(root: FrameNo, memory: &mut PhysMem, domain: &mut Domain, instr: Instr
         stop(domain, trap);
         return;
     }
-    match store(root, memory, effect.store) {
+    guess(system, spent, instr, pc, effect.taken);
+    match store(memory, system, spent, root, effect.store) {
         Ok(()) => finish(domain, instr, value, effect.next),
         Err(trap) => stop(domain, trap),
     }
@@ -79,48 +126,71 @@ fn settle(root: FrameNo, memory: &mut PhysMem, domain: &mut Domain, instr: Instr
 
 // An instruction that is no kernel call. Misaligned loads and stores trap
 // before their address is translated.
-fn execute(root: FrameNo, memory: &mut PhysMem, domain: &mut Domain, now: u64, instr: Instr)
+fn execute<P: Policy>(
+    memory: &mut PhysMem,
+    system: &mut MemSystem<P>,
+    domain: &mut Domain,
+    spent: &mut u32,
+    root: FrameNo,
+    now: u64,
+    instr: Instr,
+)
     requires registers { HasRegisters instr }
     requires room { HasRoom domain.old }
-    ensures leaves { (p : hardware_spec.Hardware) → p.frames ≡ memory.old.frames → Leaves
-        (λ d. event.execute p root now d instr) memory.old domain.old memory.new domain.new }
+    requires frames { memory.old.frames ≤ 2 ^ 15 }
+    requires leaves { StandsWith memory.old
+        (λ m. KeepsLeaves m memory.old.frames root system.old.core.tlb) }
+    requires spent { spent.old < 2 ^ 29 }
+    ensures leaves { (w : Setting) → Leaves w (λ d. event.execute w.machine root now d instr)
+        domain.old (Kept P.rule P.stands_for w domain.old.caps root memory.old system.old spent.old)
+        domain.new (Kept P.rule P.stands_for w domain.old.caps root memory.new system.new spent.new) }
     ensures frames { memory.new.frames ≡ memory.old.frames }
     ensures grows { Grows 1 1 0 domain.old domain.new }
     ensures keeps { KeepsFrames domain.old domain.new }
+    ensures few { spent.new ≤ spent.old + 19000 }
 {
     let at = address(&domain.threads.active.regs, instr);
     if let Some(trap) = misalignment(instr, at) {
         stop(domain, trap);
         return;
     }
-    match loaded(root, memory, domain, now, instr, at) {
-        Ok(value) => settle(root, memory, domain, instr, value),
+    match loaded(memory, system, domain, spent, root, now, instr, at) {
+        Ok(value) => settle(memory, system, domain, spent, root, instr, value),
         Err(trap) => stop(domain, trap),
     }
 }
 
 // The domain's next instruction, at a clock, with the kernel call that it makes.
-fn run_instruction(hardware: &Hardware, memory: &mut PhysMem, domain: &mut Domain, now: u64)
+fn run_instruction<P: Policy>(
+    memory: &mut PhysMem,
+    system: &mut MemSystem<P>,
+    domain: &mut Domain,
+    spent: &mut u32,
+    now: u64,
+)
     requires room { HasRoom domain.old }
-    requires size { hardware.now.frames ≡ memory.old.frames }
-    requires runs { Runs (hardware_model hardware.now) memory.old domain.old }
-    ensures leaves { LeavesWith (hardware_model hardware.now)
-        (λ o. event.instruction (hardware_model hardware.now) (estate (hardware_model hardware.now) o)
-        (layout (hardware_model hardware.now) o) now)
-        memory.old domain.old memory.new domain.new }
+    requires frames { memory.old.frames ≤ 2 ^ 15 }
+    requires runs { Runs P.rule P.stands_for memory.old domain.old system.old now }
+    requires spent { spent.old < 2 ^ 28 }
+    ensures leaves { (w : Setting) → Leaves w
+        (event.instruction w.machine (estate w.machine w.own) (layout w.machine w.own) now)
+        domain.old (KeptOf P.rule P.stands_for w domain.old memory.old system.old spent.old)
+        domain.new (KeptOf P.rule P.stands_for w domain.new memory.new system.new spent.new) }
     ensures frames { memory.new.frames ≡ memory.old.frames }
     ensures grows { Grows 1 1 1 domain.old domain.new }
+    ensures few { spent.new ≤ spent.old + 1325000 }
 {
     let root = domain.map.root();
     let pc = domain.threads.active.pc;
-    let frame = match translate(root, memory, Access::Fetch, pc) {
-        Ok(frame) => frame,
+    let at = match translate(memory, system, spent, root, Access::Fetch, pc) {
+        Ok(at) => at,
         Err(trap) => {
             stop(domain, trap);
             return;
         }
     };
-    let word = memory.read_word(physical(frame, pc / 4 * 4));
+    *spent += system.fetch(system.line_of(at));
+    let word = memory.read_word(at / 4 * 4);
     let Some(instr) = decode(word) else {
         stop(
             domain,
@@ -132,72 +202,76 @@ fn run_instruction(hardware: &Hardware, memory: &mut PhysMem, domain: &mut Domai
         return;
     };
     match instr {
-        Instr::Ecall => call(domain, memory),
-        _ => execute(root, memory, domain, now, instr),
+        Instr::Ecall => call(memory, system, domain, spent),
+        _ => execute(memory, system, domain, spent, root, now, instr),
     }
 }
 
 // ---- a slot
 
-/// One event of the domain in a slot that ends then. Answers the new clock,
-/// in cycles, which may be past the end by less than an instruction takes.
-pub fn step(
-    hardware: &Hardware,
+/// One event of the domain in a slot that ends then. Answers the new clock, in
+/// cycles: a domain that runs pays the cost of an instruction and all that it
+/// charged, which may be past the end; one that doesn't waits for the end.
+pub fn step<P: Policy>(
     memory: &mut PhysMem,
+    system: &mut MemSystem<P>,
     domain: &mut Domain,
     now: u64,
     end: u64,
 ) -> u64
-    requires timed { IsTimed (hardware_model hardware.now) }
-    requires size { hardware.now.frames ≡ memory.old.frames }
-    requires runs { Runs (hardware_model hardware.now) memory.old domain.old }
+    requires frames { memory.old.frames ≤ 2 ^ 15 }
+    requires runs { Runs P.rule P.stands_for memory.old domain.old system.old now }
     requires before { now < end }
     requires end { end < 2 ^ 62 }
     requires few { CountsUpTo now domain.old }
-    ensures becomes { Moves (hardware_model hardware.now)
-        (λ o. spec.step (hardware_model hardware.now) o false end)
-        memory.old domain.old now memory.new domain.new result }
+    ensures becomes { Moves P.rule P.stands_for (λ w. spec.step w.machine w.own w.pinned end)
+        memory.old domain.old system.old now memory.new domain.new system.new result }
     ensures frames { memory.new.frames ≡ memory.old.frames }
-    ensures runs { Runs (hardware_model hardware.now) memory.new domain.new }
+    ensures hierarchy { hierarchy_of P.rule system.new ≡ hierarchy_of P.rule system.old }
+    ensures pinned { system.new.core.pinned ≡ system.old.core.pinned }
+    ensures runs { Runs P.rule P.stands_for memory.new domain.new system.new result }
     ensures few { CountsUpTo result domain.new }
     ensures later { now < result }
-    ensures soon { result < end + hardware.now.base }
+    ensures soon { result < end + most_cycles }
 {
     match domain.status {
         DomainStatus::Running => {
-            run_instruction(hardware, memory, domain, now);
-            now + u64::from(hardware.base)
+            let mut spent = 0;
+            run_instruction(memory, system, domain, &mut spent, now);
+            now + u64::from(system.costs().base) + u64::from(spent)
         }
         _ => end,
     }
 }
 
 /// Events while the clock is below the end. Answers the clock after them.
-pub fn stretch(
-    hardware: &Hardware,
+pub fn stretch<P: Policy>(
     memory: &mut PhysMem,
+    system: &mut MemSystem<P>,
     domain: &mut Domain,
     now: u64,
     end: u64,
 ) -> u64
-    requires timed { IsTimed (hardware_model hardware.now) }
-    requires size { hardware.now.frames ≡ memory.old.frames }
-    requires runs { Runs (hardware_model hardware.now) memory.old domain.old }
+    requires frames { memory.old.frames ≤ 2 ^ 15 }
+    requires runs { Runs P.rule P.stands_for memory.old domain.old system.old now }
     requires before { now < 2 ^ 62 }
     requires end { end < 2 ^ 62 }
     requires few { CountsUpTo now domain.old }
-    ensures becomes { Moves (hardware_model hardware.now)
-        (λ o. spec.stretch (hardware_model hardware.now) o false end)
-        memory.old domain.old now memory.new domain.new result }
+    ensures becomes { Moves P.rule P.stands_for (λ w. spec.stretch w.machine w.own w.pinned end)
+        memory.old domain.old system.old now memory.new domain.new system.new result }
     ensures frames { memory.new.frames ≡ memory.old.frames }
+    ensures hierarchy { hierarchy_of P.rule system.new ≡ hierarchy_of P.rule system.old }
+    ensures pinned { system.new.core.pinned ≡ system.old.core.pinned }
     ensures few { CountsUpTo result domain.new }
     ensures over { end ≤ result }
-    ensures soon { now < end → result < end + hardware.now.base }
+    ensures soon { now < end → result < end + most_cycles }
     ensures done { end ≤ now → result ≡ now }
 {
+    // Each event takes a cycle or more.
+    let _costs = system.costs();
     let mut clock = now;
     while clock < end {
-        clock = step(hardware, memory, domain, clock, end);
+        clock = step(memory, system, domain, clock, end);
     }
     clock
 }

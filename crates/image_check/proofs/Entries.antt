@@ -1,24 +1,27 @@
 -- The numbers of an entry that the rule of the schedule lets through.
-use Rattle.std.proofs.Common.{◌≡◌, ℕ, ◌<◌, ◌≤◌, not, false, List, [], ◌∷◌, length, map, take, get_or, None, Some, subst, arith}
+use Rattle.std.proofs.Common.{◌≡◌, ℕ, ◌<◌, ◌≤◌, not, false, List, [], ◌∷◌, length, map, take, get_or, None, Some, sym, subst, arith, ◌⊎◌, inl, inr}
 use Rattle.std.specs.Prelude.{ℤ, pos, negsuc, Option, if◌then◌else◌}
 use Rattle.std.specs.List.{All}
 use Rattle.std.proofs.Math.ListN.{get_or-map}
-use Rattle.std.proofs.lemmas.List.{length-map}
+use Rattle.std.proofs.lemmas.List.{length-map, get_or_past, get_or-map as read_map}
+use Rattle.std.proofs.lemmas.Bool.{cases_lt}
 use Rattle.std.proofs.lemmas.List.Elements.{All-from_get_or}
 use Rattle.std.proofs.lemmas.Bool.Decides.{nat_tests}
 use Rattle.image_text.specs.declared.raw.RawEntry.{RawEntry}
 use Rattle.image_text.specs.declared.raw.Raw.{Raw}
 use Rattle.image_text.specs.declared.refusal.Refusal.{Refusal}
-use Rattle.image_text.specs.Record.{RawEntry as TextEntry}
+use Rattle.image_text.specs.Record.{Raw as RawText, RawEntry as TextEntry}
 use Rattle.image_text.specs.Reads.{raw_model}
 use Rattle.image_text.specs.Models.{domain_model, entry_model}
 use Rattle.hardware_check.specs.Cases.{first_in, outside, refusal}
-use Rattle.image_check.specs.Rules.{is_number, k16_case, k16_entry}
+use Rattle.image_check.specs.Rules.{is_number, k16, k16_case, k16_entry}
 use Rattle.hardware_check.specs.Hardware.{natural_of}
-use Rattle.image_check.specs.Public.{Entry, entry_of, IsSmall}
-use Rattle.image_check.specs.Checking.{broken}
+use Rattle.sched_table.specs.declared.schedule.Entry.{Entry}
+use Rattle.sched_table.specs.Schedule.{entry_in, no_entry, IsSchedule}
+use Rattle.image_check.specs.Public.{entry_of, IsSmall}
+use Rattle.image_check.specs.Checking.{broken_but_pads}
 use Rattle.hardware_check.proofs.FirstCases.{if_first, if_rest, first_in_none}
-use Rattle.image_check.proofs.Kept.{kept, few_domains, entries_pass}
+use Rattle.image_check.proofs.Kept.{kept_but_pads, few_domains, entries_within, entries_pass}
 
 pub record Passed (domains : ℕ) (e : Entry) : Type 0 where
   pub domain : e.domain < domains
@@ -52,6 +55,39 @@ passed domains place e n =
 pub entry_passed : (domains : ℕ) (es : List TextEntry) → first_in (k16_entry domains) es ≡ None → (e : ℕ) → e < length es → (d : TextEntry) → Passed domains (entry_of (get_or es e d))
 entry_passed domains es n e l d = passed domains (length (take e es)) (get_or es e d) (first_in_none (k16_entry domains) es n e l d)
 
+pub no_text_entry : TextEntry
+no_text_entry = record { domain = pos 0; length = pos 0; pad = pos 0 }
+
+-- an entry of the schedule
+pub entry_in_passed : (domains : ℕ) (es : List TextEntry) → first_in (k16_entry domains) es ≡ None → (e : ℕ) → e < length es → Passed domains (entry_in (map entry_of es) e)
+entry_in_passed domains es n e l =
+    let P : Entry → Type 0 = λ x. Passed domains x in
+    subst P (sym (read_map entry_of es e no_text_entry no_entry l)) (entry_passed domains es n e l no_text_entry)
+
+-- an entry, or the one past the end
+record Short (e : Entry) : Type 0 where
+  pub length : e.length ≤ 1000000
+  pub pad : e.pad ≤ 1000000
+
+all_short : (domains : ℕ) (es : List TextEntry) → first_in (k16_entry domains) es ≡ None → (e : ℕ) → Short (entry_in (map entry_of es) e)
+all_short domains es n e = either (cases_lt e (length es))
+  where
+    either : (e < length es) ⊎ (length es ≤ e) → Short (entry_in (map entry_of es) e)
+    either (inl l) = let p = entry_in_passed domains es n e l in record { length = p.length; pad = p.pad }
+    either (inr m) = subst Short (sym (get_or_past (map entry_of es) e no_entry (omega (arith, length-map es entry_of, m)))) (record { length = omega arith; pad = omega arith })
+
+pub schedule_sound : (i : RawText) → k16 i ≡ None → IsSchedule (map entry_of i.schedule)
+schedule_sound i n =
+    let count = entries_within i n in
+    let pass = entries_pass i n in
+    let long = length-map i.schedule entry_of in
+    record {
+      some = omega (arith, long, count.least);
+      few = omega (arith, long, count.most);
+      lengths = λ e. (all_short (length i.domains) i.schedule pass e).length;
+      pads = λ e. (all_short (length i.domains) i.schedule pass e).pad;
+    }
+
 small : (domains : ℕ) (e : Entry) → domains ≤ 16 → Passed domains e → IsSmall e
 small domains e few p = record { domain = omega (arith, few, p.domain); length = omega (arith, p.length); pad = omega (arith, p.pad) }
 
@@ -63,11 +99,14 @@ all_small domains (x ∷ es) few n =
     let p = entry_passed domains (map entry_model (x ∷ es)) n k (omega (arith, length-map es entry_model, l)) (entry_model x) in
     subst P (get_or-map entry_model (x ∷ es) k x) (small domains (entry_of (get_or (map entry_model (x ∷ es)) k (entry_model x))) few p))
 
--- of an image that breaks no rule
-pub small_entries : (raw : Raw) → broken (raw_model raw) ≡ [] → All (λ e. IsSmall (entry_of (entry_model e))) raw.schedule.items
+-- of an image that breaks no rule but that of pads
+pub small_entries : (raw : Raw) → broken_but_pads (raw_model raw) ≡ [] → All (λ e. IsSmall (entry_of (entry_model e))) raw.schedule.items
 small_entries raw n =
     let i = raw_model raw in
-    all_small (length i.domains) raw.schedule.items (few_domains i n) (entries_pass i (kept i n).schedule)
+    all_small (length i.domains) raw.schedule.items (few_domains i n) (entries_pass i (kept_but_pads i n).schedule)
 
-pub few_raw_domains : (raw : Raw) → broken (raw_model raw) ≡ [] → length raw.domains.items ≤ 16
+pub few_raw_domains : (raw : Raw) → broken_but_pads (raw_model raw) ≡ [] → length raw.domains.items ≤ 16
 few_raw_domains raw n = omega (arith, length-map raw.domains.items domain_model, few_domains (raw_model raw) n)
+
+pub sound_entries : (raw : Raw) → broken_but_pads (raw_model raw) ≡ [] → IsSchedule (map entry_of (map entry_model raw.schedule.items))
+sound_entries raw n = schedule_sound (raw_model raw) (kept_but_pads (raw_model raw) n).schedule

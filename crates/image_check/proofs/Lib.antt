@@ -1,5 +1,6 @@
 pub mod Kept
 pub mod Entries
+pub mod Padded
 pub mod CapTexts
 pub mod Slots
 pub mod Owns

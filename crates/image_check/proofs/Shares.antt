@@ -19,9 +19,9 @@ use Rattle.hardware_check.proofs.Parts.{Within, inside, colours_sound}
 use Rattle.image_check.specs.Colours.{is_same, names, k8, k8_colour, k8_domain, k9, k9_domain, k9_colour, coloured_so, same_colour, k10, k10_domain, k10_case, need_case, need_of, whole_in}
 use Rattle.image_check.specs.Own.{Own, Segment, IsSmallDomain, IsSmallOwn, no_own, own_at, own_from, owns_of, segment_of}
 use Rattle.image_check.specs.Pages.{regions_below, frames_in, share_of}
-use Rattle.image_check.specs.Laws.{Keeps}
-use Rattle.image_check.specs.Checking.{broken}
-use Rattle.image_check.proofs.Kept.{kept, keeps_parts}
+use Rattle.image_check.specs.Laws.{KeepsButPads}
+use Rattle.image_check.specs.Checking.{broken_but_pads}
+use Rattle.image_check.proofs.Kept.{kept_but_pads, keeps_parts}
 use Rattle.image_check.proofs.Slots.{slots, small_caps}
 use Rattle.image_check.proofs.Owns.{owns_at, owns_length}
 
@@ -60,16 +60,16 @@ small_domains raw k n = λ d o l.
     let m = small_domain (raw_model raw) k n raw.in_ranges d (omega (arith, length-map raw.domains.items domain_model, l)) in
     subst IsSmallDomain (get_or-map domain_model raw.domains.items d o no_raw_domain l) m
 
-small_own : (i : text.Raw) → Keeps i → KeepsParts i → text.InKeyRanges i → (d : ℕ) → d < length i.domains → IsSmallOwn (raw_domain i.domains d)
+small_own : (i : text.Raw) → KeepsButPads i → KeepsParts i → text.InKeyRanges i → (d : ℕ) → d < length i.domains → IsSmallOwn (raw_domain i.domains d)
 small_own i rules k ranges d l = record {
   colours = (small_domain i k rules.named ranges d l).colours;
   caps = small_caps (raw_domain i.domains d) (slots i rules.capabilities d l) (ranges.segments d);
 }
 
-pub small_owns : (raw : Raw) → broken (raw_model raw) ≡ [] → All (λ o. IsSmallOwn (domain_model o)) raw.domains.items
+pub small_owns : (raw : Raw) → broken_but_pads (raw_model raw) ≡ [] → All (λ o. IsSmallOwn (domain_model o)) raw.domains.items
 small_owns raw n = λ d o l.
     let i = raw_model raw in
-    let m = small_own i (kept i n) (keeps_parts i n) raw.in_ranges d (omega (arith, length-map raw.domains.items domain_model, l)) in
+    let m = small_own i (kept_but_pads i n) (keeps_parts i n) raw.in_ranges d (omega (arith, length-map raw.domains.items domain_model, l)) in
     subst IsSmallOwn (get_or-map domain_model raw.domains.items d o no_raw_domain l) m
 
 -- ---- where a colour stands in a list
@@ -185,7 +185,7 @@ later_apart i n m d e before =
     (record { none = λ c mine theirs. true≢false (sym theirs) }))
     (record { none = λ c mine theirs. true≢false (sym mine) })
 
-pub disjoint_colours : (i : text.Raw) → Keeps i → AreDisjoint (colours_of (hardware_of i)) (map (λ o. o.colours) (owns_of i))
+pub disjoint_colours : (i : text.Raw) → KeepsButPads i → AreDisjoint (colours_of (hardware_of i)) (map (λ o. o.colours) (owns_of i))
 unfolding lists
 disjoint_colours i k = record {
   in_range = λ d c h. let w = (of_range i k.named d).within c h in let some = (colours_sound i k.colours).least in omega (arith, w.least, w.most, some);
@@ -217,7 +217,7 @@ raw_pools i n d l =
     let more = regions_more ss 1024 in
     omega (arith, most, more)
 
-pub pools_enough : (i : text.Raw) → Keeps i → (d : ℕ) → d < length i.domains
+pub pools_enough : (i : text.Raw) → KeepsButPads i → (d : ℕ) → d < length i.domains
     → frames_in (own_at (owns_of i) d).segments ≤ length (pool (share_of (hardware_of i) (own_at (owns_of i) d)))
 pools_enough i k d l =
     let P : Own → Type 0 = λ o. frames_in o.segments ≤ length (pool (share_of (hardware_of i) o)) in

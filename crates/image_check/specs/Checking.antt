@@ -1,5 +1,5 @@
 -- The rules in their order, and those that an image breaks.
-use Rattle.std.specs.Prelude.{nat_eq, Bool, if◌then◌else◌, List, [], ◌∷◌, Option, Some, None}
+use Rattle.std.specs.Prelude.{nat_eq, Bool, if◌then◌else◌, List, [], ◌∷◌, ◌++◌, Option, Some, None}
 use Rattle.image_text.specs.declared.refusal.Refusal.{Refusal}
 use Rattle.image_text.specs.Record.{Raw}
 use Rattle.hardware_check.specs.Rules.{k3, k4, k5, k6, k11}
@@ -7,9 +7,13 @@ use Rattle.image_check.specs.Rules.{k7, k16}
 use Rattle.image_check.specs.Colours.{k8, k9, k10}
 use Rattle.image_check.specs.Segments.{k12}
 use Rattle.image_check.specs.Capabilities.{k13}
+use Rattle.image_check.specs.Pads.{k17}
+
+unfoldable pub rules_but_pads : List (Raw → Option Refusal)
+rules_but_pads = k3 ∷ k4 ∷ k5 ∷ k6 ∷ k7 ∷ k8 ∷ k9 ∷ k10 ∷ k11 ∷ k12 ∷ k13 ∷ k16 ∷ []
 
 unfoldable pub rules : List (Raw → Option Refusal)
-rules = k3 ∷ k4 ∷ k5 ∷ k6 ∷ k7 ∷ k8 ∷ k9 ∷ k10 ∷ k11 ∷ k12 ∷ k13 ∷ k16 ∷ []
+rules = rules_but_pads ++ k17 ∷ []
 
 -- K17, the rule of pads, is the one whose break leaves later rules to be tested
 abbrev pub is_of_pads : Refusal → Bool
@@ -27,3 +31,7 @@ broken_of (k ∷ ks) i = broken_then (k i) (broken_of ks i)
 -- the broken rules in their order, each with its first broken case
 unfoldable pub broken : Raw → List Refusal
 broken i = broken_of rules i
+
+-- the same without K17
+unfoldable pub broken_but_pads : Raw → List Refusal
+broken_but_pads i = broken_of rules_but_pads i

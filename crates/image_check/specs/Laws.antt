@@ -1,26 +1,29 @@
 -- What an image that breaks no rule is: no rule has a broken case, and in natural numbers it can be run.
-use Rattle.std.specs.Prelude.{◌≡◌, ◌≢◌, ℕ, ◌+◌, ◌*◌, ◌<◌, ◌≤◌, ◌^◌, ◌||◌, ◌↔◌, true, false, List, [], ◌++◌, length, map, codes, decimal, Some, None}
+use Rattle.std.specs.Prelude.{◌≡◌, ◌≢◌, ℕ, ◌+◌, ◌*◌, ◌<◌, ◌≤◌, ◌^◌, ◌||◌, ◌⊎◌, ◌↔◌, true, false, List, [], ◌++◌, ◌∷◌, length, map, codes, decimal, Some, None}
 use Rattle.image_text.specs.Record as text
 use Rattle.image_text.specs.Record.{InKeyRanges}
 use Rattle.image_check.specs.declared.own.Rights.{Rights}
 use Rattle.image_check.specs.declared.capabilities.InitialCap.{InitialCap}
 use Rattle.image_check.specs.declared.capabilities.InitialCap.TheVariants.{None as NoCap, Page, Irq}
 use Rattle.frame_colours.specs.Colours.{AreDisjoint, pool}
-use Rattle.hardware_check.specs.Hardware.{IsHardware, colours_of}
+use Rattle.hardware_check.specs.Hardware.{IsHardware, colours_of, hardware_of}
 use Rattle.hardware_check.specs.Rules.{k3, k4, k5, k6, k11}
 use Rattle.image_check.specs.Rules.{k7, k16}
 use Rattle.image_check.specs.Colours.{k8, k9, k10}
 use Rattle.image_check.specs.Segments.{k12}
 use Rattle.image_check.specs.Capabilities.{k13}
 use Rattle.image_check.specs.CapTexts.{cap_in, IsShort}
-use Rattle.image_check.specs.Checking.{broken}
-use Rattle.image_check.specs.Public.{entry_in}
+use Rattle.image_text.specs.declared.refusal.Refusal.{Refusal}
+use Rattle.sched_table.specs.Schedule.{entry_in, IsSchedule}
+use Rattle.pad_bound.specs.Bound.{IsShape, bound_of}
+use Rattle.image_check.specs.Pads.{shape_of, k17}
+use Rattle.image_check.specs.Checking.{broken, broken_but_pads}
 use Rattle.image_check.specs.Own.{Segment, Own, segment_at, cap_at}
 use Rattle.image_check.specs.Pages.{has_page, has_page_in, frames_in, share_of}
 use Rattle.image_check.specs.Image.{Image, image_from, own_of}
 
--- no rule has a broken case
-pub record Keeps (i : text.Raw) : Type 0 where
+-- no rule but that of pads has a broken case
+pub record KeepsButPads (i : text.Raw) : Type 0 where
   pub parts : k3 i ≡ None
   pub frames : k4 i ≡ None
   pub colours : k5 i ≡ None
@@ -34,9 +37,32 @@ pub record Keeps (i : text.Raw) : Type 0 where
   pub capabilities : k13 i ≡ None
   pub schedule : k16 i ≡ None
 
+-- no rule has
+pub record Keeps (i : text.Raw) : Type 0 where
+  pub others : KeepsButPads i
+  pub pads : k17 i ≡ None
+
 -- the list of broken rules is empty exactly where no rule has a broken case
 abbrev pub AcceptanceLaw : Type 0
 AcceptanceLaw = (i : text.Raw) → (broken i ≡ []) ↔ Keeps i
+
+-- so is the list without the rule of pads
+abbrev pub ButPadsLaw : Type 0
+ButPadsLaw = (i : text.Raw) → (broken_but_pads i ≡ []) ↔ KeepsButPads i
+
+-- the rule of pads is broken, and its item stands after those of the others
+pub record HasPadsItem (i : text.Raw) (others all : List Refusal) : Type 0 where
+  pub item : Refusal
+  pub of_pads : k17 i ≡ Some item
+  pub besides : all ≡ others ++ item ∷ []
+
+-- the list of broken rules is that without the rule of pads, or has the item of this rule besides
+abbrev pub PadsLaw : Type 0
+PadsLaw = (i : text.Raw) → (broken i ≡ broken_but_pads i) ⊎ HasPadsItem i (broken_but_pads i) (broken i)
+
+-- the bound is of a machine whose numbers are in their ranges
+abbrev pub ShapeLaw : Type 0
+ShapeLaw = (i : text.Raw) → broken_but_pads i ≡ [] → IsShape (shape_of (hardware_of i))
 
 -- how a capability is written
 abbrev pub cap_text : InitialCap → List ℕ
@@ -77,14 +103,11 @@ pub record Runnable (i : Image) : Type 0 where
   pub some_domain : 0 < length i.owns
   pub few_domains : length i.owns ≤ 16
   pub hardware : IsHardware i.all.hardware
-  pub base : i.all.hardware.base ≡ 1  -- as yet
   pub disjoint : AreDisjoint (colours_of i.all.hardware) (map (λ o. o.colours) i.owns)
   pub pools : (d : ℕ) → d < length i.owns → frames_in (own_of i d).segments ≤ length (pool (share_of i.all.hardware (own_of i d)))
-  pub some_entry : 0 < length i.all.schedule
-  pub few_entries : length i.all.schedule ≤ 64
+  pub schedule : IsSchedule i.all.schedule
   pub named : (e : ℕ) → e < length i.all.schedule → (entry_in i.all.schedule e).domain < length i.owns
-  pub lengths : (e : ℕ) → (entry_in i.all.schedule e).length ≤ 1000000
-  pub pads : (e : ℕ) → (entry_in i.all.schedule e).pad ≤ 1000000
+  pub padded : (e : ℕ) → e < length i.all.schedule → bound_of (shape_of i.all.hardware) ≤ (entry_in i.all.schedule e).pad
   pub sound : (d : ℕ) → IsOwn (own_of i d)
 
 -- an image in the ranges of its keys that breaks no rule can be run

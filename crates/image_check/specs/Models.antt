@@ -3,7 +3,6 @@ use Rattle.std.specs.Prelude.{map, string_bytes}
 pub use Rattle.hardware_check.specs.Models.{hardware_model}
 use Rattle.image_check.specs.Public as public_spec
 use Rattle.image_check.specs.Own as own_spec
-use Rattle.image_check.specs.declared.public.Entry.{Entry}
 use Rattle.image_check.specs.declared.public.Public.{Public}
 use Rattle.image_check.specs.declared.own.Segment.{Segment}
 use Rattle.image_check.specs.declared.own.Own.{Own}
@@ -12,13 +11,10 @@ use Rattle.image_check.specs.declared.capabilities.InitialCap.TheVariants as cap
 use Rattle.image_check.specs.declared.capabilities.Named.{Named}
 use Rattle.image_check.specs.declared.capabilities.Named.TheVariants.{Nothing, Page, Irq}
 
-abbrev pub entry_model : Entry → public_spec.Entry
-entry_model e = record { domain = e.domain; length = e.length; pad = e.pad }
-
 abbrev pub public_model : Public → public_spec.Public
 public_model p = record {
   hardware = hardware_model p.hardware;
-  schedule = map entry_model p.schedule.items;
+  schedule = p.schedule;
   domains = p.domains;
 }
 

@@ -1,10 +1,24 @@
 // What the rules give whoever runs an image.
-ghost use Rattle.image_check.specs.Laws.{AcceptanceLaw, CapTextLaw, RunnableLaw};
+ghost use Rattle.image_check.specs.Laws.{AcceptanceLaw, ButPadsLaw, PadsLaw, ShapeLaw};
+ghost use Rattle.image_check.specs.Laws.{CapTextLaw, RunnableLaw};
 
 /// The list of the rules that an image breaks is empty exactly where no rule has
 /// a broken case.
 pub fn acceptance()
     ensures acceptance { AcceptanceLaw }
+{}
+
+/// So is the list without the rule of pads. The other is the same, or has the
+/// item of this rule besides.
+pub fn all_but_pads()
+    ensures acceptance { ButPadsLaw }
+    ensures besides { PadsLaw }
+{}
+
+/// The bound of an image that breaks no other rule is of a machine whose
+/// numbers are in their ranges.
+pub fn shape()
+    ensures shape { ShapeLaw }
 {}
 
 /// The text of a slot names a capability exactly where it is how that one is

@@ -1,6 +1,7 @@
 //! The rules that an image must keep, each with the numbers of its first broken
-//! case; and an image that keeps them all, with what all domains may know of it
-//! and what each has of its own.
+//! case; an image that keeps them all, with what all domains may know of it and
+//! what each has of its own; and one that keeps all but the rule of pads, with
+//! what the bound on a switch depends on.
 #![tactic(auto)]
 
 mod capabilities;
@@ -8,10 +9,12 @@ mod checked;
 mod colours;
 pub mod laws;
 mod own;
+mod pads;
 mod public;
 mod regions;
 mod rules;
 mod segments;
+mod unpadded;
 
 pub use capabilities::InitialCap;
 pub use checked::{Checked, check};
@@ -20,4 +23,7 @@ pub use hardware_check::{CacheShape, Hardware, Policy};
 /// Why an image is not accepted: the first rule that it breaks, or want of memory.
 pub use image_text::{ReadRefusal as CheckRefusal, Refusal};
 pub use own::{Own, Rights, Segment};
-pub use public::{Entry, Public};
+pub use public::Public;
+/// The schedule, whose slots are a domain's each.
+pub use sched_table::{Entry, Schedule};
+pub use unpadded::{Unpadded, check_but_pads};

@@ -5,7 +5,7 @@ ghost use Rattle.image_text.specs.Reads.{raw_model};
 ghost use Rattle.image_text.specs.Models.{domain_model, segment_model as text_segment_model};
 ghost use Rattle.hardware_check.specs.Hardware.{natural_of as spec_natural_of};
 ghost use Rattle.image_check.specs.Outcomes.{Makes};
-ghost use Rattle.image_check.specs.Checking.{broken};
+ghost use Rattle.image_check.specs.Checking.{broken_but_pads};
 ghost use Rattle.image_check.specs.CapTexts.{cap_in as spec_cap_in};
 ghost use Rattle.image_check.specs.Own as spec;
 ghost use Rattle.image_check.specs.Models.{segment_model, own_model};
@@ -159,14 +159,14 @@ fn owns_in(alloc: Global, domains: &[RawDomain]) -> Result<Vec<Own>, CheckRefusa
     Ok(owns)
 }
 
-/// What is each domain's own, of an image that breaks no rule.
+/// What is each domain's own, of an image that breaks no rule but that of pads.
 ///
 /// # Errors
 ///
 /// `Memory` alone.
 #[tactic(auto, unfolding(crate::specs::Own::owns_of))]
 pub fn owns_of(alloc: Global, raw: &Raw) -> Result<Vec<Own>, CheckRefusal>
-    requires accepted { broken (raw_model raw.now) ≡ [] }
+    requires accepted { broken_but_pads (raw_model raw.now) ≡ [] }
     ensures value { Makes (λ v. map own_model v.items) result (spec.owns_of (raw_model raw.now)) }
 {
     owns_in(alloc, raw.domains.as_slice())

@@ -1,31 +1,26 @@
 // What all domains may know of an image.
 ghost use Rattle.std.specs.Prelude.{◌≡◌, [], map};
 ghost use Rattle.std.specs.List.{All};
+ghost use Rattle.sched_table.specs.Schedule.{IsSchedule};
 ghost use Rattle.image_text.specs.Reads.{raw_model};
 ghost use Rattle.image_text.specs.Models.{entry_model as text_entry_model};
 ghost use Rattle.image_check.specs.Outcomes.{Makes};
-ghost use Rattle.image_check.specs.Checking.{broken};
+ghost use Rattle.image_check.specs.Checking.{broken_but_pads};
 ghost use Rattle.image_check.specs.Public as spec;
-ghost use Rattle.image_check.specs.Models.{entry_model, public_model};
+ghost use Rattle.image_check.specs.Models.{public_model};
 
 use crate::CheckRefusal;
 use hardware_check::{Hardware, hardware_of, natural_of};
 use image_text::{Raw, RawEntry};
+use sched_table::{Entry, Schedule};
 use std::alloc::Global;
-
-/// A slot of a domain, and the pad of the switch that ends it, in cycles.
-#[derive(Clone, Copy, Debug, PartialEq, Eq)]
-pub struct Entry {
-    pub domain: u8,
-    pub length: u32,
-    pub pad: u32,
-}
+use tp_base::Memory;
 
 /// What all domains may know: the hardware, and the schedule.
 #[derive(Drop)]
 pub struct Public {
     pub hardware: Hardware,
-    pub schedule: Vec<Entry>,
+    pub schedule: Schedule,
     /// How many domains there are.
     pub domains: u32,
 }
@@ -33,7 +28,7 @@ pub struct Public {
 #[tactic(auto, unfolding(crate::specs::Public::entry_of))]
 fn entry_of(entry: &RawEntry) -> Entry
     requires small { spec.IsSmall (spec.entry_of (text_entry_model entry.now)) }
-    ensures value { entry_model result ≡ spec.entry_of (text_entry_model entry.now) }
+    ensures value { result ≡ spec.entry_of (text_entry_model entry.now) }
 {
     Entry {
         domain: natural_of(entry.domain) as u8,
@@ -42,26 +37,37 @@ fn entry_of(entry: &RawEntry) -> Entry
     }
 }
 
-fn schedule_of(alloc: Global, entries: &[RawEntry]) -> Result<Vec<Entry>, CheckRefusal>
+fn entries_of(alloc: Global, entries: &[RawEntry]) -> Result<Vec<Entry>, CheckRefusal>
     requires small { All (λ e. spec.IsSmall (spec.entry_of (text_entry_model e))) entries.now }
-    ensures value { Makes (λ v. map entry_model v.items) result
-        (map spec.entry_of (map text_entry_model entries.now)) }
+    ensures value { Makes (λ v. v.items) result (map spec.entry_of (map text_entry_model entries.now)) }
 {
-    let mut schedule = Vec::new(alloc);
+    let mut found = Vec::new(alloc);
     for entry in entries {
-        schedule.push(entry_of(entry))?;
+        found.push(entry_of(entry))?;
     }
-    Ok(schedule)
+    Ok(found)
 }
 
-/// What all domains may know of an image that breaks no rule.
+fn schedule_of(alloc: Global, entries: &[RawEntry]) -> Result<Schedule, CheckRefusal>
+    requires small { All (λ e. spec.IsSmall (spec.entry_of (text_entry_model e))) entries.now }
+    requires schedule { IsSchedule (map spec.entry_of (map text_entry_model entries.now)) }
+    ensures value { Makes (λ s. s) result (map spec.entry_of (map text_entry_model entries.now)) }
+{
+    let entries = entries_of(alloc, entries)?;
+    match Schedule::new(alloc, entries.as_slice()) {
+        Ok(schedule) => Ok(schedule),
+        Err(Memory) => Err(CheckRefusal::Memory),
+    }
+}
+
+/// What all domains may know of an image that breaks no rule but that of pads.
 ///
 /// # Errors
 ///
 /// `Memory` alone.
-#[tactic(auto, unfolding(crate::specs::Public::public_of), using(crate::proofs::Entries::few_raw_domains, crate::proofs::Entries::small_entries))]
+#[tactic(auto, unfolding(crate::specs::Public::public_of), using(crate::proofs::Entries::few_raw_domains, crate::proofs::Entries::small_entries, crate::proofs::Entries::sound_entries))]
 pub fn public_of(alloc: Global, raw: &Raw) -> Result<Public, CheckRefusal>
-    requires accepted { broken (raw_model raw.now) ≡ [] }
+    requires accepted { broken_but_pads (raw_model raw.now) ≡ [] }
     ensures value { Makes public_model result (spec.public_of (raw_model raw.now)) }
 {
     let schedule = schedule_of(alloc, raw.schedule.as_slice())?;

@@ -2,4 +2,5 @@ pub mod FrameWords
 pub mod Elements
 pub mod SwitchCounts
 pub mod Openings
+pub mod Switches
 pub mod Slots

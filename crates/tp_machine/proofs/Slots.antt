@@ -1,16 +1,23 @@
 -- One slot, of the code's machine and of the definitions.
-use Rattle.std.proofs.Common.{◌≡◌, ℕ, false, inl, inr, suc, ◌+◌, ◌-◌, ◌%◌, ◌<◌, ◌≤◌, max, List, [], ◌∷◌, ◌++◌, length, map, get_or, Some, refl, sym, ap, ap₂, subst, subst₂, ◌∙◌, arith, add-one, mod-lt}
+use Rattle.std.proofs.Common.{◌≡◌, ℕ, suc, ◌+◌, ◌-◌, ◌<◌, ◌≤◌, List, [], ◌∷◌, ◌++◌, length, map, get_or, Option, Some, sym, ap, ap₂, subst, subst₂, ◌∙◌, arith, add-one}
 use Rattle.std.specs.List.{slice_get, All}
 use Rattle.std.proofs.Math.ListN.{set}
-use Rattle.std.proofs.lemmas.Bool.{cases_lt}
-use Rattle.std.proofs.lemmas.List.{length-map, length-set, get_or-map}
+use Rattle.std.proofs.lemmas.List.{length-set}
 use Rattle.std.proofs.lemmas.Option.{slice_get_within}
 use Rattle.tp_base.specs.Table.{at}
 use Rattle.phys_mem.specs.Contents as contents
 use Rattle.phys_mem.specs.Contents.{Contents}
 use Rattle.phys_mem.specs.Holds.{Holds}
-use Rattle.phys_mem.specs.Mem.{frame_at}
-use Rattle.image_check.specs.Public as spec
+use Rattle.phys_mem.specs.Mem.{Mem, frame_at}
+use Rattle.repl_policy.specs.declared.AnyPolicy.{AnyPolicy}
+use Rattle.repl_policy.specs.Members.{any_rule, any_stands_for}
+use Rattle.kernel_clone.specs.Models.{layout_model}
+use Rattle.mem_system.specs.Contents.{SystemContents, SystemStands, hierarchy_of}
+use Rattle.mem_system.specs.Cost.{Caches, Touched, touched_all}
+use Rattle.mem_system.specs.Translation.{KeepsLeaves}
+use Rattle.kernel_clone.specs.Footprints.{Layout}
+use Rattle.cache_sharing.specs.Operations as operations
+use Rattle.domain_switch.specs.Switch.{IsCloneOn, IsInTime, IsSwitched}
 use Rattle.hardware_check.specs.Hardware.{Hardware}
 use Rattle.image_check.specs.Own.{Own}
 use Rattle.image_check.specs.Image.{Image, own_of}
@@ -26,39 +33,33 @@ use Rattle.kernel_call.specs.Logs.{log_of}
 use Rattle.kernel_call.specs.Models.{dom_model, Stands, CountsUpTo}
 use Rattle.kernel_call.specs.Facts.{Has, HasFacts}
 use Rattle.kernel_call.specs.declared.domain.Domain.{Domain}
-use Rattle.world_view.specs.Frames.{pool}
-use Rattle.world_view.specs.Kernel.{estate, no_dom}
+use Rattle.world_view.specs.Frames.{pool, root_of}
+use Rattle.world_view.specs.Kernel.{estate, layout, no_dom}
 use Rattle.world_view.specs.Relations.{IsDomain}
 use Rattle.world_view.proofs.OpeningFacts.{kernel_of}
-use Rattle.world_view.proofs.WholeLaws.{all_facts}
-use Rattle.image_check.specs.Public.{no_entry}
-use Rattle.world_view.specs.Schedule.{entry_of_slot, switch_entry, start, slot_end}
+use Rattle.world_view.proofs.FactsLaws.{all_facts}
+use Rattle.world_view.proofs.ResidencyLaws.{begun_resident}
+use Rattle.world_view.proofs.TableLaws.{root_is}
+use Rattle.world_view.proofs.TimeLaws.{on_time}
+use Rattle.sched_table.specs.Schedule.{entry_of_slot, switch_entry, start, last_end, outgoing}
 use Rattle.world_view.specs.Opening.{frame_words}
 use Rattle.world_view.specs.Event.{Storage}
-use Rattle.world_view.specs.Machine.{Local, stretch, run_slot, whole, dom_of}
+use Rattle.world_view.specs.Machine.{Local, stretch, clone_of, run_slot, whole, dom_of}
 use Rattle.world_view.specs.View.{View, view}
 use Rattle.image_check.specs.Laws.{Runnable}
 use Rattle.world_view.proofs.Separate.{separated}
-use Rattle.world_view.proofs.CodeLaws.{switch-doms, switch-storage, switch-clock, slot_begun, slot_over, run_slot-dom_same, run_slot-dom_other, run_slot-storage, run_slot-clock, run_slot-used}
+use Rattle.world_view.proofs.CodeLaws.{work, switch-doms, switch-storage, switch-caches, slot_begun, slot_over, run_slot-dom_same, run_slot-dom_other, run_slot-storage, run_slot-clock, run_slot-caches, run_slot-used}
 use Rattle.world_view.proofs.PoolLaws.{in_pool}
-use Rattle.image_check.specs.declared.public.Entry.{Entry}
+use Rattle.sched_table.specs.declared.schedule.Entry.{Entry}
 use Rattle.world_view.specs.declared.view.Used.{Used}
-use Rattle.image_check.specs.Models.{entry_model}
 use Rattle.world_view.specs.Models.{seen_of}
 use Rattle.domain_step.specs.Moves.{StandsIn, Moves}
 use Rattle.tp_machine.specs.Usage.{IsUsed, CountedUpTo}
-use Rattle.tp_machine.specs.Worlds.{Kept, kept, StandsFor, HaveFacts, IsInBounds}
+use Rattle.tp_machine.specs.Worlds.{Kept, kept, setting, KeepsBuffer, StandsFor, HaveFacts, StaysResident, IsInBounds}
+use Rattle.tp_machine.proofs.Switches.{clone_on, work_is, is_in_time, ended}
 use Rattle.tp_machine.proofs.Elements.{each_set}
 use Rattle.domain_open.proofs.PoolReads.{either_default}
 use Rattle.tp_machine.proofs.FrameWords.{frames_are}
-
--- ---- the entry of a slot
-
-entry_of_slot-is : (items : List Entry) (k n : ℕ) (e d : Entry) → n ≡ length items → k % n < n → e ≡ get_or items (k % n) d → entry_of_slot (map entry_model items) k ≡ entry_model e
-entry_of_slot-is items k n e d long within read =
-    let same : length (map entry_model items) ≡ n = omega (arith, length-map items entry_model, long) in
-    let inside : k % n < length items = omega (arith, within, long) in
-    ap (λ m. get_or (map entry_model items) (k % m) no_entry) same ∙ get_or-map entry_model items (k % n) d no_entry inside ∙ ap entry_model (sym read)
 
 -- ---- the slot
 
@@ -79,100 +80,174 @@ facts_at i r k s is d x domain got =
           (all_facts i (separated i r) k d domain).facts;
     }
 
-pub all_at : (i : Image) → Runnable i → (k : ℕ) (s : Kept) → StandsFor i k s → HaveFacts i k s
-all_at i r k s is = record {
+pub all_at : (i : Image) → Runnable i → (k : ℕ) (s : Kept) → StandsFor i k s → KeepsBuffer i k s → HaveFacts i k s
+all_at i r k s is buffer = record {
+  buffer = buffer;
   each = λ d x got. facts_at i r k s is d x (omega (arith, slice_get_within s.domains d x got, is.all_domains)) got;
 }
 
-module _ (i : Image) (r : Runnable i) (k : ℕ) (memory memory' : Contents) (domains : List Domain) (used used' : List Used) (clock next last : ℕ) (is : StandsFor i k (kept memory domains used clock next last))
-    (x new : Domain) (begin later : ℕ) (begins : begin ≡ max clock next) (same : memory'.frames ≡ memory.frames) (long : length used' ≡ length used)
-    (noted : (us : List (ℕ × ℕ)) → IsUsed used us → IsUsed used' (us ++ (switch_entry i.all.schedule k, clock - last) ∷ [])) where
-  -- the code's domain runs as the definition's does
-  abbrev pub Ran : ℕ → Type 0
-  Ran length = Moves i.all.hardware (λ o. stretch i.all.hardware o false (next + length)) memory x begin memory' new later
+-- the code after the switch into slot k: the hierarchy stands for the caches that the definition's work leaves, and the buffer
+-- keeps nothing that is wrong
+pub record Begins (i : Image) (k : ℕ) (s : Kept) (system : SystemContents AnyPolicy) (used now : ℕ) : Type 0 where
+  pub levels : hierarchy_of any_rule system ≡ hierarchy_of any_rule s.system
+  pub pinned : system.core.pinned ≡ s.system.core.pinned
+  pub caches : SystemStands any_stands_for system (work i k (whole i k)).caches
+  pub leaves : (m : Mem) (frames root : ℕ) → KeepsLeaves m frames root system.core.tlb
+  pub used_is : used ≡ s.clock + (work i k (whole i k)).cost - last_end i.all.schedule k
+  pub now_is : now ≡ start i.all.schedule k
 
-  ran : slice_get domains (entry_of_slot i.all.schedule k).domain ≡ Some x → Ran (entry_of_slot i.all.schedule k).length
-      → StandsIn i.all.hardware (own_of i (entry_of_slot i.all.schedule k).domain) memory' new later (slot_begun i k (whole i k)) (slot_over i k (whole i k))
-  ran got moves =
+-- by what the code's switch is given and answers
+begins_by : (i : Image) (r : Runnable i) (k : ℕ) (s : Kept) (is : StandsFor i k s) (system : SystemContents AnyPolicy) (old_end used now : ℕ) (out : Option Layout) (into : Layout)
+    → old_end ≡ last_end i.all.schedule k → out ≡ clone_of i (outgoing i.all.schedule k) → into ≡ layout i.all.hardware (own_of i (entry_of_slot i.all.schedule k).domain)
+    → hierarchy_of any_rule system ≡ hierarchy_of any_rule s.system → system.core.pinned ≡ s.system.core.pinned
+    → IsSwitched any_stands_for old_end s.clock used system
+    (touched_all (hierarchy_of any_rule s.system) s.system.core.pinned (whole i k).caches (operations.switch s.system.core.costs out into))
+    → ((m : Mem) (frames root : ℕ) → KeepsLeaves m frames root system.core.tlb) → now ≡ start i.all.schedule k → Begins i k s system used now
+begins_by i r k s is system old_end used now out into ended leaves enters levels pinned switched kept on_time = record {
+  levels = levels;
+  pinned = pinned;
+  caches = subst (λ (t : Touched). SystemStands any_stands_for system t.caches) (work_is i r k s is out into leaves enters) switched.next;
+  leaves = kept;
+  used_is = switched.time ∙ ap₂ (λ (t : Touched) (n : ℕ). s.clock + t.cost - n) (work_is i r k s is out into leaves enters) ended;
+  now_is = on_time;
+}
+
+-- what the switch asks, of the code's numbers
+module _ (i : Image) (r : Runnable i) (k : ℕ) (s : Kept) (is : StandsFor i k s) (shared old_end until : ℕ) (a : shared ≡ i.all.hardware.shared) (b : old_end ≡ last_end i.all.schedule k)
+    (e : until ≡ start i.all.schedule k) where
+  pub in_time_here : IsInTime (hierarchy_of any_rule s.system) (whole i k).caches shared old_end s.clock until
+  in_time_here =
+      let h = hierarchy_of any_rule s.system in
+      let c = (whole i k).caches in
+      subst (λ (n : ℕ). IsInTime h c n old_end s.clock until) (sym a)
+      (subst (λ (n : ℕ). IsInTime h c i.all.hardware.shared n s.clock until) (sym b)
+      (subst (λ (n : ℕ). IsInTime h c i.all.hardware.shared (last_end i.all.schedule k) s.clock n) (sym e) (is_in_time i r k s is)))
+
+  pub clone_here : (d : ℕ) (x : Domain) → IsDomain i d → slice_get s.domains d ≡ Some x → IsCloneOn (hierarchy_of any_rule s.system) shared x.layout
+  clone_here d x domain got = subst (λ (n : ℕ). IsCloneOn (hierarchy_of any_rule s.system) n x.layout) (sym a) (clone_on i r k s is d x domain got)
+
+  -- by its clauses: the clone that leaves, the domain that enters, and what was answered
+  pub begins_here : (d : ℕ) (y : Domain) → slice_get s.domains d ≡ Some y → d ≡ (entry_of_slot i.all.schedule k).domain
+      → (out : Option Layout) → out ≡ clone_of i (outgoing i.all.schedule k) → (system : SystemContents AnyPolicy) (used now : ℕ)
+      → hierarchy_of any_rule system ≡ hierarchy_of any_rule s.system → system.core.pinned ≡ s.system.core.pinned
+      → ((c : Caches) → SystemStands any_stands_for s.system c → IsSwitched any_stands_for old_end s.clock used system
+      (touched_all (hierarchy_of any_rule s.system) s.system.core.pinned c (operations.switch s.system.core.costs out (layout_model y.layout))))
+      → ((c : Caches) → SystemStands any_stands_for s.system c → IsInTime (hierarchy_of any_rule s.system) c shared old_end s.clock until → now ≡ until)
+      → ((m : Mem) (frames root : ℕ) → KeepsLeaves m frames root system.core.tlb) → Begins i k s system used now
+  begins_here d y got enters out leaves system used now levels pinned work on_time kept =
+      begins_by i r k s is system old_end used now out (layout_model y.layout) b leaves (is.each_layout d y got ∙ ap (λ (n : ℕ). layout i.all.hardware (own_of i n)) enters)
+      levels pinned (work (whole i k).caches is.caches) kept (on_time (whole i k).caches is.caches in_time_here ∙ e)
+
+  pub ended_here : old_end ≤ s.clock
+  ended_here = subst (λ (n : ℕ). n ≤ s.clock) (sym b) (ended i r k s is)
+
+module _ (i : Image) (r : Runnable i) (k : ℕ) (s : Kept) (is : StandsFor i k s) (x : Domain) (got : slice_get s.domains (entry_of_slot i.all.schedule k).domain ≡ Some x)
+    (system : SystemContents AnyPolicy) (used now : ℕ) (begins : Begins i k s system used now) where
+  -- the code's domain as its slot begins
+  pub begun : StandsIn any_rule any_stands_for (setting i (entry_of_slot i.all.schedule k).domain) s.memory x system now (slot_begun i k (whole i k))
+  begun =
       let w = whole i k in
       let p = i.all.hardware in
       let d = (entry_of_slot i.all.schedule k).domain in
       let o = own_of i d in
       let domain : IsDomain i d = (separated i r).named k in
-      let begun : Local = slot_begun i k w in
-      let stands : Stands x begun.dom = subst (λ m. Stands x (at no_dom m d)) (sym (switch-doms i k w)) (is.each_domain d x got) in
-      let facts : HasFacts (estate p o) memory begun.storage.mem x =
-      subst (λ (s : Storage). HasFacts (estate p o) memory s.mem x) (sym (switch-storage i k w)) (facts_at i r k (kept memory domains used clock next last) is d x domain got) in
-      let time : begin ≡ begun.clock = begins ∙ ap₂ max is.time is.begins ∙ sym (switch-clock i k w) in
-      let end : next + (entry_of_slot i.all.schedule k).length ≡ slot_end i.all.schedule k = ap (λ n. n + (entry_of_slot i.all.schedule k).length) is.begins in
-      subst (λ (n : ℕ). StandsIn p o memory' new later begun (stretch p o false n begun)) end (moves o begun (kernel_of i (separated i r) d domain) stands facts time)
-
-  stands_after : slice_get domains (entry_of_slot i.all.schedule k).domain ≡ Some x → Ran (entry_of_slot i.all.schedule k).length
-      → StandsFor i (suc k) (kept memory' (set domains (entry_of_slot i.all.schedule k).domain new) used' later
-      (next + (entry_of_slot i.all.schedule k).length + (entry_of_slot i.all.schedule k).pad) (next + (entry_of_slot i.all.schedule k).length))
-  unfolding whole start
-  stands_after got moves =
-      let w = whole i k in
-      let e = entry_of_slot i.all.schedule k in
-      let over = ran got moves in
-      let switches : (run_slot i k w).used ≡ w.used ++ (switch_entry i.all.schedule k, clock - last) ∷ [] =
-      run_slot-used i k w ∙ ap (λ n. w.used ++ (switch_entry i.all.schedule k, n) ∷ []) (ap₂ (λ a b. a - b) (sym is.time) (sym is.ends)) in
+      let now_at : Local = slot_begun i k w in
       record {
-        frames = same ∙ is.frames;
-        holds = subst (λ (s : Storage). Holds memory' s.mem) (sym (run_slot-storage i k w)) over.facts.holds;
-        all_domains = length-set domains e.domain new ∙ is.all_domains;
-        each_domain = each_set (λ j y. Stands y (dom_of w j)) (λ j y. Stands y (dom_of (run_slot i k w) j)) domains e.domain new (slice_get_within domains e.domain x got)
-            (subst (Stands new) (sym (run_slot-dom_same i k w)) over.dom)
-            (λ j y apart s. subst (Stands y) (sym (run_slot-dom_other i k w j apart)) s)
-            is.each_domain;
-        each_estate = each_set (λ j y. Has (estate i.all.hardware (own_of i j)) y) (λ j y. Has (estate i.all.hardware (own_of i j)) y) domains e.domain new (slice_get_within domains e.domain x got)
-            over.facts.has
-            (λ j y apart s. s)
-            is.each_estate;
-        caches = refl;
-        all_entries = long ∙ is.all_entries;
-        each_entry = subst (IsUsed used') (sym switches) (noted w.used is.each_entry);
-        time = over.time ∙ sym (run_slot-clock i k w);
-        begins = ap (λ n. n + e.length + e.pad) is.begins;
-        ends = ap (λ n. n + e.length) is.begins;
+        fits = record {
+          kernel = kernel_of i (separated i r) d domain;
+          frames = sym is.frames;
+          levels = is.levels ∙ sym begins.levels;
+          pinned = begins.pinned ∙ is.pinned;
+        };
+        dom = subst (λ m. Stands x (at no_dom m d)) (sym (switch-doms i k w)) (is.each_domain d x got);
+        facts = subst (λ (t : Storage). HasFacts (estate p o) s.memory t.mem x) (sym (switch-storage i k w)) (facts_at i r k s is d x domain got);
+        layout = is.each_layout d x got;
+        leaves = begins.leaves now_at.storage.mem s.memory.frames x.map;
+        caches = subst (SystemStands any_stands_for system) (sym (switch-caches i k w)) begins.caches;
+        time = begins.now_is ∙ sym (on_time i (separated i r) k);
       }
 
-  pub stands_next : (e : spec.Entry) → entry_of_slot i.all.schedule k ≡ e → slice_get domains e.domain ≡ Some x → Ran e.length
-      → StandsFor i (k + 1) (kept memory' (set domains e.domain new) used' later (next + e.length + e.pad) (next + e.length))
-  stands_next e entry =
-      subst₂ (λ (n : ℕ) (y : spec.Entry). slice_get domains y.domain ≡ Some x → Ran y.length
-      → StandsFor i n (kept memory' (set domains y.domain new) used' later (next + y.length + y.pad) (next + y.length)))
-      (sym (add-one k)) entry stands_after
+  module _ (memory' : Contents) (system' : SystemContents AnyPolicy) (new : Domain) (used' : List Used) (later : ℕ) (long : length used' ≡ length s.used)
+      (noted : (us : List (ℕ × ℕ)) → IsUsed s.used us → IsUsed used' (us ++ (switch_entry i.all.schedule k, used) ∷ [])) where
+    -- the code's domain runs as the definition's does
+    abbrev pub Ran : ℕ → Type 0
+    Ran length = Moves any_rule any_stands_for (λ w. stretch w.machine w.own w.pinned (start i.all.schedule k + length)) s.memory x system now memory' new system' later
+
+    stands_after : Ran (entry_of_slot i.all.schedule k).length → StandsFor i (suc k) (kept memory' system' (set s.domains (entry_of_slot i.all.schedule k).domain new) used' later)
+    unfolding whole
+    stands_after ran =
+        let w = whole i k in
+        let p = i.all.hardware in
+        let e = entry_of_slot i.all.schedule k in
+        let o = own_of i e.domain in
+        let over = ran (setting i e.domain) (slot_begun i k w) begun in
+        let within = slice_get_within s.domains e.domain x got in
+        let switches : (run_slot i k w).used ≡ w.used ++ (switch_entry i.all.schedule k, used) ∷ [] =
+        run_slot-used i k w ∙ ap (λ n. w.used ++ (switch_entry i.all.schedule k, n) ∷ []) (ap (λ n. n + (work i k w).cost - last_end i.all.schedule k) (sym is.time) ∙ sym begins.used_is) in
+        let memory : Holds memory' (run_slot i k w).storage.mem = subst (λ (t : Storage). Holds memory' t.mem) (sym (run_slot-storage i k w)) over.facts.holds in
+        record {
+          frames = sym over.fits.frames;
+          holds = memory;
+          levels = over.fits.levels;
+          pinned = over.fits.pinned;
+          caches = subst (SystemStands any_stands_for system') (sym (run_slot-caches i k w)) over.caches;
+          all_domains = length-set s.domains e.domain new ∙ is.all_domains;
+          each_domain = each_set (λ j y. Stands y (dom_of w j)) (λ j y. Stands y (dom_of (run_slot i k w) j)) s.domains e.domain new within
+              (subst (Stands new) (sym (run_slot-dom_same i k w)) over.dom)
+              (λ j y apart h. subst (Stands y) (sym (run_slot-dom_other i k w j apart)) h)
+              is.each_domain;
+          each_estate = each_set (λ j y. Has (estate p (own_of i j)) y) (λ j y. Has (estate p (own_of i j)) y) s.domains e.domain new within
+              over.facts.has
+              (λ j y apart h. h)
+              is.each_estate;
+          each_layout = each_set (λ j y. layout_model y.layout ≡ layout p (own_of i j)) (λ j y. layout_model y.layout ≡ layout p (own_of i j)) s.domains e.domain new within
+              over.layout
+              (λ j y apart h. h)
+              is.each_layout;
+          all_entries = long ∙ is.all_entries;
+          each_entry = subst (IsUsed used') (sym switches) (noted w.used is.each_entry);
+          time = over.time ∙ sym (run_slot-clock i k w);
+        }
+
+    -- what the buffer keeps are walks of this domain's tables
+    buffer_after : Ran (entry_of_slot i.all.schedule k).length → KeepsBuffer i (suc k) (kept memory' system' (set s.domains (entry_of_slot i.all.schedule k).domain new) used' later)
+    unfolding whole
+    buffer_after ran =
+        let w = whole i k in
+        let p = i.all.hardware in
+        let e = entry_of_slot i.all.schedule k in
+        let over = ran (setting i e.domain) (slot_begun i k w) begun in
+        subst (λ (t : Storage). KeepsLeaves t.mem memory'.frames (root_of p (own_of i e.domain)) system'.core.tlb) (sym (run_slot-storage i k w))
+        (subst (λ (root : ℕ). KeepsLeaves (slot_over i k w).storage.mem memory'.frames root system'.core.tlb) (over.facts.has.root ∙ root_is p (own_of i e.domain)) over.leaves)
+
+    facts_after : Ran (entry_of_slot i.all.schedule k).length → HaveFacts i (suc k) (kept memory' system' (set s.domains (entry_of_slot i.all.schedule k).domain new) used' later)
+    facts_after ran = all_at i r (suc k) _ (stands_after ran) (buffer_after ran)
+
+    pub facts_next : (e : Entry) → e ≡ entry_of_slot i.all.schedule k → Ran e.length → HaveFacts i (k + 1) (kept memory' system' (set s.domains e.domain new) used' later)
+    facts_next e entry =
+        subst₂ (λ (n : ℕ) (y : Entry). Ran y.length → HaveFacts i n (kept memory' system' (set s.domains y.domain new) used' later)) (sym (add-one k)) (sym entry) facts_after
+
+    pub stands_next : (e : Entry) → e ≡ entry_of_slot i.all.schedule k → Ran e.length → StandsFor i (k + 1) (kept memory' system' (set s.domains e.domain new) used' later)
+    stands_next e entry =
+        subst₂ (λ (n : ℕ) (y : Entry). Ran y.length → StandsFor i n (kept memory' system' (set s.domains y.domain new) used' later)) (sym (add-one k)) (sym entry) stands_after
+
+-- as the next slot begins, and after it
+pub resident_at : (i : Image) → Runnable i → (k : ℕ) → StaysResident i k
+resident_at i r k = begun_resident i (separated i r) k
 
 -- ---- bounds
 
 pub counts_later : (clock later : ℕ) (d : Domain) → clock ≤ later → CountsUpTo clock d → CountsUpTo later d
 counts_later clock later d h few = record { retired = omega (arith, few.retired); readings = omega (arith, few.readings); replies = omega (arith, few.replies) }
 
--- the clock goes on, and not far past the slot's end
-clock_after : (clock next begin later end base : ℕ) → begin ≡ max clock next → clock ≤ next + 1001000 → next ≤ end → base ≤ 1000 → (begin < end → later < end + base) → (end ≤ begin → later ≡ begin) → end ≤ later
-    → (clock ≤ later) × (later ≤ end + 1001000)
-clock_after clock next begin later end base is early after short soon done over =
-    elim (cases_lt begin end) [
-      | inl before ↦ let s = soon before in (omega arith, omega arith)
-      | inr past ↦ let s = done past in (omega arith, omega arith)
-    ]
-
-pub in_bounds_next : (k : ℕ) (memory memory' : Contents) (domains : List Domain) (used used' : List Used) (clock next last d length' pad base : ℕ) (new : Domain) (begin later : ℕ)
-    → IsInBounds k (kept memory domains used clock next last) → k < 65536 → length' ≤ 1000000 → pad ≤ 1000000 → base ≤ 1000 → d < length domains → begin ≡ max clock next
-    → CountsUpTo later new → next + length' ≤ later → (begin < next + length' → later < next + length' + base) → (next + length' ≤ begin → later ≡ begin)
-    → ((n : ℕ) → CountedUpTo n used → CountedUpTo (n + 1) used')
-    → IsInBounds (k + 1) (kept memory' (set domains d new) used' later (next + length' + pad) (next + length'))
-in_bounds_next k memory memory' domains used used' clock next last d length' pad base new begin later was left short_slot short_pad short_base within begins few over soon done counted =
-    let passed = clock_after clock next begin later (next + length') base begins was.clock_soon (omega arith) short_base soon done over in
-    record {
-      slots_left = omega arith;
-      next_soon = omega (arith, was.next_soon);
-      clock_soon = omega (arith, passed.1);
-      last_over = over;
-      few_calls = each_set (λ j y. CountsUpTo clock y) (λ j y. CountsUpTo later y) domains d new within few (λ j y apart s. counts_later clock later y passed.0 s) was.few_calls;
-      few_switches = counted k was.few_switches;
-    }
+pub in_bounds_next : (k : ℕ) (s : Kept) (memory' : Contents) (system' : SystemContents AnyPolicy) (used' : List Used) (d : ℕ) (new : Domain) (later : ℕ)
+    → IsInBounds k s → k < 65536 → d < length s.domains → s.clock ≤ later → CountsUpTo later new → ((n : ℕ) → CountedUpTo n s.used → CountedUpTo (n + 1) used')
+    → IsInBounds (k + 1) (kept memory' system' (set s.domains d new) used' later)
+in_bounds_next k s memory' system' used' d new later was left within passed few counted = record {
+  slots_left = omega arith;
+  few_calls = each_set (λ j y. CountsUpTo s.clock y) (λ j y. CountsUpTo later y) s.domains d new within few (λ j y apart h. counts_later s.clock later y passed h) was.few_calls;
+  few_switches = counted k was.few_switches;
+}
 
 -- ---- what is seen
 
@@ -195,25 +270,3 @@ pub pool_in_memory : (p : Hardware) (o : Own) (x : Domain) (memory : Contents) �
 pool_in_memory p o x memory has frames =
     subst (λ (s : Share). All (λ f. f < memory.frames) (colours.pool s)) (sym (share_is p o x has))
     (λ k d h. subst₂ (λ (f size : ℕ). f < size) (either_default (pool p o) k 0 d h) (sym frames) (in_pool p o k h))
-
--- ---- what an accepted image says of a slot's entry
-
-module _ (i : Image) (r : Runnable i) (items : List Entry) (same : map entry_model items ≡ i.all.schedule) (k n : ℕ) (e d : Entry) (long : n ≡ length items) (read : e ≡ get_or items (k % n) d) where
-  pub schedule_long : length i.all.schedule ≡ n
-  schedule_long = ap (λ (xs : List spec.Entry). length xs) (sym same) ∙ length-map items entry_model ∙ sym long
-
-  pub entry_some : 0 < n
-  entry_some = omega (arith, r.some_entry, schedule_long)
-
-  pub entry_read : entry_model e ≡ entry_of_slot i.all.schedule k
-  entry_read =
-      sym (ap (λ (xs : List spec.Entry). entry_of_slot xs k) (sym same) ∙ entry_of_slot-is items k n e d long (mod-lt k entry_some) read)
-
-  pub domain_named : e.domain < length i.owns
-  domain_named = rw (sym entry_read) at ((separated i r).named k)
-
-  pub length_short : e.length ≤ 1000000
-  length_short = rw (sym entry_read) at (r.lengths (k % length i.all.schedule))
-
-  pub pad_short : e.pad ≤ 1000000
-  pad_short = rw (sym entry_read) at (r.pads (k % length i.all.schedule))

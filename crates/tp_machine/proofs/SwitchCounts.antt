@@ -1,5 +1,5 @@
 -- What switches took, of the code and of the definitions.
-use Rattle.std.proofs.Common.{◌≡◌, ℕ, ◌+◌, ◌<◌, ◌≤◌, max, List, [], ◌∷◌, ◌++◌, length, take, drop, replicate, get_or, refl, sym, ap, subst, ◌∙◌, arith, append-nil}
+use Rattle.std.proofs.Common.{◌≡◌, ℕ, ◌+◌, ◌<◌, ◌≤◌, max, List, [], ◌∷◌, ◌++◌, length, take, drop, replicate, get_or, refl, sym, ap, subst, subst₂, ◌∙◌, arith, append-nil}
 use Rattle.std.proofs.Math.ListN.{set}
 use Rattle.std.proofs.lemmas.List.{drop_all, take_all}
 use Rattle.std.proofs.lemmas.Option.{slice_get-get_or}
@@ -47,11 +47,11 @@ written_back new items n long same =
     rw (rest, append-nil new) (take_all n new (omega arith))
 
 module _ (used new : List Used) (n : ℕ) (long : length new ≡ n) (was : length used ≡ n) where
-  pub noted_back : (e e' cycles : ℕ) → e ≡ e' → ((us : List (ℕ × ℕ)) → IsUsed used us → IsUsed new (us ++ (e, cycles) ∷ []))
-      → (us : List (ℕ × ℕ)) → IsUsed used us → IsUsed (take n (new ++ drop (length new) used)) (us ++ (e', cycles) ∷ [])
-  noted_back e e' cycles same noted us old =
-      subst (λ (v : List Used). IsUsed v (us ++ (e', cycles) ∷ [])) (sym (written_back new used n long was))
-      (subst (λ (j : ℕ). IsUsed new (us ++ (j, cycles) ∷ [])) same (noted us old))
+  pub noted_back : (e e' cycles cycles' : ℕ) → e ≡ e' → cycles ≡ cycles' → ((us : List (ℕ × ℕ)) → IsUsed used us → IsUsed new (us ++ (e, cycles) ∷ []))
+      → (us : List (ℕ × ℕ)) → IsUsed used us → IsUsed (take n (new ++ drop (length new) used)) (us ++ (e', cycles') ∷ [])
+  noted_back e e' cycles cycles' same equal noted us old =
+      subst (λ (v : List Used). IsUsed v (us ++ (e', cycles') ∷ [])) (sym (written_back new used n long was))
+      (subst₂ (λ (j m : ℕ). IsUsed new (us ++ (j, m) ∷ [])) same equal (noted us old))
 
   pub counted_back : ((k : ℕ) → CountedUpTo k used → CountedUpTo (k + 1) new) → (k : ℕ) → CountedUpTo k used → CountedUpTo (k + 1) (take n (new ++ drop (length new) used))
   counted_back counted k old = subst (CountedUpTo (k + 1)) (sym (written_back new used n long was)) (counted k old)

@@ -1,54 +1,77 @@
 -- What the code's machine stands for.
-use Rattle.std.specs.Prelude.{◌≡◌, ℕ, ◌+◌, ◌*◌, ◌≤◌, List, length, slice_get, Some}
+use Rattle.std.specs.Prelude.{◌≡◌, ℕ, zero, suc, ◌≤◌, false, List, length, slice_get, Some}
 use Rattle.phys_mem.specs.Contents.{Contents}
 use Rattle.phys_mem.specs.Holds.{Holds}
+use Rattle.repl_policy.specs.declared.AnyPolicy.{AnyPolicy}
+use Rattle.repl_policy.specs.Members.{any_rule, any_stands_for}
+use Rattle.kernel_clone.specs.Models.{layout_model}
+use Rattle.mem_system.specs.Contents.{SystemContents, SystemStands, hierarchy_of}
+use Rattle.mem_system.specs.Translation.{KeepsLeaves}
+use Rattle.sched_table.specs.Schedule.{entry_of_slot}
 use Rattle.image_check.specs.Image.{Image, own_of}
-use Rattle.world_view.specs.Cost.{cold}
-use Rattle.world_view.specs.Schedule.{start, last_end}
-use Rattle.world_view.specs.Machine.{whole, dom_of}
-use Rattle.world_view.specs.Kernel.{estate}
 use Rattle.kernel_call.specs.declared.domain.Domain.{Domain}
 use Rattle.kernel_call.specs.Models.{Stands, CountsUpTo}
 use Rattle.kernel_call.specs.Facts.{Has, HasFacts}
 use Rattle.world_view.specs.declared.view.Used.{Used}
+use Rattle.world_view.specs.Frames.{root_of}
+use Rattle.world_view.specs.Kernel.{estate, layout}
+use Rattle.world_view.specs.Cost.{hierarchy}
+use Rattle.world_view.specs.Machine.{switch, whole, dom_of}
+use Rattle.world_view.specs.Relations.{Resident}
+use Rattle.domain_step.specs.Kept.{Setting}
 use Rattle.tp_machine.specs.Usage.{IsUsed, CountedUpTo}
 
 -- what the code's machine keeps
 pub record Kept : Type 0 where
   pub memory : Contents
+  pub system : SystemContents AnyPolicy
   pub domains : List Domain
   pub used : List Used
   pub clock : ℕ
-  pub next : ℕ  -- when the next slot begins
-  pub last : ℕ  -- when the last slot ended
 
-abbrev pub kept : Contents → List Domain → List Used → ℕ → ℕ → ℕ → Kept
-kept memory domains used clock next last = record { memory = memory; domains = domains; used = used; clock = clock; next = next; last = last }
+abbrev pub kept : Contents → SystemContents AnyPolicy → List Domain → List Used → ℕ → Kept
+kept memory system domains used clock = record { memory = memory; system = system; domains = domains; used = used; clock = clock }
 
--- it stands for the whole machine after so many slots
+-- domain d on the whole machine
+abbrev pub setting : Image → ℕ → Setting
+setting i d = record { machine = i.all.hardware; own = own_of i d; pinned = false }
+
+-- the leaves that the buffer keeps after a slot are walks of its domain's page tables, in memory as it is
+abbrev pub KeepsBuffer : Image → ℕ → Kept → Type 0
+KeepsBuffer i zero k = Unit {0}
+KeepsBuffer i (suc n) k =
+    KeepsLeaves (whole i (suc n)).storage.mem k.memory.frames (root_of i.all.hardware (own_of i (entry_of_slot i.all.schedule n).domain))
+    k.system.core.tlb
+
+-- it stands for the whole machine after so many slots: memory, each set of each cache and of the buffer, the predictor's
+-- counters, each domain, what switches took, and the clock
 pub record StandsFor (i : Image) (slots : ℕ) (k : Kept) : Type 0 where
   pub frames : k.memory.frames ≡ i.all.hardware.frames
   pub holds : Holds k.memory (whole i slots).storage.mem
+  pub levels : hierarchy i.all.hardware ≡ hierarchy_of any_rule k.system
+  pub pinned : k.system.core.pinned ≡ false
+  pub caches : SystemStands any_stands_for k.system (whole i slots).caches
   pub all_domains : length k.domains ≡ length i.owns
   pub each_domain : (d : ℕ) (x : Domain) → slice_get k.domains d ≡ Some x → Stands x (dom_of (whole i slots) d)
   pub each_estate : (d : ℕ) (x : Domain) → slice_get k.domains d ≡ Some x → Has (estate i.all.hardware (own_of i d)) x
-  pub caches : (whole i slots).caches ≡ cold i.all.hardware  -- the code keeps none as yet
+  pub each_layout : (d : ℕ) (x : Domain) → slice_get k.domains d ≡ Some x → layout_model x.layout ≡ layout i.all.hardware (own_of i d)
   pub all_entries : length k.used ≡ length i.all.schedule
   pub each_entry : IsUsed k.used (whole i slots).used
   pub time : k.clock ≡ (whole i slots).clock
-  pub begins : k.next ≡ start i.all.schedule slots
-  pub ends : k.last ≡ last_end i.all.schedule slots
 
--- each domain has its facts, of its frames, capabilities and page tables, in this memory
+-- each domain has its facts, of its frames, capabilities and page tables, in this memory; and the buffer keeps what walks
+-- find there
 pub record HaveFacts (i : Image) (slots : ℕ) (k : Kept) : Type 0 where
+  pub buffer : KeepsBuffer i slots k
   pub each : (d : ℕ) (x : Domain) → slice_get k.domains d ≡ Some x
       → HasFacts (estate i.all.hardware (own_of i d)) k.memory (whole i slots).storage.mem x
+
+-- as the next slot begins every shared line is in the second level
+abbrev pub StaysResident : Image → ℕ → Type 0
+StaysResident i slots = Resident i.all.hardware (switch i slots (whole i slots)).caches
 
 -- so that no number is too large
 pub record IsInBounds (slots : ℕ) (k : Kept) : Type 0 where
   pub slots_left : slots ≤ 65536
-  pub next_soon : k.next ≤ 2000000 * (slots + 1)
-  pub clock_soon : k.clock ≤ k.next + 1001000
-  pub last_over : k.last ≤ k.clock
   pub few_calls : (d : ℕ) (x : Domain) → slice_get k.domains d ≡ Some x → CountsUpTo k.clock x
   pub few_switches : CountedUpTo slots k.used

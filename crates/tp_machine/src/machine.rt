@@ -3,13 +3,16 @@ ghost use Rattle.std.specs.Prelude.{◌≡◌, ◌≤◌, [], length, IfOk};
 ghost use Rattle.image_check.specs.Image.{image_from};
 ghost use Rattle.image_check.specs.Laws.{Runnable};
 ghost use Rattle.tp_machine.specs.Usage.{IsUsed, CountedUpTo};
-ghost use Rattle.tp_machine.specs.Worlds.{kept, StandsFor, HaveFacts, IsInBounds};
+ghost use Rattle.tp_machine.specs.Propositions.{stands_prop};
+ghost use Rattle.tp_machine.specs.Worlds.{kept, StandsFor, HaveFacts, StaysResident, IsInBounds};
 
 mod run;
 
 use image_check::Checked;
 use kernel_call::Domain;
+use mem_system::MemSystem;
 use phys_mem::PhysMem;
+use repl_policy::AnyPolicy;
 use std::alloc::Global;
 use tp_base::Memory;
 use world_view::Used;
@@ -23,25 +26,24 @@ pub struct Machine<'a> {
     /// How many slots have run.
     pub slots: u32,
     memory: PhysMem,
+    system: MemSystem<AnyPolicy>,
     domains: Vec<Domain>,
     /// By entry of the schedule.
     used: Vec<Used>,
     /// In cycles.
     clock: u64,
-    /// When the next slot begins, in cycles.
-    start: u64,
-    /// When the last slot ended, in cycles: 0 before the first.
-    last_end: u64,
     ghost accepted: { Runnable (image_from image.now) },
     ghost stands: { StandsFor (image_from image.now) slots
-        (kept memory domains.items used.items clock start last_end) },
+        (kept memory system domains.items used.items clock) } by { stands_prop (image_from image.now) slots
+            (kept memory system domains.items used.items clock) },
     ghost facts: { ∥ HaveFacts (image_from image.now) slots
-        (kept memory domains.items used.items clock start last_end) ∥₁ },
-    ghost in_bounds: { IsInBounds slots (kept memory domains.items used.items clock start last_end) },
+        (kept memory system domains.items used.items clock) ∥₁ },
+    ghost resident: { StaysResident (image_from image.now) slots },
+    ghost in_bounds: { IsInBounds slots (kept memory system domains.items used.items clock) },
 }
 
 // For each entry, that there was no switch.
-fn unused(alloc: Global, entries: usize) -> Result<Vec<Used>, Memory>
+fn unused(alloc: Global, entries: u32) -> Result<Vec<Used>, Memory>
     ensures all { IfOk result (λ us. length us.items ≡ entries) }
     ensures unused { IfOk result (λ us. IsUsed us.items []) }
     ensures few { IfOk result (λ us. CountedUpTo 0 us.items) }
@@ -49,7 +51,7 @@ fn unused(alloc: Global, entries: usize) -> Result<Vec<Used>, Memory>
     let used = vec![in alloc; Used {
         largest: 0,
         count: 0
-    }; entries]?;
+    }; entries as usize]?;
     Ok(used)
 }
 

@@ -1,6 +1,6 @@
 -- The laws of the report.
 use Rattle.std.specs.Prelude.{◌≡◌, ℕ, ◌≤◌}
-use Rattle.image_check.specs.Public.{entry_in}
+use Rattle.sched_table.specs.Schedule.{entry_in}
 use Rattle.image_check.specs.Image.{Image}
 use Rattle.world_view.specs.Machine.{whole}
 use Rattle.world_view.specs.Used.{count_of}

@@ -3,7 +3,10 @@ use Rattle.std.specs.Prelude.{ℕ, List, [], ◌∷◌, length, codes, decimal}
 use Rattle.std.specs.Fmt.{signed_decimal}
 use Rattle.std.specs.List.{concat, flat_map, range_with_len}
 use Rattle.image_text.specs.declared.refusal.Refusal.{Refusal}
-use Rattle.image_check.specs.Public.{Entry, entry_in}
+use Rattle.sched_table.specs.declared.schedule.Entry.{Entry}
+use Rattle.sched_table.specs.Schedule.{entry_in}
+use Rattle.pad_bound.specs.Bound.{MachineShape, worst_instruction, worst_operation, worst_leave, worst_prefetch, worst_flush, worst_enter, bound_of}
+use Rattle.pad_bound.specs.declared.shape.Bound.{Bound}
 use Rattle.image_check.specs.Image.{Image, own_of}
 use Rattle.world_view.specs.Machine.{whole}
 use Rattle.world_view.specs.Used.{count_of, largest_of}
@@ -46,7 +49,37 @@ report i n = report_with i (λ d. view_whole i d n) (whole i n).used
 unfoldable pub report_apart : Image → ℕ → List ℕ
 report_apart i n = report_with i (λ d. view_alone i.all (own_of i d) d n) (whole i n).used
 
+-- ---- the bound on a switch
+
+-- of a machine, in its parts
+unfoldable pub bound_in_parts : MachineShape → Bound
+bound_in_parts s = record {
+  instruction = worst_instruction s;
+  operation = worst_operation s;
+  leave = worst_leave s;
+  prefetch = worst_prefetch s;
+  flush = worst_flush s;
+  enter = worst_enter s;
+  total = bound_of s;
+}
+
+-- a line for each part, and for all
+unfoldable pub bound_text : Bound → List ℕ
+bound_text b = concat (
+    codes "instruction " ∷ decimal b.instruction
+    ∷ codes "\noperation " ∷ decimal b.operation
+    ∷ codes "\nleave " ∷ decimal b.leave
+    ∷ codes "\nprefetch " ∷ decimal b.prefetch
+    ∷ codes "\nflush " ∷ decimal b.flush
+    ∷ codes "\nenter " ∷ decimal b.enter
+    ∷ codes "\nbound " ∷ decimal b.total
+    ∷ codes "\n" ∷ [])
+
 -- ---- other texts
+
+-- no rule is broken
+unfoldable pub accepted_text : List ℕ
+accepted_text = codes "accepted\n"
 
 unfoldable pub usage_text : List ℕ
 usage_text = codes "usage: tp check|bound|run|alone|gen|demo\n"

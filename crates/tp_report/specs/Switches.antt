@@ -2,11 +2,9 @@
 use Rattle.std.specs.Prelude.{ℕ, List, length, slice_index_or}
 use Rattle.std.specs.List.{flat_map, range_with_len}
 use Rattle.tp_report.specs.Report.{switch_line}
-use Rattle.image_check.specs.declared.public.Entry.{Entry}
+use Rattle.sched_table.specs.declared.schedule.Entry.{Entry}
+use Rattle.sched_table.specs.Schedule.{entry_in}
 use Rattle.world_view.specs.declared.view.Used.{Used}
-
-abbrev pub no_entry : Entry
-no_entry = record { domain = 0; length = 0; pad = 0 }
 
 abbrev pub no_used : Used
 no_used = record { largest = 0; count = 0 }
@@ -16,7 +14,7 @@ abbrev pub used_in : List Used → ℕ → Used
 used_in used e = slice_index_or used e no_used
 
 unfoldable pub switch_at : List Entry → List Used → ℕ → List ℕ
-switch_at entries used e = let u = used_in used e in switch_line e u.largest (slice_index_or entries e no_entry).pad u.count
+switch_at entries used e = let u = used_in used e in switch_line e u.largest (entry_in entries e).pad u.count
 
 -- a line for each entry
 unfoldable pub switches_text : List Entry → List Used → List ℕ

@@ -4,6 +4,7 @@ ghost use Rattle.std.specs.Prelude.{◌≡◌, ℕ, List, [], ◌∷◌, codes, 
 ghost use Rattle.rv_core.specs.Registers.{zeros, with_register};
 ghost use Rattle.thread_set.specs.declared.ThreadState.TheVariants.{Never, Ready, Waiting, Ended};
 ghost use Rattle.tp_report.specs.Report.{switch_line, end_text, usage_text, refusal_text, too_long_text};
+ghost use Rattle.tp_report.specs.Report.{bound_text, accepted_text};
 ghost use Rattle.tp_report.specs.Texts.{thread_text, threads_text};
 ghost use Rattle.tp_report.specs.Laws.{ReportLaw, LinesLaw};
 
@@ -28,6 +29,17 @@ pub fn texts()
     ensures refusal { refusal_text
         (record { rule = 4; at = pos 0; found = negsuc 9223372036854775807; wanted = pos 64 })
         ≡ codes "refused K4 at 0 found -9223372036854775808 wanted 64\n" }
+    ensures bound { bound_text (record {
+      instruction = 306;
+      operation = 4277;
+      leave = 383;
+      prefetch = 472;
+      flush = 340;
+      enter = 373;
+      total = 6150;
+    })
+        ≡ codes "instruction 306\noperation 4277\nleave 383\nprefetch 472\nflush 340\nenter 373\nbound 6150\n" }
+    ensures accepted { accepted_text ≡ codes "accepted\n" }
     ensures too_long { too_long_text ≡ codes "too long\n" }
     ensures waiting { thread_text (1, record { state = Waiting 12; pc = 4294967292; regs = zeros })
         ≡ codes "\nthread 1 waiting 12 pc fffffffc" }

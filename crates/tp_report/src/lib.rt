@@ -6,5 +6,6 @@ mod pieces;
 mod report;
 
 pub use report::{
-    write_end, write_refusal, write_section, write_switches, write_too_long, write_usage,
+    write_accepted, write_bound, write_end, write_refusal, write_section, write_switches,
+    write_too_long, write_usage,
 };

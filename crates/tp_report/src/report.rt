@@ -9,7 +9,8 @@ ghost use Rattle.world_view.specs.Models.{view_model};
 ghost use Rattle.tp_report.specs.Switches.{switches_text};
 
 use crate::pieces::{Piece, write_pieces};
-use image_check::{Entry, Refusal};
+use image_check::{Refusal, Schedule};
+use pad_bound::Bound;
 use thread_set::{Thread, ThreadState};
 use tp_io::{Failed, Sink, write_all_of};
 use world_view::{Used, View};
@@ -151,19 +152,19 @@ fn frame_sum(view: &View<'_>, i: usize) -> u32
 
 /// Writes the line of each schedule entry.
 #[tactic(auto, unfolding(crate::specs::Switches::switches_text))]
-pub fn write_switches<K: Sink>(out: &mut K, entries: &[Entry], used: &[Used]) -> Result<(), Failed>
+pub fn write_switches<K: Sink>(out: &mut K, entries: &Schedule, used: &[Used]) -> Result<(), Failed>
     requires paired { length used.now ≡ length entries.now }
     ensures sends { Sends (state K.Sink out.old) (state K.Sink out.new)
         result (switches_text entries.now used.now) }
 {
     for e in 0..entries.len() {
-        write_switch(out, e, entries[e].pad, used[e])?;
+        write_switch(out, e, entries.entry(e).pad, used[e as usize])?;
     }
     Ok(())
 }
 
 #[tactic(auto, unfolding(crate::specs::Report::switch_line))]
-fn write_switch<K: Sink>(out: &mut K, entry: usize, pad: u32, used: Used) -> Result<(), Failed>
+fn write_switch<K: Sink>(out: &mut K, entry: u32, pad: u32, used: Used) -> Result<(), Failed>
     ensures sends { Sends (state K.Sink out.old) (state K.Sink out.new)
         result (report_spec.switch_line entry used.largest pad used.count) }
 {
@@ -171,7 +172,7 @@ fn write_switch<K: Sink>(out: &mut K, entry: usize, pad: u32, used: Used) -> Res
         out,
         &[
             Piece::Text("switch "),
-            Piece::Number(entry as u64),
+            Piece::Number(u64::from(entry)),
             Piece::Text(" used "),
             Piece::Number(used.largest),
             Piece::Text(" pad "),
@@ -189,6 +190,42 @@ pub fn write_end<K: Sink>(out: &mut K) -> Result<(), Failed>
     ensures sends { Sends (state K.Sink out.old) (state K.Sink out.new) result report_spec.end_text }
 {
     write_all_of(out, b"end\n")
+}
+
+/// Writes the most cycles of each part of a switch, and of all.
+#[tactic(auto, unfolding(crate::specs::Report::bound_text))]
+pub fn write_bound<K: Sink>(out: &mut K, bound: &Bound) -> Result<(), Failed>
+    ensures sends { Sends (state K.Sink out.old) (state K.Sink out.new)
+        result (report_spec.bound_text bound.now) }
+{
+    write_pieces(
+        out,
+        &[
+            Piece::Text("instruction "),
+            Piece::Number(bound.instruction),
+            Piece::Text("\noperation "),
+            Piece::Number(bound.operation),
+            Piece::Text("\nleave "),
+            Piece::Number(bound.leave),
+            Piece::Text("\nprefetch "),
+            Piece::Number(bound.prefetch),
+            Piece::Text("\nflush "),
+            Piece::Number(bound.flush),
+            Piece::Text("\nenter "),
+            Piece::Number(bound.enter),
+            Piece::Text("\nbound "),
+            Piece::Number(bound.total),
+            Piece::Text("\n"),
+        ],
+    )
+}
+
+/// Writes that the image breaks no rule.
+#[tactic(auto, unfolding(crate::specs::Report::accepted_text))]
+pub fn write_accepted<K: Sink>(out: &mut K) -> Result<(), Failed>
+    ensures sends { Sends (state K.Sink out.old) (state K.Sink out.new) result report_spec.accepted_text }
+{
+    write_all_of(out, b"accepted\n")
 }
 
 /// Writes what the words of the command line may be.

@@ -1,6 +1,6 @@
 -- What is due, from what was read and what was written.
-use Rattle.std.proofs.Common.{◌≡◌, ◌≢◌, ℕ, ◌+◌, ◌-◌, ◌^◌, ◌<◌, ◌≤◌, leb, true, false, List, [], ◌++◌, length, Option, Some, None, Result, Ok, Err, refl, sym, ap, ◌∙◌, subst, arith, ◌⊎◌, inl, inr}
-use Rattle.std.specs.Prelude.{OnOk, OnErr}
+use Rattle.std.proofs.Common.{◌≡◌, ◌≢◌, ℕ, ◌+◌, ◌-◌, ◌^◌, ◌<◌, ◌≤◌, leb, true, false, List, [], ◌++◌, ◌∷◌, length, Option, Some, None, Result, Ok, Err, refl, sym, ap, ◌∙◌, subst, arith, ◌⊎◌, inl, inr}
+use Rattle.std.specs.Prelude.{OnOk, OnErr, slice_get}
 use Rattle.std.proofs.lemmas.List.{length-append, append-nil}
 use Rattle.std.proofs.lemmas.Option.{same_Some}
 use Rattle.std.proofs.lemmas.Bool.{cases_lt}
@@ -9,22 +9,26 @@ use Rattle.tp_io.specs.Bytes.{before_known, after_known, AtEnd}
 use Rattle.tp_io.specs.Sends.{SinkState, Sent, CutShort, Sends}
 use Rattle.tp_io.specs.Sure.{Exceeds}
 use Rattle.image_text.specs.declared.refusal.Refusal.{Refusal}
-use Rattle.image_check.specs.Image.{Image}
-use Rattle.world_view.specs.Reading.{image, most_bytes}
+use Rattle.image_text.specs.Record as text
+use Rattle.image_check.specs.Pads.{shape_of}
+use Rattle.image_check.specs.Public.{public_of}
+use Rattle.image_check.specs.Image.{Image, image_from}
+use Rattle.world_view.specs.Reading.{image, checked, unless_broken, most_bytes}
 use Rattle.world_view.specs.Machine.{whole}
 use Rattle.image_check.specs.Laws.{Runnable}
 use Rattle.world_view.proofs.Separate.{separated}
 use Rattle.world_view.proofs.ReadingLaws.{read_runs}
 use Rattle.world_view.proofs.WholeLaws.{isolated}
 use Rattle.world_view.proofs.TimeLaws.{used_within, on_time, largest_within}
-use Rattle.tp_report.specs.Report.{report, usage_text, refusal_text, too_long_text}
+use Rattle.tp_report.specs.Report.{report, bound_text, bound_in_parts, usage_text, refusal_text, too_long_text}
 use Rattle.tp_report.proofs.ReportLaws.{reported_apart}
 use Rattle.tp_run.specs.declared.Command.{Command}
-use Rattle.tp_run.specs.declared.Command.TheVariants.{Run}
+use Rattle.tp_run.specs.declared.Command.TheVariants.{Check, Bound, Run}
 use Rattle.tp_run.specs.declared.status.Status.{Status}
 use Rattle.tp_run.specs.declared.status.Status.TheVariants.{Done, Refused, Usage, ReadFault, WriteFault, Memory, TooLong}
+use Rattle.tp_run.specs.Reading.{broken_for, broken_in, checked_for, image_for}
 use Rattle.tp_run.specs.Answer.{Answer, answer, answer_by, answer_of_bytes, answer_unless_broken, answer_of_image, command}
-use Rattle.tp_run.specs.TopCall.{Writes, EndsUsage, Delivers, ComesTo, IsOver, ReadsImage, Isolated, Padded}
+use Rattle.tp_run.specs.TopCall.{Writes, EndsUsage, Delivers, ComesTo, ReadsImage, Refuses, Accepts, Bounds, Isolated, Padded}
 
 -- ---- what was written
 
@@ -117,22 +121,19 @@ pub too_long_due : (bytes : List ℕ) (c : Command) → most_bytes < length byte
 unfolding answer_of_bytes
 too_long_due bytes c over = let test : leb (length bytes) most_bytes ≡ false = grind (arith, nat_tests) in rw test
 
-pub image_due : (bytes : List ℕ) (c : Command) → length bytes ≤ most_bytes → answer_of_bytes c bytes ≡ answer_unless_broken c (image bytes)
+pub image_due : (bytes : List ℕ) (c : Command) → length bytes ≤ most_bytes → answer_of_bytes c bytes ≡ answer_unless_broken c (image_for c bytes)
 unfolding answer_of_bytes
 image_due bytes c few = let test : leb (length bytes) most_bytes ≡ true = grind (arith, nat_tests) in rw test
 
 -- a rule is broken
-pub broken_due : (c : Command) (bytes : List ℕ) (r : Refusal) → length bytes ≤ most_bytes → image bytes ≡ Err r → answer_of_bytes c bytes ≡ (Refused, refusal_text r)
+pub refusal_due : (c : Command) (found : Result Image Refusal) (r : Refusal) → found ≡ Err r → answer_unless_broken c found ≡ (Refused, refusal_text r)
 unfolding answer_unless_broken
-broken_due c bytes r few broken = image_due bytes c few ∙ ap (answer_unless_broken c) broken
+refusal_due c found r broken = rw broken
 
-pub unbroken_due : (c : Command) (bytes : List ℕ) (i : Image) → length bytes ≤ most_bytes → image bytes ≡ Ok i → answer_of_bytes c bytes ≡ answer_of_image c i
+-- none is
+pub found_due : (c : Command) (found : Result Image Refusal) (i : Image) → found ≡ Ok i → answer_unless_broken c found ≡ answer_of_image c i
 unfolding answer_unless_broken
-unbroken_due c bytes i few read = image_due bytes c few ∙ ap (answer_unless_broken c) read
-
-pub run_due : (n : ℕ) (i : Image) → answer_of_image (Run n) i ≡ (Done, report i n)
-unfolding answer_of_image
-run_due n i = refl
+found_due c found i read = rw read
 
 -- the same is due to all bytes of a source as to those that were taken
 pub same_due : (words : List (List ℕ)) (c : Command) (bytes items : List ℕ) (rest : Option (List ℕ)) → command words ≡ Some c → Some bytes ≡ before_known items rest → (length items ≤ most_bytes → AtEnd rest)
@@ -159,6 +160,8 @@ IsOfImage _ = ⊥
 
 of_image : (c : Command) (found : Result Image Refusal) → IsOfImage (answer_unless_broken c found).0
 unfolding answer_unless_broken answer_of_image
+of_image Check (Ok i) = tt
+of_image Bound (Ok i) = tt
 of_image (Run n) (Ok i) = tt
 of_image c (Err r) = tt
 
@@ -166,7 +169,7 @@ of_image c (Err r) = tt
 pub no_usage : (c : Command) (items : List ℕ) → Usage ≡ (answer_of_bytes c items).0 → ⊥
 no_usage c items e = elim (cases_lt most_bytes (length items)) [
   | inl over ↦ let same = e ∙ ap (λ (a : Answer). a.0) (too_long_due items c over) in absurd (cc same)
-  | inr few ↦ subst IsOfImage (sym (e ∙ ap (λ (a : Answer). a.0) (image_due items c few))) (of_image c (image items))
+  | inr few ↦ subst IsOfImage (sym (e ∙ ap (λ (a : Answer). a.0) (image_due items c few))) (of_image c (image_for c items))
 ]
 
 -- another status than TooLong is due to all bytes of an image
@@ -180,7 +183,7 @@ is_few c items status e other = elim (cases_lt most_bytes (length items)) [
 pub is_over : (c : Command) (items : List ℕ) → TooLong ≡ (answer_of_bytes c items).0 → most_bytes < length items
 is_over c items e = elim (cases_lt most_bytes (length items)) [
   | inl over ↦ over
-  | inr few ↦ absurd (subst IsOfImage (sym (e ∙ ap (λ (a : Answer). a.0) (image_due items c few))) (of_image c (image items)))
+  | inr few ↦ absurd (subst IsOfImage (sym (e ∙ ap (λ (a : Answer). a.0) (image_due items c few))) (of_image c (image_for c items)))
 ]
 
 -- ---- the top call
@@ -241,19 +244,132 @@ completes_surely due WriteFault old new room d sure fits =
 
 -- ---- a run that was done
 
-done_image : (n : ℕ) (found : Result Image Refusal) → Done ≡ (answer_unless_broken (Run n) found).0 → (i : Image) × (found ≡ Ok i) × (answer_unless_broken (Run n) found ≡ (Done, report i n))
-unfolding answer_unless_broken answer_of_image
-done_image n (Err r) e = absurd (cc e)
-done_image n (Ok i) e = (i, refl, refl)
+-- ---- what the image was
+
+abbrev value_or : Image → Result Image Refusal → Image
+value_or i (Ok j) = j
+value_or i (Err r) = i
+
+abbrev refusal_or : Refusal → Result Image Refusal → Refusal
+refusal_or r (Ok i) = r
+refusal_or r (Err q) = q
+
+run_reads : (n : ℕ) (found : Result text.Raw Refusal) → checked_for (Run n) found ≡ checked found
+unfolding checked_for checked broken_for
+run_reads n (Ok i) = refl
+run_reads n (Err r) = refl
+
+done_image : (c : Command) (found : Result Image Refusal) → Done ≡ (answer_unless_broken c found).0 → (i : Image) × (found ≡ Ok i) × (answer_unless_broken c found ≡ answer_of_image c i)
+unfolding answer_unless_broken
+done_image c (Err r) e = absurd (cc e)
+done_image c (Ok i) e = (i, refl, refl)
+
+no_refusal : (c : Command) (i : Image) → Refused ≡ (answer_of_image c i).0 → ⊥
+unfolding answer_of_image
+no_refusal Check i e = cc e
+no_refusal Bound i e = cc e
+no_refusal (Run n) i e = cc e
+
+refused_image : (c : Command) (found : Result Image Refusal) → Refused ≡ (answer_unless_broken c found).0 → (r : Refusal) × (found ≡ Err r) × (answer_unless_broken c found ≡ (Refused, refusal_text r))
+unfolding answer_unless_broken
+refused_image c (Err r) e = (r, refl, refl)
+refused_image c (Ok i) e = absurd (no_refusal c i e)
+
+-- an image that was found, in the record of its text
+pub record Found (c : Command) (read : Result text.Raw Refusal) (i : Image) : Type 0 where
+  pub record_of : text.Raw
+  pub is : read ≡ Ok record_of
+  pub unbroken : broken_for c record_of ≡ []
+  pub image : i ≡ image_from record_of
+
+found_unbroken : (c : Command) (t : text.Raw) (i : Image) (rs : List Refusal) → broken_for c t ≡ rs → unless_broken t rs ≡ Ok i → Found c (Ok t) i
+found_unbroken c t i [] none e = record { record_of = t; is = refl; unbroken = none; image = sym (ap (value_or i) e) }
+found_unbroken c t i (r ∷ rs) none e = absurd (cc)
+
+found_in : (c : Command) (read : Result text.Raw Refusal) (i : Image) → checked_for c read ≡ Ok i → Found c read i
+unfolding checked_for
+found_in c (Err r) i e = absurd (cc)
+found_in c (Ok t) i e = found_unbroken c t i (broken_for c t) refl e
+
+first_unless : (t : text.Raw) (r : Refusal) (rs : List Refusal) → unless_broken t rs ≡ Err r → slice_get rs 0 ≡ Some r
+first_unless t r [] e = absurd (cc)
+first_unless t r (q ∷ qs) e = ap Some (ap (refusal_or r) e)
+
+first_in : (c : Command) (read : Result text.Raw Refusal) (r : Refusal) → checked_for c read ≡ Err r → slice_get (broken_in c read) 0 ≡ Some r
+unfolding checked_for broken_in
+first_in c (Err q) r e = ap Some (ap (refusal_or r) e)
+first_in c (Ok t) r e = first_unless t r (broken_for c t) e
+
+-- ---- what a done command, and a refused one, tell
+
+module _ (c : Command) (items : List ℕ) (left left' : Option (List ℕ)) (result : Status) (old new : SinkState)
+    (took : left ≡ before_known items left') (whole : length items ≤ most_bytes → AtEnd left') (d : Delivers (answer_of_bytes c items) result old new) where
+  -- what is due to the image
+  told : (status : Status) → (status ≡ (answer_of_bytes c items).0) × (new.written ≡ after_known old.written (answer_of_bytes c items).1) → length items ≤ most_bytes
+      → (status ≡ (answer_unless_broken c (image_for c items)).0) × (new.written ≡ after_known old.written (answer_unless_broken c (image_for c items)).1)
+  told status due few =
+      let is = image_due items c few in
+      (due.0 ∙ ap (λ (a : Answer). a.0) is, due.1 ∙ ap (λ (a : Answer). after_known old.written a.1) is)
+
+  pub refuses : result ≡ Refused → Refuses c left left' old.written new.written
+  unfolding image_for
+  refuses refused =
+      let few = refused_reads c items result old new d refused in
+      let t = told Refused (subst (λ s. Writes s (answer_of_bytes c items) old.written new.written) refused d.wrote) few in
+      let (r, broken, is) = refused_image c (image_for c items) t.0 in
+      record {
+        all = record { bytes = items; took = took; whole = whole few; few = few };
+        item = r;
+        first = first_in c (text.image_of items) r broken;
+        wrote = t.1 ∙ ap (λ (a : Answer). after_known old.written a.1) is;
+      }
+
+  pub done_found : result ≡ Done → (i : Image) × Found c (text.image_of items) i × (new.written ≡ after_known old.written (answer_of_image c i).1)
+  unfolding image_for
+  done_found done =
+      let t = told Done (done_is_due (answer_of_bytes c items) result old new d done) (done_reads c items result old new d done) in
+      let (i, read, is) = done_image c (image_for c items) t.0 in
+      (i, found_in c (text.image_of items) i read, t.1 ∙ ap (λ (a : Answer). after_known old.written a.1) is)
+
+pub accepts : (items : List ℕ) (left left' : Option (List ℕ)) (result : Status) (old new : SinkState)
+    → left ≡ before_known items left' → (length items ≤ most_bytes → AtEnd left') → Delivers (answer_of_bytes Check items) result old new → result ≡ Done
+    → Accepts left left' old.written new.written
+unfolding answer_of_image broken_for
+accepts items left left' result old new took whole d done =
+    let few = done_reads Check items result old new d done in
+    let (i, found, wrote) = done_found Check items left left' result old new took whole d done in
+    record {
+      all = record { bytes = items; took = took; whole = whole few; few = few };
+      record_of = found.record_of;
+      read = found.is;
+      unbroken = found.unbroken;
+      wrote = wrote;
+    }
+
+pub bounds : (items : List ℕ) (left left' : Option (List ℕ)) (result : Status) (old new : SinkState)
+    → left ≡ before_known items left' → (length items ≤ most_bytes → AtEnd left') → Delivers (answer_of_bytes Bound items) result old new → result ≡ Done
+    → Bounds left left' old.written new.written
+unfolding answer_of_image broken_for public_of
+bounds items left left' result old new took whole d done =
+    let few = done_reads Bound items result old new d done in
+    let (i, found, wrote) = done_found Bound items left left' result old new took whole d done in
+    record {
+      all = record { bytes = items; took = took; whole = whole few; few = few };
+      record_of = found.record_of;
+      read = found.is;
+      unbroken = found.unbroken;
+      wrote = wrote ∙ ap (λ (j : Image). after_known old.written (bound_text (bound_in_parts (shape_of j.all.hardware)))) found.image;
+    }
 
 pub ran : (n : ℕ) (items : List ℕ) (left left' : Option (List ℕ)) (result : Status) (old new : SinkState)
     → left ≡ before_known items left' → (length items ≤ most_bytes → AtEnd left') → Delivers (answer_of_bytes (Run n) items) result old new → result ≡ Done
     → (r : ReadsImage left left') × (new.written ≡ after_known old.written (report r.found n))
+unfolding image image_for answer_of_image
 ran n items left left' result old new took whole d done =
     let few = done_reads (Run n) items result old new d done in
     let due = done_is_due (answer_of_bytes (Run n) items) result old new d done in
-    let (i, read, is) = done_image n (image items) (due.0 ∙ ap (λ (a : Answer). a.0) (image_due items (Run n) few)) in (
-      record { bytes = items; found = i; took = took; whole = whole few; few = few; read = read },
+    let (i, read, is) = done_image (Run n) (image_for (Run n) items) (due.0 ∙ ap (λ (a : Answer). a.0) (image_due items (Run n) few)) in (
+      record { bytes = items; found = i; took = took; whole = whole few; few = few; read = sym (run_reads n (text.image_of items)) ∙ read },
       due.1 ∙ ap (λ (a : Answer). after_known old.written a.1) (image_due items (Run n) few ∙ is),
     )
 

@@ -1,11 +1,9 @@
 -- The report in its parts.
-use Rattle.std.proofs.Common.{◌≡◌, ℕ, List, ◌++◌, length, map, Some, ap, subst, arith}
+use Rattle.std.proofs.Common.{◌≡◌, ℕ, List, ◌++◌, length, Some, ap, arith}
 use Rattle.std.specs.Prelude.{slice_get}
 use Rattle.std.proofs.lemmas.List.{append-nil}
 use Rattle.std.proofs.lemmas.Option.{slice_get-get_or}
-use Rattle.image_check.specs.Public as spec
-use Rattle.image_check.specs.Models.{entry_model}
-use Rattle.image_check.specs.declared.public.Entry.{Entry}
+use Rattle.sched_table.specs.declared.schedule.Entry.{Entry}
 use Rattle.image_check.specs.Image.{Image, own_of}
 use Rattle.world_view.specs.Machine.{whole}
 use Rattle.world_view.specs.View.{View, view_whole}
@@ -21,11 +19,11 @@ unfolding section_of
 section_of_is i views d name v named seen = λ k. section d (named k) (seen k)
 
 -- the lines of what the code keeps of the switches
-pub kept_lines : (es : List spec.Entry) (entries : List Entry) (used : List Used) (us : List (ℕ × ℕ)) → map entry_model entries ≡ es → length used ≡ length entries → IsUsed used us → switches_text entries used ≡ switch_lines es us
-kept_lines es entries used us all same is =
-    subst (λ (xs : List spec.Entry). switches_text entries used ≡ switch_lines xs us) all (switches_text-lines entries used us (λ e within.
+pub kept_lines : (es : List Entry) (used : List Used) (us : List (ℕ × ℕ)) → length used ≡ length es → IsUsed used us → switches_text es used ≡ switch_lines es us
+kept_lines es used us same is =
+    switches_text-lines es used us (λ e within.
     let kept : slice_get used e ≡ Some (used_in used e) = slice_get-get_or used e no_used (omega arith) in
-    (is.largest e (used_in used e) kept, is.count e (used_in used e) kept)))
+    (is.largest e (used_in used e) kept, is.count e (used_in used e) kept))
 
 pub report_parts : (i : Image) (n : ℕ) → report i n ≡ sections i (λ d. view_whole i d n) ++ (switch_lines i.all.schedule (whole i n).used ++ end_text)
 unfolding report report_with

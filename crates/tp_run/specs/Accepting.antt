@@ -6,8 +6,12 @@ use Rattle.image_text.specs.declared.refusal.ReadRefusal.{ReadRefusal}
 use Rattle.image_text.specs.declared.refusal.ReadRefusal.TheVariants.{Broken, Memory}
 use Rattle.image_check.specs.Image.{Image, image_from}
 
+-- the first broken rule, unless memory ran out
+abbrev pub IsRefused : ReadRefusal → Result Image Refusal → Type 0
+IsRefused (Broken r) found = found ≡ Err r
+IsRefused Memory found = Unit {0}
+
 -- the image was found, or its first broken rule, unless memory ran out
-abbrev pub Accepts : Result text.Raw ReadRefusal → Result Image Refusal → Type 0
-Accepts (Ok i) found = found ≡ Ok (image_from i)
-Accepts (Err (Broken r)) found = found ≡ Err r
-Accepts (Err Memory) found = Unit {0}
+abbrev pub Accepting : Result text.Raw ReadRefusal → Result Image Refusal → Type 0
+Accepting (Ok i) found = found ≡ Ok (image_from i)
+Accepting (Err refusal) found = IsRefused refusal found

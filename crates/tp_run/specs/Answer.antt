@@ -3,12 +3,14 @@ use Rattle.std.specs.Prelude.{ℕ, nat_le, if◌then◌else◌, List, length, Op
 use Rattle.clap.specs.Words.{fault_of, subcommand_of}
 use Rattle.image_text.specs.declared.refusal.Refusal.{Refusal}
 use Rattle.image_check.specs.Image.{Image}
-use Rattle.world_view.specs.Reading.{most_bytes, image}
-use Rattle.tp_report.specs.Report.{report, usage_text, refusal_text, too_long_text}
+use Rattle.image_check.specs.Pads.{shape_of}
+use Rattle.world_view.specs.Reading.{most_bytes}
+use Rattle.tp_report.specs.Report.{report, bound_in_parts, bound_text, accepted_text, usage_text, refusal_text, too_long_text}
 use Rattle.tp_run.specs.declared.Command.{Command}
-use Rattle.tp_run.specs.declared.Command.TheVariants.{Run}
+use Rattle.tp_run.specs.declared.Command.TheVariants.{Check, Bound, Run}
 use Rattle.tp_run.specs.declared.status.Status.{Status}
 use Rattle.tp_run.specs.declared.status.Status.TheVariants.{Done, Refused, Usage, TooLong}
+use Rattle.tp_run.specs.Reading.{image_for}
 use Rattle.tp_run.specs.Words.{tp_app, asked_for, unless_faulty}
 
 -- ---- words
@@ -22,8 +24,10 @@ command words = unless_faulty (fault_of tp_app words) (asked_for (subcommand_of 
 abbrev pub Answer : Type 0
 Answer = Status × List ℕ
 
--- to an image that breaks no rule, by command
+-- to an image that breaks no rule, by command; where the bound is asked for, none but that of pads
 unfoldable pub answer_of_image : Command → Image → Answer
+answer_of_image Check i = (Done, accepted_text)
+answer_of_image Bound i = (Done, bound_text (bound_in_parts (shape_of i.all.hardware)))
 answer_of_image (Run n) i = (Done, report i n)
 
 unfoldable pub answer_unless_broken : Command → Result Image Refusal → Answer
@@ -32,7 +36,7 @@ answer_unless_broken c (Err r) = (Refused, refusal_text r)
 
 -- an image that is too long isn't read
 unfoldable pub answer_of_bytes : Command → List ℕ → Answer
-answer_of_bytes c bytes = if nat_le (length bytes) most_bytes then answer_unless_broken c (image bytes) else (TooLong, too_long_text)
+answer_of_bytes c bytes = if nat_le (length bytes) most_bytes then answer_unless_broken c (image_for c bytes) else (TooLong, too_long_text)
 
 unfoldable pub answer_by : Option Command → List ℕ → Answer
 answer_by None bytes = (Usage, usage_text)

@@ -1,21 +1,27 @@
 -- What the top call answers, and what it does to its source and its sink.
-use Rattle.std.specs.Prelude.{◌≡◌, ◌≢◌, ℕ, ◌+◌, ◌≤◌, ◌⊎◌, List, length, map, Option, Some, None, Ok, String, string_bytes}
+use Rattle.std.specs.Prelude.{◌≡◌, ◌≢◌, ℕ, ◌+◌, ◌≤◌, ◌⊎◌, List, [], length, map, slice_get, Option, Some, None, Ok, String, string_bytes}
 use Rattle.std.specs.Global.{Global}
 use Rattle.tp_io.specs.Bytes.{before_known, after_known, AtEnd, PutsFront}
 use Rattle.tp_io.specs.Causes.{TellsFault}
 use Rattle.tp_io.specs.Sends.{SinkState}
 use Rattle.tp_io.specs.Sure.{Exceeds}
-use Rattle.image_check.specs.Public.{entry_in}
+use Rattle.image_text.specs.declared.refusal.Refusal.{Refusal}
+use Rattle.image_text.specs.Record as text
+use Rattle.hardware_check.specs.Hardware.{hardware_of}
+use Rattle.image_check.specs.Checking.{broken, broken_but_pads}
+use Rattle.image_check.specs.Pads.{shape_of}
 use Rattle.image_check.specs.Image.{Image, own_of}
 use Rattle.world_view.specs.Reading.{most_bytes, image}
-use Rattle.world_view.specs.Schedule.{start}
+use Rattle.sched_table.specs.Schedule.{entry_in, start}
 use Rattle.world_view.specs.Machine.{switch, whole}
 use Rattle.world_view.specs.View.{view_whole, view_alone}
 use Rattle.world_view.specs.Relations.{IsDomain, AllWithinPads}
 use Rattle.world_view.specs.Used.{largest_of}
-use Rattle.tp_report.specs.Report.{report_apart, usage_text}
+use Rattle.tp_report.specs.Report.{report_apart, bound_in_parts, bound_text, accepted_text, usage_text, refusal_text}
+use Rattle.tp_run.specs.declared.Command.{Command}
 use Rattle.tp_run.specs.declared.status.Status.{Status}
 use Rattle.tp_run.specs.declared.status.Status.TheVariants.{Usage, ReadFault, WriteFault, Memory}
+use Rattle.tp_run.specs.Reading.{broken_in}
 use Rattle.tp_run.specs.Answer.{Answer, answer, command}
 
 -- the words of the command line, as bytes
@@ -65,6 +71,38 @@ pub record Answered (words : List (List ℕ)) (status : Status) (left left' writ
   pub whole : command words ≢ None → length bytes ≤ most_bytes → AtEnd left'
   pub few : length bytes ≤ most_bytes + 1
   pub wrote : Writes status (answer words bytes) written written'
+
+-- all that the source gave
+pub record ReadsAll (left left' : Option (List ℕ)) : Type 0 where
+  pub bytes : List ℕ
+  pub took : left ≡ before_known bytes left'
+  pub whole : AtEnd left'
+  pub few : length bytes ≤ most_bytes
+
+-- ---- rules
+
+-- it breaks a rule, and the first one is what was written; where the bound is asked for, that of pads is left out
+pub record Refuses (c : Command) (left left' written written' : Option (List ℕ)) : Type 0 where
+  pub all : ReadsAll left left'
+  pub item : Refusal
+  pub first : slice_get (broken_in c (text.image_of all.bytes)) 0 ≡ Some item
+  pub wrote : written' ≡ after_known written (refusal_text item)
+
+-- it breaks no rule, and that is what was written
+pub record Accepts (left left' written written' : Option (List ℕ)) : Type 0 where
+  pub all : ReadsAll left left'
+  pub record_of : text.Raw
+  pub read : text.image_of all.bytes ≡ Ok record_of
+  pub unbroken : broken record_of ≡ []
+  pub wrote : written' ≡ after_known written accepted_text
+
+-- it breaks no rule but that of pads, and the bound on its machine's switches is what was written
+pub record Bounds (left left' written written' : Option (List ℕ)) : Type 0 where
+  pub all : ReadsAll left left'
+  pub record_of : text.Raw
+  pub read : text.image_of all.bytes ≡ Ok record_of
+  pub unbroken : broken_but_pads record_of ≡ []
+  pub wrote : written' ≡ after_known written (bound_text (bound_in_parts (shape_of (hardware_of record_of))))
 
 -- ---- a run that was done
 

@@ -1,5 +1,5 @@
 -- The words of the command line: the program's command, as clap reads it, and what its matches ask for.
-use Rattle.std.specs.Prelude.{ℕ, ◌≤◌, pos, true, if◌then◌else◌, List, [], ◌∷◌, codes, fold, Option, Some, None}
+use Rattle.std.specs.Prelude.{ℕ, ◌≤◌, ⊤, pos, true, if◌then◌else◌, List, [], ◌∷◌, codes, fold, Option, Some, None}
 use Rattle.std.specs.Str.{bytes_eq}
 use Rattle.std.specs.Str.Parse.{digits_value, without_leading_plus}
 use Rattle.clap.specs.Words.{App, Rule, Row, Shape, Text, Kinds, new_app, new_rule, with_rule, with_subcommand, one_of}
@@ -8,7 +8,7 @@ use Rattle.clap.specs.ValueTests.{is_unsigned_in}
 use Rattle.clap.specs.declared.builder.action.ArgAction.TheVariants.{Set}
 use Rattle.clap.specs.declared.builder.value_parser.ValueParser.TheVariants as vp
 use Rattle.tp_run.specs.declared.Command.{Command}
-use Rattle.tp_run.specs.declared.Command.TheVariants.{Run}
+use Rattle.tp_run.specs.declared.Command.TheVariants.{Check, Bound, Run}
 use Rattle.tp_run.specs.Partial.{◌>>=◌, ◌>>◌, when}
 
 -- ---- the program's command
@@ -22,6 +22,12 @@ slots_rule = record (new_rule (codes "slots")) {
   parser = Some (vp.Signed (pos 0) (pos 65536));
 }
 
+abbrev pub check_app : App
+check_app = new_app (codes "check")
+
+abbrev pub bound_app : App
+bound_app = new_app (codes "bound")
+
 abbrev pub run_app : App
 run_app = with_rule (new_app (codes "run")) slots_rule
 
@@ -32,7 +38,9 @@ required s = record s { subcommand_required = true }
 -- `tp`, with its subcommands
 unfoldable pub tp_app : App
 tp_app = fold with_subcommand (on_top required (new_app (codes "tp"))) (
-    run_app.top
+    check_app.top
+    ∷ bound_app.top
+    ∷ run_app.top
     ∷ [])
 
 -- ---- what its matches ask for
@@ -55,7 +63,11 @@ never_asked = Run 0
 
 -- what a subcommand asks for, by its name and what was found for its options: one case for each
 abbrev pub asked_by : Text → List Row → Command
-asked_by name rows = if bytes_eq name (codes "run") then Run (or_zero (slots_in rows)) else never_asked
+asked_by name rows =
+    if bytes_eq name (codes "check") then Check
+    else if bytes_eq name (codes "bound") then Bound
+    else if bytes_eq name (codes "run") then Run (or_zero (slots_in rows))
+    else never_asked
 
 abbrev pub asked_for : Option (Text × List Row) → Command
 asked_for None = never_asked
@@ -70,4 +82,6 @@ unless_faulty (k ∷ ks) asked = None
 
 -- its slots are at most 65,536
 abbrev pub RunsFewSlots : Command → Type 0
+RunsFewSlots Check = ⊤
+RunsFewSlots Bound = ⊤
 RunsFewSlots (Run n) = n ≤ 65536

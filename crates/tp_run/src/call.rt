@@ -1,26 +1,29 @@
 // The top call.
 ghost use Rattle.std.specs.Prelude.{◌≡◌, ◌≢◌, ◌<◌, ◌≤◌, ◌-◌, ◌^◌, ◌⊎◌};
-ghost use Rattle.std.specs.Prelude.{List, ℕ, Some, None, length, OnOk, OnErr};
+ghost use Rattle.std.specs.Prelude.{List, ℕ, Some, None, Result, length, OnOk, OnErr};
 ghost use Rattle.tp_io.specs.Bytes.{AtEnd};
 ghost use Rattle.tp_io.specs.Causes.{TellsFault};
 ghost use Rattle.tp_io.specs.Sink.{state};
-ghost use Rattle.image_check.specs.Image.{image_from};
-ghost use Rattle.world_view.specs.Reading.{image};
+ghost use Rattle.image_text.specs.declared.refusal.Refusal.{Refusal};
+ghost use Rattle.image_check.specs.Image.{Image};
 ghost use Rattle.tp_run.specs.Answer as spec;
 ghost use Rattle.tp_run.specs.TopCall.{Writes, EndsUsage, Delivers, ComesTo, Answered, IsOver};
 ghost use Rattle.tp_run.specs.TopCall.{Isolated, Padded, words_of};
-ghost use Rattle.tp_run.specs.Accepting.{Accepts};
+ghost use Rattle.tp_run.specs.TopCall.{Refuses, Accepts, Bounds};
+ghost use Rattle.tp_run.specs.Accepting.{Accepting, IsRefused};
+ghost use Rattle.tp_run.specs.Reading.{image_for};
 ghost use Rattle.tp_run.specs.Words.{RunsFewSlots};
 
 use crate::run::run_image;
 use crate::words::command;
 use crate::{Command, Status};
-use image_check::{CheckRefusal, Checked, check};
+use image_check::{CheckRefusal, Checked, Unpadded, check, check_but_pads};
 use image_text::read_image;
+use pad_bound::bound;
 use std::alloc::Global;
 use tp_base::Memory;
 use tp_io::{Failed, ReadError, Sink, Source, read_within};
-use tp_report::{write_refusal, write_too_long, write_usage};
+use tp_report::{write_accepted, write_bound, write_refusal, write_too_long, write_usage};
 
 /// The most bytes of an image.
 const MOST_BYTES: usize = 1_048_576;
@@ -75,6 +78,15 @@ pub fn tp_main<S: Source, K: Sink>(
         → length (spec.answer (words_of words.now) bytes).1 ≤ room
         → ComesTo (spec.answer (words_of words.now) bytes) result ⊎ (result ≡ Status.ReadFault) }
 
+    // A broken rule is named, and the first one; where there is none, that is said, or the bound.
+    ensures refused { (c : Command)
+        → spec.command (words_of words.now) ≡ Some c → result ≡ Status.Refused
+        → Refuses c (S.left src.old) (S.left src.new) (K.written out.old) (K.written out.new) }
+    ensures accepted { spec.command (words_of words.now) ≡ Some Command.Check → result ≡ Status.Done
+        → Accepts (S.left src.old) (S.left src.new) (K.written out.old) (K.written out.new) }
+    ensures bound { spec.command (words_of words.now) ≡ Some Command.Bound → result ≡ Status.Done
+        → Bounds (S.left src.old) (S.left src.new) (K.written out.old) (K.written out.new) }
+
     // A run that is done: what each domain's section says, that domain alone says; no switch overran its pad.
     ensures isolation { (slots : ℕ)
         → spec.command (words_of words.now) ≡ Some (Command.Run slots) → result ≡ Status.Done
@@ -105,34 +117,85 @@ fn answer_bytes<K: Sink>(alloc: Global, command: Command, bytes: &[u8], out: &mu
     if bytes.len() > MOST_BYTES {
         return status_unless_failed(Status::TooLong, write_too_long(out));
     }
+    match command {
+        Command::Check => answer_check(alloc, bytes, out),
+        Command::Bound => answer_bound(alloc, bytes, out),
+        Command::Run { slots } => answer_run(alloc, bytes, slots, out),
+    }
+}
+
+// Whether the image that bytes are breaks no rule.
+fn answer_check<K: Sink>(alloc: Global, bytes: &[u8], out: &mut K) -> Status
+    ensures delivers { Delivers
+        (spec.answer_unless_broken Command.Check (image_for Command.Check bytes.now))
+        result (state K.Sink out.old) (state K.Sink out.new) }
+{
     match accepted(alloc, bytes) {
-        Ok(image) => answer_image(alloc, command, &image, out),
-        Err(CheckRefusal::Memory) => Status::Memory,
-        Err(CheckRefusal::Broken(refusal)) => {
-            status_unless_failed(Status::Refused, write_refusal(out, &refusal))
+        Ok(_image) => status_unless_failed(Status::Done, write_accepted(out)),
+        Err(refusal) => refuse(&refusal, out),
+    }
+}
+
+// The bound of the image that bytes are, where it breaks no rule but that of pads.
+fn answer_bound<K: Sink>(alloc: Global, bytes: &[u8], out: &mut K) -> Status
+    ensures delivers { Delivers
+        (spec.answer_unless_broken Command.Bound (image_for Command.Bound bytes.now))
+        result (state K.Sink out.old) (state K.Sink out.new) }
+{
+    match accepted_but_pads(alloc, bytes) {
+        Ok(image) => {
+            let bound = bound(&image.shape());
+            status_unless_failed(Status::Done, write_bound(out, &bound))
+        }
+        Err(refusal) => refuse(&refusal, out),
+    }
+}
+
+// A run of the image that bytes are, where it breaks no rule.
+fn answer_run<K: Sink>(alloc: Global, bytes: &[u8], slots: u32, out: &mut K) -> Status
+    requires few { slots ≤ 65536 }
+    ensures delivers { Delivers
+        (spec.answer_unless_broken (Command.Run slots) (image_for (Command.Run slots) bytes.now))
+        result (state K.Sink out.old) (state K.Sink out.new) }
+{
+    match accepted(alloc, bytes) {
+        Ok(image) => run_image(alloc, &image, slots, out),
+        Err(refusal) => refuse(&refusal, out),
+    }
+}
+
+// Names the rule that is broken, unless memory ran out.
+fn refuse<K: Sink>(refusal: &CheckRefusal, out: &mut K) -> Status
+    ensures delivers { (c : Command) (found : Result Image Refusal) → IsRefused refusal.now found
+        → Delivers (spec.answer_unless_broken c found) result (state K.Sink out.old) (state K.Sink out.new) }
+{
+    match refusal {
+        CheckRefusal::Memory => Status::Memory,
+        CheckRefusal::Broken(refusal) => {
+            status_unless_failed(Status::Refused, write_refusal(out, refusal))
         }
     }
 }
 
-// Answers an image that breaks no rule, by command.
-#[tactic(auto, unfolding(crate::specs::Answer::answer_of_image))]
-fn answer_image<K: Sink>(alloc: Global, command: Command, image: &Checked, out: &mut K) -> Status
-    requires range { RunsFewSlots command }
-    ensures delivers { Delivers (spec.answer_of_image command (image_from image.now))
-        result (state K.Sink out.old) (state K.Sink out.new) }
-{
-    match command {
-        Command::Run { slots } => run_image(alloc, image, slots, out),
-    }
-}
-
 // The image that bytes are, where it breaks no rule.
-#[tactic(auto, unfolding(world_view::specs::Reading::image, world_view::specs::Reading::checked))]
+#[tactic(auto, unfolding(crate::specs::Reading::image_for, crate::specs::Reading::checked_for))]
 fn accepted(alloc: Global, bytes: &[u8]) -> Result<Checked, CheckRefusal>
-    ensures accepts { Accepts result (image bytes.now) }
+    ensures check { Accepting result (image_for Command.Check bytes.now) }
+    ensures run { (slots : ℕ) → Accepting result (image_for (Command.Run slots) bytes.now) }
 {
     match read_image(alloc, bytes) {
         Ok(raw) => check(alloc, raw),
+        Err(refusal) => Err(refusal),
+    }
+}
+
+// The image that bytes are, where it breaks no rule but that of pads.
+#[tactic(auto, unfolding(crate::specs::Reading::image_for, crate::specs::Reading::checked_for))]
+fn accepted_but_pads(alloc: Global, bytes: &[u8]) -> Result<Unpadded, CheckRefusal>
+    ensures accepts { Accepting result (image_for Command.Bound bytes.now) }
+{
+    match read_image(alloc, bytes) {
+        Ok(raw) => check_but_pads(alloc, raw),
         Err(refusal) => Err(refusal),
     }
 }

@@ -1,4 +1,4 @@
-//! The top call: words and an image in, a report and a status out.
+//! The top call: words and an image in, a text and a status out.
 #![tactic(auto)]
 
 mod call;
@@ -12,6 +12,10 @@ pub use status::Status;
 /// What the words of the command line ask for.
 #[derive(Clone, Copy, Debug, PartialEq, Eq)]
 pub enum Command {
+    /// Test the image's rules.
+    Check,
+    /// Tell the most cycles that a domain switch of the image's machine can use.
+    Bound,
     /// Run the image for so many slots, 0 to 65,536.
     Run { slots: u32 },
 }

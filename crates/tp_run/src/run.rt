@@ -39,7 +39,7 @@ fn write_report<K: Sink>(out: &mut K, machine: &Machine<'_>) -> Result<(), Faile
 {
     write_sections(out, machine)?;
     let public = machine.image.public();
-    write_switches(out, public.schedule.as_slice(), machine.all_used())?;
+    write_switches(out, &public.schedule, machine.all_used())?;
     write_end(out)
 }
 

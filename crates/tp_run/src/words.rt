@@ -33,9 +33,10 @@ fn tp_command<'a>(alloc: Global) -> Result<clap::Command<'a>, AllocError>
     ensures app { IfOk result (λ c. app_of c ≡ spec.tp_app) }
 {
     let run = run_command(alloc)?;
-    clap::Command::new(alloc, "tp")
-        .subcommand_required(true)
-        .subcommand(run)
+    let top = clap::Command::new(alloc, "tp").subcommand_required(true);
+    let one = top.subcommand(clap::Command::new(alloc, "check"))?;
+    let two = one.subcommand(clap::Command::new(alloc, "bound"))?;
+    two.subcommand(run)
 }
 
 fn run_command<'a>(alloc: Global) -> Result<clap::Command<'a>, AllocError>
@@ -57,6 +58,8 @@ fn asked(matches: &ArgMatches<'_>) -> Command
     ensures range { RunsFewSlots result }
 {
     match matches.subcommand() {
+        Some(("check", _)) => Command::Check,
+        Some(("bound", _)) => Command::Bound,
         Some(("run", found)) => Command::Run {
             slots: slots_in(found).unwrap_or(0),
         },

@@ -1,5 +1,6 @@
 -- Actions of a domain from memories that are beside: one law of `>>=`, one of each primitive, and one line for each definition.
-use Rattle.std.proofs.Common.{◌≡◌, ℕ, cond, eqb, ◌/◌, ◌⊎◌, List, [], ◌∷◌, ◌++◌, Option, length, Some, None, Result, Ok, Err, ap, ap₂, refl, sym, ◌∙◌, subst, inl, inr, true≢false, mod-lt, lit<}
+use Rattle.std.proofs.Common.{◌≡◌, ℕ, cond, eqb, ◌/◌, ◌⊎◌, List, [], ◌∷◌, ◌++◌, Option, Bool, All, length, Some, None, Result, Ok, Err, ap, ap₂, refl, sym, ◌∙◌, subst, inl, inr, true≢false, mod-lt, lit<}
+use Rattle.std.proofs.lemmas.List.Elements.{All-nil, All-cons, All-head, All-tail}
 use Rattle.std.proofs.Math.Arith.{digits_div}
 use Rattle.tp_base.specs.Table.{empty, at, put, at-put}
 use Rattle.tp_base.specs.Act.{Done, go_on, ◌>>=◌, ◌>>◌, give, stop, note, either}
@@ -27,12 +28,15 @@ use Rattle.image_check.specs.Own.{Own}
 use Rattle.world_view.specs.Frames.{own_frame}
 use Rattle.world_view.specs.Kernel.{estate, layout}
 use Rattle.world_view.specs.Instruction.{stopped, trapped, retired_at, read_out}
-use Rattle.world_view.specs.Cost.{Touch}
-use Rattle.world_view.specs.Cost.Touch.{Look, Fetch, Load, Store as StoreTouch}
-use Rattle.world_view.specs.Event.{Storage, Act, touch, found, fault_code, frame_or_stop, translate, address_in, read, write, unless, load, store, loaded, noted, settle, execute, call_touches, make_call, perform, instruction}
-use Rattle.world_view.specs.Relations.{IsOwnFrame, IsOwnAddress, May, MayAll, IsKernel, HasFacts, BesideStorage}
+use Rattle.mem_system.specs.Cost.{Touch, Fetch, Load, Store as StoreTouch, Branch}
+use Rattle.mem_system.specs.Translation.{lines_of, look_of}
+use Rattle.cache_sharing.specs.Sharing.{IsOwnLine, MayTouch}
+use Rattle.world_view.specs.Cost.{hierarchy, region, own_colour}
+use Rattle.world_view.specs.Event.{Storage, Act, touch, fault_code, frame_or_stop, translate, address_in, line_in, read, write, unless, load, store, loaded, noted, guessed, settle, execute, call_touches, make_call, perform, instruction}
+use Rattle.world_view.specs.Relations.{IsOwnFrame, MayAll, IsKernel, HasFacts, BesideStorage}
 use Rattle.world_view.proofs.TableLaws.{IsPage, walkable, own_reads, own_page, walk_alike, mine_own, own_mine, not_mine}
 use Rattle.world_view.proofs.KernelTouches.{may_append, call_may}
+use Rattle.world_view.proofs.Lines.{own_address}
 
 -- what is known of the value and of what is left, if there is a value; else the facts of the domain with which it ended
 abbrev pub Known : {A : Type 0} → Hardware → Own → (A → Storage → Type 0) → Dom ⊎ A → Storage → Type 0
@@ -46,7 +50,7 @@ facts_of p o d x s e h = record {
   facts = subst (λ (caps : Slots). Facts (estate p o).root (is_mine (estate p o)) (claims (estate p o) caps) s.mem) (sym e) h.facts;
 }
 
-module _ (p : Hardware) (o : Own) (d : Dom) (first : Storage) where
+module _ (p : Hardware) (o : Own) (kernel : IsKernel p o) (d : Dom) (first : Storage) where
   -- the same touches, all of them allowed, memories that are beside, and the same value, which meets P with what is left
   pub record Alike {A : Type 0} (P : A → Storage → Type 0) (r q : Done Storage Touch Dom A) : Type 0 where
     pub notes : r.notes ≡ q.notes
@@ -142,17 +146,25 @@ module _ (p : Hardware) (o : Own) (d : Dom) (first : Storage) where
   known_frame a va s (Ok leaf) held page = page leaf refl
   known_frame a va s (Err f) held page = facts_of p o d (stopped (fault_code a f) va d) s refl held
 
+  -- lines of addresses in own frames
+  own_lines : (addresses : List ℕ) → All (λ at. IsOwnFrame p o (at / 4096)) addresses → All (IsOwnLine (hierarchy p) (own_colour o)) (lines_of p.line addresses)
+  unfolding lines_of
+  own_lines [] all = All-nil (IsOwnLine (hierarchy p) (own_colour o))
+  own_lines (at ∷ addresses) all =
+      All-cons (IsOwnLine (hierarchy p) (own_colour o)) (at / p.line) (lines_of p.line addresses) (own_address p o kernel at (All-head (λ (x : ℕ). IsOwnFrame p o (x / 4096)) at addresses all))
+      (own_lines addresses (All-tail (λ (x : ℕ). IsOwnFrame p o (x / 4096)) at addresses all))
+
   -- the walk is the same in both memories, and comes to a page of the domain
   translate_near : (a : Access) (va : ℕ) → Near Held Page (translate p (estate p o).root d a va)
-  unfolding translate
+  unfolding translate look_of
   translate_near a va = record {
     runs = λ s k b h.
         let root = (estate p o).root in
         let tables = walkable p o d s.mem h in
         let same : walk s.mem p.frames root va a ≡ walk k.mem p.frames root va a = sym (walk_alike p o root (IsPage p o d s.mem) s.mem tables va a k.mem b.same) in
         record {
-          notes = ap (λ (w : Walk). Look (va / 4096) w.reads (found w.result) ∷ []) same;
-          may = (own_reads p o root (IsPage p o d s.mem) s.mem tables va a, tt);
+          notes = ap (λ (w : Walk). look_of p.line va w ∷ []) same;
+          may = (own_lines (walk s.mem p.frames root va a).reads (own_reads p o root (IsPage p o d s.mem) s.mem tables va a), tt);
           state = b;
           value = ap (λ (w : Walk). frame_or_stop d a va w.result) same;
           known = known_frame a va s (walk s.mem p.frames root va a).result h
@@ -165,21 +177,22 @@ module _ (p : Hardware) (o : Own) (d : Dom) (first : Storage) where
   unfolding address_in
   frame_of_address f va = digits_div f (mod-lt va (lit< tt))
 
-  own_address : (f va : ℕ) → IsOwnFrame p o f → IsOwnAddress p o (address_in f va)
-  own_address f va own = ap (own_frame p o) (frame_of_address f va) ∙ own
+  own_in : (f va : ℕ) → IsOwnFrame p o f → IsOwnLine (hierarchy p) (own_colour o) (line_in p f va)
+  unfolding line_in
+  own_in f va own = own_address p o kernel (address_in f va) (ap (own_frame p o) (frame_of_address f va) ∙ own)
 
-  touch_still : (H : Storage → Type 0) (t : Touch) → ((s : Storage) → H s → May p o t) → Near H (Still H) (touch t)
+  touch_still : (H : Storage → Type 0) (t : Touch) → ((s : Storage) → H s → MayTouch (hierarchy p) (own_colour o) (region p) t) → Near H (Still H) (touch t)
   unfolding touch note
   touch_still H t may = record { runs = λ s k b h. record { notes = refl; may = (may s h, tt); state = b; value = refl; known = h } }
 
-  fetch_page : (f va : ℕ) → Near (Page f) (Still (Page f)) (touch (Fetch (address_in f va)))
-  fetch_page f va = touch_still (Page f) (Fetch (address_in f va)) (λ s is. own_address f va is.page.own)
+  fetch_page : (f va : ℕ) → Near (Page f) (Still (Page f)) (touch (Fetch (line_in p f va)))
+  fetch_page f va = touch_still (Page f) (Fetch (line_in p f va)) (λ s is. own_in f va is.page.own)
 
-  load_page : (f va : ℕ) → Near (Page f) (Still (Page f)) (touch (Load (address_in f va)))
-  load_page f va = touch_still (Page f) (Load (address_in f va)) (λ s is. own_address f va is.page.own)
+  load_page : (f va : ℕ) → Near (Page f) (Still (Page f)) (touch (Load (line_in p f va)))
+  load_page f va = touch_still (Page f) (Load (line_in p f va)) (λ s is. inl (own_in f va is.page.own))
 
-  store_page : (f va : ℕ) → Near (Page f) (Still (Page f)) (touch (StoreTouch (address_in f va)))
-  store_page f va = touch_still (Page f) (StoreTouch (address_in f va)) (λ s is. own_address f va is.page.own)
+  store_page : (f va : ℕ) → Near (Page f) (Still (Page f)) (touch (StoreTouch (line_in p f va)))
+  store_page f va = touch_still (Page f) (StoreTouch (line_in p f va)) (λ s is. own_in f va is.page.own)
 
   read_page : (f i : ℕ) → Near (Page f) (Still (Page f)) (read f i)
   unfolding read word
@@ -221,14 +234,14 @@ module _ (p : Hardware) (o : Own) (d : Dom) (first : Storage) where
   unless_still (Some trap) = stop_at (Still Held) Held (trapped trap d) refl (λ s h. h)
 
   -- a kernel call does the same work in the domain's own frames, and keeps the facts
-  call_near : IsKernel p o → Near Held Ends (make_call (estate p o) (layout p o) d)
+  call_near : Near Held Ends (make_call p (estate p o) (layout p o) d)
   unfolding make_call
-  call_near kernel = record {
+  call_near = record {
     runs = λ s k b h.
         let e = estate p o in
         let c = calls_are_confined e d s.mem k.mem h (λ f mine. b.same f (mine_own p o f mine)) in
         record {
-          notes = ap (call_touches (layout p o) (register d.threads.current.regs 17)) c.notes;
+          notes = ap (call_touches p (layout p o) (register d.threads.current.regs 17)) c.notes;
           may = call_may p o kernel (register d.threads.current.regs 17) (call e d s.mem).notes c.work;
           state = record {
             same = λ f own. c.same f (own_mine p o f own);
@@ -241,21 +254,26 @@ module _ (p : Hardware) (o : Own) (d : Dom) (first : Storage) where
 
 ruleset near_rules = (bind_page, bind_still, bind_any, then_still, then_any, give_any, stop_stopped, translate_near, fetch_page, load_page, store_page, read_page, read_last, write_page, unless_still)
 
-module _ (p : Hardware) (o : Own) (d : Dom) (first : Storage) where
-  load_near : (width : LoadWidth) (va : ℕ) → Near p o d first (Held p o d first) (Any p o d first) (load p (estate p o).root d width va)
+module _ (p : Hardware) (o : Own) (kernel : IsKernel p o) (d : Dom) (first : Storage) where
+  load_near : (width : LoadWidth) (va : ℕ) → Near p o kernel d first (Held p o kernel d first) (Any p o kernel d first) (load p (estate p o).root d width va)
   unfolding load
   load_near width va = search near_rules depth 40
 
-  store_near : (s : Option StoreMade) → Near p o d first (Held p o d first) (Any p o d first) (store p (estate p o).root d s)
+  store_near : (s : Option StoreMade) → Near p o kernel d first (Held p o kernel d first) (Any p o kernel d first) (store p (estate p o).root d s)
   unfolding store
   store_near None = search near_rules depth 40
   store_near (Some s) = search near_rules depth 40
 
-  loaded_near : (t : ℕ) (i : Instr) → Near p o d first (Held p o d first) (Any p o d first) (loaded p (estate p o).root t d i)
+  loaded_near : (t : ℕ) (i : Instr) → Near p o kernel d first (Held p o kernel d first) (Any p o kernel d first) (loaded p (estate p o).root t d i)
   unfolding loaded
   loaded_near t (instr.Load width rd rs1 offset) = load_near width _
   loaded_near t (instr.ReadCounter counter rd) = search near_rules depth 40
   loaded_near t _ = search near_rules depth 40
+
+  guessed_still : (i : Instr) (pc : ℕ) (taken : Bool) → Near p o kernel d first (Held p o kernel d first) (Still p o kernel d first (Held p o kernel d first)) (guessed i pc taken)
+  unfolding guessed
+  guessed_still (instr.Branch comparison rs1 rs2 offset) pc taken = touch_still p o kernel d first (Held p o kernel d first) (Branch pc taken) (λ s h. tt)
+  guessed_still _ pc taken = record { runs = (give_any p o kernel d first tt).runs }
 
   -- an instruction leaves the capabilities
   noted_caps : (i : Instr) (value : ℕ) → (noted i value d).caps ≡ d.caps
@@ -267,25 +285,26 @@ module _ (p : Hardware) (o : Own) (d : Dom) (first : Storage) where
   unfolding retired_at placed
   retired_caps next regs i value = noted_caps i value
 
-module _ (p : Hardware) (o : Own) (d : Dom) (first : Storage) where
-  settle_near : (i : Instr) (value : ℕ) (out : Outcome) → Near p o d first (Held p o d first) (Ends p o d first) (settle p (estate p o).root d i value out)
+module _ (p : Hardware) (o : Own) (kernel : IsKernel p o) (d : Dom) (first : Storage) where
+  settle_near : (i : Instr) (value : ℕ) (out : Outcome) → Near p o kernel d first (Held p o kernel d first) (Ends p o kernel d first) (settle p (estate p o).root d i value out)
   unfolding settle
   settle_near i value out =
-      then_still p o d first (Ends p o d first) (Held p o d first) _ _ (unless_still p o d first out.effect.trap)
-      (then_any p o d first (Ends p o d first) (Held p o d first) _ _ (store_near p o d first out.effect.store)
-      (give_ends p o d first _ (retired_caps p o d first out.effect.next out.regs i value)))
+      then_still p o kernel d first (Ends p o kernel d first) (Held p o kernel d first) _ _ (unless_still p o kernel d first out.effect.trap)
+      (then_still p o kernel d first (Ends p o kernel d first) (Held p o kernel d first) _ _ (guessed_still p o kernel d first i d.threads.current.pc out.effect.taken)
+      (then_any p o kernel d first (Ends p o kernel d first) (Held p o kernel d first) _ _ (store_near p o kernel d first out.effect.store)
+      (give_ends p o kernel d first _ (retired_caps p o kernel d first out.effect.next out.regs i value))))
 
-  execute_near : (t : ℕ) (i : Instr) → Near p o d first (Held p o d first) (Ends p o d first) (execute p (estate p o).root t d i)
+  execute_near : (t : ℕ) (i : Instr) → Near p o kernel d first (Held p o kernel d first) (Ends p o kernel d first) (execute p (estate p o).root t d i)
   unfolding execute
   execute_near t i = search (near_rules, loaded_near, settle_near) depth 40
 
-module _ (p : Hardware) (o : Own) (d : Dom) (first : Storage) (kernel : IsKernel p o) where
-  perform_near : (t : ℕ) (w : ℕ) (i : Option Instr) → Near p o d first (Held p o d first) (Ends p o d first) (perform p (estate p o) (layout p o) t d w i)
+module _ (p : Hardware) (o : Own) (kernel : IsKernel p o) (d : Dom) (first : Storage) where
+  perform_near : (t : ℕ) (w : ℕ) (i : Option Instr) → Near p o kernel d first (Held p o kernel d first) (Ends p o kernel d first) (perform p (estate p o) (layout p o) t d w i)
   unfolding perform
-  perform_near t w None = stop_stopped p o d first (Ends p o d first) 2 w
-  perform_near t w (Some instr.Ecall) = call_near p o d first kernel
-  perform_near t w (Some i) = execute_near p o d first t i
+  perform_near t w None = stop_stopped p o kernel d first (Ends p o kernel d first) 2 w
+  perform_near t w (Some instr.Ecall) = call_near p o kernel d first
+  perform_near t w (Some i) = execute_near p o kernel d first t i
 
-  pub instruction_near : (t : ℕ) → Near p o d first (Held p o d first) (Ends p o d first) (instruction p (estate p o) (layout p o) t d)
+  pub instruction_near : (t : ℕ) → Near p o kernel d first (Held p o kernel d first) (Ends p o kernel d first) (instruction p (estate p o) (layout p o) t d)
   unfolding instruction
   instruction_near t = search (near_rules, perform_near) depth 40

@@ -5,7 +5,7 @@ use Rattle.std.proofs.lemmas.Bool.{cases_Bool, cases_lt}
 use Rattle.std.proofs.lemmas.List.{get_or_past}
 use Rattle.std.proofs.lemmas.List.Sums.{sum_by-append}
 use Rattle.tp_base.specs.Table.{at, at-put_same, at-put_other}
-use Rattle.tp_base.specs.Act.{◌>>=◌, go_on, give, either}
+use Rattle.tp_base.specs.Act.{◌>>=◌, go_on, give}
 use Rattle.rv_decode.specs.declared.Instr.{Instr}
 use Rattle.rv_decode.specs.declared.Instr.TheVariants as instr
 use Rattle.rv_decode.specs.declared.Counter.{Counter}
@@ -15,19 +15,18 @@ use Rattle.sv32_walk.specs.Walk.{walk}
 use Rattle.hardware_check.specs.Hardware.{Hardware}
 use Rattle.image_check.specs.Own.{Own}
 use Rattle.image_check.specs.Image.{Image, own_of}
-use Rattle.world_view.specs.Schedule.{entry_of_slot, switch_entry, start, slot_end, last_end, outgoing}
+use Rattle.sched_table.specs.Schedule.{entry_of_slot, switch_entry, start, slot_end, last_end, outgoing}
 use Rattle.world_view.specs.Opening.{word_of, page_words}
 use Rattle.call_table.specs.Domain.{Dom, is_running}
 use Rattle.call_table.specs.Claims.{Estate}
 use Rattle.kernel_clone.specs.Footprints.{Layout}
 use Rattle.world_view.specs.Kernel.{opening_dom, estate, layout, no_dom}
-use Rattle.world_view.specs.Cost.{Touch, Caches, touched, and_then, touched_all}
-use Rattle.world_view.specs.Event.{Storage, Act, frame_or_stop, translate, loaded, noted, execute, perform, instruction, event}
-use Rattle.world_view.specs.Machine.{Local, paid, happened, step, stretch, World, dom_of, part_of, with_part, switch, run_slot, whole}
+use Rattle.mem_system.specs.Cost.{Touched}
+use Rattle.world_view.specs.Event.{Storage, Act, frame_or_stop, translate, loaded, noted, guessed, execute, perform, instruction, event}
+use Rattle.world_view.specs.Machine.{Local, paid, happened, step, stretch, World, dom_of, part_of, with_part, switch_work, switch, run_slot, whole}
 use Rattle.world_view.specs.Relations.{IsDomain}
 use Rattle.world_view.proofs.Separate.{Separated}
 use Rattle.world_view.proofs.OpeningLaws.{at-tabled, at-tabled_past, opening_dom_is}
-use Rattle.world_view.proofs.TimeLaws.{switch_free}
 use Rattle.world_view.specs.Used.{largest_of, count_of}
 
 -- ---- memory at its opening
@@ -123,25 +122,39 @@ perform-other p e l t d w instr.Fence other = refl
 perform-other p e l t d w instr.Ecall other = absurd (other refl)
 perform-other p e l t d w instr.Ebreak other = refl
 
--- touches are free
-touches_free : (p : Hardware) (pinned : Bool) (c : Caches) (ts : List Touch) → touched_all p pinned c ts ≡ record { cost = 0; caches = c }
-unfolding touched_all touched and_then
-touches_free p pinned c [] = refl
-touches_free p pinned c (t ∷ ts) = let rest = touches_free p pinned c ts in rw rest
+-- only a branch is guessed
+pub guessed-other : (i : Instr) (pc : ℕ) (taken : Bool) → ((c : _) (rs1 rs2 offset : ℕ) → i ≢ instr.Branch c rs1 rs2 offset) → guessed i pc taken ≡ give tt
+unfolding guessed
+guessed-other (instr.Branch comparison rs1 rs2 offset) pc taken other = absurd (other comparison rs1 rs2 offset refl)
+guessed-other (instr.ReadCounter c rd) pc taken other = refl
+guessed-other (instr.Lui rd imm) pc taken other = refl
+guessed-other (instr.Auipc rd imm) pc taken other = refl
+guessed-other (instr.Jal rd offset) pc taken other = refl
+guessed-other (instr.Jalr rd rs1 offset) pc taken other = refl
+guessed-other (instr.Load width rd rs1 offset) pc taken other = refl
+guessed-other (instr.Store width rs1 rs2 offset) pc taken other = refl
+guessed-other (instr.Immediate operation rd rs1 imm) pc taken other = refl
+guessed-other (instr.Register operation rd rs1 rs2) pc taken other = refl
+guessed-other instr.Fence pc taken other = refl
+guessed-other instr.Ecall pc taken other = refl
+guessed-other instr.Ebreak pc taken other = refl
 
-module _ (p : Hardware) (o : Own) (end : ℕ) (s : Local) where
+module _ (p : Hardware) (o : Own) (pinned : Bool) (end : ℕ) (s : Local) where
   pub step-running : is_running s.dom.status ≡ true
-      → step p o false end s ≡ record s { dom = either (instruction p (estate p o) (layout p o) s.clock s.dom s.storage).value; storage = (instruction p (estate p o) (layout p o) s.clock s.dom s.storage).state; clock = s.clock + p.base }
-  unfolding step event happened paid
-  step-running runs = rw (runs, touches_free p false s.caches (instruction p (estate p o) (layout p o) s.clock s.dom s.storage).notes, add-zero p.base)
+      → step p o pinned end s ≡ paid p pinned s.caches s.clock (instruction p (estate p o) (layout p o) s.clock s.dom s.storage)
+  unfolding step event happened
+  step-running runs = rw runs
 
-  pub step-still : is_running s.dom.status ≡ false → step p o false end s ≡ record s { clock = end }
+  pub step-still : is_running s.dom.status ≡ false → step p o pinned end s ≡ record s { clock = end }
   unfolding step event happened
   step-still still = rw still
 
--- ---- a switch, whose work is free
+-- ---- a switch
 
 module _ (i : Image) (k : ℕ) (w : World) where
+  abbrev pub work : Touched
+  work = switch_work i (outgoing i.all.schedule k) (entry_of_slot i.all.schedule k).domain w.caches
+
   pub switch-doms : (switch i k w).doms ≡ w.doms
   unfolding switch
   switch-doms = refl
@@ -150,13 +163,17 @@ module _ (i : Image) (k : ℕ) (w : World) where
   unfolding switch
   switch-storage = refl
 
-  pub switch-clock : (switch i k w).clock ≡ max w.clock (start i.all.schedule k)
+  pub switch-caches : (switch i k w).caches ≡ work.caches
   unfolding switch
-  switch-clock = rw (switch_free i (outgoing i.all.schedule k) (entry_of_slot i.all.schedule k).domain w.caches, add-zero w.clock)
+  switch-caches = refl
 
-  pub switch-used : (switch i k w).used ≡ w.used ++ (switch_entry i.all.schedule k, w.clock - last_end i.all.schedule k) ∷ []
+  pub switch-clock : (switch i k w).clock ≡ max (w.clock + work.cost) (start i.all.schedule k)
   unfolding switch
-  switch-used = rw (switch_free i (outgoing i.all.schedule k) (entry_of_slot i.all.schedule k).domain w.caches, add-zero w.clock)
+  switch-clock = refl
+
+  pub switch-used : (switch i k w).used ≡ w.used ++ (switch_entry i.all.schedule k, (w.clock + work.cost) - last_end i.all.schedule k) ∷ []
+  unfolding switch
+  switch-used = refl
 
   -- the domain of slot k as it begins, and as it ends
   abbrev pub slot_begun : Local
@@ -183,7 +200,11 @@ module _ (i : Image) (k : ℕ) (w : World) where
   unfolding run_slot with_part
   run_slot-clock = refl
 
-  pub run_slot-used : (run_slot i k w).used ≡ w.used ++ (switch_entry i.all.schedule k, w.clock - last_end i.all.schedule k) ∷ []
+  pub run_slot-caches : (run_slot i k w).caches ≡ slot_over.caches
+  unfolding run_slot with_part
+  run_slot-caches = refl
+
+  pub run_slot-used : (run_slot i k w).used ≡ w.used ++ (switch_entry i.all.schedule k, (w.clock + work.cost) - last_end i.all.schedule k) ∷ []
   unfolding run_slot with_part
   run_slot-used = switch-used
 

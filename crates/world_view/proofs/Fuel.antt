@@ -23,7 +23,20 @@ both false x z y f = refl
 pub is_over : (clock end : ℕ) → end ≤ clock → ltb clock end ≡ false
 is_over clock end h = le-ltb clock end h
 
-module _ (p : Hardware) (timed : 0 < p.base) (o : Own) (pinned : Bool) (end : ℕ) where
+-- what each step before the end keeps, any number of steps keeps
+module _ (p : Hardware) (o : Own) (pinned : Bool) (end : ℕ) (P : Local → Type 0)
+    (next : (s : Local) → s.clock < end → P s → P (step p o pinned end s)) where
+  by_if : (b : Bool) (n : ℕ) (s : Local) → ltb s.clock end ≡ b → P s → ((t : Local) → P t → P (steps p o pinned end n t))
+      → P (elim b [ true ↦ steps p o pinned end n (step p o pinned end s) | false ↦ s ])
+  by_if true n s t h rest = rest (step p o pinned end s) (next s (ltb-true s.clock end t) h)
+  by_if false n s t h rest = h
+
+  pub steps_by : (n : ℕ) (s : Local) → P s → P (steps p o pinned end n s)
+  unfolding steps
+  steps_by zero s h = h
+  steps_by (suc n) s h = by_if (ltb s.clock end) n s refl h (λ t. steps_by n t)
+
+module _ (p : Hardware) (timed : 0 < p.costs.base) (o : Own) (pinned : Bool) (end : ℕ) where
   later_if : (s : Local) (b : Bool) → s.clock < end → s.clock < (happened p o pinned s (cond b Run (Jump end))).clock
   unfolding happened paid
   later_if s true h = omega arith

@@ -1,22 +1,25 @@
--- What a kernel call touches: lines of the domain's own frames, and lines of the shared region.
-use Rattle.std.proofs.Common.{◌≡◌, ℕ, ◌<◌, ◌/◌, Bool, true, false, if◌then◌else◌, List, [], ◌∷◌, ◌++◌, length, map, slice_index, All, Some, inl, inr, ap, sym, subst, ◌∙◌, refl, zero, suc, arith}
+-- What a kernel operation touches: lines of the domain's own frames, and lines of the shared region.
+use Rattle.std.proofs.Common.{◌≡◌, ℕ, ◌<◌, ◌/◌, Bool, true, false, if◌then◌else◌, List, [], ◌∷◌, ◌++◌, length, map, slice_index, All, Some, inl, inr, ap, sym, subst, ◌∙◌, refl, zero, suc, arith, true≢false}
 use Rattle.std.proofs.lemmas.List.Elements.{All-head, All-tail}
 use Rattle.kernel_clone.specs.declared.Kind.{Kind}
 use Rattle.kernel_clone.specs.declared.Kind.TheVariants as kind
-use Rattle.kernel_clone.specs.Footprints.{WorkDone, LineTouch, touches}
-use Rattle.kernel_clone.specs.Laws.{frame_of, IsPlaced}
+use Rattle.kernel_clone.specs.Footprints.{WorkDone, LineTouch, touches, leave_op, enter_op}
+use Rattle.kernel_clone.specs.Laws.{frame_of, IsLoaded, IsPlaced}
 use Rattle.kernel_clone.proofs.PlaceLaws.{placed}
 use Rattle.kernel_clone.proofs.LineLaws.{entry_frame}
-use Rattle.call_table.specs.Calls.{Note, zeroed_in, entries_in, work_of}
+use Rattle.call_table.specs.Calls.{Note, zeroed_in, entries_in, empties, work_of}
 use Rattle.call_table.specs.Laws.{IsMine, IsOwnWork}
 use Rattle.hardware_check.specs.Hardware.{Hardware}
 use Rattle.image_check.specs.Own.{Own}
 use Rattle.world_view.specs.Kernel.{estate, layout}
-use Rattle.world_view.specs.Cost.{Touch}
-use Rattle.world_view.specs.Cost.Touch.{Line, Empty}
-use Rattle.world_view.specs.Event.{empties, call_touches}
-use Rattle.world_view.specs.Relations.{IsOwnFrame, IsKernel, IsKernelTouch, MayAll}
+use Rattle.mem_system.specs.Cost.{Touch, EmptyTlb}
+use Rattle.cache_sharing.specs.Operations.{touch_by, touch_of_line, footprint, operation, plain, leave, enter}
+use Rattle.cache_sharing.specs.Sharing.{IsShared, MayTouch, MayTouchAll}
+use Rattle.world_view.specs.Cost.{hierarchy, region, own_colour}
+use Rattle.world_view.specs.Event.{call_touches}
+use Rattle.world_view.specs.Relations.{IsOwnFrame, IsKernel, MayAll}
 use Rattle.world_view.proofs.TableLaws.{mine_own}
+use Rattle.world_view.proofs.Lines.{own_line, is_shared}
 
 pub may_append : (p : Hardware) (o : Own) (ts us : List Touch) → MayAll p o ts → MayAll p o us → MayAll p o (ts ++ us)
 may_append p o [] us h k = k
@@ -44,32 +47,54 @@ module _ (p : Hardware) (o : Own) where
   own_by f g e is = subst (IsOwnFrame p o) (sym e) is
 
   module _ (kernel : IsKernel p o) (w : WorkDone) (zeroed : (f : ℕ) → w.zeroed ≡ Some f → IsOwnFrame p o f)
-      (entries : (k : ℕ) → k < length w.entries → IsOwnFrame p o (slice_index w.entries k / 4096)) where
-    -- where a touch of the footprint lies, it may be made
-    may_line : (k : Kind) (line : ℕ) → IsPlaced (layout p o) w k line → IsKernelTouch p o (record { line = line; kind = k })
+      (entries : (k : ℕ) → k < length w.entries → IsOwnFrame p o (slice_index w.entries k / 4096))
+      (lines : List ℕ) (loads : (line : ℕ) → IsLoaded (layout p o) w.op line → IsShared lines line) where
+    in_frame : (line f : ℕ) → frame_of (layout p o) line ≡ f → IsOwnFrame p o f → MayTouch (hierarchy p) (own_colour o) lines (touch_by kind.Store line)
     unfolding layout
-    may_line kind.Fetch line (inl e) = inl (own_by _ _ e kernel.text)
-    may_line kind.Fetch line (inr e) = inl (own_by _ _ e kernel.more_text)
-    may_line kind.Load line h = inr (refl, h.colour)
-    may_line kind.Store line (inl e) = inl (own_by _ _ e kernel.stack)
-    may_line kind.Store line (inr (inl e)) = inl (own_by _ _ e kernel.data_frame)
-    may_line kind.Store line (inr (inr (inl e))) = inl (zeroed _ e)
-    may_line kind.Store line (inr (inr (inr e))) =
-        inl (own_by _ _ (ap (frame_of (layout p o)) e.2 ∙ entry_frame (layout p o) (slice_index w.entries e.0) kernel.has_layout) (entries e.0 e.1))
+    in_frame line f e own = own_line p o line (own_by _ f e own)
 
-    may_lines : (ts : List LineTouch) → All (λ t. IsPlaced (layout p o) w t.kind t.line) ts → MayAll p o (map Line ts)
+    -- where a touch of the footprint lies, it may be made
+    may_line : (k : Kind) (line : ℕ) → IsPlaced (layout p o) w k line → MayTouch (hierarchy p) (own_colour o) lines (touch_by k line)
+    may_line kind.Fetch line (inl e) = in_frame line _ e kernel.text
+    may_line kind.Fetch line (inr e) = in_frame line _ e kernel.more_text
+    may_line kind.Load line h = inr (loads line h)
+    may_line kind.Store line (inl e) = in_frame line _ e kernel.stack
+    may_line kind.Store line (inr (inl e)) = in_frame line _ e kernel.data_frame
+    may_line kind.Store line (inr (inr (inl e))) = in_frame line _ refl (zeroed _ e)
+    may_line kind.Store line (inr (inr (inr e))) =
+        in_frame line _ (ap (frame_of (layout p o)) e.2 ∙ entry_frame (layout p o) (slice_index w.entries e.0) kernel.has_layout) (entries e.0 e.1)
+
+    may_lines : (ts : List LineTouch) → All (λ t. IsPlaced (layout p o) w t.kind t.line) ts → MayTouchAll (hierarchy p) (own_colour o) lines (map touch_of_line ts)
     may_lines [] all = tt
     may_lines (t ∷ ts) all = (may_line t.kind t.line (All-head (λ (x : LineTouch). IsPlaced (layout p o) w x.kind x.line) t ts all), may_lines ts (All-tail (λ (x : LineTouch). IsPlaced (layout p o) w x.kind x.line) t ts all))
 
-  may_empty : (b : Bool) → MayAll p o (if b then Empty ∷ [] else [])
+    pub footprint_may : MayTouchAll (hierarchy p) (own_colour o) lines (footprint (layout p o) w)
+    unfolding footprint
+    footprint_may = may_lines (touches (layout p o) w) (placed (layout p o) w kernel.has_layout)
+
+  -- a domain leaves and enters: there nothing is loaded, whatever is shared
+  module _ (kernel : IsKernel p o) (lines : List ℕ) where
+    leave_loads : (line : ℕ) → IsLoaded (layout p o) leave_op line → IsShared lines line
+    leave_loads line loaded = absurd (true≢false loaded.call)
+
+    enter_loads : (line : ℕ) → IsLoaded (layout p o) enter_op line → IsShared lines line
+    enter_loads line loaded = absurd (true≢false loaded.call)
+
+    pub leave_may : MayTouchAll (hierarchy p) (own_colour o) lines (leave p.costs (layout p o))
+    unfolding leave operation
+    leave_may = (tt, footprint_may kernel (plain leave_op) (λ f is. absurd (cc is)) (λ k below. absurd (omega (arith, below))) lines leave_loads)
+
+    pub enter_may : MayTouchAll (hierarchy p) (own_colour o) lines (enter (layout p o))
+    unfolding enter
+    enter_may = footprint_may kernel (plain enter_op) (λ f is. absurd (cc is)) (λ k below. absurd (omega (arith, below))) lines enter_loads
+
+  may_empty : (b : Bool) → MayAll p o (if b then EmptyTlb ∷ [] else [])
   may_empty true = (tt, tt)
   may_empty false = tt
 
   pub call_may : IsKernel p o → (number : ℕ) (ns : List Note) → All (IsOwnWork (estate p o)) ns
-      → MayAll p o (call_touches (layout p o) number ns)
-  unfolding call_touches work_of
+      → MayAll p o (call_touches p (layout p o) number ns)
+  unfolding call_touches operation work_of
   call_may kernel number ns all =
-      let w = work_of number ns in
-      may_append p o _ _
-      (may_lines kernel w (own_zeroed ns all) (own_entries ns all) (touches (layout p o) w) (placed (layout p o) w kernel.has_layout))
-      (may_empty (empties ns))
+      let own : MayAll p o (operation p.costs (layout p o) (work_of number ns)) = (tt, footprint_may kernel (work_of number ns) (own_zeroed ns all) (own_entries ns all) (region p) (λ line h. is_shared p o h.shared.0 line h.shared.1 h.shared.2)) in
+      may_append p o (operation p.costs (layout p o) (work_of number ns)) (if empties ns then EmptyTlb ∷ [] else []) own (may_empty (empties ns))

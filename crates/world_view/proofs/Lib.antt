@@ -2,10 +2,14 @@ pub mod Fuel
 pub mod Counts
 pub mod PoolLaws
 pub mod Separate
+pub mod Hierarchies
+pub mod Geometries
 pub mod TableLaws
+pub mod Lines
 pub mod KernelTouches
 pub mod CostLaws
 pub mod ActLaws
+pub mod ActCosts
 pub mod StepLaws
 pub mod TimeLaws
 pub mod ClockLaws
@@ -14,6 +18,9 @@ pub mod OpeningLaws
 pub mod OpeningClaims
 pub mod OpeningFacts
 pub mod OpenedWalks
+pub mod FactsLaws
+pub mod ResidencyLaws
+pub mod SwitchParts
 pub mod SwitchLaws
 pub mod WholeLaws
 pub mod CodeLaws

@@ -3,7 +3,6 @@ use Rattle.std.proofs.Common.{◌≡◌, ℕ, suc, ◌+◌, ◌*◌, ◌/◌, �
 use Rattle.std.specs.Prelude.{nat_le, nat_lt}
 use Rattle.std.proofs.lemmas.Bool.{cases_Bool, cases_lt, ltb-true, and_parts}
 use Rattle.std.proofs.lemmas.Option.{none-some, same_Some}
-use Rattle.set_cache.proofs.Powers.{power_is}
 use Rattle.tp_base.specs.Table.{empty, at}
 use Rattle.phys_mem.specs.Mem.{Mem, Frame, word}
 use Rattle.sv32_walk.specs.PageTableEntry.{valid, table_word, leaf_word, vpn_0, vpn_1}
@@ -21,11 +20,13 @@ use Rattle.image_check.specs.Pages.{has_page, has_region, frames_in}
 use Rattle.world_view.specs.Frames.{pool, pool_frame, root_of, table_frame, page_frame, own_frame}
 use Rattle.world_view.specs.Opening.{root_entry, rights_in, rights_number, leaf_with, leaf_entry, placed}
 use Rattle.world_view.specs.Kernel.{first_regions, kept_pages, table_claim, fixed_claims, first_slots, estate, layout, opening_dom}
+use Rattle.world_view.specs.Cost.{own_colour}
 use Rattle.world_view.specs.Machine.{opening, alone_opening}
 use Rattle.world_view.specs.Relations.{IsDomain, IsKernel, HasFacts}
 use Rattle.world_view.proofs.Counts.{is_page, rights_there, rights_region, rights_are_good}
 use Rattle.world_view.proofs.PoolLaws.{pool_own, pool_inside}
 use Rattle.world_view.proofs.Separate.{Separated}
+use Rattle.world_view.proofs.Hierarchies.{bare_is, sharing_is}
 use Rattle.world_view.proofs.FactsSame.{facts_same}
 use Rattle.world_view.proofs.OpeningLaws.{at-tabled_past, root_whole, table_whole, root_words, table_words, root_some, root_is, opening_frames}
 use Rattle.world_view.proofs.OpeningClaims.{Fix, fix, fix_table, region_at, region_place, kept_at, Holds, holds_once, Case, case, place, stands, slots_long, frames_once, root_slot, table_slot, page_slot}
@@ -117,7 +118,7 @@ module _ (p : Hardware) (o : Own) (enough : frames_in o.segments ≤ length (poo
     is_layout : IsLayout (layout p o)
     unfolding layout
     is_layout = record {
-      power = power_is p.line h.line.power;
+      power = (bare_is p h).power;
       least_line = h.line.least;
       most_line = h.line.most;
       some_shared = h.some_shared;
@@ -131,15 +132,16 @@ module _ (p : Hardware) (o : Own) (enough : frames_in o.segments ≤ length (poo
       data_frame = frame_no 3 (omega (arith, enough));
     }
 
-    pub kernel_is : IsKernel p o
+    pub kernel_is : own_colour o 0 ≡ false → IsKernel p o
     unfolding layout
-    kernel_is = record {
+    kernel_is not_kernel = record {
       has_estate = is_estate;
       has_layout = is_layout;
       text = pool_own p o 0 (omega (arith, enough));
       more_text = pool_own p o 1 (omega (arith, enough));
       stack = pool_own p o 2 (omega (arith, enough));
       data_frame = pool_own p o 3 (omega (arith, enough));
+      shares = sharing_is p h o not_kernel;
     }
 
   -- ---- the facts of the memory in which the domain's tables and pages are placed
@@ -310,4 +312,4 @@ module _ (i : Image) (r : Separated i) where
       }
 
 pub kernel_of : (i : Image) → Separated i → (d : ℕ) → IsDomain i d → IsKernel i.all.hardware (own_of i d)
-kernel_of i r d is = kernel_is i.all.hardware (own_of i d) (r.enough d is) (r.sound d) r.hardware
+kernel_of i r d is = kernel_is i.all.hardware (own_of i d) (r.enough d is) (r.sound d) r.hardware (r.not_kernel d is)

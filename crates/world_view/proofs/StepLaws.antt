@@ -1,17 +1,22 @@
 -- Steps of the domain from states that are beside give states that are beside, at equal cost.
-use Rattle.std.proofs.Common.{◌≡◌, ℕ, Bool, true, false, ltb, zero, suc, ◌+◌, ◌-◌, ◌⊎◌, inl, inr, List, ap, refl, subst, subst₂}
+use Rattle.std.proofs.Common.{◌≡◌, ℕ, Bool, true, false, ltb, zero, suc, ◌+◌, ◌-◌, ◌⊎◌, inl, inr, List, ap, refl, subst, subst₂, ◌∙◌}
 use Rattle.tp_base.specs.Act.{either}
+use Rattle.phys_mem.specs.Mem.{frame_at}
 use Rattle.hardware_check.specs.Hardware.{Hardware}
 use Rattle.image_check.specs.Own.{Own}
 use Rattle.call_table.specs.Domain.{Dom}
+use Rattle.world_view.specs.Frames.{own_frame}
 use Rattle.world_view.specs.Kernel.{estate, layout}
-use Rattle.world_view.specs.Cost.{Touch, Caches, touched_all}
+use Rattle.mem_system.specs.Cost.{Touch, Caches, touched_all}
+use Rattle.cache_sharing.specs.Sharing.{AreApart, BesideTouched}
+use Rattle.world_view.specs.Cost.{hierarchy, region, own_colour}
 use Rattle.world_view.specs.Event.{Storage, instruction, Event, event}
 use Rattle.world_view.specs.Event.Event.{Jump, Run}
 use Rattle.world_view.specs.Machine.{Local, paid, happened, step, steps, stretch}
-use Rattle.world_view.specs.Relations.{IsKernel, HasFacts, BesideStorage, BesideCaches, BesideTouched, Beside}
-use Rattle.world_view.proofs.CostLaws.{touched_all_near}
-use Rattle.world_view.proofs.ActLaws.{Known, instruction_near}
+use Rattle.world_view.specs.Relations.{IsKernel, HasFacts, SameSets, MayAll, Resident, BesideStorage, BesideCaches, Beside}
+use Rattle.world_view.proofs.Fuel.{steps_by}
+use Rattle.world_view.proofs.CostLaws.{own_touches, own_resident, others_touches}
+use Rattle.world_view.proofs.ActLaws.{Known, Alike, instruction_near}
 
 both_if : (R : Local → Local → Type 0) (x y : Bool) → x ≡ y → (s t a b : Local) → R s a → R t b → R (elim x [ true ↦ s | false ↦ t ]) (elim y [ true ↦ a | false ↦ b ])
 both_if R true true e s t a b h k = h
@@ -32,16 +37,16 @@ module _ (p : Hardware) (o : Own) (end : ℕ) (first : Local) where
   unfolding happened paid
   happened_near d t s a c k (Jump u) kernel facts storage caches = record { kernel = kernel; dom = refl; facts = facts; storage = storage; caches = caches; clock = refl }
   happened_near d t s a c k Run kernel facts storage caches =
-      let n = (instruction_near p o d first.storage kernel t).runs s a storage facts in
+      let n = (instruction_near p o kernel d first.storage t).runs s a storage facts in
       let ts = (instruction p (estate p o) (layout p o) t d s).notes in
-      let r = subst (λ (us : List Touch). BesideTouched p o first.caches (touched_all p false c ts) (touched_all p true k us)) n.notes (touched_all_near p o first.caches ts c k n.may caches) in
+      let r = subst (λ (us : List Touch). BesideTouched (hierarchy p) (own_colour o) (region p) first.caches.l2 (touched_all (hierarchy p) false c ts) (touched_all (hierarchy p) true k us)) n.notes (own_touches p o kernel first.caches ts c k n.may caches) in
       record {
         kernel = kernel;
         dom = ap either n.value;
         facts = either_known p o (instruction p (estate p o) (layout p o) t d s).value (instruction p (estate p o) (layout p o) t d s).state n.known;
         storage = n.state;
         caches = r.caches;
-        clock = ap (λ x. t + (p.base + x)) r.cost;
+        clock = ap (λ x. t + (p.costs.base + x)) r.cost;
       }
 
   pub step_near : (s a : Local) → Beside p o first s a → Beside p o first (step p o false end s) (step p o true end a)
@@ -60,13 +65,97 @@ module _ (p : Hardware) (o : Own) (end : ℕ) (first : Local) where
   stretch_near s a b =
       subst (λ (t : ℕ). Beside p o first (stretch p o false end s) (steps p o true end (end - t) a)) b.clock (steps_near (end - s.clock) s a b)
 
--- a state is beside itself
-pub beside_itself : (p : Hardware) (o : Own) (s : Local) → IsKernel p o → HasFacts p o s.dom s.storage → Beside p o s s s
-beside_itself p o s kernel facts = record {
+-- ---- one machine's steps, whatever its caches hold
+
+-- the domain's facts hold, and outside its frames memory is as at first
+pub record Keeps (p : Hardware) (o : Own) (first : Storage) (s : Local) : Type 0 where
+  pub facts : HasFacts p o s.dom s.storage
+  pub outside : (f : ℕ) → own_frame p o f ≡ false → frame_at s.storage.mem f ≡ frame_at first.mem f
+
+module _ (p : Hardware) (o : Own) (kernel : IsKernel p o) where
+  -- an instruction beside itself
+  ran : (t : ℕ) (first : Storage) (s : Local) → Keeps p o first s
+      → Alike p o kernel s.dom first (λ x r. HasFacts p o x r) (instruction p (estate p o) (layout p o) t s.dom s.storage) (instruction p (estate p o) (layout p o) t s.dom s.storage)
+  ran t first s h = (instruction_near p o kernel s.dom first t).runs s.storage s.storage (record { same = λ f own. refl; outside = h.outside }) h.facts
+
+  -- it touches what it may
+  pub may_run : (t : ℕ) (s : Local) → HasFacts p o s.dom s.storage → MayAll p o (instruction p (estate p o) (layout p o) t s.dom s.storage).notes
+  may_run t s facts = (ran t s.storage s (record { facts = facts; outside = λ f out. refl })).may
+
+  keeps_if : (pinned : Bool) (first : Storage) (s : Local) (e : Event) → Keeps p o first s → Keeps p o first (happened p o pinned s e)
+  unfolding happened paid
+  keeps_if pinned first s (Jump t) h = record { facts = h.facts; outside = h.outside }
+  keeps_if pinned first s Run h =
+      let n = ran s.clock first s h in
+      record {
+        facts = either_known p o (instruction p (estate p o) (layout p o) s.clock s.dom s.storage).value (instruction p (estate p o) (layout p o) s.clock s.dom s.storage).state n.known;
+        outside = n.state.outside;
+      }
+
+  pub step_keeps : (pinned : Bool) (end : ℕ) (first : Storage) (s : Local) → Keeps p o first s → Keeps p o first (step p o pinned end s)
+  unfolding step
+  step_keeps pinned end first s h = keeps_if pinned first s (event end s.dom) h
+
+  pub steps_keep : (pinned : Bool) (end n : ℕ) (first : Storage) (s : Local) → Keeps p o first s → Keeps p o first (steps p o pinned end n s)
+  steps_keep pinned end n first s h = steps_by p o pinned end (Keeps p o first) (λ t below k. step_keeps pinned end first t k) n s h
+
+  -- what is shared stays in place
+  resident_if : (s : Local) (e : Event) → HasFacts p o s.dom s.storage → Resident p s.caches → Resident p (happened p o false s e).caches
+  unfolding happened paid
+  resident_if s (Jump t) facts resident = resident
+  resident_if s Run facts resident = own_resident p o kernel (instruction p (estate p o) (layout p o) s.clock s.dom s.storage).notes s.caches (may_run s.clock s facts) resident
+
+  record Resides (s : Local) : Type 0 where
+    keeps : Keeps p o s.storage s
+    resident : Resident p s.caches
+
+  resides : (end : ℕ) (s : Local) → Resides s → Resides (step p o false end s)
+  unfolding step
+  resides end s h = record {
+    keeps = record { facts = (keeps_if false s.storage s (event end s.dom) h.keeps).facts; outside = λ f out. refl };
+    resident = resident_if s (event end s.dom) h.keeps.facts h.resident;
+  }
+
+  pub steps_resident : (end n : ℕ) (s : Local) → HasFacts p o s.dom s.storage → Resident p s.caches → Resident p (steps p o false end n s).caches
+  steps_resident end n s facts resident =
+      (steps_by p o false end Resides (λ t below h. resides end t h) n s (record { keeps = record { facts = facts; outside = λ f out. refl }; resident = resident })).resident
+
+  -- and so do the sets of another domain
+  module _ (q : Own) (other : IsKernel p q) (apart : AreApart (own_colour q) (own_colour o)) where
+    others_if : (s : Local) (e : Event) → HasFacts p o s.dom s.storage → SameSets p q (happened p o false s e).caches s.caches
+    unfolding happened paid
+    others_if s (Jump t) facts = λ n own. refl
+    others_if s Run facts = others_touches p q other o (instruction p (estate p o) (layout p o) s.clock s.dom s.storage).notes s.caches apart (may_run s.clock s facts)
+
+    pub step_others : (end : ℕ) (s : Local) → HasFacts p o s.dom s.storage → SameSets p q (step p o false end s).caches s.caches
+    unfolding step
+    step_others end s facts = others_if s (event end s.dom) facts
+
+    record Spares (first : Caches) (s : Local) : Type 0 where
+      keeps : Keeps p o s.storage s
+      sets : SameSets p q s.caches first
+
+    pub steps_others : (end n : ℕ) (s : Local) → HasFacts p o s.dom s.storage → SameSets p q (steps p o false end n s).caches s.caches
+    steps_others end n s facts =
+        (steps_by p o false end (Spares s.caches)
+        (λ t below h. record {
+          keeps = record { facts = (step_keeps false end t.storage t h.keeps).facts; outside = λ f out. refl };
+          sets = λ m own. step_others end t h.keeps.facts m own ∙ h.sets m own;
+        }) n s (record { keeps = record { facts = facts; outside = λ f out. refl }; sets = λ m own. refl })).sets
+
+-- ---- a state and itself
+
+-- caches are beside themselves, where what is shared is in them
+pub caches_themselves : (p : Hardware) (o : Own) (c : Caches) → Resident p c → BesideCaches p o c c c
+caches_themselves p o c resident = record { core = refl; l2 = record { same = λ s own. refl; resident = resident; outside = λ s out kernel. refl } }
+
+-- and so is a state
+pub beside_itself : (p : Hardware) (o : Own) (s : Local) → IsKernel p o → HasFacts p o s.dom s.storage → Resident p s.caches → Beside p o s s s
+beside_itself p o s kernel facts resident = record {
   kernel = kernel;
   dom = refl;
   facts = facts;
   storage = record { same = λ f h. refl; outside = λ f h. refl };
-  caches = record { core = refl; same = tt; resident = tt };
+  caches = caches_themselves p o s.caches resident;
   clock = refl;
 }

@@ -1,6 +1,6 @@
 -- A domain's page tables, by the facts of its frames: walks of them stay in its own frames, and come to its pages.
 use Rattle.std.proofs.Common.{◌≡◌, ◌≢◌, ℕ, false, sym, ap, refl, ◌∙◌}
-use Rattle.std.specs.Prelude.{Ok, Err}
+use Rattle.std.specs.Prelude.{◌/◌, Ok, Err, All}
 use Rattle.tp_base.specs.Table.{at}
 use Rattle.phys_mem.specs.Mem.{Mem, Frame, frame_at, word}
 use Rattle.sv32_walk.specs.declared.access.Access.{Access}
@@ -19,7 +19,7 @@ use Rattle.hardware_check.specs.Hardware.{Hardware}
 use Rattle.image_check.specs.Own.{Own}
 use Rattle.world_view.specs.Frames.{own_frame, root_of}
 use Rattle.world_view.specs.Kernel.{estate}
-use Rattle.world_view.specs.Relations.{IsOwnFrame, SameFrames, AllOwn}
+use Rattle.world_view.specs.Relations.{IsOwnFrame, SameFrames}
 use Rattle.world_view.proofs.PoolLaws.{own_inside}
 
 -- ---- whose a frame is, to the kernel and to the machine
@@ -95,7 +95,7 @@ module _ (p : Hardware) (o : Own) (root : ℕ) (Page : ℕ → Type 0) (m : Mem)
 
 module _ (p : Hardware) (o : Own) (root : ℕ) (Page : ℕ → Type 0) (m : Mem) (w : Walkable p o root Page m) (va : ℕ) (a : Access) where
   -- a walk reads the domain's frames alone
-  pub own_reads : AllOwn p o (walk m p.frames root va a).reads
+  pub own_reads : All (λ at. IsOwnFrame p o (at / 4096)) (walk m p.frames root va a).reads
   own_reads = walk_reads m root p.frames w.map va a (IsOwnFrame p o) w.own_root w.tables
 
   -- and comes to a page of the domain

@@ -1,114 +1,125 @@
 -- When slots end and begin.
-use Rattle.std.proofs.Common.{◌≡◌, ℕ, Bool, true, false, cond, eqb, eqb-true, ltb, max, subst, zero, suc, ◌+◌, ◌-◌, ◌<◌, ◌≤◌, List, [], ◌∷◌, ◌++◌, Option, Some, None, refl, arith, ltb-true}
+use Rattle.std.proofs.Common.{◌≡◌, ℕ, Bool, true, false, cond, eqb, eqb-true, ltb, max, subst, sym, ap, ◌∙◌, zero, suc, ◌+◌, ◌-◌, ◌<◌, ◌≤◌, List, [], ◌∷◌, ◌++◌, length, refl, arith, ltb-true}
 use Rattle.std.proofs.lemmas.Bool.Decides.{nat_tests}
+use Rattle.std.proofs.lemmas.List.{length-replicate}
+use Rattle.std.specs.Prelude.{None}
+use Rattle.tp_base.specs.Table.{at-empty}
+use Rattle.set_cache.specs.Cache.{CacheSet, fresh_set}
+use Rattle.mem_system.specs.Cost.{Touched, cold, fresh_core}
+use Rattle.cache_sharing.specs.Worst.{HasWays}
+use Rattle.cache_sharing.proofs.Worst.{worst_law, on_time_law}
 use Rattle.hardware_check.specs.Hardware.{Hardware}
-use Rattle.image_check.specs.Public.{Entry, entry_in}
+use Rattle.sched_table.specs.declared.schedule.Entry.{Entry}
+use Rattle.sched_table.specs.Schedule.{entry_in}
 use Rattle.image_check.specs.Own.{Own}
 use Rattle.image_check.specs.Image.{Image, own_of}
-use Rattle.world_view.specs.Schedule.{entry_of_slot, pad_of, start, slot_end, last_end, outgoing}
+use Rattle.sched_table.proofs.Starts.{pad_law}
+use Rattle.sched_table.specs.Schedule.{entry_of_slot, pad_of, start, slot_end, last_end, outgoing}
 use Rattle.call_table.specs.Domain.{is_running}
-use Rattle.world_view.specs.Cost.{Caches, and_then}
-use Rattle.world_view.specs.Event.{event}
+use Rattle.world_view.specs.Kernel.{estate, layout}
+use Rattle.world_view.specs.Cost.{hierarchy}
+use Rattle.world_view.specs.Event.{event, instruction}
 use Rattle.world_view.specs.Event.Event.{Jump, Run}
-use Rattle.world_view.specs.Machine.{Local, World, paid, happened, step, steps, stretch, leave_part, prefetch_part, flush_part, enter_part, switch_work, with_part, part_of, switch, run_slot, opening, whole}
+use Rattle.world_view.specs.Machine.{Local, World, paid, happened, step, steps, stretch, clone_of, switch_work, with_part, part_of, switch, run_slot, opening, whole}
 use Rattle.world_view.specs.Used.{largest_of}
-use Rattle.world_view.specs.Relations.{bound, InTime, AllWithinPads}
+use Rattle.world_view.specs.Relations.{largest_step, bound, InTime, AllWithinPads}
 use Rattle.world_view.proofs.Separate.{Separated}
-use Rattle.world_view.proofs.Fuel.{step_later}
-use Rattle.world_view.proofs.CostLaws.{all_free}
+use Rattle.world_view.proofs.Fuel.{step_later, steps_by}
+use Rattle.world_view.proofs.ActCosts.{instruction_within}
+use Rattle.world_view.proofs.SwitchParts.{all_touches, switch_is}
 
-module _ (p : Hardware) (timed : 0 < p.base) (o : Own) (pinned : Bool) (end : ℕ) where
-  soon_if : (s : Local) (b : Bool) → s.clock < end → (happened p o pinned s (cond b Run (Jump end))).clock < end + p.base
+-- ---- a slot
+
+module _ (p : Hardware) (timed : 0 < p.costs.base) (o : Own) (pinned : Bool) (end : ℕ) where
+  -- the clock is past the end by less than the largest step, and the caches have their ways
+  pub record IsSoon (s : Local) : Type 0 where
+    pub clock : s.clock < end + largest_step p
+    pub ways : HasWays (hierarchy p) s.caches
+
+  soon_if : (s : Local) (b : Bool) → s.clock < end → HasWays (hierarchy p) s.caches → IsSoon (happened p o pinned s (cond b Run (Jump end)))
   unfolding happened paid
-  soon_if s true h = omega (arith, all_free p pinned)
-  soon_if s false h = omega arith
+  soon_if s true below ways =
+      let ts = (instruction p (estate p o) (layout p o) s.clock s.dom s.storage).notes in
+      let within = instruction_within p o s.clock s.dom s.storage in
+      let paid = worst_law (hierarchy p) pinned ts s.caches ways in
+      let cost = paid.cost in
+      record { clock = omega (arith, below, within, cost); ways = paid.ways }
+  soon_if s false below ways =
+      let within = instruction_within p o s.clock s.dom s.storage in
+      record { clock = omega (arith, timed, within); ways = ways }
 
-  -- a step that begins in time ends past the end by less than the base
-  step_soon : (s : Local) → s.clock < end → (step p o pinned end s).clock < end + p.base
+  -- a step that begins in time ends past the end by less than the largest step
+  step_soon : (s : Local) → s.clock < end → IsSoon s → IsSoon (step p o pinned end s)
   unfolding step event
-  step_soon s h = soon_if s (is_running s.dom.status) h
-
-  IsSoon : Local → Type 0
-  IsSoon s = s.clock < end + p.base
-
-  soon_step : (b : Bool) (n : ℕ) (s : Local) → ltb s.clock end ≡ b → IsSoon s → ((t : Local) → IsSoon t → IsSoon (steps p o pinned end n t))
-      → IsSoon (elim b [ true ↦ steps p o pinned end n (step p o pinned end s) | false ↦ s ])
-  unfolding IsSoon
-  soon_step true n s t soon next = next (step p o pinned end s) (step_soon s (ltb-true s.clock end t))
-  soon_step false n s t soon next = soon
+  step_soon s below soon = soon_if s (is_running s.dom.status) below soon.ways
 
   -- so do any number of steps
-  pub steps_soon : (n : ℕ) (s : Local) → s.clock < end + p.base → (steps p o pinned end n s).clock < end + p.base
-  unfolding steps IsSoon
-  steps_soon zero s soon = soon
-  steps_soon (suc n) s soon = soon_step (ltb s.clock end) n s refl soon (steps_soon n)
+  pub steps_soon : (n : ℕ) (s : Local) → IsSoon s → IsSoon (steps p o pinned end n s)
+  steps_soon n s soon = steps_by p o pinned end IsSoon step_soon n s soon
 
-  EndsSoon : Local → Type 0
-  EndsSoon s = (end ≤ s.clock) × (s.clock < end + p.base)
+  IsOver : Local → Type 0
+  IsOver s = end ≤ s.clock
 
-  ends_if : (b : Bool) (n : ℕ) (s : Local) → ltb s.clock end ≡ b → end - s.clock ≤ suc n → s.clock < end + p.base
-      → ((t : Local) → end - t.clock ≤ n → t.clock < end + p.base → EndsSoon (steps p o pinned end n t))
-      → EndsSoon (elim b [ true ↦ steps p o pinned end n (step p o pinned end s) | false ↦ s ])
-  unfolding EndsSoon
-  ends_if true n s t few soon next =
+  over_if : (b : Bool) (n : ℕ) (s : Local) → ltb s.clock end ≡ b → end - s.clock ≤ suc n
+      → ((t : Local) → end - t.clock ≤ n → IsOver (steps p o pinned end n t))
+      → IsOver (elim b [ true ↦ steps p o pinned end n (step p o pinned end s) | false ↦ s ])
+  unfolding IsOver
+  over_if true n s t few next =
       let below : s.clock < end = ltb-true s.clock end t in
       let later = step_later p timed o pinned end s below in
-      next (step p o pinned end s) (omega arith) (step_soon s below)
-  ends_if false n s t few soon next =
-      let past : end ≤ s.clock = grind (arith, nat_tests) in
-      (past, soon)
+      next (step p o pinned end s) (omega (arith, few, later))
+  over_if false n s t few next = let past : end ≤ s.clock = grind (arith, nat_tests) in past
 
-  ends : (n : ℕ) (s : Local) → end - s.clock ≤ n → s.clock < end + p.base → EndsSoon (steps p o pinned end n s)
-  unfolding steps EndsSoon
-  ends zero s few soon = (omega arith, soon)
-  ends (suc n) s few soon = ends_if (ltb s.clock end) n s refl few soon (λ t. ends n t)
+  over : (n : ℕ) (s : Local) → end - s.clock ≤ n → IsOver (steps p o pinned end n s)
+  unfolding steps IsOver
+  over zero s few = omega (arith, few)
+  over (suc n) s few = over_if (ltb s.clock end) n s refl few (λ t. over n t)
 
-  pub stretch_over : (s : Local) → s.clock < end + p.base → end ≤ (stretch p o pinned end s).clock
-  unfolding EndsSoon
-  stretch_over s soon = (ends (end - s.clock) s (omega arith) soon).0
+  pub stretch_over : (s : Local) → end ≤ (stretch p o pinned end s).clock
+  unfolding IsOver
+  stretch_over s = over (end - s.clock) s (omega arith)
 
-  pub stretch_soon : (s : Local) → s.clock < end + p.base → (stretch p o pinned end s).clock < end + p.base
-  unfolding EndsSoon
-  stretch_soon s soon = (ends (end - s.clock) s (omega arith) soon).1
+  pub stretch_soon : (s : Local) → IsSoon s → IsSoon (stretch p o pinned end s)
+  stretch_soon s soon = steps_soon (end - s.clock) s soon
 
 -- ---- a switch
 
-leave_free : (i : Image) (out : Option ℕ) (c : Caches) → (leave_part i out c).cost ≡ 0
-unfolding leave_part
-leave_free i None c = refl
-leave_free i (Some d) c = all_free i.all.hardware false [] c
+pub cold_ways : (p : Hardware) → HasWays (hierarchy p) (cold (hierarchy p))
+unfolding cold fresh_core
+cold_ways p s below =
+    let ways = (hierarchy p).l1d.ways in
+    ap (λ (x : CacheSet). length x.places) (at-empty (fresh_set ways) s) ∙ length-replicate ways None
 
--- as yet a switch's work is free
-pub switch_free : (i : Image) (out : Option ℕ) (d : ℕ) (c : Caches) → (switch_work i out d c).cost ≡ 0
-unfolding switch_work and_then prefetch_part flush_part enter_part
-switch_free i out d c =
+pub switch_ways : (i : Image) (k : ℕ) (w : World) → HasWays (hierarchy i.all.hardware) w.caches → HasWays (hierarchy i.all.hardware) (switch i k w).caches
+unfolding switch
+switch_ways i k w ways =
     let p = i.all.hardware in
-    let left = leave_free i out c in
-    let loaded = all_free p false [] (leave_part i out c).caches in
-    let entered = all_free p false [] in
-    omega (arith, entered)
+    let out = outgoing i.all.schedule k in
+    let d = (entry_of_slot i.all.schedule k).domain in
+    let touches = worst_law (hierarchy p) false (all_touches i out d) w.caches ways in
+    subst (λ (r : Touched). HasWays (hierarchy p) r.caches) (sym (switch_is i out d w.caches)) touches.ways
 
-pub pad_after : (es : List Entry) (k : ℕ) → start es k ≡ last_end es k + pad_of es k
-unfolding start
-pad_after es zero = omega arith
-pad_after es (suc k) = refl
+pub used_in_bound : (i : Image) (k : ℕ) (w : World) → InTime i k w
+    → (w.clock + (switch_work i (outgoing i.all.schedule k) (entry_of_slot i.all.schedule k).domain w.caches).cost) - last_end i.all.schedule k ≤ bound i.all.hardware
+unfolding hierarchy layout
+used_in_bound i k w time =
+    let p = i.all.hardware in
+    let out = outgoing i.all.schedule k in
+    let d = (entry_of_slot i.all.schedule k).domain in
+    subst (λ (r : Touched). (w.clock + r.cost) - last_end i.all.schedule k ≤ bound p) (sym (switch_is i out d w.caches))
+    (on_time_law (hierarchy p) p.shared (last_end i.all.schedule k) w.clock (clone_of i out) (layout p (own_of i d)) w.caches time.ways (record { line = refl; shared = refl }) time.over time.soon)
 
-pub used_in_pad : (i : Image) (k : ℕ) (w : World) → bound i.all.hardware ≤ pad_of i.all.schedule k → InTime i k w → (w.clock + (switch_work i (outgoing i.all.schedule k) (entry_of_slot i.all.schedule k).domain w.caches).cost) - last_end i.all.schedule k ≤ pad_of i.all.schedule k
-used_in_pad i k w padded time =
-    let free = switch_free i (outgoing i.all.schedule k) (entry_of_slot i.all.schedule k).domain w.caches in
-    let over = time.over in
-    let soon = time.soon in
-    omega arith
+pub used_in_pad : (i : Image) (k : ℕ) (w : World) → bound i.all.hardware ≤ pad_of i.all.schedule k → InTime i k w
+    → (w.clock + (switch_work i (outgoing i.all.schedule k) (entry_of_slot i.all.schedule k).domain w.caches).cost) - last_end i.all.schedule k ≤ pad_of i.all.schedule k
+used_in_pad i k w padded time = let used = used_in_bound i k w time in omega (arith, padded, used)
 
 -- the next slot begins at its start
-pub switch_on_time : (i : Image) (k : ℕ) (w : World) → bound i.all.hardware ≤ pad_of i.all.schedule k → InTime i k w → (switch i k w).clock ≡ start i.all.schedule k
+pub switch_on_start : (i : Image) (k : ℕ) (w : World) → bound i.all.hardware ≤ pad_of i.all.schedule k → InTime i k w → (switch i k w).clock ≡ start i.all.schedule k
 unfolding switch
-switch_on_time i k w padded time =
-    let free = switch_free i (outgoing i.all.schedule k) (entry_of_slot i.all.schedule k).domain w.caches in
-    let over = time.over in
-    let soon = time.soon in
-    let at = pad_after i.all.schedule k in
-    omega arith
+switch_on_start i k w padded time =
+    let used = used_in_pad i k w padded time in
+    let at = pad_law i.all.schedule k in
+    omega (arith, used, at)
 
 -- ---- all slots
 
@@ -120,18 +131,23 @@ module _ (i : Image) (r : Separated i) where
       let es = i.all.schedule in
       let o = own_of i (entry_of_slot es k).domain in
       let begun = part_of (entry_of_slot es k).domain (switch i k (whole i k)) in
-      let at = switch_on_time i k (whole i k) (r.padded k) time in
+      let at = switch_on_start i k (whole i k) (r.padded k) time in
+      let within = instruction_within p o 0 begun.dom begun.storage in
       let timed = r.timed in
-      let early : (switch i k (whole i k)).clock < slot_end es k + p.base = omega arith in
-      record { over = stretch_over p timed o false (slot_end es k) begun early; soon = stretch_soon p timed o false (slot_end es k) begun early }
+      let early : (switch i k (whole i k)).clock < slot_end es k + largest_step p = omega (arith, at, within, timed) in
+      let ends = stretch_soon p timed o false (slot_end es k) begun (record { clock = early; ways = switch_ways i k (whole i k) time.ways }) in
+      record { over = stretch_over p timed o false (slot_end es k) begun; soon = ends.clock; ways = ends.ways }
 
   pub in_time : (k : ℕ) → InTime i k (whole i k)
   unfolding whole opening
-  in_time zero = record { over = omega arith; soon = let timed = r.timed in omega arith }
+  in_time zero =
+      let within = instruction_within i.all.hardware (own_of i 0) 0 (part_of 0 (opening i)).dom (opening i).storage in
+      let timed = r.timed in
+      record { over = omega arith; soon = omega (arith, timed, within); ways = cold_ways i.all.hardware }
   in_time (suc k) = slot_in_time k (in_time k)
 
   pub on_time : (k : ℕ) → (switch i k (whole i k)).clock ≡ start i.all.schedule k
-  on_time k = switch_on_time i k (whole i k) (r.padded k) (in_time k)
+  on_time k = switch_on_start i k (whole i k) (r.padded k) (in_time k)
 
 within_append : (es : List Entry) (us vs : List (ℕ × ℕ)) → AllWithinPads es us → AllWithinPads es vs → AllWithinPads es (us ++ vs)
 within_append es [] vs h k = k

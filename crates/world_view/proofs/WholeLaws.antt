@@ -1,38 +1,33 @@
 -- The whole machine beside each domain alone, slot after slot.
-use Rattle.std.proofs.Common.{◌≡◌, ◌≢◌, ℕ, Bool, true, false, eqb, zero, suc, ◌-◌, ◌<◌, length, get_or, List, [], ◌∷◌, ap, ap₂, sym, ◌∙◌, refl, subst, arith, true≢false, ◌⊎◌, inl, inr, eqb-true, eq-eqb, map}
-use Rattle.std.proofs.lemmas.Bool.{cases_eq}
-use Rattle.tp_base.specs.Table.{at, put, at-put_other, at-put_same}
+use Rattle.std.proofs.Common.{◌≡◌, ◌≢◌, ℕ, Bool, true, false, eqb, zero, suc, ◌-◌, ◌<◌, length, get_or, List, [], ◌∷◌, ap, ap₂, sym, ◌∙◌, refl, subst, arith, true≢false, eqb-true, eq-eqb, map}
+use Rattle.std.proofs.lemmas.Option.{same_Some}
+use Rattle.std.specs.Prelude.{Some}
+use Rattle.tp_base.specs.Table.{at-put_other, at-put_same}
 use Rattle.hardware_check.specs.Hardware.{Hardware}
 use Rattle.image_check.specs.Public.{Public}
 use Rattle.image_check.specs.Own.{Own}
 use Rattle.image_check.specs.Image.{Image, own_of}
 use Rattle.world_view.specs.Frames.{pool}
-use Rattle.world_view.specs.Schedule.{entry_of_slot, slot_end}
+use Rattle.sched_table.specs.Schedule.{entry_of_slot, slot_end, outgoing}
 use Rattle.phys_mem.specs.Mem.{frame_at}
 use Rattle.world_view.specs.Opening.{frame_words}
 use Rattle.thread_set.specs.Threads.{all_of}
 use Rattle.call_table.specs.Domain.{Dom}
-use Rattle.call_table.specs.Claims.{is_mine, claims}
 use Rattle.kernel_call.specs.Logs.{log_of}
-use Rattle.world_view.specs.Kernel.{estate, opening_dom, no_dom}
+use Rattle.world_view.specs.Kernel.{no_dom}
 use Rattle.world_view.specs.Event.{Storage}
-use Rattle.world_view.specs.Machine.{Local, steps, stretch, dom_of, part_of, with_part, switch, run_slot, opening, whole, alone_opening, alone_enter, alone_in, alone_out, alone_if, alone}
+use Rattle.world_view.specs.Machine.{Local, stretch, dom_of, part_of, with_part, switch, run_slot, opening, whole, alone_opening, alone_enter, alone_in, alone_out, alone_if, alone}
 use Rattle.world_view.specs.View.{view, view_whole, view_alone}
-use Rattle.world_view.specs.Relations.{IsDomain, SameFrames, IsKernel, HasFacts, Beside, Within, Apiece, Agree}
-use Rattle.world_view.specs.Laws.{world_in}
+use Rattle.world_view.specs.Relations.{IsDomain, SameFrames, IsKernel, HasFacts, Resident, Beside, Within, Apiece, Agree}
 use Rattle.world_view.proofs.PoolLaws.{own_at_place}
 use Rattle.world_view.proofs.Separate.{Separated}
-use Rattle.world_view.proofs.TableLaws.{mine_own}
-use Rattle.world_view.proofs.FactsSame.{facts_same}
-use Rattle.world_view.proofs.OpeningFacts.{kernel_of, opening_facts}
-use Rattle.world_view.proofs.StepLaws.{steps_near, stretch_near, beside_itself}
+use Rattle.world_view.proofs.OpeningFacts.{kernel_of}
+use Rattle.world_view.proofs.StepLaws.{stretch_near, steps_keep, steps_others}
+use Rattle.world_view.proofs.FactsLaws.{begun_facts}
+use Rattle.world_view.proofs.ResidencyLaws.{begun_resident}
 use Rattle.world_view.proofs.TimeLaws.{in_time}
 use Rattle.world_view.proofs.OpeningLaws.{opening_dom_is, opening_frames}
-use Rattle.world_view.proofs.SwitchLaws.{others_frames, switch_apiece, switch_out, switch_in, switch_both}
-
-same_or_not : (d e : ℕ) (b : Bool) → eqb d e ≡ b → (d ≡ e) ⊎ (d ≢ e)
-same_or_not d e true t = inl (eqb-true d e t)
-same_or_not d e false t = inr (λ q. true≢false (sym (eq-eqb d e q) ∙ t))
+use Rattle.world_view.proofs.SwitchLaws.{others_frames, switch_past, switch_out, switch_in, switch_both}
 
 -- in the last slot of the domain, before it leaves; or outside its slots
 abbrev JoinedIf : Image → ℕ → ℕ → Bool → Type 0
@@ -44,71 +39,21 @@ abbrev Joined : Image → ℕ → ℕ → Type 0
 Joined i d zero = Apiece i.all.hardware (own_of i d) (part_of d (whole i 0)) (alone i.all (own_of i d) d 0)
 Joined i d (suc k) = JoinedIf i d k (eqb (entry_of_slot i.all.schedule k).domain d)
 
--- the facts hold of a domain that is the same, in a memory in which its frames are
-pub facts_with : (p : Hardware) (o : Own) (d e : Dom) (s t : Storage) → e ≡ d → SameFrames p o t.mem s.mem → HasFacts p o d s → HasFacts p o e t
-facts_with p o d e s t is same h =
-    subst (λ (x : Dom). HasFacts p o x t) (sym is)
-    (record {
-      slots = h.slots;
-      facts = facts_same (estate p o).root (is_mine (estate p o)) (claims (estate p o) d.caps) s.mem t.mem h.facts (λ f mine. same f (mine_own p o f mine));
-    })
-
 module _ (i : Image) (r : Separated i) where
-  -- steps of a slot keep the facts of each domain: those of the domain that runs, and all others untouched
-  facts_in : (k n d : ℕ) → IsDomain i d → ((e : ℕ) → IsDomain i e → HasFacts i.all.hardware (own_of i e) (dom_of (whole i k) e) (whole i k).storage)
-      → HasFacts i.all.hardware (own_of i d) (dom_of (world_in i k n) d) (world_in i k n).storage
-  unfolding switch with_part
-  facts_in k n d is facts =
-      let p = i.all.hardware in
-      let end = slot_end i.all.schedule k in
-      let e = (entry_of_slot i.all.schedule k).domain in
-      let before = switch i k (whole i k) in
-      let s = part_of e before in
-      let later = steps p (own_of i e) false end n s in
-      let b = steps_near p (own_of i e) end s n s s (beside_itself p (own_of i e) s (kernel_of i r e (r.named k)) (facts e (r.named k))) in
-      elim (cases_eq d e) [
-        | inl same ↦
-            subst (λ (x : ℕ). HasFacts p (own_of i x) (at no_dom (put before.doms e later.dom) x) later.storage) (sym same)
-            (facts_with p (own_of i e) later.dom _ later.storage later.storage (at-put_same no_dom before.doms e later.dom) (λ f own. refl) b.facts)
-        | inr apart ↦
-            facts_with p (own_of i d) (dom_of (whole i k) d) _ (whole i k).storage later.storage (at-put_other no_dom before.doms e d later.dom apart)
-            (λ f own. b.storage.outside f (r.apart e d (r.named k) is (λ q. apart (sym q)) f own)) (facts d is)
-      ]
-
-  facts_after : (k d : ℕ) → IsDomain i d → ((e : ℕ) → IsDomain i e → HasFacts i.all.hardware (own_of i e) (dom_of (whole i k) e) (whole i k).storage)
-      → HasFacts i.all.hardware (own_of i d) (dom_of (whole i (suc k)) d) (whole i (suc k)).storage
-  unfolding whole run_slot
-  facts_after k d is facts = facts_in k (slot_end i.all.schedule k - (switch i k (whole i k)).clock) d is facts
-
-  -- before and after each slot
-  pub all_facts : (k d : ℕ) → IsDomain i d → HasFacts i.all.hardware (own_of i d) (dom_of (whole i k) d) (whole i k).storage
-  unfolding whole
-  all_facts zero d is =
-      facts_with i.all.hardware (own_of i d) (opening_dom i.all.hardware (own_of i d)) _ (opening i).storage (opening i).storage (opening_dom_is i r d is) (λ f own. refl) (opening_facts i r d is)
-  all_facts (suc k) d is = facts_after k d is (all_facts k)
-
-  -- and at each of its moments
-  pub always_facts : (k n d : ℕ) → IsDomain i d → HasFacts i.all.hardware (own_of i d) (dom_of (world_in i k n) d) (world_in i k n).storage
-  always_facts k n d is = facts_in k n d is (all_facts k)
-
   -- the domain's own slot: steps from states that are beside
-  slot_within : (p : Hardware) (o : Own) (end : ℕ) (s a : Local) → IsKernel p o → HasFacts p o s.dom s.storage → Within p o s a → Within p o (stretch p o false end s) (stretch p o true end a)
-  slot_within p o end s a kernel facts h =
+  slot_within : (p : Hardware) (o : Own) (end : ℕ) (s a : Local) → IsKernel p o → HasFacts p o s.dom s.storage → Resident p s.caches → Within p o s a
+      → Within p o (stretch p o false end s) (stretch p o true end a)
+  slot_within p o end s a kernel facts resident h =
       let b : Beside p o s s a = record {
         kernel = kernel;
         dom = h.dom;
         facts = facts;
         storage = record { same = h.frames; outside = λ f x. refl };
-        caches = record { core = h.core; same = tt; resident = tt };
+        caches = record { core = h.core; l2 = record { same = h.sets; resident = resident; outside = λ m out kernels. refl } };
         clock = h.clock;
       } in
       let n = stretch_near p o end s s a b in
-      record { dom = n.dom; frames = n.storage.same; core = n.caches.core; sets = tt; clock = n.clock }
-
-  -- a switch leaves domains and memory as they are
-  begun_facts : (k d : ℕ) → IsDomain i d → HasFacts i.all.hardware (own_of i d) (dom_of (switch i k (whole i k)) d) (switch i k (whole i k)).storage
-  unfolding switch
-  begun_facts k d is = all_facts k d is
+      record { dom = n.dom; frames = n.storage.same; core = n.caches.core; sets = n.caches.l2.same; clock = n.clock }
 
   -- slot k is the domain's own
   own_slot : (k d : ℕ) (a : Local) → IsDomain i d → (entry_of_slot i.all.schedule k).domain ≡ d → Within i.all.hardware (own_of i d) (part_of d (switch i k (whole i k))) (alone_enter i.all (own_of i d) k a)
@@ -119,12 +64,12 @@ module _ (i : Image) (r : Separated i) where
       let es = i.all.schedule in
       let begun = switch i k (whole i k) in
       subst (λ (x : ℕ). Within p (own_of i d) (part_of d (with_part x begun (stretch p (own_of i x) false (slot_end es k) (part_of x begun)))) (stretch p (own_of i d) true (slot_end es k) (alone_enter i.all (own_of i d) k a))) (sym is)
-      (let n = slot_within p (own_of i d) (slot_end es k) (part_of d begun) (alone_enter i.all (own_of i d) k a) (kernel_of i r d within) (begun_facts k d within) h in
+      (let n = slot_within p (own_of i d) (slot_end es k) (part_of d begun) (alone_enter i.all (own_of i d) k a) (kernel_of i r d within) (begun_facts i r k d within) (begun_resident i r k) h in
       record {
         dom = at-put_same no_dom begun.doms d _ ∙ n.dom;
         frames = n.frames;
         core = n.core;
-        sets = tt;
+        sets = n.sets;
         clock = n.clock;
       })
 
@@ -138,47 +83,58 @@ module _ (i : Image) (r : Separated i) where
       let e = (entry_of_slot es k).domain in
       let begun = switch i k (whole i k) in
       let s = part_of e begun in
-      let n = stretch_near p (own_of i e) (slot_end es k) s s s (beside_itself p (own_of i e) s (kernel_of i r e (r.named k)) (begun_facts k e (r.named k))) in
+      let ie = r.named k in
+      let facts = begun_facts i r k e ie in
+      let kept = steps_keep p (own_of i e) (kernel_of i r e ie) false (slot_end es k) (slot_end es k - s.clock) s.storage s (record { facts = facts; outside = λ f out. refl }) in
+      let sets = steps_others p (own_of i e) (kernel_of i r e ie) (own_of i d) (kernel_of i r d is) (r.colours_apart d e is ie (λ q. ne (sym q))) (slot_end es k) (slot_end es k - s.clock) s facts in
       record {
         dom = at-put_other no_dom begun.doms e d _ (λ q. ne (sym q)) ∙ h.dom;
-        frames = λ f own. others_frames i d e r is (r.named k) (λ q. ne (sym q)) (stretch p (own_of i e) false (slot_end es k) s) s (stretch p (own_of i e) true (slot_end es k) s) n.storage f own ∙ h.frames f own;
-        sets = tt;
+        frames = λ f own. others_frames i r d e is ie (λ q. ne (sym q)) (stretch p (own_of i e) false (slot_end es k) s) s kept.outside f own ∙ h.frames f own;
+        sets = λ m own. sets m own ∙ h.sets m own;
       }
 
   module _ (d : ℕ) (is : IsDomain i d) where
-    -- after the leave, if any
-    left_if : (k : ℕ) (b : Bool) → JoinedIf i d k b → Apiece i.all.hardware (own_of i d) (part_of d (switch i (suc k) (whole i (suc k)))) (alone_if i.all (own_of i d) k (alone i.all (own_of i d) d k) b)
+    leaves_as : (k : ℕ) → eqb (entry_of_slot i.all.schedule k).domain d ≡ true → outgoing i.all.schedule (suc k) ≡ Some d
+    leaves_as k t = ap Some (eqb-true (entry_of_slot i.all.schedule k).domain d t)
+
+    leaves_not : (k : ℕ) → eqb (entry_of_slot i.all.schedule k).domain d ≡ false → outgoing i.all.schedule (suc k) ≢ Some d
+    leaves_not k t q = true≢false (sym (eq-eqb (entry_of_slot i.all.schedule k).domain d (same_Some _ _ q)) ∙ t)
+
+    -- after the leave, if any, where another enters
+    left_if : (k : ℕ) (b : Bool) → eqb (entry_of_slot i.all.schedule k).domain d ≡ b → (entry_of_slot i.all.schedule (suc k)).domain ≢ d → JoinedIf i d k b
+        → Apiece i.all.hardware (own_of i d) (part_of d (switch i (suc k) (whole i (suc k)))) (alone_if i.all (own_of i d) k (alone i.all (own_of i d) d k) b)
     unfolding alone_if
-    left_if k true j = switch_out i (suc k) d (whole i (suc k)) (alone_in i.all (own_of i d) k (alone i.all (own_of i d) d k)) j
-    left_if k false j = switch_apiece i (suc k) d (whole i (suc k)) (alone i.all (own_of i d) d k) j
+    left_if k true t ne j = switch_out i r (suc k) d is (whole i (suc k)) (alone_in i.all (own_of i d) k (alone i.all (own_of i d) d k)) (leaves_as k t) ne j
+    left_if k false t ne j = switch_past i r (suc k) d is (whole i (suc k)) (alone i.all (own_of i d) d k) (leaves_not k t) ne j
 
-    switched : (k : ℕ) → Joined i d k → Apiece i.all.hardware (own_of i d) (part_of d (switch i k (whole i k))) (alone i.all (own_of i d) d k)
+    switched : (k : ℕ) → (entry_of_slot i.all.schedule k).domain ≢ d → Joined i d k → Apiece i.all.hardware (own_of i d) (part_of d (switch i k (whole i k))) (alone i.all (own_of i d) d k)
     unfolding alone
-    switched zero j = switch_apiece i 0 d (whole i 0) (alone i.all (own_of i d) d 0) j
-    switched (suc k) j = left_if k _ j
+    switched zero ne j = switch_past i r 0 d is (whole i 0) (alone i.all (own_of i d) d 0) (λ q. absurd (cc q)) ne j
+    switched (suc k) ne j = left_if k _ refl ne j
 
-    enter_if : (k : ℕ) (b : Bool) → (entry_of_slot i.all.schedule (suc k)).domain ≡ d → JoinedIf i d k b
+    enter_if : (k : ℕ) (b : Bool) → eqb (entry_of_slot i.all.schedule k).domain d ≡ b → (entry_of_slot i.all.schedule (suc k)).domain ≡ d → JoinedIf i d k b
         → Within i.all.hardware (own_of i d) (part_of d (switch i (suc k) (whole i (suc k)))) (alone_enter i.all (own_of i d) (suc k) (alone_if i.all (own_of i d) k (alone i.all (own_of i d) d k) b))
     unfolding alone_if
-    enter_if k true e j = switch_both i (suc k) r (whole i (suc k)) (in_time i r (suc k)) d _ e j
-    enter_if k false e j = switch_in i (suc k) r (whole i (suc k)) (in_time i r (suc k)) d _ e j
+    enter_if k true t e j = switch_both i r (suc k) d is (whole i (suc k)) _ (in_time i r (suc k)) (leaves_as k t) e j
+    enter_if k false t e j = switch_in i r (suc k) d is (whole i (suc k)) _ (in_time i r (suc k)) (leaves_not k t) e j
 
     entered : (k : ℕ) → (entry_of_slot i.all.schedule k).domain ≡ d → Joined i d k
         → Within i.all.hardware (own_of i d) (part_of d (switch i k (whole i k))) (alone_enter i.all (own_of i d) k (alone i.all (own_of i d) d k))
     unfolding alone
-    entered zero e j = switch_in i 0 r (whole i 0) (in_time i r 0) d _ e j
-    entered (suc k) e j = enter_if k _ e j
+    entered zero e j = switch_in i r 0 d is (whole i 0) _ (in_time i r 0) (λ q. absurd (cc q)) e j
+    entered (suc k) e j = enter_if k _ refl e j
 
     next_if : (k : ℕ) (b : Bool) → eqb (entry_of_slot i.all.schedule k).domain d ≡ b → Joined i d k → JoinedIf i d k b
     next_if k true t j =
         let e : (entry_of_slot i.all.schedule k).domain ≡ d = eqb-true (entry_of_slot i.all.schedule k).domain d t in
         own_slot k d (alone i.all (own_of i d) d k) is e (entered k e j)
     next_if k false t j =
-        others_slot k d (alone i.all (own_of i d) d k) is (λ q. true≢false (sym (eq-eqb (entry_of_slot i.all.schedule k).domain d q) ∙ t)) (switched k j)
+        let ne : (entry_of_slot i.all.schedule k).domain ≢ d = λ q. true≢false (sym (eq-eqb (entry_of_slot i.all.schedule k).domain d q) ∙ t) in
+        others_slot k d (alone i.all (own_of i d) d k) is ne (switched k ne j)
 
     joined : (k : ℕ) → Joined i d k
     unfolding whole alone alone_opening opening
-    joined zero = record { dom = opening_dom_is i r d is; frames = opening_frames i r d is; sets = tt }
+    joined zero = record { dom = opening_dom_is i r d is; frames = opening_frames i r d is; sets = λ s own. refl }
     joined (suc k) = next_if k _ refl (joined k)
 
     seen_if : (k : ℕ) (b : Bool) → JoinedIf i d k b → (dom_of (whole i (suc k)) d ≡ (alone_if i.all (own_of i d) k (alone i.all (own_of i d) d k) b).dom) × SameFrames i.all.hardware (own_of i d) (whole i (suc k)).storage.mem (alone_if i.all (own_of i d) k (alone i.all (own_of i d) d k) b).storage.mem

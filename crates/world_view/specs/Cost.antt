@@ -1,47 +1,58 @@
--- What touches cost, and the caches after them. Costs are in cycles. As yet every touch is free, and nothing is cached.
-use Rattle.std.specs.Prelude.{ℕ, ◌+◌, Bool, List, [], ◌∷◌}
-use Rattle.kernel_clone.specs.Footprints.{LineTouch}
-use Rattle.hardware_check.specs.Hardware.{Hardware}
+-- What decides the costs of touches in a machine: its memory hierarchy, and the lines that all domains share.
+use Rattle.std.specs.Prelude.{ℕ, Bool, List}
+use Rattle.frame_colours.specs.Colours.{has}
+use Rattle.set_cache.specs.Rule.{Rule}
+use Rattle.set_cache.specs.Cache.{Shape}
+use Rattle.repl_policy.specs.Orders.{lru_rule, fifo_rule}
+use Rattle.repl_policy.specs.Halves.{plru_rule}
+use Rattle.kernel_clone.specs.Footprints.{Layout}
+use Rattle.mem_system.specs.Hierarchy.{Hierarchy}
+use Rattle.cache_sharing.specs.Operations.{shared_region}
+use Rattle.hardware_check.specs.declared.hardware.Policy.{Policy}
+use Rattle.hardware_check.specs.declared.hardware.Policy.TheVariants.{Lru, Fifo, Plru}
+use Rattle.hardware_check.specs.Hardware.{Hardware, CacheShape, colours_of}
+use Rattle.image_check.specs.Own.{Own}
 
-pub data Touch : Type 0 where
-  -- a page's translation is looked up: its number, the physical addresses of the entries that its walk reads, and
-  -- whether it is found
-  Look : ℕ → List ℕ → Bool → Touch
-  Fetch : ℕ → Touch  -- an instruction is fetched from this physical address
-  Load : ℕ → Touch
-  Store : ℕ → Touch
-  Line : LineTouch → Touch  -- the kernel touches a physical line
-  Empty : Touch  -- the translation buffer is emptied
+-- ---- the hierarchy
 
--- what each switch makes fresh
-pub record Core : Type 0 where
+abbrev pub rule_of : Policy → ℕ → Rule
+rule_of Lru = lru_rule
+rule_of Fifo = fifo_rule
+rule_of Plru = plru_rule
 
-pub record Caches : Type 0 where
-  pub core : Core
+abbrev pub cache_shape : CacheShape → Shape
+cache_shape c = record { rule = rule_of c.policy c.ways; ways = c.ways; count = c.sets }
 
-abbrev pub fresh_core : Hardware → Core
-fresh_core p = record {}
+unfoldable pub hierarchy : Hardware → Hierarchy
+hierarchy p = record {
+  costs = p.costs;
+  line_size = p.line;
+  counters = p.predictor;
+  l1i = cache_shape p.l1i;
+  l1d = cache_shape p.l1d;
+  l2 = cache_shape p.l2;
+  tlb = cache_shape p.tlb;
+}
 
--- caches that hold nothing
-abbrev pub cold : Hardware → Caches
-cold p = record { core = fresh_core p }
+-- ---- the shared region
 
--- a cost, and the caches after it
-pub record Touched : Type 0 where
-  pub cost : ℕ
-  pub caches : Caches
+-- a kernel clone of no domain: where the shared region lies doesn't depend on a clone's frames
+abbrev pub bare_layout : Hardware → Layout
+bare_layout p = record {
+  text = 0;
+  more_text = 0;
+  stack = 0;
+  data_frame = 0;
+  line = p.line;
+  shared = p.shared;
+  colours = colours_of p;
+}
 
-abbrev pub at_no_cost : Caches → Touched
-at_no_cost c = record { cost = 0; caches = c }
+-- its lines, ascending
+unfoldable pub region : Hardware → List ℕ
+region p = shared_region (bare_layout p)
 
--- `pinned`: the domain is alone, and finds the kernel's lines always there
-unfoldable pub touched : Hardware → Bool → Caches → Touch → Touched
-touched p pinned c touch = at_no_cost c
+-- ---- a domain's colours
 
--- one after the other
-unfoldable pub and_then : Touched → (Caches → Touched) → Touched
-and_then r f = let q = f r.caches in record { cost = r.cost + q.cost; caches = q.caches }
-
-unfoldable pub touched_all : Hardware → Bool → Caches → List Touch → Touched
-touched_all p pinned c [] = at_no_cost c
-touched_all p pinned c (t ∷ ts) = and_then (touched p pinned c t) (λ k. touched_all p pinned k ts)
+abbrev pub own_colour : Own → ℕ → Bool
+own_colour o colour = has o.colours colour

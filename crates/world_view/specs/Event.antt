@@ -1,5 +1,5 @@
 -- One event of a domain in its slot: what happens, as a function of the domain, the memory and the clock, with what it touches.
-use Rattle.std.specs.Prelude.{ℕ, ◌+◌, ◌*◌, ◌/◌, ◌%◌, ◌==◌, Bool, true, false, if◌then◌else◌, List, [], ◌∷◌, ◌++◌, map, Option, Some, None, Result, Ok, Err, ◌⊎◌}
+use Rattle.std.specs.Prelude.{ℕ, ◌+◌, ◌*◌, ◌/◌, ◌%◌, ◌==◌, Bool, if◌then◌else◌, List, [], ◌∷◌, ◌++◌, Option, Some, None, Result, Ok, Err, ◌⊎◌}
 use Rattle.std.proofs.Common.{inl, inr}
 use Rattle.tp_base.specs.Act as act
 use Rattle.tp_base.specs.Act.{◌>>=◌, ◌>>◌, Done, give, stop, note, either}
@@ -21,13 +21,14 @@ use Rattle.sv32_walk.specs.PageTableEntry.{ppn}
 use Rattle.sv32_walk.specs.Walk.{walk}
 use Rattle.hardware_check.specs.Hardware.{Hardware}
 use Rattle.rv_core.specs.Registers.{register}
-use Rattle.kernel_clone.specs.Footprints.{Layout, touches}
+use Rattle.kernel_clone.specs.Footprints.{Layout}
 use Rattle.call_table.specs.Domain.{Dom, is_running}
 use Rattle.call_table.specs.Claims.{Estate}
-use Rattle.call_table.specs.Calls.{Note, work_of, call}
+use Rattle.call_table.specs.Calls.{Note, empties, work_of, call}
 use Rattle.world_view.specs.Instruction.{stopped, trapped, retired_at, counter_value, read_out}
-use Rattle.world_view.specs.Cost.{Touch}
-use Rattle.world_view.specs.Cost.Touch.{Look, Fetch, Load, Store as StoreTouch, Line, Empty}
+use Rattle.mem_system.specs.Cost.{Touch, Fetch, Load, Store as StoreTouch, Branch, EmptyTlb}
+use Rattle.mem_system.specs.Translation.{look_of}
+use Rattle.cache_sharing.specs.Operations.{operation}
 
 -- all that domains may change beside their own state
 pub record Storage : Type 0 where
@@ -51,10 +52,6 @@ fault_code access.Fetch fault.Access = 1
 fault_code access.Load fault.Access = 5
 fault_code access.Store fault.Access = 7
 
-abbrev pub found : Result ℕ WalkFault → Bool
-found (Ok leaf) = true
-found (Err f) = false
-
 -- the frame of the page that the walk found, else the domain is stopped
 unfoldable pub frame_or_stop : Dom → Access → ℕ → Result ℕ WalkFault → Dom ⊎ ℕ
 frame_or_stop d a va (Ok leaf) = inr (ppn leaf)
@@ -64,7 +61,7 @@ frame_or_stop d a va (Err f) = inl (stopped (fault_code a f) va d)
 unfoldable pub translate : Hardware → ℕ → Dom → Access → ℕ → Act ℕ
 translate p r d a va = λ s.
     let w = walk s.mem p.frames r va a in
-    record { notes = Look (va / 4096) w.reads (found w.result) ∷ []; state = s; value = frame_or_stop d a va w.result }
+    record { notes = look_of p.line va w ∷ []; state = s; value = frame_or_stop d a va w.result }
 
 -- the place of a word in its page
 abbrev pub place : ℕ → ℕ
@@ -73,6 +70,10 @@ place va = va % 4096 / 4
 -- the physical address of a virtual one in frame f
 unfoldable pub address_in : ℕ → ℕ → ℕ
 address_in f va = f * 4096 + va % 4096
+
+-- the physical line in which it lies
+unfoldable pub line_in : Hardware → ℕ → ℕ → ℕ
+line_in p f va = address_in f va / p.line
 
 unfoldable pub read : ℕ → ℕ → Act ℕ
 read f i = λ s. record { notes = []; state = s; value = inr (word s.mem f i) }
@@ -98,7 +99,7 @@ stored_in size word place value = if size == 1 then with_byte_in word place valu
 unfoldable pub load : Hardware → ℕ → Dom → LoadWidth → ℕ → Act ℕ
 load p r d width va = do
   f ← translate p r d access.Load va
-  touch (Load (address_in f va))
+  touch (Load (line_in p f va))
   w ← read f (place va)
   give (part_of_word (load_size width) w (va % 4))
 
@@ -106,7 +107,7 @@ unfoldable pub store : Hardware → ℕ → Dom → Option StoreMade → Act (Un
 store p r d None = give tt
 store p r d (Some s) = do
   f ← translate p r d access.Store s.at
-  touch (StoreTouch (address_in f s.at))
+  touch (StoreTouch (line_in p f s.at))
   w ← read f (place s.at)
   write f (place s.at) (stored_in s.size w (s.at % 4) s.word)
 
@@ -123,10 +124,16 @@ unfoldable pub noted : Instr → ℕ → Dom → Dom
 noted (instr.ReadCounter counter rd) value d = read_out value d
 noted _ value d = d
 
+-- a branch is guessed, and taught whether it is taken
+unfoldable pub guessed : Instr → ℕ → Bool → Act (Unit {0})
+guessed (instr.Branch comparison rs1 rs2 offset) pc taken = touch (Branch pc taken)
+guessed _ pc taken = give tt
+
 -- the effect: a trap, or a store, the registers and the next instruction
 unfoldable pub settle : Hardware → ℕ → Dom → Instr → ℕ → Outcome → Act Dom
 settle p r d i value out = do
   unless out.effect.trap d
+  guessed i d.threads.current.pc out.effect.taken
   store p r d out.effect.store
   give (retired_at out.effect.next out.regs (noted i value d))
 
@@ -139,22 +146,16 @@ execute p r t d i = do
 
 -- ---- a kernel call
 
--- whether the work of a call empties the translation buffer
-unfoldable pub empties : List Note → Bool
-empties [] = false
-empties (Note.Emptied ∷ ns) = true
-empties (_ ∷ ns) = empties ns
-
--- the footprint of its operation in the domain's kernel clone, and then the buffer
-unfoldable pub call_touches : Layout → ℕ → List Note → List Touch
-call_touches l number notes = map Line (touches l (work_of number notes)) ++ (if empties notes then Empty ∷ [] else [])
+-- its operation in the domain's kernel clone, and then the buffer
+unfoldable pub call_touches : Hardware → Layout → ℕ → List Note → List Touch
+call_touches p l number notes = operation p.costs l (work_of number notes) ++ (if empties notes then EmptyTlb ∷ [] else [])
 
 -- the call that the current thread makes
-unfoldable pub make_call : Estate → Layout → Dom → Act Dom
-make_call e l d = λ s.
+unfoldable pub make_call : Hardware → Estate → Layout → Dom → Act Dom
+make_call p e l d = λ s.
     let r = call e d s.mem in
     record {
-      notes = call_touches l (register d.threads.current.regs 17) r.notes;
+      notes = call_touches p l (register d.threads.current.regs 17) r.notes;
       state = record { mem = r.state };
       value = inr (either r.value);
     }
@@ -164,13 +165,13 @@ make_call e l d = λ s.
 -- 2: the word is no instruction
 unfoldable pub perform : Hardware → Estate → Layout → ℕ → Dom → ℕ → Option Instr → Act Dom
 perform p e l t d w None = stop (stopped 2 w d)
-perform p e l t d w (Some instr.Ecall) = make_call e l d
+perform p e l t d w (Some instr.Ecall) = make_call p e l d
 perform p e l t d w (Some i) = execute p e.root t d i
 
 unfoldable pub instruction : Hardware → Estate → Layout → ℕ → Dom → Act Dom
 instruction p e l t d = do
   f ← translate p e.root d access.Fetch d.threads.current.pc
-  touch (Fetch (address_in f d.threads.current.pc))
+  touch (Fetch (line_in p f d.threads.current.pc))
   w ← read f (place d.threads.current.pc)
   perform p e l t d w (decode_of w)
 

@@ -26,16 +26,21 @@ use Rattle.hardware_check.specs.Hardware.{Hardware}
 use Rattle.image_check.specs.Own.{Segment}
 use Rattle.image_check.specs.Image.{Image, own_of}
 use Rattle.image_check.specs.Pages.{has_region, regions_below, pages_below, pages_in}
-use Rattle.world_view.specs.Schedule.{start}
+use Rattle.sched_table.specs.Schedule.{start}
 use Rattle.world_view.specs.Opening.{frame_words, put_word, tabled, root_entry, rights_in, leaf_with, leaf_entry, root_placed, table_placed, tables_placed, page_words, pages_placed, segments_placed, placed, all_placed}
 use Rattle.rv_decode.specs.declared.Counter.TheVariants.{Cycle, Time, Instret, CycleHigh, TimeHigh, InstretHigh}
 use Rattle.world_view.specs.Kernel.{first_cap, first_slots, opening_dom, stays, page_numbers, kept_pages, first_regions, fixed_claims, estate, layout, no_dom}
 use Rattle.world_view.specs.Instruction.{counter_value, stopped, trapped, retired_at, read_out}
-use Rattle.world_view.specs.Cost.{touched, and_then, touched_all}
-use Rattle.world_view.specs.Event.{touch, frame_or_stop, translate, address_in, read, write, unless, load, store, loaded, noted, settle, execute, empties, call_touches, make_call, perform, instruction, event}
+use Rattle.mem_system.specs.Hierarchy.{colour_of_line}
+use Rattle.mem_system.specs.Cost as cost
+use Rattle.mem_system.specs.Translation.{lines_of, look_of}
+use Rattle.cache_sharing.specs.Operations.{footprint, operation, leave, enter, shared_region, prefetch}
+use Rattle.world_view.specs.Cost.{hierarchy, region}
+use Rattle.world_view.specs.Event.{touch, frame_or_stop, translate, address_in, line_in, read, write, unless, load, store, loaded, noted, guessed, settle, execute, call_touches, make_call, perform, instruction, event}
 use Rattle.world_view.specs.Machine.{paid, happened, step, steps, leave_part, prefetch_part, flush_part, enter_part, switch_work, with_part, switch, run_slot, opening_doms, opening, whole, alone_opening, alone_enter, alone_in, alone_out, alone_if, alone}
 use Rattle.world_view.specs.View.{View, view, view_whole, view_alone, memory_sum}
 use Rattle.world_view.specs.Used.{count_of, largest_of}
+use Rattle.world_view.specs.Laws.{local_in}
 
 -- addi x10, x0, byte; addi x17, x0, 1; ecall; addi x17, x0, 0; ecall
 abbrev pub print : ℕ → List ℕ
@@ -65,7 +70,6 @@ code_at_16 code = record { page = 16; pages = 1; rights = record { read = true; 
 abbrev pub small_machine : Hardware
 small_machine = record {
   frames = 64;
-  base = 1;
   shared = 512;
   line = 64;
   l1i = record { sets = 16; ways = 2; policy = Lru };
@@ -118,8 +122,8 @@ abbrev pub printed_in_time : ℕ → ℕ → View
 printed_in_time byte clock = record {
   status = Exited 0;
   retired = 5;
-  threads = ended_alone 0x10018 (slice_set (slice_set zeros 5 clock) 6 (clock + 4));
-  readings = log_of (clock ∷ (clock + 4) ∷ []);
+  threads = ended_alone 0x10018 (slice_set (slice_set zeros 5 clock) 6 (clock + 471));
+  readings = log_of (clock ∷ (clock + 471) ∷ []);
   replies = log_of (record { code = 0; value = 0 } ∷ []);
   printed = byte ∷ [];
   pool = [];
@@ -128,7 +132,7 @@ printed_in_time byte clock = record {
 
 -- all that a run computes with
 pub everything : ℕ
-unfolding empty at put go_on ◌>>=◌ ◌>>◌ give stop note either start frame_at word written frame_words put_word tabled root_entry rights_in leaf_with leaf_entry root_placed table_placed tables_placed page_words pages_placed segments_placed placed all_placed has_region regions_below pages_below pages_in table_word leaf_word leaf_bits bit ppn ppn_0 ppn_1 with_ppn vpn_0 vpn_1 leaf superpage first_level last_level entry_address from_table from_entry walk first_cap first_slots opening_dom stays page_numbers kept_pages first_regions fixed_claims estate layout no_dom threads.opening never turned_to yielded given_way with_current all_ended domain.opening domain.placed domain.replied domain.exited domain.with_caps calls.zeroed_in calls.entries_in calls.work_of calls.zero_out calls.page_refusal calls.table_refusal calls.map_at calls.unmap_at calls.install_at calls.uninstall_at calls.empty_buffer calls.some_or calls.is_slot calls.filled calls.allowed calls.put_byte calls.alloc calls.install calls.map_page calls.unmap calls.unless_refused calls.copy calls.clear_entry calls.drop_slot calls.delete calls.drop_if calls.drop_others calls.revoke calls.call_of calls.call slots.maps_in slots.in_use slots.count_in frame_of is_shared leaf_at place_of region_of claim_of all_claims claims frames_in is_named free_frames least_free text_touches stack_touches data_touches shared_touches zeroed_touches entry_touches touches check stopped trapped retired_at read_out touched and_then touched_all touch frame_or_stop translate address_in read write unless load store loaded noted settle execute empties call_touches make_call perform instruction event paid happened step steps leave_part prefetch_part flush_part enter_part switch_work with_part switch run_slot opening_doms opening whole alone_opening alone_enter alone_in alone_out alone_if alone log_of colours.pool colours.frame_at view view_whole view_alone memory_sum count_of largest_of two_domains
+unfolding empty at put go_on ◌>>=◌ ◌>>◌ give stop note either start frame_at word written frame_words put_word tabled root_entry rights_in leaf_with leaf_entry root_placed table_placed tables_placed page_words pages_placed segments_placed placed all_placed has_region regions_below pages_below pages_in table_word leaf_word leaf_bits bit ppn ppn_0 ppn_1 with_ppn vpn_0 vpn_1 leaf superpage first_level last_level entry_address from_table from_entry walk first_cap first_slots opening_dom stays page_numbers kept_pages first_regions fixed_claims estate layout no_dom threads.opening never turned_to yielded given_way with_current all_ended domain.opening domain.placed domain.replied domain.exited domain.with_caps calls.zeroed_in calls.entries_in calls.work_of calls.zero_out calls.page_refusal calls.table_refusal calls.map_at calls.unmap_at calls.install_at calls.uninstall_at calls.empty_buffer calls.some_or calls.is_slot calls.filled calls.allowed calls.put_byte calls.alloc calls.install calls.map_page calls.unmap calls.unless_refused calls.copy calls.clear_entry calls.drop_slot calls.delete calls.drop_if calls.drop_others calls.revoke calls.call_of calls.call slots.maps_in slots.in_use slots.count_in frame_of is_shared leaf_at place_of region_of claim_of all_claims claims frames_in is_named free_frames least_free text_touches stack_touches data_touches shared_touches zeroed_touches entry_touches touches check stopped trapped retired_at read_out colour_of_line cost.fresh_core cost.cold cost.fetched cost.accessed cost.looked cost.branched cost.flushed cost.on_core cost.below_by cost.below_if cost.below cost.below_all cost.pass_on cost.touched cost.and_then cost.touched_all lines_of look_of footprint operation leave enter shared_region prefetch hierarchy region touch frame_or_stop translate address_in line_in read write unless load store loaded noted guessed settle execute calls.empties call_touches make_call perform instruction event paid happened step steps leave_part prefetch_part flush_part enter_part switch_work with_part switch run_slot opening_doms opening whole alone_opening alone_enter alone_in alone_out alone_if alone log_of colours.pool colours.frame_at view view_whole view_alone memory_sum count_of largest_of two_domains
 everything = 0
 
 -- ---- the memory that it opens with
@@ -200,9 +204,24 @@ pub timed_red_alone : view_whole timed_prints 0 4 ≡ view_alone timed_prints.al
 unfolding everything
 timed_red_alone = refl
 
-pub first_switch : (count_of 0 (whole timed_prints 4).used ≡ 2) × (largest_of 0 (whole timed_prints 4).used ≡ 0)
+pub first_switch : (count_of 0 (whole timed_prints 4).used ≡ 2) × (largest_of 0 (whole timed_prints 4).used ≡ 820)
 unfolding everything
 first_switch = (refl, refl)
+
+-- what each switch used, with its entry: the boot's is the last one
+pub switches : (whole timed_prints 4).used ≡ (1, 755) ∷ (0, 820) ∷ (1, 580) ∷ (0, 292) ∷ []
+unfolding everything
+switches = refl
+
+-- the first instruction costs 147: its base, a look-up with two reads that miss, and a fetch that misses both levels
+pub first_instruction : (local_in timed_prints 0 1).clock ≡ 6150 + 147
+unfolding everything
+first_instruction = refl
+
+-- red's whole first slot, up to its end
+pub first_slot : (whole timed_prints 1).clock ≡ 6150 + 10000
+unfolding everything
+first_slot = refl
 
 -- four slots of 10,000 cycles, each after a pad of 6,150
 pub clock : (whole timed_prints 4).clock ≡ 64600

@@ -2,7 +2,7 @@
 use Rattle.std.specs.Prelude.{◌≡◌, ◌≢◌, ℕ, true, false, ◌+◌, ◌/◌, ◌%◌, ◌<◌, ◌≤◌, ◌^◌, ◌⊎◌, List, ◌∷◌, ◌++◌, length, Some, None, Result, Ok, Err}
 use Rattle.image_check.specs.declared.own.Rights.{Rights}
 use Rattle.hardware_check.specs.Hardware.{Hardware, colours_of}
-use Rattle.image_check.specs.Public.{entry_in}
+use Rattle.sched_table.specs.Schedule.{entry_in}
 use Rattle.image_check.specs.Own.{Own}
 use Rattle.sv32_walk.specs.declared.access.Access.{Access}
 use Rattle.sv32_walk.specs.declared.access.WalkFault.{WalkFault}
@@ -15,8 +15,8 @@ use Rattle.image_check.specs.Pages.{frames_in}
 use Rattle.world_view.specs.Frames.{own_frame, pool, pool_frame, root_of, page_frame, clone_frames, first_tables, page_frames, free_frames}
 use Rattle.world_view.specs.Opening.{rights_in, rights_number}
 use Rattle.world_view.specs.Reading.{image}
-use Rattle.world_view.specs.Schedule.{entry_of_slot, start, slot_end, outgoing}
-use Rattle.world_view.specs.Cost.{Caches}
+use Rattle.sched_table.specs.Schedule.{entry_of_slot, start, slot_end, outgoing}
+use Rattle.mem_system.specs.Cost.{Caches}
 use Rattle.world_view.specs.Machine.{Local, World, step, steps, dom_of, part_of, with_part, leave_part, enter_part, prefetch_part, flush_part, switch_work, switch, whole, alone_enter, alone_out}
 use Rattle.world_view.specs.View.{view_whole, view_alone}
 use Rattle.world_view.specs.Used.{largest_of}
@@ -234,6 +234,6 @@ SwitchPastLaw = (i : Image) (k d : ℕ) (w : World) (a : Local) → Runnable i �
     → Apiece i.all.hardware (own_of i d) (part_of d w) a
     → Apiece i.all.hardware (own_of i d) (part_of d (switch i k w)) a
 
--- from the boot on
+-- from the boot on, at each moment of each slot, every shared line is in the second level
 abbrev pub ResidencyLaw : Type 0
-ResidencyLaw = (i : Image) (k : ℕ) → Runnable i → Resident i.all.hardware (switch i k (whole i k)).caches
+ResidencyLaw = (i : Image) (k n : ℕ) → Runnable i → Resident i.all.hardware (local_in i k n).caches

@@ -1,10 +1,10 @@
 pub mod Frames
 pub mod Reading
-pub mod Schedule
 pub mod Opening
 pub mod Kernel
 pub mod Instruction
 pub mod Cost
+pub mod Geometry
 pub mod Event
 pub mod Machine
 pub mod Used

@@ -6,11 +6,14 @@ use Rattle.hardware_check.specs.Hardware.{Hardware}
 use Rattle.image_check.specs.Public.{Public}
 use Rattle.image_check.specs.Own.{Own}
 use Rattle.image_check.specs.Image.{Image, own_of}
-use Rattle.world_view.specs.Schedule.{entry_of_slot, switch_entry, start, slot_end, last_end, outgoing}
+use Rattle.sched_table.specs.Schedule.{entry_of_slot, switch_entry, start, slot_end, last_end, outgoing}
 use Rattle.world_view.specs.Opening.{placed, all_placed}
 use Rattle.call_table.specs.Domain.{Dom}
 use Rattle.world_view.specs.Kernel.{opening_dom, estate, layout, no_dom}
-use Rattle.world_view.specs.Cost.{Touch, Caches, fresh_core, cold, Touched, at_no_cost, and_then, touched_all}
+use Rattle.kernel_clone.specs.Footprints.{Layout}
+use Rattle.mem_system.specs.Cost.{Touch, Flush, Caches, fresh_core, cold, Touched, at_no_cost, and_then, touched, touched_all}
+use Rattle.cache_sharing.specs.Operations.{leave, enter, prefetch}
+use Rattle.world_view.specs.Cost.{hierarchy, region}
 use Rattle.world_view.specs.Event.{Storage, instruction, Event, event}
 use Rattle.world_view.specs.Event.Event.{Jump, Run}
 
@@ -26,8 +29,8 @@ pub record Local : Type 0 where
 -- the work was done at this clock; its touches are paid now
 unfoldable pub paid : Hardware → Bool → Caches → ℕ → Done Storage Touch Dom Dom → Local
 paid p pinned c t r =
-    let q = touched_all p pinned c r.notes in
-    record { dom = either r.value; storage = r.state; caches = q.caches; clock = t + (p.base + q.cost) }
+    let q = touched_all (hierarchy p) pinned c r.notes in
+    record { dom = either r.value; storage = r.state; caches = q.caches; clock = t + (p.costs.base + q.cost) }
 
 unfoldable pub happened : Hardware → Own → Bool → Local → Event → Local
 happened p o pinned s (Jump t) = record s { clock = t }
@@ -48,28 +51,26 @@ stretch p o pinned end s = steps p o pinned end (end - s.clock) s
 
 -- ---- a switch, in its parts
 
--- what a clone touches as its domain leaves and enters, and the kernel's shared lines: none as yet
-abbrev pub leave_touches : Hardware → Own → List Touch
-leave_touches p o = []
+-- the kernel clone of who leaves: nobody's at the boot
+abbrev pub clone_of : Image → Option ℕ → Option Layout
+clone_of i None = None
+clone_of i (Some d) = Some (layout i.all.hardware (own_of i d))
 
-abbrev pub enter_touches : Hardware → Own → List Touch
-enter_touches p o = []
-
-abbrev pub prefetch_touches : Hardware → List Touch
-prefetch_touches p = []
-
+-- who was running leaves: nobody at the boot
 unfoldable pub leave_part : Image → Option ℕ → Caches → Touched
 leave_part i None c = at_no_cost c
-leave_part i (Some d) c = touched_all i.all.hardware false c (leave_touches i.all.hardware (own_of i d))
+leave_part i (Some d) c =
+    let p = i.all.hardware in
+    touched_all (hierarchy p) false c (leave p.costs (layout p (own_of i d)))
 
 unfoldable pub prefetch_part : Hardware → Caches → Touched
-prefetch_part p c = touched_all p false c (prefetch_touches p)
+prefetch_part p c = touched_all (hierarchy p) false c (prefetch (region p))
 
 unfoldable pub flush_part : Hardware → Caches → Touched
-flush_part p c = record { cost = 0; caches = record c { core = fresh_core p } }
+flush_part p c = touched (hierarchy p) false c Flush
 
 unfoldable pub enter_part : Hardware → Own → Bool → Caches → Touched
-enter_part p o pinned c = touched_all p pinned c (enter_touches p o)
+enter_part p o pinned c = touched_all (hierarchy p) pinned c (enter (layout p o))
 
 unfoldable pub switch_work : Image → Option ℕ → ℕ → Caches → Touched
 switch_work i out d c =
@@ -117,7 +118,7 @@ unfoldable pub opening : Image → World
 opening i = record {
   doms = opening_doms i.all.hardware i.owns 0;
   storage = record { mem = all_placed i.all.hardware i.owns };
-  caches = cold i.all.hardware;
+  caches = cold (hierarchy i.all.hardware);
   clock = 0;
   used = [];
 }
@@ -130,12 +131,17 @@ whole i (suc k) = run_slot i k (whole i k)
 -- ---- the domain alone: one domain, its own frames, and nobody else to switch from or to
 
 unfoldable pub alone_opening : Hardware → Own → Local
-alone_opening p o = record { dom = opening_dom p o; storage = record { mem = placed p o empty }; caches = cold p; clock = 0 }
+alone_opening p o = record {
+  dom = opening_dom p o;
+  storage = record { mem = placed p o empty };
+  caches = cold (hierarchy p);
+  clock = 0;
+}
 
 -- slot k begins: on-core state is fresh, the clock stands at its start, and enter isn't charged
 unfoldable pub alone_enter : Public → Own → ℕ → Local → Local
 alone_enter p o k s =
-    let r = enter_part p.hardware o true (record s.caches { core = fresh_core p.hardware }) in
+    let r = enter_part p.hardware o true (record s.caches { core = fresh_core (hierarchy p.hardware) }) in
     record s { caches = r.caches; clock = start p.schedule k }
 
 -- slot k up to its end
@@ -144,7 +150,7 @@ alone_in p o k s = stretch p.hardware o true (slot_end p.schedule k) (alone_ente
 
 -- leave isn't charged either
 unfoldable pub alone_out : Hardware → Own → Local → Local
-alone_out p o s = record s { caches = (touched_all p true s.caches (leave_touches p o)).caches }
+alone_out p o s = record s { caches = (touched_all (hierarchy p) true s.caches (leave p.costs (layout p o))).caches }
 
 unfoldable pub alone_if : Public → Own → ℕ → Local → Bool → Local
 alone_if p o k s true = alone_out p.hardware o (alone_in p o k s)

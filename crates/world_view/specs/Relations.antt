@@ -1,19 +1,24 @@
 -- The words of the laws: what is alike for a domain, in two states of machines, and what the kernel has of it.
-use Rattle.std.specs.Prelude.{◌≡◌, ℕ, false, IsTrue, ◌/◌, ◌%◌, ◌<◌, ◌≤◌, ◌+◌, ◌-◌, ◌⊎◌, List, [], ◌∷◌, length, All}
+use Rattle.std.specs.Prelude.{◌≡◌, ℕ, false, IsTrue, ◌<◌, ◌≤◌, ◌+◌, List, [], ◌∷◌, length}
 use Rattle.phys_mem.specs.Mem.{Mem, frame_at}
-use Rattle.kernel_clone.specs.declared.Kind.TheVariants.{Load as LoadLine}
-use Rattle.kernel_clone.specs.Footprints.{LineTouch, IsLayout}
+use Rattle.kernel_clone.specs.Footprints.{IsLayout}
+use Rattle.pad_bound.specs.Bound.{worst_instruction, worst_operation, bound_of}
+use Rattle.mem_system.specs.Cost.{Touch, Caches}
+use Rattle.cache_sharing.specs.Sharing as sharing
+use Rattle.cache_sharing.specs.Worst.{HasWays}
 use Rattle.call_table.specs.Domain.{Dom}
 use Rattle.call_table.specs.Claims.{IsEstate}
 use Rattle.call_table.specs.Laws.{Kept, HasPageTables}
-use Rattle.hardware_check.specs.Hardware.{Hardware, colours_of}
-use Rattle.image_check.specs.Public.{Entry, entry_in}
+use Rattle.hardware_check.specs.Hardware.{Hardware}
+use Rattle.sched_table.specs.declared.schedule.Entry.{Entry}
+use Rattle.sched_table.specs.Schedule.{entry_in}
 use Rattle.image_check.specs.Own.{Own}
 use Rattle.image_check.specs.Image.{Image, own_of}
 use Rattle.world_view.specs.Frames.{own_frame}
 use Rattle.world_view.specs.Kernel.{estate, layout}
-use Rattle.world_view.specs.Schedule.{last_end}
-use Rattle.world_view.specs.Cost.{Touch, Caches, Touched}
+use Rattle.sched_table.specs.Schedule.{last_end}
+use Rattle.world_view.specs.Cost.{hierarchy, region, own_colour}
+use Rattle.image_check.specs.Pads.{shape_of}
 use Rattle.world_view.specs.Event.{Storage}
 use Rattle.world_view.specs.Machine.{Local, World, dom_of}
 
@@ -22,13 +27,13 @@ use Rattle.world_view.specs.Machine.{Local, World, dom_of}
 abbrev pub IsDomain : Image → ℕ → Type 0
 IsDomain i d = d < length i.owns
 
--- the most cycles that one step takes: its base, as touches are free
+-- the most cycles that one step takes: an instruction, and the operation that it calls
 abbrev pub largest_step : Hardware → ℕ
-largest_step p = p.base
+largest_step p = worst_instruction (shape_of p) + worst_operation (shape_of p)
 
--- the most cycles from a slot's end to the end of the next switch's work, which is free
+-- the most cycles from a slot's end to the end of the next switch's work
 abbrev pub bound : Hardware → ℕ
-bound p = largest_step p - 1
+bound p = bound_of (shape_of p)
 
 -- equal public parts, and equal own parts of d
 pub record Agree (i j : Image) (d : ℕ) : Type 0 where
@@ -45,46 +50,22 @@ IsOwnFrame p o f = IsTrue (own_frame p o f)
 abbrev pub SameFrames : Hardware → Own → Mem → Mem → Type 0
 SameFrames p o m k = (f : ℕ) → IsOwnFrame p o f → frame_at m f ≡ frame_at k f
 
--- equal in the domain's part of the caches that are not made fresh at a switch: there are none as yet
+-- equal in the domain's part of the second level: the sets of its colours
 abbrev pub SameSets : Hardware → Own → Caches → Caches → Type 0
-SameSets p o c k = Unit {0}
+SameSets p o c k = sharing.SameSets (hierarchy p) (own_colour o) c.l2 k.l2
 
--- all lines that the domains share are in those caches: there are none as yet
+-- all lines that the domains share are in the second level
 abbrev pub Resident : Hardware → Caches → Type 0
-Resident p c = Unit {0}
+Resident p c = sharing.Resident (hierarchy p) (region p) c.l2
 
--- ---- touches that a domain may make: of its own frames, and the kernel for it of what all share
-
-abbrev pub IsOwnAddress : Hardware → Own → ℕ → Type 0
-IsOwnAddress p o address = IsOwnFrame p o (address / 4096)
-
-abbrev pub AllOwn : Hardware → Own → List ℕ → Type 0
-AllOwn p o addresses = All (IsOwnAddress p o) addresses
-
--- the frame in which a physical line lies
-abbrev pub frame_of_line : Hardware → ℕ → ℕ
-frame_of_line p line = line / (4096 / p.line)
-
--- a kernel operation touches lines of the domain's own frames, and loads lines that all domains share, of colour 0
-abbrev pub IsKernelTouch : Hardware → Own → LineTouch → Type 0
-IsKernelTouch p o t =
-    IsOwnFrame p o (frame_of_line p t.line) ⊎ ((t.kind ≡ LoadLine) × (frame_of_line p t.line % colours_of p ≡ 0))
-
-abbrev pub May : Hardware → Own → Touch → Type 0
-May p o (Touch.Look page reads found) = AllOwn p o reads
-May p o (Touch.Fetch address) = IsOwnAddress p o address
-May p o (Touch.Load address) = IsOwnAddress p o address
-May p o (Touch.Store address) = IsOwnAddress p o address
-May p o (Touch.Line t) = IsKernelTouch p o t
-May p o Touch.Empty = Unit {0}
-
+-- what a domain, and the kernel for it, may touch: lines of its colours, and loads of what all share
 abbrev pub MayAll : Hardware → Own → List Touch → Type 0
-MayAll p o [] = Unit {0}
-MayAll p o (t ∷ ts) = May p o t × MayAll p o ts
+MayAll p o touches = sharing.MayTouchAll (hierarchy p) (own_colour o) (region p) touches
 
 -- ---- what the kernel has of a domain
 
--- its estate is one, and so is its kernel clone, whose frames are the domain's own
+-- its estate is one, and so is its kernel clone, whose frames are the domain's own; its colours are not the kernel's, which
+-- the shared lines have
 pub record IsKernel (p : Hardware) (o : Own) : Type 0 where
   pub has_estate : IsEstate (estate p o)
   pub has_layout : IsLayout (layout p o)
@@ -92,6 +73,7 @@ pub record IsKernel (p : Hardware) (o : Own) : Type 0 where
   pub more_text : IsOwnFrame p o (layout p o).more_text
   pub stack : IsOwnFrame p o (layout p o).stack
   pub data_frame : IsOwnFrame p o (layout p o).data_frame
+  pub shares : sharing.IsSharing (hierarchy p) (own_colour o) (region p)
 
 -- the facts of the domain's frames and page tables hold of this state of it, in this memory
 abbrev pub HasFacts : Hardware → Own → Dom → Storage → Type 0
@@ -109,15 +91,8 @@ pub record BesideStorage (p : Hardware) (o : Own) (first s a : Storage) : Type 0
   pub outside : (f : ℕ) → own_frame p o f ≡ false → frame_at s.mem f ≡ frame_at first.mem f
 
 -- the caches likewise
-pub record BesideCaches (p : Hardware) (o : Own) (first c k : Caches) : Type 0 where
-  pub core : c.core ≡ k.core
-  pub same : SameSets p o c k
-  pub resident : Resident p c
-
--- equal costs, and caches that are beside
-pub record BesideTouched (p : Hardware) (o : Own) (first : Caches) (r q : Touched) : Type 0 where
-  pub cost : r.cost ≡ q.cost
-  pub caches : BesideCaches p o first r.caches q.caches
+abbrev pub BesideCaches : Hardware → Own → Caches → Caches → Caches → Type 0
+BesideCaches p o first c k = sharing.BesideCaches (hierarchy p) (own_colour o) (region p) first.l2 c k
 
 pub record Beside (p : Hardware) (o : Own) (first s a : Local) : Type 0 where
   pub kernel : IsKernel p o
@@ -151,10 +126,12 @@ pub record Untouched (p : Hardware) (o : Own) (d : ℕ) (later w : World) : Type
 
 -- ---- time
 
--- before switch k the clock is at the last slot's end, or past it by less than the largest step
+-- before switch k the clock is at the last slot's end, or past it by less than the largest step; and the caches have their
+-- ways
 pub record InTime (i : Image) (k : ℕ) (w : World) : Type 0 where
   pub over : last_end i.all.schedule k ≤ w.clock
   pub soon : w.clock < last_end i.all.schedule k + largest_step i.all.hardware
+  pub ways : HasWays (hierarchy i.all.hardware) w.caches
 
 -- each switch's cycles are at most its entry's pad
 abbrev pub AllWithinPads : List Entry → List (ℕ × ℕ) → Type 0

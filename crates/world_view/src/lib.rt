@@ -4,7 +4,9 @@
 //! the contracts of the functions of `laws`.
 #![tactic(auto)]
 
+mod hierarchy;
 pub mod laws;
 mod view;
 
+pub use hierarchy::geometry_of;
 pub use view::{Used, View};

@@ -2,10 +2,10 @@
 // an image that is accepted, with what it says.
 use super::{Checked, check};
 use crate::own::{Own, Rights};
-use crate::public::Entry;
-use crate::{CacheShape, CheckRefusal, Hardware, InitialCap, Policy};
+use crate::{CacheShape, CheckRefusal, Entry, Hardware, InitialCap, Policy, check_but_pads};
 use cycle_cost::Costs;
-use image_text::{Refusal, read_image};
+use image_text::{Raw, Refusal, read_image};
+use pad_bound::bound;
 use std::alloc::Global;
 use std::process::Abort;
 
@@ -98,7 +98,7 @@ length = 10000
 pad = 6150
 "#;
 
-const ROWS: [Row; 144] = [
+const TO_K11: [Row; 80] = [
     // K3: the line, which decides the colours, too
     ("line = 64", "line = 48", 1, (3, 1, 48, 1)),
     ("line = 64", "line = 8", 1, (3, 1, 8, 1)),
@@ -248,7 +248,7 @@ const ROWS: [Row; 144] = [
         (6, 8, i64::MIN, 1),
     ),
     ("flush = 20", "flush = 1001", 1, (6, 9, 1001, 1000)),
-    ("flush = 20", "flush = 1000", 1, (0, 0, 0, 0)),
+    ("flush = 20", "flush = 1000", 1, (17, 0, 6150, 7130)),
     // K7
     (BLUE, ANOTHER, 16, (7, 16, 17, 16)),
     (BLUE, ANOTHER, 15, (7, 2, 1, 0)),
@@ -325,7 +325,7 @@ const ROWS: [Row; 144] = [
     ("colours = [2]", "colours = []", 1, (10, 1, 0, 10)),
     // K11
     ("shared = 512", "shared = 20480", 1, (11, 2, 5, 4)),
-    ("shared = 512", "shared = 16384", 1, (0, 0, 0, 0)),
+    ("shared = 512", "shared = 16384", 1, (17, 0, 6150, 20782)),
     ("shared = 512", "shared = 64", 1, (0, 0, 0, 0)),
     ("shared = 512", "shared = 500", 1, (11, 1, 500, 65536)),
     ("shared = 512", "shared = 0", 1, (11, 1, 0, 65536)),
@@ -339,6 +339,9 @@ const ROWS: [Row; 144] = [
         (11, 1, i64::MAX, 65536),
     ),
     (IMAGE, NARROW, 1, (11, 3, 64, 64)),
+];
+
+const FROM_K12: [Row; 73] = [
     // K12, cases 1 to 5
     (
         BLUE_CODE,
@@ -457,7 +460,8 @@ const ROWS: [Row; 144] = [
     ),
     // K16
     (RED_ENTRY, SHORT_ENTRY, 64, (16, 0, 65, 1)),
-    (RED_ENTRY, SHORT_ENTRY, 63, (0, 0, 0, 0)),
+    (RED_ENTRY, SHORT_ENTRY, 63, (17, 0, 0, 6150)),
+    (RED_ENTRY, RED_ENTRY, 63, (0, 0, 0, 0)),
     ("domain = 1", "domain = 2", 1, (16, 1, 2, 2)),
     (
         "domain = 1",
@@ -492,6 +496,31 @@ const ROWS: [Row; 144] = [
         1,
         (16, 0, -1, 2),
     ),
+    // K17: by one cycle, of a later entry, and after all other rules; a machine
+    // with a shared line less, one whose every access is dearer, the dearest
+    ("pad = 6150", "pad = 6149", 1, (17, 0, 6149, 6150)),
+    ("pad = 6150", "pad = 0", 1, (17, 0, 0, 6150)),
+    ("pad = 1000000", "pad = 6149", 1, (17, 1, 6149, 6150)),
+    (
+        "pad = 6150\n[[schedule]]\ndomain = 1",
+        "pad = 0\n[[schedule]]\ndomain = 2",
+        1,
+        (16, 1, 2, 2),
+    ),
+    (
+        "l1d = { sets = 16",
+        "l1d = { sets = 1024",
+        1,
+        (17, 0, 6150, 26310),
+    ),
+    ("wb = 10", "wb = 11", 1, (17, 0, 6150, 6266)),
+    ("shared = 512", "shared = 448", 1, (0, 0, 0, 0)),
+    (
+        "base = 1, l1 = 1, l2 = 8, mem = 40, wb = 10, tlb = 1, mispredict = 3, trap = 10, flush = 20",
+        "base = 1000, l1 = 1000, l2 = 1000, mem = 1000, wb = 1000, tlb = 1000, mispredict = 1000, trap = 1000, flush = 1000",
+        1,
+        (17, 0, 6150, 421999),
+    ),
     // two rules
     (
         "\"red\"\ncolours = [1]\nentry = 0x10000",
@@ -511,10 +540,22 @@ fn checked(alloc: Global, text: &str) -> Result<Checked, CheckRefusal> {
     check(alloc, read_image(alloc, text.as_bytes())?)
 }
 
-fn broken_by(alloc: Global, row: &Row) -> Result<Option<Refusal>, CheckRefusal> {
+fn changed(alloc: Global, row: &Row) -> Result<Raw, CheckRefusal> {
     let (old, new, many, _) = *row;
     let text = IMAGE.replacen(alloc, old, new.repeat(alloc, many)?.as_str(), 1)?;
-    match checked(alloc, text.as_str()) {
+    read_image(alloc, text.as_bytes())
+}
+
+fn broken_by(alloc: Global, row: &Row) -> Result<Option<Refusal>, CheckRefusal> {
+    match check(alloc, changed(alloc, row)?) {
+        Ok(_) => Ok(None),
+        Err(CheckRefusal::Broken(refusal)) => Ok(Some(refusal)),
+        Err(CheckRefusal::Memory) => Err(CheckRefusal::Memory),
+    }
+}
+
+fn broken_but_pads(alloc: Global, row: &Row) -> Result<Option<Refusal>, CheckRefusal> {
+    match check_but_pads(alloc, changed(alloc, row)?) {
         Ok(_) => Ok(None),
         Err(CheckRefusal::Broken(refusal)) => Ok(Some(refusal)),
         Err(CheckRefusal::Memory) => Err(CheckRefusal::Memory),
@@ -534,11 +575,36 @@ fn wanted(row: &Row) -> Option<Refusal> {
     })
 }
 
+// With the rule of pads, and without it.
+fn are_named(rt: &impl Abort, alloc: Global, rows: &[Row]) {
+    for row in rows {
+        let first = wanted(row);
+        let others = first.filter(|refusal| refusal.rule != 17);
+        assert_eq!(rt; broken_by(alloc, row), Ok(first), "{}", row.1);
+        assert_eq!(rt; broken_but_pads(alloc, row), Ok(others), "{}", row.1);
+    }
+}
+
 #[test]
 fn the_first_broken_case_is_named(rt: HostRuntime) {
-    for row in &ROWS {
-        assert_eq!(rt; broken_by(rt.alloc(), row), Ok(wanted(row)), "{}", row.1);
-    }
+    are_named(&rt, rt.alloc(), &TO_K11);
+    are_named(&rt, rt.alloc(), &FROM_K12);
+}
+
+// Of an image whose pads are too short, too.
+#[test]
+fn the_bound_is_that_of_the_machine(rt: HostRuntime) -> Result<(), CheckRefusal> {
+    let alloc = rt.alloc();
+    let text = IMAGE.replacen(alloc, "pad = 6150", "pad = 6149", 1)?;
+    let image = check_but_pads(alloc, read_image(alloc, text.as_bytes())?)?;
+    image.kept();
+    let bound = bound(&image.shape());
+    let parts = (bound.instruction, bound.operation, bound.leave);
+    assert_eq!(rt; parts, (306, 4277, 383));
+    let parts = (bound.prefetch, bound.flush, bound.enter);
+    assert_eq!(rt; parts, (472, 340, 373));
+    assert_eq!(rt; bound.total, 6150);
+    Ok(())
 }
 
 // Blue has code, three pages of data that are zero, and capabilities in slots 0
@@ -593,7 +659,6 @@ fn shape(sets: u32, ways: u32) -> CacheShape {
 fn hardware() -> Hardware {
     Hardware {
         frames: 64,
-        base: 1,
         shared: 512,
         line: 64,
         l1i: shape(16, 2),
@@ -632,7 +697,8 @@ fn an_image_is_accepted(rt: HostRuntime) -> Result<(), CheckRefusal> {
         pad: 1_000_000,
     };
     assert_eq!(rt; (public.domains, public.hardware), (2, hardware));
-    assert_eq!(rt; public.schedule.last(), Some(&last));
+    assert_eq!(rt; public.schedule.len(), 2);
+    assert_eq!(rt; public.schedule.entry(1), last);
     assert_eq!(rt; public.domains, 2);
     is_blue(&rt, checked.own(1));
     Ok(())

@@ -3,19 +3,26 @@ use super::{Machine, unused};
 use crate::used::{note_switch, switch_entry};
 use domain_open::{load_pages, open_all};
 use domain_step::stretch;
-use image_check::{Checked, Entry};
+use domain_switch::switch;
+use image_check::Checked;
+use kernel_clone::CloneLayout;
+use mem_system::MemSystem;
 use phys_mem::PhysMem;
+use sched_table::Entry;
 use std::alloc::Global;
 use tp_base::Memory;
-use world_view::{Used, View};
+use world_view::{Used, View, geometry_of};
 
 impl<'a> Machine<'a> {
-    ghost use Rattle.std.specs.Prelude.{◌≡◌, ◌+◌, ◌<◌, ◌≤◌, length, IfOk};
-    ghost use Rattle.image_check.specs.Public.{entry_in};
-    ghost use Rattle.image_check.specs.Models.{entry_model};
+    ghost use Rattle.std.specs.Prelude.{◌≡◌, ◌+◌, ◌^◌, ◌<◌, ◌≤◌, length, option_map, IfOk, IfSome};
+    ghost use Rattle.repl_policy.specs.Members.{any_rule};
+    ghost use Rattle.kernel_clone.specs.Models.{layout_model};
+    ghost use Rattle.mem_system.specs.Contents.{hierarchy_of};
+    ghost use Rattle.domain_switch.specs.Switch.{IsCloneOn};
     ghost use Rattle.image_check.specs.Image.{own_of};
     ghost use Rattle.world_view.specs.Machine as spec;
-    ghost use Rattle.world_view.specs.Schedule as schedule;
+    ghost use Rattle.sched_table.specs.Schedule as schedule;
+    ghost use Rattle.sched_table.specs.Schedule.{entry_in};
     ghost use Rattle.world_view.specs.View.{view_whole, view_alone};
     ghost use Rattle.world_view.specs.Models.{view_model};
     ghost use Rattle.world_view.specs.Used.{largest_of, count_of};
@@ -32,20 +39,20 @@ impl<'a> Machine<'a> {
     {
         image.runnable();
         let public = image.public();
+        let geometry = geometry_of(&public.hardware);
+        let system = MemSystem::new(alloc, geometry, public.hardware.costs, false)?;
         let mut memory = PhysMem::new(alloc, public.hardware.frames)?;
         let domains = open_all(alloc, image, &mut memory)?;
         load_pages(image, domains.as_slice(), &mut memory);
         let used = unused(alloc, public.schedule.len())?;
-        let last = public.schedule.len() - 1;
         Ok(Machine {
             image,
             slots: 0,
             memory,
+            system,
             domains,
             used,
             clock: 0,
-            start: u64::from(public.schedule[last].pad),
-            last_end: 0,
         })
     }
 
@@ -59,39 +66,72 @@ impl<'a> Machine<'a> {
             ≡ schedule.start (image_of self.old).all.schedule self.old.slots }
     {
         let entry = self.next_entry();
+        let start = self.next_start();
+        let last_end = self.last_end();
+        let out = self.outgoing();
         let public = self.image.public();
-        let entries = public.schedule.len();
-        let switched = switch_entry(entries, self.slots);
-        note_switch(
-            self.used.as_mut_slice(),
-            switched,
-            self.clock - self.last_end,
-        );
         let d = usize::from(entry.domain);
-        let begin = self.clock.max(self.start);
-        let end = self.start + u64::from(entry.length);
-        self.clock = stretch(
-            &public.hardware,
-            &mut self.memory,
-            &mut self.domains[d],
-            begin,
-            end,
+        let switched = switch(
+            &mut self.system,
+            out.as_ref(),
+            &self.domains[d].layout,
+            public.hardware.shared,
+            last_end,
+            self.clock,
+            start,
         );
-        self.last_end = end;
-        self.start = end + u64::from(entry.pad);
+        let place = switch_entry(public.schedule.len(), self.slots);
+        note_switch(self.used.as_mut_slice(), place as usize, switched.used);
+        self.clock = stretch(
+            &mut self.memory,
+            &mut self.system,
+            &mut self.domains[d],
+            switched.now,
+            start + u64::from(entry.length),
+        );
         self.slots += 1;
+    }
+
+    // The kernel clone of the domain whose slot was last: nobody's before the first.
+    fn outgoing(&self) -> Option<CloneLayout>
+        ensures clone { option_map layout_model result ≡ spec.clone_of (image_of self.now)
+            (schedule.outgoing (image_of self.now).all.schedule self.now.slots) }
+        ensures on { IfSome result (IsCloneOn (hierarchy_of any_rule self.now.system)
+            (image_of self.now).all.hardware.shared) }
+    {
+        if self.slots == 0 {
+            return None;
+        }
+        let entry = self.image.public().schedule.entry(self.slots - 1);
+        Some(self.domains[usize::from(entry.domain)].layout)
+    }
+
+    // When the next slot begins, in cycles.
+    fn next_start(&self) -> u64
+        ensures start { result ≡ schedule.start (image_of self.now).all.schedule self.now.slots }
+        ensures soon { result < 2 ^ 61 }
+    {
+        self.image.public().schedule.start(self.slots)
+    }
+
+    // When the last slot ended, in cycles: its pad before the next start, and 0
+    // before the first slot.
+    fn last_end(&self) -> u64
+        ensures end { result ≡ schedule.last_end (image_of self.now).all.schedule self.now.slots }
+    {
+        let entries = &self.image.public().schedule;
+        let switched = entries.entry(switch_entry(entries.len(), self.slots));
+        entries.start(self.slots) - u64::from(switched.pad)
     }
 
     // The entry of the next slot.
     fn next_entry(&self) -> Entry
-        ensures entry { entry_model result
+        ensures entry { result
             ≡ schedule.entry_of_slot (image_of self.now).all.schedule self.now.slots }
         ensures domain { result.domain < length (image_of self.now).owns }
         ensures length { result.length ≤ 1000000 }
-        ensures pad { result.pad ≤ 1000000 }
     {
-        let entries = self.image.public().schedule.as_slice();
-        entries[self.slots as usize % entries.len()]
+        self.image.public().schedule.entry(self.slots)
     }
 
     /// What is seen of a domain after the slots that have run: what is seen of it

@@ -41,11 +41,11 @@ segment = [{ page = 16, pages = 1, rights = \"x\", hex = \"6f000000\" }]
 [[schedule]]
 domain = 0
 length = 1000
-pad = 100
+pad = 7000
 [[schedule]]
 domain = 1
 length = 2000
-pad = 50
+pad = 6150
 ";
 
 // The image of these domains, if it is accepted.
@@ -112,22 +112,22 @@ fn ran(alloc: Global) -> Result<Option<(Seen, Used)>, Memory> {
     Ok(told(&machine.view(0)).map(|seen| (seen, used)))
 }
 
-// The first slot begins after the last entry's pad, at 50.
+// The first slot begins after the last entry's pad, at 6150.
 #[test]
 fn slots_are_run(rt: HostRuntime) -> Result<(), Fail> {
     let red = Seen {
         status: DomainStatus::Exited(0),
         retired: 6,
         pc: 0x1_0020,
-        readings: (50, 50),
+        readings: (6150, 6150),
         replies: (1, Reply { code: 0, value: 0 }),
         printed: 1,
         pool: 16,
         frame: 37,
-        word: 50,
+        word: 6150,
     };
     let used = Used {
-        largest: 0,
+        largest: 820,
         count: 1,
     };
     assert_eq!(rt; ran(rt.alloc())?, Some((red, used)));

@@ -13,6 +13,8 @@ use tp_io::{MemSink, MemSource, Source, SureSource};
 
 mod calls;
 mod refusals;
+mod rules;
+mod timed;
 
 // Prints A, or B, and exits; or jumps to itself.
 const PRINTS_A: &str = "1305100493081000730000009308000073000000";
@@ -29,21 +31,21 @@ const READS_B: &str = "f32200c0130520049308100073000000732300c09308000073000000"
 // Prints a byte 4,097 times, and exits with the last reply's code.
 const PRINTS_TOO_MUCH: &str = "93081000b712000013051004730000009382f2ffe3da02fe9308000073000000";
 
-// Takes 40,961 cycles, and then reads cycle, time and instret, each low and high.
+// Goes 8,192 times round, and then reads cycle, time and instret, each low and high.
 const WAITS: &str =
-    "b75200009382f2ffe39e02fe732300c0f32300c8732410c0f32410c8732620c0f32620c81305000073000000";
+    "b72200009382f2ffe39e02fe732300c0f32300c8732410c0f32410c8732620c0f32620c81305000073000000";
 
 const REPORT: &str =
-    "domain 0 red\nstatus exited 0\nretired 3\nthread 0 ended pc 00010010\nreadings 0\nreplies 1 last 0:0 list 0:0\nout 1 41\nmem 0420cf7b\ndomain 1 blue\nstatus exited 0\nretired 3\nthread 0 ended pc 00010010\nreadings 0\nreplies 1 last 0:0 list 0:0\nout 1 42\nmem 0430d77b\nswitch 0 used 0 pad 6150 count 2\nswitch 1 used 0 pad 6150 count 2\nend\n";
+    "domain 0 red\nstatus exited 0\nretired 3\nthread 0 ended pc 00010010\nreadings 0\nreplies 1 last 0:0 list 0:0\nout 1 41\nmem 0420cf7b\ndomain 1 blue\nstatus exited 0\nretired 3\nthread 0 ended pc 00010010\nreadings 0\nreplies 1 last 0:0 list 0:0\nout 1 42\nmem 0430d77b\nswitch 0 used 820 pad 6150 count 2\nswitch 1 used 755 pad 6150 count 2\nend\n";
 
 const SPINS_REPORT: &str =
-    "domain 0 red\nstatus running\nretired 10000\nthread 0 ready pc 00010000\nreadings 0\nreplies 0\nout 0\nmem 0000b8cb\ndomain 1 blue\nstatus exited 0\nretired 3\nthread 0 ended pc 00010010\nreadings 0\nreplies 1 last 0:0 list 0:0\nout 1 42\nmem 0430d77b\nswitch 0 used 0 pad 6150 count 1\nswitch 1 used 0 pad 6150 count 1\nend\n";
+    "domain 0 red\nstatus running\nretired 3286\nthread 0 ready pc 00010000\nreadings 0\nreplies 0\nout 0\nmem 0000b8cb\ndomain 1 blue\nstatus exited 0\nretired 3\nthread 0 ended pc 00010010\nreadings 0\nreplies 1 last 0:0 list 0:0\nout 1 42\nmem 0430d77b\nswitch 0 used 734 pad 6150 count 1\nswitch 1 used 755 pad 6150 count 1\nend\n";
 
 const FRESH_REPORT: &str =
     "domain 0 red\nstatus running\nretired 0\nthread 0 ready pc 00010000\nreadings 0\nreplies 0\nout 0\nmem 0420cf7b\ndomain 1 blue\nstatus running\nretired 0\nthread 0 ready pc 00010000\nreadings 0\nreplies 0\nout 0\nmem 0430d77b\nswitch 0 used 0 pad 6150 count 0\nswitch 1 used 0 pad 6150 count 0\nend\n";
 
 const READS_REPORT: &str =
-    "domain 0 red\nstatus exited 0\nretired 5\nthread 0 ended pc 00010018 x5=00001806 x6=0000180a\nreadings 2 last 6154 list 6150 6154\nreplies 1 last 0:0 list 0:0\nout 1 41\nmem 842115e1\ndomain 1 blue\nstatus exited 0\nretired 5\nthread 0 ended pc 00010018 x5=0000571c x6=00005720\nreadings 2 last 22304 list 22300 22304\nreplies 1 last 0:0 list 0:0\nout 1 42\nmem 84311de1\nswitch 0 used 0 pad 6150 count 2\nswitch 1 used 0 pad 6150 count 2\nend\n";
+    "domain 0 red\nstatus exited 0\nretired 5\nthread 0 ended pc 00010018 x5=00001806 x6=000019dd\nreadings 2 last 6621 list 6150 6621\nreplies 1 last 0:0 list 0:0\nout 1 41\nmem 842115e1\ndomain 1 blue\nstatus exited 0\nretired 5\nthread 0 ended pc 00010018 x5=0000571c x6=000058f3\nreadings 2 last 22771 list 22300 22771\nreplies 1 last 0:0 list 0:0\nout 1 42\nmem 84311de1\nswitch 0 used 820 pad 6150 count 2\nswitch 1 used 755 pad 6150 count 2\nend\n";
 
 // What is seen of blue after it printed B.
 const BLUE: &str =
@@ -53,7 +55,7 @@ const USAGE: &str = "usage: tp check|bound|run|alone|gen|demo\n";
 
 // REPORT, with a bar after what each write takes.
 const PIECES: &str =
-    "domain |0| |red|\nstatus |exited |0|\nretired |3|\nthread |0| |ended| pc |00010010|\nreadings |0|\nreplies |1| last |0|:|0| list| |0|:|0|\nout |1| |41|\nmem |0420cf7b|\n|domain |1| |blue|\nstatus |exited |0|\nretired |3|\nthread |0| |ended| pc |00010010|\nreadings |0|\nreplies |1| last |0|:|0| list| |0|:|0|\nout |1| |42|\nmem |0430d77b|\n|switch |0| used |0| pad |6150| count |2|\n|switch |1| used |0| pad |6150| count |2|\n|end\n|";
+    "domain |0| |red|\nstatus |exited |0|\nretired |3|\nthread |0| |ended| pc |00010010|\nreadings |0|\nreplies |1| last |0|:|0| list| |0|:|0|\nout |1| |41|\nmem |0420cf7b|\n|domain |1| |blue|\nstatus |exited |0|\nretired |3|\nthread |0| |ended| pc |00010010|\nreadings |0|\nreplies |1| last |0|:|0| list| |0|:|0|\nout |1| |42|\nmem |0430d77b|\n|switch |0| used |820| pad |6150| count |2|\n|switch |1| used |755| pad |6150| count |2|\n|end\n|";
 
 // What every image begins with.
 const MACHINE: &str =
@@ -69,7 +71,7 @@ const TWO_TABLES: &str =
     "[[domain]]\nname = \"red\"\ncolours = [1]\nentry = 0x10000\nsegment = [{ page = 1023, pages = 2, rights = \"rw\", hex = \"01020304\" }, { page = 16, pages = 1, rights = \"rx\", hex = \"b70240001303100023a0620037f43f0083230400b714400023a06400\" }]\n[[schedule]]\ndomain = 0\nlength = 10000\npad = 6150\n";
 
 const TWO_TABLES_REPORT: &str =
-    "domain 0 red\nstatus stopped 15 pc 00010018 value 00401000\nretired 6\nthread 0 ready pc 00010018 x5=00400000 x6=00000001 x7=04030201 x8=003ff000 x9=00401000\nreadings 0\nreplies 0\nout 0\nmem 05a0ba8e\nswitch 0 used 0 pad 6150 count 1\nend\n";
+    "domain 0 red\nstatus stopped 15 pc 00010018 value 00401000\nretired 6\nthread 0 ready pc 00010018 x5=00400000 x6=00000001 x7=04030201 x8=003ff000 x9=00401000\nreadings 0\nreplies 0\nout 0\nmem 05a0ba8e\nswitch 0 used 755 pad 6150 count 1\nend\n";
 
 // The words of the runs that are tried with failures.
 const RUN: &str = "tp run --slots 4";
@@ -218,38 +220,50 @@ fn pages_are_reached_by_their_tables(rt: HostRuntime) -> Result<(), Fail> {
     )
 }
 
-// What is seen of red, with this program, after two slots of its own and two of blue's.
-fn expect_red(rt: &impl Abort, alloc: Global, program: &str, section: &str) -> Result<(), Fail> {
+// What is seen of red, with this program, and the most cycles that a switch from it used,
+// after so many rounds of a slot of its own and one of blue's.
+fn expect_red(
+    rt: &impl Abort,
+    alloc: Global,
+    rounds: u32,
+    program: &str,
+    used: &str,
+    section: &str,
+) -> Result<(), Fail>
+    requires few { rounds ≤ 32768 }
+{
     let image = image(alloc, program, PRINTS_B)?;
+    let slots = 2 * rounds;
+    let line = format!(in alloc; "tp run --slots {slots}")?;
     let report = format!(in alloc;
-        "domain 0 red\n{section}\n{BLUE}switch 0 used 0 pad 6150 count 2\nswitch 1 used 0 pad 6150 count 2\nend\n"
+        "domain 0 red\n{section}\n{BLUE}switch 0 used {used} pad 6150 count {rounds}\nswitch 1 used 755 pad 6150 count {rounds}\nend\n"
     )?;
     expect(
         rt,
         alloc,
-        RUN,
+        line.as_str(),
         image.as_str(),
         Status::Done,
         report.as_str(),
     )
 }
 
-// A program, and what is seen of red then, with a bar between and ~ for a new
-// line. An exit with a code past 255; then the exceptions, by their codes: a jump
+// A program, the most cycles that a switch from it used, and what is seen of red then,
+// with a bar between and ~ for a new line. An exit with a code past 255; then the exceptions, by their codes: a jump
 // to address 2; a misaligned branch that isn't taken, and a write of a counter;
 // EBREAK; a load at address 1, and a store at address 2, both in no page; a jump
 // to no page; a load from none; a store to its own code. No access fault comes,
 // since no walk of a domain leaves memory.
 const ENDS: &str =
-    "375534121305856773000000|status exited 305419896~retired 2~thread 0 ended pc 00010008 x10=12345678~readings 0~replies 0~out 0~mem 79ba1319
-67002000|status stopped 0 pc 00010000 value 00000002~retired 0~thread 0 ready pc 00010000~readings 0~replies 0~out 0~mem 0020b8c3
-63110000731000c0|status stopped 2 pc 00010004 value c0001073~retired 1~thread 0 ready pc 00010004~readings 0~replies 0~out 0~mem c000da32
-73001000|status stopped 3 pc 00010000 value 00010000~retired 0~thread 0 ready pc 00010000~readings 0~replies 0~out 0~mem 0010b8cf
-83221000|status stopped 4 pc 00010000 value 00000001~retired 0~thread 0 ready pc 00010000~readings 0~replies 0~out 0~mem 0010dadf
-23210000|status stopped 6 pc 00010000 value 00000002~retired 0~thread 0 ready pc 00010000~readings 0~replies 0~out 0~mem 0000d97f
-67000000|status stopped 12 pc 00000000 value 00000000~retired 1~thread 0 ready pc 00000000~readings 0~replies 0~out 0~mem 0000b8c3
-83220000|status stopped 13 pc 00010000 value 00000000~retired 0~thread 0 ready pc 00010000~readings 0~replies 0~out 0~mem 0000dadf
-b702010023a40200|status stopped 15 pc 00010004 value 00010008~retired 1~thread 0 ready pc 00010004 x5=00010000~readings 0~replies 0~out 0~mem 00045f36";
+    "375534121305856773000000|800|status exited 305419896~retired 2~thread 0 ended pc 00010008 x10=12345678~readings 0~replies 0~out 0~mem 79ba1319
+67002000|732|status stopped 0 pc 00010000 value 00000002~retired 0~thread 0 ready pc 00010000~readings 0~replies 0~out 0~mem 0020b8c3
+63110000731000c0|732|status stopped 2 pc 00010004 value c0001073~retired 1~thread 0 ready pc 00010004~readings 0~replies 0~out 0~mem c000da32
+73001000|732|status stopped 3 pc 00010000 value 00010000~retired 0~thread 0 ready pc 00010000~readings 0~replies 0~out 0~mem 0010b8cf
+83221000|732|status stopped 4 pc 00010000 value 00000001~retired 0~thread 0 ready pc 00010000~readings 0~replies 0~out 0~mem 0010dadf
+23210000|732|status stopped 6 pc 00010000 value 00000002~retired 0~thread 0 ready pc 00010000~readings 0~replies 0~out 0~mem 0000d97f
+67000000|732|status stopped 12 pc 00000000 value 00000000~retired 1~thread 0 ready pc 00000000~readings 0~replies 0~out 0~mem 0000b8c3
+83220000|732|status stopped 13 pc 00010000 value 00000000~retired 0~thread 0 ready pc 00010000~readings 0~replies 0~out 0~mem 0000dadf
+b702010023a40200|732|status stopped 15 pc 00010004 value 00010008~retired 1~thread 0 ready pc 00010004 x5=00010000~readings 0~replies 0~out 0~mem 00045f36";
 
 #[test]
 fn a_domain_ends_by_an_exit_or_an_exception(rt: HostRuntime) -> Result<(), Fail> {
@@ -258,8 +272,9 @@ fn a_domain_ends_by_an_exit_or_an_exception(rt: HostRuntime) -> Result<(), Fail>
         let row = row.replace(alloc, "~", "\n")?;
         let mut fields = row.split('|');
         let program = fields.next().unwrap_or("");
+        let used = fields.next().unwrap_or("");
         let section = fields.next().unwrap_or("");
-        expect_red(&rt, alloc, program, section)?;
+        expect_red(&rt, alloc, 2, program, used, section)?;
     }
     Ok(())
 }
@@ -272,10 +287,10 @@ fn a_domain_prints_at_most_4096_bytes(rt: HostRuntime) -> Result<(), Fail> {
     let section = format!(in alloc;
         "status exited 11\nretired 12294\nthread 0 ended pc 0001001c x5=ffffffff x10=0000000b\nreadings 0\nreplies 4097 last 11:0 list{replies}\nout 4096 {printed}\nmem 02163fa8"
     )?;
-    expect_red(&rt, alloc, PRINTS_TOO_MUCH, section.as_str())
+    expect_red(&rt, alloc, 13, PRINTS_TOO_MUCH, "744", section.as_str())
 }
 
-// Red's slots are short and blue's are long: in its 41st slot the clock is past 2^32.
+// Red's slots are short and blue's are long: in its 51st slot the clock is past 2^32.
 #[test]
 fn counters_have_two_halves(rt: HostRuntime) -> Result<(), Fail> {
     let alloc = rt.alloc();
@@ -285,17 +300,22 @@ fn counters_have_two_halves(rt: HostRuntime) -> Result<(), Fail> {
         "{MACHINE}{two}[[schedule]]\ndomain = 0\nlength = 1000\npad = 1000000\n{others}"
     )?;
     let mut report = format!(in alloc;
-        "domain 0 red\nstatus exited 0\nretired 40968\nthread 0 ended pc 00010028 x6=2eda8841 x7=00000001 x8=2eda8843 x9=00000001 x12=0000a005\nreadings 6 last 0 list 786073665 1 786073667 1 40965 0\nreplies 0\nout 0\nmem 96571041\n{BLUE}"
+        "domain 0 red\nstatus exited 0\nretired 16392\nthread 0 ended pc 00010028 x6=7a8d573b x7=00000001 x8=7a8d5741 x9=00000001 x12=00004005\nreadings 6 last 0 list 2056083259 1 2056083265 1 16389 0\nreplies 0\nout 0\nmem 9656e041\n{BLUE}"
     )?;
     for entry in 0..63 {
-        let line = format!(in alloc; "switch {entry} used 0 pad 1000000 count 40\n")?;
+        let used = match entry {
+            0 => 734,
+            1 => 580,
+            _ => 252,
+        };
+        let line = format!(in alloc; "switch {entry} used {used} pad 1000000 count 50\n")?;
         report.push_str(line.as_str())?;
     }
-    report.push_str("switch 63 used 0 pad 1000000 count 41\nend\n")?;
+    report.push_str("switch 63 used 755 pad 1000000 count 51\nend\n")?;
     expect(
         &rt,
         alloc,
-        "tp run --slots 2561",
+        "tp run --slots 3201",
         image.as_str(),
         Status::Done,
         report.as_str(),
@@ -371,7 +391,9 @@ fn a_large_image_is_run_for_any_number_of_slots(rt: HostRuntime) -> Result<(), F
 fn other_words_have_the_usage_line(rt: HostRuntime) -> Result<(), Fail> {
     let alloc = rt.alloc();
     let image = image(alloc, PRINTS_A, PRINTS_B)?;
-    for line in "tp|tp run|tp run --slots 65537|tp fly|tp help|tp run --help".split('|') {
+    for line in "tp|tp run|tp run --slots 65537|tp fly|tp help|tp run --help|tp check x|tp bound --slots 4".split(
+        '|',
+    ) {
         expect(&rt, alloc, line, image.as_str(), Status::Usage, USAGE)?;
     }
     Ok(())

@@ -5,8 +5,10 @@ use std::alloc::Global;
 use std::process::Abort;
 use std::test::Fail;
 
-// A line, a bar, and the number of slots that it asks for, if it asks for a run.
-const LINES: &str = "tp run --slots 4|4
+// A line, a bar, and what it asks for, if anything: a number of slots asks for a run.
+const LINES: &str = "tp check|check
+tp bound|bound
+tp run --slots 4|4
 tp run --slots=4|4
 tp run --slots 0|0
 tp run --slots 65536|65536
@@ -18,6 +20,15 @@ tp run --slots=-0|0
 tp|
 tp fly|
 tp fly --slots 4|
+tp check --slots 4|
+tp bound --slots 4|
+tp check x|
+tp check bound|
+tp bound check|
+tp --check|
+tp Check|
+tp check --help|
+tp help bound|
 tp help|
 tp help run|
 tp --help|
@@ -47,21 +58,28 @@ fn asked_in(alloc: Global, line: &str) -> Result<Option<Command>, Fail> {
     Ok(command(alloc, words.as_slice())?)
 }
 
-fn is_asked(rt: &impl Abort, line: &str, asked: Option<Command>, slots: Option<u32>) {
-    assert_eq!(rt;
-        asked,
-        slots.map(|slots| Command::Run { slots }),
-        "at {line}"
-    );
+fn wanted(asked: &str) -> Option<Command> {
+    match asked {
+        "check" => Some(Command::Check),
+        "bound" => Some(Command::Bound),
+        _ => {
+            let slots = asked.parse::<u32>().ok()?;
+            Some(Command::Run { slots })
+        }
+    }
+}
+
+fn is_asked(rt: &impl Abort, line: &str, asked: Option<Command>, due: Option<Command>) {
+    assert_eq!(rt; asked, due, "at {line}");
 }
 
 #[test]
-fn words_ask_for_slots_or_for_nothing(rt: HostRuntime) -> Result<(), Fail> {
+fn words_ask_for_a_command_or_for_nothing(rt: HostRuntime) -> Result<(), Fail> {
     for row in LINES.split('\n') {
         let mut fields = row.split('|');
         let line = fields.next().unwrap_or("");
-        let slots = fields.next().unwrap_or("").parse::<u32>().ok();
-        is_asked(&rt, line, asked_in(rt.alloc(), line)?, slots);
+        let due = wanted(fields.next().unwrap_or(""));
+        is_asked(&rt, line, asked_in(rt.alloc(), line)?, due);
     }
     Ok(())
 }

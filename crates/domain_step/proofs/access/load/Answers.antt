@@ -1,22 +1,18 @@
+use Rattle.std.proofs.Common.{refl}
 use Rattle.std.proofs.lemmas.Result.{err_from_is_err_and}
-use Rattle.domain_step.proofs.Accesses.{load_faulted, load_found, load_aligned}
+use Rattle.domain_step.specs.Kept.{Kept}
+use Rattle.domain_step.proofs.Accesses.{load_faulted, load_found}
 use Rattle.domain_step.proofs.access.load.Goals as goal
 
-pub returns-in_err-frame : goal.returns-in_err-frame
-returns-in_err-frame c =
+pub returns-in_err-at-clause-finds : goal.returns-in_err-at-clause-finds
+returns-in_err-at-clause-finds g c w caps d s r k =
     let e = err_from_is_err_and c.from_residual.result c.from_residual.ensures.1 in
-    record {
-      finds = λ p same d s h. rw (e.1, e.2) (load_faulted p c.args.root d c.args.width c.args.at s c.args.memory.now c.in_err-frame.field-0.0 (c.in_err-frame.ensures.finds p same d s h));
-    }
+    rw (e.1, e.2) (load_faulted g.P.Policy.rule g.P.Policy.stands_for w caps c.args.root c.args.memory.now d s r
+    (Kept g.P.Policy.rule g.P.Policy.stands_for w caps c.args.root c.args.memory.now c.translate.new.system c.translate.new.spent)
+    c.args.width c.args.va c.in_err-at.field-0.0 (c.in_err-at.ensures.finds w caps d s r k))
 
-pub read-requires-clause-within : goal.read-requires-clause-within
-read-requires-clause-within c = rw c.physical.ensures.frame c.in_ok-frame.ensures.within
-
-pub read-requires-clause-aligned : goal.read-requires-clause-aligned
-read-requires-clause-aligned c = load_aligned c.args.width c.physical.result c.args.at c.physical.ensures.low c.requires.aligned
-
-pub returns : goal.returns
-returns c = record {
-  finds = λ p same d s h. load_found p c.args.root d c.args.width c.args.at s c.args.memory.now c.in_ok-frame.frame c.read.result c.physical.result (c.in_ok-frame.ensures.finds p same d s h)
-      c.physical.ensures.frame c.physical.ensures.place c.physical.ensures.low c.read.ensures.value;
-}
+pub returns-clause-finds : goal.returns-clause-finds
+returns-clause-finds g c w caps d s r k =
+    load_found g.P.Policy.rule g.P.Policy.stands_for w caps c.args.root c.args.memory.now d s r
+    c.args.width c.args.va c.read.result c.in_ok-at.at c.line_of.result c.translate.new.spent _ c.access.result c.translate.new.system c.access.new.self
+    (c.in_ok-at.ensures.finds w caps d s r k) c.in_ok-at.ensures.place c.line_of.ensures.line c.access.ensures.makes c.access.ensures.buffer refl c.read.ensures.value

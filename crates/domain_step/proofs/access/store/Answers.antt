@@ -1,25 +1,23 @@
+use Rattle.std.proofs.Common.{refl}
 use Rattle.std.proofs.lemmas.Result.{err_from_is_err_and}
-use Rattle.rv_core.specs.Effect.{IsStore}
-use Rattle.domain_step.proofs.Accesses.{store_none, store_faulted, store_made, store_aligned}
+use Rattle.domain_step.specs.Kept.{Kept}
+use Rattle.domain_step.proofs.Accesses.{store_none, store_faulted, store_made}
 use Rattle.domain_step.proofs.access.store.Goals as goal
 
 pub returns-in_default-clause-finds : goal.returns-in_default-clause-finds
-returns-in_default-clause-finds c p same d s h = rw c.in_default.is (store_none p c.args.root d s c.args.memory.now h)
+returns-in_default-clause-finds g c w caps d s r k =
+    rw c.in_default.is (store_none g.P.Policy.rule g.P.Policy.stands_for w caps c.args.root c.args.memory.now d s r
+    (Kept g.P.Policy.rule g.P.Policy.stands_for w caps c.args.root c.args.memory.now c.args.system.now c.args.spent.now) k)
 
-pub returns-in_err-frame-clause-finds : goal.returns-in_err-frame-clause-finds
-returns-in_err-frame-clause-finds c p same d s h =
+pub returns-in_err-at-clause-finds : goal.returns-in_err-at-clause-finds
+returns-in_err-at-clause-finds g c w caps d s r k =
     let e = err_from_is_err_and c.from_residual.result c.from_residual.ensures.1 in
-    rw (e.1, e.2, c.in-Some.is) (store_faulted p c.args.root d c.in-Some.made s c.args.memory.now c.in_err-frame.field-0.0 (c.in_err-frame.ensures.finds p same d s h))
-
-pub write-requires-clause-within : goal.write-requires-clause-within
-write-requires-clause-within c = rw c.physical.ensures.frame c.in_ok-frame.ensures.within
-
-pub write-requires-clause-aligned : goal.write-requires-clause-aligned
-write-requires-clause-aligned c =
-    let store : IsStore c.in-Some.made = rw c.in-Some.is at c.requires.store in
-    store_aligned c.in-Some.made.size c.physical.result c.in-Some.made.at store.size c.physical.ensures.low store.aligned
+    rw (e.1, e.2, c.in-Some.is) (store_faulted g.P.Policy.rule g.P.Policy.stands_for w caps c.args.root c.args.memory.now d s r
+    (Kept g.P.Policy.rule g.P.Policy.stands_for w caps c.args.root c.args.memory.now c.translate.new.system c.translate.new.spent)
+    c.in-Some.made c.in_err-at.field-0.0 (c.in_err-at.ensures.finds w caps d s r k))
 
 pub returns-clause-finds : goal.returns-clause-finds
-returns-clause-finds c p same d s h =
-    rw c.in-Some.is (store_made p c.args.root d c.in-Some.made s c.args.memory.now c.in_ok-frame.frame c.physical.result c.write.new.memory (c.in_ok-frame.ensures.finds p same d s h) c.in_ok-frame.ensures.within
-    c.physical.ensures.frame c.physical.ensures.place c.physical.ensures.low c.write.ensures.holds)
+returns-clause-finds g c w caps d s r k =
+    rw c.in-Some.is (store_made g.P.Policy.rule g.P.Policy.stands_for w caps c.args.root c.args.memory.now d s r
+    c.in-Some.made c.in_ok-at.at c.line_of.result c.translate.new.spent _ c.access.result c.translate.new.system c.access.new.self c.write.new.memory
+    (c.in_ok-at.ensures.finds w caps d s r k) c.in_ok-at.ensures.place c.line_of.ensures.line c.access.ensures.makes c.access.ensures.buffer refl c.write.ensures.frames c.write.ensures.holds)

@@ -1,69 +1,106 @@
-use Rattle.std.proofs.Common.{◌≡◌, ℕ, Some, Ok, Err, sym, ap, refl, subst, ◌∙◌, arith}
-use Rattle.phys_mem.specs.Address.{place_of}
-use Rattle.sv32_walk.specs.declared.access.Access.TheVariants as access
-use Rattle.hardware_check.specs.Models.{hardware_model}
-use Rattle.world_view.specs.Event.{place, translate, execute}
-use Rattle.world_view.specs.Kernel.{estate, layout}
+use Rattle.std.proofs.Common.{◌+◌, Some, sym, ap, refl, ◌∙◌, arith}
 use Rattle.kernel_call.specs.Models.{dom_model}
-use Rattle.domain_step.specs.Moves.{EndsAs, IsLeft}
-use Rattle.domain_step.proofs.Instructions.{instruction_missed, instruction_undefined, instruction_executed}
-use Rattle.domain_step.proofs.Events.{found_word, left_with, called_with}
+use Rattle.world_view.specs.Kernel.{estate, layout}
+use Rattle.world_view.specs.Event.{instruction}
+use Rattle.domain_step.specs.Kept.{Kept, KeptOf}
+use Rattle.domain_step.proofs.Instructions.{instruction_missed, instruction_undefined, instruction_called, instruction_executed, found_word}
+use Rattle.domain_step.proofs.Events.{kept_in, is_root, kept_whole, left_whole, keeps_itself}
 use Rattle.domain_step.proofs.slot.run_instruction.Goals as goal
 
 pub returns-in-Err-clause-leaves : goal.returns-in-Err-clause-leaves
-returns-in-Err-clause-leaves c o s readings replies kernel facts r q =
-    let p = hardware_model c.args.hardware.now in
-    let d = dom_model c.args.domain.now readings replies in
-    let missed = subst (λ (root : ℕ). EndsAs {A = ℕ} d (Err c.in-Err.trap) c.args.memory.now (translate p root d access.Fetch d.threads.current.pc s)) (c.root-root.ensures.value ∙ facts.has.root)
-    (c.in-Err.ensures.finds p c.requires.size d s facts.holds) in
-    let left = instruction_missed p (estate p o) (layout p o) c.args.now d s c.args.memory.now c.stop.new.domain c.in-Err.trap missed (c.stop.ensures.becomes readings replies r q) in
-    left_with p o c.args.now d s c.args.memory.now c.args.memory.now c.args.domain.now c.stop.new.domain kernel refl facts left c.stop.ensures.keeps refl
-
-pub read_word-word-requires-clause-within : goal.read_word-word-requires-clause-within
-read_word-word-requires-clause-within c = rw c.physical.ensures.frame c.in-Ok.ensures.within
+returns-in-Err-clause-leaves g c w s r readings replies k h q =
+    let rule = g.P.Policy.rule in
+    let stands = g.P.Policy.stands_for in
+    let old = c.args.domain.now in
+    let memory = c.args.memory.now in
+    let d = dom_model old readings replies in
+    let e = estate w.machine w.own in
+    let l = layout w.machine w.own in
+    let root = c.root-root.result in
+    let top = c.root-root.ensures.value in
+    let there = kept_in rule stands w old memory c.args.system.now c.args.spent.now s r k root top in
+    left_whole rule stands w old memory c.args.system.now c.args.spent.now s r k root top c.stop.new.domain memory c.translate.new.system c.translate.new.spent c.stop.ensures.keeps refl
+    (instruction w.machine e l c.args.now d)
+    (instruction_missed w e l c.args.now d s r c.stop.new.domain root (is_root rule stands w old memory c.args.system.now c.args.spent.now s r k root top)
+    (Kept rule stands w old.caps root memory c.translate.new.system c.translate.new.spent) c.in-Err.trap
+    (c.in-Err.ensures.finds w old.caps d s r there) (c.stop.ensures.becomes readings replies h q))
 
 pub returns-in_default-clause-leaves : goal.returns-in_default-clause-leaves
-returns-in_default-clause-leaves c o s readings replies kernel facts r q =
-    let p = hardware_model c.args.hardware.now in
-    let d = dom_model c.args.domain.now readings replies in
-    let pc = c.args.domain.now.threads.active.pc in
-    let page = subst (λ (root : ℕ). EndsAs d (Ok c.in-Ok.frame) c.args.memory.now (translate p root d access.Fetch pc s)) (c.root-root.ensures.value ∙ facts.has.root)
-    (c.in-Ok.ensures.finds p c.requires.size d s facts.holds) in
-    let at : place_of c.physical.result ≡ place pc = omega (arith, c.physical.ensures.place) in
-    let is = found_word s.mem c.in-Ok.frame c.read_word-word.result c.physical.result pc c.physical.ensures.frame at (c.read_word-word.ensures.holds s.mem facts.holds) in
-    let left = instruction_undefined p (estate p o) (layout p o) c.args.now d s c.in-Ok.frame c.read_word-word.result page.value is c.args.memory.now c.stop-in_default.new.domain
-    (record { code = 2; value = c.read_word-word.result }) facts.holds refl (sym c.in_default.ensures.value) (c.stop-in_default.ensures.becomes readings replies r q) in
-    left_with p o c.args.now d s c.args.memory.now c.args.memory.now c.args.domain.now c.stop-in_default.new.domain kernel refl facts left c.stop-in_default.ensures.keeps refl
+returns-in_default-clause-leaves g c w s r readings replies k h q =
+    let rule = g.P.Policy.rule in
+    let stands = g.P.Policy.stands_for in
+    let old = c.args.domain.now in
+    let memory = c.args.memory.now in
+    let d = dom_model old readings replies in
+    let e = estate w.machine w.own in
+    let l = layout w.machine w.own in
+    let root = c.root-root.result in
+    let top = c.root-root.ensures.value in
+    let at = c.in-Ok.at in
+    let next = c.fetch.new.self in
+    let spent = c.translate.new.spent + c.fetch.result in
+    let there = kept_in rule stands w old memory c.args.system.now c.args.spent.now s r k root top in
+    left_whole rule stands w old memory c.args.system.now c.args.spent.now s r k root top c.stop-in_default.new.domain memory next spent c.stop-in_default.ensures.keeps refl
+    (instruction w.machine e l c.args.now d)
+    (instruction_undefined w e l c.args.now d s r c.stop-in_default.new.domain root (is_root rule stands w old memory c.args.system.now c.args.spent.now s r k root top)
+    rule stands old.caps memory c.translate.new.system next at c.line_of.result c.read_word-word.result c.translate.new.spent spent c.fetch.result
+    (c.in-Ok.ensures.finds w old.caps d s r there) c.in-Ok.ensures.place c.line_of.ensures.line c.fetch.ensures.makes c.fetch.ensures.buffer refl
+    (λ m b. found_word m c.read_word-word.result at old.threads.active.pc c.in-Ok.ensures.place (c.read_word-word.ensures.holds m b))
+    (record { code = 2; value = c.read_word-word.result }) refl (sym c.in_default.ensures.value) (c.stop-in_default.ensures.becomes readings replies h q))
 
 pub returns-in-Ecall-clause-leaves : goal.returns-in-Ecall-clause-leaves
-returns-in-Ecall-clause-leaves c o s readings replies kernel facts r q =
-    let p = hardware_model c.args.hardware.now in
-    let d = dom_model c.args.domain.now readings replies in
-    let pc = c.args.domain.now.threads.active.pc in
-    let page = subst (λ (root : ℕ). EndsAs d (Ok c.in-Ok.frame) c.args.memory.now (translate p root d access.Fetch pc s)) (c.root-root.ensures.value ∙ facts.has.root)
-    (c.in-Ok.ensures.finds p c.requires.size d s facts.holds) in
-    let at : place_of c.physical.result ≡ place pc = omega (arith, c.physical.ensures.place) in
-    let is = found_word s.mem c.in-Ok.frame c.read_word-word.result c.physical.result pc c.physical.ensures.frame at (c.read_word-word.ensures.holds s.mem facts.holds) in
-    called_with p o c.args.now d s c.in-Ok.frame c.read_word-word.result c.call.new.memory c.call.new.domain page.value is
-    (sym c.in-Some.ensures.value ∙ ap (λ x. Some x) c.in-Ecall.is) (c.call.ensures.calls (estate p o) readings replies s.mem facts r q)
+returns-in-Ecall-clause-leaves g c w s r readings replies k h q =
+    let rule = g.P.Policy.rule in
+    let stands = g.P.Policy.stands_for in
+    let old = c.args.domain.now in
+    let memory = c.args.memory.now in
+    let d = dom_model old readings replies in
+    let e = estate w.machine w.own in
+    let l = layout w.machine w.own in
+    let root = c.root-root.result in
+    let top = c.root-root.ensures.value in
+    let at = c.in-Ok.at in
+    let next = c.fetch.new.self in
+    let spent = c.translate.new.spent + c.fetch.result in
+    let there = kept_in rule stands w old memory c.args.system.now c.args.spent.now s r k root top in
+    let whole = kept_whole rule stands w old memory c.args.system.now c.args.spent.now s r k root top old memory next spent (keeps_itself old) refl in
+    instruction_called w e l c.args.now d s r c.call.new.domain root (is_root rule stands w old memory c.args.system.now c.args.spent.now s r k root top)
+    rule stands old.caps memory c.translate.new.system next at c.line_of.result c.read_word-word.result c.translate.new.spent spent c.fetch.result
+    (c.in-Ok.ensures.finds w old.caps d s r there) c.in-Ok.ensures.place c.line_of.ensures.line c.fetch.ensures.makes c.fetch.ensures.buffer refl
+    (λ m b. found_word m c.read_word-word.result at old.threads.active.pc c.in-Ok.ensures.place (c.read_word-word.ensures.holds m b))
+    (KeptOf rule stands w c.call.new.domain c.call.new.memory c.call.new.system c.call.new.spent)
+    (sym c.in-Some.ensures.value ∙ ap (λ x. Some x) c.in-Ecall.is) (λ u z n. c.call.ensures.leaves w u z readings replies (whole u z n) h q)
 
 pub returns-in_default-instr : goal.returns-in_default-instr
-returns-in_default-instr c = record {
-  leaves = λ o s readings replies kernel facts r q.
-      let p = hardware_model c.args.hardware.now in
-      let e = estate p o in
-      let d = dom_model c.args.domain.now readings replies in
-      let pc = c.args.domain.now.threads.active.pc in
-      let root = c.root-root.ensures.value ∙ facts.has.root in
-      let page = subst (λ (n : ℕ). EndsAs d (Ok c.in-Ok.frame) c.args.memory.now (translate p n d access.Fetch pc s)) root
-      (c.in-Ok.ensures.finds p c.requires.size d s facts.holds) in
-      let at : place_of c.physical.result ≡ place pc = omega (arith, c.physical.ensures.place) in
-      let is = found_word s.mem c.in-Ok.frame c.read_word-word.result c.physical.result pc c.physical.ensures.frame at (c.read_word-word.ensures.holds s.mem facts.holds) in
-      let done = subst (λ (n : ℕ). IsLeft c.execute.new.memory c.execute.new.domain (execute p n c.args.now d c.in-Some.instr s)) root
-      (c.execute.ensures.leaves p c.requires.size s readings replies facts.holds r q) in
-      let left = instruction_executed p e (layout p o) c.args.now d s c.in-Ok.frame c.read_word-word.result page.value is c.execute.new.memory c.execute.new.domain
-      c.in-Some.instr (sym c.in-Some.ensures.value) c.in_default-instr.not-Ecall done in
-      left_with p o c.args.now d s c.args.memory.now c.execute.new.memory c.args.domain.now c.execute.new.domain kernel refl facts left c.execute.ensures.keeps c.execute.ensures.frames;
+returns-in_default-instr g c = record {
+  leaves = λ w s r readings replies k h q.
+      let rule = g.P.Policy.rule in
+      let stands = g.P.Policy.stands_for in
+      let old = c.args.domain.now in
+      let memory = c.args.memory.now in
+      let d = dom_model old readings replies in
+      let e = estate w.machine w.own in
+      let l = layout w.machine w.own in
+      let root = c.root-root.result in
+      let top = c.root-root.ensures.value in
+      let at = c.in-Ok.at in
+      let next = c.fetch.new.self in
+      let spent = c.translate.new.spent + c.fetch.result in
+      let there = kept_in rule stands w old memory c.args.system.now c.args.spent.now s r k root top in
+      left_whole rule stands w old memory c.args.system.now c.args.spent.now s r k root top
+      c.execute.new.domain c.execute.new.memory c.execute.new.system c.execute.new.spent c.execute.ensures.keeps c.execute.ensures.frames
+      (instruction w.machine e l c.args.now d)
+      (instruction_executed w e l c.args.now d s r c.execute.new.domain root (is_root rule stands w old memory c.args.system.now c.args.spent.now s r k root top)
+      rule stands old.caps memory c.translate.new.system next at c.line_of.result c.read_word-word.result c.translate.new.spent spent c.fetch.result
+      (c.in-Ok.ensures.finds w old.caps d s r there) c.in-Ok.ensures.place c.line_of.ensures.line c.fetch.ensures.makes c.fetch.ensures.buffer refl
+      (λ m b. found_word m c.read_word-word.result at old.threads.active.pc c.in-Ok.ensures.place (c.read_word-word.ensures.holds m b))
+      c.in-Some.instr (Kept rule stands w old.caps root c.execute.new.memory c.execute.new.system c.execute.new.spent)
+      (sym c.in-Some.ensures.value) c.in_default-instr.not-Ecall (λ u z n. c.execute.ensures.leaves w u z readings replies n h q));
   frames = c.execute.ensures.frames;
-  grows = record { retired = c.execute.ensures.grows.retired; readings = c.execute.ensures.grows.readings; replies = let few = c.execute.ensures.grows.replies in omega (arith, few) };
+  grows = record {
+    retired = c.execute.ensures.grows.retired;
+    readings = c.execute.ensures.grows.readings;
+    replies = let few = c.execute.ensures.grows.replies in omega (arith, few);
+  };
+  few = omega (arith, c.execute.ensures.few, c.in-Ok.ensures.few, c.fetch.ensures.few);
 }

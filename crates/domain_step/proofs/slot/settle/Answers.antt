@@ -1,48 +1,59 @@
-use Rattle.std.proofs.Common.{◌≡◌, Option, Ok, Err, sym, ap, subst, ◌∙◌}
+use Rattle.std.proofs.Common.{◌≡◌, Ok, Err, sym, ap, subst, ◌∙◌}
 use Rattle.rv_core.specs.Effect.{effect_of}
 use Rattle.rv_core.specs.declared.Effect.{Effect}
-use Rattle.rv_core.specs.declared.Store.{Store as StoreMade}
-use Rattle.world_view.specs.Event.{store}
-use Rattle.domain_step.specs.Moves.{EndsAs}
 use Rattle.kernel_call.specs.Models.{dom_model}
+use Rattle.world_view.specs.Event.{store, guessed}
+use Rattle.domain_step.specs.Kept.{Kept}
+use Rattle.domain_step.specs.Moves.{Yields, Answered}
 use Rattle.domain_step.proofs.Instructions.{settle_trapped, settle_faulted, settle_finished, trapped_same, finished_same, faulted_keeps}
 use Rattle.domain_step.proofs.slot.settle.Goals as goal
 
 pub returns-in-Some-clause-leaves : goal.returns-in-Some-clause-leaves
-returns-in-Some-clause-leaves c p held s readings replies h r q =
+returns-in-Some-clause-leaves g c w s r readings replies k h q =
     let old = c.args.domain.now in
     let d = dom_model old readings replies in
     let trap = c.in-Some.trap in
     let out = effect_of old.threads.active.regs old.threads.active.pc c.args.instr c.args.value in
+    let same : c.execute-effect.result ≡ out.effect = c.execute-effect.ensures.effect in
     let nothing = rw c.in-Some.is at c.execute-effect.ensures.trap in
-    settle_trapped p c.args.root d c.args.instr c.args.value out s c.args.memory.now c.stop.new.domain h trap
-    (ap (λ (e : Effect). e.trap) (sym c.execute-effect.ensures.effect) ∙ c.in-Some.is)
-    (trapped_same c.stop.new.domain trap d c.execute-effect.new.regs nothing.regs (c.stop.ensures.becomes readings replies r q))
+    settle_trapped w (Kept g.P.Policy.rule g.P.Policy.stands_for w old.caps c.args.root c.args.memory.now c.args.system.now c.args.spent.now)
+    c.args.root d c.args.instr c.args.value out s r c.stop.new.domain k trap
+    (ap (λ (e : Effect). e.trap) (sym same) ∙ c.in-Some.is)
+    (trapped_same c.stop.new.domain trap d c.execute-effect.new.regs nothing.regs (c.stop.ensures.becomes readings replies h q))
 
 pub returns-in-Ok-clause-leaves : goal.returns-in-Ok-clause-leaves
-returns-in-Ok-clause-leaves c p held s readings replies h r q =
-    let o = c.args.root in
+returns-in-Ok-clause-leaves g c w s r readings replies k h q =
     let old = c.args.domain.now in
     let d = dom_model old readings replies in
+    let K = Kept g.P.Policy.rule g.P.Policy.stands_for w old.caps c.args.root in
+    let K' = K c.args.memory.now c.guess.new.system c.guess.new.spent in
+    let K'' = K c.store.new.memory c.store.new.system c.store.new.spent in
     let out = effect_of old.threads.active.regs old.threads.active.pc c.args.instr c.args.value in
     let same : c.execute-effect.result ≡ out.effect = c.execute-effect.ensures.effect in
-    settle_finished p o d c.args.instr c.args.value out s c.args.memory.now c.finish.new.domain h c.store.new.memory
+    settle_finished w (K c.args.memory.now c.args.system.now c.args.spent.now) c.args.root d c.args.instr c.args.value out s r c.finish.new.domain k K' K''
     (ap (λ (e : Effect). e.trap) (sym same) ∙ c.in_default.is)
-    (λ t k. subst (λ (made : Option StoreMade). EndsAs d (Ok tt) c.store.new.memory (store p o d made t)) (ap (λ (e : Effect). e.store) same) (c.in-Ok.ensures.finds p held d t k))
+    (λ t z n. subst (λ (e : Effect). Yields w (guessed c.args.instr old.threads.active.pc e.taken) t z (Answered d (Ok tt) K')) same (c.guess.ensures.finds w old.caps c.args.root c.args.memory.now d t z n))
+    (λ t z n. subst (λ (e : Effect). Yields w (store w.machine c.args.root d e.store) t z (Answered d (Ok tt) K'')) same (c.in-Ok.ensures.finds w old.caps d t z n))
     (finished_same c.finish.new.domain out c.execute-effect.result.next c.args.value c.args.instr c.execute-effect.new.regs d (ap (λ (e : Effect). e.next) same) c.execute-effect.ensures.regs
-    (c.finish.ensures.becomes readings replies r q))
+    (c.finish.ensures.becomes readings replies h q))
 
 pub returns-in-Err-clause-leaves : goal.returns-in-Err-clause-leaves
-returns-in-Err-clause-leaves c p held s readings replies h r q =
-    let o = c.args.root in
+returns-in-Err-clause-leaves g c w s r readings replies k h q =
     let old = c.args.domain.now in
     let d = dom_model old readings replies in
+    let K = Kept g.P.Policy.rule g.P.Policy.stands_for w old.caps c.args.root in
+    let K' = K c.args.memory.now c.guess.new.system c.guess.new.spent in
+    let K'' = K c.store.new.memory c.store.new.system c.store.new.spent in
     let trap = c.in-Err.trap in
     let out = effect_of old.threads.active.regs old.threads.active.pc c.args.instr c.args.value in
     let same : c.execute-effect.result ≡ out.effect = c.execute-effect.ensures.effect in
+    let found = c.guess.ensures.finds w old.caps c.args.root c.args.memory.now d s r k in
     let kept : out.regs ≡ old.threads.active.regs =
-    faulted_keeps p o d c.args.instr c.args.value old.threads.active.pc c.execute-effect.result.store s c.store.new.memory trap old.threads.active.regs (ap (λ (e : Effect). e.store) (sym same)) (c.in-Err.ensures.finds p held d s h) in
-    settle_faulted p o d c.args.instr c.args.value out s c.args.memory.now c.stop-in-Err.new.domain h c.store.new.memory trap
+    faulted_keeps w K'' c.args.root d c.args.instr c.args.value old.threads.active.pc c.execute-effect.result.store _ _ trap old.threads.active.regs (ap (λ (e : Effect). e.store) (sym same))
+    (c.in-Err.ensures.finds w old.caps d _ _ found.met.kept) in
+    settle_faulted w (K c.args.memory.now c.args.system.now c.args.spent.now) c.args.root d c.args.instr c.args.value out s r c.stop-in-Err.new.domain k K' K''
     (ap (λ (e : Effect). e.trap) (sym same) ∙ c.in_default.is)
-    (λ t k. subst (λ (made : Option StoreMade). EndsAs d (Err trap) c.store.new.memory (store p o d made t)) (ap (λ (e : Effect). e.store) same) (c.in-Err.ensures.finds p held d t k))
-    (trapped_same c.stop-in-Err.new.domain trap d c.execute-effect.new.regs (c.execute-effect.ensures.regs ∙ kept) (c.stop-in-Err.ensures.becomes readings replies r q))
+    (λ t z n. subst (λ (e : Effect). Yields w (guessed c.args.instr old.threads.active.pc e.taken) t z (Answered d (Ok tt) K')) same (c.guess.ensures.finds w old.caps c.args.root c.args.memory.now d t z n))
+    trap
+    (λ t z n. subst (λ (e : Effect). Yields w (store w.machine c.args.root d e.store) t z (Answered d (Err trap) K'')) same (c.in-Err.ensures.finds w old.caps d t z n))
+    (trapped_same c.stop-in-Err.new.domain trap d c.execute-effect.new.regs (c.execute-effect.ensures.regs ∙ kept) (c.stop-in-Err.ensures.becomes readings replies h q))

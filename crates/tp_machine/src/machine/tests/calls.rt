@@ -45,11 +45,11 @@ segment = [{ page = 16, pages = 1, rights = \"x\", hex = \"6f000000\" }]
 [[schedule]]
 domain = 0
 length = 1000
-pad = 100
+pad = 7000
 [[schedule]]
 domain = 1
 length = 2000
-pad = 50
+pad = 6150
 ";
 
 const CALLS: u32 = 10_000;
@@ -526,7 +526,7 @@ fn wrong_reply(before: &State, request: Request, outcome: &Outcome, after: &Stat
 // often each code came.
 fn first_wrong(domain: &mut Domain, memory: &mut PhysMem) -> (Option<(u32, u32)>, [u32; 13])
     requires valid { Valid memory.old domain.old }
-    requires replies { domain.old.replies.count ≤ 2 ^ 40 }
+    requires replies { domain.old.replies.count ≤ 2 ^ 62 }
 {
     let mut codes = [0u32; 13];
     let mut random = Random(1);
@@ -564,7 +564,7 @@ fn first_wrong(domain: &mut Domain, memory: &mut PhysMem) -> (Option<(u32, u32)>
 // Red of a machine, and its memory.
 fn taken_apart(machine: Machine<'_>) -> (Domain, PhysMem)
     ensures valid { Valid result.1 result.0 }
-    ensures replies { result.0.replies.count ≤ 2 ^ 40 }
+    ensures replies { result.0.replies.count ≤ 2 ^ 62 }
 {
     let Machine {
         memory,

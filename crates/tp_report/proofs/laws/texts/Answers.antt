@@ -1,7 +1,7 @@
 -- Computed from the definitions.
 use Rattle.std.proofs.Common.{refl}
 use Rattle.std.specs.Fmt.{digits}
-use Rattle.tp_report.specs.Report.{switch_line, end_text, usage_text, refusal_text, too_long_text}
+use Rattle.tp_report.specs.Report.{switch_line, end_text, usage_text, refusal_text, bound_text, accepted_text, too_long_text}
 use Rattle.hex.specs.Hex.{encode_with}
 use Rattle.tp_report.specs.Texts.{h8, state_text, register_text, registers_text, thread_line, thread_text, threads_text}
 use Rattle.tp_report.proofs.laws.texts.Goals as goal
@@ -25,6 +25,14 @@ returns-clause-usage c = refl
 pub returns-clause-refusal : goal.returns-clause-refusal
 unfolding refusal_text digits
 returns-clause-refusal c = refl
+
+pub returns-clause-bound : goal.returns-clause-bound
+unfolding bound_text digits
+returns-clause-bound c = refl
+
+pub returns-clause-accepted : goal.returns-clause-accepted
+unfolding accepted_text
+returns-clause-accepted c = refl
 
 pub returns-clause-too_long : goal.returns-clause-too_long
 unfolding too_long_text

@@ -1,13 +1,13 @@
-use Rattle.std.proofs.Common.{◌≡◌, ◌∙◌, length, sym, None, Some, [], ap, subst, arith, rules}
+use Rattle.std.proofs.Common.{◌≡◌, ◌∙◌, sym, None, Some, [], subst, arith}
 use Rattle.std.proofs.lemmas.Option.{same_Some}
 use Rattle.tp_io.specs.Sink.{state}
 use Rattle.tp_report.specs.Report.{usage_text}
 use Rattle.tp_run.specs.declared.Command.{Command}
-use Rattle.tp_run.specs.declared.Command.TheVariants.{Run}
+use Rattle.tp_run.specs.declared.Command.TheVariants.{Check, Bound, Run}
 use Rattle.tp_run.specs.declared.status.Status.TheVariants.{Usage}
 use Rattle.tp_run.specs.Answer.{answer_of_bytes, command}
-use Rattle.tp_run.specs.TopCall.{Delivers, Writes, words_of}
-use Rattle.tp_run.proofs.Answers.{delivered, none_taken, bytes_due, usage_due, told_delivers, usage_delivers, done_reads, refused_reads, too_long_reads, is_no_usage, ends_usage, completes, completes_surely, ran, is_isolated, is_padded}
+use Rattle.tp_run.specs.TopCall.{Delivers, words_of}
+use Rattle.tp_run.proofs.Answers.{delivered, none_taken, bytes_due, told_delivers, usage_delivers, done_reads, refused_reads, too_long_reads, is_no_usage, ends_usage, completes, completes_surely, refuses, accepts, bounds, ran, is_isolated, is_padded}
 use Rattle.tp_run.proofs.call.tp_main.Goals as goal
 
 -- ---- words that are no command
@@ -99,6 +99,30 @@ returns-clause-complete_sure g c bytes room told sure fits =
     let asked : command (words_of c.args.words.now) ≡ Some c.in-Ok-Some.command = sym (rw c.in-Ok-Some.field-0-is at c.in-Ok-Some.ensures.value) in
     let delivers = rw c.as_slice.ensures.value at c.answer_bytes.ensures.delivers in
     completes_surely _ c.answer_bytes.result _ _ room (told_delivers (words_of c.args.words.now) c.in-Ok-Some.command bytes c.in-Ok.bytes.items _ c.answer_bytes.result _ _ asked (sym told ∙ c.in-Ok.ensures.taken) c.in-Ok.ensures.whole delivers) sure fits
+
+pub returns-clause-refused : goal.returns-clause-refused
+returns-clause-refused g c k is refused =
+    let asked : command (words_of c.args.words.now) ≡ Some c.in-Ok-Some.command = sym (rw c.in-Ok-Some.field-0-is at c.in-Ok-Some.ensures.value) in
+    let delivers = rw c.as_slice.ensures.value at c.answer_bytes.ensures.delivers in
+    let same : c.in-Ok-Some.command ≡ k = same_Some _ _ (sym asked ∙ is) in
+    let by_command = subst (λ (j : Command). Delivers (answer_of_bytes j c.in-Ok.bytes.items) c.answer_bytes.result (state g.K.Sink c.args.out.now) (state g.K.Sink c.answer_bytes.new.out)) same delivers in
+    refuses k c.in-Ok.bytes.items _ _ c.answer_bytes.result _ _ c.in-Ok.ensures.taken c.in-Ok.ensures.whole by_command refused
+
+pub returns-clause-accepted : goal.returns-clause-accepted
+returns-clause-accepted g c is done =
+    let asked : command (words_of c.args.words.now) ≡ Some c.in-Ok-Some.command = sym (rw c.in-Ok-Some.field-0-is at c.in-Ok-Some.ensures.value) in
+    let delivers = rw c.as_slice.ensures.value at c.answer_bytes.ensures.delivers in
+    let same : c.in-Ok-Some.command ≡ Check = same_Some _ _ (sym asked ∙ is) in
+    let by_command = subst (λ (j : Command). Delivers (answer_of_bytes j c.in-Ok.bytes.items) c.answer_bytes.result (state g.K.Sink c.args.out.now) (state g.K.Sink c.answer_bytes.new.out)) same delivers in
+    accepts c.in-Ok.bytes.items _ _ c.answer_bytes.result _ _ c.in-Ok.ensures.taken c.in-Ok.ensures.whole by_command done
+
+pub returns-clause-bound : goal.returns-clause-bound
+returns-clause-bound g c is done =
+    let asked : command (words_of c.args.words.now) ≡ Some c.in-Ok-Some.command = sym (rw c.in-Ok-Some.field-0-is at c.in-Ok-Some.ensures.value) in
+    let delivers = rw c.as_slice.ensures.value at c.answer_bytes.ensures.delivers in
+    let same : c.in-Ok-Some.command ≡ Bound = same_Some _ _ (sym asked ∙ is) in
+    let by_command = subst (λ (j : Command). Delivers (answer_of_bytes j c.in-Ok.bytes.items) c.answer_bytes.result (state g.K.Sink c.args.out.now) (state g.K.Sink c.answer_bytes.new.out)) same delivers in
+    bounds c.in-Ok.bytes.items _ _ c.answer_bytes.result _ _ c.in-Ok.ensures.taken c.in-Ok.ensures.whole by_command done
 
 pub returns-clause-isolation : goal.returns-clause-isolation
 returns-clause-isolation g c slots run done =

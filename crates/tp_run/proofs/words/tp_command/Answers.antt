@@ -9,8 +9,12 @@ use Rattle.tp_run.proofs.words.tp_command.Goals as goal
 pub returns : goal.returns
 unfolding tp_app
 returns c =
-    let top = ap app_of_fields c.subcommand_required.ensures ∙ ap (on_top required) c.new.ensures.app in
+    let top = ap app_of_fields c.subcommand_required-top.ensures ∙ ap (on_top required) c.new.ensures.app in
+    let check = ap (λ (a : App). a.top) c.new-2.ensures.app in
+    let bound = ap (λ (a : App). a.top) c.new-3.ensures.app in
     let run = ap (λ (a : App). a.top) c.in_ok-run.ensures.app in
+    let one = c.in_ok-one.ensures.shape c.new-2.ensures.local ∙ ap₂ with_subcommand top check in
+    let two = c.in_ok-two.ensures.shape c.new-3.ensures.local ∙ ap₂ with_subcommand one bound in
     record {
-      app = IfOk-weaker c.subcommand.result _ _ (λ made adds. adds.shape c.in_ok-run.ensures.local ∙ ap₂ with_subcommand top run) c.subcommand.ensures;
+      app = IfOk-weaker c.subcommand-3.result _ _ (λ made adds. adds.shape c.in_ok-run.ensures.local ∙ ap₂ with_subcommand two run) c.subcommand-3.ensures;
     }

@@ -1,24 +1,30 @@
 // Kernel calls on memory, through whole runs.
-use super::{MACHINE, PRINTS_B, SCHEDULE, answer};
+use super::{MACHINE, READS_B, SCHEDULE, answer};
 use crate::Status;
 use std::alloc::Global;
 use std::process::Abort;
 use std::test::Fail;
 
 // A segment of a page to read and to write, and a capability of it.
-const DATA: &str = ", { page = 32, pages = 1, rights = \"rw\", hex = \"\" }";
+pub const DATA: &str = ", { page = 32, pages = 1, rights = \"rw\", hex = \"\" }";
 
 const DATA_CAP: &str = "caps = [\"page 32\"]";
 
 // The image with red's program, with these segments and capabilities, too.
-fn image(alloc: Global, segments: &str, caps: &str, red: &str) -> Result<String, Fail> {
+pub fn image(alloc: Global, segments: &str, caps: &str, red: &str) -> Result<String, Fail> {
     Ok(format!(in alloc;
-        "{MACHINE}[[domain]]\nname = \"red\"\ncolours = [1]\nentry = 0x10000\n{caps}\nsegment = [{{ page = 16, pages = 1, rights = \"rx\", hex = \"{red}\" }}{segments}]\n[[domain]]\nname = \"blue\"\ncolours = [2]\nentry = 0x10000\nsegment = [{{ page = 16, pages = 1, rights = \"rx\", hex = \"{PRINTS_B}\" }}]\n{SCHEDULE}"
+        "{MACHINE}[[domain]]\nname = \"red\"\ncolours = [1]\nentry = 0x10000\n{caps}\nsegment = [{{ page = 16, pages = 1, rights = \"rx\", hex = \"{red}\" }}{segments}]\n[[domain]]\nname = \"blue\"\ncolours = [2]\nentry = 0x10000\nsegment = [{{ page = 16, pages = 1, rights = \"rx\", hex = \"{READS_B}\" }}]\n{SCHEDULE}"
     )?)
 }
 
 // In the report stands each of these texts, with a bar between them.
-fn tells(rt: &impl Abort, alloc: Global, line: &str, image: &str, texts: &str) -> Result<(), Fail> {
+pub fn tells(
+    rt: &impl Abort,
+    alloc: Global,
+    line: &str,
+    image: &str,
+    texts: &str,
+) -> Result<(), Fail> {
     let (status, bytes) = answer(alloc, line, image.as_bytes(), 4096, &[], &[])?;
     assert_eq!(rt; status, Status::Done, "at {texts}");
     let report = String::from_utf8_lossy(alloc, bytes.as_slice())?;

@@ -11,7 +11,7 @@ fn refuses_text(rt: &impl Abort, alloc: Global, text: &str, line: &str) -> Resul
     expect(
         rt,
         alloc,
-        "tp run --slots 0",
+        "tp check",
         text,
         Status::Refused,
         wanted.as_str(),

@@ -1,6 +1,18 @@
 use Rattle.world_view.proofs.Separate.{separated}
-use Rattle.world_view.proofs.SwitchLaws.{others_step}
+use Rattle.world_view.proofs.SwitchLaws.{others_step, others_leave, others_enter, prefetch_leaves, flush_leaves}
 use Rattle.world_view.proofs.laws.others_events.Goals as goal
 
 pub returns-clause-step : goal.returns-clause-step
-returns-clause-step c i d e end w r = others_step i d e end w (separated i r)
+returns-clause-step c i d e end w r is ie ne facts = others_step i (separated i r) d e is ie ne end w facts
+
+pub returns-clause-leave : goal.returns-clause-leave
+returns-clause-leave c i d e k r is ie ne = others_leave i (separated i r) d e is ie ne k
+
+pub returns-clause-enter : goal.returns-clause-enter
+returns-clause-enter c i d e k r is ie ne = others_enter i (separated i r) d e is ie ne k
+
+pub returns-clause-prefetch : goal.returns-clause-prefetch
+returns-clause-prefetch c i d k r is = prefetch_leaves i (separated i r) d is k
+
+pub returns-clause-flush : goal.returns-clause-flush
+returns-clause-flush c i d k r is = flush_leaves i (separated i r) d is k

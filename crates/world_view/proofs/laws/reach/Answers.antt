@@ -5,7 +5,7 @@ use Rattle.world_view.specs.Kernel.{estate}
 use Rattle.call_table.proofs.TablesMeaning.{page_tables}
 use Rattle.world_view.proofs.Separate.{separated}
 use Rattle.world_view.proofs.TableLaws.{IsPage, walkable, no_access_fault}
-use Rattle.world_view.proofs.WholeLaws.{always_facts}
+use Rattle.world_view.proofs.FactsLaws.{always_facts}
 use Rattle.world_view.proofs.laws.reach.Goals as goal
 
 pub returns-clause-facts : goal.returns-clause-facts

@@ -6,5 +6,5 @@ use Rattle.tp_machine.proofs.machine.tests.calls.first_wrong.Given as goal
 abbrev pub invariant-loop-step : goal.invariant-loop-step
 invariant-loop-step l = record {
   valid : Valid l.memory l.domain;
-  replies : l.domain.replies.count ≤ 2 ^ 40 + l.step;
+  replies : l.domain.replies.count ≤ 2 ^ 62 + l.step;
 }

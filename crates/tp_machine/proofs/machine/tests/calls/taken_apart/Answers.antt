@@ -4,6 +4,7 @@ use Rattle.std.proofs.lemmas.Option.{slice_get_read}
 use Rattle.image_check.specs.Image.{image_from, own_of}
 use Rattle.world_view.specs.Machine.{whole}
 use Rattle.world_view.specs.Kernel.{estate}
+use Rattle.world_view.proofs.ClockLaws.{clocks_fit}
 use Rattle.tp_machine.specs.Worlds.{kept}
 use Rattle.tp_machine.proofs.Slots.{facts_at}
 use Rattle.tp_machine.proofs.machine.tests.calls.taken_apart.Goals as goal
@@ -23,7 +24,7 @@ returns-clause-valid c =
     record {
       estate = estate i.all.hardware (own_of i 0);
       mem = (whole i m.slots).storage.mem;
-      facts = facts_at i m.accepted m.slots (kept m.memory m.domains.items m.used.items m.clock m.start m.last_end) m.stands 0 x m.accepted.some_domain got;
+      facts = facts_at i m.accepted m.slots (kept m.memory m.system m.domains.items m.used.items m.clock) m.stands 0 x m.accepted.some_domain got;
     }
 
 pub returns-clause-replies : goal.returns-clause-replies
@@ -32,4 +33,5 @@ returns-clause-replies c =
     let some : 0 < length m.domains.items = omega (arith, m.accepted.some_domain, m.stands.all_domains) in
     let x = c.remove.result in
     let few = m.in_bounds.few_calls 0 x (slice_get_read m.domains.items (length m.domains.items) 0 x refl some c.remove.ensures.value) in
-    omega (arith, few.replies, m.in_bounds.clock_soon, m.in_bounds.next_soon, m.in_bounds.slots_left)
+    let soon = (clocks_fit (image_from m.image.now) m.accepted m.slots m.in_bounds.slots_left).before in
+    omega (arith, few.replies, m.stands.time, soon)

@@ -1,0 +1,16 @@
+use Rattle.std.proofs.Common.{◌≡◌, ◌∙◌, ap, sym, subst}
+use Rattle.image_text.specs.Reads.{raw_model}
+use Rattle.pad_bound.specs.Bound.{IsShape}
+use Rattle.pad_bound.specs.Models.{shape_model}
+use Rattle.hardware_check.specs.Hardware.{hardware_of}
+use Rattle.image_check.specs.Pads.{shape_of}
+use Rattle.image_check.specs.Public.{Public, public_of}
+use Rattle.image_check.proofs.Padded.{shape_law}
+use Rattle.image_check.proofs.unpadded.Unpadded.shape.Goals as goal
+
+pub returns-clause-sound : goal.returns-clause-sound
+unfolding public_of
+returns-clause-sound c =
+    let i = raw_model c.self.inside.raw in
+    let same : shape_model c.shape_of.result ≡ shape_of (hardware_of i) = c.shape_of.ensures.value ∙ ap (λ (p : Public). shape_of p.hardware) c.self.invariant.public_is in
+    subst IsShape (sym same) (shape_law i c.self.invariant.accepted)

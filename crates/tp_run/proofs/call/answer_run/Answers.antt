@@ -1,0 +1,16 @@
+use Rattle.std.proofs.Common.{sym, subst}
+use Rattle.tp_io.specs.Sink.{state}
+use Rattle.tp_run.specs.Answer.{Answer, answer_of_image}
+use Rattle.tp_run.specs.Reading.{image_for}
+use Rattle.tp_run.specs.TopCall.{Delivers}
+use Rattle.tp_run.specs.declared.Command.TheVariants.{Run}
+use Rattle.tp_run.proofs.Answers.{found_due}
+use Rattle.tp_run.proofs.call.answer_run.Goals as goal
+
+pub returns-in-Ok : goal.returns-in-Ok
+unfolding answer_of_image
+returns-in-Ok g c = record {
+  delivers = subst (λ (due : Answer). Delivers due c.run_image.result (state g.K.Sink c.args.out.now) (state g.K.Sink c.run_image.new.out))
+      (sym (found_due (Run c.args.slots) (image_for (Run c.args.slots) c.args.bytes.now) _ (c.in-Ok.ensures.run c.args.slots)))
+      c.run_image.ensures.delivers;
+}

@@ -1,0 +1,237 @@
+-- What an instruction costs at worst, with the kernel call that it makes.
+use Rattle.std.proofs.Common.{◌≡◌, ℕ, ◌+◌, ◌*◌, ◌/◌, ◌≤◌, Bool, true, false, if◌then◌else◌, List, [], ◌∷◌, length, Option, Some, None, ◌⊎◌, inl, inr, refl, sym, subst, arith, le_refl, mul-le-mul_right}
+use Rattle.std.proofs.lemmas.List.{length-map}
+use Rattle.tp_base.specs.Act.{Done, go_on, ◌>>=◌, ◌>>◌, give, stop, note}
+use Rattle.phys_mem.specs.Mem.{Mem}
+use Rattle.rv_decode.specs.declared.Instr.{Instr}
+use Rattle.rv_decode.specs.declared.Instr.TheVariants as instr
+use Rattle.rv_decode.specs.declared.LoadWidth.{LoadWidth}
+use Rattle.rv_core.specs.Registers.{register}
+use Rattle.rv_core.specs.Effect.{Outcome, access, continuation, effect_of}
+use Rattle.rv_core.specs.declared.Store.{Store as StoreMade}
+use Rattle.rv_core.specs.declared.Trap.{Trap}
+use Rattle.sv32_walk.specs.declared.access.Access.{Access}
+use Rattle.sv32_walk.specs.Walk.{walk, from_table, from_entry, first_level}
+use Rattle.kernel_clone.specs.Footprints.{touches}
+use Rattle.pad_bound.specs.Bound.{worst_look, worst_read, worst_fetch, worst_access, worst_instruction, worst_operation}
+use Rattle.pad_bound.proofs.Parts.{operation_covers}
+use Rattle.mem_system.specs.Cost.{Touch, Fetch, Load, Store as StoreTouch, Branch, EmptyTlb}
+use Rattle.mem_system.specs.Translation.{lines_of, look_of}
+use Rattle.cache_sharing.specs.Operations.{footprint, operation}
+use Rattle.cache_sharing.specs.Worst.{worst_touch, worst_touches}
+use Rattle.cache_sharing.proofs.Worst.{worst-append, worst_lines}
+use Rattle.call_table.specs.Domain.{Dom}
+use Rattle.call_table.specs.Calls.{empties, work_of, call}
+use Rattle.call_table.proofs.BoundedWork.{calls_bounded}
+use Rattle.hardware_check.specs.Hardware.{Hardware}
+use Rattle.image_check.specs.Own.{Own}
+use Rattle.world_view.specs.Kernel.{estate, layout}
+use Rattle.world_view.specs.Cost.{hierarchy}
+use Rattle.image_check.specs.Pads.{shape_of}
+use Rattle.world_view.specs.Event.{Storage, Act, touch, translate, line_in, read, write, unless, load, store, loaded, guessed, settle, execute, call_touches, make_call, perform, instruction}
+use Rattle.world_view.specs.Relations.{largest_step}
+
+-- a walk reads two entries at most
+few_reads : (m : Mem) (frames root va : ℕ) (a : Access) → length (walk m frames root va a).reads ≤ 2
+unfolding walk from_entry from_table first_level
+few_reads m frames root va a = grind arith
+
+module _ (p : Hardware) where
+  worst : List Touch → ℕ
+  worst ts = worst_touches (hierarchy p) ts
+
+  -- steps whose touches cost at most so much, from any memory
+  record Costs {A : Type 0} (most : ℕ) (x : Act A) : Type 0 where
+    within : (s : Storage) → worst (x s).notes ≤ most
+
+  on_costs : {A B : Type 0} (a b : ℕ) (r : Done Storage Touch Dom A) (y : A → Act B) (v : Dom ⊎ A) → worst r.notes ≤ a → ((v : A) → Costs b (y v)) → worst (go_on r y v).notes ≤ a + b
+  unfolding go_on worst
+  on_costs a b r y (inl d) first rest = omega (arith, first)
+  on_costs a b r y (inr v) first rest =
+      let next = (rest v).within r.state in
+      let both = worst-append (hierarchy p) r.notes (y v r.state).notes in
+      omega (arith, first, next, both)
+
+  bind_costs : {A B : Type 0} (a b : ℕ) (x : Act A) (y : A → Act B) → Costs a x → ((v : A) → Costs b (y v)) → Costs (a + b) (x >>= y)
+  unfolding ◌>>=◌
+  bind_costs a b x y first rest = record { within = λ s. on_costs a b (x s) y (x s).value (first.within s) rest }
+
+  then_costs : {A B : Type 0} (a b : ℕ) (x : Act A) (y : Act B) → Costs a x → Costs b y → Costs (a + b) (x >> y)
+  unfolding ◌>>◌
+  then_costs a b x y first rest = bind_costs a b x (λ _. y) first (λ _. rest)
+
+  more : {A : Type 0} (a b : ℕ) (x : Act A) → a ≤ b → Costs a x → Costs b x
+  more a b x few h = record { within = λ s. let within = h.within s in omega (arith, within, few) }
+
+  -- ---- primitives
+
+  give_costs : {A : Type 0} (v : A) → Costs 0 (give v)
+  unfolding give worst worst_touches
+  give_costs v = record { within = λ s. le_refl 0 }
+
+  stop_costs : {A : Type 0} (d : Dom) → Costs 0 (stop {A = A} d)
+  unfolding stop worst worst_touches
+  stop_costs d = record { within = λ s. le_refl 0 }
+
+  read_costs : (f i : ℕ) → Costs 0 (read f i)
+  unfolding read worst worst_touches
+  read_costs f i = record { within = λ s. le_refl 0 }
+
+  write_costs : (f i v : ℕ) → Costs 0 (write f i v)
+  unfolding write worst worst_touches
+  write_costs f i v = record { within = λ s. le_refl 0 }
+
+  unless_costs : (trap : Option Trap) (d : Dom) → Costs 0 (unless trap d)
+  unfolding unless
+  unless_costs None d = give_costs tt
+  unless_costs (Some trap) d = stop_costs _
+
+  touch_costs : (t : Touch) → Costs (worst_touch (hierarchy p) t) (touch t)
+  unfolding touch note worst worst_touches
+  touch_costs t = record { within = λ s. omega arith }
+
+  -- a look-up makes two reads at most
+  translate_costs : (root : ℕ) (d : Dom) (a : Access) (va : ℕ) → Costs (worst_look p.costs) (translate p root d a va)
+  unfolding translate look_of lines_of worst worst_touches hierarchy
+  translate_costs root d a va = record {
+    within = λ s.
+        let reads = (walk s.mem p.frames root va a).reads in
+        let many : length (lines_of p.line reads) * worst_read p.costs ≤ 2 * worst_read p.costs =
+        mul-le-mul_right (worst_read p.costs) (subst (λ (n : ℕ). n ≤ 2) (sym (length-map reads (λ at. at / p.line))) (few_reads s.mem p.frames root va a)) in
+        omega (arith, many);
+  }
+
+  -- ---- loads and stores
+
+  access_worst : ℕ
+  access_worst = worst_look p.costs + worst_access p.costs
+
+  load_costs : (root : ℕ) (d : Dom) (width : LoadWidth) (va : ℕ) → Costs access_worst (load p root d width va)
+  unfolding load access_worst hierarchy
+  load_costs root d width va =
+      more _ access_worst _ (omega arith)
+      (bind_costs (worst_look p.costs) (worst_access p.costs + (0 + 0)) _ _ (translate_costs root d _ va) (λ f.
+      then_costs (worst_access p.costs) (0 + 0) _ _ (touch_costs (Load (line_in p f va))) (bind_costs 0 0 _ _ (read_costs f _) (λ w. give_costs _))))
+
+  store_costs : (root : ℕ) (d : Dom) (made : Option StoreMade) → Costs access_worst (store p root d made)
+  unfolding store access_worst hierarchy
+  store_costs root d None = more 0 access_worst _ (omega arith) (give_costs tt)
+  store_costs root d (Some made) =
+      more _ access_worst _ (omega arith)
+      (bind_costs (worst_look p.costs) (worst_access p.costs + (0 + 0)) _ _ (translate_costs root d _ made.at) (λ f.
+      then_costs (worst_access p.costs) (0 + 0) _ _ (touch_costs (StoreTouch (line_in p f made.at))) (bind_costs 0 0 _ _ (read_costs f _) (λ w. write_costs f _ _))))
+
+  no_store_costs : (root : ℕ) (d : Dom) (made : Option StoreMade) → made ≡ None → Costs 0 (store p root d made)
+  unfolding store
+  no_store_costs root d None is = give_costs tt
+  no_store_costs root d (Some made) is = absurd (cc is)
+
+  -- ---- an instruction
+
+  guessed_costs : (i : Instr) (pc : ℕ) (taken : Bool) → Costs p.costs.mispredict (guessed i pc taken)
+  unfolding guessed hierarchy
+  guessed_costs (instr.Branch comparison rs1 rs2 offset) pc taken = touch_costs (Branch pc taken)
+  guessed_costs (instr.Lui rd imm) pc taken = more 0 p.costs.mispredict _ (omega arith) (give_costs tt)
+  guessed_costs (instr.Auipc rd imm) pc taken = more 0 p.costs.mispredict _ (omega arith) (give_costs tt)
+  guessed_costs (instr.Jal rd offset) pc taken = more 0 p.costs.mispredict _ (omega arith) (give_costs tt)
+  guessed_costs (instr.Jalr rd rs1 offset) pc taken = more 0 p.costs.mispredict _ (omega arith) (give_costs tt)
+  guessed_costs (instr.Load width rd rs1 offset) pc taken = more 0 p.costs.mispredict _ (omega arith) (give_costs tt)
+  guessed_costs (instr.Store width rs1 rs2 offset) pc taken = more 0 p.costs.mispredict _ (omega arith) (give_costs tt)
+  guessed_costs (instr.Immediate operation rd rs1 imm) pc taken = more 0 p.costs.mispredict _ (omega arith) (give_costs tt)
+  guessed_costs (instr.Register operation rd rs1 rs2) pc taken = more 0 p.costs.mispredict _ (omega arith) (give_costs tt)
+  guessed_costs instr.Fence pc taken = more 0 p.costs.mispredict _ (omega arith) (give_costs tt)
+  guessed_costs instr.Ecall pc taken = more 0 p.costs.mispredict _ (omega arith) (give_costs tt)
+  guessed_costs instr.Ebreak pc taken = more 0 p.costs.mispredict _ (omega arith) (give_costs tt)
+  guessed_costs (instr.ReadCounter counter rd) pc taken = more 0 p.costs.mispredict _ (omega arith) (give_costs tt)
+
+  -- by what its store costs
+  settle_costs : (root : ℕ) (d : Dom) (i : Instr) (value most : ℕ) (out : Outcome) → Costs most (store p root d out.effect.store) → Costs (p.costs.mispredict + most) (settle p root d i value out)
+  unfolding settle
+  settle_costs root d i value most out stores =
+      more (0 + (p.costs.mispredict + (most + 0))) (p.costs.mispredict + most) _ (omega arith)
+      (then_costs 0 _ _ _ (unless_costs out.effect.trap d)
+      (then_costs p.costs.mispredict _ _ _ (guessed_costs i d.threads.current.pc out.effect.taken)
+      (then_costs most 0 _ _ stores (give_costs _))))
+
+  loads_alone : (regs : List ℕ) (pc : ℕ) (trap : Option Trap) (new : List ℕ) → (access regs pc trap (continuation new pc)).effect.store ≡ None
+  loads_alone regs pc None new = refl
+  loads_alone regs pc (Some trap) new = refl
+
+  -- what needs something from outside the registers stores nothing
+  execute_by : (root t : ℕ) (d : Dom) (i : Instr) (loads stores : ℕ) → Costs loads (loaded p root t d i)
+      → ((value : ℕ) → Costs stores (store p root d (effect_of d.threads.current.regs d.threads.current.pc i value).effect.store))
+      → loads + stores ≤ access_worst → Costs (p.costs.mispredict + access_worst) (execute p root t d i)
+  unfolding execute
+  execute_by root t d i loads stores load store few =
+      more (0 + (loads + (p.costs.mispredict + stores))) (p.costs.mispredict + access_worst) _ (omega (arith, few))
+      (then_costs 0 _ _ _ (unless_costs _ d) (bind_costs loads _ _ _ load (λ value. settle_costs root d i value stores _ (store value))))
+
+  stores_only : (root t : ℕ) (d : Dom) (i : Instr) → loaded p root t d i ≡ give 0 → Costs (p.costs.mispredict + access_worst) (execute p root t d i)
+  stores_only root t d i none =
+      execute_by root t d i 0 access_worst (subst (Costs 0) (sym none) (give_costs 0)) (λ value. store_costs root d _) (omega arith)
+
+  execute_costs : (root t : ℕ) (d : Dom) (i : Instr) → Costs (p.costs.mispredict + access_worst) (execute p root t d i)
+  unfolding loaded
+  execute_costs root t d (instr.Load width rd rs1 offset) =
+      execute_by root t d (instr.Load width rd rs1 offset) access_worst 0 (load_costs root d width _) (λ value. no_store_costs root d _ (loads_alone _ _ _ _)) (omega arith)
+  execute_costs root t d (instr.ReadCounter counter rd) =
+      execute_by root t d (instr.ReadCounter counter rd) 0 access_worst (give_costs _) (λ value. store_costs root d _) (omega arith)
+  execute_costs root t d (instr.Lui rd imm) = stores_only root t d (instr.Lui rd imm) refl
+  execute_costs root t d (instr.Auipc rd imm) = stores_only root t d (instr.Auipc rd imm) refl
+  execute_costs root t d (instr.Jal rd offset) = stores_only root t d (instr.Jal rd offset) refl
+  execute_costs root t d (instr.Jalr rd rs1 offset) = stores_only root t d (instr.Jalr rd rs1 offset) refl
+  execute_costs root t d (instr.Branch comparison rs1 rs2 offset) = stores_only root t d (instr.Branch comparison rs1 rs2 offset) refl
+  execute_costs root t d (instr.Store width rs1 rs2 offset) = stores_only root t d (instr.Store width rs1 rs2 offset) refl
+  execute_costs root t d (instr.Immediate operation rd rs1 imm) = stores_only root t d (instr.Immediate operation rd rs1 imm) refl
+  execute_costs root t d (instr.Register operation rd rs1 rs2) = stores_only root t d (instr.Register operation rd rs1 rs2) refl
+  execute_costs root t d instr.Fence = stores_only root t d instr.Fence refl
+  execute_costs root t d instr.Ecall = stores_only root t d instr.Ecall refl
+  execute_costs root t d instr.Ebreak = stores_only root t d instr.Ebreak refl
+
+module _ (p : Hardware) (o : Own) where
+  emptied_costs : (b : Bool) → worst p (if b then EmptyTlb ∷ [] else []) ≡ 0
+  unfolding worst worst_touches
+  emptied_costs true = refl
+  emptied_costs false = refl
+
+  -- a kernel call is within the operation
+  call_costs : (d : Dom) → Costs p (worst_operation (shape_of p)) (make_call p (estate p o) (layout p o) d)
+  unfolding make_call call_touches operation footprint worst worst_touches hierarchy layout
+  call_costs d = record {
+    within = λ s.
+        let e = estate p o in
+        let l = layout p o in
+        let w = work_of (register d.threads.current.regs 17) (call e d s.mem).notes in
+        let covers = operation_covers (shape_of p) l w (record { line = refl; shared = refl }) (calls_bounded e d s.mem) in
+        let lines = worst_lines (hierarchy p) (touches l w) in
+        let both = worst-append (hierarchy p) (operation p.costs l w) (if empties (call e d s.mem).notes then EmptyTlb ∷ [] else []) in
+        let none = emptied_costs (empties (call e d s.mem).notes) in
+        omega (arith, covers, lines, both, none);
+  }
+
+  -- what an instruction costs after its fetch
+  perform_worst : ℕ
+  perform_worst = p.costs.mispredict + access_worst p + worst_operation (shape_of p)
+
+  executes : (t : ℕ) (d : Dom) (i : Instr) → Costs p perform_worst (execute p (estate p o).root t d i)
+  unfolding perform_worst
+  executes t d i = more p (p.costs.mispredict + access_worst p) perform_worst _ (omega arith) (execute_costs p (estate p o).root t d i)
+
+  perform_costs : (t : ℕ) (d : Dom) (w : ℕ) (i : Option Instr) → Costs p perform_worst (perform p (estate p o) (layout p o) t d w i)
+  unfolding perform perform_worst
+  perform_costs t d w None = more p 0 perform_worst _ (omega arith) (stop_costs p _)
+  perform_costs t d w (Some instr.Ecall) = more p (worst_operation (shape_of p)) perform_worst _ (omega arith) (call_costs d)
+  perform_costs t d w (Some i) = executes t d i
+
+  instruction_costs : (t : ℕ) (d : Dom) → Costs p (worst_look p.costs + (worst_fetch p.costs + (0 + perform_worst))) (instruction p (estate p o) (layout p o) t d)
+  unfolding instruction hierarchy
+  instruction_costs t d =
+      bind_costs p (worst_look p.costs) _ _ _ (translate_costs p _ d _ _) (λ f.
+      then_costs p (worst_fetch p.costs) _ _ _ (touch_costs p (Fetch (line_in p f d.threads.current.pc)))
+      (bind_costs p 0 perform_worst _ _ (read_costs p f _) (λ w. perform_costs t d w _)))
+
+  -- with its base, it is within the largest step
+  pub instruction_within : (t : ℕ) (d : Dom) (s : Storage)
+      → p.costs.base + worst_touches (hierarchy p) (instruction p (estate p o) (layout p o) t d s).notes ≤ largest_step p
+  unfolding worst perform_worst access_worst worst_instruction
+  instruction_within t d s = let within = (instruction_costs t d).within s in omega (arith, within)
