@@ -34,8 +34,8 @@ trap 'rm -f "$image"' EXIT
         printf '[[domain]]\nname = "%s"\ncolours = [%s]\nentry = 0x10000\n' "$name" "$colour"
         printf 'segment = [{ page = 16, pages = 1, rights = "rx", hex = "%s" }]\n' "$loop"
     done
-    printf '[[schedule]]\ndomain = 0\nlength = 1000000\npad = 0\n'
-    printf '[[schedule]]\ndomain = 1\nlength = 1000000\npad = 0\n'
+    printf '[[schedule]]\ndomain = 0\nlength = 1000000\npad = 6150\n'
+    printf '[[schedule]]\ndomain = 1\nlength = 1000000\npad = 6150\n'
 } > "$image"
 
 begin=$(date +%s%N)
