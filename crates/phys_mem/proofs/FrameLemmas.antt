@@ -1,5 +1,5 @@
 -- Frames of a list of words after a frame was zeroed.
-use Rattle.std.proofs.Common.{arith, ◌≡◌, ◌≢◌, ◌∙◌, ap, sym, ℕ, ◌+◌, ◌-◌, ◌*◌, ◌<◌, ◌≤◌, List, ◌++◌, length, take, drop, inl, inr}
+use Rattle.std.proofs.Common.{arith, ◌≡◌, ◌≢◌, ◌∙◌, ap, sym, ℕ, ◌+◌, ◌-◌, ◌*◌, ◌<◌, ◌≤◌, List, ◌++◌, length, take, drop, replicate, inl, inr}
 use Rattle.std.proofs.lemmas.Bool.{cases_lt}
 use Rattle.std.proofs.lemmas.List.{drop-drop, length-append, length-take, length-drop, length-replicate, get_or-replicate, get_or_past}
 use Rattle.std.proofs.lemmas.List.Edits.{get_or-between}
@@ -17,12 +17,15 @@ pub length-zeros : (frames : ℕ) → length (zeros frames) ≡ 1024 * frames
 unfolding zeros
 length-zeros frames = length-replicate {A = ℕ} (1024 * frames) 0
 
+pub index-replicate : (count i : ℕ) → slice_index (replicate count 0) i ≡ 0
+index-replicate count i = elim (cases_lt i count) [
+  | inl within ↦ get_or-replicate count i 0 0 within
+  | inr past ↦ get_or_past (replicate count 0) i 0 (omega (arith, length-replicate {A = ℕ} count 0))
+]
+
 pub index-zeros : (frames i : ℕ) → slice_index (zeros frames) i ≡ 0
 unfolding zeros
-index-zeros frames i = elim (cases_lt i (1024 * frames)) [
-  | inl within ↦ get_or-replicate (1024 * frames) i 0 0 within
-  | inr past ↦ get_or_past (zeros frames) i 0 (omega (arith, length-zeros frames))
-]
+index-zeros frames i = index-replicate (1024 * frames) i
 
 zeroed_words-is : (words : List ℕ) (frame : ℕ) → zeroed_words words frame ≡ put_mid (1024 * frame) 1024 words (zeros 1)
 unfolding zeroed_words

@@ -4,10 +4,18 @@ use Rattle.std.proofs.lemmas.Bool.{cases_eq}
 use Rattle.std.specs.Prelude.{slice_index, slice_set}
 use Rattle.tp_base.specs.Table.{empty}
 use Rattle.phys_mem.specs.Address.{frame_of, place_of}
-use Rattle.phys_mem.specs.Contents.{Contents, word_of, with_word, zeroed, all_zero}
+use Rattle.phys_mem.specs.Contents.{Contents, word_of, word_at, with_word, zeroed, all_zero}
 use Rattle.phys_mem.specs.Mem.{Mem, word, written, zeroed_frame, word-empty, word-written_same, word-written_place, word-written_frame, word-zeroed_same, word-zeroed_other}
 use Rattle.phys_mem.specs.Holds.{Holds}
 use Rattle.phys_mem.proofs.FrameLemmas.{word_of-index, index-zeros, length-zeros, length-zeroed_words, word_of-zeroed_same, word_of-zeroed_other}
+
+pub holds-word_at : (memory : Contents) (mem : Mem) (at : ℕ) → frame_of at < memory.frames → Holds memory mem
+    → word_at memory at ≡ word mem (frame_of at) (place_of at)
+holds-word_at memory mem at within holds =
+    let here : at / 4 ≡ 1024 * frame_of at + place_of at = omega arith in
+    ap (λ (i : ℕ). slice_index memory.words i) here
+    ∙ sym (word_of-index memory (frame_of at) (place_of at) (omega arith))
+    ∙ holds.same (frame_of at) (place_of at) within (omega arith)
 
 pub holds-all_zero : (frames : ℕ) → Holds (all_zero frames) empty
 holds-all_zero frames = record {

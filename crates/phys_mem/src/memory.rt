@@ -1,10 +1,12 @@
-// Physical memory: all its words, and the calls that read and write parts of them.
-ghost use Rattle.std.specs.Prelude.{◌≡◌, ◌≢◌, ℕ, ◌+◌, ◌*◌, ◌/◌, ◌%◌, ◌^◌, ◌<◌, ◌≤◌, length, IfOk};
+// Physical memory: its words, and the calls that read and write parts of them. Only the first frames' words are kept, as
+// far as frames were written: so a new memory takes no time for words that no one writes.
+ghost use Rattle.std.specs.Prelude.{◌≡◌, ◌≢◌, ℕ, ◌+◌, ◌*◌, ◌/◌, ◌%◌, ◌^◌, ◌<◌, ◌≤◌, length, slice_set, vec_len, vec_capacity, IfOk};
 ghost use Rattle.byteorder.specs.Endian.{little_bytes};
 ghost use Rattle.tp_base.specs.Table.{empty};
 ghost use Rattle.phys_mem.specs.Address.{frame_of, place_of};
 ghost use Rattle.phys_mem.specs.Bytes.{byte_in, half_in, with_byte_in, with_half_in};
 ghost use Rattle.phys_mem.specs.Contents.{Contents, frame_words, word_of, word_at, byte_at, half_at, with_word, with_byte, with_half, zeroed, zeroed_words, all_zero};
+ghost use Rattle.phys_mem.specs.Growth.{with_zeros};
 ghost use Rattle.phys_mem.specs.Mem.{Mem, word, written, zeroed_frame};
 ghost use Rattle.phys_mem.specs.Holds.{Holds};
 
@@ -13,22 +15,25 @@ use std::alloc::Global;
 use std::marker::Model;
 use tp_base::{FrameNo, Memory, Zero};
 
-/// A memory of frames of 4,096 bytes, from address 0 on.
+/// A memory of frames of 4,096 bytes, from address 0 on. All its room is
+/// reserved when it is made, so that no later call fails for want of memory.
 #[derive(Drop)]
 pub struct PhysMem {
     frames: u32,
+    // those of the first frames; all others are zero
     words: Vec<u32>,
 }
 
 impl Model for PhysMem {
-    ghost use Rattle.std.specs.Prelude.{◌≡◌, ◌*◌, ◌^◌, ◌≤◌, length};
+    ghost use Rattle.std.specs.Prelude.{vec_capacity};
     ghost use Rattle.phys_mem.specs.Contents.{Contents};
+    ghost use Rattle.phys_mem.specs.Growth.{held, IsKept};
 
     ghost Value = { Contents };
 
-    ghost view = { λ m. record { frames = m.frames; words = m.words.items } };
+    ghost view = { λ m. held m.frames m.words.items };
 
-    ghost invariant = { λ m. (m.frames ≤ 2 ^ 20) × (length m.words.items ≡ 1024 * m.frames) };
+    ghost invariant = { λ m. IsKept m.frames (vec_capacity m.words) m.words.items };
 }
 
 impl PhysMem {
@@ -42,7 +47,7 @@ impl PhysMem {
         ensures zero { IfOk result (λ memory. memory ≡ all_zero frames) }
         ensures holds { IfOk result (λ memory. Holds memory empty) }
     {
-        let words = vec![in alloc; 0; 1024 * frames as usize]?;
+        let words = Vec::with_capacity(alloc, 1024 * frames as usize)?;
         Ok(PhysMem { frames, words })
     }
 
@@ -151,6 +156,9 @@ impl PhysMem {
             → result ≡ word mem (frame_of at) (place_of at) }
     {
         let index = at as usize / 4;
+        if index >= self.words.len() {
+            return 0;
+        }
         self.words[index]
     }
 
@@ -166,15 +174,30 @@ impl PhysMem {
         ensures holds { (mem : Mem) → Holds self.old mem
             → Holds self.new (written mem (frame_of at) (place_of at) word) }
     {
-        self.words[at as usize / 4] = word;
+        self.put(at as usize / 4, word);
     }
 
+    // Writes the word at an index.
+    fn put(&mut self, index: usize, word: u32)
+        requires within { index / 1024 < self.old.frames }
+        ensures becomes { self.new ≡ record self.old { words = slice_set self.old.words index word } }
+        ensures size { length self.old.words ≡ 1024 * self.old.frames }
+    {
+        reach(&mut self.words, index);
+        self.words[index] = word;
+    }
+
+    // A frame past the words kept is zero already.
     fn clear(&mut self, frame: u32)
         requires within { frame < self.old.frames }
         ensures becomes { self.new ≡ zeroed self.old frame }
         ensures size { length self.old.words ≡ 1024 * self.old.frames }
     {
-        zero_words(&mut self.words, frame as usize);
+        let frame = frame as usize;
+        if 1024 * frame >= self.words.len() {
+            return;
+        }
+        zero_words(&mut self.words, frame);
     }
 }
 
@@ -195,6 +218,38 @@ impl Zero for PhysMem {
     {
         self.clear(frame.number());
     }
+}
+
+// Keeps the word at an index, for which there is room. All words stay.
+#[inline(always)]
+fn reach(words: &mut Vec<u32>, index: usize)
+    requires whole { vec_len words.old % 1024 ≡ 0 }
+    requires room { 1024 * (index / 1024 + 1) ≤ vec_capacity words.old }
+    ensures same { (size : ℕ) → vec_len words.old ≤ size → 1024 * (index / 1024 + 1) ≤ size
+        → with_zeros words.new.items size ≡ with_zeros words.old.items size }
+    ensures kept { index < vec_len words.new }
+    ensures whole { vec_len words.new % 1024 ≡ 0 }
+    ensures within { (size : ℕ) → vec_len words.old ≤ size → 1024 * (index / 1024 + 1) ≤ size
+        → vec_len words.new ≤ size }
+    ensures room { vec_capacity words.old ≤ vec_capacity words.new }
+{
+    if index < words.len() {
+        return;
+    }
+    grow(words, index);
+}
+
+// Keeps zeros up to the end of the frame of the word at an index.
+#[cold]
+#[inline(never)]
+fn grow(words: &mut Vec<u32>, index: usize)
+    requires past { vec_len words.old ≤ index }
+    requires room { 1024 * (index / 1024 + 1) ≤ vec_capacity words.old }
+    ensures items { words.new.items ≡ with_zeros words.old.items (1024 * (index / 1024 + 1)) }
+    ensures size { vec_len words.new ≡ 1024 * (index / 1024 + 1) }
+    ensures room { vec_capacity words.old ≤ vec_capacity words.new }
+{
+    words.resize(1024 * (index / 1024 + 1), 0).unwrap();
 }
 
 fn zero_words(words: &mut [u32], frame: usize)

@@ -12,11 +12,11 @@ use Rattle.tp_base.specs.Table.{put, empty, at-put_same, at-put_other, at-empty}
 use Rattle.set_cache.specs.Rule.{Rule}
 use Rattle.set_cache.specs.declared.Touch.{Touch}
 use Rattle.set_cache.specs.declared.KeptLine.{KeptLine}
-use Rattle.set_cache.specs.Cache.{CacheSet, Sets, set_at, step_of, touch_of, dirty_below, dirty_in, dirty_of, fresh_set, is_line, way_of}
-use Rattle.set_cache.specs.Contents.{KeptSet, Contents, SetStands, SetSteps, StandsFor, SameShape, CacheSteps, IsFresh, IsSound, IsOnce, IsHome, kept_at, shape_of}
+use Rattle.set_cache.specs.Cache.{CacheSet, Sets, set_at, step_of, step_by, touch_of, dirty_below, dirty_in, dirty_of, fresh_set, is_line, way_of}
+use Rattle.set_cache.specs.Contents.{KeptSet, Contents, SetStands, SetSteps, StandsFor, CacheSteps, IsFresh, IsSound, IsOnce, IsHome, kept_at, shape_of}
 use Rattle.set_cache.specs.Lines.{MovesLines, MovesMarks, place_in, mark_of, mark_in, dirty_kept}
 use Rattle.set_cache.specs.Calls.{IsTouch}
-use Rattle.set_cache.proofs.Ways.{way_of_none, ways_of, some_at, kept_before}
+use Rattle.set_cache.proofs.Ways.{way_of_none, ways_of, some_at, kept_before, hit_answer, moves_same, marks_same}
 
 -- what holds of each element holds of one that was read
 pub read_at : {X : Type 0} (P : X → Type 0) (xs : List X) (i : ℕ) (x : X) → i < length xs → x ≡ get_or xs i x
@@ -279,3 +279,30 @@ table_touch takes rule stands policy ways table i old new answer number store so
   moves = lines_move policy ways table i old new answer number is below read sound.home moves;
   marks = marks_move policy ways table i old new answer number store is below read sound.home moves marks;
 }
+
+-- a hit that writes no line is a step of its set
+hit_steps : (rule : Rule) (stands : ℕ → List ℕ → Type 0) (old new : KeptSet) (set : CacheSet) (number way : ℕ)
+    → way_of number old.places ≡ Some way → new.places ≡ old.places → ((list : List ℕ) → stands old.state list → stands new.state (rule.touched list way))
+    → SetStands stands old set → SetSteps stands hit_answer new (step_of rule set number false)
+hit_steps rule stands old new set number way found same touched for =
+    let at : way_of number set.places ≡ Some way = ap (way_of number) for.same ∙ found in
+    subst (λ (o : Option ℕ). SetSteps stands hit_answer new (step_by rule set number false o)) (sym at)
+    (record { answered = refl; next = record { same = for.same ∙ sym same; listed = touched set.order for.listed } })
+
+-- and of the cache
+pub table_hit : {P : Type 0} (takes : P → ℕ → Type 0) (rule : P → ℕ → Rule) (stands : P → ℕ → ℕ → List ℕ → Type 0) (policy : P) (ways : ℕ) (table : List KeptSet)
+    (i : ℕ) (old new : KeptSet) (number way : ℕ)
+    → IsSound takes stands (record { policy = policy; ways = ways; table = table })
+    → i ≡ number % length table → i < length table → old ≡ get_or table i old
+    → way_of number old.places ≡ Some way → new.places ≡ old.places
+    → ((list : List ℕ) → stands policy ways old.state list → stands policy ways new.state ((rule policy ways).touched list way))
+    → IsTouch takes rule stands hit_answer number false (record { policy = policy; ways = ways; table = table }) (record { policy = policy; ways = ways; table = set table i new })
+table_hit takes rule stands policy ways table i old new number way sound is below read found same touched =
+    let full : length old.places ≡ ways = read_at (λ (k : KeptSet). length k.places ≡ ways) table i old below read sound.full in
+    let once : IsOnce old.places = read_at (λ (k : KeptSet). IsOnce k.places) table i old below read sound.once in
+    let valid = read_at (λ (k : KeptSet). (list : List ℕ) × stands policy ways k.state list) table i old below read sound.valid in
+    table_touch takes rule stands policy ways table i old new hit_answer number false sound is below read
+    (ap length same ∙ full) ((rule policy ways).touched valid.0 way, touched valid.0 valid.1) (subst IsOnce (sym same) once)
+    (λ set for. hit_steps (rule policy ways) (stands policy ways) old new set number way found same touched for)
+    (subst (λ (ps : List (Option KeptLine)). MovesLines hit_answer number (ways_of old.places) (ways_of ps)) (sym same) (moves_same old.places way number found))
+    (subst (λ (ps : List (Option KeptLine)). MovesMarks hit_answer number false (mark_of old.places) (mark_of ps)) (sym same) (marks_same old.places way number found))

@@ -42,11 +42,11 @@ fn set_of(number: u32, sets: usize) -> usize
 }
 
 impl<P: Policy> SetCache<P> {
-    ghost use Rattle.std.specs.Prelude.{◌≤◌, ◌*◌, ℕ, length, is_some, IfOk, IfSome};
+    ghost use Rattle.std.specs.Prelude.{◌≤◌, ◌*◌, ℕ, length, true, is_some, IfOk, IfSome, IfNone};
     ghost use Rattle.set_cache.specs.Cache.{Sets, place_of, dirty_of};
     ghost use Rattle.set_cache.specs.Contents.{StandsFor, IsSound, shape_of};
     ghost use Rattle.set_cache.specs.Lines.{place_in, dirty_kept};
-    ghost use Rattle.set_cache.specs.Calls.{IsGeometry, IsNew, IsTouch, IsFlush};
+    ghost use Rattle.set_cache.specs.Calls.{IsGeometry, IsNew, IsTouch, TellsHit, IsFlush};
 
     /// A cache of fresh sets.
     ///
@@ -101,6 +101,23 @@ impl<P: Policy> SetCache<P> {
         let index = set_of(number, self.table.len());
         let set = &self.table[index];
         let way = set.way_of(number)?;
+        Some(index as u32 * self.ways + way as u32)
+    }
+
+    /// The place of a line, where it is here: a touch then, that is no store.
+    /// A look-up that misses changes nothing.
+    #[inline(always)]
+    pub fn find(&mut self, number: u32) -> Option<u32>
+        ensures here { result ≡ place_in self.old number }
+        ensures stands { (sets : Sets) → StandsFor P.stands_for self.old sets
+            → result ≡ place_of (shape_of P.rule self.old) sets number }
+        ensures below { IfSome result (λ place. place < length self.old.table * self.old.ways) }
+        ensures missed { IfNone result (self.new ≡ self.old) }
+        ensures touch { IfSome result (λ _.
+            TellsHit P.takes P.rule P.stands_for true number self.old self.new) }
+    {
+        let index = set_of(number, self.table.len());
+        let way = self.table[index].find(&self.policy, self.ways, number)?;
         Some(index as u32 * self.ways + way as u32)
     }
 

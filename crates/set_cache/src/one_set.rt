@@ -43,7 +43,7 @@ fn empty_way(places: &[Option<KeptLine>]) -> Option<usize>
 }
 
 impl OneSet {
-    ghost use Rattle.std.specs.Prelude.{◌^◌, ◌≤◌, replicate, IfOk};
+    ghost use Rattle.std.specs.Prelude.{◌^◌, ◌≤◌, replicate, IfOk, IfSome, IfNone};
     ghost use Rattle.set_cache.specs.Cache.{CacheSet, step_of, dirty_in};
     ghost use Rattle.set_cache.specs.Contents.{SetStands, SetSteps, IsOnce};
     ghost use Rattle.set_cache.specs.Lines.{MovesLines, MovesMarks, mark_of};
@@ -115,6 +115,24 @@ impl OneSet {
         ensures value { result ≡ way_of number self.now.places }
     {
         way_of(&self.places, number)
+    }
+
+    /// The way at which the set keeps a line: a hit then, that is no store.
+    #[inline(always)]
+    pub fn find<P: Policy>(&mut self, policy: &P, ways: u32, number: u32) -> Option<usize>
+        requires taken { P.takes policy.now ways }
+        requires full { length self.old.places ≡ ways }
+        requires valid { (list : List ℕ) × P.stands_for policy.now ways self.old.state list }
+        ensures value { result ≡ way_of number self.old.places }
+        ensures missed { IfNone result (self.new ≡ self.old) }
+        ensures places { self.new.places ≡ self.old.places }
+        ensures touched { IfSome result (λ way. (list : List ℕ)
+            → P.stands_for policy.now ways self.old.state list
+            → P.stands_for policy.now ways self.new.state ((P.rule policy.now ways).touched list way)) }
+    {
+        let way = way_of(&self.places, number)?;
+        self.state = policy.touch(ways, self.state, way as u32);
+        Some(way)
     }
 
     /// How many lines have a mark.

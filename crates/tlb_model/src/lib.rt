@@ -67,8 +67,7 @@ impl<P: Policy> Tlb<P> {
         ensures step { (sets : Sets) → StandsFor P.stands_for self.old.pages sets
             → StandsFor P.stands_for self.new.pages (found_of (shape_of P.rule self.old.pages) sets page) }
     {
-        let place = self.pages.place_of(page)?;
-        self.pages.touch(page, false);
+        let place = self.pages.find(page)?;
         Some(self.leaves[place as usize])
     }
 

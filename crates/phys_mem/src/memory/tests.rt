@@ -64,3 +64,26 @@ fn the_last_word_of_the_most_frames(rt: HostRuntime) -> Result<(), Memory> {
     assert_eq!(rt; memory.read_word(0x00ff_fffc), 0);
     Ok(())
 }
+
+// Frames that were never written, below and above one that was.
+#[test]
+fn frames_never_written(rt: HostRuntime) -> Result<(), Memory> {
+    let mut memory = PhysMem::new(rt.alloc(), 4)?;
+    blank(&mut memory, FrameNo::new(2));
+    memory.write_half(0x2002, 0xabcd);
+    let below = (memory.read_word(0), memory.read_word(0x1ffc));
+    let written = (memory.read_word(0x2000), memory.read_word(0x2ffc));
+    let above = (memory.read_word(0x3000), memory.read_byte(0x3fff));
+    assert_eq!(rt; (below, written, above), ((0, 0), (0xabcd_0000, 0), (0, 0)));
+    memory.write_byte(0x3fff, 0xef);
+    assert_eq!(rt;
+        (memory.read_word(0x2000), memory.read_word(0x3ffc)),
+        (0xabcd_0000, 0xef00_0000)
+    );
+    blank(&mut memory, FrameNo::new(2));
+    assert_eq!(rt;
+        (memory.read_word(0x2000), memory.read_word(0x3ffc)),
+        (0, 0xef00_0000)
+    );
+    Ok(())
+}

@@ -78,7 +78,10 @@ fn a_victim_is_given_up_with_its_mark(rt: HostRuntime) -> Result<(), Fail> {
         (6, false, HIT),
     ];
     assert_eq!(rt; first_wrong(&mut cache, &rows), None);
-    assert_eq!(rt; cache.place_of(7), Some(2));
+    assert_eq!(rt;
+        (cache.place_of(7), cache.find(7), cache.find(4)),
+        (Some(2), Some(2), None)
+    );
     assert!(rt; !cache.holds(4));
     assert_eq!(rt; (cache.dirty(), cache.flush(), cache.dirty()), (1, 1, 0));
     assert!(rt; !cache.holds(6));
