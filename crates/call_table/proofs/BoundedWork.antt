@@ -3,7 +3,7 @@ use Rattle.std.proofs.Common.{◌≡◌, ◌∙◌, sym, subst, refl, inl, inr, 
 use Rattle.std.proofs.lemmas.Bool.{cases_eq}
 use Rattle.std.proofs.lemmas.List.Elements.{All-nil, All-cons, All-head, All-tail}
 use Rattle.std.specs.List.{All}
-use Rattle.std.specs.Prelude.{nat_eq, nat_le, if◌then◌else◌, slice_get}
+use Rattle.std.specs.Prelude.{nat_eq, nat_le, if◌then◌else◌}
 use Rattle.tp_base.specs.Act.{either}
 use Rattle.phys_mem.specs.Mem.{Mem}
 use Rattle.rv_core.specs.Registers.{register}
@@ -13,12 +13,13 @@ use Rattle.pad_bound.specs.Worst.{IsCallWork}
 use Rattle.cap_table.specs.declared.Cap.{Cap}
 use Rattle.cap_table.specs.declared.Cap.TheVariants as cap
 use Rattle.cap_table.specs.Slots.{is_revoked}
-use Rattle.call_table.specs.Domain.{Dom, exited}
+use Rattle.call_table.specs.Domain.{Dom, reply_past, exited}
 use Rattle.call_table.specs.Claims.{Estate}
 use Rattle.call_table.specs.Calls.{Act, Note, zeroed_in, entries_in, op_of, work_of, empties, empties_buffer, clears_entries, put_byte, alloc, install, map_page, unmap, may_give, copy_refusal, copy, drop_slot, delete, drop_if, drop_others, revoke, call_of, call}
 use Rattle.call_table.specs.Laws.{Kept, IsMine, IsOwnWork, EmptiesLaw, OperationLaw, WorkLaw}
+use Rattle.call_table.proofs.QuietCalls.{poll_quiet, wait_quiet, signal_quiet, spawn_quiet, yield_quiet, end_quiet}
 use Rattle.call_table.proofs.ConfinedCalls.{ready, any_call}
-use Rattle.call_table.proofs.WorkSteps.{Drops, Works, IsWork, drops_then, drops_fewer, give_drops, drop_slot_drops, stop_works, check_works, some_works, filled_works, slot_works, page_refusal_works, table_refusal_works, allowed_works, unless_works, give_works, zero_works, map_at_works, install_at_works, unmap_at_works, drops_works}
+use Rattle.call_table.proofs.WorkSteps.{Drops, Works, IsWork, drops_then, drops_fewer, give_drops, drop_slot_drops, stop_works, check_works, some_works, filled_works, slot_works, page_refusal_works, table_refusal_works, allowed_works, unless_works, quiet_works, give_works, zero_works, map_at_works, install_at_works, unmap_at_works, drops_works}
 
 -- ---- the slots that a REVOKE empties
 
@@ -135,15 +136,21 @@ call_of_works e d number a b c =
     (by_number d number 6 _ _ (copy_works d a b c)
     (by_number d number 7 _ _ (delete_works e d a)
     (by_number d number 8 _ _ (revoke_works e d a)
-    (stop_works d (clears_entries number) 1 refl)))))))))
+    (by_number d number 9 _ _ (quiet_works d _ (poll_quiet d a))
+    (by_number d number 10 _ _ (quiet_works d _ (wait_quiet d a))
+    (by_number d number 11 _ _ (quiet_works d _ (signal_quiet d a))
+    (by_number d number 12 _ _ (quiet_works d _ (spawn_quiet d a b))
+    (by_number d number 13 _ _ (quiet_works d _ (yield_quiet d))
+    (by_number d number 14 _ _ (quiet_works d _ (end_quiet d))
+    (stop_works d (clears_entries number) 1 refl)))))))))))))))
 
 -- a call's operation is of no switch
 pub is_call_op : (number : ℕ) → is_of_switch (op_of number) ≡ false
-is_call_op number = by_test (nat_le number 8) refl
+is_call_op number = by_test (nat_le number 14) refl
   where
-    by_test : (b : Bool) → nat_le number 8 ≡ b → is_of_switch (if b then number else bad_call_op) ≡ false
+    by_test : (b : Bool) → nat_le number 14 ≡ b → is_of_switch (if b then number else bad_call_op) ≡ false
     by_test true small =
-        let below : number ≤ 8 = leb-true number 8 small in
+        let below : number ≤ 14 = leb-true number 14 small in
         rw (ne_eqb number 16 (λ e. absurd (omega (arith, below, e))), ne_eqb number 17 (λ e. absurd (omega (arith, below, e)))) refl
     by_test false large = refl
 
@@ -156,7 +163,7 @@ call_of_bounded e d m number a b c =
 
 pub call_of_empties : (e : Estate) (d : Dom) (m : Mem) (number a b c : ℕ)
     → empties (call_of e d number a b c m).notes
-    ≡ empties_buffer number (slice_get (either (call_of e d number a b c m).value).replies (length d.replies))
+    ≡ empties_buffer number (reply_past (length d.replies) (either (call_of e d number a b c m).value))
 call_of_empties e d m number a b c =
     let w : IsWork d (clears_entries number) (call_of e d number a b c m).value (call_of e d number a b c m).notes =
     (call_of_works e d number a b c).each m in

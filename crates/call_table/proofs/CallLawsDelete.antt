@@ -21,7 +21,8 @@ use Rattle.call_table.specs.Laws.{Kept, LeavesKept, CallsKeepLaw}
 use Rattle.call_table.proofs.ClaimLaws.{one_slot, same_frame}
 use Rattle.call_table.proofs.ClaimLawsSlots.{claims_at, claims_fixed}
 use Rattle.call_table.proofs.StepLaws.{clearing, uninstalling, dropping, idling, leaf_same}
-use Rattle.call_table.proofs.CallLawsSteps.{FactsWith, Ends, kept_slot, kept_replied, kept_exited, kept_printed, give_ends, stop_ends, if_ends, check_ends, filled_ends, buffer_ends, clear_ends, bind_ends}
+use Rattle.call_table.proofs.QuietCalls.{later_quiet}
+use Rattle.call_table.proofs.CallLawsSteps.{FactsWith, Ends, kept_slot, kept_replied, kept_exited, kept_printed, give_ends, quiet_ends, if_ends, check_ends, filled_ends, buffer_ends, clear_ends, bind_ends}
 use Rattle.call_table.proofs.CallLaws.{table_at, alloc_keeps, install_keeps, map_page_keeps, unmap_keeps, copy_keeps}
 
 -- ---- a table that is not in use has no page
@@ -213,7 +214,7 @@ call_of_keeps e d m number a b c s h =
     (if_ends e (nat_eq number 6) _ _ m (record { kept = copy_keeps e d m a b c s h })
     (if_ends e (nat_eq number 7) _ _ m (record { kept = delete_keeps e d m a s h })
     (if_ends e (nat_eq number 8) _ _ m (record { kept = revoke_keeps e d m a s h })
-    (stop_ends e _ m (kept_replied e d m 1 0 h))))))))))).kept
+    (quiet_ends e d m _ h (later_quiet d number a b))))))))))).kept
 
 pub calls_keep : CallsKeepLaw
 unfolding call

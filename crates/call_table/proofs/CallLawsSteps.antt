@@ -1,5 +1,5 @@
 -- What the steps of calls leave: an early end leaves the domain's facts, and each test says what holds after it.
-use Rattle.std.proofs.Common.{◌≡◌, ℕ, ◌<◌, Bool, true, false, ltb-true, Option, Some, None, List, ◌⊎◌, inl, inr, refl, sym, subst}
+use Rattle.std.proofs.Common.{◌≡◌, ℕ, ◌<◌, Bool, true, false, ltb-true, Option, Some, None, List, length, ◌⊎◌, inl, inr, refl, ap, sym, subst, ◌∙◌}
 use Rattle.std.specs.Prelude.{nat_lt, if◌then◌else◌}
 use Rattle.tp_base.specs.Act.{Done, go_on, ◌>>=◌, ◌>>◌, give, stop, check, either}
 use Rattle.phys_mem.specs.Mem.{Mem, zeroed_frame}
@@ -8,13 +8,14 @@ use Rattle.page_map.specs.Tables.{map_refusal, install_refusal}
 use Rattle.page_map.specs.Changes.{mapped, unmapped, installed}
 use Rattle.cap_table.specs.declared.Cap.{Cap}
 use Rattle.cap_table.specs.declared.Cap.TheVariants as cap
-use Rattle.cap_table.specs.Slots.{cap_at}
+use Rattle.cap_table.specs.Slots.{Slots, cap_at}
 use Rattle.call_table.specs.Domain.{Dom, placed, replied, done, refused, exited, with_caps}
 use Rattle.call_table.specs.Claims.{Claim, Estate, is_mine, claim_of, claims, Facts}
 use Rattle.call_table.specs.Calls.{Note, Act, zero_out, page_refusal, table_refusal, map_at, unmap_at, install_at, uninstall_at, empty_buffer, some_or, is_slot, filled, allowed, error_of, unless_refused, clear_entry, with_slot}
 use Rattle.call_table.specs.Laws.{Kept, LeavesKept}
 use Rattle.call_table.proofs.ClaimLaws.{with_claim}
 use Rattle.call_table.proofs.ClaimLawsSlots.{claims_set, long_set}
+use Rattle.call_table.proofs.QuietCalls.{QuietEnd, Quiet}
 
 -- the facts of a memory and of a domain's claims, with another claim at a slot
 abbrev pub FactsWith : Estate → Dom → ℕ → Claim → Mem → Type 0
@@ -33,6 +34,14 @@ module _ (e : Estate) where
 
   pub kept_printed : (d : Dom) (m : Mem) (bytes : List ℕ) → Kept e d m → Kept e (record d { printed = bytes }) m
   kept_printed d m bytes h = record { slots = h.slots; facts = h.facts }
+
+  kept_end : (d : Dom) (m : Mem) (v : Dom ⊎ Dom) → Kept e d m → QuietEnd d v → Kept e (either v) m
+  unfolding either
+  kept_end d m (inl x) h r = subst (λ (y : Dom). Kept e y m) (sym r.reply) (kept_replied d m r.code 0 h)
+  kept_end d m (inr x) h same = record {
+    slots = ap length same ∙ h.slots;
+    facts = subst (λ (caps : Slots). Facts e.root (is_mine e) (claims e caps) m) (sym same) h.facts;
+  }
 
   -- a slot is set, and one claim with it
   pub kept_slot : (d : Dom) (m n : Mem) (a : ℕ) (x : Option Cap) → Kept e d m → a < 64
@@ -59,6 +68,12 @@ module _ (e : Estate) where
   pub stop_ends : (d : Dom) (m : Mem) → Kept e d m → Ends (stop d m)
   unfolding stop either
   stop_ends d m h = record { kept = h }
+
+  pub quiet_ends : (d : Dom) (m : Mem) (y : Act Dom) → Kept e d m → Quiet d y → Ends (y m)
+  quiet_ends d m y h q = record {
+    kept = subst (λ (n : Mem). Kept e (either (y m).value) n) (sym (q.memory m))
+        (subst (λ (v : Dom ⊎ Dom). Kept e (either v) m) (sym (q.is m)) (kept_end d m q.value h q.ends));
+  }
 
   pub if_ends : (t : Bool) (x y : Act Dom) (m : Mem) → Ends (x m) → Ends (y m) → Ends ((if t then x else y) m)
   if_ends true x y m a b = a

@@ -20,7 +20,8 @@ use Rattle.call_table.specs.Calls.{Act, Page, is_slot, page_in, table_in, put_by
 use Rattle.call_table.specs.Laws.{IsMine, Kept, SameMine, IsConfined}
 use Rattle.call_table.proofs.TablesClaims.{some_same, own_root, table_own, table_not_root, valid-table}
 use Rattle.call_table.proofs.TablesSlots.{claim_at, cap_by}
-use Rattle.call_table.proofs.ConfinedSteps.{Any, Beside, Alike, bind_alike, give_alike, stop_alike, check_alike, some_alike, filled_alike, allowed_alike, buffer_alike}
+use Rattle.call_table.proofs.QuietCalls.{later_quiet}
+use Rattle.call_table.proofs.ConfinedSteps.{Any, Beside, Alike, bind_alike, quiet_alike, give_alike, stop_alike, check_alike, some_alike, filled_alike, allowed_alike, buffer_alike}
 use Rattle.call_table.proofs.ConfinedTables.{OwnTables, zero_alike, page_refusal_alike, table_refusal_alike, map_alike, unmap_alike, install_alike, clear_alike}
 
 -- ---- what the facts give
@@ -239,7 +240,7 @@ module _ (e : Estate) (first : Mem) where
       (either_call (nat_eq number 6) _ _ m k (copy_alike d m k z a b c)
       (either_call (nat_eq number 7) _ _ m k (delete_call d m k z r a)
       (either_call (nat_eq number 8) _ _ m k (revoke_call d m k z r a)
-      (stop_alike e first Any m k z (refused 1 d))))))))))
+      (quiet_alike e first d _ m k z (later_quiet d number a b))))))))))
 
 pub calls_are_confined : (e : Estate) (d : Dom) (m k : Mem) → Kept e d m → SameMine e m k → IsConfined e m (call e d m) (call e d k)
 unfolding call

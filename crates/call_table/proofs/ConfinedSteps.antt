@@ -1,5 +1,5 @@
 -- Steps over two memories that are equal in the domain's own frames: they do the same, and within those frames alone.
-use Rattle.std.proofs.Common.{◌≡◌, ◌≢◌, ◌⊎◌, ◌∙◌, ap, ap₂, sym, subst, refl, inl, inr, ℕ, ◌<◌, ◌/◌, Bool, true, false, cond, eqb, true≢false, [], ◌∷◌, ◌++◌, arith, Option, Some, None}
+use Rattle.std.proofs.Common.{◌≡◌, ◌≢◌, ◌⊎◌, ◌∙◌, ap, ap₂, sym, subst, subst₂, refl, inl, inr, ℕ, ◌<◌, ◌/◌, Bool, true, false, cond, eqb, true≢false, List, [], ◌∷◌, ◌++◌, arith, Option, Some, None}
 use Rattle.std.specs.Prelude.{nat_lt}
 use Rattle.std.specs.List.{All}
 use Rattle.std.proofs.lemmas.List.Elements.{All-nil, All-cons, All-append}
@@ -14,6 +14,7 @@ use Rattle.call_table.specs.Domain.{Dom, refused}
 use Rattle.call_table.specs.Claims.{Estate, is_mine}
 use Rattle.call_table.specs.Calls.{Note, Act, empty_buffer, some_or, is_slot, filled, allowed}
 use Rattle.call_table.specs.Laws.{IsMine, SameMine, IsOwnWork}
+use Rattle.call_table.proofs.QuietCalls.{Quiet}
 
 -- what is known of the value and of what is left, if there is a value
 abbrev pub Known : {A : Type 0} → (A → Mem → Type 0) → Dom ⊎ A → Mem → Type 0
@@ -94,6 +95,19 @@ module _ (e : Estate) (first : Mem) where
   unfolding ◌>>=◌
   bind_alike {A} {B} P Q x f m k h g =
       subst (λ (v : Dom ⊎ A). Alike Q (go_on (x m) f (x m).value) (go_on (x k) f v)) h.value (after P Q (x m) (x k) f (x m).value h h.known g)
+
+  any_known : (v : Dom ⊎ Dom) (m : Mem) → Known Any v m
+  any_known (inl x) m = tt
+  any_known (inr x) m = tt
+
+  pub quiet_alike : (d : Dom) (y : Act Dom) (m k : Mem) → Beside m k → Quiet d y → Alike Any (y m) (y k)
+  quiet_alike d y m k b q = record {
+    value = q.is m ∙ sym (q.is k);
+    notes = q.no_work m ∙ sym (q.no_work k);
+    beside = subst₂ (λ (n l : Mem). Beside n l) (sym (q.memory m)) (sym (q.memory k)) b;
+    work = subst (λ (ns : List Note). All (IsOwnWork e) ns) (sym (q.no_work m)) (All-nil (IsOwnWork e));
+    known = any_known (y m).value (y m).state;
+  }
 
   -- ---- steps that leave memory as it is, and what follows them
 

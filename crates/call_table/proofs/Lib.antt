@@ -1,6 +1,7 @@
 pub mod ClaimLaws
 pub mod StepLaws
 pub mod ClaimLawsSlots
+pub mod QuietCalls
 pub mod CallLawsSteps
 pub mod CallLaws
 pub mod CallLawsDelete
@@ -18,3 +19,5 @@ pub mod MeaningRevoke
 pub mod WorkSteps
 pub mod BoundedWork
 pub mod WalksStay
+pub mod ThreadLawsTurns
+pub mod ThreadLaws

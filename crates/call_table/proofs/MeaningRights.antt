@@ -1,23 +1,24 @@
 -- Rights never widen: each page that capabilities name after a call was named before with at least these rights, or is new.
-use Rattle.std.proofs.Common.{◌≡◌, ◌⊎◌, ◌∙◌, subst, refl, inl, inr, ℕ, zero, suc, ◌/◌, ◌%◌, Bool, true, false, not, cond, le-leb, leb-true, le_refl, arith, List, [], ◌∷◌, Option, Some, None}
+use Rattle.std.proofs.Common.{◌≡◌, ◌⊎◌, ◌∙◌, sym, subst, refl, inl, inr, ℕ, ◌/◌, ◌%◌, Bool, true, false, not, cond, le-leb, leb-true, le_refl, arith, List, [], ◌∷◌, Option, Some, None}
 use Rattle.std.specs.Prelude.{nat_eq, nat_le}
 use Rattle.std.proofs.lemmas.Bool.{and_parts}
-use Rattle.tp_base.specs.Act.{Done, ◌>>◌, give, either}
+use Rattle.tp_base.specs.Act.{Done, either}
 use Rattle.phys_mem.specs.Mem.{Mem, zeroed_frame}
 use Rattle.sv32_walk.specs.PageTableEntry.{are_good}
 use Rattle.page_map.specs.Tables.{map_refusal, install_refusal}
-use Rattle.page_map.specs.Changes.{mapped, unmapped, installed, uninstalled}
+use Rattle.page_map.specs.Changes.{mapped, unmapped, installed}
 use Rattle.rv_core.specs.Registers.{register}
 use Rattle.cap_table.specs.declared.Cap.{Cap}
 use Rattle.cap_table.specs.declared.Cap.TheVariants as cap
-use Rattle.cap_table.specs.Slots.{Slots, cap_at, with_cap, copied, noted, is_revoked, revoked_count}
+use Rattle.cap_table.specs.Slots.{Slots, cap_at, with_cap, copied, noted, revoked_count}
 use Rattle.call_table.specs.Domain.{Dom, replied, placed, done, refused, exited, with_caps}
 use Rattle.call_table.specs.Claims.{Estate, is_named, least_free}
-use Rattle.call_table.specs.Calls.{Note, Act, is_slot, page_in, table_in, is_within, may_give, put_byte, fresh_cap, with_slot, alloc, install, map_page, unmap, copy, copy_refusal, clear_entry, drop_slot, delete, drop_if, drop_others, revoke, call_of, call}
+use Rattle.call_table.specs.Calls.{Note, is_slot, page_in, table_in, is_within, may_give, put_byte, fresh_cap, with_slot, alloc, install, map_page, unmap, copy, copy_refusal, drop_slot, delete, drop_others, revoke, call_of, call}
 use Rattle.call_table.specs.Laws.{IsNoWider, after_copies}
 use Rattle.call_table.proofs.TablesSlots.{cap_by}
+use Rattle.call_table.proofs.QuietCalls.{later_quiet}
 use Rattle.call_table.proofs.ConfinedCalls.{free_parts}
-use Rattle.call_table.proofs.MeaningSteps.{Ends, Gives, bind_gives, give_gives, stop_gives, zero_gives, map_gives, unmap_gives, install_gives, uninstall_gives, buffer_gives, nothing_gives, page_refusal_gives, table_refusal_gives, check_gives, some_gives, filled_gives, allowed_gives, unless_gives}
+use Rattle.call_table.proofs.MeaningSteps.{Gives, either_gives, bind_gives, give_gives, quiet_gives, if_gives, zero_gives, map_gives, unmap_gives, install_gives, buffer_gives, drop_gives, drop_others_gives, page_refusal_gives, table_refusal_gives, check_gives, some_gives, filled_gives, allowed_gives, unless_gives}
 
 -- ---- rights
 
@@ -175,34 +176,13 @@ module _ (New : ℕ → Type 0) (old : Slots) where
         (buffer_gives Old Stays (unmapped m e.root va) _
         (give_gives Old Stays (unmapped m e.root va) _ (slot_old a 0 (noted (Some x) None) (from x None is)))))))
 
-    dropped : (root a : ℕ) (c : Option Cap) → Step Stays ((clear_entry root c >> give (with_slot d a None)) m)
-    unfolding clear_entry with_caps
-    dropped root a (Some (cap.Frame f rights (Some va))) = unmap_gives Old Stays m root va _ (give_gives Old Stays (unmapped m root va) _ (old_set d.caps a None h old_none))
-    dropped root a (Some (cap.Table f (Some va))) = uninstall_gives Old Stays m root va _ (give_gives Old Stays (uninstalled m root va) _ (old_set d.caps a None h old_none))
-    dropped root a (Some (cap.Frame f rights None)) = nothing_gives Old Stays m _ (give_gives Old Stays m _ (old_set d.caps a None h old_none))
-    dropped root a (Some (cap.Table f None)) = nothing_gives Old Stays m _ (give_gives Old Stays m _ (old_set d.caps a None h old_none))
-    dropped root a (Some (cap.Irq line)) = nothing_gives Old Stays m _ (give_gives Old Stays m _ (old_set d.caps a None h old_none))
-    dropped root a None = nothing_gives Old Stays m _ (give_gives Old Stays m _ (old_set d.caps a None h old_none))
-
-    drop_old : (e : Estate) (a : ℕ) → Step Stays (drop_slot e a d m)
-    unfolding drop_slot
-    drop_old e a = dropped e.root a (cap_at d.caps a)
-
-    drop_if_old : (e : Estate) (a : ℕ) (t : Bool) → Step Stays (drop_if e a d t m)
-    unfolding drop_if
-    drop_if_old e a true = drop_old e a
-    drop_if_old e a false = give_gives Old Stays m d h
-
   done_old : (x : Dom) (n : ℕ) → Old x → Old (done n x)
   unfolding replied placed
   done_old x n h = h
 
-  drop_others_old : (e : Estate) (a n i : ℕ) (d : Dom) (m : Mem) → Old d → Step Stays (drop_others e a n i d m)
-  unfolding drop_others
-  drop_others_old e a zero i d m h = give_gives Old Stays m d h
-  drop_others_old e a (suc n) i d m h =
-      bind_gives Old Stays Stays (drop_if e i d (is_revoked d.caps a i)) (λ x. drop_others e a n (suc i) x) m
-      (drop_if_old d h m e i (is_revoked d.caps a i)) (λ x k o. drop_others_old e a n (suc i) x k o)
+  emptied_old : (x : Dom) (i : ℕ) → Old x → Old (with_slot x i None)
+  unfolding with_caps
+  emptied_old x i h = old_set x.caps i None h old_none
 
   module _ (d : Dom) (h : AreOld d.caps) (m : Mem) where
     delete_old : (e : Estate) (a : ℕ) → Step Stays (delete e d a m)
@@ -210,7 +190,7 @@ module _ (New : ℕ → Type 0) (old : Slots) where
     delete_old e a =
         filled_gives Old Stays m d (old_refused d h m) a _ (λ _ x is.
         check_gives Old Stays m d (old_refused d h m) 12 _ _ (λ _.
-        bind_gives Old Stays Stays (drop_slot e a d) _ m (drop_old d h m e a) (λ x n o.
+        bind_gives Old Stays Stays (drop_slot e a d) _ m (drop_gives e Old Old emptied_old a d m h) (λ x n o.
         buffer_gives Old Stays n _
         (give_gives Old Stays n _ (done_old x 0 o)))))
 
@@ -218,17 +198,13 @@ module _ (New : ℕ → Type 0) (old : Slots) where
     unfolding revoke
     revoke_old e a =
         filled_gives Old Stays m d (old_refused d h m) a _ (λ _ x is.
-        bind_gives Old Stays Stays (drop_others e a 64 0 d) _ m (drop_others_old e a 64 0 d m h) (λ x n o.
+        bind_gives Old Stays Stays (drop_others e a 64 0 d) _ m (drop_others_gives e Old Old emptied_old a 64 0 d m h) (λ x n o.
         buffer_gives Old Stays n _
         (give_gives Old Stays n _ (done_old x (revoked_count d.caps a) o))))
 
     exited_old : (a : ℕ) → Old (exited a d)
     unfolding exited
     exited_old a = h
-
-  either_old : (t : Bool) (x y : Act Dom) (m : Mem) → Step Stays (x m) → Step Stays (y m) → Step Stays (cond t x y m)
-  either_old true x y m h g = h
-  either_old false x y m h g = g
 
 -- ---- all of them, from a domain's own slots
 
@@ -239,32 +215,28 @@ module _ (New : ℕ → Type 0) (d : Dom) (m : Mem) where
   any_old e new number a b c =
       let h : AreOld New d.caps d.caps = old_same New d.caps in
       let from : (i : ℕ) (x : Cap) (at : Option ℕ) → cap_at d.caps i ≡ Some x → IsOld New d.caps (noted (Some x) at) = λ i x at is. noted_old New d.caps x i at is in
-      either_old New d.caps (nat_eq number 0) _ _ m (give_gives (Old New d.caps) (Stays New d.caps) m (exited a d) (exited_old New d.caps d h m a))
-      (either_old New d.caps (nat_eq number 1) _ _ m (put_old New d.caps d h m a)
-      (either_old New d.caps (nat_eq number 2) _ _ m (alloc_old New d.caps d h m e a b new)
-      (either_old New d.caps (nat_eq number 3) _ _ m (install_from New d.caps d h m e a b (from a))
-      (either_old New d.caps (nat_eq number 4) _ _ m (map_from New d.caps d h m e a b c (from a))
-      (either_old New d.caps (nat_eq number 5) _ _ m (unmap_from New d.caps d h m e a (from a))
-      (either_old New d.caps (nat_eq number 6) _ _ m (copy_from New d.caps d h m a b c (λ x is ok. copied_old New d.caps x a c is ok))
-      (either_old New d.caps (nat_eq number 7) _ _ m (delete_old New d.caps d h m e a)
-      (either_old New d.caps (nat_eq number 8) _ _ m (revoke_old New d.caps d h m e a)
-      (stop_gives (Old New d.caps) (Stays New d.caps) m (refused 1 d) (old_refused New d.caps d h m 1))))))))))
-
-  either_end : (v : Dom ⊎ Dom) (n : Mem) → Ends (Old New d.caps) (Stays New d.caps) v n → AreOld New d.caps (either v).caps
-  unfolding either
-  either_end (inl x) n h = h
-  either_end (inr x) n h = h
+      if_gives (Old New d.caps) (Stays New d.caps) m (nat_eq number 0) _ _ (λ _. give_gives (Old New d.caps) (Stays New d.caps) m (exited a d) (exited_old New d.caps d h m a))
+      (if_gives (Old New d.caps) (Stays New d.caps) m (nat_eq number 1) _ _ (λ _. put_old New d.caps d h m a)
+      (if_gives (Old New d.caps) (Stays New d.caps) m (nat_eq number 2) _ _ (λ _. alloc_old New d.caps d h m e a b new)
+      (if_gives (Old New d.caps) (Stays New d.caps) m (nat_eq number 3) _ _ (λ _. install_from New d.caps d h m e a b (from a))
+      (if_gives (Old New d.caps) (Stays New d.caps) m (nat_eq number 4) _ _ (λ _. map_from New d.caps d h m e a b c (from a))
+      (if_gives (Old New d.caps) (Stays New d.caps) m (nat_eq number 5) _ _ (λ _. unmap_from New d.caps d h m e a (from a))
+      (if_gives (Old New d.caps) (Stays New d.caps) m (nat_eq number 6) _ _ (λ _. copy_from New d.caps d h m a b c (λ x is ok. copied_old New d.caps x a c is ok))
+      (if_gives (Old New d.caps) (Stays New d.caps) m (nat_eq number 7) _ _ (λ _. delete_old New d.caps d h m e a)
+      (if_gives (Old New d.caps) (Stays New d.caps) m (nat_eq number 8) _ _ (λ _. revoke_old New d.caps d h m e a)
+      (quiet_gives (Old New d.caps) (Stays New d.caps) d (old_refused New d.caps d h m) m _ (later_quiet d number a b)
+      (λ x same. subst (AreOld New d.caps) (sym same) h))))))))))
 
   call_old : (e : Estate) → ((f : ℕ) → least_free e d.caps ≡ Some f → New f) → AreOld New d.caps (either (call e d m).value).caps
   unfolding call
   call_old e new =
       let regs = d.threads.current.regs in
-      either_end (call e d m).value (call e d m).state (any_old e new (register regs 17) (register regs 10) (register regs 11) (register regs 12)).ends
+      either_gives (Old New d.caps) _ (any_old e new (register regs 17) (register regs 10) (register regs 11) (register regs 12))
 
   copy_old : (a to c : ℕ) → AreOld New d.caps (either (copy d a to c m).value).caps
   copy_old a to c =
-      either_end (copy d a to c m).value (copy d a to c m).state
-      (copy_from New d.caps d (old_same New d.caps) m a to c (λ x is ok. copied_old New d.caps x a c is ok)).ends
+      either_gives (Old New d.caps) (copy d a to c m)
+      (copy_from New d.caps d (old_same New d.caps) m a to c (λ x is ok. copied_old New d.caps x a c is ok))
 
 pub not_named : (t : Bool) → not t ≡ true → t ≡ false
 not_named true e = absurd (cc e)

@@ -1,15 +1,18 @@
 -- What holds of an action's end, step by step: of the domain that is refused, or of the value and the memory.
-use Rattle.std.proofs.Common.{◌≡◌, ◌⊎◌, subst, refl, inl, inr, ℕ, Bool, true, false, Option, Some, None}
-use Rattle.std.specs.Prelude.{nat_lt}
-use Rattle.tp_base.specs.Act.{Done, go_on, ◌>>=◌, ◌>>◌, give, stop, check}
+use Rattle.std.proofs.Common.{◌≡◌, ◌⊎◌, sym, subst, refl, inl, inr, ℕ, zero, suc, Bool, true, false, Option, Some, None}
+use Rattle.std.specs.Prelude.{nat_lt, if◌then◌else◌}
+use Rattle.tp_base.specs.Act.{Done, go_on, ◌>>=◌, ◌>>◌, give, stop, check, either}
 use Rattle.phys_mem.specs.Mem.{Mem, zeroed_frame}
 use Rattle.page_map.specs.declared.refusal.MapRefusal.{MapRefusal}
 use Rattle.page_map.specs.Tables.{map_refusal, install_refusal}
 use Rattle.page_map.specs.Changes.{mapped, unmapped, installed, uninstalled}
 use Rattle.cap_table.specs.declared.Cap.{Cap}
-use Rattle.cap_table.specs.Slots.{cap_at}
+use Rattle.cap_table.specs.declared.Cap.TheVariants as cap
+use Rattle.cap_table.specs.Slots.{cap_at, line_of, is_revoked}
 use Rattle.call_table.specs.Domain.{Dom, refused}
-use Rattle.call_table.specs.Calls.{Note, Act, zero_out, page_refusal, table_refusal, map_at, unmap_at, install_at, uninstall_at, empty_buffer, some_or, is_slot, filled, allowed, error_of, unless_refused}
+use Rattle.call_table.specs.Claims.{Estate}
+use Rattle.call_table.specs.Calls.{Note, Act, line_in, line_at, clear_entry, drop_slot, drop_if, drop_others, with_slot, zero_out, page_refusal, table_refusal, map_at, unmap_at, install_at, uninstall_at, empty_buffer, some_or, is_slot, filled, allowed, error_of, unless_refused}
+use Rattle.call_table.proofs.QuietCalls.{QuietEnd, Quiet}
 
 abbrev pub Ends : {A : Type 0} → (Dom → Type 0) → (A → Mem → Type 0) → Dom ⊎ A → Mem → Type 0
 Ends Q P (inl d) m = Q d
@@ -31,6 +34,15 @@ given {A} Q P r g a e = by_value r.value e g.ends
     by_value (inl d) e h = absurd (cc e)
     by_value (inr b) e h = let same : b ≡ a = cc e in subst (λ (c : A). P c r.state) same h
 
+-- what either end meets
+pub either_gives : (P : Dom → Type 0) (r : Done Mem Note Dom Dom) → Gives P (λ x n. P x) r → P (either r.value)
+unfolding either
+either_gives P r g = by_value r.value g.ends
+  where
+    by_value : (v : Dom ⊎ Dom) → Ends P (λ x n. P x) v r.state → P (either v)
+    by_value (inl x) h = h
+    by_value (inr x) h = h
+
 module _ {A B : Type 0} (Q : Dom → Type 0) (R : A → Mem → Type 0) (P : B → Mem → Type 0) where
   after : (r : Done Mem Note Dom A) (f : A → Act B) (v : Dom ⊎ A) → Ends Q R v r.state → ((a : A) (n : Mem) → R a n → Gives Q P (f a n)) → Gives Q P (go_on r f v)
   unfolding go_on
@@ -49,6 +61,10 @@ module _ {A : Type 0} (Q : Dom → Type 0) (P : A → Mem → Type 0) (m : Mem) 
   pub stop_gives : (d : Dom) → Q d → Gives Q P (stop d m)
   unfolding stop
   stop_gives d h = record { ends = h }
+
+  pub if_gives : (t : Bool) (x y : Act A) → (t ≡ true → Gives Q P (x m)) → Gives Q P (y m) → Gives Q P ((if t then x else y) m)
+  if_gives true x y h g = h refl
+  if_gives false x y h g = g
 
   -- ---- changes of memory
 
@@ -79,6 +95,15 @@ module _ {A : Type 0} (Q : Dom → Type 0) (P : A → Mem → Type 0) (m : Mem) 
   pub nothing_gives : (y : Act A) → Gives Q P (y m) → Gives Q P ((give {A = Unit {0}} tt >> y) m)
   unfolding give ◌>>◌ ◌>>=◌ go_on
   nothing_gives y h = record { ends = h.ends }
+
+  pub clear_gives : (root : ℕ) (c : Option Cap) (y : Act A) → ((n : Mem) → Gives Q P (y n)) → Gives Q P ((clear_entry root c >> y) m)
+  unfolding clear_entry
+  clear_gives root (Some (cap.Frame f rights (Some va))) y h = unmap_gives root va y (h (unmapped m root va))
+  clear_gives root (Some (cap.Table f (Some va))) y h = uninstall_gives root va y (h (uninstalled m root va))
+  clear_gives root (Some (cap.Frame f rights None)) y h = nothing_gives y (h m)
+  clear_gives root (Some (cap.Table f None)) y h = nothing_gives y (h m)
+  clear_gives root (Some (cap.Irq line)) y h = nothing_gives y (h m)
+  clear_gives root None y h = nothing_gives y (h m)
 
   pub page_refusal_gives : (root va : ℕ) (f : Option MapRefusal → Act A) → Gives Q P (f (map_refusal m root va) m) → Gives Q P ((page_refusal root va >>= f) m)
   unfolding page_refusal ◌>>=◌ go_on
@@ -114,6 +139,20 @@ module _ {A : Type 0} (Q : Dom → Type 0) (P : A → Mem → Type 0) (m : Mem) 
     unfolding filled is_slot
     filled_gives a f g = filled_by (nat_lt a 64) (cap_at d.caps a) f g
 
+    line_by : (t : Bool) (x : Option Cap) (f : ℕ → Act A) → ((line : ℕ) → line_of x ≡ Some line → Gives Q P (f line m))
+        → Gives Q P ((((check (refused 2 d) t >> some_or (refused 3 d) x) >>= (λ c. some_or (refused 5 d) (line_in c))) >>= f) m)
+    unfolding check some_or ◌>>◌ ◌>>=◌ go_on give stop
+    line_by false x f g = record { ends = q 2 }
+    line_by true None f g = record { ends = q 3 }
+    line_by true (Some (cap.Frame h rights w)) f g = record { ends = q 5 }
+    line_by true (Some (cap.Table h w)) f g = record { ends = q 5 }
+    line_by true (Some (cap.Irq line)) f g = record { ends = (g line refl).ends }
+
+    pub line_gives : (a : ℕ) (f : ℕ → Act A) → ((line : ℕ) → line_of (cap_at d.caps a) ≡ Some line → Gives Q P (f line m))
+        → Gives Q P ((line_at d a >>= f) m)
+    unfolding line_at filled is_slot
+    line_gives a f g = line_by (nat_lt a 64) (cap_at d.caps a) f g
+
     pub allowed_gives : (r : Option MapRefusal) (y : Act A) → (r ≡ None → Gives Q P (y m)) → Gives Q P ((allowed d r >> y) m)
     unfolding allowed ◌>>◌ ◌>>=◌ go_on give stop
     allowed_gives None y g = record { ends = (g refl).ends }
@@ -123,3 +162,36 @@ module _ {A : Type 0} (Q : Dom → Type 0) (P : A → Mem → Type 0) (m : Mem) 
     unfolding unless_refused ◌>>◌ ◌>>=◌ go_on give stop
     unless_gives None y g = record { ends = (g refl).ends }
     unless_gives (Some code) y g = record { ends = q code }
+
+-- a call that does no work and leaves all slots
+module _ (Q : Dom → Type 0) (P : Dom → Mem → Type 0) (d : Dom) (q : (code : ℕ) → Q (refused code d)) (m : Mem) where
+  quiet_end : (v : Dom ⊎ Dom) (n : Mem) → QuietEnd d v → ((x : Dom) → x.caps ≡ d.caps → P x n) → Ends Q P v n
+  quiet_end (inl x) n r h = subst Q (sym r.reply) (q r.code)
+  quiet_end (inr x) n same h = h x same
+
+  pub quiet_gives : (y : Act Dom) → Quiet d y → ((x : Dom) → x.caps ≡ d.caps → P x m) → Gives Q P (y m)
+  quiet_gives y z h = record {
+    ends = subst (λ (v : Dom ⊎ Dom). Ends Q P v (y m).state) (sym (z.is m))
+        (subst (λ (n : Mem). Ends Q P z.value n) (sym (z.memory m)) (quiet_end z.value m z.ends h));
+  }
+
+-- what is left of a domain by each slot that is emptied is left by all of them
+module _ (e : Estate) (Q : Dom → Type 0) (P : Dom → Type 0) (emptied : (x : Dom) (i : ℕ) → P x → P (with_slot x i None)) where
+  abbrev Left : Dom → Mem → Type 0
+  Left x n = P x
+
+  pub drop_gives : (i : ℕ) (x : Dom) (m : Mem) → P x → Gives Q Left (drop_slot e i x m)
+  unfolding drop_slot
+  drop_gives i x m h = clear_gives Q Left m e.root (cap_at x.caps i) _ (λ n. give_gives Q Left n _ (emptied x i h))
+
+  drop_if_gives : (i : ℕ) (x : Dom) (m : Mem) (t : Bool) → P x → Gives Q Left (drop_if e i x t m)
+  unfolding drop_if
+  drop_if_gives i x m true h = drop_gives i x m h
+  drop_if_gives i x m false h = give_gives Q Left m x h
+
+  pub drop_others_gives : (a n i : ℕ) (x : Dom) (m : Mem) → P x → Gives Q Left (drop_others e a n i x m)
+  unfolding drop_others
+  drop_others_gives a zero i x m h = give_gives Q Left m x h
+  drop_others_gives a (suc n) i x m h =
+      bind_gives Q Left Left (drop_if e i x (is_revoked x.caps a i)) (λ y. drop_others e a n (suc i) y) m
+      (drop_if_gives i x m (is_revoked x.caps a i) h) (λ y k g. drop_others_gives a n (suc i) y k g)

@@ -1,5 +1,5 @@
 -- An early end of a call is a refusal.
-use Rattle.std.proofs.Common.{◌≡◌, ℕ, zero, suc, ◌≤◌, Bool, true, false, Option, Some, None, [], ◌⊎◌, inl, inr, refl, sym, subst, arith}
+use Rattle.std.proofs.Common.{◌≡◌, ℕ, zero, suc, Bool, true, false, Option, Some, None, [], ◌⊎◌, inl, inr, refl, sym, subst, ◌∙◌}
 use Rattle.std.specs.Prelude.{nat_eq, nat_lt, if◌then◌else◌}
 use Rattle.tp_base.specs.Act.{Done, go_on, ◌>>=◌, ◌>>◌, give, stop, check}
 use Rattle.phys_mem.specs.Mem.{Mem}
@@ -14,6 +14,7 @@ use Rattle.call_table.specs.Domain.{Dom, refused, exited}
 use Rattle.call_table.specs.Claims.{Estate}
 use Rattle.call_table.specs.Calls.{Note, Act, zero_out, page_refusal, table_refusal, map_at, unmap_at, install_at, uninstall_at, empty_buffer, some_or, is_slot, filled, allowed, error_of, put_byte, alloc, install, map_page, unmap, may_give, copy_refusal, unless_refused, copy, clear_entry, drop_slot, delete, drop_if, drop_others, revoke, call_of, call, with_slot}
 use Rattle.call_table.specs.Laws.{IsRefusal, RefusalLaw}
+use Rattle.call_table.proofs.QuietCalls.{IsCode, is_code, IsRefused, QuietEnd, Quiet, later_quiet}
 
 -- an action whose early ends are refusals
 pub record Tidy (d : Dom) (y : Act Dom) : Type 0 where
@@ -27,45 +28,38 @@ left : {a b : Dom} → ◌≡◌ {A = Dom ⊎ Dom} (inl a) (inl b) → a ≡ b
 left e = cc e
 
 -- the codes of errors
-pub record IsCode (code : ℕ) : Type 0 where
-  pub some : 1 ≤ code
-  pub few : code ≤ 12
-
-one : IsCode 1
-one = record { some = omega arith; few = omega arith }
-
 two : IsCode 2
-two = record { some = omega arith; few = omega arith }
+two = is_code 2 refl
 
 three : IsCode 3
-three = record { some = omega arith; few = omega arith }
+three = is_code 3 refl
 
 four : IsCode 4
-four = record { some = omega arith; few = omega arith }
+four = is_code 4 refl
 
 five : IsCode 5
-five = record { some = omega arith; few = omega arith }
+five = is_code 5 refl
 
 six : IsCode 6
-six = record { some = omega arith; few = omega arith }
+six = is_code 6 refl
 
 seven : IsCode 7
-seven = record { some = omega arith; few = omega arith }
+seven = is_code 7 refl
 
 eight : IsCode 8
-eight = record { some = omega arith; few = omega arith }
+eight = is_code 8 refl
 
 nine : IsCode 9
-nine = record { some = omega arith; few = omega arith }
+nine = is_code 9 refl
 
 ten : IsCode 10
-ten = record { some = omega arith; few = omega arith }
+ten = is_code 10 refl
 
 eleven : IsCode 11
-eleven = record { some = omega arith; few = omega arith }
+eleven = is_code 11 refl
 
 twelve : IsCode 12
-twelve = record { some = omega arith; few = omega arith }
+twelve = is_code 12 refl
 
 error_code : (r : MapRefusal) → IsCode (error_of r)
 error_code refusal.BadAddress = seven
@@ -84,9 +78,15 @@ module _ (d : Dom) where
   sure_tidy : (y : Act Dom) → Sure y → Tidy d y
   sure_tidy y h = record { ends = λ m x e. absurd (h.goes m x e) }
 
-  stop_tidy : (code : ℕ) → IsCode code → Tidy d (stop (refused code d))
-  unfolding stop
-  stop_tidy code c = record { ends = λ m x e. stopped d x m code c e }
+  refused_by : (v : Dom ⊎ Dom) (x : Dom) → QuietEnd d v → v ≡ inl x → IsRefused d x
+  refused_by (inl z) x r e = subst (IsRefused d) (left e) r
+  refused_by (inr z) x same e = absurd (cc e)
+
+  quiet_tidy : (y : Act Dom) → Quiet d y → Tidy d y
+  quiet_tidy y q = record {
+    ends = λ m x e. let r : IsRefused d x = refused_by q.value x q.ends (sym (q.is m) ∙ e) in
+        record { code = r.code; some = r.error.some; few = r.error.few; reply = r.reply; memory = q.memory m; no_work = q.no_work m };
+  }
 
   if_tidy : (t : Bool) (x y : Act Dom) → Tidy d x → Tidy d y → Tidy d (if t then x else y)
   if_tidy true x y a b = a
@@ -279,7 +279,7 @@ call_of_tidy e d number a b c =
     (if_tidy d (nat_eq number 6) _ _ (copy_tidy d a b c)
     (if_tidy d (nat_eq number 7) _ _ (delete_tidy e d a)
     (if_tidy d (nat_eq number 8) _ _ (revoke_tidy e d a)
-    (stop_tidy d 1 one)))))))))
+    (quiet_tidy d _ (later_quiet d number a b))))))))))
 
 pub refusals : RefusalLaw
 unfolding call

@@ -1,6 +1,6 @@
 -- A call that doesn't empty the translation buffer writes no valid entry of the page tables, so walks to leaves stay.
-use Rattle.std.proofs.Common.{◌≡◌, ◌≢◌, ◌∙◌, ◌⊎◌, ap, sym, subst, refl, inl, inr, ℕ, ◌*◌, ◌+◌, ◌^◌, ◌<◌, Bool, true, false, true≢false, eqb-true, Some}
-use Rattle.std.specs.Prelude.{nat_eq, if◌then◌else◌, Ok}
+use Rattle.std.proofs.Common.{◌≡◌, ◌≢◌, ◌∙◌, ◌⊎◌, ap, sym, subst, refl, inl, inr, ℕ, ◌*◌, ◌+◌, ◌^◌, ◌<◌, true, false, true≢false, eqb-true, Some}
+use Rattle.std.specs.Prelude.{nat_eq, Ok}
 use Rattle.tp_base.specs.Act.{give}
 use Rattle.phys_mem.specs.Mem.{Mem, word, zeroed_frame, word-written_place, word-written_frame, word-zeroed_other}
 use Rattle.rv_core.specs.Registers.{register}
@@ -16,13 +16,14 @@ use Rattle.page_map.proofs.KeptLemmas.{at_write, root_stays}
 use Rattle.cap_table.specs.Slots.{cap_at}
 use Rattle.call_table.specs.Domain.{Dom, exited}
 use Rattle.call_table.specs.Claims.{Estate, is_mine, claims, frame_of, least_free}
-use Rattle.call_table.specs.Calls.{Act, empties, clears_entries, is_slot, page_in, table_in, copy_refusal, put_byte, alloc, install, map_page, copy, call_of, call}
+use Rattle.call_table.specs.Calls.{empties, clears_entries, is_slot, page_in, table_in, copy_refusal, put_byte, alloc, install, map_page, copy, call_of, call}
 use Rattle.call_table.specs.Laws.{Kept, KeepsWalks, WalksStayLaw}
 use Rattle.call_table.proofs.ClaimLawsSlots.{IsFree, least_is_free, unnamed}
 use Rattle.call_table.proofs.TablesClaims.{root_frame, table_frame, table_not_root}
 use Rattle.call_table.proofs.TablesMeaning.{page_tables}
+use Rattle.call_table.proofs.QuietCalls.{later_quiet}
 use Rattle.call_table.proofs.CallLaws.{CanTake, map_allowed, install_allowed}
-use Rattle.call_table.proofs.MeaningSteps.{Whatever, Gives, given, give_gives, stop_gives, zero_gives, map_gives, install_gives, page_refusal_gives, table_refusal_gives, check_gives, some_gives, filled_gives, allowed_gives, unless_gives}
+use Rattle.call_table.proofs.MeaningSteps.{Whatever, Gives, given, give_gives, if_gives, quiet_gives, zero_gives, map_gives, install_gives, page_refusal_gives, table_refusal_gives, check_gives, some_gives, filled_gives, allowed_gives, unless_gives}
 use Rattle.call_table.proofs.Refusals.{call_of_tidy}
 use Rattle.call_table.proofs.WorkSteps.{IsWork, emptied_by}
 use Rattle.call_table.proofs.BoundedWork.{call_of_works}
@@ -137,11 +138,6 @@ module _ (e : Estate) (d : Dom) (m : Mem) (h : Kept e d m) where
   gives_same : (x : Dom) → Gives Whatever Stays (give x m)
   gives_same x = give_gives Whatever Stays m x nothing_written
 
-  if_gives : (t : Bool) (x y : Act Dom) → (t ≡ true → Gives Whatever Stays (x m)) → Gives Whatever Stays (y m)
-      → Gives Whatever Stays ((if t then x else y) m)
-  if_gives true x y h g = h refl
-  if_gives false x y h g = g
-
   put_stays : (a : ℕ) → Gives Whatever Stays (put_byte d a m)
   unfolding put_byte
   put_stays a = check_gives Whatever Stays m d (λ _. tt) 11 _ _ (λ _. gives_same _)
@@ -200,16 +196,16 @@ module _ (e : Estate) (d : Dom) (m : Mem) (h : Kept e d m) where
     call_stays : (a b c : ℕ) → Gives Whatever Stays (call_of e d number a b c m)
     unfolding call_of
     call_stays a b c =
-        if_gives (nat_eq number 0) _ _ (λ _. gives_same (exited a d))
-        (if_gives (nat_eq number 1) _ _ (λ _. put_stays a)
-        (if_gives (nat_eq number 2) _ _ (λ _. alloc_stays a b)
-        (if_gives (nat_eq number 3) _ _ (λ _. install_stays a b)
-        (if_gives (nat_eq number 4) _ _ (λ _. map_stays a b c)
-        (if_gives (nat_eq number 5) _ _ (λ is. other_number 5 refl is)
-        (if_gives (nat_eq number 6) _ _ (λ _. copy_stays a b c)
-        (if_gives (nat_eq number 7) _ _ (λ is. other_number 7 refl is)
-        (if_gives (nat_eq number 8) _ _ (λ is. other_number 8 refl is)
-        (stop_gives Whatever Stays m _ tt)))))))))
+        if_gives Whatever Stays m (nat_eq number 0) _ _ (λ _. gives_same (exited a d))
+        (if_gives Whatever Stays m (nat_eq number 1) _ _ (λ _. put_stays a)
+        (if_gives Whatever Stays m (nat_eq number 2) _ _ (λ _. alloc_stays a b)
+        (if_gives Whatever Stays m (nat_eq number 3) _ _ (λ _. install_stays a b)
+        (if_gives Whatever Stays m (nat_eq number 4) _ _ (λ _. map_stays a b c)
+        (if_gives Whatever Stays m (nat_eq number 5) _ _ (λ is. other_number 5 refl is)
+        (if_gives Whatever Stays m (nat_eq number 6) _ _ (λ _. copy_stays a b c)
+        (if_gives Whatever Stays m (nat_eq number 7) _ _ (λ is. other_number 7 refl is)
+        (if_gives Whatever Stays m (nat_eq number 8) _ _ (λ is. other_number 8 refl is)
+        (quiet_gives Whatever Stays d (λ _. tt) m _ (later_quiet d number a b) (λ x _. nothing_written))))))))))
 
   module _ (number a b c : ℕ) (quiet : empties (call_of e d number a b c m).notes ≡ false) where
     -- refused, so memory is as it was; or done, and no call that clears entries

@@ -1,8 +1,8 @@
 -- What the steps of calls note: entries that are written, a frame that is zeroed, and the buffer that is emptied.
-use Rattle.std.proofs.Common.{◌≡◌, ◌∙◌, ap, sym, refl, inl, inr, ◌⊎◌, ℕ, ◌+◌, ◌≤◌, Bool, true, false, arith, ltb-true, ◌<◌, List, [], ◌∷◌, ◌++◌, length, Option, Some, None}
+use Rattle.std.proofs.Common.{◌≡◌, ◌∙◌, ap, sym, subst, refl, inl, inr, ◌⊎◌, ℕ, ◌+◌, ◌≤◌, Bool, true, false, arith, lt-ltb, ltb-true, ◌<◌, List, [], ◌∷◌, ◌++◌, length, Option, Some, None}
 use Rattle.std.proofs.lemmas.List.{length-append, get_or_at}
 use Rattle.std.proofs.lemmas.Option.{slice_get-get_or}
-use Rattle.std.specs.Prelude.{nat_eq, nat_lt, ◌&&◌, slice_get}
+use Rattle.std.specs.Prelude.{nat_eq, nat_lt, ◌&&◌, ◌-◌, if◌then◌else◌, slice_get}
 use Rattle.tp_base.specs.Act.{Done, go_on, ◌>>=◌, ◌>>◌, give, stop, check, either}
 use Rattle.phys_mem.specs.Mem.{Mem}
 use Rattle.page_map.specs.declared.refusal.MapRefusal.{MapRefusal}
@@ -13,9 +13,10 @@ use Rattle.cap_table.specs.declared.Cap.{Cap}
 use Rattle.cap_table.specs.declared.Cap.TheVariants as cap
 use Rattle.cap_table.specs.Slots.{cap_at}
 use Rattle.call_table.specs.declared.Reply.{Reply}
-use Rattle.call_table.specs.Domain.{Dom, placed, replied, done, refused, with_caps}
+use Rattle.call_table.specs.Domain.{Dom, reply_past, placed, replied, done, refused, with_caps}
 use Rattle.call_table.specs.Claims.{Estate}
 use Rattle.call_table.specs.Calls.{Note, Act, zeroed_in, entries_in, empties, is_done, zero_out, page_refusal, table_refusal, map_at, unmap_at, install_at, uninstall_at, empty_buffer, some_or, is_slot, filled, allowed, unless_refused, with_slot, clear_entry, drop_slot}
+use Rattle.call_table.proofs.QuietCalls.{Quiet}
 
 -- ---- notes one after another
 
@@ -106,15 +107,22 @@ drop_slot_drops e i d = cleared e.root i d (cap_at d.caps i)
 
 -- ---- the work of a call
 
--- the first reply past those that a domain had
-pub first_reply : (d x : Dom) (code value : ℕ) → x.replies ≡ d.replies
-    → slice_get (replied code value x).replies (length d.replies) ≡ Some (record { code = code; value = value })
+-- a reply is the last past any that the domain had before
+pub last_reply : (x : Dom) (before code value : ℕ) → before ≤ length x.replies
+    → reply_past before (replied code value x) ≡ Some (record { code = code; value = value })
 unfolding replied placed
-first_reply d x code value same =
+last_reply x before code value had =
     let new : Reply = record { code = code; value = value } in
-    ap (λ (rs : List Reply). slice_get (rs ++ new ∷ []) (length d.replies)) same
-    ∙ slice_get-get_or (d.replies ++ new ∷ []) (length d.replies) new (omega (arith, length-append d.replies (new ∷ [])))
-    ∙ ap Some (get_or_at d.replies new [] new (length d.replies) refl)
+    let all : List Reply = x.replies ++ new ∷ [] in
+    let one_more : length all ≡ length x.replies + 1 = length-append x.replies (new ∷ []) in
+    ap (λ (t : Bool). if t then slice_get all (length all - 1) else None) (lt-ltb before (length all) (omega (arith, had, one_more)))
+    ∙ slice_get-get_or all (length all - 1) new (omega (arith, one_more))
+    ∙ ap Some (get_or_at x.replies new [] new (length all - 1) (omega (arith, one_more)))
+
+-- and past those of a domain with as many
+first_reply : (d x : Dom) (code value : ℕ) → x.replies ≡ d.replies
+    → reply_past (length d.replies) (replied code value x) ≡ Some (record { code = code; value = value })
+first_reply d x code value same = last_reply x (length d.replies) code value (omega (arith, ap length same))
 
 -- of a call that empties the buffer where it is done, or never: whether it does, by its end
 abbrev pub emptied_by : Bool → Dom ⊎ Dom → Bool
@@ -123,7 +131,7 @@ emptied_by t (inr x) = t
 
 pub record IsWork (d : Dom) (t : Bool) (v : Dom ⊎ Dom) (ns : List Note) : Type 0 where
   pub buffer : empties ns ≡ emptied_by t v
-  pub reply : emptied_by t v ≡ (t && is_done (slice_get (either v).replies (length d.replies)))
+  pub reply : emptied_by t v ≡ (t && is_done (reply_past (length d.replies) (either v)))
   pub few : length (entries_in ns) ≤ most_entries
   pub not_both : (zeroed_in ns ≡ None) ⊎ (entries_in ns ≡ [])
 
@@ -200,6 +208,16 @@ module _ (d : Dom) (t : Bool) where
 -- ---- what a call does last, where it never empties the buffer
 
 module _ (d : Dom) where
+  nothing_done : (v : Dom ⊎ Dom) → IsWork d false v []
+  unfolding zeroed_in entries_in empties
+  nothing_done (inl x) = record { buffer = refl; reply = refl; few = omega arith; not_both = inl refl }
+  nothing_done (inr x) = record { buffer = refl; reply = refl; few = omega arith; not_both = inl refl }
+
+  pub quiet_works : (y : Act Dom) → Quiet d y → Works d false y
+  quiet_works y q = record {
+    each = λ m. subst (λ (ns : List Note). IsWork d false (y m).value ns) (sym (q.no_work m)) (nothing_done (y m).value);
+  }
+
   pub give_works : (x : Dom) → Works d false (give x)
   unfolding give zeroed_in entries_in empties
   give_works x = record { each = λ m. record { buffer = refl; reply = refl; few = omega arith; not_both = inl refl } }

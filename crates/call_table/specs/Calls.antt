@@ -1,6 +1,6 @@
--- The kernel calls 0 to 8. The number is in x17, the arguments a, b and c are in x10, x11 and x12. A call is refused by the
+-- The kernel calls 0 to 14. The number is in x17, the arguments a, b and c are in x10, x11 and x12. A call is refused by the
 -- first of its errors, in the order of their numbers: 1 BadCall, 2 BadSlot, 3 Empty, 4 Used, 5 WrongKind, 6 BadRights,
--- 7 BadAddress, 8 Mapped, 9 NoTable, 10 NoFrame, 11 OutputFull, 12 InUse.
+-- 7 BadAddress, 8 Mapped, 9 NoTable, 10 NoFrame, 11 OutputFull, 12 InUse, 13 NoThread.
 use Rattle.std.specs.Prelude.{ℕ, zero, suc, ◌/◌, ◌%◌, Bool, true, false, not, ◌&&◌, ◌||◌, nat_eq, nat_le, nat_lt, if◌then◌else◌, List, [], ◌∷◌, ◌++◌, length, Option, Some, None, is_some}
 use Rattle.std.proofs.Common.{inr}
 use Rattle.tp_base.specs.Act as act
@@ -8,6 +8,7 @@ use Rattle.tp_base.specs.Act.{◌>>=◌, ◌>>◌, Done, give, stop, check}
 use Rattle.phys_mem.specs.Mem.{Mem, zeroed_frame}
 use Rattle.sv32_walk.specs.PageTableEntry.{are_good}
 use Rattle.rv_core.specs.Registers.{register}
+use Rattle.thread_set.specs.Threads.{vacant}
 use Rattle.page_map.specs.declared.refusal.MapRefusal.{MapRefusal}
 use Rattle.page_map.specs.declared.refusal.MapRefusal.TheVariants as refusal
 use Rattle.page_map.specs.Tables.{map_refusal, install_refusal}
@@ -17,7 +18,7 @@ use Rattle.cap_table.specs.declared.Cap.{Cap}
 use Rattle.cap_table.specs.declared.Cap.TheVariants as cap
 use Rattle.cap_table.specs.Slots.{cap_at, is_filled, with_cap, copied, noted, in_use, is_revoked, revoked_count}
 use Rattle.call_table.specs.declared.Reply.{Reply}
-use Rattle.call_table.specs.Domain.{Dom, done, refused, exited, with_caps}
+use Rattle.call_table.specs.Domain.{Dom, done, refused, exited, with_caps, is_set, with_bit, signalled, turned, waiting, thread_ended, with_spawned}
 use Rattle.call_table.specs.Claims.{Estate, least_free}
 
 -- what a call does beside its own work
@@ -45,7 +46,7 @@ empties (_ ∷ ns) = empties ns
 
 -- the operation of a call's number: its own, or that of a bad call
 abbrev pub op_of : ℕ → ℕ
-op_of number = if nat_le number 8 then number else bad_call_op
+op_of number = if nat_le number 14 then number else bad_call_op
 
 -- what its footprint depends on
 unfoldable pub work_of : ℕ → List Note → WorkDone
@@ -260,7 +261,52 @@ revoke e d a = do
   empty_buffer
   give (done (revoked_count d.caps a) x)
 
--- ---- all of them
+-- ---- 9 POLL a, 10 WAIT a, 11 SIGNAL a: on the line that a slot names
+
+abbrev pub line_in : Cap → Option ℕ
+line_in (cap.Irq line) = Some line
+line_in _ = None
+
+unfoldable pub line_at : Dom → ℕ → Act ℕ
+line_at d a = do
+  c ← filled d a
+  some_or (refused 5 d) (line_in c)
+
+abbrev pub bit_value : Bool → ℕ
+bit_value true = 1
+bit_value false = 0
+
+-- whether the line's bit is set, which is cleared
+unfoldable pub poll : Dom → ℕ → Act Dom
+poll d a = do
+  line ← line_at d a
+  give (done (bit_value (is_set d line)) (with_bit line false d))
+
+-- as POLL where the bit is set, else the thread waits, and has its reply when it is woken
+unfoldable pub waited : Bool → ℕ → Dom → Dom
+waited true line d = done 1 (with_bit line false d)
+waited false line d = waiting line d
+
+unfoldable pub wait : Dom → ℕ → Act Dom
+wait d a = do
+  line ← line_at d a
+  give (waited (is_set d line) line d)
+
+-- as a delivery of the line: a woken thread's reply is recorded before the caller's
+unfoldable pub signal : Dom → ℕ → Act Dom
+signal d a = do
+  line ← line_at d a
+  give (done 0 (signalled line d))
+
+-- ---- 12 SPAWN a b: a thread at a, with b in x10
+
+unfoldable pub spawn : Dom → ℕ → ℕ → Act Dom
+spawn d a b = do
+  check (refused 7 d) (nat_eq (a % 4) 0)
+  t ← some_or (refused 13 d) (vacant d.threads)
+  give (done t (with_spawned a b d))
+
+-- ---- all of them, with 13 YIELD and 14 ENDTHREAD
 
 -- any other number is a bad call
 unfoldable pub call_of : Estate → Dom → ℕ → ℕ → ℕ → ℕ → Act Dom
@@ -274,6 +320,12 @@ call_of e d number a b c =
     else if nat_eq number 6 then copy d a b c
     else if nat_eq number 7 then delete e d a
     else if nat_eq number 8 then revoke e d a
+    else if nat_eq number 9 then poll d a
+    else if nat_eq number 10 then wait d a
+    else if nat_eq number 11 then signal d a
+    else if nat_eq number 12 then spawn d a b
+    else if nat_eq number 13 then give (turned (done 0 d))
+    else if nat_eq number 14 then give (thread_ended d)
     else stop (refused 1 d)
 
 -- the call that the current thread makes

@@ -1,5 +1,5 @@
 -- What kernel calls keep and what they mean, as laws.
-use Rattle.std.specs.Prelude.{◌≡◌, ◌≢◌, ℕ, ◌<◌, ◌≤◌, ◌⊎◌, ◌/◌, true, false, List, [], ◌∷◌, length, slice_get, Option, Some, None, Result, Ok}
+use Rattle.std.specs.Prelude.{◌≡◌, ◌≢◌, ℕ, ◌<◌, ◌≤◌, ◌⊎◌, ◌/◌, true, false, List, [], ◌∷◌, length, Option, Some, None, Result, Ok}
 use Rattle.std.specs.List.{All}
 use Rattle.std.specs.List.Sorted.{IsStrictlyIncreasing}
 use Rattle.std.proofs.Common.{inl, inr}
@@ -17,7 +17,7 @@ use Rattle.pad_bound.specs.Worst.{IsCallWork}
 use Rattle.cap_table.specs.Slots.{Slots, cap_at, page_of, table_of, mapped_at}
 use Rattle.cap_table.specs.declared.Cap.TheVariants as cap
 use Rattle.call_table.specs.declared.Reply.{Reply}
-use Rattle.call_table.specs.Domain.{Dom, refused}
+use Rattle.call_table.specs.Domain.{Dom, refused, reply_past}
 use Rattle.call_table.specs.Claims.{Claim, Estate, is_mine, claims, is_named, frame_of, Facts, IsEstate}
 use Rattle.call_table.specs.Calls.{Note, alloc, map_page, copy, delete, revoke, call, is_within, empties, empties_buffer, op_of, work_of}
 
@@ -41,7 +41,7 @@ CallsKeepLaw = (e : Estate) (d : Dom) (m : Mem) → IsEstate e → Kept e d m �
 pub record IsRefusal (d : Dom) (m : Mem) (r : Done Mem Note Dom Dom) (x : Dom) : Type 0 where
   pub code : ℕ
   pub some : 1 ≤ code
-  pub few : code ≤ 12
+  pub few : code ≤ 13
   pub reply : x ≡ refused code d
   pub memory : r.state ≡ m
   pub no_work : r.notes ≡ []
@@ -188,9 +188,9 @@ PoolLaw = (e : Estate) (d : Dom) (m : Mem) (fs : List ℕ) → Kept e d m
 abbrev pub number_of : Dom → ℕ
 number_of d = register d.threads.current.regs 17
 
--- the reply that a call gave: the first past those that the domain had; an EXIT gives none
+-- the reply that a call gave: the last, where one was recorded past those that the domain had
 abbrev pub reply_of : Dom → Done Mem Note Dom Dom → Option Reply
-reply_of d r = slice_get (either r.value).replies (length d.replies)
+reply_of d r = reply_past (length d.replies) (either r.value)
 
 -- the calls that empty the buffer are UNMAP, DELETE and REVOKE that are done
 abbrev pub EmptiesLaw : Type 0

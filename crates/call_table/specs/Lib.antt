@@ -3,3 +3,4 @@ pub mod Claims
 pub mod Calls
 pub mod Laws
 pub mod Example
+pub mod ThreadLaws

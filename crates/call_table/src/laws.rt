@@ -1,6 +1,8 @@
 //! Laws of kernel calls over their definitions, each the contract of a function
 //! that does nothing: a caller that calls it may rely on the law.
 ghost use Rattle.call_table.specs.Laws.{CallsKeepLaw, RefusalLaw, ConfinedLaw, PageTablesLaw, StoreLaw, MapLaw, DeleteLaw, RevokeLaw, AllocLaw, NoWiderLaw, CopiesLaw, PoolLaw};
+ghost use Rattle.call_table.specs.ThreadLaws.{CallTurnLaw, DeliveryTurnLaw, CallWakesLaw, DeliveryWakesLaw};
+ghost use Rattle.call_table.specs.ThreadLaws.{SignalWakesLaw, SignalSetsLaw, DeliveryCountLaw, CallCountLaw};
 ghost use Rattle.call_table.specs.Laws.{EmptiesLaw, WalksStayLaw, OperationLaw, WorkLaw};
 
 /// Every call keeps the facts of a domain's frames and page tables.
@@ -47,4 +49,20 @@ pub fn buffer()
 pub fn work()
     ensures operation { OperationLaw }
     ensures bounded { WorkLaw }
+{}
+
+/// Whose turn it is after a call or a delivery, and who wakes a thread that waits.
+pub fn threads()
+    ensures call_turn { CallTurnLaw }
+    ensures delivery_turn { DeliveryTurnLaw }
+    ensures call_wakes { CallWakesLaw }
+    ensures delivery_wakes { DeliveryWakesLaw }
+{}
+
+/// What a signal of a line does, and which events deliver a moment.
+pub fn interrupts()
+    ensures wakes { SignalWakesLaw }
+    ensures sets { SignalSetsLaw }
+    ensures delivery_counts { DeliveryCountLaw }
+    ensures call_counts { CallCountLaw }
 {}

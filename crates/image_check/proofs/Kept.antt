@@ -51,7 +51,9 @@ kept_but_pads i e =
     let from11 = from10.1 in
     let from12 = from11.1 in
     let from13 = from12.1 in
-    let from16 = from13.1 in
+    let from14 = from13.1 in
+    let from15 = from14.1 in
+    let from16 = from15.1 in
     record {
       parts = from3.0;
       frames = from4.0;
@@ -64,12 +66,14 @@ kept_but_pads i e =
       shared = from11.0;
       segments = from12.0;
       capabilities = from13.0;
+      lines = from14.0;
+      moments = from15.0;
       schedule = from16.0;
     }
 
 unbroken_but_pads : (i : Raw) → KeepsButPads i → broken_but_pads i ≡ []
 unfolding broken_but_pads rules_but_pads
-unbroken_but_pads i k = rw (k.parts, k.frames, k.colours, k.costs, k.domains, k.named, k.apart, k.pools, k.shared, k.segments, k.capabilities, k.schedule) refl
+unbroken_but_pads i k = rw (k.parts, k.frames, k.colours, k.costs, k.domains, k.named, k.apart, k.pools, k.shared, k.segments, k.capabilities, k.lines, k.moments, k.schedule) refl
 
 pub but_pads_law : ButPadsLaw
 but_pads_law i = (kept_but_pads i, unbroken_but_pads i)

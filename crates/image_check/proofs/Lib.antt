@@ -2,7 +2,9 @@ pub mod Kept
 pub mod Entries
 pub mod Padded
 pub mod CapTexts
+pub mod Numbers
 pub mod Slots
+pub mod OwnInterrupts
 pub mod Owns
 pub mod Shares
 pub mod Running

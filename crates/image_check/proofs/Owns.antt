@@ -1,19 +1,23 @@
 -- What each domain has of its own, in an image that breaks no rule.
 use Rattle.std.proofs.Common.{◌≡◌, ◌≢◌, ℕ, ◌+◌, ◌*◌, ◌<◌, ◌≤◌, Bool, true, false, ◌||◌, not, List, [], length, map, take, get_or, length-take, Option, None, Some, refl, sym, ◌∙◌, subst, true≢false, arith, ◌⊎◌, inl, inr}
-use Rattle.std.specs.Prelude.{nat_lt, pos, codes, if◌then◌else◌}
+use Rattle.std.specs.Prelude.{nat_lt, pos, codes, slice_get, if◌then◌else◌}
 use Rattle.std.specs.Str.{bytes_eq}
 use Rattle.std.specs.List.{list_any}
 use Rattle.std.proofs.lemmas.List.{length-map, get_or-map, get_or-take, get_or_past}
+use Rattle.std.proofs.lemmas.Option.{slice_get_within}
 use Rattle.std.proofs.lemmas.Bool.{cases_Bool, cases_lt, ltb-false, ltb-true, lt-ltb, leb-true, and_parts}
 use Rattle.image_text.specs.Record.{Raw, RawSegment, IsRawSegment, InKeyRanges, raw_domain, no_raw_domain, no_raw_segment}
 use Rattle.image_text.specs.declared.refusal.Refusal.{Refusal}
 use Rattle.hardware_check.specs.Cases.{first_in, refusal}
 use Rattle.image_check.specs.declared.capabilities.InitialCap.TheVariants.{None as NoCap, Page, Irq}
 use Rattle.image_check.specs.Segments.{k12, k12_domain, segment_case, entry_case, bytes_case, bytes_in, is_rights, share_page, broken}
-use Rattle.image_check.specs.Capabilities.{k13}
 use Rattle.image_check.specs.Pages.{has_page}
-use Rattle.image_check.specs.Own.{Segment, rights_of, segment_of, bytes_or_none, cap_of, own_from, owns_of, no_own, own_at, no_segment}
-use Rattle.image_check.specs.Laws.{AreRights, IsSegment, IsOwn}
+use Rattle.image_check.specs.Own.{Own, Segment, rights_of, segment_of, bytes_or_none, cap_of, moment_of, own_from, owns_of, no_own, own_at, no_segment, has_line}
+use Rattle.image_check.specs.Laws.{KeepsButPads, AreRights, IsSegment, IsOwn}
+use Rattle.image_check.specs.Interrupts.{k14}
+use Rattle.irq_partition.specs.declared.Moment.{Moment}
+use Rattle.set_cache.proofs.Ways.{not_true}
+use Rattle.image_check.proofs.OwnInterrupts.{interrupts, line_below, early, own_line, moments_sound, two_apart}
 use Rattle.image_check.proofs.Slots.{any_false, few_lines, slots, has_its_page, named_once}
 use Rattle.hardware_check.proofs.FirstCases.{or_first, if_first, if_rest, first_in_none}
 
@@ -139,13 +143,14 @@ segments_apart d ss none j k n less below here =
 
 -- ---- owns
 
-own_sound : (i : Raw) (d : ℕ) → InKeyRanges i → k12 i ≡ None → k13 i ≡ None → d < length i.domains → IsOwn (own_from (raw_domain i.domains d))
+own_sound : (i : Raw) (d : ℕ) → InKeyRanges i → KeepsButPads i → d < length i.domains → IsOwn (own_from (raw_domain i.domains d))
 unfolding k12 k12_domain own_from
-own_sound i d ranges n caps l =
+own_sound i d ranges rules l =
     let o = raw_domain i.domains d in
     let place = length (take d i.domains) in
-    let has = slots i caps d l in
-    let here = or_first (first_in (segment_case place) o.segments) (entry_case place o) (first_in_none k12_domain i.domains n d l no_raw_domain) in
+    let has = slots i rules.capabilities d l in
+    let irqs = interrupts i rules.lines rules.moments d l in
+    let here = or_first (first_in (segment_case place) o.segments) (entry_case place o) (first_in_none k12_domain i.domains rules.segments d l no_raw_domain) in
     record {
       entry = ranges.entry d;
       few = omega (arith, length-map o.segments segment_of, ranges.few_segments d);
@@ -156,6 +161,11 @@ own_sound i d ranges n caps l =
       page_once = λ j k m. named_once o has (Page m) (λ (z : Page m ≡ NoCap). cc) j k;
       few_lines = few_lines o;
       line_once = λ j k m. named_once o has (Irq m) (λ (z : Irq m ≡ NoCap). cc) j k;
+      lines = line_below o irqs;
+      few_moments = omega (arith, length-map o.moments moment_of, irqs.few);
+      moments = moments_sound o irqs;
+      early = early o irqs;
+      own_lines = own_line o irqs;
     }
 
 no_own_sound : IsOwn no_own
@@ -169,6 +179,11 @@ no_own_sound = record {
   page_once = λ j k n other e. absurd (no_page n (sym (get_or_past [] j NoCap (omega arith)) ∙ e));
   few_lines = λ k n e. absurd (no_line n (sym (get_or_past [] k NoCap (omega arith)) ∙ e));
   line_once = λ j k n other e. absurd (no_line n (sym (get_or_past [] j NoCap (omega arith)) ∙ e));
+  lines = λ n e. absurd (true≢false (sym e));
+  few_moments = omega arith;
+  moments = record { lines = λ k x e. absurd (no_moment k x e); ascend = λ j k x y less e. absurd (no_moment j x e) };
+  early = λ k x e. absurd (no_moment k x e);
+  own_lines = λ k x e. absurd (no_moment k x e);
 }
   where
     no_page : (n : ℕ) → NoCap ≢ Page n
@@ -177,9 +192,25 @@ no_own_sound = record {
     no_line : (n : ℕ) → NoCap ≢ Irq n
     no_line n e = cc
 
-pub owns_sound : (i : Raw) → InKeyRanges i → k12 i ≡ None → k13 i ≡ None → (d : ℕ) → IsOwn (own_at (owns_of i) d)
-owns_sound i ranges n caps d = either (cases_lt d (length i.domains))
+    no_moment : (k : ℕ) (x : Moment) → slice_get [] k ≢ Some x
+    no_moment k x e = omega (arith, slice_get_within [] k x e)
+
+pub owns_sound : (i : Raw) → InKeyRanges i → KeepsButPads i → (d : ℕ) → IsOwn (own_at (owns_of i) d)
+owns_sound i ranges rules d = either (cases_lt d (length i.domains))
   where
     either : (d < length i.domains) ⊎ (length i.domains ≤ d) → IsOwn (own_at (owns_of i) d)
-    either (inl l) = subst IsOwn (sym (owns_at i d l)) (own_sound i d ranges n caps l)
+    either (inl l) = subst IsOwn (sym (owns_at i d l)) (own_sound i d ranges rules l)
     either (inr m) = subst IsOwn (sym (get_or_past (owns_of i) d no_own (omega (arith, owns_length i, m)))) no_own_sound
+
+-- a line of one domain is no other's
+pub lines_owned : (i : Raw) → k14 i ≡ None → (d e n : ℕ) → d < length i.domains → e < length i.domains → d ≢ e
+    → has_line (own_at (owns_of i) d) n ≡ true → has_line (own_at (owns_of i) e) n ≡ false
+unfolding own_from
+lines_owned i k d e n l m other mine = not_true (has_line (own_at (owns_of i) e) n) (λ theirs. either theirs (cases_lt e d))
+  where
+    raw : (c : ℕ) → c < length i.domains → has_line (own_at (owns_of i) c) n ≡ true → has_line (own_from (raw_domain i.domains c)) n ≡ true
+    raw c below h = subst (λ (o : Own). has_line o n ≡ true) (owns_at i c below) h
+
+    either : has_line (own_at (owns_of i) e) n ≡ true → (e < d) ⊎ (d ≤ e) → ⊥
+    either theirs (inl less) = two_apart i k d l e less n (raw d l mine) (raw e m theirs)
+    either theirs (inr more) = two_apart i k e m d (omega (arith, more, other)) n (raw e m theirs) (raw d l mine)

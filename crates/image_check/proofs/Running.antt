@@ -1,5 +1,5 @@
 -- That an image that breaks no rule is runnable.
-use Rattle.std.proofs.Common.{length, refl, sym, arith}
+use Rattle.std.proofs.Common.{length, sym, arith}
 use Rattle.std.proofs.lemmas.List.{length-map}
 use Rattle.hardware_check.specs.Hardware.{hardware_of}
 use Rattle.hardware_check.proofs.Built.{hardware_law}
@@ -9,7 +9,7 @@ use Rattle.image_check.specs.Laws.{RunnableLaw}
 use Rattle.image_check.proofs.Kept.{kept, none_but_pads, keeps_hardware, domains_within, entries_pass}
 use Rattle.image_check.proofs.Entries.{entry_in_passed, schedule_sound}
 use Rattle.image_check.proofs.Padded.{pads_enough}
-use Rattle.image_check.proofs.Owns.{owns_length, owns_sound}
+use Rattle.image_check.proofs.Owns.{owns_length, owns_sound, lines_owned}
 use Rattle.image_check.proofs.Shares.{disjoint_colours, pools_enough}
 
 pub runnable_law : RunnableLaw
@@ -30,5 +30,6 @@ runnable_law i ranges n =
       schedule = schedule_sound i rules.schedule;
       named = λ e l. omega (arith, many, (entry_in_passed (length i.domains) i.schedule pass e (omega (arith, long, l))).domain);
       padded = λ e l. pads_enough i (kept i n) e (omega (arith, long, l));
-      sound = owns_sound i ranges rules.segments rules.capabilities;
+      sound = owns_sound i ranges rules;
+      owned = λ d e n l m. lines_owned i rules.lines d e n (omega (arith, many, l)) (omega (arith, many, m));
     }

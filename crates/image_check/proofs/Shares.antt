@@ -1,10 +1,9 @@
 -- What the rules of colours and frames give: lists of colours that are disjoint, and pools that are large enough.
-use Rattle.std.proofs.Common.{◌≡◌, ◌≢◌, ℕ, zero, suc, ◌-◌, ◌<◌, ◌≤◌, Bool, true, false, ◌||◌, List, [], ◌∷◌, length, map, take, get_or, length-take, Option, None, Some, refl, sym, ap, subst, ◌∙◌, arith, ◌⊎◌, inl, inr, true≢false, eqb-true, ltb-false}
-use Rattle.std.specs.Prelude.{ℤ, pos, negsuc, nat_lt, nat_eq}
+use Rattle.std.proofs.Common.{◌≡◌, ◌≢◌, ℕ, suc, ◌-◌, ◌<◌, ◌≤◌, Bool, true, false, ◌||◌, List, [], length, map, take, get_or, length-take, Option, None, Some, refl, sym, ap, subst, ◌∙◌, arith, ◌⊎◌, inl, inr, true≢false, ltb-false}
+use Rattle.std.specs.Prelude.{ℤ, pos, negsuc, nat_lt}
 use Rattle.std.specs.List.{All}
 use Rattle.std.proofs.lemmas.List.{length-map, get_or-map, get_or_past, get_or-take}
 use Rattle.std.proofs.lemmas.Bool.{cases_lt}
-use Rattle.std.proofs.lemmas.Bool.Decides.{nat_tests}
 use Rattle.frame_colours.specs.Colours.{AreDisjoint, pool, has, list_at}
 use Rattle.image_text.specs.declared.raw.Raw.{Raw}
 use Rattle.image_text.specs.Reads.{raw_model}
@@ -16,13 +15,16 @@ use Rattle.hardware_check.specs.Hardware.{natural_of, colours_of, hardware_of}
 use Rattle.hardware_check.specs.Laws.{KeepsParts}
 use Rattle.hardware_check.proofs.FirstCases.{if_first, first_in_none}
 use Rattle.hardware_check.proofs.Parts.{Within, inside, colours_sound}
-use Rattle.image_check.specs.Colours.{is_same, names, k8, k8_colour, k8_domain, k9, k9_domain, k9_colour, coloured_so, same_colour, k10, k10_domain, k10_case, need_case, need_of, whole_in}
+use Rattle.image_check.specs.Colours.{names, k8, k8_colour, k8_domain, k9, k9_domain, k9_colour, coloured_so, same_colour, k10, k10_domain, k10_case, need_case, need_of, whole_in}
 use Rattle.image_check.specs.Own.{Own, Segment, IsSmallDomain, IsSmallOwn, no_own, own_at, own_from, owns_of, segment_of}
 use Rattle.image_check.specs.Pages.{regions_below, frames_in, share_of}
 use Rattle.image_check.specs.Laws.{KeepsButPads}
 use Rattle.image_check.specs.Checking.{broken_but_pads}
 use Rattle.image_check.proofs.Kept.{kept_but_pads, keeps_parts}
+use Rattle.set_cache.proofs.Ways.{not_true}
+use Rattle.image_check.proofs.Numbers.{found, names_at}
 use Rattle.image_check.proofs.Slots.{slots, small_caps}
+use Rattle.image_check.proofs.OwnInterrupts.{interrupts, small_lines, small_moments}
 use Rattle.image_check.proofs.Owns.{owns_at, owns_length}
 
 -- ---- K8: a colour is from 1 on, and below the number of colours
@@ -64,6 +66,8 @@ small_own : (i : text.Raw) → KeepsButPads i → KeepsParts i → text.InKeyRan
 small_own i rules k ranges d l = record {
   colours = (small_domain i k rules.named ranges d l).colours;
   caps = small_caps (raw_domain i.domains d) (slots i rules.capabilities d l) (ranges.segments d);
+  lines = small_lines (raw_domain i.domains d) (interrupts i rules.lines rules.moments d l);
+  moments = small_moments (raw_domain i.domains d) (interrupts i rules.lines rules.moments d l);
 }
 
 pub small_owns : (raw : Raw) → broken_but_pads (raw_model raw) ≡ [] → All (λ o. IsSmallOwn (domain_model o)) raw.domains.items
@@ -72,42 +76,12 @@ small_owns raw n = λ d o l.
     let m = small_own i (kept_but_pads i n) (keeps_parts i n) raw.in_ranges d (omega (arith, length-map raw.domains.items domain_model, l)) in
     subst IsSmallOwn (get_or-map domain_model raw.domains.items d o no_raw_domain l) m
 
--- ---- where a colour stands in a list
-
-record Found (xs : List ℤ) (n : ℕ) : Type 0 where
-  pub place : ℕ
-  pub within : place < length xs
-  pub same : natural_of (get_or xs place (pos 0)) ≡ n
-
-found : (xs : List ℤ) (n : ℕ) → has (map natural_of xs) n ≡ true → Found xs n
-found [] n h = absurd (true≢false (sym h))
-found (x ∷ xs) n h = by_case (found xs n) (nat_eq (natural_of x) n) refl
-  where
-    by_case : (has (map natural_of xs) n ≡ true → Found xs n) → (b : Bool) → nat_eq (natural_of x) n ≡ b → Found (x ∷ xs) n
-    by_case later true e = record { place = 0; within = omega arith; same = eqb-true (natural_of x) n e }
-    by_case later false e =
-        let rest = later (sym (ap (λ b. b || has (map natural_of xs) n) e) ∙ h) in
-        record { place = suc rest.place; within = omega (arith, rest.within); same = rest.same }
-
-same_itself : (x : ℤ) → is_same x x ≡ true
-same_itself (pos n) = let l : nat_lt n n ≡ false = grind (arith, nat_tests) in rw l refl
-same_itself (negsuc n) = let l : nat_lt n n ≡ false = grind (arith, nat_tests) in rw l refl
-
-or_right : (a b : Bool) → b ≡ true → (a || b) ≡ true
-or_right true b h = refl
-or_right false b h = h
-
-names_at : (xs : List ℤ) (k : ℕ) → k < length xs → (d : ℤ) → names xs (get_or xs k d) ≡ true
-names_at [] k l d = absurd (omega (arith, l))
-names_at (x ∷ xs) zero l d = ap (λ b. b || names xs x) (same_itself x)
-names_at (x ∷ xs) (suc k) l d = or_right (is_same x (get_or xs k d)) (names xs (get_or xs k d)) (names_at xs k (omega (arith, l)) d)
+-- ---- K9: no colour of an earlier domain
 
 -- a number from 1 on is one integer's alone
 the_integer : (x : ℤ) (n : ℕ) → natural_of x ≡ n → 1 ≤ n → x ≡ pos n
 the_integer (pos m) n e some = ap pos e
 the_integer (negsuc m) n e some = absurd (omega (arith, e, some))
-
--- ---- K9: no colour of an earlier domain
 
 not_coloured : (d : ℕ) (x : ℤ) (o : Option ℕ) → same_colour d x o ≡ None → o ≡ None
 not_coloured d x None n = refl
@@ -158,10 +132,6 @@ at_each i P d inside none = either (cases_lt d (length i.domains))
         let own : (own_at (owns_of i) d).colours ≡ map natural_of (raw_domain i.domains d).colours = ap (λ (o : Own). o.colours) (owns_at i d l) in
         subst P (sym (at ∙ own)) (inside l)
     either (inr m) = subst P (sym (get_or_past (lists i) d [] (omega (arith, length-map (owns_of i) (λ o. o.colours), owns_length i, m)))) none
-
-not_true : (b : Bool) → (b ≡ true → ⊥) → b ≡ false
-not_true true f = absurd (f refl)
-not_true false f = refl
 
 record IsOfRange (colours : ℕ) (own : List ℕ) : Type 0 where
   pub within : (c : ℕ) → has own c ≡ true → Within 1 (colours - 1) c

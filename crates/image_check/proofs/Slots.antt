@@ -30,7 +30,7 @@ not_again : (d : ℕ) (earlier : List (List ℕ)) (s : List ℕ) → again_case 
 not_again d earlier s n = if_first (list_any (bytes_eq s) earlier) (refusal 13 (pos d) (pos (length earlier)) (pos 5)) None n
 
 -- a test that is passed, and what follows it
-passed : (b : Bool) (first : Option Refusal) (r : Refusal) → (if b then first else Some r) ≡ None → (b ≡ true) × (first ≡ None)
+pub passed : (b : Bool) (first : Option Refusal) (r : Refusal) → (if b then first else Some r) ≡ None → (b ≡ true) × (first ≡ None)
 passed true first r n = (refl, n)
 passed false first r n = cc
 

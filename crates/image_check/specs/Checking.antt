@@ -7,10 +7,11 @@ use Rattle.image_check.specs.Rules.{k7, k16}
 use Rattle.image_check.specs.Colours.{k8, k9, k10}
 use Rattle.image_check.specs.Segments.{k12}
 use Rattle.image_check.specs.Capabilities.{k13}
+use Rattle.image_check.specs.Interrupts.{k14, k15}
 use Rattle.image_check.specs.Pads.{k17}
 
 unfoldable pub rules_but_pads : List (Raw → Option Refusal)
-rules_but_pads = k3 ∷ k4 ∷ k5 ∷ k6 ∷ k7 ∷ k8 ∷ k9 ∷ k10 ∷ k11 ∷ k12 ∷ k13 ∷ k16 ∷ []
+rules_but_pads = k3 ∷ k4 ∷ k5 ∷ k6 ∷ k7 ∷ k8 ∷ k9 ∷ k10 ∷ k11 ∷ k12 ∷ k13 ∷ k14 ∷ k15 ∷ k16 ∷ []
 
 unfoldable pub rules : List (Raw → Option Refusal)
 rules = rules_but_pads ++ k17 ∷ []

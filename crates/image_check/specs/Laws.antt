@@ -1,7 +1,9 @@
 -- What an image that breaks no rule is: no rule has a broken case, and in natural numbers it can be run.
-use Rattle.std.specs.Prelude.{◌≡◌, ◌≢◌, ℕ, ◌+◌, ◌*◌, ◌<◌, ◌≤◌, ◌^◌, ◌||◌, ◌⊎◌, ◌↔◌, true, false, List, [], ◌++◌, ◌∷◌, length, map, codes, decimal, Some, None}
+use Rattle.std.specs.Prelude.{◌≡◌, ◌≢◌, ℕ, ◌+◌, ◌*◌, ◌<◌, ◌≤◌, ◌^◌, ◌||◌, ◌⊎◌, ◌↔◌, true, false, List, [], ◌++◌, ◌∷◌, length, map, slice_get, codes, decimal, Some, None}
 use Rattle.image_text.specs.Record as text
 use Rattle.image_text.specs.Record.{InKeyRanges}
+use Rattle.irq_partition.specs.declared.Moment.{Moment}
+use Rattle.irq_partition.specs.Interrupts.{AreMoments}
 use Rattle.image_check.specs.declared.own.Rights.{Rights}
 use Rattle.image_check.specs.declared.capabilities.InitialCap.{InitialCap}
 use Rattle.image_check.specs.declared.capabilities.InitialCap.TheVariants.{None as NoCap, Page, Irq}
@@ -12,13 +14,14 @@ use Rattle.image_check.specs.Rules.{k7, k16}
 use Rattle.image_check.specs.Colours.{k8, k9, k10}
 use Rattle.image_check.specs.Segments.{k12}
 use Rattle.image_check.specs.Capabilities.{k13}
+use Rattle.image_check.specs.Interrupts.{k14, k15}
 use Rattle.image_check.specs.CapTexts.{cap_in, IsShort}
 use Rattle.image_text.specs.declared.refusal.Refusal.{Refusal}
 use Rattle.sched_table.specs.Schedule.{entry_in, IsSchedule}
 use Rattle.pad_bound.specs.Bound.{IsShape, bound_of}
 use Rattle.image_check.specs.Pads.{shape_of, k17}
 use Rattle.image_check.specs.Checking.{broken, broken_but_pads}
-use Rattle.image_check.specs.Own.{Segment, Own, segment_at, cap_at}
+use Rattle.image_check.specs.Own.{Segment, Own, segment_at, cap_at, has_line}
 use Rattle.image_check.specs.Pages.{has_page, has_page_in, frames_in, share_of}
 use Rattle.image_check.specs.Image.{Image, image_from, own_of}
 
@@ -35,6 +38,8 @@ pub record KeepsButPads (i : text.Raw) : Type 0 where
   pub shared : k11 i ≡ None
   pub segments : k12 i ≡ None
   pub capabilities : k13 i ≡ None
+  pub lines : k14 i ≡ None
+  pub moments : k15 i ≡ None
   pub schedule : k16 i ≡ None
 
 -- no rule has
@@ -97,6 +102,11 @@ pub record IsOwn (o : Own) : Type 0 where
   pub page_once : (j k n : ℕ) → j ≢ k → cap_at o j ≡ Page n → cap_at o k ≢ Page n
   pub few_lines : (k n : ℕ) → cap_at o k ≡ Irq n → n < 32
   pub line_once : (j k n : ℕ) → j ≢ k → cap_at o j ≡ Irq n → cap_at o k ≢ Irq n
+  pub lines : (n : ℕ) → has_line o n ≡ true → n < 32
+  pub few_moments : length o.moments ≤ 1024
+  pub moments : AreMoments o.moments
+  pub early : (k : ℕ) (x : Moment) → slice_get o.moments k ≡ Some x → x.at ≤ 1000000000000
+  pub own_lines : (k : ℕ) (x : Moment) → slice_get o.moments k ≡ Some x → has_line o x.line ≡ true
 
 pub record Runnable (i : Image) : Type 0 where
   pub counted : i.all.domains ≡ length i.owns
@@ -109,6 +119,8 @@ pub record Runnable (i : Image) : Type 0 where
   pub named : (e : ℕ) → e < length i.all.schedule → (entry_in i.all.schedule e).domain < length i.owns
   pub padded : (e : ℕ) → e < length i.all.schedule → bound_of (shape_of i.all.hardware) ≤ (entry_in i.all.schedule e).pad
   pub sound : (d : ℕ) → IsOwn (own_of i d)
+  pub owned : (d e n : ℕ) → d < length i.owns → e < length i.owns → d ≢ e
+      → has_line (own_of i d) n ≡ true → has_line (own_of i e) n ≡ false
 
 -- an image in the ranges of its keys that breaks no rule can be run
 abbrev pub RunnableLaw : Type 0

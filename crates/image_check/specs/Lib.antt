@@ -5,6 +5,7 @@ pub mod Own
 pub mod Pages
 pub mod Colours
 pub mod Capabilities
+pub mod Interrupts
 pub mod Pads
 pub mod Checking
 pub mod Public

@@ -33,4 +33,6 @@ own_model o = record {
   entry = o.entry;
   segments = map segment_model o.segments.items;
   caps = o.caps.items;
+  lines = o.lines.items;
+  moments = o.moments.items;
 }

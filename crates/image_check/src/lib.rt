@@ -7,6 +7,7 @@
 mod capabilities;
 mod checked;
 mod colours;
+mod interrupts;
 pub mod laws;
 mod own;
 mod pads;
@@ -18,6 +19,8 @@ mod unpadded;
 
 pub use capabilities::InitialCap;
 pub use checked::{Checked, check};
+/// When an interrupt comes.
+pub use irq_partition::Moment;
 /// The machine, which the rules of `hardware_check` let through.
 pub use hardware_check::{CacheShape, Hardware, Policy};
 /// Why an image is not accepted: the first rule that it breaks, or want of memory.

@@ -2,7 +2,7 @@
 ghost use Rattle.std.specs.Prelude.{◌≡◌, ◌<◌, ◌^◌, [], map, string_bytes};
 ghost use Rattle.std.specs.List.{All};
 ghost use Rattle.image_text.specs.Reads.{raw_model};
-ghost use Rattle.image_text.specs.Models.{domain_model, segment_model as text_segment_model};
+ghost use Rattle.image_text.specs.Models.{domain_model, segment_model as text_segment_model, moment_model};
 ghost use Rattle.hardware_check.specs.Hardware.{natural_of as spec_natural_of};
 ghost use Rattle.image_check.specs.Outcomes.{Makes};
 ghost use Rattle.image_check.specs.Checking.{broken_but_pads};
@@ -14,7 +14,8 @@ use crate::CheckRefusal;
 use crate::capabilities::{InitialCap, Named, cap_in};
 use crate::segments::{bytes_in, has_execute};
 use hardware_check::natural_of;
-use image_text::{Raw, RawDomain, RawSegment};
+use image_text::{Raw, RawDomain, RawMoment, RawSegment};
+use irq_partition::Moment;
 use std::alloc::Global;
 
 /// What pages may be used for.
@@ -45,9 +46,12 @@ pub struct Own {
     /// The address at which it begins.
     pub entry: u32,
     pub segments: Vec<Segment>,
-    /// What each capability slot names as it begins; at most 64. A line above
-    /// 31, which a later rule bars, leaves its slot empty.
+    /// What each capability slot names as it begins; at most 64.
     pub caps: Vec<InitialCap>,
+    /// Its interrupt lines, each below 32, which no other domain has.
+    pub lines: Vec<u8>,
+    /// When its lines interrupt it, in their order; at most 1,024.
+    pub moments: Vec<Moment>,
 }
 
 fn rights_of(text: &str) -> Rights
@@ -129,6 +133,28 @@ fn caps_of(alloc: Global, texts: &[String]) -> Result<Vec<InitialCap>, CheckRefu
     Ok(caps)
 }
 
+#[tactic(auto, unfolding(crate::specs::Own::moment_of))]
+fn moment_of(moment: &RawMoment) -> Moment
+    requires small { spec_natural_of moment.now.line < 2 ^ 8 }
+    ensures value { result ≡ spec.moment_of (moment_model moment.now) }
+{
+    Moment {
+        at: natural_of(moment.at),
+        line: natural_of(moment.line) as u8,
+    }
+}
+
+fn moments_of(alloc: Global, texts: &[RawMoment]) -> Result<Vec<Moment>, CheckRefusal>
+    requires small { All (λ m. spec_natural_of m.line < 2 ^ 8) texts.now }
+    ensures value { Makes (λ v. v.items) result (map spec.moment_of (map moment_model texts.now)) }
+{
+    let mut moments = Vec::new(alloc);
+    for text in texts {
+        moments.push(moment_of(text))?;
+    }
+    Ok(moments)
+}
+
 #[tactic(auto, unfolding(crate::specs::Own::own_from))]
 fn own_from(alloc: Global, domain: &RawDomain) -> Result<Own, CheckRefusal>
     requires small { spec.IsSmallOwn (domain_model domain.now) }
@@ -138,12 +164,16 @@ fn own_from(alloc: Global, domain: &RawDomain) -> Result<Own, CheckRefusal>
     let colours = bytes_of(alloc, domain.colours.as_slice())?;
     let segments = segments_of(alloc, domain.segments.as_slice())?;
     let caps = caps_of(alloc, domain.caps.as_slice())?;
+    let lines = bytes_of(alloc, domain.lines.as_slice())?;
+    let moments = moments_of(alloc, domain.moments.as_slice())?;
     Ok(Own {
         name,
         colours,
         entry: domain.entry,
         segments,
         caps,
+        lines,
+        moments,
     })
 }
 

@@ -13,6 +13,7 @@ ghost use Rattle.image_check.specs.Pads as spec;
 use crate::CheckRefusal;
 use crate::capabilities::k13;
 use crate::colours::{k8, k9, k10};
+use crate::interrupts::{k14, k15};
 use crate::own::{Own, owns_of};
 use crate::pads::{k17, shape_of};
 use crate::public::{Public, public_of};
@@ -124,6 +125,12 @@ fn first_but_pads(alloc: Global, raw: &Raw) -> Result<Option<Refusal>, CheckRefu
         return Ok(Some(refusal));
     }
     if let Some(refusal) = k13(raw) {
+        return Ok(Some(refusal));
+    }
+    if let Some(refusal) = k14(raw) {
+        return Ok(Some(refusal));
+    }
+    if let Some(refusal) = k15(raw) {
         return Ok(Some(refusal));
     }
     Ok(k16(raw))

@@ -1,5 +1,5 @@
 -- The interrupts of a domain: its moments, how many of them were delivered, and a bit for each of 32 lines.
-use Rattle.std.specs.Prelude.{◌≡◌, ℕ, zero, suc, ◌+◌, ◌<◌, ◌≤◌, ◌⊎◌, nat_le, Bool, false, if◌then◌else◌, List, length, replicate, slice_get, slice_index_or, slice_set, Option, Some, None}
+use Rattle.std.specs.Prelude.{◌≡◌, ℕ, zero, suc, ◌+◌, ◌<◌, ◌≤◌, nat_le, Bool, false, if◌then◌else◌, List, length, replicate, slice_get, slice_index_or, slice_set, Option, Some, None}
 use Rattle.irq_partition.specs.declared.Moment.{Moment}
 
 pub record Interrupts : Type 0 where
@@ -8,8 +8,9 @@ pub record Interrupts : Type 0 where
   pub bits : List Bool  -- by line
 
 -- earlier, or at the same cycle of a lesser line
-abbrev pub IsBefore : Moment → Moment → Type 0
-IsBefore x y = (x.at < y.at) ⊎ ((x.at ≡ y.at) × (x.line < y.line))
+pub record IsBefore (x y : Moment) : Type 0 where
+  pub not_later : x.at ≤ y.at
+  pub by_line : x.at ≡ y.at → x.line < y.line
 
 -- the moments ascend strictly, each of a line below 32
 pub record AreMoments (moments : List Moment) : Type 0 where

@@ -11,3 +11,4 @@ pub mod FreesAlloc
 pub mod DropsDelete
 pub mod FreesRevoked
 pub mod DropsRevoke
+pub mod TiesThreads

@@ -1,6 +1,6 @@
 -- A call by its number, and what is left after its reply.
-use Rattle.std.proofs.Common.{◌≡◌, ℕ, ◌<◌, ◌≤◌, ◌/◌, ◌^◌, take, Bool, true, false, ◌&&◌, List, [], ◌∷◌, ◌++◌, length, Option, Some, None, Ok, Err, ◌⊎◌, inl, refl, ap, sym, subst, ◌∙◌, arith, eqb-true, leb-false, ne_eqb}
-use Rattle.std.specs.Prelude.{nat_eq, nat_le, if◌then◌else◌, Result, slice_get, All, IfSome}
+use Rattle.std.proofs.Common.{◌≡◌, ℕ, ◌<◌, ◌≤◌, ◌/◌, ◌^◌, take, Bool, true, false, ◌&&◌, List, [], length, Option, Some, None, Ok, Err, ◌⊎◌, refl, ap, sym, subst, ◌∙◌, arith, leb-false, ne_eqb}
+use Rattle.std.specs.Prelude.{nat_le, if◌then◌else◌, Result, All, IfSome}
 use Rattle.std.proofs.lemmas.List.{length-take}
 use Rattle.std.proofs.lemmas.List.Elements.{All-weaker}
 use Rattle.tp_base.specs.Ranges.{IsFrameNo}
@@ -12,13 +12,13 @@ use Rattle.kernel_clone.specs.Footprints.{WorkDone, bad_call_op}
 use Rattle.kernel_clone.specs.declared.Work.{Work}
 use Rattle.kernel_clone.specs.Models.{work_model, IsWork}
 use Rattle.cap_table.specs.Slots.{Slots}
-use Rattle.call_table.specs.Domain.{Dom, placed, replied, refused, exited}
+use Rattle.call_table.specs.Domain.{Dom, reply_past, placed, replied}
 use Rattle.call_table.specs.Claims.{Estate, is_mine, claims, Facts}
 use Rattle.call_table.specs.Calls.{Note, call_of, op_of, work_of, zeroed_in, entries_in, empties, clears_entries, is_done, empties_buffer}
 use Rattle.call_table.specs.Laws.{LeavesKept, IsMine}
 use Rattle.pad_bound.specs.Worst.{IsCallWork}
 use Rattle.call_table.proofs.CallLawsDelete.{call_of_keeps}
-use Rattle.call_table.proofs.WorkSteps.{first_reply}
+use Rattle.call_table.proofs.WorkSteps.{last_reply}
 use Rattle.call_table.proofs.BoundedWork.{LiesInOwn, call_of_bounded}
 use Rattle.call_table.proofs.TablesMeaning.{mine_is_own}
 use Rattle.call_table.specs.declared.Reply.{Reply}
@@ -27,8 +27,9 @@ use Rattle.kernel_call.specs.declared.error.CallError.{CallError}
 use Rattle.kernel_call.specs.declared.outcome.Done.{Done}
 use Rattle.kernel_call.specs.declared.outcome.Outcome.{Outcome}
 use Rattle.kernel_call.specs.Models.{dom_model, Stands}
-use Rattle.kernel_call.specs.Facts.{HasFacts, code_of, reads, Ends}
-use Rattle.kernel_call.specs.Calls.{answer_of, IsCalled}
+use Rattle.kernel_call.specs.Facts.{HasFacts, code_of, Ends}
+use Rattle.kernel_call.specs.Calls.{IsCalled}
+use Rattle.kernel_call.specs.Threads.{IsAnswered}
 use Rattle.kernel_call.proofs.Ties.{kept_facts, has_still}
 
 -- the call of this number is that action
@@ -39,21 +40,6 @@ pub performed : (number k : ℕ) (e : Estate) (old new : Domain) (memory : Conte
 performed number k e old new memory readings replies m result a b c r is same ends =
     subst (λ (n : ℕ). Ends n e old new memory readings replies result (call_of e (dom_model old readings replies) n a b c m)) (sym is)
     (subst (λ (r : act.Done Mem Note Dom Dom). Ends k e old new memory readings replies result r) (sym same) ends)
-
-pub bad_call : (e : Estate) (d : Dom) (m : Mem) (number a b c : ℕ) → 8 < number → call_of e d number a b c m ≡ reads m (inl (refused 1 d))
-unfolding call_of stop
-bad_call e d m number a b c above =
-    rw (
-      ne_eqb number 0 (λ e. absurd (omega (arith, above, e))),
-      ne_eqb number 1 (λ e. absurd (omega (arith, above, e))),
-      ne_eqb number 2 (λ e. absurd (omega (arith, above, e))),
-      ne_eqb number 3 (λ e. absurd (omega (arith, above, e))),
-      ne_eqb number 4 (λ e. absurd (omega (arith, above, e))),
-      ne_eqb number 5 (λ e. absurd (omega (arith, above, e))),
-      ne_eqb number 6 (λ e. absurd (omega (arith, above, e))),
-      ne_eqb number 7 (λ e. absurd (omega (arith, above, e))),
-      ne_eqb number 8 (λ e. absurd (omega (arith, above, e))),
-    ) refl
 
 -- ---- the facts after a call
 
@@ -106,23 +92,14 @@ module _ (number : ℕ) (e : Estate) (old new : Domain) (memory next : Contents)
 
 -- ---- what a call comes to
 
--- the reply is the last one
-last_reply : (number code value : ℕ) (d : Dom) → 0 < number
-    → answer_of number (length d.replies) (replied code value d) ≡ Some (record { code = code; value = value })
-unfolding replied placed
-last_reply number code value d some =
-    let x : Reply = record { code = code; value = value } in
-    ap (λ (b : Bool). if b then None else slice_get (d.replies ++ x ∷ []) (length d.replies)) (ne_eqb number 0 (λ e. absurd (omega (arith, some, e))))
-    ∙ first_reply d d code value refl
-
 -- the operation of a call says as much of the buffer as its number
 clears_op : (number : ℕ) → clears_entries (op_of number) ≡ clears_entries number
-clears_op number = by_test (nat_le number 8) refl
+clears_op number = by_test (nat_le number 14) refl
   where
-    by_test : (b : Bool) → nat_le number 8 ≡ b → clears_entries (if b then number else bad_call_op) ≡ clears_entries number
+    by_test : (b : Bool) → nat_le number 14 ≡ b → clears_entries (if b then number else bad_call_op) ≡ clears_entries number
     by_test true small = refl
     by_test false large =
-        let above : 8 < number = leb-false number 8 large in
+        let above : 14 < number = leb-false number 14 large in
         rw (
           ne_eqb number 5 (λ e. absurd (omega (arith, above, e))),
           ne_eqb number 7 (λ e. absurd (omega (arith, above, e))),
@@ -132,88 +109,76 @@ clears_op number = by_test (nat_le number 8) refl
 pub same_buffer : (number op : ℕ) (reply : Option Reply) → op ≡ op_of number → empties_buffer op reply ≡ empties_buffer number reply
 same_buffer number op reply is = ap (λ (t : Bool). t && is_done reply) (ap clears_entries is ∙ clears_op number)
 
--- an EXIT's missing reply says as much as one that follows
-answer_buffer : (number before : ℕ) (x : Dom) → empties_buffer number (answer_of number before x) ≡ empties_buffer number (slice_get x.replies before)
-answer_buffer number before x = by_test (nat_eq number 0) refl
-  where
-    by_test : (b : Bool) → nat_eq number 0 ≡ b
-        → empties_buffer number (if b then None else slice_get x.replies before) ≡ empties_buffer number (slice_get x.replies before)
-    by_test true is = let zero_is : number ≡ 0 = eqb-true number 0 is in
-        subst (λ (n : ℕ). empties_buffer n None ≡ empties_buffer n (slice_get x.replies before)) (sym zero_is) refl
-    by_test false is = refl
-
 -- what the outcome says of the buffer
 tells_buffer : (number before : ℕ) (outcome : Outcome) (r : act.Done Mem Note Dom Dom) → work_model outcome.work ≡ work_of number r.notes
-    → outcome.reply ≡ answer_of number before (either r.value)
-    → empties r.notes ≡ empties_buffer number (slice_get (either r.value).replies before)
+    → outcome.reply ≡ reply_past before (either r.value)
+    → empties r.notes ≡ empties_buffer number (reply_past before (either r.value))
     → empties_buffer outcome.work.op outcome.reply ≡ empties r.notes
 unfolding work_of
 tells_buffer number before outcome r did answers emptied =
     same_buffer number outcome.work.op outcome.reply (ap (λ (w : WorkDone). w.op) did)
     ∙ ap (empties_buffer number) answers
-    ∙ answer_buffer number before (either r.value)
     ∙ sym emptied
 
-pub called_exit : (number : ℕ) (e : Estate) (old new : Domain) (memory : Contents) (readings : List ℕ) (replies : List Reply) (m : Mem)
-    (a b c : ℕ) (work : Work) → number ≡ 0 → HasFacts e memory m new → Stands new (exited a (dom_model old readings replies))
-    → work_model work ≡ record { op = 0; zeroed = None; entries = [] }
-    → IsCalled e memory new number (length replies) (record { reply = None; work = work })
-    (call_of e (dom_model old readings replies) number a b c m)
-unfolding call_of give either work_of zeroed_in entries_in empties
-called_exit number e old new memory readings replies m a b c work is h stands did =
-    let outcome : Outcome = record { reply = None; work = work } in
-    subst (λ (n : ℕ). IsCalled e memory new n (length replies) outcome (call_of e (dom_model old readings replies) n a b c m)) (sym is)
-    (record {
-      dom = stands;
-      facts = h;
-      work = did;
-      reply = refl;
-      buffer = tells_buffer 0 (length replies) outcome (call_of e (dom_model old readings replies) 0 a b c m) did refl refl;
-    })
+-- a call that leaves memory alone
+pub called_answered : (number : ℕ) (e : Estate) (new : Domain) (memory : Contents) (m : Mem) (before : ℕ) (reply : Option Reply) (work : Work)
+    (r : act.Done Mem Note Dom Dom) → IsAnswered m before reply new r → HasFacts e memory m new
+    → work_model work ≡ record { op = op_of number; zeroed = None; entries = [] }
+    → empties r.notes ≡ empties_buffer number (reply_past before (either r.value))
+    → IsCalled e memory new number before (record { reply = reply; work = work }) r
+unfolding work_of zeroed_in entries_in
+called_answered number e new memory m before reply work r h facts did emptied =
+    let works : work_model work ≡ work_of number r.notes = did ∙ ap (λ (notes : List Note). work_of number notes) (sym h.notes) in
+    record {
+      dom = h.dom;
+      facts = subst (λ (m : Mem). HasFacts e memory m new) (sym h.state) facts;
+      work = works;
+      reply = h.reply_is;
+      buffer = tells_buffer number before (record { reply = reply; work = work }) r works h.reply_is emptied;
+    }
 
 pub called_done : (number : ℕ) (e : Estate) (old new last : Domain) (memory : Contents) (readings : List ℕ) (replies : List Reply)
-    (x : Done) (outcome : Outcome) (r : act.Done Mem Note Dom Dom) → 0 < number
+    (x : Done) (reply : Reply) (r : act.Done Mem Note Dom Dom)
     → Ends number e old new memory readings replies (Ok x) r → HasFacts e memory r.state last
     → Stands last (replied 0 x.value (dom_model new readings replies))
-    → outcome ≡ record { reply = Some (record { code = 0; value = x.value }); work = x.work }
-    → empties r.notes ≡ empties_buffer number (slice_get (either r.value).replies (length replies))
-    → IsCalled e memory last number (length replies) outcome r
+    → reply ≡ record { code = 0; value = x.value }
+    → empties r.notes ≡ empties_buffer number (reply_past (length replies) (either r.value))
+    → IsCalled e memory last number (length replies) (record { reply = Some reply; work = x.work }) r
 unfolding either
-called_done number e old new last memory readings replies x outcome r some ends h stands is emptied =
-    let did : work_model outcome.work ≡ work_of number r.notes = ap (λ (o : Outcome). work_model o.work) is ∙ ends.work in
-    let answers : outcome.reply ≡ answer_of number (length replies) (either r.value) =
-    ap (λ (o : Outcome). o.reply) is
-    ∙ sym (ap (λ (v : Dom ⊎ Dom). answer_of number (length replies) (either v)) ends.value
-    ∙ last_reply number 0 x.value (dom_model new readings replies) some) in
+called_done number e old new last memory readings replies x reply r ends h stands is emptied =
+    let outcome : Outcome = record { reply = Some reply; work = x.work } in
+    let answers : Some reply ≡ reply_past (length replies) (either r.value) =
+    ap Some is
+    ∙ sym (ap (λ (v : Dom ⊎ Dom). reply_past (length replies) (either v)) ends.value
+    ∙ last_reply (dom_model new readings replies) (length replies) 0 x.value (omega arith)) in
     record {
       dom = subst (λ (v : Dom ⊎ Dom). Stands last (either v)) (sym ends.value) stands;
       facts = h;
-      work = did;
+      work = ends.work;
       reply = answers;
-      buffer = tells_buffer number (length replies) outcome r did answers emptied;
+      buffer = tells_buffer number (length replies) outcome r ends.work answers emptied;
     }
 
 pub called_refused : (number : ℕ) (e : Estate) (old new last : Domain) (memory : Contents) (readings : List ℕ) (replies : List Reply)
-    (x : CallError) (code : ℕ) (work : Work) (outcome : Outcome) (r : act.Done Mem Note Dom Dom) → 0 < number
+    (x : CallError) (given reply : Reply) (work : Work) (r : act.Done Mem Note Dom Dom)
     → Ends number e old new memory readings replies (Err x) r → HasFacts e memory r.state last
-    → code ≡ code_of x → new ≡ old → Stands last (replied code 0 (dom_model new readings replies))
+    → given ≡ record { code = code_of x; value = 0 } → reply ≡ given → new ≡ old
+    → Stands last (replied given.code given.value (dom_model new readings replies))
     → work_model work ≡ record { op = op_of number; zeroed = None; entries = [] }
-    → outcome ≡ record { reply = Some (record { code = code; value = 0 }); work = work }
-    → empties r.notes ≡ empties_buffer number (slice_get (either r.value).replies (length replies))
-    → IsCalled e memory last number (length replies) outcome r
+    → empties r.notes ≡ empties_buffer number (reply_past (length replies) (either r.value))
+    → IsCalled e memory last number (length replies) (record { reply = Some reply; work = work }) r
 unfolding either work_of zeroed_in entries_in
-called_refused number e old new last memory readings replies x code work outcome r some ends h told same stands did is emptied =
-    let works : work_model outcome.work ≡ work_of number r.notes =
-    ap (λ (o : Outcome). work_model o.work) is ∙ did ∙ ap (λ (notes : List Note). work_of number notes) (sym ends.work) in
-    let answers : outcome.reply ≡ answer_of number (length replies) (either r.value) =
-    ap (λ (o : Outcome). o.reply) is
-    ∙ sym (ap (λ (v : Dom ⊎ Dom). answer_of number (length replies) (either v)) ends.value
-    ∙ last_reply number (code_of x) 0 (dom_model old readings replies) some
-    ∙ ap (λ (n : ℕ). Some (record { code = n; value = 0 })) (sym told)) in
+called_refused number e old new last memory readings replies x given reply work r ends h told is same stands did emptied =
+    let outcome : Outcome = record { reply = Some reply; work = work } in
+    let works : work_model work ≡ work_of number r.notes = did ∙ ap (λ (notes : List Note). work_of number notes) (sym ends.work) in
+    let answers : Some reply ≡ reply_past (length replies) (either r.value) =
+    ap Some (is ∙ told)
+    ∙ sym (ap (λ (v : Dom ⊎ Dom). reply_past (length replies) (either v)) ends.value
+    ∙ last_reply (dom_model old readings replies) (length replies) (code_of x) 0 (omega arith)) in
     record {
       dom = subst (λ (v : Dom ⊎ Dom). Stands last (either v)) (sym ends.value)
-          (subst (λ (n : ℕ). Stands last (replied n 0 (dom_model old readings replies))) told
-          (subst (λ (d : Domain). Stands last (replied code 0 (dom_model d readings replies))) same stands));
+          (subst (λ (g : Reply). Stands last (replied g.code g.value (dom_model old readings replies))) told
+          (subst (λ (d : Domain). Stands last (replied given.code given.value (dom_model d readings replies))) same stands));
       facts = h;
       work = works;
       reply = answers;

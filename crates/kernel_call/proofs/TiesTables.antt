@@ -45,22 +45,22 @@ some_or_other (Some b) x a e = ap Some (cc e)
 
 -- ---- what is told of their work
 
-op_small : (number : ℕ) → nat_le number 8 ≡ true → op_of number ≡ number
+op_small : (number : ℕ) → nat_le number 14 ≡ true → op_of number ≡ number
 op_small number small = ap (λ (b : Bool). if b then number else bad_call_op) small
 
-pub tells_nothing : (number : ℕ) (w : WorkDone) → nat_le number 8 ≡ true → w ≡ record { op = number; zeroed = None; entries = [] }
+pub tells_nothing : (number : ℕ) (w : WorkDone) → nat_le number 14 ≡ true → w ≡ record { op = number; zeroed = None; entries = [] }
     → w ≡ work_of number []
 unfolding work_of zeroed_in entries_in
 tells_nothing number w small is =
     is ∙ ap (λ (op : ℕ). record { op = op; zeroed = None; entries = [] }) (sym (op_small number small))
 
-pub tells_entry : (number entry at : ℕ) (w : WorkDone) → nat_le number 8 ≡ true → w ≡ record { op = number; zeroed = None; entries = entry ∷ [] }
+pub tells_entry : (number entry at : ℕ) (w : WorkDone) → nat_le number 14 ≡ true → w ≡ record { op = number; zeroed = None; entries = entry ∷ [] }
     → entry ≡ at → w ≡ work_of number (Note.Entry at ∷ [])
 unfolding work_of zeroed_in entries_in
 tells_entry number entry at w small is same =
     is ∙ ap₂ (λ (op at : ℕ). record { op = op; zeroed = None; entries = at ∷ [] }) (sym (op_small number small)) same
 
-pub tells_entry_emptied : (number entry at : ℕ) (w : WorkDone) → nat_le number 8 ≡ true
+pub tells_entry_emptied : (number entry at : ℕ) (w : WorkDone) → nat_le number 14 ≡ true
     → w ≡ record { op = number; zeroed = None; entries = entry ∷ [] } → entry ≡ at → w ≡ work_of number (Note.Entry at ∷ Note.Emptied ∷ [])
 unfolding work_of zeroed_in entries_in
 tells_entry_emptied number entry at w small is same =

@@ -1,13 +1,14 @@
 -- What a kernel call of the code comes to.
-use Rattle.std.specs.Prelude.{◌≡◌, ℕ, ◌+◌, ◌≤◌, ◌%◌, ◌^◌, nat_eq, if◌then◌else◌, List, length, slice_get, slice_index, Option, None}
+use Rattle.std.specs.Prelude.{◌≡◌, ℕ, ◌+◌, ◌≤◌, ◌%◌, ◌^◌, List, length, slice_index}
 use Rattle.tp_base.specs.Act as act
 use Rattle.tp_base.specs.Act.{either}
 use Rattle.phys_mem.specs.Contents.{Contents}
 use Rattle.phys_mem.specs.Mem.{Mem}
 use Rattle.rv_core.specs.Registers.{with_register}
 use Rattle.kernel_clone.specs.Models.{work_model}
+use Rattle.thread_set.specs.Models.{threads_model}
 use Rattle.thread_set.specs.declared.Thread.{Thread}
-use Rattle.call_table.specs.Domain.{Dom}
+use Rattle.call_table.specs.Domain.{Dom, reply_past}
 use Rattle.call_table.specs.Claims.{Estate}
 use Rattle.call_table.specs.Calls.{Note, call_of, work_of, empties, empties_buffer}
 use Rattle.call_table.specs.declared.Reply.{Reply}
@@ -18,16 +19,12 @@ use Rattle.kernel_call.specs.declared.outcome.Outcome.{Outcome}
 use Rattle.kernel_call.specs.Models.{dom_model, Stands}
 use Rattle.kernel_call.specs.Facts.{HasFacts}
 
--- the reply that follows so many, where the call answers: an EXIT doesn't
-abbrev pub answer_of : ℕ → ℕ → Dom → Option Reply
-answer_of number before d = if nat_eq number 0 then None else slice_get d.replies before
-
 -- what a call with this number leaves, of a domain that had so many replies
 pub record IsCalled (e : Estate) (memory : Contents) (d : Domain) (number before : ℕ) (outcome : Outcome) (r : act.Done Mem Note Dom Dom) : Type 0 where
   pub dom : Stands d (either r.value)
   pub facts : HasFacts e memory r.state d
   pub work : work_model outcome.work ≡ work_of number r.notes
-  pub reply : outcome.reply ≡ answer_of number before (either r.value)
+  pub reply : outcome.reply ≡ reply_past before (either r.value)
   pub buffer : empties_buffer outcome.work.op outcome.reply ≡ empties r.notes
 
 -- whatever estate, logs and memory the old ones stand for, the new ones stand for what the call leaves
@@ -44,10 +41,11 @@ pub record KeepsParts (old new : Domain) : Type 0 where
   pub tables : new.tables ≡ old.tables
   pub kept : new.kept ≡ old.kept
   pub layout : new.layout ≡ old.layout
-  pub interrupts : new.interrupts ≡ old.interrupts
+  pub moments : new.interrupts.moments ≡ old.interrupts.moments
+  pub delivered : new.interrupts.delivered ≡ old.interrupts.delivered
   pub retired : new.retired ≡ old.retired
   pub readings : new.readings ≡ old.readings
-  pub replies : new.replies.count ≤ old.replies.count + 1
+  pub replies : new.replies.count ≤ old.replies.count + 2  -- a thread that a SIGNAL wakes has one of its own
 
 -- the thread moves on, with its reply in x10 and x11
 abbrev pub answered : Thread → Reply → Thread
@@ -56,7 +54,8 @@ answered x r = record x { pc = (x.pc + 4) % 2 ^ 32; regs = with_register (with_r
 pub record IsRefused (old new : Domain) (reply : Reply) : Type 0 where
   pub value : reply.value ≡ 0
   pub status : new.status ≡ old.status
-  pub threads : new.threads ≡ record old.threads { active = answered old.threads.active reply }
+  pub threads : threads_model new.threads ≡ record (threads_model old.threads) { current = answered old.threads.active reply }
+  pub interrupts : new.interrupts ≡ old.interrupts
   pub caps : new.caps ≡ old.caps
   pub pool : new.pool ≡ old.pool
   pub printed : new.printed ≡ old.printed

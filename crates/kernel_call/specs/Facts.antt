@@ -45,7 +45,7 @@ pub record Valid (memory : Contents) (d : Domain) : Type 0 where
 
 -- ---- how calls end
 
--- what no call changes but its reply
+-- what no call on slots, frames and page tables changes but its reply
 pub record KeepsRest (old new : Domain) : Type 0 where
   pub status : new.status ≡ old.status
   pub threads : new.threads ≡ old.threads
@@ -58,7 +58,7 @@ pub record KeepsRest (old new : Domain) : Type 0 where
   pub readings : new.readings ≡ old.readings
   pub replies : new.replies ≡ old.replies
 
--- 1 BadCall to 12 InUse
+-- 1 BadCall to 13 NoThread
 abbrev pub code_of : CallError → ℕ
 code_of error.BadCall = 1
 code_of error.BadSlot = 2
@@ -72,6 +72,7 @@ code_of error.NoTable = 9
 code_of error.NoFrame = 10
 code_of error.OutputFull = 11
 code_of error.InUse = 12
+code_of error.NoThread = 13
 
 -- a refusal of this domain, or a value
 abbrev pub end_of : {A : Type 0} → Dom → Result A CallError → Dom ⊎ A

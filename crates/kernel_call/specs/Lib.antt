@@ -4,3 +4,4 @@ pub mod Models
 pub mod Facts
 pub mod Entries
 pub mod Calls
+pub mod Threads

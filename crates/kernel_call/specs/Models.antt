@@ -1,5 +1,5 @@
 -- How contracts see the code's domain.
-use Rattle.std.specs.Prelude.{◌≡◌, ℕ, ◌≤◌, List, []}
+use Rattle.std.specs.Prelude.{◌≡◌, ℕ, ◌*◌, ◌≤◌, List, []}
 use Rattle.thread_set.specs.Models.{threads_model}
 use Rattle.call_table.specs.declared.DomainStatus.TheVariants.{Running}
 use Rattle.call_table.specs.declared.Reply.{Reply}
@@ -34,11 +34,11 @@ Becomes f old new = (readings : List ℕ) (replies : List Reply)
     → log_model old.readings ≡ log_of readings → log_model old.replies ≡ log_of replies
     → Stands new (f (dom_model old readings replies))
 
--- no count is past the clock
+-- no count is past the clock, but a call or a delivery records two replies at most
 pub record CountsUpTo (clock : ℕ) (d : Domain) : Type 0 where
   pub retired : d.retired ≤ clock
   pub readings : d.readings.count ≤ clock
-  pub replies : d.replies.count ≤ clock
+  pub replies : d.replies.count ≤ 2 * clock
 
 -- it runs, and has done nothing yet
 pub record IsNew (d : Domain) : Type 0 where

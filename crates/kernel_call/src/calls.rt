@@ -1,23 +1,23 @@
 // The kernel call that a domain makes.
-ghost use Rattle.std.specs.Prelude.{◌≡◌, ◌≢◌, ◌^◌, ◌<◌, ◌≤◌, IfErr, IfSome, Some, slice_index};
+ghost use Rattle.std.specs.Prelude.{◌≡◌, ◌≢◌, ◌^◌, ◌<◌, ◌≤◌, true, IfErr, IfSome, slice_index};
 ghost use Rattle.kernel_clone.specs.Models.{work_model, IsWork};
 ghost use Rattle.pad_bound.specs.Worst.{IsCallWork};
-ghost use Rattle.call_table.specs.Domain as domain_spec;
+ghost use Rattle.thread_set.specs.Threads.{is_ready};
 ghost use Rattle.call_table.specs.Calls as spec;
-ghost use Rattle.kernel_call.specs.Models.{Becomes};
 ghost use Rattle.kernel_call.specs.Facts.{Valid, Does, KeepsRest};
-ghost use Rattle.kernel_call.specs.Calls.{Calls, KeepsParts, IsRefused, answered};
+ghost use Rattle.kernel_call.specs.Calls.{Calls, KeepsParts, IsRefused};
 
 use crate::error::CallError;
 use crate::frames::{alloc, delete, revoke};
 use crate::outcome::{Done, Outcome, no_work};
+use crate::reply::reply_to;
 use crate::slots::copy;
 use crate::tables::{install, map_page, unmap};
+use crate::threads::call_without_memory;
 use crate::{Domain, PRINTED};
-use call_table::{DomainStatus, Reply};
-use kernel_clone::{BAD_CALL, Work};
+use call_table::Reply;
+use kernel_clone::BAD_CALL;
 use phys_mem::PhysMem;
-use thread_set::Thread;
 
 const PUT: u8 = 1;
 
@@ -38,7 +38,7 @@ fn put_byte(domain: &mut Domain, memory: &PhysMem, a: u32) -> Result<Done, CallE
     })
 }
 
-// A call that answers, by its number.
+// A call on memory, frames or slots, by its number.
 fn perform(
     domain: &mut Domain,
     memory: &mut PhysMem,
@@ -46,7 +46,8 @@ fn perform(
     args: [u32; 3],
 ) -> Result<Done, CallError>
     requires valid { Valid memory.old domain.old }
-    requires answers { 0 < number }
+    requires first { 0 < number }
+    requires last { number ≤ 8 }
     ensures does { Does number
         (λ e d. spec.call_of e d number (slice_index args 0) (slice_index args 1) (slice_index args 2))
         result memory.old domain.old memory.new domain.new }
@@ -64,58 +65,16 @@ fn perform(
         5 => unmap(domain, memory, a),
         6 => copy(domain, memory, a, b, c),
         7 => delete(domain, memory, a),
-        8 => revoke(domain, memory, a),
-        _ => Err(CallError::BadCall),
-    }
-}
-
-// EXIT: the domain and its threads are ended.
-#[tactic(auto, unfolding(call_table::specs::Domain::exited))]
-fn exit(domain: &mut Domain, code: u32)
-    ensures becomes { Becomes (domain_spec.exited code) domain.old domain.new }
-    ensures keeps { KeepsParts domain.old domain.new }
-    ensures caps { domain.new.caps ≡ domain.old.caps }
-    ensures pool { domain.new.pool ≡ domain.old.pool }
-{
-    domain.status = DomainStatus::Exited(code);
-    domain.threads.end_all();
-}
-
-// A reply goes to x10 and x11, and the thread moves on.
-fn answer(thread: &mut Thread, reply: Reply)
-    ensures answered { thread.new ≡ answered thread.old reply }
-{
-    thread.regs.set(10, reply.code);
-    thread.regs.set(11, reply.value);
-    thread.pc = thread.pc.wrapping_add(4);
-}
-
-// The current thread gets a reply, which is recorded. Tells what was done.
-#[tactic(auto, unfolding(call_table::specs::Domain::replied, call_table::specs::Domain::placed, thread_set::specs::Threads::with_current))]
-fn reply_to(domain: &mut Domain, reply: Reply, work: Work) -> Outcome
-    requires replies { domain.old.replies.count < 2 ^ 63 }
-    ensures outcome { result ≡ record { reply = Some reply; work = work } }
-    ensures becomes { Becomes (domain_spec.replied reply.code reply.value) domain.old domain.new }
-    ensures keeps { KeepsParts domain.old domain.new }
-    ensures status { domain.new.status ≡ domain.old.status }
-    ensures threads { domain.new.threads
-        ≡ record domain.old.threads { active = answered domain.old.threads.active reply } }
-    ensures caps { domain.new.caps ≡ domain.old.caps }
-    ensures pool { domain.new.pool ≡ domain.old.pool }
-    ensures printed { domain.new.printed ≡ domain.old.printed }
-{
-    answer(&mut domain.threads.active, reply);
-    domain.replies.push(reply);
-    Outcome {
-        reply: Some(reply),
-        work,
+        _ => revoke(domain, memory, a),
     }
 }
 
 /// The kernel call with this number and these arguments, of the domain's
-/// current thread. Numbers above 8 are bad calls. Takes no memory.
+/// current thread, which must be ready. Numbers above 14 are bad calls. Takes
+/// no memory.
 pub fn call(domain: &mut Domain, memory: &mut PhysMem, number: u32, args: [u32; 3]) -> Outcome
     requires valid { Valid memory.old domain.old }
+    requires ready { is_ready domain.old.threads.active.state ≡ true }
     requires replies { domain.old.replies.count < 2 ^ 63 }
     ensures calls { Calls number args result memory.old domain.old memory.new domain.new }
     ensures valid { Valid memory.new domain.new }
@@ -129,11 +88,10 @@ pub fn call(domain: &mut Domain, memory: &mut PhysMem, number: u32, args: [u32; 
     ensures buffer { spec.empties_buffer result.work.op result.reply
         ≡ spec.empties_buffer number result.reply }
 {
-    if number == 0 {
-        exit(domain, args[0]);
+    if number == 0 || number > 8 {
         return Outcome {
-            reply: None,
-            work: no_work(0),
+            reply: call_without_memory(domain, number, args),
+            work: no_work(operation(number)),
         };
     }
     match perform(domain, memory, number, args) {
@@ -142,15 +100,15 @@ pub fn call(domain: &mut Domain, memory: &mut PhysMem, number: u32, args: [u32; 
                 code: 0,
                 value: done.value,
             };
-            reply_to(domain, reply, done.work)
+            Outcome {
+                reply: Some(reply_to(domain, reply)),
+                work: done.work,
+            }
         }
-        Err(error) => {
-            let reply = Reply {
-                code: error.code(),
-                value: 0,
-            };
-            reply_to(domain, reply, no_work(operation(number)))
-        }
+        Err(error) => Outcome {
+            reply: Some(reply_to(domain, error.reply())),
+            work: no_work(operation(number)),
+        },
     }
 }
 
@@ -158,5 +116,5 @@ pub fn call(domain: &mut Domain, memory: &mut PhysMem, number: u32, args: [u32; 
 fn operation(number: u32) -> u8
     ensures value { result ≡ spec.op_of number }
 {
-    if number <= 8 { number as u8 } else { BAD_CALL }
+    if number <= 14 { number as u8 } else { BAD_CALL }
 }

@@ -1,6 +1,7 @@
 // Why a kernel call is refused.
 ghost use Rattle.std.specs.Prelude.{◌≡◌};
 
+use call_table::Reply;
 use page_map::MapRefusal;
 use thiserror::Error;
 
@@ -31,13 +32,15 @@ pub enum CallError {
     OutputFull,
     #[error("a page is mapped through the table")]
     InUse,
+    #[error("eight threads are live")]
+    NoThread,
 }
 
 impl CallError {
     ghost use Rattle.std.specs.Prelude.{◌≡◌};
     ghost use Rattle.kernel_call.specs.Facts.{code_of};
 
-    /// The code of its reply, 1 to 12.
+    /// The code of its reply, 1 to 13.
     pub fn code(self) -> u32
         ensures value { result ≡ code_of self }
     {
@@ -54,6 +57,17 @@ impl CallError {
             CallError::NoFrame => 10,
             CallError::OutputFull => 11,
             CallError::InUse => 12,
+            CallError::NoThread => 13,
+        }
+    }
+
+    /// The reply of a call that is refused so.
+    pub fn reply(self) -> Reply
+        ensures value { result ≡ record { code = code_of self; value = 0 } }
+    {
+        Reply {
+            code: self.code(),
+            value: 0,
         }
     }
 }

@@ -8,14 +8,17 @@ mod error;
 mod frames;
 mod log;
 mod outcome;
+mod reply;
 mod slots;
 mod tables;
+mod threads;
 
 pub use calls::call;
 pub use domain::{Domain, PRINTED};
 pub use error::CallError;
 pub use log::{KEPT, Log};
 pub use outcome::Outcome;
+pub use threads::deliver;
 
 /// How many slots a domain has for capabilities.
 pub const SLOTS: u32 = 64;

@@ -17,7 +17,7 @@ pub struct Log<T> {
 }
 
 impl<T: Copy> Log<T> {
-    ghost use Rattle.std.specs.Prelude.{◌≡◌, ◌+◌, ◌^◌, ◌<◌, [], ◌∷◌, ◌++◌, List, IfOk};
+    ghost use Rattle.std.specs.Prelude.{◌≡◌, ◌+◌, ◌^◌, ◌≤◌, [], ◌∷◌, ◌++◌, List, IfOk};
     ghost use Rattle.kernel_call.specs.Logs.{log_of};
     ghost use Rattle.kernel_call.specs.LogModel.{log_model};
 
@@ -35,7 +35,7 @@ impl<T: Copy> Log<T> {
 
     /// Adds an item. Never allocates.
     pub fn push(&mut self, item: T)
-        requires count { self.old.count < 2 ^ 63 }
+        requires count { self.old.count ≤ 2 ^ 63 }
         ensures pushed { (all : List T) → log_model self.old ≡ log_of all
             → log_model self.new ≡ log_of (all ++ item ∷ []) }
         ensures count { self.new.count ≡ self.old.count + 1 }

@@ -11,7 +11,7 @@ use kernel_clone::Work;
 /// What a kernel call answered, where it did, and what its footprint depends on.
 #[derive(Clone, Copy)]
 pub struct Outcome {
-    /// None at an EXIT.
+    /// None at an EXIT, an ENDTHREAD and a WAIT that blocks.
     pub reply: Option<Reply>,
     pub work: Work,
 }

@@ -1,6 +1,6 @@
 // Calls on slots alone, and what several calls read of a slot.
-ghost use Rattle.std.specs.Prelude.{◌≡◌, ◌<◌, Some, None, IfOk, IfErr};
-ghost use Rattle.cap_table.specs.Slots.{cap_at, copied};
+ghost use Rattle.std.specs.Prelude.{◌≡◌, ℕ, ◌<◌, Some, None, IfOk, IfErr};
+ghost use Rattle.cap_table.specs.Slots.{cap_at, line_of, copied};
 ghost use Rattle.call_table.specs.Calls as spec;
 ghost use Rattle.kernel_call.specs.Facts.{Valid, Finds, Does, KeepsRest, code_of};
 
@@ -18,11 +18,24 @@ pub fn filled(domain: &Domain, slot: u32) -> Result<Cap, CallError>
     ensures finds { Finds (λ d. spec.filled d slot) result domain.now }
     ensures below { IfOk result (λ c. slot < 64) }
     ensures there { IfOk result (λ c. cap_at domain.now.caps slot ≡ Some c) }
+    ensures line { IfOk result (λ c. (line : ℕ) → line_of (Some c) ≡ Some line → line < 32) }
 {
     if slot >= SLOTS {
         return Err(CallError::BadSlot);
     }
     domain.caps.get(slot).ok_or(CallError::Empty)
+}
+
+/// The interrupt line that a slot names.
+#[tactic(auto, unfolding(call_table::specs::Calls::line_at))]
+pub fn line_at(domain: &Domain, slot: u32) -> Result<u8, CallError>
+    ensures finds { Finds (λ d. spec.line_at d slot) result domain.now }
+    ensures below { IfOk result (λ line. line < 32) }
+{
+    let Cap::Irq { line } = filled(domain, slot)? else {
+        return Err(CallError::WrongKind);
+    };
+    Ok(line)
 }
 
 /// No right that the other lacks: sums of 1 read, 2 write and 4 execute.

@@ -2,7 +2,9 @@
 // an image that is accepted, with what it says.
 use super::{Checked, check};
 use crate::own::{Own, Rights};
-use crate::{CacheShape, CheckRefusal, Entry, Hardware, InitialCap, Policy, check_but_pads};
+use crate::{
+    CacheShape, CheckRefusal, Entry, Hardware, InitialCap, Moment, Policy, check_but_pads,
+};
 use cycle_cost::Costs;
 use image_text::{Raw, Refusal, read_image};
 use pad_bound::bound;
@@ -30,6 +32,7 @@ entry = 0x10004
 caps = ["page 16", "none", "irq 3", "none"]
 segment = [{ page = 16, pages = 1, rights = "rx", hex = "6f000000" }, { page = 32, pages = 3, rights = "rw", hex = "" }]
 lines = [7, 3]
+moments = [[9000, 3], [9000, 7]]
 [[schedule]]
 domain = 0
 length = 10000
@@ -47,6 +50,7 @@ entry = 0x10004
 caps = ["page 16", "none", "irq 3", "none"]
 segment = [{ page = 16, pages = 1, rights = "rx", hex = "6f000000" }, { page = 32, pages = 3, rights = "rw", hex = "" }]
 lines = [7, 3]
+moments = [[9000, 3], [9000, 7]]
 "#;
 
 const ANOTHER: &str = r#"[[domain]]
@@ -341,7 +345,7 @@ const TO_K11: [Row; 80] = [
     (IMAGE, NARROW, 1, (11, 3, 64, 64)),
 ];
 
-const FROM_K12: [Row; 73] = [
+const FROM_K12: [Row; 106] = [
     // K12, cases 1 to 5
     (
         BLUE_CODE,
@@ -433,7 +437,7 @@ const FROM_K12: [Row; 73] = [
         "colours = [1]",
         "colours = [1]\ncaps = [\"irq 9999999999\", \"irq 0\"]\nlines = [0, 9999999999]",
         1,
-        (0, 0, 0, 0),
+        (14, 0, 9_999_999_999, 32),
     ),
     (
         "colours = [1]",
@@ -453,10 +457,96 @@ const FROM_K12: [Row; 73] = [
         (12, 0, 2, 6),
     ),
     (
-        "lines = [7, 3]\n[[schedule]]\ndomain = 0",
+        "lines = [7, 3]\nmoments = [[9000, 3], [9000, 7]]\n[[schedule]]\ndomain = 0",
         "lines = [7]\n[[schedule]]\ndomain = 2",
         1,
         (13, 1, 2, 4),
+    ),
+    // K14: the ends of the range, and far from it
+    ("lines = [7, 3]", "lines = [7, 3, 31]", 1, (0, 0, 0, 0)),
+    ("lines = [7, 3]", "lines = [7, 3, 32]", 1, (14, 1, 32, 32)),
+    ("lines = [7, 3]", "lines = [0, 7, 3]", 1, (0, 0, 0, 0)),
+    ("lines = [7, 3]", "lines = [-1, 7, 3]", 1, (14, 1, -1, 32)),
+    (
+        "lines = [7, 3]",
+        "lines = [7, 3, 9223372036854775807]",
+        1,
+        (14, 1, i64::MAX, 32),
+    ),
+    (
+        "lines = [7, 3]",
+        "lines = [7, 3, -9223372036854775808]",
+        1,
+        (14, 1, i64::MIN, 32),
+    ),
+    // K14: a line of an earlier domain, of the same, and two cases
+    (
+        "colours = [1]",
+        "colours = [1]\nlines = [3]",
+        1,
+        (14, 1, 3, 0),
+    ),
+    (
+        "colours = [1]",
+        "colours = [1]\nlines = [4]",
+        1,
+        (0, 0, 0, 0),
+    ),
+    ("lines = [7, 3]", "lines = [7, 3, 7]", 1, (14, 1, 7, 1)),
+    (
+        "colours = [1]",
+        "colours = [1]\nlines = [4, 4]",
+        1,
+        (14, 0, 4, 0),
+    ),
+    ("lines = [7, 3]", "lines = [7, 3, 3, 32]", 1, (14, 1, 3, 1)),
+    (
+        "colours = [1]",
+        "colours = [1]\nlines = [3, 40]",
+        1,
+        (14, 0, 40, 32),
+    ),
+    // K15, case 1, which comes before those of any moment
+    ("[9000, 3], ", "[9000, 3], ", 1024, (15, 1, 1025, 1)),
+    ("[9000, 3], ", "[-1, 3], ", 1024, (15, 1, 1025, 1)),
+    ("[9000, 3], ", "[9000, 3], ", 1023, (15, 1, 1, 4)),
+    // K15, case 2: the ends of the range, and far from it
+    ("[9000, 3]", "[0, 3]", 1, (0, 0, 0, 0)),
+    ("[9000, 3]", "[-1, 3]", 1, (15, 1, 0, 2)),
+    ("[9000, 7]", "[1000000000000, 7]", 1, (0, 0, 0, 0)),
+    ("[9000, 7]", "[1000000000001, 7]", 1, (15, 1, 1, 2)),
+    ("[9000, 7]", "[9223372036854775807, 7]", 1, (15, 1, 1, 2)),
+    ("[9000, 3]", "[-9223372036854775808, 3]", 1, (15, 1, 0, 2)),
+    // K15, case 3: no line of the domain, or of another
+    ("[9000, 7]", "[9000, 8]", 1, (15, 1, 1, 3)),
+    ("[9000, 7]", "[9000, -7]", 1, (15, 1, 1, 3)),
+    (
+        "colours = [1]",
+        "colours = [1]\nlines = [9]\nmoments = [[0, 7]]",
+        1,
+        (15, 0, 0, 3),
+    ),
+    // K15, case 4: the same again, a lesser line, an earlier cycle
+    ("[9000, 7]", "[9000, 3]", 1, (15, 1, 1, 4)),
+    ("[9000, 7]", "[9000, 7], [9000, 3]", 1, (15, 1, 2, 4)),
+    ("[9000, 3]", "[9001, 3]", 1, (15, 1, 1, 4)),
+    ("[9000, 7]", "[9000, 7], [9001, 3]", 1, (0, 0, 0, 0)),
+    ("[9000, 7]", "[9001, 3], [9000, 7]", 1, (15, 1, 2, 4)),
+    // K15, two and three cases of one moment
+    ("[9000, 7]", "[8999, 8]", 1, (15, 1, 1, 3)),
+    ("[9000, 7]", "[-1, 8]", 1, (15, 1, 1, 2)),
+    // K14 before K15, and K15 before K16
+    (
+        "[7, 3]\nmoments = [[9000, 3]",
+        "[7, 3, 32]\nmoments = [[-1, 3]",
+        1,
+        (14, 1, 32, 32),
+    ),
+    (
+        "[9000, 7]]\n[[schedule]]\ndomain = 0",
+        "[9000, 8]]\n[[schedule]]\ndomain = 2",
+        1,
+        (15, 1, 1, 3),
     ),
     // K16
     (RED_ENTRY, SHORT_ENTRY, 64, (16, 0, 65, 1)),
@@ -529,7 +619,7 @@ const FROM_K12: [Row; 73] = [
         (7, 0, 3, 16),
     ),
     (
-        "\"\" }]\nlines = [7, 3]\n[[schedule]]\ndomain = 0",
+        "\"\" }]\nlines = [7, 3]\nmoments = [[9000, 3], [9000, 7]]\n[[schedule]]\ndomain = 0",
         "\"1\" }]\nlines = [7]\n[[schedule]]\ndomain = 2",
         1,
         (12, 1, 1, 3),
@@ -607,8 +697,8 @@ fn the_bound_is_that_of_the_machine(rt: HostRuntime) -> Result<(), CheckRefusal>
     Ok(())
 }
 
-// Blue has code, three pages of data that are zero, and capabilities in slots 0
-// and 2.
+// Blue has code, three pages of data that are zero, capabilities in slots 0 and
+// 2, two lines, and a moment of each.
 fn is_blue(rt: &impl Abort, own: &Own) {
     assert_eq!(rt;
         (
@@ -646,6 +736,9 @@ fn is_blue(rt: &impl Abort, own: &Own) {
         InitialCap::None,
     ];
     assert_eq!(rt; own.caps.as_slice(), caps.as_slice());
+    assert_eq!(rt; own.lines.as_slice(), [7, 3].as_slice());
+    let moments = [Moment { at: 9000, line: 3 }, Moment { at: 9000, line: 7 }];
+    assert_eq!(rt; own.moments.as_slice(), moments.as_slice());
 }
 
 fn shape(sets: u32, ways: u32) -> CacheShape {

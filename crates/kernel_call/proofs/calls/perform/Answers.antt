@@ -1,10 +1,8 @@
-use Rattle.std.proofs.Common.{◌<◌, arith, refl}
+use Rattle.std.proofs.Common.{◌≡◌, arith, refl}
 use Rattle.std.specs.Prelude.{slice_index}
 use Rattle.call_table.specs.Calls.{call_of, put_byte, alloc, install, map_page, unmap, copy, delete, revoke}
-use Rattle.kernel_call.specs.declared.error.CallError.TheVariants as error
 use Rattle.kernel_call.specs.Models.{dom_model}
-use Rattle.kernel_call.proofs.Ties.{ends_same}
-use Rattle.kernel_call.proofs.TiesCalls.{performed, bad_call}
+use Rattle.kernel_call.proofs.TiesCalls.{performed}
 use Rattle.kernel_call.proofs.calls.perform.Goals as goal
 
 pub returns-in-1-clause-does : goal.returns-in-1-clause-does
@@ -63,18 +61,11 @@ returns-in-7-clause-does c e readings replies m h =
     (delete e (dom_model c.args.domain.now readings replies) (slice_index c.args.args 0) m)
     c.in-7.is refl (c.delete.ensures.does e readings replies m h)
 
-pub returns-in-8-clause-does : goal.returns-in-8-clause-does
+pub returns-in_default-clause-does : goal.returns-in_default-clause-does
 unfolding call_of
-returns-in-8-clause-does c e readings replies m h =
+returns-in_default-clause-does c e readings replies m h =
+    let is : c.args.number ≡ 8 = omega (arith, c.requires.first, c.requires.last, c.in_default) in
     performed c.args.number 8 e c.args.domain.now c.revoke.new.domain c.revoke.new.memory readings replies m c.revoke.result
     (slice_index c.args.args 0) (slice_index c.args.args 1) (slice_index c.args.args 2)
     (revoke e (dom_model c.args.domain.now readings replies) (slice_index c.args.args 0) m)
-    c.in-8.is refl (c.revoke.ensures.does e readings replies m h)
-
-pub returns-in_default-clause-does : goal.returns-in_default-clause-does
-returns-in_default-clause-does c e readings replies m h =
-    let above : 8 < c.args.number = omega (arith, c.requires.answers, c.in_default) in
-    let x = c.in_default in
-    ends_same c.args.number e c.args.domain.now c.args.memory.now m readings replies error.BadCall _ h
-    (bad_call e (dom_model c.args.domain.now readings replies) m c.args.number
-    (slice_index c.args.args 0) (slice_index c.args.args 1) (slice_index c.args.args 2) above)
+    is refl (c.revoke.ensures.does e readings replies m h)
