@@ -6,3 +6,4 @@ pub mod PoolReads
 mod Taking
 mod SlotLaws
 mod Opened
+pub mod Seen

@@ -6,7 +6,6 @@ use Rattle.std.proofs.lemmas.Bool.{cases_Bool, cases_lt, and_parts, and_cases, l
 use Rattle.std.proofs.lemmas.Option.{none-some, same_Some}
 use Rattle.std.proofs.lemmas.List.{get_or-drop, length-drop}
 use Rattle.frame_colours.specs.Colours as colours
-use Rattle.frame_colours.specs.FreeList.{FreeList}
 use Rattle.frame_colours.proofs.Pools.{all_free_is_free_list}
 use Rattle.cap_table.specs.Slots.{Slots}
 use Rattle.thread_set.specs.Models.{threads_model}
@@ -228,7 +227,7 @@ module _ (p : Hardware) (o : Own) where
 
   -- ---- at its entry
 
-  pub at_entry : (d : Domain) → IsNew d → threads_model d.threads ≡ threads.opening o.entry → d.caps ≡ first_slots p o → d.interrupts ≡ irq.opening [] → Stands d (opening_dom p o)
+  pub at_entry : (d : Domain) → IsNew d → threads_model d.threads ≡ threads.opening o.entry → d.caps ≡ first_slots p o → d.interrupts ≡ irq.opening o.moments → Stands d (opening_dom p o)
   unfolding opening_dom domain.opening irq.opening
   at_entry d new at caps irqs = record {
     same = λ i. record {
@@ -261,21 +260,18 @@ new_counts d new =
 module _ (p : Hardware) (o : Own) (has : HasPool p o) (apart : AreApart o.segments) where
   pub is_opened : (d : Domain) → IsNew d → d.map ≡ root_of p o
       → d.pool ≡ record { share = share_of p o; free = drop (frames_in o.segments) (pool p o) } → d.caps ≡ first_slots p o
-      → d.interrupts ≡ irq.opening [] → threads_model d.threads ≡ threads.opening o.entry → d.tables.items ≡ first_tables p o
+      → d.interrupts ≡ irq.opening o.moments → threads_model d.threads ≡ threads.opening o.entry → d.tables.items ≡ first_tables p o
       → d.kept.items ≡ clone_frames p o ++ unnamed (first_slots p o) (page_frames p o) → layout_model d.layout ≡ layout p o → IsOpened p o d
+  unfolding irq.opening
   is_opened d new root free caps irqs at tables kept clone = record {
     stands = at_entry p o d new at caps irqs;
     has = has_estate p o has.enough has.sound apart d root free caps;
     tables = tables;
     kept = kept ∙ ap (λ (fs : List ℕ). clone_frames p o ++ fs) (kept_are p o);
     layout = clone;
+    moments = ap (λ (s : irq.Interrupts). s.moments) irqs;
     few = new_counts d new;
   }
-
--- the frames of its pool
-pub pool_is : (p : Hardware) (o : Own) (d : Domain) → Has (estate p o) d → colours.pool d.pool.share ≡ pool p o
-unfolding estate
-pool_is p o d has = ap (λ (f : FreeList). colours.pool f.share) has.pool
 
 -- ---- results
 

@@ -50,6 +50,7 @@ pub record IsOpened (p : Hardware) (o : Own) (d : Domain) : Type 0 where
   pub tables : d.tables.items ≡ first_tables p o
   pub kept : d.kept.items ≡ clone_frames p o ++ kept_frames p o
   pub layout : layout_model d.layout ≡ layout p o
+  pub moments : d.interrupts.moments ≡ o.moments
   pub few : CountsUpTo 0 d
 
 -- the first n of these domains are at their entries

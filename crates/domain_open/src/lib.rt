@@ -9,5 +9,5 @@ mod open;
 mod placement;
 mod segments;
 
-pub use memory::load_pages;
-pub use open::open_all;
+pub use memory::{load_domain, load_pages};
+pub use open::{open_all, open_domain};

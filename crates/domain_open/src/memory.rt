@@ -6,12 +6,14 @@ ghost use Rattle.phys_mem.specs.Mem.{Mem, Frame};
 ghost use Rattle.hardware_check.specs.Models.{hardware_model};
 ghost use Rattle.image_check.specs.Models.{own_model};
 ghost use Rattle.image_check.specs.Image.{image_from};
+ghost use Rattle.kernel_call.specs.Facts.{Has};
+ghost use Rattle.world_view.specs.Kernel.{estate};
 ghost use Rattle.world_view.specs.Opening as spec;
-ghost use Rattle.domain_open.specs.Placing.{HasPages, AllOpened, placed_all};
+ghost use Rattle.domain_open.specs.Placing.{HasPool, HasPages, AllOpened, placed_all};
 
 use crate::placement::Placement;
 use crate::segments::{REGIONS, has_region};
-use image_check::{Checked, Segment};
+use image_check::{Checked, Hardware, Own, Segment};
 use kernel_call::Domain;
 use phys_mem::PhysMem;
 use tp_base::FrameNo;
@@ -34,13 +36,21 @@ pub fn load_pages(image: &Checked, domains: &[Domain], memory: &mut PhysMem)
     let mut left = public.domains as usize;
     while left > 0 {
         left -= 1;
-        let placement = Placement::new(
-            &public.hardware,
-            image.own(left),
-            domains[left].pool.frames(),
-        );
-        place_domain(memory, &placement);
+        load_domain(&public.hardware, image.own(left), &domains[left], memory);
     }
+}
+
+/// Places the page tables and pages of one domain in its frames.
+pub fn load_domain(hardware: &Hardware, own: &Own, domain: &Domain, memory: &mut PhysMem)
+    requires has_pool { HasPool (hardware_model hardware.now) (own_model own.now) }
+    requires has { Has (estate (hardware_model hardware.now) (own_model own.now)) domain.now }
+    requires size { memory.old.frames ≡ hardware.now.frames }
+    ensures size { memory.new.frames ≡ memory.old.frames }
+    ensures placed { (m : Mem) → Holds memory.old m
+        → Holds memory.new (spec.placed (hardware_model hardware.now) (own_model own.now) m) }
+{
+    let placement = Placement::new(hardware, own, domain.pool.frames());
+    place_domain(memory, &placement);
 }
 
 // Places a domain's page tables and pages in its frames.

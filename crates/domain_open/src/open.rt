@@ -36,7 +36,7 @@ const CLONE_FRAMES: u32 = 4;
 ///
 /// # Errors
 /// `Memory` where no memory is left for what it keeps; the share is spent then.
-fn open_domain(
+pub fn open_domain(
     alloc: Global,
     hardware: &Hardware,
     own: &Own,
@@ -64,7 +64,8 @@ fn open_domain(
     let mut kept = Vec::with_capacity(alloc, (CLONE_FRAMES + pages) as usize)?;
     let mut tables = Vec::with_capacity(alloc, regions as usize)?;
     let mut caps = lines_of(alloc, own)?;
-    let interrupts = IrqPart::new(alloc, &[])?;
+    let moments = own.moments.as_slice();
+    let interrupts = IrqPart::new(alloc, moments)?;
     take_into(&mut kept, &mut pool, memory, CLONE_FRAMES);
     let layout = layout_of(hardware, kept.as_slice());
     let root = take_one(&mut pool, memory);

@@ -18,15 +18,15 @@ use Rattle.domain_step.specs.Kept.{Setting, Kept, KeptOf}
 use Rattle.domain_step.specs.Moves.{Yields, Left}
 
 -- frames that are used as they were still are the domain's
-has_still : (e : Estate) (old new : Domain) → Has e old → KeepsFrames old new → Has e new
-has_still e old new has keeps = record {
-  root = keeps.map ∙ has.root;
-  pool = keeps.pool ∙ has.pool ∙ ap (λ (caps : Slots). record { share = e.share; free = free_frames e caps }) (sym keeps.caps);
-  slots = ap length keeps.caps ∙ has.slots;
+pub has_still : (e : Estate) (old new : Domain) → Has e old → new.caps ≡ old.caps → new.pool ≡ old.pool → new.map ≡ old.map → Has e new
+has_still e old new has caps pool map = record {
+  root = map ∙ has.root;
+  pool = pool ∙ has.pool ∙ ap (λ (slots : Slots). record { share = e.share; free = free_frames e slots }) (sym caps);
+  slots = ap length caps ∙ has.slots;
 }
 
 pub keeps_itself : (d : Domain) → KeepsFrames d d
-keeps_itself d = record { caps = refl; pool = refl; map = refl; layout = refl }
+keeps_itself d = record { caps = refl; pool = refl; map = refl; layout = refl; moments = refl }
 
 module _ {P : Type 0} (rule : P → ℕ → Rule) (stands : P → ℕ → ℕ → List ℕ → Type 0) (w : Setting) (old : Domain) (memory : Contents) (system : SystemContents P) (spent : ℕ) (s : Storage) (r : Touched)
     (k : KeptOf rule stands w old memory system spent s r) (root : ℕ) (top : root ≡ old.map) where
@@ -54,7 +54,7 @@ module _ {P : Type 0} (rule : P → ℕ → Rule) (stands : P → ℕ → ℕ �
           facts = record {
             estate = k.facts.estate;
             frames = k.facts.frames ∙ sym frames;
-            has = has_still e old new k.facts.has keeps;
+            has = has_still e old new k.facts.has keeps.caps keeps.pool keeps.map;
             holds = n.holds;
             facts = subst (λ (caps : Slots). Facts e.root (is_mine e) (claims e caps) t.mem) (sym keeps.caps) n.facts;
           };

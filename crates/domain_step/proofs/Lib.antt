@@ -6,3 +6,4 @@ mod Events
 mod Calls
 mod Moved
 mod TestLemmas
+pub mod Counts

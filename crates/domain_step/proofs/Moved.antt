@@ -1,28 +1,74 @@
 -- A domain in its slot, of the code and of the definitions.
-use Rattle.std.proofs.Common.{◌≡◌, ◌≢◌, ℕ, ◌+◌, ◌<◌, ◌≤◌, List, true, false, refl, sym, ap, subst, ◌∙◌, arith}
+use Rattle.std.proofs.Common.{◌≡◌, ◌≢◌, ℕ, zero, suc, ◌+◌, ◌<◌, ◌≤◌, List, [], ◌∷◌, length, Option, Some, None, leb, true, false, inl, inr, refl, sym, ap, subst, ◌∙◌, arith}
+use Rattle.std.specs.Prelude.{option_map, slice_get}
+use Rattle.std.proofs.lemmas.Bool.{cases_Bool}
+use Rattle.std.proofs.lemmas.Option.{none-some}
 use Rattle.phys_mem.specs.Contents.{Contents}
+use Rattle.irq_partition.specs.declared.Moment.{Moment}
+use Rattle.irq_partition.specs.Interrupts.{Interrupts, next_of, line_by, next_cycle, due}
+use Rattle.thread_set.specs.Threads.{is_ready}
+use Rattle.cap_table.specs.Slots.{Slots}
+use Rattle.cycle_cost.specs.Costs.{CostTable}
+use Rattle.kernel_clone.specs.Footprints.{Layout, WorkDone, delivery_op}
+use Rattle.kernel_clone.specs.declared.CloneLayout.{CloneLayout}
+use Rattle.kernel_clone.specs.Models.{layout_model}
+use Rattle.tlb_model.specs.Buffer.{Buffer}
 use Rattle.set_cache.specs.Rule.{Rule}
 use Rattle.mem_system.specs.Hierarchy.{Hierarchy}
-use Rattle.mem_system.specs.Cost.{Touched, at_no_cost, touched_all}
-use Rattle.mem_system.specs.Contents.{SystemContents, hierarchy_of}
+use Rattle.mem_system.specs.Cost.{Touch, Touched, at_no_cost, touched_all}
+use Rattle.mem_system.specs.Contents.{SystemContents, MakesTouches, hierarchy_of}
+use Rattle.mem_system.specs.Translation.{KeepsLeaves}
+use Rattle.cache_sharing.specs.Operations.{operation, plain}
 use Rattle.call_table.specs.declared.DomainStatus.{DomainStatus}
 use Rattle.call_table.specs.declared.DomainStatus.TheVariants.{Running, Exited, Stopped}
-use Rattle.call_table.specs.Domain.{Dom, is_running}
+use Rattle.call_table.specs.Domain.{Dom, is_running, delivered_on}
+use Rattle.call_table.specs.Claims.{is_mine, claims, Facts}
 use Rattle.kernel_call.specs.declared.domain.Domain.{Domain}
+use Rattle.kernel_call.specs.Models.{Becomes, Stands}
 use Rattle.world_view.specs.Cost.{hierarchy}
 use Rattle.world_view.specs.Kernel.{estate, layout}
-use Rattle.world_view.specs.Event.{Act, instruction}
-use Rattle.world_view.specs.Machine.{Local, paid, step, stretch}
-use Rattle.world_view.proofs.Fuel.{stretch_step, stretch_done}
-use Rattle.world_view.proofs.CodeLaws.{step-running, step-still}
+use Rattle.world_view.specs.Event.{Act, instruction, interrupts_of, idle_until, delivery_touches}
+use Rattle.world_view.specs.Machine.{Local, paid, delivered, step, stretch}
+use Rattle.world_view.proofs.Fuel.{IsTimed, idle_past, stretch_step, stretch_done}
+use Rattle.world_view.proofs.CodeLaws.{step-running, step-due, step-idle, step-still}
 use Rattle.domain_step.specs.Kept.{Setting, Fits, KeptOf}
 use Rattle.domain_step.specs.Moves.{Yields, Left, Leaves, StandsIn, Moves, Runs}
-use Rattle.domain_step.proofs.Charges.{owed}
+use Rattle.domain_step.proofs.Charges.{owed, fits_still, steps_there}
+use Rattle.domain_step.proofs.Events.{has_still}
 
 pub not_running : (status : DomainStatus) → status ≢ Running → is_running status ≡ false
 not_running Running other = absurd (other refl)
 not_running (Exited code) other = refl
 not_running (Stopped code pc value) other = refl
+
+-- ---- moments
+
+line_of_next : (now line : ℕ) (next : Option Moment) → line_by now next ≡ Some line → option_map (λ x. x.line) next ≡ Some line
+line_of_next now line None is = absurd (none-some line is)
+line_of_next now line (Some x) is =
+    elim (cases_Bool (leb x.at now)) [
+      | inl come ↦ rw come at is
+      | inr later ↦ absurd (none-some line (rw later at is))
+    ]
+
+-- what is due is the next moment's line
+pub due_line : (s : Interrupts) (now line : ℕ) → due now s ≡ Some line → option_map (λ x. x.line) (next_of s) ≡ Some line
+unfolding due
+due_line s now line is = line_of_next now line (next_of s) is
+
+left_of_next : (xs : List Moment) (n line : ℕ) → option_map (λ x. x.line) (slice_get xs n) ≡ Some line → n < length xs
+left_of_next [] n line is = absurd (none-some line is)
+left_of_next (x ∷ xs) zero line is = omega arith
+left_of_next (x ∷ xs) (suc n) line is = let rest = left_of_next xs n line is in omega (arith, rest)
+
+-- a moment that is due is left
+pub due_left : (s : Interrupts) (now line : ℕ) → due now s ≡ Some line → s.delivered < length s.moments
+due_left s now line is = left_of_next s.moments s.delivered line (due_line s now line is)
+
+-- where none is due, the next is later, and so is the end
+pub idle_later : (s : Interrupts) (now end : ℕ) → now < end → due now s ≡ None → now < idle_until end (next_cycle s)
+unfolding due next_cycle
+idle_later s now end early none = idle_past now end (next_of s) early none
 
 module _ {P : Type 0} (rule : P → ℕ → Rule) (stands : P → ℕ → ℕ → List ℕ → Type 0) where
   -- an instruction costs in the machine what it does in the hierarchy
@@ -35,17 +81,38 @@ module _ {P : Type 0} (rule : P → ℕ → Rule) (stands : P → ℕ → ℕ �
       → KeptOf rule stands w d memory system 0 s.storage (at_no_cost s.caches)
   opens w memory d system now s i = record { fits = i.fits; facts = i.facts; layout = i.layout; leaves = i.leaves; cost = refl; caches = i.caches }
 
+  -- the definitions' domain has the same interrupts, and the same current thread
+  module _ (w : Setting) (memory : Contents) (d : Domain) (system : SystemContents P) (now : ℕ) (s : Local) (i : StandsIn rule stands w memory d system now s) where
+    interrupts_there : interrupts_of w.own s.dom ≡ d.interrupts
+    unfolding interrupts_of
+    interrupts_there =
+        ap (λ (m : Dom). record { moments = w.own.moments; delivered = m.delivered; bits = m.bits }) (sym i.dom.same)
+        ∙ ap (λ (ms : List Moment). record { moments = ms; delivered = d.interrupts.delivered; bits = d.interrupts.bits }) (sym i.moments)
+
+    due_there : due s.clock (interrupts_of w.own s.dom) ≡ due now d.interrupts
+    due_there = ap (λ (t : ℕ). due t (interrupts_of w.own s.dom)) (sym i.time) ∙ ap (due now) interrupts_there
+
+    none_there : due now d.interrupts ≡ None → due s.clock (interrupts_of w.own s.dom) ≡ None
+    none_there none = due_there ∙ none
+
+    ready_there : (b : _) → is_ready d.threads.active.state ≡ b → is_ready s.dom.threads.current.state ≡ b
+    ready_there b is = ap (λ (m : Dom). is_ready m.threads.current.state) (sym i.dom.same) ∙ is
+
+    running_there : d.status ≡ Running → is_running s.dom.status ≡ true
+    running_there runs = ap (λ (m : Dom). is_running m.status) (sym i.dom.same) ∙ ap is_running runs
+
   module _ (end : ℕ) (memory memory' : Contents) (old new : Domain) (system system' : SystemContents P) where
     pub moves_running : (now later base spent : ℕ) → old.status ≡ Running
         → ((w : Setting) → Leaves w (instruction w.machine (estate w.machine w.own) (layout w.machine w.own) now)
         old (KeptOf rule stands w old memory system 0) new (KeptOf rule stands w new memory' system' spent))
+        → due now old.interrupts ≡ None → is_ready old.threads.active.state ≡ true → new.interrupts.moments ≡ old.interrupts.moments
         → base ≡ system'.core.costs.base → later ≡ now + base + spent
         → Moves rule stands (λ w. step w.machine w.own w.pinned end) memory old system now memory' new system' later
     unfolding paid
-    moves_running now later base spent runs leaves price is w s i =
+    moves_running now later base spent runs leaves none ready moments price is w s i =
         let K = KeptOf rule stands w new memory' system' spent in
         let does : ℕ → Dom → Act Dom = λ t m. instruction w.machine (estate w.machine w.own) (layout w.machine w.own) t m in
-        let running : is_running s.dom.status ≡ true = ap (λ (m : Dom). is_running m.status) (sym i.dom.same) ∙ ap is_running runs in
+        let running = running_there w memory old system now s i runs in
         let left : Yields w (does now s.dom) s.storage (at_no_cost s.caches) (Left new K) =
         subst (λ (m : Dom). Yields w (does now m) s.storage (at_no_cost s.caches) (Left new K)) i.dom.same
         (leaves w s.storage (at_no_cost s.caches) s.dom.readings s.dom.replies (opens w memory old system now s i) i.dom.readings i.dom.replies) in
@@ -55,13 +122,14 @@ module _ {P : Type 0} (rule : P → ℕ → Rule) (stands : P → ℕ → ℕ �
         let q = touched_all (hierarchy w.machine) w.pinned s.caches r.notes in
         let kept : K r.state q = subst (λ (x : Touched). K r.state x) (owed w s.caches r.notes) next.met.kept in
         let base_is : w.machine.costs.base ≡ base = same_base w memory' system' kept.fits ∙ sym price in
-        subst (StandsIn rule stands w memory' new system' later) (sym (step-running w.machine w.own w.pinned end s running)) (record {
+        subst (StandsIn rule stands w memory' new system' later) (sym (step-running w.machine w.own w.pinned end s running (none_there w memory old system now s i none) (ready_there w memory old system now s i true ready))) (record {
           fits = kept.fits;
           dom = next.met.dom;
           facts = kept.facts;
           layout = kept.layout;
           leaves = kept.leaves;
           caches = kept.caches;
+          moments = moments ∙ i.moments;
           time = omega (arith, is, i.time, base_is, kept.cost);
         })
 
@@ -81,7 +149,72 @@ module _ {P : Type 0} (rule : P → ℕ → Rule) (stands : P → ℕ → ℕ �
   moves_still end memory d system now still w s i =
       let stays : is_running s.dom.status ≡ false = ap (λ (m : Dom). is_running m.status) (sym i.dom.same) ∙ still in
       subst (StandsIn rule stands w memory d system end) (sym (step-still w.machine w.own w.pinned end s stays))
-      (record { fits = i.fits; dom = i.dom; facts = i.facts; layout = i.layout; leaves = i.leaves; caches = i.caches; time = refl })
+      (record { fits = i.fits; dom = i.dom; facts = i.facts; layout = i.layout; leaves = i.leaves; caches = i.caches; moments = i.moments; time = refl })
+
+  -- no thread is ready: the clock goes on alone
+  pub moves_idle : (end : ℕ) (memory : Contents) (d : Domain) (system : SystemContents P) (now later : ℕ) → d.status ≡ Running
+      → due now d.interrupts ≡ None → is_ready d.threads.active.state ≡ false → later ≡ idle_until end (next_cycle d.interrupts)
+      → Moves rule stands (λ w. step w.machine w.own w.pinned end) memory d system now memory d system later
+  moves_idle end memory d system now later runs none idle is w s i =
+      let same = interrupts_there w memory d system now s i in
+      subst (StandsIn rule stands w memory d system later)
+      (sym (step-idle w.machine w.own w.pinned end s (running_there w memory d system now s i runs) (none_there w memory d system now s i none) (ready_there w memory d system now s i false idle)))
+      (record {
+        fits = i.fits;
+        dom = i.dom;
+        facts = i.facts;
+        layout = i.layout;
+        leaves = i.leaves;
+        caches = i.caches;
+        moments = i.moments;
+        time = is ∙ ap (λ (x : Interrupts). idle_until end (next_cycle x)) (sym same);
+      })
+
+  module _ (end : ℕ) (memory : Contents) (old new : Domain) (system system' : SystemContents P) where
+    -- what a delivery touches in the machine
+    module _ (w : Setting) (k : CloneLayout) (work : WorkDone) (fits : Fits rule w memory system) (same : layout_model k ≡ layout w.machine w.own) (is : work ≡ plain delivery_op) where
+      touches_there : operation system.core.costs (layout_model k) work ≡ delivery_touches w.machine (layout w.machine w.own)
+      unfolding hierarchy delivery_touches
+      touches_there =
+          ap (λ (c : CostTable). operation c (layout_model k) work) (sym (ap (λ (h : Hierarchy). h.costs) fits.levels))
+          ∙ ap (λ (l : Layout). operation w.machine.costs l work) same
+          ∙ ap (λ (x : WorkDone). operation w.machine.costs (layout w.machine w.own) x) is
+
+    -- a moment is delivered
+    pub moves_due : (now later cycles line : ℕ) (work : WorkDone) → old.status ≡ Running → due now old.interrupts ≡ Some line
+        → Becomes (delivered_on line) old new → new.caps ≡ old.caps → new.pool ≡ old.pool → new.map ≡ old.map → new.layout ≡ old.layout
+        → new.interrupts.moments ≡ old.interrupts.moments → work ≡ plain delivery_op
+        → MakesTouches rule stands (operation system.core.costs (layout_model new.layout) work) cycles system system'
+        → system'.core.tlb ≡ system.core.tlb → later ≡ now + cycles
+        → Moves rule stands (λ w. step w.machine w.own w.pinned end) memory old system now memory new system' later
+    unfolding delivered
+    moves_due now later cycles line work runs comes becomes caps pool map clone moments is made buffer time w s i =
+        let e = estate w.machine w.own in
+        let ts = delivery_touches w.machine (layout w.machine w.own) in
+        let placed : layout_model new.layout ≡ layout w.machine w.own = ap (λ (c : CloneLayout). layout_model c) clone ∙ i.layout in
+        let makes : MakesTouches rule stands ts cycles system system' =
+        subst (λ (us : List Touch). MakesTouches rule stands us cycles system system') (touches_there w new.layout work i.fits placed is) made in
+        let steps = steps_there rule stands w memory system system' ts cycles s.caches makes i.fits (makes.steps s.caches i.caches) in
+        let dom : Stands new (delivered_on line s.dom) =
+        subst (λ (m : Dom). Stands new (delivered_on line m)) i.dom.same (becomes s.dom.readings s.dom.replies i.dom.readings i.dom.replies) in
+        let due_is = due_there w memory old system now s i ∙ comes in
+        subst (StandsIn rule stands w memory new system' later) (sym (step-due w.machine w.own w.pinned end s line (running_there w memory old system now s i runs) due_is)) (record {
+          fits = fits_still rule stands w memory system system' ts cycles makes i.fits;
+          dom = dom;
+          facts = record {
+            estate = i.facts.estate;
+            frames = i.facts.frames;
+            has = has_still e old new i.facts.has caps pool map;
+            holds = i.facts.holds;
+            facts = subst (λ (slots : Slots). Facts e.root (is_mine e) (claims e slots) s.storage.mem) (sym caps) i.facts.facts;
+          };
+          layout = placed;
+          leaves = subst (λ (b : Buffer P). KeepsLeaves s.storage.mem memory.frames new.map b) (sym buffer)
+              (subst (λ (n : ℕ). KeepsLeaves s.storage.mem memory.frames n system.core.tlb) (sym map) i.leaves);
+          caches = steps.next;
+          moments = moments ∙ i.moments;
+          time = omega (arith, time, i.time, steps.cost);
+        })
 
   module _ (end : ℕ) (memory : Contents) (old : Domain) (system : SystemContents P) (first : ℕ) where
     -- what of a stretch is left to do, from now on
@@ -89,9 +222,13 @@ module _ {P : Type 0} (rule : P → ℕ → Rule) (stands : P → ℕ → ℕ �
     GoesOn memory' now system' clock = (w : Setting) (s : Local) → StandsIn rule stands w memory old system first s
         → (x : Local) × StandsIn rule stands w memory' now system' clock x × (stretch w.machine w.own w.pinned end x ≡ stretch w.machine w.own w.pinned end s)
 
-    module _ (timed : 0 < system.core.costs.base) where
-      timed_there : (w : Setting) (s : Local) → StandsIn rule stands w memory old system first s → 0 < w.machine.costs.base
-      timed_there w s i = subst (λ (n : ℕ). 0 < n) (sym (same_base w memory system i.fits)) timed
+    module _ (base : 0 < system.core.costs.base) (trap : 0 < system.core.costs.trap) where
+      timed_there : (w : Setting) (s : Local) → StandsIn rule stands w memory old system first s → IsTimed w.machine
+      unfolding hierarchy
+      timed_there w s i = record {
+        base = subst (λ (n : ℕ). 0 < n) (sym (same_base w memory system i.fits)) base;
+        trap = subst (λ (n : ℕ). 0 < n) (sym (ap (λ (h : Hierarchy). h.costs.trap) i.fits.levels)) trap;
+      }
 
       pub goes_on : (between memory' : Contents) (now new : Domain) (middle system' : SystemContents P) (clock later : ℕ) → GoesOn between now middle clock → clock < end
           → Moves rule stands (λ w. step w.machine w.own w.pinned end) between now middle clock memory' new system' later → GoesOn memory' new system' later

@@ -59,6 +59,7 @@ module _ (i : Image) (r : Runnable i) (memory : Contents) (x : Domain) (opened :
           layout = opened.layout;
           leaves = leaves (opening i).storage.mem memory.frames x.map;
           caches = caches;
+          moments = opened.moments;
           time = refl;
         };
       }

@@ -1,3 +1,4 @@
 pub mod Stands
 pub mod Kept
 pub mod Moves
+pub mod Propositions

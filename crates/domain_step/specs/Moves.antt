@@ -82,6 +82,7 @@ pub record StandsIn {P : Type 0} (rule : P → ℕ → Rule) (stands : P → ℕ
   pub layout : layout_model d.layout ≡ layout w.machine w.own
   pub leaves : KeepsLeaves s.storage.mem memory.frames d.map system.core.tlb
   pub caches : SystemStands stands system s.caches
+  pub moments : d.interrupts.moments ≡ w.own.moments
   pub time : clock ≡ s.clock
 
 -- whatever the old ones stand for, in whatever setting, the new ones stand for f of it

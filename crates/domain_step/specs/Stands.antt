@@ -14,12 +14,13 @@ pub record Grows (a b c : ℕ) (old new : Domain) : Type 0 where
   pub readings : new.readings.count ≤ old.readings.count + b
   pub replies : new.replies.count ≤ old.replies.count + c
 
--- its frames are used as they were
+-- its frames are used as they were, and its moments are the same
 pub record KeepsFrames (old new : Domain) : Type 0 where
   pub caps : new.caps ≡ old.caps
   pub pool : new.pool ≡ old.pool
   pub map : new.map ≡ old.map
   pub layout : new.layout ≡ old.layout
+  pub moments : new.interrupts.moments ≡ old.interrupts.moments
 
 -- the most that an event takes, in cycles: an instruction's own, its look-up, its fetch, and what a call of the
 -- kernel charges, by the bounds of the calls that charge these

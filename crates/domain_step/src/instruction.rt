@@ -1,7 +1,8 @@
 // What traps, counters, kernel calls and instructions do to a domain.
-ghost use Rattle.std.specs.Prelude.{◌≡◌, ℕ, ◌+◌, ◌^◌, ◌<◌, ◌≤◌, List, length};
+ghost use Rattle.std.specs.Prelude.{◌≡◌, ℕ, ◌+◌, ◌^◌, ◌<◌, ◌≤◌, true, List, length};
 ghost use Rattle.phys_mem.specs.Mem.{Mem};
 ghost use Rattle.rv_core.specs.Registers.{register};
+ghost use Rattle.thread_set.specs.Threads.{is_ready};
 ghost use Rattle.kernel_clone.specs.Footprints.{IsLayout};
 ghost use Rattle.kernel_clone.specs.Models.{layout_model, IsWork};
 ghost use Rattle.call_table.specs.declared.Reply.{Reply};
@@ -120,6 +121,7 @@ pub fn finish(domain: &mut Domain, instr: Instr, value: u32, next: u32)
 fn answer(memory: &mut PhysMem, domain: &mut Domain) -> Outcome
     requires valid { Valid memory.old domain.old }
     requires frames { memory.old.frames ≤ 2 ^ 15 }
+    requires ready { is_ready domain.old.threads.active.state ≡ true }
     requires replies { domain.old.replies.count < 2 ^ 63 }
     ensures calls { (e : Estate) (readings : List ℕ) (replies : List Reply) (m : Mem)
         → HasFacts e memory.old m domain.old
@@ -129,7 +131,7 @@ fn answer(memory: &mut PhysMem, domain: &mut Domain) -> Outcome
     ensures work { IsWork result.work }
     ensures keeps { KeepsParts domain.old domain.new }
     ensures frames { memory.new.frames ≡ memory.old.frames }
-    ensures grows { Grows 0 0 1 domain.old domain.new }
+    ensures grows { Grows 0 0 2 domain.old domain.new }
 {
     let regs = &domain.threads.active.regs;
     let number = regs.get(17);
@@ -148,6 +150,7 @@ pub fn call<P: Policy>(
     requires valid { Valid memory.old domain.old }
     requires clone { IsLayout (layout_model domain.old.layout) }
     requires frames { memory.old.frames ≤ 2 ^ 15 }
+    requires ready { is_ready domain.old.threads.active.state ≡ true }
     requires replies { domain.old.replies.count < 2 ^ 63 }
     requires spent { spent.old < 2 ^ 31 }
     ensures leaves { (w : Setting) → Leaves w
@@ -155,7 +158,8 @@ pub fn call<P: Policy>(
         domain.old (KeptOf P.rule P.stands_for w domain.old memory.old system.old spent.old)
         domain.new (KeptOf P.rule P.stands_for w domain.new memory.new system.new spent.new) }
     ensures frames { memory.new.frames ≡ memory.old.frames }
-    ensures grows { Grows 0 0 1 domain.old domain.new }
+    ensures grows { Grows 0 0 2 domain.old domain.new }
+    ensures moments { domain.new.interrupts.moments ≡ domain.old.interrupts.moments }
     ensures few { spent.new ≤ spent.old + 1317000 }
 {
     let outcome = answer(memory, domain);

@@ -1,10 +1,11 @@
 // A domain in its slot.
-ghost use Rattle.std.specs.Prelude.{◌≡◌, ℕ, ◌+◌, ◌^◌, ◌<◌, ◌≤◌, List, None, Ok};
+ghost use Rattle.std.specs.Prelude.{◌≡◌, ℕ, ◌+◌, ◌^◌, ◌<◌, ◌≤◌, true, List, None, Ok};
 ghost use Rattle.phys_mem.specs.Contents.{Contents};
 ghost use Rattle.page_map.specs.Tables.{StandsWith};
 ghost use Rattle.rv_core.specs.Effect.{effect_of};
 ghost use Rattle.rv_core.specs.Memory.{address_of, misalignment_of};
 ghost use Rattle.rv_decode.specs.Ranges.{HasRegisters};
+ghost use Rattle.thread_set.specs.Threads.{is_ready};
 ghost use Rattle.cap_table.specs.Slots.{Slots};
 ghost use Rattle.call_table.specs.declared.Reply.{Reply};
 ghost use Rattle.kernel_call.specs.Models.{dom_model, CountsUpTo};
@@ -21,7 +22,8 @@ ghost use Rattle.domain_step.specs.Moves.{Yields, Answered, Finds, Leaves, Moves
 use crate::access::{load, store, translate};
 use crate::instruction::{call, counter_value, finish, stop};
 use call_table::DomainStatus;
-use kernel_call::Domain;
+use domain_switch::charge;
+use kernel_call::{Domain, deliver};
 use mem_system::MemSystem;
 use phys_mem::PhysMem;
 use rv_core::{Trap, address, misalignment};
@@ -171,13 +173,15 @@ fn run_instruction<P: Policy>(
     requires room { HasRoom domain.old }
     requires frames { memory.old.frames ≤ 2 ^ 15 }
     requires runs { Runs P.rule P.stands_for memory.old domain.old system.old now }
+    requires ready { is_ready domain.old.threads.active.state ≡ true }
     requires spent { spent.old < 2 ^ 28 }
     ensures leaves { (w : Setting) → Leaves w
         (event.instruction w.machine (estate w.machine w.own) (layout w.machine w.own) now)
         domain.old (KeptOf P.rule P.stands_for w domain.old memory.old system.old spent.old)
         domain.new (KeptOf P.rule P.stands_for w domain.new memory.new system.new spent.new) }
     ensures frames { memory.new.frames ≡ memory.old.frames }
-    ensures grows { Grows 1 1 1 domain.old domain.new }
+    ensures grows { Grows 1 1 2 domain.old domain.new }
+    ensures moments { domain.new.interrupts.moments ≡ domain.old.interrupts.moments }
     ensures few { spent.new ≤ spent.old + 1325000 }
 {
     let root = domain.map.root();
@@ -209,9 +213,23 @@ fn run_instruction<P: Policy>(
 
 // ---- a slot
 
+// When an idle domain goes on: at its next moment, or at the slot's end where
+// that is sooner.
+fn idle_until(end: u64, next: Option<u64>) -> u64
+    ensures value { result ≡ event.idle_until end next }
+{
+    match next {
+        Some(next) => next.min(end),
+        None => end,
+    }
+}
+
 /// One event of the domain in a slot that ends then. Answers the new clock, in
-/// cycles: a domain that runs pays the cost of an instruction and all that it
-/// charged, which may be past the end; one that doesn't waits for the end.
+/// cycles. Of a domain that runs, a moment that is due is delivered, and the
+/// delivery charged; else, where no thread is ready, the clock goes on to the
+/// next moment or the end; else the current thread runs an instruction, which
+/// with all that it charges may be past the end. One that doesn't run waits for
+/// the end.
 pub fn step<P: Policy>(
     memory: &mut PhysMem,
     system: &mut MemSystem<P>,
@@ -234,14 +252,19 @@ pub fn step<P: Policy>(
     ensures later { now < result }
     ensures soon { result < end + most_cycles }
 {
-    match domain.status {
-        DomainStatus::Running => {
-            let mut spent = 0;
-            run_instruction(memory, system, domain, &mut spent, now);
-            now + u64::from(system.costs().base) + u64::from(spent)
-        }
-        _ => end,
+    let DomainStatus::Running = domain.status else {
+        return end;
+    };
+    if let Some(_line) = domain.interrupts.due(now) {
+        let work = deliver(domain);
+        return now + u64::from(charge(system, &domain.layout, &work));
     }
+    if !domain.threads.active.state.is_ready() {
+        return idle_until(end, domain.interrupts.next_moment());
+    }
+    let mut spent = 0;
+    run_instruction(memory, system, domain, &mut spent, now);
+    now + u64::from(system.costs().base) + u64::from(spent)
 }
 
 /// Events while the clock is below the end. Answers the clock after them.

@@ -114,12 +114,15 @@ module _ {P : Type 0} (rule : P → ℕ → Rule) (stands : P → ℕ → ℕ �
 
   -- ---- a switch
 
-  pub leaves : (costs : CostTable) (l : Layout) (w : WorkDone) (out : Option Layout) (a : ℕ) (old new : SystemContents P) → out ≡ Some l → w ≡ plain leave_op
-      → MakesTouches rule stands (operation costs l w) a old new → MakesTouches rule stands (leave_if costs out) a old new
-  unfolding leave_if leave
-  leaves costs l w out a old new is work made =
-      subst (λ (o : Option Layout). MakesTouches rule stands (leave_if costs o) a old new) (sym is)
-      (subst (λ (one : WorkDone). MakesTouches rule stands (operation costs l one) a old new) work made)
+  pub leaves : (costs : CostTable) (l : Layout) (w : WorkDone) (a : ℕ) (old new : SystemContents P) → w ≡ plain leave_op
+      → MakesTouches rule stands (operation costs l w) a old new → MakesTouches rule stands (leave costs l) a old new
+  unfolding leave
+  leaves costs l w a old new work made = subst (λ (one : WorkDone). MakesTouches rule stands (operation costs l one) a old new) work made
+
+  pub leaves_some : (costs : CostTable) (l : Layout) (out : Option Layout) (a : ℕ) (old new : SystemContents P) → out ≡ Some l
+      → MakesTouches rule stands (leave costs l) a old new → MakesTouches rule stands (leave_if costs out) a old new
+  unfolding leave_if
+  leaves_some costs l out a old new is made = subst (λ (o : Option Layout). MakesTouches rule stands (leave_if costs o) a old new) (sym is) made
 
   pub leaves_none : (costs : CostTable) (out : Option Layout) (kept : SystemContents P) → out ≡ None → MakesTouches rule stands (leave_if costs out) 0 kept kept
   unfolding leave_if

@@ -1,5 +1,5 @@
 // The charge of an operation's footprint, line by line.
-ghost use Rattle.std.specs.Prelude.{◌≡◌, ◌≤◌, ◌*◌, length};
+ghost use Rattle.std.specs.Prelude.{◌≡◌, ◌<◌, ◌≤◌, ◌*◌, length};
 ghost use Rattle.kernel_clone.specs.Footprints.{IsLayout};
 ghost use Rattle.kernel_clone.specs.Models.{layout_model, work_model, IsWork};
 ghost use Rattle.mem_system.specs.Contents.{MakesTouch, MakesTouches};
@@ -19,6 +19,7 @@ pub fn charge<P: Policy>(system: &mut MemSystem<P>, layout: &CloneLayout, work: 
         (operation system.old.core.costs (layout_model layout.now) (work_model work.now)) result
         system.old system.new }
     ensures buffer { system.new.core.tlb ≡ system.old.core.tlb }
+    ensures some { 0 < result }
     ensures few { result ≤ 1317000 }
 {
     let trap = system.costs().trap;

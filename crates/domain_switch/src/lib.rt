@@ -7,7 +7,7 @@ mod charging;
 mod switching;
 
 pub use charging::charge;
-pub use switching::{Switched, switch};
+pub use switching::{Switched, enter, leave, switch};
 
 #[cfg(test)]
 mod tests;

@@ -7,7 +7,7 @@ ghost use Rattle.kernel_clone.specs.Models.{layout_model, work_model, IsWork};
 ghost use Rattle.mem_system.specs.Cost.{Caches, touched_all};
 ghost use Rattle.mem_system.specs.Contents.{SystemStands, MakesTouches, hierarchy_of};
 ghost use Rattle.mem_system.specs.Translation.{KeepsLeaves};
-ghost use Rattle.cache_sharing.specs.Operations.{plain, shared_region, prefetch, leave_if};
+ghost use Rattle.cache_sharing.specs.Operations.{plain, shared_region, prefetch};
 ghost use Rattle.cache_sharing.specs.Operations as spec;
 ghost use Rattle.domain_switch.specs.Switch.{IsCloneOn, IsInTime, IsSwitched, layout_if};
 
@@ -63,10 +63,10 @@ pub fn switch<P: Policy>(
     ensures later { now ≤ old_end + result.used }
     ensures few { old_end + result.used < now + 2 ^ 33 }
 {
-    let left = leave(system, out);
+    let left = leave_if(system, out);
     let loaded = prefetch(system, into, shared);
     let flushed = system.flush();
-    let entered = charge_footprint(system, into, &work_of(ENTER));
+    let entered = enter(system, into);
     let work = u64::from(left) + u64::from(loaded) + u64::from(flushed) + u64::from(entered);
     let done = now + work;
     Switched {
@@ -75,15 +75,38 @@ pub fn switch<P: Policy>(
     }
 }
 
-/// Charges that a clone leaves, if there is one. Answers the cycles.
-fn leave<P: Policy>(system: &mut MemSystem<P>, out: Option<&CloneLayout>) -> u32
+/// Charges that a clone enters. Answers the cycles.
+pub fn enter<P: Policy>(system: &mut MemSystem<P>, layout: &CloneLayout) -> u32
+    requires layout { IsLayout (layout_model layout.now) }
+    ensures makes { MakesTouches P.rule P.stands_for (spec.enter (layout_model layout.now))
+        result system.old system.new }
+    ensures buffer { system.new.core.tlb ≡ system.old.core.tlb }
+    ensures few { result ≤ 1316000 }
+{
+    charge_footprint(system, layout, &work_of(ENTER))
+}
+
+/// Charges that a clone leaves. Answers the cycles.
+pub fn leave<P: Policy>(system: &mut MemSystem<P>, layout: &CloneLayout) -> u32
+    requires layout { IsLayout (layout_model layout.now) }
+    ensures makes { MakesTouches P.rule P.stands_for
+        (spec.leave system.old.core.costs (layout_model layout.now)) result system.old system.new }
+    ensures buffer { system.new.core.tlb ≡ system.old.core.tlb }
+    ensures few { result ≤ 1317000 }
+{
+    charge(system, layout, &work_of(LEAVE))
+}
+
+// Charges that a clone leaves, if there is one. Answers the cycles.
+fn leave_if<P: Policy>(system: &mut MemSystem<P>, out: Option<&CloneLayout>) -> u32
     requires layout { IfSome (option_copied out) (λ clone. IsLayout (layout_model clone)) }
     ensures makes { MakesTouches P.rule P.stands_for
-        (leave_if system.old.core.costs (layout_if (option_copied out.entry))) result system.old system.new }
+        (spec.leave_if system.old.core.costs (layout_if (option_copied out.entry)))
+        result system.old system.new }
     ensures few { result ≤ 1317000 }
 {
     match out {
-        Some(clone) => charge(system, clone, &work_of(LEAVE)),
+        Some(clone) => leave(system, clone),
         None => 0,
     }
 }

@@ -1,4 +1,3 @@
-pub mod FrameWords
 pub mod Elements
 pub mod SwitchCounts
 pub mod Openings

@@ -42,6 +42,7 @@ module _ (i : Image) (r : Runnable i) where
         subst (Stands x) (sym (whole_first-dom i d (separated i r) within)) (opened.each d x got).stands;
     each_estate = λ d x got. (opened.each d x got).has;
     each_layout = λ d x got. (opened.each d x got).layout;
+    each_moments = λ d x got. (opened.each d x got).moments;
     all_entries = all;
     each_entry = unused;
     time = refl;

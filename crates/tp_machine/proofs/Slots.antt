@@ -1,14 +1,13 @@
 -- One slot, of the code's machine and of the definitions.
-use Rattle.std.proofs.Common.{◌≡◌, ℕ, suc, ◌+◌, ◌-◌, ◌<◌, ◌≤◌, List, [], ◌∷◌, ◌++◌, length, map, get_or, Option, Some, sym, ap, ap₂, subst, subst₂, ◌∙◌, arith, add-one}
-use Rattle.std.specs.List.{slice_get, All}
+use Rattle.std.proofs.Common.{◌≡◌, ℕ, suc, ◌+◌, ◌-◌, ◌<◌, ◌≤◌, List, [], ◌∷◌, ◌++◌, length, map, Option, Some, sym, ap, ap₂, subst, subst₂, ◌∙◌, arith, add-one}
+use Rattle.std.specs.List.{slice_get}
 use Rattle.std.proofs.Math.ListN.{set}
 use Rattle.std.proofs.lemmas.List.{length-set}
 use Rattle.std.proofs.lemmas.Option.{slice_get_within}
 use Rattle.tp_base.specs.Table.{at}
-use Rattle.phys_mem.specs.Contents as contents
 use Rattle.phys_mem.specs.Contents.{Contents}
 use Rattle.phys_mem.specs.Holds.{Holds}
-use Rattle.phys_mem.specs.Mem.{Mem, frame_at}
+use Rattle.phys_mem.specs.Mem.{Mem}
 use Rattle.repl_policy.specs.declared.AnyPolicy.{AnyPolicy}
 use Rattle.repl_policy.specs.Members.{any_rule, any_stands_for}
 use Rattle.kernel_clone.specs.Models.{layout_model}
@@ -18,22 +17,14 @@ use Rattle.mem_system.specs.Translation.{KeepsLeaves}
 use Rattle.kernel_clone.specs.Footprints.{Layout}
 use Rattle.cache_sharing.specs.Operations as operations
 use Rattle.domain_switch.specs.Switch.{IsCloneOn, IsInTime, IsSwitched}
-use Rattle.hardware_check.specs.Hardware.{Hardware}
-use Rattle.image_check.specs.Own.{Own}
 use Rattle.image_check.specs.Image.{Image, own_of}
-use Rattle.image_check.specs.Pages.{share_of}
-use Rattle.frame_colours.specs.Colours as colours
-use Rattle.frame_colours.specs.Colours.{Share}
-use Rattle.frame_colours.specs.FreeList.{FreeList}
-use Rattle.thread_set.specs.Threads.{all_of}
 use Rattle.cap_table.specs.Slots.{Slots}
 use Rattle.call_table.specs.Domain.{Dom}
 use Rattle.call_table.specs.Claims.{is_mine, claims, Facts}
-use Rattle.kernel_call.specs.Logs.{log_of}
-use Rattle.kernel_call.specs.Models.{dom_model, Stands, CountsUpTo}
+use Rattle.kernel_call.specs.Models.{Stands, CountsUpTo}
 use Rattle.kernel_call.specs.Facts.{Has, HasFacts}
 use Rattle.kernel_call.specs.declared.domain.Domain.{Domain}
-use Rattle.world_view.specs.Frames.{pool, root_of}
+use Rattle.world_view.specs.Frames.{root_of}
 use Rattle.world_view.specs.Kernel.{estate, layout, no_dom}
 use Rattle.world_view.specs.Relations.{IsDomain}
 use Rattle.world_view.proofs.OpeningFacts.{kernel_of}
@@ -42,24 +33,19 @@ use Rattle.world_view.proofs.ResidencyLaws.{begun_resident}
 use Rattle.world_view.proofs.TableLaws.{root_is}
 use Rattle.world_view.proofs.TimeLaws.{on_time}
 use Rattle.sched_table.specs.Schedule.{entry_of_slot, switch_entry, start, last_end, outgoing}
-use Rattle.world_view.specs.Opening.{frame_words}
 use Rattle.world_view.specs.Event.{Storage}
 use Rattle.world_view.specs.Machine.{Local, stretch, clone_of, run_slot, whole, dom_of}
-use Rattle.world_view.specs.View.{View, view}
 use Rattle.image_check.specs.Laws.{Runnable}
 use Rattle.world_view.proofs.Separate.{separated}
 use Rattle.world_view.proofs.CodeLaws.{work, switch-doms, switch-storage, switch-caches, slot_begun, slot_over, run_slot-dom_same, run_slot-dom_other, run_slot-storage, run_slot-clock, run_slot-caches, run_slot-used}
-use Rattle.world_view.proofs.PoolLaws.{in_pool}
 use Rattle.sched_table.specs.declared.schedule.Entry.{Entry}
 use Rattle.world_view.specs.declared.view.Used.{Used}
-use Rattle.world_view.specs.Models.{seen_of}
 use Rattle.domain_step.specs.Moves.{StandsIn, Moves}
 use Rattle.tp_machine.specs.Usage.{IsUsed, CountedUpTo}
 use Rattle.tp_machine.specs.Worlds.{Kept, kept, setting, KeepsBuffer, StandsFor, HaveFacts, StaysResident, IsInBounds}
 use Rattle.tp_machine.proofs.Switches.{clone_on, work_is, is_in_time, ended}
+use Rattle.domain_step.proofs.Counts.{counts_later}
 use Rattle.tp_machine.proofs.Elements.{each_set}
-use Rattle.domain_open.proofs.PoolReads.{either_default}
-use Rattle.tp_machine.proofs.FrameWords.{frames_are}
 
 -- ---- the slot
 
@@ -164,6 +150,7 @@ module _ (i : Image) (r : Runnable i) (k : ℕ) (s : Kept) (is : StandsFor i k s
         layout = is.each_layout d x got;
         leaves = begins.leaves now_at.storage.mem s.memory.frames x.map;
         caches = subst (SystemStands any_stands_for system) (sym (switch-caches i k w)) begins.caches;
+        moments = is.each_moments d x got;
         time = begins.now_is ∙ sym (on_time i (separated i r) k);
       }
 
@@ -204,6 +191,10 @@ module _ (i : Image) (r : Runnable i) (k : ℕ) (s : Kept) (is : StandsFor i k s
               over.layout
               (λ j y apart h. h)
               is.each_layout;
+          each_moments = each_set (λ j y. y.interrupts.moments ≡ (own_of i j).moments) (λ j y. y.interrupts.moments ≡ (own_of i j).moments) s.domains e.domain new within
+              over.moments
+              (λ j y apart h. h)
+              is.each_moments;
           all_entries = long ∙ is.all_entries;
           each_entry = subst (IsUsed used') (sym switches) (noted w.used is.each_entry);
           time = over.time ∙ sym (run_slot-clock i k w);
@@ -237,9 +228,6 @@ resident_at i r k = begun_resident i (separated i r) k
 
 -- ---- bounds
 
-pub counts_later : (clock later : ℕ) (d : Domain) → clock ≤ later → CountsUpTo clock d → CountsUpTo later d
-counts_later clock later d h few = record { retired = omega (arith, few.retired); readings = omega (arith, few.readings); replies = omega (arith, few.replies) }
-
 pub in_bounds_next : (k : ℕ) (s : Kept) (memory' : Contents) (system' : SystemContents AnyPolicy) (used' : List Used) (d : ℕ) (new : Domain) (later : ℕ)
     → IsInBounds k s → k < 65536 → d < length s.domains → s.clock ≤ later → CountsUpTo later new → ((n : ℕ) → CountedUpTo n s.used → CountedUpTo (n + 1) used')
     → IsInBounds (k + 1) (kept memory' system' (set s.domains d new) used' later)
@@ -248,25 +236,3 @@ in_bounds_next k s memory' system' used' d new later was left within passed few 
   few_calls = each_set (λ j y. CountsUpTo s.clock y) (λ j y. CountsUpTo later y) s.domains d new within few (λ j y apart h. counts_later s.clock later y passed h) was.few_calls;
   few_switches = counted k was.few_switches;
 }
-
--- ---- what is seen
-
-share_is : (p : Hardware) (o : Own) (x : Domain) → Has (estate p o) x → x.pool.share ≡ share_of p o
-unfolding estate
-share_is p o x has = ap (λ (list : FreeList). list.share) has.pool
-
-pub view_is : (x : Domain) (m : Dom) (p : Hardware) (o : Own) (memory : Contents) (s : Storage) → Stands x m → Has (estate p o) x → Holds memory s.mem → memory.frames ≡ p.frames
-    → seen_of x memory ≡ view p o m s
-unfolding view
-view_is x m p o memory s stands has holds frames =
-    let fs = map (λ f. frame_words (frame_at s.mem f)) (pool p o) in
-    let seen : Dom → View = λ d. record { status = d.status; retired = d.retired; threads = all_of d.threads; readings = log_of m.readings; replies = log_of m.replies; printed = d.printed; pool = pool p o; frames = fs } in
-    let same : seen (dom_model x m.readings m.replies) ≡ seen m = ap seen stands.same in
-    let words : map (contents.frame_words memory) (pool p o) ≡ fs =
-    frames_are memory s.mem (pool p o) holds (λ n h. subst (λ (size : ℕ). get_or (pool p o) n 0 < size) (sym frames) (in_pool p o n h)) in
-    rw (share_is p o x has, stands.readings, stands.replies, words) same
-
-pub pool_in_memory : (p : Hardware) (o : Own) (x : Domain) (memory : Contents) → Has (estate p o) x → memory.frames ≡ p.frames → All (λ f. f < memory.frames) (colours.pool x.pool.share)
-pool_in_memory p o x memory has frames =
-    subst (λ (s : Share). All (λ f. f < memory.frames) (colours.pool s)) (sym (share_is p o x has))
-    (λ k d h. subst₂ (λ (f size : ℕ). f < size) (either_default (pool p o) k 0 d h) (sym frames) (in_pool p o k h))

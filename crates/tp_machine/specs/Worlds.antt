@@ -55,6 +55,7 @@ pub record StandsFor (i : Image) (slots : ℕ) (k : Kept) : Type 0 where
   pub each_domain : (d : ℕ) (x : Domain) → slice_get k.domains d ≡ Some x → Stands x (dom_of (whole i slots) d)
   pub each_estate : (d : ℕ) (x : Domain) → slice_get k.domains d ≡ Some x → Has (estate i.all.hardware (own_of i d)) x
   pub each_layout : (d : ℕ) (x : Domain) → slice_get k.domains d ≡ Some x → layout_model x.layout ≡ layout i.all.hardware (own_of i d)
+  pub each_moments : (d : ℕ) (x : Domain) → slice_get k.domains d ≡ Some x → x.interrupts.moments ≡ (own_of i d).moments
   pub all_entries : length k.used ≡ length i.all.schedule
   pub each_entry : IsUsed k.used (whole i slots).used
   pub time : k.clock ≡ (whole i slots).clock

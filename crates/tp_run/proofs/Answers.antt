@@ -1,5 +1,5 @@
 -- What is due, from what was read and what was written.
-use Rattle.std.proofs.Common.{◌≡◌, ◌≢◌, ℕ, ◌+◌, ◌-◌, ◌^◌, ◌<◌, ◌≤◌, leb, true, false, List, [], ◌++◌, ◌∷◌, length, Option, Some, None, Result, Ok, Err, refl, sym, ap, ◌∙◌, subst, arith, ◌⊎◌, inl, inr}
+use Rattle.std.proofs.Common.{◌≡◌, ◌≢◌, ℕ, ◌+◌, ◌-◌, ◌^◌, ◌<◌, ◌≤◌, leb, ltb, Bool, if◌then◌else◌, true, false, List, [], ◌++◌, ◌∷◌, length, Option, Some, None, Result, Ok, Err, refl, sym, ap, ◌∙◌, subst, arith, ◌⊎◌, inl, inr}
 use Rattle.std.specs.Prelude.{OnOk, OnErr, slice_get}
 use Rattle.std.proofs.lemmas.List.{length-append, append-nil}
 use Rattle.std.proofs.lemmas.Option.{same_Some}
@@ -12,23 +12,26 @@ use Rattle.image_text.specs.declared.refusal.Refusal.{Refusal}
 use Rattle.image_text.specs.Record as text
 use Rattle.image_check.specs.Pads.{shape_of}
 use Rattle.image_check.specs.Public.{public_of}
-use Rattle.image_check.specs.Image.{Image, image_from}
+use Rattle.image_check.specs.Image.{Image, own_of, image_from}
 use Rattle.world_view.specs.Reading.{image, checked, unless_broken, most_bytes}
 use Rattle.world_view.specs.Machine.{whole}
+use Rattle.world_view.specs.View.{view_whole}
+use Rattle.world_view.specs.Relations.{IsDomain}
 use Rattle.image_check.specs.Laws.{Runnable}
 use Rattle.world_view.proofs.Separate.{separated}
 use Rattle.world_view.proofs.ReadingLaws.{read_runs}
 use Rattle.world_view.proofs.WholeLaws.{isolated}
 use Rattle.world_view.proofs.TimeLaws.{used_within, on_time, largest_within}
-use Rattle.tp_report.specs.Report.{report, bound_text, bound_in_parts, usage_text, refusal_text, too_long_text}
+use Rattle.tp_report.specs.Texts.{section}
+use Rattle.tp_report.specs.Report.{report, section_of, bound_text, bound_in_parts, usage_text, refusal_text, too_long_text}
 use Rattle.tp_report.proofs.ReportLaws.{reported_apart}
 use Rattle.tp_run.specs.declared.Command.{Command}
-use Rattle.tp_run.specs.declared.Command.TheVariants.{Check, Bound, Run}
+use Rattle.tp_run.specs.declared.Command.TheVariants.{Check, Bound, Run, Alone}
 use Rattle.tp_run.specs.declared.status.Status.{Status}
 use Rattle.tp_run.specs.declared.status.Status.TheVariants.{Done, Refused, Usage, ReadFault, WriteFault, Memory, TooLong}
 use Rattle.tp_run.specs.Reading.{broken_for, broken_in, checked_for, image_for}
-use Rattle.tp_run.specs.Answer.{Answer, answer, answer_by, answer_of_bytes, answer_unless_broken, answer_of_image, command}
-use Rattle.tp_run.specs.TopCall.{Writes, EndsUsage, Delivers, ComesTo, ReadsImage, Refuses, Accepts, Bounds, Isolated, Padded}
+use Rattle.tp_run.specs.Answer.{Answer, answer, answer_by, answer_of_bytes, answer_unless_broken, answer_of_image, answer_alone, section_alone, command}
+use Rattle.tp_run.specs.TopCall.{Writes, EndsUsage, Delivers, MayBeUsage, ComesTo, ReadsImage, Refuses, Accepts, Bounds, Isolated, Padded, LacksDomain, WritesSection, SameSection}
 
 -- ---- what was written
 
@@ -135,6 +138,15 @@ pub found_due : (c : Command) (found : Result Image Refusal) (i : Image) → fou
 unfolding answer_unless_broken
 found_due c found i read = rw read
 
+-- a domain of the image is run alone, and of another there is nothing to tell
+pub alone_due : (d n : ℕ) (i : Image) → IsDomain i d → answer_of_image (Alone d n) i ≡ (Done, section_alone i d n)
+unfolding answer_of_image answer_alone
+alone_due d n i is = let test : ltb d (length i.owns) ≡ true = grind (arith, nat_tests) in rw test
+
+pub lacks_due : (d n : ℕ) (i : Image) → length i.owns ≤ d → answer_of_image (Alone d n) i ≡ (Usage, usage_text)
+unfolding answer_of_image answer_alone
+lacks_due d n i lacks = let test : ltb d (length i.owns) ≡ false = grind (arith, nat_tests) in rw test
+
 -- the same is due to all bytes of a source as to those that were taken
 pub same_due : (words : List (List ℕ)) (c : Command) (bytes items : List ℕ) (rest : Option (List ℕ)) → command words ≡ Some c → Some bytes ≡ before_known items rest → (length items ≤ most_bytes → AtEnd rest)
     → answer_of_bytes c items ≡ answer words bytes
@@ -156,21 +168,33 @@ usage_delivers words bytes result old new none = subst (λ due. Delivers due res
 abbrev IsOfImage : Status → Type 0
 IsOfImage Done = Unit {0}
 IsOfImage Refused = Unit {0}
+IsOfImage Usage = Unit {0}
 IsOfImage _ = ⊥
 
+-- one answer or the other, by a test: what is so of both statuses is so of its status
+abbrev chosen : Bool → Answer → Answer → Answer
+chosen test x y = if test then x else y
+
+of_chosen : (P : Status → Type 0) (test : Bool) (x y : Answer) → P x.0 → P y.0 → P (chosen test x y).0
+of_chosen P true x y p q = p
+of_chosen P false x y p q = q
+
 of_image : (c : Command) (found : Result Image Refusal) → IsOfImage (answer_unless_broken c found).0
-unfolding answer_unless_broken answer_of_image
+unfolding answer_unless_broken answer_of_image answer_alone
 of_image Check (Ok i) = tt
 of_image Bound (Ok i) = tt
 of_image (Run n) (Ok i) = tt
+of_image (Alone d n) (Ok i) = of_chosen IsOfImage (ltb d (length i.owns)) (Done, section_alone i d n) (Usage, usage_text) tt tt
 of_image c (Err r) = tt
 
--- usage is due to no bytes
-pub no_usage : (c : Command) (items : List ℕ) → Usage ≡ (answer_of_bytes c items).0 → ⊥
-no_usage c items e = elim (cases_lt most_bytes (length items)) [
-  | inl over ↦ let same = e ∙ ap (λ (a : Answer). a.0) (too_long_due items c over) in absurd (cc same)
-  | inr few ↦ subst IsOfImage (sym (e ∙ ap (λ (a : Answer). a.0) (image_due items c few))) (of_image c (image_for c items))
-]
+-- usage is due to no image, but where a domain is named
+usage_of : (c : Command) (found : Result Image Refusal) → Usage ≡ (answer_unless_broken c found).0 → MayBeUsage (Some c)
+unfolding answer_unless_broken answer_of_image
+usage_of Check (Ok i) e = cc e
+usage_of Bound (Ok i) e = cc e
+usage_of (Run n) (Ok i) e = cc e
+usage_of (Alone d n) found e = tt
+usage_of c (Err r) e = absurd (cc e)
 
 -- another status than TooLong is due to all bytes of an image
 pub is_few : (c : Command) (items : List ℕ) (status : Status) → status ≡ (answer_of_bytes c items).0 → status ≢ TooLong → length items ≤ most_bytes
@@ -206,10 +230,19 @@ too_long_reads c items result old new d over =
     let due : (TooLong ≡ (answer_of_bytes c items).0) × (new.written ≡ after_known old.written (answer_of_bytes c items).1) = subst (λ s. Writes s (answer_of_bytes c items) old.written new.written) over d.wrote in
     is_over c items due.0
 
-pub is_no_usage : (c : Command) (items : List ℕ) (result : Status) (old new : SinkState) → Delivers (answer_of_bytes c items) result old new → result ≡ Usage → ⊥
-is_no_usage c items result old new d usage =
-    let due : (Usage ≡ (answer_of_bytes c items).0) × (new.written ≡ after_known old.written (answer_of_bytes c items).1) = subst (λ s. Writes s (answer_of_bytes c items) old.written new.written) usage d.wrote in
-    no_usage c items due.0
+usage_is_due : (due : Answer) (result : Status) (old new : SinkState) → Delivers due result old new → result ≡ Usage → (Usage ≡ due.0) × (new.written ≡ after_known old.written due.1)
+usage_is_due due result old new d usage = subst (λ s. Writes s due old.written new.written) usage d.wrote
+
+pub usage_reads : (c : Command) (items : List ℕ) (result : Status) (old new : SinkState) → Delivers (answer_of_bytes c items) result old new → result ≡ Usage → length items ≤ most_bytes
+usage_reads c items result old new d usage =
+    let due = usage_is_due (answer_of_bytes c items) result old new d usage in is_few c items Usage due.0 (λ e. cc e)
+
+-- words that are a command have the usage line only where they name a domain
+pub may_be_usage : (c : Command) (items : List ℕ) (result : Status) (old new : SinkState) → Delivers (answer_of_bytes c items) result old new → result ≡ Usage → MayBeUsage (Some c)
+may_be_usage c items result old new d usage =
+    let due = usage_is_due (answer_of_bytes c items) result old new d usage in
+    let few = usage_reads c items result old new d usage in
+    usage_of c (image_for c items) (due.0 ∙ ap (λ (a : Answer). a.0) (image_due items c few))
 
 -- words that are no command
 pub ends_usage : (result : Status) (old new : SinkState) → Delivers (Usage, usage_text) result old new → EndsUsage result old.written new.written
@@ -259,16 +292,29 @@ unfolding checked_for checked broken_for
 run_reads n (Ok i) = refl
 run_reads n (Err r) = refl
 
-done_image : (c : Command) (found : Result Image Refusal) → Done ≡ (answer_unless_broken c found).0 → (i : Image) × (found ≡ Ok i) × (answer_unless_broken c found ≡ answer_of_image c i)
+alone_reads : (d n : ℕ) (found : Result text.Raw Refusal) → checked_for (Alone d n) found ≡ checked found
+unfolding checked_for checked broken_for
+alone_reads d n (Ok i) = refl
+alone_reads d n (Err r) = refl
+
+-- another status than Refused tells that an image was found
+found_image : (c : Command) (found : Result Image Refusal) (status : Status) → status ≢ Refused → status ≡ (answer_unless_broken c found).0 → (i : Image) × (found ≡ Ok i) × (answer_unless_broken c found ≡ answer_of_image c i)
 unfolding answer_unless_broken
-done_image c (Err r) e = absurd (cc e)
-done_image c (Ok i) e = (i, refl, refl)
+found_image c (Err r) status other e = absurd (other e)
+found_image c (Ok i) status other e = (i, refl, refl)
+
+done_is_found : Done ≢ Refused
+done_is_found e = cc
+
+usage_is_found : Usage ≢ Refused
+usage_is_found e = cc
 
 no_refusal : (c : Command) (i : Image) → Refused ≡ (answer_of_image c i).0 → ⊥
-unfolding answer_of_image
+unfolding answer_of_image answer_alone
 no_refusal Check i e = cc e
 no_refusal Bound i e = cc e
 no_refusal (Run n) i e = cc e
+no_refusal (Alone d n) i e = of_chosen (λ s. Refused ≢ s) (ltb d (length i.owns)) (Done, section_alone i d n) (Usage, usage_text) (λ r. cc r) (λ r. cc r) e
 
 refused_image : (c : Command) (found : Result Image Refusal) → Refused ≡ (answer_unless_broken c found).0 → (r : Refusal) × (found ≡ Err r) × (answer_unless_broken c found ≡ (Refused, refusal_text r))
 unfolding answer_unless_broken
@@ -328,7 +374,7 @@ module _ (c : Command) (items : List ℕ) (left left' : Option (List ℕ)) (resu
   unfolding image_for
   done_found done =
       let t = told Done (done_is_due (answer_of_bytes c items) result old new d done) (done_reads c items result old new d done) in
-      let (i, read, is) = done_image c (image_for c items) t.0 in
+      let (i, read, is) = found_image c (image_for c items) Done done_is_found t.0 in
       (i, found_in c (text.image_of items) i read, t.1 ∙ ap (λ (a : Answer). after_known old.written a.1) is)
 
 pub accepts : (items : List ℕ) (left left' : Option (List ℕ)) (result : Status) (old new : SinkState)
@@ -361,17 +407,30 @@ bounds items left left' result old new took whole d done =
       wrote = wrote ∙ ap (λ (j : Image). after_known old.written (bound_text (bound_in_parts (shape_of j.all.hardware)))) found.image;
     }
 
+-- a command for which an image is read as for a run: what was due was due to that image
+reads_image : (c : Command) → ((found : Result text.Raw Refusal) → checked_for c found ≡ checked found)
+    → (items : List ℕ) (left left' : Option (List ℕ)) (status : Status) (old new : Option (List ℕ))
+    → left ≡ before_known items left' → (length items ≤ most_bytes → AtEnd left') → length items ≤ most_bytes → status ≢ Refused
+    → (status ≡ (answer_of_bytes c items).0) × (new ≡ after_known old (answer_of_bytes c items).1)
+    → (r : ReadsImage left left') × (status ≡ (answer_of_image c r.found).0) × (new ≡ after_known old (answer_of_image c r.found).1)
+unfolding image image_for
+reads_image c reads items left left' status old new took whole few other due =
+    let is = image_due items c few in
+    let (i, read, same) = found_image c (image_for c items) status other (due.0 ∙ ap (λ (a : Answer). a.0) is) in (
+      record { bytes = items; found = i; took = took; whole = whole few; few = few; read = sym (reads (text.image_of items)) ∙ read },
+      due.0 ∙ ap (λ (a : Answer). a.0) (is ∙ same),
+      due.1 ∙ ap (λ (a : Answer). after_known old a.1) (is ∙ same),
+    )
+
 pub ran : (n : ℕ) (items : List ℕ) (left left' : Option (List ℕ)) (result : Status) (old new : SinkState)
     → left ≡ before_known items left' → (length items ≤ most_bytes → AtEnd left') → Delivers (answer_of_bytes (Run n) items) result old new → result ≡ Done
     → (r : ReadsImage left left') × (new.written ≡ after_known old.written (report r.found n))
-unfolding image image_for answer_of_image
+unfolding answer_of_image
 ran n items left left' result old new took whole d done =
     let few = done_reads (Run n) items result old new d done in
     let due = done_is_due (answer_of_bytes (Run n) items) result old new d done in
-    let (i, read, is) = done_image (Run n) (image_for (Run n) items) (due.0 ∙ ap (λ (a : Answer). a.0) (image_due items (Run n) few)) in (
-      record { bytes = items; found = i; took = took; whole = whole few; few = few; read = sym (run_reads n (text.image_of items)) ∙ read },
-      due.1 ∙ ap (λ (a : Answer). after_known old.written a.1) (image_due items (Run n) few ∙ is),
-    )
+    let (r, is, wrote) = reads_image (Run n) (run_reads n) items left left' Done old.written new.written took whole few done_is_found due in
+    (r, wrote)
 
 read_separated : (left left' : Option (List ℕ)) (r : ReadsImage left left') → Runnable r.found
 read_separated left left' r = read_runs r.bytes r.found r.read
@@ -394,3 +453,41 @@ is_padded n left left' r =
       lines = λ e. largest_within r.found.all.schedule e (whole r.found n).used (used_within r.found n runs);
       starts = λ k. on_time r.found runs k;
     }
+
+-- ---- a domain alone
+
+pub lacks_domain : (k n : ℕ) (items : List ℕ) (left left' : Option (List ℕ)) (result : Status) (old new : SinkState)
+    → left ≡ before_known items left' → (length items ≤ most_bytes → AtEnd left') → Delivers (answer_of_bytes (Alone k n) items) result old new → result ≡ Usage
+    → LacksDomain k left left' old.written new.written
+lacks_domain k n items left left' result old new took whole d usage =
+    let few = usage_reads (Alone k n) items result old new d usage in
+    let due = usage_is_due (answer_of_bytes (Alone k n) items) result old new d usage in
+    let (r, is, wrote) = reads_image (Alone k n) (alone_reads k n) items left left' Usage old.written new.written took whole few usage_is_found due in
+    elim (cases_lt k (length r.found.owns)) [
+      | inl has ↦ let same = is ∙ ap (λ (a : Answer). a.0) (alone_due k n r.found has) in absurd (cc same)
+      | inr lacks ↦ record { ran = r; lacks = lacks; wrote = wrote ∙ ap (λ (a : Answer). after_known old.written a.1) (lacks_due k n r.found lacks) }
+    ]
+
+pub writes_section : (k n : ℕ) (items : List ℕ) (left left' : Option (List ℕ)) (result : Status) (old new : SinkState)
+    → left ≡ before_known items left' → (length items ≤ most_bytes → AtEnd left') → Delivers (answer_of_bytes (Alone k n) items) result old new → result ≡ Done
+    → WritesSection k n left left' old.written new.written
+writes_section k n items left left' result old new took whole d done =
+    let few = done_reads (Alone k n) items result old new d done in
+    let due = done_is_due (answer_of_bytes (Alone k n) items) result old new d done in
+    let (r, is, wrote) = reads_image (Alone k n) (alone_reads k n) items left left' Done old.written new.written took whole few done_is_found due in
+    elim (cases_lt k (length r.found.owns)) [
+      | inl has ↦ record { ran = r; domain = has; wrote = wrote ∙ ap (λ (a : Answer). after_known old.written a.1) (alone_due k n r.found has) }
+      | inr lacks ↦ let same = is ∙ ap (λ (a : Answer). a.0) (lacks_due k n r.found lacks) in absurd (cc same)
+    ]
+
+-- the section is that of the report
+alone_section : (i : Image) (k n : ℕ) → Runnable i → IsDomain i k → section_alone i k n ≡ section_of i (λ e. view_whole i e n) k
+unfolding section_alone section_of
+alone_section i k n r is = ap (section k (own_of i k).name) (sym (isolated i k n (separated i r) is))
+
+pub is_same_section : (k n : ℕ) (left left' old new : Option (List ℕ)) → WritesSection k n left left' old new → SameSection k n left left' old new
+is_same_section k n left left' old new w = record {
+  ran = w.ran;
+  domain = w.domain;
+  wrote = w.wrote ∙ ap (after_known old) (alone_section w.ran.found k n (read_separated left left' w.ran) w.domain);
+}

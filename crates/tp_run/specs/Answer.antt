@@ -1,13 +1,14 @@
 -- What the program answers to its words and the bytes of its source.
-use Rattle.std.specs.Prelude.{ℕ, nat_le, if◌then◌else◌, List, length, Option, Some, None, Result, Ok, Err}
+use Rattle.std.specs.Prelude.{ℕ, nat_le, nat_lt, if◌then◌else◌, List, length, Option, Some, None, Result, Ok, Err}
 use Rattle.clap.specs.Words.{fault_of, subcommand_of}
 use Rattle.image_text.specs.declared.refusal.Refusal.{Refusal}
-use Rattle.image_check.specs.Image.{Image}
+use Rattle.image_check.specs.Image.{Image, own_of}
 use Rattle.image_check.specs.Pads.{shape_of}
 use Rattle.world_view.specs.Reading.{most_bytes}
-use Rattle.tp_report.specs.Report.{report, bound_in_parts, bound_text, accepted_text, usage_text, refusal_text, too_long_text}
+use Rattle.world_view.specs.View.{view_alone}
+use Rattle.tp_report.specs.Report.{report, section_of, bound_in_parts, bound_text, accepted_text, usage_text, refusal_text, too_long_text}
 use Rattle.tp_run.specs.declared.Command.{Command}
-use Rattle.tp_run.specs.declared.Command.TheVariants.{Check, Bound, Run}
+use Rattle.tp_run.specs.declared.Command.TheVariants.{Check, Bound, Run, Alone}
 use Rattle.tp_run.specs.declared.status.Status.{Status}
 use Rattle.tp_run.specs.declared.status.Status.TheVariants.{Done, Refused, Usage, TooLong}
 use Rattle.tp_run.specs.Reading.{image_for}
@@ -24,11 +25,20 @@ command words = unless_faulty (fault_of tp_app words) (asked_for (subcommand_of 
 abbrev pub Answer : Type 0
 Answer = Status × List ℕ
 
+-- the section of domain d, alone after n slots
+unfoldable pub section_alone : Image → ℕ → ℕ → List ℕ
+section_alone i d n = section_of i (λ e. view_alone i.all (own_of i e) e n) d
+
+-- words that name no domain of the image have the usage line
+unfoldable pub answer_alone : ℕ → ℕ → Image → Answer
+answer_alone d n i = if nat_lt d (length i.owns) then (Done, section_alone i d n) else (Usage, usage_text)
+
 -- to an image that breaks no rule, by command; where the bound is asked for, none but that of pads
 unfoldable pub answer_of_image : Command → Image → Answer
 answer_of_image Check i = (Done, accepted_text)
 answer_of_image Bound i = (Done, bound_text (bound_in_parts (shape_of i.all.hardware)))
 answer_of_image (Run n) i = (Done, report i n)
+answer_of_image (Alone d n) i = answer_alone d n i
 
 unfoldable pub answer_unless_broken : Command → Result Image Refusal → Answer
 answer_unless_broken c (Ok i) = answer_of_image c i

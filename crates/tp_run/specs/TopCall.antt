@@ -1,5 +1,5 @@
 -- What the top call answers, and what it does to its source and its sink.
-use Rattle.std.specs.Prelude.{◌≡◌, ◌≢◌, ℕ, ◌+◌, ◌≤◌, ◌⊎◌, List, [], length, map, slice_get, Option, Some, None, Ok, String, string_bytes}
+use Rattle.std.specs.Prelude.{◌≡◌, ◌≢◌, ℕ, ◌+◌, ◌≤◌, ◌⊎◌, ⊤, List, [], length, map, slice_get, Option, Some, None, Ok, String, string_bytes}
 use Rattle.std.specs.Global.{Global}
 use Rattle.tp_io.specs.Bytes.{before_known, after_known, AtEnd, PutsFront}
 use Rattle.tp_io.specs.Causes.{TellsFault}
@@ -17,12 +17,13 @@ use Rattle.world_view.specs.Machine.{switch, whole}
 use Rattle.world_view.specs.View.{view_whole, view_alone}
 use Rattle.world_view.specs.Relations.{IsDomain, AllWithinPads}
 use Rattle.world_view.specs.Used.{largest_of}
-use Rattle.tp_report.specs.Report.{report_apart, bound_in_parts, bound_text, accepted_text, usage_text, refusal_text}
+use Rattle.tp_report.specs.Report.{report_apart, section_of, bound_in_parts, bound_text, accepted_text, usage_text, refusal_text}
 use Rattle.tp_run.specs.declared.Command.{Command}
+use Rattle.tp_run.specs.declared.Command.TheVariants.{Alone}
 use Rattle.tp_run.specs.declared.status.Status.{Status}
 use Rattle.tp_run.specs.declared.status.Status.TheVariants.{Usage, ReadFault, WriteFault, Memory}
 use Rattle.tp_run.specs.Reading.{broken_in}
-use Rattle.tp_run.specs.Answer.{Answer, answer, command}
+use Rattle.tp_run.specs.Answer.{Answer, answer, command, section_alone}
 
 -- the words of the command line, as bytes
 abbrev pub words_of : List (String Global) → List (List ℕ)
@@ -43,6 +44,12 @@ EndsUsage Usage old new = new ≡ after_known old usage_text
 EndsUsage WriteFault old new = PutsFront old new usage_text
 EndsUsage Memory old new = new ≡ old
 EndsUsage _ old new = ⊥
+
+-- words that may have the usage line: they are no command, or name a domain, which the image may lack
+abbrev pub MayBeUsage : Option Command → Type 0
+MayBeUsage None = ⊤
+MayBeUsage (Some (Alone d n)) = ⊤
+MayBeUsage (Some _) = ⊥
 
 -- no read failed: the answer that is due was written, unless memory ran out or the sink failed,
 -- which it does only where the text is longer than what it surely takes
@@ -127,3 +134,23 @@ pub record Padded (slots : ℕ) (left left' : Option (List ℕ)) : Type 0 where
   pub used : AllWithinPads ran.found.all.schedule (whole ran.found slots).used
   pub lines : (e : ℕ) → largest_of e (whole ran.found slots).used ≤ (entry_in ran.found.all.schedule e).pad
   pub starts : (k : ℕ) → (switch ran.found k (whole ran.found k)).clock ≡ start ran.found.all.schedule k
+
+-- ---- a domain alone
+
+-- the image lacks the domain that is named, and the usage line was written
+pub record LacksDomain (d : ℕ) (left left' written written' : Option (List ℕ)) : Type 0 where
+  pub ran : ReadsImage left left'
+  pub lacks : length ran.found.owns ≤ d
+  pub wrote : written' ≡ after_known written usage_text
+
+-- what is seen of the domain alone was written
+pub record WritesSection (d slots : ℕ) (left left' written written' : Option (List ℕ)) : Type 0 where
+  pub ran : ReadsImage left left'
+  pub domain : IsDomain ran.found d
+  pub wrote : written' ≡ after_known written (section_alone ran.found d slots)
+
+-- its section in the report of the whole machine was written
+pub record SameSection (d slots : ℕ) (left left' written written' : Option (List ℕ)) : Type 0 where
+  pub ran : ReadsImage left left'
+  pub domain : IsDomain ran.found d
+  pub wrote : written' ≡ after_known written (section_of ran.found (λ e. view_whole ran.found e slots) d)

@@ -8,19 +8,25 @@ use Rattle.clap.specs.ValueTests.{is_unsigned_in}
 use Rattle.clap.specs.declared.builder.action.ArgAction.TheVariants.{Set}
 use Rattle.clap.specs.declared.builder.value_parser.ValueParser.TheVariants as vp
 use Rattle.tp_run.specs.declared.Command.{Command}
-use Rattle.tp_run.specs.declared.Command.TheVariants.{Check, Bound, Run}
+use Rattle.tp_run.specs.declared.Command.TheVariants.{Check, Bound, Run, Alone}
 use Rattle.tp_run.specs.Partial.{◌>>=◌, ◌>>◌, when}
 
 -- ---- the program's command
 
--- `--slots N`, a whole number 0 to 65,536
-abbrev pub slots_rule : Rule
-slots_rule = record (new_rule (codes "slots")) {
-  long = Some (codes "slots");
+-- `--NAME N`, which must be given, a whole number 0 to the greatest
+abbrev pub number_rule : Text → ℕ → Rule
+number_rule name greatest = record (new_rule name) {
+  long = Some name;
   action = Some Set;
   required = true;
-  parser = Some (vp.Signed (pos 0) (pos 65536));
+  parser = Some (vp.Signed (pos 0) (pos greatest));
 }
+
+abbrev pub slots_rule : Rule
+slots_rule = number_rule (codes "slots") 65536
+
+abbrev pub domain_rule : Rule
+domain_rule = number_rule (codes "domain") 15
 
 abbrev pub check_app : App
 check_app = new_app (codes "check")
@@ -30,6 +36,9 @@ bound_app = new_app (codes "bound")
 
 abbrev pub run_app : App
 run_app = with_rule (new_app (codes "run")) slots_rule
+
+abbrev pub alone_app : App
+alone_app = with_rule (with_rule (new_app (codes "alone")) domain_rule) slots_rule
 
 -- a subcommand must be named
 abbrev pub required : Shape → Shape
@@ -41,19 +50,20 @@ tp_app = fold with_subcommand (on_top required (new_app (codes "tp"))) (
     check_app.top
     ∷ bound_app.top
     ∷ run_app.top
+    ∷ alone_app.top
     ∷ [])
 
 -- ---- what its matches ask for
 
--- the number that a text writes, where it is a whole number 0 to 65,536
-abbrev pub slots_of : Text → Option ℕ
-slots_of text = when (is_unsigned_in 0 65536 text) >> Some (digits_value 10 (without_leading_plus text))
+-- the number that a text writes, where it is a whole number 0 to the greatest
+abbrev pub number_of : ℕ → Text → Option ℕ
+number_of greatest text = when (is_unsigned_in 0 greatest text) >> Some (digits_value 10 (without_leading_plus text))
 
--- the value of `--slots`
-unfoldable pub slots_in : List Row → Option ℕ
-slots_in rows = one_of (codes "slots") rows >>= slots_of
+-- the value of `--NAME`
+unfoldable pub number_in : Text → ℕ → List Row → Option ℕ
+number_in name greatest rows = one_of name rows >>= number_of greatest
 
--- clap takes no words without a subcommand, no other name of one, and no other value of `--slots`: these are never asked for
+-- clap takes no words without a subcommand, no other name of one, and no other values of its options: these are never asked for
 abbrev pub or_zero : Option ℕ → ℕ
 or_zero None = 0
 or_zero (Some n) = n
@@ -61,12 +71,19 @@ or_zero (Some n) = n
 abbrev pub never_asked : Command
 never_asked = Run 0
 
+abbrev pub slots_in : List Row → ℕ
+slots_in rows = or_zero (number_in (codes "slots") 65536 rows)
+
+abbrev pub domain_in : List Row → ℕ
+domain_in rows = or_zero (number_in (codes "domain") 15 rows)
+
 -- what a subcommand asks for, by its name and what was found for its options: one case for each
 abbrev pub asked_by : Text → List Row → Command
 asked_by name rows =
     if bytes_eq name (codes "check") then Check
     else if bytes_eq name (codes "bound") then Bound
-    else if bytes_eq name (codes "run") then Run (or_zero (slots_in rows))
+    else if bytes_eq name (codes "run") then Run (slots_in rows)
+    else if bytes_eq name (codes "alone") then Alone (domain_in rows) (slots_in rows)
     else never_asked
 
 abbrev pub asked_for : Option (Text × List Row) → Command
@@ -85,3 +102,4 @@ abbrev pub RunsFewSlots : Command → Type 0
 RunsFewSlots Check = ⊤
 RunsFewSlots Bound = ⊤
 RunsFewSlots (Run n) = n ≤ 65536
+RunsFewSlots (Alone d n) = n ≤ 65536

@@ -8,13 +8,15 @@ ghost use Rattle.image_text.specs.declared.refusal.Refusal.{Refusal};
 ghost use Rattle.image_check.specs.Image.{Image};
 ghost use Rattle.tp_run.specs.Answer as spec;
 ghost use Rattle.tp_run.specs.TopCall.{Writes, EndsUsage, Delivers, ComesTo, Answered, IsOver};
-ghost use Rattle.tp_run.specs.TopCall.{Isolated, Padded, words_of};
+ghost use Rattle.tp_run.specs.TopCall.{Isolated, Padded, MayBeUsage, words_of};
 ghost use Rattle.tp_run.specs.TopCall.{Refuses, Accepts, Bounds};
+ghost use Rattle.tp_run.specs.TopCall.{LacksDomain, WritesSection, SameSection};
 ghost use Rattle.tp_run.specs.Accepting.{Accepting, IsRefused};
 ghost use Rattle.tp_run.specs.Reading.{image_for};
 ghost use Rattle.tp_run.specs.Words.{RunsFewSlots};
 
-use crate::run::run_image;
+use crate::alone::run_domain;
+use crate::run::{domains_of, run_image};
 use crate::words::command;
 use crate::{Command, Status};
 use image_check::{CheckRefusal, Checked, Unpadded, check, check_but_pads};
@@ -52,7 +54,12 @@ pub fn tp_main<S: Source, K: Sink>(
     ensures no_command { spec.command (words_of words.now) ≡ None
         → EndsUsage result (K.written out.old) (K.written out.new) }
     ensures untouched { spec.command (words_of words.now) ≡ None → src.new ≡ src.old }
-    ensures usage { result ≡ Status.Usage → spec.command (words_of words.now) ≡ None }
+
+    // Other words have it only where they name a domain that the image lacks.
+    ensures usage { result ≡ Status.Usage → MayBeUsage (spec.command (words_of words.now)) }
+    ensures no_domain { (d slots : ℕ)
+        → spec.command (words_of words.now) ≡ Some (Command.Alone d slots) → result ≡ Status.Usage
+        → LacksDomain d (S.left src.old) (S.left src.new) (K.written out.old) (K.written out.new) }
 
     // What is read.
     ensures done_reads { result ≡ Status.Done → AtEnd (S.left src.new) }
@@ -94,6 +101,14 @@ pub fn tp_main<S: Source, K: Sink>(
     ensures pad { (slots : ℕ)
         → spec.command (words_of words.now) ≡ Some (Command.Run slots) → result ≡ Status.Done
         → Padded slots (S.left src.old) (S.left src.new) }
+
+    // A domain alone: its section, which is that of the report of the whole machine.
+    ensures alone { (d slots : ℕ)
+        → spec.command (words_of words.now) ≡ Some (Command.Alone d slots) → result ≡ Status.Done
+        → WritesSection d slots (S.left src.old) (S.left src.new) (K.written out.old) (K.written out.new) }
+    ensures same_section { (d slots : ℕ)
+        → spec.command (words_of words.now) ≡ Some (Command.Alone d slots) → result ≡ Status.Done
+        → SameSection d slots (S.left src.old) (S.left src.new) (K.written out.old) (K.written out.new) }
 {
     let command = match command(alloc, words) {
         Ok(Some(command)) => command,
@@ -121,6 +136,7 @@ fn answer_bytes<K: Sink>(alloc: Global, command: Command, bytes: &[u8], out: &mu
         Command::Check => answer_check(alloc, bytes, out),
         Command::Bound => answer_bound(alloc, bytes, out),
         Command::Run { slots } => answer_run(alloc, bytes, slots, out),
+        Command::Alone { domain, slots } => answer_alone(alloc, bytes, domain, slots, out),
     }
 }
 
@@ -164,6 +180,20 @@ fn answer_run<K: Sink>(alloc: Global, bytes: &[u8], slots: u32, out: &mut K) -> 
     }
 }
 
+// One domain alone of the image that bytes are, where it breaks no rule and has that domain.
+fn answer_alone<K: Sink>(alloc: Global, bytes: &[u8], domain: u8, slots: u32, out: &mut K) -> Status
+    requires few { slots ≤ 65536 }
+    ensures delivers { Delivers (spec.answer_unless_broken
+        (Command.Alone domain slots) (image_for (Command.Alone domain slots) bytes.now))
+        result (state K.Sink out.old) (state K.Sink out.new) }
+{
+    match accepted(alloc, bytes) {
+        Ok(image) if domain < domains_of(&image) => run_domain(alloc, &image, domain, slots, out),
+        Ok(_image) => status_unless_failed(Status::Usage, write_usage(out)),
+        Err(refusal) => refuse(&refusal, out),
+    }
+}
+
 // Names the rule that is broken, unless memory ran out.
 fn refuse<K: Sink>(refusal: &CheckRefusal, out: &mut K) -> Status
     ensures delivers { (c : Command) (found : Result Image Refusal) → IsRefused refusal.now found
@@ -182,6 +212,7 @@ fn refuse<K: Sink>(refusal: &CheckRefusal, out: &mut K) -> Status
 fn accepted(alloc: Global, bytes: &[u8]) -> Result<Checked, CheckRefusal>
     ensures check { Accepting result (image_for Command.Check bytes.now) }
     ensures run { (slots : ℕ) → Accepting result (image_for (Command.Run slots) bytes.now) }
+    ensures alone { (d slots : ℕ) → Accepting result (image_for (Command.Alone d slots) bytes.now) }
 {
     match read_image(alloc, bytes) {
         Ok(raw) => check(alloc, raw),

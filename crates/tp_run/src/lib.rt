@@ -1,6 +1,7 @@
 //! The top call: words and an image in, a text and a status out.
 #![tactic(auto)]
 
+mod alone;
 mod call;
 mod run;
 mod status;
@@ -18,4 +19,6 @@ pub enum Command {
     Bound,
     /// Run the image for so many slots, 0 to 65,536.
     Run { slots: u32 },
+    /// Run one domain of the image alone for so many slots, 0 to 65,536.
+    Alone { domain: u8, slots: u32 },
 }

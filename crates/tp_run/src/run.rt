@@ -55,8 +55,8 @@ fn write_sections<K: Sink>(out: &mut K, machine: &Machine<'_>) -> Result<(), Fai
     Ok(())
 }
 
-// How many domains the image has.
-fn domains_of(image: &Checked) -> u8
+/// How many domains the image has.
+pub fn domains_of(image: &Checked) -> u8
     ensures value { result ≡ length (owns_of image.now) }
 {
     image.runnable();

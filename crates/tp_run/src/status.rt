@@ -10,7 +10,7 @@ pub enum Status {
     Done,
     /// The image breaks a rule.
     Refused,
-    /// The words are no command.
+    /// The words are no command, or name a domain that the image lacks.
     Usage,
     /// The source failed.
     ReadFault,

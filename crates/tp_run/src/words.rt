@@ -1,6 +1,6 @@
 // The words of the command line.
 ghost use Rattle.std.specs.Prelude.{◌≡◌, ◌≤◌, IfOk, IfSome, false, map, string_bytes};
-ghost use Rattle.clap.specs.Words.{app_of, found_of, rows_of, subcommand_rows_of};
+ghost use Rattle.clap.specs.Words.{app_of, found_of, rows_of, rule_of, subcommand_rows_of};
 ghost use Rattle.clap.specs.declared.builder.command.Command.TheViews.{out-Command};
 ghost use Rattle.tp_run.specs.Answer as answer_spec;
 ghost use Rattle.tp_run.specs.Words as spec;
@@ -11,6 +11,12 @@ use clap::error::ErrorKind;
 use clap::{Arg, ArgAction, ArgMatches};
 use std::alloc::{AllocError, Global};
 use tp_base::Memory;
+
+/// The most slots of a run.
+const MOST_SLOTS: u32 = 65_536;
+
+/// The greatest number of a domain.
+const LAST_DOMAIN: u32 = 15;
 
 /// What the words ask for, the first being the program's name: `None` exactly
 /// where clap finds a fault in them. `Err` is for want of memory alone.
@@ -33,22 +39,39 @@ fn tp_command<'a>(alloc: Global) -> Result<clap::Command<'a>, AllocError>
     ensures app { IfOk result (λ c. app_of c ≡ spec.tp_app) }
 {
     let run = run_command(alloc)?;
+    let alone = alone_command(alloc)?;
     let top = clap::Command::new(alloc, "tp").subcommand_required(true);
     let one = top.subcommand(clap::Command::new(alloc, "check"))?;
     let two = one.subcommand(clap::Command::new(alloc, "bound"))?;
-    two.subcommand(run)
+    let three = two.subcommand(run)?;
+    three.subcommand(alone)
 }
 
 fn run_command<'a>(alloc: Global) -> Result<clap::Command<'a>, AllocError>
     ensures app { IfOk result (λ c. app_of c ≡ spec.run_app) }
     ensures local { IfOk result (λ c. (out-Command c).has_globals ≡ false) }
 {
-    let slots = Arg::new(alloc, "slots")
-        .long("slots")
+    clap::Command::new(alloc, "run").arg(number_arg(alloc, "slots", MOST_SLOTS))
+}
+
+fn alone_command<'a>(alloc: Global) -> Result<clap::Command<'a>, AllocError>
+    ensures app { IfOk result (λ c. app_of c ≡ spec.alone_app) }
+    ensures local { IfOk result (λ c. (out-Command c).has_globals ≡ false) }
+{
+    let alone = clap::Command::new(alloc, "alone").arg(number_arg(alloc, "domain", LAST_DOMAIN))?;
+    alone.arg(number_arg(alloc, "slots", MOST_SLOTS))
+}
+
+// The option `--name`, which must be given, a whole number 0 to the greatest.
+fn number_arg<'a>(alloc: Global, name: &'a str, greatest: u32) -> Arg<'a>
+    ensures rule { rule_of result ≡ spec.number_rule name.now greatest }
+    ensures local { result.global ≡ false }
+{
+    Arg::new(alloc, name)
+        .long(name)
         .action(ArgAction::Set)
         .required(true)
-        .value_parser(clap::value_parser!(u32).range(0..=65536));
-    clap::Command::new(alloc, "run").arg(slots)
+        .value_parser(clap::value_parser!(u32).range(0..=i64::from(greatest)))
 }
 
 // What the matches ask for, by the subcommand's name. clap gives no matches
@@ -61,20 +84,24 @@ fn asked(matches: &ArgMatches<'_>) -> Command
         Some(("check", _)) => Command::Check,
         Some(("bound", _)) => Command::Bound,
         Some(("run", found)) => Command::Run {
-            slots: slots_in(found).unwrap_or(0),
+            slots: number_in(found, "slots", MOST_SLOTS).unwrap_or(0),
+        },
+        Some(("alone", found)) => Command::Alone {
+            domain: number_in(found, "domain", LAST_DOMAIN).unwrap_or(0) as u8,
+            slots: number_in(found, "slots", MOST_SLOTS).unwrap_or(0),
         },
         _ => Command::Run { slots: 0 },
     }
 }
 
-// The value of `--slots`. Its parser let at most 65,536 through already.
-#[tactic(auto, unfolding(crate::specs::Words::slots_in))]
-fn slots_in(found: &ArgMatches<'_>) -> Option<u32>
-    ensures value { result ≡ spec.slots_in (rows_of (found_of found.now)) }
-    ensures range { IfSome result (λ n. n ≤ 65536) }
+// The value of `--name`. Its parser let none past the greatest through already.
+#[tactic(auto, unfolding(crate::specs::Words::number_in))]
+fn number_in(found: &ArgMatches<'_>, name: &str, greatest: u32) -> Option<u32>
+    ensures value { result ≡ spec.number_in name.now greatest (rows_of (found_of found.now)) }
+    ensures range { IfSome result (λ n. n ≤ greatest) }
 {
-    let slots = found.get_one::<u32>("slots")?;
-    (slots <= 65536).then_some(slots)
+    let number = found.get_one::<u32>(name)?;
+    (number <= greatest).then_some(number)
 }
 
 #[cfg(test)]

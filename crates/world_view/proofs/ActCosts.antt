@@ -12,12 +12,12 @@ use Rattle.rv_core.specs.declared.Store.{Store as StoreMade}
 use Rattle.rv_core.specs.declared.Trap.{Trap}
 use Rattle.sv32_walk.specs.declared.access.Access.{Access}
 use Rattle.sv32_walk.specs.Walk.{walk, from_table, from_entry, first_level}
-use Rattle.kernel_clone.specs.Footprints.{touches}
+use Rattle.kernel_clone.specs.Footprints.{touches, delivery_op}
 use Rattle.pad_bound.specs.Bound.{worst_look, worst_read, worst_fetch, worst_access, worst_instruction, worst_operation}
 use Rattle.pad_bound.proofs.Parts.{operation_covers}
 use Rattle.mem_system.specs.Cost.{Touch, Fetch, Load, Store as StoreTouch, Branch, EmptyTlb}
 use Rattle.mem_system.specs.Translation.{lines_of, look_of}
-use Rattle.cache_sharing.specs.Operations.{footprint, operation}
+use Rattle.cache_sharing.specs.Operations.{footprint, operation, plain}
 use Rattle.cache_sharing.specs.Worst.{worst_touch, worst_touches}
 use Rattle.cache_sharing.proofs.Worst.{worst-append, worst_lines}
 use Rattle.call_table.specs.Domain.{Dom}
@@ -28,7 +28,7 @@ use Rattle.image_check.specs.Own.{Own}
 use Rattle.world_view.specs.Kernel.{estate, layout}
 use Rattle.world_view.specs.Cost.{hierarchy}
 use Rattle.image_check.specs.Pads.{shape_of}
-use Rattle.world_view.specs.Event.{Storage, Act, touch, translate, line_in, read, write, unless, load, store, loaded, guessed, settle, execute, call_touches, make_call, perform, instruction}
+use Rattle.world_view.specs.Event.{Storage, Act, touch, translate, line_in, read, write, unless, load, store, loaded, guessed, settle, execute, call_touches, make_call, perform, instruction, delivery_touches}
 use Rattle.world_view.specs.Relations.{largest_step}
 
 -- a walk reads two entries at most
@@ -235,3 +235,13 @@ module _ (p : Hardware) (o : Own) where
       → p.costs.base + worst_touches (hierarchy p) (instruction p (estate p o) (layout p o) t d s).notes ≤ largest_step p
   unfolding worst perform_worst access_worst worst_instruction
   instruction_within t d s = let within = (instruction_costs t d).within s in omega (arith, within)
+
+  -- a delivery is within the operation
+  pub delivery_within : worst_touches (hierarchy p) (delivery_touches p (layout p o)) ≤ worst_operation (shape_of p)
+  unfolding delivery_touches operation footprint worst_touches hierarchy layout
+  delivery_within =
+      let l = layout p o in
+      let w = plain delivery_op in
+      let covers = operation_covers (shape_of p) l w (record { line = refl; shared = refl }) (record { call = refl; few = omega arith; not_both = inl refl }) in
+      let lines = worst_lines (hierarchy p) (touches l w) in
+      omega (arith, covers, lines)

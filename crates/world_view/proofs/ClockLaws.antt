@@ -100,10 +100,11 @@ module _ (i : Image) (r : Runnable i) where
       let used = used_in_bound i k w time in
       let on = on_time i (separated i r) k in
       let timed = (separated i r).timed in
+      let base = timed.base in
       let d = (entry_of_slot es k).domain in
       let begun = part_of d (switch i k w) in
       let within = instruction_within p (own_of i d) 0 begun.dom begun.storage in
-      let early : begun.clock < slot_end es k + largest_step p = omega (arith, on, within, timed) in
+      let early : begun.clock < slot_end es k + largest_step p = omega (arith, on, within, base) in
       record {
         before = omega (arith, soon, last, largest, few);
         worked = omega (arith, used, last, most, few);

@@ -1,5 +1,5 @@
 -- What code that runs the machine wants to know of its definitions.
-use Rattle.std.proofs.Common.{◌≡◌, ◌≢◌, ℕ, suc, ◌+◌, ◌-◌, ◌*◌, ◌/◌, ◌≤◌, max, Bool, true, false, cond, eqb, List, [], ◌∷◌, ◌++◌, length, Some, Result, inl, inr, refl, sym, ap, ◌∙◌, arith, add-zero, eq-eqb, ne_eqb}
+use Rattle.std.proofs.Common.{◌≡◌, ◌≢◌, ℕ, suc, ◌+◌, ◌-◌, ◌*◌, ◌/◌, ◌≤◌, max, Bool, true, false, cond, eqb, List, [], ◌∷◌, ◌++◌, length, Some, None, Result, inl, inr, refl, sym, ap, ◌∙◌, arith, add-zero, eq-eqb, ne_eqb}
 use Rattle.std.specs.List.{sum_by}
 use Rattle.std.proofs.lemmas.Bool.{cases_Bool, cases_lt}
 use Rattle.std.proofs.lemmas.List.{get_or_past}
@@ -17,13 +17,15 @@ use Rattle.image_check.specs.Own.{Own}
 use Rattle.image_check.specs.Image.{Image, own_of}
 use Rattle.sched_table.specs.Schedule.{entry_of_slot, switch_entry, start, slot_end, last_end, outgoing}
 use Rattle.world_view.specs.Opening.{word_of, page_words}
+use Rattle.irq_partition.specs.Interrupts.{next_cycle, due}
+use Rattle.thread_set.specs.Threads.{is_ready}
 use Rattle.call_table.specs.Domain.{Dom, is_running}
 use Rattle.call_table.specs.Claims.{Estate}
 use Rattle.kernel_clone.specs.Footprints.{Layout}
 use Rattle.world_view.specs.Kernel.{opening_dom, estate, layout, no_dom}
 use Rattle.mem_system.specs.Cost.{Touched}
-use Rattle.world_view.specs.Event.{Storage, Act, frame_or_stop, translate, loaded, noted, guessed, execute, perform, instruction, event}
-use Rattle.world_view.specs.Machine.{Local, paid, happened, step, stretch, World, dom_of, part_of, with_part, switch_work, switch, run_slot, whole}
+use Rattle.world_view.specs.Event.{Storage, Act, frame_or_stop, translate, loaded, noted, guessed, execute, perform, instruction, interrupts_of, idle_until, event}
+use Rattle.world_view.specs.Machine.{Local, paid, delivered, happened, step, stretch, World, dom_of, part_of, with_part, switch_work, switch, run_slot, whole}
 use Rattle.world_view.specs.Relations.{IsDomain}
 use Rattle.world_view.proofs.Separate.{Separated}
 use Rattle.world_view.proofs.OpeningLaws.{at-tabled, at-tabled_past, opening_dom_is}
@@ -140,10 +142,23 @@ guessed-other instr.Ecall pc taken other = refl
 guessed-other instr.Ebreak pc taken other = refl
 
 module _ (p : Hardware) (o : Own) (pinned : Bool) (end : ℕ) (s : Local) where
-  pub step-running : is_running s.dom.status ≡ true
+  -- no moment is due, and the current thread is ready
+  pub step-running : is_running s.dom.status ≡ true → due s.clock (interrupts_of o s.dom) ≡ None → is_ready s.dom.threads.current.state ≡ true
       → step p o pinned end s ≡ paid p pinned s.caches s.clock (instruction p (estate p o) (layout p o) s.clock s.dom s.storage)
   unfolding step event happened
-  step-running runs = rw runs
+  step-running runs none ready = rw (runs, none, ready)
+
+  -- no moment is due, and no thread is ready
+  pub step-idle : is_running s.dom.status ≡ true → due s.clock (interrupts_of o s.dom) ≡ None → is_ready s.dom.threads.current.state ≡ false
+      → step p o pinned end s ≡ record s { clock = idle_until end (next_cycle (interrupts_of o s.dom)) }
+  unfolding step event happened
+  step-idle runs none ready = rw (runs, none, ready)
+
+  -- a moment is due
+  pub step-due : (line : ℕ) → is_running s.dom.status ≡ true → due s.clock (interrupts_of o s.dom) ≡ Some line
+      → step p o pinned end s ≡ delivered p o pinned line s
+  unfolding step event happened
+  step-due line runs is = rw (runs, is)
 
   pub step-still : is_running s.dom.status ≡ false → step p o pinned end s ≡ record s { clock = end }
   unfolding step event happened

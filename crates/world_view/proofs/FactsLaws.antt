@@ -1,14 +1,13 @@
 -- The facts of every domain hold at each moment of each slot, whoever runs.
 use Rattle.std.proofs.Common.{◌≡◌, ℕ, zero, suc, ◌-◌, false, sym, refl, subst, inl, inr}
 use Rattle.std.proofs.lemmas.Bool.{cases_eq}
-use Rattle.tp_base.specs.Table.{at, put, at-put_other, at-put_same}
 use Rattle.hardware_check.specs.Hardware.{Hardware}
 use Rattle.image_check.specs.Own.{Own}
 use Rattle.image_check.specs.Image.{Image, own_of}
 use Rattle.sched_table.specs.Schedule.{entry_of_slot, slot_end}
 use Rattle.call_table.specs.Domain.{Dom}
 use Rattle.call_table.specs.Claims.{is_mine, claims}
-use Rattle.world_view.specs.Kernel.{estate, opening_dom, no_dom}
+use Rattle.world_view.specs.Kernel.{estate, opening_dom}
 use Rattle.world_view.specs.Event.{Storage}
 use Rattle.world_view.specs.Machine.{steps, dom_of, part_of, with_part, switch, run_slot, opening, whole}
 use Rattle.world_view.specs.Relations.{IsDomain, SameFrames, HasFacts}
@@ -19,6 +18,7 @@ use Rattle.world_view.proofs.FactsSame.{facts_same}
 use Rattle.world_view.proofs.OpeningFacts.{kernel_of, opening_facts}
 use Rattle.world_view.proofs.OpeningLaws.{opening_dom_is}
 use Rattle.world_view.proofs.StepLaws.{steps_keep}
+use Rattle.world_view.proofs.DomainLaws.{own_is, others_same}
 
 -- the facts hold of a domain that is the same, in a memory in which its frames are
 pub facts_with : (p : Hardware) (o : Own) (d e : Dom) (s t : Storage) → e ≡ d → SameFrames p o t.mem s.mem → HasFacts p o d s → HasFacts p o e t
@@ -44,10 +44,10 @@ module _ (i : Image) (r : Separated i) where
       let b = steps_keep p (own_of i e) (kernel_of i r e (r.named k)) false end n s.storage s (record { facts = facts e (r.named k); outside = λ f out. refl }) in
       elim (cases_eq d e) [
         | inl same ↦
-            subst (λ (x : ℕ). HasFacts p (own_of i x) (at no_dom (put before.doms e later.dom) x) later.storage) (sym same)
-            (facts_with p (own_of i e) later.dom _ later.storage later.storage (at-put_same no_dom before.doms e later.dom) (λ f own. refl) b.facts)
+            subst (λ (x : ℕ). HasFacts p (own_of i x) (dom_of (world_in i k n) x) later.storage) (sym same)
+            (facts_with p (own_of i e) later.dom _ later.storage later.storage (own_is i k n) (λ f own. refl) b.facts)
         | inr apart ↦
-            facts_with p (own_of i d) (dom_of (whole i k) d) _ (whole i k).storage later.storage (at-put_other no_dom before.doms e d later.dom apart)
+            facts_with p (own_of i d) (dom_of (whole i k) d) _ (whole i k).storage later.storage (others_same i k n d apart)
             (λ f own. b.outside f (r.apart e d (r.named k) is (λ q. apart (sym q)) f own)) (facts d is)
       ]
 

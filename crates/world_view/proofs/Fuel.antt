@@ -1,11 +1,20 @@
 -- A stretch is one step and then a stretch, so nobody above sees how it is counted.
-use Rattle.std.proofs.Common.{◌≡◌, ℕ, Bool, true, false, cond, ltb, zero, suc, ◌-◌, ◌<◌, ◌≤◌, sym, ◌∙◌, refl, arith, ltb-true, lt-ltb, le-ltb}
+use Rattle.std.proofs.Common.{◌≡◌, ℕ, Bool, true, false, cond, ltb, zero, suc, ◌-◌, ◌<◌, ◌≤◌, Option, Some, None, inl, inr, sym, ◌∙◌, refl, arith, ltb-true, lt-ltb, le-ltb}
+use Rattle.std.proofs.lemmas.Bool.{cases_lt, le-leb, ltb-false}
+use Rattle.std.proofs.lemmas.Option.{none-some}
 use Rattle.hardware_check.specs.Hardware.{Hardware}
 use Rattle.image_check.specs.Own.{Own}
-use Rattle.call_table.specs.Domain.{is_running}
-use Rattle.world_view.specs.Event.{event}
-use Rattle.world_view.specs.Event.Event.{Jump, Run}
-use Rattle.world_view.specs.Machine.{Local, paid, happened, step, steps, stretch}
+use Rattle.irq_partition.specs.declared.Moment.{Moment}
+use Rattle.irq_partition.specs.Interrupts.{next_of, cycle_of, line_by, next_cycle, due}
+use Rattle.thread_set.specs.Threads.{is_ready}
+use Rattle.cache_sharing.specs.Operations.{operation}
+use Rattle.mem_system.specs.Cost.{Caches, touched_all, and_then, touched, pass_on, on_core}
+use Rattle.call_table.specs.Domain.{Dom, is_running}
+use Rattle.world_view.specs.Cost.{hierarchy}
+use Rattle.world_view.specs.Kernel.{layout}
+use Rattle.world_view.specs.Event.{Event, idle_until, thread_event, unless_due, event, interrupts_of, delivery_touches}
+use Rattle.world_view.specs.Event.Event.{Jump, Deliver, Run}
+use Rattle.world_view.specs.Machine.{Local, paid, delivered, happened, step, steps, stretch}
 
 -- a choice by a Bool that is known
 pub stops : (b : Bool) (x y : Local) → b ≡ false → elim b [ true ↦ x | false ↦ y ] ≡ y
@@ -36,16 +45,100 @@ module _ (p : Hardware) (o : Own) (pinned : Bool) (end : ℕ) (P : Local → Typ
   steps_by zero s h = h
   steps_by (suc n) s h = by_if (ltb s.clock end) n s refl h (λ t. steps_by n t)
 
-module _ (p : Hardware) (timed : 0 < p.costs.base) (o : Own) (pinned : Bool) (end : ℕ) where
-  later_if : (s : Local) (b : Bool) → s.clock < end → s.clock < (happened p o pinned s (cond b Run (Jump end))).clock
-  unfolding happened paid
-  later_if s true h = omega arith
-  later_if s false h = h
+-- one step more: what holds of each step before the end, and of a state past it, holds of the next step after any number
+module _ (p : Hardware) (o : Own) (pinned : Bool) (end : ℕ) (P : Local → Local → Type 0)
+    (next : (s : Local) → s.clock < end → P s (step p o pinned end s)) (past : (s : Local) → end ≤ s.clock → P s s) where
+  first_if : (b : Bool) (s : Local) → ltb s.clock end ≡ b → P s (elim b [ true ↦ step p o pinned end s | false ↦ s ])
+  first_if true s t = next s (ltb-true s.clock end t)
+  first_if false s t = past s (ltb-false s.clock end t)
+
+  later_if : (b : Bool) (x y s : Local) → ltb s.clock end ≡ b → P x y → P (elim b [ true ↦ x | false ↦ s ]) (elim b [ true ↦ y | false ↦ s ])
+  later_if true x y s t h = h
+  later_if false x y s t h = past s (ltb-false s.clock end t)
+
+  pub one_more_by : (n : ℕ) (s : Local) → P (steps p o pinned end n s) (steps p o pinned end (suc n) s)
+  unfolding steps
+  one_more_by zero s = first_if (ltb s.clock end) s refl
+  one_more_by (suc n) s = later_if (ltb s.clock end) _ _ s refl (one_more_by n (step p o pinned end s))
+
+-- ---- where the clock goes
+
+-- a jump goes past the clock
+abbrev pub JumpsPast : ℕ → Event → Type 0
+JumpsPast now (Jump t) = now < t
+JumpsPast now (Deliver line) = Unit {0}
+JumpsPast now Run = Unit {0}
+
+-- and not past the slot's end
+abbrev pub StaysWithin : ℕ → Event → Type 0
+StaysWithin end (Jump t) = t ≤ end
+StaysWithin end (Deliver line) = Unit {0}
+StaysWithin end Run = Unit {0}
+
+-- a moment that isn't due is later
+pub idle_past : (now end : ℕ) (next : Option Moment) → now < end → line_by now next ≡ None → now < idle_until end (cycle_of next)
+idle_past now end None h none = h
+idle_past now end (Some x) h none =
+    elim (cases_lt now x.at) [
+      | inl later ↦ omega (arith, h, later)
+      | inr due ↦ absurd (none-some x.line (sym none ∙ (rw (le-leb x.at now due) refl)))
+    ]
+
+pub idle_within : (end : ℕ) (next : Option ℕ) → idle_until end next ≤ end
+idle_within end None = omega arith
+idle_within end (Some t) = omega arith
+
+due_past : (now end : ℕ) (next : Option Moment) (ready : Bool) (due : Option ℕ) → now < end → line_by now next ≡ due
+    → JumpsPast now (unless_due (thread_event end (cycle_of next) ready) due)
+due_past now end next ready (Some line) h e = tt
+due_past now end next true None h e = tt
+due_past now end next false None h e = idle_past now end next h e
+
+due_within : (end : ℕ) (next : Option ℕ) (ready : Bool) (due : Option ℕ) → StaysWithin end (unless_due (thread_event end next ready) due)
+due_within end next ready (Some line) = tt
+due_within end next true None = tt
+due_within end next false None = idle_within end next
+
+past_if : (now end : ℕ) (b : Bool) (e : Event) → now < end → JumpsPast now e → JumpsPast now (cond b e (Jump end))
+past_if now end true e h past = past
+past_if now end false e h past = h
+
+within_if : (end : ℕ) (b : Bool) (e : Event) → StaysWithin end e → StaysWithin end (cond b e (Jump end))
+within_if end true e within = within
+within_if end false e within = omega arith
+
+pub event_later : (o : Own) (now end : ℕ) (d : Dom) → now < end → JumpsPast now (event o now end d)
+unfolding event due next_cycle
+event_later o now end d h =
+    past_if now end (is_running d.status) _ h (due_past now end (next_of (interrupts_of o d)) (is_ready d.threads.current.state) (due now (interrupts_of o d)) h refl)
+
+pub event_within : (o : Own) (now end : ℕ) (d : Dom) → StaysWithin end (event o now end d)
+unfolding event
+event_within o now end d =
+    within_if end (is_running d.status) _ (due_within end (next_cycle (interrupts_of o d)) (is_ready d.threads.current.state) (due now (interrupts_of o d)))
+
+-- ---- steps take time
+
+-- an instruction costs a cycle or more, and so does a delivery
+pub record IsTimed (p : Hardware) : Type 0 where
+  pub base : 0 < p.costs.base
+  pub trap : 0 < p.costs.trap
+
+pub delivery_takes : (p : Hardware) (o : Own) (pinned : Bool) (c : Caches) → p.costs.trap ≤ (touched_all (hierarchy p) pinned c (delivery_touches p (layout p o))).cost
+unfolding delivery_touches operation touched_all and_then touched pass_on on_core
+delivery_takes p o pinned c = omega arith
+
+module _ (p : Hardware) (timed : IsTimed p) (o : Own) (pinned : Bool) (end : ℕ) where
+  happened_later : (s : Local) (e : Event) → JumpsPast s.clock e → s.clock < (happened p o pinned s e).clock
+  unfolding happened paid delivered
+  happened_later s (Jump t) past = past
+  happened_later s (Deliver line) past = let takes = delivery_takes p o pinned s.caches in let trap = timed.trap in omega (arith, takes, trap)
+  happened_later s Run past = let base = timed.base in omega (arith, base)
 
   -- each step moves the clock on
   pub step_later : (s : Local) → s.clock < end → s.clock < (step p o pinned end s).clock
-  unfolding step event
-  step_later s h = later_if s (is_running s.dom.status) h
+  unfolding step
+  step_later s h = happened_later s (event o s.clock end s.dom) (event_later o s.clock end s.dom h)
 
   -- more steps than are left change nothing
   enough : (n m : ℕ) (s : Local) → end - s.clock ≤ n → end - s.clock ≤ m → steps p o pinned end n s ≡ steps p o pinned end m s

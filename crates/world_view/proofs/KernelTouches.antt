@@ -3,7 +3,7 @@ use Rattle.std.proofs.Common.{◌≡◌, ℕ, ◌<◌, ◌/◌, Bool, true, fals
 use Rattle.std.proofs.lemmas.List.Elements.{All-head, All-tail}
 use Rattle.kernel_clone.specs.declared.Kind.{Kind}
 use Rattle.kernel_clone.specs.declared.Kind.TheVariants as kind
-use Rattle.kernel_clone.specs.Footprints.{WorkDone, LineTouch, touches, leave_op, enter_op}
+use Rattle.kernel_clone.specs.Footprints.{WorkDone, LineTouch, touches, delivery_op, leave_op, enter_op}
 use Rattle.kernel_clone.specs.Laws.{frame_of, IsLoaded, IsPlaced}
 use Rattle.kernel_clone.proofs.PlaceLaws.{placed}
 use Rattle.kernel_clone.proofs.LineLaws.{entry_frame}
@@ -16,7 +16,7 @@ use Rattle.mem_system.specs.Cost.{Touch, EmptyTlb}
 use Rattle.cache_sharing.specs.Operations.{touch_by, touch_of_line, footprint, operation, plain, leave, enter}
 use Rattle.cache_sharing.specs.Sharing.{IsShared, MayTouch, MayTouchAll}
 use Rattle.world_view.specs.Cost.{hierarchy, region, own_colour}
-use Rattle.world_view.specs.Event.{call_touches}
+use Rattle.world_view.specs.Event.{call_touches, delivery_touches}
 use Rattle.world_view.specs.Relations.{IsOwnFrame, IsKernel, MayAll}
 use Rattle.world_view.proofs.TableLaws.{mine_own}
 use Rattle.world_view.proofs.Lines.{own_line, is_shared}
@@ -87,6 +87,15 @@ module _ (p : Hardware) (o : Own) where
     pub enter_may : MayTouchAll (hierarchy p) (own_colour o) lines (enter (layout p o))
     unfolding enter
     enter_may = footprint_may kernel (plain enter_op) (λ f is. absurd (cc is)) (λ k below. absurd (omega (arith, below))) lines enter_loads
+
+  -- a delivery loads one line of what is shared
+  pub delivery_may : IsKernel p o → MayAll p o (delivery_touches p (layout p o))
+  unfolding delivery_touches operation
+  delivery_may kernel = (
+    tt,
+    footprint_may kernel (plain delivery_op) (λ f is. absurd (cc is)) (λ k below. absurd (omega (arith, below))) (region p)
+        (λ line h. is_shared p o h.shared.0 line h.shared.1 h.shared.2),
+  )
 
   may_empty : (b : Bool) → MayAll p o (if b then EmptyTlb ∷ [] else [])
   may_empty true = (tt, tt)

@@ -24,5 +24,10 @@ pub mod SwitchParts
 pub mod SwitchLaws
 pub mod WholeLaws
 pub mod CodeLaws
+pub mod InstructionLaws
+pub mod EventLaws
+pub mod DomainLaws
+pub mod InterruptLaws
+pub mod ThreadLaws
 pub mod ReadingLaws
 pub mod Parts

@@ -14,6 +14,7 @@ use Rattle.world_view.specs.Frames.{own_frame, pool}
 use Rattle.world_view.specs.Cost.{own_colour}
 use Rattle.sched_table.specs.Schedule.{entry_of_slot, switch_entry, pad_of}
 use Rattle.world_view.specs.Relations.{IsDomain, IsOwnFrame, bound}
+use Rattle.world_view.proofs.Fuel.{IsTimed}
 
 -- no frame of the one is a frame of the other
 abbrev pub Apart : Hardware → Own → Own → Type 0
@@ -21,7 +22,7 @@ Apart p e o = (f : ℕ) → IsOwnFrame p o f → own_frame p e f ≡ false
 
 pub record Separated (i : Image) : Type 0 where
   pub counted : i.all.domains ≡ length i.owns
-  pub timed : 0 < i.all.hardware.costs.base
+  pub timed : IsTimed i.all.hardware
   pub named : (k : ℕ) → IsDomain i (entry_of_slot i.all.schedule k).domain
   pub enough : (d : ℕ) → IsDomain i d → frames_in (own_of i d).segments ≤ length (pool i.all.hardware (own_of i d))
   pub sound : (d : ℕ) → IsOwn (own_of i d)
@@ -60,7 +61,7 @@ module _ (i : Image) (r : Runnable i) where
   pub separated : Separated i
   separated = record {
     counted = r.counted;
-    timed = let base = r.hardware.costs.base in omega (arith, base);
+    timed = let base = r.hardware.costs.base in let trap = r.hardware.costs.trap in record { base = omega (arith, base); trap = omega (arith, trap) };
     named = λ k. r.named (k % length i.all.schedule) (mod-lt k r.schedule.some);
     enough = r.pools;
     sound = r.sound;

@@ -15,43 +15,48 @@ use Rattle.image_check.specs.Own.{Own}
 use Rattle.image_check.specs.Image.{Image, own_of}
 use Rattle.sched_table.proofs.Starts.{pad_law}
 use Rattle.sched_table.specs.Schedule.{entry_of_slot, pad_of, start, slot_end, last_end, outgoing}
-use Rattle.call_table.specs.Domain.{is_running}
 use Rattle.world_view.specs.Kernel.{estate, layout}
 use Rattle.world_view.specs.Cost.{hierarchy}
-use Rattle.world_view.specs.Event.{event, instruction}
-use Rattle.world_view.specs.Event.Event.{Jump, Run}
-use Rattle.world_view.specs.Machine.{Local, World, paid, happened, step, steps, stretch, clone_of, switch_work, with_part, part_of, switch, run_slot, opening, whole}
+use Rattle.world_view.specs.Event.{Event, event, instruction, delivery_touches}
+use Rattle.world_view.specs.Event.Event.{Jump, Deliver, Run}
+use Rattle.world_view.specs.Machine.{Local, World, paid, delivered, happened, step, steps, stretch, clone_of, switch_work, with_part, part_of, switch, run_slot, opening, whole}
 use Rattle.world_view.specs.Used.{largest_of}
 use Rattle.world_view.specs.Relations.{largest_step, bound, InTime, AllWithinPads}
 use Rattle.world_view.proofs.Separate.{Separated}
-use Rattle.world_view.proofs.Fuel.{step_later, steps_by}
-use Rattle.world_view.proofs.ActCosts.{instruction_within}
+use Rattle.world_view.proofs.Fuel.{IsTimed, StaysWithin, event_within, step_later, steps_by}
+use Rattle.world_view.proofs.ActCosts.{instruction_within, delivery_within}
 use Rattle.world_view.proofs.SwitchParts.{all_touches, switch_is}
 
 -- ---- a slot
 
-module _ (p : Hardware) (timed : 0 < p.costs.base) (o : Own) (pinned : Bool) (end : ℕ) where
+module _ (p : Hardware) (timed : IsTimed p) (o : Own) (pinned : Bool) (end : ℕ) where
   -- the clock is past the end by less than the largest step, and the caches have their ways
   pub record IsSoon (s : Local) : Type 0 where
     pub clock : s.clock < end + largest_step p
     pub ways : HasWays (hierarchy p) s.caches
 
-  soon_if : (s : Local) (b : Bool) → s.clock < end → HasWays (hierarchy p) s.caches → IsSoon (happened p o pinned s (cond b Run (Jump end)))
-  unfolding happened paid
-  soon_if s true below ways =
+  soon_if : (s : Local) (e : Event) → s.clock < end → HasWays (hierarchy p) s.caches → StaysWithin end e → IsSoon (happened p o pinned s e)
+  unfolding happened paid delivered
+  soon_if s (Jump t) below ways stays =
+      let within = instruction_within p o s.clock s.dom s.storage in
+      let base = timed.base in
+      record { clock = omega (arith, base, within, stays); ways = ways }
+  soon_if s (Deliver line) below ways stays =
+      let within = delivery_within p o in
+      let paid = worst_law (hierarchy p) pinned (delivery_touches p (layout p o)) s.caches ways in
+      let cost = paid.cost in
+      record { clock = omega (arith, below, within, cost); ways = paid.ways }
+  soon_if s Run below ways stays =
       let ts = (instruction p (estate p o) (layout p o) s.clock s.dom s.storage).notes in
       let within = instruction_within p o s.clock s.dom s.storage in
       let paid = worst_law (hierarchy p) pinned ts s.caches ways in
       let cost = paid.cost in
       record { clock = omega (arith, below, within, cost); ways = paid.ways }
-  soon_if s false below ways =
-      let within = instruction_within p o s.clock s.dom s.storage in
-      record { clock = omega (arith, timed, within); ways = ways }
 
   -- a step that begins in time ends past the end by less than the largest step
   step_soon : (s : Local) → s.clock < end → IsSoon s → IsSoon (step p o pinned end s)
-  unfolding step event
-  step_soon s below soon = soon_if s (is_running s.dom.status) below soon.ways
+  unfolding step
+  step_soon s below soon = soon_if s (event o s.clock end s.dom) below soon.ways (event_within o s.clock end s.dom)
 
   -- so do any number of steps
   pub steps_soon : (n : ℕ) (s : Local) → IsSoon s → IsSoon (steps p o pinned end n s)
@@ -134,7 +139,8 @@ module _ (i : Image) (r : Separated i) where
       let at = switch_on_start i k (whole i k) (r.padded k) time in
       let within = instruction_within p o 0 begun.dom begun.storage in
       let timed = r.timed in
-      let early : (switch i k (whole i k)).clock < slot_end es k + largest_step p = omega (arith, at, within, timed) in
+      let base = timed.base in
+      let early : (switch i k (whole i k)).clock < slot_end es k + largest_step p = omega (arith, at, within, base) in
       let ends = stretch_soon p timed o false (slot_end es k) begun (record { clock = early; ways = switch_ways i k (whole i k) time.ways }) in
       record { over = stretch_over p timed o false (slot_end es k) begun; soon = ends.clock; ways = ends.ways }
 
@@ -142,8 +148,8 @@ module _ (i : Image) (r : Separated i) where
   unfolding whole opening
   in_time zero =
       let within = instruction_within i.all.hardware (own_of i 0) 0 (part_of 0 (opening i)).dom (opening i).storage in
-      let timed = r.timed in
-      record { over = omega arith; soon = omega (arith, timed, within); ways = cold_ways i.all.hardware }
+      let base = r.timed.base in
+      record { over = omega arith; soon = omega (arith, base, within); ways = cold_ways i.all.hardware }
   in_time (suc k) = slot_in_time k (in_time k)
 
   pub on_time : (k : ℕ) → (switch i k (whole i k)).clock ≡ start i.all.schedule k

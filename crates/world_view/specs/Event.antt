@@ -1,5 +1,5 @@
 -- One event of a domain in its slot: what happens, as a function of the domain, the memory and the clock, with what it touches.
-use Rattle.std.specs.Prelude.{ℕ, ◌+◌, ◌*◌, ◌/◌, ◌%◌, ◌==◌, Bool, if◌then◌else◌, List, [], ◌∷◌, ◌++◌, Option, Some, None, Result, Ok, Err, ◌⊎◌}
+use Rattle.std.specs.Prelude.{ℕ, ◌+◌, ◌*◌, ◌/◌, ◌%◌, ◌==◌, min, Bool, true, false, if◌then◌else◌, List, [], ◌∷◌, ◌++◌, Option, Some, None, Result, Ok, Err, ◌⊎◌}
 use Rattle.std.proofs.Common.{inl, inr}
 use Rattle.tp_base.specs.Act as act
 use Rattle.tp_base.specs.Act.{◌>>=◌, ◌>>◌, Done, give, stop, note, either}
@@ -20,15 +20,18 @@ use Rattle.sv32_walk.specs.declared.access.WalkFault.TheVariants as fault
 use Rattle.sv32_walk.specs.PageTableEntry.{ppn}
 use Rattle.sv32_walk.specs.Walk.{walk}
 use Rattle.hardware_check.specs.Hardware.{Hardware}
+use Rattle.image_check.specs.Own.{Own}
+use Rattle.irq_partition.specs.Interrupts.{Interrupts, next_cycle, due}
 use Rattle.rv_core.specs.Registers.{register}
-use Rattle.kernel_clone.specs.Footprints.{Layout}
+use Rattle.thread_set.specs.Threads.{is_ready}
+use Rattle.kernel_clone.specs.Footprints.{Layout, delivery_op}
 use Rattle.call_table.specs.Domain.{Dom, is_running}
 use Rattle.call_table.specs.Claims.{Estate}
 use Rattle.call_table.specs.Calls.{Note, empties, work_of, call}
 use Rattle.world_view.specs.Instruction.{stopped, trapped, retired_at, counter_value, read_out}
 use Rattle.mem_system.specs.Cost.{Touch, Fetch, Load, Store as StoreTouch, Branch, EmptyTlb}
 use Rattle.mem_system.specs.Translation.{look_of}
-use Rattle.cache_sharing.specs.Operations.{operation}
+use Rattle.cache_sharing.specs.Operations.{operation, plain}
 
 -- all that domains may change beside their own state
 pub record Storage : Type 0 where
@@ -175,11 +178,42 @@ instruction p e l t d = do
   w ← read f (place d.threads.current.pc)
   perform p e l t d w (decode_of w)
 
+-- ---- a delivery
+
+-- an operation in the domain's kernel clone that writes nothing beside its own work
+unfoldable pub delivery_touches : Hardware → Layout → List Touch
+delivery_touches p l = operation p.costs l (plain delivery_op)
+
 -- ---- what comes next
 
 pub data Event : Type 0 where
   Jump : ℕ → Event  -- the clock goes there
-  Run : Event  -- the thread runs one instruction
+  Deliver : ℕ → Event  -- the next moment comes, of this line
+  Run : Event  -- the current thread runs one instruction
 
-unfoldable pub event : ℕ → Dom → Event
-event end d = if is_running d.status then Run else Jump end
+-- the domain's moments, how many were delivered, and its bits
+unfoldable pub interrupts_of : Own → Dom → Interrupts
+interrupts_of o d = record { moments = o.moments; delivered = d.delivered; bits = d.bits }
+
+-- where no thread is ready, the clock goes to the next moment, or to the slot's end if that is sooner
+abbrev pub idle_until : ℕ → Option ℕ → ℕ
+idle_until end None = end
+idle_until end (Some next) = min next end
+
+-- of a domain whose current thread is ready, or not
+abbrev pub thread_event : ℕ → Option ℕ → Bool → Event
+thread_event end next true = Event.Run
+thread_event end next false = Event.Jump (idle_until end next)
+
+-- a moment that is due comes first
+abbrev pub unless_due : Event → Option ℕ → Event
+unless_due e None = e
+unless_due e (Some line) = Event.Deliver line
+
+-- at a clock, in a slot that ends then
+unfoldable pub event : Own → ℕ → ℕ → Dom → Event
+event o now end d =
+    let irqs = interrupts_of o d in
+    if is_running d.status
+    then unless_due (thread_event end (next_cycle irqs) (is_ready d.threads.current.state)) (due now irqs)
+    else Event.Jump end

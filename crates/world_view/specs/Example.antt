@@ -14,6 +14,7 @@ use Rattle.thread_set.specs.declared.ThreadState.TheVariants.{Ended}
 use Rattle.thread_set.specs.Threads as threads
 use Rattle.thread_set.specs.Threads.{never, turned_to, yielded, given_way, with_current, all_ended}
 use Rattle.cap_table.specs.Slots as slots
+use Rattle.irq_partition.specs.Interrupts as interrupts
 use Rattle.kernel_clone.specs.Footprints.{text_touches, stack_touches, data_touches, shared_touches, zeroed_touches, entry_touches, touches}
 use Rattle.call_table.specs.declared.DomainStatus.TheVariants.{Exited}
 use Rattle.call_table.specs.Domain as domain
@@ -23,21 +24,22 @@ use Rattle.kernel_call.specs.Logs.{log_of}
 use Rattle.frame_colours.specs.Colours as colours
 use Rattle.hardware_check.specs.declared.hardware.Policy.TheVariants.{Lru}
 use Rattle.hardware_check.specs.Hardware.{Hardware}
+use Rattle.image_check.specs.declared.capabilities.InitialCap.TheVariants.{Irq}
 use Rattle.image_check.specs.Own.{Segment}
 use Rattle.image_check.specs.Image.{Image, own_of}
 use Rattle.image_check.specs.Pages.{has_region, regions_below, pages_below, pages_in}
 use Rattle.sched_table.specs.Schedule.{start}
 use Rattle.world_view.specs.Opening.{frame_words, put_word, tabled, root_entry, rights_in, leaf_with, leaf_entry, root_placed, table_placed, tables_placed, page_words, pages_placed, segments_placed, placed, all_placed}
 use Rattle.rv_decode.specs.declared.Counter.TheVariants.{Cycle, Time, Instret, CycleHigh, TimeHigh, InstretHigh}
-use Rattle.world_view.specs.Kernel.{first_cap, first_slots, opening_dom, stays, page_numbers, kept_pages, first_regions, fixed_claims, estate, layout, no_dom}
+use Rattle.world_view.specs.Kernel.{first_cap, first_slots, opening_dom, page_numbers, kept_pages, first_regions, fixed_claims, estate, layout, no_dom}
 use Rattle.world_view.specs.Instruction.{counter_value, stopped, trapped, retired_at, read_out}
 use Rattle.mem_system.specs.Hierarchy.{colour_of_line}
 use Rattle.mem_system.specs.Cost as cost
 use Rattle.mem_system.specs.Translation.{lines_of, look_of}
 use Rattle.cache_sharing.specs.Operations.{footprint, operation, leave, enter, shared_region, prefetch}
 use Rattle.world_view.specs.Cost.{hierarchy, region}
-use Rattle.world_view.specs.Event.{touch, frame_or_stop, translate, address_in, line_in, read, write, unless, load, store, loaded, noted, guessed, settle, execute, call_touches, make_call, perform, instruction, event}
-use Rattle.world_view.specs.Machine.{paid, happened, step, steps, leave_part, prefetch_part, flush_part, enter_part, switch_work, with_part, switch, run_slot, opening_doms, opening, whole, alone_opening, alone_enter, alone_in, alone_out, alone_if, alone}
+use Rattle.world_view.specs.Event.{touch, frame_or_stop, translate, address_in, line_in, read, write, unless, load, store, loaded, noted, guessed, settle, execute, call_touches, make_call, perform, instruction, delivery_touches, interrupts_of, event}
+use Rattle.world_view.specs.Machine.{paid, delivered, happened, step, steps, leave_part, prefetch_part, flush_part, enter_part, switch_work, with_part, switch, run_slot, opening_doms, opening, whole, alone_opening, alone_enter, alone_in, alone_out, alone_if, alone}
 use Rattle.world_view.specs.View.{View, view, view_whole, view_alone, memory_sum}
 use Rattle.world_view.specs.Used.{count_of, largest_of}
 use Rattle.world_view.specs.Laws.{local_in}
@@ -89,8 +91,8 @@ two_domains red blue = record {
     domains = 2;
   };
   owns =
-      record { name = codes "red"; colours = 1 ∷ []; entry = 65536; segments = code_at_16 red ∷ []; caps = [] }
-      ∷ record { name = codes "blue"; colours = 2 ∷ []; entry = 65536; segments = code_at_16 blue ∷ []; caps = [] } ∷ [];
+      record { name = codes "red"; colours = 1 ∷ []; entry = 65536; segments = code_at_16 red ∷ []; caps = []; lines = []; moments = [] }
+      ∷ record { name = codes "blue"; colours = 2 ∷ []; entry = 65536; segments = code_at_16 blue ∷ []; caps = []; lines = []; moments = [] } ∷ [];
 }
 
 -- one that prints A beside one that prints B
@@ -130,9 +132,48 @@ printed_in_time byte clock = record {
   frames = [];
 }
 
+-- addi x10, x0, 1; addi x17, x0, 10; ecall; rdcycle x5; addi x17, x0, 9; ecall; addi x17, x0, 0; ecall
+abbrev pub wait_and_poll : List ℕ
+wait_and_poll =
+    0x13 ∷ 0x05 ∷ 0x10 ∷ 0
+    ∷ 0x93 ∷ 0x08 ∷ 0xa0 ∷ 0
+    ∷ 0x73 ∷ 0 ∷ 0 ∷ 0
+    ∷ 0xf3 ∷ 0x22 ∷ 0 ∷ 0xc0
+    ∷ 0x93 ∷ 0x08 ∷ 0x90 ∷ 0
+    ∷ 0x73 ∷ 0 ∷ 0 ∷ 0
+    ∷ 0x93 ∷ 0x08 ∷ 0 ∷ 0
+    ∷ 0x73 ∷ 0 ∷ 0 ∷ 0 ∷ []
+
+-- the first, with lines 3 and 5 in its slots 0 and 1, and a moment of each at cycle 9,000
+unfoldable pub interrupted : Image
+interrupted =
+    let i = two_domains wait_and_poll (timed_print 0x20) in
+    record i {
+      owns =
+          record (own_of i 0) {
+            caps = Irq 3 ∷ Irq 5 ∷ [];
+            lines = 3 ∷ 5 ∷ [];
+            moments = record { at = 9000; line = 3 } ∷ record { at = 9000; line = 5 } ∷ [];
+          }
+          ∷ own_of i 1 ∷ [];
+    }
+
+-- what is seen of a domain that waited for line 5 and then polled line 3, by the clock at its next instruction
+abbrev pub waited_and_polled : ℕ → View
+waited_and_polled clock = record {
+  status = Exited 0;
+  retired = 5;
+  threads = ended_alone 0x1001c (slice_set (slice_set zeros 5 clock) 11 1);
+  readings = log_of (clock ∷ []);
+  replies = log_of (record { code = 0; value = 1 } ∷ record { code = 0; value = 1 } ∷ []);
+  printed = [];
+  pool = [];
+  frames = [];
+}
+
 -- all that a run computes with
 pub everything : ℕ
-unfolding empty at put go_on ◌>>=◌ ◌>>◌ give stop note either start frame_at word written frame_words put_word tabled root_entry rights_in leaf_with leaf_entry root_placed table_placed tables_placed page_words pages_placed segments_placed placed all_placed has_region regions_below pages_below pages_in table_word leaf_word leaf_bits bit ppn ppn_0 ppn_1 with_ppn vpn_0 vpn_1 leaf superpage first_level last_level entry_address from_table from_entry walk first_cap first_slots opening_dom stays page_numbers kept_pages first_regions fixed_claims estate layout no_dom threads.opening never turned_to yielded given_way with_current all_ended domain.opening domain.placed domain.replied domain.exited domain.with_caps calls.zeroed_in calls.entries_in calls.work_of calls.zero_out calls.page_refusal calls.table_refusal calls.map_at calls.unmap_at calls.install_at calls.uninstall_at calls.empty_buffer calls.some_or calls.is_slot calls.filled calls.allowed calls.put_byte calls.alloc calls.install calls.map_page calls.unmap calls.unless_refused calls.copy calls.clear_entry calls.drop_slot calls.delete calls.drop_if calls.drop_others calls.revoke calls.call_of calls.call slots.maps_in slots.in_use slots.count_in frame_of is_shared leaf_at place_of region_of claim_of all_claims claims frames_in is_named free_frames least_free text_touches stack_touches data_touches shared_touches zeroed_touches entry_touches touches check stopped trapped retired_at read_out colour_of_line cost.fresh_core cost.cold cost.fetched cost.accessed cost.looked cost.branched cost.flushed cost.on_core cost.below_by cost.below_if cost.below cost.below_all cost.pass_on cost.touched cost.and_then cost.touched_all lines_of look_of footprint operation leave enter shared_region prefetch hierarchy region touch frame_or_stop translate address_in line_in read write unless load store loaded noted guessed settle execute calls.empties call_touches make_call perform instruction event paid happened step steps leave_part prefetch_part flush_part enter_part switch_work with_part switch run_slot opening_doms opening whole alone_opening alone_enter alone_in alone_out alone_if alone log_of colours.pool colours.frame_at view view_whole view_alone memory_sum count_of largest_of two_domains
+unfolding interrupts.next_cycle interrupts.due threads.waiter threads.woken threads.blocked threads.finished threads.vacant threads.spawned threads.with_thread domain.recorded domain.with_bit domain.signalled_by domain.signalled domain.delivered_on domain.turned domain.waiting domain.thread_ended domain.with_spawned calls.line_at calls.poll calls.waited calls.wait calls.signal calls.spawn empty at put go_on ◌>>=◌ ◌>>◌ give stop note either start frame_at word written frame_words put_word tabled root_entry rights_in leaf_with leaf_entry root_placed table_placed tables_placed page_words pages_placed segments_placed placed all_placed has_region regions_below pages_below pages_in table_word leaf_word leaf_bits bit ppn ppn_0 ppn_1 with_ppn vpn_0 vpn_1 leaf superpage first_level last_level entry_address from_table from_entry walk first_cap first_slots opening_dom page_numbers kept_pages first_regions fixed_claims estate layout no_dom threads.opening never turned_to yielded given_way with_current all_ended domain.opening domain.placed domain.replied domain.exited domain.with_caps calls.zeroed_in calls.entries_in calls.work_of calls.zero_out calls.page_refusal calls.table_refusal calls.map_at calls.unmap_at calls.install_at calls.uninstall_at calls.empty_buffer calls.some_or calls.is_slot calls.filled calls.allowed calls.put_byte calls.alloc calls.install calls.map_page calls.unmap calls.unless_refused calls.copy calls.clear_entry calls.drop_slot calls.delete calls.drop_if calls.drop_others calls.revoke calls.call_of calls.call slots.maps_in slots.in_use slots.count_in frame_of is_shared leaf_at place_of region_of claim_of all_claims claims frames_in is_named free_frames least_free text_touches stack_touches data_touches shared_touches zeroed_touches entry_touches touches check stopped trapped retired_at read_out colour_of_line cost.fresh_core cost.cold cost.fetched cost.accessed cost.looked cost.branched cost.flushed cost.on_core cost.below_by cost.below_if cost.below cost.below_all cost.pass_on cost.touched cost.and_then cost.touched_all lines_of look_of footprint operation leave enter shared_region prefetch hierarchy region touch frame_or_stop translate address_in line_in read write unless load store loaded noted guessed settle execute calls.empties call_touches make_call perform instruction delivery_touches interrupts_of event paid delivered happened step steps leave_part prefetch_part flush_part enter_part switch_work with_part switch run_slot opening_doms opening whole alone_opening alone_enter alone_in alone_out alone_if alone log_of colours.pool colours.frame_at view view_whole view_alone memory_sum count_of largest_of two_domains interrupted
 everything = 0
 
 -- ---- the memory that it opens with
@@ -227,6 +268,13 @@ first_slot = refl
 pub clock : (whole timed_prints 4).clock ≡ 64600
 unfolding everything
 clock = refl
+
+-- ---- interrupts
+
+-- no thread is ready, so the clock goes to 9,000; line 3 is delivered in 315 cycles, and line 5, which wakes the thread, in 19
+pub interrupted_red : record (view_whole interrupted 0 1) { pool = []; frames = [] } ≡ waited_and_polled (9000 + 315 + 19)
+unfolding everything
+interrupted_red = refl
 
 -- ---- counters past 32 bits
 

@@ -12,4 +12,5 @@ pub mod View
 pub mod Models
 pub mod Relations
 pub mod Laws
+pub mod Interrupts
 pub mod Example

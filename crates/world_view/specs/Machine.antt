@@ -8,14 +8,14 @@ use Rattle.image_check.specs.Own.{Own}
 use Rattle.image_check.specs.Image.{Image, own_of}
 use Rattle.sched_table.specs.Schedule.{entry_of_slot, switch_entry, start, slot_end, last_end, outgoing}
 use Rattle.world_view.specs.Opening.{placed, all_placed}
-use Rattle.call_table.specs.Domain.{Dom}
+use Rattle.call_table.specs.Domain.{Dom, delivered_on}
 use Rattle.world_view.specs.Kernel.{opening_dom, estate, layout, no_dom}
 use Rattle.kernel_clone.specs.Footprints.{Layout}
 use Rattle.mem_system.specs.Cost.{Touch, Flush, Caches, fresh_core, cold, Touched, at_no_cost, and_then, touched, touched_all}
 use Rattle.cache_sharing.specs.Operations.{leave, enter, prefetch}
 use Rattle.world_view.specs.Cost.{hierarchy, region}
-use Rattle.world_view.specs.Event.{Storage, instruction, Event, event}
-use Rattle.world_view.specs.Event.Event.{Jump, Run}
+use Rattle.world_view.specs.Event.{Storage, instruction, delivery_touches, Event, event}
+use Rattle.world_view.specs.Event.Event.{Jump, Deliver, Run}
 
 -- ---- a domain in its slot
 
@@ -32,13 +32,20 @@ paid p pinned c t r =
     let q = touched_all (hierarchy p) pinned c r.notes in
     record { dom = either r.value; storage = r.state; caches = q.caches; clock = t + (p.costs.base + q.cost) }
 
+-- a moment was delivered on this line; its touches are paid, and no base
+unfoldable pub delivered : Hardware → Own → Bool → ℕ → Local → Local
+delivered p o pinned line s =
+    let q = touched_all (hierarchy p) pinned s.caches (delivery_touches p (layout p o)) in
+    record s { dom = delivered_on line s.dom; caches = q.caches; clock = s.clock + q.cost }
+
 unfoldable pub happened : Hardware → Own → Bool → Local → Event → Local
 happened p o pinned s (Jump t) = record s { clock = t }
+happened p o pinned s (Deliver line) = delivered p o pinned line s
 happened p o pinned s Run = paid p pinned s.caches s.clock (instruction p (estate p o) (layout p o) s.clock s.dom s.storage)
 
 -- one event in a slot that ends then
 unfoldable pub step : Hardware → Own → Bool → ℕ → Local → Local
-step p o pinned end s = happened p o pinned s (event end s.dom)
+step p o pinned end s = happened p o pinned s (event o s.clock end s.dom)
 
 -- as many steps, at most, while the clock is below the end
 unfoldable pub steps : Hardware → Own → Bool → ℕ → ℕ → Local → Local

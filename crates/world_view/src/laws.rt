@@ -1,5 +1,6 @@
 //! Laws of the machine over its definitions, each the contract of a function
 //! that does nothing: a caller that calls it may rely on the law.
+ghost use Rattle.world_view.specs.Interrupts.{DueLaw, PromptLaw, FewLaw, AscendLaw, OwnSlotsLaw, TurnLaw, WakeLaw};
 ghost use Rattle.world_view.specs.Laws.{ReadingLaw, IsolationLaw, TwoRunLaw, PadLaw, LargestLaw, StartLaw, InTimeLaw, ClockLaw, OpeningPageLaw, OpeningRightsLaw, OpeningNoPageLaw, OpeningFramesLaw, OpeningZeroLaw, OpeningElsewhereLaw, PoolsApartLaw, KernelColourLaw, PoolPartsLaw, FactsLaw, ReachLaw, NoAccessFaultLaw, KernelLaw, OthersStepLaw, OthersLeaveLaw, OthersEnterLaw, PrefetchLaw, FlushLaw, OwnStepLaw, SwitchOutLaw, SwitchInLaw, SwitchBothLaw, SwitchPastLaw, ResidencyLaw};
 
 /// Every image of the form that is read may be run, and its numbers are within the limits.
@@ -88,4 +89,21 @@ pub fn switches()
 /// What the domains share stays where every domain finds it.
 pub fn residency()
     ensures resident { ResidencyLaw }
+{}
+
+/// Each moment of a domain is delivered once, in the moments' order, in a slot of
+/// that domain, never before its cycle, and as soon as it is due there.
+pub fn interrupts()
+    ensures due { DueLaw }
+    ensures prompt { PromptLaw }
+    ensures few { FewLaw }
+    ensures ascend { AscendLaw }
+    ensures own_slots { OwnSlotsLaw }
+{}
+
+/// The current thread is ready wherever one is, and a thread that waits is woken by
+/// its own line alone.
+pub fn threads()
+    ensures turn { TurnLaw }
+    ensures wakes { WakeLaw }
 {}

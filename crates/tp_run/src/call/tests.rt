@@ -12,6 +12,8 @@ use tp_base::Memory;
 use tp_io::{MemSink, MemSource, Source, SureSource};
 
 mod calls;
+mod interrupts;
+mod machines;
 mod refusals;
 mod rules;
 mod timed;
@@ -391,7 +393,7 @@ fn a_large_image_is_run_for_any_number_of_slots(rt: HostRuntime) -> Result<(), F
 fn other_words_have_the_usage_line(rt: HostRuntime) -> Result<(), Fail> {
     let alloc = rt.alloc();
     let image = image(alloc, PRINTS_A, PRINTS_B)?;
-    for line in "tp|tp run|tp run --slots 65537|tp fly|tp help|tp run --help|tp check x|tp bound --slots 4".split(
+    for line in "tp|tp run|tp run --slots 65537|tp fly|tp help|tp run --help|tp check x|tp bound --slots 4|tp alone|tp alone --domain 16 --slots 4".split(
         '|',
     ) {
         expect(&rt, alloc, line, image.as_str(), Status::Usage, USAGE)?;

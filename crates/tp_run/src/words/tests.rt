@@ -5,7 +5,8 @@ use std::alloc::Global;
 use std::process::Abort;
 use std::test::Fail;
 
-// A line, a bar, and what it asks for, if anything: a number of slots asks for a run.
+// A line, a bar, and what it asks for, if anything: a number of slots asks for a run, and
+// a domain's number before it for that domain alone.
 const LINES: &str = "tp check|check
 tp bound|bound
 tp run --slots 4|4
@@ -16,6 +17,10 @@ tp run --slots 00004|4
 tp run --slots 000004|4
 tp run --slots +4|4
 tp run --slots=-0|0
+tp alone --domain 1 --slots 4|1 4
+tp alone --slots 4 --domain 1|1 4
+tp alone --slots=0 --domain=15|15 0
+tp alone --domain +0 --slots 65536|0 65536
 |
 tp|
 tp fly|
@@ -47,7 +52,21 @@ tp run --slots=-1|
 tp run --slots=|
 tp run --slots 4 5|
 tp run --slots 4 x|
-tp run --slots 4 --slots 5|";
+tp run --slots 4 --slots 5|
+tp run --slots 4 --domain 1|
+tp alone|
+tp alone --slots 4|
+tp alone --domain 1|
+tp alone --domain 16 --slots 4|
+tp alone --domain -1 --slots 4|
+tp alone --domain x --slots 4|
+tp alone --domain 1 --slots 65537|
+tp alone --domain 1 --domain 1 --slots 4|
+tp alone --domain 1 --slots 4 5|
+tp alone 1 4|
+tp alone --help|
+tp help alone|
+tp --domain 1 --slots 4|";
 
 fn asked_in(alloc: Global, line: &str) -> Result<Option<Command>, Fail> {
     let mut words = Vec::new(alloc);
@@ -62,11 +81,18 @@ fn wanted(asked: &str) -> Option<Command> {
     match asked {
         "check" => Some(Command::Check),
         "bound" => Some(Command::Bound),
-        _ => {
-            let slots = asked.parse::<u32>().ok()?;
-            Some(Command::Run { slots })
-        }
+        _ => wanted_run(asked),
     }
+}
+
+fn wanted_run(asked: &str) -> Option<Command> {
+    let Some((domain, slots)) = asked.split_once(' ') else {
+        let slots = asked.parse::<u32>().ok()?;
+        return Some(Command::Run { slots });
+    };
+    let domain = domain.parse::<u8>().ok()?;
+    let slots = slots.parse::<u32>().ok()?;
+    Some(Command::Alone { domain, slots })
 }
 
 fn is_asked(rt: &impl Abort, line: &str, asked: Option<Command>, due: Option<Command>) {

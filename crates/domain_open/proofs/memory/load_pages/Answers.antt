@@ -1,16 +1,15 @@
-use Rattle.std.proofs.Common.{◌≡◌, ℕ, ◌<◌, ◌+◌, ◌-◌, length, drop, sym, subst, subst₂, ◌∙◌, ap, arith}
+use Rattle.std.proofs.Common.{◌≡◌, ℕ, ◌<◌, ◌+◌, ◌-◌, length, get_or, drop, Some, sym, subst, subst₂, ◌∙◌, ap, arith, rules}
 use Rattle.std.proofs.lemmas.Option.{slice_get-get_or}
 use Rattle.phys_mem.specs.Holds.{Holds}
-use Rattle.image_check.specs.Own.{Own, owns_of, own_at}
+use Rattle.kernel_call.specs.Facts.{Has}
+use Rattle.image_check.specs.Own.{Own, owns_of}
 use Rattle.hardware_check.specs.Hardware.{Hardware}
 use Rattle.image_check.specs.Public.{Public}
 use Rattle.hardware_check.specs.Models.{hardware_model}
-use Rattle.image_check.specs.Models.{own_model}
 use Rattle.image_check.specs.Image.{image_from}
-use Rattle.world_view.specs.Frames.{pool}
+use Rattle.world_view.specs.Kernel.{estate}
 use Rattle.world_view.specs.Opening.{placed, all_placed}
 use Rattle.domain_open.proofs.Loading.{owns_none, owns_more}
-use Rattle.domain_open.proofs.Opened.{pool_is}
 use Rattle.domain_open.proofs.Pages.{has_pool}
 use Rattle.domain_open.proofs.memory.load_pages.Goals as goal
 
@@ -25,21 +24,22 @@ loop-left-init c =
       holds = subst (Holds c.args.memory.now) (sym (owns_none i.all.hardware owns c.public-public.result.now.domains (omega arith))) c.requires.blank;
     }
 
-pub new-placement-requires-clause-has_pool : goal.new-placement-requires-clause-has_pool
-new-placement-requires-clause-has_pool c =
+pub load_domain-requires-clause-has_pool : goal.load_domain-requires-clause-has_pool
+load_domain-requires-clause-has_pool c =
     let i = image_from c.args.image.now in
     let below : c.loop-left.left - 1 < length (owns_of c.args.image.now) = omega (arith, c.loop-left.invariant.within) in
     has_pool i c.runnable.ensures.runnable (c.loop-left.left - 1) below c.own.result.now (hardware_model c.public-public.result.now.hardware) c.own.ensures.value (ap (λ (p : Public). p.hardware) c.public-public.ensures.value)
 
-pub new-placement-requires-clause-is_pool : goal.new-placement-requires-clause-is_pool
-new-placement-requires-clause-is_pool c =
+pub load_domain-requires-clause-has : goal.load_domain-requires-clause-has
+load_domain-requires-clause-has c =
     let i = image_from c.args.image.now in
     let k : ℕ = c.loop-left.left - 1 in
     let domains = c.args.domains.now in
     let below : k < length domains = omega (arith, c.loop-left.invariant.within, c.requires.opened.all) in
-    let opened = c.requires.opened.each k _ (slice_get-get_or domains k c.index-domains-left.result below) in
-    subst₂ (λ (h : Hardware) (o : Own). c.frames.result.now ≡ pool h o) (sym (ap (λ (p : Public). p.hardware) c.public-public.ensures.value)) (sym c.own.ensures.value)
-    (c.frames.ensures.frames ∙ pool_is i.all.hardware (own_at i.owns k) _ opened.has)
+    let x = c.index-domains-left.result in
+    let is : x ≡ get_or domains k x = search rules in
+    let opened = c.requires.opened.each k x (slice_get-get_or domains k x below ∙ ap Some (sym is)) in
+    subst₂ (λ (h : Hardware) (o : Own). Has (estate h o) x) (sym (ap (λ (p : Public). p.hardware) c.public-public.ensures.value)) (sym c.own.ensures.value) opened.has
 
 pub loop-left-preserved : goal.loop-left-preserved
 loop-left-preserved c =
@@ -49,12 +49,10 @@ loop-left-preserved c =
     let below : k < length owns = omega (arith, c.loop-left.invariant.within) in
     let next : k + 1 ≡ c.loop-left.left = omega arith in
     let before : Holds c.loop-left.memory (all_placed i.all.hardware (drop (k + 1) owns)) = rw next c.loop-left.invariant.holds in
-    let hardware : hardware_model c.new-placement.result.hardware.now ≡ i.all.hardware = ap hardware_model c.new-placement.ensures.hardware ∙ ap (λ (p : Public). p.hardware) c.public-public.ensures.value in
-    let own : own_model c.new-placement.result.own.now ≡ own_at owns k = ap own_model c.new-placement.ensures.own ∙ c.own.ensures.value in
     record {
       within = omega (arith, c.loop-left.invariant.within);
-      frames = c.place_domain.ensures.frames ∙ c.loop-left.invariant.frames;
-      holds = subst (Holds c.place_domain.new.memory) (owns_more i.all.hardware owns k below)
-          (subst₂ (λ (h : Hardware) (o : Own). Holds c.place_domain.new.memory (placed h o (all_placed i.all.hardware (drop (k + 1) owns)))) hardware own
-          (c.place_domain.ensures.placed (all_placed i.all.hardware (drop (k + 1) owns)) before));
+      frames = c.load_domain.ensures.size ∙ c.loop-left.invariant.frames;
+      holds = subst (Holds c.load_domain.new.memory) (owns_more i.all.hardware owns k below)
+          (subst₂ (λ (h : Hardware) (o : Own). Holds c.load_domain.new.memory (placed h o (all_placed i.all.hardware (drop (k + 1) owns)))) (ap (λ (p : Public). p.hardware) c.public-public.ensures.value) c.own.ensures.value
+          (c.load_domain.ensures.placed (all_placed i.all.hardware (drop (k + 1) owns)) before));
     }

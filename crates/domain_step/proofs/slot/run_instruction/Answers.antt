@@ -102,5 +102,6 @@ returns-in_default-instr g c = record {
     readings = c.execute.ensures.grows.readings;
     replies = let few = c.execute.ensures.grows.replies in omega (arith, few);
   };
+  moments = c.execute.ensures.keeps.moments;
   few = omega (arith, c.execute.ensures.few, c.in-Ok.ensures.few, c.fetch.ensures.few);
 }

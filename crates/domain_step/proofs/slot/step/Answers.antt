@@ -1,34 +1,19 @@
-use Rattle.std.proofs.Common.{◌+◌, refl, ap, ◌∙◌, arith}
+use Rattle.std.proofs.Common.{◌≡◌, ◌≢◌, ◌+◌, ℕ, Option, Some, None, true, false, refl, ap, sym, ◌∙◌, arith}
 use Rattle.cycle_cost.specs.Costs.{CostTable}
+use Rattle.irq_partition.specs.Interrupts.{due, next_cycle}
+use Rattle.thread_set.specs.Threads.{is_ready}
+use Rattle.kernel_clone.specs.Models.{work_model}
+use Rattle.world_view.specs.Event.{idle_until}
 use Rattle.world_view.specs.Machine.{step}
-use Rattle.domain_step.proofs.Moved.{moves_running, moves_still, not_running, runs_on, hierarchy_stays, pinned_stays}
+use Rattle.domain_step.proofs.Counts.{counts_later}
+use Rattle.domain_step.proofs.Moved.{due_line, due_left, idle_later, moves_running, moves_due, moves_idle, moves_still, not_running, runs_on, hierarchy_stays, pinned_stays}
 use Rattle.domain_step.proofs.slot.step.Goals as goal
 
-pub returns-in-Running-clause-becomes : goal.returns-in-Running-clause-becomes
-returns-in-Running-clause-becomes g c =
-    let new = c.run_instruction.new in
-    moves_running g.P.Policy.rule g.P.Policy.stands_for c.args.end c.args.memory.now new.memory c.args.domain.now new.domain c.args.system.now new.system
-    c.args.now (c.args.now + c.from.result + c.from-in-Running.result) c.from.result new.spent
-    c.in-Running.is c.run_instruction.ensures.leaves (c.from.ensures ∙ ap (λ (t : CostTable). t.base) c.costs.ensures.table)
-    (ap (λ n. c.args.now + c.from.result + n) c.from-in-Running.ensures)
+none_left : (o : Option ℕ) → ((x : ℕ) → o ≢ Some x) → o ≡ None
+none_left None none = refl
+none_left (Some x) none = absurd (none x refl)
 
-pub returns-in-Running-clause-hierarchy : goal.returns-in-Running-clause-hierarchy
-returns-in-Running-clause-hierarchy g c =
-    let new = c.run_instruction.new in
-    hierarchy_stays g.P.Policy.rule g.P.Policy.stands_for c.args.end c.args.memory.now new.memory c.args.domain.now new.domain c.args.system.now new.system
-    (λ w. step w.machine w.own w.pinned c.args.end) c.args.now _ (returns-in-Running-clause-becomes g c) c.requires.runs
-
-pub returns-in-Running-clause-pinned : goal.returns-in-Running-clause-pinned
-returns-in-Running-clause-pinned g c =
-    let new = c.run_instruction.new in
-    pinned_stays g.P.Policy.rule g.P.Policy.stands_for c.args.end c.args.memory.now new.memory c.args.domain.now new.domain c.args.system.now new.system
-    (λ w. step w.machine w.own w.pinned c.args.end) c.args.now _ (returns-in-Running-clause-becomes g c) c.requires.runs
-
-pub returns-in-Running-clause-runs : goal.returns-in-Running-clause-runs
-returns-in-Running-clause-runs g c =
-    let new = c.run_instruction.new in
-    runs_on g.P.Policy.rule g.P.Policy.stands_for c.args.end c.args.memory.now new.memory c.args.domain.now new.domain c.args.system.now new.system
-    (λ w. step w.machine w.own w.pinned c.args.end) c.args.now _ (returns-in-Running-clause-becomes g c) c.requires.runs
+-- ---- a domain that doesn't run
 
 pub returns-in_default : goal.returns-in_default
 returns-in_default g c =
@@ -41,7 +26,88 @@ returns-in_default g c =
       pinned = refl;
       runs = runs_on g.P.Policy.rule g.P.Policy.stands_for c.args.end c.args.memory.now c.args.memory.now c.args.domain.now c.args.domain.now c.args.system.now c.args.system.now
           (λ w. step w.machine w.own w.pinned c.args.end) c.args.now c.args.end still c.requires.runs;
-      few = record { retired = omega arith; readings = omega arith; replies = omega arith };
+      few = counts_later c.args.now c.args.end c.args.domain.now (omega (arith, c.requires.before)) c.requires.few;
       later = c.requires.before;
       soon = omega arith;
     }
+
+-- ---- a moment that is due
+
+pub deliver-work-requires-clause-left : goal.deliver-work-requires-clause-left
+deliver-work-requires-clause-left g c = due_left c.args.domain.now.interrupts c.args.now c.in-Some._line (sym c.due.ensures.due ∙ c.in-Some.is)
+
+pub returns-in-Some-clause-becomes : goal.returns-in-Some-clause-becomes
+returns-in-Some-clause-becomes g c =
+    let old = c.args.domain.now in
+    let new = c.deliver-work.new.domain in
+    let keeps = c.deliver-work.ensures.keeps in
+    let comes : due c.args.now old.interrupts ≡ Some c.in-Some._line = sym c.due.ensures.due ∙ c.in-Some.is in
+    moves_due g.P.Policy.rule g.P.Policy.stands_for c.args.end c.args.memory.now old new c.args.system.now c.charge.new.system
+    c.args.now (c.args.now + c.from.result) c.charge.result c.in-Some._line (work_model c.deliver-work.result) c.in-Running.is comes
+    (c.deliver-work.ensures.delivers c.in-Some._line (due_line old.interrupts c.args.now c.in-Some._line comes))
+    keeps.caps keeps.pool keeps.map keeps.layout keeps.moments c.deliver-work.ensures.work c.charge.ensures.makes c.charge.ensures.buffer
+    (ap (λ n. c.args.now + n) c.from.ensures)
+
+pub returns-in-Some-clause-runs : goal.returns-in-Some-clause-runs
+returns-in-Some-clause-runs g c =
+    runs_on g.P.Policy.rule g.P.Policy.stands_for c.args.end c.args.memory.now c.args.memory.now c.args.domain.now c.deliver-work.new.domain c.args.system.now c.charge.new.system
+    (λ w. step w.machine w.own w.pinned c.args.end) c.args.now _ (returns-in-Some-clause-becomes g c) c.requires.runs
+
+-- ---- no thread is ready
+
+pub returns-then-not-is_ready-clause-becomes : goal.returns-then-not-is_ready-clause-becomes
+returns-then-not-is_ready-clause-becomes g c =
+    let d = c.args.domain.now in
+    let none : due c.args.now d.interrupts ≡ None = sym c.due.ensures.due ∙ none_left c.due.result c.in_default-due.not-Some in
+    let idle : is_ready d.threads.active.state ≡ false = sym c.is_ready.ensures.ready ∙ c.if-not-is_ready.true in
+    moves_idle g.P.Policy.rule g.P.Policy.stands_for c.args.end c.args.memory.now d c.args.system.now c.args.now c.idle_until.result c.in-Running.is none idle
+    (c.idle_until.ensures.value ∙ ap (idle_until c.args.end) c.next_moment.ensures.next)
+
+pub returns-then-not-is_ready-clause-runs : goal.returns-then-not-is_ready-clause-runs
+returns-then-not-is_ready-clause-runs g c =
+    runs_on g.P.Policy.rule g.P.Policy.stands_for c.args.end c.args.memory.now c.args.memory.now c.args.domain.now c.args.domain.now c.args.system.now c.args.system.now
+    (λ w. step w.machine w.own w.pinned c.args.end) c.args.now _ (returns-then-not-is_ready-clause-becomes g c) c.requires.runs
+
+pub returns-then-not-is_ready-clause-later : goal.returns-then-not-is_ready-clause-later
+returns-then-not-is_ready-clause-later g c =
+    let d = c.args.domain.now in
+    let none : due c.args.now d.interrupts ≡ None = sym c.due.ensures.due ∙ none_left c.due.result c.in_default-due.not-Some in
+    let past = idle_later d.interrupts c.args.now c.args.end c.requires.before none in
+    let is : c.idle_until.result ≡ idle_until c.args.end (next_cycle d.interrupts) = c.idle_until.ensures.value ∙ ap (idle_until c.args.end) c.next_moment.ensures.next in
+    omega (arith, past, is)
+
+pub returns-then-not-is_ready-clause-few : goal.returns-then-not-is_ready-clause-few
+returns-then-not-is_ready-clause-few g c =
+    let later = returns-then-not-is_ready-clause-later g c in
+    counts_later c.args.now c.idle_until.result c.args.domain.now (omega (arith, later)) c.requires.few
+
+-- ---- an instruction
+
+pub returns-clause-becomes : goal.returns-clause-becomes
+returns-clause-becomes g c =
+    let new = c.run_instruction.new in
+    let none : due c.args.now c.args.domain.now.interrupts ≡ None = sym c.due.ensures.due ∙ none_left c.due.result c.in_default-due.not-Some in
+    let ready : is_ready c.args.domain.now.threads.active.state ≡ true = sym c.is_ready.ensures.ready ∙ c.if-not-is_ready.false in
+    moves_running g.P.Policy.rule g.P.Policy.stands_for c.args.end c.args.memory.now new.memory c.args.domain.now new.domain c.args.system.now new.system
+    c.args.now (c.args.now + c.from-2.result + c.from-3.result) c.from-2.result new.spent
+    c.in-Running.is c.run_instruction.ensures.leaves none ready c.run_instruction.ensures.moments
+    (c.from-2.ensures ∙ ap (λ (t : CostTable). t.base) c.costs.ensures.table)
+    (ap (λ n. c.args.now + c.from-2.result + n) c.from-3.ensures)
+
+pub returns-clause-hierarchy : goal.returns-clause-hierarchy
+returns-clause-hierarchy g c =
+    let new = c.run_instruction.new in
+    hierarchy_stays g.P.Policy.rule g.P.Policy.stands_for c.args.end c.args.memory.now new.memory c.args.domain.now new.domain c.args.system.now new.system
+    (λ w. step w.machine w.own w.pinned c.args.end) c.args.now _ (returns-clause-becomes g c) c.requires.runs
+
+pub returns-clause-pinned : goal.returns-clause-pinned
+returns-clause-pinned g c =
+    let new = c.run_instruction.new in
+    pinned_stays g.P.Policy.rule g.P.Policy.stands_for c.args.end c.args.memory.now new.memory c.args.domain.now new.domain c.args.system.now new.system
+    (λ w. step w.machine w.own w.pinned c.args.end) c.args.now _ (returns-clause-becomes g c) c.requires.runs
+
+pub returns-clause-runs : goal.returns-clause-runs
+returns-clause-runs g c =
+    let new = c.run_instruction.new in
+    runs_on g.P.Policy.rule g.P.Policy.stands_for c.args.end c.args.memory.now new.memory c.args.domain.now new.domain c.args.system.now new.system
+    (λ w. step w.machine w.own w.pinned c.args.end) c.args.now _ (returns-clause-becomes g c) c.requires.runs

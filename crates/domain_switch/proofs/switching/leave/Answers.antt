@@ -1,17 +1,8 @@
--- A clone leaves, or none.
-use Rattle.std.proofs.Common.{ap}
-use Rattle.std.specs.Option.{option_copied}
-use Rattle.kernel_clone.specs.Models.{layout_model}
-use Rattle.domain_switch.specs.Switch.{layout_if}
-use Rattle.domain_switch.proofs.Charges.{leaves, leaves_none}
+use Rattle.kernel_clone.specs.Models.{layout_model, work_model}
+use Rattle.domain_switch.proofs.Charges.{leaves}
 use Rattle.domain_switch.proofs.switching.leave.Goals as goal
 
-pub returns-in-Some-clause-makes : goal.returns-in-Some-clause-makes
-returns-in-Some-clause-makes g c =
-    leaves g.P.Policy.rule g.P.Policy.stands_for c.args.system.now.core.costs (layout_model c.in-Some.clone.now) _ (layout_if (option_copied c.args.out))
-    c.charge.result c.args.system.now c.charge.new.system (ap (λ out. layout_if (option_copied out)) c.in-Some.is) c.work_of.ensures.work c.charge.ensures.makes
-
-pub returns-in-None-clause-makes : goal.returns-in-None-clause-makes
-returns-in-None-clause-makes g c =
-    leaves_none g.P.Policy.rule g.P.Policy.stands_for c.args.system.now.core.costs (layout_if (option_copied c.args.out)) c.args.system.now
-    (ap (λ out. layout_if (option_copied out)) c.in-None.is)
+pub returns-clause-makes : goal.returns-clause-makes
+returns-clause-makes g c =
+    leaves g.P.Policy.rule g.P.Policy.stands_for c.args.system.now.core.costs (layout_model c.args.layout.now) (work_model c.work_of.result)
+    c.charge.result c.args.system.now c.charge.new.system c.work_of.ensures.work c.charge.ensures.makes

@@ -11,16 +11,18 @@
 // 5. a table that is not installed reads zero;
 // 6. a frame is refused exactly where all are used;
 // 7. a refused call gives 0, and leaves the slots as they were;
-// 8. there is a reply, and its code is 0 to 12;
+// 8. there is a reply, but of a WAIT that blocks, and its code is 0 to 13;
 // 9. a refused call leaves each word of the domain's frames as it was, of which
 //    each sixteenth call is looked at, and at the end those of all other frames are
 //    as they were at first.
-ghost use Rattle.std.specs.Prelude.{◌≤◌, ◌^◌};
+ghost use Rattle.std.specs.Prelude.{◌≡◌, ◌+◌, ◌<◌, ◌≤◌, ◌^◌, true};
+ghost use Rattle.phys_mem.specs.Contents.{Contents};
+ghost use Rattle.thread_set.specs.Threads.{is_ready};
 ghost use Rattle.kernel_call.specs.Facts.{Valid};
 
 use super::{Machine, accepted};
 use cap_table::Cap;
-use kernel_call::{Domain, Outcome, SLOTS, call};
+use kernel_call::{Domain, Outcome, SLOTS, call, deliver};
 use phys_mem::PhysMem;
 use std::alloc::Global;
 use std::test::Fail;
@@ -37,6 +39,16 @@ segment = [
 ]
 caps = [\"page 32\", \"none\", \"page 33\", \"irq 3\"]
 lines = [3]
+moments = [
+  [1, 3], [2, 3], [3, 3], [4, 3], [5, 3], [6, 3], [7, 3], [8, 3],
+  [9, 3], [10, 3], [11, 3], [12, 3], [13, 3], [14, 3], [15, 3], [16, 3],
+  [17, 3], [18, 3], [19, 3], [20, 3], [21, 3], [22, 3], [23, 3], [24, 3],
+  [25, 3], [26, 3], [27, 3], [28, 3], [29, 3], [30, 3], [31, 3], [32, 3],
+  [33, 3], [34, 3], [35, 3], [36, 3], [37, 3], [38, 3], [39, 3], [40, 3],
+  [41, 3], [42, 3], [43, 3], [44, 3], [45, 3], [46, 3], [47, 3], [48, 3],
+  [49, 3], [50, 3], [51, 3], [52, 3], [53, 3], [54, 3], [55, 3], [56, 3],
+  [57, 3], [58, 3], [59, 3], [60, 3], [61, 3], [62, 3], [63, 3], [64, 3],
+]
 [[domain]]
 name = \"blue\"
 colours = [2]
@@ -85,8 +97,8 @@ impl Random {
             52..=55 => 6,
             56..=59 => 7,
             60..=61 => 8,
-            62 => 9,
-            _ => self.next().max(1),
+            62 => 9 + self.next() % 5,
+            _ => self.next().max(15),
         }
     }
 
@@ -136,6 +148,7 @@ impl Random {
             2 => [self.slot(), self.kind(), self.next()],
             3 => [self.slot(), self.region(), self.next()],
             6 => [self.slot(), self.slot(), self.rights()],
+            12 => [self.address(), self.next(), self.next()],
             _ => [self.slot(), self.address(), self.rights()],
         };
         Request { number, args }
@@ -506,9 +519,13 @@ fn alloc_is_right(before: &State, request: Request, code: u32) -> bool {
 // The first of the facts 6 to 8 that is not so.
 fn wrong_reply(before: &State, request: Request, outcome: &Outcome, after: &State) -> Option<u32> {
     let Some(reply) = outcome.reply else {
-        return Some(8);
+        return if request.number == 10 {
+            None
+        } else {
+            Some(8)
+        };
     };
-    if reply.code > 12 {
+    if reply.code > 13 {
         return Some(8);
     }
     if !alloc_is_right(before, request, reply.code) {
@@ -522,17 +539,37 @@ fn wrong_reply(before: &State, request: Request, outcome: &Outcome, after: &Stat
 
 // ---- the calls
 
+// Whether the current thread may call: where none is ready, a moment comes first.
+fn has_ready_thread(domain: &mut Domain) -> bool
+    requires replies { domain.old.replies.count < 2 ^ 63 }
+    ensures ready { result ≡ true → is_ready domain.new.threads.active.state ≡ true }
+    ensures valid { (memory : Contents) → Valid memory domain.old → Valid memory domain.new }
+    ensures replies { domain.new.replies.count ≤ domain.old.replies.count + 1 }
+{
+    if domain.threads.active.state.is_ready() {
+        return true;
+    }
+    if domain.interrupts.next_moment().is_none() {
+        return false;
+    }
+    let _work = deliver(domain);
+    domain.threads.active.state.is_ready()
+}
+
 // The first of 10,000 calls after which something is not so, and what; and how
 // often each code came.
-fn first_wrong(domain: &mut Domain, memory: &mut PhysMem) -> (Option<(u32, u32)>, [u32; 13])
+fn first_wrong(domain: &mut Domain, memory: &mut PhysMem) -> (Option<(u32, u32)>, [u32; 14])
     requires valid { Valid memory.old domain.old }
     requires replies { domain.old.replies.count ≤ 2 ^ 62 }
 {
-    let mut codes = [0u32; 13];
+    let mut codes = [0u32; 14];
     let mut random = Random(1);
     let others = mixed(domain, memory, false);
     let mut before = state_of(domain);
     for step in 0..CALLS {
+        if !has_ready_thread(domain) {
+            return (Some((step, 8)), codes);
+        }
         let request = random.request();
         let words = if step % 16 == 0 {
             Some(mixed(domain, memory, true))
@@ -563,6 +600,7 @@ fn first_wrong(domain: &mut Domain, memory: &mut PhysMem) -> (Option<(u32, u32)>
 
 // Red of a machine, and its memory.
 fn taken_apart(machine: Machine<'_>) -> (Domain, PhysMem)
+    requires first { machine.slots ≡ 0 }
     ensures valid { Valid result.1 result.0 }
     ensures replies { result.0.replies.count ≤ 2 ^ 62 }
 {
@@ -575,7 +613,7 @@ fn taken_apart(machine: Machine<'_>) -> (Domain, PhysMem)
 }
 
 // The call after which something is not so, and what; and whether each code,
-// 0 to 12, came.
+// 0 to 13, came.
 fn called(alloc: Global) -> Result<Option<(Option<(u32, u32)>, bool)>, Memory> {
     let Some(image) = accepted(alloc, DOMAINS)? else {
         return Ok(None);

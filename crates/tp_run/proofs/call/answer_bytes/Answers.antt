@@ -2,7 +2,7 @@ use Rattle.std.proofs.Common.{◌≤◌, ◌<◌, length, sym, ap, ◌∙◌, su
 use Rattle.world_view.specs.Reading.{most_bytes}
 use Rattle.tp_io.specs.Sink.{state}
 use Rattle.tp_run.specs.declared.Command.{Command}
-use Rattle.tp_run.specs.declared.Command.TheVariants.{Check, Bound, Run}
+use Rattle.tp_run.specs.declared.Command.TheVariants.{Check, Bound, Run, Alone}
 use Rattle.tp_run.specs.Answer.{Answer, answer_of_bytes}
 use Rattle.tp_run.specs.TopCall.{Delivers}
 use Rattle.tp_run.specs.declared.status.Status.TheVariants.{TooLong}
@@ -39,4 +39,12 @@ returns-in-Run g c =
     record {
       delivers = subst (λ (due : Answer). Delivers due c.answer_run.result (state g.K.Sink c.args.out.now) (state g.K.Sink c.answer_run.new.out))
           (sym (ap (λ (k : Command). answer_of_bytes k c.args.bytes.now) c.in-Run.is ∙ image_due c.args.bytes.now (Run c.in-Run.slots) few)) c.answer_run.ensures.delivers;
+    }
+
+pub returns-in-Alone : goal.returns-in-Alone
+returns-in-Alone g c =
+    let few : length c.args.bytes.now ≤ most_bytes = search rules in
+    record {
+      delivers = subst (λ (due : Answer). Delivers due c.answer_alone.result (state g.K.Sink c.args.out.now) (state g.K.Sink c.answer_alone.new.out))
+          (sym (ap (λ (k : Command). answer_of_bytes k c.args.bytes.now) c.in-Alone.is ∙ image_due c.args.bytes.now (Alone c.in-Alone.domain c.in-Alone.slots) few)) c.answer_alone.ensures.delivers;
     }

@@ -3,11 +3,11 @@ use Rattle.std.proofs.lemmas.Option.{same_Some}
 use Rattle.tp_io.specs.Sink.{state}
 use Rattle.tp_report.specs.Report.{usage_text}
 use Rattle.tp_run.specs.declared.Command.{Command}
-use Rattle.tp_run.specs.declared.Command.TheVariants.{Check, Bound, Run}
+use Rattle.tp_run.specs.declared.Command.TheVariants.{Check, Bound, Run, Alone}
 use Rattle.tp_run.specs.declared.status.Status.TheVariants.{Usage}
 use Rattle.tp_run.specs.Answer.{answer_of_bytes, command}
-use Rattle.tp_run.specs.TopCall.{Delivers, words_of}
-use Rattle.tp_run.proofs.Answers.{delivered, none_taken, bytes_due, told_delivers, usage_delivers, done_reads, refused_reads, too_long_reads, is_no_usage, ends_usage, completes, completes_surely, refuses, accepts, bounds, ran, is_isolated, is_padded}
+use Rattle.tp_run.specs.TopCall.{Delivers, MayBeUsage, words_of}
+use Rattle.tp_run.proofs.Answers.{delivered, none_taken, bytes_due, told_delivers, usage_delivers, done_reads, refused_reads, too_long_reads, may_be_usage, ends_usage, completes, completes_surely, refuses, accepts, bounds, ran, is_isolated, is_padded, lacks_domain, writes_section, is_same_section}
 use Rattle.tp_run.proofs.call.tp_main.Goals as goal
 
 -- ---- words that are no command
@@ -69,8 +69,9 @@ returns-clause-answered g c read held =
 
 pub returns-clause-usage : goal.returns-clause-usage
 returns-clause-usage g c usage =
+    let asked : command (words_of c.args.words.now) ≡ Some c.in-Ok-Some.command = sym (rw c.in-Ok-Some.field-0-is at c.in-Ok-Some.ensures.value) in
     let delivers = rw c.as_slice.ensures.value at c.answer_bytes.ensures.delivers in
-    absurd (is_no_usage c.in-Ok-Some.command c.in-Ok.bytes.items c.answer_bytes.result _ _ delivers usage)
+    subst MayBeUsage (sym asked) (may_be_usage c.in-Ok-Some.command c.in-Ok.bytes.items c.answer_bytes.result _ _ delivers usage)
 
 pub returns-clause-done_reads : goal.returns-clause-done_reads
 returns-clause-done_reads g c done =
@@ -141,3 +142,27 @@ returns-clause-pad g c slots run done =
     let runs = subst (λ (k : Command). Delivers (answer_of_bytes k c.in-Ok.bytes.items) c.answer_bytes.result (state g.K.Sink c.args.out.now) (state g.K.Sink c.answer_bytes.new.out)) same delivers in
     let r = ran slots c.in-Ok.bytes.items _ _ c.answer_bytes.result _ _ c.in-Ok.ensures.taken c.in-Ok.ensures.whole runs done in
     is_padded slots _ _ r.0
+
+pub returns-clause-no_domain : goal.returns-clause-no_domain
+returns-clause-no_domain g c d slots alone usage =
+    let asked : command (words_of c.args.words.now) ≡ Some c.in-Ok-Some.command = sym (rw c.in-Ok-Some.field-0-is at c.in-Ok-Some.ensures.value) in
+    let delivers = rw c.as_slice.ensures.value at c.answer_bytes.ensures.delivers in
+    let same : c.in-Ok-Some.command ≡ Alone d slots = same_Some _ _ (sym asked ∙ alone) in
+    let runs = subst (λ (k : Command). Delivers (answer_of_bytes k c.in-Ok.bytes.items) c.answer_bytes.result (state g.K.Sink c.args.out.now) (state g.K.Sink c.answer_bytes.new.out)) same delivers in
+    lacks_domain d slots c.in-Ok.bytes.items _ _ c.answer_bytes.result _ _ c.in-Ok.ensures.taken c.in-Ok.ensures.whole runs usage
+
+pub returns-clause-alone : goal.returns-clause-alone
+returns-clause-alone g c d slots alone done =
+    let asked : command (words_of c.args.words.now) ≡ Some c.in-Ok-Some.command = sym (rw c.in-Ok-Some.field-0-is at c.in-Ok-Some.ensures.value) in
+    let delivers = rw c.as_slice.ensures.value at c.answer_bytes.ensures.delivers in
+    let same : c.in-Ok-Some.command ≡ Alone d slots = same_Some _ _ (sym asked ∙ alone) in
+    let runs = subst (λ (k : Command). Delivers (answer_of_bytes k c.in-Ok.bytes.items) c.answer_bytes.result (state g.K.Sink c.args.out.now) (state g.K.Sink c.answer_bytes.new.out)) same delivers in
+    writes_section d slots c.in-Ok.bytes.items _ _ c.answer_bytes.result _ _ c.in-Ok.ensures.taken c.in-Ok.ensures.whole runs done
+
+pub returns-clause-same_section : goal.returns-clause-same_section
+returns-clause-same_section g c d slots alone done =
+    let asked : command (words_of c.args.words.now) ≡ Some c.in-Ok-Some.command = sym (rw c.in-Ok-Some.field-0-is at c.in-Ok-Some.ensures.value) in
+    let delivers = rw c.as_slice.ensures.value at c.answer_bytes.ensures.delivers in
+    let same : c.in-Ok-Some.command ≡ Alone d slots = same_Some _ _ (sym asked ∙ alone) in
+    let runs = subst (λ (k : Command). Delivers (answer_of_bytes k c.in-Ok.bytes.items) c.answer_bytes.result (state g.K.Sink c.args.out.now) (state g.K.Sink c.answer_bytes.new.out)) same delivers in
+    is_same_section d slots _ _ _ _ (writes_section d slots c.in-Ok.bytes.items _ _ c.answer_bytes.result _ _ c.in-Ok.ensures.taken c.in-Ok.ensures.whole runs done)

@@ -6,7 +6,7 @@ use std::process::Abort;
 use std::test::Fail;
 
 // The image is refused with this line.
-fn refuses_text(rt: &impl Abort, alloc: Global, text: &str, line: &str) -> Result<(), Fail> {
+pub fn refused(rt: &impl Abort, alloc: Global, text: &str, line: &str) -> Result<(), Fail> {
     let wanted = format!(in alloc; "refused {line}\n")?;
     expect(
         rt,
@@ -28,7 +28,7 @@ fn refuses(rt: &impl Abort, alloc: Global, table: &str) -> Result<(), Fail> {
         let new = fields.next().unwrap_or("");
         let line = fields.next().unwrap_or("");
         let text = image(alloc, PRINTS_A, PRINTS_B)?.replace(alloc, old, new)?;
-        refuses_text(rt, alloc, text.as_str(), line)?;
+        refused(rt, alloc, text.as_str(), line)?;
     }
     Ok(())
 }
@@ -152,13 +152,13 @@ fn refuses_made(
     made: Result<String, Fail>,
     line: &str,
 ) -> Result<(), Fail> {
-    refuses_text(rt, alloc, made?.as_str(), line)
+    refused(rt, alloc, made?.as_str(), line)
 }
 
 #[test]
 fn images_that_lack_something_or_have_too_much_are_refused(rt: HostRuntime) -> Result<(), Fail> {
     let alloc = rt.alloc();
-    refuses_text(&rt, alloc, "", "K2 at 1 found 0 wanted 0")?;
+    refused(&rt, alloc, "", "K2 at 1 found 0 wanted 0")?;
     refuses_made(
         &rt,
         alloc,

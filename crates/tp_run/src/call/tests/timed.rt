@@ -6,7 +6,7 @@ use std::process::Abort;
 use std::test::Fail;
 
 // What is seen of blue, beside whatever red: its slot begins at 22300.
-const BLUE: &str = "domain 1 blue
+pub const BLUE: &str = "domain 1 blue
 status exited 0
 retired 5
 thread 0 ended pc 00010018 x5=0000571c x6=000058f3

@@ -19,7 +19,8 @@ use Rattle.domain_step.specs.Moves.{Moves}
 use Rattle.tp_machine.specs.Usage.{IsUsed, CountedUpTo}
 use Rattle.tp_machine.specs.Worlds.{Kept, kept, setting, StandsFor, HaveFacts}
 use Rattle.tp_machine.proofs.SwitchCounts.{noted_back, counted_back, length_back}
-use Rattle.tp_machine.proofs.Slots.{Begins, begins_here, clone_here, ended_here, begun, resident_at, stands_next, facts_next, in_bounds_next, counts_later}
+use Rattle.domain_step.proofs.Counts.{counts_later}
+use Rattle.tp_machine.proofs.Slots.{Begins, begins_here, clone_here, ended_here, begun, resident_at, stands_next, facts_next, in_bounds_next}
 use Rattle.tp_machine.proofs.machine.Machine.run_slot.Goals as goal
 
 -- ---- the switch

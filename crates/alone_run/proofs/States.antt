@@ -1,0 +1,78 @@
+-- A domain alone by the definitions: it keeps its facts, and each of its slots is over before the next one begins.
+use Rattle.std.proofs.Common.{◌≡◌, ℕ, zero, suc, ◌%◌, ◌≤◌, Bool, true, false, eqb, length, refl, ap, arith, mod-lt, eq-eqb, ne_eqb, ◌≢◌}
+use Rattle.tp_base.specs.Table.{empty}
+use Rattle.sched_table.specs.Schedule.{entry_of_slot, pad_of, start, slot_end}
+use Rattle.pad_bound.specs.Bound.{bound_of}
+use Rattle.image_check.specs.Public.{Public}
+use Rattle.image_check.specs.Own.{Own}
+use Rattle.mem_system.specs.Cost.{fresh_core, cold}
+use Rattle.cache_sharing.specs.Operations.{enter}
+use Rattle.cache_sharing.specs.Worst.{HasWays}
+use Rattle.cache_sharing.proofs.Worst.{worst_law}
+use Rattle.world_view.specs.Kernel.{layout}
+use Rattle.world_view.specs.Cost.{hierarchy}
+use Rattle.world_view.specs.Machine.{Local, enter_part, alone_opening, alone_enter, alone_in, alone_out, alone_if, alone}
+use Rattle.world_view.specs.Relations.{IsKernel, HasFacts, bound}
+use Rattle.world_view.proofs.ActCosts.{instruction_within}
+use Rattle.world_view.proofs.Fuel.{IsTimed}
+use Rattle.world_view.proofs.OpeningFacts.{kernel_is, placed_facts}
+use Rattle.world_view.proofs.StepLaws.{steps_keep}
+use Rattle.world_view.proofs.TimeLaws.{IsSoon, cold_ways, stretch_soon}
+use Rattle.alone_run.specs.Runs.{RunsAlone}
+
+module _ (p : Public) (o : Own) (runs : RunsAlone p o) where
+  pub kernel : IsKernel p.hardware o
+  kernel = kernel_is p.hardware o runs.pool.enough runs.pool.sound runs.hardware (runs.colours.no_zero 0)
+
+  timed : IsTimed p.hardware
+  timed = let base = runs.hardware.costs.base in let trap = runs.hardware.costs.trap in record { base = omega (arith, base); trap = omega (arith, trap) }
+
+  -- ---- facts
+
+  facts_if : (k : ℕ) (s : Local) (b : Bool) → HasFacts p.hardware o s.dom s.storage → HasFacts p.hardware o (alone_if p o k s b).dom (alone_if p o k s b).storage
+  unfolding alone_if alone_out alone_in alone_enter
+  facts_if k s true h = (steps_keep p.hardware o kernel true (slot_end p.schedule k) _ s.storage (alone_enter p o k s) (record { facts = h; outside = λ f out. refl })).facts
+  facts_if k s false h = h
+
+  pub alone_facts : (d k : ℕ) → HasFacts p.hardware o (alone p o d k).dom (alone p o d k).storage
+  unfolding alone alone_opening
+  alone_facts d zero = placed_facts p.hardware o runs.pool.enough runs.pool.sound empty
+  alone_facts d (suc k) = facts_if k (alone p o d k) _ (alone_facts d k)
+
+  -- ---- time
+
+  entered_ways : (k : ℕ) (s : Local) → HasWays (hierarchy p.hardware) (alone_enter p o k s).caches
+  unfolding alone_enter enter_part cold
+  entered_ways k s =
+      (worst_law (hierarchy p.hardware) true (enter (layout p.hardware o)) (record s.caches { core = fresh_core (hierarchy p.hardware) }) (cold_ways p.hardware)).ways
+
+  slot_soon : (k : ℕ) (s : Local) → IsSoon p.hardware timed o true (slot_end p.schedule k) (alone_in p o k s)
+  unfolding alone_in alone_enter
+  slot_soon k s =
+      let within = instruction_within p.hardware o 0 s.dom s.storage in
+      let base = timed.base in
+      stretch_soon p.hardware timed o true (slot_end p.schedule k) (alone_enter p o k s) (record { clock = omega (arith, within, base); ways = entered_ways k s })
+
+  pad_enough : (k : ℕ) → bound p.hardware ≤ pad_of p.schedule (suc k)
+  pad_enough k = runs.padded (k % length p.schedule) (mod-lt k runs.schedule.some)
+
+  early_if : (k : ℕ) (s : Local) (b : Bool) → s.clock ≤ start p.schedule k → (alone_if p o k s b).clock ≤ start p.schedule (suc k)
+  unfolding alone_if alone_out start bound_of
+  early_if k s true h = let soon = (slot_soon k s).clock in let pad = pad_enough k in omega (arith, soon, pad)
+  early_if k s false h = omega (arith, h)
+
+  -- its last slot was over before the next one of the schedule begins
+  pub alone_early : (d k : ℕ) → (alone p o d k).clock ≤ start p.schedule k
+  unfolding alone alone_opening
+  alone_early d zero = omega arith
+  alone_early d (suc k) = early_if k (alone p o d k) _ (alone_early d k)
+
+-- ---- a slot by whose it is
+
+pub others_slot : (p : Public) (o : Own) (d k : ℕ) → (entry_of_slot p.schedule k).domain ≢ d → alone p o d (suc k) ≡ alone p o d k
+unfolding alone alone_if
+others_slot p o d k other = ap (alone_if p o k (alone p o d k)) (ne_eqb (entry_of_slot p.schedule k).domain d other)
+
+pub own_slot : (p : Public) (o : Own) (d k : ℕ) → (entry_of_slot p.schedule k).domain ≡ d → alone p o d (suc k) ≡ alone_out p.hardware o (alone_in p o k (alone p o d k))
+unfolding alone alone_if
+own_slot p o d k own = ap (alone_if p o k (alone p o d k)) (eq-eqb (entry_of_slot p.schedule k).domain d own)

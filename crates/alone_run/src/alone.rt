@@ -1,0 +1,70 @@
+// One domain alone, one slot of the schedule after another.
+ghost use Rattle.std.specs.Prelude.{◌≡◌, ◌≤◌, ◌∷◌, [], IfOk};
+ghost use Rattle.frame_colours.specs.Colours.{AreDisjoint};
+ghost use Rattle.hardware_check.specs.Hardware.{IsHardware, colours_of};
+ghost use Rattle.hardware_check.specs.Models.{hardware_model};
+ghost use Rattle.image_check.specs.Models.{public_model, own_model};
+ghost use Rattle.image_check.specs.Pages as pages;
+ghost use Rattle.world_view.specs.Machine.{alone};
+ghost use Rattle.alone_run.specs.Runs.{RunsAlone};
+ghost use Rattle.alone_run.specs.Standing.{kept, StandsFor, HasFacts, IsInBounds};
+ghost use Rattle.alone_run.specs.Propositions.{stands_prop};
+
+mod run;
+
+use frame_colours::{AllColours, ColourShare};
+use image_check::{Hardware, Own, Public};
+use kernel_call::Domain;
+use mem_system::MemSystem;
+use phys_mem::PhysMem;
+use repl_policy::AnyPolicy;
+use std::alloc::Global;
+use tp_base::Memory;
+
+/// One domain alone, between two slots of the schedule. Its data stand for the
+/// definition of the domain alone after so many slots.
+#[derive(Drop)]
+pub struct Alone<'a> {
+    /// What all domains may know.
+    pub public: &'a Public,
+    /// What is the domain's own.
+    pub own: &'a Own,
+    /// The domain, as the schedule names it.
+    pub number: u8,
+    /// How many slots have passed, its own and others'.
+    pub slots: u32,
+    memory: PhysMem,
+    /// The kernel's lines are pinned in it.
+    system: MemSystem<AnyPolicy>,
+    domain: Domain,
+    /// In cycles, as its last slot ended.
+    clock: u64,
+    ghost runs: { RunsAlone (public_model public.now) (own_model own.now) },
+    ghost stands: { StandsFor (hardware_model public.now.hardware) (own_model own.now)
+        (alone (public_model public.now) (own_model own.now) number slots)
+        (kept memory system domain clock) } by { stands_prop (hardware_model public.now.hardware)
+            (own_model own.now) (alone (public_model public.now) (own_model own.now) number slots)
+            (kept memory system domain clock) },
+    ghost facts: { ∥ HasFacts (hardware_model public.now.hardware) (own_model own.now)
+        (alone (public_model public.now) (own_model own.now) number slots)
+        (kept memory system domain clock) ∥₁ },
+    ghost in_bounds: { IsInBounds slots (kept memory system domain clock) },
+}
+
+// The frames of the domain's colours.
+fn share_of(alloc: Global, hardware: &Hardware, own: &Own) -> Result<ColourShare, Memory>
+    requires hardware { IsHardware (hardware_model hardware.now) }
+    requires colours { AreDisjoint (colours_of (hardware_model hardware.now))
+        ((own_model own.now).colours ∷ []) }
+    ensures share { IfOk result (λ share.
+        share ≡ pages.share_of (hardware_model hardware.now) (own_model own.now)) }
+{
+    let all = AllColours::new(hardware.frames, hardware.colours());
+    let mut shares = all.split(alloc, std::slice::from_ref(&own.colours))?;
+    let share = shares.remove(0);
+    shares.destroy_empty();
+    Ok(share)
+}
+
+#[cfg(test)]
+mod tests;

@@ -1,0 +1,89 @@
+// The calls.
+use super::{Alone, share_of};
+use domain_open::{load_domain, open_domain};
+use domain_step::stretch;
+use domain_switch::{enter, leave};
+use image_check::{Own, Public};
+use mem_system::MemSystem;
+use phys_mem::PhysMem;
+use std::alloc::Global;
+use tp_base::Memory;
+use world_view::{View, geometry_of};
+
+impl<'a> Alone<'a> {
+    ghost use Rattle.std.specs.Prelude.{◌≡◌, ◌+◌, ◌<◌, IfOk};
+    ghost use Rattle.image_check.specs.Models.{public_model, own_model};
+    ghost use Rattle.world_view.specs.View.{view_alone};
+    ghost use Rattle.world_view.specs.Models.{view_model};
+    ghost use Rattle.alone_run.specs.Runs.{IsOf};
+
+    /// A domain before its first slot. All that it will need is allocated here.
+    ///
+    /// `public` and `own` are of one accepted image, `own` that of its domain `d`.
+    ///
+    /// # Errors
+    /// `Memory` where no memory is left for it.
+    pub fn load(alloc: Global, public: &'a Public, own: &'a Own, d: u8) -> Result<Self, Memory>
+        requires image { IsOf (public_model public.now) (own_model own.now) d }
+        ensures slots { IfOk result (λ a. a.slots ≡ 0) }
+        ensures number { IfOk result (λ a. a.number ≡ d) }
+        ensures public { IfOk result (λ a. a.public.now ≡ public.now) }
+        ensures own { IfOk result (λ a. a.own.now ≡ own.now) }
+    {
+        let hardware = &public.hardware;
+        let geometry = geometry_of(hardware);
+        let system = MemSystem::new(alloc, geometry, hardware.costs, true)?;
+        let mut memory = PhysMem::new(alloc, hardware.frames)?;
+        let share = share_of(alloc, hardware, own)?;
+        let domain = open_domain(alloc, hardware, own, share, &mut memory)?;
+        load_domain(hardware, own, &domain, &mut memory);
+        Ok(Alone {
+            public,
+            own,
+            number: d,
+            slots: 0,
+            memory,
+            system,
+            domain,
+            clock: 0,
+        })
+    }
+
+    /// Passes the next slot of the schedule. One of its own is run, from exactly
+    /// its start and with a fresh core: the domain enters and leaves without
+    /// charge. Never allocates.
+    pub fn run_slot(&mut self)
+        requires slots { self.old.slots < 65536 }
+        ensures slots { self.new.slots ≡ self.old.slots + 1 }
+        ensures number { self.new.number ≡ self.old.number }
+        ensures public { self.new.public.now ≡ self.old.public.now }
+        ensures own { self.new.own.now ≡ self.old.own.now }
+    {
+        let slot = self.slots;
+        self.slots += 1;
+        let entry = self.public.schedule.entry(slot);
+        if entry.domain != self.number {
+            return;
+        }
+        let start = self.public.schedule.start(slot);
+        let layout = self.domain.layout;
+        self.system.flush();
+        enter(&mut self.system, &layout);
+        self.clock = stretch(
+            &mut self.memory,
+            &mut self.system,
+            &mut self.domain,
+            start,
+            start + u64::from(entry.length),
+        );
+        leave(&mut self.system, &layout);
+    }
+
+    /// What is seen of the domain after the slots that have passed.
+    pub fn view(&self) -> View<'_>
+        ensures view { view_model result ≡ view_alone (public_model self.now.public.now)
+            (own_model self.now.own.now) self.now.number self.now.slots }
+    {
+        View::new(&self.domain, &self.memory)
+    }
+}

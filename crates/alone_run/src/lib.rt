@@ -1,0 +1,8 @@
+//! A domain alone: it is in its own frames, and there is nobody else to switch
+//! from or to. The type keeps that it stands for the definition of the domain
+//! alone after so many slots.
+#![tactic(auto)]
+
+mod alone;
+
+pub use alone::Alone;

@@ -1,0 +1,27 @@
+use Rattle.std.proofs.Common.{◌<◌, ◌≤◌, ◌∙◌, length, sym, subst, arith}
+use Rattle.tp_io.specs.Sink.{state}
+use Rattle.image_check.specs.Own.{owns_of}
+use Rattle.image_check.specs.Image.{image_from}
+use Rattle.tp_report.specs.Report.{usage_text}
+use Rattle.tp_run.specs.Answer.{Answer}
+use Rattle.tp_run.specs.Reading.{image_for}
+use Rattle.tp_run.specs.TopCall.{Delivers}
+use Rattle.tp_run.specs.declared.Command.TheVariants.{Alone}
+use Rattle.tp_run.specs.declared.status.Status.TheVariants.{Usage}
+use Rattle.tp_run.proofs.Answers.{delivered, found_due, alone_due, lacks_due}
+use Rattle.tp_run.proofs.call.answer_alone.Goals as goal
+
+pub returns-in-Ok : goal.returns-in-Ok
+returns-in-Ok g c =
+    let asked = Alone c.args.domain c.args.slots in
+    let has : c.args.domain < length (owns_of c.in-Ok.image) = omega arith in
+    let due = found_due asked (image_for asked c.args.bytes.now) _ (c.in-Ok.ensures.alone c.args.domain c.args.slots) ∙ alone_due c.args.domain c.args.slots (image_from c.in-Ok.image) has in
+    record { delivers = subst (λ (a : Answer). Delivers a c.run_domain.result (state g.K.Sink c.args.out.now) (state g.K.Sink c.run_domain.new.out)) (sym due) c.run_domain.ensures.delivers }
+
+pub returns-in-Ok-2 : goal.returns-in-Ok-2
+returns-in-Ok-2 g c =
+    let asked = Alone c.args.domain c.args.slots in
+    let lacks : length (owns_of c.in-Ok.image) ≤ c.args.domain = omega arith in
+    let due = found_due asked (image_for asked c.args.bytes.now) _ (c.in-Ok.ensures.alone c.args.domain c.args.slots) ∙ lacks_due c.args.domain c.args.slots (image_from c.in-Ok.image) lacks in
+    let usage = delivered Usage c.status_unless_failed.result usage_text (state g.K.Sink c.args.out.now) (state g.K.Sink c.write_usage.new.out) c.write_usage.result tt c.write_usage.ensures.sends c.status_unless_failed.ensures.ok c.status_unless_failed.ensures.err in
+    record { delivers = subst (λ (a : Answer). Delivers a c.status_unless_failed.result (state g.K.Sink c.args.out.now) (state g.K.Sink c.write_usage.new.out)) (sym due) usage }
