@@ -1,0 +1,199 @@
+/* The kernel's calls, one function each, for programs in C. docs/IMAGE.md, 'Kernel
+   calls', tells what each does and by which error it is refused. */
+#ifndef TP_H
+#define TP_H
+
+#include <stdint.h>
+
+enum tp_error {
+    TP_OK = 0,
+    TP_BAD_CALL = 1,
+    TP_BAD_SLOT = 2,
+    TP_EMPTY = 3,
+    TP_USED = 4,
+    TP_WRONG_KIND = 5,
+    TP_BAD_RIGHTS = 6,
+    TP_BAD_ADDRESS = 7,
+    TP_MAPPED = 8,
+    TP_NO_TABLE = 9,
+    TP_NO_FRAME = 10,
+    TP_OUTPUT_FULL = 11,
+    TP_IN_USE = 12,
+    TP_NO_THREAD = 13,
+};
+
+enum tp_call {
+    TP_CALL_EXIT = 0,
+    TP_CALL_PUT = 1,
+    TP_CALL_ALLOC = 2,
+    TP_CALL_TABLE = 3,
+    TP_CALL_MAP = 4,
+    TP_CALL_UNMAP = 5,
+    TP_CALL_COPY = 6,
+    TP_CALL_DELETE = 7,
+    TP_CALL_REVOKE = 8,
+    TP_CALL_POLL = 9,
+    TP_CALL_WAIT = 10,
+    TP_CALL_SIGNAL = 11,
+    TP_CALL_SPAWN = 12,
+    TP_CALL_YIELD = 13,
+    TP_CALL_END_THREAD = 14,
+};
+
+/* Rights, of which the sums 1, 3, 4, 5 and 7 are good. */
+enum tp_rights { TP_READ = 1, TP_WRITE = 2, TP_EXECUTE = 4 };
+
+/* What ALLOC makes of a frame. */
+enum tp_kind { TP_PAGE = 0, TP_PAGE_TABLE = 1 };
+
+/* A reply; where it is an error the value is 0, and nothing else is changed. */
+struct tp_reply {
+    enum tp_error error;
+    uint32_t value;
+};
+
+static inline struct tp_reply tp_call(enum tp_call number, uint32_t a, uint32_t b, uint32_t c)
+{
+    register uint32_t a0 __asm__("a0") = a;
+    register uint32_t a1 __asm__("a1") = b;
+    register uint32_t a2 __asm__("a2") = c;
+    register uint32_t a7 __asm__("a7") = number;
+    __asm__ volatile("ecall" : "+r"(a0), "+r"(a1) : "r"(a2), "r"(a7) : "memory");
+    return (struct tp_reply){(enum tp_error)a0, a1};
+}
+
+/* Ends the domain. */
+static inline void __attribute__((noreturn)) tp_exit(uint32_t code)
+{
+    tp_call(TP_CALL_EXIT, code, 0, 0);
+    __builtin_unreachable();
+}
+
+/* Prints a byte. */
+static inline enum tp_error tp_put(char byte)
+{
+    return tp_call(TP_CALL_PUT, (uint8_t)byte, 0, 0).error;
+}
+
+/* Slot `slot` names a frame that was free, zeroed. */
+static inline enum tp_error tp_alloc(uint32_t slot, enum tp_kind kind)
+{
+    return tp_call(TP_CALL_ALLOC, slot, kind, 0).error;
+}
+
+/* Installs the page table for the 4 MiB at `address`. */
+static inline enum tp_error tp_table(uint32_t slot, uint32_t address)
+{
+    return tp_call(TP_CALL_TABLE, slot, address, 0).error;
+}
+
+static inline enum tp_error tp_map(uint32_t slot, uint32_t address, uint32_t rights)
+{
+    return tp_call(TP_CALL_MAP, slot, address, rights).error;
+}
+
+static inline enum tp_error tp_unmap(uint32_t slot)
+{
+    return tp_call(TP_CALL_UNMAP, slot, 0, 0).error;
+}
+
+/* Slot `to` names what slot `from` does, a page with these rights. */
+static inline enum tp_error tp_copy(uint32_t from, uint32_t to, uint32_t rights)
+{
+    return tp_call(TP_CALL_COPY, from, to, rights).error;
+}
+
+static inline enum tp_error tp_delete(uint32_t slot)
+{
+    return tp_call(TP_CALL_DELETE, slot, 0, 0).error;
+}
+
+/* Deletes every other slot that names the same; the value is their number. */
+static inline struct tp_reply tp_revoke(uint32_t slot)
+{
+    return tp_call(TP_CALL_REVOKE, slot, 0, 0);
+}
+
+/* The value is 1 where an interrupt had come, which is then taken. */
+static inline struct tp_reply tp_poll(uint32_t slot)
+{
+    return tp_call(TP_CALL_POLL, slot, 0, 0);
+}
+
+/* Waits for an interrupt, where none has come yet; the value is 1. */
+static inline struct tp_reply tp_wait(uint32_t slot)
+{
+    return tp_call(TP_CALL_WAIT, slot, 0, 0);
+}
+
+/* Does what an interrupt of the line would. */
+static inline enum tp_error tp_signal(uint32_t slot)
+{
+    return tp_call(TP_CALL_SIGNAL, slot, 0, 0).error;
+}
+
+/* Starts a thread at an address, with nothing but x10; the value is its number.
+   A function in C wants a stack: tp_start_thread. */
+static inline struct tp_reply tp_spawn(uint32_t address, uint32_t x10)
+{
+    return tp_call(TP_CALL_SPAWN, address, x10, 0);
+}
+
+/* The next thread that is ready runs. */
+static inline void tp_yield(void)
+{
+    tp_call(TP_CALL_YIELD, 0, 0, 0);
+}
+
+static inline void __attribute__((noreturn)) tp_end_thread(void)
+{
+    tp_call(TP_CALL_END_THREAD, 0, 0, 0);
+    __builtin_unreachable();
+}
+
+/* ---- beyond the calls */
+
+void tp_thread_entry(void); /* in crt0.S */
+
+/* Starts a thread that runs a function on a stack of its own, and ends as it returns. */
+static inline struct tp_reply tp_start_thread(void (*function)(uint32_t), uint32_t argument,
+                                              void *stack, uint32_t stack_bytes)
+{
+    uint32_t top = ((uint32_t)stack + stack_bytes - 16) & ~15u;
+    uint32_t *begun_with = (uint32_t *)top;
+    begun_with[0] = (uint32_t)function;
+    begun_with[1] = argument;
+    return tp_spawn((uint32_t)tp_thread_entry, top);
+}
+
+/* Counters, whose assembler name is an extension's beside rv32i. Each value read is
+   one of the domain's readings in the report. */
+#define TP_COUNTER(name, csr)                                                      \
+    static inline uint32_t name(void)                                              \
+    {                                                                              \
+        uint32_t value;                                                            \
+        __asm__ volatile(".option push\n\t.option arch, +zicsr\n\tcsrr %0, " csr   \
+                         "\n\t.option pop"                                         \
+                         : "=r"(value)                                             \
+                         :                                                         \
+                         : "memory");                                              \
+        return value;                                                              \
+    }
+TP_COUNTER(tp_cycle, "cycle")
+TP_COUNTER(tp_cycle_high, "cycleh")
+TP_COUNTER(tp_instret, "instret")
+TP_COUNTER(tp_instret_high, "instreth")
+#undef TP_COUNTER
+
+/* Prints a text; ends at the first error. */
+static inline enum tp_error tp_print(const char *text)
+{
+    for (; *text; text++) {
+        enum tp_error error = tp_put(*text);
+        if (error != TP_OK)
+            return error;
+    }
+    return TP_OK;
+}
+
+#endif

@@ -1,0 +1,63 @@
+"""What the tests run on: the program, the compiler. A test is skipped where one is missing."""
+
+from __future__ import annotations
+
+import os
+import shutil
+import subprocess
+import sys
+from pathlib import Path
+
+import pytest
+
+SDK = Path(__file__).resolve().parents[1]
+sys.path.insert(0, str(SDK))
+
+from tp_sdk.faults import Missing  # noqa: E402
+from tp_sdk.program import REPOSITORY, Program  # noqa: E402
+
+COMPILER = os.environ.get("CROSS", "riscv64-unknown-elf-") + "gcc"
+
+
+def examples() -> list[Path]:
+    """The images of the repository."""
+    return sorted((REPOSITORY / "examples").glob("*.toml"))
+
+
+def is_refused(image: Path) -> bool:
+    """It is one of those that show a refusal."""
+    return image.stem.startswith("refused-")
+
+
+def run_tool(name: str, *words: str | Path, given: str = "") -> subprocess.CompletedProcess[str]:
+    """Runs a command of the kit as a user does."""
+    command = [sys.executable, SDK / name, *words]
+    return subprocess.run(command, input=given, capture_output=True, text=True, check=False)
+
+
+@pytest.fixture(scope="session")
+def program() -> Program:
+    """The program."""
+    try:
+        return Program.find()
+    except Missing as missing:
+        pytest.skip(str(missing))
+
+
+@pytest.fixture(scope="session")
+def compiler() -> str:
+    """The compiler, as it names itself."""
+    if shutil.which(COMPILER) is None or shutil.which("make") is None:
+        pytest.skip(f"there is no {COMPILER}, or no make")
+    told = subprocess.run([COMPILER, "--version"], capture_output=True, text=True, check=True)
+    return told.stdout.splitlines()[0]
+
+
+@pytest.fixture(scope="session")
+def built(compiler: str, tmp_path_factory: pytest.TempPathFactory) -> Path:
+    """A copy of sdk/c with its programs built: descriptions beside their ELF files."""
+    pytest.importorskip("elftools")
+    folder = tmp_path_factory.mktemp("sdk") / "c"
+    shutil.copytree(SDK / "c", folder, ignore=shutil.ignore_patterns("out"))
+    subprocess.run(["make", "-C", folder], check=True, capture_output=True)
+    return folder

@@ -1,0 +1,243 @@
+"""Images from descriptions: what is made, and each fault, with its place."""
+
+from __future__ import annotations
+
+import tomllib
+from pathlib import Path
+from typing import Any
+
+import pytest
+from conftest import SDK, run_tool
+from elf_files import DYN, Elf, Load, R, W, X
+
+pytest.importorskip("elftools")
+
+from tp_sdk.build import build_text, set_words  # noqa: E402
+from tp_sdk.description import read_description  # noqa: E402
+from tp_sdk.faults import Fault, Missing  # noqa: E402
+from tp_sdk.program import Program  # noqa: E402
+
+# addi x17, x0, 0 and ecall: EXIT with x10, which is zero
+EXITS = bytes.fromhex("9308000073000000")
+CODE = Load(0x10000, R | X, EXITS)
+DESCRIPTION = """machine = "machine.toml"
+[[domain]]
+name = "red"
+program = "red.elf"
+colours = [1]
+[[schedule]]
+domain = "red"
+length = 10000
+pad = 6150
+"""
+SIX_THOUSAND = [CODE, Load(0x11000, R | W, b"\1\2\3\4", zeros=6000)]
+
+
+class Folder:
+    """A folder with a description, the machine and the program that it names."""
+
+    def __init__(self, path: Path) -> None:
+        self.path = path
+        (path / "machine.toml").write_text((SDK / "c" / "machine.toml").read_text())
+        self.write()
+
+    def write(self, description: str = DESCRIPTION, elf: bytes = Elf([CODE]).encode()) -> None:
+        (self.path / "red.toml").write_text(description)
+        (self.path / "red.elf").write_bytes(elf)
+
+    def image(self, *settings: str, program: Program | None = None) -> dict[str, Any]:
+        description = read_description(self.path / "red.toml")
+        set_words(description, list(settings))
+        return tomllib.loads(build_text(description, program))
+
+    def fault(self, *settings: str, program: Program | None = None) -> str:
+        with pytest.raises(Fault) as raised:
+            self.image(*settings, program=program)
+        return str(raised.value).removeprefix(f"{self.path}/")
+
+
+@pytest.fixture
+def folder(tmp_path: Path) -> Folder:
+    return Folder(tmp_path)
+
+
+def test_segments_are_the_program_headers(folder: Folder) -> None:
+    loads = [*SIX_THOUSAND, Load(0x20010, R, b"\7"), Load(0x30000, R, kind=0x70000003)]
+    folder.write(elf=Elf(loads, entry=0x10004).encode())
+    (red,) = folder.image()["domain"]
+    assert red == {
+        "name": "red",
+        "colours": [1],
+        "entry": 0x10004,
+        "segment": [
+            {"page": 16, "pages": 1, "rights": "rx", "hex": EXITS.hex()},
+            {"page": 17, "pages": 2, "rights": "rw", "hex": "01020304"},
+            {"page": 32, "pages": 1, "rights": "r", "hex": "00" * 16 + "07"},
+        ],
+    }
+
+
+def test_the_rest_is_the_description(folder: Folder) -> None:
+    lists = 'colours = [1]\ncaps = ["load1", "load1+1", "none", "irq 3"]\nlines = [3]\nmoments = [[9000, 3]]'
+    folder.write(DESCRIPTION.replace("colours = [1]", lists), Elf(SIX_THOUSAND).encode())
+    image = folder.image()
+    (red,) = image["domain"]
+    assert red["caps"] == ["page 17", "page 18", "none", "irq 3"]
+    assert (red["lines"], red["moments"]) == ([3], [[9000, 3]])
+    assert image["schedule"] == [{"domain": 0, "length": 10000, "pad": 6150}]
+    machine = tomllib.loads((folder.path / "machine.toml").read_text())
+    assert {key: image[key] for key in machine} == machine
+
+
+def test_a_pad_that_is_left_out_is_the_bound(folder: Folder, program: Program) -> None:
+    folder.write(DESCRIPTION.replace("pad = 6150\n", ""))
+    machine = folder.path / "machine.toml"
+    machine.write_text(machine.read_text().replace("wb = 10", "wb = 11"))
+    (entry,) = folder.image(program=program)["schedule"]
+    text = build_text(read_description(folder.path / "red.toml"), program)
+    assert program.run(["bound"], text).text.endswith(f"bound {entry['pad']}\n")
+    with pytest.raises(Missing, match=r"red.toml:6:1: no pad"):
+        folder.image()
+
+
+def test_an_image_that_is_refused_is_explained(folder: Folder, program: Program) -> None:
+    folder.write(DESCRIPTION.replace("6150", "6149"))
+    assert folder.fault(program=program) == (
+        "red.toml: the image is refused: K17: `pad` of entry 0 is `6149`: the pad is below the bound on "
+        "a switch; wanted: 6150 cycles or more"
+    )
+
+
+FAULTS = [
+    (Elf([CODE], machine=62), "red.elf: for another machine: e_machine is EM_X86_64, not EM_RISCV"),
+    (Elf([CODE], flags=1), "red.elf: with compressed instructions: compile it with -march=rv32i"),
+    (Elf([CODE], flags=2), "red.elf: for a machine with floating point: compile it with -mabi=ilp32"),
+    (
+        Elf([CODE], kind=DYN),
+        "red.elf: of type ET_DYN, not ET_EXEC: link it, and to fixed addresses (-static, not -pie)",
+    ),
+    (Elf(), "red.elf: nothing to load: it has no program header PT_LOAD with bytes"),
+    (
+        Elf([CODE, Load(0x400000, R | W, zeros=64 * 4096 + 1)]),
+        "red.elf: program header 1 (no section, 0x400000 to 0x440001): "
+        "it takes 65 pages, and a segment has 64 at most",
+    ),
+    (
+        Elf([CODE, Load(0x20000, W, b"1")]),
+        "red.elf: program header 1 (no section, 0x20000 to 0x20001): "
+        "its rights are 'w', and must be one of r, rw, x, rx, rwx",
+    ),
+    (
+        Elf([CODE, Load(0x10008, R | W, b"1")]),
+        "red.toml:2:1: PATH/red.elf: the segments 'load0' and 'load1' clash: both have page 16 (0x10000)",
+    ),
+    (
+        Elf([Load(0x10000 * number, R | X, EXITS) for number in range(1, 18)]),
+        "red.toml:2:1: PATH/red.elf has 17 segments, and a domain 16 at most",
+    ),
+]
+
+
+@pytest.mark.parametrize(("elf", "fault"), FAULTS, ids=lambda it: it if isinstance(it, str) else "")
+def test_a_program_that_can_be_no_image(folder: Folder, elf: Elf, fault: str) -> None:
+    folder.write(elf=elf.encode())
+    assert folder.fault() == fault.replace("PATH", str(folder.path))
+
+
+def test_a_file_that_is_no_program(folder: Folder) -> None:
+    whole = Elf(SIX_THOUSAND).encode()
+    folder.write(elf=b"hello")
+    assert folder.fault().startswith("red.elf: no ELF file")
+    folder.write(elf=whole[:-1])
+    assert folder.fault().endswith("the file ends before its 4 bytes do")
+    for length in range(0, len(whole), 3):
+        folder.write(elf=whole[:length])
+        assert folder.fault().startswith("red.elf: ")
+    (folder.path / "red.elf").unlink()
+    assert folder.fault() == "red.elf: No such file or directory"
+
+
+@pytest.mark.parametrize(
+    ("old", "new", "fault"),
+    [
+        ("machine = ", "machine : ", "red.toml: no TOML: "),
+        ('machine = "machine.toml"\n', "", "red.toml:1:1: 'machine' is missing: the name of a file with"),
+        ('"machine.toml"', '"red.elf"', "red.elf: byte "),
+        ('"machine.toml"', '"none.toml"', "none.toml: No such file or directory"),
+        ("colours = [1]", "colours = [1, true]", "red.toml:5:15: 'colours' must be an array of integers"),
+        ("colours = [1]", "colors = [1]", "red.toml:2:1: 'colours' is missing: an array of integers"),
+        ("colours = [1]", "colours = [1]\nx = 1", "red.toml:6:1: there is no key 'x' here: name, program, "),
+        (
+            "colours = [1]",
+            "colours = [1]\nstack = 65",
+            "red.toml:6:9: 'stack' must be a number of pages, 1 to 64",
+        ),
+        ("colours = [1]", "colours = [1]\nstack = 1", "red.elf: there is no symbol '__stack_top'"),
+        (
+            "colours = [1]",
+            'colours = [1]\ncaps = ["data"]',
+            "red.toml:2:1: 'data' is no capability: none, irq N, ",
+        ),
+        ("colours = [1]", 'colours = [1]\ncaps = ["load0+1"]', "red.toml:2:1: 'load0+1' is no capability: "),
+        (
+            "colours = [1]",
+            "colours = [1]\nwords = { k = -1 }",
+            "red.toml:6:15: 'k' must be a word, 0 to 0xffffffff",
+        ),
+        ("colours = [1]", "colours = [1]\nwords = { k = 1 }", "red.elf: there is no symbol 'k'"),
+        ('domain = "red"', "domain = 0", "red.toml:7:10: 'domain' must be the name of a domain"),
+        ('domain = "red"', 'domain = "blue"', "red.toml:6:1: there is no domain 'blue': red"),
+    ],
+)
+def test_a_description_that_is_at_fault(folder: Folder, old: str, new: str, fault: str) -> None:
+    assert old in DESCRIPTION
+    folder.write(DESCRIPTION.replace(old, new))
+    assert folder.fault().startswith(fault)
+
+
+def test_a_machine_that_is_at_fault(folder: Folder) -> None:
+    machine = folder.path / "machine.toml"
+    text = machine.read_text()
+    machine.write_text(text.replace("sets = 512, ", ""))
+    assert folder.fault() == ("machine.toml:8:6: 'l2' must be there, as docs/IMAGE.md says: table of a cache")
+    machine.write_text(text + "domain = []\n")
+    assert folder.fault() == "machine.toml:12:1: there is no key 'domain' of a machine"
+
+
+def test_a_setting_that_is_at_fault(folder: Folder) -> None:
+    for setting, fault in (
+        ("key=1", "DOMAIN.SYMBOL=VALUE is wanted"),
+        ("red.key=0x100000000", "the value is above 0xffffffff"),
+        ("blue.key=1", "has no domain 'blue'"),
+        ("red.key=1", "there is no symbol 'key'"),
+    ):
+        assert fault in folder.fault(setting)
+
+
+def test_a_source_in_assembler(folder: Folder, compiler: str) -> None:
+    source = folder.path / "red.s"
+    folder.write(DESCRIPTION.replace("red.elf", "red.s").replace("[1]", '[1]\nstack = 2\ncaps = ["stack+1"]'))
+    source.write_text(
+        ".globl _start\n_start: csrr x5, cycle\nli x17, 0\necall\n.data\n.globl key\nkey: .word 1\n"
+    )
+    (red,) = folder.image("red.key=0x01020304")["domain"]
+    assert red["entry"] == 0x10000 and red["caps"] == ["page 127"]
+    assert [(it["page"], it["pages"], it["rights"], it["hex"]) for it in red["segment"]] == [
+        (16, 1, "rx", "f32200c0" + EXITS.hex()),
+        (17, 1, "rw", "04030201"),
+        (126, 2, "rw", ""),
+    ]
+    source.write_text("mul x1, x1, x1\n")
+    assert folder.fault().startswith("red.s: it can't be assembled and linked\n")
+
+
+def test_the_command(folder: Folder, program: Program) -> None:
+    out = folder.path / "red.image"
+    ended = run_tool("tp-image", folder.path / "red.toml", "-o", out)
+    assert (ended.returncode, ended.stdout, ended.stderr) == (0, "", "")
+    assert program.run(["run", "--slots", "1"], out.read_text()).text.startswith(
+        "domain 0 red\nstatus exited 0\n"
+    )
+    assert run_tool("tp-image", folder.path / "red.toml").stdout == out.read_text()
+    unread = run_tool("tp-image", folder.path / "red.toml", "-o", folder.path)
+    assert unread.returncode == 1 and "Is a directory" in unread.stderr

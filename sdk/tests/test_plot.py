@@ -1,0 +1,153 @@
+"""Reports as values, what they tell in bits, and pictures of them."""
+
+from __future__ import annotations
+
+from pathlib import Path
+
+import pytest
+from conftest import REPOSITORY, run_tool
+
+from tp_sdk.faults import Fault
+from tp_sdk.information import measure
+from tp_sdk.report import parse_report
+from tp_sdk.schedule import Entry, slots_of
+
+EXAMPLES = REPOSITORY / "examples"
+LOUD = (EXAMPLES / "spy-loud.report").read_text()
+SVG, PNG = b"<?xml", b"\x89PNG"
+
+
+def reports(folder: Path, count: int, text: str = LOUD, old: str = "", new: str = "") -> Path:
+    """A folder with so many reports; the last has another text in the place of one."""
+    folder.mkdir()
+    for number in range(count):
+        is_last = number == count - 1
+        (folder / f"beside{number}.report").write_text(text.replace(old, new) if old and is_last else text)
+    return folder
+
+
+def test_a_report_as_values() -> None:
+    report = parse_report(LOUD, "loud")
+    loud, spy = report.sections
+    assert (loud.name, loud.status, loud.readings, loud.out) == ("loud", "running", (), b"a")
+    assert (spy.number, spy.status, spy.readings_count) == (1, "exited 0", 8)
+    assert spy.readings == (22456, 23465, 58144, 58513, 93189, 93558, 128234, 128603)
+    assert spy.text.startswith("status exited 0\nretired 16603\n") and spy.text.endswith("\nmem 3cb3383e\n")
+    assert [(it.entry, it.used, it.pad, it.count) for it in report.switches] == [
+        (0, 1142, 6150, 8),
+        (1, 755, 6150, 8),
+    ]
+    assert report.slots == 16
+
+
+@pytest.mark.parametrize("report", sorted(EXAMPLES.glob("*.report")), ids=lambda it: it.stem)
+def test_every_report_of_the_examples(report: Path) -> None:
+    text = report.read_text()
+    if text.endswith("\nend\n"):
+        assert len(parse_report(text, report.name).sections) == text.count("\ndomain ") + 1
+    else:
+        with pytest.raises(Fault, match="no report"):
+            parse_report(text, report.name)
+
+
+def test_a_report_that_is_none() -> None:
+    for text in ("", "refused K1 at 0 found 0 wanted 0\n", "domain x\nend\n", "domain 0 x\nout\nend\n"):
+        with pytest.raises(Fault):
+            parse_report(text, "none")
+
+
+def test_slots_are_those_of_the_clock() -> None:
+    # docs and examples/clock.toml: slots start at 6150, 22300, 38450, 54600
+    slots = list(slots_of([Entry(0, 10000, 6150), Entry(1, 10000, 6150)], 4))
+    assert [slot.start for slot in slots] == [6150, 22300, 38450, 54600]
+    assert [slot.domain for slot in slots] == [0, 1, 0, 1]
+    assert all(slot.end == slot.start + 10000 and slot.pad_end == slot.end + 6150 for slot in slots)
+
+
+def test_information_in_bits() -> None:
+    nothing = measure(["a"] * 8, [[1, 2]] * 8)
+    assert (nothing.of_section, nothing.most, nothing.best_reading) == (0.0, 3.0, None)
+    all_different = measure(list("abcd"), [[1, 5], [1, 5], [1, 6], [1, 6]])
+    assert (all_different.of_section, all_different.of_one_reading, all_different.best_reading) == (
+        2.0,
+        1.0,
+        1,
+    )
+    assert measure(list("aaab"), [[1], [1], [1], [2, 3]]).of_section == pytest.approx(0.811278)
+
+
+@pytest.mark.parametrize("form", ("matrix", "histogram"))
+def test_readings_without_a_difference(tmp_path: Path, form: str) -> None:
+    pytest.importorskip("matplotlib")
+    folder = reports(tmp_path / "reports", 4)
+    picture = tmp_path / "spy.svg"
+    ended = run_tool("tp-plot", "readings", folder, "--domain", "spy", "--as", form, "-o", picture)
+    assert (ended.returncode, ended.stderr) == (0, "")
+    assert ended.stdout == (
+        "spy: no difference: its sections are equal to the byte in 4 reports "
+        "(0.00 bits; 2.00 bits would tell all 4 apart)\n"
+    )
+    assert picture.read_bytes().startswith(SVG) and picture.stat().st_size > 10_000
+
+
+def test_a_difference_in_no_reading(tmp_path: Path) -> None:
+    pytest.importorskip("matplotlib")
+    folder = reports(tmp_path / "reports", 2, old="mem 3cb3383e", new="mem 00000000")
+    ended = run_tool("tp-plot", "readings", folder, "--domain", "spy", "-o", tmp_path / "spy.png")
+    assert ended.stdout.endswith("apart); no measurement alone tells any\n")
+
+
+def test_readings_with_a_difference(tmp_path: Path) -> None:
+    pytest.importorskip("matplotlib")
+    folder = reports(tmp_path / "reports", 2, old="58513", new="58514")
+    picture = tmp_path / "spy.png"
+    ended = run_tool("tp-plot", "readings", folder, "--domain", "spy", "-o", picture)
+    assert ended.stdout == (
+        "spy: 2 different sections in 2 reports: 1.00 bits (1.00 bits would tell all 2 apart); "
+        "measurement 1 alone tells most, 1.00\n"
+    )
+    assert picture.read_bytes().startswith(PNG)
+
+
+def test_a_timeline(tmp_path: Path) -> None:
+    pytest.importorskip("matplotlib")
+    words = (EXAMPLES / "spy-loud.toml", EXAMPLES / "spy-loud.report", EXAMPLES / "spy-loud.report")
+    pictures = [tmp_path / "a.svg", tmp_path / "b.svg"]
+    for picture in pictures:
+        ended = run_tool("tp-plot", "timeline", *words, "-o", picture)
+        assert (ended.returncode, ended.stdout, ended.stderr) == (0, "", "")
+    assert pictures[0].read_bytes().startswith(SVG) and pictures[0].stat().st_size > 10_000
+    assert pictures[0].read_bytes() == pictures[1].read_bytes()
+
+
+def test_what_can_be_no_picture(tmp_path: Path) -> None:
+    pytest.importorskip("matplotlib")
+    loud, folder = EXAMPLES / "spy-loud.report", reports(tmp_path / "reports", 2)
+    out = ("-o", str(tmp_path / "out.svg"))
+    for words, fault in (
+        (("timeline", EXAMPLES / "clock.toml", loud, *out), "spy-loud.report: a report of another image"),
+        (("timeline", EXAMPLES / "refused-k1.toml", loud, *out), "refused-k1.toml: no TOML"),
+        (
+            ("timeline", EXAMPLES / "spy-loud.toml", EXAMPLES / "bound.report", *out),
+            "bound.report: no report",
+        ),
+        (
+            ("readings", tmp_path, "--domain", "spy", *out),
+            "two reports NAME.report or more are wanted, and 0",
+        ),
+        (
+            ("readings", folder, "--domain", "x", *out),
+            "beside0.report: the report has no domain 'x': it has loud, spy",
+        ),
+        (("readings", folder, "--domain", "loud", *out), "beside0.report: loud has no readings"),
+        (
+            ("readings", folder, "--domain", "spy", "-o", "spy.pdf"),
+            "spy.pdf: a picture is NAME.svg or NAME.png",
+        ),
+        (
+            ("readings", folder, "--domain", "spy", "-o", str(tmp_path / "x" / "y.svg")),
+            "No such file or directory",
+        ),
+    ):
+        ended = run_tool("tp-plot", *words)
+        assert ended.returncode == 1 and fault in ended.stderr

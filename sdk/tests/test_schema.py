@@ -1,0 +1,43 @@
+"""The schema takes the images that are accepted, and refuses what one value alone breaks."""
+
+from __future__ import annotations
+
+import json
+import tomllib
+from pathlib import Path
+
+import pytest
+from conftest import SDK, examples, is_refused, run_tool
+
+from tp_sdk.schema import image_schema
+
+jsonschema = pytest.importorskip("jsonschema")
+
+# A schema can say of the refused examples that these are broken; others are no TOML, or broken in
+# what several values come to together.
+OF_ONE_VALUE = [it for it in examples() if it.stem in {f"refused-k{rule}" for rule in (2, 3, 4, 6, 8, 16)}]
+
+
+def complaints(image: Path) -> list[str]:
+    data = tomllib.loads(image.read_text())
+    validator = jsonschema.Draft7Validator(image_schema())
+    return [str(error.message) for error in validator.iter_errors(data)]
+
+
+def test_it_is_a_schema() -> None:
+    jsonschema.Draft7Validator.check_schema(image_schema())
+
+
+def test_the_file_is_the_table_of_keys_as_it_stands() -> None:
+    assert json.loads((SDK / "image.schema.json").read_text()) == image_schema()
+    assert run_tool("tp-explain", "--schema").stdout == (SDK / "image.schema.json").read_text()
+
+
+@pytest.mark.parametrize("image", [it for it in examples() if not is_refused(it)], ids=lambda it: it.stem)
+def test_it_takes_an_example(image: Path) -> None:
+    assert complaints(image) == []
+
+
+@pytest.mark.parametrize("image", OF_ONE_VALUE, ids=lambda it: it.stem)
+def test_it_refuses_an_example_that_one_value_breaks(image: Path) -> None:
+    assert complaints(image) != []

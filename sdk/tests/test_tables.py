@@ -1,0 +1,124 @@
+"""The tables of keys and refusals are those of docs/IMAGE.md, word for word."""
+
+from __future__ import annotations
+
+import re
+
+import pytest
+from conftest import REPOSITORY
+
+from tp_sdk import keys
+from tp_sdk.refusals import CASES, Refusal, case_of
+
+IMAGE_MD = (REPOSITORY / "docs" / "IMAGE.md").read_text()
+REFUSED = re.compile(r"`(refused K\d+ at -?\d+ found -?\d+ wanted -?\d+)`")
+
+
+def tables(text: str) -> list[list[list[str]]]:
+    """The tables of a text: rows of cells, the heads without the rule below them."""
+    found: list[list[list[str]]] = []
+    inside = False
+    for line in text.splitlines():
+        if line.startswith("|"):
+            if not inside:
+                found.append([])
+            if not line.startswith("|--"):
+                found[-1].append([cell.strip() for cell in line.strip("|").split("|")])
+        inside = line.startswith("|")
+    return found
+
+
+def table_with(*head: str, text: str = IMAGE_MD) -> list[list[str]]:
+    return next(table[1:] for table in tables(text) if table[0] == list(head))
+
+
+def section_of(rule: int) -> str:
+    found = re.search(rf"^\*\*K{rule}: .*?(?=^\*\*K|^## )", IMAGE_MD, re.MULTILINE | re.DOTALL)
+    assert found is not None
+    return found.group()
+
+
+def test_the_table_of_refusals() -> None:
+    told = [tuple(row) for row in table_with("rule", "broken where", "`at`", "`found`", "`wanted`")]
+    known = list(dict.fromkeys(case.columns for case in CASES))
+    assert told == [(f"K{it.rule}", it.broken, it.at, it.found, it.wanted) for it in known]
+
+
+def test_the_table_of_keys() -> None:
+    rows = table_with("row", "key", "value", "an example")
+    told = [(int(number), re.findall("`(.*?)`", key)[-1:], value) for number, key, value, _ in rows]
+    assert told[:-1] == [(row.number, [row.key], row.value) for row in keys.KEY_ROWS]
+    assert told[-1][0] == keys.OTHER_KEYS
+
+
+@pytest.mark.parametrize("row", keys.KEY_ROWS, ids=lambda row: row.key)
+def test_the_words_of_a_key_are_its_kind(row: keys.KeyRow) -> None:
+    words = {
+        keys.Integer: "integer",
+        keys.Within: "integer",
+        keys.Text: "string",
+        keys.Table: "table of",
+        keys.Array: "array of",
+    }
+    assert row.value.startswith(words[type(row.kind)])
+    assert row.needed != ("may be missing" in row.value)
+    match row.kind:
+        case keys.Within(low, high):
+            assert row.value.startswith(f"integer {low:,} to {high:,}:")
+        case keys.Array(_, int(low), int(high)):
+            assert row.value == f"array of {low} to {high} tables"
+
+
+def test_the_fields_of_the_tables() -> None:
+    sentence = re.search(r"The table of a cache .*", IMAGE_MD)
+    assert sentence is not None
+    cache, costs = sentence.group().split("The table `costs`")
+    assert re.findall("`(.*?)`", cache) == [key for key, _ in keys.CACHE.fields]
+    assert re.findall("`(.*?)`", costs) == list(keys.COSTS)
+
+
+def test_the_parts_of_the_machine() -> None:
+    rows = table_with("part", "key", "size or `sets`")
+    assert rows == [[str(it.number), f"`{it.key}`", f"{it.low:,} to {it.high:,}"] for it in keys.PARTS]
+
+
+@pytest.mark.parametrize("rule", (3, 11, 12, 13, 15))
+def test_the_cases_of_a_rule(rule: int) -> None:
+    told = [
+        (int(row[0]), row[1])
+        for row in table_with("case", "broken where", "an example", text=section_of(rule))
+    ]
+    assert told == [(case.number, case.broken) for case in CASES if case.rule == rule]
+
+
+def test_the_cases_of_the_schedule() -> None:
+    told = [int(number) for number in re.findall(r"- case (\d),", section_of(16))]
+    assert told == [case.number for case in CASES if case.rule == 16]
+
+
+@pytest.mark.parametrize(
+    ("rule", "said"),
+    [
+        (4, "`frames` is {0.FRAMES.low} to {0.FRAMES.high:,}."),
+        (5, "there are {0.COLOURS.low} to {0.COLOURS.high} page colours"),
+        (6, "each cost is {0.COST.low} to {0.COST.high:,}."),
+        (7, "there are {0.DOMAINS.low} to {0.DOMAINS.high} domains"),
+        (11, "or above {0.SHARED_MOST:,}"),
+        (13, "there are more than {0.CAPS_MOST}"),
+        (14, "a line is {0.LINE.low} to {0.LINE.high}"),
+        (15, "there are more than {0.MOMENTS_MOST:,}"),
+        (15, "{0.MOMENT.low} to {0.MOMENT.high:,}"),
+        (16, "there are {0.ENTRIES.low} to {0.ENTRIES.high} entries"),
+        (16, "of {0.LENGTH.low:,} to {0.LENGTH.high:,} cycles, with a pad of {0.PAD.low} to {0.PAD.high:,}."),
+    ],
+)
+def test_the_numbers_of_the_rules(rule: int, said: str) -> None:
+    assert said.format(keys) in section_of(rule)
+
+
+@pytest.mark.parametrize("line", sorted(set(REFUSED.findall(IMAGE_MD))))
+def test_each_refusal_of_the_document_has_a_case(line: str) -> None:
+    refusal = Refusal.parse(line)
+    assert str(refusal) == line
+    holding = [case for case in CASES if case.rule == refusal.rule and case.holds(refusal)]
+    assert holding == [case_of(refusal)]

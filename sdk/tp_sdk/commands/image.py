@@ -1,0 +1,75 @@
+"""tp-image: makes an image from a description and ELF files."""
+
+from __future__ import annotations
+
+import sys
+from argparse import ArgumentParser, RawDescriptionHelpFormatter
+from pathlib import Path
+
+from tp_sdk.build import build_text, set_words
+from tp_sdk.description import read_description
+from tp_sdk.faults import EXIT_CODES, Fault, Missing, write_bytes
+from tp_sdk.program import Program
+
+MOST_BYTES = 1_048_576
+
+_HELP = """Makes an image from a short description in TOML:
+
+  machine = "machine.toml"      a file with the keys of the machine (docs/IMAGE.md)
+
+  [[domain]]
+  name = "driver"
+  program = "driver.elf"        or an assembler source (.s, .S); beside the description
+  colours = [1]
+  stack = 2                     pages, if others than the program's own
+  caps = ["irq 3", "data", "data+1", "none"]    a segment's name means its page
+  lines = [3]
+  moments = [[9000, 3]]
+  words = { key = 0x5a }        what stands at a symbol of the program
+
+  [[schedule]]
+  domain = "driver"             by name
+  length = 10000
+  pad = 6150                    left out: what `tp bound` says
+
+Segments and their rights are those of the ELF file's program headers, each named after its
+first section. The program is looked for where the variable TP says, else where ./tp builds
+it; it computes pads and must accept the image."""
+
+
+def main(words: list[str]) -> int:
+    """Makes the image, or raises the fault."""
+    parser = ArgumentParser(
+        "tp-image", description=_HELP, epilog=EXIT_CODES, formatter_class=RawDescriptionHelpFormatter
+    )
+    parser.add_argument("description", type=Path, help="the description")
+    parser.add_argument(
+        "-o", dest="out", type=Path, metavar="IMAGE", help="the image's file, else standard output"
+    )
+    parser.add_argument(
+        "--set",
+        action="append",
+        default=[],
+        metavar="DOMAIN.SYMBOL=VALUE",
+        help="puts a word at a symbol, in the place of the description's; may stand several times",
+    )
+    asked = parser.parse_args(words)
+    description = read_description(asked.description)
+    set_words(description, asked.set)
+    text = build_text(description, _program())
+    size = len(text.encode())
+    if size > MOST_BYTES:
+        raise Fault(f"{asked.description}: the image has {size} bytes, and {MOST_BYTES} are read at most")
+    if asked.out is None:
+        sys.stdout.write(text)
+    else:
+        write_bytes(asked.out, text.encode())
+    return 0
+
+
+def _program() -> Program | None:
+    try:
+        return Program.find()
+    except Missing as missing:
+        print(f"tp-image: not checked: {missing}", file=sys.stderr)
+        return None

@@ -1,0 +1,139 @@
+"""tp-plot: pictures of what a run did, and of what a spy could tell."""
+
+from __future__ import annotations
+
+import tomllib
+from argparse import ArgumentParser, Namespace, RawDescriptionHelpFormatter
+from collections.abc import Sequence
+from pathlib import Path
+
+from tp_sdk.faults import EXIT_CODES, Fault, read_text
+from tp_sdk.information import Measured, measure
+from tp_sdk.plots import Panel, Series, draw_histogram, draw_matrix, draw_timeline, picture_file
+from tp_sdk.report import Report, parse_report
+from tp_sdk.schedule import domain_names, entries_of
+
+_HELP = """Draws reports of `tp run`, as NAME.svg or NAME.png:
+
+  tp-plot timeline mine.toml mine.report -o mine.svg
+      the slots, the pads, and the most that each entry's switches used of theirs
+  tp-plot readings FOLDER --domain spy -o spy.svg
+      what one domain measured in each FOLDER/*.report: a spy beside many neighbours, say"""
+
+_MEASURES = {
+    "pairs": "each second reading less the one before it: a clock before and after",
+    "steps": "each reading less the one before it",
+    "values": "the readings themselves",
+}
+
+
+def main(words: list[str]) -> int:
+    """Draws what is asked for."""
+    parser = ArgumentParser(
+        "tp-plot", description=_HELP, epilog=EXIT_CODES, formatter_class=RawDescriptionHelpFormatter
+    )
+    commands = parser.add_subparsers(required=True, metavar="timeline|readings")
+    timeline = commands.add_parser("timeline", help="slots, pads and switches")
+    timeline.add_argument("image", type=Path)
+    timeline.add_argument("reports", type=Path, nargs="+", metavar="report")
+    timeline.add_argument(
+        "--slots", type=int, default=12, help="how many slots are drawn, from the first on (%(default)s)"
+    )
+    timeline.set_defaults(draw=_timeline)
+    readings = commands.add_parser("readings", help="what a domain measured in many reports")
+    readings.add_argument("folder", type=Path)
+    readings.add_argument(
+        "--domain", action="append", required=True, help="its name; may stand several times"
+    )
+    readings.add_argument("--as", dest="form", choices=("matrix", "histogram"), default="matrix")
+    readings.add_argument(
+        "--measure",
+        choices=_MEASURES,
+        default="pairs",
+        help="; ".join(f"{name}: {what}" for name, what in _MEASURES.items()),
+    )
+    readings.set_defaults(draw=_readings)
+    for command in (timeline, readings):
+        command.add_argument(
+            "-o", dest="out", type=Path, required=True, metavar="PICTURE", help="NAME.svg or NAME.png"
+        )
+    asked = parser.parse_args(words)
+    picture_file(asked.out)
+    asked.draw(asked)
+    return 0
+
+
+def _read(file: Path) -> Report:
+    return parse_report(read_text(file), str(file))
+
+
+def _timeline(asked: Namespace) -> None:
+    try:
+        image = tomllib.loads(read_text(asked.image))
+    except tomllib.TOMLDecodeError as error:
+        raise Fault(f"{asked.image}: no TOML: {error}") from None
+    entries = entries_of(image, str(asked.image))
+    reports = [(file.name, _read(file)) for file in asked.reports]
+    names = domain_names(image)
+    for file, report in reports:
+        pads = [switch.pad for switch in report.switches]
+        if pads != [entry.pad for entry in entries] or [it.name for it in report.sections] != names:
+            raise Fault(f"{file}: a report of another image than {asked.image}")
+    draw_timeline(asked.out, names, entries, reports, asked.slots)
+
+
+def _readings(asked: Namespace) -> None:
+    files = sorted(asked.folder.glob("*.report"))
+    if len(files) < 2:
+        raise Fault(f"{asked.folder}: two reports NAME.report or more are wanted, and {len(files)} are there")
+    reports = [(file, _read(file)) for file in files]
+    panels = [_panel(domain, reports, asked.measure) for domain in asked.domain]
+    for panel in panels:
+        print(panel.verdict)
+    draw = draw_matrix if asked.form == "matrix" else draw_histogram
+    draw(asked.out, panels)
+
+
+def _panel(domain: str, reports: Sequence[tuple[Path, Report]], how: str) -> Panel:
+    sections = []
+    for file, report in reports:
+        try:
+            sections.append(report.section(domain))
+        except Fault as fault:
+            raise Fault(f"{file}: {fault}") from None
+    series = [
+        Series(file.stem, measurements(section.readings, how))
+        for (file, _), section in zip(reports, sections)
+    ]
+    for it in series:
+        if not it.values:
+            raise Fault(f"{it.name}.report: {domain} has no readings of which '{how}' could be shown")
+    measured = measure([section.text for section in sections], [it.values for it in series])
+    return Panel(domain, series, verdict(domain, measured))
+
+
+def measurements(readings: Sequence[int], how: str) -> list[int]:
+    """The measurements that a domain's readings make."""
+    if how == "values":
+        return list(readings)
+    step = 2 if how == "pairs" else 1
+    return [after - before for before, after in zip(readings[::step], readings[1::step])]
+
+
+def verdict(domain: str, measured: Measured) -> str:
+    """What the sections tell, in a sentence."""
+    many = measured.neighbours
+    most = f"{measured.most:.2f} bits would tell all {many} apart"
+    if measured.sections == 1:
+        return (
+            f"{domain}: no difference: its sections are equal to the byte in {many} reports "
+            f"(0.00 bits; {most})"
+        )
+    told = (
+        f"{domain}: {measured.sections} different sections in {many} reports: {measured.of_section:.2f} bits"
+    )
+    if measured.best_reading is None:
+        alone = "no measurement alone tells any"
+    else:
+        alone = f"measurement {measured.best_reading} alone tells most, {measured.of_one_reading:.2f}"
+    return f"{told} ({most}); {alone}"

@@ -1,0 +1,83 @@
+"""An image as it is written."""
+
+from __future__ import annotations
+
+import json
+from dataclasses import dataclass
+from typing import Any
+
+from tp_sdk.elf import Segment
+
+
+@dataclass
+class ImageDomain:
+    """A domain of an image."""
+
+    name: str
+    colours: list[int]
+    entry: int
+    caps: list[str]
+    lines: list[int]
+    moments: list[list[int]]
+    segments: list[Segment]
+
+    def to_toml(self) -> str:
+        """Its table."""
+        lists = (("caps", self.caps), ("lines", self.lines), ("moments", self.moments))
+        return "".join(
+            [
+                f"[[domain]]\nname = {_json(self.name)}\n",
+                f"colours = {self.colours}\nentry = {self.entry:#x}\n",
+                *(f"{key} = {_json(items)}\n" for key, items in lists if items),
+                "segment = [\n",
+                *(_segment(segment) for segment in self.segments),
+                "]\n",
+            ]
+        )
+
+
+@dataclass(frozen=True)
+class ImageEntry:
+    """An entry of the schedule."""
+
+    domain: int
+    length: int
+    pad: int
+
+    def to_toml(self) -> str:
+        """Its table."""
+        return f"[[schedule]]\ndomain = {self.domain}\nlength = {self.length}\npad = {self.pad}\n"
+
+
+@dataclass
+class Image:
+    """An image: the keys of its machine, its domains, its schedule."""
+
+    machine: dict[str, Any]
+    domains: list[ImageDomain]
+    schedule: list[ImageEntry]
+
+    def to_toml(self) -> str:
+        """The text."""
+        machine = "".join(f"{key} = {_value(value)}\n" for key, value in self.machine.items())
+        return "\n".join(
+            [machine, *(it.to_toml() for it in self.domains), *(it.to_toml() for it in self.schedule)]
+        )
+
+
+def _value(value: Any) -> str:
+    if isinstance(value, dict):
+        return "{ " + ", ".join(f"{key} = {_value(item)}" for key, item in value.items()) + " }"
+    return _json(value)
+
+
+def _segment(segment: Segment) -> str:
+    return (
+        f"    {{ page = {segment.page}, pages = {segment.pages}, rights = {_json(segment.rights)}, "
+        f'hex = "{segment.data.hex()}" }}, # {segment.name}\n'
+    )
+
+
+def _json(value: Any) -> str:
+    """Strings, integers, and arrays of them: JSON and TOML write these alike."""
+    return json.dumps(value, ensure_ascii=False)

@@ -1,0 +1,257 @@
+"""The image's keys: what must stand at each, as one table for the explanations and the schema."""
+
+from __future__ import annotations
+
+from collections.abc import Iterator
+from dataclasses import dataclass
+from enum import Enum
+from typing import Any
+
+from tp_sdk.toml_places import Path
+
+OTHER_KEYS = 26
+
+# ---- what may stand at a key
+
+
+@dataclass(frozen=True)
+class Integer:
+    """An integer."""
+
+
+@dataclass(frozen=True)
+class Within:
+    """An integer from `low` to `high`."""
+
+    low: int
+    high: int
+
+
+@dataclass(frozen=True)
+class Text:
+    """A string."""
+
+
+@dataclass(frozen=True)
+class Table:
+    """A table; with `fields`, one that has each of these keys, and none with other values there."""
+
+    fields: tuple[tuple[str, Integer | Text], ...] = ()
+
+
+@dataclass(frozen=True)
+class Array:
+    """An array of such items, `least` to `most` of them where these are said."""
+
+    item: Kind
+    least: int = 0
+    most: int | None = None
+
+
+Kind = Integer | Within | Text | Table | Array
+
+
+class Place(Enum):
+    """The tables in which a key stands, by the keys that lead to them."""
+
+    TOP = ""
+    DOMAIN = "domain"
+    SEGMENT = "domain segment"
+    ENTRY = "schedule"
+
+    @property
+    def path(self) -> tuple[str, ...]:
+        """Those keys."""
+        return tuple(self.value.split())
+
+
+@dataclass(frozen=True)
+class KeyRow:
+    """A row of the table of keys; `value` has the words of docs/IMAGE.md for what must stand there."""
+
+    number: int
+    place: Place
+    key: str
+    kind: Kind
+    value: str
+    needed: bool = True
+
+
+CACHE = Table((("sets", Integer()), ("ways", Integer()), ("policy", Text())))
+COSTS = ("base", "l1", "l2", "mem", "wb", "tlb", "mispredict", "trap", "flush")
+
+KEY_ROWS = (
+    KeyRow(1, Place.TOP, "frames", Integer(), "integer"),
+    KeyRow(2, Place.TOP, "shared", Integer(), "integer: bytes"),
+    KeyRow(3, Place.TOP, "line", Integer(), "integer: bytes"),
+    KeyRow(4, Place.TOP, "l1i", CACHE, "table of a cache, below"),
+    KeyRow(5, Place.TOP, "l1d", CACHE, "table of a cache"),
+    KeyRow(6, Place.TOP, "l2", CACHE, "table of a cache"),
+    KeyRow(7, Place.TOP, "tlb", CACHE, "table of a cache"),
+    KeyRow(8, Place.TOP, "predictor", Integer(), "integer: counters"),
+    KeyRow(
+        9, Place.TOP, "costs", Table(tuple((cost, Integer()) for cost in COSTS)), "table of integers, below"
+    ),
+    KeyRow(10, Place.TOP, "domain", Array(Table()), "array of tables"),
+    KeyRow(11, Place.DOMAIN, "name", Text(), "string"),
+    KeyRow(12, Place.DOMAIN, "colours", Array(Integer()), "array of integers"),
+    KeyRow(
+        13,
+        Place.DOMAIN,
+        "entry",
+        Within(0, 4_294_967_295),
+        "integer 0 to 4,294,967,295: the address of its first instruction",
+    ),
+    KeyRow(14, Place.DOMAIN, "segment", Array(Table(), 1, 16), "array of 1 to 16 tables"),
+    KeyRow(
+        15,
+        Place.SEGMENT,
+        "page",
+        Within(0, 1_048_575),
+        "integer 0 to 1,048,575: the address of its first page divided by 4,096",
+    ),
+    KeyRow(16, Place.SEGMENT, "pages", Within(1, 64), "integer 1 to 64: how many pages"),
+    KeyRow(17, Place.SEGMENT, "rights", Text(), "string"),
+    KeyRow(18, Place.SEGMENT, "hex", Text(), "string"),
+    KeyRow(19, Place.DOMAIN, "caps", Array(Text()), "array of strings; it may be missing", needed=False),
+    KeyRow(20, Place.DOMAIN, "lines", Array(Integer()), "array of integers; it may be missing", needed=False),
+    KeyRow(
+        21,
+        Place.DOMAIN,
+        "moments",
+        Array(Array(Integer(), 2, 2)),
+        "array of pairs of integers, `[cycle, line]`; it may be missing",
+        needed=False,
+    ),
+    KeyRow(22, Place.TOP, "schedule", Array(Table()), "array of tables"),
+    KeyRow(23, Place.ENTRY, "domain", Integer(), "integer: the place of the domain that runs"),
+    KeyRow(24, Place.ENTRY, "length", Integer(), "integer: cycles of the slot"),
+    KeyRow(25, Place.ENTRY, "pad", Integer(), "integer: cycles from the slot's end to the next slot's start"),
+)
+
+# ---- what the values' rules ask for, where the schema can ask for it, too
+
+
+@dataclass(frozen=True)
+class Part:
+    """A part of the machine in the rules of sizes: its size, or its `sets`, is a power of two in a range."""
+
+    number: int
+    key: str
+    low: int
+    high: int
+    is_cache: bool
+
+    @property
+    def size(self) -> Path:
+        """Where its size stands."""
+        return (self.key, "sets") if self.is_cache else (self.key,)
+
+
+PARTS = (
+    Part(1, "line", 16, 128, False),
+    Part(2, "l1i", 1, 1_024, True),
+    Part(3, "l1d", 1, 1_024, True),
+    Part(4, "l2", 1, 16_384, True),
+    Part(5, "tlb", 1, 256, True),
+    Part(6, "predictor", 1, 4_096, False),
+)
+PAGE = 4_096
+FRAMES = Within(64, 4_096)
+COLOURS = Within(2, 64)
+WAYS = Within(1, 16)
+TREE_POLICY = "plru"  # its ways are a power of two
+POLICIES = ("lru", "fifo", TREE_POLICY)
+COST = Within(1, 1_000)
+DOMAINS = Within(1, 16)
+NAME = "[a-z0-9]{1,16}"
+SHARED_MOST = 65_536
+PAGES_OF_ALL = 1_048_576
+RIGHTS = ("r", "rw", "x", "rx", "rwx")
+CAPS_MOST = 64
+CAP = r"none|(page|irq) (0|[1-9][0-9]{0,9})"
+LINE = Within(0, 31)
+MOMENTS_MOST = 1_024
+MOMENT = Within(0, 1_000_000_000_000)
+ENTRIES = Within(1, 64)
+LENGTH = Within(1_000, 1_000_000)
+PAD = Within(0, 1_000_000)
+
+# ---- looking into an image
+
+
+def fault_in(kind: Kind, value: Any, path: Path) -> Path | None:
+    """The first place in a value that isn't of its kind."""
+    match kind:
+        case Integer():
+            return None if _is_integer(value) else path
+        case Within(low, high):
+            return None if _is_integer(value) and low <= value <= high else path
+        case Text():
+            return None if isinstance(value, str) else path
+        case Table(fields):
+            if not isinstance(value, dict):
+                return path
+            return _first(
+                fault_in(field, value[key], path + (key,)) if key in value else path + (key,)
+                for key, field in fields
+            )
+        case Array(item, least, most):
+            if not isinstance(value, list) or len(value) < least or (most is not None and len(value) > most):
+                return path
+            return _first(fault_in(item, it, path + (number,)) for number, it in enumerate(value))
+
+
+def tables_at(image: dict[str, Any], place: Place) -> Iterator[tuple[Path, dict[str, Any]]]:
+    """The tables of a place, in the text's order; what is no table is another row's matter."""
+    tables: list[tuple[Path, dict[str, Any]]] = [((), image)]
+    for key in place.path:
+        tables = [
+            (path + (key, number), item)
+            for path, table in tables
+            for number, item in enumerate(_items(table.get(key)))
+            if isinstance(item, dict)
+        ]
+    yield from tables
+
+
+def broken_place(row: KeyRow, image: dict[str, Any], number: int) -> Path | None:
+    """Where a row is broken, in the domain or the entry of this number."""
+    for path, table in tables_at(image, row.place):
+        if path and path[1] != number:
+            continue
+        here = path + (row.key,)
+        if row.key not in table:
+            if row.needed:
+                return here
+            continue
+        fault = fault_in(row.kind, table[row.key], here)
+        if fault is not None:
+            return fault
+    return None
+
+
+def other_keys(image: dict[str, Any]) -> Iterator[Path]:
+    """Each key that no row has."""
+    for place in Place:
+        rows = {row.key: row.kind for row in KEY_ROWS if row.place is place}
+        for path, table in tables_at(image, place):
+            for key, value in table.items():
+                kind = rows.get(key)
+                if kind is None:
+                    yield path + (key,)
+                elif isinstance(kind, Table) and isinstance(value, dict):
+                    known = {name for name, _ in kind.fields}
+                    yield from (path + (key, name) for name in value if name not in known)
+
+
+def _is_integer(value: Any) -> bool:
+    return isinstance(value, int) and not isinstance(value, bool)
+
+
+def _items(value: Any) -> list[Any]:
+    return value if isinstance(value, list) else []
+
+
+def _first(paths: Iterator[Path | None]) -> Path | None:
+    return next((path for path in paths if path is not None), None)

@@ -1,0 +1,44 @@
+"""The program `tp`, as the tools run it."""
+
+from __future__ import annotations
+
+import os
+import shutil
+import subprocess
+from dataclasses import dataclass
+from pathlib import Path
+
+from tp_sdk.faults import Missing
+
+REPOSITORY = Path(__file__).resolve().parents[2]
+VARIABLE = "TP"
+
+
+@dataclass(frozen=True)
+class Ended:
+    """What a run of the program came to."""
+
+    code: int
+    text: str
+
+
+@dataclass(frozen=True)
+class Program:
+    """The program, by its path."""
+
+    path: Path
+
+    @classmethod
+    def find(cls) -> Program:
+        """The program that the variable `TP` names, else the one that `./tp` builds."""
+        named = os.environ.get(VARIABLE)
+        path = Path(named) if named else REPOSITORY / "crates" / "tp" / "out" / "tp"
+        if not path.is_file() or shutil.which(str(path.absolute())) is None:
+            where = f"{VARIABLE}={path}" if named else str(path.relative_to(REPOSITORY))
+            raise Missing(f"there is no program at {where}: './tp check < examples/skeleton.toml' builds it")
+        return cls(path.absolute())
+
+    def run(self, words: list[str], image: str) -> Ended:
+        """Runs the program with these words on an image."""
+        ended = subprocess.run([self.path, *words], input=image.encode(), capture_output=True, check=False)
+        return Ended(ended.returncode, ended.stdout.decode())

@@ -1,0 +1,553 @@
+"""The refusals: a row for each case of each rule, with where it points and what is wanted there."""
+
+from __future__ import annotations
+
+import re
+from collections.abc import Callable
+from dataclasses import dataclass
+from typing import Any
+
+from tp_sdk import keys
+from tp_sdk.faults import Fault
+from tp_sdk.toml_places import Path
+
+Image = dict[str, Any]
+
+_RULES_OF_CASES = (3, 11, 12, 13, 15, 16)
+
+_LINE = re.compile(r"refused K(\d+) at (-?\d+) found (-?\d+) wanted (-?\d+)")
+
+
+@dataclass(frozen=True)
+class Refusal:
+    """The line that the program writes of the first rule that an image breaks."""
+
+    rule: int
+    at: int
+    found: int
+    wanted: int
+
+    @classmethod
+    def parse(cls, line: str) -> Refusal:
+        """Reads the line."""
+        match = _LINE.fullmatch(line.strip())
+        if match is None:
+            raise Fault(f"no refusal: {line.strip()!r}, where 'refused K7 at 1 found 0 wanted 0' is one")
+        return cls(*(int(number) for number in match.groups()))
+
+    def __str__(self) -> str:
+        return f"refused K{self.rule} at {self.at} found {self.found} wanted {self.wanted}"
+
+
+@dataclass(frozen=True)
+class Columns:
+    """A row of the table of refusals in docs/IMAGE.md: what is broken, and what each number says."""
+
+    rule: int
+    broken: str
+    at: str
+    found: str
+    wanted: str
+
+
+@dataclass(frozen=True)
+class Case:
+    """A case of a rule. `broken` has the words of docs/IMAGE.md where it has a table of the rule's cases."""
+
+    columns: Columns
+    number: int
+    broken: str
+    wants: str
+    place: Callable[[Refusal, Image], Path | None]
+    holds: Callable[[Refusal], bool] = lambda refusal: True
+    is_of_key: bool = False  # and not of what stands there
+
+    @property
+    def rule(self) -> int:
+        """The rule's number."""
+        return self.columns.rule
+
+    @property
+    def name(self) -> str:
+        """The rule, and the case where docs/IMAGE.md numbers the rule's cases."""
+        number = f", case {self.number}" if self.rule in _RULES_OF_CASES else ""
+        return f"K{self.rule}{number}"
+
+
+# ---- places
+
+
+def _at(*path: str | int) -> Callable[[Refusal, Image], Path | None]:
+    return lambda refusal, image: path
+
+
+def _of_part(key: str | None) -> Callable[[Refusal, Image], Path | None]:
+    def place(refusal: Refusal, image: Image) -> Path | None:
+        part = next((part for part in keys.PARTS if part.number == refusal.at), None)
+        if part is None:
+            return None
+        return (part.key, key) if key else part.size
+
+    return place
+
+
+def _of_cost(refusal: Refusal, image: Image) -> Path | None:
+    is_cost = 1 <= refusal.at <= len(keys.COSTS)
+    return ("costs", keys.COSTS[refusal.at - 1]) if is_cost else None
+
+
+def _of_domain(*path: str | int) -> Callable[[Refusal, Image], Path | None]:
+    return lambda refusal, image: ("domain", refusal.at, *path)
+
+
+def _of_segment(key: str) -> Callable[[Refusal, Image], Path | None]:
+    return lambda refusal, image: ("domain", refusal.at, "segment", refusal.found, key)
+
+
+def _of_entry(key: str) -> Callable[[Refusal, Image], Path | None]:
+    return lambda refusal, image: ("schedule", refusal.at, key)
+
+
+def _in_list(key: str, again: bool) -> Callable[[Refusal, Image], Path | None]:
+    """The item of a domain's list that is the number found; the second such one, where `again`."""
+
+    def place(refusal: Refusal, image: Image) -> Path | None:
+        items = image["domain"][refusal.at][key]
+        places = [number for number, item in enumerate(items) if item == refusal.found]
+        rank = 1 if again else 0
+        return ("domain", refusal.at, key, places[rank]) if len(places) > rank else None
+
+    return place
+
+
+def _of_line_named_before(refusal: Refusal, image: Image) -> Path | None:
+    return _in_list("lines", again=refusal.wanted == refusal.at)(refusal, image)
+
+
+def _of_item(key: str, *path: int) -> Callable[[Refusal, Image], Path | None]:
+    return lambda refusal, image: ("domain", refusal.at, key, refusal.found, *path)
+
+
+def _other_key(refusal: Refusal, image: Image) -> Path | None:
+    return next(keys.other_keys(image), None)
+
+
+def _of_row(row: keys.KeyRow) -> Callable[[Refusal, Image], Path | None]:
+    return lambda refusal, image: keys.broken_place(row, image, refusal.found)
+
+
+# ---- which case
+
+
+def _at_is(at: int) -> Callable[[Refusal], bool]:
+    return lambda refusal: refusal.at == at
+
+
+def _wanted_is(wanted: int) -> Callable[[Refusal], bool]:
+    return lambda refusal: refusal.wanted == wanted
+
+
+def _is_low(refusal: Refusal) -> bool:
+    return refusal.found < refusal.wanted
+
+
+def _is_high(refusal: Refusal) -> bool:
+    return refusal.found > refusal.wanted
+
+
+# ---- the rows
+
+_NO_LINE = 32
+
+_K1 = Columns(1, "the text is no TOML", "0", "0", "0")
+_K2 = Columns(
+    2,
+    "a key is missing, of another kind, or one too many",
+    "the row of the table of keys",
+    "the domain (rows 11 to 21), the entry (rows 23 to 25), else 0",
+    "0",
+)
+_K3 = Columns(
+    3, "a part of the machine", "the part, 1 to 6", "the value (cases 3 and 4: the ways)", "the case, 1 to 4"
+)
+_K4 = Columns(4, "`frames` is out of its range", "0", "the number", "the end that it passes")
+_K5 = Columns(
+    5, "there are too few page colours, or too many", "0", "how many there are", "the end that they pass"
+)
+_K6 = Columns(6, "a cost is out of its range", "its place, 1 to 9", "the cost", "the end that it passes")
+_K7_MANY = Columns(7, "there are too few domains, or too many", "16", "how many there are", "16")
+_K7_NAME = Columns(7, "a name is none", "the domain", "the name's bytes", "16")
+_K7_TWICE = Columns(7, "a name stands twice", "the later domain", "the earlier domain", "0")
+_K8 = Columns(
+    8, "a colour that a domain can't have, or has twice", "the domain", "the colour", "the number of colours"
+)
+_K9 = Columns(9, "a colour of an earlier domain", "the domain", "the colour", "the earlier domain")
+_K10 = Columns(
+    10, "a domain has too few frames", "the domain", "the frames that it has", "the frames that it needs"
+)
+_K11_BYTES = Columns(11, "the shared region's bytes", "1", "the bytes", "65536")
+_K11_WAYS = Columns(11, "its frames are more than the second level has ways", "2", "the frames", "the ways")
+_K11_LAST = Columns(11, "its last frame is not in memory", "3", "that frame", "the frames of memory")
+_K12_SEGMENT = Columns(12, "a segment", "the domain", "the segment", "the case, 1 to 5")
+_K12_ENTRY = Columns(12, "the entry", "the domain", "the entry", "6")
+_K13_MANY = Columns(13, "there are more than 64 capabilities", "the domain", "how many there are", "1")
+_K13_ONE = Columns(13, "a capability", "the domain", "its slot", "the case, 2 to 5")
+_K14_NONE = Columns(14, "a line is not 0 to 31", "the domain", "the line", "32")
+_K14_BEFORE = Columns(
+    14, "a line is named before", "the domain", "the line", "the domain that names it first"
+)
+_K15_MANY = Columns(15, "there are more than 1,024 moments", "the domain", "how many there are", "1")
+_K15_ONE = Columns(15, "a moment", "the domain", "its place", "the case, 2 to 4")
+_K16_MANY = Columns(16, "there are too few entries, or too many", "0", "how many there are", "1")
+_K16_ONE = Columns(16, "an entry", "the entry", "the value", "the case, 2 to 4")
+_K17 = Columns(17, "a pad is below the bound on a switch", "the entry", "the pad", "the bound")
+
+
+def _from_to(kind: keys.Within) -> str:
+    return f"{kind.low:,} to {kind.high:,}"
+
+
+def _any_of(words: tuple[str, ...]) -> str:
+    return "one of " + ", ".join(f"`{word}`" for word in words)
+
+
+_SIZES = ", ".join(f"`{'.'.join(map(str, part.size))}` {part.low:,} to {part.high:,}" for part in keys.PARTS)
+
+_KEY_CASES = tuple(
+    Case(
+        _K2,
+        row.number,
+        f"row {row.number} of the table of keys is broken",
+        row.value,
+        _of_row(row),
+        _at_is(row.number),
+    )
+    for row in keys.KEY_ROWS
+)
+
+CASES: tuple[Case, ...] = (
+    Case(_K1, 1, _K1.broken, "a text of TOML in UTF-8, each integer of 64 bits at most", _at()),
+    *_KEY_CASES,
+    Case(
+        _K2,
+        keys.OTHER_KEYS,
+        "no row of the table of keys has this key",
+        "no such key here",
+        _other_key,
+        _at_is(keys.OTHER_KEYS),
+        is_of_key=True,
+    ),
+    Case(
+        _K3,
+        1,
+        "the size, or `sets`, is no power of two in the part's range",
+        f"a power of two: {_SIZES}",
+        _of_part(None),
+        _wanted_is(1),
+    ),
+    Case(
+        _K3,
+        2,
+        "`ways` is not 1 to 16",
+        _from_to(keys.WAYS),
+        _of_part("ways"),
+        _wanted_is(2),
+    ),
+    Case(
+        _K3,
+        3,
+        "`policy` is none of `lru`, `fifo`, `plru`",
+        _any_of(keys.POLICIES),
+        _of_part("policy"),
+        _wanted_is(3),
+    ),
+    Case(
+        _K3,
+        4,
+        "it is `plru`, and `ways` is no power of two",
+        "`ways` that are a power of two, or another policy",
+        _of_part("ways"),
+        _wanted_is(4),
+    ),
+    Case(_K4, 1, "there are too few frames", _from_to(keys.FRAMES), _at("frames"), _is_low),
+    Case(_K4, 2, "there are too many frames", _from_to(keys.FRAMES), _at("frames"), _is_high),
+    Case(
+        _K5,
+        1,
+        "`sets` times `line`, divided by 4,096, makes {found} page colours: too few",
+        _from_to(keys.COLOURS) + " colours",
+        _at("l2", "sets"),
+        _is_low,
+    ),
+    Case(
+        _K5,
+        2,
+        "`sets` times `line`, divided by 4,096, makes {found} page colours: too many",
+        _from_to(keys.COLOURS) + " colours",
+        _at("l2", "sets"),
+        _is_high,
+    ),
+    Case(_K6, 1, "the cost is too small", _from_to(keys.COST), _of_cost, _is_low),
+    Case(_K6, 2, "the cost is too great", _from_to(keys.COST), _of_cost, _is_high),
+    Case(
+        _K7_MANY,
+        1,
+        "the number of domains is {found}",
+        _from_to(keys.DOMAINS),
+        _at("domain"),
+        lambda refusal: refusal.at == keys.DOMAINS.high,
+    ),
+    Case(
+        _K7_NAME,
+        2,
+        _K7_NAME.broken,
+        "1 to 16 small letters (a to z) and digits",
+        _of_domain("name"),
+        lambda refusal: refusal.at != keys.DOMAINS.high and refusal.wanted != 0,
+    ),
+    Case(
+        _K7_TWICE,
+        3,
+        "{other:found} has this name",
+        "a name of its own",
+        _of_domain("name"),
+        lambda refusal: refusal.at != keys.DOMAINS.high and refusal.wanted == 0,
+    ),
+    Case(
+        _K8,
+        1,
+        "no domain can have this colour (0 is the kernel's, and there are {wanted})",
+        "a colour from 1 to {last}",
+        _in_list("colours", again=False),
+        lambda refusal: not 1 <= refusal.found < refusal.wanted,
+    ),
+    Case(
+        _K8,
+        2,
+        "the colour stands twice in the list",
+        "each colour once",
+        _in_list("colours", again=True),
+        lambda refusal: 1 <= refusal.found < refusal.wanted,
+    ),
+    Case(
+        _K9,
+        1,
+        "the colour is one of {other:wanted}",
+        "a colour that no earlier domain has",
+        _in_list("colours", again=False),
+    ),
+    Case(
+        _K10,
+        1,
+        "these colours have {found} frames, and the domain needs {wanted}",
+        "colours with {wanted} frames or more, or fewer pages",
+        _of_domain("colours"),
+    ),
+    Case(
+        _K11_BYTES,
+        1,
+        "`shared` is no multiple of `line`, or below it, or above 65,536",
+        "a multiple of `line` up to 65,536",
+        _at("shared"),
+        _at_is(1),
+    ),
+    Case(
+        _K11_WAYS,
+        2,
+        "its frames are more than l2's `ways`",
+        "{wanted} frames of 4,096 bytes or fewer (here {found} are begun), or more ways",
+        _at("shared"),
+        _at_is(2),
+    ),
+    Case(
+        _K11_LAST,
+        3,
+        "its last frame is not below `frames`",
+        "a smaller `shared`, or more than {wanted} frames (its last would be frame {found})",
+        _at("shared"),
+        _at_is(3),
+    ),
+    Case(
+        _K12_SEGMENT,
+        1,
+        "its last page is past page 1,048,575",
+        "`page` and `pages` that make 1,048,576 together at most",
+        _of_segment("pages"),
+        _wanted_is(1),
+    ),
+    Case(
+        _K12_SEGMENT,
+        2,
+        "`rights` is none of `r`, `rw`, `x`, `rx`, `rwx`",
+        _any_of(keys.RIGHTS),
+        _of_segment("rights"),
+        _wanted_is(2),
+    ),
+    Case(
+        _K12_SEGMENT,
+        3,
+        "`hex` is no text of pairs of hexadecimal digits",
+        "two digits, 0 to 9 and a to f, for each byte",
+        _of_segment("hex"),
+        _wanted_is(3),
+    ),
+    Case(
+        _K12_SEGMENT,
+        4,
+        "`hex` writes more bytes than the pages hold",
+        "4,096 bytes for each page at most, or more `pages`",
+        _of_segment("hex"),
+        _wanted_is(4),
+    ),
+    Case(
+        _K12_SEGMENT,
+        5,
+        "a page is one of an earlier segment's",
+        "pages of its own",
+        _of_segment("page"),
+        _wanted_is(5),
+    ),
+    Case(
+        _K12_ENTRY,
+        6,
+        "the entry is no multiple of 4, or in no segment with `x`",
+        "a multiple of 4 in a segment with `x`",
+        _of_domain("entry"),
+        _wanted_is(6),
+    ),
+    Case(
+        _K13_MANY,
+        1,
+        "there are more than 64",
+        f"{keys.CAPS_MOST} texts or fewer (here {{found}} stand)",
+        _of_domain("caps"),
+        _wanted_is(1),
+    ),
+    Case(
+        _K13_ONE,
+        2,
+        "a text is none of the three",
+        "`none`, `page N` or `irq N`, N in decimal without zeros before it",
+        _of_item("caps"),
+        _wanted_is(2),
+    ),
+    Case(
+        _K13_ONE,
+        3,
+        "the page is in no segment of the domain",
+        "a page of the domain's segments",
+        _of_item("caps"),
+        _wanted_is(3),
+    ),
+    Case(
+        _K13_ONE,
+        4,
+        "the line is not in its `lines`",
+        "one of the domain's `lines`",
+        _of_item("caps"),
+        _wanted_is(4),
+    ),
+    Case(
+        _K13_ONE,
+        5,
+        "an earlier slot names the same",
+        "each page and line once",
+        _of_item("caps"),
+        _wanted_is(5),
+    ),
+    Case(
+        _K14_NONE,
+        1,
+        "there is no such line",
+        _from_to(keys.LINE),
+        _in_list("lines", again=False),
+        _wanted_is(_NO_LINE),
+    ),
+    Case(
+        _K14_BEFORE,
+        2,
+        "the line is named before, by {other:wanted}",
+        "a line that no domain names before",
+        _of_line_named_before,
+        lambda refusal: refusal.wanted != _NO_LINE,
+    ),
+    Case(
+        _K15_MANY,
+        1,
+        "there are more than 1,024",
+        f"{keys.MOMENTS_MOST:,} pairs or fewer (here {{found}} stand)",
+        _of_domain("moments"),
+        _wanted_is(1),
+    ),
+    Case(
+        _K15_ONE,
+        2,
+        "the cycle is out of its range",
+        _from_to(keys.MOMENT),
+        _of_item("moments", 0),
+        _wanted_is(2),
+    ),
+    Case(
+        _K15_ONE,
+        3,
+        "the line is not in its `lines`",
+        "one of the domain's `lines`",
+        _of_item("moments", 1),
+        _wanted_is(3),
+    ),
+    Case(
+        _K15_ONE,
+        4,
+        "it is not above the one before",
+        "pairs that ascend, by the cycle and then by the line",
+        _of_item("moments"),
+        _wanted_is(4),
+    ),
+    Case(
+        _K16_MANY,
+        1,
+        "the number of entries is {found}",
+        _from_to(keys.ENTRIES),
+        _at("schedule"),
+        _wanted_is(1),
+    ),
+    Case(
+        _K16_ONE,
+        2,
+        "there is no such domain",
+        "the place of a domain, from 0",
+        _of_entry("domain"),
+        _wanted_is(2),
+    ),
+    Case(
+        _K16_ONE,
+        3,
+        "the slot's length is out of its range",
+        _from_to(keys.LENGTH) + " cycles",
+        _of_entry("length"),
+        _wanted_is(3),
+    ),
+    Case(
+        _K16_ONE,
+        4,
+        "the pad is out of its range",
+        _from_to(keys.PAD) + " cycles",
+        _of_entry("pad"),
+        _wanted_is(4),
+    ),
+    Case(
+        _K17,
+        1,
+        "the pad is below the bound on a switch",
+        "{wanted} cycles or more",
+        _of_entry("pad"),
+    ),
+)
+
+
+def case_of(refusal: Refusal) -> Case:
+    """The row of a refusal."""
+    for case in CASES:
+        if case.rule == refusal.rule and case.holds(refusal):
+            return case
+    raise Fault(f"no case of a rule is told by '{refusal}'")

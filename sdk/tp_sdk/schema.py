@@ -1,0 +1,127 @@
+"""A JSON schema of the image, for editors that know schemas of TOML; made from the table of keys."""
+
+from __future__ import annotations
+
+from typing import Any
+
+from tp_sdk import keys
+from tp_sdk.keys import KEY_ROWS, Array, Integer, Kind, Place, Table, Text, Within
+
+Schema = dict[str, Any]
+
+
+def image_schema() -> Schema:
+    """The schema: the keys' rows, and of the values' rules those that look at one value."""
+    return {
+        "$schema": "http://json-schema.org/draft-07/schema#",
+        "title": "An image of tp",
+        "description": "Made by `tp-explain --schema`; what it cannot say, `tp check` says.",
+        **_of_place(Place.TOP),
+    }
+
+
+def _of_place(place: Place) -> Schema:
+    rows = [row for row in KEY_ROWS if row.place is place]
+    return {
+        "type": "object",
+        "properties": {
+            row.key: {"description": row.value} | _of_key(place, row.key, row.kind) for row in rows
+        },
+        "required": [row.key for row in rows if row.needed],
+        "additionalProperties": False,
+    }
+
+
+def _of_key(place: Place, key: str, kind: Kind) -> Schema:
+    return _of_kind(kind) | _inner(place, key) | _values(place, key)
+
+
+def _of_kind(kind: Kind) -> Schema:
+    match kind:
+        case Integer():
+            return {"type": "integer"}
+        case Within(low, high):
+            return {"type": "integer"} | _ends("minimum", low, "maximum", high)
+        case Text():
+            return {"type": "string"}
+        case Table(fields):
+            if not fields:
+                return {"type": "object"}
+            return {
+                "type": "object",
+                "properties": {key: _of_kind(field) for key, field in fields},
+                "required": [key for key, _ in fields],
+                "additionalProperties": False,
+            }
+        case Array(item, least, most):
+            return {"type": "array", "items": _of_kind(item)} | _ends("minItems", least, "maxItems", most)
+
+
+def _ends(low_key: str, low: int | None, high_key: str, high: int | None) -> Schema:
+    return {key: end for key, end in ((low_key, low), (high_key, high)) if end is not None}
+
+
+def _inner(place: Place, key: str) -> Schema:
+    """An array of a place's tables."""
+    inner = next((it for it in Place if it.path == (*place.path, key)), None)
+    return {} if inner is None else {"items": _of_place(inner)}
+
+
+def _values(place: Place, key: str) -> Schema:
+    """What the rules of values ask for at a key."""
+    part = next((part for part in keys.PARTS if part.key == key), None)
+    if place is Place.TOP and part is not None:
+        return _of_cache(part) if part.is_cache else _powers_of_two(part.low, part.high)
+    return _VALUES.get((place, key), {})
+
+
+def _powers_of_two(low: int, high: int) -> Schema:
+    powers = (1 << exponent for exponent in range(high.bit_length()))
+    return {"enum": [power for power in powers if low <= power <= high]}
+
+
+def _of_cache(part: keys.Part) -> Schema:
+    return {
+        "properties": {
+            "sets": {"type": "integer"} | _powers_of_two(part.low, part.high),
+            "ways": _of_kind(keys.WAYS),
+            "policy": {"enum": list(keys.POLICIES)},
+        },
+        "anyOf": [
+            {"properties": {"policy": {"not": {"const": keys.TREE_POLICY}}}},
+            {"properties": {"ways": _powers_of_two(1, keys.WAYS.high)}},
+        ],
+    }
+
+
+_VALUES: dict[tuple[Place, str], Schema] = {
+    (Place.TOP, "frames"): _of_kind(keys.FRAMES),
+    (Place.TOP, "shared"): {"maximum": keys.SHARED_MOST},
+    (Place.TOP, "costs"): {"properties": {cost: _of_kind(keys.COST) for cost in keys.COSTS}},
+    (Place.TOP, "domain"): _ends("minItems", keys.DOMAINS.low, "maxItems", keys.DOMAINS.high),
+    (Place.TOP, "schedule"): _ends("minItems", keys.ENTRIES.low, "maxItems", keys.ENTRIES.high),
+    (Place.DOMAIN, "name"): {"pattern": f"^{keys.NAME}$"},
+    (Place.DOMAIN, "colours"): {
+        "items": {"type": "integer", "minimum": 1, "exclusiveMaximum": keys.COLOURS.high},
+        "uniqueItems": True,
+    },
+    (Place.DOMAIN, "caps"): {
+        "items": {"type": "string", "pattern": f"^({keys.CAP})$"},
+        "maxItems": keys.CAPS_MOST,
+    },
+    (Place.DOMAIN, "lines"): {"items": _of_kind(keys.LINE), "uniqueItems": True},
+    (Place.DOMAIN, "moments"): {
+        "items": {
+            "type": "array",
+            "items": [_of_kind(keys.MOMENT), _of_kind(keys.LINE)],
+            "minItems": 2,
+            "maxItems": 2,
+        },
+        "maxItems": keys.MOMENTS_MOST,
+    },
+    (Place.SEGMENT, "rights"): {"enum": list(keys.RIGHTS)},
+    (Place.SEGMENT, "hex"): {"pattern": "^([0-9a-fA-F]{2})*$"},
+    (Place.ENTRY, "domain"): {"minimum": 0, "exclusiveMaximum": keys.DOMAINS.high},
+    (Place.ENTRY, "length"): _of_kind(keys.LENGTH),
+    (Place.ENTRY, "pad"): _of_kind(keys.PAD),
+}
