@@ -1,5 +1,5 @@
 -- A slot of the code's domain alone, and of the definitions.
-use Rattle.std.proofs.Common.{◌≡◌, ℕ, ◌≤◌, Bool, true, List, arith, refl, sym, ap, subst, subst₂, ◌∙◌}
+use Rattle.std.proofs.Common.{◌≡◌, ℕ, Bool, true, List, refl, sym, ap, subst, subst₂, ◌∙◌}
 use Rattle.tp_base.specs.Table.{empty}
 use Rattle.phys_mem.specs.Contents.{Contents}
 use Rattle.phys_mem.specs.Holds.{Holds}
@@ -20,7 +20,7 @@ use Rattle.call_table.specs.Claims.{is_mine, claims, Facts}
 use Rattle.kernel_call.specs.declared.domain.Domain.{Domain}
 use Rattle.kernel_call.specs.Facts as call
 use Rattle.kernel_call.specs.Facts.{Has}
-use Rattle.kernel_call.specs.Models.{Stands, CountsUpTo}
+use Rattle.kernel_call.specs.Models.{Stands}
 use Rattle.hardware_check.specs.Hardware.{Hardware}
 use Rattle.image_check.specs.Public.{Public}
 use Rattle.image_check.specs.Own.{Own}
@@ -54,10 +54,6 @@ stands_of p o k s is = record {
 
 pub facts_of : (p : Hardware) (o : Own) (k : Kept) (s : Local) → Stand p o k s → HasFacts p o s k
 facts_of p o k s is = record { buffer = is.leaves; facts = is.facts }
-
--- no count is past a later clock
-pub counts_later : (clock later : ℕ) (d : Domain) → clock ≤ later → CountsUpTo clock d → CountsUpTo later d
-counts_later clock later d h few = record { retired = omega (arith, h, few.retired); readings = omega (arith, h, few.readings); replies = omega (arith, h, few.replies) }
 
 -- ---- touches without charge
 

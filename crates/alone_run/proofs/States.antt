@@ -1,5 +1,5 @@
 -- A domain alone by the definitions: it keeps its facts, and each of its slots is over before the next one begins.
-use Rattle.std.proofs.Common.{◌≡◌, ℕ, zero, suc, ◌%◌, ◌≤◌, Bool, true, false, eqb, length, refl, ap, arith, mod-lt, eq-eqb, ne_eqb, ◌≢◌}
+use Rattle.std.proofs.Common.{◌≡◌, ℕ, zero, suc, ◌%◌, ◌≤◌, Bool, true, false, length, refl, ap, arith, mod-lt, eq-eqb, ne_eqb, ◌≢◌}
 use Rattle.tp_base.specs.Table.{empty}
 use Rattle.sched_table.specs.Schedule.{entry_of_slot, pad_of, start, slot_end}
 use Rattle.pad_bound.specs.Bound.{bound_of}

@@ -1,4 +1,4 @@
-use Rattle.std.proofs.Common.{◌∙◌, ap, subst₂}
+use Rattle.std.proofs.Common.{◌≡◌, ◌∙◌, ap, subst₂}
 use Rattle.phys_mem.specs.Holds.{Holds}
 use Rattle.hardware_check.specs.Hardware.{Hardware}
 use Rattle.hardware_check.specs.Models.{hardware_model}

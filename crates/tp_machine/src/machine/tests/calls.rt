@@ -519,11 +519,7 @@ fn alloc_is_right(before: &State, request: Request, code: u32) -> bool {
 // The first of the facts 6 to 8 that is not so.
 fn wrong_reply(before: &State, request: Request, outcome: &Outcome, after: &State) -> Option<u32> {
     let Some(reply) = outcome.reply else {
-        return if request.number == 10 {
-            None
-        } else {
-            Some(8)
-        };
+        return if request.number == 10 { None } else { Some(8) };
     };
     if reply.code > 13 {
         return Some(8);

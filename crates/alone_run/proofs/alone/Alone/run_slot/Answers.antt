@@ -10,7 +10,8 @@ use Rattle.domain_step.specs.Kept.{Setting}
 use Rattle.domain_step.specs.Moves.{Moves}
 use Rattle.alone_run.specs.Standing.{kept, setting, StandsFor, HasFacts}
 use Rattle.alone_run.proofs.States.{kernel, alone_early, others_slot, own_slot}
-use Rattle.alone_run.proofs.Slots.{Stand, counts_later, stands_of, facts_of, begun, left}
+use Rattle.domain_step.proofs.Counts.{counts_later}
+use Rattle.alone_run.proofs.Slots.{Stand, stands_of, facts_of, begun, left}
 use Rattle.alone_run.proofs.alone.Alone.run_slot.Goals as goal
 use Rattle.alone_run.proofs.alone.Alone.run_slot.Goals.{After-leave}
 

@@ -1,8 +1,8 @@
 use Rattle.image_check.specs.Image.{image_from}
 use Rattle.alone_run.proofs.alone.tests.ran.Goals as goal
 
-pub load-red-requires : goal.load-red-requires
-load-red-requires c = record {
+pub load-requires : goal.load-requires
+load-requires c = record {
   image = record {
     image = image_from c.in-Some.image;
     runnable = c.runnable.ensures.runnable;
