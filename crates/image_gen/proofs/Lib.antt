@@ -1,0 +1,10 @@
+pub mod Draws
+pub mod Kept
+pub mod Pieces
+pub mod Values
+pub mod Documents
+pub mod Tables
+pub mod Parts
+pub mod Recorded
+pub mod ReadBack
+pub mod Decoded

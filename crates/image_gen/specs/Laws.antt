@@ -1,0 +1,16 @@
+-- What holds of the image of every seed.
+use Rattle.std.specs.Prelude.{◌≡◌, ℕ, ◌<◌, ◌^◌, [], map, Some}
+use Rattle.rand_pcg.specs.Lcg.{Lcg}
+use Rattle.rv_decode.specs.Table.{decode_of}
+use Rattle.image_check.specs.Checking.{broken}
+use Rattle.image_gen.specs.Program.{program}
+use Rattle.image_gen.specs.Instructions.{instructions}
+use Rattle.image_gen.specs.Generated.{generated}
+
+-- it breaks no rule
+abbrev pub AcceptedLaw : Type 0
+AcceptedLaw = (seed : ℕ) → seed < 2 ^ 64 → broken (generated seed) ≡ []
+
+-- the words of a program decode to its instructions
+abbrev pub DecodedLaw : Type 0
+DecodedLaw = (g : Lcg) → map decode_of (program g) ≡ map Some (instructions g)
