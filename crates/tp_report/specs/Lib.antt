@@ -3,3 +3,4 @@ pub mod Report
 pub mod Laws
 pub mod Pieces
 pub mod Switches
+pub mod Demo

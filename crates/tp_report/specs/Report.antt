@@ -1,5 +1,5 @@
 -- The texts that the program writes.
-use Rattle.std.specs.Prelude.{ℕ, List, [], ◌∷◌, length, codes, decimal}
+use Rattle.std.specs.Prelude.{ℕ, List, [], ◌∷◌, ◌++◌, length, codes, decimal}
 use Rattle.std.specs.Fmt.{signed_decimal}
 use Rattle.std.specs.List.{concat, flat_map, range_with_len}
 use Rattle.image_text.specs.declared.refusal.Refusal.{Refusal}
@@ -44,6 +44,10 @@ report_with i views used = concat (sections i views ∷ switch_lines i.all.sched
 -- the report of the whole machine after n slots
 unfoldable pub report : Image → ℕ → List ℕ
 report i n = report_with i (λ d. view_whole i d n) (whole i n).used
+
+-- what ends it: the switch lines, and the last line
+unfoldable pub ending : Image → ℕ → List ℕ
+ending i n = switch_lines i.all.schedule (whole i n).used ++ end_text
 
 -- the report in which each section is that of its domain alone
 unfoldable pub report_apart : Image → ℕ → List ℕ

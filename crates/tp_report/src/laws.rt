@@ -1,11 +1,13 @@
 //! Laws of the report over its definitions, each the contract of a function
 //! that does nothing: a caller that calls it may rely on the law.
-ghost use Rattle.std.specs.Prelude.{◌≡◌, ℕ, List, [], ◌∷◌, codes, pos, negsuc};
+ghost use Rattle.std.specs.Prelude.{◌≡◌, ℕ, List, [], ◌∷◌, Some, None, codes, pos, negsuc};
 ghost use Rattle.rv_core.specs.Registers.{zeros, with_register};
+ghost use Rattle.call_table.specs.declared.DomainStatus.TheVariants.{Running};
 ghost use Rattle.thread_set.specs.declared.ThreadState.TheVariants.{Never, Ready, Waiting, Ended};
 ghost use Rattle.tp_report.specs.Report.{switch_line, end_text, usage_text, refusal_text, too_long_text};
 ghost use Rattle.tp_report.specs.Report.{bound_text, accepted_text};
 ghost use Rattle.tp_report.specs.Texts.{thread_text, threads_text};
+ghost use Rattle.tp_report.specs.Demo.{demo_head, demo_domain};
 ghost use Rattle.tp_report.specs.Laws.{ReportLaw, LinesLaw};
 
 /// The report's sections are those of each domain alone.
@@ -52,4 +54,16 @@ pub fn texts()
         ∷ record { state = Never; pc = 0; regs = zeros }
         ∷ record { state = Waiting 0; pc = 65544; regs = zeros } ∷ [])
         ≡ codes "\nthread 0 ready pc 00010004 x31=ffffffff\nthread 2 waiting 0 pc 00010008" }
+    ensures demo_head { demo_head 4294967295 ≡ codes "demo 4294967295 slots 64\n" }
+    ensures demo_domain { demo_domain 2 (record {
+      status = Running;
+      retired = 34;
+      threads = [];
+      readings = record { count = 1; last = Some 9; first = 9 ∷ [] };
+      replies = record { count = 300; last = None; first = [] };
+      printed = 65 ∷ [];
+      pool = 7 ∷ [];
+      frames = (4294967295 ∷ 18 ∷ []) ∷ [];
+    })
+        ≡ codes "domain 2 retired 34 readings 1 replies 300 mem 00000011\n" }
 {}

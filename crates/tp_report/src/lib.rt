@@ -1,10 +1,12 @@
 //! The texts that the program writes, and what writes them piece by piece.
 #![tactic(auto)]
 
+mod demo;
 pub mod laws;
 mod pieces;
 mod report;
 
+pub use demo::{DemoPart, write_demo};
 pub use report::{
     write_accepted, write_bound, write_end, write_refusal, write_section, write_switches,
     write_too_long, write_usage,

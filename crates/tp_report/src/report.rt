@@ -127,8 +127,8 @@ fn write_thread_line<K: Sink>(out: &mut K, t: u8, thread: &Thread) -> Result<(),
     )
 }
 
-// The sum of all words of the pool, modulo 2^32.
-fn memory_sum(view: &View<'_>) -> u32
+/// The sum of all words of the pool, modulo 2^32.
+pub fn memory_sum(view: &View<'_>) -> u32
     ensures value { result ≡ view_spec.memory_sum (view_model view.now).frames }
 {
     let mut sum = 0u32;

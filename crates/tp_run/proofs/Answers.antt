@@ -22,16 +22,20 @@ use Rattle.world_view.proofs.Separate.{separated}
 use Rattle.world_view.proofs.ReadingLaws.{read_runs}
 use Rattle.world_view.proofs.WholeLaws.{isolated}
 use Rattle.world_view.proofs.TimeLaws.{used_within, on_time, largest_within}
+use Rattle.image_gen.specs.Text.{text as generated_text}
+use Rattle.image_gen.proofs.Kept.{accepted_law}
 use Rattle.tp_report.specs.Texts.{section}
 use Rattle.tp_report.specs.Report.{report, section_of, bound_text, bound_in_parts, usage_text, refusal_text, too_long_text}
 use Rattle.tp_report.proofs.ReportLaws.{reported_apart}
 use Rattle.tp_run.specs.declared.Command.{Command}
-use Rattle.tp_run.specs.declared.Command.TheVariants.{Check, Bound, Run, Alone}
+use Rattle.tp_run.specs.declared.Command.TheVariants.{Check, Bound, Run, Alone, Gen, Demo}
 use Rattle.tp_run.specs.declared.status.Status.{Status}
 use Rattle.tp_run.specs.declared.status.Status.TheVariants.{Done, Refused, Usage, ReadFault, WriteFault, Memory, TooLong}
+use Rattle.tp_run.specs.Words.{Reads}
 use Rattle.tp_run.specs.Reading.{broken_for, broken_in, checked_for, image_for}
-use Rattle.tp_run.specs.Answer.{Answer, answer, answer_by, answer_of_bytes, answer_unless_broken, answer_of_image, answer_alone, section_alone, command}
-use Rattle.tp_run.specs.TopCall.{Writes, EndsUsage, Delivers, MayBeUsage, ComesTo, ReadsImage, Refuses, Accepts, Bounds, Isolated, Padded, LacksDomain, WritesSection, SameSection}
+use Rattle.tp_run.specs.Answer.{Answer, answer, answer_by, answer_of_bytes, answer_to_image, answer_gen, answer_demo, answer_unless_broken, answer_of_image, answer_alone, section_alone, command}
+use Rattle.tp_run.proofs.Accepted.{value_or}
+use Rattle.tp_run.specs.TopCall.{Writes, EndsUsage, Delivers, MayBeUsage, ComesTo, ReadsImage, Refuses, Accepts, Bounds, Isolated, Padded, LacksDomain, WritesSection, SameSection, ReadsBack, Generates, Summarizes}
 
 -- ---- what was written
 
@@ -120,13 +124,41 @@ pub bytes_due : (words : List (List ℕ)) (bytes : List ℕ) (c : Command) → c
 unfolding answer answer_by
 bytes_due words bytes c asked = rw asked
 
-pub too_long_due : (bytes : List ℕ) (c : Command) → most_bytes < length bytes → answer_of_bytes c bytes ≡ (TooLong, too_long_text)
-unfolding answer_of_bytes
-too_long_due bytes c over = let test : leb (length bytes) most_bytes ≡ false = grind (arith, nat_tests) in rw test
+-- bytes that are too long are those of a command that reads
+pub longer_reads : (c : Command) (bytes : List ℕ) → (¬ Reads c → bytes ≡ []) → most_bytes < length bytes → Reads c
+longer_reads Check bytes none over = tt
+longer_reads Bound bytes none over = tt
+longer_reads (Run n) bytes none over = tt
+longer_reads (Alone d n) bytes none over = tt
+longer_reads (Gen s) bytes none over = let empty = ap length (none (λ reads. reads)) in absurd (omega (arith, empty))
+longer_reads (Demo s) bytes none over = let empty = ap length (none (λ reads. reads)) in absurd (omega (arith, empty))
 
-pub image_due : (bytes : List ℕ) (c : Command) → length bytes ≤ most_bytes → answer_of_bytes c bytes ≡ answer_unless_broken c (image_for c bytes)
+-- an image is read
+read_due : (bytes : List ℕ) (c : Command) → Reads c → answer_of_bytes c bytes ≡ answer_to_image c bytes
 unfolding answer_of_bytes
-image_due bytes c few = let test : leb (length bytes) most_bytes ≡ true = grind (arith, nat_tests) in rw test
+read_due bytes Check reads = refl
+read_due bytes Bound reads = refl
+read_due bytes (Run n) reads = refl
+read_due bytes (Alone d n) reads = refl
+read_due bytes (Gen s) reads = absurd reads
+read_due bytes (Demo s) reads = absurd reads
+
+pub too_long_due : (bytes : List ℕ) (c : Command) → Reads c → most_bytes < length bytes → answer_of_bytes c bytes ≡ (TooLong, too_long_text)
+unfolding answer_to_image
+too_long_due bytes c reads over = let test : leb (length bytes) most_bytes ≡ false = grind (arith, nat_tests) in rw (read_due bytes c reads, test)
+
+pub image_due : (bytes : List ℕ) (c : Command) → Reads c → length bytes ≤ most_bytes → answer_of_bytes c bytes ≡ answer_unless_broken c (image_for c bytes)
+unfolding answer_to_image
+image_due bytes c reads few = let test : leb (length bytes) most_bytes ≡ true = grind (arith, nat_tests) in rw (read_due bytes c reads, test)
+
+-- no image is read
+pub gen_due : (bytes : List ℕ) (s : ℕ) → answer_of_bytes (Gen s) bytes ≡ answer_gen s
+unfolding answer_of_bytes
+gen_due bytes s = refl
+
+pub demo_due : (bytes : List ℕ) (s : ℕ) → answer_of_bytes (Demo s) bytes ≡ answer_demo s
+unfolding answer_of_bytes
+demo_due bytes s = refl
 
 -- a rule is broken
 pub refusal_due : (c : Command) (found : Result Image Refusal) (r : Refusal) → found ≡ Err r → answer_unless_broken c found ≡ (Refused, refusal_text r)
@@ -148,15 +180,28 @@ unfolding answer_of_image answer_alone
 lacks_due d n i lacks = let test : ltb d (length i.owns) ≡ false = grind (arith, nat_tests) in rw test
 
 -- the same is due to all bytes of a source as to those that were taken
-pub same_due : (words : List (List ℕ)) (c : Command) (bytes items : List ℕ) (rest : Option (List ℕ)) → command words ≡ Some c → Some bytes ≡ before_known items rest → (length items ≤ most_bytes → AtEnd rest)
-    → answer_of_bytes c items ≡ answer words bytes
-same_due words c bytes items rest asked took whole = elim (cases_lt most_bytes (length items)) [
-  | inl over ↦ too_long_due items c over ∙ sym (too_long_due bytes c (over_taken bytes items rest took over)) ∙ sym (bytes_due words bytes c asked)
-  | inr few ↦ ap (answer_of_bytes c) (sym (all_taken bytes items rest took (whole few))) ∙ sym (bytes_due words bytes c asked)
+same_read : (c : Command) → Reads c → (bytes items : List ℕ) (rest : Option (List ℕ)) → Some bytes ≡ before_known items rest → (Reads c → length items ≤ most_bytes → AtEnd rest)
+    → answer_of_bytes c items ≡ answer_of_bytes c bytes
+same_read c reads bytes items rest took whole = elim (cases_lt most_bytes (length items)) [
+  | inl over ↦ too_long_due items c reads over ∙ sym (too_long_due bytes c reads (over_taken bytes items rest took over))
+  | inr few ↦ ap (answer_of_bytes c) (sym (all_taken bytes items rest took (whole reads few)))
 ]
 
+same_taken : (c : Command) (bytes items : List ℕ) (rest : Option (List ℕ)) → Some bytes ≡ before_known items rest → (Reads c → length items ≤ most_bytes → AtEnd rest)
+    → answer_of_bytes c items ≡ answer_of_bytes c bytes
+same_taken (Gen s) bytes items rest took whole = gen_due items s ∙ sym (gen_due bytes s)
+same_taken (Demo s) bytes items rest took whole = demo_due items s ∙ sym (demo_due bytes s)
+same_taken Check bytes items rest took whole = same_read Check tt bytes items rest took whole
+same_taken Bound bytes items rest took whole = same_read Bound tt bytes items rest took whole
+same_taken (Run n) bytes items rest took whole = same_read (Run n) tt bytes items rest took whole
+same_taken (Alone d n) bytes items rest took whole = same_read (Alone d n) tt bytes items rest took whole
+
+pub same_due : (words : List (List ℕ)) (c : Command) (bytes items : List ℕ) (rest : Option (List ℕ)) → command words ≡ Some c → Some bytes ≡ before_known items rest → (Reads c → length items ≤ most_bytes → AtEnd rest)
+    → answer_of_bytes c items ≡ answer words bytes
+same_due words c bytes items rest asked took whole = same_taken c bytes items rest took whole ∙ sym (bytes_due words bytes c asked)
+
 pub told_delivers : (words : List (List ℕ)) (c : Command) (bytes items : List ℕ) (rest : Option (List ℕ)) (result : Status) (old new : SinkState)
-    → command words ≡ Some c → Some bytes ≡ before_known items rest → (length items ≤ most_bytes → AtEnd rest) → Delivers (answer_of_bytes c items) result old new → Delivers (answer words bytes) result old new
+    → command words ≡ Some c → Some bytes ≡ before_known items rest → (Reads c → length items ≤ most_bytes → AtEnd rest) → Delivers (answer_of_bytes c items) result old new → Delivers (answer words bytes) result old new
 told_delivers words c bytes items rest result old new asked took whole = subst (λ due. Delivers due result old new) (same_due words c bytes items rest asked took whole)
 
 pub usage_delivers : (words : List (List ℕ)) (bytes : List ℕ) (result : Status) (old new : SinkState) → command words ≡ None → Delivers (Usage, usage_text) result old new → Delivers (answer words bytes) result old new
@@ -185,6 +230,8 @@ of_image Check (Ok i) = tt
 of_image Bound (Ok i) = tt
 of_image (Run n) (Ok i) = tt
 of_image (Alone d n) (Ok i) = of_chosen IsOfImage (ltb d (length i.owns)) (Done, section_alone i d n) (Usage, usage_text) tt tt
+of_image (Gen s) (Ok i) = tt
+of_image (Demo s) (Ok i) = tt
 of_image c (Err r) = tt
 
 -- usage is due to no image, but where a domain is named
@@ -194,20 +241,32 @@ usage_of Check (Ok i) e = cc e
 usage_of Bound (Ok i) e = cc e
 usage_of (Run n) (Ok i) e = cc e
 usage_of (Alone d n) found e = tt
+usage_of (Gen s) (Ok i) e = cc e
+usage_of (Demo s) (Ok i) e = cc e
 usage_of c (Err r) e = absurd (cc e)
 
+-- another status than Done is due only where an image is read
+other_reads : (c : Command) (items : List ℕ) (status : Status) → status ≡ (answer_of_bytes c items).0 → status ≢ Done → Reads c
+unfolding answer_of_bytes
+other_reads Check items status e other = tt
+other_reads Bound items status e other = tt
+other_reads (Run n) items status e other = tt
+other_reads (Alone d n) items status e other = tt
+other_reads (Gen s) items status e other = absurd (other e)
+other_reads (Demo s) items status e other = absurd (other e)
+
 -- another status than TooLong is due to all bytes of an image
-pub is_few : (c : Command) (items : List ℕ) (status : Status) → status ≡ (answer_of_bytes c items).0 → status ≢ TooLong → length items ≤ most_bytes
-is_few c items status e other = elim (cases_lt most_bytes (length items)) [
-  | inl over ↦ absurd (other (e ∙ ap (λ (a : Answer). a.0) (too_long_due items c over)))
+pub is_few : (c : Command) → Reads c → (items : List ℕ) (status : Status) → status ≡ (answer_of_bytes c items).0 → status ≢ TooLong → length items ≤ most_bytes
+is_few c reads items status e other = elim (cases_lt most_bytes (length items)) [
+  | inl over ↦ absurd (other (e ∙ ap (λ (a : Answer). a.0) (too_long_due items c reads over)))
   | inr few ↦ few
 ]
 
 -- TooLong is due to more
-pub is_over : (c : Command) (items : List ℕ) → TooLong ≡ (answer_of_bytes c items).0 → most_bytes < length items
-is_over c items e = elim (cases_lt most_bytes (length items)) [
+pub is_over : (c : Command) → Reads c → (items : List ℕ) → TooLong ≡ (answer_of_bytes c items).0 → most_bytes < length items
+is_over c reads items e = elim (cases_lt most_bytes (length items)) [
   | inl over ↦ over
-  | inr few ↦ absurd (subst IsOfImage (sym (e ∙ ap (λ (a : Answer). a.0) (image_due items c few))) (of_image c (image_for c items)))
+  | inr few ↦ absurd (subst IsOfImage (sym (e ∙ ap (λ (a : Answer). a.0) (image_due items c reads few))) (of_image c (image_for c items)))
 ]
 
 -- ---- the top call
@@ -216,33 +275,36 @@ done_is_due : (due : Answer) (result : Status) (old new : SinkState) → Deliver
 done_is_due due result old new d done = subst (λ s. Writes s due old.written new.written) done d.wrote
 
 -- how the reading ends where the status tells that an image was found, or what is none
-pub done_reads : (c : Command) (items : List ℕ) (result : Status) (old new : SinkState) → Delivers (answer_of_bytes c items) result old new → result ≡ Done → length items ≤ most_bytes
-done_reads c items result old new d done =
-    let due = done_is_due (answer_of_bytes c items) result old new d done in is_few c items Done due.0 (λ e. cc e)
+pub done_reads : (c : Command) → Reads c → (items : List ℕ) (result : Status) (old new : SinkState) → Delivers (answer_of_bytes c items) result old new → result ≡ Done → length items ≤ most_bytes
+done_reads c reads items result old new d done =
+    let due = done_is_due (answer_of_bytes c items) result old new d done in is_few c reads items Done due.0 (λ e. cc e)
 
-pub refused_reads : (c : Command) (items : List ℕ) (result : Status) (old new : SinkState) → Delivers (answer_of_bytes c items) result old new → result ≡ Refused → length items ≤ most_bytes
+-- only a command that reads an image is refused
+pub refused_reads : (c : Command) (items : List ℕ) (result : Status) (old new : SinkState) → Delivers (answer_of_bytes c items) result old new → result ≡ Refused → Reads c × (length items ≤ most_bytes)
 refused_reads c items result old new d refused =
     let due : (Refused ≡ (answer_of_bytes c items).0) × (new.written ≡ after_known old.written (answer_of_bytes c items).1) = subst (λ s. Writes s (answer_of_bytes c items) old.written new.written) refused d.wrote in
-    is_few c items Refused due.0 (λ e. cc e)
+    let reads = other_reads c items Refused due.0 (λ e. cc e) in
+    (reads, is_few c reads items Refused due.0 (λ e. cc e))
 
 pub too_long_reads : (c : Command) (items : List ℕ) (result : Status) (old new : SinkState) → Delivers (answer_of_bytes c items) result old new → result ≡ TooLong → most_bytes < length items
 too_long_reads c items result old new d over =
     let due : (TooLong ≡ (answer_of_bytes c items).0) × (new.written ≡ after_known old.written (answer_of_bytes c items).1) = subst (λ s. Writes s (answer_of_bytes c items) old.written new.written) over d.wrote in
-    is_over c items due.0
+    is_over c (other_reads c items TooLong due.0 (λ e. cc e)) items due.0
 
 usage_is_due : (due : Answer) (result : Status) (old new : SinkState) → Delivers due result old new → result ≡ Usage → (Usage ≡ due.0) × (new.written ≡ after_known old.written due.1)
 usage_is_due due result old new d usage = subst (λ s. Writes s due old.written new.written) usage d.wrote
 
-pub usage_reads : (c : Command) (items : List ℕ) (result : Status) (old new : SinkState) → Delivers (answer_of_bytes c items) result old new → result ≡ Usage → length items ≤ most_bytes
-usage_reads c items result old new d usage =
-    let due = usage_is_due (answer_of_bytes c items) result old new d usage in is_few c items Usage due.0 (λ e. cc e)
+usage_reads : (c : Command) → Reads c → (items : List ℕ) (result : Status) (old new : SinkState) → Delivers (answer_of_bytes c items) result old new → result ≡ Usage → length items ≤ most_bytes
+usage_reads c reads items result old new d usage =
+    let due = usage_is_due (answer_of_bytes c items) result old new d usage in is_few c reads items Usage due.0 (λ e. cc e)
 
 -- words that are a command have the usage line only where they name a domain
 pub may_be_usage : (c : Command) (items : List ℕ) (result : Status) (old new : SinkState) → Delivers (answer_of_bytes c items) result old new → result ≡ Usage → MayBeUsage (Some c)
 may_be_usage c items result old new d usage =
     let due = usage_is_due (answer_of_bytes c items) result old new d usage in
-    let few = usage_reads c items result old new d usage in
-    usage_of c (image_for c items) (due.0 ∙ ap (λ (a : Answer). a.0) (image_due items c few))
+    let reads = other_reads c items Usage due.0 (λ e. cc e) in
+    let few = usage_reads c reads items result old new d usage in
+    usage_of c (image_for c items) (due.0 ∙ ap (λ (a : Answer). a.0) (image_due items c reads few))
 
 -- words that are no command
 pub ends_usage : (result : Status) (old new : SinkState) → Delivers (Usage, usage_text) result old new → EndsUsage result old.written new.written
@@ -279,10 +341,6 @@ completes_surely due WriteFault old new room d sure fits =
 
 -- ---- what the image was
 
-abbrev value_or : Image → Result Image Refusal → Image
-value_or i (Ok j) = j
-value_or i (Err r) = i
-
 abbrev refusal_or : Refusal → Result Image Refusal → Refusal
 refusal_or r (Ok i) = r
 refusal_or r (Err q) = q
@@ -314,6 +372,8 @@ unfolding answer_of_image answer_alone
 no_refusal Check i e = cc e
 no_refusal Bound i e = cc e
 no_refusal (Run n) i e = cc e
+no_refusal (Gen s) i e = cc e
+no_refusal (Demo s) i e = cc e
 no_refusal (Alone d n) i e = of_chosen (λ s. Refused ≢ s) (ltb d (length i.owns)) (Done, section_alone i d n) (Usage, usage_text) (λ r. cc r) (λ r. cc r) e
 
 refused_image : (c : Command) (found : Result Image Refusal) → Refused ≡ (answer_unless_broken c found).0 → (r : Refusal) × (found ≡ Err r) × (answer_unless_broken c found ≡ (Refused, refusal_text r))
@@ -349,31 +409,31 @@ first_in c (Ok t) r e = first_unless t r (broken_for c t) e
 -- ---- what a done command, and a refused one, tell
 
 module _ (c : Command) (items : List ℕ) (left left' : Option (List ℕ)) (result : Status) (old new : SinkState)
-    (took : left ≡ before_known items left') (whole : length items ≤ most_bytes → AtEnd left') (d : Delivers (answer_of_bytes c items) result old new) where
+    (took : left ≡ before_known items left') (whole : Reads c → length items ≤ most_bytes → AtEnd left') (d : Delivers (answer_of_bytes c items) result old new) where
   -- what is due to the image
-  told : (status : Status) → (status ≡ (answer_of_bytes c items).0) × (new.written ≡ after_known old.written (answer_of_bytes c items).1) → length items ≤ most_bytes
+  told : (status : Status) → Reads c → (status ≡ (answer_of_bytes c items).0) × (new.written ≡ after_known old.written (answer_of_bytes c items).1) → length items ≤ most_bytes
       → (status ≡ (answer_unless_broken c (image_for c items)).0) × (new.written ≡ after_known old.written (answer_unless_broken c (image_for c items)).1)
-  told status due few =
-      let is = image_due items c few in
+  told status reads due few =
+      let is = image_due items c reads few in
       (due.0 ∙ ap (λ (a : Answer). a.0) is, due.1 ∙ ap (λ (a : Answer). after_known old.written a.1) is)
 
   pub refuses : result ≡ Refused → Refuses c left left' old.written new.written
   unfolding image_for
   refuses refused =
-      let few = refused_reads c items result old new d refused in
-      let t = told Refused (subst (λ s. Writes s (answer_of_bytes c items) old.written new.written) refused d.wrote) few in
+      let (reads, few) = refused_reads c items result old new d refused in
+      let t = told Refused reads (subst (λ s. Writes s (answer_of_bytes c items) old.written new.written) refused d.wrote) few in
       let (r, broken, is) = refused_image c (image_for c items) t.0 in
       record {
-        all = record { bytes = items; took = took; whole = whole few; few = few };
+        all = record { bytes = items; took = took; whole = whole reads few; few = few };
         item = r;
         first = first_in c (text.image_of items) r broken;
         wrote = t.1 ∙ ap (λ (a : Answer). after_known old.written a.1) is;
       }
 
-  pub done_found : result ≡ Done → (i : Image) × Found c (text.image_of items) i × (new.written ≡ after_known old.written (answer_of_image c i).1)
+  pub done_found : Reads c → result ≡ Done → (i : Image) × Found c (text.image_of items) i × (new.written ≡ after_known old.written (answer_of_image c i).1)
   unfolding image_for
-  done_found done =
-      let t = told Done (done_is_due (answer_of_bytes c items) result old new d done) (done_reads c items result old new d done) in
+  done_found reads done =
+      let t = told Done reads (done_is_due (answer_of_bytes c items) result old new d done) (done_reads c reads items result old new d done) in
       let (i, read, is) = found_image c (image_for c items) Done done_is_found t.0 in
       (i, found_in c (text.image_of items) i read, t.1 ∙ ap (λ (a : Answer). after_known old.written a.1) is)
 
@@ -382,8 +442,8 @@ pub accepts : (items : List ℕ) (left left' : Option (List ℕ)) (result : Stat
     → Accepts left left' old.written new.written
 unfolding answer_of_image broken_for
 accepts items left left' result old new took whole d done =
-    let few = done_reads Check items result old new d done in
-    let (i, found, wrote) = done_found Check items left left' result old new took whole d done in
+    let few = done_reads Check tt items result old new d done in
+    let (i, found, wrote) = done_found Check items left left' result old new took (λ _. whole) d tt done in
     record {
       all = record { bytes = items; took = took; whole = whole few; few = few };
       record_of = found.record_of;
@@ -397,8 +457,8 @@ pub bounds : (items : List ℕ) (left left' : Option (List ℕ)) (result : Statu
     → Bounds left left' old.written new.written
 unfolding answer_of_image broken_for public_of
 bounds items left left' result old new took whole d done =
-    let few = done_reads Bound items result old new d done in
-    let (i, found, wrote) = done_found Bound items left left' result old new took whole d done in
+    let few = done_reads Bound tt items result old new d done in
+    let (i, found, wrote) = done_found Bound items left left' result old new took (λ _. whole) d tt done in
     record {
       all = record { bytes = items; took = took; whole = whole few; few = few };
       record_of = found.record_of;
@@ -408,14 +468,14 @@ bounds items left left' result old new took whole d done =
     }
 
 -- a command for which an image is read as for a run: what was due was due to that image
-reads_image : (c : Command) → ((found : Result text.Raw Refusal) → checked_for c found ≡ checked found)
+reads_image : (c : Command) → Reads c → ((found : Result text.Raw Refusal) → checked_for c found ≡ checked found)
     → (items : List ℕ) (left left' : Option (List ℕ)) (status : Status) (old new : Option (List ℕ))
     → left ≡ before_known items left' → (length items ≤ most_bytes → AtEnd left') → length items ≤ most_bytes → status ≢ Refused
     → (status ≡ (answer_of_bytes c items).0) × (new ≡ after_known old (answer_of_bytes c items).1)
     → (r : ReadsImage left left') × (status ≡ (answer_of_image c r.found).0) × (new ≡ after_known old (answer_of_image c r.found).1)
 unfolding image image_for
-reads_image c reads items left left' status old new took whole few other due =
-    let is = image_due items c few in
+reads_image c is_read reads items left left' status old new took whole few other due =
+    let is = image_due items c is_read few in
     let (i, read, same) = found_image c (image_for c items) status other (due.0 ∙ ap (λ (a : Answer). a.0) is) in (
       record { bytes = items; found = i; took = took; whole = whole few; few = few; read = sym (reads (text.image_of items)) ∙ read },
       due.0 ∙ ap (λ (a : Answer). a.0) (is ∙ same),
@@ -427,9 +487,9 @@ pub ran : (n : ℕ) (items : List ℕ) (left left' : Option (List ℕ)) (result 
     → (r : ReadsImage left left') × (new.written ≡ after_known old.written (report r.found n))
 unfolding answer_of_image
 ran n items left left' result old new took whole d done =
-    let few = done_reads (Run n) items result old new d done in
+    let few = done_reads (Run n) tt items result old new d done in
     let due = done_is_due (answer_of_bytes (Run n) items) result old new d done in
-    let (r, is, wrote) = reads_image (Run n) (run_reads n) items left left' Done old.written new.written took whole few done_is_found due in
+    let (r, is, wrote) = reads_image (Run n) tt (run_reads n) items left left' Done old.written new.written took whole few done_is_found due in
     (r, wrote)
 
 read_separated : (left left' : Option (List ℕ)) (r : ReadsImage left left') → Runnable r.found
@@ -460,9 +520,9 @@ pub lacks_domain : (k n : ℕ) (items : List ℕ) (left left' : Option (List ℕ
     → left ≡ before_known items left' → (length items ≤ most_bytes → AtEnd left') → Delivers (answer_of_bytes (Alone k n) items) result old new → result ≡ Usage
     → LacksDomain k left left' old.written new.written
 lacks_domain k n items left left' result old new took whole d usage =
-    let few = usage_reads (Alone k n) items result old new d usage in
+    let few = usage_reads (Alone k n) tt items result old new d usage in
     let due = usage_is_due (answer_of_bytes (Alone k n) items) result old new d usage in
-    let (r, is, wrote) = reads_image (Alone k n) (alone_reads k n) items left left' Usage old.written new.written took whole few usage_is_found due in
+    let (r, is, wrote) = reads_image (Alone k n) tt (alone_reads k n) items left left' Usage old.written new.written took whole few usage_is_found due in
     elim (cases_lt k (length r.found.owns)) [
       | inl has ↦ let same = is ∙ ap (λ (a : Answer). a.0) (alone_due k n r.found has) in absurd (cc same)
       | inr lacks ↦ record { ran = r; lacks = lacks; wrote = wrote ∙ ap (λ (a : Answer). after_known old.written a.1) (lacks_due k n r.found lacks) }
@@ -472,9 +532,9 @@ pub writes_section : (k n : ℕ) (items : List ℕ) (left left' : Option (List �
     → left ≡ before_known items left' → (length items ≤ most_bytes → AtEnd left') → Delivers (answer_of_bytes (Alone k n) items) result old new → result ≡ Done
     → WritesSection k n left left' old.written new.written
 writes_section k n items left left' result old new took whole d done =
-    let few = done_reads (Alone k n) items result old new d done in
+    let few = done_reads (Alone k n) tt items result old new d done in
     let due = done_is_due (answer_of_bytes (Alone k n) items) result old new d done in
-    let (r, is, wrote) = reads_image (Alone k n) (alone_reads k n) items left left' Done old.written new.written took whole few done_is_found due in
+    let (r, is, wrote) = reads_image (Alone k n) tt (alone_reads k n) items left left' Done old.written new.written took whole few done_is_found due in
     elim (cases_lt k (length r.found.owns)) [
       | inl has ↦ record { ran = r; domain = has; wrote = wrote ∙ ap (λ (a : Answer). after_known old.written a.1) (alone_due k n r.found has) }
       | inr lacks ↦ let same = is ∙ ap (λ (a : Answer). a.0) (lacks_due k n r.found lacks) in absurd (cc same)
@@ -491,3 +551,23 @@ is_same_section k n left left' old new w = record {
   domain = w.domain;
   wrote = w.wrote ∙ ap (after_known old) (alone_section w.ran.found k n (read_separated left left' w.ran) w.domain);
 }
+
+-- ---- the image that a seed makes
+
+pub generates : (s : ℕ) (items : List ℕ) (result : Status) (old new : SinkState) → s < 2 ^ 64 → ReadsBack s → Delivers (answer_of_bytes (Gen s) items) result old new → result ≡ Done → Generates s old.written new.written
+generates s items result old new small back d done =
+    let due = done_is_due (answer_of_bytes (Gen s) items) result old new d done in
+    record {
+      bytes = generated_text s;
+      wrote = due.1 ∙ ap (λ (a : Answer). after_known old.written a.1) (gen_due items s);
+      read = back;
+      unbroken = accepted_law s small;
+    }
+
+pub summarizes : (s : ℕ) (items : List ℕ) (result : Status) (old new : SinkState) → s < 2 ^ 64 → Delivers (answer_of_bytes (Demo s) items) result old new → result ≡ Done → Summarizes s old.written new.written
+summarizes s items result old new small d done =
+    let due = done_is_due (answer_of_bytes (Demo s) items) result old new d done in
+    record {
+      unbroken = accepted_law s small;
+      wrote = due.1 ∙ ap (λ (a : Answer). after_known old.written a.1) (demo_due items s);
+    }

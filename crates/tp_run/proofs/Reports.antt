@@ -10,7 +10,7 @@ use Rattle.world_view.specs.View.{View, view_whole, view_alone}
 use Rattle.world_view.specs.declared.view.Used.{Used}
 use Rattle.tp_machine.specs.Usage.{IsUsed}
 use Rattle.tp_report.specs.Texts.{section}
-use Rattle.tp_report.specs.Report.{section_of, sections, switch_lines, end_text, report_with, report}
+use Rattle.tp_report.specs.Report.{section_of, sections, switch_lines, end_text, report_with, report, ending}
 use Rattle.tp_report.specs.Switches.{no_used, used_in, switches_text}
 use Rattle.tp_report.proofs.Switches.{switches_text-lines}
 use Rattle.tp_run.specs.Answer.{section_alone}
@@ -30,6 +30,6 @@ kept_lines es used us same is =
     let kept : slice_get used e ≡ Some (used_in used e) = slice_get-get_or used e no_used (omega arith) in
     (is.largest e (used_in used e) kept, is.count e (used_in used e) kept))
 
-pub report_parts : (i : Image) (n : ℕ) → report i n ≡ sections i (λ d. view_whole i d n) ++ (switch_lines i.all.schedule (whole i n).used ++ end_text)
-unfolding report report_with
+pub report_parts : (i : Image) (n : ℕ) → report i n ≡ sections i (λ d. view_whole i d n) ++ ending i n
+unfolding report report_with ending
 report_parts i n = ap (λ text. sections i (λ d. view_whole i d n) ++ (switch_lines i.all.schedule (whole i n).used ++ text)) (append-nil end_text)

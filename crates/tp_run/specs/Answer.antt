@@ -2,13 +2,16 @@
 use Rattle.std.specs.Prelude.{ℕ, nat_le, nat_lt, if◌then◌else◌, List, length, Option, Some, None, Result, Ok, Err}
 use Rattle.clap.specs.Words.{fault_of, subcommand_of}
 use Rattle.image_text.specs.declared.refusal.Refusal.{Refusal}
-use Rattle.image_check.specs.Image.{Image, own_of}
+use Rattle.image_check.specs.Image.{Image, own_of, image_from}
 use Rattle.image_check.specs.Pads.{shape_of}
+use Rattle.image_gen.specs.Generated.{generated}
+use Rattle.image_gen.specs.Text.{text as generated_text}
 use Rattle.world_view.specs.Reading.{most_bytes}
 use Rattle.world_view.specs.View.{view_alone}
 use Rattle.tp_report.specs.Report.{report, section_of, bound_in_parts, bound_text, accepted_text, usage_text, refusal_text, too_long_text}
+use Rattle.tp_report.specs.Demo.{demo_text}
 use Rattle.tp_run.specs.declared.Command.{Command}
-use Rattle.tp_run.specs.declared.Command.TheVariants.{Check, Bound, Run, Alone}
+use Rattle.tp_run.specs.declared.Command.TheVariants.{Check, Bound, Run, Alone, Gen, Demo}
 use Rattle.tp_run.specs.declared.status.Status.{Status}
 use Rattle.tp_run.specs.declared.status.Status.TheVariants.{Done, Refused, Usage, TooLong}
 use Rattle.tp_run.specs.Reading.{image_for}
@@ -33,20 +36,35 @@ section_alone i d n = section_of i (λ e. view_alone i.all (own_of i e) e n) d
 unfoldable pub answer_alone : ℕ → ℕ → Image → Answer
 answer_alone d n i = if nat_lt d (length i.owns) then (Done, section_alone i d n) else (Usage, usage_text)
 
+-- what a command writes of the image that a seed makes
+abbrev pub answer_gen : ℕ → Answer
+answer_gen s = (Done, generated_text s)
+
+abbrev pub answer_demo : ℕ → Answer
+answer_demo s = (Done, demo_text (image_from (generated s)) s)
+
 -- to an image that breaks no rule, by command; where the bound is asked for, none but that of pads
 unfoldable pub answer_of_image : Command → Image → Answer
 answer_of_image Check i = (Done, accepted_text)
 answer_of_image Bound i = (Done, bound_text (bound_in_parts (shape_of i.all.hardware)))
 answer_of_image (Run n) i = (Done, report i n)
 answer_of_image (Alone d n) i = answer_alone d n i
+answer_of_image (Gen s) i = answer_gen s
+answer_of_image (Demo s) i = answer_demo s
 
 unfoldable pub answer_unless_broken : Command → Result Image Refusal → Answer
 answer_unless_broken c (Ok i) = answer_of_image c i
 answer_unless_broken c (Err r) = (Refused, refusal_text r)
 
 -- an image that is too long isn't read
+unfoldable pub answer_to_image : Command → List ℕ → Answer
+answer_to_image c bytes = if nat_le (length bytes) most_bytes then answer_unless_broken c (image_for c bytes) else (TooLong, too_long_text)
+
+-- where nothing is read, it is the same whatever the bytes are
 unfoldable pub answer_of_bytes : Command → List ℕ → Answer
-answer_of_bytes c bytes = if nat_le (length bytes) most_bytes then answer_unless_broken c (image_for c bytes) else (TooLong, too_long_text)
+answer_of_bytes (Gen s) bytes = answer_gen s
+answer_of_bytes (Demo s) bytes = answer_demo s
+answer_of_bytes c bytes = answer_to_image c bytes
 
 unfoldable pub answer_by : Option Command → List ℕ → Answer
 answer_by None bytes = (Usage, usage_text)

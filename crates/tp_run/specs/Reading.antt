@@ -6,7 +6,7 @@ use Rattle.image_check.specs.Checking.{broken, broken_but_pads}
 use Rattle.image_check.specs.Image.{Image}
 use Rattle.world_view.specs.Reading.{unless_broken}
 use Rattle.tp_run.specs.declared.Command.{Command}
-use Rattle.tp_run.specs.declared.Command.TheVariants.{Check, Bound, Run, Alone}
+use Rattle.tp_run.specs.declared.Command.TheVariants.{Check, Bound, Run, Alone, Gen, Demo}
 
 -- of the record of a text: pads may be too short where their bound is asked for
 unfoldable pub broken_for : Command → text.Raw → List Refusal
@@ -14,6 +14,8 @@ broken_for Check i = broken i
 broken_for Bound i = broken_but_pads i
 broken_for (Run n) i = broken i
 broken_for (Alone d n) i = broken i
+broken_for (Gen s) i = broken i
+broken_for (Demo s) i = broken i
 
 -- of the text itself, too
 unfoldable pub broken_in : Command → Result text.Raw Refusal → List Refusal

@@ -7,10 +7,12 @@ use Rattle.tp_io.specs.Sends.{SinkState}
 use Rattle.tp_io.specs.Sure.{Exceeds}
 use Rattle.image_text.specs.declared.refusal.Refusal.{Refusal}
 use Rattle.image_text.specs.Record as text
+use Rattle.image_gen.specs.Generated.{generated}
+use Rattle.image_gen.specs.Text.{text as generated_text}
 use Rattle.hardware_check.specs.Hardware.{hardware_of}
 use Rattle.image_check.specs.Checking.{broken, broken_but_pads}
 use Rattle.image_check.specs.Pads.{shape_of}
-use Rattle.image_check.specs.Image.{Image, own_of}
+use Rattle.image_check.specs.Image.{Image, own_of, image_from}
 use Rattle.world_view.specs.Reading.{most_bytes, image}
 use Rattle.sched_table.specs.Schedule.{entry_in, start}
 use Rattle.world_view.specs.Machine.{switch, whole}
@@ -18,11 +20,13 @@ use Rattle.world_view.specs.View.{view_whole, view_alone}
 use Rattle.world_view.specs.Relations.{IsDomain, AllWithinPads}
 use Rattle.world_view.specs.Used.{largest_of}
 use Rattle.tp_report.specs.Report.{report_apart, section_of, bound_in_parts, bound_text, accepted_text, usage_text, refusal_text}
+use Rattle.tp_report.specs.Demo.{demo_text}
 use Rattle.tp_run.specs.declared.Command.{Command}
 use Rattle.tp_run.specs.declared.Command.TheVariants.{Alone}
 use Rattle.tp_run.specs.declared.status.Status.{Status}
 use Rattle.tp_run.specs.declared.status.Status.TheVariants.{Usage, ReadFault, WriteFault, Memory}
 use Rattle.tp_run.specs.Reading.{broken_in}
+use Rattle.tp_run.specs.Words.{Reads}
 use Rattle.tp_run.specs.Answer.{Answer, answer, command, section_alone}
 
 -- the words of the command line, as bytes
@@ -75,7 +79,7 @@ pub record IsOver (left left' : Option (List ℕ)) : Type 0 where
 pub record Answered (words : List (List ℕ)) (status : Status) (left left' written written' : Option (List ℕ)) : Type 0 where
   pub bytes : List ℕ
   pub took : left ≡ before_known bytes left'
-  pub whole : command words ≢ None → length bytes ≤ most_bytes → AtEnd left'
+  pub whole : (c : Command) → command words ≡ Some c → Reads c → length bytes ≤ most_bytes → AtEnd left'
   pub few : length bytes ≤ most_bytes + 1
   pub wrote : Writes status (answer words bytes) written written'
 
@@ -154,3 +158,21 @@ pub record SameSection (d slots : ℕ) (left left' written written' : Option (Li
   pub ran : ReadsImage left left'
   pub domain : IsDomain ran.found d
   pub wrote : written' ≡ after_known written (section_of ran.found (λ e. view_whole ran.found e slots) d)
+
+-- ---- the image that a seed makes
+
+-- its text reads as its record
+abbrev pub ReadsBack : ℕ → Type 0
+ReadsBack seed = text.image_of (generated_text seed) ≡ Ok (generated seed)
+
+-- a text that reads as the seed's record was written, and that record breaks no rule
+pub record Generates (seed : ℕ) (written written' : Option (List ℕ)) : Type 0 where
+  pub bytes : List ℕ
+  pub wrote : written' ≡ after_known written bytes
+  pub read : text.image_of bytes ≡ Ok (generated seed)
+  pub unbroken : broken (generated seed) ≡ []
+
+-- the seed's record breaks no rule, and the summary of its run was written
+pub record Summarizes (seed : ℕ) (written written' : Option (List ℕ)) : Type 0 where
+  pub unbroken : broken (generated seed) ≡ []
+  pub wrote : written' ≡ after_known written (demo_text (image_from (generated seed)) seed)

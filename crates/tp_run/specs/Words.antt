@@ -8,7 +8,7 @@ use Rattle.clap.specs.ValueTests.{is_unsigned_in}
 use Rattle.clap.specs.declared.builder.action.ArgAction.TheVariants.{Set}
 use Rattle.clap.specs.declared.builder.value_parser.ValueParser.TheVariants as vp
 use Rattle.tp_run.specs.declared.Command.{Command}
-use Rattle.tp_run.specs.declared.Command.TheVariants.{Check, Bound, Run, Alone}
+use Rattle.tp_run.specs.declared.Command.TheVariants.{Check, Bound, Run, Alone, Gen, Demo}
 use Rattle.tp_run.specs.Partial.{◌>>=◌, ◌>>◌, when}
 
 -- ---- the program's command
@@ -28,6 +28,9 @@ slots_rule = number_rule (codes "slots") 65536
 abbrev pub domain_rule : Rule
 domain_rule = number_rule (codes "domain") 15
 
+abbrev pub seed_rule : Rule
+seed_rule = number_rule (codes "seed") 4294967295
+
 abbrev pub check_app : App
 check_app = new_app (codes "check")
 
@@ -40,6 +43,10 @@ run_app = with_rule (new_app (codes "run")) slots_rule
 abbrev pub alone_app : App
 alone_app = with_rule (with_rule (new_app (codes "alone")) domain_rule) slots_rule
 
+-- one that makes its image of a seed
+abbrev pub seed_app : Text → App
+seed_app name = with_rule (new_app name) seed_rule
+
 -- a subcommand must be named
 abbrev pub required : Shape → Shape
 required s = record s { subcommand_required = true }
@@ -51,6 +58,8 @@ tp_app = fold with_subcommand (on_top required (new_app (codes "tp"))) (
     ∷ bound_app.top
     ∷ run_app.top
     ∷ alone_app.top
+    ∷ (seed_app (codes "gen")).top
+    ∷ (seed_app (codes "demo")).top
     ∷ [])
 
 -- ---- what its matches ask for
@@ -77,6 +86,9 @@ slots_in rows = or_zero (number_in (codes "slots") 65536 rows)
 abbrev pub domain_in : List Row → ℕ
 domain_in rows = or_zero (number_in (codes "domain") 15 rows)
 
+abbrev pub seed_in : List Row → ℕ
+seed_in rows = or_zero (number_in (codes "seed") 4294967295 rows)
+
 -- what a subcommand asks for, by its name and what was found for its options: one case for each
 abbrev pub asked_by : Text → List Row → Command
 asked_by name rows =
@@ -84,6 +96,8 @@ asked_by name rows =
     else if bytes_eq name (codes "bound") then Bound
     else if bytes_eq name (codes "run") then Run (slots_in rows)
     else if bytes_eq name (codes "alone") then Alone (domain_in rows) (slots_in rows)
+    else if bytes_eq name (codes "gen") then Gen (seed_in rows)
+    else if bytes_eq name (codes "demo") then Demo (seed_in rows)
     else never_asked
 
 abbrev pub asked_for : Option (Text × List Row) → Command
@@ -97,9 +111,17 @@ unless_faulty (k ∷ ks) asked = None
 
 -- ---- what is known of a command
 
--- its slots are at most 65,536
-abbrev pub RunsFewSlots : Command → Type 0
-RunsFewSlots Check = ⊤
-RunsFewSlots Bound = ⊤
-RunsFewSlots (Run n) = n ≤ 65536
-RunsFewSlots (Alone d n) = n ≤ 65536
+-- its slots are at most 65,536, and its seed has 32 bits
+abbrev pub IsInRange : Command → Type 0
+IsInRange Check = ⊤
+IsInRange Bound = ⊤
+IsInRange (Run n) = n ≤ 65536
+IsInRange (Alone d n) = n ≤ 65536
+IsInRange (Gen s) = s ≤ 4294967295
+IsInRange (Demo s) = s ≤ 4294967295
+
+-- it works on an image that it reads; the others make theirs of a seed, and read nothing
+abbrev pub Reads : Command → Type 0
+Reads (Gen s) = ⊥
+Reads (Demo s) = ⊥
+Reads _ = ⊤

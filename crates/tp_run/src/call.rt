@@ -1,7 +1,7 @@
 // The top call.
-ghost use Rattle.std.specs.Prelude.{◌≡◌, ◌≢◌, ◌<◌, ◌≤◌, ◌-◌, ◌^◌, ◌⊎◌};
-ghost use Rattle.std.specs.Prelude.{List, ℕ, Some, None, Result, length, OnOk, OnErr};
-ghost use Rattle.tp_io.specs.Bytes.{AtEnd};
+ghost use Rattle.std.specs.Prelude.{◌≡◌, ◌≢◌, ◌<◌, ◌≤◌, ◌+◌, ◌-◌, ◌^◌, ◌⊎◌};
+ghost use Rattle.std.specs.Prelude.{List, [], ℕ, Some, None, Result, Err, length, IfOk, OnOk, OnErr};
+ghost use Rattle.tp_io.specs.Bytes.{before_known, AtEnd};
 ghost use Rattle.tp_io.specs.Causes.{TellsFault};
 ghost use Rattle.tp_io.specs.Sink.{state};
 ghost use Rattle.image_text.specs.declared.refusal.Refusal.{Refusal};
@@ -11,11 +11,13 @@ ghost use Rattle.tp_run.specs.TopCall.{Writes, EndsUsage, Delivers, ComesTo, Ans
 ghost use Rattle.tp_run.specs.TopCall.{Isolated, Padded, MayBeUsage, words_of};
 ghost use Rattle.tp_run.specs.TopCall.{Refuses, Accepts, Bounds};
 ghost use Rattle.tp_run.specs.TopCall.{LacksDomain, WritesSection, SameSection};
+ghost use Rattle.tp_run.specs.TopCall.{ReadsBack, Generates, Summarizes};
 ghost use Rattle.tp_run.specs.Accepting.{Accepting, IsRefused};
 ghost use Rattle.tp_run.specs.Reading.{image_for};
-ghost use Rattle.tp_run.specs.Words.{RunsFewSlots};
+ghost use Rattle.tp_run.specs.Words.{IsInRange, Reads};
 
 use crate::alone::run_domain;
+use crate::generate::{run_demo, write_generated};
 use crate::run::{domains_of, run_image};
 use crate::words::command;
 use crate::{Command, Status};
@@ -32,7 +34,8 @@ const MOST_BYTES: usize = 1_048_576;
 
 /// Does what the words ask for, and answers how that ended. `words` begins
 /// with the program's name. An image is read from `src` to its end, or to one
-/// byte past the most that an image may have; the text goes to `out`.
+/// byte past the most that an image may have, unless the words name the seed
+/// that makes it; the text goes to `out`.
 pub fn tp_main<S: Source, K: Sink>(
     alloc: Global,
     words: &[String],
@@ -61,10 +64,13 @@ pub fn tp_main<S: Source, K: Sink>(
         → spec.command (words_of words.now) ≡ Some (Command.Alone d slots) → result ≡ Status.Usage
         → LacksDomain d (S.left src.old) (S.left src.new) (K.written out.old) (K.written out.new) }
 
-    // What is read.
-    ensures done_reads { result ≡ Status.Done → AtEnd (S.left src.new) }
+    // What is read, and that words that name a seed leave the source as it was.
+    ensures done_reads { (c : Command) → spec.command (words_of words.now) ≡ Some c → Reads c
+        → result ≡ Status.Done → AtEnd (S.left src.new) }
     ensures refused_reads { result ≡ Status.Refused → AtEnd (S.left src.new) }
     ensures too_long_reads { result ≡ Status.TooLong → IsOver (S.left src.old) (S.left src.new) }
+    ensures makes_untouched { (c : Command) → spec.command (words_of words.now) ≡ Some c → ¬ Reads c
+        → src.new ≡ src.old }
 
     // A failed read, and a failed write, come where they are told.
     ensures read_fault { TellsFault (result ≡ Status.ReadFault) (S.faults src.old) (S.faults src.new) }
@@ -109,13 +115,21 @@ pub fn tp_main<S: Source, K: Sink>(
     ensures same_section { (d slots : ℕ)
         → spec.command (words_of words.now) ≡ Some (Command.Alone d slots) → result ≡ Status.Done
         → SameSection d slots (S.left src.old) (S.left src.new) (K.written out.old) (K.written out.new) }
+
+    // The image that a seed makes, as a text that reads as its record; and the summary of its run.
+    ensures generated { (seed : ℕ)
+        → spec.command (words_of words.now) ≡ Some (Command.Gen seed) → result ≡ Status.Done
+        → Generates seed (K.written out.old) (K.written out.new) }
+    ensures demo { (seed : ℕ)
+        → spec.command (words_of words.now) ≡ Some (Command.Demo seed) → result ≡ Status.Done
+        → Summarizes seed (K.written out.old) (K.written out.new) }
 {
     let command = match command(alloc, words) {
         Ok(Some(command)) => command,
         Ok(None) => return status_unless_failed(Status::Usage, write_usage(out)),
         Err(Memory) => return Status::Memory,
     };
-    let bytes = match read_within(alloc, src, MOST_BYTES) {
+    let bytes = match read_for(alloc, command, src) {
         Ok(bytes) => bytes,
         Err(ReadError::Failed) => return Status::ReadFault,
         Err(ReadError::Memory) => return Status::Memory,
@@ -123,11 +137,30 @@ pub fn tp_main<S: Source, K: Sink>(
     answer_bytes(alloc, command, bytes.as_slice(), out)
 }
 
-// Answers all bytes of a source, or one more than an image may have.
+// The bytes that a command works on: all of the source, or one more than an
+// image may have. One that works on no image takes none.
+fn read_for<S: Source>(alloc: Global, command: Command, src: &mut S) -> Result<Vec<u8>, ReadError>
+    ensures taken { IfOk result (λ v. S.left src.old ≡ before_known v.items (S.left src.new)) }
+    ensures whole { IfOk result (λ v. Reads command → length v.items ≤ MOST_BYTES → AtEnd (S.left src.new)) }
+    ensures most { IfOk result (λ v. length v.items ≤ MOST_BYTES + 1) }
+    ensures cause { TellsFault (result ≡ Err ReadError.Failed) (S.faults src.old) (S.faults src.new) }
+    ensures none { ¬ Reads command → IfOk result (λ v. v.items ≡ []) }
+    ensures untouched { ¬ Reads command → src.new ≡ src.old }
+{
+    if !command.reads_image() {
+        return Ok(Vec::new(alloc));
+    }
+    read_within(alloc, src, MOST_BYTES)
+}
+
+// Answers all bytes of a source, or one more than an image may have, or none
+// where the command works on no image.
 fn answer_bytes<K: Sink>(alloc: Global, command: Command, bytes: &[u8], out: &mut K) -> Status
-    requires range { RunsFewSlots command }
+    requires range { IsInRange command }
+    requires none { ¬ Reads command → bytes.now ≡ [] }
     ensures delivers { Delivers (spec.answer_of_bytes command bytes.now)
         result (state K.Sink out.old) (state K.Sink out.new) }
+    ensures reads_back { (seed : ℕ) → command ≡ Command.Gen seed → result ≡ Status.Done → ReadsBack seed }
 {
     if bytes.len() > MOST_BYTES {
         return status_unless_failed(Status::TooLong, write_too_long(out));
@@ -137,6 +170,8 @@ fn answer_bytes<K: Sink>(alloc: Global, command: Command, bytes: &[u8], out: &mu
         Command::Bound => answer_bound(alloc, bytes, out),
         Command::Run { slots } => answer_run(alloc, bytes, slots, out),
         Command::Alone { domain, slots } => answer_alone(alloc, bytes, domain, slots, out),
+        Command::Gen { seed } => write_generated(alloc, seed, out),
+        Command::Demo { seed } => run_demo(alloc, seed, out),
     }
 }
 
@@ -209,7 +244,7 @@ fn refuse<K: Sink>(refusal: &CheckRefusal, out: &mut K) -> Status
 
 // The image that bytes are, where it breaks no rule.
 #[tactic(auto, unfolding(crate::specs::Reading::image_for, crate::specs::Reading::checked_for))]
-fn accepted(alloc: Global, bytes: &[u8]) -> Result<Checked, CheckRefusal>
+pub fn accepted(alloc: Global, bytes: &[u8]) -> Result<Checked, CheckRefusal>
     ensures check { Accepting result (image_for Command.Check bytes.now) }
     ensures run { (slots : ℕ) → Accepting result (image_for (Command.Run slots) bytes.now) }
     ensures alone { (d slots : ℕ) → Accepting result (image_for (Command.Alone d slots) bytes.now) }

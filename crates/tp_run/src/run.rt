@@ -1,5 +1,5 @@
 // A run of an image: so many slots, and then the report.
-ghost use Rattle.std.specs.Prelude.{◌≡◌, ◌<◌, ◌≤◌, length};
+ghost use Rattle.std.specs.Prelude.{◌≡◌, ◌<◌, ◌≤◌, length, IfOk};
 ghost use Rattle.tp_io.specs.Sends.{Sends};
 ghost use Rattle.tp_io.specs.Sink.{state};
 ghost use Rattle.image_check.specs.Own.{owns_of};
@@ -12,6 +12,7 @@ use crate::Status;
 use crate::call::status_unless_failed;
 use image_check::Checked;
 use std::alloc::Global;
+use tp_base::Memory;
 use tp_io::{Failed, Sink};
 use tp_machine::Machine;
 use tp_report::{write_end, write_section, write_switches};
@@ -22,14 +23,30 @@ pub fn run_image<K: Sink>(alloc: Global, image: &Checked, slots: u32, out: &mut 
     ensures delivers { Delivers (Status.Done, spec.report (image_from image.now) slots)
         result (state K.Sink out.old) (state K.Sink out.new) }
 {
+    match machine_after(alloc, image, slots) {
+        Ok(machine) => status_unless_failed(Status::Done, write_report(out, &machine)),
+        Err(Memory) => Status::Memory,
+    }
+}
+
+/// The machine of the image after so many slots.
+pub fn machine_after<'a>(
+    alloc: Global,
+    image: &'a Checked,
+    slots: u32,
+) -> Result<Machine<'a>, Memory>
+    requires few { slots ≤ 65536 }
+    ensures slots { IfOk result (λ m. m.slots ≡ slots) }
+    ensures image { IfOk result (λ m. m.image.now ≡ image.now) }
+{
     let mut machine = match Machine::load(alloc, image) {
         Ok(machine) => machine,
-        Err(_) => return Status::Memory,
+        Err(Memory) => return Err(Memory),
     };
     for slot in 0..slots {
         machine.run_slot();
     }
-    status_unless_failed(Status::Done, write_report(out, &machine))
+    Ok(machine)
 }
 
 // The report after the slots that have run.
@@ -38,6 +55,14 @@ fn write_report<K: Sink>(out: &mut K, machine: &Machine<'_>) -> Result<(), Faile
         result (spec.report (image_from machine.now.image.now) machine.now.slots) }
 {
     write_sections(out, machine)?;
+    write_ending(out, machine)
+}
+
+/// Writes the switch lines and the last line.
+pub fn write_ending<K: Sink>(out: &mut K, machine: &Machine<'_>) -> Result<(), Failed>
+    ensures sends { Sends (state K.Sink out.old) (state K.Sink out.new)
+        result (spec.ending (image_from machine.now.image.now) machine.now.slots) }
+{
     let public = machine.image.public();
     write_switches(out, &public.schedule, machine.all_used())?;
     write_end(out)

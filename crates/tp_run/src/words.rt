@@ -4,7 +4,7 @@ ghost use Rattle.clap.specs.Words.{app_of, found_of, rows_of, rule_of, subcomman
 ghost use Rattle.clap.specs.declared.builder.command.Command.TheViews.{out-Command};
 ghost use Rattle.tp_run.specs.Answer as answer_spec;
 ghost use Rattle.tp_run.specs.Words as spec;
-ghost use Rattle.tp_run.specs.Words.{RunsFewSlots};
+ghost use Rattle.tp_run.specs.Words.{IsInRange};
 
 use crate::Command;
 use clap::error::ErrorKind;
@@ -18,11 +18,14 @@ const MOST_SLOTS: u32 = 65_536;
 /// The greatest number of a domain.
 const LAST_DOMAIN: u32 = 15;
 
+/// The greatest seed.
+const LAST_SEED: u32 = u32::MAX;
+
 /// What the words ask for, the first being the program's name: `None` exactly
 /// where clap finds a fault in them. `Err` is for want of memory alone.
 pub fn command(alloc: Global, words: &[String]) -> Result<Option<Command>, Memory>
     ensures value { IfOk result (λ asked. asked ≡ answer_spec.command (map (λ w. string_bytes w) words.now)) }
-    ensures range { IfOk result (λ asked. IfSome asked RunsFewSlots) }
+    ensures range { IfOk result (λ asked. IfSome asked IsInRange) }
 {
     let command = tp_command(alloc)?;
     match command.try_get_matches_from(words) {
@@ -40,11 +43,15 @@ fn tp_command<'a>(alloc: Global) -> Result<clap::Command<'a>, AllocError>
 {
     let run = run_command(alloc)?;
     let alone = alone_command(alloc)?;
+    let generate = seed_command(alloc, "gen")?;
+    let demo = seed_command(alloc, "demo")?;
     let top = clap::Command::new(alloc, "tp").subcommand_required(true);
     let one = top.subcommand(clap::Command::new(alloc, "check"))?;
     let two = one.subcommand(clap::Command::new(alloc, "bound"))?;
     let three = two.subcommand(run)?;
-    three.subcommand(alone)
+    let four = three.subcommand(alone)?;
+    let five = four.subcommand(generate)?;
+    five.subcommand(demo)
 }
 
 fn run_command<'a>(alloc: Global) -> Result<clap::Command<'a>, AllocError>
@@ -60,6 +67,14 @@ fn alone_command<'a>(alloc: Global) -> Result<clap::Command<'a>, AllocError>
 {
     let alone = clap::Command::new(alloc, "alone").arg(number_arg(alloc, "domain", LAST_DOMAIN))?;
     alone.arg(number_arg(alloc, "slots", MOST_SLOTS))
+}
+
+// A subcommand that makes its image of a seed.
+fn seed_command<'a>(alloc: Global, name: &'a str) -> Result<clap::Command<'a>, AllocError>
+    ensures app { IfOk result (λ c. app_of c ≡ spec.seed_app name.now) }
+    ensures local { IfOk result (λ c. (out-Command c).has_globals ≡ false) }
+{
+    clap::Command::new(alloc, name).arg(number_arg(alloc, "seed", LAST_SEED))
 }
 
 // The option `--name`, which must be given, a whole number 0 to the greatest.
@@ -78,7 +93,7 @@ fn number_arg<'a>(alloc: Global, name: &'a str, greatest: u32) -> Arg<'a>
 // without one of the names above and its options, so the rest is never asked for.
 fn asked(matches: &ArgMatches<'_>) -> Command
     ensures value { result ≡ spec.asked_for (subcommand_rows_of matches.now) }
-    ensures range { RunsFewSlots result }
+    ensures range { IsInRange result }
 {
     match matches.subcommand() {
         Some(("check", _)) => Command::Check,
@@ -89,6 +104,12 @@ fn asked(matches: &ArgMatches<'_>) -> Command
         Some(("alone", found)) => Command::Alone {
             domain: number_in(found, "domain", LAST_DOMAIN).unwrap_or(0) as u8,
             slots: number_in(found, "slots", MOST_SLOTS).unwrap_or(0),
+        },
+        Some(("gen", found)) => Command::Gen {
+            seed: number_in(found, "seed", LAST_SEED).unwrap_or(0),
+        },
+        Some(("demo", found)) => Command::Demo {
+            seed: number_in(found, "seed", LAST_SEED).unwrap_or(0),
         },
         _ => Command::Run { slots: 0 },
     }

@@ -16,6 +16,7 @@ mod interrupts;
 mod machines;
 mod refusals;
 mod rules;
+mod seeds;
 mod timed;
 
 // Prints A, or B, and exits; or jumps to itself.

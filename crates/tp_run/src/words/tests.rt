@@ -6,7 +6,7 @@ use std::process::Abort;
 use std::test::Fail;
 
 // A line, a bar, and what it asks for, if anything: a number of slots asks for a run, and
-// a domain's number before it for that domain alone.
+// a domain's number before it for that domain alone; a seed has its command before it.
 const LINES: &str = "tp check|check
 tp bound|bound
 tp run --slots 4|4
@@ -21,6 +21,11 @@ tp alone --domain 1 --slots 4|1 4
 tp alone --slots 4 --domain 1|1 4
 tp alone --slots=0 --domain=15|15 0
 tp alone --domain +0 --slots 65536|0 65536
+tp gen --seed 7|gen 7
+tp gen --seed=0|gen 0
+tp gen --seed 4294967295|gen 4294967295
+tp demo --seed 7|demo 7
+tp demo --seed +4294967295|demo 4294967295
 |
 tp|
 tp fly|
@@ -66,6 +71,20 @@ tp alone --domain 1 --slots 4 5|
 tp alone 1 4|
 tp alone --help|
 tp help alone|
+tp gen|
+tp gen 7|
+tp gen --seed|
+tp gen --seed 4294967296|
+tp gen --seed -1|
+tp gen --seed x|
+tp gen --seed 7 --seed 7|
+tp gen --seed 7 --slots 4|
+tp gen --help|
+tp help gen|
+tp demo|
+tp demo --seed 4294967296|
+tp demo --seed 7 --slots 64|
+tp --seed 7|
 tp --domain 1 --slots 4|";
 
 fn asked_in(alloc: Global, line: &str) -> Result<Option<Command>, Fail> {
@@ -81,18 +100,24 @@ fn wanted(asked: &str) -> Option<Command> {
     match asked {
         "check" => Some(Command::Check),
         "bound" => Some(Command::Bound),
-        _ => wanted_run(asked),
+        _ => wanted_of_numbers(asked),
     }
 }
 
-fn wanted_run(asked: &str) -> Option<Command> {
-    let Some((domain, slots)) = asked.split_once(' ') else {
+fn wanted_of_numbers(asked: &str) -> Option<Command> {
+    let Some((first, last)) = asked.split_once(' ') else {
         let slots = asked.parse::<u32>().ok()?;
         return Some(Command::Run { slots });
     };
-    let domain = domain.parse::<u8>().ok()?;
-    let slots = slots.parse::<u32>().ok()?;
-    Some(Command::Alone { domain, slots })
+    let number = last.parse::<u32>().ok()?;
+    match first {
+        "gen" => Some(Command::Gen { seed: number }),
+        "demo" => Some(Command::Demo { seed: number }),
+        _ => Some(Command::Alone {
+            domain: first.parse::<u8>().ok()?,
+            slots: number,
+        }),
+    }
 }
 
 fn is_asked(rt: &impl Abort, line: &str, asked: Option<Command>, due: Option<Command>) {

@@ -4,6 +4,8 @@ use Rattle.std.specs.Fmt.{digits}
 use Rattle.tp_report.specs.Report.{switch_line, end_text, usage_text, refusal_text, bound_text, accepted_text, too_long_text}
 use Rattle.hex.specs.Hex.{encode_with}
 use Rattle.tp_report.specs.Texts.{h8, state_text, register_text, registers_text, thread_line, thread_text, threads_text}
+use Rattle.world_view.specs.View.{memory_sum}
+use Rattle.tp_report.specs.Demo.{demo_head, demo_domain}
 use Rattle.tp_report.proofs.laws.texts.Goals as goal
 
 pub returns-clause-least : goal.returns-clause-least
@@ -53,3 +55,11 @@ returns-clause-never c = λ t pc regs. refl
 pub returns-clause-ascending : goal.returns-clause-ascending
 unfolding threads_text thread_text thread_line state_text h8 encode_with registers_text register_text digits
 returns-clause-ascending c = refl
+
+pub returns-clause-demo_head : goal.returns-clause-demo_head
+unfolding demo_head digits
+returns-clause-demo_head c = refl
+
+pub returns-clause-demo_domain : goal.returns-clause-demo_domain
+unfolding demo_domain memory_sum h8 encode_with digits
+returns-clause-demo_domain c = refl

@@ -3,11 +3,12 @@ use Rattle.std.proofs.lemmas.Option.{same_Some}
 use Rattle.tp_io.specs.Sink.{state}
 use Rattle.tp_report.specs.Report.{usage_text}
 use Rattle.tp_run.specs.declared.Command.{Command}
-use Rattle.tp_run.specs.declared.Command.TheVariants.{Check, Bound, Run, Alone}
+use Rattle.tp_run.specs.declared.Command.TheVariants.{Check, Bound, Run, Alone, Gen, Demo}
 use Rattle.tp_run.specs.declared.status.Status.TheVariants.{Usage}
+use Rattle.tp_run.specs.Words.{Reads, IsInRange}
 use Rattle.tp_run.specs.Answer.{answer_of_bytes, command}
 use Rattle.tp_run.specs.TopCall.{Delivers, MayBeUsage, words_of}
-use Rattle.tp_run.proofs.Answers.{delivered, none_taken, bytes_due, told_delivers, usage_delivers, done_reads, refused_reads, too_long_reads, may_be_usage, ends_usage, completes, completes_surely, refuses, accepts, bounds, ran, is_isolated, is_padded, lacks_domain, writes_section, is_same_section}
+use Rattle.tp_run.proofs.Answers.{delivered, none_taken, bytes_due, told_delivers, usage_delivers, done_reads, refused_reads, too_long_reads, may_be_usage, ends_usage, completes, completes_surely, refuses, accepts, bounds, ran, is_isolated, is_padded, lacks_domain, writes_section, is_same_section, generates, summarizes}
 use Rattle.tp_run.proofs.call.tp_main.Goals as goal
 
 -- ---- words that are no command
@@ -25,7 +26,7 @@ returns-in-Ok-None-clause-answered g c read held =
     record {
       bytes = [];
       took = none_taken _;
-      whole = λ some. absurd (some none);
+      whole = λ k asked reads few. absurd (cc (none, asked));
       few = omega arith;
       wrote = (usage_delivers (words_of c.args.words.now) [] c.status_unless_failed.result _ _ none usage).wrote;
     }
@@ -62,7 +63,7 @@ returns-clause-answered g c read held =
     record {
       bytes = c.in-Ok.bytes.items;
       took = c.in-Ok.ensures.taken;
-      whole = λ _. c.in-Ok.ensures.whole;
+      whole = λ k is reads few. c.in-Ok.ensures.whole (subst Reads (same_Some _ _ (sym is ∙ asked)) reads) few;
       few = c.in-Ok.ensures.most;
       wrote = rw (bytes_due (words_of c.args.words.now) c.in-Ok.bytes.items c.in-Ok-Some.command asked) delivers.wrote;
     }
@@ -74,14 +75,17 @@ returns-clause-usage g c usage =
     subst MayBeUsage (sym asked) (may_be_usage c.in-Ok-Some.command c.in-Ok.bytes.items c.answer_bytes.result _ _ delivers usage)
 
 pub returns-clause-done_reads : goal.returns-clause-done_reads
-returns-clause-done_reads g c done =
+returns-clause-done_reads g c k is asked done =
     let delivers = rw c.as_slice.ensures.value at c.answer_bytes.ensures.delivers in
-    c.in-Ok.ensures.whole (done_reads c.in-Ok-Some.command c.in-Ok.bytes.items c.answer_bytes.result _ _ delivers done)
+    let same : command (words_of c.args.words.now) ≡ Some c.in-Ok-Some.command = sym (rw c.in-Ok-Some.field-0-is at c.in-Ok-Some.ensures.value) in
+    let reads : Reads c.in-Ok-Some.command = subst Reads (same_Some _ _ (sym is ∙ same)) asked in
+    c.in-Ok.ensures.whole reads (done_reads c.in-Ok-Some.command reads c.in-Ok.bytes.items c.answer_bytes.result _ _ delivers done)
 
 pub returns-clause-refused_reads : goal.returns-clause-refused_reads
 returns-clause-refused_reads g c refused =
     let delivers = rw c.as_slice.ensures.value at c.answer_bytes.ensures.delivers in
-    c.in-Ok.ensures.whole (refused_reads c.in-Ok-Some.command c.in-Ok.bytes.items c.answer_bytes.result _ _ delivers refused)
+    let (reads, few) = refused_reads c.in-Ok-Some.command c.in-Ok.bytes.items c.answer_bytes.result _ _ delivers refused in
+    c.in-Ok.ensures.whole reads few
 
 pub returns-clause-too_long_reads : goal.returns-clause-too_long_reads
 returns-clause-too_long_reads g c over =
@@ -107,7 +111,7 @@ returns-clause-refused g c k is refused =
     let delivers = rw c.as_slice.ensures.value at c.answer_bytes.ensures.delivers in
     let same : c.in-Ok-Some.command ≡ k = same_Some _ _ (sym asked ∙ is) in
     let by_command = subst (λ (j : Command). Delivers (answer_of_bytes j c.in-Ok.bytes.items) c.answer_bytes.result (state g.K.Sink c.args.out.now) (state g.K.Sink c.answer_bytes.new.out)) same delivers in
-    refuses k c.in-Ok.bytes.items _ _ c.answer_bytes.result _ _ c.in-Ok.ensures.taken c.in-Ok.ensures.whole by_command refused
+    refuses k c.in-Ok.bytes.items _ _ c.answer_bytes.result _ _ c.in-Ok.ensures.taken (λ reads. c.in-Ok.ensures.whole (subst Reads (sym same) reads)) by_command refused
 
 pub returns-clause-accepted : goal.returns-clause-accepted
 returns-clause-accepted g c is done =
@@ -115,7 +119,7 @@ returns-clause-accepted g c is done =
     let delivers = rw c.as_slice.ensures.value at c.answer_bytes.ensures.delivers in
     let same : c.in-Ok-Some.command ≡ Check = same_Some _ _ (sym asked ∙ is) in
     let by_command = subst (λ (j : Command). Delivers (answer_of_bytes j c.in-Ok.bytes.items) c.answer_bytes.result (state g.K.Sink c.args.out.now) (state g.K.Sink c.answer_bytes.new.out)) same delivers in
-    accepts c.in-Ok.bytes.items _ _ c.answer_bytes.result _ _ c.in-Ok.ensures.taken c.in-Ok.ensures.whole by_command done
+    accepts c.in-Ok.bytes.items _ _ c.answer_bytes.result _ _ c.in-Ok.ensures.taken (c.in-Ok.ensures.whole (subst Reads (sym same) tt)) by_command done
 
 pub returns-clause-bound : goal.returns-clause-bound
 returns-clause-bound g c is done =
@@ -123,7 +127,7 @@ returns-clause-bound g c is done =
     let delivers = rw c.as_slice.ensures.value at c.answer_bytes.ensures.delivers in
     let same : c.in-Ok-Some.command ≡ Bound = same_Some _ _ (sym asked ∙ is) in
     let by_command = subst (λ (j : Command). Delivers (answer_of_bytes j c.in-Ok.bytes.items) c.answer_bytes.result (state g.K.Sink c.args.out.now) (state g.K.Sink c.answer_bytes.new.out)) same delivers in
-    bounds c.in-Ok.bytes.items _ _ c.answer_bytes.result _ _ c.in-Ok.ensures.taken c.in-Ok.ensures.whole by_command done
+    bounds c.in-Ok.bytes.items _ _ c.answer_bytes.result _ _ c.in-Ok.ensures.taken (c.in-Ok.ensures.whole (subst Reads (sym same) tt)) by_command done
 
 pub returns-clause-isolation : goal.returns-clause-isolation
 returns-clause-isolation g c slots run done =
@@ -131,7 +135,7 @@ returns-clause-isolation g c slots run done =
     let delivers = rw c.as_slice.ensures.value at c.answer_bytes.ensures.delivers in
     let same : c.in-Ok-Some.command ≡ Run slots = same_Some _ _ (sym asked ∙ run) in
     let runs = subst (λ (k : Command). Delivers (answer_of_bytes k c.in-Ok.bytes.items) c.answer_bytes.result (state g.K.Sink c.args.out.now) (state g.K.Sink c.answer_bytes.new.out)) same delivers in
-    let r = ran slots c.in-Ok.bytes.items _ _ c.answer_bytes.result _ _ c.in-Ok.ensures.taken c.in-Ok.ensures.whole runs done in
+    let r = ran slots c.in-Ok.bytes.items _ _ c.answer_bytes.result _ _ c.in-Ok.ensures.taken (c.in-Ok.ensures.whole (subst Reads (sym same) tt)) runs done in
     is_isolated slots _ _ _ _ r.0 r.1
 
 pub returns-clause-pad : goal.returns-clause-pad
@@ -140,7 +144,7 @@ returns-clause-pad g c slots run done =
     let delivers = rw c.as_slice.ensures.value at c.answer_bytes.ensures.delivers in
     let same : c.in-Ok-Some.command ≡ Run slots = same_Some _ _ (sym asked ∙ run) in
     let runs = subst (λ (k : Command). Delivers (answer_of_bytes k c.in-Ok.bytes.items) c.answer_bytes.result (state g.K.Sink c.args.out.now) (state g.K.Sink c.answer_bytes.new.out)) same delivers in
-    let r = ran slots c.in-Ok.bytes.items _ _ c.answer_bytes.result _ _ c.in-Ok.ensures.taken c.in-Ok.ensures.whole runs done in
+    let r = ran slots c.in-Ok.bytes.items _ _ c.answer_bytes.result _ _ c.in-Ok.ensures.taken (c.in-Ok.ensures.whole (subst Reads (sym same) tt)) runs done in
     is_padded slots _ _ r.0
 
 pub returns-clause-no_domain : goal.returns-clause-no_domain
@@ -149,7 +153,7 @@ returns-clause-no_domain g c d slots alone usage =
     let delivers = rw c.as_slice.ensures.value at c.answer_bytes.ensures.delivers in
     let same : c.in-Ok-Some.command ≡ Alone d slots = same_Some _ _ (sym asked ∙ alone) in
     let runs = subst (λ (k : Command). Delivers (answer_of_bytes k c.in-Ok.bytes.items) c.answer_bytes.result (state g.K.Sink c.args.out.now) (state g.K.Sink c.answer_bytes.new.out)) same delivers in
-    lacks_domain d slots c.in-Ok.bytes.items _ _ c.answer_bytes.result _ _ c.in-Ok.ensures.taken c.in-Ok.ensures.whole runs usage
+    lacks_domain d slots c.in-Ok.bytes.items _ _ c.answer_bytes.result _ _ c.in-Ok.ensures.taken (c.in-Ok.ensures.whole (subst Reads (sym same) tt)) runs usage
 
 pub returns-clause-alone : goal.returns-clause-alone
 returns-clause-alone g c d slots alone done =
@@ -157,7 +161,7 @@ returns-clause-alone g c d slots alone done =
     let delivers = rw c.as_slice.ensures.value at c.answer_bytes.ensures.delivers in
     let same : c.in-Ok-Some.command ≡ Alone d slots = same_Some _ _ (sym asked ∙ alone) in
     let runs = subst (λ (k : Command). Delivers (answer_of_bytes k c.in-Ok.bytes.items) c.answer_bytes.result (state g.K.Sink c.args.out.now) (state g.K.Sink c.answer_bytes.new.out)) same delivers in
-    writes_section d slots c.in-Ok.bytes.items _ _ c.answer_bytes.result _ _ c.in-Ok.ensures.taken c.in-Ok.ensures.whole runs done
+    writes_section d slots c.in-Ok.bytes.items _ _ c.answer_bytes.result _ _ c.in-Ok.ensures.taken (c.in-Ok.ensures.whole (subst Reads (sym same) tt)) runs done
 
 pub returns-clause-same_section : goal.returns-clause-same_section
 returns-clause-same_section g c d slots alone done =
@@ -165,4 +169,30 @@ returns-clause-same_section g c d slots alone done =
     let delivers = rw c.as_slice.ensures.value at c.answer_bytes.ensures.delivers in
     let same : c.in-Ok-Some.command ≡ Alone d slots = same_Some _ _ (sym asked ∙ alone) in
     let runs = subst (λ (k : Command). Delivers (answer_of_bytes k c.in-Ok.bytes.items) c.answer_bytes.result (state g.K.Sink c.args.out.now) (state g.K.Sink c.answer_bytes.new.out)) same delivers in
-    is_same_section d slots _ _ _ _ (writes_section d slots c.in-Ok.bytes.items _ _ c.answer_bytes.result _ _ c.in-Ok.ensures.taken c.in-Ok.ensures.whole runs done)
+    is_same_section d slots _ _ _ _ (writes_section d slots c.in-Ok.bytes.items _ _ c.answer_bytes.result _ _ c.in-Ok.ensures.taken (c.in-Ok.ensures.whole (subst Reads (sym same) tt)) runs done)
+
+-- ---- the image that a seed makes
+
+pub returns-clause-makes_untouched : goal.returns-clause-makes_untouched
+returns-clause-makes_untouched g c k is makes =
+    let asked : command (words_of c.args.words.now) ≡ Some c.in-Ok-Some.command = sym (rw c.in-Ok-Some.field-0-is at c.in-Ok-Some.ensures.value) in
+    let same : c.in-Ok-Some.command ≡ k = same_Some _ _ (sym asked ∙ is) in
+    c.read_for.ensures.untouched (λ reads. makes (subst Reads same reads))
+
+pub returns-clause-generated : goal.returns-clause-generated
+returns-clause-generated g c seed gen done =
+    let asked : command (words_of c.args.words.now) ≡ Some c.in-Ok-Some.command = sym (rw c.in-Ok-Some.field-0-is at c.in-Ok-Some.ensures.value) in
+    let delivers = rw c.as_slice.ensures.value at c.answer_bytes.ensures.delivers in
+    let same : c.in-Ok-Some.command ≡ Gen seed = same_Some _ _ (sym asked ∙ gen) in
+    let by_command = subst (λ (j : Command). Delivers (answer_of_bytes j c.in-Ok.bytes.items) c.answer_bytes.result (state g.K.Sink c.args.out.now) (state g.K.Sink c.answer_bytes.new.out)) same delivers in
+    let small : IsInRange (Gen seed) = subst IsInRange same (rw c.in-Ok-Some.field-0-is at c.in-Ok-Some.ensures.range) in
+    generates seed c.in-Ok.bytes.items c.answer_bytes.result _ _ (omega (arith, small)) (c.answer_bytes.ensures.reads_back seed same done) by_command done
+
+pub returns-clause-demo : goal.returns-clause-demo
+returns-clause-demo g c seed demo done =
+    let asked : command (words_of c.args.words.now) ≡ Some c.in-Ok-Some.command = sym (rw c.in-Ok-Some.field-0-is at c.in-Ok-Some.ensures.value) in
+    let delivers = rw c.as_slice.ensures.value at c.answer_bytes.ensures.delivers in
+    let same : c.in-Ok-Some.command ≡ Demo seed = same_Some _ _ (sym asked ∙ demo) in
+    let by_command = subst (λ (j : Command). Delivers (answer_of_bytes j c.in-Ok.bytes.items) c.answer_bytes.result (state g.K.Sink c.args.out.now) (state g.K.Sink c.answer_bytes.new.out)) same delivers in
+    let small : IsInRange (Demo seed) = subst IsInRange same (rw c.in-Ok-Some.field-0-is at c.in-Ok-Some.ensures.range) in
+    summarizes seed c.in-Ok.bytes.items c.answer_bytes.result _ _ (omega (arith, small)) by_command done

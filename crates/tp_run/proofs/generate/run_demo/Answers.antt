@@ -1,0 +1,16 @@
+use Rattle.std.proofs.Common.{subst}
+use Rattle.image_check.specs.Image.{Image}
+use Rattle.tp_io.specs.Sink.{state}
+use Rattle.tp_report.specs.Demo.{demo_text}
+use Rattle.tp_run.specs.declared.status.Status.TheVariants.{Done}
+use Rattle.tp_run.specs.TopCall.{Delivers}
+use Rattle.tp_run.proofs.Answers.{nothing_held}
+use Rattle.tp_run.proofs.generate.run_demo.Goals as goal
+
+pub returns-in-Err : goal.returns-in-Err
+returns-in-Err g c = record { delivers = nothing_held _ _ }
+
+pub returns-in-Ok : goal.returns-in-Ok
+returns-in-Ok g c = record {
+  delivers = subst (λ (i : Image). Delivers (Done, demo_text i c.args.seed) c.run_image_of.result (state g.K.Sink c.args.out.now) (state g.K.Sink c.run_image_of.new.out)) c.in-Ok.ensures.made c.run_image_of.ensures.delivers;
+}

@@ -1,0 +1,87 @@
+// The image that a seed makes: written, or run.
+ghost use Rattle.std.specs.Prelude.{◌≡◌, IfOk, IfErr};
+ghost use Rattle.tp_io.specs.Sends.{Sends};
+ghost use Rattle.tp_io.specs.Sink.{state};
+ghost use Rattle.image_check.specs.Image.{image_from};
+ghost use Rattle.image_gen.specs.Generated.{generated};
+ghost use Rattle.tp_report.specs.Demo as report_spec;
+ghost use Rattle.tp_run.specs.Answer as spec;
+ghost use Rattle.tp_run.specs.TopCall.{Delivers, ReadsBack};
+
+use crate::Status;
+use crate::call::{accepted, status_unless_failed};
+use crate::run::{domains_of, machine_after, write_ending};
+use image_check::{CheckRefusal, Checked};
+use image_gen::generate;
+use std::alloc::Global;
+use tp_base::Memory;
+use tp_io::{Failed, Sink, write_all_of};
+use tp_machine::Machine;
+use tp_report::{DemoPart, write_demo};
+
+/// How many slots a seed's image is run for.
+const DEMO_SLOTS: u32 = 64;
+
+/// Writes the image that a seed makes.
+pub fn write_generated<K: Sink>(alloc: Global, seed: u32, out: &mut K) -> Status
+    ensures delivers { Delivers (spec.answer_gen seed) result (state K.Sink out.old) (state K.Sink out.new) }
+    ensures reads_back { result ≡ Status.Done → ReadsBack seed }
+{
+    match generate(alloc, u64::from(seed)) {
+        Ok(text) => status_unless_failed(Status::Done, write_all_of(out, text.as_bytes())),
+        Err(Memory) => Status::Memory,
+    }
+}
+
+/// Runs the image that a seed makes and writes the summary.
+pub fn run_demo<K: Sink>(alloc: Global, seed: u32, out: &mut K) -> Status
+    ensures delivers { Delivers (spec.answer_demo seed) result (state K.Sink out.old) (state K.Sink out.new) }
+{
+    match generated_image(alloc, seed) {
+        Ok(image) => run_image_of(alloc, &image, seed, out),
+        Err(_) => Status::Memory,
+    }
+}
+
+// Runs the image of a seed and writes the summary.
+fn run_image_of<K: Sink>(alloc: Global, image: &Checked, seed: u32, out: &mut K) -> Status
+    ensures delivers { Delivers (Status.Done, report_spec.demo_text (image_from image.now) seed)
+        result (state K.Sink out.old) (state K.Sink out.new) }
+{
+    match machine_after(alloc, image, DEMO_SLOTS) {
+        Ok(machine) => status_unless_failed(Status::Done, write_summary(out, seed, &machine)),
+        Err(Memory) => Status::Memory,
+    }
+}
+
+// The image that a seed makes. It is never refused but for want of memory.
+fn generated_image(alloc: Global, seed: u32) -> Result<Checked, CheckRefusal>
+    ensures made { IfOk result (λ image. image_from image ≡ image_from (generated seed)) }
+    ensures never_broken { IfErr result (λ refusal. refusal ≡ CheckRefusal.Memory) }
+{
+    match generate(alloc, u64::from(seed)) {
+        Ok(text) => accepted(alloc, text.as_bytes()),
+        Err(Memory) => Err(CheckRefusal::Memory),
+    }
+}
+
+// The summary after the slots that have run.
+fn write_summary<K: Sink>(out: &mut K, seed: u32, machine: &Machine<'_>) -> Result<(), Failed>
+    ensures sends { Sends (state K.Sink out.old) (state K.Sink out.new)
+        result (report_spec.demo_after (image_from machine.now.image.now) machine.now.slots seed) }
+{
+    write_demo(out, DemoPart::Head(u64::from(seed)))?;
+    write_lines(out, machine)?;
+    write_ending(out, machine)
+}
+
+// The line of each domain.
+fn write_lines<K: Sink>(out: &mut K, machine: &Machine<'_>) -> Result<(), Failed>
+    ensures sends { Sends (state K.Sink out.old) (state K.Sink out.new)
+        result (report_spec.demo_lines (image_from machine.now.image.now) machine.now.slots) }
+{
+    for d in 0..domains_of(machine.image) {
+        write_demo(out, DemoPart::Domain(d, &machine.view(d)))?;
+    }
+    Ok(())
+}
