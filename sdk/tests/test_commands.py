@@ -3,10 +3,14 @@
 from __future__ import annotations
 
 import os
+import subprocess
+import sys
 from pathlib import Path
 
 import pytest
 from conftest import REPOSITORY, SDK, run_tool
+
+from tp_sdk.python import DEBIANS
 
 LIBRARIES = {"tp-image": "elftools", "tp-explain": "json", "tp-plot": "matplotlib"}
 TOOLS = sorted(LIBRARIES)
@@ -36,6 +40,31 @@ def test_a_command_is_run_from_any_folder(tool: str, tmp_path: Path) -> None:
     link.symlink_to(SDK / tool)
     pytest.importorskip(LIBRARIES[tool])
     assert run_tool(str(link), "--help").returncode == 0
+
+
+@pytest.mark.parametrize("tool", ("tp-image", "tp-plot"))
+def test_a_python_without_the_library_leaves_it_to_debians(tool: str, tmp_path: Path) -> None:
+    debians = [DEBIANS, "-c", f"import tomllib, {LIBRARIES[tool]}"]
+    if not Path(DEBIANS).exists() or subprocess.run(debians, capture_output=True, check=False).returncode:
+        pytest.skip(f"{DEBIANS} has no {LIBRARIES[tool]}")
+    # (a virtual environment is no more than this, and has no libraries)
+    home = Path(sys.base_prefix) / "bin"
+    (tmp_path / "pyvenv.cfg").write_text(f"home = {home}\ninclude-system-site-packages = false\n")
+    (tmp_path / "bin").mkdir()
+    bare = tmp_path / "bin" / "python3"
+    bare.symlink_to(Path(sys.executable).resolve())
+    assert subprocess.run([bare, *debians[1:]], capture_output=True, check=False).returncode != 0
+    ended = subprocess.run([bare, SDK / tool, "--help"], capture_output=True, text=True, check=False)
+    assert ended.returncode == 0 and ended.stdout.startswith(f"usage: {tool}")
+
+
+def test_standard_output_that_is_full() -> None:
+    if not Path("/dev/full").exists():
+        pytest.skip("there is no /dev/full")
+    with open("/dev/full", "w") as full:
+        command = [sys.executable, SDK / "tp-explain", "--schema"]
+        ended = subprocess.run(command, stdout=full, stderr=subprocess.PIPE, text=True, check=False)
+    assert (ended.returncode, ended.stderr) == (1, "tp-explain: standard output: No space left on device\n")
 
 
 def test_explanations_from_standard_input() -> None:

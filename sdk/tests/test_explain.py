@@ -133,6 +133,8 @@ def test_no_toml_is_told_with_its_place() -> None:
     broken = explain(b"frames = 64 # \xc3\xa4 \xff\n", "mine.toml", refusal)
     assert (broken.line, broken.column, broken.broken) == (1, 17, "byte 17 is not UTF-8")
     assert explain(b"a = '''", "mine.toml", refusal).line == 1
+    for text, fault in (("9" * 5000, "an integer of too many"), ("[" * 5000, "arrays or tables in one")):
+        assert explain(f"a = {text}".encode(), "mine.toml", refusal).broken.startswith(fault)
     with pytest.raises(Fault, match="no fault"):
         explain(IMAGE.encode(), "mine.toml", refusal)
 
@@ -150,6 +152,11 @@ def test_a_line_of_another_image_is_a_fault() -> None:
     for line in ("K9 at 1 found 3 wanted 0", "K13 at 0 found 7 wanted 3", "K6 at 12 found 0 wanted 1"):
         with pytest.raises(Fault, match="another image"):
             explain(IMAGE.encode(), "mine.toml", Refusal.parse(f"refused {line}"))
-    for line in ("accepted!", "refused K2 at 27 found 0 wanted 0", "refused K99 at 0 found 0 wanted 0"):
+    for line in (
+        "accepted!",
+        "refused K2 at 27 found 0 wanted 0",
+        "refused K99 at 0 found 0 wanted 0",
+        f"refused K9 at {'9' * 5000} found 0 wanted 0",
+    ):
         with pytest.raises(Fault, match="no case|no refusal"):
             explain(IMAGE.encode(), "mine.toml", Refusal.parse(line))

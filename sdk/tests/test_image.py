@@ -30,6 +30,8 @@ domain = "red"
 length = 10000
 pad = 6150
 """
+# More digits than Python makes an integer of.
+NINES = "9" * 5000
 SIX_THOUSAND = [CODE, Load(0x11000, R | W, b"\1\2\3\4", zeros=6000)]
 
 
@@ -153,6 +155,9 @@ def test_a_file_that_is_no_program(folder: Folder) -> None:
     for length in range(0, len(whole), 3):
         folder.write(elf=whole[:length])
         assert folder.fault().startswith("red.elf: ")
+    # (a section's header that is beyond the file's end)
+    folder.write(elf=whole[:32] + b"\xff\xff\0\0" + whole[36:48] + b"\1\0" + whole[50:])
+    assert folder.fault().startswith("red.elf: no ELF file")
     (folder.path / "red.elf").unlink()
     assert folder.fault() == "red.elf: No such file or directory"
 
@@ -179,6 +184,11 @@ def test_a_file_that_is_no_program(folder: Folder) -> None:
             "red.toml:2:1: 'data' is no capability: none, irq N, ",
         ),
         ("colours = [1]", 'colours = [1]\ncaps = ["load0+1"]', "red.toml:2:1: 'load0+1' is no capability: "),
+        ("colours = [1]", f'colours = [1]\ncaps = ["load0+{NINES}"]', "red.toml:2:1: 'load0+999"),
+        ("10000", NINES, "red.toml: no TOML: an integer of too many digits"),
+        ("[1]", "[" * 5000 + "]" * 5000, "red.toml: no TOML: arrays or tables in one another too deep"),
+        ("red.elf", "\\u0000", "'PATH/\\x00': no file has such a name"),
+        ("red.elf", "none.s", "none.s: No such file or directory"),
         (
             "colours = [1]",
             "colours = [1]\nwords = { k = -1 }",
@@ -192,7 +202,7 @@ def test_a_file_that_is_no_program(folder: Folder) -> None:
 def test_a_description_that_is_at_fault(folder: Folder, old: str, new: str, fault: str) -> None:
     assert old in DESCRIPTION
     folder.write(DESCRIPTION.replace(old, new))
-    assert folder.fault().startswith(fault)
+    assert folder.fault().startswith(fault.replace("PATH", str(folder.path)))
 
 
 def test_a_machine_that_is_at_fault(folder: Folder) -> None:
@@ -207,6 +217,8 @@ def test_a_machine_that_is_at_fault(folder: Folder) -> None:
 def test_a_setting_that_is_at_fault(folder: Folder) -> None:
     for setting, fault in (
         ("key=1", "DOMAIN.SYMBOL=VALUE is wanted"),
+        (f"red.key={NINES}", "DOMAIN.SYMBOL=VALUE is wanted"),
+        ("red.key=010", "there is no symbol 'key'"),
         ("red.key=0x100000000", "the value is above 0xffffffff"),
         ("blue.key=1", "has no domain 'blue'"),
         ("red.key=1", "there is no symbol 'key'"),
@@ -227,8 +239,19 @@ def test_a_source_in_assembler(folder: Folder, compiler: str) -> None:
         (17, 1, "rw", "04030201"),
         (126, 2, "rw", ""),
     ]
-    source.write_text("mul x1, x1, x1\n")
-    assert folder.fault().startswith("red.s: it can't be assembled and linked\n")
+    for text in (b"mul x1, x1, x1\n", b"\xff\n"):
+        source.write_bytes(text)
+        assert folder.fault().startswith("red.s: it can't be assembled and linked\n")
+
+
+@pytest.mark.parametrize("text", ("#!/bin/true", "#!/bin/sh\nprintf '\\377'", "#!/none", "none"))
+def test_a_program_that_is_another(folder: Folder, text: str) -> None:
+    other = folder.path / "other"
+    other.write_text(f"{text}\n")
+    other.chmod(0o755)
+    folder.write(DESCRIPTION.replace("pad = 6150\n", ""))
+    with pytest.raises(Missing, match="other is not the program tp"):
+        folder.image(program=Program(other))
 
 
 def test_the_command(folder: Folder, program: Program) -> None:

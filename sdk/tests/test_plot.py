@@ -9,8 +9,9 @@ from conftest import REPOSITORY, run_tool
 
 from tp_sdk.faults import Fault
 from tp_sdk.information import measure
+from tp_sdk.refusals import Image
 from tp_sdk.report import parse_report
-from tp_sdk.schedule import Entry, slots_of
+from tp_sdk.schedule import Entry, entries_of, slots_of
 
 EXAMPLES = REPOSITORY / "examples"
 LOUD = (EXAMPLES / "spy-loud.report").read_text()
@@ -51,9 +52,27 @@ def test_every_report_of_the_examples(report: Path) -> None:
 
 
 def test_a_report_that_is_none() -> None:
-    for text in ("", "refused K1 at 0 found 0 wanted 0\n", "domain x\nend\n", "domain 0 x\nout\nend\n"):
+    large = LOUD.replace(" 22456 ", f" {1 << 32} ")
+    assert large != LOUD
+    lines = ("domain x\nend\n", "domain 0 x\nout\nend\n")
+    for text in ("", "refused K1 at 0 found 0 wanted 0\n", *lines, large):
         with pytest.raises(Fault):
             parse_report(text, "none")
+
+
+@pytest.mark.parametrize(
+    "image",
+    (
+        {},
+        {"domain": [1], "schedule": [{"domain": 0, "length": 1000, "pad": 0}]},
+        {"domain": [{"name": "x"}], "schedule": [{"domain": 1, "length": 1000, "pad": 0}]},
+        {"domain": [{"name": "x"}], "schedule": [{"domain": "x", "length": 1000, "pad": 0}]},
+        {"domain": [{"name": "x"}], "schedule": [{"domain": 0, "length": -1, "pad": 0}]},
+    ),
+)
+def test_a_schedule_that_is_none(image: Image) -> None:
+    with pytest.raises(Fault, match="no schedule"):
+        entries_of(image, "image")
 
 
 def test_slots_are_those_of_the_clock() -> None:
@@ -120,6 +139,13 @@ def test_a_timeline(tmp_path: Path) -> None:
     assert pictures[0].read_bytes() == pictures[1].read_bytes()
 
 
+def test_a_timeline_of_no_slots(tmp_path: Path) -> None:
+    pytest.importorskip("matplotlib")
+    words = ("--slots", "0", "-o", tmp_path / "a.svg")
+    ended = run_tool("tp-plot", "timeline", EXAMPLES / "clock.toml", EXAMPLES / "clock.report", *words)
+    assert ended.returncode == 2 and "--slots" in ended.stderr
+
+
 def test_what_can_be_no_picture(tmp_path: Path) -> None:
     pytest.importorskip("matplotlib")
     loud, folder = EXAMPLES / "spy-loud.report", reports(tmp_path / "reports", 2)
@@ -134,6 +160,10 @@ def test_what_can_be_no_picture(tmp_path: Path) -> None:
         (
             ("readings", tmp_path, "--domain", "spy", *out),
             "two reports NAME.report or more are wanted, and 0",
+        ),
+        (
+            ("readings", tmp_path / "none", "--domain", "spy", *out),
+            "none: there is no such folder",
         ),
         (
             ("readings", folder, "--domain", "x", *out),

@@ -2,6 +2,7 @@
 
 from __future__ import annotations
 
+import subprocess
 from pathlib import Path
 
 import pytest
@@ -23,6 +24,14 @@ def run(program: Program, built: Path, name: str, *settings: str) -> str:
     ended = program.run(["run", "--slots", str(SLOTS[name])], made.stdout)
     assert ended.code == 0
     return ended.text
+
+
+def test_another_stack_builds_anew(built: Path) -> None:
+    elf = built / "out" / "hello.elf"
+    for size, is_other in (("4096", False), ("8192", True), ("8192", False), ("4096", True)):
+        before = elf.stat().st_mtime_ns
+        subprocess.run(["make", "-C", built, f"STACK={size}"], check=True, capture_output=True)
+        assert (elf.stat().st_mtime_ns != before) == is_other
 
 
 @pytest.mark.parametrize("name", SLOTS)

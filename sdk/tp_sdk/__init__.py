@@ -3,4 +3,8 @@
 import sys
 
 if sys.version_info < (3, 11):
-    sys.exit("these tools need Python 3.11 or later")
+    from tp_sdk.python import use_debians
+
+    use_debians("tomllib")
+    sys.stderr.write(f"{sys.executable} is older than Python 3.11, which these tools need\n")
+    sys.exit(3)

@@ -12,7 +12,7 @@ from pathlib import Path
 from tp_sdk.description import WORD, Description, DomainDescription, EntryDescription
 from tp_sdk.elf import Loaded, Segment, load_elf
 from tp_sdk.explain import explain
-from tp_sdk.faults import Fault, Missing
+from tp_sdk.faults import Fault, Missing, read_bytes
 from tp_sdk.image import Image, ImageDomain, ImageEntry
 from tp_sdk.keys import KEY_ROWS, PAGE, Array
 from tp_sdk.program import Ended, Program
@@ -22,8 +22,8 @@ STACK, STACK_TOP = "stack", "__stack_top"
 LINK_SCRIPT = Path(__file__).resolve().parents[1] / "c" / "link.ld"
 CROSS = "riscv64-unknown-elf-"
 
-_SETTING = re.compile(r"([a-z0-9]+)\.([A-Za-z_.$][A-Za-z0-9_.$]*)=(0[xX][0-9A-Fa-f]+|[0-9]+)")
-_CAP_BY_NAME = re.compile(r"([^ +]+)(?:\+([0-9]+))?")
+_SETTING = re.compile(r"([a-z0-9]+)\.([A-Za-z_.$][A-Za-z0-9_.$]*)=(0[xX][0-9A-Fa-f]{1,99}|[0-9]{1,99})")
+_CAP_BY_NAME = re.compile(r"([^ +]+)(?:\+([0-9]{1,9}))?")
 
 
 def set_words(description: Description, settings: list[str]) -> None:
@@ -32,7 +32,8 @@ def set_words(description: Description, settings: list[str]) -> None:
         match = _SETTING.fullmatch(setting)
         if match is None:
             raise Fault(f"--set {setting}: DOMAIN.SYMBOL=VALUE is wanted, the value decimal or 0x..")
-        domain, symbol, value = match[1], match[2], int(match[3], 0)
+        domain, symbol = match[1], match[2]
+        value = int(match[3], 16 if match[3][:2] in ("0x", "0X") else 10)
         if value > WORD.high:
             raise Fault(f"--set {setting}: the value is above {WORD.high:#x}")
         for it in description.domains:
@@ -71,7 +72,10 @@ def build_text(description: Description, program: Program | None) -> str:
 def _bound(description: Description, text: str, program: Program) -> int:
     ended = program.run(["bound"], text)
     _accepted(description, text, ended)
-    return int(ended.text.split()[-1])
+    bound = ended.text.split()[-1:]
+    if not bound or not bound[0].isdecimal():
+        raise program.other()
+    return int(bound[0])
 
 
 def _accepted(description: Description, text: str, ended: Ended) -> None:
@@ -107,11 +111,16 @@ def _assembled(source: Path) -> Loaded:
     compiler = os.environ.get("CROSS", CROSS) + "gcc"
     if shutil.which(compiler) is None:
         raise Missing(f"{source}: there is no {compiler}: apt-get install gcc-riscv64-unknown-elf")
+    read_bytes(source)
     with tempfile.TemporaryDirectory() as room:
         out = Path(room) / "program.elf"
         target = ["-march=rv32i_zicsr", "-mabi=ilp32", "-nostdlib", "-static", "-T", str(LINK_SCRIPT)]
         ended = subprocess.run(
-            [compiler, *target, "-o", out, source], capture_output=True, text=True, check=False
+            [compiler, *target, "-o", out, source],
+            capture_output=True,
+            text=True,
+            errors="replace",
+            check=False,
         )
         if ended.returncode != 0:
             raise Fault(f"{source}: it can't be assembled and linked\n{ended.stderr.rstrip()}")

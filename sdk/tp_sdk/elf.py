@@ -6,16 +6,15 @@ import io
 from dataclasses import dataclass
 from pathlib import Path
 
-from tp_sdk.faults import Fault, Missing, read_bytes
+from tp_sdk.faults import Fault, MissingLibrary, read_bytes
 from tp_sdk.keys import KEY_ROWS, PAGE, RIGHTS, Within
 
 try:
-    from elftools.common.exceptions import ELFError
     from elftools.elf.elffile import ELFFile
     from elftools.elf.sections import SymbolTableSection
     from elftools.elf.segments import Segment as ElfSegment
 except ImportError:
-    raise Missing.library("pyelftools") from None
+    raise MissingLibrary("pyelftools", "elftools") from None
 
 _COMPRESSED, _FLOATS = 0x1, 0x6
 _IS_LOADED = 0x2
@@ -82,7 +81,10 @@ def load_elf(file: Path) -> Loaded:
             for symbol in table.iter_symbols()
             if symbol.name and symbol["st_shndx"] != "SHN_UNDEF"
         }
-    except ELFError as error:
+    except Fault:
+        raise
+    # (a broken file leads the library to other errors than its own, too)
+    except Exception as error:
         raise Fault(f"{file}: no ELF file ({error})") from None
     if not segments:
         raise Fault(f"{file}: nothing to load: it has no program header PT_LOAD with bytes")

@@ -2,10 +2,13 @@
 
 from __future__ import annotations
 
+import os
 import sys
 from collections.abc import Callable
 from pathlib import Path
 from typing import NoReturn
+
+from tp_sdk.python import DEBIANS, use_debians
 
 INPUT_AT_FAULT = 1
 SOMETHING_IS_MISSING = 3
@@ -28,25 +31,43 @@ class Missing(Fault):
 
     code = SOMETHING_IS_MISSING
 
-    @classmethod
-    def library(cls, name: str) -> Missing:
-        """A library of Python."""
-        return cls(
-            f"{sys.executable} has no {name}: apt-get install python3-{name} is for Debian's own Python, "
-            f"pip install {name} for others"
+
+class MissingLibrary(Missing):
+    """A library of Python is not there."""
+
+    def __init__(self, name: str, module: str) -> None:
+        nor = "" if sys.executable == DEBIANS else f", nor has {DEBIANS}"
+        super().__init__(
+            f"{sys.executable} has no {name}{nor}: apt-get install python3-{name}, or pip install {name}"
         )
+        self.module = module
 
 
 def run_command(name: str, command: Callable[[list[str]], int]) -> NoReturn:
     """Runs a command on the process's words, and ends with its exit code."""
+    fault: Fault | None = None
     try:
-        sys.exit(command(sys.argv[1:]))
-    except Fault as fault:
-        print(f"{name}: {fault}", file=sys.stderr)
-        sys.exit(fault.code)
+        code = command(sys.argv[1:])
+        sys.stdout.flush()
+        sys.exit(code)
+    except MissingLibrary as missing:
+        use_debians(missing.module)
+        fault = missing
+    except Fault as it:
+        fault = it
     except BrokenPipeError:
-        sys.stderr.close()
-        sys.exit(INPUT_AT_FAULT)
+        _write_no_more()
+    except OSError as error:
+        _write_no_more()
+        fault = Fault(f"{error.filename or 'standard output'}: {error.strerror}")
+    if fault is not None:
+        print(f"{name}: {fault}", file=sys.stderr)
+    sys.exit(INPUT_AT_FAULT if fault is None else fault.code)
+
+
+def _write_no_more() -> None:
+    """What standard output did not take is given up: Python would try again at its end."""
+    os.dup2(os.open(os.devnull, os.O_WRONLY), sys.stdout.fileno())
 
 
 def read_bytes(path: Path) -> bytes:
@@ -55,6 +76,8 @@ def read_bytes(path: Path) -> bytes:
         return path.read_bytes()
     except OSError as error:
         raise Fault(f"{path}: {error.strerror}") from None
+    except ValueError:
+        raise Fault(f"{str(path)!r}: no file has such a name") from None
 
 
 def read_text(path: Path) -> str:

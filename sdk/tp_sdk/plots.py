@@ -7,7 +7,7 @@ from dataclasses import dataclass
 from pathlib import Path
 from typing import TYPE_CHECKING
 
-from tp_sdk.faults import Fault, Missing
+from tp_sdk.faults import Fault, MissingLibrary
 from tp_sdk.report import Report
 from tp_sdk.schedule import Entry, slots_of
 
@@ -19,11 +19,13 @@ try:
     matplotlib.rcParams["svg.hashsalt"] = "tp"
     from matplotlib import pyplot
     from matplotlib.colors import LogNorm
+    from matplotlib.ticker import LogLocator, NullFormatter, StrMethodFormatter
 except ImportError:
-    raise Missing.library("matplotlib") from None
+    raise MissingLibrary("matplotlib", "matplotlib") from None
 
 if TYPE_CHECKING:
     from matplotlib.axes import Axes
+    from matplotlib.axis import Axis
     from matplotlib.figure import Figure
 
 _PAD, _USED = "0.88", "0.35"
@@ -111,9 +113,12 @@ def draw_matrix(file: Path, panels: Sequence[Panel]) -> None:
         cells = [list(series.values[:width]) for series in panel.series]
         norm = LogNorm() if _is_wide([value for row in cells for value in row]) else None
         shown = axes.imshow(cells, aspect="auto", interpolation="nearest", cmap="viridis", norm=norm)
-        figure.colorbar(shown, ax=axes, label="cycles")
+        bar = figure.colorbar(shown, ax=axes, label="cycles")
+        if norm is not None:
+            _tell_cycles(bar.ax.yaxis)
         axes.set_yticks(range(rows), [series.name for series in panel.series])
         axes.set_xlabel(f"measurements of {panel.domain}")
+        axes.set_ylabel("report")
         axes.set_title(panel.verdict, loc="left", fontsize=9)
     _save(figure, file)
 
@@ -129,6 +134,7 @@ def draw_histogram(file: Path, panels: Sequence[Panel]) -> None:
             axes.hist(series.values, bins=bins, histtype="step", linewidth=width, label=series.name)
         if _is_wide(bins):
             axes.set_xscale("log")
+            _tell_cycles(axes.xaxis)
         axes.set_xlabel(f"cycles measured by {panel.domain}")
         axes.set_ylabel("how often")
         axes.set_title(panel.verdict, loc="left", fontsize=9)
@@ -141,6 +147,13 @@ def _is_wide(values: Sequence[float]) -> bool:
     return 0 < min(values) and 10 * min(values) < max(values)
 
 
+def _tell_cycles(axis: Axis) -> None:
+    """Has a logarithmic axis tell 1, 2 and 5 of each power of ten, in full: there may be one power alone."""
+    axis.set_major_locator(LogLocator(subs=(1, 2, 5)))
+    axis.set_major_formatter(StrMethodFormatter("{x:.0f}"))
+    axis.set_minor_formatter(NullFormatter())
+
+
 def _bins(values: Sequence[int]) -> list[float]:
     low, high = min(values), max(values) + 1
     if _is_wide(values):
@@ -149,9 +162,14 @@ def _bins(values: Sequence[int]) -> list[float]:
 
 
 def _save(figure: Figure, file: Path) -> None:
-    figure.tight_layout()
+    metadata = {"Date": None} if file.suffix == ".svg" else None
     try:
-        figure.savefig(file, metadata={"Date": None} if file.suffix == ".svg" else None)
+        figure.tight_layout()
+        # ("tight" grows the picture where a text would be cut off)
+        figure.savefig(file, metadata=metadata, bbox_inches="tight")
     except OSError as error:
         raise Fault(f"{file}: {error.strerror}") from None
+    # (of a picture that is too large)
+    except ValueError as error:
+        raise Fault(f"{file}: {error}") from None
     pyplot.close(figure)

@@ -40,5 +40,14 @@ class Program:
 
     def run(self, words: list[str], image: str) -> Ended:
         """Runs the program with these words on an image."""
-        ended = subprocess.run([self.path, *words], input=image.encode(), capture_output=True, check=False)
-        return Ended(ended.returncode, ended.stdout.decode())
+        try:
+            ended = subprocess.run(
+                [self.path, *words], input=image.encode(), capture_output=True, check=False
+            )
+            return Ended(ended.returncode, ended.stdout.decode())
+        except (OSError, UnicodeDecodeError):
+            raise self.other() from None
+
+    def other(self) -> Missing:
+        """What is told of a file that is another program."""
+        return Missing(f"{self.path} is not the program tp: is {VARIABLE} right?")

@@ -15,7 +15,7 @@ Image = dict[str, Any]
 
 _RULES_OF_CASES = (3, 11, 12, 13, 15, 16)
 
-_LINE = re.compile(r"refused K(\d+) at (-?\d+) found (-?\d+) wanted (-?\d+)")
+_LINE = re.compile(r"refused K(\d{1,9}) at (-?\d{1,20}) found (-?\d{1,20}) wanted (-?\d{1,20})")
 
 
 @dataclass(frozen=True)

@@ -6,6 +6,8 @@ from dataclasses import dataclass, field
 
 from tp_sdk.faults import Fault
 
+MOST_READING = 0xFFFF_FFFF
+
 
 @dataclass(frozen=True)
 class Section:
@@ -73,13 +75,15 @@ def _section(lines: list[str]) -> Section:
     _, number, name = lines[0].split()
     rest = {line.split()[0]: line.split()[1:] for line in lines[1:] if not line.startswith("thread ")}
     readings = rest["readings"]
-    kept = readings[readings.index("list") + 1 :] if "list" in readings else []
+    kept = [int(it) for it in (readings[readings.index("list") + 1 :] if "list" in readings else [])]
+    if not all(0 <= it <= MOST_READING for it in kept):
+        raise ValueError("no reading")
     return Section(
         int(number),
         name,
         " ".join(rest["status"]),
         int(readings[0]),
-        tuple(int(it) for it in kept),
+        tuple(kept),
         bytes.fromhex("".join(rest["out"][1:])),
         "\n".join(lines[1:]) + "\n",
     )

@@ -31,11 +31,13 @@ class Slot:
 
 def entries_of(image: Image, file: str) -> list[Entry]:
     """The entries of an image that `tp check` accepts."""
+    domains = len(domain_names(image))
     try:
-        entries = [Entry(int(it["domain"]), int(it["length"]), int(it["pad"])) for it in image["schedule"]]
-    except (KeyError, TypeError, ValueError):
-        entries = []
-    if not entries:
+        entries = [Entry(it["domain"], it["length"], it["pad"]) for it in image["schedule"]]
+        are_good = all(0 <= it.domain < domains and it.length > 0 and it.pad >= 0 for it in entries)
+    except (KeyError, TypeError):
+        entries, are_good = [], False
+    if not entries or not are_good:
         raise Fault(
             f"{file}: no schedule with domain, length and pad in each entry: does 'tp check' accept it?"
         )
@@ -45,7 +47,8 @@ def entries_of(image: Image, file: str) -> list[Entry]:
 def domain_names(image: Image) -> list[str]:
     """The names of its domains."""
     domains = image.get("domain")
-    return [it["name"] for it in domains if "name" in it] if isinstance(domains, list) else []
+    tables = domains if isinstance(domains, list) else []
+    return [it["name"] for it in tables if isinstance(it, dict) and "name" in it]
 
 
 def slots_of(entries: list[Entry], count: int) -> Iterator[Slot]:

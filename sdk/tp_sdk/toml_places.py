@@ -63,9 +63,17 @@ class Places:
 
 def read_with_places(text: str) -> tuple[dict[str, Any], Places]:
     """The values of a TOML text and their places; `tomllib.TOMLDecodeError` where it is none."""
-    data = tomllib.loads(text)
     places = Places(text)
-    _Scanner(places).document()
+    try:
+        data = tomllib.loads(text)
+        _Scanner(places).document()
+    except tomllib.TOMLDecodeError:
+        raise
+    # (two limits of Python's, which `tomllib` doesn't tell of as its own)
+    except ValueError:
+        raise tomllib.TOMLDecodeError("an integer of too many digits") from None
+    except RecursionError:
+        raise tomllib.TOMLDecodeError("arrays or tables in one another too deep") from None
     return data, places
 
 

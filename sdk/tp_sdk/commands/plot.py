@@ -12,6 +12,7 @@ from tp_sdk.information import Measured, measure
 from tp_sdk.plots import Panel, Series, draw_histogram, draw_matrix, draw_timeline, picture_file
 from tp_sdk.report import Report, parse_report
 from tp_sdk.schedule import domain_names, entries_of
+from tp_sdk.toml_places import read_with_places
 
 _HELP = """Draws reports of `tp run`, as NAME.svg or NAME.png:
 
@@ -37,7 +38,7 @@ def main(words: list[str]) -> int:
     timeline.add_argument("image", type=Path)
     timeline.add_argument("reports", type=Path, nargs="+", metavar="report")
     timeline.add_argument(
-        "--slots", type=int, default=12, help="how many slots are drawn, from the first on (%(default)s)"
+        "--slots", type=_count, default=12, help="how many slots are drawn, from the first on (%(default)s)"
     )
     timeline.set_defaults(draw=_timeline)
     readings = commands.add_parser("readings", help="what a domain measured in many reports")
@@ -63,13 +64,21 @@ def main(words: list[str]) -> int:
     return 0
 
 
+def _count(word: str) -> int:
+    """A number of one or more: `ValueError` says that a word is none."""
+    number = int(word)
+    if number < 1:
+        raise ValueError(word)
+    return number
+
+
 def _read(file: Path) -> Report:
     return parse_report(read_text(file), str(file))
 
 
 def _timeline(asked: Namespace) -> None:
     try:
-        image = tomllib.loads(read_text(asked.image))
+        image, _ = read_with_places(read_text(asked.image))
     except tomllib.TOMLDecodeError as error:
         raise Fault(f"{asked.image}: no TOML: {error}") from None
     entries = entries_of(image, str(asked.image))
@@ -83,6 +92,8 @@ def _timeline(asked: Namespace) -> None:
 
 
 def _readings(asked: Namespace) -> None:
+    if not asked.folder.is_dir():
+        raise Fault(f"{asked.folder}: there is no such folder")
     files = sorted(asked.folder.glob("*.report"))
     if len(files) < 2:
         raise Fault(f"{asked.folder}: two reports NAME.report or more are wanted, and {len(files)} are there")
@@ -105,9 +116,9 @@ def _panel(domain: str, reports: Sequence[tuple[Path, Report]], how: str) -> Pan
         Series(file.stem, measurements(section.readings, how))
         for (file, _), section in zip(reports, sections)
     ]
-    for it in series:
+    for (file, _), it in zip(reports, series):
         if not it.values:
-            raise Fault(f"{it.name}.report: {domain} has no readings of which '{how}' could be shown")
+            raise Fault(f"{file}: {domain} has no readings of which '{how}' could be shown")
     measured = measure([section.text for section in sections], [it.values for it in series])
     return Panel(domain, series, verdict(domain, measured))
 
