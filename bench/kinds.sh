@@ -30,6 +30,8 @@ kind() {
         #   addi x17, x0, 2; addi x10, x0, 0; addi x11, x0, 0; ecall
         #   addi x17, x0, 7; addi x10, x0, 0; ecall; jal x0, -28
         calls) echo 100 1000000 lru 1 930820001305000093050000730000009308700013050000730000006ff05ffe ;;
+        # The sweep in slots as short as they may be.
+        many_slots) echo 20000 1000 lru 8 b702020037830200b383020003a403001304140023a0830093830304e3e863fe6ff09ffe ;;
         # Slots of domains that have exited: switches alone.
         #   addi x17, x0, 0; ecall
         switches) echo 65536 1000 lru 1 9308000073000000 ;;
@@ -58,7 +60,7 @@ image() {
 
 text=$(mktemp)
 trap 'rm -f "$text"' EXIT
-[ $# -gt 0 ] || set -- hot sweep sweep_plru walks calls switches load
+[ $# -gt 0 ] || set -- hot sweep sweep_plru walks calls many_slots switches load
 for name; do
     read -r slots length policy pages program < <(kind "$name")
     image "$length" "$policy" "$pages" "$program" > "$text"

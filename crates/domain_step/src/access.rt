@@ -76,6 +76,7 @@ pub fn translate<P: Policy>(
 // ---- loads
 
 // What a load finds at a physical address, with zeros above it.
+#[inline(always)]
 fn read(memory: &PhysMem, width: LoadWidth, at: u32) -> u32
     requires within { frame_of at < memory.now.frames }
     requires aligned { at % load_size width ≡ 0 }
@@ -91,6 +92,7 @@ fn read(memory: &PhysMem, width: LoadWidth, at: u32) -> u32
 
 /// What a load finds at an aligned virtual address, with zeros above it, or the
 /// exception of its walk.
+#[inline(always)]
 pub fn load<P: Policy>(
     memory: &PhysMem,
     system: &mut MemSystem<P>,
@@ -120,6 +122,7 @@ pub fn load<P: Policy>(
 // ---- stores
 
 // Stores so many bytes at a physical address.
+#[inline(always)]
 fn write(memory: &mut PhysMem, at: u32, size: u8, value: u32)
     requires within { frame_of at < memory.old.frames }
     requires size { (size ≡ 1) ⊎ ((size ≡ 2) ⊎ (size ≡ 4)) }
@@ -138,6 +141,7 @@ fn write(memory: &mut PhysMem, at: u32, size: u8, value: u32)
 
 /// Makes a store, where there is one, at an aligned virtual address, or answers
 /// the exception of its walk.
+#[inline(always)]
 pub fn store<P: Policy>(
     memory: &mut PhysMem,
     system: &mut MemSystem<P>,

@@ -33,6 +33,7 @@ use set_cache::Policy;
 
 /// Stops the domain by an exception, where it stands.
 #[tactic(auto, unfolding(world_view::specs::Instruction::trapped, world_view::specs::Instruction::stopped))]
+#[inline(never)]
 pub fn stop(domain: &mut Domain, trap: Trap)
     ensures becomes { Becomes (spec.trapped trap) domain.old domain.new }
     ensures grows { Grows 0 0 0 domain.old domain.new }
@@ -99,6 +100,7 @@ fn retire(domain: &mut Domain, next: u32)
 
 /// Ends an instruction whose registers are written: the counter's value that it
 /// read is recorded, and the domain goes on at `next`.
+#[inline(always)]
 pub fn finish(domain: &mut Domain, instr: Instr, value: u32, next: u32)
     requires room { HasRoom domain.old }
     ensures becomes { Becomes (λ d. spec.retired_at next d.threads.current.regs (event.noted instr value d))
@@ -141,6 +143,7 @@ fn answer(memory: &mut PhysMem, domain: &mut Domain) -> Outcome
 
 /// The kernel call that the domain makes. Its work is charged, and then the
 /// translation buffer is emptied where the call does that.
+#[inline(never)]
 pub fn call<P: Policy>(
     memory: &mut PhysMem,
     system: &mut MemSystem<P>,

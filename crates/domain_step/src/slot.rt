@@ -1,17 +1,23 @@
 // A domain in its slot.
-ghost use Rattle.std.specs.Prelude.{◌≡◌, ℕ, ◌+◌, ◌^◌, ◌<◌, ◌≤◌, true, List, None, Ok};
+ghost use Rattle.std.specs.Prelude.{◌≡◌, ℕ, ◌+◌, ◌^◌, ◌<◌, ◌≤◌, true, List, length, Some, None, Ok, option_map};
 ghost use Rattle.phys_mem.specs.Contents.{Contents};
 ghost use Rattle.page_map.specs.Tables.{StandsWith};
 ghost use Rattle.rv_core.specs.Effect.{effect_of};
 ghost use Rattle.rv_core.specs.Memory.{address_of, misalignment_of};
 ghost use Rattle.rv_decode.specs.Ranges.{HasRegisters};
 ghost use Rattle.thread_set.specs.Threads.{is_ready};
+ghost use Rattle.irq_partition.specs.Interrupts.{next_of};
+ghost use Rattle.kernel_clone.specs.Footprints.{IsLayout, delivery_op};
+ghost use Rattle.kernel_clone.specs.Models.{layout_model};
 ghost use Rattle.cap_table.specs.Slots.{Slots};
 ghost use Rattle.call_table.specs.declared.Reply.{Reply};
-ghost use Rattle.kernel_call.specs.Models.{dom_model, CountsUpTo};
+ghost use Rattle.call_table.specs.Domain.{delivered_on};
+ghost use Rattle.kernel_call.specs.Models.{dom_model, Becomes, CountsUpTo};
+ghost use Rattle.kernel_call.specs.Threads.{KeepsAtDelivery};
 ghost use Rattle.mem_system.specs.Cost.{Touched};
-ghost use Rattle.mem_system.specs.Contents.{hierarchy_of};
+ghost use Rattle.mem_system.specs.Contents.{MakesTouches, hierarchy_of};
 ghost use Rattle.mem_system.specs.Translation.{KeepsLeaves};
+ghost use Rattle.cache_sharing.specs.Operations.{operation, plain};
 ghost use Rattle.world_view.specs.Event as event;
 ghost use Rattle.world_view.specs.Machine as spec;
 ghost use Rattle.world_view.specs.Kernel.{estate, layout};
@@ -36,6 +42,7 @@ use tp_base::FrameNo;
 
 // What the instruction needs from outside the registers, at a clock: what a
 // load finds at its address, or a counter's value.
+#[inline(always)]
 fn loaded<P: Policy>(
     memory: &PhysMem,
     system: &mut MemSystem<P>,
@@ -88,6 +95,7 @@ fn guess<P: Policy>(system: &mut MemSystem<P>, spent: &mut u32, instr: Instr, pc
 
 // The effect of an instruction: a trap, or a branch's guess, a store, the
 // registers and the next instruction.
+#[inline(always)]
 fn settle<P: Policy>(
     memory: &mut PhysMem,
     system: &mut MemSystem<P>,
@@ -128,6 +136,7 @@ fn settle<P: Policy>(
 
 // An instruction that is no kernel call. Misaligned loads and stores trap
 // before their address is translated.
+#[inline(always)]
 fn execute<P: Policy>(
     memory: &mut PhysMem,
     system: &mut MemSystem<P>,
@@ -163,6 +172,7 @@ fn execute<P: Policy>(
 }
 
 // The domain's next instruction, at a clock, with the kernel call that it makes.
+#[inline(always)]
 fn run_instruction<P: Policy>(
     memory: &mut PhysMem,
     system: &mut MemSystem<P>,
@@ -224,12 +234,34 @@ fn idle_until(end: u64, next: Option<u64>) -> u64
     }
 }
 
+// Delivers the moment that is due, and charges the delivery. Answers the cycles.
+// It stands apart, since a step would pay at each event for the room of its work.
+#[inline(never)]
+fn deliver_due<P: Policy>(system: &mut MemSystem<P>, domain: &mut Domain) -> u32
+    requires left { domain.old.interrupts.delivered < length domain.old.interrupts.moments }
+    requires clone { IsLayout (layout_model domain.old.layout) }
+    requires replies { domain.old.replies.count < 2 ^ 63 }
+    ensures delivers { (line : ℕ) → option_map (λ x. x.line) (next_of domain.old.interrupts) ≡ Some line
+        → Becomes (delivered_on line) domain.old domain.new }
+    ensures keeps { KeepsAtDelivery domain.old domain.new }
+    ensures makes { MakesTouches P.rule P.stands_for
+        (operation system.old.core.costs (layout_model domain.new.layout) (plain delivery_op)) result
+        system.old system.new }
+    ensures buffer { system.new.core.tlb ≡ system.old.core.tlb }
+    ensures some { 0 < result }
+    ensures few { result ≤ 1317000 }
+{
+    let work = deliver(domain);
+    charge(system, &domain.layout, &work)
+}
+
 /// One event of the domain in a slot that ends then. Answers the new clock, in
 /// cycles. Of a domain that runs, a moment that is due is delivered, and the
 /// delivery charged; else, where no thread is ready, the clock goes on to the
 /// next moment or the end; else the current thread runs an instruction, which
 /// with all that it charges may be past the end. One that doesn't run waits for
 /// the end.
+#[inline(always)]
 pub fn step<P: Policy>(
     memory: &mut PhysMem,
     system: &mut MemSystem<P>,
@@ -256,8 +288,7 @@ pub fn step<P: Policy>(
         return end;
     };
     if let Some(_line) = domain.interrupts.due(now) {
-        let work = deliver(domain);
-        return now + u64::from(charge(system, &domain.layout, &work));
+        return now + u64::from(deliver_due(system, domain));
     }
     if !domain.threads.active.state.is_ready() {
         return idle_until(end, domain.interrupts.next_moment());

@@ -27,6 +27,7 @@ pub fn charge<P: Policy>(system: &mut MemSystem<P>, layout: &CloneLayout, work: 
 }
 
 /// Touches each line of an operation's footprint, in order. Answers the cycles.
+#[inline(always)]
 pub(crate) fn charge_footprint<P: Policy>(
     system: &mut MemSystem<P>,
     layout: &CloneLayout,
@@ -49,6 +50,7 @@ pub(crate) fn charge_footprint<P: Policy>(
 }
 
 /// Touches a line. Answers the cycles.
+#[inline(always)]
 fn touch<P: Policy>(system: &mut MemSystem<P>, line: Line, kind: Kind) -> u32
     ensures makes { MakesTouch P.rule P.stands_for (touch_by kind line) result system.old system.new }
     ensures buffer { system.new.core.tlb ≡ system.old.core.tlb }

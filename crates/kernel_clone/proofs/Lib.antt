@@ -2,3 +2,4 @@ pub mod Items
 pub mod Totals
 pub mod LineLaws
 pub mod PlaceLaws
+pub mod Powers

@@ -12,7 +12,7 @@ use Rattle.kernel_clone.proofs.Items.{get_left, get_right, get_range}
 -- ---- the lines of a frame
 
 -- a power of two from 16 to 128 is one of four
-line_cases : (l : Layout) → IsLayout l → (l.line ≡ 16) ⊎ ((l.line ≡ 32) ⊎ ((l.line ≡ 64) ⊎ (l.line ≡ 128)))
+pub line_cases : (l : Layout) → IsLayout l → (l.line ≡ 16) ⊎ ((l.line ≡ 32) ⊎ ((l.line ≡ 64) ⊎ (l.line ≡ 128)))
 line_cases l is =
     let k : ℕ = is.power.0 in
     let power : l.line ≡ 2 ^ k = is.power.1 in

@@ -117,10 +117,11 @@ fn entry_line(layout: &CloneLayout, work: &Work, place: u32) -> Line
     ensures touch { slice_get (entry_touches (layout_model layout.now) (work_model work.now).entries) place
         ≡ Some (touch_of Store result) }
 {
-    Line::new(work.entries[place as usize] / layout.line)
+    Line::new(work.entries[place as usize] >> layout.line_bits())
 }
 
 impl<'a> Touches<'a> {
+    #[inline(always)]
     pub(crate) fn new(op: u8, layout: &'a CloneLayout, work: &'a Work) -> Self
         requires asked { IsAsked op layout.now work.now }
         ensures touches { result ≡ spec.touches (layout_model layout.now) (work_model work.now) }
@@ -129,6 +130,7 @@ impl<'a> Touches<'a> {
     }
 
     /// How many there are, 7 to 329.
+    #[inline(always)]
     pub fn len(&self) -> u32
         ensures length { result ≡ length self.now }
     {
@@ -137,15 +139,15 @@ impl<'a> Touches<'a> {
     }
 
     /// One of them, by its place in their order: which line is touched, and how.
+    #[inline(always)]
     pub fn get(&self, place: u32) -> (Line, Kind)
         requires below { place < length self.now }
         ensures touch { slice_get self.now place ≡ Some (touch_of result.1 result.0) }
     {
         let layout = self.layout;
-        let lines = layout.lines_in_frame();
         let op = u32::from(self.op);
         if place < TEXT {
-            let line = layout.text_line((4 * op + place) % (2 * lines));
+            let line = layout.text_line(layout.place_in_text(4 * op + place));
             return (line, Kind::Fetch);
         }
         let place = place - TEXT;
@@ -155,7 +157,7 @@ impl<'a> Touches<'a> {
         let place = place - STACK;
         let stored = data_count(self.op);
         if place < stored {
-            let line = layout.line_of(layout.data, (2 * op + place) % lines);
+            let line = layout.line_of(layout.data, layout.place_in_frame(2 * op + place));
             return (line, Kind::Store);
         }
         let place = place - stored;

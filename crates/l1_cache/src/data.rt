@@ -62,6 +62,7 @@ impl<P: Policy> L1D<P> {
     }
 
     /// Makes every set fresh, and answers how many lines were dirty.
+    #[inline(always)]
     pub fn flush(&mut self) -> u32
         ensures flush { IsFlush P.takes P.rule P.stands_for result self.old self.new }
     {

@@ -54,6 +54,7 @@ impl<P: Policy> L1I<P> {
     }
 
     /// Makes every set fresh, and answers 0, since nothing is written back.
+    #[inline(always)]
     pub fn flush(&mut self) -> u32
         ensures zero { result ≡ 0 }
         ensures flush { IsFlush P.takes P.rule P.stands_for result self.old self.new }

@@ -1,5 +1,5 @@
 -- What the code keeps, the hierarchy that it is, and the caches that it stands for.
-use Rattle.std.specs.Prelude.{◌≡◌, ℕ, ◌≤◌, Bool, List, length, refl}
+use Rattle.std.specs.Prelude.{◌≡◌, ℕ, ◌^◌, ◌<◌, ◌≤◌, Bool, List, length, refl}
 use Rattle.std.specs.Coded.{Coded, code_by, coded×, coded_ℕ, coded_bool, coded_list}
 use Rattle.set_cache.specs.Rule.{Rule}
 use Rattle.set_cache.specs.Cache.{CacheStep}
@@ -26,9 +26,11 @@ pub record SystemContents (P : Type 0) : Type 0 where
   pub l2 : L2Contents P
 
 -- what is true of a second level with these sizes
-pub record IsSecondLevel {P : Type 0} (line_size colours : ℕ) (l2 : L2Contents P) : Type 0 where
+pub record IsSecondLevel {P : Type 0} (line_size line_bits colours : ℕ) (l2 : L2Contents P) : Type 0 where
   pub kept : line_size ≡ l2.line_size
   pub least : 16 ≤ line_size
+  pub power : line_size ≡ 2 ^ line_bits
+  pub few : line_bits < 32
   pub coloured : IsColoured line_size (length l2.cache.table)
   pub counted : colours ≡ colours_of line_size (length l2.cache.table)
 

@@ -291,6 +291,7 @@ impl<P: Policy> OnCore<P> {
     /// The translation of an address whose page the buffer doesn't hold: by a
     /// walk, whose leaf is kept where it finds one.
     #[tactic(auto, unfolding(crate::specs::Cost::touched, crate::specs::Cost::on_core, crate::specs::Cost::looked, crate::specs::Cost::pass_on, crate::specs::Translation::look_of), using(crate::proofs::Leaves::reads_of))]
+    #[inline(never)]
     fn walk_and_fill(
         &mut self,
         l2: &mut SecondLevel<P>,

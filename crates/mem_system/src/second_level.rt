@@ -13,6 +13,8 @@ const FRAME_SIZE: u32 = 4096;
 #[derive(Drop)]
 pub struct SecondLevel<P: Policy> {
     line_size: u32,
+    // the line size is 2 to this
+    line_bits: u32,
     colours: u32,
     l2: L2<P>,
 }
@@ -27,7 +29,7 @@ impl<P: Policy> Model for SecondLevel<P> {
 
     ghost view = { λ a. a.l2 };
 
-    ghost invariant = { λ a. IsSecondLevel a.line_size a.colours a.l2 };
+    ghost invariant = { λ a. IsSecondLevel a.line_size a.line_bits a.colours a.l2 };
 }
 
 impl<P: Policy> SecondLevel<P> {
@@ -55,6 +57,7 @@ impl<P: Policy> SecondLevel<P> {
         let CacheGeometry { policy, sets, ways } = geometry;
         Ok(SecondLevel {
             line_size,
+            line_bits: line_size.trailing_zeros(),
             colours: sets * line_size / FRAME_SIZE,
             l2: L2::new(alloc, line_size, policy, sets, ways)?,
         })
@@ -86,6 +89,7 @@ impl<P: Policy> SecondLevel<P> {
         requires small { at < 2 ^ 27 }
         ensures line { result ≡ at / self.now.line_size }
     {
-        Line::new(at / self.line_size)
+        // A division by a number that isn't known here would cost several times this.
+        Line::new(at >> self.line_bits)
     }
 }

@@ -1,11 +1,11 @@
 // Physical memory: its words, and the calls that read and write parts of them. Only the first frames' words are kept, as
 // far as frames were written: so a new memory takes no time for words that no one writes.
-ghost use Rattle.std.specs.Prelude.{◌≡◌, ◌≢◌, ℕ, ◌+◌, ◌*◌, ◌/◌, ◌%◌, ◌^◌, ◌<◌, ◌≤◌, length, slice_set, vec_len, vec_capacity, IfOk};
+ghost use Rattle.std.specs.Prelude.{◌≡◌, ◌≢◌, ℕ, ◌+◌, ◌*◌, ◌/◌, ◌%◌, ◌^◌, ◌<◌, ◌≤◌, true, length, slice_set, vec_len, vec_capacity, IfOk};
 ghost use Rattle.byteorder.specs.Endian.{little_bytes};
 ghost use Rattle.tp_base.specs.Table.{empty};
 ghost use Rattle.phys_mem.specs.Address.{frame_of, place_of};
 ghost use Rattle.phys_mem.specs.Bytes.{byte_in, half_in, with_byte_in, with_half_in};
-ghost use Rattle.phys_mem.specs.Contents.{Contents, frame_words, word_of, word_at, byte_at, half_at, with_word, with_byte, with_half, zeroed, zeroed_words, all_zero};
+ghost use Rattle.phys_mem.specs.Contents.{Contents, frame_words, word_of, word_at, byte_at, half_at, with_word, with_byte, with_half, zeroed, zeroed_words, all_zero, zeros};
 ghost use Rattle.phys_mem.specs.Growth.{with_zeros};
 ghost use Rattle.phys_mem.specs.Mem.{Mem, word, written, zeroed_frame};
 ghost use Rattle.phys_mem.specs.Holds.{Holds};
@@ -61,7 +61,17 @@ impl PhysMem {
         self.frames
     }
 
+    /// Whether no word of a frame was written up to now, as far as that is known
+    /// without reading them: the frame reads zero then. Others may, too.
+    pub fn is_blank(&self, frame: FrameNo) -> bool
+        requires frame { frame < self.now.frames }
+        ensures zero { result ≡ true → frame_words self.now frame ≡ zeros 1 }
+    {
+        1024 * frame.number() as usize >= self.words.len()
+    }
+
     /// The word at an address, a multiple of 4, in memory.
+    #[inline(always)]
     pub fn read_word(&self, at: u32) -> u32
         requires within { frame_of at < self.now.frames }
         requires aligned { at % 4 ≡ 0 }
@@ -149,6 +159,7 @@ impl PhysMem {
     }
 
     // The word that an address lies in.
+    #[inline(always)]
     fn word(&self, at: u32) -> u32
         requires within { frame_of at < self.now.frames }
         ensures value { result ≡ word_at self.now at }

@@ -268,3 +268,32 @@ Packs-newest n state way list packs le lt first =
     let all : List ℕ = all_ways n list in
     let same = front_again n way state all packs.order (AllBelow-weaker n 16 all le packs.order.below) lt packs.packed first in
     subst (λ (s : ℕ). Packs n s (to_front list way)) same (Packs-to_front n state way list packs lt)
+
+-- ---- a way that is the next one
+
+second_in_front : (n way state : ℕ) (order : List ℕ) → IsOrder n order → AllBelow 16 order → way < n → state ≡ pack order
+    → state % 16 ≢ way → state / 16 % 16 ≡ way → way + 16 * pack (without order way) ≡ state / 256 * 256 + 16 * (state % 16) + way
+second_in_front n way state [] is below lt packed first second = absurd (omega (arith, is.complete))
+second_in_front n way state (w ∷ []) is below lt packed first second =
+    let other : w ≢ way = λ same. first (omega (arith, below.0)) in
+    let t : eqb w way ≡ false = grind (arith, nat_tests) in
+    let one : times way (w ∷ []) ≡ 1 = is.once way lt in
+    absurd (let none : 0 ≡ 1 = rw t at one in omega (arith, none))
+second_in_front n way state (w ∷ v ∷ ws) is below lt packed first second =
+    let other : w ≢ way = λ same. first (omega (arith, below.0)) in
+    let same : v ≡ way = omega (arith, below.0, below.1.0) in
+    let t : eqb w way ≡ false = grind (arith, nat_tests) in
+    let s : eqb v way ≡ true = grind (arith, nat_tests) in
+    let one : times way (w ∷ v ∷ ws) ≡ 1 = is.once way lt in
+    let none : times way ws ≡ 0 = grind (arith, nat_tests) in
+    let rest : state / 256 ≡ pack ws = omega (arith, below.0, below.1.0) in
+    let low : state % 16 ≡ w = omega (arith, below.0) in
+    rw (t, s, none_without way ws none, rest, low) (omega arith)
+
+-- where a way is the next one, the first two change places
+pub Packs-second : (n state way : ℕ) (list : List ℕ) → Packs n state list → n ≤ 16 → way < n → state % 16 ≢ way → state / 16 % 16 ≡ way
+    → Packs n (state / 256 * 256 + 16 * (state % 16) + way) (to_front list way)
+Packs-second n state way list packs le lt first second =
+    let all : List ℕ = all_ways n list in
+    let same = second_in_front n way state all packs.order (AllBelow-weaker n 16 all le packs.order.below) lt packs.packed first second in
+    subst (λ (s : ℕ). Packs n s (to_front list way)) same (Packs-to_front n state way list packs lt)

@@ -46,6 +46,10 @@ pub fn to_front(ways: u32, state: u64, way: u32) -> u64
     if state % 16 == newest {
         return state;
     }
+    // Where it is the next one, as it is with two ways, these two change places.
+    if state / 16 % 16 == newest {
+        return state / 256 * 256 + 16 * (state % 16) + newest;
+    }
     newest + 16 * without(state, ways, way)
 }
 

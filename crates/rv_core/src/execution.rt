@@ -107,6 +107,7 @@ fn branch(pc: u32, target: u32, taken: bool) -> Effect
 /// else changes (RISC-V unprivileged specification, "RV32I Base Integer
 /// Instruction Set"). A caller that makes an ECALL's call itself takes the ECALL
 /// before it runs it. FENCE changes nothing.
+#[inline(always)]
 pub fn execute(regs: &mut Regs, pc: u32, instr: Instr, loaded: u32) -> Effect
     requires registers { HasRegisters instr }
     ensures regs { regs.new ≡ (effect_of regs.old pc instr loaded).regs }

@@ -127,6 +127,7 @@ fn system_of(word: u32) -> Option<Instr>
 /// The instruction that a word is, `None` where it is none of RV32I's 40
 /// instructions and no read of a counter. A FENCE counts by its opcode and
 /// funct3 alone.
+#[inline(always)]
 pub fn decode(word: u32) -> Option<Instr>
     ensures value { result ≡ decode_of word }
     ensures word { IfSome result (λ instr. IsWordOf instr word) }

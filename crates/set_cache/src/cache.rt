@@ -122,6 +122,7 @@ impl<P: Policy> SetCache<P> {
     }
 
     /// The number of lines with a dirty mark.
+    #[inline(always)]
     pub fn dirty(&self) -> u32
         ensures here { result ≡ dirty_kept self.now }
         ensures stands { (sets : Sets) → StandsFor P.stands_for self.now sets
@@ -137,6 +138,7 @@ impl<P: Policy> SetCache<P> {
 
     /// Makes every set fresh, its policy state too, and answers how many lines
     /// had a dirty mark.
+    #[inline(always)]
     pub fn flush(&mut self) -> u32
         ensures flush { IsFlush P.takes P.rule P.stands_for result self.old self.new }
     {

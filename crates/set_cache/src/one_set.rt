@@ -136,6 +136,7 @@ impl OneSet {
     }
 
     /// How many lines have a mark.
+    #[inline(always)]
     pub fn dirty(&self) -> u32
         requires few { length self.now.places < 2 ^ 32 }
         ensures exact { result ≡ dirty_in self.now.places }
@@ -150,6 +151,7 @@ impl OneSet {
     }
 
     /// Empties the set.
+    #[inline(always)]
     pub fn clear(&mut self, state: u64)
         ensures places { self.new.places ≡ replicate (length self.old.places) None }
         ensures state { self.new.state ≡ state }

@@ -89,6 +89,7 @@ impl<P: Policy> Tlb<P> {
 
     /// Empties the buffer, its policy states too, and answers 0, since nothing
     /// is written back.
+    #[inline(always)]
     pub fn flush(&mut self) -> u32
         ensures zero { result ≡ 0 }
         ensures none { (page : ℕ) → leaf_of self.new page ≡ None }

@@ -1,9 +1,11 @@
 -- Sums of the words of a pool's frames.
-use Rattle.std.proofs.Common.{◌≡◌, ℕ, ◌+◌, ◌%◌, ◌^◌, ◌<◌, ◌≤◌, List, [], ◌∷◌, ◌++◌, length, take, get_or, ap, ◌∙◌, arith}
+use Rattle.std.proofs.Common.{◌≡◌, ℕ, ◌+◌, ◌%◌, ◌^◌, ◌<◌, ◌≤◌, List, [], ◌∷◌, ◌++◌, length, take, replicate, get_or, ap, ◌*◌, ◌∙◌, arith}
 use Rattle.std.specs.Prelude.{sum, slice_index, slice_index_or}
 use Rattle.std.specs.List.{concat}
 use Rattle.std.proofs.lemmas.List.{append-nil, take_more, take_all}
 use Rattle.std.proofs.lemmas.List.Sums.{sum_by_more, sum_by-append}
+use Rattle.std.proofs.lemmas.List.Folds.{sum_by-replicate}
+use Rattle.phys_mem.specs.Contents.{zeros}
 use Rattle.world_view.specs.View.{memory_sum}
 
 sum_concat_more : (xss : List (List ℕ)) (ys : List ℕ) → sum (concat (xss ++ ys ∷ [])) ≡ sum (concat xss) + sum ys
@@ -23,6 +25,14 @@ frame_sum_more words w word total within is so_far =
 
 pub frame_sum_all : (words : List ℕ) (w total : ℕ) → length words ≤ w → total ≡ sum (take w words) % 2 ^ 32 → total ≡ sum words % 2 ^ 32
 frame_sum_all words w total h so_far = so_far ∙ ap (λ xs. sum xs % 2 ^ 32) (take_all w words h)
+
+-- a frame of zeros
+pub frame_sum_blank : (words : List ℕ) → words ≡ zeros 1 → 0 ≡ sum words % 2 ^ 32
+unfolding zeros
+frame_sum_blank words blank =
+    let none : sum (replicate 1024 0) ≡ 1024 * 0 = sum_by-replicate (λ x. x) 1024 0 in
+    let same : sum words ≡ sum (replicate 1024 0) = ap sum blank in
+    omega (arith, none, same)
 
 -- the sum of the words of frames in turn, and the next
 pub memory_sum_more : (frames : List (List ℕ)) (i part total : ℕ) → i < length frames → part ≡ sum (slice_index_or frames i []) % 2 ^ 32 → total ≡ memory_sum (take i frames)

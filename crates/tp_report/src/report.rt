@@ -143,6 +143,9 @@ fn frame_sum(view: &View<'_>, i: usize) -> u32
     requires place { i < length (view_model view.now).pool }
     ensures value { result ≡ sum (slice_index_or (view_model view.now).frames i []) % 2 ^ 32 }
 {
+    if view.pool_frame_is_blank(i) {
+        return 0;
+    }
     let mut sum = 0u32;
     for w in 0..1024 {
         sum = sum.wrapping_add(view.pool_word(i, w));

@@ -75,6 +75,11 @@ fn frames_never_written(rt: HostRuntime) -> Result<(), Memory> {
     let written = (memory.read_word(0x2000), memory.read_word(0x2ffc));
     let above = (memory.read_word(0x3000), memory.read_byte(0x3fff));
     assert_eq!(rt; (below, written, above), ((0, 0), (0xabcd_0000, 0), (0, 0)));
+    let told = (
+        memory.is_blank(FrameNo::new(2)),
+        memory.is_blank(FrameNo::new(3)),
+    );
+    assert_eq!(rt; told, (false, true));
     memory.write_byte(0x3fff, 0xef);
     assert_eq!(rt;
         (memory.read_word(0x2000), memory.read_word(0x3ffc)),

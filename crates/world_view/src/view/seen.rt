@@ -7,8 +7,9 @@ use thread_set::Thread;
 use tp_base::FrameNo;
 
 impl<'a> View<'a> {
-    ghost use Rattle.std.specs.Prelude.{◌≡◌, ◌<◌, min, Some, length, slice_get, slice_index, [], slice_index_or};
+    ghost use Rattle.std.specs.Prelude.{◌≡◌, ◌<◌, true, min, Some, length, slice_get, slice_index, [], slice_index_or};
     ghost use Rattle.std.specs.List.{All};
+    ghost use Rattle.phys_mem.specs.Contents.{zeros};
     ghost use Rattle.frame_colours.specs.Colours.{pool};
     ghost use Rattle.kernel_call.specs.LogModel.{log_model};
     ghost use Rattle.kernel_call.specs.Logs.{IsKept};
@@ -113,7 +114,19 @@ impl<'a> View<'a> {
         self.domain.pool.frames()[i]
     }
 
+    /// Whether no word of the frame at a place of its pool was ever written, as far
+    /// as that is known without reading them: all are zero then.
+    pub fn pool_frame_is_blank(&self, i: usize) -> bool
+        requires frame { i < length (view_model self.now).pool }
+        ensures zero { result ≡ true → slice_index_or (view_model self.now).frames i [] ≡ zeros 1 }
+    {
+        // This tells the prover alone that all words are in the memory's frames.
+        self.memory.frames();
+        self.memory.is_blank(self.domain.pool.frames()[i])
+    }
+
     /// Word `w` of the frame at a place of its pool.
+    #[inline(always)]
     pub fn pool_word(&self, i: usize, w: u32) -> u32
         requires frame { i < length (view_model self.now).pool }
         requires word { w < 1024 }

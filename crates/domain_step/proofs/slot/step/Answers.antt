@@ -2,7 +2,8 @@ use Rattle.std.proofs.Common.{◌≡◌, ◌≢◌, ◌+◌, ℕ, Option, Some, 
 use Rattle.cycle_cost.specs.Costs.{CostTable}
 use Rattle.irq_partition.specs.Interrupts.{due, next_cycle}
 use Rattle.thread_set.specs.Threads.{is_ready}
-use Rattle.kernel_clone.specs.Models.{work_model}
+use Rattle.kernel_clone.specs.Footprints.{delivery_op}
+use Rattle.cache_sharing.specs.Operations.{plain}
 use Rattle.world_view.specs.Event.{idle_until}
 use Rattle.world_view.specs.Machine.{step}
 use Rattle.domain_step.proofs.Counts.{counts_later}
@@ -33,24 +34,24 @@ returns-in_default g c =
 
 -- ---- a moment that is due
 
-pub deliver-work-requires-clause-left : goal.deliver-work-requires-clause-left
-deliver-work-requires-clause-left g c = due_left c.args.domain.now.interrupts c.args.now c.in-Some._line (sym c.due.ensures.due ∙ c.in-Some.is)
+pub deliver_due-requires-clause-left : goal.deliver_due-requires-clause-left
+deliver_due-requires-clause-left g c = due_left c.args.domain.now.interrupts c.args.now c.in-Some._line (sym c.due.ensures.due ∙ c.in-Some.is)
 
 pub returns-in-Some-clause-becomes : goal.returns-in-Some-clause-becomes
 returns-in-Some-clause-becomes g c =
     let old = c.args.domain.now in
-    let new = c.deliver-work.new.domain in
-    let keeps = c.deliver-work.ensures.keeps in
+    let new = c.deliver_due.new.domain in
+    let keeps = c.deliver_due.ensures.keeps in
     let comes : due c.args.now old.interrupts ≡ Some c.in-Some._line = sym c.due.ensures.due ∙ c.in-Some.is in
-    moves_due g.P.Policy.rule g.P.Policy.stands_for c.args.end c.args.memory.now old new c.args.system.now c.charge.new.system
-    c.args.now (c.args.now + c.from.result) c.charge.result c.in-Some._line (work_model c.deliver-work.result) c.in-Running.is comes
-    (c.deliver-work.ensures.delivers c.in-Some._line (due_line old.interrupts c.args.now c.in-Some._line comes))
-    keeps.caps keeps.pool keeps.map keeps.layout keeps.moments c.deliver-work.ensures.work c.charge.ensures.makes c.charge.ensures.buffer
+    moves_due g.P.Policy.rule g.P.Policy.stands_for c.args.end c.args.memory.now old new c.args.system.now c.deliver_due.new.system
+    c.args.now (c.args.now + c.from.result) c.deliver_due.result c.in-Some._line (plain delivery_op) c.in-Running.is comes
+    (c.deliver_due.ensures.delivers c.in-Some._line (due_line old.interrupts c.args.now c.in-Some._line comes))
+    keeps.caps keeps.pool keeps.map keeps.layout keeps.moments refl c.deliver_due.ensures.makes c.deliver_due.ensures.buffer
     (ap (λ n. c.args.now + n) c.from.ensures)
 
 pub returns-in-Some-clause-runs : goal.returns-in-Some-clause-runs
 returns-in-Some-clause-runs g c =
-    runs_on g.P.Policy.rule g.P.Policy.stands_for c.args.end c.args.memory.now c.args.memory.now c.args.domain.now c.deliver-work.new.domain c.args.system.now c.charge.new.system
+    runs_on g.P.Policy.rule g.P.Policy.stands_for c.args.end c.args.memory.now c.args.memory.now c.args.domain.now c.deliver_due.new.domain c.args.system.now c.deliver_due.new.system
     (λ w. step w.machine w.own w.pinned c.args.end) c.args.now _ (returns-in-Some-clause-becomes g c) c.requires.runs
 
 -- ---- no thread is ready

@@ -1,8 +1,13 @@
 use Rattle.std.proofs.Common.{[], arith}
 use Rattle.std.specs.Prelude.{slice_index_or}
 use Rattle.world_view.specs.Models.{view_model}
-use Rattle.tp_report.proofs.Sums.{frame_sum_more, frame_sum_all}
+use Rattle.tp_report.proofs.Sums.{frame_sum_more, frame_sum_all, frame_sum_blank}
 use Rattle.tp_report.proofs.report.frame_sum.Goals as goal
+
+pub returns-then-pool_frame_is_blank : goal.returns-then-pool_frame_is_blank
+returns-then-pool_frame_is_blank c = record {
+  value = frame_sum_blank (slice_index_or (view_model c.args.view.now).frames c.args.i []) (c.pool_frame_is_blank.ensures.zero c.if-pool_frame_is_blank.true);
+}
 
 pub loop-w-preserved : goal.loop-w-preserved
 loop-w-preserved c =

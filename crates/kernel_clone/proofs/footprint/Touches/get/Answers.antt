@@ -6,7 +6,7 @@ use Rattle.kernel_clone.proofs.footprint.Touches.get.Goals as goal
 
 pub returns-then-place-lt-TEXT : goal.returns-then-place-lt-TEXT
 returns-then-place-lt-TEXT c = record {
-  touch = rw (← c.self.view_is, c.text_line-line.ensures.value, c.from-op.ensures, c.self.invariant.same, c.lines_in_frame-lines.ensures.value)
+  touch = rw (← c.self.view_is, c.text_line-line.ensures.value, c.place_in_text.ensures.value, c.from-op.ensures, c.self.invariant.same)
       (text_item _ _ _ c.if-place-lt-TEXT.true);
 }
 
@@ -19,7 +19,7 @@ pub returns-then-place-stored : goal.returns-then-place-stored
 returns-then-place-stored c =
     let stored : c.data_count-stored.result ≡ data_count c.self.inside.work.now.op = c.data_count-stored.ensures.value ∙ ap data_count c.self.invariant.same in
     record {
-      touch = rw (← c.self.view_is, c.line_of-line.ensures.value, c.from-op.ensures, c.self.invariant.same, c.lines_in_frame-lines.ensures.value)
+      touch = rw (← c.self.view_is, c.line_of-line.ensures.value, c.place_in_frame.ensures.value, c.from-op.ensures, c.self.invariant.same)
           (data_item _ _ _ _ stored c.if-place-lt-TEXT.false c.if-place-lt-STACK.false c.if-place-stored.true);
     }
 
