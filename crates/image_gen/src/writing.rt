@@ -24,7 +24,8 @@ pub fn write_heading(text: &mut String, seed: u64) -> Result<(), AllocError>
 /// The machine, whose second level has this policy.
 #[tactic(auto, unfolding(crate::specs::Text::machine_text))]
 pub fn write_machine(text: &mut String, policy: &str) -> Result<(), AllocError>
-    ensures added { OnOk result (string_bytes text.new ≡ string_bytes text.old ++ spec.machine_text policy.now) }
+    ensures added { OnOk result (string_bytes text.new
+        ≡ string_bytes text.old ++ spec.machine_text policy.now) }
 {
     write!(
         text,
@@ -98,7 +99,8 @@ entry = 0x10000
 /// Its capability and its line, and when it is interrupted.
 #[tactic(auto, unfolding(crate::specs::Text::interrupts_text))]
 fn write_interrupts(text: &mut String, number: u32, moments: &str) -> Result<(), AllocError>
-    ensures added { OnOk result (string_bytes text.new ≡ string_bytes text.old ++ spec.interrupts_text number moments.now) }
+    ensures added { OnOk result (string_bytes text.new
+        ≡ string_bytes text.old ++ spec.interrupts_text number moments.now) }
 {
     write!(
         text,
@@ -133,7 +135,8 @@ pub fn write_domain(
     words: &mut Lcg64Xsh32,
 ) -> Result<(), Memory>
     requires number { number < 2 ^ 8 }
-    ensures added { OnOk result (string_bytes text.new ≡ string_bytes text.old ++ spec.domain_text number words.old) }
+    ensures added { OnOk result (string_bytes text.new
+        ≡ string_bytes text.old ++ spec.domain_text number words.old) }
     ensures drawn { OnOk result (words.new ≡ after 72 words.old) }
 {
     let program = program(alloc, words)?;

@@ -1,5 +1,6 @@
-// Physical memory: its words, and the calls that read and write parts of them. Only the first frames' words are kept, as
-// far as frames were written: so a new memory takes no time for words that no one writes.
+// Physical memory: its words, and the calls that read and write parts of them.
+// Only the first frames' words are kept, as far as frames were written: so a new
+// memory takes no time for words that no one writes.
 ghost use Rattle.std.specs.Prelude.{◌≡◌, ◌≢◌, ℕ, ◌+◌, ◌*◌, ◌/◌, ◌%◌, ◌^◌, ◌<◌, ◌≤◌, true, length, slice_set, vec_len, vec_capacity, IfOk};
 ghost use Rattle.byteorder.specs.Endian.{little_bytes};
 ghost use Rattle.tp_base.specs.Table.{empty};
