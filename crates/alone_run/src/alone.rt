@@ -65,6 +65,3 @@ fn share_of(alloc: Global, hardware: &Hardware, own: &Own) -> Result<ColourShare
     shares.destroy_empty();
     Ok(share)
 }
-
-#[cfg(test)]
-mod tests;

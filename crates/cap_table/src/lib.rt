@@ -76,6 +76,3 @@ pub struct Revoked {
     /// the order of the slots.
     pub entries: [u32; 64],
 }
-
-#[cfg(test)]
-mod tests;

@@ -5,5 +5,4 @@ mod Instructions
 mod Events
 mod Calls
 mod Moved
-mod TestLemmas
 pub mod Counts

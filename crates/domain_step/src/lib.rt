@@ -7,6 +7,3 @@ mod instruction;
 mod slot;
 
 pub use slot::{step, stretch};
-
-#[cfg(test)]
-mod tests;

@@ -8,6 +8,3 @@ mod switching;
 
 pub use charging::charge;
 pub use switching::{Switched, enter, leave, switch};
-
-#[cfg(test)]
-mod tests;

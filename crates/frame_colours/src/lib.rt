@@ -16,6 +16,3 @@ pub use colours::AllColours;
 pub use frame::{Frame, Free, Held, Table};
 pub use pool::Pool;
 pub use share::{ColourShare, pool_length};
-
-#[cfg(test)]
-mod tests;

@@ -76,6 +76,3 @@ pub fn check(alloc: Global, raw: Raw) -> Result<Checked, CheckRefusal>
         None => Ok(Checked { image }),
     }
 }
-
-#[cfg(test)]
-mod tests;

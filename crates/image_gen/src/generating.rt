@@ -52,6 +52,3 @@ pub fn generate(alloc: Global, seed: u64) -> Result<String, Memory>
     }
     Ok(text)
 }
-
-#[cfg(test)]
-mod tests;

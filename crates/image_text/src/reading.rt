@@ -270,6 +270,3 @@ pub fn read_image(alloc: Global, bytes: &[u8]) -> Result<Raw, ReadRefusal>
 {
     read_text(alloc, bytes)
 }
-
-#[cfg(test)]
-mod tests;

@@ -44,6 +44,3 @@ impl<T: Drop> From<AllocFailed<T>> for ReadRefusal {
         ReadRefusal::Memory
     }
 }
-
-#[cfg(test)]
-mod tests;

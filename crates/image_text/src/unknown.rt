@@ -271,6 +271,3 @@ pub fn all_known(version: u8, rows: &[Row<'_>], table: &Table) -> bool
     }
     known_items(version, Place::Entry, rows, items_at(table, "schedule"))
 }
-
-#[cfg(test)]
-mod tests;

@@ -81,6 +81,3 @@ pub fn writing(op: u8, entry: u32) -> Work
         entries,
     }
 }
-
-#[cfg(test)]
-mod tests;

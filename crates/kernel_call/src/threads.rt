@@ -211,6 +211,3 @@ pub fn deliver(domain: &mut Domain) -> Work
     signal_line(domain, due);
     no_work(DELIVERY)
 }
-
-#[cfg(test)]
-mod tests;

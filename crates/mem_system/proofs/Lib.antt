@@ -1,5 +1,4 @@
 pub mod Leaves
 pub mod Touches
 pub mod TouchLaws
-pub mod TestLemmas
 pub mod LineSizes

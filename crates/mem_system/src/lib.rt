@@ -9,8 +9,6 @@
 mod geometry;
 mod laws;
 mod on_core;
-#[cfg(test)]
-mod plain;
 mod second_level;
 mod system;
 

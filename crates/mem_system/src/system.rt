@@ -171,6 +171,3 @@ impl<P: Policy> MemSystem<P> {
         self.core.costs()
     }
 }
-
-#[cfg(test)]
-mod tests;

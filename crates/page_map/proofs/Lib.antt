@@ -6,4 +6,3 @@ pub mod PageLemmas
 pub mod ReachLemmas
 pub mod RegionLemmas
 pub mod ReachedWalks
-pub mod TestLemmas

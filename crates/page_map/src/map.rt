@@ -234,6 +234,3 @@ fn entry_of(mem: &PhysMem, table: u32, index: u32) -> Placed
         entry: PageTableEntry(mem.read_word(at)),
     }
 }
-
-#[cfg(test)]
-mod tests;

@@ -399,6 +399,3 @@ fn place_of_ready(first: &[Thread], second: &[Thread]) -> Option<usize>
 {
     first.iter().chain(second).position(|x| x.state.is_ready())
 }
-
-#[cfg(test)]
-mod tests;

@@ -54,6 +54,3 @@ fn unused(alloc: Global, entries: u32) -> Result<Vec<Used>, Memory>
     }; entries as usize]?;
     Ok(used)
 }
-
-#[cfg(test)]
-mod tests;

@@ -8,8 +8,8 @@ use Rattle.image_text.specs.declared.refusal.ReadRefusal.{ReadRefusal}
 use Rattle.image_text.specs.declared.refusal.ReadRefusal.TheVariants.{Broken, Memory}
 use Rattle.image_check.specs.Outcomes.{IsFirst}
 use Rattle.world_view.specs.Reading.{unless_broken}
-use Rattle.tp_run.specs.declared.Command.{Command}
-use Rattle.tp_run.specs.declared.Command.TheVariants.{Check}
+use Rattle.tp_words.specs.declared.Command.{Command}
+use Rattle.tp_words.specs.declared.Command.TheVariants.{Check}
 use Rattle.image_check.specs.Image.{Image, image_from}
 use Rattle.image_check.specs.Checking.{broken}
 use Rattle.tp_run.specs.Accepting.{Accepting}

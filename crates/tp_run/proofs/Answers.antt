@@ -27,13 +27,13 @@ use Rattle.image_gen.proofs.Kept.{accepted_law}
 use Rattle.tp_report.specs.Texts.{section}
 use Rattle.tp_report.specs.Report.{report, section_of, bound_text, bound_in_parts, usage_text, refusal_text, too_long_text}
 use Rattle.tp_report.proofs.ReportLaws.{reported_apart}
-use Rattle.tp_run.specs.declared.Command.{Command}
-use Rattle.tp_run.specs.declared.Command.TheVariants.{Check, Bound, Run, Alone, Gen, Demo}
+use Rattle.tp_words.specs.declared.Command.{Command}
+use Rattle.tp_words.specs.declared.Command.TheVariants.{Check, Bound, Run, Alone, Gen, Demo}
 use Rattle.tp_run.specs.declared.status.Status.{Status}
 use Rattle.tp_run.specs.declared.status.Status.TheVariants.{Done, Refused, Usage, ReadFault, WriteFault, Memory, TooLong}
-use Rattle.tp_run.specs.Words.{Reads}
+use Rattle.tp_words.specs.Words.{Reads, command}
 use Rattle.tp_run.specs.Reading.{broken_for, broken_in, checked_for, image_for}
-use Rattle.tp_run.specs.Answer.{Answer, answer, answer_by, answer_of_bytes, answer_to_image, answer_gen, answer_demo, answer_unless_broken, answer_of_image, answer_alone, section_alone, command}
+use Rattle.tp_run.specs.Answer.{Answer, answer, answer_by, answer_of_bytes, answer_to_image, answer_gen, answer_demo, answer_unless_broken, answer_of_image, answer_alone, section_alone}
 use Rattle.tp_run.proofs.Accepted.{value_or}
 use Rattle.tp_run.specs.TopCall.{Writes, EndsUsage, Delivers, MayBeUsage, ComesTo, ReadsImage, Refuses, Accepts, Bounds, Isolated, Padded, LacksDomain, WritesSection, SameSection, ReadsBack, Generates, Summarizes}
 

@@ -1,4 +1,3 @@
-pub mod WordsLaws
 pub mod Accepted
 pub mod Answers
 pub mod Reports

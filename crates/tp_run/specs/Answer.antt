@@ -1,6 +1,5 @@
 -- What the program answers to its words and the bytes of its source.
 use Rattle.std.specs.Prelude.{ℕ, nat_le, nat_lt, if◌then◌else◌, List, length, Option, Some, None, Result, Ok, Err}
-use Rattle.clap.specs.Words.{fault_of, subcommand_of}
 use Rattle.image_text.specs.declared.refusal.Refusal.{Refusal}
 use Rattle.image_check.specs.Image.{Image, own_of, image_from}
 use Rattle.image_check.specs.Pads.{shape_of}
@@ -10,18 +9,12 @@ use Rattle.world_view.specs.Reading.{most_bytes}
 use Rattle.world_view.specs.View.{view_alone}
 use Rattle.tp_report.specs.Report.{report, section_of, bound_in_parts, bound_text, accepted_text, usage_text, refusal_text, too_long_text}
 use Rattle.tp_report.specs.Demo.{demo_text}
-use Rattle.tp_run.specs.declared.Command.{Command}
-use Rattle.tp_run.specs.declared.Command.TheVariants.{Check, Bound, Run, Alone, Gen, Demo}
+use Rattle.tp_words.specs.declared.Command.{Command}
+use Rattle.tp_words.specs.declared.Command.TheVariants.{Check, Bound, Run, Alone, Gen, Demo}
 use Rattle.tp_run.specs.declared.status.Status.{Status}
 use Rattle.tp_run.specs.declared.status.Status.TheVariants.{Done, Refused, Usage, TooLong}
 use Rattle.tp_run.specs.Reading.{image_for}
-use Rattle.tp_run.specs.Words.{tp_app, asked_for, unless_faulty}
-
--- ---- words
-
--- what the words ask for, where clap finds no fault in them; the first is the program's name
-unfoldable pub command : List (List ℕ) → Option Command
-command words = unless_faulty (fault_of tp_app words) (asked_for (subcommand_of tp_app words))
+use Rattle.tp_words.specs.Words.{command}
 
 -- ---- the answer: a status and a text
 

@@ -1,5 +1,3 @@
-pub mod Partial
-pub mod Words
 pub mod Reading
 pub mod Status
 pub mod Answer

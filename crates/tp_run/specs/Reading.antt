@@ -5,8 +5,8 @@ use Rattle.image_text.specs.Record as text
 use Rattle.image_check.specs.Checking.{broken, broken_but_pads}
 use Rattle.image_check.specs.Image.{Image}
 use Rattle.world_view.specs.Reading.{unless_broken}
-use Rattle.tp_run.specs.declared.Command.{Command}
-use Rattle.tp_run.specs.declared.Command.TheVariants.{Check, Bound, Run, Alone, Gen, Demo}
+use Rattle.tp_words.specs.declared.Command.{Command}
+use Rattle.tp_words.specs.declared.Command.TheVariants.{Check, Bound, Run, Alone, Gen, Demo}
 
 -- of the record of a text: pads may be too short where their bound is asked for
 unfoldable pub broken_for : Command → text.Raw → List Refusal

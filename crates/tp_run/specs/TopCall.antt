@@ -21,17 +21,13 @@ use Rattle.world_view.specs.Relations.{IsDomain, AllWithinPads}
 use Rattle.world_view.specs.Used.{largest_of}
 use Rattle.tp_report.specs.Report.{report_apart, section_of, bound_in_parts, bound_text, accepted_text, usage_text, refusal_text}
 use Rattle.tp_report.specs.Demo.{demo_text}
-use Rattle.tp_run.specs.declared.Command.{Command}
-use Rattle.tp_run.specs.declared.Command.TheVariants.{Alone}
+use Rattle.tp_words.specs.declared.Command.{Command}
+use Rattle.tp_words.specs.declared.Command.TheVariants.{Alone}
 use Rattle.tp_run.specs.declared.status.Status.{Status}
 use Rattle.tp_run.specs.declared.status.Status.TheVariants.{Usage, ReadFault, WriteFault, Memory}
 use Rattle.tp_run.specs.Reading.{broken_in}
-use Rattle.tp_run.specs.Words.{Reads}
-use Rattle.tp_run.specs.Answer.{Answer, answer, command, section_alone}
-
--- the words of the command line, as bytes
-abbrev pub words_of : List (String Global) → List (List ℕ)
-words_of words = map (λ w. string_bytes w) words
+use Rattle.tp_words.specs.Words.{Reads, command, words_of}
+use Rattle.tp_run.specs.Answer.{Answer, answer, section_alone}
 
 -- ---- what is written
 

@@ -8,19 +8,18 @@ ghost use Rattle.image_text.specs.declared.refusal.Refusal.{Refusal};
 ghost use Rattle.image_check.specs.Image.{Image};
 ghost use Rattle.tp_run.specs.Answer as spec;
 ghost use Rattle.tp_run.specs.TopCall.{Writes, EndsUsage, Delivers, ComesTo, Answered, IsOver};
-ghost use Rattle.tp_run.specs.TopCall.{Isolated, Padded, MayBeUsage, words_of};
+ghost use Rattle.tp_run.specs.TopCall.{Isolated, Padded, MayBeUsage};
 ghost use Rattle.tp_run.specs.TopCall.{Refuses, Accepts, Bounds};
 ghost use Rattle.tp_run.specs.TopCall.{LacksDomain, WritesSection, SameSection};
 ghost use Rattle.tp_run.specs.TopCall.{ReadsBack, Generates, Summarizes};
 ghost use Rattle.tp_run.specs.Accepting.{Accepting, IsRefused};
 ghost use Rattle.tp_run.specs.Reading.{image_for};
-ghost use Rattle.tp_run.specs.Words.{IsInRange, Reads};
+ghost use Rattle.tp_words.specs.Words.{IsInRange, Reads, command, words_of};
 
+use crate::Status;
 use crate::alone::run_domain;
 use crate::generate::{run_demo, write_generated};
 use crate::run::{domains_of, run_image};
-use crate::words::command;
-use crate::{Command, Status};
 use image_check::{CheckRefusal, Checked, Unpadded, check, check_but_pads};
 use image_text::read_image;
 use pad_bound::bound;
@@ -28,6 +27,7 @@ use std::alloc::Global;
 use tp_base::Memory;
 use tp_io::{Failed, ReadError, Sink, Source, read_within};
 use tp_report::{write_accepted, write_bound, write_refusal, write_too_long, write_usage};
+use tp_words::{Command, parse};
 
 /// The most bytes of an image.
 const MOST_BYTES: usize = 1_048_576;
@@ -54,22 +54,22 @@ pub fn tp_main<S: Source, K: Sink>(
         (K.written out.old) (K.written out.new) }
 
     // Words that are no command have the usage line, and leave the source as it was.
-    ensures no_command { spec.command (words_of words.now) ≡ None
+    ensures no_command { command (words_of words.now) ≡ None
         → EndsUsage result (K.written out.old) (K.written out.new) }
-    ensures untouched { spec.command (words_of words.now) ≡ None → src.new ≡ src.old }
+    ensures untouched { command (words_of words.now) ≡ None → src.new ≡ src.old }
 
     // Other words have it only where they name a domain that the image lacks.
-    ensures usage { result ≡ Status.Usage → MayBeUsage (spec.command (words_of words.now)) }
+    ensures usage { result ≡ Status.Usage → MayBeUsage (command (words_of words.now)) }
     ensures no_domain { (d slots : ℕ)
-        → spec.command (words_of words.now) ≡ Some (Command.Alone d slots) → result ≡ Status.Usage
+        → command (words_of words.now) ≡ Some (Command.Alone d slots) → result ≡ Status.Usage
         → LacksDomain d (S.left src.old) (S.left src.new) (K.written out.old) (K.written out.new) }
 
     // What is read, and that words that name a seed leave the source as it was.
-    ensures done_reads { (c : Command) → spec.command (words_of words.now) ≡ Some c → Reads c
+    ensures done_reads { (c : Command) → command (words_of words.now) ≡ Some c → Reads c
         → result ≡ Status.Done → AtEnd (S.left src.new) }
     ensures refused_reads { result ≡ Status.Refused → AtEnd (S.left src.new) }
     ensures too_long_reads { result ≡ Status.TooLong → IsOver (S.left src.old) (S.left src.new) }
-    ensures makes_untouched { (c : Command) → spec.command (words_of words.now) ≡ Some c → ¬ Reads c
+    ensures makes_untouched { (c : Command) → command (words_of words.now) ≡ Some c → ¬ Reads c
         → src.new ≡ src.old }
 
     // A failed read, and a failed write, come where they are told.
@@ -93,38 +93,38 @@ pub fn tp_main<S: Source, K: Sink>(
 
     // A broken rule is named, and the first one; where there is none, that is said, or the bound.
     ensures refused { (c : Command)
-        → spec.command (words_of words.now) ≡ Some c → result ≡ Status.Refused
+        → command (words_of words.now) ≡ Some c → result ≡ Status.Refused
         → Refuses c (S.left src.old) (S.left src.new) (K.written out.old) (K.written out.new) }
-    ensures accepted { spec.command (words_of words.now) ≡ Some Command.Check → result ≡ Status.Done
+    ensures accepted { command (words_of words.now) ≡ Some Command.Check → result ≡ Status.Done
         → Accepts (S.left src.old) (S.left src.new) (K.written out.old) (K.written out.new) }
-    ensures bound { spec.command (words_of words.now) ≡ Some Command.Bound → result ≡ Status.Done
+    ensures bound { command (words_of words.now) ≡ Some Command.Bound → result ≡ Status.Done
         → Bounds (S.left src.old) (S.left src.new) (K.written out.old) (K.written out.new) }
 
     // A run that is done: what each domain's section says, that domain alone says; no switch overran its pad.
     ensures isolation { (slots : ℕ)
-        → spec.command (words_of words.now) ≡ Some (Command.Run slots) → result ≡ Status.Done
+        → command (words_of words.now) ≡ Some (Command.Run slots) → result ≡ Status.Done
         → Isolated slots (S.left src.old) (S.left src.new) (K.written out.old) (K.written out.new) }
     ensures pad { (slots : ℕ)
-        → spec.command (words_of words.now) ≡ Some (Command.Run slots) → result ≡ Status.Done
+        → command (words_of words.now) ≡ Some (Command.Run slots) → result ≡ Status.Done
         → Padded slots (S.left src.old) (S.left src.new) }
 
     // A domain alone: its section, which is that of the report of the whole machine.
     ensures alone { (d slots : ℕ)
-        → spec.command (words_of words.now) ≡ Some (Command.Alone d slots) → result ≡ Status.Done
+        → command (words_of words.now) ≡ Some (Command.Alone d slots) → result ≡ Status.Done
         → WritesSection d slots (S.left src.old) (S.left src.new) (K.written out.old) (K.written out.new) }
     ensures same_section { (d slots : ℕ)
-        → spec.command (words_of words.now) ≡ Some (Command.Alone d slots) → result ≡ Status.Done
+        → command (words_of words.now) ≡ Some (Command.Alone d slots) → result ≡ Status.Done
         → SameSection d slots (S.left src.old) (S.left src.new) (K.written out.old) (K.written out.new) }
 
     // The image that a seed makes, as a text that reads as its record; and the summary of its run.
     ensures generated { (seed : ℕ)
-        → spec.command (words_of words.now) ≡ Some (Command.Gen seed) → result ≡ Status.Done
+        → command (words_of words.now) ≡ Some (Command.Gen seed) → result ≡ Status.Done
         → Generates seed (K.written out.old) (K.written out.new) }
     ensures demo { (seed : ℕ)
-        → spec.command (words_of words.now) ≡ Some (Command.Demo seed) → result ≡ Status.Done
+        → command (words_of words.now) ≡ Some (Command.Demo seed) → result ≡ Status.Done
         → Summarizes seed (K.written out.old) (K.written out.new) }
 {
-    let command = match command(alloc, words) {
+    let command = match parse(alloc, words) {
         Ok(Some(command)) => command,
         Ok(None) => return status_unless_failed(Status::Usage, write_usage(out)),
         Err(Memory) => return Status::Memory,
@@ -276,6 +276,3 @@ pub fn status_unless_failed(status: Status, written: Result<(), Failed>) -> Stat
         Err(Failed) => Status::WriteFault,
     }
 }
-
-#[cfg(test)]
-mod tests;

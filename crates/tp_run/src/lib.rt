@@ -6,40 +6,6 @@ mod call;
 mod generate;
 mod run;
 mod status;
-mod words;
 
 pub use call::tp_main;
 pub use status::Status;
-
-/// What the words of the command line ask for.
-#[derive(Clone, Copy, Debug, PartialEq, Eq)]
-pub enum Command {
-    /// Test the image's rules.
-    Check,
-    /// Tell the most cycles that a domain switch of the image's machine can use.
-    Bound,
-    /// Run the image for so many slots, 0 to 65,536.
-    Run { slots: u32 },
-    /// Run one domain of the image alone for so many slots, 0 to 65,536.
-    Alone { domain: u8, slots: u32 },
-    /// Write the image that a seed makes.
-    Gen { seed: u32 },
-    /// Run the image that a seed makes for 64 slots, and write a summary.
-    Demo { seed: u32 },
-}
-
-impl Command {
-    ghost use Rattle.std.specs.Prelude.{◌≡◌, true, false};
-    ghost use Rattle.tp_run.specs.Words.{Reads};
-
-    /// Whether it works on an image that it reads. The others make theirs of a seed.
-    fn reads_image(self) -> bool
-        ensures reads { result ≡ true → Reads self }
-        ensures makes { result ≡ false → ¬ Reads self }
-    {
-        match self {
-            Command::Check | Command::Bound | Command::Run { .. } | Command::Alone { .. } => true,
-            Command::Gen { .. } | Command::Demo { .. } => false,
-        }
-    }
-}

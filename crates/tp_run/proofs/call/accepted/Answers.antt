@@ -1,6 +1,6 @@
 use Rattle.image_text.specs.Reads.{raw_model}
 use Rattle.image_text.specs.Record.{image_of}
-use Rattle.tp_run.specs.declared.Command.TheVariants.{Check, Run, Alone}
+use Rattle.tp_words.specs.declared.Command.TheVariants.{Check, Run, Alone}
 use Rattle.tp_run.specs.Reading.{broken_for, image_for}
 use Rattle.tp_run.proofs.Accepted.{accepts_checked}
 use Rattle.tp_run.proofs.call.accepted.Goals as goal

@@ -6,7 +6,7 @@ use Rattle.tp_report.specs.Report.{usage_text}
 use Rattle.tp_run.specs.Answer.{Answer}
 use Rattle.tp_run.specs.Reading.{image_for}
 use Rattle.tp_run.specs.TopCall.{Delivers}
-use Rattle.tp_run.specs.declared.Command.TheVariants.{Alone}
+use Rattle.tp_words.specs.declared.Command.TheVariants.{Alone}
 use Rattle.tp_run.specs.declared.status.Status.TheVariants.{Usage}
 use Rattle.tp_run.proofs.Answers.{delivered, found_due, alone_due, lacks_due}
 use Rattle.tp_run.proofs.call.answer_alone.Goals as goal

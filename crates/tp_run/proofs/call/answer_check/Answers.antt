@@ -3,7 +3,7 @@ use Rattle.tp_io.specs.Sink.{state}
 use Rattle.tp_run.specs.Answer.{Answer, answer_of_image}
 use Rattle.tp_run.specs.Reading.{image_for}
 use Rattle.tp_run.specs.TopCall.{Delivers}
-use Rattle.tp_run.specs.declared.Command.TheVariants.{Check}
+use Rattle.tp_words.specs.declared.Command.TheVariants.{Check}
 use Rattle.tp_run.specs.declared.status.Status.TheVariants.{Done}
 use Rattle.tp_run.proofs.Answers.{delivered, found_due}
 use Rattle.tp_run.proofs.call.answer_check.Goals as goal

@@ -2,12 +2,12 @@ use Rattle.std.proofs.Common.{◌≡◌, ◌∙◌, sym, None, Some, [], subst, 
 use Rattle.std.proofs.lemmas.Option.{same_Some}
 use Rattle.tp_io.specs.Sink.{state}
 use Rattle.tp_report.specs.Report.{usage_text}
-use Rattle.tp_run.specs.declared.Command.{Command}
-use Rattle.tp_run.specs.declared.Command.TheVariants.{Check, Bound, Run, Alone, Gen, Demo}
+use Rattle.tp_words.specs.declared.Command.{Command}
+use Rattle.tp_words.specs.declared.Command.TheVariants.{Check, Bound, Run, Alone, Gen, Demo}
 use Rattle.tp_run.specs.declared.status.Status.TheVariants.{Usage}
-use Rattle.tp_run.specs.Words.{Reads, IsInRange}
-use Rattle.tp_run.specs.Answer.{answer_of_bytes, command}
-use Rattle.tp_run.specs.TopCall.{Delivers, MayBeUsage, words_of}
+use Rattle.tp_words.specs.Words.{Reads, IsInRange, command, words_of}
+use Rattle.tp_run.specs.Answer.{answer_of_bytes}
+use Rattle.tp_run.specs.TopCall.{Delivers, MayBeUsage}
 use Rattle.tp_run.proofs.Answers.{delivered, none_taken, bytes_due, told_delivers, usage_delivers, done_reads, refused_reads, too_long_reads, may_be_usage, ends_usage, completes, completes_surely, refuses, accepts, bounds, ran, is_isolated, is_padded, lacks_domain, writes_section, is_same_section, generates, summarizes}
 use Rattle.tp_run.proofs.call.tp_main.Goals as goal
 

@@ -1,0 +1,2 @@
+-- What tests of definitions say.
+pub mod Later

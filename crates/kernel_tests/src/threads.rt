@@ -1,0 +1,87 @@
+// Threads, step by step.
+use std::test::Fail;
+use thread_set::{ThreadSet, ThreadState};
+
+// What is done, the number of the thread that is current then, and which states
+// the eight have: n never started, r ready, w waiting, e ended.
+#[derive(Clone, Copy)]
+enum Step {
+    Spawn(Option<u8>),
+    Yield,
+    Block(u8),
+    Finish,
+    Wake(u8, bool),
+    EndAll,
+}
+
+fn letter(state: ThreadState) -> u8 {
+    match state {
+        ThreadState::Never => b'n',
+        ThreadState::Ready => b'r',
+        ThreadState::Waiting(_) => b'w',
+        ThreadState::Ended => b'e',
+    }
+}
+
+#[test]
+fn turns_go_round_and_lines_wake_the_least(rt: HostRuntime) -> Result<(), Fail> {
+    let rows = [
+        (Step::Yield, Some(0), *b"rnnnnnnn"),
+        (Step::Spawn(Some(1)), Some(0), *b"rrnnnnnn"),
+        (Step::Spawn(Some(2)), Some(0), *b"rrrnnnnn"),
+        (Step::Yield, Some(1), *b"rrrnnnnn"),
+        (Step::Block(5), Some(2), *b"rwrnnnnn"),
+        (Step::Block(5), Some(0), *b"rwwnnnnn"),
+        (Step::Yield, Some(0), *b"rwwnnnnn"),
+        (Step::Block(3), None, *b"wwwnnnnn"),
+        (Step::Wake(4, false), None, *b"wwwnnnnn"),
+        (Step::Wake(5, true), Some(1), *b"wrwnnnnn"),
+        (Step::Wake(5, true), Some(1), *b"wrrnnnnn"),
+        (Step::Finish, Some(2), *b"wernnnnn"),
+        (Step::Spawn(Some(1)), Some(2), *b"wrrnnnnn"),
+        (Step::Spawn(Some(3)), Some(2), *b"wrrrnnnn"),
+        (Step::Spawn(Some(4)), Some(2), *b"wrrrrnnn"),
+        (Step::Spawn(Some(5)), Some(2), *b"wrrrrrnn"),
+        (Step::Spawn(Some(6)), Some(2), *b"wrrrrrrn"),
+        (Step::Spawn(Some(7)), Some(2), *b"wrrrrrrr"),
+        (Step::Spawn(None), Some(2), *b"wrrrrrrr"),
+        (Step::Wake(3, true), Some(2), *b"rrrrrrrr"),
+        (Step::Finish, Some(3), *b"rrerrrrr"),
+        (Step::EndAll, None, *b"eeeeeeee"),
+    ];
+    let mut threads = ThreadSet::new(0x10000);
+    for (step, current, states) in rows {
+        let is_ready = threads.active.state.is_ready();
+        match step {
+            Step::Spawn(number) => assert_eq!(rt; threads.spawn(0x10010, 7), number),
+            Step::Yield if is_ready => threads.yield_now(),
+            Step::Block(line) if is_ready => threads.block(line),
+            Step::Finish if is_ready => threads.finish(),
+            Step::Wake(line, woken) => assert_eq!(rt; threads.wake(line), woken),
+            Step::EndAll => threads.end_all(),
+            _ => assert!(rt; false, "the current thread isn't ready"),
+        }
+        assert_eq!(rt; threads.current(), current);
+        assert_eq!(rt; threads.live(), states != *b"eeeeeeee");
+        for t in 0..8 {
+            assert!(rt; letter(threads.thread(t).state) == states[t as usize]);
+        }
+    }
+    // Thread 0 was woken, thread 7 only started.
+    let rows = [(0, 0x10000, 0, 1), (7, 0x10010, 7, 0)];
+    for (t, pc, x10, x11) in rows {
+        let mut thread = threads.thread(t);
+        assert_eq!(rt;
+            (thread.pc, thread.regs.get(10), thread.regs.get(11)),
+            (pc, x10, x11)
+        );
+        thread.regs.set(5, 9);
+        threads.set(t, 4, &thread.regs);
+        thread = threads.thread(t);
+        assert_eq!(rt;
+            (thread.pc, thread.regs.get(5), letter(thread.state)),
+            (4, 9, b'e')
+        );
+    }
+    Ok(())
+}

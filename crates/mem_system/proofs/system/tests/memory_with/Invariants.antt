@@ -1,6 +1,0 @@
--- Memory keeps its frames.
-use Rattle.std.proofs.Common.{◌≡◌}
-use Rattle.mem_system.proofs.system.tests.memory_with.Given as goal
-
-abbrev pub invariant-loop-place : goal.invariant-loop-place
-invariant-loop-place l = l.mem.frames ≡ 64

@@ -1,0 +1,94 @@
+// Kernel calls on memory, through whole runs.
+use super::{MACHINE, READS_B, SCHEDULE, answer};
+use std::alloc::Global;
+use std::process::Abort;
+use std::test::Fail;
+use tp_run::Status;
+
+// A segment of a page to read and to write, and a capability of it.
+pub const DATA: &str = ", { page = 32, pages = 1, rights = \"rw\", hex = \"\" }";
+
+const DATA_CAP: &str = "caps = [\"page 32\"]";
+
+// The image with red's program, with these segments and capabilities, too.
+pub fn image(alloc: Global, segments: &str, caps: &str, red: &str) -> Result<String, Fail> {
+    Ok(format!(in alloc;
+        "{MACHINE}[[domain]]\nname = \"red\"\ncolours = [1]\nentry = 0x10000\n{caps}\nsegment = [{{ page = 16, pages = 1, rights = \"rx\", hex = \"{red}\" }}{segments}]\n[[domain]]\nname = \"blue\"\ncolours = [2]\nentry = 0x10000\nsegment = [{{ page = 16, pages = 1, rights = \"rx\", hex = \"{READS_B}\" }}]\n{SCHEDULE}"
+    )?)
+}
+
+// In the report stands each of these texts, with a bar between them.
+pub fn tells(
+    rt: &impl Abort,
+    alloc: Global,
+    line: &str,
+    image: &str,
+    texts: &str,
+) -> Result<(), Fail> {
+    let (status, bytes) = answer(alloc, line, image.as_bytes(), 4096, &[], &[])?;
+    assert_eq!(rt; status, Status::Done, "at {texts}");
+    let report = String::from_utf8_lossy(alloc, bytes.as_slice())?;
+    for text in texts.split('|') {
+        assert!(rt; report.contains(text), "{text} in {report}");
+    }
+    Ok(())
+}
+
+// A program, and what its report has. ALLOC of a table, and MAP of it.
+const WITHOUT_DATA: &str =
+    "93051000930820007300000093084000730000009308000073000000;status exited 5|replies 2 last 5:0 list 0:0 5:0";
+
+// With a data page and its capability. A load, DELETE, a load; then COPY, COPY
+// beyond its rights, REVOKE, UNMAP of an empty slot, UNMAP, UNMAP again.
+const WITH_DATA: &str =
+    "b702020003a30200930870007300000003a30200;status stopped 13 pc 00010010 value 00020000|retired 3|replies 1 last 0:0 list 0:0
+930510001306100093086000730000009305200013067000730000001305000093088000730000001305100093085000730000001305000073000000730000009308000073000000;status exited 7|replies 6 last 7:0 list 0:0 6:0 0:1 3:0 0:0 7:0";
+
+// Ten ALLOCs, of which the last finds no frame, a DELETE, and an ALLOC again.
+const TEN_FRAMES: &str =
+    "1385020093050000930820007300000093821200e30605fe13050000930870007300000093082000730000009308000073000000";
+
+const TEN_REPLIES: &str =
+    "status exited 0|replies 12 last 0:0 list 0:0 0:0 0:0 0:0 0:0 0:0 0:0 0:0 0:0 10:0 0:0 0:0";
+
+// ALLOC of a page and of a table; MAP where no table is, TABLE, MAP, a store and
+// a load through it, and DELETE of the table, which is in use.
+const NEW_TABLE: &str =
+    "930820007300000013051000930510007300000013063000b7054000930840007300000013051000b70540009308300073000000b70540009308400073000000b702400023a0120103a302001305100093087000730000009308000073000000";
+
+const NEW_TABLE_REPLIES: &str =
+    "status exited 12|x6=00000004|replies 6 last 12:0 list 0:0 0:0 9:0 0:0 0:0 12:0";
+
+fn each_tells(
+    rt: &impl Abort,
+    alloc: Global,
+    segments: &str,
+    caps: &str,
+    rows: &str,
+) -> Result<(), Fail> {
+    for row in rows.split('\n') {
+        let mut fields = row.split(';');
+        let program = fields.next().unwrap_or("");
+        let texts = fields.next().unwrap_or("");
+        let image = image(alloc, segments, caps, program)?;
+        tells(rt, alloc, "tp run --slots 2", image.as_str(), texts)?;
+    }
+    Ok(())
+}
+
+#[test]
+fn calls_change_a_domains_memory(rt: HostRuntime) -> Result<(), Fail> {
+    let alloc = rt.alloc();
+    each_tells(&rt, alloc, "", "", WITHOUT_DATA)?;
+    each_tells(&rt, alloc, DATA, DATA_CAP, WITH_DATA)?;
+    let ten = image(alloc, "", "", TEN_FRAMES)?;
+    tells(&rt, alloc, "tp run --slots 16", ten.as_str(), TEN_REPLIES)?;
+    let table = image(alloc, "", "", NEW_TABLE)?;
+    tells(
+        &rt,
+        alloc,
+        "tp run --slots 2",
+        table.as_str(),
+        NEW_TABLE_REPLIES,
+    )
+}

@@ -1,0 +1,135 @@
+// Lines of words, and what they ask for.
+use std::alloc::Global;
+use std::process::Abort;
+use std::test::Fail;
+use tp_words::{Command, parse};
+
+// A line, a bar, and what it asks for, if anything: a number of slots asks for a run, and
+// a domain's number before it for that domain alone; a seed has its command before it.
+const LINES: &str = "tp check|check
+tp bound|bound
+tp run --slots 4|4
+tp run --slots=4|4
+tp run --slots 0|0
+tp run --slots 65536|65536
+tp run --slots 00004|4
+tp run --slots 000004|4
+tp run --slots +4|4
+tp run --slots=-0|0
+tp alone --domain 1 --slots 4|1 4
+tp alone --slots 4 --domain 1|1 4
+tp alone --slots=0 --domain=15|15 0
+tp alone --domain +0 --slots 65536|0 65536
+tp gen --seed 7|gen 7
+tp gen --seed=0|gen 0
+tp gen --seed 4294967295|gen 4294967295
+tp demo --seed 7|demo 7
+tp demo --seed +4294967295|demo 4294967295
+|
+tp|
+tp fly|
+tp fly --slots 4|
+tp check --slots 4|
+tp bound --slots 4|
+tp check x|
+tp check bound|
+tp bound check|
+tp --check|
+tp Check|
+tp check --help|
+tp help bound|
+tp help|
+tp help run|
+tp --help|
+tp -h|
+tp --version|
+tp run|
+tp run --help|
+tp run --slot 4|
+tp run --slots|
+tp run --slots 65537|
+tp run --slots 99999999999999999999|
+tp run --slots x|
+tp run --slots 4x|
+tp run --slots -1|
+tp run --slots=-1|
+tp run --slots=|
+tp run --slots 4 5|
+tp run --slots 4 x|
+tp run --slots 4 --slots 5|
+tp run --slots 4 --domain 1|
+tp alone|
+tp alone --slots 4|
+tp alone --domain 1|
+tp alone --domain 16 --slots 4|
+tp alone --domain -1 --slots 4|
+tp alone --domain x --slots 4|
+tp alone --domain 1 --slots 65537|
+tp alone --domain 1 --domain 1 --slots 4|
+tp alone --domain 1 --slots 4 5|
+tp alone 1 4|
+tp alone --help|
+tp help alone|
+tp gen|
+tp gen 7|
+tp gen --seed|
+tp gen --seed 4294967296|
+tp gen --seed -1|
+tp gen --seed x|
+tp gen --seed 7 --seed 7|
+tp gen --seed 7 --slots 4|
+tp gen --help|
+tp help gen|
+tp demo|
+tp demo --seed 4294967296|
+tp demo --seed 7 --slots 64|
+tp --seed 7|
+tp --domain 1 --slots 4|";
+
+fn asked_in(alloc: Global, line: &str) -> Result<Option<Command>, Fail> {
+    let mut words = Vec::new(alloc);
+    for word in line.split_whitespace() {
+        words.reserve(1)?;
+        words.push_reserved(String::from_str(alloc, word)?);
+    }
+    Ok(parse(alloc, words.as_slice())?)
+}
+
+fn wanted(asked: &str) -> Option<Command> {
+    match asked {
+        "check" => Some(Command::Check),
+        "bound" => Some(Command::Bound),
+        _ => wanted_of_numbers(asked),
+    }
+}
+
+fn wanted_of_numbers(asked: &str) -> Option<Command> {
+    let Some((first, last)) = asked.split_once(' ') else {
+        let slots = asked.parse::<u32>().ok()?;
+        return Some(Command::Run { slots });
+    };
+    let number = last.parse::<u32>().ok()?;
+    match first {
+        "gen" => Some(Command::Gen { seed: number }),
+        "demo" => Some(Command::Demo { seed: number }),
+        _ => Some(Command::Alone {
+            domain: first.parse::<u8>().ok()?,
+            slots: number,
+        }),
+    }
+}
+
+fn is_asked(rt: &impl Abort, line: &str, asked: Option<Command>, due: Option<Command>) {
+    assert_eq!(rt; asked, due, "at {line}");
+}
+
+#[test]
+fn words_ask_for_a_command_or_for_nothing(rt: HostRuntime) -> Result<(), Fail> {
+    for row in LINES.split('\n') {
+        let mut fields = row.split('|');
+        let line = fields.next().unwrap_or("");
+        let due = wanted(fields.next().unwrap_or(""));
+        is_asked(&rt, line, asked_in(rt.alloc(), line)?, due);
+    }
+    Ok(())
+}

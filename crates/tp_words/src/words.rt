@@ -1,0 +1,133 @@
+// The words of the command line.
+ghost use Rattle.std.specs.Prelude.{◌≡◌, ◌≤◌, IfOk, IfSome, false, pos};
+ghost use Rattle.clap.specs.Words.{app_of, found_of, rows_of, rule_of, subcommand_rows_of};
+ghost use Rattle.clap.specs.declared.builder.command.Command.TheViews.{out-Command};
+ghost use Rattle.tp_words.specs.Words as spec;
+ghost use Rattle.tp_words.specs.Words.{IsInRange};
+
+use crate::Command;
+use clap::builder::ValueParser;
+use clap::error::ErrorKind;
+use clap::{Arg, ArgAction, ArgMatches};
+use std::alloc::{AllocError, Global};
+use tp_base::Memory;
+
+/// The most slots of a run.
+const MOST_SLOTS: u32 = 65_536;
+
+/// The greatest number of a domain.
+const LAST_DOMAIN: u32 = 15;
+
+/// The greatest seed.
+const LAST_SEED: u32 = u32::MAX;
+
+/// What the words ask for, the first being the program's name: `None` exactly
+/// where clap finds a fault in them. `Err` is for want of memory alone.
+pub fn parse(alloc: Global, words: &[String]) -> Result<Option<Command>, Memory>
+    ensures value { IfOk result (λ asked. asked ≡ spec.command (spec.words_of words.now)) }
+    ensures range { IfOk result (λ asked. IfSome asked IsInRange) }
+{
+    let command = tp_command(alloc)?;
+    match command.try_get_matches_from(words) {
+        Ok(matches) => Ok(Some(asked(&matches))),
+        Err(error) => match error.kind() {
+            ErrorKind::OutOfMemory => Err(Memory),
+            _ => Ok(None),
+        },
+    }
+}
+
+// The program's command, with its subcommands.
+fn tp_command<'a>(alloc: Global) -> Result<clap::Command<'a>, AllocError>
+    ensures app { IfOk result (λ c. app_of c ≡ spec.tp_app) }
+{
+    let run = run_command(alloc)?;
+    let alone = alone_command(alloc)?;
+    let generate = seed_command(alloc, "gen")?;
+    let demo = seed_command(alloc, "demo")?;
+    let top = clap::Command::new(alloc, "tp").subcommand_required(true);
+    let one = top.subcommand(clap::Command::new(alloc, "check"))?;
+    let two = one.subcommand(clap::Command::new(alloc, "bound"))?;
+    let three = two.subcommand(run)?;
+    let four = three.subcommand(alone)?;
+    let five = four.subcommand(generate)?;
+    five.subcommand(demo)
+}
+
+fn run_command<'a>(alloc: Global) -> Result<clap::Command<'a>, AllocError>
+    ensures app { IfOk result (λ c. app_of c ≡ spec.run_app) }
+    ensures local { IfOk result (λ c. (out-Command c).has_globals ≡ false) }
+{
+    clap::Command::new(alloc, "run").arg(number_arg(alloc, "slots", MOST_SLOTS))
+}
+
+fn alone_command<'a>(alloc: Global) -> Result<clap::Command<'a>, AllocError>
+    ensures app { IfOk result (λ c. app_of c ≡ spec.alone_app) }
+    ensures local { IfOk result (λ c. (out-Command c).has_globals ≡ false) }
+{
+    let alone = clap::Command::new(alloc, "alone").arg(number_arg(alloc, "domain", LAST_DOMAIN))?;
+    alone.arg(number_arg(alloc, "slots", MOST_SLOTS))
+}
+
+// A subcommand that makes its image of a seed.
+fn seed_command<'a>(alloc: Global, name: &'a str) -> Result<clap::Command<'a>, AllocError>
+    ensures app { IfOk result (λ c. app_of c ≡ spec.seed_app name.now) }
+    ensures local { IfOk result (λ c. (out-Command c).has_globals ≡ false) }
+{
+    clap::Command::new(alloc, name).arg(number_arg(alloc, "seed", LAST_SEED))
+}
+
+// The option `--name`, which must be given, a whole number 0 to the greatest.
+fn number_arg<'a>(alloc: Global, name: &'a str, greatest: u32) -> Arg<'a>
+    ensures rule { rule_of result ≡ spec.number_rule name.now greatest }
+    ensures local { result.global ≡ false }
+{
+    Arg::new(alloc, name)
+        .long(name)
+        .action(ArgAction::Set)
+        .required(true)
+        .value_parser(number_parser(greatest))
+}
+
+// What reads a whole number 0 to the greatest.
+fn number_parser<'a>(greatest: u32) -> ValueParser<'a>
+    ensures value { result ≡ ValueParser.Signed (pos 0) (pos greatest) }
+{
+    clap::value_parser!(u32).range(0..=i64::from(greatest))
+}
+
+// What the matches ask for, by the subcommand's name. clap gives no matches
+// without one of the names above and its options, so the rest is never asked for.
+fn asked(matches: &ArgMatches<'_>) -> Command
+    ensures value { result ≡ spec.asked_for (subcommand_rows_of matches.now) }
+    ensures range { IsInRange result }
+{
+    match matches.subcommand() {
+        Some(("check", _)) => Command::Check,
+        Some(("bound", _)) => Command::Bound,
+        Some(("run", found)) => Command::Run {
+            slots: number_in(found, "slots", MOST_SLOTS).unwrap_or(0),
+        },
+        Some(("alone", found)) => Command::Alone {
+            domain: number_in(found, "domain", LAST_DOMAIN).unwrap_or(0) as u8,
+            slots: number_in(found, "slots", MOST_SLOTS).unwrap_or(0),
+        },
+        Some(("gen", found)) => Command::Gen {
+            seed: number_in(found, "seed", LAST_SEED).unwrap_or(0),
+        },
+        Some(("demo", found)) => Command::Demo {
+            seed: number_in(found, "seed", LAST_SEED).unwrap_or(0),
+        },
+        _ => Command::Run { slots: 0 },
+    }
+}
+
+// The value of `--name`. Its parser let none past the greatest through already.
+#[tactic(auto, unfolding(crate::specs::Words::number_in))]
+fn number_in(found: &ArgMatches<'_>, name: &str, greatest: u32) -> Option<u32>
+    ensures value { result ≡ spec.number_in name.now greatest (rows_of (found_of found.now)) }
+    ensures range { IfSome result (λ n. n ≤ greatest) }
+{
+    let number = found.get_one::<u32>(name)?;
+    (number <= greatest).then_some(number)
+}
