@@ -2,7 +2,7 @@ use Rattle.std.proofs.Common.{◌≡◌, ℕ, ◌≤◌, Some, ap, subst, ◌∙
 use Rattle.std.proofs.lemmas.Int.{ints, clamps, to_z-of_z}
 use Rattle.std.specs.Range.{range_inclusive_start, range_inclusive_end}
 use Rattle.std.specs.Int.{int_min, w64}
-use Rattle.clap.specs.Words.{NarrowsTo, signed_between}
+use Rattle.clap.specs.Words.{NarrowsTo, is_integer_parser, signed_between}
 use Rattle.clap.specs.declared.builder.value_parser.ValueParser.{ValueParser}
 use Rattle.clap.specs.declared.builder.value_parser.ValueParser.TheVariants.{Signed}
 use Rattle.tp_words.proofs.words.number_parser.Goals as goal
@@ -24,3 +24,9 @@ returns c =
     let from = subst (λ lo. NarrowsTo u32 (Some lo) (Some end) r) c.new.ensures.start all in
     let narrowed : r ≡ signed_between (pos 0) (int_min (pos 4294967295) (pos c.args.greatest)) = subst (λ hi. NarrowsTo u32 (Some (pos 0)) (Some hi) r) last from in
     record { value = narrowed ∙ ap (signed_between (pos 0)) (bounded c.args.greatest (omega arith)) }
+
+pub range-requires-clause-bounds : goal.range-requires-clause-bounds
+range-requires-clause-bounds c = c.new.ensures.exhausted
+
+pub range-requires-clause-integer : goal.range-requires-clause-integer
+range-requires-clause-integer c = ap is_integer_parser c.value_parser.ensures
