@@ -21,3 +21,6 @@ pub mod BoundedWork
 pub mod WalksStay
 pub mod ThreadLawsTurns
 pub mod ThreadLaws
+pub mod MeaningNumbers
+pub mod MeaningThreads
+pub mod MeaningPages

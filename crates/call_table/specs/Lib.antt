@@ -4,3 +4,4 @@ pub mod Calls
 pub mod Laws
 pub mod Example
 pub mod ThreadLaws
+pub mod Meanings
