@@ -24,3 +24,4 @@ pub mod ThreadLaws
 pub mod MeaningNumbers
 pub mod MeaningThreads
 pub mod MeaningPages
+pub mod ErrorOrder

@@ -5,3 +5,4 @@ pub mod Laws
 pub mod Example
 pub mod ThreadLaws
 pub mod Meanings
+pub mod Errors

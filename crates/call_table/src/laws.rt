@@ -5,6 +5,7 @@ ghost use Rattle.call_table.specs.ThreadLaws.{CallTurnLaw, DeliveryTurnLaw, Call
 ghost use Rattle.call_table.specs.ThreadLaws.{SignalWakesLaw, SignalSetsLaw, DeliveryCountLaw, CallCountLaw};
 ghost use Rattle.call_table.specs.Meanings.{ExitLaw, EndThreadLaw, SpawnLaw, NoThreadLaw, YieldLaw, PutLaw, OutputFullLaw};
 ghost use Rattle.call_table.specs.Meanings.{PollSetLaw, PollClearLaw, WaitSetLaw, WaitClearLaw, SignalLaw, TableLaw, UnmapLaw, MemoryLaw};
+ghost use Rattle.call_table.specs.Errors.{AscendLaw, FirstErrorLaw, NoErrorLaw};
 ghost use Rattle.call_table.specs.Laws.{EmptiesLaw, WalksStayLaw, OperationLaw, WorkLaw};
 
 /// Every call keeps the facts of a domain's frames and page tables.
@@ -99,4 +100,13 @@ pub fn memory_calls()
     ensures table { TableLaw }
     ensures unmap { UnmapLaw }
     ensures others { MemoryLaw }
+{}
+
+/// Errors are tested in the order of their codes: each call has a list of
+/// errors that ascends, is refused by the first that is so, and done where none
+/// is.
+pub fn errors()
+    ensures ascend { AscendLaw }
+    ensures first { FirstErrorLaw }
+    ensures none { NoErrorLaw }
 {}
