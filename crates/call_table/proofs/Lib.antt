@@ -25,3 +25,4 @@ pub mod MeaningNumbers
 pub mod MeaningThreads
 pub mod MeaningPages
 pub mod ErrorOrder
+pub mod RightsKept

@@ -34,7 +34,7 @@ use Rattle.call_table.proofs.MeaningNumbers.{by_number, cleared, unmap_is}
 
 -- ---- TABLE
 
-table_in_is : (c : Cap) (t : Directory) → table_in c ≡ Some t → c ≡ cap.Table t.frame t.installed
+pub table_in_is : (c : Cap) (t : Directory) → table_in c ≡ Some t → c ≡ cap.Table t.frame t.installed
 table_in_is (cap.Table f w) t is = ap (λ (u : Directory). cap.Table u.frame u.installed) (cc is)
 table_in_is (cap.Frame f r w) t is = absurd (cc is)
 table_in_is (cap.Irq line) t is = absurd (cc is)

@@ -6,3 +6,5 @@ pub mod Example
 pub mod ThreadLaws
 pub mod Meanings
 pub mod Errors
+pub mod Rights
+pub mod Entries

@@ -6,6 +6,7 @@ ghost use Rattle.call_table.specs.ThreadLaws.{SignalWakesLaw, SignalSetsLaw, Del
 ghost use Rattle.call_table.specs.Meanings.{ExitLaw, EndThreadLaw, SpawnLaw, NoThreadLaw, YieldLaw, PutLaw, OutputFullLaw};
 ghost use Rattle.call_table.specs.Meanings.{PollSetLaw, PollClearLaw, WaitSetLaw, WaitClearLaw, SignalLaw, TableLaw, UnmapLaw, MemoryLaw};
 ghost use Rattle.call_table.specs.Errors.{AscendLaw, FirstErrorLaw, NoErrorLaw};
+ghost use Rattle.call_table.specs.Rights.{NothingMappedLaw, CallsWithinLaw, StoresWithinLaw, WalksWithinLaw};
 ghost use Rattle.call_table.specs.Laws.{EmptiesLaw, WalksStayLaw, OperationLaw, WorkLaw};
 
 /// Every call keeps the facts of a domain's frames and page tables.
@@ -109,4 +110,14 @@ pub fn errors()
     ensures ascend { AscendLaw }
     ensures first { FirstErrorLaw }
     ensures none { NoErrorLaw }
+{}
+
+/// No leaf's rights are wider than those of the capability through which its page
+/// is mapped: calls and stores keep that, and so no access does more than a
+/// capability permits, but on pages that stay for good.
+pub fn rights()
+    ensures at_first { NothingMappedLaw }
+    ensures calls { CallsWithinLaw }
+    ensures stores { StoresWithinLaw }
+    ensures walks { WalksWithinLaw }
 {}
