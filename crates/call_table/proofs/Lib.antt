@@ -21,3 +21,8 @@ pub mod BoundedWork
 pub mod WalksStay
 pub mod ThreadLawsTurns
 pub mod ThreadLaws
+pub mod MeaningNumbers
+pub mod MeaningThreads
+pub mod MeaningPages
+pub mod ErrorOrder
+pub mod RightsKept

@@ -51,7 +51,7 @@ first_leaves e d m h = record {
       (record { slot = l.slot; by_cap = l.by_cap; claim = l.claim });
 }
 
-same_place : (b b' : Bool) (f g r t q u : ℕ) → Claim.Leaf b f (Some (r, t)) ≡ Claim.Leaf b' g (Some (q, u)) → (r ≡ q) × (t ≡ u)
+pub same_place : (b b' : Bool) (f g r t q u : ℕ) → Claim.Leaf b f (Some (r, t)) ≡ Claim.Leaf b' g (Some (q, u)) → (r ≡ q) × (t ≡ u)
 unfolding leaf_at
 same_place b b' f g r t q u e =
     let pair : (r, t) ≡ (q, u) = some_same (ap leaf_at e) in

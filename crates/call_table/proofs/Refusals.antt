@@ -161,27 +161,27 @@ module _ (d : Dom) where
 
 -- ---- what never ends early
 
-give_sure : (d : Dom) → Sure (give d)
+pub give_sure : (d : Dom) → Sure (give d)
 unfolding give
 give_sure d = record { goes = λ m x e. cc e }
 
-zero_sure : (f : ℕ) (y : Act Dom) → Sure y → Sure (zero_out f >> y)
+pub zero_sure : (f : ℕ) (y : Act Dom) → Sure y → Sure (zero_out f >> y)
 unfolding zero_out ◌>>◌ ◌>>=◌ go_on
 zero_sure f y h = record { goes = λ m x e. h.goes _ x e }
 
-map_at_sure : (root va f rights : ℕ) (y : Act Dom) → Sure y → Sure (map_at root va f rights >> y)
+pub map_at_sure : (root va f rights : ℕ) (y : Act Dom) → Sure y → Sure (map_at root va f rights >> y)
 unfolding map_at ◌>>◌ ◌>>=◌ go_on
 map_at_sure root va f rights y h = record { goes = λ m x e. h.goes _ x e }
 
-unmap_at_sure : (root va : ℕ) (y : Act Dom) → Sure y → Sure (unmap_at root va >> y)
+pub unmap_at_sure : (root va : ℕ) (y : Act Dom) → Sure y → Sure (unmap_at root va >> y)
 unfolding unmap_at ◌>>◌ ◌>>=◌ go_on
 unmap_at_sure root va y h = record { goes = λ m x e. h.goes _ x e }
 
-install_at_sure : (root va f : ℕ) (y : Act Dom) → Sure y → Sure (install_at root va f >> y)
+pub install_at_sure : (root va f : ℕ) (y : Act Dom) → Sure y → Sure (install_at root va f >> y)
 unfolding install_at ◌>>◌ ◌>>=◌ go_on
 install_at_sure root va f y h = record { goes = λ m x e. h.goes _ x e }
 
-buffer_sure : (y : Act Dom) → Sure y → Sure (empty_buffer >> y)
+pub buffer_sure : (y : Act Dom) → Sure y → Sure (empty_buffer >> y)
 unfolding empty_buffer ◌>>◌ ◌>>=◌ go_on
 buffer_sure y h = record { goes = λ m x e. h.goes _ x e }
 
@@ -200,11 +200,11 @@ unfolding go_on
 on_sure r f (inl d) g h x e = g d refl
 on_sure r f (inr d) g h x e = (h d).goes r.state x e
 
-bind_sure : (y : Act Dom) (f : Dom → Act Dom) → Sure y → ((d : Dom) → Sure (f d)) → Sure (y >>= f)
+pub bind_sure : (y : Act Dom) (f : Dom → Act Dom) → Sure y → ((d : Dom) → Sure (f d)) → Sure (y >>= f)
 unfolding ◌>>=◌
 bind_sure y f g h = record { goes = λ m x e. on_sure (y m) f (y m).value (g.goes m) h x e }
 
-drop_sure : (e : Estate) (i : ℕ) (d : Dom) → Sure (drop_slot e i d)
+pub drop_sure : (e : Estate) (i : ℕ) (d : Dom) → Sure (drop_slot e i d)
 unfolding drop_slot
 drop_sure e i d = clear_sure e.root (cap_at d.caps i) _ (give_sure (with_slot d i None))
 
@@ -213,7 +213,7 @@ unfolding drop_if
 drop_if_sure e i d true = drop_sure e i d
 drop_if_sure e i d false = give_sure d
 
-drop_others_sure : (e : Estate) (a n i : ℕ) (d : Dom) → Sure (drop_others e a n i d)
+pub drop_others_sure : (e : Estate) (a n i : ℕ) (d : Dom) → Sure (drop_others e a n i d)
 unfolding drop_others
 drop_others_sure e a zero i d = give_sure d
 drop_others_sure e a (suc n) i d =

@@ -14,7 +14,7 @@ use Rattle.call_table.specs.ThreadLaws.{HasTurn}
 
 -- ---- states
 
-ready_live : (s : ThreadState) → is_ready s ≡ true → is_live s ≡ true
+pub ready_live : (s : ThreadState) → is_ready s ≡ true → is_live s ≡ true
 ready_live Ready is = refl
 ready_live Never is = absurd (cc is)
 ready_live (Waiting line) is = absurd (cc is)
@@ -69,7 +69,7 @@ module _ (ts : Threads) where
     current_others x t other = ap (λ (s : Threads). thread_at s t) (current_put x) ∙ put-others ts (number_of ts) t x sound other
 
     -- one that is put elsewhere leaves the current one
-    current_stays : (t : ℕ) (x : Thread) → t ≢ number_of ts → (with_thread ts t x).current ≡ ts.current
+    pub current_stays : (t : ℕ) (x : Thread) → t ≢ number_of ts → (with_thread ts t x).current ≡ ts.current
     current_stays t x other =
         sym (get_or-append_seam (with_thread ts t x).before (with_thread ts t x).current (with_thread ts t x).after never)
         ∙ ap (λ (k : ℕ). thread_at (with_thread ts t x) k) (put-turn ts t x sound)

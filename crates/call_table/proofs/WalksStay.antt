@@ -31,9 +31,9 @@ use Rattle.call_table.proofs.BoundedWork.{call_of_works}
 -- ---- valid entries that stay keep walks to leaves
 
 -- each valid entry of the root, and of the tables that it points to, is as it was
-record KeepsEntries (m k : Mem) (root : ℕ) : Type 0 where
-  pointer : (r : ℕ) → valid (word m root r) ≡ true → word k root r ≡ word m root r
-  leaf : (r t : ℕ) → valid (word m root r) ≡ true → valid (entry_at m root r t) ≡ true → entry_at k root r t ≡ entry_at m root r t
+pub record KeepsEntries (m k : Mem) (root : ℕ) : Type 0 where
+  pub pointer : (r : ℕ) → valid (word m root r) ≡ true → word k root r ≡ word m root r
+  pub leaf : (r t : ℕ) → valid (word m root r) ≡ true → valid (entry_at m root r t) ≡ true → entry_at k root r t ≡ entry_at m root r t
 
 module _ (m k : Mem) (frames root va : ℕ) (access : Access) (leaf : ℕ) (s : KeepsEntries m k root) where
   leaf_stays : HasLeaf m frames root va access leaf → HasLeaf k frames root va access leaf
@@ -77,11 +77,11 @@ module _ (e : Estate) (d : Dom) (m : Mem) (h : Kept e d m) where
       → word k (ppn (word m e.root r)) t ≡ entry_at m e.root r t → entry_at k e.root r t ≡ entry_at m e.root r t
   entry_by k r t same entry = ap (λ (w : ℕ). word k (ppn w) t) same ∙ entry
 
-  nothing_written : KeepsEntries m m e.root
+  pub nothing_written : KeepsEntries m m e.root
   nothing_written = record { pointer = λ r ok. refl; leaf = λ r t r_ok ok. refl }
 
   -- a free frame is neither the root nor a table
-  zeroed : (f : ℕ) → least_free e d.caps ≡ Some f → KeepsEntries m (zeroed_frame m f) e.root
+  pub zeroed : (f : ℕ) → least_free e d.caps ≡ Some f → KeepsEntries m (zeroed_frame m f) e.root
   unfolding frame_of
   zeroed f is =
       let free : IsFree e d.caps f = least_is_free e d.caps f is in
@@ -98,7 +98,7 @@ module _ (e : Estate) (d : Dom) (m : Mem) (h : Kept e d m) where
       }
 
   -- where a table is installed, nothing was valid
-  table_installed : (b f : ℕ) → has_table m e.root b ≡ false → KeepsEntries m (installed m e.root b f) e.root
+  pub table_installed : (b f : ℕ) → has_table m e.root b ≡ false → KeepsEntries m (installed m e.root b f) e.root
   table_installed b f none =
       let other : (r : ℕ) → valid (word m e.root r) ≡ true → r ≢ vpn_1 b =
       λ r ok same. true≢false (sym ok ∙ ap (λ (i : ℕ). valid (word m e.root i)) same ∙ none) in
@@ -112,7 +112,7 @@ module _ (e : Estate) (d : Dom) (m : Mem) (h : Kept e d m) where
       }
 
   -- where a page is mapped, no leaf was valid
-  page_mapped : (b f c : ℕ) → CanTake m e.root b → KeepsEntries m (mapped m e.root b f c) e.root
+  pub page_mapped : (b f c : ℕ) → CanTake m e.root b → KeepsEntries m (mapped m e.root b f c) e.root
   page_mapped b f c can =
       let pointer : (r : ℕ) → word (mapped m e.root b f c) e.root r ≡ word m e.root r =
       λ r. root_stays m e.root e.share.frames b (page_tables e d m h).map can.table (vpn_0 b) (leaf_word f c) r in

@@ -4,3 +4,7 @@ pub mod Calls
 pub mod Laws
 pub mod Example
 pub mod ThreadLaws
+pub mod Meanings
+pub mod Errors
+pub mod Rights
+pub mod Entries

@@ -3,6 +3,10 @@
 ghost use Rattle.call_table.specs.Laws.{CallsKeepLaw, RefusalLaw, ConfinedLaw, PageTablesLaw, StoreLaw, MapLaw, DeleteLaw, RevokeLaw, AllocLaw, NoWiderLaw, CopiesLaw, PoolLaw};
 ghost use Rattle.call_table.specs.ThreadLaws.{CallTurnLaw, DeliveryTurnLaw, CallWakesLaw, DeliveryWakesLaw};
 ghost use Rattle.call_table.specs.ThreadLaws.{SignalWakesLaw, SignalSetsLaw, DeliveryCountLaw, CallCountLaw};
+ghost use Rattle.call_table.specs.Meanings.{ExitLaw, EndThreadLaw, SpawnLaw, NoThreadLaw, YieldLaw, PutLaw, OutputFullLaw};
+ghost use Rattle.call_table.specs.Meanings.{PollSetLaw, PollClearLaw, WaitSetLaw, WaitClearLaw, SignalLaw, TableLaw, UnmapLaw, MemoryLaw};
+ghost use Rattle.call_table.specs.Errors.{AscendLaw, FirstErrorLaw, NoErrorLaw};
+ghost use Rattle.call_table.specs.Rights.{NothingMappedLaw, CallsWithinLaw, StoresWithinLaw, WalksWithinLaw};
 ghost use Rattle.call_table.specs.Laws.{EmptiesLaw, WalksStayLaw, OperationLaw, WorkLaw};
 
 /// Every call keeps the facts of a domain's frames and page tables.
@@ -65,4 +69,55 @@ pub fn interrupts()
     ensures sets { SignalSetsLaw }
     ensures delivery_counts { DeliveryCountLaw }
     ensures call_counts { CallCountLaw }
+{}
+
+/// What EXIT, SPAWN, YIELD and ENDTHREAD mean for the threads of a domain.
+pub fn thread_calls()
+    ensures exit { ExitLaw }
+    ensures spawn { SpawnLaw }
+    ensures no_thread { NoThreadLaw }
+    ensures yields { YieldLaw }
+    ensures end_thread { EndThreadLaw }
+{}
+
+/// What POLL, WAIT and SIGNAL mean for the line that a slot names.
+pub fn line_calls()
+    ensures poll_set { PollSetLaw }
+    ensures poll_clear { PollClearLaw }
+    ensures wait_set { WaitSetLaw }
+    ensures wait_clear { WaitClearLaw }
+    ensures signal { SignalLaw }
+{}
+
+/// What PUT means for what is printed.
+pub fn output()
+    ensures put { PutLaw }
+    ensures full { OutputFullLaw }
+{}
+
+/// What TABLE and UNMAP mean for page tables, and that the calls of threads,
+/// lines and output leave memory.
+pub fn memory_calls()
+    ensures table { TableLaw }
+    ensures unmap { UnmapLaw }
+    ensures others { MemoryLaw }
+{}
+
+/// Errors are tested in the order of their codes: each call has a list of
+/// errors that ascends, is refused by the first that is so, and done where none
+/// is.
+pub fn errors()
+    ensures ascend { AscendLaw }
+    ensures first { FirstErrorLaw }
+    ensures none { NoErrorLaw }
+{}
+
+/// No leaf's rights are wider than those of the capability through which its page
+/// is mapped: calls and stores keep that, and so no access does more than a
+/// capability permits, but on pages that stay for good.
+pub fn rights()
+    ensures at_first { NothingMappedLaw }
+    ensures calls { CallsWithinLaw }
+    ensures stores { StoresWithinLaw }
+    ensures walks { WalksWithinLaw }
 {}

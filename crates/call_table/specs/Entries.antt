@@ -1,0 +1,59 @@
+-- Which slots, and which entries of page tables, each call that is done writes.
+use Rattle.std.specs.Prelude.{◌≡◌, ℕ, nat_eq, if◌then◌else◌, List, [], ◌∷◌, map, Option, Some, None}
+use Rattle.std.proofs.Common.{inr}
+use Rattle.phys_mem.specs.Mem.{Mem}
+use Rattle.page_map.specs.Changes.{table_entry, page_entry}
+use Rattle.cap_table.specs.declared.Cap.{Cap}
+use Rattle.cap_table.specs.declared.Cap.TheVariants as cap
+use Rattle.cap_table.specs.Slots.{cap_at, slot_after, revoked_count, revoked_entries}
+use Rattle.call_table.specs.Domain.{Dom}
+use Rattle.call_table.specs.Claims.{Estate}
+use Rattle.call_table.specs.Calls.{entries_in, call}
+use Rattle.call_table.specs.Laws as laws
+use Rattle.call_table.specs.Laws.{Kept}
+use Rattle.call_table.specs.Meanings.{Makes, argument_a, argument_b, IsDone, SlotsStay}
+
+-- ---- slots
+
+-- DELETE empties its slot, and every other is as it was
+pub record IsDeleted (d x : Dom) : Type 0 where
+  pub done : IsDone 0 d x
+  pub empty : cap_at x.caps (argument_a d) ≡ None
+  pub others : SlotsStay (argument_a d) d.caps x.caps
+  pub rest : x ≡ record d { threads = x.threads; replies = x.replies; caps = x.caps }
+
+abbrev pub DeletedSlotLaw : Type 0
+DeletedSlotLaw = (e : Estate) (d x : Dom) (m : Mem) → Makes d 7 → (call e d m).value ≡ inr x → IsDeleted d x
+
+-- REVOKE empties every other slot that names the same page or line, counts them, and every other slot is as it was
+pub record IsRevokedAll (d x : Dom) : Type 0 where
+  pub done : IsDone (revoked_count d.caps (argument_a d)) d x
+  pub slots : (i : ℕ) → cap_at x.caps i ≡ slot_after d.caps (argument_a d) i
+  pub rest : x ≡ record d { threads = x.threads; replies = x.replies; caps = x.caps }
+
+abbrev pub RevokedSlotsLaw : Type 0
+RevokedSlotsLaw = (e : Estate) (d x : Dom) (m : Mem) → Kept e d m → Makes d 8 → (call e d m).value ≡ inr x
+    → IsRevokedAll d x
+
+-- ---- entries
+
+-- the entry that a capability stands for: where its page is mapped, or its table installed
+abbrev pub entry_of : Mem → ℕ → Option Cap → List ℕ
+entry_of m root (Some (cap.Frame frame rights (Some va))) = page_entry m root va ∷ []
+entry_of m root (Some (cap.Table frame (Some va))) = table_entry root va ∷ []
+entry_of m root _ = []
+
+-- TABLE the root's entry of its region, MAP its address's in a table, UNMAP and DELETE that of the slot, REVOKE those of
+-- the emptied slots that were mapped, in the order of slots, and every other call none
+unfoldable pub entries_written : Estate → Dom → Mem → ℕ → ℕ → ℕ → List ℕ
+entries_written e d m number a b =
+    if nat_eq number 3 then table_entry e.root b ∷ []
+    else if nat_eq number 4 then page_entry m e.root b ∷ []
+    else if nat_eq number 5 then entry_of m e.root (cap_at d.caps a)
+    else if nat_eq number 7 then entry_of m e.root (cap_at d.caps a)
+    else if nat_eq number 8 then map (page_entry m e.root) (revoked_entries d.caps a)
+    else []
+
+abbrev pub EntriesLaw : Type 0
+EntriesLaw = (e : Estate) (d x : Dom) (m : Mem) → Kept e d m → (call e d m).value ≡ inr x
+    → entries_in (call e d m).notes ≡ entries_written e d m (laws.number_of d) (argument_a d) (argument_b d)
