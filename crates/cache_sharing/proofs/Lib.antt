@@ -2,5 +2,6 @@
 pub mod OwnTouches
 pub mod ResidencyWays
 pub mod Residency
+pub mod KernelSets
 pub mod Region
 pub mod Worst

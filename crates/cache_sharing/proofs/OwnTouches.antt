@@ -1,5 +1,5 @@
 -- What a domain touches: beside others it costs the same as alone, and another's touches leave its sets.
-use Rattle.std.proofs.Common.{◌≡◌, ◌≢◌, ◌∙◌, sym, refl, ap, ap₂, subst, inl, inr, ◌⊎◌, true≢false, ne_eqb, eq-eqb, ℕ, ◌+◌, ◌*◌, ◌%◌, ◌<◌, Bool, true, false, List, [], ◌∷◌, length, Option, Some, None}
+use Rattle.std.proofs.Common.{◌≡◌, ◌≢◌, ◌∙◌, sym, refl, ap, ap₂, subst, inl, inr, ◌⊎◌, true≢false, ne_eqb, eq-eqb, ℕ, ◌+◌, ◌*◌, ◌%◌, ◌<◌, Bool, true, false, List, [], ◌∷◌, ◌++◌, length, Option, Some, None}
 use Rattle.std.specs.Prelude.{◌==◌, if◌then◌else◌, All, is_some, option_map, slice_index}
 use Rattle.std.proofs.lemmas.List.Elements.{All-nil, All-cons, All-head, All-tail, All-weaker, All-from_get_or}
 use Rattle.tp_base.specs.Table.{at-put, at-put_by}
@@ -60,10 +60,10 @@ same_held shape sets others line =
 
 -- ---- the lines that a domain may touch
 
-abbrev MayReach : Hierarchy → (ℕ → Bool) → List ℕ → ℕ → Type 0
+abbrev pub MayReach : Hierarchy → (ℕ → Bool) → List ℕ → ℕ → Type 0
 MayReach h own region line = IsOwnLine h own line ⊎ IsShared region line
 
-may_reach : (h : Hierarchy) (own : ℕ → Bool) (region : List ℕ) (touch : Touch) → MayTouch h own region touch
+pub may_reach : (h : Hierarchy) (own : ℕ → Bool) (region : List ℕ) (touch : Touch) → MayTouch h own region touch
     → All (MayReach h own region) (lines_in_l2 touch)
 may_reach h own region (Fetch line) may = All-cons (MayReach h own region) line [] (inl may) (All-nil (MayReach h own region))
 may_reach h own region (Load line) may = All-cons (MayReach h own region) line [] may (All-nil (MayReach h own region))
@@ -75,6 +75,11 @@ may_reach h own region (Branch pc taken) may = All-nil (MayReach h own region)
 may_reach h own region EmptyTlb may = All-nil (MayReach h own region)
 may_reach h own region Flush may = All-nil (MayReach h own region)
 may_reach h own region (Charge cycles) may = All-nil (MayReach h own region)
+
+pub may_append : (h : Hierarchy) (own : ℕ → Bool) (region : List ℕ) (ts us : List Touch) → MayTouchAll h own region ts → MayTouchAll h own region us
+    → MayTouchAll h own region (ts ++ us)
+may_append h own region [] us may rest = rest
+may_append h own region (t ∷ ts) us may rest = (may.0, may_append h own region ts us may.1 rest)
 
 -- what one line or more cost at the second level, beside it alone
 record BesideBelow (h : Hierarchy) (own : ℕ → Bool) (region : List ℕ) (first : Sets) (r alone : Below) : Type 0 where
@@ -243,7 +248,7 @@ stays_law h own region ts c sharing may resident =
     } in
     (touches_beside h own region sharing c.l2 ts c c itself may).caches.l2.resident
 
-prefetch_may : (h : Hierarchy) (region : List ℕ) → MayTouchAll h (λ _. false) region (prefetch region)
+pub prefetch_may : (h : Hierarchy) (region : List ℕ) → MayTouchAll h (λ _. false) region (prefetch region)
 prefetch_may h region = loads_may h region region (All-from_get_or (IsShared region) region 0 (λ i lt. (i, lt, refl)))
 
 pub prefetch_law : PrefetchLaw

@@ -1,5 +1,5 @@
 -- The laws of shared caches, each as a type; they are the clauses of the functions of `laws`.
-use Rattle.std.specs.Prelude.{◌≡◌, ℕ, ◌+◌, ◌-◌, ◌/◌, ◌<◌, ◌≤◌, Bool, true, false, List, ◌++◌, Option}
+use Rattle.std.specs.Prelude.{◌≡◌, ℕ, ◌+◌, ◌-◌, ◌/◌, ◌<◌, ◌≤◌, Bool, true, false, List, ◌++◌, Option, None}
 use Rattle.set_cache.specs.Cache.{Sets}
 use Rattle.kernel_clone.specs.Footprints.{Layout, IsLayout}
 use Rattle.l2_colour.specs.Colours.{IsColoured, colours_of}
@@ -8,7 +8,7 @@ use Rattle.pad_bound.specs.Worst.{IsCloneOf}
 use Rattle.mem_system.specs.Hierarchy.{Hierarchy}
 use Rattle.mem_system.specs.Cost.{Touch, Caches, cold, and_then, touched_all}
 use Rattle.cache_sharing.specs.Operations.{shared_region, prefetch, switch}
-use Rattle.cache_sharing.specs.Sharing.{IsRegion, IsSharing, HasRoom, AreApart, MayTouchAll, SameSets, Resident, BesideCaches, BesideTouched}
+use Rattle.cache_sharing.specs.Sharing.{IsRegion, IsSharing, HasRoom, AreApart, MayTouchAll, SameSets, Resident, kept_at, KeepsSharedAlone, BesideCaches, BesideTouched}
 use Rattle.cache_sharing.specs.Worst.{shape_of, worst_touches, HasWays, IsWithin}
 
 -- touches after touches
@@ -59,6 +59,24 @@ abbrev pub RegionLaw : Type 0
 RegionLaw = (h : Hierarchy) (l : Layout) → IsLayout l → IsColoured h.line_size h.l2.count → l.line ≡ h.line_size
     → l.colours ≡ colours_of h.line_size h.l2.count → (l.shared + 4095) / 4096 ≤ h.l2.ways
     → IsRegion h (shared_region l) × HasRoom h (shared_region l)
+
+-- ---- the sets of colour 0, the kernel's
+
+-- before anything is touched no set keeps a line
+abbrev pub EmptyLaw : Type 0
+EmptyLaw = (h : Hierarchy) (s way : ℕ) → kept_at h (cold h).l2 s way ≡ None
+
+-- a domain's touches bring no line of its own into them
+abbrev pub SharedAloneLaw : Type 0
+SharedAloneLaw = (h : Hierarchy) (own : ℕ → Bool) (region : List ℕ) (pinned : Bool) (ts : List Touch) (c : Caches)
+    → IsSharing h own region → MayTouchAll h own region ts → KeepsSharedAlone h region c.l2
+    → KeepsSharedAlone h region (touched_all h pinned c ts).caches.l2
+
+-- and the prefetch none that isn't shared
+abbrev pub PrefetchAloneLaw : Type 0
+PrefetchAloneLaw = (h : Hierarchy) (own : ℕ → Bool) (region : List ℕ) (pinned : Bool) (c : Caches)
+    → IsSharing h own region → KeepsSharedAlone h region c.l2
+    → KeepsSharedAlone h region (touched_all h pinned c (prefetch region)).caches.l2
 
 -- ---- what it costs at worst
 

@@ -1,6 +1,7 @@
 -- How domains share the second level: each has the sets of its colours, and the kernel's shared lines stand in those of colour 0.
-use Rattle.std.specs.Prelude.{◌≡◌, ◌≢◌, ℕ, ◌%◌, ◌==◌, ◌<◌, ◌≤◌, ◌⊎◌, Bool, false, IsTrue, List, [], ◌∷◌, length, slice_index, count_by, All}
+use Rattle.std.specs.Prelude.{◌≡◌, ◌≢◌, ℕ, ◌%◌, ◌==◌, ◌<◌, ◌≤◌, ◌⊎◌, Bool, false, IsTrue, List, [], ◌∷◌, length, slice_index, slice_index_or, count_by, All, Option, Some, None}
 use Rattle.set_cache.specs.Cache.{Sets, set_at}
+use Rattle.set_cache.specs.declared.KeptLine.{KeptLine}
 use Rattle.l2_colour.specs.Colours.{IsColoured, colour_of_set}
 use Rattle.mem_system.specs.Hierarchy.{Hierarchy, colour_of_line}
 use Rattle.mem_system.specs.Cost.{Touch, Fetch, Load, Store, WalkRead, Look, Branch, EmptyTlb, Flush, Charge, Caches, Touched}
@@ -71,6 +72,17 @@ SameOutside h own l2 first = (s : ℕ) → is_own_set h own s ≡ false → colo
 -- every shared line stands in it
 abbrev pub Resident : Hierarchy → List ℕ → Sets → Type 0
 Resident h region l2 = (i : ℕ) → i < length region → IsTrue (holds h.l2 l2 (slice_index region i))
+
+-- ---- the sets of the kernel's colour
+
+-- what way `way` of set `s` keeps
+abbrev pub kept_at : Hierarchy → Sets → ℕ → ℕ → Option KeptLine
+kept_at h l2 s way = slice_index_or (set_at h.l2.ways l2 s).places way None
+
+-- the sets of colour 0 keep lines of the shared region alone
+abbrev pub KeepsSharedAlone : Hierarchy → List ℕ → Sets → Type 0
+KeepsSharedAlone h region l2 = (s way : ℕ) (line : KeptLine) → colour_of_set h.line_size s ≡ 0
+    → kept_at h l2 s way ≡ Some line → IsShared region line.number
 
 -- ---- the whole machine's caches beside those of the domain alone
 

@@ -1,6 +1,7 @@
 //! Laws of shared caches over their definitions, each the contract of a function
 //! that does nothing: a caller that calls it may rely on the law.
 ghost use Rattle.cache_sharing.specs.Laws.{AppendLaw, BesideLaw, OthersLaw, StaysResidentLaw};
+ghost use Rattle.cache_sharing.specs.Laws.{EmptyLaw, SharedAloneLaw, PrefetchAloneLaw};
 ghost use Rattle.cache_sharing.specs.Laws.{PrefetchLaw, PrefetchStaysLaw, ResidentLaw, RegionLaw, WorstLaw, SwitchLaw, OnTimeLaw};
 
 /// Touches one after the other are a touch of all of them in order.
@@ -23,6 +24,14 @@ pub fn own_touches()
 pub fn residency()
     ensures resident { ResidentLaw }
     ensures region { RegionLaw }
+{}
+
+/// The sets of colour 0, the kernel's, keep shared lines alone, whatever domains
+/// touch: at first they keep nothing.
+pub fn kernel_sets()
+    ensures empty { EmptyLaw }
+    ensures touches { SharedAloneLaw }
+    ensures prefetch { PrefetchAloneLaw }
 {}
 
 /// No caches make touches dearer than their worst, and a switch that begins

@@ -1,16 +1,21 @@
 -- What an instruction costs at worst, with the kernel call that it makes.
-use Rattle.std.proofs.Common.{◌≡◌, ℕ, ◌+◌, ◌*◌, ◌/◌, ◌≤◌, Bool, true, false, if◌then◌else◌, List, [], ◌∷◌, length, Option, Some, None, ◌⊎◌, inl, inr, refl, sym, subst, arith, le_refl, mul-le-mul_right}
+use Rattle.std.proofs.Common.{◌≡◌, ℕ, ◌+◌, ◌*◌, ◌/◌, ◌≤◌, Bool, true, false, if◌then◌else◌, List, [], ◌∷◌, length, Option, Some, None, Result, Ok, Err, ◌≢◌, ◌⊎◌, inl, inr, refl, sym, subst, arith, le_refl, mul-le-mul_right}
 use Rattle.std.proofs.lemmas.List.{length-map}
 use Rattle.tp_base.specs.Act.{Done, go_on, ◌>>=◌, ◌>>◌, give, stop, note}
-use Rattle.phys_mem.specs.Mem.{Mem}
+use Rattle.phys_mem.specs.Mem.{Mem, word}
+use Rattle.rv_decode.specs.Table.{decode_of}
 use Rattle.rv_decode.specs.declared.Instr.{Instr}
 use Rattle.rv_decode.specs.declared.Instr.TheVariants as instr
 use Rattle.rv_decode.specs.declared.LoadWidth.{LoadWidth}
 use Rattle.rv_core.specs.Registers.{register}
-use Rattle.rv_core.specs.Effect.{Outcome, access, continuation, effect_of}
+use Rattle.rv_core.specs.Effect as effect
+use Rattle.rv_core.specs.Effect.{Outcome, continuation, effect_of}
 use Rattle.rv_core.specs.declared.Store.{Store as StoreMade}
 use Rattle.rv_core.specs.declared.Trap.{Trap}
 use Rattle.sv32_walk.specs.declared.access.Access.{Access}
+use Rattle.sv32_walk.specs.declared.access.Access.TheVariants as access
+use Rattle.sv32_walk.specs.declared.access.WalkFault.{WalkFault}
+use Rattle.sv32_walk.specs.PageTableEntry.{ppn}
 use Rattle.sv32_walk.specs.Walk.{walk, from_table, from_entry, first_level}
 use Rattle.kernel_clone.specs.Footprints.{touches, delivery_op}
 use Rattle.pad_bound.specs.Bound.{worst_look, worst_read, worst_fetch, worst_access, worst_instruction, worst_operation}
@@ -28,7 +33,9 @@ use Rattle.image_check.specs.Own.{Own}
 use Rattle.world_view.specs.Kernel.{estate, layout}
 use Rattle.world_view.specs.Cost.{hierarchy}
 use Rattle.image_check.specs.Pads.{shape_of}
-use Rattle.world_view.specs.Event.{Storage, Act, touch, translate, line_in, read, write, unless, load, store, loaded, guessed, settle, execute, call_touches, make_call, perform, instruction, delivery_touches}
+use Rattle.world_view.specs.EventLaws.{instruction_at, next_instruction}
+use Rattle.world_view.specs.Frames.{root_of}
+use Rattle.world_view.specs.Event.{Storage, Act, touch, frame_or_stop, translate, place, line_in, read, write, unless, load, store, loaded, guessed, settle, execute, call_touches, make_call, perform, instruction, delivery_touches}
 use Rattle.world_view.specs.Relations.{largest_step}
 
 -- a walk reads two entries at most
@@ -153,7 +160,7 @@ module _ (p : Hardware) where
       (then_costs p.costs.mispredict _ _ _ (guessed_costs i d.threads.current.pc out.effect.taken)
       (then_costs most 0 _ _ stores (give_costs _))))
 
-  loads_alone : (regs : List ℕ) (pc : ℕ) (trap : Option Trap) (new : List ℕ) → (access regs pc trap (continuation new pc)).effect.store ≡ None
+  loads_alone : (regs : List ℕ) (pc : ℕ) (trap : Option Trap) (new : List ℕ) → (effect.access regs pc trap (continuation new pc)).effect.store ≡ None
   loads_alone regs pc None new = refl
   loads_alone regs pc (Some trap) new = refl
 
@@ -229,6 +236,59 @@ module _ (p : Hardware) (o : Own) where
       bind_costs p (worst_look p.costs) _ _ _ (translate_costs p _ d _ _) (λ f.
       then_costs p (worst_fetch p.costs) _ _ _ (touch_costs p (Fetch (line_in p f d.threads.current.pc)))
       (bind_costs p 0 perform_worst _ _ (read_costs p f _) (λ w. perform_costs t d w _)))
+
+  -- ---- an instruction that makes no call
+
+  -- where the value is known
+  value_costs : {A B : Type 0} (a b : ℕ) (r : Done Storage Touch Dom A) (y : A → Act B) (v : A) → worst p r.notes ≤ a → worst p (y v r.state).notes ≤ b
+      → worst p (go_on r y (inr v)).notes ≤ a + b
+  unfolding go_on worst
+  value_costs a b r y v first rest =
+      let both = worst-append (hierarchy p) r.notes (y v r.state).notes in
+      omega (arith, first, rest, both)
+
+  abbrev plain_worst : ℕ
+  plain_worst = p.costs.mispredict + access_worst p
+
+  plain_costs : (t : ℕ) (d : Dom) (w : ℕ) (i : Option Instr) → i ≢ Some instr.Ecall → Costs p plain_worst (perform p (estate p o) (layout p o) t d w i)
+  unfolding perform
+  plain_costs t d w None plain = more p 0 plain_worst _ (omega arith) (stop_costs p _)
+  plain_costs t d w (Some instr.Ecall) plain = absurd (plain refl)
+  plain_costs t d w (Some i) plain = execute_costs p (estate p o).root t d i
+
+  -- what follows the fetch's look-up
+  abbrev rest_of : ℕ → Dom → ℕ → Act Dom
+  rest_of t d f = touch (Fetch (line_in p f d.threads.current.pc)) >> (read f (place d.threads.current.pc) >>= (λ w. perform p (estate p o) (layout p o) t d w (decode_of w)))
+
+  rest_costs : (t f : ℕ) (d : Dom) (s : Storage) → decode_of (word s.mem f (place d.threads.current.pc)) ≢ Some instr.Ecall
+      → worst p (rest_of t d f s).notes ≤ worst_fetch p.costs + (0 + plain_worst)
+  unfolding ◌>>=◌ ◌>>◌ touch note read hierarchy
+  rest_costs t f d s plain =
+      let line = line_in p f d.threads.current.pc in
+      let w = word s.mem f (place d.threads.current.pc) in
+      value_costs (worst_fetch p.costs) (0 + plain_worst) (touch (Fetch line) s) (λ _. read f (place d.threads.current.pc) >>= (λ x. perform p (estate p o) (layout p o) t d x (decode_of x))) tt
+      ((touch_costs p (Fetch line)).within s)
+      (value_costs 0 plain_worst (read f (place d.threads.current.pc) s) (λ x. perform p (estate p o) (layout p o) t d x (decode_of x)) w
+      ((read_costs p f (place d.threads.current.pc)).within s) ((plain_costs t d w (decode_of w) plain).within s))
+
+  plain_by : (t : ℕ) (d : Dom) (s : Storage) (r : Result ℕ WalkFault) → instruction_at s.mem d.threads.current.pc r ≢ Some instr.Ecall
+      → worst p (go_on (translate p (estate p o).root d access.Fetch d.threads.current.pc s) (rest_of t d) (frame_or_stop d access.Fetch d.threads.current.pc r)).notes
+      ≤ worst_look p.costs + (worst_fetch p.costs + (0 + plain_worst))
+  unfolding frame_or_stop go_on translate
+  plain_by t d s (Err f) plain = let looks = (translate_costs p (estate p o).root d access.Fetch d.threads.current.pc).within s in omega (arith, looks)
+  plain_by t d s (Ok leaf) plain =
+      value_costs (worst_look p.costs) (worst_fetch p.costs + (0 + plain_worst)) (translate p (estate p o).root d access.Fetch d.threads.current.pc s) (rest_of t d) (ppn leaf)
+      ((translate_costs p (estate p o).root d access.Fetch d.threads.current.pc).within s) (rest_costs t (ppn leaf) d s plain)
+
+  -- with its base, it is within the bound's instruction
+  pub plain_within : (t : ℕ) (d : Dom) (s : Storage) → next_instruction p o d s.mem ≢ Some instr.Ecall
+      → p.costs.base + worst_touches (hierarchy p) (instruction p (estate p o) (layout p o) t d s).notes ≤ worst_instruction (shape_of p)
+  unfolding worst access_worst worst_instruction instruction ◌>>=◌ translate estate
+  plain_within t d s plain =
+      let within = plain_by t d s (walk s.mem p.frames (root_of p o) d.threads.current.pc access.Fetch).result plain in
+      omega (arith, within)
+
+  -- ---- any
 
   -- with its base, it is within the largest step
   pub instruction_within : (t : ℕ) (d : Dom) (s : Storage)

@@ -31,11 +31,12 @@ use Rattle.world_view.specs.Instruction.{stopped, trapped, retired_at, read_out}
 use Rattle.mem_system.specs.Cost.{Touch, Fetch, Load, Store as StoreTouch, Branch}
 use Rattle.mem_system.specs.Translation.{lines_of, look_of}
 use Rattle.cache_sharing.specs.Sharing.{IsOwnLine, MayTouch}
+use Rattle.cache_sharing.proofs.OwnTouches.{may_append}
 use Rattle.world_view.specs.Cost.{hierarchy, region, own_colour}
 use Rattle.world_view.specs.Event.{Storage, Act, touch, fault_code, frame_or_stop, translate, address_in, line_in, read, write, unless, load, store, loaded, noted, guessed, settle, execute, call_touches, make_call, perform, instruction}
 use Rattle.world_view.specs.Relations.{IsOwnFrame, MayAll, IsKernel, HasFacts, BesideStorage}
 use Rattle.world_view.proofs.TableLaws.{IsPage, walkable, own_reads, own_page, walk_alike, mine_own, own_mine, not_mine}
-use Rattle.world_view.proofs.KernelTouches.{may_append, call_may}
+use Rattle.world_view.proofs.KernelTouches.{call_may}
 use Rattle.world_view.proofs.Lines.{own_address}
 
 -- what is known of the value and of what is left, if there is a value; else the facts of the domain with which it ended
@@ -71,7 +72,7 @@ module _ (p : Hardware) (o : Own) (kernel : IsKernel p o) (d : Dom) (first : Sto
       let n = (g a).runs r.state q.state h.state k in
       record {
         notes = ap₂ (λ x y. x ++ y) h.notes n.notes;
-        may = may_append p o r.notes (f a r.state).notes h.may n.may;
+        may = may_append (hierarchy p) (own_colour o) (region p) r.notes (f a r.state).notes h.may n.may;
         state = n.state;
         value = n.value;
         known = n.known;

@@ -11,7 +11,7 @@ use Rattle.world_view.specs.Kernel.{estate, opening_dom}
 use Rattle.world_view.specs.Event.{Storage}
 use Rattle.world_view.specs.Machine.{steps, dom_of, part_of, with_part, switch, run_slot, opening, whole}
 use Rattle.world_view.specs.Relations.{IsDomain, SameFrames, HasFacts}
-use Rattle.world_view.specs.Laws.{world_in}
+use Rattle.world_view.specs.Laws.{local_in, world_in}
 use Rattle.world_view.proofs.Separate.{Separated}
 use Rattle.world_view.proofs.TableLaws.{mine_own}
 use Rattle.world_view.proofs.FactsSame.{facts_same}
@@ -71,3 +71,12 @@ module _ (i : Image) (r : Separated i) where
   pub begun_facts : (k d : ℕ) → IsDomain i d → HasFacts i.all.hardware (own_of i d) (dom_of (switch i k (whole i k)) d) (switch i k (whole i k)).storage
   unfolding switch
   begun_facts k d is = all_facts k d is
+
+  -- so it holds of the domain that runs
+  pub running_facts : (k n : ℕ) → let s = local_in i k n in
+      HasFacts i.all.hardware (own_of i (entry_of_slot i.all.schedule k).domain) s.dom s.storage
+  running_facts k n =
+      let e = (entry_of_slot i.all.schedule k).domain in
+      let s = part_of e (switch i k (whole i k)) in
+      (steps_keep i.all.hardware (own_of i e) (kernel_of i r e (r.named k)) false (slot_end i.all.schedule k) n s.storage s
+      (record { facts = begun_facts k e (r.named k); outside = λ f out. refl })).facts

@@ -1,5 +1,5 @@
 -- What a kernel operation touches: lines of the domain's own frames, and lines of the shared region.
-use Rattle.std.proofs.Common.{◌≡◌, ℕ, ◌<◌, ◌/◌, Bool, true, false, if◌then◌else◌, List, [], ◌∷◌, ◌++◌, length, map, slice_index, All, Some, inl, inr, ap, sym, subst, ◌∙◌, refl, zero, suc, arith, true≢false}
+use Rattle.std.proofs.Common.{◌≡◌, ℕ, ◌<◌, ◌/◌, Bool, true, false, if◌then◌else◌, List, [], ◌∷◌, length, map, slice_index, All, Some, inl, inr, ap, sym, subst, ◌∙◌, refl, zero, suc, arith, true≢false}
 use Rattle.std.proofs.lemmas.List.Elements.{All-head, All-tail}
 use Rattle.kernel_clone.specs.declared.Kind.{Kind}
 use Rattle.kernel_clone.specs.declared.Kind.TheVariants as kind
@@ -12,18 +12,15 @@ use Rattle.call_table.specs.Laws.{IsMine, IsOwnWork}
 use Rattle.hardware_check.specs.Hardware.{Hardware}
 use Rattle.image_check.specs.Own.{Own}
 use Rattle.world_view.specs.Kernel.{estate, layout}
-use Rattle.mem_system.specs.Cost.{Touch, EmptyTlb}
+use Rattle.mem_system.specs.Cost.{EmptyTlb}
 use Rattle.cache_sharing.specs.Operations.{touch_by, touch_of_line, footprint, operation, plain, leave, enter}
 use Rattle.cache_sharing.specs.Sharing.{IsShared, MayTouch, MayTouchAll}
 use Rattle.world_view.specs.Cost.{hierarchy, region, own_colour}
 use Rattle.world_view.specs.Event.{call_touches, delivery_touches}
 use Rattle.world_view.specs.Relations.{IsOwnFrame, IsKernel, MayAll}
+use Rattle.cache_sharing.proofs.OwnTouches.{may_append}
 use Rattle.world_view.proofs.TableLaws.{mine_own}
 use Rattle.world_view.proofs.Lines.{own_line, is_shared}
-
-pub may_append : (p : Hardware) (o : Own) (ts us : List Touch) → MayAll p o ts → MayAll p o us → MayAll p o (ts ++ us)
-may_append p o [] us h k = k
-may_append p o (t ∷ ts) us h k = (h.0, may_append p o ts us h.1 k)
 
 module _ (p : Hardware) (o : Own) where
   -- the frame that was zeroed, and those of the entries that were written, are the domain's
@@ -106,4 +103,4 @@ module _ (p : Hardware) (o : Own) where
   unfolding call_touches operation work_of
   call_may kernel number ns all =
       let own : MayAll p o (operation p.costs (layout p o) (work_of number ns)) = (tt, footprint_may kernel (work_of number ns) (own_zeroed ns all) (own_entries ns all) (region p) (λ line h. is_shared p o h.shared.0 line h.shared.1 h.shared.2)) in
-      may_append p o (operation p.costs (layout p o) (work_of number ns)) (if empties ns then EmptyTlb ∷ [] else []) own (may_empty (empties ns))
+      may_append (hierarchy p) (own_colour o) (region p) (operation p.costs (layout p o) (work_of number ns)) (if empties ns then EmptyTlb ∷ [] else []) own (may_empty (empties ns))

@@ -20,7 +20,9 @@ pub mod OpeningFacts
 pub mod OpenedWalks
 pub mod FactsLaws
 pub mod ResidencyLaws
+pub mod ForGood
 pub mod SwitchParts
+pub mod KernelSets
 pub mod SwitchLaws
 pub mod WholeLaws
 pub mod CodeLaws

@@ -17,6 +17,7 @@ use Rattle.world_view.specs.Event.{Storage, instruction, delivery_touches, Event
 use Rattle.world_view.specs.Event.Event.{Jump, Deliver, Run}
 use Rattle.world_view.specs.Machine.{Local, paid, delivered, happened, step, steps, stretch}
 use Rattle.world_view.specs.Relations.{IsKernel, HasFacts, SameSets, MayAll, Resident, BesideStorage, BesideCaches, Beside}
+use Rattle.world_view.specs.EventLaws.{event_touches, step_touches, StepTouchesLaw}
 use Rattle.world_view.proofs.Fuel.{steps_by}
 use Rattle.world_view.proofs.CostLaws.{own_touches, own_resident, others_touches}
 use Rattle.world_view.proofs.ActLaws.{Known, Alike, instruction_near}
@@ -114,6 +115,15 @@ module _ (p : Hardware) (o : Own) (kernel : IsKernel p o) where
   pub may_run : (t : ℕ) (s : Local) → HasFacts p o s.dom s.storage → MayAll p o (instruction p (estate p o) (layout p o) t s.dom s.storage).notes
   may_run t s facts = (ran t s.storage s (record { facts = facts; outside = λ f out. refl })).may
 
+  touches_if : (s : Local) (e : Event) → HasFacts p o s.dom s.storage → MayAll p o (event_touches p o s e)
+  touches_if s (Jump t) facts = tt
+  touches_if s (Deliver line) facts = delivery_may p o kernel
+  touches_if s Run facts = may_run s.clock s facts
+
+  -- and so it does in any step
+  pub step_may : (end : ℕ) (s : Local) → HasFacts p o s.dom s.storage → MayAll p o (step_touches p o end s)
+  step_may end s facts = touches_if s (event o s.clock end s.dom) facts
+
   keeps_if : (pinned : Bool) (first : Storage) (s : Local) (e : Event) → Keeps p o first s → Keeps p o first (happened p o pinned s e)
   unfolding happened paid delivered
   keeps_if pinned first s (Jump t) h = record { facts = h.facts; outside = h.outside }
@@ -177,6 +187,19 @@ module _ (p : Hardware) (o : Own) (kernel : IsKernel p o) where
           keeps = record { facts = (step_keeps false end t.storage t h.keeps).facts; outside = λ f out. refl };
           sets = λ m own. step_others end t h.keeps.facts m own ∙ h.sets m own;
         }) n s (record { keeps = record { facts = facts; outside = λ f out. refl }; sets = λ m own. refl })).sets
+
+-- ---- what a step does to the caches
+
+caches_if : (p : Hardware) (o : Own) (pinned : Bool) (s : Local) (e : Event)
+    → (happened p o pinned s e).caches ≡ (touched_all (hierarchy p) pinned s.caches (event_touches p o s e)).caches
+unfolding happened paid delivered touched_all
+caches_if p o pinned s (Jump t) = refl
+caches_if p o pinned s (Deliver line) = refl
+caches_if p o pinned s Run = refl
+
+pub step_caches : StepTouchesLaw
+unfolding step
+step_caches p o pinned end s = caches_if p o pinned s (event o s.clock end s.dom)
 
 -- ---- a state and itself
 

@@ -21,7 +21,7 @@ unfolding leave_part operations.leave_if touched_all
 leave_is i None c = refl
 leave_is i (Some d) c = refl
 
-region_is : (p : Hardware) (o : Own) → shared_region (layout p o) ≡ region p
+pub region_is : (p : Hardware) (o : Own) → shared_region (layout p o) ≡ region p
 unfolding region shared_region layout
 region_is p o = refl
 

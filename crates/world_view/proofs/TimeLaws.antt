@@ -2,7 +2,10 @@
 use Rattle.std.proofs.Common.{◌≡◌, ℕ, Bool, true, false, cond, eqb, eqb-true, ltb, max, subst, sym, ap, ◌∙◌, zero, suc, ◌+◌, ◌-◌, ◌<◌, ◌≤◌, List, [], ◌∷◌, ◌++◌, length, refl, arith, ltb-true}
 use Rattle.std.proofs.lemmas.Bool.Decides.{nat_tests}
 use Rattle.std.proofs.lemmas.List.{length-replicate}
-use Rattle.std.specs.Prelude.{None}
+use Rattle.std.specs.Prelude.{Some, None, ◌≢◌}
+use Rattle.rv_decode.specs.declared.Instr.TheVariants.{Ecall}
+use Rattle.pad_bound.specs.Bound.{worst_instruction}
+use Rattle.image_check.specs.Pads.{shape_of}
 use Rattle.tp_base.specs.Table.{at-empty}
 use Rattle.set_cache.specs.Cache.{CacheSet, fresh_set}
 use Rattle.mem_system.specs.Cost.{Touched, cold, fresh_core}
@@ -23,9 +26,48 @@ use Rattle.world_view.specs.Machine.{Local, World, paid, delivered, happened, st
 use Rattle.world_view.specs.Used.{largest_of}
 use Rattle.world_view.specs.Relations.{largest_step, bound, InTime, AllWithinPads}
 use Rattle.world_view.proofs.Separate.{Separated}
-use Rattle.world_view.proofs.Fuel.{IsTimed, StaysWithin, event_within, step_later, steps_by}
-use Rattle.world_view.proofs.ActCosts.{instruction_within, delivery_within}
+use Rattle.world_view.specs.Laws.{local_in}
+use Rattle.world_view.specs.EventLaws.{EndsBy, next_instruction, StepCostLaw, PlainCostLaw}
+use Rattle.world_view.proofs.Fuel.{IsTimed, StaysWithin, event_within, step_later, steps_by, one_more_by}
+use Rattle.world_view.proofs.ActCosts.{instruction_within, delivery_within, plain_within}
 use Rattle.world_view.proofs.SwitchParts.{all_touches, switch_is}
+
+-- ---- a step, from any caches
+
+-- what an event costs at most
+costs_if : (p : Hardware) (o : Own) (pinned : Bool) (end : ℕ) (s : Local) (e : Event) → HasWays (hierarchy p) s.caches → StaysWithin end e
+    → EndsBy p s.clock end e (happened p o pinned s e).clock
+unfolding happened paid delivered
+costs_if p o pinned end s (Jump t) ways stays = stays
+costs_if p o pinned end s (Deliver line) ways stays =
+    let within = delivery_within p o in
+    let cost = (worst_law (hierarchy p) pinned (delivery_touches p (layout p o)) s.caches ways).cost in
+    omega (arith, within, cost)
+costs_if p o pinned end s Run ways stays =
+    let ts = (instruction p (estate p o) (layout p o) s.clock s.dom s.storage).notes in
+    let within = instruction_within p o s.clock s.dom s.storage in
+    let cost = (worst_law (hierarchy p) pinned ts s.caches ways).cost in
+    omega (arith, within, cost)
+
+pub step_costs : StepCostLaw
+unfolding step
+step_costs p o pinned end s ways = costs_if p o pinned end s (event o s.clock end s.dom) ways (event_within o s.clock end s.dom)
+
+-- an instruction that makes no call is within the bound's
+plain_if : (p : Hardware) (o : Own) (pinned : Bool) (s : Local) (e : Event) → HasWays (hierarchy p) s.caches → e ≡ Run
+    → next_instruction p o s.dom s.storage.mem ≢ Some Ecall → (happened p o pinned s e).clock ≤ s.clock + worst_instruction (shape_of p)
+unfolding happened paid
+plain_if p o pinned s (Jump t) ways is plain = absurd (cc is)
+plain_if p o pinned s (Deliver line) ways is plain = absurd (cc is)
+plain_if p o pinned s Run ways is plain =
+    let ts = (instruction p (estate p o) (layout p o) s.clock s.dom s.storage).notes in
+    let within = plain_within p o s.clock s.dom s.storage plain in
+    let cost = (worst_law (hierarchy p) pinned ts s.caches ways).cost in
+    omega (arith, within, cost)
+
+pub plain_costs : PlainCostLaw
+unfolding step
+plain_costs p o pinned end s ways is plain = plain_if p o pinned s (event o s.clock end s.dom) ways is plain
 
 -- ---- a slot
 
@@ -42,16 +84,12 @@ module _ (p : Hardware) (timed : IsTimed p) (o : Own) (pinned : Bool) (end : ℕ
       let base = timed.base in
       record { clock = omega (arith, base, within, stays); ways = ways }
   soon_if s (Deliver line) below ways stays =
-      let within = delivery_within p o in
-      let paid = worst_law (hierarchy p) pinned (delivery_touches p (layout p o)) s.caches ways in
-      let cost = paid.cost in
-      record { clock = omega (arith, below, within, cost); ways = paid.ways }
+      let costs = costs_if p o pinned end s (Deliver line) ways stays in
+      record { clock = omega (arith, below, costs); ways = (worst_law (hierarchy p) pinned (delivery_touches p (layout p o)) s.caches ways).ways }
   soon_if s Run below ways stays =
       let ts = (instruction p (estate p o) (layout p o) s.clock s.dom s.storage).notes in
-      let within = instruction_within p o s.clock s.dom s.storage in
-      let paid = worst_law (hierarchy p) pinned ts s.caches ways in
-      let cost = paid.cost in
-      record { clock = omega (arith, below, within, cost); ways = paid.ways }
+      let costs = costs_if p o pinned end s Run ways stays in
+      record { clock = omega (arith, below, costs); ways = (worst_law (hierarchy p) pinned ts s.caches ways).ways }
 
   -- a step that begins in time ends past the end by less than the largest step
   step_soon : (s : Local) → s.clock < end → IsSoon s → IsSoon (step p o pinned end s)
@@ -129,20 +167,28 @@ switch_on_start i k w padded time =
 -- ---- all slots
 
 module _ (i : Image) (r : Separated i) where
+  -- a slot begins before its end
+  begins_soon : (k : ℕ) → InTime i k (whole i k)
+      → let d = (entry_of_slot i.all.schedule k).domain in
+      IsSoon i.all.hardware r.timed (own_of i d) false (slot_end i.all.schedule k) (part_of d (switch i k (whole i k)))
+  begins_soon k time =
+      let p = i.all.hardware in
+      let d = (entry_of_slot i.all.schedule k).domain in
+      let begun = part_of d (switch i k (whole i k)) in
+      let at = switch_on_start i k (whole i k) (r.padded k) time in
+      let within = instruction_within p (own_of i d) 0 begun.dom begun.storage in
+      let base = r.timed.base in
+      record { clock = omega (arith, at, within, base); ways = switch_ways i k (whole i k) time.ways }
+
   slot_in_time : (k : ℕ) → InTime i k (whole i k) → InTime i (suc k) (whole i (suc k))
   unfolding whole run_slot with_part
   slot_in_time k time =
       let p = i.all.hardware in
-      let es = i.all.schedule in
-      let o = own_of i (entry_of_slot es k).domain in
-      let begun = part_of (entry_of_slot es k).domain (switch i k (whole i k)) in
-      let at = switch_on_start i k (whole i k) (r.padded k) time in
-      let within = instruction_within p o 0 begun.dom begun.storage in
-      let timed = r.timed in
-      let base = timed.base in
-      let early : (switch i k (whole i k)).clock < slot_end es k + largest_step p = omega (arith, at, within, base) in
-      let ends = stretch_soon p timed o false (slot_end es k) begun (record { clock = early; ways = switch_ways i k (whole i k) time.ways }) in
-      record { over = stretch_over p timed o false (slot_end es k) begun; soon = ends.clock; ways = ends.ways }
+      let end = slot_end i.all.schedule k in
+      let d = (entry_of_slot i.all.schedule k).domain in
+      let begun = part_of d (switch i k (whole i k)) in
+      let ends = stretch_soon p r.timed (own_of i d) false end begun (begins_soon k time) in
+      record { over = stretch_over p r.timed (own_of i d) false end begun; soon = ends.clock; ways = ends.ways }
 
   pub in_time : (k : ℕ) → InTime i k (whole i k)
   unfolding whole opening
@@ -154,6 +200,30 @@ module _ (i : Image) (r : Separated i) where
 
   pub on_time : (k : ℕ) → (switch i k (whole i k)).clock ≡ start i.all.schedule k
   on_time k = switch_on_start i k (whole i k) (r.padded k) (in_time k)
+
+  -- at each moment of a slot
+  soon_in : (k n : ℕ) → IsSoon i.all.hardware r.timed (own_of i (entry_of_slot i.all.schedule k).domain) false (slot_end i.all.schedule k) (local_in i k n)
+  soon_in k n =
+      let d = (entry_of_slot i.all.schedule k).domain in
+      steps_soon i.all.hardware r.timed (own_of i d) false (slot_end i.all.schedule k) n (part_of d (switch i k (whole i k))) (begins_soon k (in_time k))
+
+  Timely : ℕ → Local → Local → Type 0
+  Timely k s t =
+      let end = slot_end i.all.schedule k in
+      s.clock < end → HasWays (hierarchy i.all.hardware) s.caches
+      → EndsBy i.all.hardware s.clock end (event (own_of i (entry_of_slot i.all.schedule k).domain) s.clock end s.dom) t.clock
+
+  pub slot_costs : (k n : ℕ) → (local_in i k n).clock < slot_end i.all.schedule k →
+      let s = local_in i k n in
+      let end = slot_end i.all.schedule k in
+      EndsBy i.all.hardware s.clock end (event (own_of i (entry_of_slot i.all.schedule k).domain) s.clock end s.dom) (local_in i k (suc n)).clock
+  unfolding Timely
+  slot_costs k n below =
+      let p = i.all.hardware in
+      let o = own_of i (entry_of_slot i.all.schedule k).domain in
+      let end = slot_end i.all.schedule k in
+      one_more_by p o false end (Timely k) (λ s early _ ways. step_costs p o false end s ways) (λ s past early ways. absurd (omega (arith, past, early)))
+      n (part_of (entry_of_slot i.all.schedule k).domain (switch i k (whole i k))) below (soon_in k n).ways
 
 within_append : (es : List Entry) (us vs : List (ℕ × ℕ)) → AllWithinPads es us → AllWithinPads es vs → AllWithinPads es (us ++ vs)
 within_append es [] vs h k = k

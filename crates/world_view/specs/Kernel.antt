@@ -96,6 +96,14 @@ layout p o = record {
   colours = colours_of p;
 }
 
+-- ---- its frames for good: those of its kernel clone, its root, its first tables, and its pages that no capability names
+
+abbrev pub frames_for_good : Hardware → Own → List ℕ
+frames_for_good p o =
+    let l = layout p o in
+    l.text ∷ l.more_text ∷ l.stack ∷ l.data_frame ∷ root_of p o
+    ∷ (map (table_frame p o) (first_regions o) ++ map (page_frame p o) (kept_pages o))
+
 -- where no domain is
 unfoldable pub no_dom : Dom
 no_dom = record (domain.opening 0 []) { status = Exited 0 }

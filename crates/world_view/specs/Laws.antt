@@ -1,5 +1,5 @@
 -- The laws of the machine over its definitions, each as a type; they are the clauses of the functions of `laws`.
-use Rattle.std.specs.Prelude.{◌≡◌, ◌≢◌, ℕ, true, false, ◌+◌, ◌/◌, ◌%◌, ◌<◌, ◌≤◌, ◌^◌, ◌⊎◌, List, ◌∷◌, ◌++◌, length, Some, None, Result, Ok, Err}
+use Rattle.std.specs.Prelude.{◌≡◌, ◌≢◌, ℕ, true, false, ◌+◌, ◌/◌, ◌%◌, ◌<◌, ◌≤◌, ◌^◌, ◌⊎◌, List, ◌∷◌, ◌++◌, length, Some, None, Result, Ok, Err, take, All}
 use Rattle.image_check.specs.declared.own.Rights.{Rights}
 use Rattle.hardware_check.specs.Hardware.{Hardware, colours_of}
 use Rattle.sched_table.specs.Schedule.{entry_in}
@@ -16,12 +16,16 @@ use Rattle.world_view.specs.Frames.{own_frame, pool, pool_frame, root_of, page_f
 use Rattle.world_view.specs.Opening.{rights_in, rights_number}
 use Rattle.world_view.specs.Reading.{image}
 use Rattle.sched_table.specs.Schedule.{entry_of_slot, start, slot_end, outgoing}
-use Rattle.mem_system.specs.Cost.{Caches}
-use Rattle.world_view.specs.Machine.{Local, World, step, steps, dom_of, part_of, with_part, leave_part, enter_part, prefetch_part, flush_part, switch_work, switch, whole, alone_enter, alone_out}
+use Rattle.mem_system.specs.Cost.{Touch, Caches, touched_all}
+use Rattle.cache_sharing.specs.Operations as operations
+use Rattle.cache_sharing.specs.Sharing.{kept_at}
+use Rattle.world_view.specs.Cost.{hierarchy}
+use Rattle.world_view.specs.Kernel.{layout, frames_for_good}
+use Rattle.world_view.specs.Machine.{Local, World, step, steps, dom_of, part_of, with_part, clone_of, leave_part, enter_part, prefetch_part, flush_part, switch_work, switch, whole, alone_enter, alone_out}
 use Rattle.world_view.specs.View.{view_whole, view_alone}
 use Rattle.world_view.specs.Used.{largest_of}
 use Rattle.image_check.specs.Laws.{Runnable}
-use Rattle.world_view.specs.Relations.{IsDomain, IsOwnFrame, Agree, SameSets, Resident, IsKernel, HasFacts, ReachesOwn, Beside, Within, Apiece, Untouched, InTime, AllWithinPads}
+use Rattle.world_view.specs.Relations.{IsDomain, IsOwnFrame, Agree, SameSets, Resident, KeepsSharedAlone, IsKernel, IsForGood, HasFacts, ReachesOwn, Beside, Within, Apiece, Untouched, InTime, AllWithinPads}
 
 -- ---- isolation
 
@@ -166,6 +170,11 @@ NoAccessFaultLaw = (i : Image) (k n d va : ℕ) (a : Access) → Runnable i → 
 abbrev pub KernelLaw : Type 0
 KernelLaw = (i : Image) (d : ℕ) → Runnable i → IsDomain i d → IsKernel i.all.hardware (own_of i d)
 
+-- at each moment of each slot, whoever runs, each domain still has its frames for good
+abbrev pub ForGoodLaw : Type 0
+ForGoodLaw = (i : Image) (k n d : ℕ) → Runnable i → IsDomain i d
+    → All (IsForGood i.all.hardware (own_of i d) (dom_of (world_in i k n) d)) (frames_for_good i.all.hardware (own_of i d))
+
 -- every image that breaks no rule may be run
 abbrev pub ReadingLaw : Type 0
 ReadingLaw = (bytes : List ℕ) (i : Image) → image bytes ≡ Ok i → Runnable i
@@ -237,3 +246,33 @@ SwitchPastLaw = (i : Image) (k d : ℕ) (w : World) (a : Local) → Runnable i �
 -- from the boot on, at each moment of each slot, every shared line is in the second level
 abbrev pub ResidencyLaw : Type 0
 ResidencyLaw = (i : Image) (k n : ℕ) → Runnable i → Resident i.all.hardware (local_in i k n).caches
+
+-- ---- the sets of colour 0, the kernel's
+
+-- before the boot no set of the second level keeps a line
+abbrev pub EmptyLaw : Type 0
+EmptyLaw = (i : Image) (s way : ℕ) → kept_at (hierarchy i.all.hardware) (whole i 0).caches.l2 s way ≡ None
+
+-- all that switch k touches, in order
+abbrev pub switch_touches : Image → ℕ → List Touch
+switch_touches i k =
+    let p = i.all.hardware in
+    let es = i.all.schedule in
+    operations.switch p.costs (clone_of i (outgoing es k)) (layout p (own_of i (entry_of_slot es k).domain))
+
+-- the caches in the midst of switch k, after so many of its touches
+abbrev pub caches_in_switch : Image → ℕ → ℕ → Caches
+caches_in_switch i k n = (touched_all (hierarchy i.all.hardware) false (whole i k).caches (take n (switch_touches i k))).caches
+
+-- after all of them the slot begins
+abbrev pub AfterSwitchLaw : Type 0
+AfterSwitchLaw = (i : Image) (k : ℕ) → Runnable i
+    → caches_in_switch i k (length (switch_touches i k)) ≡ (switch i k (whole i k)).caches
+
+-- at each moment of each switch, from the boot on, the sets of colour 0 keep shared lines alone
+abbrev pub SwitchAloneLaw : Type 0
+SwitchAloneLaw = (i : Image) (k n : ℕ) → Runnable i → KeepsSharedAlone i.all.hardware (caches_in_switch i k n)
+
+-- and at each moment of each slot
+abbrev pub SlotAloneLaw : Type 0
+SlotAloneLaw = (i : Image) (k n : ℕ) → Runnable i → KeepsSharedAlone i.all.hardware (local_in i k n).caches

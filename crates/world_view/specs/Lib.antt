@@ -13,4 +13,5 @@ pub mod Models
 pub mod Relations
 pub mod Laws
 pub mod Interrupts
+pub mod EventLaws
 pub mod Example

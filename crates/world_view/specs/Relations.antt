@@ -7,8 +7,10 @@ use Rattle.mem_system.specs.Cost.{Touch, Caches}
 use Rattle.cache_sharing.specs.Sharing as sharing
 use Rattle.cache_sharing.specs.Worst.{HasWays}
 use Rattle.call_table.specs.Domain.{Dom}
-use Rattle.call_table.specs.Claims.{IsEstate}
+use Rattle.cap_table.specs.Owning.{IsUnnamed}
+use Rattle.call_table.specs.Claims.{IsEstate, free_frames}
 use Rattle.call_table.specs.Laws.{Kept, HasPageTables}
+use Rattle.frame_colours.specs.Colours.{has}
 use Rattle.hardware_check.specs.Hardware.{Hardware}
 use Rattle.sched_table.specs.declared.schedule.Entry.{Entry}
 use Rattle.sched_table.specs.Schedule.{entry_in}
@@ -58,6 +60,10 @@ SameSets p o c k = sharing.SameSets (hierarchy p) (own_colour o) c.l2 k.l2
 abbrev pub Resident : Hardware → Caches → Type 0
 Resident p c = sharing.Resident (hierarchy p) (region p) c.l2
 
+-- the second level's sets of colour 0, the kernel's, keep lines that the domains share alone
+abbrev pub KeepsSharedAlone : Hardware → Caches → Type 0
+KeepsSharedAlone p c = sharing.KeepsSharedAlone (hierarchy p) (region p) c.l2
+
 -- what a domain, and the kernel for it, may touch: lines of its colours, and loads of what all share
 abbrev pub MayAll : Hardware → Own → List Touch → Type 0
 MayAll p o touches = sharing.MayTouchAll (hierarchy p) (own_colour o) (region p) touches
@@ -74,6 +80,12 @@ pub record IsKernel (p : Hardware) (o : Own) : Type 0 where
   pub stack : IsOwnFrame p o (layout p o).stack
   pub data_frame : IsOwnFrame p o (layout p o).data_frame
   pub shares : sharing.IsSharing (hierarchy p) (own_colour o) (region p)
+
+-- a frame that the domain has for good, in this state of it: its own, named by no capability, and never free
+pub record IsForGood (p : Hardware) (o : Own) (d : Dom) (f : ℕ) : Type 0 where
+  pub own : IsOwnFrame p o f
+  pub unnamed : IsUnnamed d.caps f
+  pub taken : has (free_frames (estate p o) d.caps) f ≡ false
 
 -- the facts of the domain's frames and page tables hold of this state of it, in this memory
 abbrev pub HasFacts : Hardware → Own → Dom → Storage → Type 0

@@ -1,7 +1,8 @@
 //! Laws of the machine over its definitions, each the contract of a function
 //! that does nothing: a caller that calls it may rely on the law.
+ghost use Rattle.world_view.specs.EventLaws.{StepTouchesLaw, OwnTouchesLaw, SlotTouchesLaw, StepCostLaw, PlainCostLaw, SlotCostLaw};
 ghost use Rattle.world_view.specs.Interrupts.{DueLaw, PromptLaw, FewLaw, AscendLaw, OwnSlotsLaw, TurnLaw, WakeLaw};
-ghost use Rattle.world_view.specs.Laws.{ReadingLaw, IsolationLaw, TwoRunLaw, PadLaw, LargestLaw, StartLaw, InTimeLaw, ClockLaw, OpeningPageLaw, OpeningRightsLaw, OpeningNoPageLaw, OpeningFramesLaw, OpeningZeroLaw, OpeningElsewhereLaw, PoolsApartLaw, KernelColourLaw, PoolPartsLaw, FactsLaw, ReachLaw, NoAccessFaultLaw, KernelLaw, OthersStepLaw, OthersLeaveLaw, OthersEnterLaw, PrefetchLaw, FlushLaw, OwnStepLaw, SwitchOutLaw, SwitchInLaw, SwitchBothLaw, SwitchPastLaw, ResidencyLaw};
+ghost use Rattle.world_view.specs.Laws.{ReadingLaw, IsolationLaw, TwoRunLaw, PadLaw, LargestLaw, StartLaw, InTimeLaw, ClockLaw, OpeningPageLaw, OpeningRightsLaw, OpeningNoPageLaw, OpeningFramesLaw, OpeningZeroLaw, OpeningElsewhereLaw, PoolsApartLaw, KernelColourLaw, PoolPartsLaw, FactsLaw, ReachLaw, NoAccessFaultLaw, KernelLaw, OthersStepLaw, OthersLeaveLaw, OthersEnterLaw, PrefetchLaw, FlushLaw, OwnStepLaw, SwitchOutLaw, SwitchInLaw, SwitchBothLaw, SwitchPastLaw, ResidencyLaw, ForGoodLaw, EmptyLaw, AfterSwitchLaw, SwitchAloneLaw, SlotAloneLaw};
 
 /// Every image of the form that is read may be run, and its numbers are within the limits.
 pub fn reading()
@@ -58,9 +59,30 @@ pub fn reach()
 {}
 
 /// What the kernel has of each domain is as it should be: whose frames are
-/// claimed for good, and where its kernel clone lies.
+/// claimed for good, and where its kernel clone lies. What is claimed for good,
+/// the frames of the clone, the root, the first tables and the pages that no
+/// capability names, is so at each moment of each slot: they are the domain's own,
+/// no capability names them, and none is free.
 pub fn kernels()
     ensures kernel { KernelLaw }
+    ensures for_good { ForGoodLaw }
+{}
+
+/// All that an event does to the caches are its touches, and each is of a line of
+/// the domain's own, or a load of a line that all share.
+pub fn touches()
+    ensures all { StepTouchesLaw }
+    ensures own { OwnTouchesLaw }
+    ensures in_slots { SlotTouchesLaw }
+{}
+
+/// What an event costs at most, whatever the caches hold: an instruction the
+/// bound's part for one, and with its kernel call that and the part for an
+/// operation; a delivery the part for an operation; a jump ends with the slot.
+pub fn costs()
+    ensures step { StepCostLaw }
+    ensures plain { PlainCostLaw }
+    ensures in_slots { SlotCostLaw }
 {}
 
 /// An event of another domain leaves a domain, its memory and its part of the
@@ -89,6 +111,16 @@ pub fn switches()
 /// What the domains share stays where every domain finds it.
 pub fn residency()
     ensures resident { ResidencyLaw }
+{}
+
+/// The second level's sets of colour 0, the kernel's, keep lines that all share
+/// alone, at each moment of each switch and of each slot; before the boot no set
+/// keeps a line.
+pub fn kernel_sets()
+    ensures empty { EmptyLaw }
+    ensures after_switch { AfterSwitchLaw }
+    ensures in_switches { SwitchAloneLaw }
+    ensures in_slots { SlotAloneLaw }
 {}
 
 /// Each moment of a domain is delivered once, in the moments' order, in a slot of

@@ -1,0 +1,94 @@
+-- One event of a domain in its slot, as laws: what it touches, and what it costs at most.
+use Rattle.std.specs.Prelude.{◌≡◌, ◌≢◌, ℕ, suc, ◌+◌, ◌<◌, ◌≤◌, Bool, List, [], Option, Some, None, Result, Ok, Err}
+use Rattle.phys_mem.specs.Mem.{Mem, word}
+use Rattle.rv_decode.specs.Table.{decode_of}
+use Rattle.rv_decode.specs.declared.Instr.{Instr}
+use Rattle.rv_decode.specs.declared.Instr.TheVariants.{Ecall}
+use Rattle.sv32_walk.specs.declared.access.Access.TheVariants.{Fetch}
+use Rattle.sv32_walk.specs.declared.access.WalkFault.{WalkFault}
+use Rattle.sv32_walk.specs.PageTableEntry.{ppn}
+use Rattle.sv32_walk.specs.Walk.{walk}
+use Rattle.pad_bound.specs.Bound.{worst_instruction, worst_operation}
+use Rattle.mem_system.specs.Cost.{Touch, touched_all}
+use Rattle.cache_sharing.specs.Worst.{HasWays}
+use Rattle.sched_table.specs.Schedule.{slot_end}
+use Rattle.call_table.specs.Domain.{Dom}
+use Rattle.hardware_check.specs.Hardware.{Hardware}
+use Rattle.image_check.specs.Own.{Own}
+use Rattle.image_check.specs.Image.{Image, own_of}
+use Rattle.image_check.specs.Laws.{Runnable}
+use Rattle.image_check.specs.Pads.{shape_of}
+use Rattle.world_view.specs.Frames.{root_of}
+use Rattle.world_view.specs.Kernel.{estate, layout}
+use Rattle.world_view.specs.Cost.{hierarchy}
+use Rattle.world_view.specs.Event.{place, instruction, delivery_touches, Event, event}
+use Rattle.world_view.specs.Event.Event.{Jump, Deliver, Run}
+use Rattle.world_view.specs.Machine.{Local, step}
+use Rattle.world_view.specs.Relations.{IsDomain, HasFacts, MayAll}
+use Rattle.world_view.specs.Laws.{local_in}
+use Rattle.world_view.specs.Interrupts.{owner}
+
+-- ---- what it touches
+
+-- in order; a jump touches nothing
+abbrev pub event_touches : Hardware → Own → Local → Event → List Touch
+event_touches p o s (Jump t) = []
+event_touches p o s (Deliver line) = delivery_touches p (layout p o)
+event_touches p o s Run = (instruction p (estate p o) (layout p o) s.clock s.dom s.storage).notes
+
+-- the next step, in a slot that ends then
+abbrev pub step_touches : Hardware → Own → ℕ → Local → List Touch
+step_touches p o end s = event_touches p o s (event o s.clock end s.dom)
+
+-- they are all that a step does to the caches
+abbrev pub StepTouchesLaw : Type 0
+StepTouchesLaw = (p : Hardware) (o : Own) (pinned : Bool) (end : ℕ) (s : Local)
+    → (step p o pinned end s).caches ≡ (touched_all (hierarchy p) pinned s.caches (step_touches p o end s)).caches
+
+-- where the domain's facts hold, each is of a line of the domain's own, or a load of a shared line
+abbrev pub OwnTouchesLaw : Type 0
+OwnTouchesLaw = (i : Image) (d end : ℕ) (s : Local) → Runnable i → IsDomain i d
+    → HasFacts i.all.hardware (own_of i d) s.dom s.storage
+    → MayAll i.all.hardware (own_of i d) (step_touches i.all.hardware (own_of i d) end s)
+
+-- so at each moment of each slot
+abbrev pub SlotTouchesLaw : Type 0
+SlotTouchesLaw = (i : Image) (k n : ℕ) → Runnable i
+    → MayAll i.all.hardware (owner i k) (step_touches i.all.hardware (owner i k) (slot_end i.all.schedule k) (local_in i k n))
+
+-- ---- what it costs at most, whatever the caches hold
+
+-- the clock after an event that began at `now`: a jump goes to the slot's end at the latest; a delivery takes the bound's
+-- operation at most, and an instruction, with its kernel call, the bound's instruction and operation
+abbrev pub EndsBy : Hardware → ℕ → ℕ → Event → ℕ → Type 0
+EndsBy p now end (Jump t) later = later ≤ end
+EndsBy p now end (Deliver line) later = later ≤ now + worst_operation (shape_of p)
+EndsBy p now end Run later = later ≤ now + (worst_instruction (shape_of p) + worst_operation (shape_of p))
+
+abbrev pub StepCostLaw : Type 0
+StepCostLaw = (p : Hardware) (o : Own) (pinned : Bool) (end : ℕ) (s : Local) → HasWays (hierarchy p) s.caches
+    → EndsBy p s.clock end (event o s.clock end s.dom) (step p o pinned end s).clock
+
+-- the instruction that a walk's leaf leads to, where it found one
+abbrev pub instruction_at : Mem → ℕ → Result ℕ WalkFault → Option Instr
+instruction_at m pc (Ok leaf) = decode_of (word m (ppn leaf) (place pc))
+instruction_at m pc (Err f) = None
+
+-- the one that the current thread runs next
+abbrev pub next_instruction : Hardware → Own → Dom → Mem → Option Instr
+next_instruction p o d m =
+    let pc = d.threads.current.pc in
+    instruction_at m pc (walk m p.frames (root_of p o) pc Fetch).result
+
+-- one that makes no kernel call takes the bound's instruction at most
+abbrev pub PlainCostLaw : Type 0
+PlainCostLaw = (p : Hardware) (o : Own) (pinned : Bool) (end : ℕ) (s : Local) → HasWays (hierarchy p) s.caches
+    → event o s.clock end s.dom ≡ Run → next_instruction p o s.dom s.storage.mem ≢ Some Ecall
+    → (step p o pinned end s).clock ≤ s.clock + worst_instruction (shape_of p)
+
+-- at each moment of each slot the caches have their ways, so each step costs no more
+abbrev pub SlotCostLaw : Type 0
+SlotCostLaw = (i : Image) (k n : ℕ) → Runnable i → (local_in i k n).clock < slot_end i.all.schedule k →
+    let s = local_in i k n in
+    let end = slot_end i.all.schedule k in
+    EndsBy i.all.hardware s.clock end (event (owner i k) s.clock end s.dom) (local_in i k (suc n)).clock
