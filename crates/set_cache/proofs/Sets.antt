@@ -12,98 +12,180 @@ use Rattle.tp_base.specs.Table.{put, empty, at-put_same, at-put_other, at-empty}
 use Rattle.set_cache.specs.Rule.{Rule}
 use Rattle.set_cache.specs.declared.Touch.{Touch}
 use Rattle.set_cache.specs.declared.KeptLine.{KeptLine}
-use Rattle.set_cache.specs.Cache.{CacheSet, Sets, set_at, step_of, step_by, touch_of, dirty_below, dirty_in, dirty_of, fresh_set, is_line, way_of}
+use Rattle.set_cache.specs.Cache.{CacheSet, Sets, SetStep, set_at, step_of, step_by, touch_of, dirty_below, dirty_in, dirty_of, fresh_set, is_line, way_of}
 use Rattle.set_cache.specs.Contents.{KeptSet, Contents, SetStands, SetSteps, StandsFor, CacheSteps, IsFresh, IsSound, IsOnce, IsHome, kept_at, shape_of}
 use Rattle.set_cache.specs.Lines.{MovesLines, MovesMarks, place_in, mark_of, mark_in, dirty_kept}
 use Rattle.set_cache.specs.Calls.{IsTouch}
 use Rattle.set_cache.proofs.Ways.{way_of_none, ways_of, some_at, kept_before, hit_answer, moves_same, marks_same}
 
 -- what holds of each element holds of one that was read
-pub read_at : {X : Type 0} (P : X → Type 0) (xs : List X) (i : ℕ) (x : X) → i < length xs → x ≡ get_or xs i x
+pub read_at : {X : Type 0} (P : X → Type 0) (xs : List X) (i : ℕ) (x : X) → i < length xs
+    → x ≡ get_or xs i x
     → ((k : ℕ) (d : X) → k < length xs → P (get_or xs k d)) → P x
 read_at P xs i x l e all = subst P (sym e) (all i x l)
+
+-- ---- a touch of one set
+
+-- a touch of a line: its set, by number, what that kept, what it keeps then, and the answer
+pub record OneTouch : Type 0 where
+  pub number : ℕ
+  pub store : Bool
+  pub answer : Touch
+  pub set : ℕ
+  pub old : KeptSet
+  pub new : KeptSet
+
+-- the set is the line's, in this table
+pub record IsOfTable (table : List KeptSet) (t : OneTouch) : Type 0 where
+  pub is : t.set ≡ t.number % length table
+  pub below : t.set < length table
+  pub read : t.old ≡ get_or table t.set t.old
+
+-- what is so of the set afterwards
+pub record LeavesSet (stands : ℕ → List ℕ → Type 0) (ways : ℕ) (t : OneTouch) : Type 0 where
+  pub full : length t.new.places ≡ ways
+  pub valid : (list : List ℕ) × stands t.new.state list
+  pub once : IsOnce t.new.places
+  pub moves : MovesLines t.answer t.number (ways_of t.old.places) (ways_of t.new.places)
+
+-- the set takes the definition's step
+pub record StepsSet (rule : Rule) (stands : ℕ → List ℕ → Type 0) (t : OneTouch) : Type 0 where
+  pub step : (s : CacheSet) → SetStands stands t.old s
+      → SetSteps stands t.answer t.new (step_of rule s t.number t.store)
+  pub marks : MovesMarks t.answer t.number t.store (mark_of t.old.places) (mark_of t.new.places)
+
+-- the cache with the set as it is then
+abbrev pub with_set : {P : Type 0} → Contents P → OneTouch → Contents P
+with_set cache t =
+    record { policy = cache.policy; ways = cache.ways; table = set cache.table t.set t.new }
+
+old_is : (table : List KeptSet) (t : OneTouch) → IsOfTable table t → t.old ≡ kept_at table t.set
+old_is table t at = at.read ∙ get_or_default table t.set t.old _ at.below
+
+-- ---- the sets that the table stands for
 
 set_at-put_same : (ways : ℕ) (sets : Sets) (s : ℕ) (v : CacheSet) → set_at ways (put sets s v) s ≡ v
 set_at-put_same ways sets s v = at-put_same (fresh_set ways) sets s v
 
-set_at-put_other : (ways : ℕ) (sets : Sets) (k s : ℕ) (v : CacheSet) → s ≢ k → set_at ways (put sets k v) s ≡ set_at ways sets s
+set_at-put_other : (ways : ℕ) (sets : Sets) (k s : ℕ) (v : CacheSet)
+    → s ≢ k → set_at ways (put sets k v) s ≡ set_at ways sets s
 set_at-put_other ways sets k s v n = at-put_other (fresh_set ways) sets k s v n
 
+-- a set that is written in the table and in the sets
+stands_put : (stands : ℕ → List ℕ → Type 0) (ways : ℕ) (table : List KeptSet) (sets : Sets)
+    (i : ℕ) (new : KeptSet) (next : CacheSet) → i < length table → SetStands stands new next
+    → ((k : ℕ) → k < length table → SetStands stands (kept_at table k) (set_at ways sets k))
+    → (k : ℕ) → k < length (set table i new)
+    → SetStands stands (kept_at (set table i new) k) (set_at ways (put sets i next) k)
+stands_put stands ways table sets i new next below for each k lt = elim (cases_eq k i) [
+  | inl same ↦
+      subst (λ (j : ℕ). SetStands stands (kept_at (set table i new) j) (set_at ways (put sets i next) j))
+      (sym same)
+      (rw (get_or-set_same table i new _ below, set_at-put_same ways sets i next) for)
+  | inr other ↦
+      rw (get_or-set_other table i k new _ other, set_at-put_other ways sets i k next other)
+      (each k (omega (arith, length-set table i new)))
+]
+
 -- a step of one set is a step of the cache
-pub table_steps : {P : Type 0} (stands : P → ℕ → ℕ → List ℕ → Type 0) (rule : P → ℕ → Rule) (policy : P) (ways : ℕ) (table : List KeptSet)
-    (i : ℕ) (old new : KeptSet) (answer : Touch) (number : ℕ) (store : Bool) (sets : Sets)
-    → i ≡ number % length table → i < length table → old ≡ get_or table i old
-    → ((s : CacheSet) → SetStands (stands policy ways) old s → SetSteps (stands policy ways) answer new (step_of (rule policy ways) s number store))
-    → StandsFor stands (record { policy = policy; ways = ways; table = table }) sets
-    → CacheSteps stands answer (record { policy = policy; ways = ways; table = set table i new })
-    (touch_of (shape_of rule (record { policy = policy; ways = ways; table = table })) sets number store)
-table_steps {P} stands rule policy ways table i old new answer number store sets is below read step for =
-    let here : old ≡ kept_at table i = read ∙ get_or_default table i old _ below in
-    let stands_here : SetStands (stands policy ways) old (set_at ways sets i) =
-    subst (λ (k : KeptSet). SetStands (stands policy ways) k (set_at ways sets i)) (sym here) (for.each i below) in
-    let s : SetSteps (stands policy ways) answer new (step_of (rule policy ways) (set_at ways sets i) number store) = step (set_at ways sets i) stands_here in
-    let next : CacheSet = (step_of (rule policy ways) (set_at ways sets i) number store).next in
-    let each : (k : ℕ) → k < length (set table i new) → SetStands (stands policy ways) (kept_at (set table i new) k) (set_at ways (put sets i next) k) =
-    λ k lt. elim (cases_eq k i) [
-      | inl same ↦
-          subst (λ (j : ℕ). SetStands (stands policy ways) (kept_at (set table i new) j) (set_at ways (put sets i next) j)) (sym same)
-          (rw (get_or-set_same table i new _ below, set_at-put_same ways sets i next) s.next)
-      | inr other ↦
-          rw (get_or-set_other table i k new _ other, set_at-put_other ways sets i k next other) (for.each k (omega (arith, length-set table i new)))
-    ] in
-    subst (λ (j : ℕ). CacheSteps {P = P} stands answer (record { policy = policy; ways = ways; table = set table i new })
-    (let step = step_of (rule policy ways) (set_at ways sets j) number store in record { answer = step.answer; next = put sets j step.next })) is
+table_steps : {P : Type 0} (rule : P → ℕ → Rule) (stands : P → ℕ → ℕ → List ℕ → Type 0)
+    (cache : Contents P) (t : OneTouch)
+    → IsOfTable cache.table t
+    → StepsSet (rule cache.policy cache.ways) (stands cache.policy cache.ways) t
+    → (sets : Sets) → StandsFor stands cache sets
+    → CacheSteps stands t.answer (with_set cache t) (touch_of (shape_of rule cache) sets t.number t.store)
+table_steps {P} rule stands cache t at steps sets for =
+    let of : ℕ → ℕ → List ℕ → Type 0 = stands cache.policy in
+    let step_at : ℕ → SetStep =
+    λ j. step_of (rule cache.policy cache.ways) (set_at cache.ways sets j) t.number t.store in
+    let old_stands : SetStands (of cache.ways) t.old (set_at cache.ways sets t.set) =
+    subst (λ (k : KeptSet). SetStands (of cache.ways) k (set_at cache.ways sets t.set))
+    (sym (old_is cache.table t at))
+    (for.each t.set at.below) in
+    let s : SetSteps (of cache.ways) t.answer t.new (step_at t.set) =
+    steps.step (set_at cache.ways sets t.set) old_stands in
+    let each =
+    stands_put (of cache.ways) cache.ways cache.table sets t.set t.new (step_at t.set).next at.below
+    s.next for.each in
+    subst (λ (j : ℕ). CacheSteps {P = P} stands t.answer (with_set cache t)
+    (record { answer = (step_at j).answer; next = put sets j (step_at j).next })) at.is
     (record { answered = s.answered; next = record { each = each } })
 
-pub fresh_stands : {P : Type 0} (stands : P → ℕ → ℕ → List ℕ → Type 0) (policy : P) (ways : ℕ) (table : List KeptSet)
-    → All (IsFresh (stands policy ways) ways) table → StandsFor stands (record { policy = policy; ways = ways; table = table }) empty
-fresh_stands stands policy ways table fresh = record {
-  each = λ s lt. rw (at-empty (fresh_set ways) s) (fresh s (record { places = []; state = 0 }) lt);
+-- ---- fresh sets
+
+pub fresh_stands : {P : Type 0} (stands : P → ℕ → ℕ → List ℕ → Type 0) (cache : Contents P)
+    → All (IsFresh (stands cache.policy cache.ways) cache.ways) cache.table
+    → StandsFor stands cache empty
+fresh_stands stands cache fresh = record {
+  each =
+      λ s lt. rw (at-empty (fresh_set cache.ways) s) (fresh s (record { places = []; state = 0 }) lt);
 }
 
-none_past : (number k : ℕ) → is_line number (get_or [] k None) ≡ false
+-- a way keeps the line, or doesn't
+abbrev KeepsLine : ℕ → ℕ → List (Option KeptLine) → Type 0
+KeepsLine number way places = is_line number (get_or places way None) ≡ true
+
+abbrev LacksLine : ℕ → ℕ → List (Option KeptLine) → Type 0
+LacksLine number way places = is_line number (get_or places way None) ≡ false
+
+none_past : (number k : ℕ) → LacksLine number k []
 none_past number k = ap (is_line number) (get_or_past [] k None (omega arith))
 
-none_fresh : (ways number k : ℕ) → is_line number (get_or (replicate ways None) k None) ≡ false
+none_fresh : (ways number k : ℕ) → LacksLine number k (replicate ways None)
 none_fresh zero number k = none_past number k
 none_fresh (suc ways) number zero = refl
 none_fresh (suc ways) number (suc k) = none_fresh ways number k
 
 -- nothing stands in a fresh set
-none_in_fresh : (stands : ℕ → List ℕ → Type 0) (ways : ℕ) (table : List KeptSet) → All (IsFresh stands ways) table
-    → (s number k : ℕ) → is_line number (get_or (kept_at table s).places k None) ≡ false
+none_in_fresh : (stands : ℕ → List ℕ → Type 0) (ways : ℕ) (table : List KeptSet)
+    → All (IsFresh stands ways) table
+    → (s number k : ℕ) → LacksLine number k (kept_at table s).places
 none_in_fresh stands ways table fresh s number k =
+    let blank : KeptSet = record { places = []; state = 0 } in
     elim (cases_lt s (length table)) [
-      | inl lt ↦ subst (λ (ps : List (Option KeptLine)). is_line number (get_or ps k None) ≡ false) (fresh s (record { places = []; state = 0 }) lt).same (none_fresh ways number k)
-      | inr ge ↦ rw (get_or_past table s (record { places = []; state = 0 }) ge) (none_past number k)
+      | inl lt ↦ subst (LacksLine number k) (fresh s blank lt).same (none_fresh ways number k)
+      | inr ge ↦ rw (get_or_past table s blank ge) (none_past number k)
     ]
 
 -- nothing stands in a fresh cache
-pub none-stands : {P : Type 0} (stands : P → ℕ → ℕ → List ℕ → Type 0) (contents : Contents P) → StandsFor stands contents empty → 0 < length contents.table
-    → (number : ℕ) → place_in contents number ≡ None
-none-stands stands contents for some number =
-    let ways : ℕ = contents.ways in
-    let s : ℕ = number % length contents.table in
-    let places : List (Option KeptLine) = (kept_at contents.table s).places in
-    let is : replicate ways None ≡ places = sym (ap (λ (set : CacheSet). set.places) (at-empty (fresh_set ways) s)) ∙ (for.each s (omega arith)).same in
-    let none : way_of number places ≡ None = way_of_none number places (λ k. subst (λ (ps : List (Option KeptLine)). is_line number (get_or ps k None) ≡ false) is (none_fresh ways number k)) in
-    ap (option_map (λ (way : ℕ). s * ways + way)) none
+pub none-stands : {P : Type 0} (stands : P → ℕ → ℕ → List ℕ → Type 0) (cache : Contents P)
+    → StandsFor stands cache empty → 0 < length cache.table → (number : ℕ)
+    → place_in cache number ≡ None
+none-stands stands cache for some number =
+    let s : ℕ = number % length cache.table in
+    let places : List (Option KeptLine) = (kept_at cache.table s).places in
+    let set : fresh_set cache.ways ≡ set_at cache.ways empty s =
+    sym (at-empty (fresh_set cache.ways) s) in
+    let is : replicate cache.ways None ≡ places =
+    ap (λ (c : CacheSet). c.places) set ∙ (for.each s (omega arith)).same in
+    let none : way_of number places ≡ None =
+    way_of_none number places
+    (λ k. subst (LacksLine number k) is (none_fresh cache.ways number k)) in
+    ap (option_map (λ (way : ℕ). s * cache.ways + way)) none
 
 -- fresh sets are sound
-pub fresh_sound : {P : Type 0} (takes : P → ℕ → Type 0) (stands : P → ℕ → ℕ → List ℕ → Type 0) (policy : P) (ways : ℕ) (table : List KeptSet)
-    → takes policy ways → IsPowerOfTwo (length table) → length table * ways < 2 ^ 32 → All (λ (kept : KeptSet). length kept.places ≡ ways) table
-    → All (IsFresh (stands policy ways) ways) table
-    → IsSound takes stands (record { policy = policy; ways = ways; table = table })
-fresh_sound takes stands policy ways table taken power small full fresh = record {
+pub fresh_sound : {P : Type 0} (takes : P → ℕ → Type 0) (stands : P → ℕ → ℕ → List ℕ → Type 0)
+    (cache : Contents P)
+    → takes cache.policy cache.ways → IsPowerOfTwo (length cache.table)
+    → length cache.table * cache.ways < 2 ^ 32
+    → All (λ (kept : KeptSet). length kept.places ≡ cache.ways) cache.table
+    → All (IsFresh (stands cache.policy cache.ways) cache.ways) cache.table
+    → IsSound takes stands cache
+fresh_sound takes stands cache taken power small full fresh = record {
   taken = taken;
   power = power;
   small = small;
   full = full;
   valid = λ k d lt. ([], (fresh k d lt).listed);
-  once = λ k d lt number i j hi hj. absurd (false≢true (
-      sym (subst (λ (ps : List (Option KeptLine)). is_line number (get_or ps i None) ≡ false) (fresh k d lt).same (none_fresh ways number i)) ∙ hi));
-  home = λ s number way t. absurd (false≢true (sym (none_in_fresh (stands policy ways) ways table fresh s number way) ∙ t));
+  once = λ k d lt number i j hi hj.
+      absurd
+      (false≢true (sym (subst (LacksLine number i) (fresh k d lt).same (none_fresh cache.ways number i)) ∙ hi));
+  home = λ s number way t.
+      absurd
+      (false≢true (sym (none_in_fresh (stands cache.policy cache.ways) cache.ways cache.table fresh s number way) ∙ t));
 }
+
+-- ---- what a touch of one set does to the lines of the whole table
 
 is_some-map : (f : ℕ → ℕ) (o : Option ℕ) → is_some (option_map f o) ≡ is_some o
 is_some-map f None = refl
@@ -114,76 +196,12 @@ some_way None t = absurd (false≢true t)
 some_way (Some way) t = (way, refl)
 
 -- a line that a set keeps is at home there
-at_home : (table : List KeptSet) (i : ℕ) (old : KeptSet) (number : ℕ) → old ≡ kept_at table i → IsHome table
-    → is_some (way_of number old.places) ≡ true → number % length table ≡ i
-at_home table i old number here home kept =
-    let found = some_way (way_of number old.places) kept in
-    let at = position-Some (is_line number) old.places found.0 None found.1 in
-    home i number found.0 (subst (λ (k : KeptSet). is_line number (get_or k.places found.0 None) ≡ true) here at.1)
-
--- what one set keeps after a touch of a line at home there is at home
-home_there : (table : List KeptSet) (i : ℕ) (old new : KeptSet) (answer : Touch) (number : ℕ) → IsHome table
-    → number % length table ≡ i → old ≡ kept_at table i → MovesLines answer number (ways_of old.places) (ways_of new.places)
-    → (other way : ℕ) → is_line other (get_or new.places way None) ≡ true → other % length table ≡ i
-home_there table i old new answer number home is here moves other way t =
-    elim (cases_eq other number) [
-      | inl touched ↦ ap (λ (n : ℕ). n % length table) touched ∙ is
-      | inr apart ↦
-          let kept : is_some (way_of other new.places) ≡ true = some_at other new.places way t in
-          at_home table i old other here home (sym (ap is_some (kept_before answer number (ways_of old.places) (ways_of new.places) moves other apart kept)) ∙ kept)
-    ]
-
--- a write of one set keeps the cache sound
-pub sound_put : {P : Type 0} (takes : P → ℕ → Type 0) (stands : P → ℕ → ℕ → List ℕ → Type 0) (policy : P) (ways : ℕ) (table : List KeptSet)
-    (i : ℕ) (old new : KeptSet) (answer : Touch) (number : ℕ)
-    → IsSound takes stands (record { policy = policy; ways = ways; table = table })
-    → i ≡ number % length table → i < length table → old ≡ get_or table i old
-    → length new.places ≡ ways → (list : List ℕ) × stands policy ways new.state list → IsOnce new.places
-    → MovesLines answer number (ways_of old.places) (ways_of new.places)
-    → IsSound takes stands (record { policy = policy; ways = ways; table = set table i new })
-sound_put takes stands policy ways table i old new answer number sound is below read full valid once moves =
-    let count : length (set table i new) ≡ length table = length-set table i new in
-    let here : old ≡ kept_at table i = read ∙ get_or_default table i old _ below in
-    record {
-      taken = sound.taken;
-      power = rw count sound.power;
-      small = rw count sound.small;
-      full = All-set (λ (k : KeptSet). length k.places ≡ ways) table i new full sound.full;
-      valid = All-set (λ (k : KeptSet). (list : List ℕ) × stands policy ways k.state list) table i new valid sound.valid;
-      once = All-set (λ (k : KeptSet). IsOnce k.places) table i new once sound.once;
-      home = λ s other way t.
-          ap (λ (n : ℕ). other % n) count ∙
-          elim (cases_eq s i) [
-            | inl same ↦
-                let u : is_line other (get_or new.places way None) ≡ true =
-                subst (λ (k : KeptSet). is_line other (get_or k.places way None) ≡ true) (get_or-set_same table i new _ below)
-                (subst (λ (j : ℕ). is_line other (get_or (kept_at (set table i new) j).places way None) ≡ true) same t) in
-                home_there table i old new answer number sound.home (sym is) here moves other way u ∙ sym same
-            | inr apart ↦
-                sound.home s other way (subst (λ (k : KeptSet). is_line other (get_or k.places way None) ≡ true) (get_or-set_other table i s new _ apart) t)
-          ];
-    }
-
--- ---- what is read of a line's set, before and after a write of one set
-
-of_old : {A : Type 0} (f : ℕ → KeptSet → A) (table : List KeptSet) (i : ℕ) (old : KeptSet) (number : ℕ) → old ≡ kept_at table i → number % length table ≡ i
-    → f (number % length table) (kept_at table (number % length table)) ≡ f i old
-of_old f table i old number here e = ap (λ (j : ℕ). f j (kept_at table j)) e ∙ ap (f i) (sym here)
-
-of_new : {A : Type 0} (f : ℕ → KeptSet → A) (table : List KeptSet) (i : ℕ) (new : KeptSet) (number : ℕ) → i < length table → number % length table ≡ i
-    → f (number % length (set table i new)) (kept_at (set table i new) (number % length (set table i new))) ≡ f i new
-of_new f table i new number below e =
-    let written : List KeptSet = set table i new in
-    ap (λ (n : ℕ). f (number % n) (kept_at written (number % n))) (length-set table i new)
-    ∙ ap (λ (j : ℕ). f j (kept_at written j)) e ∙ ap (f i) (get_or-set_same table i new _ below)
-
-of_else : {A : Type 0} (f : ℕ → KeptSet → A) (table : List KeptSet) (i : ℕ) (new : KeptSet) (number : ℕ) → number % length table ≢ i
-    → f (number % length (set table i new)) (kept_at (set table i new) (number % length (set table i new)))
-    ≡ f (number % length table) (kept_at table (number % length table))
-of_else f table i new number n =
-    let written : List KeptSet = set table i new in
-    ap (λ (m : ℕ). f (number % m) (kept_at written (number % m))) (length-set table i new)
-    ∙ ap (f (number % length table)) (get_or-set_other table i (number % length table) new _ n)
+at_home : (table : List KeptSet) (s number : ℕ) → IsHome table
+    → is_some (way_of number (kept_at table s).places) ≡ true → number % length table ≡ s
+at_home table s number home kept =
+    let places : List (Option KeptLine) = (kept_at table s).places in
+    let found = some_way (way_of number places) kept in
+    home s number found.0 (position-Some (is_line number) places found.0 None found.1).1
 
 -- the place of a line, and its mark, by its set and what is kept there
 abbrev place_by : ℕ → ℕ → ℕ → KeptSet → Option ℕ
@@ -192,117 +210,262 @@ place_by ways number s kept = option_map (λ (way : ℕ). s * ways + way) (way_o
 abbrev mark_by : ℕ → ℕ → KeptSet → Option Bool
 mark_by number s kept = mark_of kept.places number
 
--- the lines of the whole cache move as those of the one set do
-pub lines_move : {P : Type 0} (policy : P) (ways : ℕ) (table : List KeptSet) (i : ℕ) (old new : KeptSet) (answer : Touch) (number : ℕ)
-    → i ≡ number % length table → i < length table → old ≡ get_or table i old → IsHome table
-    → MovesLines answer number (ways_of old.places) (ways_of new.places)
-    → MovesLines answer number (place_in (record { policy = policy; ways = ways; table = table })) (place_in (record { policy = policy; ways = ways; table = set table i new }))
-lines_move policy ways table i old new answer number is below read home moves =
-    let here : old ≡ kept_at table i = read ∙ get_or_default table i old _ below in
-    let f : ℕ → ℕ = λ (way : ℕ). i * ways + way in
-    let was = of_old (place_by ways number) table i old number here (sym is) in
-    let becomes = of_new (place_by ways number) table i new number below (sym is) in
+-- what is read of a line's set
+abbrev of_set : {A : Type 0} → (ℕ → KeptSet → A) → List KeptSet → ℕ → A
+of_set f table number = f (number % length table) (kept_at table (number % length table))
+
+module _ (table : List KeptSet) (t : OneTouch) (at : IsOfTable table t) where
+  -- before the touch, and after it, of a line of the touched set; and of another's
+  of_old : {A : Type 0} (f : ℕ → KeptSet → A) (number : ℕ) → number % length table ≡ t.set
+      → of_set f table number ≡ f t.set t.old
+  of_old f number e =
+      ap (λ (j : ℕ). f j (kept_at table j)) e ∙ ap (f t.set) (sym (old_is table t at))
+
+  of_new : {A : Type 0} (f : ℕ → KeptSet → A) (number : ℕ) → number % length table ≡ t.set
+      → of_set f (set table t.set t.new) number ≡ f t.set t.new
+  of_new f number e =
+      let written : List KeptSet = set table t.set t.new in
+      ap (λ (n : ℕ). f (number % n) (kept_at written (number % n))) (length-set table t.set t.new)
+      ∙ ap (λ (j : ℕ). f j (kept_at written j)) e
+      ∙ ap (f t.set) (get_or-set_same table t.set t.new _ at.below)
+
+  of_else : {A : Type 0} (f : ℕ → KeptSet → A) (number : ℕ) → number % length table ≢ t.set
+      → of_set f (set table t.set t.new) number ≡ of_set f table number
+  of_else f number n =
+      let written : List KeptSet = set table t.set t.new in
+      let other : ℕ = number % length table in
+      ap (λ (m : ℕ). f (number % m) (kept_at written (number % m))) (length-set table t.set t.new)
+      ∙ ap (f other) (get_or-set_other table t.set other t.new _ n)
+
+  -- a line that the touched set kept is at home there
+  old_home : IsHome table → (number : ℕ) → is_some (way_of number t.old.places) ≡ true
+      → number % length table ≡ t.set
+  old_home home number kept =
+      at_home table t.set number home
+      (sym (ap (λ (k : KeptSet). is_some (way_of number k.places)) (old_is table t at)) ∙ kept)
+
+  -- and so is one that it keeps then
+  new_home : IsHome table
+      → MovesLines t.answer t.number (ways_of t.old.places) (ways_of t.new.places)
+      → (other way : ℕ) → KeepsLine other way t.new.places → other % length table ≡ t.set
+  new_home home moves other way h =
+      elim (cases_eq other t.number) [
+        | inl touched ↦ ap (λ (n : ℕ). n % length table) touched ∙ sym at.is
+        | inr apart ↦
+            let kept = some_at other t.new.places way h in
+            let before =
+            kept_before t.answer t.number (ways_of t.old.places) (ways_of t.new.places) moves other
+            apart kept in
+            old_home home other (sym (ap is_some before) ∙ kept)
+      ]
+
+module _ {P : Type 0} (cache : Contents P) (t : OneTouch) (at : IsOfTable cache.table t)
+    (home : IsHome cache.table)
+    (moves : MovesLines t.answer t.number (ways_of t.old.places) (ways_of t.new.places)) where
+  -- the lines of the whole cache move as those of the one set do
+  lines_move : MovesLines t.answer t.number (place_in cache) (place_in (with_set cache t))
+  lines_move =
+      let f : ℕ → ℕ = λ (way : ℕ). t.set * cache.ways + way in
+      let before = λ (number : ℕ) (e : number % length cache.table ≡ t.set).
+      of_old cache.table t at (place_by cache.ways number) number e in
+      let after = λ (number : ℕ) (e : number % length cache.table ≡ t.set).
+      of_new cache.table t at (place_by cache.ways number) number e in
+      let was = before t.number (sym at.is) in
+      let becomes = after t.number (sym at.is) in
+      record {
+        hit = moves.hit ∙ sym (is_some-map f (way_of t.number t.old.places)) ∙ sym (ap is_some was);
+        spares = moves.spares;
+        stays = λ h. becomes ∙ ap (option_map f) (moves.stays h) ∙ sym was;
+        here = ap is_some becomes ∙ is_some-map f (way_of t.number t.new.places) ∙ moves.here;
+        others = λ other n v. elim (cases_eq (other % length cache.table) t.set) [
+          | inl same ↦
+              after other same ∙ ap (option_map f) (moves.others other n v)
+              ∙ sym (before other same)
+          | inr apart ↦ of_else cache.table t at (place_by cache.ways other) other apart
+        ];
+        given_up = λ victim e.
+            let gone = moves.given_up victim e in
+            let near = old_home cache.table t at home victim (ap is_some gone.0 ∙ moves.here) in
+            let its = before victim near ∙ ap (option_map f) gone.0 ∙ sym becomes in
+            (its, after victim near ∙ ap (option_map f) gone.1);
+      }
+
+  -- and so do their marks
+  marks_move : MovesMarks t.answer t.number t.store (mark_of t.old.places) (mark_of t.new.places)
+      → MovesMarks t.answer t.number t.store (mark_in cache) (mark_in (with_set cache t))
+  marks_move marks =
+      let before = λ (number : ℕ) (e : number % length cache.table ≡ t.set).
+      of_old cache.table t at (mark_by number) number e in
+      let after = λ (number : ℕ) (e : number % length cache.table ≡ t.set).
+      of_new cache.table t at (mark_by number) number e in
+      record {
+        own = after t.number (sym at.is) ∙ marks.own
+            ∙ ap (λ (mark : Option Bool). Some (t.store || unwrap_or mark false))
+            (sym (before t.number (sym at.is)));
+        others = λ other n v. elim (cases_eq (other % length cache.table) t.set) [
+          | inl same ↦ after other same ∙ marks.others other n v ∙ sym (before other same)
+          | inr apart ↦ of_else cache.table t at (mark_by other) other apart
+        ];
+        given_up = λ victim e.
+            let gone = marks.given_up victim e in
+            let near =
+            old_home cache.table t at home victim
+            (ap is_some (moves.given_up victim e).0 ∙ moves.here) in
+            (before victim near ∙ gone.0, after victim near ∙ gone.1);
+        clean = marks.clean;
+      }
+
+-- the cache stays sound
+pub sound_put : {P : Type 0} (takes : P → ℕ → Type 0) (stands : P → ℕ → ℕ → List ℕ → Type 0)
+    (cache : Contents P) (t : OneTouch)
+    → IsSound takes stands cache → IsOfTable cache.table t
+    → LeavesSet (stands cache.policy cache.ways) cache.ways t
+    → IsSound takes stands (with_set cache t)
+sound_put takes stands cache t sound at left =
+    let table : List KeptSet = cache.table in
+    let written : List KeptSet = set table t.set t.new in
+    let count : length written ≡ length table = length-set table t.set t.new in
     record {
-      hit = moves.hit ∙ sym (is_some-map f (way_of number old.places)) ∙ sym (ap is_some was);
-      spares = moves.spares;
-      stays = λ h. becomes ∙ ap (option_map f) (moves.stays h) ∙ sym was;
-      here = ap is_some becomes ∙ is_some-map f (way_of number new.places) ∙ moves.here;
-      others = λ other n v. elim (cases_eq (other % length table) i) [
-        | inl same ↦
-            of_new (place_by ways other) table i new other below same ∙ ap (option_map f) (moves.others other n v) ∙ sym (of_old (place_by ways other) table i old other here same)
-        | inr apart ↦ of_else (place_by ways other) table i new other apart
-      ];
-      given_up = λ victim e.
-          let gone = moves.given_up victim e in
-          let near : victim % length table ≡ i = at_home table i old victim here home (ap is_some gone.0 ∙ moves.here) in (
-            of_old (place_by ways victim) table i old victim here near ∙ ap (option_map f) gone.0 ∙ sym becomes,
-            of_new (place_by ways victim) table i new victim below near ∙ ap (option_map f) gone.1,
-          );
+      taken = sound.taken;
+      power = rw count sound.power;
+      small = rw count sound.small;
+      full =
+          All-set (λ (k : KeptSet). length k.places ≡ cache.ways) table t.set t.new left.full
+          sound.full;
+      valid =
+          All-set (λ (k : KeptSet). (list : List ℕ) × stands cache.policy cache.ways k.state list)
+          table t.set t.new left.valid sound.valid;
+      once = All-set (λ (k : KeptSet). IsOnce k.places) table t.set t.new left.once sound.once;
+      home = λ s other way h.
+          ap (λ (n : ℕ). other % n) count ∙
+          elim (cases_eq s t.set) [
+            | inl same ↦
+                let there : kept_at written s ≡ t.new =
+                ap (kept_at written) same ∙ get_or-set_same table t.set t.new _ at.below in
+                let u = subst (λ (k : KeptSet). KeepsLine other way k.places) there h in
+                new_home table t at sound.home left.moves other way u ∙ sym same
+            | inr apart ↦
+                let there : kept_at written s ≡ kept_at table s =
+                get_or-set_other table t.set s t.new _ apart in
+                sound.home s other way
+                (subst (λ (k : KeptSet). KeepsLine other way k.places) there h)
+          ];
     }
 
--- and so do their marks
-pub marks_move : {P : Type 0} (policy : P) (ways : ℕ) (table : List KeptSet) (i : ℕ) (old new : KeptSet) (answer : Touch) (number : ℕ) (store : Bool)
-    → i ≡ number % length table → i < length table → old ≡ get_or table i old → IsHome table
-    → MovesLines answer number (ways_of old.places) (ways_of new.places)
-    → MovesMarks answer number store (mark_of old.places) (mark_of new.places)
-    → MovesMarks answer number store (mark_in (record { policy = policy; ways = ways; table = table })) (mark_in (record { policy = policy; ways = ways; table = set table i new }))
-marks_move policy ways table i old new answer number store is below read home moves marks =
-    let here : old ≡ kept_at table i = read ∙ get_or_default table i old _ below in
-    record {
-      own = of_new (mark_by number) table i new number below (sym is) ∙ marks.own
-          ∙ ap (λ (mark : Option Bool). Some (store || unwrap_or mark false)) (sym (of_old (mark_by number) table i old number here (sym is)));
-      others = λ other n v. elim (cases_eq (other % length table) i) [
-        | inl same ↦ of_new (mark_by other) table i new other below same ∙ marks.others other n v ∙ sym (of_old (mark_by other) table i old other here same)
-        | inr apart ↦ of_else (mark_by other) table i new other apart
-      ];
-      given_up = λ victim e.
-          let gone = marks.given_up victim e in
-          let near : victim % length table ≡ i = at_home table i old victim here home (ap is_some (moves.given_up victim e).0 ∙ moves.here) in
-          (of_old (mark_by victim) table i old victim here near ∙ gone.0, of_new (mark_by victim) table i new victim below near ∙ gone.1);
-      clean = marks.clean;
-    }
+-- ---- marks
 
-dirty_take : {P : Type 0} (stands : P → ℕ → ℕ → List ℕ → Type 0) (policy : P) (ways : ℕ) (table : List KeptSet) (sets : Sets) (n : ℕ)
-    → n ≤ length table → StandsFor stands (record { policy = policy; ways = ways; table = table }) sets
-    → sum_by (λ (k : KeptSet). dirty_in k.places) (take n table) ≡ dirty_below ways sets n
-dirty_take stands policy ways table sets zero below for = refl
-dirty_take stands policy ways table sets (suc n) below for =
+dirty_take : {P : Type 0} (stands : P → ℕ → ℕ → List ℕ → Type 0) (cache : Contents P) (sets : Sets)
+    (n : ℕ)
+    → n ≤ length cache.table → StandsFor stands cache sets
+    → sum_by (λ (k : KeptSet). dirty_in k.places) (take n cache.table) ≡ dirty_below cache.ways sets n
+dirty_take stands cache sets zero below for = refl
+dirty_take stands cache sets (suc n) below for =
+    let table : List KeptSet = cache.table in
     let dirty : KeptSet → ℕ = λ k. dirty_in k.places in
     let one : sum_by dirty (take (n + 1) table) ≡ sum_by dirty (take n table) + dirty (kept_at table n) =
     sum_by_more dirty table n (record { places = []; state = 0 }) (omega arith) in
-    let rest : sum_by dirty (take n table) ≡ dirty_below ways sets n = dirty_take stands policy ways table sets n (omega arith) for in
-    let here : dirty (kept_at table n) ≡ dirty_in (set_at ways sets n).places = ap dirty_in (sym (for.each n (omega arith)).same) in
+    let rest : sum_by dirty (take n table) ≡ dirty_below cache.ways sets n =
+    dirty_take stands cache sets n (omega arith) for in
+    let here : dirty (kept_at table n) ≡ dirty_in (set_at cache.ways sets n).places =
+    ap dirty_in (sym (for.each n (omega arith)).same) in
     ap (λ i. sum_by dirty (take i table)) (sym (add-one n)) ∙ one ∙ omega (arith, rest, here)
 
 -- the marks that are kept are those of the sets
-pub dirty-stands : {P : Type 0} (stands : P → ℕ → ℕ → List ℕ → Type 0) (rule : P → ℕ → Rule) (contents : Contents P) (sets : Sets)
-    → StandsFor stands contents sets → dirty_kept contents ≡ dirty_of (shape_of rule contents) sets
-dirty-stands stands rule contents sets for =
-    let whole : take (length contents.table) contents.table ≡ contents.table = take_all (length contents.table) contents.table (omega arith) in
+pub dirty-stands : {P : Type 0} (stands : P → ℕ → ℕ → List ℕ → Type 0) (rule : P → ℕ → Rule)
+    (cache : Contents P) (sets : Sets)
+    → StandsFor stands cache sets → dirty_kept cache ≡ dirty_of (shape_of rule cache) sets
+dirty-stands stands rule cache sets for =
+    let count : ℕ = length cache.table in
+    let whole : take count cache.table ≡ cache.table = take_all count cache.table (omega arith) in
     ap (sum_by (λ (k : KeptSet). dirty_in k.places)) (sym whole)
-    ∙ dirty_take stands contents.policy contents.ways contents.table sets (length contents.table) (omega arith) for
+    ∙ dirty_take stands cache sets count (omega arith) for
+
+-- ---- touches of the whole cache
 
 -- a touch of the set of a line is a touch of the cache
-pub table_touch : {P : Type 0} (takes : P → ℕ → Type 0) (rule : P → ℕ → Rule) (stands : P → ℕ → ℕ → List ℕ → Type 0) (policy : P) (ways : ℕ) (table : List KeptSet)
-    (i : ℕ) (old new : KeptSet) (answer : Touch) (number : ℕ) (store : Bool)
-    → IsSound takes stands (record { policy = policy; ways = ways; table = table })
-    → i ≡ number % length table → i < length table → old ≡ get_or table i old
-    → length new.places ≡ ways → (list : List ℕ) × stands policy ways new.state list → IsOnce new.places
-    → ((s : CacheSet) → SetStands (stands policy ways) old s → SetSteps (stands policy ways) answer new (step_of (rule policy ways) s number store))
-    → MovesLines answer number (ways_of old.places) (ways_of new.places) → MovesMarks answer number store (mark_of old.places) (mark_of new.places)
-    → IsTouch takes rule stands answer number store (record { policy = policy; ways = ways; table = table }) (record { policy = policy; ways = ways; table = set table i new })
-table_touch takes rule stands policy ways table i old new answer number store sound is below read full valid once step moves marks = record {
-  shape = record { same_policy = refl; same_ways = refl; same_sets = length-set table i new };
-  sound = sound_put takes stands policy ways table i old new answer number sound is below read full valid once moves;
-  step = λ sets for. table_steps stands rule policy ways table i old new answer number store sets is below read step for;
-  other_sets = λ s n. get_or-set_other table i s new _ (λ e. n (e ∙ is));
-  moves = lines_move policy ways table i old new answer number is below read sound.home moves;
-  marks = marks_move policy ways table i old new answer number store is below read sound.home moves marks;
+pub table_touch : {P : Type 0} (takes : P → ℕ → Type 0) (rule : P → ℕ → Rule)
+    (stands : P → ℕ → ℕ → List ℕ → Type 0)
+    (cache : Contents P) (t : OneTouch) → IsSound takes stands cache → IsOfTable cache.table t
+    → LeavesSet (stands cache.policy cache.ways) cache.ways t
+    → StepsSet (rule cache.policy cache.ways) (stands cache.policy cache.ways) t
+    → IsTouch takes rule stands t.answer t.number t.store cache (with_set cache t)
+table_touch takes rule stands cache t sound at left steps = record {
+  shape =
+      record { same_policy = refl; same_ways = refl; same_sets = length-set cache.table t.set t.new };
+  sound = sound_put takes stands cache t sound at left;
+  step = table_steps rule stands cache t at steps;
+  other_sets = λ s n. get_or-set_other cache.table t.set s t.new _ (λ e. n (e ∙ at.is));
+  moves = lines_move cache t at sound.home left.moves;
+  marks = marks_move cache t at sound.home left.moves steps.marks;
 }
 
--- a hit that writes no line is a step of its set
-hit_steps : (rule : Rule) (stands : ℕ → List ℕ → Type 0) (old new : KeptSet) (set : CacheSet) (number way : ℕ)
-    → way_of number old.places ≡ Some way → new.places ≡ old.places → ((list : List ℕ) → stands old.state list → stands new.state (rule.touched list way))
-    → SetStands stands old set → SetSteps stands hit_answer new (step_of rule set number false)
-hit_steps rule stands old new set number way found same touched for =
-    let at : way_of number set.places ≡ Some way = ap (way_of number) for.same ∙ found in
-    subst (λ (o : Option ℕ). SetSteps stands hit_answer new (step_by rule set number false o)) (sym at)
-    (record { answered = refl; next = record { same = for.same ∙ sym same; listed = touched set.order for.listed } })
+-- a look-up of a line that its set keeps at a way: it changes the policy's state alone
+pub record OneFind : Type 0 where
+  pub number : ℕ
+  pub way : ℕ
+  pub set : ℕ
+  pub old : KeptSet
+  pub new : KeptSet
+
+-- as a touch that is no store
+abbrev pub touch_of_find : OneFind → OneTouch
+touch_of_find f =
+    record { number = f.number; store = false; answer = hit_answer; set = f.set; old = f.old; new = f.new }
+
+-- what is so of the set then
+pub record FindsWay (rule : Rule) (stands : ℕ → List ℕ → Type 0) (f : OneFind) : Type 0 where
+  pub found : way_of f.number f.old.places ≡ Some f.way
+  pub same : f.new.places ≡ f.old.places
+  pub touched : (list : List ℕ) → stands f.old.state list
+      → stands f.new.state (rule.touched list f.way)
+
+-- it is a step of its set
+find_steps : (rule : Rule) (stands : ℕ → List ℕ → Type 0) (f : OneFind) → FindsWay rule stands f
+    → StepsSet rule stands (touch_of_find f)
+find_steps rule stands f finds = record {
+  step = λ s for.
+      let at : way_of f.number s.places ≡ Some f.way =
+      ap (way_of f.number) for.same ∙ finds.found in
+      subst (λ (o : Option ℕ). SetSteps stands hit_answer f.new (step_by rule s f.number false o))
+      (sym at)
+      (record {
+        answered = refl;
+        next = record { same = for.same ∙ sym finds.same; listed = finds.touched s.order for.listed };
+      });
+  marks =
+      subst
+      (λ (ps : List (Option KeptLine)).
+      MovesMarks hit_answer f.number false (mark_of f.old.places) (mark_of ps))
+      (sym finds.same) (marks_same f.old.places f.way f.number finds.found);
+}
 
 -- and of the cache
-pub table_hit : {P : Type 0} (takes : P → ℕ → Type 0) (rule : P → ℕ → Rule) (stands : P → ℕ → ℕ → List ℕ → Type 0) (policy : P) (ways : ℕ) (table : List KeptSet)
-    (i : ℕ) (old new : KeptSet) (number way : ℕ)
-    → IsSound takes stands (record { policy = policy; ways = ways; table = table })
-    → i ≡ number % length table → i < length table → old ≡ get_or table i old
-    → way_of number old.places ≡ Some way → new.places ≡ old.places
-    → ((list : List ℕ) → stands policy ways old.state list → stands policy ways new.state ((rule policy ways).touched list way))
-    → IsTouch takes rule stands hit_answer number false (record { policy = policy; ways = ways; table = table }) (record { policy = policy; ways = ways; table = set table i new })
-table_hit takes rule stands policy ways table i old new number way sound is below read found same touched =
-    let full : length old.places ≡ ways = read_at (λ (k : KeptSet). length k.places ≡ ways) table i old below read sound.full in
-    let once : IsOnce old.places = read_at (λ (k : KeptSet). IsOnce k.places) table i old below read sound.once in
-    let valid = read_at (λ (k : KeptSet). (list : List ℕ) × stands policy ways k.state list) table i old below read sound.valid in
-    table_touch takes rule stands policy ways table i old new hit_answer number false sound is below read
-    (ap length same ∙ full) ((rule policy ways).touched valid.0 way, touched valid.0 valid.1) (subst IsOnce (sym same) once)
-    (λ set for. hit_steps (rule policy ways) (stands policy ways) old new set number way found same touched for)
-    (subst (λ (ps : List (Option KeptLine)). MovesLines hit_answer number (ways_of old.places) (ways_of ps)) (sym same) (moves_same old.places way number found))
-    (subst (λ (ps : List (Option KeptLine)). MovesMarks hit_answer number false (mark_of old.places) (mark_of ps)) (sym same) (marks_same old.places way number found))
+pub table_hit : {P : Type 0} (takes : P → ℕ → Type 0) (rule : P → ℕ → Rule)
+    (stands : P → ℕ → ℕ → List ℕ → Type 0)
+    (cache : Contents P) (f : OneFind) → IsSound takes stands cache → IsOfTable cache.table
+    (touch_of_find f)
+    → FindsWay (rule cache.policy cache.ways) (stands cache.policy cache.ways) f
+    → IsTouch takes rule stands hit_answer f.number false cache (with_set cache (touch_of_find f))
+table_hit takes rule stands cache f sound at finds =
+    let table : List KeptSet = cache.table in
+    let of : ℕ → List ℕ → Type 0 = stands cache.policy cache.ways in
+    let full =
+    read_at (λ (k : KeptSet). length k.places ≡ cache.ways) table f.set f.old at.below at.read
+    sound.full in
+    let once =
+    read_at (λ (k : KeptSet). IsOnce k.places) table f.set f.old at.below at.read sound.once in
+    let valid =
+    read_at (λ (k : KeptSet). (list : List ℕ) × of k.state list) table f.set f.old at.below at.read
+    sound.valid in
+    let left : LeavesSet of cache.ways (touch_of_find f) = record {
+      full = ap length finds.same ∙ full;
+      valid = ((rule cache.policy cache.ways).touched valid.0 f.way, finds.touched valid.0 valid.1);
+      once = subst IsOnce (sym finds.same) once;
+      moves =
+          subst
+          (λ (ps : List (Option KeptLine)).
+          MovesLines hit_answer f.number (ways_of f.old.places) (ways_of ps))
+          (sym finds.same) (moves_same f.old.places f.way f.number finds.found);
+    } in
+    table_touch takes rule stands cache (touch_of_find f) sound at left
+    (find_steps (rule cache.policy cache.ways) of f finds)

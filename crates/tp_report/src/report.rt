@@ -6,7 +6,7 @@ ghost use Rattle.tp_io.specs.Sends.{Sends};
 ghost use Rattle.tp_io.specs.Sink.{state};
 ghost use Rattle.world_view.specs.View as view_spec;
 ghost use Rattle.world_view.specs.Models.{view_model};
-ghost use Rattle.tp_report.specs.Switches.{switches_text};
+ghost use Rattle.tp_report.specs.Switches.{ending_text, switches_text};
 
 use crate::pieces::{Piece, write_pieces};
 use image_check::{Refusal, Schedule};
@@ -153,9 +153,21 @@ fn frame_sum(view: &View<'_>, i: usize) -> u32
     sum
 }
 
-/// Writes the line of each schedule entry.
-#[tactic(auto, unfolding(crate::specs::Switches::switches_text))]
+/// Writes what ends a report, and the summary of a run: the line of each
+/// schedule entry, and `end`.
+#[tactic(auto, unfolding(crate::specs::Switches::ending_text, crate::specs::Report::end_text))]
 pub fn write_switches<K: Sink>(out: &mut K, entries: &Schedule, used: &[Used]) -> Result<(), Failed>
+    requires paired { length used.now ≡ length entries.now }
+    ensures sends { Sends (state K.Sink out.old) (state K.Sink out.new)
+        result (ending_text entries.now used.now) }
+{
+    write_lines(out, entries, used)?;
+    write_all_of(out, b"end\n")
+}
+
+// Writes the line of each schedule entry.
+#[tactic(auto, unfolding(crate::specs::Switches::switches_text))]
+fn write_lines<K: Sink>(out: &mut K, entries: &Schedule, used: &[Used]) -> Result<(), Failed>
     requires paired { length used.now ≡ length entries.now }
     ensures sends { Sends (state K.Sink out.old) (state K.Sink out.new)
         result (switches_text entries.now used.now) }
@@ -185,14 +197,6 @@ fn write_switch<K: Sink>(out: &mut K, entry: u32, pad: u32, used: Used) -> Resul
             Piece::Text("\n"),
         ],
     )
-}
-
-/// Writes the last line of a report.
-#[tactic(auto, unfolding(crate::specs::Report::end_text))]
-pub fn write_end<K: Sink>(out: &mut K) -> Result<(), Failed>
-    ensures sends { Sends (state K.Sink out.old) (state K.Sink out.new) result report_spec.end_text }
-{
-    write_all_of(out, b"end\n")
 }
 
 /// Writes the most cycles of each part of a switch, and of all.

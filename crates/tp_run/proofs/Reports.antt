@@ -1,5 +1,5 @@
 -- The report in its parts.
-use Rattle.std.proofs.Common.{◌≡◌, ℕ, List, ◌++◌, length, Some, ap, arith}
+use Rattle.std.proofs.Common.{◌≡◌, ℕ, List, ◌++◌, length, Some, ap, ◌∙◌, arith}
 use Rattle.std.specs.Prelude.{slice_get}
 use Rattle.std.proofs.lemmas.List.{append-nil}
 use Rattle.std.proofs.lemmas.Option.{slice_get-get_or}
@@ -11,7 +11,7 @@ use Rattle.world_view.specs.declared.view.Used.{Used}
 use Rattle.tp_machine.specs.Usage.{IsUsed}
 use Rattle.tp_report.specs.Texts.{section}
 use Rattle.tp_report.specs.Report.{section_of, sections, switch_lines, end_text, report_with, report, ending}
-use Rattle.tp_report.specs.Switches.{no_used, used_in, switches_text}
+use Rattle.tp_report.specs.Switches.{no_used, used_in, switches_text, ending_text}
 use Rattle.tp_report.proofs.Switches.{switches_text-lines}
 use Rattle.tp_run.specs.Answer.{section_alone}
 
@@ -24,11 +24,19 @@ unfolding section_alone
 section_alone_is i d n name v named seen = section_of_is i (λ e. view_alone i.all (own_of i e) e n) d name v named seen
 
 -- the lines of what the code keeps of the switches
-pub kept_lines : (es : List Entry) (used : List Used) (us : List (ℕ × ℕ)) → length used ≡ length es → IsUsed used us → switches_text es used ≡ switch_lines es us
+kept_lines : (es : List Entry) (used : List Used) (us : List (ℕ × ℕ)) → length used ≡ length es → IsUsed used us → switches_text es used ≡ switch_lines es us
 kept_lines es used us same is =
     switches_text-lines es used us (λ e within.
     let kept : slice_get used e ≡ Some (used_in used e) = slice_get-get_or used e no_used (omega arith) in
     (is.largest e (used_in used e) kept, is.count e (used_in used e) kept))
+
+-- what the code keeps of the switches ends the report
+pub kept_ending : (i : Image) (n : ℕ) (es : List Entry) (used : List Used) → es ≡ i.all.schedule
+    → length used ≡ length i.all.schedule → IsUsed used (whole i n).used → ending_text es used ≡ ending i n
+unfolding ending_text ending
+kept_ending i n es used own all each =
+    let lines = kept_lines i.all.schedule used (whole i n).used all each in
+    ap (λ entries. switches_text entries used ++ end_text) own ∙ ap (λ text. text ++ end_text) lines
 
 pub report_parts : (i : Image) (n : ℕ) → report i n ≡ sections i (λ d. view_whole i d n) ++ ending i n
 unfolding report report_with ending

@@ -15,7 +15,7 @@ use std::alloc::Global;
 use tp_base::Memory;
 use tp_io::{Failed, Sink};
 use tp_machine::Machine;
-use tp_report::{write_end, write_section, write_switches};
+use tp_report::{write_section, write_switches};
 
 /// Runs the image for so many slots and writes the report.
 pub fn run_image<K: Sink>(alloc: Global, image: &Checked, slots: u32, out: &mut K) -> Status
@@ -64,8 +64,7 @@ pub fn write_ending<K: Sink>(out: &mut K, machine: &Machine<'_>) -> Result<(), F
         result (spec.ending (image_from machine.now.image.now) machine.now.slots) }
 {
     let public = machine.image.public();
-    write_switches(out, &public.schedule, machine.all_used())?;
-    write_end(out)
+    write_switches(out, &public.schedule, machine.all_used())
 }
 
 // The section of each domain.
