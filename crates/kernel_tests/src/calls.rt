@@ -1,19 +1,22 @@
 // Calls that leave memory alone, and deliveries, step by step.
-ghost use Rattle.std.specs.Prelude.{◌≡◌, ◌∷◌, [], Some, None, IfOk};
+ghost use Rattle.std.specs.Prelude.{◌≡◌, ◌∷◌, [], Some, None, IfOk, IfSome};
 ghost use Rattle.frame_colours.specs.Colours.{whole_of, share_of};
 ghost use Rattle.frame_colours.specs.FreeList.{all_free};
 ghost use Rattle.cap_table.specs.declared.Cap.TheVariants as cap;
 ghost use Rattle.cap_table.specs.Slots.{empty_slots, with_cap};
+ghost use Rattle.kernel_clone.specs.Footprints.{IsLayout};
+ghost use Rattle.kernel_clone.specs.Models.{layout_model, IsWork};
 ghost use Rattle.kernel_call.specs.Facts.{Valid};
 
 use call_table::{DomainStatus, Reply};
 use cap_table::{CapTable, Given};
 use frame_colours::{AllColours, Frame, Pool, Table};
 use irq_partition::{IrqPart, Moment};
-use kernel_call::{Domain, call, deliver};
+use kernel_call::{Domain, Outcome, call, deliver};
 use kernel_clone::{CloneLayout, DELIVERY};
 use page_map::PageMap;
 use phys_mem::PhysMem;
+use rv_core::Regs;
 use std::alloc::Global;
 use std::test::Fail;
 use thread_set::{ThreadSet, ThreadState};
@@ -33,7 +36,10 @@ fn frames(alloc: Global) -> Result<Pool, Memory>
     })
 }
 
-fn layout() -> CloneLayout {
+// The clone whose lines the tests count: in a machine these frames are never free.
+pub fn layout() -> CloneLayout
+    ensures layout { IsLayout (layout_model result) }
+{
     CloneLayout {
         text: [FrameNo::new(9), FrameNo::new(13)],
         stack: FrameNo::new(17),
@@ -58,7 +64,7 @@ fn slots(alloc: Global, table: Frame<Table>) -> Result<CapTable, Memory>
 
 // With those slots, and a moment for each line, in a memory that reads zero.
 // Thread 0 begins at 0x10000.
-fn opened(alloc: Global) -> Result<(Domain, PhysMem), Memory>
+pub fn opened(alloc: Global) -> Result<(Domain, PhysMem), Memory>
     ensures valid { IfOk result (λ made. Valid made.1 made.0) }
 {
     let mut memory = PhysMem::new(alloc, 64)?;
@@ -88,6 +94,24 @@ enum Step {
     Deliver,
 }
 
+// What a call comes to; None where the current thread may not call.
+pub fn made(
+    domain: &mut Domain,
+    memory: &mut PhysMem,
+    number: u32,
+    args: [u32; 3],
+) -> Option<Outcome>
+    requires valid { Valid memory.old domain.old }
+    ensures valid { Valid memory.new domain.new }
+    ensures work { IfSome result (λ outcome. IsWork outcome.work) }
+{
+    let is_ready = domain.threads.active.state.is_ready();
+    if !is_ready || domain.replies.count > 1000 || memory.frames() > 64 {
+        return None;
+    }
+    Some(call(domain, memory, number, args))
+}
+
 // The reply's code and value. What may not be done is left out, and answers so.
 fn run(domain: &mut Domain, memory: &mut PhysMem, step: Step) -> Option<(u32, u32)>
     requires valid { Valid memory.old domain.old }
@@ -98,13 +122,10 @@ fn run(domain: &mut Domain, memory: &mut PhysMem, step: Step) -> Option<(u32, u3
         return left_out;
     }
     match step {
-        Step::Call(number, a, b) => {
-            if !domain.threads.active.state.is_ready() {
-                return left_out;
-            }
-            let reply = call(domain, memory, number, [a, b, 0]).reply?;
-            Some((reply.code, reply.value))
-        }
+        Step::Call(number, a, b) => match made(domain, memory, number, [a, b, 0]) {
+            Some(outcome) => outcome.reply.map(|reply| (reply.code, reply.value)),
+            None => left_out,
+        },
         Step::Deliver => {
             if domain.interrupts.next_moment().is_none() || deliver(domain).op != DELIVERY {
                 return left_out;
@@ -150,6 +171,12 @@ fn first_wrong(domain: &mut Domain, memory: &mut PhysMem, rows: &[Row]) -> Optio
     None
 }
 
+const EXIT: u32 = 0;
+
+const COPY: u32 = 6;
+
+const REVOKE: u32 = 8;
+
 const POLL: u32 = 9;
 
 const WAIT: u32 = 10;
@@ -178,6 +205,16 @@ fn place(domain: &Domain, t: u8) -> [u32; 3] {
     }
     let thread = domain.threads.thread(t);
     [thread.pc, thread.regs.get(10), thread.regs.get(11)]
+}
+
+// Whether a thread has this word in x10 and 0 in each other register.
+fn has_started(domain: &Domain, t: u8, x10: u32) -> bool {
+    if t > 7 {
+        return false;
+    }
+    let mut regs = Regs::new();
+    regs.set(10, x10);
+    domain.threads.thread(t).regs == regs
 }
 
 // Whether these are the replies so far, all with code 0.
@@ -216,10 +253,18 @@ fn calls_on_lines(rt: HostRuntime) -> Result<(), Fail> {
         alone(on(SIGNAL, 0), 0, 0),
         alone(on(WAIT, 0), 0, 1),
         alone(on(POLL, 0), 0, 0),
+        // A line's copy, with no rights, names the same line, and is revoked.
+        alone(Step::Call(COPY, 0, 7), 0, 0),
+        alone(on(SIGNAL, 7), 0, 0),
+        alone(on(POLL, 0), 0, 1),
+        alone(on(POLL, 7), 0, 0),
+        alone(on(REVOKE, 0), 0, 1),
+        alone(on(POLL, 7), 3, 0),
+        alone(on(POLL, 2), 0, 0),
         alone(on(15, 0), 1, 0),
     ];
     assert_eq!(rt; first_wrong(&mut domain, &mut memory, &rows), None);
-    assert_eq!(rt; place(&domain, 0), [0x10048, 1, 0]);
+    assert_eq!(rt; place(&domain, 0), [0x10064, 1, 0]);
     Ok(())
 }
 
@@ -240,12 +285,18 @@ fn threads_start_and_take_turns(rt: HostRuntime) -> Result<(), Fail> {
         (start, Some((13, 0)), Some(1), *b"rrrr"),
         (on(WAIT, 0), None, Some(2), *b"rwrr"),
         (start, Some((13, 0)), Some(2), *b"rwrr"),
+        // Thread 2 ends with 1 in x11; 3, which starts it anew, has that too.
+        (on(SIGNAL, 2), Some((0, 0)), Some(2), *b"rwrr"),
+        (on(POLL, 2), Some((0, 1)), Some(2), *b"rwrr"),
         (END, None, Some(3), *b"rwer"),
+        (on(SIGNAL, 2), Some((0, 0)), Some(3), *b"rwer"),
+        (on(POLL, 2), Some((0, 1)), Some(3), *b"rwer"),
         (start, Some((0, 2)), Some(3), *b"rwrr"),
     ];
     assert_eq!(rt; first_wrong(&mut domain, &mut memory, &rows), None);
     let places = [place(&domain, 1), place(&domain, 2)];
     assert_eq!(rt; places, [[0x20024, 13, 0], [0x20004, 9, 0]]);
+    assert!(rt; has_started(&domain, 2, 9));
     Ok(())
 }
 
@@ -275,25 +326,42 @@ fn a_line_wakes_the_least_that_waits(rt: HostRuntime) -> Result<(), Fail> {
     Ok(())
 }
 
-// A domain of which a thread waits runs on.
-#[test]
-fn the_last_thread_ends_its_domain(rt: HostRuntime) -> Result<(), Fail> {
-    let (mut domain, mut memory) = opened(rt.alloc())?;
-    let rows = [
-        (
-            Step::Call(SPAWN, 0x20000, 0),
-            Some((0, 1)),
-            Some(0),
-            *b"rrnn",
-        ),
-        (on(WAIT, 0), None, Some(1), *b"wrnn"),
+// A domain of which a thread waits runs on, until that one has ended too. The
+// code of an EXIT is its argument, that of the last ENDTHREAD is 0, whatever x10.
+#[rattlefmt::skip]
+const ENDS: [(&[Row], DomainStatus); 4] = [
+    (&[
+        (Step::Call(SPAWN, 0x20000, 0), Some((0, 1)), Some(0), *b"rrnn"),
+        (Step::Call(WAIT, 0, 0), None, Some(1), *b"wrnn"),
         (END, None, None, *b"wenn"),
         (Step::Deliver, None, Some(0), *b"renn"),
-    ];
-    let wrong = first_wrong(&mut domain, &mut memory, &rows);
-    assert_eq!(rt; (wrong, domain.status), (None, DomainStatus::Running));
-    let wrong = first_wrong(&mut domain, &mut memory, &[(END, None, None, *b"eenn")]);
-    assert_eq!(rt; (wrong, domain.status), (None, DomainStatus::Exited(0)));
-    assert_eq!(rt; place(&domain, 0), [0x10008, 0, 1], "at its call");
+    ], DomainStatus::Running),
+    (&[(END, None, None, *b"ennn")], DomainStatus::Exited(0)),
+    (&[
+        (Step::Call(SPAWN, 0x20000, 9), Some((0, 1)), Some(0), *b"rrnn"),
+        (END, None, Some(1), *b"ernn"),
+        (END, None, None, *b"eenn"),
+    ], DomainStatus::Exited(0)),
+    // No moment wakes a thread that waited at an EXIT.
+    (&[
+        (Step::Call(SPAWN, 0x20000, 9), Some((0, 1)), Some(0), *b"rrnn"),
+        (Step::Call(WAIT, 0, 0), None, Some(1), *b"wrnn"),
+        (Step::Call(EXIT, 5, 0), None, None, *b"eenn"),
+        (Step::Deliver, None, None, *b"eenn"),
+    ], DomainStatus::Exited(5)),
+];
+
+// The first of such rows that doesn't come out, and the domain's status then.
+fn ended(alloc: Global, rows: &[Row]) -> Result<(Option<usize>, DomainStatus), Memory> {
+    let (mut domain, mut memory) = opened(alloc)?;
+    let wrong = first_wrong(&mut domain, &mut memory, rows);
+    Ok((wrong, domain.status))
+}
+
+#[test]
+fn the_last_thread_ends_its_domain(rt: HostRuntime) -> Result<(), Fail> {
+    for (rows, status) in ENDS {
+        assert_eq!(rt; ended(rt.alloc(), rows)?, (None, status));
+    }
     Ok(())
 }

@@ -1,7 +1,7 @@
 // Slots that are filled, copied, noted and emptied.
 ghost use Rattle.std.specs.Prelude.{⊤};
 
-use cap_table::{Cap, CapTable, Given, Gone, laws};
+use cap_table::{Cap, CapTable, Given, Gone};
 use frame_colours::{AllColours, Pool};
 use std::alloc::Global;
 use std::test::Fail;
@@ -148,13 +148,4 @@ fn frames_come_back_with_their_last_capability(rt: HostRuntime) -> Result<(), Fa
         assert_eq!(rt; deleted(&mut caps, slot), gone, "slot {slot}");
     }
     Ok(())
-}
-
-#[test]
-fn laws_are_called() {
-    laws::naming();
-    laws::copying();
-    laws::likeness();
-    laws::tables_in_use();
-    laws::revoking();
 }

@@ -13,4 +13,6 @@ mod outcomes;
 #[cfg(test)]
 mod page_tables;
 #[cfg(test)]
+mod refusals;
+#[cfg(test)]
 mod threads;

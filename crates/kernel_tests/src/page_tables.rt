@@ -7,7 +7,7 @@ ghost use Rattle.page_map.specs.Tables.{IsPageMap, IsBlank, StandsWith, has_tabl
 ghost use Rattle.page_map.specs.Reached.{TablesIn};
 
 use frame_colours::{AllColours, Frame, Pool, Table};
-use page_map::{MapRefusal, PageMap, laws};
+use page_map::{MapRefusal, PageMap};
 use phys_mem::PhysMem;
 use std::alloc::Global;
 use sv32_walk::{Access, WalkFault, walk};
@@ -191,21 +191,6 @@ fn clearing(rt: HostRuntime) -> Result<(), Memory> {
         [page, Ok(0x10d7), Ok(0x10d7)]
     );
     Ok(())
-}
-
-#[test]
-fn laws_are_called() {
-    laws::opening();
-    laws::kept();
-    laws::once();
-    laws::mapping();
-    laws::unmapping();
-    laws::installing();
-    laws::uninstalling();
-    laws::pools();
-    laws::reaching();
-    laws::sealed();
-    laws::beside();
 }
 
 #[test]

@@ -1,4 +1,5 @@
 // Threads, step by step.
+use rv_core::Regs;
 use std::test::Fail;
 use thread_set::{ThreadSet, ThreadState};
 
@@ -83,5 +84,10 @@ fn turns_go_round_and_lines_wake_the_least(rt: HostRuntime) -> Result<(), Fail> 
             (4, 9, b'e')
         );
     }
+    // A thread that is started anew has none of the words that it had.
+    let mut regs = Regs::new();
+    regs.set(10, 8);
+    assert_eq!(rt; threads.spawn(0x10014, 8), Some(0));
+    assert_eq!(rt; threads.thread(0).regs, regs);
     Ok(())
 }
