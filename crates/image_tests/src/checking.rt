@@ -5,10 +5,12 @@ use image_check::{
     CacheShape, CheckRefusal, Checked, Entry, Hardware, InitialCap, Moment, Own, Policy, Rights,
     check, check_but_pads,
 };
-use image_text::{Raw, Refusal, read_image};
+use image_text::{Refusal, read_image};
 use pad_bound::bound;
 use std::alloc::Global;
 use std::process::Abort;
+
+mod orders;
 
 const IMAGE: &str = r#"frames = 64
 shared = 512
@@ -629,30 +631,24 @@ fn checked(alloc: Global, text: &str) -> Result<Checked, CheckRefusal> {
     check(alloc, read_image(alloc, text.as_bytes())?)
 }
 
-fn changed(alloc: Global, row: &Row) -> Result<Raw, CheckRefusal> {
-    let (old, new, many, _) = *row;
-    let text = IMAGE.replacen(alloc, old, new.repeat(alloc, many)?.as_str(), 1)?;
-    read_image(alloc, text.as_bytes())
-}
-
-fn broken_by(alloc: Global, row: &Row) -> Result<Option<Refusal>, CheckRefusal> {
-    match check(alloc, changed(alloc, row)?) {
+fn broken_by(alloc: Global, text: &str) -> Result<Option<Refusal>, CheckRefusal> {
+    match check(alloc, read_image(alloc, text.as_bytes())?) {
         Ok(_) => Ok(None),
         Err(CheckRefusal::Broken(refusal)) => Ok(Some(refusal)),
         Err(CheckRefusal::Memory) => Err(CheckRefusal::Memory),
     }
 }
 
-fn broken_but_pads(alloc: Global, row: &Row) -> Result<Option<Refusal>, CheckRefusal> {
-    match check_but_pads(alloc, changed(alloc, row)?) {
+fn broken_but_pads(alloc: Global, text: &str) -> Result<Option<Refusal>, CheckRefusal> {
+    match check_but_pads(alloc, read_image(alloc, text.as_bytes())?) {
         Ok(_) => Ok(None),
         Err(CheckRefusal::Broken(refusal)) => Ok(Some(refusal)),
         Err(CheckRefusal::Memory) => Err(CheckRefusal::Memory),
     }
 }
 
-fn wanted(row: &Row) -> Option<Refusal> {
-    let (rule, at, found, wanted) = row.3;
+fn wanted(named: (u8, i64, i64, i64)) -> Option<Refusal> {
+    let (rule, at, found, wanted) = named;
     if rule == 0 {
         return None;
     }
@@ -665,19 +661,26 @@ fn wanted(row: &Row) -> Option<Refusal> {
 }
 
 // With the rule of pads, and without it.
-fn are_named(rt: &impl Abort, alloc: Global, rows: &[Row]) {
+fn is_named(rt: &impl Abort, alloc: Global, at: &str, text: &str, named: (u8, i64, i64, i64)) {
+    let first = wanted(named);
+    let others = first.filter(|refusal| refusal.rule != 17);
+    assert_eq!(rt; broken_by(alloc, text), Ok(first), "{at}");
+    assert_eq!(rt; broken_but_pads(alloc, text), Ok(others), "{at}");
+}
+
+fn are_named(rt: &impl Abort, alloc: Global, rows: &[Row]) -> Result<(), CheckRefusal> {
     for row in rows {
-        let first = wanted(row);
-        let others = first.filter(|refusal| refusal.rule != 17);
-        assert_eq!(rt; broken_by(alloc, row), Ok(first), "{}", row.1);
-        assert_eq!(rt; broken_but_pads(alloc, row), Ok(others), "{}", row.1);
+        let (old, new, many, named) = *row;
+        let text = IMAGE.replacen(alloc, old, new.repeat(alloc, many)?.as_str(), 1)?;
+        is_named(rt, alloc, new, text.as_str(), named);
     }
+    Ok(())
 }
 
 #[test]
-fn the_first_broken_case_is_named(rt: HostRuntime) {
-    are_named(&rt, rt.alloc(), &TO_K11);
-    are_named(&rt, rt.alloc(), &FROM_K12);
+fn the_first_broken_case_is_named(rt: HostRuntime) -> Result<(), CheckRefusal> {
+    are_named(&rt, rt.alloc(), &TO_K11)?;
+    are_named(&rt, rt.alloc(), &FROM_K12)
 }
 
 // Of an image whose pads are too short, too.
