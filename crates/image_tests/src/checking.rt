@@ -647,8 +647,8 @@ fn broken_but_pads(alloc: Global, text: &str) -> Result<Option<Refusal>, CheckRe
     }
 }
 
-fn wanted(named: (u8, i64, i64, i64)) -> Option<Refusal> {
-    let (rule, at, found, wanted) = named;
+fn wanted(row: &Row) -> Option<Refusal> {
+    let (rule, at, found, wanted) = row.3;
     if rule == 0 {
         return None;
     }
@@ -661,18 +661,14 @@ fn wanted(named: (u8, i64, i64, i64)) -> Option<Refusal> {
 }
 
 // With the rule of pads, and without it.
-fn is_named(rt: &impl Abort, alloc: Global, at: &str, text: &str, named: (u8, i64, i64, i64)) {
-    let first = wanted(named);
-    let others = first.filter(|refusal| refusal.rule != 17);
-    assert_eq!(rt; broken_by(alloc, text), Ok(first), "{at}");
-    assert_eq!(rt; broken_but_pads(alloc, text), Ok(others), "{at}");
-}
-
 fn are_named(rt: &impl Abort, alloc: Global, rows: &[Row]) -> Result<(), CheckRefusal> {
     for row in rows {
-        let (old, new, many, named) = *row;
+        let (old, new, many, _) = *row;
         let text = IMAGE.replacen(alloc, old, new.repeat(alloc, many)?.as_str(), 1)?;
-        is_named(rt, alloc, new, text.as_str(), named);
+        let first = wanted(row);
+        let others = first.filter(|refusal| refusal.rule != 17);
+        assert_eq!(rt; broken_by(alloc, text.as_str()), Ok(first), "{new}");
+        assert_eq!(rt; broken_but_pads(alloc, text.as_str()), Ok(others), "{new}");
     }
     Ok(())
 }
