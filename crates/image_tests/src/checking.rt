@@ -5,10 +5,12 @@ use image_check::{
     CacheShape, CheckRefusal, Checked, Entry, Hardware, InitialCap, Moment, Own, Policy, Rights,
     check, check_but_pads,
 };
-use image_text::{Raw, Refusal, read_image};
+use image_text::{Refusal, read_image};
 use pad_bound::bound;
 use std::alloc::Global;
 use std::process::Abort;
+
+mod orders;
 
 const IMAGE: &str = r#"frames = 64
 shared = 512
@@ -629,22 +631,16 @@ fn checked(alloc: Global, text: &str) -> Result<Checked, CheckRefusal> {
     check(alloc, read_image(alloc, text.as_bytes())?)
 }
 
-fn changed(alloc: Global, row: &Row) -> Result<Raw, CheckRefusal> {
-    let (old, new, many, _) = *row;
-    let text = IMAGE.replacen(alloc, old, new.repeat(alloc, many)?.as_str(), 1)?;
-    read_image(alloc, text.as_bytes())
-}
-
-fn broken_by(alloc: Global, row: &Row) -> Result<Option<Refusal>, CheckRefusal> {
-    match check(alloc, changed(alloc, row)?) {
+fn broken_by(alloc: Global, text: &str) -> Result<Option<Refusal>, CheckRefusal> {
+    match check(alloc, read_image(alloc, text.as_bytes())?) {
         Ok(_) => Ok(None),
         Err(CheckRefusal::Broken(refusal)) => Ok(Some(refusal)),
         Err(CheckRefusal::Memory) => Err(CheckRefusal::Memory),
     }
 }
 
-fn broken_but_pads(alloc: Global, row: &Row) -> Result<Option<Refusal>, CheckRefusal> {
-    match check_but_pads(alloc, changed(alloc, row)?) {
+fn broken_but_pads(alloc: Global, text: &str) -> Result<Option<Refusal>, CheckRefusal> {
+    match check_but_pads(alloc, read_image(alloc, text.as_bytes())?) {
         Ok(_) => Ok(None),
         Err(CheckRefusal::Broken(refusal)) => Ok(Some(refusal)),
         Err(CheckRefusal::Memory) => Err(CheckRefusal::Memory),
@@ -665,19 +661,22 @@ fn wanted(row: &Row) -> Option<Refusal> {
 }
 
 // With the rule of pads, and without it.
-fn are_named(rt: &impl Abort, alloc: Global, rows: &[Row]) {
+fn are_named(rt: &impl Abort, alloc: Global, rows: &[Row]) -> Result<(), CheckRefusal> {
     for row in rows {
+        let (old, new, many, _) = *row;
+        let text = IMAGE.replacen(alloc, old, new.repeat(alloc, many)?.as_str(), 1)?;
         let first = wanted(row);
         let others = first.filter(|refusal| refusal.rule != 17);
-        assert_eq!(rt; broken_by(alloc, row), Ok(first), "{}", row.1);
-        assert_eq!(rt; broken_but_pads(alloc, row), Ok(others), "{}", row.1);
+        assert_eq!(rt; broken_by(alloc, text.as_str()), Ok(first), "{new}");
+        assert_eq!(rt; broken_but_pads(alloc, text.as_str()), Ok(others), "{new}");
     }
+    Ok(())
 }
 
 #[test]
-fn the_first_broken_case_is_named(rt: HostRuntime) {
-    are_named(&rt, rt.alloc(), &TO_K11);
-    are_named(&rt, rt.alloc(), &FROM_K12);
+fn the_first_broken_case_is_named(rt: HostRuntime) -> Result<(), CheckRefusal> {
+    are_named(&rt, rt.alloc(), &TO_K11)?;
+    are_named(&rt, rt.alloc(), &FROM_K12)
 }
 
 // Of an image whose pads are too short, too.

@@ -12,6 +12,7 @@ use tp_io::{MemSink, MemSource, Source, SureSource};
 use tp_run::{Status, tp_main};
 
 mod calls;
+mod images;
 mod interrupts;
 mod machines;
 mod refusals;
@@ -45,7 +46,7 @@ const SPINS_REPORT: &str =
     "domain 0 red\nstatus running\nretired 3286\nthread 0 ready pc 00010000\nreadings 0\nreplies 0\nout 0\nmem 0000b8cb\ndomain 1 blue\nstatus exited 0\nretired 3\nthread 0 ended pc 00010010\nreadings 0\nreplies 1 last 0:0 list 0:0\nout 1 42\nmem 0430d77b\nswitch 0 used 734 pad 6150 count 1\nswitch 1 used 755 pad 6150 count 1\nend\n";
 
 const FRESH_REPORT: &str =
-    "domain 0 red\nstatus running\nretired 0\nthread 0 ready pc 00010000\nreadings 0\nreplies 0\nout 0\nmem 0420cf7b\ndomain 1 blue\nstatus running\nretired 0\nthread 0 ready pc 00010000\nreadings 0\nreplies 0\nout 0\nmem 0430d77b\nswitch 0 used 0 pad 6150 count 0\nswitch 1 used 0 pad 6150 count 0\nend\n";
+    "domain 0 red\nstatus running\nretired 0\nthread 0 ready pc 00010000\nreadings 0\nreplies 0\nout 0\nmem 842115e1\ndomain 1 blue\nstatus running\nretired 0\nthread 0 ready pc 00010000\nreadings 0\nreplies 0\nout 0\nmem 84311de1\nswitch 0 used 0 pad 6150 count 0\nswitch 1 used 0 pad 6150 count 0\nend\n";
 
 const READS_REPORT: &str =
     "domain 0 red\nstatus exited 0\nretired 5\nthread 0 ended pc 00010018 x5=00001806 x6=000019dd\nreadings 2 last 6621 list 6150 6621\nreplies 1 last 0:0 list 0:0\nout 1 41\nmem 842115e1\ndomain 1 blue\nstatus exited 0\nretired 5\nthread 0 ended pc 00010018 x5=0000571c x6=000058f3\nreadings 2 last 22771 list 22300 22771\nreplies 1 last 0:0 list 0:0\nout 1 42\nmem 84311de1\nswitch 0 used 820 pad 6150 count 2\nswitch 1 used 755 pad 6150 count 2\nend\n";
@@ -201,8 +202,8 @@ fn images_are_run(rt: HostRuntime) -> Result<(), Fail> {
         &rt,
         alloc,
         "tp run --slots 0",
-        PRINTS_A,
-        PRINTS_B,
+        READS_A,
+        READS_B,
         FRESH_REPORT,
     )?;
     // A counter gives the clock before its instruction.

@@ -16,12 +16,18 @@ tp run --slots 00004|4
 tp run --slots 000004|4
 tp run --slots +4|4
 tp run --slots=-0|0
+tp run --slots=-00000|0
+tp run --slots 4 --|4
+tp check --|check
+tp bound --|bound
 tp alone --domain 1 --slots 4|1 4
 tp alone --slots 4 --domain 1|1 4
 tp alone --slots=0 --domain=15|15 0
 tp alone --domain +0 --slots 65536|0 65536
+tp alone --domain=-0 --slots=-0|0 0
 tp gen --seed 7|gen 7
 tp gen --seed=0|gen 0
+tp gen --seed=-0|gen 0
 tp gen --seed 4294967295|gen 4294967295
 tp demo --seed 7|demo 7
 tp demo --seed +4294967295|demo 4294967295
@@ -32,6 +38,10 @@ tp fly --slots 4|
 tp check --slots 4|
 tp bound --slots 4|
 tp check x|
+tp check -- x|
+tp check -- --|
+tp -- check|
+tp --|
 tp check bound|
 tp bound check|
 tp --check|
@@ -53,6 +63,11 @@ tp run --slots x|
 tp run --slots 4x|
 tp run --slots -1|
 tp run --slots=-1|
+tp run --slots -0|
+tp run --slots=--0|
+tp run --slots=-+0|
+tp run --slots=-|
+tp run --slots --|
 tp run --slots=|
 tp run --slots 4 5|
 tp run --slots 4 x|

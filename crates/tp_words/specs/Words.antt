@@ -1,11 +1,11 @@
 -- The words of the command line: the program's command, as clap reads it, and what its matches ask for.
-use Rattle.std.specs.Prelude.{ℕ, ◌≤◌, ⊤, pos, true, if◌then◌else◌, List, [], ◌∷◌, codes, fold, map, Option, Some, None, String, string_bytes}
+use Rattle.std.specs.Prelude.{ℕ, ℤ, ◌≤◌, ⊤, pos, negsuc, nat_le, unsigned_abs, true, if◌then◌else◌, List, [], ◌∷◌, codes, fold, map, Option, Some, None, String, string_bytes}
 use Rattle.std.specs.Global.{Global}
 use Rattle.std.specs.Str.{bytes_eq}
-use Rattle.std.specs.Str.Parse.{digits_value, without_leading_plus}
+use Rattle.std.specs.Str.Parse.{signed_digits_value}
 use Rattle.clap.specs.Words.{App, Rule, Row, Shape, Text, Kinds, new_app, new_rule, with_rule, with_subcommand, one_of, fault_of, subcommand_of}
 use Rattle.clap.specs.Simple.{on_top}
-use Rattle.clap.specs.ValueTests.{is_unsigned_in}
+use Rattle.clap.specs.ValueTests.{is_signed_in}
 use Rattle.clap.specs.declared.builder.action.ArgAction.TheVariants.{Set}
 use Rattle.clap.specs.declared.builder.value_parser.ValueParser.TheVariants as vp
 use Rattle.tp_words.specs.declared.Command.{Command}
@@ -65,15 +65,23 @@ tp_app = fold with_subcommand (on_top required (new_app (codes "tp"))) (
 
 -- ---- what its matches ask for
 
--- the number that a text writes, where it is a whole number 0 to the greatest
+-- a number that is 0 to the greatest
+abbrev pub up_to : ℕ → ℤ → Option ℕ
+up_to greatest (pos n) = when (nat_le n greatest) >> Some n
+up_to greatest (negsuc n) = None
+
+-- the number that a text writes, where it is a whole number 0 to the greatest, as clap takes it: digits,
+-- maybe after a sign; of those after a minus only zeros are in range, and write 0
 abbrev pub number_of : ℕ → Text → Option ℕ
-number_of greatest text = when (is_unsigned_in 0 greatest text) >> Some (digits_value 10 (without_leading_plus text))
+number_of greatest text =
+    when (is_signed_in (pos 0) (pos greatest) text) >> Some (unsigned_abs (signed_digits_value 10 text))
 
 -- the value of `--NAME`
 unfoldable pub number_in : Text → ℕ → List Row → Option ℕ
 number_in name greatest rows = one_of name rows >>= number_of greatest
 
--- clap takes no words without a subcommand, no other name of one, and no other values of its options: these are never asked for
+-- clap takes no words without a subcommand, no other name of one, and no text of an option that writes no
+-- such number: these are never asked for
 abbrev pub or_zero : Option ℕ → ℕ
 or_zero None = 0
 or_zero (Some n) = n

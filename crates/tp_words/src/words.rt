@@ -93,7 +93,7 @@ fn number_arg<'a>(alloc: Global, name: &'a str, greatest: u32) -> Arg<'a>
 fn number_parser<'a>(greatest: u32) -> ValueParser<'a>
     ensures value { result ≡ ValueParser.Signed (pos 0) (pos greatest) }
 {
-    clap::value_parser!(u32).range(0..=i64::from(greatest))
+    clap::value_parser!(i64).range(0..=i64::from(greatest))
 }
 
 // What the matches ask for, by the subcommand's name. clap gives no matches
@@ -122,12 +122,21 @@ fn asked(matches: &ArgMatches<'_>) -> Command
     }
 }
 
+// The number, where it is 0 to the greatest.
+fn up_to(greatest: u32, number: i64) -> Option<u32>
+    ensures value { result ≡ spec.up_to greatest number }
+    ensures range { IfSome result (λ n. n ≤ greatest) }
+{
+    let number = u32::try_from(number).ok()?;
+    (number <= greatest).then_some(number)
+}
+
 // The value of `--name`. Its parser let none past the greatest through already.
 #[tactic(auto, unfolding(crate::specs::Words::number_in))]
 fn number_in(found: &ArgMatches<'_>, name: &str, greatest: u32) -> Option<u32>
     ensures value { result ≡ spec.number_in name.now greatest (rows_of (found_of found.now)) }
     ensures range { IfSome result (λ n. n ≤ greatest) }
 {
-    let number = found.get_one::<u32>(name)?;
-    (number <= greatest).then_some(number)
+    let number = found.get_one::<i64>(name)?;
+    up_to(greatest, number)
 }

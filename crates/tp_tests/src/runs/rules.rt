@@ -15,6 +15,10 @@ const BOUND: &str =
 const DEARER_BOUND: &str =
     "instruction 307\noperation 4346\nleave 386\nprefetch 480\nflush 372\nenter 376\nbound 6266\n";
 
+// A line of 128 bytes: a frame has 32, and a call that empties slots may touch 63.
+const WIDE_BOUND: &str =
+    "instruction 306\noperation 4218\nleave 383\nprefetch 236\nflush 340\nenter 373\nbound 5855\n";
+
 const SHORT_PAD: &str = "refused K17 at 0 found 6149 wanted 6150\n";
 
 #[test]
@@ -30,6 +34,15 @@ fn an_image_is_tested_and_bounded(rt: HostRuntime) -> Result<(), Fail> {
         ACCEPTED,
     )?;
     expect(&rt, alloc, "tp bound", image.as_str(), Status::Done, BOUND)?;
+    let wide = image.replace(alloc, "line = 64", "line = 128")?;
+    expect(
+        &rt,
+        alloc,
+        "tp bound",
+        wide.as_str(),
+        Status::Done,
+        WIDE_BOUND,
+    )?;
     let dearer = image.replace(alloc, "wb = 10", "wb = 11")?;
     expect(
         &rt,

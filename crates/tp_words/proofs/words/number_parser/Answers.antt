@@ -1,4 +1,4 @@
-use Rattle.std.proofs.Common.{◌≡◌, ℕ, ◌≤◌, Some, ap, subst, ◌∙◌, arith, pos}
+use Rattle.std.proofs.Common.{◌≡◌, ℕ, ◌≤◌, Some, ap, subst, ◌∙◌, arith, pos, negsuc}
 use Rattle.std.proofs.lemmas.Int.{ints, clamps, to_z-of_z}
 use Rattle.std.specs.Range.{range_inclusive_start, range_inclusive_end}
 use Rattle.std.specs.Int.{int_min, w64}
@@ -7,11 +7,11 @@ use Rattle.clap.specs.declared.builder.value_parser.ValueParser.{ValueParser}
 use Rattle.clap.specs.declared.builder.value_parser.ValueParser.TheVariants.{Signed}
 use Rattle.tp_words.proofs.words.number_parser.Goals as goal
 
--- what `value_parser!(u32)` takes
-abbrev u32 : ValueParser
-u32 = Signed (pos 0) (pos 4294967295)
+-- what `value_parser!(i64)` takes
+abbrev i64 : ValueParser
+i64 = Signed (negsuc 9223372036854775807) (pos 9223372036854775807)
 
-bounded : (greatest : ℕ) → greatest ≤ 4294967295 → int_min (pos 4294967295) (pos greatest) ≡ pos greatest
+bounded : (greatest : ℕ) → greatest ≤ 4294967295 → int_min (pos 9223372036854775807) (pos greatest) ≡ pos greatest
 bounded greatest fits = omega (arith, ints, clamps, fits)
 
 pub returns : goal.returns
@@ -21,8 +21,8 @@ returns c =
     let end = range_inclusive_end c.new.result in
     let last : end ≡ pos c.args.greatest = c.new.ensures.end ∙ to_z-of_z w64 c.from.result (record { sfits = c.from.type_inv }) ∙ c.from.ensures in
     let all = subst (λ p. NarrowsTo p (Some start) (Some end) r) c.value_parser.ensures c.range.ensures in
-    let from = subst (λ lo. NarrowsTo u32 (Some lo) (Some end) r) c.new.ensures.start all in
-    let narrowed : r ≡ signed_between (pos 0) (int_min (pos 4294967295) (pos c.args.greatest)) = subst (λ hi. NarrowsTo u32 (Some (pos 0)) (Some hi) r) last from in
+    let from = subst (λ lo. NarrowsTo i64 (Some lo) (Some end) r) c.new.ensures.start all in
+    let narrowed : r ≡ signed_between (pos 0) (int_min (pos 9223372036854775807) (pos c.args.greatest)) = subst (λ hi. NarrowsTo i64 (Some (pos 0)) (Some hi) r) last from in
     record { value = narrowed ∙ ap (signed_between (pos 0)) (bounded c.args.greatest (omega arith)) }
 
 pub range-requires-clause-bounds : goal.range-requires-clause-bounds
