@@ -21,8 +21,8 @@ use Rattle.kernel_call.specs.Logs.{log_of}
 use Rattle.kernel_call.specs.Models.{Stands, IsNew, CountsUpTo}
 use Rattle.kernel_call.specs.Facts.{Has}
 use Rattle.hardware_check.specs.Hardware.{Hardware}
-use Rattle.image_check.specs.declared.capabilities.InitialCap.{InitialCap}
-use Rattle.image_check.specs.declared.capabilities.InitialCap.TheVariants as initial
+use Rattle.domain_check.specs.declared.capabilities.InitialCap.{InitialCap}
+use Rattle.domain_check.specs.declared.capabilities.InitialCap.TheVariants as initial
 use Rattle.image_check.specs.Laws.{IsOwn}
 use Rattle.image_check.specs.Own.{Segment, Own, cap_at, no_segment}
 use Rattle.image_check.specs.Pages.{has_page, has_region, regions_below, regions_in, pages_below, pages_in, frames_in, share_of}

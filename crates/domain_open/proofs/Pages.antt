@@ -5,7 +5,7 @@ use Rattle.std.proofs.lemmas.List.{drop_more, drop_all, length-map, get_or-map}
 use Rattle.image_check.specs.Own as spec
 use Rattle.image_check.specs.Laws.{IsSegment, IsOwn, Runnable}
 use Rattle.image_check.specs.declared.own.Own.{Own}
-use Rattle.image_check.specs.declared.own.Segment.{Segment}
+use Rattle.domain_check.specs.declared.segments.Segment.{Segment}
 use Rattle.image_check.specs.Models.{segment_model, own_model}
 use Rattle.image_check.specs.Image.{Image, own_of}
 use Rattle.image_check.specs.Pages.{has_page, meets, has_region, regions_below, pages_below, pages_in}

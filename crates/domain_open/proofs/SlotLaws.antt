@@ -15,8 +15,8 @@ use Rattle.cap_table.specs.declared.Cap.{Cap}
 use Rattle.cap_table.specs.declared.Cap.TheVariants as cap
 use Rattle.cap_table.specs.Slots.{Slots, empty_slots, page_of, table_of, same_number, noted}
 use Rattle.cap_table.specs.Owning.{IsUnnamed}
-use Rattle.image_check.specs.declared.capabilities.InitialCap.{InitialCap}
-use Rattle.image_check.specs.declared.capabilities.InitialCap.TheVariants as initial
+use Rattle.domain_check.specs.declared.capabilities.InitialCap.{InitialCap}
+use Rattle.domain_check.specs.declared.capabilities.InitialCap.TheVariants as initial
 use Rattle.image_check.specs.Laws.{IsSegment, IsOwn}
 use Rattle.image_check.specs.Own.{Segment, Own, cap_at, no_segment}
 use Rattle.image_check.specs.Pages.{has_page, has_page_in, pages_below}

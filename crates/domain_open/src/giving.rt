@@ -29,7 +29,7 @@ ghost use Rattle.phys_mem.specs.Holds.{Holds};
 ghost use Rattle.cap_table.specs.Slots as slots;
 ghost use Rattle.cap_table.specs.Slots.{with_cap};
 ghost use Rattle.cap_table.specs.Owning.{IsUnnamed};
-ghost use Rattle.image_check.specs.declared.capabilities.InitialCap.TheVariants.{Irq};
+ghost use Rattle.domain_check.specs.declared.capabilities.InitialCap.TheVariants.{Irq};
 ghost use Rattle.image_check.specs.Models.{segment_model, own_model};
 ghost use Rattle.image_check.specs.Laws.{IsOwn};
 ghost use Rattle.image_check.specs.Own.{cap_at};

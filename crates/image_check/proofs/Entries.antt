@@ -14,7 +14,7 @@ use Rattle.image_text.specs.Record.{Raw as RawText, RawEntry as TextEntry}
 use Rattle.image_text.specs.Reads.{raw_model}
 use Rattle.image_text.specs.Models.{domain_model, entry_model}
 use Rattle.hardware_check.specs.Cases.{first_in, outside, refusal}
-use Rattle.image_check.specs.Rules.{is_number, k16, k16_case, k16_entry}
+use Rattle.image_check.specs.Schedule.{is_number, k16, k16_case, k16_entry}
 use Rattle.hardware_check.specs.Hardware.{natural_of}
 use Rattle.sched_table.specs.declared.schedule.Entry.{Entry}
 use Rattle.sched_table.specs.Schedule.{entry_in, no_entry, IsSchedule}

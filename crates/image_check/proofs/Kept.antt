@@ -11,7 +11,8 @@ use Rattle.hardware_check.specs.Cases.{first_in, refusal, count_case}
 use Rattle.hardware_check.specs.Rules.{is_region}
 use Rattle.hardware_check.specs.Laws.{KeepsParts, KeepsHardware}
 use Rattle.hardware_check.proofs.Built.{shared_cases}
-use Rattle.image_check.specs.Rules.{k7, k7_domain, k16, k16_entry}
+use Rattle.domain_check.specs.Names.{k7, k7_domain}
+use Rattle.image_check.specs.Schedule.{k16, k16_entry}
 use Rattle.image_check.specs.Pads.{k17}
 use Rattle.image_check.specs.Checking.{rules, rules_but_pads, is_of_pads, broken_then, broken_of, broken, broken_but_pads}
 use Rattle.image_check.specs.Laws.{Keeps, KeepsButPads, HasPadsItem, AcceptanceLaw, ButPadsLaw, PadsLaw}

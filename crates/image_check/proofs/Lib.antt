@@ -1,10 +1,7 @@
 pub mod Kept
 pub mod Entries
 pub mod Padded
-pub mod CapTexts
-pub mod Numbers
-pub mod Slots
-pub mod OwnInterrupts
+pub mod OwnSlots
 pub mod Owns
 pub mod Shares
 pub mod Running

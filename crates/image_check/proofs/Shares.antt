@@ -1,8 +1,8 @@
 -- What the rules of colours and frames give: lists of colours that are disjoint, and pools that are large enough.
-use Rattle.std.proofs.Common.{◌≡◌, ◌≢◌, ℕ, suc, ◌-◌, ◌<◌, ◌≤◌, Bool, true, false, ◌||◌, List, [], length, map, take, get_or, length-take, Option, None, Some, refl, sym, ap, subst, ◌∙◌, arith, ◌⊎◌, inl, inr, true≢false, ltb-false}
-use Rattle.std.specs.Prelude.{ℤ, pos, negsuc, nat_lt}
+use Rattle.std.proofs.Common.{◌≡◌, ◌≢◌, ℕ, suc, ◌-◌, ◌<◌, ◌≤◌, true, List, [], length, map, take, None, sym, ap, subst, ◌∙◌, arith, ◌⊎◌, inl, inr, true≢false, ltb-false}
+use Rattle.std.specs.Prelude.{pos, nat_lt}
 use Rattle.std.specs.List.{All}
-use Rattle.std.proofs.lemmas.List.{length-map, get_or-map, get_or_past, get_or-take}
+use Rattle.std.proofs.lemmas.List.{length-map, get_or-map, get_or_past}
 use Rattle.std.proofs.lemmas.Bool.{cases_lt}
 use Rattle.frame_colours.specs.Colours.{AreDisjoint, pool, has, list_at}
 use Rattle.image_text.specs.declared.raw.Raw.{Raw}
@@ -10,57 +10,25 @@ use Rattle.image_text.specs.Reads.{raw_model}
 use Rattle.image_text.specs.Models.{domain_model}
 use Rattle.image_text.specs.Record as text
 use Rattle.image_text.specs.Record.{raw_domain, no_raw_domain}
-use Rattle.hardware_check.specs.Cases.{first_in, refusal, outside}
+use Rattle.hardware_check.specs.Cases.{refusal}
 use Rattle.hardware_check.specs.Hardware.{natural_of, colours_of, hardware_of}
 use Rattle.hardware_check.specs.Laws.{KeepsParts}
 use Rattle.hardware_check.proofs.FirstCases.{if_first, first_in_none}
-use Rattle.hardware_check.proofs.Parts.{Within, inside, colours_sound}
-use Rattle.image_check.specs.Colours.{names, k8, k8_colour, k8_domain, k9, k9_domain, k9_colour, coloured_so, same_colour, k10, k10_domain, k10_case, need_case, need_of, whole_in}
-use Rattle.image_check.specs.Own.{Own, Segment, IsSmallDomain, IsSmallOwn, no_own, own_at, own_from, owns_of, segment_of}
+use Rattle.hardware_check.proofs.Parts.{Within, colours_sound}
+use Rattle.set_cache.proofs.Ways.{not_true}
+use Rattle.domain_check.specs.Colours.{k8, k9, k10, k10_domain, k10_case, need_case, need_of, whole_in}
+use Rattle.domain_check.proofs.Numbers.{found}
+use Rattle.domain_check.proofs.Slots.{slots, small_caps}
+use Rattle.domain_check.proofs.OwnInterrupts.{interrupts, small_lines, small_moments}
+use Rattle.domain_check.proofs.Shares.{named, two_apart, small_domain}
+use Rattle.image_check.specs.Own.{Own, Segment, IsSmallOwn, no_own, own_at, own_from, owns_of, segment_of}
 use Rattle.image_check.specs.Pages.{regions_below, frames_in, share_of}
 use Rattle.image_check.specs.Laws.{KeepsButPads}
 use Rattle.image_check.specs.Checking.{broken_but_pads}
 use Rattle.image_check.proofs.Kept.{kept_but_pads, keeps_parts}
-use Rattle.set_cache.proofs.Ways.{not_true}
-use Rattle.image_check.proofs.Numbers.{found, names_at}
-use Rattle.image_check.proofs.Slots.{slots, small_caps}
-use Rattle.image_check.proofs.OwnInterrupts.{interrupts, small_lines, small_moments}
 use Rattle.image_check.proofs.Owns.{owns_at, owns_length}
 
--- ---- K8: a colour is from 1 on, and below the number of colours
-
-or_first_false : (a b : Bool) → (a || b) ≡ false → a ≡ false
-or_first_false true b h = cc
-or_first_false false b h = refl
-
-colour_within : (c d : ℕ) (earlier : List ℤ) (x : ℤ) → k8_colour c d earlier x ≡ None → Within 1 (c - 1) (natural_of x)
-unfolding k8_colour
-colour_within c d earlier x n =
-    let out = outside (pos 1) (pos (c - 1)) x in
-    inside 1 (c - 1) x (or_first_false out (names earlier x) (if_first (out || names earlier x) (refusal 8 (pos d) x (pos c)) None n))
-
--- the colours of domain d
-named : (i : text.Raw) → k8 i ≡ None → (d : ℕ) → d < length i.domains → (k : ℕ) → k < length (raw_domain i.domains d).colours → (x : ℤ)
-    → Within 1 (colours_of (hardware_of i) - 1) (natural_of (get_or (raw_domain i.domains d).colours k x))
-unfolding k8
-named i n d l k m x =
-    let c = colours_of (hardware_of i) in
-    let own = (raw_domain i.domains d).colours in
-    let here = first_in_none (k8_domain c) i.domains n d l no_raw_domain in
-    colour_within c (length (take d i.domains)) (take k own) (get_or own k x) (first_in_none (k8_colour c (length (take d i.domains))) own here k m x)
-
 -- ---- the numbers fit those of the code
-
-small_domain : (i : text.Raw) → KeepsParts i → k8 i ≡ None → text.InKeyRanges i → (d : ℕ) → d < length i.domains → IsSmallDomain (raw_domain i.domains d)
-small_domain i k n ranges d l = record {
-  colours = λ j x m. let most = (named i n d l j m x).most in let few = (colours_sound i k.colours).most in omega (arith, most, few);
-  segments = ranges.few_segments d;
-}
-
-pub small_domains : (raw : Raw) → KeepsParts (raw_model raw) → k8 (raw_model raw) ≡ None → All (λ o. IsSmallDomain (domain_model o)) raw.domains.items
-small_domains raw k n = λ d o l.
-    let m = small_domain (raw_model raw) k n raw.in_ranges d (omega (arith, length-map raw.domains.items domain_model, l)) in
-    subst IsSmallDomain (get_or-map domain_model raw.domains.items d o no_raw_domain l) m
 
 small_own : (i : text.Raw) → KeepsButPads i → KeepsParts i → text.InKeyRanges i → (d : ℕ) → d < length i.domains → IsSmallOwn (raw_domain i.domains d)
 small_own i rules k ranges d l = record {
@@ -76,47 +44,7 @@ small_owns raw n = λ d o l.
     let m = small_own i (kept_but_pads i n) (keeps_parts i n) raw.in_ranges d (omega (arith, length-map raw.domains.items domain_model, l)) in
     subst IsSmallOwn (get_or-map domain_model raw.domains.items d o no_raw_domain l) m
 
--- ---- K9: no colour of an earlier domain
-
--- a number from 1 on is one integer's alone
-the_integer : (x : ℤ) (n : ℕ) → natural_of x ≡ n → 1 ≤ n → x ≡ pos n
-the_integer (pos m) n e some = ap pos e
-the_integer (negsuc m) n e some = absurd (omega (arith, e, some))
-
-not_coloured : (d : ℕ) (x : ℤ) (o : Option ℕ) → same_colour d x o ≡ None → o ≡ None
-not_coloured d x None n = refl
-not_coloured d x (Some e) n = cc
-
-earlier_apart : (i : text.Raw) → k9 i ≡ None → (d : ℕ) → d < length i.domains → (e : ℕ) → e < d → (k : ℕ) → k < length (raw_domain i.domains d).colours
-    → names (raw_domain i.domains e).colours (get_or (raw_domain i.domains d).colours k (pos 0)) ≡ false
-unfolding k9
-earlier_apart i n d l e before k m =
-    let own = (raw_domain i.domains d).colours in
-    let x = get_or own k (pos 0) in
-    let earlier = take d i.domains in
-    let here = first_in_none k9_domain i.domains n d l no_raw_domain in
-    let none = not_coloured (length earlier) x (first_in (coloured_so x) earlier) (first_in_none (k9_colour earlier) own here k m (pos 0)) in
-    let there = first_in_none (coloured_so x) earlier none e (omega (arith, length-take d i.domains, before, l)) no_raw_domain in
-    let P : text.RawDomain → Type 0 = λ o. names o.colours x ≡ false in
-    subst P (get_or-take d i.domains e no_raw_domain before) (if_first (names (get_or earlier e no_raw_domain).colours x) (length (take e earlier)) None there)
-
--- ---- the lists are disjoint
-
--- a colour of one domain, which is none of an earlier one's
-two_apart : (i : text.Raw) → k8 i ≡ None → k9 i ≡ None → (d : ℕ) → d < length i.domains → (e : ℕ) → e < d → (c : ℕ)
-    → has (map natural_of (raw_domain i.domains d).colours) c ≡ true → has (map natural_of (raw_domain i.domains e).colours) c ≡ true → ⊥
-two_apart i n m d l e before c mine theirs =
-    let a = (raw_domain i.domains d).colours in
-    let b = (raw_domain i.domains e).colours in
-    let here = found a c mine in
-    let there = found b c theirs in
-    let some = (named i n d l here.place here.within (pos 0)).least in
-    let positive : 1 ≤ c = subst (λ (k : ℕ). 1 ≤ k) here.same some in
-    let first : get_or a here.place (pos 0) ≡ pos c = the_integer (get_or a here.place (pos 0)) c here.same positive in
-    let second : get_or b there.place (pos 0) ≡ pos c = the_integer (get_or b there.place (pos 0)) c there.same positive in
-    let is : names b (pos c) ≡ true = subst (λ (x : ℤ). names b x ≡ true) second (names_at b there.place there.within (pos 0)) in
-    let is_not : names b (pos c) ≡ false = subst (λ (x : ℤ). names b x ≡ false) first (earlier_apart i m d l e before here.place here.within) in
-    true≢false (sym is ∙ is_not)
+-- ---- K8, K9: the lists are disjoint
 
 lists : text.Raw → List (List ℕ)
 lists i = map (λ o. o.colours) (owns_of i)

@@ -3,11 +3,12 @@ use Rattle.std.specs.Prelude.{nat_eq, Bool, if◌then◌else◌, List, [], ◌�
 use Rattle.image_text.specs.declared.refusal.Refusal.{Refusal}
 use Rattle.image_text.specs.Record.{Raw}
 use Rattle.hardware_check.specs.Rules.{k3, k4, k5, k6, k11}
-use Rattle.image_check.specs.Rules.{k7, k16}
-use Rattle.image_check.specs.Colours.{k8, k9, k10}
-use Rattle.image_check.specs.Segments.{k12}
-use Rattle.image_check.specs.Capabilities.{k13}
-use Rattle.image_check.specs.Interrupts.{k14, k15}
+use Rattle.domain_check.specs.Names.{k7}
+use Rattle.image_check.specs.Schedule.{k16}
+use Rattle.domain_check.specs.Colours.{k8, k9, k10}
+use Rattle.domain_check.specs.Segments.{k12}
+use Rattle.domain_check.specs.Capabilities.{k13}
+use Rattle.domain_check.specs.Interrupts.{k14, k15}
 use Rattle.image_check.specs.Pads.{k17}
 
 unfoldable pub rules_but_pads : List (Raw → Option Refusal)

@@ -1,21 +1,20 @@
 -- What an image that breaks no rule is: no rule has a broken case, and in natural numbers it can be run.
-use Rattle.std.specs.Prelude.{◌≡◌, ◌≢◌, ℕ, ◌+◌, ◌*◌, ◌<◌, ◌≤◌, ◌^◌, ◌||◌, ◌⊎◌, ◌↔◌, true, false, List, [], ◌++◌, ◌∷◌, length, map, slice_get, codes, decimal, Some, None}
+use Rattle.std.specs.Prelude.{◌≡◌, ◌≢◌, ℕ, ◌+◌, ◌*◌, ◌<◌, ◌≤◌, ◌^◌, ◌||◌, ◌⊎◌, ◌↔◌, true, false, List, [], ◌++◌, ◌∷◌, length, map, slice_get, Some, None}
 use Rattle.image_text.specs.Record as text
 use Rattle.image_text.specs.Record.{InKeyRanges}
 use Rattle.irq_partition.specs.declared.Moment.{Moment}
 use Rattle.irq_partition.specs.Interrupts.{AreMoments}
-use Rattle.image_check.specs.declared.own.Rights.{Rights}
-use Rattle.image_check.specs.declared.capabilities.InitialCap.{InitialCap}
-use Rattle.image_check.specs.declared.capabilities.InitialCap.TheVariants.{None as NoCap, Page, Irq}
+use Rattle.domain_check.specs.declared.segments.Rights.{Rights}
+use Rattle.domain_check.specs.declared.capabilities.InitialCap.TheVariants.{Page, Irq}
 use Rattle.frame_colours.specs.Colours.{AreDisjoint, pool}
 use Rattle.hardware_check.specs.Hardware.{IsHardware, colours_of, hardware_of}
 use Rattle.hardware_check.specs.Rules.{k3, k4, k5, k6, k11}
-use Rattle.image_check.specs.Rules.{k7, k16}
-use Rattle.image_check.specs.Colours.{k8, k9, k10}
-use Rattle.image_check.specs.Segments.{k12}
-use Rattle.image_check.specs.Capabilities.{k13}
-use Rattle.image_check.specs.Interrupts.{k14, k15}
-use Rattle.image_check.specs.CapTexts.{cap_in, IsShort}
+use Rattle.domain_check.specs.Names.{k7}
+use Rattle.image_check.specs.Schedule.{k16}
+use Rattle.domain_check.specs.Colours.{k8, k9, k10}
+use Rattle.domain_check.specs.Segments.{k12}
+use Rattle.domain_check.specs.Capabilities.{k13}
+use Rattle.domain_check.specs.Interrupts.{k14, k15}
 use Rattle.image_text.specs.declared.refusal.Refusal.{Refusal}
 use Rattle.sched_table.specs.Schedule.{entry_in, IsSchedule}
 use Rattle.pad_bound.specs.Bound.{IsShape, bound_of}
@@ -68,16 +67,6 @@ PadsLaw = (i : text.Raw) → (broken i ≡ broken_but_pads i) ⊎ HasPadsItem i 
 -- the bound is of a machine whose numbers are in their ranges
 abbrev pub ShapeLaw : Type 0
 ShapeLaw = (i : text.Raw) → broken_but_pads i ≡ [] → IsShape (shape_of (hardware_of i))
-
--- how a capability is written
-abbrev pub cap_text : InitialCap → List ℕ
-cap_text NoCap = codes "none"
-cap_text (Page n) = codes "page " ++ decimal n
-cap_text (Irq n) = codes "irq " ++ decimal n
-
--- a text names what is written so, in at most ten digits, and nothing else
-abbrev pub CapTextLaw : Type 0
-CapTextLaw = (s : List ℕ) (c : InitialCap) → (cap_in s ≡ Some c) ↔ ((s ≡ cap_text c) × IsShort c)
 
 -- a page has some right, and one that is written is read, too
 pub record AreRights (r : Rights) : Type 0 where

@@ -1,11 +1,6 @@
-pub mod Rules
-pub mod Segments
-pub mod CapTexts
+pub mod Schedule
 pub mod Own
 pub mod Pages
-pub mod Colours
-pub mod Capabilities
-pub mod Interrupts
 pub mod Pads
 pub mod Checking
 pub mod Public

@@ -1,6 +1,6 @@
 // What the rules give whoever runs an image.
 ghost use Rattle.image_check.specs.Laws.{AcceptanceLaw, ButPadsLaw, PadsLaw, ShapeLaw};
-ghost use Rattle.image_check.specs.Laws.{CapTextLaw, RunnableLaw};
+ghost use Rattle.image_check.specs.Laws.{RunnableLaw};
 
 /// The list of the rules that an image breaks is empty exactly where no rule has
 /// a broken case.
@@ -19,12 +19,6 @@ pub fn all_but_pads()
 /// numbers are in their ranges.
 pub fn shape()
     ensures shape { ShapeLaw }
-{}
-
-/// The text of a slot names a capability exactly where it is how that one is
-/// written.
-pub fn cap_text()
-    ensures cap_text { CapTextLaw }
 {}
 
 /// An image in the ranges of its keys that breaks no rule is runnable.

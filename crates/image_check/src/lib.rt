@@ -1,31 +1,27 @@
-//! The rules that an image must keep, each with the numbers of its first broken
-//! case; an image that keeps them all, with what all domains may know of it and
-//! what each has of its own; and one that keeps all but the rule of pads, with
-//! what the bound on a switch depends on.
+//! The rules that an image must keep, in their order: those of the machine, of
+//! the domains and of the schedule; an image that keeps them all, with what all
+//! domains may know of it and what each has of its own; and one that keeps all
+//! but the rule of pads, with what the bound on a switch depends on.
 #![tactic(auto)]
 
-mod capabilities;
 mod checked;
-mod colours;
-mod interrupts;
 pub mod laws;
 mod own;
 mod pads;
 mod public;
-mod regions;
-mod rules;
-mod segments;
+mod schedule;
 mod unpadded;
 
-pub use capabilities::InitialCap;
 pub use checked::{Checked, check};
+/// The parts of a domain, which the rules of `domain_check` let through.
+pub use domain_check::{InitialCap, Rights, Segment};
 /// When an interrupt comes.
 pub use irq_partition::Moment;
 /// The machine, which the rules of `hardware_check` let through.
 pub use hardware_check::{CacheShape, Hardware, Policy};
 /// Why an image is not accepted: the first rule that it breaks, or want of memory.
 pub use image_text::{ReadRefusal as CheckRefusal, Refusal};
-pub use own::{Own, Rights, Segment};
+pub use own::Own;
 pub use public::Public;
 /// The schedule, whose slots are a domain's each.
 pub use sched_table::{Entry, Schedule};

@@ -4,7 +4,7 @@ ghost use Rattle.std.specs.List.{All};
 ghost use Rattle.sched_table.specs.Schedule.{IsSchedule};
 ghost use Rattle.image_text.specs.Reads.{raw_model};
 ghost use Rattle.image_text.specs.Models.{entry_model as text_entry_model};
-ghost use Rattle.image_check.specs.Outcomes.{Makes};
+ghost use Rattle.domain_check.specs.Outcomes.{Makes};
 ghost use Rattle.image_check.specs.Checking.{broken_but_pads};
 ghost use Rattle.image_check.specs.Public as spec;
 ghost use Rattle.image_check.specs.Models.{public_model};

@@ -18,12 +18,13 @@ use Rattle.hardware_check.specs.Hardware.{hardware_of, shape_of, costs_of}
 use Rattle.hardware_check.specs.Rules.{k3, k4, k5, k6, k11, cache_case, ways_case, is_region, room_case}
 use Rattle.image_check.specs.Own.{segment_of}
 use Rattle.image_check.specs.Pages.{has_region, regions_below, pages_in}
-use Rattle.image_check.specs.Rules.{k7, k7_domain, is_number, k16, k16_case, k16_entry}
-use Rattle.image_check.specs.Colours.{names, k8, k8_colour, k9, k10, k10_case}
-use Rattle.image_check.specs.Segments.{bytes_in, k12, k12_domain, segment_case, entry_case}
-use Rattle.image_check.specs.CapTexts.{cap_in, number_after}
-use Rattle.image_check.specs.Capabilities.{k13, k13_case, k13_domain}
-use Rattle.image_check.specs.Interrupts.{k14, k14_line, k15, k15_moment, k15_domain}
+use Rattle.domain_check.specs.Names.{k7, k7_domain}
+use Rattle.image_check.specs.Schedule.{is_number, k16, k16_case, k16_entry}
+use Rattle.domain_check.specs.Colours.{names, k8, k8_colour, k9, k10, k10_case}
+use Rattle.domain_check.specs.Segments.{bytes_in, k12, k12_domain, segment_case, entry_case}
+use Rattle.domain_check.specs.CapTexts.{cap_in, number_after}
+use Rattle.domain_check.specs.Capabilities.{k13, k13_case, k13_domain}
+use Rattle.domain_check.specs.Interrupts.{k14, k14_line, k15, k15_moment, k15_domain}
 use Rattle.image_check.specs.Pads.{bound_in, k17, k17_case, k17_entry}
 use Rattle.pad_bound.specs.Bound.{bound_of, worst_instruction, worst_operation, worst_leave, worst_prefetch, worst_flush, worst_enter}
 use Rattle.image_check.specs.Laws.{Keeps}

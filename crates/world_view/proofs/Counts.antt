@@ -3,7 +3,7 @@ use Rattle.std.proofs.Common.{◌≡◌, ℕ, zero, suc, ◌+◌, ◌-◌, ◌*�
 use Rattle.std.proofs.lemmas.Bool.{cases_Bool, cases_lt, cases_eq, leb-true, ltb-true, lt-ltb, and_parts}
 use Rattle.std.proofs.Math.Bool.{or-true}
 use Rattle.std.proofs.lemmas.Option.{none-some, same_Some}
-use Rattle.image_check.specs.declared.own.Rights.{Rights}
+use Rattle.domain_check.specs.declared.segments.Rights.{Rights}
 use Rattle.image_check.specs.Own.{Segment, Own, no_segment}
 use Rattle.image_check.specs.Laws.{AreRights, IsSegment, IsOwn}
 use Rattle.sv32_walk.specs.PageTableEntry.{are_good}

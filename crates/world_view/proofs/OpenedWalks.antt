@@ -13,7 +13,7 @@ use Rattle.sv32_walk.proofs.WalkLemmas.{leaf_in_words}
 use Rattle.sv32_walk.specs.PageTableEntry.{rights_permit, table_word, leaf_word}
 use Rattle.sv32_walk.proofs.WordLemmas.{valid-zero, ppn-table, points-table, ppn-leaf, allows-leaf, refuses-leaf}
 use Rattle.page_map.proofs.WalkLemmas.{last_invalid, last_refused, by_table, no_entry, vpn_0-below, vpn_1-below}
-use Rattle.image_check.specs.declared.own.Rights.{Rights}
+use Rattle.domain_check.specs.declared.segments.Rights.{Rights}
 use Rattle.hardware_check.specs.Hardware.{Hardware}
 use Rattle.image_check.specs.Own.{Own}
 use Rattle.image_check.specs.Laws.{IsOwn}

@@ -16,8 +16,8 @@ use Rattle.cap_table.specs.Slots as slots
 use Rattle.call_table.specs.Claims.{Claim, Claims, frame_of, claim_of, claims, place_of}
 use Rattle.call_table.proofs.ClaimLawsSlots.{claims_at, claims_fixed}
 use Rattle.hardware_check.specs.Hardware.{Hardware}
-use Rattle.image_check.specs.declared.capabilities.InitialCap.{InitialCap}
-use Rattle.image_check.specs.declared.capabilities.InitialCap.TheVariants as initial
+use Rattle.domain_check.specs.declared.capabilities.InitialCap.{InitialCap}
+use Rattle.domain_check.specs.declared.capabilities.InitialCap.TheVariants as initial
 use Rattle.image_check.specs.Laws.{IsOwn}
 use Rattle.image_check.specs.Own.{Segment, Own, cap_at}
 use Rattle.image_check.specs.Pages.{has_page, has_page_in, has_region, regions_below, regions_in, pages_below, frames_in}

@@ -12,7 +12,7 @@ use Rattle.call_table.specs.Claims.{Claim, Claims, frame_of, is_shared, leaf_at,
 use Rattle.call_table.specs.Domain as domain
 use Rattle.call_table.specs.Laws.{Kept}
 use Rattle.hardware_check.specs.Hardware.{Hardware, IsHardware}
-use Rattle.image_check.specs.declared.own.Rights.{Rights}
+use Rattle.domain_check.specs.declared.segments.Rights.{Rights}
 use Rattle.image_check.specs.Own.{Segment, Own, no_segment}
 use Rattle.image_check.specs.Laws.{IsSegment, IsOwn}
 use Rattle.image_check.specs.Image.{Image, own_of}

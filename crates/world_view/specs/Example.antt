@@ -24,7 +24,7 @@ use Rattle.kernel_call.specs.Logs.{log_of}
 use Rattle.frame_colours.specs.Colours as colours
 use Rattle.hardware_check.specs.declared.hardware.Policy.TheVariants.{Lru}
 use Rattle.hardware_check.specs.Hardware.{Hardware}
-use Rattle.image_check.specs.declared.capabilities.InitialCap.TheVariants.{Irq}
+use Rattle.domain_check.specs.declared.capabilities.InitialCap.TheVariants.{Irq}
 use Rattle.image_check.specs.Own.{Segment}
 use Rattle.image_check.specs.Image.{Image, own_of}
 use Rattle.image_check.specs.Pages.{has_region, regions_below, pages_below, pages_in}

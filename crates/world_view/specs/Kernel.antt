@@ -11,9 +11,9 @@ use Rattle.call_table.specs.declared.DomainStatus.TheVariants.{Exited}
 use Rattle.call_table.specs.Domain as domain
 use Rattle.call_table.specs.Domain.{Dom}
 use Rattle.hardware_check.specs.Hardware.{Hardware, colours_of}
-use Rattle.image_check.specs.declared.own.Rights.{Rights}
-use Rattle.image_check.specs.declared.capabilities.InitialCap.{InitialCap}
-use Rattle.image_check.specs.declared.capabilities.InitialCap.TheVariants as initial
+use Rattle.domain_check.specs.declared.segments.Rights.{Rights}
+use Rattle.domain_check.specs.declared.capabilities.InitialCap.{InitialCap}
+use Rattle.domain_check.specs.declared.capabilities.InitialCap.TheVariants as initial
 use Rattle.image_check.specs.Own.{Segment, Own, cap_at}
 use Rattle.image_check.specs.Pages.{has_page_in, has_region, share_of}
 use Rattle.world_view.specs.Frames.{pool_frame, clone_frames, root_of, table_frame, page_frame}

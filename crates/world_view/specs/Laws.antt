@@ -1,6 +1,6 @@
 -- The laws of the machine over its definitions, each as a type; they are the clauses of the functions of `laws`.
 use Rattle.std.specs.Prelude.{◌≡◌, ◌≢◌, ℕ, true, false, ◌+◌, ◌/◌, ◌%◌, ◌<◌, ◌≤◌, ◌^◌, ◌⊎◌, List, ◌∷◌, ◌++◌, length, Some, None, Result, Ok, Err, take, All}
-use Rattle.image_check.specs.declared.own.Rights.{Rights}
+use Rattle.domain_check.specs.declared.segments.Rights.{Rights}
 use Rattle.hardware_check.specs.Hardware.{Hardware, colours_of}
 use Rattle.sched_table.specs.Schedule.{entry_in}
 use Rattle.image_check.specs.Own.{Own}

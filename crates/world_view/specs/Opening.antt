@@ -4,7 +4,7 @@ use Rattle.std.specs.List.{range_with_len}
 use Rattle.tp_base.specs.Table.{empty, at, put}
 use Rattle.phys_mem.specs.Mem.{Frame, Mem}
 use Rattle.sv32_walk.specs.PageTableEntry.{table_word, leaf_word}
-use Rattle.image_check.specs.declared.own.Rights.{Rights}
+use Rattle.domain_check.specs.declared.segments.Rights.{Rights}
 use Rattle.hardware_check.specs.Hardware.{Hardware}
 use Rattle.image_check.specs.Own.{Segment, Own}
 use Rattle.image_check.specs.Pages.{has_page, has_region}

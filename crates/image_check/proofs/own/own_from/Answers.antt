@@ -3,9 +3,9 @@ use Rattle.std.specs.Prelude.{string_bytes}
 use Rattle.std.specs.List.{All}
 use Rattle.image_text.specs.Models.{moment_model}
 use Rattle.hardware_check.specs.Hardware.{natural_of}
-use Rattle.image_check.specs.CapTexts.{cap_in}
-use Rattle.image_check.specs.Own.{IsSmallCap}
-use Rattle.image_check.proofs.Slots.{all_of_map}
+use Rattle.domain_check.specs.CapTexts.{cap_in}
+use Rattle.domain_check.specs.Capabilities.{IsSmallCap}
+use Rattle.domain_check.proofs.Slots.{all_of_map}
 use Rattle.image_check.proofs.own.own_from.Goals as goal
 
 pub caps_of-requires : goal.caps_of-requires

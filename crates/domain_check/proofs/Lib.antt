@@ -1,0 +1,5 @@
+pub mod CapTexts
+pub mod Numbers
+pub mod Slots
+pub mod OwnInterrupts
+pub mod Shares

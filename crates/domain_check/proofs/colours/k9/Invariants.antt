@@ -1,0 +1,8 @@
+use Rattle.std.proofs.Common.{◌≡◌, take, drop, map}
+use Rattle.image_text.specs.Models.{domain_model}
+use Rattle.hardware_check.specs.Cases.{first_case, first_in}
+use Rattle.domain_check.specs.Colours as spec
+use Rattle.domain_check.proofs.colours.k9.Given as goal
+
+abbrev pub invariant-loop-d : goal.invariant-loop-d
+invariant-loop-d l = first_case spec.k9_domain (map domain_model (take l.d l.domains)) (map domain_model (drop l.d l.domains)) ≡ first_in spec.k9_domain (map domain_model l.domains)

@@ -1,0 +1,10 @@
+use Rattle.std.proofs.Common.{◌≡◌, drop, map}
+use Rattle.image_text.specs.Models.{segment_model}
+use Rattle.domain_check.specs.Segments.{segment_of}
+use Rattle.domain_check.specs.Pages as spec
+use Rattle.domain_check.proofs.regions.has_region.Given as goal
+
+abbrev pub invariant-loop-segment : goal.invariant-loop-segment
+invariant-loop-segment l =
+    spec.has_region (map segment_of (map segment_model (drop l.segment-index l.segments))) l.region
+    ≡ spec.has_region (map segment_of (map segment_model l.segments)) l.region

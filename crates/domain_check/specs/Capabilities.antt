@@ -1,0 +1,65 @@
+-- K13, the rule of initial capabilities: the text of each slot names nothing, a page of the domain's segments, or one of its
+-- interrupt lines; and no page and no line is named twice.
+use Rattle.std.specs.Prelude.{ℕ, ◌<◌, ◌^◌, nat_lt, ⊤, pos, Bool, if◌then◌else◌, List, length, Option, Some, None}
+use Rattle.std.specs.List.{list_any}
+use Rattle.std.specs.Str.{bytes_eq}
+use Rattle.image_text.specs.declared.refusal.Refusal.{Refusal}
+use Rattle.image_text.specs.Record.{Raw, RawDomain, RawSegment}
+use Rattle.hardware_check.specs.Cases.{first_in, refusal}
+use Rattle.domain_check.specs.Colours.{names}
+use Rattle.domain_check.specs.Segments.{has_page}
+use Rattle.domain_check.specs.CapTexts.{cap_in}
+use Rattle.domain_check.specs.declared.capabilities.InitialCap.{InitialCap}
+use Rattle.domain_check.specs.declared.capabilities.InitialCap.TheVariants.{None as NoCap, Page, Irq}
+
+-- domain d, the slot or how many there are, and the case
+abbrev pub broken : ℕ → ℕ → ℕ → Option Refusal
+broken d found case = Some (refusal 13 (pos d) (pos found) (pos case))
+
+abbrev pub lies_in : ℕ → RawSegment → Bool
+lies_in page s = has_page s page
+
+-- 5: an earlier slot has the same text. Equal texts name the same, and others another, as no zero stands before a number
+abbrev pub again_case : ℕ → List (List ℕ) → List ℕ → Option Refusal
+again_case d earlier s = if list_any (bytes_eq s) earlier then broken d (length earlier) 5 else None
+
+-- 2: no text of a slot; 3: a page in no segment; 4: none of the domain's lines
+abbrev pub named_case : RawDomain → ℕ → List (List ℕ) → List ℕ → Option InitialCap → Option Refusal
+named_case o d earlier s None = broken d (length earlier) 2
+named_case o d earlier s (Some NoCap) = None
+named_case o d earlier s (Some (Page n)) =
+    if list_any (lies_in n) o.segments then again_case d earlier s else broken d (length earlier) 3
+named_case o d earlier s (Some (Irq n)) =
+    if names o.lines (pos n) then again_case d earlier s else broken d (length earlier) 4
+
+unfoldable pub k13_case : RawDomain → ℕ → List (List ℕ) → List ℕ → Option Refusal
+k13_case o d earlier s = named_case o d earlier s (cap_in s)
+
+-- 1: more than 64 slots
+unfoldable pub k13_domain : List RawDomain → RawDomain → Option Refusal
+k13_domain earlier o =
+    if nat_lt 64 (length o.caps) then broken (length earlier) (length o.caps) 1
+    else first_in (k13_case o (length earlier)) o.caps
+
+unfoldable pub k13 : Raw → Option Refusal
+k13 i = first_in k13_domain i.domains
+
+-- ---- what the slots name
+
+-- a slot names what its text names. That of a line of 32 or more, which no image that keeps the rules has, leaves the slot
+-- empty
+abbrev pub own_cap : Option InitialCap → InitialCap
+own_cap None = NoCap
+own_cap (Some NoCap) = NoCap
+own_cap (Some (Page n)) = Page n
+own_cap (Some (Irq n)) = if nat_lt n 32 then Irq n else NoCap
+
+unfoldable pub cap_of : List ℕ → InitialCap
+cap_of s = own_cap (cap_in s)
+
+-- a page's number fits that of the code
+abbrev pub IsSmallCap : Option InitialCap → Type 0
+IsSmallCap None = ⊤
+IsSmallCap (Some NoCap) = ⊤
+IsSmallCap (Some (Page n)) = n < 2 ^ 32
+IsSmallCap (Some (Irq n)) = ⊤

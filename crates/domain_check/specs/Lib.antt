@@ -1,0 +1,10 @@
+pub mod Names
+pub mod Segments
+pub mod CapTexts
+pub mod Pages
+pub mod Colours
+pub mod Capabilities
+pub mod Interrupts
+pub mod Models
+pub mod Outcomes
+pub mod Laws

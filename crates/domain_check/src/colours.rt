@@ -1,0 +1,198 @@
+// The rules of colours and of the frames that have them, each with its first
+// broken case.
+ghost use Rattle.std.specs.Prelude.{◌≡◌, ◌<◌, ◌≤◌, ◌^◌, map, length, None, IfSome};
+ghost use Rattle.std.specs.List.{All};
+ghost use Rattle.frame_colours.specs.Colours.{whole_of};
+ghost use Rattle.image_text.specs.Reads.{raw_model};
+ghost use Rattle.image_text.specs.Models.{domain_model};
+ghost use Rattle.hardware_check.specs.Cases.{first_in};
+ghost use Rattle.hardware_check.specs.Hardware.{natural_of as spec_natural_of};
+ghost use Rattle.hardware_check.specs.Laws.{KeepsParts};
+ghost use Rattle.hardware_check.specs.Rules.{k3 as spec_k3};
+ghost use Rattle.domain_check.specs.Colours as spec;
+ghost use Rattle.domain_check.specs.Outcomes.{Makes};
+
+use crate::regions::need_of;
+use frame_colours::pool_length;
+use hardware_check::cases::{outside, refusal};
+use hardware_check::{colours_in, frames_in, natural_of};
+use image_text::{Raw, RawDomain, ReadRefusal, Refusal};
+use std::alloc::Global;
+
+/// Whether a number stands in a list.
+pub fn names(numbers: &[i64], number: i64) -> bool
+    ensures value { result ≡ spec.names numbers.now number }
+{
+    for other in numbers {
+        if *other == number {
+            return true;
+        }
+    }
+    false
+}
+
+#[tactic(auto, unfolding(crate::specs::Colours::k8_colour))]
+fn k8_colour(colours: u32, d: usize, earlier: &[i64], colour: i64) -> Option<Refusal>
+    requires domain { d < 2 ^ 63 }
+    ensures value { result ≡ spec.k8_colour colours d earlier.now colour }
+{
+    if outside(1, i64::from(colours.saturating_sub(1)), colour) {
+        return Some(refusal(8, d as i64, colour, i64::from(colours)));
+    }
+    if names(earlier, colour) {
+        return Some(refusal(8, d as i64, colour, i64::from(colours)));
+    }
+    None
+}
+
+fn k8_colours(colours: u32, d: usize, own: &[i64]) -> Option<Refusal>
+    requires domain { d < 2 ^ 63 }
+    ensures value { result ≡ first_in (spec.k8_colour colours d) own.now }
+{
+    for (place, colour) in own.iter().enumerate() {
+        if let Some(refusal) = k8_colour(colours, d, &own[..place], *colour) {
+            return Some(refusal);
+        }
+    }
+    None
+}
+
+fn k8_domains(colours: u32, domains: &[RawDomain]) -> Option<Refusal>
+    ensures value { result ≡ first_in (spec.k8_domain colours) (map domain_model domains.now) }
+{
+    for (d, domain) in domains.iter().enumerate() {
+        if let Some(refusal) = k8_colours(colours, d, domain.colours.as_slice()) {
+            return Some(refusal);
+        }
+    }
+    None
+}
+
+/// K8: each colour is below their number, none is the kernel's, and a domain
+/// names none twice.
+#[tactic(auto, unfolding(crate::specs::Colours::k8))]
+pub fn k8(raw: &Raw) -> Option<Refusal>
+    requires parts { spec_k3 (raw_model raw.now) ≡ None }
+    ensures value { result ≡ spec.k8 (raw_model raw.now) }
+{
+    k8_domains(colours_in(raw), raw.domains.as_slice())
+}
+
+/// The place of the first domain that has this colour.
+fn coloured_so(colour: i64, domains: &[RawDomain]) -> Option<usize>
+    ensures value { result ≡ first_in (spec.coloured_so colour) (map domain_model domains.now) }
+    ensures small { IfSome result (λ e. e < 2 ^ 63) }
+{
+    for (e, domain) in domains.iter().enumerate() {
+        if names(domain.colours.as_slice(), colour) {
+            return Some(e);
+        }
+    }
+    None
+}
+
+fn k9_colours(earlier: &[RawDomain], colours: &[i64]) -> Option<Refusal>
+    requires domain { length earlier.now < 2 ^ 63 }
+    ensures value { result ≡ first_in (spec.k9_colour (map domain_model earlier.now)) colours.now }
+{
+    for colour in colours {
+        if let Some(e) = coloured_so(*colour, earlier) {
+            return Some(refusal(9, earlier.len() as i64, *colour, e as i64));
+        }
+    }
+    None
+}
+
+/// K9: no colour is that of an earlier domain.
+#[tactic(auto, unfolding(crate::specs::Colours::k9))]
+pub fn k9(raw: &Raw) -> Option<Refusal>
+    ensures value { result ≡ spec.k9 (raw_model raw.now) }
+{
+    let domains = raw.domains.as_slice();
+    for (d, domain) in domains.iter().enumerate() {
+        if let Some(refusal) = k9_colours(&domains[..d], domain.colours.as_slice()) {
+            return Some(refusal);
+        }
+    }
+    None
+}
+
+/// Numbers below 256, in bytes.
+///
+/// # Errors
+///
+/// `Memory` alone.
+pub fn bytes_of(alloc: Global, numbers: &[i64]) -> Result<Vec<u8>, ReadRefusal>
+    requires small { All (λ x. spec_natural_of x < 2 ^ 8) numbers.now }
+    ensures value { Makes (λ v. v.items) result (map spec_natural_of numbers.now) }
+{
+    let mut bytes = Vec::new(alloc);
+    for number in numbers {
+        bytes.push(natural_of(*number) as u8)?;
+    }
+    Ok(bytes)
+}
+
+#[tactic(auto, unfolding(crate::specs::Colours::k10_case))]
+fn k10_case(
+    alloc: Global,
+    frames: u32,
+    colours: u32,
+    d: usize,
+    domain: &RawDomain,
+) -> Result<Option<Refusal>, ReadRefusal>
+    requires some { 0 < colours }
+    requires few { colours ≤ 64 }
+    requires domain { d < 2 ^ 63 }
+    requires small { spec.IsSmallDomain (domain_model domain.now) }
+    ensures value { Makes (λ o. o) result
+        (spec.k10_case (whole_of frames colours) d (domain_model domain.now)) }
+{
+    let own = bytes_of(alloc, domain.colours.as_slice())?;
+    let pool = pool_length(frames, colours, &own);
+    let need = need_of(domain.segments.as_slice());
+    if u64::from(pool) < need {
+        return Ok(Some(refusal(10, d as i64, i64::from(pool), need as i64)));
+    }
+    Ok(None)
+}
+
+fn k10_domains(
+    alloc: Global,
+    frames: u32,
+    colours: u32,
+    domains: &[RawDomain],
+) -> Result<Option<Refusal>, ReadRefusal>
+    requires some { 0 < colours }
+    requires few { colours ≤ 64 }
+    requires small { All (λ o. spec.IsSmallDomain (domain_model o)) domains.now }
+    ensures value { Makes (λ o. o) result
+        (first_in (spec.k10_domain (whole_of frames colours)) (map domain_model domains.now)) }
+{
+    for (d, domain) in domains.iter().enumerate() {
+        if let Some(refusal) = k10_case(alloc, frames, colours, d, domain)? {
+            return Ok(Some(refusal));
+        }
+    }
+    Ok(None)
+}
+
+/// K10: a domain's colours have frames for its pages, its page tables and its
+/// clone of the kernel.
+///
+/// # Errors
+///
+/// `Memory` alone.
+#[tactic(auto, unfolding(crate::specs::Colours::k10))]
+pub fn k10(alloc: Global, raw: &Raw) -> Result<Option<Refusal>, ReadRefusal>
+    requires parts { KeepsParts (raw_model raw.now) }
+    requires colours { spec.k8 (raw_model raw.now) ≡ None }
+    ensures value { Makes (λ o. o) result (spec.k10 (raw_model raw.now)) }
+{
+    k10_domains(
+        alloc,
+        frames_in(raw),
+        colours_in(raw),
+        raw.domains.as_slice(),
+    )
+}

@@ -1,0 +1,192 @@
+// The rules of interrupts: K14 of lines, K15 of moments.
+ghost use Rattle.std.specs.Prelude.{◌≡◌, ◌-◌, ◌<◌, ◌^◌, map, length, slice_get, IfSome};
+ghost use Rattle.std.specs.List.{All};
+ghost use Rattle.image_text.specs.Reads.{raw_model};
+ghost use Rattle.image_text.specs.Models.{domain_model, moment_model};
+ghost use Rattle.hardware_check.specs.Cases.{first_in};
+ghost use Rattle.hardware_check.specs.Hardware.{natural_of as spec_natural_of};
+ghost use Rattle.domain_check.specs.Outcomes.{Makes};
+ghost use Rattle.domain_check.specs.Interrupts as spec;
+
+use crate::colours::names;
+use hardware_check::cases::{outside, refusal};
+use hardware_check::natural_of;
+use image_text::{Raw, RawDomain, RawMoment, ReadRefusal, Refusal};
+use irq_partition::Moment;
+use std::alloc::Global;
+
+/// The most moments that a domain has.
+const MOST_MOMENTS: usize = 1024;
+
+/// The last cycle at which an interrupt may come.
+const LAST_CYCLE: i64 = 1_000_000_000_000;
+
+/// The place of the first domain that has this line.
+fn lined_so(line: i64, domains: &[RawDomain]) -> Option<usize>
+    ensures value { result ≡ first_in (spec.lined_so line) (map domain_model domains.now) }
+    ensures small { IfSome result (λ e. e < 2 ^ 63) }
+{
+    for (e, domain) in domains.iter().enumerate() {
+        if names(domain.lines.as_slice(), line) {
+            return Some(e);
+        }
+    }
+    None
+}
+
+/// The domain that named the line before: an earlier one, or the same.
+fn named_before(domains: &[RawDomain], earlier: &[i64], line: i64) -> Option<usize>
+    requires domain { length domains.now < 2 ^ 63 }
+    ensures value { result ≡ spec.named_before (map domain_model domains.now) earlier.now line }
+    ensures small { IfSome result (λ e. e < 2 ^ 63) }
+{
+    if let Some(e) = lined_so(line, domains) {
+        return Some(e);
+    }
+    if names(earlier, line) {
+        return Some(domains.len());
+    }
+    None
+}
+
+#[tactic(auto, unfolding(crate::specs::Interrupts::k14_line))]
+fn k14_line(domains: &[RawDomain], earlier: &[i64], line: i64) -> Option<Refusal>
+    requires domain { length domains.now < 2 ^ 63 }
+    ensures value { result ≡ spec.k14_line (map domain_model domains.now) earlier.now line }
+{
+    let d = domains.len() as i64;
+    if outside(0, 31, line) {
+        return Some(refusal(14, d, line, 32));
+    }
+    match named_before(domains, earlier, line) {
+        Some(e) => Some(refusal(14, d, line, e as i64)),
+        None => None,
+    }
+}
+
+fn k14_lines(domains: &[RawDomain], lines: &[i64]) -> Option<Refusal>
+    requires domain { length domains.now < 2 ^ 63 }
+    ensures value { result ≡ first_in (spec.k14_line (map domain_model domains.now)) lines.now }
+{
+    for (place, line) in lines.iter().enumerate() {
+        if let Some(refusal) = k14_line(domains, &lines[..place], *line) {
+            return Some(refusal);
+        }
+    }
+    None
+}
+
+/// K14: each line is one of 32, and no line is named twice, by one domain or by
+/// two.
+#[tactic(auto, unfolding(crate::specs::Interrupts::k14))]
+pub fn k14(raw: &Raw) -> Option<Refusal>
+    ensures value { result ≡ spec.k14 (raw_model raw.now) }
+{
+    let domains = raw.domains.as_slice();
+    for (d, domain) in domains.iter().enumerate() {
+        if let Some(refusal) = k14_lines(&domains[..d], domain.lines.as_slice()) {
+            return Some(refusal);
+        }
+    }
+    None
+}
+
+/// Whether a moment is later than another, or at its cycle of a greater line.
+fn is_above(moment: &RawMoment, other: &RawMoment) -> bool
+    ensures value { result ≡ spec.is_above (moment_model moment.now) (moment_model other.now) }
+{
+    other.at < moment.at || (other.at == moment.at && other.line < moment.line)
+}
+
+/// The case of a moment that is not above the one before.
+fn order_case(d: usize, earlier: &[RawMoment], moment: &RawMoment) -> Option<Refusal>
+    requires domain { d < 2 ^ 63 }
+    requires place { length earlier.now < 2 ^ 63 }
+    ensures value { let before = map moment_model earlier.now in
+        result ≡ spec.order_case d (length before) (moment_model moment.now)
+        (slice_get before (length before - 1)) }
+{
+    if let Some(before) = earlier.last() {
+        if !is_above(moment, before) {
+            return Some(refusal(15, d as i64, earlier.len() as i64, 4));
+        }
+    }
+    None
+}
+
+#[tactic(auto, unfolding(crate::specs::Interrupts::k15_moment))]
+fn k15_moment(lines: &[i64], d: usize, earlier: &[RawMoment], moment: &RawMoment) -> Option<Refusal>
+    requires domain { d < 2 ^ 63 }
+    requires place { length earlier.now < 2 ^ 63 }
+    ensures value { result ≡ spec.k15_moment lines.now d (map moment_model earlier.now)
+        (moment_model moment.now) }
+{
+    let place = earlier.len() as i64;
+    if outside(0, LAST_CYCLE, moment.at) {
+        return Some(refusal(15, d as i64, place, 2));
+    }
+    if !names(lines, moment.line) {
+        return Some(refusal(15, d as i64, place, 3));
+    }
+    order_case(d, earlier, moment)
+}
+
+#[tactic(auto, unfolding(crate::specs::Interrupts::k15_domain))]
+fn k15_domain(earlier: &[RawDomain], domain: &RawDomain) -> Option<Refusal>
+    requires domain { length earlier.now < 2 ^ 63 }
+    ensures value { result ≡ spec.k15_domain (map domain_model earlier.now) (domain_model domain.now) }
+{
+    let moments = domain.moments.as_slice();
+    let d = earlier.len();
+    if moments.len() > MOST_MOMENTS {
+        return Some(refusal(15, d as i64, moments.len() as i64, 1));
+    }
+    for (place, moment) in moments.iter().enumerate() {
+        if let Some(refusal) = k15_moment(domain.lines.as_slice(), d, &moments[..place], moment) {
+            return Some(refusal);
+        }
+    }
+    None
+}
+
+/// K15: at most 1,024 moments, each from cycle 0 to 1,000,000,000,000, of a line
+/// of its domain, and above the one before.
+#[tactic(auto, unfolding(crate::specs::Interrupts::k15))]
+pub fn k15(raw: &Raw) -> Option<Refusal>
+    ensures value { result ≡ spec.k15 (raw_model raw.now) }
+{
+    let domains = raw.domains.as_slice();
+    for (d, domain) in domains.iter().enumerate() {
+        if let Some(refusal) = k15_domain(&domains[..d], domain) {
+            return Some(refusal);
+        }
+    }
+    None
+}
+
+#[tactic(auto, unfolding(crate::specs::Interrupts::moment_of))]
+fn moment_of(moment: &RawMoment) -> Moment
+    requires small { spec_natural_of moment.now.line < 2 ^ 8 }
+    ensures value { result ≡ spec.moment_of (moment_model moment.now) }
+{
+    Moment {
+        at: natural_of(moment.at),
+        line: natural_of(moment.line) as u8,
+    }
+}
+
+/// The moments that the record says.
+///
+/// # Errors
+///
+/// `Memory` alone.
+pub fn moments_of(alloc: Global, texts: &[RawMoment]) -> Result<Vec<Moment>, ReadRefusal>
+    requires small { All (λ m. spec_natural_of m.line < 2 ^ 8) texts.now }
+    ensures value { Makes (λ v. v.items) result (map spec.moment_of (map moment_model texts.now)) }
+{
+    let mut moments = Vec::new(alloc);
+    for text in texts {
+        moments.push(moment_of(text))?;
+    }
+    Ok(moments)
+}

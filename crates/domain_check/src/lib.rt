@@ -1,0 +1,18 @@
+//! The rules of an image's domains: their names, colours and frames, segments,
+//! initial capabilities, interrupt lines and moments, each with the numbers of
+//! its first broken case; and what the texts of these say.
+#![tactic(auto)]
+
+mod capabilities;
+mod colours;
+mod interrupts;
+pub mod laws;
+mod names;
+mod regions;
+mod segments;
+
+pub use capabilities::{InitialCap, caps_of, k13};
+pub use colours::{bytes_of, k8, k9, k10};
+pub use interrupts::{k14, k15, moments_of};
+pub use names::k7;
+pub use segments::{Rights, Segment, k12, segments_of};

@@ -1,0 +1,79 @@
+// K7, the rule of domains and their names.
+ghost use Rattle.std.specs.Prelude.{◌≡◌, ◌≤◌, ◌<◌, map, length, IfSome, IfNone};
+ghost use Rattle.std.specs.List.{list_all};
+ghost use Rattle.image_text.specs.Reads.{raw_model};
+ghost use Rattle.image_text.specs.Models.{domain_model};
+ghost use Rattle.hardware_check.specs.Cases as cases;
+ghost use Rattle.domain_check.specs.Names as spec;
+
+use hardware_check::cases::{count_case, refusal};
+use image_text::{Raw, RawDomain, Refusal};
+
+fn has_name_bytes(text: &[u8]) -> bool
+    ensures value { result ≡ list_all spec.is_name_byte text.now }
+{
+    text.iter().all(|&c| matches!(c, b'a'..=b'z' | b'0'..=b'9'))
+}
+
+fn is_name(text: &str) -> bool
+    ensures value { result ≡ spec.is_name text.now }
+{
+    if text.is_empty() || text.len() > 16 {
+        return false;
+    }
+    has_name_bytes(text.as_bytes())
+}
+
+/// The place of the first domain of this name.
+fn named_so(name: &str, domains: &[RawDomain]) -> Option<usize>
+    requires few { length domains.now ≤ 16 }
+    ensures value { result ≡ cases.first_in (spec.named_so name.now) (map domain_model domains.now) }
+    ensures small { IfSome result (λ e. e < 16) }
+{
+    for (e, domain) in domains.iter().enumerate() {
+        if domain.name.as_str() == name {
+            return Some(e);
+        }
+    }
+    None
+}
+
+#[tactic(auto, unfolding(crate::specs::Names::k7_domain))]
+fn k7_domain(earlier: &[RawDomain], domain: &RawDomain) -> Option<Refusal>
+    requires few { length earlier.now ≤ 16 }
+    ensures value { result ≡ spec.k7_domain (map domain_model earlier.now) (domain_model domain.now) }
+{
+    let d = earlier.len() as i64;
+    let name = domain.name.as_str();
+    if !is_name(name) {
+        return Some(refusal(7, d, name.len() as i64, 16));
+    }
+    match named_so(name, earlier) {
+        Some(e) => Some(refusal(7, d, e as i64, 0)),
+        None => None,
+    }
+}
+
+fn k7_domains(domains: &[RawDomain]) -> Option<Refusal>
+    requires few { length domains.now ≤ 16 }
+    ensures value { result ≡ cases.first_in spec.k7_domain (map domain_model domains.now) }
+{
+    for (d, domain) in domains.iter().enumerate() {
+        if let Some(refusal) = k7_domain(&domains[..d], domain) {
+            return Some(refusal);
+        }
+    }
+    None
+}
+
+/// K7: 1 to 16 domains, each of a name of its own.
+#[tactic(auto, unfolding(crate::specs::Names::k7))]
+pub fn k7(raw: &Raw) -> Option<Refusal>
+    ensures value { result ≡ spec.k7 (raw_model raw.now) }
+{
+    let domains = raw.domains.as_slice();
+    if let Some(refusal) = count_case(7, 16, 16, 16, domains.len()) {
+        return Some(refusal);
+    }
+    k7_domains(domains)
+}

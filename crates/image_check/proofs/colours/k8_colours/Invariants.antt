@@ -1,7 +1,0 @@
-use Rattle.std.proofs.Common.{◌≡◌, take, drop}
-use Rattle.hardware_check.specs.Cases.{first_case, first_in}
-use Rattle.image_check.specs.Colours as spec
-use Rattle.image_check.proofs.colours.k8_colours.Given as goal
-
-abbrev pub invariant-loop-place : goal.invariant-loop-place
-invariant-loop-place l = first_case (spec.k8_colour l.colours l.d) (take l.place l.own) (drop l.place l.own) ≡ first_in (spec.k8_colour l.colours l.d) l.own

@@ -1,8 +1,0 @@
-use Rattle.std.proofs.Common.{◌≡◌, take, drop, map}
-use Rattle.image_text.specs.Models.{domain_model}
-use Rattle.hardware_check.specs.Cases.{first_case, first_in}
-use Rattle.image_check.specs.Rules as spec
-use Rattle.image_check.proofs.rules.named_so.Given as goal
-
-abbrev pub invariant-loop-e : goal.invariant-loop-e
-invariant-loop-e l = first_case (spec.named_so l.name) (map domain_model (take l.e l.domains)) (map domain_model (drop l.e l.domains)) ≡ first_in (spec.named_so l.name) (map domain_model l.domains)

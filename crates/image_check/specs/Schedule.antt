@@ -1,0 +1,22 @@
+-- K16, the rule of the schedule: 1 to 64 entries, each of a domain that is there, a length and a pad.
+use Rattle.std.specs.Prelude.{ℕ, ◌&&◌, not, ℤ, pos, int_lt, Bool, if◌then◌else◌, List, length, Option, Some, None}
+use Rattle.image_text.specs.declared.refusal.Refusal.{Refusal}
+use Rattle.image_text.specs.Record.{Raw, RawEntry}
+use Rattle.hardware_check.specs.Cases.{or_else, first_in, refusal, outside, count_case}
+
+-- a number of one of so many
+abbrev pub is_number : ℕ → ℤ → Bool
+is_number many x = not (int_lt x (pos 0)) && int_lt x (pos many)
+
+unfoldable pub k16_case : ℕ → ℕ → RawEntry → Option Refusal
+k16_case domains place e =
+    if not (is_number domains e.domain) then Some (refusal 16 (pos place) e.domain (pos 2))
+    else if outside (pos 1000) (pos 1000000) e.length then Some (refusal 16 (pos place) e.length (pos 3))
+    else if outside (pos 0) (pos 1000000) e.pad then Some (refusal 16 (pos place) e.pad (pos 4))
+    else None
+
+abbrev pub k16_entry : ℕ → List RawEntry → RawEntry → Option Refusal
+k16_entry domains earlier e = k16_case domains (length earlier) e
+
+unfoldable pub k16 : Raw → Option Refusal
+k16 i = or_else (count_case 16 0 1 64 (length i.schedule)) (first_in (k16_entry (length i.domains)) i.schedule)
