@@ -1,27 +1,27 @@
 -- Which slots DELETE and REVOKE empty, and which entries of page tables each call writes.
-use Rattle.std.proofs.Common.{◌≡◌, ◌≢◌, ◌∙◌, ap, ap₂, sym, subst, refl, inl, inr, ◌⊎◌, ℕ, zero, suc, ◌+◌, ◌-◌, ◌<◌, ◌≤◌, Bool, true, false, not, ◌&&◌, arith, add-one, eqb-true, eq-eqb, length, length-set, get_or, List, [], ◌∷◌, ◌++◌, Option, Some, None}
+use Rattle.std.proofs.Common.{◌≡◌, ◌≢◌, ◌∙◌, ap, ap₂, sym, subst, refl, inl, inr, ◌⊎◌, ℕ, zero, suc, ◌+◌, ◌<◌, ◌≤◌, Bool, true, false, not, ◌&&◌, arith, add-one, eqb-true, eq-eqb, length, length-set, List, [], ◌∷◌, ◌++◌, Option, Some, None}
 use Rattle.std.specs.Prelude.{nat_eq, nat_lt, map, if◌then◌else◌}
 use Rattle.std.specs.List.{range_with_len}
 use Rattle.std.proofs.lemmas.Bool.{cases_eq, cases_lt}
 use Rattle.std.proofs.lemmas.List.{get_or_past, append-nil}
 use Rattle.tp_base.specs.Act.{Done, go_on, ◌>>=◌, ◌>>◌, give, stop, check}
-use Rattle.phys_mem.specs.Mem.{Mem, word, zeroed_frame, word-written_frame}
+use Rattle.phys_mem.specs.Mem.{Mem, word, word-written_frame}
 use Rattle.sv32_walk.specs.PageTableEntry.{ppn, vpn_0, vpn_1}
 use Rattle.sv32_walk.specs.Walk.{entry_address}
 use Rattle.thread_set.specs.Threads.{with_current}
 use Rattle.page_map.specs.declared.refusal.MapRefusal.{MapRefusal}
 use Rattle.page_map.specs.Tables.{has_table, table_of, map_refusal, install_refusal}
-use Rattle.page_map.specs.Changes.{table_entry, page_entry, mapped, unmapped, installed}
+use Rattle.page_map.specs.Changes.{table_entry, page_entry, unmapped}
 use Rattle.cap_table.specs.declared.Cap.{Cap}
 use Rattle.cap_table.specs.declared.Cap.TheVariants as cap
 use Rattle.cap_table.specs.Slots as slots
 use Rattle.cap_table.specs.Slots.{Slots, cap_at, with_cap, mapped_at, alike, copied, noted, push_some, is_revoked, slot_after, revoked_count, revoked_entries}
 use Rattle.call_table.specs.Domain.{Dom, placed, replied, done, refused, exited, with_caps}
 use Rattle.call_table.specs.Claims.{Estate, least_free}
-use Rattle.call_table.specs.Calls.{Note, Act, Page, Directory, entries_in, zero_out, page_refusal, table_refusal, map_at, unmap_at, install_at, uninstall_at, empty_buffer, some_or, is_slot, filled, allowed, unless_refused, page_in, table_in, fresh_cap, copy_refusal, clear_entry, with_slot, put_byte, alloc, install, map_page, unmap, copy, drop_slot, delete, drop_if, drop_others, revoke, call_of, call}
+use Rattle.call_table.specs.Calls.{Note, Act, entries_in, zero_out, page_refusal, table_refusal, map_at, unmap_at, install_at, uninstall_at, empty_buffer, some_or, is_slot, filled, allowed, unless_refused, page_in, table_in, copy_refusal, clear_entry, with_slot, put_byte, alloc, install, map_page, unmap, copy, drop_slot, delete, drop_if, drop_others, revoke, call_of, call}
 use Rattle.call_table.specs.Laws as laws
 use Rattle.call_table.specs.Laws.{Kept}
-use Rattle.call_table.specs.Meanings.{Makes, argument_a, argument_b, argument_c, answered}
+use Rattle.call_table.specs.Meanings.{argument_a, argument_b, argument_c}
 use Rattle.call_table.specs.Entries.{IsDeleted, DeletedSlotLaw, IsRevokedAll, RevokedSlotsLaw, entry_of, entries_written, EntriesLaw}
 use Rattle.call_table.proofs.TablesSlots.{filled_within, cap_same, cap_other}
 use Rattle.call_table.proofs.QuietCalls.{Quiet, poll_quiet, wait_quiet, signal_quiet, spawn_quiet, yield_quiet, end_quiet}
