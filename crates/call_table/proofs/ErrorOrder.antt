@@ -1,13 +1,11 @@
 -- A call is refused by the first of its errors, and done where it has none; their codes ascend.
 use Rattle.std.proofs.Common.{◌≡◌, ◌∙◌, ap, sym, subst, refl, inl, inr, ◌⊎◌, ℕ, ◌%◌, Bool, true, false, not, ◌&&◌, ◌||◌, List, [], ◌∷◌, length, arith, ne_eqb, Option, Some, None, is_some}
 use Rattle.std.specs.Prelude.{nat_eq, nat_lt, nat_le, if◌then◌else◌, is_none, map, slice_get}
-use Rattle.std.specs.List.Sorted.{IsStrictlyIncreasing}
 use Rattle.tp_base.specs.Act.{Done, go_on, ◌>>=◌, ◌>>◌, give, stop, check}
 use Rattle.phys_mem.specs.Mem.{Mem}
 use Rattle.sv32_walk.specs.PageTableEntry.{valid}
 use Rattle.sv32_walk.specs.Translation.{second_entry}
 use Rattle.thread_set.specs.Threads.{vacant}
-use Rattle.page_map.specs.declared.refusal.MapRefusal.{MapRefusal}
 use Rattle.page_map.specs.declared.refusal.MapRefusal.TheVariants as refusal
 use Rattle.page_map.specs.Tables.{has_table, has_page, map_refusal, install_refusal}
 use Rattle.frame_colours.proofs.Ascending.{Ascends, increasing_from_Ascends}
@@ -16,12 +14,12 @@ use Rattle.cap_table.specs.declared.Cap.TheVariants as cap
 use Rattle.cap_table.specs.Slots.{cap_at, is_filled, page_of, table_of, line_of, mapped_at, installed_at, in_use}
 use Rattle.call_table.specs.Domain.{Dom, refused}
 use Rattle.call_table.specs.Claims.{Estate, free_frames, least_free}
-use Rattle.call_table.specs.Calls.{Note, Act, zero_out, page_refusal, table_refusal, map_at, unmap_at, install_at, uninstall_at, empty_buffer, some_or, is_slot, filled, page_in, table_in, line_in, line_at, may_give, allowed, put_byte, alloc, install, map_page, unmap, copy_refusal, unless_refused, copy, clear_entry, drop_slot, delete, drop_if, drop_others, revoke, poll, wait, signal, spawn, call_of, call}
+use Rattle.call_table.specs.Calls.{Note, Act, page_refusal, table_refusal, some_or, is_slot, filled, page_in, table_in, line_in, line_at, may_give, allowed, put_byte, alloc, install, map_page, unmap, copy_refusal, unless_refused, copy, drop_slot, delete, drop_others, revoke, poll, wait, signal, spawn, call_of, call}
 use Rattle.call_table.specs.Calls.{Page, Directory as TableCap}
 use Rattle.call_table.specs.Laws as laws
 use Rattle.call_table.specs.Meanings.{argument_a, argument_b, argument_c}
 use Rattle.call_table.proofs.Refusals.{Sure, give_sure, zero_sure, map_at_sure, unmap_at_sure, install_at_sure, buffer_sure, bind_sure, drop_sure, drop_others_sure}
-use Rattle.call_table.specs.Errors.{Error, bad_call, bad_slot, empty, used, wrong_kind, bad_rights, bad_address, mapped, no_table, no_frame, output_full, table_in_use, no_thread, held, rights_of, is_multiple, is_beyond, errors_of, errors, first_so, AscendLaw, FirstErrorLaw, NoErrorLaw}
+use Rattle.call_table.specs.Errors.{Error, bad_call, bad_slot, empty, used, wrong_kind, bad_rights, bad_address, mapped, no_table, no_frame, output_full, table_in_use, no_thread, held, rights_of, is_multiple, is_beyond, errors_of, first_so, AscendLaw, FirstErrorLaw, NoErrorLaw}
 
 -- it goes on with a value
 abbrev Goes : {A : Type 0} → Dom ⊎ A → Type 0

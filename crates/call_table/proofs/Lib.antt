@@ -26,3 +26,4 @@ pub mod MeaningThreads
 pub mod MeaningPages
 pub mod ErrorOrder
 pub mod RightsKept
+pub mod EntriesWritten

@@ -1,5 +1,5 @@
 -- What a call comes to, by its number and the tests that it passes: the domain that it leaves, in one equation.
-use Rattle.std.proofs.Common.{◌≡◌, ◌∙◌, ap, ap₂, refl, inr, ℕ, ◌<◌, ◌≤◌, ◌%◌, Bool, true, false, arith, eq-eqb, lt-ltb, le-ltb, Option, Some, None}
+use Rattle.std.proofs.Common.{◌≡◌, ◌∙◌, ap, ap₂, refl, inr, ℕ, ◌<◌, ◌≤◌, ◌%◌, Bool, true, false, eq-eqb, lt-ltb, le-ltb, Option, Some, None}
 use Rattle.std.specs.Prelude.{nat_eq, nat_lt, [], ◌∷◌, ◌++◌, length}
 use Rattle.tp_base.specs.Act.{Done, go_on, ◌>>=◌, ◌>>◌, give, stop, check, either}
 use Rattle.phys_mem.specs.Mem.{Mem}
@@ -8,7 +8,7 @@ use Rattle.page_map.specs.Changes.{page_entry, unmapped}
 use Rattle.cap_table.specs.declared.Cap.{Cap}
 use Rattle.cap_table.specs.declared.Cap.TheVariants as cap
 use Rattle.cap_table.specs.Slots.{cap_at, noted}
-use Rattle.call_table.specs.Domain.{Dom, done, refused, exited, is_set, with_bit, signalled, turned, waiting, thread_ended, with_spawned}
+use Rattle.call_table.specs.Domain.{Dom, done, refused, exited, is_set, with_bit, signalled, turned, thread_ended, with_spawned}
 use Rattle.call_table.specs.Claims.{Estate}
 use Rattle.call_table.specs.Calls.{Note, Act, some_or, is_slot, filled, line_in, line_at, bit_value, page_in, unmap_at, empty_buffer, with_slot, put_byte, unmap, poll, waited, wait, signal, spawn, call_of, call}
 use Rattle.call_table.specs.ThreadLaws.{after_call}

@@ -1,15 +1,14 @@
 -- What TABLE and UNMAP leave of page tables, and which calls leave memory.
-use Rattle.std.proofs.Common.{◌≡◌, ◌≢◌, ◌∙◌, ap, sym, subst, refl, inl, inr, ◌⊎◌, ℕ, ◌<◌, ◌%◌, ◌/◌, Bool, true, false, true≢false, not, arith, eqb-true, length, [], Option, Some, None}
-use Rattle.std.specs.Prelude.{nat_eq, nat_lt, is_some, if◌then◌else◌, ◌∷◌}
-use Rattle.std.proofs.lemmas.Bool.{ltb-true}
+use Rattle.std.proofs.Common.{◌≡◌, ◌≢◌, ◌∙◌, ap, sym, subst, refl, ℕ, ◌<◌, Bool, true, false, true≢false, not, eqb-true, length, [], Option, Some, None}
+use Rattle.std.specs.Prelude.{nat_eq, is_some, if◌then◌else◌}
 use Rattle.tp_base.specs.Act.{Done, go_on, ◌>>=◌, ◌>>◌, give, stop, check, either}
-use Rattle.phys_mem.specs.Mem.{Mem, word, word-written_same, word-written_frame}
+use Rattle.phys_mem.specs.Mem.{Mem, word, word-written_frame}
 use Rattle.sv32_walk.specs.PageTableEntry.{valid, ppn, vpn_0, vpn_1, table_word}
 use Rattle.sv32_walk.specs.Translation.{first_entry, second_entry}
 use Rattle.sv32_walk.proofs.WordLemmas.{ppn-table, points-table}
 use Rattle.thread_set.specs.Threads.{with_current}
-use Rattle.page_map.specs.Tables.{map_refusal, install_refusal}
-use Rattle.page_map.specs.Changes.{unmapped, installed}
+use Rattle.page_map.specs.Tables.{install_refusal}
+use Rattle.page_map.specs.Changes.{installed}
 use Rattle.page_map.proofs.KeptLemmas.{not_valid}
 use Rattle.page_map.proofs.RefusalLemmas.{map_free}
 use Rattle.page_map.proofs.PageLemmas.{page_elsewhere, cleared_fault}
@@ -17,13 +16,12 @@ use Rattle.page_map.proofs.RegionLemmas.{region_elsewhere, first_is}
 use Rattle.cap_table.specs.declared.Cap.{Cap}
 use Rattle.cap_table.specs.declared.Cap.TheVariants as cap
 use Rattle.cap_table.specs.Slots.{cap_at, table_of, noted}
-use Rattle.call_table.specs.Domain.{Dom, replied, placed, done, refused, exited, with_caps}
+use Rattle.call_table.specs.Domain.{Dom, replied, placed, done, exited, with_caps}
 use Rattle.call_table.specs.Claims.{Claim, Estate, is_mine, claims, claim_of, region_of}
 use Rattle.call_table.specs.Calls.{Note, Act, Directory, some_or, is_slot, table_in, unless_refused, copy_refusal, put_byte, with_slot, install, copy, call_of, call}
 use Rattle.call_table.specs.Laws as laws
 use Rattle.call_table.specs.Laws.{Kept}
-use Rattle.call_table.specs.ThreadLaws.{after_call}
-use Rattle.call_table.specs.Meanings.{Makes, argument_a, argument_b, argument_c, memory_after, touches_memory, LeavesMemory, MemoryLaw, IsInstalled, IsTableCall, TableLaw, IsUnmapped, UnmapLaw}
+use Rattle.call_table.specs.Meanings.{argument_a, argument_b, argument_c, touches_memory, MemoryLaw, IsInstalled, IsTableCall, TableLaw, IsUnmapped, UnmapLaw}
 use Rattle.call_table.proofs.ClaimLaws.{not_root}
 use Rattle.call_table.proofs.TablesSlots.{filled_within, claim_at, cap_same, cap_other}
 use Rattle.call_table.proofs.TablesMeaning.{page_tables}

@@ -1,27 +1,23 @@
 -- What the calls of threads, lines and output leave of a domain.
-use Rattle.std.proofs.Common.{◌≡◌, ◌≢◌, ◌∙◌, ap, sym, subst, refl, ℕ, zero, suc, ◌+◌, ◌<◌, ◌≤◌, ◌%◌, ◌^◌, Bool, true, false, true≢false, not, arith, length, get_or, set, get_or-set_same, get_or-set_other, inl, inr, Option, Some, None}
+use Rattle.std.proofs.Common.{◌≡◌, ◌≢◌, ◌∙◌, ap, sym, subst, refl, ℕ, suc, ◌+◌, ◌<◌, ◌%◌, ◌^◌, Bool, true, false, true≢false, not, arith, length, get_or, set, get_or-set_same, get_or-set_other, inl, inr, Option, Some, None}
 use Rattle.std.specs.Prelude.{if◌then◌else◌, List, [], ◌∷◌, ◌++◌}
 use Rattle.std.specs.List.{list_any}
 use Rattle.std.proofs.lemmas.Bool.{cases_eq, cases_lt}
 use Rattle.std.proofs.lemmas.List.{get_or-replicate, get_or_past, length-set}
 use Rattle.std.proofs.lemmas.List.Folds.{list_any_at}
-use Rattle.phys_mem.specs.Mem.{Mem}
-use Rattle.rv_core.specs.Registers.{zeros, register, with_register}
+use Rattle.rv_core.specs.Registers.{zeros}
 use Rattle.thread_set.specs.declared.Thread.{Thread}
-use Rattle.thread_set.specs.declared.ThreadState.TheVariants.{Ready, Waiting, Ended}
-use Rattle.thread_set.specs.Threads.{Threads, AreThreads, all_of, number_of, never, thread_at, is_ready, is_live, in_state, between, yielded, given_way, with_current, with_thread, started, vacant, started_at, spawned, finished, waiter, resumed, resumed_at, woken, end_live, all_ended}
+use Rattle.thread_set.specs.declared.ThreadState.TheVariants.{Ended}
+use Rattle.thread_set.specs.Threads.{Threads, AreThreads, all_of, number_of, never, thread_at, is_ready, is_live, in_state, yielded, given_way, with_current, with_thread, started, vacant, started_at, spawned, finished, waiter, resumed, resumed_at, woken, end_live}
 use Rattle.thread_set.proofs.Parts.{number-below}
-use Rattle.thread_set.proofs.Places.{IsFirst, position-first, position-nowhere}
+use Rattle.thread_set.proofs.Places.{position-first, position-nowhere}
 use Rattle.thread_set.proofs.Turns.{yielded-ready, yielded-soonest, yielded-all, given-all}
 use Rattle.thread_set.proofs.Changes.{spawned-eight, spawned-at, spawned-others, blocked-at, blocked-others, finished-at, finished-others, put-turn, ended-at}
-use Rattle.call_table.specs.declared.DomainStatus.{DomainStatus}
 use Rattle.call_table.specs.declared.DomainStatus.TheVariants.{Exited}
-use Rattle.call_table.specs.declared.Reply.{Reply}
-use Rattle.call_table.specs.Domain.{Dom, placed, recorded, replied, done, exited, is_set, with_bit, signalled_by, signalled, delivered_on, turned, waiting, has_live, thread_ended, with_spawned}
-use Rattle.call_table.specs.Claims.{Estate}
+use Rattle.call_table.specs.Domain.{Dom, placed, recorded, replied, done, exited, with_bit, signalled_by, signalled, delivered_on, turned, waiting, has_live, thread_ended, with_spawned}
 use Rattle.call_table.specs.Calls.{bit_value, waited}
-use Rattle.call_table.specs.ThreadLaws.{MayRun, after_call}
-use Rattle.call_table.specs.Meanings.{Makes, Names, argument_a, argument_b, caller, answered, IsDone, OthersStay, IsExited, ExitLaw, IsLastLive, IsThreadEnded, EndThreadLaw, IsPrinted, PutLaw, OutputFullLaw, IsPolled, IsWaiting, PollSetLaw, PollClearLaw, WaitSetLaw, WaitClearLaw, IsSignalled, SignalLaw, IsVacant, IsStarted, IsSpawned, SpawnLaw, NoThreadLaw, IsYielded, YieldLaw}
+use Rattle.call_table.specs.ThreadLaws.{MayRun}
+use Rattle.call_table.specs.Meanings.{argument_a, argument_b, caller, answered, IsExited, ExitLaw, IsLastLive, IsThreadEnded, EndThreadLaw, IsPrinted, PutLaw, OutputFullLaw, IsPolled, IsWaiting, PollSetLaw, PollClearLaw, WaitSetLaw, WaitClearLaw, IsSignalled, SignalLaw, IsVacant, IsStarted, IsSpawned, SpawnLaw, NoThreadLaw, IsYielded, YieldLaw}
 use Rattle.call_table.proofs.ThreadLawsTurns.{ready_live, current_at, current_eight, current_others, current_stays, waiter_waits, waits_apart}
 use Rattle.call_table.proofs.MeaningNumbers.{exit_is, end_is, yield_is, put_is, full_is, poll_is, wait_is, signal_is, spawn_is, none_is}
 

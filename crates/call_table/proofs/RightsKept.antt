@@ -1,13 +1,13 @@
 -- Each leaf stays within the rights of the capability through which it is mapped, and what walks come to then.
-use Rattle.std.proofs.Common.{◌≡◌, ◌≢◌, ◌∙◌, ap, ap₂, sym, subst, refl, inl, inr, ◌⊎◌, ℕ, zero, suc, ◌-◌, ◌<◌, ◌≤◌, ◌%◌, ◌/◌, Bool, true, false, true≢false, not, arith, eqb-true, eq-eqb, leb-true, length, Option, Some, None}
-use Rattle.std.specs.Prelude.{if◌then◌else◌, nat_eq, nat_lt, nat_le, Ok, ◌&&◌, ◌∷◌, ◌++◌, []}
-use Rattle.std.proofs.lemmas.Bool.{and_parts, cases_eq, cases_lt, cases_Bool}
+use Rattle.std.proofs.Common.{◌≡◌, ◌≢◌, ◌∙◌, ap, ap₂, sym, subst, refl, inl, inr, ◌⊎◌, ℕ, zero, suc, ◌-◌, ◌<◌, ◌≤◌, ◌%◌, ◌/◌, Bool, true, false, true≢false, arith, eqb-true, eq-eqb, leb-true, length, Option, Some, None}
+use Rattle.std.specs.Prelude.{if◌then◌else◌, nat_eq, nat_le}
+use Rattle.std.proofs.lemmas.Bool.{and_parts, cases_lt}
 use Rattle.tp_base.specs.Act.{Done, ◌>>◌, give, either}
 use Rattle.phys_mem.specs.Mem.{Mem, word, written, zeroed_frame, word-written_frame}
 use Rattle.sv32_walk.specs.declared.access.Access.{Access}
 use Rattle.sv32_walk.specs.declared.access.Access.TheVariants.{Fetch, Load, Store}
 use Rattle.sv32_walk.specs.PageTableEntry.{valid, ppn, vpn_0, vpn_1, are_good, rights_permit, leaf_word, permits, user}
-use Rattle.sv32_walk.specs.Translation.{first_entry, second_entry, Allows, HasLeaf, big, small}
+use Rattle.sv32_walk.specs.Translation.{second_entry, Allows, HasLeaf, big, small}
 use Rattle.sv32_walk.proofs.EntryLemmas.{allowed-permits}
 use Rattle.sv32_walk.proofs.WordLemmas.{valid-leaf, permits-leaf, points-table, ppn-table}
 use Rattle.sv32_walk.proofs.WalkLemmas.{leaf_in_words}
@@ -18,15 +18,15 @@ use Rattle.page_map.proofs.KeptLemmas.{at_write, never}
 use Rattle.page_map.proofs.PageLemmas.{first_in, second_in}
 use Rattle.cap_table.specs.declared.Cap.{Cap}
 use Rattle.cap_table.specs.declared.Cap.TheVariants as cap
-use Rattle.cap_table.specs.Slots.{Slots, cap_at, with_cap, mapped_at, copied, noted, is_revoked, revoked_count}
+use Rattle.cap_table.specs.Slots.{Slots, cap_at, mapped_at, copied, noted, is_revoked, revoked_count}
 use Rattle.rv_core.specs.Registers.{register}
 use Rattle.call_table.specs.Domain.{Dom, placed, replied, done, refused, exited, with_caps}
-use Rattle.call_table.specs.Claims.{Claim, Estate, is_mine, claims, claim_of, place_of, least_free, IsMapped, IsEstate}
-use Rattle.call_table.specs.Calls.{Note, Act, Page, is_within, may_give, is_slot, page_in, table_in, fresh_cap, copy_refusal, clear_entry, with_slot, put_byte, alloc, install, map_page, unmap, copy, drop_slot, delete, drop_if, drop_others, revoke, clears_entries, call_of, call}
-use Rattle.call_table.specs.Laws.{Kept, LeavesKept, IsPageFrame}
+use Rattle.call_table.specs.Claims.{Claim, Estate, is_mine, claims, claim_of, place_of, least_free, IsMapped}
+use Rattle.call_table.specs.Calls.{Note, Page, is_within, may_give, is_slot, page_in, table_in, fresh_cap, copy_refusal, clear_entry, with_slot, put_byte, alloc, install, map_page, unmap, copy, drop_slot, delete, drop_if, drop_others, revoke, call_of, call}
+use Rattle.call_table.specs.Laws.{Kept, LeavesKept}
 use Rattle.call_table.specs.Rights.{IsWithin, AreWithin, NothingMappedLaw, CallsWithinLaw, StoresWithinLaw, MayReach, by_cap, for_good, WalksWithinLaw}
-use Rattle.call_table.proofs.TablesClaims.{table_frame, leaf_entry, leaf_frame, some_same}
-use Rattle.call_table.proofs.TablesSlots.{filled_within, claim_at, claim_within, cap_by}
+use Rattle.call_table.proofs.TablesClaims.{leaf_entry, leaf_frame}
+use Rattle.call_table.proofs.TablesSlots.{claim_at, claim_within, cap_by}
 use Rattle.call_table.proofs.TablesMeaning.{page_tables}
 use Rattle.call_table.proofs.QuietCalls.{later_quiet}
 use Rattle.call_table.proofs.CallLaws.{CanTake, map_allowed, install_allowed}
@@ -133,10 +133,14 @@ module _ (e : Estate) (d : Dom) (m : Mem) where
   unfolding clear_entry
   clear_less x n (Some (cap.Frame f rights (Some va))) i h =
       unmap_gives Whatever Less n e.root va _ (give_gives Whatever Less (unmapped n e.root va) _ (record {
-        maps = slot_maps d x i None h.maps no_cap; leaves = less_leaves m n e.root _ _ h.leaves }))
+        maps = slot_maps d x i None h.maps no_cap;
+        leaves = less_leaves m n e.root _ _ h.leaves;
+      }))
   clear_less x n (Some (cap.Table f (Some va))) i h =
       uninstall_gives Whatever Less n e.root va _ (give_gives Whatever Less (uninstalled n e.root va) _ (record {
-        maps = slot_maps d x i None h.maps no_cap; leaves = less_leaves m n e.root _ _ h.leaves }))
+        maps = slot_maps d x i None h.maps no_cap;
+        leaves = less_leaves m n e.root _ _ h.leaves;
+      }))
   clear_less x n (Some (cap.Frame f rights None)) i h =
       nothing_gives Whatever Less n _ (give_gives Whatever Less n _ (record { maps = slot_maps d x i None h.maps no_cap; leaves = h.leaves }))
   clear_less x n (Some (cap.Table f None)) i h =

@@ -27,7 +27,7 @@ zeroed-append (Note.Zeroed f ∷ ns) ms none = absurd (cc none)
 zeroed-append (Note.Entry at ∷ ns) ms none = zeroed-append ns ms none
 zeroed-append (Note.Emptied ∷ ns) ms none = zeroed-append ns ms none
 
-entries-append : (ns ms : List Note) → entries_in (ns ++ ms) ≡ entries_in ns ++ entries_in ms
+pub entries-append : (ns ms : List Note) → entries_in (ns ++ ms) ≡ entries_in ns ++ entries_in ms
 unfolding entries_in
 entries-append [] ms = refl
 entries-append (Note.Zeroed f ∷ ns) ms = entries-append ns ms

@@ -1,5 +1,5 @@
 -- The errors of the calls: of each call those that it may have, in the order of their codes, and when each is so.
-use Rattle.std.specs.Prelude.{◌≡◌, ℕ, ◌%◌, nat_eq, nat_lt, nat_le, Bool, true, false, not, ◌&&◌, ◌||◌, if◌then◌else◌, List, [], ◌∷◌, length, map, Option, Some, None, is_some, is_none}
+use Rattle.std.specs.Prelude.{◌≡◌, ℕ, ◌%◌, nat_eq, nat_lt, nat_le, Bool, true, not, ◌&&◌, ◌||◌, if◌then◌else◌, List, [], ◌∷◌, length, map, Option, Some, None, is_some, is_none}
 use Rattle.std.specs.List.Sorted.{IsStrictlyIncreasing}
 use Rattle.std.proofs.Common.{inl, inr}
 use Rattle.phys_mem.specs.Mem.{Mem}
@@ -85,32 +85,32 @@ errors_of e d m number a b c =
     if nat_eq number 0 then []
     else if nat_eq number 1 then output_full (not (nat_lt (length d.printed) 4096)) ∷ []
     else if nat_eq number 2 then
-      bad_slot (not (is_slot a)) ∷ used (is_some (held d a)) ∷ wrong_kind (not (nat_le b 1))
-      ∷ no_frame (nat_eq (length (free_frames e d.caps)) 0) ∷ []
+    bad_slot (not (is_slot a)) ∷ used (is_some (held d a)) ∷ wrong_kind (not (nat_le b 1))
+    ∷ no_frame (nat_eq (length (free_frames e d.caps)) 0) ∷ []
     else if nat_eq number 3 then
-      bad_slot (not (is_slot a)) ∷ empty (is_none (held d a)) ∷ wrong_kind (is_none (table_of (held d a)))
-      ∷ bad_address (not (is_multiple 4194304 b))
-      ∷ mapped (is_some (installed_at (held d a)) || has_table m e.root b) ∷ []
+    bad_slot (not (is_slot a)) ∷ empty (is_none (held d a)) ∷ wrong_kind (is_none (table_of (held d a)))
+    ∷ bad_address (not (is_multiple 4194304 b))
+    ∷ mapped (is_some (installed_at (held d a)) || has_table m e.root b) ∷ []
     else if nat_eq number 4 then
-      bad_slot (not (is_slot a)) ∷ empty (is_none (held d a)) ∷ wrong_kind (is_none (page_of (held d a)))
-      ∷ bad_rights (is_beyond (held d a) c) ∷ bad_address (not (is_multiple 4096 b))
-      ∷ mapped (is_some (mapped_at (held d a)) || has_page m e.root b) ∷ no_table (not (has_table m e.root b)) ∷ []
+    bad_slot (not (is_slot a)) ∷ empty (is_none (held d a)) ∷ wrong_kind (is_none (page_of (held d a)))
+    ∷ bad_rights (is_beyond (held d a) c) ∷ bad_address (not (is_multiple 4096 b))
+    ∷ mapped (is_some (mapped_at (held d a)) || has_page m e.root b) ∷ no_table (not (has_table m e.root b)) ∷ []
     else if nat_eq number 5 then
-      bad_slot (not (is_slot a)) ∷ empty (is_none (held d a)) ∷ wrong_kind (is_none (page_of (held d a)))
-      ∷ bad_address (is_none (mapped_at (held d a))) ∷ []
+    bad_slot (not (is_slot a)) ∷ empty (is_none (held d a)) ∷ wrong_kind (is_none (page_of (held d a)))
+    ∷ bad_address (is_none (mapped_at (held d a))) ∷ []
     else if nat_eq number 6 then
-      bad_slot (not (is_slot a) || not (is_slot b)) ∷ empty (is_none (held d a)) ∷ used (is_some (held d b))
-      ∷ wrong_kind (is_some (table_of (held d a)))
-      ∷ bad_rights (is_some (page_of (held d a)) && is_beyond (held d a) c) ∷ []
+    bad_slot (not (is_slot a) || not (is_slot b)) ∷ empty (is_none (held d a)) ∷ used (is_some (held d b))
+    ∷ wrong_kind (is_some (table_of (held d a)))
+    ∷ bad_rights (is_some (page_of (held d a)) && is_beyond (held d a) c) ∷ []
     else if nat_eq number 7 then
-      bad_slot (not (is_slot a)) ∷ empty (is_none (held d a)) ∷ table_in_use (in_use d.caps a) ∷ []
+    bad_slot (not (is_slot a)) ∷ empty (is_none (held d a)) ∷ table_in_use (in_use d.caps a) ∷ []
     else if nat_eq number 8 then bad_slot (not (is_slot a)) ∷ empty (is_none (held d a)) ∷ []
     else if nat_eq number 9 then
-      bad_slot (not (is_slot a)) ∷ empty (is_none (held d a)) ∷ wrong_kind (is_none (line_of (held d a))) ∷ []
+    bad_slot (not (is_slot a)) ∷ empty (is_none (held d a)) ∷ wrong_kind (is_none (line_of (held d a))) ∷ []
     else if nat_eq number 10 then
-      bad_slot (not (is_slot a)) ∷ empty (is_none (held d a)) ∷ wrong_kind (is_none (line_of (held d a))) ∷ []
+    bad_slot (not (is_slot a)) ∷ empty (is_none (held d a)) ∷ wrong_kind (is_none (line_of (held d a))) ∷ []
     else if nat_eq number 11 then
-      bad_slot (not (is_slot a)) ∷ empty (is_none (held d a)) ∷ wrong_kind (is_none (line_of (held d a))) ∷ []
+    bad_slot (not (is_slot a)) ∷ empty (is_none (held d a)) ∷ wrong_kind (is_none (line_of (held d a))) ∷ []
     else if nat_eq number 12 then bad_address (not (is_multiple 4 a)) ∷ no_thread (is_none (vacant d.threads)) ∷ []
     else if nat_eq number 13 then []
     else if nat_eq number 14 then []

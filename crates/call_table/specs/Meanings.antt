@@ -4,8 +4,8 @@ use Rattle.std.proofs.Common.{inr}
 use Rattle.phys_mem.specs.Mem.{Mem}
 use Rattle.rv_core.specs.Registers.{register, with_register}
 use Rattle.thread_set.specs.declared.Thread.{Thread}
-use Rattle.thread_set.specs.declared.ThreadState.TheVariants.{Ready, Waiting, Ended}
-use Rattle.thread_set.specs.Threads.{Threads, AreThreads, number_of, thread_at, is_ready, is_live, in_state, between}
+use Rattle.thread_set.specs.declared.ThreadState.TheVariants.{Waiting, Ended}
+use Rattle.thread_set.specs.Threads.{AreThreads, number_of, thread_at, is_ready, is_live, in_state, between}
 use Rattle.sv32_walk.specs.PageTableEntry.{vpn_1, table_word}
 use Rattle.sv32_walk.specs.Translation.{first_entry}
 use Rattle.page_map.specs.Tables.{map_refusal}
@@ -13,7 +13,6 @@ use Rattle.page_map.specs.Walks.{FaultsIn, SameElsewhere}
 use Rattle.cap_table.specs.declared.Cap.TheVariants as cap
 use Rattle.cap_table.specs.Slots.{Slots, cap_at, table_of}
 use Rattle.call_table.specs.declared.DomainStatus.TheVariants.{Exited}
-use Rattle.call_table.specs.declared.Reply.{Reply}
 use Rattle.call_table.specs.Domain.{Dom, refused, is_set, delivered_on}
 use Rattle.call_table.specs.Claims.{Estate}
 use Rattle.call_table.specs.Calls.{call}

@@ -1,5 +1,5 @@
 -- No leaf's rights are wider than those of the capability through which its page is mapped.
-use Rattle.std.specs.Prelude.{◌≡◌, ℕ, Bool, true, Option, Some, None, Ok, slice_index_or}
+use Rattle.std.specs.Prelude.{◌≡◌, ℕ, Bool, true, Some, None, Ok, slice_index_or}
 use Rattle.phys_mem.specs.Mem.{Mem, written}
 use Rattle.sv32_walk.specs.declared.access.Access.{Access}
 use Rattle.sv32_walk.specs.PageTableEntry.{ppn, vpn_0, vpn_1, are_good, rights_permit, leaf_word}

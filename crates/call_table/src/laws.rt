@@ -7,6 +7,7 @@ ghost use Rattle.call_table.specs.Meanings.{ExitLaw, EndThreadLaw, SpawnLaw, NoT
 ghost use Rattle.call_table.specs.Meanings.{PollSetLaw, PollClearLaw, WaitSetLaw, WaitClearLaw, SignalLaw, TableLaw, UnmapLaw, MemoryLaw};
 ghost use Rattle.call_table.specs.Errors.{AscendLaw, FirstErrorLaw, NoErrorLaw};
 ghost use Rattle.call_table.specs.Rights.{NothingMappedLaw, CallsWithinLaw, StoresWithinLaw, WalksWithinLaw};
+ghost use Rattle.call_table.specs.Entries.{DeletedSlotLaw, RevokedSlotsLaw, EntriesLaw};
 ghost use Rattle.call_table.specs.Laws.{EmptiesLaw, WalksStayLaw, OperationLaw, WorkLaw};
 
 /// Every call keeps the facts of a domain's frames and page tables.
@@ -120,4 +121,12 @@ pub fn rights()
     ensures calls { CallsWithinLaw }
     ensures stores { StoresWithinLaw }
     ensures walks { WalksWithinLaw }
+{}
+
+/// Which slots DELETE and REVOKE empty, and which entries of page tables each
+/// call that is done writes, in their order.
+pub fn changes()
+    ensures deleted { DeletedSlotLaw }
+    ensures revoked { RevokedSlotsLaw }
+    ensures entries { EntriesLaw }
 {}

@@ -1,0 +1,488 @@
+-- Which slots DELETE and REVOKE empty, and which entries of page tables each call writes.
+use Rattle.std.proofs.Common.{◌≡◌, ◌≢◌, ◌∙◌, ap, ap₂, sym, subst, refl, inl, inr, ◌⊎◌, ℕ, zero, suc, ◌+◌, ◌<◌, ◌≤◌, Bool, true, false, not, ◌&&◌, arith, add-one, eqb-true, eq-eqb, length, length-set, List, [], ◌∷◌, ◌++◌, Option, Some, None}
+use Rattle.std.specs.Prelude.{nat_eq, nat_lt, map, if◌then◌else◌}
+use Rattle.std.specs.List.{range_with_len}
+use Rattle.std.proofs.lemmas.Bool.{cases_eq, cases_lt}
+use Rattle.std.proofs.lemmas.List.{get_or_past, append-nil}
+use Rattle.tp_base.specs.Act.{Done, go_on, ◌>>=◌, ◌>>◌, give, stop, check}
+use Rattle.phys_mem.specs.Mem.{Mem, word, word-written_frame}
+use Rattle.sv32_walk.specs.PageTableEntry.{ppn, vpn_0, vpn_1}
+use Rattle.sv32_walk.specs.Walk.{entry_address}
+use Rattle.thread_set.specs.Threads.{with_current}
+use Rattle.page_map.specs.declared.refusal.MapRefusal.{MapRefusal}
+use Rattle.page_map.specs.Tables.{has_table, table_of, map_refusal, install_refusal}
+use Rattle.page_map.specs.Changes.{table_entry, page_entry, unmapped}
+use Rattle.cap_table.specs.declared.Cap.{Cap}
+use Rattle.cap_table.specs.declared.Cap.TheVariants as cap
+use Rattle.cap_table.specs.Slots as slots
+use Rattle.cap_table.specs.Slots.{Slots, cap_at, with_cap, mapped_at, alike, copied, noted, push_some, is_revoked, slot_after, revoked_count, revoked_entries}
+use Rattle.call_table.specs.Domain.{Dom, placed, replied, done, refused, exited, with_caps}
+use Rattle.call_table.specs.Claims.{Estate, least_free}
+use Rattle.call_table.specs.Calls.{Note, Act, entries_in, zero_out, page_refusal, table_refusal, map_at, unmap_at, install_at, uninstall_at, empty_buffer, some_or, is_slot, filled, allowed, unless_refused, page_in, table_in, copy_refusal, clear_entry, with_slot, put_byte, alloc, install, map_page, unmap, copy, drop_slot, delete, drop_if, drop_others, revoke, call_of, call}
+use Rattle.call_table.specs.Laws as laws
+use Rattle.call_table.specs.Laws.{Kept}
+use Rattle.call_table.specs.Meanings.{argument_a, argument_b, argument_c}
+use Rattle.call_table.specs.Entries.{IsDeleted, DeletedSlotLaw, IsRevokedAll, RevokedSlotsLaw, entry_of, entries_written, EntriesLaw}
+use Rattle.call_table.proofs.TablesSlots.{filled_within, cap_same, cap_other}
+use Rattle.call_table.proofs.QuietCalls.{Quiet, poll_quiet, wait_quiet, signal_quiet, spawn_quiet, yield_quiet, end_quiet}
+use Rattle.call_table.proofs.ConfinedCalls.{Ready, ready, still_ready, revoked_no_table, page_in_is}
+use Rattle.call_table.proofs.MeaningSteps.{Whatever, Gives, given, bind_gives, give_gives, clear_gives, buffer_gives, check_gives, filled_gives}
+use Rattle.call_table.proofs.MeaningNumbers.{by_number}
+use Rattle.call_table.proofs.WorkSteps.{entries-append}
+
+-- ---- DELETE
+
+module _ (e : Estate) (d : Dom) (m : Mem) (a : ℕ) where
+  abbrev Emptied : Dom → Mem → Type 0
+  Emptied x n = x ≡ with_slot d a None
+
+  abbrev Ended : Dom → Mem → Type 0
+  Ended x n = (x ≡ done 0 (with_slot d a None)) × (a < length d.caps)
+
+  delete_empties : Gives Whatever Ended (delete e d a m)
+  unfolding delete drop_slot
+  delete_empties =
+      filled_gives Whatever Ended m d (λ _. tt) a _ (λ _ c there.
+      check_gives Whatever Ended m d (λ _. tt) 12 _ _ (λ _.
+      bind_gives Whatever Emptied Ended _ _ m
+      (clear_gives Whatever Emptied m e.root (cap_at d.caps a) _ (λ n. give_gives Whatever Emptied n _ refl)) (λ x n same.
+      buffer_gives Whatever Ended n _
+      (give_gives Whatever Ended n _ (ap (λ (y : Dom). done 0 y) same, filled_within d.caps a c there)))))
+
+deleted_is : (d : Dom) → argument_a d < length d.caps → IsDeleted d (done 0 (with_slot d (argument_a d) None))
+unfolding replied placed with_caps with_current
+deleted_is d below = record {
+  done = record { threads = refl; reply = refl };
+  empty = cap_same d.caps (argument_a d) None below;
+  others = λ i other. cap_other d.caps (argument_a d) i None other;
+  rest = refl;
+}
+
+pub deleted_slot : DeletedSlotLaw
+unfolding call_of
+deleted_slot e d x m is does =
+    let same = by_number e d m 7 is in
+    let end = given Whatever (Ended e d m (argument_a d)) (delete e d (argument_a d) m) (delete_empties e d m (argument_a d)) x
+    (ap (λ (r : Done Mem Note Dom Dom). r.value) (sym same) ∙ does) in
+    subst (IsDeleted d) (sym end.0) (deleted_is d end.1)
+
+-- ---- REVOKE, slot by slot
+
+not_itself : (caps : Slots) (a i : ℕ) → i ≡ a → slot_after caps a i ≡ cap_at caps i
+not_itself caps a i same =
+    ap (λ (t : Bool). if not t && alike (cap_at caps a) (cap_at caps i) then None else cap_at caps i) (eq-eqb i a same)
+
+-- the slots before i are as REVOKE leaves them, and those from there on as they were
+record Reaches (d : Dom) (a i : ℕ) (x : Dom) : Type 0 where
+  long : length x.caps ≡ length d.caps
+  before : (j : ℕ) → j < i → cap_at x.caps j ≡ slot_after d.caps a j
+  from : (j : ℕ) → i ≤ j → cap_at x.caps j ≡ cap_at d.caps j
+  rest : x ≡ record d { caps = x.caps }
+
+module _ (d : Dom) (a i : ℕ) (x : Dom) (r : Reaches d a i x) where
+  self_stays : cap_at x.caps a ≡ cap_at d.caps a
+  self_stays = elim (cases_lt a i) [
+    | inl less ↦ r.before a less ∙ not_itself d.caps a a refl
+    | inr more ↦ r.from a more
+  ]
+
+  same_test : is_revoked x.caps a i ≡ is_revoked d.caps a i
+  same_test = ap₂ (λ (c z : Option Cap). not (nat_eq i a) && alike c z) self_stays (r.from i (omega arith))
+
+  emptied_next : i < length d.caps → is_revoked d.caps a i ≡ true → Reaches d a (suc i) (with_slot x i None)
+  unfolding with_caps
+  emptied_next below hit = record {
+    long = length-set x.caps i None ∙ r.long;
+    before = λ j less. elim (cases_eq j i) [
+      | inl same ↦
+          ap (λ (k : ℕ). cap_at (with_cap x.caps i None) k) same
+          ∙ cap_same x.caps i None (omega (arith, below, r.long))
+          ∙ sym (ap (λ (k : ℕ). slot_after d.caps a k) same ∙ ap (λ (t : Bool). if t then None else cap_at d.caps i) hit)
+      | inr other ↦ cap_other x.caps i j None other ∙ r.before j (omega (arith, less, other))
+    ];
+    from = λ j more. cap_other x.caps i j None (λ same. absurd (omega (arith, more, same))) ∙ r.from j (omega (arith, more));
+    rest = ap (λ (y : Dom). record y { caps = with_cap x.caps i None }) r.rest;
+  }
+
+  kept_next : is_revoked d.caps a i ≡ false → Reaches d a (suc i) x
+  kept_next missed = record {
+    long = r.long;
+    before = λ j less. elim (cases_eq j i) [
+      | inl same ↦
+          ap (λ (k : ℕ). cap_at x.caps k) same ∙ r.from i (omega arith)
+          ∙ sym (ap (λ (k : ℕ). slot_after d.caps a k) same ∙ ap (λ (t : Bool). if t then None else cap_at d.caps i) missed)
+      | inr other ↦ r.before j (omega (arith, less, other))
+    ];
+    from = λ j more. r.from j (omega (arith, more));
+    rest = r.rest;
+  }
+
+-- ---- and entry by entry
+
+module _ (e : Estate) (d : Dom) (m : Mem) (a : ℕ) where
+  abbrev entry : ℕ → ℕ
+  entry va = page_entry m e.root va
+
+  record Stage (i : ℕ) (x : Dom) (n : Mem) : Type 0 where
+    reaches : Reaches d a i x
+    ready : Ready e x n
+    root : (r : ℕ) → word n e.root r ≡ word m e.root r
+
+  -- an action that leaves slot i done, and wrote these entries
+  record Steps (i : ℕ) (es : List ℕ) (r : Done Mem Note Dom Dom) : Type 0 where
+    out : Dom
+    value : r.value ≡ inr out
+    notes : entries_in r.notes ≡ es
+    stage : Stage i out r.state
+
+  module _ (i : ℕ) (x : Dom) (n : Mem) (s : Stage i x n) where
+    same_entry : (va : ℕ) → page_entry n e.root va ≡ entry va
+    same_entry va = ap (λ (w : ℕ). entry_address (ppn w) (vpn_0 va)) (s.root (vpn_1 va))
+
+    cleared : (c : Option Cap) → cap_at x.caps i ≡ c → ((f : ℕ) (w : Option ℕ) → c ≢ Some (cap.Table f w))
+        → Reaches d a (suc i) (with_slot x i None)
+        → Steps (suc i) (map entry (push_some (mapped_at c) [])) ((clear_entry e.root c >> give (with_slot x i None)) n)
+    unfolding clear_entry unmap_at give ◌>>◌ ◌>>=◌ go_on entries_in
+    cleared (Some (cap.Frame f rights (Some va))) is no_table next =
+        let there : has_table n e.root va ≡ true = s.ready.mapped i f rights va is in
+        let root : (q : ℕ) → word (unmapped n e.root va) e.root q ≡ word n e.root q =
+        λ q. word-written_frame n (table_of n e.root va) (vpn_0 va) 0 e.root q (λ z. s.ready.tables.apart (vpn_1 va) there (sym z)) in
+        record {
+          out = with_slot x i None;
+          value = refl;
+          notes = ap (λ (k : ℕ). k ∷ []) (same_entry va);
+          stage = record {
+            reaches = next;
+            ready = still_ready e x n s.ready i (unmapped n e.root va) root;
+            root = λ q. root q ∙ s.root q;
+          };
+        }
+    cleared (Some (cap.Frame f rights None)) is no_table next =
+        record { out = with_slot x i None; value = refl; notes = refl; stage = record { reaches = next; ready = still_ready e x n s.ready i n (λ q. refl); root = s.root } }
+    cleared (Some (cap.Irq line)) is no_table next =
+        record { out = with_slot x i None; value = refl; notes = refl; stage = record { reaches = next; ready = still_ready e x n s.ready i n (λ q. refl); root = s.root } }
+    cleared None is no_table next =
+        record { out = with_slot x i None; value = refl; notes = refl; stage = record { reaches = next; ready = still_ready e x n s.ready i n (λ q. refl); root = s.root } }
+    cleared (Some (cap.Table f w)) is no_table next = absurd (no_table f w refl)
+
+    -- the entry of slot i, where it is emptied
+    abbrev of_slot : List ℕ
+    of_slot = map entry (push_some (if is_revoked d.caps a i then mapped_at (cap_at d.caps i) else None) [])
+
+    one_slot : i < length d.caps → (t : Bool) → is_revoked x.caps a i ≡ t → Steps (suc i) of_slot (drop_if e i x t n)
+    unfolding drop_if drop_slot give entries_in
+    one_slot below true hit =
+        let was : is_revoked d.caps a i ≡ true = sym (same_test d a i x s.reaches) ∙ hit in
+        let list : map entry (push_some (mapped_at (cap_at x.caps i)) []) ≡ of_slot =
+        ap (λ (c : Option Cap). map entry (push_some (mapped_at c) [])) (s.reaches.from i (omega arith))
+        ∙ sym (ap (λ (t : Bool). map entry (push_some (if t then mapped_at (cap_at d.caps i) else None) [])) was) in
+        subst (λ (es : List ℕ). Steps (suc i) es (drop_if e i x true n)) list
+        (cleared (cap_at x.caps i) refl (λ f w. revoked_no_table x.caps a i f w hit) (emptied_next d a i x s.reaches below was))
+    one_slot below false missed =
+        let was : is_revoked d.caps a i ≡ false = sym (same_test d a i x s.reaches) ∙ missed in
+        record {
+          out = x;
+          value = refl;
+          notes = sym (ap (λ (t : Bool). map entry (push_some (if t then mapped_at (cap_at d.caps i) else None) [])) was);
+          stage = record { reaches = kept_next d a i x s.reaches was; ready = s.ready; root = s.root };
+        }
+
+  -- one action after another
+  pub bound : (y : Act Dom) (f : Dom → Act Dom) (n : Mem) (z : Dom) → (y n).value ≡ inr z
+      → (y >>= f) n ≡ record { notes = (y n).notes ++ (f z (y n).state).notes; state = (f z (y n).state).state; value = (f z (y n).state).value }
+  unfolding ◌>>=◌ go_on
+  bound y f n z is = ap (go_on (y n) f) is
+
+  pushed : (o : Option ℕ) (vas : List ℕ) → map entry (push_some o []) ++ map entry vas ≡ map entry (push_some o vas)
+  pushed None vas = refl
+  pushed (Some va) vas = refl
+
+  ranged : (i n : ℕ) → range_with_len i (suc n) ≡ i ∷ range_with_len (suc i) n
+  ranged i n = ap (λ (k : ℕ). i ∷ range_with_len k n) (add-one i)
+
+  all_slots : (k i : ℕ) (x : Dom) (n : Mem) → i + k ≡ length d.caps → Stage i x n
+      → Steps (length d.caps) (map entry (slots.entries_in d.caps a (range_with_len i k))) (drop_others e a k i x n)
+  unfolding drop_others give entries_in slots.entries_in
+  all_slots zero i x n all s =
+      record { out = x; value = refl; notes = refl; stage = subst (λ (j : ℕ). Stage j x n) (omega (arith, all)) s }
+  all_slots (suc k) i x n all s =
+      let y : Act Dom = drop_if e i x (is_revoked x.caps a i) in
+      let f : Dom → Act Dom = λ z. drop_others e a k (suc i) z in
+      let one : Steps (suc i) (of_slot i x n s) (y n) = one_slot i x n s (omega (arith, all)) (is_revoked x.caps a i) refl in
+      let rest = all_slots k (suc i) one.out (y n).state (omega (arith, all)) one.stage in
+      subst (Steps (length d.caps) (map entry (slots.entries_in d.caps a (range_with_len i (suc k))))) (sym (bound y f n one.out one.value))
+      (record {
+        out = rest.out;
+        value = rest.value;
+        notes =
+            entries-append (y n).notes (f one.out (y n).state).notes
+            ∙ ap₂ (λ (p q : List ℕ). p ++ q) one.notes rest.notes
+            ∙ pushed (if is_revoked d.caps a i then mapped_at (cap_at d.caps i) else None) (slots.entries_in d.caps a (range_with_len (suc i) k))
+            ∙ ap (λ (is : List ℕ). map entry (slots.entries_in d.caps a is)) (sym (ranged i k));
+        stage = rest.stage;
+      })
+
+-- ---- REVOKE
+
+-- a domain whose slots alone are others
+abbrev with_slots : Dom → Slots → Dom
+with_slots d caps = record d { caps = caps }
+
+past_slots : (caps : Slots) (a i : ℕ) → length caps ≤ i → slot_after caps a i ≡ cap_at caps i
+past_slots caps a i past = by_test (is_revoked caps a i)
+  where
+    by_test : (t : Bool) → (if t then None else cap_at caps i) ≡ cap_at caps i
+    by_test true = sym (get_or_past caps i None past)
+    by_test false = refl
+
+-- ---- what is so of the entries and the domain of a call that is done, test by test
+
+module _ (P : List ℕ → Dom → Type 0) (m : Mem) where
+  record Ends (r : Done Mem Note Dom Dom) : Type 0 where
+    when : (x : Dom) → r.value ≡ inr x → P (entries_in r.notes) x
+
+  given_end : (es : List ℕ) (x y : Dom) → P es x → ◌≡◌ {A = Dom ⊎ Dom} (inr x) (inr y) → P es y
+  given_end es x y h is = let same : x ≡ y = cc is in subst (P es) same h
+
+  give_notes : (x : Dom) → P [] x → Ends (give x m)
+  unfolding give entries_in
+  give_notes x h = record { when = λ y is. given_end [] x y h is }
+
+  stop_notes : (d : Dom) → Ends (stop d m)
+  unfolding stop
+  stop_notes d = record { when = λ x is. absurd (cc is) }
+
+  quiet_notes : (d : Dom) (y : Act Dom) → Quiet d y → ((x : Dom) → P [] x) → Ends (y m)
+  unfolding entries_in
+  quiet_notes d y q h = record { when = λ x is. subst (λ (ns : List Note). P (entries_in ns) x) (sym (q.no_work m)) (h x) }
+
+  check_notes : (d : Dom) (t : Bool) (y : Act Dom) → Ends (y m) → Ends ((check d t >> y) m)
+  unfolding check ◌>>◌ ◌>>=◌ go_on give stop
+  check_notes d true y h = record { when = λ x is. h.when x is }
+  check_notes d false y h = record { when = λ x is. absurd (cc is) }
+
+  some_notes : {A : Type 0} (d : Dom) (o : Option A) (f : A → Act Dom) → ((a : A) → o ≡ Some a → Ends (f a m)) → Ends ((some_or d o >>= f) m)
+  unfolding some_or ◌>>=◌ go_on give stop
+  some_notes d (Some a) f h = record { when = λ x is. (h a refl).when x is }
+  some_notes d None f h = record { when = λ x is. absurd (cc is) }
+
+  filled_by : (d : Dom) (t : Bool) (o : Option Cap) (f : Cap → Act Dom) → ((c : Cap) → o ≡ Some c → Ends (f c m))
+      → Ends (((check (refused 2 d) t >> some_or (refused 3 d) o) >>= f) m)
+  unfolding check some_or ◌>>◌ ◌>>=◌ go_on give stop
+  filled_by d false o f h = record { when = λ x is. absurd (cc is) }
+  filled_by d true None f h = record { when = λ x is. absurd (cc is) }
+  filled_by d true (Some c) f h = record { when = λ x is. (h c refl).when x is }
+
+  filled_notes : (d : Dom) (a : ℕ) (f : Cap → Act Dom) → ((c : Cap) → cap_at d.caps a ≡ Some c → Ends (f c m)) → Ends ((filled d a >>= f) m)
+  unfolding filled is_slot
+  filled_notes d a f h = filled_by d (nat_lt a 64) (cap_at d.caps a) f h
+
+  allowed_notes : (d : Dom) (r : Option MapRefusal) (y : Act Dom) → Ends (y m) → Ends ((allowed d r >> y) m)
+  unfolding allowed ◌>>◌ ◌>>=◌ go_on give stop
+  allowed_notes d None y h = record { when = λ x is. h.when x is }
+  allowed_notes d (Some r) y h = record { when = λ x is. absurd (cc is) }
+
+  unless_notes : (d : Dom) (r : Option ℕ) (y : Act Dom) → Ends (y m) → Ends ((unless_refused d r >> y) m)
+  unfolding unless_refused ◌>>◌ ◌>>=◌ go_on give stop
+  unless_notes d None y h = record { when = λ x is. h.when x is }
+  unless_notes d (Some code) y h = record { when = λ x is. absurd (cc is) }
+
+  page_refusal_notes : (root va : ℕ) (f : Option MapRefusal → Act Dom) → Ends (f (map_refusal m root va) m) → Ends ((page_refusal root va >>= f) m)
+  unfolding page_refusal ◌>>=◌ go_on
+  page_refusal_notes root va f h = record { when = λ x is. h.when x is }
+
+  table_refusal_notes : (root va : ℕ) (f : Option MapRefusal → Act Dom) → Ends (f (install_refusal m root va) m) → Ends ((table_refusal root va >>= f) m)
+  unfolding table_refusal ◌>>=◌ go_on
+  table_refusal_notes root va f h = record { when = λ x is. h.when x is }
+
+  -- ---- what a call does last
+
+  zero_notes : (f : ℕ) (x : Dom) → P [] x → Ends ((zero_out f >> give x) m)
+  unfolding zero_out give ◌>>◌ ◌>>=◌ go_on entries_in
+  zero_notes f x h = record { when = λ y is. given_end [] x y h is }
+
+  map_notes : (root va f rights : ℕ) (x : Dom) → P (page_entry m root va ∷ []) x → Ends ((map_at root va f rights >> give x) m)
+  unfolding map_at give ◌>>◌ ◌>>=◌ go_on entries_in
+  map_notes root va f rights x h = record { when = λ y is. given_end (page_entry m root va ∷ []) x y h is }
+
+  install_notes : (root va f : ℕ) (x : Dom) → P (table_entry root va ∷ []) x → Ends ((install_at root va f >> give x) m)
+  unfolding install_at give ◌>>◌ ◌>>=◌ go_on entries_in
+  install_notes root va f x h = record { when = λ y is. given_end (table_entry root va ∷ []) x y h is }
+
+  unmap_notes : (root va : ℕ) (x : Dom) → P (page_entry m root va ∷ []) x → Ends ((unmap_at root va >> (empty_buffer >> give x)) m)
+  unfolding unmap_at empty_buffer give ◌>>◌ ◌>>=◌ go_on entries_in
+  unmap_notes root va x h = record { when = λ y is. given_end (page_entry m root va ∷ []) x y h is }
+
+  clear_notes : (root : ℕ) (z : Dom) (c : Option Cap) → P (entry_of m root c) (done 0 z)
+      → Ends (((clear_entry root c >> give z) >>= (λ x. empty_buffer >> give (done 0 x))) m)
+  unfolding clear_entry unmap_at uninstall_at empty_buffer give ◌>>◌ ◌>>=◌ go_on entries_in
+  clear_notes root z None h = record { when = λ y is. given_end [] (done 0 z) y h is }
+  clear_notes root z (Some (cap.Irq line)) h = record { when = λ y is. given_end [] (done 0 z) y h is }
+  clear_notes root z (Some (cap.Frame f r None)) h = record { when = λ y is. given_end [] (done 0 z) y h is }
+  clear_notes root z (Some (cap.Table f None)) h = record { when = λ y is. given_end [] (done 0 z) y h is }
+  clear_notes root z (Some (cap.Frame f r (Some va))) h = record { when = λ y is. given_end (page_entry m root va ∷ []) (done 0 z) y h is }
+  clear_notes root z (Some (cap.Table f (Some va))) h = record { when = λ y is. given_end (table_entry root va ∷ []) (done 0 z) y h is }
+
+module _ (e : Estate) (d : Dom) (m : Mem) (h : Kept e d m) (a : ℕ) where
+  first_stage : Stage e d m a 0 d m
+  first_stage = record {
+    reaches = record { long = refl; before = λ j less. absurd (omega (arith, less)); from = λ j more. refl; rest = refl };
+    ready = ready e d m h;
+    root = λ r. refl;
+  }
+
+  -- what a REVOKE that is done leaves, and wrote
+  record Revokes (es : List ℕ) (x : Dom) : Type 0 where
+    caps : Slots
+    slots_are : (i : ℕ) → cap_at caps i ≡ slot_after d.caps a i
+    out : x ≡ done (revoked_count d.caps a) (with_slots d caps)
+    entries : es ≡ map (page_entry m e.root) (revoked_entries d.caps a)
+
+  -- after all slots the buffer is emptied
+  buffer_end : (es : List ℕ) (r : Done Mem Note Dom Dom) → es ≡ map (page_entry m e.root) (revoked_entries d.caps a)
+      → (s : Steps e d m a (length d.caps) es r)
+      → Ends Revokes m (go_on r (λ x. empty_buffer >> give (done (revoked_count d.caps a) x)) (inr s.out))
+  unfolding go_on empty_buffer give ◌>>◌ ◌>>=◌ entries_in
+  buffer_end es r all s = record {
+    when = λ x is.
+        let same : done (revoked_count d.caps a) s.out ≡ x = cc is in
+        record {
+          caps = s.out.caps;
+          slots_are = λ i. elim (cases_lt i (length d.caps)) [
+            | inl less ↦ s.stage.reaches.before i less
+            | inr past ↦ s.stage.reaches.from i past ∙ sym (past_slots d.caps a i past)
+          ];
+          out = sym same ∙ ap (λ (y : Dom). done (revoked_count d.caps a) y) s.stage.reaches.rest;
+          entries =
+              entries-append r.notes (Note.Emptied ∷ []) ∙ append-nil (entries_in r.notes) ∙ s.notes ∙ all;
+        };
+  }
+
+  revoke_end : Ends Revokes m (revoke e d a m)
+  unfolding revoke ◌>>=◌
+  revoke_end =
+      filled_notes Revokes m d a _ (λ c _.
+      let f : Dom → Act Dom = λ x. empty_buffer >> give (done (revoked_count d.caps a) x) in
+      let s = all_slots e d m a 64 0 d m (omega (arith, h.slots)) first_stage in
+      subst (Ends Revokes m) (sym (ap (go_on (drop_others e a 64 0 d m) f) s.value))
+      (buffer_end _ (drop_others e a 64 0 d m)
+      (ap (λ (n : ℕ). map (page_entry m e.root) (slots.entries_in d.caps a (range_with_len 0 n))) (sym h.slots)) s))
+
+revoked_is : (d : Dom) (caps : Slots) → ((i : ℕ) → cap_at caps i ≡ slot_after d.caps (argument_a d) i)
+    → IsRevokedAll d (done (revoked_count d.caps (argument_a d)) (with_slots d caps))
+unfolding replied placed with_current
+revoked_is d caps are = record { done = record { threads = refl; reply = refl }; slots = are; rest = refl }
+
+pub revoked_slots : RevokedSlotsLaw
+unfolding call_of
+revoked_slots e d x m h is does =
+    let same = by_number e d m 8 is in
+    let r : Revokes e d m h (argument_a d) (entries_in (revoke e d (argument_a d) m).notes) x =
+    (revoke_end e d m h (argument_a d)).when x (ap (λ (r : Done Mem Note Dom Dom). r.value) (sym same) ∙ does) in
+    subst (IsRevokedAll d) (sym r.out) (revoked_is d r.caps r.slots_are)
+
+-- ---- the entries of each call
+
+module _ (e : Estate) (d : Dom) (m : Mem) (h : Kept e d m) (a b c : ℕ) where
+  -- the entries of the call of a number
+  abbrev Wrote : ℕ → List ℕ → Dom → Type 0
+  Wrote number es x = es ≡ entries_written e d m number a b
+
+  abbrev Right : ℕ → Done Mem Note Dom Dom → Type 0
+  Right number r = Ends (Wrote number) m r
+
+  put_right : Right 1 (put_byte d a m)
+  unfolding put_byte entries_written
+  put_right = check_notes _ _ _ _ _ (give_notes _ _ _ refl)
+
+  alloc_right : Right 2 (alloc e d a b m)
+  unfolding alloc is_slot entries_written
+  alloc_right =
+      check_notes _ _ _ _ _ (check_notes _ _ _ _ _ (check_notes _ _ _ _ _
+      (some_notes (Wrote 2) m _ (least_free e d.caps) _ (λ f _. zero_notes (Wrote 2) m f _ refl))))
+
+  install_right : Right 3 (install e d a b m)
+  unfolding install entries_written
+  install_right =
+      filled_notes (Wrote 3) m d a _ (λ x _.
+      some_notes (Wrote 3) m _ (table_in x) _ (λ t _.
+      check_notes (Wrote 3) m _ _ _
+      (check_notes (Wrote 3) m _ _ _
+      (table_refusal_notes (Wrote 3) m e.root b _
+      (allowed_notes (Wrote 3) m d (install_refusal m e.root b) _
+      (install_notes (Wrote 3) m e.root b t.frame _ refl))))))
+
+  map_right : Right 4 (map_page e d a b c m)
+  unfolding map_page entries_written
+  map_right =
+      filled_notes (Wrote 4) m d a _ (λ x _.
+      some_notes (Wrote 4) m _ (page_in x) _ (λ page _.
+      check_notes (Wrote 4) m _ _ _
+      (check_notes (Wrote 4) m _ _ _
+      (check_notes (Wrote 4) m _ _ _
+      (page_refusal_notes (Wrote 4) m e.root b _
+      (allowed_notes (Wrote 4) m d (map_refusal m e.root b) _
+      (map_notes (Wrote 4) m e.root b page.frame c _ refl)))))))
+
+  unmap_right : Right 5 (unmap e d a m)
+  unfolding unmap entries_written
+  unmap_right =
+      filled_notes (Wrote 5) m d a _ (λ x there.
+      some_notes (Wrote 5) m _ (page_in x) _ (λ page is.
+      some_notes (Wrote 5) m _ page.mapped _ (λ va at.
+      unmap_notes (Wrote 5) m e.root va _
+      (sym (ap (entry_of m e.root) (there ∙ ap Some (page_in_is x page is)
+      ∙ ap (λ (w : Option ℕ). Some (cap.Frame page.frame page.rights w)) at))))))
+
+  copy_right : Right 6 (copy d a b c m)
+  unfolding copy is_slot entries_written
+  copy_right =
+      check_notes (Wrote 6) m _ _ _
+      (check_notes (Wrote 6) m _ _ _
+      (some_notes (Wrote 6) m _ (cap_at d.caps a) _ (λ x _.
+      check_notes (Wrote 6) m _ _ _
+      (unless_notes (Wrote 6) m d (copy_refusal x c) _
+      (give_notes (Wrote 6) m _ refl)))))
+
+  delete_right : Right 7 (delete e d a m)
+  unfolding delete drop_slot entries_written
+  delete_right =
+      filled_notes (Wrote 7) m d a _ (λ x _.
+      check_notes (Wrote 7) m _ _ _
+      (clear_notes (Wrote 7) m e.root (with_slot d a None) (cap_at d.caps a) refl))
+
+  revoke_right : Right 8 (revoke e d a m)
+  unfolding entries_written
+  revoke_right = record { when = λ x is. ((revoke_end e d m h a).when x is).entries }
+
+  numbered : (number k : ℕ) (x y : Act Dom) → Right k (x m) → Right number (y m) → Right number ((if nat_eq number k then x else y) m)
+  numbered number k x y g f = by_test (nat_eq number k) refl
+    where
+      by_test : (t : Bool) → nat_eq number k ≡ t → Right number ((if t then x else y) m)
+      by_test true is = subst (λ (n : ℕ). Right n (x m)) (sym (eqb-true number k is)) g
+      by_test false is = f
+
+  call_right : (number : ℕ) → Right number (call_of e d number a b c m)
+  unfolding call_of entries_written
+  call_right number =
+      numbered number 0 _ _ (give_notes (Wrote 0) m (exited a d) refl)
+      (numbered number 1 _ _ put_right
+      (numbered number 2 _ _ alloc_right
+      (numbered number 3 _ _ install_right
+      (numbered number 4 _ _ map_right
+      (numbered number 5 _ _ unmap_right
+      (numbered number 6 _ _ copy_right
+      (numbered number 7 _ _ delete_right
+      (numbered number 8 _ _ revoke_right
+      (numbered number 9 _ _ (quiet_notes (Wrote 9) m d _ (poll_quiet d a) (λ x. refl))
+      (numbered number 10 _ _ (quiet_notes (Wrote 10) m d _ (wait_quiet d a) (λ x. refl))
+      (numbered number 11 _ _ (quiet_notes (Wrote 11) m d _ (signal_quiet d a) (λ x. refl))
+      (numbered number 12 _ _ (quiet_notes (Wrote 12) m d _ (spawn_quiet d a b) (λ x. refl))
+      (numbered number 13 _ _ (quiet_notes (Wrote 13) m d _ (yield_quiet d) (λ x. refl))
+      (numbered number 14 _ _ (quiet_notes (Wrote 14) m d _ (end_quiet d) (λ x. refl))
+      (stop_notes (Wrote number) m (refused 1 d))))))))))))))))
+
+pub entries_are : EntriesLaw
+unfolding call
+entries_are e d x m h does =
+    (call_right e d m h (argument_a d) (argument_b d) (argument_c d) (laws.number_of d)).when x does
