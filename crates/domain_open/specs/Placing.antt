@@ -73,7 +73,8 @@ used_frames p o = take (frames_in o.segments) (pool p o)
 
 -- the same in all frames but those of the domain's pool
 abbrev pub SameElsewhere : Hardware → Own → Contents → Contents → Type 0
-SameElsewhere p o new old = (f i : ℕ) → f < p.frames → i < 1024 → own_frame p o f ≡ false → word_of new f i ≡ word_of old f i
+SameElsewhere p o new old = (f i : ℕ) → f < p.frames → i < 1024 → own_frame p o f ≡ false
+    → word_of new f i ≡ word_of old f i
 
 -- ---- all domains
 
