@@ -1,5 +1,5 @@
 -- The sets of the kernel's colour keep shared lines alone.
-use Rattle.std.proofs.Common.{◌≡◌, ◌≢◌, ◌∙◌, sym, refl, ap, subst, inl, inr, true≢false, eqb-true, eq-eqb, ne_eqb, ℕ, zero, suc, ◌%◌, Bool, true, false, List, [], ◌∷◌, length, replicate, Option, Some, None, get_or}
+use Rattle.std.proofs.Common.{◌≡◌, ◌∙◌, sym, refl, ap, subst, inl, inr, true≢false, eqb-true, eq-eqb, ne_eqb, ℕ, zero, suc, ◌%◌, Bool, true, false, List, [], ◌∷◌, replicate, Option, Some, None, get_or}
 use Rattle.std.specs.Prelude.{◌==◌, ◌&&◌, not, All, take}
 use Rattle.std.proofs.lemmas.List.Elements.{All-head, All-tail, All-weaker}
 use Rattle.tp_base.specs.Table.{at-put_by, at-empty}
@@ -11,7 +11,7 @@ use Rattle.mem_system.specs.Cost.{Touch, Fetch, Load, Store, WalkRead, Look, Bra
 use Rattle.mem_system.specs.TouchLaws.{lines_in_l2}
 use Rattle.mem_system.proofs.TouchLaws.{set_colour, handed_on}
 use Rattle.cache_sharing.specs.Operations.{prefetch}
-use Rattle.cache_sharing.specs.Sharing.{IsOwnLine, IsShared, IsSharing, MayTouch, MayTouchAll, KeepsSharedAlone, kept_at}
+use Rattle.cache_sharing.specs.Sharing.{IsOwnLine, IsShared, MayTouch, MayTouchAll, KeepsSharedAlone}
 use Rattle.cache_sharing.specs.Laws.{EmptyLaw, SharedAloneLaw, PrefetchAloneLaw}
 use Rattle.cache_sharing.proofs.ResidencyWays.{only_touched}
 use Rattle.cache_sharing.proofs.OwnTouches.{MayReach, may_reach, prefetch_may}

@@ -68,8 +68,8 @@ EmptyLaw = (h : Hierarchy) (s way : ℕ) → kept_at h (cold h).l2 s way ≡ Non
 
 -- a domain's touches bring no line of its own into them
 abbrev pub SharedAloneLaw : Type 0
-SharedAloneLaw = (h : Hierarchy) (own : ℕ → Bool) (region : List ℕ) (pinned : Bool) (ts : List Touch) (c : Caches)
-    → IsSharing h own region → MayTouchAll h own region ts → KeepsSharedAlone h region c.l2
+SharedAloneLaw = (h : Hierarchy) (own : ℕ → Bool) (region : List ℕ) (pinned : Bool) (ts : List Touch)
+    (c : Caches) → IsSharing h own region → MayTouchAll h own region ts → KeepsSharedAlone h region c.l2
     → KeepsSharedAlone h region (touched_all h pinned c ts).caches.l2
 
 -- and the prefetch none that isn't shared

@@ -11,7 +11,8 @@ use Rattle.image_check.specs.Own as spec
 use Rattle.image_check.specs.Pages.{has_region}
 use Rattle.world_view.specs.Frames.{table_frame, page_frame}
 use Rattle.world_view.specs.Opening.{tabled, leaf_entry, table_placed, tables_placed, page_words, pages_placed, segments_placed, placed, all_placed}
-use Rattle.world_view.proofs.OpeningLaws.{word-put_same, word-put_other}
+use Rattle.world_view.proofs.OpeningLaws.{word-put_same, word-put_other, placed_other}
+use Rattle.domain_open.specs.Placing.{HasPool, SameElsewhere}
 
 -- ---- a page
 
@@ -131,3 +132,13 @@ owns_none p owns k h = rw (drop_all k owns h) refl
 pub owns_more : (p : Hardware) (owns : List spec.Own) (k : ℕ) → k < length owns → placed p (spec.own_at owns k) (all_placed p (drop (k + 1) owns)) ≡ all_placed p (drop k owns)
 unfolding all_placed
 owns_more p owns k h = ap (all_placed p) (sym (drop_more owns k spec.no_own h))
+
+-- ---- what is outside the domain's pool
+
+pub placed_elsewhere : (p : Hardware) (o : spec.Own) (old new : Contents) (m : Mem) → HasPool p o → old.frames ≡ p.frames → new.frames ≡ old.frames
+    → Holds old m → Holds new (placed p o m) → SameElsewhere p o new old
+unfolding word
+placed_elsewhere p o old new m has size same before after f i in_memory in_frame other =
+    after.same f i (omega (arith, in_memory, size, same)) in_frame
+    ∙ ap (λ (x : Frame). at 0 x i) (placed_other p o has.enough m f other)
+    ∙ sym (before.same f i (omega (arith, in_memory, size)) in_frame)

@@ -6,7 +6,6 @@ use Rattle.std.proofs.lemmas.Bool.{cases_Bool, cases_lt, and_parts, and_cases, l
 use Rattle.std.proofs.lemmas.Option.{none-some, same_Some}
 use Rattle.std.proofs.lemmas.List.{get_or-drop, length-drop}
 use Rattle.frame_colours.specs.Colours as colours
-use Rattle.frame_colours.specs.FreeList.{FreeList}
 use Rattle.frame_colours.proofs.Pools.{all_free_is_free_list}
 use Rattle.cap_table.specs.Slots.{Slots}
 use Rattle.thread_set.specs.Models.{threads_model}

@@ -1,29 +1,108 @@
--- Frames that are taken from a pool, in a memory that reads zero.
-use Rattle.std.proofs.Common.{◌≡◌, ℕ, zero, suc, ◌<◌, ◌∙◌, List, [], ◌∷◌, ◌++◌, get_or, map, take, drop, ap, sym, refl, inl, inr, subst, arith, ◌+◌}
-use Rattle.std.proofs.lemmas.Bool.{cases_eq}
-use Rattle.std.proofs.lemmas.List.{append_assoc}
+-- Frames that are taken from a pool, and zeroed.
+use Rattle.std.proofs.Common.{◌≡◌, ◌≢◌, ℕ, zero, suc, ◌<◌, ◌∙◌, Bool, true, false, true≢false, ◌||◌, List, [], ◌∷◌, ◌++◌, get_or, map, take, drop, ap, ap₂, sym, refl, inl, inr, subst, arith, ◌+◌}
+use Rattle.std.proofs.lemmas.Bool.{cases_eq, cases_Bool, lt-ltb}
+use Rattle.std.proofs.lemmas.List.{append_assoc, take-append-drop, take-take, drop-take}
 use Rattle.tp_base.specs.Table.{empty}
-use Rattle.phys_mem.specs.Contents.{Contents, zeroed}
-use Rattle.phys_mem.specs.Mem.{word, zeroed_frame, word-empty, word-zeroed_same, word-zeroed_other}
+use Rattle.phys_mem.specs.Contents.{Contents, word_of, zeroed}
+use Rattle.phys_mem.specs.Mem.{Mem, word, zeroed_frame, word-empty, word-zeroed_same, word-zeroed_other}
 use Rattle.phys_mem.specs.Holds.{Holds}
 use Rattle.phys_mem.proofs.HoldsLemmas.{holds-zeroed}
 use Rattle.frame_colours.specs.Colours as colours
-use Rattle.frame_colours.specs.Colours.{Whole, whole_of}
+use Rattle.frame_colours.specs.Colours.{Whole, whole_of, has}
+use Rattle.frame_colours.proofs.Ascending.{has_head}
+use Rattle.frame_colours.proofs.Pools.{IsOwn-pool}
 use Rattle.hardware_check.specs.Hardware.{Hardware, colours_of}
 use Rattle.image_check.specs.Own.{Own}
 use Rattle.image_check.specs.Pages.{share_of}
+use Rattle.world_view.specs.Frames.{own_frame, pool}
+use Rattle.world_view.proofs.OpeningClaims.{has_append}
+use Rattle.domain_open.specs.Placing.{frames_zeroed, AreZeroed, SameElsewhere}
 
--- a memory that reads zero still does when a frame is zeroed
-pub blank_zeroed : (m : Contents) (f : ℕ) → f < m.frames → Holds m empty → Holds (zeroed m f) empty
-blank_zeroed m f below blank =
-    let h = holds-zeroed m empty f below blank in
+-- ---- frames that are zeroed
+
+pub none_zeroed : (m : Contents) → AreZeroed [] m m
+unfolding frames_zeroed
+none_zeroed m = record { holds = λ k h. h; others = λ f i out. refl }
+
+-- one frame
+pub one_zeroed : (old new : Contents) (f : ℕ) → f < old.frames → new ≡ zeroed old f → ((g i : ℕ) → g ≢ f → word_of new g i ≡ word_of old g i)
+    → AreZeroed (f ∷ []) old new
+unfolding frames_zeroed
+one_zeroed old new f below is others = record {
+  holds = λ m h. subst (λ (x : Contents). Holds x (zeroed_frame m f)) (sym is) (holds-zeroed old m f below h);
+  others = λ g i out. others g i (λ same. true≢false (sym (subst (λ (x : ℕ). has (f ∷ []) x ≡ true) (sym same) (has_head f [])) ∙ out));
+}
+
+zeroed_append : (xs ys : List ℕ) (m : Mem) → frames_zeroed (xs ++ ys) m ≡ frames_zeroed ys (frames_zeroed xs m)
+unfolding frames_zeroed
+zeroed_append [] ys m = refl
+zeroed_append (x ∷ xs) ys m = zeroed_append xs ys (zeroed_frame m x)
+
+neither : (a b : Bool) → a || b ≡ false → (a ≡ false) × (b ≡ false)
+neither true b e = absurd (true≢false e)
+neither false b e = (refl, e)
+
+-- some frames, and then others
+pub zeroed_then : (xs ys : List ℕ) (first second third : Contents) → AreZeroed xs first second → AreZeroed ys second third → AreZeroed (xs ++ ys) first third
+zeroed_then xs ys first second third h k = record {
+  holds = λ m is. subst (Holds third) (sym (zeroed_append xs ys m)) (k.holds (frames_zeroed xs m) (h.holds m is));
+  others = λ f i out.
+      let parts = neither (has xs f) (has ys f) (sym (has_append xs ys f) ∙ out) in
+      k.others f i parts.1 ∙ h.others f i parts.0;
+}
+
+-- a memory that reads zero still does
+zeroed_empty : (fs : List ℕ) (m : Mem) (f i : ℕ) → word m f i ≡ 0 → word (frames_zeroed fs m) f i ≡ 0
+unfolding frames_zeroed
+zeroed_empty [] m f i is = is
+zeroed_empty (g ∷ fs) m f i is =
+    zeroed_empty fs (zeroed_frame m g) f i
+    (elim (cases_eq f g) [
+      | inl same ↦ subst (λ (x : ℕ). word (zeroed_frame m g) x i ≡ 0) (sym same) (word-zeroed_same m g i)
+      | inr other ↦ word-zeroed_other m g f i other ∙ is
+    ])
+
+pub still_blank : (fs : List ℕ) (old new : Contents) → AreZeroed fs old new → Holds old empty → Holds new empty
+still_blank fs old new h blank =
+    let now = h.holds empty blank in
     record {
-      size = h.size;
-      same = λ g i in_memory in_frame. h.same g i in_memory in_frame ∙ (elim (cases_eq g f) [
-        | inl same ↦ subst (λ (x : ℕ). word (zeroed_frame empty f) x i ≡ word empty x i) (sym same) (word-zeroed_same empty f i ∙ sym (word-empty f i))
-        | inr other ↦ word-zeroed_other empty f g i other
-      ]);
+      size = now.size;
+      same = λ f i in_memory in_frame. now.same f i in_memory in_frame ∙ zeroed_empty fs empty f i (word-empty f i) ∙ sym (word-empty f i);
     }
+
+-- ---- the frames of a pool
+
+pub take_split : (a b : ℕ) (xs : List ℕ) → take (a + b) xs ≡ take a xs ++ take b (drop a xs)
+take_split a b xs =
+    sym (take-append-drop a (take (a + b) xs))
+    ∙ ap₂ (λ (ys zs : List ℕ). ys ++ zs) (take-take a (a + b) xs (omega arith)) (drop-take a b xs)
+
+-- the clone's frames, the root, the tables and the pages are the first of the pool
+pub used_zeroed : (all : List ℕ) (root tables pages : ℕ) (a b c d e : Contents) → take 5 all ≡ take 4 all ++ root ∷ []
+    → AreZeroed (take 4 all) a b → AreZeroed (root ∷ []) b c → AreZeroed (take tables (drop 5 all)) c d
+    → AreZeroed (take pages (drop (5 + tables) all)) d e → AreZeroed (take (5 + tables + pages) all) a e
+used_zeroed all root tables pages a b c d e fifth clone one some more =
+    subst (λ (fs : List ℕ). AreZeroed fs a e) (sym (take_split (5 + tables) pages all))
+    (zeroed_then (take (5 + tables) all) (take pages (drop (5 + tables) all)) a d e
+    (subst (λ (fs : List ℕ). AreZeroed fs a d) (sym (take_split 5 tables all))
+    (zeroed_then (take 5 all) (take tables (drop 5 all)) a c d
+    (subst (λ (fs : List ℕ). AreZeroed fs a c) (sym fifth) (zeroed_then (take 4 all) (root ∷ []) a b c clone one)) some)) more)
+
+-- no frame of another pool is among them
+not_pool : (p : Hardware) (o : Own) (f : ℕ) → own_frame p o f ≡ false → has (pool p o) f ≡ false
+not_pool p o f other = elim (cases_Bool (has (pool p o) f)) [
+  | inl there ↦
+      let own = IsOwn-pool (share_of p o) f there in
+      absurd (true≢false (sym (rw (lt-ltb f p.frames own.below, own.coloured) refl) ∙ other))
+  | inr none ↦ none
+]
+
+pub still_elsewhere : (p : Hardware) (o : Own) (n : ℕ) (old new : Contents) → AreZeroed (take n (pool p o)) old new → SameElsewhere p o new old
+still_elsewhere p o n old new h f i in_memory in_frame other =
+    let all = take n (pool p o) in
+    let rest = drop n (pool p o) in
+    let out = neither (has all f) (has rest f) (sym (has_append all rest f) ∙ ap (λ (fs : List ℕ). has fs f) (take-append-drop n (pool p o)) ∙ not_pool p o f other) in
+    h.others f i out.0
 
 -- ---- a list of which one more is taken
 

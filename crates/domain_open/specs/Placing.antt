@@ -1,15 +1,17 @@
 -- What the code that opens a domain relies on, and what it leaves.
-use Rattle.std.specs.Prelude.{◌≡◌, ℕ, ◌+◌, ◌^◌, ◌<◌, ◌≤◌, ◌++◌, not, Bool, true, false, List, length, map, filter, slice_get, slice_index_or, Some}
+use Rattle.std.specs.Prelude.{◌≡◌, ℕ, ◌+◌, ◌^◌, ◌<◌, ◌≤◌, ◌++◌, ◌∷◌, [], not, Bool, true, false, List, length, map, filter, take, slice_get, slice_index_or, Some}
 use Rattle.std.specs.List.{list_any}
 use Rattle.hardware_check.specs.Hardware.{Hardware}
-use Rattle.phys_mem.specs.Mem.{Mem}
-use Rattle.frame_colours.specs.Colours.{Share}
+use Rattle.phys_mem.specs.Contents.{Contents, word_of}
+use Rattle.phys_mem.specs.Mem.{Mem, zeroed_frame}
+use Rattle.phys_mem.specs.Holds.{Holds}
+use Rattle.frame_colours.specs.Colours.{Share, has}
 use Rattle.image_check.specs.Image.{Image}
 use Rattle.world_view.specs.Opening.{all_placed}
 use Rattle.image_check.specs.Own.{Segment, Own, own_at, no_segment}
 use Rattle.image_check.specs.Laws.{IsSegment, IsOwn}
 use Rattle.image_check.specs.Pages.{has_page, pages_below, pages_in, frames_in, share_of}
-use Rattle.world_view.specs.Frames.{pool, clone_frames, first_tables, page_frames}
+use Rattle.world_view.specs.Frames.{own_frame, pool, clone_frames, first_tables, page_frames}
 use Rattle.cap_table.specs.Slots.{same_number, page_of}
 use Rattle.kernel_clone.specs.Models.{layout_model}
 use Rattle.kernel_call.specs.declared.domain.Domain.{Domain}
@@ -52,6 +54,29 @@ pub record IsOpened (p : Hardware) (o : Own) (d : Domain) : Type 0 where
   pub layout : layout_model d.layout ≡ layout p o
   pub moments : d.interrupts.moments ≡ o.moments
   pub few : CountsUpTo 0 d
+
+-- ---- what opening a domain does to memory, whatever was in it
+
+-- memory of which these frames are zeroed, one after the other
+unfoldable pub frames_zeroed : List ℕ → Mem → Mem
+frames_zeroed [] m = m
+frames_zeroed (f ∷ fs) m = frames_zeroed fs (zeroed_frame m f)
+
+-- these frames are zeroed, and no other is changed
+pub record AreZeroed (frames : List ℕ) (old new : Contents) : Type 0 where
+  pub holds : (m : Mem) → Holds old m → Holds new (frames_zeroed frames m)
+  pub others : (f i : ℕ) → has frames f ≡ false → word_of new f i ≡ word_of old f i
+
+-- the frames that a domain makes use of at first: its kernel clone's, its root, tables and pages
+abbrev pub used_frames : Hardware → Own → List ℕ
+used_frames p o = take (frames_in o.segments) (pool p o)
+
+-- the same in all frames but those of the domain's pool
+abbrev pub SameElsewhere : Hardware → Own → Contents → Contents → Type 0
+SameElsewhere p o new old = (f i : ℕ) → f < p.frames → i < 1024 → own_frame p o f ≡ false
+    → word_of new f i ≡ word_of old f i
+
+-- ---- all domains
 
 -- the first n of these domains are at their entries
 pub record AreOpened (p : Hardware) (owns : List Own) (n : ℕ) (domains : List Domain) : Type 0 where

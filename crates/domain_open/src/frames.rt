@@ -1,10 +1,8 @@
 // The frames of a domain, taken from the pool of its share.
-ghost use Rattle.std.specs.Prelude.{◌≡◌, ◌+◌, ◌<◌, ◌≤◌, ◌∷◌, ◌++◌, length, take, drop, IfOk};
+ghost use Rattle.std.specs.Prelude.{◌≡◌, ◌+◌, ◌<◌, ◌≤◌, ◌∷◌, [], ◌++◌, length, take, drop, IfOk};
 ghost use Rattle.std.specs.Vec.{vec_len, vec_capacity};
-ghost use Rattle.tp_base.specs.Table.{empty};
-ghost use Rattle.phys_mem.specs.Holds.{Holds};
 ghost use Rattle.image_check.specs.Image.{image_from};
-ghost use Rattle.domain_open.specs.Placing.{all_shares};
+ghost use Rattle.domain_open.specs.Placing.{AreZeroed, all_shares};
 
 use frame_colours::{AllColours, ColourShare, Frame, Free, Held, Pool, Table};
 use image_check::Checked;
@@ -14,11 +12,11 @@ use tp_base::Memory;
 
 /// What a frame may be used as.
 pub trait Purpose: Sized {
-    /// The frame with this purpose, all its words zero.
+    /// The frame with this purpose, all its words zero. No other frame changes.
     fn of(frame: Frame<Free>, memory: &mut PhysMem) -> Frame<Self>
         requires frame { frame < memory.old.frames }
         ensures frame { result ≡ frame }
-        ensures blank { Holds memory.old empty → Holds memory.new empty }
+        ensures zeroed { AreZeroed (result ∷ []) memory.old memory.new }
         ensures size { memory.new.frames ≡ memory.old.frames };
 }
 
@@ -40,7 +38,7 @@ pub fn take_one<P: Purpose>(pool: &mut Pool, memory: &mut PhysMem) -> Frame<P>
     requires size { pool.old.share.frames ≤ memory.old.frames }
     ensures frame { pool.old.free ≡ result ∷ pool.new.free }
     ensures share { pool.new.share ≡ pool.old.share }
-    ensures blank { Holds memory.old empty → Holds memory.new empty }
+    ensures zeroed { AreZeroed (result ∷ []) memory.old memory.new }
     ensures size { memory.new.frames ≡ memory.old.frames }
 {
     let frame = pool.take().unwrap();
@@ -61,7 +59,7 @@ pub fn take_into<P: Purpose>(
     ensures free { pool.new.free ≡ drop many pool.old.free }
     ensures share { pool.new.share ≡ pool.old.share }
     ensures room { vec_capacity frames.new ≡ vec_capacity frames.old }
-    ensures blank { Holds memory.old empty → Holds memory.new empty }
+    ensures zeroed { AreZeroed (take many pool.old.free) memory.old memory.new }
     ensures size { memory.new.frames ≡ memory.old.frames }
 {
     for _ in 0..many {

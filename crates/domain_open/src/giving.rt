@@ -24,8 +24,6 @@ ghost use Rattle.std.specs.Prelude.{
 };
 ghost use Rattle.std.specs.List.Sorted.{IsStrictlyIncreasing};
 ghost use Rattle.std.specs.Vec.{vec_len, vec_capacity};
-ghost use Rattle.tp_base.specs.Table.{empty};
-ghost use Rattle.phys_mem.specs.Holds.{Holds};
 ghost use Rattle.cap_table.specs.Slots as slots;
 ghost use Rattle.cap_table.specs.Slots.{with_cap};
 ghost use Rattle.cap_table.specs.Owning.{IsUnnamed};
@@ -34,6 +32,7 @@ ghost use Rattle.image_check.specs.Models.{segment_model, own_model};
 ghost use Rattle.image_check.specs.Laws.{IsOwn};
 ghost use Rattle.image_check.specs.Own.{cap_at};
 ghost use Rattle.image_check.specs.Pages as pages;
+ghost use Rattle.domain_open.specs.Placing.{AreZeroed};
 ghost use Rattle.domain_open.specs.Giving as spec;
 ghost use Rattle.domain_open.specs.Giving.{IsGiving, line_slots, slots_after, unnamed};
 
@@ -191,7 +190,8 @@ pub fn give_pages(
         ++ unnamed caps.new (take (pages.pages_in (own_model own.now).segments) pool.old.free) }
     ensures free { pool.new.free ≡ drop (pages.pages_in (own_model own.now).segments) pool.old.free }
     ensures share { pool.new.share ≡ pool.old.share }
-    ensures blank { Holds memory.old empty → Holds memory.new empty }
+    ensures zeroed { AreZeroed (take (pages.pages_in (own_model own.now).segments) pool.old.free)
+        memory.old memory.new }
     ensures size { memory.new.frames ≡ memory.old.frames }
 {
     for place in 0..pages_in(own.segments.as_slice()) {

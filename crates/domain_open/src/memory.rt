@@ -9,7 +9,7 @@ ghost use Rattle.image_check.specs.Image.{image_from};
 ghost use Rattle.kernel_call.specs.Facts.{Has};
 ghost use Rattle.world_view.specs.Kernel.{estate};
 ghost use Rattle.world_view.specs.Opening as spec;
-ghost use Rattle.domain_open.specs.Placing.{HasPool, HasPages, AllOpened, placed_all};
+ghost use Rattle.domain_open.specs.Placing.{HasPool, HasPages, AllOpened, SameElsewhere, placed_all};
 
 use crate::placement::Placement;
 use crate::segments::{REGIONS, has_region};
@@ -40,7 +40,8 @@ pub fn load_pages(image: &Checked, domains: &[Domain], memory: &mut PhysMem)
     }
 }
 
-/// Places the page tables and pages of one domain in its frames.
+/// Places the page tables and pages of one domain in its frames, whatever was in
+/// memory; frames that are not of its pool stay as they were.
 pub fn load_domain(hardware: &Hardware, own: &Own, domain: &Domain, memory: &mut PhysMem)
     requires has_pool { HasPool (hardware_model hardware.now) (own_model own.now) }
     requires has { Has (estate (hardware_model hardware.now) (own_model own.now)) domain.now }
@@ -48,6 +49,8 @@ pub fn load_domain(hardware: &Hardware, own: &Own, domain: &Domain, memory: &mut
     ensures size { memory.new.frames ≡ memory.old.frames }
     ensures placed { (m : Mem) → Holds memory.old m
         → Holds memory.new (spec.placed (hardware_model hardware.now) (own_model own.now) m) }
+    ensures elsewhere { (m : Mem) → Holds memory.old m
+        → SameElsewhere (hardware_model hardware.now) (own_model own.now) memory.new memory.old }
 {
     let placement = Placement::new(hardware, own, domain.pool.frames());
     place_domain(memory, &placement);

@@ -10,7 +10,7 @@ ghost use Rattle.image_check.specs.Own as own_spec;
 ghost use Rattle.kernel_clone.specs.Models.{layout_model};
 ghost use Rattle.world_view.specs.Frames.{clone_frames};
 ghost use Rattle.world_view.specs.Kernel.{layout};
-ghost use Rattle.domain_open.specs.Placing.{HasPool, AreApart, IsOpened, AllOpened};
+ghost use Rattle.domain_open.specs.Placing.{HasPool, AreApart, AreZeroed, SameElsewhere, used_frames, IsOpened, AllOpened};
 
 use crate::frames::{discard_all, shares_of, take_into, take_one};
 use crate::giving::{give_pages, lines_of};
@@ -29,10 +29,11 @@ use tp_base::Memory;
 /// Frames of a domain's kernel clone: two of text, one of stack, one of data.
 const CLONE_FRAMES: u32 = 4;
 
-/// A domain at its entry, in the frames of its share, of a memory that reads
-/// zero. They are taken in this order: those of its kernel clone, the root, a
-/// table for each region that has a page, and a frame for each page, each
-/// ascending; a page that a capability names is that capability's.
+/// A domain at its entry, in the frames of its share. They are taken in this
+/// order: those of its kernel clone, the root, a table for each region that has a
+/// page, and a frame for each page, each ascending; a page that a capability names
+/// is that capability's. Those that are taken are zeroed, whatever was in them; a
+/// frame of no colour of the share stays as it was, also on an error.
 ///
 /// # Errors
 /// `Memory` where no memory is left for what it keeps; the share is spent then.
@@ -48,6 +49,10 @@ pub fn open_domain(
     requires share { share ≡ share_of (hardware_model hardware.now) (own_model own.now) }
     requires size { memory.old.frames ≡ hardware.now.frames }
     ensures opened { IfOk result (IsOpened (hardware_model hardware.now) (own_model own.now)) }
+    ensures zeroed { IfOk result (λ _.
+        AreZeroed (used_frames (hardware_model hardware.now) (own_model own.now)) memory.old memory.new) }
+    ensures elsewhere { SameElsewhere (hardware_model hardware.now) (own_model own.now) memory.new memory.old }
+    // so a memory that reads zero still does
     ensures blank { Holds memory.old empty → Holds memory.new empty }
     ensures size { memory.new.frames ≡ memory.old.frames }
 {

@@ -43,7 +43,8 @@ step_touches p o end s = event_touches p o s (event o s.clock end s.dom)
 -- they are all that a step does to the caches
 abbrev pub StepTouchesLaw : Type 0
 StepTouchesLaw = (p : Hardware) (o : Own) (pinned : Bool) (end : ℕ) (s : Local)
-    → (step p o pinned end s).caches ≡ (touched_all (hierarchy p) pinned s.caches (step_touches p o end s)).caches
+    → (step p o pinned end s).caches
+    ≡ (touched_all (hierarchy p) pinned s.caches (step_touches p o end s)).caches
 
 -- where the domain's facts hold, each is of a line of the domain's own, or a load of a shared line
 abbrev pub OwnTouchesLaw : Type 0
@@ -53,13 +54,14 @@ OwnTouchesLaw = (i : Image) (d end : ℕ) (s : Local) → Runnable i → IsDomai
 
 -- so at each moment of each slot
 abbrev pub SlotTouchesLaw : Type 0
-SlotTouchesLaw = (i : Image) (k n : ℕ) → Runnable i
-    → MayAll i.all.hardware (owner i k) (step_touches i.all.hardware (owner i k) (slot_end i.all.schedule k) (local_in i k n))
+SlotTouchesLaw = (i : Image) (k n : ℕ) → Runnable i →
+    let p = i.all.hardware in
+    MayAll p (owner i k) (step_touches p (owner i k) (slot_end i.all.schedule k) (local_in i k n))
 
 -- ---- what it costs at most, whatever the caches hold
 
--- the clock after an event that began at `now`: a jump goes to the slot's end at the latest; a delivery takes the bound's
--- operation at most, and an instruction, with its kernel call, the bound's instruction and operation
+-- the clock after an event that began at `now`: a jump goes to the slot's end at the latest; a delivery takes the
+-- bound's operation at most, and an instruction, with its kernel call, the bound's instruction and operation
 abbrev pub EndsBy : Hardware → ℕ → ℕ → Event → ℕ → Type 0
 EndsBy p now end (Jump t) later = later ≤ end
 EndsBy p now end (Deliver line) later = later ≤ now + worst_operation (shape_of p)

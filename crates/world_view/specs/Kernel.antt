@@ -96,8 +96,9 @@ layout p o = record {
   colours = colours_of p;
 }
 
--- ---- its frames for good: those of its kernel clone, its root, its first tables, and its pages that no capability names
+-- ---- its frames for good
 
+-- those of its kernel clone, its root, its first tables, and its pages that no capability names at first
 abbrev pub frames_for_good : Hardware → Own → List ℕ
 frames_for_good p o =
     let l = layout p o in

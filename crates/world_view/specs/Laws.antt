@@ -172,8 +172,9 @@ KernelLaw = (i : Image) (d : ℕ) → Runnable i → IsDomain i d → IsKernel i
 
 -- at each moment of each slot, whoever runs, each domain still has its frames for good
 abbrev pub ForGoodLaw : Type 0
-ForGoodLaw = (i : Image) (k n d : ℕ) → Runnable i → IsDomain i d
-    → All (IsForGood i.all.hardware (own_of i d) (dom_of (world_in i k n) d)) (frames_for_good i.all.hardware (own_of i d))
+ForGoodLaw = (i : Image) (k n d : ℕ) → Runnable i → IsDomain i d →
+    let p = i.all.hardware in
+    All (IsForGood p (own_of i d) (dom_of (world_in i k n) d)) (frames_for_good p (own_of i d))
 
 -- every image that breaks no rule may be run
 abbrev pub ReadingLaw : Type 0
@@ -262,7 +263,8 @@ switch_touches i k =
 
 -- the caches in the midst of switch k, after so many of its touches
 abbrev pub caches_in_switch : Image → ℕ → ℕ → Caches
-caches_in_switch i k n = (touched_all (hierarchy i.all.hardware) false (whole i k).caches (take n (switch_touches i k))).caches
+caches_in_switch i k n =
+    (touched_all (hierarchy i.all.hardware) false (whole i k).caches (take n (switch_touches i k))).caches
 
 -- after all of them the slot begins
 abbrev pub AfterSwitchLaw : Type 0

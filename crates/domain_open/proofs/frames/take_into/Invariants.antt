@@ -1,6 +1,5 @@
 use Rattle.std.proofs.Common.{◌≡◌, ◌++◌, take, drop}
-use Rattle.tp_base.specs.Table.{empty}
-use Rattle.phys_mem.specs.Holds.{Holds}
+use Rattle.domain_open.specs.Placing.{AreZeroed}
 use Rattle.domain_open.proofs.frames.take_into.Given as goal
 
 abbrev pub invariant-loop : goal.invariant-loop
@@ -9,6 +8,6 @@ invariant-loop g l = record {
   free : l.pool.free ≡ drop l.counter l.fn.pool.free;
   share : l.pool.share ≡ l.fn.pool.share;
   room : l.frames.cap ≡ l.fn.frames.cap;
-  blank : Holds l.fn.memory empty → Holds l.memory empty;
+  zeroed : AreZeroed (take l.counter l.fn.pool.free) l.fn.memory l.memory;
   size : l.memory.frames ≡ l.fn.memory.frames;
 }

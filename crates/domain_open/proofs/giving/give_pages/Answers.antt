@@ -1,10 +1,11 @@
-use Rattle.std.proofs.Common.{ℕ, ◌++◌, ◌∷◌, [], List, take, refl, ap, sym, ◌∙◌, arith}
+use Rattle.std.proofs.Common.{ℕ, ◌++◌, ◌∷◌, [], List, take, refl, ap, sym, subst, ◌∙◌, arith}
 use Rattle.std.proofs.lemmas.List.{append_assoc, append-nil}
 use Rattle.image_check.specs.Models.{own_model}
 use Rattle.image_check.specs.Pages.{pages_in}
+use Rattle.domain_open.specs.Placing.{AreZeroed}
 use Rattle.domain_open.specs.Giving.{slots_after, unnamed, IsGiving}
 use Rattle.domain_open.proofs.SlotLaws.{slots_begin, unnamed_none, unnamed_more}
-use Rattle.domain_open.proofs.Taking.{taken}
+use Rattle.domain_open.proofs.Taking.{taken, none_zeroed, zeroed_then}
 use Rattle.domain_open.proofs.giving.give_pages.Goals as goal
 
 pub loop-place-init : goal.loop-place-init
@@ -19,7 +20,7 @@ loop-place-init c =
       room = refl;
       free = refl;
       share = refl;
-      blank = λ h. h;
+      zeroed = none_zeroed c.args.memory.now;
       size = refl;
     }
 
@@ -45,6 +46,7 @@ loop-place-preserved c =
       room = c.place_page.ensures.room ∙ inv.room;
       free = more.left;
       share = c.take_one-frame.ensures.share ∙ inv.share;
-      blank = λ h. c.take_one-frame.ensures.blank (inv.blank h);
+      zeroed = subst (λ (fs : List ℕ). AreZeroed fs c.args.memory.now c.take_one-frame.new.memory) (sym more.so_far)
+          (zeroed_then (take k frames) (x ∷ []) c.args.memory.now c.loop-place.memory c.take_one-frame.new.memory inv.zeroed c.take_one-frame.ensures.zeroed);
       size = c.take_one-frame.ensures.size ∙ inv.size;
     }

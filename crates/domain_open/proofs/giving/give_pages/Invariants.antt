@@ -1,6 +1,5 @@
 use Rattle.std.proofs.Common.{◌≡◌, ◌+◌, ◌≤◌, ◌++◌, length, take, drop}
-use Rattle.tp_base.specs.Table.{empty}
-use Rattle.phys_mem.specs.Holds.{Holds}
+use Rattle.domain_open.specs.Placing.{AreZeroed}
 use Rattle.image_check.specs.Models.{own_model}
 use Rattle.image_check.specs.Pages.{pages_in}
 use Rattle.domain_open.specs.Giving.{slots_after, unnamed}
@@ -17,6 +16,6 @@ invariant-loop-place l =
       room : l.kept.cap ≡ l.fn.kept.cap;
       free : l.pool.free ≡ drop l.place frames;
       share : l.pool.share ≡ l.fn.pool.share;
-      blank : Holds l.fn.memory empty → Holds l.memory empty;
+      zeroed : AreZeroed (take l.place frames) l.fn.memory l.memory;
       size : l.memory.frames ≡ l.fn.memory.frames;
     }

@@ -2,7 +2,7 @@ use Rattle.std.proofs.Common.{◌≡◌, ℕ, ◌<◌, ◌+◌, ◌-◌, length,
 use Rattle.std.proofs.lemmas.Option.{slice_get-get_or}
 use Rattle.phys_mem.specs.Holds.{Holds}
 use Rattle.kernel_call.specs.Facts.{Has}
-use Rattle.image_check.specs.Own.{Own, owns_of, own_at}
+use Rattle.image_check.specs.Own.{Own, owns_of}
 use Rattle.hardware_check.specs.Hardware.{Hardware}
 use Rattle.image_check.specs.Public.{Public}
 use Rattle.hardware_check.specs.Models.{hardware_model}

@@ -1,4 +1,4 @@
-use Rattle.std.proofs.Common.{◌≡◌, ℕ, ◌+◌, ◌++◌, List, length, take, drop, ap, ap₂, sym, subst, ◌∙◌, arith}
+use Rattle.std.proofs.Common.{◌≡◌, ℕ, ◌+◌, ◌++◌, List, length, take, drop, ap, ap₂, sym, subst, subst₂, ◌∙◌, arith}
 use Rattle.std.specs.List.Sorted.{IsStrictlyIncreasing}
 use Rattle.std.proofs.lemmas.List.{length-take, length-drop}
 use Rattle.frame_colours.specs.Colours as colours
@@ -6,7 +6,7 @@ use Rattle.frame_colours.specs.Colours.{Share, frame_at}
 use Rattle.frame_colours.specs.FreeList.{FreeList}
 use Rattle.hardware_check.specs.Models.{hardware_model}
 use Rattle.image_check.specs.Models.{own_model}
-use Rattle.image_check.specs.Pages.{regions_in, pages_in}
+use Rattle.image_check.specs.Pages.{regions_in, pages_in, frames_in}
 use Rattle.irq_partition.specs.Interrupts as irq
 use Rattle.thread_set.specs.Models.{threads_model}
 use Rattle.kernel_clone.specs.Models.{layout_model}
@@ -15,9 +15,9 @@ use Rattle.kernel_call.specs.Models.{IsNew}
 use Rattle.world_view.specs.Frames.{pool, clone_frames}
 use Rattle.world_view.proofs.Parts.{drop_twice}
 use Rattle.domain_open.specs.Giving.{slots_after, unnamed}
-use Rattle.domain_open.specs.Placing.{IsOpened}
+use Rattle.domain_open.specs.Placing.{AreZeroed, used_frames, IsOpened}
 use Rattle.domain_open.proofs.PoolReads.{frames_few}
-use Rattle.domain_open.proofs.Taking.{taken}
+use Rattle.domain_open.proofs.Taking.{taken, used_zeroed, still_elsewhere, still_blank}
 use Rattle.domain_open.proofs.Opened.{increasing_drop, pool_ascends, slots_are, is_opened, at_ok, if_ok}
 use Rattle.domain_open.proofs.open.open_domain.Goals as goal
 
@@ -118,9 +118,9 @@ give_pages-requires-clause-room c =
     let capacity = c.in_ok-kept.ensures.capacity in
     omega (arith, many, four, pages, room, capacity)
 
-pub returns-clause-opened : goal.returns-clause-opened
+pub returns : goal.returns
 unfolding frame_at
-returns-clause-opened c =
+returns c =
     let p = hardware_model c.args.hardware.now in
     let o = own_model c.args.own.now in
     let all : List ℕ = pool p o in
@@ -137,20 +137,33 @@ returns-clause-opened c =
     let caps = c.give_pages.ensures.caps ∙ ap (λ (fs : List ℕ). slots_after o fs many) tabled ∙ slots_are p o c.requires.has_pool.enough c.requires.has_pool.sound in
     let made = c.new-5.ensures in
     let r = c.new-5.result in
-    if_ok (IsOpened p o) r (λ d e.
-    is_opened p o c.requires.has_pool c.requires.apart d
-    (at_ok IsNew r d e made.made)
-    (at_ok (λ (x : Domain). x.map ≡ c.new-3.result) r d e made.map ∙ c.new-3.ensures.value ∙ sym root.at)
-    (at_ok (λ (x : Domain). x.pool ≡ c.give_pages.new.pool) r d e made.pool
-    ∙ ap₂ (λ (s : Share) (fs : List ℕ). record { share = s; free = fs })
-    (c.give_pages.ensures.share ∙ c.take_into-2.ensures.share ∙ c.take_one-root.ensures.share ∙ c.take_into.ensures.share ∙ ap (λ (f : FreeList). f.share) fresh ∙ c.requires.share)
-    (c.give_pages.ensures.free ∙ ap (drop many) tabled ∙ drop_twice (5 + regions_in o.segments) many all))
-    (at_ok (λ (x : Domain). x.caps ≡ c.give_pages.new.caps) r d e made.caps ∙ caps)
-    (at_ok (λ (x : Domain). x.interrupts ≡ c.in_ok-interrupts.interrupts) r d e made.interrupts ∙ c.in_ok-interrupts.ensures.opening ∙ ap irq.opening c.as_slice-moments.ensures.value)
-    (ap threads_model (at_ok (λ (x : Domain). x.threads ≡ c.new-4.result) r d e made.threads) ∙ c.new-4.ensures.opening)
-    (ap (λ v. v.items) (at_ok (λ (x : Domain). x.tables ≡ c.take_into-2.new.frames) r d e made.tables)
-    ∙ c.take_into-2.ensures.frames ∙ ap₂ (λ (ys zs : List ℕ). ys ++ zs) c.in_ok-tables.ensures.items (ap₂ take regions root.left))
-    (ap (λ v. v.items) (at_ok (λ (x : Domain). x.kept ≡ c.give_pages.new.kept) r d e made.kept)
-    ∙ c.give_pages.ensures.kept ∙ ap₂ (λ (ys zs : List ℕ). ys ++ zs) clone (ap₂ unnamed caps (ap (take many) tabled)))
-    (ap layout_model (at_ok (λ (x : Domain). x.layout ≡ c.layout_of-layout.result) r d e made.layout)
-    ∙ c.layout_of-layout.ensures.layout o (c.as_slice.ensures.value ∙ clone)))
+    let before = c.args.memory.now in
+    let after = c.give_pages.new.memory in
+    let used : AreZeroed (used_frames p o) before after =
+    used_zeroed all c.take_one-root.result (regions_in o.segments) many before c.take_into.new.memory c.take_one-root.new.memory c.take_into-2.new.memory after root.so_far
+    (subst (λ (fs : List ℕ). AreZeroed (take 4 fs) before c.take_into.new.memory) free c.take_into.ensures.zeroed) c.take_one-root.ensures.zeroed
+    (subst₂ (λ (n : ℕ) (fs : List ℕ). AreZeroed (take n fs) c.take_one-root.new.memory c.take_into-2.new.memory) regions root.left c.take_into-2.ensures.zeroed)
+    (subst (λ (fs : List ℕ). AreZeroed (take many fs) c.take_into-2.new.memory after) tabled c.give_pages.ensures.zeroed) in
+    record {
+      opened = if_ok (IsOpened p o) r (λ d e.
+          is_opened p o c.requires.has_pool c.requires.apart d
+          (at_ok IsNew r d e made.made)
+          (at_ok (λ (x : Domain). x.map ≡ c.new-3.result) r d e made.map ∙ c.new-3.ensures.value ∙ sym root.at)
+          (at_ok (λ (x : Domain). x.pool ≡ c.give_pages.new.pool) r d e made.pool
+          ∙ ap₂ (λ (s : Share) (fs : List ℕ). record { share = s; free = fs })
+          (c.give_pages.ensures.share ∙ c.take_into-2.ensures.share ∙ c.take_one-root.ensures.share ∙ c.take_into.ensures.share ∙ ap (λ (f : FreeList). f.share) fresh ∙ c.requires.share)
+          (c.give_pages.ensures.free ∙ ap (drop many) tabled ∙ drop_twice (5 + regions_in o.segments) many all))
+          (at_ok (λ (x : Domain). x.caps ≡ c.give_pages.new.caps) r d e made.caps ∙ caps)
+          (at_ok (λ (x : Domain). x.interrupts ≡ c.in_ok-interrupts.interrupts) r d e made.interrupts ∙ c.in_ok-interrupts.ensures.opening ∙ ap irq.opening c.as_slice-moments.ensures.value)
+          (ap threads_model (at_ok (λ (x : Domain). x.threads ≡ c.new-4.result) r d e made.threads) ∙ c.new-4.ensures.opening)
+          (ap (λ v. v.items) (at_ok (λ (x : Domain). x.tables ≡ c.take_into-2.new.frames) r d e made.tables)
+          ∙ c.take_into-2.ensures.frames ∙ ap₂ (λ (ys zs : List ℕ). ys ++ zs) c.in_ok-tables.ensures.items (ap₂ take regions root.left))
+          (ap (λ v. v.items) (at_ok (λ (x : Domain). x.kept ≡ c.give_pages.new.kept) r d e made.kept)
+          ∙ c.give_pages.ensures.kept ∙ ap₂ (λ (ys zs : List ℕ). ys ++ zs) clone (ap₂ unnamed caps (ap (take many) tabled)))
+          (ap layout_model (at_ok (λ (x : Domain). x.layout ≡ c.layout_of-layout.result) r d e made.layout)
+          ∙ c.layout_of-layout.ensures.layout o (c.as_slice.ensures.value ∙ clone)));
+      zeroed = if_ok (λ (d : Domain). AreZeroed (used_frames p o) before after) r (λ d e. used);
+      elsewhere = still_elsewhere p o (frames_in o.segments) before after used;
+      blank = still_blank (used_frames p o) before after used;
+      size = c.give_pages.ensures.size ∙ c.take_into-2.ensures.size ∙ c.take_one-root.ensures.size ∙ c.take_into.ensures.size;
+    }

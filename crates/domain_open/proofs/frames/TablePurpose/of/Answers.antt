@@ -1,10 +1,9 @@
-use Rattle.std.proofs.Common.{sym, subst}
-use Rattle.tp_base.specs.Table.{empty}
-use Rattle.phys_mem.specs.Contents.{Contents}
-use Rattle.phys_mem.specs.Holds.{Holds}
-use Rattle.domain_open.proofs.Taking.{blank_zeroed}
+use Rattle.std.proofs.Common.{◌∷◌, [], ℕ, sym, subst}
+use Rattle.domain_open.specs.Placing.{AreZeroed}
+use Rattle.domain_open.proofs.Taking.{one_zeroed}
 use Rattle.domain_open.proofs.frames.TablePurpose.of.Goals as goal
 
-pub returns-clause-blank : goal.returns-clause-blank
-returns-clause-blank c blank =
-    subst (λ (m : Contents). Holds m empty) (sym c.table.ensures.memory) (blank_zeroed c.args.memory.now c.args.frame c.requires.frame blank)
+pub returns-clause-zeroed : goal.returns-clause-zeroed
+returns-clause-zeroed c =
+    subst (λ (f : ℕ). AreZeroed (f ∷ []) c.args.memory.now c.table.new.memory) (sym c.table.ensures.frame)
+    (one_zeroed c.args.memory.now c.table.new.memory c.args.frame c.requires.frame c.table.ensures.memory c.table.ensures.others)
