@@ -23,37 +23,44 @@ use Rattle.rv_decode.specs.declared.LoadWidth.{LoadWidth}
 use Rattle.rv_decode.specs.declared.Instr.TheVariants as instr
 use Rattle.sv32_walk.specs.declared.access.Access.TheVariants as access
 use Rattle.tlb_model.specs.Buffer.{Buffer}
-use Rattle.mem_system.specs.Cost.{Touched, Fetch, Branch}
+use Rattle.mem_system.specs.Cost.{Touch, Touched, Fetch, Branch}
 use Rattle.mem_system.specs.Contents.{SystemContents, MakesTouch}
 use Rattle.mem_system.specs.Translation.{KeepsLeaves}
 use Rattle.thread_set.specs.Threads.{with_current}
 use Rattle.call_table.specs.Domain.{Dom, placed}
-use Rattle.call_table.specs.Claims.{Estate}
-use Rattle.kernel_clone.specs.Footprints.{Layout}
 use Rattle.kernel_call.specs.declared.domain.Domain.{Domain}
 use Rattle.kernel_call.specs.Models.{dom_model, Stands, Becomes}
+use Rattle.world_view.specs.Kernel.{estate, layout}
 use Rattle.world_view.specs.Instruction.{counter_value, trapped, stopped, retired_at, read_out}
-use Rattle.world_view.specs.Event.{Storage, load, translate, place, line_in, read, store, loaded, noted, guessed, settle, execute, make_call, perform, instruction}
+use Rattle.world_view.specs.Event.{Storage, Act, load, translate, place, line_in, read, store, loaded, noted, guessed, settle, execute, make_call, perform, instruction}
 use Rattle.world_view.proofs.CodeLaws.{noted-other, loaded-other, guessed-other, perform-other}
 use Rattle.domain_step.specs.Kept.{Setting, charged, Kept}
 use Rattle.domain_step.specs.Moves.{Yields, Answered, Left}
 use Rattle.domain_step.proofs.Charges.{touch_kept}
+use Rattle.domain_step.proofs.Points.{Point, YieldsAt, YieldsFrom}
 use Rattle.domain_step.proofs.Yields.{yields_rules, y_found, y_faults, y_touch, y_give, y_stop, becomes_then}
 use Rattle.domain_step.proofs.Accesses.{line_kept}
 
 -- ---- the end of an instruction
 
 module _ (next value : ℕ) (old new : Domain) where
-  pub finish_read : (counter : Counter) (rd : ℕ) (mid : Domain) → Becomes (read_out value) old mid → Becomes (λ d. retired_at next d.threads.current.regs d) mid new
-      → Becomes (λ d. retired_at next d.threads.current.regs (noted (instr.ReadCounter counter rd) value d)) old new
-  unfolding noted read_out
-  finish_read counter rd mid read retired = becomes_then (read_out value) (λ d. retired_at next d.threads.current.regs d) old mid new read retired
+  -- what is so of the old domain when it goes on to the next instruction
+  abbrev Retires : (Dom → Dom) → Domain → Type 0
+  Retires f from = Becomes (λ d. retired_at next d.threads.current.regs (f d)) from new
 
-  pub finish_other : (i : Instr) → ((c : Counter) (rd : ℕ) → i ≢ instr.ReadCounter c rd) → Becomes (λ d. retired_at next d.threads.current.regs d) old new
-      → Becomes (λ d. retired_at next d.threads.current.regs (noted i value d)) old new
+  pub finish_read : (counter : Counter) (rd : ℕ) (mid : Domain) → Becomes (read_out value) old mid
+      → Retires (λ d. d) mid → Retires (noted (instr.ReadCounter counter rd) value) old
+  unfolding noted read_out
+  finish_read counter rd mid read retired =
+      becomes_then (read_out value) (λ d. retired_at next d.threads.current.regs d) old mid new read
+      retired
+
+  pub finish_other : (i : Instr) → ((c : Counter) (rd : ℕ) → i ≢ instr.ReadCounter c rd)
+      → Retires (λ d. d) old → Retires (noted i value) old
   finish_other i other retired readings replies r q =
       let d = dom_model old readings replies in
-      subst (λ (m : Dom). Stands new (retired_at next d.threads.current.regs m)) (sym (noted-other i value d other)) (retired readings replies r q)
+      subst (λ (m : Dom). Stands new (retired_at next d.threads.current.regs m))
+      (sym (noted-other i value d other)) (retired readings replies r q)
 
 -- ---- stores
 
@@ -64,7 +71,8 @@ module _ (regs : List ℕ) (made : StoreMade) where
   keeps_none : (out : Outcome) → out.effect.store ≡ None → Keeps out
   keeps_none out none e = absurd (none-some made (sym none ∙ e))
 
-  keeps_if : (b : Bool) (x y : Outcome) → x.effect.store ≡ None → y.effect.store ≡ None → Keeps (cond b x y)
+  keeps_if : (b : Bool) (x y : Outcome) → x.effect.store ≡ None → y.effect.store ≡ None
+      → Keeps (cond b x y)
   keeps_if true x y none none' = keeps_none x none
   keeps_if false x y none none' = keeps_none y none'
 
@@ -72,11 +80,13 @@ module _ (regs : List ℕ) (made : StoreMade) where
   keeps_branch pc target true = keeps_if (eqb (target % 4) 0) _ _ refl refl
   keeps_branch pc target false = keeps_none (effect.continuation regs pc) refl
 
-  keeps_access : (pc : ℕ) (t : Option Trap) (done : Outcome) → done.effect.store ≡ None → Keeps (effect.access regs pc t done)
+  keeps_access : (pc : ℕ) (t : Option Trap) (done : Outcome) → done.effect.store ≡ None
+      → Keeps (effect.access regs pc t done)
   keeps_access pc None done none = keeps_none done none
   keeps_access pc (Some trap) done none = keeps_none (effect.exception regs pc trap) refl
 
-  keeps_store : (pc : ℕ) (t : Option Trap) (done : Outcome) → done.regs ≡ regs → Keeps (effect.access regs pc t done)
+  keeps_store : (pc : ℕ) (t : Option Trap) (done : Outcome) → done.regs ≡ regs
+      → Keeps (effect.access regs pc t done)
   keeps_store pc None done same e = same
   keeps_store pc (Some trap) done same e = refl
 
@@ -86,9 +96,13 @@ module _ (regs : List ℕ) (made : StoreMade) where
   store_keeps pc (instr.Auipc rd imm) loaded e = absurd (none-some made e)
   store_keeps pc (instr.Jal rd offset) loaded e = keeps_if _ _ _ refl refl e
   store_keeps pc (instr.Jalr rd rs1 offset) loaded e = keeps_if _ _ _ refl refl e
-  store_keeps pc (instr.Branch comparison rs1 rs2 offset) loaded e = keeps_branch pc ((pc + offset) % 2 ^ 32) (alu.holds comparison (register regs rs1) (register regs rs2)) e
-  store_keeps pc (instr.Load width rd rs1 offset) loaded e = keeps_access pc (alignment_trap (load_size width) 4 (sum_of regs rs1 offset)) _ refl e
-  store_keeps pc (instr.Store width rs1 rs2 offset) loaded e = keeps_store pc (alignment_trap (store_size width) 6 (sum_of regs rs1 offset)) _ refl e
+  store_keeps pc (instr.Branch comparison rs1 rs2 offset) loaded e =
+      keeps_branch pc ((pc + offset) % 2 ^ 32)
+      (alu.holds comparison (register regs rs1) (register regs rs2)) e
+  store_keeps pc (instr.Load width rd rs1 offset) loaded e =
+      keeps_access pc (alignment_trap (load_size width) 4 (sum_of regs rs1 offset)) _ refl e
+  store_keeps pc (instr.Store width rs1 rs2 offset) loaded e =
+      keeps_store pc (alignment_trap (store_size width) 6 (sum_of regs rs1 offset)) _ refl e
   store_keeps pc (instr.Immediate operation rd rs1 imm) loaded e = absurd (none-some made e)
   store_keeps pc (instr.Register operation rd rs1 rs2) loaded e = absurd (none-some made e)
   store_keeps pc instr.Fence loaded e = absurd (none-some made e)
@@ -100,12 +114,17 @@ module _ (regs : List ℕ) (made : StoreMade) where
 
 -- a domain with other registers
 abbrev pub with_regs : List ℕ → Dom → Dom
-with_regs regs d = record d { threads = record d.threads { current = record d.threads.current { regs = regs } } }
+with_regs regs d =
+    record d { threads = record d.threads { current = record d.threads.current { regs = regs } } }
 
-pub trapped_same : (new : Domain) (trap : Trap) (d : Dom) (regs : List ℕ) → regs ≡ d.threads.current.regs → Stands new (trapped trap (with_regs regs d)) → Stands new (trapped trap d)
-trapped_same new trap d regs same stands = subst (λ (rs : List ℕ). Stands new (trapped trap (with_regs rs d))) same stands
+pub trapped_same : (new : Domain) (trap : Trap) (d : Dom) (regs : List ℕ)
+    → regs ≡ d.threads.current.regs → Stands new (trapped trap (with_regs regs d))
+    → Stands new (trapped trap d)
+trapped_same new trap d regs same stands =
+    subst (λ (rs : List ℕ). Stands new (trapped trap (with_regs rs d))) same stands
 
-retired_same : (next value : ℕ) (i : Instr) (regs : List ℕ) (d : Dom) → retired_at next regs (noted i value (with_regs regs d)) ≡ retired_at next regs (noted i value d)
+retired_same : (next value : ℕ) (i : Instr) (regs : List ℕ) (d : Dom)
+    → retired_at next regs (noted i value (with_regs regs d)) ≡ retired_at next regs (noted i value d)
 unfolding noted read_out retired_at placed with_current
 retired_same next value (instr.Lui rd imm) regs d = refl
 retired_same next value (instr.Auipc rd imm) regs d = refl
@@ -121,156 +140,309 @@ retired_same next value instr.Ecall regs d = refl
 retired_same next value instr.Ebreak regs d = refl
 retired_same next value (instr.ReadCounter counter rd) regs d = refl
 
-pub finished_same : (new : Domain) (out : Outcome) (next value : ℕ) (i : Instr) (regs : List ℕ) (d : Dom) → next ≡ out.effect.next → regs ≡ out.regs
-    → Stands new (retired_at next regs (noted i value (with_regs regs d))) → Stands new (retired_at out.effect.next out.regs (noted i value d))
+pub finished_same : (new : Domain) (out : Outcome) (next value : ℕ) (i : Instr) (regs : List ℕ)
+    (d : Dom) → next ≡ out.effect.next → regs ≡ out.regs
+    → Stands new (retired_at next regs (noted i value (with_regs regs d)))
+    → Stands new (retired_at out.effect.next out.regs (noted i value d))
 finished_same new out next value i regs d e same stands =
     subst₂ (λ (n : ℕ) (rs : List ℕ). Stands new (retired_at n rs (noted i value d))) e same
     (subst (Stands new) (retired_same next value i regs d) stands)
 
 -- a store that faults was one
-pub faulted_keeps : (w : Setting) (K : Storage → Touched → Type 0) (root : ℕ) (d : Dom) (i : Instr) (value pc : ℕ) (made : Option StoreMade) (s : Storage) (r : Touched) (trap : Trap) (regs : List ℕ)
-    → (effect_of regs pc i value).effect.store ≡ made → Yields w (store w.machine root d made) s r (Answered d (Err trap) K) → (effect_of regs pc i value).regs ≡ regs
+pub faulted_keeps : (w : Setting) (K : Storage → Touched → Type 0) (root : ℕ) (d : Dom) (i : Instr)
+    (value : ℕ) (made : Option StoreMade) {s : Storage} {r : Touched} {trap : Trap}
+    → (effect_of d.threads.current.regs d.threads.current.pc i value).effect.store ≡ made
+    → Yields w (store w.machine root d made) s r (Answered d (Err trap) K)
+    → (effect_of d.threads.current.regs d.threads.current.pc i value).regs ≡ d.threads.current.regs
 unfolding store give
-faulted_keeps w K root d i value pc None s r trap regs e answers = absurd (inr-inl answers.met.value)
+faulted_keeps w K root d i value None e answers = absurd (inr-inl answers.met.value)
   where
     inr-inl : {A B : Type 0} {a : A} {b : B} → inr b ≢ inl a
     inr-inl e = cc
-faulted_keeps w K root d i value pc (Some made) s r trap regs e answers = store_keeps regs made pc i value e
+faulted_keeps w K root d i value (Some made) e answers =
+    store_keeps d.threads.current.regs made d.threads.current.pc i value e
 
 -- ---- what an instruction needs from outside
 
-module _ (w : Setting) (K : Storage → Touched → Type 0) (root t : ℕ) (d : Dom) (i : Instr) (s : Storage) (r : Touched) where
-  pub loaded_load : (width : LoadWidth) (rd rs1 offset at : ℕ) (result : Result ℕ Trap) → i ≡ instr.Load width rd rs1 offset → at ≡ address_of d.threads.current.regs i
-      → Yields w (load w.machine root d width at) s r (Answered d result K) → Yields w (loaded w.machine root t d i) s r (Answered d result K)
-  unfolding loaded
-  loaded_load width rd rs1 offset at result e is found =
-      subst (λ (j : Instr). Yields w (loaded w.machine root t d j) s r (Answered d result K)) (sym e)
-      (subst (λ (x : ℕ). Yields w (load w.machine root d width x) s r (Answered d result K)) (is ∙ ap (address_of d.threads.current.regs) e) found)
+module _ (p : Point) (K : Storage → Touched → Type 0) (i : Instr) where
+  abbrev LoadedAs : Result ℕ Trap → Type 0
+  LoadedAs result =
+      YieldsAt p (loaded p.setting.machine p.root p.clock p.dom i) (Answered p.dom result K)
 
-  pub loaded_counter : (counter : Counter) (rd v : ℕ) → K s r → i ≡ instr.ReadCounter counter rd → v ≡ counter_value counter t d → Yields w (loaded w.machine root t d i) s r (Answered d (Ok v) K)
+  pub loaded_load : {width : LoadWidth} {rd rs1 offset : ℕ} (at : ℕ) (result : Result ℕ Trap)
+      → i ≡ instr.Load width rd rs1 offset → at ≡ address_of p.dom.threads.current.regs i
+      → YieldsAt p (load p.setting.machine p.root p.dom width at) (Answered p.dom result K)
+      → LoadedAs result
   unfolding loaded
-  loaded_counter counter rd v keeps e is = rw (e, is) (y_give w s r (counter_value counter t d) _ (record { value = refl; kept = keeps }))
+  loaded_load {width} at result e is found =
+      let Ends : Act ℕ → Type 0 = λ x. YieldsAt p x (Answered p.dom result K) in
+      let there = is ∙ ap (address_of p.dom.threads.current.regs) e in
+      subst (λ (j : Instr). Ends (loaded p.setting.machine p.root p.clock p.dom j)) (sym e)
+      (subst (λ (x : ℕ). Ends (load p.setting.machine p.root p.dom width x)) there found)
 
-  pub loaded_other : K s r → ((x : LoadWidth) (rd rs1 offset : ℕ) → i ≢ instr.Load x rd rs1 offset) → ((c : Counter) (rd : ℕ) → i ≢ instr.ReadCounter c rd)
-      → Yields w (loaded w.machine root t d i) s r (Answered d (Ok 0) K)
-  loaded_other keeps not_load not_counter = rw (loaded-other w.machine root t d i not_load not_counter) (y_give w s r 0 _ (record { value = refl; kept = keeps }))
+  pub loaded_counter : {counter : Counter} {rd : ℕ} (value : ℕ) → K p.storage p.reached
+      → i ≡ instr.ReadCounter counter rd → value ≡ counter_value counter p.clock p.dom
+      → LoadedAs (Ok value)
+  unfolding loaded
+  loaded_counter {counter} value keeps e is =
+      rw (e, is)
+      (y_give p.setting p.storage p.reached (counter_value counter p.clock p.dom) _
+      (record { value = refl; kept = keeps }))
+
+  pub loaded_other : K p.storage p.reached
+      → ((x : LoadWidth) (rd rs1 offset : ℕ) → i ≢ instr.Load x rd rs1 offset)
+      → ((c : Counter) (rd : ℕ) → i ≢ instr.ReadCounter c rd) → LoadedAs (Ok 0)
+  loaded_other keeps not_load not_counter =
+      rw (loaded-other p.setting.machine p.root p.clock p.dom i not_load not_counter)
+      (y_give p.setting p.storage p.reached 0 _ (record { value = refl; kept = keeps }))
 
 -- ---- a branch
 
-module _ {P : Type 0} (rule : P → ℕ → Rule) (stands : P → ℕ → ℕ → List ℕ → Type 0) (w : Setting) (caps : Slots) (root : ℕ) (memory : Contents) (d : Dom) (i : Instr) (pc : ℕ) (taken : Bool) (s : Storage) (r : Touched) where
-  pub guessed_branch : (comparison : Comparison) (rs1 rs2 offset spent spent' cycles : ℕ) (old new : SystemContents P) → i ≡ instr.Branch comparison rs1 rs2 offset
-      → MakesTouch rule stands (Branch pc taken) cycles old new → new.core.tlb ≡ old.core.tlb → spent' ≡ spent + cycles
-      → Kept rule stands w caps root memory old spent s r → Yields w (guessed i pc taken) s r (Answered d (Ok tt) (Kept rule stands w caps root memory new spent'))
-  unfolding guessed
-  guessed_branch comparison rs1 rs2 offset spent spent' cycles old new e makes buffer more k =
-      let leaves : KeepsLeaves s.mem memory.frames root new.core.tlb = subst (λ (b : Buffer P). KeepsLeaves s.mem memory.frames root b) (sym buffer) k.leaves in
-      let keeps = touch_kept rule stands w memory old new (Branch pc taken) caps root spent spent' cycles s r makes more leaves k in
-      rw e (y_touch w s r (Branch pc taken) _ (record { value = refl; kept = keeps }))
+-- a guess in the code: whether the branch at this address is taken, and the hierarchy before and after
+pub record Guess (P : Type 0) : Type 0 where
+  pub pc : ℕ
+  pub taken : Bool
+  pub before : SystemContents P
+  pub later : SystemContents P
+  pub spent : ℕ
+  pub cycles : ℕ
 
-  pub guessed_no_branch : (K : Storage → Touched → Type 0) → K s r → ((c : Comparison) (rs1 rs2 offset : ℕ) → i ≢ instr.Branch c rs1 rs2 offset)
-      → Yields w (guessed i pc taken) s r (Answered d (Ok tt) K)
-  guessed_no_branch K keeps other = rw (guessed-other i pc taken other) (y_give w s r tt _ (record { value = refl; kept = keeps }))
+pub guessed_branch : {P : Type 0} (rule : P → ℕ → Rule) (stands : P → ℕ → ℕ → List ℕ → Type 0)
+    (p : Point) (caps : Slots) (memory : Contents) (g : Guess P)
+    {i : Instr} {comparison : Comparison} {rs1 rs2 offset : ℕ} → i ≡ instr.Branch comparison rs1 rs2
+    offset
+    → MakesTouch rule stands (Branch g.pc g.taken) g.cycles g.before g.later
+    → g.later.core.tlb ≡ g.before.core.tlb
+    → Kept rule stands p.setting caps p.root memory g.before g.spent p.storage p.reached
+    → YieldsAt p (guessed i g.pc g.taken)
+    (Answered p.dom (Ok tt) (Kept rule stands p.setting caps p.root memory g.later (g.spent + g.cycles)))
+unfolding guessed
+guessed_branch {P} rule stands p caps memory g e makes buffer k =
+    let leaves : KeepsLeaves p.storage.mem memory.frames p.root g.later.core.tlb =
+    subst (λ (b : Buffer P). KeepsLeaves p.storage.mem memory.frames p.root b) (sym buffer)
+    k.leaves in
+    let keeps =
+    touch_kept rule stands p.setting memory g.before g.later (Branch g.pc g.taken) caps p.root
+    g.spent
+    (g.spent + g.cycles) g.cycles p.storage p.reached makes refl leaves k in
+    rw e
+    (y_touch p.setting p.storage p.reached (Branch g.pc g.taken) _
+    (record { value = refl; kept = keeps }))
+
+pub guessed_no_branch : (p : Point) (K : Storage → Touched → Type 0) (i : Instr) (pc : ℕ)
+    (taken : Bool)
+    → K p.storage p.reached
+    → ((c : Comparison) (rs1 rs2 offset : ℕ) → i ≢ instr.Branch c rs1 rs2 offset)
+    → YieldsAt p (guessed i pc taken) (Answered p.dom (Ok tt) K)
+guessed_no_branch p K i pc taken keeps other =
+    rw (guessed-other i pc taken other)
+    (y_give p.setting p.storage p.reached tt _ (record { value = refl; kept = keeps }))
 
 -- ---- the effect
 
-module _ (w : Setting) (K : Storage → Touched → Type 0) (root : ℕ) (d : Dom) (i : Instr) (value : ℕ) (out : Outcome) (s : Storage) (r : Touched) (new : Domain) (keeps : K s r) where
-  pub settle_trapped : (trap : Trap) → out.effect.trap ≡ Some trap → Stands new (trapped trap d) → Yields w (settle w.machine root d i value out) s r (Left new K)
+module _ (p : Point) (K : Storage → Touched → Type 0) (i : Instr) (value : ℕ) (out : Outcome)
+    (new : Domain)
+    (keeps : K p.storage p.reached) where
+  abbrev Settles : (Storage → Touched → Type 0) → Type 0
+  Settles K' = YieldsAt p (settle p.setting.machine p.root p.dom i value out) (Left new K')
+
+  pub settle_trapped : (trap : Trap) → out.effect.trap ≡ Some trap → Stands new (trapped trap p.dom)
+      → Settles K
   unfolding settle either
   settle_trapped trap e stands = search (yields_rules, e, stands, keeps) depth 40
 
   module _ (K' K'' : Storage → Touched → Type 0) (e : out.effect.trap ≡ None)
-      (guess : (t : Storage) (q : Touched) → K t q → Yields w (guessed i d.threads.current.pc out.effect.taken) t q (Answered d (Ok tt) K')) where
-    settle_goes : (Q : Dom ⊎ Dom → Storage → Touched → Type 0)
-        → ((t : Storage) (q : Touched) → K' t q → Yields w (store w.machine root d out.effect.store >> give (retired_at out.effect.next out.regs (noted i value d))) t q Q)
-        → Yields w (settle w.machine root d i value out) s r Q
-    unfolding settle
-    settle_goes Q rest = search (yields_rules, y_found, e, guess, rest, keeps) depth 40
+      (guess :
+      YieldsFrom p K (guessed i p.dom.threads.current.pc out.effect.taken) (Answered p.dom (Ok tt) K'))
+    where
+      abbrev Stores : Result (Unit {0}) Trap → Type 0
+      Stores result =
+          YieldsFrom p K' (store p.setting.machine p.root p.dom out.effect.store)
+          (Answered p.dom result K'')
 
-    pub settle_faulted : (trap : Trap) → ((t : Storage) (q : Touched) → K' t q → Yields w (store w.machine root d out.effect.store) t q (Answered d (Err trap) K'')) → Stands new (trapped trap d)
-        → Yields w (settle w.machine root d i value out) s r (Left new K'')
-    unfolding either
-    settle_faulted trap fault stands = settle_goes (Left new K'') (λ t q k. search (yields_rules, y_faults, fault, stands, k) depth 40)
+      -- what comes after the guess
+      abbrev rest_of : Act Dom
+      rest_of =
+          store p.setting.machine p.root p.dom out.effect.store
+          >> give (retired_at out.effect.next out.regs (noted i value p.dom))
 
-    pub settle_finished : ((t : Storage) (q : Touched) → K' t q → Yields w (store w.machine root d out.effect.store) t q (Answered d (Ok tt) K''))
-        → Stands new (retired_at out.effect.next out.regs (noted i value d)) → Yields w (settle w.machine root d i value out) s r (Left new K'')
-    unfolding either
-    settle_finished stores stands = settle_goes (Left new K'') (λ t q k. search (yields_rules, y_found, stores, stands, k) depth 40)
+      settle_goes : (Q : Dom ⊎ Dom → Storage → Touched → Type 0) → YieldsFrom p K' rest_of Q
+          → YieldsAt p (settle p.setting.machine p.root p.dom i value out) Q
+      unfolding settle
+      settle_goes Q rest = search (yields_rules, y_found, e, guess, rest, keeps) depth 40
+
+      pub settle_faulted : (trap : Trap) → Stores (Err trap) → Stands new (trapped trap p.dom)
+          → Settles K''
+      unfolding either
+      settle_faulted trap fault stands =
+          settle_goes (Left new K'')
+          (λ t q k. search (yields_rules, y_faults, fault, stands, k) depth 40)
+
+      pub settle_finished : Stores (Ok tt)
+          → Stands new (retired_at out.effect.next out.regs (noted i value p.dom))
+          → Settles K''
+      unfolding either
+      settle_finished stores stands =
+          settle_goes (Left new K'')
+          (λ t q k. search (yields_rules, y_found, stores, stands, k) depth 40)
 
 -- ---- an instruction that is no kernel call
 
-module _ (w : Setting) (K : Storage → Touched → Type 0) (root t : ℕ) (d : Dom) (i : Instr) (s : Storage) (r : Touched) (new : Domain) (keeps : K s r) where
-  pub execute_misaligned : (trap : Trap) → misalignment_of i (address_of d.threads.current.regs i) ≡ Some trap → Stands new (trapped trap d) → Yields w (execute w.machine root t d i) s r (Left new K)
+-- what the domain's registers make of it
+abbrev effect_at : Point → Instr → ℕ → Outcome
+effect_at p i value = effect_of p.dom.threads.current.regs p.dom.threads.current.pc i value
+
+module _ (p : Point) (K : Storage → Touched → Type 0) (i : Instr) (new : Domain)
+    (keeps : K p.storage p.reached) where
+  abbrev Executes : (Storage → Touched → Type 0) → Type 0
+  Executes K' = YieldsAt p (execute p.setting.machine p.root p.clock p.dom i) (Left new K')
+
+  abbrev Loads : (Storage → Touched → Type 0) → Result ℕ Trap → Type 0
+  Loads K' result =
+      YieldsFrom p K (loaded p.setting.machine p.root p.clock p.dom i) (Answered {A = ℕ} p.dom result K')
+
+  -- what its address is misaligned by
+  abbrev Misaligned : Option Trap → Type 0
+  Misaligned trap = misalignment_of i (address_of p.dom.threads.current.regs i) ≡ trap
+
+  pub execute_misaligned : (trap : Trap) → Misaligned (Some trap) → Stands new (trapped trap p.dom)
+      → Executes K
   unfolding execute either
   execute_misaligned trap e stands = search (yields_rules, e, stands, keeps) depth 40
 
-  pub execute_faulted : (K' : Storage → Touched → Type 0) (trap : Trap) → misalignment_of i (address_of d.threads.current.regs i) ≡ None
-      → ((u : Storage) (q : Touched) → K u q → Yields w (loaded w.machine root t d i) u q (Answered {A = ℕ} d (Err trap) K')) → Stands new (trapped trap d)
-      → Yields w (execute w.machine root t d i) s r (Left new K')
+  pub execute_faulted : (K' : Storage → Touched → Type 0) (trap : Trap) → Misaligned None
+      → Loads K' (Err trap)
+      → Stands new (trapped trap p.dom) → Executes K'
   unfolding execute either
-  execute_faulted K' trap e found stands = search (yields_rules, y_faults, e, found, stands, keeps) depth 40
+  execute_faulted K' trap e found stands =
+      search (yields_rules, y_faults, e, found, stands, keeps) depth 40
 
-  pub execute_settled : (value : ℕ) (K' K'' : Storage → Touched → Type 0) → misalignment_of i (address_of d.threads.current.regs i) ≡ None
-      → ((u : Storage) (q : Touched) → K u q → Yields w (loaded w.machine root t d i) u q (Answered d (Ok value) K'))
-      → ((u : Storage) (q : Touched) → K' u q → Yields w (settle w.machine root d i value (effect_of d.threads.current.regs d.threads.current.pc i value)) u q (Left new K''))
-      → Yields w (execute w.machine root t d i) s r (Left new K'')
+  pub execute_settled : (value : ℕ) (K' K'' : Storage → Touched → Type 0) → Misaligned None
+      → Loads K' (Ok value)
+      → YieldsFrom p K' (settle p.setting.machine p.root p.dom i value (effect_at p i value)) (Left new K'')
+      → Executes K''
   unfolding execute
-  execute_settled value K' K'' e found rest = search (yields_rules, y_found, e, found, rest, keeps) depth 40
+  execute_settled value K' K'' e found rest =
+      search (yields_rules, y_found, e, found, rest, keeps) depth 40
 
 -- ---- the next instruction
 
-module _ (w : Setting) (e : Estate) (l : Layout) (t : ℕ) (d : Dom) (s : Storage) (r : Touched) (new : Domain) (root : ℕ) (top : root ≡ e.root) where
-  pub instruction_missed : (K : Storage → Touched → Type 0) (trap : Trap) → Yields w (translate w.machine root d access.Fetch d.threads.current.pc) s r (Answered {A = ℕ} d (Err trap) K)
-      → Stands new (trapped trap d) → Yields w (instruction w.machine e l t d) s r (Left new K)
+-- the page of the next instruction is looked up so, from this root
+abbrev LooksUp : Point → ℕ → Result ℕ Trap → (Storage → Touched → Type 0) → Type 0
+LooksUp p root result K =
+    YieldsAt p (translate p.setting.machine root p.dom access.Fetch p.dom.threads.current.pc)
+    (Answered {A = ℕ} p.dom result K)
+
+-- the fetch of a word in the code: where it was found, the line of that address, the hierarchy before and
+-- after, and the cycles spent before it and on it
+pub record Fetched (P : Type 0) : Type 0 where
+  pub caps : Slots
+  pub memory : Contents
+  pub before : SystemContents P
+  pub later : SystemContents P
+  pub at : ℕ
+  pub line : ℕ
+  pub word : ℕ
+  pub spent : ℕ
+  pub cycles : ℕ
+
+-- what is kept after it
+abbrev pub AfterFetch : {P : Type 0} → (P → ℕ → Rule) → (P → ℕ → ℕ → List ℕ → Type 0) → Point
+    → Fetched P
+    → Storage → Touched → Type 0
+AfterFetch rule stands p f =
+    Kept rule stands p.setting f.caps p.root f.memory f.later (f.spent + f.cycles)
+
+-- it is the domain's next instruction
+pub record IsFetched {P : Type 0} (rule : P → ℕ → Rule) (stands : P → ℕ → ℕ → List ℕ → Type 0)
+    (p : Point) (f : Fetched P) : Type 0 where
+  pub page : LooksUp p p.root (Ok (f.at / 4096)) (Kept rule stands p.setting f.caps p.root f.memory f.before f.spent)
+  pub placed_at : f.at % 4096 ≡ p.dom.threads.current.pc % 4096
+  pub line : f.line ≡ f.at / f.before.l2.line_size
+  pub makes : MakesTouch rule stands (Fetch f.line) f.cycles f.before f.later
+  pub buffer : f.later.core.tlb ≡ f.before.core.tlb
+  pub found : (m : Mem) → Holds f.memory m
+      → f.word ≡ word m (f.at / 4096) (place p.dom.threads.current.pc)
+
+module _ (p : Point) (new : Domain)
+    (top : p.root ≡ (estate p.setting.machine p.setting.own).root) where
+  abbrev Runs : (Storage → Touched → Type 0) → Type 0
+  Runs K =
+      let w = p.setting in
+      YieldsAt p
+      (instruction w.machine (estate w.machine w.own) (layout w.machine w.own) p.clock p.dom)
+      (Left new K)
+
+  pub instruction_missed : (K : Storage → Touched → Type 0) (trap : Trap)
+      → LooksUp p p.root (Err trap) K → Stands new (trapped trap p.dom) → Runs K
   unfolding instruction either
   instruction_missed K trap missed stands =
-      let fault : Yields w (translate w.machine e.root d access.Fetch d.threads.current.pc) s r (Answered {A = ℕ} d (Err trap) K) =
-      subst (λ (n : ℕ). Yields w (translate w.machine n d access.Fetch d.threads.current.pc) s r (Answered {A = ℕ} d (Err trap) K)) top missed in
+      let root : ℕ = (estate p.setting.machine p.setting.own).root in
+      let fault : LooksUp p root (Err trap) K = subst (λ (n : ℕ). LooksUp p n (Err trap) K) top missed in
       search (yields_rules, y_faults, fault, stands) depth 40
 
-  module _ {P : Type 0} (rule : P → ℕ → Rule) (stands : P → ℕ → ℕ → List ℕ → Type 0) (caps : Slots) (memory : Contents) (mid next : SystemContents P) (at line word' spent spent' cycles : ℕ)
-      (page : Yields w (translate w.machine root d access.Fetch d.threads.current.pc) s r (Answered d (Ok (at / 4096)) (Kept rule stands w caps root memory mid spent)))
-      (place' : at % 4096 ≡ d.threads.current.pc % 4096) (is : line ≡ at / mid.l2.line_size) (makes : MakesTouch rule stands (Fetch line) cycles mid next)
-      (buffer : next.core.tlb ≡ mid.core.tlb) (more : spent' ≡ spent + cycles)
-      (found : (m : Mem) → Holds memory m → word' ≡ word m (at / 4096) (place d.threads.current.pc)) where
-    instruction_read : (K : Storage → Touched → Type 0)
-        → ((u : Storage) (q : Touched) → Kept rule stands w caps root memory next spent' u q → Yields w (perform w.machine e l t d word' (decode_of word')) u q (Left new K))
-        → Yields w (instruction w.machine e l t d) s r (Left new K)
+  module _ {P : Type 0} (rule : P → ℕ → Rule) (stands : P → ℕ → ℕ → List ℕ → Type 0) (f : Fetched P)
+      (is : IsFetched rule stands p f) where
+    -- from after the fetch these steps end so
+    abbrev Goes : (Setting → Act Dom) → (Storage → Touched → Type 0) → Type 0
+    Goes x K = YieldsFrom p (AfterFetch rule stands p f) (x p.setting) (Left new K)
+
+    abbrev Performs : (Storage → Touched → Type 0) → ℕ → Option Instr → Type 0
+    Performs K x i = Goes (λ w. perform w.machine (estate w.machine w.own) (layout w.machine w.own) p.clock p.dom x i) K
+
+    instruction_read : (K : Storage → Touched → Type 0) → Performs K f.word (decode_of f.word)
+        → Runs K
     unfolding instruction
     instruction_read K rest =
-        let M = Kept rule stands w caps root memory mid spent in
-        let N = Kept rule stands w caps root memory next spent' in
-        let f = at / 4096 in
-        let pc = d.threads.current.pc in
-        let there : Yields w (translate w.machine e.root d access.Fetch pc) s r (Answered d (Ok f) M) =
-        subst (λ (n : ℕ). Yields w (translate w.machine n d access.Fetch pc) s r (Answered d (Ok f) M)) top page in
-        let fetches : (u : Storage) (q : Touched) → M u q → N u (charged w q (Fetch (line_in w.machine f pc))) =
-        λ u q k. line_kept rule stands w caps root memory (λ n. Fetch n) at pc line spent spent' cycles mid next u q place' is makes buffer more k in
-        let goes : (u : Storage) (q : Touched) → N u q → Yields w (perform w.machine e l t d (word u.mem f (place pc)) (decode_of (word u.mem f (place pc)))) u q (Left new K) =
-        λ u q k. subst (λ (x : ℕ). Yields w (perform w.machine e l t d x (decode_of x)) u q (Left new K)) (found u.mem k.holds) (rest u q k) in
+        let w = p.setting in
+        let e = estate w.machine w.own in
+        let l = layout w.machine w.own in
+        let M = Kept rule stands w f.caps p.root f.memory f.before f.spent in
+        let N = AfterFetch rule stands p f in
+        let frame = f.at / 4096 in
+        let pc = p.dom.threads.current.pc in
+        let there : LooksUp p e.root (Ok frame) M = subst (λ (n : ℕ). LooksUp p n (Ok frame) M) top is.page in
+        let line : Touch = Fetch (line_in w.machine frame pc) in
+        let fetches : (u : Storage) (q : Touched) → M u q → N u (charged w q line) =
+        λ u q k.
+        line_kept rule stands w f.caps p.root f.memory (λ n. Fetch n) f.at pc f.line f.spent
+        (f.spent + f.cycles) f.cycles
+        f.before f.later u q is.placed_at is.line is.makes is.buffer refl k in
+        let Does : Storage → Touched → ℕ → Type 0 = λ u q x.
+        Yields w (perform w.machine e l p.clock p.dom x (decode_of x)) u q (Left new K) in
+        let goes : (u : Storage) (q : Touched) → N u q → Does u q (word u.mem frame (place pc)) =
+        λ u q k. subst (Does u q) (is.found u.mem k.holds) (rest u q k) in
         search (yields_rules, y_found, there, fetches, goes) depth 40
 
-    pub instruction_undefined : (trap : Trap) → trap ≡ record { code = 2; value = word' } → decode_of word' ≡ None → Stands new (trapped trap d)
-        → Yields w (instruction w.machine e l t d) s r (Left new (Kept rule stands w caps root memory next spent'))
+    pub instruction_undefined : (trap : Trap) → trap ≡ record { code = 2; value = f.word }
+        → decode_of f.word ≡ None
+        → Stands new (trapped trap p.dom) → Runs (AfterFetch rule stands p f)
     unfolding perform trapped either
     instruction_undefined trap same none stands' =
-        instruction_read (Kept rule stands w caps root memory next spent') (λ u q k.
-        rw none (y_stop w u q (stopped 2 word' d) _ (record { dom = subst (λ (x : Trap). Stands new (stopped x.code x.value d)) same stands'; kept = k })))
+        let dom = subst (λ (x : Trap). Stands new (stopped x.code x.value p.dom)) same stands' in
+        instruction_read (AfterFetch rule stands p f)
+        (λ u q k.
+        rw none (y_stop p.setting u q (stopped 2 f.word p.dom) _ (record { dom = dom; kept = k })))
 
-    pub instruction_called : (K : Storage → Touched → Type 0) → decode_of word' ≡ Some instr.Ecall
-        → ((u : Storage) (q : Touched) → Kept rule stands w caps root memory next spent' u q → Yields w (make_call w.machine e l d) u q (Left new K))
-        → Yields w (instruction w.machine e l t d) s r (Left new K)
+    pub instruction_called : (K : Storage → Touched → Type 0) → decode_of f.word ≡ Some instr.Ecall
+        → Goes (λ w. make_call w.machine (estate w.machine w.own) (layout w.machine w.own) p.dom) K → Runs K
     unfolding perform
     instruction_called K some rest = instruction_read K (λ u q k. rw some (rest u q k))
 
-    pub instruction_executed : (i : Instr) (K : Storage → Touched → Type 0) → decode_of word' ≡ Some i → i ≢ instr.Ecall
-        → ((u : Storage) (q : Touched) → Kept rule stands w caps root memory next spent' u q → Yields w (execute w.machine root t d i) u q (Left new K))
-        → Yields w (instruction w.machine e l t d) s r (Left new K)
+    pub instruction_executed : (i : Instr) (K : Storage → Touched → Type 0)
+        → decode_of f.word ≡ Some i → i ≢ instr.Ecall
+        → Goes (λ w. execute w.machine p.root p.clock p.dom i) K → Runs K
     instruction_executed i K some other rest =
+        let w = p.setting in
+        let e = estate w.machine w.own in
+        let l = layout w.machine w.own in
         instruction_read K (λ u q k.
-        rw (some, perform-other w.machine e l t d word' i other) (subst (λ (n : ℕ). Yields w (execute w.machine n t d i) u q (Left new K)) top (rest u q k)))
+        rw (some, perform-other w.machine e l p.clock p.dom f.word i other)
+        (subst (λ (n : ℕ). Yields w (execute w.machine n p.clock p.dom i) u q (Left new K)) top (rest u q k)))
 
 -- the word of an address is that of the place where its own word begins
-pub found_word : (m : Mem) (x at pc : ℕ) → at % 4096 ≡ pc % 4096 → x ≡ word m (frame_of (at / 4 * 4)) (place_of (at / 4 * 4)) → x ≡ word m (at / 4096) (place pc)
+pub found_word : (m : Mem) (x at pc : ℕ) → at % 4096 ≡ pc % 4096
+    → x ≡ word m (frame_of (at / 4 * 4)) (place_of (at / 4 * 4)) → x ≡ word m (at / 4096) (place pc)
 found_word m x at pc e is =
     let frame : frame_of (at / 4 * 4) ≡ at / 4096 = omega arith in
     let there : place_of (at / 4 * 4) ≡ place pc = omega (arith, e) in

@@ -1,3 +1,4 @@
+mod Points
 mod Charges
 mod Yields
 mod Accesses

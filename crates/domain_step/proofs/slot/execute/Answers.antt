@@ -2,31 +2,52 @@ use Rattle.std.proofs.Common.{sym, ap, ◌∙◌}
 use Rattle.rv_core.specs.Memory.{misalignment_of}
 use Rattle.kernel_call.specs.Models.{dom_model}
 use Rattle.domain_step.specs.Kept.{Kept}
+use Rattle.domain_step.proofs.Points.{Point}
 use Rattle.domain_step.proofs.Instructions.{execute_misaligned, execute_faulted, execute_settled}
 use Rattle.domain_step.proofs.slot.execute.Goals as goal
 
 pub returns-in-Some-clause-leaves : goal.returns-in-Some-clause-leaves
 returns-in-Some-clause-leaves g c w s r readings replies k h q =
-    execute_misaligned w (Kept g.P.Policy.rule g.P.Policy.stands_for w c.args.domain.now.caps c.args.root c.args.memory.now c.args.system.now c.args.spent.now)
-    c.args.root c.args.now (dom_model c.args.domain.now readings replies) c.args.instr s r c.stop.new.domain k c.in-Some.trap
-    (ap (misalignment_of c.args.instr) (sym c.address-at.ensures.address) ∙ sym c.in-Some.ensures.trap) (c.stop.ensures.becomes readings replies h q)
+    let d = dom_model c.args.domain.now readings replies in
+    let p : Point =
+    record { setting = w; clock = c.args.now; root = c.args.root; dom = d; storage = s; reached = r } in
+    let K = Kept g.P.Policy.rule g.P.Policy.stands_for w c.args.domain.now.caps p.root in
+    let i = c.args.instr in
+    let misaligned =
+    ap (misalignment_of i) (sym c.address-at.ensures.address) ∙ sym c.in-Some.ensures.trap in
+    execute_misaligned p (K c.args.memory.now c.args.system.now c.args.spent.now) i
+    c.stop.new.domain k
+    c.in-Some.trap misaligned (c.stop.ensures.becomes readings replies h q)
 
 pub returns-in-Ok-clause-leaves : goal.returns-in-Ok-clause-leaves
 returns-in-Ok-clause-leaves g c w s r readings replies k h q =
     let caps = c.args.domain.now.caps in
-    let K = Kept g.P.Policy.rule g.P.Policy.stands_for w caps c.args.root in
-    execute_settled w (K c.args.memory.now c.args.system.now c.args.spent.now)
-    c.args.root c.args.now (dom_model c.args.domain.now readings replies) c.args.instr s r c.settle.new.domain k c.in-Ok.value
-    (K c.args.memory.now c.loaded.new.system c.loaded.new.spent) (K c.settle.new.memory c.settle.new.system c.settle.new.spent)
-    (ap (misalignment_of c.args.instr) (sym c.address-at.ensures.address) ∙ sym c.in_default.ensures.trap)
-    (λ u z n. c.in-Ok.ensures.finds w caps u z readings replies n) (λ u z n. c.settle.ensures.leaves w u z readings replies n h q)
+    let d = dom_model c.args.domain.now readings replies in
+    let p : Point =
+    record { setting = w; clock = c.args.now; root = c.args.root; dom = d; storage = s; reached = r } in
+    let K = Kept g.P.Policy.rule g.P.Policy.stands_for w caps p.root in
+    let i = c.args.instr in
+    let aligned =
+    ap (misalignment_of i) (sym c.address-at.ensures.address) ∙ sym c.in_default.ensures.trap in
+    execute_settled p (K c.args.memory.now c.args.system.now c.args.spent.now) i c.settle.new.domain
+    k
+    c.in-Ok.value (K c.args.memory.now c.loaded.new.system c.loaded.new.spent)
+    (K c.settle.new.memory c.settle.new.system c.settle.new.spent) aligned
+    (λ u z n. c.in-Ok.ensures.finds w caps u z readings replies n)
+    (λ u z n. c.settle.ensures.leaves w u z readings replies n h q)
 
 pub returns-in-Err-clause-leaves : goal.returns-in-Err-clause-leaves
 returns-in-Err-clause-leaves g c w s r readings replies k h q =
     let caps = c.args.domain.now.caps in
-    let K = Kept g.P.Policy.rule g.P.Policy.stands_for w caps c.args.root in
-    execute_faulted w (K c.args.memory.now c.args.system.now c.args.spent.now)
-    c.args.root c.args.now (dom_model c.args.domain.now readings replies) c.args.instr s r c.stop-in-Err.new.domain k
-    (K c.args.memory.now c.loaded.new.system c.loaded.new.spent) c.in-Err.trap
-    (ap (misalignment_of c.args.instr) (sym c.address-at.ensures.address) ∙ sym c.in_default.ensures.trap)
-    (λ u z n. c.in-Err.ensures.finds w caps u z readings replies n) (c.stop-in-Err.ensures.becomes readings replies h q)
+    let d = dom_model c.args.domain.now readings replies in
+    let p : Point =
+    record { setting = w; clock = c.args.now; root = c.args.root; dom = d; storage = s; reached = r } in
+    let K = Kept g.P.Policy.rule g.P.Policy.stands_for w caps p.root in
+    let i = c.args.instr in
+    let aligned =
+    ap (misalignment_of i) (sym c.address-at.ensures.address) ∙ sym c.in_default.ensures.trap in
+    execute_faulted p (K c.args.memory.now c.args.system.now c.args.spent.now) i
+    c.stop-in-Err.new.domain k
+    (K c.args.memory.now c.loaded.new.system c.loaded.new.spent) c.in-Err.trap aligned
+    (λ u z n. c.in-Err.ensures.finds w caps u z readings replies n)
+    (c.stop-in-Err.ensures.becomes readings replies h q)
