@@ -121,6 +121,9 @@ interrupts i lines moments d l =
 line_within : (o : RawDomain) → HasInterrupts o → (x : ℤ) → names o.lines x ≡ true → is_line x
 line_within o irqs x h = let s = stands o.lines x h in subst (λ (y : ℤ). is_line y) s.same (irqs.within s.place s.within (pos 0))
 
+pub named_line : (o : RawDomain) → HasInterrupts o → (n : ℕ) → names o.lines (pos n) ≡ true → n < 32
+named_line o irqs n h = let most = (inside 0 31 (pos n) (line_within o irqs (pos n) h)).most in omega (arith, most)
+
 pub small_lines : (o : RawDomain) → HasInterrupts o → All (λ x. natural_of x < 2 ^ 8) o.lines
 small_lines o irqs = λ k x l. let most = (inside 0 31 (get_or o.lines k x) (irqs.within k l x)).most in omega (arith, most)
 

@@ -14,7 +14,7 @@ use Rattle.domain_check.specs.declared.capabilities.InitialCap.{InitialCap}
 use Rattle.domain_check.specs.declared.capabilities.InitialCap.TheVariants.{None as NoCap, Page, Irq}
 use Rattle.domain_check.specs.Colours.{names}
 use Rattle.domain_check.specs.CapTexts.{cap_in}
-use Rattle.domain_check.specs.Capabilities.{lies_in, again_case, named_case, k13_case, k13_domain, k13, IsSmallCap}
+use Rattle.domain_check.specs.Capabilities.{lies_in, again_case, named_case, k13_case, k13_domain, k13, own_cap, cap_of, IsSmallCap}
 use Rattle.domain_check.specs.Segments.{segment_of}
 use Rattle.domain_check.specs.Pages.{has_page_in}
 
@@ -36,6 +36,9 @@ passed false first r n = cc
 page_had : (o : RawDomain) (d : ℕ) (earlier : List (List ℕ)) (s : List ℕ) (n : ℕ) → named_case o d earlier s (Some (Page n)) ≡ None → list_any (lies_in n) o.segments ≡ true
 page_had o d earlier s n e = (passed (list_any (lies_in n) o.segments) (again_case d earlier s) (refusal 13 (pos d) (pos (length earlier)) (pos 3)) e).0
 
+line_had : (o : RawDomain) (d : ℕ) (earlier : List (List ℕ)) (s : List ℕ) (n : ℕ) → named_case o d earlier s (Some (Irq n)) ≡ None → names o.lines (pos n) ≡ true
+line_had o d earlier s n e = (passed (names o.lines (pos n)) (again_case d earlier s) (refusal 13 (pos d) (pos (length earlier)) (pos 4)) e).0
+
 first_named : (o : RawDomain) (d : ℕ) (earlier : List (List ℕ)) (s : List ℕ) (c : InitialCap) → c ≢ NoCap → named_case o d earlier s (Some c) ≡ None → list_any (bytes_eq s) earlier ≡ false
 first_named o d earlier s NoCap some e = absurd (some refl)
 first_named o d earlier s (Page n) some e =
@@ -51,6 +54,7 @@ all_of_map P f xs all = λ k d l. subst P (get_or-map f xs k d (f d) l) (all k (
 pub record HasSlots (o : RawDomain) : Type 0 where
   pub few : length o.caps ≤ 64
   pub pages : (k n : ℕ) (t : List ℕ) → k < length o.caps → cap_in (get_or o.caps k t) ≡ Some (Page n) → list_any (lies_in n) o.segments ≡ true
+  pub lines : (k n : ℕ) (t : List ℕ) → k < length o.caps → cap_in (get_or o.caps k t) ≡ Some (Irq n) → names o.lines (pos n) ≡ true
   pub apart : (j k : ℕ) (c : InitialCap) → c ≢ NoCap → j < k → k < length o.caps → cap_in (get_or o.caps k []) ≡ Some c → get_or o.caps j [] ≢ get_or o.caps k []
 
 pub slots : (i : Raw) → k13 i ≡ None → (d : ℕ) → d < length i.domains → HasSlots (raw_domain i.domains d)
@@ -63,6 +67,7 @@ slots i none d l =
     record {
       few = ltb-false 64 (length o.caps) (if_first (nat_lt 64 (length o.caps)) many each here);
       pages = λ k n t m e. page_had o place (take k o.caps) (get_or o.caps k t) n (at rest k m t (Some (Page n)) e);
+      lines = λ k n t m e. line_had o place (take k o.caps) (get_or o.caps k t) n (at rest k m t (Some (Irq n)) e);
       apart = λ j k c some before m e same. differ j k before m same (first_named o place (take k o.caps) (get_or o.caps k []) c some (at rest k m [] (Some c) e));
     }
   where
@@ -106,11 +111,15 @@ small_page n (s ∷ ss) ranges h = either (small_page n ss (λ k. ranges (suc k)
         omega (arith, below, r.page, r.few)
     either later (inr b) = later b
 
-pub small_caps : (o : RawDomain) → HasSlots o → ((k : ℕ) → IsRawSegment (get_or o.segments k no_raw_segment)) → All (λ s. IsSmallCap (cap_in s)) o.caps
-small_caps o has ranges = λ k t l. by_cap k t l (cap_in (get_or o.caps k t)) refl
+pub small_caps : (o : RawDomain) → HasSlots o → ((k : ℕ) → IsRawSegment (get_or o.segments k no_raw_segment)) → ((n : ℕ) → names o.lines (pos n) ≡ true → n < 32)
+    → All IsSmallCap (map cap_of o.caps)
+unfolding cap_of
+small_caps o has ranges few = λ k t l.
+    let below : k < length o.caps = omega (arith, length-map o.caps cap_of, l) in
+    subst IsSmallCap (sym (get_or-map cap_of o.caps k [] t below)) (by_cap k below (cap_in (get_or o.caps k [])) refl)
   where
-    by_cap : (k : ℕ) (t : List ℕ) → k < length o.caps → (c : Option InitialCap) → cap_in (get_or o.caps k t) ≡ c → IsSmallCap c
-    by_cap k t l None e = tt
-    by_cap k t l (Some NoCap) e = tt
-    by_cap k t l (Some (Page n)) e = small_page n o.segments ranges (has.pages k n t l e)
-    by_cap k t l (Some (Irq n)) e = tt
+    by_cap : (k : ℕ) → k < length o.caps → (c : Option InitialCap) → cap_in (get_or o.caps k []) ≡ c → IsSmallCap (own_cap c)
+    by_cap k l None e = tt
+    by_cap k l (Some NoCap) e = tt
+    by_cap k l (Some (Page n)) e = small_page n o.segments ranges (has.pages k n [] l e)
+    by_cap k l (Some (Irq n)) e = let less = few n (has.lines k n [] l e) in omega (arith, less)

@@ -1,6 +1,6 @@
 -- K13, the rule of initial capabilities: the text of each slot names nothing, a page of the domain's segments, or one of its
 -- interrupt lines; and no page and no line is named twice.
-use Rattle.std.specs.Prelude.{ℕ, ◌<◌, ◌^◌, nat_lt, ⊤, pos, Bool, if◌then◌else◌, List, length, Option, Some, None}
+use Rattle.std.specs.Prelude.{ℕ, ◌<◌, ◌^◌, nat_lt, ⊤, pos, Bool, if◌then◌else◌, List, length, map, Option, Some, None}
 use Rattle.std.specs.List.{list_any}
 use Rattle.std.specs.Str.{bytes_eq}
 use Rattle.image_text.specs.declared.refusal.Refusal.{Refusal}
@@ -46,20 +46,20 @@ k13 i = first_in k13_domain i.domains
 
 -- ---- what the slots name
 
--- a slot names what its text names. That of a line of 32 or more, which no image that keeps the rules has, leaves the slot
--- empty
+-- a slot names what its text names
 abbrev pub own_cap : Option InitialCap → InitialCap
 own_cap None = NoCap
-own_cap (Some NoCap) = NoCap
-own_cap (Some (Page n)) = Page n
-own_cap (Some (Irq n)) = if nat_lt n 32 then Irq n else NoCap
+own_cap (Some c) = c
 
 unfoldable pub cap_of : List ℕ → InitialCap
 cap_of s = own_cap (cap_in s)
 
--- a page's number fits that of the code
-abbrev pub IsSmallCap : Option InitialCap → Type 0
-IsSmallCap None = ⊤
-IsSmallCap (Some NoCap) = ⊤
-IsSmallCap (Some (Page n)) = n < 2 ^ 32
-IsSmallCap (Some (Irq n)) = ⊤
+-- of a domain
+abbrev pub caps_of : RawDomain → List InitialCap
+caps_of o = map cap_of o.caps
+
+-- the number of a page or a line fits that of the code
+abbrev pub IsSmallCap : InitialCap → Type 0
+IsSmallCap NoCap = ⊤
+IsSmallCap (Page n) = n < 2 ^ 32
+IsSmallCap (Irq n) = n < 2 ^ 8

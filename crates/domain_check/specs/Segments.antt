@@ -1,5 +1,5 @@
 -- K12, the rule of segments: their pages, rights and bytes, and the entry; and what they are.
-use Rattle.std.specs.Prelude.{ℕ, ◌+◌, ◌*◌, ◌/◌, ◌%◌, ◌==◌, ◌&&◌, ◌||◌, not, nat_le, nat_lt, pos, Bool, if◌then◌else◌, List, [], length, codes, Option, Some, None}
+use Rattle.std.specs.Prelude.{ℕ, ◌+◌, ◌*◌, ◌/◌, ◌%◌, ◌==◌, ◌&&◌, ◌||◌, not, nat_le, nat_lt, pos, Bool, if◌then◌else◌, List, [], length, map, codes, Option, Some, None}
 use Rattle.std.specs.Result.{result_ok}
 use Rattle.std.specs.List.{list_any}
 use Rattle.std.specs.Str.{bytes_eq}
@@ -88,3 +88,7 @@ segment_of s = record {
   rights = rights_of s.rights;
   bytes = bytes_or_none (bytes_in s.hex);
 }
+
+-- of a domain
+abbrev pub segments_of : RawDomain → List Segment
+segments_of o = map segment_of o.segments

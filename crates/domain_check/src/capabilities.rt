@@ -1,12 +1,12 @@
 // K13, the rule of initial capabilities: what the text of each slot names.
-ghost use Rattle.std.specs.Prelude.{◌≡◌, ◌<◌, ◌≤◌, ◌^◌, true, map, length, string_bytes, option_map, IfSome};
+ghost use Rattle.std.specs.Prelude.{◌≡◌, ◌<◌, ◌≤◌, ◌^◌, true, map, length, string_bytes, option_map, IfSome, IfOk};
 ghost use Rattle.std.specs.Char.{is_ascii_digit};
 ghost use Rattle.std.specs.List.{All, list_any, list_all};
 ghost use Rattle.std.specs.Str.{bytes_eq};
 ghost use Rattle.std.specs.Str.Parse.{digits_value};
 ghost use Rattle.image_text.specs.Reads.{raw_model};
 ghost use Rattle.image_text.specs.Models.{domain_model, segment_model};
-ghost use Rattle.hardware_check.specs.Cases.{first_in};
+ghost use Rattle.hardware_check.specs.Outcomes.{IsVerdict, IsVerdictOrMemory};
 ghost use Rattle.domain_check.specs.CapTexts as texts;
 ghost use Rattle.domain_check.specs.Capabilities as spec;
 ghost use Rattle.domain_check.specs.Outcomes.{Makes};
@@ -136,109 +136,116 @@ fn lies_in_any(page: u64, segments: &[RawSegment]) -> bool
 }
 
 /// The case of a text that an earlier slot has, too.
-fn again_case(d: usize, earlier: &[String], text: &str) -> Option<Refusal>
+fn again_case(d: usize, earlier: &[String], text: &str) -> Result<(), Refusal>
     requires domain { d < 2 ^ 63 }
     requires place { length earlier.now < 2 ^ 63 }
-    ensures value { result ≡ spec.again_case d (map (λ s. string_bytes s) earlier.now) text.now }
+    ensures verdict { IsVerdict result
+        (spec.again_case d (map (λ s. string_bytes s) earlier.now) text.now) }
 {
     for other in earlier {
         if text == other.as_str() {
-            return Some(broken(d, earlier.len(), 5));
+            return Err(broken(d, earlier.len(), 5));
         }
     }
-    None
+    Ok(())
 }
 
-#[tactic(auto, unfolding(crate::specs::Capabilities::k13_case))]
-fn k13_case(domain: &RawDomain, d: usize, earlier: &[String], text: &str) -> Option<Refusal>
+#[tactic(auto, unfolding(crate::specs::Capabilities::k13_case, crate::specs::Capabilities::cap_of))]
+fn named_in(domain: &RawDomain, d: usize, earlier: &[String], text: &str) -> Result<Named, Refusal>
     requires domain { d < 2 ^ 63 }
     requires place { length earlier.now < 2 ^ 63 }
-    ensures value { result ≡ spec.k13_case (domain_model domain.now) d
-        (map (λ s. string_bytes s) earlier.now) text.now }
+    ensures verdict { IsVerdict result (spec.k13_case (domain_model domain.now) d
+        (map (λ s. string_bytes s) earlier.now) text.now) }
+    ensures value { IfOk result (λ n. named_model n ≡ spec.cap_of text.now) }
 {
-    match cap_in(text) {
-        None => Some(broken(d, earlier.len(), 2)),
-        Some(Named::Nothing) => None,
-        Some(Named::Page(page)) => {
-            if lies_in_any(page, domain.segments.as_slice()) {
-                again_case(d, earlier, text)
-            } else {
-                Some(broken(d, earlier.len(), 3))
+    let Some(named) = cap_in(text) else {
+        return Err(broken(d, earlier.len(), 2));
+    };
+    match named {
+        Named::Nothing => {}
+        Named::Page(page) => {
+            if !lies_in_any(page, domain.segments.as_slice()) {
+                return Err(broken(d, earlier.len(), 3));
             }
+            again_case(d, earlier, text)?;
         }
-        Some(Named::Irq(line)) => {
-            if names(domain.lines.as_slice(), line as i64) {
-                again_case(d, earlier, text)
-            } else {
-                Some(broken(d, earlier.len(), 4))
+        Named::Irq(line) => {
+            if !names(domain.lines.as_slice(), line as i64) {
+                return Err(broken(d, earlier.len(), 4));
             }
+            again_case(d, earlier, text)?;
         }
     }
+    Ok(named)
 }
 
 #[tactic(auto, unfolding(crate::specs::Capabilities::k13_domain))]
-fn k13_domain(earlier: &[RawDomain], domain: &RawDomain) -> Option<Refusal>
+fn k13_domain(
+    alloc: Global,
+    earlier: &[RawDomain],
+    domain: &RawDomain,
+) -> Result<Vec<Named>, ReadRefusal>
     requires domain { length earlier.now < 2 ^ 63 }
-    ensures value { result ≡ spec.k13_domain (map domain_model earlier.now) (domain_model domain.now) }
+    ensures verdict { IsVerdictOrMemory result
+        (spec.k13_domain (map domain_model earlier.now) (domain_model domain.now)) }
+    ensures value { IfOk result (λ v. map named_model v.items ≡ spec.caps_of (domain_model domain.now)) }
 {
     let caps = domain.caps.as_slice();
     let d = earlier.len();
     if caps.len() > MOST_SLOTS {
-        return Some(broken(d, caps.len(), 1));
+        return Err(ReadRefusal::Broken(broken(d, caps.len(), 1)));
     }
+    let mut found = Vec::new(alloc);
     for (slot, text) in caps.iter().enumerate() {
-        if let Some(refusal) = k13_case(domain, d, &caps[..slot], text.as_str()) {
-            return Some(refusal);
-        }
+        found.push(named_in(domain, d, &caps[..slot], text.as_str())?)?;
     }
-    None
+    Ok(found)
 }
 
 /// K13: at most 64 slots, each empty or of a page or a line that the domain has
-/// and no earlier slot names.
+/// and no earlier slot names; so what the slots of each domain name.
+///
+/// # Errors
+///
+/// `Broken` with the first broken case; `Memory` where memory runs out.
 #[tactic(auto, unfolding(crate::specs::Capabilities::k13))]
-pub fn k13(raw: &Raw) -> Option<Refusal>
-    ensures value { result ≡ spec.k13 (raw_model raw.now) }
+pub fn k13(alloc: Global, raw: &Raw) -> Result<Vec<Vec<Named>>, ReadRefusal>
+    ensures verdict { IsVerdictOrMemory result (spec.k13 (raw_model raw.now)) }
+    ensures value { IfOk result (λ v. map (λ c. map named_model c.items) v.items
+        ≡ map spec.caps_of (raw_model raw.now).domains) }
 {
+    let mut caps = Vec::new(alloc);
     let domains = raw.domains.as_slice();
     for (d, domain) in domains.iter().enumerate() {
-        if let Some(refusal) = k13_domain(&domains[..d], domain) {
-            return Some(refusal);
-        }
+        caps.push(k13_domain(alloc, &domains[..d], domain)?)?;
     }
-    None
+    Ok(caps)
 }
 
-#[tactic(auto, unfolding(crate::specs::Capabilities::cap_of))]
-fn cap_of(text: &str) -> InitialCap
-    requires small { spec.IsSmallCap (texts.cap_in text.now) }
-    ensures value { result ≡ spec.cap_of text.now }
+fn cap_from(named: Named) -> InitialCap
+    requires small { spec.IsSmallCap (named_model named) }
+    ensures value { result ≡ named_model named }
 {
-    match cap_in(text) {
-        Some(Named::Page(page)) => InitialCap::Page(page as u32),
-        Some(Named::Irq(line)) => {
-            if line < 32 {
-                InitialCap::Irq(line as u8)
-            } else {
-                InitialCap::None
-            }
-        }
-        _ => InitialCap::None,
+    match named {
+        Named::Nothing => InitialCap::None,
+        Named::Page(page) => InitialCap::Page(page as u32),
+        Named::Irq(line) => InitialCap::Irq(line as u8),
     }
 }
 
-/// What the texts of slots name.
+/// What the slots of a domain name, where the numbers are known to be those of
+/// pages and lines.
 ///
 /// # Errors
 ///
 /// `Memory` alone.
-pub fn caps_of(alloc: Global, slots: &[String]) -> Result<Vec<InitialCap>, ReadRefusal>
-    requires small { All (λ s. spec.IsSmallCap (texts.cap_in (string_bytes s))) slots.now }
-    ensures value { Makes (λ v. v.items) result (map spec.cap_of (map (λ s. string_bytes s) slots.now)) }
+pub fn caps_from(alloc: Global, slots: &[Named]) -> Result<Vec<InitialCap>, ReadRefusal>
+    requires small { All (λ n. spec.IsSmallCap (named_model n)) slots.now }
+    ensures value { Makes (λ v. v.items) result (map named_model slots.now) }
 {
     let mut caps = Vec::new(alloc);
-    for text in slots {
-        caps.push(cap_of(text.as_str()))?;
+    for named in slots {
+        caps.push(cap_from(*named))?;
     }
     Ok(caps)
 }

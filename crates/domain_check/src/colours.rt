@@ -8,6 +8,7 @@ ghost use Rattle.image_text.specs.Models.{domain_model};
 ghost use Rattle.hardware_check.specs.Cases.{first_in};
 ghost use Rattle.hardware_check.specs.Hardware.{natural_of as spec_natural_of};
 ghost use Rattle.hardware_check.specs.Laws.{KeepsParts};
+ghost use Rattle.hardware_check.specs.Outcomes.{IsVerdict, IsVerdictOrMemory};
 ghost use Rattle.hardware_check.specs.Rules.{k3 as spec_k3};
 ghost use Rattle.domain_check.specs.Colours as spec;
 ghost use Rattle.domain_check.specs.Outcomes.{Makes};
@@ -32,48 +33,48 @@ pub fn names(numbers: &[i64], number: i64) -> bool
 }
 
 #[tactic(auto, unfolding(crate::specs::Colours::k8_colour))]
-fn k8_colour(colours: u32, d: usize, earlier: &[i64], colour: i64) -> Option<Refusal>
+fn k8_colour(colours: u32, d: usize, earlier: &[i64], colour: i64) -> Result<(), Refusal>
     requires domain { d < 2 ^ 63 }
-    ensures value { result ≡ spec.k8_colour colours d earlier.now colour }
+    ensures verdict { IsVerdict result (spec.k8_colour colours d earlier.now colour) }
 {
     if outside(1, i64::from(colours.saturating_sub(1)), colour) {
-        return Some(refusal(8, d as i64, colour, i64::from(colours)));
+        return Err(refusal(8, d as i64, colour, i64::from(colours)));
     }
     if names(earlier, colour) {
-        return Some(refusal(8, d as i64, colour, i64::from(colours)));
+        return Err(refusal(8, d as i64, colour, i64::from(colours)));
     }
-    None
+    Ok(())
 }
 
-fn k8_colours(colours: u32, d: usize, own: &[i64]) -> Option<Refusal>
+fn k8_colours(colours: u32, d: usize, own: &[i64]) -> Result<(), Refusal>
     requires domain { d < 2 ^ 63 }
-    ensures value { result ≡ first_in (spec.k8_colour colours d) own.now }
+    ensures verdict { IsVerdict result (first_in (spec.k8_colour colours d) own.now) }
 {
     for (place, colour) in own.iter().enumerate() {
-        if let Some(refusal) = k8_colour(colours, d, &own[..place], *colour) {
-            return Some(refusal);
-        }
+        k8_colour(colours, d, &own[..place], *colour)?;
     }
-    None
+    Ok(())
 }
 
-fn k8_domains(colours: u32, domains: &[RawDomain]) -> Option<Refusal>
-    ensures value { result ≡ first_in (spec.k8_domain colours) (map domain_model domains.now) }
+fn k8_domains(colours: u32, domains: &[RawDomain]) -> Result<(), Refusal>
+    ensures verdict { IsVerdict result (first_in (spec.k8_domain colours) (map domain_model domains.now)) }
 {
     for (d, domain) in domains.iter().enumerate() {
-        if let Some(refusal) = k8_colours(colours, d, domain.colours.as_slice()) {
-            return Some(refusal);
-        }
+        k8_colours(colours, d, domain.colours.as_slice())?;
     }
-    None
+    Ok(())
 }
 
 /// K8: each colour is below their number, none is the kernel's, and a domain
 /// names none twice.
+///
+/// # Errors
+///
+/// The first broken case.
 #[tactic(auto, unfolding(crate::specs::Colours::k8))]
-pub fn k8(raw: &Raw) -> Option<Refusal>
+pub fn k8(raw: &Raw) -> Result<(), Refusal>
     requires parts { spec_k3 (raw_model raw.now) ≡ None }
-    ensures value { result ≡ spec.k8 (raw_model raw.now) }
+    ensures verdict { IsVerdict result (spec.k8 (raw_model raw.now)) }
 {
     k8_domains(colours_in(raw), raw.domains.as_slice())
 }
@@ -91,30 +92,33 @@ fn coloured_so(colour: i64, domains: &[RawDomain]) -> Option<usize>
     None
 }
 
-fn k9_colours(earlier: &[RawDomain], colours: &[i64]) -> Option<Refusal>
+fn k9_colours(earlier: &[RawDomain], colours: &[i64]) -> Result<(), Refusal>
     requires domain { length earlier.now < 2 ^ 63 }
-    ensures value { result ≡ first_in (spec.k9_colour (map domain_model earlier.now)) colours.now }
+    ensures verdict { IsVerdict result
+        (first_in (spec.k9_colour (map domain_model earlier.now)) colours.now) }
 {
     for colour in colours {
         if let Some(e) = coloured_so(*colour, earlier) {
-            return Some(refusal(9, earlier.len() as i64, *colour, e as i64));
+            return Err(refusal(9, earlier.len() as i64, *colour, e as i64));
         }
     }
-    None
+    Ok(())
 }
 
 /// K9: no colour is that of an earlier domain.
+///
+/// # Errors
+///
+/// The first broken case.
 #[tactic(auto, unfolding(crate::specs::Colours::k9))]
-pub fn k9(raw: &Raw) -> Option<Refusal>
-    ensures value { result ≡ spec.k9 (raw_model raw.now) }
+pub fn k9(raw: &Raw) -> Result<(), Refusal>
+    ensures verdict { IsVerdict result (spec.k9 (raw_model raw.now)) }
 {
     let domains = raw.domains.as_slice();
     for (d, domain) in domains.iter().enumerate() {
-        if let Some(refusal) = k9_colours(&domains[..d], domain.colours.as_slice()) {
-            return Some(refusal);
-        }
+        k9_colours(&domains[..d], domain.colours.as_slice())?;
     }
-    None
+    Ok(())
 }
 
 /// Numbers below 256, in bytes.
@@ -140,21 +144,21 @@ fn k10_case(
     colours: u32,
     d: usize,
     domain: &RawDomain,
-) -> Result<Option<Refusal>, ReadRefusal>
+) -> Result<(), ReadRefusal>
     requires some { 0 < colours }
     requires few { colours ≤ 64 }
     requires domain { d < 2 ^ 63 }
     requires small { spec.IsSmallDomain (domain_model domain.now) }
-    ensures value { Makes (λ o. o) result
+    ensures verdict { IsVerdictOrMemory result
         (spec.k10_case (whole_of frames colours) d (domain_model domain.now)) }
 {
     let own = bytes_of(alloc, domain.colours.as_slice())?;
     let pool = pool_length(frames, colours, &own);
     let need = need_of(domain.segments.as_slice());
     if u64::from(pool) < need {
-        return Ok(Some(refusal(10, d as i64, i64::from(pool), need as i64)));
+        return Err(ReadRefusal::Broken(refusal(10, d as i64, i64::from(pool), need as i64)));
     }
-    Ok(None)
+    Ok(())
 }
 
 fn k10_domains(
@@ -162,19 +166,17 @@ fn k10_domains(
     frames: u32,
     colours: u32,
     domains: &[RawDomain],
-) -> Result<Option<Refusal>, ReadRefusal>
+) -> Result<(), ReadRefusal>
     requires some { 0 < colours }
     requires few { colours ≤ 64 }
     requires small { All (λ o. spec.IsSmallDomain (domain_model o)) domains.now }
-    ensures value { Makes (λ o. o) result
+    ensures verdict { IsVerdictOrMemory result
         (first_in (spec.k10_domain (whole_of frames colours)) (map domain_model domains.now)) }
 {
     for (d, domain) in domains.iter().enumerate() {
-        if let Some(refusal) = k10_case(alloc, frames, colours, d, domain)? {
-            return Ok(Some(refusal));
-        }
+        k10_case(alloc, frames, colours, d, domain)?;
     }
-    Ok(None)
+    Ok(())
 }
 
 /// K10: a domain's colours have frames for its pages, its page tables and its
@@ -182,12 +184,12 @@ fn k10_domains(
 ///
 /// # Errors
 ///
-/// `Memory` alone.
+/// `Broken` with the first broken case; `Memory` where memory runs out.
 #[tactic(auto, unfolding(crate::specs::Colours::k10))]
-pub fn k10(alloc: Global, raw: &Raw) -> Result<Option<Refusal>, ReadRefusal>
+pub fn k10(alloc: Global, raw: &Raw) -> Result<(), ReadRefusal>
     requires parts { KeepsParts (raw_model raw.now) }
     requires colours { spec.k8 (raw_model raw.now) ≡ None }
-    ensures value { Makes (λ o. o) result (spec.k10 (raw_model raw.now)) }
+    ensures verdict { IsVerdictOrMemory result (spec.k10 (raw_model raw.now)) }
 {
     k10_domains(
         alloc,

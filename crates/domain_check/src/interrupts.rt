@@ -5,6 +5,7 @@ ghost use Rattle.image_text.specs.Reads.{raw_model};
 ghost use Rattle.image_text.specs.Models.{domain_model, moment_model};
 ghost use Rattle.hardware_check.specs.Cases.{first_in};
 ghost use Rattle.hardware_check.specs.Hardware.{natural_of as spec_natural_of};
+ghost use Rattle.hardware_check.specs.Outcomes.{IsVerdict};
 ghost use Rattle.domain_check.specs.Outcomes.{Makes};
 ghost use Rattle.domain_check.specs.Interrupts as spec;
 
@@ -50,45 +51,45 @@ fn named_before(domains: &[RawDomain], earlier: &[i64], line: i64) -> Option<usi
 }
 
 #[tactic(auto, unfolding(crate::specs::Interrupts::k14_line))]
-fn k14_line(domains: &[RawDomain], earlier: &[i64], line: i64) -> Option<Refusal>
+fn k14_line(domains: &[RawDomain], earlier: &[i64], line: i64) -> Result<(), Refusal>
     requires domain { length domains.now < 2 ^ 63 }
-    ensures value { result ≡ spec.k14_line (map domain_model domains.now) earlier.now line }
+    ensures verdict { IsVerdict result (spec.k14_line (map domain_model domains.now) earlier.now line) }
 {
     let d = domains.len() as i64;
     if outside(0, 31, line) {
-        return Some(refusal(14, d, line, 32));
+        return Err(refusal(14, d, line, 32));
     }
     match named_before(domains, earlier, line) {
-        Some(e) => Some(refusal(14, d, line, e as i64)),
-        None => None,
+        Some(e) => Err(refusal(14, d, line, e as i64)),
+        None => Ok(()),
     }
 }
 
-fn k14_lines(domains: &[RawDomain], lines: &[i64]) -> Option<Refusal>
+fn k14_lines(domains: &[RawDomain], lines: &[i64]) -> Result<(), Refusal>
     requires domain { length domains.now < 2 ^ 63 }
-    ensures value { result ≡ first_in (spec.k14_line (map domain_model domains.now)) lines.now }
+    ensures verdict { IsVerdict result (first_in (spec.k14_line (map domain_model domains.now)) lines.now) }
 {
     for (place, line) in lines.iter().enumerate() {
-        if let Some(refusal) = k14_line(domains, &lines[..place], *line) {
-            return Some(refusal);
-        }
+        k14_line(domains, &lines[..place], *line)?;
     }
-    None
+    Ok(())
 }
 
 /// K14: each line is one of 32, and no line is named twice, by one domain or by
 /// two.
+///
+/// # Errors
+///
+/// The first broken case.
 #[tactic(auto, unfolding(crate::specs::Interrupts::k14))]
-pub fn k14(raw: &Raw) -> Option<Refusal>
-    ensures value { result ≡ spec.k14 (raw_model raw.now) }
+pub fn k14(raw: &Raw) -> Result<(), Refusal>
+    ensures verdict { IsVerdict result (spec.k14 (raw_model raw.now)) }
 {
     let domains = raw.domains.as_slice();
     for (d, domain) in domains.iter().enumerate() {
-        if let Some(refusal) = k14_lines(&domains[..d], domain.lines.as_slice()) {
-            return Some(refusal);
-        }
+        k14_lines(&domains[..d], domain.lines.as_slice())?;
     }
-    None
+    Ok(())
 }
 
 /// Whether a moment is later than another, or at its cycle of a greater line.
@@ -99,69 +100,75 @@ fn is_above(moment: &RawMoment, other: &RawMoment) -> bool
 }
 
 /// The case of a moment that is not above the one before.
-fn order_case(d: usize, earlier: &[RawMoment], moment: &RawMoment) -> Option<Refusal>
+fn order_case(d: usize, earlier: &[RawMoment], moment: &RawMoment) -> Result<(), Refusal>
     requires domain { d < 2 ^ 63 }
     requires place { length earlier.now < 2 ^ 63 }
-    ensures value { let before = map moment_model earlier.now in
-        result ≡ spec.order_case d (length before) (moment_model moment.now)
-        (slice_get before (length before - 1)) }
+    ensures verdict { let before = map moment_model earlier.now in
+        IsVerdict result (spec.order_case d (length before) (moment_model moment.now)
+        (slice_get before (length before - 1))) }
 {
     if let Some(before) = earlier.last() {
         if !is_above(moment, before) {
-            return Some(refusal(15, d as i64, earlier.len() as i64, 4));
+            return Err(refusal(15, d as i64, earlier.len() as i64, 4));
         }
     }
-    None
+    Ok(())
 }
 
 #[tactic(auto, unfolding(crate::specs::Interrupts::k15_moment))]
-fn k15_moment(lines: &[i64], d: usize, earlier: &[RawMoment], moment: &RawMoment) -> Option<Refusal>
+fn k15_moment(
+    lines: &[i64],
+    d: usize,
+    earlier: &[RawMoment],
+    moment: &RawMoment,
+) -> Result<(), Refusal>
     requires domain { d < 2 ^ 63 }
     requires place { length earlier.now < 2 ^ 63 }
-    ensures value { result ≡ spec.k15_moment lines.now d (map moment_model earlier.now)
-        (moment_model moment.now) }
+    ensures verdict { IsVerdict result (spec.k15_moment lines.now d (map moment_model earlier.now)
+        (moment_model moment.now)) }
 {
     let place = earlier.len() as i64;
     if outside(0, LAST_CYCLE, moment.at) {
-        return Some(refusal(15, d as i64, place, 2));
+        return Err(refusal(15, d as i64, place, 2));
     }
     if !names(lines, moment.line) {
-        return Some(refusal(15, d as i64, place, 3));
+        return Err(refusal(15, d as i64, place, 3));
     }
     order_case(d, earlier, moment)
 }
 
 #[tactic(auto, unfolding(crate::specs::Interrupts::k15_domain))]
-fn k15_domain(earlier: &[RawDomain], domain: &RawDomain) -> Option<Refusal>
+fn k15_domain(earlier: &[RawDomain], domain: &RawDomain) -> Result<(), Refusal>
     requires domain { length earlier.now < 2 ^ 63 }
-    ensures value { result ≡ spec.k15_domain (map domain_model earlier.now) (domain_model domain.now) }
+    ensures verdict { IsVerdict result
+        (spec.k15_domain (map domain_model earlier.now) (domain_model domain.now)) }
 {
     let moments = domain.moments.as_slice();
     let d = earlier.len();
     if moments.len() > MOST_MOMENTS {
-        return Some(refusal(15, d as i64, moments.len() as i64, 1));
+        return Err(refusal(15, d as i64, moments.len() as i64, 1));
     }
     for (place, moment) in moments.iter().enumerate() {
-        if let Some(refusal) = k15_moment(domain.lines.as_slice(), d, &moments[..place], moment) {
-            return Some(refusal);
-        }
+        k15_moment(domain.lines.as_slice(), d, &moments[..place], moment)?;
     }
-    None
+    Ok(())
 }
 
 /// K15: at most 1,024 moments, each from cycle 0 to 1,000,000,000,000, of a line
 /// of its domain, and above the one before.
+///
+/// # Errors
+///
+/// The first broken case.
 #[tactic(auto, unfolding(crate::specs::Interrupts::k15))]
-pub fn k15(raw: &Raw) -> Option<Refusal>
-    ensures value { result ≡ spec.k15 (raw_model raw.now) }
+pub fn k15(raw: &Raw) -> Result<(), Refusal>
+    ensures verdict { IsVerdict result (spec.k15 (raw_model raw.now)) }
 {
     let domains = raw.domains.as_slice();
     for (d, domain) in domains.iter().enumerate() {
-        if let Some(refusal) = k15_domain(&domains[..d], domain) {
-            return Some(refusal);
-        }
+        k15_domain(&domains[..d], domain)?;
     }
-    None
+    Ok(())
 }
 
 #[tactic(auto, unfolding(crate::specs::Interrupts::moment_of))]

@@ -4,6 +4,7 @@ ghost use Rattle.std.specs.List.{list_all};
 ghost use Rattle.image_text.specs.Reads.{raw_model};
 ghost use Rattle.image_text.specs.Models.{domain_model};
 ghost use Rattle.hardware_check.specs.Cases as cases;
+ghost use Rattle.hardware_check.specs.Outcomes.{IsVerdict};
 ghost use Rattle.domain_check.specs.Names as spec;
 
 use hardware_check::cases::{count_case, refusal};
@@ -39,41 +40,41 @@ fn named_so(name: &str, domains: &[RawDomain]) -> Option<usize>
 }
 
 #[tactic(auto, unfolding(crate::specs::Names::k7_domain))]
-fn k7_domain(earlier: &[RawDomain], domain: &RawDomain) -> Option<Refusal>
+fn k7_domain(earlier: &[RawDomain], domain: &RawDomain) -> Result<(), Refusal>
     requires few { length earlier.now ≤ 16 }
-    ensures value { result ≡ spec.k7_domain (map domain_model earlier.now) (domain_model domain.now) }
+    ensures verdict { IsVerdict result (spec.k7_domain (map domain_model earlier.now) (domain_model domain.now)) }
 {
     let d = earlier.len() as i64;
     let name = domain.name.as_str();
     if !is_name(name) {
-        return Some(refusal(7, d, name.len() as i64, 16));
+        return Err(refusal(7, d, name.len() as i64, 16));
     }
     match named_so(name, earlier) {
-        Some(e) => Some(refusal(7, d, e as i64, 0)),
-        None => None,
+        Some(e) => Err(refusal(7, d, e as i64, 0)),
+        None => Ok(()),
     }
 }
 
-fn k7_domains(domains: &[RawDomain]) -> Option<Refusal>
+fn k7_domains(domains: &[RawDomain]) -> Result<(), Refusal>
     requires few { length domains.now ≤ 16 }
-    ensures value { result ≡ cases.first_in spec.k7_domain (map domain_model domains.now) }
+    ensures verdict { IsVerdict result (cases.first_in spec.k7_domain (map domain_model domains.now)) }
 {
     for (d, domain) in domains.iter().enumerate() {
-        if let Some(refusal) = k7_domain(&domains[..d], domain) {
-            return Some(refusal);
-        }
+        k7_domain(&domains[..d], domain)?;
     }
-    None
+    Ok(())
 }
 
 /// K7: 1 to 16 domains, each of a name of its own.
+///
+/// # Errors
+///
+/// The first broken case.
 #[tactic(auto, unfolding(crate::specs::Names::k7))]
-pub fn k7(raw: &Raw) -> Option<Refusal>
-    ensures value { result ≡ spec.k7 (raw_model raw.now) }
+pub fn k7(raw: &Raw) -> Result<(), Refusal>
+    ensures verdict { IsVerdict result (spec.k7 (raw_model raw.now)) }
 {
     let domains = raw.domains.as_slice();
-    if let Some(refusal) = count_case(7, 16, 16, 16, domains.len()) {
-        return Some(refusal);
-    }
+    count_case(7, 16, 16, 16, domains.len())?;
     k7_domains(domains)
 }

@@ -1,10 +1,11 @@
 // K12, the rule of segments: their pages, rights and bytes, and the entry.
-ghost use Rattle.std.specs.Prelude.{◌≡◌, ◌<◌, ◌^◌, map, length, Some, option_map};
+ghost use Rattle.std.specs.Prelude.{◌≡◌, ◌<◌, ◌^◌, map, length, Some, option_map, IfOk};
 ghost use Rattle.std.specs.List.{list_any};
 ghost use Rattle.image_text.specs.Reads.{raw_model};
 ghost use Rattle.image_text.specs.Models.{domain_model, segment_model};
 ghost use Rattle.domain_check.specs.Outcomes.{Makes};
 ghost use Rattle.hardware_check.specs.Cases.{first_in};
+ghost use Rattle.hardware_check.specs.Outcomes.{IsVerdict, IsVerdictOrMemory};
 ghost use Rattle.domain_check.specs.Models.{segment_model as part_model};
 ghost use Rattle.domain_check.specs.Segments as spec;
 
@@ -101,65 +102,79 @@ fn bytes_in(alloc: Global, hex: &str) -> Result<Option<Vec<u8>>, ReadRefusal>
     }
 }
 
+fn rights_of(text: &str) -> Rights
+    ensures value { result ≡ spec.rights_of text.now }
+{
+    Rights {
+        read: text == "r" || (text == "rw" || (text == "rx" || text == "rwx")),
+        write: text == "rw" || text == "rwx",
+        execute: has_execute(text),
+    }
+}
+
 /// The cases of the bytes: more than the pages hold; then pages of another segment.
 fn bytes_case(
     d: usize,
     earlier: &[RawSegment],
     segment: &RawSegment,
     bytes: &[u8],
-) -> Option<Refusal>
+) -> Result<(), Refusal>
     requires domain { d < 2 ^ 63 }
     requires place { length earlier.now < 2 ^ 63 }
-    ensures value { result ≡ spec.bytes_case d (map segment_model earlier.now)
-        (segment_model segment.now) (Some bytes.now) }
+    ensures verdict { IsVerdict result (spec.bytes_case d (map segment_model earlier.now)
+        (segment_model segment.now) (Some bytes.now)) }
 {
     if segment.pages as usize * 4096 < bytes.len() {
-        return Some(broken(d, earlier.len(), 4));
+        return Err(broken(d, earlier.len(), 4));
     }
     if shares_any(segment, earlier) {
-        return Some(broken(d, earlier.len(), 5));
+        return Err(broken(d, earlier.len(), 5));
     }
-    None
+    Ok(())
 }
 
-#[tactic(auto, unfolding(crate::specs::Segments::segment_case))]
-fn segment_case(
+#[tactic(auto, unfolding(crate::specs::Segments::segment_case, crate::specs::Segments::segment_of))]
+fn segment_in(
     alloc: Global,
     d: usize,
     earlier: &[RawSegment],
     segment: &RawSegment,
-) -> Result<Option<Refusal>, ReadRefusal>
+) -> Result<Segment, ReadRefusal>
     requires domain { d < 2 ^ 63 }
     requires place { length earlier.now < 2 ^ 63 }
-    ensures value { Makes (λ o. o) result
+    ensures verdict { IsVerdictOrMemory result
         (spec.segment_case d (map segment_model earlier.now) (segment_model segment.now)) }
+    ensures value { IfOk result (λ s. part_model s ≡ spec.segment_of (segment_model segment.now)) }
 {
     if u64::from(ALL_PAGES) < u64::from(segment.page) + u64::from(segment.pages) {
-        return Ok(Some(broken(d, earlier.len(), 1)));
+        return Err(ReadRefusal::Broken(broken(d, earlier.len(), 1)));
     }
     if !is_rights(segment.rights.as_str()) {
-        return Ok(Some(broken(d, earlier.len(), 2)));
+        return Err(ReadRefusal::Broken(broken(d, earlier.len(), 2)));
     }
-    match bytes_in(alloc, segment.hex.as_str())? {
-        None => Ok(Some(broken(d, earlier.len(), 3))),
-        Some(bytes) => Ok(bytes_case(d, earlier, segment, &bytes)),
-    }
+    let Some(bytes) = bytes_in(alloc, segment.hex.as_str())? else {
+        return Err(ReadRefusal::Broken(broken(d, earlier.len(), 3)));
+    };
+    bytes_case(d, earlier, segment, &bytes)?;
+    Ok(Segment {
+        page: segment.page,
+        pages: segment.pages,
+        rights: rights_of(segment.rights.as_str()),
+        bytes,
+    })
 }
 
-fn segments_case(
-    alloc: Global,
-    d: usize,
-    segments: &[RawSegment],
-) -> Result<Option<Refusal>, ReadRefusal>
+fn segments_in(alloc: Global, d: usize, texts: &[RawSegment]) -> Result<Vec<Segment>, ReadRefusal>
     requires domain { d < 2 ^ 63 }
-    ensures value { Makes (λ o. o) result (first_in (spec.segment_case d) (map segment_model segments.now)) }
+    ensures verdict { IsVerdictOrMemory result (first_in (spec.segment_case d) (map segment_model texts.now)) }
+    ensures value { IfOk result (λ v. map part_model v.items
+        ≡ map spec.segment_of (map segment_model texts.now)) }
 {
-    for (place, segment) in segments.iter().enumerate() {
-        if let Some(refusal) = segment_case(alloc, d, &segments[..place], segment)? {
-            return Ok(Some(refusal));
-        }
+    let mut segments = Vec::new(alloc);
+    for (place, text) in texts.iter().enumerate() {
+        segments.push(segment_in(alloc, d, &texts[..place], text)?)?;
     }
-    Ok(None)
+    Ok(segments)
 }
 
 fn executes(page: u64, segment: &RawSegment) -> bool
@@ -180,16 +195,16 @@ fn any_executes(page: u64, segments: &[RawSegment]) -> bool
 }
 
 #[tactic(auto, unfolding(crate::specs::Segments::entry_case))]
-fn entry_case(d: usize, domain: &RawDomain) -> Option<Refusal>
+fn entry_case(d: usize, domain: &RawDomain) -> Result<(), Refusal>
     requires domain { d < 2 ^ 63 }
-    ensures value { result ≡ spec.entry_case d (domain_model domain.now) }
+    ensures verdict { IsVerdict result (spec.entry_case d (domain_model domain.now)) }
 {
     if domain.entry % 4 == 0
         && any_executes(u64::from(domain.entry / 4096), domain.segments.as_slice())
     {
-        None
+        Ok(())
     } else {
-        Some(broken(d, domain.entry as usize, 6))
+        Err(broken(d, domain.entry as usize, 6))
     }
 }
 
@@ -198,70 +213,33 @@ fn k12_domain(
     alloc: Global,
     earlier: &[RawDomain],
     domain: &RawDomain,
-) -> Result<Option<Refusal>, ReadRefusal>
+) -> Result<Vec<Segment>, ReadRefusal>
     requires domain { length earlier.now < 2 ^ 63 }
-    ensures value { Makes (λ o. o) result
+    ensures verdict { IsVerdictOrMemory result
         (spec.k12_domain (map domain_model earlier.now) (domain_model domain.now)) }
+    ensures value { IfOk result (λ v. map part_model v.items ≡ spec.segments_of (domain_model domain.now)) }
 {
-    if let Some(refusal) = segments_case(alloc, earlier.len(), domain.segments.as_slice())? {
-        return Ok(Some(refusal));
-    }
-    Ok(entry_case(earlier.len(), domain))
+    let segments = segments_in(alloc, earlier.len(), domain.segments.as_slice())?;
+    entry_case(earlier.len(), domain)?;
+    Ok(segments)
 }
 
-/// K12: the pages, rights and bytes of segments, and the entry.
+/// K12: the pages, rights and bytes of segments, and the entry; so the segments
+/// of each domain.
 ///
 /// # Errors
 ///
-/// `Memory` alone.
+/// `Broken` with the first broken case; `Memory` where memory runs out.
 #[tactic(auto, unfolding(crate::specs::Segments::k12))]
-pub fn k12(alloc: Global, raw: &Raw) -> Result<Option<Refusal>, ReadRefusal>
-    ensures value { Makes (λ o. o) result (spec.k12 (raw_model raw.now)) }
-{
-    let domains = raw.domains.as_slice();
-    for (d, domain) in domains.iter().enumerate() {
-        if let Some(refusal) = k12_domain(alloc, &domains[..d], domain)? {
-            return Ok(Some(refusal));
-        }
-    }
-    Ok(None)
-}
-
-fn rights_of(text: &str) -> Rights
-    ensures value { result ≡ spec.rights_of text.now }
-{
-    Rights {
-        read: text == "r" || (text == "rw" || (text == "rx" || text == "rwx")),
-        write: text == "rw" || text == "rwx",
-        execute: has_execute(text),
-    }
-}
-
-#[tactic(auto, unfolding(crate::specs::Segments::segment_of))]
-fn segment_of(alloc: Global, segment: &RawSegment) -> Result<Segment, ReadRefusal>
-    ensures value { Makes part_model result (spec.segment_of (segment_model segment.now)) }
-{
-    let bytes = bytes_in(alloc, segment.hex.as_str())?;
-    Ok(Segment {
-        page: segment.page,
-        pages: segment.pages,
-        rights: rights_of(segment.rights.as_str()),
-        bytes: bytes.unwrap_or(Vec::new(alloc)),
-    })
-}
-
-/// The segments that the record says.
-///
-/// # Errors
-///
-/// `Memory` alone.
-pub fn segments_of(alloc: Global, texts: &[RawSegment]) -> Result<Vec<Segment>, ReadRefusal>
-    ensures value { Makes (λ v. map part_model v.items) result
-        (map spec.segment_of (map segment_model texts.now)) }
+pub fn k12(alloc: Global, raw: &Raw) -> Result<Vec<Vec<Segment>>, ReadRefusal>
+    ensures verdict { IsVerdictOrMemory result (spec.k12 (raw_model raw.now)) }
+    ensures value { IfOk result (λ v. map (λ s. map part_model s.items) v.items
+        ≡ map spec.segments_of (raw_model raw.now).domains) }
 {
     let mut segments = Vec::new(alloc);
-    for text in texts {
-        segments.push(segment_of(alloc, text)?)?;
+    let domains = raw.domains.as_slice();
+    for (d, domain) in domains.iter().enumerate() {
+        segments.push(k12_domain(alloc, &domains[..d], domain)?)?;
     }
     Ok(segments)
 }

@@ -3,3 +3,4 @@ pub mod Hardware
 pub mod Rules
 pub mod Models
 pub mod Laws
+pub mod Outcomes

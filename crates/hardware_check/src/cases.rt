@@ -1,6 +1,7 @@
 //! The refusals that name a broken case.
-ghost use Rattle.std.specs.Prelude.{◌≡◌, ◌≤◌, ◌<◌, ◌^◌, IfNone};
+ghost use Rattle.std.specs.Prelude.{◌≡◌, ◌≤◌, ◌<◌, ◌^◌, OnOk};
 ghost use Rattle.hardware_check.specs.Cases as spec;
+ghost use Rattle.hardware_check.specs.Outcomes.{IsVerdict};
 
 use image_text::Refusal;
 
@@ -25,26 +26,34 @@ pub fn outside(low: i64, high: i64, number: i64) -> bool
 
 /// The refusal of a number outside its range, which names the end that it
 /// passes.
-pub fn range_case(rule: u8, at: i64, low: u32, high: u32, number: i64) -> Option<Refusal>
-    ensures value { result ≡ spec.range_case rule at low high number }
+///
+/// # Errors
+///
+/// That refusal.
+pub fn range_case(rule: u8, at: i64, low: u32, high: u32, number: i64) -> Result<(), Refusal>
+    ensures verdict { IsVerdict result (spec.range_case rule at low high number) }
 {
     if number < i64::from(low) {
-        return Some(refusal(rule, at, number, i64::from(low)));
+        return Err(refusal(rule, at, number, i64::from(low)));
     }
     if i64::from(high) < number {
-        return Some(refusal(rule, at, number, i64::from(high)));
+        return Err(refusal(rule, at, number, i64::from(high)));
     }
-    None
+    Ok(())
 }
 
 /// How many there are, where they are not 1 to `most`.
-pub fn count_case(rule: u8, at: u32, wanted: u32, most: usize, many: usize) -> Option<Refusal>
+///
+/// # Errors
+///
+/// That refusal.
+pub fn count_case(rule: u8, at: u32, wanted: u32, most: usize, many: usize) -> Result<(), Refusal>
     requires small { many < 2 ^ 63 }
-    ensures value { result ≡ spec.count_case rule at wanted most many }
-    ensures few { IfNone result (many ≤ most) }
+    ensures verdict { IsVerdict result (spec.count_case rule at wanted most many) }
+    ensures few { OnOk result (many ≤ most) }
 {
     if many == 0 || most < many {
-        return Some(refusal(rule, i64::from(at), many as i64, i64::from(wanted)));
+        return Err(refusal(rule, i64::from(at), many as i64, i64::from(wanted)));
     }
-    None
+    Ok(())
 }

@@ -1,5 +1,5 @@
 // The rules of the machine, each with its first broken case.
-ghost use Rattle.std.specs.Prelude.{◌≡◌, ◌<◌, None};
+ghost use Rattle.std.specs.Prelude.{◌≡◌, ◌<◌, None, IfOk};
 ghost use Rattle.std.specs.Int.{is_power_of_two as spec_is_power_of_two};
 ghost use Rattle.image_text.specs.Reads.{raw_model};
 ghost use Rattle.image_text.specs.Models.{cache_model};
@@ -7,6 +7,7 @@ ghost use Rattle.hardware_check.specs.Cases.{first_in};
 ghost use Rattle.hardware_check.specs.Hardware.{hardware_of as spec_hardware_of, natural_of as spec_natural_of, colours_of};
 ghost use Rattle.hardware_check.specs.Laws.{KeepsParts};
 ghost use Rattle.hardware_check.specs.Models.{hardware_model};
+ghost use Rattle.hardware_check.specs.Outcomes.{IsVerdict};
 ghost use Rattle.hardware_check.specs.Rules as spec;
 
 use crate::cases::{outside, range_case, refusal};
@@ -26,13 +27,13 @@ fn is_size(low: u32, high: u32, number: i64) -> bool
     !outside(i64::from(low), i64::from(high), number) && is_power_of_two(number)
 }
 
-fn size_case(part: u8, low: u32, high: u32, number: i64) -> Option<Refusal>
-    ensures value { result ≡ spec.size_case part low high number }
+fn size_case(part: u8, low: u32, high: u32, number: i64) -> Result<(), Refusal>
+    ensures verdict { IsVerdict result (spec.size_case part low high number) }
 {
     if is_size(low, high, number) {
-        None
+        Ok(())
     } else {
-        Some(refusal(3, i64::from(part), number, 1))
+        Err(refusal(3, i64::from(part), number, 1))
     }
 }
 
@@ -49,59 +50,47 @@ fn is_uneven_tree(cache: &RawCache) -> bool
 }
 
 #[tactic(auto, unfolding(crate::specs::Rules::ways_case))]
-fn ways_case(part: u8, cache: &RawCache) -> Option<Refusal>
-    ensures value { result ≡ spec.ways_case part (cache_model cache.now) }
+fn ways_case(part: u8, cache: &RawCache) -> Result<(), Refusal>
+    ensures verdict { IsVerdict result (spec.ways_case part (cache_model cache.now)) }
 {
     if outside(1, 16, cache.ways) {
-        return Some(refusal(3, i64::from(part), cache.ways, 2));
+        return Err(refusal(3, i64::from(part), cache.ways, 2));
     }
     if !is_policy(cache.policy.as_str()) {
-        return Some(refusal(3, i64::from(part), cache.ways, 3));
+        return Err(refusal(3, i64::from(part), cache.ways, 3));
     }
     if is_uneven_tree(cache) {
-        return Some(refusal(3, i64::from(part), cache.ways, 4));
+        return Err(refusal(3, i64::from(part), cache.ways, 4));
     }
-    None
+    Ok(())
 }
 
 #[tactic(auto, unfolding(crate::specs::Rules::cache_case))]
-fn cache_case(part: u8, most_sets: u32, cache: &RawCache) -> Option<Refusal>
-    ensures value { result ≡ spec.cache_case part most_sets (cache_model cache.now) }
+fn cache_case(part: u8, most_sets: u32, cache: &RawCache) -> Result<(), Refusal>
+    ensures verdict { IsVerdict result (spec.cache_case part most_sets (cache_model cache.now)) }
 {
-    if let Some(refusal) = size_case(part, 1, most_sets, cache.sets) {
-        return Some(refusal);
-    }
+    size_case(part, 1, most_sets, cache.sets)?;
     ways_case(part, cache)
 }
 
 /// K3: the line, the caches, the translation buffer and the predictor have
 /// sizes, ways and policies that there are.
 #[tactic(auto, unfolding(crate::specs::Rules::k3))]
-pub fn k3(raw: &Raw) -> Option<Refusal>
-    ensures value { result ≡ spec.k3 (raw_model raw.now) }
+pub fn k3(raw: &Raw) -> Result<(), Refusal>
+    ensures verdict { IsVerdict result (spec.k3 (raw_model raw.now)) }
 {
-    if let Some(refusal) = size_case(1, 16, 128, raw.line) {
-        return Some(refusal);
-    }
-    if let Some(refusal) = cache_case(2, 1024, &raw.l1i) {
-        return Some(refusal);
-    }
-    if let Some(refusal) = cache_case(3, 1024, &raw.l1d) {
-        return Some(refusal);
-    }
-    if let Some(refusal) = cache_case(4, 16384, &raw.l2) {
-        return Some(refusal);
-    }
-    if let Some(refusal) = cache_case(5, 256, &raw.tlb) {
-        return Some(refusal);
-    }
+    size_case(1, 16, 128, raw.line)?;
+    cache_case(2, 1024, &raw.l1i)?;
+    cache_case(3, 1024, &raw.l1d)?;
+    cache_case(4, 16384, &raw.l2)?;
+    cache_case(5, 256, &raw.tlb)?;
     size_case(6, 1, 4096, raw.predictor)
 }
 
 /// K4: 64 to 4,096 frames.
 #[tactic(auto, unfolding(crate::specs::Rules::k4))]
-pub fn k4(raw: &Raw) -> Option<Refusal>
-    ensures value { result ≡ spec.k4 (raw_model raw.now) }
+pub fn k4(raw: &Raw) -> Result<(), Refusal>
+    ensures verdict { IsVerdict result (spec.k4 (raw_model raw.now)) }
 {
     range_case(4, 0, 64, 4096, raw.frames)
 }
@@ -126,28 +115,26 @@ pub fn colours_in(raw: &Raw) -> u32
 
 /// K5: 2 to 64 colours.
 #[tactic(auto, unfolding(crate::specs::Rules::k5))]
-pub fn k5(raw: &Raw) -> Option<Refusal>
+pub fn k5(raw: &Raw) -> Result<(), Refusal>
     requires parts { spec.k3 (raw_model raw.now) ≡ None }
-    ensures value { result ≡ spec.k5 (raw_model raw.now) }
+    ensures verdict { IsVerdict result (spec.k5 (raw_model raw.now)) }
 {
     range_case(5, 0, 2, 64, i64::from(colours_in(raw)))
 }
 
-fn first_dear(costs: &[i64]) -> Option<Refusal>
-    ensures value { result ≡ first_in spec.k6_cost costs.now }
+fn first_dear(costs: &[i64]) -> Result<(), Refusal>
+    ensures verdict { IsVerdict result (first_in spec.k6_cost costs.now) }
 {
     for (place, cost) in costs.iter().enumerate() {
-        if let Some(refusal) = range_case(6, place as i64 + 1, 1, 1000, *cost) {
-            return Some(refusal);
-        }
+        range_case(6, place as i64 + 1, 1, 1000, *cost)?;
     }
-    None
+    Ok(())
 }
 
 /// K6: each cost is 1 to 1,000 cycles.
 #[tactic(auto, unfolding(crate::specs::Rules::k6))]
-pub fn k6(raw: &Raw) -> Option<Refusal>
-    ensures value { result ≡ spec.k6 (raw_model raw.now) }
+pub fn k6(raw: &Raw) -> Result<(), Refusal>
+    ensures verdict { IsVerdict result (spec.k6 (raw_model raw.now)) }
 {
     let c = &raw.costs;
     first_dear(&[
@@ -172,29 +159,33 @@ fn is_region(line: i64, shared: i64) -> bool
 }
 
 #[tactic(auto, unfolding(crate::specs::Rules::room_case))]
-fn room_case(hardware: &Hardware) -> Option<Refusal>
-    ensures value { result ≡ spec.room_case (hardware_model hardware.now) }
+fn room_case(hardware: &Hardware) -> Result<(), Refusal>
+    ensures verdict { IsVerdict result (spec.room_case (hardware_model hardware.now)) }
 {
     let frames = hardware.shared_frames();
     if hardware.l2.ways < frames {
-        return Some(refusal(11, 2, i64::from(frames), i64::from(hardware.l2.ways)));
+        return Err(refusal(11, 2, i64::from(frames), i64::from(hardware.l2.ways)));
     }
     let last = hardware.last_shared_frame();
     if hardware.frames <= last {
-        return Some(refusal(11, 3, i64::from(last), i64::from(hardware.frames)));
+        return Err(refusal(11, 3, i64::from(last), i64::from(hardware.frames)));
     }
-    None
+    Ok(())
 }
 
 /// K11: the shared region is whole lines up to 65,536 bytes, and its frames
-/// have their ways in the second level and their places in memory.
+/// have their ways in the second level and their places in memory. Then the
+/// machine is whole.
 #[tactic(auto, unfolding(crate::specs::Rules::k11))]
-pub fn k11(raw: &Raw) -> Option<Refusal>
+pub fn k11(raw: &Raw) -> Result<Hardware, Refusal>
     requires parts { KeepsParts (raw_model raw.now) }
-    ensures value { result ≡ spec.k11 (raw_model raw.now) }
+    ensures verdict { IsVerdict result (spec.k11 (raw_model raw.now)) }
+    ensures value { IfOk result (λ h. hardware_model h ≡ spec_hardware_of (raw_model raw.now)) }
 {
     if !is_region(raw.line, raw.shared) {
-        return Some(refusal(11, 1, raw.shared, 65536));
+        return Err(refusal(11, 1, raw.shared, 65536));
     }
-    room_case(&hardware_of(raw))
+    let hardware = hardware_of(raw);
+    room_case(&hardware)?;
+    Ok(hardware)
 }

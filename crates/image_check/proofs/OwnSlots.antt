@@ -11,17 +11,12 @@ use Rattle.domain_check.specs.Capabilities.{own_cap, cap_of}
 use Rattle.domain_check.specs.Pages.{has_page_in}
 use Rattle.domain_check.proofs.CapTexts.{cap_is}
 use Rattle.domain_check.proofs.Slots.{HasSlots, has_in}
+use Rattle.domain_check.proofs.OwnInterrupts.{HasInterrupts, named_line}
 use Rattle.image_check.specs.Own.{own_from, cap_at}
 
 own_cap_is : (x : Option InitialCap) (c : InitialCap) → c ≢ NoCap → own_cap x ≡ c → x ≡ Some c
 own_cap_is None c some e = absurd (some (sym e))
-own_cap_is (Some NoCap) c some e = absurd (some (sym e))
-own_cap_is (Some (Page n)) c some e = ap Some e
-own_cap_is (Some (Irq n)) c some e = by_case (nat_lt n 32) e
-  where
-    by_case : (b : Bool) → (if b then Irq n else NoCap) ≡ c → Some (Irq n) ≡ Some c
-    by_case true e = ap Some e
-    by_case false e = absurd (some (sym e))
+own_cap_is (Some d) c some e = ap Some e
 
 record Names (o : RawDomain) (k : ℕ) (c : InitialCap) : Type 0 where
   pub within : k < length o.caps
@@ -36,23 +31,10 @@ named_at o k c some e = either (cases_lt k (length o.caps))
     either (inr m) = absurd (some (sym e ∙ get_or_past (map cap_of o.caps) k NoCap (omega (arith, length-map o.caps cap_of, m))))
 
 -- a line that a slot names is one of 32
-line_small : (x : Option InitialCap) (n : ℕ) → own_cap x ≡ Irq n → n < 32
-line_small None n e = absurd (cc e)
-line_small (Some NoCap) n e = absurd (cc e)
-line_small (Some (Page m)) n e = absurd (cc e)
-line_small (Some (Irq m)) n e = either (cases_lt m 32) e
-  where
-    either : (m < 32) ⊎ (32 ≤ m) → (if nat_lt m 32 then Irq m else NoCap) ≡ Irq n → n < 32
-    either (inl less) h = let same : m ≡ n = cc (rw (lt-ltb m 32 less) at h) in omega (arith, less, same)
-    either (inr more) h = absurd (cc (rw (le-ltb m 32 more) at h))
-
-pub few_lines : (o : RawDomain) (k n : ℕ) → cap_at (own_from o) k ≡ Irq n → n < 32
-unfolding own_from cap_of
-few_lines o k n e = either (cases_lt k (length o.caps))
-  where
-    either : (k < length o.caps) ⊎ (length o.caps ≤ k) → n < 32
-    either (inl l) = line_small (cap_in (get_or o.caps k [])) n (sym (get_or-map cap_of o.caps k [] NoCap l) ∙ e)
-    either (inr m) = absurd (cc (sym e ∙ get_or_past (map cap_of o.caps) k NoCap (omega (arith, length-map o.caps cap_of, m))))
+pub few_lines : (o : RawDomain) → HasSlots o → HasInterrupts o → (k n : ℕ) → cap_at (own_from o) k ≡ Irq n → n < 32
+few_lines o has irqs k n e =
+    let at = named_at o k (Irq n) (λ (z : Irq n ≡ NoCap). cc) e in
+    named_line o irqs n (has.lines k n [] at.within at.cap)
 
 pub has_its_page : (o : RawDomain) → HasSlots o → (k n : ℕ) → cap_at (own_from o) k ≡ Page n → has_page_in (own_from o).segments n ≡ true
 unfolding own_from

@@ -19,7 +19,7 @@ use Rattle.set_cache.proofs.Ways.{not_true}
 use Rattle.domain_check.specs.Colours.{k8, k9, k10, k10_domain, k10_case, need_case, need_of, whole_in}
 use Rattle.domain_check.proofs.Numbers.{found}
 use Rattle.domain_check.proofs.Slots.{slots, small_caps}
-use Rattle.domain_check.proofs.OwnInterrupts.{interrupts, small_lines, small_moments}
+use Rattle.domain_check.proofs.OwnInterrupts.{interrupts, named_line, small_lines, small_moments}
 use Rattle.domain_check.proofs.Shares.{named, two_apart, small_domain}
 use Rattle.image_check.specs.Own.{Own, Segment, IsSmallOwn, no_own, own_at, own_from, owns_of, segment_of}
 use Rattle.image_check.specs.Pages.{regions_below, frames_in, share_of}
@@ -33,7 +33,7 @@ use Rattle.image_check.proofs.Owns.{owns_at, owns_length}
 small_own : (i : text.Raw) → KeepsButPads i → KeepsParts i → text.InKeyRanges i → (d : ℕ) → d < length i.domains → IsSmallOwn (raw_domain i.domains d)
 small_own i rules k ranges d l = record {
   colours = (small_domain i k rules.named ranges d l).colours;
-  caps = small_caps (raw_domain i.domains d) (slots i rules.capabilities d l) (ranges.segments d);
+  caps = small_caps (raw_domain i.domains d) (slots i rules.capabilities d l) (ranges.segments d) (named_line (raw_domain i.domains d) (interrupts i rules.lines rules.moments d l));
   lines = small_lines (raw_domain i.domains d) (interrupts i rules.lines rules.moments d l);
   moments = small_moments (raw_domain i.domains d) (interrupts i rules.lines rules.moments d l);
 }

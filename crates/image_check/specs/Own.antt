@@ -9,7 +9,6 @@ use Rattle.domain_check.specs.declared.capabilities.InitialCap.{InitialCap}
 use Rattle.domain_check.specs.declared.capabilities.InitialCap.TheVariants.{None as NoCap}
 pub use Rattle.domain_check.specs.Segments.{Segment}
 unfoldable pub use Rattle.domain_check.specs.Segments.{segment_of}
-use Rattle.domain_check.specs.CapTexts.{cap_in}
 use Rattle.domain_check.specs.Capabilities.{cap_of, IsSmallCap}
 use Rattle.domain_check.specs.Interrupts.{moment_of}
 
@@ -25,7 +24,7 @@ pub record Own : Type 0 where
 -- the numbers of what is its own fit those of the code
 pub record IsSmallOwn (o : RawDomain) : Type 0 where
   pub colours : All (λ x. natural_of x < 2 ^ 8) o.colours
-  pub caps : All (λ s. IsSmallCap (cap_in s)) o.caps
+  pub caps : All IsSmallCap (map cap_of o.caps)
   pub lines : All (λ x. natural_of x < 2 ^ 8) o.lines
   pub moments : All (λ m. natural_of m.line < 2 ^ 8) o.moments
 

@@ -7,10 +7,11 @@ ghost use Rattle.image_text.specs.Models.{entry_model as text_entry_model};
 ghost use Rattle.domain_check.specs.Outcomes.{Makes};
 ghost use Rattle.image_check.specs.Checking.{broken_but_pads};
 ghost use Rattle.image_check.specs.Public as spec;
-ghost use Rattle.image_check.specs.Models.{public_model};
+ghost use Rattle.hardware_check.specs.Hardware.{hardware_of as spec_hardware_of};
+ghost use Rattle.image_check.specs.Models.{hardware_model, public_model};
 
 use crate::CheckRefusal;
-use hardware_check::{Hardware, hardware_of, natural_of};
+use hardware_check::{Hardware, natural_of};
 use image_text::{Raw, RawEntry};
 use sched_table::{Entry, Schedule};
 use std::alloc::Global;
@@ -60,20 +61,22 @@ fn schedule_of(alloc: Global, entries: &[RawEntry]) -> Result<Schedule, CheckRef
     }
 }
 
-/// What all domains may know of an image that breaks no rule but that of pads.
+/// What all domains may know of an image that breaks no rule but that of pads,
+/// of this machine.
 ///
 /// # Errors
 ///
 /// `Memory` alone.
 #[tactic(auto, unfolding(crate::specs::Public::public_of), using(crate::proofs::Entries::few_raw_domains, crate::proofs::Entries::small_entries, crate::proofs::Entries::sound_entries))]
-pub fn public_of(alloc: Global, raw: &Raw) -> Result<Public, CheckRefusal>
+pub fn public_of(alloc: Global, raw: &Raw, hardware: Hardware) -> Result<Public, CheckRefusal>
     requires accepted { broken_but_pads (raw_model raw.now) ≡ [] }
+    requires hardware { hardware_model hardware ≡ spec_hardware_of (raw_model raw.now) }
     ensures value { Makes public_model result (spec.public_of (raw_model raw.now)) }
 {
     let schedule = schedule_of(alloc, raw.schedule.as_slice())?;
     let domains = raw.domains.len() as u32;
     Ok(Public {
-        hardware: hardware_of(raw),
+        hardware,
         schedule,
         domains,
     })

@@ -1,14 +1,17 @@
 // An image that breaks no rule but that of pads.
-ghost use Rattle.std.specs.Prelude.{◌≡◌, ◌<◌, [], length, slice_get, IfOk, IfErr};
+ghost use Rattle.std.specs.Prelude.{◌≡◌, ◌<◌, [], map, length, IfOk, IfErr, OnOk};
 ghost use Rattle.image_text.specs.Record.{InKeyRanges};
 ghost use Rattle.image_text.specs.Reads.{raw_model};
 ghost use Rattle.pad_bound.specs.Bound.{IsShape};
 ghost use Rattle.pad_bound.specs.Models.{shape_model};
-ghost use Rattle.domain_check.specs.Outcomes.{Makes};
 ghost use Rattle.image_check.specs.Outcomes.{IsFirst};
 ghost use Rattle.image_check.specs.Checking.{broken_but_pads};
 ghost use Rattle.image_check.specs.Image.{image_from, own_of};
-ghost use Rattle.image_check.specs.Models.{public_model, own_model};
+ghost use Rattle.hardware_check.specs.Hardware.{hardware_of};
+ghost use Rattle.domain_check.specs.Models.{segment_model, named_model};
+ghost use Rattle.domain_check.specs.Segments.{segments_of};
+ghost use Rattle.domain_check.specs.Capabilities.{caps_of};
+ghost use Rattle.image_check.specs.Models.{hardware_model, public_model, own_model};
 ghost use Rattle.image_check.specs.Pads as spec;
 
 use crate::CheckRefusal;
@@ -16,8 +19,8 @@ use crate::own::{Own, owns_of};
 use crate::pads::{k17, shape_of};
 use crate::public::{Public, public_of};
 use crate::schedule::k16;
-use domain_check::{k7, k8, k9, k10, k12, k13, k14, k15};
-use hardware_check::{k3, k4, k5, k6, k11};
+use domain_check::{Named, Segment, k7, k8, k9, k10, k12, k13, k14, k15};
+use hardware_check::{Hardware, k3, k4, k5, k6, k11};
 use image_text::{Raw, Refusal};
 use pad_bound::{Shape, bound};
 use std::alloc::Global;
@@ -87,51 +90,47 @@ impl Unpadded {
     }
 }
 
-// The first item of the list of broken rules without that of pads.
+/// What the rules let through of an image.
+#[derive(Drop)]
+struct Parts {
+    hardware: Hardware,
+    /// Of each domain.
+    segments: Vec<Vec<Segment>>,
+    /// What the slots of each domain name.
+    caps: Vec<Vec<Named>>,
+}
+
+/// The parts, where the list of the rules that the image breaks is empty but for
+/// that of pads.
 #[tactic(auto, unfolding(crate::specs::Checking::broken_but_pads, crate::specs::Checking::rules_but_pads))]
-fn first_but_pads(alloc: Global, raw: &Raw) -> Result<Option<Refusal>, CheckRefusal>
-    ensures value { Makes (λ o. o) result (slice_get (broken_but_pads (raw_model raw.now)) 0) }
+fn parts_of(alloc: Global, raw: &Raw) -> Result<Parts, CheckRefusal>
+    ensures refused { IfErr result (IsFirst (broken_but_pads (raw_model raw.now))) }
+    ensures accepted { OnOk result (broken_but_pads (raw_model raw.now) ≡ []) }
+    ensures hardware { IfOk result (λ p. hardware_model p.hardware ≡ hardware_of (raw_model raw.now)) }
+    ensures segments { IfOk result (λ p. map (λ s. map segment_model s.items) p.segments.items
+        ≡ map segments_of (raw_model raw.now).domains) }
+    ensures caps { IfOk result (λ p. map (λ c. map named_model c.items) p.caps.items
+        ≡ map caps_of (raw_model raw.now).domains) }
 {
-    if let Some(refusal) = k3(raw) {
-        return Ok(Some(refusal));
-    }
-    if let Some(refusal) = k4(raw) {
-        return Ok(Some(refusal));
-    }
-    if let Some(refusal) = k5(raw) {
-        return Ok(Some(refusal));
-    }
-    if let Some(refusal) = k6(raw) {
-        return Ok(Some(refusal));
-    }
-    if let Some(refusal) = k7(raw) {
-        return Ok(Some(refusal));
-    }
-    if let Some(refusal) = k8(raw) {
-        return Ok(Some(refusal));
-    }
-    if let Some(refusal) = k9(raw) {
-        return Ok(Some(refusal));
-    }
-    if let Some(refusal) = k10(alloc, raw)? {
-        return Ok(Some(refusal));
-    }
-    if let Some(refusal) = k11(raw) {
-        return Ok(Some(refusal));
-    }
-    if let Some(refusal) = k12(alloc, raw)? {
-        return Ok(Some(refusal));
-    }
-    if let Some(refusal) = k13(raw) {
-        return Ok(Some(refusal));
-    }
-    if let Some(refusal) = k14(raw) {
-        return Ok(Some(refusal));
-    }
-    if let Some(refusal) = k15(raw) {
-        return Ok(Some(refusal));
-    }
-    Ok(k16(raw))
+    k3(raw)?;
+    k4(raw)?;
+    k5(raw)?;
+    k6(raw)?;
+    k7(raw)?;
+    k8(raw)?;
+    k9(raw)?;
+    k10(alloc, raw)?;
+    let hardware = k11(raw)?;
+    let segments = k12(alloc, raw)?;
+    let caps = k13(alloc, raw)?;
+    k14(raw)?;
+    k15(raw)?;
+    k16(raw)?;
+    Ok(Parts {
+        hardware,
+        segments,
+        caps,
+    })
 }
 
 /// The image, where the list of the rules that it breaks is empty but for that
@@ -141,16 +140,13 @@ fn first_but_pads(alloc: Global, raw: &Raw) -> Result<Option<Refusal>, CheckRefu
 ///
 /// `Broken` with the first item of that list without the rule of pads. `Memory`
 /// where memory runs out.
-#[tactic(auto, using(crate::proofs::Kept::empty_without_first))]
 pub fn check_but_pads(alloc: Global, raw: Raw) -> Result<Unpadded, CheckRefusal>
     ensures refused { IfErr result (IsFirst (broken_but_pads (raw_model raw))) }
     ensures accepted { IfOk result (λ u. broken_but_pads u ≡ []) }
     ensures same { IfOk result (λ u. u ≡ raw_model raw) }
 {
-    if let Some(refusal) = first_but_pads(alloc, &raw)? {
-        return Err(CheckRefusal::Broken(refusal));
-    }
-    let public = public_of(alloc, &raw)?;
-    let owns = owns_of(alloc, &raw)?;
+    let parts = parts_of(alloc, &raw)?;
+    let public = public_of(alloc, &raw, parts.hardware)?;
+    let owns = owns_of(alloc, &raw, parts.segments, parts.caps.as_slice())?;
     Ok(Unpadded { raw, public, owns })
 }

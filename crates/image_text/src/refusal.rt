@@ -44,3 +44,11 @@ impl<T: Drop> From<AllocFailed<T>> for ReadRefusal {
         ReadRefusal::Memory
     }
 }
+
+impl From<Refusal> for ReadRefusal {
+    ghost from_gives = { λ r e. e ≡ refusal.Broken r };
+
+    fn from(refusal: Refusal) -> Self {
+        ReadRefusal::Broken(refusal)
+    }
+}

@@ -1,8 +1,0 @@
-use Rattle.std.proofs.Common.{◌≡◌, take, drop, map}
-use Rattle.image_text.specs.Models.{segment_model}
-use Rattle.hardware_check.specs.Cases.{first_case, first_in}
-use Rattle.domain_check.specs.Segments as spec
-use Rattle.domain_check.proofs.segments.segments_case.Given as goal
-
-abbrev pub invariant-loop-place : goal.invariant-loop-place
-invariant-loop-place l = first_case (spec.segment_case l.d) (map segment_model (take l.place l.segments)) (map segment_model (drop l.place l.segments)) ≡ first_in (spec.segment_case l.d) (map segment_model l.segments)
