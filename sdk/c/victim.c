@@ -9,7 +9,7 @@
 #define LINE_WORDS 16
 #define DIGITS 8
 #define NUMBERS 12
-#define REST 1400 /* times round a loop of six cycles: with the look-ups, a slot and more */
+#define REST 1600 /* times round a loop of six cycles: with the look-ups, a slot and more */
 
 volatile uint32_t key = 0;
 static volatile uint32_t table[LINES * LINE_WORDS] __attribute__((aligned(4096)));

@@ -1,63 +1,125 @@
-"""Pictures of slots, pads and switches."""
+"""Pictures of slots, what domains did in them, pads and switches."""
 
 from __future__ import annotations
 
 from collections.abc import Sequence
+from dataclasses import dataclass
 from pathlib import Path
 from typing import TYPE_CHECKING
 
-from tp_sdk.plots import PLAIN, colour_of, pyplot, save
-from tp_sdk.report import Report
-from tp_sdk.schedule import Entry, slots_of
+from tp_sdk.plots import SMALL, colour_of, pyplot, save
+from tp_sdk.replay import Did, Replay, number
+from tp_sdk.report import Report, Section
+from tp_sdk.schedule import Entry, Slot, slots_of
+
+# (after that one, which tells where the library is missing)
+from matplotlib.lines import Line2D
+from matplotlib.patches import Patch
 
 if TYPE_CHECKING:
     from matplotlib.axes import Axes
 
-_PAD, _USED = "0.88", "0.35"
+_PAD, _USED, _IDLE = "0.88", "0.35", "0.97"
+
+
+@dataclass(frozen=True)
+class Strip:
+    """A report, and what running its image again told, if it did."""
+
+    title: str
+    report: Report
+    replay: Replay | None
 
 
 def draw_timeline(
-    file: Path,
-    names: Sequence[str],
-    entries: Sequence[Entry],
-    reports: Sequence[tuple[str, Report]],
-    most: int,
+    file: Path, names: Sequence[str], entries: Sequence[Entry], strips: Sequence[Strip], most: int
 ) -> None:
-    """The first slots, their pads and what switches used of them, a strip for each report."""
-    figure, strips = pyplot.subplots(
-        len(reports),
+    """The first slots, what was done in them, their pads and what switches used, a strip for each report."""
+    figure, places = pyplot.subplots(
+        len(strips),
         1,
         sharex=True,
         squeeze=False,
-        figsize=(11, 1.2 + len(reports) * (0.8 + 0.35 * len(names))),
+        figsize=(15, 0.9 + len(strips) * (0.7 + 0.5 * len(names))),
+        layout="constrained",
     )
-    for axes, (title, report) in zip(strips[:, 0], reports):
-        _strip(axes, title, names, entries, report, most)
-    strips[-1, 0].set_xlabel("cycles")
-    strips[0, 0].legend(loc="upper left", bbox_to_anchor=(1.0, 1.0), frameon=False)
+    for axes, strip in zip(places[:, 0], strips):
+        _draw_strip(axes, names, list(slots_of(list(entries), min(strip.report.slots, most))), entries, strip)
+    places[-1, 0].set_xlabel("cycles")
+    figure.legend(handles=_legend(strips), loc="upper right", ncols=6, fontsize=SMALL, frameon=False)
     save(figure, file)
 
 
-def _strip(
-    axes: Axes, title: str, names: Sequence[str], entries: Sequence[Entry], report: Report, most: int
+def _draw_strip(
+    axes: Axes, names: Sequence[str], slots: Sequence[Slot], entries: Sequence[Entry], strip: Strip
 ) -> None:
-    used = {switch.entry: switch.used for switch in report.switches}
-    last = len(entries) - 1
-    whole = (-0.5, len(names))
-
-    def pad(start: int, end: int, entry: int, labelled: bool) -> None:
-        axes.broken_barh([(start, end - start)], whole, facecolor=_PAD, label="pad" if labelled else None)
-        label = "switch, most cycles used" if labelled else None
-        axes.broken_barh([(start, used.get(entry, 0))], whole, facecolor=_USED, label=label)
-
-    pad(0, entries[last].pad, last, True)
-    for slot in slots_of(list(entries), min(report.slots, most)):
-        axes.broken_barh(
-            [(slot.start, slot.end - slot.start)], (slot.domain - 0.4, 0.8), facecolor=colour_of(slot.domain)
-        )
-        pad(slot.end, slot.pad_end, slot.entry, False)
+    used = [switch.used for switch in strip.report.switches]
+    _draw_pad(axes, names, 0, entries[-1].pad, None)
+    for place, slot in enumerate(slots):
+        did = None if strip.replay is None or place >= len(strip.replay.slots) else strip.replay.slots[place]
+        of_switch = used[slot.entry] if did is None or strip.replay is None else strip.replay.used[place]
+        _draw_slot(axes, slot, did)
+        _draw_pad(axes, names, slot.end, slot.pad_end, of_switch)
+    for section in strip.report.sections:
+        _draw_readings(axes, section, slots)
+        axes.text(1.005, section.number, _summary(section), transform=axes.get_yaxis_transform(), fontsize=SMALL, va="center")
     axes.set_yticks(range(len(names)), names)
-    axes.set_ylim(len(names) - 0.5, -0.5)
-    axes.set_title(title, loc="left", fontsize=PLAIN)
+    axes.set_ylim(len(names) - 0.2, -0.6)
+    told = "" if strip.replay is not None else ": totals alone, and the most that each entry's switches used"
+    axes.set_title(strip.title + told, loc="left", fontsize=SMALL)
 
 
+def _draw_slot(axes: Axes, slot: Slot, did: Did | None) -> None:
+    """The time in which the domain ran, and what it did; pale, where it had ended."""
+    whole = slot.end - slot.start
+    ran = whole
+    if did is not None and did.had_ended:
+        ran = 0
+    elif did is not None and did.status != "running":
+        ran = did.ended_at or 0
+    height = (slot.domain - 0.4, 0.8)
+    axes.broken_barh([(slot.start, whole)], height, facecolor=_IDLE, edgecolor=colour_of(slot.domain), linewidth=0.6)
+    axes.broken_barh([(slot.start, ran)], height, facecolor=colour_of(slot.domain), alpha=0.55)
+    if did is not None and not did.had_ended:
+        axes.text(slot.start + whole / 2, slot.domain, _told(did), ha="center", va="center", fontsize=SMALL - 1)
+
+
+def _told(did: Did) -> str:
+    words = f"{did.retired:,}"
+    if did.calls:
+        words += f"\n{did.calls} {'call' if did.calls == 1 else 'calls'}"
+    if did.status != "running":
+        words += f"\n{did.status.split(' pc ')[0]}"
+        words += " early" if did.ended_at is None else f" at {did.ended_at:,}"
+    return words
+
+
+def _draw_pad(axes: Axes, names: Sequence[str], start: int, end: int, used: int | None) -> None:
+    whole = (-0.6, len(names) + 0.4)
+    axes.broken_barh([(start, end - start)], whole, facecolor=_PAD)
+    if used is not None:
+        axes.broken_barh([(start, used)], whole, facecolor=_USED)
+        axes.text(start + used, len(names) - 0.35, f" {used:,}", fontsize=SMALL - 1, va="center")
+
+
+def _draw_readings(axes: Axes, section: Section, slots: Sequence[Slot]) -> None:
+    """The clocks that it read, at their cycles in its own slots."""
+    own = [slot for slot in slots if slot.domain == section.number]
+    clocks = [it for it in section.readings if any(slot.start <= it < slot.end for slot in own)]
+    axes.vlines(clocks, section.number + 0.28, section.number + 0.4, color="black", linewidth=0.5)
+
+
+def _summary(section: Section) -> str:
+    retired, calls = number(section, "retired"), number(section, "replies")
+    return f"{section.status}\n{retired:,} instructions\n{calls} calls, {section.readings_count} readings"
+
+
+def _legend(strips: Sequence[Strip]) -> list[Patch | Line2D]:
+    is_replayed = any(strip.replay is not None for strip in strips)
+    return [
+        Patch(facecolor=colour_of(0), alpha=0.55, label="a slot: instructions retired in it" if is_replayed else "a slot"),
+        Patch(facecolor=_IDLE, edgecolor=colour_of(0), label="the domain had ended"),
+        Line2D([], [], color="black", marker="|", linestyle="none", label="it read its clock"),
+        Patch(facecolor=_PAD, label="pad"),
+        Patch(facecolor=_USED, label="cycles that the switch used"),
+    ]

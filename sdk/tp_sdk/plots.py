@@ -16,6 +16,7 @@ try:
     matplotlib.rcParams["svg.hashsalt"] = "tp"
     # (texts as texts: a small file, in which they can be searched)
     matplotlib.rcParams["svg.fonttype"] = "none"
+    matplotlib.rcParams["font.sans-serif"] = ["DejaVu Sans"]
     matplotlib.rcParams["font.size"] = 9
     from matplotlib import pyplot
     from matplotlib.ticker import LogLocator, NullFormatter, StrMethodFormatter

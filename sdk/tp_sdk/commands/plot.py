@@ -2,18 +2,24 @@
 
 from __future__ import annotations
 
+import sys
 import tomllib
 from argparse import ArgumentParser, Namespace, RawDescriptionHelpFormatter
 from collections.abc import Sequence
 from dataclasses import dataclass
 from pathlib import Path
 
-from tp_sdk.faults import EXIT_CODES, Fault, read_text
+from tp_sdk.faults import EXIT_CODES, Fault, Missing, read_text
 from tp_sdk.information import Measured, measure
 from tp_sdk.measurements import MEASURES, by_pads, by_schedule, measurements_of, rows_of
+from tp_sdk.memory import memory_of
+from tp_sdk.plot_memory import draw_memory
 from tp_sdk.plot_readings import Panel, draw_histogram, draw_matrix
-from tp_sdk.plot_timeline import draw_timeline
+from tp_sdk.plot_timeline import Strip, draw_timeline
 from tp_sdk.plots import picture_file
+from tp_sdk.program import Program
+from tp_sdk.refusals import Image
+from tp_sdk.replay import Replay, replay
 from tp_sdk.report import Report, parse_report
 from tp_sdk.schedule import Entry, domain_names, entries_of
 from tp_sdk.toml_places import read_with_places
@@ -23,7 +29,9 @@ _HELP = """Draws reports of `tp run`, as NAME.svg or NAME.png:
   tp-plot timeline mine.toml mine.report -o mine.svg
       the slots, the pads, and the most that each entry's switches used of theirs
   tp-plot readings FOLDER --domain spy -o spy.svg
-      what one domain measured in each FOLDER/*.report: a spy beside many neighbours, say"""
+      what one domain measured in each FOLDER/*.report: a spy beside many neighbours, say
+  tp-plot memory mine.toml -o mine.svg
+      whose each frame and each set of the second level is, and what is shared"""
 
 
 def main(words: list[str]) -> int:
@@ -31,7 +39,7 @@ def main(words: list[str]) -> int:
     parser = ArgumentParser(
         "tp-plot", description=_HELP, epilog=EXIT_CODES, formatter_class=RawDescriptionHelpFormatter
     )
-    commands = parser.add_subparsers(required=True, metavar="timeline|readings")
+    commands = parser.add_subparsers(required=True, metavar="timeline|readings|memory")
     timeline = commands.add_parser("timeline", help="slots, pads and switches")
     timeline.add_argument("image", type=Path)
     timeline.add_argument("reports", type=Path, nargs="+", metavar="report")
@@ -57,7 +65,10 @@ def main(words: list[str]) -> int:
         help="an image with the reports' schedule: it tells exactly within which measurements a slot ended",
     )
     readings.set_defaults(draw=_readings)
-    for command in (timeline, readings):
+    memory = commands.add_parser("memory", help="whose colours, frames, pages and sets are whose")
+    memory.add_argument("image", type=Path)
+    memory.set_defaults(draw=_memory)
+    for command in (timeline, readings, memory):
         command.add_argument(
             "-o", dest="out", type=Path, required=True, metavar="PICTURE", help="NAME.svg or NAME.png"
         )
@@ -81,9 +92,10 @@ def _read(file: Path) -> Report:
 
 @dataclass(frozen=True)
 class _Scheduled:
-    """An image's file, the names of its domains, and its schedule."""
+    """An image, the names of its domains, and its schedule."""
 
     file: Path
+    image: Image
     names: list[str]
     entries: list[Entry]
 
@@ -99,15 +111,30 @@ def _read_image(file: Path) -> _Scheduled:
         image, _ = read_with_places(read_text(file))
     except tomllib.TOMLDecodeError as error:
         raise Fault(f"{file}: no TOML: {error}") from None
-    return _Scheduled(file, domain_names(image), entries_of(image, str(file)))
+    return _Scheduled(file, image, domain_names(image), entries_of(image, str(file)))
 
 
 def _timeline(asked: Namespace) -> None:
     image = _read_image(asked.image)
-    reports = [(file.name, _read(file)) for file in asked.reports]
-    for file, report in zip(asked.reports, reports):
-        image.refuse_others(file, report[1])
-    draw_timeline(asked.out, image.names, image.entries, reports, asked.slots)
+    reports = [(file, _read(file)) for file in asked.reports]
+    for file, report in reports:
+        image.refuse_others(file, report)
+    try:
+        program = Program.find()
+    except Missing as missing:
+        print(f"tp-plot: totals alone: {missing}", file=sys.stderr)
+        program = None
+    strips = [Strip(file.name, report, _replay(program, image, report, asked.slots)) for file, report in reports]
+    draw_timeline(asked.out, image.names, image.entries, strips, asked.slots)
+
+
+def _replay(program: Program | None, image: _Scheduled, report: Report, slots: int) -> Replay | None:
+    return None if program is None else replay(program, image.image, str(image.file), report, slots)
+
+
+def _memory(asked: Namespace) -> None:
+    image = _read_image(asked.image)
+    draw_memory(asked.out, image.names, memory_of(image.image, str(asked.image)))
 
 
 def _readings(asked: Namespace) -> None:
