@@ -23,13 +23,6 @@ if TYPE_CHECKING:
 
 _OVER_END, _ALONE = "0.72", "0.92"
 _BINS = 120
-# Every difference has a colour that is not white's neighbour: one cycle is seen.
-_DIFFERENCES = LinearSegmentedColormap.from_list(
-    "differences",
-    [(0, "#08306b"), (0.44, "#7db8da"), (0.441, "white"), (0.559, "white"), (0.56, "#f6a178"), (1, "#7f0000")],
-    N=1024,
-)
-
 
 @dataclass(frozen=True)
 class Panel:
@@ -117,19 +110,18 @@ def _draw_differences(figure: SubFigure, axes: Axes, panel: Panel) -> None:
             if difference is None:
                 alone[number, place] = 1
                 continue
-            cells[number, place] = _far(difference)
+            cells[number, place] = far(difference)
             if not first.is_over_end[place]:
-                most = max(most, abs(_far(difference)))
-    most += 0.001
-    shown = _show(axes, cells, cmap=_DIFFERENCES, norm=Normalize(-most, most))
+                most = max(most, abs(far(difference)))
+    shown = _show(axes, cells, cmap=difference_colours(most), norm=Normalize(-most, most))
     _show(axes, alone, cmap=ListedColormap([_ALONE]))
     if len(panel.rows) == 1:
         _say(axes, 0, f"one row for all {panel.reports} reports: every difference is 0")
     else:
-        powers = range(int(most - 1) + 1)
-        ticks = [-(power + 1) for power in reversed(powers)] + [0] + [power + 1 for power in powers]
+        powers = range(1, int(most) + 1)
+        ticks = [*(-power for power in reversed(powers)), 0, *powers]
         bar = figure.colorbar(shown, ax=axes, pad=0.02, aspect=12, ticks=ticks)
-        bar.ax.yaxis.set_major_formatter(FuncFormatter(lambda far, _: _near(far)))
+        bar.ax.yaxis.set_major_formatter(FuncFormatter(lambda place, _: near(place)))
         bar.ax.tick_params(labelsize=SMALL)
     axes.tick_params(labelleft=False)
     axes.set_xlabel(f"{panel.domain}: cycles more than in {panel.rows[0].reports[0]}")
@@ -145,16 +137,33 @@ def _difference(own: Measurements, first: Measurements, place: int) -> int | Non
     return own.cycles[place] - first.cycles[place]
 
 
-def _far(difference: int) -> float:
+def difference_colours(most: float) -> LinearSegmentedColormap:
+    """White for no difference alone: the next one, of one cycle, has a colour that is seen."""
+    white = 0.25 / most
+    return LinearSegmentedColormap.from_list(
+        "differences",
+        [
+            (0, "#08306b"),
+            (0.5 - white, "#7db8da"),
+            (0.5 - white, "white"),
+            (0.5 + white, "white"),
+            (0.5 + white, "#f6a178"),
+            (1, "#7f0000"),
+        ],
+        N=1024,
+    )
+
+
+def far(difference: int) -> float:
     """Where a difference stands on the scale: 0, 1 cycle, 10 and 100 are equally far apart."""
     if difference == 0:
         return 0.0
     return (1 + log10(abs(difference))) * (1 if difference > 0 else -1)
 
 
-def _near(far: float) -> str:
+def near(place: float) -> str:
     """What is told of a place on that scale."""
-    return "0" if far == 0 else f"{'+' if far > 0 else '−'}{10 ** (abs(far) - 1):,.0f}"
+    return "0" if place == 0 else f"{'+' if place > 0 else '−'}{10 ** (abs(place) - 1):,.0f}"
 
 
 def _blank(panel: Panel) -> Any:

@@ -7,6 +7,7 @@ from dataclasses import dataclass
 from pathlib import Path
 from typing import TYPE_CHECKING
 
+from tp_sdk.keys import LENGTH
 from tp_sdk.plots import SMALL, colour_of, pyplot, save
 from tp_sdk.replay import Did, Replay, number
 from tp_sdk.report import Report, Section
@@ -53,20 +54,30 @@ def draw_timeline(
 def _draw_strip(
     axes: Axes, names: Sequence[str], slots: Sequence[Slot], entries: Sequence[Entry], strip: Strip
 ) -> None:
-    used = [switch.used for switch in strip.report.switches]
-    _draw_pad(axes, names, 0, entries[-1].pad, None)
+    most = [switch.used for switch in strip.report.switches]
+    _draw_pad(axes, names, (0, entries[-1].pad), most[-1] if strip.replay is None else strip.replay.boot)
     for place, slot in enumerate(slots):
-        did = None if strip.replay is None or place >= len(strip.replay.slots) else strip.replay.slots[place]
-        of_switch = used[slot.entry] if did is None or strip.replay is None else strip.replay.used[place]
-        _draw_slot(axes, slot, did)
-        _draw_pad(axes, names, slot.end, slot.pad_end, of_switch)
+        replay = strip.replay if strip.replay and place < len(strip.replay.slots) else None
+        _draw_slot(axes, slot, replay.slots[place] if replay else None)
+        # (a run ends with its last slot, whose switch it doesn't have)
+        if place < strip.report.slots - 1:
+            used = replay.used[place] if replay and place < len(replay.used) else most[slot.entry]
+            _draw_pad(axes, names, (slot.end, slot.pad_end), used)
     for section in strip.report.sections:
         _draw_readings(axes, section, slots)
         axes.text(1.005, section.number, _summary(section), transform=axes.get_yaxis_transform(), fontsize=SMALL, va="center")
     axes.set_yticks(range(len(names)), names)
     axes.set_ylim(len(names) - 0.2, -0.6)
-    told = "" if strip.replay is not None else ": totals alone, and the most that each entry's switches used"
-    axes.set_title(strip.title + told, loc="left", fontsize=SMALL)
+    axes.set_title(strip.title + _untold(strip, len(slots)), loc="left", fontsize=SMALL)
+
+
+def _untold(strip: Strip, slots: int) -> str:
+    """From which slot on a strip has no more than the report itself tells."""
+    told = 0 if strip.replay is None else len(strip.replay.slots)
+    if told == slots:
+        return ""
+    since = f"from slot {told} on " if told else ""
+    return f" ({since}of each switch the most that its entry's used)"
 
 
 def _draw_slot(axes: Axes, slot: Slot, did: Did | None) -> None:
@@ -76,7 +87,7 @@ def _draw_slot(axes: Axes, slot: Slot, did: Did | None) -> None:
     if did is not None and did.had_ended:
         ran = 0
     elif did is not None and did.status != "running":
-        ran = did.ended_at or 0
+        ran = did.ended_at or LENGTH.low
     height = (slot.domain - 0.4, 0.8)
     axes.broken_barh([(slot.start, whole)], height, facecolor=_IDLE, edgecolor=colour_of(slot.domain), linewidth=0.6)
     axes.broken_barh([(slot.start, ran)], height, facecolor=colour_of(slot.domain), alpha=0.55)
@@ -90,16 +101,16 @@ def _told(did: Did) -> str:
         words += f"\n{did.calls} {'call' if did.calls == 1 else 'calls'}"
     if did.status != "running":
         words += f"\n{did.status.split(' pc ')[0]}"
-        words += " early" if did.ended_at is None else f" at {did.ended_at:,}"
+        words += f" within {LENGTH.low:,}" if did.ended_at is None else f" at {did.ended_at:,}"
     return words
 
 
-def _draw_pad(axes: Axes, names: Sequence[str], start: int, end: int, used: int | None) -> None:
+def _draw_pad(axes: Axes, names: Sequence[str], pad: tuple[int, int], used: int) -> None:
+    start, end = pad
     whole = (-0.6, len(names) + 0.4)
     axes.broken_barh([(start, end - start)], whole, facecolor=_PAD)
-    if used is not None:
-        axes.broken_barh([(start, used)], whole, facecolor=_USED)
-        axes.text(start + used, len(names) - 0.35, f" {used:,}", fontsize=SMALL - 1, va="center")
+    axes.broken_barh([(start, used)], whole, facecolor=_USED)
+    axes.text(start + used, len(names) - 0.35, f" {used:,}", fontsize=SMALL - 1, va="center")
 
 
 def _draw_readings(axes: Axes, section: Section, slots: Sequence[Slot]) -> None:

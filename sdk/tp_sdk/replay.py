@@ -32,9 +32,11 @@ class Did:
 
 @dataclass(frozen=True)
 class Replay:
-    """What each of the first slots did, and what each of their switches used."""
+    """What each of the first slots did, what the boot used, and what the switch after each slot did,
+    where there was one: a run ends with its last slot."""
 
     slots: tuple[Did, ...]
+    boot: int
     used: tuple[int, ...]
 
 
@@ -42,17 +44,21 @@ def replay(program: Program, image: Image, file: str, report: Report, count: int
     """The first slots of a report, where it is one of this image; else nothing."""
     if _sections(_run(program, image, file, report.slots)) != _sections(report):
         return None
-    schedule = image["schedule"]
-    count = min(count, report.slots, ENTRIES.high // len(schedule) * len(schedule))
-    written_out = image | {"schedule": schedule * (ENTRIES.high // len(schedule))}
-    runs = [_run(program, written_out, file, slots) for slots in range(count + 1)]
-    if _sections(runs[-1]) != _sections(_run(program, image, file, count)):
+    written_out = image | {"schedule": image["schedule"] * (ENTRIES.high // len(image["schedule"]))}
+    count = min(count, report.slots, len(written_out["schedule"]))
+    if count == 0:
+        return None
+    # (one slot more has the last one's switch)
+    most = min(count + 1, report.slots, len(written_out["schedule"]))
+    runs = [_run(program, written_out, file, slots) for slots in range(most + 1)]
+    if _sections(runs[-1]) != _sections(_run(program, image, file, most)):
         return None
     done = [
         _did(program, written_out, file, slot, before, after)
-        for slot, (before, after) in enumerate(zip(runs, runs[1:]))
+        for slot, (before, after) in enumerate(zip(runs[: count + 1], runs[1 : count + 1]))
     ]
-    return Replay(tuple(done), tuple(it.used for it in runs[-1].switches[:count]))
+    *after, boot = (it.used for it in runs[-1].switches)
+    return Replay(tuple(done), boot, tuple(after[: most - 1]))
 
 
 def _did(program: Program, image: Image, file: str, slot: int, before: Report, after: Report) -> Did:
