@@ -9,7 +9,7 @@ from conftest import REPOSITORY, run_tool
 
 from tp_sdk.information import measure
 from tp_sdk.measurements import Measurements, Row, by_pads, by_schedule, measurements_of, rows_of
-from tp_sdk.report import Section, parse_report
+from tp_sdk.report import Section
 from tp_sdk.schedule import Entry
 
 LOUD = (REPOSITORY / "examples" / "spy-loud.report").read_text()

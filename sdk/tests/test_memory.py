@@ -48,7 +48,9 @@ def sum_of_words(domain: dict[str, Any], of: Memory, number: int) -> int:
         data = bytes.fromhex(segment["hex"])
         words = data + bytes(-len(data) % 4)
         total += sum(int.from_bytes(words[at : at + 4], "little") for at in range(0, len(words), 4))
-        rights = sum(value for letter, value in (("r", 2), ("w", 4 + 128), ("x", 8)) if letter in segment["rights"])
+        rights = sum(
+            value for letter, value in (("r", 2), ("w", 4 + 128), ("x", 8)) if letter in segment["rights"]
+        )
         pages = range(segment["page"], segment["page"] + segment["pages"])
         total += sum(frame_of[page] * 1024 + 81 + rights for page in pages)
     assert len(tables) == len({page // PAGES_OF_A_TABLE for page in frame_of if page is not None})
@@ -71,7 +73,14 @@ def test_a_picture_of_it(tmp_path: Path) -> None:
     ended = run_tool("tp-plot", "memory", EXAMPLES / "two-domains.toml", "-o", picture)
     assert (ended.returncode, ended.stdout, ended.stderr) == (0, "", "")
     text = picture.read_text()
-    for words in ("red's alone", "0: the kernel", "2: blue", "3: nobody", ">stack<", "shared by all (8 lines"):
+    for words in (
+        "red's alone",
+        "0: the kernel",
+        "2: blue",
+        "3: nobody",
+        ">stack<",
+        "shared by all (8 lines",
+    ):
         assert words in text
 
 

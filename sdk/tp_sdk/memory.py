@@ -98,9 +98,7 @@ def _memory(image: Image) -> Memory:
 def _uses(domain: dict[str, Any], frames: int) -> list[tuple[Use, int | None]]:
     """What a domain's frames have, ascending: its clone, its root, a table for each 4 MiB that has a
     page, its pages by their numbers; the others are free."""
-    pages = sorted(
-        page for it in domain["segment"] for page in range(it["page"], it["page"] + it["pages"])
-    )
+    pages = sorted(page for it in domain["segment"] for page in range(it["page"], it["page"] + it["pages"]))
     tables = {page // PAGES_OF_A_TABLE for page in pages}
     used: list[tuple[Use, int | None]] = [
         *((use, None) for use in (*_CLONE, Use.ROOT)),

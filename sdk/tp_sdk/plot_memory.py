@@ -50,7 +50,9 @@ def _draw_frames(axes: Axes, names: Sequence[str], memory: Memory) -> None:
             ink = "white" if is_dark else "black"
             axes.text(column, row, _words(frame), ha="center", va="center", fontsize=SMALL, color=ink)
     _show(axes, cells)
-    axes.set_yticks(range(memory.colours), [_owner(colour, names, memory) for colour in range(memory.colours)])
+    axes.set_yticks(
+        range(memory.colours), [_owner(colour, names, memory) for colour in range(memory.colours)]
+    )
     axes.set_xlabel(f"frames: in column c and the row of colour k stands frame {memory.colours} c + k")
     axes.set_ylabel("page colours")
 
@@ -65,9 +67,9 @@ def _draw_sets(axes: Axes, memory: Memory) -> None:
             cells[0, place] = to_rgb(_SHARED)
     _show(axes, cells)
     axes.tick_params(labelleft=False)
-    of = memory.sets_of_colour
     axes.set_xlabel(
-        f"sets of the second level, of {memory.ways} ways: in column s and the row of colour k is set {of} k + s"
+        f"sets of the second level, of {memory.ways} ways: "
+        f"in column s and the row of colour k is set {memory.sets_of_colour} k + s"
     )
 
 
@@ -103,7 +105,7 @@ def _words(frame: Frame) -> str:
 
 def _colour(frame: Frame) -> tuple[float, ...]:
     if frame.domain is None:
-        return to_rgb(_SHARED if frame.use is Use.SHARED else _NOBODYS)
+        return _mixed(_SHARED if frame.use is Use.SHARED else _NOBODYS, 1)
     if frame.use.is_of_clone:
         return _mixed(colour_of(frame.domain), 0.6, "black")
     share = 0.75 if frame.use.is_of_tables else 0.45 if frame.use is Use.PAGE else 0.12
@@ -112,4 +114,5 @@ def _colour(frame: Frame) -> tuple[float, ...]:
 
 def _mixed(colour: str, share: float, other: str = "white") -> tuple[float, ...]:
     """So much of a colour, and the rest of another."""
-    return tuple(share * one + (1 - share) * two for one, two in zip(to_rgb(colour), to_rgb(other)))
+    pairs: list[tuple[float, float]] = list(zip(to_rgb(colour), to_rgb(other)))
+    return tuple(share * one + (1 - share) * two for one, two in pairs)

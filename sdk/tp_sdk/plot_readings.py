@@ -19,10 +19,12 @@ from matplotlib.ticker import FuncFormatter, MaxNLocator
 
 if TYPE_CHECKING:
     from matplotlib.axes import Axes
-    from matplotlib.figure import Figure, SubFigure
+    from matplotlib.figure import SubFigure
 
 _OVER_END, _ALONE = "0.72", "0.92"
+_NONE = "no readings to draw"
 _BINS = 120
+
 
 @dataclass(frozen=True)
 class Panel:
@@ -49,7 +51,7 @@ class Panel:
 
 def draw_matrix(file: Path, panels: Sequence[Panel]) -> None:
     """For each domain two pictures beside each other: a row for each report, a column for each
-    measurement, its cycles as a colour; and what they differ by from the first report's."""
+    measurement, its cycles as a colour; and what they differ by from the first report that has some."""
     heights = [1.3 + 0.27 * max(len(panel.rows), 2) for panel in panels]
     *parts, last = _parts(15, [*heights, 0.3])
     for part, panel in zip(parts, panels):
@@ -61,7 +63,7 @@ def draw_matrix(file: Path, panels: Sequence[Panel]) -> None:
         handles=[
             Patch(facecolor=_OVER_END, label="a slot ended within it: left out of the scale"),
             Patch(facecolor="white", edgecolor="0.6", label="left: no measurement; right: no difference"),
-            Patch(facecolor=_ALONE, label="right: the first report has none, or a slot ended in one alone"),
+            Patch(facecolor=_ALONE, label="right: one of the two has none, or a slot ended within one alone"),
         ],
         loc="center left",
         ncols=3,
@@ -73,11 +75,9 @@ def draw_matrix(file: Path, panels: Sequence[Panel]) -> None:
 
 def _draw_cycles(figure: SubFigure, axes: Axes, panel: Panel) -> None:
     cells = _blank(panel)
-    is_over = numpy.ma.masked_all(cells.shape)
+    is_over = _blank(panel)
     for number, row in enumerate(panel.rows):
-        for place, (cycles, over) in enumerate(
-            zip(row.measurements.cycles, row.measurements.is_over_end)
-        ):
+        for place, (cycles, over) in enumerate(zip(row.measurements.cycles, row.measurements.is_over_end)):
             if over:
                 is_over[number, place] = 1
             else:
@@ -96,12 +96,13 @@ def _draw_cycles(figure: SubFigure, axes: Axes, panel: Panel) -> None:
     axes.set_yticks(range(len(panel.rows)), [_name(row) for row in panel.rows], fontsize=SMALL)
     for number, row in enumerate(panel.rows):
         if not row.measurements.cycles:
-            _say(axes, number, "no readings" if row.measurements.made == 0 else "none is listed")
+            _say(axes, number, _NONE)
     axes.set_xlabel(f"{panel.domain}: cycles of each measurement{_left_out(panel)}")
 
 
 def _draw_differences(figure: SubFigure, axes: Axes, panel: Panel) -> None:
-    first = panel.rows[0].measurements
+    compared = next((row for row in panel.rows if row.measurements.cycles), panel.rows[0])
+    first = compared.measurements
     cells, alone = _blank(panel), _blank(panel)
     most = 1.0
     for number, row in enumerate(panel.rows):
@@ -124,11 +125,11 @@ def _draw_differences(figure: SubFigure, axes: Axes, panel: Panel) -> None:
         bar.ax.yaxis.set_major_formatter(FuncFormatter(lambda place, _: near(place)))
         bar.ax.tick_params(labelsize=SMALL)
     axes.tick_params(labelleft=False)
-    axes.set_xlabel(f"{panel.domain}: cycles more than in {panel.rows[0].reports[0]}")
+    axes.set_xlabel(f"{panel.domain}: cycles more than in {compared.reports[0]}")
 
 
 def _difference(own: Measurements, first: Measurements, place: int) -> int | None:
-    """How many cycles more than the first report's, where both have the measurement, and both or
+    """How many cycles more than the one compared with, where both have the measurement, and both or
     none with a slot's end in it."""
     if place >= min(len(own.cycles), len(first.cycles)):
         return None
@@ -167,7 +168,8 @@ def near(place: float) -> str:
 
 
 def _blank(panel: Panel) -> Any:
-    return numpy.ma.masked_all((len(panel.rows), max(panel.width, 1)))
+    """Cells of which none is drawn."""
+    return numpy.full((len(panel.rows), max(panel.width, 1)), numpy.nan)
 
 
 def _show(axes: Axes, cells: Any, **how: Any) -> Any:
@@ -215,7 +217,9 @@ def _draw_counts(axes: Axes, panel: Panel) -> None:
     for number, (place, of) in enumerate(zip(places, counts)):
         heights = 0.9 * numpy.log1p(of) / log(1 + most)
         axes.stairs(place + heights, bins, baseline=place, fill=True, color=colour_of(number))
-    axes.set_yticks(places, [f"{_name(row)}: {_counted(row)}" for row in panel.rows], fontsize=SMALL, va="bottom")
+    axes.set_yticks(
+        places, [f"{_name(row)}: {_counted(row)}" for row in panel.rows], fontsize=SMALL, va="bottom"
+    )
     axes.set_ylim(-0.05, len(panel.rows))
     if is_wide(bins):
         axes.set_xscale("log")
@@ -229,7 +233,7 @@ def _counted(row: Row) -> str:
     """How many are drawn, and how many not."""
     within, over = len(row.measurements.within_slots()), sum(row.measurements.is_over_end)
     if not within and not over:
-        return "no readings"
+        return _NONE
     return f"{within}" + (f" ({over} over a slot's end left out)" if over else "")
 
 

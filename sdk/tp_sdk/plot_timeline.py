@@ -65,7 +65,14 @@ def _draw_strip(
             _draw_pad(axes, names, (slot.end, slot.pad_end), used)
     for section in strip.report.sections:
         _draw_readings(axes, section, slots)
-        axes.text(1.005, section.number, _summary(section), transform=axes.get_yaxis_transform(), fontsize=SMALL, va="center")
+        axes.text(
+            1.005,
+            section.number,
+            _summary(section),
+            transform=axes.get_yaxis_transform(),
+            fontsize=SMALL,
+            va="center",
+        )
     axes.set_yticks(range(len(names)), names)
     axes.set_ylim(len(names) - 0.2, -0.6)
     axes.set_title(strip.title + _untold(strip, len(slots)), loc="left", fontsize=SMALL)
@@ -89,10 +96,14 @@ def _draw_slot(axes: Axes, slot: Slot, did: Did | None) -> None:
     elif did is not None and did.status != "running":
         ran = did.ended_at or LENGTH.low
     height = (slot.domain - 0.4, 0.8)
-    axes.broken_barh([(slot.start, whole)], height, facecolor=_IDLE, edgecolor=colour_of(slot.domain), linewidth=0.6)
+    axes.broken_barh(
+        [(slot.start, whole)], height, facecolor=_IDLE, edgecolor=colour_of(slot.domain), linewidth=0.6
+    )
     axes.broken_barh([(slot.start, ran)], height, facecolor=colour_of(slot.domain), alpha=0.55)
     if did is not None and not did.had_ended:
-        axes.text(slot.start + whole / 2, slot.domain, _told(did), ha="center", va="center", fontsize=SMALL - 1)
+        axes.text(
+            slot.start + whole / 2, slot.domain, _told(did), ha="center", va="center", fontsize=SMALL - 1
+        )
 
 
 def _told(did: Did) -> str:
@@ -128,7 +139,11 @@ def _summary(section: Section) -> str:
 def _legend(strips: Sequence[Strip]) -> list[Patch | Line2D]:
     is_replayed = any(strip.replay is not None for strip in strips)
     return [
-        Patch(facecolor=colour_of(0), alpha=0.55, label="a slot: instructions retired in it" if is_replayed else "a slot"),
+        Patch(
+            facecolor=colour_of(0),
+            alpha=0.55,
+            label="a slot: instructions retired in it" if is_replayed else "a slot",
+        ),
         Patch(facecolor=_IDLE, edgecolor=colour_of(0), label="the domain had ended"),
         Line2D([], [], color="black", marker="|", linestyle="none", label="it read its clock"),
         Patch(facecolor=_PAD, label="pad"),

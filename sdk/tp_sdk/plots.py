@@ -18,7 +18,7 @@ try:
     matplotlib.rcParams["svg.fonttype"] = "none"
     matplotlib.rcParams["font.sans-serif"] = ["DejaVu Sans"]
     matplotlib.rcParams["font.size"] = 9
-    from matplotlib import pyplot
+    from matplotlib import pyplot as pyplot
     from matplotlib.ticker import LogLocator, NullFormatter, StrMethodFormatter
 except ImportError:
     raise MissingLibrary("matplotlib", "matplotlib") from None

@@ -53,9 +53,7 @@ def main(words: list[str]) -> int:
     names = domain_names(image)
     if asked.domain not in names:
         raise Fault(f"{asked.image}: there is no domain '{asked.domain}': {', '.join(names)}")
-    counted = count_events(
-        Program.find(), image, str(asked.image), names.index(asked.domain), asked.slots
-    )
+    counted = count_events(Program.find(), image, str(asked.image), names.index(asked.domain), asked.slots)
     print(json.dumps([vars(it) for it in counted]) if asked.json else _table(counted))
     return 0
 
@@ -65,6 +63,11 @@ def _table(counted: Sequence[Counted]) -> str:
     lines = [heads]
     for it in counted:
         told = None if it.events is None else [it.cycles, *(it.events[cost] for cost in COUNTED)]
-        lines.append([str(it.slot), *("?" if told is None else f"{told[column]:,}" for column in range(len(heads) - 1))])
+        lines.append(
+            [
+                str(it.slot),
+                *("?" if told is None else f"{told[column]:,}" for column in range(len(heads) - 1)),
+            ]
+        )
     widths = [max(len(line[column]) for line in lines) for column in range(len(heads))]
     return "\n".join("  ".join(word.rjust(width) for word, width in zip(line, widths)) for line in lines)

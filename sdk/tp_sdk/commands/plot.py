@@ -124,7 +124,9 @@ def _timeline(asked: Namespace) -> None:
     except Missing as missing:
         print(f"tp-plot: totals alone: {missing}", file=sys.stderr)
         program = None
-    strips = [Strip(file.name, report, _replay(program, image, report, asked.slots)) for file, report in reports]
+    strips = [
+        Strip(file.name, report, _replay(program, image, report, asked.slots)) for file, report in reports
+    ]
     draw_timeline(asked.out, image.names, image.entries, strips, asked.slots)
 
 
@@ -155,9 +157,7 @@ def _readings(asked: Namespace) -> None:
     draw(asked.out, panels)
 
 
-def _panel(
-    domain: str, reports: Sequence[tuple[Path, Report]], how: str, image: _Scheduled | None
-) -> Panel:
+def _panel(domain: str, reports: Sequence[tuple[Path, Report]], how: str, image: _Scheduled | None) -> Panel:
     sections, series = [], []
     for file, report in reports:
         try:
