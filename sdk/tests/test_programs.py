@@ -13,7 +13,7 @@ from tp_sdk.report import Report, parse_report
 
 REPORTS = Path(__file__).parent / "reports"
 # What an image is run for, by its name.
-SLOTS = {"hello": 1, "spy": 24, "driver": 6, "all": 44}
+SLOTS = {"hello": 1, "spy": 24, "victim": 24, "driver": 6, "all": 44}
 KEYS = (0, 1, 2, 3, 4, 5, 6, 7)
 
 

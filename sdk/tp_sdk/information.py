@@ -5,6 +5,7 @@ from __future__ import annotations
 from collections import Counter
 from collections.abc import Hashable, Sequence
 from dataclasses import dataclass
+from itertools import zip_longest
 from math import log2
 
 
@@ -33,10 +34,10 @@ def entropy(values: Sequence[Hashable]) -> float:
 
 
 def measure(sections: Sequence[str], readings: Sequence[Sequence[int]]) -> Measured:
-    """The information of whole sections, and of the one reading that tells most."""
-    shortest = min((len(it) for it in readings), default=0)
-    each = [entropy([it[place] for it in readings]) for place in range(shortest)]
-    best = max(range(shortest), key=lambda place: each[place]) if any(each) else None
+    """The information of whole sections, and of the one reading that tells most. That one is not
+    there tells, too."""
+    each = [entropy(place) for place in zip_longest(*readings)]
+    best = max(range(len(each)), key=lambda place: each[place]) if any(each) else None
     return Measured(
         len(sections),
         len(set(sections)),

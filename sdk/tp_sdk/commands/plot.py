@@ -2,16 +2,26 @@
 
 from __future__ import annotations
 
+import sys
 import tomllib
 from argparse import ArgumentParser, Namespace, RawDescriptionHelpFormatter
 from collections.abc import Sequence
+from dataclasses import dataclass
 from pathlib import Path
 
-from tp_sdk.faults import EXIT_CODES, Fault, read_text
+from tp_sdk.faults import EXIT_CODES, Fault, Missing, read_text
 from tp_sdk.information import Measured, measure
-from tp_sdk.plots import Panel, Series, draw_histogram, draw_matrix, draw_timeline, picture_file
+from tp_sdk.measurements import MEASURES, by_pads, by_schedule, measurements_of, rows_of
+from tp_sdk.memory import memory_of
+from tp_sdk.plot_memory import draw_memory
+from tp_sdk.plot_readings import Panel, draw_histogram, draw_matrix
+from tp_sdk.plot_timeline import Strip, draw_timeline
+from tp_sdk.plots import picture_file
+from tp_sdk.program import Program
+from tp_sdk.refusals import Image
+from tp_sdk.replay import Replay, replay
 from tp_sdk.report import Report, parse_report
-from tp_sdk.schedule import domain_names, entries_of
+from tp_sdk.schedule import Entry, domain_names, entries_of
 from tp_sdk.toml_places import read_with_places
 
 _HELP = """Draws reports of `tp run`, as NAME.svg or NAME.png:
@@ -19,13 +29,9 @@ _HELP = """Draws reports of `tp run`, as NAME.svg or NAME.png:
   tp-plot timeline mine.toml mine.report -o mine.svg
       the slots, the pads, and the most that each entry's switches used of theirs
   tp-plot readings FOLDER --domain spy -o spy.svg
-      what one domain measured in each FOLDER/*.report: a spy beside many neighbours, say"""
-
-_MEASURES = {
-    "pairs": "each second reading less the one before it: a clock before and after",
-    "steps": "each reading less the one before it",
-    "values": "the readings themselves",
-}
+      what one domain measured in each FOLDER/*.report: a spy beside many neighbours, say
+  tp-plot memory mine.toml -o mine.svg
+      whose each frame and each set of the second level is, and what is shared"""
 
 
 def main(words: list[str]) -> int:
@@ -33,7 +39,7 @@ def main(words: list[str]) -> int:
     parser = ArgumentParser(
         "tp-plot", description=_HELP, epilog=EXIT_CODES, formatter_class=RawDescriptionHelpFormatter
     )
-    commands = parser.add_subparsers(required=True, metavar="timeline|readings")
+    commands = parser.add_subparsers(required=True, metavar="timeline|readings|memory")
     timeline = commands.add_parser("timeline", help="slots, pads and switches")
     timeline.add_argument("image", type=Path)
     timeline.add_argument("reports", type=Path, nargs="+", metavar="report")
@@ -49,12 +55,20 @@ def main(words: list[str]) -> int:
     readings.add_argument("--as", dest="form", choices=("matrix", "histogram"), default="matrix")
     readings.add_argument(
         "--measure",
-        choices=_MEASURES,
+        choices=MEASURES,
         default="pairs",
-        help="; ".join(f"{name}: {what}" for name, what in _MEASURES.items()),
+        help="; ".join(f"{name}: {what}" for name, what in MEASURES.items()),
+    )
+    readings.add_argument(
+        "--image",
+        type=Path,
+        help="an image with the reports' schedule: it tells exactly within which measurements a slot ended",
     )
     readings.set_defaults(draw=_readings)
-    for command in (timeline, readings):
+    memory = commands.add_parser("memory", help="whose colours, frames, pages and sets are whose")
+    memory.add_argument("image", type=Path)
+    memory.set_defaults(draw=_memory)
+    for command in (timeline, readings, memory):
         command.add_argument(
             "-o", dest="out", type=Path, required=True, metavar="PICTURE", help="NAME.svg or NAME.png"
         )
@@ -76,19 +90,53 @@ def _read(file: Path) -> Report:
     return parse_report(read_text(file), str(file))
 
 
-def _timeline(asked: Namespace) -> None:
-    try:
-        image, _ = read_with_places(read_text(asked.image))
-    except tomllib.TOMLDecodeError as error:
-        raise Fault(f"{asked.image}: no TOML: {error}") from None
-    entries = entries_of(image, str(asked.image))
-    reports = [(file.name, _read(file)) for file in asked.reports]
-    names = domain_names(image)
-    for file, report in reports:
+@dataclass(frozen=True)
+class _Scheduled:
+    """An image, the names of its domains, and its schedule."""
+
+    file: Path
+    image: Image
+    names: list[str]
+    entries: list[Entry]
+
+    def refuse_others(self, file: Path, report: Report) -> None:
+        """Refuses the report of another image, as far as its lines tell."""
         pads = [switch.pad for switch in report.switches]
-        if pads != [entry.pad for entry in entries] or [it.name for it in report.sections] != names:
-            raise Fault(f"{file}: a report of another image than {asked.image}")
-    draw_timeline(asked.out, names, entries, reports, asked.slots)
+        if pads != [entry.pad for entry in self.entries] or [it.name for it in report.sections] != self.names:
+            raise Fault(f"{file}: a report of another image than {self.file}")
+
+
+def _read_image(file: Path) -> _Scheduled:
+    try:
+        image, _ = read_with_places(read_text(file))
+    except tomllib.TOMLDecodeError as error:
+        raise Fault(f"{file}: no TOML: {error}") from None
+    return _Scheduled(file, image, domain_names(image), entries_of(image, str(file)))
+
+
+def _timeline(asked: Namespace) -> None:
+    image = _read_image(asked.image)
+    reports = [(file, _read(file)) for file in asked.reports]
+    for file, report in reports:
+        image.refuse_others(file, report)
+    try:
+        program = Program.find()
+    except Missing as missing:
+        print(f"tp-plot: totals alone: {missing}", file=sys.stderr)
+        program = None
+    strips = [
+        Strip(file.name, report, _replay(program, image, report, asked.slots)) for file, report in reports
+    ]
+    draw_timeline(asked.out, image.names, image.entries, strips, asked.slots)
+
+
+def _replay(program: Program | None, image: _Scheduled, report: Report, slots: int) -> Replay | None:
+    return None if program is None else replay(program, image.image, str(image.file), report, slots)
+
+
+def _memory(asked: Namespace) -> None:
+    image = _read_image(asked.image)
+    draw_memory(asked.out, image.names, memory_of(image.image, str(asked.image)))
 
 
 def _readings(asked: Namespace) -> None:
@@ -98,37 +146,32 @@ def _readings(asked: Namespace) -> None:
     if len(files) < 2:
         raise Fault(f"{asked.folder}: two reports NAME.report or more are wanted, and {len(files)} are there")
     reports = [(file, _read(file)) for file in files]
-    panels = [_panel(domain, reports, asked.measure) for domain in asked.domain]
+    image = None if asked.image is None else _read_image(asked.image)
+    if image is not None:
+        for file, report in reports:
+            image.refuse_others(file, report)
+    panels = [_panel(domain, reports, asked.measure, image) for domain in asked.domain]
     for panel in panels:
         print(panel.verdict)
     draw = draw_matrix if asked.form == "matrix" else draw_histogram
     draw(asked.out, panels)
 
 
-def _panel(domain: str, reports: Sequence[tuple[Path, Report]], how: str) -> Panel:
-    sections = []
+def _panel(domain: str, reports: Sequence[tuple[Path, Report]], how: str, image: _Scheduled | None) -> Panel:
+    sections, series = [], []
     for file, report in reports:
         try:
-            sections.append(report.section(domain))
+            section = report.section(domain)
         except Fault as fault:
             raise Fault(f"{file}: {fault}") from None
-    series = [
-        Series(file.stem, measurements(section.readings, how))
-        for (file, _), section in zip(reports, sections)
-    ]
-    for (file, _), it in zip(reports, series):
-        if not it.values:
-            raise Fault(f"{file}: {domain} has no readings of which '{how}' could be shown")
-    measured = measure([section.text for section in sections], [it.values for it in series])
-    return Panel(domain, series, verdict(domain, measured))
-
-
-def measurements(readings: Sequence[int], how: str) -> list[int]:
-    """The measurements that a domain's readings make."""
-    if how == "values":
-        return list(readings)
-    step = 2 if how == "pairs" else 1
-    return [after - before for before, after in zip(readings[::step], readings[1::step])]
+        if image is None:
+            slot_ended = by_pads(switch.pad for switch in report.switches)
+        else:
+            slot_ended = by_schedule(image.entries, report.slots)
+        sections.append(section.text)
+        series.append((file.stem, measurements_of(section, how, slot_ended)))
+    measured = measure(sections, [it.cycles for _, it in series])
+    return Panel(domain, rows_of(series), verdict(domain, measured))
 
 
 def verdict(domain: str, measured: Measured) -> str:

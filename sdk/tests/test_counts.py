@@ -1,0 +1,140 @@
+"""Counts of what costs cycles."""
+
+from __future__ import annotations
+
+import json
+import tomllib
+from pathlib import Path
+from typing import Any
+
+import pytest
+from conftest import REPOSITORY, run_tool
+
+from tp_sdk.counts import COUNTED, Counted, count_events
+from tp_sdk.faults import Fault
+from tp_sdk.program import Program
+from tp_sdk.refusals import Image
+from tp_sdk.replay import number
+from tp_sdk.report import parse_report
+
+EXAMPLES = REPOSITORY / "examples"
+# The lines of its clone that a call touches: text, stack, data, shared.
+LINES_OF_A_CALL = 4 + 2 + 2 + 1
+# Adds up to 200, a word loaded and another stored each time, and exits.
+LOOP = """
+    .globl _start
+_start:
+    li x5, 0
+    li x6, 200
+    lui x7, 0x11
+1:  lw x8, 0(x7)
+    sw x8, 64(x7)
+    addi x5, x5, 1
+    bne x5, x6, 1b
+    li x17, 0
+    ecall
+    .data
+    .zero 128
+"""
+LOOP_DESCRIPTION = """
+machine = "machine.toml"
+domain = [{ name = "loop", program = "loop.s", colours = [1] }]
+schedule = [{ domain = "loop", length = 3000 }]
+"""
+
+
+def example(name: str) -> Image:
+    """An image of the examples."""
+    return tomllib.loads((EXAMPLES / f"{name}.toml").read_text())
+
+
+@pytest.fixture(scope="module")
+def loop(program: Program, built: Path) -> Image:
+    """The image of the loop."""
+    (built / "loop.s").write_text(LOOP)
+    (built / "loop.toml").write_text(LOOP_DESCRIPTION)
+    made = run_tool("tp-image", built / "loop.toml")
+    assert (made.returncode, made.stderr) == (0, "")
+    return tomllib.loads(made.stdout)
+
+
+def events(*counts: int) -> dict[str, int]:
+    """Events in the order of their costs."""
+    return dict(zip(COUNTED, counts))
+
+
+def test_a_loop_counted_by_hand(program: Program, loop: Image) -> None:
+    # The first slot: three instructions and 170 rounds of four, then a load and a store, and an ADDI
+    # that is the slot's last. So 342 loads and stores. Lines: one of text, two of data. Pages: two, walked
+    # by two reads each; both entries of the second table are in one line. The branch is guessed
+    # wrongly once.
+    first = events(685, 685 + 342, 3 + 4, 3 + 2, 0, 685 + 342, 1, 0)
+    # The second: what is left but the EXIT, with a fresh predictor, which is wrong at the first branch
+    # and at the last.
+    told = count_events(program, loop, "loop", 0, 4)
+    assert told[0] == Counted(0, first, 2998)
+    assert told[1].events is not None and told[1].events["base"] + 685 + 1 == 3 + 4 * 200 + 1
+    assert told[1].events["mispredict"] == 2
+    assert [it.events for it in told[2:]] == [events(*[0] * len(COUNTED))] * 2
+
+
+def test_counts_do_not_depend_on_the_costs(program: Program, loop: Image) -> None:
+    plain = count_events(program, loop, "loop", 0, 1)[0].events
+    # (a slot of 3,000 cycles would have fewer rounds of a dearer machine)
+    for costs, length in (
+        ({"mem": 1000}, 2998 + 1 + 5 * 960),
+        ({"l2": 9, "mispredict": 7}, 2998 + 1 + 7 + 4),
+    ):
+        dearer = loop | {"costs": loop["costs"] | costs}
+        dearer["schedule"] = [{"domain": 0, "length": length, "pad": 1_000_000}]
+        assert count_events(program, dearer, "loop", 0, 1)[0].events == plain
+
+
+@pytest.mark.parametrize(("name", "domain"), (("calls", 1), ("two-domains", 0), ("spy-loud", 0)))
+def test_counts_are_those_of_the_report(program: Program, name: str, domain: int) -> None:
+    image = example(name)
+    for slots in (2, 6):
+        counted = count_events(program, image, name, domain, slots)
+        alone = program.run(["run", "--slots", str(slots)], (EXAMPLES / f"{name}.toml").read_text())
+        section = parse_report(alone.text, name).sections[domain]
+        done = number(section, "retired") + number(section, "replies") + section.status.startswith("exited")
+        ran = [it.events for it in counted if it.events and it.events["base"]]
+        # (of each slot but its last instruction or call)
+        assert sum(it["base"] for it in ran) == done - len(ran)
+        for it in ran:
+            accesses = it["tlb"] - it["base"]
+            assert it["l1"] >= it["base"] + accesses + LINES_OF_A_CALL * it["trap"]
+
+
+def test_what_depends_on_the_time_is_refused(program: Program) -> None:
+    for name, fault in (
+        ("clock", "clock: what domain 0 does in slot 0 depends on the time"),
+        ("interrupts", "interrupts: interrupts come to domain 0 by the clock"),
+    ):
+        with pytest.raises(Fault, match=fault):
+            count_events(program, example(name), name, 0, 4)
+
+
+def test_the_command(program: Program) -> None:
+    image = EXAMPLES / "two-domains.toml"
+    told = run_tool("tp-counts", image, "--domain", "red", "--slots", "3")
+    assert (told.returncode, told.stderr) == (0, "")
+    head, first, later = told.stdout.splitlines()
+    assert head.split()[:3] == ["slot", "cycles", "instructions"] and head.endswith("calls")
+    assert first.split()[0] == "0" and first.split()[-1] == "1" and set(later.split()[1:]) == {"0"}
+    asked = run_tool("tp-counts", image, "--domain", "red", "--slots", "3", "--json")
+    slots: list[dict[str, Any]] = json.loads(asked.stdout)
+    assert [slot["slot"] for slot in slots] == [0, 2] and slots[0]["events"]["base"] == 4
+
+
+def test_words_and_images_that_are_none(tmp_path: Path, monkeypatch: pytest.MonkeyPatch) -> None:
+    monkeypatch.setenv("TP", str(tmp_path / "none"))
+    for words, code, fault in (
+        ((EXAMPLES / "two-domains.toml", "--domain", "x"), 1, "there is no domain 'x': red, blue"),
+        ((EXAMPLES / "refused-k1.toml", "--domain", "x"), 1, "refused-k1.toml: no TOML"),
+        ((EXAMPLES / "refused-k2.toml", "--domain", "red"), 3, "there is no program at TP="),
+        ((EXAMPLES / "two-domains.toml", "--domain", "red"), 3, "there is no program at TP="),
+        ((EXAMPLES / "two-domains.toml",), 2, "--domain"),
+    ):
+        ended = run_tool("tp-counts", *words)
+        assert ended.returncode == code and fault in ended.stderr

@@ -1,0 +1,92 @@
+"""What running an image again tells of its report: slots, switches, ends."""
+
+from __future__ import annotations
+
+import tomllib
+from pathlib import Path
+
+import pytest
+from conftest import REPOSITORY, run_tool
+
+from tp_sdk.program import Program
+from tp_sdk.refusals import Image
+from tp_sdk.replay import Replay, has_ended, number, replay
+from tp_sdk.report import Report, parse_report
+from tp_sdk.schedule import Slot, entries_of, slots_of
+
+EXAMPLES = REPOSITORY / "examples"
+NAMES = ("calls", "clock", "interrupts", "spy-loud", "stops", "two-domains")
+
+
+def run(program: Program, name: str, slots: int) -> tuple[Image, Report]:
+    """An example, and its report."""
+    text = (EXAMPLES / f"{name}.toml").read_text()
+    return tomllib.loads(text), parse_report(program.run(["run", "--slots", str(slots)], text).text, name)
+
+
+def replayed(program: Program, name: str, slots: int) -> tuple[Report, list[Slot], Replay]:
+    """An example's report, its slots, and what running it again tells."""
+    image, report = run(program, name, slots)
+    told = replay(program, image, name, report, slots)
+    assert told is not None and len(told.slots) == slots
+    return report, list(slots_of(entries_of(image, name), slots)), told
+
+
+@pytest.mark.parametrize("name", NAMES)
+def test_what_slots_did_is_what_the_report_says(program: Program, name: str) -> None:
+    report, slots, told = replayed(program, name, 6)
+    for section in report.sections:
+        own = [did for did, slot in zip(told.slots, slots) if slot.domain == section.number]
+        assert sum(did.retired for did in own) == number(section, "retired")
+        assert sum(did.calls for did in own) == number(section, "replies")
+        assert all(did.status == section.status for did in own[-1:])
+        assert all(did.retired == did.calls == 0 for did in own if did.had_ended)
+
+
+@pytest.mark.parametrize("name", NAMES)
+def test_the_most_that_switches_used_is_what_the_report_says(program: Program, name: str) -> None:
+    report, slots, told = replayed(program, name, 6)
+    used: list[list[int]] = [[] for _ in report.switches]
+    used[-1].append(told.boot)
+    for slot, cycles in zip(slots, told.used):
+        used[slot.entry].append(cycles)
+    assert [(max(it, default=0), len(it)) for it in used] == [(it.used, it.count) for it in report.switches]
+
+
+@pytest.mark.parametrize("name", NAMES)
+def test_a_domain_ended_after_all_that_it_read(program: Program, name: str) -> None:
+    report, slots, told = replayed(program, name, 6)
+    for slot, did in zip(slots, told.slots):
+        if did.ended_at is not None:
+            section = report.sections[slot.domain]
+            read = [it - slot.start for it in section.readings if slot.start <= it < slot.end]
+            assert has_ended(section) and 1000 < did.ended_at <= slot.end - slot.start
+            assert all(clock < did.ended_at for clock in read)
+
+
+def test_a_report_of_another_image(program: Program) -> None:
+    image, _ = run(program, "spy-loud", 4)
+    _, other = run(program, "spy-quiet", 4)
+    assert replay(program, image, "loud", other, 4) is None
+
+
+def test_more_slots_than_a_schedule_can_be_written_out_for(program: Program) -> None:
+    image, report = run(program, "two-domains", 100)
+    told = replay(program, image, "two", report, 100)
+    assert told is not None and len(told.slots) == 64 and len(told.used) == 63
+    image, report = run(program, "two-domains", 0)
+    assert replay(program, image, "two", report, 4) is None
+
+
+def test_a_timeline_tells_what_each_slot_did(program: Program, tmp_path: Path) -> None:
+    pytest.importorskip("matplotlib")
+    report = tmp_path / "two.report"
+    text = (EXAMPLES / "two-domains.toml").read_text()
+    report.write_text(program.run(["run", "--slots", "4"], text).text)
+    words = ("timeline", EXAMPLES / "two-domains.toml", report, "-o", tmp_path / "two.svg")
+    ended = run_tool("tp-plot", *words)
+    assert (ended.returncode, ended.stdout, ended.stderr) == (0, "", "")
+    picture = (tmp_path / "two.svg").read_text()
+    assert picture.count("exited 0 within 1,000") == 2
+    for used in ("755", "820", "580", "292"):
+        assert f"> {used}<" in picture

@@ -1,0 +1,73 @@
+"""tp-counts: what happened in a domain's slots, by the events that cost cycles."""
+
+from __future__ import annotations
+
+import json
+import tomllib
+from argparse import ArgumentParser, RawDescriptionHelpFormatter
+from collections.abc import Sequence
+from pathlib import Path
+
+from tp_sdk.counts import COUNTED, Counted, count_events
+from tp_sdk.faults import EXIT_CODES, Fault, read_text
+from tp_sdk.program import Program
+from tp_sdk.schedule import domain_names, entries_of
+
+_HELP = """Counts the events of a domain's slots, by their costs:
+
+  tp-counts mine.toml --domain victim --slots 4
+
+The program is run many times, with each cost one cycle more: so it must be there, and what
+the domain does must not depend on its clock, nor may it have interrupts: it is checked that it
+comes to the same state, and that the counts make up the cycles. A slot's
+last instruction or call is not counted: its time may be the pad's. '?' is a slot that is too
+short to tell."""
+
+_WHAT = {
+    "base": "instructions",
+    "l1": "first level",
+    "l2": "second level",
+    "mem": "memory",
+    "wb": "write-backs",
+    "tlb": "translations",
+    "mispredict": "wrong guesses",
+    "trap": "calls",
+}
+
+
+def main(words: list[str]) -> int:
+    """Writes the counts."""
+    parser = ArgumentParser(
+        "tp-counts", description=_HELP, epilog=EXIT_CODES, formatter_class=RawDescriptionHelpFormatter
+    )
+    parser.add_argument("image", type=Path, help="the image")
+    parser.add_argument("--domain", required=True, help="its name")
+    parser.add_argument("--slots", type=int, default=4, help="of the first so many slots (%(default)s)")
+    parser.add_argument("--json", action="store_true", help="writes an array with an object for each slot")
+    asked = parser.parse_args(words)
+    try:
+        image = tomllib.loads(read_text(asked.image))
+    except tomllib.TOMLDecodeError as error:
+        raise Fault(f"{asked.image}: no TOML: {error}") from None
+    entries_of(image, str(asked.image))
+    names = domain_names(image)
+    if asked.domain not in names:
+        raise Fault(f"{asked.image}: there is no domain '{asked.domain}': {', '.join(names)}")
+    counted = count_events(Program.find(), image, str(asked.image), names.index(asked.domain), asked.slots)
+    print(json.dumps([vars(it) for it in counted]) if asked.json else _table(counted))
+    return 0
+
+
+def _table(counted: Sequence[Counted]) -> str:
+    heads = ["slot", "cycles", *(_WHAT[cost] for cost in COUNTED)]
+    lines = [heads]
+    for it in counted:
+        told = None if it.events is None else [it.cycles, *(it.events[cost] for cost in COUNTED)]
+        lines.append(
+            [
+                str(it.slot),
+                *("?" if told is None else f"{told[column]:,}" for column in range(len(heads) - 1)),
+            ]
+        )
+    widths = [max(len(line[column]) for line in lines) for column in range(len(heads))]
+    return "\n".join("  ".join(word.rjust(width) for word, width in zip(line, widths)) for line in lines)

@@ -1,0 +1,249 @@
+"""Pictures of what domains measured in many reports."""
+
+from __future__ import annotations
+
+from collections.abc import Sequence
+from dataclasses import dataclass
+from math import log, log10
+from pathlib import Path
+from typing import TYPE_CHECKING, Any
+
+from tp_sdk.measurements import Measurements, Row
+from tp_sdk.plots import PLAIN, SMALL, colour_of, is_wide, pyplot, save, tell_cycles
+
+# (after that one, which tells where the library is missing)
+import numpy
+from matplotlib.colors import LinearSegmentedColormap, ListedColormap, LogNorm, Normalize
+from matplotlib.patches import Patch
+from matplotlib.ticker import FuncFormatter, MaxNLocator
+
+if TYPE_CHECKING:
+    from matplotlib.axes import Axes
+    from matplotlib.figure import SubFigure
+
+_OVER_END, _ALONE = "0.72", "0.92"
+_NONE = "no readings to draw"
+_BINS = 120
+
+
+@dataclass(frozen=True)
+class Panel:
+    """What one domain measured in each report, and what that tells in a sentence."""
+
+    domain: str
+    rows: Sequence[Row]
+    verdict: str
+
+    @property
+    def reports(self) -> int:
+        """How many there are."""
+        return sum(len(row.reports) for row in self.rows)
+
+    @property
+    def width(self) -> int:
+        """The most measurements of a report."""
+        return max(len(row.measurements.cycles) for row in self.rows)
+
+    def within_slots(self) -> list[int]:
+        """The cycles of all measurements within which no slot ended."""
+        return [cycles for row in self.rows for cycles in row.measurements.within_slots()]
+
+
+def draw_matrix(file: Path, panels: Sequence[Panel]) -> None:
+    """For each domain two pictures beside each other: a row for each report, a column for each
+    measurement, its cycles as a colour; and what they differ by from the first report that has some."""
+    heights = [1.3 + 0.27 * max(len(panel.rows), 2) for panel in panels]
+    *parts, last = _parts(15, [*heights, 0.3])
+    for part, panel in zip(parts, panels):
+        part.suptitle(panel.verdict, x=0.01, ha="left", fontsize=PLAIN)
+        raw, differences = part.subplots(1, 2, sharey=True)
+        _draw_cycles(part, raw, panel)
+        _draw_differences(part, differences, panel)
+    last.legend(
+        handles=[
+            Patch(facecolor=_OVER_END, label="a slot ended within it: left out of the scale"),
+            Patch(facecolor="white", edgecolor="0.6", label="left: no measurement; right: no difference"),
+            Patch(facecolor=_ALONE, label="right: one of the two has none, or a slot ended within one alone"),
+        ],
+        loc="center left",
+        ncols=3,
+        fontsize=SMALL,
+        frameon=False,
+    )
+    save(last.figure, file)
+
+
+def _draw_cycles(figure: SubFigure, axes: Axes, panel: Panel) -> None:
+    cells = _blank(panel)
+    is_over = _blank(panel)
+    for number, row in enumerate(panel.rows):
+        for place, (cycles, over) in enumerate(zip(row.measurements.cycles, row.measurements.is_over_end)):
+            if over:
+                is_over[number, place] = 1
+            else:
+                cells[number, place] = cycles
+    within = panel.within_slots()
+    shown = _show(axes, cells, cmap="viridis", norm=LogNorm() if within and is_wide(within) else None)
+    _show(axes, is_over, cmap=ListedColormap([_OVER_END]))
+    if within:
+        bar = figure.colorbar(shown, ax=axes, pad=0.02, aspect=12)
+        bar.ax.tick_params(labelsize=SMALL)
+        if is_wide(within):
+            tell_cycles(bar.ax.yaxis)
+        else:
+            bar.locator = MaxNLocator(integer=True, nbins=5)
+            bar.update_ticks()
+    axes.set_yticks(range(len(panel.rows)), [_name(row) for row in panel.rows], fontsize=SMALL)
+    for number, row in enumerate(panel.rows):
+        if not row.measurements.cycles:
+            _say(axes, number, _NONE)
+    axes.set_xlabel(f"{panel.domain}: cycles of each measurement{_left_out(panel)}")
+
+
+def _draw_differences(figure: SubFigure, axes: Axes, panel: Panel) -> None:
+    compared = next((row for row in panel.rows if row.measurements.cycles), panel.rows[0])
+    first = compared.measurements
+    cells, alone = _blank(panel), _blank(panel)
+    most = 1.0
+    for number, row in enumerate(panel.rows):
+        for place in range(max(len(row.measurements.cycles), len(first.cycles))):
+            difference = _difference(row.measurements, first, place)
+            if difference is None:
+                alone[number, place] = 1
+                continue
+            cells[number, place] = far(difference)
+            if not first.is_over_end[place]:
+                most = max(most, abs(far(difference)))
+    shown = _show(axes, cells, cmap=difference_colours(most), norm=Normalize(-most, most))
+    _show(axes, alone, cmap=ListedColormap([_ALONE]))
+    if len(panel.rows) == 1:
+        _say(axes, 0, f"one row for all {panel.reports} reports: every difference is 0")
+    else:
+        powers = range(1, int(most) + 1)
+        ticks = [*(-power for power in reversed(powers)), 0, *powers]
+        bar = figure.colorbar(shown, ax=axes, pad=0.02, aspect=12, ticks=ticks)
+        bar.ax.yaxis.set_major_formatter(FuncFormatter(lambda place, _: near(place)))
+        bar.ax.tick_params(labelsize=SMALL)
+    axes.tick_params(labelleft=False)
+    axes.set_xlabel(f"{panel.domain}: cycles more than in {compared.reports[0]}")
+
+
+def _difference(own: Measurements, first: Measurements, place: int) -> int | None:
+    """How many cycles more than the one compared with, where both have the measurement, and both or
+    none with a slot's end in it."""
+    if place >= min(len(own.cycles), len(first.cycles)):
+        return None
+    if own.is_over_end[place] != first.is_over_end[place]:
+        return None
+    return own.cycles[place] - first.cycles[place]
+
+
+def difference_colours(most: float) -> LinearSegmentedColormap:
+    """White for no difference alone: the next one, of one cycle, has a colour that is seen."""
+    white = 0.25 / most
+    return LinearSegmentedColormap.from_list(
+        "differences",
+        [
+            (0, "#08306b"),
+            (0.5 - white, "#7db8da"),
+            (0.5 - white, "white"),
+            (0.5 + white, "white"),
+            (0.5 + white, "#f6a178"),
+            (1, "#7f0000"),
+        ],
+        N=1024,
+    )
+
+
+def far(difference: int) -> float:
+    """Where a difference stands on the scale: 0, 1 cycle, 10 and 100 are equally far apart."""
+    if difference == 0:
+        return 0.0
+    return (1 + log10(abs(difference))) * (1 if difference > 0 else -1)
+
+
+def near(place: float) -> str:
+    """What is told of a place on that scale."""
+    return "0" if place == 0 else f"{'+' if place > 0 else '−'}{10 ** (abs(place) - 1):,.0f}"
+
+
+def _blank(panel: Panel) -> Any:
+    """Cells of which none is drawn."""
+    return numpy.full((len(panel.rows), max(panel.width, 1)), numpy.nan)
+
+
+def _show(axes: Axes, cells: Any, **how: Any) -> Any:
+    return axes.imshow(cells, aspect="auto", interpolation="nearest", **how)
+
+
+def _say(axes: Axes, row: int, what: str) -> None:
+    axes.text(0.5, row, what, transform=axes.get_yaxis_transform(), ha="center", va="center", fontsize=PLAIN)
+
+
+def _name(row: Row) -> str:
+    others = len(row.reports) - 1
+    return row.reports[0] if not others else f"{row.reports[0]} and {others} more"
+
+
+def _left_out(panel: Panel) -> str:
+    """What the reports don't list."""
+    unlisted = max(row.measurements.made - len(row.measurements.cycles) for row in panel.rows)
+    return f" (reports list the first 256 readings: up to {unlisted} more were made)" if unlisted else ""
+
+
+def draw_histogram(file: Path, panels: Sequence[Panel]) -> None:
+    """How often so many cycles were measured, a strip for each report."""
+    heights = [1.1 + 0.45 * len(panel.rows) for panel in panels]
+    parts = _parts(11, heights)
+    for part, panel in zip(parts, panels):
+        part.suptitle(panel.verdict, x=0.01, ha="left", fontsize=PLAIN)
+        _draw_counts(part.subplots(), panel)
+    save(parts[0].figure, file)
+
+
+def _parts(width: float, heights: Sequence[float]) -> list[SubFigure]:
+    """A picture's parts, one below the other."""
+    figure = pyplot.figure(figsize=(width, sum(heights)), layout="constrained")
+    return list(figure.subfigures(len(heights), 1, height_ratios=heights, squeeze=False)[:, 0])
+
+
+def _draw_counts(axes: Axes, panel: Panel) -> None:
+    """Each strip has a base line of its own, and a count has the same height in all: that of a count
+    is logarithmic, so that what was measured once is seen."""
+    bins = _bins(panel.within_slots())
+    counts = [numpy.histogram(row.measurements.within_slots(), bins)[0] for row in panel.rows]
+    most = max(max(of) for of in counts) or 1
+    places = range(len(panel.rows) - 1, -1, -1)
+    for number, (place, of) in enumerate(zip(places, counts)):
+        heights = 0.9 * numpy.log1p(of) / log(1 + most)
+        axes.stairs(place + heights, bins, baseline=place, fill=True, color=colour_of(number))
+    axes.set_yticks(
+        places, [f"{_name(row)}: {_counted(row)}" for row in panel.rows], fontsize=SMALL, va="bottom"
+    )
+    axes.set_ylim(-0.05, len(panel.rows))
+    if is_wide(bins):
+        axes.set_xscale("log")
+        tell_cycles(axes.xaxis)
+    else:
+        axes.xaxis.set_major_locator(MaxNLocator(integer=True))
+    axes.set_xlabel(f"cycles measured by {panel.domain} (height: how often, logarithmic, {most} at most)")
+
+
+def _counted(row: Row) -> str:
+    """How many are drawn, and how many not."""
+    within, over = len(row.measurements.within_slots()), sum(row.measurements.is_over_end)
+    if not within and not over:
+        return _NONE
+    return f"{within}" + (f" ({over} over a slot's end left out)" if over else "")
+
+
+def _bins(values: Sequence[int]) -> list[float]:
+    """Ends of the counts' ranges: of one cycle each where there are few."""
+    if not values:
+        return [0, 1]
+    low, high = min(values), max(values) + 1
+    if high - low <= 2 * _BINS:
+        return [float(it) for it in range(low, high + 1)]
+    if is_wide(values):
+        return [low * (high / low) ** (number / _BINS) for number in range(_BINS + 1)]
+    return [low + (high - low) * number / _BINS for number in range(_BINS + 1)]

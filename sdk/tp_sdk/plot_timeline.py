@@ -1,0 +1,151 @@
+"""Pictures of slots, what domains did in them, pads and switches."""
+
+from __future__ import annotations
+
+from collections.abc import Sequence
+from dataclasses import dataclass
+from pathlib import Path
+from typing import TYPE_CHECKING
+
+from tp_sdk.keys import LENGTH
+from tp_sdk.plots import SMALL, colour_of, pyplot, save
+from tp_sdk.replay import Did, Replay, number
+from tp_sdk.report import Report, Section
+from tp_sdk.schedule import Entry, Slot, slots_of
+
+# (after that one, which tells where the library is missing)
+from matplotlib.lines import Line2D
+from matplotlib.patches import Patch
+
+if TYPE_CHECKING:
+    from matplotlib.axes import Axes
+
+_PAD, _USED, _IDLE = "0.88", "0.35", "0.97"
+
+
+@dataclass(frozen=True)
+class Strip:
+    """A report, and what running its image again told, if it did."""
+
+    title: str
+    report: Report
+    replay: Replay | None
+
+
+def draw_timeline(
+    file: Path, names: Sequence[str], entries: Sequence[Entry], strips: Sequence[Strip], most: int
+) -> None:
+    """The first slots, what was done in them, their pads and what switches used, a strip for each report."""
+    figure, places = pyplot.subplots(
+        len(strips),
+        1,
+        sharex=True,
+        squeeze=False,
+        figsize=(15, 0.9 + len(strips) * (0.7 + 0.5 * len(names))),
+        layout="constrained",
+    )
+    for axes, strip in zip(places[:, 0], strips):
+        _draw_strip(axes, names, list(slots_of(list(entries), min(strip.report.slots, most))), entries, strip)
+    places[-1, 0].set_xlabel("cycles")
+    figure.legend(handles=_legend(strips), loc="upper right", ncols=6, fontsize=SMALL, frameon=False)
+    save(figure, file)
+
+
+def _draw_strip(
+    axes: Axes, names: Sequence[str], slots: Sequence[Slot], entries: Sequence[Entry], strip: Strip
+) -> None:
+    most = [switch.used for switch in strip.report.switches]
+    _draw_pad(axes, names, (0, entries[-1].pad), most[-1] if strip.replay is None else strip.replay.boot)
+    for place, slot in enumerate(slots):
+        replay = strip.replay if strip.replay and place < len(strip.replay.slots) else None
+        _draw_slot(axes, slot, replay.slots[place] if replay else None)
+        # (a run ends with its last slot, whose switch it doesn't have)
+        if place < strip.report.slots - 1:
+            used = replay.used[place] if replay and place < len(replay.used) else most[slot.entry]
+            _draw_pad(axes, names, (slot.end, slot.pad_end), used)
+    for section in strip.report.sections:
+        _draw_readings(axes, section, slots)
+        axes.text(
+            1.005,
+            section.number,
+            _summary(section),
+            transform=axes.get_yaxis_transform(),
+            fontsize=SMALL,
+            va="center",
+        )
+    axes.set_yticks(range(len(names)), names)
+    axes.set_ylim(len(names) - 0.2, -0.6)
+    axes.set_title(strip.title + _untold(strip, len(slots)), loc="left", fontsize=SMALL)
+
+
+def _untold(strip: Strip, slots: int) -> str:
+    """From which slot on a strip has no more than the report itself tells."""
+    told = 0 if strip.replay is None else len(strip.replay.slots)
+    if told == slots:
+        return ""
+    since = f"from slot {told} on " if told else ""
+    return f" ({since}of each switch the most that its entry's used)"
+
+
+def _draw_slot(axes: Axes, slot: Slot, did: Did | None) -> None:
+    """The time in which the domain ran, and what it did; pale, where it had ended."""
+    whole = slot.end - slot.start
+    ran = whole
+    if did is not None and did.had_ended:
+        ran = 0
+    elif did is not None and did.status != "running":
+        ran = did.ended_at or LENGTH.low
+    height = (slot.domain - 0.4, 0.8)
+    axes.broken_barh(
+        [(slot.start, whole)], height, facecolor=_IDLE, edgecolor=colour_of(slot.domain), linewidth=0.6
+    )
+    axes.broken_barh([(slot.start, ran)], height, facecolor=colour_of(slot.domain), alpha=0.55)
+    if did is not None and not did.had_ended:
+        axes.text(
+            slot.start + whole / 2, slot.domain, _told(did), ha="center", va="center", fontsize=SMALL - 1
+        )
+
+
+def _told(did: Did) -> str:
+    words = f"{did.retired:,}"
+    if did.calls:
+        words += f"\n{did.calls} {'call' if did.calls == 1 else 'calls'}"
+    if did.status != "running":
+        words += f"\n{did.status.split(' pc ')[0]}"
+        words += f" within {LENGTH.low:,}" if did.ended_at is None else f" at {did.ended_at:,}"
+    return words
+
+
+def _draw_pad(axes: Axes, names: Sequence[str], pad: tuple[int, int], used: int) -> None:
+    start, end = pad
+    whole = (-0.6, len(names) + 0.4)
+    axes.broken_barh([(start, end - start)], whole, facecolor=_PAD)
+    axes.broken_barh([(start, used)], whole, facecolor=_USED)
+    axes.text(start + used, len(names) - 0.35, f" {used:,}", fontsize=SMALL - 1, va="center")
+
+
+def _draw_readings(axes: Axes, section: Section, slots: Sequence[Slot]) -> None:
+    """The clocks that it read, at their cycles in its own slots."""
+    own = [slot for slot in slots if slot.domain == section.number]
+    clocks = [it for it in section.readings if any(slot.start <= it < slot.end for slot in own)]
+    axes.vlines(clocks, section.number + 0.28, section.number + 0.4, color="black", linewidth=0.5)
+
+
+def _summary(section: Section) -> str:
+    retired, calls = number(section, "retired"), number(section, "replies")
+    return f"{section.status}\n{retired:,} instructions\n{calls} calls, {section.readings_count} readings"
+
+
+def _legend(strips: Sequence[Strip]) -> list[Patch | Line2D]:
+    is_replayed = any(strip.replay is not None for strip in strips)
+    return [
+        Patch(
+            facecolor=colour_of(0),
+            alpha=0.55,
+            label="a slot: instructions retired in it" if is_replayed else "a slot",
+        ),
+        Patch(facecolor=_IDLE, edgecolor=colour_of(0), label="the domain had ended"),
+        Line2D([], [], color="black", marker="|", linestyle="none", label="it read its clock"),
+        Patch(facecolor=_PAD, label="pad"),
+        Patch(facecolor=_USED, label="cycles that the switch used"),
+    ]

@@ -1,0 +1,125 @@
+"""What a report doesn't tell, had from the program by running its image again: what each slot did,
+what each switch used, and when a domain ended.
+
+A run is determined by its image, and what happened before a slot's end doesn't depend on where the
+end is. So runs of fewer slots tell what each slot did; a schedule written out several times runs as
+it does once, and tells each switch by itself; and a slot that is cut short tells whether its domain
+had ended by then."""
+
+from __future__ import annotations
+
+import json
+from collections.abc import Sequence
+from dataclasses import dataclass
+from typing import Any
+
+from tp_sdk.keys import ENTRIES, LENGTH
+from tp_sdk.program import Program
+from tp_sdk.refusals import Image
+from tp_sdk.report import Report, Section, parse_report
+
+
+@dataclass(frozen=True)
+class Did:
+    """What a domain did in one of its slots."""
+
+    retired: int
+    calls: int  # that were answered
+    had_ended: bool  # before the slot
+    status: str  # after it
+    ended_at: int | None  # how many cycles after the slot's start, where it can be told
+
+
+@dataclass(frozen=True)
+class Replay:
+    """What each of the first slots did, what the boot used, and what the switch after each slot did,
+    where there was one: a run ends with its last slot."""
+
+    slots: tuple[Did, ...]
+    boot: int
+    used: tuple[int, ...]
+
+
+def replay(program: Program, image: Image, file: str, report: Report, count: int) -> Replay | None:
+    """The first slots of a report, where it is one of this image; else nothing."""
+    if _sections(_run(program, image, file, report.slots)) != _sections(report):
+        return None
+    written_out = image | {"schedule": image["schedule"] * (ENTRIES.high // len(image["schedule"]))}
+    count = min(count, report.slots, len(written_out["schedule"]))
+    if count == 0:
+        return None
+    # (one slot more has the last one's switch)
+    most = min(count + 1, report.slots, len(written_out["schedule"]))
+    runs = [_run(program, written_out, file, slots) for slots in range(most + 1)]
+    if _sections(runs[-1]) != _sections(_run(program, image, file, most)):
+        return None
+    done = [
+        _did(program, written_out, file, slot, before, after)
+        for slot, (before, after) in enumerate(zip(runs[: count + 1], runs[1 : count + 1]))
+    ]
+    *after, boot = (it.used for it in runs[-1].switches)
+    return Replay(tuple(done), boot, tuple(after[: most - 1]))
+
+
+def _did(program: Program, image: Image, file: str, slot: int, before: Report, after: Report) -> Did:
+    domain = image["schedule"][slot]["domain"]
+    one, two = before.sections[domain], after.sections[domain]
+    ends_here = has_ended(two) and not has_ended(one)
+    return Did(
+        number(two, "retired") - number(one, "retired"),
+        number(two, "replies") - number(one, "replies"),
+        has_ended(one),
+        two.status,
+        _ended_at(program, image, file, slot) if ends_here else None,
+    )
+
+
+def _ended_at(program: Program, image: Image, file: str, slot: int) -> int | None:
+    """How long the slot must be, at least, for its domain to end in it; nothing, where the shortest
+    slot that there may be is enough."""
+    schedule: list[dict[str, Any]] = image["schedule"]
+    domain = schedule[slot]["domain"]
+
+    def is_enough(length: int) -> bool:
+        cut = [*schedule[:slot], schedule[slot] | {"length": length}, *schedule[slot + 1 :]]
+        return has_ended(_run(program, image | {"schedule": cut}, file, slot + 1).sections[domain])
+
+    low, high = LENGTH.low, schedule[slot]["length"]
+    if is_enough(low):
+        return None
+    while high - low > 1:
+        middle = (low + high) // 2
+        low, high = (low, middle) if is_enough(middle) else (middle, high)
+    return int(high)
+
+
+def has_ended(section: Section) -> bool:
+    """It runs no more."""
+    return section.status != "running"
+
+
+def number(section: Section, word: str) -> int:
+    """The number that stands after a word at the head of one of a section's lines."""
+    return next(int(line.split()[1]) for line in section.text.splitlines() if line.startswith(f"{word} "))
+
+
+def _sections(report: Report) -> Sequence[str]:
+    return [section.text for section in report.sections]
+
+
+def _run(program: Program, image: Image, file: str, slots: int) -> Report:
+    ended = program.run(["run", "--slots", str(slots)], image_text(image))
+    return parse_report(ended.text, f"{file}, run for {slots} slots")
+
+
+def image_text(image: Image) -> str:
+    """An image's text."""
+    return "".join(f"{key} = {_toml(value)}\n" for key, value in image.items())
+
+
+def _toml(value: Any) -> str:
+    if isinstance(value, dict):
+        return "{ " + ", ".join(f"{key} = {_toml(item)}" for key, item in value.items()) + " }"
+    if isinstance(value, list):
+        return "[" + ", ".join(_toml(item) for item in value) + "]"
+    return json.dumps(value)
