@@ -112,8 +112,27 @@ def test_an_image_that_is_refused_is_explained(folder: Folder, program: Program)
 
 FAULTS = [
     (Elf([CODE], machine=62), "red.elf: for another machine: e_machine is EM_X86_64, not EM_RISCV"),
-    (Elf([CODE], flags=1), "red.elf: with compressed instructions: compile it with -march=rv32i"),
-    (Elf([CODE], flags=2), "red.elf: for a machine with floating point: compile it with -mabi=ilp32"),
+    (Elf([CODE], flags=1), "red.elf: with compressed instructions: compile it with -march=rv32i -mabi=ilp32"),
+    (
+        Elf([CODE], flags=2),
+        "red.elf: for a machine with floating point: compile it with -march=rv32i -mabi=ilp32",
+    ),
+    # mul x1, x1, x1; lr.w x1, (x1); fadd.s f0, f0, f0
+    (
+        Elf([Load(0x10000, R | X, EXITS + bytes.fromhex("b3801002"))]),
+        "red.elf: 0x10008 is mul, of the extension M, which the machine lacks: "
+        "compile it with -march=rv32i -mabi=ilp32",
+    ),
+    (
+        Elf([Load(0x10000, R | X, EXITS + bytes.fromhex("afa00010"))]),
+        "red.elf: 0x10008 is lr.w, of the extension A, which the machine lacks: "
+        "compile it with -march=rv32i -mabi=ilp32",
+    ),
+    (
+        Elf([Load(0x10000, R | X, EXITS + bytes.fromhex("53700000"))]),
+        "red.elf: 0x10008 is a floating-point operation, of the extension F or D, which the machine lacks: "
+        "compile it with -march=rv32i -mabi=ilp32",
+    ),
     (
         Elf([CODE], kind=DYN),
         "red.elf: of type ET_DYN, not ET_EXEC: link it, and to fixed addresses (-static, not -pie)",
@@ -159,7 +178,7 @@ def test_a_file_that_is_no_program(folder: Folder) -> None:
     folder.write(elf=whole[:32] + b"\xff\xff\0\0" + whole[36:48] + b"\1\0" + whole[50:])
     assert folder.fault().startswith("red.elf: no ELF file")
     (folder.path / "red.elf").unlink()
-    assert folder.fault() == "red.elf: No such file or directory"
+    assert folder.fault() == f"red.toml:4:11: {folder.path}/red.elf: No such file or directory"
 
 
 @pytest.mark.parametrize(
@@ -168,9 +187,10 @@ def test_a_file_that_is_no_program(folder: Folder) -> None:
         ("machine = ", "machine : ", "red.toml: no TOML: "),
         ('machine = "machine.toml"\n', "", "red.toml:1:1: 'machine' is missing: the name of a file with"),
         ('"machine.toml"', '"red.elf"', "red.elf: byte "),
-        ('"machine.toml"', '"none.toml"', "none.toml: No such file or directory"),
+        ('"machine.toml"', '"none.toml"', "red.toml:1:11: PATH/none.toml: No such file or directory"),
         ("colours = [1]", "colours = [1, true]", "red.toml:5:15: 'colours' must be an array of integers"),
-        ("colours = [1]", "colors = [1]", "red.toml:2:1: 'colours' is missing: an array of integers"),
+        ("colours = [1]", "colors = [1]", "red.toml:5:1: there is no key 'colors' here: did you mean 'colours'?"),
+        ("colours = [1]\n", "", "red.toml:2:1: 'colours' is missing: an array of integers"),
         ("colours = [1]", "colours = [1]\nx = 1", "red.toml:6:1: there is no key 'x' here: name, program, "),
         (
             "colours = [1]",
@@ -187,16 +207,22 @@ def test_a_file_that_is_no_program(folder: Folder) -> None:
         ("colours = [1]", f'colours = [1]\ncaps = ["load0+{NINES}"]', "red.toml:2:1: 'load0+999"),
         ("10000", NINES, "red.toml: no TOML: an integer of too many digits"),
         ("[1]", "[" * 5000 + "]" * 5000, "red.toml: no TOML: arrays or tables in one another too deep"),
-        ("red.elf", "\\u0000", "'PATH/\\x00': no file has such a name"),
-        ("red.elf", "none.s", "none.s: No such file or directory"),
+        ("red.elf", "\\u0000", "red.toml:4:11: 'PATH/\\x00': no file has such a name"),
+        ("red.elf", "none.s", "red.toml:4:11: PATH/none.s: No such file or directory"),
         (
             "colours = [1]",
             "colours = [1]\nwords = { k = -1 }",
             "red.toml:6:15: 'k' must be a word, 0 to 0xffffffff",
         ),
+        (
+            "colours = [1]",
+            'colours = [1]\nwords = { k = "@none" }',
+            "red.toml:6:15: 'k': PATH/none: No such file or directory",
+        ),
         ("colours = [1]", "colours = [1]\nwords = { k = 1 }", "red.elf: there is no symbol 'k'"),
-        ('domain = "red"', "domain = 0", "red.toml:7:10: 'domain' must be the name of a domain"),
+        ('domain = "red"', "domain = []", "red.toml:7:10: 'domain' must be the name of a domain, or its place"),
         ('domain = "red"', 'domain = "blue"', "red.toml:6:1: there is no domain 'blue': red"),
+        ('domain = "red"', 'domain = "rd"', "red.toml:6:1: there is no domain 'rd': did you mean 'red'?"),
     ],
 )
 def test_a_description_that_is_at_fault(folder: Folder, old: str, new: str, fault: str) -> None:
@@ -216,10 +242,15 @@ def test_a_machine_that_is_at_fault(folder: Folder) -> None:
 
 def test_a_setting_that_is_at_fault(folder: Folder) -> None:
     for setting, fault in (
-        ("key=1", "DOMAIN.SYMBOL=VALUE is wanted"),
-        (f"red.key={NINES}", "DOMAIN.SYMBOL=VALUE is wanted"),
+        ("key=1", "DOMAIN.SYMBOL[+OFFSET]=VALUE is wanted"),
+        (f"red.key={NINES}", "DOMAIN.SYMBOL[+OFFSET]=VALUE is wanted"),
         ("red.key=010", "there is no symbol 'key'"),
-        ("red.key=0x100000000", "the value is above 0xffffffff"),
+        ("red.key=0x100000000", "the value must be a word, 0 to 0xffffffff, an array of words, a string"),
+        ("red.key=[1, true]", "the value must be a word"),
+        ("red.key=[", "DOMAIN.SYMBOL[+OFFSET]=VALUE is wanted"),
+        ("red.key=text", "DOMAIN.SYMBOL[+OFFSET]=VALUE is wanted"),
+        ("red.key=@none", "--set red.key=@none: the value: none: No such file or directory"),
+        ("red.key+x=1", "DOMAIN.SYMBOL[+OFFSET]=VALUE is wanted"),
         ("blue.key=1", "has no domain 'blue'"),
         ("red.key=1", "there is no symbol 'key'"),
     ):

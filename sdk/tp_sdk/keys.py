@@ -48,7 +48,14 @@ class Array:
     most: int | None = None
 
 
-Kind = Integer | Within | Text | Table | Array
+@dataclass(frozen=True)
+class Either:
+    """One of these kinds."""
+
+    kinds: tuple[Kind, ...]
+
+
+Kind = Integer | Within | Text | Table | Array | Either
 
 
 class Place(Enum):
@@ -168,6 +175,7 @@ NAME = "[a-z0-9]{1,16}"
 SHARED_MOST = 65_536
 PAGES_OF_ALL = 1_048_576
 RIGHTS = ("r", "rw", "x", "rx", "rwx")
+HEX = "([0-9a-fA-F]{2})*"
 CAPS_MOST = 64
 CAP = r"none|(page|irq) (0|[1-9][0-9]{0,9})"
 LINE = Within(0, 31)
@@ -200,6 +208,8 @@ def fault_in(kind: Kind, value: Any, path: Path) -> Path | None:
             if not isinstance(value, list) or len(value) < least or (most is not None and len(value) > most):
                 return path
             return _first(fault_in(item, it, path + (number,)) for number, it in enumerate(value))
+        case Either(kinds):
+            return None if any(fault_in(one, value, path) is None for one in kinds) else path
 
 
 def tables_at(image: dict[str, Any], place: Place) -> Iterator[tuple[Path, dict[str, Any]]]:

@@ -5,7 +5,7 @@ from __future__ import annotations
 from typing import Any
 
 from tp_sdk import keys
-from tp_sdk.keys import KEY_ROWS, Array, Integer, Kind, Place, Table, Text, Within
+from tp_sdk.keys import KEY_ROWS, Array, Either, Integer, Kind, Place, Table, Text, Within
 
 Schema = dict[str, Any]
 
@@ -55,6 +55,8 @@ def _of_kind(kind: Kind) -> Schema:
             }
         case Array(item, least, most):
             return {"type": "array", "items": _of_kind(item)} | _ends("minItems", least, "maxItems", most)
+        case Either(kinds):
+            return {"anyOf": [_of_kind(one) for one in kinds]}
 
 
 def _ends(low_key: str, low: int | None, high_key: str, high: int | None) -> Schema:
@@ -120,7 +122,7 @@ _VALUES: dict[tuple[Place, str], Schema] = {
         "maxItems": keys.MOMENTS_MOST,
     },
     (Place.SEGMENT, "rights"): {"enum": list(keys.RIGHTS)},
-    (Place.SEGMENT, "hex"): {"pattern": "^([0-9a-fA-F]{2})*$"},
+    (Place.SEGMENT, "hex"): {"pattern": f"^{keys.HEX}$"},
     (Place.ENTRY, "domain"): {"minimum": 0, "exclusiveMaximum": keys.DOMAINS.high},
     (Place.ENTRY, "length"): _of_kind(keys.LENGTH),
     (Place.ENTRY, "pad"): _of_kind(keys.PAD),
