@@ -40,9 +40,18 @@ def set_words(description: Description, settings: list[str]) -> None:
             )
 
 
-def build_text(description: Description, program: Program | None) -> str:
-    """The image's text. Where there is a program, it has accepted it."""
-    domains = [image_domain(it, load(it)) for it in description.domains]
+def load_programs(description: Description) -> list[Loaded]:
+    """The programs of its domains, with the stacks that it asks for."""
+    return [_load(it) for it in description.domains]
+
+
+def build_text(
+    description: Description, program: Program | None, programs: list[Loaded] | None = None
+) -> str:
+    """The image's text, of programs that are loaded now where none are given. Where there is a program
+    `tp`, it has accepted it."""
+    loaded = load_programs(description) if programs is None else programs
+    domains = [_domain(it, its) for it, its in zip(description.domains, loaded)]
     numbers = {domain.name: number for number, domain in enumerate(domains)}
     for entry in description.schedule:
         if isinstance(entry.domain, str) and entry.domain not in numbers:
@@ -89,8 +98,7 @@ def _entry(entry: EntryDescription, numbers: dict[str, int], pad: int) -> ImageE
     return ImageEntry(domain, entry.length, pad if entry.pad is None else entry.pad)
 
 
-def load(it: DomainDescription) -> Loaded:
-    """The program of a domain, with the stack that the description asks for."""
+def _load(it: DomainDescription) -> Loaded:
     loaded = it.program if isinstance(it.program, Loaded) else load_program(it.program, it.stack)
     if it.stack is not None:
         others = [segment for segment in loaded.segments if segment.name != STACK]
@@ -98,10 +106,8 @@ def load(it: DomainDescription) -> Loaded:
     return loaded
 
 
-def image_domain(it: DomainDescription, loaded: Loaded) -> ImageDomain:
-    """A domain of the image."""
-    if not isinstance(it.program, Loaded):
-        _refuse_clashes(loaded, it.place)
+def _domain(it: DomainDescription, loaded: Loaded) -> ImageDomain:
+    _refuse_clashes(loaded, it.place)
     for where, data in it.words.items():
         _put(loaded, where, data)
     caps = [_cap(cap, loaded.segments, it.place) for cap in it.caps]

@@ -5,6 +5,7 @@ from __future__ import annotations
 import os
 import shutil
 import subprocess
+import sys
 import tempfile
 from pathlib import Path
 
@@ -61,3 +62,4 @@ def _run(command: list[str | Path], source: Path, done: str, folder: Path | None
     )
     if ended.returncode != 0:
         raise Fault(f"{source}: it can't be {done} and linked\n{ended.stderr.rstrip()}")
+    sys.stderr.write(ended.stderr)  # (warnings)

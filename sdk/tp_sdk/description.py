@@ -3,6 +3,7 @@ An image is a description that names no file."""
 
 from __future__ import annotations
 
+import json
 import re
 import tomllib
 from dataclasses import dataclass
@@ -15,6 +16,7 @@ from tp_sdk.faults import Fault, read_text, refuse_unread
 from tp_sdk.keys import (
     HEX,
     KEY_ROWS,
+    PAGE,
     Array,
     Either,
     Integer,
@@ -107,10 +109,11 @@ class EntryDescription:
 class _Text:
     """A text of TOML, to be looked into; faults tell the line and column."""
 
-    def __init__(self, file: Path) -> None:
+    def __init__(self, file: Path, text: str | None = None) -> None:
         self.file = file
         try:
-            self.data, self.places = toml_places.read_with_places(read_text(file))
+            read = read_text(file) if text is None else text
+            self.data, self.places = toml_places.read_with_places(read)
         except tomllib.TOMLDecodeError as error:
             raise Fault(f"{file}: no TOML: {error}") from None
 
@@ -170,9 +173,10 @@ class Description:
         return (self.machine_text if is_of_machine else self.text).place(path)
 
 
-def read_description(file: Path) -> Description:
-    """Reads a description; the files that it names are looked for beside it."""
-    text = _Text(file)
+def read_description(file: Path, given: str | None = None) -> Description:
+    """Reads a description, from its file where no text is given; the files that it names are looked for
+    beside it."""
+    text = _Text(file, given)
     if "machine" in text.data:
         text.check(FRAME_KEYS, text.data, ())
         machine = _Text(text.file_at(("machine",), text.data["machine"]))
@@ -187,6 +191,29 @@ def read_description(file: Path) -> Description:
     schedule = [_entry(text, number, table) for number, table in enumerate(text.data["schedule"])]
     keys = {key: value for key, value in machine.data.items() if key in MACHINE_KEYS}
     return Description(text, machine, keys, domains, schedule)
+
+
+def describe(programs: dict[str, Path], machine: Path, length: int, stack: int | None) -> str:
+    """A description of programs by their domains' names, beside each other: each has as many colours as
+    the others, and a slot in turn."""
+    keys = _Text(machine)
+    _check_machine(keys, ())
+    colours = keys.data["l2"]["sets"] * keys.data["line"] // PAGE - 1
+    each = colours // len(programs)
+    if each < 1:
+        raise Fault(f"{machine}: it has {colours} colours for domains, too few for {len(programs)} programs")
+    domains, entries = "", ""
+    for number, (name, program) in enumerate(programs.items()):
+        own = [number * each + 1 + place for place in range(each)]
+        domains += f"\n[[domain]]\nname = {_quoted(name)}\nprogram = {_quoted(str(program))}\n"
+        domains += f"colours = {own}\n" + (f"stack = {stack}\n" if stack is not None else "")
+        entries += f"\n[[schedule]]\ndomain = {_quoted(name)}\nlength = {length}\n"
+    return f"machine = {_quoted(str(machine))}\n{domains}{entries}"
+
+
+def _quoted(text: str) -> str:
+    """A string: what JSON writes with letters of its own, TOML reads alike."""
+    return json.dumps(text, ensure_ascii=False)
 
 
 def _optional(known: dict[str, Key]) -> dict[str, Key]:

@@ -5,7 +5,7 @@ from __future__ import annotations
 from dataclasses import dataclass, field
 from pathlib import Path
 
-from tp_sdk.build import load
+from tp_sdk.build import load_programs
 from tp_sdk.description import Description, read_description
 from tp_sdk.elf import Loaded, load_elf
 from tp_sdk.faults import Fault
@@ -38,7 +38,7 @@ class Known:
 def read_known(file: Path, elfs: list[str]) -> Known:
     """What an image, or a description, says; each ELF file is `[DOMAIN=]FILE`."""
     description = read_description(file)
-    known = known_of(description, [load(it) for it in description.domains])
+    known = known_of(description, load_programs(description))
     for elf in elfs:
         _put_elf(known, elf)
     return known
