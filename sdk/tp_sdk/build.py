@@ -3,7 +3,6 @@
 from __future__ import annotations
 
 import re
-from pathlib import Path
 
 from tp_sdk.compiling import load_program
 from tp_sdk.description import Description, DomainDescription, EntryDescription

@@ -41,22 +41,20 @@ def _compiled(source: Path, stack: int | None, room: Path) -> Loaded:
         raise Missing(f"{source}: there is no make: apt-get install make")
     if any(letter in source.stem for letter in " \t:=%#$\\"):
         raise Fault(f"{source}: make takes no such name: letters, digits, '-' and '_' are good")
-    words = [f"PROGRAMS={source.stem}", f"OUT={room}"]
-    if stack is not None:
-        words.append(f"STACK={stack * PAGE}")
-    makes = ["make", "-s", "--no-print-directory", "-f", C / "Makefile", *words]
-    _run(makes, source, "compiled", folder=source.parent)
+    words = [f"PROGRAMS={source.stem}", f"OUT={room}", *([] if stack is None else [f"STACK={stack * PAGE}"])]
+    command = ["make", "-s", "--no-print-directory", "-f", str(C / "Makefile"), *words]
+    _run(command, source, "compiled", folder=source.parent)
     return load_elf(room / f"{source.stem}.elf")
 
 
 def _assembled(source: Path, compiler: str, room: Path) -> Loaded:
     out = room / "program.elf"
-    target = ["-march=rv32i_zicsr", "-mabi=ilp32", "-nostdlib", "-static", "-g", "-T", LINK_SCRIPT]
-    _run([compiler, *target, "-o", out, source], source, "assembled")
+    target = ["-march=rv32i_zicsr", "-mabi=ilp32", "-nostdlib", "-static", "-g", "-T", str(LINK_SCRIPT)]
+    _run([compiler, *target, "-o", str(out), str(source)], source, "assembled")
     return load_elf(out)
 
 
-def _run(command: list[str | Path], source: Path, done: str, folder: Path | None = None) -> None:
+def _run(command: list[str], source: Path, done: str, folder: Path | None = None) -> None:
     ended = subprocess.run(
         command, cwd=folder, capture_output=True, text=True, errors="replace", check=False
     )

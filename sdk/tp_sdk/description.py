@@ -240,7 +240,11 @@ def _domain(text: _Text, number: int, table: dict[str, Any]) -> DomainDescriptio
     path: toml_places.Path = ("domain", number)
     is_written = "program" not in table and "segment" in table
     text.check(WRITTEN_DOMAIN_KEYS if is_written else DOMAIN_KEYS, table, path)
-    program = _written(text, path, table) if is_written else text.file_at(path + ("program",), table["program"])
+    program: Path | Loaded
+    if is_written:
+        program = _written(text, path, table)
+    else:
+        program = text.file_at(path + ("program",), table["program"])
     words = {}
     for where, value in table.get("words", {}).items():
         words[where] = bytes_of(value, text.file.parent, f"{text.place(path + ('words', where))}: '{where}'")

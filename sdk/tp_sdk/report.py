@@ -175,4 +175,5 @@ def _reply(text: str) -> Reply:
 def _switch(line: str, at: int) -> Switch:
     words = line.split()
     named = dict(zip(words[::2], words[1::2]))
-    return Switch(*(int(named[key]) for key in ("switch", "used", "pad", "count")), line=at)
+    entry, used, pad, count = (int(named[key]) for key in ("switch", "used", "pad", "count"))
+    return Switch(entry, used, pad, count, at)

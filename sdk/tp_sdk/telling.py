@@ -15,7 +15,7 @@ from tp_sdk.symbols import Place, Symbols
 
 _STEPS_SHOWN = 16
 _PLACES_SHOWN = 8
-_TEXT_SHOWN = 60
+_BYTES_SHOWN = 24
 _RETURN_ADDRESS = 1
 _PLURALS = {"reply": "replies", "switch": "switches"}
 
@@ -30,7 +30,8 @@ class Telling:
 
     def sentences(self) -> list[str]:
         """The report in words, what belongs to a domain indented below it."""
-        of = f" of {self.known.file}" if self.known.file is not None else ""
+        image = self.known.file
+        of = f" of {image}" if image is not None and str(image) != self.file else ""
         lines = [f"{self.file}: {_count(self.report.slots, 'slot')}{of}"]
         for section in self.report.sections:
             lines.extend(self.domain(section).sentences())
@@ -158,12 +159,16 @@ class DomainTold:
     # ---- output, calls, readings
 
     def _printed(self) -> list[str]:
+        """What was printed, as lines where it is text."""
         out = self.section.out
         if not out:
             return []
-        text = repr(out[:_TEXT_SHOWN])[2:-1].replace('"', '\\"')
-        more = " .." if len(out) > _TEXT_SHOWN else ""
-        return [f'printed {_count(len(out), "byte")}: "{text}"{more}']
+        told = f"printed {_count(len(out), 'byte')}"
+        text = out.decode(errors="replace")
+        if all(letter.isprintable() or letter == "\n" for letter in text) and "\ufffd" not in text:
+            return [f"{told}:", *(f"| {line}".rstrip() for line in text.removesuffix("\n").split("\n"))]
+        more = " .." if len(out) > _BYTES_SHOWN else ""
+        return [f"{told}: {out[:_BYTES_SHOWN].hex(' ')}{more}"]
 
     def _replies(self) -> list[str]:
         it = self.section

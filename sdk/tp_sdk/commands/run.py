@@ -68,7 +68,9 @@ def _run(asked: Namespace) -> list[str]:
     if asked.report is not None:
         write_bytes(asked.report, ended.text.encode())
     name = str(asked.report or asked.program)
-    return Telling(parse_report(ended.text, name), name, known_of(description, programs)).sentences()
+    known = known_of(description, programs)
+    known.file = asked.program
+    return Telling(parse_report(ended.text, name), name, known).sentences()
 
 
 def _description(asked: Namespace) -> Description:
