@@ -189,7 +189,11 @@ def test_a_file_that_is_no_program(folder: Folder) -> None:
         ('"machine.toml"', '"red.elf"', "red.elf: byte "),
         ('"machine.toml"', '"none.toml"', "red.toml:1:11: PATH/none.toml: No such file or directory"),
         ("colours = [1]", "colours = [1, true]", "red.toml:5:15: 'colours' must be an array of integers"),
-        ("colours = [1]", "colors = [1]", "red.toml:5:1: there is no key 'colors' here: did you mean 'colours'?"),
+        (
+            "colours = [1]",
+            "colors = [1]",
+            "red.toml:5:1: there is no key 'colors' here: did you mean 'colours'?",
+        ),
         ("colours = [1]\n", "", "red.toml:2:1: 'colours' is missing: an array of integers"),
         ("colours = [1]", "colours = [1]\nx = 1", "red.toml:6:1: there is no key 'x' here: name, program, "),
         (
@@ -220,7 +224,7 @@ def test_a_file_that_is_no_program(folder: Folder) -> None:
             "red.toml:6:15: 'k': PATH/none: No such file or directory",
         ),
         ("colours = [1]", "colours = [1]\nwords = { k = 1 }", "red.elf: there is no symbol 'k'"),
-        ('domain = "red"', "domain = []", "red.toml:7:10: 'domain' must be the name of a domain, or its place"),
+        ('domain = "red"', "domain = []", "red.toml:7:10: 'domain' must be the name of a domain, or "),
         ('domain = "red"', 'domain = "blue"', "red.toml:6:1: there is no domain 'blue': red"),
         ('domain = "red"', 'domain = "rd"', "red.toml:6:1: there is no domain 'rd': did you mean 'red'?"),
     ],

@@ -58,7 +58,8 @@ def test_the_other_files_are_as_the_tools_write_them() -> None:
 
 def faults_of_description(text: str) -> list[str]:
     schema = json.loads((SDK / "description.schema.json").read_text())
-    return [str(error.message) for error in jsonschema.Draft7Validator(schema).iter_errors(tomllib.loads(text))]
+    validator = jsonschema.Draft7Validator(schema)
+    return [str(error.message) for error in validator.iter_errors(tomllib.loads(text))]
 
 
 @pytest.mark.parametrize("description", sorted(C.glob("*.toml")), ids=lambda it: it.stem)

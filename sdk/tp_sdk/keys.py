@@ -255,6 +255,16 @@ def other_keys(image: dict[str, Any]) -> Iterator[Path]:
                     yield from (path + (key, name) for name in value if name not in known)
 
 
+def keys_at(path: Path) -> list[str]:
+    """The keys that a table may have."""
+    names = tuple(it for it in path if isinstance(it, str))
+    for place in Place:
+        if place.path == names:
+            return [row.key for row in KEY_ROWS if row.place is place]
+    row = next((it for it in KEY_ROWS if it.place is Place.TOP and (it.key,) == names), None)
+    return [name for name, _ in row.kind.fields] if row is not None and isinstance(row.kind, Table) else []
+
+
 def _is_integer(value: Any) -> bool:
     return isinstance(value, int) and not isinstance(value, bool)
 

@@ -78,8 +78,8 @@ def _refuse_another_program(known: Known, number: int, loaded: Loaded) -> None:
     ]
     if image.entry != loaded.entry or texts[0] != texts[1]:
         raise Fault(
-            f"{loaded.file}: it isn't the program of domain {number} ({known.names[number]}) of {known.file}: "
-            "its text is another"
+            f"{loaded.file}: it isn't the program of domain {number} ({known.names[number]}) of "
+            f"{known.file}: its text is another"
         )
 
 

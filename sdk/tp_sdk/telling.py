@@ -177,7 +177,8 @@ class DomainTold:
         kept = f" of the first {len(it.replies)}" if len(it.replies) < it.replies_count else ""
         refused = Counter(reply.code for reply in it.replies if reply.code)
         puts = f", {len(it.out)} of them {PUT.name}" if it.out else ""
-        told = f"{_count(it.replies_count, 'reply')} to calls{puts}; refused{kept}: {refused.total() or 'none'}"
+        told = f"{_count(it.replies_count, 'reply')} to calls{puts}; "
+        told += f"refused{kept}: {refused.total() or 'none'}"
         return [told, *(f"  {self._refused(code, count)}" for code, count in sorted(refused.items()))]
 
     def _refused(self, code: int, count: int) -> str:
@@ -192,6 +193,9 @@ class DomainTold:
     def _places_of(self, code: int) -> list[int]:
         """The places of a code among the replies, from 0."""
         return [number for number, reply in enumerate(self.section.replies) if reply.code == code]
+
+    def _codes(self) -> set[int]:
+        return {reply.code for reply in self.section.replies}
 
     def _readings(self) -> list[str]:
         it = self.section
@@ -224,7 +228,7 @@ class DomainTold:
             "replies": {
                 "count": it.replies_count,
                 "kept": [asdict(reply) for reply in it.replies],
-                "refused": [self._refused_fields(code) for code in sorted({r.code for r in it.replies} - {0})],
+                "refused": [self._refused_fields(code) for code in sorted(self._codes() - {0})],
             },
             "printed": {"count": len(it.out), "text": it.out.decode(errors="replace"), "hex": it.out.hex()},
             "mem": it.mem,

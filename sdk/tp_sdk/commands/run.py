@@ -41,9 +41,11 @@ def main(words: list[str]) -> int:
     parser.add_argument(
         "--beside", type=Path, action="append", default=[], metavar="PROGRAM", help="a domain beside it"
     )
-    parser.add_argument("--set", action="append", default=[], metavar="DOMAIN.SYMBOL=VALUE", help="as tp-image")
+    parser.add_argument(
+        "--set", action="append", default=[], metavar="DOMAIN.SYMBOL=VALUE", help="as that of tp-image"
+    )
     parser.add_argument("--stack", type=int, metavar="PAGES", help="of each program in C, else 1")
-    parser.add_argument("--length", type=int, default=_LENGTH, help=f"of each slot, in cycles, else {_LENGTH}")
+    parser.add_argument("--length", type=int, default=_LENGTH, help=f"cycles of each slot, else {_LENGTH}")
     parser.add_argument("--machine", type=Path, default=C / "machine.toml", help="a file with its keys")
     parser.add_argument("--image", type=Path, help="the file in which the image is kept")
     parser.add_argument("--report", type=Path, help="the file in which the report is kept")
