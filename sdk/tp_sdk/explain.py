@@ -86,7 +86,7 @@ def explain_all(text: bytes, file: str, refusal: Refusal) -> list[Explanation]:
     if told is None:
         raise Fault(f"{file}: '{refusal}' is of another image: nothing here breaks that rule there")
     others = [of_image.told(*it) for it in Rules(image).broken()]
-    return [told, *(it for it in others if it is not None and (it.refusal, it.path) != (told.refusal, told.path))]
+    return [told, *(it for it in others if it is not None and it != told)]
 
 
 class _OfImage:

@@ -135,10 +135,9 @@ class Rules:
         own = set(it.table["colours"])
         pool = sum(frame % there in own for frame in range(self.image["frames"]))
         segments = it.table["segment"]
-        regions = {
-            page // _TABLE_PAGES for one in segments for page in range(one["page"], one["page"] + one["pages"])
-        }
-        need = _KERNELS_FRAMES + len(regions) + sum(one["pages"] for one in segments)
+        pages = [page for one in segments for page in range(one["page"], one["page"] + one["pages"])]
+        regions = {page // _TABLE_PAGES for page in pages}
+        need = _KERNELS_FRAMES + len(regions) + len(pages)
         if pool < need:
             yield Refusal(10, it.number, pool, need)
 
