@@ -16,6 +16,7 @@ sys.path.insert(0, str(SDK))
 from tp_sdk.faults import Missing  # noqa: E402
 from tp_sdk.program import REPOSITORY, Program  # noqa: E402
 
+CFLAGS = "CFLAGS=-Os -g -Wall -Wextra -Werror"
 COMPILER = os.environ.get("CROSS", "riscv64-unknown-elf-") + "gcc"
 
 
@@ -59,5 +60,5 @@ def built(compiler: str, tmp_path_factory: pytest.TempPathFactory) -> Path:
     pytest.importorskip("elftools")
     folder = tmp_path_factory.mktemp("sdk") / "c"
     shutil.copytree(SDK / "c", folder, ignore=shutil.ignore_patterns("out"))
-    subprocess.run(["make", "-C", folder], check=True, capture_output=True)
+    subprocess.run(["make", "-C", folder, CFLAGS], check=True, capture_output=True)
     return folder

@@ -9,10 +9,17 @@ from pathlib import Path
 
 import pytest
 from conftest import REPOSITORY, SDK, run_tool
+from elf_files import Elf, Load, R, X
 
 from tp_sdk.python import DEBIANS
 
-LIBRARIES = {"tp-image": "elftools", "tp-explain": "json", "tp-plot": "matplotlib"}
+LIBRARIES = {
+    "tp-image": "elftools",
+    "tp-run": "elftools",
+    "tp-report": "elftools",
+    "tp-explain": "json",
+    "tp-plot": "matplotlib",
+}
 TOOLS = sorted(LIBRARIES)
 SKELETON = REPOSITORY / "examples" / "skeleton.toml"
 
@@ -42,7 +49,7 @@ def test_a_command_is_run_from_any_folder(tool: str, tmp_path: Path) -> None:
     assert run_tool(str(link), "--help").returncode == 0
 
 
-@pytest.mark.parametrize("tool", ("tp-image", "tp-plot"))
+@pytest.mark.parametrize("tool", ("tp-image", "tp-run", "tp-report", "tp-plot"))
 def test_a_python_without_the_library_leaves_it_to_debians(tool: str, tmp_path: Path) -> None:
     debians = [DEBIANS, "-c", f"import tomllib, {LIBRARIES[tool]}"]
     if not Path(DEBIANS).exists() or subprocess.run(debians, capture_output=True, check=False).returncode:
@@ -83,4 +90,9 @@ def test_a_program_that_is_missing(monkeypatch: pytest.MonkeyPatch, tmp_path: Pa
     (tmp_path / "machine.toml").write_text((SDK / "c" / "machine.toml").read_text())
     ended = run_tool("tp-image", description)
     assert ended.returncode == 1 and "hello.elf: No such file" in ended.stderr
-    assert "not checked: there is no program at TP=" in ended.stderr
+    (tmp_path / "hello.elf").write_bytes(Elf([Load(0x10000, R | X, bytes(4))]).encode())
+    ended = run_tool("tp-image", description)
+    assert ended.returncode == 3 and "not checked: there is no program at TP=" in ended.stderr
+    assert "red.toml:9:1: no pad, which the program alone can tell" in ended.stderr
+    ended = run_tool("tp-run", description, "--slots", "1")
+    assert ended.returncode == 3 and ended.stderr.startswith("tp-run: there is no program at TP=")

@@ -4,16 +4,18 @@ from __future__ import annotations
 
 import json
 import re
+import tomllib
 from dataclasses import dataclass
 from pathlib import Path
 
 import pytest
 from conftest import REPOSITORY, examples, is_refused, run_tool
 
-from tp_sdk.explain import Explanation, explain
+from tp_sdk.explain import Explanation, explain, explain_all
 from tp_sdk.faults import Fault
 from tp_sdk.program import Program
 from tp_sdk.refusals import CASES, Refusal
+from tp_sdk.rules import Rules, bound_on_a_switch
 
 IMAGE = re.sub(" *#.*", "", (REPOSITORY / "examples" / "two-domains.toml").read_text())
 
@@ -160,3 +162,112 @@ def test_a_line_of_another_image_is_a_fault() -> None:
     ):
         with pytest.raises(Fault, match="no case|no refusal"):
             explain(IMAGE.encode(), "mine.toml", Refusal.parse(line))
+
+
+# ---- whatever else is broken
+
+
+OF_VALUES = [it for it in ROWS if not it.refusal.startswith("K1 ")]
+
+
+@pytest.mark.parametrize("row", OF_VALUES, ids=lambda row: row.refusal)
+def test_the_first_broken_rule_is_the_programs(row: Row) -> None:
+    first, _ = next(Rules(tomllib.loads(row.text())).broken())
+    assert str(first) == f"refused {row.refusal}"
+
+
+@pytest.mark.parametrize("image", examples(), ids=lambda it: it.stem)
+def test_what_is_broken_in_the_examples(image: Path) -> None:
+    if image.stem in ("refused-k1", "bound"):  # (no TOML; of one whose bound alone is asked for)
+        return
+    first = next(Rules(tomllib.loads(image.read_text())).broken(), None)
+    line = image.with_suffix(".report").read_text().strip()
+    assert line == str(first[0]) if first is not None else not is_refused(image)
+
+
+def test_the_bound_is_the_programs(program: Program) -> None:
+    text = (REPOSITORY / "examples" / "bound.toml").read_text()
+    for old, new in (("wb = 10", "wb = 999"), ("line = 64", "line = 128"), ("trap = 10", "trap = 77")):
+        assert old in text
+        other = text.replace(old, new, 1)
+        ended = program.run(["bound"], re.sub(r"pad = \d+", "pad = 1000000", other))
+        assert ended.text.endswith(f"bound {bound_on_a_switch(tomllib.loads(other))}\n")
+
+
+CLASHES = [
+    ("K7 at 1 found 0 wanted 0", 'name = "blue"', 'name = "red"', "`name` of domain 0 (red)", '`"red"`'),
+    ("K8 at 1 found 2 wanted 4", "[2]", "[2, 3, 2]", "`colours[0]` of domain 1 (blue)", "`2`"),
+    ("K9 at 1 found 1 wanted 0", "[2]", "[3, 1]", "`colours[0]` of domain 0 (red)", "`1`"),
+    (
+        "K12 at 0 found 1 wanted 5",
+        "= [{ ",
+        '= [{ page = 15, pages = 2, rights = "r", hex = "" }, { ',
+        "`page` of segment 0 of domain 0 (red)",
+        "`15`",
+    ),
+    (
+        "K13 at 0 found 2 wanted 5",
+        "[1]",
+        '[1]\ncaps = ["none", "page 16", "page 16"]',
+        "`caps[1]` of domain 0 (red)",
+        '`"page 16"`',
+    ),
+    ("K14 at 1 found 4 wanted 1", "[2]", "[2]\nlines = [4, 3, 4]", "`lines[0]` of domain 1 (blue)", "`4`"),
+    (
+        "K15 at 0 found 1 wanted 4",
+        "[1]",
+        "[1]\nlines = [3]\nmoments = [[9, 3], [9, 3]]",
+        "`moments[0]` of domain 0 (red)",
+        "`[9, 3]`",
+    ),
+]
+
+
+@pytest.mark.parametrize(("refusal", "old", "new", "what", "stands"), CLASHES, ids=lambda it: it[:24])
+def test_the_other_place_of_a_clash(refusal: str, old: str, new: str, what: str, stands: str) -> None:
+    text = IMAGE.replace(old, new)
+    explanation = explain(text.encode(), "mine.toml", Refusal.parse(f"refused {refusal}"))
+    other = explanation.other
+    assert other is not None and (other.what, other.stands) == (what, stands)
+    place = f"mine.toml:{other.line}:{other.column}"
+    assert explanation.sentence().endswith(f"; the other is {what}: {stands}, {place}")
+    assert text.split("\n")[other.line - 1][other.column - 1 :].startswith(stands.strip("`"))
+
+
+@pytest.mark.parametrize(
+    ("old", "new", "hint"),
+    [
+        ("colours = [2]", "colors = [2]", ": did you mean it by `colors`?"),
+        ("frames = 64", "frame = 64", ": did you mean it by `frame`?"),
+        ("flush = 20", "flsh = 20", ": did you mean it by `flsh`?"),
+        ("pages = 1", "page_count = 1", ""),
+        ('ways = 4, policy = "lru"', 'ways = 4, policy = "LRU"', ": did you mean `lru`?"),
+    ],
+)
+def test_did_you_mean(old: str, new: str, hint: str) -> None:
+    text = IMAGE.replace(old, new)
+    refusal, _ = next(Rules(tomllib.loads(text)).broken())
+    assert old in IMAGE and explain(text.encode(), "mine.toml", refusal).hint == hint
+
+
+def test_a_key_that_is_none() -> None:
+    text = IMAGE.replace("colours = [2]", "colours = [2]\nmoment = []\nzz = 1")
+    told = explain_all(text.encode(), "mine.toml", Refusal(2, 26, 0, 0))
+    assert [it.hint for it in told] == [": did you mean `moments`?", ""]
+    assert told[1].what == "`zz` of domain 1 (blue)"
+
+
+def test_what_else_is_broken_comes_after(tmp_path: Path) -> None:
+    image = tmp_path / "mine.toml"
+    text = IMAGE.replace("[2]", "[1]").replace("pad = 6150", "pad = 6149")
+    image.write_text(text.replace("frames = 64", "frames = 63"))
+    line = "refused K4 at 0 found 63 wanted 64"
+    ended = run_tool("tp-explain", image, line)
+    rules = [re.sub(rf"{image}:\d+:\d+: ", "", told).split(": ")[0] for told in ended.stdout.splitlines()]
+    assert rules == ["K4", "also K9", "also K17", "also K17"]
+    fields = json.loads(run_tool("tp-explain", image, line, "--json").stdout)
+    assert [it["case"] for it in fields["also"]] == ["K9", "K17", "K17"]
+    pad = fields["also"][1]
+    assert (pad["what"], pad["wanted"]) == ("`pad` of entry 0 (red)", "`pad = 6150` or more")
+    image.write_text(IMAGE + "[[domain]]\n" * 30)
+    assert run_tool("tp-explain", image, "refused K2 at 11 found 2 wanted 0").stdout.endswith("more\n")

@@ -2,12 +2,14 @@
 
 from __future__ import annotations
 
+import re
+import subprocess
 import tomllib
 from pathlib import Path
 from typing import Any
 
 import pytest
-from conftest import SDK, run_tool
+from conftest import COMPILER, REPOSITORY, SDK, examples, is_refused, run_tool
 from elf_files import DYN, Elf, Load, R, W, X
 
 pytest.importorskip("elftools")
@@ -105,15 +107,41 @@ def test_a_pad_that_is_left_out_is_the_bound(folder: Folder, program: Program) -
 def test_an_image_that_is_refused_is_explained(folder: Folder, program: Program) -> None:
     folder.write(DESCRIPTION.replace("6150", "6149"))
     assert folder.fault(program=program) == (
-        "red.toml: the image is refused: K17: `pad` of entry 0 is `6149`: the pad is below the bound on "
-        "a switch; wanted: 6150 cycles or more"
+        "red.toml:9:7: the image is refused: K17: `pad` of entry 0 (red) is `6149`: the pad is below the "
+        "bound on a switch; wanted: `pad = 6150` or more"
     )
+    # (of what stands in another file, and in none)
+    machine = folder.path / "machine.toml"
+    machine.write_text(machine.read_text().replace("frames = 128", "frames = 63"))
+    assert folder.fault(program=program).startswith("machine.toml:3:10: the image is refused: K4: `frames`")
+    folder.write(DESCRIPTION, Elf([CODE], entry=2).encode())
+    machine.write_text(machine.read_text().replace("frames = 63", "frames = 128"))
+    assert folder.fault(program=program).startswith("red.toml:2:1: the image is refused: K12, case 6: `entry`")
 
 
 FAULTS = [
     (Elf([CODE], machine=62), "red.elf: for another machine: e_machine is EM_X86_64, not EM_RISCV"),
-    (Elf([CODE], flags=1), "red.elf: with compressed instructions: compile it with -march=rv32i"),
-    (Elf([CODE], flags=2), "red.elf: for a machine with floating point: compile it with -mabi=ilp32"),
+    (Elf([CODE], flags=1), "red.elf: with compressed instructions: compile it with -march=rv32i -mabi=ilp32"),
+    (
+        Elf([CODE], flags=2),
+        "red.elf: for a machine with floating point: compile it with -march=rv32i -mabi=ilp32",
+    ),
+    # mul x1, x1, x1; lr.w x1, (x1); fadd.s f0, f0, f0
+    (
+        Elf([Load(0x10000, R | X, EXITS + bytes.fromhex("b3801002"))]),
+        "red.elf: 0x10008 is mul, of the extension M, which the machine lacks: "
+        "compile it with -march=rv32i -mabi=ilp32",
+    ),
+    (
+        Elf([Load(0x10000, R | X, EXITS + bytes.fromhex("afa00010"))]),
+        "red.elf: 0x10008 is lr.w, of the extension A, which the machine lacks: "
+        "compile it with -march=rv32i -mabi=ilp32",
+    ),
+    (
+        Elf([Load(0x10000, R | X, EXITS + bytes.fromhex("53700000"))]),
+        "red.elf: 0x10008 is a floating-point operation, of the extension F or D, which the machine lacks: "
+        "compile it with -march=rv32i -mabi=ilp32",
+    ),
     (
         Elf([CODE], kind=DYN),
         "red.elf: of type ET_DYN, not ET_EXEC: link it, and to fixed addresses (-static, not -pie)",
@@ -159,7 +187,7 @@ def test_a_file_that_is_no_program(folder: Folder) -> None:
     folder.write(elf=whole[:32] + b"\xff\xff\0\0" + whole[36:48] + b"\1\0" + whole[50:])
     assert folder.fault().startswith("red.elf: no ELF file")
     (folder.path / "red.elf").unlink()
-    assert folder.fault() == "red.elf: No such file or directory"
+    assert folder.fault() == f"red.toml:4:11: {folder.path}/red.elf: No such file or directory"
 
 
 @pytest.mark.parametrize(
@@ -168,9 +196,14 @@ def test_a_file_that_is_no_program(folder: Folder) -> None:
         ("machine = ", "machine : ", "red.toml: no TOML: "),
         ('machine = "machine.toml"\n', "", "red.toml:1:1: 'machine' is missing: the name of a file with"),
         ('"machine.toml"', '"red.elf"', "red.elf: byte "),
-        ('"machine.toml"', '"none.toml"', "none.toml: No such file or directory"),
+        ('"machine.toml"', '"none.toml"', "red.toml:1:11: PATH/none.toml: No such file or directory"),
         ("colours = [1]", "colours = [1, true]", "red.toml:5:15: 'colours' must be an array of integers"),
-        ("colours = [1]", "colors = [1]", "red.toml:2:1: 'colours' is missing: an array of integers"),
+        (
+            "colours = [1]",
+            "colors = [1]",
+            "red.toml:5:1: there is no key 'colors' here: did you mean 'colours'?",
+        ),
+        ("colours = [1]\n", "", "red.toml:2:1: 'colours' is missing: an array of integers"),
         ("colours = [1]", "colours = [1]\nx = 1", "red.toml:6:1: there is no key 'x' here: name, program, "),
         (
             "colours = [1]",
@@ -187,16 +220,22 @@ def test_a_file_that_is_no_program(folder: Folder) -> None:
         ("colours = [1]", f'colours = [1]\ncaps = ["load0+{NINES}"]', "red.toml:2:1: 'load0+999"),
         ("10000", NINES, "red.toml: no TOML: an integer of too many digits"),
         ("[1]", "[" * 5000 + "]" * 5000, "red.toml: no TOML: arrays or tables in one another too deep"),
-        ("red.elf", "\\u0000", "'PATH/\\x00': no file has such a name"),
-        ("red.elf", "none.s", "none.s: No such file or directory"),
+        ("red.elf", "\\u0000", "red.toml:4:11: 'PATH/\\x00': no file has such a name"),
+        ("red.elf", "none.s", "red.toml:4:11: PATH/none.s: No such file or directory"),
         (
             "colours = [1]",
             "colours = [1]\nwords = { k = -1 }",
             "red.toml:6:15: 'k' must be a word, 0 to 0xffffffff",
         ),
+        (
+            "colours = [1]",
+            'colours = [1]\nwords = { k = "@none" }',
+            "red.toml:6:15: 'k': PATH/none: No such file or directory",
+        ),
         ("colours = [1]", "colours = [1]\nwords = { k = 1 }", "red.elf: there is no symbol 'k'"),
-        ('domain = "red"', "domain = 0", "red.toml:7:10: 'domain' must be the name of a domain"),
+        ('domain = "red"', "domain = []", "red.toml:7:10: 'domain' must be the name of a domain, or "),
         ('domain = "red"', 'domain = "blue"', "red.toml:6:1: there is no domain 'blue': red"),
+        ('domain = "red"', 'domain = "rd"', "red.toml:6:1: there is no domain 'rd': did you mean 'red'?"),
     ],
 )
 def test_a_description_that_is_at_fault(folder: Folder, old: str, new: str, fault: str) -> None:
@@ -216,10 +255,15 @@ def test_a_machine_that_is_at_fault(folder: Folder) -> None:
 
 def test_a_setting_that_is_at_fault(folder: Folder) -> None:
     for setting, fault in (
-        ("key=1", "DOMAIN.SYMBOL=VALUE is wanted"),
-        (f"red.key={NINES}", "DOMAIN.SYMBOL=VALUE is wanted"),
+        ("key=1", "DOMAIN.SYMBOL[+OFFSET]=VALUE is wanted"),
+        (f"red.key={NINES}", "DOMAIN.SYMBOL[+OFFSET]=VALUE is wanted"),
         ("red.key=010", "there is no symbol 'key'"),
-        ("red.key=0x100000000", "the value is above 0xffffffff"),
+        ("red.key=0x100000000", "the value must be a word, 0 to 0xffffffff, an array of words, a string"),
+        ("red.key=[1, true]", "the value must be a word"),
+        ("red.key=[", "DOMAIN.SYMBOL[+OFFSET]=VALUE is wanted"),
+        ("red.key=text", "DOMAIN.SYMBOL[+OFFSET]=VALUE is wanted"),
+        ("red.key=@none", "--set red.key=@none: the value: none: No such file or directory"),
+        ("red.key+x=1", "DOMAIN.SYMBOL[+OFFSET]=VALUE is wanted"),
         ("blue.key=1", "has no domain 'blue'"),
         ("red.key=1", "there is no symbol 'key'"),
     ):
@@ -264,3 +308,116 @@ def test_the_command(folder: Folder, program: Program) -> None:
     assert run_tool("tp-image", folder.path / "red.toml").stdout == out.read_text()
     unread = run_tool("tp-image", folder.path / "red.toml", "-o", folder.path)
     assert unread.returncode == 1 and "Is a directory" in unread.stderr
+
+
+# ---- values at symbols
+
+
+VALUES = """.globl _start, word, table, text
+_start: li x17, 0
+ecall
+.data
+word: .word 1
+.size word, 4
+table: .zero 12
+.size table, 12
+text: .zero 8
+.size text, 8
+after: .word 7
+"""
+
+
+def test_values_at_symbols(folder: Folder, compiler: str) -> None:
+    (folder.path / "red.s").write_text(VALUES)
+    (folder.path / "three").write_bytes(b"\1\2\3")
+    words = 'words = { word = 0x01020304, "table+4" = [5, 6], text = "abc" }'
+    folder.write(DESCRIPTION.replace("red.elf", "red.s").replace("[1]", f"[1]\n{words}"))
+
+    def data(*settings: str) -> str:
+        (red,) = folder.image(*settings)["domain"]
+        hex_of_data = red["segment"][1]["hex"]
+        assert isinstance(hex_of_data, str)
+        return hex_of_data[: 2 * 28]
+
+    table, text = "000000000500000006000000", "6162630000000000"
+    assert data() == f"04030201{table}{text}07000000"
+    assert data("red.word=7") == f"07000000{table}{text}07000000"
+    assert data("red.table=[1]", "red.table+8=9") == f"0403020101000000{table[8:16]}09000000{text}07000000"
+    assert data('red.text="ab"', "red.text+0x5=@" + str(folder.path / "three")) == (
+        f"04030201{table}616200000001020307000000"
+    )
+    for setting, fault in (
+        ("red.word=[1, 2]", "red.s: 'word' has 4 bytes, and 8 are put at word"),
+        ("red.word+2=1", "red.s: 'word' has 4 bytes, and 4 are put at word+2"),
+        ('red.text="abcdefgh"', "red.s: 'text' has 8 bytes, and 9 are put at text"),
+        ("red.after+4096=1", "red.s: 'after+4096' (0x12018) is in no segment"),
+    ):
+        assert fault in folder.fault(setting)
+
+
+# ---- images are descriptions
+
+
+@pytest.mark.parametrize("image", [it for it in examples() if not is_refused(it)], ids=lambda it: it.stem)
+def test_an_image_makes_itself(image: Path) -> None:
+    assert tomllib.loads(build_text(read_description(image), None)) == tomllib.loads(image.read_text())
+
+
+def test_an_image_with_names_and_no_pad(folder: Folder, program: Program) -> None:
+    text = (REPOSITORY / "examples" / "two-domains.toml").read_text()
+    for old, new in (("pad = 6150", ""), ("domain = 0", 'domain = "red"'), ("domain = 1", "domain = 1")):
+        assert old in text
+        text = text.replace(old, new)
+    folder.write(text)
+    assert [it["domain"] for it in folder.image(program=program)["schedule"]] == [0, 1]
+    assert [it["pad"] for it in folder.image(program=program)["schedule"]] == [6150, 6150]
+    for old, new, fault in (
+        ("sets = 256, ", "", "'l2' must be as docs/IMAGE.md says: table of a cache"),
+        ("entry = 0x10000", "", "'entry' is missing: as docs/IMAGE.md says: integer 0 to 4,294,967,295"),
+        ('hex = "1', 'hex = "', "'hex' must be two digits"),
+        ("pages = 1", "page = 1", "no TOML: "),
+        ("pages = 1", "pagess = 1", "there is no key 'pagess' here: did you mean 'pages'?"),
+        ("frames = 64", "frame = 64", "there is no key 'frame' here: did you mean 'frames'?"),
+        ("domain = 1", "domain = 2", "no fault of the description"),
+    ):
+        assert old in text
+        folder.write(text.replace(old, new))
+        if fault == "no fault of the description":
+            assert "K16, case 2: `domain` of entry 1 is `2`" in folder.fault(program=program)
+        else:
+            assert fault in folder.fault()
+
+
+# ---- what the machine lacks, as compilers make it
+
+
+@pytest.mark.parametrize(
+    ("words", "source", "fault"),
+    [
+        (["-march=rv32im"], "return argc * argv[0][0];", r"red.elf: 0x[0-9a-f]+ `main(\+0x[0-9a-f]+)?` is mul, of "),
+        (["-march=rv32im"], "return argc;", r"red.elf: for rv32i2p1_m2p0.*, and the machine lacks M"),
+        (["-march=rv32ic"], "return argc;", r"red.elf: with compressed instructions"),
+        (["-march=rv32ia"], "return argc;", r"red.elf: for rv32i2p1_a2p1, and the machine lacks A"),
+        (["-march=rv32if", "-mabi=ilp32f"], "return argc;", r"red.elf: for a machine with floating point"),
+    ],
+)
+def test_an_elf_file_for_another_machine(
+    folder: Folder, compiler: str, words: list[str], source: str, fault: str
+) -> None:
+    (folder.path / "red.c").write_text(f"int main(int argc, char **argv) {{ (void)argv; {source} }}\n")
+    command = [COMPILER, "-mabi=ilp32", *words, "-nostdlib", "-Ttext=0x10000", "-e", "main", "-Wl,--build-id=none"]
+    subprocess.run([*command, "-o", folder.path / "red.elf", folder.path / "red.c"], check=True)
+    told = folder.fault()
+    assert re.match(fault, told) and told.endswith(": compile it with -march=rv32i -mabi=ilp32")
+
+
+def test_a_full_disk(folder: Folder, program: Program) -> None:
+    if not Path("/dev/full").exists():
+        pytest.skip("there is no /dev/full")
+    told = "/dev/full: No space left on device\n"
+    image = ("tp-image", folder.path / "red.toml", "-o", "/dev/full")
+    kept = ("tp-run", folder.path / "red.toml", "--slots", "1", "--image", "/dev/full")
+    report = ("tp-run", folder.path / "red.toml", "--slots", "1", "--report", "/dev/full")
+    for tool, *words in (image, kept, report):
+        ended = run_tool(str(tool), *words)
+        assert (ended.returncode, ended.stderr) == (1, f"{tool}: {told}")

@@ -11,6 +11,7 @@ from conftest import SDK, examples, is_refused, run_tool
 
 from tp_sdk.schema import image_schema
 
+C = SDK / "c"
 jsonschema = pytest.importorskip("jsonschema")
 
 # A schema can say of the refused examples that these are broken; others are no TOML, or broken in
@@ -41,3 +42,51 @@ def test_it_takes_an_example(image: Path) -> None:
 @pytest.mark.parametrize("image", OF_ONE_VALUE, ids=lambda it: it.stem)
 def test_it_refuses_an_example_that_one_value_breaks(image: Path) -> None:
     assert complaints(image) != []
+
+
+# ---- of descriptions and reports
+
+
+def test_the_other_files_are_as_the_tools_write_them() -> None:
+    for tool, name in (("tp-image", "description"), ("tp-report", "report")):
+        written = run_tool(tool, "--schema")
+        if written.returncode == 3:
+            pytest.skip(written.stderr)
+        assert written.stdout == (SDK / f"{name}.schema.json").read_text()
+        jsonschema.Draft7Validator.check_schema(json.loads(written.stdout))
+
+
+def faults_of_description(text: str) -> list[str]:
+    schema = json.loads((SDK / "description.schema.json").read_text())
+    validator = jsonschema.Draft7Validator(schema)
+    return [str(error.message) for error in validator.iter_errors(tomllib.loads(text))]
+
+
+@pytest.mark.parametrize("description", sorted(C.glob("*.toml")), ids=lambda it: it.stem)
+def test_it_takes_a_description(description: Path) -> None:
+    if description.stem != "machine":
+        assert faults_of_description(description.read_text()) == []
+
+
+@pytest.mark.parametrize("image", [it for it in examples() if not is_refused(it)], ids=lambda it: it.stem)
+def test_an_image_is_a_description(image: Path) -> None:
+    assert faults_of_description(image.read_text()) == []
+
+
+@pytest.mark.parametrize(
+    ("old", "new"),
+    [
+        ('machine = "machine.toml"', ""),
+        ('program = "out/hello.elf"', ""),
+        ("colours", "colors"),
+        ('"hello"', "1"),
+        ("length = 10000", "length = 10"),
+        ("colours = [1]", 'colours = [1]\nwords = { "a+" = 1 }'),
+        ("colours = [1]", "colours = [1]\nwords = { a = -1 }"),
+    ],
+)
+def test_it_refuses_a_description_that_one_key_breaks(old: str, new: str) -> None:
+    text = (C / "hello.toml").read_text()
+    assert old in text and faults_of_description(text.replace(old, new)) != []
+    good = 'colours = [1]\nwords = { a = 1, "b+4" = [1, 2], c = "text", d = "@file" }'
+    assert faults_of_description(text.replace("colours = [1]", good)) == []

@@ -2,55 +2,60 @@
 
 from __future__ import annotations
 
-import os
 import re
-import shutil
-import subprocess
-import tempfile
-from pathlib import Path
 
-from tp_sdk.description import WORD, Description, DomainDescription, EntryDescription
-from tp_sdk.elf import Loaded, Segment, load_elf
+from tp_sdk.compiling import load_program
+from tp_sdk.description import Description, DomainDescription, EntryDescription
+from tp_sdk.elf import Loaded, Segment
 from tp_sdk.explain import explain
-from tp_sdk.faults import Fault, Missing, read_bytes
+from tp_sdk.faults import Fault, Missing
 from tp_sdk.image import Image, ImageDomain, ImageEntry
 from tp_sdk.keys import KEY_ROWS, PAGE, Array
 from tp_sdk.program import Ended, Program
 from tp_sdk.refusals import Refusal
+from tp_sdk.spelling import did_you_mean
+from tp_sdk.values import PLACE, integer_of, parse_setting
 
 STACK, STACK_TOP = "stack", "__stack_top"
-LINK_SCRIPT = Path(__file__).resolve().parents[1] / "c" / "link.ld"
-CROSS = "riscv64-unknown-elf-"
 
-_SETTING = re.compile(r"([a-z0-9]+)\.([A-Za-z_.$][A-Za-z0-9_.$]*)=(0[xX][0-9A-Fa-f]{1,99}|[0-9]{1,99})")
+_PLACE = re.compile(PLACE)
 _CAP_BY_NAME = re.compile(r"([^ +]+)(?:\+([0-9]{1,9}))?")
 
 
 def set_words(description: Description, settings: list[str]) -> None:
-    """Puts words, each as `DOMAIN.SYMBOL=VALUE`, in the place of the description's."""
+    """Puts values, each as `DOMAIN.SYMBOL[+OFFSET]=VALUE`, in the place of the description's."""
     for setting in settings:
-        match = _SETTING.fullmatch(setting)
-        if match is None:
-            raise Fault(f"--set {setting}: DOMAIN.SYMBOL=VALUE is wanted, the value decimal or 0x..")
-        domain, symbol = match[1], match[2]
-        value = int(match[3], 16 if match[3][:2] in ("0x", "0X") else 10)
-        if value > WORD.high:
-            raise Fault(f"--set {setting}: the value is above {WORD.high:#x}")
+        domain, where, data = parse_setting(setting)
         for it in description.domains:
             if it.name == domain:
-                it.words[symbol] = value
+                it.words.pop(where, None)  # (what is put last stays)
+                it.words[where] = data
                 break
         else:
-            raise Fault(f"--set {setting}: {description.file} has no domain '{domain}'")
+            named = setting.partition("=")[0]
+            names = [it.name for it in description.domains]
+            raise Fault(
+                f"--set {named}: {description.file} has no domain '{domain}'{did_you_mean(domain, names)}"
+            )
 
 
-def build_text(description: Description, program: Program | None) -> str:
-    """The image's text. Where there is a program, it has accepted it."""
-    domains = [_domain(it) for it in description.domains]
+def load_programs(description: Description) -> list[Loaded]:
+    """The programs of its domains, with the stacks that it asks for."""
+    return [_load(it) for it in description.domains]
+
+
+def build_text(
+    description: Description, program: Program | None, programs: list[Loaded] | None = None
+) -> str:
+    """The image's text, of programs that are loaded now where none are given. Where there is a program
+    `tp`, it has accepted it."""
+    loaded = load_programs(description) if programs is None else programs
+    domains = [_domain(it, its) for it, its in zip(description.domains, loaded)]
     numbers = {domain.name: number for number, domain in enumerate(domains)}
     for entry in description.schedule:
-        if entry.domain not in numbers:
-            raise Fault(f"{entry.place}: there is no domain '{entry.domain}': {', '.join(numbers)}")
+        if isinstance(entry.domain, str) and entry.domain not in numbers:
+            meant = did_you_mean(entry.domain, numbers) or f": {', '.join(numbers)}"
+            raise Fault(f"{entry.place}: there is no domain '{entry.domain}'{meant}")
 
     def image(pad: int) -> str:
         entries = [_entry(it, numbers, pad) for it in description.schedule]
@@ -84,53 +89,32 @@ def _accepted(description: Description, text: str, ended: Ended) -> None:
     if not ended.text.startswith("refused "):
         raise Fault(f"{description.file}: the program ended with {ended.code}: {ended.text.strip()}")
     told = explain(text.encode(), str(description.file), Refusal.parse(ended.text))
-    raise Fault(f"{description.file}: the image is refused: {told.reason()}")
+    raise Fault(f"{description.place(told.path)}: the image is refused: {told.reason()}")
 
 
 def _entry(entry: EntryDescription, numbers: dict[str, int], pad: int) -> ImageEntry:
-    return ImageEntry(numbers[entry.domain], entry.length, pad if entry.pad is None else entry.pad)
+    domain = entry.domain if isinstance(entry.domain, int) else numbers[entry.domain]
+    return ImageEntry(domain, entry.length, pad if entry.pad is None else entry.pad)
 
 
-def _domain(it: DomainDescription) -> ImageDomain:
-    loaded = _load(it.program)
+def _load(it: DomainDescription) -> Loaded:
+    loaded = it.program if isinstance(it.program, Loaded) else load_program(it.program, it.stack)
     if it.stack is not None:
         others = [segment for segment in loaded.segments if segment.name != STACK]
         loaded.segments = [*others, _stack(loaded, it.stack)]
+    return loaded
+
+
+def _domain(it: DomainDescription, loaded: Loaded) -> ImageDomain:
     _refuse_clashes(loaded, it.place)
-    for symbol, word in it.words.items():
-        _set_word(loaded, symbol, word)
+    for where, data in it.words.items():
+        _put(loaded, where, data)
     caps = [_cap(cap, loaded.segments, it.place) for cap in it.caps]
     return ImageDomain(it.name, it.colours, loaded.entry, caps, it.lines, it.moments, loaded.segments)
 
 
-def _load(program: Path) -> Loaded:
-    return _assembled(program) if program.suffix in (".s", ".S") else load_elf(program)
-
-
-def _assembled(source: Path) -> Loaded:
-    compiler = os.environ.get("CROSS", CROSS) + "gcc"
-    if shutil.which(compiler) is None:
-        raise Missing(f"{source}: there is no {compiler}: apt-get install gcc-riscv64-unknown-elf")
-    read_bytes(source)
-    with tempfile.TemporaryDirectory() as room:
-        out = Path(room) / "program.elf"
-        target = ["-march=rv32i_zicsr", "-mabi=ilp32", "-nostdlib", "-static", "-T", str(LINK_SCRIPT)]
-        ended = subprocess.run(
-            [compiler, *target, "-o", out, source],
-            capture_output=True,
-            text=True,
-            errors="replace",
-            check=False,
-        )
-        if ended.returncode != 0:
-            raise Fault(f"{source}: it can't be assembled and linked\n{ended.stderr.rstrip()}")
-        loaded = load_elf(out)
-    loaded.file = source
-    return loaded
-
-
 def _stack(loaded: Loaded, pages: int) -> Segment:
-    top = loaded.symbol(STACK_TOP)
+    top = loaded.symbol(STACK_TOP).address
     if top % PAGE or top < pages * PAGE:
         raise Fault(f"{loaded.file}: {STACK_TOP} is {top:#x}: no end of {pages} pages")
     return Segment(STACK, top // PAGE - pages, pages, "rw", bytearray())
@@ -151,13 +135,22 @@ def _refuse_clashes(loaded: Loaded, place: str) -> None:
             )
 
 
-def _set_word(loaded: Loaded, symbol: str, word: int) -> None:
-    address = loaded.symbol(symbol)
+def _put(loaded: Loaded, where: str, data: bytes) -> None:
+    """Puts bytes at a symbol, or at an offset from it; they fit into it, where its size is known."""
+    match = _PLACE.fullmatch(where)
+    if match is None:
+        raise Fault(f"{loaded.file}: '{where}' is no symbol, nor SYMBOL+OFFSET")
+    symbol, offset = loaded.symbol(match[1]), integer_of(match[2] or "0")
+    if symbol.size and offset + len(data) > symbol.size:
+        raise Fault(
+            f"{loaded.file}: '{symbol.name}' has {symbol.size} bytes, and {len(data)} are put at {where}"
+        )
+    address = symbol.address + offset
     for segment in loaded.segments:
-        if segment.page * PAGE <= address and address + 4 <= (segment.page + segment.pages) * PAGE:
-            segment.set_word(address, word)
+        if segment.start <= address and address + len(data) <= segment.end:
+            segment.put(address, data)
             return
-    raise Fault(f"{loaded.file}: '{symbol}' ({address:#x}) is in no segment")
+    raise Fault(f"{loaded.file}: '{where}' ({address:#x}) is in no segment")
 
 
 def _cap(cap: str, segments: list[Segment], place: str) -> str:

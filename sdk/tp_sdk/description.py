@@ -1,30 +1,36 @@
-"""The description from which an image is made: the machine, domains with their programs, the schedule."""
+"""The description from which an image is made: the machine, domains with their programs, the schedule.
+An image is a description that names no file."""
 
 from __future__ import annotations
 
+import json
+import re
 import tomllib
 from dataclasses import dataclass
 from pathlib import Path
 from typing import Any
 
 from tp_sdk import toml_places
-from tp_sdk.elf import PAGES
-from tp_sdk.faults import Fault, read_text
+from tp_sdk.elf import PAGES, Loaded, Segment
+from tp_sdk.faults import Fault, read_text, refuse_unread
 from tp_sdk.keys import (
+    HEX,
     KEY_ROWS,
+    PAGE,
     Array,
+    Either,
     Integer,
     Kind,
     Place,
     Table,
     Text,
-    Within,
     broken_place,
     fault_in,
     other_keys,
 )
-
-WORD = Within(0, 0xFFFF_FFFF)
+from tp_sdk.spelling import did_you_mean
+from tp_sdk.symbols import Symbols
+from tp_sdk.values import bytes_of
 
 
 @dataclass(frozen=True)
@@ -36,23 +42,39 @@ class Key:
     needed: bool = True
 
 
-_FRAME_KEYS = {
+def _keys_of(place: Place) -> dict[str, Key]:
+    """The keys of an image's tables."""
+    return {
+        row.key: Key(row.kind, f"as docs/IMAGE.md says: {row.value}", row.needed)
+        for row in KEY_ROWS
+        if row.place is place
+    }
+
+
+_FRAME = ("domain", "schedule")
+MACHINE_KEYS = {name: key for name, key in _keys_of(Place.TOP).items() if name not in _FRAME}
+FRAME_KEYS = {
     "machine": Key(Text(), "the name of a file with the machine's keys"),
     "domain": Key(Array(Table(), 1), "one or more tables [[domain]]"),
     "schedule": Key(Array(Table(), 1), "one or more tables [[schedule]]"),
 }
-_DOMAIN_KEYS = {
-    "name": Key(Text(), "a string"),
-    "program": Key(Text(), "the name of an ELF file or of an assembler source (.s, .S)"),
+_LISTS = {
     "colours": Key(Array(Integer()), "an array of integers"),
-    "stack": Key(PAGES, f"a number of pages, {PAGES.low} to {PAGES.high}", needed=False),
     "caps": Key(Array(Text()), "an array of strings", needed=False),
     "lines": Key(Array(Integer()), "an array of integers", needed=False),
     "moments": Key(Array(Array(Integer(), 2, 2)), "an array of pairs [cycle, line]", needed=False),
-    "words": Key(Table(), "a table of symbols and the words that stand there", needed=False),
 }
-_ENTRY_KEYS = {
-    "domain": Key(Text(), "the name of a domain"),
+DOMAIN_KEYS = {
+    "name": Key(Text(), "a string"),
+    "program": Key(Text(), "the name of an ELF file or of a source in C or assembler (.c, .s, .S)"),
+    "stack": Key(PAGES, f"a number of pages, {PAGES.low} to {PAGES.high}", needed=False),
+    **_LISTS,
+    "words": Key(Table(), "a table of symbols and the values that stand there", needed=False),
+}
+WRITTEN_DOMAIN_KEYS = _keys_of(Place.DOMAIN)
+SEGMENT_KEYS = _keys_of(Place.SEGMENT)
+ENTRY_KEYS = {
+    "domain": Key(Either((Text(), Integer())), "the name of a domain, or its place"),
     "length": Key(Integer(), "an integer: cycles"),
     "pad": Key(Integer(), "an integer: cycles", needed=False),
 }
@@ -60,17 +82,18 @@ _ENTRY_KEYS = {
 
 @dataclass
 class DomainDescription:
-    """A domain: `place` says where in the description's file it begins."""
+    """A domain: `place` says where in the description's file it begins. Its program is a file, or
+    written out; `words` has the bytes that are put at a symbol, or at an offset from it."""
 
     place: str
     name: str
-    program: Path
+    program: Path | Loaded
     colours: list[int]
     stack: int | None
     caps: list[str]
     lines: list[int]
     moments: list[list[int]]
-    words: dict[str, int]
+    words: dict[str, bytes]
 
 
 @dataclass(frozen=True)
@@ -78,28 +101,19 @@ class EntryDescription:
     """An entry of the schedule: with no pad, the bound on a switch is its pad."""
 
     place: str
-    domain: str
+    domain: str | int
     length: int
     pad: int | None
-
-
-@dataclass
-class Description:
-    """A description, as its file says."""
-
-    file: Path
-    machine: dict[str, Any]
-    domains: list[DomainDescription]
-    schedule: list[EntryDescription]
 
 
 class _Text:
     """A text of TOML, to be looked into; faults tell the line and column."""
 
-    def __init__(self, file: Path) -> None:
+    def __init__(self, file: Path, text: str | None = None) -> None:
         self.file = file
         try:
-            self.data, self.places = toml_places.read_with_places(read_text(file))
+            read = read_text(file) if text is None else text
+            self.data, self.places = toml_places.read_with_places(read)
         except tomllib.TOMLDecodeError as error:
             raise Fault(f"{file}: no TOML: {error}") from None
 
@@ -113,8 +127,20 @@ class _Text:
         at = self.places.position(span.start)
         return f"{self.file}:{at.line}:{at.column}"
 
+    def file_at(self, path: toml_places.Path, name: str) -> Path:
+        """The file that is named there; it is looked for beside the text."""
+        file = self.file.parent / name
+        refuse_unread(file, self.place(path))
+        return file
+
     def check(self, known: dict[str, Key], table: dict[str, Any], path: toml_places.Path) -> None:
-        """Faults the first key that is missing, of another kind, or unknown."""
+        """Faults the first key that is unknown, missing, or of another kind."""
+        for name in table:
+            if name not in known:
+                meant = did_you_mean(name, known) or f": {', '.join(known)}"
+                raise Fault(
+                    f"{self.place_of_key(path + (name,))}: there is no key '{name}' here{meant}"
+                )
         for name, key in known.items():
             here = path + (name,)
             if name not in table:
@@ -124,47 +150,108 @@ class _Text:
             fault = fault_in(key.kind, table[name], here)
             if fault is not None:
                 raise Fault(f"{self.place(fault)}: '{name}' must be {key.words}")
-        for name in table:
-            if name not in known:
-                raise Fault(
-                    f"{self.place_of_key(path + (name,))}: there is no key '{name}' here: {', '.join(known)}"
-                )
 
 
-def read_description(file: Path) -> Description:
-    """Reads a description; the files that it names are looked for beside it."""
-    text = _Text(file)
-    text.check(_FRAME_KEYS, text.data, ())
+@dataclass
+class Description:
+    """A description, as its file says."""
+
+    text: _Text
+    machine_text: _Text
+    machine: dict[str, Any]
+    domains: list[DomainDescription]
+    schedule: list[EntryDescription]
+
+    @property
+    def file(self) -> Path:
+        """Its file."""
+        return self.text.file
+
+    def place(self, path: toml_places.Path) -> str:
+        """Where that stands from which a place of the image is made."""
+        is_of_machine = bool(path) and path[0] in MACHINE_KEYS
+        return (self.machine_text if is_of_machine else self.text).place(path)
+
+
+def read_description(file: Path, given: str | None = None) -> Description:
+    """Reads a description, from its file where no text is given; the files that it names are looked for
+    beside it."""
+    text = _Text(file, given)
+    if "machine" in text.data:
+        text.check(FRAME_KEYS, text.data, ())
+        machine = _Text(text.file_at(("machine",), text.data["machine"]))
+        _check_machine(machine, ())
+    else:
+        machine = text
+        text.check({name: FRAME_KEYS[name] for name in _FRAME} | _optional(MACHINE_KEYS), text.data, ())
+        if not any(key in text.data for key in MACHINE_KEYS):
+            raise Fault(f"{text.place(())}: 'machine' is missing: {FRAME_KEYS['machine'].words}")
+        _check_machine(text, _FRAME)
     domains = [_domain(text, number, table) for number, table in enumerate(text.data["domain"])]
     schedule = [_entry(text, number, table) for number, table in enumerate(text.data["schedule"])]
-    return Description(file, _machine(file.parent / text.data["machine"]), domains, schedule)
+    keys = {key: value for key, value in machine.data.items() if key in MACHINE_KEYS}
+    return Description(text, machine, keys, domains, schedule)
 
 
-def _machine(file: Path) -> dict[str, Any]:
-    text = _Text(file)
-    rows = [row for row in KEY_ROWS if row.place is Place.TOP and row.key not in ("domain", "schedule")]
+def describe(programs: dict[str, Path], machine: Path, length: int, stack: int | None) -> str:
+    """A description of programs by their domains' names, beside each other: each has as many colours as
+    the others, and a slot in turn."""
+    keys = _Text(machine)
+    _check_machine(keys, ())
+    colours = keys.data["l2"]["sets"] * keys.data["line"] // PAGE - 1
+    each = colours // len(programs)
+    if each < 1:
+        raise Fault(f"{machine}: it has {colours} colours for domains, too few for {len(programs)} programs")
+    domains, entries = "", ""
+    for number, (name, program) in enumerate(programs.items()):
+        own = [number * each + 1 + place for place in range(each)]
+        domains += f"\n[[domain]]\nname = {_quoted(name)}\nprogram = {_quoted(str(program))}\n"
+        domains += f"colours = {own}\n" + (f"stack = {stack}\n" if stack is not None else "")
+        entries += f"\n[[schedule]]\ndomain = {_quoted(name)}\nlength = {length}\n"
+    return f"machine = {_quoted(str(machine))}\n{domains}{entries}"
+
+
+def _quoted(text: str) -> str:
+    """A string: what JSON writes with letters of its own, TOML reads alike."""
+    return json.dumps(text, ensure_ascii=False)
+
+
+def _optional(known: dict[str, Key]) -> dict[str, Key]:
+    return {name: Key(key.kind, key.words, needed=False) for name, key in known.items()}
+
+
+def _check_machine(text: _Text, others: tuple[str, ...]) -> None:
+    """The keys of the machine are there, and none but they and the others."""
+    rows = [row for row in KEY_ROWS if row.key in MACHINE_KEYS and row.place is Place.TOP]
+    for name in text.data:
+        if name not in (*MACHINE_KEYS, *others):
+            meant = did_you_mean(name, MACHINE_KEYS)
+            raise Fault(f"{text.place_of_key((name,))}: there is no key '{name}' of a machine{meant}")
     for row in rows:
         fault = broken_place(row, text.data, 0)
         if fault is not None:
             raise Fault(f"{text.place(fault)}: '{row.key}' must be there, as docs/IMAGE.md says: {row.value}")
-    known = {row.key for row in rows}
-    for path in (*other_keys(text.data), *((key,) for key in text.data if key not in known)):
+    machine = {key: value for key, value in text.data.items() if key in MACHINE_KEYS}
+    for path in other_keys(machine):
         raise Fault(f"{text.place_of_key(path)}: there is no key '{path[-1]}' of a machine")
-    return text.data
 
 
 def _domain(text: _Text, number: int, table: dict[str, Any]) -> DomainDescription:
     path: toml_places.Path = ("domain", number)
-    text.check(_DOMAIN_KEYS, table, path)
-    words = table.get("words", {})
-    for symbol, word in words.items():
-        here = path + ("words", symbol)
-        if fault_in(WORD, word, here):
-            raise Fault(f"{text.place(here)}: '{symbol}' must be a word, {WORD.low} to {WORD.high:#x}")
+    is_written = "program" not in table and "segment" in table
+    text.check(WRITTEN_DOMAIN_KEYS if is_written else DOMAIN_KEYS, table, path)
+    program: Path | Loaded
+    if is_written:
+        program = _written(text, path, table)
+    else:
+        program = text.file_at(path + ("program",), table["program"])
+    words = {}
+    for where, value in table.get("words", {}).items():
+        words[where] = bytes_of(value, text.file.parent, f"{text.place(path + ('words', where))}: '{where}'")
     return DomainDescription(
         text.place(path),
         table["name"],
-        text.file.parent / table["program"],
+        program,
         table["colours"],
         table.get("stack"),
         table.get("caps", []),
@@ -174,7 +261,23 @@ def _domain(text: _Text, number: int, table: dict[str, Any]) -> DomainDescriptio
     )
 
 
+def _written(text: _Text, path: toml_places.Path, table: dict[str, Any]) -> Loaded:
+    """A program whose segments stand in the text, as in an image."""
+    segments = []
+    for number, segment in enumerate(table["segment"]):
+        here = path + ("segment", number)
+        text.check(SEGMENT_KEYS, segment, here)
+        if not re.fullmatch(HEX, segment["hex"]):
+            raise Fault(
+                f"{text.place(here + ('hex',))}: 'hex' must be two digits, 0 to 9 and a to f, for each byte"
+            )
+        data = bytearray.fromhex(segment["hex"])
+        name = f"segment{number}"
+        segments.append(Segment(name, segment["page"], segment["pages"], segment["rights"], data))
+    return Loaded(text.file, table["entry"], segments, Symbols())
+
+
 def _entry(text: _Text, number: int, table: dict[str, Any]) -> EntryDescription:
     path: toml_places.Path = ("schedule", number)
-    text.check(_ENTRY_KEYS, table, path)
+    text.check(ENTRY_KEYS, table, path)
     return EntryDescription(text.place(path), table["domain"], table["length"], table.get("pad"))

@@ -3,22 +3,26 @@
 from __future__ import annotations
 
 import io
+from collections.abc import Iterator
 from dataclasses import dataclass
 from pathlib import Path
 
 from tp_sdk.faults import Fault, MissingLibrary, read_bytes
+from tp_sdk.instructions import ADVICE, beyond, lacking
 from tp_sdk.keys import KEY_ROWS, PAGE, RIGHTS, Within
+from tp_sdk.symbols import Symbol, Symbols
 
 try:
     from elftools.elf.elffile import ELFFile
-    from elftools.elf.sections import SymbolTableSection
+    from elftools.elf.sections import Section, SymbolTableSection
     from elftools.elf.segments import Segment as ElfSegment
 except ImportError:
     raise MissingLibrary("pyelftools", "elftools") from None
 
 _COMPRESSED, _FLOATS = 0x1, 0x6
-_IS_LOADED = 0x2
+_IS_LOADED, _IS_RUN = 0x2, 0x4
 _RIGHTS_BITS = (("r", 4), ("w", 2), ("x", 1))
+_ATTRIBUTES = ".riscv.attributes"
 
 
 def _range_of(key: str) -> Within:
@@ -40,47 +44,54 @@ class Segment:
     rights: str
     data: bytearray
 
-    def set_word(self, address: int, word: int) -> None:
-        """Writes a word that lies in it."""
-        at = address - self.page * PAGE
-        if len(self.data) < at + 4:
-            self.data.extend(bytes(at + 4 - len(self.data)))
-        self.data[at : at + 4] = word.to_bytes(4, "little")
+    @property
+    def start(self) -> int:
+        """The address of its first byte."""
+        return self.page * PAGE
+
+    @property
+    def end(self) -> int:
+        """The address after its last byte."""
+        return (self.page + self.pages) * PAGE
+
+    def put(self, address: int, data: bytes) -> None:
+        """Writes bytes that lie in it."""
+        at = address - self.start
+        if len(self.data) < at + len(data):
+            self.data.extend(bytes(at + len(data) - len(self.data)))
+        self.data[at : at + len(data)] = data
 
 
 @dataclass
 class Loaded:
-    """A program: its segments, its entry, the addresses of its symbols."""
+    """A program: its segments, its entry, its symbols."""
 
     file: Path
     entry: int
     segments: list[Segment]
-    symbols: dict[str, int]
+    symbols: Symbols
 
-    def symbol(self, name: str) -> int:
-        """The address of a symbol."""
-        if name not in self.symbols:
+    def symbol(self, name: str) -> Symbol:
+        """A symbol by its name."""
+        found = self.symbols.by_name.get(name)
+        if found is None:
             raise Fault(f"{self.file}: there is no symbol '{name}'")
-        return self.symbols[name]
+        return found
 
 
 def load_elf(file: Path) -> Loaded:
     """Reads an ELF file for RV32I without compressed instructions, with fixed addresses."""
+    data = read_bytes(file)
     try:
-        elf = ELFFile(io.BytesIO(read_bytes(file)))
+        elf = ELFFile(io.BytesIO(data))
         _refuse_others(elf, file)
+        symbols = Symbols(data, _symbols(elf))
+        _refuse_extensions(elf, file, symbols)
         segments = [
             _segment(elf, number, header, file)
             for number, header in enumerate(elf.iter_segments())
             if header["p_type"] == "PT_LOAD" and header["p_memsz"] > 0
         ]
-        symbols = {
-            symbol.name: symbol["st_value"]
-            for table in elf.iter_sections()
-            if isinstance(table, SymbolTableSection)
-            for symbol in table.iter_symbols()
-            if symbol.name and symbol["st_shndx"] != "SHN_UNDEF"
-        }
     except Fault:
         raise
     # (a broken file leads the library to other errors than its own, too)
@@ -91,6 +102,18 @@ def load_elf(file: Path) -> Loaded:
     return Loaded(file, elf["e_entry"], segments, symbols)
 
 
+def _symbols(elf: ELFFile) -> list[Symbol]:
+    return [
+        Symbol(symbol.name, symbol["st_value"], symbol["st_size"], symbol["st_shndx"])
+        for table in elf.iter_sections()
+        if isinstance(table, SymbolTableSection)
+        for symbol in table.iter_symbols()
+        if symbol.name
+        and symbol["st_shndx"] != "SHN_UNDEF"
+        and symbol["st_info"]["type"] not in ("STT_FILE", "STT_SECTION")
+    ]
+
+
 def _refuse_others(elf: ELFFile, file: Path) -> None:
     """Refuses what another machine runs."""
     machine, kind, flags = elf["e_machine"], elf["e_type"], elf["e_flags"]
@@ -98,17 +121,59 @@ def _refuse_others(elf: ELFFile, file: Path) -> None:
     if machine != "EM_RISCV":
         wrong = f"for another machine: e_machine is {machine}, not EM_RISCV"
     elif elf.elfclass != 32:
-        wrong = f"for RV{elf.elfclass}: compile it with -march=rv32i -mabi=ilp32"
+        wrong = f"for RV{elf.elfclass}: {ADVICE}"
     elif not elf.little_endian:
         wrong = "big-endian, and the machine is little-endian"
     elif flags & _COMPRESSED:
-        wrong = "with compressed instructions: compile it with -march=rv32i"
+        wrong = f"with compressed instructions: {ADVICE}"
     elif flags & _FLOATS:
-        wrong = "for a machine with floating point: compile it with -mabi=ilp32"
+        wrong = f"for a machine with floating point: {ADVICE}"
     elif kind != "ET_EXEC":
         wrong = f"of type {kind}, not ET_EXEC: link it, and to fixed addresses (-static, not -pie)"
     if wrong is not None:
         raise Fault(f"{file}: {wrong}")
+
+
+def _refuse_extensions(elf: ELFFile, file: Path, symbols: Symbols) -> None:
+    """Refuses a program with instructions that the machine lacks, or that was compiled with leave
+    to have some."""
+    for start, data in _texts(elf):
+        for at in range(0, len(data) - 3, 4):
+            instruction = lacking(int.from_bytes(data[at : at + 4], "little"))
+            if instruction is not None and symbols.is_text(start + at):
+                place = symbols.place(start + at)
+                raise Fault(f"{file}: {place} is {instruction}: {ADVICE}")
+    arch = _arch(elf)
+    others = beyond(arch)
+    if others:
+        named = ", ".join(name.upper() if len(name) == 1 else name.capitalize() for name in others)
+        raise Fault(f"{file}: for {arch}, and the machine lacks {named}: {ADVICE}")
+
+
+def _texts(elf: ELFFile) -> Iterator[tuple[int, bytes]]:
+    """What may be run: sections, or program headers where the file has no sections."""
+    sections = [it for it in elf.iter_sections() if it["sh_flags"] & _IS_LOADED]
+    if sections:
+        for section in sections:
+            if section["sh_flags"] & _IS_RUN and section["sh_type"] != "SHT_NOBITS":
+                yield section["sh_addr"], section.data()
+    else:
+        for header in elf.iter_segments():
+            if header["p_type"] == "PT_LOAD" and header["p_flags"] & 1:
+                yield header["p_vaddr"], header.data()
+
+
+def _arch(elf: ELFFile) -> str:
+    """The architecture that the file's attributes name, as 'rv32i2p1'; nothing where they name none."""
+    section: Section | None = elf.get_section_by_name(_ATTRIBUTES)
+    if section is None:
+        return ""
+    # (the one text in it that begins so; what else it has are small numbers and the vendor's name)
+    for text in section.data().split(b"\0"):
+        at = text.find(b"rv32")
+        if at >= 0:
+            return str(text[at:].decode("ascii", errors="replace"))
+    return ""
 
 
 def _segment(elf: ELFFile, number: int, header: ElfSegment, file: Path) -> Segment:

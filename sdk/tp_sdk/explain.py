@@ -7,8 +7,11 @@ import tomllib
 from dataclasses import asdict, dataclass
 from typing import Any
 
+from tp_sdk import keys
 from tp_sdk.faults import Fault
 from tp_sdk.refusals import Case, Image, Refusal, case_of
+from tp_sdk.rules import Rules
+from tp_sdk.spelling import did_you_mean, meant
 from tp_sdk.toml_places import Path, Places, Position, read_with_places
 
 _TOML_PLACE = re.compile(r"(.*) \(at line (\d+), column (\d+)\)")
@@ -17,8 +20,19 @@ _MOST_INTEGER = 2**63 - 1
 
 
 @dataclass(frozen=True)
+class Other:
+    """That with which a place clashes."""
+
+    line: int
+    column: int
+    what: str
+    stands: str
+
+
+@dataclass(frozen=True)
 class Explanation:
-    """Where a refused image is broken, what stands there, and what is wanted."""
+    """Where a refused image is broken, what stands there, and what is wanted; `hint` asks whether another
+    word was meant."""
 
     file: str
     line: int
@@ -32,15 +46,21 @@ class Explanation:
     broken: str
     wanted: str
     refusal: str
+    hint: str = ""
+    other: Other | None = None
 
     def reason(self) -> str:
         """What is broken, without its place in the text."""
         stands = f" is {self.stands}" if self.stands else ""
-        return f"{self.case}: {self.what}{stands}: {self.broken}; wanted: {self.wanted}"
+        return f"{self.case}: {self.what}{stands}: {self.broken}; wanted: {self.wanted}{self.hint}"
 
-    def sentence(self) -> str:
-        """One line, as compilers write it."""
-        return f"{self.file}:{self.line}:{self.column}: {self.reason()}"
+    def sentence(self, also: bool = False) -> str:
+        """One line, as compilers write it; `also` marks one that isn't the program's."""
+        line = f"{self.file}:{self.line}:{self.column}: {'also ' if also else ''}{self.reason()}"
+        if self.other is None:
+            return line
+        it = self.other
+        return f"{line}; the other is {it.what}: {it.stands}, {self.file}:{it.line}:{it.column}"
 
     def fields(self) -> dict[str, Any]:
         """What `--json` writes."""
@@ -49,46 +69,98 @@ class Explanation:
 
 def explain(text: bytes, file: str, refusal: Refusal) -> Explanation:
     """Explains the refusal of the image that `text` is."""
+    return explain_all(text, file, refusal)[0]
+
+
+def explain_all(text: bytes, file: str, refusal: Refusal) -> list[Explanation]:
+    """Explains a refusal and, after it, whatever else is broken in the image and can be told."""
     case = case_of(refusal)
     if refusal.rule == 1:
-        return _of_no_toml(text, file, refusal, case)
+        return [_of_no_toml(text, file, refusal, case)]
     try:
         image, places = read_with_places(text.decode())
     except (UnicodeDecodeError, tomllib.TOMLDecodeError) as error:
         raise Fault(f"{file}: no TOML ({error}), so '{refusal}' is of another image") from None
-    try:
-        path = case.place(refusal, image)
-    except (KeyError, IndexError, TypeError):
-        path = None
-    is_there = path is not None and (refusal.rule == 2 or path in places.values or path in places.keys)
-    if path is None or not is_there:
+    of_image = _OfImage(file, image, places)
+    told = of_image.told(refusal, None)
+    if told is None:
         raise Fault(f"{file}: '{refusal}' is of another image: nothing here breaks that rule there")
-    return _made(file, refusal, case, path, image, places)
+    others = [of_image.told(*it) for it in Rules(image).broken()]
+    return [told, *(it for it in others if it is not None and it != told)]
 
 
-def _made(file: str, refusal: Refusal, case: Case, path: Path, image: Image, places: Places) -> Explanation:
-    span = places.keys[path] if case.is_of_key else places.nearest(path)
-    start, end = places.position(span.start), places.position(span.end)
-    words = {
-        "found": refusal.found,
-        "wanted": refusal.wanted,
-        "last": refusal.wanted - 1,
-        "other": _OtherDomain(refusal, image),
-    }
-    return Explanation(
-        file,
-        start.line,
-        start.column,
-        end.line,
-        end.column,
-        case.name,
-        path,
-        label(path, image),
-        "" if case.is_of_key else _stands(path, places),
-        case.broken.format(**words),
-        case.wants.format(**words),
-        str(refusal),
-    )
+class _OfImage:
+    """Explains refusals of one image."""
+
+    def __init__(self, file: str, image: Image, places: Places) -> None:
+        self.file = file
+        self.image = image
+        self.places = places
+
+    def told(self, refusal: Refusal, at: Path | None) -> Explanation | None:
+        """The explanation, at the place if it is given; none where nothing is there."""
+        case = case_of(refusal)
+        path = at
+        if path is None:
+            try:
+                path = case.place(refusal, self.image)
+            except (KeyError, IndexError, TypeError):
+                return None
+        places = self.places
+        if path is None or not (refusal.rule == 2 or path in places.values or path in places.keys):
+            return None
+        return self._made(refusal, case, path)
+
+    def _made(self, refusal: Refusal, case: Case, path: Path) -> Explanation:
+        span = self.places.keys[path] if case.is_of_key else self.places.nearest(path)
+        start, end = self.places.position(span.start), self.places.position(span.end)
+        words = {
+            "found": refusal.found,
+            "wanted": refusal.wanted,
+            "last": refusal.wanted - 1,
+            "other": _OtherDomain(refusal, self.image),
+        }
+        return Explanation(
+            self.file,
+            start.line,
+            start.column,
+            end.line,
+            end.column,
+            case.name,
+            path,
+            label(path, self.image),
+            "" if case.is_of_key else _stands(path, self.places),
+            case.broken.format(**words),
+            case.wants.format(**words),
+            str(refusal),
+            self._hint(path),
+            self._other(refusal, case),
+        )
+
+    def _other(self, refusal: Refusal, case: Case) -> Other | None:
+        try:
+            path = case.other(refusal, self.image)
+        except (KeyError, IndexError, TypeError, ValueError):
+            return None
+        if path is None or path not in self.places.values:
+            return None
+        at = self.places.position(self.places.values[path].start)
+        return Other(at.line, at.column, label(path, self.image), _stands(path, self.places))
+
+    def _hint(self, path: Path) -> str:
+        """Whether another key, or another policy, was meant."""
+        if not path or not isinstance(path[-1], str):
+            return ""
+        table = _value_at(self.image, path[:-1])
+        known, key = keys.keys_at(path[:-1]), path[-1]
+        if key not in known:
+            return did_you_mean(key, [it for it in known if it not in table], "`")
+        if key not in table:
+            written = meant(key, [it for it in table if it not in known])
+            return "" if written is None else f": did you mean it by `{written}`?"
+        if key == "policy" and isinstance(table[key], str):
+            return did_you_mean(table[key], keys.POLICIES, "`")
+        return ""
 
 
 class _OtherDomain:
@@ -120,9 +192,9 @@ def label(path: Path, image: Image) -> str:
         case ("domain", int(number)):
             return _domain(number, image)
         case ("schedule", int(number), *rest) if rest:
-            return f"{_key(rest)} of entry {number}"
+            return f"{_key(rest)} of {_entry(number, image)}"
         case ("schedule", int(number)):
-            return f"entry {number}"
+            return _entry(number, image)
         case ():
             return "the text"
     return _key(list(path))
@@ -139,6 +211,15 @@ def _domain(number: int, image: Image) -> str:
     except (KeyError, IndexError, TypeError):
         name = None
     return f"domain {number} ({name})" if isinstance(name, str) else f"domain {number}"
+
+
+def _entry(number: int, image: Image) -> str:
+    """An entry, and whose it is."""
+    try:
+        name = image["domain"][image["schedule"][number]["domain"]]["name"]
+    except (KeyError, IndexError, TypeError):
+        name = None
+    return f"entry {number} ({name})" if isinstance(name, str) else f"entry {number}"
 
 
 def _of_no_toml(text: bytes, file: str, refusal: Refusal, case: Case) -> Explanation:

@@ -80,6 +80,16 @@ def read_bytes(path: Path) -> bytes:
         raise Fault(f"{str(path)!r}: no file has such a name") from None
 
 
+def refuse_unread(path: Path, place: str) -> None:
+    """Faults a file that can't be read, which is named at the place."""
+    try:
+        path.open("rb").close()
+    except OSError as error:
+        raise Fault(f"{place}: {path}: {error.strerror}") from None
+    except ValueError:
+        raise Fault(f"{place}: {str(path)!r}: no file has such a name") from None
+
+
 def read_text(path: Path) -> str:
     """The text of a file."""
     try:

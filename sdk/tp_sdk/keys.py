@@ -48,7 +48,14 @@ class Array:
     most: int | None = None
 
 
-Kind = Integer | Within | Text | Table | Array
+@dataclass(frozen=True)
+class Either:
+    """One of these kinds."""
+
+    kinds: tuple[Kind, ...]
+
+
+Kind = Integer | Within | Text | Table | Array | Either
 
 
 class Place(Enum):
@@ -168,6 +175,7 @@ NAME = "[a-z0-9]{1,16}"
 SHARED_MOST = 65_536
 PAGES_OF_ALL = 1_048_576
 RIGHTS = ("r", "rw", "x", "rx", "rwx")
+HEX = "([0-9a-fA-F]{2})*"
 CAPS_MOST = 64
 CAP = r"none|(page|irq) (0|[1-9][0-9]{0,9})"
 LINE = Within(0, 31)
@@ -200,6 +208,8 @@ def fault_in(kind: Kind, value: Any, path: Path) -> Path | None:
             if not isinstance(value, list) or len(value) < least or (most is not None and len(value) > most):
                 return path
             return _first(fault_in(item, it, path + (number,)) for number, it in enumerate(value))
+        case Either(kinds):
+            return None if any(fault_in(one, value, path) is None for one in kinds) else path
 
 
 def tables_at(image: dict[str, Any], place: Place) -> Iterator[tuple[Path, dict[str, Any]]]:
@@ -243,6 +253,16 @@ def other_keys(image: dict[str, Any]) -> Iterator[Path]:
                 elif isinstance(kind, Table) and isinstance(value, dict):
                     known = {name for name, _ in kind.fields}
                     yield from (path + (key, name) for name in value if name not in known)
+
+
+def keys_at(path: Path) -> list[str]:
+    """The keys that a table may have."""
+    names = tuple(it for it in path if isinstance(it, str))
+    for place in Place:
+        if place.path == names:
+            return [row.key for row in KEY_ROWS if row.place is place]
+    row = next((it for it in KEY_ROWS if it.place is Place.TOP and (it.key,) == names), None)
+    return [name for name, _ in row.kind.fields] if row is not None and isinstance(row.kind, Table) else []
 
 
 def _is_integer(value: Any) -> bool:

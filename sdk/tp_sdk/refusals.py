@@ -61,6 +61,8 @@ class Case:
     place: Callable[[Refusal, Image], Path | None]
     holds: Callable[[Refusal], bool] = lambda refusal: True
     is_of_key: bool = False  # and not of what stands there
+    # where that stands with which it clashes
+    other: Callable[[Refusal, Image], Path | None] = lambda refusal, image: None
 
     @property
     def rule(self) -> int:
@@ -126,6 +128,33 @@ def _of_line_named_before(refusal: Refusal, image: Image) -> Path | None:
 
 def _of_item(key: str, *path: int) -> Callable[[Refusal, Image], Path | None]:
     return lambda refusal, image: ("domain", refusal.at, key, refusal.found, *path)
+
+
+def _earlier(key: str) -> Callable[[Refusal, Image], Path | None]:
+    """The first item of a domain's list that is the one in the place found."""
+
+    def place(refusal: Refusal, image: Image) -> Path | None:
+        items = image["domain"][refusal.at][key]
+        return ("domain", refusal.at, key, items.index(items[refusal.found]))
+
+    return place
+
+
+def _in_list_of_wanted(key: str) -> Callable[[Refusal, Image], Path | None]:
+    """The item that is the number found, in the list of the domain of the number wanted."""
+    return lambda refusal, image: (
+        ("domain", refusal.wanted, key, image["domain"][refusal.wanted][key].index(refusal.found))
+    )
+
+
+def _earlier_segment(refusal: Refusal, image: Image) -> Path | None:
+    """The first segment that has a page of the one found."""
+    segments = image["domain"][refusal.at]["segment"]
+    one = segments[refusal.found]
+    for number, it in enumerate(segments[: refusal.found]):
+        if it["page"] < one["page"] + one["pages"] and one["page"] < it["page"] + it["pages"]:
+            return ("domain", refusal.at, "segment", number, "page")
+    return None
 
 
 def _other_key(refusal: Refusal, image: Image) -> Path | None:
@@ -312,6 +341,7 @@ CASES: tuple[Case, ...] = (
         "a name of its own",
         _of_domain("name"),
         lambda refusal: refusal.at != keys.DOMAINS.high and refusal.wanted == 0,
+        other=lambda refusal, image: ("domain", refusal.found, "name"),
     ),
     Case(
         _K8,
@@ -328,6 +358,7 @@ CASES: tuple[Case, ...] = (
         "each colour once",
         _in_list("colours", again=True),
         lambda refusal: 1 <= refusal.found < refusal.wanted,
+        other=_in_list("colours", again=False),
     ),
     Case(
         _K9,
@@ -335,6 +366,7 @@ CASES: tuple[Case, ...] = (
         "the colour is one of {other:wanted}",
         "a colour that no earlier domain has",
         _in_list("colours", again=False),
+        other=_in_list_of_wanted("colours"),
     ),
     Case(
         _K10,
@@ -406,6 +438,7 @@ CASES: tuple[Case, ...] = (
         "pages of its own",
         _of_segment("page"),
         _wanted_is(5),
+        other=_earlier_segment,
     ),
     Case(
         _K12_ENTRY,
@@ -454,6 +487,7 @@ CASES: tuple[Case, ...] = (
         "each page and line once",
         _of_item("caps"),
         _wanted_is(5),
+        other=_earlier("caps"),
     ),
     Case(
         _K14_NONE,
@@ -470,6 +504,7 @@ CASES: tuple[Case, ...] = (
         "a line that no domain names before",
         _of_line_named_before,
         lambda refusal: refusal.wanted != _NO_LINE,
+        other=_in_list_of_wanted("lines"),
     ),
     Case(
         _K15_MANY,
@@ -502,6 +537,7 @@ CASES: tuple[Case, ...] = (
         "pairs that ascend, by the cycle and then by the line",
         _of_item("moments"),
         _wanted_is(4),
+        other=lambda refusal, image: ("domain", refusal.at, "moments", refusal.found - 1),
     ),
     Case(
         _K16_MANY,
@@ -539,7 +575,7 @@ CASES: tuple[Case, ...] = (
         _K17,
         1,
         "the pad is below the bound on a switch",
-        "{wanted} cycles or more",
+        "`pad = {wanted}` or more",
         _of_entry("pad"),
     ),
 )

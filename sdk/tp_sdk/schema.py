@@ -1,11 +1,12 @@
-"""A JSON schema of the image, for editors that know schemas of TOML; made from the table of keys."""
+"""JSON schemas of images and descriptions, for editors that know schemas of TOML; made from the tables
+of keys."""
 
 from __future__ import annotations
 
 from typing import Any
 
 from tp_sdk import keys
-from tp_sdk.keys import KEY_ROWS, Array, Integer, Kind, Place, Table, Text, Within
+from tp_sdk.keys import KEY_ROWS, Array, Either, Integer, Kind, Place, Table, Text, Within
 
 Schema = dict[str, Any]
 
@@ -16,11 +17,12 @@ def image_schema() -> Schema:
         "$schema": "http://json-schema.org/draft-07/schema#",
         "title": "An image of tp",
         "description": "Made by `tp-explain --schema`; what it cannot say, `tp check` says.",
-        **_of_place(Place.TOP),
+        **of_place(Place.TOP),
     }
 
 
-def _of_place(place: Place) -> Schema:
+def of_place(place: Place) -> Schema:
+    """A table of an image."""
     rows = [row for row in KEY_ROWS if row.place is place]
     return {
         "type": "object",
@@ -33,10 +35,11 @@ def _of_place(place: Place) -> Schema:
 
 
 def _of_key(place: Place, key: str, kind: Kind) -> Schema:
-    return _of_kind(kind) | _inner(place, key) | _values(place, key)
+    return of_kind(kind) | _inner(place, key) | values_at(place, key)
 
 
-def _of_kind(kind: Kind) -> Schema:
+def of_kind(kind: Kind) -> Schema:
+    """What may stand at a key of a kind."""
     match kind:
         case Integer():
             return {"type": "integer"}
@@ -49,12 +52,14 @@ def _of_kind(kind: Kind) -> Schema:
                 return {"type": "object"}
             return {
                 "type": "object",
-                "properties": {key: _of_kind(field) for key, field in fields},
+                "properties": {key: of_kind(field) for key, field in fields},
                 "required": [key for key, _ in fields],
                 "additionalProperties": False,
             }
         case Array(item, least, most):
-            return {"type": "array", "items": _of_kind(item)} | _ends("minItems", least, "maxItems", most)
+            return {"type": "array", "items": of_kind(item)} | _ends("minItems", least, "maxItems", most)
+        case Either(kinds):
+            return {"anyOf": [of_kind(one) for one in kinds]}
 
 
 def _ends(low_key: str, low: int | None, high_key: str, high: int | None) -> Schema:
@@ -64,10 +69,10 @@ def _ends(low_key: str, low: int | None, high_key: str, high: int | None) -> Sch
 def _inner(place: Place, key: str) -> Schema:
     """An array of a place's tables."""
     inner = next((it for it in Place if it.path == (*place.path, key)), None)
-    return {} if inner is None else {"items": _of_place(inner)}
+    return {} if inner is None else {"items": of_place(inner)}
 
 
-def _values(place: Place, key: str) -> Schema:
+def values_at(place: Place, key: str) -> Schema:
     """What the rules of values ask for at a key."""
     part = next((part for part in keys.PARTS if part.key == key), None)
     if place is Place.TOP and part is not None:
@@ -84,7 +89,7 @@ def _of_cache(part: keys.Part) -> Schema:
     return {
         "properties": {
             "sets": {"type": "integer"} | _powers_of_two(part.low, part.high),
-            "ways": _of_kind(keys.WAYS),
+            "ways": of_kind(keys.WAYS),
             "policy": {"enum": list(keys.POLICIES)},
         },
         "anyOf": [
@@ -95,9 +100,9 @@ def _of_cache(part: keys.Part) -> Schema:
 
 
 _VALUES: dict[tuple[Place, str], Schema] = {
-    (Place.TOP, "frames"): _of_kind(keys.FRAMES),
+    (Place.TOP, "frames"): of_kind(keys.FRAMES),
     (Place.TOP, "shared"): {"maximum": keys.SHARED_MOST},
-    (Place.TOP, "costs"): {"properties": {cost: _of_kind(keys.COST) for cost in keys.COSTS}},
+    (Place.TOP, "costs"): {"properties": {cost: of_kind(keys.COST) for cost in keys.COSTS}},
     (Place.TOP, "domain"): _ends("minItems", keys.DOMAINS.low, "maxItems", keys.DOMAINS.high),
     (Place.TOP, "schedule"): _ends("minItems", keys.ENTRIES.low, "maxItems", keys.ENTRIES.high),
     (Place.DOMAIN, "name"): {"pattern": f"^{keys.NAME}$"},
@@ -109,19 +114,19 @@ _VALUES: dict[tuple[Place, str], Schema] = {
         "items": {"type": "string", "pattern": f"^({keys.CAP})$"},
         "maxItems": keys.CAPS_MOST,
     },
-    (Place.DOMAIN, "lines"): {"items": _of_kind(keys.LINE), "uniqueItems": True},
+    (Place.DOMAIN, "lines"): {"items": of_kind(keys.LINE), "uniqueItems": True},
     (Place.DOMAIN, "moments"): {
         "items": {
             "type": "array",
-            "items": [_of_kind(keys.MOMENT), _of_kind(keys.LINE)],
+            "items": [of_kind(keys.MOMENT), of_kind(keys.LINE)],
             "minItems": 2,
             "maxItems": 2,
         },
         "maxItems": keys.MOMENTS_MOST,
     },
     (Place.SEGMENT, "rights"): {"enum": list(keys.RIGHTS)},
-    (Place.SEGMENT, "hex"): {"pattern": "^([0-9a-fA-F]{2})*$"},
+    (Place.SEGMENT, "hex"): {"pattern": f"^{keys.HEX}$"},
     (Place.ENTRY, "domain"): {"minimum": 0, "exclusiveMaximum": keys.DOMAINS.high},
-    (Place.ENTRY, "length"): _of_kind(keys.LENGTH),
-    (Place.ENTRY, "pad"): _of_kind(keys.PAD),
+    (Place.ENTRY, "length"): of_kind(keys.LENGTH),
+    (Place.ENTRY, "pad"): of_kind(keys.PAD),
 }

@@ -7,7 +7,7 @@ import sys
 from argparse import ArgumentParser, RawDescriptionHelpFormatter
 from pathlib import Path
 
-from tp_sdk.explain import explain
+from tp_sdk.explain import explain_all
 from tp_sdk.faults import EXIT_CODES, read_bytes
 from tp_sdk.refusals import Refusal
 from tp_sdk.schema import image_schema
@@ -15,7 +15,12 @@ from tp_sdk.schema import image_schema
 _HELP = """Tells in a sentence where an image breaks a rule, what stands there, and what is wanted:
 
   ./tp check < mine.toml | tp-explain mine.toml
-  tp-explain mine.toml 'refused K9 at 1 found 1 wanted 0'"""
+  tp-explain mine.toml 'refused K9 at 1 found 1 wanted 0'
+
+The program tells the first rule that an image breaks; what else is broken comes after it, marked
+'also', as far as it can be told."""
+
+_MOST_OTHERS = 20
 
 
 def main(words: list[str]) -> int:
@@ -42,6 +47,13 @@ def main(words: list[str]) -> int:
     if line.strip() == "accepted":
         print("accepted: no rule is broken")
         return 0
-    told = explain(text, str(asked.image), Refusal.parse(line))
-    print(json.dumps(told.fields()) if asked.json else told.sentence())
+    told, *others = explain_all(text, str(asked.image), Refusal.parse(line))
+    if asked.json:
+        print(json.dumps(told.fields() | {"also": [it.fields() for it in others]}))
+        return 0
+    print(told.sentence())
+    for other in others[:_MOST_OTHERS]:
+        print(other.sentence(also=True))
+    if len(others) > _MOST_OTHERS:
+        print(f"{asked.image}: and {len(others) - _MOST_OTHERS} more")
     return 0

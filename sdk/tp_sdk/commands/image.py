@@ -2,12 +2,14 @@
 
 from __future__ import annotations
 
+import json
 import sys
 from argparse import ArgumentParser, RawDescriptionHelpFormatter
 from pathlib import Path
 
 from tp_sdk.build import build_text, set_words
 from tp_sdk.description import read_description
+from tp_sdk.description_schema import description_schema
 from tp_sdk.faults import EXIT_CODES, Fault, Missing, write_bytes
 from tp_sdk.program import Program
 
@@ -19,18 +21,22 @@ _HELP = """Makes an image from a short description in TOML:
 
   [[domain]]
   name = "driver"
-  program = "driver.elf"        or an assembler source (.s, .S); beside the description
+  program = "driver.elf"        or a source in C or assembler (.c, .s, .S); beside the description
   colours = [1]
   stack = 2                     pages, if others than the program's own
   caps = ["irq 3", "data", "data+1", "none"]    a segment's name means its page
   lines = [3]
   moments = [[9000, 3]]
-  words = { key = 0x5a }        what stands at a symbol of the program
+  words = { key = 0x5a, "table+4" = [1, 2], title = "text", noise = "@noise.bin" }
+                                what stands at symbols: words, a string and a zero, a file's bytes
 
   [[schedule]]
-  domain = "driver"             by name
+  domain = "driver"             by name, or by its place as in an image
   length = 10000
   pad = 6150                    left out: what `tp bound` says
+
+An image's own keys may stand in it, too: the machine's in the place of `machine`, `entry` and
+`segment` in that of `program`. So every image is a description.
 
 Segments and their rights are those of the ELF file's program headers, each named after its
 first section. The program is looked for where the variable TP says, else where ./tp builds
@@ -42,7 +48,7 @@ def main(words: list[str]) -> int:
     parser = ArgumentParser(
         "tp-image", description=_HELP, epilog=EXIT_CODES, formatter_class=RawDescriptionHelpFormatter
     )
-    parser.add_argument("description", type=Path, help="the description")
+    parser.add_argument("description", type=Path, nargs="?", help="the description")
     parser.add_argument(
         "-o", dest="out", type=Path, metavar="IMAGE", help="the image's file, else standard output"
     )
@@ -50,10 +56,19 @@ def main(words: list[str]) -> int:
         "--set",
         action="append",
         default=[],
-        metavar="DOMAIN.SYMBOL=VALUE",
-        help="puts a word at a symbol, in the place of the description's; may stand several times",
+        metavar="DOMAIN.SYMBOL[+OFFSET]=VALUE",
+        help="puts a word, [1, 2], \"text\" or @FILE at a symbol, in the place of the description's; "
+        "may stand several times",
+    )
+    parser.add_argument(
+        "--schema", action="store_true", help="writes a JSON schema of descriptions, for editors, and ends"
     )
     asked = parser.parse_args(words)
+    if asked.schema:
+        print(json.dumps(description_schema(), indent=2))
+        return 0
+    if asked.description is None:
+        parser.error("the description is wanted")
     description = read_description(asked.description)
     set_words(description, asked.set)
     text = build_text(description, _program())

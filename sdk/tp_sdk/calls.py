@@ -1,0 +1,70 @@
+"""The kernel's calls and the codes of their replies, as docs/IMAGE.md has them."""
+
+from __future__ import annotations
+
+from dataclasses import dataclass
+
+
+@dataclass(frozen=True)
+class Call:
+    """A kernel call, and the codes with which it may be refused."""
+
+    number: int
+    name: str
+    refused_with: tuple[int, ...]
+
+
+@dataclass(frozen=True)
+class Error:
+    """A code of a reply, and where a call is refused with it."""
+
+    code: int
+    name: str
+    so_where: str
+
+
+PUT = Call(1, "PUT", (11,))
+CALLS = (
+    Call(0, "EXIT", ()),
+    PUT,
+    Call(2, "ALLOC", (2, 4, 5, 10)),
+    Call(3, "TABLE", (2, 3, 5, 7, 8)),
+    Call(4, "MAP", (2, 3, 5, 6, 7, 8, 9)),
+    Call(5, "UNMAP", (2, 3, 5, 7)),
+    Call(6, "COPY", (2, 3, 4, 5, 6)),
+    Call(7, "DELETE", (2, 3, 12)),
+    Call(8, "REVOKE", (2, 3)),
+    Call(9, "POLL", (2, 3, 5)),
+    Call(10, "WAIT", (2, 3, 5)),
+    Call(11, "SIGNAL", (2, 3, 5)),
+    Call(12, "SPAWN", (7, 13)),
+    Call(13, "YIELD", ()),
+    Call(14, "ENDTHREAD", ()),
+)
+ERRORS = (
+    Error(1, "BadCall", "no call has the number"),
+    Error(2, "BadSlot", "the slot is 64 or more"),
+    Error(3, "Empty", "the slot is empty"),
+    Error(4, "Used", "the slot is not empty"),
+    Error(5, "WrongKind", "a capability of another kind is wanted"),
+    Error(6, "BadRights", "the rights are not good, or beyond the capability's"),
+    Error(7, "BadAddress", "the address is not aligned, or nothing is mapped"),
+    Error(8, "Mapped", "something is mapped or installed already"),
+    Error(9, "NoTable", "no table is installed for the address"),
+    Error(10, "NoFrame", "no frame of the domain is free"),
+    Error(11, "OutputFull", "4,096 bytes are printed"),
+    Error(12, "InUse", "some page is mapped through the table, by a capability"),
+    Error(13, "NoThread", "all eight threads are live"),
+)
+
+_BY_CODE = {error.code: error for error in ERRORS}
+
+
+def error_of(code: int) -> Error:
+    """The error of a reply's code."""
+    return _BY_CODE.get(code, Error(code, "unknown", "the program's table has no such code"))
+
+
+def callers_of(code: int) -> list[str]:
+    """The calls that can be refused with a code."""
+    return [call.name for call in CALLS if code in call.refused_with]

@@ -1,0 +1,63 @@
+"""Programs from their sources, in C or in assembler, as sdk/c/Makefile makes them."""
+
+from __future__ import annotations
+
+import os
+import shutil
+import subprocess
+import sys
+import tempfile
+from pathlib import Path
+
+from tp_sdk.elf import Loaded, load_elf
+from tp_sdk.faults import Fault, Missing, read_bytes
+from tp_sdk.keys import PAGE
+
+C = Path(__file__).resolve().parents[1] / "c"
+LINK_SCRIPT = C / "link.ld"
+CROSS = "riscv64-unknown-elf-"
+SOURCES = (".c", ".s", ".S")
+
+
+def load_program(program: Path, stack: int | None = None) -> Loaded:
+    """A program from its source or its ELF file; one in C has a stack of that many pages."""
+    if program.suffix not in SOURCES:
+        return load_elf(program)
+    compiler = os.environ.get("CROSS", CROSS) + "gcc"
+    if shutil.which(compiler) is None:
+        raise Missing(f"{program}: there is no {compiler}: apt-get install gcc-riscv64-unknown-elf")
+    read_bytes(program)
+    with tempfile.TemporaryDirectory() as room:
+        if program.suffix == ".c":
+            loaded = _compiled(program, stack, Path(room))
+        else:
+            loaded = _assembled(program, compiler, Path(room))
+    loaded.file = program
+    return loaded
+
+
+def _compiled(source: Path, stack: int | None, room: Path) -> Loaded:
+    if shutil.which("make") is None:
+        raise Missing(f"{source}: there is no make: apt-get install make")
+    if any(letter in source.stem for letter in " \t:=%#$\\"):
+        raise Fault(f"{source}: make takes no such name: letters, digits, '-' and '_' are good")
+    words = [f"PROGRAMS={source.stem}", f"OUT={room}", *([] if stack is None else [f"STACK={stack * PAGE}"])]
+    command = ["make", "-s", "--no-print-directory", "-f", str(C / "Makefile"), *words]
+    _run(command, source, "compiled", folder=source.parent)
+    return load_elf(room / f"{source.stem}.elf")
+
+
+def _assembled(source: Path, compiler: str, room: Path) -> Loaded:
+    out = room / "program.elf"
+    target = ["-march=rv32i_zicsr", "-mabi=ilp32", "-nostdlib", "-static", "-g", "-T", str(LINK_SCRIPT)]
+    _run([compiler, *target, "-o", str(out), str(source)], source, "assembled")
+    return load_elf(out)
+
+
+def _run(command: list[str], source: Path, done: str, folder: Path | None = None) -> None:
+    ended = subprocess.run(
+        command, cwd=folder, capture_output=True, text=True, errors="replace", check=False
+    )
+    if ended.returncode != 0:
+        raise Fault(f"{source}: it can't be {done} and linked\n{ended.stderr.rstrip()}")
+    sys.stderr.write(ended.stderr)  # (warnings)

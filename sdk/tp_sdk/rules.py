@@ -1,0 +1,302 @@
+"""Every broken case of the rules that can be told of an image, the rules in order. The program tells the
+first; what needs a value that is itself broken is not told."""
+
+from __future__ import annotations
+
+import re
+from collections.abc import Iterator
+from dataclasses import dataclass
+from typing import Any
+
+from tp_sdk import keys
+from tp_sdk.keys import KEY_ROWS, PAGE, PARTS, Place, Within
+from tp_sdk.refusals import Image, Refusal
+from tp_sdk.toml_places import Path
+
+_KERNELS_FRAMES = 5
+_TABLE_PAGES = 1024
+_CAP = re.compile(keys.CAP)
+
+Broken = tuple[Refusal, Path | None]
+
+
+@dataclass(frozen=True)
+class _Domain:
+    number: int
+    table: dict[str, Any]
+
+
+class Rules:
+    """The rules on an image; `rows` are the broken rows of the table of keys, with their numbers."""
+
+    def __init__(self, image: Image) -> None:
+        self.image = image
+        self.rows = list(_broken_rows(image))
+        self.has_machine = not any(row <= 9 for row, _ in self.rows)
+        self.domains = [
+            _Domain(number, table)
+            for number, table in enumerate(_tables(image, "domain"))
+            if not any(11 <= row <= 21 and of == number for row, of in self.rows)
+        ]
+        self.entries = [
+            (number, table)
+            for number, table in enumerate(_tables(image, "schedule"))
+            if not any(23 <= row <= 25 and of == number for row, of in self.rows)
+        ]
+
+    def broken(self) -> Iterator[Broken]:
+        """The refusals; with a place where the refusal's numbers don't say which of several it is."""
+        for row, number in self.rows:
+            yield Refusal(2, row, number, 0), None
+        for path in keys.other_keys(self.image):
+            yield Refusal(2, keys.OTHER_KEYS, 0, 0), path
+        values = [*self._machine(), *self._names(), *self._colours(), *self._shared()]
+        values += [*self._segments(), *self._caps(), *self._lines(), *self._moments()]
+        values += [*self._schedule(), *self._pads()]
+        yield from ((it, None) for it in sorted(values, key=lambda it: it.rule))
+
+    # ---- the machine
+
+    def _machine(self) -> Iterator[Refusal]:
+        if not self.has_machine:
+            return
+        for part in PARTS:
+            yield from self._part(part)
+        yield from _outside(4, 0, self.image["frames"], keys.FRAMES)
+        if self._is_good(PARTS[0]) and self._is_good(PARTS[3]):
+            yield from _outside(5, 0, self._count_colours(), keys.COLOURS)
+        for place, cost in enumerate(keys.COSTS, 1):
+            yield from _outside(6, place, self.image["costs"][cost], keys.COST)
+
+    def _part(self, part: keys.Part) -> Iterator[Refusal]:
+        if not self._is_good(part):
+            yield Refusal(3, part.number, self._size(part), 1)
+        if not part.is_cache:
+            return
+        ways, policy = self.image[part.key]["ways"], self.image[part.key]["policy"]
+        if not _is_within(ways, keys.WAYS):
+            yield Refusal(3, part.number, ways, 2)
+        if policy not in keys.POLICIES:
+            yield Refusal(3, part.number, ways, 3)
+        elif policy == keys.TREE_POLICY and _is_within(ways, keys.WAYS) and not _is_power_of_two(ways):
+            yield Refusal(3, part.number, ways, 4)
+
+    def _size(self, part: keys.Part) -> int:
+        value = self.image[part.key]
+        return int(value["sets"] if part.is_cache else value)
+
+    def _is_good(self, part: keys.Part) -> bool:
+        return part.low <= self._size(part) <= part.high and _is_power_of_two(self._size(part))
+
+    def _count_colours(self) -> int:
+        return int(self.image["l2"]["sets"] * self.image["line"] // PAGE)
+
+    @property
+    def _colours_there(self) -> int | None:
+        """How many page colours there are, where that can be told."""
+        if not self.has_machine or not self._is_good(PARTS[0]) or not self._is_good(PARTS[3]):
+            return None
+        count = self._count_colours()
+        return count if _is_within(count, keys.COLOURS) else None
+
+    # ---- domains
+
+    def _names(self) -> Iterator[Refusal]:
+        count = len(_tables(self.image, "domain"))
+        if (10, 0) not in self.rows and not _is_within(count, keys.DOMAINS):
+            yield Refusal(7, keys.DOMAINS.high, count, keys.DOMAINS.high)
+        names: dict[str, int] = {}
+        for it in self.domains:
+            name = it.table["name"]
+            if not re.fullmatch(keys.NAME, name):
+                yield Refusal(7, it.number, len(name.encode()), keys.DOMAINS.high)
+            elif name in names:
+                yield Refusal(7, it.number, names[name], 0)
+            names.setdefault(name, it.number)
+
+    def _colours(self) -> Iterator[Refusal]:
+        there = self._colours_there
+        owners: dict[int, int] = {}
+        for it in self.domains:
+            own = it.table["colours"]
+            if there is not None:
+                for place, colour in enumerate(own):
+                    if not 1 <= colour < there or colour in own[:place]:
+                        yield Refusal(8, it.number, colour, there)
+            for colour in dict.fromkeys(own):
+                if colour in owners:
+                    yield Refusal(9, it.number, colour, owners[colour])
+                owners.setdefault(colour, it.number)
+            yield from self._frames(it, there)
+
+    def _frames(self, it: _Domain, there: int | None) -> Iterator[Refusal]:
+        if there is None or not _is_within(self.image["frames"], keys.FRAMES):
+            return
+        own = set(it.table["colours"])
+        pool = sum(frame % there in own for frame in range(self.image["frames"]))
+        segments = it.table["segment"]
+        pages = [page for one in segments for page in range(one["page"], one["page"] + one["pages"])]
+        regions = {page // _TABLE_PAGES for page in pages}
+        need = _KERNELS_FRAMES + len(regions) + len(pages)
+        if pool < need:
+            yield Refusal(10, it.number, pool, need)
+
+    def _shared(self) -> Iterator[Refusal]:
+        if not self.has_machine or not self._is_good(PARTS[0]):
+            return
+        shared, line = self.image["shared"], self.image["line"]
+        if shared % line or shared < line or shared > keys.SHARED_MOST:
+            yield Refusal(11, 1, shared, keys.SHARED_MOST)
+            return
+        frames = -(-shared // PAGE)
+        if frames > self.image["l2"]["ways"]:
+            yield Refusal(11, 2, frames, self.image["l2"]["ways"])
+        there = self._colours_there
+        if there is not None and (frames - 1) * there >= self.image["frames"]:
+            yield Refusal(11, 3, (frames - 1) * there, self.image["frames"])
+
+    def _segments(self) -> Iterator[Refusal]:
+        for it in self.domains:
+            segments = it.table["segment"]
+            for place, one in enumerate(segments):
+                for case in _segment_cases(one, segments[:place]):
+                    yield Refusal(12, it.number, place, case)
+            entry = it.table["entry"]
+            is_text = any(
+                "x" in one["rights"] and one["page"] <= entry // PAGE < one["page"] + one["pages"]
+                for one in segments
+                if one["rights"] in keys.RIGHTS
+            )
+            if entry % 4 or not is_text:
+                yield Refusal(12, it.number, entry, 6)
+
+    def _caps(self) -> Iterator[Refusal]:
+        for it in self.domains:
+            caps = it.table.get("caps", [])
+            if len(caps) > keys.CAPS_MOST:
+                yield Refusal(13, it.number, len(caps), 1)
+            for slot, text in enumerate(caps):
+                case = _cap_case(text, caps[:slot], it.table)
+                if case is not None:
+                    yield Refusal(13, it.number, slot, case)
+
+    def _lines(self) -> Iterator[Refusal]:
+        owners: dict[int, int] = {}
+        for it in self.domains:
+            for line in it.table.get("lines", []):
+                if not _is_within(line, keys.LINE):
+                    yield Refusal(14, it.number, line, keys.LINE.high + 1)
+                elif line in owners:
+                    yield Refusal(14, it.number, line, owners[line])
+                owners.setdefault(line, it.number)
+
+    def _moments(self) -> Iterator[Refusal]:
+        for it in self.domains:
+            moments = it.table.get("moments", [])
+            if len(moments) > keys.MOMENTS_MOST:
+                yield Refusal(15, it.number, len(moments), 1)
+            for place, (cycle, line) in enumerate(moments):
+                if not _is_within(cycle, keys.MOMENT):
+                    yield Refusal(15, it.number, place, 2)
+                if line not in it.table.get("lines", []):
+                    yield Refusal(15, it.number, place, 3)
+                if place and moments[place] <= moments[place - 1]:
+                    yield Refusal(15, it.number, place, 4)
+
+    # ---- the schedule
+
+    def _schedule(self) -> Iterator[Refusal]:
+        count = len(_tables(self.image, "schedule"))
+        if (22, 0) not in self.rows and not _is_within(count, keys.ENTRIES):
+            yield Refusal(16, 0, count, 1)
+        domains = len(_tables(self.image, "domain"))
+        for number, it in self.entries:
+            if not 0 <= it["domain"] < domains:
+                yield Refusal(16, number, it["domain"], 2)
+            if not _is_within(it["length"], keys.LENGTH):
+                yield Refusal(16, number, it["length"], 3)
+            if not _is_within(it["pad"], keys.PAD):
+                yield Refusal(16, number, it["pad"], 4)
+
+    def _pads(self) -> Iterator[Refusal]:
+        broken = [*self._machine(), *self._shared()]
+        if not self.has_machine or any(it.rule in (3, 6) or (it.rule, it.at) == (11, 1) for it in broken):
+            return
+        bound = bound_on_a_switch(self.image)
+        for number, it in self.entries:
+            if _is_within(it["pad"], keys.PAD) and it["pad"] < bound:
+                yield Refusal(17, number, it["pad"], bound)
+
+
+def bound_on_a_switch(image: Image) -> int:
+    """The least pad, by the parts that docs/IMAGE.md has."""
+    line = image["line"]
+    base, l1, l2, mem, wb, tlb, mispredict, trap, flush = (image["costs"][cost] for cost in keys.COSTS)
+    misses = l1 + l2 + mem
+    dirty = misses + wb
+    walk = l2 + mem
+    parts = (
+        base + 2 * (tlb + 2 * walk) + misses + dirty + mispredict,
+        trap + 4 * misses + 5 * dirty + max(PAGE // line, 63) * dirty,
+        trap + 4 * misses + 3 * dirty,
+        image["shared"] // line * dirty,
+        flush + wb * image["l1d"]["sets"] * image["l1d"]["ways"],
+        4 * misses + 3 * dirty,
+    )
+    return int(sum(parts) - 1)
+
+
+def _broken_rows(image: Image) -> Iterator[tuple[int, int]]:
+    """Each broken row of the table of keys, with the domain or entry; by the rows, then by those."""
+    for row in KEY_ROWS:
+        root = row.place.path[0] if row.place is not Place.TOP else None
+        count = 1 if root is None else len(_tables(image, root))
+        for number in range(count):
+            if keys.broken_place(row, image, number) is not None:
+                yield row.number, number
+
+
+def _tables(image: Image, key: str) -> list[dict[str, Any]]:
+    value = image.get(key)
+    return [it if isinstance(it, dict) else {} for it in value] if isinstance(value, list) else []
+
+
+def _is_within(value: int, ends: Within) -> bool:
+    return ends.low <= value <= ends.high
+
+
+def _outside(rule: int, at: int, value: int, ends: Within) -> Iterator[Refusal]:
+    """The refusal of a value that passes an end."""
+    if not _is_within(value, ends):
+        yield Refusal(rule, at, value, ends.low if value < ends.low else ends.high)
+
+
+def _is_power_of_two(value: int) -> bool:
+    return value > 0 and value & (value - 1) == 0
+
+
+def _segment_cases(one: dict[str, Any], earlier: list[dict[str, Any]]) -> Iterator[int]:
+    first, after = one["page"], one["page"] + one["pages"]
+    if after > keys.PAGES_OF_ALL:
+        yield 1
+    if one["rights"] not in keys.RIGHTS:
+        yield 2
+    if not re.fullmatch(keys.HEX, one["hex"]):
+        yield 3
+    elif len(one["hex"]) // 2 > one["pages"] * PAGE:
+        yield 4
+    if any(first < it["page"] + it["pages"] and it["page"] < after for it in earlier):
+        yield 5
+
+
+def _cap_case(text: str, earlier: list[str], domain: dict[str, Any]) -> int | None:
+    if not _CAP.fullmatch(text):
+        return 2
+    kind, _, number = text.partition(" ")
+    if kind == "page" and not any(
+        int(number) in range(one["page"], one["page"] + one["pages"]) for one in domain["segment"]
+    ):
+        return 3
+    if kind == "irq" and int(number) not in domain.get("lines", []):
+        return 4
+    return 5 if kind != "none" and text in earlier else None

@@ -1,0 +1,283 @@
+"""A report in words: each domain, what it came to and where, its calls, its readings; and as an object."""
+
+from __future__ import annotations
+
+from collections import Counter
+from dataclasses import asdict
+from typing import Any
+
+from tp_sdk.calls import PUT, callers_of, error_of
+from tp_sdk.elf import Loaded
+from tp_sdk.known import Known
+from tp_sdk.report import Report, Section, Stop, Switch, Thread
+from tp_sdk.stops import NAMES, Overflow, overflow_of, value_in_words
+from tp_sdk.symbols import Place, Symbols
+
+_STEPS_SHOWN = 16
+_PLACES_SHOWN = 8
+_BYTES_SHOWN = 24
+_RETURN_ADDRESS = 1
+_PLURALS = {"reply": "replies", "switch": "switches"}
+
+
+class Telling:
+    """A report, and what is known besides it."""
+
+    def __init__(self, report: Report, file: str, known: Known) -> None:
+        self.report = report
+        self.file = file
+        self.known = known
+
+    def sentences(self) -> list[str]:
+        """The report in words, what belongs to a domain indented below it."""
+        image = self.known.file
+        of = f" of {image}" if image is not None and str(image) != self.file else ""
+        lines = [f"{self.file}: {_count(self.report.slots, 'slot')}{of}"]
+        for section in self.report.sections:
+            lines.extend(self.domain(section).sentences())
+        lines.extend(self._switch(switch) for switch in self.report.switches)
+        return lines
+
+    def fields(self) -> dict[str, Any]:
+        """What `--json` writes."""
+        return {
+            "report": self.file,
+            "image": None if self.known.file is None else str(self.known.file),
+            "slots": self.report.slots,
+            "domains": [self.domain(section).fields() for section in self.report.sections],
+            "switches": [self._switch_fields(switch) for switch in self.report.switches],
+        }
+
+    def domain(self, section: Section) -> DomainTold:
+        """A domain's section."""
+        return DomainTold(section, self.known.program(section.number))
+
+    def _switch(self, switch: Switch) -> str:
+        of = self._name_of_entry(switch)
+        if not switch.count:
+            return f"entry {switch.entry}{of}: no switch after a slot of it"
+        return (
+            f"entry {switch.entry}{of}: {_count(switch.count, 'switch')} used {switch.used:,} of the "
+            f"{switch.pad:,} cycles of {'its pad' if switch.count == 1 else 'the pad'} at most"
+        )
+
+    def _switch_fields(self, switch: Switch) -> dict[str, Any]:
+        numbers = {key: value for key, value in asdict(switch).items() if key != "line"}
+        return numbers | {"domain": self._name(switch)}
+
+    def _name_of_entry(self, switch: Switch) -> str:
+        name = self._name(switch)
+        return f" ({name})" if name is not None else ""
+
+    def _name(self, switch: Switch) -> str | None:
+        if switch.entry >= len(self.known.entries):
+            return None
+        return self.known.names[self.known.entries[switch.entry].domain]
+
+
+class DomainTold:
+    """A section, and the domain's program where it is known."""
+
+    def __init__(self, section: Section, loaded: Loaded | None) -> None:
+        self.section = section
+        self.loaded = loaded
+        self.symbols = loaded.symbols if loaded is not None else Symbols()
+
+    # ---- what it came to
+
+    def sentences(self) -> list[str]:
+        """The section in words."""
+        it = self.section
+        lines = [
+            f"{it.name} (domain {it.number}): {self._status()}",
+            *self._about_stop(),
+            *(self._thread(thread) for thread in it.threads if self._is_told(thread)),
+            f"{_count(it.retired, 'instruction')} retired",
+            *self._printed(),
+            *self._replies(),
+            *self._readings(),
+        ]
+        return lines[:1] + [f"  {line}" for line in lines[1:]]
+
+    def _status(self) -> str:
+        it = self.section
+        if it.exit_code is not None:
+            return f"exited with code {it.exit_code}"
+        if it.stop is not None:
+            thread = self.stopped_thread(it.stop)
+            by = f", in thread {thread.number}" if thread is not None and len(it.threads) > 1 else ""
+            name = NAMES.get(it.stop.code, "an exception of another code")
+            return f"stopped by {name} (code {it.stop.code}) at {self.symbols.place(it.stop.pc)}{by}"
+        if it.threads and all(thread.state != "ready" for thread in it.threads):
+            return "idle: no thread of it is ready"
+        return "still running" if it.threads else "not begun"
+
+    def _about_stop(self) -> list[str]:
+        stop = self.section.stop
+        if stop is None:
+            return []
+        thread = self.stopped_thread(stop)
+        lines = [value_in_words(stop, thread, self.loaded)]
+        overflow = self.overflow()
+        if overflow is not None:
+            lines.append(str(overflow))
+        caller = self._caller(thread) if thread is not None else None
+        if caller is not None:
+            lines.append(f"x1, where a function returns to, is {caller}")
+        return lines
+
+    def stopped_thread(self, stop: Stop) -> Thread | None:
+        """The thread that was stopped, where it can be told: none but it is ready at that address."""
+        there = [it for it in self.section.threads if it.state == "ready" and it.pc == stop.pc]
+        return there[0] if len(there) == 1 else None
+
+    def overflow(self) -> Overflow | None:
+        """The stack that has overflowed."""
+        stop = self.section.stop
+        if stop is None or self.loaded is None:
+            return None
+        return overflow_of(stop, self.stopped_thread(stop), self.loaded.segments)
+
+    # ---- threads
+
+    def _is_told(self, thread: Thread) -> bool:
+        is_of_stop = self.section.stop is not None and thread.pc == self.section.stop.pc
+        return thread.state != "ended" and not is_of_stop
+
+    def _thread(self, thread: Thread) -> str:
+        state = f"waits for line {thread.line}" if thread.line is not None else "is ready"
+        caller = self._caller(thread)
+        by = f", x1 {caller}" if caller is not None else ""
+        return f"thread {thread.number} {state} at {self.symbols.place(thread.pc)}{by}"
+
+    def _caller(self, thread: Thread) -> Place | None:
+        """The place that the thread's return address names, where it is one of the program's text."""
+        address = thread.registers.get(_RETURN_ADDRESS, 0)
+        place = self.symbols.place(address)
+        return place if place.symbol is not None else None
+
+    # ---- output, calls, readings
+
+    def _printed(self) -> list[str]:
+        """What was printed, as lines where it is text."""
+        out = self.section.out
+        if not out:
+            return []
+        told = f"printed {_count(len(out), 'byte')}"
+        text = out.decode(errors="replace")
+        if all(letter.isprintable() or letter == "\n" for letter in text) and "\ufffd" not in text:
+            return [f"{told}:", *(f"| {line}".rstrip() for line in text.removesuffix("\n").split("\n"))]
+        more = " .." if len(out) > _BYTES_SHOWN else ""
+        return [f"{told}: {out[:_BYTES_SHOWN].hex(' ')}{more}"]
+
+    def _replies(self) -> list[str]:
+        it = self.section
+        if not it.replies_count:
+            return []
+        kept = f" of the first {len(it.replies)}" if len(it.replies) < it.replies_count else ""
+        refused = Counter(reply.code for reply in it.replies if reply.code)
+        puts = f", {len(it.out)} of them {PUT.name}" if it.out else ""
+        told = f"{_count(it.replies_count, 'reply')} to calls{puts}; "
+        told += f"refused{kept}: {refused.total() or 'none'}"
+        return [told, *(f"  {self._refused(code, count)}" for code, count in sorted(refused.items()))]
+
+    def _refused(self, code: int, count: int) -> str:
+        error = error_of(code)
+        callers = callers_of(code)
+        by = f", as {_any_of(callers)} can be" if callers else ""
+        places = self._places_of(code)
+        shown = ", ".join(map(str, places[:_PLACES_SHOWN])) + (", .." if count > _PLACES_SHOWN else "")
+        which = "reply" if count == 1 else "replies"
+        return f"{count} by {error.name} ({code}: {error.so_where}){by}: {which} {shown}"
+
+    def _places_of(self, code: int) -> list[int]:
+        """The places of a code among the replies, from 0."""
+        return [number for number, reply in enumerate(self.section.replies) if reply.code == code]
+
+    def _codes(self) -> set[int]:
+        return {reply.code for reply in self.section.replies}
+
+    def _readings(self) -> list[str]:
+        it = self.section
+        if not it.readings:
+            return []
+        kept = f" (the first {len(it.readings)} are kept)" if len(it.readings) < it.readings_count else ""
+        steps = steps_of(it.readings)
+        told = " ".join(f"{step:+}" for step in steps[:_STEPS_SHOWN])
+        more = " .." if len(steps) > _STEPS_SHOWN else ""
+        from_one = f", each less the one before it: {told}{more}" if steps else ""
+        return [f"{_count(it.readings_count, 'reading')}{kept}, the first {it.readings[0]}{from_one}"]
+
+    # ---- as an object
+
+    def fields(self) -> dict[str, Any]:
+        """The section as an object."""
+        it = self.section
+        return {
+            "number": it.number,
+            "name": it.name,
+            "status": self._status_fields(),
+            "retired": it.retired,
+            "threads": [self._thread_fields(thread) for thread in it.threads],
+            "readings": {
+                "count": it.readings_count,
+                "last": it.last_reading,
+                "kept": list(it.readings),
+                "steps": steps_of(it.readings),
+            },
+            "replies": {
+                "count": it.replies_count,
+                "kept": [asdict(reply) for reply in it.replies],
+                "refused": [self._refused_fields(code) for code in sorted(self._codes() - {0})],
+            },
+            "printed": {"count": len(it.out), "text": it.out.decode(errors="replace"), "hex": it.out.hex()},
+            "mem": it.mem,
+            "sentences": [line.strip() for line in self.sentences()],
+        }
+
+    def _status_fields(self) -> dict[str, Any]:
+        stop = self.section.stop
+        if stop is None:
+            kind = "running" if self.section.exit_code is None else "exited"
+            return {"kind": kind} | ({} if kind == "running" else {"code": self.section.exit_code})
+        thread = self.stopped_thread(stop)
+        return {
+            "kind": "stopped",
+            "code": stop.code,
+            "exception": NAMES.get(stop.code),
+            "pc": place_fields(self.symbols.place(stop.pc)),
+            "value": place_fields(self.symbols.place(stop.value)),
+            "about": value_in_words(stop, thread, self.loaded),
+            "thread": None if thread is None else thread.number,
+            "is_stack_overflow": self.overflow() is not None,
+        }
+
+    def _thread_fields(self, thread: Thread) -> dict[str, Any]:
+        return {
+            "number": thread.number,
+            "state": thread.state,
+            "line": thread.line,
+            "pc": place_fields(self.symbols.place(thread.pc)),
+            "registers": {f"x{number}": value for number, value in thread.registers.items()},
+        }
+
+    def _refused_fields(self, code: int) -> dict[str, Any]:
+        return asdict(error_of(code)) | {"calls": callers_of(code), "at": self._places_of(code)}
+
+
+def place_fields(place: Place) -> dict[str, Any]:
+    """A place as an object."""
+    return asdict(place) | {"text": str(place)}
+
+
+def steps_of(readings: tuple[int, ...]) -> list[int]:
+    """Each reading less the one before it."""
+    return [after - before for before, after in zip(readings, readings[1:])]
+
+
+def _any_of(names: list[str]) -> str:
+    return " or ".join([", ".join(names[:-1]), names[-1]] if len(names) > 1 else names)
+
+
+def _count(count: int, what: str) -> str:
+    return f"{count:,} {what if count == 1 else _PLURALS.get(what, what + 's')}"
