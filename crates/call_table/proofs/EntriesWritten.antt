@@ -1,34 +1,148 @@
--- Which slots DELETE and REVOKE empty, and which entries of page tables each call writes.
-use Rattle.std.proofs.Common.{◌≡◌, ◌≢◌, ◌∙◌, ap, ap₂, sym, subst, refl, inl, inr, ◌⊎◌, ℕ, zero, suc, ◌+◌, ◌<◌, ◌≤◌, Bool, true, false, not, ◌&&◌, arith, add-one, eqb-true, eq-eqb, length, length-set, List, [], ◌∷◌, ◌++◌, Option, Some, None}
+-- Which slots each call sets, and which entries of page tables it writes.
+use Rattle.std.proofs.Common.{◌≡◌, ◌≢◌, ◌∙◌, ap, ap₂, sym, subst, refl, inl, inr, ◌⊎◌, ℕ, zero, suc, ◌+◌, ◌<◌, ◌≤◌, Bool, true, false, not, ◌&&◌, arith, add-one, eqb-true, eq-eqb, length, length-set, List, [], ◌∷◌, ◌++◌, Option, Some, None, ltb-true}
 use Rattle.std.specs.Prelude.{nat_eq, nat_lt, map, if◌then◌else◌}
 use Rattle.std.specs.List.{range_with_len}
 use Rattle.std.proofs.lemmas.Bool.{cases_eq, cases_lt}
 use Rattle.std.proofs.lemmas.List.{get_or_past, append-nil}
 use Rattle.tp_base.specs.Act.{Done, go_on, ◌>>=◌, ◌>>◌, give, stop, check}
-use Rattle.phys_mem.specs.Mem.{Mem, word, word-written_frame}
+use Rattle.phys_mem.specs.Mem.{Mem, word, word-written_frame, zeroed_frame}
 use Rattle.sv32_walk.specs.PageTableEntry.{ppn, vpn_0, vpn_1}
 use Rattle.sv32_walk.specs.Walk.{entry_address}
 use Rattle.thread_set.specs.Threads.{with_current}
 use Rattle.page_map.specs.declared.refusal.MapRefusal.{MapRefusal}
 use Rattle.page_map.specs.Tables.{has_table, table_of, map_refusal, install_refusal}
-use Rattle.page_map.specs.Changes.{table_entry, page_entry, unmapped}
+use Rattle.page_map.specs.Changes.{table_entry, page_entry, unmapped, mapped}
 use Rattle.cap_table.specs.declared.Cap.{Cap}
 use Rattle.cap_table.specs.declared.Cap.TheVariants as cap
 use Rattle.cap_table.specs.Slots as slots
 use Rattle.cap_table.specs.Slots.{Slots, cap_at, with_cap, mapped_at, alike, copied, noted, push_some, is_revoked, slot_after, revoked_count, revoked_entries}
 use Rattle.call_table.specs.Domain.{Dom, placed, replied, done, refused, exited, with_caps}
 use Rattle.call_table.specs.Claims.{Estate, least_free}
-use Rattle.call_table.specs.Calls.{Note, Act, entries_in, zero_out, page_refusal, table_refusal, map_at, unmap_at, install_at, uninstall_at, empty_buffer, some_or, is_slot, filled, allowed, unless_refused, page_in, table_in, copy_refusal, clear_entry, with_slot, put_byte, alloc, install, map_page, unmap, copy, drop_slot, delete, drop_if, drop_others, revoke, call_of, call}
+use Rattle.call_table.specs.Calls.{Note, Act, entries_in, zero_out, page_refusal, table_refusal, map_at, unmap_at, install_at, uninstall_at, empty_buffer, some_or, is_slot, filled, allowed, unless_refused, page_in, table_in, copy_refusal, clear_entry, with_slot, put_byte, alloc, install, map_page, unmap, copy, drop_slot, delete, drop_if, drop_others, revoke, call_of, call, fresh_cap}
 use Rattle.call_table.specs.Laws as laws
 use Rattle.call_table.specs.Laws.{Kept}
-use Rattle.call_table.specs.Meanings.{argument_a, argument_b, argument_c}
-use Rattle.call_table.specs.Entries.{IsDeleted, DeletedSlotLaw, IsRevokedAll, RevokedSlotsLaw, entry_of, entries_written, EntriesLaw}
+use Rattle.call_table.specs.Meanings.{Makes, argument_a, argument_b, argument_c}
+use Rattle.call_table.specs.Entries.{SetsSlot, AllocatedSlotLaw, MappedSlotLaw, CopiedPageLaw, CopiedLineLaw, DeletedSlotLaw, IsRevokedAll, RevokedSlotsLaw, entry_of, entries_written, EntriesLaw}
 use Rattle.call_table.proofs.TablesSlots.{filled_within, cap_same, cap_other}
 use Rattle.call_table.proofs.QuietCalls.{Quiet, poll_quiet, wait_quiet, signal_quiet, spawn_quiet, yield_quiet, end_quiet}
 use Rattle.call_table.proofs.ConfinedCalls.{Ready, ready, still_ready, revoked_no_table, page_in_is}
-use Rattle.call_table.proofs.MeaningSteps.{Whatever, Gives, given, bind_gives, give_gives, clear_gives, buffer_gives, check_gives, filled_gives}
+use Rattle.call_table.proofs.MeaningSteps.{Whatever, Gives, given, bind_gives, give_gives, clear_gives, buffer_gives, zero_gives, map_gives, page_refusal_gives, check_gives, some_gives, filled_gives, allowed_gives, unless_gives}
 use Rattle.call_table.proofs.MeaningNumbers.{by_number}
 use Rattle.call_table.proofs.WorkSteps.{entries-append}
+
+-- ---- a call that sets one slot
+
+set_is : (d : Dom) (slot : ℕ) (c : Option Cap) → slot < length d.caps → SetsSlot slot c d (done 0 (with_slot d slot c))
+unfolding replied placed with_caps with_current
+set_is d slot c below = record {
+  done = record { threads = refl; reply = refl };
+  there = cap_same d.caps slot c below;
+  others = λ i other. cap_other d.caps slot i c other;
+  rest = refl;
+}
+
+-- the value of a call, by its number
+value_of : (e : Estate) (d x : Dom) (m : Mem) (number : ℕ) → Makes d number → (call e d m).value ≡ inr x
+    → (call_of e d number (argument_a d) (argument_b d) (argument_c d) m).value ≡ inr x
+value_of e d x m number is does = ap (λ (r : Done Mem Note Dom Dom). r.value) (sym (by_number e d m number is)) ∙ does
+
+module _ (e : Estate) (d : Dom) (m : Mem) (long : length d.caps ≡ 64) (a b c : ℕ) where
+  -- slot s, which is one, is what this makes of it
+  abbrev Sets : ℕ → Option Cap → Dom → Mem → Type 0
+  Sets s o x n = (x ≡ done 0 (with_slot d s o)) × (s < length d.caps)
+
+  slot_below : (s : ℕ) → nat_lt s 64 ≡ true → s < length d.caps
+  slot_below s is = let less = ltb-true s 64 is in omega (arith, less, long)
+
+  abbrev Allocates : Dom → Mem → Type 0
+  Allocates x n = (f : ℕ) × (least_free e d.caps ≡ Some f) × (x ≡ done 0 (with_slot d a (Some (fresh_cap b f)))) × (a < length d.caps)
+
+  alloc_sets : Gives Whatever Allocates (alloc e d a b m)
+  unfolding alloc is_slot
+  alloc_sets =
+      check_gives Whatever Allocates m d (λ _. tt) 2 _ _ (λ below.
+      check_gives Whatever Allocates m d (λ _. tt) 4 _ _ (λ _.
+      check_gives Whatever Allocates m d (λ _. tt) 5 _ _ (λ _.
+      some_gives Whatever Allocates m d (λ _. tt) 10 (least_free e d.caps) _ (λ f is.
+      zero_gives Whatever Allocates m f _
+      (give_gives Whatever Allocates (zeroed_frame m f) _ (f, is, refl, slot_below a below))))))
+
+  abbrev Maps : Dom → Mem → Type 0
+  Maps = Sets a (noted (cap_at d.caps a) (Some b))
+
+  map_sets : Gives Whatever Maps (map_page e d a b c m)
+  unfolding map_page
+  map_sets =
+      filled_gives Whatever Maps m d (λ _. tt) a _ (λ below x there.
+      some_gives Whatever Maps m d (λ _. tt) 5 (page_in x) _ (λ page _.
+      check_gives Whatever Maps m d (λ _. tt) 6 _ _ (λ _.
+      check_gives Whatever Maps m d (λ _. tt) 7 _ _ (λ _.
+      check_gives Whatever Maps m d (λ _. tt) 8 _ _ (λ _.
+      page_refusal_gives Whatever Maps m e.root b _
+      (allowed_gives Whatever Maps m d (λ _. tt) (map_refusal m e.root b) _ (λ _.
+      map_gives Whatever Maps m e.root b page.frame c _
+      (give_gives Whatever Maps (mapped m e.root b page.frame c) _
+      (ap (λ (o : Option Cap). done 0 (with_slot d a (noted o (Some b)))) (sym there), slot_below a below)))))))))
+
+  abbrev Copies : Dom → Mem → Type 0
+  Copies = Sets b (copied (cap_at d.caps a) c)
+
+  copy_sets : Gives Whatever Copies (copy d a b c m)
+  unfolding copy is_slot
+  copy_sets =
+      check_gives Whatever Copies m d (λ _. tt) 2 _ _ (λ _.
+      check_gives Whatever Copies m d (λ _. tt) 2 _ _ (λ below.
+      some_gives Whatever Copies m d (λ _. tt) 3 (cap_at d.caps a) _ (λ x there.
+      check_gives Whatever Copies m d (λ _. tt) 4 _ _ (λ _.
+      unless_gives Whatever Copies m d (λ _. tt) (copy_refusal x c) _ (λ _.
+      give_gives Whatever Copies m _
+      (ap (λ (o : Option Cap). done 0 (with_slot d b (copied o c))) (sym there), slot_below b below))))))
+
+-- a call that sets a slot, where it is known what that held
+sets_by : (d x : Dom) (slot : ℕ) (o z : Option Cap) → x ≡ done 0 (with_slot d slot o) → slot < length d.caps → o ≡ z → SetsSlot slot z d x
+sets_by d x slot o z is below same =
+    subst (SetsSlot slot z d) (sym (is ∙ ap (λ (c : Option Cap). done 0 (with_slot d slot c)) same)) (set_is d slot z below)
+
+pub allocated_slot : AllocatedSlotLaw
+unfolding call_of
+allocated_slot e d x m h is does =
+    let a = argument_a d in
+    let b = argument_b d in
+    let r = given Whatever (Allocates e d m h.slots a b (argument_c d)) (alloc e d a b m) (alloc_sets e d m h.slots a b (argument_c d)) x
+    (value_of e d x m 2 is does) in
+    record {
+      frame = r.0;
+      least = r.1;
+      page = λ kind. sets_by d x a (Some (fresh_cap b r.0)) (Some (cap.Frame r.0 7 None)) r.2 r.3 (ap (λ (k : ℕ). Some (fresh_cap k r.0)) kind);
+      table = λ kind. sets_by d x a (Some (fresh_cap b r.0)) (Some (cap.Table r.0 None)) r.2 r.3 (ap (λ (k : ℕ). Some (fresh_cap k r.0)) kind);
+    }
+
+pub mapped_slot : MappedSlotLaw
+unfolding call_of
+mapped_slot e d x m frame rights at h is does there =
+    let a = argument_a d in
+    let b = argument_b d in
+    let r = given Whatever (Maps e d m h.slots a b (argument_c d)) (map_page e d a b (argument_c d) m) (map_sets e d m h.slots a b (argument_c d)) x
+    (value_of e d x m 4 is does) in
+    sets_by d x a (noted (cap_at d.caps a) (Some b)) (Some (cap.Frame frame rights (Some b))) r.0 r.1
+    (ap (λ (o : Option Cap). noted o (Some b)) there)
+
+copied_as : (e : Estate) (d x : Dom) (m : Mem) (c z : Option Cap) → Kept e d m → Makes d 6 → (call e d m).value ≡ inr x
+    → cap_at d.caps (argument_a d) ≡ c → copied c (argument_c d) ≡ z → SetsSlot (argument_b d) z d x
+unfolding call_of
+copied_as e d x m c z h is does there same =
+    let a = argument_a d in
+    let b = argument_b d in
+    let r = given Whatever (Copies e d m h.slots a b (argument_c d)) (copy d a b (argument_c d) m) (copy_sets e d m h.slots a b (argument_c d)) x
+    (value_of e d x m 6 is does) in
+    sets_by d x b (copied (cap_at d.caps a) (argument_c d)) z r.0 r.1 (ap (λ (o : Option Cap). copied o (argument_c d)) there ∙ same)
+
+pub copied_page : CopiedPageLaw
+copied_page e d x m frame rights at h is does there =
+    copied_as e d x m (Some (cap.Frame frame rights at)) (Some (cap.Frame frame (argument_c d) None)) h is does there refl
+
+pub copied_line : CopiedLineLaw
+copied_line e d x m line h is does there = copied_as e d x m (Some (cap.Irq line)) (Some (cap.Irq line)) h is does there refl
 
 -- ---- DELETE
 
@@ -49,22 +163,12 @@ module _ (e : Estate) (d : Dom) (m : Mem) (a : ℕ) where
       buffer_gives Whatever Ended n _
       (give_gives Whatever Ended n _ (ap (λ (y : Dom). done 0 y) same, filled_within d.caps a c there)))))
 
-deleted_is : (d : Dom) → argument_a d < length d.caps → IsDeleted d (done 0 (with_slot d (argument_a d) None))
-unfolding replied placed with_caps with_current
-deleted_is d below = record {
-  done = record { threads = refl; reply = refl };
-  empty = cap_same d.caps (argument_a d) None below;
-  others = λ i other. cap_other d.caps (argument_a d) i None other;
-  rest = refl;
-}
-
 pub deleted_slot : DeletedSlotLaw
 unfolding call_of
 deleted_slot e d x m is does =
-    let same = by_number e d m 7 is in
     let end = given Whatever (Ended e d m (argument_a d)) (delete e d (argument_a d) m) (delete_empties e d m (argument_a d)) x
-    (ap (λ (r : Done Mem Note Dom Dom). r.value) (sym same) ∙ does) in
-    subst (IsDeleted d) (sym end.0) (deleted_is d end.1)
+    (value_of e d x m 7 is does) in
+    sets_by d x (argument_a d) None None end.0 end.1 refl
 
 -- ---- REVOKE, slot by slot
 

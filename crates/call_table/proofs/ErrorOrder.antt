@@ -19,7 +19,7 @@ use Rattle.call_table.specs.Calls.{Page, Directory as TableCap}
 use Rattle.call_table.specs.Laws as laws
 use Rattle.call_table.specs.Meanings.{argument_a, argument_b, argument_c}
 use Rattle.call_table.proofs.Refusals.{Sure, give_sure, zero_sure, map_at_sure, unmap_at_sure, install_at_sure, buffer_sure, bind_sure, drop_sure, drop_others_sure}
-use Rattle.call_table.specs.Errors.{Error, bad_call, bad_slot, empty, used, wrong_kind, bad_rights, bad_address, mapped, no_table, no_frame, output_full, table_in_use, no_thread, held, rights_of, is_multiple, is_beyond, errors_of, first_so, AscendLaw, FirstErrorLaw, NoErrorLaw}
+use Rattle.call_table.specs.Errors.{Error, bad_call, bad_slot, empty, used, wrong_kind, bad_rights, bad_address, mapped, no_table, no_frame, output_full, table_in_use, no_thread, in_slot, rights_of, is_multiple, is_beyond, errors_of, first_so, AscendLaw, FirstErrorLaw, NoErrorLaw}
 
 -- it goes on with a value
 abbrev Goes : {A : Type 0} → Dom ⊎ A → Type 0
@@ -102,7 +102,7 @@ module _ (d : Dom) (m : Mem) where
     filled_by true (Some c) f h = let r = h c refl in record { refused = r.refused; done = r.done }
 
     filled_ends : (a : ℕ) (f : Cap → Act Dom) → ((c : Cap) → cap_at d.caps a ≡ Some c → EndsAs d xs (f c m))
-        → EndsAs d (bad_slot (not (nat_lt a 64)) ∷ empty (is_none (held d a)) ∷ xs) ((filled d a >>= f) m)
+        → EndsAs d (bad_slot (not (nat_lt a 64)) ∷ empty (is_none (in_slot d a)) ∷ xs) ((filled d a >>= f) m)
     unfolding filled is_slot
     filled_ends a f h = filled_by (nat_lt a 64) (cap_at d.caps a) f h
 
@@ -191,7 +191,7 @@ module _ (d : Dom) (m : Mem) where
   no_free (f ∷ fs) = ne_eqb (length (f ∷ fs)) 0 (λ e. absurd (omega (arith, e)))
 
   alloc_ends : (e : Estate) (a b : ℕ)
-      → EndsAs d (bad_slot (not (nat_lt a 64)) ∷ used (is_some (held d a)) ∷ wrong_kind (not (nat_le b 1))
+      → EndsAs d (bad_slot (not (nat_lt a 64)) ∷ used (is_some (in_slot d a)) ∷ wrong_kind (not (nat_le b 1))
       ∷ no_frame (nat_eq (length (free_frames e d.caps)) 0) ∷ []) (alloc e d a b m)
   unfolding alloc is_slot least_free
   alloc_ends e a b =
@@ -202,35 +202,35 @@ module _ (d : Dom) (m : Mem) where
       sure_ends _ (zero_sure f _ (give_sure _))))))
 
   install_ends : (e : Estate) (a b : ℕ)
-      → EndsAs d (bad_slot (not (nat_lt a 64)) ∷ empty (is_none (held d a)) ∷ wrong_kind (is_none (table_of (held d a)))
+      → EndsAs d (bad_slot (not (nat_lt a 64)) ∷ empty (is_none (in_slot d a)) ∷ wrong_kind (is_none (table_of (in_slot d a)))
       ∷ bad_address (not (is_multiple 4194304 b))
-      ∷ mapped (is_some (installed_at (held d a)) || has_table m e.root b) ∷ []) (install e d a b m)
+      ∷ mapped (is_some (installed_at (in_slot d a)) || has_table m e.root b) ∷ []) (install e d a b m)
   unfolding install
   install_ends e a b =
       filled_ends _ a _ (λ c there.
       some_ends 5 _ _ (table_in c) _ (ap (λ x. is_none (table_of x)) there ∙ no_directory c) (λ t is.
       check_ends 7 _ _ _ _ refl (λ aligned.
-      either_ends 8 _ (is_some (installed_at (held d a))) (has_table m e.root b) _
+      either_ends 8 _ (is_some (installed_at (in_slot d a))) (has_table m e.root b) _
       (check_ends 8 _ _ _ _ (ap (λ x. is_some (installed_at x)) there ∙ placed c t is) (λ _.
       table_refusal_ends [] _ (sure_ends _ (install_at_sure e.root b t.frame _ (give_sure _))) e.root b aligned)))))
 
   map_ends : (e : Estate) (a b c : ℕ)
-      → EndsAs d (bad_slot (not (nat_lt a 64)) ∷ empty (is_none (held d a)) ∷ wrong_kind (is_none (page_of (held d a)))
-      ∷ bad_rights (is_beyond (held d a) c) ∷ bad_address (not (is_multiple 4096 b))
-      ∷ mapped (is_some (mapped_at (held d a)) || has_page m e.root b) ∷ no_table (not (has_table m e.root b)) ∷ []) (map_page e d a b c m)
+      → EndsAs d (bad_slot (not (nat_lt a 64)) ∷ empty (is_none (in_slot d a)) ∷ wrong_kind (is_none (page_of (in_slot d a)))
+      ∷ bad_rights (is_beyond (in_slot d a) c) ∷ bad_address (not (is_multiple 4096 b))
+      ∷ mapped (is_some (mapped_at (in_slot d a)) || has_page m e.root b) ∷ no_table (not (has_table m e.root b)) ∷ []) (map_page e d a b c m)
   unfolding map_page
   map_ends e a b c =
       filled_ends _ a _ (λ x there.
       some_ends 5 _ _ (page_in x) _ (ap (λ o. is_none (page_of o)) there ∙ no_page x) (λ page is.
       check_ends 6 _ _ _ _ (ap (λ o. not (may_give (rights_of o) c)) there ∙ ap (λ (r : ℕ). not (may_give r c)) (page_rights x page is)) (λ _.
       check_ends 7 _ _ _ _ refl (λ aligned.
-      either_ends 8 _ (is_some (mapped_at (held d a))) (has_page m e.root b) _
+      either_ends 8 _ (is_some (mapped_at (in_slot d a))) (has_page m e.root b) _
       (check_ends 8 _ _ _ _ (ap (λ o. is_some (mapped_at o)) there ∙ ap is_some (page_place x page is) ∙ not_not (is_some page.mapped)) (λ _.
       page_refusal_ends [] _ (sure_ends _ (map_at_sure e.root b page.frame c _ (give_sure _))) e.root b aligned))))))
 
   unmap_ends : (e : Estate) (a : ℕ)
-      → EndsAs d (bad_slot (not (nat_lt a 64)) ∷ empty (is_none (held d a)) ∷ wrong_kind (is_none (page_of (held d a)))
-      ∷ bad_address (is_none (mapped_at (held d a))) ∷ []) (unmap e d a m)
+      → EndsAs d (bad_slot (not (nat_lt a 64)) ∷ empty (is_none (in_slot d a)) ∷ wrong_kind (is_none (page_of (in_slot d a)))
+      ∷ bad_address (is_none (mapped_at (in_slot d a))) ∷ []) (unmap e d a m)
   unfolding unmap
   unmap_ends e a =
       filled_ends _ a _ (λ x there.
@@ -259,9 +259,9 @@ module _ (d : Dom) (m : Mem) where
       ((unless_refused d (copy_refusal x c) >> y) m)) (sym is) (copy_by x c y h)
 
   copy_ends : (a b c : ℕ)
-      → EndsAs d (bad_slot (not (nat_lt a 64) || not (nat_lt b 64)) ∷ empty (is_none (held d a)) ∷ used (is_some (held d b))
-      ∷ wrong_kind (is_some (table_of (held d a)))
-      ∷ bad_rights (is_some (page_of (held d a)) && is_beyond (held d a) c) ∷ []) (copy d a b c m)
+      → EndsAs d (bad_slot (not (nat_lt a 64) || not (nat_lt b 64)) ∷ empty (is_none (in_slot d a)) ∷ used (is_some (in_slot d b))
+      ∷ wrong_kind (is_some (table_of (in_slot d a)))
+      ∷ bad_rights (is_some (page_of (in_slot d a)) && is_beyond (in_slot d a) c) ∷ []) (copy d a b c m)
   unfolding copy is_slot
   copy_ends a b c =
       either_ends 2 _ (not (nat_lt a 64)) (not (nat_lt b 64)) _
@@ -272,36 +272,36 @@ module _ (d : Dom) (m : Mem) where
       copy_at (cap_at d.caps a) x c _ there (sure_ends _ (give_sure _)))))))
 
   delete_ends : (e : Estate) (a : ℕ)
-      → EndsAs d (bad_slot (not (nat_lt a 64)) ∷ empty (is_none (held d a)) ∷ table_in_use (in_use d.caps a) ∷ []) (delete e d a m)
+      → EndsAs d (bad_slot (not (nat_lt a 64)) ∷ empty (is_none (in_slot d a)) ∷ table_in_use (in_use d.caps a) ∷ []) (delete e d a m)
   unfolding delete
   delete_ends e a =
       filled_ends _ a _ (λ x _.
       check_ends 12 _ _ _ _ (not_not (in_use d.caps a)) (λ _.
       sure_ends _ (bind_sure (drop_slot e a d) _ (drop_sure e a d) (λ z. buffer_sure _ (give_sure _)))))
 
-  revoke_ends : (e : Estate) (a : ℕ) → EndsAs d (bad_slot (not (nat_lt a 64)) ∷ empty (is_none (held d a)) ∷ []) (revoke e d a m)
+  revoke_ends : (e : Estate) (a : ℕ) → EndsAs d (bad_slot (not (nat_lt a 64)) ∷ empty (is_none (in_slot d a)) ∷ []) (revoke e d a m)
   unfolding revoke
   revoke_ends e a =
       filled_ends _ a _ (λ x _.
       sure_ends _ (bind_sure (drop_others e a 64 0 d) _ (drop_others_sure e a 64 0 d) (λ z. buffer_sure _ (give_sure _))))
 
   line_ends : (a : ℕ) (f : ℕ → Act Dom) → ((line : ℕ) → EndsAs d [] (f line m))
-      → EndsAs d (bad_slot (not (nat_lt a 64)) ∷ empty (is_none (held d a)) ∷ wrong_kind (is_none (line_of (held d a))) ∷ []) ((line_at d a >>= f) m)
+      → EndsAs d (bad_slot (not (nat_lt a 64)) ∷ empty (is_none (in_slot d a)) ∷ wrong_kind (is_none (line_of (in_slot d a))) ∷ []) ((line_at d a >>= f) m)
   unfolding line_at filled is_slot
   line_ends a f h = line_by f h (nat_lt a 64) (cap_at d.caps a)
 
   poll_ends : (a : ℕ)
-      → EndsAs d (bad_slot (not (nat_lt a 64)) ∷ empty (is_none (held d a)) ∷ wrong_kind (is_none (line_of (held d a))) ∷ []) (poll d a m)
+      → EndsAs d (bad_slot (not (nat_lt a 64)) ∷ empty (is_none (in_slot d a)) ∷ wrong_kind (is_none (line_of (in_slot d a))) ∷ []) (poll d a m)
   unfolding poll
   poll_ends a = line_ends a _ (λ line. sure_ends _ (give_sure _))
 
   wait_ends : (a : ℕ)
-      → EndsAs d (bad_slot (not (nat_lt a 64)) ∷ empty (is_none (held d a)) ∷ wrong_kind (is_none (line_of (held d a))) ∷ []) (wait d a m)
+      → EndsAs d (bad_slot (not (nat_lt a 64)) ∷ empty (is_none (in_slot d a)) ∷ wrong_kind (is_none (line_of (in_slot d a))) ∷ []) (wait d a m)
   unfolding wait
   wait_ends a = line_ends a _ (λ line. sure_ends _ (give_sure _))
 
   signal_ends : (a : ℕ)
-      → EndsAs d (bad_slot (not (nat_lt a 64)) ∷ empty (is_none (held d a)) ∷ wrong_kind (is_none (line_of (held d a))) ∷ []) (signal d a m)
+      → EndsAs d (bad_slot (not (nat_lt a 64)) ∷ empty (is_none (in_slot d a)) ∷ wrong_kind (is_none (line_of (in_slot d a))) ∷ []) (signal d a m)
   unfolding signal
   signal_ends a = line_ends a _ (λ line. sure_ends _ (give_sure _))
 

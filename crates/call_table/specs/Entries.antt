@@ -7,23 +7,53 @@ use Rattle.cap_table.specs.declared.Cap.{Cap}
 use Rattle.cap_table.specs.declared.Cap.TheVariants as cap
 use Rattle.cap_table.specs.Slots.{cap_at, slot_after, revoked_count, revoked_entries}
 use Rattle.call_table.specs.Domain.{Dom}
-use Rattle.call_table.specs.Claims.{Estate}
+use Rattle.call_table.specs.Claims.{Estate, least_free}
 use Rattle.call_table.specs.Calls.{entries_in, call}
 use Rattle.call_table.specs.Laws as laws
 use Rattle.call_table.specs.Laws.{Kept}
-use Rattle.call_table.specs.Meanings.{Makes, argument_a, argument_b, IsDone, SlotsStay}
+use Rattle.call_table.specs.Meanings.{Makes, argument_a, argument_b, argument_c, IsDone, SlotsStay}
 
 -- ---- slots
 
--- DELETE empties its slot, and every other is as it was
-pub record IsDeleted (d x : Dom) : Type 0 where
+-- the call was done, answers 0, and of the slots sets this one alone
+pub record SetsSlot (slot : ℕ) (c : Option Cap) (d x : Dom) : Type 0 where
   pub done : IsDone 0 d x
-  pub empty : cap_at x.caps (argument_a d) ≡ None
-  pub others : SlotsStay (argument_a d) d.caps x.caps
+  pub there : cap_at x.caps slot ≡ c
+  pub others : SlotsStay slot d.caps x.caps
   pub rest : x ≡ record d { threads = x.threads; replies = x.replies; caps = x.caps }
 
+-- ALLOC puts the least free frame there, mapped nowhere: a page with all rights (0), or a table (1)
+pub record IsAllocated (e : Estate) (d x : Dom) : Type 0 where
+  pub frame : ℕ
+  pub least : least_free e d.caps ≡ Some frame
+  pub page : argument_b d ≡ 0 → SetsSlot (argument_a d) (Some (cap.Frame frame 7 None)) d x
+  pub table : argument_b d ≡ 1 → SetsSlot (argument_a d) (Some (cap.Table frame None)) d x
+
+abbrev pub AllocatedSlotLaw : Type 0
+AllocatedSlotLaw = (e : Estate) (d x : Dom) (m : Mem) → Kept e d m → Makes d 2 → (call e d m).value ≡ inr x
+    → IsAllocated e d x
+
+-- MAP notes where the page is mapped
+abbrev pub MappedSlotLaw : Type 0
+MappedSlotLaw = (e : Estate) (d x : Dom) (m : Mem) (frame rights : ℕ) (at : Option ℕ) → Kept e d m → Makes d 4
+    → (call e d m).value ≡ inr x → cap_at d.caps (argument_a d) ≡ Some (cap.Frame frame rights at)
+    → SetsSlot (argument_a d) (Some (cap.Frame frame rights (Some (argument_b d)))) d x
+
+-- COPY names the same page, with the rights that are asked for and mapped nowhere
+abbrev pub CopiedPageLaw : Type 0
+CopiedPageLaw = (e : Estate) (d x : Dom) (m : Mem) (frame rights : ℕ) (at : Option ℕ) → Kept e d m → Makes d 6
+    → (call e d m).value ≡ inr x → cap_at d.caps (argument_a d) ≡ Some (cap.Frame frame rights at)
+    → SetsSlot (argument_b d) (Some (cap.Frame frame (argument_c d) None)) d x
+
+-- or the same line
+abbrev pub CopiedLineLaw : Type 0
+CopiedLineLaw = (e : Estate) (d x : Dom) (m : Mem) (line : ℕ) → Kept e d m → Makes d 6 → (call e d m).value ≡ inr x
+    → cap_at d.caps (argument_a d) ≡ Some (cap.Irq line) → SetsSlot (argument_b d) (Some (cap.Irq line)) d x
+
+-- DELETE empties it
 abbrev pub DeletedSlotLaw : Type 0
-DeletedSlotLaw = (e : Estate) (d x : Dom) (m : Mem) → Makes d 7 → (call e d m).value ≡ inr x → IsDeleted d x
+DeletedSlotLaw = (e : Estate) (d x : Dom) (m : Mem) → Makes d 7 → (call e d m).value ≡ inr x
+    → SetsSlot (argument_a d) None d x
 
 -- REVOKE empties every other slot that names the same page or line, counts them, and every other slot is as it was
 pub record IsRevokedAll (d x : Dom) : Type 0 where

@@ -63,8 +63,8 @@ no_thread so = record { code = 13; is_so = so }
 abbrev pub is_slot : ℕ → Bool
 is_slot a = nat_lt a 64
 
-abbrev pub held : Dom → ℕ → Option Cap
-held d a = cap_at d.caps a
+abbrev pub in_slot : Dom → ℕ → Option Cap
+in_slot d a = cap_at d.caps a
 
 -- the rights of a page's capability
 abbrev pub rights_of : Option Cap → ℕ
@@ -80,37 +80,39 @@ is_beyond c rights = not (may_give (rights_of c) rights)
 
 -- ---- the errors of each call
 
+-- of a call on the capability in a slot: those of the slot first
+abbrev pub on_slot : Dom → ℕ → List Error → List Error
+on_slot d a more = bad_slot (not (is_slot a)) ∷ empty (is_none (in_slot d a)) ∷ more
+
+-- of a call on a line
+abbrev pub on_line : Dom → ℕ → List Error
+on_line d a = on_slot d a (wrong_kind (is_none (line_of (in_slot d a))) ∷ [])
+
 unfoldable pub errors_of : Estate → Dom → Mem → ℕ → ℕ → ℕ → ℕ → List Error
 errors_of e d m number a b c =
     if nat_eq number 0 then []
     else if nat_eq number 1 then output_full (not (nat_lt (length d.printed) 4096)) ∷ []
     else if nat_eq number 2 then
-    bad_slot (not (is_slot a)) ∷ used (is_some (held d a)) ∷ wrong_kind (not (nat_le b 1))
+    bad_slot (not (is_slot a)) ∷ used (is_some (in_slot d a)) ∷ wrong_kind (not (nat_le b 1))
     ∷ no_frame (nat_eq (length (free_frames e d.caps)) 0) ∷ []
     else if nat_eq number 3 then
-    bad_slot (not (is_slot a)) ∷ empty (is_none (held d a)) ∷ wrong_kind (is_none (table_of (held d a)))
-    ∷ bad_address (not (is_multiple 4194304 b))
-    ∷ mapped (is_some (installed_at (held d a)) || has_table m e.root b) ∷ []
+    on_slot d a (wrong_kind (is_none (table_of (in_slot d a))) ∷ bad_address (not (is_multiple 4194304 b))
+    ∷ mapped (is_some (installed_at (in_slot d a)) || has_table m e.root b) ∷ [])
     else if nat_eq number 4 then
-    bad_slot (not (is_slot a)) ∷ empty (is_none (held d a)) ∷ wrong_kind (is_none (page_of (held d a)))
-    ∷ bad_rights (is_beyond (held d a) c) ∷ bad_address (not (is_multiple 4096 b))
-    ∷ mapped (is_some (mapped_at (held d a)) || has_page m e.root b) ∷ no_table (not (has_table m e.root b)) ∷ []
+    on_slot d a (wrong_kind (is_none (page_of (in_slot d a))) ∷ bad_rights (is_beyond (in_slot d a) c)
+    ∷ bad_address (not (is_multiple 4096 b)) ∷ mapped (is_some (mapped_at (in_slot d a)) || has_page m e.root b)
+    ∷ no_table (not (has_table m e.root b)) ∷ [])
     else if nat_eq number 5 then
-    bad_slot (not (is_slot a)) ∷ empty (is_none (held d a)) ∷ wrong_kind (is_none (page_of (held d a)))
-    ∷ bad_address (is_none (mapped_at (held d a))) ∷ []
+    on_slot d a (wrong_kind (is_none (page_of (in_slot d a))) ∷ bad_address (is_none (mapped_at (in_slot d a))) ∷ [])
     else if nat_eq number 6 then
-    bad_slot (not (is_slot a) || not (is_slot b)) ∷ empty (is_none (held d a)) ∷ used (is_some (held d b))
-    ∷ wrong_kind (is_some (table_of (held d a)))
-    ∷ bad_rights (is_some (page_of (held d a)) && is_beyond (held d a) c) ∷ []
-    else if nat_eq number 7 then
-    bad_slot (not (is_slot a)) ∷ empty (is_none (held d a)) ∷ table_in_use (in_use d.caps a) ∷ []
-    else if nat_eq number 8 then bad_slot (not (is_slot a)) ∷ empty (is_none (held d a)) ∷ []
-    else if nat_eq number 9 then
-    bad_slot (not (is_slot a)) ∷ empty (is_none (held d a)) ∷ wrong_kind (is_none (line_of (held d a))) ∷ []
-    else if nat_eq number 10 then
-    bad_slot (not (is_slot a)) ∷ empty (is_none (held d a)) ∷ wrong_kind (is_none (line_of (held d a))) ∷ []
-    else if nat_eq number 11 then
-    bad_slot (not (is_slot a)) ∷ empty (is_none (held d a)) ∷ wrong_kind (is_none (line_of (held d a))) ∷ []
+    bad_slot (not (is_slot a) || not (is_slot b)) ∷ empty (is_none (in_slot d a)) ∷ used (is_some (in_slot d b))
+    ∷ wrong_kind (is_some (table_of (in_slot d a)))
+    ∷ bad_rights (is_some (page_of (in_slot d a)) && is_beyond (in_slot d a) c) ∷ []
+    else if nat_eq number 7 then on_slot d a (table_in_use (in_use d.caps a) ∷ [])
+    else if nat_eq number 8 then on_slot d a []
+    else if nat_eq number 9 then on_line d a
+    else if nat_eq number 10 then on_line d a
+    else if nat_eq number 11 then on_line d a
     else if nat_eq number 12 then bad_address (not (is_multiple 4 a)) ∷ no_thread (is_none (vacant d.threads)) ∷ []
     else if nat_eq number 13 then []
     else if nat_eq number 14 then []

@@ -7,7 +7,7 @@ ghost use Rattle.call_table.specs.Meanings.{ExitLaw, EndThreadLaw, SpawnLaw, NoT
 ghost use Rattle.call_table.specs.Meanings.{PollSetLaw, PollClearLaw, WaitSetLaw, WaitClearLaw, SignalLaw, TableLaw, UnmapLaw, MemoryLaw};
 ghost use Rattle.call_table.specs.Errors.{AscendLaw, FirstErrorLaw, NoErrorLaw};
 ghost use Rattle.call_table.specs.Rights.{NothingMappedLaw, CallsWithinLaw, StoresWithinLaw, WalksWithinLaw};
-ghost use Rattle.call_table.specs.Entries.{DeletedSlotLaw, RevokedSlotsLaw, EntriesLaw};
+ghost use Rattle.call_table.specs.Entries.{AllocatedSlotLaw, MappedSlotLaw, CopiedPageLaw, CopiedLineLaw, DeletedSlotLaw, RevokedSlotsLaw, EntriesLaw};
 ghost use Rattle.call_table.specs.Laws.{EmptiesLaw, WalksStayLaw, OperationLaw, WorkLaw};
 
 /// Every call keeps the facts of a domain's frames and page tables.
@@ -123,9 +123,13 @@ pub fn rights()
     ensures walks { WalksWithinLaw }
 {}
 
-/// Which slots DELETE and REVOKE empty, and which entries of page tables each
-/// call that is done writes, in their order.
+/// Which slots each call that is done sets, and which entries of page tables it
+/// writes, in their order.
 pub fn changes()
+    ensures allocated { AllocatedSlotLaw }
+    ensures mapped { MappedSlotLaw }
+    ensures copied_page { CopiedPageLaw }
+    ensures copied_line { CopiedLineLaw }
     ensures deleted { DeletedSlotLaw }
     ensures revoked { RevokedSlotsLaw }
     ensures entries { EntriesLaw }
