@@ -9,8 +9,8 @@ use std::test::Fail;
 /// what two slots tell, with a bar between.
 type Row = (&'static str, &'static str, &'static str, &'static str);
 
-// The first slot is empty, and stays one: POLL finds nothing there, and POLL of the second its
-// line; ALLOC fills the first, and not the second.
+// The first slot is empty, and a slot all the same: POLL of it finds nothing, and POLL of the second
+// the line; ALLOC fills the first, and not the second.
 const EMPTY_SLOT: Row = (
     "caps = [\"none\", \"irq 3\"]\nlines = [3]",
     "\"rx\"",
