@@ -12,7 +12,7 @@ from conftest import REPOSITORY, SDK, run_tool
 
 from tp_sdk.python import DEBIANS
 
-LIBRARIES = {"tp-image": "elftools", "tp-explain": "json", "tp-plot": "matplotlib"}
+LIBRARIES = {"tp-image": "elftools", "tp-explain": "json", "tp-plot": "matplotlib", "tp-counts": "json"}
 TOOLS = sorted(LIBRARIES)
 SKELETON = REPOSITORY / "examples" / "skeleton.toml"
 
