@@ -150,7 +150,14 @@ def _legend(strips: Sequence[Strip]) -> list[Patch | Line2D]:
             label="a slot: instructions retired in it" if is_replayed else "a slot",
         ),
         Patch(facecolor=_IDLE, edgecolor=colour_of(0), label="the domain had ended"),
-        Line2D([], [], color="black", marker="|", linestyle="none", label="it read its clock"),
+        Line2D(
+            [],
+            [],
+            color="black",
+            marker="|",
+            linestyle="none",
+            label="it read its clock (of its first 256 readings)",
+        ),
         Patch(facecolor=_PAD, label="pad"),
         Patch(facecolor=_USED, label="cycles that the switch used"),
     ]

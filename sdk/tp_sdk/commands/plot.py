@@ -27,7 +27,8 @@ from tp_sdk.toml_places import read_with_places
 _HELP = """Draws reports of `tp run`, as NAME.svg or NAME.png:
 
   tp-plot timeline mine.toml mine.report -o mine.svg
-      the slots, the pads, and the most that each entry's switches used of theirs
+      what was done in each slot, and what each switch used of its pad, as running the image
+      again tells; with no program, what the report alone does
   tp-plot readings FOLDER --domain spy -o spy.svg
       what one domain measured in each FOLDER/*.report: a spy beside many neighbours, say
   tp-plot memory mine.toml -o mine.svg
@@ -40,7 +41,7 @@ def main(words: list[str]) -> int:
         "tp-plot", description=_HELP, epilog=EXIT_CODES, formatter_class=RawDescriptionHelpFormatter
     )
     commands = parser.add_subparsers(required=True, metavar="timeline|readings|memory")
-    timeline = commands.add_parser("timeline", help="slots, pads and switches")
+    timeline = commands.add_parser("timeline", help="slots, what was done in them, pads and switches")
     timeline.add_argument("image", type=Path)
     timeline.add_argument("reports", type=Path, nargs="+", metavar="report")
     timeline.add_argument(
