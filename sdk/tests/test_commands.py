@@ -19,6 +19,7 @@ LIBRARIES = {
     "tp-report": "elftools",
     "tp-explain": "json",
     "tp-plot": "matplotlib",
+    "tp-counts": "json",
 }
 TOOLS = sorted(LIBRARIES)
 SKELETON = REPOSITORY / "examples" / "skeleton.toml"

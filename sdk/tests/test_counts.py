@@ -115,6 +115,11 @@ def test_what_depends_on_the_time_is_refused(program: Program) -> None:
             count_events(program, example(name), name, 0, 4)
 
 
+def test_more_slots_than_a_schedule_can_be_written_out_for(program: Program) -> None:
+    with pytest.raises(Fault, match="two: of the first 64 slots alone can events be counted"):
+        count_events(program, example("two-domains"), "two", 0, 65)
+
+
 def test_the_command(program: Program) -> None:
     image = EXAMPLES / "two-domains.toml"
     told = run_tool("tp-counts", image, "--domain", "red", "--slots", "3")
@@ -135,6 +140,7 @@ def test_words_and_images_that_are_none(tmp_path: Path, monkeypatch: pytest.Monk
         ((EXAMPLES / "refused-k2.toml", "--domain", "red"), 3, "there is no program at TP="),
         ((EXAMPLES / "two-domains.toml", "--domain", "red"), 3, "there is no program at TP="),
         ((EXAMPLES / "two-domains.toml",), 2, "--domain"),
+        ((EXAMPLES / "two-domains.toml", "--domain", "red", "--slots", "0"), 2, "--slots"),
     ):
         ended = run_tool("tp-counts", *words)
         assert ended.returncode == code and fault in ended.stderr

@@ -109,6 +109,15 @@ def test_the_picture_tells_of_which_report_the_differences_are(tmp_path: Path) -
     assert picture.count(">+1<") == 1 and ">+10<" not in picture
 
 
+def test_the_report_that_others_are_compared_with(tmp_path: Path) -> None:
+    texts = (LOUD, LOUD.replace("58513", "58514"), without_readings(LOUD))
+    _, picture = drawn(tmp_path, *texts, words=("--against", "beside1"))
+    assert "spy: cycles more than in beside1" in picture and ">−1<" in picture
+    words = ("--domain", "spy", "--against", "x", "-o", tmp_path / "a.svg")
+    ended = run_tool("tp-plot", "readings", tmp_path / "reports", *words)
+    assert ended.returncode == 1 and "reports: there is no x.report to compare with" in ended.stderr
+
+
 def test_a_slots_end_is_left_out_of_the_scale(tmp_path: Path) -> None:
     # the spy's clocks are 22456 23465 | 58144 58513 | ..: of the pairs none has a slot's end in it
     spread = LOUD.replace(FIRST, "22456 58100")

@@ -38,6 +38,12 @@ def test_two_domains() -> None:
     assert of.shared_lines == (1,) * 8 + (0,) * 56
 
 
+def test_colours_beside_each_other_that_are_nobodys() -> None:
+    of = Memory(12, (), {2: 0, 6: 1}, 64, 4, ())
+    told = [(colours.start, len(colours)) for colours in of.ranges()]
+    assert told == [(0, 1), (1, 1), (2, 1), (3, 3), (6, 1), (7, 5)]
+
+
 def sum_of_words(domain: dict[str, Any], of: Memory, number: int) -> int:
     """The sum of a domain's pages and page tables, as they are at the boot."""
     own = [frame for frame in of.frames if frame.domain == number]

@@ -140,7 +140,7 @@ def test_a_timeline_of_a_report_alone(tmp_path: Path, monkeypatch: pytest.Monkey
     text = pictures[0].read_text()
     assert text.startswith("<?xml") and text == pictures[1].read_text()
     assert text.count("of each switch the most that its entry") == 2
-    assert "16,603 instructions" in text and "1 calls, 0 readings" in text
+    assert "16,603 instructions" in text and "1 call, 0 readings" in text
 
 
 def test_a_timeline_of_no_slots(tmp_path: Path) -> None:

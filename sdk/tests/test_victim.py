@@ -2,10 +2,11 @@
 
 from __future__ import annotations
 
+import tomllib
 from pathlib import Path
 
 import pytest
-from conftest import run_tool
+from conftest import REPOSITORY, run_tool
 
 from tp_sdk.program import Program
 from tp_sdk.report import parse_report
@@ -23,6 +24,14 @@ def beside(program: Program, built: Path, tmp_path_factory: pytest.TempPathFacto
         ended = program.run(["run", "--slots", "24"], made.stdout)
         (folder / f"{key}.report").write_text(ended.text)
     return folder
+
+
+def test_the_example_is_what_the_tools_make(built: Path, compiler: str) -> None:
+    of = (Path(__file__).parent / "reports" / "compiler").read_text().strip()
+    if compiler != of:
+        pytest.skip(f"the example is of programs that {of} built")
+    made = run_tool("tp-image", built / "victim.toml", "--set", "victim.key=0x01234567")
+    assert tomllib.loads(made.stdout) == tomllib.loads((REPOSITORY / "examples" / "victim.toml").read_text())
 
 
 def test_the_victims_readings_tell_the_key_and_the_spys_nothing(beside: Path) -> None:

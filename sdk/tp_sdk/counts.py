@@ -37,7 +37,9 @@ def count_events(program: Program, image: Image, file: str, domain: int, slots: 
     if image["domain"][domain].get("moments"):
         raise Fault(f"{file}: interrupts come to domain {domain} by the clock, so costs change what it does")
     runs = _Runs(program, image, file, domain)
-    own = [slot for slot in range(min(slots, len(runs.schedule))) if runs.schedule[slot]["domain"] == domain]
+    if slots > len(runs.schedule):
+        raise Fault(f"{file}: of the first {len(runs.schedule)} slots alone can events be counted")
+    own = [slot for slot in range(slots) if runs.schedule[slot]["domain"] == domain]
     plain = image["costs"]
     reached = {slot: runs.section(plain, {}, slot + 1) for slot in own}
     raised = plain | {"base": _raised(plain["base"], list(reached.values()))}

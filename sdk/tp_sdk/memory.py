@@ -66,6 +66,17 @@ class Memory:
         """A frame's colour."""
         return frame.number % self.colours
 
+    def ranges(self) -> list[range]:
+        """The colours, ascending: one each, or those beside each other that are nobody's."""
+        ranges: list[range] = []
+        for colour in range(self.colours):
+            is_nobodys = colour > 0 and colour not in self.owners
+            if is_nobodys and ranges and ranges[-1].start > 0 and ranges[-1].start not in self.owners:
+                ranges[-1] = range(ranges[-1].start, colour + 1)
+            else:
+                ranges.append(range(colour, colour + 1))
+        return ranges
+
 
 def memory_of(image: Image, file: str) -> Memory:
     """The memory of an image that `tp check` accepts."""

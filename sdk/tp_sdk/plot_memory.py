@@ -23,12 +23,13 @@ _MOST_TOLD = 32
 
 
 def draw_memory(file: Path, names: Sequence[str], memory: Memory) -> None:
-    """A row for each colour: its frames, and beside them its sets of the second level."""
+    """A row for each colour, or for several that are nobody's: its frames, and beside them its sets of
+    the second level."""
     figure, (frames, sets) = pyplot.subplots(
         1,
         2,
         sharey=True,
-        figsize=(15, 1.4 + 0.36 * memory.colours),
+        figsize=(15, 1.4 + 0.36 * len(memory.ranges())),
         layout="constrained",
         width_ratios=(3, 2),
     )
@@ -41,27 +42,28 @@ def draw_memory(file: Path, names: Sequence[str], memory: Memory) -> None:
 
 def _draw_frames(axes: Axes, names: Sequence[str], memory: Memory) -> None:
     columns = -(-len(memory.frames) // memory.colours)
-    cells = numpy.ones((memory.colours, columns, 3))
+    ranges = memory.ranges()
+    row_of = {colour: row for row, colours in enumerate(ranges) for colour in colours}
+    cells = numpy.ones((len(ranges), columns, 3))
     for frame in memory.frames:
-        row, column = memory.colour(frame), frame.number // memory.colours
+        row, column = row_of[memory.colour(frame)], frame.number // memory.colours
         cells[row, column] = _colour(frame)
         if columns <= _MOST_TOLD and _words(frame):
             is_dark = frame.use is Use.SHARED or frame.use.is_of_clone
             ink = "white" if is_dark else "black"
             axes.text(column, row, _words(frame), ha="center", va="center", fontsize=SMALL, color=ink)
     _show(axes, cells)
-    axes.set_yticks(
-        range(memory.colours), [_owner(colour, names, memory) for colour in range(memory.colours)]
-    )
+    axes.set_yticks(range(len(ranges)), [_owner(colours, names, memory) for colours in ranges])
     axes.set_xlabel(f"frames: in column c and the row of colour k stands frame {memory.colours} c + k")
     axes.set_ylabel("page colours")
 
 
 def _draw_sets(axes: Axes, memory: Memory) -> None:
-    cells = numpy.ones((memory.colours, memory.sets_of_colour, 3))
-    for colour in range(memory.colours):
-        owner = memory.owners.get(colour)
-        cells[colour, :] = to_rgb(_NOBODYS) if owner is None else _mixed(colour_of(owner), 0.5)
+    ranges = memory.ranges()
+    cells = numpy.ones((len(ranges), memory.sets_of_colour, 3))
+    for row, colours in enumerate(ranges):
+        owner = memory.owners.get(colours.start)
+        cells[row, :] = to_rgb(_NOBODYS) if owner is None else _mixed(colour_of(owner), 0.5)
     for place, lines in enumerate(memory.shared_lines):
         if lines:
             cells[0, place] = to_rgb(_SHARED)
@@ -90,11 +92,12 @@ def _show(axes: Axes, cells: Any) -> None:
     axes.tick_params(which="minor", length=0)
 
 
-def _owner(colour: int, names: Sequence[str], memory: Memory) -> str:
-    owner = memory.owners.get(colour)
+def _owner(colours: range, names: Sequence[str], memory: Memory) -> str:
+    told = f"{colours.start}" + (f" to {colours[-1]}" if len(colours) > 1 else "")
+    owner = memory.owners.get(colours.start)
     if owner is None:
-        return f"{colour}: {'the kernel' if colour == 0 else 'nobody'}"
-    return f"{colour}: {names[owner]}"
+        return f"{told}: {'nobody' if colours.start else 'the kernel'}"
+    return f"{told}: {names[owner]}"
 
 
 def _words(frame: Frame) -> str:

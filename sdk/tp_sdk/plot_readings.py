@@ -33,11 +33,19 @@ class Panel:
     domain: str
     rows: Sequence[Row]
     verdict: str
+    against: str | None = None  # the report that others are compared with
 
     @property
     def reports(self) -> int:
         """How many there are."""
         return sum(len(row.reports) for row in self.rows)
+
+    @property
+    def compared(self) -> Row:
+        """The row with which the others are compared: the first one with measurements, if none is named."""
+        named = (row for row in self.rows if self.against in row.reports)
+        measured = (row for row in self.rows if row.measurements.cycles)
+        return next(named, next(measured, self.rows[0]))
 
     @property
     def width(self) -> int:
@@ -51,7 +59,7 @@ class Panel:
 
 def draw_matrix(file: Path, panels: Sequence[Panel]) -> None:
     """For each domain two pictures beside each other: a row for each report, a column for each
-    measurement, its cycles as a colour; and what they differ by from the first report that has some."""
+    measurement, its cycles as a colour; and what they differ by from one report's."""
     heights = [1.3 + 0.27 * max(len(panel.rows), 2) for panel in panels]
     *parts, last = _parts(15, [*heights, 0.3])
     for part, panel in zip(parts, panels):
@@ -101,8 +109,7 @@ def _draw_cycles(figure: SubFigure, axes: Axes, panel: Panel) -> None:
 
 
 def _draw_differences(figure: SubFigure, axes: Axes, panel: Panel) -> None:
-    compared = next((row for row in panel.rows if row.measurements.cycles), panel.rows[0])
-    first = compared.measurements
+    first = panel.compared.measurements
     cells, alone = _blank(panel), _blank(panel)
     most = 1.0
     for number, row in enumerate(panel.rows):
@@ -125,7 +132,7 @@ def _draw_differences(figure: SubFigure, axes: Axes, panel: Panel) -> None:
         bar.ax.yaxis.set_major_formatter(FuncFormatter(lambda place, _: near(place)))
         bar.ax.tick_params(labelsize=SMALL)
     axes.tick_params(labelleft=False)
-    axes.set_xlabel(f"{panel.domain}: cycles more than in {compared.reports[0]}")
+    axes.set_xlabel(f"{panel.domain}: cycles more than in {panel.against or panel.compared.reports[0]}")
 
 
 def _difference(own: Measurements, first: Measurements, place: int) -> int | None:

@@ -109,7 +109,7 @@ def _draw_slot(axes: Axes, slot: Slot, did: Did | None) -> None:
 def _told(did: Did) -> str:
     words = f"{did.retired:,}"
     if did.calls:
-        words += f"\n{did.calls} {'call' if did.calls == 1 else 'calls'}"
+        words += f"\n{_many(did.calls, 'call')}"
     if did.status != "running":
         words += f"\n{did.status.split(' pc ')[0]}"
         words += f" within {LENGTH.low:,}" if did.ended_at is None else f" at {did.ended_at:,}"
@@ -133,7 +133,12 @@ def _draw_readings(axes: Axes, section: Section, slots: Sequence[Slot]) -> None:
 
 def _summary(section: Section) -> str:
     retired, calls = number(section, "retired"), number(section, "replies")
-    return f"{section.status}\n{retired:,} instructions\n{calls} calls, {section.readings_count} readings"
+    read = _many(section.readings_count, "reading")
+    return f"{section.status}\n{_many(retired, 'instruction')}\n{_many(calls, 'call')}, {read}"
+
+
+def _many(number: int, what: str) -> str:
+    return f"{number:,} {what}{'' if number == 1 else 's'}"
 
 
 def _legend(strips: Sequence[Strip]) -> list[Patch | Line2D]:
@@ -145,7 +150,14 @@ def _legend(strips: Sequence[Strip]) -> list[Patch | Line2D]:
             label="a slot: instructions retired in it" if is_replayed else "a slot",
         ),
         Patch(facecolor=_IDLE, edgecolor=colour_of(0), label="the domain had ended"),
-        Line2D([], [], color="black", marker="|", linestyle="none", label="it read its clock"),
+        Line2D(
+            [],
+            [],
+            color="black",
+            marker="|",
+            linestyle="none",
+            label="it read its clock (of its first 256 readings)",
+        ),
         Patch(facecolor=_PAD, label="pad"),
         Patch(facecolor=_USED, label="cycles that the switch used"),
     ]

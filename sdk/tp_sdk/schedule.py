@@ -44,6 +44,14 @@ def entries_of(image: Image, file: str) -> list[Entry]:
     return entries
 
 
+def slot_count(word: str) -> int:
+    """A number of slots as a command's word: `ValueError` says that it is none of one or more."""
+    number = int(word)
+    if number < 1:
+        raise ValueError(word)
+    return number
+
+
 def domain_names(image: Image) -> list[str]:
     """The names of its domains."""
     domains = image.get("domain")

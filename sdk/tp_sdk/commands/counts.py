@@ -11,7 +11,7 @@ from pathlib import Path
 from tp_sdk.counts import COUNTED, Counted, count_events
 from tp_sdk.faults import EXIT_CODES, Fault, read_text
 from tp_sdk.program import Program
-from tp_sdk.schedule import domain_names, entries_of
+from tp_sdk.schedule import domain_names, entries_of, slot_count
 
 _HELP = """Counts the events of a domain's slots, by their costs:
 
@@ -21,7 +21,16 @@ The program is run many times, with each cost one cycle more: so it must be ther
 the domain does must not depend on its clock, nor may it have interrupts: it is checked that it
 comes to the same state, and that the counts make up the cycles. A slot's
 last instruction or call is not counted: its time may be the pad's. '?' is a slot that is too
-short to tell."""
+short to tell. The columns are, by the costs of docs/IMAGE.md:
+
+  instructions   calls among them
+  first level    lines that are fetched, loaded or stored, those of the kernel's calls, too
+  second level   those that the first level misses, and each read of a walk
+  memory         those of the second level's that it misses
+  write-backs    dirty lines that gave way
+  translations   pages looked up: one for each instruction, load and store
+  wrong guesses  of branches
+  calls          of the kernel"""
 
 _WHAT = {
     "base": "instructions",
@@ -42,7 +51,9 @@ def main(words: list[str]) -> int:
     )
     parser.add_argument("image", type=Path, help="the image")
     parser.add_argument("--domain", required=True, help="its name")
-    parser.add_argument("--slots", type=int, default=4, help="of the first so many slots (%(default)s)")
+    parser.add_argument(
+        "--slots", type=slot_count, default=4, help="of the first so many slots (%(default)s)"
+    )
     parser.add_argument("--json", action="store_true", help="writes an array with an object for each slot")
     asked = parser.parse_args(words)
     try:

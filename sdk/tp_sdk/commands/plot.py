@@ -21,13 +21,14 @@ from tp_sdk.program import Program
 from tp_sdk.refusals import Image
 from tp_sdk.replay import Replay, replay
 from tp_sdk.report import Report, parse_report
-from tp_sdk.schedule import Entry, domain_names, entries_of
+from tp_sdk.schedule import Entry, domain_names, entries_of, slot_count
 from tp_sdk.toml_places import read_with_places
 
 _HELP = """Draws reports of `tp run`, as NAME.svg or NAME.png:
 
   tp-plot timeline mine.toml mine.report -o mine.svg
-      the slots, the pads, and the most that each entry's switches used of theirs
+      what was done in each slot, and what each switch used of its pad, as running the image
+      again tells; with no program, what the report alone does
   tp-plot readings FOLDER --domain spy -o spy.svg
       what one domain measured in each FOLDER/*.report: a spy beside many neighbours, say
   tp-plot memory mine.toml -o mine.svg
@@ -40,11 +41,14 @@ def main(words: list[str]) -> int:
         "tp-plot", description=_HELP, epilog=EXIT_CODES, formatter_class=RawDescriptionHelpFormatter
     )
     commands = parser.add_subparsers(required=True, metavar="timeline|readings|memory")
-    timeline = commands.add_parser("timeline", help="slots, pads and switches")
+    timeline = commands.add_parser("timeline", help="slots, what was done in them, pads and switches")
     timeline.add_argument("image", type=Path)
     timeline.add_argument("reports", type=Path, nargs="+", metavar="report")
     timeline.add_argument(
-        "--slots", type=_count, default=12, help="how many slots are drawn, from the first on (%(default)s)"
+        "--slots",
+        type=slot_count,
+        default=12,
+        help="how many slots are drawn, from the first on (%(default)s)",
     )
     timeline.set_defaults(draw=_timeline)
     readings = commands.add_parser("readings", help="what a domain measured in many reports")
@@ -64,6 +68,11 @@ def main(words: list[str]) -> int:
         type=Path,
         help="an image with the reports' schedule: it tells exactly within which measurements a slot ended",
     )
+    readings.add_argument(
+        "--against",
+        metavar="REPORT",
+        help="the name of the report that others are compared with, else the first",
+    )
     readings.set_defaults(draw=_readings)
     memory = commands.add_parser("memory", help="whose colours, frames, pages and sets are whose")
     memory.add_argument("image", type=Path)
@@ -76,14 +85,6 @@ def main(words: list[str]) -> int:
     picture_file(asked.out)
     asked.draw(asked)
     return 0
-
-
-def _count(word: str) -> int:
-    """A number of one or more: `ValueError` says that a word is none."""
-    number = int(word)
-    if number < 1:
-        raise ValueError(word)
-    return number
 
 
 def _read(file: Path) -> Report:
@@ -150,14 +151,18 @@ def _readings(asked: Namespace) -> None:
     if image is not None:
         for file, report in reports:
             image.refuse_others(file, report)
-    panels = [_panel(domain, reports, asked.measure, image) for domain in asked.domain]
+    if asked.against is not None and asked.against not in [file.stem for file in files]:
+        raise Fault(f"{asked.folder}: there is no {asked.against}.report to compare with")
+    panels = [_panel(domain, reports, asked, image) for domain in asked.domain]
     for panel in panels:
         print(panel.verdict)
     draw = draw_matrix if asked.form == "matrix" else draw_histogram
     draw(asked.out, panels)
 
 
-def _panel(domain: str, reports: Sequence[tuple[Path, Report]], how: str, image: _Scheduled | None) -> Panel:
+def _panel(
+    domain: str, reports: Sequence[tuple[Path, Report]], asked: Namespace, image: _Scheduled | None
+) -> Panel:
     sections, series = [], []
     for file, report in reports:
         try:
@@ -169,9 +174,9 @@ def _panel(domain: str, reports: Sequence[tuple[Path, Report]], how: str, image:
         else:
             slot_ended = by_schedule(image.entries, report.slots)
         sections.append(section.text)
-        series.append((file.stem, measurements_of(section, how, slot_ended)))
+        series.append((file.stem, measurements_of(section, asked.measure, slot_ended)))
     measured = measure(sections, [it.cycles for _, it in series])
-    return Panel(domain, rows_of(series), verdict(domain, measured))
+    return Panel(domain, rows_of(series), verdict(domain, measured), asked.against)
 
 
 def verdict(domain: str, measured: Measured) -> str:
