@@ -30,12 +30,12 @@ class Program:
 
     @classmethod
     def find(cls) -> Program:
-        """The program that the variable `TP` names, else the one that `./tp` builds."""
+        """The program that the variable `TP` names, else the one that `./tp --prove` builds."""
         named = os.environ.get(VARIABLE)
         path = Path(named) if named else REPOSITORY / "crates" / "tp" / "out" / "tp"
         if not path.is_file() or shutil.which(str(path.absolute())) is None:
             where = f"{VARIABLE}={path}" if named else str(path.relative_to(REPOSITORY))
-            raise Missing(f"there is no program at {where}: './tp check < examples/skeleton.toml' builds it")
+            raise Missing(f"there is no program at {where}: './tp --prove' proves and builds it")
         return cls(path.absolute())
 
     def run(self, words: list[str], image: str) -> Ended:

@@ -39,7 +39,7 @@ An image's own keys may stand in it, too: the machine's in the place of `machine
 `segment` in that of `program`. So every image is a description.
 
 Segments and their rights are those of the ELF file's program headers, each named after its
-first section. The program is looked for where the variable TP says, else where ./tp builds
+first section. The program is looked for where the variable TP says, else where ./tp --prove builds
 it; it computes pads and must accept the image."""
 
 
