@@ -88,32 +88,51 @@ on_slot d a more = bad_slot (not (is_slot a)) ∷ empty (is_none (in_slot d a)) 
 abbrev pub on_line : Dom → ℕ → List Error
 on_line d a = on_slot d a (wrong_kind (is_none (line_of (in_slot d a))) ∷ [])
 
+abbrev pub alloc_errors : Estate → Dom → ℕ → ℕ → List Error
+alloc_errors e d a b =
+    bad_slot (not (is_slot a)) ∷ used (is_some (in_slot d a)) ∷ wrong_kind (not (nat_le b 1))
+    ∷ no_frame (nat_eq (length (free_frames e d.caps)) 0) ∷ []
+
+abbrev pub table_errors : Estate → Dom → Mem → ℕ → ℕ → List Error
+table_errors e d m a b =
+    on_slot d a (wrong_kind (is_none (table_of (in_slot d a))) ∷ bad_address (not (is_multiple 4194304 b))
+    ∷ mapped (is_some (installed_at (in_slot d a)) || has_table m e.root b) ∷ [])
+
+abbrev pub map_errors : Estate → Dom → Mem → ℕ → ℕ → ℕ → List Error
+map_errors e d m a b c =
+    on_slot d a (wrong_kind (is_none (page_of (in_slot d a))) ∷ bad_rights (is_beyond (in_slot d a) c)
+    ∷ bad_address (not (is_multiple 4096 b)) ∷ mapped (is_some (mapped_at (in_slot d a)) || has_page m e.root b)
+    ∷ no_table (not (has_table m e.root b)) ∷ [])
+
+abbrev pub unmap_errors : Dom → ℕ → List Error
+unmap_errors d a =
+    on_slot d a (wrong_kind (is_none (page_of (in_slot d a))) ∷ bad_address (is_none (mapped_at (in_slot d a))) ∷ [])
+
+abbrev pub copy_errors : Dom → ℕ → ℕ → ℕ → List Error
+copy_errors d a b c =
+    bad_slot (not (is_slot a) || not (is_slot b)) ∷ empty (is_none (in_slot d a)) ∷ used (is_some (in_slot d b))
+    ∷ wrong_kind (is_some (table_of (in_slot d a)))
+    ∷ bad_rights (is_some (page_of (in_slot d a)) && is_beyond (in_slot d a) c) ∷ []
+
+abbrev pub spawn_errors : Dom → ℕ → List Error
+spawn_errors d a = bad_address (not (is_multiple 4 a)) ∷ no_thread (is_none (vacant d.threads)) ∷ []
+
+-- by the call's number
 unfoldable pub errors_of : Estate → Dom → Mem → ℕ → ℕ → ℕ → ℕ → List Error
 errors_of e d m number a b c =
     if nat_eq number 0 then []
     else if nat_eq number 1 then output_full (not (nat_lt (length d.printed) 4096)) ∷ []
-    else if nat_eq number 2 then
-    bad_slot (not (is_slot a)) ∷ used (is_some (in_slot d a)) ∷ wrong_kind (not (nat_le b 1))
-    ∷ no_frame (nat_eq (length (free_frames e d.caps)) 0) ∷ []
-    else if nat_eq number 3 then
-    on_slot d a (wrong_kind (is_none (table_of (in_slot d a))) ∷ bad_address (not (is_multiple 4194304 b))
-    ∷ mapped (is_some (installed_at (in_slot d a)) || has_table m e.root b) ∷ [])
-    else if nat_eq number 4 then
-    on_slot d a (wrong_kind (is_none (page_of (in_slot d a))) ∷ bad_rights (is_beyond (in_slot d a) c)
-    ∷ bad_address (not (is_multiple 4096 b)) ∷ mapped (is_some (mapped_at (in_slot d a)) || has_page m e.root b)
-    ∷ no_table (not (has_table m e.root b)) ∷ [])
-    else if nat_eq number 5 then
-    on_slot d a (wrong_kind (is_none (page_of (in_slot d a))) ∷ bad_address (is_none (mapped_at (in_slot d a))) ∷ [])
-    else if nat_eq number 6 then
-    bad_slot (not (is_slot a) || not (is_slot b)) ∷ empty (is_none (in_slot d a)) ∷ used (is_some (in_slot d b))
-    ∷ wrong_kind (is_some (table_of (in_slot d a)))
-    ∷ bad_rights (is_some (page_of (in_slot d a)) && is_beyond (in_slot d a) c) ∷ []
+    else if nat_eq number 2 then alloc_errors e d a b
+    else if nat_eq number 3 then table_errors e d m a b
+    else if nat_eq number 4 then map_errors e d m a b c
+    else if nat_eq number 5 then unmap_errors d a
+    else if nat_eq number 6 then copy_errors d a b c
     else if nat_eq number 7 then on_slot d a (table_in_use (in_use d.caps a) ∷ [])
     else if nat_eq number 8 then on_slot d a []
     else if nat_eq number 9 then on_line d a
     else if nat_eq number 10 then on_line d a
     else if nat_eq number 11 then on_line d a
-    else if nat_eq number 12 then bad_address (not (is_multiple 4 a)) ∷ no_thread (is_none (vacant d.threads)) ∷ []
+    else if nat_eq number 12 then spawn_errors d a
     else if nat_eq number 13 then []
     else if nat_eq number 14 then []
     else bad_call true ∷ []
