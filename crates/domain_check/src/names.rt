@@ -42,7 +42,8 @@ fn named_so(name: &str, domains: &[RawDomain]) -> Option<usize>
 #[tactic(auto, unfolding(crate::specs::Names::k7_domain))]
 fn k7_domain(earlier: &[RawDomain], domain: &RawDomain) -> Result<(), Refusal>
     requires few { length earlier.now ≤ 16 }
-    ensures verdict { IsVerdict result (spec.k7_domain (map domain_model earlier.now) (domain_model domain.now)) }
+    ensures verdict { IsVerdict result
+        (spec.k7_domain (map domain_model earlier.now) (domain_model domain.now)) }
 {
     let d = earlier.len() as i64;
     let name = domain.name.as_str();

@@ -1,38 +1,35 @@
 -- The numbers of an entry that the rule of the schedule lets through.
-use Rattle.std.proofs.Common.{◌≡◌, ℕ, ◌<◌, ◌≤◌, not, false, List, [], ◌∷◌, length, map, take, get_or, None, Some, sym, subst, arith, ◌⊎◌, inl, inr}
+use Rattle.std.proofs.Common.{◌≡◌, ℕ, ◌<◌, ◌≤◌, not, false, List, [], length, map, take, get_or, None, Some, sym, subst, arith, ◌⊎◌, inl, inr}
 use Rattle.std.specs.Prelude.{ℤ, pos, negsuc, Option, if◌then◌else◌}
-use Rattle.std.specs.List.{All}
-use Rattle.std.proofs.Math.ListN.{get_or-map}
 use Rattle.std.proofs.lemmas.List.{length-map, get_or_past, get_or-map as read_map}
 use Rattle.std.proofs.lemmas.Bool.{cases_lt}
-use Rattle.std.proofs.lemmas.List.Elements.{All-from_get_or}
 use Rattle.std.proofs.lemmas.Bool.Decides.{nat_tests}
-use Rattle.image_text.specs.declared.raw.RawEntry.{RawEntry}
 use Rattle.image_text.specs.declared.raw.Raw.{Raw}
 use Rattle.image_text.specs.declared.refusal.Refusal.{Refusal}
 use Rattle.image_text.specs.Record.{Raw as RawText, RawEntry as TextEntry}
 use Rattle.image_text.specs.Reads.{raw_model}
-use Rattle.image_text.specs.Models.{domain_model, entry_model}
+use Rattle.image_text.specs.Models.{domain_model}
 use Rattle.hardware_check.specs.Cases.{first_in, outside, refusal}
 use Rattle.image_check.specs.Schedule.{is_number, k16, k16_case, k16_entry}
 use Rattle.hardware_check.specs.Hardware.{natural_of}
 use Rattle.sched_table.specs.declared.schedule.Entry.{Entry}
 use Rattle.sched_table.specs.Schedule.{entry_in, no_entry, IsSchedule}
-use Rattle.image_check.specs.Public.{entry_of, IsSmall}
+use Rattle.domain_check.specs.Names.{k7}
+use Rattle.image_check.specs.Public.{entry_of}
 use Rattle.image_check.specs.Checking.{broken_but_pads}
 use Rattle.hardware_check.proofs.FirstCases.{if_first, if_rest, first_in_none}
-use Rattle.image_check.proofs.Kept.{kept_but_pads, few_domains, entries_within, entries_pass}
+use Rattle.image_check.proofs.Kept.{few_domains, domains_within, entries_within, entries_pass}
 
 pub record Passed (domains : ℕ) (e : Entry) : Type 0 where
   pub domain : e.domain < domains
   pub length : e.length ≤ 1000000
   pub pad : e.pad ≤ 1000000
 
-number_below : (many : ℕ) (x : ℤ) → not (is_number many x) ≡ false → natural_of x < many
+pub number_below : (many : ℕ) (x : ℤ) → not (is_number many x) ≡ false → natural_of x < many
 number_below many (pos n) h = grind (arith, nat_tests, h)
 number_below many (negsuc n) h = cc
 
-most_inside : (low high : ℕ) (x : ℤ) → outside (pos low) (pos high) x ≡ false → natural_of x ≤ high
+pub most_inside : (low high : ℕ) (x : ℤ) → outside (pos low) (pos high) x ≡ false → natural_of x ≤ high
 most_inside low high (pos n) h = grind (arith, nat_tests, h)
 most_inside low high (negsuc n) h = omega arith
 
@@ -88,25 +85,10 @@ schedule_sound i n =
       pads = λ e. (all_short (length i.domains) i.schedule pass e).pad;
     }
 
-small : (domains : ℕ) (e : Entry) → domains ≤ 16 → Passed domains e → IsSmall e
-small domains e few p = record { domain = omega (arith, few, p.domain); length = omega (arith, p.length); pad = omega (arith, p.pad) }
-
-all_small : (domains : ℕ) (es : List RawEntry) → domains ≤ 16 → first_in (k16_entry domains) (map entry_model es) ≡ None → All (λ e. IsSmall (entry_of (entry_model e))) es
-all_small domains [] few n = λ k d l. absurd (omega (arith, l))
-all_small domains (x ∷ es) few n =
-    All-from_get_or (λ e. IsSmall (entry_of (entry_model e))) (x ∷ es) x (λ k l.
-    let P : TextEntry → Type 0 = λ e. IsSmall (entry_of e) in
-    let p = entry_passed domains (map entry_model (x ∷ es)) n k (omega (arith, length-map es entry_model, l)) (entry_model x) in
-    subst P (get_or-map entry_model (x ∷ es) k x) (small domains (entry_of (get_or (map entry_model (x ∷ es)) k (entry_model x))) few p))
-
 -- of an image that breaks no rule but that of pads
-pub small_entries : (raw : Raw) → broken_but_pads (raw_model raw) ≡ [] → All (λ e. IsSmall (entry_of (entry_model e))) raw.schedule.items
-small_entries raw n =
-    let i = raw_model raw in
-    all_small (length i.domains) raw.schedule.items (few_domains i n) (entries_pass i (kept_but_pads i n).schedule)
-
 pub few_raw_domains : (raw : Raw) → broken_but_pads (raw_model raw) ≡ [] → length raw.domains.items ≤ 16
 few_raw_domains raw n = omega (arith, length-map raw.domains.items domain_model, few_domains (raw_model raw) n)
 
-pub sound_entries : (raw : Raw) → broken_but_pads (raw_model raw) ≡ [] → IsSchedule (map entry_of (map entry_model raw.schedule.items))
-sound_entries raw n = schedule_sound (raw_model raw) (kept_but_pads (raw_model raw) n).schedule
+-- of one that keeps the rule of domains
+pub few_texts : (raw : Raw) → k7 (raw_model raw) ≡ None → length raw.domains.items ≤ 16
+few_texts raw n = let most = (domains_within (raw_model raw) n).most in omega (arith, length-map raw.domains.items domain_model, most)

@@ -1,5 +1,5 @@
 -- What all domains may know of an image: the hardware, and the schedule.
-use Rattle.std.specs.Prelude.{ℕ, ◌<◌, ◌^◌, List, length, map}
+use Rattle.std.specs.Prelude.{ℕ, List, length, map}
 use Rattle.image_text.specs.Record.{Raw, RawEntry}
 pub use Rattle.hardware_check.specs.Hardware.{Hardware}
 use Rattle.hardware_check.specs.Hardware.{natural_of, hardware_of}
@@ -19,9 +19,3 @@ public_of i = record {
   schedule = map entry_of i.schedule;
   domains = length i.domains;
 }
-
--- its numbers fit those of the code
-pub record IsSmall (e : Entry) : Type 0 where
-  pub domain : e.domain < 2 ^ 8
-  pub length : e.length < 2 ^ 32
-  pub pad : e.pad < 2 ^ 32

@@ -6,6 +6,7 @@ ghost use Rattle.pad_bound.specs.Bound.{IsShape};
 ghost use Rattle.pad_bound.specs.Models.{shape_model};
 ghost use Rattle.image_check.specs.Outcomes.{IsFirst};
 ghost use Rattle.image_check.specs.Checking.{broken_but_pads};
+ghost use Rattle.image_check.specs.Public.{entry_of};
 ghost use Rattle.image_check.specs.Image.{image_from, own_of};
 ghost use Rattle.hardware_check.specs.Hardware.{hardware_of};
 ghost use Rattle.domain_check.specs.Models.{segment_model, named_model};
@@ -23,6 +24,7 @@ use domain_check::{Named, Segment, k7, k8, k9, k10, k12, k13, k14, k15};
 use hardware_check::{Hardware, k3, k4, k5, k6, k11};
 use image_text::{Raw, Refusal};
 use pad_bound::{Shape, bound};
+use sched_table::Entry;
 use std::alloc::Global;
 use std::marker::Model;
 
@@ -98,6 +100,7 @@ struct Parts {
     segments: Vec<Vec<Segment>>,
     /// What the slots of each domain name.
     caps: Vec<Vec<Named>>,
+    schedule: Vec<Entry>,
 }
 
 /// The parts, where the list of the rules that the image breaks is empty but for
@@ -111,6 +114,7 @@ fn parts_of(alloc: Global, raw: &Raw) -> Result<Parts, CheckRefusal>
         ≡ map segments_of (raw_model raw.now).domains) }
     ensures caps { IfOk result (λ p. map (λ c. map named_model c.items) p.caps.items
         ≡ map caps_of (raw_model raw.now).domains) }
+    ensures schedule { IfOk result (λ p. p.schedule.items ≡ map entry_of (raw_model raw.now).schedule) }
 {
     k3(raw)?;
     k4(raw)?;
@@ -125,11 +129,12 @@ fn parts_of(alloc: Global, raw: &Raw) -> Result<Parts, CheckRefusal>
     let caps = k13(alloc, raw)?;
     k14(raw)?;
     k15(raw)?;
-    k16(raw)?;
+    let schedule = k16(alloc, raw)?;
     Ok(Parts {
         hardware,
         segments,
         caps,
+        schedule,
     })
 }
 
@@ -146,7 +151,7 @@ pub fn check_but_pads(alloc: Global, raw: Raw) -> Result<Unpadded, CheckRefusal>
     ensures same { IfOk result (λ u. u ≡ raw_model raw) }
 {
     let parts = parts_of(alloc, &raw)?;
-    let public = public_of(alloc, &raw, parts.hardware)?;
+    let public = public_of(alloc, &raw, parts.hardware, parts.schedule.as_slice())?;
     let owns = owns_of(alloc, &raw, parts.segments, parts.caps.as_slice())?;
     Ok(Unpadded { raw, public, owns })
 }

@@ -1,5 +1,11 @@
-use Rattle.image_check.proofs.Entries.{sound_entries}
+use Rattle.std.proofs.Common.{sym, subst}
+use Rattle.image_text.specs.Reads.{raw_model}
+use Rattle.sched_table.specs.Schedule.{IsSchedule}
+use Rattle.image_check.proofs.Kept.{kept_but_pads}
+use Rattle.image_check.proofs.Entries.{schedule_sound}
 use Rattle.image_check.proofs.public.public_of.Goals as goal
 
-pub schedule_of-requires-clause-schedule : goal.schedule_of-requires-clause-schedule
-schedule_of-requires-clause-schedule c = rw c.as_slice.ensures.value (sound_entries c.args.raw.now c.requires.accepted)
+pub schedule_of-requires : goal.schedule_of-requires
+schedule_of-requires c =
+    let i = raw_model c.args.raw.now in
+    record { schedule = subst IsSchedule (sym c.requires.entries) (schedule_sound i (kept_but_pads i c.requires.accepted).schedule) }

@@ -1,8 +1,0 @@
-use Rattle.std.proofs.Common.{◌≡◌, take, drop, map}
-use Rattle.image_text.specs.Models.{entry_model}
-use Rattle.hardware_check.specs.Cases.{first_case, first_in}
-use Rattle.image_check.specs.Schedule as spec
-use Rattle.image_check.proofs.schedule.k16_entries.Given as goal
-
-abbrev pub invariant-loop-place : goal.invariant-loop-place
-invariant-loop-place l = first_case (spec.k16_entry l.domains) (map entry_model (take l.place l.entries)) (map entry_model (drop l.place l.entries)) ≡ first_in (spec.k16_entry l.domains) (map entry_model l.entries)
