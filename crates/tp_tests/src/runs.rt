@@ -13,6 +13,7 @@ use tp_run::{Status, tp_main};
 
 mod calls;
 mod interrupts;
+mod large;
 mod machines;
 mod refusals;
 mod rules;
