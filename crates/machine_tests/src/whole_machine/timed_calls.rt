@@ -154,16 +154,16 @@ const CALLS: [Call; COUNT as usize] = [
 // clock are 3 cycles of the first reading, and 3 of the call's instruction: the
 // base, the look-up and the fetch.
 fn first_wrong(view: &View<'_>) -> Option<u32> {
-    let replies = 256.min(view.replies());
-    let readings = 256.min(view.readings());
+    if view.replies() != u64::from(COUNT) || view.readings() != 2 * u64::from(COUNT) {
+        return Some(COUNT);
+    }
     for place in 0..COUNT {
-        let first = 2 * place;
-        if u64::from(place) >= replies || u64::from(first + 1) >= readings {
-            return Some(place);
-        }
         let (_, _, (code, value), charge) = CALLS[place as usize];
-        let cycles = view.reading(first + 1).wrapping_sub(view.reading(first));
-        if view.reply(place) != (Reply { code, value }) || cycles != charge.wrapping_add(6) {
+        let before = view.reading(2 * place);
+        let after = view.reading(2 * place + 1);
+        if view.reply(place) != (Reply { code, value })
+            || after.wrapping_sub(before) != charge.wrapping_add(6)
+        {
             return Some(place);
         }
     }
