@@ -17,8 +17,19 @@ costs = { base = 1, l1 = 1, l2 = 8, mem = 40, wb = 10, tlb = 1, mispredict = 3, 
 ";
 
 // Two domains. Red reads the clock, stores it in the second page of its data
-// segment, which has a table of its own, prints `A` and exits; blue jumps to
-// itself.
+// segment, which has a table of its own, prints `A` and exits. Its entry is past
+// its first word:
+//
+//     csrrs x5, cycle, x0
+//     lui x6, 0x400
+//     sw x5, 0x400(x6)
+//     addi x10, x0, 0x41
+//     addi x17, x0, 1
+//     ecall
+//     addi x17, x0, 0
+//     ecall
+//
+// Blue, and the first word of both, is `jal x0, 0`.
 pub const RED_AND_BLUE: &str = "[[domain]]
 name = \"red\"
 colours = [1]
@@ -50,4 +61,14 @@ pub fn accepted(alloc: Global, parts: &[&str]) -> Result<Option<Checked>, Memory
         Err(CheckRefusal::Memory) => Err(Memory),
         Err(CheckRefusal::Broken(_)) => Ok(None),
     }
+}
+
+// The bytes of a program, as an image has them.
+pub fn hex_of(alloc: Global, program: &[u32]) -> Result<String, Memory> {
+    let mut text = String::new(alloc);
+    for word in program.iter().copied() {
+        let bytes = format!(in alloc; "{:08x}", word.swap_bytes())?;
+        text.push_str(bytes.as_str())?;
+    }
+    Ok(text)
 }

@@ -1,5 +1,6 @@
 // A run of two domains, slot by slot.
 mod calls;
+mod timed_calls;
 
 use crate::images::{MACHINE, RED_AND_BLUE, accepted};
 use crate::seen::{Seen, told};

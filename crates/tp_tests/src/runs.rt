@@ -14,6 +14,7 @@ use tp_run::{Status, tp_main};
 mod calls;
 mod images;
 mod interrupts;
+mod large;
 mod machines;
 mod refusals;
 mod rules;

@@ -30,7 +30,7 @@ use std::alloc::Global;
 use std::test::Fail;
 use tp_base::{FrameNo, Memory};
 
-// Red has 16 frames, of which 4 are free at first.
+// Red has 16 frames, of which 4 are free at first. Both have `jal x0, 0` alone.
 const DOMAINS: &str = "[[domain]]
 name = \"red\"
 colours = [1]
