@@ -50,87 +50,142 @@ use Rattle.tp_machine.proofs.Elements.{each_set}
 -- ---- the slot
 
 -- a domain of the machine has its facts
-pub facts_at : (i : Image) → Runnable i → (k : ℕ) (s : Kept) → StandsFor i k s → (d : ℕ) (x : Domain) → IsDomain i d → slice_get s.domains d ≡ Some x
+pub facts_at : (i : Image) → Runnable i → (k : ℕ) (s : Kept) → StandsFor i k s → (d : ℕ)
+    (x : Domain) → IsDomain i d → slice_get s.domains d ≡ Some x
     → HasFacts (estate i.all.hardware (own_of i d)) s.memory (whole i k).storage.mem x
 unfolding estate
 facts_at i r k s is d x domain got =
     let p = i.all.hardware in
     let o = own_of i d in
-    let caps : (dom_of (whole i k) d).caps ≡ x.caps = sym (ap (λ (m : Dom). m.caps) (is.each_domain d x got).same) in
+    let caps : (dom_of (whole i k) d).caps ≡ x.caps =
+    sym (ap (λ (m : Dom). m.caps) (is.each_domain d x got).same) in
     record {
       estate = (kernel_of i (separated i r) d domain).has_estate;
       frames = sym is.frames;
       has = is.each_estate d x got;
       holds = is.holds;
-      facts = subst (λ (slots : Slots). Facts (estate p o).root (is_mine (estate p o)) (claims (estate p o) slots) (whole i k).storage.mem) caps
+      facts =
+          subst (λ (slots : Slots). Facts (estate p o).root (is_mine (estate p o)) (claims (estate p o) slots) (whole i k).storage.mem)
+          caps
           (all_facts i (separated i r) k d domain).facts;
     }
 
-pub all_at : (i : Image) → Runnable i → (k : ℕ) (s : Kept) → StandsFor i k s → KeepsBuffer i k s → HaveFacts i k s
+pub all_at : (i : Image) → Runnable i → (k : ℕ) (s : Kept) → StandsFor i k s → KeepsBuffer i k s
+    → HaveFacts i k s
 all_at i r k s is buffer = record {
   buffer = buffer;
-  each = λ d x got. facts_at i r k s is d x (omega (arith, slice_get_within s.domains d x got, is.all_domains)) got;
+  each =
+      λ d x got.
+      facts_at i r k s is d x (omega (arith, slice_get_within s.domains d x got, is.all_domains))
+      got;
 }
+
+-- what the code has as a slot begins: the hierarchy, what the switch used, and the clock
+pub record SlotStart : Type 0 where
+  pub system : SystemContents AnyPolicy
+  pub used : ℕ
+  pub now : ℕ
+
+-- and after it: memory and hierarchy, its domain, what all switches used, and the clock
+pub record SlotEnd : Type 0 where
+  pub memory : Contents
+  pub system : SystemContents AnyPolicy
+  pub domain : Domain
+  pub used : List Used
+  pub clock : ℕ
+
+abbrev pub kept_after : Kept → ℕ → SlotEnd → Kept
+kept_after s d z = kept z.memory z.system (set s.domains d z.domain) z.used z.clock
+
+-- what the switch is given: how many lines are shared, when the last slot ended, and when the next begins
+pub record SwitchTimes : Type 0 where
+  pub shared : ℕ
+  pub old_end : ℕ
+  pub until : ℕ
+
+-- they are those of slot k
+pub record AreTimes (i : Image) (k : ℕ) (t : SwitchTimes) : Type 0 where
+  pub shared : t.shared ≡ i.all.hardware.shared
+  pub old_end : t.old_end ≡ last_end i.all.schedule k
+  pub until : t.until ≡ start i.all.schedule k
+
+-- what the code's switch promises, from the clone that left to the domain that enters
+pub record Switches (s : Kept) (t : SwitchTimes) (out : Option Layout) (into : Layout)
+    (b : SlotStart) : Type 0 where
+  pub levels : hierarchy_of any_rule b.system ≡ hierarchy_of any_rule s.system
+  pub pinned : b.system.core.pinned ≡ s.system.core.pinned
+  pub work : (c : Caches) → SystemStands any_stands_for s.system c
+      → IsSwitched any_stands_for t.old_end s.clock b.used b.system
+      (touched_all (hierarchy_of any_rule s.system) s.system.core.pinned c
+      (operations.switch s.system.core.costs out into))
+  pub on_time : (c : Caches) → SystemStands any_stands_for s.system c
+      → IsInTime (hierarchy_of any_rule s.system) c t.shared t.old_end s.clock t.until
+      → b.now ≡ t.until
+  pub kept : (m : Mem) (frames root : ℕ) → KeepsLeaves m frames root b.system.core.tlb
+
+-- the code stands for the machine after so many slots, and its domains have their facts
+pub record Next (i : Image) (slots : ℕ) (k : Kept) : Type 0 where
+  pub stands : StandsFor i slots k
+  pub facts : HaveFacts i slots k
 
 -- the code after the switch into slot k: the hierarchy stands for the caches that the definition's work leaves, and the buffer
 -- keeps nothing that is wrong
-pub record Begins (i : Image) (k : ℕ) (s : Kept) (system : SystemContents AnyPolicy) (used now : ℕ) : Type 0 where
-  pub levels : hierarchy_of any_rule system ≡ hierarchy_of any_rule s.system
-  pub pinned : system.core.pinned ≡ s.system.core.pinned
-  pub caches : SystemStands any_stands_for system (work i k (whole i k)).caches
-  pub leaves : (m : Mem) (frames root : ℕ) → KeepsLeaves m frames root system.core.tlb
-  pub used_is : used ≡ s.clock + (work i k (whole i k)).cost - last_end i.all.schedule k
-  pub now_is : now ≡ start i.all.schedule k
-
--- by what the code's switch is given and answers
-begins_by : (i : Image) (r : Runnable i) (k : ℕ) (s : Kept) (is : StandsFor i k s) (system : SystemContents AnyPolicy) (old_end used now : ℕ) (out : Option Layout) (into : Layout)
-    → old_end ≡ last_end i.all.schedule k → out ≡ clone_of i (outgoing i.all.schedule k) → into ≡ layout i.all.hardware (own_of i (entry_of_slot i.all.schedule k).domain)
-    → hierarchy_of any_rule system ≡ hierarchy_of any_rule s.system → system.core.pinned ≡ s.system.core.pinned
-    → IsSwitched any_stands_for old_end s.clock used system
-    (touched_all (hierarchy_of any_rule s.system) s.system.core.pinned (whole i k).caches (operations.switch s.system.core.costs out into))
-    → ((m : Mem) (frames root : ℕ) → KeepsLeaves m frames root system.core.tlb) → now ≡ start i.all.schedule k → Begins i k s system used now
-begins_by i r k s is system old_end used now out into ended leaves enters levels pinned switched kept on_time = record {
-  levels = levels;
-  pinned = pinned;
-  caches = subst (λ (t : Touched). SystemStands any_stands_for system t.caches) (work_is i r k s is out into leaves enters) switched.next;
-  leaves = kept;
-  used_is = switched.time ∙ ap₂ (λ (t : Touched) (n : ℕ). s.clock + t.cost - n) (work_is i r k s is out into leaves enters) ended;
-  now_is = on_time;
-}
+pub record Begins (i : Image) (k : ℕ) (s : Kept) (b : SlotStart) : Type 0 where
+  pub levels : hierarchy_of any_rule b.system ≡ hierarchy_of any_rule s.system
+  pub pinned : b.system.core.pinned ≡ s.system.core.pinned
+  pub caches : SystemStands any_stands_for b.system (work i k (whole i k)).caches
+  pub leaves : (m : Mem) (frames root : ℕ) → KeepsLeaves m frames root b.system.core.tlb
+  pub used_is : b.used ≡ s.clock + (work i k (whole i k)).cost - last_end i.all.schedule k
+  pub now_is : b.now ≡ start i.all.schedule k
 
 -- what the switch asks, of the code's numbers
-module _ (i : Image) (r : Runnable i) (k : ℕ) (s : Kept) (is : StandsFor i k s) (shared old_end until : ℕ) (a : shared ≡ i.all.hardware.shared) (b : old_end ≡ last_end i.all.schedule k)
-    (e : until ≡ start i.all.schedule k) where
-  pub in_time_here : IsInTime (hierarchy_of any_rule s.system) (whole i k).caches shared old_end s.clock until
+module _ (i : Image) (r : Runnable i) (k : ℕ) (s : Kept) (is : StandsFor i k s) (t : SwitchTimes)
+    (are : AreTimes i k t) where
+  pub in_time_here : IsInTime (hierarchy_of any_rule s.system) (whole i k).caches t.shared t.old_end s.clock t.until
   in_time_here =
       let h = hierarchy_of any_rule s.system in
       let c = (whole i k).caches in
-      subst (λ (n : ℕ). IsInTime h c n old_end s.clock until) (sym a)
-      (subst (λ (n : ℕ). IsInTime h c i.all.hardware.shared n s.clock until) (sym b)
-      (subst (λ (n : ℕ). IsInTime h c i.all.hardware.shared (last_end i.all.schedule k) s.clock n) (sym e) (is_in_time i r k s is)))
+      subst (λ (n : ℕ). IsInTime h c n t.old_end s.clock t.until) (sym are.shared)
+      (subst (λ (n : ℕ). IsInTime h c i.all.hardware.shared n s.clock t.until) (sym are.old_end)
+      (subst (λ (n : ℕ). IsInTime h c i.all.hardware.shared (last_end i.all.schedule k) s.clock n) (sym are.until)
+      (is_in_time i r k s is)))
 
-  pub clone_here : (d : ℕ) (x : Domain) → IsDomain i d → slice_get s.domains d ≡ Some x → IsCloneOn (hierarchy_of any_rule s.system) shared x.layout
-  clone_here d x domain got = subst (λ (n : ℕ). IsCloneOn (hierarchy_of any_rule s.system) n x.layout) (sym a) (clone_on i r k s is d x domain got)
+  pub clone_here : (d : ℕ) (x : Domain) → IsDomain i d → slice_get s.domains d ≡ Some x
+      → IsCloneOn (hierarchy_of any_rule s.system) t.shared x.layout
+  clone_here d x domain got =
+      subst (λ (n : ℕ). IsCloneOn (hierarchy_of any_rule s.system) n x.layout) (sym are.shared)
+      (clone_on i r k s is d x domain got)
 
   -- by its clauses: the clone that leaves, the domain that enters, and what was answered
-  pub begins_here : (d : ℕ) (y : Domain) → slice_get s.domains d ≡ Some y → d ≡ (entry_of_slot i.all.schedule k).domain
-      → (out : Option Layout) → out ≡ clone_of i (outgoing i.all.schedule k) → (system : SystemContents AnyPolicy) (used now : ℕ)
-      → hierarchy_of any_rule system ≡ hierarchy_of any_rule s.system → system.core.pinned ≡ s.system.core.pinned
-      → ((c : Caches) → SystemStands any_stands_for s.system c → IsSwitched any_stands_for old_end s.clock used system
-      (touched_all (hierarchy_of any_rule s.system) s.system.core.pinned c (operations.switch s.system.core.costs out (layout_model y.layout))))
-      → ((c : Caches) → SystemStands any_stands_for s.system c → IsInTime (hierarchy_of any_rule s.system) c shared old_end s.clock until → now ≡ until)
-      → ((m : Mem) (frames root : ℕ) → KeepsLeaves m frames root system.core.tlb) → Begins i k s system used now
-  begins_here d y got enters out leaves system used now levels pinned work on_time kept =
-      begins_by i r k s is system old_end used now out (layout_model y.layout) b leaves (is.each_layout d y got ∙ ap (λ (n : ℕ). layout i.all.hardware (own_of i n)) enters)
-      levels pinned (work (whole i k).caches is.caches) kept (on_time (whole i k).caches is.caches in_time_here ∙ e)
+  pub begins_here : (d : ℕ) (y : Domain) → slice_get s.domains d ≡ Some y
+      → d ≡ (entry_of_slot i.all.schedule k).domain
+      → (out : Option Layout) → out ≡ clone_of i (outgoing i.all.schedule k)
+      → (b : SlotStart) → Switches s t out (layout_model y.layout) b → Begins i k s b
+  begins_here d y got enters out leaves b switches =
+      let into : layout_model y.layout ≡ layout i.all.hardware (own_of i (entry_of_slot i.all.schedule k).domain) =
+      is.each_layout d y got ∙ ap (λ (n : ℕ). layout i.all.hardware (own_of i n)) enters in
+      let same = work_is i r k s is out (layout_model y.layout) leaves into in
+      let switched = switches.work (whole i k).caches is.caches in
+      record {
+        levels = switches.levels;
+        pinned = switches.pinned;
+        caches =
+            subst (λ (q : Touched). SystemStands any_stands_for b.system q.caches) same
+            switched.next;
+        leaves = switches.kept;
+        used_is =
+            switched.time ∙ ap₂ (λ (q : Touched) (n : ℕ). s.clock + q.cost - n) same are.old_end;
+        now_is = switches.on_time (whole i k).caches is.caches in_time_here ∙ are.until;
+      }
 
-  pub ended_here : old_end ≤ s.clock
-  ended_here = subst (λ (n : ℕ). n ≤ s.clock) (sym b) (ended i r k s is)
+  pub ended_here : t.old_end ≤ s.clock
+  ended_here = subst (λ (n : ℕ). n ≤ s.clock) (sym are.old_end) (ended i r k s is)
 
-module _ (i : Image) (r : Runnable i) (k : ℕ) (s : Kept) (is : StandsFor i k s) (x : Domain) (got : slice_get s.domains (entry_of_slot i.all.schedule k).domain ≡ Some x)
-    (system : SystemContents AnyPolicy) (used now : ℕ) (begins : Begins i k s system used now) where
+module _ (i : Image) (r : Runnable i) (k : ℕ) (s : Kept) (is : StandsFor i k s) (x : Domain)
+    (got : slice_get s.domains (entry_of_slot i.all.schedule k).domain ≡ Some x) (b : SlotStart)
+    (begins : Begins i k s b) where
   -- the code's domain as its slot begins
-  pub begun : StandsIn any_rule any_stands_for (setting i (entry_of_slot i.all.schedule k).domain) s.memory x system now (slot_begun i k (whole i k))
+  pub begun : StandsIn any_rule any_stands_for (setting i (entry_of_slot i.all.schedule k).domain) s.memory x b.system b.now (slot_begun i k (whole i k))
   begun =
       let w = whole i k in
       let p = i.all.hardware in
@@ -145,82 +200,120 @@ module _ (i : Image) (r : Runnable i) (k : ℕ) (s : Kept) (is : StandsFor i k s
           levels = is.levels ∙ sym begins.levels;
           pinned = begins.pinned ∙ is.pinned;
         };
-        dom = subst (λ m. Stands x (at no_dom m d)) (sym (switch-doms i k w)) (is.each_domain d x got);
-        facts = subst (λ (t : Storage). HasFacts (estate p o) s.memory t.mem x) (sym (switch-storage i k w)) (facts_at i r k s is d x domain got);
+        dom =
+            subst (λ m. Stands x (at no_dom m d)) (sym (switch-doms i k w))
+            (is.each_domain d x got);
+        facts =
+            subst (λ (t : Storage). HasFacts (estate p o) s.memory t.mem x)
+            (sym (switch-storage i k w)) (facts_at i r k s is d x domain got);
         layout = is.each_layout d x got;
         leaves = begins.leaves now_at.storage.mem s.memory.frames x.map;
-        caches = subst (SystemStands any_stands_for system) (sym (switch-caches i k w)) begins.caches;
+        caches =
+            subst (SystemStands any_stands_for b.system) (sym (switch-caches i k w)) begins.caches;
         moments = is.each_moments d x got;
         time = begins.now_is ∙ sym (on_time i (separated i r) k);
       }
 
-  module _ (memory' : Contents) (system' : SystemContents AnyPolicy) (new : Domain) (used' : List Used) (later : ℕ) (long : length used' ≡ length s.used)
-      (noted : (us : List (ℕ × ℕ)) → IsUsed s.used us → IsUsed used' (us ++ (switch_entry i.all.schedule k, used) ∷ [])) where
-    -- the code's domain runs as the definition's does
-    abbrev pub Ran : ℕ → Type 0
-    Ran length = Moves any_rule any_stands_for (λ w. stretch w.machine w.own w.pinned (start i.all.schedule k + length)) s.memory x system now memory' new system' later
+  module _ (z : SlotEnd) (long : length z.used ≡ length s.used)
+      (noted : (us : List (ℕ × ℕ)) → IsUsed s.used us → IsUsed z.used (us ++ (switch_entry i.all.schedule k, b.used) ∷ []))
+    where
+      -- the code's domain runs as the definition's does
+      abbrev pub Ran : ℕ → Type 0
+      Ran length =
+          Moves any_rule any_stands_for
+          (λ w. stretch w.machine w.own w.pinned (start i.all.schedule k + length)) s.memory x
+          b.system b.now z.memory z.domain z.system z.clock
 
-    stands_after : Ran (entry_of_slot i.all.schedule k).length → StandsFor i (suc k) (kept memory' system' (set s.domains (entry_of_slot i.all.schedule k).domain new) used' later)
-    unfolding whole
-    stands_after ran =
-        let w = whole i k in
-        let p = i.all.hardware in
-        let e = entry_of_slot i.all.schedule k in
-        let o = own_of i e.domain in
-        let over = ran (setting i e.domain) (slot_begun i k w) begun in
-        let within = slice_get_within s.domains e.domain x got in
-        let switches : (run_slot i k w).used ≡ w.used ++ (switch_entry i.all.schedule k, used) ∷ [] =
-        run_slot-used i k w ∙ ap (λ n. w.used ++ (switch_entry i.all.schedule k, n) ∷ []) (ap (λ n. n + (work i k w).cost - last_end i.all.schedule k) (sym is.time) ∙ sym begins.used_is) in
-        let memory : Holds memory' (run_slot i k w).storage.mem = subst (λ (t : Storage). Holds memory' t.mem) (sym (run_slot-storage i k w)) over.facts.holds in
-        record {
-          frames = sym over.fits.frames;
-          holds = memory;
-          levels = over.fits.levels;
-          pinned = over.fits.pinned;
-          caches = subst (SystemStands any_stands_for system') (sym (run_slot-caches i k w)) over.caches;
-          all_domains = length-set s.domains e.domain new ∙ is.all_domains;
-          each_domain = each_set (λ j y. Stands y (dom_of w j)) (λ j y. Stands y (dom_of (run_slot i k w) j)) s.domains e.domain new within
-              (subst (Stands new) (sym (run_slot-dom_same i k w)) over.dom)
-              (λ j y apart h. subst (Stands y) (sym (run_slot-dom_other i k w j apart)) h)
-              is.each_domain;
-          each_estate = each_set (λ j y. Has (estate p (own_of i j)) y) (λ j y. Has (estate p (own_of i j)) y) s.domains e.domain new within
-              over.facts.has
-              (λ j y apart h. h)
-              is.each_estate;
-          each_layout = each_set (λ j y. layout_model y.layout ≡ layout p (own_of i j)) (λ j y. layout_model y.layout ≡ layout p (own_of i j)) s.domains e.domain new within
-              over.layout
-              (λ j y apart h. h)
-              is.each_layout;
-          each_moments = each_set (λ j y. y.interrupts.moments ≡ (own_of i j).moments) (λ j y. y.interrupts.moments ≡ (own_of i j).moments) s.domains e.domain new within
-              over.moments
-              (λ j y apart h. h)
-              is.each_moments;
-          all_entries = long ∙ is.all_entries;
-          each_entry = subst (IsUsed used') (sym switches) (noted w.used is.each_entry);
-          time = over.time ∙ sym (run_slot-clock i k w);
-        }
+      stands_after : Ran (entry_of_slot i.all.schedule k).length
+          → StandsFor i (suc k) (kept_after s (entry_of_slot i.all.schedule k).domain z)
+      unfolding whole
+      stands_after ran =
+          let w = whole i k in
+          let p = i.all.hardware in
+          let e = entry_of_slot i.all.schedule k in
+          let o = own_of i e.domain in
+          let over = ran (setting i e.domain) (slot_begun i k w) begun in
+          let within = slice_get_within s.domains e.domain x got in
+          let switches : (run_slot i k w).used ≡ w.used ++ (switch_entry i.all.schedule k, b.used) ∷ [] =
+          run_slot-used i k w
+          ∙ ap (λ n. w.used ++ (switch_entry i.all.schedule k, n) ∷ [])
+          (ap (λ n. n + (work i k w).cost - last_end i.all.schedule k) (sym is.time) ∙ sym begins.used_is) in
+          let memory : Holds z.memory (run_slot i k w).storage.mem =
+          subst (λ (t : Storage). Holds z.memory t.mem) (sym (run_slot-storage i k w))
+          over.facts.holds in
+          record {
+            frames = sym over.fits.frames;
+            holds = memory;
+            levels = over.fits.levels;
+            pinned = over.fits.pinned;
+            caches =
+                subst (SystemStands any_stands_for z.system) (sym (run_slot-caches i k w))
+                over.caches;
+            all_domains = length-set s.domains e.domain z.domain ∙ is.all_domains;
+            each_domain =
+                each_set (λ j y. Stands y (dom_of w j)) (λ j y. Stands y (dom_of (run_slot i k w) j))
+                s.domains e.domain z.domain within
+                (subst (Stands z.domain) (sym (run_slot-dom_same i k w)) over.dom)
+                (λ j y apart h. subst (Stands y) (sym (run_slot-dom_other i k w j apart)) h)
+                is.each_domain;
+            each_estate =
+                each_set (λ j y. Has (estate p (own_of i j)) y) (λ j y. Has (estate p (own_of i j)) y)
+                s.domains e.domain z.domain within
+                over.facts.has
+                (λ j y apart h. h)
+                is.each_estate;
+            each_layout =
+                each_set (λ j y. layout_model y.layout ≡ layout p (own_of i j))
+                (λ j y. layout_model y.layout ≡ layout p (own_of i j)) s.domains e.domain z.domain
+                within
+                over.layout
+                (λ j y apart h. h)
+                is.each_layout;
+            each_moments =
+                each_set (λ j y. y.interrupts.moments ≡ (own_of i j).moments)
+                (λ j y. y.interrupts.moments ≡ (own_of i j).moments) s.domains e.domain z.domain
+                within
+                over.moments
+                (λ j y apart h. h)
+                is.each_moments;
+            all_entries = long ∙ is.all_entries;
+            each_entry = subst (IsUsed z.used) (sym switches) (noted w.used is.each_entry);
+            time = over.time ∙ sym (run_slot-clock i k w);
+          }
 
-    -- what the buffer keeps are walks of this domain's tables
-    buffer_after : Ran (entry_of_slot i.all.schedule k).length → KeepsBuffer i (suc k) (kept memory' system' (set s.domains (entry_of_slot i.all.schedule k).domain new) used' later)
-    unfolding whole
-    buffer_after ran =
-        let w = whole i k in
-        let p = i.all.hardware in
-        let e = entry_of_slot i.all.schedule k in
-        let over = ran (setting i e.domain) (slot_begun i k w) begun in
-        subst (λ (t : Storage). KeepsLeaves t.mem memory'.frames (root_of p (own_of i e.domain)) system'.core.tlb) (sym (run_slot-storage i k w))
-        (subst (λ (root : ℕ). KeepsLeaves (slot_over i k w).storage.mem memory'.frames root system'.core.tlb) (over.facts.has.root ∙ root_is p (own_of i e.domain)) over.leaves)
+      -- what the buffer keeps are walks of this domain's tables
+      buffer_after : Ran (entry_of_slot i.all.schedule k).length
+          → KeepsBuffer i (suc k) (kept_after s (entry_of_slot i.all.schedule k).domain z)
+      unfolding whole
+      buffer_after ran =
+          let w = whole i k in
+          let p = i.all.hardware in
+          let e = entry_of_slot i.all.schedule k in
+          let over = ran (setting i e.domain) (slot_begun i k w) begun in
+          subst (λ (t : Storage). KeepsLeaves t.mem z.memory.frames (root_of p (own_of i e.domain)) z.system.core.tlb)
+          (sym (run_slot-storage i k w))
+          (subst (λ (root : ℕ). KeepsLeaves (slot_over i k w).storage.mem z.memory.frames root z.system.core.tlb) (over.facts.has.root ∙ root_is p (own_of i e.domain)) over.leaves)
 
-    facts_after : Ran (entry_of_slot i.all.schedule k).length → HaveFacts i (suc k) (kept memory' system' (set s.domains (entry_of_slot i.all.schedule k).domain new) used' later)
-    facts_after ran = all_at i r (suc k) _ (stands_after ran) (buffer_after ran)
+      facts_after : Ran (entry_of_slot i.all.schedule k).length
+          → HaveFacts i (suc k) (kept_after s (entry_of_slot i.all.schedule k).domain z)
+      facts_after ran = all_at i r (suc k) _ (stands_after ran) (buffer_after ran)
 
-    pub facts_next : (e : Entry) → e ≡ entry_of_slot i.all.schedule k → Ran e.length → HaveFacts i (k + 1) (kept memory' system' (set s.domains e.domain new) used' later)
-    facts_next e entry =
-        subst₂ (λ (n : ℕ) (y : Entry). Ran y.length → HaveFacts i n (kept memory' system' (set s.domains y.domain new) used' later)) (sym (add-one k)) (sym entry) facts_after
+      facts_next : (e : Entry) → e ≡ entry_of_slot i.all.schedule k → Ran e.length
+          → HaveFacts i (k + 1) (kept_after s e.domain z)
+      facts_next e entry =
+          subst₂ (λ (n : ℕ) (y : Entry). Ran y.length → HaveFacts i n (kept_after s y.domain z))
+          (sym (add-one k)) (sym entry) facts_after
 
-    pub stands_next : (e : Entry) → e ≡ entry_of_slot i.all.schedule k → Ran e.length → StandsFor i (k + 1) (kept memory' system' (set s.domains e.domain new) used' later)
-    stands_next e entry =
-        subst₂ (λ (n : ℕ) (y : Entry). Ran y.length → StandsFor i n (kept memory' system' (set s.domains y.domain new) used' later)) (sym (add-one k)) (sym entry) stands_after
+      stands_next : (e : Entry) → e ≡ entry_of_slot i.all.schedule k → Ran e.length
+          → StandsFor i (k + 1) (kept_after s e.domain z)
+      stands_next e entry =
+          subst₂ (λ (n : ℕ) (y : Entry). Ran y.length → StandsFor i n (kept_after s y.domain z))
+          (sym (add-one k)) (sym entry) stands_after
+
+      -- both
+      pub next : (e : Entry) → e ≡ entry_of_slot i.all.schedule k → Ran e.length
+          → Next i (k + 1) (kept_after s e.domain z)
+      next e entry ran = record { stands = stands_next e entry ran; facts = facts_next e entry ran }
 
 -- as the next slot begins, and after it
 pub resident_at : (i : Image) → Runnable i → (k : ℕ) → StaysResident i k
@@ -228,11 +321,16 @@ resident_at i r k = begun_resident i (separated i r) k
 
 -- ---- bounds
 
-pub in_bounds_next : (k : ℕ) (s : Kept) (memory' : Contents) (system' : SystemContents AnyPolicy) (used' : List Used) (d : ℕ) (new : Domain) (later : ℕ)
-    → IsInBounds k s → k < 65536 → d < length s.domains → s.clock ≤ later → CountsUpTo later new → ((n : ℕ) → CountedUpTo n s.used → CountedUpTo (n + 1) used')
-    → IsInBounds (k + 1) (kept memory' system' (set s.domains d new) used' later)
-in_bounds_next k s memory' system' used' d new later was left within passed few counted = record {
+pub in_bounds_next : (k : ℕ) (s : Kept) (d : ℕ) (z : SlotEnd) → IsInBounds k s → k < 65536
+    → d < length s.domains
+    → s.clock ≤ z.clock → CountsUpTo z.clock z.domain
+    → ((n : ℕ) → CountedUpTo n s.used → CountedUpTo (n + 1) z.used)
+    → IsInBounds (k + 1) (kept_after s d z)
+in_bounds_next k s d z was left within passed few counted = record {
   slots_left = omega arith;
-  few_calls = each_set (λ j y. CountsUpTo s.clock y) (λ j y. CountsUpTo later y) s.domains d new within few (λ j y apart h. counts_later s.clock later y passed h) was.few_calls;
+  few_calls =
+      each_set (λ j y. CountsUpTo s.clock y) (λ j y. CountsUpTo z.clock y) s.domains d z.domain
+      within few
+      (λ j y apart h. counts_later s.clock z.clock y passed h) was.few_calls;
   few_switches = counted k was.few_switches;
 }

@@ -1,6 +1,6 @@
 -- What is due, from what was read and what was written.
-use Rattle.std.proofs.Common.{◌≡◌, ◌≢◌, ℕ, ◌+◌, ◌-◌, ◌^◌, ◌<◌, ◌≤◌, leb, ltb, Bool, if◌then◌else◌, true, false, List, [], ◌++◌, ◌∷◌, length, Option, Some, None, Result, Ok, Err, refl, sym, ap, ◌∙◌, subst, arith, ◌⊎◌, inl, inr}
-use Rattle.std.specs.Prelude.{OnOk, OnErr, slice_get}
+use Rattle.std.proofs.Common.{◌≡◌, ◌≢◌, ℕ, ◌+◌, ◌-◌, ◌^◌, ◌<◌, ◌≤◌, leb, ltb, Bool, if◌then◌else◌, true, false, List, [], ◌++◌, length, Option, Some, None, Result, Ok, Err, refl, sym, ap, ◌∙◌, subst, arith, ◌⊎◌, inl, inr}
+use Rattle.std.specs.Prelude.{OnOk, OnErr}
 use Rattle.std.proofs.lemmas.List.{length-append, append-nil}
 use Rattle.std.proofs.lemmas.Option.{same_Some}
 use Rattle.std.proofs.lemmas.Bool.{cases_lt}
@@ -9,33 +9,18 @@ use Rattle.tp_io.specs.Bytes.{before_known, after_known, AtEnd}
 use Rattle.tp_io.specs.Sends.{SinkState, Sent, CutShort, Sends}
 use Rattle.tp_io.specs.Sure.{Exceeds}
 use Rattle.image_text.specs.declared.refusal.Refusal.{Refusal}
-use Rattle.image_text.specs.Record as text
-use Rattle.image_check.specs.Pads.{shape_of}
-use Rattle.image_check.specs.Public.{public_of}
-use Rattle.image_check.specs.Image.{Image, own_of, image_from}
-use Rattle.world_view.specs.Reading.{image, checked, unless_broken, most_bytes}
-use Rattle.world_view.specs.Machine.{whole}
-use Rattle.world_view.specs.View.{view_whole}
+use Rattle.image_check.specs.Image.{Image}
+use Rattle.world_view.specs.Reading.{most_bytes}
 use Rattle.world_view.specs.Relations.{IsDomain}
-use Rattle.image_check.specs.Laws.{Runnable}
-use Rattle.world_view.proofs.Separate.{separated}
-use Rattle.world_view.proofs.ReadingLaws.{read_runs}
-use Rattle.world_view.proofs.WholeLaws.{isolated}
-use Rattle.world_view.proofs.TimeLaws.{used_within, on_time, largest_within}
-use Rattle.image_gen.specs.Text.{text as generated_text}
-use Rattle.image_gen.proofs.Kept.{accepted_law}
-use Rattle.tp_report.specs.Texts.{section}
-use Rattle.tp_report.specs.Report.{report, section_of, bound_text, bound_in_parts, usage_text, refusal_text, too_long_text}
-use Rattle.tp_report.proofs.ReportLaws.{reported_apart}
+use Rattle.tp_report.specs.Report.{usage_text, refusal_text, too_long_text}
 use Rattle.tp_words.specs.declared.Command.{Command}
 use Rattle.tp_words.specs.declared.Command.TheVariants.{Check, Bound, Run, Alone, Gen, Demo}
 use Rattle.tp_run.specs.declared.status.Status.{Status}
 use Rattle.tp_run.specs.declared.status.Status.TheVariants.{Done, Refused, Usage, ReadFault, WriteFault, Memory, TooLong}
 use Rattle.tp_words.specs.Words.{Reads, command}
-use Rattle.tp_run.specs.Reading.{broken_for, broken_in, checked_for, image_for}
+use Rattle.tp_run.specs.Reading.{image_for}
 use Rattle.tp_run.specs.Answer.{Answer, answer, answer_by, answer_of_bytes, answer_to_image, answer_gen, answer_demo, answer_unless_broken, answer_of_image, answer_alone, section_alone}
-use Rattle.tp_run.proofs.Accepted.{value_or}
-use Rattle.tp_run.specs.TopCall.{Writes, EndsUsage, Delivers, MayBeUsage, ComesTo, ReadsImage, Refuses, Accepts, Bounds, Isolated, Padded, LacksDomain, WritesSection, SameSection, ReadsBack, Generates, Summarizes}
+use Rattle.tp_run.specs.TopCall.{Writes, EndsUsage, Delivers, MayBeUsage, ComesTo}
 
 -- ---- what was written
 

@@ -1,13 +1,9 @@
 -- What a command tells that was answered: the top call's clauses, by what was due.
-use Rattle.std.proofs.Common.{◌≡◌, ◌≢◌, ℕ, ◌+◌, ◌-◌, ◌^◌, ◌<◌, ◌≤◌, leb, ltb, Bool, if◌then◌else◌, true, false, List, [], ◌++◌, ◌∷◌, length, Option, Some, None, Result, Ok, Err, refl, sym, ap, ◌∙◌, subst, arith, ◌⊎◌, inl, inr}
-use Rattle.std.specs.Prelude.{OnOk, OnErr, slice_get}
-use Rattle.std.proofs.lemmas.List.{length-append, append-nil}
-use Rattle.std.proofs.lemmas.Option.{same_Some}
+use Rattle.std.proofs.Common.{◌≡◌, ◌≢◌, ℕ, ◌^◌, ◌<◌, ◌≤◌, ltb, List, [], ◌∷◌, length, Option, Some, Result, Ok, Err, refl, sym, ap, ◌∙◌, subst, inl, inr}
+use Rattle.std.specs.Prelude.{slice_get}
 use Rattle.std.proofs.lemmas.Bool.{cases_lt}
-use Rattle.std.proofs.lemmas.Bool.Decides.{nat_tests}
 use Rattle.tp_io.specs.Bytes.{before_known, after_known, AtEnd}
-use Rattle.tp_io.specs.Sends.{SinkState, Sent, CutShort, Sends}
-use Rattle.tp_io.specs.Sure.{Exceeds}
+use Rattle.tp_io.specs.Sends.{SinkState}
 use Rattle.image_text.specs.declared.refusal.Refusal.{Refusal}
 use Rattle.image_text.specs.Record as text
 use Rattle.image_check.specs.Pads.{shape_of}
@@ -25,17 +21,17 @@ use Rattle.world_view.proofs.TimeLaws.{used_within, on_time, largest_within}
 use Rattle.image_gen.specs.Text.{text as generated_text}
 use Rattle.image_gen.proofs.Kept.{accepted_law}
 use Rattle.tp_report.specs.Texts.{section}
-use Rattle.tp_report.specs.Report.{report, section_of, bound_text, bound_in_parts, usage_text, refusal_text, too_long_text}
+use Rattle.tp_report.specs.Report.{report, section_of, bound_text, bound_in_parts, usage_text, refusal_text}
 use Rattle.tp_report.proofs.ReportLaws.{reported_apart}
 use Rattle.tp_words.specs.declared.Command.{Command}
 use Rattle.tp_words.specs.declared.Command.TheVariants.{Check, Bound, Run, Alone, Gen, Demo}
 use Rattle.tp_run.specs.declared.status.Status.{Status}
-use Rattle.tp_run.specs.declared.status.Status.TheVariants.{Done, Refused, Usage, ReadFault, WriteFault, Memory, TooLong}
+use Rattle.tp_run.specs.declared.status.Status.TheVariants.{Done, Refused, Usage, TooLong}
 use Rattle.tp_words.specs.Words.{Reads, command}
 use Rattle.tp_run.specs.Reading.{broken_for, broken_in, checked_for, image_for}
-use Rattle.tp_run.specs.Answer.{Answer, answer, answer_by, answer_of_bytes, answer_to_image, answer_gen, answer_demo, answer_unless_broken, answer_of_image, answer_alone, section_alone}
+use Rattle.tp_run.specs.Answer.{Answer, answer, answer_of_bytes, answer_unless_broken, answer_of_image, answer_alone, section_alone}
 use Rattle.tp_run.proofs.Accepted.{value_or}
-use Rattle.tp_run.specs.TopCall.{Writes, EndsUsage, Delivers, MayBeUsage, ComesTo, ReadsImage, Refuses, Accepts, Bounds, Isolated, Padded, LacksDomain, WritesSection, SameSection, ReadsBack, Generates, Summarizes}
+use Rattle.tp_run.specs.TopCall.{Writes, Delivers, MayBeUsage, ReadsImage, Refuses, Accepts, Bounds, Isolated, Padded, LacksDomain, WritesSection, SameSection, ReadsBack, Generates, Summarizes}
 use Rattle.tp_run.proofs.Answers.{all_taken, over_taken, too_long_due, image_due, bytes_due, gen_due, demo_due, alone_due, lacks_due, of_chosen, usage_of, other_reads, is_few, is_over}
 
 -- ---- the same is due
@@ -64,7 +60,7 @@ same_taken (Alone d n) bytes items rest took whole =
 
 -- ---- a command that was answered
 
--- the bytes that were taken for it, what the source had before and has after, the status, and the sink
+-- the bytes that were taken for it, what the source had before and has after, the status, the sink
 pub record Asked : Type 0 where
   pub command : Command
   pub items : List ℕ
@@ -92,8 +88,24 @@ pub record IsAnswered (a : Asked) : Type 0 where
   pub whole : Reads a.command → length a.items ≤ most_bytes → AtEnd a.left'
   pub delivers : Delivers (due_to a) a.status a.old a.new
 
+pub answering : {left : Option (List ℕ)} {status : Status} {old new : SinkState}
+    (c : Command) (items : List ℕ) (left' : Option (List ℕ))
+    → left ≡ before_known items left' → (Reads c → length items ≤ most_bytes → AtEnd left')
+    → Delivers (answer_of_bytes c items) status old new
+    → IsAnswered (record {
+      command = c;
+      items = items;
+      left = left;
+      left' = left';
+      status = status;
+      old = old;
+      new = new;
+    })
+answering c items left' took whole delivers = record { took = took; whole = whole; delivers = delivers }
+
 -- the command by another name
-pub as_command : (a : Asked) (c : Command) → a.command ≡ c → IsAnswered a → IsAnswered (record a { command = c })
+pub as_command : (a : Asked) (c : Command) → a.command ≡ c → IsAnswered a
+    → IsAnswered (record a { command = c })
 as_command a c same h = subst (λ (k : Command). IsAnswered (record a { command = k })) same h
 
 module _ (a : Asked) (h : IsAnswered a) where
@@ -242,7 +254,8 @@ module _ (a : Asked) (h : IsAnswered a) where
       }
 
   done_found : Reads a.command → a.status ≡ Done
-      → (i : Image) × Found a.command (text.image_of a.items) i × HasWritten a (answer_of_image a.command i).1
+      → (i : Image) × Found a.command (text.image_of a.items) i
+      × HasWritten a (answer_of_image a.command i).1
   unfolding image_for
   done_found reads done =
       let t = told Done reads (wrote_as a h Done done) (done_reads a h reads done) in

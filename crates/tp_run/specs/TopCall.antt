@@ -1,6 +1,5 @@
 -- What the top call answers, and what it does to its source and its sink.
-use Rattle.std.specs.Prelude.{◌≡◌, ◌≢◌, ℕ, ◌+◌, ◌≤◌, ◌⊎◌, ⊤, List, [], length, map, slice_get, Option, Some, None, Ok, String, string_bytes}
-use Rattle.std.specs.Global.{Global}
+use Rattle.std.specs.Prelude.{◌≡◌, ◌≢◌, ℕ, ◌+◌, ◌≤◌, ◌⊎◌, ⊤, List, [], length, slice_get, Option, Some, None, Ok}
 use Rattle.tp_io.specs.Bytes.{before_known, after_known, AtEnd, PutsFront}
 use Rattle.tp_io.specs.Causes.{TellsFault}
 use Rattle.tp_io.specs.Sends.{SinkState}
@@ -26,7 +25,7 @@ use Rattle.tp_words.specs.declared.Command.TheVariants.{Alone}
 use Rattle.tp_run.specs.declared.status.Status.{Status}
 use Rattle.tp_run.specs.declared.status.Status.TheVariants.{Usage, ReadFault, WriteFault, Memory}
 use Rattle.tp_run.specs.Reading.{broken_in}
-use Rattle.tp_words.specs.Words.{Reads, command, words_of}
+use Rattle.tp_words.specs.Words.{Reads, command}
 use Rattle.tp_run.specs.Answer.{Answer, answer, section_alone}
 
 -- ---- what is written

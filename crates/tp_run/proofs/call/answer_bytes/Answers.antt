@@ -2,7 +2,7 @@ use Rattle.std.proofs.Common.{◌≤◌, ◌<◌, length, sym, ap, ◌∙◌, su
 use Rattle.world_view.specs.Reading.{most_bytes}
 use Rattle.tp_io.specs.Sink.{state}
 use Rattle.tp_words.specs.declared.Command.{Command}
-use Rattle.tp_words.specs.declared.Command.TheVariants.{Check, Bound, Run, Alone, Gen, Demo}
+use Rattle.tp_words.specs.declared.Command.TheVariants.{Check, Bound, Run, Alone}
 use Rattle.tp_run.specs.Answer.{Answer, answer_of_bytes}
 use Rattle.tp_run.specs.TopCall.{Delivers}
 use Rattle.tp_run.specs.declared.status.Status.TheVariants.{TooLong}

@@ -5,7 +5,9 @@ use Rattle.tp_run.proofs.Reports.{kept_ending}
 use Rattle.tp_run.proofs.run.write_ending.Goals as goal
 
 pub write_switches-requires : goal.write_switches-requires
-write_switches-requires g c = record { paired = c.all_used.ensures.all ∙ ap (λ (p : Public). length p.schedule) (sym c.public-public.ensures.value) }
+write_switches-requires g c =
+    let same = ap (λ (p : Public). length p.schedule) (sym c.public-public.ensures.value) in
+    record { paired = c.all_used.ensures.all ∙ same }
 
 pub returns : goal.returns
 returns g c =

@@ -1,4 +1,5 @@
 use Rattle.std.proofs.Common.{◌≡◌, ℕ, ◌+◌, ◌<◌, [], ◌∷◌, ◌++◌, length, List, Some, refl, sym, ap, subst, ◌∙◌, rules, arith}
+use Rattle.kernel_clone.specs.Models.{layout_model}
 use Rattle.std.specs.Prelude.{slice_get, slice_set, take, drop}
 use Rattle.std.specs.Option.{option_copied}
 use Rattle.std.proofs.lemmas.Option.{slice_get_read}
@@ -20,7 +21,7 @@ use Rattle.tp_machine.specs.Usage.{IsUsed, CountedUpTo}
 use Rattle.tp_machine.specs.Worlds.{Kept, kept, setting, StandsFor, HaveFacts}
 use Rattle.tp_machine.proofs.SwitchCounts.{noted_back, counted_back, length_back}
 use Rattle.domain_step.proofs.Counts.{counts_later}
-use Rattle.tp_machine.proofs.Slots.{Begins, begins_here, clone_here, ended_here, begun, resident_at, stands_next, facts_next, in_bounds_next}
+use Rattle.tp_machine.proofs.Slots.{SlotStart, SlotEnd, SwitchTimes, AreTimes, Switches, Begins, Next, kept_after, begins_here, clone_here, ended_here, begun, resident_at, next, in_bounds_next}
 use Rattle.tp_machine.proofs.machine.Machine.run_slot.Goals as goal
 
 -- ---- the switch
@@ -31,18 +32,40 @@ switch-switched-requires-clause-into c =
     let i = image_from m.image.now in
     let s = kept m.memory m.system m.domains.items m.used.items m.clock in
     let d = c.from-d.result in
-    let domain : IsDomain i d = omega (arith, c.next_entry-entry.ensures.domain, c.from-d.ensures) in
+    let domain : IsDomain i d =
+    omega (arith, c.next_entry-entry.ensures.domain, c.from-d.ensures) in
     let within : d < length m.domains.items = omega (arith, domain, m.stands.all_domains) in
-    let got = slice_get_read m.domains.items (length m.domains.items) d c.index.result.now refl within c.index.ensures in
-    clone_here i m.accepted m.slots s m.stands _ _ _ (ap (λ (q : Public). q.hardware.shared) c.public-public.ensures.value) c.last_end-last_end.ensures.end c.next_start-start.ensures.start
-    d c.index.result.now domain got
+    let got =
+    slice_get_read m.domains.items (length m.domains.items) d c.index.result.now refl within
+    c.index.ensures in
+    let t : SwitchTimes = record {
+      shared = c.public-public.result.now.hardware.shared;
+      old_end = c.last_end-last_end.result;
+      until = c.next_start-start.result;
+    } in
+    let are : AreTimes i m.slots t = record {
+      shared = ap (λ (q : Public). q.hardware.shared) c.public-public.ensures.value;
+      old_end = c.last_end-last_end.ensures.end;
+      until = c.next_start-start.ensures.start;
+    } in
+    clone_here i m.accepted m.slots s m.stands t are d c.index.result.now domain got
 
 pub switch-switched-requires-clause-ended : goal.switch-switched-requires-clause-ended
 switch-switched-requires-clause-ended c =
     let m = c.args.self.now in
     let i = image_from m.image.now in
     let s = kept m.memory m.system m.domains.items m.used.items m.clock in
-    ended_here i m.accepted m.slots s m.stands _ _ _ (ap (λ (q : Public). q.hardware.shared) c.public-public.ensures.value) c.last_end-last_end.ensures.end c.next_start-start.ensures.start
+    let t : SwitchTimes = record {
+      shared = c.public-public.result.now.hardware.shared;
+      old_end = c.last_end-last_end.result;
+      until = c.next_start-start.result;
+    } in
+    let are : AreTimes i m.slots t = record {
+      shared = ap (λ (q : Public). q.hardware.shared) c.public-public.ensures.value;
+      old_end = c.last_end-last_end.ensures.end;
+      until = c.next_start-start.ensures.start;
+    } in
+    ended_here i m.accepted m.slots s m.stands t are
 
 pub switch-switched-requires-clause-early : goal.switch-switched-requires-clause-early
 switch-switched-requires-clause-early c =
@@ -55,20 +78,44 @@ switch-switched-requires-clause-early c =
 
 begins : (c : goal.After-from) → Begins (image_from c.args.self.now.image.now) c.args.self.now.slots
     (kept c.args.self.now.memory c.args.self.now.system c.args.self.now.domains.items c.args.self.now.used.items c.args.self.now.clock)
-    c.switch-switched.new.system c.switch-switched.result.used c.switch-switched.result.now
+    (record { system = c.switch-switched.new.system; used = c.switch-switched.result.used; now = c.switch-switched.result.now })
 begins c =
     let m = c.args.self.now in
     let i = image_from m.image.now in
     let d = c.from-d.result in
-    let within : d < length m.domains.items = omega (arith, c.next_entry-entry.ensures.domain, c.from-d.ensures, m.stands.all_domains) in
+    let within : d < length m.domains.items =
+    omega (arith, c.next_entry-entry.ensures.domain, c.from-d.ensures, m.stands.all_domains) in
     let y = c.index.result.now in
-    let enters : d ≡ (entry_of_slot i.all.schedule m.slots).domain = c.from-d.ensures ∙ ap (λ (e : Entry). e.domain) c.next_entry-entry.ensures.entry in
-    begins_here i m.accepted m.slots (kept m.memory m.system m.domains.items m.used.items m.clock) m.stands _ _ _
-    (ap (λ (q : Public). q.hardware.shared) c.public-public.ensures.value) c.last_end-last_end.ensures.end c.next_start-start.ensures.start
-    d y (slice_get_read m.domains.items (length m.domains.items) d y refl within c.index.ensures) enters
-    (layout_if (option_copied c.as_ref.result)) (ap layout_if c.as_ref.ensures.value ∙ c.outgoing-out.ensures.clone)
-    c.switch-switched.new.system c.switch-switched.result.used c.switch-switched.result.now
-    c.switch-switched.ensures.hierarchy c.switch-switched.ensures.pinned c.switch-switched.ensures.work c.switch-switched.ensures.on_time c.switch-switched.ensures.kept
+    let enters : d ≡ (entry_of_slot i.all.schedule m.slots).domain =
+    c.from-d.ensures ∙ ap (λ (e : Entry). e.domain) c.next_entry-entry.ensures.entry in
+    let s = kept m.memory m.system m.domains.items m.used.items m.clock in
+    let t : SwitchTimes = record {
+      shared = c.public-public.result.now.hardware.shared;
+      old_end = c.last_end-last_end.result;
+      until = c.next_start-start.result;
+    } in
+    let are : AreTimes i m.slots t = record {
+      shared = ap (λ (q : Public). q.hardware.shared) c.public-public.ensures.value;
+      old_end = c.last_end-last_end.ensures.end;
+      until = c.next_start-start.ensures.start;
+    } in
+    let b : SlotStart = record {
+      system = c.switch-switched.new.system;
+      used = c.switch-switched.result.used;
+      now = c.switch-switched.result.now;
+    } in
+    let out = layout_if (option_copied c.as_ref.result) in
+    let switches : Switches s t out (layout_model y.layout) b = record {
+      levels = c.switch-switched.ensures.hierarchy;
+      pinned = c.switch-switched.ensures.pinned;
+      work = c.switch-switched.ensures.work;
+      on_time = c.switch-switched.ensures.on_time;
+      kept = c.switch-switched.ensures.kept;
+    } in
+    let got =
+    slice_get_read m.domains.items (length m.domains.items) d y refl within c.index.ensures in
+    let leaves = ap layout_if c.as_ref.ensures.value ∙ c.outgoing-out.ensures.clone in
+    begins_here i m.accepted m.slots s m.stands t are d y got enters out leaves b switches
 
 pub stretch-self-requires-clause-runs : goal.stretch-self-requires-clause-runs
 stretch-self-requires-clause-runs c =
@@ -77,104 +124,182 @@ stretch-self-requires-clause-runs c =
     let es = i.all.schedule in
     let d = c.from-d.result in
     let x = c.index_mut.result.now in
-    let within : d < length m.domains.items = omega (arith, c.next_entry-entry.ensures.domain, c.from-d.ensures, m.stands.all_domains) in
-    let enters : d ≡ (entry_of_slot es m.slots).domain = c.from-d.ensures ∙ ap (λ (e : Entry). e.domain) c.next_entry-entry.ensures.entry in
-    let got = slice_get_read m.domains.items (length m.domains.items) d x refl within c.index_mut.ensures.value in
-    let got_there : slice_get m.domains.items (entry_of_slot es m.slots).domain ≡ Some x = subst (λ (n : ℕ). slice_get m.domains.items n ≡ Some x) enters got in
+    let within : d < length m.domains.items =
+    omega (arith, c.next_entry-entry.ensures.domain, c.from-d.ensures, m.stands.all_domains) in
+    let enters : d ≡ (entry_of_slot es m.slots).domain =
+    c.from-d.ensures ∙ ap (λ (e : Entry). e.domain) c.next_entry-entry.ensures.entry in
+    let got =
+    slice_get_read m.domains.items (length m.domains.items) d x refl within
+    c.index_mut.ensures.value in
+    let got_there : slice_get m.domains.items (entry_of_slot es m.slots).domain ≡ Some x =
+    subst (λ (n : ℕ). slice_get m.domains.items n ≡ Some x) enters got in
+    let b : SlotStart = record {
+      system = c.switch-switched.new.system;
+      used = c.switch-switched.result.used;
+      now = c.switch-switched.result.now;
+    } in
     record {
       setting = setting i (entry_of_slot es m.slots).domain;
       state = slot_begun i m.slots (whole i m.slots);
-      stands_in = begun i m.accepted m.slots _ m.stands x got_there c.switch-switched.new.system c.switch-switched.result.used c.switch-switched.result.now (begins c);
+      stands_in = begun i m.accepted m.slots _ m.stands x got_there b (begins c);
     }
 
 pub stretch-self-requires-clause-before : goal.stretch-self-requires-clause-before
-stretch-self-requires-clause-before c = let at = (begins c).now_is in omega (arith, at, c.next_start-start.ensures.soon, c.next_start-start.ensures.start)
+stretch-self-requires-clause-before c =
+    let at =
+    (begins c).now_is in omega
+    (arith, at, c.next_start-start.ensures.soon, c.next_start-start.ensures.start)
 
 pub stretch-self-requires-clause-few : goal.stretch-self-requires-clause-few
 stretch-self-requires-clause-few c =
     let m = c.args.self.now in
-    let within : c.from-d.result < length m.domains.items = omega (arith, c.next_entry-entry.ensures.domain, c.from-d.ensures, m.stands.all_domains) in
+    let within : c.from-d.result < length m.domains.items =
+    omega (arith, c.next_entry-entry.ensures.domain, c.from-d.ensures, m.stands.all_domains) in
     let x = c.index_mut.result.now in
-    let got = slice_get_read m.domains.items (length m.domains.items) c.from-d.result x refl within c.index_mut.ensures.value in
-    counts_later m.clock c.switch-switched.result.now x (omega (arith, c.switch-switched.ensures.clock, c.switch-switched.ensures.later)) (m.in_bounds.few_calls c.from-d.result x got)
+    let got =
+    slice_get_read m.domains.items (length m.domains.items) c.from-d.result x refl within
+    c.index_mut.ensures.value in
+    counts_later m.clock c.switch-switched.result.now x
+    (omega (arith, c.switch-switched.ensures.clock, c.switch-switched.ensures.later))
+    (m.in_bounds.few_calls c.from-d.result x got)
 
 -- ---- what it leaves
 
-begun_so : (c : goal.After-self-2-1) → Begins (image_from c.args.self.now.image.now) c.args.self.now.slots
+begun_so : (c : goal.After-self-2-1)
+    → Begins (image_from c.args.self.now.image.now) c.args.self.now.slots
     (kept c.args.self.now.memory c.args.self.now.system c.args.self.now.domains.items c.args.self.now.used.items c.args.self.now.clock)
-    c.switch-switched.new.system c.switch-switched.result.used c.switch-switched.result.now
+    (record { system = c.switch-switched.new.system; used = c.switch-switched.result.used; now = c.switch-switched.result.now })
 begun_so c =
     let m = c.args.self.now in
     let i = image_from m.image.now in
     let d = c.from-d.result in
-    let within : d < length m.domains.items = omega (arith, c.next_entry-entry.ensures.domain, c.from-d.ensures, m.stands.all_domains) in
+    let within : d < length m.domains.items =
+    omega (arith, c.next_entry-entry.ensures.domain, c.from-d.ensures, m.stands.all_domains) in
     let y = c.index.result.now in
-    let enters : d ≡ (entry_of_slot i.all.schedule m.slots).domain = c.from-d.ensures ∙ ap (λ (e : Entry). e.domain) c.next_entry-entry.ensures.entry in
-    begins_here i m.accepted m.slots (kept m.memory m.system m.domains.items m.used.items m.clock) m.stands _ _ _
-    (ap (λ (q : Public). q.hardware.shared) c.public-public.ensures.value) c.last_end-last_end.ensures.end c.next_start-start.ensures.start
-    d y (slice_get_read m.domains.items (length m.domains.items) d y refl within c.index.ensures) enters
-    (layout_if (option_copied c.as_ref.result)) (ap layout_if c.as_ref.ensures.value ∙ c.outgoing-out.ensures.clone)
-    c.switch-switched.new.system c.switch-switched.result.used c.switch-switched.result.now
-    c.switch-switched.ensures.hierarchy c.switch-switched.ensures.pinned c.switch-switched.ensures.work c.switch-switched.ensures.on_time c.switch-switched.ensures.kept
+    let enters : d ≡ (entry_of_slot i.all.schedule m.slots).domain =
+    c.from-d.ensures ∙ ap (λ (e : Entry). e.domain) c.next_entry-entry.ensures.entry in
+    let s = kept m.memory m.system m.domains.items m.used.items m.clock in
+    let t : SwitchTimes = record {
+      shared = c.public-public.result.now.hardware.shared;
+      old_end = c.last_end-last_end.result;
+      until = c.next_start-start.result;
+    } in
+    let are : AreTimes i m.slots t = record {
+      shared = ap (λ (q : Public). q.hardware.shared) c.public-public.ensures.value;
+      old_end = c.last_end-last_end.ensures.end;
+      until = c.next_start-start.ensures.start;
+    } in
+    let b : SlotStart = record {
+      system = c.switch-switched.new.system;
+      used = c.switch-switched.result.used;
+      now = c.switch-switched.result.now;
+    } in
+    let out = layout_if (option_copied c.as_ref.result) in
+    let switches : Switches s t out (layout_model y.layout) b = record {
+      levels = c.switch-switched.ensures.hierarchy;
+      pinned = c.switch-switched.ensures.pinned;
+      work = c.switch-switched.ensures.work;
+      on_time = c.switch-switched.ensures.on_time;
+      kept = c.switch-switched.ensures.kept;
+    } in
+    let got =
+    slice_get_read m.domains.items (length m.domains.items) d y refl within c.index.ensures in
+    let leaves = ap layout_if c.as_ref.ensures.value ∙ c.outgoing-out.ensures.clone in
+    begins_here i m.accepted m.slots s m.stands t are d y got enters out leaves b switches
 
 -- the machine after the slot, and its domains' facts
-record Next (i : Image) (slots : ℕ) (k : Kept) : Type 0 where
-  stands : StandsFor i slots k
-  facts : HaveFacts i slots k
-
-next : (c : goal.After-self-2-1) → Next (image_from c.args.self.now.image.now) (c.args.self.now.slots + 1)
+next_so : (c : goal.After-self-2-1)
+    → Next (image_from c.args.self.now.image.now) (c.args.self.now.slots + 1)
     (kept c.stretch-self.new.memory c.stretch-self.new.system (slice_set c.args.self.now.domains.items c.from-d.result c.stretch-self.new.domain)
-    (take c.args.self.now.used.len (c.note_switch.new.used ++ drop (length c.note_switch.new.used) c.args.self.now.used.items)) c.stretch-self.result)
-next c =
+    (take c.args.self.now.used.len (c.note_switch.new.used ++ drop (length c.note_switch.new.used) c.args.self.now.used.items))
+    c.stretch-self.result)
+next_so c =
     let m = c.args.self.now in
     let i = image_from m.image.now in
     let es = i.all.schedule in
     let s = kept m.memory m.system m.domains.items m.used.items m.clock in
     let d = c.from-d.result in
     let x = c.index_mut.result.now in
-    let within : d < length m.domains.items = omega (arith, c.next_entry-entry.ensures.domain, c.from-d.ensures, m.stands.all_domains) in
-    let enters : d ≡ (entry_of_slot es m.slots).domain = c.from-d.ensures ∙ ap (λ (e : Entry). e.domain) c.next_entry-entry.ensures.entry in
-    let got = slice_get_read m.domains.items (length m.domains.items) d x refl within c.index_mut.ensures.value in
-    let got_there : slice_get m.domains.items (entry_of_slot es m.slots).domain ≡ Some x = subst (λ (n : ℕ). slice_get m.domains.items n ≡ Some x) enters got in
-    let e : Entry = record { domain = d; length = c.from.result; pad = c.next_entry-entry.result.pad } in
+    let within : d < length m.domains.items =
+    omega (arith, c.next_entry-entry.ensures.domain, c.from-d.ensures, m.stands.all_domains) in
+    let enters : d ≡ (entry_of_slot es m.slots).domain =
+    c.from-d.ensures ∙ ap (λ (e : Entry). e.domain) c.next_entry-entry.ensures.entry in
+    let got =
+    slice_get_read m.domains.items (length m.domains.items) d x refl within
+    c.index_mut.ensures.value in
+    let got_there : slice_get m.domains.items (entry_of_slot es m.slots).domain ≡ Some x =
+    subst (λ (n : ℕ). slice_get m.domains.items n ≡ Some x) enters got in
+    let e : Entry =
+    record { domain = d; length = c.from.result; pad = c.next_entry-entry.result.pad } in
     let same : c.next_entry-entry.result ≡ e = rw (c.from-d.ensures, c.from.ensures) in
     let entry : e ≡ entry_of_slot es m.slots = sym same ∙ c.next_entry-entry.ensures.entry in
     let long : length c.note_switch.new.used ≡ m.used.len = search rules in
     let was : length m.used.items ≡ m.used.len = search rules in
-    let es_long : length es ≡ c.len.result = ap (λ (q : Public). length q.schedule) (sym c.public-public.ensures.value) ∙ sym c.len.ensures.value in
-    let noted : (us : List (ℕ × ℕ)) → IsUsed m.used.items us → IsUsed c.note_switch.new.used (us ++ (c.switch_entry-place.result, c.switch-switched.result.used) ∷ []) = rw c.as_mut_slice.ensures.value at c.note_switch.ensures.noted in
+    let es_long : length es ≡ c.len.result =
+    ap (λ (q : Public). length q.schedule) (sym c.public-public.ensures.value)
+    ∙ sym c.len.ensures.value in
+    let noted : (us : List (ℕ × ℕ)) → IsUsed m.used.items us → IsUsed c.note_switch.new.used (us ++ (c.switch_entry-place.result, c.switch-switched.result.used) ∷ []) =
+    rw c.as_mut_slice.ensures.value at c.note_switch.ensures.noted in
     let all = length_back m.used.items c.note_switch.new.used m.used.len long was in
-    let each = noted_back m.used.items c.note_switch.new.used m.used.len long was c.switch_entry-place.result (switch_entry es m.slots) c.switch-switched.result.used c.switch-switched.result.used (c.switch_entry-place.ensures.value es es_long) refl noted in
-    let runs = subst (λ (n : ℕ). Moves any_rule any_stands_for (λ (w : Setting). stretch w.machine w.own w.pinned (n + c.from.result)) m.memory x c.switch-switched.new.system c.switch-switched.result.now c.stretch-self.new.memory c.stretch-self.new.domain c.stretch-self.new.system c.stretch-self.result) c.next_start-start.ensures.start c.stretch-self.ensures.becomes in
-    record {
-      stands = stands_next i m.accepted m.slots s m.stands x got_there c.switch-switched.new.system c.switch-switched.result.used c.switch-switched.result.now (begun_so c)
-          c.stretch-self.new.memory c.stretch-self.new.system c.stretch-self.new.domain _ c.stretch-self.result all each e entry runs;
-      facts = facts_next i m.accepted m.slots s m.stands x got_there c.switch-switched.new.system c.switch-switched.result.used c.switch-switched.result.now (begun_so c)
-          c.stretch-self.new.memory c.stretch-self.new.system c.stretch-self.new.domain _ c.stretch-self.result all each e entry runs;
-    }
+    let each =
+    noted_back m.used.items c.note_switch.new.used m.used.len long was c.switch_entry-place.result
+    (switch_entry es m.slots) c.switch-switched.result.used c.switch-switched.result.used
+    (c.switch_entry-place.ensures.value es es_long) refl noted in
+    let b : SlotStart = record {
+      system = c.switch-switched.new.system;
+      used = c.switch-switched.result.used;
+      now = c.switch-switched.result.now;
+    } in
+    let z : SlotEnd = record {
+      memory = c.stretch-self.new.memory;
+      system = c.stretch-self.new.system;
+      domain = c.stretch-self.new.domain;
+      used =
+          take m.used.len
+          (c.note_switch.new.used ++ drop (length c.note_switch.new.used) m.used.items);
+      clock = c.stretch-self.result;
+    } in
+    let Runs : ℕ → Type 0 = λ n.
+    Moves any_rule any_stands_for
+    (λ (w : Setting). stretch w.machine w.own w.pinned (n + c.from.result))
+    m.memory x b.system b.now z.memory z.domain z.system z.clock in
+    let runs = subst Runs c.next_start-start.ensures.start c.stretch-self.ensures.becomes in
+    next i m.accepted m.slots s m.stands x got_there b (begun_so c) z all each e entry runs
 
 pub invariant_of-self-clause-stands : goal.invariant_of-self-clause-stands
-invariant_of-self-clause-stands c = (next c).stands
+invariant_of-self-clause-stands c = (next_so c).stands
 
 pub invariant_of-self-clause-facts : goal.invariant_of-self-clause-facts
-invariant_of-self-clause-facts c = ∣ (next c).facts ∣₁
+invariant_of-self-clause-facts c = ∣ (next_so c).facts ∣₁
 
 pub invariant_of-self-clause-resident : goal.invariant_of-self-clause-resident
-invariant_of-self-clause-resident c = let m = c.args.self.now in resident_at (image_from m.image.now) m.accepted (m.slots + 1)
+invariant_of-self-clause-resident c =
+    let m = c.args.self.now in resident_at (image_from m.image.now) m.accepted (m.slots + 1)
 
 pub invariant_of-self-clause-in_bounds : goal.invariant_of-self-clause-in_bounds
 invariant_of-self-clause-in_bounds c =
     let m = c.args.self.now in
     let s = kept m.memory m.system m.domains.items m.used.items m.clock in
-    let within : c.from-d.result < length m.domains.items = omega (arith, c.next_entry-entry.ensures.domain, c.from-d.ensures, m.stands.all_domains) in
+    let within : c.from-d.result < length m.domains.items =
+    omega (arith, c.next_entry-entry.ensures.domain, c.from-d.ensures, m.stands.all_domains) in
     let long : length c.note_switch.new.used ≡ m.used.len = search rules in
     let was : length m.used.items ≡ m.used.len = search rules in
-    let counted : (n : ℕ) → CountedUpTo n m.used.items → CountedUpTo (n + 1) c.note_switch.new.used = rw c.as_mut_slice.ensures.value at c.note_switch.ensures.few in
+    let counted : (n : ℕ) → CountedUpTo n m.used.items → CountedUpTo (n + 1) c.note_switch.new.used =
+    rw c.as_mut_slice.ensures.value at c.note_switch.ensures.few in
     let at = (begun_so c).now_is in
-    in_bounds_next m.slots s c.stretch-self.new.memory c.stretch-self.new.system _ c.from-d.result c.stretch-self.new.domain c.stretch-self.result
-    m.in_bounds c.requires.slots within
+    let z : SlotEnd = record {
+      memory = c.stretch-self.new.memory;
+      system = c.stretch-self.new.system;
+      domain = c.stretch-self.new.domain;
+      used =
+          take m.used.len
+          (c.note_switch.new.used ++ drop (length c.note_switch.new.used) m.used.items);
+      clock = c.stretch-self.result;
+    } in
+    in_bounds_next m.slots s c.from-d.result z m.in_bounds c.requires.slots within
     (omega (arith, at, c.next_start-start.ensures.start, c.switch-switched.ensures.clock, c.switch-switched.ensures.later, c.stretch-self.ensures.over))
-    c.stretch-self.ensures.few (counted_back m.used.items c.note_switch.new.used m.used.len long was counted)
+    c.stretch-self.ensures.few
+    (counted_back m.used.items c.note_switch.new.used m.used.len long was counted)
 
 pub returns-clause-begins : goal.returns-clause-begins
 returns-clause-begins c =
