@@ -115,6 +115,14 @@ def test_what_depends_on_the_time_is_refused(program: Program) -> None:
             count_events(program, example(name), name, 0, 4)
 
 
+@pytest.mark.parametrize("name", ("refused-k2", "refused-k9", "refused-k17"))
+def test_an_image_that_is_refused(program: Program, name: str) -> None:
+    number = name.removeprefix("refused-k")
+    ended = run_tool("tp-counts", EXAMPLES / f"{name}.toml", "--domain", "red")
+    assert ended.returncode == 1 and ended.stderr.count("\n") == 1
+    assert f"{name}.toml: the program ended with 1: refused K{number} at" in ended.stderr
+
+
 def test_more_slots_than_a_schedule_can_be_written_out_for(program: Program) -> None:
     with pytest.raises(Fault, match="two: of the first 64 slots alone can events be counted"):
         count_events(program, example("two-domains"), "two", 0, 65)

@@ -70,6 +70,15 @@ def test_a_report_of_another_image(program: Program) -> None:
     assert replay(program, image, "loud", other, 4) is None
 
 
+def test_an_image_that_is_refused(program: Program, tmp_path: Path) -> None:
+    pytest.importorskip("matplotlib")
+    image = tmp_path / "loud.toml"
+    image.write_text((EXAMPLES / "spy-loud.toml").read_text().replace("colours = [2]", "colours = [1]"))
+    ended = run_tool("tp-plot", "timeline", image, EXAMPLES / "spy-loud.report", "-o", tmp_path / "a.svg")
+    assert ended.returncode == 1 and ended.stderr.count("\n") == 1
+    assert "loud.toml: the program ended with 1: refused K9 at 1 found 1 wanted 0" in ended.stderr
+
+
 def test_more_slots_than_a_schedule_can_be_written_out_for(program: Program) -> None:
     image, report = run(program, "two-domains", 100)
     told = replay(program, image, "two", report, 100)

@@ -15,7 +15,7 @@ from tp_sdk.faults import Fault
 from tp_sdk.keys import COST, COSTS, ENTRIES, LENGTH, PAD
 from tp_sdk.program import Program
 from tp_sdk.refusals import Image
-from tp_sdk.replay import has_ended, image_text, number
+from tp_sdk.replay import has_ended, number, written
 from tp_sdk.report import Section, parse_report
 
 # Switches alone flush.
@@ -34,6 +34,7 @@ class Counted:
 
 def count_events(program: Program, image: Image, file: str, domain: int, slots: int) -> list[Counted]:
     """The events of the domain's slots among the first so many."""
+    written(program, ["check"], image, file)
     if image["domain"][domain].get("moments"):
         raise Fault(f"{file}: interrupts come to domain {domain} by the clock, so costs change what it does")
     runs = _Runs(program, image, file, domain)
@@ -95,8 +96,8 @@ class _Runs:
         ]
         image = self._image | {"costs": costs, "schedule": schedule}
         words = ["alone", "--domain", str(self._domain), "--slots", str(slots)]
-        ended = self._program.run(words, image_text(image))
-        return parse_report(f"{ended.text}end\n", f"{self._file}, run for {slots} slots").sections[0]
+        text = written(self._program, words, image, self._file)
+        return parse_report(f"{text}end\n", self._file).sections[0]
 
     def least_lengths(self, costs: dict[str, int], reached: dict[int, Section]) -> dict[int, int]:
         """The least lengths with which each slot ends as it does in the image."""

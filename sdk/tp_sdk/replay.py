@@ -13,6 +13,7 @@ from collections.abc import Sequence
 from dataclasses import dataclass
 from typing import Any
 
+from tp_sdk.faults import Fault
 from tp_sdk.keys import ENTRIES, LENGTH
 from tp_sdk.program import Program
 from tp_sdk.refusals import Image
@@ -108,8 +109,15 @@ def _sections(report: Report) -> Sequence[str]:
 
 
 def _run(program: Program, image: Image, file: str, slots: int) -> Report:
-    ended = program.run(["run", "--slots", str(slots)], image_text(image))
-    return parse_report(ended.text, f"{file}, run for {slots} slots")
+    return parse_report(written(program, ["run", "--slots", str(slots)], image, file), file)
+
+
+def written(program: Program, words: list[str], image: Image, file: str) -> str:
+    """What the program writes of an image that it accepts."""
+    ended = program.run(words, image_text(image))
+    if ended.code != 0:
+        raise Fault(f"{file}: the program ended with {ended.code}: {ended.text.strip()}")
+    return ended.text
 
 
 def image_text(image: Image) -> str:
