@@ -15,7 +15,8 @@ int main(void)
     char text[8];
     int printed = printf("[%s] [%5s] [%-5s] [%c] [%%]\n", "abc", "abc", "abc", 'x');
     printf("%d [%d] [%d] [%5d] [%-5d] [%05d] [%05d]\n", printed, 0, INT_MIN, -42, -42, -42, 42);
-    printf("%u %lu %x %X %08x %o %p %zu\n", UINT_MAX, 7ul, 0xbeefu, 0xbeefu, 0x12u, 8u, (void *)16, sizeof text);
+    printf("%u %lu %x %X %08x ", UINT_MAX, 7ul, 0xbeefu, 0xbeefu, 0x12u);
+    printf("%o %p %zu\n", 8u, (void *)16, sizeof text);
     strncpy(text, "tablespoon", sizeof text - 1);
     text[7] = 0;
     printf("%s %u %d %d\n", text, (unsigned)strlen(text), strcmp("a", "b") < 0, strncmp("abx", "aby", 2));

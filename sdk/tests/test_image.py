@@ -116,7 +116,7 @@ def test_an_image_that_is_refused_is_explained(folder: Folder, program: Program)
     assert folder.fault(program=program).startswith("machine.toml:3:10: the image is refused: K4: `frames`")
     folder.write(DESCRIPTION, Elf([CODE], entry=2).encode())
     machine.write_text(machine.read_text().replace("frames = 63", "frames = 128"))
-    assert folder.fault(program=program).startswith("red.toml:2:1: the image is refused: K12, case 6: `entry`")
+    assert folder.fault(program=program).startswith("red.toml:2:1: the image is refused: K12, case 6: ")
 
 
 FAULTS = [
@@ -394,7 +394,7 @@ def test_an_image_with_names_and_no_pad(folder: Folder, program: Program) -> Non
 @pytest.mark.parametrize(
     ("words", "source", "fault"),
     [
-        (["-march=rv32im"], "return argc * argv[0][0];", r"red.elf: 0x[0-9a-f]+ `main(\+0x[0-9a-f]+)?` is mul, of "),
+        (["-march=rv32im"], "return argc * argv[0][0];", r"red.elf: 0x[0-9a-f]+ `main[^`]*` is mul, of "),
         (["-march=rv32im"], "return argc;", r"red.elf: for rv32i2p1_m2p0.*, and the machine lacks M"),
         (["-march=rv32ic"], "return argc;", r"red.elf: with compressed instructions"),
         (["-march=rv32ia"], "return argc;", r"red.elf: for rv32i2p1_a2p1, and the machine lacks A"),
@@ -405,7 +405,8 @@ def test_an_elf_file_for_another_machine(
     folder: Folder, compiler: str, words: list[str], source: str, fault: str
 ) -> None:
     (folder.path / "red.c").write_text(f"int main(int argc, char **argv) {{ (void)argv; {source} }}\n")
-    command = [COMPILER, "-mabi=ilp32", *words, "-nostdlib", "-Ttext=0x10000", "-e", "main", "-Wl,--build-id=none"]
+    linked = ["-nostdlib", "-Ttext=0x10000", "-e", "main", "-Wl,--build-id=none"]
+    command = [COMPILER, "-mabi=ilp32", *words, *linked]
     subprocess.run([*command, "-o", folder.path / "red.elf", folder.path / "red.c"], check=True)
     told = folder.fault()
     assert re.match(fault, told) and told.endswith(": compile it with -march=rv32i -mabi=ilp32")

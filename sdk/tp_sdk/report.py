@@ -52,13 +52,13 @@ class Section:
     readings: tuple[int, ...]
     out: bytes
     text: str
-    line: int
-    retired: int
-    threads: tuple[Thread, ...]
-    last_reading: int | None
-    replies_count: int
-    replies: tuple[Reply, ...]
-    mem: str
+    line: int = 0
+    retired: int = 0
+    threads: tuple[Thread, ...] = ()
+    last_reading: int | None = None
+    replies_count: int = 0
+    replies: tuple[Reply, ...] = ()
+    mem: str = ""
 
     @property
     def exit_code(self) -> int | None:
@@ -83,7 +83,7 @@ class Switch:
     used: int
     pad: int
     count: int
-    line: int
+    line: int = 0
 
 
 @dataclass
