@@ -16,7 +16,7 @@ use Rattle.sv32_walk.specs.declared.access.Access.{Access}
 use Rattle.sv32_walk.specs.declared.access.WalkFault.{WalkFault}
 use Rattle.sv32_walk.specs.PageTableEntry.{ppn}
 use Rattle.sv32_walk.specs.Walk.{Walk, walk}
-use Rattle.call_table.specs.Domain.{Dom, placed}
+use Rattle.call_table.specs.Domain.{Dom}
 use Rattle.call_table.specs.Calls.{call}
 use Rattle.call_table.specs.Claims.{is_mine, claims, Facts}
 use Rattle.cap_table.specs.Slots.{Slots}
@@ -27,15 +27,16 @@ use Rattle.hardware_check.specs.Hardware.{Hardware}
 use Rattle.image_check.specs.Own.{Own}
 use Rattle.world_view.specs.Frames.{own_frame}
 use Rattle.world_view.specs.Kernel.{estate, layout}
-use Rattle.world_view.specs.Instruction.{stopped, trapped, retired_at, read_out}
+use Rattle.world_view.specs.Instruction.{stopped, trapped}
 use Rattle.mem_system.specs.Cost.{Touch, Fetch, Load, Store as StoreTouch, Branch}
 use Rattle.mem_system.specs.Translation.{lines_of, look_of}
 use Rattle.cache_sharing.specs.Sharing.{IsOwnLine, MayTouch}
 use Rattle.cache_sharing.proofs.OwnTouches.{may_append}
 use Rattle.world_view.specs.Cost.{hierarchy, region, own_colour}
-use Rattle.world_view.specs.Event.{Storage, Act, touch, fault_code, frame_or_stop, translate, address_in, line_in, read, write, unless, load, store, loaded, noted, guessed, settle, execute, call_touches, make_call, perform, instruction}
+use Rattle.world_view.specs.Event.{Storage, Act, touch, fault_code, frame_or_stop, translate, address_in, line_in, read, write, unless, load, store, loaded, guessed, settle, execute, call_touches, make_call, perform, instruction}
 use Rattle.world_view.specs.Relations.{IsOwnFrame, MayAll, IsKernel, HasFacts, BesideStorage}
 use Rattle.world_view.proofs.TableLaws.{IsPage, walkable, own_reads, own_page, walk_alike, mine_own, own_mine, not_mine}
+use Rattle.world_view.proofs.InstructionLaws.{retired_caps}
 use Rattle.world_view.proofs.KernelTouches.{call_may}
 use Rattle.world_view.proofs.Lines.{own_address}
 
@@ -276,16 +277,6 @@ module _ (p : Hardware) (o : Own) (kernel : IsKernel p o) (d : Dom) (first : Sto
   guessed_still (instr.Branch comparison rs1 rs2 offset) pc taken = touch_still p o kernel d first (Held p o kernel d first) (Branch pc taken) (λ s h. tt)
   guessed_still _ pc taken = record { runs = (give_any p o kernel d first tt).runs }
 
-  -- an instruction leaves the capabilities
-  noted_caps : (i : Instr) (value : ℕ) → (noted i value d).caps ≡ d.caps
-  unfolding noted read_out
-  noted_caps (instr.ReadCounter counter rd) value = refl
-  noted_caps _ value = refl
-
-  retired_caps : (next : ℕ) (regs : List ℕ) (i : Instr) (value : ℕ) → (retired_at next regs (noted i value d)).caps ≡ d.caps
-  unfolding retired_at placed
-  retired_caps next regs i value = noted_caps i value
-
 module _ (p : Hardware) (o : Own) (kernel : IsKernel p o) (d : Dom) (first : Storage) where
   settle_near : (i : Instr) (value : ℕ) (out : Outcome) → Near p o kernel d first (Held p o kernel d first) (Ends p o kernel d first) (settle p (estate p o).root d i value out)
   unfolding settle
@@ -293,7 +284,7 @@ module _ (p : Hardware) (o : Own) (kernel : IsKernel p o) (d : Dom) (first : Sto
       then_still p o kernel d first (Ends p o kernel d first) (Held p o kernel d first) _ _ (unless_still p o kernel d first out.effect.trap)
       (then_still p o kernel d first (Ends p o kernel d first) (Held p o kernel d first) _ _ (guessed_still p o kernel d first i d.threads.current.pc out.effect.taken)
       (then_any p o kernel d first (Ends p o kernel d first) (Held p o kernel d first) _ _ (store_near p o kernel d first out.effect.store)
-      (give_ends p o kernel d first _ (retired_caps p o kernel d first out.effect.next out.regs i value))))
+      (give_ends p o kernel d first _ (retired_caps out.effect.next out.regs i value d))))
 
   execute_near : (t : ℕ) (i : Instr) → Near p o kernel d first (Held p o kernel d first) (Ends p o kernel d first) (execute p (estate p o).root t d i)
   unfolding execute

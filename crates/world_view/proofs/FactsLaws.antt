@@ -1,71 +1,67 @@
--- The facts of every domain hold at each moment of each slot, whoever runs.
-use Rattle.std.proofs.Common.{◌≡◌, ℕ, zero, suc, ◌-◌, false, sym, refl, subst, inl, inr}
+-- The facts of every domain hold at each moment of each slot, whoever runs, and their leaves are within rights.
+use Rattle.std.proofs.Common.{ℕ, zero, suc, ◌-◌, false, sym, refl, subst, inl, inr}
 use Rattle.std.proofs.lemmas.Bool.{cases_eq}
-use Rattle.hardware_check.specs.Hardware.{Hardware}
-use Rattle.image_check.specs.Own.{Own}
 use Rattle.image_check.specs.Image.{Image, own_of}
 use Rattle.sched_table.specs.Schedule.{entry_of_slot, slot_end}
-use Rattle.call_table.specs.Domain.{Dom}
-use Rattle.call_table.specs.Claims.{is_mine, claims}
-use Rattle.world_view.specs.Kernel.{estate, opening_dom}
-use Rattle.world_view.specs.Event.{Storage}
-use Rattle.world_view.specs.Machine.{steps, dom_of, part_of, with_part, switch, run_slot, opening, whole}
-use Rattle.world_view.specs.Relations.{IsDomain, SameFrames, HasFacts}
+use Rattle.world_view.specs.Kernel.{opening_dom}
+use Rattle.world_view.specs.Machine.{World, steps, dom_of, part_of, with_part, switch, run_slot, opening, whole}
+use Rattle.world_view.specs.Relations.{IsDomain, HasFacts}
 use Rattle.world_view.specs.Laws.{local_in, world_in}
 use Rattle.world_view.proofs.Separate.{Separated}
-use Rattle.world_view.proofs.TableLaws.{mine_own}
-use Rattle.world_view.proofs.FactsSame.{facts_same}
-use Rattle.world_view.proofs.OpeningFacts.{kernel_of, opening_facts}
+use Rattle.world_view.proofs.RightsLaws.{HasBoth, both_with, steps_keep_both}
+use Rattle.world_view.proofs.OpeningFacts.{kernel_of}
+use Rattle.world_view.proofs.OpeningRights.{opening_both}
 use Rattle.world_view.proofs.OpeningLaws.{opening_dom_is}
 use Rattle.world_view.proofs.StepLaws.{steps_keep}
 use Rattle.world_view.proofs.DomainLaws.{own_is, others_same}
 
--- the facts hold of a domain that is the same, in a memory in which its frames are
-pub facts_with : (p : Hardware) (o : Own) (d e : Dom) (s t : Storage) → e ≡ d → SameFrames p o t.mem s.mem → HasFacts p o d s → HasFacts p o e t
-facts_with p o d e s t is same h =
-    subst (λ (x : Dom). HasFacts p o x t) (sym is)
-    (record {
-      slots = h.slots;
-      facts = facts_same (estate p o).root (is_mine (estate p o)) (claims (estate p o) d.caps) s.mem t.mem h.facts (λ f mine. same f (mine_own p o f mine));
-    })
-
 module _ (i : Image) (r : Separated i) where
-  -- steps of a slot keep the facts of each domain: those of the domain that runs, and all others untouched
-  facts_in : (k n d : ℕ) → IsDomain i d → ((e : ℕ) → IsDomain i e → HasFacts i.all.hardware (own_of i e) (dom_of (whole i k) e) (whole i k).storage)
-      → HasFacts i.all.hardware (own_of i d) (dom_of (world_in i k n) d) (world_in i k n).storage
+  abbrev BothOf : World → ℕ → Type 0
+  BothOf w d = HasBoth i.all.hardware (own_of i d) (dom_of w d) w.storage
+
+  -- of every domain, between slots
+  abbrev AtSlot : ℕ → Type 0
+  AtSlot k = (d : ℕ) → IsDomain i d → BothOf (whole i k) d
+
+  -- steps of a slot keep it of each domain: of the one that runs, and all others untouched
+  both_in : (k n d : ℕ) → IsDomain i d → AtSlot k → BothOf (world_in i k n) d
   unfolding switch with_part
-  facts_in k n d is facts =
+  both_in k n d is before =
       let p = i.all.hardware in
       let end = slot_end i.all.schedule k in
       let e = (entry_of_slot i.all.schedule k).domain in
-      let before = switch i k (whole i k) in
-      let s = part_of e before in
+      let kernel = kernel_of i r e (r.named k) in
+      let s = part_of e (switch i k (whole i k)) in
       let later = steps p (own_of i e) false end n s in
-      let b = steps_keep p (own_of i e) (kernel_of i r e (r.named k)) false end n s.storage s (record { facts = facts e (r.named k); outside = λ f out. refl }) in
+      let h = before e (r.named k) in
       elim (cases_eq d e) [
         | inl same ↦
-            subst (λ (x : ℕ). HasFacts p (own_of i x) (dom_of (world_in i k n) x) later.storage) (sym same)
-            (facts_with p (own_of i e) later.dom _ later.storage later.storage (own_is i k n) (λ f own. refl) b.facts)
+            subst (λ (x : ℕ). HasBoth p (own_of i x) (dom_of (world_in i k n) x) later.storage) (sym same)
+            (both_with p (own_of i e) later.dom _ later.storage later.storage (own_is i k n) (λ f own. refl)
+            (steps_keep_both p (own_of i e) kernel false end n s h))
         | inr apart ↦
-            facts_with p (own_of i d) (dom_of (whole i k) d) _ (whole i k).storage later.storage (others_same i k n d apart)
-            (λ f own. b.outside f (r.apart e d (r.named k) is (λ q. apart (sym q)) f own)) (facts d is)
+            let kept = steps_keep p (own_of i e) kernel false end n s.storage s (record { facts = h.facts; outside = λ f out. refl }) in
+            both_with p (own_of i d) (dom_of (whole i k) d) _ (whole i k).storage later.storage (others_same i k n d apart)
+            (λ f own. kept.outside f (r.apart e d (r.named k) is (λ q. apart (sym q)) f own)) (before d is)
       ]
 
-  facts_after : (k d : ℕ) → IsDomain i d → ((e : ℕ) → IsDomain i e → HasFacts i.all.hardware (own_of i e) (dom_of (whole i k) e) (whole i k).storage)
-      → HasFacts i.all.hardware (own_of i d) (dom_of (whole i (suc k)) d) (whole i (suc k)).storage
-  unfolding whole run_slot
-  facts_after k d is facts = facts_in k (slot_end i.all.schedule k - (switch i k (whole i k)).clock) d is facts
-
   -- before and after each slot
+  at_slot : (k : ℕ) → AtSlot k
+  unfolding whole run_slot
+  at_slot zero = λ d is.
+      both_with i.all.hardware (own_of i d) (opening_dom i.all.hardware (own_of i d)) _
+      (opening i).storage (opening i).storage (opening_dom_is i r d is) (λ f own. refl) (opening_both i r d is)
+  at_slot (suc k) = λ d is. both_in k (slot_end i.all.schedule k - (switch i k (whole i k)).clock) d is (at_slot k)
+
   pub all_facts : (k d : ℕ) → IsDomain i d → HasFacts i.all.hardware (own_of i d) (dom_of (whole i k) d) (whole i k).storage
-  unfolding whole
-  all_facts zero d is =
-      facts_with i.all.hardware (own_of i d) (opening_dom i.all.hardware (own_of i d)) _ (opening i).storage (opening i).storage (opening_dom_is i r d is) (λ f own. refl) (opening_facts i r d is)
-  all_facts (suc k) d is = facts_after k d is (all_facts k)
+  all_facts k d is = (at_slot k d is).facts
 
   -- and at each of its moments
+  pub always_both : (k n d : ℕ) → IsDomain i d → BothOf (world_in i k n) d
+  always_both k n d is = both_in k n d is (at_slot k)
+
   pub always_facts : (k n d : ℕ) → IsDomain i d → HasFacts i.all.hardware (own_of i d) (dom_of (world_in i k n) d) (world_in i k n).storage
-  always_facts k n d is = facts_in k n d is (all_facts k)
+  always_facts k n d is = (always_both k n d is).facts
 
   -- a switch leaves domains and memory as they are
   pub begun_facts : (k d : ℕ) → IsDomain i d → HasFacts i.all.hardware (own_of i d) (dom_of (switch i k (whole i k)) d) (switch i k (whole i k)).storage

@@ -18,6 +18,8 @@ pub mod OpeningLaws
 pub mod OpeningClaims
 pub mod OpeningFacts
 pub mod OpenedWalks
+pub mod RightsLaws
+pub mod OpeningRights
 pub mod FactsLaws
 pub mod ResidencyLaws
 pub mod ForGood

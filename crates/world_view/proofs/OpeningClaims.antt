@@ -115,7 +115,7 @@ once_range a (suc n) = (past, once_range (a + 1) n)
 
 -- ---- the pages of segments
 
-page_same : (ss : List Segment) (n : ℕ) → is_page ss n ≡ has_page_in ss n
+pub page_same : (ss : List Segment) (n : ℕ) → is_page ss n ≡ has_page_in ss n
 unfolding is_page has_page_in
 page_same [] n = refl
 page_same (s ∷ ss) n = ap (λ b. has_page s n || b) (page_same ss n)
@@ -353,7 +353,7 @@ module _ (p : Hardware) (o : Own) (enough : frames_in o.segments ≤ length (poo
   unfolding first_slots
   slots_long = length-map-range_with_len (λ i. first_cap p o (cap_at o i)) 0 64
 
-  slot_is : (i : ℕ) → i < 64 → slots.cap_at (first_slots p o) i ≡ first_cap p o (cap_at o i)
+  pub slot_is : (i : ℕ) → i < 64 → slots.cap_at (first_slots p o) i ≡ first_cap p o (cap_at o i)
   unfolding first_slots
   slot_is i below = get_or-map-range_with_len (λ j. first_cap p o (cap_at o j)) 0 64 i i None below (zero-add i)
 

@@ -34,7 +34,7 @@ use Rattle.world_view.proofs.OpeningClaims.{Fix, fix, fix_table, region_at, regi
 -- ---- pages
 
 -- a page of a segment is below the last of the address space, and has rights
-page_small : (ss : List Segment) (n : ℕ) → ((k : ℕ) → IsSegment (get_or ss k no_segment)) → is_page ss n ≡ true → n < 2 ^ 20
+pub page_small : (ss : List Segment) (n : ℕ) → ((k : ℕ) → IsSegment (get_or ss k no_segment)) → is_page ss n ≡ true → n < 2 ^ 20
 unfolding is_page
 page_small [] n each there = absurd (true≢false (sym there))
 page_small (s ∷ ss) n each there =
@@ -46,7 +46,7 @@ page_small (s ∷ ss) n each there =
       | inr elsewhere ↦ page_small ss n (λ k. each (suc k)) (rw elsewhere at there)
     ]
 
-page_rights : (ss : List Segment) (n : ℕ) → is_page ss n ≡ true → (r : Rights) × (rights_in ss n ≡ Some r)
+pub page_rights : (ss : List Segment) (n : ℕ) → is_page ss n ≡ true → (r : Rights) × (rights_in ss n ≡ Some r)
 unfolding is_page rights_in
 page_rights [] n there = absurd (true≢false (sym there))
 page_rights (s ∷ ss) n there =
@@ -84,10 +84,10 @@ module _ (p : Hardware) (o : Own) (enough : frames_in o.segments ≤ length (poo
   fix_alone n c (Fix.page j a b e) = ap is_shared e
 
   -- a page lies in the region of a table
-  page_region : (n : ℕ) → is_page o.segments n ≡ true → has_region o.segments (n / 1024) ≡ true
+  pub page_region : (n : ℕ) → is_page o.segments n ≡ true → has_region o.segments (n / 1024) ≡ true
   page_region n there = let has = page_rights o.segments n there in rights_region o.segments n has.0 has.1
 
-  region_low : (n : ℕ) → is_page o.segments n ≡ true → n / 1024 < 1024
+  pub region_low : (n : ℕ) → is_page o.segments n ≡ true → n / 1024 < 1024
   region_low n there = let small = page_small o.segments n sound.segments there in omega (arith, small)
 
   fix_stays : (n : ℕ) (c : Claim) (b : Bool) (g r t : ℕ) → Fix p o n c → c ≡ Claim.Leaf b g (Some (r, t))
@@ -191,7 +191,7 @@ module _ (p : Hardware) (o : Own) (enough : frames_in o.segments ≤ length (poo
       }
 
   module _ (m : Mem) where
-    root_entry_is : (r : ℕ) → has_region o.segments r ≡ true → r < 1024 → word (placed p o m) (root_of p o) r ≡ table_word (table_frame p o r)
+    pub root_entry_is : (r : ℕ) → has_region o.segments r ≡ true → r < 1024 → word (placed p o m) (root_of p o) r ≡ table_word (table_frame p o r)
     root_entry_is r some low = root_words p o enough m r low ∙ root_is p o enough r some
 
     no_entry : (w : ℕ) → w ≡ 0 → valid w ≡ true → ⊥
@@ -209,7 +209,7 @@ module _ (p : Hardware) (o : Own) (enough : frames_in o.segments ≤ length (poo
         ]
 
     -- the entry of a page in the table of its region
-    page_entry : (n : ℕ) (r : Rights) → rights_in o.segments n ≡ Some r → word (placed p o m) (table_frame p o (n / 1024)) (n % 1024) ≡ leaf_word (page_frame p o n) (rights_number r)
+    pub page_entry : (n : ℕ) (r : Rights) → rights_in o.segments n ≡ Some r → word (placed p o m) (table_frame p o (n / 1024)) (n % 1024) ≡ leaf_word (page_frame p o n) (rights_number r)
     page_entry n r e =
         let there = rights_there o.segments n r e in
         table_words p o enough m (n / 1024) (n % 1024) (region_low n there) (omega arith) (page_region n there)

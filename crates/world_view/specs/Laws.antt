@@ -8,7 +8,7 @@ use Rattle.sv32_walk.specs.declared.access.Access.{Access}
 use Rattle.sv32_walk.specs.declared.access.WalkFault.{WalkFault}
 use Rattle.sv32_walk.specs.declared.access.WalkFault.TheVariants as fault
 use Rattle.sv32_walk.specs.Walk.{walk}
-use Rattle.sv32_walk.specs.PageTableEntry.{rights_permit, leaf_word}
+use Rattle.sv32_walk.specs.PageTableEntry.{ppn, rights_permit, leaf_word}
 use Rattle.image_check.specs.Image.{Image, own_of}
 use Rattle.phys_mem.specs.Mem.{word}
 use Rattle.image_check.specs.Pages.{frames_in}
@@ -20,12 +20,14 @@ use Rattle.mem_system.specs.Cost.{Touch, Caches, touched_all}
 use Rattle.cache_sharing.specs.Operations as operations
 use Rattle.cache_sharing.specs.Sharing.{kept_at}
 use Rattle.world_view.specs.Cost.{hierarchy}
-use Rattle.world_view.specs.Kernel.{layout, frames_for_good}
+use Rattle.call_table.specs.Laws.{found_at}
+use Rattle.call_table.specs.Rights.{MayReach}
+use Rattle.world_view.specs.Kernel.{estate, layout, frames_for_good}
 use Rattle.world_view.specs.Machine.{Local, World, step, steps, dom_of, part_of, with_part, clone_of, leave_part, enter_part, prefetch_part, flush_part, switch_work, switch, whole, alone_enter, alone_out}
 use Rattle.world_view.specs.View.{view_whole, view_alone}
 use Rattle.world_view.specs.Used.{largest_of}
 use Rattle.image_check.specs.Laws.{Runnable}
-use Rattle.world_view.specs.Relations.{IsDomain, IsOwnFrame, Agree, SameSets, Resident, KeepsSharedAlone, IsKernel, IsForGood, HasFacts, ReachesOwn, Beside, Within, Apiece, Untouched, InTime, AllWithinPads}
+use Rattle.world_view.specs.Relations.{IsDomain, IsOwnFrame, Agree, SameSets, Resident, KeepsSharedAlone, IsKernel, IsForGood, HasFacts, HasRights, ReachesOwn, Beside, Within, Apiece, Untouched, InTime, AllWithinPads}
 
 -- ---- isolation
 
@@ -165,6 +167,17 @@ abbrev pub NoAccessFaultLaw : Type 0
 NoAccessFaultLaw = (i : Image) (k n d va : ℕ) (a : Access) → Runnable i → IsDomain i d
     → (walk (world_in i k n).storage.mem i.all.hardware.frames (root_of i.all.hardware (own_of i d)) va a).result
     ≢ Err fault.Access
+
+-- no leaf of theirs has wider rights than the capability through which its page is mapped
+abbrev pub RightsLaw : Type 0
+RightsLaw = (i : Image) (k n d : ℕ) → Runnable i → IsDomain i d
+    → HasRights i.all.hardware (own_of i d) (dom_of (world_in i k n) d) (world_in i k n).storage
+
+-- so what a walk lets through, a capability's rights let through, or the page is one that stays for good
+abbrev pub PermittedLaw : Type 0
+PermittedLaw = (i : Image) (k n d va leaf : ℕ) (a : Access) → Runnable i → IsDomain i d →
+    let e = estate i.all.hardware (own_of i d) in
+    found_at e (world_in i k n).storage.mem va a ≡ Ok leaf → MayReach e (dom_of (world_in i k n) d) va (ppn leaf) a
 
 -- what the kernel has of each domain is as it should be
 abbrev pub KernelLaw : Type 0

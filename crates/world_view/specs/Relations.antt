@@ -10,6 +10,7 @@ use Rattle.call_table.specs.Domain.{Dom}
 use Rattle.cap_table.specs.Owning.{IsUnnamed}
 use Rattle.call_table.specs.Claims.{IsEstate, free_frames}
 use Rattle.call_table.specs.Laws.{Kept, HasPageTables}
+use Rattle.call_table.specs.Rights.{AreWithin}
 use Rattle.frame_colours.specs.Colours.{has}
 use Rattle.hardware_check.specs.Hardware.{Hardware}
 use Rattle.sched_table.specs.declared.schedule.Entry.{Entry}
@@ -90,6 +91,10 @@ pub record IsForGood (p : Hardware) (o : Own) (d : Dom) (f : ℕ) : Type 0 where
 -- the facts of the domain's frames and page tables hold of this state of it, in this memory
 abbrev pub HasFacts : Hardware → Own → Dom → Storage → Type 0
 HasFacts p o d s = Kept (estate p o) d s.mem
+
+-- no leaf's rights are wider than those of the capability through which its page is mapped
+abbrev pub HasRights : Hardware → Own → Dom → Storage → Type 0
+HasRights p o d s = AreWithin (estate p o) d s.mem
 
 -- its page tables reach its own frames alone, each table once, and no page lies on the tables
 abbrev pub ReachesOwn : Hardware → Own → Dom → Storage → Type 0
