@@ -12,6 +12,7 @@ use std::process::Abort;
 
 mod orders;
 
+// Red's code is three bytes, one fewer than an instruction has; blue's is `jal x0, 0`.
 const IMAGE: &str = r#"frames = 64
 shared = 512
 line = 64

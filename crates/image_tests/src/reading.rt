@@ -39,8 +39,18 @@ length = 10000
 pad = 6150
 "#;
 
+// The programs of the image.
+//
+//     csrrs x5, cycle, x0
+//     addi x10, x0, 0x41; addi x17, x0, 1; ecall
+//     csrrs x6, cycle, x0
+//     addi x17, x0, 0; ecall
 const RED_HEX: &str = "f32200c0130510049308100073000000732300c09308000073000000";
 
+//     csrrs x5, cycle, x0
+//     addi x10, x0, 0x42; addi x17, x0, 1; ecall
+//     csrrs x6, cycle, x0
+//     addi x17, x0, 0; ecall
 const BLUE_HEX: &str = "f32200c0130520049308100073000000732300c09308000073000000";
 
 const BLUE_SEGMENT: &str = "{ page = 16, pages = 1, rights = \"rx\", hex = \"f32200c013052";

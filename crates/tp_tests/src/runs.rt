@@ -22,21 +22,48 @@ mod seeds;
 mod timed;
 
 // Prints A, or B, and exits; or jumps to itself.
+//
+//     addi x10, x0, 0x41; addi x17, x0, 1; ecall
+//     addi x17, x0, 0; ecall
 const PRINTS_A: &str = "1305100493081000730000009308000073000000";
 
+//     addi x10, x0, 0x42; addi x17, x0, 1; ecall
+//     addi x17, x0, 0; ecall
 const PRINTS_B: &str = "1305200493081000730000009308000073000000";
 
+//     jal x0, 0
 const SPINS: &str = "6f000000";
 
 // Reads the cycle counter before and after it prints A, or B.
+//
+//     csrrs x5, cycle, x0
+//     addi x10, x0, 0x41; addi x17, x0, 1; ecall
+//     csrrs x6, cycle, x0
+//     addi x17, x0, 0; ecall
 const READS_A: &str = "f32200c0130510049308100073000000732300c09308000073000000";
 
+//     csrrs x5, cycle, x0
+//     addi x10, x0, 0x42; addi x17, x0, 1; ecall
+//     csrrs x6, cycle, x0
+//     addi x17, x0, 0; ecall
 const READS_B: &str = "f32200c0130520049308100073000000732300c09308000073000000";
 
 // Prints a byte 4,097 times, and exits with the last reply's code.
+//
+//     addi x17, x0, 1; lui x5, 0x1
+//     addi x10, x0, 0x41; ecall
+//     addi x5, x5, -1; bge x5, x0, .-12
+//     addi x17, x0, 0; ecall
 const PRINTS_TOO_MUCH: &str = "93081000b712000013051004730000009382f2ffe3da02fe9308000073000000";
 
 // Goes 8,192 times round, and then reads cycle, time and instret, each low and high.
+//
+//     lui x5, 0x2
+//     addi x5, x5, -1; bne x5, x0, .-4
+//     csrrs x6, cycle, x0; csrrs x7, cycleh, x0
+//     csrrs x8, time, x0; csrrs x9, timeh, x0
+//     csrrs x12, instret, x0; csrrs x13, instreth, x0
+//     addi x10, x0, 0; ecall
 const WAITS: &str =
     "b72200009382f2ffe39e02fe732300c0f32300c8732410c0f32410c8732620c0f32620c81305000073000000";
 
@@ -72,6 +99,10 @@ const SCHEDULE: &str =
 
 // One domain with three pages under two tables, and the later pages first: it
 // stores in the last page, loads from the one before, and stores past the last.
+//
+//     lui x5, 0x400; addi x6, x0, 1; sw x6, 0(x5)
+//     lui x8, 0x3ff; lw x7, 0(x8)
+//     lui x9, 0x401; sw x6, 0(x9)
 const TWO_TABLES: &str =
     "[[domain]]\nname = \"red\"\ncolours = [1]\nentry = 0x10000\nsegment = [{ page = 1023, pages = 2, rights = \"rw\", hex = \"01020304\" }, { page = 16, pages = 1, rights = \"rx\", hex = \"b70240001303100023a0620037f43f0083230400b714400023a06400\" }]\n[[schedule]]\ndomain = 0\nlength = 10000\npad = 6150\n";
 
@@ -254,11 +285,21 @@ fn expect_red(
 }
 
 // A program, the most cycles that a switch from it used, and what is seen of red then,
-// with a bar between and ~ for a new line. An exit with a code past 255; then the exceptions, by their codes: a jump
-// to address 2; a misaligned branch that isn't taken, and a write of a counter;
-// EBREAK; a load at address 1, and a store at address 2, both in no page; a jump
-// to no page; a load from none; a store to its own code. No access fault comes,
-// since no walk of a domain leaves memory.
+// with a bar between and ~ for a new line. An exit with a code past 255; then the
+// exceptions, by their codes: a jump to address 2; a misaligned branch that isn't taken,
+// and a write of a counter; EBREAK; a load at address 1, and a store at address 2, both in
+// no page; a jump to no page; a load from none; a store to its own code. No access fault
+// comes, since no walk of a domain leaves memory. Each line is a program:
+//
+//     lui x10, 0x12345; addi x10, x10, 0x678; ecall
+//     jalr x0, 2(x0)
+//     bne x0, x0, .+2; csrrw x0, cycle, x0
+//     ebreak
+//     lw x5, 1(x0)
+//     sw x0, 2(x0)
+//     jalr x0, 0(x0)
+//     lw x5, 0(x0)
+//     lui x5, 0x10; sw x0, 8(x5)
 const ENDS: &str =
     "375534121305856773000000|800|status exited 305419896~retired 2~thread 0 ended pc 00010008 x10=12345678~readings 0~replies 0~out 0~mem 79ba1319
 67002000|732|status stopped 0 pc 00010000 value 00000002~retired 0~thread 0 ready pc 00010000~readings 0~replies 0~out 0~mem 0020b8c3

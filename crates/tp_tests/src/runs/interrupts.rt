@@ -5,6 +5,10 @@ use super::timed::BLUE;
 use std::test::Fail;
 
 // It waits for line 3, whose moment is in blue's slot, and reads the clock.
+//
+//     addi x17, x0, 10; ecall
+//     csrrs x5, cycle, x0
+//     addi x17, x0, 0; ecall
 const WAITS_FOR_A_LINE: &str = "9308a00073000000f32200c09308000073000000";
 
 const ONE_MOMENT: &str = "caps = [\"irq 3\"]\nlines = [3]\nmoments = [[25000, 3]]";
@@ -25,6 +29,11 @@ fn an_interrupt_waits_for_its_owners_slot(rt: HostRuntime) -> Result<(), Fail> {
 }
 
 // It waits for line 5, reads the clock, and polls line 3.
+//
+//     addi x10, x0, 1; addi x17, x0, 10; ecall
+//     csrrs x5, cycle, x0
+//     addi x17, x0, 9; ecall
+//     addi x17, x0, 0; ecall
 const WAITS_AND_POLLS: &str = "130510009308a00073000000f32200c093089000730000009308000073000000";
 
 const TWO_MOMENTS: &str =
@@ -45,6 +54,11 @@ fn moments_are_delivered_in_order(rt: HostRuntime) -> Result<(), Fail> {
 }
 
 // Eight SPAWNs, the last of which finds all threads live.
+//
+//     addi x5, x0, 8; lui x10, 0x10
+//     addi x17, x0, 12; ecall
+//     addi x6, x6, 1; bne x6, x5, .-16
+//     addi x17, x0, 0; ecall
 const SPAWNS: &str = "93028000370501009308c0007300000013031300e31853fe9308000073000000";
 
 #[test]
@@ -61,6 +75,11 @@ fn a_domain_has_eight_threads(rt: HostRuntime) -> Result<(), Fail> {
 }
 
 // POLL, SIGNAL, POLL.
+//
+//     addi x17, x0, 9; ecall
+//     addi x17, x0, 11; ecall
+//     addi x17, x0, 9; ecall
+//     addi x17, x0, 0; ecall
 const SIGNALS: &str = "93089000730000009308b0007300000093089000730000009308000073000000";
 
 const ONE_LINE: &str = "caps = [\"irq 3\"]\nlines = [3]";

@@ -78,11 +78,17 @@ fn instruction(dice: &mut Dice) -> u32 {
     let rs = 6 + dice.below(12);
     let at = 4 * dice.below(512);
     match dice.below(6) {
+        // addi rd, rs, at
         0 => add_immediate(rd, rs, at),
+        // xor rd, rd, rs
         1 => (rs << 20) | (rd << 15) | 0x4000 | (rd << 7) | 0x33,
+        // lw rd, at(x5)
         2 => (at << 20) | (5 << 15) | 0x2000 | (rd << 7) | 0x03,
+        // sw rs, at(x5)
         3 => ((at >> 5) << 25) | (rs << 20) | (5 << 15) | 0x2000 | ((at & 31) << 7) | 0x23,
+        // csrrs rd, cycle (or time, or instret), x0
         4 => ((0xc00 + dice.below(3)) << 20) | 0x2000 | (rd << 7) | 0x73,
+        // beq (or bne) rd, rs, .+8
         _ => (rs << 20) | (rd << 15) | (dice.below(2) << 12) | 0x400 | 0x63,
     }
 }
@@ -95,10 +101,12 @@ fn push_call(alloc: Global, code: &mut String, dice: &mut Dice) -> Result<(), Fa
         2 => 15,
         any => 1 + any % 13,
     };
+    // addi x10, x0, the first argument; of SPAWN lui x10, 0x10
     let first = match number {
         12 => load_upper(10, 0x10),
         _ => add_immediate(10, 0, dice.below(8)),
     };
+    // addi x11, x0, the second argument; of TABLE and MAP lui x11, the upper bits of an address
     let second = match number {
         3 => load_upper(11, 0x400 * dice.below(4)),
         4 => load_upper(11, 0x400 * dice.below(3) + 0x20 + dice.below(4)),
@@ -106,6 +114,7 @@ fn push_call(alloc: Global, code: &mut String, dice: &mut Dice) -> Result<(), Fa
     };
     push(alloc, code, first)?;
     push(alloc, code, second)?;
+    // addi x12, x0, the rights; addi x17, x0, number; ecall
     push(alloc, code, add_immediate(12, 0, 1 + 2 * dice.below(4)))?;
     push(alloc, code, add_immediate(17, 0, number))?;
     push(alloc, code, 0x73)
@@ -114,6 +123,7 @@ fn push_call(alloc: Global, code: &mut String, dice: &mut Dice) -> Result<(), Fa
 // A program that goes round for ever, unless a call or an exception ends it.
 fn program(alloc: Global, dice: &mut Dice) -> Result<String, Fail> {
     let mut code = String::new(alloc);
+    // lui x5, 0x20
     push(alloc, &mut code, load_upper(5, 0x20))?;
     for item in 0..40 {
         match dice.below(3) {
@@ -121,6 +131,7 @@ fn program(alloc: Global, dice: &mut Dice) -> Result<String, Fail> {
             _ => push(alloc, &mut code, instruction(dice))?,
         }
     }
+    // lui x18, 0x10; jalr x0, 0(x18)
     push(alloc, &mut code, load_upper(18, 0x10))?;
     push(alloc, &mut code, (18 << 15) | 0x67)?;
     Ok(code)

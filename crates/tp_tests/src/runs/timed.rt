@@ -20,6 +20,22 @@ mem 84311de1
 // makes no call; it stores to its own code; it jumps to an address that is no multiple
 // of 4; a branch not taken to such an address, and a write of a counter; it prints,
 // and reads no clock.
+//
+//     csrrs x5, cycle, x0
+//     addi x10, x0, 0x41; addi x17, x0, 1; ecall
+//     csrrs x6, cycle, x0
+//     addi x17, x0, 0; ecall
+//
+//     jal x0, 0
+//
+//     lui x5, 0x10; sw x0, 8(x5)
+//
+//     jalr x0, 2(x0)
+//
+//     bne x0, x0, .+2; csrrw x0, cycle, x0
+//
+//     addi x10, x0, 0x41; addi x17, x0, 1; ecall
+//     addi x17, x0, 0; ecall
 const ROWS: &str =
     "f32200c0130510049308100073000000732300c09308000073000000;retired 5|readings 2 last 6621 list 6150 6621|switch 0 used 820 pad 6150 count 1|switch 1 used 755 pad 6150 count 1
 6f000000;retired 3286|switch 0 used 734 pad 6150 count 1
@@ -44,6 +60,10 @@ fn costs_are_told_by_switches_and_readings(rt: HostRuntime) -> Result<(), Fail> 
 
 // It stores to 32 lines and exits: each dirty line is written back in the pad, and blue sees
 // nothing of it.
+//
+//     lui x5, 0x20; addi x6, x0, 32
+//     sw x6, 0(x5); addi x5, x5, 64; addi x6, x6, -1; bne x6, x0, .-12
+//     addi x17, x0, 0; ecall
 const DIRTIES: &str = "b70202001303000223a06200938202041303f3ffe31a03fe9308000073000000";
 
 #[test]
@@ -57,6 +77,10 @@ fn dirty_lines_are_written_back_in_the_pad(rt: HostRuntime) -> Result<(), Fail> 
 
 // Two ALLOCs: the second begins in its slot's last cycle, with every line of the first-level
 // data cache dirty, and the next slot begins at its start all the same.
+//
+//     addi x17, x0, 2; ecall
+//     addi x10, x0, 1; ecall
+//     jal x0, 0
 const ALLOCATES: &str = "930820007300000013051000730000006f000000";
 
 #[test]
