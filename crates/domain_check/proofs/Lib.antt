@@ -1,5 +1,6 @@
 pub mod CapTexts
 pub mod Numbers
+pub mod Parts
 pub mod Slots
 pub mod OwnInterrupts
 pub mod Shares

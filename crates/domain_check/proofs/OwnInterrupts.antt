@@ -9,6 +9,9 @@ use Rattle.std.proofs.lemmas.Option.{slice_get_within, get_or_from_slice_get, sl
 use Rattle.irq_partition.specs.declared.Moment.{Moment}
 use Rattle.irq_partition.specs.Interrupts.{IsBefore, AreMoments}
 use Rattle.image_text.specs.declared.refusal.Refusal.{Refusal}
+use Rattle.image_text.specs.declared.raw.Raw as declared
+use Rattle.image_text.specs.Reads.{raw_model}
+use Rattle.image_text.specs.Models.{domain_model}
 use Rattle.image_text.specs.Record.{Raw, RawDomain, RawMoment, raw_domain, no_raw_domain}
 use Rattle.frame_colours.specs.Colours.{has}
 use Rattle.hardware_check.specs.Cases.{first_in, refusal, outside}
@@ -16,7 +19,7 @@ use Rattle.hardware_check.specs.Hardware.{natural_of}
 use Rattle.hardware_check.proofs.FirstCases.{or_first, if_first, if_rest, first_in_none}
 use Rattle.hardware_check.proofs.Parts.{inside}
 use Rattle.domain_check.specs.Colours.{names}
-use Rattle.domain_check.specs.Interrupts.{lined_so, named_before, same_line, k14, k14_domain, k14_line, is_above, order_case, k15, k15_domain, k15_moment, moment_of}
+use Rattle.domain_check.specs.Interrupts.{lined_so, named_before, same_line, k14, k14_domain, k14_line, is_above, order_case, k15, k15_domain, k15_moment, moment_of, AreSmall}
 use Rattle.domain_check.proofs.Numbers.{the_integer, found, stands, names_at, has_natural}
 use Rattle.domain_check.proofs.Slots.{passed as passes_test}
 
@@ -50,6 +53,28 @@ line_passed domains earlier x n =
       within = if_first (outside (pos 0) (pos 31) x) out again n;
       new = not_named (length domains) x before (if_rest (outside (pos 0) (pos 31) x) out again n);
     }
+
+pub line_most : (x : ℤ) → outside (pos 0) (pos 31) x ≡ false → natural_of x ≤ 31
+line_most x h = (inside 0 31 x h).most
+
+-- the lines of a domain fit those of the code
+pub small_lines : (i : Raw) → k14 i ≡ None → (d : ℕ) → d < length i.domains → AreSmall (raw_domain i.domains d).lines
+small_lines i n d l = record {
+  small = λ k x m. let most = line_most (get_or own k x) (line_passed (take d i.domains) (take k own) (get_or own k x) (line_case i n d l k m x)).within in
+      omega (arith, most);
+}
+  where
+    own : List ℤ
+    own = (raw_domain i.domains d).lines
+
+pub small_lines_in : (raw : declared.Raw) → k14 (raw_model raw) ≡ None → All (λ o. AreSmall (domain_model o).lines) raw.domains.items
+small_lines_in raw n = λ d o l.
+    let small = small_lines (raw_model raw) n d (omega (arith, length-map raw.domains.items domain_model, l)) in
+    subst (λ (p : RawDomain). AreSmall p.lines) (get_or-map domain_model raw.domains.items d o no_raw_domain l) small
+
+-- one that is named is among them
+pub named_small : (lines : List ℤ) (x : ℤ) → AreSmall lines → names lines x ≡ true → natural_of x < 2 ^ 8
+named_small lines x all h = let s = stands lines x h in subst (λ (y : ℤ). natural_of y < 2 ^ 8) s.same (all.small s.place (pos 0) s.within)
 
 earlier_apart : (i : Raw) → k14 i ≡ None → (d : ℕ) → d < length i.domains → (e : ℕ) → e < d → (k : ℕ) → k < length (raw_domain i.domains d).lines
     → names (raw_domain i.domains e).lines (get_or (raw_domain i.domains d).lines k (pos 0)) ≡ false
@@ -123,15 +148,6 @@ line_within o irqs x h = let s = stands o.lines x h in subst (λ (y : ℤ). is_l
 
 pub named_line : (o : RawDomain) → HasInterrupts o → (n : ℕ) → names o.lines (pos n) ≡ true → n < 32
 named_line o irqs n h = let most = (inside 0 31 (pos n) (line_within o irqs (pos n) h)).most in omega (arith, most)
-
-pub small_lines : (o : RawDomain) → HasInterrupts o → All (λ x. natural_of x < 2 ^ 8) o.lines
-small_lines o irqs = λ k x l. let most = (inside 0 31 (get_or o.lines k x) (irqs.within k l x)).most in omega (arith, most)
-
-pub small_moments : (o : RawDomain) → HasInterrupts o → All (λ m. natural_of m.line < 2 ^ 8) o.moments
-small_moments o irqs = λ k m l.
-    let line = (get_or o.moments k m).line in
-    let most = (inside 0 31 line (line_within o irqs line (irqs.passed k l m).line)).most in
-    omega (arith, most)
 
 -- ---- what is the domain's own
 

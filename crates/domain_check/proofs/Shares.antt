@@ -2,7 +2,7 @@
 use Rattle.std.proofs.Common.{◌≡◌, ℕ, ◌-◌, ◌<◌, ◌≤◌, Bool, true, false, ◌||◌, List, length, map, take, get_or, length-take, Option, None, Some, refl, sym, ap, subst, ◌∙◌, arith, true≢false}
 use Rattle.std.specs.Prelude.{ℤ, pos, negsuc}
 use Rattle.std.specs.List.{All}
-use Rattle.std.proofs.lemmas.List.{length-map, get_or-map, get_or-take}
+use Rattle.std.proofs.lemmas.List.{get_or-map, get_or-take}
 use Rattle.frame_colours.specs.Colours.{has}
 use Rattle.image_text.specs.declared.raw.Raw.{Raw}
 use Rattle.image_text.specs.Reads.{raw_model}
@@ -11,9 +11,8 @@ use Rattle.image_text.specs.Record as text
 use Rattle.image_text.specs.Record.{raw_domain, no_raw_domain}
 use Rattle.hardware_check.specs.Cases.{first_in, refusal, outside}
 use Rattle.hardware_check.specs.Hardware.{natural_of, colours_of, hardware_of}
-use Rattle.hardware_check.specs.Laws.{KeepsParts}
 use Rattle.hardware_check.proofs.FirstCases.{if_first, first_in_none}
-use Rattle.hardware_check.proofs.Parts.{Within, inside, colours_sound}
+use Rattle.hardware_check.proofs.Parts.{Within, inside}
 use Rattle.domain_check.specs.Colours.{names, k8, k8_colour, k8_domain, k9, k9_domain, k9_colour, coloured_so, same_colour, IsSmallDomain}
 use Rattle.domain_check.proofs.Numbers.{found, names_at}
 
@@ -41,16 +40,13 @@ named i n d l k m x =
 
 -- ---- the numbers fit those of the code
 
-pub small_domain : (i : text.Raw) → KeepsParts i → k8 i ≡ None → text.InKeyRanges i → (d : ℕ) → d < length i.domains → IsSmallDomain (raw_domain i.domains d)
-small_domain i k n ranges d l = record {
-  colours = λ j x m. let most = (named i n d l j m x).most in let few = (colours_sound i k.colours).most in omega (arith, most, few);
-  segments = ranges.few_segments d;
-}
+pub colour_most : (c : ℕ) (x : ℤ) → outside (pos 1) (pos (c - 1)) x ≡ false → natural_of x ≤ c - 1
+colour_most c x h = (inside 1 (c - 1) x h).most
 
-pub small_domains : (raw : Raw) → KeepsParts (raw_model raw) → k8 (raw_model raw) ≡ None → All (λ o. IsSmallDomain (domain_model o)) raw.domains.items
-small_domains raw k n = λ d o l.
-    let m = small_domain (raw_model raw) k n raw.in_ranges d (omega (arith, length-map raw.domains.items domain_model, l)) in
-    subst IsSmallDomain (get_or-map domain_model raw.domains.items d o no_raw_domain l) m
+pub small_domains : (raw : Raw) → All (λ o. IsSmallDomain (domain_model o)) raw.domains.items
+small_domains raw = λ d o l.
+    let few : IsSmallDomain (raw_domain (raw_model raw).domains d) = record { segments = raw.in_ranges.few_segments d } in
+    subst IsSmallDomain (get_or-map domain_model raw.domains.items d o no_raw_domain l) few
 
 -- ---- K9: no colour of an earlier domain
 

@@ -1,6 +1,6 @@
 -- The rules of colours and frames, each with its first broken case.
-use Rattle.std.specs.Prelude.{ℕ, ◌+◌, ◌-◌, ◌<◌, ◌≤◌, ◌^◌, ◌||◌, not, nat_lt, ℤ, pos, int_lt, Bool, if◌then◌else◌, List, length, map, Option, Some, None}
-use Rattle.std.specs.List.{list_any, All}
+use Rattle.std.specs.Prelude.{ℕ, ◌+◌, ◌-◌, ◌≤◌, ◌||◌, not, nat_lt, ℤ, pos, int_lt, Bool, if◌then◌else◌, List, length, map, Option, Some, None}
+use Rattle.std.specs.List.{list_any}
 use Rattle.frame_colours.specs.Colours.{Whole, whole_of, share_of, pool}
 use Rattle.image_text.specs.declared.refusal.Refusal.{Refusal}
 use Rattle.image_text.specs.Record.{Raw, RawDomain}
@@ -27,6 +27,10 @@ k8_domain colours earlier o = first_in (k8_colour colours (length earlier)) o.co
 
 unfoldable pub k8 : Raw → Option Refusal
 k8 i = first_in (k8_domain (colours_of (hardware_of i))) i.domains
+
+-- of a domain, in natural numbers
+abbrev pub own_colours : RawDomain → List ℕ
+own_colours o = map natural_of o.colours
 
 -- ---- K9: no colour of an earlier domain
 
@@ -57,13 +61,12 @@ need_of ss = 5 + regions_below ss 1025 + pages_in ss
 abbrev pub need_case : ℕ → ℕ → ℕ → Option Refusal
 need_case d frames need = if nat_lt frames need then Some (refusal 10 (pos d) (pos frames) (pos need)) else None
 
--- its numbers and lists fit those of the code
+-- its lists fit those of the code
 pub record IsSmallDomain (o : RawDomain) : Type 0 where
-  pub colours : All (λ x. natural_of x < 2 ^ 8) o.colours
   pub segments : length o.segments ≤ 16
 
 unfoldable pub k10_case : Whole → ℕ → RawDomain → Option Refusal
-k10_case whole d o = need_case d (length (pool (share_of whole (map natural_of o.colours)))) (need_of (map segment_of o.segments))
+k10_case whole d o = need_case d (length (pool (share_of whole (own_colours o)))) (need_of (map segment_of o.segments))
 
 abbrev pub k10_domain : Whole → List RawDomain → RawDomain → Option Refusal
 k10_domain whole earlier o = k10_case whole (length earlier) o

@@ -1,6 +1,7 @@
 -- The rules of interrupts. K14: each line is one of 32, and named once among all domains. K15: the moments of a domain are
 -- on lines of its own, and ascend.
-use Rattle.std.specs.Prelude.{ℕ, ◌-◌, ◌&&◌, ◌||◌, not, nat_lt, ℤ, pos, int_lt, Bool, if◌then◌else◌, List, length, slice_get, Option, Some, None}
+use Rattle.std.specs.Prelude.{ℕ, ◌-◌, ◌<◌, ◌^◌, ◌&&◌, ◌||◌, not, nat_lt, ℤ, pos, int_lt, Bool, if◌then◌else◌, List, length, map, slice_get, Option, Some, None}
+use Rattle.std.specs.List.{All}
 use Rattle.image_text.specs.declared.refusal.Refusal.{Refusal}
 use Rattle.image_text.specs.Record.{Raw, RawDomain, RawMoment}
 use Rattle.irq_partition.specs.declared.Moment.{Moment}
@@ -32,6 +33,14 @@ k14_domain earlier o = first_in (k14_line earlier) o.lines
 
 unfoldable pub k14 : Raw → Option Refusal
 k14 i = first_in k14_domain i.domains
+
+-- of a domain, in natural numbers
+abbrev pub own_lines : RawDomain → List ℕ
+own_lines o = map natural_of o.lines
+
+-- they fit those of the code
+pub record AreSmall (lines : List ℤ) : Type 0 where
+  pub small : All (λ x. natural_of x < 2 ^ 8) lines
 
 -- ---- K15: at most 1,024 moments, each of a line of the domain and above the one before
 
@@ -68,3 +77,7 @@ k15 i = first_in k15_domain i.domains
 
 unfoldable pub moment_of : RawMoment → Moment
 moment_of m = record { at = natural_of m.at; line = natural_of m.line }
+
+-- of a domain
+abbrev pub own_moments : RawDomain → List Moment
+own_moments o = map moment_of o.moments

@@ -1,6 +1,6 @@
 // The rules of colours and of the frames that have them, each with its first
 // broken case.
-ghost use Rattle.std.specs.Prelude.{◌≡◌, ◌<◌, ◌≤◌, ◌^◌, map, length, None, IfSome};
+ghost use Rattle.std.specs.Prelude.{◌≡◌, ◌<◌, ◌≤◌, ◌^◌, map, length, None, IfSome, IfOk};
 ghost use Rattle.std.specs.List.{All};
 ghost use Rattle.frame_colours.specs.Colours.{whole_of};
 ghost use Rattle.image_text.specs.Reads.{raw_model};
@@ -9,9 +9,8 @@ ghost use Rattle.hardware_check.specs.Cases.{first_in};
 ghost use Rattle.hardware_check.specs.Hardware.{natural_of as spec_natural_of};
 ghost use Rattle.hardware_check.specs.Laws.{KeepsParts};
 ghost use Rattle.hardware_check.specs.Outcomes.{IsVerdict, IsVerdictOrMemory};
-ghost use Rattle.hardware_check.specs.Rules.{k3 as spec_k3};
+ghost use Rattle.hardware_check.specs.Rules.{k3 as spec_k3, k5 as spec_k5};
 ghost use Rattle.domain_check.specs.Colours as spec;
-ghost use Rattle.domain_check.specs.Outcomes.{Makes};
 
 use crate::regions::need_of;
 use frame_colours::pool_length;
@@ -32,10 +31,12 @@ pub fn names(numbers: &[i64], number: i64) -> bool
     false
 }
 
-#[tactic(auto, unfolding(crate::specs::Colours::k8_colour))]
-fn k8_colour(colours: u32, d: usize, earlier: &[i64], colour: i64) -> Result<(), Refusal>
+#[tactic(auto, unfolding(crate::specs::Colours::k8_colour), using(crate::proofs::Shares::colour_most))]
+fn k8_colour(colours: u32, d: usize, earlier: &[i64], colour: i64) -> Result<u8, Refusal>
+    requires few { colours ≤ 64 }
     requires domain { d < 2 ^ 63 }
     ensures verdict { IsVerdict result (spec.k8_colour colours d earlier.now colour) }
+    ensures value { IfOk result (λ c. c ≡ spec_natural_of colour) }
 {
     if outside(1, i64::from(colours.saturating_sub(1)), colour) {
         return Err(refusal(8, d as i64, colour, i64::from(colours)));
@@ -43,40 +44,55 @@ fn k8_colour(colours: u32, d: usize, earlier: &[i64], colour: i64) -> Result<(),
     if names(earlier, colour) {
         return Err(refusal(8, d as i64, colour, i64::from(colours)));
     }
-    Ok(())
+    Ok(natural_of(colour) as u8)
 }
 
-fn k8_colours(colours: u32, d: usize, own: &[i64]) -> Result<(), Refusal>
+fn k8_colours(alloc: Global, colours: u32, d: usize, own: &[i64]) -> Result<Vec<u8>, ReadRefusal>
+    requires few { colours ≤ 64 }
     requires domain { d < 2 ^ 63 }
-    ensures verdict { IsVerdict result (first_in (spec.k8_colour colours d) own.now) }
+    ensures verdict { IsVerdictOrMemory result (first_in (spec.k8_colour colours d) own.now) }
+    ensures value { IfOk result (λ v. v.items ≡ map spec_natural_of own.now) }
 {
+    let mut found = Vec::new(alloc);
     for (place, colour) in own.iter().enumerate() {
-        k8_colour(colours, d, &own[..place], *colour)?;
+        found.push(k8_colour(colours, d, &own[..place], *colour)?)?;
     }
-    Ok(())
+    Ok(found)
 }
 
-fn k8_domains(colours: u32, domains: &[RawDomain]) -> Result<(), Refusal>
-    ensures verdict { IsVerdict result (first_in (spec.k8_domain colours) (map domain_model domains.now)) }
+fn k8_domains(
+    alloc: Global,
+    colours: u32,
+    domains: &[RawDomain],
+) -> Result<Vec<Vec<u8>>, ReadRefusal>
+    requires few { colours ≤ 64 }
+    ensures verdict { IsVerdictOrMemory result
+        (first_in (spec.k8_domain colours) (map domain_model domains.now)) }
+    ensures value { IfOk result (λ v. map (λ c. c.items) v.items
+        ≡ map spec.own_colours (map domain_model domains.now)) }
 {
+    let mut found = Vec::new(alloc);
     for (d, domain) in domains.iter().enumerate() {
-        k8_colours(colours, d, domain.colours.as_slice())?;
+        found.push(k8_colours(alloc, colours, d, domain.colours.as_slice())?)?;
     }
-    Ok(())
+    Ok(found)
 }
 
 /// K8: each colour is below their number, none is the kernel's, and a domain
-/// names none twice.
+/// names none twice; so the colours of each domain.
 ///
 /// # Errors
 ///
-/// The first broken case.
+/// `Broken` with the first broken case; `Memory` where memory runs out.
 #[tactic(auto, unfolding(crate::specs::Colours::k8))]
-pub fn k8(raw: &Raw) -> Result<(), Refusal>
+pub fn k8(alloc: Global, raw: &Raw) -> Result<Vec<Vec<u8>>, ReadRefusal>
     requires parts { spec_k3 (raw_model raw.now) ≡ None }
-    ensures verdict { IsVerdict result (spec.k8 (raw_model raw.now)) }
+    requires few { spec_k5 (raw_model raw.now) ≡ None }
+    ensures verdict { IsVerdictOrMemory result (spec.k8 (raw_model raw.now)) }
+    ensures value { IfOk result (λ v. map (λ c. c.items) v.items
+        ≡ map spec.own_colours (raw_model raw.now).domains) }
 {
-    k8_domains(colours_in(raw), raw.domains.as_slice())
+    k8_domains(alloc, colours_in(raw), raw.domains.as_slice())
 }
 
 /// The place of the first domain that has this colour.
@@ -121,80 +137,65 @@ pub fn k9(raw: &Raw) -> Result<(), Refusal>
     Ok(())
 }
 
-/// Numbers below 256, in bytes.
-///
-/// # Errors
-///
-/// `Memory` alone.
-pub fn bytes_of(alloc: Global, numbers: &[i64]) -> Result<Vec<u8>, ReadRefusal>
-    requires small { All (λ x. spec_natural_of x < 2 ^ 8) numbers.now }
-    ensures value { Makes (λ v. v.items) result (map spec_natural_of numbers.now) }
-{
-    let mut bytes = Vec::new(alloc);
-    for number in numbers {
-        bytes.push(natural_of(*number) as u8)?;
-    }
-    Ok(bytes)
-}
-
 #[tactic(auto, unfolding(crate::specs::Colours::k10_case))]
 fn k10_case(
-    alloc: Global,
     frames: u32,
     colours: u32,
     d: usize,
+    own: &[u8],
     domain: &RawDomain,
-) -> Result<(), ReadRefusal>
+) -> Result<(), Refusal>
     requires some { 0 < colours }
     requires few { colours ≤ 64 }
     requires domain { d < 2 ^ 63 }
     requires small { spec.IsSmallDomain (domain_model domain.now) }
-    ensures verdict { IsVerdictOrMemory result
+    requires own { own.now ≡ spec.own_colours (domain_model domain.now) }
+    ensures verdict { IsVerdict result
         (spec.k10_case (whole_of frames colours) d (domain_model domain.now)) }
 {
-    let own = bytes_of(alloc, domain.colours.as_slice())?;
-    let pool = pool_length(frames, colours, &own);
+    let pool = pool_length(frames, colours, own);
     let need = need_of(domain.segments.as_slice());
     if u64::from(pool) < need {
-        return Err(ReadRefusal::Broken(refusal(10, d as i64, i64::from(pool), need as i64)));
+        return Err(refusal(10, d as i64, i64::from(pool), need as i64));
     }
     Ok(())
 }
 
 fn k10_domains(
-    alloc: Global,
     frames: u32,
     colours: u32,
+    owns: &[Vec<u8>],
     domains: &[RawDomain],
-) -> Result<(), ReadRefusal>
+) -> Result<(), Refusal>
     requires some { 0 < colours }
     requires few { colours ≤ 64 }
     requires small { All (λ o. spec.IsSmallDomain (domain_model o)) domains.now }
-    ensures verdict { IsVerdictOrMemory result
+    requires owns { map (λ c. c.items) owns.now ≡ map spec.own_colours (map domain_model domains.now) }
+    ensures verdict { IsVerdict result
         (first_in (spec.k10_domain (whole_of frames colours)) (map domain_model domains.now)) }
 {
     for (d, domain) in domains.iter().enumerate() {
-        k10_case(alloc, frames, colours, d, domain)?;
+        k10_case(frames, colours, d, owns[d].as_slice(), domain)?;
     }
     Ok(())
 }
 
-/// K10: a domain's colours have frames for its pages, its page tables and its
-/// clone of the kernel.
+/// K10: a domain's colours, as K8 hands them out, have frames for its pages, its
+/// page tables and its clone of the kernel.
 ///
 /// # Errors
 ///
-/// `Broken` with the first broken case; `Memory` where memory runs out.
+/// The first broken case.
 #[tactic(auto, unfolding(crate::specs::Colours::k10))]
-pub fn k10(alloc: Global, raw: &Raw) -> Result<(), ReadRefusal>
+pub fn k10(raw: &Raw, owns: &[Vec<u8>]) -> Result<(), Refusal>
     requires parts { KeepsParts (raw_model raw.now) }
-    requires colours { spec.k8 (raw_model raw.now) ≡ None }
-    ensures verdict { IsVerdictOrMemory result (spec.k10 (raw_model raw.now)) }
+    requires colours { map (λ c. c.items) owns.now ≡ map spec.own_colours (raw_model raw.now).domains }
+    ensures verdict { IsVerdict result (spec.k10 (raw_model raw.now)) }
 {
     k10_domains(
-        alloc,
         frames_in(raw),
         colours_in(raw),
+        owns,
         raw.domains.as_slice(),
     )
 }

@@ -1,12 +1,10 @@
 // The rules of interrupts: K14 of lines, K15 of moments.
-ghost use Rattle.std.specs.Prelude.{◌≡◌, ◌-◌, ◌<◌, ◌^◌, map, length, slice_get, IfSome};
-ghost use Rattle.std.specs.List.{All};
+ghost use Rattle.std.specs.Prelude.{◌≡◌, ◌-◌, ◌<◌, ◌^◌, map, length, slice_get, None, IfSome, IfOk};
 ghost use Rattle.image_text.specs.Reads.{raw_model};
 ghost use Rattle.image_text.specs.Models.{domain_model, moment_model};
 ghost use Rattle.hardware_check.specs.Cases.{first_in};
 ghost use Rattle.hardware_check.specs.Hardware.{natural_of as spec_natural_of};
-ghost use Rattle.hardware_check.specs.Outcomes.{IsVerdict};
-ghost use Rattle.domain_check.specs.Outcomes.{Makes};
+ghost use Rattle.hardware_check.specs.Outcomes.{IsVerdict, IsVerdictOrMemory};
 ghost use Rattle.domain_check.specs.Interrupts as spec;
 
 use crate::colours::names;
@@ -50,10 +48,11 @@ fn named_before(domains: &[RawDomain], earlier: &[i64], line: i64) -> Option<usi
     None
 }
 
-#[tactic(auto, unfolding(crate::specs::Interrupts::k14_line))]
-fn k14_line(domains: &[RawDomain], earlier: &[i64], line: i64) -> Result<(), Refusal>
+#[tactic(auto, unfolding(crate::specs::Interrupts::k14_line), using(crate::proofs::OwnInterrupts::line_most))]
+fn k14_line(domains: &[RawDomain], earlier: &[i64], line: i64) -> Result<u8, Refusal>
     requires domain { length domains.now < 2 ^ 63 }
     ensures verdict { IsVerdict result (spec.k14_line (map domain_model domains.now) earlier.now line) }
+    ensures value { IfOk result (λ n. n ≡ spec_natural_of line) }
 {
     let d = domains.len() as i64;
     if outside(0, 31, line) {
@@ -61,35 +60,41 @@ fn k14_line(domains: &[RawDomain], earlier: &[i64], line: i64) -> Result<(), Ref
     }
     match named_before(domains, earlier, line) {
         Some(e) => Err(refusal(14, d, line, e as i64)),
-        None => Ok(()),
+        None => Ok(natural_of(line) as u8),
     }
 }
 
-fn k14_lines(domains: &[RawDomain], lines: &[i64]) -> Result<(), Refusal>
+fn k14_lines(alloc: Global, domains: &[RawDomain], lines: &[i64]) -> Result<Vec<u8>, ReadRefusal>
     requires domain { length domains.now < 2 ^ 63 }
-    ensures verdict { IsVerdict result (first_in (spec.k14_line (map domain_model domains.now)) lines.now) }
+    ensures verdict { IsVerdictOrMemory result
+        (first_in (spec.k14_line (map domain_model domains.now)) lines.now) }
+    ensures value { IfOk result (λ v. v.items ≡ map spec_natural_of lines.now) }
 {
+    let mut found = Vec::new(alloc);
     for (place, line) in lines.iter().enumerate() {
-        k14_line(domains, &lines[..place], *line)?;
+        found.push(k14_line(domains, &lines[..place], *line)?)?;
     }
-    Ok(())
+    Ok(found)
 }
 
 /// K14: each line is one of 32, and no line is named twice, by one domain or by
-/// two.
+/// two; so the lines of each domain.
 ///
 /// # Errors
 ///
-/// The first broken case.
+/// `Broken` with the first broken case; `Memory` where memory runs out.
 #[tactic(auto, unfolding(crate::specs::Interrupts::k14))]
-pub fn k14(raw: &Raw) -> Result<(), Refusal>
-    ensures verdict { IsVerdict result (spec.k14 (raw_model raw.now)) }
+pub fn k14(alloc: Global, raw: &Raw) -> Result<Vec<Vec<u8>>, ReadRefusal>
+    ensures verdict { IsVerdictOrMemory result (spec.k14 (raw_model raw.now)) }
+    ensures value { IfOk result (λ v. map (λ l. l.items) v.items
+        ≡ map spec.own_lines (raw_model raw.now).domains) }
 {
+    let mut lines = Vec::new(alloc);
     let domains = raw.domains.as_slice();
     for (d, domain) in domains.iter().enumerate() {
-        k14_lines(&domains[..d], domain.lines.as_slice())?;
+        lines.push(k14_lines(alloc, &domains[..d], domain.lines.as_slice())?)?;
     }
-    Ok(())
+    Ok(lines)
 }
 
 /// Whether a moment is later than another, or at its cycle of a greater line.
@@ -115,62 +120,6 @@ fn order_case(d: usize, earlier: &[RawMoment], moment: &RawMoment) -> Result<(),
     Ok(())
 }
 
-#[tactic(auto, unfolding(crate::specs::Interrupts::k15_moment))]
-fn k15_moment(
-    lines: &[i64],
-    d: usize,
-    earlier: &[RawMoment],
-    moment: &RawMoment,
-) -> Result<(), Refusal>
-    requires domain { d < 2 ^ 63 }
-    requires place { length earlier.now < 2 ^ 63 }
-    ensures verdict { IsVerdict result (spec.k15_moment lines.now d (map moment_model earlier.now)
-        (moment_model moment.now)) }
-{
-    let place = earlier.len() as i64;
-    if outside(0, LAST_CYCLE, moment.at) {
-        return Err(refusal(15, d as i64, place, 2));
-    }
-    if !names(lines, moment.line) {
-        return Err(refusal(15, d as i64, place, 3));
-    }
-    order_case(d, earlier, moment)
-}
-
-#[tactic(auto, unfolding(crate::specs::Interrupts::k15_domain))]
-fn k15_domain(earlier: &[RawDomain], domain: &RawDomain) -> Result<(), Refusal>
-    requires domain { length earlier.now < 2 ^ 63 }
-    ensures verdict { IsVerdict result
-        (spec.k15_domain (map domain_model earlier.now) (domain_model domain.now)) }
-{
-    let moments = domain.moments.as_slice();
-    let d = earlier.len();
-    if moments.len() > MOST_MOMENTS {
-        return Err(refusal(15, d as i64, moments.len() as i64, 1));
-    }
-    for (place, moment) in moments.iter().enumerate() {
-        k15_moment(domain.lines.as_slice(), d, &moments[..place], moment)?;
-    }
-    Ok(())
-}
-
-/// K15: at most 1,024 moments, each from cycle 0 to 1,000,000,000,000, of a line
-/// of its domain, and above the one before.
-///
-/// # Errors
-///
-/// The first broken case.
-#[tactic(auto, unfolding(crate::specs::Interrupts::k15))]
-pub fn k15(raw: &Raw) -> Result<(), Refusal>
-    ensures verdict { IsVerdict result (spec.k15 (raw_model raw.now)) }
-{
-    let domains = raw.domains.as_slice();
-    for (d, domain) in domains.iter().enumerate() {
-        k15_domain(&domains[..d], domain)?;
-    }
-    Ok(())
-}
-
 #[tactic(auto, unfolding(crate::specs::Interrupts::moment_of))]
 fn moment_of(moment: &RawMoment) -> Moment
     requires small { spec_natural_of moment.now.line < 2 ^ 8 }
@@ -182,18 +131,72 @@ fn moment_of(moment: &RawMoment) -> Moment
     }
 }
 
-/// The moments that the record says.
+#[tactic(auto, unfolding(crate::specs::Interrupts::k15_moment), using(crate::proofs::OwnInterrupts::named_small))]
+fn k15_moment(
+    lines: &[i64],
+    d: usize,
+    earlier: &[RawMoment],
+    moment: &RawMoment,
+) -> Result<Moment, Refusal>
+    requires domain { d < 2 ^ 63 }
+    requires place { length earlier.now < 2 ^ 63 }
+    requires lines { spec.AreSmall lines.now }
+    ensures verdict { IsVerdict result (spec.k15_moment lines.now d (map moment_model earlier.now)
+        (moment_model moment.now)) }
+    ensures value { IfOk result (λ m. m ≡ spec.moment_of (moment_model moment.now)) }
+{
+    let place = earlier.len() as i64;
+    if outside(0, LAST_CYCLE, moment.at) {
+        return Err(refusal(15, d as i64, place, 2));
+    }
+    if !names(lines, moment.line) {
+        return Err(refusal(15, d as i64, place, 3));
+    }
+    order_case(d, earlier, moment)?;
+    Ok(moment_of(moment))
+}
+
+#[tactic(auto, unfolding(crate::specs::Interrupts::k15_domain))]
+fn k15_domain(
+    alloc: Global,
+    earlier: &[RawDomain],
+    domain: &RawDomain,
+) -> Result<Vec<Moment>, ReadRefusal>
+    requires domain { length earlier.now < 2 ^ 63 }
+    requires lines { spec.AreSmall (domain_model domain.now).lines }
+    ensures verdict { IsVerdictOrMemory result
+        (spec.k15_domain (map domain_model earlier.now) (domain_model domain.now)) }
+    ensures value { IfOk result (λ v. v.items ≡ spec.own_moments (domain_model domain.now)) }
+{
+    let moments = domain.moments.as_slice();
+    let d = earlier.len();
+    if moments.len() > MOST_MOMENTS {
+        return Err(ReadRefusal::Broken(refusal(15, d as i64, moments.len() as i64, 1)));
+    }
+    let mut found = Vec::new(alloc);
+    for (place, moment) in moments.iter().enumerate() {
+        found.push(k15_moment(domain.lines.as_slice(), d, &moments[..place], moment)?)?;
+    }
+    Ok(found)
+}
+
+/// K15: at most 1,024 moments, each from cycle 0 to 1,000,000,000,000, of a line
+/// of its domain, and above the one before; so the moments of each domain.
 ///
 /// # Errors
 ///
-/// `Memory` alone.
-pub fn moments_of(alloc: Global, texts: &[RawMoment]) -> Result<Vec<Moment>, ReadRefusal>
-    requires small { All (λ m. spec_natural_of m.line < 2 ^ 8) texts.now }
-    ensures value { Makes (λ v. v.items) result (map spec.moment_of (map moment_model texts.now)) }
+/// `Broken` with the first broken case; `Memory` where memory runs out.
+#[tactic(auto, unfolding(crate::specs::Interrupts::k15))]
+pub fn k15(alloc: Global, raw: &Raw) -> Result<Vec<Vec<Moment>>, ReadRefusal>
+    requires lines { spec.k14 (raw_model raw.now) ≡ None }
+    ensures verdict { IsVerdictOrMemory result (spec.k15 (raw_model raw.now)) }
+    ensures value { IfOk result (λ v. map (λ m. m.items) v.items
+        ≡ map spec.own_moments (raw_model raw.now).domains) }
 {
     let mut moments = Vec::new(alloc);
-    for text in texts {
-        moments.push(moment_of(text))?;
+    let domains = raw.domains.as_slice();
+    for (d, domain) in domains.iter().enumerate() {
+        moments.push(k15_domain(alloc, &domains[..d], domain)?)?;
     }
     Ok(moments)
 }

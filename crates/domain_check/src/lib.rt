@@ -12,7 +12,7 @@ mod regions;
 mod segments;
 
 pub use capabilities::{InitialCap, Named, caps_from, k13};
-pub use colours::{bytes_of, k8, k9, k10};
-pub use interrupts::{k14, k15, moments_of};
+pub use colours::{k8, k9, k10};
+pub use interrupts::{k14, k15};
 pub use names::k7;
 pub use segments::{Rights, Segment, k12};

@@ -1,7 +1,6 @@
 pub mod Kept
 pub mod Entries
 pub mod Padded
-pub mod Parts
 pub mod OwnSlots
 pub mod Owns
 pub mod Shares

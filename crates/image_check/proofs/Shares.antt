@@ -12,36 +12,32 @@ use Rattle.image_text.specs.Record as text
 use Rattle.image_text.specs.Record.{raw_domain, no_raw_domain}
 use Rattle.hardware_check.specs.Cases.{refusal}
 use Rattle.hardware_check.specs.Hardware.{natural_of, colours_of, hardware_of}
-use Rattle.hardware_check.specs.Laws.{KeepsParts}
 use Rattle.hardware_check.proofs.FirstCases.{if_first, first_in_none}
 use Rattle.hardware_check.proofs.Parts.{Within, colours_sound}
 use Rattle.set_cache.proofs.Ways.{not_true}
 use Rattle.domain_check.specs.Colours.{k8, k9, k10, k10_domain, k10_case, need_case, need_of, whole_in}
 use Rattle.domain_check.proofs.Numbers.{found}
 use Rattle.domain_check.proofs.Slots.{slots, small_caps}
-use Rattle.domain_check.proofs.OwnInterrupts.{interrupts, named_line, small_lines, small_moments}
-use Rattle.domain_check.proofs.Shares.{named, two_apart, small_domain}
+use Rattle.domain_check.proofs.OwnInterrupts.{interrupts, named_line}
+use Rattle.domain_check.proofs.Shares.{named, two_apart}
 use Rattle.image_check.specs.Own.{Own, Segment, IsSmallOwn, no_own, own_at, own_from, owns_of, segment_of}
 use Rattle.image_check.specs.Pages.{regions_below, frames_in, share_of}
 use Rattle.image_check.specs.Laws.{KeepsButPads}
 use Rattle.image_check.specs.Checking.{broken_but_pads}
-use Rattle.image_check.proofs.Kept.{kept_but_pads, keeps_parts}
+use Rattle.image_check.proofs.Kept.{kept_but_pads}
 use Rattle.image_check.proofs.Owns.{owns_at, owns_length}
 
 -- ---- the numbers fit those of the code
 
-small_own : (i : text.Raw) → KeepsButPads i → KeepsParts i → text.InKeyRanges i → (d : ℕ) → d < length i.domains → IsSmallOwn (raw_domain i.domains d)
-small_own i rules k ranges d l = record {
-  colours = (small_domain i k rules.named ranges d l).colours;
+small_own : (i : text.Raw) → KeepsButPads i → text.InKeyRanges i → (d : ℕ) → d < length i.domains → IsSmallOwn (raw_domain i.domains d)
+small_own i rules ranges d l = record {
   caps = small_caps (raw_domain i.domains d) (slots i rules.capabilities d l) (ranges.segments d) (named_line (raw_domain i.domains d) (interrupts i rules.lines rules.moments d l));
-  lines = small_lines (raw_domain i.domains d) (interrupts i rules.lines rules.moments d l);
-  moments = small_moments (raw_domain i.domains d) (interrupts i rules.lines rules.moments d l);
 }
 
 pub small_owns : (raw : Raw) → broken_but_pads (raw_model raw) ≡ [] → All (λ o. IsSmallOwn (domain_model o)) raw.domains.items
 small_owns raw n = λ d o l.
     let i = raw_model raw in
-    let m = small_own i (kept_but_pads i n) (keeps_parts i n) raw.in_ranges d (omega (arith, length-map raw.domains.items domain_model, l)) in
+    let m = small_own i (kept_but_pads i n) raw.in_ranges d (omega (arith, length-map raw.domains.items domain_model, l)) in
     subst IsSmallOwn (get_or-map domain_model raw.domains.items d o no_raw_domain l) m
 
 -- ---- K8, K9: the lists are disjoint

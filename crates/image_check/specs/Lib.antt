@@ -9,3 +9,4 @@ pub mod Laws
 pub mod Models
 pub mod Standing
 pub mod Outcomes
+pub mod Parts

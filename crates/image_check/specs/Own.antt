@@ -1,5 +1,5 @@
 -- What is one domain's own in an image.
-use Rattle.std.specs.Prelude.{ℕ, ◌<◌, ◌^◌, Bool, true, false, List, [], map, slice_index_or}
+use Rattle.std.specs.Prelude.{ℕ, Bool, true, false, List, [], map, slice_index_or}
 use Rattle.std.specs.List.{All}
 use Rattle.irq_partition.specs.declared.Moment.{Moment}
 use Rattle.frame_colours.specs.Colours.{has}
@@ -21,12 +21,9 @@ pub record Own : Type 0 where
   pub lines : List ℕ  -- its interrupt lines
   pub moments : List Moment  -- when they interrupt it
 
--- the numbers of what is its own fit those of the code
+-- the numbers of what its slots name fit those of the code
 pub record IsSmallOwn (o : RawDomain) : Type 0 where
-  pub colours : All (λ x. natural_of x < 2 ^ 8) o.colours
   pub caps : All IsSmallCap (map cap_of o.caps)
-  pub lines : All (λ x. natural_of x < 2 ^ 8) o.lines
-  pub moments : All (λ m. natural_of m.line < 2 ^ 8) o.moments
 
 unfoldable pub own_from : RawDomain → Own
 own_from o = record {

@@ -9,10 +9,13 @@ ghost use Rattle.image_check.specs.Own as spec;
 ghost use Rattle.domain_check.specs.Models.{named_model};
 ghost use Rattle.domain_check.specs.Segments.{segments_of};
 ghost use Rattle.domain_check.specs.Capabilities.{caps_of};
+ghost use Rattle.domain_check.specs.Colours.{own_colours};
+ghost use Rattle.domain_check.specs.Interrupts.{own_lines, own_moments};
+ghost use Rattle.image_check.specs.Parts.{ArePartsOf};
 ghost use Rattle.image_check.specs.Models.{segment_model, own_model};
 
 use crate::CheckRefusal;
-use domain_check::{InitialCap, Named, Segment, bytes_of, caps_from, moments_of};
+use domain_check::{InitialCap, Named, Segment, caps_from};
 use image_text::{Raw, RawDomain};
 use irq_partition::Moment;
 use std::alloc::Global;
@@ -34,23 +37,37 @@ pub struct Own {
     pub moments: Vec<Moment>,
 }
 
+/// What the rules let through of the domains: of each, in their order.
+#[derive(Drop)]
+pub struct DomainParts {
+    pub colours: Vec<Vec<u8>>,
+    pub segments: Vec<Vec<Segment>>,
+    /// What the slots name.
+    pub caps: Vec<Vec<Named>>,
+    pub lines: Vec<Vec<u8>>,
+    pub moments: Vec<Vec<Moment>>,
+}
+
 #[tactic(auto, unfolding(crate::specs::Own::own_from))]
 fn own_from(
     alloc: Global,
     domain: &RawDomain,
+    colours: Vec<u8>,
     segments: Vec<Segment>,
-    named: &[Named],
+    named: Vec<Named>,
+    lines: Vec<u8>,
+    moments: Vec<Moment>,
 ) -> Result<Own, CheckRefusal>
     requires small { spec.IsSmallOwn (domain_model domain.now) }
+    requires colours { colours.items ≡ own_colours (domain_model domain.now) }
     requires segments { map segment_model segments.items ≡ segments_of (domain_model domain.now) }
-    requires caps { map named_model named.now ≡ caps_of (domain_model domain.now) }
+    requires caps { map named_model named.items ≡ caps_of (domain_model domain.now) }
+    requires lines { lines.items ≡ own_lines (domain_model domain.now) }
+    requires moments { moments.items ≡ own_moments (domain_model domain.now) }
     ensures value { Makes own_model result (spec.own_from (domain_model domain.now)) }
 {
     let name = String::from_str(alloc, domain.name.as_str())?;
-    let colours = bytes_of(alloc, domain.colours.as_slice())?;
-    let caps = caps_from(alloc, named)?;
-    let lines = bytes_of(alloc, domain.lines.as_slice())?;
-    let moments = moments_of(alloc, domain.moments.as_slice())?;
+    let caps = caps_from(alloc, named.as_slice())?;
     Ok(Own {
         name,
         colours,
@@ -65,44 +82,47 @@ fn own_from(
 fn owns_in(
     alloc: Global,
     domains: &[RawDomain],
-    mut segments: Vec<Vec<Segment>>,
-    caps: &[Vec<Named>],
+    parts: DomainParts,
 ) -> Result<Vec<Own>, CheckRefusal>
     requires small { All (λ o. spec.IsSmallOwn (domain_model o)) domains.now }
-    requires segments { map (λ s. map segment_model s.items) segments.items
-        ≡ map segments_of (map domain_model domains.now) }
-    requires caps { map (λ c. map named_model c.items) caps.now
-        ≡ map caps_of (map domain_model domains.now) }
+    requires parts { ArePartsOf parts (map domain_model domains.now) }
     ensures value { Makes (λ v. map own_model v.items) result
         (map spec.own_from (map domain_model domains.now)) }
 {
+    let DomainParts {
+        mut colours,
+        mut segments,
+        mut caps,
+        mut lines,
+        mut moments,
+    } = parts;
     let mut owns = Vec::new(alloc);
-    for (d, domain) in domains.iter().enumerate() {
-        let own = own_from(alloc, domain, segments.remove(0), caps[d].as_slice())?;
+    for domain in domains {
+        let own = own_from(
+            alloc,
+            domain,
+            colours.remove(0),
+            segments.remove(0),
+            caps.remove(0),
+            lines.remove(0),
+            moments.remove(0),
+        )?;
         owns.push(own)?;
     }
     Ok(owns)
 }
 
 /// What is each domain's own, of an image that breaks no rule but that of pads,
-/// of its segments and of what its slots name.
+/// of its parts.
 ///
 /// # Errors
 ///
 /// `Memory` alone.
 #[tactic(auto, unfolding(crate::specs::Own::owns_of))]
-pub fn owns_of(
-    alloc: Global,
-    raw: &Raw,
-    segments: Vec<Vec<Segment>>,
-    caps: &[Vec<Named>],
-) -> Result<Vec<Own>, CheckRefusal>
+pub fn owns_of(alloc: Global, raw: &Raw, parts: DomainParts) -> Result<Vec<Own>, CheckRefusal>
     requires accepted { broken_but_pads (raw_model raw.now) ≡ [] }
-    requires segments { map (λ s. map segment_model s.items) segments.items
-        ≡ map segments_of (raw_model raw.now).domains }
-    requires caps { map (λ c. map named_model c.items) caps.now
-        ≡ map caps_of (raw_model raw.now).domains }
+    requires parts { ArePartsOf parts (raw_model raw.now).domains }
     ensures value { Makes (λ v. map own_model v.items) result (spec.owns_of (raw_model raw.now)) }
 {
-    owns_in(alloc, raw.domains.as_slice(), segments, caps)
+    owns_in(alloc, raw.domains.as_slice(), parts)
 }

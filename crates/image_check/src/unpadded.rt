@@ -9,18 +9,16 @@ ghost use Rattle.image_check.specs.Checking.{broken_but_pads};
 ghost use Rattle.image_check.specs.Public.{entry_of};
 ghost use Rattle.image_check.specs.Image.{image_from, own_of};
 ghost use Rattle.hardware_check.specs.Hardware.{hardware_of};
-ghost use Rattle.domain_check.specs.Models.{segment_model, named_model};
-ghost use Rattle.domain_check.specs.Segments.{segments_of};
-ghost use Rattle.domain_check.specs.Capabilities.{caps_of};
+ghost use Rattle.image_check.specs.Parts.{ArePartsOf};
 ghost use Rattle.image_check.specs.Models.{hardware_model, public_model, own_model};
 ghost use Rattle.image_check.specs.Pads as spec;
 
 use crate::CheckRefusal;
-use crate::own::{Own, owns_of};
+use crate::own::{DomainParts, Own, owns_of};
 use crate::pads::{k17, shape_of};
 use crate::public::{Public, public_of};
 use crate::schedule::k16;
-use domain_check::{Named, Segment, k7, k8, k9, k10, k12, k13, k14, k15};
+use domain_check::{k7, k8, k9, k10, k12, k13, k14, k15};
 use hardware_check::{Hardware, k3, k4, k5, k6, k11};
 use image_text::{Raw, Refusal};
 use pad_bound::{Shape, bound};
@@ -96,10 +94,7 @@ impl Unpadded {
 #[derive(Drop)]
 struct Parts {
     hardware: Hardware,
-    /// Of each domain.
-    segments: Vec<Vec<Segment>>,
-    /// What the slots of each domain name.
-    caps: Vec<Vec<Named>>,
+    domains: DomainParts,
     schedule: Vec<Entry>,
 }
 
@@ -110,10 +105,7 @@ fn parts_of(alloc: Global, raw: &Raw) -> Result<Parts, CheckRefusal>
     ensures refused { IfErr result (IsFirst (broken_but_pads (raw_model raw.now))) }
     ensures accepted { OnOk result (broken_but_pads (raw_model raw.now) ≡ []) }
     ensures hardware { IfOk result (λ p. hardware_model p.hardware ≡ hardware_of (raw_model raw.now)) }
-    ensures segments { IfOk result (λ p. map (λ s. map segment_model s.items) p.segments.items
-        ≡ map segments_of (raw_model raw.now).domains) }
-    ensures caps { IfOk result (λ p. map (λ c. map named_model c.items) p.caps.items
-        ≡ map caps_of (raw_model raw.now).domains) }
+    ensures domains { IfOk result (λ p. ArePartsOf p.domains (raw_model raw.now).domains) }
     ensures schedule { IfOk result (λ p. p.schedule.items ≡ map entry_of (raw_model raw.now).schedule) }
 {
     k3(raw)?;
@@ -121,19 +113,24 @@ fn parts_of(alloc: Global, raw: &Raw) -> Result<Parts, CheckRefusal>
     k5(raw)?;
     k6(raw)?;
     k7(raw)?;
-    k8(raw)?;
+    let colours = k8(alloc, raw)?;
     k9(raw)?;
-    k10(alloc, raw)?;
+    k10(raw, colours.as_slice())?;
     let hardware = k11(raw)?;
     let segments = k12(alloc, raw)?;
     let caps = k13(alloc, raw)?;
-    k14(raw)?;
-    k15(raw)?;
+    let lines = k14(alloc, raw)?;
+    let moments = k15(alloc, raw)?;
     let schedule = k16(alloc, raw)?;
     Ok(Parts {
         hardware,
-        segments,
-        caps,
+        domains: DomainParts {
+            colours,
+            segments,
+            caps,
+            lines,
+            moments,
+        },
         schedule,
     })
 }
@@ -152,6 +149,6 @@ pub fn check_but_pads(alloc: Global, raw: Raw) -> Result<Unpadded, CheckRefusal>
 {
     let parts = parts_of(alloc, &raw)?;
     let public = public_of(alloc, &raw, parts.hardware, parts.schedule.as_slice())?;
-    let owns = owns_of(alloc, &raw, parts.segments, parts.caps.as_slice())?;
+    let owns = owns_of(alloc, &raw, parts.domains)?;
     Ok(Unpadded { raw, public, owns })
 }

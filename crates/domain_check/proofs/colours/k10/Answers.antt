@@ -11,4 +11,4 @@ pub k10_domains-requires-clause-few : goal.k10_domains-requires-clause-few
 k10_domains-requires-clause-few c = let most = (colours_sound (raw_model c.args.raw.now) c.requires.parts.colours).most in omega (arith, most, c.colours_in.ensures.value)
 
 pub k10_domains-requires-clause-small : goal.k10_domains-requires-clause-small
-k10_domains-requires-clause-small c = let all = small_domains c.args.raw.now c.requires.parts c.requires.colours in search (rules, all)
+k10_domains-requires-clause-small c = let all = small_domains c.args.raw.now in search (rules, all)

@@ -1,8 +1,12 @@
-use Rattle.std.proofs.Common.{◌≡◌, take, drop, map}
+use Rattle.std.proofs.Common.{◌≡◌, ◌++◌, take, drop, map}
 use Rattle.image_text.specs.Models.{domain_model}
 use Rattle.hardware_check.specs.Cases.{first_case, first_in}
 use Rattle.domain_check.specs.Colours as spec
 use Rattle.domain_check.proofs.colours.k8_domains.Given as goal
 
 abbrev pub invariant-loop-d : goal.invariant-loop-d
-invariant-loop-d l = first_case (spec.k8_domain l.colours) (map domain_model (take l.d l.domains)) (map domain_model (drop l.d l.domains)) ≡ first_in (spec.k8_domain l.colours) (map domain_model l.domains)
+invariant-loop-d l =
+    (first_case (spec.k8_domain l.colours) (map domain_model (take l.d l.domains)) (map domain_model (drop l.d l.domains))
+    ≡ first_in (spec.k8_domain l.colours) (map domain_model l.domains))
+    × (map (λ c. c.items) l.found.items ++ map spec.own_colours (map domain_model (drop l.d l.domains))
+    ≡ map spec.own_colours (map domain_model l.domains))
