@@ -15,9 +15,9 @@ use Rattle.image_text.specs.Models.{domain_model}
 use Rattle.image_text.specs.Record.{Raw, RawDomain, RawMoment, raw_domain, no_raw_domain}
 use Rattle.frame_colours.specs.Colours.{has}
 use Rattle.hardware_check.specs.Cases.{first_in, refusal, outside}
-use Rattle.hardware_check.specs.Hardware.{natural_of}
+use Rattle.hardware_check.specs.Hardware.{IsNatural, natural_of}
 use Rattle.hardware_check.proofs.FirstCases.{or_first, if_first, if_rest, first_in_none}
-use Rattle.hardware_check.proofs.Parts.{inside}
+use Rattle.hardware_check.proofs.Parts.{inside, most_inside, natural_inside}
 use Rattle.domain_check.specs.Colours.{names}
 use Rattle.domain_check.specs.Interrupts.{lined_so, named_before, same_line, k14, k14_domain, k14_line, is_above, order_case, k15, k15_domain, k15_moment, moment_of, AreSmall}
 use Rattle.domain_check.proofs.Numbers.{the_integer, found, stands, names_at, has_natural}
@@ -55,17 +55,26 @@ line_passed domains earlier x n =
     }
 
 pub line_most : (x : ℤ) → outside (pos 0) (pos 31) x ≡ false → natural_of x ≤ 31
-line_most x h = (inside 0 31 x h).most
+line_most x h = most_inside 0 31 x h
+
+pub line_natural : (x : ℤ) → outside (pos 0) (pos 31) x ≡ false → IsNatural x
+line_natural x h = natural_inside 0 31 x h
+
+pub cycle_natural : (x : ℤ) → outside (pos 0) (pos 1000000000000) x ≡ false → IsNatural x
+cycle_natural x h = natural_inside 0 1000000000000 x h
 
 -- the lines of a domain fit those of the code
 pub small_lines : (i : Raw) → k14 i ≡ None → (d : ℕ) → d < length i.domains → AreSmall (raw_domain i.domains d).lines
 small_lines i n d l = record {
-  small = λ k x m. let most = line_most (get_or own k x) (line_passed (take d i.domains) (take k own) (get_or own k x) (line_case i n d l k m x)).within in
-      omega (arith, most);
+  natural = λ k x m. line_natural (get_or own k x) (within k x m);
+  small = λ k x m. let most = line_most (get_or own k x) (within k x m) in omega (arith, most);
 }
   where
     own : List ℤ
     own = (raw_domain i.domains d).lines
+
+    within : (k : ℕ) (x : ℤ) → k < length own → is_line (get_or own k x)
+    within k x m = (line_passed (take d i.domains) (take k own) (get_or own k x) (line_case i n d l k m x)).within
 
 pub small_lines_in : (raw : declared.Raw) → k14 (raw_model raw) ≡ None → All (λ o. AreSmall (domain_model o).lines) raw.domains.items
 small_lines_in raw n = λ d o l.
@@ -75,6 +84,9 @@ small_lines_in raw n = λ d o l.
 -- one that is named is among them
 pub named_small : (lines : List ℤ) (x : ℤ) → AreSmall lines → names lines x ≡ true → natural_of x < 2 ^ 8
 named_small lines x all h = let s = stands lines x h in subst (λ (y : ℤ). natural_of y < 2 ^ 8) s.same (all.small s.place (pos 0) s.within)
+
+pub named_natural : (lines : List ℤ) (x : ℤ) → AreSmall lines → names lines x ≡ true → IsNatural x
+named_natural lines x all h = let s = stands lines x h in subst (λ (y : ℤ). IsNatural y) s.same (all.natural s.place (pos 0) s.within)
 
 earlier_apart : (i : Raw) → k14 i ≡ None → (d : ℕ) → d < length i.domains → (e : ℕ) → e < d → (k : ℕ) → k < length (raw_domain i.domains d).lines
     → names (raw_domain i.domains e).lines (get_or (raw_domain i.domains d).lines k (pos 0)) ≡ false

@@ -10,9 +10,9 @@ use Rattle.image_text.specs.Models.{domain_model}
 use Rattle.image_text.specs.Record as text
 use Rattle.image_text.specs.Record.{raw_domain, no_raw_domain}
 use Rattle.hardware_check.specs.Cases.{first_in, refusal, outside}
-use Rattle.hardware_check.specs.Hardware.{natural_of, colours_of, hardware_of}
+use Rattle.hardware_check.specs.Hardware.{IsNatural, natural_of, colours_of, hardware_of}
 use Rattle.hardware_check.proofs.FirstCases.{if_first, first_in_none}
-use Rattle.hardware_check.proofs.Parts.{Within, inside}
+use Rattle.hardware_check.proofs.Parts.{Within, inside, most_inside, natural_inside}
 use Rattle.domain_check.specs.Colours.{names, k8, k8_colour, k8_domain, k9, k9_domain, k9_colour, coloured_so, same_colour, IsSmallDomain}
 use Rattle.domain_check.proofs.Numbers.{found, names_at}
 
@@ -41,7 +41,10 @@ named i n d l k m x =
 -- ---- the numbers fit those of the code
 
 pub colour_most : (c : ℕ) (x : ℤ) → outside (pos 1) (pos (c - 1)) x ≡ false → natural_of x ≤ c - 1
-colour_most c x h = (inside 1 (c - 1) x h).most
+colour_most c x h = most_inside 1 (c - 1) x h
+
+pub colour_natural : (c : ℕ) (x : ℤ) → outside (pos 1) (pos (c - 1)) x ≡ false → IsNatural x
+colour_natural c x h = natural_inside 1 (c - 1) x h
 
 pub small_domains : (raw : Raw) → All (λ o. IsSmallDomain (domain_model o)) raw.domains.items
 small_domains raw = λ d o l.

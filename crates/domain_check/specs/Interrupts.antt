@@ -5,7 +5,7 @@ use Rattle.std.specs.List.{All}
 use Rattle.image_text.specs.declared.refusal.Refusal.{Refusal}
 use Rattle.image_text.specs.Record.{Raw, RawDomain, RawMoment}
 use Rattle.irq_partition.specs.declared.Moment.{Moment}
-use Rattle.hardware_check.specs.Hardware.{natural_of}
+use Rattle.hardware_check.specs.Hardware.{IsNatural, natural_of}
 use Rattle.hardware_check.specs.Cases.{or_else, first_in, refusal, outside}
 use Rattle.domain_check.specs.Colours.{is_same, names}
 
@@ -40,6 +40,7 @@ own_lines o = map natural_of o.lines
 
 -- they fit those of the code
 pub record AreSmall (lines : List ℤ) : Type 0 where
+  pub natural : All IsNatural lines
   pub small : All (λ x. natural_of x < 2 ^ 8) lines
 
 -- ---- K15: at most 1,024 moments, each of a line of the domain and above the one before

@@ -31,7 +31,7 @@ pub fn names(numbers: &[i64], number: i64) -> bool
     false
 }
 
-#[tactic(auto, unfolding(crate::specs::Colours::k8_colour), using(crate::proofs::Shares::colour_most))]
+#[tactic(auto, unfolding(crate::specs::Colours::k8_colour), using(crate::proofs::Shares::colour_most, crate::proofs::Shares::colour_natural))]
 fn k8_colour(colours: u32, d: usize, earlier: &[i64], colour: i64) -> Result<u8, Refusal>
     requires few { colours ≤ 64 }
     requires domain { d < 2 ^ 63 }

@@ -3,7 +3,7 @@ ghost use Rattle.std.specs.Prelude.{◌≡◌, ◌-◌, ◌<◌, ◌^◌, map, l
 ghost use Rattle.image_text.specs.Reads.{raw_model};
 ghost use Rattle.image_text.specs.Models.{domain_model, moment_model};
 ghost use Rattle.hardware_check.specs.Cases.{first_in};
-ghost use Rattle.hardware_check.specs.Hardware.{natural_of as spec_natural_of};
+ghost use Rattle.hardware_check.specs.Hardware.{IsNatural, natural_of as spec_natural_of};
 ghost use Rattle.hardware_check.specs.Outcomes.{IsVerdict, IsVerdictOrMemory};
 ghost use Rattle.domain_check.specs.Interrupts as spec;
 
@@ -48,7 +48,7 @@ fn named_before(domains: &[RawDomain], earlier: &[i64], line: i64) -> Option<usi
     None
 }
 
-#[tactic(auto, unfolding(crate::specs::Interrupts::k14_line), using(crate::proofs::OwnInterrupts::line_most))]
+#[tactic(auto, unfolding(crate::specs::Interrupts::k14_line), using(crate::proofs::OwnInterrupts::line_most, crate::proofs::OwnInterrupts::line_natural))]
 fn k14_line(domains: &[RawDomain], earlier: &[i64], line: i64) -> Result<u8, Refusal>
     requires domain { length domains.now < 2 ^ 63 }
     ensures verdict { IsVerdict result (spec.k14_line (map domain_model domains.now) earlier.now line) }
@@ -122,6 +122,8 @@ fn order_case(d: usize, earlier: &[RawMoment], moment: &RawMoment) -> Result<(),
 
 #[tactic(auto, unfolding(crate::specs::Interrupts::moment_of))]
 fn moment_of(moment: &RawMoment) -> Moment
+    requires at { IsNatural moment.now.at }
+    requires line { IsNatural moment.now.line }
     requires small { spec_natural_of moment.now.line < 2 ^ 8 }
     ensures value { result ≡ spec.moment_of (moment_model moment.now) }
 {
@@ -131,7 +133,7 @@ fn moment_of(moment: &RawMoment) -> Moment
     }
 }
 
-#[tactic(auto, unfolding(crate::specs::Interrupts::k15_moment), using(crate::proofs::OwnInterrupts::named_small))]
+#[tactic(auto, unfolding(crate::specs::Interrupts::k15_moment), using(crate::proofs::OwnInterrupts::named_small, crate::proofs::OwnInterrupts::named_natural, crate::proofs::OwnInterrupts::cycle_natural))]
 fn k15_moment(
     lines: &[i64],
     d: usize,

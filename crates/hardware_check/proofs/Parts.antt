@@ -7,13 +7,12 @@ use Rattle.std.proofs.lemmas.Bool.{cases_lt}
 use Rattle.std.proofs.lemmas.Bool.Decides.{nat_tests}
 use Rattle.std.proofs.lemmas.Nat.{pow-add, mul-le}
 use Rattle.std.proofs.Math.Pow.{pow_mono}
-use Rattle.set_cache.proofs.Powers.{power_is}
 use Rattle.cycle_cost.specs.Costs.{IsCost, AreCosts}
 use Rattle.image_text.specs.declared.refusal.Refusal.{Refusal}
 use Rattle.image_text.specs.Record.{Raw, RawCache}
 use Rattle.hardware_check.specs.declared.hardware.Policy.TheVariants.{Lru, Fifo, Plru}
 use Rattle.hardware_check.specs.Cases.{first_in, refusal, outside, range_case}
-use Rattle.hardware_check.specs.Hardware.{natural_of, policy_of, shape_of, costs_of, hardware_of, colours_of, IsSize, IsCache, IsSmallShape}
+use Rattle.hardware_check.specs.Hardware.{IsNatural, natural_of, policy_of, shape_of, costs_of, hardware_of, colours_of, IsSize, IsCache, IsSmallShape}
 use Rattle.hardware_check.specs.Rules.{k3, k4, k5, k6, k6_cost, costs_in, size_case, cache_case, ways_case, is_size, is_policy, is_uneven_tree, is_region}
 use Rattle.hardware_check.specs.Laws.{KeepsParts}
 use Rattle.hardware_check.proofs.FirstCases.{or_first, or_rest, if_first, if_rest, first_in_none}
@@ -27,6 +26,24 @@ pub record Within (low high n : ℕ) : Type 0 where
 pub inside : (low high : ℕ) (x : ℤ) → outside (pos low) (pos high) x ≡ false → Within low high (natural_of x)
 inside low high (pos n) h = record { least = grind (arith, nat_tests, h); most = grind (arith, nat_tests, h) }
 inside low high (negsuc n) h = cc
+
+pub most_inside : (low high : ℕ) (x : ℤ) → outside (pos low) (pos high) x ≡ false → natural_of x ≤ high
+most_inside low high x h = (inside low high x h).most
+
+pub natural_inside : (low high : ℕ) (x : ℤ) → outside (pos low) (pos high) x ≡ false → IsNatural x
+natural_inside low high (pos n) h = tt
+natural_inside low high (negsuc n) h = cc
+
+pub natural_positive : (x : ℤ) → 0 < natural_of x → IsNatural x
+natural_positive (pos n) some = tt
+natural_positive (negsuc n) some = absurd (omega (arith, some))
+
+pub natural_above : (line shared : ℤ) → 0 < natural_of line → outside line (pos 65536) shared ≡ false → IsNatural shared
+natural_above (pos low) shared some h = natural_inside low 65536 shared h
+natural_above (negsuc low) shared some h = absurd (omega (arith, some))
+
+pub natural_cost : (x : ℤ) → IsCost (natural_of x) → IsNatural x
+natural_cost x cost = natural_positive x cost.some
 
 pub in_range : (rule : ℕ) (at : ℤ) (low high : ℕ) (x : ℤ) → range_case rule at low high x ≡ None → Within low high (natural_of x)
 in_range rule at low high x n =
@@ -56,6 +73,12 @@ size_sound part low high x n =
     let parts = both (not (outside (pos low) (pos high) x)) (is_power_of_two (natural_of x)) (none_if (is_size low high x) (refusal 3 (pos part) x (pos 1)) n) in
     let range = inside low high x (no (outside (pos low) (pos high) x) parts.0) in
     record { least = range.least; most = range.most; power = parts.1 }
+
+pub size_natural : (low high : ℕ) (x : ℤ) → is_size low high x ≡ true → IsNatural x
+size_natural low high x h = natural_inside low high x (no (outside (pos low) (pos high) x) (both (not (outside (pos low) (pos high) x)) (is_power_of_two (natural_of x)) h).0)
+
+pub size_most : (low high : ℕ) (x : ℤ) → is_size low high x ≡ true → natural_of x ≤ high
+size_most low high x h = most_inside low high x (no (outside (pos low) (pos high) x) (both (not (outside (pos low) (pos high) x)) (is_power_of_two (natural_of x)) h).0)
 
 -- ---- caches
 
@@ -130,6 +153,16 @@ few_sets i n = (parts_sound i n).l2.sets.most
 pub short_line : (i : Raw) → k3 i ≡ None → natural_of i.line ≤ 128
 short_line i n = (parts_sound i n).line.most
 
+pub line_natural : (i : Raw) → k3 i ≡ None → IsNatural i.line
+line_natural i n = let least = (parts_sound i n).line.least in natural_positive i.line (omega (arith, least))
+
+pub predictor_natural : (i : Raw) → k3 i ≡ None → IsNatural i.predictor
+predictor_natural i n = let least = (parts_sound i n).predictor.least in natural_positive i.predictor (omega (arith, least))
+
+pub l2_natural : (i : Raw) → k3 i ≡ None → IsNatural i.l2.sets
+unfolding shape_of
+l2_natural i n = let least = (parts_sound i n).l2.sets.least in natural_positive i.l2.sets (omega (arith, least))
+
 -- a product of two such numbers is small
 pub few_bytes : (sets line : ℕ) → sets ≤ 16384 → line ≤ 128 → sets * line ≤ 2097152
 few_bytes sets line a b = mul-le sets line 16384 128 a b
@@ -142,6 +175,9 @@ some_line i k = let line = (parts_sound i k.parts).line in omega (arith, line.le
 pub frames_sound : (i : Raw) → k4 i ≡ None → Within 64 4096 (natural_of i.frames)
 unfolding k4
 frames_sound i n = in_range 4 (pos 0) 64 4096 i.frames n
+
+pub frames_natural : (i : Raw) → k4 i ≡ None → IsNatural i.frames
+frames_natural i n = let least = (frames_sound i n).least in natural_positive i.frames (omega (arith, least))
 
 pub colours_sound : (i : Raw) → k5 i ≡ None → Within 2 64 (colours_of (hardware_of i))
 unfolding k5
@@ -240,6 +276,9 @@ region_sound line shared some h =
     let parts = region_parts line shared h in
     let range = not_below line shared some parts.0 in
     record { some = range.least; few = range.most; whole = eqb-true (natural_of shared % natural_of line) 0 parts.1 }
+
+pub natural_region : (line shared : ℤ) → 0 < natural_of line → is_region line shared ≡ true → IsNatural shared
+natural_region line shared some h = natural_above line shared some (region_parts line shared h).0
 
 most_shared : (line shared : ℤ) → outside line (pos 65536) shared ≡ false → natural_of shared ≤ 65536
 most_shared line (pos n) h = let o = or_false (int_lt (pos n) line) (int_lt (pos 65536) (pos n)) h in grind (arith, nat_tests, o)

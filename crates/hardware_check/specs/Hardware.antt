@@ -1,5 +1,5 @@
 -- The machine that an image says, in natural numbers.
-use Rattle.std.specs.Prelude.{◌≡◌, ℕ, ◌+◌, ◌-◌, ◌*◌, ◌/◌, ◌%◌, ◌^◌, ◌<◌, ◌≤◌, IsTrue, ℤ, pos, negsuc, if◌then◌else◌, List, codes}
+use Rattle.std.specs.Prelude.{◌≡◌, ℕ, ◌+◌, ◌-◌, ◌*◌, ◌/◌, ◌%◌, ◌^◌, ◌<◌, ◌≤◌, IsTrue, ⊤, ℤ, pos, negsuc, if◌then◌else◌, List, codes}
 use Rattle.std.specs.Str.{bytes_eq}
 use Rattle.std.specs.Int.{is_power_of_two}
 use Rattle.cycle_cost.specs.Costs.{CostTable, AreCosts}
@@ -38,10 +38,15 @@ last_shared_frame h = (shared_frames h - 1) * colours_of h
 
 -- ---- what an image says
 
--- a number that isn't negative
+-- the natural number, or 0 for a negative one
 abbrev pub natural_of : ℤ → ℕ
 natural_of (pos n) = n
 natural_of (negsuc n) = 0
+
+-- a number that isn't negative
+abbrev pub IsNatural : ℤ → Type 0
+IsNatural (pos n) = ⊤
+IsNatural (negsuc n) = ⊥
 
 -- a text that is no policy's name stands for least recently used
 abbrev pub policy_of : List ℕ → Policy

@@ -1,7 +1,10 @@
 -- What contracts see of the machine in the code.
+use Rattle.std.specs.Prelude.{◌≡◌}
+use Rattle.image_text.specs.Record.{Raw}
 use Rattle.cycle_cost.specs.Models.{costs_of}
 use Rattle.hardware_check.specs.Hardware as spec
 use Rattle.hardware_check.specs.declared.hardware.CacheShape.{CacheShape}
+use Rattle.hardware_check.specs.declared.hardware.Caches.{Caches}
 use Rattle.hardware_check.specs.declared.hardware.Hardware.{Hardware}
 
 abbrev pub shape_model : CacheShape → spec.CacheShape
@@ -19,3 +22,10 @@ hardware_model h = record {
   predictor = h.predictor;
   costs = costs_of h.costs;
 }
+
+-- the caches are those that an image says
+pub record AreCaches (c : Caches) (i : Raw) : Type 0 where
+  pub l1i : shape_model c.l1i ≡ spec.shape_of i.l1i
+  pub l1d : shape_model c.l1d ≡ spec.shape_of i.l1d
+  pub l2 : shape_model c.l2 ≡ spec.shape_of i.l2
+  pub tlb : shape_model c.tlb ≡ spec.shape_of i.tlb

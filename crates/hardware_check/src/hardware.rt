@@ -25,6 +25,15 @@ pub struct CacheShape {
     pub policy: Policy,
 }
 
+/// The caches and the translation buffer of a machine.
+#[derive(Clone, Copy, Debug, PartialEq, Eq)]
+pub struct Caches {
+    pub l1i: CacheShape,
+    pub l1d: CacheShape,
+    pub l2: CacheShape,
+    pub tlb: CacheShape,
+}
+
 /// What all domains share of the machine. The ranges are those of an image that
 /// breaks no rule.
 #[derive(Clone, Copy, Debug, PartialEq, Eq)]

@@ -9,6 +9,6 @@ pub mod laws;
 mod reading;
 mod rules;
 
-pub use hardware::{CacheShape, Hardware, Policy};
-pub use reading::{hardware_of, natural_of};
+pub use hardware::{CacheShape, Caches, Hardware, Policy};
+pub use reading::natural_of;
 pub use rules::{colours_in, frames_in, k3, k4, k5, k6, k11};

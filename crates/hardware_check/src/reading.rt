@@ -2,49 +2,26 @@
 ghost use Rattle.std.specs.Prelude.{◌≡◌, true};
 ghost use Rattle.cycle_cost.specs.Costs.{AreCosts};
 ghost use Rattle.cycle_cost.specs.Models.{costs_of as cost_table_of};
-ghost use Rattle.image_text.specs.Models.{cache_model, costs_model};
+ghost use Rattle.image_text.specs.Models.{costs_model};
 ghost use Rattle.image_text.specs.Reads.{raw_model};
 ghost use Rattle.hardware_check.specs.Hardware as spec;
 ghost use Rattle.hardware_check.specs.Laws.{KeepsParts};
-ghost use Rattle.hardware_check.specs.Models.{shape_model, hardware_model};
+ghost use Rattle.hardware_check.specs.Models.{AreCaches, hardware_model};
 ghost use Rattle.hardware_check.specs.Rules.{is_region};
 
-use crate::hardware::{CacheShape, Hardware, Policy};
+use crate::hardware::{Caches, Hardware};
 use cycle_cost::Costs;
-use image_text::{Raw, RawCache, RawCosts};
+use image_text::{Raw, RawCosts};
 
-/// A number that isn't negative, else 0.
+/// A number that isn't negative.
 pub fn natural_of(number: i64) -> u64
+    requires natural { spec.IsNatural number }
     ensures value { result ≡ spec.natural_of number }
 {
-    u64::try_from(number).unwrap_or(0)
+    number as u64
 }
 
-fn policy_of(name: &str) -> Policy
-    ensures value { result ≡ spec.policy_of name.now }
-{
-    if name == "fifo" {
-        Policy::Fifo
-    } else if name == "plru" {
-        Policy::Plru
-    } else {
-        Policy::Lru
-    }
-}
-
-#[tactic(auto, unfolding(crate::specs::Hardware::shape_of))]
-fn shape_of(cache: &RawCache) -> CacheShape
-    requires small { spec.IsSmallShape (spec.shape_of (cache_model cache.now)) }
-    ensures value { shape_model result ≡ spec.shape_of (cache_model cache.now) }
-{
-    CacheShape {
-        sets: natural_of(cache.sets) as u32,
-        ways: natural_of(cache.ways) as u32,
-        policy: policy_of(cache.policy.as_str()),
-    }
-}
-
-#[tactic(auto, unfolding(crate::specs::Hardware::costs_of))]
+#[tactic(auto, unfolding(crate::specs::Hardware::costs_of), using(crate::proofs::Parts::natural_cost))]
 fn costs_of(costs: &RawCosts) -> Costs
     requires ranges { AreCosts (spec.costs_of (costs_model costs.now)) }
     ensures value { cost_table_of result ≡ spec.costs_of (costs_model costs.now) }
@@ -62,10 +39,12 @@ fn costs_of(costs: &RawCosts) -> Costs
     }
 }
 
-/// The machine of an image whose parts and shared region break no rule.
+/// The machine of an image whose parts and shared region break no rule, of the
+/// caches that K3 hands out.
 #[tactic(auto, unfolding(crate::specs::Hardware::hardware_of), using(crate::proofs::Parts::region_fits))]
-pub fn hardware_of(raw: &Raw) -> Hardware
+pub fn hardware_of(raw: &Raw, caches: Caches) -> Hardware
     requires parts { KeepsParts (raw_model raw.now) }
+    requires caches { AreCaches caches (raw_model raw.now) }
     requires region { is_region raw.now.line raw.now.shared ≡ true }
     ensures value { hardware_model result ≡ spec.hardware_of (raw_model raw.now) }
 {
@@ -73,10 +52,10 @@ pub fn hardware_of(raw: &Raw) -> Hardware
         frames: natural_of(raw.frames) as u32,
         shared: natural_of(raw.shared) as u32,
         line: natural_of(raw.line) as u32,
-        l1i: shape_of(&raw.l1i),
-        l1d: shape_of(&raw.l1d),
-        l2: shape_of(&raw.l2),
-        tlb: shape_of(&raw.tlb),
+        l1i: caches.l1i,
+        l1d: caches.l1d,
+        l2: caches.l2,
+        tlb: caches.tlb,
         predictor: natural_of(raw.predictor) as u32,
         costs: costs_of(&raw.costs),
     }

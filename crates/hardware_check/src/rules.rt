@@ -1,90 +1,117 @@
 // The rules of the machine, each with its first broken case.
-ghost use Rattle.std.specs.Prelude.{◌≡◌, ◌<◌, None, IfOk};
+ghost use Rattle.std.specs.Prelude.{◌≡◌, ◌<◌, None, is_some, IfOk, IfSome};
 ghost use Rattle.std.specs.Int.{is_power_of_two as spec_is_power_of_two};
 ghost use Rattle.image_text.specs.Reads.{raw_model};
 ghost use Rattle.image_text.specs.Models.{cache_model};
 ghost use Rattle.hardware_check.specs.Cases.{first_in};
-ghost use Rattle.hardware_check.specs.Hardware.{hardware_of as spec_hardware_of, natural_of as spec_natural_of, colours_of};
+ghost use Rattle.hardware_check.specs.Hardware.{IsNatural, hardware_of as spec_hardware_of, natural_of as spec_natural_of, colours_of};
+ghost use Rattle.hardware_check.specs.Hardware.{policy_of, shape_of};
 ghost use Rattle.hardware_check.specs.Laws.{KeepsParts};
-ghost use Rattle.hardware_check.specs.Models.{hardware_model};
+ghost use Rattle.hardware_check.specs.Models.{AreCaches, shape_model, hardware_model};
 ghost use Rattle.hardware_check.specs.Outcomes.{IsVerdict};
 ghost use Rattle.hardware_check.specs.Rules as spec;
 
 use crate::cases::{outside, range_case, refusal};
-use crate::hardware::Hardware;
+use crate::hardware::{CacheShape, Caches, Hardware, Policy};
 use crate::reading::{hardware_of, natural_of};
 use image_text::{Raw, RawCache, Refusal};
 
 fn is_power_of_two(number: i64) -> bool
+    requires natural { IsNatural number }
     ensures value { result ≡ spec_is_power_of_two (spec_natural_of number) }
 {
     natural_of(number).is_power_of_two()
 }
 
+#[tactic(auto, using(crate::proofs::Parts::natural_inside))]
 fn is_size(low: u32, high: u32, number: i64) -> bool
     ensures value { result ≡ spec.is_size low high number }
 {
-    !outside(i64::from(low), i64::from(high), number) && is_power_of_two(number)
+    if outside(i64::from(low), i64::from(high), number) {
+        return false;
+    }
+    is_power_of_two(number)
 }
 
-fn size_case(part: u8, low: u32, high: u32, number: i64) -> Result<(), Refusal>
+#[tactic(auto, using(crate::proofs::Parts::size_natural, crate::proofs::Parts::size_most))]
+fn size_case(part: u8, low: u32, high: u32, number: i64) -> Result<u32, Refusal>
     ensures verdict { IsVerdict result (spec.size_case part low high number) }
+    ensures value { IfOk result (λ n. n ≡ spec_natural_of number) }
 {
-    if is_size(low, high, number) {
-        Ok(())
+    if !is_size(low, high, number) {
+        return Err(refusal(3, i64::from(part), number, 1));
+    }
+    Ok(natural_of(number) as u32)
+}
+
+/// The policy of a name, if it is one's.
+fn policy_in(name: &str) -> Option<Policy>
+    ensures known { is_some result ≡ spec.is_policy name.now }
+    ensures value { IfSome result (λ p. p ≡ policy_of name.now) }
+{
+    if name == "fifo" {
+        Some(Policy::Fifo)
+    } else if name == "plru" {
+        Some(Policy::Plru)
+    } else if name == "lru" {
+        Some(Policy::Lru)
     } else {
-        Err(refusal(3, i64::from(part), number, 1))
+        None
     }
 }
 
-fn is_policy(name: &str) -> bool
-    ensures value { result ≡ spec.is_policy name.now }
-{
-    name == "lru" || (name == "fifo" || name == "plru")
-}
-
 fn is_uneven_tree(cache: &RawCache) -> bool
+    requires natural { IsNatural cache.now.ways }
     ensures value { result ≡ spec.is_uneven_tree (cache_model cache.now) }
 {
     cache.policy.as_str() == "plru" && !is_power_of_two(cache.ways)
 }
 
-#[tactic(auto, unfolding(crate::specs::Rules::ways_case))]
-fn ways_case(part: u8, cache: &RawCache) -> Result<(), Refusal>
+#[tactic(auto, unfolding(crate::specs::Rules::ways_case, crate::specs::Hardware::shape_of), using(crate::proofs::Parts::natural_inside, crate::proofs::Parts::most_inside))]
+fn ways_case(part: u8, sets: u32, cache: &RawCache) -> Result<CacheShape, Refusal>
+    requires sets { sets ≡ spec_natural_of cache.now.sets }
     ensures verdict { IsVerdict result (spec.ways_case part (cache_model cache.now)) }
+    ensures value { IfOk result (λ s. shape_model s ≡ shape_of (cache_model cache.now)) }
 {
     if outside(1, 16, cache.ways) {
         return Err(refusal(3, i64::from(part), cache.ways, 2));
     }
-    if !is_policy(cache.policy.as_str()) {
+    let Some(policy) = policy_in(cache.policy.as_str()) else {
         return Err(refusal(3, i64::from(part), cache.ways, 3));
-    }
+    };
     if is_uneven_tree(cache) {
         return Err(refusal(3, i64::from(part), cache.ways, 4));
     }
-    Ok(())
+    Ok(CacheShape {
+        sets,
+        ways: natural_of(cache.ways) as u32,
+        policy,
+    })
 }
 
 #[tactic(auto, unfolding(crate::specs::Rules::cache_case))]
-fn cache_case(part: u8, most_sets: u32, cache: &RawCache) -> Result<(), Refusal>
+fn cache_case(part: u8, most_sets: u32, cache: &RawCache) -> Result<CacheShape, Refusal>
     ensures verdict { IsVerdict result (spec.cache_case part most_sets (cache_model cache.now)) }
+    ensures value { IfOk result (λ s. shape_model s ≡ shape_of (cache_model cache.now)) }
 {
-    size_case(part, 1, most_sets, cache.sets)?;
-    ways_case(part, cache)
+    let sets = size_case(part, 1, most_sets, cache.sets)?;
+    ways_case(part, sets, cache)
 }
 
 /// K3: the line, the caches, the translation buffer and the predictor have
-/// sizes, ways and policies that there are.
+/// sizes, ways and policies that there are; so these caches.
 #[tactic(auto, unfolding(crate::specs::Rules::k3))]
-pub fn k3(raw: &Raw) -> Result<(), Refusal>
+pub fn k3(raw: &Raw) -> Result<Caches, Refusal>
     ensures verdict { IsVerdict result (spec.k3 (raw_model raw.now)) }
+    ensures value { IfOk result (λ c. AreCaches c (raw_model raw.now)) }
 {
     size_case(1, 16, 128, raw.line)?;
-    cache_case(2, 1024, &raw.l1i)?;
-    cache_case(3, 1024, &raw.l1d)?;
-    cache_case(4, 16384, &raw.l2)?;
-    cache_case(5, 256, &raw.tlb)?;
-    size_case(6, 1, 4096, raw.predictor)
+    let l1i = cache_case(2, 1024, &raw.l1i)?;
+    let l1d = cache_case(3, 1024, &raw.l1d)?;
+    let l2 = cache_case(4, 16384, &raw.l2)?;
+    let tlb = cache_case(5, 256, &raw.tlb)?;
+    size_case(6, 1, 4096, raw.predictor)?;
+    Ok(Caches { l1i, l1d, l2, tlb })
 }
 
 /// K4: 64 to 4,096 frames.
@@ -150,12 +177,15 @@ pub fn k6(raw: &Raw) -> Result<(), Refusal>
     ])
 }
 
-#[tactic(auto, unfolding(crate::specs::Rules::is_region))]
+#[tactic(auto, unfolding(crate::specs::Rules::is_region), using(crate::proofs::Parts::natural_positive, crate::proofs::Parts::natural_above))]
 fn is_region(line: i64, shared: i64) -> bool
     requires line { 0 < spec_natural_of line }
     ensures value { result ≡ spec.is_region line shared }
 {
-    !outside(line, 65536, shared) && natural_of(shared) % natural_of(line) == 0
+    if outside(line, 65536, shared) {
+        return false;
+    }
+    natural_of(shared) % natural_of(line) == 0
 }
 
 #[tactic(auto, unfolding(crate::specs::Rules::room_case))]
@@ -175,17 +205,18 @@ fn room_case(hardware: &Hardware) -> Result<(), Refusal>
 
 /// K11: the shared region is whole lines up to 65,536 bytes, and its frames
 /// have their ways in the second level and their places in memory. Then the
-/// machine is whole.
+/// machine is whole, with the caches that K3 hands out.
 #[tactic(auto, unfolding(crate::specs::Rules::k11))]
-pub fn k11(raw: &Raw) -> Result<Hardware, Refusal>
+pub fn k11(raw: &Raw, caches: Caches) -> Result<Hardware, Refusal>
     requires parts { KeepsParts (raw_model raw.now) }
+    requires caches { AreCaches caches (raw_model raw.now) }
     ensures verdict { IsVerdict result (spec.k11 (raw_model raw.now)) }
     ensures value { IfOk result (λ h. hardware_model h ≡ spec_hardware_of (raw_model raw.now)) }
 {
     if !is_region(raw.line, raw.shared) {
         return Err(refusal(11, 1, raw.shared, 65536));
     }
-    let hardware = hardware_of(raw);
+    let hardware = hardware_of(raw, caches);
     room_case(&hardware)?;
     Ok(hardware)
 }

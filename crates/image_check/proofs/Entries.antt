@@ -11,13 +11,14 @@ use Rattle.image_text.specs.Reads.{raw_model}
 use Rattle.image_text.specs.Models.{domain_model}
 use Rattle.hardware_check.specs.Cases.{first_in, outside, refusal}
 use Rattle.image_check.specs.Schedule.{is_number, k16, k16_case, k16_entry}
-use Rattle.hardware_check.specs.Hardware.{natural_of}
+use Rattle.hardware_check.specs.Hardware.{IsNatural, natural_of}
 use Rattle.sched_table.specs.declared.schedule.Entry.{Entry}
 use Rattle.sched_table.specs.Schedule.{entry_in, no_entry, IsSchedule}
 use Rattle.domain_check.specs.Names.{k7}
 use Rattle.image_check.specs.Public.{entry_of}
 use Rattle.image_check.specs.Checking.{broken_but_pads}
 use Rattle.hardware_check.proofs.FirstCases.{if_first, if_rest, first_in_none}
+use Rattle.hardware_check.proofs.Parts.{most_inside}
 use Rattle.image_check.proofs.Kept.{few_domains, domains_within, entries_within, entries_pass}
 
 pub record Passed (domains : ℕ) (e : Entry) : Type 0 where
@@ -29,9 +30,9 @@ pub number_below : (many : ℕ) (x : ℤ) → not (is_number many x) ≡ false �
 number_below many (pos n) h = grind (arith, nat_tests, h)
 number_below many (negsuc n) h = cc
 
-pub most_inside : (low high : ℕ) (x : ℤ) → outside (pos low) (pos high) x ≡ false → natural_of x ≤ high
-most_inside low high (pos n) h = grind (arith, nat_tests, h)
-most_inside low high (negsuc n) h = omega arith
+pub number_natural : (many : ℕ) (x : ℤ) → not (is_number many x) ≡ false → IsNatural x
+number_natural many (pos n) h = tt
+number_natural many (negsuc n) h = cc
 
 passed : (domains place : ℕ) (e : TextEntry) → k16_case domains place e ≡ None → Passed domains (entry_of e)
 unfolding k16_case entry_of

@@ -22,7 +22,7 @@ fn is_number(many: usize, number: i64) -> bool
     0 <= number && number < many as i64
 }
 
-#[tactic(auto, unfolding(crate::specs::Schedule::k16_case, crate::specs::Public::entry_of), using(crate::proofs::Entries::number_below, crate::proofs::Entries::most_inside))]
+#[tactic(auto, unfolding(crate::specs::Schedule::k16_case, crate::specs::Public::entry_of), using(crate::proofs::Entries::number_below, crate::proofs::Entries::number_natural, hardware_check::proofs::Parts::most_inside, hardware_check::proofs::Parts::natural_inside))]
 fn entry_in(domains: usize, place: usize, text: &RawEntry) -> Result<Entry, Refusal>
     requires domains { domains ≤ 16 }
     requires place { place < 2 ^ 63 }

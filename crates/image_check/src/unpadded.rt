@@ -108,7 +108,7 @@ fn parts_of(alloc: Global, raw: &Raw) -> Result<Parts, CheckRefusal>
     ensures domains { IfOk result (λ p. ArePartsOf p.domains (raw_model raw.now).domains) }
     ensures schedule { IfOk result (λ p. p.schedule.items ≡ map entry_of (raw_model raw.now).schedule) }
 {
-    k3(raw)?;
+    let caches = k3(raw)?;
     k4(raw)?;
     k5(raw)?;
     k6(raw)?;
@@ -116,7 +116,7 @@ fn parts_of(alloc: Global, raw: &Raw) -> Result<Parts, CheckRefusal>
     let colours = k8(alloc, raw)?;
     k9(raw)?;
     k10(raw, colours.as_slice())?;
-    let hardware = k11(raw)?;
+    let hardware = k11(raw, caches)?;
     let segments = k12(alloc, raw)?;
     let caps = k13(alloc, raw)?;
     let lines = k14(alloc, raw)?;

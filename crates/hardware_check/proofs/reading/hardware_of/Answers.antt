@@ -1,6 +1,6 @@
 use Rattle.std.proofs.Common.{rules}
 use Rattle.image_text.specs.Reads.{raw_model}
-use Rattle.hardware_check.proofs.Parts.{fits}
+use Rattle.hardware_check.proofs.Parts.{fits, frames_natural, line_natural, predictor_natural, some_line, natural_region}
 use Rattle.hardware_check.proofs.reading.hardware_of.Goals as goal
 
 pub overflow_cast-result : goal.overflow_cast-result
@@ -8,18 +8,6 @@ overflow_cast-result c = let small = (fits (raw_model c.args.raw.now) c.requires
 
 pub overflow_cast-result-3 : goal.overflow_cast-result-3
 overflow_cast-result-3 c = let small = (fits (raw_model c.args.raw.now) c.requires.parts).line in search (rules, small)
-
-pub shape_of-requires : goal.shape_of-requires
-shape_of-requires c = record { small = (fits (raw_model c.args.raw.now) c.requires.parts).l1i }
-
-pub shape_of-requires-2 : goal.shape_of-requires-2
-shape_of-requires-2 c = record { small = (fits (raw_model c.args.raw.now) c.requires.parts).l1d }
-
-pub shape_of-requires-3 : goal.shape_of-requires-3
-shape_of-requires-3 c = record { small = (fits (raw_model c.args.raw.now) c.requires.parts).l2 }
-
-pub shape_of-requires-4 : goal.shape_of-requires-4
-shape_of-requires-4 c = record { small = (fits (raw_model c.args.raw.now) c.requires.parts).tlb }
 
 pub overflow_cast-result-4 : goal.overflow_cast-result-4
 overflow_cast-result-4 c = let small = (fits (raw_model c.args.raw.now) c.requires.parts).predictor in search (rules, small)
@@ -29,3 +17,17 @@ costs_of-requires c = record { ranges = (fits (raw_model c.args.raw.now) c.requi
 
 pub invariant_of-result : goal.invariant_of-result
 invariant_of-result c = let few = (fits (raw_model c.args.raw.now) c.requires.parts).few_colours in record { few_colours = search (rules, few) }
+
+pub natural_of-requires : goal.natural_of-requires
+natural_of-requires c = let natural = frames_natural (raw_model c.args.raw.now) c.requires.parts.frames in record { natural = search (rules, natural) }
+
+pub natural_of-requires-2 : goal.natural_of-requires-2
+natural_of-requires-2 c =
+    let i = raw_model c.args.raw.now in
+    let natural = natural_region i.line i.shared (some_line i c.requires.parts) c.requires.region in record { natural = search (rules, natural) }
+
+pub natural_of-requires-3 : goal.natural_of-requires-3
+natural_of-requires-3 c = let natural = line_natural (raw_model c.args.raw.now) c.requires.parts.parts in record { natural = search (rules, natural) }
+
+pub natural_of-requires-4 : goal.natural_of-requires-4
+natural_of-requires-4 c = let natural = predictor_natural (raw_model c.args.raw.now) c.requires.parts.parts in record { natural = search (rules, natural) }
