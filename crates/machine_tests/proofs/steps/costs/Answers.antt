@@ -14,8 +14,8 @@ use Rattle.world_view.specs.Cost.{hierarchy}
 use Rattle.machine_tests.proofs.Opened.{opened_runs}
 use Rattle.machine_tests.proofs.steps.costs.Goals as goal
 
-pub four_steps-requires-clause-runs : goal.four_steps-requires-clause-runs
-four_steps-requires-clause-runs c =
+pub four_steps-costs-requires-clause-runs : goal.four_steps-costs-requires-clause-runs
+four_steps-costs-requires-clause-runs c =
     let i = image_from c.in-Some.image in
     let r = c.runnable.ensures.runnable in
     let items = c.in_ok-domains.domains.items in
@@ -33,8 +33,8 @@ four_steps-requires-clause-runs c =
     c.in-Some-2.system (ap hierarchy (sym hardware) ∙ levels) pinned
     (subst (λ (h : Hardware). SystemStands (λ _ ways state list. Packs ways state list) c.in-Some-2.system (cold (hierarchy h))) hardware caches) leaves
 
-pub four_steps-requires-clause-few : goal.four_steps-requires-clause-few
-four_steps-requires-clause-few c =
+pub four_steps-costs-requires-clause-few : goal.four_steps-costs-requires-clause-few
+four_steps-costs-requires-clause-few c =
     let i = image_from c.in-Some.image in
     let r = c.runnable.ensures.runnable in
     let items = c.in_ok-domains.domains.items in
