@@ -2,8 +2,8 @@
 use Rattle.std.proofs.Common.{arith, refl, sym, subst}
 use Rattle.repl_policy.specs.declared.AnyPolicy.TheVariants.{Lru}
 use Rattle.l2_colour.specs.Colours.{IsColoured}
-use Rattle.machine_tests.proofs.Sizes.{is_cache}
-use Rattle.machine_tests.proofs.hierarchies.largest.Goals as goal
+use Rattle.memory_tests.proofs.Sizes.{is_cache}
+use Rattle.memory_tests.proofs.hierarchies.largest.Goals as goal
 
 pub new-requires : goal.new-requires
 new-requires c = record {

@@ -1,8 +1,8 @@
 -- Its sizes are a hierarchy's.
 use Rattle.std.proofs.Common.{arith, refl, sym, subst}
 use Rattle.l2_colour.specs.Colours.{IsColoured}
-use Rattle.machine_tests.proofs.Sizes.{takes_two, takes_four, is_cache}
-use Rattle.machine_tests.proofs.hierarchies.small.Goals as goal
+use Rattle.memory_tests.proofs.Sizes.{takes_two, takes_four, is_cache}
+use Rattle.memory_tests.proofs.hierarchies.small.Goals as goal
 
 pub new-requires : goal.new-requires
 new-requires c = record {

@@ -1,6 +1,6 @@
 -- A layout of 64 bytes a line.
 use Rattle.std.proofs.Common.{refl, lit≤, lit<}
-use Rattle.machine_tests.proofs.domain_switches.red.Goals as goal
+use Rattle.memory_tests.proofs.domain_switches.red.Goals as goal
 
 pub returns-clause-layout : goal.returns-clause-layout
 returns-clause-layout c = record {
