@@ -1,8 +1,7 @@
 -- What each call notes: which calls empty the translation buffer, how much one call writes, and where.
-use Rattle.std.proofs.Common.{◌≡◌, ◌∙◌, sym, subst, refl, inl, inr, ℕ, zero, suc, ◌+◌, ◌≤◌, Bool, true, false, arith, eqb-true, eq-eqb, ne_eqb, leb-true, ◌/◌, List, [], ◌∷◌, length, Some, None}
-use Rattle.std.proofs.lemmas.Bool.{cases_eq}
+use Rattle.std.proofs.Common.{◌≡◌, ◌∙◌, sym, subst, refl, ℕ, ◌<◌, ◌≤◌, Bool, true, false, arith, eqb-true, ne_eqb, leb-true, ◌/◌, List, [], ◌∷◌, length, Some, None}
 use Rattle.std.proofs.lemmas.List.Elements.{All-nil, All-cons, All-head, All-tail}
-use Rattle.std.specs.List.{All}
+use Rattle.std.specs.List.{All, range_with_len}
 use Rattle.std.specs.Prelude.{nat_eq, nat_le, if◌then◌else◌}
 use Rattle.tp_base.specs.Act.{either}
 use Rattle.phys_mem.specs.Mem.{Mem}
@@ -12,58 +11,15 @@ use Rattle.pad_bound.specs.Bound.{most_entries}
 use Rattle.pad_bound.specs.Worst.{IsCallWork}
 use Rattle.cap_table.specs.declared.Cap.{Cap}
 use Rattle.cap_table.specs.declared.Cap.TheVariants as cap
-use Rattle.cap_table.specs.Slots.{is_revoked}
-use Rattle.call_table.specs.Domain.{Dom, reply_past, exited}
+use Rattle.cap_table.specs.Slots.{revoked, revoked_count}
+use Rattle.cap_table.proofs.RevokeLemmas.{entries_few, count_below}
+use Rattle.call_table.specs.Domain.{Dom, reply_past, exited, with_caps}
 use Rattle.call_table.specs.Claims.{Estate}
-use Rattle.call_table.specs.Calls.{Act, Note, zeroed_in, entries_in, op_of, work_of, empties, empties_buffer, clears_entries, put_byte, alloc, install, map_page, unmap, may_give, copy_refusal, copy, drop_slot, delete, drop_if, drop_others, revoke, call_of, call}
+use Rattle.call_table.specs.Calls.{Act, Note, zeroed_in, entries_in, op_of, work_of, empties, empties_buffer, clears_entries, put_byte, alloc, install, map_page, unmap, may_give, copy_refusal, copy, drop_slot, delete, emptied_at, revoke, call_of, call}
 use Rattle.call_table.specs.Laws.{Kept, IsMine, IsOwnWork, EmptiesLaw, OperationLaw, WorkLaw}
 use Rattle.call_table.proofs.QuietCalls.{poll_quiet, wait_quiet, signal_quiet, spawn_quiet, yield_quiet, end_quiet}
 use Rattle.call_table.proofs.ConfinedCalls.{ready, any_call}
-use Rattle.call_table.proofs.WorkSteps.{Drops, Works, IsWork, drops_then, drops_fewer, give_drops, drop_slot_drops, stop_works, check_works, some_works, filled_works, slot_works, page_refusal_works, table_refusal_works, allowed_works, unless_works, quiet_works, give_works, zero_works, map_at_works, install_at_works, unmap_at_works, drops_works}
-
--- ---- the slots that a REVOKE empties
-
-module _ (e : Estate) (a : ℕ) where
-  one_slot : (i : ℕ) (d : Dom) (b : Bool) → Drops d 1 (drop_if e i d b)
-  unfolding drop_if
-  one_slot i d true = drop_slot_drops e i d
-  one_slot i d false = drops_fewer d 0 1 _ (omega arith) (give_drops d)
-
-  no_slot : (i : ℕ) (d : Dom) (b : Bool) → b ≡ false → Drops d 0 (drop_if e i d b)
-  unfolding drop_if
-  no_slot i d true is = absurd (cc is)
-  no_slot i d false is = give_drops d
-
-  not_itself : (d : Dom) (i : ℕ) → i ≡ a → is_revoked d.caps a i ≡ false
-  not_itself d i same = rw (eq-eqb i a same) refl
-
-  -- at most one of each slot
-  each_slot : (n i : ℕ) (d : Dom) → Drops d n (drop_others e a n i d)
-  unfolding drop_others
-  each_slot zero i d = give_drops d
-  each_slot (suc n) i d =
-      drops_fewer d (1 + n) (suc n) _ (omega arith)
-      (drops_then d 1 n (drop_if e i d (is_revoked d.caps a i)) (λ x. drop_others e a n (suc i) x)
-      (one_slot i d (is_revoked d.caps a i)) (λ x. each_slot n (suc i) x))
-
-  -- and none of the slot itself
-  at_itself : (n i : ℕ) (d : Dom) → i ≡ a → Drops d n (drop_others e a (suc n) i d)
-  unfolding drop_others
-  at_itself n i d same =
-      drops_fewer d (0 + n) n _ (omega arith)
-      (drops_then d 0 n (drop_if e i d (is_revoked d.caps a i)) (λ x. drop_others e a n (suc i) x)
-      (no_slot i d (is_revoked d.caps a i) (not_itself d i same)) (λ x. each_slot n (suc i) x))
-
-  each_other : (n i : ℕ) (d : Dom) → i ≤ a → a ≤ i + n → Drops d n (drop_others e a (suc n) i d)
-  unfolding drop_others
-  each_other zero i d from to = at_itself zero i d (omega (arith, from, to))
-  each_other (suc n) i d from to = elim (cases_eq i a) [
-    | inl same ↦ at_itself (suc n) i d same
-    | inr other ↦
-        drops_fewer d (1 + n) (suc n) _ (omega arith)
-        (drops_then d 1 n (drop_if e i d (is_revoked d.caps a i)) (λ x. drop_others e a (suc n) (suc i) x)
-        (one_slot i d (is_revoked d.caps a i)) (λ x. each_other n (suc i) x (omega (arith, from, other)) (omega (arith, to))))
-  ]
+use Rattle.call_table.proofs.WorkSteps.{Works, IsWork, drops_fewer, drop_slot_drops, stop_works, check_works, some_works, filled_works, slot_works, page_refusal_works, table_refusal_works, allowed_works, unless_works, quiet_works, give_works, zero_works, map_at_works, install_at_works, unmap_at_works, unmap_all_works, drops_works}
 
 -- ---- each call
 
@@ -108,11 +64,15 @@ delete_works e d a =
     filled_works d true a _ (λ c _. check_works d true 12 _ _ refl
     (drops_works d (drop_slot e a d) 0 (drops_fewer d 1 most_entries _ (omega arith) (drop_slot_drops e a d))))
 
+-- 63 of 64 slots at most are others
+few_emptied : (d : Dom) (a : ℕ) → a < 64 → length (emptied_at d.caps a) ≤ most_entries
+few_emptied d a below = omega (arith, entries_few d.caps a (range_with_len 0 64), count_below d.caps a below)
+
 revoke_works : (e : Estate) (d : Dom) (a : ℕ) → Works d true (revoke e d a)
-unfolding revoke
+unfolding revoke with_caps
 revoke_works e d a =
     filled_works d true a _ (λ c below.
-    drops_works d (drop_others e a 64 0 d) _ (each_other e a 63 0 d (omega arith) (omega (arith, below))))
+    unmap_all_works d e.root (emptied_at d.caps a) (with_caps (revoked d.caps a) d) (revoked_count d.caps a) (few_emptied d a below) refl)
 
 -- ---- a call by its number
 

@@ -1,5 +1,5 @@
 -- DELETE and REVOKE keep the facts, and then every call does.
-use Rattle.std.proofs.Common.{◌≡◌, ℕ, zero, suc, ◌<◌, ◌≤◌, ◌+◌, ◌-◌, Bool, true, false, true≢false, not, eq-eqb, Option, Some, None, length, ◌⊎◌, inl, inr, refl, ap, sym, subst, ◌∙◌, arith}
+use Rattle.std.proofs.Common.{◌≡◌, ℕ, ◌<◌, ◌+◌, ◌-◌, Bool, true, false, true≢false, not, eq-eqb, Option, Some, None, length, ◌⊎◌, inl, inr, refl, ap, sym, subst, ◌∙◌, arith}
 use Rattle.std.specs.Prelude.{nat_eq, slice_index_or}
 use Rattle.std.proofs.lemmas.Bool.{cases_lt}
 use Rattle.std.proofs.lemmas.List.Folds.{list_any_at}
@@ -10,19 +10,21 @@ use Rattle.sv32_walk.proofs.EntryLemmas.{second_of_both}
 use Rattle.page_map.specs.Changes.{unmapped, uninstalled}
 use Rattle.cap_table.specs.declared.Cap.{Cap}
 use Rattle.cap_table.specs.declared.Cap.TheVariants as cap
-use Rattle.cap_table.specs.Slots.{Slots, cap_at, is_filled, with_cap, mapped_at, installed_at, is_in_region, maps_in, in_use_at, in_use, alike, same_number, line_of, page_of, is_revoked, revoked_count}
+use Rattle.cap_table.specs.Slots.{Slots, cap_at, is_filled, with_cap, mapped_at, installed_at, is_in_region, maps_in, in_use_at, in_use, alike, same_number, line_of, page_of, is_revoked, revoked, revoked_count}
+use Rattle.cap_table.proofs.RevokeLemmas.{alike_unused}
 use Rattle.cap_table.specs.Slots as slots
 use Rattle.rv_core.specs.Registers.{register}
-use Rattle.call_table.specs.Domain.{Dom, done, exited}
+use Rattle.call_table.specs.Domain.{Dom, done, exited, with_caps}
 use Rattle.call_table.specs.Claims.{Claim, Estate, is_mine, place_of, region_of, claim_of, claims, IsMapped, IsEstate}
 use Rattle.call_table.specs.Claims.Claim.{Nothing, Fixed, Leaf, Directory}
-use Rattle.call_table.specs.Calls.{put_byte, clear_entry, unmap_at, uninstall_at, empty_buffer, drop_slot, delete, drop_if, drop_others, revoke, call_of, call}
+use Rattle.call_table.specs.Calls.{put_byte, clear_entry, unmap_at, uninstall_at, empty_buffer, with_slot, drop_slot, delete, emptied_at, revoke, call_of, call}
 use Rattle.call_table.specs.Laws.{Kept, LeavesKept, CallsKeepLaw}
 use Rattle.call_table.proofs.ClaimLaws.{one_slot, same_frame}
 use Rattle.call_table.proofs.ClaimLawsSlots.{claims_at, claims_fixed}
 use Rattle.call_table.proofs.StepLaws.{clearing, uninstalling, dropping, idling, leaf_same}
 use Rattle.call_table.proofs.QuietCalls.{later_quiet}
-use Rattle.call_table.proofs.CallLawsSteps.{FactsWith, Ends, kept_slot, kept_replied, kept_exited, kept_printed, give_ends, quiet_ends, if_ends, check_ends, filled_ends, buffer_ends, clear_ends, bind_ends}
+use Rattle.call_table.proofs.RevokedSlots.{unmapped_if, Revokes, by_slots, revoked_no_table, clear_same}
+use Rattle.call_table.proofs.CallLawsSteps.{FactsWith, Ends, kept_slot, kept_replied, kept_exited, kept_printed, give_ends, quiet_ends, if_ends, check_ends, filled_ends, unmap_all_ends, buffer_ends, clear_ends, bind_ends}
 use Rattle.call_table.proofs.CallLaws.{table_at, alloc_keeps, install_keeps, map_page_keeps, unmap_keeps, copy_keeps}
 
 -- ---- a table that is not in use has no page
@@ -121,10 +123,6 @@ drop_ends e d m a s h below unused =
     (give_ends e _ _ (kept_slot e d m (clear_entry e.root (cap_at d.caps a) m).state a None h below
     (drop_facts e d m a (cap_at d.caps a) s h below refl unused)))
 
-pub drop_keeps : (e : Estate) (d : Dom) (m : Mem) (a : ℕ) → IsEstate e → Kept e d m → a < 64 → in_use d.caps a ≡ false
-    → LeavesKept e (drop_slot e a d m)
-drop_keeps e d m a s h below unused = (drop_ends e d m a s h below unused).kept
-
 -- ---- DELETE
 
 not_true : (b : Bool) → not b ≡ true → b ≡ false
@@ -146,48 +144,40 @@ delete_keeps e d m a s h = (delete_ends e d m a s h).kept
 
 -- ---- REVOKE
 
--- what is alike to another capability is no table
-alike_loose : (caps : Slots) (x y : Option Cap) → alike x y ≡ true → in_use_at caps (installed_at y) ≡ false
-alike_loose caps x None h = refl
-alike_loose caps x (Some (cap.Frame f rights w)) h = refl
-alike_loose caps None (Some (cap.Table f w)) h = absurd (cc h)
-alike_loose caps (Some (cap.Frame g rights u)) (Some (cap.Table f w)) h = absurd (cc h)
-alike_loose caps (Some (cap.Table g u)) (Some (cap.Table f w)) h = absurd (cc h)
-alike_loose caps (Some (cap.Irq line)) (Some (cap.Table f w)) h = absurd (cc h)
-alike_loose caps x (Some (cap.Irq line)) h = refl
-
 pub revoked_loose : (caps : Slots) (a i : ℕ) → is_revoked caps a i ≡ true → in_use caps i ≡ false
-unfolding in_use
-revoked_loose caps a i h = alike_loose caps (cap_at caps a) (cap_at caps i)
-    (second_of_both (not (nat_eq i a)) (alike (cap_at caps a) (cap_at caps i)) h)
+revoked_loose caps a i h = alike_unused caps (cap_at caps a) i (second_of_both (not (nat_eq i a)) (alike (cap_at caps a) (cap_at caps i)) h)
 
-drop_if_ends : (e : Estate) (d : Dom) (m : Mem) (i : ℕ) (b : Bool) → IsEstate e → Kept e d m → i < 64
-    → (b ≡ true → in_use d.caps i ≡ false) → Ends e (drop_if e i d b m)
-unfolding drop_if
-drop_if_ends e d m i true s h below unused = drop_ends e d m i s h below (unused refl)
-drop_if_ends e d m i false s h below unused = give_ends e d m h
+-- the facts stay as each slot is emptied
+pub slot_keeps : (e : Estate) (d : Dom) (m : Mem) (a i : ℕ) → IsEstate e → Kept e d m → i < 64 → is_revoked d.caps a i ≡ true
+    → Kept e (with_slot d i None) (unmapped_if m e.root (mapped_at (cap_at d.caps i)))
+unfolding in_use claim_of
+slot_keeps e d m a i s h below hit =
+    subst (λ (n : Mem). Kept e (with_slot d i None) n)
+    (clear_same e.root (cap_at d.caps i) m (λ f w. revoked_no_table d.caps a i f w hit))
+    (kept_slot e d m (clear_entry e.root (cap_at d.caps i) m).state i None h below
+    (drop_facts e d m i (cap_at d.caps i) s h below refl (revoked_loose d.caps a i hit)))
 
-drop_others_ends : (e : Estate) (a n i : ℕ) (d : Dom) (m : Mem) → IsEstate e → Kept e d m → i + n ≤ 64
-    → Ends e (drop_others e a n i d m)
-unfolding drop_others
-drop_others_ends e a zero i d m s h le = give_ends e d m h
-drop_others_ends e a (suc n) i d m s h le =
-    bind_ends e (drop_if e i d (is_revoked d.caps a i)) (λ x. drop_others e a n (suc i) x) m
-    (drop_if_ends e d m i (is_revoked d.caps a i) s h (omega (arith, le)) (revoked_loose d.caps a i))
-    (λ x k j. drop_others_ends e a n (suc i) x k s j (omega (arith, le)))
-
-pub drop_others_keeps : (e : Estate) (a n i : ℕ) (d : Dom) (m : Mem) → IsEstate e → Kept e d m → i + n ≤ 64
-    → LeavesKept e (drop_others e a n i d m)
-drop_others_keeps e a n i d m s h le = (drop_others_ends e a n i d m s h le).kept
+-- and so in the end, where a leaf that is cleared meets C by the facts
+pub revoked_keeps : (e : Estate) (d : Dom) (m : Mem) (a : ℕ) (C : Mem → ℕ → Type 0) → IsEstate e → Kept e d m
+    → ((i f rights va : ℕ) (caps : Slots) (n : Mem) → cap_at caps i ≡ Some (cap.Frame f rights (Some va)) → Kept e (with_caps caps d) n → C n va)
+    → Revokes e.root a C (λ caps n. Kept e (with_caps caps d) n) d.caps m (emptied_at d.caps a)
+unfolding with_caps
+revoked_keeps e d m a C s h there =
+    by_slots e.root a C (λ caps n. Kept e (with_caps caps d) n)
+    (record {
+      emptied = λ i caps n below long hit k. slot_keeps e (with_caps caps d) n a i s k below hit;
+      there = there;
+    })
+    d.caps h.slots m h
 
 revoke_ends : (e : Estate) (d : Dom) (m : Mem) (a : ℕ) → IsEstate e → Kept e d m → Ends e (revoke e d a m)
 unfolding revoke
 revoke_ends e d m a s h =
     filled_ends e d m a _ h (λ c below there.
-    bind_ends e (drop_others e a 64 0 d) (λ x. empty_buffer >> give (done (revoked_count d.caps a) x)) m
-    (drop_others_ends e a 64 0 d m s h (omega arith)) (λ x n k.
-    buffer_ends e n _
-    (give_ends e _ n (kept_replied e x n 0 (revoked_count d.caps a) k))))
+    unmap_all_ends e m e.root (emptied_at d.caps a) _
+    (buffer_ends e _ _
+    (give_ends e _ _ (kept_replied e (with_caps (revoked d.caps a) d) _ 0 (revoked_count d.caps a)
+    (revoked_keeps e d m a (λ _ _. Unit {0}) s h (λ i f rights va caps n is k. tt)).end))))
 
 pub revoke_keeps : (e : Estate) (d : Dom) (m : Mem) (a : ℕ) → IsEstate e → Kept e d m → LeavesKept e (revoke e d a m)
 revoke_keeps e d m a s h = (revoke_ends e d m a s h).kept

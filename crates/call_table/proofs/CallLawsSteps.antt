@@ -11,10 +11,11 @@ use Rattle.cap_table.specs.declared.Cap.TheVariants as cap
 use Rattle.cap_table.specs.Slots.{Slots, cap_at}
 use Rattle.call_table.specs.Domain.{Dom, placed, replied, done, refused, exited, with_caps}
 use Rattle.call_table.specs.Claims.{Claim, Estate, is_mine, claim_of, claims, Facts}
-use Rattle.call_table.specs.Calls.{Note, Act, zero_out, page_refusal, table_refusal, map_at, unmap_at, install_at, uninstall_at, empty_buffer, some_or, is_slot, filled, allowed, error_of, unless_refused, clear_entry, with_slot}
+use Rattle.call_table.specs.Calls.{Note, Act, zero_out, page_refusal, table_refusal, map_at, unmap_at, unmap_all, install_at, uninstall_at, empty_buffer, some_or, is_slot, filled, allowed, error_of, unless_refused, clear_entry, with_slot}
 use Rattle.call_table.specs.Laws.{Kept, LeavesKept}
 use Rattle.call_table.proofs.ClaimLaws.{with_claim}
 use Rattle.call_table.proofs.ClaimLawsSlots.{claims_set, long_set}
+use Rattle.call_table.proofs.RevokedSlots.{after_all}
 use Rattle.call_table.proofs.QuietCalls.{QuietEnd, Quiet}
 
 -- the facts of a memory and of a domain's claims, with another claim at a slot
@@ -149,6 +150,10 @@ module _ (e : Estate) where
       → Ends ((install_at root va f >> y) m)
   unfolding install_at ◌>>◌ ◌>>=◌ go_on either
   install_at_ends m root va f y h = record { kept = h.kept }
+
+  pub unmap_all_ends : (m : Mem) (root : ℕ) (vas : List ℕ) (y : Act Dom) → Ends (y (unmap_all root vas m).state)
+      → Ends ((unmap_all root vas >> y) m)
+  unmap_all_ends m root vas y h = record { kept = subst (LeavesKept e) (sym (after_all root vas y m)) h.kept }
 
   pub buffer_ends : (m : Mem) (y : Act Dom) → Ends (y m) → Ends ((empty_buffer >> y) m)
   unfolding empty_buffer ◌>>◌ ◌>>=◌ go_on either

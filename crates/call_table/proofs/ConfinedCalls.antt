@@ -1,10 +1,10 @@
 -- Each call over two memories that are equal in the domain's own frames does the same, and within those frames alone.
-use Rattle.std.proofs.Common.{◌≡◌, ◌≢◌, ◌∙◌, ap, sym, subst, refl, inl, inr, ℕ, zero, suc, Bool, true, false, true≢false, not, cond, lt-ltb, ◌||◌, List, [], ◌∷◌, Option, Some, None}
-use Rattle.std.specs.Prelude.{filter, nat_eq, slice_get}
-use Rattle.std.proofs.lemmas.Bool.{and_parts}
+use Rattle.std.proofs.Common.{◌≡◌, ◌≢◌, ◌∙◌, ap, subst, refl, inl, inr, ℕ, Bool, true, false, not, cond, lt-ltb, ◌||◌, List, [], ◌∷◌, Option, Some, None}
+use Rattle.std.specs.Prelude.{filter, nat_eq, slice_get, if◌then◌else◌}
+use Rattle.std.specs.List.{range_with_len}
 use Rattle.tp_base.specs.Act.{go_on, ◌>>=◌, ◌>>◌, give, stop}
 use Rattle.phys_mem.specs.Mem.{Mem, word, zeroed_frame}
-use Rattle.sv32_walk.specs.PageTableEntry.{valid, ppn, vpn_1}
+use Rattle.sv32_walk.specs.PageTableEntry.{valid, vpn_1}
 use Rattle.page_map.specs.Tables.{has_table, map_refusal, install_refusal}
 use Rattle.page_map.proofs.KeptLemmas.{unrefused_table}
 use Rattle.rv_core.specs.Registers.{register}
@@ -13,16 +13,17 @@ use Rattle.frame_colours.proofs.Pools.{IsOwn-pool}
 use Rattle.frame_colours.proofs.Ascending.{has_head}
 use Rattle.cap_table.specs.declared.Cap.{Cap}
 use Rattle.cap_table.specs.declared.Cap.TheVariants as cap
-use Rattle.cap_table.specs.Slots.{Slots, cap_at, is_revoked, alike}
+use Rattle.cap_table.specs.Slots as slots
+use Rattle.cap_table.specs.Slots.{Slots, cap_at, mapped_at, is_revoked, push_some}
 use Rattle.call_table.specs.Domain.{Dom, refused, exited, with_caps}
 use Rattle.call_table.specs.Claims.{Estate, is_mine, claims, claim_of, place_of, is_named, free_frames, least_free}
-use Rattle.call_table.specs.Calls.{Act, Page, is_slot, page_in, table_in, put_byte, with_slot, alloc, install, map_page, unmap, copy, copy_refusal, unless_refused, drop_slot, delete, drop_if, drop_others, revoke, call_of, call}
+use Rattle.call_table.specs.Calls.{Act, Page, is_slot, page_in, table_in, put_byte, with_slot, alloc, install, map_page, unmap, copy, copy_refusal, unless_refused, drop_slot, delete, emptied_at, unmap_all, revoke, call_of, call}
 use Rattle.call_table.specs.Laws.{IsMine, Kept, SameMine, IsConfined}
 use Rattle.call_table.proofs.TablesClaims.{some_same, own_root, table_own, table_not_root, valid-table}
 use Rattle.call_table.proofs.TablesSlots.{claim_at, cap_by}
 use Rattle.call_table.proofs.QuietCalls.{later_quiet}
 use Rattle.call_table.proofs.ConfinedSteps.{Any, Beside, Alike, bind_alike, quiet_alike, give_alike, stop_alike, check_alike, some_alike, filled_alike, allowed_alike, buffer_alike}
-use Rattle.call_table.proofs.ConfinedTables.{OwnTables, zero_alike, page_refusal_alike, table_refusal_alike, map_alike, unmap_alike, install_alike, clear_alike}
+use Rattle.call_table.proofs.ConfinedTables.{OwnTables, same_tables, zero_alike, page_refusal_alike, table_refusal_alike, map_alike, unmap_alike, install_alike, clear_alike}
 
 -- ---- what the facts give
 
@@ -53,11 +54,7 @@ pub still_ready : (e : Estate) (d : Dom) (m : Mem) → Ready e d m → (i : ℕ)
     → Ready e (with_slot d i None) n
 unfolding with_caps
 still_ready e d m r i n same = record {
-  tables = record {
-    root = r.tables.root;
-    own = λ q. subst (λ (w : ℕ). valid w ≡ true → IsMine e (ppn w)) (sym (same q)) (r.tables.own q);
-    apart = λ q. subst (λ (w : ℕ). valid w ≡ true → ppn w ≢ e.root) (sym (same q)) (r.tables.apart q);
-  };
+  tables = same_tables e m n same r.tables;
   mapped = λ j f rights va is. elim (cap_by d.caps i j None (cap.Frame f rights (Some va)) is) [
     | inl new ↦ absurd (cc (new.1))
     | inr old ↦ ap valid (same (vpn_1 va)) ∙ r.mapped j f rights va old.1
@@ -98,15 +95,30 @@ page_in_is (cap.Frame g s v) page e = ap (λ (p : Page). cap.Frame p.frame p.rig
 page_in_is (cap.Table g v) page e = absurd (cc e)
 page_in_is (cap.Irq line) page e = absurd (cc e)
 
-no_table_alike : (x : Option Cap) (f : ℕ) (w : Option ℕ) → alike x (Some (cap.Table f w)) ≡ true → ⊥
-no_table_alike None f w e = true≢false (sym e)
-no_table_alike (Some (cap.Irq line)) f w e = true≢false (sym e)
-no_table_alike (Some (cap.Frame g rights v)) f w e = true≢false (sym e)
-no_table_alike (Some (cap.Table g v)) f w e = true≢false (sym e)
+-- ---- where slots are mapped there are tables
 
-pub revoked_no_table : (caps : Slots) (a i f : ℕ) (w : Option ℕ) → is_revoked caps a i ≡ true → cap_at caps i ≢ Some (cap.Table f w)
-revoked_no_table caps a i f w r is =
-    no_table_alike (cap_at caps a) f w (subst (λ (c : Option Cap). alike (cap_at caps a) c ≡ true) is (and_parts _ _ r).1)
+-- for each of these addresses
+abbrev pub HaveTables : Mem → ℕ → List ℕ → Type 0
+HaveTables m root [] = Unit {0}
+HaveTables m root (va ∷ vas) = (has_table m root va ≡ true) × HaveTables m root vas
+
+pub still_have : (m n : Mem) (root : ℕ) (vas : List ℕ) → ((q : ℕ) → word n root q ≡ word m root q) → HaveTables m root vas → HaveTables n root vas
+still_have m n root [] same h = tt
+still_have m n root (va ∷ vas) same h = (ap valid (same (vpn_1 va)) ∙ h.0, still_have m n root vas same h.1)
+
+pub have_tables : (e : Estate) (d : Dom) (m : Mem) → Ready e d m → (a : ℕ) (is : List ℕ) → HaveTables m e.root (slots.entries_in d.caps a is)
+unfolding slots.entries_in
+have_tables e d m r a [] = tt
+have_tables e d m r a (i ∷ is) = by_slot (is_revoked d.caps a i) (cap_at d.caps i) refl (have_tables e d m r a is)
+  where
+    by_slot : (t : Bool) (c : Option Cap) → cap_at d.caps i ≡ c → HaveTables m e.root (slots.entries_in d.caps a is)
+        → HaveTables m e.root (push_some (if t then mapped_at c else None) (slots.entries_in d.caps a is))
+    by_slot false c there h = h
+    by_slot true None there h = h
+    by_slot true (Some (cap.Irq line)) there h = h
+    by_slot true (Some (cap.Table f w)) there h = h
+    by_slot true (Some (cap.Frame f rights None)) there h = h
+    by_slot true (Some (cap.Frame f rights (Some va))) there h = (r.mapped i f rights va there, h)
 
 module _ (e : Estate) (first : Mem) where
   -- what is said of each call
@@ -199,26 +211,20 @@ module _ (e : Estate) (first : Mem) where
           buffer_alike e first Any n l z _
           (give_alike e first Any n l z _ tt))))
 
-      drop_if_call : (i : ℕ) (t : Bool) → (t ≡ true → (f : ℕ) (w : Option ℕ) → cap_at d.caps i ≢ Some (cap.Table f w))
-          → Alike e first (Ready e) (drop_if e i d t m) (drop_if e i d t k)
-      unfolding drop_if
-      drop_if_call i true no_table = drop_call (Ready e) i (λ n same. still_ready e d m r i n (same (no_table refl)))
-      drop_if_call i false no_table = give_alike e first (Ready e) m k b d r
-
-  drop_others_call : (a n i : ℕ) (d : Dom) (m k : Mem) → Beside e first m k → Ready e d m
-      → Alike e first (Ready e) (drop_others e a n i d m) (drop_others e a n i d k)
-  unfolding drop_others
-  drop_others_call a zero i d m k b r = give_alike e first (Ready e) m k b d r
-  drop_others_call a (suc n) i d m k b r =
-      bind_alike e first (Ready e) (Ready e) (drop_if e i d (is_revoked d.caps a i)) (λ x. drop_others e a n (suc i) x) m k
-      (drop_if_call d m k b r i (is_revoked d.caps a i) (λ yes f w. revoked_no_table d.caps a i f w yes))
-      (λ x p q ready z. drop_others_call a n (suc i) x p q z ready)
+  all_alike : (vas : List ℕ) (m k : Mem) → Beside e first m k → OwnTables e m → HaveTables m e.root vas
+      → Alike e first Any (unmap_all e.root vas m) (unmap_all e.root vas k)
+  unfolding unmap_all
+  all_alike [] m k b t h = give_alike e first Any m k b tt tt
+  all_alike (va ∷ vas) m k b t h =
+      unmap_alike e first m k b Any t va (unmap_all e.root vas) h.0 (λ n l same z.
+      all_alike vas n l z (same_tables e m n same t) (still_have m n e.root vas same h.1))
 
   revoke_call : (d : Dom) (m k : Mem) → Beside e first m k → Ready e d m → (a : ℕ) → Same (revoke e d a) m k
-  unfolding revoke
+  unfolding revoke ◌>>◌
   revoke_call d m k b r a =
       filled_alike e first Any m k b d a _ (λ _ c is.
-      bind_alike e first (Ready e) Any (drop_others e a 64 0 d) _ m k (drop_others_call a 64 0 d m k b r) (λ x n l _ z.
+      bind_alike e first Any Any (unmap_all e.root (emptied_at d.caps a)) _ m k
+      (all_alike (emptied_at d.caps a) m k b r.tables (have_tables e d m r a (range_with_len 0 64))) (λ u n l _ z.
       buffer_alike e first Any n l z _
       (give_alike e first Any n l z _ tt)))
 

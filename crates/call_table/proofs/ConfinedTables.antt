@@ -9,6 +9,7 @@ use Rattle.sv32_walk.specs.Translation.{second_entry}
 use Rattle.page_map.specs.declared.refusal.MapRefusal.{MapRefusal}
 use Rattle.page_map.specs.declared.refusal.MapRefusal.TheVariants as refusal
 use Rattle.page_map.specs.Tables.{has_table, has_page, table_of, map_refusal, install_refusal}
+use Rattle.page_map.specs.Changes.{unmapped}
 use Rattle.page_map.proofs.WalkLemmas.{vpn_0-below, vpn_1-below}
 use Rattle.cap_table.specs.declared.Cap.{Cap}
 use Rattle.cap_table.specs.declared.Cap.TheVariants as cap
@@ -22,6 +23,19 @@ pub record OwnTables (e : Estate) (m : Mem) : Type 0 where
   pub root : IsMine e e.root
   pub own : (r : ℕ) → valid (word m e.root r) ≡ true → IsMine e (ppn (word m e.root r))
   pub apart : (r : ℕ) → valid (word m e.root r) ≡ true → ppn (word m e.root r) ≢ e.root
+
+-- where the root is as it was, so are the tables
+pub same_tables : (e : Estate) (m n : Mem) → ((q : ℕ) → word n e.root q ≡ word m e.root q) → OwnTables e m → OwnTables e n
+same_tables e m n same t = record {
+  root = t.root;
+  own = λ q. subst (λ (w : ℕ). valid w ≡ true → IsMine e (ppn w)) (sym (same q)) (t.own q);
+  apart = λ q. subst (λ (w : ℕ). valid w ≡ true → ppn w ≢ e.root) (sym (same q)) (t.apart q);
+}
+
+-- a leaf that is cleared leaves the root
+pub root_stays : (e : Estate) (m : Mem) (va : ℕ) → OwnTables e m → has_table m e.root va ≡ true
+    → (q : ℕ) → word (unmapped m e.root va) e.root q ≡ word m e.root q
+root_stays e m va t ok q = word-written_frame m (table_of m e.root va) (vpn_0 va) 0 e.root q (λ z. t.apart (vpn_1 va) ok (sym z))
 
 both_same : (t t' v v' : Bool) → t ≡ t' → (t ≡ true → v ≡ v') → t && v ≡ t' && v'
 both_same true true v v' e h = h refl
@@ -120,7 +134,7 @@ module _ (e : Estate) (first m k : Mem) (b : Beside e first m k) {A : Type 0} (P
     unmap_alike va y ok h =
         entry_alike (table_of m e.root va) (table_of k e.root va) (vpn_0 va) 0 y (same_table e m k b.same t va)
         (t.own (vpn_1 va) ok) (vpn_0-below va)
-        (h _ _ (λ r. word-written_frame m (table_of m e.root va) (vpn_0 va) 0 e.root r (λ s. t.apart (vpn_1 va) ok (sym s))))
+        (h _ _ (root_stays e m va t ok))
 
     pub install_alike : (va f : ℕ) (y : Act A) → ((n l : Mem) → Beside e first n l → Alike e first P (y n) (y l))
         → Alike e first P ((install_at e.root va f >> y) m) ((install_at e.root va f >> y) k)

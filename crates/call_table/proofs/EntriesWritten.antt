@@ -1,32 +1,34 @@
 -- Which slots each call sets, and which entries of page tables it writes.
-use Rattle.std.proofs.Common.{◌≡◌, ◌≢◌, ◌∙◌, ap, ap₂, sym, subst, refl, inl, inr, ◌⊎◌, ℕ, zero, suc, ◌+◌, ◌<◌, ◌≤◌, Bool, true, false, not, ◌&&◌, arith, add-one, eqb-true, eq-eqb, length, length-set, List, [], ◌∷◌, ◌++◌, Option, Some, None, ltb-true}
+use Rattle.std.proofs.Common.{◌≡◌, ◌∙◌, ap, ap₂, sym, subst, refl, inr, ◌⊎◌, ℕ, ◌<◌, Bool, true, false, arith, eqb-true, length, List, [], ◌∷◌, ◌++◌, Option, Some, None, ltb-true}
 use Rattle.std.specs.Prelude.{nat_eq, nat_lt, map, if◌then◌else◌}
 use Rattle.std.specs.List.{range_with_len}
-use Rattle.std.proofs.lemmas.Bool.{cases_eq, cases_lt}
-use Rattle.std.proofs.lemmas.List.{get_or_past, append-nil}
+use Rattle.std.proofs.lemmas.List.{append-nil}
 use Rattle.tp_base.specs.Act.{Done, go_on, ◌>>=◌, ◌>>◌, give, stop, check}
-use Rattle.phys_mem.specs.Mem.{Mem, word, word-written_frame, zeroed_frame}
+use Rattle.phys_mem.specs.Mem.{Mem, word, zeroed_frame}
 use Rattle.sv32_walk.specs.PageTableEntry.{ppn, vpn_0, vpn_1}
 use Rattle.sv32_walk.specs.Walk.{entry_address}
 use Rattle.thread_set.specs.Threads.{with_current}
 use Rattle.page_map.specs.declared.refusal.MapRefusal.{MapRefusal}
-use Rattle.page_map.specs.Tables.{has_table, table_of, map_refusal, install_refusal}
+use Rattle.page_map.specs.Tables.{map_refusal, install_refusal}
 use Rattle.page_map.specs.Changes.{table_entry, page_entry, unmapped, mapped}
 use Rattle.cap_table.specs.declared.Cap.{Cap}
 use Rattle.cap_table.specs.declared.Cap.TheVariants as cap
 use Rattle.cap_table.specs.Slots as slots
-use Rattle.cap_table.specs.Slots.{Slots, cap_at, with_cap, mapped_at, alike, copied, noted, push_some, is_revoked, slot_after, revoked_count, revoked_entries}
+use Rattle.cap_table.specs.Slots.{cap_at, copied, noted, revoked, revoked_count, revoked_entries}
+use Rattle.cap_table.proofs.RevokeLemmas.{at_revoked}
 use Rattle.call_table.specs.Domain.{Dom, placed, replied, done, refused, exited, with_caps}
 use Rattle.call_table.specs.Claims.{Estate, least_free}
-use Rattle.call_table.specs.Calls.{Note, Act, entries_in, zero_out, page_refusal, table_refusal, map_at, unmap_at, install_at, uninstall_at, empty_buffer, some_or, is_slot, filled, allowed, unless_refused, page_in, table_in, copy_refusal, clear_entry, with_slot, put_byte, alloc, install, map_page, unmap, copy, drop_slot, delete, drop_if, drop_others, revoke, call_of, call, fresh_cap}
+use Rattle.call_table.specs.Calls.{Note, Act, entries_in, zero_out, page_refusal, table_refusal, map_at, unmap_at, install_at, uninstall_at, empty_buffer, some_or, is_slot, filled, allowed, unless_refused, page_in, table_in, copy_refusal, clear_entry, with_slot, put_byte, alloc, install, map_page, unmap, copy, drop_slot, delete, emptied_at, unmap_all, revoke, call_of, call, fresh_cap}
 use Rattle.call_table.specs.Laws as laws
 use Rattle.call_table.specs.Laws.{Kept}
 use Rattle.call_table.specs.Meanings.{Makes, argument_a, argument_b, argument_c}
 use Rattle.call_table.specs.Entries.{SetsSlot, AllocatedSlotLaw, MappedSlotLaw, CopiedPageLaw, CopiedLineLaw, DeletedSlotLaw, IsRevokedAll, RevokedSlotsLaw, entry_of, entries_written, EntriesLaw}
 use Rattle.call_table.proofs.TablesSlots.{filled_within, cap_same, cap_other}
 use Rattle.call_table.proofs.QuietCalls.{Quiet, poll_quiet, wait_quiet, signal_quiet, spawn_quiet, yield_quiet, end_quiet}
-use Rattle.call_table.proofs.ConfinedCalls.{Ready, ready, still_ready, revoked_no_table, page_in_is}
-use Rattle.call_table.proofs.MeaningSteps.{Whatever, Gives, given, bind_gives, give_gives, clear_gives, buffer_gives, zero_gives, map_gives, page_refusal_gives, check_gives, some_gives, filled_gives, allowed_gives, unless_gives}
+use Rattle.call_table.proofs.RevokedSlots.{after_all}
+use Rattle.call_table.proofs.ConfinedTables.{OwnTables, same_tables, root_stays}
+use Rattle.call_table.proofs.ConfinedCalls.{ready, page_in_is, HaveTables, still_have, have_tables}
+use Rattle.call_table.proofs.MeaningSteps.{Whatever, Gives, given, bind_gives, give_gives, clear_gives, unmap_all_gives, buffer_gives, zero_gives, map_gives, page_refusal_gives, check_gives, some_gives, filled_gives, allowed_gives, unless_gives}
 use Rattle.call_table.proofs.MeaningNumbers.{by_number}
 use Rattle.call_table.proofs.WorkSteps.{entries-append}
 
@@ -159,7 +161,7 @@ module _ (e : Estate) (d : Dom) (m : Mem) (a : ℕ) where
       filled_gives Whatever Ended m d (λ _. tt) a _ (λ _ c there.
       check_gives Whatever Ended m d (λ _. tt) 12 _ _ (λ _.
       bind_gives Whatever Emptied Ended _ _ m
-      (clear_gives Whatever Emptied m e.root (cap_at d.caps a) _ (λ n. give_gives Whatever Emptied n _ refl)) (λ x n same.
+      (clear_gives Whatever Emptied m e.root (cap_at d.caps a) _ (give_gives Whatever Emptied _ _ refl)) (λ x n same.
       buffer_gives Whatever Ended n _
       (give_gives Whatever Ended n _ (ap (λ (y : Dom). done 0 y) same, filled_within d.caps a c there)))))
 
@@ -170,174 +172,18 @@ deleted_slot e d x m is does =
     (value_of e d x m 7 is does) in
     sets_by d x (argument_a d) None None end.0 end.1 refl
 
--- ---- REVOKE, slot by slot
-
-not_itself : (caps : Slots) (a i : ℕ) → i ≡ a → slot_after caps a i ≡ cap_at caps i
-not_itself caps a i same =
-    ap (λ (t : Bool). if not t && alike (cap_at caps a) (cap_at caps i) then None else cap_at caps i) (eq-eqb i a same)
-
--- the slots before i are as REVOKE leaves them, and those from there on as they were
-record Reaches (d : Dom) (a i : ℕ) (x : Dom) : Type 0 where
-  long : length x.caps ≡ length d.caps
-  before : (j : ℕ) → j < i → cap_at x.caps j ≡ slot_after d.caps a j
-  from : (j : ℕ) → i ≤ j → cap_at x.caps j ≡ cap_at d.caps j
-  rest : x ≡ record d { caps = x.caps }
-
-module _ (d : Dom) (a i : ℕ) (x : Dom) (r : Reaches d a i x) where
-  self_stays : cap_at x.caps a ≡ cap_at d.caps a
-  self_stays = elim (cases_lt a i) [
-    | inl less ↦ r.before a less ∙ not_itself d.caps a a refl
-    | inr more ↦ r.from a more
-  ]
-
-  same_test : is_revoked x.caps a i ≡ is_revoked d.caps a i
-  same_test = ap₂ (λ (c z : Option Cap). not (nat_eq i a) && alike c z) self_stays (r.from i (omega arith))
-
-  emptied_next : i < length d.caps → is_revoked d.caps a i ≡ true → Reaches d a (suc i) (with_slot x i None)
-  unfolding with_caps
-  emptied_next below hit = record {
-    long = length-set x.caps i None ∙ r.long;
-    before = λ j less. elim (cases_eq j i) [
-      | inl same ↦
-          ap (λ (k : ℕ). cap_at (with_cap x.caps i None) k) same
-          ∙ cap_same x.caps i None (omega (arith, below, r.long))
-          ∙ sym (ap (λ (k : ℕ). slot_after d.caps a k) same ∙ ap (λ (t : Bool). if t then None else cap_at d.caps i) hit)
-      | inr other ↦ cap_other x.caps i j None other ∙ r.before j (omega (arith, less, other))
-    ];
-    from = λ j more. cap_other x.caps i j None (λ same. absurd (omega (arith, more, same))) ∙ r.from j (omega (arith, more));
-    rest = ap (λ (y : Dom). record y { caps = with_cap x.caps i None }) r.rest;
-  }
-
-  kept_next : is_revoked d.caps a i ≡ false → Reaches d a (suc i) x
-  kept_next missed = record {
-    long = r.long;
-    before = λ j less. elim (cases_eq j i) [
-      | inl same ↦
-          ap (λ (k : ℕ). cap_at x.caps k) same ∙ r.from i (omega arith)
-          ∙ sym (ap (λ (k : ℕ). slot_after d.caps a k) same ∙ ap (λ (t : Bool). if t then None else cap_at d.caps i) missed)
-      | inr other ↦ r.before j (omega (arith, less, other))
-    ];
-    from = λ j more. r.from j (omega (arith, more));
-    rest = r.rest;
-  }
-
--- ---- and entry by entry
-
-module _ (e : Estate) (d : Dom) (m : Mem) (a : ℕ) where
-  abbrev entry : ℕ → ℕ
-  entry va = page_entry m e.root va
-
-  record Stage (i : ℕ) (x : Dom) (n : Mem) : Type 0 where
-    reaches : Reaches d a i x
-    ready : Ready e x n
-    root : (r : ℕ) → word n e.root r ≡ word m e.root r
-
-  -- an action that leaves slot i done, and wrote these entries
-  record Steps (i : ℕ) (es : List ℕ) (r : Done Mem Note Dom Dom) : Type 0 where
-    out : Dom
-    value : r.value ≡ inr out
-    notes : entries_in r.notes ≡ es
-    stage : Stage i out r.state
-
-  module _ (i : ℕ) (x : Dom) (n : Mem) (s : Stage i x n) where
-    same_entry : (va : ℕ) → page_entry n e.root va ≡ entry va
-    same_entry va = ap (λ (w : ℕ). entry_address (ppn w) (vpn_0 va)) (s.root (vpn_1 va))
-
-    cleared : (c : Option Cap) → cap_at x.caps i ≡ c → ((f : ℕ) (w : Option ℕ) → c ≢ Some (cap.Table f w))
-        → Reaches d a (suc i) (with_slot x i None)
-        → Steps (suc i) (map entry (push_some (mapped_at c) [])) ((clear_entry e.root c >> give (with_slot x i None)) n)
-    unfolding clear_entry unmap_at give ◌>>◌ ◌>>=◌ go_on entries_in
-    cleared (Some (cap.Frame f rights (Some va))) is no_table next =
-        let there : has_table n e.root va ≡ true = s.ready.mapped i f rights va is in
-        let root : (q : ℕ) → word (unmapped n e.root va) e.root q ≡ word n e.root q =
-        λ q. word-written_frame n (table_of n e.root va) (vpn_0 va) 0 e.root q (λ z. s.ready.tables.apart (vpn_1 va) there (sym z)) in
-        record {
-          out = with_slot x i None;
-          value = refl;
-          notes = ap (λ (k : ℕ). k ∷ []) (same_entry va);
-          stage = record {
-            reaches = next;
-            ready = still_ready e x n s.ready i (unmapped n e.root va) root;
-            root = λ q. root q ∙ s.root q;
-          };
-        }
-    cleared (Some (cap.Frame f rights None)) is no_table next =
-        record { out = with_slot x i None; value = refl; notes = refl; stage = record { reaches = next; ready = still_ready e x n s.ready i n (λ q. refl); root = s.root } }
-    cleared (Some (cap.Irq line)) is no_table next =
-        record { out = with_slot x i None; value = refl; notes = refl; stage = record { reaches = next; ready = still_ready e x n s.ready i n (λ q. refl); root = s.root } }
-    cleared None is no_table next =
-        record { out = with_slot x i None; value = refl; notes = refl; stage = record { reaches = next; ready = still_ready e x n s.ready i n (λ q. refl); root = s.root } }
-    cleared (Some (cap.Table f w)) is no_table next = absurd (no_table f w refl)
-
-    -- the entry of slot i, where it is emptied
-    abbrev of_slot : List ℕ
-    of_slot = map entry (push_some (if is_revoked d.caps a i then mapped_at (cap_at d.caps i) else None) [])
-
-    one_slot : i < length d.caps → (t : Bool) → is_revoked x.caps a i ≡ t → Steps (suc i) of_slot (drop_if e i x t n)
-    unfolding drop_if drop_slot give entries_in
-    one_slot below true hit =
-        let was : is_revoked d.caps a i ≡ true = sym (same_test d a i x s.reaches) ∙ hit in
-        let list : map entry (push_some (mapped_at (cap_at x.caps i)) []) ≡ of_slot =
-        ap (λ (c : Option Cap). map entry (push_some (mapped_at c) [])) (s.reaches.from i (omega arith))
-        ∙ sym (ap (λ (t : Bool). map entry (push_some (if t then mapped_at (cap_at d.caps i) else None) [])) was) in
-        subst (λ (es : List ℕ). Steps (suc i) es (drop_if e i x true n)) list
-        (cleared (cap_at x.caps i) refl (λ f w. revoked_no_table x.caps a i f w hit) (emptied_next d a i x s.reaches below was))
-    one_slot below false missed =
-        let was : is_revoked d.caps a i ≡ false = sym (same_test d a i x s.reaches) ∙ missed in
-        record {
-          out = x;
-          value = refl;
-          notes = sym (ap (λ (t : Bool). map entry (push_some (if t then mapped_at (cap_at d.caps i) else None) [])) was);
-          stage = record { reaches = kept_next d a i x s.reaches was; ready = s.ready; root = s.root };
-        }
-
-  -- one action after another
-  pub bound : (y : Act Dom) (f : Dom → Act Dom) (n : Mem) (z : Dom) → (y n).value ≡ inr z
-      → (y >>= f) n ≡ record { notes = (y n).notes ++ (f z (y n).state).notes; state = (f z (y n).state).state; value = (f z (y n).state).value }
-  unfolding ◌>>=◌ go_on
-  bound y f n z is = ap (go_on (y n) f) is
-
-  pushed : (o : Option ℕ) (vas : List ℕ) → map entry (push_some o []) ++ map entry vas ≡ map entry (push_some o vas)
-  pushed None vas = refl
-  pushed (Some va) vas = refl
-
-  ranged : (i n : ℕ) → range_with_len i (suc n) ≡ i ∷ range_with_len (suc i) n
-  ranged i n = ap (λ (k : ℕ). i ∷ range_with_len k n) (add-one i)
-
-  all_slots : (k i : ℕ) (x : Dom) (n : Mem) → i + k ≡ length d.caps → Stage i x n
-      → Steps (length d.caps) (map entry (slots.entries_in d.caps a (range_with_len i k))) (drop_others e a k i x n)
-  unfolding drop_others give entries_in slots.entries_in
-  all_slots zero i x n all s =
-      record { out = x; value = refl; notes = refl; stage = subst (λ (j : ℕ). Stage j x n) (omega (arith, all)) s }
-  all_slots (suc k) i x n all s =
-      let y : Act Dom = drop_if e i x (is_revoked x.caps a i) in
-      let f : Dom → Act Dom = λ z. drop_others e a k (suc i) z in
-      let one : Steps (suc i) (of_slot i x n s) (y n) = one_slot i x n s (omega (arith, all)) (is_revoked x.caps a i) refl in
-      let rest = all_slots k (suc i) one.out (y n).state (omega (arith, all)) one.stage in
-      subst (Steps (length d.caps) (map entry (slots.entries_in d.caps a (range_with_len i (suc k))))) (sym (bound y f n one.out one.value))
-      (record {
-        out = rest.out;
-        value = rest.value;
-        notes =
-            entries-append (y n).notes (f one.out (y n).state).notes
-            ∙ ap₂ (λ (p q : List ℕ). p ++ q) one.notes rest.notes
-            ∙ pushed (if is_revoked d.caps a i then mapped_at (cap_at d.caps i) else None) (slots.entries_in d.caps a (range_with_len (suc i) k))
-            ∙ ap (λ (is : List ℕ). map entry (slots.entries_in d.caps a is)) (sym (ranged i k));
-        stage = rest.stage;
-      })
-
 -- ---- REVOKE
 
--- a domain whose slots alone are others
-abbrev with_slots : Dom → Slots → Dom
-with_slots d caps = record d { caps = caps }
-
-past_slots : (caps : Slots) (a i : ℕ) → length caps ≤ i → slot_after caps a i ≡ cap_at caps i
-past_slots caps a i past = by_test (is_revoked caps a i)
-  where
-    by_test : (t : Bool) → (if t then None else cap_at caps i) ≡ cap_at caps i
-    by_test true = sym (get_or_past caps i None past)
-    by_test false = refl
+-- where the root is as it was at first, so are the entries
+all_entries : (e : Estate) (first : Mem) (vas : List ℕ) (m : Mem) → OwnTables e m → HaveTables m e.root vas
+    → ((r : ℕ) → word m e.root r ≡ word first e.root r) → entries_in (unmap_all e.root vas m).notes ≡ map (page_entry first e.root) vas
+unfolding unmap_all unmap_at give entries_in ◌>>◌ ◌>>=◌ go_on
+all_entries e first [] m t h same = refl
+all_entries e first (va ∷ vas) m t h same =
+    let stays = root_stays e m va t h.0 in
+    ap₂ (λ (entry : ℕ) (entries : List ℕ). entry ∷ entries) (ap (λ (w : ℕ). entry_address (ppn w) (vpn_0 va)) (same (vpn_1 va)))
+    (all_entries e first vas (unmapped m e.root va) (same_tables e m (unmapped m e.root va) stays t)
+    (still_have m (unmapped m e.root va) e.root vas stays h.1) (λ r. stays r ∙ same r))
 
 -- ---- what is so of the entries and the domain of a call that is done, test by test
 
@@ -417,6 +263,16 @@ module _ (P : List ℕ → Dom → Type 0) (m : Mem) where
   unfolding unmap_at empty_buffer give ◌>>◌ ◌>>=◌ go_on entries_in
   unmap_notes root va x h = record { when = λ y is. given_end (page_entry m root va ∷ []) x y h is }
 
+  unmap_all_notes : (root : ℕ) (vas : List ℕ) (x : Dom) → P (entries_in (unmap_all root vas m).notes) x
+      → Ends ((unmap_all root vas >> (empty_buffer >> give x)) m)
+  unfolding empty_buffer give entries_in ◌>>◌ ◌>>=◌ go_on
+  unmap_all_notes root vas x h =
+      let ns : List Note = (unmap_all root vas m).notes in
+      let all : P (entries_in (ns ++ Note.Emptied ∷ [])) x =
+      subst (λ (es : List ℕ). P es x) (sym (entries-append ns (Note.Emptied ∷ []) ∙ append-nil (entries_in ns))) h in
+      subst Ends (sym (after_all root vas (empty_buffer >> give x) m))
+      (record { when = λ y is. given_end (entries_in (ns ++ Note.Emptied ∷ [])) x y all is })
+
   clear_notes : (root : ℕ) (z : Dom) (c : Option Cap) → P (entry_of m root c) (done 0 z)
       → Ends (((clear_entry root c >> give z) >>= (λ x. empty_buffer >> give (done 0 x))) m)
   unfolding clear_entry unmap_at uninstall_at empty_buffer give ◌>>◌ ◌>>=◌ go_on entries_in
@@ -427,63 +283,29 @@ module _ (P : List ℕ → Dom → Type 0) (m : Mem) where
   clear_notes root z (Some (cap.Frame f r (Some va))) h = record { when = λ y is. given_end (page_entry m root va ∷ []) (done 0 z) y h is }
   clear_notes root z (Some (cap.Table f (Some va))) h = record { when = λ y is. given_end (table_entry root va ∷ []) (done 0 z) y h is }
 
-module _ (e : Estate) (d : Dom) (m : Mem) (h : Kept e d m) (a : ℕ) where
-  first_stage : Stage e d m a 0 d m
-  first_stage = record {
-    reaches = record { long = refl; before = λ j less. absurd (omega (arith, less)); from = λ j more. refl; rest = refl };
-    ready = ready e d m h;
-    root = λ r. refl;
-  }
+-- what it gives
+module _ (e : Estate) (d : Dom) (m : Mem) (a : ℕ) where
+  abbrev Revoked : Dom → Mem → Type 0
+  Revoked x n = x ≡ done (revoked_count d.caps a) (with_caps (revoked d.caps a) d)
 
-  -- what a REVOKE that is done leaves, and wrote
-  record Revokes (es : List ℕ) (x : Dom) : Type 0 where
-    caps : Slots
-    slots_are : (i : ℕ) → cap_at caps i ≡ slot_after d.caps a i
-    out : x ≡ done (revoked_count d.caps a) (with_slots d caps)
-    entries : es ≡ map (page_entry m e.root) (revoked_entries d.caps a)
+  revoke_empties : Gives Whatever Revoked (revoke e d a m)
+  unfolding revoke
+  revoke_empties =
+      filled_gives Whatever Revoked m d (λ _. tt) a _ (λ _ c _.
+      unmap_all_gives Whatever Revoked m e.root _ _
+      (buffer_gives Whatever Revoked _ _
+      (give_gives Whatever Revoked _ _ refl)))
 
-  -- after all slots the buffer is emptied
-  buffer_end : (es : List ℕ) (r : Done Mem Note Dom Dom) → es ≡ map (page_entry m e.root) (revoked_entries d.caps a)
-      → (s : Steps e d m a (length d.caps) es r)
-      → Ends Revokes m (go_on r (λ x. empty_buffer >> give (done (revoked_count d.caps a) x)) (inr s.out))
-  unfolding go_on empty_buffer give ◌>>◌ ◌>>=◌ entries_in
-  buffer_end es r all s = record {
-    when = λ x is.
-        let same : done (revoked_count d.caps a) s.out ≡ x = cc is in
-        record {
-          caps = s.out.caps;
-          slots_are = λ i. elim (cases_lt i (length d.caps)) [
-            | inl less ↦ s.stage.reaches.before i less
-            | inr past ↦ s.stage.reaches.from i past ∙ sym (past_slots d.caps a i past)
-          ];
-          out = sym same ∙ ap (λ (y : Dom). done (revoked_count d.caps a) y) s.stage.reaches.rest;
-          entries =
-              entries-append r.notes (Note.Emptied ∷ []) ∙ append-nil (entries_in r.notes) ∙ s.notes ∙ all;
-        };
-  }
-
-  revoke_end : Ends Revokes m (revoke e d a m)
-  unfolding revoke ◌>>=◌
-  revoke_end =
-      filled_notes Revokes m d a _ (λ c _.
-      let f : Dom → Act Dom = λ x. empty_buffer >> give (done (revoked_count d.caps a) x) in
-      let s = all_slots e d m a 64 0 d m (omega (arith, h.slots)) first_stage in
-      subst (Ends Revokes m) (sym (ap (go_on (drop_others e a 64 0 d m) f) s.value))
-      (buffer_end _ (drop_others e a 64 0 d m)
-      (ap (λ (n : ℕ). map (page_entry m e.root) (slots.entries_in d.caps a (range_with_len 0 n))) (sym h.slots)) s))
-
-revoked_is : (d : Dom) (caps : Slots) → ((i : ℕ) → cap_at caps i ≡ slot_after d.caps (argument_a d) i)
-    → IsRevokedAll d (done (revoked_count d.caps (argument_a d)) (with_slots d caps))
-unfolding replied placed with_current
-revoked_is d caps are = record { done = record { threads = refl; reply = refl }; slots = are; rest = refl }
+revoked_is : (d : Dom) → IsRevokedAll d (done (revoked_count d.caps (argument_a d)) (with_caps (revoked d.caps (argument_a d)) d))
+unfolding replied placed with_current with_caps
+revoked_is d = record { done = record { threads = refl; reply = refl }; slots = λ i. at_revoked d.caps (argument_a d) i; rest = refl }
 
 pub revoked_slots : RevokedSlotsLaw
 unfolding call_of
 revoked_slots e d x m h is does =
-    let same = by_number e d m 8 is in
-    let r : Revokes e d m h (argument_a d) (entries_in (revoke e d (argument_a d) m).notes) x =
-    (revoke_end e d m h (argument_a d)).when x (ap (λ (r : Done Mem Note Dom Dom). r.value) (sym same) ∙ does) in
-    subst (IsRevokedAll d) (sym r.out) (revoked_is d r.caps r.slots_are)
+    let end = given Whatever (Revoked e d m (argument_a d)) (revoke e d (argument_a d) m) (revoke_empties e d m (argument_a d)) x
+    (value_of e d x m 8 is does) in
+    subst (IsRevokedAll d) (sym end) (revoked_is d)
 
 -- ---- the entries of each call
 
@@ -556,8 +378,13 @@ module _ (e : Estate) (d : Dom) (m : Mem) (h : Kept e d m) (a b c : ℕ) where
       (clear_notes (Wrote 7) m e.root (with_slot d a None) (cap_at d.caps a) refl))
 
   revoke_right : Right 8 (revoke e d a m)
-  unfolding entries_written
-  revoke_right = record { when = λ x is. ((revoke_end e d m h a).when x is).entries }
+  unfolding revoke entries_written
+  revoke_right =
+      let r = ready e d m h in
+      filled_notes (Wrote 8) m d a _ (λ x _.
+      unmap_all_notes (Wrote 8) m e.root (emptied_at d.caps a) _
+      (all_entries e m (emptied_at d.caps a) m r.tables (have_tables e d m r a (range_with_len 0 64)) (λ q. refl)
+      ∙ ap (λ (n : ℕ). map (page_entry m e.root) (slots.entries_in d.caps a (range_with_len 0 n))) (sym h.slots)))
 
   numbered : (number k : ℕ) (x y : Act Dom) → Right k (x m) → Right number (y m) → Right number ((if nat_eq number k then x else y) m)
   numbered number k x y g f = by_test (nat_eq number k) refl

@@ -14,11 +14,11 @@ use Rattle.cap_table.specs.declared.Cap.TheVariants as cap
 use Rattle.cap_table.specs.Slots.{cap_at, is_filled, page_of, table_of, line_of, mapped_at, installed_at, in_use}
 use Rattle.call_table.specs.Domain.{Dom, refused}
 use Rattle.call_table.specs.Claims.{Estate, free_frames, least_free}
-use Rattle.call_table.specs.Calls.{Note, Act, page_refusal, table_refusal, some_or, is_slot, filled, page_in, table_in, line_in, line_at, may_give, allowed, put_byte, alloc, install, map_page, unmap, copy_refusal, unless_refused, copy, drop_slot, delete, drop_others, revoke, poll, wait, signal, spawn, call_of, call}
+use Rattle.call_table.specs.Calls.{Note, Act, page_refusal, table_refusal, some_or, is_slot, filled, page_in, table_in, line_in, line_at, may_give, allowed, put_byte, alloc, install, map_page, unmap, copy_refusal, unless_refused, copy, drop_slot, delete, revoke, poll, wait, signal, spawn, call_of, call}
 use Rattle.call_table.specs.Calls.{Page, Directory as TableCap}
 use Rattle.call_table.specs.Laws as laws
 use Rattle.call_table.specs.Meanings.{argument_a, argument_b, argument_c}
-use Rattle.call_table.proofs.Refusals.{Sure, give_sure, zero_sure, map_at_sure, unmap_at_sure, install_at_sure, buffer_sure, bind_sure, drop_sure, drop_others_sure}
+use Rattle.call_table.proofs.Refusals.{Sure, give_sure, zero_sure, map_at_sure, unmap_at_sure, install_at_sure, buffer_sure, bind_sure, drop_sure, unmap_all_sure}
 use Rattle.call_table.specs.Errors.{Error, bad_call, bad_slot, empty, used, wrong_kind, bad_rights, bad_address, mapped, no_table, no_frame, output_full, table_in_use, no_thread, in_slot, rights_of, is_multiple, is_beyond, errors_of, first_so, AscendLaw, FirstErrorLaw, NoErrorLaw}
 
 -- it goes on with a value
@@ -283,7 +283,7 @@ module _ (d : Dom) (m : Mem) where
   unfolding revoke
   revoke_ends e a =
       filled_ends _ a _ (λ x _.
-      sure_ends _ (bind_sure (drop_others e a 64 0 d) _ (drop_others_sure e a 64 0 d) (λ z. buffer_sure _ (give_sure _))))
+      sure_ends _ (unmap_all_sure e.root _ _ (buffer_sure _ (give_sure _))))
 
   line_ends : (a : ℕ) (f : ℕ → Act Dom) → ((line : ℕ) → EndsAs d [] (f line m))
       → EndsAs d (bad_slot (not (nat_lt a 64)) ∷ empty (is_none (in_slot d a)) ∷ wrong_kind (is_none (line_of (in_slot d a))) ∷ []) ((line_at d a >>= f) m)

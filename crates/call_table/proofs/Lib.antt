@@ -4,6 +4,7 @@ pub mod ClaimLawsSlots
 pub mod QuietCalls
 pub mod CallLawsSteps
 pub mod CallLaws
+pub mod RevokedSlots
 pub mod CallLawsDelete
 pub mod Refusals
 pub mod TablesClaims

@@ -1,10 +1,8 @@
 -- What DELETE and REVOKE come to: no address reaches a frame that no slot maps any more.
-use Rattle.std.proofs.Common.{◌≡◌, ◌≢◌, ◌⊎◌, ◌∙◌, ap, sym, subst, refl, inl, inr, ℕ, zero, suc, ◌+◌, ◌-◌, ◌<◌, ◌≤◌, Bool, true, false, true≢false, not, arith, eq-eqb, ne_eqb, length, length-set, get_or, Option, Some, None}
-use Rattle.std.specs.Prelude.{nat_eq}
-use Rattle.std.proofs.lemmas.Bool.{and_parts, cases_eq, cases_lt}
+use Rattle.std.proofs.Common.{◌≡◌, ◌≢◌, ◌⊎◌, ◌∙◌, ap, sym, subst, refl, inl, inr, ℕ, ◌-◌, ◌<◌, ◌≤◌, Bool, true, true≢false, arith, eq-eqb, length, length-set, get_or, Option, Some, None}
+use Rattle.std.proofs.lemmas.Bool.{cases_eq, cases_lt}
 use Rattle.std.proofs.lemmas.List.{get_or_past}
-use Rattle.tp_base.specs.Act.{◌>>◌, give}
-use Rattle.phys_mem.specs.Mem.{Mem, word, word-written_same, word-written_frame}
+use Rattle.phys_mem.specs.Mem.{Mem, word, word-written_same}
 use Rattle.sv32_walk.specs.PageTableEntry.{valid, ppn, vpn_0, vpn_1}
 use Rattle.page_map.specs.Tables.{has_table, table_of}
 use Rattle.page_map.specs.Reached.{leaf_at as entry_at, PagesIn}
@@ -13,16 +11,19 @@ use Rattle.page_map.proofs.KeptLemmas.{at_write, kept_by, never}
 use Rattle.page_map.proofs.ReachedWalks.{walk_page}
 use Rattle.cap_table.specs.declared.Cap.{Cap}
 use Rattle.cap_table.specs.declared.Cap.TheVariants as cap
-use Rattle.cap_table.specs.Slots.{Slots, cap_at, with_cap, page_of, mapped_at, alike, same_number, is_revoked, revoked_count}
+use Rattle.cap_table.specs.Slots.{Slots, cap_at, with_cap, page_of, mapped_at, alike, same_number, revoked, revoked_count}
+use Rattle.cap_table.proofs.RevokeLemmas.{length_revoked, after_itself, none_left}
 use Rattle.call_table.specs.Domain.{Dom, replied, placed, done, with_caps}
 use Rattle.call_table.specs.Claims.{Claim, Estate, is_mine, claims, claim_of, place_of, frame_of, is_shared, leaf_at, IsEstate}
-use Rattle.call_table.specs.Calls.{with_slot, clear_entry, drop_slot, delete, drop_if, drop_others, revoke}
+use Rattle.call_table.specs.Calls.{with_slot, clear_entry, drop_slot, delete, emptied_at, unmap_all, revoke}
 use Rattle.call_table.specs.Laws.{Kept, IsUnreached, IsRevoked}
 use Rattle.call_table.proofs.TablesClaims.{some_same, leaf_entry, leaf_frame}
 use Rattle.call_table.proofs.TablesSlots.{claim_at, claim_within, cap_same, cap_other}
 use Rattle.call_table.proofs.TablesMeaning.{page_tables}
-use Rattle.call_table.proofs.ConfinedCalls.{Ready, ready, still_ready, revoked_no_table}
-use Rattle.call_table.proofs.MeaningSteps.{Whatever, Gives, given, bind_gives, give_gives, unmap_gives, buffer_gives, nothing_gives, check_gives, filled_gives}
+use Rattle.call_table.proofs.RevokedSlots.{unmapped_if, by_slots, revoked_no_table, clear_same}
+use Rattle.call_table.proofs.ConfinedTables.{root_stays}
+use Rattle.call_table.proofs.ConfinedCalls.{Ready, ready, still_ready}
+use Rattle.call_table.proofs.MeaningSteps.{Whatever, Gives, given, bind_gives, give_gives, clear_gives, unmap_all_gives, buffer_gives, check_gives, filled_gives}
 use Rattle.call_table.proofs.MeaningCalls.{claim_past, claim_other}
 
 -- some claim says that the frame is mapped at a place
@@ -85,8 +86,7 @@ module _ (e : Estate) (first : Mem) (x : Dom) (n : Mem) (l : Leaves e first x n)
     mapped_there = l.ready.mapped i f rights va is
 
     root_same : (q : ℕ) → word (unmapped n e.root va) e.root q ≡ word n e.root q
-    root_same q =
-        word-written_frame n (table_of n e.root va) (vpn_0 va) 0 e.root q (λ s. l.ready.tables.apart (vpn_1 va) mapped_there (sym s))
+    root_same = root_stays e n va l.ready.tables mapped_there
 
     -- each entry is as it was, or cleared
     entry_by : (r t : ℕ) → (entry_at (unmapped n e.root va) e.root r t ≡ 0) ⊎ (entry_at (unmapped n e.root va) e.root r t ≡ entry_at n e.root r t)
@@ -126,23 +126,20 @@ module _ (e : Estate) (first : Mem) (x : Dom) (n : Mem) (l : Leaves e first x n)
       leaf = unmapped_leaf;
     }
 
-  module _ (P : Dom → Mem → Type 0) (g : (k : Mem) → Leaves e first (with_slot x i None) k → P (with_slot x i None) k) where
-    dropped : (c : Option Cap) → cap_at x.caps i ≡ c → ((f : ℕ) (w : Option ℕ) → c ≢ Some (cap.Table f w))
-        → Gives Whatever P ((clear_entry e.root c >> give (with_slot x i None)) n)
-    unfolding clear_entry claim_of place_of leaf_at
-    dropped (Some (cap.Frame f rights (Some va))) is no_table =
-        unmap_gives Whatever P n e.root va _ (give_gives Whatever P (unmapped n e.root va) _ (g (unmapped n e.root va) (unmapped_leaves f rights va is)))
-    dropped (Some (cap.Frame f rights None)) is no_table =
-        nothing_gives Whatever P n _ (give_gives Whatever P n _ (g n (loose_leaves (Claim.Leaf true f None) (ap claim_of is) refl)))
-    dropped (Some (cap.Irq line)) is no_table =
-        nothing_gives Whatever P n _ (give_gives Whatever P n _ (g n (loose_leaves Claim.Nothing (ap claim_of is) refl)))
-    dropped None is no_table =
-        nothing_gives Whatever P n _ (give_gives Whatever P n _ (g n (loose_leaves Claim.Nothing (ap claim_of is) refl)))
-    dropped (Some (cap.Table f w)) is no_table = absurd (no_table f w refl)
+  slot_leaves : (c : Option Cap) → cap_at x.caps i ≡ c → ((f : ℕ) (w : Option ℕ) → c ≢ Some (cap.Table f w))
+      → Leaves e first (with_slot x i None) (unmapped_if n e.root (mapped_at c))
+  unfolding claim_of place_of leaf_at
+  slot_leaves (Some (cap.Frame f rights (Some va))) is no_table = unmapped_leaves f rights va is
+  slot_leaves (Some (cap.Frame f rights None)) is no_table = loose_leaves (Claim.Leaf true f None) (ap claim_of is) refl
+  slot_leaves (Some (cap.Irq line)) is no_table = loose_leaves Claim.Nothing (ap claim_of is) refl
+  slot_leaves None is no_table = loose_leaves Claim.Nothing (ap claim_of is) refl
+  slot_leaves (Some (cap.Table f w)) is no_table = absurd (no_table f w refl)
 
-    drop_leaves : ((f : ℕ) (w : Option ℕ) → cap_at x.caps i ≢ Some (cap.Table f w)) → Gives Whatever P (drop_slot e i x n)
-    unfolding drop_slot
-    drop_leaves no_table = dropped (cap_at x.caps i) refl no_table
+  dropped_leaves : ((f : ℕ) (w : Option ℕ) → cap_at x.caps i ≢ Some (cap.Table f w))
+      → Leaves e first (with_slot x i None) (clear_entry e.root (cap_at x.caps i) n).state
+  dropped_leaves no_table =
+      subst (λ (k : Mem). Leaves e first (with_slot x i None) k) (sym (clear_same e.root (cap_at x.caps i) n no_table))
+      (slot_leaves (cap_at x.caps i) refl no_table)
 
 -- ---- a frame that no slot maps is not reached
 
@@ -221,36 +218,34 @@ module _ (e : Estate) (d : Dom) (m : Mem) (w : IsEstate e) (h : Kept e d m) (a f
     drop_unreached k l = unreached (with_slot d a None) k l (length-set d.caps a None) (λ i is. absurd (unnamed i is))
 
     delete_unreached : Gives Whatever Unreached (delete e d a m)
-    unfolding delete
+    unfolding delete drop_slot
     delete_unreached =
         filled_gives Whatever Unreached m d (λ _. tt) a _ (λ _ c is.
         check_gives Whatever Unreached m d (λ _. tt) 12 _ _ (λ _.
         bind_gives Whatever Unreached Unreached (drop_slot e a d) _ m
-        (drop_leaves e m d m (first_leaves e d m h) a below Unreached (λ k l. drop_unreached k l) (page_no_table (cap_at d.caps a) named))
+        (clear_gives Whatever Unreached m e.root (cap_at d.caps a) _ (give_gives Whatever Unreached _ _
+        (drop_unreached _ (dropped_leaves e m d m (first_leaves e d m h) a below (page_no_table (cap_at d.caps a) named)))))
         (λ x n none.
         buffer_gives Whatever Unreached n _
         (give_gives Whatever Unreached n _ none))))
 
   -- ---- REVOKE
 
-  -- the slots before i name the frame no more, but for the one that is asked
-  record Revoking (i : ℕ) (x : Dom) (n : Mem) : Type 0 where
-    leaves : Leaves e m x n
-    long : length x.caps ≡ length d.caps
-    self : page_of (cap_at x.caps a) ≡ Some f
-    before : (j : ℕ) → j < i → j ≢ a → page_of (cap_at x.caps j) ≢ Some f
+  abbrev after : Dom
+  after = with_caps (revoked d.caps a) d
 
-  start : Revoking 0 d m
-  start = record {
-    leaves = first_leaves e d m h;
-    long = refl;
-    self = named;
-    before = λ j less. absurd (omega (arith, less));
-  }
+  abbrev cleared_all : Mem
+  cleared_all = (unmap_all e.root (emptied_at d.caps a) m).state
 
-  not_same : (t : Bool) → not t ≡ true → t ≡ false
-  not_same true e = absurd (cc e)
-  not_same false e = refl
+  revoked_leaves : Leaves e m after cleared_all
+  unfolding with_caps
+  revoked_leaves = (by_slots e.root a (λ _ _. Unit {0}) (λ caps n. Leaves e m (with_caps caps d) n)
+      (record {
+        emptied = λ i caps n i_below long hit l.
+            slot_leaves e m (with_caps caps d) n l i (omega (arith, i_below, long)) (cap_at caps i) refl (λ g w. revoked_no_table caps a i g w hit);
+        there = λ i g rights va caps n is l. tt;
+      })
+      d.caps h.slots m (first_leaves e d m h)).end
 
   alike_page : (c z : Option Cap) → page_of c ≡ Some f → page_of z ≡ Some f → alike c z ≡ true
   alike_page None z c_is z_is = absurd (cc c_is)
@@ -260,84 +255,35 @@ module _ (e : Estate) (d : Dom) (m : Mem) (w : IsEstate e) (h : Kept e d m) (a f
       let same : g ≡ f = cc c_is in
       ap (λ (p : Option ℕ). same_number (Some g) p) z_is ∙ eq-eqb g f same
 
-  module _ (i : ℕ) (i_below : i < length d.caps) (x : Dom) (n : Mem) (r : Revoking i x n) where
-    dropped_before : is_revoked x.caps a i ≡ true → (k : Mem) → Leaves e m (with_slot x i None) k → Revoking (suc i) (with_slot x i None) k
-    unfolding with_caps
-    dropped_before hit k l =
-        let apart : i ≢ a = λ same. true≢false (sym (eq-eqb i a same) ∙ not_same (nat_eq i a) (and_parts _ _ hit).0) in
-        record {
-          leaves = l;
-          long = length-set x.caps i None ∙ r.long;
-          self = ap page_of (cap_other x.caps i a None (λ same. apart (sym same))) ∙ r.self;
-          before = λ j less other is. elim (cases_eq j i) [
-            | inl same ↦
-                let none : cap_at (with_cap x.caps i None) j ≡ None =
-                ap (λ (q : ℕ). cap_at (with_cap x.caps i None) q) same ∙ cap_same x.caps i None (omega (arith, i_below, r.long)) in
-                let no : None ≡ Some f = ap page_of (sym none) ∙ is in
-                cc no
-            | inr apart_j ↦ r.before j (omega (arith, less, apart_j)) other (ap page_of (sym (cap_other x.caps i j None apart_j)) ∙ is)
-          ];
-        }
+  alone : (i : ℕ) → i ≢ a → page_of (cap_at (revoked d.caps a) i) ≢ Some f
+  alone i other is =
+      let self : page_of (cap_at (revoked d.caps a) a) ≡ Some f = ap page_of (after_itself d.caps a) ∙ named in
+      true≢false (sym (alike_page (cap_at (revoked d.caps a) a) (cap_at (revoked d.caps a) i) self is) ∙ none_left d.caps a i other)
 
-    kept_before : is_revoked x.caps a i ≡ false → Revoking (suc i) x n
-    kept_before missed = record {
-      leaves = r.leaves;
-      long = r.long;
-      self = r.self;
-      before = λ j less other is. elim (cases_eq j i) [
-        | inl same ↦
-            let here : page_of (cap_at x.caps i) ≡ Some f = ap (λ (q : ℕ). page_of (cap_at x.caps q)) (sym same) ∙ is in
-            let apart : i ≢ a = λ s. other (same ∙ s) in
-            let taken : is_revoked x.caps a i ≡ true = rw (ne_eqb i a apart, alike_page (cap_at x.caps a) (cap_at x.caps i) r.self here) refl in
-            true≢false (sym taken ∙ missed)
-        | inr apart_j ↦ r.before j (omega (arith, less, apart_j)) other is
-      ];
-    }
-
-    drop_if_before : (t : Bool) → is_revoked x.caps a i ≡ t → Gives Whatever (Revoking (suc i)) (drop_if e i x t n)
-    unfolding drop_if
-    drop_if_before true hit =
-        drop_leaves e m x n r.leaves i (omega (arith, i_below, r.long)) (Revoking (suc i)) (dropped_before hit) (λ g v. revoked_no_table x.caps a i g v hit)
-    drop_if_before false missed = give_gives Whatever (Revoking (suc i)) n x (kept_before missed)
-
-  drop_others_before : (count i : ℕ) (x : Dom) (n : Mem) → i + count ≡ 64 → Revoking i x n → Gives Whatever (Revoking 64) (drop_others e a count i x n)
-  unfolding drop_others
-  drop_others_before zero i x n all r =
-      let last : i ≡ 64 = omega (arith, all) in
-      give_gives Whatever (Revoking 64) n x (subst (λ (j : ℕ). Revoking j x n) last r)
-  drop_others_before (suc count) i x n all r =
-      bind_gives Whatever (Revoking (suc i)) (Revoking 64) (drop_if e i x (is_revoked x.caps a i)) (λ y. drop_others e a count (suc i) y) n
-      (drop_if_before i (omega (arith, all, h.slots)) x n r (is_revoked x.caps a i) refl)
-      (λ y k s. drop_others_before count (suc i) y k (omega (arith, all)) s)
+  revoked_all : IsRevoked e after cleared_all a f
+  unfolding with_caps
+  revoked_all = record {
+    alone = alone;
+    unreached = λ not_mapped. unreached after cleared_all revoked_leaves (length_revoked d.caps a) (λ i is. elim (cases_eq i a) [
+      | inl same ↦ ap (λ (j : ℕ). mapped_at (cap_at (revoked d.caps a) j)) same ∙ not_mapped
+      | inr other ↦ absurd (alone i other is)
+    ]);
+  }
 
   abbrev Revoked : Dom → Mem → Type 0
   Revoked x n = IsRevoked e x n a f
 
-  revoked_after : (count : ℕ) (x : Dom) (n : Mem) → Revoking 64 x n → Revoked (done count x) n
+  done_revoked : (count : ℕ) → Revoked (done count after) cleared_all
   unfolding replied placed
-  revoked_after count x n r =
-      let alone : (i : ℕ) → i ≢ a → page_of (cap_at x.caps i) ≢ Some f = λ i other is. elim (cases_lt i 64) [
-        | inl less ↦ r.before i less other is
-        | inr past ↦
-            let none : cap_at x.caps i ≡ None = get_or_past x.caps i None (omega (arith, past, r.long, h.slots)) in
-            let no : None ≡ Some f = ap page_of (sym none) ∙ is in
-            cc no
-      ] in
-      record {
-        alone = alone;
-        unreached = λ not_mapped. unreached x n r.leaves r.long (λ i is. elim (cases_eq i a) [
-          | inl same ↦ ap (λ (j : ℕ). mapped_at (cap_at x.caps j)) same ∙ not_mapped
-          | inr other ↦ absurd (alone i other is)
-        ]);
-      }
+  done_revoked count = record { alone = revoked_all.alone; unreached = revoked_all.unreached }
 
   revoke_gives : Gives Whatever Revoked (revoke e d a m)
   unfolding revoke
   revoke_gives =
       filled_gives Whatever Revoked m d (λ _. tt) a _ (λ _ c is.
-      bind_gives Whatever (Revoking 64) Revoked (drop_others e a 64 0 d) _ m (drop_others_before 64 0 d m (omega arith) start) (λ x n r.
-      buffer_gives Whatever Revoked n _
-      (give_gives Whatever Revoked n _ (revoked_after (revoked_count d.caps a) x n r))))
+      unmap_all_gives Whatever Revoked m e.root _ _
+      (buffer_gives Whatever Revoked _ _
+      (give_gives Whatever Revoked _ _ (done_revoked (revoked_count d.caps a)))))
 
 -- ---- the laws
 

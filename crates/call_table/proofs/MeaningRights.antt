@@ -1,6 +1,6 @@
 -- Rights never widen: each page that capabilities name after a call was named before with at least these rights, or is new.
 use Rattle.std.proofs.Common.{◌≡◌, ◌⊎◌, ◌∙◌, sym, subst, refl, inl, inr, ℕ, ◌/◌, ◌%◌, Bool, true, false, not, cond, le-leb, leb-true, le_refl, arith, List, [], ◌∷◌, Option, Some, None}
-use Rattle.std.specs.Prelude.{nat_eq, nat_le}
+use Rattle.std.specs.Prelude.{nat_eq, nat_le, if◌then◌else◌}
 use Rattle.std.proofs.lemmas.Bool.{and_parts}
 use Rattle.tp_base.specs.Act.{Done, either}
 use Rattle.phys_mem.specs.Mem.{Mem, zeroed_frame}
@@ -10,15 +10,16 @@ use Rattle.page_map.specs.Changes.{mapped, unmapped, installed}
 use Rattle.rv_core.specs.Registers.{register}
 use Rattle.cap_table.specs.declared.Cap.{Cap}
 use Rattle.cap_table.specs.declared.Cap.TheVariants as cap
-use Rattle.cap_table.specs.Slots.{Slots, cap_at, with_cap, copied, noted, revoked_count}
+use Rattle.cap_table.specs.Slots.{Slots, cap_at, with_cap, copied, noted, is_revoked, revoked, revoked_count}
+use Rattle.cap_table.proofs.RevokeLemmas.{at_revoked}
 use Rattle.call_table.specs.Domain.{Dom, replied, placed, done, refused, exited, with_caps}
 use Rattle.call_table.specs.Claims.{Estate, is_named, least_free}
-use Rattle.call_table.specs.Calls.{Note, is_slot, page_in, table_in, is_within, may_give, put_byte, fresh_cap, with_slot, alloc, install, map_page, unmap, copy, copy_refusal, drop_slot, delete, drop_others, revoke, call_of, call}
+use Rattle.call_table.specs.Calls.{Note, is_slot, page_in, table_in, is_within, may_give, put_byte, fresh_cap, with_slot, alloc, install, map_page, unmap, copy, copy_refusal, drop_slot, delete, revoke, call_of, call}
 use Rattle.call_table.specs.Laws.{IsNoWider, after_copies}
 use Rattle.call_table.proofs.TablesSlots.{cap_by}
 use Rattle.call_table.proofs.QuietCalls.{later_quiet}
 use Rattle.call_table.proofs.ConfinedCalls.{free_parts}
-use Rattle.call_table.proofs.MeaningSteps.{Gives, either_gives, bind_gives, give_gives, quiet_gives, if_gives, zero_gives, map_gives, unmap_gives, install_gives, buffer_gives, drop_gives, drop_others_gives, page_refusal_gives, table_refusal_gives, check_gives, some_gives, filled_gives, allowed_gives, unless_gives}
+use Rattle.call_table.proofs.MeaningSteps.{Gives, either_gives, bind_gives, give_gives, quiet_gives, if_gives, zero_gives, map_gives, unmap_gives, install_gives, unmap_all_gives, buffer_gives, drop_gives, page_refusal_gives, table_refusal_gives, check_gives, some_gives, filled_gives, allowed_gives, unless_gives}
 
 -- ---- rights
 
@@ -194,13 +195,23 @@ module _ (New : ℕ → Type 0) (old : Slots) where
         buffer_gives Old Stays n _
         (give_gives Old Stays n _ (done_old x 0 o)))))
 
+    revoked_old : (a : ℕ) → Old (with_caps (revoked d.caps a) d)
+    unfolding with_caps
+    revoked_old a = record {
+      each = λ i. subst IsOld (sym (at_revoked d.caps a i)) (by_test i (is_revoked d.caps a i));
+    }
+      where
+        by_test : (i : ℕ) (t : Bool) → IsOld (if t then None else cap_at d.caps i)
+        by_test i true = old_none
+        by_test i false = h.each i
+
     revoke_old : (e : Estate) (a : ℕ) → Step Stays (revoke e d a m)
     unfolding revoke
     revoke_old e a =
         filled_gives Old Stays m d (old_refused d h m) a _ (λ _ x is.
-        bind_gives Old Stays Stays (drop_others e a 64 0 d) _ m (drop_others_gives e Old Old emptied_old a 64 0 d m h) (λ x n o.
-        buffer_gives Old Stays n _
-        (give_gives Old Stays n _ (done_old x (revoked_count d.caps a) o))))
+        unmap_all_gives Old Stays m e.root _ _
+        (buffer_gives Old Stays _ _
+        (give_gives Old Stays _ _ (done_old _ (revoked_count d.caps a) (revoked_old a)))))
 
     exited_old : (a : ℕ) → Old (exited a d)
     unfolding exited

@@ -1,5 +1,5 @@
 -- What holds of an action's end, step by step: of the domain that is refused, or of the value and the memory.
-use Rattle.std.proofs.Common.{◌≡◌, ◌⊎◌, sym, subst, refl, inl, inr, ℕ, zero, suc, Bool, true, false, Option, Some, None}
+use Rattle.std.proofs.Common.{◌≡◌, ◌⊎◌, sym, subst, refl, inl, inr, ℕ, Bool, true, false, List, Option, Some, None}
 use Rattle.std.specs.Prelude.{nat_lt, if◌then◌else◌}
 use Rattle.tp_base.specs.Act.{Done, go_on, ◌>>=◌, ◌>>◌, give, stop, check, either}
 use Rattle.phys_mem.specs.Mem.{Mem, zeroed_frame}
@@ -8,10 +8,11 @@ use Rattle.page_map.specs.Tables.{map_refusal, install_refusal}
 use Rattle.page_map.specs.Changes.{mapped, unmapped, installed, uninstalled}
 use Rattle.cap_table.specs.declared.Cap.{Cap}
 use Rattle.cap_table.specs.declared.Cap.TheVariants as cap
-use Rattle.cap_table.specs.Slots.{cap_at, line_of, is_revoked}
+use Rattle.cap_table.specs.Slots.{cap_at, line_of}
 use Rattle.call_table.specs.Domain.{Dom, refused}
 use Rattle.call_table.specs.Claims.{Estate}
-use Rattle.call_table.specs.Calls.{Note, Act, line_in, line_at, clear_entry, drop_slot, drop_if, drop_others, with_slot, zero_out, page_refusal, table_refusal, map_at, unmap_at, install_at, uninstall_at, empty_buffer, some_or, is_slot, filled, allowed, error_of, unless_refused}
+use Rattle.call_table.specs.Calls.{Note, Act, line_in, line_at, clear_entry, drop_slot, with_slot, zero_out, page_refusal, table_refusal, map_at, unmap_at, unmap_all, install_at, uninstall_at, empty_buffer, some_or, is_slot, filled, allowed, error_of, unless_refused}
+use Rattle.call_table.proofs.RevokedSlots.{after_all}
 use Rattle.call_table.proofs.QuietCalls.{QuietEnd, Quiet}
 
 abbrev pub Ends : {A : Type 0} → (Dom → Type 0) → (A → Mem → Type 0) → Dom ⊎ A → Mem → Type 0
@@ -88,6 +89,11 @@ module _ {A : Type 0} (Q : Dom → Type 0) (P : A → Mem → Type 0) (m : Mem) 
   unfolding uninstall_at ◌>>◌ ◌>>=◌ go_on
   uninstall_gives root va y h = record { ends = h.ends }
 
+  pub unmap_all_gives : (root : ℕ) (vas : List ℕ) (y : Act A) → Gives Q P (y (unmap_all root vas m).state) → Gives Q P ((unmap_all root vas >> y) m)
+  unmap_all_gives root vas y h = record {
+    ends = subst (λ (r : Done Mem Note Dom A). Ends Q P r.value r.state) (sym (after_all root vas y m)) h.ends;
+  }
+
   pub buffer_gives : (y : Act A) → Gives Q P (y m) → Gives Q P ((empty_buffer >> y) m)
   unfolding empty_buffer ◌>>◌ ◌>>=◌ go_on
   buffer_gives y h = record { ends = h.ends }
@@ -96,14 +102,14 @@ module _ {A : Type 0} (Q : Dom → Type 0) (P : A → Mem → Type 0) (m : Mem) 
   unfolding give ◌>>◌ ◌>>=◌ go_on
   nothing_gives y h = record { ends = h.ends }
 
-  pub clear_gives : (root : ℕ) (c : Option Cap) (y : Act A) → ((n : Mem) → Gives Q P (y n)) → Gives Q P ((clear_entry root c >> y) m)
-  unfolding clear_entry
-  clear_gives root (Some (cap.Frame f rights (Some va))) y h = unmap_gives root va y (h (unmapped m root va))
-  clear_gives root (Some (cap.Table f (Some va))) y h = uninstall_gives root va y (h (uninstalled m root va))
-  clear_gives root (Some (cap.Frame f rights None)) y h = nothing_gives y (h m)
-  clear_gives root (Some (cap.Table f None)) y h = nothing_gives y (h m)
-  clear_gives root (Some (cap.Irq line)) y h = nothing_gives y (h m)
-  clear_gives root None y h = nothing_gives y (h m)
+  pub clear_gives : (root : ℕ) (c : Option Cap) (y : Act A) → Gives Q P (y (clear_entry root c m).state) → Gives Q P ((clear_entry root c >> y) m)
+  unfolding clear_entry unmap_at uninstall_at give ◌>>◌ ◌>>=◌ go_on
+  clear_gives root (Some (cap.Frame f rights (Some va))) y h = record { ends = h.ends }
+  clear_gives root (Some (cap.Table f (Some va))) y h = record { ends = h.ends }
+  clear_gives root (Some (cap.Frame f rights None)) y h = record { ends = h.ends }
+  clear_gives root (Some (cap.Table f None)) y h = record { ends = h.ends }
+  clear_gives root (Some (cap.Irq line)) y h = record { ends = h.ends }
+  clear_gives root None y h = record { ends = h.ends }
 
   pub page_refusal_gives : (root va : ℕ) (f : Option MapRefusal → Act A) → Gives Q P (f (map_refusal m root va) m) → Gives Q P ((page_refusal root va >>= f) m)
   unfolding page_refusal ◌>>=◌ go_on
@@ -175,23 +181,11 @@ module _ (Q : Dom → Type 0) (P : Dom → Mem → Type 0) (d : Dom) (q : (code 
         (subst (λ (n : Mem). Ends Q P z.value n) (sym (z.memory m)) (quiet_end z.value m z.ends h));
   }
 
--- what is left of a domain by each slot that is emptied is left by all of them
+-- what is left of a domain by a slot that is emptied
 module _ (e : Estate) (Q : Dom → Type 0) (P : Dom → Type 0) (emptied : (x : Dom) (i : ℕ) → P x → P (with_slot x i None)) where
   abbrev Left : Dom → Mem → Type 0
   Left x n = P x
 
   pub drop_gives : (i : ℕ) (x : Dom) (m : Mem) → P x → Gives Q Left (drop_slot e i x m)
   unfolding drop_slot
-  drop_gives i x m h = clear_gives Q Left m e.root (cap_at x.caps i) _ (λ n. give_gives Q Left n _ (emptied x i h))
-
-  drop_if_gives : (i : ℕ) (x : Dom) (m : Mem) (t : Bool) → P x → Gives Q Left (drop_if e i x t m)
-  unfolding drop_if
-  drop_if_gives i x m true h = drop_gives i x m h
-  drop_if_gives i x m false h = give_gives Q Left m x h
-
-  pub drop_others_gives : (a n i : ℕ) (x : Dom) (m : Mem) → P x → Gives Q Left (drop_others e a n i x m)
-  unfolding drop_others
-  drop_others_gives a zero i x m h = give_gives Q Left m x h
-  drop_others_gives a (suc n) i x m h =
-      bind_gives Q Left Left (drop_if e i x (is_revoked x.caps a i)) (λ y. drop_others e a n (suc i) y) m
-      (drop_if_gives i x m (is_revoked x.caps a i) h) (λ y k g. drop_others_gives a n (suc i) y k g)
+  drop_gives i x m h = clear_gives Q Left m e.root (cap_at x.caps i) _ (give_gives Q Left _ _ (emptied x i h))

@@ -1,5 +1,5 @@
 -- An early end of a call is a refusal.
-use Rattle.std.proofs.Common.{◌≡◌, ℕ, zero, suc, Bool, true, false, Option, Some, None, [], ◌⊎◌, inl, inr, refl, sym, subst, ◌∙◌}
+use Rattle.std.proofs.Common.{◌≡◌, ℕ, Bool, true, false, Option, Some, None, List, [], ◌⊎◌, inl, inr, refl, ap, sym, subst, ◌∙◌}
 use Rattle.std.specs.Prelude.{nat_eq, nat_lt, if◌then◌else◌}
 use Rattle.tp_base.specs.Act.{Done, go_on, ◌>>=◌, ◌>>◌, give, stop, check}
 use Rattle.phys_mem.specs.Mem.{Mem}
@@ -8,12 +8,13 @@ use Rattle.page_map.specs.declared.refusal.MapRefusal.TheVariants as refusal
 use Rattle.page_map.specs.Tables.{map_refusal, install_refusal}
 use Rattle.cap_table.specs.declared.Cap.{Cap}
 use Rattle.cap_table.specs.declared.Cap.TheVariants as cap
-use Rattle.cap_table.specs.Slots.{cap_at, is_revoked}
+use Rattle.cap_table.specs.Slots.{cap_at}
 use Rattle.rv_core.specs.Registers.{register}
 use Rattle.call_table.specs.Domain.{Dom, refused, exited}
 use Rattle.call_table.specs.Claims.{Estate}
-use Rattle.call_table.specs.Calls.{Note, Act, zero_out, page_refusal, table_refusal, map_at, unmap_at, install_at, uninstall_at, empty_buffer, some_or, is_slot, filled, allowed, error_of, put_byte, alloc, install, map_page, unmap, may_give, copy_refusal, unless_refused, copy, clear_entry, drop_slot, delete, drop_if, drop_others, revoke, call_of, call, with_slot}
+use Rattle.call_table.specs.Calls.{Note, Act, zero_out, page_refusal, table_refusal, map_at, unmap_at, install_at, uninstall_at, empty_buffer, some_or, is_slot, filled, allowed, error_of, put_byte, alloc, install, map_page, unmap, may_give, copy_refusal, unless_refused, copy, clear_entry, drop_slot, delete, unmap_all, revoke, call_of, call, with_slot}
 use Rattle.call_table.specs.Laws.{IsRefusal, RefusalLaw}
+use Rattle.call_table.proofs.RevokedSlots.{after_all}
 use Rattle.call_table.proofs.QuietCalls.{IsCode, is_code, IsRefused, QuietEnd, Quiet, later_quiet}
 
 -- an action whose early ends are refusals
@@ -208,17 +209,10 @@ pub drop_sure : (e : Estate) (i : ℕ) (d : Dom) → Sure (drop_slot e i d)
 unfolding drop_slot
 drop_sure e i d = clear_sure e.root (cap_at d.caps i) _ (give_sure (with_slot d i None))
 
-drop_if_sure : (e : Estate) (i : ℕ) (d : Dom) (b : Bool) → Sure (drop_if e i d b)
-unfolding drop_if
-drop_if_sure e i d true = drop_sure e i d
-drop_if_sure e i d false = give_sure d
-
-pub drop_others_sure : (e : Estate) (a n i : ℕ) (d : Dom) → Sure (drop_others e a n i d)
-unfolding drop_others
-drop_others_sure e a zero i d = give_sure d
-drop_others_sure e a (suc n) i d =
-    bind_sure (drop_if e i d (is_revoked d.caps a i)) (λ x. drop_others e a n (suc i) x) (drop_if_sure e i d (is_revoked d.caps a i))
-    (λ x. drop_others_sure e a n (suc i) x)
+pub unmap_all_sure : (root : ℕ) (vas : List ℕ) (y : Act Dom) → Sure y → Sure (unmap_all root vas >> y)
+unmap_all_sure root vas y h = record {
+  goes = λ m x e. h.goes (unmap_all root vas m).state x (sym (ap (λ (r : Done Mem Note Dom Dom). r.value) (after_all root vas y m)) ∙ e);
+}
 
 -- ---- each call
 
@@ -265,7 +259,7 @@ delete_tidy e d a = search (filled_tidy, check_tidy, sure_tidy, bind_sure, drop_
 
 pub revoke_tidy : (e : Estate) (d : Dom) (a : ℕ) → Tidy d (revoke e d a)
 unfolding revoke
-revoke_tidy e d a = search (filled_tidy, sure_tidy, bind_sure, drop_others_sure, buffer_sure, give_sure, codes) depth 30
+revoke_tidy e d a = search (filled_tidy, sure_tidy, unmap_all_sure, buffer_sure, give_sure, codes) depth 30
 
 pub call_of_tidy : (e : Estate) (d : Dom) (number a b c : ℕ) → Tidy d (call_of e d number a b c)
 unfolding call_of

@@ -1,8 +1,8 @@
 -- Each leaf stays within the rights of the capability through which it is mapped, and what walks come to then.
-use Rattle.std.proofs.Common.{◌≡◌, ◌≢◌, ◌∙◌, ap, ap₂, sym, subst, refl, inl, inr, ◌⊎◌, ℕ, zero, suc, ◌-◌, ◌<◌, ◌≤◌, ◌%◌, ◌/◌, Bool, true, false, true≢false, arith, eqb-true, eq-eqb, leb-true, length, Option, Some, None}
+use Rattle.std.proofs.Common.{◌≡◌, ◌≢◌, ◌∙◌, ap, ap₂, sym, subst, refl, inl, inr, ◌⊎◌, ℕ, ◌-◌, ◌<◌, ◌≤◌, ◌%◌, ◌/◌, Bool, true, false, true≢false, arith, eqb-true, eq-eqb, leb-true, List, [], ◌∷◌, length, Option, Some, None}
 use Rattle.std.specs.Prelude.{if◌then◌else◌, nat_eq, nat_le}
 use Rattle.std.proofs.lemmas.Bool.{and_parts, cases_lt}
-use Rattle.tp_base.specs.Act.{Done, ◌>>◌, give, either}
+use Rattle.tp_base.specs.Act.{Done, go_on, ◌>>=◌, ◌>>◌, give, either}
 use Rattle.phys_mem.specs.Mem.{Mem, word, written, zeroed_frame, word-written_frame}
 use Rattle.sv32_walk.specs.declared.access.Access.{Access}
 use Rattle.sv32_walk.specs.declared.access.Access.TheVariants.{Fetch, Load, Store}
@@ -18,11 +18,12 @@ use Rattle.page_map.proofs.KeptLemmas.{at_write, never}
 use Rattle.page_map.proofs.PageLemmas.{first_in, second_in}
 use Rattle.cap_table.specs.declared.Cap.{Cap}
 use Rattle.cap_table.specs.declared.Cap.TheVariants as cap
-use Rattle.cap_table.specs.Slots.{Slots, cap_at, mapped_at, copied, noted, is_revoked, revoked_count}
+use Rattle.cap_table.specs.Slots.{Slots, cap_at, mapped_at, copied, noted, is_revoked, revoked, revoked_count}
+use Rattle.cap_table.proofs.RevokeLemmas.{at_revoked}
 use Rattle.rv_core.specs.Registers.{register}
 use Rattle.call_table.specs.Domain.{Dom, placed, replied, done, refused, exited, with_caps}
 use Rattle.call_table.specs.Claims.{Claim, Estate, is_mine, claims, claim_of, place_of, least_free, IsMapped}
-use Rattle.call_table.specs.Calls.{Note, Page, is_within, may_give, is_slot, page_in, table_in, fresh_cap, copy_refusal, clear_entry, with_slot, put_byte, alloc, install, map_page, unmap, copy, drop_slot, delete, drop_if, drop_others, revoke, call_of, call}
+use Rattle.call_table.specs.Calls.{Note, Page, is_within, may_give, is_slot, page_in, table_in, fresh_cap, copy_refusal, clear_entry, with_slot, put_byte, alloc, install, map_page, unmap, copy, drop_slot, delete, unmap_at, emptied_at, unmap_all, revoke, call_of, call}
 use Rattle.call_table.specs.Laws.{Kept, LeavesKept}
 use Rattle.call_table.specs.Rights.{IsWithin, AreWithin, NothingMappedLaw, CallsWithinLaw, StoresWithinLaw, MayReach, by_cap, for_good, WalksWithinLaw}
 use Rattle.call_table.proofs.TablesClaims.{leaf_entry, leaf_frame}
@@ -32,7 +33,7 @@ use Rattle.call_table.proofs.QuietCalls.{later_quiet}
 use Rattle.call_table.proofs.CallLaws.{CanTake, map_allowed, install_allowed}
 use Rattle.call_table.proofs.CallLawsDelete.{call_of_keeps}
 use Rattle.call_table.proofs.ConfinedCalls.{ready, page_in_is}
-use Rattle.call_table.proofs.MeaningSteps.{Ends, Whatever, Gives, given, bind_gives, give_gives, if_gives, quiet_gives, zero_gives, map_gives, unmap_gives, uninstall_gives, install_gives, buffer_gives, nothing_gives, page_refusal_gives, table_refusal_gives, check_gives, some_gives, filled_gives, allowed_gives, unless_gives}
+use Rattle.call_table.proofs.MeaningSteps.{Ends, Whatever, Gives, given, bind_gives, give_gives, if_gives, quiet_gives, zero_gives, map_gives, unmap_gives, uninstall_gives, install_gives, unmap_all_gives, buffer_gives, nothing_gives, page_refusal_gives, table_refusal_gives, check_gives, some_gives, filled_gives, allowed_gives, unless_gives}
 use Rattle.call_table.proofs.MeaningCalls.{claim_past}
 use Rattle.call_table.proofs.MeaningRevoke.{same_place}
 use Rattle.page_map.proofs.WalkLemmas.{vpn_1-below}
@@ -154,17 +155,21 @@ module _ (e : Estate) (d : Dom) (m : Mem) where
   unfolding drop_slot
   drop_less i x n h = clear_less x n (cap_at x.caps i) i h
 
-  drop_if_less : (i : ℕ) (x : Dom) (n : Mem) (t : Bool) → IsLess x n → Gives Whatever Less (drop_if e i x t n)
-  unfolding drop_if
-  drop_if_less i x n true h = drop_less i x n h
-  drop_if_less i x n false h = give_gives Whatever Less n x h
+  all_less : (vas : List ℕ) (n : Mem) → NoNewLeaf m n e.root → NoNewLeaf m (unmap_all e.root vas n).state e.root
+  unfolding unmap_all unmap_at give ◌>>◌ ◌>>=◌ go_on
+  all_less [] n h = h
+  all_less (va ∷ vas) n h = all_less vas (unmapped n e.root va) (less_leaves m n e.root _ _ h)
 
-  drop_others_less : (a k i : ℕ) (x : Dom) (n : Mem) → IsLess x n → Gives Whatever Less (drop_others e a k i x n)
-  unfolding drop_others
-  drop_others_less a zero i x n h = give_gives Whatever Less n x h
-  drop_others_less a (suc k) i x n h =
-      bind_gives Whatever Less Less (drop_if e i x (is_revoked x.caps a i)) (λ y. drop_others e a k (suc i) y) n
-      (drop_if_less i x n (is_revoked x.caps a i) h) (λ y l g. drop_others_less a k (suc i) y l g)
+  revoked_less : (a : ℕ) (vas : List ℕ) → IsLess (with_caps (revoked d.caps a) d) (unmap_all e.root vas m).state
+  unfolding with_caps
+  revoked_less a vas = record {
+    maps = record { each = λ i f r va is. by_test i f r va (is_revoked d.caps a i) (sym (at_revoked d.caps a i) ∙ is) };
+    leaves = all_less vas m (same_leaves m e.root);
+  }
+    where
+      by_test : (i f r va : ℕ) (t : Bool) → (if t then None else cap_at d.caps i) ≡ Some (cap.Frame f r (Some va)) → cap_at d.caps i ≡ Some (cap.Frame f r (Some va))
+      by_test i f r va true is = absurd (cc is)
+      by_test i f r va false is = is
 
   done_less : (x : Dom) (n : Mem) (value : ℕ) → IsLess x n → IsLess (done value x) n
   done_less x n value h = record { maps = done_maps d x value h.maps; leaves = h.leaves }
@@ -196,9 +201,9 @@ module _ (e : Estate) (d : Dom) (m : Mem) where
   unfolding revoke
   revoke_less a =
       filled_gives Whatever Less m d (λ _. tt) a _ (λ _ c _.
-      bind_gives Whatever Less Less (drop_others e a 64 0 d) _ m (drop_others_less a 64 0 d m nothing_less) (λ x n h.
-      buffer_gives Whatever Less n _
-      (give_gives Whatever Less n _ (done_less x n (revoked_count d.caps a) h))))
+      unmap_all_gives Whatever Less m e.root _ _
+      (buffer_gives Whatever Less _ _
+      (give_gives Whatever Less _ _ (done_less _ _ (revoked_count d.caps a) (revoked_less a (emptied_at d.caps a))))))
 
 -- ---- and the calls that clear no entries, but MAP
 

@@ -14,13 +14,13 @@ use Rattle.thread_set.proofs.Places.{position-nowhere}
 use Rattle.thread_set.proofs.Turns.{yielded-all}
 use Rattle.thread_set.proofs.Changes.{spawned-eight, blocked-others, finished-others, woken-at, woken-others, spawned-others}
 use Rattle.cap_table.specs.declared.Cap.{Cap}
-use Rattle.cap_table.specs.Slots.{cap_at, copied, noted, line_of, revoked_count}
+use Rattle.cap_table.specs.Slots.{cap_at, copied, noted, line_of, revoked, revoked_count}
 use Rattle.call_table.specs.Domain.{Dom, placed, recorded, replied, done, refused, exited, with_caps, is_set, with_bit, signalled_by, signalled, delivered_on, turned, waiting, thread_ended, with_spawned}
 use Rattle.call_table.specs.Claims.{Estate, least_free}
-use Rattle.call_table.specs.Calls.{is_slot, page_in, table_in, fresh_cap, copy_refusal, with_slot, bit_value, put_byte, alloc, install, map_page, unmap, copy, drop_slot, delete, drop_others, revoke, poll, waited, wait, signal, spawn, call_of, call}
+use Rattle.call_table.specs.Calls.{is_slot, page_in, table_in, fresh_cap, copy_refusal, with_slot, bit_value, put_byte, alloc, install, map_page, unmap, copy, drop_slot, delete, revoke, poll, waited, wait, signal, spawn, call_of, call}
 use Rattle.call_table.specs.Laws as laws
 use Rattle.call_table.specs.ThreadLaws.{HasTurn, MayRun, after_call, Signals, CallTurnLaw, DeliveryTurnLaw, CallWakesLaw, DeliveryWakesLaw, SignalWakesLaw, SignalSetsLaw, DeliveryCountLaw, CallCountLaw}
-use Rattle.call_table.proofs.MeaningSteps.{Gives, either_gives, bind_gives, give_gives, stop_gives, if_gives, zero_gives, map_gives, unmap_gives, install_gives, buffer_gives, drop_gives, drop_others_gives, page_refusal_gives, table_refusal_gives, check_gives, some_gives, filled_gives, line_gives, allowed_gives, unless_gives}
+use Rattle.call_table.proofs.MeaningSteps.{Gives, either_gives, bind_gives, give_gives, stop_gives, if_gives, zero_gives, map_gives, unmap_gives, install_gives, unmap_all_gives, buffer_gives, drop_gives, page_refusal_gives, table_refusal_gives, check_gives, some_gives, filled_gives, line_gives, allowed_gives, unless_gives}
 use Rattle.call_table.proofs.ThreadLawsTurns.{waits_apart, current_eight, current_others, yielded_turn, ended_turn, moved_turn, blocked_turn, finished_turn, woken_turn, waiter_waits, woken_ready, spawned_ready, waits_started}
 
 -- ---- a signal
@@ -317,14 +317,17 @@ module _ (Excuse : ℕ → Type 0) (d : Dom) where
         buffer_gives Fair FairIn n _
         (give_gives Fair FairIn n _ (done_fair 0 0 x s)))))
 
+    revoked_same : (a : ℕ) → IsSame d (with_caps (revoked d.caps a) d)
+    unfolding with_caps
+    revoked_same a = record { threads = refl; count = refl }
+
     revoke_call : (a : ℕ) → Gives Fair FairIn (revoke e d a m)
     unfolding revoke
     revoke_call a =
         filled_gives Fair FairIn m d refused_fair a _ (λ _ x _.
-        bind_gives Fair SameIn FairIn (drop_others e a 64 0 d) _ m
-        (drop_others_gives e Fair (IsSame d) (emptied_same d) a 64 0 d m (record { threads = refl; count = refl })) (λ x n s.
-        buffer_gives Fair FairIn n _
-        (give_gives Fair FairIn n _ (done_fair 0 (revoked_count d.caps a) x s))))
+        unmap_all_gives Fair FairIn m e.root _ _
+        (buffer_gives Fair FairIn _ _
+        (give_gives Fair FairIn _ _ (done_fair 0 (revoked_count d.caps a) (with_caps (revoked d.caps a) d) (revoked_same a)))))
 
     poll_call : (a : ℕ) → Gives Fair FairIn (poll d a m)
     unfolding poll

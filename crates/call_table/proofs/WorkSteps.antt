@@ -15,7 +15,9 @@ use Rattle.cap_table.specs.Slots.{cap_at}
 use Rattle.call_table.specs.declared.Reply.{Reply}
 use Rattle.call_table.specs.Domain.{Dom, reply_past, placed, replied, done, refused, with_caps}
 use Rattle.call_table.specs.Claims.{Estate}
-use Rattle.call_table.specs.Calls.{Note, Act, zeroed_in, entries_in, empties, is_done, zero_out, page_refusal, table_refusal, map_at, unmap_at, install_at, uninstall_at, empty_buffer, some_or, is_slot, filled, allowed, unless_refused, with_slot, clear_entry, drop_slot}
+use Rattle.call_table.specs.Calls.{Note, Act, zeroed_in, entries_in, empties, is_done, zero_out, page_refusal, table_refusal, map_at, unmap_at, unmap_all, install_at, uninstall_at, empty_buffer, some_or, is_slot, filled, allowed, unless_refused, with_slot, clear_entry, drop_slot}
+use Rattle.page_map.specs.Changes.{unmapped}
+use Rattle.call_table.proofs.RevokedSlots.{after_all}
 use Rattle.call_table.proofs.QuietCalls.{Quiet}
 
 -- ---- notes one after another
@@ -47,12 +49,13 @@ pub record Writes (n : ℕ) (ns : List Note) : Type 0 where
   pub few : length (entries_in ns) ≤ n
   pub quiet : empties ns ≡ false
 
-joined : (n k : ℕ) (ns ms : List Note) → Writes n ns → Writes k ms → Writes (n + k) (ns ++ ms)
-joined n k ns ms h g = record {
-  zeroed = zeroed-append ns ms h.zeroed ∙ g.zeroed;
-  few = omega (arith, h.few, g.few, ap length (entries-append ns ms), length-append (entries_in ns) (entries_in ms));
-  quiet = empties-append ns ms h.quiet ∙ g.quiet;
-}
+-- leaves that are cleared write one entry each
+all_written : (root : ℕ) (vas : List ℕ) (m : Mem) → Writes (length vas) (unmap_all root vas m).notes
+unfolding unmap_all unmap_at give ◌>>◌ ◌>>=◌ go_on zeroed_in entries_in empties
+all_written root [] m = record { zeroed = refl; few = omega arith; quiet = refl }
+all_written root (va ∷ vas) m =
+    let rest = all_written root vas (unmapped m root va) in
+    record { zeroed = rest.zeroed; few = omega (arith, rest.few); quiet = rest.quiet }
 
 -- ---- slots that are emptied
 
@@ -64,32 +67,12 @@ Dropped d n (inr x) ns = (x.replies ≡ d.replies) × Writes n ns
 pub record Drops (d : Dom) (n : ℕ) (y : Act Dom) : Type 0 where
   each : (m : Mem) → Dropped d n (y m).value (y m).notes
 
-module _ (d : Dom) (n k : ℕ) where
-  dropped_later : (x : Dom) (ns ms : List Note) (v : Dom ⊎ Dom) → x.replies ≡ d.replies → Writes n ns → Dropped x k v ms
-      → Dropped d (n + k) v (ns ++ ms)
-  dropped_later x ns ms (inl z) same h g = g
-  dropped_later x ns ms (inr z) same h g = (g.0 ∙ same, joined n k ns ms h g.1)
-
-  dropped_on : (r : Done Mem Note Dom Dom) (f : Dom → Act Dom) (v : Dom ⊎ Dom) → Dropped d n v r.notes → ((x : Dom) → Drops x k (f x))
-      → Dropped d (n + k) (go_on r f v).value (go_on r f v).notes
-  unfolding go_on
-  dropped_on r f (inl x) h g = absurd h
-  dropped_on r f (inr x) h g = dropped_later x r.notes (f x r.state).notes (f x r.state).value h.0 h.1 ((g x).each r.state)
-
-  pub drops_then : (y : Act Dom) (f : Dom → Act Dom) → Drops d n y → ((x : Dom) → Drops x k (f x)) → Drops d (n + k) (y >>= f)
-  unfolding ◌>>=◌
-  drops_then y f h g = record { each = λ m. dropped_on (y m) f (y m).value (h.each m) g }
-
 fewer : (d : Dom) (n k : ℕ) (v : Dom ⊎ Dom) (ns : List Note) → n ≤ k → Dropped d n v ns → Dropped d k v ns
 fewer d n k (inl x) ns below h = h
 fewer d n k (inr x) ns below h = (h.0, record { zeroed = h.1.zeroed; few = omega (arith, h.1.few, below); quiet = h.1.quiet })
 
 pub drops_fewer : (d : Dom) (n k : ℕ) (y : Act Dom) → n ≤ k → Drops d n y → Drops d k y
 drops_fewer d n k y below h = record { each = λ m. fewer d n k (y m).value (y m).notes below (h.each m) }
-
-pub give_drops : (d : Dom) → Drops d 0 (give d)
-unfolding give zeroed_in entries_in empties
-give_drops d = record { each = λ m. (refl, record { zeroed = refl; few = omega arith; quiet = refl }) }
 
 cleared : (root i : ℕ) (d : Dom) (c : Option Cap) → Drops d 1 (clear_entry root c >> give (with_slot d i None))
 unfolding clear_entry unmap_at uninstall_at give ◌>>◌ ◌>>=◌ go_on with_caps zeroed_in entries_in empties
@@ -255,6 +238,16 @@ module _ (d : Dom) where
   pub drops_works : (y : Act Dom) (value : ℕ) → Drops d most_entries y → Works d true (y >>= λ x. empty_buffer >> give (done value x))
   unfolding ◌>>=◌
   drops_works y value h = record { each = λ m. emptied_on (y m) (y m).value value (h.each m) }
+
+  pub unmap_all_works : (root : ℕ) (vas : List ℕ) (x : Dom) (value : ℕ) → length vas ≤ most_entries → x.replies ≡ d.replies
+      → Works d true (unmap_all root vas >> (empty_buffer >> give (done value x)))
+  unfolding empty_buffer give ◌>>◌ ◌>>=◌ go_on
+  unmap_all_works root vas x value few same = record {
+    each = λ m.
+        let w = all_written root vas m in
+        subst (λ (r : Done Mem Note Dom Dom). IsWork d true r.value r.notes) (sym (after_all root vas (empty_buffer >> give (done value x)) m))
+        (emptied x value (unmap_all root vas m).notes same (record { zeroed = w.zeroed; few = omega (arith, w.few, few); quiet = w.quiet }));
+  }
 
   pub unmap_at_works : (root va a : ℕ) (c : Option Cap) → Works d true (unmap_at root va >> (empty_buffer >> give (done 0 (with_slot d a c))))
   unfolding unmap_at empty_buffer give ◌>>◌ ◌>>=◌ go_on with_caps zeroed_in entries_in empties either

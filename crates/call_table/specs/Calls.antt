@@ -1,7 +1,8 @@
 -- The kernel calls 0 to 14. The number is in x17, the arguments a, b and c are in x10, x11 and x12. A call is refused by the
 -- first of its errors, in the order of their numbers: 1 BadCall, 2 BadSlot, 3 Empty, 4 Used, 5 WrongKind, 6 BadRights,
 -- 7 BadAddress, 8 Mapped, 9 NoTable, 10 NoFrame, 11 OutputFull, 12 InUse, 13 NoThread.
-use Rattle.std.specs.Prelude.{ℕ, zero, suc, ◌/◌, ◌%◌, Bool, true, false, not, ◌&&◌, ◌||◌, nat_eq, nat_le, nat_lt, if◌then◌else◌, List, [], ◌∷◌, ◌++◌, length, Option, Some, None, is_some}
+use Rattle.std.specs.Prelude.{ℕ, ◌/◌, ◌%◌, Bool, true, false, not, ◌&&◌, ◌||◌, nat_eq, nat_le, nat_lt, if◌then◌else◌, List, [], ◌∷◌, ◌++◌, length, Option, Some, None, is_some}
+use Rattle.std.specs.List.{range_with_len}
 use Rattle.std.proofs.Common.{inr}
 use Rattle.tp_base.specs.Act as act
 use Rattle.tp_base.specs.Act.{◌>>=◌, ◌>>◌, Done, give, stop, check}
@@ -16,7 +17,8 @@ use Rattle.page_map.specs.Changes.{table_entry, page_entry, mapped, unmapped, in
 use Rattle.kernel_clone.specs.Footprints.{WorkDone, bad_call_op}
 use Rattle.cap_table.specs.declared.Cap.{Cap}
 use Rattle.cap_table.specs.declared.Cap.TheVariants as cap
-use Rattle.cap_table.specs.Slots.{cap_at, is_filled, with_cap, copied, noted, in_use, is_revoked, revoked_count}
+use Rattle.cap_table.specs.Slots as slots
+use Rattle.cap_table.specs.Slots.{Slots, cap_at, is_filled, with_cap, copied, noted, in_use, revoked, revoked_count}
 use Rattle.call_table.specs.declared.Reply.{Reply}
 use Rattle.call_table.specs.Domain.{Dom, done, refused, exited, with_caps, is_set, with_bit, signalled, turned, waiting, thread_ended, with_spawned}
 use Rattle.call_table.specs.Claims.{Estate, least_free}
@@ -241,25 +243,25 @@ delete e d a = do
   empty_buffer
   give (done 0 x)
 
--- ---- 8 REVOKE a: deletes every other slot that names the same frame or line, and gives their number
+-- ---- 8 REVOKE a: empties every other slot that names the same page or line, clears their leaves, and gives their number
 
-unfoldable pub drop_if : Estate → ℕ → Dom → Bool → Act Dom
-drop_if e i d true = drop_slot e i d
-drop_if e i d false = give d
+-- where the slots that are emptied are mapped, in order
+abbrev pub emptied_at : Slots → ℕ → List ℕ
+emptied_at caps a = slots.entries_in caps a (range_with_len 0 64)
 
--- so many slots from one on, ascending
-unfoldable pub drop_others : Estate → ℕ → ℕ → ℕ → Dom → Act Dom
-drop_others e a zero i d = give d
-drop_others e a (suc n) i d = do
-  x ← drop_if e i d (is_revoked d.caps a i)
-  drop_others e a n (suc i) x
+-- clears the leaves at these addresses, one after another
+unfoldable pub unmap_all : ℕ → List ℕ → Act (Unit {0})
+unmap_all root [] = give tt
+unmap_all root (va ∷ vas) = do
+  unmap_at root va
+  unmap_all root vas
 
 unfoldable pub revoke : Estate → Dom → ℕ → Act Dom
 revoke e d a = do
   c ← filled d a
-  x ← drop_others e a 64 0 d
+  unmap_all e.root (emptied_at d.caps a)
   empty_buffer
-  give (done (revoked_count d.caps a) x)
+  give (done (revoked_count d.caps a) (with_caps (revoked d.caps a) d))
 
 -- ---- 9 POLL a, 10 WAIT a, 11 SIGNAL a: on the line that a slot names
 

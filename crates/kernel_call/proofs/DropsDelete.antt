@@ -1,5 +1,5 @@
 -- How DELETE ends: what it asks of the entry and the frames, and what it leaves.
-use Rattle.std.proofs.Common.{◌≡◌, ◌∙◌, ap, sym, subst, refl, inl, inr, ℕ, ◌<◌, true, false, not, List, [], ◌∷◌, ◌++◌, length, Option, Some, None}
+use Rattle.std.proofs.Common.{◌≡◌, ◌∙◌, ap, sym, subst, refl, inl, inr, ℕ, ◌<◌, true, false, not, List, length, Option, Some, None}
 use Rattle.std.specs.Prelude.{Result, Err, IfSome}
 use Rattle.tp_base.specs.Act as act
 use Rattle.tp_base.specs.Act.{◌>>=◌, ◌>>◌, give, check}
@@ -13,7 +13,6 @@ use Rattle.cap_table.specs.Owning.{Back}
 use Rattle.call_table.specs.Domain.{Dom, refused, done, with_caps}
 use Rattle.call_table.specs.Claims.{Estate}
 use Rattle.call_table.specs.Calls.{Note, Act, filled, drop_slot, empty_buffer, delete, work_of}
-use Rattle.call_table.specs.Calls as calls
 use Rattle.call_table.specs.declared.Reply.{Reply}
 use Rattle.call_table.proofs.ClaimLawsSlots.{long_set}
 use Rattle.kernel_call.specs.declared.domain.Domain.{Domain}
@@ -25,7 +24,7 @@ use Rattle.kernel_call.specs.Entries.{clear_at, CanClear, Leaves, given_back}
 use Rattle.kernel_call.proofs.Paths.{ends_there, filled_then, check_ends}
 use Rattle.kernel_call.proofs.Frees.{free_of, page_frame, table_frame, own_frame, out_frame, page_back, table_back, none_back}
 use Rattle.kernel_call.proofs.FreesAlloc.{kept, refusal, DoneWith}
-use Rattle.kernel_call.proofs.Drops.{can_clear, delete_runs, delete_notes}
+use Rattle.kernel_call.proofs.Drops.{can_clear, delete_runs, buffer_work}
 
 -- a slot that is none, or is empty: the call ends at once
 pub unfilled : (number : ℕ) (e : Estate) (d : Domain) (memory : Contents) (readings : List ℕ) (replies : List Reply) (m : Mem) (a : ℕ)
@@ -106,16 +105,13 @@ module _ (e : Estate) (d : Domain) (memory : Contents) (readings : List ℕ) (re
         subst (λ (r : ℕ). Leaves 7 memory' x.work (clear_at r s t m)) h.has.root
         (subst (λ (v : Option ℕ). Leaves 7 memory' x.work (clear_at d.map s v m)) installed_is
         (subst (λ (u : Option ℕ). Leaves 7 memory' x.work (clear_at d.map u v m)) unmapped_is leaves)) in
-        let notes = delete_notes e.root s t m in
         subst (λ (r : act.Done Mem Note Dom Dom). DoneWith 7 e model caps pool map memory' x r) (sym (delete_runs e model a c m below there unused))
         (record {
           value =
               ap (λ (s : Slots). inr (done 0 (record model { caps = s }))) (sym is)
               ∙ ap (λ (v : ℕ). inr (done v (record model { caps = caps }))) (sym value);
           holds = left.holds;
-          told = left.told
-              ∙ ap (λ (z : Option ℕ). record { op = 7; zeroed = z; entries = calls.entries_in (clear_at e.root s t m).notes }) (sym notes.1)
-              ∙ ap (λ (es : List ℕ). record { op = 7; zeroed = calls.zeroed_in ((clear_at e.root s t m).notes ++ Note.Emptied ∷ []); entries = es }) (sym notes.0);
+          told = left.told ∙ sym (buffer_work 7 (clear_at e.root s t m).notes);
           root = map_is ∙ h.has.root;
           free = pool_is ∙ ap (λ (p : FreeList). given_back p held table) h.has.pool ∙ given_free held table back table_is ∙ ap (free_of e) (sym is);
           slots = ap length is ∙ long_set d.caps h.has.slots a None;

@@ -8,7 +8,7 @@ use Rattle.cap_table.specs.Slots.{Slots, cap_at, alike, same_number, is_revoked,
 use Rattle.call_table.specs.Claims.{Claim, Estate, frame_of, claim_of, claims}
 use Rattle.call_table.proofs.ClaimLawsSlots.{claims_at, claims_fixed}
 use Rattle.kernel_call.proofs.Frees.{free_of, same_free, Names, named_alike}
-use Rattle.kernel_call.proofs.Drops.{self_stays, revoked_long, revoked_at}
+use Rattle.cap_table.proofs.RevokeLemmas.{length_revoked, at_revoked, itself}
 
 number_same : (w : Option ℕ) (n : ℕ) → same_number (Some n) w ≡ true → w ≡ Some n
 number_same None n e = absurd (cc e)
@@ -34,22 +34,22 @@ module _ (e : Estate) (caps : Slots) (long : length caps ≡ 64) (a : ℕ) (belo
 
   kept_at : (i : ℕ) → i < 64 → is_revoked caps a i ≡ false → claims e after i ≡ claims e caps i
   kept_at i within stays =
-      claims_at e after (revoked_long caps a long) i within
-      ∙ ap claim_of (revoked_at caps a long i within ∙ ap (λ (t : Bool). if t then None else cap_at caps i) stays)
+      claims_at e after (length_revoked caps a ∙ long) i within
+      ∙ ap claim_of (at_revoked caps a i ∙ ap (λ (t : Bool). if t then None else cap_at caps i) stays)
       ∙ sym (claims_at e caps long i within)
 
   gone_at : (i f : ℕ) → i < 64 → is_revoked caps a i ≡ true → frame_of (claims e after i) ≢ Some f
   unfolding frame_of claim_of
   gone_at i f within goes is =
       let none : claims e after i ≡ Claim.Nothing =
-      claims_at e after (revoked_long caps a long) i within
-      ∙ ap claim_of (revoked_at caps a long i within ∙ ap (λ (t : Bool). if t then None else cap_at caps i) goes) in
+      claims_at e after (length_revoked caps a ∙ long) i within
+      ∙ ap claim_of (at_revoked caps a i ∙ ap (λ (t : Bool). if t then None else cap_at caps i) goes) in
       let no : None ≡ Some f = sym (ap frame_of none) ∙ is in
       cc no
 
   fixed_at : (i : ℕ) → 64 + (i - 64) ≡ i → claims e after i ≡ claims e caps i
   fixed_at i place =
-      ap (claims e after) (sym place) ∙ claims_fixed e after (revoked_long caps a long) (i - 64)
+      ap (claims e after) (sym place) ∙ claims_fixed e after (length_revoked caps a ∙ long) (i - 64)
       ∙ sym (claims_fixed e caps long (i - 64)) ∙ ap (claims e caps) place
 
   to_after : (i f : ℕ) → i < 64 → frame_of (claims e caps i) ≡ Some f → (t : Bool) → is_revoked caps a i ≡ t → Names e after f
@@ -57,7 +57,7 @@ module _ (e : Estate) (caps : Slots) (long : length caps ≡ 64) (a : ℕ) (belo
   to_after i f within is true goes =
       let here : frame_of (claim_of (cap_at caps i)) ≡ Some f = ap frame_of (sym (claims_at e caps long i within)) ∙ is in
       let self : frame_of (claim_of (cap_at caps a)) ≡ Some f = alike_frame (cap_at caps a) (cap_at caps i) f (and_parts _ _ goes).1 here in
-      (a, ap frame_of (kept_at a below (self_stays caps a) ∙ claims_at e caps long a below) ∙ self)
+      (a, ap frame_of (kept_at a below (itself caps a) ∙ claims_at e caps long a below) ∙ self)
 
   from_after : (i f : ℕ) → i < 64 → frame_of (claims e after i) ≡ Some f → (t : Bool) → is_revoked caps a i ≡ t → Names e caps f
   from_after i f within is false stays = (i, ap frame_of (sym (kept_at i within stays)) ∙ is)

@@ -6,7 +6,7 @@ use Rattle.phys_mem.specs.Contents.{Contents}
 use Rattle.phys_mem.specs.Mem.{Mem}
 use Rattle.phys_mem.specs.Holds.{Holds}
 use Rattle.frame_colours.specs.FreeList.{FreeList, with_frame}
-use Rattle.page_map.specs.Changes.{page_entry, unmapped, CanUnmap, CanUninstall}
+use Rattle.page_map.specs.Changes.{unmapped, CanUnmap, CanUninstall}
 use Rattle.kernel_clone.specs.Models.{work_model}
 use Rattle.kernel_clone.specs.declared.Work.{Work}
 use Rattle.call_table.specs.Domain.{Dom}
@@ -33,24 +33,10 @@ pub record Leaves (number : ℕ) (memory : Contents) (work : Work) (r : act.Done
 
 -- ---- several leaves, in order
 
-abbrev pub unmapped_all : Mem → ℕ → List ℕ → Mem
-unmapped_all m root [] = m
-unmapped_all m root (va ∷ vas) = unmapped_all (unmapped m root va) root vas
-
--- their physical addresses
-abbrev pub entries_all : Mem → ℕ → List ℕ → List ℕ
-entries_all m root [] = []
-entries_all m root (va ∷ vas) = page_entry m root va ∷ entries_all (unmapped m root va) root vas
-
 -- each is there when it is cleared
 abbrev pub CanUnmapAll : Mem → ℕ → ℕ → List ℕ → Type 0
 CanUnmapAll m root frames [] = Unit {0}
 CanUnmapAll m root frames (va ∷ vas) = CanUnmap m root frames va × CanUnmapAll (unmapped m root va) root frames vas
-
--- a memory and the work that is told are those of all
-pub record Unmaps (number root : ℕ) (vas : List ℕ) (m : Mem) (memory : Contents) (work : Work) : Type 0 where
-  pub holds : Holds memory (unmapped_all m root vas)
-  pub told : work_model work ≡ record { op = number; zeroed = None; entries = entries_all m root vas }
 
 -- ---- frames
 

@@ -9,7 +9,7 @@ ghost use Rattle.cap_table.specs.Slots.{Slots};
 ghost use Rattle.cap_table.specs.Owning.{IsUnnamed, IsNew, given_cap};
 ghost use Rattle.call_table.specs.Calls as spec;
 ghost use Rattle.kernel_call.specs.Facts.{Valid, Does, KeepsRest};
-ghost use Rattle.kernel_call.specs.Entries.{clear_at, CanClear, Leaves, CanUnmapAll, Unmaps, given_back};
+ghost use Rattle.kernel_call.specs.Entries.{clear_at, CanClear, Leaves, CanUnmapAll, given_back};
 
 use crate::error::CallError;
 use crate::outcome::{Done, no_work, writing, zeroing};
@@ -163,7 +163,7 @@ fn clear_all(map: &mut PageMap, memory: &mut PhysMem, revoked: &Revoked) -> Work
     requires there { StandsWith memory.old (λ m.
         CanUnmapAll m map.old memory.old.frames (take revoked.now.written revoked.now.entries)) }
     ensures unmaps { (m : Mem) → Holds memory.old m
-        → Unmaps 8 map.old (take revoked.now.written revoked.now.entries) m memory.new result }
+        → Leaves 8 memory.new result (spec.unmap_all map.old (take revoked.now.written revoked.now.entries) m) }
     ensures map { map.new ≡ map.old }
     ensures frames { memory.new.frames ≡ memory.old.frames }
 {

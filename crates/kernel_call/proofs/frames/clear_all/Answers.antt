@@ -41,4 +41,4 @@ returns-clause-unmaps c = λ m h.
     let past : length vas ≤ c.loop-i.i =
     omega (arith, length-take-le c.args.revoked.now.written c.args.revoked.now.entries (omega (arith, long, c.requires.few)), end) in
     clearing_ends c.args.map.now vas c.loop-i.i m c.loop-i.memory c.loop-i.work.entries
-    (record c.loop-i.work { count = c.args.revoked.now.written }) 8 past (search rules) (c.loop-i.invariant.7 m h)
+    (record c.loop-i.work { count = c.args.revoked.now.written }) past (search rules) (c.loop-i.invariant.7 m h)
