@@ -1,5 +1,6 @@
 -- A call by its number, and what is left after its reply.
-use Rattle.std.proofs.Common.{◌≡◌, ℕ, ◌<◌, ◌≤◌, ◌/◌, ◌^◌, take, Bool, true, false, ◌&&◌, List, [], length, Option, Some, None, Ok, Err, ◌⊎◌, refl, ap, sym, subst, ◌∙◌, arith, leb-false, ne_eqb}
+use Rattle.std.proofs.lemmas.Bool.{lt-leb}
+use Rattle.std.proofs.Common.{◌≡◌, ◌≢◌, ℕ, ◌<◌, ◌≤◌, ◌/◌, ◌^◌, take, Bool, true, false, ◌&&◌, List, [], length, Option, Some, None, Ok, Err, ◌⊎◌, refl, ap, sym, subst, ◌∙◌, arith, leb-false, ne_eqb}
 use Rattle.std.specs.Prelude.{nat_le, if◌then◌else◌, Result, All, IfSome}
 use Rattle.std.proofs.lemmas.List.{length-take}
 use Rattle.std.proofs.lemmas.List.Elements.{All-weaker}
@@ -8,7 +9,9 @@ use Rattle.tp_base.specs.Act as act
 use Rattle.tp_base.specs.Act.{stop, give, either}
 use Rattle.phys_mem.specs.Contents.{Contents}
 use Rattle.phys_mem.specs.Mem.{Mem}
-use Rattle.kernel_clone.specs.Footprints.{WorkDone, bad_call_op}
+use Rattle.kernel_clone.specs.declared.operation.Call.{Call}
+use Rattle.kernel_clone.specs.declared.operation.Call.TheVariants as call
+use Rattle.kernel_clone.specs.Footprints.{WorkDone, number_of, bad_call_op}
 use Rattle.kernel_clone.specs.declared.Work.{Work}
 use Rattle.kernel_clone.specs.Models.{work_model, IsWork}
 use Rattle.cap_table.specs.Slots.{Slots}
@@ -40,6 +43,46 @@ pub performed : (number k : ℕ) (e : Estate) (old new : Domain) (memory : Conte
 performed number k e old new memory readings replies m result a b c r is same ends =
     subst (λ (n : ℕ). Ends n e old new memory readings replies result (call_of e (dom_model old readings replies) n a b c m)) (sym is)
     (subst (λ (r : act.Done Mem Note Dom Dom). Ends k e old new memory readings replies result r) (sym same) ends)
+
+-- the last call on memory, where it is none of the others
+pub last_on_memory : (c : Call) → 0 < number_of c → number_of c ≤ 8 → c ≢ call.Put → c ≢ call.Alloc → c ≢ call.Table → c ≢ call.Map
+    → c ≢ call.Unmap → c ≢ call.Copy → c ≢ call.Delete → number_of c ≡ 8
+last_on_memory call.Exit some few p a t m u k d = absurd (omega (arith, some))
+last_on_memory call.Put some few p a t m u k d = absurd (p refl)
+last_on_memory call.Alloc some few p a t m u k d = absurd (a refl)
+last_on_memory call.Table some few p a t m u k d = absurd (t refl)
+last_on_memory call.Map some few p a t m u k d = absurd (m refl)
+last_on_memory call.Unmap some few p a t m u k d = absurd (u refl)
+last_on_memory call.Copy some few p a t m u k d = absurd (k refl)
+last_on_memory call.Delete some few p a t m u k d = absurd (d refl)
+last_on_memory call.Revoke some few p a t m u k d = refl
+last_on_memory call.Poll some few p a t m u k d = absurd (omega (arith, few))
+last_on_memory call.Wait some few p a t m u k d = absurd (omega (arith, few))
+last_on_memory call.Signal some few p a t m u k d = absurd (omega (arith, few))
+last_on_memory call.Spawn some few p a t m u k d = absurd (omega (arith, few))
+last_on_memory call.Yield some few p a t m u k d = absurd (omega (arith, few))
+last_on_memory call.EndThread some few p a t m u k d = absurd (omega (arith, few))
+
+-- the operation of a call's number is its own, and that of any other number one of a bad call
+pub own_op : (c : Call) → op_of (number_of c) ≡ number_of c
+own_op call.Exit = refl
+own_op call.Put = refl
+own_op call.Alloc = refl
+own_op call.Table = refl
+own_op call.Map = refl
+own_op call.Unmap = refl
+own_op call.Copy = refl
+own_op call.Delete = refl
+own_op call.Revoke = refl
+own_op call.Poll = refl
+own_op call.Wait = refl
+own_op call.Signal = refl
+own_op call.Spawn = refl
+own_op call.Yield = refl
+own_op call.EndThread = refl
+
+pub bad_op : (number : ℕ) → 14 < number → op_of number ≡ bad_call_op
+bad_op number above = ap (λ (b : Bool). if b then number else bad_call_op) (lt-leb number 14 above)
 
 -- ---- the facts after a call
 

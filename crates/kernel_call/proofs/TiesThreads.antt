@@ -1,5 +1,5 @@
 -- How the calls on lines and threads run, to each of their ends, and what the code leaves then.
-use Rattle.std.proofs.Common.{◌≡◌, ℕ, ◌-◌, ◌<◌, ◌≤◌, ◌%◌, Bool, true, false, List, [], ◌∷◌, length, Option, Some, None, Ok, Err, ◌⊎◌, inl, inr, refl, ap, sym, subst, ◌∙◌, arith, ne_eqb}
+use Rattle.std.proofs.Common.{◌≡◌, ◌≢◌, ℕ, ◌-◌, ◌<◌, ◌≤◌, ◌%◌, Bool, true, false, List, [], ◌∷◌, length, Option, Some, None, Ok, Err, ◌⊎◌, inl, inr, refl, ap, sym, subst, ◌∙◌, arith, ne_eqb}
 use Rattle.std.specs.Prelude.{nat_eq, if◌then◌else◌, is_some, slice_get, slice_set, Result}
 use Rattle.std.proofs.lemmas.Bool.{le-ltb}
 use Rattle.std.proofs.lemmas.List.{length-append, set-get_or}
@@ -14,6 +14,9 @@ use Rattle.cap_table.specs.declared.Cap.TheVariants as cap
 use Rattle.cap_table.specs.Slots.{cap_at}
 use Rattle.call_table.specs.Domain.{Dom, reply_past, recorded, replied, done, refused, is_set, with_bit, signalled_by, signalled, turned, waiting, with_spawned}
 use Rattle.call_table.specs.Claims.{Estate}
+use Rattle.kernel_clone.specs.Footprints.{number_of}
+use Rattle.kernel_clone.specs.declared.operation.Call.{Call}
+use Rattle.kernel_clone.specs.declared.operation.Call.TheVariants as call
 use Rattle.call_table.specs.Calls.{Note, Act, filled, line_in, line_at, bit_value, poll, waited, wait, signal, spawn, call_of}
 use Rattle.call_table.specs.declared.Reply.{Reply}
 use Rattle.call_table.proofs.WorkSteps.{last_reply}
@@ -218,6 +221,25 @@ pub answered_by : (number k : ℕ) (e : Estate) (d : Dom) (a b c : ℕ) (m : Mem
 answered_by number k e d a b c m before reply new r is same h =
     subst (λ (n : ℕ). IsAnswered m before reply new (call_of e d n a b c m)) (sym is)
     (subst (IsAnswered m before reply new) (sym same) h)
+
+-- the last call that leaves memory alone, where it is none of the others
+pub last_without_memory : (c : Call) → (0 < number_of c → 8 < number_of c) → c ≢ call.Exit → c ≢ call.Poll → c ≢ call.Wait → c ≢ call.Signal
+    → c ≢ call.Spawn → c ≢ call.Yield → number_of c ≡ 14
+last_without_memory call.Exit later x p w s n y = absurd (x refl)
+last_without_memory call.Put later x p w s n y = let above = later (omega arith) in absurd (omega (arith, above))
+last_without_memory call.Alloc later x p w s n y = let above = later (omega arith) in absurd (omega (arith, above))
+last_without_memory call.Table later x p w s n y = let above = later (omega arith) in absurd (omega (arith, above))
+last_without_memory call.Map later x p w s n y = let above = later (omega arith) in absurd (omega (arith, above))
+last_without_memory call.Unmap later x p w s n y = let above = later (omega arith) in absurd (omega (arith, above))
+last_without_memory call.Copy later x p w s n y = let above = later (omega arith) in absurd (omega (arith, above))
+last_without_memory call.Delete later x p w s n y = let above = later (omega arith) in absurd (omega (arith, above))
+last_without_memory call.Revoke later x p w s n y = let above = later (omega arith) in absurd (omega (arith, above))
+last_without_memory call.Poll later x p w s n y = absurd (p refl)
+last_without_memory call.Wait later x p w s n y = absurd (w refl)
+last_without_memory call.Signal later x p w s n y = absurd (s refl)
+last_without_memory call.Spawn later x p w s n y = absurd (n refl)
+last_without_memory call.Yield later x p w s n y = absurd (y refl)
+last_without_memory call.EndThread later x p w s n y = refl
 
 pub bad_call : (e : Estate) (d : Dom) (m : Mem) (number a b c : ℕ) → 14 < number → call_of e d number a b c m ≡ reads m (inl (refused 1 d))
 unfolding call_of stop

@@ -1,5 +1,6 @@
 // The kernel call that a domain makes.
-ghost use Rattle.std.specs.Prelude.{◌≡◌, ◌≢◌, ◌^◌, ◌<◌, ◌≤◌, true, IfErr, IfSome, slice_index};
+ghost use Rattle.std.specs.Prelude.{◌≡◌, ◌≢◌, ◌^◌, ◌<◌, ◌≤◌, ◌||◌, nat_eq, nat_lt, true, IfErr, IfSome, slice_index};
+ghost use Rattle.kernel_clone.specs.Footprints.{number_of};
 ghost use Rattle.kernel_clone.specs.Models.{work_model, IsWork};
 ghost use Rattle.pad_bound.specs.Worst.{IsCallWork};
 ghost use Rattle.thread_set.specs.Threads.{is_ready};
@@ -9,17 +10,15 @@ ghost use Rattle.kernel_call.specs.Calls.{Calls, KeepsParts, IsRefused};
 
 use crate::error::CallError;
 use crate::frames::{alloc, delete, revoke};
-use crate::outcome::{Done, Outcome, no_work};
+use crate::outcome::{Done, Outcome, no_work, plain};
 use crate::reply::reply_to;
 use crate::slots::copy;
 use crate::tables::{install, map_page, unmap};
 use crate::threads::call_without_memory;
 use crate::{Domain, PRINTED};
 use call_table::Reply;
-use kernel_clone::BAD_CALL;
+use kernel_clone::{BAD_CALL, Call};
 use phys_mem::PhysMem;
-
-const PUT: u8 = 1;
 
 // PUT: prints the low byte of `a`.
 fn put_byte(domain: &mut Domain, memory: &PhysMem, a: u32) -> Result<Done, CallError>
@@ -34,22 +33,40 @@ fn put_byte(domain: &mut Domain, memory: &PhysMem, a: u32) -> Result<Done, CallE
     domain.printed.push((a & 0xff) as u8).unwrap();
     Ok(Done {
         value: 0,
-        work: no_work(PUT),
+        work: no_work(Call::Put),
     })
 }
 
-// A call on memory, frames or slots, by its number.
+// Whether a call leaves memory, frames and slots alone: one that ends the
+// domain, or is on interrupt lines or threads.
+fn leaves_memory(call: Call) -> bool
+    ensures value { result ≡ (nat_eq (number_of call) 0 || nat_lt 8 (number_of call)) }
+{
+    !matches!(
+        call,
+        Call::Put
+            | Call::Alloc
+            | Call::Table
+            | Call::Map
+            | Call::Unmap
+            | Call::Copy
+            | Call::Delete
+            | Call::Revoke
+    )
+}
+
+// A call on memory, frames or slots.
 fn perform(
     domain: &mut Domain,
     memory: &mut PhysMem,
-    number: u32,
+    call: Call,
     args: [u32; 3],
 ) -> Result<Done, CallError>
     requires valid { Valid memory.old domain.old }
-    requires first { 0 < number }
-    requires last { number ≤ 8 }
-    ensures does { Does number
-        (λ e d. spec.call_of e d number (slice_index args 0) (slice_index args 1) (slice_index args 2))
+    requires first { 0 < number_of call }
+    requires last { number_of call ≤ 8 }
+    ensures does { Does (number_of call)
+        (λ e d. spec.call_of e d (number_of call) (slice_index args 0) (slice_index args 1) (slice_index args 2))
         result memory.old domain.old memory.new domain.new }
     ensures rest { KeepsRest domain.old domain.new }
     ensures unchanged { IfErr result (λ error. domain.new ≡ domain.old) }
@@ -57,15 +74,54 @@ fn perform(
     ensures frames { memory.new.frames ≡ memory.old.frames }
 {
     let [a, b, c] = args;
-    match number {
-        1 => put_byte(domain, memory, a),
-        2 => alloc(domain, memory, a, b),
-        3 => install(domain, memory, a, b),
-        4 => map_page(domain, memory, a, b, c),
-        5 => unmap(domain, memory, a),
-        6 => copy(domain, memory, a, b, c),
-        7 => delete(domain, memory, a),
+    match call {
+        Call::Put => put_byte(domain, memory, a),
+        Call::Alloc => alloc(domain, memory, a, b),
+        Call::Table => install(domain, memory, a, b),
+        Call::Map => map_page(domain, memory, a, b, c),
+        Call::Unmap => unmap(domain, memory, a),
+        Call::Copy => copy(domain, memory, a, b, c),
+        Call::Delete => delete(domain, memory, a),
         _ => revoke(domain, memory, a),
+    }
+}
+
+// A call, with its reply.
+fn make(domain: &mut Domain, memory: &mut PhysMem, call: Call, args: [u32; 3]) -> Outcome
+    requires valid { Valid memory.old domain.old }
+    requires ready { is_ready domain.old.threads.active.state ≡ true }
+    requires replies { domain.old.replies.count < 2 ^ 63 }
+    ensures calls { Calls (number_of call) args result memory.old domain.old memory.new domain.new }
+    ensures valid { Valid memory.new domain.new }
+    ensures keeps { KeepsParts domain.old domain.new }
+    ensures frames { memory.new.frames ≡ memory.old.frames }
+    ensures refused { IfSome result.reply (λ r. r.code ≢ 0 → IsRefused domain.old domain.new r) }
+    ensures memory { IfSome result.reply (λ r. r.code ≢ 0 → memory.new ≡ memory.old) }
+    ensures operation { result.work.op ≡ number_of call }
+    ensures work { IsCallWork (work_model result.work) }
+    ensures in_memory { memory.old.frames ≤ 2 ^ 15 → IsWork result.work }
+{
+    if leaves_memory(call) {
+        return Outcome {
+            reply: call_without_memory(domain, call, args),
+            work: no_work(call),
+        };
+    }
+    match perform(domain, memory, call, args) {
+        Ok(done) => {
+            let reply = Reply {
+                code: 0,
+                value: done.value,
+            };
+            Outcome {
+                reply: Some(reply_to(domain, reply)),
+                work: done.work,
+            }
+        }
+        Err(error) => Outcome {
+            reply: Some(reply_to(domain, error.reply())),
+            work: no_work(call),
+        },
     }
 }
 
@@ -88,33 +144,11 @@ pub fn call(domain: &mut Domain, memory: &mut PhysMem, number: u32, args: [u32; 
     ensures buffer { spec.empties_buffer result.work.op result.reply
         ≡ spec.empties_buffer number result.reply }
 {
-    if number == 0 || number > 8 {
-        return Outcome {
-            reply: call_without_memory(domain, number, args),
-            work: no_work(operation(number)),
-        };
-    }
-    match perform(domain, memory, number, args) {
-        Ok(done) => {
-            let reply = Reply {
-                code: 0,
-                value: done.value,
-            };
-            Outcome {
-                reply: Some(reply_to(domain, reply)),
-                work: done.work,
-            }
-        }
-        Err(error) => Outcome {
-            reply: Some(reply_to(domain, error.reply())),
-            work: no_work(operation(number)),
+    match Call::of(number) {
+        Some(call) => make(domain, memory, call, args),
+        None => Outcome {
+            reply: Some(reply_to(domain, CallError::BadCall.reply())),
+            work: plain(BAD_CALL),
         },
     }
-}
-
-// The operation of a call's number.
-fn operation(number: u32) -> u8
-    ensures value { result ≡ spec.op_of number }
-{
-    if number <= 14 { number as u8 } else { BAD_CALL }
 }

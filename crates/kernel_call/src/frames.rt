@@ -17,17 +17,9 @@ use crate::slots::filled;
 use crate::{Domain, SLOTS};
 use cap_table::{Given, Gone, Revoked};
 use frame_colours::{Frame, Free, Held, Pool, Table};
-use kernel_clone::Work;
+use kernel_clone::{Call, Work};
 use page_map::PageMap;
 use phys_mem::PhysMem;
-
-const ALLOC: u8 = 2;
-
-/// The operation of DELETE.
-pub const DELETE: u8 = 7;
-
-/// The operation of REVOKE.
-pub const REVOKE: u8 = 8;
 
 // The rights of a page that was allocated: to read, to write and to execute.
 const ALL_RIGHTS: u8 = 7;
@@ -59,7 +51,7 @@ pub fn alloc(domain: &mut Domain, memory: &mut PhysMem, a: u32, b: u32) -> Resul
     domain.caps.put(a, given);
     Ok(Done {
         value: 0,
-        work: zeroing(ALLOC, number),
+        work: zeroing(Call::Alloc, number),
     })
 }
 
@@ -114,12 +106,12 @@ fn clear_entry(
     ensures frames { memory.new.frames ≡ memory.old.frames }
 {
     if let Some(va) = unmapped {
-        return writing(DELETE, map.unmap(memory, va));
+        return writing(Call::Delete, map.unmap(memory, va));
     }
     if let Some(va) = uninstalled {
-        return writing(DELETE, map.uninstall_table(memory, va));
+        return writing(Call::Delete, map.uninstall_table(memory, va));
     }
-    no_work(DELETE)
+    no_work(Call::Delete)
 }
 
 // Frees the frames that no slot names any more.
@@ -167,7 +159,7 @@ fn clear_all(map: &mut PageMap, memory: &mut PhysMem, revoked: &Revoked) -> Work
     ensures map { map.new ≡ map.old }
     ensures frames { memory.new.frames ≡ memory.old.frames }
 {
-    let mut work = no_work(REVOKE);
+    let mut work = no_work(Call::Revoke);
     for i in 0..revoked.written as usize {
         work.entries[i] = map.unmap(memory, revoked.entries[i]);
     }

@@ -1,12 +1,11 @@
 // What a kernel call comes to.
 ghost use Rattle.std.specs.Prelude.{◌≡◌, [], ◌∷◌, Some, None};
 ghost use Rattle.kernel_clone.specs.Models.{work_model};
+ghost use Rattle.kernel_clone.specs.Footprints.{number_of};
 ghost use Rattle.call_table.specs.Calls.{clears_entries};
 
-use crate::frames::{DELETE, REVOKE};
-use crate::tables::UNMAP;
 use call_table::Reply;
-use kernel_clone::Work;
+use kernel_clone::{Call, Work};
 
 /// What a kernel call answered, where it did, and what its footprint depends on.
 #[derive(Clone, Copy)]
@@ -36,7 +35,7 @@ impl Outcome {
 fn clears_entries(op: u8) -> bool
     ensures value { result ≡ clears_entries op }
 {
-    op == UNMAP || op == DELETE || op == REVOKE
+    op == Call::Unmap.number() || op == Call::Delete.number() || op == Call::Revoke.number()
 }
 
 /// What a call that was done gives, and did.
@@ -46,8 +45,9 @@ pub struct Done {
     pub work: Work,
 }
 
-/// An operation that zeroed no frame and wrote no entry.
-pub fn no_work(op: u8) -> Work
+/// The work of an operation, by its number, that zeroed no frame and wrote no
+/// entry.
+pub fn plain(op: u8) -> Work
     ensures work { work_model result ≡ record { op = op; zeroed = None; entries = [] } }
 {
     Work {
@@ -58,24 +58,31 @@ pub fn no_work(op: u8) -> Work
     }
 }
 
-/// One that zeroed a frame.
-pub fn zeroing(op: u8, frame: u32) -> Work
-    ensures work { work_model result ≡ record { op = op; zeroed = Some frame; entries = [] } }
+/// The work of such a call.
+pub fn no_work(call: Call) -> Work
+    ensures work { work_model result ≡ record { op = number_of call; zeroed = None; entries = [] } }
+{
+    plain(call.number())
+}
+
+/// Of one that zeroed a frame.
+pub fn zeroing(call: Call, frame: u32) -> Work
+    ensures work { work_model result ≡ record { op = number_of call; zeroed = Some frame; entries = [] } }
 {
     Work {
         zeroed: Some(frame),
-        ..no_work(op)
+        ..no_work(call)
     }
 }
 
-/// One that wrote an entry, at a physical address in bytes.
-pub fn writing(op: u8, entry: u32) -> Work
-    ensures work { work_model result ≡ record { op = op; zeroed = None; entries = entry ∷ [] } }
+/// Of one that wrote an entry, at a physical address in bytes.
+pub fn writing(call: Call, entry: u32) -> Work
+    ensures work { work_model result ≡ record { op = number_of call; zeroed = None; entries = entry ∷ [] } }
 {
     let mut entries = [0; 64];
     entries[0] = entry;
     Work {
-        op,
+        op: call.number(),
         zeroed: None,
         count: 1,
         entries,

@@ -8,9 +8,8 @@ use crate::error::CallError;
 use crate::outcome::{Done, no_work};
 use crate::{Domain, SLOTS};
 use cap_table::Cap;
+use kernel_clone::Call;
 use phys_mem::PhysMem;
-
-const COPY: u8 = 6;
 
 /// The capability in a slot.
 #[tactic(auto, unfolding(call_table::specs::Calls::filled))]
@@ -97,6 +96,6 @@ pub fn copy(
     domain.caps.copy(a, b, rights);
     Ok(Done {
         value: 0,
-        work: no_work(COPY),
+        work: no_work(Call::Copy),
     })
 }

@@ -8,14 +8,8 @@ use crate::error::{CallError, refusal_error};
 use crate::outcome::{Done, writing};
 use crate::slots::{filled, may_give};
 use cap_table::Cap;
+use kernel_clone::Call;
 use phys_mem::PhysMem;
-
-const TABLE: u8 = 3;
-
-const MAP: u8 = 4;
-
-/// The operation of UNMAP.
-pub const UNMAP: u8 = 5;
 
 // What a page has in bytes, and what the pages of one table have together.
 const PAGE: u32 = 4096;
@@ -47,7 +41,7 @@ pub fn install(domain: &mut Domain, memory: &mut PhysMem, a: u32, b: u32) -> Res
     domain.caps.note(a, Some(b)); // installed there
     Ok(Done {
         value: 0,
-        work: writing(TABLE, entry),
+        work: writing(Call::Table, entry),
     })
 }
 
@@ -90,7 +84,7 @@ pub fn map_page(
     domain.caps.note(a, Some(b)); // mapped there
     Ok(Done {
         value: 0,
-        work: writing(MAP, entry),
+        work: writing(Call::Map, entry),
     })
 }
 
@@ -111,6 +105,6 @@ pub fn unmap(domain: &mut Domain, memory: &mut PhysMem, a: u32) -> Result<Done, 
     domain.caps.note(a, None);
     Ok(Done {
         value: 0,
-        work: writing(UNMAP, entry),
+        work: writing(Call::Unmap, entry),
     })
 }

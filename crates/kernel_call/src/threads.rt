@@ -1,7 +1,8 @@
-// Calls that leave memory alone: EXIT, those on interrupt lines and on threads,
-// and bad ones. Deliveries of interrupts.
+// Calls that leave memory alone: EXIT, and those on interrupt lines and on
+// threads. Deliveries of interrupts.
 ghost use Rattle.std.specs.Prelude.{◌≡◌, ◌≢◌, ℕ, ◌+◌, ◌^◌, ◌<◌, ◌≤◌, true, [], length, slice_index, Some, None, IfSome, option_map};
 ghost use Rattle.phys_mem.specs.Contents.{Contents};
+ghost use Rattle.kernel_clone.specs.Footprints.{number_of};
 ghost use Rattle.kernel_clone.specs.Models.{work_model, IsWork};
 ghost use Rattle.pad_bound.specs.Worst.{IsCallWork};
 ghost use Rattle.thread_set.specs.Threads.{is_ready};
@@ -15,20 +16,20 @@ ghost use Rattle.kernel_call.specs.Threads.{Answers, KeepsAtSignal, KeepsAtDeliv
 
 use crate::Domain;
 use crate::error::CallError;
-use crate::outcome::no_work;
+use crate::outcome::plain;
 use crate::reply::reply_to;
 use crate::slots::line_at;
 use call_table::{DomainStatus, Reply};
-use kernel_clone::{DELIVERY, Work};
+use kernel_clone::{Call, DELIVERY, Work};
 
-/// A call that leaves memory alone, by its number: EXIT, those on interrupt
-/// lines and on threads, and every bad one.
-pub fn call_without_memory(domain: &mut Domain, number: u32, args: [u32; 3]) -> Option<Reply>
+/// A call that leaves memory alone: EXIT, and those on interrupt lines and on
+/// threads.
+pub fn call_without_memory(domain: &mut Domain, call: Call, args: [u32; 3]) -> Option<Reply>
     requires ready { is_ready domain.old.threads.active.state ≡ true }
     requires replies { domain.old.replies.count < 2 ^ 63 }
-    requires others { 0 < number → 8 < number }
+    requires others { 0 < number_of call → 8 < number_of call }
     ensures answers { Answers
-        (λ e d. spec.call_of e d number (slice_index args 0) (slice_index args 1) (slice_index args 2))
+        (λ e d. spec.call_of e d (number_of call) (slice_index args 0) (slice_index args 1) (slice_index args 2))
         result domain.old domain.new }
     ensures keeps { KeepsParts domain.old domain.new }
     ensures caps { domain.new.caps ≡ domain.old.caps }
@@ -36,15 +37,14 @@ pub fn call_without_memory(domain: &mut Domain, number: u32, args: [u32; 3]) -> 
     ensures refused { IfSome result (λ r. r.code ≢ 0 → IsRefused domain.old domain.new r) }
 {
     let [a, b, _] = args;
-    match number {
-        0 => exit(domain, a),
-        9 => poll(domain, a),
-        10 => wait(domain, a),
-        11 => signal(domain, a),
-        12 => spawn(domain, a, b),
-        13 => yield_turn(domain),
-        14 => end_thread(domain),
-        _ => Some(reply_to(domain, CallError::BadCall.reply())),
+    match call {
+        Call::Exit => exit(domain, a),
+        Call::Poll => poll(domain, a),
+        Call::Wait => wait(domain, a),
+        Call::Signal => signal(domain, a),
+        Call::Spawn => spawn(domain, a, b),
+        Call::Yield => yield_turn(domain),
+        _ => end_thread(domain),
     }
 }
 
@@ -209,5 +209,5 @@ pub fn deliver(domain: &mut Domain) -> Work
 {
     let due = domain.interrupts.deliver();
     signal_line(domain, due);
-    no_work(DELIVERY)
+    plain(DELIVERY)
 }

@@ -3,6 +3,8 @@ use Rattle.std.specs.Prelude.{◌≡◌, ℕ, ◌+◌, ◌*◌, ◌/◌, ◌%◌
 use Rattle.std.specs.Int.{IsPowerOfTwo}
 use Rattle.std.specs.List.{range_with_len}
 use Rattle.tp_base.specs.Ranges.{IsFrameNo}
+use Rattle.kernel_clone.specs.declared.operation.Call.{Call}
+use Rattle.kernel_clone.specs.declared.operation.Call.TheVariants.{Exit, Put, Alloc, Table, Map, Unmap, Copy, Delete, Revoke, Poll, Wait, Signal, Spawn, Yield, EndThread}
 use Rattle.kernel_clone.specs.declared.Kind.{Kind}
 use Rattle.kernel_clone.specs.declared.Kind.TheVariants.{Fetch, Load, Store}
 
@@ -26,7 +28,24 @@ pub record LineTouch : Type 0 where
   pub line : ℕ  -- physical
   pub kind : Kind
 
--- ---- operations: 0 to 14 are the calls
+-- ---- operations, by number: the calls, and what the kernel does besides
+
+abbrev pub number_of : Call → ℕ
+number_of Exit = 0
+number_of Put = 1
+number_of Alloc = 2
+number_of Table = 3
+number_of Map = 4
+number_of Unmap = 5
+number_of Copy = 6
+number_of Delete = 7
+number_of Revoke = 8
+number_of Poll = 9
+number_of Wait = 10
+number_of Signal = 11
+number_of Spawn = 12
+number_of Yield = 13
+number_of EndThread = 14
 
 abbrev pub delivery_op : ℕ
 delivery_op = 15

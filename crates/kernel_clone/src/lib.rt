@@ -9,19 +9,12 @@ ghost use Rattle.kernel_clone.specs.Models.{layout_model, work_model, IsWork};
 mod footprint;
 mod laws;
 mod layout;
+mod operation;
 
 pub use footprint::Touches;
 pub use laws::{counts, entries_lie_in_their_frames, lines, places};
+pub use operation::{BAD_CALL, Call, DELIVERY, ENTER, LEAVE};
 use tp_base::FrameNo;
-
-/// The operation of an interrupt's delivery; 0 to 14 are the calls.
-pub const DELIVERY: u8 = 15;
-/// A domain leaves, at a switch.
-pub const LEAVE: u8 = 16;
-/// A domain enters, at a switch.
-pub const ENTER: u8 = 17;
-/// A call that is none.
-pub const BAD_CALL: u8 = 18;
 
 /// How a line is touched.
 #[derive(Clone, Copy, Debug, PartialEq, Eq)]
@@ -49,7 +42,7 @@ pub struct CloneLayout {
 /// What an operation did.
 #[derive(Clone, Copy)]
 pub struct Work {
-    /// Its number.
+    /// Its number: a call's, or one of the others.
     pub op: u8,
     /// The frame that it zeroed, below 32,768.
     pub zeroed: Option<u32>,

@@ -1,101 +1,44 @@
-use Rattle.std.proofs.Common.{rules, arith, ◌≡◌, ◌≤◌, ◌^◌, ℕ, [], length, Some, None, ap, ◌∙◌}
+use Rattle.std.proofs.Common.{arith, ◌∙◌, ap, sym, subst, ℕ, length, Some, [], None}
 use Rattle.std.specs.Prelude.{slice_index}
-use Rattle.call_table.specs.Calls.{call_of}
-use Rattle.call_table.proofs.BoundedWork.{call_of_empties, call_of_own}
-use Rattle.kernel_call.specs.LogModel.{log_model}
+use Rattle.kernel_clone.specs.Footprints.{WorkDone}
+use Rattle.call_table.specs.Calls.{op_of, empties_buffer}
+use Rattle.call_table.proofs.BoundedWork.{call_of_empties}
+use Rattle.kernel_call.specs.declared.error.CallError.TheVariants as error
 use Rattle.kernel_call.specs.Models.{dom_model}
-use Rattle.kernel_call.specs.declared.domain.Domain.{Domain}
-use Rattle.kernel_call.proofs.TiesCalls.{facts_still, facts_done, facts_refused, called_answered, called_done, called_refused, told_work, same_buffer, work_in_memory}
-use Rattle.kernel_call.proofs.Ties.{kept_facts}
+use Rattle.kernel_call.specs.Calls.{Calls}
+use Rattle.kernel_call.proofs.TiesCalls.{facts_still, called_answered, own_op, bad_op, same_buffer}
+use Rattle.kernel_call.proofs.TiesThreads.{answered_refused, bad_call}
 use Rattle.kernel_call.proofs.calls.call.Goals as goal
 
-pub returns-then-number-eq0-clause-calls : goal.returns-then-number-eq0-clause-calls
-returns-then-number-eq0-clause-calls c e readings replies m h logged kept =
-    called_answered c.args.number e c.call_without_memory.new.domain c.args.memory.now m (length replies) c.call_without_memory.result c.no_work.result _
-    (c.call_without_memory.ensures.answers e readings replies m logged kept)
-    (facts_still e c.args.memory.now m c.args.domain.now c.call_without_memory.new.domain h
-    c.call_without_memory.ensures.keeps.map c.call_without_memory.ensures.pool c.call_without_memory.ensures.caps)
-    (c.no_work.ensures.work ∙ ap (λ (op : ℕ). record { op = op; zeroed = None; entries = [] }) c.operation.ensures.value)
-    (call_of_empties e (dom_model c.args.domain.now readings replies) m c.args.number
-    (slice_index c.args.args 0) (slice_index c.args.args 1) (slice_index c.args.args 2))
+pub returns-in-Some-clause-calls : goal.returns-in-Some-clause-calls
+returns-in-Some-clause-calls c =
+    subst (λ (n : ℕ). Calls n c.args.args c.make.result c.args.memory.now c.args.domain.now c.make.new.memory c.make.new.domain)
+    c.in-Some.ensures.number c.make.ensures.calls
 
-pub returns-in-Ok-clause-calls : goal.returns-in-Ok-clause-calls
-returns-in-Ok-clause-calls c e readings replies m h logged kept =
-    let ends = c.in-Ok.ensures.does e readings replies m h in
-    called_done c.args.number e c.args.domain.now c.perform.new.domain c.reply_to.new.domain c.perform.new.memory readings replies
-    c.in-Ok.done c.reply_to.result _ ends
-    (facts_still e c.perform.new.memory _ c.perform.new.domain c.reply_to.new.domain
-    (facts_done c.args.number e c.args.domain.now c.perform.new.domain c.args.memory.now c.perform.new.memory readings replies m
-    (slice_index c.args.args 0) (slice_index c.args.args 1) (slice_index c.args.args 2) h c.in-Ok.ensures.frames c.in-Ok.done ends)
+pub returns-in-Some-clause-operation : goal.returns-in-Some-clause-operation
+returns-in-Some-clause-operation c = c.make.ensures.operation ∙ sym (own_op c.in-Some.call) ∙ ap op_of c.in-Some.ensures.number
+
+pub returns-in-Some-clause-buffer : goal.returns-in-Some-clause-buffer
+returns-in-Some-clause-buffer c =
+    ap (λ (op : ℕ). empties_buffer op c.make.result.reply) (c.make.ensures.operation ∙ c.in-Some.ensures.number)
+
+pub returns-in-None-clause-calls : goal.returns-in-None-clause-calls
+returns-in-None-clause-calls c e readings replies m h logged kept =
+    let d = dom_model c.args.domain.now readings replies in
+    called_answered c.args.number e c.reply_to.new.domain c.args.memory.now m (length replies) (Some c.reply_to.result) c.plain.result _
+    (answered_refused m (length replies) c.reply_to.new.domain _ d error.BadCall c.reply.result c.reply_to.result
+    (bad_call e d m c.args.number (slice_index c.args.args 0) (slice_index c.args.args 1) (slice_index c.args.args 2) c.in-None.ensures.none)
+    (omega arith) c.reply.ensures.value c.reply_to.ensures.reply (c.reply_to.ensures.becomes readings replies logged kept))
+    (facts_still e c.args.memory.now m c.args.domain.now c.reply_to.new.domain h
     c.reply_to.ensures.keeps.map c.reply_to.ensures.pool c.reply_to.ensures.caps)
-    (c.reply_to.ensures.becomes readings replies
-    (ap log_model c.in-Ok.ensures.rest.readings ∙ logged) (ap log_model c.in-Ok.ensures.rest.replies ∙ kept))
-    c.reply_to.ensures.reply
-    (call_of_empties e (dom_model c.args.domain.now readings replies) m c.args.number
-    (slice_index c.args.args 0) (slice_index c.args.args 1) (slice_index c.args.args 2))
+    (c.plain.ensures.work ∙ ap (λ (op : ℕ). record { op = op; zeroed = None; entries = [] }) (sym (bad_op c.args.number c.in-None.ensures.none)))
+    (call_of_empties e d m c.args.number (slice_index c.args.args 0) (slice_index c.args.args 1) (slice_index c.args.args 2))
 
-pub returns-in-Ok-clause-valid : goal.returns-in-Ok-clause-valid
-returns-in-Ok-clause-valid c =
-    let v = c.requires.valid in
-    record {
-      estate = v.estate;
-      mem = (call_of v.estate (dom_model c.args.domain.now [] []) c.args.number
-          (slice_index c.args.args 0) (slice_index c.args.args 1) (slice_index c.args.args 2) v.mem).state;
-      facts = facts_still v.estate c.perform.new.memory _ c.perform.new.domain c.reply_to.new.domain
-          (facts_done c.args.number v.estate c.args.domain.now c.perform.new.domain c.args.memory.now c.perform.new.memory [] [] v.mem
-          (slice_index c.args.args 0) (slice_index c.args.args 1) (slice_index c.args.args 2) v.facts c.in-Ok.ensures.frames c.in-Ok.done
-          (c.in-Ok.ensures.does v.estate [] [] v.mem v.facts))
-          c.reply_to.ensures.keeps.map c.reply_to.ensures.pool c.reply_to.ensures.caps;
-    }
+pub returns-in-None-clause-operation : goal.returns-in-None-clause-operation
+returns-in-None-clause-operation c =
+    ap (λ (w : WorkDone). w.op) c.plain.ensures.work ∙ sym (bad_op c.args.number c.in-None.ensures.none)
 
-pub returns-in-Err-clause-calls : goal.returns-in-Err-clause-calls
-returns-in-Err-clause-calls c e readings replies m h logged kept =
-    let ends = c.in-Err.ensures.does e readings replies m h in
-    called_refused c.args.number e c.args.domain.now c.perform.new.domain c.reply_to-in-Err.new.domain c.perform.new.memory readings replies
-    c.in-Err.error c.reply.result c.reply_to-in-Err.result c.no_work-in-Err.result _ ends
-    (facts_still e c.perform.new.memory _ c.perform.new.domain c.reply_to-in-Err.new.domain
-    (facts_refused c.args.number e c.args.domain.now c.perform.new.domain c.args.memory.now c.perform.new.memory readings replies m
-    (slice_index c.args.args 0) (slice_index c.args.args 1) (slice_index c.args.args 2) h c.in-Err.ensures.frames c.in-Err.error ends
-    (ap (λ (d : Domain). d.caps) c.in-Err.ensures.unchanged))
-    c.reply_to-in-Err.ensures.keeps.map c.reply_to-in-Err.ensures.pool c.reply_to-in-Err.ensures.caps)
-    c.reply.ensures.value c.reply_to-in-Err.ensures.reply c.in-Err.ensures.unchanged
-    (c.reply_to-in-Err.ensures.becomes readings replies
-    (ap log_model c.in-Err.ensures.rest.readings ∙ logged) (ap log_model c.in-Err.ensures.rest.replies ∙ kept))
-    (c.no_work-in-Err.ensures.work ∙ ap (λ (op : ℕ). record { op = op; zeroed = None; entries = [] }) c.operation-in-Err.ensures.value)
-    (call_of_empties e (dom_model c.args.domain.now readings replies) m c.args.number
-    (slice_index c.args.args 0) (slice_index c.args.args 1) (slice_index c.args.args 2))
-
-pub returns-in-Ok-clause-operation : goal.returns-in-Ok-clause-operation
-returns-in-Ok-clause-operation c =
-    let v = c.requires.valid in
-    (told_work c.args.number v.estate c.args.domain.now c.perform.new.domain c.perform.new.memory [] [] v.mem c.in-Ok.done
-    (slice_index c.args.args 0) (slice_index c.args.args 1) (slice_index c.args.args 2)
-    (c.in-Ok.ensures.does v.estate [] [] v.mem v.facts)).0
-
-pub returns-in-Ok-clause-work : goal.returns-in-Ok-clause-work
-returns-in-Ok-clause-work c =
-    let v = c.requires.valid in
-    (told_work c.args.number v.estate c.args.domain.now c.perform.new.domain c.perform.new.memory [] [] v.mem c.in-Ok.done
-    (slice_index c.args.args 0) (slice_index c.args.args 1) (slice_index c.args.args 2)
-    (c.in-Ok.ensures.does v.estate [] [] v.mem v.facts)).1
-
-pub returns-in-Ok-clause-buffer : goal.returns-in-Ok-clause-buffer
-returns-in-Ok-clause-buffer c =
-    let v = c.requires.valid in
-    same_buffer c.args.number c.in-Ok.done.work.op (Some c.reply_to.result)
-    (told_work c.args.number v.estate c.args.domain.now c.perform.new.domain c.perform.new.memory [] [] v.mem c.in-Ok.done
-    (slice_index c.args.args 0) (slice_index c.args.args 1) (slice_index c.args.args 2)
-    (c.in-Ok.ensures.does v.estate [] [] v.mem v.facts)).0
-
-pub returns-in-Ok-clause-in_memory : goal.returns-in-Ok-clause-in_memory
-returns-in-Ok-clause-in_memory c = λ few.
-    let v = c.requires.valid in
-    let ends = c.in-Ok.ensures.does v.estate [] [] v.mem v.facts in
-    let long : length c.in-Ok.done.work.entries ≡ 64 = search rules in
-    let in_share : v.estate.share.frames ≤ 2 ^ 15 = omega (arith, few, v.facts.frames) in
-    let bounded = (told_work c.args.number v.estate c.args.domain.now c.perform.new.domain c.perform.new.memory [] [] v.mem c.in-Ok.done
-    (slice_index c.args.args 0) (slice_index c.args.args 1) (slice_index c.args.args 2) ends).1 in
-    work_in_memory v.estate in_share c.args.number _ c.in-Ok.done.work long ends.work bounded
-    (call_of_own v.estate (dom_model c.args.domain.now [] []) v.mem c.args.number
-    (slice_index c.args.args 0) (slice_index c.args.args 1) (slice_index c.args.args 2)
-    (kept_facts v.estate c.args.memory.now v.mem c.args.domain.now [] [] v.facts))
+pub returns-in-None-clause-buffer : goal.returns-in-None-clause-buffer
+returns-in-None-clause-buffer c =
+    same_buffer c.args.number c.plain.result.op (Some c.reply_to.result)
+    (ap (λ (w : WorkDone). w.op) c.plain.ensures.work ∙ sym (bad_op c.args.number c.in-None.ensures.none))

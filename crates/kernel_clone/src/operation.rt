@@ -1,0 +1,66 @@
+// The operations of the kernel, by number: 0 to 14 are its calls, and the others what it does besides.
+ghost use Rattle.std.specs.Prelude.{◌≡◌, ◌<◌, IfSome, IfNone};
+ghost use Rattle.kernel_clone.specs.Footprints.{number_of};
+
+/// The operation of an interrupt's delivery.
+pub const DELIVERY: u8 = 15;
+/// A domain leaves, at a switch.
+pub const LEAVE: u8 = 16;
+/// A domain enters, at a switch.
+pub const ENTER: u8 = 17;
+/// A call that is none.
+pub const BAD_CALL: u8 = 18;
+
+/// A kernel call.
+#[derive(Clone, Copy, Debug, PartialEq, Eq)]
+pub enum Call {
+    Exit,
+    Put,
+    Alloc,
+    Table,
+    Map,
+    Unmap,
+    Copy,
+    Delete,
+    Revoke,
+    Poll,
+    Wait,
+    Signal,
+    Spawn,
+    Yield,
+    EndThread,
+}
+
+impl Call {
+    /// The call with a number; `None` above 14.
+    pub fn of(number: u32) -> Option<Call>
+        ensures number { IfSome result (λ call. number_of call ≡ number) }
+        ensures none { IfNone result (14 < number) }
+    {
+        Some(match number {
+            0 => Call::Exit,
+            1 => Call::Put,
+            2 => Call::Alloc,
+            3 => Call::Table,
+            4 => Call::Map,
+            5 => Call::Unmap,
+            6 => Call::Copy,
+            7 => Call::Delete,
+            8 => Call::Revoke,
+            9 => Call::Poll,
+            10 => Call::Wait,
+            11 => Call::Signal,
+            12 => Call::Spawn,
+            13 => Call::Yield,
+            14 => Call::EndThread,
+            _ => return None,
+        })
+    }
+
+    /// Its number, which is that of its operation.
+    pub fn number(self) -> u8
+        ensures value { result ≡ number_of self }
+    {
+        self as u8
+    }
+}
