@@ -12,6 +12,7 @@ use Rattle.cap_table.specs.Slots.{Slots}
 use Rattle.rv_core.specs.Memory.{load_size}
 use Rattle.rv_core.specs.declared.Store.{Store as StoreMade}
 use Rattle.rv_core.specs.declared.Trap.{Trap}
+use Rattle.rv_core.specs.Exceptions.{code_of}
 use Rattle.rv_decode.specs.declared.LoadWidth.{LoadWidth}
 use Rattle.rv_decode.specs.declared.LoadWidth.TheVariants.{Byte, Half, Word, ByteUnsigned, HalfUnsigned}
 use Rattle.sv32_walk.specs.declared.access.Access.{Access}
@@ -31,7 +32,7 @@ use Rattle.call_table.proofs.TablesMeaning as tables
 use Rattle.world_view.specs.Cost.{hierarchy}
 use Rattle.world_view.specs.Kernel.{estate, no_dom}
 use Rattle.world_view.specs.Instruction.{trapped, stopped}
-use Rattle.world_view.specs.Event.{Storage, fault_code, frame_or_stop, translate, place, address_in, line_in, part_of_word, stored_in, load, store}
+use Rattle.world_view.specs.Event.{Storage, fault_of, frame_or_stop, translate, place, address_in, line_in, part_of_word, stored_in, load, store}
 use Rattle.world_view.specs.Relations.{HasFacts}
 use Rattle.world_view.proofs.TableLaws.{IsPage, Walkable, walkable, own_page}
 use Rattle.world_view.proofs.CodeLaws.{translate_value}
@@ -201,16 +202,16 @@ module _ (w : Setting) (root : ℕ) (d : Dom) (a : Access) (va : ℕ) (s : Stora
     met = record { value = translate_value w.machine root d a va s _ refl ∙ frame_is at (walk s.mem w.machine.frames root va a).result is; kept = looks };
   }
 
-  stop_is : (fault : WalkFault) (trap : Trap) → trap ≡ record { code = fault_code a fault; value = va } → (x : Result ℕ WalkFault) → Err fault ≡ translation.translated va x
+  stop_is : (fault : WalkFault) (trap : Trap) → trap ≡ record { exception = fault_of a fault; value = va } → (x : Result ℕ WalkFault) → Err fault ≡ translation.translated va x
       → frame_or_stop d a va x ≡ end_of d (Err trap)
   unfolding frame_or_stop trapped
   stop_is fault trap same (Ok leaf) e = cc
   stop_is fault trap same (Err x) e =
       let is : fault ≡ x = cc in
-      rw (sym is) (ap (λ (y : Trap). inl (stopped y.code y.value d)) (sym same))
+      rw (sym is) (ap (λ (y : Trap). inl (stopped (code_of y.exception) y.value d)) (sym same))
 
   pub faulted : (fault : WalkFault) (trap : Trap) → Err fault ≡ translation.translated va (walk s.mem w.machine.frames root va a).result
-      → trap ≡ record { code = fault_code a fault; value = va } → Yields w (translate w.machine root d a va) s r (Answered {A = ℕ} d (Err trap) K)
+      → trap ≡ record { exception = fault_of a fault; value = va } → Yields w (translate w.machine root d a va) s r (Answered {A = ℕ} d (Err trap) K)
   faulted fault trap is same = record {
     met = record { value = translate_value w.machine root d a va s _ refl ∙ stop_is fault trap same (walk s.mem w.machine.frames root va a).result is; kept = looks };
   }

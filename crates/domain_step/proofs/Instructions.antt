@@ -15,6 +15,8 @@ use Rattle.rv_core.specs.Memory.{load_size, store_size, sum_of, address_of, alig
 use Rattle.rv_core.specs.Registers.{register}
 use Rattle.rv_core.specs.declared.Store.{Store as StoreMade}
 use Rattle.rv_core.specs.declared.Trap.{Trap}
+use Rattle.rv_core.specs.declared.exception.Exception.TheVariants as exception
+use Rattle.rv_core.specs.Exceptions.{code_of}
 use Rattle.rv_decode.specs.Table.{decode_of}
 use Rattle.rv_decode.specs.declared.Comparison.{Comparison}
 use Rattle.rv_decode.specs.declared.Counter.{Counter}
@@ -414,12 +416,12 @@ module _ (p : Point) (new : Domain)
         λ u q k. subst (Does u q) (is.found u.mem k.holds) (rest u q k) in
         search (yields_rules, y_found, there, fetches, goes) depth 40
 
-    pub instruction_undefined : (trap : Trap) → trap ≡ record { code = 2; value = f.word }
+    pub instruction_undefined : (trap : Trap) → trap ≡ record { exception = exception.IllegalInstruction; value = f.word }
         → decode_of f.word ≡ None
         → Stands new (trapped trap p.dom) → Runs (AfterFetch rule stands p f)
     unfolding perform trapped either
     instruction_undefined trap same none stands' =
-        let dom = subst (λ (x : Trap). Stands new (stopped x.code x.value p.dom)) same stands' in
+        let dom = subst (λ (x : Trap). Stands new (stopped (code_of x.exception) x.value p.dom)) same stands' in
         instruction_read (AfterFetch rule stands p f)
         (λ u q k.
         rw none (y_stop p.setting u q (stopped 2 f.word p.dom) _ (record { dom = dom; kept = k })))

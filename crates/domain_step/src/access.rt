@@ -15,7 +15,7 @@ ghost use Rattle.domain_step.specs.Moves.{Finds, frame_found, stored};
 
 use mem_system::MemSystem;
 use phys_mem::PhysMem;
-use rv_core::{Store, Trap};
+use rv_core::{Exception, Store, Trap};
 use rv_decode::LoadWidth;
 use set_cache::Policy;
 use sv32_walk::{Access, WalkFault};
@@ -24,16 +24,16 @@ use tp_base::FrameNo;
 // ---- translation
 
 // The exception of an access whose walk faults.
-fn fault_code(access: Access, fault: WalkFault) -> u8
-    ensures value { result ≡ spec.fault_code access fault }
+fn fault_of(access: Access, fault: WalkFault) -> Exception
+    ensures value { result ≡ spec.fault_of access fault }
 {
     match (access, fault) {
-        (Access::Fetch, WalkFault::Page) => 12,
-        (Access::Load, WalkFault::Page) => 13,
-        (Access::Store, WalkFault::Page) => 15,
-        (Access::Fetch, WalkFault::Access) => 1,
-        (Access::Load, WalkFault::Access) => 5,
-        (Access::Store, WalkFault::Access) => 7,
+        (Access::Fetch, WalkFault::Page) => Exception::InstructionPageFault,
+        (Access::Load, WalkFault::Page) => Exception::LoadPageFault,
+        (Access::Store, WalkFault::Page) => Exception::StorePageFault,
+        (Access::Fetch, WalkFault::Access) => Exception::InstructionAccessFault,
+        (Access::Load, WalkFault::Access) => Exception::LoadAccessFault,
+        (Access::Store, WalkFault::Access) => Exception::StoreAccessFault,
     }
 }
 
@@ -67,7 +67,7 @@ pub fn translate<P: Policy>(
     match found.result {
         Ok(at) => Ok(at),
         Err(fault) => Err(Trap {
-            code: fault_code(access, fault),
+            exception: fault_of(access, fault),
             value: va,
         }),
     }

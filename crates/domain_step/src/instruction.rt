@@ -40,7 +40,7 @@ pub fn stop(domain: &mut Domain, trap: Trap)
     ensures keeps { KeepsFrames domain.old domain.new }
 {
     domain.status = DomainStatus::Stopped {
-        code: trap.code,
+        code: trap.exception.code(),
         pc: domain.threads.active.pc,
         value: trap.value,
     };

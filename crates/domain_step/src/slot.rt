@@ -32,7 +32,7 @@ use domain_switch::charge;
 use kernel_call::{Domain, deliver};
 use mem_system::MemSystem;
 use phys_mem::PhysMem;
-use rv_core::{Trap, address, misalignment};
+use rv_core::{Exception, Trap, address, misalignment};
 use rv_decode::{Instr, decode};
 use set_cache::Policy;
 use sv32_walk::Access;
@@ -209,7 +209,7 @@ fn run_instruction<P: Policy>(
         stop(
             domain,
             Trap {
-                code: 2,
+                exception: Exception::IllegalInstruction,
                 value: word,
             },
         );

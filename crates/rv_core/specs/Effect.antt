@@ -8,6 +8,7 @@ use Rattle.rv_core.specs.Alu.{value_of, holds}
 use Rattle.rv_core.specs.Memory.{load_size, store_size, loaded_word, stored_word, sum_of, alignment_trap}
 use Rattle.rv_core.specs.declared.Effect.{Effect}
 use Rattle.rv_core.specs.declared.Store.{Store as StoreMade}
+use Rattle.rv_core.specs.declared.exception.Exception.TheVariants.{InstructionMisaligned, Breakpoint, LoadMisaligned, StoreMisaligned, UserCall}
 use Rattle.rv_core.specs.declared.Trap.{Trap}
 
 -- the registers that are left, and the effect
@@ -43,7 +44,7 @@ abbrev pub arrival : List ℕ → List ℕ → ℕ → ℕ → Bool → Outcome
 arrival old new pc target taken =
     if target % 4 == 0
     then record { regs = new; effect = record { next = target; store = None; taken = taken; trap = None } }
-    else exception old pc (record { code = 0; value = target })
+    else exception old pc (record { exception = InstructionMisaligned; value = target })
 
 -- rd has the address of the instruction that would follow
 abbrev pub jump : List ℕ → ℕ → ℕ → ℕ → Outcome
@@ -60,13 +61,13 @@ effect_of regs pc (Auipc rd imm) loaded = register_write regs pc rd ((pc + imm) 
 effect_of regs pc (Jal rd offset) loaded = jump regs pc rd ((pc + offset) % 2 ^ 32)
 effect_of regs pc (Jalr rd rs1 offset) loaded = jump regs pc rd (sum_of regs rs1 offset / 2 * 2)
 effect_of regs pc (Branch comparison rs1 rs2 offset) loaded = branch regs pc ((pc + offset) % 2 ^ 32) (holds comparison (register regs rs1) (register regs rs2))
-effect_of regs pc (Load width rd rs1 offset) loaded = access regs pc (alignment_trap (load_size width) 4 (sum_of regs rs1 offset)) (register_write regs pc rd (loaded_word width loaded))
-effect_of regs pc (Store width rs1 rs2 offset) loaded = access regs pc (alignment_trap (store_size width) 6 (sum_of regs rs1 offset)) (memory_write regs pc width (sum_of regs rs1 offset) (register regs rs2))
+effect_of regs pc (Load width rd rs1 offset) loaded = access regs pc (alignment_trap (load_size width) LoadMisaligned (sum_of regs rs1 offset)) (register_write regs pc rd (loaded_word width loaded))
+effect_of regs pc (Store width rs1 rs2 offset) loaded = access regs pc (alignment_trap (store_size width) StoreMisaligned (sum_of regs rs1 offset)) (memory_write regs pc width (sum_of regs rs1 offset) (register regs rs2))
 effect_of regs pc (Immediate operation rd rs1 imm) loaded = register_write regs pc rd (value_of operation (register regs rs1) imm)
 effect_of regs pc (Register operation rd rs1 rs2) loaded = register_write regs pc rd (value_of operation (register regs rs1) (register regs rs2))
 effect_of regs pc Fence loaded = continuation regs pc
-effect_of regs pc Ecall loaded = exception regs pc (record { code = 8; value = 0 })
-effect_of regs pc Ebreak loaded = exception regs pc (record { code = 3; value = pc })
+effect_of regs pc Ecall loaded = exception regs pc (record { exception = UserCall; value = 0 })
+effect_of regs pc Ebreak loaded = exception regs pc (record { exception = Breakpoint; value = pc })
 effect_of regs pc (ReadCounter counter rd) loaded = register_write regs pc rd loaded
 
 -- besides a trap, nothing changes

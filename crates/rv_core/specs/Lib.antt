@@ -1,3 +1,4 @@
+pub mod Exceptions
 pub mod Registers
 pub mod Alu
 pub mod Memory

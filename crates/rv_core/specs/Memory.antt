@@ -8,6 +8,8 @@ use Rattle.rv_decode.specs.declared.LoadWidth.TheVariants.{Byte, Half, Word, Byt
 use Rattle.rv_decode.specs.declared.StoreWidth.{StoreWidth}
 use Rattle.rv_decode.specs.declared.StoreWidth.TheVariants.{Byte as StoreByte, Half as StoreHalf, Word as StoreWord}
 use Rattle.rv_core.specs.Registers.{register}
+use Rattle.rv_core.specs.declared.exception.Exception.{Exception}
+use Rattle.rv_core.specs.declared.exception.Exception.TheVariants.{LoadMisaligned, StoreMisaligned}
 use Rattle.rv_core.specs.declared.Trap.{Trap}
 
 -- LB, LH, LW, LBU, LHU: in bytes
@@ -49,11 +51,10 @@ address_of regs (Store width rs1 rs2 offset) = sum_of regs rs1 offset
 address_of regs _ = 0
 
 -- a trap where the address is no multiple of the size
-abbrev pub alignment_trap : ℕ → ℕ → ℕ → Option Trap
-alignment_trap size code at = if at % size == 0 then None else Some (record { code = code; value = at })
+abbrev pub alignment_trap : ℕ → Exception → ℕ → Option Trap
+alignment_trap size exception at = if at % size == 0 then None else Some (record { exception = exception; value = at })
 
--- 4 for a load, 6 for a store
 abbrev pub misalignment_of : Instr → ℕ → Option Trap
-misalignment_of (Load width rd rs1 offset) at = alignment_trap (load_size width) 4 at
-misalignment_of (Store width rs1 rs2 offset) at = alignment_trap (store_size width) 6 at
+misalignment_of (Load width rd rs1 offset) at = alignment_trap (load_size width) LoadMisaligned at
+misalignment_of (Store width rs1 rs2 offset) at = alignment_trap (store_size width) StoreMisaligned at
 misalignment_of _ at = None

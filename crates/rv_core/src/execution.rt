@@ -5,7 +5,7 @@ ghost use Rattle.rv_core.specs.Effect.{continuation, register_write, memory_writ
 
 use crate::alu::{compute, holds};
 use crate::memory::{address, loaded_word, misalignment, store_size, stored_word};
-use crate::{Effect, Regs, Store, Trap};
+use crate::{Effect, Exception, Regs, Store, Trap};
 use rv_decode::{Instr, StoreWidth};
 
 fn go_on(pc: u32) -> Effect
@@ -58,13 +58,7 @@ fn arrive(pc: u32, target: u32, taken: bool) -> Effect
     ensures effect { result ≡ (arrival [] [] pc target taken).effect }
 {
     if target % 4 != 0 {
-        return raise(
-            pc,
-            Trap {
-                code: 0,
-                value: target,
-            },
-        );
+        return raise(pc, Exception::InstructionMisaligned.with(target));
     }
     Effect {
         next: target,
@@ -163,8 +157,8 @@ pub fn execute(regs: &mut Regs, pc: u32, instr: Instr, loaded: u32) -> Effect
             write_register(regs, pc, rd, word)
         }
         Instr::Fence => go_on(pc),
-        Instr::Ecall => raise(pc, Trap { code: 8, value: 0 }),
-        Instr::Ebreak => raise(pc, Trap { code: 3, value: pc }),
+        Instr::Ecall => raise(pc, Exception::UserCall.with(0)),
+        Instr::Ebreak => raise(pc, Exception::Breakpoint.with(pc)),
         Instr::ReadCounter { rd, .. } => write_register(regs, pc, rd, loaded),
     }
 }

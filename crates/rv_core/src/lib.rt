@@ -8,10 +8,12 @@
 #![tactic(auto)]
 
 mod alu;
+mod exception;
 mod execution;
 mod memory;
 mod registers;
 
+pub use exception::Exception;
 pub use execution::execute;
 pub use memory::{address, misalignment};
 pub use registers::Regs;
@@ -27,15 +29,13 @@ pub struct Store {
     pub word: u32,
 }
 
-/// An exception that an instruction raises on itself. The codes are those of the
-/// privileged specification, "Machine Cause Register": 0 instruction address
-/// misaligned, 3 breakpoint, 4 load address misaligned, 6 store address
-/// misaligned, 8 environment call from user mode.
+/// An exception, and what it tells.
 #[derive(Clone, Copy, Debug, PartialEq, Eq)]
 pub struct Trap {
-    pub code: u8,
-    /// The target for code 0, the program counter for 3, the address for 4 and
-    /// 6, and 0 for 8.
+    pub exception: Exception,
+    /// The target of a misaligned jump, the word that is no instruction, the
+    /// program counter of a breakpoint, the address of a load, a store or a
+    /// fault, and 0 of a call.
     pub value: u32,
 }
 

@@ -3,7 +3,7 @@ ghost use Rattle.std.specs.Prelude.{◌≡◌, ◌%◌, ◌==◌};
 ghost use Rattle.rv_decode.specs.Ranges.{HasRegisters};
 ghost use Rattle.rv_core.specs.Memory.{load_size, store_size, loaded_word, stored_word, address_of, misalignment_of};
 
-use crate::{Regs, Trap};
+use crate::{Exception, Regs, Trap};
 use rv_decode::{Instr, LoadWidth, StoreWidth};
 
 fn load_is_aligned(width: LoadWidth, at: u32) -> bool
@@ -83,21 +83,18 @@ pub fn address(regs: &Regs, instr: Instr) -> u32
 }
 
 /// The trap of a load or a store at an address that is no multiple of its size:
-/// code 4 for a load, 6 for a store, with the address. `None` for every other
-/// instruction. It comes before the address is translated; `execute` raises it
+/// with the address. `None` for every other instruction. It comes before the address is translated; `execute` raises it
 /// as well.
 pub fn misalignment(instr: Instr, at: u32) -> Option<Trap>
     ensures trap { result ≡ misalignment_of instr at }
 {
     match instr {
-        Instr::Load { width, .. } if !load_is_aligned(width, at) => Some(Trap {
-            code: 4,
-            value: at,
-        }),
-        Instr::Store { width, .. } if !store_is_aligned(width, at) => Some(Trap {
-            code: 6,
-            value: at,
-        }),
+        Instr::Load { width, .. } if !load_is_aligned(width, at) => {
+            Some(Exception::LoadMisaligned.with(at))
+        }
+        Instr::Store { width, .. } if !store_is_aligned(width, at) => {
+            Some(Exception::StoreMisaligned.with(at))
+        }
         _ => None,
     }
 }

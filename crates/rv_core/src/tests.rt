@@ -1,7 +1,7 @@
 // Words, and what they do, from outside: the words are those of LLVM's assembler
 // for the texts in the comments, the values were computed by a C program under
 // gcc, and the rest was worked out from the manual.
-use crate::{Effect, Regs, Store, Trap, address, execute, misalignment};
+use crate::{Effect, Exception, Regs, Store, Trap, address, execute, misalignment};
 use rv_decode::decode;
 use std::process::Abort;
 
@@ -378,7 +378,7 @@ const LBU_AND_LHU: [(u32, u32, u32, u32, Option<u32>); 20] = [
 // then x7, which was 0x7777, the next place, whether it is a branch taken, and
 // the trap's code and value.
 #[rattlefmt::skip]
-const LUI_AND_AUIPC: [(u32, [u32; 4], u32, u32, bool, Option<(u8, u32)>); 7] = [
+const LUI_AND_AUIPC: [(u32, [u32; 4], u32, u32, bool, Option<(Exception, u32)>); 7] = [
     // lui x7, 0x80000
     (0x8000_03b7, [0x0001_0000, 0, 0, 0], 0x8000_0000, 0x0001_0004, false, None),
     // lui x7, 0xfffff
@@ -396,7 +396,7 @@ const LUI_AND_AUIPC: [(u32, [u32; 4], u32, u32, bool, Option<(u8, u32)>); 7] = [
 ];
 
 #[rattlefmt::skip]
-const JAL: [(u32, [u32; 4], u32, u32, bool, Option<(u8, u32)>); 7] = [
+const JAL: [(u32, [u32; 4], u32, u32, bool, Option<(Exception, u32)>); 7] = [
     // jal x7, 0
     (0x0000_03ef, [0x0001_0000, 0, 0, 0], 0x0001_0004, 0x0001_0000, false, None),
     // jal x7, 0xffffc
@@ -406,15 +406,15 @@ const JAL: [(u32, [u32; 4], u32, u32, bool, Option<(u8, u32)>); 7] = [
     // jal x7, 8
     (0x0080_03ef, [0xffff_fffc, 0, 0, 0], 0, 4, false, None),
     // jal x7, 2
-    (0x0020_03ef, [0x0001_0000, 0, 0, 0], 0x7777, 0x0001_0000, false, Some((0, 0x0001_0002))),
+    (0x0020_03ef, [0x0001_0000, 0, 0, 0], 0x7777, 0x0001_0000, false, Some((Exception::InstructionMisaligned, 0x0001_0002))),
     // jal x7, -2
-    (0xffff_f3ef, [0x0001_0000, 0, 0, 0], 0x7777, 0x0001_0000, false, Some((0, 0xfffe))),
+    (0xffff_f3ef, [0x0001_0000, 0, 0, 0], 0x7777, 0x0001_0000, false, Some((Exception::InstructionMisaligned, 0xfffe))),
     // jal x0, 16
     (0x0100_006f, [0x0001_0000, 0, 0, 0], 0x7777, 0x0001_0010, false, None),
 ];
 
 #[rattlefmt::skip]
-const JALR: [(u32, [u32; 4], u32, u32, bool, Option<(u8, u32)>); 10] = [
+const JALR: [(u32, [u32; 4], u32, u32, bool, Option<(Exception, u32)>); 10] = [
     // jalr x7, 0(x5)
     (0x0002_83e7, [0x0001_0000, 0x0002_0000, 0, 0], 0x0001_0004, 0x0002_0000, false, None),
     // jalr x7, 1(x5)
@@ -424,31 +424,31 @@ const JALR: [(u32, [u32; 4], u32, u32, bool, Option<(u8, u32)>); 10] = [
     // jalr x7, -2048(x5)
     (0x8002_83e7, [0x0001_0000, 0x100, 0, 0], 0x0001_0004, 0xffff_f900, false, None),
     // jalr x7, -1(x5)
-    (0xfff2_83e7, [0x0001_0000, 0, 0, 0], 0x7777, 0x0001_0000, false, Some((0, 0xffff_fffe))),
+    (0xfff2_83e7, [0x0001_0000, 0, 0, 0], 0x7777, 0x0001_0000, false, Some((Exception::InstructionMisaligned, 0xffff_fffe))),
     // jalr x7, 2(x5)
-    (0x0022_83e7, [0x0001_0000, 0, 0, 0], 0x7777, 0x0001_0000, false, Some((0, 2))),
+    (0x0022_83e7, [0x0001_0000, 0, 0, 0], 0x7777, 0x0001_0000, false, Some((Exception::InstructionMisaligned, 2))),
     // jalr x7, 0(x5)
-    (0x0002_83e7, [0x0001_0000, 0x0002_0003, 0, 0], 0x7777, 0x0001_0000, false, Some((0, 0x0002_0002))),
+    (0x0002_83e7, [0x0001_0000, 0x0002_0003, 0, 0], 0x7777, 0x0001_0000, false, Some((Exception::InstructionMisaligned, 0x0002_0002))),
     // jalr x7, 1(x7)
     (0x0013_83e7, [0x0001_0000, 0, 0, 0], 0x0001_0004, 0x7778, false, None),
     // jalr x7, 0(x7)
-    (0x0003_83e7, [0x0001_0000, 0, 0, 0], 0x7777, 0x0001_0000, false, Some((0, 0x7776))),
+    (0x0003_83e7, [0x0001_0000, 0, 0, 0], 0x7777, 0x0001_0000, false, Some((Exception::InstructionMisaligned, 0x7776))),
     // jalr x0, 0(x5)
     (0x0002_8067, [0x0001_0000, 0xffff_fffd, 0, 0], 0x7777, 0xffff_fffc, false, None),
 ];
 
 #[rattlefmt::skip]
-const ENDS_OF_BRANCHES: [(u32, [u32; 4], u32, u32, bool, Option<(u8, u32)>); 9] = [
+const ENDS_OF_BRANCHES: [(u32, [u32; 4], u32, u32, bool, Option<(Exception, u32)>); 9] = [
     // beq x5, x6, 2
-    (0x0062_8163, [0x0001_0000, 1, 1, 0], 0x7777, 0x0001_0000, false, Some((0, 0x0001_0002))),
+    (0x0062_8163, [0x0001_0000, 1, 1, 0], 0x7777, 0x0001_0000, false, Some((Exception::InstructionMisaligned, 0x0001_0002))),
     // beq x5, x6, 2
     (0x0062_8163, [0x0001_0000, 1, 2, 0], 0x7777, 0x0001_0004, false, None),
     // bne x5, x6, -2
-    (0xfe62_9fe3, [0x0001_0000, 1, 2, 0], 0x7777, 0x0001_0000, false, Some((0, 0xfffe))),
+    (0xfe62_9fe3, [0x0001_0000, 1, 2, 0], 0x7777, 0x0001_0000, false, Some((Exception::InstructionMisaligned, 0xfffe))),
     // bne x5, x6, -2
     (0xfe62_9fe3, [0x0001_0000, 1, 1, 0], 0x7777, 0x0001_0004, false, None),
     // blt x5, x6, 4094
-    (0x7e62_cfe3, [0x0001_0000, 0xffff_ffff, 0, 0], 0x7777, 0x0001_0000, false, Some((0, 0x0001_0ffe))),
+    (0x7e62_cfe3, [0x0001_0000, 0xffff_ffff, 0, 0], 0x7777, 0x0001_0000, false, Some((Exception::InstructionMisaligned, 0x0001_0ffe))),
     // bge x5, x6, 4094
     (0x7e62_dfe3, [0x0001_0000, 0xffff_ffff, 0, 0], 0x7777, 0x0001_0004, false, None),
     // bgeu x5, x6, 4092
@@ -460,21 +460,21 @@ const ENDS_OF_BRANCHES: [(u32, [u32; 4], u32, u32, bool, Option<(u8, u32)>); 9] 
 ];
 
 #[rattlefmt::skip]
-const FENCES_AND_CALLS: [(u32, [u32; 4], u32, u32, bool, Option<(u8, u32)>); 5] = [
+const FENCES_AND_CALLS: [(u32, [u32; 4], u32, u32, bool, Option<(Exception, u32)>); 5] = [
     // fence
     (0x0ff0_000f, [0x0001_0000, 1, 2, 0], 0x7777, 0x0001_0004, false, None),
     // ecall
-    (0x0000_0073, [0x0001_0000, 1, 2, 0], 0x7777, 0x0001_0000, false, Some((8, 0))),
+    (0x0000_0073, [0x0001_0000, 1, 2, 0], 0x7777, 0x0001_0000, false, Some((Exception::UserCall, 0))),
     // ebreak
-    (0x0010_0073, [0x0001_0000, 1, 2, 0], 0x7777, 0x0001_0000, false, Some((3, 0x0001_0000))),
+    (0x0010_0073, [0x0001_0000, 1, 2, 0], 0x7777, 0x0001_0000, false, Some((Exception::Breakpoint, 0x0001_0000))),
     // ebreak
-    (0x0010_0073, [0xffff_fffc, 1, 2, 0], 0x7777, 0xffff_fffc, false, Some((3, 0xffff_fffc))),
+    (0x0010_0073, [0xffff_fffc, 1, 2, 0], 0x7777, 0xffff_fffc, false, Some((Exception::Breakpoint, 0xffff_fffc))),
     // fence
     (0x0ff0_000f, [0xffff_fffc, 1, 2, 0], 0x7777, 0, false, None),
 ];
 
 #[rattlefmt::skip]
-const COUNTERS: [(u32, [u32; 4], u32, u32, bool, Option<(u8, u32)>); 7] = [
+const COUNTERS: [(u32, [u32; 4], u32, u32, bool, Option<(Exception, u32)>); 7] = [
     // csrrs x7, cycle, x0
     (0xc000_23f3, [0x0001_0000, 1, 2, 0xffff_ffff], 0xffff_ffff, 0x0001_0004, false, None),
     // csrrs x7, time, x0
@@ -492,7 +492,7 @@ const COUNTERS: [(u32, [u32; 4], u32, u32, bool, Option<(u8, u32)>); 7] = [
 ];
 
 #[rattlefmt::skip]
-const REGISTER_ZERO_AND_SELF: [(u32, [u32; 4], u32, u32, bool, Option<(u8, u32)>); 5] = [
+const REGISTER_ZERO_AND_SELF: [(u32, [u32; 4], u32, u32, bool, Option<(Exception, u32)>); 5] = [
     // addi x0, x5, 1
     (0x0012_8013, [0x0001_0000, 1, 2, 0], 0x7777, 0x0001_0004, false, None),
     // add x7, x0, x0
@@ -638,10 +638,7 @@ fn check_loads(rt: &impl Abort, rows: &[(u32, u32, u32, u32, Option<u32>)]) {
     for (word, x5, loaded, at, x7) in rows {
         let trap = match x7 {
             Some(_) => None,
-            None => Some(Trap {
-                code: 4,
-                value: *at,
-            }),
+            None => Some(Exception::LoadMisaligned.with(*at)),
         };
         let next = if x7.is_some() { PC + 4 } else { PC };
         let regs = registers(*x5, 6, x7.unwrap_or(0x7777));
@@ -674,7 +671,7 @@ fn lbu_and_lhu(rt: HostRuntime) {
 fn left_by_store(regs: Regs, at: u32, size: u8, stored: Option<u32>) -> Outcome {
     let misaligned = match stored {
         Some(_) => None,
-        None => Some(Trap { code: 6, value: at }),
+        None => Some(Exception::StoreMisaligned.with(at)),
     };
     Outcome {
         regs,
@@ -698,15 +695,24 @@ fn stores(rt: HostRuntime) {
 }
 
 // A row of everything else.
-type Other = (u32, [u32; 4], u32, u32, bool, Option<(u8, u32)>);
+type Other = (u32, [u32; 4], u32, u32, bool, Option<(Exception, u32)>);
 
 fn check_others(rt: &impl Abort, rows: &[Other]) {
     for (word, [pc, x5, x6, loaded], x7, next, taken, trap) in rows {
-        let trap = trap.map(|(code, value)| Trap { code, value });
+        let trap = trap.map(|(exception, value)| exception.with(value));
         let wanted = left(registers(*x5, *x6, *x7), *next, *taken, trap);
         let found = ran(*word, *pc, *x5, *x6, *loaded);
         compare(rt, *word, *x5, *x6, found, wanted);
     }
+}
+
+// The codes of the manual, which reports give.
+#[test]
+fn codes_of_exceptions(rt: HostRuntime) {
+    assert_eq!(rt; Exception::StoreAccessFault.code(), 7);
+    assert_eq!(rt; Exception::UserCall.code(), 8);
+    assert_eq!(rt; Exception::InstructionPageFault.code(), 12);
+    assert_eq!(rt; Exception::StorePageFault.code(), 15);
 }
 
 #[test]

@@ -12,6 +12,7 @@ use Rattle.rv_core.specs.Registers.{register}
 use Rattle.rv_core.specs.Effect.{Outcome}
 use Rattle.rv_core.specs.declared.Store.{Store as StoreMade}
 use Rattle.rv_core.specs.declared.Trap.{Trap}
+use Rattle.rv_core.specs.Exceptions.{code_of}
 use Rattle.sv32_walk.specs.declared.access.Access.{Access}
 use Rattle.sv32_walk.specs.declared.access.WalkFault.{WalkFault}
 use Rattle.sv32_walk.specs.PageTableEntry.{ppn}
@@ -33,7 +34,7 @@ use Rattle.mem_system.specs.Translation.{lines_of, look_of}
 use Rattle.cache_sharing.specs.Sharing.{IsOwnLine, MayTouch}
 use Rattle.cache_sharing.proofs.OwnTouches.{may_append}
 use Rattle.world_view.specs.Cost.{hierarchy, region, own_colour}
-use Rattle.world_view.specs.Event.{Storage, Act, touch, fault_code, frame_or_stop, translate, address_in, line_in, read, write, unless, load, store, loaded, guessed, settle, execute, call_touches, make_call, perform, instruction}
+use Rattle.world_view.specs.Event.{Storage, Act, touch, fault_of, frame_or_stop, translate, address_in, line_in, read, write, unless, load, store, loaded, guessed, settle, execute, call_touches, make_call, perform, instruction}
 use Rattle.world_view.specs.Relations.{IsOwnFrame, MayAll, IsKernel, HasFacts, BesideStorage}
 use Rattle.world_view.proofs.TableLaws.{IsPage, walkable, own_reads, own_page, walk_alike, mine_own, own_mine, not_mine}
 use Rattle.world_view.proofs.InstructionLaws.{retired_caps}
@@ -146,7 +147,7 @@ module _ (p : Hardware) (o : Own) (kernel : IsKernel p o) (d : Dom) (first : Sto
   known_frame : (a : Access) (va : ℕ) (s : Storage) (r : Result ℕ WalkFault) → Held s → ((leaf : ℕ) → r ≡ Ok leaf → Page (ppn leaf) s) → Known p o Page (frame_or_stop d a va r) s
   unfolding frame_or_stop stopped
   known_frame a va s (Ok leaf) held page = page leaf refl
-  known_frame a va s (Err f) held page = facts_of p o d (stopped (fault_code a f) va d) s refl held
+  known_frame a va s (Err f) held page = facts_of p o d (stopped (code_of (fault_of a f)) va d) s refl held
 
   -- lines of addresses in own frames
   own_lines : (addresses : List ℕ) → All (λ at. IsOwnFrame p o (at / 4096)) addresses → All (IsOwnLine (hierarchy p) (own_colour o)) (lines_of p.line addresses)

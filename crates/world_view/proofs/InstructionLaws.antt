@@ -10,6 +10,7 @@ use Rattle.rv_decode.specs.declared.LoadWidth.{LoadWidth}
 use Rattle.rv_core.specs.Effect.{Outcome, effect_of}
 use Rattle.rv_core.specs.declared.Store.{Store as StoreMade}
 use Rattle.rv_core.specs.declared.Trap.{Trap}
+use Rattle.rv_core.specs.Exceptions.{code_of}
 use Rattle.sv32_walk.specs.declared.access.Access.{Access}
 use Rattle.sv32_walk.specs.declared.access.Access.TheVariants as access
 use Rattle.sv32_walk.specs.declared.access.WalkFault.{WalkFault}
@@ -22,7 +23,7 @@ use Rattle.call_table.specs.Claims.{Estate}
 use Rattle.call_table.specs.Calls.{call}
 use Rattle.hardware_check.specs.Hardware.{Hardware}
 use Rattle.world_view.specs.Instruction.{stopped, trapped, retired_at, read_out}
-use Rattle.world_view.specs.Event.{Storage, Act, fault_code, frame_or_stop, touch, translate, line_in, read, write, unless, load, store, loaded, noted, guessed, settle, execute, make_call, perform, instruction}
+use Rattle.world_view.specs.Event.{Storage, Act, fault_of, frame_or_stop, touch, translate, line_in, read, write, unless, load, store, loaded, noted, guessed, settle, execute, make_call, perform, instruction}
 
 module _ (p : Hardware) (e : Estate) (l : Layout) (d : Dom) (Held : Storage → Type 0) (Q : Dom → Storage → Type 0)
     (stops : (code value : ℕ) (s : Storage) → Held s → Q (stopped code value d) s)
@@ -100,13 +101,13 @@ module _ (p : Hardware) (e : Estate) (l : Layout) (d : Dom) (Held : Storage → 
   unless_ends : (trap : Option Trap) → Ends Held (Still Held) (unless trap d)
   unfolding unless trapped
   unless_ends None = give_ends Held (Still Held) tt (λ s h. h)
-  unless_ends (Some trap) = stop_ends (Still Held) (stopped trap.code trap.value d) (stops trap.code trap.value)
+  unless_ends (Some trap) = stop_ends (Still Held) (stopped (code_of trap.exception) trap.value d) (stops (code_of trap.exception) trap.value)
 
   frame_ends : (a : Access) (va : ℕ) (s : Storage) (r : Result ℕ WalkFault) → Held s → (walk s.mem p.frames e.root va a).result ≡ r
       → Meets (Found a va) (frame_or_stop d a va r) s
   unfolding frame_or_stop
   frame_ends a va s (Ok leaf) h is = record { held = h; leaf = leaf; is = is; frame = refl }
-  frame_ends a va s (Err f) h is = stops (fault_code a f) va s h
+  frame_ends a va s (Err f) h is = stops (code_of (fault_of a f)) va s h
 
   translate_ends : (a : Access) (va : ℕ) → Ends Held (Found a va) (translate p e.root d a va)
   unfolding translate

@@ -13,6 +13,9 @@ use Rattle.rv_core.specs.Effect.{Outcome, effect_of}
 use Rattle.rv_core.specs.Memory.{load_size, address_of, misalignment_of}
 use Rattle.rv_core.specs.declared.Store.{Store as StoreMade}
 use Rattle.rv_core.specs.declared.Trap.{Trap}
+use Rattle.rv_core.specs.declared.exception.Exception.{Exception}
+use Rattle.rv_core.specs.declared.exception.Exception.TheVariants as exception
+use Rattle.rv_core.specs.Exceptions.{code_of}
 use Rattle.sv32_walk.specs.declared.access.Access.{Access}
 use Rattle.sv32_walk.specs.declared.access.Access.TheVariants as access
 use Rattle.sv32_walk.specs.declared.access.WalkFault.{WalkFault}
@@ -47,18 +50,18 @@ unfoldable pub touch : Touch → Act (Unit {0})
 touch t = note t
 
 -- the exception of a walk that faults: instruction, load or store page fault, or access fault
-abbrev pub fault_code : Access → WalkFault → ℕ
-fault_code access.Fetch fault.Page = 12
-fault_code access.Load fault.Page = 13
-fault_code access.Store fault.Page = 15
-fault_code access.Fetch fault.Access = 1
-fault_code access.Load fault.Access = 5
-fault_code access.Store fault.Access = 7
+abbrev pub fault_of : Access → WalkFault → Exception
+fault_of access.Fetch fault.Page = exception.InstructionPageFault
+fault_of access.Load fault.Page = exception.LoadPageFault
+fault_of access.Store fault.Page = exception.StorePageFault
+fault_of access.Fetch fault.Access = exception.InstructionAccessFault
+fault_of access.Load fault.Access = exception.LoadAccessFault
+fault_of access.Store fault.Access = exception.StoreAccessFault
 
 -- the frame of the page that the walk found, else the domain is stopped
 unfoldable pub frame_or_stop : Dom → Access → ℕ → Result ℕ WalkFault → Dom ⊎ ℕ
 frame_or_stop d a va (Ok leaf) = inr (ppn leaf)
-frame_or_stop d a va (Err f) = inl (stopped (fault_code a f) va d)
+frame_or_stop d a va (Err f) = inl (stopped (code_of (fault_of a f)) va d)
 
 -- the frame of an address, by a walk of the page tables of root r as they are now
 unfoldable pub translate : Hardware → ℕ → Dom → Access → ℕ → Act ℕ
@@ -165,9 +168,8 @@ make_call p e l d = λ s.
 
 -- ---- an instruction, with the kernel call that it makes
 
--- 2: the word is no instruction
 unfoldable pub perform : Hardware → Estate → Layout → ℕ → Dom → ℕ → Option Instr → Act Dom
-perform p e l t d w None = stop (stopped 2 w d)
+perform p e l t d w None = stop (stopped (code_of exception.IllegalInstruction) w d)
 perform p e l t d w (Some instr.Ecall) = make_call p e l d
 perform p e l t d w (Some i) = execute p e.root t d i
 

@@ -3,6 +3,7 @@ use Rattle.std.specs.Prelude.{ℕ, ◌+◌, ◌/◌, ◌%◌, ◌^◌, List, [],
 use Rattle.rv_decode.specs.declared.Counter.{Counter}
 use Rattle.rv_decode.specs.declared.Counter.TheVariants.{Cycle, Time, Instret, CycleHigh, TimeHigh, InstretHigh}
 use Rattle.rv_core.specs.declared.Trap.{Trap}
+use Rattle.rv_core.specs.Exceptions.{code_of}
 use Rattle.call_table.specs.declared.DomainStatus.TheVariants.{Stopped}
 use Rattle.call_table.specs.Domain.{Dom, placed}
 
@@ -13,7 +14,7 @@ unfoldable pub stopped : ℕ → ℕ → Dom → Dom
 stopped code value d = record d { status = Stopped code d.threads.current.pc value }
 
 unfoldable pub trapped : Trap → Dom → Dom
-trapped trap d = stopped trap.code trap.value d
+trapped trap d = stopped (code_of trap.exception) trap.value d
 
 -- ---- what retires
 

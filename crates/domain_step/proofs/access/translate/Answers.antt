@@ -21,6 +21,6 @@ returns-in-Err-clause-finds g c w caps d s r k =
     let spent = c.args.spent.now + found.result.cycles in
     let keeps = looked g.P.Policy.rule g.P.Policy.stands_for w caps c.args.root c.args.memory.now c.args.access c.args.va c.args.spent.now spent found.result.cycles
     c.args.system.now found.new.self s r k refl (rw c.number.ensures.same at found.ensures.makes) (rw c.number.ensures.same at found.ensures.kept) in
-    faulted w c.args.root d c.args.access c.args.va s r (K found.new.self spent) keeps c.in-Err.fault (record { code = c.fault_code.result; value = c.args.va })
+    faulted w c.args.root d c.args.access c.args.va s r (K found.new.self spent) keeps c.in-Err.fault (record { exception = c.fault_of.result; value = c.args.va })
     (sym c.in-Err.is ∙ walk_there g.P.Policy.rule g.P.Policy.stands_for w caps c.args.root c.args.memory.now c.args.access c.args.va c.args.spent.now found.result.result c.args.system.now s r k
-    (rw c.number.ensures.same at found.ensures.result)) (rw c.fault_code.ensures.value refl)
+    (rw c.number.ensures.same at found.ensures.result)) (rw c.fault_of.ensures.value refl)

@@ -1,4 +1,5 @@
 use Rattle.std.proofs.Common.{◌+◌, Some, sym, ap, refl, ◌∙◌, arith}
+use Rattle.rv_core.specs.declared.exception.Exception.TheVariants as exception
 use Rattle.kernel_call.specs.Models.{dom_model}
 use Rattle.world_view.specs.Kernel.{estate, layout}
 use Rattle.world_view.specs.Event.{instruction}
@@ -85,7 +86,7 @@ returns-in_default-clause-leaves g c w s r readings replies k h q =
     left_whole rule stands p first k top last c.stop-in_default.ensures.keeps refl
     (instruction w.machine (estate w.machine w.own) (layout w.machine w.own) p.clock p.dom)
     (instruction_undefined p last.domain (is_root rule stands p first k top) rule stands f is
-    (record { code = 2; value = f.word }) refl (sym c.in_default.ensures.value)
+    (record { exception = exception.IllegalInstruction; value = f.word }) refl (sym c.in_default.ensures.value)
     (c.stop-in_default.ensures.becomes readings replies h q))
 
 pub returns-in-Ecall-clause-leaves : goal.returns-in-Ecall-clause-leaves
