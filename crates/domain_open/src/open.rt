@@ -18,7 +18,7 @@ use crate::segments::{REGIONS, pages_in, regions_below};
 use frame_colours::{ColourShare, Frame, Held, Pool};
 use image_check::{Checked, Hardware, Own};
 use irq_partition::IrqPart;
-use kernel_call::Domain;
+use kernel_call::{Beginning, Domain};
 use kernel_clone::CloneLayout;
 use page_map::PageMap;
 use phys_mem::PhysMem;
@@ -76,17 +76,17 @@ pub fn open_domain(
     let root = take_one(&mut pool, memory);
     take_into(&mut tables, &mut pool, memory, regions);
     give_pages(own, &mut pool, memory, &mut caps, &mut kept);
-    Domain::new(
-        alloc,
+    let begin = Beginning {
         pool,
         tables,
         kept,
         caps,
-        PageMap::new(root),
+        map: PageMap::new(root),
         interrupts,
-        ThreadSet::new(own.entry),
+        threads: ThreadSet::new(own.entry),
         layout,
-    )
+    };
+    Domain::new(alloc, begin)
 }
 
 // Where the kernel clone of a domain lies, whose frames these are.

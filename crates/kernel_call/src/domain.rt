@@ -44,6 +44,19 @@ pub struct Domain {
     ghost room: { 4096 ≤ vec_capacity printed },
 }
 
+/// What a domain begins with.
+#[derive(Drop)]
+pub struct Beginning {
+    pub pool: Pool,
+    pub tables: Vec<Frame<Table>>,
+    pub kept: Vec<Frame<Held>>,
+    pub caps: CapTable,
+    pub map: PageMap,
+    pub interrupts: IrqPart,
+    pub threads: ThreadSet,
+    pub layout: CloneLayout,
+}
+
 impl Domain {
     ghost use Rattle.kernel_call.specs.Models.{IsNew};
 
@@ -51,37 +64,27 @@ impl Domain {
     ///
     /// # Errors
     /// `Memory` where no memory is left for its logs.
-    pub fn new(
-        alloc: Global,
-        pool: Pool,
-        tables: Vec<Frame<Table>>,
-        kept: Vec<Frame<Held>>,
-        caps: CapTable,
-        map: PageMap,
-        interrupts: IrqPart,
-        threads: ThreadSet,
-        layout: CloneLayout,
-    ) -> Result<Domain, Memory>
+    pub fn new(alloc: Global, begin: Beginning) -> Result<Domain, Memory>
         ensures made { IfOk result IsNew }
-        ensures pool { IfOk result (λ d. d.pool ≡ pool) }
-        ensures tables { IfOk result (λ d. d.tables ≡ tables) }
-        ensures kept { IfOk result (λ d. d.kept ≡ kept) }
-        ensures caps { IfOk result (λ d. d.caps ≡ caps) }
-        ensures map { IfOk result (λ d. d.map ≡ map) }
-        ensures interrupts { IfOk result (λ d. d.interrupts ≡ interrupts) }
-        ensures threads { IfOk result (λ d. d.threads ≡ threads) }
-        ensures layout { IfOk result (λ d. d.layout ≡ layout) }
+        ensures pool { IfOk result (λ d. d.pool ≡ begin.pool) }
+        ensures tables { IfOk result (λ d. d.tables ≡ begin.tables) }
+        ensures kept { IfOk result (λ d. d.kept ≡ begin.kept) }
+        ensures caps { IfOk result (λ d. d.caps ≡ begin.caps) }
+        ensures map { IfOk result (λ d. d.map ≡ begin.map) }
+        ensures interrupts { IfOk result (λ d. d.interrupts ≡ begin.interrupts) }
+        ensures threads { IfOk result (λ d. d.threads ≡ begin.threads) }
+        ensures layout { IfOk result (λ d. d.layout ≡ begin.layout) }
     {
         Ok(Domain {
             status: DomainStatus::Running,
-            threads,
-            caps,
-            interrupts,
-            map,
-            pool,
-            tables,
-            kept,
-            layout,
+            threads: begin.threads,
+            caps: begin.caps,
+            interrupts: begin.interrupts,
+            map: begin.map,
+            pool: begin.pool,
+            tables: begin.tables,
+            kept: begin.kept,
+            layout: begin.layout,
             retired: 0,
             readings: Log::new(alloc)?,
             replies: Log::new(alloc)?,

@@ -14,7 +14,7 @@ mod tables;
 mod threads;
 
 pub use calls::call;
-pub use domain::{Domain, PRINTED};
+pub use domain::{Beginning, Domain, PRINTED};
 pub use error::CallError;
 pub use log::{KEPT, Log};
 pub use outcome::Outcome;

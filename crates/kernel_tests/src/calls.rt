@@ -12,7 +12,7 @@ use call_table::{DomainStatus, Reply};
 use cap_table::{CapTable, Given};
 use frame_colours::{AllColours, Frame, Pool, Table};
 use irq_partition::{IrqPart, Moment};
-use kernel_call::{Domain, Outcome, call, deliver};
+use kernel_call::{Beginning, Domain, Outcome, call, deliver};
 use kernel_clone::{CloneLayout, DELIVERY};
 use page_map::PageMap;
 use phys_mem::PhysMem;
@@ -72,17 +72,17 @@ pub fn opened(alloc: Global) -> Result<(Domain, PhysMem), Memory>
     let root = pool.take().ok_or(Memory)?.table(&mut memory);
     let table = pool.take().ok_or(Memory)?.table(&mut memory);
     let moments = [Moment { at: 100, line: 3 }, Moment { at: 100, line: 5 }];
-    let domain = Domain::new(
-        alloc,
+    let begin = Beginning {
         pool,
-        Vec::new(alloc),
-        Vec::new(alloc),
-        slots(alloc, table)?,
-        PageMap::new(root),
-        IrqPart::new(alloc, &moments)?,
-        ThreadSet::new(0x10000),
-        layout(),
-    )?;
+        tables: Vec::new(alloc),
+        kept: Vec::new(alloc),
+        caps: slots(alloc, table)?,
+        map: PageMap::new(root),
+        interrupts: IrqPart::new(alloc, &moments)?,
+        threads: ThreadSet::new(0x10000),
+        layout: layout(),
+    };
+    let domain = Domain::new(alloc, begin)?;
     Ok((domain, memory))
 }
 
