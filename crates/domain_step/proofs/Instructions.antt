@@ -102,9 +102,9 @@ module _ (regs : List ℕ) (made : StoreMade) where
       keeps_branch pc ((pc + offset) % 2 ^ 32)
       (alu.holds comparison (register regs rs1) (register regs rs2)) e
   store_keeps pc (instr.Load width rd rs1 offset) loaded e =
-      keeps_access pc (alignment_trap (load_size width) 4 (sum_of regs rs1 offset)) _ refl e
+      keeps_access pc (alignment_trap (load_size width) exception.LoadMisaligned (sum_of regs rs1 offset)) _ refl e
   store_keeps pc (instr.Store width rs1 rs2 offset) loaded e =
-      keeps_store pc (alignment_trap (store_size width) 6 (sum_of regs rs1 offset)) _ refl e
+      keeps_store pc (alignment_trap (store_size width) exception.StoreMisaligned (sum_of regs rs1 offset)) _ refl e
   store_keeps pc (instr.Immediate operation rd rs1 imm) loaded e = absurd (none-some made e)
   store_keeps pc (instr.Register operation rd rs1 rs2) loaded e = absurd (none-some made e)
   store_keeps pc instr.Fence loaded e = absurd (none-some made e)
