@@ -19,8 +19,8 @@ use Rattle.hardware_check.proofs.Built.{hardware_law}
 use Rattle.hardware_check.proofs.FirstCases.{if_first, first_in_none}
 use Rattle.image_check.specs.Pads.{shape_of, bound_in, k17, k17_case, k17_entry}
 use Rattle.image_check.specs.Public.{entry_of}
-use Rattle.image_check.specs.Laws.{Keeps, ShapeLaw}
-use Rattle.image_check.proofs.Kept.{keeps_hardware}
+use Rattle.image_check.specs.Laws.{Keeps, KeepsBeforePads, ShapeLaw}
+use Rattle.image_check.proofs.Kept.{kept_but_pads, keeps_hardware}
 use Rattle.image_check.proofs.Entries.{no_text_entry}
 
 -- ---- the machine
@@ -54,8 +54,11 @@ shape_sound h s = record {
   few_ways = s.l1d.few_ways;
 }
 
+pub shape_before_pads : (i : Raw) → KeepsBeforePads i → IsShape (shape_of (hardware_of i))
+shape_before_pads i k = shape_sound (hardware_of i) (hardware_law i (keeps_hardware i k))
+
 pub shape_law : ShapeLaw
-shape_law i e = shape_sound (hardware_of i) (hardware_law i (keeps_hardware i e))
+shape_law i e = shape_before_pads i (kept_but_pads i e).before
 
 -- ---- pads
 

@@ -1,5 +1,5 @@
 -- What an image that breaks no rule is: no rule has a broken case, and in natural numbers it can be run.
-use Rattle.std.specs.Prelude.{◌≡◌, ◌≢◌, ℕ, ◌+◌, ◌*◌, ◌<◌, ◌≤◌, ◌^◌, ◌||◌, ◌⊎◌, ◌↔◌, true, false, List, [], ◌++◌, ◌∷◌, length, map, slice_get, Some, None}
+use Rattle.std.specs.Prelude.{◌≡◌, ◌≢◌, ℕ, ◌+◌, ◌*◌, ◌<◌, ◌≤◌, ◌^◌, ◌||◌, ◌⊎◌, ◌↔◌, true, false, List, [], ◌∷◌, length, map, slice_get, Some, None}
 use Rattle.image_text.specs.Record as text
 use Rattle.image_text.specs.Record.{InKeyRanges}
 use Rattle.irq_partition.specs.declared.Moment.{Moment}
@@ -24,8 +24,8 @@ use Rattle.image_check.specs.Own.{Segment, Own, segment_at, cap_at, has_line}
 use Rattle.image_check.specs.Pages.{has_page, has_page_in, frames_in, share_of}
 use Rattle.image_check.specs.Image.{Image, image_from, own_of}
 
--- no rule but that of pads has a broken case
-pub record KeepsButPads (i : text.Raw) : Type 0 where
+-- no rule before that of pads has a broken case
+pub record KeepsBeforePads (i : text.Raw) : Type 0 where
   pub parts : k3 i ≡ None
   pub frames : k4 i ≡ None
   pub colours : k5 i ≡ None
@@ -41,6 +41,10 @@ pub record KeepsButPads (i : text.Raw) : Type 0 where
   pub moments : k15 i ≡ None
   pub schedule : k16 i ≡ None
 
+-- no rule but that of pads has
+pub record KeepsButPads (i : text.Raw) : Type 0 where
+  pub before : KeepsBeforePads i
+
 -- no rule has
 pub record Keeps (i : text.Raw) : Type 0 where
   pub others : KeepsButPads i
@@ -54,11 +58,11 @@ AcceptanceLaw = (i : text.Raw) → (broken i ≡ []) ↔ Keeps i
 abbrev pub ButPadsLaw : Type 0
 ButPadsLaw = (i : text.Raw) → (broken_but_pads i ≡ []) ↔ KeepsButPads i
 
--- the rule of pads is broken, and its item stands after those of the others
+-- the rule of pads is broken, and its item stands before that of a later one
 pub record HasPadsItem (i : text.Raw) (others all : List Refusal) : Type 0 where
   pub item : Refusal
   pub of_pads : k17 i ≡ Some item
-  pub besides : all ≡ others ++ item ∷ []
+  pub besides : all ≡ item ∷ others
 
 -- the list of broken rules is that without the rule of pads, or has the item of this rule besides
 abbrev pub PadsLaw : Type 0
