@@ -1,5 +1,6 @@
 -- What an image that breaks no rule is: no rule has a broken case, and in natural numbers it can be run.
 use Rattle.std.specs.Prelude.{◌≡◌, ◌≢◌, ℕ, ◌+◌, ◌*◌, ◌<◌, ◌≤◌, ◌^◌, ◌||◌, ◌⊎◌, ◌↔◌, true, false, List, [], ◌∷◌, length, map, slice_get, Some, None}
+use Rattle.std.specs.List.{enumerate_from}
 use Rattle.image_text.specs.Record as text
 use Rattle.image_text.specs.Record.{InKeyRanges}
 use Rattle.irq_partition.specs.declared.Moment.{Moment}
@@ -16,7 +17,7 @@ use Rattle.domain_check.specs.Segments.{k12}
 use Rattle.domain_check.specs.Capabilities.{k13}
 use Rattle.domain_check.specs.Interrupts.{k14, k15}
 use Rattle.image_text.specs.declared.refusal.Refusal.{Refusal}
-use Rattle.sched_table.specs.Schedule.{entry_in, IsSchedule}
+use Rattle.sched_table.specs.Schedule.{entry_in, entries_on, IsSchedule}
 use Rattle.pad_bound.specs.Bound.{IsShape, bound_of}
 use Rattle.image_check.specs.Pads.{shape_of, k17}
 use Rattle.image_check.specs.Checking.{broken, broken_but_pads}
@@ -71,6 +72,10 @@ PadsLaw = (i : text.Raw) → (broken i ≡ broken_but_pads i) ⊎ HasPadsItem i 
 -- the bound is of a machine whose numbers are in their ranges
 abbrev pub ShapeLaw : Type 0
 ShapeLaw = (i : text.Raw) → broken_but_pads i ≡ [] → IsShape (shape_of (hardware_of i))
+
+-- an image has one hart, whose entries are all of them, each at its place
+abbrev pub OneHartLaw : Type 0
+OneHartLaw = (i : text.Raw) → let es = (image_from i).all.schedule in entries_on es 0 ≡ enumerate_from 0 es
 
 -- a page has some right, and one that is written is read, too
 pub record AreRights (r : Rights) : Type 0 where

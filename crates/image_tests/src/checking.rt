@@ -787,6 +787,7 @@ fn an_image_is_accepted(rt: HostRuntime) -> Result<(), CheckRefusal> {
         domain: 1,
         length: 1000,
         pad: 1_000_000,
+        hart: 0,
     };
     assert_eq!(rt; (public.domains, public.hardware), (2, hardware));
     assert_eq!(rt; public.schedule.len(), 2);
