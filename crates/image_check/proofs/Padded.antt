@@ -11,6 +11,7 @@ use Rattle.std.proofs.Math.Pow.{pow_mono}
 use Rattle.set_cache.proofs.Powers.{power_is}
 use Rattle.image_text.specs.Record.{Raw, RawEntry}
 use Rattle.pad_bound.specs.Bound.{IsShape}
+use Rattle.pad_bound.proofs.Parts.{few_most}
 use Rattle.sched_table.specs.declared.schedule.Entry.{Entry}
 use Rattle.sched_table.specs.Schedule.{entry_in, no_entry}
 use Rattle.hardware_check.specs.Cases.{refusal}
@@ -52,6 +53,9 @@ shape_sound h s = record {
   few_sets = s.l1d.sets.most;
   some_ways = s.l1d.some_way;
   few_ways = s.l1d.few_ways;
+  few_written = few_most h.line s.line.least;
+  few_again = omega arith;
+  few_product = omega arith;
 }
 
 pub shape_before_pads : (i : Raw) → KeepsBeforePads i → IsShape (shape_of (hardware_of i))

@@ -1,5 +1,5 @@
 // The rule of pads: none is below the bound on a switch.
-ghost use Rattle.std.specs.Prelude.{◌≡◌, ◌<◌, ◌^◌, [], map};
+ghost use Rattle.std.specs.Prelude.{◌≡◌, ◌<◌, ◌≤◌, ◌^◌, [], map};
 ghost use Rattle.image_text.specs.Reads.{raw_model};
 ghost use Rattle.image_text.specs.Models.{entry_model};
 ghost use Rattle.pad_bound.specs.Models.{shape_model};
@@ -13,10 +13,11 @@ ghost use Rattle.image_check.specs.Pads as spec;
 use hardware_check::Hardware;
 use hardware_check::cases::refusal;
 use image_text::{Raw, RawEntry, Refusal};
-use pad_bound::{Shape, bound};
+use pad_bound::{Shape, bound, most_written};
 
 /// What of a machine the bound on a switch depends on.
 pub fn shape_of(hardware: &Hardware) -> Shape
+    requires line { 16 ≤ hardware.now.line }
     ensures value { shape_model result ≡ spec.shape_of (hardware_model hardware.now) }
 {
     Shape {
@@ -25,6 +26,9 @@ pub fn shape_of(hardware: &Hardware) -> Shape
         shared: hardware.shared,
         sets: hardware.l1d.sets,
         ways: hardware.l1d.ways,
+        written: most_written(hardware.line),
+        again: 0,
+        product: 0,
     }
 }
 
