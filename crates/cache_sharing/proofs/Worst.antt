@@ -85,13 +85,13 @@ module _ (h : Hierarchy) where
   below_most first cost (inr miss) = omega (arith, miss)
 
   -- a miss whose victim is dirty
-  data_most : (cost : ℕ) → IsCostOfData h cost → cost ≤ worst_access h.costs
+  data_most : (cost : ℕ) → IsCostOfData h cost → cost ≤ worst_access h.costs 0
   data_most cost (inl hit) = omega (arith, hit)
   data_most cost (inr (inl clean)) = let most = below_most h.costs.l1 cost clean in omega (arith, most)
   data_most cost (inr (inr dirty)) = let most = below_most (h.costs.l1 + h.costs.wb) cost dirty in omega (arith, most)
 
   -- each read misses
-  walk_most : (reads cost : ℕ) → IsCostOfWalk h reads cost → cost ≤ h.costs.tlb + reads * worst_read h.costs
+  walk_most : (reads cost : ℕ) → IsCostOfWalk h reads cost → cost ≤ h.costs.tlb + reads * worst_read h.costs 0
   walk_most reads cost walk =
       let few = walk.few in
       let sum = walk.sum in
@@ -145,19 +145,19 @@ module _ (h : Hierarchy) where
   worst-append (t ∷ ts) us = let rest = worst-append ts us in omega (arith, rest)
 
   -- one line at worst, as the bound has it
-  worst_by_kind : (k : Kind) (line : ℕ) → worst_touch h (touch_by k line) ≡ worst h.costs k
+  worst_by_kind : (k : Kind) (line : ℕ) → worst_touch h (touch_by k line) ≡ worst h.costs 0 k
   worst_by_kind kind.Fetch line = refl
   worst_by_kind kind.Load line = refl
   worst_by_kind kind.Store line = refl
 
   -- a footprint costs at worst what the bound says of its lines
-  pub worst_lines : (lines : List LineTouch) → worst_touches h (map touch_of_line lines) ≡ worst_of h.costs lines
+  pub worst_lines : (lines : List LineTouch) → worst_touches h (map touch_of_line lines) ≡ worst_of h.costs 0 lines
   unfolding worst_touches worst_of
   worst_lines [] = refl
   worst_lines (t ∷ ts) =
       let one = worst_by_kind t.kind t.line in
       let rest = worst_lines ts in
-      let first = sum_by-cons (λ (u : LineTouch). worst h.costs u.kind) t ts in
+      let first = sum_by-cons (λ (u : LineTouch). worst h.costs 0 u.kind) t ts in
       omega (arith, one, rest, first)
 
   -- the prefetch loads the lines that the bound counts

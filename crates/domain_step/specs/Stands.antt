@@ -21,8 +21,3 @@ pub record KeepsFrames (old new : Domain) : Type 0 where
   pub map : new.map ≡ old.map
   pub layout : new.layout ≡ old.layout
   pub moments : new.interrupts.moments ≡ old.interrupts.moments
-
--- the most that an event takes, in cycles: an instruction's own, its look-up, its fetch, and what a call of the
--- kernel charges, by the bounds of the calls that charge these
-abbrev pub most_cycles : ℕ
-most_cycles = 1326000

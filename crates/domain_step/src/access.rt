@@ -1,6 +1,7 @@
 // A domain's accesses to its memory, by its page tables. Each adds what it
 // charged to the cycles spent, also where it ends with an exception.
 ghost use Rattle.std.specs.Prelude.{◌≡◌, ◌+◌, ◌⊎◌, ◌*◌, ◌/◌, ◌%◌, ◌^◌, ◌<◌, ◌≤◌, IfOk, IfSome};
+ghost use Rattle.cycle_cost.specs.Ranges.{most_look, most_data};
 ghost use Rattle.phys_mem.specs.Address.{frame_of, place_of};
 ghost use Rattle.phys_mem.specs.Holds.{Holds};
 ghost use Rattle.phys_mem.specs.Mem.{Mem, word};
@@ -60,7 +61,7 @@ pub fn translate<P: Policy>(
         (λ m. KeepsLeaves m memory.now.frames root system.new.core.tlb) }
     ensures within { IfOk result (λ at. frame_of at < memory.now.frames) }
     ensures place { IfOk result (λ at. at % 4096 ≡ va % 4096) }
-    ensures few { spent.new ≤ spent.old + 5000 }
+    ensures few { spent.new ≤ spent.old + most_look }
 {
     let found = system.translate(memory, root.number(), va, access);
     *spent += found.cycles;
@@ -112,7 +113,7 @@ pub fn load<P: Policy>(
         (Kept P.rule P.stands_for w caps root memory.now system.new spent.new) }
     ensures leaves { StandsWith memory.now
         (λ m. KeepsLeaves m memory.now.frames root system.new.core.tlb) }
-    ensures few { spent.new ≤ spent.old + 9000 }
+    ensures few { spent.new ≤ spent.old + most_data }
 {
     let at = translate(memory, system, spent, root, Access::Load, va)?;
     *spent += system.access(system.line_of(at), false);
@@ -159,7 +160,7 @@ pub fn store<P: Policy>(
         (Kept P.rule P.stands_for w caps root memory.old system.old spent.old)
         (Kept P.rule P.stands_for w caps root memory.new system.new spent.new) }
     ensures frames { memory.new.frames ≡ memory.old.frames }
-    ensures few { spent.new ≤ spent.old + 9000 }
+    ensures few { spent.new ≤ spent.old + most_data }
 {
     let Some(made) = made else {
         return Ok(());

@@ -1,5 +1,6 @@
 // What traps, counters, kernel calls and instructions do to a domain.
 ghost use Rattle.std.specs.Prelude.{◌≡◌, ℕ, ◌+◌, ◌^◌, ◌<◌, ◌≤◌, true, List, length};
+ghost use Rattle.cycle_cost.specs.Ranges.{most_operation};
 ghost use Rattle.phys_mem.specs.Mem.{Mem};
 ghost use Rattle.rv_core.specs.Registers.{register};
 ghost use Rattle.thread_set.specs.Threads.{is_ready};
@@ -163,7 +164,7 @@ pub fn call<P: Policy>(
     ensures frames { memory.new.frames ≡ memory.old.frames }
     ensures grows { Grows 0 0 2 domain.old domain.new }
     ensures moments { domain.new.interrupts.moments ≡ domain.old.interrupts.moments }
-    ensures few { spent.new ≤ spent.old + 1317000 }
+    ensures few { spent.new ≤ spent.old + most_operation }
 {
     let outcome = answer(memory, domain);
     *spent += charge(system, &domain.layout, &outcome.work);

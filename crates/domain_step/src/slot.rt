@@ -1,5 +1,6 @@
 // A domain in its slot.
 ghost use Rattle.std.specs.Prelude.{◌≡◌, ℕ, ◌+◌, ◌^◌, ◌<◌, ◌≤◌, true, List, length, Some, None, Ok, option_map};
+ghost use Rattle.cycle_cost.specs.Ranges.{most_data, most_guess, most_outcome, most_plain, most_instruction, most_operation, most_event};
 ghost use Rattle.phys_mem.specs.Contents.{Contents};
 ghost use Rattle.page_map.specs.Tables.{StandsWith};
 ghost use Rattle.rv_core.specs.Effect.{effect_of};
@@ -21,7 +22,7 @@ ghost use Rattle.cache_sharing.specs.Operations.{operation, plain};
 ghost use Rattle.world_view.specs.Event as event;
 ghost use Rattle.world_view.specs.Machine as spec;
 ghost use Rattle.world_view.specs.Kernel.{estate, layout};
-ghost use Rattle.domain_step.specs.Stands.{HasRoom, Grows, KeepsFrames, most_cycles};
+ghost use Rattle.domain_step.specs.Stands.{HasRoom, Grows, KeepsFrames};
 ghost use Rattle.domain_step.specs.Kept.{Setting, Kept, KeptOf};
 ghost use Rattle.domain_step.specs.Moves.{Yields, Answered, Finds, Leaves, Moves, Runs};
 
@@ -67,7 +68,7 @@ fn loaded<P: Policy>(
         (Kept P.rule P.stands_for w caps root memory.now system.new spent.new)) }
     ensures leaves { StandsWith memory.now
         (λ m. KeepsLeaves m memory.now.frames root system.new.core.tlb) }
-    ensures few { spent.new ≤ spent.old + 9000 }
+    ensures few { spent.new ≤ spent.old + most_data }
 {
     match instr {
         Instr::Load { width, .. } => load(memory, system, spent, root, width, at),
@@ -85,7 +86,7 @@ fn guess<P: Policy>(system: &mut MemSystem<P>, spent: &mut u32, instr: Instr, pc
         (Kept P.rule P.stands_for w caps root memory system.old spent.old)
         (Kept P.rule P.stands_for w caps root memory system.new spent.new) }
     ensures buffer { system.new.core.tlb ≡ system.old.core.tlb }
-    ensures few { spent.new ≤ spent.old + 1000 }
+    ensures few { spent.new ≤ spent.old + most_guess }
 {
     let Instr::Branch { .. } = instr else {
         return;
@@ -119,7 +120,7 @@ fn settle<P: Policy>(
     ensures frames { memory.new.frames ≡ memory.old.frames }
     ensures grows { Grows 1 1 0 domain.old domain.new }
     ensures keeps { KeepsFrames domain.old domain.new }
-    ensures few { spent.new ≤ spent.old + 10000 }
+    ensures few { spent.new ≤ spent.old + most_outcome }
 {
     let pc = domain.threads.active.pc;
     let effect = rv_core::execute(&mut domain.threads.active.regs, pc, instr, value);
@@ -158,7 +159,7 @@ fn execute<P: Policy>(
     ensures frames { memory.new.frames ≡ memory.old.frames }
     ensures grows { Grows 1 1 0 domain.old domain.new }
     ensures keeps { KeepsFrames domain.old domain.new }
-    ensures few { spent.new ≤ spent.old + 19000 }
+    ensures few { spent.new ≤ spent.old + most_plain }
 {
     let at = address(&domain.threads.active.regs, instr);
     if let Some(trap) = misalignment(instr, at) {
@@ -192,7 +193,7 @@ fn run_instruction<P: Policy>(
     ensures frames { memory.new.frames ≡ memory.old.frames }
     ensures grows { Grows 1 1 2 domain.old domain.new }
     ensures moments { domain.new.interrupts.moments ≡ domain.old.interrupts.moments }
-    ensures few { spent.new ≤ spent.old + 1325000 }
+    ensures few { spent.new ≤ spent.old + most_instruction }
 {
     let root = domain.map.root();
     let pc = domain.threads.active.pc;
@@ -249,7 +250,7 @@ fn deliver_due<P: Policy>(system: &mut MemSystem<P>, domain: &mut Domain) -> u32
         system.old system.new }
     ensures buffer { system.new.core.tlb ≡ system.old.core.tlb }
     ensures some { 0 < result }
-    ensures few { result ≤ 1317000 }
+    ensures few { result ≤ most_operation }
 {
     let work = deliver(domain);
     charge(system, &domain.layout, &work)
@@ -282,7 +283,7 @@ pub fn step<P: Policy>(
     ensures runs { Runs P.rule P.stands_for memory.new domain.new system.new result }
     ensures few { CountsUpTo result domain.new }
     ensures later { now < result }
-    ensures soon { result < end + most_cycles }
+    ensures soon { result < end + most_event }
 {
     let DomainStatus::Running = domain.status else {
         return end;
@@ -318,7 +319,7 @@ pub fn stretch<P: Policy>(
     ensures pinned { system.new.core.pinned ≡ system.old.core.pinned }
     ensures few { CountsUpTo result domain.new }
     ensures over { end ≤ result }
-    ensures soon { now < end → result < end + most_cycles }
+    ensures soon { now < end → result < end + most_event }
     ensures done { end ≤ now → result ≡ now }
 {
     // Each event takes a cycle or more.

@@ -1,5 +1,6 @@
 // The charge of an operation's footprint, line by line.
 ghost use Rattle.std.specs.Prelude.{◌≡◌, ◌<◌, ◌≤◌, ◌*◌, length};
+ghost use Rattle.cycle_cost.specs.Ranges.{most_access, most_footprint, most_operation};
 ghost use Rattle.kernel_clone.specs.Footprints.{IsLayout};
 ghost use Rattle.kernel_clone.specs.Models.{layout_model, work_model, IsWork};
 ghost use Rattle.mem_system.specs.Contents.{MakesTouch, MakesTouches};
@@ -20,7 +21,7 @@ pub fn charge<P: Policy>(system: &mut MemSystem<P>, layout: &CloneLayout, work: 
         system.old system.new }
     ensures buffer { system.new.core.tlb ≡ system.old.core.tlb }
     ensures some { 0 < result }
-    ensures few { result ≤ 1317000 }
+    ensures few { result ≤ most_operation }
 {
     let trap = system.costs().trap;
     trap + charge_footprint(system, layout, work)
@@ -38,7 +39,7 @@ pub(crate) fn charge_footprint<P: Policy>(
     ensures makes { MakesTouches P.rule P.stands_for
         (footprint (layout_model layout.now) (work_model work.now)) result system.old system.new }
     ensures buffer { system.new.core.tlb ≡ system.old.core.tlb }
-    ensures few { result ≤ 1316000 }
+    ensures few { result ≤ most_footprint }
 {
     let touches = touches(work.op, layout, work);
     let mut cycles = 0;
@@ -54,7 +55,7 @@ pub(crate) fn charge_footprint<P: Policy>(
 fn touch<P: Policy>(system: &mut MemSystem<P>, line: Line, kind: Kind) -> u32
     ensures makes { MakesTouch P.rule P.stands_for (touch_by kind line) result system.old system.new }
     ensures buffer { system.new.core.tlb ≡ system.old.core.tlb }
-    ensures few { result ≤ 4000 }
+    ensures few { result ≤ most_access }
 {
     match kind {
         Kind::Fetch => system.fetch(line),

@@ -1,5 +1,6 @@
 // The switch: what is done between two slots, and the wait for the next one.
 ghost use Rattle.std.specs.Prelude.{◌≡◌, ℕ, ◌+◌, ◌-◌, ◌*◌, ◌/◌, ◌^◌, ◌<◌, ◌≤◌, max, IfSome};
+ghost use Rattle.cycle_cost.specs.Ranges.{most_footprint, most_operation, most_prefetch};
 ghost use Rattle.std.specs.Option.{option_copied};
 ghost use Rattle.phys_mem.specs.Mem.{Mem};
 ghost use Rattle.kernel_clone.specs.Footprints.{IsLayout};
@@ -81,7 +82,7 @@ pub fn enter<P: Policy>(system: &mut MemSystem<P>, layout: &CloneLayout) -> u32
     ensures makes { MakesTouches P.rule P.stands_for (spec.enter (layout_model layout.now))
         result system.old system.new }
     ensures buffer { system.new.core.tlb ≡ system.old.core.tlb }
-    ensures few { result ≤ 1316000 }
+    ensures few { result ≤ most_footprint }
 {
     charge_footprint(system, layout, &work_of(ENTER))
 }
@@ -92,7 +93,7 @@ pub fn leave<P: Policy>(system: &mut MemSystem<P>, layout: &CloneLayout) -> u32
     ensures makes { MakesTouches P.rule P.stands_for
         (spec.leave system.old.core.costs (layout_model layout.now)) result system.old system.new }
     ensures buffer { system.new.core.tlb ≡ system.old.core.tlb }
-    ensures few { result ≤ 1317000 }
+    ensures few { result ≤ most_operation }
 {
     charge(system, layout, &work_of(LEAVE))
 }
@@ -103,7 +104,7 @@ fn leave_if<P: Policy>(system: &mut MemSystem<P>, out: Option<&CloneLayout>) -> 
     ensures makes { MakesTouches P.rule P.stands_for
         (spec.leave_if system.old.core.costs (layout_if (option_copied out.entry)))
         result system.old system.new }
-    ensures few { result ≤ 1317000 }
+    ensures few { result ≤ most_operation }
 {
     match out {
         Some(clone) => leave(system, clone),
@@ -117,7 +118,7 @@ fn prefetch<P: Policy>(system: &mut MemSystem<P>, layout: &CloneLayout, shared: 
     requires shared { shared ≡ layout.now.shared }
     ensures makes { MakesTouches P.rule P.stands_for (prefetch (shared_region (layout_model layout.now)))
         result system.old system.new }
-    ensures few { result ≤ 16384000 }
+    ensures few { result ≤ most_prefetch }
 {
     let mut cycles = 0;
     for place in 0..shared / layout.line {

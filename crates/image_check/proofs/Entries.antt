@@ -1,6 +1,8 @@
 -- The numbers of an entry that the rule of the schedule lets through.
-use Rattle.std.proofs.Common.{◌≡◌, ℕ, ◌<◌, ◌≤◌, not, false, List, [], length, map, take, get_or, None, Some, sym, subst, arith, ◌⊎◌, inl, inr}
+use Rattle.std.proofs.Common.{◌≡◌, ℕ, ◌<◌, ◌≤◌, not, false, List, [], length, map, take, get_or, None, Some, refl, sym, subst, arith, ◌⊎◌, inl, inr}
 use Rattle.std.specs.Prelude.{ℤ, pos, negsuc, Option, if◌then◌else◌}
+use Rattle.std.specs.List.{All}
+use Rattle.std.proofs.lemmas.List.Elements.{All-map}
 use Rattle.std.proofs.lemmas.List.{length-map, get_or_past, get_or-map as read_map}
 use Rattle.std.proofs.lemmas.Bool.{cases_lt}
 use Rattle.std.proofs.lemmas.Bool.Decides.{nat_tests}
@@ -15,7 +17,9 @@ use Rattle.hardware_check.specs.Hardware.{IsNatural, natural_of}
 use Rattle.sched_table.specs.declared.schedule.Entry.{Entry}
 use Rattle.sched_table.specs.Schedule.{entry_in, no_entry, IsSchedule}
 use Rattle.domain_check.specs.Names.{k7}
-use Rattle.image_check.specs.Public.{entry_of}
+use Rattle.sched_table.proofs.Harts.{one_hart_law as on_one_hart}
+use Rattle.image_check.specs.Public.{entry_of, public_of}
+use Rattle.image_check.specs.Laws.{OneHartLaw}
 use Rattle.image_check.specs.Checking.{broken_but_pads}
 use Rattle.hardware_check.proofs.FirstCases.{if_first, if_rest, first_in_none}
 use Rattle.hardware_check.proofs.Parts.{most_inside}
@@ -93,3 +97,13 @@ few_raw_domains raw n = omega (arith, length-map raw.domains.items domain_model,
 -- of one that keeps the rule of domains
 pub few_texts : (raw : Raw) → k7 (raw_model raw) ≡ None → length raw.domains.items ≤ 16
 few_texts raw n = let most = (domains_within (raw_model raw) n).most in omega (arith, length-map raw.domains.items domain_model, most)
+
+-- ---- harts
+
+on_hart_0 : (es : List TextEntry) → All (λ e. e.hart ≡ 0) (map entry_of es)
+unfolding entry_of
+on_hart_0 es = All-map (λ (e : Entry). e.hart ≡ 0) entry_of es (λ k d l. refl)
+
+pub one_hart_law : OneHartLaw
+unfolding public_of
+one_hart_law i = on_one_hart (map entry_of i.schedule) (on_hart_0 i.schedule)

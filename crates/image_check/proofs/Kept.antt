@@ -1,30 +1,29 @@
 -- The rules one by one, and the counts that they bound.
-use Rattle.std.proofs.Common.{◌≡◌, ℕ, ◌≤◌, ◌||◌, Bool, true, false, List, [], ◌∷◌, ◌++◌, length, Option, Some, None, Result, Ok, Err, refl, sym, ap, ◌∙◌, ◌⊎◌, inl, inr, arith}
-use Rattle.std.specs.Prelude.{nat_lt, pos, slice_get, IfErr, if◌then◌else◌}
+use Rattle.std.proofs.Common.{◌≡◌, ℕ, ◌≤◌, ◌||◌, List, [], ◌∷◌, length, Option, Some, None, Result, Ok, Err, refl, sym, ap, ◌∙◌, ◌⊎◌, inl, inr, arith}
+use Rattle.std.specs.Prelude.{nat_lt, pos, slice_get, IfErr}
 use Rattle.std.proofs.lemmas.Bool.Decides.{nat_tests}
 use Rattle.image_text.specs.declared.refusal.Refusal.{Refusal}
 use Rattle.image_text.specs.declared.refusal.ReadRefusal.{ReadRefusal}
 use Rattle.image_text.specs.declared.refusal.ReadRefusal.TheVariants.{Broken, Memory}
+use Rattle.hardware_check.specs.Outcomes.{IsVerdictOrMemory}
 use Rattle.image_check.specs.Outcomes.{IsFirst}
 use Rattle.image_text.specs.Record.{Raw}
 use Rattle.hardware_check.specs.Cases.{first_in, refusal, count_case}
-use Rattle.hardware_check.specs.Rules.{is_region}
 use Rattle.hardware_check.specs.Laws.{KeepsParts, KeepsHardware}
-use Rattle.hardware_check.proofs.Built.{shared_cases}
 use Rattle.domain_check.specs.Names.{k7, k7_domain}
 use Rattle.image_check.specs.Schedule.{k16, k16_entry}
 use Rattle.image_check.specs.Pads.{k17}
-use Rattle.image_check.specs.Checking.{rules, rules_but_pads, is_of_pads, broken_then, broken_of, broken, broken_but_pads}
-use Rattle.image_check.specs.Laws.{Keeps, KeepsButPads, HasPadsItem, AcceptanceLaw, ButPadsLaw, PadsLaw}
+use Rattle.image_check.specs.Checking.{rules_before_pads, rules_after_pads, ended_by, followed_by, broken_of, broken, broken_but_pads, broken_before_pads}
+use Rattle.image_check.specs.Laws.{Keeps, KeepsButPads, KeepsBeforePads, HasPadsItem, AcceptanceLaw, ButPadsLaw, PadsLaw}
 use Rattle.hardware_check.proofs.FirstCases.{or_first, or_rest, if_first}
 
 -- ---- the list is empty exactly where no rule has a broken case
 
-none_here : (o : Option Refusal) (later : List Refusal) → broken_then o later ≡ [] → o ≡ None
+none_here : (o : Option Refusal) (later : List Refusal) → ended_by o later ≡ [] → o ≡ None
 none_here None later e = refl
 none_here (Some r) later e = cc
 
-none_later : (o : Option Refusal) (later : List Refusal) → broken_then o later ≡ [] → later ≡ []
+none_later : (o : Option Refusal) (later : List Refusal) → ended_by o later ≡ [] → later ≡ []
 none_later None later e = e
 none_later (Some r) later e = cc
 
@@ -33,15 +32,19 @@ KeepsAll : List (Raw → Option Refusal) → Raw → Type 0
 KeepsAll [] i = Unit {0}
 KeepsAll (k ∷ ks) i = (k i ≡ None) × KeepsAll ks i
 
-keeps_all : (ks : List (Raw → Option Refusal)) (i : Raw) → broken_of ks i ≡ [] → KeepsAll ks i
+keeps_all : (ks : List (Raw → Option Refusal)) (i : Raw) (later : List Refusal) → broken_of ks i later ≡ [] → KeepsAll ks i
 unfolding KeepsAll
-keeps_all [] i e = tt
-keeps_all (k ∷ ks) i e = (none_here (k i) (broken_of ks i) e, keeps_all ks i (none_later (k i) (broken_of ks i) e))
+keeps_all [] i later e = tt
+keeps_all (k ∷ ks) i later e = (none_here (k i) (broken_of ks i later) e, keeps_all ks i later (none_later (k i) (broken_of ks i later) e))
 
-pub kept_but_pads : (i : Raw) → broken_but_pads i ≡ [] → KeepsButPads i
-unfolding broken_but_pads rules_but_pads KeepsAll
-kept_but_pads i e =
-    let from3 = keeps_all rules_but_pads i e in
+later_empty : (ks : List (Raw → Option Refusal)) (i : Raw) (later : List Refusal) → broken_of ks i later ≡ [] → later ≡ []
+later_empty [] i later e = e
+later_empty (k ∷ ks) i later e = later_empty ks i later (none_later (k i) (broken_of ks i later) e)
+
+kept_before_those : (i : Raw) (later : List Refusal) → broken_of rules_before_pads i later ≡ [] → KeepsBeforePads i
+unfolding rules_before_pads KeepsAll
+kept_before_those i later e =
+    let from3 = keeps_all rules_before_pads i later e in
     let from4 = from3.1 in
     let from5 = from4.1 in
     let from6 = from5.1 in
@@ -72,118 +75,135 @@ kept_but_pads i e =
       schedule = from16.0;
     }
 
+pub kept_before_pads : (i : Raw) → broken_before_pads i ≡ [] → KeepsBeforePads i
+unfolding broken_before_pads
+kept_before_pads i e = kept_before_those i [] e
+
+pub kept_but_pads : (i : Raw) → broken_but_pads i ≡ [] → KeepsButPads i
+unfolding broken_but_pads
+kept_but_pads i e = record { before = kept_before_those i (broken_of rules_after_pads i []) e }
+
+-- what is broken is what those after them leave
+later_alone : (i : Raw) (later : List Refusal) → KeepsBeforePads i → broken_of rules_before_pads i later ≡ later
+unfolding rules_before_pads
+later_alone i later k = rw (k.parts, k.frames, k.colours, k.costs, k.domains, k.named, k.apart, k.pools, k.shared, k.segments, k.capabilities, k.lines, k.moments, k.schedule) refl
+
+none_after_pads : (i : Raw) → KeepsButPads i → broken_of rules_after_pads i [] ≡ []
+unfolding rules_after_pads
+none_after_pads i k = refl
+
 unbroken_but_pads : (i : Raw) → KeepsButPads i → broken_but_pads i ≡ []
-unfolding broken_but_pads rules_but_pads
-unbroken_but_pads i k = rw (k.parts, k.frames, k.colours, k.costs, k.domains, k.named, k.apart, k.pools, k.shared, k.segments, k.capabilities, k.lines, k.moments, k.schedule) refl
+unfolding broken_but_pads
+unbroken_but_pads i k = later_alone i (broken_of rules_after_pads i []) k.before ∙ none_after_pads i k
 
 pub but_pads_law : ButPadsLaw
 but_pads_law i = (kept_but_pads i, unbroken_but_pads i)
 
--- ---- the rule of pads comes last
+-- no rule comes after that of pads
+pub but_pads_is : (i : Raw) → broken_but_pads i ≡ broken_before_pads i
+unfolding broken_but_pads broken_before_pads rules_after_pads
+but_pads_is i = refl
+
+-- ---- the rule of pads comes between the others
 
 -- with the rule of pads besides
 Besides : Raw → List Refusal → List Refusal → Type 0
 Besides i others all = (all ≡ others) ⊎ HasPadsItem i others all
 
-one_item : (i : Raw) (r : Refusal) (b : Bool) → k17 i ≡ Some r → Besides i [] (r ∷ (if b then [] else []))
+pads_besides : (i : Raw) (o : Option Refusal) (later : List Refusal) → k17 i ≡ o → Besides i later (followed_by o later)
 unfolding Besides
-one_item i r true e = inr (record { item = r; of_pads = e; besides = refl })
-one_item i r false e = inr (record { item = r; of_pads = e; besides = refl })
+pads_besides i None later e = inl refl
+pads_besides i (Some r) later e = inr (record { item = r; of_pads = e; besides = refl })
 
-of_pads_alone : (i : Raw) (o : Option Refusal) → k17 i ≡ o → Besides i [] (broken_then o [])
+ended_besides : (i : Raw) (o : Option Refusal) (others all : List Refusal) → Besides i others all → Besides i (ended_by o others) (ended_by o all)
 unfolding Besides
-of_pads_alone i None e = inl refl
-of_pads_alone i (Some r) e = one_item i r (is_of_pads r) e
+ended_besides i None others all h = h
+ended_besides i (Some r) others all h = inl refl
 
-with_item : (i : Raw) (r : Refusal) (others all : List Refusal) → Besides i others all → Besides i (r ∷ others) (r ∷ all)
-unfolding Besides
-with_item i r others all (inl same) = inl (ap (λ (rs : List Refusal). r ∷ rs) same)
-with_item i r others all (inr has) = inr (record { item = has.item; of_pads = has.of_pads; besides = ap (λ (rs : List Refusal). r ∷ rs) has.besides })
-
-item_if : (i : Raw) (r : Refusal) (b : Bool) (others all : List Refusal) → Besides i others all → Besides i (r ∷ (if b then others else [])) (r ∷ (if b then all else []))
-unfolding Besides
-item_if i r true others all h = with_item i r others all h
-item_if i r false others all h = inl refl
-
-then_besides : (i : Raw) (o : Option Refusal) (others all : List Refusal) → Besides i others all → Besides i (broken_then o others) (broken_then o all)
-then_besides i None others all h = h
-then_besides i (Some r) others all h = item_if i r (is_of_pads r) others all h
-
-besides_in : (i : Raw) (ks : List (Raw → Option Refusal)) → Besides i (broken_of ks i) (broken_of (ks ++ k17 ∷ []) i)
-besides_in i [] = of_pads_alone i (k17 i) refl
-besides_in i (k ∷ ks) = then_besides i (k i) (broken_of ks i) (broken_of (ks ++ k17 ∷ []) i) (besides_in i ks)
+besides_in : (i : Raw) (ks : List (Raw → Option Refusal)) (others all : List Refusal) → Besides i others all → Besides i (broken_of ks i others) (broken_of ks i all)
+besides_in i [] others all h = h
+besides_in i (k ∷ ks) others all h = ended_besides i (k i) (broken_of ks i others) (broken_of ks i all) (besides_in i ks others all h)
 
 pub pads_law : PadsLaw
-unfolding broken broken_but_pads rules Besides
-pads_law i = besides_in i rules_but_pads
-
-no_more : (r : Refusal) (rs : List Refusal) → rs ++ r ∷ [] ≡ [] → ⊥
-no_more r [] e = cc
-no_more r (q ∷ rs) e = cc
+unfolding broken broken_but_pads Besides
+pads_law i =
+    let later = broken_of rules_after_pads i [] in
+    besides_in i rules_before_pads later (followed_by (k17 i) later) (pads_besides i (k17 i) later refl)
 
 pub none_but_pads : (i : Raw) → broken i ≡ [] → broken_but_pads i ≡ []
 none_but_pads i e = elim (pads_law i) [
   | inl same ↦ sym same ∙ e
-  | inr has ↦ absurd (no_more has.item (broken_but_pads i) (sym has.besides ∙ e))
+  | inr has ↦ absurd (no_item has.item (broken_but_pads i) (sym has.besides ∙ e))
 ]
-
--- where no other rule is broken, what is broken is the rule of pads
-pads_alone : (i : Raw) → broken_but_pads i ≡ [] → broken i ≡ broken_then (k17 i) []
-unfolding broken broken_but_pads rules
-pads_alone i e = alone rules_but_pads e
   where
-    alone : (ks : List (Raw → Option Refusal)) → broken_of ks i ≡ [] → broken_of (ks ++ k17 ∷ []) i ≡ broken_then (k17 i) []
-    alone [] e = refl
-    alone (k ∷ ks) e = rw (none_here (k i) (broken_of ks i) e) (alone ks (none_later (k i) (broken_of ks i) e))
+    no_item : (r : Refusal) (rs : List Refusal) → r ∷ rs ≡ [] → ⊥
+    no_item r rs e = cc
+
+none_followed : (o : Option Refusal) (later : List Refusal) → followed_by o later ≡ [] → o ≡ None
+none_followed None later e = refl
+none_followed (Some r) later e = cc
 
 pub kept : (i : Raw) → broken i ≡ [] → Keeps i
+unfolding broken
 kept i e =
-    let others = none_but_pads i e in
-    record { others = kept_but_pads i others; pads = none_here (k17 i) [] (sym (pads_alone i others) ∙ e) }
+    let later = broken_of rules_after_pads i [] in
+    record {
+      others = kept_but_pads i (none_but_pads i e);
+      pads = none_followed (k17 i) later (later_empty rules_before_pads i (followed_by (k17 i) later) e);
+    }
+
+-- where no rule before that of pads is broken
+from_pads : (i : Raw) (o : Option Refusal) → KeepsBeforePads i → k17 i ≡ o → broken i ≡ followed_by o (broken_of rules_after_pads i [])
+unfolding broken
+from_pads i o k e =
+    let later = broken_of rules_after_pads i [] in
+    later_alone i (followed_by (k17 i) later) k ∙ ap (λ (p : Option Refusal). followed_by p later) e
 
 unbroken : (i : Raw) → Keeps i → broken i ≡ []
-unbroken i k = pads_alone i (unbroken_but_pads i k.others) ∙ ap (λ (o : Option Refusal). broken_then o []) k.pads
+unbroken i k = from_pads i None k.others.before k.pads ∙ none_after_pads i k.others
 
 pub acceptance_law : AcceptanceLaw
 acceptance_law i = (kept i, unbroken i)
 
 -- ---- the first item, of one list and of the other
 
-first_in_both : (r q : Refusal) (rs : List Refusal) → slice_get rs 0 ≡ Some r → slice_get (rs ++ q ∷ []) 0 ≡ Some r
-first_in_both r q [] e = cc
-first_in_both r q (p ∷ rs) e = e
+first_ended : (o : Option Refusal) (r : Refusal) (rest later : List Refusal) → (slice_get rest 0 ≡ Some r → slice_get later 0 ≡ Some r)
+    → slice_get (ended_by o rest) 0 ≡ Some r → slice_get (ended_by o later) 0 ≡ Some r
+first_ended None r rest later more e = more e
+first_ended (Some q) r rest later more e = e
 
-pub first_broken : (i : Raw) (r : Refusal) → slice_get (broken_but_pads i) 0 ≡ Some r → slice_get (broken i) 0 ≡ Some r
-first_broken i r first = elim (pads_law i) [
-  | inl same ↦ ap (λ (rs : List Refusal). slice_get rs 0) same ∙ first
-  | inr has ↦ ap (λ (rs : List Refusal). slice_get rs 0) has.besides ∙ first_in_both r has.item (broken_but_pads i) first
-]
+first_stays : (ks : List (Raw → Option Refusal)) (i : Raw) (r : Refusal) (later : List Refusal)
+    → slice_get (broken_of ks i []) 0 ≡ Some r → slice_get (broken_of ks i later) 0 ≡ Some r
+first_stays [] i r later e = cc
+first_stays (k ∷ ks) i r later e = first_ended (k i) r (broken_of ks i []) (broken_of ks i later) (first_stays ks i r later) e
 
-pub first_of_either : {A : Type 0} → (i : Raw) (result : Result A ReadRefusal) → IfErr result (IsFirst (broken_but_pads i)) → IfErr result (IsFirst (broken i))
-first_of_either i (Ok x) first = first
-first_of_either i (Err Memory) first = first
-first_of_either i (Err (Broken r)) first = first_broken i r first
+first_before_pads : (i : Raw) (r : Refusal) (later : List Refusal) → slice_get (broken_before_pads i) 0 ≡ Some r → slice_get (broken_of rules_before_pads i later) 0 ≡ Some r
+unfolding broken_before_pads
+first_before_pads i r later first = first_stays rules_before_pads i r later first
 
-pub first_of_pads : (i : Raw) (r : Refusal) → broken_but_pads i ≡ [] → k17 i ≡ Some r → slice_get (broken i) 0 ≡ Some r
-first_of_pads i r others pads = ap (λ (rs : List Refusal). slice_get rs 0) (pads_alone i others ∙ ap (λ (o : Option Refusal). broken_then o []) pads)
+-- the first of those before the rule of pads is the first of all
+pub first_of_all : {A : Type 0} → (i : Raw) (result : Result A ReadRefusal) → IfErr result (IsFirst (broken_before_pads i)) → IfErr result (IsFirst (broken i))
+unfolding broken
+first_of_all i (Ok x) first = first
+first_of_all i (Err Memory) first = first
+first_of_all i (Err (Broken r)) first = first_before_pads i r (followed_by (k17 i) (broken_of rules_after_pads i [])) first
+
+-- and where none of those is broken, so is the refusal of the rule of pads
+pub first_of_pads : {A : Type 0} → (i : Raw) (result : Result A ReadRefusal) → broken_before_pads i ≡ [] → IsVerdictOrMemory result (k17 i) → IfErr result (IsFirst (broken i))
+first_of_pads i (Ok x) before verdict = tt
+first_of_pads i (Err Memory) before verdict = tt
+first_of_pads i (Err (Broken r)) before verdict = ap (λ (rs : List Refusal). slice_get rs 0) (from_pads i (Some r) (kept_before_pads i before) verdict)
 
 pub none_broken : (i : Raw) → broken_but_pads i ≡ [] → k17 i ≡ None → broken i ≡ []
-none_broken i others pads = pads_alone i others ∙ ap (λ (o : Option Refusal). broken_then o []) pads
-
-pub empty_without_first : (rs : List Refusal) → slice_get rs 0 ≡ None → rs ≡ []
-empty_without_first [] e = refl
-empty_without_first (r ∷ rs) e = cc
+none_broken i others pads = unbroken i (record { others = kept_but_pads i others; pads = pads })
 
 -- ---- the machine
 
-pub keeps_parts : (i : Raw) → broken_but_pads i ≡ [] → KeepsParts i
-keeps_parts i e = let k = kept_but_pads i e in record { parts = k.parts; frames = k.frames; colours = k.colours; costs = k.costs }
+keeps_parts : (i : Raw) → KeepsBeforePads i → KeepsParts i
+keeps_parts i k = record { parts = k.parts; frames = k.frames; colours = k.colours; costs = k.costs }
 
-pub keeps_hardware : (i : Raw) → broken_but_pads i ≡ [] → KeepsHardware i
-keeps_hardware i e = record { parts = keeps_parts i e; shared = (kept_but_pads i e).shared }
-
-pub keeps_region : (i : Raw) → broken_but_pads i ≡ [] → is_region i.line i.shared ≡ true
-keeps_region i e = (shared_cases i (kept_but_pads i e).shared).0
+pub keeps_hardware : (i : Raw) → KeepsBeforePads i → KeepsHardware i
+keeps_hardware i k = record { parts = keeps_parts i k; shared = k.shared }
 
 -- ---- counts
 
@@ -209,4 +229,4 @@ unfolding k16
 entries_pass i n = or_rest (count_case 16 0 1 64 (length i.schedule)) (first_in (k16_entry (length i.domains)) i.schedule) n
 
 pub few_domains : (i : Raw) → broken_but_pads i ≡ [] → length i.domains ≤ 16
-few_domains i e = (domains_within i (kept_but_pads i e).domains).most
+few_domains i e = (domains_within i (kept_but_pads i e).before.domains).most

@@ -14,7 +14,7 @@ use Rattle.domain_check.specs.Segments.{k12, k12_domain, segment_case, entry_cas
 use Rattle.image_check.specs.Pages.{has_page}
 use Rattle.domain_check.specs.Capabilities.{cap_of}
 use Rattle.image_check.specs.Own.{Own, Segment, segment_of, own_from, owns_of, no_own, own_at, no_segment, has_line}
-use Rattle.image_check.specs.Laws.{KeepsButPads, AreRights, IsSegment, IsOwn}
+use Rattle.image_check.specs.Laws.{KeepsBeforePads, AreRights, IsSegment, IsOwn}
 use Rattle.domain_check.specs.Interrupts.{k14, moment_of}
 use Rattle.irq_partition.specs.declared.Moment.{Moment}
 use Rattle.set_cache.proofs.Ways.{not_true}
@@ -145,7 +145,7 @@ segments_apart d ss none j k n less below here =
 
 -- ---- owns
 
-own_sound : (i : Raw) (d : ℕ) → InKeyRanges i → KeepsButPads i → d < length i.domains → IsOwn (own_from (raw_domain i.domains d))
+own_sound : (i : Raw) (d : ℕ) → InKeyRanges i → KeepsBeforePads i → d < length i.domains → IsOwn (own_from (raw_domain i.domains d))
 unfolding k12 k12_domain own_from
 own_sound i d ranges rules l =
     let o = raw_domain i.domains d in
@@ -197,7 +197,7 @@ no_own_sound = record {
     no_moment : (k : ℕ) (x : Moment) → slice_get [] k ≢ Some x
     no_moment k x e = omega (arith, slice_get_within [] k x e)
 
-pub owns_sound : (i : Raw) → InKeyRanges i → KeepsButPads i → (d : ℕ) → IsOwn (own_at (owns_of i) d)
+pub owns_sound : (i : Raw) → InKeyRanges i → KeepsBeforePads i → (d : ℕ) → IsOwn (own_at (owns_of i) d)
 owns_sound i ranges rules d = either (cases_lt d (length i.domains))
   where
     either : (d < length i.domains) ⊎ (length i.domains ≤ d) → IsOwn (own_at (owns_of i) d)

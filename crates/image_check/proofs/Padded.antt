@@ -11,6 +11,7 @@ use Rattle.std.proofs.Math.Pow.{pow_mono}
 use Rattle.set_cache.proofs.Powers.{power_is}
 use Rattle.image_text.specs.Record.{Raw, RawEntry}
 use Rattle.pad_bound.specs.Bound.{IsShape}
+use Rattle.pad_bound.proofs.Parts.{few_most}
 use Rattle.sched_table.specs.declared.schedule.Entry.{Entry}
 use Rattle.sched_table.specs.Schedule.{entry_in, no_entry}
 use Rattle.hardware_check.specs.Cases.{refusal}
@@ -19,8 +20,8 @@ use Rattle.hardware_check.proofs.Built.{hardware_law}
 use Rattle.hardware_check.proofs.FirstCases.{if_first, first_in_none}
 use Rattle.image_check.specs.Pads.{shape_of, bound_in, k17, k17_case, k17_entry}
 use Rattle.image_check.specs.Public.{entry_of}
-use Rattle.image_check.specs.Laws.{Keeps, ShapeLaw}
-use Rattle.image_check.proofs.Kept.{keeps_hardware}
+use Rattle.image_check.specs.Laws.{Keeps, KeepsBeforePads, ShapeLaw}
+use Rattle.image_check.proofs.Kept.{kept_but_pads, keeps_hardware}
 use Rattle.image_check.proofs.Entries.{no_text_entry}
 
 -- ---- the machine
@@ -52,10 +53,16 @@ shape_sound h s = record {
   few_sets = s.l1d.sets.most;
   some_ways = s.l1d.some_way;
   few_ways = s.l1d.few_ways;
+  few_written = few_most h.line s.line.least;
+  few_again = omega arith;
+  few_product = omega arith;
 }
 
+pub shape_before_pads : (i : Raw) → KeepsBeforePads i → IsShape (shape_of (hardware_of i))
+shape_before_pads i k = shape_sound (hardware_of i) (hardware_law i (keeps_hardware i k))
+
 pub shape_law : ShapeLaw
-shape_law i e = shape_sound (hardware_of i) (hardware_law i (keeps_hardware i e))
+shape_law i e = shape_before_pads i (kept_but_pads i e).before
 
 -- ---- pads
 

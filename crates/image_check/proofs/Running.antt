@@ -6,7 +6,7 @@ use Rattle.hardware_check.proofs.Built.{hardware_law}
 use Rattle.image_check.specs.Pads.{bound_in}
 use Rattle.image_check.specs.Public.{entry_of, public_of}
 use Rattle.image_check.specs.Laws.{RunnableLaw}
-use Rattle.image_check.proofs.Kept.{kept, none_but_pads, keeps_hardware, domains_within, entries_pass}
+use Rattle.image_check.proofs.Kept.{kept, keeps_hardware, domains_within, entries_pass}
 use Rattle.image_check.proofs.Entries.{entry_in_passed, schedule_sound}
 use Rattle.image_check.proofs.Padded.{pads_enough}
 use Rattle.image_check.proofs.Owns.{owns_length, owns_sound, lines_owned}
@@ -15,7 +15,7 @@ use Rattle.image_check.proofs.Shares.{disjoint_colours, pools_enough}
 pub runnable_law : RunnableLaw
 unfolding public_of hardware_of bound_in
 runnable_law i ranges n =
-    let rules = (kept i n).others in
+    let rules = (kept i n).others.before in
     let domains = domains_within i rules.domains in
     let pass = entries_pass i rules.schedule in
     let many = owns_length i in
@@ -24,7 +24,7 @@ runnable_law i ranges n =
       counted = sym many;
       some_domain = omega (arith, many, domains.least);
       few_domains = omega (arith, many, domains.most);
-      hardware = hardware_law i (keeps_hardware i (none_but_pads i n));
+      hardware = hardware_law i (keeps_hardware i rules);
       disjoint = disjoint_colours i rules;
       pools = λ d l. pools_enough i rules d (omega (arith, many, l));
       schedule = schedule_sound i rules.schedule;

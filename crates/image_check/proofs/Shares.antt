@@ -22,14 +22,14 @@ use Rattle.domain_check.proofs.OwnInterrupts.{interrupts, named_line}
 use Rattle.domain_check.proofs.Shares.{named, two_apart}
 use Rattle.image_check.specs.Own.{Own, Segment, IsSmallOwn, no_own, own_at, own_from, owns_of, segment_of}
 use Rattle.image_check.specs.Pages.{regions_below, frames_in, share_of}
-use Rattle.image_check.specs.Laws.{KeepsButPads}
+use Rattle.image_check.specs.Laws.{KeepsBeforePads}
 use Rattle.image_check.specs.Checking.{broken_but_pads}
 use Rattle.image_check.proofs.Kept.{kept_but_pads}
 use Rattle.image_check.proofs.Owns.{owns_at, owns_length}
 
 -- ---- the numbers fit those of the code
 
-small_own : (i : text.Raw) → KeepsButPads i → text.InKeyRanges i → (d : ℕ) → d < length i.domains → IsSmallOwn (raw_domain i.domains d)
+small_own : (i : text.Raw) → KeepsBeforePads i → text.InKeyRanges i → (d : ℕ) → d < length i.domains → IsSmallOwn (raw_domain i.domains d)
 small_own i rules ranges d l = record {
   caps = small_caps (raw_domain i.domains d) (slots i rules.capabilities d l) (ranges.segments d) (named_line (raw_domain i.domains d) (interrupts i rules.lines rules.moments d l));
 }
@@ -37,7 +37,7 @@ small_own i rules ranges d l = record {
 pub small_owns : (raw : Raw) → broken_but_pads (raw_model raw) ≡ [] → All (λ o. IsSmallOwn (domain_model o)) raw.domains.items
 small_owns raw n = λ d o l.
     let i = raw_model raw in
-    let m = small_own i (kept_but_pads i n) raw.in_ranges d (omega (arith, length-map raw.domains.items domain_model, l)) in
+    let m = small_own i (kept_but_pads i n).before raw.in_ranges d (omega (arith, length-map raw.domains.items domain_model, l)) in
     subst IsSmallOwn (get_or-map domain_model raw.domains.items d o no_raw_domain l) m
 
 -- ---- K8, K9: the lists are disjoint
@@ -79,7 +79,7 @@ later_apart i n m d e before =
     (record { none = λ c mine theirs. true≢false (sym theirs) }))
     (record { none = λ c mine theirs. true≢false (sym mine) })
 
-pub disjoint_colours : (i : text.Raw) → KeepsButPads i → AreDisjoint (colours_of (hardware_of i)) (map (λ o. o.colours) (owns_of i))
+pub disjoint_colours : (i : text.Raw) → KeepsBeforePads i → AreDisjoint (colours_of (hardware_of i)) (map (λ o. o.colours) (owns_of i))
 unfolding lists
 disjoint_colours i k = record {
   in_range = λ d c h. let w = (of_range i k.named d).within c h in let some = (colours_sound i k.colours).least in omega (arith, w.least, w.most, some);
@@ -111,7 +111,7 @@ raw_pools i n d l =
     let more = regions_more ss 1024 in
     omega (arith, most, more)
 
-pub pools_enough : (i : text.Raw) → KeepsButPads i → (d : ℕ) → d < length i.domains
+pub pools_enough : (i : text.Raw) → KeepsBeforePads i → (d : ℕ) → d < length i.domains
     → frames_in (own_at (owns_of i) d).segments ≤ length (pool (share_of (hardware_of i) (own_at (owns_of i) d)))
 pools_enough i k d l =
     let P : Own → Type 0 = λ o. frames_in o.segments ≤ length (pool (share_of (hardware_of i) o)) in

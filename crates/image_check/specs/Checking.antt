@@ -1,5 +1,5 @@
 -- The rules in their order, and those that an image breaks.
-use Rattle.std.specs.Prelude.{nat_eq, Bool, if◌then◌else◌, List, [], ◌∷◌, ◌++◌, Option, Some, None}
+use Rattle.std.specs.Prelude.{List, [], ◌∷◌, Option, Some, None}
 use Rattle.image_text.specs.declared.refusal.Refusal.{Refusal}
 use Rattle.image_text.specs.Record.{Raw}
 use Rattle.hardware_check.specs.Rules.{k3, k4, k5, k6, k11}
@@ -11,29 +11,37 @@ use Rattle.domain_check.specs.Capabilities.{k13}
 use Rattle.domain_check.specs.Interrupts.{k14, k15}
 use Rattle.image_check.specs.Pads.{k17}
 
-unfoldable pub rules_but_pads : List (Raw → Option Refusal)
-rules_but_pads = k3 ∷ k4 ∷ k5 ∷ k6 ∷ k7 ∷ k8 ∷ k9 ∷ k10 ∷ k11 ∷ k12 ∷ k13 ∷ k14 ∷ k15 ∷ k16 ∷ []
+-- the rules before that of pads
+unfoldable pub rules_before_pads : List (Raw → Option Refusal)
+rules_before_pads = k3 ∷ k4 ∷ k5 ∷ k6 ∷ k7 ∷ k8 ∷ k9 ∷ k10 ∷ k11 ∷ k12 ∷ k13 ∷ k14 ∷ k15 ∷ k16 ∷ []
 
-unfoldable pub rules : List (Raw → Option Refusal)
-rules = rules_but_pads ++ k17 ∷ []
+-- those after it: none yet
+unfoldable pub rules_after_pads : List (Raw → Option Refusal)
+rules_after_pads = []
 
--- K17, the rule of pads, is the one whose break leaves later rules to be tested
-abbrev pub is_of_pads : Refusal → Bool
-is_of_pads r = nat_eq r.rule 17
+-- a broken rule ends the tests
+abbrev pub ended_by : Option Refusal → List Refusal → List Refusal
+ended_by None later = later
+ended_by (Some r) later = r ∷ []
 
-abbrev pub broken_then : Option Refusal → List Refusal → List Refusal
-broken_then None later = later
-broken_then (Some r) later = r ∷ (if is_of_pads r then later else [])
+-- but that of pads leaves the later ones to be tested
+abbrev pub followed_by : Option Refusal → List Refusal → List Refusal
+followed_by None later = later
+followed_by (Some r) later = r ∷ later
 
--- a rule is tested only where none before it but K17 is broken
-abbrev pub broken_of : List (Raw → Option Refusal) → Raw → List Refusal
-broken_of [] i = []
-broken_of (k ∷ ks) i = broken_then (k i) (broken_of ks i)
+-- the first of these rules that is broken; where none is, what is broken later
+abbrev pub broken_of : List (Raw → Option Refusal) → Raw → List Refusal → List Refusal
+broken_of [] i later = later
+broken_of (k ∷ ks) i later = ended_by (k i) (broken_of ks i later)
 
 -- the broken rules in their order, each with its first broken case
 unfoldable pub broken : Raw → List Refusal
-broken i = broken_of rules i
+broken i = broken_of rules_before_pads i (followed_by (k17 i) (broken_of rules_after_pads i []))
 
 -- the same without K17
 unfoldable pub broken_but_pads : Raw → List Refusal
-broken_but_pads i = broken_of rules_but_pads i
+broken_but_pads i = broken_of rules_before_pads i (broken_of rules_after_pads i [])
+
+-- of the rules before K17 alone
+unfoldable pub broken_before_pads : Raw → List Refusal
+broken_before_pads i = broken_of rules_before_pads i []

@@ -1,5 +1,6 @@
 -- What an image that breaks no rule is: no rule has a broken case, and in natural numbers it can be run.
-use Rattle.std.specs.Prelude.{◌≡◌, ◌≢◌, ℕ, ◌+◌, ◌*◌, ◌<◌, ◌≤◌, ◌^◌, ◌||◌, ◌⊎◌, ◌↔◌, true, false, List, [], ◌++◌, ◌∷◌, length, map, slice_get, Some, None}
+use Rattle.std.specs.Prelude.{◌≡◌, ◌≢◌, ℕ, ◌+◌, ◌*◌, ◌<◌, ◌≤◌, ◌^◌, ◌||◌, ◌⊎◌, ◌↔◌, true, false, List, [], ◌∷◌, length, map, slice_get, Some, None}
+use Rattle.std.specs.List.{enumerate_from}
 use Rattle.image_text.specs.Record as text
 use Rattle.image_text.specs.Record.{InKeyRanges}
 use Rattle.irq_partition.specs.declared.Moment.{Moment}
@@ -16,7 +17,7 @@ use Rattle.domain_check.specs.Segments.{k12}
 use Rattle.domain_check.specs.Capabilities.{k13}
 use Rattle.domain_check.specs.Interrupts.{k14, k15}
 use Rattle.image_text.specs.declared.refusal.Refusal.{Refusal}
-use Rattle.sched_table.specs.Schedule.{entry_in, IsSchedule}
+use Rattle.sched_table.specs.Schedule.{entry_in, entries_on, IsSchedule}
 use Rattle.pad_bound.specs.Bound.{IsShape, bound_of}
 use Rattle.image_check.specs.Pads.{shape_of, k17}
 use Rattle.image_check.specs.Checking.{broken, broken_but_pads}
@@ -24,8 +25,8 @@ use Rattle.image_check.specs.Own.{Segment, Own, segment_at, cap_at, has_line}
 use Rattle.image_check.specs.Pages.{has_page, has_page_in, frames_in, share_of}
 use Rattle.image_check.specs.Image.{Image, image_from, own_of}
 
--- no rule but that of pads has a broken case
-pub record KeepsButPads (i : text.Raw) : Type 0 where
+-- no rule before that of pads has a broken case
+pub record KeepsBeforePads (i : text.Raw) : Type 0 where
   pub parts : k3 i ≡ None
   pub frames : k4 i ≡ None
   pub colours : k5 i ≡ None
@@ -41,6 +42,10 @@ pub record KeepsButPads (i : text.Raw) : Type 0 where
   pub moments : k15 i ≡ None
   pub schedule : k16 i ≡ None
 
+-- no rule but that of pads has
+pub record KeepsButPads (i : text.Raw) : Type 0 where
+  pub before : KeepsBeforePads i
+
 -- no rule has
 pub record Keeps (i : text.Raw) : Type 0 where
   pub others : KeepsButPads i
@@ -54,11 +59,11 @@ AcceptanceLaw = (i : text.Raw) → (broken i ≡ []) ↔ Keeps i
 abbrev pub ButPadsLaw : Type 0
 ButPadsLaw = (i : text.Raw) → (broken_but_pads i ≡ []) ↔ KeepsButPads i
 
--- the rule of pads is broken, and its item stands after those of the others
+-- the rule of pads is broken, and its item stands before that of a later one
 pub record HasPadsItem (i : text.Raw) (others all : List Refusal) : Type 0 where
   pub item : Refusal
   pub of_pads : k17 i ≡ Some item
-  pub besides : all ≡ others ++ item ∷ []
+  pub besides : all ≡ item ∷ others
 
 -- the list of broken rules is that without the rule of pads, or has the item of this rule besides
 abbrev pub PadsLaw : Type 0
@@ -67,6 +72,10 @@ PadsLaw = (i : text.Raw) → (broken i ≡ broken_but_pads i) ⊎ HasPadsItem i 
 -- the bound is of a machine whose numbers are in their ranges
 abbrev pub ShapeLaw : Type 0
 ShapeLaw = (i : text.Raw) → broken_but_pads i ≡ [] → IsShape (shape_of (hardware_of i))
+
+-- an image has one hart, whose entries are all of them, each at its place
+abbrev pub OneHartLaw : Type 0
+OneHartLaw = (i : text.Raw) → let es = (image_from i).all.schedule in entries_on es 0 ≡ enumerate_from 0 es
 
 -- a page has some right, and one that is written is read, too
 pub record AreRights (r : Rights) : Type 0 where

@@ -2,13 +2,23 @@
 use Rattle.std.specs.Prelude.{ℕ, pos, int_lt, if◌then◌else◌, List, length, Option, Some, None}
 use Rattle.image_text.specs.declared.refusal.Refusal.{Refusal}
 use Rattle.image_text.specs.Record.{Raw, RawEntry}
-use Rattle.pad_bound.specs.Bound.{MachineShape, bound_of}
+use Rattle.pad_bound.specs.Bound.{MachineShape, most_written, bound_of}
 use Rattle.hardware_check.specs.Cases.{first_in, refusal}
 use Rattle.hardware_check.specs.Hardware.{Hardware, hardware_of}
 
--- what of a machine the bound depends on
+-- what of a machine the bound depends on: each domain may make every call, the second level writes nothing back, and
+-- there are no products
 abbrev pub shape_of : Hardware → MachineShape
-shape_of h = record { costs = h.costs; line = h.line; shared = h.shared; sets = h.l1d.sets; ways = h.l1d.ways }
+shape_of h = record {
+  costs = h.costs;
+  line = h.line;
+  shared = h.shared;
+  sets = h.l1d.sets;
+  ways = h.l1d.ways;
+  written = most_written h.line;
+  again = 0;
+  product = 0;
+}
 
 -- of the machine that an image says
 unfoldable pub bound_in : Raw → ℕ

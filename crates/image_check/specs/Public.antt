@@ -11,7 +11,7 @@ pub record Public : Type 0 where
   pub domains : ℕ  -- how many there are
 
 unfoldable pub entry_of : RawEntry → Entry
-entry_of e = record { domain = natural_of e.domain; length = natural_of e.length; pad = natural_of e.pad }
+entry_of e = record { domain = natural_of e.domain; length = natural_of e.length; pad = natural_of e.pad; hart = 0 }
 
 unfoldable pub public_of : Raw → Public
 public_of i = record {

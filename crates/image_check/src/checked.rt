@@ -8,8 +8,10 @@ ghost use Rattle.image_check.specs.Image.{image_from, own_of};
 ghost use Rattle.image_check.specs.Models.{public_model, own_model};
 
 use crate::own::Own;
+use crate::pads::k17;
+use crate::parts::parts_of;
 use crate::public::Public;
-use crate::unpadded::{Unpadded, check_but_pads};
+use crate::unpadded::{Unpadded, image_of};
 use crate::{CheckRefusal, laws};
 use image_text::Raw;
 use std::alloc::Global;
@@ -64,15 +66,14 @@ impl Checked {
 ///
 /// `Broken` with the first item of that list: the first broken rule, and the
 /// three numbers of its first broken case. `Memory` where memory runs out.
-#[tactic(auto, using(crate::proofs::Kept::none_broken))]
+#[tactic(auto, using(crate::proofs::Kept::none_broken, crate::proofs::Kept::but_pads_is))]
 pub fn check(alloc: Global, raw: Raw) -> Result<Checked, CheckRefusal>
     ensures refused { IfErr result (IsFirst (broken (raw_model raw))) }
     ensures accepted { IfOk result (λ c. broken c ≡ []) }
     ensures same { IfOk result (λ c. c ≡ raw_model raw) }
 {
-    let image = check_but_pads(alloc, raw)?;
-    match image.short_pad() {
-        Some(refusal) => Err(CheckRefusal::Broken(refusal)),
-        None => Ok(Checked { image }),
-    }
+    let parts = parts_of(alloc, &raw)?;
+    k17(&parts.hardware, &raw)?;
+    let image = image_of(alloc, raw, parts)?;
+    Ok(Checked { image })
 }

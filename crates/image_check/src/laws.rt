@@ -1,6 +1,6 @@
 // What the rules give whoever runs an image.
 ghost use Rattle.image_check.specs.Laws.{AcceptanceLaw, ButPadsLaw, PadsLaw, ShapeLaw};
-ghost use Rattle.image_check.specs.Laws.{RunnableLaw};
+ghost use Rattle.image_check.specs.Laws.{OneHartLaw, RunnableLaw};
 
 /// The list of the rules that an image breaks is empty exactly where no rule has
 /// a broken case.
@@ -19,6 +19,11 @@ pub fn all_but_pads()
 /// numbers are in their ranges.
 pub fn shape()
     ensures shape { ShapeLaw }
+{}
+
+/// The entries of hart 0 are all entries of an image, each with its place.
+pub fn one_hart()
+    ensures one { OneHartLaw }
 {}
 
 /// An image in the ranges of its keys that breaks no rule is runnable.

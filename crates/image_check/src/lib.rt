@@ -8,6 +8,7 @@ mod checked;
 pub mod laws;
 mod own;
 mod pads;
+mod parts;
 mod public;
 mod schedule;
 mod unpadded;

@@ -1,19 +1,23 @@
 // The rule of pads: none is below the bound on a switch.
-ghost use Rattle.std.specs.Prelude.{◌≡◌, ◌<◌, ◌^◌, map};
+ghost use Rattle.std.specs.Prelude.{◌≡◌, ◌<◌, ◌≤◌, ◌^◌, [], map};
 ghost use Rattle.image_text.specs.Reads.{raw_model};
 ghost use Rattle.image_text.specs.Models.{entry_model};
 ghost use Rattle.pad_bound.specs.Models.{shape_model};
 ghost use Rattle.hardware_check.specs.Cases as cases;
+ghost use Rattle.hardware_check.specs.Hardware.{hardware_of};
 ghost use Rattle.hardware_check.specs.Models.{hardware_model};
+ghost use Rattle.hardware_check.specs.Outcomes.{IsVerdict};
+ghost use Rattle.image_check.specs.Checking.{broken_before_pads};
 ghost use Rattle.image_check.specs.Pads as spec;
 
 use hardware_check::Hardware;
 use hardware_check::cases::refusal;
 use image_text::{Raw, RawEntry, Refusal};
-use pad_bound::Shape;
+use pad_bound::{Shape, bound, most_written};
 
 /// What of a machine the bound on a switch depends on.
 pub fn shape_of(hardware: &Hardware) -> Shape
+    requires line { 16 ≤ hardware.now.line }
     ensures value { shape_model result ≡ spec.shape_of (hardware_model hardware.now) }
 {
     Shape {
@@ -22,40 +26,47 @@ pub fn shape_of(hardware: &Hardware) -> Shape
         shared: hardware.shared,
         sets: hardware.l1d.sets,
         ways: hardware.l1d.ways,
+        written: most_written(hardware.line),
+        again: 0,
+        product: 0,
     }
 }
 
 #[tactic(auto, unfolding(crate::specs::Pads::k17_case))]
-fn k17_case(bound: u64, place: usize, entry: &RawEntry) -> Option<Refusal>
+fn k17_case(bound: u64, place: usize, entry: &RawEntry) -> Result<(), Refusal>
     requires bound { bound < 2 ^ 63 }
     requires place { place < 2 ^ 63 }
-    ensures value { result ≡ spec.k17_case bound place (entry_model entry.now) }
+    ensures verdict { IsVerdict result (spec.k17_case bound place (entry_model entry.now)) }
 {
     if entry.pad < bound as i64 {
-        return Some(refusal(17, place as i64, entry.pad, bound as i64));
+        return Err(refusal(17, place as i64, entry.pad, bound as i64));
     }
-    None
+    Ok(())
 }
 
-fn k17_entries(bound: u64, entries: &[RawEntry]) -> Option<Refusal>
+fn k17_entries(bound: u64, entries: &[RawEntry]) -> Result<(), Refusal>
     requires bound { bound < 2 ^ 63 }
-    ensures value { result ≡ cases.first_in (spec.k17_entry bound) (map entry_model entries.now) }
+    ensures verdict { IsVerdict result
+        (cases.first_in (spec.k17_entry bound) (map entry_model entries.now)) }
 {
     for (place, entry) in entries.iter().enumerate() {
-        if let Some(refusal) = k17_case(bound, place, entry) {
-            return Some(refusal);
-        }
+        k17_case(bound, place, entry)?;
     }
-    None
+    Ok(())
 }
 
 /// K17: each pad is at least the bound on a switch of the image's machine, in
 /// cycles.
-#[tactic(auto, unfolding(crate::specs::Pads::k17))]
-pub fn k17(bound: u64, raw: &Raw) -> Option<Refusal>
-    requires small { bound < 2 ^ 63 }
-    requires bound { bound ≡ spec.bound_in (raw_model raw.now) }
-    ensures value { result ≡ spec.k17 (raw_model raw.now) }
+///
+/// # Errors
+///
+/// The refusal with the first broken case.
+#[tactic(auto, unfolding(crate::specs::Pads::k17, crate::specs::Pads::bound_in))]
+pub fn k17(hardware: &Hardware, raw: &Raw) -> Result<(), Refusal>
+    requires before { broken_before_pads (raw_model raw.now) ≡ [] }
+    requires hardware { hardware_model hardware.now ≡ hardware_of (raw_model raw.now) }
+    ensures verdict { IsVerdict result (spec.k17 (raw_model raw.now)) }
 {
+    let bound = bound(&shape_of(hardware)).total;
     k17_entries(bound, raw.schedule.as_slice())
 }

@@ -42,6 +42,7 @@ fn entry_in(domains: usize, place: usize, text: &RawEntry) -> Result<Entry, Refu
         domain: natural_of(text.domain) as u8,
         length: natural_of(text.length) as u32,
         pad: natural_of(text.pad) as u32,
+        hart: 0,
     })
 }
 

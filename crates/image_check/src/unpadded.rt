@@ -1,9 +1,10 @@
 // An image that breaks no rule but that of pads.
-ghost use Rattle.std.specs.Prelude.{◌≡◌, ◌<◌, [], map, length, IfOk, IfErr, OnOk};
+ghost use Rattle.std.specs.Prelude.{◌≡◌, ◌<◌, [], map, length, IfOk, IfErr};
 ghost use Rattle.image_text.specs.Record.{InKeyRanges};
 ghost use Rattle.image_text.specs.Reads.{raw_model};
 ghost use Rattle.pad_bound.specs.Bound.{IsShape};
 ghost use Rattle.pad_bound.specs.Models.{shape_model};
+ghost use Rattle.domain_check.specs.Outcomes.{Makes};
 ghost use Rattle.image_check.specs.Outcomes.{IsFirst};
 ghost use Rattle.image_check.specs.Checking.{broken_but_pads};
 ghost use Rattle.image_check.specs.Public.{entry_of};
@@ -14,15 +15,12 @@ ghost use Rattle.image_check.specs.Models.{hardware_model, public_model, own_mod
 ghost use Rattle.image_check.specs.Pads as spec;
 
 use crate::CheckRefusal;
-use crate::own::{DomainParts, Own, owns_of};
-use crate::pads::{k17, shape_of};
+use crate::own::{Own, owns_of};
+use crate::pads::shape_of;
+use crate::parts::{Parts, parts_of};
 use crate::public::{Public, public_of};
-use crate::schedule::k16;
-use domain_check::{k7, k8, k9, k10, k12, k13, k14, k15};
-use hardware_check::{Hardware, k3, k4, k5, k6, k11};
-use image_text::{Raw, Refusal};
-use pad_bound::{Shape, bound};
-use sched_table::Entry;
+use image_text::Raw;
+use pad_bound::Shape;
 use std::alloc::Global;
 use std::marker::Model;
 
@@ -81,58 +79,23 @@ impl Unpadded {
     {
         &self.owns[d]
     }
-
-    /// The first pad below the bound.
-    pub(crate) fn short_pad(&self) -> Option<Refusal>
-        ensures value { result ≡ spec.k17 self.now }
-    {
-        k17(bound(&self.shape()).total, &self.raw)
-    }
 }
 
-/// What the rules let through of an image.
-#[derive(Drop)]
-struct Parts {
-    hardware: Hardware,
-    domains: DomainParts,
-    schedule: Vec<Entry>,
-}
-
-/// The parts, where the list of the rules that the image breaks is empty but for
-/// that of pads.
-#[tactic(auto, unfolding(crate::specs::Checking::broken_but_pads, crate::specs::Checking::rules_but_pads))]
-fn parts_of(alloc: Global, raw: &Raw) -> Result<Parts, CheckRefusal>
-    ensures refused { IfErr result (IsFirst (broken_but_pads (raw_model raw.now))) }
-    ensures accepted { OnOk result (broken_but_pads (raw_model raw.now) ≡ []) }
-    ensures hardware { IfOk result (λ p. hardware_model p.hardware ≡ hardware_of (raw_model raw.now)) }
-    ensures domains { IfOk result (λ p. ArePartsOf p.domains (raw_model raw.now).domains) }
-    ensures schedule { IfOk result (λ p. p.schedule.items ≡ map entry_of (raw_model raw.now).schedule) }
+/// The image of these parts.
+///
+/// # Errors
+///
+/// `Memory` alone.
+pub(crate) fn image_of(alloc: Global, raw: Raw, parts: Parts) -> Result<Unpadded, CheckRefusal>
+    requires accepted { broken_but_pads (raw_model raw) ≡ [] }
+    requires hardware { hardware_model parts.hardware ≡ hardware_of (raw_model raw) }
+    requires domains { ArePartsOf parts.domains (raw_model raw).domains }
+    requires schedule { parts.schedule.items ≡ map entry_of (raw_model raw).schedule }
+    ensures value { Makes (λ u. u) result (raw_model raw) }
 {
-    let caches = k3(raw)?;
-    k4(raw)?;
-    k5(raw)?;
-    k6(raw)?;
-    k7(raw)?;
-    let colours = k8(alloc, raw)?;
-    k9(raw)?;
-    k10(raw, colours.as_slice())?;
-    let hardware = k11(raw, caches)?;
-    let segments = k12(alloc, raw)?;
-    let caps = k13(alloc, raw)?;
-    let lines = k14(alloc, raw)?;
-    let moments = k15(alloc, raw)?;
-    let schedule = k16(alloc, raw)?;
-    Ok(Parts {
-        hardware,
-        domains: DomainParts {
-            colours,
-            segments,
-            caps,
-            lines,
-            moments,
-        },
-        schedule,
-    })
+    let public = public_of(alloc, &raw, parts.hardware, parts.schedule.as_slice())?;
+    let owns = owns_of(alloc, &raw, parts.domains)?;
+    Ok(Unpadded { raw, public, owns })
 }
 
 /// The image, where the list of the rules that it breaks is empty but for that
@@ -142,13 +105,12 @@ fn parts_of(alloc: Global, raw: &Raw) -> Result<Parts, CheckRefusal>
 ///
 /// `Broken` with the first item of that list without the rule of pads. `Memory`
 /// where memory runs out.
+#[tactic(auto, using(crate::proofs::Kept::but_pads_is))]
 pub fn check_but_pads(alloc: Global, raw: Raw) -> Result<Unpadded, CheckRefusal>
     ensures refused { IfErr result (IsFirst (broken_but_pads (raw_model raw))) }
     ensures accepted { IfOk result (λ u. broken_but_pads u ≡ []) }
     ensures same { IfOk result (λ u. u ≡ raw_model raw) }
 {
     let parts = parts_of(alloc, &raw)?;
-    let public = public_of(alloc, &raw, parts.hardware, parts.schedule.as_slice())?;
-    let owns = owns_of(alloc, &raw, parts.domains)?;
-    Ok(Unpadded { raw, public, owns })
+    image_of(alloc, raw, parts)
 }

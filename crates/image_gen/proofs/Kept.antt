@@ -257,20 +257,22 @@ keeps seed =
     let ns = range_with_len 0 (count seed) in
     record {
       others = record {
-        parts = parts_kept p ds es (policy_is seed);
-        frames = frames_kept p ds es;
-        colours = colours_kept p ds es;
-        costs = costs_kept p ds es;
-        domains = names_kept p h m es seed;
-        named = colour_lists_kept p h m es seed;
-        apart = apart_kept p h m es seed;
-        pools = pools_kept p h m es seed;
-        shared = shared_kept p ds es;
-        segments = no_case k12_domain [] ds (passes_map k12_domain _ (λ d e. code_kept d (h d) (program_bytes (at d)) (m d) (program_read (at d)) (program_long (at d)) e) ns);
-        capabilities = capabilities_kept p h m es seed;
-        lines = lines_kept p h m es seed;
-        moments = no_case k15_domain [] ds (passes_map k15_domain _ (λ d e. moments_kept d (h d) (at d) e) ns);
-        schedule = schedule_kept p h m w seed;
+        before = record {
+          parts = parts_kept p ds es (policy_is seed);
+          frames = frames_kept p ds es;
+          colours = colours_kept p ds es;
+          costs = costs_kept p ds es;
+          domains = names_kept p h m es seed;
+          named = colour_lists_kept p h m es seed;
+          apart = apart_kept p h m es seed;
+          pools = pools_kept p h m es seed;
+          shared = shared_kept p ds es;
+          segments = no_case k12_domain [] ds (passes_map k12_domain _ (λ d e. code_kept d (h d) (program_bytes (at d)) (m d) (program_read (at d)) (program_long (at d)) e) ns);
+          capabilities = capabilities_kept p h m es seed;
+          lines = lines_kept p h m es seed;
+          moments = no_case k15_domain [] ds (passes_map k15_domain _ (λ d e. moments_kept d (h d) (at d) e) ns);
+          schedule = schedule_kept p h m w seed;
+        };
       };
       pads = pads_kept p ds w (count seed);
     }

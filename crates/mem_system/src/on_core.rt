@@ -79,6 +79,7 @@ impl<P: Policy> OnCore<P> {
     ghost use Rattle.std.specs.Int.{IsPowerOfTwo};
     ghost use Rattle.tp_base.specs.Table.{empty};
     ghost use Rattle.branch_pred.specs.Guesses.{fresh_guesses};
+    ghost use Rattle.cycle_cost.specs.Ranges.{most_read, most_fetch, most_access, most_walk, most_look, most_guess};
     ghost use Rattle.phys_mem.specs.Mem.{Mem};
     ghost use Rattle.phys_mem.specs.Holds.{Holds};
     ghost use Rattle.sv32_walk.specs.Walk.{walk};
@@ -158,7 +159,7 @@ impl<P: Policy> OnCore<P> {
     fn below(&self, l2: &mut SecondLevel<P>, line: Line) -> u32
         ensures same { hierarchy_of P.rule (system self.now l2.new)
             ≡ hierarchy_of P.rule (system self.now l2.old) }
-        ensures few { result ≤ 2000 }
+        ensures few { result ≤ most_read }
         ensures steps { (sets : Sets) → StandsFor P.stands_for l2.old.cache sets
             → BelowSteps P.stands_for result l2.new
             (below (hierarchy_of P.rule (system self.now l2.old)) self.now.pinned sets line) }
@@ -177,7 +178,7 @@ impl<P: Policy> OnCore<P> {
     #[tactic(auto, unfolding(crate::specs::Cost::touched, crate::specs::Cost::on_core, crate::specs::Cost::fetched, crate::specs::Cost::pass_on, crate::specs::Cost::below_all))]
     #[inline(always)]
     pub fn fetch(&mut self, l2: &mut SecondLevel<P>, line: Line) -> u32
-        ensures few { result ≤ 3000 }
+        ensures few { result ≤ most_fetch }
         ensures makes { MakesTouch P.rule P.stands_for (Fetch line) result
             (system self.old l2.old) (system self.new l2.new) }
         ensures buffer { self.new.tlb ≡ self.old.tlb }
@@ -192,7 +193,7 @@ impl<P: Policy> OnCore<P> {
     #[tactic(auto, unfolding(crate::specs::Cost::touched, crate::specs::Cost::on_core, crate::specs::Cost::accessed, crate::specs::Cost::pass_on, crate::specs::Cost::below_all))]
     #[inline(always)]
     pub fn access(&mut self, l2: &mut SecondLevel<P>, line: Line, store: bool) -> u32
-        ensures few { result ≤ 4000 }
+        ensures few { result ≤ most_access }
         ensures makes { MakesTouch P.rule P.stands_for (if store then Store line else Load line) result
             (system self.old l2.old) (system self.new l2.new) }
         ensures buffer { self.new.tlb ≡ self.old.tlb }
@@ -215,7 +216,7 @@ impl<P: Policy> OnCore<P> {
     /// The cost of a walk's read of an entry in a line.
     #[tactic(auto, unfolding(crate::specs::Cost::touched, crate::specs::Cost::on_core, crate::specs::Cost::pass_on, crate::specs::Cost::below_all))]
     pub fn walk_read(&self, l2: &mut SecondLevel<P>, line: Line) -> u32
-        ensures few { result ≤ 2000 }
+        ensures few { result ≤ most_read }
         ensures makes { MakesTouch P.rule P.stands_for (WalkRead line) result
             (system self.now l2.old) (system self.now l2.new) }
     {
@@ -226,7 +227,7 @@ impl<P: Policy> OnCore<P> {
     #[tactic(auto, unfolding(crate::specs::Cost::touched, crate::specs::Cost::on_core, crate::specs::Cost::branched, crate::specs::Cost::pass_on, crate::specs::Cost::below_all))]
     #[inline(always)]
     pub fn branch(&mut self, pc: u32, taken: bool) -> u32
-        ensures few { result ≤ 1000 }
+        ensures few { result ≤ most_guess }
         ensures makes { (l2 : L2Contents P)
             → MakesTouch P.rule P.stands_for (Branch pc taken) result
             (system self.old l2) (system self.new l2) }
@@ -272,7 +273,7 @@ impl<P: Policy> OnCore<P> {
         requires small { (i : ℕ) → i < walked.now.count → slice_index walked.now.reads i < 2 ^ 27 }
         ensures same { hierarchy_of P.rule (system self.now l2.new)
             ≡ hierarchy_of P.rule (system self.now l2.old) }
-        ensures few { result ≤ 4000 }
+        ensures few { result ≤ most_walk }
         ensures steps { (sets : Sets) → StandsFor P.stands_for l2.old.cache sets
             → BelowSteps P.stands_for result l2.new
             (below_all (hierarchy_of P.rule (system self.now l2.old)) self.now.pinned sets
@@ -304,7 +305,7 @@ impl<P: Policy> OnCore<P> {
         requires missing { leaf_of self.old.tlb (va / 4096) ≡ None }
         requires absent { (sets : Sets) → StandsFor P.stands_for self.old.tlb.pages sets
             → is_some (place_of (shape_of P.rule self.old.tlb.pages) sets (va / 4096)) ≡ false }
-        ensures few { result.cycles ≤ 5000 }
+        ensures few { result.cycles ≤ most_look }
         ensures kept { (m : Mem) → Holds mem.now m → KeepsLeaves m mem.now.frames root self.old.tlb
             → KeepsLeaves m mem.now.frames root self.new.tlb }
         ensures result { (m : Mem) → Holds mem.now m
@@ -350,7 +351,7 @@ impl<P: Policy> OnCore<P> {
         access: Access,
     ) -> Translated
         requires frames { mem.now.frames ≤ 2 ^ 15 }
-        ensures few { result.cycles ≤ 5000 }
+        ensures few { result.cycles ≤ most_look }
         ensures kept { (m : Mem) → Holds mem.now m → KeepsLeaves m mem.now.frames root self.old.tlb
             → KeepsLeaves m mem.now.frames root self.new.tlb }
         ensures result { (m : Mem) → Holds mem.now m → KeepsLeaves m mem.now.frames root self.old.tlb

@@ -33,6 +33,7 @@ impl<P: Policy> MemSystem<P> {
     ghost use Rattle.sv32_walk.specs.Walk.{walk};
     ghost use Rattle.mem_system.specs.Cost.{cold, Fetch, Load, Store, WalkRead, Branch, EmptyTlb, Flush};
     ghost use Rattle.mem_system.specs.Contents.{MakesTouch, SystemStands, hierarchy_of};
+    ghost use Rattle.cycle_cost.specs.Ranges.{most_read, most_fetch, most_access, most_look, most_guess};
     ghost use Rattle.mem_system.specs.Geometry.{IsGeometry, hierarchy_by, costs_of};
     ghost use Rattle.mem_system.specs.Translation.{KeepsLeaves, look_of, translated};
 
@@ -75,7 +76,7 @@ impl<P: Policy> MemSystem<P> {
     /// A fetch from a line.
     #[inline(always)]
     pub fn fetch(&mut self, line: Line) -> u32
-        ensures few { result ≤ 3000 }
+        ensures few { result ≤ most_fetch }
         ensures makes { MakesTouch P.rule P.stands_for (Fetch line) result self.old self.new }
         ensures buffer { self.new.core.tlb ≡ self.old.core.tlb }
     {
@@ -85,7 +86,7 @@ impl<P: Policy> MemSystem<P> {
     /// A load from a line, or a store to it.
     #[inline(always)]
     pub fn access(&mut self, line: Line, store: bool) -> u32
-        ensures few { result ≤ 4000 }
+        ensures few { result ≤ most_access }
         ensures makes { MakesTouch P.rule P.stands_for (if store then Store line else Load line) result
             self.old self.new }
         ensures buffer { self.new.core.tlb ≡ self.old.core.tlb }
@@ -95,7 +96,7 @@ impl<P: Policy> MemSystem<P> {
 
     /// A walk's read of an entry in a line, past the first level.
     pub fn walk_read(&mut self, line: Line) -> u32
-        ensures few { result ≤ 2000 }
+        ensures few { result ≤ most_read }
         ensures makes { MakesTouch P.rule P.stands_for (WalkRead line) result self.old self.new }
         ensures buffer { self.new.core.tlb ≡ self.old.core.tlb }
     {
@@ -105,7 +106,7 @@ impl<P: Policy> MemSystem<P> {
     /// A branch at a pc, which is taken or not.
     #[inline(always)]
     pub fn branch(&mut self, pc: u32, taken: bool) -> u32
-        ensures few { result ≤ 1000 }
+        ensures few { result ≤ most_guess }
         ensures makes { MakesTouch P.rule P.stands_for (Branch pc taken) result self.old self.new }
         ensures buffer { self.new.core.tlb ≡ self.old.core.tlb }
     {
@@ -123,7 +124,7 @@ impl<P: Policy> MemSystem<P> {
     #[inline(always)]
     pub fn translate(&mut self, mem: &PhysMem, root: u32, va: u32, access: Access) -> Translated
         requires frames { mem.now.frames ≤ 2 ^ 15 }
-        ensures few { result.cycles ≤ 5000 }
+        ensures few { result.cycles ≤ most_look }
         ensures kept { (m : Mem) → Holds mem.now m → KeepsLeaves m mem.now.frames root self.old.core.tlb
             → KeepsLeaves m mem.now.frames root self.new.core.tlb }
         ensures result { (m : Mem) → Holds mem.now m → KeepsLeaves m mem.now.frames root self.old.core.tlb

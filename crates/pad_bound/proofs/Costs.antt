@@ -10,88 +10,84 @@ use Rattle.kernel_clone.specs.Laws.{shared_count, zeroed_count}
 use Rattle.kernel_clone.specs.declared.Kind.{Kind}
 use Rattle.kernel_clone.specs.declared.Kind.TheVariants.{Fetch, Load, Store}
 use Rattle.pad_bound.specs.Bound.{worst_fetch, worst_access}
-use Rattle.pad_bound.specs.Worst.{worst, worst_of, prefetch_touches}
+use Rattle.pad_bound.specs.Worst.{worst, worst_of, lines_written, prefetch_touches}
 
 -- ---- lists of touches
 
-worst_of-append : (c : CostTable) (ts us : List LineTouch) → worst_of c (ts ++ us) ≡ worst_of c ts + worst_of c us
+worst_of-append : (c : CostTable) (again : ℕ) (ts us : List LineTouch) → worst_of c again (ts ++ us) ≡ worst_of c again ts + worst_of c again us
 unfolding worst_of
-worst_of-append c ts us = sum_by-append (λ (t : LineTouch). worst c t.kind) ts us
+worst_of-append c again ts us = sum_by-append (λ (t : LineTouch). worst c again t.kind) ts us
 
 -- touches of one kind
-worst_of-kind : {X : Type 0} → (c : CostTable) (kind : Kind) (line : X → ℕ) (xs : List X)
-    → worst_of c (map (λ x. touch_of kind (line x)) xs) ≡ length xs * worst c kind
+worst_of-kind : {X : Type 0} → (c : CostTable) (again : ℕ) (kind : Kind) (line : X → ℕ) (xs : List X)
+    → worst_of c again (map (λ x. touch_of kind (line x)) xs) ≡ length xs * worst c again kind
 unfolding worst_of
-worst_of-kind c kind line [] = omega arith
-worst_of-kind c kind line (x ∷ xs) =
-    let more = worst_of-kind c kind line xs in
-    let first = sum_by-cons (λ (t : LineTouch). worst c t.kind) (touch_of kind (line x)) (map (λ x. touch_of kind (line x)) xs) in
+worst_of-kind c again kind line [] = omega arith
+worst_of-kind c again kind line (x ∷ xs) =
+    let more = worst_of-kind c again kind line xs in
+    let first = sum_by-cons (λ (t : LineTouch). worst c again t.kind) (touch_of kind (line x)) (map (λ x. touch_of kind (line x)) xs) in
     omega (arith, first, more)
 
-worst_of-range : (c : CostTable) (kind : Kind) (line : ℕ → ℕ) (n : ℕ)
-    → worst_of c (map (λ i. touch_of kind (line i)) (range_with_len 0 n)) ≡ n * worst c kind
-worst_of-range c kind line n =
-    worst_of-kind c kind line (range_with_len 0 n) ∙ ap (λ (m : ℕ). m * worst c kind) (length-range_with_len 0 n)
+worst_of-range : (c : CostTable) (again : ℕ) (kind : Kind) (line : ℕ → ℕ) (n : ℕ)
+    → worst_of c again (map (λ i. touch_of kind (line i)) (range_with_len 0 n)) ≡ n * worst c again kind
+worst_of-range c again kind line n =
+    worst_of-kind c again kind line (range_with_len 0 n) ∙ ap (λ (m : ℕ). m * worst c again kind) (length-range_with_len 0 n)
 
 -- ---- the parts
 
-worst_of-text : (c : CostTable) (l : Layout) (op : ℕ) → worst_of c (text_touches l op) ≡ 4 * worst_fetch c
+worst_of-text : (c : CostTable) (again : ℕ) (l : Layout) (op : ℕ) → worst_of c again (text_touches l op) ≡ 4 * worst_fetch c again
 unfolding text_touches
-worst_of-text c l op = worst_of-range c Fetch (λ i. text_line l ((4 * op + i) % (2 * lines_in_frame l))) 4
+worst_of-text c again l op = worst_of-range c again Fetch (λ i. text_line l ((4 * op + i) % (2 * lines_in_frame l))) 4
 
-worst_of-stack : (c : CostTable) (l : Layout) → worst_of c (stack_touches l) ≡ 2 * worst_access c
+worst_of-stack : (c : CostTable) (again : ℕ) (l : Layout) → worst_of c again (stack_touches l) ≡ 2 * worst_access c again
 unfolding stack_touches
-worst_of-stack c l = worst_of-range c Store (λ i. line_of l l.stack i) 2
+worst_of-stack c again l = worst_of-range c again Store (λ i. line_of l l.stack i) 2
 
-worst_of-data : (c : CostTable) (l : Layout) (op : ℕ) → worst_of c (data_touches l op) ≡ data_count op * worst_access c
+worst_of-data : (c : CostTable) (again : ℕ) (l : Layout) (op : ℕ) → worst_of c again (data_touches l op) ≡ data_count op * worst_access c again
 unfolding data_touches
-worst_of-data c l op = worst_of-range c Store (λ i. line_of l l.data_frame ((2 * op + i) % lines_in_frame l)) (data_count op)
+worst_of-data c again l op = worst_of-range c again Store (λ i. line_of l l.data_frame ((2 * op + i) % lines_in_frame l)) (data_count op)
 
-worst_of-shared : (c : CostTable) (l : Layout) (op : ℕ) → worst_of c (shared_touches l op) ≡ shared_count op * worst_access c
+worst_of-shared : (c : CostTable) (again : ℕ) (l : Layout) (op : ℕ) → worst_of c again (shared_touches l op) ≡ shared_count op * worst_access c again
 unfolding shared_touches
-worst_of-shared c l op =
-    elim (is_of_switch op) as (λ b. worst_of c (if b then [] else touch_of Load (shared_line l (op % shared_lines l)) ∷ []) ≡ (if b then 0 else 1) * worst_access c) [
-      | true ↦ worst_of-kind c Load (λ (i : ℕ). i) []
-      | false ↦ worst_of-kind c Load (λ (i : ℕ). i) (shared_line l (op % shared_lines l) ∷ [])
+worst_of-shared c again l op =
+    elim (is_of_switch op) as (λ b. worst_of c again (if b then [] else touch_of Load (shared_line l (op % shared_lines l)) ∷ []) ≡ (if b then 0 else 1) * worst_access c again) [
+      | true ↦ worst_of-kind c again Load (λ (i : ℕ). i) []
+      | false ↦ worst_of-kind c again Load (λ (i : ℕ). i) (shared_line l (op % shared_lines l) ∷ [])
     ]
 
-worst_of-zeroed : (c : CostTable) (l : Layout) (zeroed : Option ℕ) → worst_of c (zeroed_touches l zeroed) ≡ zeroed_count l zeroed * worst_access c
+worst_of-zeroed : (c : CostTable) (again : ℕ) (l : Layout) (zeroed : Option ℕ) → worst_of c again (zeroed_touches l zeroed) ≡ zeroed_count l zeroed * worst_access c again
 unfolding zeroed_touches
-worst_of-zeroed c l None = worst_of-kind c Store (λ (i : ℕ). i) []
-worst_of-zeroed c l (Some frame) = worst_of-range c Store (λ i. line_of l frame i) (lines_in_frame l)
+worst_of-zeroed c again l None = worst_of-kind c again Store (λ (i : ℕ). i) []
+worst_of-zeroed c again l (Some frame) = worst_of-range c again Store (λ i. line_of l frame i) (lines_in_frame l)
 
-worst_of-entries : (c : CostTable) (l : Layout) (entries : List ℕ) → worst_of c (entry_touches l entries) ≡ length entries * worst_access c
+worst_of-entries : (c : CostTable) (again : ℕ) (l : Layout) (entries : List ℕ) → worst_of c again (entry_touches l entries) ≡ length entries * worst_access c again
 unfolding entry_touches
-worst_of-entries c l entries = worst_of-kind c Store (λ at. at / l.line) entries
+worst_of-entries c again l entries = worst_of-kind c again Store (λ at. at / l.line) entries
 
-pub worst_of-prefetch : (c : CostTable) (l : Layout) → worst_of c (prefetch_touches l) ≡ shared_lines l * worst_access c
+pub worst_of-prefetch : (c : CostTable) (again : ℕ) (l : Layout) → worst_of c again (prefetch_touches l) ≡ shared_lines l * worst_access c again
 unfolding prefetch_touches
-worst_of-prefetch c l = worst_of-range c Load (shared_line l) (shared_lines l)
+worst_of-prefetch c again l = worst_of-range c again Load (shared_line l) (shared_lines l)
 
 -- ---- the whole
 
--- what a work wrote, in lines
-abbrev pub written_count : Layout → WorkDone → ℕ
-written_count l w = zeroed_count l w.zeroed + length w.entries
-
-pub worst_of-touches : (c : CostTable) (l : Layout) (w : WorkDone)
-    → worst_of c (touches l w) ≡ 4 * worst_fetch c + (2 + data_count w.op + shared_count w.op + written_count l w) * worst_access c
+pub worst_of-touches : (c : CostTable) (again : ℕ) (l : Layout) (w : WorkDone)
+    → worst_of c again (touches l w) ≡ 4 * worst_fetch c again + (2 + data_count w.op + shared_count w.op + lines_written l w) * worst_access c again
 unfolding touches
-worst_of-touches c l w =
-    let parts : worst_of c (text_touches l w.op ++ (stack_touches l ++ (data_touches l w.op ++ (shared_touches l w.op ++ written_touches l w))))
-    ≡ 4 * worst_fetch c + (2 * worst_access c + (data_count w.op * worst_access c + (shared_count w.op * worst_access c
-    + (zeroed_count l w.zeroed * worst_access c + length w.entries * worst_access c)))) =
+worst_of-touches c again l w =
+    let parts : worst_of c again (text_touches l w.op ++ (stack_touches l ++ (data_touches l w.op ++ (shared_touches l w.op ++ written_touches l w))))
+    ≡ 4 * worst_fetch c again + (2 * worst_access c again + (data_count w.op * worst_access c again + (shared_count w.op * worst_access c again
+    + (zeroed_count l w.zeroed * worst_access c again + length w.entries * worst_access c again)))) =
     rw (
-      worst_of-append c (text_touches l w.op) (stack_touches l ++ (data_touches l w.op ++ (shared_touches l w.op ++ written_touches l w))),
-      worst_of-append c (stack_touches l) (data_touches l w.op ++ (shared_touches l w.op ++ written_touches l w)),
-      worst_of-append c (data_touches l w.op) (shared_touches l w.op ++ written_touches l w),
-      worst_of-append c (shared_touches l w.op) (written_touches l w),
-      worst_of-append c (zeroed_touches l w.zeroed) (entry_touches l w.entries),
-      worst_of-text c l w.op,
-      worst_of-stack c l,
-      worst_of-data c l w.op,
-      worst_of-shared c l w.op,
-      worst_of-zeroed c l w.zeroed,
-      worst_of-entries c l w.entries,
+      worst_of-append c again (text_touches l w.op) (stack_touches l ++ (data_touches l w.op ++ (shared_touches l w.op ++ written_touches l w))),
+      worst_of-append c again (stack_touches l) (data_touches l w.op ++ (shared_touches l w.op ++ written_touches l w)),
+      worst_of-append c again (data_touches l w.op) (shared_touches l w.op ++ written_touches l w),
+      worst_of-append c again (shared_touches l w.op) (written_touches l w),
+      worst_of-append c again (zeroed_touches l w.zeroed) (entry_touches l w.entries),
+      worst_of-text c again l w.op,
+      worst_of-stack c again l,
+      worst_of-data c again l w.op,
+      worst_of-shared c again l w.op,
+      worst_of-zeroed c again l w.zeroed,
+      worst_of-entries c again l w.entries,
     ) refl in
     omega (arith, parts)

@@ -1,5 +1,5 @@
 -- What the parts of the bound are the worst of.
-use Rattle.std.proofs.Common.{◌≡◌, ◌∙◌, ◌<◌, ◌≤◌, ◌+◌, ◌*◌, ◌/◌, ℕ, List, length, Option, Some, None, Bool, true, false, ap, refl, arith, lit≤, inl, inr}
+use Rattle.std.proofs.Common.{◌≡◌, ◌∙◌, ◌<◌, ◌≤◌, ◌+◌, ◌*◌, ◌/◌, ℕ, List, length, Option, Some, None, Bool, true, false, ap, refl, arith, lit≤, inl, inr, mul-le-mul_right}
 use Rattle.std.specs.Prelude.{if◌then◌else◌}
 use Rattle.std.proofs.lemmas.Nat.{mul-le}
 use Rattle.std.proofs.Math.Nat.{le-max_left, le-max_right, max-eq_left, max-eq_right}
@@ -8,22 +8,19 @@ use Rattle.kernel_clone.specs.Footprints.{Layout, WorkDone, touches, data_count,
 use Rattle.kernel_clone.specs.Footprints as clone
 use Rattle.kernel_clone.specs.Laws.{shared_count, zeroed_count, IsPlain}
 use Rattle.pad_bound.specs.Bound.{MachineShape, IsShape, worst_fetch, worst_access, lines_in_frame, lines_of_shared, most_entries, most_written, most_dirty, worst_instruction, worst_operation, worst_leave, worst_enter, worst_prefetch, worst_flush, bound_of}
-use Rattle.pad_bound.specs.Worst.{worst_of, IsCloneOf, IsCallWork, AreNoDearer, alloc_work, revoke_work, prefetch_touches}
-use Rattle.pad_bound.proofs.Costs.{worst_of-touches, worst_of-prefetch, written_count}
+use Rattle.pad_bound.specs.Worst.{worst_of, lines_written, IsCloneOf, IsCallWork, AreNoDearer, IsNoSmaller, alloc_work, revoke_work, prefetch_touches}
+use Rattle.pad_bound.proofs.Costs.{worst_of-touches, worst_of-prefetch}
 
 -- ---- operations
-
-frame_lines : (s : MachineShape) (l : Layout) → IsCloneOf s l → clone.lines_in_frame l ≡ lines_in_frame s.line
-frame_lines s l of = ap (λ (n : ℕ). 4096 / n) of.line
 
 few_zeroed : (l : Layout) (zeroed : Option ℕ) → zeroed_count l zeroed ≤ clone.lines_in_frame l
 few_zeroed l None = omega arith
 few_zeroed l (Some frame) = omega arith
 
-few_written : (s : MachineShape) (l : Layout) (w : WorkDone) → IsCloneOf s l → IsCallWork w → written_count l w ≤ most_written s
-few_written s l w of is =
-    let lines : lines_in_frame s.line ≤ most_written s = le-max_left (lines_in_frame s.line) most_entries in
-    let entries : most_entries ≤ most_written s = le-max_right (lines_in_frame s.line) most_entries in
+pub few_written : (l : Layout) (w : WorkDone) → IsCallWork w → lines_written l w ≤ most_written l.line
+few_written l w is =
+    let lines : lines_in_frame l.line ≤ most_written l.line = le-max_left (lines_in_frame l.line) most_entries in
+    let entries : most_entries ≤ most_written l.line = le-max_right (lines_in_frame l.line) most_entries in
     elim is.not_both [
       | inl none ↦
           let zeroed : zeroed_count l w.zeroed ≡ 0 = ap (zeroed_count l) none in
@@ -32,38 +29,43 @@ few_written s l w of is =
       | inr none ↦
           let written : length w.entries ≡ 0 = ap length none in
           let zeroed = few_zeroed l w.zeroed in
-          let same = frame_lines s l of in
-          omega (arith, zeroed, written, same, lines)
+          omega (arith, zeroed, written, lines)
     ]
 
+-- lines have 16 bytes or more
+pub few_most : (line : ℕ) → 16 ≤ line → most_written line ≤ 256
+few_most line least =
+    let product = mul-le-mul_right (4096 / line) least in
+    let few : 4096 / line ≤ 256 = omega (arith, product) in
+    grind (arith, few)
+
 -- a call that writes so many lines
-call_costs : (c : CostTable) (l : Layout) (w : WorkDone) → is_of_switch w.op ≡ false
-    → worst_of c (touches l w) ≡ 4 * worst_fetch c + (5 + written_count l w) * worst_access c
-call_costs c l w call =
-    let whole = worst_of-touches c l w in
+call_costs : (c : CostTable) (again : ℕ) (l : Layout) (w : WorkDone) → is_of_switch w.op ≡ false
+    → worst_of c again (touches l w) ≡ 4 * worst_fetch c again + (5 + lines_written l w) * worst_access c again
+call_costs c again l w call =
+    let whole = worst_of-touches c again l w in
     let stored : data_count w.op ≡ 2 = ap (λ (b : Bool). if b then 1 else 2) call in
     let loaded : shared_count w.op ≡ 1 = ap (λ (b : Bool). if b then 0 else 1) call in
-    let count : 2 + data_count w.op + shared_count w.op + written_count l w ≡ 5 + written_count l w = omega (arith, stored, loaded) in
-    whole ∙ ap (λ (n : ℕ). 4 * worst_fetch c + n * worst_access c) count
+    let count : 2 + data_count w.op + shared_count w.op + lines_written l w ≡ 5 + lines_written l w = omega (arith, stored, loaded) in
+    whole ∙ ap (λ (n : ℕ). 4 * worst_fetch c again + n * worst_access c again) count
 
-pub operation_covers : (s : MachineShape) (l : Layout) (w : WorkDone) → IsCloneOf s l → IsCallWork w
-    → s.costs.trap + worst_of s.costs (touches l w) ≤ worst_operation s
+pub operation_covers : (s : MachineShape) (l : Layout) (w : WorkDone) → is_of_switch w.op ≡ false → lines_written l w ≤ s.written
+    → s.costs.trap + worst_of s.costs s.again (touches l w) ≤ worst_operation s
 unfolding worst_operation
-operation_covers s l w of is =
-    let costs = call_costs s.costs l w is.call in
-    let few = few_written s l w of is in
-    let access : ℕ = worst_access s.costs in
+operation_covers s l w call few =
+    let costs = call_costs s.costs s.again l w call in
+    let access : ℕ = worst_access s.costs s.again in
     let same : access ≤ access = omega arith in
-    let written : written_count l w * access ≤ most_written s * access = mul-le (written_count l w) access (most_written s) access few same in
+    let written : lines_written l w * access ≤ s.written * access = mul-le (lines_written l w) access s.written access few same in
     omega (arith, costs, written)
 
 -- where the work writes as many as there can be
-reached : (s : MachineShape) (l : Layout) (w : WorkDone) → is_of_switch w.op ≡ false → written_count l w ≡ most_written s
-    → s.costs.trap + worst_of s.costs (touches l w) ≡ worst_operation s
+pub operation_reached : (s : MachineShape) (l : Layout) (w : WorkDone) → is_of_switch w.op ≡ false → lines_written l w ≡ s.written
+    → s.costs.trap + worst_of s.costs s.again (touches l w) ≡ worst_operation s
 unfolding worst_operation
-reached s l w call most =
-    let costs = call_costs s.costs l w call in
-    let written : written_count l w * worst_access s.costs ≡ most_written s * worst_access s.costs = ap (λ (n : ℕ). n * worst_access s.costs) most in
+operation_reached s l w call most =
+    let costs = call_costs s.costs s.again l w call in
+    let written : lines_written l w * worst_access s.costs s.again ≡ s.written * worst_access s.costs s.again = ap (λ (n : ℕ). n * worst_access s.costs s.again) most in
     omega (arith, costs, written)
 
 pub alloc_is_call : (frame : ℕ) → IsCallWork (alloc_work frame)
@@ -72,53 +74,48 @@ alloc_is_call frame = record { call = refl; few = lit≤ tt; not_both = inr refl
 pub revoke_is_call : (entries : List ℕ) → length entries ≡ most_entries → IsCallWork (revoke_work entries)
 revoke_is_call entries most = record { call = refl; few = omega (arith, most); not_both = inl refl }
 
-pub alloc_reaches : (s : MachineShape) (l : Layout) (frame : ℕ) → IsCloneOf s l → most_entries ≤ lines_in_frame s.line
-    → s.costs.trap + worst_of s.costs (touches l (alloc_work frame)) ≡ worst_operation s
-alloc_reaches s l frame of many =
-    let lines : most_written s ≡ lines_in_frame s.line = max-eq_left many in
-    let same = frame_lines s l of in
-    let count : written_count l (alloc_work frame) ≡ most_written s = omega (arith, same, lines) in
-    reached s l (alloc_work frame) refl count
+pub alloc_writes : (l : Layout) (frame : ℕ) → most_entries ≤ lines_in_frame l.line → lines_written l (alloc_work frame) ≡ most_written l.line
+alloc_writes l frame many =
+    let lines : most_written l.line ≡ lines_in_frame l.line = max-eq_left many in
+    omega (arith, lines)
 
-pub revoke_reaches : (s : MachineShape) (l : Layout) (entries : List ℕ) → IsCloneOf s l
-    → lines_in_frame s.line ≤ most_entries → length entries ≡ most_entries
-    → s.costs.trap + worst_of s.costs (touches l (revoke_work entries)) ≡ worst_operation s
-revoke_reaches s l entries of few most =
-    let lines : most_written s ≡ most_entries = max-eq_right few in
-    let count : written_count l (revoke_work entries) ≡ most_written s = omega (arith, most, lines) in
-    reached s l (revoke_work entries) refl count
+pub revoke_writes : (l : Layout) (entries : List ℕ) → lines_in_frame l.line ≤ most_entries → length entries ≡ most_entries
+    → lines_written l (revoke_work entries) ≡ most_written l.line
+revoke_writes l entries few most =
+    let lines : most_written l.line ≡ most_entries = max-eq_right few in
+    omega (arith, most, lines)
 
 -- a switch, which writes nothing but its clone's own lines
-switch_costs : (c : CostTable) (l : Layout) (w : WorkDone) → IsPlain w → is_of_switch w.op ≡ true
-    → worst_of c (touches l w) ≡ 4 * worst_fetch c + 3 * worst_access c
-switch_costs c l w plain switch =
-    let whole = worst_of-touches c l w in
+switch_costs : (c : CostTable) (again : ℕ) (l : Layout) (w : WorkDone) → IsPlain w → is_of_switch w.op ≡ true
+    → worst_of c again (touches l w) ≡ 4 * worst_fetch c again + 3 * worst_access c again
+switch_costs c again l w plain switch =
+    let whole = worst_of-touches c again l w in
     let stored : data_count w.op ≡ 1 = ap (λ (b : Bool). if b then 1 else 2) switch in
     let loaded : shared_count w.op ≡ 0 = ap (λ (b : Bool). if b then 0 else 1) switch in
     let zeroed : zeroed_count l w.zeroed ≡ 0 = ap (zeroed_count l) plain.zeroed in
     let written : length w.entries ≡ 0 = ap length plain.entries in
-    let count : 2 + data_count w.op + shared_count w.op + written_count l w ≡ 3 = omega (arith, stored, loaded, zeroed, written) in
-    whole ∙ ap (λ (n : ℕ). 4 * worst_fetch c + n * worst_access c) count
+    let count : 2 + data_count w.op + shared_count w.op + lines_written l w ≡ 3 = omega (arith, stored, loaded, zeroed, written) in
+    whole ∙ ap (λ (n : ℕ). 4 * worst_fetch c again + n * worst_access c again) count
 
 pub leave_costs : (s : MachineShape) (l : Layout) (w : WorkDone) → IsPlain w → w.op ≡ leave_op
-    → s.costs.trap + worst_of s.costs (touches l w) ≡ worst_leave s
+    → s.costs.trap + worst_of s.costs s.again (touches l w) ≡ worst_leave s
 unfolding worst_leave
 leave_costs s l w plain leave =
-    let costs = switch_costs s.costs l w plain (rw leave refl) in
+    let costs = switch_costs s.costs s.again l w plain (rw leave refl) in
     omega (arith, costs)
 
 pub enter_costs : (s : MachineShape) (l : Layout) (w : WorkDone) → IsPlain w → w.op ≡ enter_op
-    → worst_of s.costs (touches l w) ≡ worst_enter s
+    → worst_of s.costs s.again (touches l w) ≡ worst_enter s
 unfolding worst_enter
-enter_costs s l w plain enter = switch_costs s.costs l w plain (rw enter refl)
+enter_costs s l w plain enter = switch_costs s.costs s.again l w plain (rw enter refl)
 
 -- ---- the switch's own parts
 
-pub prefetch_costs : (s : MachineShape) (l : Layout) → IsCloneOf s l → worst_of s.costs (prefetch_touches l) ≡ worst_prefetch s
+pub prefetch_costs : (s : MachineShape) (l : Layout) → IsCloneOf s l → worst_of s.costs 0 (prefetch_touches l) ≡ worst_prefetch s
 unfolding worst_prefetch
 prefetch_costs s l of =
     let lines : shared_lines l ≡ lines_of_shared s = rw (of.line, of.shared) refl in
-    worst_of-prefetch s.costs l ∙ ap (λ (n : ℕ). n * worst_access s.costs) lines
+    worst_of-prefetch s.costs 0 l ∙ ap (λ (n : ℕ). n * worst_access s.costs 0) lines
 
 pub flush_covers : (s : MachineShape) (dirty : ℕ) → dirty ≤ most_dirty s → s.costs.flush + s.costs.wb * dirty ≤ worst_flush s
 unfolding worst_flush
@@ -146,32 +143,38 @@ pub bound_reached : (s : MachineShape) (start : ℕ) → IsShape s
 unfolding bound_of
 bound_reached s start is = let some = some_instruction s is in omega (arith, some)
 
--- ---- costs that grow
+-- ---- machines that grow
 
-no_dearer_access : (c d : CostTable) → AreNoDearer c d → worst_access c ≤ worst_access d
-no_dearer_access c d le = let a = le.l1 in let b = le.l2 in let e = le.mem in let f = le.wb in omega (arith, a, b, e, f)
-
-pub no_dearer : (s t : MachineShape) → AreNoDearer s.costs t.costs → s.line ≡ t.line → s.shared ≡ t.shared
-    → s.sets ≡ t.sets → s.ways ≡ t.ways → bound_of s ≤ bound_of t
-unfolding bound_of worst_instruction worst_operation worst_leave worst_enter worst_prefetch worst_flush
-no_dearer s t le line shared sets ways =
-    let access = no_dearer_access s.costs t.costs le in
-    let lines : most_written s ≤ most_written t = rw line (omega arith) in
-    let loaded : lines_of_shared s ≤ lines_of_shared t = rw (line, shared) (omega arith) in
-    let dirty : most_dirty s ≤ most_dirty t = rw (sets, ways) (omega arith) in
-    let a : most_written s * worst_access s.costs ≤ most_written t * worst_access t.costs
-    = mul-le (most_written s) (worst_access s.costs) (most_written t) (worst_access t.costs) lines access in
-    let b : lines_of_shared s * worst_access s.costs ≤ lines_of_shared t * worst_access t.costs
-    = mul-le (lines_of_shared s) (worst_access s.costs) (lines_of_shared t) (worst_access t.costs) loaded access in
-    let wb = le.wb in
-    let c : s.costs.wb * most_dirty s ≤ t.costs.wb * most_dirty t
-    = mul-le s.costs.wb (most_dirty s) t.costs.wb (most_dirty t) wb dirty in
-    let base = le.base in
+no_dearer_access : (c d : CostTable) (a b : ℕ) → AreNoDearer c d → a ≤ b → worst_access c a ≤ worst_access d b
+no_dearer_access c d a b le again =
     let l1 = le.l1 in
     let l2 = le.l2 in
     let mem = le.mem in
-    let tlb = le.tlb in
-    let mispredict = le.mispredict in
-    let trap = le.trap in
-    let flush = le.flush in
-    omega (arith, a, b, c, base, l1, l2, mem, wb, tlb, mispredict, trap, flush)
+    let wb = le.wb in
+    omega (arith, l1, l2, mem, wb, again)
+
+pub no_smaller : (s t : MachineShape) → IsNoSmaller s t → bound_of s ≤ bound_of t
+unfolding bound_of worst_instruction worst_operation worst_leave worst_enter worst_prefetch worst_flush
+no_smaller s t le =
+    let access = no_dearer_access s.costs t.costs s.again t.again le.costs le.again in
+    let plain = no_dearer_access s.costs t.costs 0 0 le.costs (omega arith) in
+    let loaded : lines_of_shared s ≤ lines_of_shared t = rw (le.line, le.shared) (omega arith) in
+    let dirty : most_dirty s ≤ most_dirty t = rw (le.sets, le.ways) (omega arith) in
+    let a : s.written * worst_access s.costs s.again ≤ t.written * worst_access t.costs t.again
+    = mul-le s.written (worst_access s.costs s.again) t.written (worst_access t.costs t.again) le.written access in
+    let b : lines_of_shared s * worst_access s.costs 0 ≤ lines_of_shared t * worst_access t.costs 0
+    = mul-le (lines_of_shared s) (worst_access s.costs 0) (lines_of_shared t) (worst_access t.costs 0) loaded plain in
+    let wb = le.costs.wb in
+    let c : s.costs.wb * most_dirty s ≤ t.costs.wb * most_dirty t
+    = mul-le s.costs.wb (most_dirty s) t.costs.wb (most_dirty t) wb dirty in
+    let base = le.costs.base in
+    let l1 = le.costs.l1 in
+    let l2 = le.costs.l2 in
+    let mem = le.costs.mem in
+    let tlb = le.costs.tlb in
+    let mispredict = le.costs.mispredict in
+    let trap = le.costs.trap in
+    let flush = le.costs.flush in
+    let again = le.again in
+    let product = le.product in
+    omega (arith, a, b, c, base, l1, l2, mem, wb, tlb, mispredict, trap, flush, again, product)

@@ -1,6 +1,7 @@
 -- The most cycles that a switch of domains uses, whatever ran before it, part by part.
 use Rattle.std.specs.Prelude.{◌≡◌, ℕ, ◌+◌, ◌-◌, ◌*◌, ◌/◌, ◌%◌, ◌≤◌, max}
 use Rattle.cycle_cost.specs.Costs.{CostTable, AreCosts}
+use Rattle.cycle_cost.specs.Ranges.{most_again, most_product}
 
 -- what of a machine the bound depends on
 pub record MachineShape : Type 0 where
@@ -9,24 +10,27 @@ pub record MachineShape : Type 0 where
   pub shared : ℕ  -- bytes of the shared region
   pub sets : ℕ  -- of the first-level data cache
   pub ways : ℕ  -- of it
+  pub written : ℕ  -- the most lines that an operation writes
+  pub again : ℕ  -- the cycles of one more write-back, if a miss of the second level makes one; else 0
+  pub product : ℕ  -- the most cycles that a product or a division adds to an instruction
 
--- ---- one line at worst
-
--- a fetch that both levels miss
-abbrev pub worst_fetch : CostTable → ℕ
-worst_fetch c = c.l1 + c.l2 + c.mem
-
--- a load or store that both levels miss, and whose victim is dirty
-abbrev pub worst_access : CostTable → ℕ
-worst_access c = worst_fetch c + c.wb
+-- ---- one line at worst, where a miss of the second level costs so much again
 
 -- a walk's read of an entry, which the second level misses
-abbrev pub worst_read : CostTable → ℕ
-worst_read c = c.l2 + c.mem
+abbrev pub worst_read : CostTable → ℕ → ℕ
+worst_read c again = c.l2 + c.mem + again
+
+-- a fetch that both levels miss
+abbrev pub worst_fetch : CostTable → ℕ → ℕ
+worst_fetch c again = c.l1 + worst_read c again
+
+-- a load or store that both levels miss, and whose victim in the first is dirty
+abbrev pub worst_access : CostTable → ℕ → ℕ
+worst_access c again = worst_fetch c again + c.wb
 
 -- a look-up in the translation buffer that misses, and the walk's two reads
-abbrev pub worst_look : CostTable → ℕ
-worst_look c = c.tlb + 2 * worst_read c
+abbrev pub worst_look : CostTable → ℕ → ℕ
+worst_look c again = c.tlb + 2 * worst_read c again
 
 -- ---- how many lines
 
@@ -40,9 +44,9 @@ lines_of_shared s = s.shared / s.line
 abbrev pub most_entries : ℕ
 most_entries = 63
 
--- the lines that one call zeroes or the entries that it writes; none does both
-abbrev pub most_written : MachineShape → ℕ
-most_written s = max (lines_in_frame s.line) most_entries
+-- the most lines that a call writes, be it a frame that it zeroes or entries; none does both
+abbrev pub most_written : ℕ → ℕ
+most_written line = max (lines_in_frame line) most_entries
 
 -- all of the first-level data cache may be dirty
 abbrev pub most_dirty : MachineShape → ℕ
@@ -51,27 +55,30 @@ most_dirty s = s.sets * s.ways
 -- ---- the parts, in cycles
 
 -- an instruction looks up its page, is fetched, looks up its operand's page and accesses it;
--- that it guesses a branch wrongly, too, is more than any instruction does
+-- that it guesses a branch wrongly and makes a product, too, is more than any instruction does
 unfoldable pub worst_instruction : MachineShape → ℕ
 worst_instruction s =
-    s.costs.base + 2 * worst_look s.costs + worst_fetch s.costs + worst_access s.costs + s.costs.mispredict
+    s.costs.base + 2 * worst_look s.costs s.again + worst_fetch s.costs s.again + worst_access s.costs s.again
+    + s.costs.mispredict + s.product
 
 -- four lines of text; two of stack, two of data and a shared one; and what the call writes
 unfoldable pub worst_operation : MachineShape → ℕ
 worst_operation s =
-    s.costs.trap + 4 * worst_fetch s.costs + 5 * worst_access s.costs + most_written s * worst_access s.costs
+    s.costs.trap + 4 * worst_fetch s.costs s.again + 5 * worst_access s.costs s.again
+    + s.written * worst_access s.costs s.again
 
 -- four lines of text; two of stack and one of data
 unfoldable pub worst_leave : MachineShape → ℕ
-worst_leave s = s.costs.trap + 4 * worst_fetch s.costs + 3 * worst_access s.costs
+worst_leave s = s.costs.trap + 4 * worst_fetch s.costs s.again + 3 * worst_access s.costs s.again
 
 -- the same lines; but it is no trap
 unfoldable pub worst_enter : MachineShape → ℕ
-worst_enter s = 4 * worst_fetch s.costs + 3 * worst_access s.costs
+worst_enter s = 4 * worst_fetch s.costs s.again + 3 * worst_access s.costs s.again
 
--- each shared line is loaded
+-- each shared line is loaded; what gives way to one in the second level is never dirty there, since shared lines
+-- alone have their colour, and none is stored to
 unfoldable pub worst_prefetch : MachineShape → ℕ
-worst_prefetch s = lines_of_shared s * worst_access s.costs
+worst_prefetch s = lines_of_shared s * worst_access s.costs 0
 
 unfoldable pub worst_flush : MachineShape → ℕ
 worst_flush s = s.costs.flush + s.costs.wb * most_dirty s
@@ -95,3 +102,6 @@ pub record IsShape (s : MachineShape) : Type 0 where
   pub few_sets : s.sets ≤ 1024
   pub some_ways : 1 ≤ s.ways
   pub few_ways : s.ways ≤ 16
+  pub few_written : s.written ≤ 256
+  pub few_again : s.again ≤ most_again
+  pub few_product : s.product ≤ most_product

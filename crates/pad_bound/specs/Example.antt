@@ -1,6 +1,6 @@
--- A worked bound, computed from the definitions.
-use Rattle.std.specs.Prelude.{◌≡◌, refl}
-use Rattle.pad_bound.specs.Bound.{MachineShape, worst_instruction, worst_operation, worst_leave, worst_prefetch, worst_flush, worst_enter, bound_of}
+-- Worked bounds, computed from the definitions.
+use Rattle.std.specs.Prelude.{◌≡◌, ◌+◌, refl}
+use Rattle.pad_bound.specs.Bound.{MachineShape, most_written, worst_instruction, worst_operation, worst_leave, worst_prefetch, worst_flush, worst_enter, bound_of}
 
 -- 8 shared lines, 64 lines in a frame, 32 lines in the cache
 abbrev pub small : MachineShape
@@ -10,6 +10,9 @@ small = record {
   shared = 512;
   sets = 16;
   ways = 2;
+  written = most_written 64;
+  again = 0;
+  product = 0;
 }
 
 pub instruction : worst_instruction small ≡ 306
@@ -39,3 +42,23 @@ enter = refl
 pub total : bound_of small ≡ 6150
 unfolding bound_of worst_instruction worst_operation worst_leave worst_prefetch worst_flush worst_enter
 total = refl
+
+-- where a second-level miss writes back again, and a division may take 2 cycles a digit and one more
+abbrev pub larger : MachineShape
+larger = record { costs = small.costs; line = 64; shared = 512; sets = 16; ways = 2; written = 64; again = 10; product = 66 }
+
+pub larger_instruction : worst_instruction larger ≡ 366 + 66
+unfolding worst_instruction
+larger_instruction = refl
+
+pub larger_operation : worst_operation larger ≡ 5007
+unfolding worst_operation
+larger_operation = refl
+
+pub larger_leave : worst_leave larger ≡ 453
+unfolding worst_leave
+larger_leave = refl
+
+pub larger_total : bound_of larger ≡ 7080 + 66
+unfolding bound_of worst_instruction worst_operation worst_leave worst_prefetch worst_flush worst_enter
+larger_total = refl

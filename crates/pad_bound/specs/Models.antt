@@ -4,4 +4,13 @@ use Rattle.pad_bound.specs.Bound.{MachineShape}
 use Rattle.pad_bound.specs.declared.shape.Shape.{Shape}
 
 abbrev pub shape_model : Shape → MachineShape
-shape_model s = record { costs = costs_of s.costs; line = s.line; shared = s.shared; sets = s.sets; ways = s.ways }
+shape_model s = record {
+  costs = costs_of s.costs;
+  line = s.line;
+  shared = s.shared;
+  sets = s.sets;
+  ways = s.ways;
+  written = s.written;
+  again = s.again;
+  product = s.product;
+}

@@ -1,21 +1,23 @@
 -- What the parts are the worst of: footprints whose every line costs the most.
-use Rattle.std.specs.Prelude.{◌≡◌, ℕ, ◌≤◌, ◌⊎◌, false, List, [], length, map, Some, None}
+use Rattle.std.specs.Prelude.{◌≡◌, ℕ, ◌+◌, ◌≤◌, ◌⊎◌, false, List, [], length, map, Some, None}
 use Rattle.std.specs.List.{range_with_len, sum_by}
 use Rattle.cycle_cost.specs.Costs.{CostTable}
 use Rattle.kernel_clone.specs.Footprints.{Layout, WorkDone, LineTouch, is_of_switch, touch_of, shared_line, shared_lines}
+use Rattle.kernel_clone.specs.Laws.{zeroed_count}
 use Rattle.kernel_clone.specs.declared.Kind.{Kind}
 use Rattle.kernel_clone.specs.declared.Kind.TheVariants.{Fetch, Load, Store}
 use Rattle.pad_bound.specs.Bound.{MachineShape, worst_fetch, worst_access, most_entries}
 
 -- ---- the most that touches cost
 
-abbrev pub worst : CostTable → Kind → ℕ
-worst c Fetch = worst_fetch c
-worst c Load = worst_access c
-worst c Store = worst_access c
+-- where a miss of the second level costs so much again
+abbrev pub worst : CostTable → ℕ → Kind → ℕ
+worst c again Fetch = worst_fetch c again
+worst c again Load = worst_access c again
+worst c again Store = worst_access c again
 
-unfoldable pub worst_of : CostTable → List LineTouch → ℕ
-worst_of c touches = sum_by (λ t. worst c t.kind) touches
+unfoldable pub worst_of : CostTable → ℕ → List LineTouch → ℕ
+worst_of c again touches = sum_by (λ t. worst c again t.kind) touches
 
 -- ---- whose touches
 
@@ -29,6 +31,10 @@ pub record IsCallWork (w : WorkDone) : Type 0 where
   pub call : is_of_switch w.op ≡ false
   pub few : length w.entries ≤ most_entries
   pub not_both : (w.zeroed ≡ None) ⊎ (w.entries ≡ [])
+
+-- the lines that it wrote
+abbrev pub lines_written : Layout → WorkDone → ℕ
+lines_written l w = zeroed_count l w.zeroed + length w.entries
 
 abbrev pub alloc_op : ℕ
 alloc_op = 2
@@ -60,3 +66,14 @@ pub record AreNoDearer (c d : CostTable) : Type 0 where
   pub mispredict : c.mispredict ≤ d.mispredict
   pub trap : c.trap ≤ d.trap
   pub flush : c.flush ≤ d.flush
+
+-- the second is the same machine as the first, or a larger one
+pub record IsNoSmaller (s t : MachineShape) : Type 0 where
+  pub costs : AreNoDearer s.costs t.costs
+  pub line : s.line ≡ t.line
+  pub shared : s.shared ≡ t.shared
+  pub sets : s.sets ≡ t.sets
+  pub ways : s.ways ≡ t.ways
+  pub written : s.written ≤ t.written
+  pub again : s.again ≤ t.again
+  pub product : s.product ≤ t.product

@@ -1,39 +1,49 @@
 //! Laws of the bound: what each of its parts is the worst of.
-ghost use Rattle.std.specs.Prelude.{◌≡◌, ℕ, ◌+◌, ◌*◌, ◌<◌, ◌≤◌, List, length};
-ghost use Rattle.kernel_clone.specs.Footprints.{Layout, WorkDone, touches, leave_op, enter_op};
+ghost use Rattle.std.specs.Prelude.{◌≡◌, ℕ, ◌+◌, ◌*◌, ◌<◌, ◌≤◌, false, List, length};
+ghost use Rattle.kernel_clone.specs.Footprints.{Layout, WorkDone, touches, is_of_switch, leave_op, enter_op};
 ghost use Rattle.kernel_clone.specs.Laws.{IsPlain};
-ghost use Rattle.pad_bound.specs.Bound.{MachineShape, IsShape, lines_in_frame, most_entries, most_dirty};
+ghost use Rattle.pad_bound.specs.Bound.{MachineShape, IsShape, lines_in_frame, most_entries, most_written, most_dirty};
 ghost use Rattle.pad_bound.specs.Bound.{worst_instruction, worst_operation, worst_leave, worst_enter};
 ghost use Rattle.pad_bound.specs.Bound.{worst_prefetch, worst_flush, bound_of};
-ghost use Rattle.pad_bound.specs.Worst.{worst_of, IsCloneOf, IsCallWork, AreNoDearer, prefetch_touches};
+ghost use Rattle.pad_bound.specs.Worst.{worst_of, lines_written, IsCloneOf, IsCallWork, IsNoSmaller, prefetch_touches};
 ghost use Rattle.pad_bound.specs.Worst.{alloc_work, revoke_work};
 
 /// Each call's and delivery's trap, and what it touches at its worst, is within
-/// the operation; an ALLOC reaches it where a frame has 63 lines or more, and
-/// else a REVOKE of 63 entries. A leave and an enter touch just what theirs sum.
+/// the operation where it writes no more lines than that counts, and reaches it
+/// where it writes as many. A leave and an enter touch just what theirs sum.
 pub fn kernel_touches()
-    ensures operation { (s : MachineShape) (l : Layout) (w : WorkDone) → IsCloneOf s l → IsCallWork w
-        → s.costs.trap + worst_of s.costs (touches l w) ≤ worst_operation s }
-    ensures alloc { (s : MachineShape) (l : Layout) (frame : ℕ) → IsCloneOf s l
-        → most_entries ≤ lines_in_frame s.line
-        → s.costs.trap + worst_of s.costs (touches l (alloc_work frame)) ≡ worst_operation s }
-    ensures revoke { (s : MachineShape) (l : Layout) (entries : List ℕ) → IsCloneOf s l
-        → lines_in_frame s.line ≤ most_entries → length entries ≡ most_entries
-        → s.costs.trap + worst_of s.costs (touches l (revoke_work entries)) ≡ worst_operation s }
-    // the works that reach it are such work
+    ensures operation { (s : MachineShape) (l : Layout) (w : WorkDone) → is_of_switch w.op ≡ false
+        → lines_written l w ≤ s.written
+        → s.costs.trap + worst_of s.costs s.again (touches l w) ≤ worst_operation s }
+    ensures reached { (s : MachineShape) (l : Layout) (w : WorkDone) → is_of_switch w.op ≡ false
+        → lines_written l w ≡ s.written
+        → s.costs.trap + worst_of s.costs s.again (touches l w) ≡ worst_operation s }
+    ensures leave { (s : MachineShape) (l : Layout) (w : WorkDone) → IsPlain w
+        → w.op ≡ leave_op
+        → s.costs.trap + worst_of s.costs s.again (touches l w) ≡ worst_leave s }
+    ensures enter { (s : MachineShape) (l : Layout) (w : WorkDone) → IsPlain w
+        → w.op ≡ enter_op → worst_of s.costs s.again (touches l w) ≡ worst_enter s }
+{}
+
+/// No call writes more lines than the most; an ALLOC writes as many where a
+/// frame has 63 lines or more, and else a REVOKE of 63 entries.
+pub fn calls_write()
+    ensures most { (l : Layout) (w : WorkDone) → IsCallWork w → lines_written l w ≤ most_written l.line }
+    ensures alloc { (l : Layout) (frame : ℕ) → most_entries ≤ lines_in_frame l.line
+        → lines_written l (alloc_work frame) ≡ most_written l.line }
+    ensures revoke { (l : Layout) (entries : List ℕ) → lines_in_frame l.line ≤ most_entries
+        → length entries ≡ most_entries
+        → lines_written l (revoke_work entries) ≡ most_written l.line }
+    // the works that write as many are such work
     ensures alloc_is_call { (frame : ℕ) → IsCallWork (alloc_work frame) }
     ensures revoke_is_call { (entries : List ℕ) → length entries ≡ most_entries
         → IsCallWork (revoke_work entries) }
-    ensures leave { (s : MachineShape) (l : Layout) (w : WorkDone) → IsPlain w
-        → w.op ≡ leave_op → s.costs.trap + worst_of s.costs (touches l w) ≡ worst_leave s }
-    ensures enter { (s : MachineShape) (l : Layout) (w : WorkDone) → IsPlain w
-        → w.op ≡ enter_op → worst_of s.costs (touches l w) ≡ worst_enter s }
 {}
 
 /// The prefetch is a load of each shared line, each at its worst.
 pub fn prefetches()
     ensures prefetch { (s : MachineShape) (l : Layout) → IsCloneOf s l
-        → worst_of s.costs (prefetch_touches l) ≡ worst_prefetch s }
+        → worst_of s.costs 0 (prefetch_touches l) ≡ worst_prefetch s }
 {}
 
 /// A flush that writes back any number of lines that the cache can hold is
@@ -57,8 +67,8 @@ pub fn late_steps()
         + worst_flush s + worst_enter s ≡ start + 1 + bound_of s }
 {}
 
-/// No cost that grows makes the bound smaller.
-pub fn grows_with_costs()
-    ensures bound { (s t : MachineShape) → AreNoDearer s.costs t.costs → s.line ≡ t.line
-        → s.shared ≡ t.shared → s.sets ≡ t.sets → s.ways ≡ t.ways → bound_of s ≤ bound_of t }
+/// No cost that grows makes the bound smaller, nor does what an operation may
+/// write more, a miss may cost again, or a product may add.
+pub fn grows_with_machines()
+    ensures bound { (s t : MachineShape) → IsNoSmaller s t → bound_of s ≤ bound_of t }
 {}

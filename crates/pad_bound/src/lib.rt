@@ -10,8 +10,8 @@ ghost use Rattle.pad_bound.specs.Models.{shape_model};
 mod laws;
 mod shape;
 
-pub use laws::{flushes, grows_with_costs, kernel_touches, late_steps, prefetches};
-pub use shape::{Bound, Shape};
+pub use laws::{calls_write, flushes, grows_with_machines, kernel_touches, late_steps, prefetches};
+pub use shape::{Bound, Shape, most_written};
 
 /// The most cycles that a switch uses past a slot's end, with its parts, in cycles.
 #[tactic(auto, unfolding(crate::specs::Bound::bound_of))]

@@ -2,8 +2,9 @@
 ghost use Rattle.std.specs.Prelude.{◌≡◌, ◌≤◌};
 ghost use Rattle.pad_bound.specs.Bound.{IsShape, worst_fetch, worst_access, worst_read, worst_look};
 ghost use Rattle.pad_bound.specs.Bound.{worst_instruction, worst_operation, worst_leave, worst_enter};
-ghost use Rattle.pad_bound.specs.Bound.{worst_prefetch, worst_flush, most_written, most_dirty};
+ghost use Rattle.pad_bound.specs.Bound.{worst_prefetch, worst_flush, most_written as spec_most_written, most_dirty};
 ghost use Rattle.pad_bound.specs.Models.{shape_model};
+ghost use Rattle.cycle_cost.specs.Ranges.{most_again, most_read, most_fetch, most_access, most_look, most_prefetch};
 
 use cycle_cost::Costs;
 
@@ -12,6 +13,16 @@ const FRAME: u32 = 4096;
 
 /// The most page table entries that one call writes: a REVOKE.
 const MOST_ENTRIES: u32 = 63;
+
+/// The most lines of so many bytes, 16 to 128, that a call writes: those of a
+/// frame that it zeroes, or the entries that it writes.
+pub fn most_written(line: u32) -> u32
+    requires line { 16 ≤ line }
+    ensures value { result ≡ spec_most_written line }
+    ensures few { result ≤ 256 }
+{
+    (FRAME / line).max(MOST_ENTRIES)
+}
 
 /// What of a machine the bound depends on.
 #[derive(Clone, Copy)]
@@ -25,6 +36,12 @@ pub struct Shape {
     pub sets: u32,
     /// Its ways, 1 to 16.
     pub ways: u32,
+    /// The most lines that an operation writes, up to 256.
+    pub written: u32,
+    /// What a miss of the second level costs again where it writes a line back, up to 1,000 cycles.
+    pub again: u32,
+    /// The most that a product or a division adds to an instruction, up to 33,000 cycles.
+    pub product: u32,
 }
 
 /// The most cycles of each part of a switch, and of what may run into it.
@@ -47,45 +64,40 @@ pub struct Bound {
 }
 
 impl Shape {
-    /// A fetch that both levels miss.
-    fn fetch(&self) -> u64
-        ensures value { result ≡ worst_fetch (shape_model self.now).costs }
-        ensures few { result ≤ 3000 }
+    /// A fetch that both levels miss, where the second costs so much again.
+    fn fetch(&self, again: u32) -> u64
+        requires again { again ≤ most_again }
+        ensures value { result ≡ worst_fetch (shape_model self.now).costs again }
+        ensures few { result ≤ most_fetch }
     {
-        u64::from(self.costs.l1) + self.read()
+        u64::from(self.costs.l1) + self.read(again)
     }
 
     /// A load or store that both levels miss, and whose victim is dirty.
-    fn access(&self) -> u64
-        ensures value { result ≡ worst_access (shape_model self.now).costs }
-        ensures few { result ≤ 4000 }
+    fn access(&self, again: u32) -> u64
+        requires again { again ≤ most_again }
+        ensures value { result ≡ worst_access (shape_model self.now).costs again }
+        ensures few { result ≤ most_access }
     {
-        self.fetch() + u64::from(self.costs.wb)
+        self.fetch(again) + u64::from(self.costs.wb)
     }
 
     /// A walk's read of an entry, which the second level misses.
-    fn read(&self) -> u64
-        ensures value { result ≡ worst_read (shape_model self.now).costs }
-        ensures few { result ≤ 2000 }
+    fn read(&self, again: u32) -> u64
+        requires again { again ≤ most_again }
+        ensures value { result ≡ worst_read (shape_model self.now).costs again }
+        ensures few { result ≤ most_read }
     {
-        u64::from(self.costs.l2) + u64::from(self.costs.mem)
+        u64::from(self.costs.l2) + u64::from(self.costs.mem) + u64::from(again)
     }
 
     /// A look-up in the translation buffer that misses.
-    fn look(&self) -> u64
-        ensures value { result ≡ worst_look (shape_model self.now).costs }
-        ensures few { result ≤ 5000 }
+    fn look(&self, again: u32) -> u64
+        requires again { again ≤ most_again }
+        ensures value { result ≡ worst_look (shape_model self.now).costs again }
+        ensures few { result ≤ most_look }
     {
-        u64::from(self.costs.tlb) + 2 * self.read()
-    }
-
-    /// The lines that one call zeroes, or the entries that it writes.
-    fn written(&self) -> u64
-        requires shape { IsShape (shape_model self.now) }
-        ensures value { result ≡ most_written (shape_model self.now) }
-        ensures few { result ≤ 256 }
-    {
-        u64::from((FRAME / self.line).max(MOST_ENTRIES))
+        u64::from(self.costs.tlb) + 2 * self.read(again)
     }
 
     /// The lines that the first-level data cache holds.
@@ -97,15 +109,19 @@ impl Shape {
         u64::from(self.sets) * u64::from(self.ways)
     }
 
-    /// An instruction whose two pages and two lines are held nowhere, and a wrong guess.
+    /// An instruction whose two pages and two lines are held nowhere, a wrong
+    /// guess and a product.
     #[tactic(auto, unfolding(crate::specs::Bound::worst_instruction))]
     pub(crate) fn instruction(&self) -> u64
+        requires shape { IsShape (shape_model self.now) }
         ensures value { result ≡ worst_instruction (shape_model self.now) }
         ensures some { 1 ≤ result }
-        ensures few { result ≤ 19000 }
+        ensures few { result ≤ 58000 }
     {
-        let touched = 2 * self.look() + self.fetch() + self.access();
-        u64::from(self.costs.base) + touched + u64::from(self.costs.mispredict)
+        let again = self.again;
+        let touched = 2 * self.look(again) + self.fetch(again) + self.access(again);
+        let computed = u64::from(self.costs.mispredict) + u64::from(self.product);
+        u64::from(self.costs.base) + touched + computed
     }
 
     /// A call that writes as much as any can.
@@ -113,17 +129,19 @@ impl Shape {
     pub(crate) fn operation(&self) -> u64
         requires shape { IsShape (shape_model self.now) }
         ensures value { result ≡ worst_operation (shape_model self.now) }
-        ensures few { result ≤ 1057000 }
+        ensures few { result ≤ 1322000 }
     {
-        let own = 4 * self.fetch() + 5 * self.access();
-        u64::from(self.costs.trap) + own + self.written() * self.access()
+        let access = self.access(self.again);
+        let own = 4 * self.fetch(self.again) + 5 * access;
+        u64::from(self.costs.trap) + own + u64::from(self.written) * access
     }
 
     /// The domain leaves.
     #[tactic(auto, unfolding(crate::specs::Bound::worst_leave, crate::specs::Bound::worst_enter))]
     pub(crate) fn leave(&self) -> u64
+        requires shape { IsShape (shape_model self.now) }
         ensures value { result ≡ worst_leave (shape_model self.now) }
-        ensures few { result ≤ 25000 }
+        ensures few { result ≤ 32000 }
     {
         u64::from(self.costs.trap) + self.enter()
     }
@@ -131,20 +149,21 @@ impl Shape {
     /// The next domain enters, with no trap.
     #[tactic(auto, unfolding(crate::specs::Bound::worst_enter))]
     pub(crate) fn enter(&self) -> u64
+        requires shape { IsShape (shape_model self.now) }
         ensures value { result ≡ worst_enter (shape_model self.now) }
-        ensures few { result ≤ 24000 }
+        ensures few { result ≤ 31000 }
     {
-        4 * self.fetch() + 3 * self.access()
+        4 * self.fetch(self.again) + 3 * self.access(self.again)
     }
 
-    /// Each shared line is loaded.
+    /// Each shared line is loaded, and none makes the second level write back.
     #[tactic(auto, unfolding(crate::specs::Bound::worst_prefetch))]
     pub(crate) fn prefetch(&self) -> u64
         requires shape { IsShape (shape_model self.now) }
         ensures value { result ≡ worst_prefetch (shape_model self.now) }
-        ensures few { result ≤ 16384000 }
+        ensures few { result ≤ most_prefetch }
     {
-        u64::from(self.shared / self.line) * self.access()
+        u64::from(self.shared / self.line) * self.access(0)
     }
 
     /// All of the first-level data cache is written back.

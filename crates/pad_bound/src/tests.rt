@@ -1,5 +1,5 @@
 // The bounds of two machines, worked out by hand.
-use super::{Bound, Shape, bound};
+use super::{Bound, Shape, bound, most_written};
 use cycle_cost::Costs;
 
 #[test]
@@ -22,6 +22,9 @@ fn bounds_are_as_worked_out(rt: HostRuntime) {
         shared: 512,
         sets: 16,
         ways: 2,
+        written: most_written(64),
+        again: 0,
+        product: 0,
     };
     let of_small = Bound {
         instruction: 306,
@@ -37,6 +40,7 @@ fn bounds_are_as_worked_out(rt: HostRuntime) {
     let fine = Shape {
         line: 16,
         shared: 65536,
+        written: most_written(16),
         ..small
     };
     let of_fine = Bound {
@@ -46,4 +50,19 @@ fn bounds_are_as_worked_out(rt: HostRuntime) {
         ..of_small
     };
     assert_eq!(rt; bound(&fine), of_fine);
+    // A miss of the second level costs 10 more, and a product up to 132 cycles.
+    let larger = Shape {
+        again: 10,
+        product: 132,
+        ..small
+    };
+    let of_larger = Bound {
+        instruction: 498,
+        operation: 5007,
+        leave: 453,
+        enter: 443,
+        total: 7212,
+        ..of_small
+    };
+    assert_eq!(rt; bound(&larger), of_larger);
 }

@@ -1,8 +1,8 @@
--- What holds of the starts of slots.
+-- What holds of the starts of slots, and of the entries of a hart.
 use Rattle.std.specs.Prelude.{◌≡◌, ℕ, ◌+◌, ◌*◌, ◌≤◌, List, length, take}
-use Rattle.std.specs.List.{sum_by}
+use Rattle.std.specs.List.{All, sum_by, enumerate_from}
 use Rattle.sched_table.specs.declared.schedule.Entry.{Entry}
-use Rattle.sched_table.specs.Schedule.{IsSchedule, pad_of, start, last_end}
+use Rattle.sched_table.specs.Schedule.{IsSchedule, pad_of, start, last_end, entries_on}
 
 -- a slot and the pad after it
 abbrev pub cycles_of : Entry → ℕ
@@ -31,3 +31,11 @@ PadLaw = (es : List Entry) (k : ℕ) → start es k ≡ last_end es k + pad_of e
 -- a slot begins after at most so many slots and pads of the greatest length
 abbrev pub SoonLaw : Type 0
 SoonLaw = (es : List Entry) (k : ℕ) → IsSchedule es → start es k ≤ 2000000 * k + 1000000
+
+-- what a hart has is on it
+abbrev pub HartLaw : Type 0
+HartLaw = (es : List Entry) (h : ℕ) → All (λ placed. placed.1.hart ≡ h) (entries_on es h)
+
+-- where all entries are on hart 0, it has each of them
+abbrev pub OneHartLaw : Type 0
+OneHartLaw = (es : List Entry) → All (λ e. e.hart ≡ 0) es → entries_on es 0 ≡ enumerate_from 0 es

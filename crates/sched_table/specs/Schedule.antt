@@ -1,9 +1,10 @@
 -- When slots begin and end. Entries are taken cyclically; switch k leads into slot k, and belongs to the entry of the slot that ended.
-use Rattle.std.specs.Prelude.{ℕ, zero, suc, ◌+◌, ◌-◌, ◌%◌, ◌<◌, ◌≤◌, List, length, slice_index_or, Option, Some, None}
+use Rattle.std.specs.Prelude.{ℕ, zero, suc, ◌+◌, ◌-◌, ◌%◌, ◌<◌, ◌≤◌, ◌==◌, List, length, slice_index_or, Option, Some, None}
+use Rattle.std.specs.List.{filter, enumerate_from}
 use Rattle.sched_table.specs.declared.schedule.Entry.{Entry}
 
 abbrev pub no_entry : Entry
-no_entry = record { domain = 0; length = 0; pad = 0 }
+no_entry = record { domain = 0; length = 0; pad = 0; hart = 0 }
 
 abbrev pub entry_in : List Entry → ℕ → Entry
 entry_in es e = slice_index_or es e no_entry
@@ -11,6 +12,10 @@ entry_in es e = slice_index_or es e no_entry
 -- the entry of slot k
 abbrev pub entry_of_slot : List Entry → ℕ → Entry
 entry_of_slot es k = entry_in es (k % length es)
+
+-- the entries of a hart in their order, each after its place among all
+unfoldable pub entries_on : List Entry → ℕ → List (ℕ × Entry)
+entries_on es h = filter (λ placed. placed.1.hart == h) (enumerate_from 0 es)
 
 -- the place of the entry to which switch k belongs: the boot's is the last
 abbrev pub switch_entry : List Entry → ℕ → ℕ

@@ -1,5 +1,5 @@
-//! Laws of the starts of slots.
-ghost use Rattle.sched_table.specs.Laws.{RoundLaw, OrderLaw, PadLaw, SoonLaw};
+//! Laws of the starts of slots, and of the entries of a hart.
+ghost use Rattle.sched_table.specs.Laws.{RoundLaw, OrderLaw, PadLaw, SoonLaw, HartLaw, OneHartLaw};
 
 /// Slots begin in their order, round after round: as many slots later as there
 /// are entries, one whole round later; each its pad after the one before ended.
@@ -8,4 +8,10 @@ pub fn starts()
     ensures order { OrderLaw }
     ensures pad { PadLaw }
     ensures soon { SoonLaw }
+{}
+
+/// The entries of a hart are on it; where all are on hart 0, these are all.
+pub fn harts()
+    ensures own { HartLaw }
+    ensures one { OneHartLaw }
 {}

@@ -15,6 +15,8 @@ pub struct Entry {
     pub length: u32,
     /// In cycles.
     pub pad: u32,
+    /// The hart on which it runs: 0.
+    pub hart: u8,
 }
 
 /// 1 to 64 entries, whose slots follow one another cyclically. It stands for

@@ -19,7 +19,7 @@ use Rattle.sv32_walk.specs.PageTableEntry.{ppn}
 use Rattle.sv32_walk.specs.Walk.{walk, from_table, from_entry, first_level}
 use Rattle.kernel_clone.specs.Footprints.{touches, delivery_op}
 use Rattle.pad_bound.specs.Bound.{worst_look, worst_read, worst_fetch, worst_access, worst_instruction, worst_operation}
-use Rattle.pad_bound.proofs.Parts.{operation_covers}
+use Rattle.pad_bound.proofs.Parts.{operation_covers, few_written}
 use Rattle.mem_system.specs.Cost.{Touch, Fetch, Load, Store as StoreTouch, Branch, EmptyTlb}
 use Rattle.mem_system.specs.Translation.{lines_of, look_of}
 use Rattle.cache_sharing.specs.Operations.{footprint, operation, plain}
@@ -98,35 +98,35 @@ module _ (p : Hardware) where
   touch_costs t = record { within = λ s. omega arith }
 
   -- a look-up makes two reads at most
-  translate_costs : (root : ℕ) (d : Dom) (a : Access) (va : ℕ) → Costs (worst_look p.costs) (translate p root d a va)
+  translate_costs : (root : ℕ) (d : Dom) (a : Access) (va : ℕ) → Costs (worst_look p.costs 0) (translate p root d a va)
   unfolding translate look_of lines_of worst worst_touches hierarchy
   translate_costs root d a va = record {
     within = λ s.
         let reads = (walk s.mem p.frames root va a).reads in
-        let many : length (lines_of p.line reads) * worst_read p.costs ≤ 2 * worst_read p.costs =
-        mul-le-mul_right (worst_read p.costs) (subst (λ (n : ℕ). n ≤ 2) (sym (length-map reads (λ at. at / p.line))) (few_reads s.mem p.frames root va a)) in
+        let many : length (lines_of p.line reads) * worst_read p.costs 0 ≤ 2 * worst_read p.costs 0 =
+        mul-le-mul_right (worst_read p.costs 0) (subst (λ (n : ℕ). n ≤ 2) (sym (length-map reads (λ at. at / p.line))) (few_reads s.mem p.frames root va a)) in
         omega (arith, many);
   }
 
   -- ---- loads and stores
 
   access_worst : ℕ
-  access_worst = worst_look p.costs + worst_access p.costs
+  access_worst = worst_look p.costs 0 + worst_access p.costs 0
 
   load_costs : (root : ℕ) (d : Dom) (width : LoadWidth) (va : ℕ) → Costs access_worst (load p root d width va)
   unfolding load access_worst hierarchy
   load_costs root d width va =
       more _ access_worst _ (omega arith)
-      (bind_costs (worst_look p.costs) (worst_access p.costs + (0 + 0)) _ _ (translate_costs root d _ va) (λ f.
-      then_costs (worst_access p.costs) (0 + 0) _ _ (touch_costs (Load (line_in p f va))) (bind_costs 0 0 _ _ (read_costs f _) (λ w. give_costs _))))
+      (bind_costs (worst_look p.costs 0) (worst_access p.costs 0 + (0 + 0)) _ _ (translate_costs root d _ va) (λ f.
+      then_costs (worst_access p.costs 0) (0 + 0) _ _ (touch_costs (Load (line_in p f va))) (bind_costs 0 0 _ _ (read_costs f _) (λ w. give_costs _))))
 
   store_costs : (root : ℕ) (d : Dom) (made : Option StoreMade) → Costs access_worst (store p root d made)
   unfolding store access_worst hierarchy
   store_costs root d None = more 0 access_worst _ (omega arith) (give_costs tt)
   store_costs root d (Some made) =
       more _ access_worst _ (omega arith)
-      (bind_costs (worst_look p.costs) (worst_access p.costs + (0 + 0)) _ _ (translate_costs root d _ made.at) (λ f.
-      then_costs (worst_access p.costs) (0 + 0) _ _ (touch_costs (StoreTouch (line_in p f made.at))) (bind_costs 0 0 _ _ (read_costs f _) (λ w. write_costs f _ _))))
+      (bind_costs (worst_look p.costs 0) (worst_access p.costs 0 + (0 + 0)) _ _ (translate_costs root d _ made.at) (λ f.
+      then_costs (worst_access p.costs 0) (0 + 0) _ _ (touch_costs (StoreTouch (line_in p f made.at))) (bind_costs 0 0 _ _ (read_costs f _) (λ w. write_costs f _ _))))
 
   no_store_costs : (root : ℕ) (d : Dom) (made : Option StoreMade) → made ≡ None → Costs 0 (store p root d made)
   unfolding store
@@ -209,7 +209,8 @@ module _ (p : Hardware) (o : Own) where
         let e = estate p o in
         let l = layout p o in
         let w = work_of (register d.threads.current.regs 17) (call e d s.mem).notes in
-        let covers = operation_covers (shape_of p) l w (record { line = refl; shared = refl }) (calls_bounded e d s.mem) in
+        let bounded = calls_bounded e d s.mem in
+        let covers = operation_covers (shape_of p) l w bounded.call (few_written l w bounded) in
         let lines = worst_lines (hierarchy p) (touches l w) in
         let both = worst-append (hierarchy p) (operation p.costs l w) (if empties (call e d s.mem).notes then EmptyTlb ∷ [] else []) in
         let none = emptied_costs (empties (call e d s.mem).notes) in
@@ -230,11 +231,11 @@ module _ (p : Hardware) (o : Own) where
   perform_costs t d w (Some instr.Ecall) = more p (worst_operation (shape_of p)) perform_worst _ (omega arith) (call_costs d)
   perform_costs t d w (Some i) = executes t d i
 
-  instruction_costs : (t : ℕ) (d : Dom) → Costs p (worst_look p.costs + (worst_fetch p.costs + (0 + perform_worst))) (instruction p (estate p o) (layout p o) t d)
+  instruction_costs : (t : ℕ) (d : Dom) → Costs p (worst_look p.costs 0 + (worst_fetch p.costs 0 + (0 + perform_worst))) (instruction p (estate p o) (layout p o) t d)
   unfolding instruction hierarchy
   instruction_costs t d =
-      bind_costs p (worst_look p.costs) _ _ _ (translate_costs p _ d _ _) (λ f.
-      then_costs p (worst_fetch p.costs) _ _ _ (touch_costs p (Fetch (line_in p f d.threads.current.pc)))
+      bind_costs p (worst_look p.costs 0) _ _ _ (translate_costs p _ d _ _) (λ f.
+      then_costs p (worst_fetch p.costs 0) _ _ _ (touch_costs p (Fetch (line_in p f d.threads.current.pc)))
       (bind_costs p 0 perform_worst _ _ (read_costs p f _) (λ w. perform_costs t d w _)))
 
   -- ---- an instruction that makes no call
@@ -261,23 +262,23 @@ module _ (p : Hardware) (o : Own) where
   rest_of t d f = touch (Fetch (line_in p f d.threads.current.pc)) >> (read f (place d.threads.current.pc) >>= (λ w. perform p (estate p o) (layout p o) t d w (decode_of w)))
 
   rest_costs : (t f : ℕ) (d : Dom) (s : Storage) → decode_of (word s.mem f (place d.threads.current.pc)) ≢ Some instr.Ecall
-      → worst p (rest_of t d f s).notes ≤ worst_fetch p.costs + (0 + plain_worst)
+      → worst p (rest_of t d f s).notes ≤ worst_fetch p.costs 0 + (0 + plain_worst)
   unfolding ◌>>=◌ ◌>>◌ touch note read hierarchy
   rest_costs t f d s plain =
       let line = line_in p f d.threads.current.pc in
       let w = word s.mem f (place d.threads.current.pc) in
-      value_costs (worst_fetch p.costs) (0 + plain_worst) (touch (Fetch line) s) (λ _. read f (place d.threads.current.pc) >>= (λ x. perform p (estate p o) (layout p o) t d x (decode_of x))) tt
+      value_costs (worst_fetch p.costs 0) (0 + plain_worst) (touch (Fetch line) s) (λ _. read f (place d.threads.current.pc) >>= (λ x. perform p (estate p o) (layout p o) t d x (decode_of x))) tt
       ((touch_costs p (Fetch line)).within s)
       (value_costs 0 plain_worst (read f (place d.threads.current.pc) s) (λ x. perform p (estate p o) (layout p o) t d x (decode_of x)) w
       ((read_costs p f (place d.threads.current.pc)).within s) ((plain_costs t d w (decode_of w) plain).within s))
 
   plain_by : (t : ℕ) (d : Dom) (s : Storage) (r : Result ℕ WalkFault) → instruction_at s.mem d.threads.current.pc r ≢ Some instr.Ecall
       → worst p (go_on (translate p (estate p o).root d access.Fetch d.threads.current.pc s) (rest_of t d) (frame_or_stop d access.Fetch d.threads.current.pc r)).notes
-      ≤ worst_look p.costs + (worst_fetch p.costs + (0 + plain_worst))
+      ≤ worst_look p.costs 0 + (worst_fetch p.costs 0 + (0 + plain_worst))
   unfolding frame_or_stop go_on translate
   plain_by t d s (Err f) plain = let looks = (translate_costs p (estate p o).root d access.Fetch d.threads.current.pc).within s in omega (arith, looks)
   plain_by t d s (Ok leaf) plain =
-      value_costs (worst_look p.costs) (worst_fetch p.costs + (0 + plain_worst)) (translate p (estate p o).root d access.Fetch d.threads.current.pc s) (rest_of t d) (ppn leaf)
+      value_costs (worst_look p.costs 0) (worst_fetch p.costs 0 + (0 + plain_worst)) (translate p (estate p o).root d access.Fetch d.threads.current.pc s) (rest_of t d) (ppn leaf)
       ((translate_costs p (estate p o).root d access.Fetch d.threads.current.pc).within s) (rest_costs t (ppn leaf) d s plain)
 
   -- with its base, it is within the bound's instruction
@@ -302,6 +303,6 @@ module _ (p : Hardware) (o : Own) where
   delivery_within =
       let l = layout p o in
       let w = plain delivery_op in
-      let covers = operation_covers (shape_of p) l w (record { line = refl; shared = refl }) (record { call = refl; few = omega arith; not_both = inl refl }) in
+      let covers = operation_covers (shape_of p) l w refl (few_written l w (record { call = refl; few = omega arith; not_both = inl refl })) in
       let lines = worst_lines (hierarchy p) (touches l w) in
       omega (arith, covers, lines)

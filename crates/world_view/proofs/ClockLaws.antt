@@ -2,6 +2,8 @@
 use Rattle.std.proofs.Common.{ℕ, zero, suc, false, ◌+◌, ◌*◌, ◌/◌, ◌^◌, ◌<◌, ◌≤◌, arith, mul-le-mul_right}
 use Rattle.std.proofs.lemmas.Nat.{mul-le}
 use Rattle.pad_bound.specs.Bound.{worst_access, lines_of_shared, most_written, most_dirty, worst_instruction, worst_operation, worst_leave, worst_prefetch, worst_flush, worst_enter, bound_of}
+use Rattle.pad_bound.proofs.Parts.{few_most}
+use Rattle.cycle_cost.specs.Ranges.{most_access}
 use Rattle.hardware_check.specs.Hardware.{Hardware, IsHardware}
 use Rattle.image_check.specs.Image.{Image, own_of}
 use Rattle.sched_table.specs.Schedule.{entry_of_slot, start, slot_end, last_end}
@@ -19,7 +21,7 @@ use Rattle.world_view.proofs.TimeLaws.{steps_soon, switch_ways, used_in_bound, i
 -- ---- the bound is small
 
 module _ (p : Hardware) (h : IsHardware p) where
-  access_small : worst_access p.costs ≤ 4000
+  access_small : worst_access p.costs 0 ≤ most_access
   access_small =
       let l1 = h.costs.l1.few in
       let l2 = h.costs.l2.few in
@@ -27,15 +29,11 @@ module _ (p : Hardware) (h : IsHardware p) where
       let wb = h.costs.wb.few in
       omega (arith, l1, l2, mem, wb)
 
-  times_access : (n most : ℕ) → n ≤ most → n * worst_access p.costs ≤ most * 4000
-  times_access n most few = mul-le n (worst_access p.costs) most 4000 few access_small
+  times_access : (n most : ℕ) → n ≤ most → n * worst_access p.costs 0 ≤ most * most_access
+  times_access n most few = mul-le n (worst_access p.costs 0) most most_access few access_small
 
-  written_small : most_written (shape_of p) ≤ 256
-  written_small =
-      let least = h.line.least in
-      let product = mul-le-mul_right (4096 / p.line) least in
-      let few : 4096 / p.line ≤ 256 = omega (arith, product) in
-      grind (arith, few)
+  written_small : most_written p.line ≤ 256
+  written_small = few_most p.line h.line.least
 
   lines_small : lines_of_shared (shape_of p) ≤ 4096
   lines_small =
@@ -50,7 +48,7 @@ module _ (p : Hardware) (h : IsHardware p) where
   pub bound_small : bound p < 2 ^ 26
   unfolding bound_of worst_instruction worst_operation worst_leave worst_prefetch worst_flush worst_enter
   bound_small =
-      let written = times_access (most_written (shape_of p)) 256 written_small in
+      let written = times_access (most_written p.line) 256 written_small in
       let shared = times_access (lines_of_shared (shape_of p)) 4096 lines_small in
       let flush = mul-le p.costs.wb (most_dirty (shape_of p)) 1000 16384 h.costs.wb.few dirty_small in
       let access = access_small in

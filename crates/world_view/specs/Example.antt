@@ -87,7 +87,7 @@ unfoldable pub two_domains : List ℕ → List ℕ → Image
 two_domains red blue = record {
   all = record {
     hardware = small_machine;
-    schedule = record { domain = 0; length = 10000; pad = 6150 } ∷ record { domain = 1; length = 10000; pad = 6150 } ∷ [];
+    schedule = record { domain = 0; length = 10000; pad = 6150; hart = 0 } ∷ record { domain = 1; length = 10000; pad = 6150; hart = 0 } ∷ [];
     domains = 2;
   };
   owns =

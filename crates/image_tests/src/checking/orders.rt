@@ -1,14 +1,9 @@
 // Images of which two cases of a rule are broken, mostly each at another place. Places go first
 // (parts, costs, domains, entries, items of a list), then cases.
-use super::{IMAGE, NARROW, broken_but_pads, broken_by};
+use super::{IMAGE, NARROW, are_named};
 use image_check::CheckRefusal;
-use image_text::Refusal;
-use std::alloc::Global;
-use std::process::Abort;
 
-// K3 part by part, K6 cost by cost. A line `OLD => NEW` changes the first OLD of the image, and
-// `OLD => NEW * TIMES` repeats the new text; ~ is a new line. A line that changes nothing tells
-// what is named then, and the next begins from the image again.
+// K3 part by part, K6 cost by cost.
 const OF_THE_MACHINE: &str = r#"l1i = { sets = 16, ways = 2 => l1i = { sets = 16, ways = 17
 l1d = { sets = 16 => l1d = { sets = 3
 K3 at 2 found 17 wanted 2
@@ -32,8 +27,10 @@ K6 at 1 found 0 wanted 1
 shared = 512 => shared = 20500
 K11 at 1 found 20500 wanted 65536"#;
 
-// K11 case by case: all three are broken, the first and the third, the second and the third.
-const OF_THE_REGION: &str = "shared = 8256 => shared = 20500
+// K11 case by case: the third is broken; all three, the first and the third, the second and the
+// third.
+const OF_THE_REGION: &str = "K11 at 3 found 64 wanted 64
+shared = 8256 => shared = 20500
 K11 at 1 found 20500 wanted 65536
 shared = 8256 => shared = 8257
 K11 at 1 found 8257 wanted 65536
@@ -115,59 +112,6 @@ K17 at 0 found 5854 wanted 5855
 frames = 64~shared = 512~line = 64 => frames = 128~shared = 512~line = 128
 pad = 6150 => pad = 5855
 accepted";
-
-// What a line changes in the image, if anything.
-fn changed(alloc: Global, image: &str, line: &str) -> Result<Option<String>, CheckRefusal> {
-    let line = line.replace(alloc, "~", "\n")?;
-    let Some((old, new)) = line.split_once(" => ") else {
-        return Ok(None);
-    };
-    let (new, times) = new.split_once(" * ").unwrap_or((new, "1"));
-    let new = new.repeat(alloc, times.parse::<usize>().unwrap_or(1))?;
-    Ok(Some(image.replacen(alloc, old, new.as_str(), 1)?))
-}
-
-fn text_of(alloc: Global, named: Option<Refusal>) -> Result<String, CheckRefusal> {
-    match named {
-        None => Ok(String::from_str(alloc, "accepted")?),
-        Some(
-            Refusal {
-                rule,
-                at,
-                found,
-                wanted,
-            },
-        ) => Ok(format!(in alloc; "K{rule} at {at} found {found} wanted {wanted}")?),
-    }
-}
-
-// With the rule of pads, and without it.
-fn is_named(rt: &impl Abort, alloc: Global, image: &str, line: &str) -> Result<(), CheckRefusal> {
-    let first = text_of(alloc, broken_by(alloc, image)?)?;
-    assert_eq!(rt; first.as_str(), line);
-    let others = text_of(alloc, broken_but_pads(alloc, image)?)?;
-    let due = if line.starts_with("K17 ") {
-        "accepted"
-    } else {
-        line
-    };
-    assert_eq!(rt; others.as_str(), due);
-    Ok(())
-}
-
-fn are_named(rt: &impl Abort, alloc: Global, image: &str, lines: &str) -> Result<(), CheckRefusal> {
-    let mut text = String::from_str(alloc, image)?;
-    for line in lines.split('\n') {
-        match changed(alloc, text.as_str(), line)? {
-            Some(other) => text = other,
-            None => {
-                is_named(rt, alloc, text.as_str(), line)?;
-                text = String::from_str(alloc, image)?;
-            }
-        }
-    }
-    Ok(())
-}
 
 #[test]
 fn the_first_broken_place_is_named(rt: HostRuntime) -> Result<(), CheckRefusal> {

@@ -8,11 +8,13 @@ fn slots_begin_round_after_round(rt: HostRuntime) -> Result<(), Fail> {
         domain: 0,
         length: 1000,
         pad: 30,
+        hart: 0,
     };
     let blue = Entry {
         domain: 1,
         length: 2000,
         pad: 7,
+        hart: 0,
     };
     let schedule = Schedule::new(rt.alloc(), &[red, blue])?;
     assert_eq!(rt; schedule.len(), 2);
@@ -31,6 +33,7 @@ fn the_last_start_is_below_2_to_37(rt: HostRuntime) -> Result<(), Fail> {
         domain: 15,
         length: 1_000_000,
         pad: 1_000_000,
+        hart: 0,
     };
     let schedule = Schedule::new(rt.alloc(), &[longest])?;
     assert_eq!(rt; schedule.start(65536), 131_073_000_000);

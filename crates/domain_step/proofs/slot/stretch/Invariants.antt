@@ -1,7 +1,7 @@
 use Rattle.std.proofs.Common.{◌≡◌, ◌+◌, ◌<◌, ◌≤◌, ◌-◌}
 use Rattle.kernel_call.specs.Models.{CountsUpTo}
 use Rattle.mem_system.specs.Contents.{hierarchy_of}
-use Rattle.domain_step.specs.Stands.{most_cycles}
+use Rattle.cycle_cost.specs.Ranges.{most_event}
 use Rattle.domain_step.specs.Moves.{Runs}
 use Rattle.domain_step.proofs.Moved.{GoesOn}
 use Rattle.domain_step.proofs.slot.stretch.Given as goal
@@ -9,7 +9,7 @@ use Rattle.domain_step.proofs.slot.stretch.Given as goal
 abbrev pub invariant-loop-clock : goal.invariant-loop-clock
 invariant-loop-clock g l = record {
   few : CountsUpTo l.clock l.domain;
-  soon : l.now < l.end → l.clock < l.end + most_cycles;
+  soon : l.now < l.end → l.clock < l.end + most_event;
   still : l.end ≤ l.now → l.clock ≡ l.now;
   frames : l.memory.frames ≡ l.fn.memory.frames;
   hierarchy : hierarchy_of g.P.Policy.rule l.system ≡ hierarchy_of g.P.Policy.rule l.fn.system;

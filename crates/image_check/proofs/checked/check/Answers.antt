@@ -1,19 +1,21 @@
-use Rattle.std.proofs.Common.{rules, ap, sym, ◌∙◌}
+use Rattle.std.proofs.Common.{rules}
 use Rattle.std.specs.Prelude.{IfErr}
 use Rattle.image_text.specs.Reads.{raw_model}
+use Rattle.hardware_check.specs.Outcomes.{IsVerdictOrMemory}
 use Rattle.image_check.specs.Pads.{k17}
 use Rattle.image_check.specs.Outcomes.{IsFirst}
-use Rattle.image_check.specs.Checking.{broken_but_pads}
-use Rattle.image_check.proofs.Kept.{first_of_either, first_of_pads}
+use Rattle.image_check.specs.Checking.{broken_before_pads}
+use Rattle.image_check.proofs.Kept.{first_of_all, first_of_pads}
 use Rattle.image_check.proofs.checked.check.Goals as goal
 
-pub returns-in_err-image-clause-refused : goal.returns-in_err-image-clause-refused
-returns-in_err-image-clause-refused c =
+pub returns-in_err-parts-clause-refused : goal.returns-in_err-parts-clause-refused
+returns-in_err-parts-clause-refused c =
     let i = raw_model c.args.raw in
-    let first : IfErr c.from_residual.result (IsFirst (broken_but_pads i)) = search rules in
-    first_of_either i c.from_residual.result first
+    let first : IfErr c.from_residual.result (IsFirst (broken_before_pads i)) = search rules in
+    first_of_all i c.from_residual.result first
 
-pub returns-in-Some-clause-refused : goal.returns-in-Some-clause-refused
-returns-in-Some-clause-refused c =
-    let same = c.in_ok-image.ensures.same in
-    first_of_pads (raw_model c.args.raw) c.in-Some.refusal (ap broken_but_pads (sym same) ∙ c.in_ok-image.ensures.accepted) (ap k17 (sym same) ∙ sym c.in-Some.ensures.value)
+pub returns-in_err-k17-clause-refused : goal.returns-in_err-k17-clause-refused
+returns-in_err-k17-clause-refused c =
+    let i = raw_model c.args.raw in
+    let verdict : IsVerdictOrMemory c.from_residual-in_err-k17.result (k17 i) = search rules in
+    first_of_pads i c.from_residual-in_err-k17.result c.in_ok-parts.ensures.accepted verdict

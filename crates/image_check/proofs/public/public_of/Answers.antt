@@ -8,4 +8,4 @@ use Rattle.image_check.proofs.public.public_of.Goals as goal
 pub schedule_of-requires : goal.schedule_of-requires
 schedule_of-requires c =
     let i = raw_model c.args.raw.now in
-    record { schedule = subst IsSchedule (sym c.requires.entries) (schedule_sound i (kept_but_pads i c.requires.accepted).schedule) }
+    record { schedule = subst IsSchedule (sym c.requires.entries) (schedule_sound i (kept_but_pads i c.requires.accepted).before.schedule) }

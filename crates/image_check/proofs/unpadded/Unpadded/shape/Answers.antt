@@ -1,4 +1,4 @@
-use Rattle.std.proofs.Common.{◌≡◌, ◌∙◌, ap, sym, subst}
+use Rattle.std.proofs.Common.{◌≡◌, ◌≤◌, ◌∙◌, ap, sym, subst}
 use Rattle.image_text.specs.Reads.{raw_model}
 use Rattle.pad_bound.specs.Bound.{IsShape}
 use Rattle.pad_bound.specs.Models.{shape_model}
@@ -7,6 +7,13 @@ use Rattle.image_check.specs.Pads.{shape_of}
 use Rattle.image_check.specs.Public.{Public, public_of}
 use Rattle.image_check.proofs.Padded.{shape_law}
 use Rattle.image_check.proofs.unpadded.Unpadded.shape.Goals as goal
+
+pub shape_of-requires : goal.shape_of-requires
+unfolding public_of
+shape_of-requires c =
+    let i = raw_model c.self.inside.raw in
+    let least = (shape_law i c.self.invariant.accepted).least_line in
+    record { line = subst (λ (p : Public). 16 ≤ p.hardware.line) (sym c.self.invariant.public_is) least }
 
 pub returns-clause-sound : goal.returns-clause-sound
 unfolding public_of

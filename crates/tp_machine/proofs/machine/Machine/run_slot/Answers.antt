@@ -230,7 +230,7 @@ next_so c =
     let got_there : slice_get m.domains.items (entry_of_slot es m.slots).domain ≡ Some x =
     subst (λ (n : ℕ). slice_get m.domains.items n ≡ Some x) enters got in
     let e : Entry =
-    record { domain = d; length = c.from.result; pad = c.next_entry-entry.result.pad } in
+    record { domain = d; length = c.from.result; pad = c.next_entry-entry.result.pad; hart = c.next_entry-entry.result.hart } in
     let same : c.next_entry-entry.result ≡ e = rw (c.from-d.ensures, c.from.ensures) in
     let entry : e ≡ entry_of_slot es m.slots = sym same ∙ c.next_entry-entry.ensures.entry in
     let long : length c.note_switch.new.used ≡ m.used.len = search rules in

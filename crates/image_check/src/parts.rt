@@ -1,0 +1,67 @@
+// What the rules before that of pads let through, tested in their order.
+ghost use Rattle.std.specs.Prelude.{◌≡◌, [], map, IfOk, IfErr, OnOk};
+ghost use Rattle.image_text.specs.Reads.{raw_model};
+ghost use Rattle.image_check.specs.Outcomes.{IsFirst};
+ghost use Rattle.image_check.specs.Checking.{broken_before_pads};
+ghost use Rattle.image_check.specs.Public.{entry_of};
+ghost use Rattle.hardware_check.specs.Hardware.{hardware_of};
+ghost use Rattle.image_check.specs.Parts.{ArePartsOf};
+ghost use Rattle.image_check.specs.Models.{hardware_model};
+
+use crate::CheckRefusal;
+use crate::own::DomainParts;
+use crate::schedule::k16;
+use domain_check::{k7, k8, k9, k10, k12, k13, k14, k15};
+use hardware_check::{Hardware, k3, k4, k5, k6, k11};
+use image_text::Raw;
+use sched_table::Entry;
+use std::alloc::Global;
+
+/// What the rules before that of pads let through of an image.
+#[derive(Drop)]
+pub struct Parts {
+    pub hardware: Hardware,
+    pub domains: DomainParts,
+    pub schedule: Vec<Entry>,
+}
+
+/// The parts, where no rule before that of pads is broken.
+///
+/// # Errors
+///
+/// `Broken` with the first of those rules that is broken; `Memory` where memory
+/// runs out.
+#[tactic(auto, unfolding(crate::specs::Checking::broken_before_pads, crate::specs::Checking::rules_before_pads))]
+pub fn parts_of(alloc: Global, raw: &Raw) -> Result<Parts, CheckRefusal>
+    ensures refused { IfErr result (IsFirst (broken_before_pads (raw_model raw.now))) }
+    ensures accepted { OnOk result (broken_before_pads (raw_model raw.now) ≡ []) }
+    ensures hardware { IfOk result (λ p. hardware_model p.hardware ≡ hardware_of (raw_model raw.now)) }
+    ensures domains { IfOk result (λ p. ArePartsOf p.domains (raw_model raw.now).domains) }
+    ensures schedule { IfOk result (λ p. p.schedule.items ≡ map entry_of (raw_model raw.now).schedule) }
+{
+    let caches = k3(raw)?;
+    k4(raw)?;
+    k5(raw)?;
+    k6(raw)?;
+    k7(raw)?;
+    let colours = k8(alloc, raw)?;
+    k9(raw)?;
+    k10(raw, colours.as_slice())?;
+    let hardware = k11(raw, caches)?;
+    let segments = k12(alloc, raw)?;
+    let caps = k13(alloc, raw)?;
+    let lines = k14(alloc, raw)?;
+    let moments = k15(alloc, raw)?;
+    let schedule = k16(alloc, raw)?;
+    Ok(Parts {
+        hardware,
+        domains: DomainParts {
+            colours,
+            segments,
+            caps,
+            lines,
+            moments,
+        },
+        schedule,
+    })
+}
