@@ -40,6 +40,7 @@ pub fn to_front(ways: u32, state: u64, way: u32) -> u64
     requires below { way < ways }
     requires valid { (list : List ℕ) × Packs ways state list }
     ensures moved { (list : List ℕ) → Packs ways state list → Packs ways result (to_front list way) }
+    ensures again { (list : List ℕ) → Packs ways result list → Packs ways result (to_front list way) }
 {
     // Where the way is the newest already, nothing moves.
     let newest = u64::from(way);
