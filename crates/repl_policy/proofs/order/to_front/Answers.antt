@@ -29,6 +29,7 @@ pub returns-then-state-newest : goal.returns-then-state-newest
 returns-then-state-newest c = record {
   moved = λ list packs.
       Packs-newest c.args.ways c.args.state c.args.way list packs c.requires.few c.requires.below (omega (arith, c.from-newest.ensures, c.if-state-newest.true));
+  again = λ list packs. Packs-newest c.args.ways c.args.state c.args.way list packs c.requires.few c.requires.below (omega (arith, c.from-newest.ensures, c.if-state-newest.true));
 }
 
 pub returns-then-state-newest-2 : goal.returns-then-state-newest-2
@@ -38,6 +39,7 @@ returns-then-state-newest-2 c = record {
       let next = Packs-second c.args.ways c.args.state c.args.way list packs c.requires.few c.requires.below other (omega (arith, c.from-newest.ensures, c.if-state-newest-2.true)) in
       let newest : c.args.way ≡ c.from-newest.result = omega (arith, c.from-newest.ensures) in
       subst (λ (w : ℕ). Packs c.args.ways (c.args.state / 256 * 256 + 16 * (c.args.state % 16) + w) (to_front list c.args.way)) newest next;
+  again = λ list packs. Packs-newest c.args.ways _ c.args.way list packs c.requires.few c.requires.below (omega (arith, c.from-newest.ensures));
 }
 
 pub returns : goal.returns
@@ -46,4 +48,5 @@ returns c = record {
       let rest = kept c.args.ways c.args.state c.args.way c.without.result list c.requires.few c.without.ensures.value packs in
       let state : c.args.way + 16 * pack (without (all_ways c.args.ways list) c.args.way) ≡ c.from-newest.result + 16 * c.without.result = omega (arith, c.from-newest.ensures) in
       subst (λ (s : ℕ). Packs c.args.ways s (to_front list c.args.way)) state (Packs-to_front c.args.ways c.args.state c.args.way list packs c.requires.below);
+  again = λ list packs. Packs-newest c.args.ways _ c.args.way list packs c.requires.few c.requires.below (omega (arith, c.from-newest.ensures));
 }
