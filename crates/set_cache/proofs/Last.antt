@@ -20,7 +20,8 @@ use Rattle.set_cache.proofs.Ways.{hit_answer, at_filled}
 use Rattle.set_cache.proofs.Sets.{OneTouch, IsOfTable, with_set, of_new, OneHit, HitsWay, hit_places, found_hit, mark_hit, touch_of_hit, table_hit, OneFill, FillsWay, touch_of_fill, table_fill, once_at}
 
 -- the way at which the touched line stands then, and that the policy's state lets it be hit again
-pub record LeavesLast (rule : Rule) (stands : ℕ → List ℕ → Type 0) (t : OneTouch) (way : ℕ) (dirty : Bool) : Type 0 where
+pub record LeavesLast (rule : Rule) (stands : ℕ → List ℕ → Type 0) (t : OneTouch) (way : ℕ)
+    (dirty : Bool) : Type 0 where
   pub found : way_of t.number t.new.places ≡ Some way
   pub mark : dirty ≡ is_dirty (get_or t.new.places way None)
   pub again : (list : List ℕ) → stands t.new.state list → stands t.new.state (rule.touched list way)
@@ -80,7 +81,8 @@ marked_line number (Some line) here dirty =
 
 -- a store to a marked line writes what is there
 same_places : (places : List (Option KeptLine)) (way number : ℕ) (store dirty : Bool)
-    → way_of number places ≡ Some way → dirty ≡ is_dirty (get_or places way None) → (dirty || not store) ≡ true
+    → way_of number places ≡ Some way → dirty ≡ is_dirty (get_or places way None)
+    → (dirty || not store) ≡ true
     → places ≡ hit_places places way number store
 same_places places way number false dirty found mark marked = refl
 same_places places way number true false found mark marked = absurd (false≢true marked)
@@ -112,7 +114,8 @@ touch_again takes rule stands cache last store sound is marked =
     record { is = refl; below = below; read = get_or_default table s _ _ below } in
     let hits : HitsWay (rule cache.policy cache.ways) (stands cache.policy cache.ways) hit = record {
       found = is.found;
-      places = same_places (kept_at table s).places is.way last.number store last.dirty is.found is.dirty marked;
+      places = same_places
+          (kept_at table s).places is.way last.number store last.dirty is.found is.dirty marked;
       touched = is.again;
     } in
     let same : with_set cache (touch_of_hit hit) ≡ cache =
@@ -206,10 +209,12 @@ touches takes rule stands cache fresh before t way dirty lawful at touch left = 
   };
 }
 
-pub cache_hit : {P : Type 0} (takes : P → ℕ → Type 0) (rule : P → ℕ → Rule) (stands : P → ℕ → ℕ → List ℕ → Type 0)
+pub cache_hit : {P : Type 0} (takes : P → ℕ → Type 0) (rule : P → ℕ → Rule)
+    (stands : P → ℕ → ℕ → List ℕ → Type 0)
     (cache : Contents P) (fresh : ℕ) (before : Option LastTouch) (h : OneHit) (dirty : Bool)
     → IsCache takes rule stands cache fresh before → HitsCache rule stands cache h dirty
-    → Touches takes rule stands cache fresh (touch_of_hit h) (last_of cache.ways (touch_of_hit h) h.way dirty)
+    → Touches takes rule stands cache fresh (touch_of_hit h)
+    (last_of cache.ways (touch_of_hit h) h.way dirty)
 cache_hit takes rule stands cache fresh before h dirty lawful hit =
     let hits = hit.hits in
     let at = of_table takes stands cache (touch_of_hit h) lawful.sound hit.home hit.old in
@@ -233,10 +238,12 @@ pub record FillsCache {P : Type 0} (rule : P → ℕ → Rule) (stands : P → �
   pub again : (list : List ℕ) → stands cache.policy cache.ways f.new.state list
       → stands cache.policy cache.ways f.new.state ((rule cache.policy cache.ways).touched list f.way)
 
-pub cache_fill : {P : Type 0} (takes : P → ℕ → Type 0) (rule : P → ℕ → Rule) (stands : P → ℕ → ℕ → List ℕ → Type 0)
+pub cache_fill : {P : Type 0} (takes : P → ℕ → Type 0) (rule : P → ℕ → Rule)
+    (stands : P → ℕ → ℕ → List ℕ → Type 0)
     (cache : Contents P) (fresh : ℕ) (before : Option LastTouch) (f : OneFill)
     → IsCache takes rule stands cache fresh before → FillsCache rule stands cache f
-    → Touches takes rule stands cache fresh (touch_of_fill f) (last_of cache.ways (touch_of_fill f) f.way f.store)
+    → Touches takes rule stands cache fresh (touch_of_fill f)
+    (last_of cache.ways (touch_of_fill f) f.way f.store)
 cache_fill takes rule stands cache fresh before f lawful fill =
     let fills = fill.fills in
     let t : OneTouch = touch_of_fill f in

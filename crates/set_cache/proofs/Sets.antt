@@ -186,10 +186,12 @@ fresh_sound takes stands cache taken power small full fresh = record {
   valid = λ k d lt. ([], (fresh k d lt).listed);
   once = λ k d lt number i j hi hj.
       absurd
-      (false≢true (sym (subst (LacksLine number i) (fresh k d lt).same (none_fresh cache.ways number i)) ∙ hi));
+      (false≢true
+      (sym (subst (LacksLine number i) (fresh k d lt).same (none_fresh cache.ways number i)) ∙ hi));
   home = λ s number way t.
       absurd
-      (false≢true (sym (none_in_fresh (stands cache.policy cache.ways) cache.ways cache.table fresh s number way) ∙ t));
+      (false≢true
+      (sym (none_in_fresh (stands cache.policy cache.ways) cache.ways cache.table fresh s number way) ∙ t));
 }
 
 -- ---- what a touch of one set does to the lines of the whole table
@@ -444,14 +446,16 @@ module _ {P : Type 0} (takes : P → ℕ → Type 0) (stands : P → ℕ → ℕ
         sound =
             fresh_sound takes stands cache geometry.taken (subst IsPowerOfTwo (sym long) geometry.power)
             (subst (λ (n : ℕ). n * ways < 2 ^ 32) (sym long) geometry.small)
-            (All-replicate (λ (k : KeptSet). length k.places ≡ ways) count blank (length-replicate ways None))
+            (All-replicate (λ (k : KeptSet). length k.places ≡ ways) count blank
+            (length-replicate ways None))
             all;
         fresh = sets;
         none = none-stands stands cache sets (omega (arith, long, positive count geometry.power));
       }
 
 -- and it is what a flush leaves
-pub flushed : {P : Type 0} (takes : P → ℕ → Type 0) (rule : P → ℕ → Rule) (stands : P → ℕ → ℕ → List ℕ → Type 0)
+pub flushed : {P : Type 0} (takes : P → ℕ → Type 0) (rule : P → ℕ → Rule)
+    (stands : P → ℕ → ℕ → List ℕ → Type 0)
     (cache : Contents P) (epoch fresh : ℕ)
     → IsSound takes stands cache → stands cache.policy cache.ways fresh []
     → IsFlush takes rule stands (dirty_kept cache) cache

@@ -40,7 +40,8 @@ pub get_or-table : (ways epoch fresh : ℕ) (entries : List Entry) (states : Lis
 get_or-table ways epoch fresh entries states s d below =
     let len : length (range_with_len 0 (length states)) ≡ length states =
     length-range_with_len 0 (length states) in
-    get_or-map (kept_in ways epoch fresh entries states) (range_with_len 0 (length states)) s 0 d (omega arith)
+    get_or-map (kept_in ways epoch fresh entries states) (range_with_len 0 (length states)) s 0 d
+    (omega arith)
     ∙ ap (kept_in ways epoch fresh entries states)
     (get_or-range_with_len 0 (length states) s 0 below ∙ zero-add s)
 
@@ -68,7 +69,8 @@ line_at ways epoch n s way entries d full below within =
     ∙ ap (line_in epoch) (get_or-entries_of ways s way entries d within)
 
 -- a look-up in the entries of a set is one in its places
-pub found_in : (p : Option KeptLine → Bool) (ways epoch fresh : ℕ) (entries : List Entry) (states : List WrittenState)
+pub found_in : (p : Option KeptLine → Bool) (ways epoch fresh : ℕ) (entries : List Entry)
+    (states : List WrittenState)
     (s k : ℕ) → s < length states → k ≡ ways
     → position (λ e. p (line_in epoch e)) (take k (drop (s * ways) entries))
     ≡ position p (kept_at (table_in ways epoch fresh entries states) s).places
@@ -87,7 +89,8 @@ pub record OneWrite : Type 0 where
   pub state : WrittenState
 
 -- the written entries are the set's alone
-pub record WritesSet (ways : ℕ) (entries : List Entry) (states : List WrittenState) (w : OneWrite) : Type 0 where
+pub record WritesSet (ways : ℕ) (entries : List Entry) (states : List WrittenState)
+    (w : OneWrite) : Type 0 where
   pub below : w.set < length states
   pub others : (s : ℕ) → s ≢ w.set → entries_of ways w.entries s ≡ entries_of ways entries s
 
@@ -149,7 +152,8 @@ entry_other ways s way other entries entry within apart =
           (take-set-le (other * ways + ways) entries (s * ways + way) entry (omega arith))
           ∙ drop-take (other * ways) ways entries
       | inr ge ↦
-          let after : s * ways + ways ≤ other * ways = row_fits s ways other ways (omega arith) (omega arith) in
+          let after : s * ways + ways ≤ other * ways =
+          row_fits s ways other ways (omega arith) (omega arith) in
           ap (take ways) (drop-set-lt (other * ways) entries (s * ways + way) entry (omega arith))
     ]
 
@@ -167,7 +171,8 @@ entry_of epoch e = record { number = e.line.number; dirty = e.line.dirty; epoch 
 line_now : (epoch : ℕ) (e : OneEntry) → line_in epoch (entry_of epoch e) ≡ Some e.line
 line_now epoch e = let now : eqb epoch epoch ≡ true = grind (arith, nat_tests) in rw now refl
 
-pub state_now : (epoch fresh state : ℕ) → state_in epoch fresh (record { state = state; epoch = epoch }) ≡ state
+pub state_now : (epoch fresh state : ℕ)
+    → state_in epoch fresh (record { state = state; epoch = epoch }) ≡ state
 state_now epoch fresh state = let now : eqb epoch epoch ≡ true = grind (arith, nat_tests) in rw now refl
 
 -- the table with the written way and state
@@ -177,8 +182,10 @@ with_entry table e = set table e.set (record {
   state = e.state;
 })
 
-kept_places : (ways epoch fresh : ℕ) (entries : List Entry) (states : List WrittenState) (s : ℕ) → s < length states
-    → (kept_at (table_in ways epoch fresh entries states) s).places ≡ map (line_in epoch) (entries_of ways entries s)
+kept_places : (ways epoch fresh : ℕ) (entries : List Entry) (states : List WrittenState) (s : ℕ)
+    → s < length states
+    → (kept_at (table_in ways epoch fresh entries states) s).places
+    ≡ map (line_in epoch) (entries_of ways entries s)
 kept_places ways epoch fresh entries states s below =
     ap (λ (k : KeptSet). k.places) (get_or-table ways epoch fresh entries states s _ below)
 
@@ -206,8 +213,10 @@ table-entry ways epoch fresh entries states e below within =
     ∙ ap (λ (ps : List (Option KeptLine)). set ps e.way (Some e.line))
     (sym (kept_places ways epoch fresh entries states e.set below)) in
     whole
-    ∙ ap (λ (ps : List (Option KeptLine)). set table e.set (record { places = ps; state = state_in epoch fresh w.state })) places
-    ∙ ap (λ (v : ℕ). set table e.set (record { places = set (kept_at table e.set).places e.way (Some e.line); state = v }))
+    ∙ ap (λ (ps : List (Option KeptLine)). set table e.set
+    (record { places = ps; state = state_in epoch fresh w.state })) places
+    ∙ ap (λ (v : ℕ). set table e.set
+    (record { places = set (kept_at table e.set).places e.way (Some e.line); state = v }))
     (state_now epoch fresh e.state)
 
 -- a state alone
@@ -222,9 +231,11 @@ table-state ways epoch fresh entries states s state below =
     let table : List KeptSet = table_in ways epoch fresh entries states in
     let written : WrittenState = record { state = state; epoch = epoch } in
     let w : OneWrite = record { set = s; entries = entries; state = written } in
-    let whole = table-write ways epoch fresh entries states w (record { below = below; others = λ k apart. refl }) in
+    let whole = table-write ways epoch fresh entries states w
+    (record { below = below; others = λ k apart. refl }) in
     whole
-    ∙ ap (λ (ps : List (Option KeptLine)). set table s (record { places = ps; state = state_in epoch fresh written }))
+    ∙ ap (λ (ps : List (Option KeptLine)). set table s
+    (record { places = ps; state = state_in epoch fresh written }))
     (sym (kept_places ways epoch fresh entries states s below))
     ∙ ap (λ (v : ℕ). set table s (record { places = (kept_at table s).places; state = v }))
     (state_now epoch fresh state)
@@ -242,7 +253,8 @@ stale_places epoch (e ∷ es) past =
     stale_places epoch es (All-tail Past e es past) in
     rw (off, rest) refl
 
-stale_state : (epoch fresh : ℕ) (written : WrittenState) → written.epoch < epoch → state_in epoch fresh written ≡ fresh
+stale_state : (epoch fresh : ℕ) (written : WrittenState) → written.epoch < epoch
+    → state_in epoch fresh written ≡ fresh
 stale_state epoch fresh written lt =
     let off : eqb written.epoch epoch ≡ false = grind (arith, nat_tests) in
     rw off refl
@@ -269,9 +281,11 @@ table-stale ways epoch fresh entries states stale =
     let places : map (line_in epoch) part ≡ replicate ways None =
     stale_places epoch part
     (All-take Past ways (drop (s * ways) entries) (All-drop Past (s * ways) entries stale.entries_past))
-    ∙ ap (λ (n : ℕ). replicate n None) (length-entries_of ways (length states) s entries stale.full below) in
+    ∙ ap (λ (n : ℕ). replicate n None)
+    (length-entries_of ways (length states) s entries stale.full below) in
     let state : state_in epoch fresh (get_or states s (record { state = 0; epoch = 0 })) ≡ fresh =
-    stale_state epoch fresh (get_or states s (record { state = 0; epoch = 0 })) (stale.states_past s _ below) in
+    stale_state epoch fresh (get_or states s (record { state = 0; epoch = 0 }))
+    (stale.states_past s _ below) in
     get_or-table ways epoch fresh entries states s d below
     ∙ rw (places, state) (sym (get_or-replicate (length states) s blank d below)))
 
@@ -293,11 +307,13 @@ abbrev pub mark_count : Option KeptLine → ℕ
 mark_count line = cond (is_dirty line) 1 0
 
 dirty_in-set : (places : List (Option KeptLine)) (way : ℕ) (line : Option KeptLine) → way < length places
-    → dirty_in (set places way line) + mark_count (get_or places way None) ≡ dirty_in places + mark_count line
+    → dirty_in (set places way line) + mark_count (get_or places way None)
+    ≡ dirty_in places + mark_count line
 dirty_in-set places way line lt = sum_by-set mark_count places way line None lt
 
 -- it changes by the marks of the lines that go and come
-pub dirty-entry : (table : List KeptSet) (e : OneEntry) → e.set < length table → e.way < length (kept_at table e.set).places
+pub dirty-entry : (table : List KeptSet) (e : OneEntry) → e.set < length table
+    → e.way < length (kept_at table e.set).places
     → dirty_sum (with_entry table e) + mark_count (get_or (kept_at table e.set).places e.way None)
     ≡ dirty_sum table + mark_count (Some e.line)
 dirty-entry table e below within =
@@ -312,7 +328,8 @@ dirty-entry table e below within =
 
 -- and stays where the places do
 pub dirty-state : (table : List KeptSet) (s state : ℕ) → s < length table
-    → dirty_sum (set table s (record { places = (kept_at table s).places; state = state })) ≡ dirty_sum table
+    → dirty_sum (set table s (record { places = (kept_at table s).places; state = state }))
+    ≡ dirty_sum table
 dirty-state table s state below =
     let old : KeptSet = kept_at table s in
     let new : KeptSet = record { places = old.places; state = state } in
@@ -337,18 +354,21 @@ dirty-few ways epoch fresh entries states full =
     length-map part (line_in epoch) ∙ length-entries_of ways (length states) s entries full below in
     let le : dirty_in places ≤ length places = count_by-le-length is_dirty places in
     subst (λ (k : KeptSet). dirty_in k.places ≤ ways) (sym read) (omega (arith, le, len)) in
-    let sum : dirty_sum table ≤ length table * ways = sum_by-le (λ (k : KeptSet). dirty_in k.places) ways table few in
+    let sum : dirty_sum table ≤ length table * ways =
+    sum_by-le (λ (k : KeptSet). dirty_in k.places) ways table few in
     subst (λ (n : ℕ). dirty_sum table ≤ n * ways) long sum
 
 -- ---- what stays true of the vectors
 
 -- the line of a way, by its entry
-pub place_line : (ways epoch fresh : ℕ) (entries : List Entry) (states : List WrittenState) (s way : ℕ) (d : Entry)
+pub place_line : (ways epoch fresh : ℕ) (entries : List Entry) (states : List WrittenState) (s way : ℕ)
+    (d : Entry)
     → length entries ≡ length states * ways → s < length states → way < ways
     → get_or (kept_at (table_in ways epoch fresh entries states) s).places way None
     ≡ line_in epoch (get_or entries (s * ways + way) d)
 place_line ways epoch fresh entries states s way d full below within =
-    ap (λ (ps : List (Option KeptLine)). get_or ps way None) (kept_places ways epoch fresh entries states s below)
+    ap (λ (ps : List (Option KeptLine)). get_or ps way None)
+    (kept_places ways epoch fresh entries states s below)
     ∙ line_at ways epoch (length states) s way entries d full below within
 
 -- an entry that there is
@@ -359,37 +379,48 @@ place_below ways n s way entries full below within =
     omega (arith, fits, full, within)
 
 -- the policy's state of a set, by what was written
-pub state_at : (ways epoch fresh : ℕ) (entries : List Entry) (states : List WrittenState) (s : ℕ) → s < length states
+pub state_at : (ways epoch fresh : ℕ) (entries : List Entry) (states : List WrittenState) (s : ℕ)
+    → s < length states
     → (kept_at (table_in ways epoch fresh entries states) s).state
     ≡ state_in epoch fresh (get_or states s (record { state = 0; epoch = 0 }))
 state_at ways epoch fresh entries states s below =
     ap (λ (k : KeptSet). k.state) (get_or-table ways epoch fresh entries states s _ below)
 
-pub state_counts : (epoch fresh : ℕ) (written : WrittenState) → written.epoch ≡ epoch → state_in epoch fresh written ≡ written.state
-state_counts epoch fresh written same = let on : eqb written.epoch epoch ≡ true = grind (arith, nat_tests) in rw on refl
+pub state_counts : (epoch fresh : ℕ) (written : WrittenState) → written.epoch ≡ epoch
+    → state_in epoch fresh written ≡ written.state
+state_counts epoch fresh written same = let on : eqb written.epoch epoch
+    ≡ true = grind (arith, nat_tests) in rw on refl
 
-pub state_is_old : (epoch fresh : ℕ) (written : WrittenState) → written.epoch ≢ epoch → state_in epoch fresh written ≡ fresh
-state_is_old epoch fresh written other = let off : eqb written.epoch epoch ≡ false = grind (arith, nat_tests) in rw off refl
+pub state_is_old : (epoch fresh : ℕ) (written : WrittenState) → written.epoch ≢ epoch
+    → state_in epoch fresh written ≡ fresh
+state_is_old epoch fresh written other = let off : eqb written.epoch epoch
+    ≡ false = grind (arith, nat_tests) in rw off refl
 
 -- the marks of the lines that go and come, as a write counts them
-pub record Counts (ways epoch fresh dirty gone came : ℕ) (entries : List Entry) (states : List WrittenState) (e : OneEntry)
+pub record Counts (ways epoch fresh dirty gone came : ℕ) (entries : List Entry)
+    (states : List WrittenState) (e : OneEntry)
     : Type 0 where
   pub packed : IsPacked ways epoch fresh dirty entries states
   pub below : e.set < length states
   pub within : e.way < ways
-  pub goes : gone ≡ mark_count (get_or (kept_at (table_in ways epoch fresh entries states) e.set).places e.way None)
+  pub goes : gone
+      ≡ mark_count (get_or (kept_at (table_in ways epoch fresh entries states) e.set).places e.way None)
   pub comes : came ≡ mark_count (Some e.line)
 
 -- a write of one way and its set's state
-pub record Writes (ways epoch fresh dirty gone came : ℕ) (entries : List Entry) (states : List WrittenState) (e : OneEntry)
+pub record Writes (ways epoch fresh dirty gone came : ℕ) (entries : List Entry)
+    (states : List WrittenState) (e : OneEntry)
     : Type 0 where
   pub goes : gone ≤ dirty
   pub comes : dirty - gone + came < 2 ^ 32
-  pub packed : IsPacked ways epoch fresh (dirty - gone + came) (set entries (e.set * ways + e.way) (entry_of epoch e))
+  pub packed : IsPacked ways epoch fresh (dirty - gone + came)
+      (set entries (e.set * ways + e.way) (entry_of epoch e))
       (set states e.set (record { state = e.state; epoch = epoch }))
 
-pub written : (ways epoch fresh dirty gone came : ℕ) (entries : List Entry) (states : List WrittenState) (e : OneEntry)
-    → Counts ways epoch fresh dirty gone came entries states e → Writes ways epoch fresh dirty gone came entries states e
+pub written : (ways epoch fresh dirty gone came : ℕ) (entries : List Entry) (states : List WrittenState)
+    (e : OneEntry)
+    → Counts ways epoch fresh dirty gone came entries states e
+    → Writes ways epoch fresh dirty gone came entries states e
 written ways epoch fresh dirty gone came entries states e counts =
     let packed = counts.packed in
     let table : List KeptSet = table_in ways epoch fresh entries states in
@@ -398,7 +429,8 @@ written ways epoch fresh dirty gone came entries states e counts =
     let count : length states' ≡ length states = length-set states e.set _ in
     let long : length new ≡ length entries = length-set entries (e.set * ways + e.way) (entry_of epoch e) in
     let full : length new ≡ length states' * ways = rw (long, count) packed.full in
-    let below : e.set < length table = omega (arith, counts.below, length_table ways epoch fresh entries states) in
+    let below : e.set < length table =
+    omega (arith, counts.below, length_table ways epoch fresh entries states) in
     let places = kept_places ways epoch fresh entries states e.set counts.below in
     let within : e.way < length (kept_at table e.set).places =
     omega (
@@ -408,7 +440,8 @@ written ways epoch fresh dirty gone came entries states e counts =
       length-map (entries_of ways entries e.set) (line_in epoch),
       length-entries_of ways (length states) e.set entries packed.full counts.below,
     ) in
-    let clean : OneEntry = record { set = e.set; way = e.way; line = record { number = 0; dirty = false }; state = e.state } in
+    let clean : OneEntry =
+    record { set = e.set; way = e.way; line = record { number = 0; dirty = false }; state = e.state } in
     let least = dirty-entry table clean below within in
     let goes : gone ≤ dirty = omega (arith, least, counts.goes, packed.counted) in
     let change = dirty-entry table e below within in
@@ -424,26 +457,32 @@ written ways epoch fresh dirty gone came entries states e counts =
         full = full;
         small = small;
         counts = packed.counts;
-        entries_past = All-set (λ (x : Entry). x.epoch ≤ epoch) entries _ _ (omega arith) packed.entries_past;
-        states_past = All-set (λ (x : WrittenState). x.epoch ≤ epoch) states _ _ (omega arith) packed.states_past;
+        entries_past = All-set (λ (x : Entry). x.epoch ≤ epoch) entries _ _
+            (omega arith) packed.entries_past;
+        states_past = All-set (λ (x : WrittenState). x.epoch ≤ epoch) states _ _
+            (omega arith) packed.states_past;
         counted = sum;
       };
     }
 
 -- a write of a state alone
-pub written-state : (ways epoch fresh dirty : ℕ) (entries : List Entry) (states : List WrittenState) (s state : ℕ)
+pub written-state : (ways epoch fresh dirty : ℕ) (entries : List Entry) (states : List WrittenState)
+    (s state : ℕ)
     → IsPacked ways epoch fresh dirty entries states → s < length states
     → IsPacked ways epoch fresh dirty entries (set states s (record { state = state; epoch = epoch }))
 written-state ways epoch fresh dirty entries states s state packed below =
-    let count : length (set states s (record { state = state; epoch = epoch })) ≡ length states = length-set states s _ in
+    let count : length (set states s (record { state = state; epoch = epoch })) ≡ length states =
+    length-set states s _ in
     let table : List KeptSet = table_in ways epoch fresh entries states in
-    let sum = dirty-state table s state (omega (arith, below, length_table ways epoch fresh entries states)) in
+    let sum = dirty-state table s state
+    (omega (arith, below, length_table ways epoch fresh entries states)) in
     record {
       full = rw count packed.full;
       small = rw count packed.small;
       counts = packed.counts;
       entries_past = packed.entries_past;
-      states_past = All-set (λ (x : WrittenState). x.epoch ≤ epoch) states _ _ (omega arith) packed.states_past;
+      states_past = All-set (λ (x : WrittenState). x.epoch ≤ epoch) states _ _
+          (omega arith) packed.states_past;
       counted =
           packed.counted ∙ sym sum
           ∙ ap dirty_sum (sym (table-state ways epoch fresh entries states s state below));
@@ -457,8 +496,10 @@ packed-stale ways epoch fresh entries states stale small counts = record {
   full = stale.full;
   small = small;
   counts = counts;
-  entries_past = λ k d lt. let h : (get_or entries k d).epoch < epoch = stale.entries_past k d lt in omega arith;
-  states_past = λ k d lt. let h : (get_or states k d).epoch < epoch = stale.states_past k d lt in omega arith;
+  entries_past = λ k d lt. let h :
+      (get_or entries k d).epoch < epoch = stale.entries_past k d lt in omega arith;
+  states_past = λ k d lt. let h :
+      (get_or states k d).epoch < epoch = stale.states_past k d lt in omega arith;
   counted =
       sym (ap dirty_sum (table-stale ways epoch fresh entries states stale)
       ∙ dirty-fresh (length states) ways epoch fresh);
@@ -469,8 +510,10 @@ pub stale-next : (ways epoch fresh dirty : ℕ) (entries : List Entry) (states :
     → IsPacked ways epoch fresh dirty entries states → IsStale ways (epoch + 1) entries states
 stale-next ways epoch fresh dirty entries states packed = record {
   full = packed.full;
-  entries_past = λ k d lt. let h : (get_or entries k d).epoch ≤ epoch = packed.entries_past k d lt in omega arith;
-  states_past = λ k d lt. let h : (get_or states k d).epoch ≤ epoch = packed.states_past k d lt in omega arith;
+  entries_past = λ k d lt. let h :
+      (get_or entries k d).epoch ≤ epoch = packed.entries_past k d lt in omega arith;
+  states_past = λ k d lt. let h :
+      (get_or states k d).epoch ≤ epoch = packed.states_past k d lt in omega arith;
 }
 
 -- and what is unwritten is earlier than any
@@ -492,7 +535,9 @@ stale-fresh sets ways epoch counts =
     let entry : Entry = record { number = 0; dirty = false; epoch = 0 } in
     let state : WrittenState = record { state = 0; epoch = 0 } in
     let count : length (replicate sets state) ≡ sets = length-replicate sets state in
-    let long : length (replicate (sets * ways) entry) ≡ sets * ways = length-replicate (sets * ways) entry in
-    stale-unwritten ways epoch (replicate (sets * ways) entry) (replicate sets state) (rw (long, count) refl) counts
+    let long : length (replicate (sets * ways) entry) ≡ sets * ways =
+    length-replicate (sets * ways) entry in
+    stale-unwritten ways epoch (replicate (sets * ways) entry) (replicate sets state)
+    (rw (long, count) refl) counts
     (All-replicate (λ (x : Entry). x.epoch ≡ 0) (sets * ways) entry refl)
     (All-replicate (λ (x : WrittenState). x.epoch ≡ 0) sets state refl)

@@ -54,7 +54,13 @@ impl<P: Policy> Tlb<P> {
     /// # Errors
     ///
     /// `Memory`, where memory ran out.
-    pub fn new_at(alloc: Global, policy: P, sets: u32, ways: u32, epoch: u32) -> Result<Self, Memory>
+    pub fn new_at(
+        alloc: Global,
+        policy: P,
+        sets: u32,
+        ways: u32,
+        epoch: u32,
+    ) -> Result<Self, Memory>
         requires geometry { IsGeometry (P.takes policy) sets ways }
         requires counts { epoch ≢ 0 }
         ensures made { IfOk result (λ tlb. IsNew P.takes P.stands_for policy sets ways tlb.pages) }

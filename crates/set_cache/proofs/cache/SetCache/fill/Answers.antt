@@ -18,7 +18,8 @@ way_for-way-requires-clause-valid g c =
     let cache : Contents _ =
     record { policy = s.policy; ways = s.packed.ways; epoch = s.packed.epoch; table = s.packed.table } in
     let home : c.args.set ≡ c.args.number % length s.packed.table =
-    subst (λ (v : Contents _). c.args.set ≡ c.args.number % length v.table) (sym c.self.view_is) c.requires.home in
+    subst (λ (v : Contents _). c.args.set ≡ c.args.number % length v.table)
+    (sym c.self.view_is) c.requires.home in
     let sound = c.self.invariant.sound in
     let below = set_below g.P.Policy.takes g.P.Policy.stands_for cache c.args.set c.args.number sound home in
     subst (λ (n : ℕ). (list : List ℕ) × g.P.Policy.stands_for s.policy s.packed.ways n list)
@@ -30,7 +31,8 @@ fill-state-requires-clause-valid g c =
     let cache : Contents _ =
     record { policy = s.policy; ways = s.packed.ways; epoch = s.packed.epoch; table = s.packed.table } in
     let home : c.args.set ≡ c.args.number % length s.packed.table =
-    subst (λ (v : Contents _). c.args.set ≡ c.args.number % length v.table) (sym c.self.view_is) c.requires.home in
+    subst (λ (v : Contents _). c.args.set ≡ c.args.number % length v.table)
+    (sym c.self.view_is) c.requires.home in
     let sound = c.self.invariant.sound in
     let below = set_below g.P.Policy.takes g.P.Policy.stands_for cache c.args.set c.args.number sound home in
     subst (λ (t : ℕ × ℕ). (list : List ℕ) × g.P.Policy.stands_for s.policy t.0 t.1 list)
@@ -43,7 +45,8 @@ invariant_of-self g c =
     let cache : Contents _ =
     record { policy = s.policy; ways = s.packed.ways; epoch = s.packed.epoch; table = s.packed.table } in
     let home : c.args.set ≡ c.args.number % length s.packed.table =
-    subst (λ (v : Contents _). c.args.set ≡ c.args.number % length v.table) (sym c.self.view_is) c.requires.home in
+    subst (λ (v : Contents _). c.args.set ≡ c.args.number % length v.table)
+    (sym c.self.view_is) c.requires.home in
     let sound = c.self.invariant.sound in
     let rule = g.P.Policy.rule s.policy in
     let stands = g.P.Policy.stands_for s.policy in
@@ -103,7 +106,8 @@ returns-clause-touch g c =
     let cache : Contents _ =
     record { policy = s.policy; ways = s.packed.ways; epoch = s.packed.epoch; table = s.packed.table } in
     let home : c.args.set ≡ c.args.number % length s.packed.table =
-    subst (λ (v : Contents _). c.args.set ≡ c.args.number % length v.table) (sym c.self.view_is) c.requires.home in
+    subst (λ (v : Contents _). c.args.set ≡ c.args.number % length v.table)
+    (sym c.self.view_is) c.requires.home in
     let sound = c.self.invariant.sound in
     let rule = g.P.Policy.rule s.policy in
     let stands = g.P.Policy.stands_for s.policy in

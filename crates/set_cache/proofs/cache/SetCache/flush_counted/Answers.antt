@@ -11,7 +11,8 @@ returns-clause-flush g c =
     let cache : Contents _ =
     record { policy = s.policy; ways = s.packed.ways; epoch = s.packed.epoch; table = s.packed.table } in
     let flush =
-    flushed g.P.Policy.takes g.P.Policy.rule g.P.Policy.stands_for cache (epoch_after s.packed.epoch) s.packed.fresh
+    flushed g.P.Policy.takes g.P.Policy.rule g.P.Policy.stands_for cache
+    (epoch_after s.packed.epoch) s.packed.fresh
     c.self.invariant.sound c.self.invariant.fresh_stands in
     subst
     (λ (t : ℕ × Contents _ × KeptSets).

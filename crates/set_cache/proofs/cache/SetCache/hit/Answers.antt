@@ -15,7 +15,8 @@ touch-state-requires-clause-valid g c =
     let cache : Contents _ =
     record { policy = s.policy; ways = s.packed.ways; epoch = s.packed.epoch; table = s.packed.table } in
     let home : c.args.set ≡ c.args.number % length s.packed.table =
-    subst (λ (v : Contents _). c.args.set ≡ c.args.number % length v.table) (sym c.self.view_is) c.requires.home in
+    subst (λ (v : Contents _). c.args.set ≡ c.args.number % length v.table)
+    (sym c.self.view_is) c.requires.home in
     let sound = c.self.invariant.sound in
     let below = set_below g.P.Policy.takes g.P.Policy.stands_for cache c.args.set c.args.number sound home in
     subst (λ (t : ℕ × ℕ). (list : List ℕ) × g.P.Policy.stands_for s.policy t.0 t.1 list)
@@ -28,7 +29,8 @@ invariant_of-self g c =
     let cache : Contents _ =
     record { policy = s.policy; ways = s.packed.ways; epoch = s.packed.epoch; table = s.packed.table } in
     let home : c.args.set ≡ c.args.number % length s.packed.table =
-    subst (λ (v : Contents _). c.args.set ≡ c.args.number % length v.table) (sym c.self.view_is) c.requires.home in
+    subst (λ (v : Contents _). c.args.set ≡ c.args.number % length v.table)
+    (sym c.self.view_is) c.requires.home in
     let rule = g.P.Policy.rule s.policy in
     let stands = g.P.Policy.stands_for s.policy in
     let ways : c.ways-ways.result ≡ s.packed.ways = c.ways-ways.ensures.value in
@@ -50,7 +52,8 @@ invariant_of-self g c =
       old = refl;
       hits = record {
         found =
-            subst (λ (v : Contents _). way_of c.args.number (kept_at v.table c.args.set).places ≡ Some c.args.way)
+            subst (λ (v : Contents _). way_of c.args.number (kept_at v.table c.args.set).places
+            ≡ Some c.args.way)
             (sym c.self.view_is) c.requires.found;
         places = refl;
         touched =
@@ -78,7 +81,8 @@ returns-clause-touch g c =
     let cache : Contents _ =
     record { policy = s.policy; ways = s.packed.ways; epoch = s.packed.epoch; table = s.packed.table } in
     let home : c.args.set ≡ c.args.number % length s.packed.table =
-    subst (λ (v : Contents _). c.args.set ≡ c.args.number % length v.table) (sym c.self.view_is) c.requires.home in
+    subst (λ (v : Contents _). c.args.set ≡ c.args.number % length v.table)
+    (sym c.self.view_is) c.requires.home in
     let rule = g.P.Policy.rule s.policy in
     let stands = g.P.Policy.stands_for s.policy in
     let ways : c.ways-ways.result ≡ s.packed.ways = c.ways-ways.ensures.value in
@@ -100,7 +104,8 @@ returns-clause-touch g c =
       old = refl;
       hits = record {
         found =
-            subst (λ (v : Contents _). way_of c.args.number (kept_at v.table c.args.set).places ≡ Some c.args.way)
+            subst (λ (v : Contents _). way_of c.args.number (kept_at v.table c.args.set).places
+            ≡ Some c.args.way)
             (sym c.self.view_is) c.requires.found;
         places = refl;
         touched =

@@ -32,8 +32,10 @@ pub unwrite_entries-requires : goal.unwrite_entries-requires
 unwrite_entries-requires c =
     let s = c.self.inside in
     let table = length_table s.ways s.epoch s.fresh s.entries.items s.states.items in
-    let now : c.args.steps.now + (1 + length (table_in s.ways s.epoch s.fresh s.entries.items s.states.items) * (s.ways + 1)) < 2 ^ 64 =
-    subst (λ (v : KeptSets). c.args.steps.now + (1 + length v.table * (v.ways + 1)) < 2 ^ 64) (sym c.self.view_is) c.requires.room in
+    let now : c.args.steps.now +
+    (1 + length (table_in s.ways s.epoch s.fresh s.entries.items s.states.items) * (s.ways + 1)) < 2 ^ 64 =
+    subst (λ (v : KeptSets). c.args.steps.now + (1 + length v.table * (v.ways + 1)) < 2 ^ 64)
+    (sym c.self.view_is) c.requires.room in
     let room : c.args.steps.now + (1 + length s.states.items * (s.ways + 1)) < 2 ^ 64 =
     subst (λ (n : ℕ). c.args.steps.now + (1 + n * (s.ways + 1)) < 2 ^ 64) table now in
     record { room = omega (arith, room, c.self.invariant.full, ap length c.deref_mut.ensures.value) }
@@ -42,8 +44,10 @@ pub unwrite_states-requires : goal.unwrite_states-requires
 unwrite_states-requires c =
     let s = c.self.inside in
     let table = length_table s.ways s.epoch s.fresh s.entries.items s.states.items in
-    let now : c.args.steps.now + (1 + length (table_in s.ways s.epoch s.fresh s.entries.items s.states.items) * (s.ways + 1)) < 2 ^ 64 =
-    subst (λ (v : KeptSets). c.args.steps.now + (1 + length v.table * (v.ways + 1)) < 2 ^ 64) (sym c.self.view_is) c.requires.room in
+    let now : c.args.steps.now +
+    (1 + length (table_in s.ways s.epoch s.fresh s.entries.items s.states.items) * (s.ways + 1)) < 2 ^ 64 =
+    subst (λ (v : KeptSets). c.args.steps.now + (1 + length v.table * (v.ways + 1)) < 2 ^ 64)
+    (sym c.self.view_is) c.requires.room in
     let room : c.args.steps.now + (1 + length s.states.items * (s.ways + 1)) < 2 ^ 64 =
     subst (λ (n : ℕ). c.args.steps.now + (1 + n * (s.ways + 1)) < 2 ^ 64) table now in
     record {
@@ -63,16 +67,19 @@ invariant_of-self-2 c =
     let es : List Entry = c.unwrite_entries.new.entries in
     let ss : List WrittenState = c.unwrite_states.new.states in
     let entries : (with_items s.entries es).items ≡ es =
-    with_items_is s.entries es (omega (arith, c.unwrite_entries.ensures.same, ap length c.deref_mut.ensures.value)) in
+    with_items_is s.entries es
+    (omega (arith, c.unwrite_entries.ensures.same, ap length c.deref_mut.ensures.value)) in
     let states : (with_items s.states ss).items ≡ ss =
-    with_items_is s.states ss (omega (arith, c.unwrite_states.ensures.same, ap length c.deref_mut-2.ensures.value)) in
+    with_items_is s.states ss
+    (omega (arith, c.unwrite_states.ensures.same, ap length c.deref_mut-2.ensures.value)) in
     let count : length ss ≡ length s.states.items =
     omega (arith, c.unwrite_states.ensures.same, ap length c.deref_mut-2.ensures.value) in
     let long : length es ≡ length s.entries.items =
     omega (arith, c.unwrite_entries.ensures.same, ap length c.deref_mut.ensures.value) in
     let full : length es ≡ length ss * s.ways = rw (long, count) c.self.invariant.full in
     let small : length ss * s.ways < 2 ^ 32 = rw count c.self.invariant.small in
-    let stale = stale-unwritten s.ways 1 es ss full (omega arith) c.unwrite_entries.ensures.unwritten c.unwrite_states.ensures.unwritten in
+    let stale = stale-unwritten s.ways 1 es ss full
+    (omega arith) c.unwrite_entries.ensures.unwritten c.unwrite_states.ensures.unwritten in
     rw (entries, states) (packed-stale s.ways 1 s.fresh es ss stale small (omega arith))
 
 pub returns-clause-emptied : goal.returns-clause-emptied
@@ -81,20 +88,25 @@ returns-clause-emptied c =
     let es : List Entry = c.unwrite_entries.new.entries in
     let ss : List WrittenState = c.unwrite_states.new.states in
     let entries : (with_items s.entries es).items ≡ es =
-    with_items_is s.entries es (omega (arith, c.unwrite_entries.ensures.same, ap length c.deref_mut.ensures.value)) in
+    with_items_is s.entries es
+    (omega (arith, c.unwrite_entries.ensures.same, ap length c.deref_mut.ensures.value)) in
     let states : (with_items s.states ss).items ≡ ss =
-    with_items_is s.states ss (omega (arith, c.unwrite_states.ensures.same, ap length c.deref_mut-2.ensures.value)) in
+    with_items_is s.states ss
+    (omega (arith, c.unwrite_states.ensures.same, ap length c.deref_mut-2.ensures.value)) in
     let count : length ss ≡ length s.states.items =
     omega (arith, c.unwrite_states.ensures.same, ap length c.deref_mut-2.ensures.value) in
     let long : length es ≡ length s.entries.items =
     omega (arith, c.unwrite_entries.ensures.same, ap length c.deref_mut.ensures.value) in
     let full : length es ≡ length ss * s.ways = rw (long, count) c.self.invariant.full in
-    let stale = stale-unwritten s.ways 1 es ss full (omega arith) c.unwrite_entries.ensures.unwritten c.unwrite_states.ensures.unwritten in
+    let stale = stale-unwritten s.ways 1 es ss full
+    (omega arith) c.unwrite_entries.ensures.unwritten c.unwrite_states.ensures.unwritten in
     let table = length_table s.ways s.epoch s.fresh s.entries.items s.states.items in
     let is : table_in s.ways 1 s.fresh es ss ≡ (fresh_sets (length s.states.items) s.ways 1 s.fresh).table =
-    table-stale s.ways 1 s.fresh es ss stale ∙ ap (λ (n : ℕ). (fresh_sets n s.ways 1 s.fresh).table) count in
+    table-stale s.ways 1 s.fresh es ss stale
+    ∙ ap (λ (n : ℕ). (fresh_sets n s.ways 1 s.fresh).table) count in
     let on : eqb s.epoch 4294967295 ≡ true = grind (arith, nat_tests) in
-    let of : List KeptSet → KeptSets = λ sets. record { ways = s.ways; epoch = 1; fresh = s.fresh; table = sets } in
+    let of : List KeptSet → KeptSets =
+    λ sets. record { ways = s.ways; epoch = 1; fresh = s.fresh; table = sets } in
     rw (← c.self.view_is, table, on, entries, states) (ap of is)
 
 pub returns-clause-steps : goal.returns-clause-steps

@@ -13,9 +13,12 @@ returns-clause-value c =
     let count = ap (λ (sets : KeptSets). length sets.table) c.self.view_is in
     let table = length_table s.ways s.epoch s.fresh s.entries.items s.states.items in
     let below : c.args.set < length s.states.items = omega (arith, c.requires.below, count, table) in
-    let found = found_in (is_line c.args.number) s.ways s.epoch s.fresh s.entries.items s.states.items c.args.set (base + s.ways - base) below (omega arith) in
+    let found = found_in
+    (is_line c.args.number) s.ways s.epoch s.fresh s.entries.items s.states.items c.args.set
+    (base + s.ways - base) below (omega arith) in
     let entries = c.deref.ensures.value in
     rw (← c.self.view_is)
     (c.first_with.ensures.value
-    ∙ ap (λ (es : List Entry). position (λ e. is_line c.args.number (line_in s.epoch e)) (take (base + s.ways - base) (drop base es))) entries
+    ∙ ap (λ (es : List Entry). position (λ e. is_line c.args.number (line_in s.epoch e))
+    (take (base + s.ways - base) (drop base es))) entries
     ∙ found)

@@ -14,17 +14,23 @@ overflow_sub-self c =
     let count = ap (λ (sets : KeptSets). length sets.table) c.self.view_is in
     let table = length_table s.ways s.epoch s.fresh s.entries.items s.states.items in
     let below : c.args.set < length s.states.items = omega (arith, c.requires.below, count, table) in
-    let within : c.args.way < s.ways = omega (arith, c.requires.within, ap (λ (sets : KeptSets). sets.ways) c.self.view_is) in
+    let within : c.args.way < s.ways =
+    omega (arith, c.requires.within, ap (λ (sets : KeptSets). sets.ways) c.self.view_is) in
     let read : c.index.result.now ≡ get_or s.entries.items (c.args.set * s.ways + c.args.way) unwritten =
     c.index.ensures
     ∙ get_or_default s.entries.items (c.args.set * s.ways + c.args.way) _ unwritten
-    (place_below s.ways (length s.states.items) c.args.set c.args.way s.entries.items c.self.invariant.full below within) in
+    (place_below s.ways
+    (length s.states.items) c.args.set c.args.way s.entries.items c.self.invariant.full below within) in
     let line = place_line s.ways s.epoch s.fresh s.entries.items s.states.items c.args.set c.args.way unwritten c.self.invariant.full below within in
-    let old : c.line-old.result ≡ get_or (kept_at (table_in s.ways s.epoch s.fresh s.entries.items s.states.items) c.args.set).places c.args.way None =
+    let old : c.line-old.result
+    ≡ get_or (kept_at
+    (table_in s.ways s.epoch s.fresh s.entries.items s.states.items) c.args.set).places c.args.way None =
     c.line-old.ensures.value ∙ ap (line_in s.epoch) read ∙ sym line in
-    let entry : OneEntry = record { set = c.args.set; way = c.args.way; line = c.args.line; state = c.args.state } in
+    let entry : OneEntry =
+    record { set = c.args.set; way = c.args.way; line = c.args.line; state = c.args.state } in
     let gone : c.from.result ≡ mark_count c.line-old.result = search (rules, common_steps) in
-    let writes = written s.ways s.epoch s.fresh s.dirty c.from.result (mark_count (Some c.args.line)) s.entries.items s.states.items entry
+    let writes = written s.ways s.epoch s.fresh s.dirty c.from.result
+    (mark_count (Some c.args.line)) s.entries.items s.states.items entry
     (record { packed = c.self.invariant; below = below; within = within; goes = gone ∙ ap mark_count old; comes = refl }) in
     writes.goes
 
@@ -35,15 +41,20 @@ overflow_add-self c =
     let count = ap (λ (sets : KeptSets). length sets.table) c.self.view_is in
     let table = length_table s.ways s.epoch s.fresh s.entries.items s.states.items in
     let below : c.args.set < length s.states.items = omega (arith, c.requires.below, count, table) in
-    let within : c.args.way < s.ways = omega (arith, c.requires.within, ap (λ (sets : KeptSets). sets.ways) c.self.view_is) in
+    let within : c.args.way < s.ways =
+    omega (arith, c.requires.within, ap (λ (sets : KeptSets). sets.ways) c.self.view_is) in
     let read : c.index.result.now ≡ get_or s.entries.items (c.args.set * s.ways + c.args.way) unwritten =
     c.index.ensures
     ∙ get_or_default s.entries.items (c.args.set * s.ways + c.args.way) _ unwritten
-    (place_below s.ways (length s.states.items) c.args.set c.args.way s.entries.items c.self.invariant.full below within) in
+    (place_below s.ways
+    (length s.states.items) c.args.set c.args.way s.entries.items c.self.invariant.full below within) in
     let line = place_line s.ways s.epoch s.fresh s.entries.items s.states.items c.args.set c.args.way unwritten c.self.invariant.full below within in
-    let old : c.line-old.result ≡ get_or (kept_at (table_in s.ways s.epoch s.fresh s.entries.items s.states.items) c.args.set).places c.args.way None =
+    let old : c.line-old.result
+    ≡ get_or (kept_at
+    (table_in s.ways s.epoch s.fresh s.entries.items s.states.items) c.args.set).places c.args.way None =
     c.line-old.ensures.value ∙ ap (line_in s.epoch) read ∙ sym line in
-    let entry : OneEntry = record { set = c.args.set; way = c.args.way; line = c.args.line; state = c.args.state } in
+    let entry : OneEntry =
+    record { set = c.args.set; way = c.args.way; line = c.args.line; state = c.args.state } in
     let gone : c.from.result ≡ mark_count c.line-old.result = search (rules, common_steps) in
     let came : c.from-2.result ≡ mark_count (Some c.args.line) = search (rules, common_steps) in
     let writes = written s.ways s.epoch s.fresh s.dirty c.from.result c.from-2.result s.entries.items s.states.items entry
@@ -57,15 +68,20 @@ invariant_of-self c =
     let count = ap (λ (sets : KeptSets). length sets.table) c.self.view_is in
     let table = length_table s.ways s.epoch s.fresh s.entries.items s.states.items in
     let below : c.args.set < length s.states.items = omega (arith, c.requires.below, count, table) in
-    let within : c.args.way < s.ways = omega (arith, c.requires.within, ap (λ (sets : KeptSets). sets.ways) c.self.view_is) in
+    let within : c.args.way < s.ways =
+    omega (arith, c.requires.within, ap (λ (sets : KeptSets). sets.ways) c.self.view_is) in
     let read : c.index.result.now ≡ get_or s.entries.items (c.args.set * s.ways + c.args.way) unwritten =
     c.index.ensures
     ∙ get_or_default s.entries.items (c.args.set * s.ways + c.args.way) _ unwritten
-    (place_below s.ways (length s.states.items) c.args.set c.args.way s.entries.items c.self.invariant.full below within) in
+    (place_below s.ways
+    (length s.states.items) c.args.set c.args.way s.entries.items c.self.invariant.full below within) in
     let line = place_line s.ways s.epoch s.fresh s.entries.items s.states.items c.args.set c.args.way unwritten c.self.invariant.full below within in
-    let old : c.line-old.result ≡ get_or (kept_at (table_in s.ways s.epoch s.fresh s.entries.items s.states.items) c.args.set).places c.args.way None =
+    let old : c.line-old.result
+    ≡ get_or (kept_at
+    (table_in s.ways s.epoch s.fresh s.entries.items s.states.items) c.args.set).places c.args.way None =
     c.line-old.ensures.value ∙ ap (line_in s.epoch) read ∙ sym line in
-    let entry : OneEntry = record { set = c.args.set; way = c.args.way; line = c.args.line; state = c.args.state } in
+    let entry : OneEntry =
+    record { set = c.args.set; way = c.args.way; line = c.args.line; state = c.args.state } in
     let gone : c.from.result ≡ mark_count c.line-old.result = search (rules, common_steps) in
     let came : c.from-2.result ≡ mark_count (Some c.args.line) = search (rules, common_steps) in
     let writes = written s.ways s.epoch s.fresh s.dirty c.from.result c.from-2.result s.entries.items s.states.items entry
@@ -79,13 +95,17 @@ returns-clause-kept c =
     let count = ap (λ (sets : KeptSets). length sets.table) c.self.view_is in
     let table = length_table s.ways s.epoch s.fresh s.entries.items s.states.items in
     let below : c.args.set < length s.states.items = omega (arith, c.requires.below, count, table) in
-    let within : c.args.way < s.ways = omega (arith, c.requires.within, ap (λ (sets : KeptSets). sets.ways) c.self.view_is) in
+    let within : c.args.way < s.ways =
+    omega (arith, c.requires.within, ap (λ (sets : KeptSets). sets.ways) c.self.view_is) in
     let read : c.index.result.now ≡ get_or s.entries.items (c.args.set * s.ways + c.args.way) unwritten =
     c.index.ensures
     ∙ get_or_default s.entries.items (c.args.set * s.ways + c.args.way) _ unwritten
-    (place_below s.ways (length s.states.items) c.args.set c.args.way s.entries.items c.self.invariant.full below within) in
+    (place_below s.ways
+    (length s.states.items) c.args.set c.args.way s.entries.items c.self.invariant.full below within) in
     let line = place_line s.ways s.epoch s.fresh s.entries.items s.states.items c.args.set c.args.way unwritten c.self.invariant.full below within in
-    let old : c.line-old.result ≡ get_or (kept_at (table_in s.ways s.epoch s.fresh s.entries.items s.states.items) c.args.set).places c.args.way None =
+    let old : c.line-old.result
+    ≡ get_or (kept_at
+    (table_in s.ways s.epoch s.fresh s.entries.items s.states.items) c.args.set).places c.args.way None =
     c.line-old.ensures.value ∙ ap (line_in s.epoch) read ∙ sym line in
     rw (← c.self.view_is) old
 
@@ -95,8 +115,11 @@ returns-clause-written c =
     let count = ap (λ (sets : KeptSets). length sets.table) c.self.view_is in
     let table = length_table s.ways s.epoch s.fresh s.entries.items s.states.items in
     let below : c.args.set < length s.states.items = omega (arith, c.requires.below, count, table) in
-    let within : c.args.way < s.ways = omega (arith, c.requires.within, ap (λ (sets : KeptSets). sets.ways) c.self.view_is) in
-    let entry : OneEntry = record { set = c.args.set; way = c.args.way; line = c.args.line; state = c.args.state } in
+    let within : c.args.way < s.ways =
+    omega (arith, c.requires.within, ap (λ (sets : KeptSets). sets.ways) c.self.view_is) in
+    let entry : OneEntry =
+    record { set = c.args.set; way = c.args.way; line = c.args.line; state = c.args.state } in
     let is = table-entry s.ways s.epoch s.fresh s.entries.items s.states.items entry below within in
-    let of : List KeptSet → KeptSets = λ sets. record { ways = s.ways; epoch = s.epoch; fresh = s.fresh; table = sets } in
+    let of : List KeptSet → KeptSets =
+    λ sets. record { ways = s.ways; epoch = s.epoch; fresh = s.fresh; table = sets } in
     rw (← c.self.view_is) (ap of is)

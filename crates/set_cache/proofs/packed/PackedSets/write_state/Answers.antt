@@ -19,5 +19,6 @@ returns c =
     let table = length_table s.ways s.epoch s.fresh s.entries.items s.states.items in
     let below : c.args.set < length s.states.items = omega (arith, c.requires.below, count, table) in
     let is = table-state s.ways s.epoch s.fresh s.entries.items s.states.items c.args.set c.args.state below in
-    let of : List KeptSet → KeptSets = λ sets. record { ways = s.ways; epoch = s.epoch; fresh = s.fresh; table = sets } in
+    let of : List KeptSet → KeptSets =
+    λ sets. record { ways = s.ways; epoch = s.epoch; fresh = s.fresh; table = sets } in
     record { written = rw (← c.self.view_is) (ap of is) }
