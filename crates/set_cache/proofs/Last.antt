@@ -1,5 +1,5 @@
 -- The line that was touched last: that it is so after a touch, and that a second touch of it changes nothing.
-use Rattle.std.proofs.Common.{◌≡◌, ℕ, ◌+◌, ◌*◌, ◌<◌, ◌≤◌, ◌%◌, ◌^◌, get_or-set_same, Bool, true, false, not, eqb, List, [], length, get_or, set, Option, Some, None, option_map, refl, ap, sym, subst, ◌∙◌, arith}
+use Rattle.std.proofs.Common.{◌≡◌, ℕ, ◌+◌, ◌*◌, ◌<◌, ◌%◌, get_or-set_same, Bool, true, false, not, eqb, List, [], length, get_or, set, Option, Some, None, option_map, refl, ap, sym, subst, ◌∙◌, arith}
 use Rattle.std.proofs.Math.ListN.{length-set}
 use Rattle.std.specs.Prelude.{◌||◌, ◌&&◌, ◌==◌}
 use Rattle.std.proofs.lemmas.List.{get_or_default, set-get_or}

@@ -11,7 +11,7 @@ use Rattle.set_cache.specs.declared.Touch.{Touch}
 use Rattle.set_cache.specs.declared.KeptLine.{KeptLine}
 use Rattle.set_cache.specs.Cache.{is_line, is_dirty, dirty_in, way_of}
 use Rattle.set_cache.specs.Contents.{KeptSet, Contents, IsSound, kept_at}
-use Rattle.set_cache.specs.Lines.{MovesLines, AllKept, IsClean, place_in, mark_of, mark_in, dirty_kept}
+use Rattle.set_cache.specs.Lines.{MovesLines, AllKept, IsClean, place_in, mark_of, dirty_kept}
 use Rattle.set_cache.proofs.Powers.{positive}
 use Rattle.set_cache.proofs.Ways.{one_line, not_true, way_at, kept_before}
 

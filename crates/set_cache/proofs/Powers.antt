@@ -1,5 +1,5 @@
 -- Powers of two, as numbers of sets.
-use Rattle.std.proofs.Common.{◌≡◌, ℕ, zero, suc, ◌+◌, ◌-◌, ◌*◌, ◌/◌, ◌%◌, ◌^◌, ◌<◌, ◌≤◌, Bool, true, false, eqb, refl, subst, sym, ◌∙◌, ap, arith, inl, inr}
+use Rattle.std.proofs.Common.{◌≡◌, ℕ, zero, suc, ◌+◌, ◌-◌, ◌*◌, ◌/◌, ◌%◌, ◌^◌, ◌<◌, ◌≤◌, true, false, eqb, subst, sym, ◌∙◌, ap, arith, inl, inr}
 use Rattle.std.specs.Prelude.{bit_and, count_ones}
 use Rattle.std.specs.Int.{IsPowerOfTwo, is_power_of_two}
 use Rattle.std.proofs.lemmas.Bool.{cases_eq, false≢true}
@@ -31,7 +31,8 @@ one_bit (suc fuel) n le one =
           one_bit fuel (n / 2) (let few = ones_le_self n in omega (arith, few, one))
           (omega (arith, split, none, even)) in (
             suc half.0,
-            (let double : 2 ^ suc half.0 ≡ 2 ^ half.0 * 2 = pow-suc 2 half.0 in omega (arith, half.1, double, even)),
+            (let double : 2 ^ suc half.0 ≡ 2 ^ half.0 * 2 = pow-suc 2 half.0 in omega
+                (arith, half.1, double, even)),
           )
       | inr odd ↦
           let last : n % 2 ≡ 1 = omega (arith, odd) in

@@ -2,7 +2,7 @@
 use Rattle.std.proofs.Common.{◌≡◌, ◌≢◌, ℕ, zero, suc, ◌+◌, ◌-◌, ◌*◌, ◌<◌, ◌≤◌, ◌^◌, take, drop, set, get_or, zero-add, Bool, true, false, cond, eqb, List, [], ◌∷◌, map, length, Option, Some, None, replicate, refl, ap, sym, subst, ◌∙◌, arith, inl, inr, get_or-set_same, get_or-set_other}
 use Rattle.std.proofs.Math.ListN.{length-map, length-set}
 use Rattle.std.proofs.Math.Seq.{take-set-lt}
-use Rattle.std.proofs.lemmas.List.{drop-take, drop-set-add, drop-set-lt, take-set-le, get_or-map, get_or-replicate, get_or-take, get_or-drop, same_lists, get_or_default, length-take, length-drop, length-replicate, map-set}
+use Rattle.std.proofs.lemmas.List.{drop-take, drop-set-add, drop-set-lt, take-set-le, get_or-map, get_or-replicate, get_or-take, get_or-drop, same_lists, length-take, length-drop, length-replicate, map-set}
 use Rattle.std.proofs.lemmas.List.Elements.{All-replicate, All-set, All-take, All-drop, All-head, All-tail}
 use Rattle.std.proofs.lemmas.List.FromFn.{length-range_with_len, get_or-range_with_len}
 use Rattle.std.proofs.lemmas.List.Sums.{sum_by-set, sum_by-le, count_by-le-length}
@@ -17,7 +17,7 @@ use Rattle.set_cache.specs.declared.packed.Entry.{Entry}
 use Rattle.set_cache.specs.declared.packed.WrittenState.{WrittenState}
 use Rattle.set_cache.specs.Cache.{is_dirty, dirty_in}
 use Rattle.set_cache.specs.Contents.{KeptSet, kept_at}
-use Rattle.set_cache.specs.Packed.{KeptSets, line_in, state_in, entries_of, kept_in, table_in, dirty_sum, fresh_sets, IsPacked}
+use Rattle.set_cache.specs.Packed.{line_in, state_in, entries_of, kept_in, table_in, dirty_sum, fresh_sets, IsPacked}
 
 prefix_len-map : {A B : Type 0} (p : B → Bool) (f : A → B) (xs : List A)
     → prefix_len p (map f xs) ≡ prefix_len (λ x. p (f x)) xs

@@ -1,5 +1,5 @@
 -- What the calls of a cache promise, each named once. `takes`, `rule` and `stands` are the policy's members.
-use Rattle.std.specs.Prelude.{◌≡◌, ◌≢◌, ℕ, ◌<◌, ◌≤◌, ◌+◌, ◌*◌, ◌%◌, ◌^◌, Bool, false, List, length, Option, None, if◌then◌else◌, ◌==◌}
+use Rattle.std.specs.Prelude.{◌≡◌, ◌≢◌, ℕ, ◌<◌, ◌≤◌, ◌+◌, ◌*◌, ◌%◌, ◌^◌, Bool, false, List, length, None, if◌then◌else◌, ◌==◌}
 use Rattle.std.specs.Int.{IsPowerOfTwo}
 use Rattle.tp_base.specs.Table.{empty}
 use Rattle.set_cache.specs.Rule.{Rule}

@@ -1,5 +1,5 @@
 -- The sets of a cache in flat vectors of entries and policy states, each with the epoch in which it was written.
-use Rattle.std.specs.Prelude.{◌≡◌, ℕ, ◌+◌, ◌-◌, ◌*◌, ◌<◌, ◌≤◌, ◌^◌, List, [], map, length, take, drop, Option, Some, None, replicate, slice_index_or, slice_set, All, sum_by, if◌then◌else◌, ◌==◌, refl}
+use Rattle.std.specs.Prelude.{◌≡◌, ℕ, ◌+◌, ◌*◌, ◌<◌, ◌≤◌, ◌^◌, List, map, length, take, drop, Option, Some, None, replicate, slice_index_or, slice_set, All, sum_by, if◌then◌else◌, ◌==◌, refl}
 use Rattle.std.specs.List.{range_with_len}
 use Rattle.std.specs.Coded.{Coded, code_by, coded×, coded_ℕ, coded_list}
 use Rattle.set_cache.specs.Cache.{dirty_in}

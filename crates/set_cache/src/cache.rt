@@ -12,7 +12,7 @@ use tp_base::Memory;
 
 /// The line that was touched last. A second touch of it changes nothing, unless
 /// it is its first store: so the policies' clauses `again` say.
-#[derive(Clone, Copy, Debug, PartialEq, Eq)]
+#[derive(Clone, Copy)]
 pub struct LastTouch {
     number: u32,
     place: u32,

@@ -10,7 +10,7 @@ use std::marker::Model;
 use tp_base::Memory;
 
 /// What was written into a way, and in which epoch.
-#[derive(Clone, Copy, Debug, PartialEq, Eq)]
+#[derive(Clone, Copy)]
 pub struct Entry {
     number: u32,
     dirty: bool,
@@ -18,7 +18,7 @@ pub struct Entry {
 }
 
 /// What was written as the policy's state of a set, and in which epoch.
-#[derive(Clone, Copy, Debug, PartialEq, Eq)]
+#[derive(Clone, Copy)]
 pub struct WrittenState {
     state: u64,
     epoch: u32,

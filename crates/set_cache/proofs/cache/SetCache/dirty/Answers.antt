@@ -1,4 +1,4 @@
-use Rattle.std.proofs.Common.{◌≡◌, ◌≤◌, ◌*◌, ◌∙◌, length, subst, arith}
+use Rattle.std.proofs.Common.{◌≡◌, ◌∙◌, subst, arith}
 use Rattle.set_cache.specs.Contents.{Contents}
 use Rattle.set_cache.specs.Lines.{dirty_kept}
 use Rattle.set_cache.proofs.Sets.{dirty-stands, dirty_few}

@@ -1,4 +1,4 @@
-use Rattle.std.proofs.Common.{◌≡◌, ◌∙◌, ◌%◌, ◌*◌, ◌+◌, ℕ, Bool, List, length, set, get_or, Option, Some, None, true, false, option_map, unwrap_or, refl, ap, sym, subst, arith, rules}
+use Rattle.std.proofs.Common.{◌≡◌, ◌∙◌, ◌%◌, ◌*◌, ◌+◌, ℕ, Bool, List, length, set, get_or, Option, Some, None, false, option_map, unwrap_or, refl, ap, sym, subst, arith, rules}
 use Rattle.std.proofs.lemmas.Grind.{common_steps}
 use Rattle.std.specs.Prelude.{position, is_none}
 use Rattle.set_cache.specs.declared.KeptLine.{KeptLine}

@@ -1,4 +1,4 @@
-use Rattle.std.proofs.Common.{◌≡◌, ◌<◌, ◌*◌, ℕ, length, true, false, Option, refl, sym, subst}
+use Rattle.std.proofs.Common.{ℕ, false, Option, refl, subst}
 use Rattle.std.specs.Prelude.{IfSome}
 use Rattle.set_cache.specs.declared.cache.LastTouch.{LastTouch}
 use Rattle.set_cache.specs.Contents.{Contents}
@@ -17,7 +17,8 @@ returns-then-last-number-clause-below g c =
     subst (λ (o : Option LastTouch). IfSome o (IsLast g.P.Policy.rule g.P.Policy.stands_for cache))
     c.in-Some.is c.self.invariant.last_stands in
     let below =
-    last_below g.P.Policy.takes g.P.Policy.rule g.P.Policy.stands_for cache c.in-Some.last c.self.invariant.sound
+    last_below g.P.Policy.takes g.P.Policy.rule g.P.Policy.stands_for cache c.in-Some.last
+    c.self.invariant.sound
     is in
     rw (← c.self.view_is) below
 

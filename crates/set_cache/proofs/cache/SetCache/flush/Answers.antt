@@ -1,5 +1,4 @@
-use Rattle.std.proofs.Common.{◌<◌, ◌+◌, ◌*◌, ◌^◌, length, subst, arith}
-use Rattle.set_cache.specs.Contents.{Contents}
+use Rattle.std.proofs.Common.{◌<◌, ◌+◌, ◌*◌, ◌^◌, length, arith}
 use Rattle.set_cache.proofs.cache.SetCache.flush.Goals as goal
 
 pub flush_counted-requires : goal.flush_counted-requires

@@ -1,4 +1,4 @@
-use Rattle.std.proofs.Common.{◌≡◌, ℕ, length, sym, subst}
+use Rattle.std.proofs.Common.{ℕ, sym, subst}
 use Rattle.set_cache.specs.Contents.{Contents}
 use Rattle.set_cache.specs.Calls.{IsFlush}
 use Rattle.set_cache.specs.Packed.{KeptSets, epoch_after}

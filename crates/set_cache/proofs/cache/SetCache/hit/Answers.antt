@@ -1,4 +1,4 @@
-use Rattle.std.proofs.Common.{◌≡◌, ◌%◌, ◌*◌, ◌+◌, ℕ, List, length, Some, true, false, refl, sym, subst}
+use Rattle.std.proofs.Common.{◌≡◌, ◌%◌, ◌*◌, ◌+◌, ℕ, List, length, Some, refl, sym, subst}
 use Rattle.set_cache.specs.Cache.{way_of}
 use Rattle.set_cache.specs.Contents.{KeptSet, Contents, kept_at}
 use Rattle.set_cache.specs.Packed.{KeptSets}

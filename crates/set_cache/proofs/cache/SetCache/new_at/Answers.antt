@@ -1,5 +1,4 @@
-use Rattle.std.proofs.Common.{◌≡◌, ℕ, sym, subst}
-use Rattle.set_cache.specs.Contents.{Contents}
+use Rattle.std.proofs.Common.{sym, subst}
 use Rattle.set_cache.specs.Calls.{IsNew}
 use Rattle.set_cache.specs.Packed.{KeptSets}
 use Rattle.set_cache.proofs.Sets.{fresh_cache, fresh_is_new}

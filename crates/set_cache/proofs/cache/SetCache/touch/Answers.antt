@@ -1,4 +1,4 @@
-use Rattle.std.proofs.Common.{◌≡◌, true, Option, ◌∙◌, sym, subst}
+use Rattle.std.proofs.Common.{Option, ◌∙◌, sym, subst}
 use Rattle.std.specs.Prelude.{IfSome}
 use Rattle.set_cache.specs.declared.cache.LastTouch.{LastTouch}
 use Rattle.set_cache.specs.Contents.{Contents}

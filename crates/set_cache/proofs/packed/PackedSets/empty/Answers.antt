@@ -1,13 +1,12 @@
-use Rattle.std.proofs.Common.{◌≡◌, ◌≢◌, ◌∙◌, ◌<◌, ◌+◌, ◌*◌, ◌^◌, ℕ, Bool, true, false, eqb, List, length, ap, sym, subst, refl, arith}
-use Rattle.std.specs.Prelude.{All}
+use Rattle.std.proofs.Common.{◌≡◌, ◌∙◌, ◌<◌, ◌+◌, ◌*◌, ◌^◌, ℕ, true, false, eqb, List, length, ap, sym, subst, arith}
 use Rattle.std.specs.Vec.{with_items}
 use Rattle.std.proofs.lemmas.List.{with_items_is}
 use Rattle.std.proofs.lemmas.Bool.Decides.{nat_tests}
 use Rattle.set_cache.specs.declared.packed.Entry.{Entry}
 use Rattle.set_cache.specs.declared.packed.WrittenState.{WrittenState}
 use Rattle.set_cache.specs.Contents.{KeptSet}
-use Rattle.set_cache.specs.Packed.{KeptSets, epoch_after, greatest_epoch, fresh_sets, table_in}
-use Rattle.set_cache.proofs.Vectors.{IsStale, length_table, stale-next, stale-unwritten, packed-stale, table-stale}
+use Rattle.set_cache.specs.Packed.{KeptSets, fresh_sets, table_in}
+use Rattle.set_cache.proofs.Vectors.{length_table, stale-next, stale-unwritten, packed-stale, table-stale}
 use Rattle.set_cache.proofs.packed.PackedSets.empty.Goals as goal
 
 pub invariant_of-self : goal.invariant_of-self

@@ -1,4 +1,4 @@
-use Rattle.std.proofs.Common.{◌≡◌, ◌∙◌, ◌<◌, ◌+◌, ◌-◌, ◌*◌, ℕ, List, length, take, drop, ap, arith}
+use Rattle.std.proofs.Common.{◌∙◌, ◌<◌, ◌+◌, ◌-◌, ◌*◌, ℕ, List, length, take, drop, ap, arith}
 use Rattle.std.specs.Prelude.{position, is_none}
 use Rattle.set_cache.specs.declared.packed.Entry.{Entry}
 use Rattle.set_cache.specs.Packed.{KeptSets, line_in}

@@ -19,5 +19,6 @@ returns c =
     ∙ get_or_default s.entries.items (c.args.set * s.ways + c.args.way) _ unwritten
     (place_below s.ways
     (length s.states.items) c.args.set c.args.way s.entries.items c.self.invariant.full below within) in
-    let line = place_line s.ways s.epoch s.fresh s.entries.items s.states.items c.args.set c.args.way unwritten c.self.invariant.full below within in
+    let line = place_line s.ways s.epoch s.fresh s.entries.items s.states.items c.args.set c.args.way
+    unwritten c.self.invariant.full below within in
     record { value = rw (← c.self.view_is) (c.line.ensures.value ∙ ap (line_in s.epoch) read ∙ sym line) }

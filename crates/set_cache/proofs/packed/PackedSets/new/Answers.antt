@@ -1,12 +1,11 @@
-use Rattle.std.proofs.Common.{◌≡◌, ◌∙◌, ◌<◌, ◌*◌, ◌^◌, ℕ, false, List, length, replicate, ap, sym, subst, arith, rules}
+use Rattle.std.proofs.Common.{◌≡◌, ◌∙◌, ◌<◌, ◌*◌, ◌^◌, ℕ, false, List, length, replicate, ap, rules}
 use Rattle.std.proofs.lemmas.Grind.{common_steps}
 use Rattle.std.proofs.lemmas.List.{length-replicate}
-use Rattle.std.proofs.lemmas.List.Elements.{All-replicate}
 use Rattle.set_cache.specs.declared.packed.Entry.{Entry}
 use Rattle.set_cache.specs.declared.packed.WrittenState.{WrittenState}
 use Rattle.set_cache.specs.Contents.{KeptSet}
 use Rattle.set_cache.specs.Packed.{KeptSets, fresh_sets, table_in}
-use Rattle.set_cache.proofs.Vectors.{IsStale, stale-fresh, packed-stale, table-stale}
+use Rattle.set_cache.proofs.Vectors.{stale-fresh, packed-stale, table-stale}
 use Rattle.set_cache.proofs.packed.PackedSets.new.Goals as goal
 
 pub invariant_of-result : goal.invariant_of-result

@@ -1,4 +1,4 @@
-use Rattle.std.proofs.Common.{◌≡◌, ◌∙◌, ◌<◌, ◌+◌, ◌*◌, ℕ, false, List, Option, Some, None, length, get_or, ap, sym, refl, arith, rules}
+use Rattle.std.proofs.Common.{◌≡◌, ◌∙◌, ◌<◌, ◌+◌, ◌*◌, false, List, Some, None, length, get_or, ap, sym, refl, arith, rules}
 use Rattle.std.proofs.lemmas.Grind.{common_steps}
 use Rattle.std.proofs.lemmas.List.{get_or_default}
 use Rattle.set_cache.specs.declared.packed.Entry.{Entry}
@@ -21,7 +21,8 @@ overflow_sub-self c =
     ∙ get_or_default s.entries.items (c.args.set * s.ways + c.args.way) _ unwritten
     (place_below s.ways
     (length s.states.items) c.args.set c.args.way s.entries.items c.self.invariant.full below within) in
-    let line = place_line s.ways s.epoch s.fresh s.entries.items s.states.items c.args.set c.args.way unwritten c.self.invariant.full below within in
+    let line = place_line s.ways s.epoch s.fresh s.entries.items s.states.items c.args.set c.args.way
+    unwritten c.self.invariant.full below within in
     let old : c.line-old.result
     ≡ get_or (kept_at
     (table_in s.ways s.epoch s.fresh s.entries.items s.states.items) c.args.set).places c.args.way None =
@@ -48,7 +49,8 @@ overflow_add-self c =
     ∙ get_or_default s.entries.items (c.args.set * s.ways + c.args.way) _ unwritten
     (place_below s.ways
     (length s.states.items) c.args.set c.args.way s.entries.items c.self.invariant.full below within) in
-    let line = place_line s.ways s.epoch s.fresh s.entries.items s.states.items c.args.set c.args.way unwritten c.self.invariant.full below within in
+    let line = place_line s.ways s.epoch s.fresh s.entries.items s.states.items c.args.set c.args.way
+    unwritten c.self.invariant.full below within in
     let old : c.line-old.result
     ≡ get_or (kept_at
     (table_in s.ways s.epoch s.fresh s.entries.items s.states.items) c.args.set).places c.args.way None =
@@ -57,7 +59,8 @@ overflow_add-self c =
     record { set = c.args.set; way = c.args.way; line = c.args.line; state = c.args.state } in
     let gone : c.from.result ≡ mark_count c.line-old.result = search (rules, common_steps) in
     let came : c.from-2.result ≡ mark_count (Some c.args.line) = search (rules, common_steps) in
-    let writes = written s.ways s.epoch s.fresh s.dirty c.from.result c.from-2.result s.entries.items s.states.items entry
+    let writes = written s.ways s.epoch s.fresh s.dirty c.from.result c.from-2.result s.entries.items
+    s.states.items entry
     (record { packed = c.self.invariant; below = below; within = within; goes = gone ∙ ap mark_count old; comes = came }) in
     omega (arith, writes.comes)
 
@@ -75,7 +78,8 @@ invariant_of-self c =
     ∙ get_or_default s.entries.items (c.args.set * s.ways + c.args.way) _ unwritten
     (place_below s.ways
     (length s.states.items) c.args.set c.args.way s.entries.items c.self.invariant.full below within) in
-    let line = place_line s.ways s.epoch s.fresh s.entries.items s.states.items c.args.set c.args.way unwritten c.self.invariant.full below within in
+    let line = place_line s.ways s.epoch s.fresh s.entries.items s.states.items c.args.set c.args.way
+    unwritten c.self.invariant.full below within in
     let old : c.line-old.result
     ≡ get_or (kept_at
     (table_in s.ways s.epoch s.fresh s.entries.items s.states.items) c.args.set).places c.args.way None =
@@ -84,7 +88,8 @@ invariant_of-self c =
     record { set = c.args.set; way = c.args.way; line = c.args.line; state = c.args.state } in
     let gone : c.from.result ≡ mark_count c.line-old.result = search (rules, common_steps) in
     let came : c.from-2.result ≡ mark_count (Some c.args.line) = search (rules, common_steps) in
-    let writes = written s.ways s.epoch s.fresh s.dirty c.from.result c.from-2.result s.entries.items s.states.items entry
+    let writes = written s.ways s.epoch s.fresh s.dirty c.from.result c.from-2.result s.entries.items
+    s.states.items entry
     (record { packed = c.self.invariant; below = below; within = within; goes = gone ∙ ap mark_count old; comes = came }) in
     writes.packed
 
@@ -102,7 +107,8 @@ returns-clause-kept c =
     ∙ get_or_default s.entries.items (c.args.set * s.ways + c.args.way) _ unwritten
     (place_below s.ways
     (length s.states.items) c.args.set c.args.way s.entries.items c.self.invariant.full below within) in
-    let line = place_line s.ways s.epoch s.fresh s.entries.items s.states.items c.args.set c.args.way unwritten c.self.invariant.full below within in
+    let line = place_line s.ways s.epoch s.fresh s.entries.items s.states.items c.args.set c.args.way
+    unwritten c.self.invariant.full below within in
     let old : c.line-old.result
     ≡ get_or (kept_at
     (table_in s.ways s.epoch s.fresh s.entries.items s.states.items) c.args.set).places c.args.way None =

@@ -1,4 +1,4 @@
-use Rattle.std.proofs.Common.{◌≡◌, ◌<◌, ℕ, List, length, ap, arith}
+use Rattle.std.proofs.Common.{◌<◌, List, length, ap, arith}
 use Rattle.set_cache.specs.Contents.{KeptSet}
 use Rattle.set_cache.specs.Packed.{KeptSets}
 use Rattle.set_cache.proofs.Vectors.{length_table, table-state, written-state}
@@ -10,7 +10,8 @@ invariant_of-self c =
     let count = ap (λ (sets : KeptSets). length sets.table) c.self.view_is in
     let table = length_table s.ways s.epoch s.fresh s.entries.items s.states.items in
     let below : c.args.set < length s.states.items = omega (arith, c.requires.below, count, table) in
-    written-state s.ways s.epoch s.fresh s.dirty s.entries.items s.states.items c.args.set c.args.state c.self.invariant below
+    written-state s.ways s.epoch s.fresh s.dirty s.entries.items s.states.items c.args.set c.args.state
+    c.self.invariant below
 
 pub returns : goal.returns
 returns c =
