@@ -17,7 +17,7 @@ use Rattle.set_cache.specs.declared.packed.Entry.{Entry}
 use Rattle.set_cache.specs.declared.packed.WrittenState.{WrittenState}
 use Rattle.set_cache.specs.Cache.{is_dirty, dirty_in}
 use Rattle.set_cache.specs.Contents.{KeptSet, kept_at}
-use Rattle.set_cache.specs.Packed.{line_in, state_in, entries_of, kept_in, table_in, dirty_sum, fresh_sets, IsPacked}
+use Rattle.set_cache.specs.Packed.{KeptSets, line_in, state_in, entries_of, kept_in, table_in, dirty_sum, fresh_sets, IsPacked}
 
 prefix_len-map : {A B : Type 0} (p : B → Bool) (f : A → B) (xs : List A)
     → prefix_len p (map f xs) ≡ prefix_len (λ x. p (f x)) xs
@@ -371,13 +371,6 @@ place_line ways epoch fresh entries states s way d full below within =
     (kept_places ways epoch fresh entries states s below)
     ∙ line_at ways epoch (length states) s way entries d full below within
 
--- an entry that there is
-pub place_below : (ways n s way : ℕ) (entries : List Entry) → length entries ≡ n * ways → s < n → way < ways
-    → s * ways + way < length entries
-place_below ways n s way entries full below within =
-    let fits : s * ways + ways ≤ n * ways = row_fits s ways n ways below (omega arith) in
-    omega (arith, fits, full, within)
-
 -- the policy's state of a set, by what was written
 pub state_at : (ways epoch fresh : ℕ) (entries : List Entry) (states : List WrittenState) (s : ℕ)
     → s < length states
@@ -541,3 +534,70 @@ stale-fresh sets ways epoch counts =
     (rw (long, count) refl) counts
     (All-replicate (λ (x : Entry). x.epoch ≡ 0) (sets * ways) entry refl)
     (All-replicate (λ (x : WrittenState). x.epoch ≡ 0) sets state refl)
+
+-- ---- what a call finds
+
+-- the fields of packed sets
+pub record Vectors : Type 0 where
+  pub ways : ℕ
+  pub epoch : ℕ
+  pub fresh : ℕ
+  pub dirty : ℕ
+  pub entries : List Entry
+  pub states : List WrittenState
+
+abbrev pub table_of : Vectors → List KeptSet
+table_of v = table_in v.ways v.epoch v.fresh v.entries v.states
+
+abbrev pub sets_of : Vectors → KeptSets
+sets_of v = record { ways = v.ways; epoch = v.epoch; fresh = v.fresh; table = table_of v }
+
+abbrev pub Lawful : Vectors → Type 0
+Lawful v = IsPacked v.ways v.epoch v.fresh v.dirty v.entries v.states
+
+-- they are these sets
+pub record KeepsSets (v : Vectors) (sets : KeptSets) : Type 0 where
+  pub view : sets_of v ≡ sets
+  pub lawful : Lawful v
+
+-- as many states as sets
+pub count_is : (v : Vectors) (sets : KeptSets) → sets_of v ≡ sets → length v.states ≡ length sets.table
+count_is v sets view =
+    sym (length_table v.ways v.epoch v.fresh v.entries v.states) ∙ ap (λ (k : KeptSets). length k.table) view
+
+-- a way that a call names
+pub record NamesWay (v : Vectors) (sets : KeptSets) (set way : ℕ) : Type 0 where
+  pub packs : KeepsSets v sets
+  pub below : set < length sets.table
+  pub within : way < sets.ways
+
+module _ (v : Vectors) (sets : KeptSets) (set way : ℕ) (names : NamesWay v sets set way) where
+  pub set_below : set < length v.states
+  set_below = omega (arith, names.below, count_is v sets names.packs.view)
+
+  pub way_within : way < v.ways
+  way_within = omega (arith, names.within, ap (λ (k : KeptSets). k.ways) names.packs.view)
+
+  -- what its entry, as it was read, keeps
+  pub line_read : (entry : Entry) → entry ≡ get_or v.entries (set * v.ways + way) entry
+      → line_in v.epoch entry ≡ get_or (kept_at (table_of v) set).places way None
+  line_read entry read =
+      let full = names.packs.lawful.full in
+      ap (line_in v.epoch) read
+      ∙ sym (place_line v.ways v.epoch v.fresh v.entries v.states set way entry full set_below way_within)
+
+  -- a write of it, by the marks of the line that goes and the one that comes
+  pub write_way : (line : KeptLine) (state gone came : ℕ)
+      → gone ≡ mark_count (get_or (kept_at (table_of v) set).places way None) → came ≡ mark_count (Some line)
+      → Writes v.ways v.epoch v.fresh v.dirty gone came v.entries v.states
+      (record { set = set; way = way; line = line; state = state })
+  write_way line state gone came goes comes =
+      written v.ways v.epoch v.fresh v.dirty gone came v.entries v.states
+      (record { set = set; way = way; line = line; state = state })
+      (record {
+        packed = names.packs.lawful;
+        below = set_below;
+        within = way_within;
+        goes = goes;
+        comes = comes;
+      })
