@@ -1,3 +1,4 @@
 pub mod Packing
+pub mod Shifts
 pub mod Trees
 pub mod Newest

@@ -14,21 +14,6 @@ AllBelow-weaker n m (w ∷ ws) le below = (omega (arith, below.0), AllBelow-weak
 
 -- ---- an order without a way
 
--- the lowest four bits are kept or dropped, as the rest of the number is
-pub without_step : (order : List ℕ) (state count way rest : ℕ) → count ≢ 0
-    → ((ws : List ℕ) → length ws ≡ count - 1 → AllBelow 16 ws → state / 16 ≡ pack ws → rest ≡ pack (without ws way))
-    → length order ≡ count → AllBelow 16 order → state ≡ pack order
-    → cond (eqb (state % 16) way) rest (state % 16 + 16 * rest) ≡ pack (without order way)
-without_step [] state count way rest some ih len below is = absurd (some (sym len))
-without_step (w ∷ ws) state count way rest some ih len below is =
-    let first : state % 16 ≡ w = omega (arith, below.0) in
-    let others : state / 16 ≡ pack ws = omega (arith, below.0) in
-    let kept : rest ≡ pack (without ws way) = ih ws (omega arith) below.1 others in
-    rw (first, kept) (elim (eqb w way) as (λ b. cond b (pack (without ws way)) (w + 16 * pack (without ws way)) ≡ pack (cond (not b) (w ∷ without ws way) (without ws way))) [
-      | true ↦ refl
-      | false ↦ refl
-    ])
-
 pub length-without : (way : ℕ) (order : List ℕ) → length (without order way) + times way order ≡ length order
 length-without way [] = refl
 length-without way (w ∷ ws) =
@@ -241,7 +226,7 @@ highest n state list packs some le = of (all_ways n list) (last_way-all_ways n l
 
 -- ---- a way that is in front already
 
-none_without : (way : ℕ) (order : List ℕ) → times way order ≡ 0 → without order way ≡ order
+pub none_without : (way : ℕ) (order : List ℕ) → times way order ≡ 0 → without order way ≡ order
 none_without way [] none = refl
 none_without way (w ∷ ws) none =
     elim (cases_eq w way) [
@@ -267,33 +252,4 @@ pub Packs-newest : (n state way : ℕ) (list : List ℕ) → Packs n state list 
 Packs-newest n state way list packs le lt first =
     let all : List ℕ = all_ways n list in
     let same = front_again n way state all packs.order (AllBelow-weaker n 16 all le packs.order.below) lt packs.packed first in
-    subst (λ (s : ℕ). Packs n s (to_front list way)) same (Packs-to_front n state way list packs lt)
-
--- ---- a way that is the next one
-
-second_in_front : (n way state : ℕ) (order : List ℕ) → IsOrder n order → AllBelow 16 order → way < n → state ≡ pack order
-    → state % 16 ≢ way → state / 16 % 16 ≡ way → way + 16 * pack (without order way) ≡ state / 256 * 256 + 16 * (state % 16) + way
-second_in_front n way state [] is below lt packed first second = absurd (omega (arith, is.complete))
-second_in_front n way state (w ∷ []) is below lt packed first second =
-    let other : w ≢ way = λ same. first (omega (arith, below.0)) in
-    let t : eqb w way ≡ false = grind (arith, nat_tests) in
-    let one : times way (w ∷ []) ≡ 1 = is.once way lt in
-    absurd (let none : 0 ≡ 1 = rw t at one in omega (arith, none))
-second_in_front n way state (w ∷ v ∷ ws) is below lt packed first second =
-    let other : w ≢ way = λ same. first (omega (arith, below.0)) in
-    let same : v ≡ way = omega (arith, below.0, below.1.0) in
-    let t : eqb w way ≡ false = grind (arith, nat_tests) in
-    let s : eqb v way ≡ true = grind (arith, nat_tests) in
-    let one : times way (w ∷ v ∷ ws) ≡ 1 = is.once way lt in
-    let none : times way ws ≡ 0 = grind (arith, nat_tests) in
-    let rest : state / 256 ≡ pack ws = omega (arith, below.0, below.1.0) in
-    let low : state % 16 ≡ w = omega (arith, below.0) in
-    rw (t, s, none_without way ws none, rest, low) (omega arith)
-
--- where a way is the next one, the first two change places
-pub Packs-second : (n state way : ℕ) (list : List ℕ) → Packs n state list → n ≤ 16 → way < n → state % 16 ≢ way → state / 16 % 16 ≡ way
-    → Packs n (state / 256 * 256 + 16 * (state % 16) + way) (to_front list way)
-Packs-second n state way list packs le lt first second =
-    let all : List ℕ = all_ways n list in
-    let same = second_in_front n way state all packs.order (AllBelow-weaker n 16 all le packs.order.below) lt packs.packed first second in
     subst (λ (s : ℕ). Packs n s (to_front list way)) same (Packs-to_front n state way list packs lt)

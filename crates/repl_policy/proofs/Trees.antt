@@ -147,6 +147,44 @@ touch_upper (suc d) low size state set next way list two le lt small bit others 
     (λ k ne. others k (λ e. ne (omega arith))) (λ k ge. below k (omega arith))
     (subst (λ (m : ℕ). Points d (low + m) set list → Points d (low + m) next (to_front list way)) half (step d (omega arith))) points
 
+-- ---- a second touch of the way
+
+pub again_lower : (d low size set next way : ℕ) (list : List ℕ) → 2 ≤ size → low ≤ way → way < low + size / 2 → low + size ≤ 16
+    → bit_at set (low + size / 2) ≡ 1
+    → ((k : ℕ) → low + size / 2 ≤ k → k < 64 → bit_at next k ≡ bit_at set k)
+    → ((e : ℕ) → size / 2 ≡ 2 ^ e → Points e low next list → Points e low next (to_front list way))
+    → size ≡ 2 ^ d → Points d low next list → Points d low next (to_front list way)
+again_lower zero low size set next way list two le lt small bit above step is points = tt
+again_lower (suc d) low size set next way list two le lt small bit above step is points =
+    let double : 2 ^ suc d ≡ 2 ^ d * 2 = pow-suc 2 d in
+    let pos : 0 < 2 ^ d = pow_pos d in
+    let half : size / 2 ≡ 2 ^ d = omega arith in
+    let middle : bit_at set (low + 2 ^ d) ≡ 1 = subst (λ (m : ℕ). bit_at set (low + m) ≡ 1) half bit in (
+      above (low + 2 ^ d) (omega arith) (omega arith) ∙ middle ∙ sym (other_half-lower d low way list le (omega arith)),
+      step d half points.1,
+      Points-below d (low + 2 ^ d) next way list (omega arith) points.2,
+    )
+
+pub again_upper : (d low size set next way : ℕ) (list : List ℕ) → 2 ≤ size → low + size / 2 ≤ way → way < low + size → low + size ≤ 16
+    → bit_at set (low + size / 2) ≡ 0
+    → ((k : ℕ) → k ≤ low + size / 2 → bit_at next k ≡ bit_at set k)
+    → ((e : ℕ) → size - size / 2 ≡ 2 ^ e → Points e (low + size / 2) next list → Points e (low + size / 2) next (to_front list way))
+    → size ≡ 2 ^ d → Points d low next list → Points d low next (to_front list way)
+again_upper zero low size set next way list two le lt small bit below step is points = tt
+again_upper (suc d) low size set next way list two le lt small bit below step is points =
+    let double : 2 ^ suc d ≡ 2 ^ d * 2 = pow-suc 2 d in
+    let pos : 0 < 2 ^ d = pow_pos d in
+    let half : size / 2 ≡ 2 ^ d = omega arith in
+    let middle : bit_at set (low + 2 ^ d) ≡ 0 = subst (λ (m : ℕ). bit_at set (low + m) ≡ 0) half bit in
+    let upper : Points d (low + 2 ^ d) next list → Points d (low + 2 ^ d) next (to_front list way) =
+    subst (λ (m : ℕ). Points d (low + m) next list → Points d (low + m) next (to_front list way)) half (step d (omega arith)) in (
+      below (low + 2 ^ d) (omega arith) ∙ middle ∙ sym (other_half-upper d low way list (omega arith) (omega arith)),
+      Points-above d low next way list (omega arith) points.1,
+      upper points.2,
+    )
+
+-- ---- the victim
+
 pub victim_upper : (d low size state chosen : ℕ) (list : List ℕ) → 2 ≤ size → bit_at state (low + size / 2) ≡ 1
     → ((e : ℕ) → size - size / 2 ≡ 2 ^ e → Points e (low + size / 2) state list → chosen ≡ victim_in e (low + size / 2) list)
     → size ≡ 2 ^ d → Points d low state list → chosen ≡ victim_in d low list

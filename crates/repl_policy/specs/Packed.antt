@@ -1,5 +1,5 @@
 -- A list of ways in one number: four bits a way, the newest lowest, then the unlisted ways, the least last.
-use Rattle.std.specs.Prelude.{◌≡◌, ℕ, zero, suc, ◌+◌, ◌*◌, ◌<◌, List, [], ◌∷◌, ◌++◌, length, if◌then◌else◌, ◌==◌}
+use Rattle.std.specs.Prelude.{◌≡◌, ◌≢◌, ℕ, zero, suc, ◌+◌, ◌*◌, ◌/◌, ◌%◌, ◌^◌, ◌<◌, List, [], ◌∷◌, ◌++◌, length, if◌then◌else◌, ◌==◌}
 use Rattle.repl_policy.specs.Orders.{has}
 
 -- the first ways without the listed ones, the greatest first
@@ -35,3 +35,12 @@ pub record IsOrder (ways : ℕ) (order : List ℕ) : Type 0 where
 pub record Packs (ways state : ℕ) (list : List ℕ) : Type 0 where
   pub packed : state ≡ pack (all_ways ways list)
   pub order : IsOrder ways (all_ways ways list)
+
+-- the way at a place of an order, by its number
+abbrev pub way_at : ℕ → ℕ → ℕ
+way_at state place = state / 2 ^ (4 * place) % 16
+
+-- the place at which a way stands first
+pub record StandsFirst (state way place : ℕ) : Type 0 where
+  pub here : way_at state place ≡ way
+  pub first : (newer : ℕ) → newer < place → way_at state newer ≢ way

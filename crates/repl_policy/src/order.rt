@@ -1,7 +1,7 @@
 // An order of ways in one number, four bits a way, the newest lowest.
 ghost use Rattle.std.specs.Prelude.{◌≡◌, ℕ, ◌<◌, ◌≤◌, List, [], length};
-ghost use Rattle.repl_policy.specs.Orders.{without, to_front, oldest};
-ghost use Rattle.repl_policy.specs.Packed.{AllBelow, Packs, pack};
+ghost use Rattle.repl_policy.specs.Orders.{to_front, oldest};
+ghost use Rattle.repl_policy.specs.Packed.{Packs, StandsFirst};
 
 /// The order of a set with nothing in it: the least way is the oldest.
 pub fn fresh(ways: u32) -> u64
@@ -15,22 +15,20 @@ pub fn fresh(ways: u32) -> u64
     state
 }
 
-/// The first `count` ways of the order, without a way.
-fn without(state: u64, count: u32, way: u32) -> u64
-    ensures small { result ≤ state }
-    ensures value { (order : List ℕ) → length order ≡ count → AllBelow 16 order
-        → state ≡ pack order → result ≡ pack (without order way) }
+/// Where a way stands in the order: how many ways are newer.
+#[inline(always)]
+fn place_of(ways: u32, state: u64, way: u32) -> u32
+    requires few { ways ≤ 16 }
+    requires below { way < ways }
+    requires valid { (list : List ℕ) × Packs ways state list }
+    ensures within { result < ways }
+    ensures stands { StandsFirst state way result }
 {
-    if count == 0 {
-        return 0;
+    let mut place = 0;
+    while (state >> (4 * place)) % 16 != u64::from(way) {
+        place += 1;
     }
-    let rest = without(state / 16, count - 1, way);
-    let first = state % 16;
-    if first == u64::from(way) {
-        rest
-    } else {
-        first + 16 * rest
-    }
+    place
 }
 
 /// The order in which a way is the newest.
@@ -40,17 +38,18 @@ pub fn to_front(ways: u32, state: u64, way: u32) -> u64
     requires below { way < ways }
     requires valid { (list : List ℕ) × Packs ways state list }
     ensures moved { (list : List ℕ) → Packs ways state list → Packs ways result (to_front list way) }
+    ensures again { (list : List ℕ) → Packs ways result list → Packs ways result (to_front list way) }
 {
     // Where the way is the newest already, nothing moves.
     let newest = u64::from(way);
     if state % 16 == newest {
         return state;
     }
-    // Where it is the next one, as it is with two ways, these two change places.
-    if state / 16 % 16 == newest {
-        return state / 256 * 256 + 16 * (state % 16) + newest;
-    }
-    newest + 16 * without(state, ways, way)
+    // The newer ways move by one place, and the older ones stay.
+    let shift = 4 * place_of(ways, state, way);
+    let newer = state & ((1 << shift) - 1);
+    let older = (state >> shift >> 4) << shift;
+    newest + 16 * (newer + older)
 }
 
 /// The last way of the order.

@@ -1,7 +1,9 @@
 // The three policies beside plain lists of ways.
-use super::AnyPolicy;
-use set_cache::SetCache;
+use super::{AnyPolicy, Fifo, Lru, TreePlru};
+use set_cache::{Policy, SetCache};
+use std::alloc::Global;
 use std::test::Fail;
+use tp_base::Memory;
 
 // A set of 4 ways takes lines 1 to 4, then 1 again, then 5.
 #[test]
@@ -98,5 +100,84 @@ fn each_policy_does_as_plain_lists_do(rt: HostRuntime) -> Result<(), Fail> {
             }
         }
     }
+    Ok(())
+}
+
+// One set of 2 ways in the greatest epoch: store 10, load 20, store 20, load 30.
+#[test]
+fn a_flush_in_the_greatest_epoch_empties_the_cache(rt: HostRuntime) -> Result<(), Fail> {
+    let mut cache = SetCache::new_at(rt.alloc(), Lru, 1, 2, u32::MAX)?;
+    let rows = [
+        (10, true, false, None, false),
+        (20, false, false, None, false),
+        (20, true, true, None, false),
+        (30, false, false, Some(10), true),
+    ];
+    for (line, store, hit, victim, dirty) in rows {
+        let touch = cache.touch(line, store);
+        assert_eq!(rt;
+            (touch.hit, touch.victim, touch.dirty_victim),
+            (hit, victim, dirty)
+        );
+    }
+    assert_eq!(rt; cache.flush(), 1);
+    assert!(rt; !cache.holds(20));
+    assert_eq!(rt; cache.dirty(), 0);
+    Ok(())
+}
+
+// One set of 2 ways: two entries, a state and the epoch; then the epoch alone.
+#[test]
+fn a_flush_counts_what_it_writes(rt: HostRuntime) -> Result<(), Fail> {
+    let mut steps = 0;
+    let mut cache = SetCache::new_at(rt.alloc(), Lru, 1, 2, u32::MAX)?;
+    cache.flush_counted(&mut steps);
+    assert_eq!(rt; steps, 4);
+    cache.flush_counted(&mut steps);
+    assert_eq!(rt; steps, 5);
+    Ok(())
+}
+
+// How many of these touches the two caches answer otherwise.
+fn differences<P: Policy>(aged: &mut SetCache<P>, new: &mut SetCache<P>) -> u32 {
+    let mut count = 0u32;
+    let mut seed = 2463534242u32;
+    for _ in 0..60 {
+        seed = seed.wrapping_mul(1664525).wrapping_add(1013904223);
+        let line = (seed >> 16) % 12;
+        let store = (seed >> 24) % 3 == 0;
+        if aged.touch(line, store) != new.touch(line, store) || aged.dirty() != new.dirty() {
+            count = count.saturating_add(1);
+        }
+    }
+    count
+}
+
+// The same of a cache that passes the greatest epoch, beside one that is made anew
+// for each epoch; a flush that answers otherwise, or leaves something, counts too.
+fn differences_over_epochs<P: Policy + Copy>(alloc: Global, policy: P) -> Result<u32, Memory>
+    requires four { P.takes policy 4 }
+{
+    let mut aged = SetCache::new_at(alloc, policy, 2, 4, u32::MAX - 1)?;
+    let mut count = 0u32;
+    for _ in 0..4 {
+        let mut new = SetCache::new(alloc, policy, 2, 4)?;
+        count = count.saturating_add(differences(&mut aged, &mut new));
+        if aged.flush() != new.flush() || aged.dirty() != 0 || aged.holds(0) || aged.holds(5) {
+            count = count.saturating_add(1);
+        }
+    }
+    Ok(count)
+}
+
+#[test]
+fn the_greatest_epoch_is_passed(rt: HostRuntime) -> Result<(), Fail> {
+    assert_eq!(rt; differences_over_epochs(rt.alloc(), Lru)?, 0);
+    assert_eq!(rt; differences_over_epochs(rt.alloc(), Fifo)?, 0);
+    assert_eq!(rt; differences_over_epochs(rt.alloc(), TreePlru)?, 0);
+    assert_eq!(rt;
+        differences_over_epochs(rt.alloc(), AnyPolicy::TreePlru)?,
+        0
+    );
     Ok(())
 }

@@ -15,6 +15,10 @@ pub fn point_away(state: u64, low: u32, size: u32, way: u32) -> u64
     ensures above { (k : ℕ) → low + size ≤ k → k < 64 → bit_at result k ≡ bit_at state k }
     ensures points { (depth : ℕ) (list : List ℕ) → size ≡ 2 ^ depth → Points depth low state list
         → Points depth low result (to_front list way) }
+
+    // A second touch of the way changes nothing.
+    ensures again { (depth : ℕ) (list : List ℕ) → size ≡ 2 ^ depth → Points depth low result list
+        → Points depth low result (to_front list way) }
 {
     if size < 2 {
         return state;

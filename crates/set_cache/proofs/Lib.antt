@@ -3,3 +3,5 @@ pub mod Ways
 pub mod Sets
 pub mod Places
 pub mod Steps
+pub mod Vectors
+pub mod Last

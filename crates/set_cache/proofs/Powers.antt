@@ -1,5 +1,5 @@
 -- Powers of two, as numbers of sets.
-use Rattle.std.proofs.Common.{◌≡◌, ℕ, zero, suc, ◌+◌, ◌-◌, ◌*◌, ◌/◌, ◌%◌, ◌^◌, ◌<◌, ◌≤◌, Bool, true, false, eqb, refl, subst, sym, ◌∙◌, ap, arith, inl, inr}
+use Rattle.std.proofs.Common.{◌≡◌, ℕ, zero, suc, ◌+◌, ◌-◌, ◌*◌, ◌/◌, ◌%◌, ◌^◌, ◌<◌, ◌≤◌, true, false, eqb, subst, sym, ◌∙◌, ap, arith, inl, inr}
 use Rattle.std.specs.Prelude.{bit_and, count_ones}
 use Rattle.std.specs.Int.{IsPowerOfTwo, is_power_of_two}
 use Rattle.std.proofs.lemmas.Bool.{cases_eq, false≢true}
@@ -27,8 +27,13 @@ one_bit (suc fuel) n le one =
     elim (cases_eq (n % 2) 0) [
       | inl even ↦
           let none = ones_le_self (n % 2) in
-          let half : IsPowerOfTwo (n / 2) = one_bit fuel (n / 2) (let few = ones_le_self n in omega (arith, few, one)) (omega (arith, split, none, even)) in
-          (suc half.0, (let double : 2 ^ suc half.0 ≡ 2 ^ half.0 * 2 = pow-suc 2 half.0 in omega (arith, half.1, double, even)))
+          let half : IsPowerOfTwo (n / 2) =
+          one_bit fuel (n / 2) (let few = ones_le_self n in omega (arith, few, one))
+          (omega (arith, split, none, even)) in (
+            suc half.0,
+            (let double : 2 ^ suc half.0 ≡ 2 ^ half.0 * 2 = pow-suc 2 half.0 in omega
+                (arith, half.1, double, even)),
+          )
       | inr odd ↦
           let last : n % 2 ≡ 1 = omega (arith, odd) in
           let low : count_ones (n % 2) ≡ 1 = ap count_ones last ∙ count_one in
@@ -41,7 +46,8 @@ pub power_is : (n : ℕ) → is_power_of_two n ≡ true → IsPowerOfTwo n
 power_is n power =
     elim (cases_eq (count_ones n) 1) [
       | inl one ↦ one_bit n n (omega arith) one
-      | inr other ↦ let t : eqb (count_ones n) 1 ≡ false = grind (arith, nat_tests) in absurd (false≢true (sym t ∙ power))
+      | inr other ↦ let t : eqb (count_ones n) 1
+          ≡ false = grind (arith, nat_tests) in absurd (false≢true (sym t ∙ power))
     ]
 
 pub positive : (n : ℕ) → IsPowerOfTwo n → 0 < n

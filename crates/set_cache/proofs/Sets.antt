@@ -1,22 +1,24 @@
 -- The table of sets: a write of one set, and the sets and lines that the table stands for.
 use Rattle.std.proofs.Common.{◌≡◌, ◌≢◌, ℕ, zero, suc, ◌+◌, ◌*◌, ◌<◌, ◌≤◌, ◌%◌, ◌^◌, take, add-one, take_all, Bool, true, false, List, [], length, get_or, set, Option, Some, None, option_map, is_some, replicate, refl, ap, sym, subst, ◌∙◌, arith, inl, inr, get_or-set_other, get_or-set_same}
 use Rattle.std.proofs.Math.ListN.{length-set}
-use Rattle.std.proofs.lemmas.List.{get_or_default, get_or_past}
-use Rattle.std.proofs.lemmas.List.Elements.{All-set}
+use Rattle.std.proofs.lemmas.List.{get_or_default, get_or_past, length-replicate}
+use Rattle.std.proofs.lemmas.List.Elements.{All-set, All-replicate}
 use Rattle.std.proofs.lemmas.List.Quantifiers.{position-Some}
-use Rattle.std.proofs.lemmas.List.Sums.{sum_by_more}
+use Rattle.std.proofs.lemmas.List.Sums.{sum_by_more, sum_by-le, count_by-le-length}
 use Rattle.std.proofs.lemmas.Bool.{cases_eq, cases_lt, false≢true}
-use Rattle.std.specs.Prelude.{All, sum_by, ◌||◌, unwrap_or}
+use Rattle.std.specs.Prelude.{All, sum_by, ◌||◌, unwrap_or, position, is_none, if◌then◌else◌}
 use Rattle.std.specs.Int.{IsPowerOfTwo}
 use Rattle.tp_base.specs.Table.{put, empty, at-put_same, at-put_other, at-empty}
 use Rattle.set_cache.specs.Rule.{Rule}
 use Rattle.set_cache.specs.declared.Touch.{Touch}
 use Rattle.set_cache.specs.declared.KeptLine.{KeptLine}
-use Rattle.set_cache.specs.Cache.{CacheSet, Sets, SetStep, set_at, step_of, step_by, touch_of, dirty_below, dirty_in, dirty_of, fresh_set, is_line, way_of}
+use Rattle.set_cache.specs.Cache.{CacheSet, Sets, SetStep, set_at, step_of, step_by, miss_at, way_for, touch_of, dirty_below, dirty_in, dirty_of, fresh_set, is_line, is_dirty, way_of}
 use Rattle.set_cache.specs.Contents.{KeptSet, Contents, SetStands, SetSteps, StandsFor, CacheSteps, IsFresh, IsSound, IsOnce, IsHome, kept_at, shape_of}
 use Rattle.set_cache.specs.Lines.{MovesLines, MovesMarks, place_in, mark_of, mark_in, dirty_kept}
-use Rattle.set_cache.specs.Calls.{IsTouch}
-use Rattle.set_cache.proofs.Ways.{way_of_none, ways_of, some_at, kept_before, hit_answer, moves_same, marks_same}
+use Rattle.set_cache.specs.Calls.{IsTouch, IsFlush, IsNew, IsGeometry}
+use Rattle.set_cache.specs.Packed.{KeptSets, fresh_sets}
+use Rattle.set_cache.proofs.Powers.{positive}
+use Rattle.set_cache.proofs.Ways.{way_of_none, none_of_way, others_of_way, once_put, ways_of, some_at, kept_before, hit_answer, moves_same, moves_marked, moves_filled, marks_same, marks_marked, marks_filled}
 
 -- what holds of each element holds of one that was read
 pub read_at : {X : Type 0} (P : X → Type 0) (xs : List X) (i : ℕ) (x : X) → i < length xs
@@ -57,7 +59,12 @@ pub record StepsSet (rule : Rule) (stands : ℕ → List ℕ → Type 0) (t : On
 -- the cache with the set as it is then
 abbrev pub with_set : {P : Type 0} → Contents P → OneTouch → Contents P
 with_set cache t =
-    record { policy = cache.policy; ways = cache.ways; table = set cache.table t.set t.new }
+    record {
+      policy = cache.policy;
+      ways = cache.ways;
+      epoch = cache.epoch;
+      table = set cache.table t.set t.new;
+    }
 
 old_is : (table : List KeptSet) (t : OneTouch) → IsOfTable table t → t.old ≡ kept_at table t.set
 old_is table t at = at.read ∙ get_or_default table t.set t.old _ at.below
@@ -179,10 +186,12 @@ fresh_sound takes stands cache taken power small full fresh = record {
   valid = λ k d lt. ([], (fresh k d lt).listed);
   once = λ k d lt number i j hi hj.
       absurd
-      (false≢true (sym (subst (LacksLine number i) (fresh k d lt).same (none_fresh cache.ways number i)) ∙ hi));
+      (false≢true
+      (sym (subst (LacksLine number i) (fresh k d lt).same (none_fresh cache.ways number i)) ∙ hi));
   home = λ s number way t.
       absurd
-      (false≢true (sym (none_in_fresh (stands cache.policy cache.ways) cache.ways cache.table fresh s number way) ∙ t));
+      (false≢true
+      (sym (none_in_fresh (stands cache.policy cache.ways) cache.ways cache.table fresh s number way) ∙ t));
 }
 
 -- ---- what a touch of one set does to the lines of the whole table
@@ -221,7 +230,7 @@ module _ (table : List KeptSet) (t : OneTouch) (at : IsOfTable table t) where
   of_old f number e =
       ap (λ (j : ℕ). f j (kept_at table j)) e ∙ ap (f t.set) (sym (old_is table t at))
 
-  of_new : {A : Type 0} (f : ℕ → KeptSet → A) (number : ℕ) → number % length table ≡ t.set
+  pub of_new : {A : Type 0} (f : ℕ → KeptSet → A) (number : ℕ) → number % length table ≡ t.set
       → of_set f (set table t.set t.new) number ≡ f t.set t.new
   of_new f number e =
       let written : List KeptSet = set table t.set t.new in
@@ -399,73 +408,300 @@ table_touch takes rule stands cache t sound at left steps = record {
   marks = marks_move cache t at sound.home left.moves steps.marks;
 }
 
--- a look-up of a line that its set keeps at a way: it changes the policy's state alone
-pub record OneFind : Type 0 where
+-- no more lines have a mark than there are ways
+pub dirty_few : {P : Type 0} (takes : P → ℕ → Type 0) (stands : P → ℕ → ℕ → List ℕ → Type 0)
+    (cache : Contents P) → IsSound takes stands cache → dirty_kept cache ≤ length cache.table * cache.ways
+dirty_few takes stands cache sound =
+    sum_by-le (λ (k : KeptSet). dirty_in k.places) cache.ways cache.table
+    (λ s d lt.
+    let full : length (get_or cache.table s d).places ≡ cache.ways = sound.full s d lt in
+    let few = count_by-le-length is_dirty (get_or cache.table s d).places in
+    omega (arith, few, full))
+
+-- ---- new and flushed caches
+
+-- fresh sets in place of a cache's
+abbrev pub fresh_cache : {P : Type 0} → P → KeptSets → Contents P
+fresh_cache policy sets =
+    record { policy = policy; ways = sets.ways; epoch = sets.epoch; table = sets.table }
+
+module _ {P : Type 0} (takes : P → ℕ → Type 0) (stands : P → ℕ → ℕ → List ℕ → Type 0)
+    (policy : P) (count ways epoch fresh : ℕ)
+    (geometry : IsGeometry (takes policy) count ways) (is_fresh : stands policy ways fresh []) where
+  -- a cache of fresh sets is new
+  pub fresh_is_new : IsNew takes stands policy count ways
+      (fresh_cache policy (fresh_sets count ways epoch fresh))
+  fresh_is_new =
+      let blank : KeptSet = record { places = replicate ways None; state = fresh } in
+      let cache : Contents P = fresh_cache policy (fresh_sets count ways epoch fresh) in
+      let long : length (replicate count blank) ≡ count = length-replicate count blank in
+      let all : All (IsFresh (stands policy ways) ways) cache.table =
+      All-replicate (IsFresh (stands policy ways) ways) count blank
+      (record { same = refl; listed = is_fresh }) in
+      let sets = fresh_stands stands cache all in
+      record {
+        same_policy = refl;
+        same_ways = refl;
+        same_sets = long;
+        sound =
+            fresh_sound takes stands cache geometry.taken (subst IsPowerOfTwo (sym long) geometry.power)
+            (subst (λ (n : ℕ). n * ways < 2 ^ 32) (sym long) geometry.small)
+            (All-replicate (λ (k : KeptSet). length k.places ≡ ways) count blank
+            (length-replicate ways None))
+            all;
+        fresh = sets;
+        none = none-stands stands cache sets (omega (arith, long, positive count geometry.power));
+      }
+
+-- and it is what a flush leaves
+pub flushed : {P : Type 0} (takes : P → ℕ → Type 0) (rule : P → ℕ → Rule)
+    (stands : P → ℕ → ℕ → List ℕ → Type 0)
+    (cache : Contents P) (epoch fresh : ℕ)
+    → IsSound takes stands cache → stands cache.policy cache.ways fresh []
+    → IsFlush takes rule stands (dirty_kept cache) cache
+    (fresh_cache cache.policy (fresh_sets (length cache.table) cache.ways epoch fresh))
+flushed takes rule stands cache epoch fresh sound is_fresh =
+    let geometry : IsGeometry (takes cache.policy) (length cache.table) cache.ways =
+    record { taken = sound.taken; power = sound.power; small = sound.small } in
+    let new =
+    fresh_is_new takes stands cache.policy (length cache.table) cache.ways epoch fresh geometry is_fresh in
+    record {
+      shape = record { same_policy = refl; same_ways = refl; same_sets = new.same_sets };
+      was_sound = sound;
+      sound = new.sound;
+      marked = refl;
+      stands_for = λ sets for. dirty-stands stands rule cache sets for;
+      few = dirty_few takes stands cache sound;
+      fresh = new.fresh;
+      none = new.none;
+    }
+
+-- ---- hits
+
+-- what a hit leaves in the ways: on a store the line is marked
+abbrev pub hit_places : List (Option KeptLine) → ℕ → ℕ → Bool → List (Option KeptLine)
+hit_places places way number store =
+    if store then set places way (Some (record { number = number; dirty = true })) else places
+
+-- a hit of a line that its set keeps at a way: the set, by number, what that kept and what it keeps then
+pub record OneHit : Type 0 where
   pub number : ℕ
+  pub store : Bool
   pub way : ℕ
   pub set : ℕ
   pub old : KeptSet
   pub new : KeptSet
 
--- as a touch that is no store
-abbrev pub touch_of_find : OneFind → OneTouch
-touch_of_find f =
-    record { number = f.number; store = false; answer = hit_answer; set = f.set; old = f.old; new = f.new }
+abbrev pub touch_of_hit : OneHit → OneTouch
+touch_of_hit h =
+    record { number = h.number; store = h.store; answer = hit_answer; set = h.set; old = h.old; new = h.new }
 
--- what is so of the set then
-pub record FindsWay (rule : Rule) (stands : ℕ → List ℕ → Type 0) (f : OneFind) : Type 0 where
-  pub found : way_of f.number f.old.places ≡ Some f.way
-  pub same : f.new.places ≡ f.old.places
-  pub touched : (list : List ℕ) → stands f.old.state list
-      → stands f.new.state (rule.touched list f.way)
+-- what is so of the set
+pub record HitsWay (rule : Rule) (stands : ℕ → List ℕ → Type 0) (h : OneHit) : Type 0 where
+  pub found : way_of h.number h.old.places ≡ Some h.way
+  pub places : h.new.places ≡ hit_places h.old.places h.way h.number h.store
+  pub touched : (list : List ℕ) → stands h.old.state list
+      → stands h.new.state (rule.touched list h.way)
 
--- it is a step of its set
-find_steps : (rule : Rule) (stands : ℕ → List ℕ → Type 0) (f : OneFind) → FindsWay rule stands f
-    → StepsSet rule stands (touch_of_find f)
-find_steps rule stands f finds = record {
+module _ (places : List (Option KeptLine)) (way number : ℕ) (found : way_of number places ≡ Some way) where
+  length-hit : (store : Bool) → length (hit_places places way number store) ≡ length places
+  length-hit true = length-set places way (Some (record { number = number; dirty = true }))
+  length-hit false = refl
+
+  once_hit : (store : Bool) → IsOnce places → IsOnce (hit_places places way number store)
+  once_hit true once =
+      let at = position-Some (is_line number) places way None found in
+      once_put places way number true at.0 once (others_of_way number way places once at.1)
+  once_hit false once = once
+
+  moves_hit : (store : Bool)
+      → MovesLines hit_answer number (ways_of places) (ways_of (hit_places places way number store))
+  moves_hit true = moves_marked places way number found
+  moves_hit false = moves_same places way number found
+
+  marks_hit : (store : Bool)
+      → MovesMarks hit_answer number store (mark_of places) (mark_of (hit_places places way number store))
+  marks_hit true = marks_marked places way number found
+  marks_hit false = marks_same places way number found
+
+  -- the line stays at its way
+  pub found_hit : (store : Bool) → way_of number (hit_places places way number store) ≡ Some way
+  found_hit store = (moves_hit store).stays refl ∙ found
+
+  -- with the mark that it had, or gets
+  pub mark_hit : (store : Bool)
+      → is_dirty (get_or (hit_places places way number store) way None)
+      ≡ (store || is_dirty (get_or places way None))
+  mark_hit true =
+      let at = position-Some (is_line number) places way None found in
+      ap is_dirty (get_or-set_same places way (Some (record { number = number; dirty = true })) None at.0)
+  mark_hit false = refl
+
+-- a hit is a step of its set
+hit_steps : (rule : Rule) (stands : ℕ → List ℕ → Type 0) (h : OneHit) → HitsWay rule stands h
+    → StepsSet rule stands (touch_of_hit h)
+hit_steps rule stands h hits = record {
   step = λ s for.
-      let at : way_of f.number s.places ≡ Some f.way =
-      ap (way_of f.number) for.same ∙ finds.found in
-      subst (λ (o : Option ℕ). SetSteps stands hit_answer f.new (step_by rule s f.number false o))
+      let at : way_of h.number s.places ≡ Some h.way =
+      ap (way_of h.number) for.same ∙ hits.found in
+      let places : hit_places s.places h.way h.number h.store ≡ h.new.places =
+      ap (λ (ps : List (Option KeptLine)). hit_places ps h.way h.number h.store) for.same
+      ∙ sym hits.places in
+      subst (λ (o : Option ℕ). SetSteps stands hit_answer h.new (step_by rule s h.number h.store o))
       (sym at)
       (record {
         answered = refl;
-        next = record { same = for.same ∙ sym finds.same; listed = finds.touched s.order for.listed };
+        next = record { same = places; listed = hits.touched s.order for.listed };
       });
   marks =
       subst
       (λ (ps : List (Option KeptLine)).
-      MovesMarks hit_answer f.number false (mark_of f.old.places) (mark_of ps))
-      (sym finds.same) (marks_same f.old.places f.way f.number finds.found);
+      MovesMarks hit_answer h.number h.store (mark_of h.old.places) (mark_of ps))
+      (sym hits.places) (marks_hit h.old.places h.way h.number hits.found h.store);
 }
 
--- and of the cache
+-- what a sound cache says of a set that was read
+module _ {P : Type 0} (takes : P → ℕ → Type 0) (stands : P → ℕ → ℕ → List ℕ → Type 0)
+    (cache : Contents P) (t : OneTouch)
+    (sound : IsSound takes stands cache) (at : IsOfTable cache.table t) where
+  full_at : length t.old.places ≡ cache.ways
+  full_at =
+      read_at (λ (k : KeptSet). length k.places ≡ cache.ways) cache.table t.set t.old at.below at.read
+      sound.full
+
+  pub once_at : IsOnce t.old.places
+  once_at =
+      read_at (λ (k : KeptSet). IsOnce k.places) cache.table t.set t.old at.below at.read sound.once
+
+  valid_at : (list : List ℕ) × stands cache.policy cache.ways t.old.state list
+  valid_at =
+      read_at (λ (k : KeptSet). (list : List ℕ) × stands cache.policy cache.ways k.state list)
+      cache.table t.set t.old at.below at.read sound.valid
+
+-- and a touch of the cache
 pub table_hit : {P : Type 0} (takes : P → ℕ → Type 0) (rule : P → ℕ → Rule)
     (stands : P → ℕ → ℕ → List ℕ → Type 0)
-    (cache : Contents P) (f : OneFind) → IsSound takes stands cache → IsOfTable cache.table
-    (touch_of_find f)
-    → FindsWay (rule cache.policy cache.ways) (stands cache.policy cache.ways) f
-    → IsTouch takes rule stands hit_answer f.number false cache (with_set cache (touch_of_find f))
-table_hit takes rule stands cache f sound at finds =
-    let table : List KeptSet = cache.table in
-    let of : ℕ → List ℕ → Type 0 = stands cache.policy cache.ways in
-    let full =
-    read_at (λ (k : KeptSet). length k.places ≡ cache.ways) table f.set f.old at.below at.read
-    sound.full in
-    let once =
-    read_at (λ (k : KeptSet). IsOnce k.places) table f.set f.old at.below at.read sound.once in
-    let valid =
-    read_at (λ (k : KeptSet). (list : List ℕ) × of k.state list) table f.set f.old at.below at.read
-    sound.valid in
-    let left : LeavesSet of cache.ways (touch_of_find f) = record {
-      full = ap length finds.same ∙ full;
-      valid = ((rule cache.policy cache.ways).touched valid.0 f.way, finds.touched valid.0 valid.1);
-      once = subst IsOnce (sym finds.same) once;
-      moves =
+    (cache : Contents P) (h : OneHit) → IsSound takes stands cache → IsOfTable cache.table
+    (touch_of_hit h)
+    → HitsWay (rule cache.policy cache.ways) (stands cache.policy cache.ways) h
+    → IsTouch takes rule stands hit_answer h.number h.store cache (with_set cache (touch_of_hit h))
+table_hit takes rule stands cache h sound at hits =
+    let t : OneTouch = touch_of_hit h in
+    let ps : List (Option KeptLine) = h.old.places in
+    let valid = valid_at takes stands cache t sound at in
+    let Leaves : List (Option KeptLine) → Type 0 = λ qs.
+    (length qs ≡ cache.ways) × IsOnce qs × MovesLines hit_answer h.number (ways_of ps) (ways_of qs) in
+    let left : Leaves h.new.places =
+    subst Leaves (sym hits.places) (
+      length-hit ps h.way h.number hits.found h.store ∙ full_at takes stands cache t sound at,
+      once_hit ps h.way h.number hits.found h.store (once_at takes stands cache t sound at),
+      moves_hit ps h.way h.number hits.found h.store,
+    ) in
+    table_touch takes rule stands cache t sound at (record {
+      full = left.0;
+      valid = ((rule cache.policy cache.ways).touched valid.0 h.way, hits.touched valid.0 valid.1);
+      once = left.1;
+      moves = left.2;
+    })
+    (hit_steps (rule cache.policy cache.ways) (stands cache.policy cache.ways) h hits)
+
+-- ---- misses
+
+-- a fill of a way with a line that its set doesn't keep
+pub record OneFill : Type 0 where
+  pub number : ℕ
+  pub store : Bool
+  pub way : ℕ
+  pub set : ℕ
+  pub old : KeptSet
+  pub new : KeptSet
+
+-- the answer tells of what the way kept
+abbrev pub fill_answer : List (Option KeptLine) → ℕ → Touch
+fill_answer places way = record {
+  hit = false;
+  victim = option_map (λ (line : KeptLine). line.number) (get_or places way None);
+  dirty_victim = is_dirty (get_or places way None);
+}
+
+abbrev pub touch_of_fill : OneFill → OneTouch
+touch_of_fill f = record {
+  number = f.number;
+  store = f.store;
+  answer = fill_answer f.old.places f.way;
+  set = f.set;
+  old = f.old;
+  new = f.new;
+}
+
+-- what is so of the set
+pub record FillsWay (rule : Rule) (stands : ℕ → List ℕ → Type 0) (f : OneFill) : Type 0 where
+  pub missing : way_of f.number f.old.places ≡ None
+  pub within : f.way < length f.old.places
+  pub places : f.new.places ≡ set f.old.places f.way (Some (record { number = f.number; dirty = f.store }))
+  pub chosen : (list : List ℕ) → stands f.old.state list
+      → f.way ≡ unwrap_or (position is_none f.old.places) (rule.victim list)
+  pub filled : (list : List ℕ) → stands f.old.state list → stands f.new.state (rule.filled list f.way)
+
+-- a fill is a step of its set
+fill_steps : (rule : Rule) (stands : ℕ → List ℕ → Type 0) (f : OneFill) → IsOnce f.old.places
+    → FillsWay rule stands f → StepsSet rule stands (touch_of_fill f)
+fill_steps rule stands f once fills =
+    let answer : Touch = fill_answer f.old.places f.way in
+    let line : Option KeptLine = Some (record { number = f.number; dirty = f.store }) in
+    record {
+      step = λ s for.
+          let missing : way_of f.number s.places ≡ None =
+          ap (way_of f.number) for.same ∙ fills.missing in
+          let chosen : f.way ≡ way_for rule s =
+          fills.chosen s.order for.listed
+          ∙ ap (λ (ps : List (Option KeptLine)). unwrap_or (position is_none ps) (rule.victim s.order))
+          (sym for.same) in
+          let places : set s.places f.way line ≡ f.new.places =
+          ap (λ (ps : List (Option KeptLine)). set ps f.way line) for.same ∙ sym fills.places in
+          subst (λ (o : Option ℕ). SetSteps stands answer f.new (step_by rule s f.number f.store o))
+          (sym missing)
+          (subst (λ (w : ℕ). SetSteps stands answer f.new (miss_at rule s f.number f.store w)) chosen
+          (record {
+            answered = ap (λ (ps : List (Option KeptLine)). fill_answer ps f.way) (sym for.same);
+            next = record { same = places; listed = fills.filled s.order for.listed };
+          }));
+      marks =
           subst
           (λ (ps : List (Option KeptLine)).
-          MovesLines hit_answer f.number (ways_of f.old.places) (ways_of ps))
-          (sym finds.same) (moves_same f.old.places f.way f.number finds.found);
-    } in
-    table_touch takes rule stands cache (touch_of_find f) sound at left
-    (find_steps (rule cache.policy cache.ways) of f finds)
+          MovesMarks answer f.number f.store (mark_of f.old.places) (mark_of ps))
+          (sym fills.places)
+          (marks_filled f.old.places f.way f.number f.store answer.victim answer.dirty_victim fills.within
+          once fills.missing refl refl);
+    }
+
+-- and a touch of the cache
+pub table_fill : {P : Type 0} (takes : P → ℕ → Type 0) (rule : P → ℕ → Rule)
+    (stands : P → ℕ → ℕ → List ℕ → Type 0)
+    (cache : Contents P) (f : OneFill) → IsSound takes stands cache → IsOfTable cache.table
+    (touch_of_fill f)
+    → FillsWay (rule cache.policy cache.ways) (stands cache.policy cache.ways) f
+    → IsTouch takes rule stands (fill_answer f.old.places f.way) f.number f.store cache
+    (with_set cache (touch_of_fill f))
+table_fill takes rule stands cache f sound at fills =
+    let t : OneTouch = touch_of_fill f in
+    let ps : List (Option KeptLine) = f.old.places in
+    let line : Option KeptLine = Some (record { number = f.number; dirty = f.store }) in
+    let once = once_at takes stands cache t sound at in
+    let valid = valid_at takes stands cache t sound at in
+    let Leaves : List (Option KeptLine) → Type 0 = λ qs.
+    (length qs ≡ cache.ways) × IsOnce qs × MovesLines t.answer f.number (ways_of ps) (ways_of qs) in
+    let left : Leaves f.new.places =
+    subst Leaves (sym fills.places) (
+      length-set ps f.way line ∙ full_at takes stands cache t sound at,
+      once_put ps f.way f.number f.store fills.within once (λ k _. none_of_way f.number ps fills.missing k),
+      moves_filled ps f.way f.number f.store t.answer.dirty_victim t.answer.victim fills.within once
+          fills.missing refl,
+    ) in
+    table_touch takes rule stands cache t sound at (record {
+      full = left.0;
+      valid = ((rule cache.policy cache.ways).filled valid.0 f.way, fills.filled valid.0 valid.1);
+      once = left.1;
+      moves = left.2;
+    })
+    (fill_steps (rule cache.policy cache.ways) (stands cache.policy cache.ways) f once fills)

@@ -1,10 +1,11 @@
 -- What the calls of a cache promise, each named once. `takes`, `rule` and `stands` are the policy's members.
-use Rattle.std.specs.Prelude.{◌≡◌, ◌≢◌, ℕ, ◌<◌, ◌≤◌, ◌*◌, ◌%◌, ◌^◌, Bool, false, List, length, Option, None}
+use Rattle.std.specs.Prelude.{◌≡◌, ◌≢◌, ℕ, ◌<◌, ◌≤◌, ◌+◌, ◌*◌, ◌%◌, ◌^◌, Bool, false, List, length, None, if◌then◌else◌, ◌==◌}
 use Rattle.std.specs.Int.{IsPowerOfTwo}
 use Rattle.tp_base.specs.Table.{empty}
 use Rattle.set_cache.specs.Rule.{Rule}
 use Rattle.set_cache.specs.Cache.{Sets, touch_of, dirty_of}
 use Rattle.set_cache.specs.Contents.{Contents, StandsFor, SameShape, CacheSteps, IsSound, kept_at, shape_of}
+use Rattle.set_cache.specs.Packed.{greatest_epoch}
 use Rattle.set_cache.specs.Lines.{MovesLines, MovesMarks, place_in, mark_in, dirty_kept}
 use Rattle.set_cache.specs.declared.Touch.{Touch}
 
@@ -52,3 +53,7 @@ pub record IsFlush {P : Type 0} (takes : P → ℕ → Type 0) (rule : P → ℕ
   pub few : count ≤ length old.table * old.ways
   pub fresh : StandsFor stands new empty
   pub none : (number : ℕ) → place_in new number ≡ None
+
+-- how many entries, policy states and epochs a flush writes: all where the epoch is the greatest, else the epoch alone
+abbrev pub flush_steps : {P : Type 0} → Contents P → ℕ
+flush_steps contents = if contents.epoch == greatest_epoch then 1 + length contents.table * (contents.ways + 1) else 1

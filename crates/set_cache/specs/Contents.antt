@@ -12,20 +12,29 @@ pub record KeptSet : Type 0 where
   pub places : List (Option KeptLine)
   pub state : ℕ
 
--- the whole cache: the policy, the number of ways, and the sets in order
+-- the whole cache: the policy, the number of ways, the epoch, which each flush raises, and the sets in order
 pub record Contents (P : Type 0) : Type 0 where
   pub policy : P
   pub ways : ℕ
+  pub epoch : ℕ
   pub table : List KeptSet
 
 abbrev pub coded_line : Coded KeptLine
-coded_line = code_by (ℕ × Bool) (coded× coded_ℕ coded_bool) (λ h. (h.number, h.dirty)) (λ p. record { number = p.0; dirty = p.1 }) (λ _. refl)
+coded_line =
+    code_by (ℕ × Bool) (coded× coded_ℕ coded_bool)
+    (λ h. (h.number, h.dirty)) (λ p. record { number = p.0; dirty = p.1 }) (λ _. refl)
 
 abbrev pub coded_set : Coded KeptSet
-coded_set = code_by (List (Option KeptLine) × ℕ) (coded× (coded_list (coded_option coded_line)) coded_ℕ) (λ k. (k.places, k.state)) (λ p. record { places = p.0; state = p.1 }) (λ _. refl)
+coded_set =
+    code_by (List (Option KeptLine) × ℕ) (coded× (coded_list (coded_option coded_line)) coded_ℕ)
+    (λ k. (k.places, k.state)) (λ p. record { places = p.0; state = p.1 }) (λ _. refl)
 
 abbrev pub coded_contents : {P : Type 0} → Coded P → Coded (Contents P)
-coded_contents {P} p = code_by (P × (ℕ × List KeptSet)) (coded× p (coded× coded_ℕ (coded_list coded_set))) (λ c. (c.policy, (c.ways, c.table))) (λ t. record { policy = t.0; ways = t.1.0; table = t.1.1 }) (λ _. refl)
+coded_contents {P} p =
+    code_by (P × (ℕ × (ℕ × List KeptSet))) (coded× p (coded× coded_ℕ (coded× coded_ℕ (coded_list coded_set))))
+    (λ c. (c.policy, (c.ways, (c.epoch, c.table))))
+    (λ t. record { policy = t.0; ways = t.1.0; epoch = t.1.1.0; table = t.1.1.1 })
+    (λ _. refl)
 
 -- a set by its number
 abbrev pub kept_at : List KeptSet → ℕ → KeptSet
@@ -77,7 +86,8 @@ IsOnce places = (number i j : ℕ)
 
 -- each line stands in the set of its number
 abbrev pub IsHome : List KeptSet → Type 0
-IsHome table = (s number way : ℕ) → is_line number (slice_index_or (kept_at table s).places way None) ≡ true → number % length table ≡ s
+IsHome table = (s number way : ℕ)
+    → is_line number (slice_index_or (kept_at table s).places way None) ≡ true → number % length table ≡ s
 
 -- what is true of every cache
 pub record IsSound {P : Type 0} (takes : P → ℕ → Type 0) (stands : P → ℕ → ℕ → List ℕ → Type 0) (contents : Contents P)

@@ -1,5 +1,7 @@
 pub mod Rule
 pub mod Cache
 pub mod Contents
+pub mod Packed
 pub mod Lines
+pub mod Last
 pub mod Calls

@@ -1,34 +1,72 @@
 // The whole cache, whose calls each work on the one set of a number, but for
 // those that count or empty all.
-ghost use Rattle.std.specs.Prelude.{◌≡◌, ◌%◌, ◌<◌};
+ghost use Rattle.std.specs.Prelude.{◌≡◌, ◌%◌, ◌<◌, ℕ, List, length, position, is_none, unwrap_or};
 ghost use Rattle.std.specs.Int.{IsPowerOfTwo};
+ghost use Rattle.set_cache.specs.Contents.{kept_at};
 
-use crate::one_set::OneSet;
-use crate::{Policy, Touch};
+use crate::packed::PackedSets;
+use crate::{KeptLine, Policy, Touch};
 use std::alloc::Global;
 use std::marker::Model;
 use tp_base::Memory;
+
+/// The line that was touched last. A second touch of it changes nothing, unless
+/// it is its first store: so the policies' clauses `again` say.
+#[derive(Clone, Copy)]
+pub struct LastTouch {
+    number: u32,
+    place: u32,
+    dirty: bool,
+}
 
 /// A set-associative store of numbers: a number stands in the set of its
 /// remainder by the number of sets, which is a power of two.
 #[derive(Drop)]
 pub struct SetCache<P: Policy> {
     policy: P,
-    ways: u32,
-    table: Vec<OneSet>,
+    packed: PackedSets,
+    last: Option<LastTouch>,
 }
 
 impl<P: Policy> Model for SetCache<P> {
-    ghost use Rattle.set_cache.specs.Contents.{Contents, coded_contents, IsSound};
+    ghost use Rattle.set_cache.specs.Contents.{Contents, coded_contents};
+    ghost use Rattle.set_cache.specs.Last.{IsCache};
 
     ghost Value = { Contents P };
 
     ghost coded = { coded_contents P.code };
 
-    ghost view = { λ a. record { policy = a.policy; ways = a.ways; table = a.table.items } };
+    ghost view = { λ a. record {
+      policy = a.policy;
+      ways = a.packed.ways;
+      epoch = a.packed.epoch;
+      table = a.packed.table;
+    } };
 
-    ghost invariant = { λ a. IsSound P.takes P.stands_for
-        (record { policy = a.policy; ways = a.ways; table = a.table.items }) };
+    ghost invariant = { λ a. IsCache P.takes P.rule P.stands_for (record {
+      policy = a.policy;
+      ways = a.packed.ways;
+      epoch = a.packed.epoch;
+      table = a.packed.table;
+    }) a.packed.fresh a.last };
+}
+
+const HIT: Touch = Touch {
+    hit: true,
+    victim: None,
+    dirty_victim: false,
+};
+
+impl LastTouch {
+    ghost use Rattle.std.specs.Prelude.{◌&&◌, ◌||◌, ◌==◌, not};
+
+    /// Whether a touch finds everything as it would leave it.
+    #[inline(always)]
+    fn repeats(self, number: u32, store: bool) -> bool
+        ensures value { result ≡ (self.number == number && (self.dirty || not store)) }
+    {
+        self.number == number && (self.dirty || !store)
+    }
 }
 
 /// The set of a number: its low bits.
@@ -41,14 +79,32 @@ fn set_of(number: u32, sets: usize) -> usize
     number as usize & (sets - 1)
 }
 
-impl<P: Policy> SetCache<P> {
-    ghost use Rattle.std.specs.Prelude.{◌≤◌, ◌*◌, ℕ, length, true, is_some, IfOk, IfSome, IfNone};
-    ghost use Rattle.set_cache.specs.Cache.{Sets, place_of, dirty_of};
-    ghost use Rattle.set_cache.specs.Contents.{StandsFor, IsSound, shape_of};
-    ghost use Rattle.set_cache.specs.Lines.{place_in, dirty_kept};
-    ghost use Rattle.set_cache.specs.Calls.{IsGeometry, IsNew, IsTouch, TellsHit, IsFlush};
+/// The way that a miss takes in a set: the least empty one, else the victim.
+#[inline(always)]
+fn way_for<P: Policy>(policy: &P, packed: &PackedSets, set: usize, state: u64) -> usize
+    requires taken { P.takes policy.now packed.now.ways }
+    requires below { set < length packed.now.table }
+    requires valid { (list : List ℕ) × P.stands_for policy.now packed.now.ways state list }
+    ensures within { result < packed.now.ways }
+    ensures value { (list : List ℕ) → P.stands_for policy.now packed.now.ways state list
+        → result ≡ unwrap_or (position is_none (kept_at packed.now.table set).places)
+        ((P.rule policy.now packed.now.ways).victim list) }
+{
+    match packed.empty_way(set) {
+        Some(way) => way,
+        None => policy.victim(packed.ways(), state) as usize,
+    }
+}
 
-    /// A cache of fresh sets.
+impl<P: Policy> SetCache<P> {
+    ghost use Rattle.std.specs.Prelude.{◌≢◌, ◌≤◌, ◌+◌, ◌*◌, ◌^◌, true, false, is_some, Some, None, IfOk, IfSome, IfNone};
+    ghost use Rattle.set_cache.specs.Cache.{Sets, place_of, dirty_of, way_of};
+    ghost use Rattle.set_cache.specs.Contents.{StandsFor, IsSound, shape_of};
+    ghost use Rattle.set_cache.specs.Packed.{epoch_after};
+    ghost use Rattle.set_cache.specs.Lines.{place_in, dirty_kept};
+    ghost use Rattle.set_cache.specs.Calls.{IsGeometry, IsNew, IsTouch, TellsHit, IsFlush, flush_steps};
+
+    /// A cache of fresh sets, in epoch 1.
     ///
     /// # Errors
     ///
@@ -56,15 +112,35 @@ impl<P: Policy> SetCache<P> {
     pub fn new(alloc: Global, policy: P, sets: u32, ways: u32) -> Result<Self, Memory>
         requires geometry { IsGeometry (P.takes policy) sets ways }
         ensures made { IfOk result (λ cache. IsNew P.takes P.stands_for policy sets ways cache) }
+        ensures epoch { IfOk result (λ cache. cache.epoch ≡ 1) }
     {
-        let mut table = Vec::with_capacity(alloc, sets as usize)?;
-        for _ in 0..sets {
-            table.push(OneSet::new(alloc, ways, policy.fresh(ways))?)?;
-        }
+        SetCache::new_at(alloc, policy, sets, ways, 1)
+    }
+
+    /// A cache of fresh sets, in an epoch, of which each flush begins the next.
+    /// In which epoch a cache is shows in the steps of a flush alone.
+    ///
+    /// # Errors
+    ///
+    /// `Memory`, where memory ran out.
+    pub fn new_at(
+        alloc: Global,
+        policy: P,
+        sets: u32,
+        ways: u32,
+        epoch: u32,
+    ) -> Result<Self, Memory>
+        requires geometry { IsGeometry (P.takes policy) sets ways }
+        requires counts { epoch ≢ 0 }
+        ensures made { IfOk result (λ cache. IsNew P.takes P.stands_for policy sets ways cache) }
+        ensures epoch { IfOk result (λ cache. cache.epoch ≡ epoch) }
+    {
+        let fresh = policy.fresh(ways);
+        let packed = PackedSets::new(alloc, sets, ways, epoch, fresh)?;
         Ok(SetCache {
             policy,
-            ways,
-            table,
+            packed,
+            last: None,
         })
     }
 
@@ -73,10 +149,70 @@ impl<P: Policy> SetCache<P> {
     #[inline(always)]
     pub fn touch(&mut self, number: u32, store: bool) -> Touch
         ensures touch { IsTouch P.takes P.rule P.stands_for result number store self.old self.new }
+        ensures epoch { self.new.epoch ≡ self.old.epoch }
     {
-        let index = set_of(number, self.table.len());
-        let set = &mut self.table[index];
-        set.touch(&self.policy, self.ways, number, store)
+        if let Some(last) = self.last {
+            if last.repeats(number, store) {
+                return HIT;
+            }
+        }
+        let set = set_of(number, self.packed.count());
+        match self.packed.find(set, number) {
+            Some(way) => {
+                self.hit(set, way, number, store);
+                HIT
+            }
+            None => self.fill(set, number, store),
+        }
+    }
+
+    /// A touch of a line that its set keeps at this way.
+    #[inline(always)]
+    fn hit(&mut self, set: usize, way: usize, number: u32, store: bool)
+        requires home { set ≡ number % length self.old.table }
+        requires found { way_of number (kept_at self.old.table set).places ≡ Some way }
+        requires within { way < self.old.ways }
+        ensures touch { IsTouch P.takes P.rule P.stands_for
+            (record { hit = true; victim = None; dirty_victim = false }) number store self.old self.new }
+        ensures epoch { self.new.epoch ≡ self.old.epoch }
+    {
+        let ways = self.packed.ways();
+        let state = self.policy.touch(ways, self.packed.state(set), way as u32);
+        let dirty = self.packed.write_hit(set, way, number, store, state);
+        self.last = Some(LastTouch {
+            number,
+            place: set as u32 * ways + way as u32,
+            dirty,
+        });
+    }
+
+    /// A touch of a line that its set doesn't keep.
+    #[inline(always)]
+    fn fill(&mut self, set: usize, number: u32, store: bool) -> Touch
+        requires home { set ≡ number % length self.old.table }
+        requires missing { way_of number (kept_at self.old.table set).places ≡ None }
+        ensures touch { IsTouch P.takes P.rule P.stands_for result number store self.old self.new }
+        ensures epoch { self.new.epoch ≡ self.old.epoch }
+    {
+        let ways = self.packed.ways();
+        let state = self.packed.state(set);
+        let way = way_for(&self.policy, &self.packed, set, state);
+        let state = self.policy.fill(ways, state, way as u32);
+        let line = KeptLine {
+            number,
+            dirty: store,
+        };
+        let old = self.packed.write(set, way, line, state);
+        self.last = Some(LastTouch {
+            number,
+            place: set as u32 * ways + way as u32,
+            dirty: store,
+        });
+        Touch {
+            hit: false,
+            victim: old.map(|line| line.number),
+            dirty_victim: old.is_some_and(|line| line.dirty),
+        }
     }
 
     /// Whether a line is here.
@@ -98,10 +234,9 @@ impl<P: Policy> SetCache<P> {
         ensures below { IfSome result (λ place. place < length self.now.table * self.now.ways) }
         ensures sound { IsSound P.takes P.stands_for self.now }
     {
-        let index = set_of(number, self.table.len());
-        let set = &self.table[index];
-        let way = set.way_of(number)?;
-        Some(index as u32 * self.ways + way as u32)
+        let set = set_of(number, self.packed.count());
+        let way = self.packed.find(set, number)?;
+        Some(set as u32 * self.packed.ways() + way as u32)
     }
 
     /// The place of a line, where it is here: a touch then, that is no store.
@@ -115,10 +250,17 @@ impl<P: Policy> SetCache<P> {
         ensures missed { IfNone result (self.new ≡ self.old) }
         ensures touch { IfSome result (λ _.
             TellsHit P.takes P.rule P.stands_for true number self.old self.new) }
+        ensures epoch { self.new.epoch ≡ self.old.epoch }
     {
-        let index = set_of(number, self.table.len());
-        let way = self.table[index].find(&self.policy, self.ways, number)?;
-        Some(index as u32 * self.ways + way as u32)
+        if let Some(last) = self.last {
+            if last.number == number {
+                return Some(last.place);
+            }
+        }
+        let set = set_of(number, self.packed.count());
+        let way = self.packed.find(set, number)?;
+        self.hit(set, way, number, false);
+        Some(set as u32 * self.packed.ways() + way as u32)
     }
 
     /// The number of lines with a dirty mark.
@@ -129,11 +271,7 @@ impl<P: Policy> SetCache<P> {
             → result ≡ dirty_of (shape_of P.rule self.now) sets }
         ensures few { result ≤ length self.now.table * self.now.ways }
     {
-        let mut total = 0;
-        for set in &self.table {
-            total += set.dirty();
-        }
-        total
+        self.packed.dirty()
     }
 
     /// Makes every set fresh, its policy state too, and answers how many lines
@@ -141,13 +279,27 @@ impl<P: Policy> SetCache<P> {
     #[inline(always)]
     pub fn flush(&mut self) -> u32
         ensures flush { IsFlush P.takes P.rule P.stands_for result self.old self.new }
+        ensures epoch { self.new.epoch ≡ epoch_after self.old.epoch }
     {
-        let total = self.dirty();
-        let state = self.policy.fresh(self.ways);
-        for set in self.table.iter_mut() {
-            set.clear(state);
-        }
-        total
+        // For the prover: what is true of the packed sets bounds the steps.
+        let _ = self.packed.ways();
+        let mut steps = 0;
+        self.flush_counted(&mut steps)
+    }
+
+    /// As `flush`, with a step counted for each entry, policy state or epoch
+    /// that is written: one, but in the greatest epoch, in which everything is.
+    #[inline(always)]
+    pub fn flush_counted(&mut self, steps: &mut u64) -> u32
+        requires room { steps.old + (1 + length self.old.table * (self.old.ways + 1)) < 2 ^ 64 }
+        ensures flush { IsFlush P.takes P.rule P.stands_for result self.old self.new }
+        ensures epoch { self.new.epoch ≡ epoch_after self.old.epoch }
+        ensures steps { steps.new ≡ steps.old + flush_steps self.old }
+    {
+        let dirty = self.packed.dirty();
+        self.packed.empty(steps);
+        self.last = None;
+        dirty
     }
 }
 

@@ -4,7 +4,7 @@
 #![tactic(auto)]
 
 mod cache;
-mod one_set;
+mod packed;
 mod policy;
 
 pub use cache::SetCache;

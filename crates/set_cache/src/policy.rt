@@ -25,6 +25,10 @@ pub trait Policy: Drop {
         requires valid { (list : List ℕ) × stands_for self.now ways state list }
         requires below { way < ways }
         ensures touched { (list : List ℕ) → stands_for self.now ways state list
+            → stands_for self.now ways result ((rule self.now ways).touched list way) }
+
+        // A second hit on the way changes nothing.
+        ensures again { (list : List ℕ) → stands_for self.now ways result list
             → stands_for self.now ways result ((rule self.now ways).touched list way) };
 
     /// The state after a fill of a way.
@@ -33,7 +37,11 @@ pub trait Policy: Drop {
         requires valid { (list : List ℕ) × stands_for self.now ways state list }
         requires below { way < ways }
         ensures filled { (list : List ℕ) → stands_for self.now ways state list
-            → stands_for self.now ways result ((rule self.now ways).filled list way) };
+            → stands_for self.now ways result ((rule self.now ways).filled list way) }
+
+        // Neither does a hit on the way then.
+        ensures again { (list : List ℕ) → stands_for self.now ways result list
+            → stands_for self.now ways result ((rule self.now ways).touched list way) };
 
     /// The way to give up where none is empty.
     fn victim(&self, ways: u32, state: u64) -> u32

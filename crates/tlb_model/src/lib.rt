@@ -46,8 +46,29 @@ impl<P: Policy> Tlb<P> {
         ensures made { IfOk result (λ tlb. IsNew P.takes P.stands_for policy sets ways tlb.pages) }
         ensures none { IfOk result (λ tlb. (page : ℕ) → leaf_of tlb page ≡ None) }
     {
+        Tlb::new_at(alloc, policy, sets, ways, 1)
+    }
+
+    /// A buffer that keeps no page, whose `SetCache` is in this epoch.
+    ///
+    /// # Errors
+    ///
+    /// `Memory`, where memory ran out.
+    pub fn new_at(
+        alloc: Global,
+        policy: P,
+        sets: u32,
+        ways: u32,
+        epoch: u32,
+    ) -> Result<Self, Memory>
+        requires geometry { IsGeometry (P.takes policy) sets ways }
+        requires counts { epoch ≢ 0 }
+        ensures made { IfOk result (λ tlb. IsNew P.takes P.stands_for policy sets ways tlb.pages) }
+        ensures none { IfOk result (λ tlb. (page : ℕ) → leaf_of tlb page ≡ None) }
+        ensures epoch { IfOk result (λ tlb. tlb.pages.epoch ≡ epoch) }
+    {
         Ok(Tlb {
-            pages: SetCache::new(alloc, policy, sets, ways)?,
+            pages: SetCache::new_at(alloc, policy, sets, ways, epoch)?,
             leaves: vec![in alloc; 0; (sets * ways) as usize]?,
         })
     }

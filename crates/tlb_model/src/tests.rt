@@ -39,3 +39,33 @@ fn one_place_keeps_the_last_page(rt: HostRuntime) -> Result<(), Fail> {
     assert_eq!(rt; tlb.find(1_048_575), None);
     Ok(())
 }
+
+// How many of these look-ups, each with a fill where it misses, the two answer otherwise.
+fn differences(aged: &mut Tlb<Lru>, new: &mut Tlb<Lru>) -> u32 {
+    let mut count = 0u32;
+    for page in [1, 2, 3, 1, 5, 3, 9, 1, 2] {
+        let found = new.find(page);
+        if aged.find(page) != found {
+            count = count.saturating_add(1);
+        }
+        if found.is_none() {
+            new.fill(page, page + 100);
+        }
+        if aged.find(page).is_none() {
+            aged.fill(page, page + 100);
+        }
+    }
+    count
+}
+
+#[test]
+fn the_greatest_epoch_is_passed(rt: HostRuntime) -> Result<(), Fail> {
+    let mut aged = Tlb::new_at(rt.alloc(), Lru, 2, 2, u32::MAX - 1)?;
+    for _ in 0..4 {
+        let mut new = Tlb::new(rt.alloc(), Lru, 2, 2)?;
+        assert_eq!(rt; differences(&mut aged, &mut new), 0);
+        assert_eq!(rt; aged.flush(), 0);
+        assert_eq!(rt; aged.find(1), None);
+    }
+    Ok(())
+}

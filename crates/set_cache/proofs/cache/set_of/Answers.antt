@@ -1,4 +1,4 @@
-use Rattle.std.proofs.Common.{◌≡◌, ◌<◌, ◌%◌, ◌-◌, arith}
+use Rattle.std.proofs.Common.{arith}
 use Rattle.std.proofs.lemmas.Nat.{mod_below}
 use Rattle.set_cache.proofs.Powers.{positive, low_bits}
 use Rattle.set_cache.proofs.cache.set_of.Goals as goal
