@@ -2,11 +2,12 @@
 use Rattle.std.proofs.Common.{arith, ◌≡◌, ◌≢◌, ◌∙◌, ap, sym, subst, refl, zero-add, ℕ, ◌+◌, ◌*◌, ◌/◌, ◌%◌, ◌<◌, ◌≤◌, true, false, List, [], length, inl, inr, get_or-set_same, get_or-set_other, length-set}
 use Rattle.std.proofs.lemmas.Bool.{cases_eq, cases_lt}
 use Rattle.std.proofs.lemmas.Grind.{same_number_lists}
+use Rattle.std.proofs.lemmas.List.Edits.{length-between, get_or-between}
 use Rattle.std.proofs.lemmas.List.FromFn.{length-map-range_with_len, get_or-map-range_with_len}
 use Rattle.std.proofs.lemmas.Bool.Decides.{nat_tests}
 use Rattle.std.proofs.lemmas.List.{get_or_default, get_or-map}
-use Rattle.std.specs.Prelude.{slice_index, slice_index_or, slice_set}
-use Rattle.phys_mem.specs.Contents.{Contents, zeroed_words, is_marked}
+use Rattle.std.specs.Prelude.{slice_index, slice_index_or, slice_set, slice_range}
+use Rattle.phys_mem.specs.Contents.{Contents, frame_words, zeroed_words, is_marked}
 use Rattle.phys_mem.specs.Slots.{word_in, words_in, held, is_zero_slot, times, once_made, AreSlots}
 use Rattle.phys_mem.proofs.FrameLemmas.{word_of-index, word_of-zeroed_same, word_of-zeroed_other}
 use Rattle.phys_mem.proofs.TimesLemmas.{times-there, times-apart, once_made-made, once_made-most}
@@ -105,6 +106,26 @@ module _ (slots unused words : List ℕ) (are : AreSlots slots unused words) whe
   pub marked_zero : (frame place : ℕ) → slice_index slots frame ≡ 0 → place < 1024 → slice_index words (1024 * slice_index slots frame + place) ≡ 0
   marked_zero frame place marked in_frame =
       ap (λ (k : ℕ). slice_index words k) (omega (arith, marked)) ∙ are.zero place in_frame
+
+  -- ---- a frame's words are those of its slot
+
+  pub slot_words : (frame : ℕ) → frame < length slots
+      → slice_range words (1024 * slice_index slots frame) (1024 * slice_index slots frame + 1024) ≡ frame_words (held slots words) frame
+  slot_words frame within =
+      let slot = slice_index slots frame in
+      let first = length-between words (1024 * slot) (1024 * slot + 1024) (slot_made frame within) in
+      let second = length-between (words_in slots words) (1024 * frame) (1024 * frame + 1024) (omega (arith, within, length-words_in slots words)) in
+      same_number_lists (slice_range words (1024 * slot) (1024 * slot + 1024)) (frame_words (held slots words) frame)
+      (omega (arith, first, second))
+      (λ place below.
+      let in_frame : place < 1024 = omega (arith, below, first) in
+      let is_frame : (1024 * frame + place) / 1024 ≡ frame = omega (arith, in_frame) in
+      let is_place : (1024 * frame + place) % 1024 ≡ place = omega (arith, in_frame) in
+      get_or-between words (1024 * slot) (1024 * slot + 1024) place 0 (omega (arith, in_frame))
+      ∙ ap (λ (p : ℕ). slice_index words (1024 * slice_index slots frame + p)) (sym is_place)
+      ∙ ap (λ (f : ℕ). slice_index words (1024 * slice_index slots f + (1024 * frame + place) % 1024)) (sym is_frame)
+      ∙ sym (index-words_in slots words (1024 * frame + place) (omega (arith, within, in_frame)))
+      ∙ sym (word_of-index (held slots words) frame place in_frame))
 
   -- ---- a word is written into a frame with a slot of its own
 

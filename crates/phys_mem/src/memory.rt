@@ -108,6 +108,17 @@ impl PhysMem {
         self.slots[frame.number() as usize] == ZERO_SLOT
     }
 
+    /// The words of a frame, in order.
+    pub fn words_of(&self, frame: FrameNo) -> &[u32]
+        requires frame { frame < self.now.frames }
+        ensures value { result.now ≡ frame_words self.now frame }
+        ensures whole { length result.now ≡ 1024 }
+    {
+        let slot = self.slots[frame.number() as usize] as usize;
+        let start = FRAME_WORDS * slot;
+        &self.words[start..start + FRAME_WORDS]
+    }
+
     /// The word at an address, a multiple of 4, in memory.
     #[inline(always)]
     pub fn read_word(&self, at: u32) -> u32
