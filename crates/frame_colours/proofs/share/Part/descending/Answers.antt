@@ -30,10 +30,13 @@ loop-frame-preserved-then-has_colour c =
     let mine : has_colour c.args.self.now (c.loop-frame.frame - 1) ≡ true =
     sym (c.has_colour.ensures.value (c.loop-frame.frame - 1) colour) ∙ c.if-has_colour.true
     in
-    let pushed : c.push_reserved.new.self.items ≡ c.loop-frame.frames.items ++ (c.loop-frame.frame - 1) ∷ [] = search rules in
-    (listed_own c.args.self.now c.loop-frame.frames.items c.push_reserved.new.self.items (c.loop-frame.frame - 1) c.loop-frame.frame mine
-    (omega (arith, c.loop-frame-test.true)) c.loop-frame.invariant.1 pushed c.loop-frame.invariant.0,
-    omega (arith, c.loop-frame.invariant.1), search rules, sym colour)
+    let pushed : c.push_reserved.new.self.items ≡ c.loop-frame.frames.items ++ (c.loop-frame.frame - 1) ∷ [] = search rules in (
+      listed_own c.args.self.now c.loop-frame.frames.items c.push_reserved.new.self.items (c.loop-frame.frame - 1) c.loop-frame.frame mine
+          (omega (arith, c.loop-frame-test.true)) c.loop-frame.invariant.1 pushed c.loop-frame.invariant.0,
+      omega (arith, c.loop-frame.invariant.1),
+      search rules,
+      sym colour,
+    )
 
 pub loop-frame-preserved : goal.loop-frame-preserved
 loop-frame-preserved c =
@@ -43,10 +46,13 @@ loop-frame-preserved c =
     in
     let other : has_colour c.args.self.now (c.loop-frame.frame - 1) ≡ false =
     sym (c.has_colour.ensures.value (c.loop-frame.frame - 1) colour) ∙ c.if-has_colour.false
-    in
-    (listed_other c.args.self.now c.loop-frame.frames.items (c.loop-frame.frame - 1) c.loop-frame.frame other
-    (omega (arith, c.loop-frame-test.true)) c.loop-frame.invariant.1 c.loop-frame.invariant.0,
-    omega (arith, c.loop-frame.invariant.1), search rules, sym colour)
+    in (
+      listed_other c.args.self.now c.loop-frame.frames.items (c.loop-frame.frame - 1) c.loop-frame.frame other
+          (omega (arith, c.loop-frame-test.true)) c.loop-frame.invariant.1 c.loop-frame.invariant.0,
+      omega (arith, c.loop-frame.invariant.1),
+      search rules,
+      sym colour,
+    )
 
 pub returns-clause-frames : goal.returns-clause-frames
 returns-clause-frames c = listed_whole c.args.self.now _ c.loop-frame.frame (omega arith) c.loop-frame.invariant.0
