@@ -51,6 +51,28 @@ module _ (m : Mem) (f : ℕ) (words : ℕ → ℕ) where
       rw (frame, place, same, add-one n) (sym (filled-suc n))
 
 -- a frame that was filled may be put at once
+-- a word that stands there already
+pub holds_kept : (memory : Contents) (m : Mem) (f p value : ℕ) → Holds memory m → value ≡ word m f p → Holds memory (written m f p value)
+holds_kept memory m f p value holds is = record {
+  size = holds.size;
+  same = λ frame place in_memory in_frame. holds.same frame place in_memory in_frame ∙ elim (cases_eq frame f) [
+    | inl same_frame ↦ elim (cases_eq place p) [
+      | inl same_place ↦
+          ap (λ (k : ℕ). word m k place) same_frame
+          ∙ ap (λ (k : ℕ). word m f k) same_place
+          ∙ sym is
+          ∙ sym (word-written_same m f p value)
+          ∙ ap (λ (k : ℕ). word (written m f p value) f k) (sym same_place)
+          ∙ ap (λ (k : ℕ). word (written m f p value) k place) (sym same_frame)
+      | inr other_place ↦
+          ap (λ (k : ℕ). word m k place) same_frame
+          ∙ sym (word-written_place m f p value place other_place)
+          ∙ ap (λ (k : ℕ). word (written m f p value) k place) (sym same_frame)
+    ]
+    | inr other_frame ↦ sym (word-written_frame m f p value frame place other_frame)
+  ];
+}
+
 pub holds_put : (memory : Contents) (m : Mem) (f : ℕ) (words : ℕ → ℕ) (x : Frame) → ((i : ℕ) → i < 1024 → at 0 x i ≡ words i) → Holds memory (filled m f words 1024) → Holds memory (put m f x)
 holds_put memory m f words x is holds = record {
   size = holds.size;

@@ -1,8 +1,10 @@
 // The memory of the machine before its first slot.
-ghost use Rattle.std.specs.Prelude.{◌≡◌, ℕ, ◌+◌, ◌*◌, ◌^◌, ◌<◌, ◌≤◌, slice_index};
+ghost use Rattle.std.specs.Prelude.{◌≡◌, ℕ, ◌+◌, ◌*◌, ◌%◌, ◌^◌, ◌<◌, ◌≤◌, slice_index};
 ghost use Rattle.tp_base.specs.Table.{empty, at, put};
 ghost use Rattle.phys_mem.specs.Holds.{Holds};
-ghost use Rattle.phys_mem.specs.Mem.{Mem, Frame};
+ghost use Rattle.phys_mem.specs.Address.{frame_of, place_of};
+ghost use Rattle.phys_mem.specs.Contents.{word_at};
+ghost use Rattle.phys_mem.specs.Mem.{Mem, Frame, written};
 ghost use Rattle.hardware_check.specs.Models.{hardware_model};
 ghost use Rattle.image_check.specs.Models.{own_model};
 ghost use Rattle.image_check.specs.Image.{image_from};
@@ -217,7 +219,22 @@ fn place_frame<W: Words>(memory: &mut PhysMem, frame: FrameNo, words: &W)
 {
     let number = frame.number();
     for i in 0..1024 {
-        let word = words.word(i);
-        memory.write_word(4096 * number + 4 * i, word);
+        place_word(memory, 4096 * number + 4 * i, words.word(i));
     }
+}
+
+// Sees that a word stands at an address, a multiple of 4. One that stands there
+// already is not written: a frame that is to read zero, and does, takes no memory.
+fn place_word(memory: &mut PhysMem, at: u32, word: u32)
+    requires within { frame_of at < memory.old.frames }
+    requires aligned { at % 4 ≡ 0 }
+    ensures placed { (m : Mem) → Holds memory.old m
+        → Holds memory.new (written m (frame_of at) (place_of at) word) }
+    ensures kept { word_at memory.old at ≡ word → memory.new ≡ memory.old }
+    ensures frames { memory.new.frames ≡ memory.old.frames }
+{
+    if memory.read_word(at) == word {
+        return;
+    }
+    memory.write_word(at, word);
 }

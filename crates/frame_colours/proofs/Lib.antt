@@ -1,4 +1,5 @@
 pub mod Ascending
 pub mod Pools
 pub mod Placed
+pub mod Rounds
 pub mod Disjoint

@@ -3,7 +3,7 @@ use Rattle.std.proofs.Common.{arith, ◌≡◌, ◌∙◌, sym, ap, subst, refl,
 use Rattle.std.specs.Prelude.{nat_eq, filter, reverse, slice_index}
 use Rattle.std.specs.List.{range_with_len}
 use Rattle.std.proofs.lemmas.Bool.{cases_eq}
-use Rattle.std.proofs.lemmas.List.{length-reverse}
+use Rattle.std.proofs.lemmas.List.{length-reverse, reverse-append}
 use Rattle.std.proofs.lemmas.List.Elements.{filter-append}
 use Rattle.std.proofs.lemmas.List.Kept.{AllPairs-from_increasing}
 use Rattle.std.proofs.lemmas.Map.Views.{any-filter_same}
@@ -128,6 +128,26 @@ room_for s xs f next mine is within listed_next =
     let whole : length (filter (has_colour s) (range_with_len 0 s.frames)) ≡ length (filter (has_colour s) (range_with_len 0 f)) + suc (length (filter (has_colour s) (range_with_len (f + 1) above))) =
     ap length parts ∙ length-append (filter (has_colour s) (range_with_len 0 f)) (filter (has_colour s) (range_with_len f (suc above))) ∙ ap (λ ys. length (filter (has_colour s) (range_with_len 0 f)) + length ys) first in
     omega arith
+
+-- the frames above, once the next one below was looked at
+listed_next : (s : Share) (f next : ℕ) (t : Bool) → has_colour s f ≡ t → next ≡ f + 1 → next ≤ s.frames
+    → filter (has_colour s) (range_with_len f (s.frames - f))
+    ≡ cond t (f ∷ filter (has_colour s) (range_with_len next (s.frames - next))) (filter (has_colour s) (range_with_len next (s.frames - next)))
+listed_next s f next t mine is within =
+    let above = s.frames - next in
+    let counts : s.frames - f ≡ suc above = omega arith in
+    ap (λ n. filter (has_colour s) (range_with_len f n)) counts
+    ∙ ap (λ u. cond u (f ∷ filter (has_colour s) (range_with_len (f + 1) above)) (filter (has_colour s) (range_with_len (f + 1) above))) mine
+    ∙ ap (λ b. cond t (f ∷ filter (has_colour s) (range_with_len b above)) (filter (has_colour s) (range_with_len b above))) (sym is)
+
+pub listed_other : (s : Share) (xs : List ℕ) (f next : ℕ) → has_colour s f ≡ false → next ≡ f + 1 → next ≤ s.frames
+    → reverse xs ≡ filter (has_colour s) (range_with_len next (s.frames - next)) → reverse xs ≡ filter (has_colour s) (range_with_len f (s.frames - f))
+listed_other s xs f next other is within listed = listed ∙ sym (listed_next s f next false other is within)
+
+pub listed_own : (s : Share) (xs ys : List ℕ) (f next : ℕ) → has_colour s f ≡ true → next ≡ f + 1 → next ≤ s.frames → ys ≡ xs ++ f ∷ []
+    → reverse xs ≡ filter (has_colour s) (range_with_len next (s.frames - next)) → reverse ys ≡ filter (has_colour s) (range_with_len f (s.frames - f))
+listed_own s xs ys f next mine is within pushed listed =
+    ap reverse pushed ∙ reverse-append xs (f ∷ []) ∙ ap (λ zs. f ∷ zs) listed ∙ sym (listed_next s f next true mine is within)
 
 pub listed_whole : (s : Share) (xs : List ℕ) (f : ℕ) → f ≡ 0 → xs ≡ filter (has_colour s) (range_with_len f (s.frames - f)) → xs ≡ pool s
 unfolding pool

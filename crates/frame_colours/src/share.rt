@@ -1,5 +1,5 @@
 // A share of the colours, and its frames.
-ghost use Rattle.std.specs.Prelude.{◌≡◌, ◌<◌, ◌≤◌, length, IfOk, reverse};
+ghost use Rattle.std.specs.Prelude.{◌≡◌, ◌<◌, ◌≤◌, ◌-◌, ℕ, length, IfOk, reverse};
 ghost use Rattle.std.specs.Vec.{vec_capacity};
 ghost use Rattle.frame_colours.specs.Colours.{colour_of, has, has_colour, pool, share_of, whole_of};
 
@@ -16,9 +16,30 @@ fn is_coloured(colours: u32, own: &[u8], frame: u32) -> bool
     own.contains(&((frame % colours) as u8))
 }
 
+// The colour of the frame below one with this colour.
+fn colour_below(colour: u32, colours: u32) -> u32
+    requires colour { colour < colours }
+    ensures value { (frame : ℕ) → 0 < frame → colour_of colours frame ≡ colour
+        → colour_of colours (frame - 1) ≡ result }
+    ensures below { result < colours }
+{
+    if colour == 0 { colours - 1 } else { colour - 1 }
+}
+
 /// How many of the frames 0 to `frames - 1` have a colour of the list, where
 /// each has the colour of its number modulo `colours`, 1 to 64.
 pub fn pool_length(frames: u32, colours: u32, own: &[u8]) -> u32
+    requires some { 0 < colours }
+    requires few { colours ≤ 64 }
+    ensures value { result ≡ length (pool (share_of (whole_of frames colours) own.now)) }
+{
+    // As many in each round of all colours, and those of the last frames.
+    let rounds = frames / colours;
+    rounds * count_each(colours, colours, own) + count_each(frames % colours, colours, own)
+}
+
+// The same, frame by frame.
+fn count_each(frames: u32, colours: u32, own: &[u8]) -> u32
     requires some { 0 < colours }
     requires few { colours ≤ 64 }
     ensures value { result ≡ length (pool (share_of (whole_of frames colours) own.now)) }
@@ -56,10 +77,13 @@ impl Model for Part {
 }
 
 impl Part {
-    fn has_colour(&self, frame: u32) -> bool
-        ensures value { result ≡ has_colour self.now frame }
+    // Whether it has a colour, and so each frame of that colour.
+    fn has_colour(&self, colour: u32) -> bool
+        requires few { colour < self.now.colours }
+        ensures value { (frame : ℕ) → colour_of self.now.colours frame ≡ colour
+            → result ≡ has_colour self.now frame }
     {
-        is_coloured(self.colours, &self.own, frame)
+        self.own.contains(&(colour as u8))
     }
 
     // Its frames, the greatest first.
@@ -72,9 +96,11 @@ impl Part {
             pool_length(self.frames, self.colours, &self.own) as usize,
         )?;
         let mut frame = self.frames;
+        let mut colour = self.frames % self.colours;
         while frame > 0 {
             frame -= 1;
-            if self.has_colour(frame) {
+            colour = colour_below(colour, self.colours);
+            if self.has_colour(colour) {
                 frames.push_reserved(FrameNo::new(frame));
             }
         }

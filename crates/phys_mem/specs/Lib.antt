@@ -1,6 +1,6 @@
 pub mod Address
 pub mod Bytes
 pub mod Contents
-pub mod Growth
+pub mod Slots
 pub mod Mem
 pub mod Holds

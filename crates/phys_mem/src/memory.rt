@@ -1,13 +1,12 @@
 // Physical memory: its words, and the calls that read and write parts of them.
-// Only the first frames' words are kept, as far as frames were written: so a new
-// memory takes no time for words that no one writes.
-ghost use Rattle.std.specs.Prelude.{◌≡◌, ◌≢◌, ℕ, ◌+◌, ◌*◌, ◌/◌, ◌%◌, ◌^◌, ◌<◌, ◌≤◌, true, length, slice_set, vec_len, vec_capacity, IfOk};
+// A frame's words are kept in a slot from its first write on, until it is zeroed:
+// so no time is spent on words that no one writes.
+ghost use Rattle.std.specs.Prelude.{◌≡◌, ◌≢◌, ℕ, ◌+◌, ◌*◌, ◌/◌, ◌%◌, ◌^◌, ◌<◌, ◌≤◌, true, false, length, slice_set, IfOk};
 ghost use Rattle.byteorder.specs.Endian.{little_bytes};
 ghost use Rattle.tp_base.specs.Table.{empty};
 ghost use Rattle.phys_mem.specs.Address.{frame_of, place_of};
 ghost use Rattle.phys_mem.specs.Bytes.{byte_in, half_in, with_byte_in, with_half_in};
-ghost use Rattle.phys_mem.specs.Contents.{Contents, frame_words, word_of, word_at, byte_at, half_at, with_word, with_byte, with_half, zeroed, zeroed_words, all_zero, zeros};
-ghost use Rattle.phys_mem.specs.Growth.{with_zeros};
+ghost use Rattle.phys_mem.specs.Contents.{Contents, frame_words, word_of, word_at, byte_at, half_at, with_word, with_byte, with_half, zeroed, zeroed_words, all_zero, zeros, is_marked, marks};
 ghost use Rattle.phys_mem.specs.Mem.{Mem, word, written, zeroed_frame};
 ghost use Rattle.phys_mem.specs.Holds.{Holds};
 
@@ -16,25 +15,40 @@ use std::alloc::Global;
 use std::marker::Model;
 use tp_base::{FrameNo, Memory, Zero};
 
+// Words of a frame, and of a slot.
+const FRAME_WORDS: usize = 1024;
+
+// Bytes of a frame.
+const FRAME_BYTES: usize = 4096;
+
+// The slot of all frames that have the mark. No one writes into it.
+const ZERO_SLOT: u32 = 0;
+
 /// A memory of frames of 4,096 bytes, from address 0 on. All its room is
 /// reserved when it is made, so that no later call fails for want of memory.
+/// A frame has the mark 'zero' from the time it is made or zeroed to the next
+/// write into it.
 #[derive(Drop)]
 pub struct PhysMem {
-    frames: u32,
-    // those of the first frames; all others are zero
+    // for each frame the slot that has its words
+    slots: Vec<u32>,
+    // slots that no frame has now
+    unused: Vec<u32>,
+    // the words of slot 0, which read zero, and of each slot that was ever needed
     words: Vec<u32>,
 }
 
 impl Model for PhysMem {
-    ghost use Rattle.std.specs.Prelude.{vec_capacity};
+    ghost use Rattle.std.specs.Prelude.{length, vec_capacity};
     ghost use Rattle.phys_mem.specs.Contents.{Contents};
-    ghost use Rattle.phys_mem.specs.Growth.{held, IsKept};
+    ghost use Rattle.phys_mem.specs.Slots.{held, AreSlots, HaveRoom};
 
     ghost Value = { Contents };
 
-    ghost view = { λ m. held m.frames m.words.items };
+    ghost view = { λ m. held m.slots.items m.words.items };
 
-    ghost invariant = { λ m. IsKept m.frames (vec_capacity m.words) m.words.items };
+    ghost invariant = { λ m. AreSlots m.slots.items m.unused.items m.words.items
+        × HaveRoom (length m.slots.items) (vec_capacity m.unused) (vec_capacity m.words) };
 }
 
 impl PhysMem {
@@ -48,8 +62,16 @@ impl PhysMem {
         ensures zero { IfOk result (λ memory. memory ≡ all_zero frames) }
         ensures holds { IfOk result (λ memory. Holds memory empty) }
     {
-        let words = Vec::with_capacity(alloc, 1024 * frames as usize)?;
-        Ok(PhysMem { frames, words })
+        let count = frames as usize;
+        let slots = vec![in alloc; ZERO_SLOT; count]?;
+        let unused = Vec::with_capacity(alloc, count)?;
+        let mut words = Vec::with_capacity(alloc, FRAME_WORDS * (1 + count))?;
+        words.resize(FRAME_WORDS, 0).unwrap();
+        Ok(PhysMem {
+            slots,
+            unused,
+            words,
+        })
     }
 
     /// The number of its frames, up to 2^20.
@@ -57,18 +79,44 @@ impl PhysMem {
         ensures value { result ≡ self.now.frames }
         ensures range { result ≤ 2 ^ 20 }
         ensures words { length self.now.words ≡ 1024 * result }
+        ensures marked { length self.now.marked ≡ result }
     {
         let _ = &self.words;
-        self.frames
+        self.slots.len() as u32
     }
 
-    /// Whether no word of a frame was written up to now, as far as that is known
-    /// without reading them: the frame reads zero then. Others may, too.
+    /// The number of frames that have the mark, each of which reads zero.
+    pub fn zeros(&self) -> u32
+        ensures value { result ≡ marks self.now }
+        ensures zero { (frame : ℕ) → is_marked self.now frame ≡ true
+            → frame_words self.now frame ≡ zeros 1 }
+        ensures range { result ≤ self.now.frames }
+    {
+        let made = self.words.len() / FRAME_WORDS;
+        (self.slots.len() + self.unused.len() + 1 - made) as u32
+    }
+
+    /// Whether a frame has the mark: it was not written since it was new or
+    /// zeroed, so it reads zero. Others may, too.
     pub fn is_blank(&self, frame: FrameNo) -> bool
         requires frame { frame < self.now.frames }
+        ensures value { result ≡ is_marked self.now frame }
         ensures zero { result ≡ true → frame_words self.now frame ≡ zeros 1 }
     {
-        1024 * frame.number() as usize >= self.words.len()
+        let _ = &self.unused;
+        let _ = &self.words;
+        self.slots[frame.number() as usize] == ZERO_SLOT
+    }
+
+    /// The words of a frame, in order.
+    pub fn words_of(&self, frame: FrameNo) -> &[u32]
+        requires frame { frame < self.now.frames }
+        ensures value { result.now ≡ frame_words self.now frame }
+        ensures whole { length result.now ≡ 1024 }
+    {
+        let slot = self.slots[frame.number() as usize] as usize;
+        let start = FRAME_WORDS * slot;
+        &self.words[start..start + FRAME_WORDS]
     }
 
     /// The word at an address, a multiple of 4, in memory.
@@ -167,11 +215,8 @@ impl PhysMem {
         ensures holds { (mem : Mem) → Holds self.now mem
             → result ≡ word mem (frame_of at) (place_of at) }
     {
-        let index = at as usize / 4;
-        if index >= self.words.len() {
-            return 0;
-        }
-        self.words[index]
+        let slot = self.slots[at as usize / FRAME_BYTES] as usize;
+        self.words[FRAME_WORDS * slot + at as usize % FRAME_BYTES / 4]
     }
 
     // Writes the word that an address lies in.
@@ -186,30 +231,67 @@ impl PhysMem {
         ensures holds { (mem : Mem) → Holds self.old mem
             → Holds self.new (written mem (frame_of at) (place_of at) word) }
     {
-        self.put(at as usize / 4, word);
+        self.put(at, word);
     }
 
-    // Writes the word at an index.
-    fn put(&mut self, index: usize, word: u32)
-        requires within { index / 1024 < self.old.frames }
-        ensures becomes { self.new ≡ record self.old { words = slice_set self.old.words index word } }
+    // Writes the word that an address lies in, where the frame has a slot of its
+    // own or gets one.
+    fn put(&mut self, at: u32, word: u32)
+        requires within { frame_of at < self.old.frames }
+        ensures becomes { self.new ≡ with_word self.old at word }
         ensures size { length self.old.words ≡ 1024 * self.old.frames }
     {
-        reach(&mut self.words, index);
-        self.words[index] = word;
+        let frame = at as usize / FRAME_BYTES;
+        self.unmark(frame);
+        let slot = self.slots[frame] as usize;
+        self.words[FRAME_WORDS * slot + at as usize % FRAME_BYTES / 4] = word;
     }
 
-    // A frame past the words kept is zero already.
-    fn clear(&mut self, frame: u32)
+    // Sees that a frame has a slot of its own.
+    #[inline(always)]
+    fn unmark(&mut self, frame: usize)
+        requires within { frame < self.old.frames }
+        ensures becomes { self.new ≡ record self.old { marked = slice_set self.old.marked frame false } }
+    {
+        if self.slots[frame] == ZERO_SLOT {
+            self.take_slot(frame);
+        }
+    }
+
+    // Gives a frame that has the mark a slot of its own, which reads zero.
+    #[cold]
+    #[inline(never)]
+    fn take_slot(&mut self, frame: usize)
+        requires within { frame < self.old.frames }
+        requires marked { is_marked self.old frame ≡ true }
+        ensures becomes { self.new ≡ record self.old { marked = slice_set self.old.marked frame false } }
+    {
+        match self.unused.pop() {
+            Some(slot) => {
+                zero_words(&mut self.words, slot as usize);
+                self.slots[frame] = slot;
+            }
+            None => {
+                let slot = self.words.len() / FRAME_WORDS;
+                self.words.resize(FRAME_WORDS * (slot + 1), 0).unwrap();
+                self.slots[frame] = slot as u32;
+            }
+        }
+    }
+
+    // Sets a frame's mark, and takes back its slot.
+    fn give_slot(&mut self, frame: usize)
         requires within { frame < self.old.frames }
         ensures becomes { self.new ≡ zeroed self.old frame }
+        ensures marked { is_marked self.new frame ≡ true }
         ensures size { length self.old.words ≡ 1024 * self.old.frames }
     {
-        let frame = frame as usize;
-        if 1024 * frame >= self.words.len() {
+        let slot = self.slots[frame];
+        if slot == ZERO_SLOT {
             return;
         }
-        zero_words(&mut self.words, frame);
+        self.slots[frame] = ZERO_SLOT;
+        self.unused.push_reserved(slot);
     }
 }
 
@@ -226,50 +308,19 @@ impl Zero for PhysMem {
         ensures zero { (i : ℕ) → word_of self.new frame i ≡ 0 }
         ensures others { (f i : ℕ) → f ≢ frame → word_of self.new f i ≡ word_of self.old f i }
         ensures in_memory { (f : ℕ) → f < self.old.frames → f < self.new.frames }
+        ensures marked { is_marked self.new frame ≡ true }
         ensures holds { (mem : Mem) → Holds self.old mem → Holds self.new (zeroed_frame mem frame) }
     {
-        self.clear(frame.number());
+        self.give_slot(frame.number() as usize);
     }
 }
 
-// Keeps the word at an index, for which there is room. All words stay.
-#[inline(always)]
-fn reach(words: &mut Vec<u32>, index: usize)
-    requires whole { vec_len words.old % 1024 ≡ 0 }
-    requires room { 1024 * (index / 1024 + 1) ≤ vec_capacity words.old }
-    ensures same { (size : ℕ) → vec_len words.old ≤ size → 1024 * (index / 1024 + 1) ≤ size
-        → with_zeros words.new.items size ≡ with_zeros words.old.items size }
-    ensures kept { index < vec_len words.new }
-    ensures whole { vec_len words.new % 1024 ≡ 0 }
-    ensures within { (size : ℕ) → vec_len words.old ≤ size → 1024 * (index / 1024 + 1) ≤ size
-        → vec_len words.new ≤ size }
-    ensures room { vec_capacity words.old ≤ vec_capacity words.new }
+fn zero_words(words: &mut [u32], slot: usize)
+    requires within { 1024 * slot + 1024 ≤ length words.old }
+    ensures becomes { words.new ≡ zeroed_words words.old slot }
 {
-    if index < words.len() {
-        return;
-    }
-    grow(words, index);
-}
-
-// Keeps zeros up to the end of the frame of the word at an index.
-#[cold]
-#[inline(never)]
-fn grow(words: &mut Vec<u32>, index: usize)
-    requires past { vec_len words.old ≤ index }
-    requires room { 1024 * (index / 1024 + 1) ≤ vec_capacity words.old }
-    ensures items { words.new.items ≡ with_zeros words.old.items (1024 * (index / 1024 + 1)) }
-    ensures size { vec_len words.new ≡ 1024 * (index / 1024 + 1) }
-    ensures room { vec_capacity words.old ≤ vec_capacity words.new }
-{
-    words.resize(1024 * (index / 1024 + 1), 0).unwrap();
-}
-
-fn zero_words(words: &mut [u32], frame: usize)
-    requires within { 1024 * frame + 1024 ≤ length words.old }
-    ensures becomes { words.new ≡ zeroed_words words.old frame }
-{
-    let start = 1024 * frame;
-    words[start..start + 1024].fill(0);
+    let start = FRAME_WORDS * slot;
+    words[start..start + FRAME_WORDS].fill(0);
 }
 
 fn bytes_of(word: u32) -> [u8; 4]

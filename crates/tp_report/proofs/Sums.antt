@@ -1,9 +1,9 @@
 -- Sums of the words of a pool's frames.
 use Rattle.std.proofs.Common.{◌≡◌, ℕ, ◌+◌, ◌%◌, ◌^◌, ◌<◌, ◌≤◌, List, [], ◌∷◌, ◌++◌, length, take, replicate, get_or, ap, ◌*◌, ◌∙◌, arith}
-use Rattle.std.specs.Prelude.{sum, slice_index, slice_index_or}
+use Rattle.std.specs.Prelude.{sum, slice_index_or}
 use Rattle.std.specs.List.{concat}
 use Rattle.std.proofs.lemmas.List.{append-nil, take_more, take_all}
-use Rattle.std.proofs.lemmas.List.Sums.{sum_by_more, sum_by-append}
+use Rattle.std.proofs.lemmas.List.Sums.{sum_by-append}
 use Rattle.std.proofs.lemmas.List.Folds.{sum_by-replicate}
 use Rattle.phys_mem.specs.Contents.{zeros}
 use Rattle.world_view.specs.View.{memory_sum}
@@ -15,16 +15,6 @@ sum_concat_more (xs ∷ xss) ys =
     let left = sum_by-append (λ x. x) xs (concat (xss ++ ys ∷ [])) in
     let right = sum_by-append (λ x. x) xs (concat xss) in
     omega (arith, rest, left, right)
-
--- the sum of the first words, and the next
-pub frame_sum_more : (words : List ℕ) (w word total : ℕ) → w < length words → word ≡ slice_index words w → total ≡ sum (take w words) % 2 ^ 32
-    → (total + word) % 2 ^ 32 ≡ sum (take (w + 1) words) % 2 ^ 32
-frame_sum_more words w word total within is so_far =
-    let more : sum (take (w + 1) words) ≡ sum (take w words) + slice_index words w = sum_by_more (λ x. x) words w 0 within in
-    omega (arith, is, more, so_far)
-
-pub frame_sum_all : (words : List ℕ) (w total : ℕ) → length words ≤ w → total ≡ sum (take w words) % 2 ^ 32 → total ≡ sum words % 2 ^ 32
-frame_sum_all words w total h so_far = so_far ∙ ap (λ xs. sum xs % 2 ^ 32) (take_all w words h)
 
 -- a frame of zeros
 pub frame_sum_blank : (words : List ℕ) → words ≡ zeros 1 → 0 ≡ sum words % 2 ^ 32

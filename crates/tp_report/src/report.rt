@@ -146,9 +146,10 @@ fn frame_sum(view: &View<'_>, i: usize) -> u32
     if view.pool_frame_is_blank(i) {
         return 0;
     }
+    let words = view.pool_words(i);
     let mut sum = 0u32;
-    for w in 0..1024 {
-        sum = sum.wrapping_add(view.pool_word(i, w));
+    for word in words {
+        sum = sum.wrapping_add(*word);
     }
     sum
 }

@@ -92,3 +92,25 @@ fn frames_never_written(rt: HostRuntime) -> Result<(), Memory> {
     );
     Ok(())
 }
+
+// A write sets a frame apart, also one of zero; a frame that is zeroed is marked again,
+// and its slot serves the next one.
+#[test]
+fn frames_with_the_mark(rt: HostRuntime) -> Result<(), Memory> {
+    let mut memory = PhysMem::new(rt.alloc(), 64)?;
+    assert_eq!(rt; memory.zeros(), 64);
+    memory.write_word(4096, 5);
+    assert_eq!(rt; memory.zeros(), 63);
+    blank(&mut memory, FrameNo::new(1));
+    assert_eq!(rt; (memory.zeros(), memory.read_word(4096)), (64, 0));
+    memory.write_word(0x3_f000, 0);
+    assert_eq!(rt; (memory.zeros(), memory.read_word(0x3_f000)), (63, 0));
+    memory.write_byte(0x2000, 7);
+    let told = (
+        memory.zeros(),
+        memory.read_word(0x2000),
+        memory.read_word(0x3_f000),
+    );
+    assert_eq!(rt; told, (62, 7, 0));
+    Ok(())
+}

@@ -114,8 +114,8 @@ impl<'a> View<'a> {
         self.domain.pool.frames()[i]
     }
 
-    /// Whether no word of the frame at a place of its pool was ever written, as far
-    /// as that is known without reading them: all are zero then.
+    /// Whether the frame at a place of its pool has the mark 'zero', so that all its
+    /// words are zero.
     pub fn pool_frame_is_blank(&self, i: usize) -> bool
         requires frame { i < length (view_model self.now).pool }
         ensures zero { result ≡ true → slice_index_or (view_model self.now).frames i [] ≡ zeros 1 }
@@ -123,6 +123,16 @@ impl<'a> View<'a> {
         // This tells the prover alone that all words are in the memory's frames.
         self.memory.frames();
         self.memory.is_blank(self.domain.pool.frames()[i])
+    }
+
+    /// The words of the frame at a place of its pool, in order.
+    pub fn pool_words(&self, i: usize) -> &[u32]
+        requires frame { i < length (view_model self.now).pool }
+        ensures value { result.now ≡ slice_index_or (view_model self.now).frames i [] }
+    {
+        // This tells the prover alone that all words are in the memory's frames.
+        self.memory.frames();
+        self.memory.words_of(self.domain.pool.frames()[i])
     }
 
     /// Word `w` of the frame at a place of its pool.

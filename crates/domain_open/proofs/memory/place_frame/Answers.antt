@@ -16,9 +16,9 @@ loop-i-preserved g c =
     let below : i < 1024 = omega arith in
     let at : 4096 * c.number-number.result + 4 * i ≡ 4096 * c.args.frame + 4 * i = omega (arith, c.number-number.ensures.same) in
     record {
-      placed = λ m h. subst (Holds c.write_word.new.self)
-          (filled-more m c.args.frame words i (4096 * c.number-number.result + 4 * i) c.word-word.result at below c.word-word.ensures.value)
-          (c.write_word.ensures.holds (filled m c.args.frame words i) (c.loop-i.invariant.placed m h));
+      placed = λ m h. subst (Holds c.place_word.new.memory)
+          (filled-more m c.args.frame words i (4096 * c.number-number.result + 4 * i) c.word.result at below c.word.ensures.value)
+          (c.place_word.ensures.placed (filled m c.args.frame words i) (c.loop-i.invariant.placed m h));
       frames = search rules;
     }
 

@@ -16,4 +16,4 @@ filled start count words part is within filled_part =
 
 pub returns : goal.returns
 unfolding zeros zeroed_words
-returns c = record { becomes = filled (1024 * c.args.frame) _ c.args.words.now c.fill.new.self (omega arith) c.requires.within (c.fill.ensures.after (λ y e. e)) }
+returns c = record { becomes = filled (1024 * c.args.slot) _ c.args.words.now c.fill.new.self (omega arith) c.requires.within (c.fill.ensures.after (λ y e. e)) }

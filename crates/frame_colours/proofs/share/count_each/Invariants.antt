@@ -2,7 +2,7 @@ use Rattle.std.proofs.Common.{◌-◌, ◌≡◌, ◌≤◌, length}
 use Rattle.std.specs.Prelude.{filter}
 use Rattle.std.specs.List.{range_with_len}
 use Rattle.frame_colours.specs.Colours.{has_colour, share_of, whole_of}
-use Rattle.frame_colours.proofs.share.pool_length.Given as goal
+use Rattle.frame_colours.proofs.share.count_each.Given as goal
 
 abbrev pub invariant-loop-frame : goal.invariant-loop-frame
 invariant-loop-frame l =
