@@ -43,7 +43,12 @@ not_running (Stopped code pc value) other = refl
 
 -- ---- moments
 
-line_of_next : (now line : ℕ) (next : Option Moment) → line_by now next ≡ Some line → option_map (λ x. x.line) next ≡ Some line
+-- the line of a moment, if it is there
+abbrev line_of : Option Moment → Option ℕ
+line_of next = option_map (λ x. x.line) next
+
+line_of_next : (now line : ℕ) (next : Option Moment) → line_by now next ≡ Some line
+    → line_of next ≡ Some line
 line_of_next now line None is = absurd (none-some line is)
 line_of_next now line (Some x) is =
     elim (cases_Bool (leb x.at now)) [
@@ -52,11 +57,11 @@ line_of_next now line (Some x) is =
     ]
 
 -- what is due is the next moment's line
-pub due_line : (s : Interrupts) (now line : ℕ) → due now s ≡ Some line → option_map (λ x. x.line) (next_of s) ≡ Some line
+pub due_line : (s : Interrupts) (now line : ℕ) → due now s ≡ Some line → line_of (next_of s) ≡ Some line
 unfolding due
 due_line s now line is = line_of_next now line (next_of s) is
 
-left_of_next : (xs : List Moment) (n line : ℕ) → option_map (λ x. x.line) (slice_get xs n) ≡ Some line → n < length xs
+left_of_next : (xs : List Moment) (n line : ℕ) → line_of (slice_get xs n) ≡ Some line → n < length xs
 left_of_next [] n line is = absurd (none-some line is)
 left_of_next (x ∷ xs) zero line is = omega arith
 left_of_next (x ∷ xs) (suc n) line is = let rest = left_of_next xs n line is in omega (arith, rest)
@@ -66,63 +71,111 @@ pub due_left : (s : Interrupts) (now line : ℕ) → due now s ≡ Some line →
 due_left s now line is = left_of_next s.moments s.delivered line (due_line s now line is)
 
 -- where none is due, the next is later, and so is the end
-pub idle_later : (s : Interrupts) (now end : ℕ) → now < end → due now s ≡ None → now < idle_until end (next_cycle s)
+pub idle_later : (s : Interrupts) (now end : ℕ) → now < end → due now s ≡ None
+    → now < idle_until end (next_cycle s)
 unfolding due next_cycle
 idle_later s now end early none = idle_past now end (next_of s) early none
 
+-- ---- between events
+
 module _ {P : Type 0} (rule : P → ℕ → Rule) (stands : P → ℕ → ℕ → List ℕ → Type 0) where
   -- an instruction costs in the machine what it does in the hierarchy
-  same_base : (w : Setting) (memory : Contents) (system : SystemContents P) → Fits rule w memory system → w.machine.costs.base ≡ system.core.costs.base
+  same_base : (w : Setting) (memory : Contents) (system : SystemContents P) → Fits rule w memory system
+      → w.machine.costs.base ≡ system.core.costs.base
   unfolding hierarchy
   same_base w memory system fits = ap (λ (h : Hierarchy). h.costs.base) fits.levels
 
-  -- between events nothing is spent
-  opens : (w : Setting) (memory : Contents) (d : Domain) (system : SystemContents P) (now : ℕ) (s : Local) → StandsIn rule stands w memory d system now s
-      → KeptOf rule stands w d memory system 0 s.storage (at_no_cost s.caches)
-  opens w memory d system now s i = record { fits = i.fits; facts = i.facts; layout = i.layout; leaves = i.leaves; cost = refl; caches = i.caches }
+  -- one step in a slot that ends then
+  abbrev step_to : ℕ → Setting → Local → Local
+  step_to end w = step w.machine w.own w.pinned end
 
   -- the definitions' domain has the same interrupts, and the same current thread
-  module _ (w : Setting) (memory : Contents) (d : Domain) (system : SystemContents P) (now : ℕ) (s : Local) (i : StandsIn rule stands w memory d system now s) where
+  module _ (w : Setting) (memory : Contents) (d : Domain) (system : SystemContents P) (now : ℕ) (s : Local)
+      (i : StandsIn rule stands w memory d system now s) where
+    -- between events nothing is spent
+    opens : KeptOf rule stands w d memory system 0 s.storage (at_no_cost s.caches)
+    opens = record {
+      fits = i.fits;
+      facts = i.facts;
+      layout = i.layout;
+      leaves = i.leaves;
+      cost = refl;
+      caches = i.caches;
+    }
+
     interrupts_there : interrupts_of w.own s.dom ≡ d.interrupts
     unfolding interrupts_of
     interrupts_there =
-        ap (λ (m : Dom). record { moments = w.own.moments; delivered = m.delivered; bits = m.bits }) (sym i.dom.same)
-        ∙ ap (λ (ms : List Moment). record { moments = ms; delivered = d.interrupts.delivered; bits = d.interrupts.bits }) (sym i.moments)
+        ap (λ (m : Dom). record { moments = w.own.moments; delivered = m.delivered; bits = m.bits })
+        (sym i.dom.same)
+        ∙ ap
+        (λ (ms : List Moment).
+        record { moments = ms; delivered = d.interrupts.delivered; bits = d.interrupts.bits })
+        (sym i.moments)
 
     due_there : due s.clock (interrupts_of w.own s.dom) ≡ due now d.interrupts
-    due_there = ap (λ (t : ℕ). due t (interrupts_of w.own s.dom)) (sym i.time) ∙ ap (due now) interrupts_there
+    due_there =
+        ap (λ (t : ℕ). due t (interrupts_of w.own s.dom)) (sym i.time) ∙ ap (due now) interrupts_there
 
     none_there : due now d.interrupts ≡ None → due s.clock (interrupts_of w.own s.dom) ≡ None
     none_there none = due_there ∙ none
 
-    ready_there : (b : _) → is_ready d.threads.active.state ≡ b → is_ready s.dom.threads.current.state ≡ b
+    ready_there : (b : _) → is_ready d.threads.active.state ≡ b
+        → is_ready s.dom.threads.current.state ≡ b
     ready_there b is = ap (λ (m : Dom). is_ready m.threads.current.state) (sym i.dom.same) ∙ is
 
+    running_is : is_running s.dom.status ≡ is_running d.status
+    running_is = ap (λ (m : Dom). is_running m.status) (sym i.dom.same)
+
     running_there : d.status ≡ Running → is_running s.dom.status ≡ true
-    running_there runs = ap (λ (m : Dom). is_running m.status) (sym i.dom.same) ∙ ap is_running runs
+    running_there runs = running_is ∙ ap is_running runs
+
+    -- the code has the same, and only the clock is another
+    same_at : (later : ℕ) (t : ℕ) → later ≡ t
+        → StandsIn rule stands w memory d system later (record s { clock = t })
+    same_at later t is = record {
+      fits = i.fits;
+      dom = i.dom;
+      facts = i.facts;
+      layout = i.layout;
+      leaves = i.leaves;
+      caches = i.caches;
+      moments = i.moments;
+      time = is;
+    }
 
   module _ (end : ℕ) (memory memory' : Contents) (old new : Domain) (system system' : SystemContents P) where
+    -- the instruction of a setting's domain, at a clock
+    abbrev instruction_at : Setting → ℕ → Dom → Act Dom
+    instruction_at w t m =
+        instruction w.machine (estate w.machine w.own) (layout w.machine w.own) t m
+
     pub moves_running : (now later base spent : ℕ) → old.status ≡ Running
-        → ((w : Setting) → Leaves w (instruction w.machine (estate w.machine w.own) (layout w.machine w.own) now)
+        → ((w : Setting) → Leaves w (instruction_at w now)
         old (KeptOf rule stands w old memory system 0) new (KeptOf rule stands w new memory' system' spent))
-        → due now old.interrupts ≡ None → is_ready old.threads.active.state ≡ true → new.interrupts.moments ≡ old.interrupts.moments
+        → due now old.interrupts ≡ None → is_ready old.threads.active.state ≡ true
+        → new.interrupts.moments ≡ old.interrupts.moments
         → base ≡ system'.core.costs.base → later ≡ now + base + spent
-        → Moves rule stands (λ w. step w.machine w.own w.pinned end) memory old system now memory' new system' later
+        → Moves rule stands (step_to end) memory old system now memory' new system' later
     unfolding paid
     moves_running now later base spent runs leaves none ready moments price is w s i =
         let K = KeptOf rule stands w new memory' system' spent in
-        let does : ℕ → Dom → Act Dom = λ t m. instruction w.machine (estate w.machine w.own) (layout w.machine w.own) t m in
-        let running = running_there w memory old system now s i runs in
-        let left : Yields w (does now s.dom) s.storage (at_no_cost s.caches) (Left new K) =
-        subst (λ (m : Dom). Yields w (does now m) s.storage (at_no_cost s.caches) (Left new K)) i.dom.same
-        (leaves w s.storage (at_no_cost s.caches) s.dom.readings s.dom.replies (opens w memory old system now s i) i.dom.readings i.dom.replies) in
-        let next : Yields w (does s.clock s.dom) s.storage (at_no_cost s.caches) (Left new K) =
-        subst (λ (t : ℕ). Yields w (does t s.dom) s.storage (at_no_cost s.caches) (Left new K)) i.time left in
-        let r = does s.clock s.dom s.storage in
+        let Does : ℕ → Dom → Type 0 =
+        λ t m. Yields w (instruction_at w t m) s.storage (at_no_cost s.caches) (Left new K) in
+        let left : Does now s.dom =
+        subst (Does now) i.dom.same
+        (leaves w s.storage (at_no_cost s.caches) s.dom.readings s.dom.replies
+        (opens w memory old system now s i) i.dom.readings i.dom.replies) in
+        let next : Does s.clock s.dom = subst (λ (t : ℕ). Does t s.dom) i.time left in
+        let r = instruction_at w s.clock s.dom s.storage in
         let q = touched_all (hierarchy w.machine) w.pinned s.caches r.notes in
-        let kept : K r.state q = subst (λ (x : Touched). K r.state x) (owed w s.caches r.notes) next.met.kept in
+        let kept : K r.state q =
+        subst (λ (x : Touched). K r.state x) (owed w s.caches r.notes) next.met.kept in
         let base_is : w.machine.costs.base ≡ base = same_base w memory' system' kept.fits ∙ sym price in
-        subst (StandsIn rule stands w memory' new system' later) (sym (step-running w.machine w.own w.pinned end s running (none_there w memory old system now s i none) (ready_there w memory old system now s i true ready))) (record {
+        let runs_one =
+        step-running w.machine w.own w.pinned end s (running_there w memory old system now s i runs)
+        (none_there w memory old system now s i none) (ready_there w memory old system now s i true ready) in
+        subst (StandsIn rule stands w memory' new system' later) (sym runs_one) (record {
           fits = kept.fits;
           dom = next.met.dom;
           facts = kept.facts;
@@ -134,71 +187,99 @@ module _ {P : Type 0} (rule : P → ℕ → Rule) (stands : P → ℕ → ℕ �
         })
 
     -- what they stand for after some change of it
-    module _ (f : Setting → Local → Local) (now later : ℕ) (moves : Moves rule stands f memory old system now memory' new system' later) (runs : Runs rule stands memory old system now) where
+    module _ (f : Setting → Local → Local) (now later : ℕ)
+        (moves : Moves rule stands f memory old system now memory' new system' later)
+        (runs : Runs rule stands memory old system now) where
+      -- then
+      abbrev stands_then : StandsIn rule stands runs.setting memory' new system' later
+          (f runs.setting runs.state)
+      stands_then = moves runs.setting runs.state runs.stands_in
+
       pub runs_on : Runs rule stands memory' new system' later
-      runs_on = record { setting = runs.setting; state = f runs.setting runs.state; stands_in = moves runs.setting runs.state runs.stands_in }
+      runs_on = record {
+        setting = runs.setting;
+        state = f runs.setting runs.state;
+        stands_in = stands_then;
+      }
 
       pub hierarchy_stays : hierarchy_of rule system' ≡ hierarchy_of rule system
-      hierarchy_stays = sym (moves runs.setting runs.state runs.stands_in).fits.levels ∙ runs.stands_in.fits.levels
+      hierarchy_stays = sym stands_then.fits.levels ∙ runs.stands_in.fits.levels
 
       pub pinned_stays : system'.core.pinned ≡ system.core.pinned
-      pinned_stays = (moves runs.setting runs.state runs.stands_in).fits.pinned ∙ sym runs.stands_in.fits.pinned
+      pinned_stays = stands_then.fits.pinned ∙ sym runs.stands_in.fits.pinned
 
-  pub moves_still : (end : ℕ) (memory : Contents) (d : Domain) (system : SystemContents P) (now : ℕ) → is_running d.status ≡ false
-      → Moves rule stands (λ w. step w.machine w.own w.pinned end) memory d system now memory d system end
-  moves_still end memory d system now still w s i =
-      let stays : is_running s.dom.status ≡ false = ap (λ (m : Dom). is_running m.status) (sym i.dom.same) ∙ still in
-      subst (StandsIn rule stands w memory d system end) (sym (step-still w.machine w.own w.pinned end s stays))
-      (record { fits = i.fits; dom = i.dom; facts = i.facts; layout = i.layout; leaves = i.leaves; caches = i.caches; moments = i.moments; time = refl })
+  module _ (end : ℕ) (memory : Contents) (d : Domain) (system : SystemContents P) (now : ℕ) where
+    -- only the clock goes on
+    abbrev Waits : ℕ → Type 0
+    Waits later = Moves rule stands (step_to end) memory d system now memory d system later
 
-  -- no thread is ready: the clock goes on alone
-  pub moves_idle : (end : ℕ) (memory : Contents) (d : Domain) (system : SystemContents P) (now later : ℕ) → d.status ≡ Running
-      → due now d.interrupts ≡ None → is_ready d.threads.active.state ≡ false → later ≡ idle_until end (next_cycle d.interrupts)
-      → Moves rule stands (λ w. step w.machine w.own w.pinned end) memory d system now memory d system later
-  moves_idle end memory d system now later runs none idle is w s i =
-      let same = interrupts_there w memory d system now s i in
-      subst (StandsIn rule stands w memory d system later)
-      (sym (step-idle w.machine w.own w.pinned end s (running_there w memory d system now s i runs) (none_there w memory d system now s i none) (ready_there w memory d system now s i false idle)))
-      (record {
-        fits = i.fits;
-        dom = i.dom;
-        facts = i.facts;
-        layout = i.layout;
-        leaves = i.leaves;
-        caches = i.caches;
-        moments = i.moments;
-        time = is ∙ ap (λ (x : Interrupts). idle_until end (next_cycle x)) (sym same);
-      })
+    pub moves_still : is_running d.status ≡ false → Waits end
+    moves_still still w s i =
+        let stays : is_running s.dom.status ≡ false = running_is w memory d system now s i ∙ still in
+        subst (StandsIn rule stands w memory d system end)
+        (sym (step-still w.machine w.own w.pinned end s stays))
+        (same_at w memory d system now s i end end refl)
+
+    -- no thread is ready: the clock goes on alone
+    pub moves_idle : (later : ℕ) → d.status ≡ Running → due now d.interrupts ≡ None
+        → is_ready d.threads.active.state ≡ false → later ≡ idle_until end (next_cycle d.interrupts)
+        → Waits later
+    moves_idle later runs none idle is w s i =
+        let same = interrupts_there w memory d system now s i in
+        let goes =
+        step-idle w.machine w.own w.pinned end s (running_there w memory d system now s i runs)
+        (none_there w memory d system now s i none) (ready_there w memory d system now s i false idle) in
+        let t : ℕ = idle_until end (next_cycle (interrupts_of w.own s.dom)) in
+        subst (StandsIn rule stands w memory d system later) (sym goes)
+        (same_at w memory d system now s i later t
+        (is ∙ ap (λ (x : Interrupts). idle_until end (next_cycle x)) (sym same)))
 
   module _ (end : ℕ) (memory : Contents) (old new : Domain) (system system' : SystemContents P) where
     -- what a delivery touches in the machine
-    module _ (w : Setting) (k : CloneLayout) (work : WorkDone) (fits : Fits rule w memory system) (same : layout_model k ≡ layout w.machine w.own) (is : work ≡ plain delivery_op) where
-      touches_there : operation system.core.costs (layout_model k) work ≡ delivery_touches w.machine (layout w.machine w.own)
+    module _ (w : Setting) (k : CloneLayout) (work : WorkDone) (fits : Fits rule w memory system)
+        (same : layout_model k ≡ layout w.machine w.own) (is : work ≡ plain delivery_op) where
+      touches_there : operation system.core.costs (layout_model k) work
+          ≡ delivery_touches w.machine (layout w.machine w.own)
       unfolding hierarchy delivery_touches
       touches_there =
-          ap (λ (c : CostTable). operation c (layout_model k) work) (sym (ap (λ (h : Hierarchy). h.costs) fits.levels))
+          ap (λ (c : CostTable). operation c (layout_model k) work)
+          (sym (ap (λ (h : Hierarchy). h.costs) fits.levels))
           ∙ ap (λ (l : Layout). operation w.machine.costs l work) same
           ∙ ap (λ (x : WorkDone). operation w.machine.costs (layout w.machine w.own) x) is
 
     -- a moment is delivered
-    pub moves_due : (now later cycles line : ℕ) (work : WorkDone) → old.status ≡ Running → due now old.interrupts ≡ Some line
-        → Becomes (delivered_on line) old new → new.caps ≡ old.caps → new.pool ≡ old.pool → new.map ≡ old.map → new.layout ≡ old.layout
+    pub moves_due : (now later cycles line : ℕ) (work : WorkDone) → old.status ≡ Running
+        → due now old.interrupts ≡ Some line
+        → Becomes (delivered_on line) old new → new.caps ≡ old.caps → new.pool ≡ old.pool
+        → new.map ≡ old.map → new.layout ≡ old.layout
         → new.interrupts.moments ≡ old.interrupts.moments → work ≡ plain delivery_op
-        → MakesTouches rule stands (operation system.core.costs (layout_model new.layout) work) cycles system system'
+        → MakesTouches rule stands (operation system.core.costs (layout_model new.layout) work) cycles
+        system system'
         → system'.core.tlb ≡ system.core.tlb → later ≡ now + cycles
-        → Moves rule stands (λ w. step w.machine w.own w.pinned end) memory old system now memory new system' later
+        → Moves rule stands (step_to end) memory old system now memory new system' later
     unfolding delivered
-    moves_due now later cycles line work runs comes becomes caps pool map clone moments is made buffer time w s i =
+    moves_due now later cycles line work runs comes becomes caps pool map clone moments is made buffer time
+        w s i =
         let e = estate w.machine w.own in
         let ts = delivery_touches w.machine (layout w.machine w.own) in
-        let placed : layout_model new.layout ≡ layout w.machine w.own = ap (λ (c : CloneLayout). layout_model c) clone ∙ i.layout in
+        let placed : layout_model new.layout ≡ layout w.machine w.own =
+        ap (λ (c : CloneLayout). layout_model c) clone ∙ i.layout in
         let makes : MakesTouches rule stands ts cycles system system' =
-        subst (λ (us : List Touch). MakesTouches rule stands us cycles system system') (touches_there w new.layout work i.fits placed is) made in
-        let steps = steps_there rule stands w memory system system' ts cycles s.caches makes i.fits (makes.steps s.caches i.caches) in
+        subst (λ (us : List Touch). MakesTouches rule stands us cycles system system')
+        (touches_there w new.layout work i.fits placed is) made in
+        let steps =
+        steps_there rule stands w memory system system' ts cycles s.caches makes i.fits
+        (makes.steps s.caches i.caches) in
         let dom : Stands new (delivered_on line s.dom) =
-        subst (λ (m : Dom). Stands new (delivered_on line m)) i.dom.same (becomes s.dom.readings s.dom.replies i.dom.readings i.dom.replies) in
+        subst (λ (m : Dom). Stands new (delivered_on line m)) i.dom.same
+        (becomes s.dom.readings s.dom.replies i.dom.readings i.dom.replies) in
         let due_is = due_there w memory old system now s i ∙ comes in
-        subst (StandsIn rule stands w memory new system' later) (sym (step-due w.machine w.own w.pinned end s line (running_there w memory old system now s i runs) due_is)) (record {
+        let goes =
+        step-due w.machine w.own w.pinned end s line (running_there w memory old system now s i runs)
+        due_is in
+        let FactsOf : Slots → Type 0 = λ slots. Facts e.root (is_mine e) (claims e slots) s.storage.mem in
+        let Keeps : ℕ → Buffer P → Type 0 = λ n b. KeepsLeaves s.storage.mem memory.frames n b in
+        subst (StandsIn rule stands w memory new system' later) (sym goes) (record {
           fits = fits_still rule stands w memory system system' ts cycles makes i.fits;
           dom = dom;
           facts = record {
@@ -206,40 +287,53 @@ module _ {P : Type 0} (rule : P → ℕ → Rule) (stands : P → ℕ → ℕ �
             frames = i.facts.frames;
             has = has_still e old new i.facts.has caps pool map;
             holds = i.facts.holds;
-            facts = subst (λ (slots : Slots). Facts e.root (is_mine e) (claims e slots) s.storage.mem) (sym caps) i.facts.facts;
+            facts = subst FactsOf (sym caps) i.facts.facts;
           };
           layout = placed;
-          leaves = subst (λ (b : Buffer P). KeepsLeaves s.storage.mem memory.frames new.map b) (sym buffer)
-              (subst (λ (n : ℕ). KeepsLeaves s.storage.mem memory.frames n system.core.tlb) (sym map) i.leaves);
+          leaves = subst (λ (b : Buffer P). Keeps new.map b) (sym buffer)
+              (subst (λ (n : ℕ). Keeps n system.core.tlb) (sym map) i.leaves);
           caches = steps.next;
           moments = moments ∙ i.moments;
           time = omega (arith, time, i.time, steps.cost);
         })
 
+  -- ---- a stretch
+
   module _ (end : ℕ) (memory : Contents) (old : Domain) (system : SystemContents P) (first : ℕ) where
+    abbrev stretch_to : Setting → Local → Local
+    stretch_to w = stretch w.machine w.own w.pinned end
+
     -- what of a stretch is left to do, from now on
     abbrev pub GoesOn : Contents → Domain → SystemContents P → ℕ → Type 0
-    GoesOn memory' now system' clock = (w : Setting) (s : Local) → StandsIn rule stands w memory old system first s
-        → (x : Local) × StandsIn rule stands w memory' now system' clock x × (stretch w.machine w.own w.pinned end x ≡ stretch w.machine w.own w.pinned end s)
+    GoesOn memory' now system' clock =
+        (w : Setting) (s : Local) → StandsIn rule stands w memory old system first s
+        → (x : Local) × StandsIn rule stands w memory' now system' clock x
+        × (stretch_to w x ≡ stretch_to w s)
 
     module _ (base : 0 < system.core.costs.base) (trap : 0 < system.core.costs.trap) where
-      timed_there : (w : Setting) (s : Local) → StandsIn rule stands w memory old system first s → IsTimed w.machine
+      timed_there : (w : Setting) (s : Local) → StandsIn rule stands w memory old system first s
+          → IsTimed w.machine
       unfolding hierarchy
       timed_there w s i = record {
         base = subst (λ (n : ℕ). 0 < n) (sym (same_base w memory system i.fits)) base;
         trap = subst (λ (n : ℕ). 0 < n) (sym (ap (λ (h : Hierarchy). h.costs.trap) i.fits.levels)) trap;
       }
 
-      pub goes_on : (between memory' : Contents) (now new : Domain) (middle system' : SystemContents P) (clock later : ℕ) → GoesOn between now middle clock → clock < end
-          → Moves rule stands (λ w. step w.machine w.own w.pinned end) between now middle clock memory' new system' later → GoesOn memory' new system' later
+      pub goes_on : (between memory' : Contents) (now new : Domain) (middle system' : SystemContents P)
+          (clock later : ℕ) → GoesOn between now middle clock → clock < end
+          → Moves rule stands (step_to end) between now middle clock memory' new system' later
+          → GoesOn memory' new system' later
       goes_on between memory' now new middle system' clock later so_far below moves w s i =
           let (x, is, same) = so_far w s i in
           let early : x.clock < end = subst (λ (n : ℕ). n < end) is.time below in
-          (step w.machine w.own w.pinned end x, moves w x is, sym (stretch_step w.machine (timed_there w s i) w.own w.pinned end x early) ∙ same)
+          let once = stretch_step w.machine (timed_there w s i) w.own w.pinned end x early in
+          (step_to end w x, moves w x is, sym once ∙ same)
 
-      pub moves_over : (memory' : Contents) (now : Domain) (system' : SystemContents P) (clock : ℕ) → GoesOn memory' now system' clock → end ≤ clock
-          → Moves rule stands (λ w. stretch w.machine w.own w.pinned end) memory old system first memory' now system' clock
+      pub moves_over : (memory' : Contents) (now : Domain) (system' : SystemContents P) (clock : ℕ)
+          → GoesOn memory' now system' clock → end ≤ clock
+          → Moves rule stands stretch_to memory old system first memory' now system' clock
       moves_over memory' now system' clock so_far past w s i =
           let (x, is, same) = so_far w s i in
           let over : end ≤ x.clock = subst (λ (n : ℕ). end ≤ n) is.time past in
-          subst (StandsIn rule stands w memory' now system' clock) (sym (stretch_done w.machine (timed_there w s i) w.own w.pinned end x over) ∙ same) is
+          let done = stretch_done w.machine (timed_there w s i) w.own w.pinned end x over in
+          subst (StandsIn rule stands w memory' now system' clock) (sym done ∙ same) is

@@ -239,6 +239,24 @@ fn errors_are_tested_in_the_order_of_their_numbers(rt: HostRuntime) -> Result<()
     Ok(())
 }
 
+// ---- what is written
+
+fn word_at(memory: &PhysMem, at: u32) -> Option<u32> {
+    if at / 4096 >= memory.frames() || at % 4 != 0 {
+        return None;
+    }
+    Some(memory.read_word(at))
+}
+
+// A page of all rights is mapped to be read and written: frame 9, and D, A, U, W, R and V.
+#[test]
+fn a_leaf_has_the_rights_that_are_asked_for(rt: HostRuntime) -> Result<(), Fail> {
+    let (mut domain, mut memory) = opened(rt.alloc())?;
+    assert_eq!(rt; not_done(&mut domain, &mut memory, &FIRST), None);
+    assert_eq!(rt; word_at(&memory, 0x5000), Some(0x24d7));
+    Ok(())
+}
+
 // ---- what is stored
 
 // Slot 3 gets a page, mapped; its copies 7 to 10 are mapped, but for 9; slot 6

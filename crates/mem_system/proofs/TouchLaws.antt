@@ -17,40 +17,47 @@ use Rattle.mem_system.specs.TouchLaws.{lines_in_l1i, lines_in_l1d, lines_in_l2, 
 
 -- ---- colours
 
--- the set of a line has the line's colour
-pub set_colour : (h : Hierarchy) (line : ℕ) → IsColoured h.line_size h.l2.count → colour_of_set h.line_size (line % h.l2.count) ≡ colour_of_line h line
-unfolding colour_of_line
-set_colour h line coloured = line_in_colour h.line_size h.l2.count line coloured
+module _ (h : Hierarchy) where
+  -- the set of a line has the line's colour
+  pub set_colour : (line : ℕ) → IsColoured h.line_size h.l2.count
+      → colour_of_set h.line_size (line % h.l2.count) ≡ colour_of_line h line
+  unfolding colour_of_line
+  set_colour line coloured = line_in_colour h.line_size h.l2.count line coloured
 
--- a line of another colour than a set's stands in another set
-pub line_elsewhere : (h : Hierarchy) (s line : ℕ) → IsColoured h.line_size h.l2.count → colour_of_set h.line_size s ≢ colour_of_line h line
-    → s ≢ line % h.l2.count
-line_elsewhere h s line coloured apart same = apart (ap (colour_of_set h.line_size) same ∙ set_colour h line coloured)
+  -- a line of another colour than a set's stands in another set
+  pub line_elsewhere : (s line : ℕ) → IsColoured h.line_size h.l2.count
+      → colour_of_set h.line_size s ≢ colour_of_line h line → s ≢ line % h.l2.count
+  line_elsewhere s line coloured apart same =
+      apart (ap (colour_of_set h.line_size) same ∙ set_colour line coloured)
 
--- the sets of lines of two colours are two
-sets_apart : (h : Hierarchy) (line other : ℕ) → IsColoured h.line_size h.l2.count → colour_of_line h other ≢ colour_of_line h line
-    → line % h.l2.count ≢ other % h.l2.count
-sets_apart h line other coloured apart =
-    line_elsewhere h (line % h.l2.count) other coloured (λ same. apart (sym same ∙ set_colour h line coloured))
+  -- the sets of lines of two colours are two
+  sets_apart : (line other : ℕ) → IsColoured h.line_size h.l2.count
+      → colour_of_line h other ≢ colour_of_line h line → line % h.l2.count ≢ other % h.l2.count
+  sets_apart line other coloured apart =
+      line_elsewhere (line % h.l2.count) other coloured (λ same. apart (sym same ∙ set_colour line coloured))
 
--- a line that gets to the sets of the second level stands in another set than this one
-abbrev pub Spares : Hierarchy → Bool → ℕ → ℕ → Type 0
-Spares h pinned s other = (pinned && colour_of_line h other == 0) ≡ false → s ≢ other % h.l2.count
+  below_if_spares : (test : Bool) (sets : Sets) (s other : ℕ) → (test ≡ false → s ≢ other % h.l2.count)
+      → set_at h.l2.ways (below_if test h sets other).l2 s ≡ set_at h.l2.ways sets s
+  unfolding below_if below_by
+  below_if_spares true sets s other apart = refl
+  below_if_spares false sets s other apart =
+      let set : CacheSet = set_at h.l2.ways sets (other % h.l2.count) in
+      at-put_other (fresh_set h.l2.ways) sets (other % h.l2.count) s (step_of h.l2.rule set other false).next
+      (apart refl)
 
-below_if_spares : (h : Hierarchy) (test : Bool) (sets : Sets) (s other : ℕ) → (test ≡ false → s ≢ other % h.l2.count)
-    → set_at h.l2.ways (below_if test h sets other).l2 s ≡ set_at h.l2.ways sets s
-unfolding below_if below_by
-below_if_spares h true sets s other apart = refl
-below_if_spares h false sets s other apart =
-    at-put_other (fresh_set h.l2.ways) sets (other % h.l2.count) s (step_of h.l2.rule (set_at h.l2.ways sets (other % h.l2.count)) other false).next (apart refl)
+  -- a line that gets to the sets of the second level stands in another set than this one
+  abbrev pub Spares : Bool → ℕ → ℕ → Type 0
+  Spares pinned s other = (pinned && colour_of_line h other == 0) ≡ false → s ≢ other % h.l2.count
 
-all_spare : (h : Hierarchy) (pinned : Bool) (s : ℕ) (lines : List ℕ) (sets : Sets) → All (Spares h pinned s) lines
-    → set_at h.l2.ways (below_all h pinned sets lines).l2 s ≡ set_at h.l2.ways sets s
-unfolding below_all below
-all_spare h pinned s [] sets spare = refl
-all_spare h pinned s (line ∷ lines) sets spare =
-    all_spare h pinned s lines (below h pinned sets line).l2 (All-tail (Spares h pinned s) line lines spare)
-    ∙ below_if_spares h (pinned && colour_of_line h line == 0) sets s line (All-head (Spares h pinned s) line lines spare)
+  module _ (pinned : Bool) (s : ℕ) where
+    all_spare : (lines : List ℕ) (sets : Sets) → All (Spares pinned s) lines
+        → set_at h.l2.ways (below_all h pinned sets lines).l2 s ≡ set_at h.l2.ways sets s
+    unfolding below_all below
+    all_spare [] sets spare = refl
+    all_spare (line ∷ lines) sets spare =
+        all_spare lines (below h pinned sets line).l2 (All-tail (Spares pinned s) line lines spare)
+        ∙ below_if_spares (pinned && colour_of_line h line == 0) sets s line
+        (All-head (Spares pinned s) line lines spare)
 
 -- what is so of the lines of a touch is so of those that it hands on
 module _ (P : ℕ → Type 0) where
@@ -58,337 +65,449 @@ module _ (P : ℕ → Type 0) where
   unless_all true line all = All-nil P
   unless_all false line all = all
 
-  looked_all : (h : Hierarchy) (core : Core) (page : ℕ) (reads : List ℕ) (found held : Bool) → All P reads → All P (looked h core page reads found held).lines
+  looked_all : (h : Hierarchy) (core : Core) (page : ℕ) (reads : List ℕ) (found held : Bool)
+      → All P reads → All P (looked h core page reads found held).lines
   unfolding looked
   looked_all h core page reads found true all = All-nil P
   looked_all h core page reads true false all = all
   looked_all h core page reads false false all = all
 
-  pub handed_on : (h : Hierarchy) (core : Core) (touch : Touch) → All P (lines_in_l2 touch) → All P (on_core h core touch).lines
+  pub handed_on : (h : Hierarchy) (core : Core) (touch : Touch)
+      → All P (lines_in_l2 touch) → All P (on_core h core touch).lines
   unfolding on_core fetched accessed branched flushed
   handed_on h core (Fetch line) all = unless_all (touch_of h.l1i core.l1i line false).answer.hit line all
   handed_on h core (Load line) all = unless_all (touch_of h.l1d core.l1d line false).answer.hit line all
   handed_on h core (Store line) all = unless_all (touch_of h.l1d core.l1d line true).answer.hit line all
   handed_on h core (WalkRead line) all = all
-  handed_on h core (Look page reads found) all = looked_all h core page reads found (is_some (place_of h.tlb core.tlb page)) all
+  handed_on h core (Look page reads found) all =
+      looked_all h core page reads found (is_some (place_of h.tlb core.tlb page)) all
   handed_on h core (Branch pc taken) all = All-nil P
   handed_on h core EmptyTlb all = All-nil P
   handed_on h core Flush all = All-nil P
   handed_on h core (Charge cycles) all = All-nil P
 
-pub touch_spares : (h : Hierarchy) (pinned : Bool) (caches : Caches) (touch : Touch) (s : ℕ) → All (Spares h pinned s) (lines_in_l2 touch)
-    → set_at h.l2.ways (touched h pinned caches touch).caches.l2 s ≡ set_at h.l2.ways caches.l2 s
-unfolding touched pass_on
-touch_spares h pinned caches touch s spare =
-    all_spare h pinned s (on_core h caches.core touch).lines caches.l2 (handed_on (Spares h pinned s) h caches.core touch spare)
+module _ (h : Hierarchy) where
+  pub touch_spares : (pinned : Bool) (caches : Caches) (touch : Touch) (s : ℕ)
+      → All (Spares h pinned s) (lines_in_l2 touch)
+      → set_at h.l2.ways (touched h pinned caches touch).caches.l2 s ≡ set_at h.l2.ways caches.l2 s
+  unfolding touched pass_on
+  touch_spares pinned caches touch s spare =
+      all_spare h pinned s (on_core h caches.core touch).lines caches.l2
+      (handed_on (Spares h pinned s) h caches.core touch spare)
 
-pub apart : (h : Hierarchy) (pinned : Bool) (caches : Caches) (touch : Touch) (line : ℕ) → IsColoured h.line_size h.l2.count
-    → All (λ other. colour_of_line h other ≢ colour_of_line h line) (lines_in_l2 touch)
-    → set_at h.l2.ways (touched h pinned caches touch).caches.l2 (line % h.l2.count) ≡ set_at h.l2.ways caches.l2 (line % h.l2.count)
-apart h pinned caches touch line coloured others =
-    touch_spares h pinned caches touch (line % h.l2.count)
-    (λ k d lt _. sets_apart h line (get_or (lines_in_l2 touch) k d) coloured (others k d lt))
+  -- a touch leaves the set of a line in the second level as it was
+  abbrev LeavesLine : Bool → Caches → Touch → ℕ → Type 0
+  LeavesLine pinned caches touch line =
+      set_at h.l2.ways (touched h pinned caches touch).caches.l2 (line % h.l2.count)
+      ≡ set_at h.l2.ways caches.l2 (line % h.l2.count)
+
+  pub apart : (pinned : Bool) (caches : Caches) (touch : Touch) (line : ℕ)
+      → IsColoured h.line_size h.l2.count
+      → All (λ other. colour_of_line h other ≢ colour_of_line h line) (lines_in_l2 touch)
+      → LeavesLine pinned caches touch line
+  apart pinned caches touch line coloured others =
+      touch_spares pinned caches touch (line % h.l2.count)
+      (λ k d lt _. sets_apart h line (get_or (lines_in_l2 touch) k d) coloured (others k d lt))
 
 not_first : (k : ℕ) → (true && k == 0) ≡ false → k ≢ 0
 not_first k other first = true≢false (subst (λ (j : ℕ). (true && j == 0) ≡ false) first other)
 
-pub pinned_stay : (h : Hierarchy) (caches : Caches) (touch : Touch) (line : ℕ) → IsColoured h.line_size h.l2.count → colour_of_line h line ≡ 0
-    → set_at h.l2.ways (touched h true caches touch).caches.l2 (line % h.l2.count) ≡ set_at h.l2.ways caches.l2 (line % h.l2.count)
+pub pinned_stay : (h : Hierarchy) (caches : Caches) (touch : Touch) (line : ℕ)
+    → IsColoured h.line_size h.l2.count → colour_of_line h line ≡ 0 → LeavesLine h true caches touch line
 pinned_stay h caches touch line coloured first =
+    let colour : (k d : ℕ) → ℕ = λ k d. colour_of_line h (get_or (lines_in_l2 touch) k d) in
     touch_spares h true caches touch (line % h.l2.count)
     (λ k d lt other. sets_apart h line (get_or (lines_in_l2 touch) k d) coloured
-    (λ same. not_first (colour_of_line h (get_or (lines_in_l2 touch) k d)) other (same ∙ first)))
+    (λ same. not_first (colour k d) other (same ∙ first)))
 
 -- ---- costs
 
-hit_or_miss : (hit : Bool) (l2 mem : ℕ) → (l2 + (if hit then 0 else mem) ≡ l2) ⊎ (l2 + (if hit then 0 else mem) ≡ l2 + mem)
+hit_or_miss : (hit : Bool) (l2 mem : ℕ)
+    → (l2 + (if hit then 0 else mem) ≡ l2) ⊎ (l2 + (if hit then 0 else mem) ≡ l2 + mem)
 hit_or_miss true l2 mem = inl (omega arith)
 hit_or_miss false l2 mem = inr refl
-
-below_if_cost : (h : Hierarchy) (test : Bool) (sets : Sets) (line : ℕ)
-    → ((below_if test h sets line).cost ≡ h.costs.l2) ⊎ ((below_if test h sets line).cost ≡ h.costs.l2 + h.costs.mem)
-unfolding below_if below_by
-below_if_cost h true sets line = inl refl
-below_if_cost h false sets line = hit_or_miss (touch_of h.l2 sets line false).answer.hit h.costs.l2 h.costs.mem
-
-below_cost : (h : Hierarchy) (pinned : Bool) (sets : Sets) (line : ℕ)
-    → ((below h pinned sets line).cost ≡ h.costs.l2) ⊎ ((below h pinned sets line).cost ≡ h.costs.l2 + h.costs.mem)
-unfolding below
-below_cost h pinned sets line = below_if_cost h (pinned && colour_of_line h line == 0) sets line
-
-one_cost : (h : Hierarchy) (pinned : Bool) (sets : Sets) (line first : ℕ) → IsCostBelow h first (first + (below_all h pinned sets (line ∷ [])).cost)
-unfolding below_all
-one_cost h pinned sets line first = elim (below_cost h pinned sets line) [
-  | inl e ↦ inl (omega (arith, e))
-  | inr e ↦ inr (omega (arith, e))
-]
-
-fetch_cost : (h : Hierarchy) (pinned : Bool) (sets : Sets) (line : ℕ) (hit : Bool)
-    → (h.costs.l1 + (below_all h pinned sets (unless_hit hit line)).cost ≡ h.costs.l1) ⊎ IsCostBelow h h.costs.l1 (h.costs.l1 + (below_all h pinned sets (unless_hit hit line)).cost)
-unfolding below_all
-fetch_cost h pinned sets line true = inl (omega arith)
-fetch_cost h pinned sets line false = inr (one_cost h pinned sets line h.costs.l1)
-
-missed_cost : (h : Hierarchy) (pinned : Bool) (sets : Sets) (line : ℕ) (dirty : Bool)
-    → IsCostOfData h (h.costs.l1 + (if dirty then h.costs.wb else 0) + (below_all h pinned sets (line ∷ [])).cost)
-missed_cost h pinned sets line true = inr (inr (one_cost h pinned sets line (h.costs.l1 + h.costs.wb)))
-missed_cost h pinned sets line false = elim (one_cost h pinned sets line h.costs.l1) [
-  | inl e ↦ inr (inl (inl (omega (arith, e))))
-  | inr e ↦ inr (inl (inr (omega (arith, e))))
-]
-
-data_cost : (h : Hierarchy) (pinned : Bool) (sets : Sets) (rule : Rule) (set : CacheSet) (line : ℕ) (store : Bool) (way : Option ℕ)
-    → IsCostOfData h (h.costs.l1 + (if (step_by rule set line store way).answer.dirty_victim then h.costs.wb else 0)
-    + (below_all h pinned sets (unless_hit (step_by rule set line store way).answer.hit line)).cost)
-unfolding below_all
-data_cost h pinned sets rule set line store (Some way) = inl (omega arith)
-data_cost h pinned sets rule set line store None = missed_cost h pinned sets line (step_by rule set line store None).answer.dirty_victim
-
-record IsCostOfReads (h : Hierarchy) (reads cost : ℕ) : Type 0 where
-  misses : ℕ
-  few : misses ≤ reads
-  sum : cost ≡ reads * h.costs.l2 + misses * h.costs.mem
-
-reads_cost : (h : Hierarchy) (pinned : Bool) (sets : Sets) (reads : List ℕ) → IsCostOfReads h (length reads) (below_all h pinned sets reads).cost
-unfolding below_all
-reads_cost h pinned sets [] = record { misses = 0; few = omega arith; sum = omega arith }
-reads_cost h pinned sets (line ∷ lines) =
-    let rest = reads_cost h pinned (below h pinned sets line).l2 lines in
-    elim (below_cost h pinned sets line) [
-      | inl e ↦ record { misses = rest.misses; few = omega (arith, rest.few); sum = grind (arith, e, rest.sum) }
-      | inr e ↦ record { misses = 1 + rest.misses; few = omega (arith, rest.few); sum = grind (arith, e, rest.sum) }
-    ]
-
-walk_cost : (h : Hierarchy) (pinned : Bool) (sets : Sets) (reads : List ℕ) → IsCostOfWalk h (length reads) (h.costs.tlb + (below_all h pinned sets reads).cost)
-walk_cost h pinned sets reads =
-    let made = reads_cost h pinned sets reads in
-    record { misses = made.misses; few = made.few; sum = ap (λ (n : ℕ). h.costs.tlb + n) made.sum }
-
-look_cost : (h : Hierarchy) (pinned : Bool) (sets : Sets) (core : Core) (page : ℕ) (reads : List ℕ) (found held : Bool)
-    → ((pass_on h pinned sets (looked h core page reads found held)).cost ≡ h.costs.tlb)
-    ⊎ IsCostOfWalk h (length reads) (pass_on h pinned sets (looked h core page reads found held)).cost
-unfolding looked pass_on below_all
-look_cost h pinned sets core page reads found true = inl (omega arith)
-look_cost h pinned sets core page reads true false = inr (walk_cost h pinned sets reads)
-look_cost h pinned sets core page reads false false = inr (walk_cost h pinned sets reads)
 
 guess_cost : (wrong : Bool) (n : ℕ) → ((if wrong then n else 0) + 0 ≡ 0) ⊎ ((if wrong then n else 0) + 0 ≡ n)
 guess_cost true n = inr (omega arith)
 guess_cost false n = inl refl
 
-pub cost_is : (h : Hierarchy) (pinned : Bool) (caches : Caches) (touch : Touch) → IsCost h caches.core touch (touched h pinned caches touch).cost
-unfolding touched on_core fetched accessed branched flushed pass_on below_all
-cost_is h pinned caches (Fetch line) = fetch_cost h pinned caches.l2 line (touch_of h.l1i caches.core.l1i line false).answer.hit
-cost_is h pinned caches (Load line) =
-    let set : CacheSet = set_at h.l1d.ways caches.core.l1d (line % h.l1d.count) in
-    data_cost h pinned caches.l2 h.l1d.rule set line false (way_of line set.places)
-cost_is h pinned caches (Store line) =
-    let set : CacheSet = set_at h.l1d.ways caches.core.l1d (line % h.l1d.count) in
-    data_cost h pinned caches.l2 h.l1d.rule set line true (way_of line set.places)
-cost_is h pinned caches (WalkRead line) = one_cost h pinned caches.l2 line 0
-cost_is h pinned caches (Look page reads found) = look_cost h pinned caches.l2 caches.core page reads found (is_some (place_of h.tlb caches.core.tlb page))
-cost_is h pinned caches (Branch pc taken) = guess_cost (is_wrong (guess_of caches.core.guesses pc) taken) h.costs.mispredict
-cost_is h pinned caches EmptyTlb = refl
-cost_is h pinned caches Flush = omega arith
-cost_is h pinned caches (Charge cycles) = omega arith
+module _ (h : Hierarchy) where
+  -- what one line costs at the second level
+  abbrev IsCostOfLine : ℕ → Type 0
+  IsCostOfLine cost = (cost ≡ h.costs.l2) ⊎ (cost ≡ h.costs.l2 + h.costs.mem)
+
+  below_if_cost : (test : Bool) (sets : Sets) (line : ℕ) → IsCostOfLine (below_if test h sets line).cost
+  unfolding below_if below_by
+  below_if_cost true sets line = inl refl
+  below_if_cost false sets line =
+      hit_or_miss (touch_of h.l2 sets line false).answer.hit h.costs.l2 h.costs.mem
+
+  record IsCostOfReads (reads cost : ℕ) : Type 0 where
+    misses : ℕ
+    few : misses ≤ reads
+    sum : cost ≡ reads * h.costs.l2 + misses * h.costs.mem
+
+  module _ (pinned : Bool) where
+    -- what lines that go on cost
+    abbrev cost_of : Sets → List ℕ → ℕ
+    cost_of sets lines = (below_all h pinned sets lines).cost
+
+    below_cost : (sets : Sets) (line : ℕ) → IsCostOfLine (below h pinned sets line).cost
+    unfolding below
+    below_cost sets line = below_if_cost (pinned && colour_of_line h line == 0) sets line
+
+    one_cost : (sets : Sets) (line first : ℕ) → IsCostBelow h first (first + cost_of sets (line ∷ []))
+    unfolding below_all
+    one_cost sets line first = elim (below_cost sets line) [
+      | inl e ↦ inl (omega (arith, e))
+      | inr e ↦ inr (omega (arith, e))
+    ]
+
+    abbrev IsCostOfFetch : ℕ → Type 0
+    IsCostOfFetch cost = (cost ≡ h.costs.l1) ⊎ IsCostBelow h h.costs.l1 cost
+
+    fetch_cost : (sets : Sets) (line : ℕ) (hit : Bool)
+        → IsCostOfFetch (h.costs.l1 + cost_of sets (unless_hit hit line))
+    unfolding below_all
+    fetch_cost sets line true = inl (omega arith)
+    fetch_cost sets line false = inr (one_cost sets line h.costs.l1)
+
+    missed_cost : (sets : Sets) (line : ℕ) (dirty : Bool)
+        → IsCostOfData h (h.costs.l1 + (if dirty then h.costs.wb else 0) + cost_of sets (line ∷ []))
+    missed_cost sets line true = inr (inr (one_cost sets line (h.costs.l1 + h.costs.wb)))
+    missed_cost sets line false = elim (one_cost sets line h.costs.l1) [
+      | inl e ↦ inr (inl (inl (omega (arith, e))))
+      | inr e ↦ inr (inl (inr (omega (arith, e))))
+    ]
+
+    data_cost : (sets : Sets) (rule : Rule) (set : CacheSet) (line : ℕ) (store : Bool) (way : Option ℕ)
+        → let step = step_by rule set line store way in
+        IsCostOfData h (h.costs.l1 + (if step.answer.dirty_victim then h.costs.wb else 0)
+        + cost_of sets (unless_hit step.answer.hit line))
+    unfolding below_all
+    data_cost sets rule set line store (Some way) = inl (omega arith)
+    data_cost sets rule set line store None =
+        missed_cost sets line (step_by rule set line store None).answer.dirty_victim
+
+    reads_cost : (sets : Sets) (reads : List ℕ) → IsCostOfReads (length reads) (cost_of sets reads)
+    unfolding below_all
+    reads_cost sets [] = record { misses = 0; few = omega arith; sum = omega arith }
+    reads_cost sets (line ∷ lines) =
+        let rest = reads_cost (below h pinned sets line).l2 lines in
+        elim (below_cost sets line) [
+          | inl e ↦ record {
+            misses = rest.misses;
+            few = omega (arith, rest.few);
+            sum = grind (arith, e, rest.sum);
+          }
+          | inr e ↦ record {
+            misses = 1 + rest.misses;
+            few = omega (arith, rest.few);
+            sum = grind (arith, e, rest.sum);
+          }
+        ]
+
+    walk_cost : (sets : Sets) (reads : List ℕ)
+        → IsCostOfWalk h (length reads) (h.costs.tlb + cost_of sets reads)
+    walk_cost sets reads =
+        let made = reads_cost sets reads in
+        record { misses = made.misses; few = made.few; sum = ap (λ (n : ℕ). h.costs.tlb + n) made.sum }
+
+    -- what a look-up costs, by whether its walk finds the page and the buffer holds it
+    abbrev cost_of_look : Sets → Core → ℕ → List ℕ → Bool → Bool → ℕ
+    cost_of_look sets core page reads found held =
+        (pass_on h pinned sets (looked h core page reads found held)).cost
+
+    look_cost : (sets : Sets) (core : Core) (page : ℕ) (reads : List ℕ) (found held : Bool)
+        → let cost = cost_of_look sets core page reads found held in
+        (cost ≡ h.costs.tlb) ⊎ IsCostOfWalk h (length reads) cost
+    unfolding looked pass_on below_all
+    look_cost sets core page reads found true = inl (omega arith)
+    look_cost sets core page reads true false = inr (walk_cost sets reads)
+    look_cost sets core page reads false false = inr (walk_cost sets reads)
+
+    -- a load or a store, by the way in which its line is kept
+    line_cost : (caches : Caches) (line : ℕ) (store : Bool)
+        → let set = set_at h.l1d.ways caches.core.l1d (line % h.l1d.count) in
+        let step = step_by h.l1d.rule set line store (way_of line set.places) in
+        IsCostOfData h (h.costs.l1 + (if step.answer.dirty_victim then h.costs.wb else 0)
+        + cost_of caches.l2 (unless_hit step.answer.hit line))
+    line_cost caches line store =
+        let set : CacheSet = set_at h.l1d.ways caches.core.l1d (line % h.l1d.count) in
+        data_cost caches.l2 h.l1d.rule set line store (way_of line set.places)
+
+    pub cost_is : (caches : Caches) (touch : Touch)
+        → IsCost h caches.core touch (touched h pinned caches touch).cost
+    unfolding touched on_core fetched accessed branched flushed pass_on below_all
+    cost_is caches (Fetch line) =
+        fetch_cost caches.l2 line (touch_of h.l1i caches.core.l1i line false).answer.hit
+    cost_is caches (Load line) = line_cost caches line false
+    cost_is caches (Store line) = line_cost caches line true
+    cost_is caches (WalkRead line) = one_cost caches.l2 line 0
+    cost_is caches (Look page reads found) =
+        look_cost caches.l2 caches.core page reads found (is_some (place_of h.tlb caches.core.tlb page))
+    cost_is caches (Branch pc taken) =
+        guess_cost (is_wrong (guess_of caches.core.guesses pc) taken) h.costs.mispredict
+    cost_is caches EmptyTlb = refl
+    cost_is caches Flush = omega arith
+    cost_is caches (Charge cycles) = omega arith
 
 -- ---- hits
 
-hit_of : (rule : Rule) (set : CacheSet) (line : ℕ) (store : Bool) (f : ℕ → ℕ) (way : Option ℕ) → is_some (option_map f way) ≡ true
-    → (step_by rule set line store way).answer.hit ≡ true
-hit_of rule set line store f (Some way) held = refl
-hit_of rule set line store f None held = absurd (true≢false (sym held))
+-- a step of a set, by the way in which the line is kept, where there is one
+module _ (rule : Rule) (set : CacheSet) (line : ℕ) (store : Bool) (f : ℕ → ℕ) where
+  hit_of : (way : Option ℕ) → is_some (option_map f way) ≡ true
+      → (step_by rule set line store way).answer.hit ≡ true
+  hit_of (Some way) held = refl
+  hit_of None held = absurd (true≢false (sym held))
 
--- a line that a cache holds is a hit of a touch
-held_hit : (shape : Shape) (sets : Sets) (line : ℕ) (store : Bool) → holds shape sets line ≡ true → (touch_of shape sets line store).answer.hit ≡ true
-held_hit shape sets line store held =
-    let set : CacheSet = set_at shape.ways sets (line % shape.count) in
-    hit_of shape.rule set line store (λ way. line % shape.count * shape.ways + way) (way_of line set.places) held
+  nothing_written : (wb : ℕ) (way : Option ℕ) → is_some (option_map f way) ≡ true
+      → (if (step_by rule set line store way).answer.dirty_victim then wb else 0) ≡ 0
+  nothing_written wb (Some way) held = refl
+  nothing_written wb None held = absurd (true≢false (sym held))
 
-nothing_below : (h : Hierarchy) (pinned : Bool) (sets : Sets) (line : ℕ) (hit : Bool) → hit ≡ true → (below_all h pinned sets (unless_hit hit line)).cost ≡ 0
-unfolding below_all
-nothing_below h pinned sets line true held = refl
-nothing_below h pinned sets line false held = absurd (true≢false (sym held))
+module _ (shape : Shape) (sets : Sets) (line : ℕ) (store : Bool) (held : holds shape sets line ≡ true) where
+  -- a line that a cache holds is a hit of a touch
+  held_hit : (touch_of shape sets line store).answer.hit ≡ true
+  held_hit =
+      let set : CacheSet = set_at shape.ways sets (line % shape.count) in
+      hit_of shape.rule set line store (λ way. line % shape.count * shape.ways + way)
+      (way_of line set.places) held
 
-nothing_written : (rule : Rule) (set : CacheSet) (line : ℕ) (store : Bool) (wb : ℕ) (f : ℕ → ℕ) (way : Option ℕ) → is_some (option_map f way) ≡ true
-    → (if (step_by rule set line store way).answer.dirty_victim then wb else 0) ≡ 0
-nothing_written rule set line store wb f (Some way) held = refl
-nothing_written rule set line store wb f None held = absurd (true≢false (sym held))
-
-pub fetch_least : (h : Hierarchy) (pinned : Bool) (caches others : Caches) (line : ℕ) → holds h.l1i caches.core.l1i line ≡ true
-    → (touched h pinned caches (Fetch line)).cost ≤ (touched h pinned others (Fetch line)).cost
-unfolding touched on_core fetched pass_on
-fetch_least h pinned caches others line held =
-    let none = nothing_below h pinned caches.l2 line (touch_of h.l1i caches.core.l1i line false).answer.hit (held_hit h.l1i caches.core.l1i line false held) in
-    omega (arith, none)
-
-data_least : (h : Hierarchy) (pinned : Bool) (caches others : Caches) (line : ℕ) (store : Bool) → holds h.l1d caches.core.l1d line ≡ true
-    → (pass_on h pinned caches.l2 (accessed h caches.core line (touch_of h.l1d caches.core.l1d line store))).cost
-    ≤ (pass_on h pinned others.l2 (accessed h others.core line (touch_of h.l1d others.core.l1d line store))).cost
-unfolding accessed pass_on
-data_least h pinned caches others line store held =
-    let set : CacheSet = set_at h.l1d.ways caches.core.l1d (line % h.l1d.count) in
-    let none = nothing_below h pinned caches.l2 line (touch_of h.l1d caches.core.l1d line store).answer.hit (held_hit h.l1d caches.core.l1d line store held) in
-    let clean = nothing_written h.l1d.rule set line store h.costs.wb (λ way. line % h.l1d.count * h.l1d.ways + way) (way_of line set.places) held in
-    omega (arith, none, clean)
-
-pub load_least : (h : Hierarchy) (pinned : Bool) (caches others : Caches) (line : ℕ) → holds h.l1d caches.core.l1d line ≡ true
-    → (touched h pinned caches (Load line)).cost ≤ (touched h pinned others (Load line)).cost
-unfolding touched on_core
-load_least h pinned caches others line held = data_least h pinned caches others line false held
-
-pub store_least : (h : Hierarchy) (pinned : Bool) (caches others : Caches) (line : ℕ) → holds h.l1d caches.core.l1d line ≡ true
-    → (touched h pinned caches (Store line)).cost ≤ (touched h pinned others (Store line)).cost
-unfolding touched on_core
-store_least h pinned caches others line held = data_least h pinned caches others line true held
+  -- which writes nothing back
+  held_clean : (wb : ℕ) → (if (touch_of shape sets line store).answer.dirty_victim then wb else 0) ≡ 0
+  held_clean wb =
+      let set : CacheSet = set_at shape.ways sets (line % shape.count) in
+      nothing_written shape.rule set line store (λ way. line % shape.count * shape.ways + way) wb
+      (way_of line set.places) held
 
 hit_cost : (hit : Bool) (l2 mem : ℕ) → hit ≡ true → l2 + (if hit then 0 else mem) ≡ l2
 hit_cost true l2 mem held = omega arith
 hit_cost false l2 mem held = absurd (true≢false (sym held))
 
-pub below_if_held : (h : Hierarchy) (test : Bool) (sets : Sets) (line : ℕ) → holds h.l2 sets line ≡ true → (below_if test h sets line).cost ≡ h.costs.l2
-unfolding below_if below_by
-below_if_held h true sets line held = refl
-below_if_held h false sets line held = hit_cost (touch_of h.l2 sets line false).answer.hit h.costs.l2 h.costs.mem (held_hit h.l2 sets line false held)
+module _ (h : Hierarchy) where
+  pub below_if_held : (test : Bool) (sets : Sets) (line : ℕ) → holds h.l2 sets line ≡ true
+      → (below_if test h sets line).cost ≡ h.costs.l2
+  unfolding below_if below_by
+  below_if_held true sets line held = refl
+  below_if_held false sets line held =
+      hit_cost (touch_of h.l2 sets line false).answer.hit h.costs.l2 h.costs.mem
+      (held_hit h.l2 sets line false held)
 
-l2_least : (h : Hierarchy) (pinned : Bool) (sets : Sets) (line : ℕ) → h.costs.l2 ≤ (below h pinned sets line).cost
-l2_least h pinned sets line = elim (below_cost h pinned sets line) [
-  | inl e ↦ omega (arith, e)
-  | inr e ↦ omega (arith, e)
-]
+  module _ (pinned : Bool) where
+    nothing_below : (sets : Sets) (line : ℕ) (hit : Bool) → hit ≡ true
+        → cost_of h pinned sets (unless_hit hit line) ≡ 0
+    unfolding below_all
+    nothing_below sets line true held = refl
+    nothing_below sets line false held = absurd (true≢false (sym held))
 
-pub walk_read_least : (h : Hierarchy) (pinned : Bool) (caches others : Caches) (line : ℕ) → holds h.l2 caches.l2 line ≡ true
-    → (touched h pinned caches (WalkRead line)).cost ≤ (touched h pinned others (WalkRead line)).cost
-unfolding touched on_core pass_on below_all below
-walk_read_least h pinned caches others line held =
-    let here = below_if_held h (pinned && colour_of_line h line == 0) caches.l2 line held in
-    let there = l2_least h pinned others.l2 line in
-    omega (arith, here, there)
+    l2_least : (sets : Sets) (line : ℕ) → h.costs.l2 ≤ (below h pinned sets line).cost
+    l2_least sets line = elim (below_cost h pinned sets line) [
+      | inl e ↦ omega (arith, e)
+      | inr e ↦ omega (arith, e)
+    ]
 
-look_held : (h : Hierarchy) (pinned : Bool) (sets : Sets) (core : Core) (page : ℕ) (reads : List ℕ) (found held : Bool) → held ≡ true
-    → (pass_on h pinned sets (looked h core page reads found held)).cost ≡ h.costs.tlb
-unfolding looked pass_on below_all
-look_held h pinned sets core page reads found true e = omega arith
-look_held h pinned sets core page reads found false e = absurd (true≢false (sym e))
+    look_held : (sets : Sets) (core : Core) (page : ℕ) (reads : List ℕ) (found held : Bool) → held ≡ true
+        → cost_of_look h pinned sets core page reads found held ≡ h.costs.tlb
+    unfolding looked pass_on below_all
+    look_held sets core page reads found true e = omega arith
+    look_held sets core page reads found false e = absurd (true≢false (sym e))
 
-tlb_least : (h : Hierarchy) (pinned : Bool) (sets : Sets) (core : Core) (page : ℕ) (reads : List ℕ) (found held : Bool)
-    → h.costs.tlb ≤ (pass_on h pinned sets (looked h core page reads found held)).cost
-unfolding looked pass_on
-tlb_least h pinned sets core page reads found true = omega arith
-tlb_least h pinned sets core page reads true false = omega arith
-tlb_least h pinned sets core page reads false false = omega arith
+    tlb_least : (sets : Sets) (core : Core) (page : ℕ) (reads : List ℕ) (found held : Bool)
+        → h.costs.tlb ≤ cost_of_look h pinned sets core page reads found held
+    unfolding looked pass_on
+    tlb_least sets core page reads found true = omega arith
+    tlb_least sets core page reads true false = omega arith
+    tlb_least sets core page reads false false = omega arith
 
-pub look_least : (h : Hierarchy) (pinned : Bool) (caches others : Caches) (page : ℕ) (reads : List ℕ) (found : Bool) → holds h.tlb caches.core.tlb page ≡ true
-    → (touched h pinned caches (Look page reads found)).cost ≤ (touched h pinned others (Look page reads found)).cost
-unfolding touched on_core
-look_least h pinned caches others page reads found held =
-    let here = look_held h pinned caches.l2 caches.core page reads found (is_some (place_of h.tlb caches.core.tlb page)) held in
-    let there = tlb_least h pinned others.l2 others.core page reads found (is_some (place_of h.tlb others.core.tlb page)) in
-    omega (arith, here, there)
+    module _ (caches others : Caches) where
+      -- a touch costs no more than from the other caches
+      abbrev IsLeast : Touch → Type 0
+      IsLeast touch = (touched h pinned caches touch).cost ≤ (touched h pinned others touch).cost
+
+      pub fetch_least : (line : ℕ) → holds h.l1i caches.core.l1i line ≡ true → IsLeast (Fetch line)
+      unfolding touched on_core fetched pass_on
+      fetch_least line held =
+          let none =
+          nothing_below caches.l2 line (touch_of h.l1i caches.core.l1i line false).answer.hit
+          (held_hit h.l1i caches.core.l1i line false held) in
+          omega (arith, none)
+
+      -- what a load or a store costs in these caches
+      abbrev cost_of_data : Caches → ℕ → Bool → ℕ
+      cost_of_data from line store =
+          let step = touch_of h.l1d from.core.l1d line store in
+          (pass_on h pinned from.l2 (accessed h from.core line step)).cost
+
+      data_least : (line : ℕ) (store : Bool) → holds h.l1d caches.core.l1d line ≡ true
+          → cost_of_data caches line store ≤ cost_of_data others line store
+      unfolding accessed pass_on
+      data_least line store held =
+          let none =
+          nothing_below caches.l2 line (touch_of h.l1d caches.core.l1d line store).answer.hit
+          (held_hit h.l1d caches.core.l1d line store held) in
+          let clean = held_clean h.l1d caches.core.l1d line store held h.costs.wb in
+          omega (arith, none, clean)
+
+      pub load_least : (line : ℕ) → holds h.l1d caches.core.l1d line ≡ true → IsLeast (Load line)
+      unfolding touched on_core
+      load_least line held = data_least line false held
+
+      pub store_least : (line : ℕ) → holds h.l1d caches.core.l1d line ≡ true → IsLeast (Store line)
+      unfolding touched on_core
+      store_least line held = data_least line true held
+
+      pub walk_read_least : (line : ℕ) → holds h.l2 caches.l2 line ≡ true → IsLeast (WalkRead line)
+      unfolding touched on_core pass_on below_all below
+      walk_read_least line held =
+          let here = below_if_held (pinned && colour_of_line h line == 0) caches.l2 line held in
+          let there = l2_least others.l2 line in
+          omega (arith, here, there)
+
+      pub look_least : (page : ℕ) (reads : List ℕ) (found : Bool)
+          → holds h.tlb caches.core.tlb page ≡ true → IsLeast (Look page reads found)
+      unfolding touched on_core
+      look_least page reads found held =
+          let here =
+          look_held caches.l2 caches.core page reads found
+          (is_some (place_of h.tlb caches.core.tlb page)) held in
+          let there =
+          tlb_least others.l2 others.core page reads found
+          (is_some (place_of h.tlb others.core.tlb page)) in
+          omega (arith, here, there)
 
 -- ---- what isn't touched
 
--- a touch of a line in another set
-other_set : (shape : Shape) (sets : Sets) (line : ℕ) (store : Bool) (s : ℕ) → line % shape.count ≢ s
-    → set_at shape.ways (touch_of shape sets line store).next s ≡ set_at shape.ways sets s
-other_set shape sets line store s apart =
-    at-put_other (fresh_set shape.ways) sets (line % shape.count) s (step_of shape.rule (set_at shape.ways sets (line % shape.count)) line store).next (λ e. apart (sym e))
+module _ (shape : Shape) (sets : Sets) (line s : ℕ) where
+  -- a set is as it was
+  abbrev Stays : Sets → Type 0
+  Stays next = set_at shape.ways next s ≡ set_at shape.ways sets s
 
-looked_l1i : (h : Hierarchy) (core : Core) (page : ℕ) (reads : List ℕ) (found held : Bool) → (looked h core page reads found held).core.l1i ≡ core.l1i
-unfolding looked
-looked_l1i h core page reads found true = refl
-looked_l1i h core page reads true false = refl
-looked_l1i h core page reads false false = refl
+  -- a touch of a line in another set
+  other_set : (store : Bool) → line % shape.count ≢ s → Stays (touch_of shape sets line store).next
+  other_set store apart =
+      let set : CacheSet = set_at shape.ways sets (line % shape.count) in
+      at-put_other (fresh_set shape.ways) sets (line % shape.count) s
+      (step_of shape.rule set line store).next (λ e. apart (sym e))
 
-pub looked_l1d : (h : Hierarchy) (core : Core) (page : ℕ) (reads : List ℕ) (found held : Bool) → (looked h core page reads found held).core.l1d ≡ core.l1d
-unfolding looked
-looked_l1d h core page reads found true = refl
-looked_l1d h core page reads true false = refl
-looked_l1d h core page reads false false = refl
+  found_other : (held : Bool) → line % shape.count ≢ s
+      → Stays (if held then (touch_of shape sets line false).next else sets)
+  found_other true apart = other_set false apart
+  found_other false apart = refl
 
-looked_guesses : (h : Hierarchy) (core : Core) (page : ℕ) (reads : List ℕ) (found held : Bool) → (looked h core page reads found held).core.guesses ≡ core.guesses
-unfolding looked
-looked_guesses h core page reads found true = refl
-looked_guesses h core page reads true false = refl
-looked_guesses h core page reads false false = refl
+-- the only line of a touch stands in another set
+only : (count s line : ℕ) → All (λ other. other % count ≢ s) (line ∷ []) → line % count ≢ s
+only count s line apart = All-head (λ n. n % count ≢ s) line [] apart
 
-found_other : (shape : Shape) (sets : Sets) (page s : ℕ) (held : Bool) → page % shape.count ≢ s
-    → set_at shape.ways (if held then (touch_of shape sets page false).next else sets) s ≡ set_at shape.ways sets s
-found_other shape sets page s true apart = other_set shape sets page false s apart
-found_other shape sets page s false apart = refl
+module _ (h : Hierarchy) (core : Core) (page : ℕ) (reads : List ℕ) where
+  looked_l1i : (found held : Bool) → (looked h core page reads found held).core.l1i ≡ core.l1i
+  unfolding looked
+  looked_l1i found true = refl
+  looked_l1i true false = refl
+  looked_l1i false false = refl
 
-looked_tlb : (h : Hierarchy) (core : Core) (page : ℕ) (reads : List ℕ) (s : ℕ) (found held : Bool) → page % h.tlb.count ≢ s
-    → set_at h.tlb.ways (looked h core page reads found held).core.tlb s ≡ set_at h.tlb.ways core.tlb s
-unfolding looked
-looked_tlb h core page reads s found true apart = found_other h.tlb core.tlb page s (is_some (place_of h.tlb core.tlb page)) apart
-looked_tlb h core page reads s true false apart = other_set h.tlb core.tlb page false s apart
-looked_tlb h core page reads s false false apart = refl
+  pub looked_l1d : (found held : Bool) → (looked h core page reads found held).core.l1d ≡ core.l1d
+  unfolding looked
+  looked_l1d found true = refl
+  looked_l1d true false = refl
+  looked_l1d false false = refl
 
-pub l1i_stays : (h : Hierarchy) (pinned : Bool) (caches : Caches) (touch : Touch) (s : ℕ) → is_flush touch ≡ false
-    → All (λ line. line % h.l1i.count ≢ s) (lines_in_l1i touch)
-    → set_at h.l1i.ways (touched h pinned caches touch).caches.core.l1i s ≡ set_at h.l1i.ways caches.core.l1i s
-unfolding touched on_core fetched accessed branched pass_on
-l1i_stays h pinned caches (Fetch line) s kept apart = other_set h.l1i caches.core.l1i line false s (All-head (λ n. n % h.l1i.count ≢ s) line [] apart)
-l1i_stays h pinned caches (Load line) s kept apart = refl
-l1i_stays h pinned caches (Store line) s kept apart = refl
-l1i_stays h pinned caches (WalkRead line) s kept apart = refl
-l1i_stays h pinned caches (Look page reads found) s kept apart =
-    ap (λ (sets : Sets). set_at h.l1i.ways sets s) (looked_l1i h caches.core page reads found (is_some (place_of h.tlb caches.core.tlb page)))
-l1i_stays h pinned caches (Branch pc taken) s kept apart = refl
-l1i_stays h pinned caches EmptyTlb s kept apart = refl
-l1i_stays h pinned caches Flush s kept apart = absurd (true≢false kept)
-l1i_stays h pinned caches (Charge cycles) s kept apart = refl
+  looked_guesses : (found held : Bool) → (looked h core page reads found held).core.guesses ≡ core.guesses
+  unfolding looked
+  looked_guesses found true = refl
+  looked_guesses true false = refl
+  looked_guesses false false = refl
 
-pub l1d_stays : (h : Hierarchy) (pinned : Bool) (caches : Caches) (touch : Touch) (s : ℕ) → is_flush touch ≡ false
-    → All (λ line. line % h.l1d.count ≢ s) (lines_in_l1d touch)
-    → set_at h.l1d.ways (touched h pinned caches touch).caches.core.l1d s ≡ set_at h.l1d.ways caches.core.l1d s
-unfolding touched on_core fetched accessed branched pass_on
-l1d_stays h pinned caches (Fetch line) s kept apart = refl
-l1d_stays h pinned caches (Load line) s kept apart = other_set h.l1d caches.core.l1d line false s (All-head (λ n. n % h.l1d.count ≢ s) line [] apart)
-l1d_stays h pinned caches (Store line) s kept apart = other_set h.l1d caches.core.l1d line true s (All-head (λ n. n % h.l1d.count ≢ s) line [] apart)
-l1d_stays h pinned caches (WalkRead line) s kept apart = refl
-l1d_stays h pinned caches (Look page reads found) s kept apart =
-    ap (λ (sets : Sets). set_at h.l1d.ways sets s) (looked_l1d h caches.core page reads found (is_some (place_of h.tlb caches.core.tlb page)))
-l1d_stays h pinned caches (Branch pc taken) s kept apart = refl
-l1d_stays h pinned caches EmptyTlb s kept apart = refl
-l1d_stays h pinned caches Flush s kept apart = absurd (true≢false kept)
-l1d_stays h pinned caches (Charge cycles) s kept apart = refl
+  looked_tlb : (s : ℕ) (found held : Bool) → page % h.tlb.count ≢ s
+      → Stays h.tlb core.tlb page s (looked h core page reads found held).core.tlb
+  unfolding looked
+  looked_tlb s found true apart =
+      found_other h.tlb core.tlb page s (is_some (place_of h.tlb core.tlb page)) apart
+  looked_tlb s true false apart = other_set h.tlb core.tlb page s false apart
+  looked_tlb s false false apart = refl
 
-pub tlb_stays : (h : Hierarchy) (pinned : Bool) (caches : Caches) (touch : Touch) (s : ℕ) → empties_tlb touch ≡ false
-    → All (λ page. page % h.tlb.count ≢ s) (pages_in_tlb touch)
-    → set_at h.tlb.ways (touched h pinned caches touch).caches.core.tlb s ≡ set_at h.tlb.ways caches.core.tlb s
-unfolding touched on_core fetched accessed branched pass_on
-tlb_stays h pinned caches (Fetch line) s kept apart = refl
-tlb_stays h pinned caches (Load line) s kept apart = refl
-tlb_stays h pinned caches (Store line) s kept apart = refl
-tlb_stays h pinned caches (WalkRead line) s kept apart = refl
-tlb_stays h pinned caches (Look page reads found) s kept apart =
-    looked_tlb h caches.core page reads s found (is_some (place_of h.tlb caches.core.tlb page)) (All-head (λ n. n % h.tlb.count ≢ s) page [] apart)
-tlb_stays h pinned caches (Branch pc taken) s kept apart = refl
-tlb_stays h pinned caches EmptyTlb s kept apart = absurd (true≢false kept)
-tlb_stays h pinned caches Flush s kept apart = absurd (true≢false kept)
-tlb_stays h pinned caches (Charge cycles) s kept apart = refl
+module _ (h : Hierarchy) (pinned : Bool) (caches : Caches) where
+  abbrev core_after : Touch → Core
+  core_after touch = (touched h pinned caches touch).caches.core
+
+  pub l1i_stays : (touch : Touch) (s : ℕ) → is_flush touch ≡ false
+      → All (λ line. line % h.l1i.count ≢ s) (lines_in_l1i touch)
+      → set_at h.l1i.ways (core_after touch).l1i s ≡ set_at h.l1i.ways caches.core.l1i s
+  unfolding touched on_core fetched accessed branched pass_on
+  l1i_stays (Fetch line) s kept apart =
+      other_set h.l1i caches.core.l1i line s false (only h.l1i.count s line apart)
+  l1i_stays (Load line) s kept apart = refl
+  l1i_stays (Store line) s kept apart = refl
+  l1i_stays (WalkRead line) s kept apart = refl
+  l1i_stays (Look page reads found) s kept apart =
+      ap (λ (sets : Sets). set_at h.l1i.ways sets s)
+      (looked_l1i h caches.core page reads found (is_some (place_of h.tlb caches.core.tlb page)))
+  l1i_stays (Branch pc taken) s kept apart = refl
+  l1i_stays EmptyTlb s kept apart = refl
+  l1i_stays Flush s kept apart = absurd (true≢false kept)
+  l1i_stays (Charge cycles) s kept apart = refl
+
+  pub l1d_stays : (touch : Touch) (s : ℕ) → is_flush touch ≡ false
+      → All (λ line. line % h.l1d.count ≢ s) (lines_in_l1d touch)
+      → set_at h.l1d.ways (core_after touch).l1d s ≡ set_at h.l1d.ways caches.core.l1d s
+  unfolding touched on_core fetched accessed branched pass_on
+  l1d_stays (Fetch line) s kept apart = refl
+  l1d_stays (Load line) s kept apart =
+      other_set h.l1d caches.core.l1d line s false (only h.l1d.count s line apart)
+  l1d_stays (Store line) s kept apart =
+      other_set h.l1d caches.core.l1d line s true (only h.l1d.count s line apart)
+  l1d_stays (WalkRead line) s kept apart = refl
+  l1d_stays (Look page reads found) s kept apart =
+      ap (λ (sets : Sets). set_at h.l1d.ways sets s)
+      (looked_l1d h caches.core page reads found (is_some (place_of h.tlb caches.core.tlb page)))
+  l1d_stays (Branch pc taken) s kept apart = refl
+  l1d_stays EmptyTlb s kept apart = refl
+  l1d_stays Flush s kept apart = absurd (true≢false kept)
+  l1d_stays (Charge cycles) s kept apart = refl
+
+  pub tlb_stays : (touch : Touch) (s : ℕ) → empties_tlb touch ≡ false
+      → All (λ page. page % h.tlb.count ≢ s) (pages_in_tlb touch)
+      → set_at h.tlb.ways (core_after touch).tlb s ≡ set_at h.tlb.ways caches.core.tlb s
+  unfolding touched on_core fetched accessed branched pass_on
+  tlb_stays (Fetch line) s kept apart = refl
+  tlb_stays (Load line) s kept apart = refl
+  tlb_stays (Store line) s kept apart = refl
+  tlb_stays (WalkRead line) s kept apart = refl
+  tlb_stays (Look page reads found) s kept apart =
+      looked_tlb h caches.core page reads s found (is_some (place_of h.tlb caches.core.tlb page))
+      (only h.tlb.count s page apart)
+  tlb_stays (Branch pc taken) s kept apart = refl
+  tlb_stays EmptyTlb s kept apart = absurd (true≢false kept)
+  tlb_stays Flush s kept apart = absurd (true≢false kept)
+  tlb_stays (Charge cycles) s kept apart = refl
 
 other_counter : (xs : List ℕ) (p q v : ℕ) → p % length xs ≢ q % length xs
-    → slice_index (set xs (p % length xs) v) (q % length (set xs (p % length xs) v)) ≡ slice_index xs (q % length xs)
+    → let next = set xs (p % length xs) v in
+    slice_index next (q % length next) ≡ slice_index xs (q % length xs)
 other_counter xs p q v apart =
     ap (λ (n : ℕ). slice_index (set xs (p % length xs) v) (q % n)) (length-set xs (p % length xs) v)
     ∙ get_or-set_other xs (p % length xs) (q % length xs) v 0 (λ e. apart (sym e))
 
-pub guesses_stay : (h : Hierarchy) (pinned : Bool) (caches : Caches) (touch : Touch) (pc : ℕ) → is_flush touch ≡ false
-    → All (λ other. counters.place_of (length caches.core.guesses.counters) other ≢ counters.place_of (length caches.core.guesses.counters) pc) (pcs_in touch)
-    → counter_of (touched h pinned caches touch).caches.core.guesses pc ≡ counter_of caches.core.guesses pc
-unfolding touched on_core fetched accessed branched pass_on
-guesses_stay h pinned caches (Fetch line) pc kept apart = refl
-guesses_stay h pinned caches (Load line) pc kept apart = refl
-guesses_stay h pinned caches (Store line) pc kept apart = refl
-guesses_stay h pinned caches (WalkRead line) pc kept apart = refl
-guesses_stay h pinned caches (Look page reads found) pc kept apart =
-    ap (λ (g : Guesses). counter_of g pc) (looked_guesses h caches.core page reads found (is_some (place_of h.tlb caches.core.tlb page)))
-guesses_stay h pinned caches (Branch other taken) pc kept apart =
-    let n : ℕ = length caches.core.guesses.counters in
-    other_counter caches.core.guesses.counters (other / 4) (pc / 4) (next_counter taken (counter_of caches.core.guesses other))
-    (All-head (λ k. counters.place_of n k ≢ counters.place_of n pc) other [] apart)
-guesses_stay h pinned caches EmptyTlb pc kept apart = refl
-guesses_stay h pinned caches Flush pc kept apart = absurd (true≢false kept)
-guesses_stay h pinned caches (Charge cycles) pc kept apart = refl
+module _ (h : Hierarchy) (pinned : Bool) (caches : Caches) where
+  -- which counter a pc has
+  abbrev place_in : ℕ → ℕ
+  place_in pc = counters.place_of (length caches.core.guesses.counters) pc
+
+  pub guesses_stay : (touch : Touch) (pc : ℕ) → is_flush touch ≡ false
+      → All (λ other. place_in other ≢ place_in pc) (pcs_in touch)
+      → counter_of (core_after h pinned caches touch).guesses pc ≡ counter_of caches.core.guesses pc
+  unfolding touched on_core fetched accessed branched pass_on
+  guesses_stay (Fetch line) pc kept apart = refl
+  guesses_stay (Load line) pc kept apart = refl
+  guesses_stay (Store line) pc kept apart = refl
+  guesses_stay (WalkRead line) pc kept apart = refl
+  guesses_stay (Look page reads found) pc kept apart =
+      ap (λ (g : Guesses). counter_of g pc)
+      (looked_guesses h caches.core page reads found (is_some (place_of h.tlb caches.core.tlb page)))
+  guesses_stay (Branch other taken) pc kept apart =
+      other_counter caches.core.guesses.counters (other / 4) (pc / 4)
+      (next_counter taken (counter_of caches.core.guesses other))
+      (All-head (λ k. place_in k ≢ place_in pc) other [] apart)
+  guesses_stay EmptyTlb pc kept apart = refl
+  guesses_stay Flush pc kept apart = absurd (true≢false kept)
+  guesses_stay (Charge cycles) pc kept apart = refl

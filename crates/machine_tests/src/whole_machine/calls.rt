@@ -14,7 +14,8 @@
 // 8. there is a reply, but of a WAIT that blocks, and its code is 0 to 13;
 // 9. a refused call leaves each word of the domain's frames as it was, of which
 //    each sixteenth call is looked at, and at the end those of all other frames are
-//    as they were at first.
+//    as they were at first;
+// 10. before the first call the frames of the kernel's colour read zero.
 ghost use Rattle.std.specs.Prelude.{◌≡◌, ◌+◌, ◌<◌, ◌≤◌, ◌^◌, true, IfOk};
 ghost use Rattle.phys_mem.specs.Contents.{Contents};
 ghost use Rattle.thread_set.specs.Threads.{is_ready};
@@ -554,6 +555,17 @@ fn has_ready_thread(domain: &mut Domain) -> bool
     domain.threads.active.state.is_ready()
 }
 
+// Of four colours the kernel's is 0.
+fn kernel_is_blank(memory: &PhysMem) -> bool {
+    for k in 0..16 {
+        match words_of(memory, 4 * k) {
+            Some(words) if times_in(&words, 0) == 1024 => {}
+            _ => return false,
+        }
+    }
+    true
+}
+
 // The first of 10,000 calls after which something is not so, and what; and how
 // often each code came.
 fn first_wrong(domain: &mut Domain, memory: &mut PhysMem) -> (Option<(u32, u32)>, [u32; 14])
@@ -615,6 +627,9 @@ fn called(alloc: Global) -> Result<Option<(Option<(u32, u32)>, bool)>, Memory> {
         return Ok(None);
     };
     let (mut red, mut memory) = opened(alloc, &image)?;
+    if !kernel_is_blank(&memory) {
+        return Ok(Some((Some((0, 10)), false)));
+    }
     let (wrong, codes) = first_wrong(&mut red, &mut memory);
     Ok(Some((wrong, codes.iter().all(|times| *times > 0))))
 }

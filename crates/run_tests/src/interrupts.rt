@@ -1,8 +1,8 @@
 // Interrupts, notifications and threads, through whole runs.
-use super::calls::{image, tells};
-use super::refusals::refused;
-use super::timed::BLUE;
+use crate::answers::{expect, image, tells};
+use crate::timed::BLUE;
 use std::test::Fail;
+use tp_run::Status;
 
 // It waits for line 3, whose moment is in blue's slot, and reads the clock.
 //
@@ -96,5 +96,12 @@ fn a_line_is_signalled_by_its_owner(rt: HostRuntime) -> Result<(), Fail> {
         "replies 3 last 0:1 list 0:0 0:0 0:1",
     )?;
     let both = image.replace(alloc, "name = \"blue\"", "name = \"blue\"\nlines = [3]")?;
-    refused(&rt, alloc, both.as_str(), "K14 at 1 found 3 wanted 0")
+    expect(
+        &rt,
+        alloc,
+        "tp check",
+        both.as_str(),
+        Status::Refused,
+        "refused K14 at 1 found 3 wanted 0\n",
+    )
 }

@@ -1,7 +1,7 @@
 // What an image gives a domain, through whole runs: an empty capability slot, all rights of a page,
 // a line that no moment interrupts.
-use super::calls::{image, tells};
-use super::timed::BLUE;
+use crate::answers::{image, tells};
+use crate::timed::BLUE;
 use std::alloc::Global;
 use std::test::Fail;
 

@@ -1,38 +1,11 @@
 // Kernel calls on memory, through whole runs.
-use super::{MACHINE, READS_B, SCHEDULE, answer};
+use crate::answers::{DATA, image, tells};
 use std::alloc::Global;
 use std::process::Abort;
 use std::test::Fail;
-use tp_run::Status;
 
-// A segment of a page to read and to write, and a capability of it.
-pub const DATA: &str = ", { page = 32, pages = 1, rights = \"rw\", hex = \"\" }";
-
+// A capability of the data page.
 const DATA_CAP: &str = "caps = [\"page 32\"]";
-
-// The image with red's program, with these segments and capabilities, too.
-pub fn image(alloc: Global, segments: &str, caps: &str, red: &str) -> Result<String, Fail> {
-    Ok(format!(in alloc;
-        "{MACHINE}[[domain]]\nname = \"red\"\ncolours = [1]\nentry = 0x10000\n{caps}\nsegment = [{{ page = 16, pages = 1, rights = \"rx\", hex = \"{red}\" }}{segments}]\n[[domain]]\nname = \"blue\"\ncolours = [2]\nentry = 0x10000\nsegment = [{{ page = 16, pages = 1, rights = \"rx\", hex = \"{READS_B}\" }}]\n{SCHEDULE}"
-    )?)
-}
-
-// In the report stands each of these texts, with a bar between them.
-pub fn tells(
-    rt: &impl Abort,
-    alloc: Global,
-    line: &str,
-    image: &str,
-    texts: &str,
-) -> Result<(), Fail> {
-    let (status, bytes) = answer(alloc, line, image.as_bytes(), 4096, &[], &[])?;
-    assert_eq!(rt; status, Status::Done, "at {texts}");
-    let report = String::from_utf8_lossy(alloc, bytes.as_slice())?;
-    for text in texts.split('|') {
-        assert!(rt; report.contains(text), "{text} in {report}");
-    }
-    Ok(())
-}
 
 // A program, and what its report has. ALLOC of a table, and MAP of it.
 //

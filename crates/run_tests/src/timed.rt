@@ -1,6 +1,5 @@
 // Runs whose switches and readings tell what the caches cost.
-use super::calls::{DATA, image, tells};
-use super::{MACHINE, SPINS};
+use crate::answers::{DATA, MACHINE, SPINS, image, tells};
 use std::alloc::Global;
 use std::process::Abort;
 use std::test::Fail;

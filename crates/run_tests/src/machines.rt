@@ -1,8 +1,8 @@
 // A domain alone, and the same domain in the whole machine.
 ghost use Rattle.std.specs.Prelude.{◌<◌};
 
-use super::timed::BLUE;
-use super::{MACHINE, READS_A, READS_B, USAGE, answer, expect, image};
+use crate::answers::{MACHINE, READS_A, USAGE, answer, expect, image};
+use crate::timed::BLUE;
 use std::alloc::Global;
 use std::process::Abort;
 use std::test::Fail;
@@ -15,7 +15,7 @@ const NO_DOMAIN: &str = "tp alone --domain 2 --slots 4";
 #[test]
 fn a_domain_alone_has_its_section(rt: HostRuntime) -> Result<(), Fail> {
     let alloc = rt.alloc();
-    let image = image(alloc, READS_A, READS_B)?;
+    let image = image(alloc, "", "", READS_A)?;
     expect(&rt, alloc, ALONE, image.as_str(), Status::Done, BLUE)
 }
 
@@ -23,7 +23,7 @@ fn a_domain_alone_has_its_section(rt: HostRuntime) -> Result<(), Fail> {
 #[test]
 fn a_domain_that_the_image_lacks_is_not_run(rt: HostRuntime) -> Result<(), Fail> {
     let alloc = rt.alloc();
-    let image = image(alloc, READS_A, READS_B)?;
+    let image = image(alloc, "", "", READS_A)?;
     expect(&rt, alloc, NO_DOMAIN, image.as_str(), Status::Usage, USAGE)?;
     let broken = image.replace(alloc, "pad = 6150", "pad = 6149")?;
     let line = "refused K17 at 0 found 6149 wanted 6150\n";
@@ -219,7 +219,7 @@ fn done(
     image: &str,
 ) -> Result<Vec<u8>, Fail> {
     let line = format!(in alloc; "tp {words} --slots {slots}")?;
-    let (status, text) = answer(alloc, line.as_str(), image.as_bytes(), 4096, &[], &[])?;
+    let (status, text) = answer(alloc, line.as_str(), image)?;
     assert_eq!(rt; status, Status::Done, "at {line}");
     Ok(text)
 }

@@ -1,0 +1,18 @@
+//! The tests of whole runs: what programs, their calls, interrupts and neighbours come to in a
+//! report.
+#![tactic(auto)]
+
+#[cfg(test)]
+mod answers;
+#[cfg(test)]
+mod calls;
+#[cfg(test)]
+mod images;
+#[cfg(test)]
+mod interrupts;
+#[cfg(test)]
+mod large;
+#[cfg(test)]
+mod machines;
+#[cfg(test)]
+mod timed;
