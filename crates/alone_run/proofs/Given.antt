@@ -7,7 +7,7 @@ use Rattle.image_check.specs.Own.{Own}
 use Rattle.image_check.specs.Image.{Image, own_of}
 use Rattle.image_check.specs.Laws.{Runnable}
 use Rattle.world_view.specs.Relations.{IsDomain}
-use Rattle.world_view.proofs.Separate.{list_is}
+use Rattle.world_view.proofs.opening.Separate.{list_is}
 use Rattle.alone_run.specs.Runs.{IsOf, RunsAlone}
 
 -- one list of colours is apart from all others

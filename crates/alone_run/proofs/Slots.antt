@@ -27,30 +27,25 @@ use Rattle.image_check.specs.Own.{Own}
 use Rattle.world_view.specs.Cost.{hierarchy}
 use Rattle.world_view.specs.Kernel.{estate, layout}
 use Rattle.world_view.specs.Opening.{placed}
-use Rattle.world_view.specs.Machine.{Local, enter_part, alone_opening, alone_enter, alone_out, alone}
+use Rattle.world_view.specs.Machine.{setting, Local, enter_part, alone_opening, alone_enter, alone_out, alone}
 use Rattle.domain_open.specs.Placing.{IsOpened}
 use Rattle.domain_step.specs.Moves.{StandsIn}
+use Rattle.domain_step.proofs.Standing.{is_setting, machine_of, domain_of}
 use Rattle.alone_run.specs.Runs.{RunsAlone}
-use Rattle.alone_run.specs.Standing.{Kept, kept, setting, StandsFor, HasFacts}
+use Rattle.alone_run.specs.Standing.{Kept, kept, StandsFor, HasFacts}
 use Rattle.alone_run.proofs.States.{kernel, alone_facts}
 
 -- the code's parts stand for a state of the domain alone
 abbrev pub Stand : Hardware → Own → Kept → Local → Type 0
-Stand p o k s = StandsIn any_rule any_stands_for (setting p o) k.memory k.domain k.system k.clock s
+Stand p o k s = StandsIn any_rule any_stands_for (setting p o true) k.memory k.domain k.system k.clock s
 
 pub stands_of : (p : Hardware) (o : Own) (k : Kept) (s : Local) → Stand p o k s → StandsFor p o s k
-stands_of p o k s is = record {
-  frames = sym is.fits.frames;
-  holds = is.facts.holds;
-  levels = is.fits.levels;
-  pinned = is.fits.pinned;
-  caches = is.caches;
-  dom = is.dom;
-  has = is.facts.has;
-  layout = is.layout;
-  moments = is.moments;
-  time = is.time;
-}
+stands_of p o k s is =
+    let w = setting p o true in
+    record {
+      machine = machine_of w k.memory k.domain k.system k.clock s is;
+      domain = domain_of w k.memory k.domain k.system k.clock s is;
+    }
 
 pub facts_of : (p : Hardware) (o : Own) (k : Kept) (s : Local) → Stand p o k s → HasFacts p o s k
 facts_of p o k s is = record { buffer = is.leaves; facts = is.facts }
@@ -97,7 +92,7 @@ module _ (p : Public) (o : Own) (runs : RunsAlone p o) where
       → Stand p.hardware o (kept memory system x 0) (alone p o d 0)
   unfolding alone alone_opening
   opened d memory system x frames holds levels pinned caches no_leaves is = record {
-    fits = record { kernel = kernel p o runs; frames = sym frames; levels = sym levels; pinned = pinned };
+    fits = record { kernel = kernel p o runs; sound = is_setting p.hardware o true (kernel p o runs); frames = sym frames; levels = sym levels; pinned = pinned };
     dom = is.stands;
     facts = has_facts d 0 memory x frames holds is.stands is.has;
     layout = is.layout;
@@ -119,24 +114,26 @@ module _ (p : Public) (o : Own) (runs : RunsAlone p o) where
   begun d k c l fresh entered f e now is clone flushes no_leaves enters buffer time =
       let h = hierarchy p.hardware in
       let s = alone p o d k in
-      let levels : hierarchy_of any_rule fresh ≡ h = flushes.same ∙ sym is.levels in
-      let pinned : fresh.core.pinned ≡ true = flushes.pinned ∙ is.pinned in
-      let cold : SystemStands any_stands_for fresh (record s.caches { core = fresh_core h }) = makes_fresh h f c.system fresh s.caches (sym is.levels) flushes is.caches in
+      let m = is.machine in
+      let levels : hierarchy_of any_rule fresh ≡ h = flushes.same ∙ sym m.levels in
+      let pinned : fresh.core.pinned ≡ true = flushes.pinned ∙ m.pinned in
+      let cold : SystemStands any_stands_for fresh (record s.caches { core = fresh_core h }) = makes_fresh h f c.system fresh s.caches (sym m.levels) flushes m.caches in
       let into : MakesTouches any_rule any_stands_for (enter (layout p.hardware o)) e fresh entered =
       subst (λ (x : Layout). MakesTouches any_rule any_stands_for (enter x) e fresh entered) clone enters in
       record {
         fits = record {
           kernel = kernel p o runs;
-          frames = sym is.frames;
+          sound = is_setting p.hardware o true (kernel p o runs);
+          frames = sym m.frames;
           levels = sym (enters.same ∙ levels);
           pinned = enters.pinned ∙ pinned;
         };
-        dom = is.dom;
-        facts = has_facts d k c.memory c.domain is.frames is.holds is.dom is.has;
-        layout = is.layout;
+        dom = is.domain.dom;
+        facts = has_facts d k c.memory c.domain m.frames m.holds is.domain.dom is.domain.has;
+        layout = is.domain.layout;
         leaves = subst (KeepsLeaves s.storage.mem c.memory.frames c.domain.map) (sym buffer) (no_leaves s.storage.mem c.memory.frames c.domain.map);
         caches = makes_all h true (enter (layout p.hardware o)) e fresh entered (record s.caches { core = fresh_core h }) levels pinned into cold;
-        moments = is.moments;
+        moments = is.domain.moments;
         time = time;
       }
 
@@ -152,6 +149,7 @@ left p o c l new n s is clone leaves buffer =
     record {
       fits = record {
         kernel = is.fits.kernel;
+        sound = is.fits.sound;
         frames = is.fits.frames;
         levels = is.fits.levels ∙ sym leaves.same;
         pinned = leaves.pinned ∙ is.fits.pinned;

@@ -13,11 +13,11 @@ use Rattle.world_view.specs.Kernel.{layout}
 use Rattle.world_view.specs.Cost.{hierarchy}
 use Rattle.world_view.specs.Machine.{Local, enter_part, alone_opening, alone_enter, alone_in, alone_out, alone_if, alone}
 use Rattle.world_view.specs.Relations.{IsKernel, HasFacts, bound}
-use Rattle.world_view.proofs.ActCosts.{instruction_within}
-use Rattle.world_view.proofs.Fuel.{IsTimed}
-use Rattle.world_view.proofs.OpeningFacts.{kernel_is, placed_facts}
-use Rattle.world_view.proofs.StepLaws.{steps_keep}
-use Rattle.world_view.proofs.TimeLaws.{IsSoon, cold_ways, stretch_soon}
+use Rattle.world_view.proofs.time.ActCosts.{instruction_within}
+use Rattle.world_view.proofs.steps.Fuel.{IsTimed}
+use Rattle.world_view.proofs.opening.OpeningFacts.{kernel_is, placed_facts}
+use Rattle.world_view.proofs.steps.StepLaws.{steps_keep}
+use Rattle.world_view.proofs.time.TimeLaws.{IsSoon, cold_ways, stretch_soon}
 use Rattle.alone_run.specs.Runs.{RunsAlone}
 
 module _ (p : Public) (o : Own) (runs : RunsAlone p o) where

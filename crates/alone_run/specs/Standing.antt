@@ -1,22 +1,18 @@
 -- What the code's domain alone stands for.
-use Rattle.std.specs.Prelude.{◌≡◌, ℕ, ◌≤◌, true}
+use Rattle.std.specs.Prelude.{ℕ, ◌≤◌, true}
 use Rattle.phys_mem.specs.Contents.{Contents}
-use Rattle.phys_mem.specs.Holds.{Holds}
 use Rattle.repl_policy.specs.declared.AnyPolicy.{AnyPolicy}
-use Rattle.repl_policy.specs.Members.{any_rule, any_stands_for}
-use Rattle.kernel_clone.specs.Models.{layout_model}
-use Rattle.mem_system.specs.Contents.{SystemContents, SystemStands, hierarchy_of}
+use Rattle.mem_system.specs.Contents.{SystemContents}
 use Rattle.mem_system.specs.Translation.{KeepsLeaves}
 use Rattle.kernel_call.specs.declared.domain.Domain.{Domain}
-use Rattle.kernel_call.specs.Models.{Stands, CountsUpTo}
+use Rattle.kernel_call.specs.Models.{CountsUpTo}
 use Rattle.kernel_call.specs.Facts as call
-use Rattle.kernel_call.specs.Facts.{Has}
 use Rattle.hardware_check.specs.Hardware.{Hardware}
 use Rattle.image_check.specs.Own.{Own}
-use Rattle.world_view.specs.Kernel.{estate, layout}
+use Rattle.world_view.specs.Kernel.{estate}
 use Rattle.world_view.specs.Cost.{hierarchy}
-use Rattle.world_view.specs.Machine.{Local}
-use Rattle.domain_step.specs.Kept.{Setting}
+use Rattle.world_view.specs.Machine.{setting, Local}
+use Rattle.domain_step.specs.Standing.{MachineStands, DomainStands}
 
 -- what the code keeps
 pub record Kept : Type 0 where
@@ -28,23 +24,11 @@ pub record Kept : Type 0 where
 abbrev pub kept : Contents → SystemContents AnyPolicy → Domain → ℕ → Kept
 kept memory system domain clock = record { memory = memory; system = system; domain = domain; clock = clock }
 
--- a domain alone
-abbrev pub setting : Hardware → Own → Setting
-setting p o = record { machine = p; own = o; pinned = true }
-
 -- it stands for this state of the domain alone: in all of memory, each set of each cache and of the buffer, the predictor's
 -- counters, the domain and the clock
 pub record StandsFor (p : Hardware) (o : Own) (s : Local) (k : Kept) : Type 0 where
-  pub frames : k.memory.frames ≡ p.frames
-  pub holds : Holds k.memory s.storage.mem
-  pub levels : hierarchy p ≡ hierarchy_of any_rule k.system
-  pub pinned : k.system.core.pinned ≡ true
-  pub caches : SystemStands any_stands_for k.system s.caches
-  pub dom : Stands k.domain s.dom
-  pub has : Has (estate p o) k.domain
-  pub layout : layout_model k.domain.layout ≡ layout p o
-  pub moments : k.domain.interrupts.moments ≡ o.moments
-  pub time : k.clock ≡ s.clock
+  pub machine : MachineStands p (hierarchy p) true k.memory k.system k.clock s.storage s.caches s.clock
+  pub domain : DomainStands (setting p o true) k.domain s.dom
 
 -- the domain has its facts, of its frames, capabilities and page tables, in this memory; and the buffer keeps what walks
 -- find there

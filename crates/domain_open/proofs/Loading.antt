@@ -11,7 +11,7 @@ use Rattle.image_check.specs.Own as spec
 use Rattle.image_check.specs.Pages.{has_region}
 use Rattle.world_view.specs.Frames.{table_frame, page_frame}
 use Rattle.world_view.specs.Opening.{tabled, leaf_entry, table_placed, tables_placed, page_words, pages_placed, segments_placed, placed, all_placed}
-use Rattle.world_view.proofs.OpeningLaws.{word-put_same, word-put_other, placed_other}
+use Rattle.world_view.proofs.opening.OpeningLaws.{word-put_same, word-put_other, placed_other}
 use Rattle.domain_open.specs.Placing.{HasPool, SameElsewhere}
 
 -- ---- a page

@@ -27,9 +27,9 @@ use Rattle.image_check.specs.Own.{Segment, Own, cap_at, no_segment}
 use Rattle.image_check.specs.Pages.{has_page, has_region, regions_below, regions_in, pages_below, pages_in, frames_in, share_of}
 use Rattle.world_view.specs.Frames.{pool, pool_frame, root_of, table_frame, page_frame, clone_frames, first_tables, page_frames}
 use Rattle.world_view.specs.Kernel.{first_cap, first_slots, first_regions, opening_dom, estate, layout}
-use Rattle.world_view.proofs.Counts.{is_page, region_more, region_same, region_before, pages_low}
-use Rattle.world_view.proofs.PoolLaws.{pool_once}
-use Rattle.world_view.proofs.OpeningClaims.{Case, case, fix_frame, region_at, slots_long, table_slot, page_slot}
+use Rattle.world_view.proofs.opening.Counts.{is_page, region_more, region_same, region_before, pages_low}
+use Rattle.world_view.proofs.opening.PoolLaws.{pool_once}
+use Rattle.world_view.proofs.opening.OpeningClaims.{Case, case, fix_frame, region_at, slots_long, table_slot, page_slot}
 use Rattle.domain_open.specs.Placing.{HasPool, AreApart, kept_frames, IsOpened}
 use Rattle.domain_open.specs.Giving.{page_cap, cap_after, slots_after, unnamed}
 use Rattle.domain_open.proofs.Pages.{pages_all}

@@ -11,8 +11,8 @@ use Rattle.image_check.specs.Image.{Image, own_of}
 use Rattle.image_check.specs.Pages.{has_page, meets, has_region, regions_below, pages_below, pages_in}
 use Rattle.world_view.specs.Opening.{rights_in}
 use Rattle.world_view.specs.Relations.{IsDomain}
-use Rattle.world_view.proofs.Counts.{region_more, region_same, is_page, pages_low}
-use Rattle.world_view.proofs.Separate.{separated}
+use Rattle.world_view.proofs.opening.Counts.{region_more, region_same, is_page, pages_low}
+use Rattle.world_view.proofs.opening.Separate.{separated}
 use Rattle.hardware_check.specs.Hardware.{Hardware as spec_Hardware}
 use Rattle.domain_open.specs.Placing.{HasPool, HasPages}
 

@@ -6,8 +6,8 @@ use Rattle.image_check.specs.Pages.{has_region, regions_below, regions_in, pages
 use Rattle.std.proofs.lemmas.List.{get_or-take}
 use Rattle.world_view.specs.Frames.{pool, pool_frame, clone_frames}
 use Rattle.frame_colours.specs.Colours.{frame_at}
-use Rattle.world_view.proofs.PoolLaws.{pool_inside, pool_short}
-use Rattle.world_view.proofs.Counts.{region_before}
+use Rattle.world_view.proofs.opening.PoolLaws.{pool_inside, pool_short}
+use Rattle.world_view.proofs.opening.Counts.{region_before}
 use Rattle.domain_open.specs.Placing.{HasPool}
 
 -- what stands within a list is the same whatever would stand outside

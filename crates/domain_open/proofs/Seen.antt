@@ -26,7 +26,7 @@ use Rattle.world_view.specs.Kernel.{estate}
 use Rattle.world_view.specs.Models.{seen_of}
 use Rattle.world_view.specs.Opening.{frame_words}
 use Rattle.world_view.specs.View.{View, view}
-use Rattle.world_view.proofs.PoolLaws.{in_pool}
+use Rattle.world_view.proofs.opening.PoolLaws.{in_pool}
 use Rattle.domain_open.proofs.PoolReads.{either_default}
 
 -- ---- words

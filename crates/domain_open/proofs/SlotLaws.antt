@@ -22,7 +22,7 @@ use Rattle.image_check.specs.Own.{Segment, Own, cap_at, no_segment}
 use Rattle.image_check.specs.Pages.{has_page, has_page_in, pages_below}
 use Rattle.world_view.specs.Opening.{rights_in}
 use Rattle.world_view.specs.Kernel.{number_of}
-use Rattle.world_view.proofs.Counts.{is_page, page_once}
+use Rattle.world_view.proofs.opening.Counts.{is_page, page_once}
 use Rattle.domain_open.specs.Giving.{page_at, line_cap, page_cap, cap_after, line_slots, slots_after, unnamed}
 
 -- ---- slots by their numbers

@@ -15,7 +15,7 @@ use Rattle.hardware_check.specs.Hardware.{Hardware, colours_of}
 use Rattle.image_check.specs.Own.{Own}
 use Rattle.image_check.specs.Pages.{share_of}
 use Rattle.world_view.specs.Frames.{own_frame, pool}
-use Rattle.world_view.proofs.OpeningClaims.{has_append}
+use Rattle.world_view.proofs.opening.OpeningClaims.{has_append}
 use Rattle.domain_open.specs.Placing.{frames_zeroed, AreZeroed, SameElsewhere}
 
 -- ---- frames that are zeroed

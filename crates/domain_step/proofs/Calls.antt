@@ -28,12 +28,12 @@ use Rattle.kernel_call.specs.declared.domain.Domain.{Domain}
 use Rattle.kernel_call.specs.declared.outcome.Outcome.{Outcome}
 use Rattle.kernel_call.specs.Models.{dom_model}
 use Rattle.kernel_call.specs.Calls.{IsCalled, KeepsParts}
-use Rattle.world_view.specs.Cost.{hierarchy}
 use Rattle.world_view.specs.Kernel.{estate, layout}
 use Rattle.world_view.specs.Event.{Storage, call_touches, make_call}
-use Rattle.domain_step.specs.Kept.{Setting, KeptOf}
+use Rattle.world_view.specs.Machine.{Setting}
+use Rattle.domain_step.specs.Kept.{KeptOf}
 use Rattle.domain_step.specs.Moves.{Yields, Left}
-use Rattle.domain_step.proofs.Charges.{fits_still, touches_paid}
+use Rattle.domain_step.proofs.Charges.{same_costs, fits_still, touches_paid}
 
 append_none : (ts : List Touch) → ts ++ [] ≡ ts
 append_none [] = refl
@@ -47,29 +47,28 @@ module _ {P : Type 0} (rule : P → ℕ → Rule) (stands : P → ℕ → ℕ �
   done = call (estate w.machine w.own) (dom_model old readings replies) s.mem
 
   abbrev touches : List Touch
-  touches = call_touches w.machine (layout w.machine w.own) (register old.threads.active.regs 17) done.notes
+  touches = call_touches w.machine w.clone (register old.threads.active.regs 17) done.notes
 
   abbrev ours : List Touch
   ours = operation system.core.costs (layout_model new.layout) (work_model outcome.work)
 
   abbrev theirs : List Touch
-  theirs = operation w.machine.costs (layout w.machine w.own) (work_of (register old.threads.active.regs 17) done.notes)
+  theirs = operation w.machine.costs w.clone (work_of (register old.threads.active.regs 17) done.notes)
 
-  same_layout : layout_model new.layout ≡ layout w.machine w.own
+  same_layout : layout_model new.layout ≡ w.clone
   same_layout = ap (λ (c : CloneLayout). layout_model c) keeps.layout ∙ k.layout
 
   -- the operation that is charged is the definition's
   same_operation : ours ≡ theirs
-  unfolding hierarchy
   same_operation =
-      ap (λ (c : CostTable). operation c (layout_model new.layout) (work_model outcome.work)) (sym (ap (λ (h : Hierarchy). h.costs) k.fits.levels))
+      ap (λ (c : CostTable). operation c (layout_model new.layout) (work_model outcome.work)) (sym (same_costs rule w memory system k.fits))
       ∙ ap (λ (l : Layout). operation w.machine.costs l (work_model outcome.work)) same_layout
-      ∙ ap (λ (x : WorkDone). operation w.machine.costs (layout w.machine w.own) x) called.work
+      ∙ ap (λ (x : WorkDone). operation w.machine.costs w.clone x) called.work
 
   -- what the code keeps after all its touches
   called_kept : (last : SystemContents P) (spent' cycles : ℕ) → MakesTouches rule stands touches cycles system last → spent' ≡ spent + cycles
       → KeepsLeaves done.state memory'.frames new.map last.core.tlb
-      → Yields w (make_call w.machine (estate w.machine w.own) (layout w.machine w.own) (dom_model old readings replies)) s r (Left new (KeptOf rule stands w new memory' last spent'))
+      → Yields w (make_call w.machine (estate w.machine w.own) w.clone (dom_model old readings replies)) s r (Left new (KeptOf rule stands w new memory' last spent'))
   unfolding make_call either
   called_kept last spent' cycles makes more leaves =
       let paid = touches_paid rule stands w memory system last touches spent spent' cycles r makes k.fits (record { cost = k.cost; next = k.caches }) more in
@@ -78,7 +77,7 @@ module _ {P : Type 0} (rule : P → ℕ → Rule) (stands : P → ℕ → ℕ �
         met = record {
           dom = called.dom;
           kept = record {
-            fits = record { kernel = fits.kernel; frames = fits.frames ∙ sym frames; levels = fits.levels; pinned = fits.pinned };
+            fits = record { kernel = fits.kernel; sound = fits.sound; frames = fits.frames ∙ sym frames; levels = fits.levels; pinned = fits.pinned };
             facts = called.facts;
             layout = same_layout;
             leaves = leaves;
@@ -105,7 +104,7 @@ module _ {P : Type 0} (rule : P → ℕ → Rule) (stands : P → ℕ → ℕ �
 
   module _ (mid : SystemContents P) (spent' cycles : ℕ) (makes : MakesTouches rule stands ours cycles system mid) (more : spent' ≡ spent + cycles) where
     pub called_still : mid.core.tlb ≡ system.core.tlb → empties done.notes ≡ false
-        → Yields w (make_call w.machine (estate w.machine w.own) (layout w.machine w.own) (dom_model old readings replies)) s r (Left new (KeptOf rule stands w new memory' mid spent'))
+        → Yields w (make_call w.machine (estate w.machine w.own) w.clone (dom_model old readings replies)) s r (Left new (KeptOf rule stands w new memory' mid spent'))
     unfolding call_touches
     called_still buffer still =
         let all : touches ≡ theirs = ap (λ (b : Bool). theirs ++ (if b then EmptyTlb ∷ [] else [])) still ∙ append_none theirs in
@@ -114,7 +113,7 @@ module _ {P : Type 0} (rule : P → ℕ → Rule) (stands : P → ℕ → ℕ �
         called_kept mid spent' cycles (subst (λ (ts : List Touch). MakesTouches rule stands ts cycles system mid) (same_operation ∙ sym all) makes) more leaves
 
     pub called_emptied : (last : SystemContents P) → MakesTouch rule stands EmptyTlb 0 mid last → ((m : Mem) (n root : ℕ) → KeepsLeaves m n root last.core.tlb) → empties done.notes ≡ true
-        → Yields w (make_call w.machine (estate w.machine w.own) (layout w.machine w.own) (dom_model old readings replies)) s r (Left new (KeptOf rule stands w new memory' last spent'))
+        → Yields w (make_call w.machine (estate w.machine w.own) w.clone (dom_model old readings replies)) s r (Left new (KeptOf rule stands w new memory' last spent'))
     unfolding call_touches
     called_emptied last empty none emptied =
         let all : touches ≡ theirs ++ (EmptyTlb ∷ []) = ap (λ (b : Bool). theirs ++ (if b then EmptyTlb ∷ [] else [])) emptied in

@@ -8,9 +8,9 @@ use Rattle.mem_system.specs.Cost.{Touch, Caches, Touched, at_no_cost, and_then, 
 use Rattle.mem_system.specs.Contents.{SystemContents, SystemSteps, MakesTouch, MakesTouches, hierarchy_of}
 use Rattle.mem_system.specs.Translation.{KeepsLeaves}
 use Rattle.mem_system.proofs.Touches.{makes_one}
-use Rattle.world_view.specs.Cost.{hierarchy}
 use Rattle.world_view.specs.Event.{Storage}
-use Rattle.domain_step.specs.Kept.{Setting, Fits, charged, after, Kept}
+use Rattle.world_view.specs.Machine.{Setting}
+use Rattle.domain_step.specs.Kept.{Fits, charged, after, Kept}
 
 module _ (w : Setting) where
   pub after-append : (r : Touched) (ts us : List Touch) → after w r (ts ++ us) ≡ after w (after w r ts) us
@@ -25,27 +25,33 @@ module _ (w : Setting) where
   nothing_more n = omega arith
 
   -- the sum that is paid in the end
-  pub after-all : (r : Touched) (ts : List Touch) → after w r ts ≡ and_then r (λ c. touched_all (hierarchy w.machine) w.pinned c ts)
+  pub after-all : (r : Touched) (ts : List Touch) → after w r ts ≡ and_then r (λ c. touched_all w.levels w.pinned c ts)
   unfolding after charged touched_all and_then
   after-all r [] = ap (λ n. record { cost = n; caches = r.caches }) (nothing_more r.cost)
   after-all r (t ∷ ts) =
-      let one = touched (hierarchy w.machine) w.pinned r.caches t in
-      let rest = touched_all (hierarchy w.machine) w.pinned one.caches ts in
+      let one = touched w.levels w.pinned r.caches t in
+      let rest = touched_all w.levels w.pinned one.caches ts in
       after-all (charged w r t) ts ∙ ap (λ n. record { cost = n; caches = rest.caches }) (sum r.cost one.cost rest.cost)
 
   -- from nothing spent it is all that the touches cost
-  pub owed : (c : Caches) (ts : List Touch) → after w (at_no_cost c) ts ≡ touched_all (hierarchy w.machine) w.pinned c ts
+  pub owed : (c : Caches) (ts : List Touch) → after w (at_no_cost c) ts ≡ touched_all w.levels w.pinned c ts
   unfolding and_then
   owed c ts =
-      let q = touched_all (hierarchy w.machine) w.pinned c ts in
+      let q = touched_all w.levels w.pinned c ts in
       let all : 0 + q.cost ≡ q.cost = omega arith in
       after-all (at_no_cost c) ts ∙ ap (λ n. record { cost = n; caches = q.caches }) all
+
+-- what the machine costs is what the code's hierarchy costs
+pub same_costs : {P : Type 0} (rule : P → ℕ → Rule) (w : Setting) (memory : Contents) (system : SystemContents P) → Fits rule w memory system
+    → w.machine.costs ≡ system.core.costs
+same_costs rule w memory system fits = fits.sound.costs ∙ ap (λ (h : Hierarchy). h.costs) fits.levels
 
 module _ {P : Type 0} (rule : P → ℕ → Rule) (stands : P → ℕ → ℕ → List ℕ → Type 0) (w : Setting) (memory : Contents) (old new : SystemContents P) where
   -- touches leave the hierarchy that of the machine
   pub fits_still : (ts : List Touch) (cycles : ℕ) → MakesTouches rule stands ts cycles old new → Fits rule w memory old → Fits rule w memory new
   fits_still ts cycles makes fits = record {
     kernel = fits.kernel;
+    sound = fits.sound;
     frames = fits.frames;
     levels = fits.levels ∙ sym makes.same;
     pinned = makes.pinned ∙ fits.pinned;
@@ -54,7 +60,7 @@ module _ {P : Type 0} (rule : P → ℕ → Rule) (stands : P → ℕ → ℕ �
   -- what they cost in the machine, and the caches that they leave there
   pub steps_there : (ts : List Touch) (cycles : ℕ) (caches : Caches) → MakesTouches rule stands ts cycles old new → Fits rule w memory old
       → SystemSteps stands cycles new (touched_all (hierarchy_of rule old) old.core.pinned caches ts)
-      → SystemSteps stands cycles new (touched_all (hierarchy w.machine) w.pinned caches ts)
+      → SystemSteps stands cycles new (touched_all w.levels w.pinned caches ts)
   steps_there ts cycles caches makes fits steps =
       subst (λ (h : Hierarchy). SystemSteps stands cycles new (touched_all h w.pinned caches ts)) (sym fits.levels)
       (subst (λ (b : Bool). SystemSteps stands cycles new (touched_all (hierarchy_of rule old) b caches ts)) fits.pinned steps)

@@ -32,11 +32,12 @@ use Rattle.thread_set.specs.Threads.{with_current}
 use Rattle.call_table.specs.Domain.{Dom, placed}
 use Rattle.kernel_call.specs.declared.domain.Domain.{Domain}
 use Rattle.kernel_call.specs.Models.{dom_model, Stands, Becomes}
-use Rattle.world_view.specs.Kernel.{estate, layout}
+use Rattle.world_view.specs.Kernel.{estate}
 use Rattle.world_view.specs.Instruction.{counter_value, trapped, stopped, retired_at, read_out}
 use Rattle.world_view.specs.Event.{Storage, Act, load, translate, place, line_in, read, store, loaded, noted, guessed, settle, execute, make_call, perform, instruction}
-use Rattle.world_view.proofs.CodeLaws.{noted-other, loaded-other, guessed-other, perform-other}
-use Rattle.domain_step.specs.Kept.{Setting, charged, Kept}
+use Rattle.world_view.proofs.steps.CodeLaws.{noted-other, loaded-other, guessed-other, perform-other}
+use Rattle.world_view.specs.Machine.{Setting}
+use Rattle.domain_step.specs.Kept.{charged, Kept}
 use Rattle.domain_step.specs.Moves.{Yields, Answered, Left}
 use Rattle.domain_step.proofs.Charges.{touch_kept}
 use Rattle.domain_step.proofs.Points.{Point, YieldsAt, YieldsFrom}
@@ -372,7 +373,7 @@ module _ (p : Point) (new : Domain)
   Runs K =
       let w = p.setting in
       YieldsAt p
-      (instruction w.machine (estate w.machine w.own) (layout w.machine w.own) p.clock p.dom)
+      (instruction w.machine (estate w.machine w.own) w.clone p.clock p.dom)
       (Left new K)
 
   pub instruction_missed : (K : Storage → Touched → Type 0) (trap : Trap)
@@ -390,7 +391,7 @@ module _ (p : Point) (new : Domain)
     Goes x K = YieldsFrom p (AfterFetch rule stands p f) (x p.setting) (Left new K)
 
     abbrev Performs : (Storage → Touched → Type 0) → ℕ → Option Instr → Type 0
-    Performs K x i = Goes (λ w. perform w.machine (estate w.machine w.own) (layout w.machine w.own) p.clock p.dom x i) K
+    Performs K x i = Goes (λ w. perform w.machine (estate w.machine w.own) w.clone p.clock p.dom x i) K
 
     instruction_read : (K : Storage → Touched → Type 0) → Performs K f.word (decode_of f.word)
         → Runs K
@@ -398,7 +399,7 @@ module _ (p : Point) (new : Domain)
     instruction_read K rest =
         let w = p.setting in
         let e = estate w.machine w.own in
-        let l = layout w.machine w.own in
+        let l = w.clone in
         let M = Kept rule stands w f.caps p.root f.memory f.before f.spent in
         let N = AfterFetch rule stands p f in
         let frame = f.at / 4096 in
@@ -427,7 +428,7 @@ module _ (p : Point) (new : Domain)
         rw none (y_stop p.setting u q (stopped 2 f.word p.dom) _ (record { dom = dom; kept = k })))
 
     pub instruction_called : (K : Storage → Touched → Type 0) → decode_of f.word ≡ Some instr.Ecall
-        → Goes (λ w. make_call w.machine (estate w.machine w.own) (layout w.machine w.own) p.dom) K → Runs K
+        → Goes (λ w. make_call w.machine (estate w.machine w.own) w.clone p.dom) K → Runs K
     unfolding perform
     instruction_called K some rest = instruction_read K (λ u q k. rw some (rest u q k))
 
@@ -437,7 +438,7 @@ module _ (p : Point) (new : Domain)
     instruction_executed i K some other rest =
         let w = p.setting in
         let e = estate w.machine w.own in
-        let l = layout w.machine w.own in
+        let l = w.clone in
         instruction_read K (λ u q k.
         rw (some, perform-other w.machine e l p.clock p.dom f.word i other)
         (subst (λ (n : ℕ). Yields w (execute w.machine n p.clock p.dom i) u q (Left new K)) top (rest u q k)))

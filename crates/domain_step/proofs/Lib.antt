@@ -7,3 +7,4 @@ mod Events
 mod Calls
 mod Moved
 pub mod Counts
+pub mod Standing

@@ -1,11 +1,11 @@
 -- A domain in its slot, of the code and of the definitions.
 use Rattle.std.proofs.Common.{◌≡◌, ◌≢◌, ℕ, zero, suc, ◌+◌, ◌<◌, ◌≤◌, List, [], ◌∷◌, length, Option, Some, None, leb, true, false, inl, inr, refl, sym, ap, subst, ◌∙◌, arith}
 use Rattle.std.specs.Prelude.{option_map, slice_get}
-use Rattle.std.proofs.lemmas.Bool.{cases_Bool}
+use Rattle.std.proofs.lemmas.Bool.{cases_Bool, lt-leb}
 use Rattle.std.proofs.lemmas.Option.{none-some}
 use Rattle.phys_mem.specs.Contents.{Contents}
 use Rattle.irq_partition.specs.declared.Moment.{Moment}
-use Rattle.irq_partition.specs.Interrupts.{Interrupts, next_of, line_by, next_cycle, due}
+use Rattle.irq_partition.specs.Interrupts.{Interrupts, next_of, cycle_of, line_by, next_cycle, due}
 use Rattle.thread_set.specs.Threads.{is_ready}
 use Rattle.cap_table.specs.Slots.{Slots}
 use Rattle.cycle_cost.specs.Costs.{CostTable}
@@ -28,12 +28,13 @@ use Rattle.kernel_call.specs.Models.{Becomes, Stands}
 use Rattle.world_view.specs.Cost.{hierarchy}
 use Rattle.world_view.specs.Kernel.{estate, layout}
 use Rattle.world_view.specs.Event.{Act, instruction, interrupts_of, idle_until, delivery_touches}
-use Rattle.world_view.specs.Machine.{Local, paid, delivered, step, stretch}
-use Rattle.world_view.proofs.Fuel.{IsTimed, idle_past, stretch_step, stretch_done}
-use Rattle.world_view.proofs.CodeLaws.{step-running, step-due, step-idle, step-still}
-use Rattle.domain_step.specs.Kept.{Setting, Fits, KeptOf}
-use Rattle.domain_step.specs.Moves.{Yields, Left, Leaves, StandsIn, Moves, Runs}
-use Rattle.domain_step.proofs.Charges.{owed, fits_still, steps_there}
+use Rattle.world_view.specs.Machine.{Setting, Local, paid, delivered, step, stretch}
+use Rattle.world_view.proofs.steps.Fuel.{IsTimed, idle_past, stretch_step, stretch_done}
+use Rattle.world_view.proofs.steps.CodeLaws.{step-running, step-due, step-idle, step-still}
+use Rattle.domain_step.specs.Kept.{Fits, KeptOf}
+use Rattle.domain_step.specs.Stands.{GoesOn, IsPlain}
+use Rattle.domain_step.specs.Moves.{Yields, Left, Leaves, StandsIn, Moves, Runs, MovesAlong}
+use Rattle.domain_step.proofs.Charges.{same_costs, owed, fits_still, steps_there}
 use Rattle.domain_step.proofs.Events.{has_still}
 
 pub not_running : (status : DomainStatus) → status ≢ Running → is_running status ≡ false
@@ -76,18 +77,36 @@ pub idle_later : (s : Interrupts) (now end : ℕ) → now < end → due now s �
 unfolding due next_cycle
 idle_later s now end early none = idle_past now end (next_of s) early none
 
+not_yet : (now end : ℕ) (next : Option Moment) → now < idle_until end (cycle_of next) → line_by now next ≡ None
+not_yet now end None early = refl
+not_yet now end (Some x) early =
+    let later : now < x.at = omega (arith, early) in
+    rw (lt-leb x.at now later) refl
+
+-- and until then none is due
+pub none_before : (s : Interrupts) (now end : ℕ) → now < idle_until end (next_cycle s) → due now s ≡ None
+unfolding due next_cycle
+none_before s now end early = not_yet now end (next_of s) early
+
+-- a domain that goes on is still one whose next event is an instruction
+pub plain_on : (old new : Domain) (now : ℕ) → GoesOn old new → IsPlain old now → IsPlain new now
+plain_on old new now on plain = record {
+  running = on.status ∙ plain.running;
+  ready = ap is_ready on.thread ∙ plain.ready;
+  none = ap (due now) on.interrupts ∙ plain.none;
+}
+
 -- ---- between events
 
 module _ {P : Type 0} (rule : P → ℕ → Rule) (stands : P → ℕ → ℕ → List ℕ → Type 0) where
   -- an instruction costs in the machine what it does in the hierarchy
   same_base : (w : Setting) (memory : Contents) (system : SystemContents P) → Fits rule w memory system
       → w.machine.costs.base ≡ system.core.costs.base
-  unfolding hierarchy
-  same_base w memory system fits = ap (λ (h : Hierarchy). h.costs.base) fits.levels
+  same_base w memory system fits = ap (λ (c : CostTable). c.base) (same_costs rule w memory system fits)
 
   -- one step in a slot that ends then
   abbrev step_to : ℕ → Setting → Local → Local
-  step_to end w = step w.machine w.own w.pinned end
+  step_to end w = step w end
 
   -- the definitions' domain has the same interrupts, and the same current thread
   module _ (w : Setting) (memory : Contents) (d : Domain) (system : SystemContents P) (now : ℕ) (s : Local)
@@ -148,7 +167,7 @@ module _ {P : Type 0} (rule : P → ℕ → Rule) (stands : P → ℕ → ℕ �
     -- the instruction of a setting's domain, at a clock
     abbrev instruction_at : Setting → ℕ → Dom → Act Dom
     instruction_at w t m =
-        instruction w.machine (estate w.machine w.own) (layout w.machine w.own) t m
+        instruction w.machine (estate w.machine w.own) w.clone t m
 
     pub moves_running : (now later base spent : ℕ) → old.status ≡ Running
         → ((w : Setting) → Leaves w (instruction_at w now)
@@ -168,12 +187,12 @@ module _ {P : Type 0} (rule : P → ℕ → Rule) (stands : P → ℕ → ℕ �
         (opens w memory old system now s i) i.dom.readings i.dom.replies) in
         let next : Does s.clock s.dom = subst (λ (t : ℕ). Does t s.dom) i.time left in
         let r = instruction_at w s.clock s.dom s.storage in
-        let q = touched_all (hierarchy w.machine) w.pinned s.caches r.notes in
+        let q = touched_all w.levels w.pinned s.caches r.notes in
         let kept : K r.state q =
         subst (λ (x : Touched). K r.state x) (owed w s.caches r.notes) next.met.kept in
         let base_is : w.machine.costs.base ≡ base = same_base w memory' system' kept.fits ∙ sym price in
         let runs_one =
-        step-running w.machine w.own w.pinned end s (running_there w memory old system now s i runs)
+        step-running w end s (running_there w memory old system now s i runs)
         (none_there w memory old system now s i none) (ready_there w memory old system now s i true ready) in
         subst (StandsIn rule stands w memory' new system' later) (sym runs_one) (record {
           fits = kept.fits;
@@ -217,7 +236,7 @@ module _ {P : Type 0} (rule : P → ℕ → Rule) (stands : P → ℕ → ℕ �
     moves_still still w s i =
         let stays : is_running s.dom.status ≡ false = running_is w memory d system now s i ∙ still in
         subst (StandsIn rule stands w memory d system end)
-        (sym (step-still w.machine w.own w.pinned end s stays))
+        (sym (step-still w end s stays))
         (same_at w memory d system now s i end end refl)
 
     -- no thread is ready: the clock goes on alone
@@ -227,7 +246,7 @@ module _ {P : Type 0} (rule : P → ℕ → Rule) (stands : P → ℕ → ℕ �
     moves_idle later runs none idle is w s i =
         let same = interrupts_there w memory d system now s i in
         let goes =
-        step-idle w.machine w.own w.pinned end s (running_there w memory d system now s i runs)
+        step-idle w end s (running_there w memory d system now s i runs)
         (none_there w memory d system now s i none) (ready_there w memory d system now s i false idle) in
         let t : ℕ = idle_until end (next_cycle (interrupts_of w.own s.dom)) in
         subst (StandsIn rule stands w memory d system later) (sym goes)
@@ -237,15 +256,15 @@ module _ {P : Type 0} (rule : P → ℕ → Rule) (stands : P → ℕ → ℕ �
   module _ (end : ℕ) (memory : Contents) (old new : Domain) (system system' : SystemContents P) where
     -- what a delivery touches in the machine
     module _ (w : Setting) (k : CloneLayout) (work : WorkDone) (fits : Fits rule w memory system)
-        (same : layout_model k ≡ layout w.machine w.own) (is : work ≡ plain delivery_op) where
+        (same : layout_model k ≡ w.clone) (is : work ≡ plain delivery_op) where
       touches_there : operation system.core.costs (layout_model k) work
-          ≡ delivery_touches w.machine (layout w.machine w.own)
-      unfolding hierarchy delivery_touches
+          ≡ delivery_touches w.machine w.clone
+      unfolding delivery_touches
       touches_there =
           ap (λ (c : CostTable). operation c (layout_model k) work)
-          (sym (ap (λ (h : Hierarchy). h.costs) fits.levels))
+          (sym (same_costs rule w memory system fits))
           ∙ ap (λ (l : Layout). operation w.machine.costs l work) same
-          ∙ ap (λ (x : WorkDone). operation w.machine.costs (layout w.machine w.own) x) is
+          ∙ ap (λ (x : WorkDone). operation w.machine.costs w.clone x) is
 
     -- a moment is delivered
     pub moves_due : (now later cycles line : ℕ) (work : WorkDone) → old.status ≡ Running
@@ -261,8 +280,8 @@ module _ {P : Type 0} (rule : P → ℕ → Rule) (stands : P → ℕ → ℕ �
     moves_due now later cycles line work runs comes becomes caps pool map clone moments is made buffer time
         w s i =
         let e = estate w.machine w.own in
-        let ts = delivery_touches w.machine (layout w.machine w.own) in
-        let placed : layout_model new.layout ≡ layout w.machine w.own =
+        let ts = delivery_touches w.machine w.clone in
+        let placed : layout_model new.layout ≡ w.clone =
         ap (λ (c : CloneLayout). layout_model c) clone ∙ i.layout in
         let makes : MakesTouches rule stands ts cycles system system' =
         subst (λ (us : List Touch). MakesTouches rule stands us cycles system system')
@@ -275,7 +294,7 @@ module _ {P : Type 0} (rule : P → ℕ → Rule) (stands : P → ℕ → ℕ �
         (becomes s.dom.readings s.dom.replies i.dom.readings i.dom.replies) in
         let due_is = due_there w memory old system now s i ∙ comes in
         let goes =
-        step-due w.machine w.own w.pinned end s line (running_there w memory old system now s i runs)
+        step-due w end s line (running_there w memory old system now s i runs)
         due_is in
         let FactsOf : Slots → Type 0 = λ slots. Facts e.root (is_mine e) (claims e slots) s.storage.mem in
         let Keeps : ℕ → Buffer P → Type 0 = λ n b. KeepsLeaves s.storage.mem memory.frames n b in
@@ -299,41 +318,40 @@ module _ {P : Type 0} (rule : P → ℕ → Rule) (stands : P → ℕ → ℕ �
 
   -- ---- a stretch
 
-  module _ (end : ℕ) (memory : Contents) (old : Domain) (system : SystemContents P) (first : ℕ) where
-    abbrev stretch_to : Setting → Local → Local
-    stretch_to w = stretch w.machine w.own w.pinned end
+  module _ (end : ℕ) where
+    abbrev pub Along : Contents → Domain → SystemContents P → ℕ → Contents → Domain → SystemContents P → ℕ → Type 0
+    Along = MovesAlong rule stands end
 
-    -- what of a stretch is left to do, from now on
-    abbrev pub GoesOn : Contents → Domain → SystemContents P → ℕ → Type 0
-    GoesOn memory' now system' clock =
-        (w : Setting) (s : Local) → StandsIn rule stands w memory old system first s
-        → (x : Local) × StandsIn rule stands w memory' now system' clock x
-        × (stretch_to w x ≡ stretch_to w s)
+    pub along_none : (memory : Contents) (d : Domain) (system : SystemContents P) (now : ℕ) → Along memory d system now memory d system now
+    along_none memory d system now w s i = (s, i, refl)
 
-    module _ (base : 0 < system.core.costs.base) (trap : 0 < system.core.costs.trap) where
-      timed_there : (w : Setting) (s : Local) → StandsIn rule stands w memory old system first s
-          → IsTimed w.machine
-      unfolding hierarchy
+    pub along_then : (memory between memory' : Contents) (old now new : Domain) (system middle system' : SystemContents P) (first clock later : ℕ)
+        → Along memory old system first between now middle clock → Along between now middle clock memory' new system' later
+        → Along memory old system first memory' new system' later
+    along_then memory between memory' old now new system middle system' first clock later so_far more w s i =
+        let (x, is, same) = so_far w s i in
+        let (y, is', same') = more w x is in
+        (y, is', same' ∙ same)
+
+    module _ (memory : Contents) (old : Domain) (system : SystemContents P) (first : ℕ) (base : 0 < system.core.costs.base)
+        (trap : 0 < system.core.costs.trap) where
+      timed_there : (w : Setting) (s : Local) → StandsIn rule stands w memory old system first s → IsTimed w.machine
       timed_there w s i = record {
         base = subst (λ (n : ℕ). 0 < n) (sym (same_base w memory system i.fits)) base;
-        trap = subst (λ (n : ℕ). 0 < n) (sym (ap (λ (h : Hierarchy). h.costs.trap) i.fits.levels)) trap;
+        trap = subst (λ (n : ℕ). 0 < n) (sym (ap (λ (c : CostTable). c.trap) (same_costs rule w memory system i.fits))) trap;
       }
 
-      pub goes_on : (between memory' : Contents) (now new : Domain) (middle system' : SystemContents P)
-          (clock later : ℕ) → GoesOn between now middle clock → clock < end
-          → Moves rule stands (step_to end) between now middle clock memory' new system' later
-          → GoesOn memory' new system' later
-      goes_on between memory' now new middle system' clock later so_far below moves w s i =
-          let (x, is, same) = so_far w s i in
-          let early : x.clock < end = subst (λ (n : ℕ). n < end) is.time below in
-          let once = stretch_step w.machine (timed_there w s i) w.own w.pinned end x early in
-          (step_to end w x, moves w x is, sym once ∙ same)
+      pub along_step : (memory' : Contents) (new : Domain) (system' : SystemContents P) (later : ℕ) → first < end
+          → Moves rule stands (λ w. step w end) memory old system first memory' new system' later
+          → Along memory old system first memory' new system' later
+      along_step memory' new system' later below moves w s i =
+          let early : s.clock < end = subst (λ (n : ℕ). n < end) i.time below in
+          (step w end s, moves w s i, sym (stretch_step w (timed_there w s i) end s early))
 
-      pub moves_over : (memory' : Contents) (now : Domain) (system' : SystemContents P) (clock : ℕ)
-          → GoesOn memory' now system' clock → end ≤ clock
-          → Moves rule stands stretch_to memory old system first memory' now system' clock
-      moves_over memory' now system' clock so_far past w s i =
+      pub along_over : (memory' : Contents) (now : Domain) (system' : SystemContents P) (clock : ℕ)
+          → Along memory old system first memory' now system' clock → end ≤ clock
+          → Moves rule stands (λ w. stretch w end) memory old system first memory' now system' clock
+      along_over memory' now system' clock so_far past w s i =
           let (x, is, same) = so_far w s i in
           let over : end ≤ x.clock = subst (λ (n : ℕ). end ≤ n) is.time past in
-          let done = stretch_done w.machine (timed_there w s i) w.own w.pinned end x over in
-          subst (StandsIn rule stands w memory' now system' clock) (sym done ∙ same) is
+          subst (StandsIn rule stands w memory' now system' clock) (sym (stretch_done w (timed_there w s i) end x over) ∙ same) is

@@ -8,7 +8,8 @@ use Rattle.mem_system.specs.Contents.{SystemContents}
 use Rattle.call_table.specs.Domain.{Dom}
 use Rattle.kernel_call.specs.declared.domain.Domain.{Domain}
 use Rattle.world_view.specs.Event.{Storage, Act}
-use Rattle.domain_step.specs.Kept.{Setting, Kept, KeptOf}
+use Rattle.world_view.specs.Machine.{Setting}
+use Rattle.domain_step.specs.Kept.{Kept, KeptOf}
 use Rattle.domain_step.specs.Moves.{Yields}
 
 -- a point within an event: the setting, the clock as it began, the root of the domain's walks, the domain,

@@ -9,7 +9,8 @@ use Rattle.kernel_call.specs.Models.{dom_model, Stands, Becomes}
 use Rattle.mem_system.specs.Cost.{Touch, Touched}
 use Rattle.world_view.specs.Instruction.{trapped}
 use Rattle.world_view.specs.Event.{Storage, Act, touch, read, write, unless}
-use Rattle.domain_step.specs.Kept.{Setting, charged, after}
+use Rattle.world_view.specs.Machine.{Setting}
+use Rattle.domain_step.specs.Kept.{charged, after}
 use Rattle.domain_step.specs.Moves.{Yields, Answered}
 use Rattle.domain_step.proofs.Charges.{after-append}
 

@@ -1,9 +1,10 @@
 -- What the code keeps, within an event, of memory and of the cost so far.
-use Rattle.std.specs.Prelude.{◌≡◌, ℕ, Bool, List, [], ◌∷◌, length}
+use Rattle.std.specs.Prelude.{◌≡◌, ℕ, List, [], ◌∷◌, length}
 use Rattle.phys_mem.specs.Contents.{Contents}
 use Rattle.phys_mem.specs.Holds.{Holds}
 use Rattle.set_cache.specs.Rule.{Rule}
 use Rattle.cap_table.specs.Slots.{Slots}
+use Rattle.kernel_clone.specs.Footprints.{IsLayout}
 use Rattle.kernel_clone.specs.Models.{layout_model}
 use Rattle.call_table.specs.Claims.{is_mine, claims, Facts}
 use Rattle.kernel_call.specs.declared.domain.Domain.{Domain}
@@ -11,32 +12,31 @@ use Rattle.kernel_call.specs.Facts.{HasFacts}
 use Rattle.mem_system.specs.Cost.{Touch, Touched, touched, and_then}
 use Rattle.mem_system.specs.Contents.{SystemContents, SystemStands, hierarchy_of}
 use Rattle.mem_system.specs.Translation.{KeepsLeaves}
-use Rattle.hardware_check.specs.Hardware.{Hardware}
-use Rattle.image_check.specs.Own.{Own}
-use Rattle.world_view.specs.Kernel.{estate, layout}
-use Rattle.world_view.specs.Cost.{hierarchy}
+use Rattle.world_view.specs.Kernel.{estate}
 use Rattle.world_view.specs.Event.{Storage}
+use Rattle.world_view.specs.Machine.{Setting}
 use Rattle.world_view.specs.Relations.{IsKernel}
 
--- a domain on a machine, with the kernel's lines pinned or not
-pub record Setting : Type 0 where
-  pub machine : Hardware
-  pub own : Own
-  pub pinned : Bool
+-- what the hierarchy of a setting costs, and the size of its lines, are the machine's; and its clone is one
+pub record IsSetting (w : Setting) : Type 0 where
+  pub costs : w.machine.costs ≡ w.levels.costs
+  pub line : w.machine.line ≡ w.levels.line_size
+  pub clone : IsLayout w.clone
 
 -- the kernel has this domain, and memory and hierarchy are the machine's
 pub record Fits {P : Type 0} (rule : P → ℕ → Rule) (w : Setting) (memory : Contents)
     (system : SystemContents P) : Type 0 where
   pub kernel : IsKernel w.machine w.own
+  pub sound : IsSetting w
   pub frames : w.machine.frames ≡ memory.frames
-  pub levels : hierarchy w.machine ≡ hierarchy_of rule system
+  pub levels : w.levels ≡ hierarchy_of rule system
   pub pinned : system.core.pinned ≡ w.pinned
 
 -- ---- the cost so far, and the caches now
 
 -- with one more touch
 unfoldable pub charged : Setting → Touched → Touch → Touched
-charged w r t = and_then r (λ c. touched (hierarchy w.machine) w.pinned c t)
+charged w r t = and_then r (λ c. touched w.levels w.pinned c t)
 
 -- with more touches, one after the other
 unfoldable pub after : Setting → Touched → List Touch → Touched
@@ -66,7 +66,7 @@ pub record KeptOf {P : Type 0} (rule : P → ℕ → Rule) (stands : P → ℕ �
     (s : Storage) (r : Touched) : Type 0 where
   pub fits : Fits rule w memory system
   pub facts : HasFacts (estate w.machine w.own) memory s.mem d
-  pub layout : layout_model d.layout ≡ layout w.machine w.own
+  pub layout : layout_model d.layout ≡ w.clone
   pub leaves : KeepsLeaves s.mem memory.frames d.map system.core.tlb
   pub cost : spent ≡ r.cost
   pub caches : SystemStands stands system r.caches

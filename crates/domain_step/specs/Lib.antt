@@ -1,4 +1,5 @@
 pub mod Stands
 pub mod Kept
+pub mod Standing
 pub mod Moves
 pub mod Propositions

@@ -17,11 +17,11 @@ use Rattle.kernel_call.specs.Facts.{HasFacts}
 use Rattle.mem_system.specs.Cost.{Touched}
 use Rattle.mem_system.specs.Contents.{SystemContents, SystemStands}
 use Rattle.mem_system.specs.Translation.{KeepsLeaves}
-use Rattle.world_view.specs.Kernel.{estate, layout}
+use Rattle.world_view.specs.Kernel.{estate}
 use Rattle.world_view.specs.Instruction.{trapped}
 use Rattle.world_view.specs.Event.{Storage, Act, stored_in}
-use Rattle.world_view.specs.Machine.{Local}
-use Rattle.domain_step.specs.Kept.{Setting, Fits, after}
+use Rattle.world_view.specs.Machine.{Setting, Local, stretch}
+use Rattle.domain_step.specs.Kept.{Fits, after}
 
 -- ---- steps of a domain
 
@@ -79,7 +79,7 @@ pub record StandsIn {P : Type 0} (rule : P → ℕ → Rule) (stands : P → ℕ
   pub fits : Fits rule w memory system
   pub dom : Stands d s.dom
   pub facts : HasFacts (estate w.machine w.own) memory s.storage.mem d
-  pub layout : layout_model d.layout ≡ layout w.machine w.own
+  pub layout : layout_model d.layout ≡ w.clone
   pub leaves : KeepsLeaves s.storage.mem memory.frames d.map system.core.tlb
   pub caches : SystemStands stands system s.caches
   pub moments : d.interrupts.moments ≡ w.own.moments
@@ -91,6 +91,13 @@ abbrev pub Moves : {P : Type 0} → (P → ℕ → Rule) → (P → ℕ → ℕ 
 Moves rule stands f memory old system now memory' new system' later = (w : Setting) (s : Local)
     → StandsIn rule stands w memory old system now s
     → StandsIn rule stands w memory' new system' later (f w s)
+
+-- whatever the old ones stand for, the new ones stand for a state from which as much of the slot is left
+abbrev pub MovesAlong : {P : Type 0} → (P → ℕ → Rule) → (P → ℕ → ℕ → List ℕ → Type 0) → ℕ
+    → Contents → Domain → SystemContents P → ℕ → Contents → Domain → SystemContents P → ℕ → Type 0
+MovesAlong rule stands end memory old system now memory' new system' later = (w : Setting) (s : Local)
+    → StandsIn rule stands w memory old system now s
+    → (x : Local) × StandsIn rule stands w memory' new system' later x × (stretch w end x ≡ stretch w end s)
 
 -- they stand for some state of some domain
 pub record Runs {P : Type 0} (rule : P → ℕ → Rule) (stands : P → ℕ → ℕ → List ℕ → Type 0)

@@ -1,5 +1,8 @@
 -- How the counts of a domain of the code grow in a step, and which of its parts stay.
-use Rattle.std.specs.Prelude.{◌≡◌, ℕ, ◌+◌, ◌^◌, ◌<◌, ◌≤◌}
+use Rattle.std.specs.Prelude.{◌≡◌, ℕ, ◌+◌, ◌^◌, ◌<◌, ◌≤◌, true, None}
+use Rattle.irq_partition.specs.Interrupts.{due}
+use Rattle.thread_set.specs.Threads.{is_ready}
+use Rattle.call_table.specs.declared.DomainStatus.TheVariants.{Running}
 use Rattle.kernel_call.specs.declared.domain.Domain.{Domain}
 
 -- one more of each still fits
@@ -21,3 +24,15 @@ pub record KeepsFrames (old new : Domain) : Type 0 where
   pub map : new.map ≡ old.map
   pub layout : new.layout ≡ old.layout
   pub moments : new.interrupts.moments ≡ old.interrupts.moments
+
+-- it goes on as it stood: it runs if it ran, its thread is ready if it was, and no moment was delivered
+pub record GoesOn (old new : Domain) : Type 0 where
+  pub status : new.status ≡ old.status
+  pub thread : new.threads.active.state ≡ old.threads.active.state
+  pub interrupts : new.interrupts ≡ old.interrupts
+
+-- at a clock its next event is an instruction: it runs, its current thread is ready, and no moment is due
+pub record IsPlain (d : Domain) (now : ℕ) : Type 0 where
+  pub running : d.status ≡ Running
+  pub ready : is_ready d.threads.active.state ≡ true
+  pub none : due now d.interrupts ≡ None

@@ -11,7 +11,8 @@ ghost use Rattle.rv_core.specs.Memory.{load_size};
 ghost use Rattle.cap_table.specs.Slots.{Slots};
 ghost use Rattle.mem_system.specs.Translation.{KeepsLeaves};
 ghost use Rattle.world_view.specs.Event as spec;
-ghost use Rattle.domain_step.specs.Kept.{Setting, Kept};
+ghost use Rattle.world_view.specs.Machine.{Setting};
+ghost use Rattle.domain_step.specs.Kept.{Kept};
 ghost use Rattle.domain_step.specs.Moves.{Finds, frame_found, stored};
 
 use mem_system::MemSystem;

@@ -16,9 +16,10 @@ ghost use Rattle.kernel_call.specs.Facts.{HasFacts, Valid};
 ghost use Rattle.kernel_call.specs.Calls.{IsCalled, KeepsParts};
 ghost use Rattle.world_view.specs.Instruction as spec;
 ghost use Rattle.world_view.specs.Event as event;
-ghost use Rattle.world_view.specs.Kernel.{estate, layout};
-ghost use Rattle.domain_step.specs.Stands.{HasRoom, Grows, KeepsFrames};
-ghost use Rattle.domain_step.specs.Kept.{Setting, KeptOf};
+ghost use Rattle.world_view.specs.Kernel.{estate};
+ghost use Rattle.domain_step.specs.Stands.{GoesOn, HasRoom, Grows, KeepsFrames};
+ghost use Rattle.world_view.specs.Machine.{Setting};
+ghost use Rattle.domain_step.specs.Kept.{KeptOf};
 ghost use Rattle.domain_step.specs.Moves.{Leaves};
 
 use call_table::DomainStatus;
@@ -83,6 +84,7 @@ fn read_out(domain: &mut Domain, value: u32)
     ensures becomes { Becomes (spec.read_out value) domain.old domain.new }
     ensures grows { Grows 0 1 0 domain.old domain.new }
     ensures keeps { KeepsFrames domain.old domain.new }
+    ensures goes_on { GoesOn domain.old domain.new }
 {
     domain.readings.push(u64::from(value));
 }
@@ -94,6 +96,7 @@ fn retire(domain: &mut Domain, next: u32)
     ensures becomes { Becomes (λ d. spec.retired_at next d.threads.current.regs d) domain.old domain.new }
     ensures grows { Grows 1 0 0 domain.old domain.new }
     ensures keeps { KeepsFrames domain.old domain.new }
+    ensures goes_on { GoesOn domain.old domain.new }
 {
     domain.threads.active.pc = next;
     domain.retired += 1;
@@ -108,6 +111,7 @@ pub fn finish(domain: &mut Domain, instr: Instr, value: u32, next: u32)
         domain.old domain.new }
     ensures grows { Grows 1 1 0 domain.old domain.new }
     ensures keeps { KeepsFrames domain.old domain.new }
+    ensures goes_on { GoesOn domain.old domain.new }
 {
     if let Instr::ReadCounter { .. } = instr {
         read_out(domain, value);
@@ -158,7 +162,7 @@ pub fn call<P: Policy>(
     requires replies { domain.old.replies.count < 2 ^ 63 }
     requires spent { spent.old < 2 ^ 31 }
     ensures leaves { (w : Setting) → Leaves w
-        (λ d. event.make_call w.machine (estate w.machine w.own) (layout w.machine w.own) d)
+        (λ d. event.make_call w.machine (estate w.machine w.own) w.clone d)
         domain.old (KeptOf P.rule P.stands_for w domain.old memory.old system.old spent.old)
         domain.new (KeptOf P.rule P.stands_for w domain.new memory.new system.new spent.new) }
     ensures frames { memory.new.frames ≡ memory.old.frames }

@@ -21,10 +21,11 @@ ghost use Rattle.mem_system.specs.Translation.{KeepsLeaves};
 ghost use Rattle.cache_sharing.specs.Operations.{operation, plain};
 ghost use Rattle.world_view.specs.Event as event;
 ghost use Rattle.world_view.specs.Machine as spec;
-ghost use Rattle.world_view.specs.Kernel.{estate, layout};
-ghost use Rattle.domain_step.specs.Stands.{HasRoom, Grows, KeepsFrames};
-ghost use Rattle.domain_step.specs.Kept.{Setting, Kept, KeptOf};
-ghost use Rattle.domain_step.specs.Moves.{Yields, Answered, Finds, Leaves, Moves, Runs};
+ghost use Rattle.world_view.specs.Kernel.{estate};
+ghost use Rattle.domain_step.specs.Stands.{HasRoom, Grows, KeepsFrames, GoesOn, IsPlain};
+ghost use Rattle.world_view.specs.Machine.{Setting};
+ghost use Rattle.domain_step.specs.Kept.{Kept, KeptOf};
+ghost use Rattle.domain_step.specs.Moves.{Yields, Answered, Finds, Leaves, Moves, MovesAlong, Runs};
 
 use crate::access::{load, store, translate};
 use crate::instruction::{call, counter_value, finish, stop};
@@ -95,7 +96,7 @@ fn guess<P: Policy>(system: &mut MemSystem<P>, spent: &mut u32, instr: Instr, pc
 }
 
 // The effect of an instruction: a trap, or a branch's guess, a store, the
-// registers and the next instruction.
+// registers and the next instruction. Answers whether the domain goes on.
 #[inline(always)]
 fn settle<P: Policy>(
     memory: &mut PhysMem,
@@ -105,7 +106,7 @@ fn settle<P: Policy>(
     root: FrameNo,
     instr: Instr,
     value: u32,
-)
+) -> bool
     requires registers { HasRegisters instr }
     requires room { HasRoom domain.old }
     requires frames { memory.old.frames ≤ 2 ^ 15 }
@@ -120,23 +121,30 @@ fn settle<P: Policy>(
     ensures frames { memory.new.frames ≡ memory.old.frames }
     ensures grows { Grows 1 1 0 domain.old domain.new }
     ensures keeps { KeepsFrames domain.old domain.new }
+    ensures goes_on { result ≡ true → GoesOn domain.old domain.new }
     ensures few { spent.new ≤ spent.old + most_outcome }
 {
     let pc = domain.threads.active.pc;
     let effect = rv_core::execute(&mut domain.threads.active.regs, pc, instr, value);
     if let Some(trap) = effect.trap {
         stop(domain, trap);
-        return;
+        return false;
     }
     guess(system, spent, instr, pc, effect.taken);
     match store(memory, system, spent, root, effect.store) {
-        Ok(()) => finish(domain, instr, value, effect.next),
-        Err(trap) => stop(domain, trap),
+        Ok(()) => {
+            finish(domain, instr, value, effect.next);
+            true
+        }
+        Err(trap) => {
+            stop(domain, trap);
+            false
+        }
     }
 }
 
 // An instruction that is no kernel call. Misaligned loads and stores trap
-// before their address is translated.
+// before their address is translated. Answers whether the domain goes on.
 #[inline(always)]
 fn execute<P: Policy>(
     memory: &mut PhysMem,
@@ -146,7 +154,7 @@ fn execute<P: Policy>(
     root: FrameNo,
     now: u64,
     instr: Instr,
-)
+) -> bool
     requires registers { HasRegisters instr }
     requires room { HasRoom domain.old }
     requires frames { memory.old.frames ≤ 2 ^ 15 }
@@ -159,20 +167,25 @@ fn execute<P: Policy>(
     ensures frames { memory.new.frames ≡ memory.old.frames }
     ensures grows { Grows 1 1 0 domain.old domain.new }
     ensures keeps { KeepsFrames domain.old domain.new }
+    ensures goes_on { result ≡ true → GoesOn domain.old domain.new }
     ensures few { spent.new ≤ spent.old + most_plain }
 {
     let at = address(&domain.threads.active.regs, instr);
     if let Some(trap) = misalignment(instr, at) {
         stop(domain, trap);
-        return;
+        return false;
     }
     match loaded(memory, system, domain, spent, root, now, instr, at) {
         Ok(value) => settle(memory, system, domain, spent, root, instr, value),
-        Err(trap) => stop(domain, trap),
+        Err(trap) => {
+            stop(domain, trap);
+            false
+        }
     }
 }
 
 // The domain's next instruction, at a clock, with the kernel call that it makes.
+// Answers true only where the domain goes on, and no call was made.
 #[inline(always)]
 fn run_instruction<P: Policy>(
     memory: &mut PhysMem,
@@ -180,19 +193,20 @@ fn run_instruction<P: Policy>(
     domain: &mut Domain,
     spent: &mut u32,
     now: u64,
-)
+) -> bool
     requires room { HasRoom domain.old }
     requires frames { memory.old.frames ≤ 2 ^ 15 }
     requires runs { Runs P.rule P.stands_for memory.old domain.old system.old now }
     requires ready { is_ready domain.old.threads.active.state ≡ true }
     requires spent { spent.old < 2 ^ 28 }
     ensures leaves { (w : Setting) → Leaves w
-        (event.instruction w.machine (estate w.machine w.own) (layout w.machine w.own) now)
+        (event.instruction w.machine (estate w.machine w.own) w.clone now)
         domain.old (KeptOf P.rule P.stands_for w domain.old memory.old system.old spent.old)
         domain.new (KeptOf P.rule P.stands_for w domain.new memory.new system.new spent.new) }
     ensures frames { memory.new.frames ≡ memory.old.frames }
     ensures grows { Grows 1 1 2 domain.old domain.new }
     ensures moments { domain.new.interrupts.moments ≡ domain.old.interrupts.moments }
+    ensures goes_on { result ≡ true → GoesOn domain.old domain.new }
     ensures few { spent.new ≤ spent.old + most_instruction }
 {
     let root = domain.map.root();
@@ -201,7 +215,7 @@ fn run_instruction<P: Policy>(
         Ok(at) => at,
         Err(trap) => {
             stop(domain, trap);
-            return;
+            return false;
         }
     };
     *spent += system.fetch(system.line_of(at));
@@ -214,10 +228,13 @@ fn run_instruction<P: Policy>(
                 value: word,
             },
         );
-        return;
+        return false;
     };
     match instr {
-        Instr::Ecall => call(memory, system, domain, spent),
+        Instr::Ecall => {
+            call(memory, system, domain, spent);
+            false
+        }
         _ => execute(memory, system, domain, spent, root, now, instr),
     }
 }
@@ -256,13 +273,53 @@ fn deliver_due<P: Policy>(system: &mut MemSystem<P>, domain: &mut Domain) -> u32
     charge(system, &domain.layout, &work)
 }
 
+// What an instruction came to.
+#[derive(Clone, Copy)]
+struct Ran {
+    /// The clock after it, in cycles.
+    clock: u64,
+    /// Whether the domain goes on as it stood, so that its next event is an
+    /// instruction too, unless a moment is due.
+    goes_on: bool,
+}
+
+// The event of a domain whose next one is an instruction.
+#[inline(always)]
+fn run<P: Policy>(
+    memory: &mut PhysMem,
+    system: &mut MemSystem<P>,
+    domain: &mut Domain,
+    now: u64,
+) -> Ran
+    requires frames { memory.old.frames ≤ 2 ^ 15 }
+    requires runs { Runs P.rule P.stands_for memory.old domain.old system.old now }
+    requires plain { IsPlain domain.old now }
+    requires early { now < 2 ^ 62 }
+    requires few { CountsUpTo now domain.old }
+    ensures becomes { (end : ℕ) → Moves P.rule P.stands_for (λ w. spec.step w end)
+        memory.old domain.old system.old now memory.new domain.new system.new result.clock }
+    ensures frames { memory.new.frames ≡ memory.old.frames }
+    ensures hierarchy { hierarchy_of P.rule system.new ≡ hierarchy_of P.rule system.old }
+    ensures pinned { system.new.core.pinned ≡ system.old.core.pinned }
+    ensures runs { Runs P.rule P.stands_for memory.new domain.new system.new result.clock }
+    ensures few { CountsUpTo result.clock domain.new }
+    ensures goes_on { result.goes_on ≡ true → GoesOn domain.old domain.new }
+    ensures later { now < result.clock }
+    ensures soon { result.clock ≤ now + most_event }
+{
+    let mut spent = 0;
+    let goes_on = run_instruction(memory, system, domain, &mut spent, now);
+    let clock = now + u64::from(system.costs().base) + u64::from(spent);
+    Ran { clock, goes_on }
+}
+
 /// One event of the domain in a slot that ends then. Answers the new clock, in
 /// cycles. Of a domain that runs, a moment that is due is delivered, and the
 /// delivery charged; else, where no thread is ready, the clock goes on to the
 /// next moment or the end; else the current thread runs an instruction, which
 /// with all that it charges may be past the end. One that doesn't run waits for
 /// the end.
-#[inline(always)]
+#[inline(never)]
 pub fn step<P: Policy>(
     memory: &mut PhysMem,
     system: &mut MemSystem<P>,
@@ -275,7 +332,7 @@ pub fn step<P: Policy>(
     requires before { now < end }
     requires end { end < 2 ^ 62 }
     requires few { CountsUpTo now domain.old }
-    ensures becomes { Moves P.rule P.stands_for (λ w. spec.step w.machine w.own w.pinned end)
+    ensures becomes { Moves P.rule P.stands_for (λ w. spec.step w end)
         memory.old domain.old system.old now memory.new domain.new system.new result }
     ensures frames { memory.new.frames ≡ memory.old.frames }
     ensures hierarchy { hierarchy_of P.rule system.new ≡ hierarchy_of P.rule system.old }
@@ -294,9 +351,62 @@ pub fn step<P: Policy>(
     if !domain.threads.active.state.is_ready() {
         return idle_until(end, domain.interrupts.next_moment());
     }
-    let mut spent = 0;
-    run_instruction(memory, system, domain, &mut spent, now);
-    now + u64::from(system.costs().base) + u64::from(spent)
+    run(memory, system, domain, now).clock
+}
+
+// Until when instructions are all that a domain does which goes on as it stands:
+// the slot's end, or its next moment where that is sooner. 0 of one whose next
+// event is none.
+#[inline(always)]
+fn plain_until(domain: &Domain, end: u64) -> u64
+    ensures plain { (now : ℕ) → now < result → IsPlain domain.now now }
+    ensures within { result ≤ end }
+{
+    let DomainStatus::Running = domain.status else {
+        return 0;
+    };
+    if !domain.threads.active.state.is_ready() {
+        return 0;
+    }
+    idle_until(end, domain.interrupts.next_moment())
+}
+
+// Instructions, one after the other, while the domain goes on and the clock is
+// below `until`; one at least. Answers the clock after them.
+#[inline(always)]
+fn run_plain<P: Policy>(
+    memory: &mut PhysMem,
+    system: &mut MemSystem<P>,
+    domain: &mut Domain,
+    now: u64,
+    until: u64,
+) -> u64
+    requires frames { memory.old.frames ≤ 2 ^ 15 }
+    requires runs { Runs P.rule P.stands_for memory.old domain.old system.old now }
+    requires plain { (t : ℕ) → t < until → IsPlain domain.old t }
+    requires before { now < until }
+    requires until { until < 2 ^ 62 }
+    requires few { CountsUpTo now domain.old }
+    ensures along { (end : ℕ) → until ≤ end → MovesAlong P.rule P.stands_for end
+        memory.old domain.old system.old now memory.new domain.new system.new result }
+    ensures frames { memory.new.frames ≡ memory.old.frames }
+    ensures hierarchy { hierarchy_of P.rule system.new ≡ hierarchy_of P.rule system.old }
+    ensures pinned { system.new.core.pinned ≡ system.old.core.pinned }
+    ensures runs { Runs P.rule P.stands_for memory.new domain.new system.new result }
+    ensures few { CountsUpTo result domain.new }
+    ensures later { now < result }
+    ensures soon { result < until + most_event }
+{
+    // Each event takes a cycle or more.
+    let _costs = system.costs();
+    let mut clock = now;
+    let mut goes_on = true;
+    while goes_on && clock < until {
+        let ran = run(memory, system, domain, clock);
+        clock = ran.clock;
+        goes_on = ran.goes_on;
+    }
+    clock
 }
 
 /// Events while the clock is below the end. Answers the clock after them.
@@ -312,7 +422,7 @@ pub fn stretch<P: Policy>(
     requires before { now < 2 ^ 62 }
     requires end { end < 2 ^ 62 }
     requires few { CountsUpTo now domain.old }
-    ensures becomes { Moves P.rule P.stands_for (λ w. spec.stretch w.machine w.own w.pinned end)
+    ensures becomes { Moves P.rule P.stands_for (λ w. spec.stretch w end)
         memory.old domain.old system.old now memory.new domain.new system.new result }
     ensures frames { memory.new.frames ≡ memory.old.frames }
     ensures hierarchy { hierarchy_of P.rule system.new ≡ hierarchy_of P.rule system.old }
@@ -326,7 +436,12 @@ pub fn stretch<P: Policy>(
     let _costs = system.costs();
     let mut clock = now;
     while clock < end {
-        clock = step(memory, system, domain, clock, end);
+        let until = plain_until(domain, end);
+        clock = if clock < until {
+            run_plain(memory, system, domain, clock, until)
+        } else {
+            step(memory, system, domain, clock, end)
+        };
     }
     clock
 }

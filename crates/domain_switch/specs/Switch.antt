@@ -4,7 +4,6 @@ use Rattle.kernel_clone.specs.declared.CloneLayout.{CloneLayout}
 use Rattle.kernel_clone.specs.Footprints.{Layout, IsLayout}
 use Rattle.kernel_clone.specs.Models.{layout_model}
 use Rattle.pad_bound.specs.Bound.{worst_instruction, worst_operation, bound_of}
-use Rattle.pad_bound.specs.Worst.{IsCloneOf}
 use Rattle.mem_system.specs.Hierarchy.{Hierarchy}
 use Rattle.mem_system.specs.Cost.{Caches, Touched}
 use Rattle.mem_system.specs.Contents.{SystemContents, SystemStands}
@@ -14,10 +13,10 @@ use Rattle.cache_sharing.specs.Worst.{shape_of, HasWays}
 abbrev pub layout_if : Option CloneLayout → Option Layout
 layout_if out = option_map layout_model out
 
--- a clone of a machine with this hierarchy, and a shared region of so many bytes
-pub record IsCloneOn (h : Hierarchy) (shared : ℕ) (clone : CloneLayout) : Type 0 where
+-- a clone of a machine with this hierarchy
+pub record IsCloneOn (h : Hierarchy) (clone : CloneLayout) : Type 0 where
   pub layout : IsLayout (layout_model clone)
-  pub same : IsCloneOf (shape_of h shared) (layout_model clone)
+  pub line : clone.line ≡ h.line_size
 
 -- it begins past the slot's end by less than the largest step, and the next start is the bound past
 -- the end or later

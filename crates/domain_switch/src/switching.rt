@@ -27,8 +27,8 @@ pub struct Switched {
 }
 
 /// Switches from one domain's clone to the next one's, in this order: `out`
-/// leaves, which is nobody at the boot; each line of the region of `shared`
-/// bytes is loaded, ascending; all on-core state is made fresh; `into` enters.
+/// leaves, which is nobody at the boot; each line of the shared region is
+/// loaded, ascending; all on-core state is made fresh; `into` enters.
 /// Then the clock waits for `until`, where it isn't past that already.
 ///
 /// The slot before ended at `old_end`, the clock is `now`, and the next slot
@@ -37,13 +37,12 @@ pub fn switch<P: Policy>(
     system: &mut MemSystem<P>,
     out: Option<&CloneLayout>,
     into: &CloneLayout,
-    shared: u32,
     old_end: u64,
     now: u64,
     until: u64,
 ) -> Switched
-    requires out { IfSome (option_copied out) (IsCloneOn (hierarchy_of P.rule system.old) shared) }
-    requires into { IsCloneOn (hierarchy_of P.rule system.old) shared into.now }
+    requires out { IfSome (option_copied out) (IsCloneOn (hierarchy_of P.rule system.old)) }
+    requires into { IsCloneOn (hierarchy_of P.rule system.old) into.now }
     requires ended { old_end ≤ now }
     requires early { now < 2 ^ 62 }
     requires near { until < 2 ^ 62 }
@@ -55,17 +54,17 @@ pub fn switch<P: Policy>(
         (spec.switch system.old.core.costs (layout_if (option_copied out.entry)) (layout_model into.now))) }
     ensures clock { result.now ≡ max (old_end + result.used) until }
     ensures within { (caches : Caches) → SystemStands P.stands_for system.old caches
-        → IsInTime (hierarchy_of P.rule system.old) caches shared old_end now until
+        → IsInTime (hierarchy_of P.rule system.old) caches into.now.shared old_end now until
         → result.used ≤ until - old_end }
     ensures on_time { (caches : Caches) → SystemStands P.stands_for system.old caches
-        → IsInTime (hierarchy_of P.rule system.old) caches shared old_end now until
+        → IsInTime (hierarchy_of P.rule system.old) caches into.now.shared old_end now until
         → result.now ≡ until }
     ensures kept { (mem : Mem) (frames root : ℕ) → KeepsLeaves mem frames root system.new.core.tlb }
     ensures later { now ≤ old_end + result.used }
     ensures few { old_end + result.used < now + 2 ^ 33 }
 {
     let left = leave_if(system, out);
-    let loaded = prefetch(system, into, shared);
+    let loaded = prefetch(system, into);
     let flushed = system.flush();
     let entered = enter(system, into);
     let work = u64::from(left) + u64::from(loaded) + u64::from(flushed) + u64::from(entered);
@@ -113,15 +112,14 @@ fn leave_if<P: Policy>(system: &mut MemSystem<P>, out: Option<&CloneLayout>) -> 
 }
 
 /// Loads each shared line, ascending. Answers the cycles.
-fn prefetch<P: Policy>(system: &mut MemSystem<P>, layout: &CloneLayout, shared: u32) -> u32
+fn prefetch<P: Policy>(system: &mut MemSystem<P>, layout: &CloneLayout) -> u32
     requires layout { IsLayout (layout_model layout.now) }
-    requires shared { shared ≡ layout.now.shared }
     ensures makes { MakesTouches P.rule P.stands_for (prefetch (shared_region (layout_model layout.now)))
         result system.old system.new }
     ensures few { result ≤ most_prefetch }
 {
     let mut cycles = 0;
-    for place in 0..shared / layout.line {
+    for place in 0..layout.shared / layout.line {
         cycles += system.access(layout.shared_line(place), false);
     }
     cycles

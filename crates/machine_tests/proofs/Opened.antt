@@ -16,18 +16,18 @@ use Rattle.kernel_call.specs.declared.domain.Domain.{Domain}
 use Rattle.kernel_call.specs.Facts.{HasFacts}
 use Rattle.world_view.specs.Cost.{hierarchy}
 use Rattle.world_view.specs.Kernel.{opening_dom, estate}
-use Rattle.world_view.specs.Machine.{Local, opening}
-use Rattle.world_view.proofs.Separate.{separated}
-use Rattle.world_view.proofs.OpeningFacts.{opening_facts, kernel_of}
+use Rattle.world_view.specs.Machine.{with_hart, setting, Local, opening}
+use Rattle.world_view.proofs.opening.Separate.{separated}
+use Rattle.world_view.proofs.opening.OpeningFacts.{opening_facts, kernel_of}
 use Rattle.domain_open.specs.Placing.{IsOpened, placed_all}
-use Rattle.domain_step.specs.Kept.{Setting}
 use Rattle.domain_step.specs.Moves.{Runs}
+use Rattle.domain_step.proofs.Standing.{is_setting}
 
 module _ (i : Image) (r : Runnable i) (memory : Contents) (x : Domain) (opened : IsOpened i.all.hardware (own_of i 0) x)
     (frames : memory.frames ≡ i.all.hardware.frames) (holds : Holds memory (placed_all i)) where
   -- the first domain has its facts
   pub facts_at_first : HasFacts (estate i.all.hardware (own_of i 0)) memory (opening i).storage.mem x
-  unfolding estate opening
+  unfolding estate opening with_hart
   facts_at_first =
       let e = estate i.all.hardware (own_of i 0) in
       let caps : (opening_dom i.all.hardware (own_of i 0)).caps ≡ x.caps = sym (ap (λ (m : Dom). m.caps) opened.stands.same) in
@@ -44,13 +44,13 @@ module _ (i : Image) (r : Runnable i) (memory : Contents) (x : Domain) (opened :
       → hierarchy i.all.hardware ≡ hierarchy_of rule system → system.core.pinned ≡ false → SystemStands stands system (cold (hierarchy i.all.hardware))
       → ((m : Mem) (n root : ℕ) → KeepsLeaves m n root system.core.tlb) → Runs rule stands memory x system 0
   opened_runs rule stands system levels pinned caches leaves =
-      let w : Setting = record { machine = i.all.hardware; own = own_of i 0; pinned = false } in
+      let w = setting i.all.hardware (own_of i 0) false in
       let s : Local = record { dom = opening_dom i.all.hardware (own_of i 0); storage = (opening i).storage; caches = cold (hierarchy i.all.hardware); clock = 0 } in
       record {
         setting = w;
         state = s;
         stands_in = record {
-          fits = record { kernel = kernel_of i (separated i r) 0 r.some_domain; frames = sym frames; levels = levels; pinned = pinned };
+          fits = record { kernel = kernel_of i (separated i r) 0 r.some_domain; sound = is_setting i.all.hardware (own_of i 0) false (kernel_of i (separated i r) 0 r.some_domain); frames = sym frames; levels = levels; pinned = pinned };
           dom = opened.stands;
           facts = facts_at_first;
           layout = opened.layout;

@@ -33,15 +33,15 @@ fn red() -> CloneLayout
 fn two_switches(alloc: Global, policy: AnyPolicy) -> Result<(Switched, Switched), Memory> {
     let mut system = small(alloc, policy, false)?;
     let clone = red();
-    let boot = switch(&mut system, None, &clone, 512, 0, 0, 6150);
-    let again = switch(&mut system, Some(&clone), &clone, 512, 6150, 6150, 12300);
+    let boot = switch(&mut system, None, &clone, 0, 0, 6150);
+    let again = switch(&mut system, Some(&clone), &clone, 6150, 6150, 12300);
     Ok((boot, again))
 }
 
 // A boot that begins late and is done past the next start.
 fn late_boot(alloc: Global) -> Result<Switched, Memory> {
     let mut system = small(alloc, AnyPolicy::Lru, false)?;
-    Ok(switch(&mut system, None, &red(), 512, 100, 150, 200))
+    Ok(switch(&mut system, None, &red(), 100, 150, 200))
 }
 
 // A call that is none, twice.

@@ -1,5 +1,6 @@
 -- The machine before its first slot.
 use Rattle.std.proofs.Common.{false, ◌≡◌, ℕ, ◌<◌, List, [], length, refl, sym, subst, arith}
+use Rattle.tp_base.specs.Table.{at, put}
 use Rattle.std.proofs.lemmas.Option.{slice_get_within}
 use Rattle.phys_mem.specs.Contents.{Contents}
 use Rattle.phys_mem.specs.Holds.{Holds}
@@ -13,10 +14,10 @@ use Rattle.hardware_check.specs.Hardware.{Hardware}
 use Rattle.world_view.specs.declared.view.Used.{Used}
 use Rattle.image_check.specs.Image.{Image}
 use Rattle.world_view.specs.Opening.{all_placed}
-use Rattle.world_view.specs.Machine.{opening, whole}
+use Rattle.world_view.specs.Machine.{with_hart, opening, whole}
 use Rattle.image_check.specs.Laws.{Runnable}
-use Rattle.world_view.proofs.Separate.{separated}
-use Rattle.world_view.proofs.CodeLaws.{whole_first-dom}
+use Rattle.world_view.proofs.opening.Separate.{separated}
+use Rattle.world_view.proofs.steps.CodeLaws.{whole_first-dom}
 use Rattle.kernel_call.specs.declared.domain.Domain.{Domain}
 use Rattle.kernel_call.specs.Models.{Stands}
 use Rattle.domain_open.specs.Placing.{AreOpened}
@@ -29,23 +30,28 @@ module _ (i : Image) (r : Runnable i) where
       → hierarchy i.all.hardware ≡ hierarchy_of any_rule system → system.core.pinned ≡ false → SystemStands any_stands_for system (cold (hierarchy i.all.hardware))
       → AreOpened i.all.hardware i.owns (length i.owns) domains → length used ≡ length i.all.schedule → IsUsed used []
       → StandsFor i 0 (kept memory system domains used 0)
-  unfolding whole opening
+  unfolding whole opening with_hart at put
   stands_first memory system domains used frames holds levels pinned cold opened all unused = record {
-    frames = frames;
-    holds = holds;
-    levels = levels;
-    pinned = pinned;
-    caches = cold;
+    machine = record {
+      frames = frames;
+      holds = holds;
+      levels = levels;
+      pinned = pinned;
+      caches = cold;
+      time = refl;
+    };
     all_domains = opened.all;
     each_domain = λ d x got.
         let within : d < length i.owns = omega (arith, slice_get_within domains d x got, opened.all) in
-        subst (Stands x) (sym (whole_first-dom i d (separated i r) within)) (opened.each d x got).stands;
-    each_estate = λ d x got. (opened.each d x got).has;
-    each_layout = λ d x got. (opened.each d x got).layout;
-    each_moments = λ d x got. (opened.each d x got).moments;
+        let is = opened.each d x got in
+        record {
+          dom = subst (Stands x) (sym (whole_first-dom i d (separated i r) within)) is.stands;
+          has = is.has;
+          layout = is.layout;
+          moments = is.moments;
+        };
     all_entries = all;
     each_entry = unused;
-    time = refl;
   }
 
 pub in_bounds_first : (p : Hardware) (memory : Contents) (system : SystemContents AnyPolicy) (domains : List Domain) (owns : List Own) (n : ℕ) (used : List Used)

@@ -1,5 +1,5 @@
 -- One slot, of the code's machine and of the definitions.
-use Rattle.std.proofs.Common.{◌≡◌, ℕ, suc, ◌+◌, ◌-◌, ◌<◌, ◌≤◌, List, [], ◌∷◌, ◌++◌, length, Option, Some, sym, ap, ap₂, subst, subst₂, ◌∙◌, arith, add-one}
+use Rattle.std.proofs.Common.{false, ◌≡◌, ℕ, suc, ◌+◌, ◌-◌, ◌<◌, ◌≤◌, List, [], ◌∷◌, ◌++◌, length, Option, Some, sym, ap, ap₂, subst, subst₂, ◌∙◌, arith, add-one}
 use Rattle.std.specs.List.{slice_get}
 use Rattle.std.proofs.Math.ListN.{set}
 use Rattle.std.proofs.lemmas.List.{length-set}
@@ -27,23 +27,25 @@ use Rattle.kernel_call.specs.declared.domain.Domain.{Domain}
 use Rattle.world_view.specs.Frames.{root_of}
 use Rattle.world_view.specs.Kernel.{estate, layout, no_dom}
 use Rattle.world_view.specs.Relations.{IsDomain}
-use Rattle.world_view.proofs.OpeningFacts.{kernel_of}
-use Rattle.world_view.proofs.FactsLaws.{all_facts}
-use Rattle.world_view.proofs.ResidencyLaws.{begun_resident}
-use Rattle.world_view.proofs.TableLaws.{root_is}
-use Rattle.world_view.proofs.TimeLaws.{on_time}
+use Rattle.world_view.proofs.opening.OpeningFacts.{kernel_of}
+use Rattle.world_view.proofs.facts.FactsLaws.{all_facts}
+use Rattle.world_view.proofs.facts.ResidencyLaws.{begun_resident}
+use Rattle.world_view.proofs.actions.TableLaws.{root_is}
+use Rattle.world_view.proofs.time.TimeLaws.{on_time}
 use Rattle.sched_table.specs.Schedule.{entry_of_slot, switch_entry, start, last_end, outgoing}
 use Rattle.world_view.specs.Event.{Storage}
-use Rattle.world_view.specs.Machine.{Local, stretch, clone_of, run_slot, whole, dom_of}
+use Rattle.world_view.specs.Machine.{caches_of, Local, stretch, clone_of, run_slot, whole, dom_of}
 use Rattle.image_check.specs.Laws.{Runnable}
-use Rattle.world_view.proofs.Separate.{separated}
-use Rattle.world_view.proofs.CodeLaws.{work, switch-doms, switch-storage, switch-caches, slot_begun, slot_over, run_slot-dom_same, run_slot-dom_other, run_slot-storage, run_slot-clock, run_slot-caches, run_slot-used}
+use Rattle.world_view.proofs.opening.Separate.{separated}
+use Rattle.world_view.proofs.steps.CodeLaws.{work, switch-doms, switch-storage, switch-caches, slot_begun, slot_over, run_slot-dom_same, run_slot-dom_other, run_slot-storage, run_slot-clock, run_slot-caches, run_slot-used}
 use Rattle.sched_table.specs.declared.schedule.Entry.{Entry}
 use Rattle.world_view.specs.declared.view.Used.{Used}
 use Rattle.domain_step.specs.Moves.{StandsIn, Moves}
 use Rattle.tp_machine.specs.Usage.{IsUsed, CountedUpTo}
-use Rattle.tp_machine.specs.Worlds.{Kept, kept, setting, KeepsBuffer, StandsFor, HaveFacts, StaysResident, IsInBounds}
-use Rattle.tp_machine.proofs.Switches.{clone_on, work_is, is_in_time, ended}
+use Rattle.tp_machine.specs.Worlds.{Kept, kept, setting_of, KeepsBuffer, StandsFor, HaveFacts, StaysResident, IsInBounds}
+use Rattle.tp_machine.proofs.Switches.{work_is, is_in_time, ended}
+use Rattle.domain_step.specs.Standing.{DomainStands}
+use Rattle.domain_step.proofs.Standing.{is_setting}
 use Rattle.domain_step.proofs.Counts.{counts_later}
 use Rattle.tp_machine.proofs.Elements.{each_set}
 
@@ -58,12 +60,12 @@ facts_at i r k s is d x domain got =
     let p = i.all.hardware in
     let o = own_of i d in
     let caps : (dom_of (whole i k) d).caps ≡ x.caps =
-    sym (ap (λ (m : Dom). m.caps) (is.each_domain d x got).same) in
+    sym (ap (λ (m : Dom). m.caps) (is.each_domain d x got).dom.same) in
     record {
       estate = (kernel_of i (separated i r) d domain).has_estate;
-      frames = sym is.frames;
-      has = is.each_estate d x got;
-      holds = is.holds;
+      frames = sym is.machine.frames;
+      has = (is.each_domain d x got).has;
+      holds = is.machine.holds;
       facts =
           subst (λ (slots : Slots). Facts (estate p o).root (is_mine (estate p o)) (claims (estate p o) slots) (whole i k).storage.mem)
           caps
@@ -97,15 +99,13 @@ pub record SlotEnd : Type 0 where
 abbrev pub kept_after : Kept → ℕ → SlotEnd → Kept
 kept_after s d z = kept z.memory z.system (set s.domains d z.domain) z.used z.clock
 
--- what the switch is given: how many lines are shared, when the last slot ended, and when the next begins
+-- what the switch is given: when the last slot ended, and when the next begins
 pub record SwitchTimes : Type 0 where
-  pub shared : ℕ
   pub old_end : ℕ
   pub until : ℕ
 
 -- they are those of slot k
 pub record AreTimes (i : Image) (k : ℕ) (t : SwitchTimes) : Type 0 where
-  pub shared : t.shared ≡ i.all.hardware.shared
   pub old_end : t.old_end ≡ last_end i.all.schedule k
   pub until : t.until ≡ start i.all.schedule k
 
@@ -119,7 +119,7 @@ pub record Switches (s : Kept) (t : SwitchTimes) (out : Option Layout) (into : L
       (touched_all (hierarchy_of any_rule s.system) s.system.core.pinned c
       (operations.switch s.system.core.costs out into))
   pub on_time : (c : Caches) → SystemStands any_stands_for s.system c
-      → IsInTime (hierarchy_of any_rule s.system) c t.shared t.old_end s.clock t.until
+      → IsInTime (hierarchy_of any_rule s.system) c into.shared t.old_end s.clock t.until
       → b.now ≡ t.until
   pub kept : (m : Mem) (frames root : ℕ) → KeepsLeaves m frames root b.system.core.tlb
 
@@ -141,20 +141,16 @@ pub record Begins (i : Image) (k : ℕ) (s : Kept) (b : SlotStart) : Type 0 wher
 -- what the switch asks, of the code's numbers
 module _ (i : Image) (r : Runnable i) (k : ℕ) (s : Kept) (is : StandsFor i k s) (t : SwitchTimes)
     (are : AreTimes i k t) where
-  pub in_time_here : IsInTime (hierarchy_of any_rule s.system) (whole i k).caches t.shared t.old_end s.clock t.until
-  in_time_here =
+  pub in_time_here : (l : Layout) → l ≡ layout i.all.hardware (own_of i (entry_of_slot i.all.schedule k).domain)
+      → IsInTime (hierarchy_of any_rule s.system) (caches_of 0 (whole i k)) l.shared t.old_end s.clock t.until
+  unfolding layout
+  in_time_here l same =
       let h = hierarchy_of any_rule s.system in
-      let c = (whole i k).caches in
-      subst (λ (n : ℕ). IsInTime h c n t.old_end s.clock t.until) (sym are.shared)
+      let c = caches_of 0 (whole i k) in
+      subst (λ (n : ℕ). IsInTime h c n t.old_end s.clock t.until) (sym (ap (λ (x : Layout). x.shared) same))
       (subst (λ (n : ℕ). IsInTime h c i.all.hardware.shared n s.clock t.until) (sym are.old_end)
       (subst (λ (n : ℕ). IsInTime h c i.all.hardware.shared (last_end i.all.schedule k) s.clock n) (sym are.until)
       (is_in_time i r k s is)))
-
-  pub clone_here : (d : ℕ) (x : Domain) → IsDomain i d → slice_get s.domains d ≡ Some x
-      → IsCloneOn (hierarchy_of any_rule s.system) t.shared x.layout
-  clone_here d x domain got =
-      subst (λ (n : ℕ). IsCloneOn (hierarchy_of any_rule s.system) n x.layout) (sym are.shared)
-      (clone_on i r k s is d x domain got)
 
   -- by its clauses: the clone that leaves, the domain that enters, and what was answered
   pub begins_here : (d : ℕ) (y : Domain) → slice_get s.domains d ≡ Some y
@@ -163,9 +159,9 @@ module _ (i : Image) (r : Runnable i) (k : ℕ) (s : Kept) (is : StandsFor i k s
       → (b : SlotStart) → Switches s t out (layout_model y.layout) b → Begins i k s b
   begins_here d y got enters out leaves b switches =
       let into : layout_model y.layout ≡ layout i.all.hardware (own_of i (entry_of_slot i.all.schedule k).domain) =
-      is.each_layout d y got ∙ ap (λ (n : ℕ). layout i.all.hardware (own_of i n)) enters in
+      (is.each_domain d y got).layout ∙ ap (λ (n : ℕ). layout i.all.hardware (own_of i n)) enters in
       let same = work_is i r k s is out (layout_model y.layout) leaves into in
-      let switched = switches.work (whole i k).caches is.caches in
+      let switched = switches.work (caches_of 0 (whole i k)) is.machine.caches in
       record {
         levels = switches.levels;
         pinned = switches.pinned;
@@ -175,7 +171,7 @@ module _ (i : Image) (r : Runnable i) (k : ℕ) (s : Kept) (is : StandsFor i k s
         leaves = switches.kept;
         used_is =
             switched.time ∙ ap₂ (λ (q : Touched) (n : ℕ). s.clock + q.cost - n) same are.old_end;
-        now_is = switches.on_time (whole i k).caches is.caches in_time_here ∙ are.until;
+        now_is = switches.on_time (caches_of 0 (whole i k)) is.machine.caches (in_time_here (layout_model y.layout) into) ∙ are.until;
       }
 
   pub ended_here : t.old_end ≤ s.clock
@@ -185,7 +181,7 @@ module _ (i : Image) (r : Runnable i) (k : ℕ) (s : Kept) (is : StandsFor i k s
     (got : slice_get s.domains (entry_of_slot i.all.schedule k).domain ≡ Some x) (b : SlotStart)
     (begins : Begins i k s b) where
   -- the code's domain as its slot begins
-  pub begun : StandsIn any_rule any_stands_for (setting i (entry_of_slot i.all.schedule k).domain) s.memory x b.system b.now (slot_begun i k (whole i k))
+  pub begun : StandsIn any_rule any_stands_for (setting_of i (entry_of_slot i.all.schedule k).domain) s.memory x b.system b.now (slot_begun i k (whole i k))
   begun =
       let w = whole i k in
       let p = i.all.hardware in
@@ -196,21 +192,22 @@ module _ (i : Image) (r : Runnable i) (k : ℕ) (s : Kept) (is : StandsFor i k s
       record {
         fits = record {
           kernel = kernel_of i (separated i r) d domain;
-          frames = sym is.frames;
-          levels = is.levels ∙ sym begins.levels;
-          pinned = begins.pinned ∙ is.pinned;
+          sound = is_setting p o false (kernel_of i (separated i r) d domain);
+          frames = sym is.machine.frames;
+          levels = is.machine.levels ∙ sym begins.levels;
+          pinned = begins.pinned ∙ is.machine.pinned;
         };
         dom =
             subst (λ m. Stands x (at no_dom m d)) (sym (switch-doms i k w))
-            (is.each_domain d x got);
+            (is.each_domain d x got).dom;
         facts =
             subst (λ (t : Storage). HasFacts (estate p o) s.memory t.mem x)
             (sym (switch-storage i k w)) (facts_at i r k s is d x domain got);
-        layout = is.each_layout d x got;
+        layout = (is.each_domain d x got).layout;
         leaves = begins.leaves now_at.storage.mem s.memory.frames x.map;
         caches =
             subst (SystemStands any_stands_for b.system) (sym (switch-caches i k w)) begins.caches;
-        moments = is.each_moments d x got;
+        moments = (is.each_domain d x got).moments;
         time = begins.now_is ∙ sym (on_time i (separated i r) k);
       }
 
@@ -221,7 +218,7 @@ module _ (i : Image) (r : Runnable i) (k : ℕ) (s : Kept) (is : StandsFor i k s
       abbrev pub Ran : ℕ → Type 0
       Ran length =
           Moves any_rule any_stands_for
-          (λ w. stretch w.machine w.own w.pinned (start i.all.schedule k + length)) s.memory x
+          (λ w. stretch w (start i.all.schedule k + length)) s.memory x
           b.system b.now z.memory z.domain z.system z.clock
 
       stands_after : Ran (entry_of_slot i.all.schedule k).length
@@ -232,53 +229,41 @@ module _ (i : Image) (r : Runnable i) (k : ℕ) (s : Kept) (is : StandsFor i k s
           let p = i.all.hardware in
           let e = entry_of_slot i.all.schedule k in
           let o = own_of i e.domain in
-          let over = ran (setting i e.domain) (slot_begun i k w) begun in
+          let over = ran (setting_of i e.domain) (slot_begun i k w) begun in
           let within = slice_get_within s.domains e.domain x got in
           let switches : (run_slot i k w).used ≡ w.used ++ (switch_entry i.all.schedule k, b.used) ∷ [] =
           run_slot-used i k w
           ∙ ap (λ n. w.used ++ (switch_entry i.all.schedule k, n) ∷ [])
-          (ap (λ n. n + (work i k w).cost - last_end i.all.schedule k) (sym is.time) ∙ sym begins.used_is) in
+          (ap (λ n. n + (work i k w).cost - last_end i.all.schedule k) (sym is.machine.time) ∙ sym begins.used_is) in
           let memory : Holds z.memory (run_slot i k w).storage.mem =
           subst (λ (t : Storage). Holds z.memory t.mem) (sym (run_slot-storage i k w))
           over.facts.holds in
           record {
-            frames = sym over.fits.frames;
-            holds = memory;
-            levels = over.fits.levels;
-            pinned = over.fits.pinned;
-            caches =
-                subst (SystemStands any_stands_for z.system) (sym (run_slot-caches i k w))
-                over.caches;
+            machine = record {
+              frames = sym over.fits.frames;
+              holds = memory;
+              levels = over.fits.levels;
+              pinned = over.fits.pinned;
+              caches =
+                  subst (SystemStands any_stands_for z.system) (sym (run_slot-caches i k w))
+                  over.caches;
+              time = over.time ∙ sym (run_slot-clock i k w);
+            };
             all_domains = length-set s.domains e.domain z.domain ∙ is.all_domains;
             each_domain =
-                each_set (λ j y. Stands y (dom_of w j)) (λ j y. Stands y (dom_of (run_slot i k w) j))
+                each_set (λ j y. DomainStands (setting_of i j) y (dom_of w j))
+                (λ j y. DomainStands (setting_of i j) y (dom_of (run_slot i k w) j))
                 s.domains e.domain z.domain within
-                (subst (Stands z.domain) (sym (run_slot-dom_same i k w)) over.dom)
-                (λ j y apart h. subst (Stands y) (sym (run_slot-dom_other i k w j apart)) h)
+                (record {
+                  dom = subst (Stands z.domain) (sym (run_slot-dom_same i k w)) over.dom;
+                  has = over.facts.has;
+                  layout = over.layout;
+                  moments = over.moments;
+                })
+                (λ j y apart. subst (DomainStands (setting_of i j) y) (sym (run_slot-dom_other i k w j apart)))
                 is.each_domain;
-            each_estate =
-                each_set (λ j y. Has (estate p (own_of i j)) y) (λ j y. Has (estate p (own_of i j)) y)
-                s.domains e.domain z.domain within
-                over.facts.has
-                (λ j y apart h. h)
-                is.each_estate;
-            each_layout =
-                each_set (λ j y. layout_model y.layout ≡ layout p (own_of i j))
-                (λ j y. layout_model y.layout ≡ layout p (own_of i j)) s.domains e.domain z.domain
-                within
-                over.layout
-                (λ j y apart h. h)
-                is.each_layout;
-            each_moments =
-                each_set (λ j y. y.interrupts.moments ≡ (own_of i j).moments)
-                (λ j y. y.interrupts.moments ≡ (own_of i j).moments) s.domains e.domain z.domain
-                within
-                over.moments
-                (λ j y apart h. h)
-                is.each_moments;
             all_entries = long ∙ is.all_entries;
             each_entry = subst (IsUsed z.used) (sym switches) (noted w.used is.each_entry);
-            time = over.time ∙ sym (run_slot-clock i k w);
           }
 
       -- what the buffer keeps are walks of this domain's tables
@@ -289,7 +274,7 @@ module _ (i : Image) (r : Runnable i) (k : ℕ) (s : Kept) (is : StandsFor i k s
           let w = whole i k in
           let p = i.all.hardware in
           let e = entry_of_slot i.all.schedule k in
-          let over = ran (setting i e.domain) (slot_begun i k w) begun in
+          let over = ran (setting_of i e.domain) (slot_begun i k w) begun in
           subst (λ (t : Storage). KeepsLeaves t.mem z.memory.frames (root_of p (own_of i e.domain)) z.system.core.tlb)
           (sym (run_slot-storage i k w))
           (subst (λ (root : ℕ). KeepsLeaves (slot_over i k w).storage.mem z.memory.frames root z.system.core.tlb) (over.facts.has.root ∙ root_is p (own_of i e.domain)) over.leaves)

@@ -1,24 +1,21 @@
 -- What the code's machine stands for.
 use Rattle.std.specs.Prelude.{◌≡◌, ℕ, zero, suc, ◌≤◌, false, List, length, slice_get, Some}
 use Rattle.phys_mem.specs.Contents.{Contents}
-use Rattle.phys_mem.specs.Holds.{Holds}
 use Rattle.repl_policy.specs.declared.AnyPolicy.{AnyPolicy}
-use Rattle.repl_policy.specs.Members.{any_rule, any_stands_for}
-use Rattle.kernel_clone.specs.Models.{layout_model}
-use Rattle.mem_system.specs.Contents.{SystemContents, SystemStands, hierarchy_of}
+use Rattle.mem_system.specs.Contents.{SystemContents}
 use Rattle.mem_system.specs.Translation.{KeepsLeaves}
 use Rattle.sched_table.specs.Schedule.{entry_of_slot}
 use Rattle.image_check.specs.Image.{Image, own_of}
 use Rattle.kernel_call.specs.declared.domain.Domain.{Domain}
-use Rattle.kernel_call.specs.Models.{Stands, CountsUpTo}
-use Rattle.kernel_call.specs.Facts.{Has, HasFacts}
+use Rattle.kernel_call.specs.Models.{CountsUpTo}
+use Rattle.kernel_call.specs.Facts.{HasFacts}
 use Rattle.world_view.specs.declared.view.Used.{Used}
 use Rattle.world_view.specs.Frames.{root_of}
-use Rattle.world_view.specs.Kernel.{estate, layout}
+use Rattle.world_view.specs.Kernel.{estate}
 use Rattle.world_view.specs.Cost.{hierarchy}
-use Rattle.world_view.specs.Machine.{switch, whole, dom_of}
+use Rattle.world_view.specs.Machine.{caches_of, clock_of, Setting, setting, switch, whole, dom_of}
 use Rattle.world_view.specs.Relations.{Resident}
-use Rattle.domain_step.specs.Kept.{Setting}
+use Rattle.domain_step.specs.Standing.{MachineStands, DomainStands}
 use Rattle.tp_machine.specs.Usage.{IsUsed, CountedUpTo}
 
 -- what the code's machine keeps
@@ -33,8 +30,8 @@ abbrev pub kept : Contents → SystemContents AnyPolicy → List Domain → List
 kept memory system domains used clock = record { memory = memory; system = system; domains = domains; used = used; clock = clock }
 
 -- domain d on the whole machine
-abbrev pub setting : Image → ℕ → Setting
-setting i d = record { machine = i.all.hardware; own = own_of i d; pinned = false }
+abbrev pub setting_of : Image → ℕ → Setting
+setting_of i d = setting i.all.hardware (own_of i d) false
 
 -- the leaves that the buffer keeps after a slot are walks of its domain's page tables, in memory as it is
 abbrev pub KeepsBuffer : Image → ℕ → Kept → Type 0
@@ -46,19 +43,13 @@ KeepsBuffer i (suc n) k =
 -- it stands for the whole machine after so many slots: memory, each set of each cache and of the buffer, the predictor's
 -- counters, each domain, what switches took, and the clock
 pub record StandsFor (i : Image) (slots : ℕ) (k : Kept) : Type 0 where
-  pub frames : k.memory.frames ≡ i.all.hardware.frames
-  pub holds : Holds k.memory (whole i slots).storage.mem
-  pub levels : hierarchy i.all.hardware ≡ hierarchy_of any_rule k.system
-  pub pinned : k.system.core.pinned ≡ false
-  pub caches : SystemStands any_stands_for k.system (whole i slots).caches
+  pub machine : MachineStands i.all.hardware (hierarchy i.all.hardware) false k.memory k.system k.clock
+      (whole i slots).storage (caches_of 0 (whole i slots)) (clock_of 0 (whole i slots))
   pub all_domains : length k.domains ≡ length i.owns
-  pub each_domain : (d : ℕ) (x : Domain) → slice_get k.domains d ≡ Some x → Stands x (dom_of (whole i slots) d)
-  pub each_estate : (d : ℕ) (x : Domain) → slice_get k.domains d ≡ Some x → Has (estate i.all.hardware (own_of i d)) x
-  pub each_layout : (d : ℕ) (x : Domain) → slice_get k.domains d ≡ Some x → layout_model x.layout ≡ layout i.all.hardware (own_of i d)
-  pub each_moments : (d : ℕ) (x : Domain) → slice_get k.domains d ≡ Some x → x.interrupts.moments ≡ (own_of i d).moments
+  pub each_domain : (d : ℕ) (x : Domain) → slice_get k.domains d ≡ Some x
+      → DomainStands (setting_of i d) x (dom_of (whole i slots) d)
   pub all_entries : length k.used ≡ length i.all.schedule
   pub each_entry : IsUsed k.used (whole i slots).used
-  pub time : k.clock ≡ (whole i slots).clock
 
 -- each domain has its facts, of its frames, capabilities and page tables, in this memory; and the buffer keeps what walks
 -- find there
@@ -69,7 +60,7 @@ pub record HaveFacts (i : Image) (slots : ℕ) (k : Kept) : Type 0 where
 
 -- as the next slot begins every shared line is in the second level
 abbrev pub StaysResident : Image → ℕ → Type 0
-StaysResident i slots = Resident i.all.hardware (switch i slots (whole i slots)).caches
+StaysResident i slots = Resident i.all.hardware (caches_of 0 (switch i slots (whole i slots)))
 
 -- so that no number is too large
 pub record IsInBounds (slots : ℕ) (k : Kept) : Type 0 where

@@ -9,9 +9,9 @@ use Rattle.world_view.specs.Used.{largest_of}
 use Rattle.tp_report.specs.Laws.{SaysWithinPad}
 use Rattle.tp_report.specs.Report.{switch_text, section_of, sections, switch_lines, end_text, report_with, report, report_apart}
 use Rattle.world_view.specs.Relations.{IsDomain, AllWithinPads}
-use Rattle.world_view.proofs.Separate.{Separated}
-use Rattle.world_view.proofs.TimeLaws.{largest_within}
-use Rattle.world_view.proofs.WholeLaws.{isolated}
+use Rattle.world_view.proofs.opening.Separate.{Separated}
+use Rattle.world_view.proofs.time.TimeLaws.{largest_within}
+use Rattle.world_view.proofs.runs.WholeLaws.{isolated}
 
 -- texts of numbers in turn are the same where each is
 same_texts : (f g : ℕ → List ℕ) (a n : ℕ) → ((x : ℕ) → x < a + n → f x ≡ g x) → flat_map f (range_with_len a n) ≡ flat_map g (range_with_len a n)

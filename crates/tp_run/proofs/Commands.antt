@@ -14,10 +14,10 @@ use Rattle.world_view.specs.Machine.{whole}
 use Rattle.world_view.specs.View.{view_whole}
 use Rattle.world_view.specs.Relations.{IsDomain}
 use Rattle.image_check.specs.Laws.{Runnable}
-use Rattle.world_view.proofs.Separate.{separated}
+use Rattle.world_view.proofs.opening.Separate.{separated}
 use Rattle.world_view.proofs.ReadingLaws.{read_runs}
-use Rattle.world_view.proofs.WholeLaws.{isolated}
-use Rattle.world_view.proofs.TimeLaws.{used_within, on_time, largest_within}
+use Rattle.world_view.proofs.runs.WholeLaws.{isolated}
+use Rattle.world_view.proofs.time.TimeLaws.{used_within, on_time, largest_within}
 use Rattle.image_gen.specs.Text.{text as generated_text}
 use Rattle.image_gen.proofs.Kept.{accepted_law}
 use Rattle.tp_report.specs.Texts.{section}

@@ -14,7 +14,7 @@ use Rattle.image_check.specs.Pads.{shape_of}
 use Rattle.image_check.specs.Image.{Image, own_of, image_from}
 use Rattle.world_view.specs.Reading.{most_bytes, image}
 use Rattle.sched_table.specs.Schedule.{entry_in, start}
-use Rattle.world_view.specs.Machine.{switch, whole}
+use Rattle.world_view.specs.Machine.{clock_of, switch, whole}
 use Rattle.world_view.specs.View.{view_whole, view_alone}
 use Rattle.world_view.specs.Relations.{IsDomain, AllWithinPads}
 use Rattle.world_view.specs.Used.{largest_of}
@@ -132,7 +132,7 @@ pub record Padded (slots : ℕ) (left left' : Option (List ℕ)) : Type 0 where
   pub ran : ReadsImage left left'
   pub used : AllWithinPads ran.found.all.schedule (whole ran.found slots).used
   pub lines : (e : ℕ) → largest_of e (whole ran.found slots).used ≤ (entry_in ran.found.all.schedule e).pad
-  pub starts : (k : ℕ) → (switch ran.found k (whole ran.found k)).clock ≡ start ran.found.all.schedule k
+  pub starts : (k : ℕ) → clock_of 0 (switch ran.found k (whole ran.found k)) ≡ start ran.found.all.schedule k
 
 -- ---- a domain alone
 

@@ -23,7 +23,7 @@ use Rattle.world_view.specs.Kernel.{estate, layout}
 use Rattle.world_view.specs.Cost.{hierarchy}
 use Rattle.world_view.specs.Event.{place, instruction, delivery_touches, Event, event}
 use Rattle.world_view.specs.Event.Event.{Jump, Deliver, Run}
-use Rattle.world_view.specs.Machine.{Local, step}
+use Rattle.world_view.specs.Machine.{setting, Local, step}
 use Rattle.world_view.specs.Relations.{IsDomain, HasFacts, MayAll}
 use Rattle.world_view.specs.Laws.{local_in}
 use Rattle.world_view.specs.Interrupts.{owner}
@@ -43,7 +43,7 @@ step_touches p o end s = event_touches p o s (event o s.clock end s.dom)
 -- they are all that a step does to the caches
 abbrev pub StepTouchesLaw : Type 0
 StepTouchesLaw = (p : Hardware) (o : Own) (pinned : Bool) (end : ℕ) (s : Local)
-    → (step p o pinned end s).caches
+    → (step (setting p o pinned) end s).caches
     ≡ (touched_all (hierarchy p) pinned s.caches (step_touches p o end s)).caches
 
 -- where the domain's facts hold, each is of a line of the domain's own, or a load of a shared line
@@ -69,7 +69,7 @@ EndsBy p now end Run later = later ≤ now + (worst_instruction (shape_of p) + w
 
 abbrev pub StepCostLaw : Type 0
 StepCostLaw = (p : Hardware) (o : Own) (pinned : Bool) (end : ℕ) (s : Local) → HasWays (hierarchy p) s.caches
-    → EndsBy p s.clock end (event o s.clock end s.dom) (step p o pinned end s).clock
+    → EndsBy p s.clock end (event o s.clock end s.dom) (step (setting p o pinned) end s).clock
 
 -- the instruction that a walk's leaf leads to, where it found one
 abbrev pub instruction_at : Mem → ℕ → Result ℕ WalkFault → Option Instr
@@ -86,7 +86,7 @@ next_instruction p o d m =
 abbrev pub PlainCostLaw : Type 0
 PlainCostLaw = (p : Hardware) (o : Own) (pinned : Bool) (end : ℕ) (s : Local) → HasWays (hierarchy p) s.caches
     → event o s.clock end s.dom ≡ Run → next_instruction p o s.dom s.storage.mem ≢ Some Ecall
-    → (step p o pinned end s).clock ≤ s.clock + worst_instruction (shape_of p)
+    → (step (setting p o pinned) end s).clock ≤ s.clock + worst_instruction (shape_of p)
 
 -- at each moment of each slot the caches have their ways, so each step costs no more
 abbrev pub SlotCostLaw : Type 0

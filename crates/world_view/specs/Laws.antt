@@ -23,7 +23,7 @@ use Rattle.world_view.specs.Cost.{hierarchy}
 use Rattle.call_table.specs.Laws.{found_at}
 use Rattle.call_table.specs.Rights.{MayReach}
 use Rattle.world_view.specs.Kernel.{estate, layout, frames_for_good}
-use Rattle.world_view.specs.Machine.{Local, World, step, steps, dom_of, part_of, with_part, clone_of, leave_part, enter_part, prefetch_part, flush_part, switch_work, switch, whole, alone_enter, alone_out}
+use Rattle.world_view.specs.Machine.{caches_of, clock_of, setting, Local, World, step, steps, dom_of, part_of, with_part, clone_of, leave_part, enter_part, prefetch_part, flush_part, switch_work, switch, whole, alone_enter, alone_out}
 use Rattle.world_view.specs.View.{view_whole, view_alone}
 use Rattle.world_view.specs.Used.{largest_of}
 use Rattle.image_check.specs.Laws.{Runnable}
@@ -50,7 +50,7 @@ abbrev pub LargestLaw : Type 0
 LargestLaw = (i : Image) (n e : ℕ) → Runnable i → largest_of e (whole i n).used ≤ (entry_in i.all.schedule e).pad
 
 abbrev pub StartLaw : Type 0
-StartLaw = (i : Image) (k : ℕ) → Runnable i → (switch i k (whole i k)).clock ≡ start i.all.schedule k
+StartLaw = (i : Image) (k : ℕ) → Runnable i → clock_of 0 (switch i k (whole i k)) ≡ start i.all.schedule k
 
 abbrev pub InTimeLaw : Type 0
 InTimeLaw = (i : Image) (k : ℕ) → Runnable i → InTime i k (whole i k)
@@ -59,18 +59,18 @@ InTimeLaw = (i : Image) (k : ℕ) → Runnable i → InTime i k (whole i k)
 abbrev pub local_in : Image → ℕ → ℕ → Local
 local_in i k n =
     let d = (entry_of_slot i.all.schedule k).domain in
-    steps i.all.hardware (own_of i d) false (slot_end i.all.schedule k) n (part_of d (switch i k (whole i k)))
+    steps (setting i.all.hardware (own_of i d) false) (slot_end i.all.schedule k) n (part_of 0 d (switch i k (whole i k)))
 
 -- the clock as the work of switch k is done, before the wait
 abbrev pub clock_after_work : Image → ℕ → ℕ
 clock_after_work i k =
     let w = whole i k in
     let es = i.all.schedule in
-    w.clock + (switch_work i (outgoing es k) (entry_of_slot es k).domain w.caches).cost
+    clock_of 0 w + (switch_work i (outgoing es k) (entry_of_slot es k).domain (caches_of 0 w)).cost
 
 -- every clock of slot k and of the switch into it is far from the end of its range
 pub record ClocksFit (i : Image) (k : ℕ) : Type 0 where
-  pub before : (whole i k).clock < 2 ^ 62
+  pub before : clock_of 0 (whole i k) < 2 ^ 62
   pub worked : clock_after_work i k < 2 ^ 62
   pub begins : start i.all.schedule k < 2 ^ 62
   pub ends : slot_end i.all.schedule k < 2 ^ 62
@@ -149,7 +149,7 @@ PoolPartsLaw = (i : Image) (d : ℕ) → Runnable i → IsDomain i d →
 
 -- slot k, after so many of its steps
 abbrev pub world_in : Image → ℕ → ℕ → World
-world_in i k n = with_part (entry_of_slot i.all.schedule k).domain (switch i k (whole i k)) (local_in i k n)
+world_in i k n = with_part 0 (entry_of_slot i.all.schedule k).domain (switch i k (whole i k)) (local_in i k n)
 
 -- at each moment of each slot, whoever runs, the facts of each domain hold: each frame of its pool is free, kept for good, or
 -- named by its capabilities, and its page tables are what these say
@@ -197,7 +197,7 @@ ReadingLaw = (bytes : List ℕ) (i : Image) → image bytes ≡ Ok i → Runnabl
 
 -- one event of domain e, in a slot that ends then
 unfoldable pub event_of : Image → ℕ → ℕ → World → World
-event_of i e end w = with_part e w (step i.all.hardware (own_of i e) false end (part_of e w))
+event_of i e end w = with_part 0 e w (step (setting i.all.hardware (own_of i e) false) end (part_of 0 e w))
 
 -- another domain's event leaves domain d, its memory and its part of the caches
 abbrev pub OthersStepLaw : Type 0
@@ -226,36 +226,36 @@ FlushLaw = (i : Image) (d : ℕ) (c : Caches) → Runnable i → IsDomain i d
 -- the domain's own step, from states that are beside: at equal cost, since the clocks stay equal
 abbrev pub OwnStepLaw : Type 0
 OwnStepLaw = (p : Hardware) (o : Own) (end : ℕ) (first s a : Local) → Beside p o first s a
-    → Beside p o first (step p o false end s) (step p o true end a)
+    → Beside p o first (step (setting p o false) end s) (step (setting p o true) end a)
 
 -- a switch from d to another
 abbrev pub SwitchOutLaw : Type 0
 SwitchOutLaw = (i : Image) (k d : ℕ) (w : World) (a : Local) → Runnable i → IsDomain i d
     → outgoing i.all.schedule k ≡ Some d → (entry_of_slot i.all.schedule k).domain ≢ d
-    → Within i.all.hardware (own_of i d) (part_of d w) a
-    → Apiece i.all.hardware (own_of i d) (part_of d (switch i k w)) (alone_out i.all.hardware (own_of i d) a)
+    → Within i.all.hardware (own_of i d) (part_of 0 d w) a
+    → Apiece i.all.hardware (own_of i d) (part_of 0 d (switch i k w)) (alone_out i.all.hardware (own_of i d) a)
 
 -- a switch from another, or from nobody, to d
 abbrev pub SwitchInLaw : Type 0
 SwitchInLaw = (i : Image) (k d : ℕ) (w : World) (a : Local) → Runnable i → IsDomain i d → InTime i k w
     → outgoing i.all.schedule k ≢ Some d → (entry_of_slot i.all.schedule k).domain ≡ d
-    → Apiece i.all.hardware (own_of i d) (part_of d w) a
-    → Within i.all.hardware (own_of i d) (part_of d (switch i k w)) (alone_enter i.all (own_of i d) k a)
+    → Apiece i.all.hardware (own_of i d) (part_of 0 d w) a
+    → Within i.all.hardware (own_of i d) (part_of 0 d (switch i k w)) (alone_enter i.all (own_of i d) k a)
 
 -- a switch from d to d
 abbrev pub SwitchBothLaw : Type 0
 SwitchBothLaw = (i : Image) (k d : ℕ) (w : World) (a : Local) → Runnable i → IsDomain i d → InTime i k w
     → outgoing i.all.schedule k ≡ Some d → (entry_of_slot i.all.schedule k).domain ≡ d
-    → Within i.all.hardware (own_of i d) (part_of d w) a
-    → Within i.all.hardware (own_of i d) (part_of d (switch i k w))
+    → Within i.all.hardware (own_of i d) (part_of 0 d w) a
+    → Within i.all.hardware (own_of i d) (part_of 0 d (switch i k w))
     (alone_enter i.all (own_of i d) k (alone_out i.all.hardware (own_of i d) a))
 
 -- a switch between others
 abbrev pub SwitchPastLaw : Type 0
 SwitchPastLaw = (i : Image) (k d : ℕ) (w : World) (a : Local) → Runnable i → IsDomain i d
     → outgoing i.all.schedule k ≢ Some d → (entry_of_slot i.all.schedule k).domain ≢ d
-    → Apiece i.all.hardware (own_of i d) (part_of d w) a
-    → Apiece i.all.hardware (own_of i d) (part_of d (switch i k w)) a
+    → Apiece i.all.hardware (own_of i d) (part_of 0 d w) a
+    → Apiece i.all.hardware (own_of i d) (part_of 0 d (switch i k w)) a
 
 -- from the boot on, at each moment of each slot, every shared line is in the second level
 abbrev pub ResidencyLaw : Type 0
@@ -265,7 +265,7 @@ ResidencyLaw = (i : Image) (k n : ℕ) → Runnable i → Resident i.all.hardwar
 
 -- before the boot no set of the second level keeps a line
 abbrev pub EmptyLaw : Type 0
-EmptyLaw = (i : Image) (s way : ℕ) → kept_at (hierarchy i.all.hardware) (whole i 0).caches.l2 s way ≡ None
+EmptyLaw = (i : Image) (s way : ℕ) → kept_at (hierarchy i.all.hardware) (caches_of 0 (whole i 0)).l2 s way ≡ None
 
 -- all that switch k touches, in order
 abbrev pub switch_touches : Image → ℕ → List Touch
@@ -277,12 +277,12 @@ switch_touches i k =
 -- the caches in the midst of switch k, after so many of its touches
 abbrev pub caches_in_switch : Image → ℕ → ℕ → Caches
 caches_in_switch i k n =
-    (touched_all (hierarchy i.all.hardware) false (whole i k).caches (take n (switch_touches i k))).caches
+    (touched_all (hierarchy i.all.hardware) false (caches_of 0 (whole i k)) (take n (switch_touches i k))).caches
 
 -- after all of them the slot begins
 abbrev pub AfterSwitchLaw : Type 0
 AfterSwitchLaw = (i : Image) (k : ℕ) → Runnable i
-    → caches_in_switch i k (length (switch_touches i k)) ≡ (switch i k (whole i k)).caches
+    → caches_in_switch i k (length (switch_touches i k)) ≡ caches_of 0 (switch i k (whole i k))
 
 -- at each moment of each switch, from the boot on, the sets of colour 0 keep shared lines alone
 abbrev pub SwitchAloneLaw : Type 0

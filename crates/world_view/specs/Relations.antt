@@ -23,7 +23,7 @@ use Rattle.sched_table.specs.Schedule.{last_end}
 use Rattle.world_view.specs.Cost.{hierarchy, region, own_colour}
 use Rattle.image_check.specs.Pads.{shape_of}
 use Rattle.world_view.specs.Event.{Storage}
-use Rattle.world_view.specs.Machine.{Local, World, dom_of}
+use Rattle.world_view.specs.Machine.{caches_of, clock_of, Local, World, dom_of}
 
 -- ---- what an accepted image gives
 
@@ -139,16 +139,16 @@ pub record Apiece (p : Hardware) (o : Own) (s a : Local) : Type 0 where
 pub record Untouched (p : Hardware) (o : Own) (d : ℕ) (later w : World) : Type 0 where
   pub dom : dom_of later d ≡ dom_of w d
   pub frames : SameFrames p o later.storage.mem w.storage.mem
-  pub sets : SameSets p o later.caches w.caches
+  pub sets : SameSets p o (caches_of 0 later) (caches_of 0 w)
 
 -- ---- time
 
 -- before switch k the clock is at the last slot's end, or past it by less than the largest step; and the caches have their
 -- ways
 pub record InTime (i : Image) (k : ℕ) (w : World) : Type 0 where
-  pub over : last_end i.all.schedule k ≤ w.clock
-  pub soon : w.clock < last_end i.all.schedule k + largest_step i.all.hardware
-  pub ways : HasWays (hierarchy i.all.hardware) w.caches
+  pub over : last_end i.all.schedule k ≤ clock_of 0 w
+  pub soon : clock_of 0 w < last_end i.all.schedule k + largest_step i.all.hardware
+  pub ways : HasWays (hierarchy i.all.hardware) (caches_of 0 w)
 
 -- each switch's cycles are at most its entry's pad
 abbrev pub AllWithinPads : List Entry → List (ℕ × ℕ) → Type 0

@@ -62,7 +62,7 @@ impl<'a> Machine<'a> {
         requires slots { self.old.slots < 65536 }
         ensures slots { self.new.slots ≡ self.old.slots + 1 }
         ensures image { self.new.image.now ≡ self.old.image.now }
-        ensures begins { (spec.switch (image_of self.old) self.old.slots (world_of self.old)).clock
+        ensures begins { spec.clock_of 0 (spec.switch (image_of self.old) self.old.slots (world_of self.old))
             ≡ schedule.start (image_of self.old).all.schedule self.old.slots }
     {
         let entry = self.next_entry();
@@ -75,7 +75,6 @@ impl<'a> Machine<'a> {
             &mut self.system,
             out.as_ref(),
             &self.domains[d].layout,
-            public.hardware.shared,
             last_end,
             self.clock,
             start,
@@ -96,8 +95,7 @@ impl<'a> Machine<'a> {
     fn outgoing(&self) -> Option<CloneLayout>
         ensures clone { option_map layout_model result ≡ spec.clone_of (image_of self.now)
             (schedule.outgoing (image_of self.now).all.schedule self.now.slots) }
-        ensures on { IfSome result (IsCloneOn (hierarchy_of any_rule self.now.system)
-            (image_of self.now).all.hardware.shared) }
+        ensures on { IfSome result (IsCloneOn (hierarchy_of any_rule self.now.system)) }
     {
         if self.slots == 0 {
             return None;

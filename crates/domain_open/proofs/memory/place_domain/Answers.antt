@@ -4,7 +4,7 @@ use Rattle.phys_mem.specs.Holds.{Holds}
 use Rattle.hardware_check.specs.Models.{hardware_model}
 use Rattle.image_check.specs.Models.{own_model}
 use Rattle.world_view.specs.Opening.{tabled, root_entry, root_placed, placed}
-use Rattle.world_view.proofs.OpeningLaws.{at-tabled}
+use Rattle.world_view.proofs.opening.OpeningLaws.{at-tabled}
 use Rattle.domain_open.proofs.memory.place_domain.Goals as goal
 
 pub returns-clause-placed : goal.returns-clause-placed

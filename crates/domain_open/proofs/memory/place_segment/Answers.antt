@@ -6,7 +6,7 @@ use Rattle.hardware_check.specs.Models.{hardware_model}
 use Rattle.image_check.specs.Models.{own_model}
 use Rattle.world_view.specs.Frames.{page_frame}
 use Rattle.world_view.specs.Opening.{page_words, pages_placed}
-use Rattle.world_view.proofs.CodeLaws.{at-page_words}
+use Rattle.world_view.proofs.steps.CodeLaws.{at-page_words}
 use Rattle.domain_open.proofs.Loading.{take_front, drop_front, finished, went_on, no_page, one_page}
 use Rattle.domain_open.proofs.memory.place_segment.Goals as goal
 

@@ -5,7 +5,7 @@ use Rattle.hardware_check.specs.Models.{hardware_model}
 use Rattle.image_check.specs.Models.{own_model}
 use Rattle.image_check.specs.Pages.{has_region}
 use Rattle.world_view.specs.Opening.{tabled, leaf_entry, tables_placed}
-use Rattle.world_view.proofs.OpeningLaws.{at-tabled}
+use Rattle.world_view.proofs.opening.OpeningLaws.{at-tabled}
 use Rattle.domain_open.proofs.Loading.{tables_more, tables_same}
 use Rattle.domain_open.proofs.memory.place_table.Goals as goal
 

@@ -13,7 +13,7 @@ use Rattle.kernel_clone.specs.Models.{layout_model}
 use Rattle.kernel_call.specs.declared.domain.Domain.{Domain}
 use Rattle.kernel_call.specs.Models.{IsNew}
 use Rattle.world_view.specs.Frames.{pool, clone_frames}
-use Rattle.world_view.proofs.Parts.{drop_twice}
+use Rattle.world_view.proofs.opening.Parts.{drop_twice}
 use Rattle.domain_open.specs.Giving.{slots_after, unnamed}
 use Rattle.domain_open.specs.Placing.{AreZeroed, used_frames, IsOpened}
 use Rattle.domain_open.proofs.PoolReads.{frames_few}

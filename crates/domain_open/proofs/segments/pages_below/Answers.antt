@@ -1,6 +1,6 @@
 use Rattle.std.proofs.Common.{◌≡◌, ◌<◌, ◌≤◌, ◌-◌, min, length, map, get_or, rules, arith}
 use Rattle.image_check.specs.Models.{segment_model}
-use Rattle.world_view.proofs.Counts.{pages_most}
+use Rattle.world_view.proofs.opening.Counts.{pages_most}
 use Rattle.domain_open.proofs.Pages.{below_more, below_none}
 use Rattle.domain_open.proofs.segments.pages_below.Goals as goal
 

@@ -18,4 +18,5 @@ returns c = record {
       let few = g.readings in
       record { retired = g.retired; readings = omega (arith, few); replies = g.replies };
   keeps = c.retire-2.ensures.keeps;
+  goes_on = c.retire-2.ensures.goes_on;
 }

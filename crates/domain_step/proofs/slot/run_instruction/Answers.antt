@@ -1,7 +1,7 @@
 use Rattle.std.proofs.Common.{◌+◌, Some, sym, ap, refl, ◌∙◌, arith}
 use Rattle.rv_core.specs.declared.exception.Exception.TheVariants as exception
 use Rattle.kernel_call.specs.Models.{dom_model}
-use Rattle.world_view.specs.Kernel.{estate, layout}
+use Rattle.world_view.specs.Kernel.{estate}
 use Rattle.world_view.specs.Event.{instruction}
 use Rattle.domain_step.specs.Kept.{KeptOf}
 use Rattle.domain_step.proofs.Points.{Point, Side, KeptParts}
@@ -34,7 +34,7 @@ returns-in-Err-clause-leaves g c w s r readings replies k h q =
     let top = c.root-root.ensures.value in
     let missed = c.in-Err.ensures.finds w old.caps p.dom s r (kept_in rule stands p first k top) in
     left_whole rule stands p first k top last c.stop.ensures.keeps refl
-    (instruction w.machine (estate w.machine w.own) (layout w.machine w.own) p.clock p.dom)
+    (instruction w.machine (estate w.machine w.own) w.clone p.clock p.dom)
     (instruction_missed p last.domain (is_root rule stands p first k top)
     (KeptParts rule stands p old.caps last) c.in-Err.trap missed (c.stop.ensures.becomes readings replies h q))
 
@@ -84,7 +84,7 @@ returns-in_default-clause-leaves g c w s r readings replies k h q =
       spent = f.spent + f.cycles;
     } in
     left_whole rule stands p first k top last c.stop-in_default.ensures.keeps refl
-    (instruction w.machine (estate w.machine w.own) (layout w.machine w.own) p.clock p.dom)
+    (instruction w.machine (estate w.machine w.own) w.clone p.clock p.dom)
     (instruction_undefined p last.domain (is_root rule stands p first k top) rule stands f is
     (record { exception = exception.IllegalInstruction; value = f.word }) refl (sym c.in_default.ensures.value)
     (c.stop-in_default.ensures.becomes readings replies h q))
@@ -183,7 +183,7 @@ returns-in_default-instr g c = record {
         spent = c.execute.new.spent;
       } in
       left_whole rule stands p first k top last c.execute.ensures.keeps c.execute.ensures.frames
-      (instruction w.machine (estate w.machine w.own) (layout w.machine w.own) p.clock p.dom)
+      (instruction w.machine (estate w.machine w.own) w.clone p.clock p.dom)
       (instruction_executed p last.domain (is_root rule stands p first k top) rule stands f is c.in-Some.instr
       (KeptParts rule stands p old.caps last) (sym c.in-Some.ensures.value)
       c.in_default-instr.not-Ecall
@@ -195,5 +195,6 @@ returns-in_default-instr g c = record {
     replies = let few = c.execute.ensures.grows.replies in omega (arith, few);
   };
   moments = c.execute.ensures.keeps.moments;
+  goes_on = c.execute.ensures.goes_on;
   few = omega (arith, c.execute.ensures.few, c.in-Ok.ensures.few, c.fetch.ensures.few);
 }

@@ -7,7 +7,7 @@ use Rattle.cache_sharing.specs.Operations.{plain}
 use Rattle.world_view.specs.Event.{idle_until}
 use Rattle.world_view.specs.Machine.{step}
 use Rattle.domain_step.proofs.Counts.{counts_later}
-use Rattle.domain_step.proofs.Moved.{due_line, due_left, idle_later, moves_running, moves_due, moves_idle, moves_still, not_running, runs_on, hierarchy_stays, pinned_stays}
+use Rattle.domain_step.proofs.Moved.{due_line, due_left, idle_later, moves_due, moves_idle, moves_still, not_running, runs_on}
 use Rattle.domain_step.proofs.slot.step.Goals as goal
 
 none_left : (o : Option ℕ) → ((x : ℕ) → o ≢ Some x) → o ≡ None
@@ -26,7 +26,7 @@ returns-in_default g c =
       hierarchy = refl;
       pinned = refl;
       runs = runs_on g.P.Policy.rule g.P.Policy.stands_for c.args.end c.args.memory.now c.args.memory.now c.args.domain.now c.args.domain.now c.args.system.now c.args.system.now
-          (λ w. step w.machine w.own w.pinned c.args.end) c.args.now c.args.end still c.requires.runs;
+          (λ w. step w c.args.end) c.args.now c.args.end still c.requires.runs;
       few = counts_later c.args.now c.args.end c.args.domain.now (omega (arith, c.requires.before)) c.requires.few;
       later = c.requires.before;
       soon = omega arith;
@@ -52,7 +52,7 @@ returns-in-Some-clause-becomes g c =
 pub returns-in-Some-clause-runs : goal.returns-in-Some-clause-runs
 returns-in-Some-clause-runs g c =
     runs_on g.P.Policy.rule g.P.Policy.stands_for c.args.end c.args.memory.now c.args.memory.now c.args.domain.now c.deliver_due.new.domain c.args.system.now c.deliver_due.new.system
-    (λ w. step w.machine w.own w.pinned c.args.end) c.args.now _ (returns-in-Some-clause-becomes g c) c.requires.runs
+    (λ w. step w c.args.end) c.args.now _ (returns-in-Some-clause-becomes g c) c.requires.runs
 
 -- ---- no thread is ready
 
@@ -67,7 +67,7 @@ returns-then-not-is_ready-clause-becomes g c =
 pub returns-then-not-is_ready-clause-runs : goal.returns-then-not-is_ready-clause-runs
 returns-then-not-is_ready-clause-runs g c =
     runs_on g.P.Policy.rule g.P.Policy.stands_for c.args.end c.args.memory.now c.args.memory.now c.args.domain.now c.args.domain.now c.args.system.now c.args.system.now
-    (λ w. step w.machine w.own w.pinned c.args.end) c.args.now _ (returns-then-not-is_ready-clause-becomes g c) c.requires.runs
+    (λ w. step w c.args.end) c.args.now _ (returns-then-not-is_ready-clause-becomes g c) c.requires.runs
 
 pub returns-then-not-is_ready-clause-later : goal.returns-then-not-is_ready-clause-later
 returns-then-not-is_ready-clause-later g c =
@@ -84,31 +84,12 @@ returns-then-not-is_ready-clause-few g c =
 
 -- ---- an instruction
 
+pub run-requires-clause-plain : goal.run-requires-clause-plain
+run-requires-clause-plain g c = record {
+  running = c.in-Running.is;
+  ready = sym c.is_ready.ensures.ready ∙ c.if-not-is_ready.false;
+  none = sym c.due.ensures.due ∙ none_left c.due.result c.in_default-due.not-Some;
+}
+
 pub returns-clause-becomes : goal.returns-clause-becomes
-returns-clause-becomes g c =
-    let new = c.run_instruction.new in
-    let none : due c.args.now c.args.domain.now.interrupts ≡ None = sym c.due.ensures.due ∙ none_left c.due.result c.in_default-due.not-Some in
-    let ready : is_ready c.args.domain.now.threads.active.state ≡ true = sym c.is_ready.ensures.ready ∙ c.if-not-is_ready.false in
-    moves_running g.P.Policy.rule g.P.Policy.stands_for c.args.end c.args.memory.now new.memory c.args.domain.now new.domain c.args.system.now new.system
-    c.args.now (c.args.now + c.from-2.result + c.from-3.result) c.from-2.result new.spent
-    c.in-Running.is c.run_instruction.ensures.leaves none ready c.run_instruction.ensures.moments
-    (c.from-2.ensures ∙ ap (λ (t : CostTable). t.base) c.costs.ensures.table)
-    (ap (λ n. c.args.now + c.from-2.result + n) c.from-3.ensures)
-
-pub returns-clause-hierarchy : goal.returns-clause-hierarchy
-returns-clause-hierarchy g c =
-    let new = c.run_instruction.new in
-    hierarchy_stays g.P.Policy.rule g.P.Policy.stands_for c.args.end c.args.memory.now new.memory c.args.domain.now new.domain c.args.system.now new.system
-    (λ w. step w.machine w.own w.pinned c.args.end) c.args.now _ (returns-clause-becomes g c) c.requires.runs
-
-pub returns-clause-pinned : goal.returns-clause-pinned
-returns-clause-pinned g c =
-    let new = c.run_instruction.new in
-    pinned_stays g.P.Policy.rule g.P.Policy.stands_for c.args.end c.args.memory.now new.memory c.args.domain.now new.domain c.args.system.now new.system
-    (λ w. step w.machine w.own w.pinned c.args.end) c.args.now _ (returns-clause-becomes g c) c.requires.runs
-
-pub returns-clause-runs : goal.returns-clause-runs
-returns-clause-runs g c =
-    let new = c.run_instruction.new in
-    runs_on g.P.Policy.rule g.P.Policy.stands_for c.args.end c.args.memory.now new.memory c.args.domain.now new.domain c.args.system.now new.system
-    (λ w. step w.machine w.own w.pinned c.args.end) c.args.now _ (returns-clause-becomes g c) c.requires.runs
+returns-clause-becomes g c = c.run.ensures.becomes c.args.end

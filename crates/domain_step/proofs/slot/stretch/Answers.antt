@@ -1,32 +1,65 @@
-use Rattle.std.proofs.Common.{◌<◌, ℕ, ap, subst, ◌∙◌, arith}
+use Rattle.std.proofs.Common.{◌<◌, ℕ, ap, sym, subst, ◌∙◌, arith}
 use Rattle.cycle_cost.specs.Costs.{CostTable}
-use Rattle.domain_step.proofs.Moved.{goes_on, moves_over}
+use Rattle.mem_system.specs.Hierarchy.{Hierarchy}
+use Rattle.domain_step.proofs.Moved.{along_then, along_step, along_over}
 use Rattle.domain_step.proofs.slot.stretch.Goals as goal
+
+pub loop-clock-preserved-then-clock-until : goal.loop-clock-preserved-then-clock-until
+loop-clock-preserved-then-clock-until g c =
+    let here = c.loop-clock in
+    let inv = here.invariant in
+    let ran = c.run_plain-clock in
+    let within = c.plain_until-until.ensures.within in
+    record {
+      few = ran.ensures.few;
+      soon = λ h. omega (arith, ran.ensures.soon, within);
+      still = λ h. absurd (omega (arith, h, inv.still h, c.loop-clock-test.true));
+      frames = ran.ensures.frames ∙ inv.frames;
+      hierarchy = ran.ensures.hierarchy ∙ inv.hierarchy;
+      pinned = ran.ensures.pinned ∙ inv.pinned;
+      runs = ran.ensures.runs;
+      so_far =
+          along_then g.P.Policy.rule g.P.Policy.stands_for c.args.end c.args.memory.now here.memory ran.new.memory
+          c.args.domain.now here.domain ran.new.domain c.args.system.now here.system ran.new.system
+          c.args.now here.clock ran.result inv.so_far (ran.ensures.along c.args.end within);
+    }
 
 pub loop-clock-preserved : goal.loop-clock-preserved
 loop-clock-preserved g c =
-    let base : 0 < c.args.system.now.core.costs.base =
-    subst (λ (n : ℕ). 0 < n) (ap (λ (t : CostTable). t.base) c.costs-costs.ensures.table) c.costs-costs.result.base_range.some in
-    let trap : 0 < c.args.system.now.core.costs.trap =
-    subst (λ (n : ℕ). 0 < n) (ap (λ (t : CostTable). t.trap) c.costs-costs.ensures.table) c.costs-costs.result.trap_range.some in
+    let here = c.loop-clock in
+    let inv = here.invariant in
+    let next = c.step-clock in
+    let costs = c.costs-costs in
+    let base : 0 < here.system.core.costs.base =
+    subst (λ (n : ℕ). 0 < n)
+    (ap (λ (t : CostTable). t.base) costs.ensures.table ∙ sym (ap (λ (h : Hierarchy). h.costs.base) inv.hierarchy))
+    costs.result.base_range.some in
+    let trap : 0 < here.system.core.costs.trap =
+    subst (λ (n : ℕ). 0 < n)
+    (ap (λ (t : CostTable). t.trap) costs.ensures.table ∙ sym (ap (λ (h : Hierarchy). h.costs.trap) inv.hierarchy))
+    costs.result.trap_range.some in
     record {
-      few = c.step-clock.ensures.few;
-      soon = λ h. c.step-clock.ensures.soon;
-      still = λ h. omega arith;
-      frames = c.step-clock.ensures.frames ∙ c.loop-clock.invariant.frames;
-      hierarchy = c.step-clock.ensures.hierarchy ∙ c.loop-clock.invariant.hierarchy;
-      pinned = c.step-clock.ensures.pinned ∙ c.loop-clock.invariant.pinned;
-      runs = c.step-clock.ensures.runs;
-      so_far = goes_on g.P.Policy.rule g.P.Policy.stands_for c.args.end c.args.memory.now c.args.domain.now c.args.system.now c.args.now base trap
-          c.loop-clock.memory c.step-clock.new.memory c.loop-clock.domain c.step-clock.new.domain c.loop-clock.system c.step-clock.new.system
-          c.loop-clock.clock c.step-clock.result c.loop-clock.invariant.so_far c.loop-clock-test.true c.step-clock.ensures.becomes;
+      few = next.ensures.few;
+      soon = λ h. next.ensures.soon;
+      still = λ h. absurd (omega (arith, h, inv.still h, c.loop-clock-test.true));
+      frames = next.ensures.frames ∙ inv.frames;
+      hierarchy = next.ensures.hierarchy ∙ inv.hierarchy;
+      pinned = next.ensures.pinned ∙ inv.pinned;
+      runs = next.ensures.runs;
+      so_far =
+          along_then g.P.Policy.rule g.P.Policy.stands_for c.args.end c.args.memory.now here.memory next.new.memory
+          c.args.domain.now here.domain next.new.domain c.args.system.now here.system next.new.system
+          c.args.now here.clock next.result inv.so_far
+          (along_step g.P.Policy.rule g.P.Policy.stands_for c.args.end here.memory here.domain here.system here.clock base trap
+          next.new.memory next.new.domain next.new.system next.result c.loop-clock-test.true next.ensures.becomes);
     }
 
 pub returns-clause-becomes : goal.returns-clause-becomes
 returns-clause-becomes g c =
+    let costs = c.costs-costs in
     let base : 0 < c.args.system.now.core.costs.base =
-    subst (λ (n : ℕ). 0 < n) (ap (λ (t : CostTable). t.base) c.costs-costs.ensures.table) c.costs-costs.result.base_range.some in
+    subst (λ (n : ℕ). 0 < n) (ap (λ (t : CostTable). t.base) costs.ensures.table) costs.result.base_range.some in
     let trap : 0 < c.args.system.now.core.costs.trap =
-    subst (λ (n : ℕ). 0 < n) (ap (λ (t : CostTable). t.trap) c.costs-costs.ensures.table) c.costs-costs.result.trap_range.some in
-    moves_over g.P.Policy.rule g.P.Policy.stands_for c.args.end c.args.memory.now c.args.domain.now c.args.system.now c.args.now base trap
+    subst (λ (n : ℕ). 0 < n) (ap (λ (t : CostTable). t.trap) costs.ensures.table) costs.result.trap_range.some in
+    along_over g.P.Policy.rule g.P.Policy.stands_for c.args.end c.args.memory.now c.args.domain.now c.args.system.now c.args.now base trap
     c.loop-clock.memory c.loop-clock.domain c.loop-clock.system c.loop-clock.clock c.loop-clock.invariant.so_far c.loop-clock-test.false

@@ -2,8 +2,7 @@ use Rattle.std.proofs.Common.{◌≡◌, ◌+◌, ◌<◌, ◌≤◌, ◌-◌}
 use Rattle.kernel_call.specs.Models.{CountsUpTo}
 use Rattle.mem_system.specs.Contents.{hierarchy_of}
 use Rattle.cycle_cost.specs.Ranges.{most_event}
-use Rattle.domain_step.specs.Moves.{Runs}
-use Rattle.domain_step.proofs.Moved.{GoesOn}
+use Rattle.domain_step.specs.Moves.{Runs, MovesAlong}
 use Rattle.domain_step.proofs.slot.stretch.Given as goal
 
 abbrev pub invariant-loop-clock : goal.invariant-loop-clock
@@ -15,7 +14,7 @@ invariant-loop-clock g l = record {
   hierarchy : hierarchy_of g.P.Policy.rule l.system ≡ hierarchy_of g.P.Policy.rule l.fn.system;
   pinned : l.system.core.pinned ≡ l.fn.system.core.pinned;
   runs : Runs g.P.Policy.rule g.P.Policy.stands_for l.memory l.domain l.system l.clock;
-  so_far : GoesOn g.P.Policy.rule g.P.Policy.stands_for l.end l.fn.memory l.fn.domain l.fn.system l.now l.memory l.domain l.system l.clock;
+  so_far : MovesAlong g.P.Policy.rule g.P.Policy.stands_for l.end l.fn.memory l.fn.domain l.fn.system l.now l.memory l.domain l.system l.clock;
 }
 
 abbrev pub decreases-loop-clock : goal.decreases-loop-clock

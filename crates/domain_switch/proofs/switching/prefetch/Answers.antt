@@ -1,5 +1,5 @@
 -- One line more, and all of them.
-use Rattle.std.proofs.Common.{◌≡◌, ◌/◌, ap, arith, ℕ}
+use Rattle.std.proofs.Common.{◌≡◌, ◌/◌, refl, arith}
 use Rattle.kernel_clone.specs.Footprints.{Layout, shared_lines}
 use Rattle.kernel_clone.specs.Models.{layout_model}
 use Rattle.domain_switch.proofs.Charges.{few_shared, loads_none, loads_more, loads_all}
@@ -8,7 +8,7 @@ use Rattle.domain_switch.proofs.switching.prefetch.Goals as goal
 pub loop-place-init : goal.loop-place-init
 loop-place-init g c =
     let l : Layout = layout_model c.args.layout.now in
-    let count : c.args.shared / l.line ≡ shared_lines l = ap (λ (n : ℕ). n / l.line) c.requires.shared in
+    let count : c.args.layout.now.shared / l.line ≡ shared_lines l = refl in
     record {
       made = loads_none g.P.Policy.rule g.P.Policy.stands_for l c.args.system.now;
       few = omega arith;
@@ -30,6 +30,6 @@ loop-place-preserved g c =
 pub returns-clause-makes : goal.returns-clause-makes
 returns-clause-makes g c =
     let l : Layout = layout_model c.args.layout.now in
-    let count : c.args.shared / l.line ≡ shared_lines l = ap (λ (n : ℕ). n / l.line) c.requires.shared in
+    let count : c.args.layout.now.shared / l.line ≡ shared_lines l = refl in
     loads_all g.P.Policy.rule g.P.Policy.stands_for l c.loop-place.place c.loop-place.cycles c.args.system.now c.loop-place.system
     (omega (arith, c.loop-place-test.false, c.loop-place.invariant.within, count)) c.loop-place.invariant.made

@@ -1,4 +1,4 @@
-use Rattle.world_view.proofs.Separate.{separated}
+use Rattle.world_view.proofs.opening.Separate.{separated}
 use Rattle.tp_report.proofs.ReportLaws.{reported_apart}
 use Rattle.tp_report.proofs.laws.isolation.Goals as goal
 

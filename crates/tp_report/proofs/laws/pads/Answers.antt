@@ -1,5 +1,5 @@
-use Rattle.world_view.proofs.Separate.{separated}
-use Rattle.world_view.proofs.TimeLaws.{used_within}
+use Rattle.world_view.proofs.opening.Separate.{separated}
+use Rattle.world_view.proofs.time.TimeLaws.{used_within}
 use Rattle.tp_report.proofs.ReportLaws.{says_within}
 use Rattle.tp_report.proofs.laws.pads.Goals as goal
 

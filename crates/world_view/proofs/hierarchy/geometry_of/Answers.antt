@@ -1,7 +1,7 @@
 -- A machine's geometry.
 use Rattle.std.proofs.Common.{refl}
 use Rattle.hardware_check.specs.Models.{hardware_model}
-use Rattle.world_view.proofs.Geometries.{parts_sound, parts_hierarchy}
+use Rattle.world_view.proofs.touches.Geometries.{parts_sound, parts_hierarchy}
 use Rattle.world_view.proofs.hierarchy.geometry_of.Goals as goal
 
 pub returns-clause-sound : goal.returns-clause-sound

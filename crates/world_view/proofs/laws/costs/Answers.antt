@@ -1,5 +1,5 @@
-use Rattle.world_view.proofs.Separate.{separated}
-use Rattle.world_view.proofs.TimeLaws.{step_costs, plain_costs, slot_costs}
+use Rattle.world_view.proofs.opening.Separate.{separated}
+use Rattle.world_view.proofs.time.TimeLaws.{step_costs, plain_costs, slot_costs}
 use Rattle.world_view.proofs.laws.costs.Goals as goal
 
 pub returns-clause-step : goal.returns-clause-step

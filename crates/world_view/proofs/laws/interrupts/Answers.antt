@@ -1,8 +1,8 @@
 use Rattle.std.proofs.Common.{ap}
 use Rattle.call_table.specs.Domain.{Dom}
-use Rattle.world_view.proofs.Separate.{separated}
-use Rattle.world_view.proofs.DomainLaws.{others_same}
-use Rattle.world_view.proofs.InterruptLaws.{due_in, prompt_in, few_in, ascending}
+use Rattle.world_view.proofs.opening.Separate.{separated}
+use Rattle.world_view.proofs.runs.DomainLaws.{others_same}
+use Rattle.world_view.proofs.interrupts.InterruptLaws.{due_in, prompt_in, few_in, ascending}
 use Rattle.world_view.proofs.laws.interrupts.Goals as goal
 
 pub returns-clause-due : goal.returns-clause-due

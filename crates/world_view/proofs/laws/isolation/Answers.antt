@@ -1,5 +1,5 @@
-use Rattle.world_view.proofs.Separate.{separated}
-use Rattle.world_view.proofs.WholeLaws.{isolated, two_runs}
+use Rattle.world_view.proofs.opening.Separate.{separated}
+use Rattle.world_view.proofs.runs.WholeLaws.{isolated, two_runs}
 use Rattle.world_view.proofs.laws.isolation.Goals as goal
 
 pub returns-clause-isolated : goal.returns-clause-isolated

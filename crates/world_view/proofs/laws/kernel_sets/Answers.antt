@@ -1,5 +1,5 @@
-use Rattle.world_view.proofs.Separate.{separated}
-use Rattle.world_view.proofs.KernelSets.{empty, after_switch, switches_alone, slots_alone}
+use Rattle.world_view.proofs.opening.Separate.{separated}
+use Rattle.world_view.proofs.facts.KernelSets.{empty, after_switch, switches_alone, slots_alone}
 use Rattle.world_view.proofs.laws.kernel_sets.Goals as goal
 
 pub returns-clause-empty : goal.returns-clause-empty

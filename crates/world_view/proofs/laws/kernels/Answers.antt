@@ -1,6 +1,6 @@
-use Rattle.world_view.proofs.Separate.{separated}
-use Rattle.world_view.proofs.OpeningFacts.{kernel_of}
-use Rattle.world_view.proofs.ForGood.{for_good}
+use Rattle.world_view.proofs.opening.Separate.{separated}
+use Rattle.world_view.proofs.opening.OpeningFacts.{kernel_of}
+use Rattle.world_view.proofs.facts.ForGood.{for_good}
 use Rattle.world_view.proofs.laws.kernels.Goals as goal
 
 pub returns-clause-kernel : goal.returns-clause-kernel

@@ -1,6 +1,6 @@
-use Rattle.world_view.proofs.Separate.{separated}
-use Rattle.world_view.proofs.OpenedWalks.{opened_page, opened_refused, opened_nowhere, pages_apart}
-use Rattle.world_view.proofs.Parts.{opened_zero, opened_elsewhere}
+use Rattle.world_view.proofs.opening.Separate.{separated}
+use Rattle.world_view.proofs.opening.OpenedWalks.{opened_page, opened_refused, opened_nowhere, pages_apart}
+use Rattle.world_view.proofs.opening.Parts.{opened_zero, opened_elsewhere}
 use Rattle.world_view.specs.Machine.{whole}
 use Rattle.world_view.proofs.laws.opening.Goals as goal
 

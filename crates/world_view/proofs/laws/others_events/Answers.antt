@@ -1,5 +1,5 @@
-use Rattle.world_view.proofs.Separate.{separated}
-use Rattle.world_view.proofs.SwitchLaws.{others_step, others_leave, others_enter, prefetch_leaves, flush_leaves}
+use Rattle.world_view.proofs.opening.Separate.{separated}
+use Rattle.world_view.proofs.runs.SwitchLaws.{others_step, others_leave, others_enter, prefetch_leaves, flush_leaves}
 use Rattle.world_view.proofs.laws.others_events.Goals as goal
 
 pub returns-clause-step : goal.returns-clause-step

@@ -1,4 +1,4 @@
-use Rattle.world_view.proofs.StepLaws.{step_near}
+use Rattle.world_view.proofs.steps.StepLaws.{step_near}
 use Rattle.world_view.proofs.laws.own_step.Goals as goal
 
 pub returns : goal.returns

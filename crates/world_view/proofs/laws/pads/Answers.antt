@@ -1,7 +1,7 @@
 use Rattle.world_view.specs.Machine.{whole}
-use Rattle.world_view.proofs.Separate.{separated}
-use Rattle.world_view.proofs.TimeLaws.{used_within, on_time, in_time, largest_within}
-use Rattle.world_view.proofs.ClockLaws.{clocks_fit}
+use Rattle.world_view.proofs.opening.Separate.{separated}
+use Rattle.world_view.proofs.time.TimeLaws.{used_within, on_time, in_time, largest_within}
+use Rattle.world_view.proofs.time.ClockLaws.{clocks_fit}
 use Rattle.world_view.proofs.laws.pads.Goals as goal
 
 pub returns-clause-used : goal.returns-clause-used

@@ -1,6 +1,6 @@
 use Rattle.std.proofs.Common.{sym}
-use Rattle.world_view.proofs.Separate.{separated}
-use Rattle.world_view.proofs.Parts.{pool_parts, no_kernel_colour}
+use Rattle.world_view.proofs.opening.Separate.{separated}
+use Rattle.world_view.proofs.opening.Parts.{pool_parts, no_kernel_colour}
 use Rattle.world_view.proofs.laws.pools.Goals as goal
 
 pub returns : goal.returns

@@ -4,9 +4,9 @@ use Rattle.world_view.specs.Laws.{world_in}
 use Rattle.world_view.specs.Kernel.{estate}
 use Rattle.call_table.proofs.TablesMeaning.{page_tables}
 use Rattle.call_table.proofs.RightsKept.{walks_within}
-use Rattle.world_view.proofs.Separate.{separated}
-use Rattle.world_view.proofs.TableLaws.{IsPage, walkable, no_access_fault}
-use Rattle.world_view.proofs.FactsLaws.{always_both, always_facts}
+use Rattle.world_view.proofs.opening.Separate.{separated}
+use Rattle.world_view.proofs.actions.TableLaws.{IsPage, walkable, no_access_fault}
+use Rattle.world_view.proofs.facts.FactsLaws.{always_both, always_facts}
 use Rattle.world_view.proofs.laws.reach.Goals as goal
 
 pub returns-clause-facts : goal.returns-clause-facts

@@ -1,5 +1,5 @@
-use Rattle.world_view.proofs.Separate.{separated}
-use Rattle.world_view.proofs.ResidencyLaws.{always_resident}
+use Rattle.world_view.proofs.opening.Separate.{separated}
+use Rattle.world_view.proofs.facts.ResidencyLaws.{always_resident}
 use Rattle.world_view.proofs.laws.residency.Goals as goal
 
 pub returns : goal.returns

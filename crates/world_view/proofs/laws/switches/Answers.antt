@@ -1,5 +1,5 @@
-use Rattle.world_view.proofs.Separate.{separated}
-use Rattle.world_view.proofs.SwitchLaws.{switch_past, switch_out, switch_in, switch_both}
+use Rattle.world_view.proofs.opening.Separate.{separated}
+use Rattle.world_view.proofs.runs.SwitchLaws.{switch_past, switch_out, switch_in, switch_both}
 use Rattle.world_view.proofs.laws.switches.Goals as goal
 
 pub returns-clause-out : goal.returns-clause-out

@@ -1,5 +1,5 @@
-use Rattle.world_view.proofs.Separate.{separated}
-use Rattle.world_view.proofs.ThreadLaws.{turn_in, wakes_in}
+use Rattle.world_view.proofs.opening.Separate.{separated}
+use Rattle.world_view.proofs.interrupts.ThreadLaws.{turn_in, wakes_in}
 use Rattle.world_view.proofs.laws.threads.Goals as goal
 
 pub returns-clause-turn : goal.returns-clause-turn

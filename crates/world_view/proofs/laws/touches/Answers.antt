@@ -2,10 +2,10 @@ use Rattle.world_view.specs.Interrupts.{owner}
 use Rattle.sched_table.specs.Schedule.{entry_of_slot, slot_end}
 use Rattle.image_check.specs.Image.{own_of}
 use Rattle.world_view.specs.Laws.{local_in}
-use Rattle.world_view.proofs.Separate.{separated}
-use Rattle.world_view.proofs.OpeningFacts.{kernel_of}
-use Rattle.world_view.proofs.StepLaws.{step_may, step_caches}
-use Rattle.world_view.proofs.FactsLaws.{running_facts}
+use Rattle.world_view.proofs.opening.Separate.{separated}
+use Rattle.world_view.proofs.opening.OpeningFacts.{kernel_of}
+use Rattle.world_view.proofs.steps.StepLaws.{step_may, step_caches}
+use Rattle.world_view.proofs.facts.FactsLaws.{running_facts}
 use Rattle.world_view.proofs.laws.touches.Goals as goal
 
 pub returns-clause-all : goal.returns-clause-all

@@ -1,14 +1,13 @@
-use Rattle.std.proofs.Common.{◌≡◌, ◌≢◌, ℕ, ◌+◌, sym, ap, subst, ◌∙◌, add-one, arith}
+use Rattle.std.proofs.Common.{true, ◌≡◌, ◌≢◌, ℕ, ◌+◌, sym, ap, subst, ◌∙◌, add-one, arith}
 use Rattle.kernel_clone.specs.Footprints.{IsLayout}
 use Rattle.kernel_clone.specs.Models.{layout_model}
 use Rattle.repl_policy.specs.Members.{any_rule, any_stands_for}
 use Rattle.sched_table.specs.declared.schedule.Entry.{Entry}
 use Rattle.sched_table.specs.Schedule.{entry_of_slot, start}
 use Rattle.image_check.specs.Models.{public_model, own_model}
-use Rattle.world_view.specs.Machine.{Local, stretch, alone_enter, alone_in, alone}
-use Rattle.domain_step.specs.Kept.{Setting}
+use Rattle.world_view.specs.Machine.{Setting, setting, Local, stretch, alone_enter, alone_in, alone}
 use Rattle.domain_step.specs.Moves.{Moves}
-use Rattle.alone_run.specs.Standing.{kept, setting, StandsFor, HasFacts}
+use Rattle.alone_run.specs.Standing.{kept, StandsFor, HasFacts}
 use Rattle.alone_run.proofs.States.{kernel, alone_early, others_slot, own_slot}
 use Rattle.domain_step.proofs.Counts.{counts_later}
 use Rattle.alone_run.proofs.Slots.{Stand, stands_of, facts_of, begun, left}
@@ -43,7 +42,7 @@ enter-requires c =
     let a = c.args.self.now in
     let p = public_model a.public.now in
     let o = own_model a.own.now in
-    record { layout = subst IsLayout (sym a.stands.layout) (kernel p o a.runs).has_layout }
+    record { layout = subst IsLayout (sym a.stands.domain.layout) (kernel p o a.runs).has_layout }
 
 pub stretch-self-requires-clause-runs : goal.stretch-self-requires-clause-runs
 stretch-self-requires-clause-runs c =
@@ -51,10 +50,10 @@ stretch-self-requires-clause-runs c =
     let p = public_model a.public.now in
     let o = own_model a.own.now in
     record {
-      setting = setting p.hardware o;
+      setting = setting p.hardware o true;
       state = alone_enter p o a.slots (alone p o a.number a.slots);
       stands_in = begun p o a.runs a.number a.slots (kept a.memory a.system a.domain a.clock) (layout_model a.domain.layout)
-          c.flush.new.self c.enter.new.system c.flush.result c.enter.result c.start-start.result a.stands a.stands.layout c.flush.ensures.makes c.flush.ensures.kept
+          c.flush.new.self c.enter.new.system c.flush.result c.enter.result c.start-start.result a.stands a.stands.domain.layout c.flush.ensures.makes c.flush.ensures.kept
           c.enter.ensures.makes c.enter.ensures.buffer c.start-start.ensures.value;
     }
 
@@ -62,14 +61,14 @@ pub stretch-self-requires-clause-few : goal.stretch-self-requires-clause-few
 stretch-self-requires-clause-few c =
     let a = c.args.self.now in
     let early = alone_early (public_model a.public.now) (own_model a.own.now) a.runs a.number a.slots in
-    counts_later a.clock c.start-start.result a.domain (omega (arith, early, a.stands.time, c.start-start.ensures.value)) a.in_bounds.few_calls
+    counts_later a.clock c.start-start.result a.domain (omega (arith, early, a.stands.machine.time, c.start-start.ensures.value)) a.in_bounds.few_calls
 
 pub leave-requires : goal.leave-requires
 leave-requires c =
     let a = c.args.self.now in
     let p = public_model a.public.now in
     let o = own_model a.own.now in
-    record { layout = subst IsLayout (sym a.stands.layout) (kernel p o a.runs).has_layout }
+    record { layout = subst IsLayout (sym a.stands.domain.layout) (kernel p o a.runs).has_layout }
 
 -- after the slot, and when the domain has left
 over : (c : After-leave) → Stand (public_model c.args.self.now.public.now).hardware (own_model c.args.self.now.own.now)
@@ -84,16 +83,16 @@ over c =
     let named : (entry_of_slot p.schedule a.slots).domain ≡ a.number = ap (λ (x : Entry). x.domain) (sym c.entry-entry.ensures.value) ∙ c.if-entry-self.false in
     let until : c.start-start.result + c.from.result ≡ start p.schedule a.slots + (entry_of_slot p.schedule a.slots).length =
     omega (arith, c.start-start.ensures.value, c.from.ensures, ap (λ (x : Entry). x.length) c.entry-entry.ensures.value) in
-    let runs = subst (λ (n : ℕ). Moves any_rule any_stands_for (λ (w : Setting). stretch w.machine w.own w.pinned n) a.memory a.domain c.enter.new.system c.start-start.result
+    let runs = subst (λ (n : ℕ). Moves any_rule any_stands_for (λ (w : Setting). stretch w n) a.memory a.domain c.enter.new.system c.start-start.result
     c.stretch-self.new.memory c.stretch-self.new.domain c.stretch-self.new.system c.stretch-self.result) until c.stretch-self.ensures.becomes in
     let begins = begun p o a.runs a.number a.slots (kept a.memory a.system a.domain a.clock) (layout_model a.domain.layout)
-    c.flush.new.self c.enter.new.system c.flush.result c.enter.result c.start-start.result a.stands a.stands.layout c.flush.ensures.makes c.flush.ensures.kept
+    c.flush.new.self c.enter.new.system c.flush.result c.enter.result c.start-start.result a.stands a.stands.domain.layout c.flush.ensures.makes c.flush.ensures.kept
     c.enter.ensures.makes c.enter.ensures.buffer c.start-start.ensures.value in
-    let ran = runs (setting p.hardware o) (alone_enter p o a.slots s) begins in
+    let ran = runs (setting p.hardware o true) (alone_enter p o a.slots s) begins in
     subst (Stand p.hardware o (kept c.stretch-self.new.memory c.leave.new.system c.stretch-self.new.domain c.stretch-self.result))
     (sym (ap (alone p o a.number) (add-one a.slots) ∙ own_slot p o a.number a.slots named))
     (left p.hardware o (kept c.stretch-self.new.memory c.stretch-self.new.system c.stretch-self.new.domain c.stretch-self.result) (layout_model a.domain.layout) c.leave.new.system c.leave.result
-    (alone_in p o a.slots s) ran a.stands.layout c.leave.ensures.makes c.leave.ensures.buffer)
+    (alone_in p o a.slots s) ran a.stands.domain.layout c.leave.ensures.makes c.leave.ensures.buffer)
 
 pub invariant_of-self-2-clause-stands : goal.invariant_of-self-2-clause-stands
 invariant_of-self-2-clause-stands c =

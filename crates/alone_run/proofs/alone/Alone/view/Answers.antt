@@ -12,9 +12,9 @@ new-requires c =
     let a = c.args.self.now in
     let s = alone (public_model a.public.now) (own_model a.own.now) a.number a.slots in
     record {
-      in_memory = pool_in_memory (hardware_model a.public.now.hardware) (own_model a.own.now) a.domain a.stands.has a.memory a.stands.frames;
-      readings = rw a.stands.dom.readings (kept_of s.dom.readings);
-      replies = rw a.stands.dom.replies (kept_of s.dom.replies);
+      in_memory = pool_in_memory (hardware_model a.public.now.hardware) (own_model a.own.now) a.domain a.stands.domain.has a.memory a.stands.machine.frames;
+      readings = rw a.stands.domain.dom.readings (kept_of s.dom.readings);
+      replies = rw a.stands.domain.dom.replies (kept_of s.dom.replies);
     }
 
 pub returns : goal.returns
@@ -24,5 +24,5 @@ returns c =
     let s = alone (public_model a.public.now) (own_model a.own.now) a.number a.slots in
     record {
       view = c.new.ensures.view
-          ∙ view_is (hardware_model a.public.now.hardware) (own_model a.own.now) a.domain a.stands.has a.memory a.stands.frames s.dom s.storage a.stands.dom a.stands.holds;
+          ∙ view_is (hardware_model a.public.now.hardware) (own_model a.own.now) a.domain a.stands.domain.has a.memory a.stands.machine.frames s.dom s.storage a.stands.domain.dom a.stands.machine.holds;
     }

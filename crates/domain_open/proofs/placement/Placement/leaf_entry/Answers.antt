@@ -2,7 +2,7 @@ use Rattle.std.proofs.Common.{◌≡◌, ◌∙◌, Some, None, sym, ap₂, refl
 use Rattle.image_check.specs.Models.{own_model}
 use Rattle.sv32_walk.specs.PageTableEntry.{leaf_word}
 use Rattle.world_view.specs.Opening.{rights_in, leaf_with, leaf_entry}
-use Rattle.world_view.proofs.Counts.{pages_low, rights_there, rights_are_good}
+use Rattle.world_view.proofs.opening.Counts.{pages_low, rights_there, rights_are_good}
 use Rattle.domain_open.proofs.placement.Placement.leaf_entry.Goals as goal
 
 pub returns-in_default : goal.returns-in_default

@@ -3,7 +3,7 @@ use Rattle.sched_table.specs.declared.schedule.Entry.{Entry}
 use Rattle.sched_table.specs.Schedule.{entry_of_slot}
 use Rattle.image_check.specs.Public.{Public}
 use Rattle.image_check.specs.Image.{image_from}
-use Rattle.world_view.proofs.Separate.{separated}
+use Rattle.world_view.proofs.opening.Separate.{separated}
 use Rattle.tp_machine.proofs.machine.Machine.next_entry.Goals as goal
 
 pub returns-clause-domain : goal.returns-clause-domain

@@ -9,19 +9,19 @@ use Rattle.sched_table.specs.Schedule.{entry_of_slot, switch_entry}
 use Rattle.domain_switch.specs.Switch.{layout_if}
 use Rattle.image_check.specs.Public.{Public}
 use Rattle.image_check.specs.Image.{Image, image_from}
-use Rattle.world_view.specs.Machine.{stretch, whole}
+use Rattle.world_view.specs.Machine.{Setting, stretch, whole}
 use Rattle.world_view.specs.Relations.{IsDomain}
-use Rattle.world_view.proofs.ClockLaws.{clocks_fit}
-use Rattle.world_view.proofs.Separate.{separated}
-use Rattle.world_view.proofs.TimeLaws.{on_time}
-use Rattle.world_view.proofs.CodeLaws.{slot_begun}
-use Rattle.domain_step.specs.Kept.{Setting}
+use Rattle.world_view.proofs.time.ClockLaws.{clocks_fit}
+use Rattle.world_view.proofs.opening.Separate.{separated}
+use Rattle.world_view.proofs.time.TimeLaws.{on_time}
+use Rattle.world_view.proofs.steps.CodeLaws.{slot_begun}
 use Rattle.domain_step.specs.Moves.{Moves}
 use Rattle.tp_machine.specs.Usage.{IsUsed, CountedUpTo}
-use Rattle.tp_machine.specs.Worlds.{Kept, kept, setting, StandsFor, HaveFacts}
+use Rattle.tp_machine.specs.Worlds.{Kept, kept, setting_of, StandsFor, HaveFacts}
+use Rattle.tp_machine.proofs.Switches.{clone_on}
 use Rattle.tp_machine.proofs.SwitchCounts.{noted_back, counted_back, length_back}
 use Rattle.domain_step.proofs.Counts.{counts_later}
-use Rattle.tp_machine.proofs.Slots.{SlotStart, SlotEnd, SwitchTimes, AreTimes, Switches, Begins, Next, kept_after, begins_here, clone_here, ended_here, begun, resident_at, next, in_bounds_next}
+use Rattle.tp_machine.proofs.Slots.{SlotStart, SlotEnd, SwitchTimes, AreTimes, Switches, Begins, Next, kept_after, begins_here, ended_here, begun, resident_at, next, in_bounds_next}
 use Rattle.tp_machine.proofs.machine.Machine.run_slot.Goals as goal
 
 -- ---- the switch
@@ -38,17 +38,7 @@ switch-switched-requires-clause-into c =
     let got =
     slice_get_read m.domains.items (length m.domains.items) d c.index.result.now refl within
     c.index.ensures in
-    let t : SwitchTimes = record {
-      shared = c.public-public.result.now.hardware.shared;
-      old_end = c.last_end-last_end.result;
-      until = c.next_start-start.result;
-    } in
-    let are : AreTimes i m.slots t = record {
-      shared = ap (λ (q : Public). q.hardware.shared) c.public-public.ensures.value;
-      old_end = c.last_end-last_end.ensures.end;
-      until = c.next_start-start.ensures.start;
-    } in
-    clone_here i m.accepted m.slots s m.stands t are d c.index.result.now domain got
+    clone_on i m.accepted m.slots s m.stands d c.index.result.now domain got
 
 pub switch-switched-requires-clause-ended : goal.switch-switched-requires-clause-ended
 switch-switched-requires-clause-ended c =
@@ -56,12 +46,10 @@ switch-switched-requires-clause-ended c =
     let i = image_from m.image.now in
     let s = kept m.memory m.system m.domains.items m.used.items m.clock in
     let t : SwitchTimes = record {
-      shared = c.public-public.result.now.hardware.shared;
       old_end = c.last_end-last_end.result;
       until = c.next_start-start.result;
     } in
     let are : AreTimes i m.slots t = record {
-      shared = ap (λ (q : Public). q.hardware.shared) c.public-public.ensures.value;
       old_end = c.last_end-last_end.ensures.end;
       until = c.next_start-start.ensures.start;
     } in
@@ -72,7 +60,7 @@ switch-switched-requires-clause-early c =
     let m = c.args.self.now in
     let fit = clocks_fit (image_from m.image.now) m.accepted m.slots m.in_bounds.slots_left in
     let before = fit.before in
-    omega (arith, before, m.stands.time)
+    omega (arith, before, m.stands.machine.time)
 
 -- ---- the slot begins
 
@@ -90,12 +78,10 @@ begins c =
     c.from-d.ensures ∙ ap (λ (e : Entry). e.domain) c.next_entry-entry.ensures.entry in
     let s = kept m.memory m.system m.domains.items m.used.items m.clock in
     let t : SwitchTimes = record {
-      shared = c.public-public.result.now.hardware.shared;
       old_end = c.last_end-last_end.result;
       until = c.next_start-start.result;
     } in
     let are : AreTimes i m.slots t = record {
-      shared = ap (λ (q : Public). q.hardware.shared) c.public-public.ensures.value;
       old_end = c.last_end-last_end.ensures.end;
       until = c.next_start-start.ensures.start;
     } in
@@ -139,7 +125,7 @@ stretch-self-requires-clause-runs c =
       now = c.switch-switched.result.now;
     } in
     record {
-      setting = setting i (entry_of_slot es m.slots).domain;
+      setting = setting_of i (entry_of_slot es m.slots).domain;
       state = slot_begun i m.slots (whole i m.slots);
       stands_in = begun i m.accepted m.slots _ m.stands x got_there b (begins c);
     }
@@ -180,12 +166,10 @@ begun_so c =
     c.from-d.ensures ∙ ap (λ (e : Entry). e.domain) c.next_entry-entry.ensures.entry in
     let s = kept m.memory m.system m.domains.items m.used.items m.clock in
     let t : SwitchTimes = record {
-      shared = c.public-public.result.now.hardware.shared;
       old_end = c.last_end-last_end.result;
       until = c.next_start-start.result;
     } in
     let are : AreTimes i m.slots t = record {
-      shared = ap (λ (q : Public). q.hardware.shared) c.public-public.ensures.value;
       old_end = c.last_end-last_end.ensures.end;
       until = c.next_start-start.ensures.start;
     } in
@@ -261,7 +245,7 @@ next_so c =
     } in
     let Runs : ℕ → Type 0 = λ n.
     Moves any_rule any_stands_for
-    (λ (w : Setting). stretch w.machine w.own w.pinned (n + c.from.result))
+    (λ (w : Setting). stretch w (n + c.from.result))
     m.memory x b.system b.now z.memory z.domain z.system z.clock in
     let runs = subst Runs c.next_start-start.ensures.start c.stretch-self.ensures.becomes in
     next i m.accepted m.slots s m.stands x got_there b (begun_so c) z all each e entry runs

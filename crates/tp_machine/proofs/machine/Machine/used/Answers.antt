@@ -2,9 +2,9 @@ use Rattle.std.proofs.Common.{◌<◌, length, refl, arith}
 use Rattle.std.proofs.lemmas.Option.{slice_get_read}
 use Rattle.image_check.specs.Image.{image_from}
 use Rattle.world_view.specs.Machine.{whole}
-use Rattle.world_view.proofs.Separate.{separated}
-use Rattle.world_view.proofs.TimeLaws.{largest_within}
-use Rattle.world_view.proofs.TimeLaws.{used_within}
+use Rattle.world_view.proofs.opening.Separate.{separated}
+use Rattle.world_view.proofs.time.TimeLaws.{largest_within}
+use Rattle.world_view.proofs.time.TimeLaws.{used_within}
 use Rattle.tp_machine.proofs.machine.Machine.used.Goals as goal
 
 pub returns-clause-within : goal.returns-clause-within

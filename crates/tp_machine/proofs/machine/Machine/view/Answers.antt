@@ -4,8 +4,8 @@ use Rattle.image_check.specs.Image.{image_from, own_of}
 use Rattle.world_view.specs.Machine.{whole, dom_of}
 use Rattle.world_view.specs.View.{view_whole}
 use Rattle.kernel_call.proofs.Logs.{kept_of}
-use Rattle.world_view.proofs.Separate.{separated}
-use Rattle.world_view.proofs.WholeLaws.{isolated}
+use Rattle.world_view.proofs.opening.Separate.{separated}
+use Rattle.world_view.proofs.runs.WholeLaws.{isolated}
 use Rattle.domain_open.proofs.Seen.{view_is, pool_in_memory}
 use Rattle.tp_machine.proofs.machine.Machine.view.Goals as goal
 
@@ -18,11 +18,10 @@ new-requires c =
     let within : d < length m.domains.items = omega (arith, c.requires.domain, m.stands.all_domains) in
     let got = slice_get_read m.domains.items (length m.domains.items) d x refl within (rw c.from.ensures at c.index.ensures) in
     let stands = m.stands.each_domain d x got in
-    let has = m.stands.each_estate d x got in
     record {
-      in_memory = pool_in_memory i.all.hardware (own_of i d) x has m.memory m.stands.frames;
-      readings = rw stands.readings (kept_of (dom_of (whole i m.slots) d).readings);
-      replies = rw stands.replies (kept_of (dom_of (whole i m.slots) d).replies);
+      in_memory = pool_in_memory i.all.hardware (own_of i d) x stands.has m.memory m.stands.machine.frames;
+      readings = rw stands.dom.readings (kept_of (dom_of (whole i m.slots) d).readings);
+      replies = rw stands.dom.replies (kept_of (dom_of (whole i m.slots) d).replies);
     }
 
 pub returns-clause-view : goal.returns-clause-view
@@ -35,7 +34,8 @@ returns-clause-view c =
     let x = c.index.result.now in
     let within : d < length m.domains.items = omega (arith, c.requires.domain, m.stands.all_domains) in
     let got = slice_get_read m.domains.items (length m.domains.items) d x refl within (rw c.from.ensures at c.index.ensures) in
-    c.new.ensures.view ∙ view_is i.all.hardware (own_of i d) x (m.stands.each_estate d x got) m.memory m.stands.frames (dom_of w d) w.storage (m.stands.each_domain d x got) m.stands.holds
+    let is = m.stands.each_domain d x got in
+    c.new.ensures.view ∙ view_is i.all.hardware (own_of i d) x is.has m.memory m.stands.machine.frames (dom_of w d) w.storage is.dom m.stands.machine.holds
 
 pub returns-clause-alone : goal.returns-clause-alone
 returns-clause-alone c =

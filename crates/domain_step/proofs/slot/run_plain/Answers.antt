@@ -1,0 +1,44 @@
+-- One instruction more, and as much of the slot is left.
+use Rattle.std.proofs.Common.{◌<◌, ℕ, ap, sym, subst, ◌∙◌, arith}
+use Rattle.cycle_cost.specs.Costs.{CostTable}
+use Rattle.mem_system.specs.Hierarchy.{Hierarchy}
+use Rattle.domain_step.proofs.Moved.{plain_on, along_then, along_step}
+use Rattle.domain_step.proofs.slot.run_plain.Goals as goal
+
+pub run-ran-requires-clause-plain : goal.run-ran-requires-clause-plain
+run-ran-requires-clause-plain g c =
+    c.loop-goes_on.invariant.plain c.loop-goes_on-test.true c.loop-goes_on.clock c.if-clock-until.true
+
+pub loop-goes_on-preserved : goal.loop-goes_on-preserved
+loop-goes_on-preserved g c =
+    let here = c.loop-goes_on in
+    let inv = here.invariant in
+    let ran = c.run-ran in
+    let costs = c.costs-costs in
+    let base : 0 < here.system.core.costs.base =
+    subst (λ (n : ℕ). 0 < n)
+    (ap (λ (t : CostTable). t.base) costs.ensures.table ∙ sym (ap (λ (h : Hierarchy). h.costs.base) inv.hierarchy))
+    costs.result.base_range.some in
+    let trap : 0 < here.system.core.costs.trap =
+    subst (λ (n : ℕ). 0 < n)
+    (ap (λ (t : CostTable). t.trap) costs.ensures.table ∙ sym (ap (λ (h : Hierarchy). h.costs.trap) inv.hierarchy))
+    costs.result.trap_range.some in
+    record {
+      few = ran.ensures.few;
+      soon = omega (arith, ran.ensures.soon, c.if-clock-until.true);
+      begun = omega (arith, inv.begun, ran.ensures.later);
+      some = λ same. absurd (omega (arith, same, inv.begun, ran.ensures.later));
+      plain = λ goes t early.
+          plain_on here.domain ran.new.domain t (ran.ensures.goes_on goes) (inv.plain c.loop-goes_on-test.true t early);
+      frames = ran.ensures.frames ∙ inv.frames;
+      hierarchy = ran.ensures.hierarchy ∙ inv.hierarchy;
+      pinned = ran.ensures.pinned ∙ inv.pinned;
+      runs = ran.ensures.runs;
+      along = λ end within.
+          along_then g.P.Policy.rule g.P.Policy.stands_for end c.args.memory.now here.memory ran.new.memory
+          c.args.domain.now here.domain ran.new.domain c.args.system.now here.system ran.new.system
+          c.args.now here.clock ran.result.clock (inv.along end within)
+          (along_step g.P.Policy.rule g.P.Policy.stands_for end here.memory here.domain here.system here.clock base trap
+          ran.new.memory ran.new.domain ran.new.system ran.result.clock (omega (arith, c.if-clock-until.true, within))
+          (ran.ensures.becomes end));
+    }

@@ -1,0 +1,25 @@
+use Rattle.std.proofs.Common.{◌≡◌, ◌+◌, ◌<◌, ◌≤◌, ◌-◌, ℕ, true}
+use Rattle.cycle_cost.specs.Ranges.{most_event}
+use Rattle.kernel_call.specs.Models.{CountsUpTo}
+use Rattle.mem_system.specs.Contents.{hierarchy_of}
+use Rattle.domain_step.specs.Stands.{IsPlain}
+use Rattle.domain_step.specs.Moves.{Runs, MovesAlong}
+use Rattle.domain_step.proofs.slot.run_plain.Given as goal
+
+abbrev pub invariant-loop-goes_on : goal.invariant-loop-goes_on
+invariant-loop-goes_on g l = record {
+  few : CountsUpTo l.clock l.domain;
+  soon : l.clock < l.until + most_event;
+  begun : l.now ≤ l.clock;
+  some : l.clock ≡ l.now → l.goes_on ≡ true;
+  plain : l.goes_on ≡ true → (t : ℕ) → t < l.until → IsPlain l.domain t;
+  frames : l.memory.frames ≡ l.fn.memory.frames;
+  hierarchy : hierarchy_of g.P.Policy.rule l.system ≡ hierarchy_of g.P.Policy.rule l.fn.system;
+  pinned : l.system.core.pinned ≡ l.fn.system.core.pinned;
+  runs : Runs g.P.Policy.rule g.P.Policy.stands_for l.memory l.domain l.system l.clock;
+  along : (end : ℕ) → l.until ≤ end → MovesAlong g.P.Policy.rule g.P.Policy.stands_for end
+      l.fn.memory l.fn.domain l.fn.system l.now l.memory l.domain l.system l.clock;
+}
+
+abbrev pub decreases-loop-goes_on : goal.decreases-loop-goes_on
+decreases-loop-goes_on g l = l.until - l.clock

@@ -1,0 +1,111 @@
+-- The second level's sets of colour 0 keep shared lines alone, at each moment of each switch and of each slot.
+use Rattle.std.proofs.Common.{◌≡◌, ℕ, zero, suc, ◌-◌, false, ap, sym, ◌∙◌, List, ◌∷◌, ◌++◌, length, take, Option, Some, None, refl, subst, le_refl}
+use Rattle.tp_base.specs.Table.{at, put}
+use Rattle.std.proofs.lemmas.List.{take_all}
+use Rattle.std.proofs.lemmas.Option.{same_Some}
+use Rattle.mem_system.specs.Cost.{Touch, Flush, Touched, touched_all}
+use Rattle.cache_sharing.specs.Operations as operations
+use Rattle.cache_sharing.specs.Operations.{leave, leave_if, enter, prefetch}
+use Rattle.cache_sharing.specs.Sharing.{IsSharing, MayTouchAll}
+use Rattle.cache_sharing.proofs.OwnTouches.{may_append, prefetch_may}
+use Rattle.cache_sharing.proofs.KernelSets.{empty_law, shared_alone_law, any_colour, any_may, take_may}
+use Rattle.image_check.specs.Image.{Image, own_of}
+use Rattle.sched_table.specs.Schedule.{entry_of_slot, slot_end, outgoing}
+use Rattle.world_view.specs.Kernel.{layout}
+use Rattle.world_view.specs.Cost.{hierarchy, region, own_colour}
+use Rattle.world_view.specs.Machine.{with_hart, caches_of, clock_of, setting, Local, clone_of, step, part_of, with_part, switch, run_slot, opening, whole}
+use Rattle.world_view.specs.Relations.{IsDomain, HasFacts, KeepsSharedAlone}
+use Rattle.world_view.specs.Laws.{local_in, switch_touches, caches_in_switch, EmptyLaw}
+use Rattle.world_view.proofs.opening.Separate.{Separated}
+use Rattle.world_view.proofs.touches.KernelTouches.{leave_may, enter_may}
+use Rattle.world_view.proofs.opening.OpeningFacts.{kernel_of}
+use Rattle.world_view.proofs.steps.Fuel.{steps_by}
+use Rattle.world_view.proofs.steps.StepLaws.{step_may, step_keeps, step_caches}
+use Rattle.world_view.proofs.facts.FactsLaws.{begun_facts}
+use Rattle.world_view.proofs.runs.SwitchParts.{region_is, switch_is}
+
+pub empty : EmptyLaw
+unfolding whole opening with_hart at put
+empty i s way = empty_law (hierarchy i.all.hardware) s way
+
+module _ (i : Image) (r : Separated i) where
+  -- what a switch touches, some domain may touch
+  leave_any : (out : Option ℕ) → ((e : ℕ) → out ≡ Some e → IsDomain i e)
+      → MayTouchAll (hierarchy i.all.hardware) any_colour (region i.all.hardware) (leave_if i.all.hardware.costs (clone_of i out))
+  unfolding leave_if
+  leave_any None named = tt
+  leave_any (Some e) named =
+      let p = i.all.hardware in
+      let kernel = kernel_of i r e (named e refl) in
+      any_may (hierarchy p) (own_colour (own_of i e)) (region p) kernel.shares.not_kernel (leave p.costs (layout p (own_of i e))) (leave_may p (own_of i e) kernel (region p))
+
+  who_leaves : (k e : ℕ) → outgoing i.all.schedule k ≡ Some e → IsDomain i e
+  who_leaves zero e is = absurd (cc is)
+  who_leaves (suc k) e is = subst (IsDomain i) (same_Some _ _ is) (r.named k)
+
+  switch_any : (k : ℕ) → MayTouchAll (hierarchy i.all.hardware) any_colour (region i.all.hardware) (switch_touches i k)
+  unfolding operations.switch
+  switch_any k =
+      let p = i.all.hardware in
+      let h = hierarchy p in
+      let d = (entry_of_slot i.all.schedule k).domain in
+      let kernel = kernel_of i r d (r.named k) in
+      let into = any_may h (own_colour (own_of i d)) (region p) kernel.shares.not_kernel (enter (layout p (own_of i d))) (enter_may p (own_of i d) kernel (region p)) in
+      let loads = any_may h (λ _. false) (region p) refl (prefetch (region p)) (prefetch_may h (region p)) in
+      rw (region_is p (own_of i d))
+      (may_append h any_colour (region p) (leave_if p.costs (clone_of i (outgoing i.all.schedule k))) (prefetch (region p) ++ Flush ∷ enter (layout p (own_of i d)))
+      (leave_any (outgoing i.all.schedule k) (who_leaves k)) (may_append h any_colour (region p) (prefetch (region p)) (Flush ∷ enter (layout p (own_of i d))) loads (tt, into)))
+
+  any_sharing : IsSharing (hierarchy i.all.hardware) any_colour (region i.all.hardware)
+  any_sharing =
+      let kernel = kernel_of i r (entry_of_slot i.all.schedule 0).domain (r.named 0) in
+      record { coloured = kernel.shares.coloured; not_kernel = refl; kernel = kernel.shares.kernel }
+
+  in_switch : (k n : ℕ) → KeepsSharedAlone i.all.hardware (caches_of 0 (whole i k)) → KeepsSharedAlone i.all.hardware (caches_in_switch i k n)
+  in_switch k n alone =
+      let p = i.all.hardware in
+      shared_alone_law (hierarchy p) any_colour (region p) false (take n (switch_touches i k)) (caches_of 0 (whole i k)) any_sharing
+      (take_may (hierarchy p) any_colour (region p) n (switch_touches i k) (switch_any k)) alone
+
+  pub after_switch : (k : ℕ) → caches_in_switch i k (length (switch_touches i k)) ≡ caches_of 0 (switch i k (whole i k))
+  unfolding switch with_hart at put
+  after_switch k =
+      let h = hierarchy i.all.hardware in
+      ap (λ (ts : List Touch). (touched_all h false (caches_of 0 (whole i k)) ts).caches) (take_all (length (switch_touches i k)) (switch_touches i k) (le_refl _))
+      ∙ sym (ap (λ (t : Touched). t.caches) (switch_is i (outgoing i.all.schedule k) (entry_of_slot i.all.schedule k).domain (caches_of 0 (whole i k))))
+
+  -- after so many steps of a slot
+  record Keeping (k : ℕ) (s : Local) : Type 0 where
+    facts : HasFacts i.all.hardware (own_of i (entry_of_slot i.all.schedule k).domain) s.dom s.storage
+    alone : KeepsSharedAlone i.all.hardware s.caches
+
+  next : (k : ℕ) (s : Local) → Keeping k s
+      → Keeping k (step (setting i.all.hardware (own_of i (entry_of_slot i.all.schedule k).domain) false) (slot_end i.all.schedule k) s)
+  next k s h =
+      let p = i.all.hardware in
+      let o = own_of i (entry_of_slot i.all.schedule k).domain in
+      let kernel = kernel_of i r (entry_of_slot i.all.schedule k).domain (r.named k) in
+      let end = slot_end i.all.schedule k in
+      record {
+        facts = (step_keeps p o kernel false end s.storage s (record { facts = h.facts; outside = λ f out. refl })).facts;
+        alone = subst (KeepsSharedAlone p) (sym (step_caches p o false end s))
+            (shared_alone_law (hierarchy p) (own_colour o) (region p) false _ s.caches kernel.shares (step_may p o kernel end s h.facts) h.alone);
+      }
+
+  in_slot : (k n : ℕ) → KeepsSharedAlone i.all.hardware (caches_of 0 (whole i k)) → KeepsSharedAlone i.all.hardware (local_in i k n).caches
+  in_slot k n alone =
+      let d = (entry_of_slot i.all.schedule k).domain in
+      let begun = subst (KeepsSharedAlone i.all.hardware) (after_switch k) (in_switch k (length (switch_touches i k)) alone) in
+      (steps_by (setting i.all.hardware (own_of i d) false) (slot_end i.all.schedule k) (Keeping k) (λ s below h. next k s h) n
+      (part_of 0 d (switch i k (whole i k))) (record { facts = begun_facts i r k d (r.named k); alone = begun })).alone
+
+  between : (k : ℕ) → KeepsSharedAlone i.all.hardware (caches_of 0 (whole i k))
+  unfolding whole run_slot with_part with_hart at put
+  between zero = λ s way line kernel kept. absurd (cc (sym (empty i s way) ∙ kept))
+  between (suc k) = in_slot k (slot_end i.all.schedule k - (clock_of 0 (switch i k (whole i k)))) (between k)
+
+  pub switches_alone : (k n : ℕ) → KeepsSharedAlone i.all.hardware (caches_in_switch i k n)
+  switches_alone k n = in_switch k n (between k)
+
+  pub slots_alone : (k n : ℕ) → KeepsSharedAlone i.all.hardware (local_in i k n).caches
+  slots_alone k n = in_slot k n (between k)

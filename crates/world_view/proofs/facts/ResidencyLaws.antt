@@ -1,0 +1,65 @@
+-- From the boot on every shared line is in the second level, at each moment of each slot.
+use Rattle.std.proofs.Common.{◌≡◌, ℕ, zero, suc, ◌-◌, Option, Some, None, refl, subst}
+use Rattle.tp_base.specs.Table.{at, put}
+use Rattle.std.proofs.lemmas.Option.{same_Some}
+use Rattle.mem_system.specs.Cost.{Caches, and_then, touched, on_core, flushed, pass_on, below_all}
+use Rattle.cache_sharing.specs.Operations.{leave, enter}
+use Rattle.cache_sharing.proofs.Residency.{resident}
+use Rattle.image_check.specs.Image.{Image, own_of}
+use Rattle.sched_table.specs.Schedule.{entry_of_slot, slot_end, outgoing}
+use Rattle.world_view.specs.Kernel.{layout}
+use Rattle.world_view.specs.Cost.{hierarchy, region}
+use Rattle.world_view.specs.Machine.{with_hart, caches_of, World, leave_part, prefetch_part, flush_part, enter_part, switch_work, part_of, with_part, switch, run_slot, opening, whole}
+use Rattle.world_view.specs.Laws.{local_in}
+use Rattle.world_view.specs.Relations.{IsDomain, Resident}
+use Rattle.world_view.proofs.opening.Separate.{Separated}
+use Rattle.world_view.proofs.touches.Hierarchies.{region_room}
+use Rattle.world_view.proofs.touches.KernelTouches.{leave_may, enter_may}
+use Rattle.world_view.proofs.touches.CostLaws.{own_resident, prefetch_resident}
+use Rattle.world_view.proofs.opening.OpeningFacts.{kernel_of}
+use Rattle.world_view.proofs.steps.StepLaws.{steps_resident}
+use Rattle.world_view.proofs.facts.FactsLaws.{begun_facts}
+
+module _ (i : Image) (r : Separated i) where
+  left_by : (out : Option ℕ) (c : Caches) → ((e : ℕ) → out ≡ Some e → IsDomain i e) → Resident i.all.hardware c → Resident i.all.hardware (leave_part i out c).caches
+  unfolding leave_part
+  left_by None c named there = there
+  left_by (Some e) c named there =
+      let p = i.all.hardware in
+      let kernel = kernel_of i r e (named e refl) in
+      own_resident p (own_of i e) kernel (leave p.costs (layout p (own_of i e))) c (leave_may p (own_of i e) kernel (region p)) there
+
+  -- the work of a switch keeps what its prefetch left there
+  worked : (k : ℕ) (w : World) → Resident i.all.hardware (prefetch_part i.all.hardware (leave_part i (outgoing i.all.schedule k) (caches_of 0 w)).caches).caches
+      → Resident i.all.hardware (caches_of 0 (switch i k w))
+  unfolding switch switch_work and_then flush_part enter_part touched on_core flushed pass_on below_all with_hart at put
+  worked k w there =
+      let p = i.all.hardware in
+      let d = (entry_of_slot i.all.schedule k).domain in
+      let kernel = kernel_of i r d (r.named k) in
+      own_resident p (own_of i d) kernel (enter (layout p (own_of i d))) (flush_part p (prefetch_part p (leave_part i (outgoing i.all.schedule k) (caches_of 0 w)).caches).caches).caches
+      (enter_may p (own_of i d) kernel (region p)) there
+
+  -- after a slot
+  after : (k : ℕ) → Resident i.all.hardware (caches_of 0 (switch i k (whole i k))) → Resident i.all.hardware (caches_of 0 (whole i (suc k)))
+  unfolding whole run_slot with_part with_hart at put
+  after k there =
+      let e = (entry_of_slot i.all.schedule k).domain in
+      let begun = part_of 0 e (switch i k (whole i k)) in
+      let end = slot_end i.all.schedule k in
+      steps_resident i.all.hardware (own_of i e) (kernel_of i r e (r.named k)) end (end - begun.clock) begun (begun_facts i r k e (r.named k)) there
+
+  -- as a slot begins: at the boot the caches hold nothing, and the prefetch brings all lines
+  pub begun_resident : (k : ℕ) → Resident i.all.hardware (caches_of 0 (switch i k (whole i k)))
+  unfolding whole opening leave_part prefetch_part with_hart at put
+  begun_resident zero = worked 0 (whole i 0) (resident (hierarchy i.all.hardware) (region i.all.hardware) (region_room i.all.hardware r.hardware))
+  begun_resident (suc k) =
+      let p = i.all.hardware in
+      let e = (entry_of_slot i.all.schedule k).domain in
+      let left = left_by (Some e) (caches_of 0 (whole i (suc k))) (λ d out. subst (IsDomain i) (same_Some _ _ out) (r.named k)) (after k (begun_resident k)) in
+      worked (suc k) (whole i (suc k)) (prefetch_resident p (own_of i e) (kernel_of i r e (r.named k)) (leave_part i (Some e) (caches_of 0 (whole i (suc k)))).caches left)
+
+  pub always_resident : (k n : ℕ) → Resident i.all.hardware (local_in i k n).caches
+  always_resident k n =
+      let e = (entry_of_slot i.all.schedule k).domain in
+      steps_resident i.all.hardware (own_of i e) (kernel_of i r e (r.named k)) (slot_end i.all.schedule k) n (part_of 0 e (switch i k (whole i k))) (begun_facts i r k e (r.named k)) (begun_resident k)

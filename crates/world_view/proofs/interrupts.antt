@@ -1,0 +1,3 @@
+-- Moments and threads over whole runs.
+pub mod InterruptLaws
+pub mod ThreadLaws

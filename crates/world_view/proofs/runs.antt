@@ -1,0 +1,5 @@
+-- A switch, and whole runs, by induction on slots.
+pub mod SwitchParts
+pub mod SwitchLaws
+pub mod DomainLaws
+pub mod WholeLaws

@@ -1,0 +1,219 @@
+-- Steps of the domain from states that are beside give states that are beside, at equal cost.
+use Rattle.std.proofs.Common.{◌≡◌, ℕ, Bool, true, false, ltb, zero, suc, ◌+◌, ◌-◌, ◌⊎◌, inl, inr, length, Option, Some, None, List, ap, sym, refl, subst, subst₂, ◌∙◌}
+use Rattle.tp_base.specs.Act.{either}
+use Rattle.phys_mem.specs.Mem.{frame_at}
+use Rattle.hardware_check.specs.Hardware.{Hardware}
+use Rattle.image_check.specs.Own.{Own}
+use Rattle.thread_set.specs.Threads.{waiter}
+use Rattle.call_table.specs.Domain.{Dom, recorded, with_bit, signalled_by, signalled, delivered_on}
+use Rattle.cap_table.specs.Slots.{Slots}
+use Rattle.call_table.specs.Claims.{is_mine, claims, Facts}
+use Rattle.world_view.specs.Frames.{own_frame}
+use Rattle.world_view.specs.Kernel.{estate, layout}
+use Rattle.mem_system.specs.Cost.{Touch, Caches, touched_all}
+use Rattle.cache_sharing.specs.Sharing.{AreApart, BesideTouched}
+use Rattle.world_view.specs.Cost.{hierarchy, region, own_colour}
+use Rattle.world_view.specs.Event.{Storage, instruction, delivery_touches, Event, event}
+use Rattle.world_view.specs.Event.Event.{Jump, Deliver, Run}
+use Rattle.world_view.specs.Machine.{setting, Local, paid, delivered, happened, step, steps, stretch}
+use Rattle.world_view.specs.Relations.{IsKernel, HasFacts, SameSets, MayAll, Resident, BesideStorage, BesideCaches, Beside}
+use Rattle.world_view.specs.EventLaws.{event_touches, step_touches, StepTouchesLaw}
+use Rattle.world_view.proofs.steps.Fuel.{steps_by}
+use Rattle.world_view.proofs.touches.CostLaws.{own_touches, own_resident, others_touches}
+use Rattle.world_view.proofs.actions.ActLaws.{Known, Alike, instruction_near}
+use Rattle.world_view.proofs.touches.KernelTouches.{delivery_may}
+
+both_if : (R : Local → Local → Type 0) (x y : Bool) → x ≡ y → (s t a b : Local) → R s a → R t b → R (elim x [ true ↦ s | false ↦ t ]) (elim y [ true ↦ a | false ↦ b ])
+both_if R true true e s t a b h k = h
+both_if R true false e s t a b h k = cc
+both_if R false true e s t a b h k = cc
+both_if R false false e s t a b h k = k
+
+-- the facts hold of the domain that an action gives, whichever way it ends
+either_known : (p : Hardware) (o : Own) (v : Dom ⊎ Dom) (s : Storage) → Known p o (λ x r. HasFacts p o x r) v s → HasFacts p o (either v) s
+unfolding either
+either_known p o (inl x) s h = h
+either_known p o (inr x) s h = h
+
+-- a delivery leaves capabilities, so the facts hold still
+signalled_caps : (line : ℕ) (t : Option ℕ) (d : Dom) → (signalled_by line t d).caps ≡ d.caps
+unfolding signalled_by with_bit recorded
+signalled_caps line None d = refl
+signalled_caps line (Some t) d = refl
+
+pub delivered_caps : (line : ℕ) (d : Dom) → (delivered_on line d).caps ≡ d.caps
+unfolding delivered_on signalled
+delivered_caps line d = signalled_caps line (waiter line d.threads) (record d { delivered = d.delivered + 1 })
+
+pub delivered_facts : (p : Hardware) (o : Own) (line : ℕ) (d : Dom) (s : Storage) → HasFacts p o d s → HasFacts p o (delivered_on line d) s
+delivered_facts p o line d s h =
+    let same = sym (delivered_caps line d) in
+    record {
+      slots = subst (λ (caps : Slots). length caps ≡ 64) same h.slots;
+      facts = subst (λ (caps : Slots). Facts (estate p o).root (is_mine (estate p o)) (claims (estate p o) caps) s.mem) same h.facts;
+    }
+
+module _ (p : Hardware) (o : Own) (end : ℕ) (first : Local) where
+  -- the same event, of the same domain at the same clock
+  happened_near : (d : Dom) (t : ℕ) (s a : Storage) (c k : Caches) (e : Event) → IsKernel p o → HasFacts p o d s → BesideStorage p o first.storage s a → BesideCaches p o first.caches c k
+      → Beside p o first (happened (setting p o false) (record { dom = d; storage = s; caches = c; clock = t }) e) (happened (setting p o true) (record { dom = d; storage = a; caches = k; clock = t }) e)
+  unfolding happened paid delivered
+  happened_near d t s a c k (Jump u) kernel facts storage caches = record { kernel = kernel; dom = refl; facts = facts; storage = storage; caches = caches; clock = refl }
+  happened_near d t s a c k (Deliver line) kernel facts storage caches =
+      let r = own_touches p o kernel first.caches (delivery_touches p (layout p o)) c k (delivery_may p o kernel) caches in
+      record {
+        kernel = kernel;
+        dom = refl;
+        facts = delivered_facts p o line d s facts;
+        storage = storage;
+        caches = r.caches;
+        clock = ap (λ x. t + x) r.cost;
+      }
+  happened_near d t s a c k Run kernel facts storage caches =
+      let n = (instruction_near p o kernel d first.storage t).runs s a storage facts in
+      let ts = (instruction p (estate p o) (layout p o) t d s).notes in
+      let r = subst (λ (us : List Touch). BesideTouched (hierarchy p) (own_colour o) (region p) first.caches.l2 (touched_all (hierarchy p) false c ts) (touched_all (hierarchy p) true k us)) n.notes (own_touches p o kernel first.caches ts c k n.may caches) in
+      record {
+        kernel = kernel;
+        dom = ap either n.value;
+        facts = either_known p o (instruction p (estate p o) (layout p o) t d s).value (instruction p (estate p o) (layout p o) t d s).state n.known;
+        storage = n.state;
+        caches = r.caches;
+        clock = ap (λ x. t + (p.costs.base + x)) r.cost;
+      }
+
+  pub step_near : (s a : Local) → Beside p o first s a → Beside p o first (step (setting p o false) end s) (step (setting p o true) end a)
+  unfolding step
+  step_near s a b =
+      subst₂ (λ (d : Dom) (t : ℕ). Beside p o first (happened (setting p o false) s (event o s.clock end s.dom)) (happened (setting p o true) (record { dom = d; storage = a.storage; caches = a.caches; clock = t }) (event o t end d))) b.dom b.clock
+      (happened_near s.dom s.clock s.storage a.storage s.caches a.caches (event o s.clock end s.dom) b.kernel b.facts b.storage b.caches)
+
+  pub steps_near : (n : ℕ) (s a : Local) → Beside p o first s a → Beside p o first (steps (setting p o false) end n s) (steps (setting p o true) end n a)
+  unfolding steps
+  steps_near zero s a b = b
+  steps_near (suc n) s a b =
+      both_if (Beside p o first) _ _ (ap (λ x. ltb x end) b.clock) _ _ _ _ (steps_near n _ _ (step_near s a b)) b
+
+  pub stretch_near : (s a : Local) → Beside p o first s a → Beside p o first (stretch (setting p o false) end s) (stretch (setting p o true) end a)
+  stretch_near s a b =
+      subst (λ (t : ℕ). Beside p o first (stretch (setting p o false) end s) (steps (setting p o true) end (end - t) a)) b.clock (steps_near (end - s.clock) s a b)
+
+-- ---- one machine's steps, whatever its caches hold
+
+-- the domain's facts hold, and outside its frames memory is as at first
+pub record Keeps (p : Hardware) (o : Own) (first : Storage) (s : Local) : Type 0 where
+  pub facts : HasFacts p o s.dom s.storage
+  pub outside : (f : ℕ) → own_frame p o f ≡ false → frame_at s.storage.mem f ≡ frame_at first.mem f
+
+module _ (p : Hardware) (o : Own) (kernel : IsKernel p o) where
+  -- an instruction beside itself
+  ran : (t : ℕ) (first : Storage) (s : Local) → Keeps p o first s
+      → Alike p o kernel s.dom first (λ x r. HasFacts p o x r) (instruction p (estate p o) (layout p o) t s.dom s.storage) (instruction p (estate p o) (layout p o) t s.dom s.storage)
+  ran t first s h = (instruction_near p o kernel s.dom first t).runs s.storage s.storage (record { same = λ f own. refl; outside = h.outside }) h.facts
+
+  -- it touches what it may
+  pub may_run : (t : ℕ) (s : Local) → HasFacts p o s.dom s.storage → MayAll p o (instruction p (estate p o) (layout p o) t s.dom s.storage).notes
+  may_run t s facts = (ran t s.storage s (record { facts = facts; outside = λ f out. refl })).may
+
+  touches_if : (s : Local) (e : Event) → HasFacts p o s.dom s.storage → MayAll p o (event_touches p o s e)
+  touches_if s (Jump t) facts = tt
+  touches_if s (Deliver line) facts = delivery_may p o kernel
+  touches_if s Run facts = may_run s.clock s facts
+
+  -- and so it does in any step
+  pub step_may : (end : ℕ) (s : Local) → HasFacts p o s.dom s.storage → MayAll p o (step_touches p o end s)
+  step_may end s facts = touches_if s (event o s.clock end s.dom) facts
+
+  keeps_if : (pinned : Bool) (first : Storage) (s : Local) (e : Event) → Keeps p o first s → Keeps p o first (happened (setting p o pinned) s e)
+  unfolding happened paid delivered
+  keeps_if pinned first s (Jump t) h = record { facts = h.facts; outside = h.outside }
+  keeps_if pinned first s (Deliver line) h = record { facts = delivered_facts p o line s.dom s.storage h.facts; outside = h.outside }
+  keeps_if pinned first s Run h =
+      let n = ran s.clock first s h in
+      record {
+        facts = either_known p o (instruction p (estate p o) (layout p o) s.clock s.dom s.storage).value (instruction p (estate p o) (layout p o) s.clock s.dom s.storage).state n.known;
+        outside = n.state.outside;
+      }
+
+  pub step_keeps : (pinned : Bool) (end : ℕ) (first : Storage) (s : Local) → Keeps p o first s → Keeps p o first (step (setting p o pinned) end s)
+  unfolding step
+  step_keeps pinned end first s h = keeps_if pinned first s (event o s.clock end s.dom) h
+
+  pub steps_keep : (pinned : Bool) (end n : ℕ) (first : Storage) (s : Local) → Keeps p o first s → Keeps p o first (steps (setting p o pinned) end n s)
+  steps_keep pinned end n first s h = steps_by (setting p o pinned) end (Keeps p o first) (λ t below k. step_keeps pinned end first t k) n s h
+
+  -- what is shared stays in place
+  resident_if : (s : Local) (e : Event) → HasFacts p o s.dom s.storage → Resident p s.caches → Resident p (happened (setting p o false) s e).caches
+  unfolding happened paid delivered
+  resident_if s (Jump t) facts resident = resident
+  resident_if s (Deliver line) facts resident = own_resident p o kernel (delivery_touches p (layout p o)) s.caches (delivery_may p o kernel) resident
+  resident_if s Run facts resident = own_resident p o kernel (instruction p (estate p o) (layout p o) s.clock s.dom s.storage).notes s.caches (may_run s.clock s facts) resident
+
+  record Resides (s : Local) : Type 0 where
+    keeps : Keeps p o s.storage s
+    resident : Resident p s.caches
+
+  resides : (end : ℕ) (s : Local) → Resides s → Resides (step (setting p o false) end s)
+  unfolding step
+  resides end s h = record {
+    keeps = record { facts = (keeps_if false s.storage s (event o s.clock end s.dom) h.keeps).facts; outside = λ f out. refl };
+    resident = resident_if s (event o s.clock end s.dom) h.keeps.facts h.resident;
+  }
+
+  pub steps_resident : (end n : ℕ) (s : Local) → HasFacts p o s.dom s.storage → Resident p s.caches → Resident p (steps (setting p o false) end n s).caches
+  steps_resident end n s facts resident =
+      (steps_by (setting p o false) end Resides (λ t below h. resides end t h) n s (record { keeps = record { facts = facts; outside = λ f out. refl }; resident = resident })).resident
+
+  -- and so do the sets of another domain
+  module _ (q : Own) (other : IsKernel p q) (apart : AreApart (own_colour q) (own_colour o)) where
+    others_if : (s : Local) (e : Event) → HasFacts p o s.dom s.storage → SameSets p q (happened (setting p o false) s e).caches s.caches
+    unfolding happened paid delivered
+    others_if s (Jump t) facts = λ n own. refl
+    others_if s (Deliver line) facts = others_touches p q other o (delivery_touches p (layout p o)) s.caches apart (delivery_may p o kernel)
+    others_if s Run facts = others_touches p q other o (instruction p (estate p o) (layout p o) s.clock s.dom s.storage).notes s.caches apart (may_run s.clock s facts)
+
+    pub step_others : (end : ℕ) (s : Local) → HasFacts p o s.dom s.storage → SameSets p q (step (setting p o false) end s).caches s.caches
+    unfolding step
+    step_others end s facts = others_if s (event o s.clock end s.dom) facts
+
+    record Spares (first : Caches) (s : Local) : Type 0 where
+      keeps : Keeps p o s.storage s
+      sets : SameSets p q s.caches first
+
+    pub steps_others : (end n : ℕ) (s : Local) → HasFacts p o s.dom s.storage → SameSets p q (steps (setting p o false) end n s).caches s.caches
+    steps_others end n s facts =
+        (steps_by (setting p o false) end (Spares s.caches)
+        (λ t below h. record {
+          keeps = record { facts = (step_keeps false end t.storage t h.keeps).facts; outside = λ f out. refl };
+          sets = λ m own. step_others end t h.keeps.facts m own ∙ h.sets m own;
+        }) n s (record { keeps = record { facts = facts; outside = λ f out. refl }; sets = λ m own. refl })).sets
+
+-- ---- what a step does to the caches
+
+caches_if : (p : Hardware) (o : Own) (pinned : Bool) (s : Local) (e : Event)
+    → (happened (setting p o pinned) s e).caches ≡ (touched_all (hierarchy p) pinned s.caches (event_touches p o s e)).caches
+unfolding happened paid delivered touched_all
+caches_if p o pinned s (Jump t) = refl
+caches_if p o pinned s (Deliver line) = refl
+caches_if p o pinned s Run = refl
+
+pub step_caches : StepTouchesLaw
+unfolding step
+step_caches p o pinned end s = caches_if p o pinned s (event o s.clock end s.dom)
+
+-- ---- a state and itself
+
+-- caches are beside themselves, where what is shared is in them
+pub caches_themselves : (p : Hardware) (o : Own) (c : Caches) → Resident p c → BesideCaches p o c c c
+caches_themselves p o c resident = record { core = refl; l2 = record { same = λ s own. refl; resident = resident; outside = λ s out kernel. refl } }
+
+-- and so is a state
+pub beside_itself : (p : Hardware) (o : Own) (s : Local) → IsKernel p o → HasFacts p o s.dom s.storage → Resident p s.caches → Beside p o s s s
+beside_itself p o s kernel facts resident = record {
+  kernel = kernel;
+  dom = refl;
+  facts = facts;
+  storage = record { same = λ f h. refl; outside = λ f h. refl };
+  caches = caches_themselves p o s.caches resident;
+  clock = refl;
+}

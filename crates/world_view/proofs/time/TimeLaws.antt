@@ -1,0 +1,246 @@
+-- When slots end and begin.
+use Rattle.std.proofs.Common.{◌≡◌, ℕ, Bool, true, false, cond, eqb, eqb-true, ltb, max, subst, sym, ap, ◌∙◌, zero, suc, ◌+◌, ◌-◌, ◌<◌, ◌≤◌, List, [], ◌∷◌, ◌++◌, length, refl, arith, ltb-true}
+use Rattle.std.proofs.lemmas.Bool.Decides.{nat_tests}
+use Rattle.std.proofs.lemmas.List.{length-replicate}
+use Rattle.std.specs.Prelude.{Some, None, ◌≢◌}
+use Rattle.rv_decode.specs.declared.Instr.TheVariants.{Ecall}
+use Rattle.pad_bound.specs.Bound.{worst_instruction}
+use Rattle.image_check.specs.Pads.{shape_of}
+use Rattle.tp_base.specs.Table.{at, put, at-empty}
+use Rattle.set_cache.specs.Cache.{CacheSet, fresh_set}
+use Rattle.mem_system.specs.Cost.{Touched, cold, fresh_core}
+use Rattle.cache_sharing.specs.Worst.{HasWays}
+use Rattle.cache_sharing.proofs.Worst.{worst_law, on_time_law}
+use Rattle.hardware_check.specs.Hardware.{Hardware}
+use Rattle.sched_table.specs.declared.schedule.Entry.{Entry}
+use Rattle.sched_table.specs.Schedule.{entry_in}
+use Rattle.image_check.specs.Own.{Own}
+use Rattle.image_check.specs.Image.{Image, own_of}
+use Rattle.sched_table.proofs.Starts.{pad_law}
+use Rattle.sched_table.specs.Schedule.{entry_of_slot, pad_of, start, slot_end, last_end, outgoing}
+use Rattle.world_view.specs.Kernel.{estate, layout}
+use Rattle.world_view.specs.Cost.{hierarchy}
+use Rattle.world_view.specs.Event.{Event, event, instruction, delivery_touches}
+use Rattle.world_view.specs.Event.Event.{Jump, Deliver, Run}
+use Rattle.world_view.specs.Machine.{with_hart, caches_of, clock_of, setting, Local, World, paid, delivered, happened, step, steps, stretch, clone_of, switch_work, with_part, part_of, switch, run_slot, opening, whole}
+use Rattle.world_view.specs.Used.{largest_of}
+use Rattle.world_view.specs.Relations.{largest_step, bound, InTime, AllWithinPads}
+use Rattle.world_view.proofs.opening.Separate.{Separated}
+use Rattle.world_view.specs.Laws.{local_in}
+use Rattle.world_view.specs.EventLaws.{EndsBy, next_instruction, StepCostLaw, PlainCostLaw}
+use Rattle.world_view.proofs.steps.Fuel.{IsTimed, StaysWithin, event_within, step_later, steps_by, one_more_by}
+use Rattle.world_view.proofs.time.ActCosts.{instruction_within, delivery_within, plain_within}
+use Rattle.world_view.proofs.runs.SwitchParts.{all_touches, switch_is}
+
+-- ---- a step, from any caches
+
+-- what an event costs at most
+costs_if : (p : Hardware) (o : Own) (pinned : Bool) (end : ℕ) (s : Local) (e : Event) → HasWays (hierarchy p) s.caches → StaysWithin end e
+    → EndsBy p s.clock end e (happened (setting p o pinned) s e).clock
+unfolding happened paid delivered
+costs_if p o pinned end s (Jump t) ways stays = stays
+costs_if p o pinned end s (Deliver line) ways stays =
+    let within = delivery_within p o in
+    let cost = (worst_law (hierarchy p) pinned (delivery_touches p (layout p o)) s.caches ways).cost in
+    omega (arith, within, cost)
+costs_if p o pinned end s Run ways stays =
+    let ts = (instruction p (estate p o) (layout p o) s.clock s.dom s.storage).notes in
+    let within = instruction_within p o s.clock s.dom s.storage in
+    let cost = (worst_law (hierarchy p) pinned ts s.caches ways).cost in
+    omega (arith, within, cost)
+
+pub step_costs : StepCostLaw
+unfolding step
+step_costs p o pinned end s ways = costs_if p o pinned end s (event o s.clock end s.dom) ways (event_within o s.clock end s.dom)
+
+-- an instruction that makes no call is within the bound's
+plain_if : (p : Hardware) (o : Own) (pinned : Bool) (s : Local) (e : Event) → HasWays (hierarchy p) s.caches → e ≡ Run
+    → next_instruction p o s.dom s.storage.mem ≢ Some Ecall → (happened (setting p o pinned) s e).clock ≤ s.clock + worst_instruction (shape_of p)
+unfolding happened paid
+plain_if p o pinned s (Jump t) ways is plain = absurd (cc is)
+plain_if p o pinned s (Deliver line) ways is plain = absurd (cc is)
+plain_if p o pinned s Run ways is plain =
+    let ts = (instruction p (estate p o) (layout p o) s.clock s.dom s.storage).notes in
+    let within = plain_within p o s.clock s.dom s.storage plain in
+    let cost = (worst_law (hierarchy p) pinned ts s.caches ways).cost in
+    omega (arith, within, cost)
+
+pub plain_costs : PlainCostLaw
+unfolding step
+plain_costs p o pinned end s ways is plain = plain_if p o pinned s (event o s.clock end s.dom) ways is plain
+
+-- ---- a slot
+
+module _ (p : Hardware) (timed : IsTimed p) (o : Own) (pinned : Bool) (end : ℕ) where
+  -- the clock is past the end by less than the largest step, and the caches have their ways
+  pub record IsSoon (s : Local) : Type 0 where
+    pub clock : s.clock < end + largest_step p
+    pub ways : HasWays (hierarchy p) s.caches
+
+  soon_if : (s : Local) (e : Event) → s.clock < end → HasWays (hierarchy p) s.caches → StaysWithin end e → IsSoon (happened (setting p o pinned) s e)
+  unfolding happened paid delivered
+  soon_if s (Jump t) below ways stays =
+      let within = instruction_within p o s.clock s.dom s.storage in
+      let base = timed.base in
+      record { clock = omega (arith, base, within, stays); ways = ways }
+  soon_if s (Deliver line) below ways stays =
+      let costs = costs_if p o pinned end s (Deliver line) ways stays in
+      record { clock = omega (arith, below, costs); ways = (worst_law (hierarchy p) pinned (delivery_touches p (layout p o)) s.caches ways).ways }
+  soon_if s Run below ways stays =
+      let ts = (instruction p (estate p o) (layout p o) s.clock s.dom s.storage).notes in
+      let costs = costs_if p o pinned end s Run ways stays in
+      record { clock = omega (arith, below, costs); ways = (worst_law (hierarchy p) pinned ts s.caches ways).ways }
+
+  -- a step that begins in time ends past the end by less than the largest step
+  step_soon : (s : Local) → s.clock < end → IsSoon s → IsSoon (step (setting p o pinned) end s)
+  unfolding step
+  step_soon s below soon = soon_if s (event o s.clock end s.dom) below soon.ways (event_within o s.clock end s.dom)
+
+  -- so do any number of steps
+  pub steps_soon : (n : ℕ) (s : Local) → IsSoon s → IsSoon (steps (setting p o pinned) end n s)
+  steps_soon n s soon = steps_by (setting p o pinned) end IsSoon step_soon n s soon
+
+  IsOver : Local → Type 0
+  IsOver s = end ≤ s.clock
+
+  over_if : (b : Bool) (n : ℕ) (s : Local) → ltb s.clock end ≡ b → end - s.clock ≤ suc n
+      → ((t : Local) → end - t.clock ≤ n → IsOver (steps (setting p o pinned) end n t))
+      → IsOver (elim b [ true ↦ steps (setting p o pinned) end n (step (setting p o pinned) end s) | false ↦ s ])
+  unfolding IsOver
+  over_if true n s t few next =
+      let below : s.clock < end = ltb-true s.clock end t in
+      let later = step_later (setting p o pinned) timed end s below in
+      next (step (setting p o pinned) end s) (omega (arith, few, later))
+  over_if false n s t few next = let past : end ≤ s.clock = grind (arith, nat_tests) in past
+
+  over : (n : ℕ) (s : Local) → end - s.clock ≤ n → IsOver (steps (setting p o pinned) end n s)
+  unfolding steps IsOver
+  over zero s few = omega (arith, few)
+  over (suc n) s few = over_if (ltb s.clock end) n s refl few (λ t. over n t)
+
+  pub stretch_over : (s : Local) → end ≤ (stretch (setting p o pinned) end s).clock
+  unfolding IsOver
+  stretch_over s = over (end - s.clock) s (omega arith)
+
+  pub stretch_soon : (s : Local) → IsSoon s → IsSoon (stretch (setting p o pinned) end s)
+  stretch_soon s soon = steps_soon (end - s.clock) s soon
+
+-- ---- a switch
+
+pub cold_ways : (p : Hardware) → HasWays (hierarchy p) (cold (hierarchy p))
+unfolding cold fresh_core
+cold_ways p s below =
+    let ways = (hierarchy p).l1d.ways in
+    ap (λ (x : CacheSet). length x.places) (at-empty (fresh_set ways) s) ∙ length-replicate ways None
+
+pub switch_ways : (i : Image) (k : ℕ) (w : World) → HasWays (hierarchy i.all.hardware) (caches_of 0 w) → HasWays (hierarchy i.all.hardware) (caches_of 0 (switch i k w))
+unfolding switch with_hart at put
+switch_ways i k w ways =
+    let p = i.all.hardware in
+    let out = outgoing i.all.schedule k in
+    let d = (entry_of_slot i.all.schedule k).domain in
+    let touches = worst_law (hierarchy p) false (all_touches i out d) (caches_of 0 w) ways in
+    subst (λ (r : Touched). HasWays (hierarchy p) r.caches) (sym (switch_is i out d (caches_of 0 w))) touches.ways
+
+pub used_in_bound : (i : Image) (k : ℕ) (w : World) → InTime i k w
+    → (clock_of 0 w + (switch_work i (outgoing i.all.schedule k) (entry_of_slot i.all.schedule k).domain (caches_of 0 w)).cost) - last_end i.all.schedule k ≤ bound i.all.hardware
+unfolding hierarchy layout
+used_in_bound i k w time =
+    let p = i.all.hardware in
+    let out = outgoing i.all.schedule k in
+    let d = (entry_of_slot i.all.schedule k).domain in
+    subst (λ (r : Touched). (clock_of 0 w + r.cost) - last_end i.all.schedule k ≤ bound p) (sym (switch_is i out d (caches_of 0 w)))
+    (on_time_law (hierarchy p) p.shared (last_end i.all.schedule k) (clock_of 0 w) (clone_of i out) (layout p (own_of i d)) (caches_of 0 w) time.ways (record { line = refl; shared = refl }) time.over time.soon)
+
+pub used_in_pad : (i : Image) (k : ℕ) (w : World) → bound i.all.hardware ≤ pad_of i.all.schedule k → InTime i k w
+    → (clock_of 0 w + (switch_work i (outgoing i.all.schedule k) (entry_of_slot i.all.schedule k).domain (caches_of 0 w)).cost) - last_end i.all.schedule k ≤ pad_of i.all.schedule k
+used_in_pad i k w padded time = let used = used_in_bound i k w time in omega (arith, padded, used)
+
+-- the next slot begins at its start
+pub switch_on_start : (i : Image) (k : ℕ) (w : World) → bound i.all.hardware ≤ pad_of i.all.schedule k → InTime i k w → clock_of 0 (switch i k w) ≡ start i.all.schedule k
+unfolding switch with_hart at put
+switch_on_start i k w padded time =
+    let used = used_in_pad i k w padded time in
+    let at = pad_law i.all.schedule k in
+    omega (arith, used, at)
+
+-- ---- all slots
+
+module _ (i : Image) (r : Separated i) where
+  -- a slot begins before its end
+  begins_soon : (k : ℕ) → InTime i k (whole i k)
+      → let d = (entry_of_slot i.all.schedule k).domain in
+      IsSoon i.all.hardware r.timed (own_of i d) false (slot_end i.all.schedule k) (part_of 0 d (switch i k (whole i k)))
+  begins_soon k time =
+      let p = i.all.hardware in
+      let d = (entry_of_slot i.all.schedule k).domain in
+      let begun = part_of 0 d (switch i k (whole i k)) in
+      let at = switch_on_start i k (whole i k) (r.padded k) time in
+      let within = instruction_within p (own_of i d) 0 begun.dom begun.storage in
+      let base = r.timed.base in
+      record { clock = omega (arith, at, within, base); ways = switch_ways i k (whole i k) time.ways }
+
+  slot_in_time : (k : ℕ) → InTime i k (whole i k) → InTime i (suc k) (whole i (suc k))
+  unfolding whole run_slot with_part with_hart at put
+  slot_in_time k time =
+      let p = i.all.hardware in
+      let end = slot_end i.all.schedule k in
+      let d = (entry_of_slot i.all.schedule k).domain in
+      let begun = part_of 0 d (switch i k (whole i k)) in
+      let ends = stretch_soon p r.timed (own_of i d) false end begun (begins_soon k time) in
+      record { over = stretch_over p r.timed (own_of i d) false end begun; soon = ends.clock; ways = ends.ways }
+
+  pub in_time : (k : ℕ) → InTime i k (whole i k)
+  unfolding whole opening with_hart at put
+  in_time zero =
+      let within = instruction_within i.all.hardware (own_of i 0) 0 (part_of 0 0 (opening i)).dom (opening i).storage in
+      let base = r.timed.base in
+      record { over = omega arith; soon = omega (arith, base, within); ways = cold_ways i.all.hardware }
+  in_time (suc k) = slot_in_time k (in_time k)
+
+  pub on_time : (k : ℕ) → clock_of 0 (switch i k (whole i k)) ≡ start i.all.schedule k
+  on_time k = switch_on_start i k (whole i k) (r.padded k) (in_time k)
+
+  -- at each moment of a slot
+  soon_in : (k n : ℕ) → IsSoon i.all.hardware r.timed (own_of i (entry_of_slot i.all.schedule k).domain) false (slot_end i.all.schedule k) (local_in i k n)
+  soon_in k n =
+      let d = (entry_of_slot i.all.schedule k).domain in
+      steps_soon i.all.hardware r.timed (own_of i d) false (slot_end i.all.schedule k) n (part_of 0 d (switch i k (whole i k))) (begins_soon k (in_time k))
+
+  Timely : ℕ → Local → Local → Type 0
+  Timely k s t =
+      let end = slot_end i.all.schedule k in
+      s.clock < end → HasWays (hierarchy i.all.hardware) s.caches
+      → EndsBy i.all.hardware s.clock end (event (own_of i (entry_of_slot i.all.schedule k).domain) s.clock end s.dom) t.clock
+
+  pub slot_costs : (k n : ℕ) → (local_in i k n).clock < slot_end i.all.schedule k →
+      let s = local_in i k n in
+      let end = slot_end i.all.schedule k in
+      EndsBy i.all.hardware s.clock end (event (own_of i (entry_of_slot i.all.schedule k).domain) s.clock end s.dom) (local_in i k (suc n)).clock
+  unfolding Timely
+  slot_costs k n below =
+      let p = i.all.hardware in
+      let o = own_of i (entry_of_slot i.all.schedule k).domain in
+      let end = slot_end i.all.schedule k in
+      one_more_by (setting p o false) end (Timely k) (λ s early _ ways. step_costs p o false end s ways) (λ s past early ways. absurd (omega (arith, past, early)))
+      n (part_of 0 (entry_of_slot i.all.schedule k).domain (switch i k (whole i k))) below (soon_in k n).ways
+
+within_append : (es : List Entry) (us vs : List (ℕ × ℕ)) → AllWithinPads es us → AllWithinPads es vs → AllWithinPads es (us ++ vs)
+within_append es [] vs h k = k
+within_append es (u ∷ us) vs h k = (h.0, within_append es us vs h.1 k)
+
+pub used_within : (i : Image) (n : ℕ) → Separated i → AllWithinPads i.all.schedule (whole i n).used
+unfolding whole opening run_slot with_part switch with_hart at put
+used_within i zero r = tt
+used_within i (suc k) r = within_append i.all.schedule (whole i k).used _ (used_within i k r) (used_in_pad i k (whole i k) (r.padded k) (in_time i r k), tt)
+
+largest_if : (e largest pad : ℕ) (u : ℕ × ℕ) (b : Bool) → eqb u.0 e ≡ b → largest ≤ pad → (u.0 ≡ e → u.1 ≤ pad) → cond b (max u.1 largest) largest ≤ pad
+largest_if e largest pad u true t h k = let here = k (eqb-true u.0 e t) in omega arith
+largest_if e largest pad u false t h k = h
+
+-- the largest of an entry's switches is within its pad
+pub largest_within : (es : List Entry) (e : ℕ) (us : List (ℕ × ℕ)) → AllWithinPads es us → largest_of e us ≤ (entry_in es e).pad
+unfolding largest_of
+largest_within es e [] h = omega arith
+largest_within es e (u ∷ us) h =
+    largest_if e (largest_of e us) (entry_in es e).pad u (eqb u.0 e) refl (largest_within es e us h.1) (λ q. subst (λ (x : ℕ). u.1 ≤ (entry_in es x).pad) q h.0)
