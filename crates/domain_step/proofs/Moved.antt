@@ -1,7 +1,7 @@
 -- A domain in its slot, of the code and of the definitions.
-use Rattle.std.proofs.Common.{◌≡◌, ◌≢◌, ℕ, zero, suc, ◌+◌, ◌<◌, ◌≤◌, List, [], ◌∷◌, length, Option, Some, None, leb, true, false, inl, inr, refl, sym, ap, subst, ◌∙◌, arith}
+use Rattle.std.proofs.Common.{◌≡◌, ◌≢◌, ℕ, zero, suc, ◌+◌, ◌<◌, ◌≤◌, Bool, List, [], ◌∷◌, length, Option, Some, None, leb, true, false, inl, inr, refl, sym, ap, subst, ◌∙◌, arith}
 use Rattle.std.specs.Prelude.{option_map, slice_get}
-use Rattle.std.proofs.lemmas.Bool.{cases_Bool, lt-leb}
+use Rattle.std.proofs.lemmas.Bool.{cases_Bool, cases_lt, lt-leb}
 use Rattle.std.proofs.lemmas.Option.{none-some}
 use Rattle.phys_mem.specs.Contents.{Contents}
 use Rattle.irq_partition.specs.declared.Moment.{Moment}
@@ -32,7 +32,7 @@ use Rattle.world_view.specs.Machine.{Setting, Local, paid, delivered, step, stre
 use Rattle.world_view.proofs.steps.Fuel.{IsTimed, idle_past, stretch_step, stretch_done}
 use Rattle.world_view.proofs.steps.CodeLaws.{step-running, step-due, step-idle, step-still}
 use Rattle.domain_step.specs.Kept.{Fits, KeptOf}
-use Rattle.domain_step.specs.Stands.{GoesOn, IsPlain}
+use Rattle.domain_step.specs.Stands.{GoesOn, IsPlain, IsOther}
 use Rattle.domain_step.specs.Moves.{Yields, Left, Leaves, StandsIn, Moves, Runs, MovesAlong}
 use Rattle.domain_step.proofs.Charges.{same_costs, owed, fits_still, steps_there}
 use Rattle.domain_step.proofs.Events.{has_still}
@@ -95,6 +95,25 @@ plain_on old new now on plain = record {
   ready = ap is_ready on.thread ∙ plain.ready;
   none = ap (due now) on.interrupts ∙ plain.none;
 }
+
+never : (b : Bool) (now end : ℕ) → now < end → (b ≡ true → end ≤ now) → b ≡ false
+never false now end early other = refl
+never true now end early other = absurd (omega (arith, early, other refl))
+
+-- one that runs, at a clock at which no moment is due, has no thread that is ready where no instruction comes next
+pub not_ready : (d : Domain) (now end : ℕ) → now < end → d.status ≡ Running → due now d.interrupts ≡ None
+    → IsOther d now end → is_ready d.threads.active.state ≡ false
+not_ready d now end early running none other =
+    never (is_ready d.threads.active.state) now end early
+    (λ ready. other (record { running = running; ready = ready; none = none }))
+
+-- from then on no instruction comes next before the end
+pub other_from : (d : Domain) (now end : ℕ) → idle_until end (next_cycle d.interrupts) ≤ now → IsOther d now end
+other_from d now end late plain =
+    elim (cases_lt now end) [
+      | inl early ↦ absurd (omega (arith, late, idle_later d.interrupts now end early plain.none))
+      | inr over ↦ over
+    ]
 
 -- ---- between events
 

@@ -36,3 +36,7 @@ pub record IsPlain (d : Domain) (now : ℕ) : Type 0 where
   pub running : d.status ≡ Running
   pub ready : is_ready d.threads.active.state ≡ true
   pub none : due now d.interrupts ≡ None
+
+-- at a clock before that end its next event is something else
+abbrev pub IsOther : Domain → ℕ → ℕ → Type 0
+IsOther d now end = IsPlain d now → end ≤ now

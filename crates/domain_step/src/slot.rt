@@ -22,7 +22,7 @@ ghost use Rattle.cache_sharing.specs.Operations.{operation, plain};
 ghost use Rattle.world_view.specs.Event as event;
 ghost use Rattle.world_view.specs.Machine as spec;
 ghost use Rattle.world_view.specs.Kernel.{estate};
-ghost use Rattle.domain_step.specs.Stands.{HasRoom, Grows, KeepsFrames, GoesOn, IsPlain};
+ghost use Rattle.domain_step.specs.Stands.{HasRoom, Grows, KeepsFrames, GoesOn, IsPlain, IsOther};
 ghost use Rattle.world_view.specs.Machine.{Setting};
 ghost use Rattle.domain_step.specs.Kept.{Kept, KeptOf};
 ghost use Rattle.domain_step.specs.Moves.{Yields, Answered, Finds, Leaves, Moves, MovesAlong, Runs};
@@ -313,13 +313,65 @@ fn run<P: Policy>(
     Ran { clock, goes_on }
 }
 
+// Until when instructions are all that a domain does which goes on as it stands:
+// the slot's end, or its next moment where that is sooner. 0 of one whose next
+// event is none.
+#[inline(always)]
+fn plain_until(domain: &Domain, end: u64) -> u64
+    ensures plain { (now : ℕ) → now < result → IsPlain domain.now now }
+    ensures other { (now : ℕ) → result ≤ now → IsOther domain.now now end }
+    ensures within { result ≤ end }
+{
+    let DomainStatus::Running = domain.status else {
+        return 0;
+    };
+    if !domain.threads.active.state.is_ready() {
+        return 0;
+    }
+    idle_until(end, domain.interrupts.next_moment())
+}
+
+// One event of a domain whose next one is no instruction. The instructions stand
+// in one place by that, and are no call there.
+#[inline(never)]
+fn wait_or_deliver<P: Policy>(
+    memory: &PhysMem,
+    system: &mut MemSystem<P>,
+    domain: &mut Domain,
+    now: u64,
+    end: u64,
+) -> u64
+    requires runs { Runs P.rule P.stands_for memory.now domain.old system.old now }
+    requires before { now < end }
+    requires end { end < 2 ^ 62 }
+    requires few { CountsUpTo now domain.old }
+    requires other { IsOther domain.old now end }
+    ensures becomes { Moves P.rule P.stands_for (λ w. spec.step w end)
+        memory.now domain.old system.old now memory.now domain.new system.new result }
+    ensures hierarchy { hierarchy_of P.rule system.new ≡ hierarchy_of P.rule system.old }
+    ensures pinned { system.new.core.pinned ≡ system.old.core.pinned }
+    ensures runs { Runs P.rule P.stands_for memory.now domain.new system.new result }
+    ensures few { CountsUpTo result domain.new }
+    ensures later { now < result }
+    ensures soon { result < end + most_event }
+{
+    // For the prover: what is said of memory.
+    let _ = memory;
+    let DomainStatus::Running = domain.status else {
+        return end;
+    };
+    if let Some(_line) = domain.interrupts.due(now) {
+        return now + u64::from(deliver_due(system, domain));
+    }
+    idle_until(end, domain.interrupts.next_moment())
+}
+
 /// One event of the domain in a slot that ends then. Answers the new clock, in
 /// cycles. Of a domain that runs, a moment that is due is delivered, and the
 /// delivery charged; else, where no thread is ready, the clock goes on to the
 /// next moment or the end; else the current thread runs an instruction, which
 /// with all that it charges may be past the end. One that doesn't run waits for
 /// the end.
-#[inline(never)]
 pub fn step<P: Policy>(
     memory: &mut PhysMem,
     system: &mut MemSystem<P>,
@@ -342,33 +394,11 @@ pub fn step<P: Policy>(
     ensures later { now < result }
     ensures soon { result < end + most_event }
 {
-    let DomainStatus::Running = domain.status else {
-        return end;
-    };
-    if let Some(_line) = domain.interrupts.due(now) {
-        return now + u64::from(deliver_due(system, domain));
+    if now < plain_until(domain, end) {
+        run(memory, system, domain, now).clock
+    } else {
+        wait_or_deliver(memory, system, domain, now, end)
     }
-    if !domain.threads.active.state.is_ready() {
-        return idle_until(end, domain.interrupts.next_moment());
-    }
-    run(memory, system, domain, now).clock
-}
-
-// Until when instructions are all that a domain does which goes on as it stands:
-// the slot's end, or its next moment where that is sooner. 0 of one whose next
-// event is none.
-#[inline(always)]
-fn plain_until(domain: &Domain, end: u64) -> u64
-    ensures plain { (now : ℕ) → now < result → IsPlain domain.now now }
-    ensures within { result ≤ end }
-{
-    let DomainStatus::Running = domain.status else {
-        return 0;
-    };
-    if !domain.threads.active.state.is_ready() {
-        return 0;
-    }
-    idle_until(end, domain.interrupts.next_moment())
 }
 
 // Instructions, one after the other, while the domain goes on and the clock is
@@ -440,7 +470,7 @@ pub fn stretch<P: Policy>(
         clock = if clock < until {
             run_plain(memory, system, domain, clock, until)
         } else {
-            step(memory, system, domain, clock, end)
+            wait_or_deliver(memory, system, domain, clock, end)
         };
     }
     clock

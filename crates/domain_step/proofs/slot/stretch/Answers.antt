@@ -28,7 +28,7 @@ pub loop-clock-preserved : goal.loop-clock-preserved
 loop-clock-preserved g c =
     let here = c.loop-clock in
     let inv = here.invariant in
-    let next = c.step-clock in
+    let next = c.wait_or_deliver-clock in
     let costs = c.costs-costs in
     let base : 0 < here.system.core.costs.base =
     subst (λ (n : ℕ). 0 < n)
@@ -42,16 +42,16 @@ loop-clock-preserved g c =
       few = next.ensures.few;
       soon = λ h. next.ensures.soon;
       still = λ h. absurd (omega (arith, h, inv.still h, c.loop-clock-test.true));
-      frames = next.ensures.frames ∙ inv.frames;
+      frames = inv.frames;
       hierarchy = next.ensures.hierarchy ∙ inv.hierarchy;
       pinned = next.ensures.pinned ∙ inv.pinned;
       runs = next.ensures.runs;
       so_far =
-          along_then g.P.Policy.rule g.P.Policy.stands_for c.args.end c.args.memory.now here.memory next.new.memory
+          along_then g.P.Policy.rule g.P.Policy.stands_for c.args.end c.args.memory.now here.memory here.memory
           c.args.domain.now here.domain next.new.domain c.args.system.now here.system next.new.system
           c.args.now here.clock next.result inv.so_far
           (along_step g.P.Policy.rule g.P.Policy.stands_for c.args.end here.memory here.domain here.system here.clock base trap
-          next.new.memory next.new.domain next.new.system next.result c.loop-clock-test.true next.ensures.becomes);
+          here.memory next.new.domain next.new.system next.result c.loop-clock-test.true next.ensures.becomes);
     }
 
 pub returns-clause-becomes : goal.returns-clause-becomes

@@ -7,9 +7,10 @@ use Rattle.cache_sharing.specs.Operations.{plain}
 use Rattle.world_view.specs.Event.{idle_until}
 use Rattle.world_view.specs.Machine.{step}
 use Rattle.domain_step.proofs.Counts.{counts_later}
-use Rattle.domain_step.proofs.Moved.{due_line, due_left, idle_later, moves_due, moves_idle, moves_still, not_running, runs_on}
-use Rattle.domain_step.proofs.slot.step.Goals as goal
+use Rattle.domain_step.proofs.Moved.{due_line, due_left, idle_later, moves_due, moves_idle, moves_still, not_ready, not_running, runs_on}
+use Rattle.domain_step.proofs.slot.wait_or_deliver.Goals as goal
 
+-- no moment
 none_left : (o : Option ℕ) → ((x : ℕ) → o ≢ Some x) → o ≡ None
 none_left None none = refl
 none_left (Some x) none = absurd (none x refl)
@@ -22,7 +23,6 @@ returns-in_default g c =
     (not_running c.args.domain.now.status c.in_default.not-Running) in
     record {
       becomes = still;
-      frames = refl;
       hierarchy = refl;
       pinned = refl;
       runs = runs_on g.P.Policy.rule g.P.Policy.stands_for c.args.end c.args.memory.now c.args.memory.now c.args.domain.now c.args.domain.now c.args.system.now c.args.system.now
@@ -56,40 +56,28 @@ returns-in-Some-clause-runs g c =
 
 -- ---- no thread is ready
 
-pub returns-then-not-is_ready-clause-becomes : goal.returns-then-not-is_ready-clause-becomes
-returns-then-not-is_ready-clause-becomes g c =
+pub returns-clause-becomes : goal.returns-clause-becomes
+returns-clause-becomes g c =
     let d = c.args.domain.now in
     let none : due c.args.now d.interrupts ≡ None = sym c.due.ensures.due ∙ none_left c.due.result c.in_default-due.not-Some in
-    let idle : is_ready d.threads.active.state ≡ false = sym c.is_ready.ensures.ready ∙ c.if-not-is_ready.true in
+    let idle : is_ready d.threads.active.state ≡ false = not_ready d c.args.now c.args.end c.requires.before c.in-Running.is none c.requires.other in
     moves_idle g.P.Policy.rule g.P.Policy.stands_for c.args.end c.args.memory.now d c.args.system.now c.args.now c.idle_until.result c.in-Running.is none idle
     (c.idle_until.ensures.value ∙ ap (idle_until c.args.end) c.next_moment.ensures.next)
 
-pub returns-then-not-is_ready-clause-runs : goal.returns-then-not-is_ready-clause-runs
-returns-then-not-is_ready-clause-runs g c =
+pub returns-clause-runs : goal.returns-clause-runs
+returns-clause-runs g c =
     runs_on g.P.Policy.rule g.P.Policy.stands_for c.args.end c.args.memory.now c.args.memory.now c.args.domain.now c.args.domain.now c.args.system.now c.args.system.now
-    (λ w. step w c.args.end) c.args.now _ (returns-then-not-is_ready-clause-becomes g c) c.requires.runs
+    (λ w. step w c.args.end) c.args.now _ (returns-clause-becomes g c) c.requires.runs
 
-pub returns-then-not-is_ready-clause-later : goal.returns-then-not-is_ready-clause-later
-returns-then-not-is_ready-clause-later g c =
+pub returns-clause-later : goal.returns-clause-later
+returns-clause-later g c =
     let d = c.args.domain.now in
     let none : due c.args.now d.interrupts ≡ None = sym c.due.ensures.due ∙ none_left c.due.result c.in_default-due.not-Some in
     let past = idle_later d.interrupts c.args.now c.args.end c.requires.before none in
     let is : c.idle_until.result ≡ idle_until c.args.end (next_cycle d.interrupts) = c.idle_until.ensures.value ∙ ap (idle_until c.args.end) c.next_moment.ensures.next in
     omega (arith, past, is)
 
-pub returns-then-not-is_ready-clause-few : goal.returns-then-not-is_ready-clause-few
-returns-then-not-is_ready-clause-few g c =
-    let later = returns-then-not-is_ready-clause-later g c in
+pub returns-clause-few : goal.returns-clause-few
+returns-clause-few g c =
+    let later = returns-clause-later g c in
     counts_later c.args.now c.idle_until.result c.args.domain.now (omega (arith, later)) c.requires.few
-
--- ---- an instruction
-
-pub run-requires-clause-plain : goal.run-requires-clause-plain
-run-requires-clause-plain g c = record {
-  running = c.in-Running.is;
-  ready = sym c.is_ready.ensures.ready ∙ c.if-not-is_ready.false;
-  none = sym c.due.ensures.due ∙ none_left c.due.result c.in_default-due.not-Some;
-}
-
-pub returns-clause-becomes : goal.returns-clause-becomes
-returns-clause-becomes g c = c.run.ensures.becomes c.args.end
