@@ -1,7 +1,6 @@
 -- The line that was touched last: that it is so after a touch, and that a second touch of it changes nothing.
-use Rattle.std.proofs.Common.{◌≡◌, ℕ, ◌+◌, ◌*◌, ◌<◌, ◌%◌, get_or-set_same, Bool, true, false, not, eqb, List, [], length, get_or, set, Option, Some, None, option_map, refl, ap, sym, subst, ◌∙◌, arith}
+use Rattle.std.proofs.Common.{◌≡◌, ℕ, ◌+◌, ◌*◌, ◌<◌, ◌%◌, Bool, true, false, List, [], length, get_or, set, Option, Some, None, option_map, refl, ap, sym, subst, ◌∙◌, arith}
 use Rattle.std.proofs.Math.ListN.{length-set}
-use Rattle.std.specs.Prelude.{◌||◌, ◌&&◌, ◌==◌}
 use Rattle.std.proofs.lemmas.List.{get_or_default, set-get_or}
 use Rattle.std.proofs.lemmas.List.Quantifiers.{position-Some}
 use Rattle.std.proofs.lemmas.Nat.{mod_below, row_fits}
@@ -17,24 +16,22 @@ use Rattle.set_cache.specs.Last.{IsLast, IsCache, set_in}
 use Rattle.set_cache.specs.Calls.{IsTouch}
 use Rattle.set_cache.proofs.Powers.{positive}
 use Rattle.set_cache.proofs.Ways.{hit_answer, at_filled}
-use Rattle.set_cache.proofs.Sets.{OneTouch, IsOfTable, with_set, of_new, OneHit, HitsWay, hit_places, found_hit, mark_hit, touch_of_hit, table_hit, OneFill, FillsWay, touch_of_fill, table_fill, once_at}
+use Rattle.set_cache.proofs.Sets.{OneTouch, IsOfTable, with_set, of_new, OneHit, HitsWay, hit_places, found_hit, touch_of_hit, table_hit, OneFill, FillsWay, touch_of_fill, table_fill, once_at}
 
 -- the way at which the touched line stands then, and that the policy's state lets it be hit again
-pub record LeavesLast (rule : Rule) (stands : ℕ → List ℕ → Type 0) (t : OneTouch) (way : ℕ)
-    (dirty : Bool) : Type 0 where
+pub record LeavesLast (rule : Rule) (stands : ℕ → List ℕ → Type 0) (t : OneTouch) (way : ℕ) : Type 0 where
   pub found : way_of t.number t.new.places ≡ Some way
-  pub mark : dirty ≡ is_dirty (get_or t.new.places way None)
   pub again : (list : List ℕ) → stands t.new.state list → stands t.new.state (rule.touched list way)
 
-abbrev pub last_of : ℕ → OneTouch → ℕ → Bool → LastTouch
-last_of ways t way dirty = record { number = t.number; place = t.set * ways + way; dirty = dirty }
+abbrev pub last_of : ℕ → OneTouch → ℕ → LastTouch
+last_of ways t way = record { number = t.number; place = t.set * ways + way }
 
 -- a touched line was touched last
 pub last_touched : {P : Type 0} (rule : P → ℕ → Rule) (stands : P → ℕ → ℕ → List ℕ → Type 0)
-    (cache : Contents P) (t : OneTouch) (way : ℕ) (dirty : Bool) → IsOfTable cache.table t
-    → LeavesLast (rule cache.policy cache.ways) (stands cache.policy cache.ways) t way dirty
-    → IsLast rule stands (with_set cache t) (last_of cache.ways t way dirty)
-last_touched rule stands cache t way dirty at left =
+    (cache : Contents P) (t : OneTouch) (way : ℕ) → IsOfTable cache.table t
+    → LeavesLast (rule cache.policy cache.ways) (stands cache.policy cache.ways) t way
+    → IsLast rule stands (with_set cache t) (last_of cache.ways t way)
+last_touched rule stands cache t way at left =
     let of : ℕ → List ℕ → Type 0 = stands cache.policy cache.ways in
     let touched : List ℕ → ℕ → List ℕ = (rule cache.policy cache.ways).touched in
     let index : t.number % length (with_set cache t).table ≡ t.set =
@@ -45,7 +42,6 @@ last_touched rule stands cache t way dirty at left =
       way = way;
       found = ap (λ (k : KeptSet). way_of t.number k.places) there ∙ left.found;
       place = ap (λ (s : ℕ). s * cache.ways + way) (sym index);
-      dirty = left.mark ∙ ap (λ (k : KeptSet). is_dirty (get_or k.places way None)) (sym there);
       again =
           subst (λ (k : KeptSet). (list : List ℕ) → of k.state list → of k.state (touched list way))
           (sym there) left.again;
@@ -80,22 +76,21 @@ marked_line number (Some line) here dirty =
     ap (λ (k : ℕ × Bool). Some (record { number = k.0; dirty = k.1 })) (λ j. (same j, dirty j))
 
 -- a store to a marked line writes what is there
-same_places : (places : List (Option KeptLine)) (way number : ℕ) (store dirty : Bool)
-    → way_of number places ≡ Some way → dirty ≡ is_dirty (get_or places way None)
-    → (dirty || not store) ≡ true
+same_places : (places : List (Option KeptLine)) (way number : ℕ) (store : Bool)
+    → way_of number places ≡ Some way → (store ≡ true → is_dirty (get_or places way None) ≡ true)
     → places ≡ hit_places places way number store
-same_places places way number false dirty found mark marked = refl
-same_places places way number true false found mark marked = absurd (false≢true marked)
-same_places places way number true true found mark marked =
+same_places places way number false found marked = refl
+same_places places way number true found marked =
     let at = position-Some (is_line number) places way None found in
-    let line = marked_line number (get_or places way None) at.1 (sym mark) in
+    let line = marked_line number (get_or places way None) at.1 (marked refl) in
     sym (set-get_or places way None) ∙ ap (set places way) line
 
 -- a second touch of a line, that is no store or finds it marked, leaves the cache
 pub touch_again : {P : Type 0} (takes : P → ℕ → Type 0) (rule : P → ℕ → Rule)
     (stands : P → ℕ → ℕ → List ℕ → Type 0)
     (cache : Contents P) (last : LastTouch) (store : Bool) → IsSound takes stands cache
-    → IsLast rule stands cache last → (last.dirty || not store) ≡ true
+    → (is : IsLast rule stands cache last)
+    → (store ≡ true → is_dirty (get_or (set_in cache last.number).places is.way None) ≡ true)
     → IsTouch takes rule stands hit_answer last.number store cache cache
 touch_again takes rule stands cache last store sound is marked =
     let table : List KeptSet = cache.table in
@@ -115,7 +110,7 @@ touch_again takes rule stands cache last store sound is marked =
     let hits : HitsWay (rule cache.policy cache.ways) (stands cache.policy cache.ways) hit = record {
       found = is.found;
       places = same_places
-          (kept_at table s).places is.way last.number store last.dirty is.found is.dirty marked;
+          (kept_at table s).places is.way last.number store is.found marked;
       touched = is.again;
     } in
     let same : with_set cache (touch_of_hit hit) ≡ cache =
@@ -123,28 +118,6 @@ touch_again takes rule stands cache last store sound is marked =
     (set-get_or table s (record { places = []; state = 0 })) in
     subst (λ (new : Contents _). IsTouch takes rule stands hit_answer last.number store cache new) same
     (table_hit takes rule stands cache hit sound at hits)
-
-both : (a b : Bool) → (a && b) ≡ true → (a ≡ true) × (b ≡ true)
-both true b t = (refl, t)
-both false b t = absurd (false≢true t)
-
--- as the test in the program finds it
-pub touch_repeats : {P : Type 0} (takes : P → ℕ → Type 0) (rule : P → ℕ → Rule)
-    (stands : P → ℕ → ℕ → List ℕ → Type 0)
-    (cache : Contents P) (last : LastTouch) (number : ℕ) (store : Bool) → IsSound takes stands cache
-    → IsLast rule stands cache last → (last.number == number && (last.dirty || not store)) ≡ true
-    → IsTouch takes rule stands hit_answer number store cache cache
-touch_repeats takes rule stands cache last number store sound is test =
-    let of = both (last.number == number) (last.dirty || not store) test in
-    let here : eqb last.number number ≡ true = of.0 in
-    let same : last.number ≡ number = grind (arith, nat_tests) in
-    subst (λ (n : ℕ). IsTouch takes rule stands hit_answer n store cache cache) same
-    (touch_again takes rule stands cache last store sound is of.1)
-
--- a look-up is no store
-pub no_store : (dirty : Bool) → (dirty || not false) ≡ true
-no_store true = refl
-no_store false = refl
 
 -- the set of a line is in the table
 pub set_below : {P : Type 0} (takes : P → ℕ → Type 0) (stands : P → ℕ → ℕ → List ℕ → Type 0)
@@ -154,7 +127,18 @@ set_below takes stands cache set number sound home =
     let below = mod_below number (length cache.table) (positive (length cache.table) sound.power) in
     omega (arith, below, home)
 
--- a place is one of the cache's
+-- its way is one of the cache's
+pub way_below : {P : Type 0} (takes : P → ℕ → Type 0) (rule : P → ℕ → Rule)
+    (stands : P → ℕ → ℕ → List ℕ → Type 0) (cache : Contents P) (last : LastTouch)
+    → IsSound takes stands cache → (is : IsLast rule stands cache last) → is.way < cache.ways
+way_below takes rule stands cache last sound is =
+    let s : ℕ = last.number % length cache.table in
+    let below = set_below takes stands cache s last.number sound refl in
+    let full : length (kept_at cache.table s).places ≡ cache.ways = sound.full s _ below in
+    let at = position-Some (is_line last.number) (kept_at cache.table s).places is.way None is.found in
+    omega (arith, at.0, full)
+
+-- and so is its place
 pub last_below : {P : Type 0} (takes : P → ℕ → Type 0) (rule : P → ℕ → Rule)
     (stands : P → ℕ → ℕ → List ℕ → Type 0) (cache : Contents P) (last : LastTouch)
     → IsSound takes stands cache → IsLast rule stands cache last
@@ -162,20 +146,18 @@ pub last_below : {P : Type 0} (takes : P → ℕ → Type 0) (rule : P → ℕ �
 last_below takes rule stands cache last sound is =
     let s : ℕ = last.number % length cache.table in
     let below = set_below takes stands cache s last.number sound refl in
-    let full : length (kept_at cache.table s).places ≡ cache.ways = sound.full s _ below in
-    let at = position-Some (is_line last.number) (kept_at cache.table s).places is.way None is.found in
+    let way = way_below takes rule stands cache last sound is in
     let row = row_fits s cache.ways (length cache.table) cache.ways below (omega arith) in
-    omega (arith, row, is.place, at.0, full)
+    omega (arith, row, is.place, way)
 
 -- ---- hits and fills of the whole cache
 
--- a hit of a line of the cache, and the mark that the line has then
+-- a hit of a line of the cache
 pub record HitsCache {P : Type 0} (rule : P → ℕ → Rule) (stands : P → ℕ → ℕ → List ℕ → Type 0)
-    (cache : Contents P) (h : OneHit) (dirty : Bool) : Type 0 where
+    (cache : Contents P) (h : OneHit) : Type 0 where
   pub home : h.set ≡ h.number % length cache.table
   pub old : h.old ≡ kept_at cache.table h.set
   pub hits : HitsWay (rule cache.policy cache.ways) (stands cache.policy cache.ways) h
-  pub mark : dirty ≡ (h.store || is_dirty (get_or h.old.places h.way None))
   pub again : (list : List ℕ) → stands cache.policy cache.ways h.new.state list
       → stands cache.policy cache.ways h.new.state ((rule cache.policy cache.ways).touched list h.way)
 
@@ -194,38 +176,34 @@ pub record Touches {P : Type 0} (takes : P → ℕ → Type 0) (rule : P → ℕ
   pub lawful : IsCache takes rule stands (with_set cache t) fresh (Some last)
 
 touches : {P : Type 0} (takes : P → ℕ → Type 0) (rule : P → ℕ → Rule) (stands : P → ℕ → ℕ → List ℕ → Type 0)
-    (cache : Contents P) (fresh : ℕ) (before : Option LastTouch) (t : OneTouch) (way : ℕ) (dirty : Bool)
+    (cache : Contents P) (fresh : ℕ) (before : Option LastTouch) (t : OneTouch) (way : ℕ)
     → IsCache takes rule stands cache fresh before → IsOfTable cache.table t
     → IsTouch takes rule stands t.answer t.number t.store cache (with_set cache t)
-    → LeavesLast (rule cache.policy cache.ways) (stands cache.policy cache.ways) t way dirty
-    → Touches takes rule stands cache fresh t (last_of cache.ways t way dirty)
-touches takes rule stands cache fresh before t way dirty lawful at touch left = record {
+    → LeavesLast (rule cache.policy cache.ways) (stands cache.policy cache.ways) t way
+    → Touches takes rule stands cache fresh t (last_of cache.ways t way)
+touches takes rule stands cache fresh before t way lawful at touch left = record {
   touch = touch;
   lawful = record {
     sound = touch.sound;
     few = rw (length-set cache.table t.set t.new) lawful.few;
     fresh_stands = lawful.fresh_stands;
-    last_stands = last_touched rule stands cache t way dirty at left;
+    last_stands = last_touched rule stands cache t way at left;
   };
 }
 
 pub cache_hit : {P : Type 0} (takes : P → ℕ → Type 0) (rule : P → ℕ → Rule)
     (stands : P → ℕ → ℕ → List ℕ → Type 0)
-    (cache : Contents P) (fresh : ℕ) (before : Option LastTouch) (h : OneHit) (dirty : Bool)
-    → IsCache takes rule stands cache fresh before → HitsCache rule stands cache h dirty
-    → Touches takes rule stands cache fresh (touch_of_hit h)
-    (last_of cache.ways (touch_of_hit h) h.way dirty)
-cache_hit takes rule stands cache fresh before h dirty lawful hit =
+    (cache : Contents P) (fresh : ℕ) (before : Option LastTouch) (h : OneHit)
+    → IsCache takes rule stands cache fresh before → HitsCache rule stands cache h
+    → Touches takes rule stands cache fresh (touch_of_hit h) (last_of cache.ways (touch_of_hit h) h.way)
+cache_hit takes rule stands cache fresh before h lawful hit =
     let hits = hit.hits in
     let at = of_table takes stands cache (touch_of_hit h) lawful.sound hit.home hit.old in
     let places : List (Option KeptLine) = h.old.places in
-    touches takes rule stands cache fresh before (touch_of_hit h) h.way dirty lawful at
+    touches takes rule stands cache fresh before (touch_of_hit h) h.way lawful at
     (table_hit takes rule stands cache h lawful.sound at hits)
     (record {
       found = ap (way_of h.number) hits.places ∙ found_hit places h.way h.number hits.found h.store;
-      mark =
-          hit.mark ∙ sym (mark_hit places h.way h.number hits.found h.store)
-          ∙ ap (λ (ps : List (Option KeptLine)). is_dirty (get_or ps h.way None)) (sym hits.places);
       again = hit.again;
     })
 
@@ -243,21 +221,18 @@ pub cache_fill : {P : Type 0} (takes : P → ℕ → Type 0) (rule : P → ℕ �
     (cache : Contents P) (fresh : ℕ) (before : Option LastTouch) (f : OneFill)
     → IsCache takes rule stands cache fresh before → FillsCache rule stands cache f
     → Touches takes rule stands cache fresh (touch_of_fill f)
-    (last_of cache.ways (touch_of_fill f) f.way f.store)
+    (last_of cache.ways (touch_of_fill f) f.way)
 cache_fill takes rule stands cache fresh before f lawful fill =
     let fills = fill.fills in
     let t : OneTouch = touch_of_fill f in
     let line : Option KeptLine = Some (record { number = f.number; dirty = f.store }) in
     let at = of_table takes stands cache t lawful.sound fill.home fill.old in
     let once = once_at takes stands cache t lawful.sound at in
-    touches takes rule stands cache fresh before t f.way f.store lawful at
+    touches takes rule stands cache fresh before t f.way lawful at
     (table_fill takes rule stands cache f lawful.sound at fills)
     (record {
       found =
           ap (way_of f.number) fills.places
           ∙ at_filled f.old.places f.way f.number f.store fills.within once fills.missing;
-      mark =
-          ap is_dirty (sym (get_or-set_same f.old.places f.way line None fills.within))
-          ∙ ap (λ (ps : List (Option KeptLine)). is_dirty (get_or ps f.way None)) (sym fills.places);
       again = fill.again;
     })

@@ -4,4 +4,5 @@ pub mod Sets
 pub mod Places
 pub mod Steps
 pub mod Vectors
+pub mod Filling
 pub mod Last

@@ -13,11 +13,12 @@ use Rattle.set_cache.specs.Rule.{Rule}
 use Rattle.set_cache.specs.declared.Touch.{Touch}
 use Rattle.set_cache.specs.declared.KeptLine.{KeptLine}
 use Rattle.set_cache.specs.Cache.{CacheSet, Sets, SetStep, set_at, step_of, step_by, miss_at, way_for, touch_of, dirty_below, dirty_in, dirty_of, fresh_set, is_line, is_dirty, way_of}
-use Rattle.set_cache.specs.Contents.{KeptSet, Contents, SetStands, SetSteps, StandsFor, CacheSteps, IsFresh, IsSound, IsOnce, IsHome, kept_at, shape_of}
+use Rattle.set_cache.specs.Contents.{KeptSet, Contents, SetStands, SetSteps, StandsFor, CacheSteps, IsFresh, IsSound, IsOnce, AreFirst, IsHome, kept_at, shape_of}
 use Rattle.set_cache.specs.Lines.{MovesLines, MovesMarks, place_in, mark_of, mark_in, dirty_kept}
 use Rattle.set_cache.specs.Calls.{IsTouch, IsFlush, IsNew, IsGeometry}
 use Rattle.set_cache.specs.Packed.{KeptSets, fresh_sets}
 use Rattle.set_cache.proofs.Powers.{positive}
+use Rattle.set_cache.proofs.Filling.{first_fresh, first_put, kept_before_way, kept_before_chosen}
 use Rattle.set_cache.proofs.Ways.{way_of_none, none_of_way, others_of_way, once_put, ways_of, some_at, kept_before, hit_answer, moves_same, moves_marked, moves_filled, marks_same, marks_marked, marks_filled}
 
 -- what holds of each element holds of one that was read
@@ -48,6 +49,7 @@ pub record LeavesSet (stands : ℕ → List ℕ → Type 0) (ways : ℕ) (t : On
   pub full : length t.new.places ≡ ways
   pub valid : (list : List ℕ) × stands t.new.state list
   pub once : IsOnce t.new.places
+  pub first : AreFirst t.new.places
   pub moves : MovesLines t.answer t.number (ways_of t.old.places) (ways_of t.new.places)
 
 -- the set takes the definition's step
@@ -188,6 +190,7 @@ fresh_sound takes stands cache taken power small full fresh = record {
       absurd
       (false≢true
       (sym (subst (LacksLine number i) (fresh k d lt).same (none_fresh cache.ways number i)) ∙ hi));
+  first = λ k d lt. subst AreFirst (fresh k d lt).same (first_fresh cache.ways);
   home = λ s number way t.
       absurd
       (false≢true
@@ -345,6 +348,7 @@ sound_put takes stands cache t sound at left =
           All-set (λ (k : KeptSet). (list : List ℕ) × stands cache.policy cache.ways k.state list)
           table t.set t.new left.valid sound.valid;
       once = All-set (λ (k : KeptSet). IsOnce k.places) table t.set t.new left.once sound.once;
+      first = All-set (λ (k : KeptSet). AreFirst k.places) table t.set t.new left.first sound.first;
       home = λ s other way h.
           ap (λ (n : ℕ). other % n) count ∙
           elim (cases_eq s t.set) [
@@ -503,6 +507,10 @@ pub record HitsWay (rule : Rule) (stands : ℕ → List ℕ → Type 0) (h : One
   pub touched : (list : List ℕ) → stands h.old.state list
       → stands h.new.state (rule.touched list h.way)
 
+line_kept : (number : ℕ) (kept : Option KeptLine) → is_line number kept ≡ true → is_some kept ≡ true
+line_kept number None t = absurd (false≢true t)
+line_kept number (Some line) t = refl
+
 module _ (places : List (Option KeptLine)) (way number : ℕ) (found : way_of number places ≡ Some way) where
   length-hit : (store : Bool) → length (hit_places places way number store) ≡ length places
   length-hit true = length-set places way (Some (record { number = number; dirty = true }))
@@ -513,6 +521,14 @@ module _ (places : List (Option KeptLine)) (way number : ℕ) (found : way_of nu
       let at = position-Some (is_line number) places way None found in
       once_put places way number true at.0 once (others_of_way number way places once at.1)
   once_hit false once = once
+
+  first_hit : (store : Bool) → AreFirst places → AreFirst (hit_places places way number store)
+  first_hit true first =
+      let at = position-Some (is_line number) places way None found in
+      first_put places way (record { number = number; dirty = true }) at.0 first
+      (λ k before. kept_before_way places first way (line_kept number (get_or places way None) at.1) k
+      (omega (arith, before)))
+  first_hit false first = first
 
   moves_hit : (store : Bool)
       → MovesLines hit_answer number (ways_of places) (ways_of (hit_places places way number store))
@@ -573,6 +589,10 @@ module _ {P : Type 0} (takes : P → ℕ → Type 0) (stands : P → ℕ → ℕ
   once_at =
       read_at (λ (k : KeptSet). IsOnce k.places) cache.table t.set t.old at.below at.read sound.once
 
+  first_at : AreFirst t.old.places
+  first_at =
+      read_at (λ (k : KeptSet). AreFirst k.places) cache.table t.set t.old at.below at.read sound.first
+
   valid_at : (list : List ℕ) × stands cache.policy cache.ways t.old.state list
   valid_at =
       read_at (λ (k : KeptSet). (list : List ℕ) × stands cache.policy cache.ways k.state list)
@@ -590,18 +610,20 @@ table_hit takes rule stands cache h sound at hits =
     let ps : List (Option KeptLine) = h.old.places in
     let valid = valid_at takes stands cache t sound at in
     let Leaves : List (Option KeptLine) → Type 0 = λ qs.
-    (length qs ≡ cache.ways) × IsOnce qs × MovesLines hit_answer h.number (ways_of ps) (ways_of qs) in
+    (length qs ≡ cache.ways) × IsOnce qs × AreFirst qs × MovesLines hit_answer h.number (ways_of ps) (ways_of qs) in
     let left : Leaves h.new.places =
     subst Leaves (sym hits.places) (
       length-hit ps h.way h.number hits.found h.store ∙ full_at takes stands cache t sound at,
       once_hit ps h.way h.number hits.found h.store (once_at takes stands cache t sound at),
+      first_hit ps h.way h.number hits.found h.store (first_at takes stands cache t sound at),
       moves_hit ps h.way h.number hits.found h.store,
     ) in
     table_touch takes rule stands cache t sound at (record {
       full = left.0;
       valid = ((rule cache.policy cache.ways).touched valid.0 h.way, hits.touched valid.0 valid.1);
       once = left.1;
-      moves = left.2;
+      first = left.2;
+      moves = left.3;
     })
     (hit_steps (rule cache.policy cache.ways) (stands cache.policy cache.ways) h hits)
 
@@ -690,11 +712,15 @@ table_fill takes rule stands cache f sound at fills =
     let once = once_at takes stands cache t sound at in
     let valid = valid_at takes stands cache t sound at in
     let Leaves : List (Option KeptLine) → Type 0 = λ qs.
-    (length qs ≡ cache.ways) × IsOnce qs × MovesLines t.answer f.number (ways_of ps) (ways_of qs) in
+    (length qs ≡ cache.ways) × IsOnce qs × AreFirst qs × MovesLines t.answer f.number (ways_of ps) (ways_of qs) in
     let left : Leaves f.new.places =
     subst Leaves (sym fills.places) (
       length-set ps f.way line ∙ full_at takes stands cache t sound at,
       once_put ps f.way f.number f.store fills.within once (λ k _. none_of_way f.number ps fills.missing k),
+      first_put ps f.way (record { number = f.number; dirty = f.store }) fills.within
+          (first_at takes stands cache t sound at)
+          (kept_before_chosen ps f.way ((rule cache.policy cache.ways).victim valid.0) fills.within
+          (fills.chosen valid.0 valid.1)),
       moves_filled ps f.way f.number f.store t.answer.dirty_victim t.answer.victim fills.within once
           fills.missing refl,
     ) in
@@ -702,6 +728,7 @@ table_fill takes rule stands cache f sound at fills =
       full = left.0;
       valid = ((rule cache.policy cache.ways).filled valid.0 f.way, fills.filled valid.0 valid.1);
       once = left.1;
-      moves = left.2;
+      first = left.2;
+      moves = left.3;
     })
     (fill_steps (rule cache.policy cache.ways) (stands cache.policy cache.ways) f once fills)

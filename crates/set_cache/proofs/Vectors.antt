@@ -182,7 +182,7 @@ with_entry table e = set table e.set (record {
   state = e.state;
 })
 
-kept_places : (ways epoch fresh : ℕ) (entries : List Entry) (states : List WrittenState) (s : ℕ)
+pub kept_places : (ways epoch fresh : ℕ) (entries : List Entry) (states : List WrittenState) (s : ℕ)
     → s < length states
     → (kept_at (table_in ways epoch fresh entries states) s).places
     ≡ map (line_in epoch) (entries_of ways entries s)

@@ -1,5 +1,5 @@
 -- What a `SetCache` keeps, and the cache that it stands for.
-use Rattle.std.specs.Prelude.{◌≡◌, ℕ, ◌<◌, ◌*◌, ◌^◌, ◌%◌, Bool, true, List, [], length, Option, None, slice_index_or, All, refl}
+use Rattle.std.specs.Prelude.{◌≡◌, ℕ, ◌<◌, ◌+◌, ◌*◌, ◌^◌, ◌%◌, Bool, true, List, [], length, Option, None, is_some, slice_index_or, All, refl}
 use Rattle.std.specs.Int.{IsPowerOfTwo}
 use Rattle.std.specs.Coded.{Coded, code_by, coded×, coded_ℕ, coded_bool, coded_list, coded_option}
 use Rattle.set_cache.specs.Rule.{Rule}
@@ -89,6 +89,11 @@ abbrev pub IsHome : List KeptSet → Type 0
 IsHome table = (s number way : ℕ)
     → is_line number (slice_index_or (kept_at table s).places way None) ≡ true → number % length table ≡ s
 
+-- the ways that keep a line come before those that keep none
+abbrev pub AreFirst : List (Option KeptLine) → Type 0
+AreFirst places = (way : ℕ) → is_some (slice_index_or places (way + 1) None) ≡ true
+    → is_some (slice_index_or places way None) ≡ true
+
 -- what is true of every cache
 pub record IsSound {P : Type 0} (takes : P → ℕ → Type 0) (stands : P → ℕ → ℕ → List ℕ → Type 0) (contents : Contents P)
     : Type 0 where
@@ -98,4 +103,5 @@ pub record IsSound {P : Type 0} (takes : P → ℕ → Type 0) (stands : P → �
   pub full : All (λ kept. length kept.places ≡ contents.ways) contents.table
   pub valid : All (λ kept. (list : List ℕ) × stands contents.policy contents.ways kept.state list) contents.table
   pub once : All (λ kept. IsOnce kept.places) contents.table
+  pub first : All (λ kept. AreFirst kept.places) contents.table
   pub home : IsHome contents.table

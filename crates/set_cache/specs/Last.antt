@@ -1,7 +1,7 @@
 -- The line that was touched last, of which a second touch changes nothing.
-use Rattle.std.specs.Prelude.{◌≡◌, ℕ, ◌<◌, ◌+◌, ◌*◌, ◌%◌, ◌^◌, List, [], length, Option, Some, None, slice_index_or, IfSome}
+use Rattle.std.specs.Prelude.{◌≡◌, ℕ, ◌<◌, ◌+◌, ◌*◌, ◌%◌, ◌^◌, List, [], length, Option, Some, IfSome}
 use Rattle.set_cache.specs.Rule.{Rule}
-use Rattle.set_cache.specs.Cache.{way_of, is_dirty}
+use Rattle.set_cache.specs.Cache.{way_of}
 use Rattle.set_cache.specs.Contents.{KeptSet, Contents, IsSound, kept_at}
 use Rattle.set_cache.specs.declared.cache.LastTouch.{LastTouch}
 
@@ -9,13 +9,12 @@ use Rattle.set_cache.specs.declared.cache.LastTouch.{LastTouch}
 abbrev pub set_in : {P : Type 0} → Contents P → ℕ → KeptSet
 set_in contents number = kept_at contents.table (number % length contents.table)
 
--- the line is here, at this place and with this mark, and one more hit leaves what its set's state stands for
+-- the line is here, at this place, and one more hit leaves what its set's state stands for
 pub record IsLast {P : Type 0} (rule : P → ℕ → Rule) (stands : P → ℕ → ℕ → List ℕ → Type 0)
     (contents : Contents P) (last : LastTouch) : Type 0 where
   pub way : ℕ
   pub found : way_of last.number (set_in contents last.number).places ≡ Some way
   pub place : last.place ≡ (last.number % length contents.table) * contents.ways + way
-  pub dirty : last.dirty ≡ is_dirty (slice_index_or (set_in contents last.number).places way None)
   pub again : (list : List ℕ) → stands contents.policy contents.ways (set_in contents last.number).state list
       → stands contents.policy contents.ways (set_in contents last.number).state
       ((rule contents.policy contents.ways).touched list way)

@@ -2,7 +2,7 @@
 // those that count or empty all.
 ghost use Rattle.std.specs.Prelude.{◌≡◌, ◌%◌, ◌<◌, ℕ, List, length, position, is_none, unwrap_or};
 ghost use Rattle.std.specs.Int.{IsPowerOfTwo};
-ghost use Rattle.set_cache.specs.Contents.{kept_at};
+ghost use Rattle.set_cache.specs.Contents.{AreFirst, kept_at};
 
 use crate::packed::PackedSets;
 use crate::{KeptLine, Policy, Touch};
@@ -16,7 +16,6 @@ use tp_base::Memory;
 pub struct LastTouch {
     number: u32,
     place: u32,
-    dirty: bool,
 }
 
 /// A set-associative store of numbers: a number stands in the set of its
@@ -57,18 +56,6 @@ const HIT: Touch = Touch {
     dirty_victim: false,
 };
 
-impl LastTouch {
-    ghost use Rattle.std.specs.Prelude.{◌&&◌, ◌||◌, ◌==◌, not};
-
-    /// Whether a touch finds everything as it would leave it.
-    #[inline(always)]
-    fn repeats(self, number: u32, store: bool) -> bool
-        ensures value { result ≡ (self.number == number && (self.dirty || not store)) }
-    {
-        self.number == number && (self.dirty || !store)
-    }
-}
-
 /// The set of a number: its low bits.
 #[inline(always)]
 fn set_of(number: u32, sets: usize) -> usize
@@ -84,6 +71,7 @@ fn set_of(number: u32, sets: usize) -> usize
 fn way_for<P: Policy>(policy: &P, packed: &PackedSets, set: usize, state: u64) -> usize
     requires taken { P.takes policy.now packed.now.ways }
     requires below { set < length packed.now.table }
+    requires first { AreFirst (kept_at packed.now.table set).places }
     requires valid { (list : List ℕ) × P.stands_for policy.now packed.now.ways state list }
     ensures within { result < packed.now.ways }
     ensures value { (list : List ℕ) → P.stands_for policy.now packed.now.ways state list
@@ -151,10 +139,8 @@ impl<P: Policy> SetCache<P> {
         ensures touch { IsTouch P.takes P.rule P.stands_for result number store self.old self.new }
         ensures epoch { self.new.epoch ≡ self.old.epoch }
     {
-        if let Some(last) = self.last {
-            if last.repeats(number, store) {
-                return HIT;
-            }
+        if self.repeats(number, store) {
+            return HIT;
         }
         let set = set_of(number, self.packed.count());
         match self.packed.find(set, number) {
@@ -164,6 +150,18 @@ impl<P: Policy> SetCache<P> {
             }
             None => self.fill(set, number, store),
         }
+    }
+
+    /// Whether a touch finds everything as it would leave it.
+    #[inline(always)]
+    fn repeats(&self, number: u32, store: bool) -> bool
+        ensures repeats { result ≡ true → IsTouch P.takes P.rule P.stands_for
+            (record { hit = true; victim = None; dirty_victim = false }) number store self.now self.now }
+    {
+        let Some(last) = self.last else {
+            return false;
+        };
+        last.number == number && (!store || self.packed.is_marked(last.place as usize))
     }
 
     /// A touch of a line that its set keeps at this way.
@@ -178,11 +176,10 @@ impl<P: Policy> SetCache<P> {
     {
         let ways = self.packed.ways();
         let state = self.policy.touch(ways, self.packed.state(set), way as u32);
-        let dirty = self.packed.write_hit(set, way, number, store, state);
+        self.packed.write_hit(set, way, number, store, state);
         self.last = Some(LastTouch {
             number,
             place: set as u32 * ways + way as u32,
-            dirty,
         });
     }
 
@@ -206,7 +203,6 @@ impl<P: Policy> SetCache<P> {
         self.last = Some(LastTouch {
             number,
             place: set as u32 * ways + way as u32,
-            dirty: store,
         });
         Touch {
             hit: false,

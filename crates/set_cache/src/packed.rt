@@ -1,7 +1,8 @@
 // The sets of a cache in two flat vectors. What was written in an earlier epoch
 // counts for nothing, so that a new epoch empties all of them at once.
-ghost use Rattle.std.specs.Prelude.{◌≡◌, ◌<◌, ◌+◌, ◌^◌, ℕ, All, length, position, is_none};
+ghost use Rattle.std.specs.Prelude.{◌≡◌, ◌<◌, ◌+◌, ◌^◌, ℕ, All, length, map, position, is_none};
 ghost use Rattle.set_cache.specs.Cache.{is_line};
+ghost use Rattle.set_cache.specs.Contents.{AreFirst};
 ghost use Rattle.set_cache.specs.Packed.{line_in};
 
 use crate::KeptLine;
@@ -63,7 +64,7 @@ impl Model for PackedSets {
 
 impl Entry {
     ghost use Rattle.std.specs.Prelude.{is_none};
-    ghost use Rattle.set_cache.specs.Cache.{is_line};
+    ghost use Rattle.set_cache.specs.Cache.{is_line, is_dirty};
     ghost use Rattle.set_cache.specs.Packed.{line_in};
 
     #[inline(always)]
@@ -78,6 +79,13 @@ impl Entry {
         ensures value { result ≡ is_none (line_in epoch self) }
     {
         self.epoch != epoch
+    }
+
+    #[inline(always)]
+    fn is_dirty(self, epoch: u32) -> bool
+        ensures value { result ≡ is_dirty (line_in epoch self) }
+    {
+        self.epoch == epoch && self.dirty
     }
 
     #[inline(always)]
@@ -99,14 +107,30 @@ impl Entry {
 fn first_with(entries: &[Entry], epoch: u32, number: u32) -> Option<usize>
     ensures value { result ≡ position (λ entry. is_line number (line_in epoch entry)) entries.now }
 {
-    entries.iter().position(|entry| entry.keeps(epoch, number))
+    // A set has few ways, so that the first is worth a look of its own.
+    if entries.first()?.keeps(epoch, number) {
+        return Some(0);
+    }
+    let mut way = 1;
+    while way < entries.len() {
+        if entries[way].keeps(epoch, number) {
+            return Some(way);
+        }
+        way += 1;
+    }
+    None
 }
 
-/// The first of these entries that keeps nothing.
+/// The first of these entries that keeps nothing, of a set that fills in order.
 #[inline(always)]
 fn first_empty(entries: &[Entry], epoch: u32) -> Option<usize>
+    requires first { AreFirst (map (line_in epoch) entries.now) }
     ensures value { result ≡ position (λ entry. is_none (line_in epoch entry)) entries.now }
 {
+    // Where the last one keeps a line, all do.
+    if !entries.last()?.is_empty(epoch) {
+        return None;
+    }
     entries.iter().position(|entry| entry.is_empty(epoch))
 }
 
@@ -210,6 +234,7 @@ impl PackedSets {
     #[inline(always)]
     pub fn empty_way(&self, set: usize) -> Option<usize>
         requires below { set < length self.now.table }
+        requires first { AreFirst (kept_at self.now.table set).places }
         ensures value { result ≡ position is_none (kept_at self.now.table set).places }
         ensures below { IfSome result (λ way. way < self.now.ways) }
     {
@@ -232,15 +257,16 @@ impl PackedSets {
         }
     }
 
-    /// What a way keeps.
+    /// Whether what stands at a place, a set times the ways plus a way, has a dirty mark.
     #[tactic(auto, using(crate::proofs::Vectors::length_table))]
     #[inline(always)]
-    pub fn line(&self, set: usize, way: usize) -> Option<KeptLine>
-        requires below { set < length self.now.table }
-        requires within { way < self.now.ways }
-        ensures value { result ≡ slice_index_or (kept_at self.now.table set).places way None }
+    pub fn is_marked(&self, place: usize) -> bool
+        requires below { place < length self.now.table * self.now.ways }
+        ensures value { (set way : ℕ) → set < length self.now.table → way < self.now.ways
+            → place ≡ set * self.now.ways + way
+            → result ≡ is_dirty (slice_index_or (kept_at self.now.table set).places way None) }
     {
-        self.entries[set * self.ways as usize + way].line(self.epoch)
+        self.entries[place].is_dirty(self.epoch)
     }
 
     /// Writes the policy's state of a set.
@@ -283,17 +309,9 @@ impl PackedSets {
         old
     }
 
-    /// Writes a hit on a way, whose line is marked if it is a store; answers
-    /// whether it has a mark then.
+    /// Writes a hit on a way, whose line is marked if it is a store.
     #[inline(always)]
-    pub fn write_hit(
-        &mut self,
-        set: usize,
-        way: usize,
-        number: u32,
-        store: bool,
-        state: u64,
-    ) -> bool
+    pub fn write_hit(&mut self, set: usize, way: usize, number: u32, store: bool, state: u64)
         requires below { set < length self.old.table }
         requires within { way < self.old.ways }
         ensures written { self.new ≡ with_kept self.old set (record {
@@ -301,8 +319,6 @@ impl PackedSets {
               (Some (record { number = number; dirty = true })) else (kept_at self.old.table set).places;
           state = state;
         }) }
-        ensures dirty { result ≡ store
-            || is_dirty (slice_index_or (kept_at self.old.table set).places way None) }
     {
         if store {
             let line = KeptLine {
@@ -310,11 +326,9 @@ impl PackedSets {
                 dirty: true,
             };
             self.write(set, way, line, state);
-            return true;
+            return;
         }
-        let line = self.line(set, way);
         self.write_state(set, state);
-        line.is_some_and(|line| line.dirty)
     }
 
     /// Empties every set, by a new epoch. Counts a step for each entry, state

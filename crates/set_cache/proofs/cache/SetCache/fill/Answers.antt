@@ -97,7 +97,7 @@ invariant_of-self g c =
     subst
     (λ (t : KeptSets × ℕ).
     IsCache g.P.Policy.takes g.P.Policy.rule g.P.Policy.stands_for (fresh_cache s.policy t.0) t.0.fresh
-    (Some (record { number = c.args.number; place = c.args.set * t.1 + way; dirty = c.args.store })))
+    (Some (record { number = c.args.number; place = c.args.set * t.1 + way })))
     (λ j. (sym c.write-old.ensures.written j, sym ways j)) of.lawful
 
 pub returns-clause-touch : goal.returns-clause-touch

@@ -1,11 +1,12 @@
 use Rattle.std.proofs.Common.{ℕ, false, Option, refl, subst}
+use Rattle.std.proofs.lemmas.Bool.{false≢true}
 use Rattle.std.specs.Prelude.{IfSome}
 use Rattle.set_cache.specs.declared.cache.LastTouch.{LastTouch}
 use Rattle.set_cache.specs.Contents.{Contents}
 use Rattle.set_cache.specs.Calls.{IsTouch}
 use Rattle.set_cache.specs.Last.{IsLast}
 use Rattle.set_cache.proofs.Ways.{hit_answer}
-use Rattle.set_cache.proofs.Last.{touch_again, last_below, no_store}
+use Rattle.set_cache.proofs.Last.{touch_again, last_below}
 use Rattle.set_cache.proofs.cache.SetCache.find.Goals as goal
 
 pub returns-then-last-number-clause-below : goal.returns-then-last-number-clause-below
@@ -32,7 +33,7 @@ returns-then-last-number-clause-touch g c =
     c.in-Some.is c.self.invariant.last_stands in
     let again =
     touch_again g.P.Policy.takes g.P.Policy.rule g.P.Policy.stands_for cache c.in-Some.last false
-    c.self.invariant.sound is (no_store c.in-Some.last.dirty) in
+    c.self.invariant.sound is (λ store. absurd (false≢true store)) in
     let of =
     subst
     (λ (t : ℕ × Contents _).

@@ -47,7 +47,7 @@ invariant_of-self g c =
       };
     } in
     let of = cache_hit g.P.Policy.takes g.P.Policy.rule g.P.Policy.stands_for cache s.packed.fresh s.last hit
-    c.write_hit-dirty.result c.self.invariant (record {
+    c.self.invariant (record {
       home = home;
       old = refl;
       hits = record {
@@ -62,7 +62,6 @@ invariant_of-self g c =
             → stands t.0 c.touch-state.result ((rule t.0).touched list c.args.way))
             (λ j. (ways j, c.state.ensures.value j)) c.touch-state.ensures.touched;
       };
-      mark = c.write_hit-dirty.ensures.dirty;
       again =
           subst
           (λ (n : ℕ). (list : List ℕ) → stands n c.touch-state.result list
@@ -72,8 +71,8 @@ invariant_of-self g c =
     subst
     (λ (t : KeptSets × ℕ).
     IsCache g.P.Policy.takes g.P.Policy.rule g.P.Policy.stands_for (fresh_cache s.policy t.0) t.0.fresh
-    (Some (record { number = c.args.number; place = c.args.set * t.1 + c.args.way; dirty = c.write_hit-dirty.result })))
-    (λ j. (sym c.write_hit-dirty.ensures.written j, sym ways j)) of.lawful
+    (Some (record { number = c.args.number; place = c.args.set * t.1 + c.args.way })))
+    (λ j. (sym c.write_hit.ensures.written j, sym ways j)) of.lawful
 
 pub returns-clause-touch : goal.returns-clause-touch
 returns-clause-touch g c =
@@ -99,7 +98,7 @@ returns-clause-touch g c =
       };
     } in
     let of = cache_hit g.P.Policy.takes g.P.Policy.rule g.P.Policy.stands_for cache s.packed.fresh s.last hit
-    c.write_hit-dirty.result c.self.invariant (record {
+    c.self.invariant (record {
       home = home;
       old = refl;
       hits = record {
@@ -114,7 +113,6 @@ returns-clause-touch g c =
             → stands t.0 c.touch-state.result ((rule t.0).touched list c.args.way))
             (λ j. (ways j, c.state.ensures.value j)) c.touch-state.ensures.touched;
       };
-      mark = c.write_hit-dirty.ensures.dirty;
       again =
           subst
           (λ (n : ℕ). (list : List ℕ) → stands n c.touch-state.result list
@@ -125,4 +123,4 @@ returns-clause-touch g c =
     (λ (t : Contents _ × KeptSets).
     IsTouch g.P.Policy.takes g.P.Policy.rule g.P.Policy.stands_for hit_answer c.args.number c.args.store t.0
     (fresh_cache s.policy t.1))
-    (λ j. (c.self.view_is j, sym c.write_hit-dirty.ensures.written j)) of.touch
+    (λ j. (c.self.view_is j, sym c.write_hit.ensures.written j)) of.touch
