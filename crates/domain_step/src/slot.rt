@@ -363,7 +363,8 @@ fn wait_or_deliver<P: Policy>(
     if let Some(_line) = domain.interrupts.due(now) {
         return now + u64::from(deliver_due(system, domain));
     }
-    idle_until(end, domain.interrupts.next_moment())
+    let next = domain.interrupts.next_moment();
+    idle_until(end, next)
 }
 
 /// One event of the domain in a slot that ends then. Answers the new clock, in

@@ -62,7 +62,7 @@ returns-clause-becomes g c =
     let none : due c.args.now d.interrupts ≡ None = sym c.due.ensures.due ∙ none_left c.due.result c.in_default-due.not-Some in
     let idle : is_ready d.threads.active.state ≡ false = not_ready d c.args.now c.args.end c.requires.before c.in-Running.is none c.requires.other in
     moves_idle g.P.Policy.rule g.P.Policy.stands_for c.args.end c.args.memory.now d c.args.system.now c.args.now c.idle_until.result c.in-Running.is none idle
-    (c.idle_until.ensures.value ∙ ap (idle_until c.args.end) c.next_moment.ensures.next)
+    (c.idle_until.ensures.value ∙ ap (idle_until c.args.end) c.next_moment-next.ensures.next)
 
 pub returns-clause-runs : goal.returns-clause-runs
 returns-clause-runs g c =
@@ -74,7 +74,7 @@ returns-clause-later g c =
     let d = c.args.domain.now in
     let none : due c.args.now d.interrupts ≡ None = sym c.due.ensures.due ∙ none_left c.due.result c.in_default-due.not-Some in
     let past = idle_later d.interrupts c.args.now c.args.end c.requires.before none in
-    let is : c.idle_until.result ≡ idle_until c.args.end (next_cycle d.interrupts) = c.idle_until.ensures.value ∙ ap (idle_until c.args.end) c.next_moment.ensures.next in
+    let is : c.idle_until.result ≡ idle_until c.args.end (next_cycle d.interrupts) = c.idle_until.ensures.value ∙ ap (idle_until c.args.end) c.next_moment-next.ensures.next in
     omega (arith, past, is)
 
 pub returns-clause-few : goal.returns-clause-few
