@@ -1,11 +1,11 @@
--- Bytes that are written in hexadecimal, some at a time.
+-- Bytes that are added in hexadecimal, some at a time.
 use Rattle.std.proofs.Common.{◌≡◌, ℕ, ◌+◌, ◌/◌, ◌%◌, ◌≤◌, List, [], ◌∷◌, ◌++◌, length, take, drop, refl, sym, ap, ◌∙◌, subst}
 use Rattle.std.specs.Prelude.{slice_index}
 use Rattle.std.proofs.lemmas.List.{take-append-drop, take_all}
 use Rattle.std.proofs.Math.Seq.{take-add}
 use Rattle.hex.specs.Hex.{encode_with, encode_lower}
-use Rattle.tp_io.specs.Sends.{SinkState, Sent, CutShort}
-use Rattle.tp_io.proofs.InTurn.{sent_nothing, sent_more, cut_between}
+use Rattle.tp_report.specs.Batches.{Holding, Added, CutIn}
+use Rattle.tp_report.proofs.Batches.{added_nothing, added_more, cut_between}
 
 encode_with-append : (t xs ys : List ℕ) → encode_with t (xs ++ ys) ≡ encode_with t xs ++ encode_with t ys
 unfolding encode_with
@@ -15,10 +15,10 @@ encode_with-append t (b ∷ xs) ys = ap (λ rest. slice_index t (b / 16) ∷ sli
 encode_lower-append : (xs ys : List ℕ) → encode_lower (xs ++ ys) ≡ encode_lower xs ++ encode_lower ys
 encode_lower-append xs ys = encode_with-append _ xs ys
 
--- nothing is written before the loop
-pub digits_none : (s : SinkState) → Sent s s (encode_lower [])
+-- nothing is added before the loop
+pub digits_none : (s : Holding) → Added s s (encode_lower [])
 unfolding encode_with
-digits_none s = sent_nothing s
+digits_none s = added_nothing s
 
 -- n bytes from place i on, between those before and those after
 digits_at : (xs : List ℕ) (i n : ℕ) → encode_lower xs ≡ encode_lower (take i xs) ++ (encode_lower (take n (drop i xs)) ++ encode_lower (drop n (drop i xs)))
@@ -30,17 +30,17 @@ digits_next : (xs : List ℕ) (i n j : ℕ) → i + n ≡ j → encode_lower (ta
 digits_next xs i n j e = sym (encode_lower-append (take i xs) (take n (drop i xs))) ∙ ap encode_lower (sym (take-add i n xs)) ∙ ap (λ k. encode_lower (take k xs)) e
 
 -- the exit of such a loop
-pub digits_fail : (xs : List ℕ) (i n : ℕ) (old mid new : SinkState)
-    → Sent old mid (encode_lower (take i xs)) → CutShort mid new (encode_lower (take n (drop i xs))) → CutShort old new (encode_lower xs)
+pub digits_fail : (xs : List ℕ) (i n : ℕ) (old mid new : Holding)
+    → Added old mid (encode_lower (take i xs)) → CutIn mid new (encode_lower (take n (drop i xs))) → CutIn old new (encode_lower xs)
 digits_fail xs i n old mid new before cut =
-    subst (CutShort old new) (sym (digits_at xs i n)) (cut_between old mid new (encode_lower (take i xs)) (encode_lower (take n (drop i xs))) (encode_lower (drop n (drop i xs))) before cut)
+    subst (CutIn old new) (sym (digits_at xs i n)) (cut_between old mid new (encode_lower (take i xs)) (encode_lower (take n (drop i xs))) (encode_lower (drop n (drop i xs))) before cut)
 
 -- its step
-pub digits_more : (xs : List ℕ) (i n j : ℕ) (old mid new : SinkState)
-    → i + n ≡ j → Sent old mid (encode_lower (take i xs)) → Sent mid new (encode_lower (take n (drop i xs))) → Sent old new (encode_lower (take j xs))
+pub digits_more : (xs : List ℕ) (i n j : ℕ) (old mid new : Holding)
+    → i + n ≡ j → Added old mid (encode_lower (take i xs)) → Added mid new (encode_lower (take n (drop i xs))) → Added old new (encode_lower (take j xs))
 digits_more xs i n j old mid new e before more =
-    subst (Sent old new) (digits_next xs i n j e) (sent_more old mid new (encode_lower (take i xs)) (encode_lower (take n (drop i xs))) before more)
+    subst (Added old new) (digits_next xs i n j e) (added_more old mid new (encode_lower (take i xs)) (encode_lower (take n (drop i xs))) before more)
 
 -- its end
-pub digits_sent : (xs : List ℕ) (i : ℕ) (old mid : SinkState) → length xs ≤ i → Sent old mid (encode_lower (take i xs)) → Sent old mid (encode_lower xs)
-digits_sent xs i old mid h = subst (λ ys. Sent old mid (encode_lower ys)) (take_all i xs h)
+pub digits_added : (xs : List ℕ) (i : ℕ) (old mid : Holding) → length xs ≤ i → Added old mid (encode_lower (take i xs)) → Added old mid (encode_lower xs)
+digits_added xs i old mid h = subst (λ ys. Added old mid (encode_lower ys)) (take_all i xs h)

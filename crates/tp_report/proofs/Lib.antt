@@ -1,3 +1,6 @@
+pub mod Batches
+pub mod Full
+pub mod Each
 pub mod Digits
 pub mod Numbers
 pub mod Texts

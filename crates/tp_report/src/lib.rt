@@ -1,6 +1,7 @@
 //! The texts that the program writes, and what writes them piece by piece.
 #![tactic(auto)]
 
+mod batch;
 mod demo;
 pub mod laws;
 mod pieces;

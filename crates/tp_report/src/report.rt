@@ -4,11 +4,13 @@ ghost use Rattle.tp_report.specs.Texts as spec;
 ghost use Rattle.tp_report.specs.Report as report_spec;
 ghost use Rattle.tp_io.specs.Sends.{Sends};
 ghost use Rattle.tp_io.specs.Sink.{state};
+ghost use Rattle.tp_report.specs.Batches.{Adds, holding};
 ghost use Rattle.world_view.specs.View as view_spec;
 ghost use Rattle.world_view.specs.Models.{view_model};
 ghost use Rattle.tp_report.specs.Switches.{ending_text, switches_text};
 
-use crate::pieces::{Piece, write_pieces};
+use crate::batch::Batch;
+use crate::pieces::{Piece, add_pieces, write_pieces};
 use image_check::{Refusal, Schedule};
 use pad_bound::Bound;
 use thread_set::{Thread, ThreadState};
@@ -19,7 +21,6 @@ use world_view::{Used, View};
 const THREADS: u8 = 8;
 
 /// Writes the section of a domain.
-#[tactic(auto, unfolding(crate::specs::Texts::section))]
 pub fn write_section<K: Sink>(
     out: &mut K,
     domain: u8,
@@ -29,24 +30,42 @@ pub fn write_section<K: Sink>(
     ensures sends { Sends (state K.Sink out.old) (state K.Sink out.new)
         result (spec.section domain name.now (view_model view.now)) }
 {
-    write_head(out, domain, name, view)?;
-    write_threads(out, view)?;
-    write_rest(out, view)
+    let mut held = Batch::new();
+    add_section(out, &mut held, domain, name, view)?;
+    held.hand_on(out)
+}
+
+#[tactic(auto, unfolding(crate::specs::Texts::section))]
+fn add_section<K: Sink>(
+    out: &mut K,
+    held: &mut Batch,
+    domain: u8,
+    name: &str,
+    view: &View<'_>,
+) -> Result<(), Failed>
+    ensures adds { Adds (holding K.Sink out.old held.old) (holding K.Sink out.new held.new)
+        result (spec.section domain name.now (view_model view.now)) }
+{
+    write_head(out, held, domain, name, view)?;
+    write_threads(out, held, view)?;
+    write_rest(out, held, view)
 }
 
 // Writes what stands above the threads.
 #[tactic(auto, unfolding(crate::specs::Texts::head_text))]
 fn write_head<'a, K: Sink>(
     out: &mut K,
+    held: &mut Batch,
     domain: u8,
     name: &'a str,
     view: &View<'_>,
 ) -> Result<(), Failed>
-    ensures sends { Sends (state K.Sink out.old) (state K.Sink out.new)
+    ensures adds { Adds (holding K.Sink out.old held.old) (holding K.Sink out.new held.new)
         result (spec.head_text domain name.now (view_model view.now)) }
 {
-    write_pieces(
+    add_pieces(
         out,
+        held,
         &[
             Piece::Text("domain "),
             Piece::Number(u64::from(domain)),
@@ -62,13 +81,14 @@ fn write_head<'a, K: Sink>(
 
 // Writes what stands below the threads.
 #[tactic(auto, unfolding(crate::specs::Texts::rest_text))]
-fn write_rest<'a, K: Sink>(out: &mut K, view: &'a View<'a>) -> Result<(), Failed>
-    ensures sends { Sends (state K.Sink out.old) (state K.Sink out.new)
+fn write_rest<'a, K: Sink>(out: &mut K, held: &mut Batch, view: &'a View<'a>) -> Result<(), Failed>
+    ensures adds { Adds (holding K.Sink out.old held.old) (holding K.Sink out.new held.new)
         result (spec.rest_text (view_model view.now)) }
 {
     let printed = view.printed();
-    write_pieces(
+    add_pieces(
         out,
+        held,
         &[
             Piece::Text("\nreadings "),
             Piece::Readings(view),
@@ -86,35 +106,46 @@ fn write_rest<'a, K: Sink>(out: &mut K, view: &'a View<'a>) -> Result<(), Failed
 
 // Writes the line of each thread that was ever started.
 #[tactic(auto, unfolding(crate::specs::Texts::threads_text))]
-fn write_threads<K: Sink>(out: &mut K, view: &View<'_>) -> Result<(), Failed>
-    ensures sends { Sends (state K.Sink out.old) (state K.Sink out.new)
+fn write_threads<K: Sink>(out: &mut K, held: &mut Batch, view: &View<'_>) -> Result<(), Failed>
+    ensures adds { Adds (holding K.Sink out.old held.old) (holding K.Sink out.new held.new)
         result (spec.threads_text (view_model view.now).threads) }
 {
     for t in 0..THREADS {
-        write_thread(out, t, &view.thread(t))?;
+        write_thread(out, held, t, &view.thread(t))?;
     }
     Ok(())
 }
 
 // Writes the line of thread `t`, if it was ever started.
 #[tactic(auto, unfolding(crate::specs::Texts::thread_text))]
-fn write_thread<K: Sink>(out: &mut K, t: u8, thread: &Thread) -> Result<(), Failed>
-    ensures sends { Sends (state K.Sink out.old) (state K.Sink out.new)
+fn write_thread<K: Sink>(
+    out: &mut K,
+    held: &mut Batch,
+    t: u8,
+    thread: &Thread,
+) -> Result<(), Failed>
+    ensures adds { Adds (holding K.Sink out.old held.old) (holding K.Sink out.new held.new)
         result (spec.thread_text (t, thread.now)) }
 {
     match thread.state {
         ThreadState::Never => Ok(()),
-        _ => write_thread_line(out, t, thread),
+        _ => write_thread_line(out, held, t, thread),
     }
 }
 
 #[tactic(auto, unfolding(crate::specs::Texts::thread_line))]
-fn write_thread_line<K: Sink>(out: &mut K, t: u8, thread: &Thread) -> Result<(), Failed>
-    ensures sends { Sends (state K.Sink out.old) (state K.Sink out.new)
+fn write_thread_line<K: Sink>(
+    out: &mut K,
+    held: &mut Batch,
+    t: u8,
+    thread: &Thread,
+) -> Result<(), Failed>
+    ensures adds { Adds (holding K.Sink out.old held.old) (holding K.Sink out.new held.new)
         result (spec.thread_line t thread.now) }
 {
-    write_pieces(
+    add_pieces(
         out,
+        held,
         &[
             Piece::Text("\nthread "),
             Piece::Number(u64::from(t)),
@@ -156,36 +187,63 @@ fn frame_sum(view: &View<'_>, i: usize) -> u32
 
 /// Writes what ends a report, and the summary of a run: the line of each
 /// schedule entry, and `end`.
-#[tactic(auto, unfolding(crate::specs::Switches::ending_text, crate::specs::Report::end_text))]
 pub fn write_switches<K: Sink>(out: &mut K, entries: &Schedule, used: &[Used]) -> Result<(), Failed>
     requires paired { length used.now ≡ length entries.now }
     ensures sends { Sends (state K.Sink out.old) (state K.Sink out.new)
         result (ending_text entries.now used.now) }
 {
-    write_lines(out, entries, used)?;
-    write_all_of(out, b"end\n")
+    let mut held = Batch::new();
+    add_switches(out, &mut held, entries, used)?;
+    held.hand_on(out)
+}
+
+#[tactic(auto, unfolding(crate::specs::Switches::ending_text, crate::specs::Report::end_text))]
+fn add_switches<K: Sink>(
+    out: &mut K,
+    held: &mut Batch,
+    entries: &Schedule,
+    used: &[Used],
+) -> Result<(), Failed>
+    requires paired { length used.now ≡ length entries.now }
+    ensures adds { Adds (holding K.Sink out.old held.old) (holding K.Sink out.new held.new)
+        result (ending_text entries.now used.now) }
+{
+    write_lines(out, held, entries, used)?;
+    held.add(out, b"end\n")
 }
 
 // Writes the line of each schedule entry.
 #[tactic(auto, unfolding(crate::specs::Switches::switches_text))]
-fn write_lines<K: Sink>(out: &mut K, entries: &Schedule, used: &[Used]) -> Result<(), Failed>
+fn write_lines<K: Sink>(
+    out: &mut K,
+    held: &mut Batch,
+    entries: &Schedule,
+    used: &[Used],
+) -> Result<(), Failed>
     requires paired { length used.now ≡ length entries.now }
-    ensures sends { Sends (state K.Sink out.old) (state K.Sink out.new)
+    ensures adds { Adds (holding K.Sink out.old held.old) (holding K.Sink out.new held.new)
         result (switches_text entries.now used.now) }
 {
     for e in 0..entries.len() {
-        write_switch(out, e, entries.entry(e).pad, used[e as usize])?;
+        write_switch(out, held, e, entries.entry(e).pad, used[e as usize])?;
     }
     Ok(())
 }
 
 #[tactic(auto, unfolding(crate::specs::Report::switch_line))]
-fn write_switch<K: Sink>(out: &mut K, entry: u32, pad: u32, used: Used) -> Result<(), Failed>
-    ensures sends { Sends (state K.Sink out.old) (state K.Sink out.new)
+fn write_switch<K: Sink>(
+    out: &mut K,
+    held: &mut Batch,
+    entry: u32,
+    pad: u32,
+    used: Used,
+) -> Result<(), Failed>
+    ensures adds { Adds (holding K.Sink out.old held.old) (holding K.Sink out.new held.new)
         result (report_spec.switch_line entry used.largest pad used.count) }
 {
-    write_pieces(
+    add_pieces(
         out,
+        held,
         &[
             Piece::Text("switch "),
             Piece::Number(u64::from(entry)),

@@ -79,9 +79,9 @@ const BLUE: &str =
 
 const USAGE: &str = "usage: tp check|bound|run|alone|gen|demo\n";
 
-// REPORT, with a bar after what each write takes.
+// REPORT, with a bar after what each write of at most 64 bytes takes.
 const PIECES: &str =
-    "domain |0| |red|\nstatus |exited |0|\nretired |3|\nthread |0| |ended| pc |00010010|\nreadings |0|\nreplies |1| last |0|:|0| list| |0|:|0|\nout |1| |41|\nmem |0420cf7b|\n|domain |1| |blue|\nstatus |exited |0|\nretired |3|\nthread |0| |ended| pc |00010010|\nreadings |0|\nreplies |1| last |0|:|0| list| |0|:|0|\nout |1| |42|\nmem |0430d77b|\n|switch |0| used |820| pad |6150| count |2|\n|switch |1| used |755| pad |6150| count |2|\n|end\n|";
+    "domain 0 red\nstatus exited 0\nretired 3\nthread 0 ended pc 0001001|0\nreadings 0\nreplies 1 last 0:0 list 0:0\nout 1 41\nmem 0420cf7b\n|domain 1 blue\nstatus exited 0\nretired 3\nthread 0 ended pc 000100|10\nreadings 0\nreplies 1 last 0:0 list 0:0\nout 1 42\nmem 0430d77b\n|switch 0 used 820 pad 6150 count 2\nswitch 1 used 755 pad 6150 co|unt 2\nend\n|";
 
 // What every image begins with.
 const MACHINE: &str =
@@ -452,6 +452,14 @@ fn a_write_of_a_byte_that_fails_is_told(rt: HostRuntime) -> Result<(), Fail> {
     let image = image(rt.alloc(), PRINTS_A, PRINTS_B)?;
     let found = answer(rt.alloc(), RUN, image.as_bytes(), 1, &[], &[5])?;
     is_answered(&rt, RUN, &found, Status::WriteFault, "doma");
+    Ok(())
+}
+
+#[test]
+fn a_long_section_goes_out_by_pieces_of_256_bytes(rt: HostRuntime) -> Result<(), Fail> {
+    let image = image(rt.alloc(), PRINTS_TOO_MUCH, PRINTS_B)?;
+    let found = answer(rt.alloc(), RUN, image.as_bytes(), usize::MAX, &[], &[3])?;
+    assert_eq!(rt; (found.0, found.1.len()), (Status::WriteFault, 512));
     Ok(())
 }
 

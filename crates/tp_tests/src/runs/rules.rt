@@ -158,13 +158,13 @@ fn a_failed_read_and_a_failed_write_are_told(rt: HostRuntime) -> Result<(), Fail
         let found = answer(rt.alloc(), line, image.as_bytes(), 64, &[2], &[])?;
         is_answered(&rt, line, &found, Status::ReadFault, "");
     }
-    let found = answer(rt.alloc(), "tp bound", image.as_bytes(), 64, &[], &[3])?;
+    let found = answer(rt.alloc(), "tp bound", image.as_bytes(), 8, &[], &[3])?;
     is_answered(
         &rt,
         "tp bound",
         &found,
         Status::WriteFault,
-        "instruction 306",
+        "instruction 306\n",
     );
     let found = answer(rt.alloc(), "tp check", image.as_bytes(), 4, &[], &[2])?;
     is_answered(&rt, "tp check", &found, Status::WriteFault, "acce");

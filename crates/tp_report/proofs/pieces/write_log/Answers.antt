@@ -1,6 +1,6 @@
 use Rattle.std.proofs.Common.{◌≢◌, rules}
 use Rattle.std.proofs.lemmas.Result.{err_from_is_err_and}
-use Rattle.tp_io.proofs.InTurn.{then_sends, cut_between}
+use Rattle.tp_report.proofs.Batches.{then_adds, cut_between}
 use Rattle.tp_report.proofs.Texts.{log_text-some}
 use Rattle.tp_report.proofs.pieces.write_log.Goals as goal
 
@@ -9,13 +9,13 @@ returns-in_err-write_last g c =
     let p = err_from_is_err_and c.from_residual-in_err-write_last.result c.from_residual-in_err-write_last.ensures.1 in
     let l = g.L.Items.log c.args.log.now in
     let some : l.count ≢ 0 = search rules in
-    rw (p.1, log_text-some g.T.WriteText.text l some, c.last.ensures.value) (record { sends = cut_between _ _ _ _ _ _ (rw c.count-count.ensures.value at c.in_ok-write_number.ensures.sends) c.in_err-write_last.ensures.sends })
+    rw (p.1, log_text-some g.T.WriteText.text l some, c.last.ensures.value) (record { adds = cut_between _ _ _ _ _ _ (rw c.count-count.ensures.value at c.in_ok-write_number.ensures.adds) c.in_err-write_last.ensures.adds })
 
 pub returns : goal.returns
 returns g c =
     let l = g.L.Items.log c.args.log.now in
     let some : l.count ≢ 0 = search rules in
     rw (log_text-some g.T.WriteText.text l some, c.last.ensures.value) (record {
-      sends = then_sends _ _ _ c.write_kept.result _ _ (rw c.count-count.ensures.value at c.in_ok-write_number.ensures.sends)
-          (then_sends _ _ _ c.write_kept.result _ _ c.in_ok-write_last.ensures.sends c.write_kept.ensures.sends);
+      adds = then_adds _ _ _ c.write_kept.result _ _ (rw c.count-count.ensures.value at c.in_ok-write_number.ensures.adds)
+          (then_adds _ _ _ c.write_kept.result _ _ c.in_ok-write_last.ensures.adds c.write_kept.ensures.adds);
     })

@@ -1,9 +1,8 @@
 use Rattle.std.proofs.Common.{length, take}
 use Rattle.std.specs.List.{flat_map, range_with_len}
-use Rattle.tp_io.specs.Sends.{Sent}
-use Rattle.tp_io.specs.Sink.{state}
+use Rattle.tp_report.specs.Batches.{Added, holding}
 use Rattle.tp_report.specs.Switches.{switch_at}
 use Rattle.tp_report.proofs.report.write_lines.Given as goal
 
 abbrev pub invariant-loop-e : goal.invariant-loop-e
-invariant-loop-e g l = Sent (state g.K.Sink l.fn.out) (state g.K.Sink l.out) (flat_map (switch_at l.entries l.used) (take l.e (range_with_len 0 (length l.entries))))
+invariant-loop-e g l = Added (holding g.K.Sink l.fn.out l.fn.held) (holding g.K.Sink l.out l.held) (flat_map (switch_at l.entries l.used) (take l.e (range_with_len 0 (length l.entries))))
