@@ -1,5 +1,5 @@
 // A share of the colours, and its frames.
-ghost use Rattle.std.specs.Prelude.{◌≡◌, ◌<◌, ◌≤◌, ◌-◌, ℕ, length, IfOk, reverse};
+ghost use Rattle.std.specs.Prelude.{◌≡◌, ◌<◌, ◌≤◌, ◌-◌, ℕ, false, length, slice_index_or, IfOk, reverse};
 ghost use Rattle.std.specs.Vec.{vec_capacity};
 ghost use Rattle.frame_colours.specs.Colours.{colour_of, has, has_colour, pool, share_of, whole_of};
 
@@ -24,6 +24,17 @@ fn colour_below(colour: u32, colours: u32) -> u32
     ensures below { result < colours }
 {
     if colour == 0 { colours - 1 } else { colour - 1 }
+}
+
+// Of each colour that there may be, whether a list has it.
+fn named(own: &[u8]) -> [bool; 64]
+    ensures named { (colour : ℕ) → colour < 64 → slice_index_or result colour false ≡ has own.now colour }
+{
+    let mut named = [false; 64];
+    for colour in 0..64 {
+        named[usize::from(colour)] = own.contains(&colour);
+    }
+    named
 }
 
 /// How many of the frames 0 to `frames - 1` have a colour of the list, where
@@ -77,15 +88,6 @@ impl Model for Part {
 }
 
 impl Part {
-    // Whether it has a colour, and so each frame of that colour.
-    fn has_colour(&self, colour: u32) -> bool
-        requires few { colour < self.now.colours }
-        ensures value { (frame : ℕ) → colour_of self.now.colours frame ≡ colour
-            → result ≡ has_colour self.now frame }
-    {
-        self.own.contains(&(colour as u8))
-    }
-
     // Its frames, the greatest first.
     pub(crate) fn descending(&self, alloc: Global) -> Result<Vec<FrameNo>, Memory>
         ensures frames { IfOk result (λ frames. reverse frames.items ≡ pool self.now) }
@@ -95,12 +97,13 @@ impl Part {
             alloc,
             pool_length(self.frames, self.colours, &self.own) as usize,
         )?;
+        let named = named(&self.own);
         let mut frame = self.frames;
         let mut colour = self.frames % self.colours;
         while frame > 0 {
             frame -= 1;
             colour = colour_below(colour, self.colours);
-            if self.has_colour(colour) {
+            if named[colour as usize] {
                 frames.push_reserved(FrameNo::new(frame));
             }
         }

@@ -1,9 +1,9 @@
 -- A way of an order moves to the front: by its place, and the digits below and above it.
-use Rattle.std.proofs.Common.{◌≡◌, ◌≢◌, ℕ, zero, suc, ◌+◌, ◌-◌, ◌*◌, ◌/◌, ◌%◌, ◌^◌, ◌<◌, ◌≤◌, true, false, eqb, List, [], ◌∷◌, length, refl, ap, sym, subst, ◌∙◌, arith, inl, inr, lit≤}
+use Rattle.std.proofs.Common.{◌≡◌, ◌≢◌, ℕ, zero, suc, ◌+◌, ◌-◌, ◌*◌, ◌/◌, ◌%◌, ◌^◌, ◌<◌, ◌≤◌, true, false, eqb, List, [], ◌∷◌, length, refl, ap, sym, ◌∙◌, arith, inl, inr, lit≤}
 use Rattle.std.specs.Prelude.{bit_and}
-use Rattle.std.proofs.Math.Nat.{pow-le-pow_right, div-mul-le_self}
+use Rattle.std.proofs.Math.Nat.{pow-le-pow_right, div-mul-le_self, zero-mul}
 use Rattle.std.proofs.Math.Arith.{mod-mul}
-use Rattle.std.proofs.lemmas.Nat.{shr-shr, pow_pos, pow-add, and_mask, mul-le}
+use Rattle.std.proofs.lemmas.Nat.{shr-shr, pow_pos, pow-add, and_mask, mul-le, div-add-mod'}
 use Rattle.std.proofs.lemmas.Bool.{cases_eq}
 use Rattle.std.proofs.lemmas.Bool.Decides.{nat_tests}
 use Rattle.repl_policy.specs.Orders.{without}
@@ -117,3 +117,71 @@ masked state place few fits =
     let whole : state / p * p ≤ state = div-mul-le_self state p in
     let high : q * p % 18446744073709551616 ≡ q * p = omega (arith, part, whole, fits) in
     rw (one, and_mask state (4 * place), high) refl
+
+-- ---- the oldest way, in front of the others
+
+-- a way that stands at a place is in the order
+counted : (order : List ℕ) (state way place : ℕ) → AllBelow 16 order → state ≡ pack order → place < length order
+    → way_at state place ≡ way → 0 < times way order
+counted [] state way place below is lt here = absurd (omega (arith, lt))
+counted (w ∷ ws) state way zero below is lt here =
+    let same : w ≡ way = omega (arith, below.0, is, here, digit_zero state) in
+    let t : eqb w way ≡ true = grind (arith, nat_tests) in
+    rw t (omega arith)
+counted (w ∷ ws) state way (suc place) below is lt here =
+    let rest : state / 16 ≡ pack ws = omega (arith, below.0, is) in
+    let ih : 0 < times way ws =
+    counted ws (state / 16) way place below.1 rest (omega (arith, lt)) (sym (digit_suc state place) ∙ here) in
+    omega (arith, ih)
+
+-- one that stands further on is another than the first
+first_other : (w way : ℕ) (ws : List ℕ) → times way (w ∷ ws) ≡ 1 → 0 < times way ws → w ≢ way
+first_other w way ws once more same =
+    let t : eqb w way ≡ true = grind (arith, nat_tests) in
+    let both : 1 + times way ws ≡ 1 = rw t at once in
+    omega (arith, more, both)
+
+-- a way that stands once stands at no newer place
+none_newer : (order : List ℕ) (state way place newer : ℕ) → AllBelow 16 order → state ≡ pack order → times way order ≡ 1
+    → place < length order → way_at state place ≡ way → newer < place → way_at state newer ≢ way
+none_newer [] state way place newer below is once lt here before = absurd (omega (arith, lt))
+none_newer (w ∷ ws) state way zero newer below is once lt here before = absurd (omega (arith, before))
+none_newer (w ∷ ws) state way (suc place) newer below is once lt here before =
+    let rest : state / 16 ≡ pack ws = omega (arith, below.0, is) in
+    let within : place < length ws = omega (arith, lt) in
+    let later : way_at (state / 16) place ≡ way = sym (digit_suc state place) ∙ here in
+    let other : w ≢ way = first_other w way ws once (counted ws (state / 16) way place below.1 rest within later) in
+    let t : eqb w way ≡ false = grind (arith, nat_tests) in
+    let rest_once : times way ws ≡ 1 = grind (arith, nat_tests) in
+    elim newer as (λ (n : ℕ). n < suc place → way_at state n ≢ way) [
+      | zero ↦ λ le same. other (omega (arith, below.0, is, same, digit_zero state))
+      | suc n ↦ λ le same.
+          none_newer ws (state / 16) way place n below.1 rest rest_once within later (omega (arith, le))
+          (sym (digit_suc state n) ∙ same)
+    ] before
+
+oldest_stands : (ways state way : ℕ) (list : List ℕ) → Packs ways state list → ways ≤ 16 → way < ways
+    → state / 2 ^ (4 * (ways - 1)) ≡ way → StandsFirst state way (ways - 1)
+oldest_stands ways state way list packs few lt last =
+    let all : List ℕ = all_ways ways list in
+    let here : way_at state (ways - 1) ≡ way = ap (λ (n : ℕ). n % 16) last ∙ omega (arith, few, lt) in
+    record {
+      here = here;
+      first = λ newer before.
+          none_newer all state way (ways - 1) newer (AllBelow-weaker ways 16 all few packs.order.below) packs.packed
+          (packs.order.once way lt) (omega (arith, lt, packs.order.complete)) here before;
+    }
+
+-- taken off, it leaves the others, each at its place
+pub without_oldest : (ways state way newest : ℕ) (list : List ℕ) → Packs ways state list → ways ≤ 16 → way < ways
+    → newest ≡ way → state / 2 ^ (4 * (ways - 1)) ≡ newest → state < 2 ^ 64
+    → pack (without (all_ways ways list) way) ≡ state - newest * 2 ^ (4 * (ways - 1)) % 18446744073709551616
+without_oldest ways state way newest list packs few lt same last fits =
+    let p : ℕ = 2 ^ (4 * (ways - 1)) in
+    let stands : StandsFirst state way (ways - 1) = oldest_stands ways state way list packs few lt (last ∙ same) in
+    let rest : pack (without (all_ways ways list) way) ≡ state % p + state / p / 16 * p =
+    closed_up-without ways state way (ways - 1) list packs few lt stands (omega (arith, lt)) in
+    let none : state / p / 16 ≡ 0 = omega (arith, last, same, few, lt) in
+    let above : state / p / 16 * p ≡ 0 = ap (λ (n : ℕ). n * p) none ∙ zero-mul p in
+    let whole : newest * p + state % p ≡ state = ap (λ (n : ℕ). n * p + state % p) (sym last) ∙ div-add-mod' state p in
+    omega (arith, rest, above, whole, fits)

@@ -45,6 +45,11 @@ pub fn to_front(ways: u32, state: u64, way: u32) -> u64
     if state % 16 == newest {
         return state;
     }
+    // The way that a miss takes is the oldest one: all others move by one place.
+    let last = 4 * (ways - 1);
+    if state >> last == newest {
+        return newest + 16 * (state - (newest << last));
+    }
     // The newer ways move by one place, and the older ones stay.
     let shift = 4 * place_of(ways, state, way);
     let newer = state & ((1 << shift) - 1);

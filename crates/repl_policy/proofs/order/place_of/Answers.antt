@@ -1,4 +1,4 @@
-use Rattle.std.proofs.Common.{◌≡◌, ◌≢◌, ◌∙◌, ◌+◌, ◌<◌, ◌≤◌, ℕ, ap, sym, arith, inl, inr}
+use Rattle.std.proofs.Common.{◌≢◌, ◌∙◌, ◌+◌, ◌<◌, ℕ, ap, sym, arith, inl, inr}
 use Rattle.std.proofs.lemmas.Bool.{cases_eq, cases_lt}
 use Rattle.repl_policy.specs.Packed.{way_at}
 use Rattle.repl_policy.proofs.Shifts.{way_stands}

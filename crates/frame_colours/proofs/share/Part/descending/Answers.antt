@@ -1,11 +1,17 @@
-use Rattle.std.proofs.Common.{arith, rules, sym, ap, subst, ◌≡◌, ◌∙◌, ◌<◌, ◌-◌, ℕ, List, [], ◌∷◌, ◌++◌, length, true, false}
-use Rattle.frame_colours.specs.Colours.{Share, colour_of, has_colour, pool}
+use Rattle.std.proofs.Common.{arith, rules, sym, ap, subst, ◌≡◌, ◌∙◌, ◌<◌, ◌-◌, ℕ, List, [], ◌∷◌, ◌++◌, length, Bool, true, false}
+use Rattle.frame_colours.specs.Colours.{Share, colour_of, has, has_colour, pool}
 use Rattle.frame_colours.proofs.Pools.{room_for, listed_own, listed_other, listed_whole}
 use Rattle.frame_colours.proofs.share.Part.descending.Goals as goal
 
 -- the colour that is counted down is that of the frame below
 below_is : (colours colours' frame colour : ℕ) → colours ≡ colours' → colour_of colours (frame - 1) ≡ colour → colour_of colours' (frame - 1) ≡ colour
 below_is colours colours' frame colour same is = subst (λ (k : ℕ). colour_of k (frame - 1) ≡ colour) same is
+
+-- the share has a frame where its colour is among those that were looked up
+looked_up : (s : Share) (own : List ℕ) (frame colour : ℕ) (found : Bool) → own ≡ s.own → colour_of s.colours frame ≡ colour
+    → found ≡ has own colour → has_colour s frame ≡ found
+looked_up s own frame colour found same is value =
+    ap (λ (c : ℕ). has s.own c) is ∙ ap (λ (ms : List ℕ). has ms colour) (sym same) ∙ sym value
 
 pub push_reserved-requires : goal.push_reserved-requires
 push_reserved-requires c =
@@ -14,21 +20,25 @@ push_reserved-requires c =
     (c.colour_below-colour.ensures.value c.loop-frame.frame (omega (arith, c.loop-frame-test.true)) (search rules))
     in
     let mine : has_colour c.args.self.now (c.loop-frame.frame - 1) ≡ true =
-    sym (c.has_colour.ensures.value (c.loop-frame.frame - 1) colour) ∙ c.if-has_colour.true
+    looked_up c.args.self.now c.deref-2.result.now (c.loop-frame.frame - 1) c.colour_below-colour.result _
+    (c.deref-2.ensures.value ∙ ap (λ (s : Share). s.own) c.self.view_is) colour
+    (c.named-named.ensures.named c.colour_below-colour.result (omega (arith, c.colour_below-colour.ensures.below, c.self.invariant.1))) ∙ c.if-named-colour.true
     in
     let room : length c.loop-frame.frames.items < length (pool c.args.self.now) =
     room_for c.args.self.now c.loop-frame.frames.items (c.loop-frame.frame - 1) c.loop-frame.frame mine
     (omega (arith, c.loop-frame-test.true)) c.loop-frame.invariant.1 c.loop-frame.invariant.0 in
     search rules
 
-pub loop-frame-preserved-then-has_colour : goal.loop-frame-preserved-then-has_colour
-loop-frame-preserved-then-has_colour c =
+pub loop-frame-preserved-then-named-colour : goal.loop-frame-preserved-then-named-colour
+loop-frame-preserved-then-named-colour c =
     let colour : colour_of c.args.self.now.colours (c.loop-frame.frame - 1) ≡ c.colour_below-colour.result =
     below_is c.self.inside.colours c.args.self.now.colours c.loop-frame.frame c.colour_below-colour.result (ap (λ (s : Share). s.colours) c.self.view_is)
     (c.colour_below-colour.ensures.value c.loop-frame.frame (omega (arith, c.loop-frame-test.true)) (search rules))
     in
     let mine : has_colour c.args.self.now (c.loop-frame.frame - 1) ≡ true =
-    sym (c.has_colour.ensures.value (c.loop-frame.frame - 1) colour) ∙ c.if-has_colour.true
+    looked_up c.args.self.now c.deref-2.result.now (c.loop-frame.frame - 1) c.colour_below-colour.result _
+    (c.deref-2.ensures.value ∙ ap (λ (s : Share). s.own) c.self.view_is) colour
+    (c.named-named.ensures.named c.colour_below-colour.result (omega (arith, c.colour_below-colour.ensures.below, c.self.invariant.1))) ∙ c.if-named-colour.true
     in
     let pushed : c.push_reserved.new.self.items ≡ c.loop-frame.frames.items ++ (c.loop-frame.frame - 1) ∷ [] = search rules in (
       listed_own c.args.self.now c.loop-frame.frames.items c.push_reserved.new.self.items (c.loop-frame.frame - 1) c.loop-frame.frame mine
@@ -45,7 +55,9 @@ loop-frame-preserved c =
     (c.colour_below-colour.ensures.value c.loop-frame.frame (omega (arith, c.loop-frame-test.true)) (search rules))
     in
     let other : has_colour c.args.self.now (c.loop-frame.frame - 1) ≡ false =
-    sym (c.has_colour.ensures.value (c.loop-frame.frame - 1) colour) ∙ c.if-has_colour.false
+    looked_up c.args.self.now c.deref-2.result.now (c.loop-frame.frame - 1) c.colour_below-colour.result _
+    (c.deref-2.ensures.value ∙ ap (λ (s : Share). s.own) c.self.view_is) colour
+    (c.named-named.ensures.named c.colour_below-colour.result (omega (arith, c.colour_below-colour.ensures.below, c.self.invariant.1))) ∙ c.if-named-colour.false
     in (
       listed_other c.args.self.now c.loop-frame.frames.items (c.loop-frame.frame - 1) c.loop-frame.frame other
           (omega (arith, c.loop-frame-test.true)) c.loop-frame.invariant.1 c.loop-frame.invariant.0,
