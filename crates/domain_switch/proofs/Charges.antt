@@ -1,48 +1,22 @@
 -- Charges one after the other.
-use Rattle.std.proofs.Common.{◌≡◌, ◌∙◌, sym, ap, subst, refl, arith, ℕ, ◌+◌, ◌*◌, ◌≤◌, Bool, true, false, List, [], ◌∷◌, ◌++◌, length, map, take, take_all, Option, Some, None}
-use Rattle.std.specs.Prelude.{slice_get, if◌then◌else◌}
+use Rattle.std.proofs.Common.{◌≡◌, ◌∙◌, sym, ap, subst, refl, arith, ℕ, ◌+◌, ◌*◌, ◌≤◌, List, [], ◌∷◌, ◌++◌, length, map, take, take_all, Option, Some, None}
+use Rattle.std.specs.Prelude.{slice_get}
 use Rattle.std.specs.List.{range_with_len}
-use Rattle.std.proofs.lemmas.List.{take_more, map-append, length-take}
+use Rattle.std.proofs.lemmas.List.{take_more, map-append}
 use Rattle.std.proofs.lemmas.List.FromFn.{map-range_with_len_more}
 use Rattle.std.proofs.lemmas.Nat.{mul-le}
 use Rattle.std.proofs.Math.Nat.{div-mul-le_self}
 use Rattle.std.proofs.lemmas.Option.{slice_get_within, get_or_from_slice_get}
 use Rattle.set_cache.specs.Rule.{Rule}
 use Rattle.cycle_cost.specs.Costs.{CostTable}
-use Rattle.kernel_clone.specs.declared.Work.{Work}
-use Rattle.kernel_clone.specs.Footprints.{Layout, WorkDone, LineTouch, IsLayout, lines_in_frame, touches, shared_line, shared_lines, leave_op, enter_op, is_of_switch}
-use Rattle.kernel_clone.specs.Laws.{zeroed_count}
-use Rattle.kernel_clone.specs.Models.{work_model, IsWork}
-use Rattle.kernel_clone.proofs.Items.{length-touches}
-use Rattle.kernel_clone.proofs.LineLaws.{whole_lines}
+use Rattle.kernel_clone.specs.Footprints.{Layout, WorkDone, LineTouch, IsLayout, lines_in_frame, touches, own_touches, zeroed_touches, entry_touches, written_touches, shared_line, shared_lines, leave_op, enter_op}
+use Rattle.kernel_clone.proofs.Items.{touches_parts, length-zeroed}
 use Rattle.mem_system.specs.Cost.{Touch, Load, Flush, Charge, touched, on_core, pass_on, below_all}
 use Rattle.mem_system.specs.Contents.{SystemContents, MakesTouch, MakesTouches}
 use Rattle.mem_system.proofs.Touches.{makes_none, makes_one, makes_then}
 use Rattle.cache_sharing.specs.Operations.{touch_by, touch_of_line, footprint, operation, shared_region, prefetch, leave, leave_if, enter, switch, plain}
 
 -- ---- how many lines
-
-few_lines : (l : Layout) → IsLayout l → lines_in_frame l ≤ 256
-few_lines l is =
-    let least : 16 * lines_in_frame l ≤ l.line * lines_in_frame l = mul-le 16 (lines_in_frame l) l.line (lines_in_frame l) is.least_line (omega arith) in
-    omega (arith, least, whole_lines l is)
-
-few_zeroed : (l : Layout) (zeroed : Option ℕ) → IsLayout l → zeroed_count l zeroed ≤ 256
-few_zeroed l None is = omega arith
-few_zeroed l (Some frame) is = few_lines l is
-
-few_stored : (b : Bool) → (if b then 1 else 2) ≤ 2
-few_stored true = omega arith
-few_stored false = omega arith
-
-few_loaded : (b : Bool) → (if b then 0 else 1) ≤ 1
-few_loaded true = omega arith
-few_loaded false = omega arith
-
--- a footprint
-pub few_touches : (l : Layout) (w : Work) → IsLayout l → IsWork w → length (touches l (work_model w)) ≤ 329
-few_touches l w is work =
-    omega (arith, length-touches l (work_model w), few_stored (is_of_switch w.op), few_loaded (is_of_switch w.op), few_zeroed l w.zeroed is, length-take w.count w.entries, work.few)
 
 -- the shared region
 pub few_shared : (l : Layout) → IsLayout l → shared_lines l ≤ 4096
@@ -54,15 +28,17 @@ few_shared l is =
 module _ {P : Type 0} (rule : P → ℕ → Rule) (stands : P → ℕ → ℕ → List ℕ → Type 0) where
   -- ---- a footprint
 
-  pub footprint_none : (l : Layout) (w : WorkDone) (kept : SystemContents P) → MakesTouches rule stands (map touch_of_line (take 0 (touches l w))) 0 kept kept
-  footprint_none l w kept = makes_none rule stands kept
+  -- the first touches of a list
+  abbrev pub Front : List LineTouch → ℕ → ℕ → SystemContents P → SystemContents P → Type 0
+  Front ts place a old new = MakesTouches rule stands (map touch_of_line (take place ts)) a old new
 
-  pub footprint_more : (l : Layout) (w : WorkDone) (place a b : ℕ) (t : LineTouch) (old middle new : SystemContents P)
-      → slice_get (touches l w) place ≡ Some t → MakesTouches rule stands (map touch_of_line (take place (touches l w))) a old middle
-      → MakesTouch rule stands (touch_by t.kind t.line) b middle new
-      → MakesTouches rule stands (map touch_of_line (take (place + 1) (touches l w))) (a + b) old new
-  footprint_more l w place a b t old middle new is before touch =
-      let ts : List LineTouch = touches l w in
+  pub front_none : (ts : List LineTouch) (kept : SystemContents P) → Front ts 0 0 kept kept
+  front_none ts kept = makes_none rule stands kept
+
+  pub front_more : (ts : List LineTouch) (place a b : ℕ) (t : LineTouch) (old middle new : SystemContents P)
+      → slice_get ts place ≡ Some t → Front ts place a old middle → MakesTouch rule stands (touch_by t.kind t.line) b middle new
+      → Front ts (place + 1) (a + b) old new
+  front_more ts place a b t old middle new is before touch =
       let more : take (place + 1) ts ≡ take place ts ++ t ∷ [] =
       take_more ts place t (slice_get_within ts place t is) ∙ ap (λ (one : LineTouch). take place ts ++ one ∷ []) (get_or_from_slice_get ts place t t is) in
       let all : map touch_of_line (take (place + 1) ts) ≡ map touch_of_line (take place ts) ++ touch_by t.kind t.line ∷ [] =
@@ -71,11 +47,43 @@ module _ {P : Type 0} (rule : P → ℕ → Rule) (stands : P → ℕ → ℕ �
       (makes_then rule stands (map touch_of_line (take place ts)) (touch_by t.kind t.line ∷ []) a b old middle new before
       (makes_one rule stands (touch_by t.kind t.line) b middle new touch))
 
-  pub footprint_all : (l : Layout) (w : WorkDone) (count a : ℕ) (old new : SystemContents P) → length (touches l w) ≤ count
-      → MakesTouches rule stands (map touch_of_line (take count (touches l w))) a old new → MakesTouches rule stands (footprint l w) a old new
+  pub front_all : (ts : List LineTouch) (count a : ℕ) (old new : SystemContents P) → length ts ≤ count → Front ts count a old new
+      → MakesTouches rule stands (map touch_of_line ts) a old new
+  front_all ts count a old new whole all =
+      subst (λ (us : List LineTouch). MakesTouches rule stands (map touch_of_line us) a old new) (take_all count ts whole) all
+
+  pub zeroed_none : (l : Layout) (zeroed : Option ℕ) (kept : SystemContents P) → zeroed ≡ None
+      → MakesTouches rule stands (map touch_of_line (zeroed_touches l zeroed)) 0 kept kept
+  unfolding zeroed_touches
+  zeroed_none l zeroed kept is =
+      subst (λ (z : Option ℕ). MakesTouches rule stands (map touch_of_line (zeroed_touches l z)) 0 kept kept) (sym is) (makes_none rule stands kept)
+
+  pub zeroed_all : (l : Layout) (zeroed : Option ℕ) (frame count a : ℕ) (old new : SystemContents P) → zeroed ≡ Some frame
+      → lines_in_frame l ≤ count → Front (zeroed_touches l (Some frame)) count a old new
+      → MakesTouches rule stands (map touch_of_line (zeroed_touches l zeroed)) a old new
+  zeroed_all l zeroed frame count a old new is whole all =
+      let length_is : length (zeroed_touches l (Some frame)) ≡ lines_in_frame l = length-zeroed l (Some frame) in
+      subst (λ (z : Option ℕ). MakesTouches rule stands (map touch_of_line (zeroed_touches l z)) a old new) (sym is)
+      (front_all (zeroed_touches l (Some frame)) count a old new (omega (arith, length_is, whole)) all)
+
+  -- the operation's own lines, the zeroed frame's, and those of the entries
+  pub footprint_made : (l : Layout) (w : WorkDone) (a b c : ℕ) (old one two new : SystemContents P)
+      → MakesTouches rule stands (map touch_of_line (own_touches l w.op)) a old one
+      → MakesTouches rule stands (map touch_of_line (zeroed_touches l w.zeroed)) b one two
+      → MakesTouches rule stands (map touch_of_line (entry_touches l w.entries)) c two new
+      → MakesTouches rule stands (footprint l w) (a + b + c) old new
   unfolding footprint
-  footprint_all l w count a old new whole all =
-      subst (λ (ts : List LineTouch). MakesTouches rule stands (map touch_of_line ts) a old new) (take_all count (touches l w) whole) all
+  footprint_made l w a b c old one two new own zeroed entries =
+      let whole : map touch_of_line (touches l w)
+      ≡ map touch_of_line (own_touches l w.op) ++ (map touch_of_line (zeroed_touches l w.zeroed) ++ map touch_of_line (entry_touches l w.entries)) =
+      ap (map touch_of_line) (touches_parts l w)
+      ∙ map-append touch_of_line (own_touches l w.op) (written_touches l w)
+      ∙ ap (λ (us : List Touch). map touch_of_line (own_touches l w.op) ++ us) (map-append touch_of_line (zeroed_touches l w.zeroed) (entry_touches l w.entries)) in
+      let sum : a + (b + c) ≡ a + b + c = omega arith in
+      subst (λ (us : List Touch). MakesTouches rule stands us (a + b + c) old new) (sym whole)
+      (subst (λ (n : ℕ). MakesTouches rule stands (map touch_of_line (own_touches l w.op) ++ (map touch_of_line (zeroed_touches l w.zeroed) ++ map touch_of_line (entry_touches l w.entries))) n old new) sum
+      (makes_then rule stands (map touch_of_line (own_touches l w.op)) (map touch_of_line (zeroed_touches l w.zeroed) ++ map touch_of_line (entry_touches l w.entries)) a (b + c) old one new own
+      (makes_then rule stands (map touch_of_line (zeroed_touches l w.zeroed)) (map touch_of_line (entry_touches l w.entries)) b c one two new zeroed entries)))
 
   -- ---- an operation
 

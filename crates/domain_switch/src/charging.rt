@@ -1,15 +1,16 @@
 // The charge of an operation's footprint, line by line.
-ghost use Rattle.std.specs.Prelude.{◌≡◌, ◌<◌, ◌≤◌, ◌*◌, length};
+ghost use Rattle.std.specs.Prelude.{◌≡◌, ◌<◌, ◌≤◌, ◌*◌, map, IfSome};
+ghost use Rattle.tp_base.specs.Ranges.{IsFrameNo};
 ghost use Rattle.cycle_cost.specs.Ranges.{most_access, most_footprint, most_operation};
-ghost use Rattle.kernel_clone.specs.Footprints.{IsLayout};
+ghost use Rattle.kernel_clone.specs.Footprints.{IsLayout, own_touches, zeroed_touches, entry_touches};
 ghost use Rattle.kernel_clone.specs.Models.{layout_model, work_model, IsWork};
 ghost use Rattle.mem_system.specs.Contents.{MakesTouch, MakesTouches};
-ghost use Rattle.cache_sharing.specs.Operations.{touch_by, footprint, operation};
+ghost use Rattle.cache_sharing.specs.Operations.{touch_by, touch_of_line, footprint, operation};
 
-use kernel_clone::{CloneLayout, Kind, Work, touches};
+use kernel_clone::{CloneLayout, Kind, Work, entry_line, own_count, own_touch};
 use mem_system::MemSystem;
 use set_cache::Policy;
-use tp_base::Line;
+use tp_base::{FrameNo, Line};
 
 /// Charges an operation of the kernel that did this work, a call or a
 /// delivery: the trap, and each line of its footprint. Answers the cycles.
@@ -41,11 +42,68 @@ pub(crate) fn charge_footprint<P: Policy>(
     ensures buffer { system.new.core.tlb ≡ system.old.core.tlb }
     ensures few { result ≤ most_footprint }
 {
-    let touches = touches(work.op, layout, work);
+    let own = charge_own(system, layout, work.op);
+    let zeroed = charge_zeroed(system, layout, work.zeroed);
+    let entries = charge_entries(system, layout, work);
+    own + zeroed + entries
+}
+
+/// Touches the lines of the operation itself, whatever it wrote. Answers the cycles.
+#[inline(always)]
+fn charge_own<P: Policy>(system: &mut MemSystem<P>, layout: &CloneLayout, op: u8) -> u32
+    requires layout { IsLayout (layout_model layout.now) }
+    ensures makes { MakesTouches P.rule P.stands_for
+        (map touch_of_line (own_touches (layout_model layout.now) op)) result system.old system.new }
+    ensures buffer { system.new.core.tlb ≡ system.old.core.tlb }
+    ensures few { result ≤ most_access * 9 }
+{
     let mut cycles = 0;
-    for place in 0..touches.len() {
-        let (line, kind) = touches.get(place);
+    for place in 0..own_count(op) {
+        let (line, kind) = own_touch(layout, op, place);
         cycles += touch(system, line, kind);
+    }
+    cycles
+}
+
+/// Stores each line of the frame that was zeroed, if one was. Answers the cycles.
+#[inline(always)]
+fn charge_zeroed<P: Policy>(
+    system: &mut MemSystem<P>,
+    layout: &CloneLayout,
+    zeroed: Option<u32>,
+) -> u32
+    requires layout { IsLayout (layout_model layout.now) }
+    requires zeroed { IfSome zeroed IsFrameNo }
+    ensures makes { MakesTouches P.rule P.stands_for
+        (map touch_of_line (zeroed_touches (layout_model layout.now) zeroed)) result system.old system.new }
+    ensures buffer { system.new.core.tlb ≡ system.old.core.tlb }
+    ensures few { result ≤ most_access * 256 }
+{
+    let Some(frame) = zeroed else {
+        return 0;
+    };
+    let first = layout.line_of(FrameNo::new(frame), 0);
+    let mut cycles = 0;
+    for place in 0..layout.lines_in_frame() {
+        cycles += system.access(Line::new(first.number() + place), true);
+    }
+    cycles
+}
+
+/// Stores the line of each entry that was written. Answers the cycles.
+#[inline(always)]
+fn charge_entries<P: Policy>(system: &mut MemSystem<P>, layout: &CloneLayout, work: &Work) -> u32
+    requires layout { IsLayout (layout_model layout.now) }
+    requires work { IsWork work.now }
+    ensures makes { MakesTouches P.rule P.stands_for
+        (map touch_of_line (entry_touches (layout_model layout.now) (work_model work.now).entries))
+        result system.old system.new }
+    ensures buffer { system.new.core.tlb ≡ system.old.core.tlb }
+    ensures few { result ≤ most_access * 64 }
+{
+    let mut cycles = 0;
+    for place in 0..work.count {
+        cycles += system.access(entry_line(layout, work, place), true);
     }
     cycles
 }

@@ -2,11 +2,11 @@
 use Rattle.std.proofs.Common.{◌≡◌, ◌∙◌, ◌<◌, ◌≤◌, ◌+◌, ◌-◌, ◌*◌, ◌/◌, ◌%◌, ℕ, zero, suc, List, [], ◌∷◌, ◌++◌, length, map, Option, Some, None, true, false, ap, sym, refl, subst, arith, zero-add, suc-add, option_map}
 use Rattle.std.specs.Prelude.{slice_get, slice_index, take, if◌then◌else◌}
 use Rattle.std.specs.List.{range_with_len}
-use Rattle.std.proofs.lemmas.List.{length-append, length-map, length-take-le, get_or-take}
+use Rattle.std.proofs.lemmas.List.{append_assoc, length-append, length-map, length-take-le, get_or-take}
 use Rattle.std.proofs.lemmas.List.FromFn.{length-map-range_with_len, get_or-map-range_with_len}
 use Rattle.std.proofs.lemmas.Option.{slice_get-get_or, slice_get-map}
-use Rattle.kernel_clone.specs.Footprints.{Layout, WorkDone, LineTouch, touches, text_touches, stack_touches, data_touches, shared_touches, zeroed_touches, entry_touches, written_touches, touch_of, text_line, line_of, shared_line, shared_lines, lines_in_frame, data_count, is_of_switch}
-use Rattle.kernel_clone.specs.Laws.{shared_count, zeroed_count, count_of}
+use Rattle.kernel_clone.specs.Footprints.{Layout, WorkDone, LineTouch, touches, text_touches, stack_touches, data_touches, shared_touches, own_touches, zeroed_touches, entry_touches, written_touches, touch_of, text_line, line_of, shared_line, shared_lines, lines_in_frame, data_count, is_of_switch}
+use Rattle.kernel_clone.specs.Laws.{own_count, shared_count, zeroed_count, count_of}
 use Rattle.kernel_clone.specs.declared.Kind.TheVariants.{Fetch, Load, Store}
 
 -- ---- lists
@@ -109,13 +109,16 @@ taken_item l entries count k lt le =
     entry_item l (take count entries) k (subst (λ (n : ℕ). k < n) (sym (length-take-le count entries le)) lt)
     ∙ ap (λ (at : ℕ). Some (touch_of Store (at / l.line))) (get_or-take count entries k 0 lt)
 
+pub frame_item : (l : Layout) (frame i : ℕ) → i < lines_in_frame l
+    → slice_get (zeroed_touches l (Some frame)) i ≡ Some (touch_of Store (line_of l frame i))
+unfolding zeroed_touches
+frame_item l frame i lt = get_range (λ k. touch_of Store (line_of l frame k)) (lines_in_frame l) i lt
+
 pub zeroed_item : (l : Layout) (w : WorkDone) (frame i : ℕ) → w.zeroed ≡ Some frame → i < lines_in_frame l
     → slice_get (written_touches l w) i ≡ Some (touch_of Store (line_of l frame i))
-unfolding zeroed_touches
 zeroed_item l w frame i is lt =
     subst (λ (z : Option ℕ). slice_get (zeroed_touches l z ++ entry_touches l w.entries) i ≡ Some (touch_of Store (line_of l frame i))) (sym is)
-    (get_left (zeroed_touches l (Some frame)) (entry_touches l w.entries) i (touch_of Store (line_of l frame i))
-    (get_range (λ k. touch_of Store (line_of l frame k)) (lines_in_frame l) i lt))
+    (get_left (zeroed_touches l (Some frame)) (entry_touches l w.entries) i (touch_of Store (line_of l frame i)) (frame_item l frame i lt))
 
 pub plain_written : (l : Layout) (w : WorkDone) (i : ℕ) → w.zeroed ≡ None → slice_get (written_touches l w) i ≡ slice_get (entry_touches l w.entries) i
 unfolding zeroed_touches
@@ -125,41 +128,41 @@ pub past_zeroed : (l : Layout) (w : WorkDone) (i n : ℕ) → zeroed_count l w.z
     → slice_get (written_touches l w) i ≡ slice_get (entry_touches l w.entries) (i - n)
 past_zeroed l w i n is le = get_right (zeroed_touches l w.zeroed) (entry_touches l w.entries) n i (length-zeroed l w.zeroed ∙ is) le
 
--- ---- the items of the whole
+-- ---- the items of the operation itself
 
-pub text_item : (l : Layout) (w : WorkDone) (i : ℕ) → i < 4
-    → slice_get (touches l w) i ≡ Some (touch_of Fetch (text_line l ((4 * w.op + i) % (2 * lines_in_frame l))))
-unfolding touches text_touches
-text_item l w i lt =
-    get_left (text_touches l w.op) _ i _ (get_range (λ k. touch_of Fetch (text_line l ((4 * w.op + k) % (2 * lines_in_frame l)))) 4 i lt)
+pub text_item : (l : Layout) (op i : ℕ) → i < 4
+    → slice_get (own_touches l op) i ≡ Some (touch_of Fetch (text_line l ((4 * op + i) % (2 * lines_in_frame l))))
+unfolding own_touches text_touches
+text_item l op i lt =
+    get_left (text_touches l op) _ i _ (get_range (λ k. touch_of Fetch (text_line l ((4 * op + k) % (2 * lines_in_frame l)))) 4 i lt)
 
-past_text : (l : Layout) (w : WorkDone) (i : ℕ) → 4 ≤ i
-    → slice_get (touches l w) i ≡ slice_get (stack_touches l ++ (data_touches l w.op ++ (shared_touches l w.op ++ written_touches l w))) (i - 4)
-unfolding touches
-past_text l w i le = get_right (text_touches l w.op) _ 4 i (length-text l w.op) le
+past_text : (l : Layout) (op i : ℕ) → 4 ≤ i
+    → slice_get (own_touches l op) i ≡ slice_get (stack_touches l ++ (data_touches l op ++ shared_touches l op)) (i - 4)
+unfolding own_touches
+past_text l op i le = get_right (text_touches l op) _ 4 i (length-text l op) le
 
-pub stack_item : (l : Layout) (w : WorkDone) (i : ℕ) → 4 ≤ i → i - 4 < 2
-    → slice_get (touches l w) i ≡ Some (touch_of Store (line_of l l.stack (i - 4)))
+pub stack_item : (l : Layout) (op i : ℕ) → 4 ≤ i → i - 4 < 2
+    → slice_get (own_touches l op) i ≡ Some (touch_of Store (line_of l l.stack (i - 4)))
 unfolding stack_touches
-stack_item l w i le lt =
-    past_text l w i le ∙ get_left (stack_touches l) _ (i - 4) _ (get_range (λ k. touch_of Store (line_of l l.stack k)) 2 (i - 4) lt)
+stack_item l op i le lt =
+    past_text l op i le ∙ get_left (stack_touches l) _ (i - 4) _ (get_range (λ k. touch_of Store (line_of l l.stack k)) 2 (i - 4) lt)
 
-past_stack : (l : Layout) (w : WorkDone) (i : ℕ) → 4 ≤ i → 2 ≤ i - 4
-    → slice_get (touches l w) i ≡ slice_get (data_touches l w.op ++ (shared_touches l w.op ++ written_touches l w)) (i - 4 - 2)
-past_stack l w i le two = past_text l w i le ∙ get_right (stack_touches l) _ 2 (i - 4) (length-stack l) two
+past_stack : (l : Layout) (op i : ℕ) → 4 ≤ i → 2 ≤ i - 4
+    → slice_get (own_touches l op) i ≡ slice_get (data_touches l op ++ shared_touches l op) (i - 4 - 2)
+past_stack l op i le two = past_text l op i le ∙ get_right (stack_touches l) _ 2 (i - 4) (length-stack l) two
 
-pub data_item : (l : Layout) (w : WorkDone) (i d : ℕ) → d ≡ data_count w.op → 4 ≤ i → 2 ≤ i - 4 → i - 4 - 2 < d
-    → slice_get (touches l w) i ≡ Some (touch_of Store (line_of l l.data_frame ((2 * w.op + (i - 4 - 2)) % lines_in_frame l)))
+pub data_item : (l : Layout) (op i d : ℕ) → d ≡ data_count op → 4 ≤ i → 2 ≤ i - 4 → i - 4 - 2 < d
+    → slice_get (own_touches l op) i ≡ Some (touch_of Store (line_of l l.data_frame ((2 * op + (i - 4 - 2)) % lines_in_frame l)))
 unfolding data_touches
-data_item l w i d is le two lt =
-    past_stack l w i le two ∙ get_left (data_touches l w.op) _ (i - 4 - 2) _
-    (get_range (λ k. touch_of Store (line_of l l.data_frame ((2 * w.op + k) % lines_in_frame l))) (data_count w.op) (i - 4 - 2)
+data_item l op i d is le two lt =
+    past_stack l op i le two ∙ get_left (data_touches l op) _ (i - 4 - 2) _
+    (get_range (λ k. touch_of Store (line_of l l.data_frame ((2 * op + k) % lines_in_frame l))) (data_count op) (i - 4 - 2)
     (subst (λ (n : ℕ). i - 4 - 2 < n) is lt))
 
-past_data : (l : Layout) (w : WorkDone) (i d : ℕ) → d ≡ data_count w.op → 4 ≤ i → 2 ≤ i - 4 → d ≤ i - 4 - 2
-    → slice_get (touches l w) i ≡ slice_get (shared_touches l w.op ++ written_touches l w) (i - 4 - 2 - d)
-past_data l w i d is le two more =
-    past_stack l w i le two ∙ get_right (data_touches l w.op) _ d (i - 4 - 2) (length-data l w.op ∙ sym is) more
+past_data : (l : Layout) (op i d : ℕ) → d ≡ data_count op → 4 ≤ i → 2 ≤ i - 4 → d ≤ i - 4 - 2
+    → slice_get (own_touches l op) i ≡ slice_get (shared_touches l op) (i - 4 - 2 - d)
+past_data l op i d is le two more =
+    past_stack l op i le two ∙ get_right (data_touches l op) _ d (i - 4 - 2) (length-data l op ∙ sym is) more
 
 -- the one shared line, where there is one
 shared_one : (l : Layout) (op : ℕ) (k : ℕ) → k < shared_count op
@@ -171,23 +174,51 @@ shared_one l op k =
       | false ↦ λ lt. let first : k ≡ 0 = omega (arith, lt) in rw first refl
     ]
 
-pub shared_item : (l : Layout) (w : WorkDone) (i d s : ℕ) → d ≡ data_count w.op → s ≡ shared_count w.op
-    → 4 ≤ i → 2 ≤ i - 4 → d ≤ i - 4 - 2 → i - 4 - 2 - d < s
-    → slice_get (touches l w) i ≡ Some (touch_of Load (shared_line l (w.op % shared_lines l)))
-shared_item l w i d s is one le two more lt =
-    past_data l w i d is le two more ∙ get_left (shared_touches l w.op) _ (i - 4 - 2 - d) _
-    (shared_one l w.op (i - 4 - 2 - d) (subst (λ (n : ℕ). i - 4 - 2 - d < n) one lt))
+pub shared_item : (l : Layout) (op i d : ℕ) → d ≡ data_count op → 4 ≤ i → 2 ≤ i - 4 → d ≤ i - 4 - 2 → i < own_count op
+    → slice_get (own_touches l op) i ≡ Some (touch_of Load (shared_line l (op % shared_lines l)))
+shared_item l op i d is le two more lt =
+    past_data l op i d is le two more ∙ shared_one l op (i - 4 - 2 - d) (omega (arith, is, le, two, more, lt))
 
-pub past_shared : (l : Layout) (w : WorkDone) (i d s : ℕ) → d ≡ data_count w.op → s ≡ shared_count w.op
-    → 4 ≤ i → 2 ≤ i - 4 → d ≤ i - 4 - 2 → s ≤ i - 4 - 2 - d
-    → slice_get (touches l w) i ≡ slice_get (written_touches l w) (i - 4 - 2 - d - s)
-past_shared l w i d s is one le two more past =
-    past_data l w i d is le two more
-    ∙ get_right (shared_touches l w.op) (written_touches l w) s (i - 4 - 2 - d) (length-shared l w.op ∙ sym one) past
+-- ---- the items of the whole
 
-pub written_below : (l : Layout) (w : WorkDone) (i d s : ℕ) → d ≡ data_count w.op → s ≡ shared_count w.op
-    → 4 ≤ i → 2 ≤ i - 4 → d ≤ i - 4 - 2 → s ≤ i - 4 - 2 - d → i < length (touches l w)
-    → i - 4 - 2 - d - s < length (written_touches l w)
-written_below l w i d s is one le two more past lt =
+-- the operation's own, and then what the work stored
+pub touches_parts : (l : Layout) (w : WorkDone) → touches l w ≡ own_touches l w.op ++ written_touches l w
+unfolding touches own_touches
+touches_parts l w =
+    rw (
+      append_assoc (text_touches l w.op) (stack_touches l ++ (data_touches l w.op ++ shared_touches l w.op)) (written_touches l w),
+      append_assoc (stack_touches l) (data_touches l w.op ++ shared_touches l w.op) (written_touches l w),
+      append_assoc (data_touches l w.op) (shared_touches l w.op) (written_touches l w),
+    ) refl
+
+pub length-own : (l : Layout) (op : ℕ) → length (own_touches l op) ≡ own_count op
+unfolding own_touches
+length-own l op =
+    rw (
+      length-append (text_touches l op) (stack_touches l ++ (data_touches l op ++ shared_touches l op)),
+      length-append (stack_touches l) (data_touches l op ++ shared_touches l op),
+      length-append (data_touches l op) (shared_touches l op),
+      length-text l op,
+      length-stack l,
+      length-data l op,
+      length-shared l op,
+    ) (omega arith)
+
+pub own_item : (l : Layout) (w : WorkDone) (op i : ℕ) (t : LineTouch) → op ≡ w.op → slice_get (own_touches l op) i ≡ Some t
+    → slice_get (touches l w) i ≡ Some t
+own_item l w op i t same is =
+    ap (λ ts. slice_get ts i) (touches_parts l w)
+    ∙ get_left (own_touches l w.op) (written_touches l w) i t (subst (λ (o : ℕ). slice_get (own_touches l o) i ≡ Some t) same is)
+
+pub past_own : (l : Layout) (w : WorkDone) (op i n : ℕ) → op ≡ w.op → n ≡ own_count op → n ≤ i
+    → slice_get (touches l w) i ≡ slice_get (written_touches l w) (i - n)
+past_own l w op i n same is le =
+    ap (λ ts. slice_get ts i) (touches_parts l w)
+    ∙ get_right (own_touches l w.op) (written_touches l w) n i (length-own l w.op ∙ sym (is ∙ ap own_count same)) le
+
+pub written_below : (l : Layout) (w : WorkDone) (op i n : ℕ) → op ≡ w.op → n ≡ own_count op → n ≤ i → i < length (touches l w)
+    → i - n < length (written_touches l w)
+written_below l w op i n same is le lt =
     let whole = length-parts l w in
-    omega (arith, is, one, le, two, more, past, lt, whole)
+    let own : own_count op ≡ own_count w.op = ap own_count same in
+    omega (arith, is, own, le, lt, whole)

@@ -105,6 +105,10 @@ data_touches l op =
 unfoldable pub shared_touches : Layout → ℕ → List LineTouch
 shared_touches l op = if is_of_switch op then [] else touch_of Load (shared_line l (op % shared_lines l)) ∷ []
 
+-- of the operation itself, whatever it wrote
+unfoldable pub own_touches : Layout → ℕ → List LineTouch
+own_touches l op = text_touches l op ++ (stack_touches l ++ (data_touches l op ++ shared_touches l op))
+
 -- each line of a frame that was zeroed
 unfoldable pub zeroed_touches : Layout → Option ℕ → List LineTouch
 zeroed_touches l None = []

@@ -48,6 +48,10 @@ StoresIn own l t = t.kind ≡ Store → own (frame_of l t.line) ≡ true
 abbrev pub shared_count : ℕ → ℕ
 shared_count op = if is_of_switch op then 0 else 1
 
+-- of the operation itself: text, stack, data, shared line
+abbrev pub own_count : ℕ → ℕ
+own_count op = 4 + 2 + data_count op + shared_count op
+
 abbrev pub zeroed_count : Layout → Option ℕ → ℕ
 zeroed_count l None = 0
 zeroed_count l (Some frame) = lines_in_frame l

@@ -1,10 +1,10 @@
 // The touches of an operation, one by one, with no list in memory.
 ghost use Rattle.std.specs.Prelude.{◌≡◌, ◌<◌, ◌≤◌, length, slice_get, Some};
-ghost use Rattle.kernel_clone.specs.Footprints.{IsLayout, touch_of, is_of_switch, data_count, written_touches, entry_touches};
+ghost use Rattle.kernel_clone.specs.Footprints.{IsLayout, touch_of, is_of_switch, data_count, own_touches, written_touches, entry_touches};
 ghost use Rattle.kernel_clone.specs.declared.Kind.TheVariants.{Store};
 ghost use Rattle.kernel_clone.specs.Footprints as spec;
 ghost use Rattle.kernel_clone.specs.Models.{layout_model, work_model, IsWork, IsAsked};
-ghost use Rattle.kernel_clone.specs.Laws.{shared_count};
+ghost use Rattle.kernel_clone.specs.Laws.{own_count, shared_count};
 
 use crate::{CloneLayout, ENTER, Kind, LEAVE, Work};
 use std::marker::Model;
@@ -69,6 +69,41 @@ fn shared_count(op: u8) -> u32
     }
 }
 
+/// How many lines an operation touches whatever it wrote: 7 at a switch, else 9.
+#[inline(always)]
+pub fn own_count(op: u8) -> u32
+    ensures value { result ≡ own_count op }
+    ensures few { result ≤ 9 }
+{
+    TEXT + STACK + data_count(op) + shared_count(op)
+}
+
+/// One of them, by its place in their order: which line is touched, and how.
+#[inline(always)]
+pub fn own_touch(layout: &CloneLayout, op: u8, place: u32) -> (Line, Kind)
+    requires layout { IsLayout (layout_model layout.now) }
+    requires below { place < own_count op }
+    ensures touch { slice_get (own_touches (layout_model layout.now) op) place
+        ≡ Some (touch_of result.1 result.0) }
+{
+    let op_place = u32::from(op);
+    if place < TEXT {
+        let line = layout.text_line(layout.place_in_text(4 * op_place + place));
+        return (line, Kind::Fetch);
+    }
+    let place = place - TEXT;
+    if place < STACK {
+        return (layout.line_of(layout.stack, place), Kind::Store);
+    }
+    let place = place - STACK;
+    if place < data_count(op) {
+        let line = layout.line_of(layout.data, layout.place_in_frame(2 * op_place + place));
+        return (line, Kind::Store);
+    }
+    let line = layout.shared_line(op_place % layout.shared_lines());
+    (line, Kind::Load)
+}
+
 /// How many lines the work stored.
 fn written_count(layout: &CloneLayout, work: &Work) -> u32
     requires layout { IsLayout (layout_model layout.now) }
@@ -109,8 +144,9 @@ fn written_line(layout: &CloneLayout, work: &Work, place: u32) -> Line
     }
 }
 
-/// The line of an entry that the work wrote.
-fn entry_line(layout: &CloneLayout, work: &Work, place: u32) -> Line
+/// The line of an entry that the work wrote, by its place in their order.
+#[inline(always)]
+pub fn entry_line(layout: &CloneLayout, work: &Work, place: u32) -> Line
     requires layout { IsLayout (layout_model layout.now) }
     requires work { IsWork work.now }
     requires below { place < work.now.count }
@@ -134,8 +170,7 @@ impl<'a> Touches<'a> {
     pub fn len(&self) -> u32
         ensures length { result ≡ length self.now }
     {
-        let own = TEXT + STACK + data_count(self.op) + shared_count(self.op);
-        own + written_count(self.layout, self.work)
+        own_count(self.op) + written_count(self.layout, self.work)
     }
 
     /// One of them, by its place in their order: which line is touched, and how.
@@ -144,29 +179,11 @@ impl<'a> Touches<'a> {
         requires below { place < length self.now }
         ensures touch { slice_get self.now place ≡ Some (touch_of result.1 result.0) }
     {
-        let layout = self.layout;
-        let op = u32::from(self.op);
-        if place < TEXT {
-            let line = layout.text_line(layout.place_in_text(4 * op + place));
-            return (line, Kind::Fetch);
+        let own = own_count(self.op);
+        if place < own {
+            return own_touch(self.layout, self.op, place);
         }
-        let place = place - TEXT;
-        if place < STACK {
-            return (layout.line_of(layout.stack, place), Kind::Store);
-        }
-        let place = place - STACK;
-        let stored = data_count(self.op);
-        if place < stored {
-            let line = layout.line_of(layout.data, layout.place_in_frame(2 * op + place));
-            return (line, Kind::Store);
-        }
-        let place = place - stored;
-        let loaded = shared_count(self.op);
-        if place < loaded {
-            let line = layout.shared_line(op % layout.shared_lines());
-            return (line, Kind::Load);
-        }
-        let line = written_line(layout, self.work, place - loaded);
+        let line = written_line(self.layout, self.work, place - own);
         (line, Kind::Store)
     }
 }

@@ -38,7 +38,7 @@ impl CloneLayout {
 
     /// How many lines a frame has, 32 to 256.
     #[inline(always)]
-    pub(crate) fn lines_in_frame(&self) -> u32
+    pub fn lines_in_frame(&self) -> u32
         requires layout { IsLayout (layout_model self.now) }
         ensures value { result ≡ lines_in_frame (layout_model self.now) }
         ensures some { 32 ≤ result }
@@ -69,7 +69,7 @@ impl CloneLayout {
 
     /// The line at a place in a frame.
     #[inline(always)]
-    pub(crate) fn line_of(&self, frame: FrameNo, place: u32) -> Line
+    pub fn line_of(&self, frame: FrameNo, place: u32) -> Line
         requires layout { IsLayout (layout_model self.now) }
         requires below { place < lines_in_frame (layout_model self.now) }
         ensures value { result ≡ line_of (layout_model self.now) frame place }

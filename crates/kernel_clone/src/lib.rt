@@ -11,7 +11,7 @@ mod laws;
 mod layout;
 mod operation;
 
-pub use footprint::Touches;
+pub use footprint::{Touches, entry_line, own_count, own_touch};
 pub use laws::{counts, entries_lie_in_their_frames, lines, places};
 pub use operation::{BAD_CALL, Call, DELIVERY, ENTER, LEAVE};
 use tp_base::FrameNo;
