@@ -2,3 +2,4 @@ pub mod Accepted
 pub mod Answers
 pub mod Commands
 pub mod Reports
+pub mod Numbers
