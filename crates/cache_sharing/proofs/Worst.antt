@@ -16,7 +16,7 @@ use Rattle.mem_system.specs.Hierarchy.{Hierarchy}
 use Rattle.mem_system.specs.Cost.{Touch, Fetch, Load, Store, WalkRead, Look, Branch, EmptyTlb, Flush, Charge, Core, Caches, fresh_core, fetched, accessed, branched, flushed, on_core, pass_on, touched, touched_all, and_then}
 use Rattle.mem_system.specs.TouchLaws.{IsCostBelow, IsCostOfData, IsCostOfWalk, IsCost}
 use Rattle.mem_system.proofs.TouchLaws.{cost_is, looked_l1d}
-use Rattle.cache_sharing.specs.Operations.{touch_of_line, touch_by, footprint, operation, plain, leave, enter, shared_region, prefetch, leave_if, switch}
+use Rattle.cache_sharing.specs.Operations.{touch_of_line, touch_by, footprint, operation, plain, leave, enter, shared_region, prefetch, leave_if, switch, switch_by}
 use Rattle.cache_sharing.specs.Worst.{shape_of, worst_touch, worst_touches, HasWays, IsWithin}
 use Rattle.cache_sharing.specs.Laws.{WorstLaw, SwitchLaw, OnTimeLaw}
 
@@ -193,7 +193,7 @@ module _ (h : Hierarchy) where
     pub switch_most : (out : Option Layout) (into : Layout) → IsCloneOf (shape_of h shared) into
         → let s = shape_of h shared in
         worst_touches h (switch h.costs out into) ≤ worst_leave s + worst_prefetch s + worst_flush s + worst_enter s
-    unfolding switch worst_touches worst_flush
+    unfolding switch_by worst_touches worst_flush
     switch_most out into clone =
         let loads : List Touch = prefetch (shared_region into) in
         let parts = worst-append (leave_if h.costs out) (loads ++ (Flush ∷ enter into)) in

@@ -1,11 +1,11 @@
 -- What the kernel's operations and a switch of domains touch, in order.
-use Rattle.std.specs.Prelude.{ℕ, List, [], ◌∷◌, ◌++◌, map, Option, Some, None}
+use Rattle.std.specs.Prelude.{ℕ, Bool, true, if◌then◌else◌, List, [], ◌∷◌, ◌++◌, map, Option, Some, None}
 use Rattle.std.specs.List.{range_with_len}
 use Rattle.cycle_cost.specs.Costs.{CostTable}
 use Rattle.kernel_clone.specs.declared.Kind.{Kind}
 use Rattle.kernel_clone.specs.declared.Kind.TheVariants as kind
 use Rattle.kernel_clone.specs.Footprints.{Layout, WorkDone, LineTouch, touches, leave_op, enter_op, shared_line, shared_lines}
-use Rattle.mem_system.specs.Cost.{Touch, Fetch, Load, Store, Flush, Charge}
+use Rattle.mem_system.specs.Cost.{Touch, Fetch, Load, Store, EmptyTlb, Flush, Charge}
 
 -- ---- one operation
 
@@ -50,6 +50,12 @@ unfoldable pub leave_if : CostTable → Option Layout → List Touch
 leave_if c None = []
 leave_if c (Some l) = leave c l
 
--- the clone of who was running leaves, the shared lines are loaded, the core is made fresh, the next clone enters
-unfoldable pub switch : CostTable → Option Layout → Layout → List Touch
-switch c out into = leave_if c out ++ (prefetch (shared_region into) ++ (Flush ∷ enter into))
+-- the clone of who was running leaves, the shared lines are loaded, the core is made fresh, the next clone enters; either of
+-- the two in the middle may be left out, but that the translation buffer is emptied
+unfoldable pub switch_by : Bool → Bool → CostTable → Option Layout → Layout → List Touch
+switch_by loads flushes c out into =
+    leave_if c out
+    ++ ((if loads then prefetch (shared_region into) else []) ++ ((if flushes then Flush else EmptyTlb) ∷ enter into))
+
+abbrev pub switch : CostTable → Option Layout → Layout → List Touch
+switch = switch_by true true

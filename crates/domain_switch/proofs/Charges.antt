@@ -1,6 +1,6 @@
 -- Charges one after the other.
 use Rattle.std.proofs.Common.{◌≡◌, ◌∙◌, sym, ap, subst, refl, arith, ℕ, ◌+◌, ◌*◌, ◌≤◌, List, [], ◌∷◌, ◌++◌, length, map, take, take_all, Option, Some, None}
-use Rattle.std.specs.Prelude.{slice_get}
+use Rattle.std.specs.Prelude.{Bool, if◌then◌else◌, slice_get}
 use Rattle.std.specs.List.{range_with_len}
 use Rattle.std.proofs.lemmas.List.{take_more, map-append}
 use Rattle.std.proofs.lemmas.List.FromFn.{map-range_with_len_more}
@@ -11,10 +11,10 @@ use Rattle.set_cache.specs.Rule.{Rule}
 use Rattle.cycle_cost.specs.Costs.{CostTable}
 use Rattle.kernel_clone.specs.Footprints.{Layout, WorkDone, LineTouch, IsLayout, lines_in_frame, touches, own_touches, zeroed_touches, entry_touches, written_touches, shared_line, shared_lines, leave_op, enter_op}
 use Rattle.kernel_clone.proofs.Items.{touches_parts, length-zeroed}
-use Rattle.mem_system.specs.Cost.{Touch, Load, Flush, Charge, touched, on_core, pass_on, below_all}
+use Rattle.mem_system.specs.Cost.{Touch, Load, EmptyTlb, Flush, Charge, touched, on_core, pass_on, below_all}
 use Rattle.mem_system.specs.Contents.{SystemContents, MakesTouch, MakesTouches}
 use Rattle.mem_system.proofs.Touches.{makes_none, makes_one, makes_then}
-use Rattle.cache_sharing.specs.Operations.{touch_by, touch_of_line, footprint, operation, shared_region, prefetch, leave, leave_if, enter, switch, plain}
+use Rattle.cache_sharing.specs.Operations.{touch_by, touch_of_line, footprint, operation, shared_region, prefetch, leave, leave_if, enter, switch_by, plain}
 
 -- ---- how many lines
 
@@ -141,12 +141,17 @@ module _ {P : Type 0} (rule : P → ℕ → Rule) (stands : P → ℕ → ℕ �
   unfolding enter
   enters l w a old new work made = subst (λ (one : WorkDone). MakesTouches rule stands (footprint l one) a old new) work made
 
-  pub switch_made : (costs : CostTable) (out : Option Layout) (into : Layout) (a b f e : ℕ) (old left loaded fresh new : SystemContents P)
-      → MakesTouches rule stands (leave_if costs out) a old left → MakesTouches rule stands (prefetch (shared_region into)) b left loaded
-      → MakesTouch rule stands Flush f loaded fresh → MakesTouches rule stands (enter into) e fresh new
-      → MakesTouches rule stands (switch costs out into) (a + (b + (f + e))) old new
-  unfolding switch
-  switch_made costs out into a b f e old left loaded fresh new leaves loads flushes enters =
-      makes_then rule stands (leave_if costs out) (prefetch (shared_region into) ++ (Flush ∷ enter into)) a (b + (f + e)) old left new leaves
-      (makes_then rule stands (prefetch (shared_region into)) (Flush ∷ enter into) b (f + e) left loaded new loads
-      (makes_then rule stands (Flush ∷ []) (enter into) f e loaded fresh new (makes_one rule stands Flush f loaded fresh flushes) enters))
+  pub switch_made : (loads flushes : Bool) (costs : CostTable) (out : Option Layout) (into : Layout) (a b f e : ℕ) (old left loaded fresh new : SystemContents P)
+      → let region = if loads then prefetch (shared_region into) else [] in
+      let emptied = if flushes then Flush else EmptyTlb in
+      MakesTouches rule stands (leave_if costs out) a old left → MakesTouches rule stands region b left loaded
+      → MakesTouch rule stands emptied f loaded fresh → MakesTouches rule stands (enter into) e fresh new
+      → MakesTouches rule stands (switch_by loads flushes costs out into) (a + b + f + e) old new
+  unfolding switch_by
+  switch_made loads flushes costs out into a b f e old left loaded fresh new leaves loading flushing enters =
+      let region : List Touch = if loads then prefetch (shared_region into) else [] in
+      let emptied : Touch = if flushes then Flush else EmptyTlb in
+      subst (λ (n : ℕ). MakesTouches rule stands (leave_if costs out ++ (region ++ (emptied ∷ enter into))) n old new) (let e : a + (b + (f + e)) ≡ a + b + f + e = omega arith in e)
+      (makes_then rule stands (leave_if costs out) (region ++ (emptied ∷ enter into)) a (b + (f + e)) old left new leaves
+      (makes_then rule stands region (emptied ∷ enter into) b (f + e) left loaded new loading
+      (makes_then rule stands (emptied ∷ []) (enter into) f e loaded fresh new (makes_one rule stands emptied f loaded fresh flushing) enters)))

@@ -7,4 +7,4 @@ mod charging;
 mod switching;
 
 pub use charging::charge;
-pub use switching::{Switched, enter, leave, switch};
+pub use switching::{Parts, Switched, enter, leave, switch, switch_off};

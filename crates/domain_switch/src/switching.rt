@@ -1,12 +1,12 @@
 // The switch: what is done between two slots, and the wait for the next one.
-ghost use Rattle.std.specs.Prelude.{◌≡◌, ℕ, ◌+◌, ◌-◌, ◌*◌, ◌/◌, ◌^◌, ◌<◌, ◌≤◌, max, IfSome};
+ghost use Rattle.std.specs.Prelude.{◌≡◌, ℕ, ◌+◌, ◌-◌, ◌*◌, ◌/◌, ◌^◌, ◌<◌, ◌≤◌, max, [], IfSome, if◌then◌else◌};
 ghost use Rattle.cycle_cost.specs.Ranges.{most_footprint, most_operation, most_prefetch};
 ghost use Rattle.std.specs.Option.{option_copied};
 ghost use Rattle.phys_mem.specs.Mem.{Mem};
 ghost use Rattle.kernel_clone.specs.Footprints.{IsLayout};
 ghost use Rattle.kernel_clone.specs.Models.{layout_model, work_model, IsWork};
-ghost use Rattle.mem_system.specs.Cost.{Caches, touched_all};
-ghost use Rattle.mem_system.specs.Contents.{SystemStands, MakesTouches, hierarchy_of};
+ghost use Rattle.mem_system.specs.Cost.{Caches, EmptyTlb, Flush, touched_all};
+ghost use Rattle.mem_system.specs.Contents.{SystemStands, MakesTouch, MakesTouches, hierarchy_of};
 ghost use Rattle.mem_system.specs.Translation.{KeepsLeaves};
 ghost use Rattle.cache_sharing.specs.Operations.{plain, shared_region, prefetch};
 ghost use Rattle.cache_sharing.specs.Operations as spec;
@@ -25,6 +25,20 @@ pub struct Switched {
     /// The clock after the wait.
     pub now: u64,
 }
+
+/// What a switch does between the leave and the enter.
+#[derive(Clone, Copy, Debug, PartialEq, Eq)]
+pub struct Parts {
+    /// Each line of the shared region is loaded.
+    pub loads: bool,
+    /// All on-core state is made fresh, and not the translation buffer alone.
+    pub flushes: bool,
+}
+
+const ALL_PARTS: Parts = Parts {
+    loads: true,
+    flushes: true,
+};
 
 /// Switches from one domain's clone to the next one's, in this order: `out`
 /// leaves, which is nobody at the boot; each line of the shared region is
@@ -63,16 +77,77 @@ pub fn switch<P: Policy>(
     ensures later { now ≤ old_end + result.used }
     ensures few { old_end + result.used < now + 2 ^ 33 }
 {
-    let left = leave_if(system, out);
-    let loaded = prefetch(system, into);
-    let flushed = system.flush();
-    let entered = enter(system, into);
-    let work = u64::from(left) + u64::from(loaded) + u64::from(flushed) + u64::from(entered);
-    let done = now + work;
+    let done = now + work(system, ALL_PARTS, out, into);
     Switched {
         used: done - old_end,
         now: done.max(until),
     }
+}
+
+/// Switches so, but for the parts that are left out. Nothing is promised of when
+/// it is done: the clock waits for `until` only where it isn't past that.
+///
+/// All times are in cycles below 2^62; `used` is 0 where the work is done before
+/// `old_end`.
+pub fn switch_off<P: Policy>(
+    system: &mut MemSystem<P>,
+    parts: Parts,
+    out: Option<&CloneLayout>,
+    into: &CloneLayout,
+    old_end: u64,
+    now: u64,
+    until: u64,
+) -> Switched
+    requires out { IfSome (option_copied out) (λ clone. IsLayout (layout_model clone)) }
+    requires into { IsLayout (layout_model into.now) }
+    requires early { now < 2 ^ 62 }
+    requires near { until < 2 ^ 62 }
+    ensures hierarchy { hierarchy_of P.rule system.new ≡ hierarchy_of P.rule system.old }
+    ensures pinned { system.new.core.pinned ≡ system.old.core.pinned }
+    ensures work { (caches : Caches) → SystemStands P.stands_for system.old caches
+        → IsSwitched P.stands_for old_end now result.used system.new
+        (touched_all (hierarchy_of P.rule system.old) system.old.core.pinned caches
+        (spec.switch_by parts.loads parts.flushes system.old.core.costs
+        (layout_if (option_copied out.entry)) (layout_model into.now))) }
+    ensures clock { (caches : Caches) → SystemStands P.stands_for system.old caches
+        → result.now ≡ max (now + (touched_all (hierarchy_of P.rule system.old) system.old.core.pinned caches
+        (spec.switch_by parts.loads parts.flushes system.old.core.costs
+        (layout_if (option_copied out.entry)) (layout_model into.now))).cost) until }
+    ensures kept { (mem : Mem) (frames root : ℕ) → KeepsLeaves mem frames root system.new.core.tlb }
+    ensures later { now ≤ result.now }
+    ensures few { result.now < max now until + 2 ^ 33 }
+{
+    let done = now + work(system, parts, out, into);
+    let begins = done.max(until);
+    Switched {
+        used: done.saturating_sub(old_end),
+        now: begins,
+    }
+}
+
+// The work of a switch: one clone leaves, what is between, the other enters.
+// Answers the cycles.
+#[inline(always)]
+fn work<P: Policy>(
+    system: &mut MemSystem<P>,
+    parts: Parts,
+    out: Option<&CloneLayout>,
+    into: &CloneLayout,
+) -> u64
+    requires out { IfSome (option_copied out) (λ clone. IsLayout (layout_model clone)) }
+    requires into { IsLayout (layout_model into.now) }
+    ensures makes { MakesTouches P.rule P.stands_for
+        (spec.switch_by parts.loads parts.flushes system.old.core.costs
+        (layout_if (option_copied out.entry)) (layout_model into.now))
+        result system.old system.new }
+    ensures kept { (mem : Mem) (frames root : ℕ) → KeepsLeaves mem frames root system.new.core.tlb }
+    ensures few { result < 2 ^ 33 }
+{
+    let left = leave_if(system, out);
+    let loaded = prefetch_if(system, into, parts.loads);
+    let emptied = flush_if(system, parts.flushes);
+    let entered = enter(system, into);
+    u64::from(left) + u64::from(loaded) + u64::from(emptied) + u64::from(entered)
 }
 
 /// Charges that a clone enters. Answers the cycles.
@@ -108,6 +183,38 @@ fn leave_if<P: Policy>(system: &mut MemSystem<P>, out: Option<&CloneLayout>) -> 
     match out {
         Some(clone) => leave(system, clone),
         None => 0,
+    }
+}
+
+// Loads each shared line, if that is wanted. Answers the cycles.
+#[inline(always)]
+fn prefetch_if<P: Policy>(system: &mut MemSystem<P>, layout: &CloneLayout, wanted: bool) -> u32
+    requires layout { IsLayout (layout_model layout.now) }
+    ensures makes { MakesTouches P.rule P.stands_for
+        (if wanted then prefetch (shared_region (layout_model layout.now)) else [])
+        result system.old system.new }
+    ensures few { result ≤ most_prefetch }
+{
+    if wanted {
+        prefetch(system, layout)
+    } else {
+        0
+    }
+}
+
+// Makes all on-core state fresh, or the translation buffer alone, at no cost.
+// Answers the cycles.
+#[inline(always)]
+fn flush_if<P: Policy>(system: &mut MemSystem<P>, all: bool) -> u32
+    ensures makes { MakesTouch P.rule P.stands_for (if all then Flush else EmptyTlb)
+        result system.old system.new }
+    ensures kept { (mem : Mem) (frames root : ℕ) → KeepsLeaves mem frames root system.new.core.tlb }
+{
+    if all {
+        system.flush()
+    } else {
+        system.empty_tlb();
+        0
     }
 }
 

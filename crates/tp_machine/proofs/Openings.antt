@@ -14,7 +14,7 @@ use Rattle.hardware_check.specs.Hardware.{Hardware}
 use Rattle.world_view.specs.declared.view.Used.{Used}
 use Rattle.image_check.specs.Image.{Image}
 use Rattle.world_view.specs.Opening.{all_placed}
-use Rattle.world_view.specs.Machine.{with_hart, opening, whole}
+use Rattle.world_view.specs.Machine.{with_hart, opening, whole_by}
 use Rattle.image_check.specs.Laws.{Runnable}
 use Rattle.world_view.proofs.opening.Separate.{separated}
 use Rattle.world_view.proofs.steps.CodeLaws.{whole_first-dom}
@@ -30,7 +30,7 @@ module _ (i : Image) (r : Runnable i) where
       → hierarchy i.all.hardware ≡ hierarchy_of any_rule system → system.core.pinned ≡ false → SystemStands any_stands_for system (cold (hierarchy i.all.hardware))
       → AreOpened i.all.hardware i.owns (length i.owns) domains → length used ≡ length i.all.schedule → IsUsed used []
       → StandsFor i 0 (kept memory system domains used 0)
-  unfolding whole opening with_hart at put
+  unfolding whole_by opening with_hart at put
   stands_first memory system domains used frames holds levels pinned cold opened all unused = record {
     machine = record {
       frames = frames;

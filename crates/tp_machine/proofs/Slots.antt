@@ -34,7 +34,7 @@ use Rattle.world_view.proofs.actions.TableLaws.{root_is}
 use Rattle.world_view.proofs.time.TimeLaws.{on_time}
 use Rattle.sched_table.specs.Schedule.{entry_of_slot, switch_entry, start, last_end, outgoing}
 use Rattle.world_view.specs.Event.{Storage}
-use Rattle.world_view.specs.Machine.{caches_of, Local, stretch, clone_of, run_slot, whole, dom_of}
+use Rattle.world_view.specs.Machine.{caches_of, Local, stretch, clone_of, run_slot, whole, dom_of, whole_by}
 use Rattle.image_check.specs.Laws.{Runnable}
 use Rattle.world_view.proofs.opening.Separate.{separated}
 use Rattle.world_view.proofs.steps.CodeLaws.{work, switch-doms, switch-storage, switch-caches, slot_begun, slot_over, run_slot-dom_same, run_slot-dom_other, run_slot-storage, run_slot-clock, run_slot-caches, run_slot-used}
@@ -223,7 +223,7 @@ module _ (i : Image) (r : Runnable i) (k : ℕ) (s : Kept) (is : StandsFor i k s
 
       stands_after : Ran (entry_of_slot i.all.schedule k).length
           → StandsFor i (suc k) (kept_after s (entry_of_slot i.all.schedule k).domain z)
-      unfolding whole
+      unfolding whole_by
       stands_after ran =
           let w = whole i k in
           let p = i.all.hardware in
@@ -269,7 +269,7 @@ module _ (i : Image) (r : Runnable i) (k : ℕ) (s : Kept) (is : StandsFor i k s
       -- what the buffer keeps are walks of this domain's tables
       buffer_after : Ran (entry_of_slot i.all.schedule k).length
           → KeepsBuffer i (suc k) (kept_after s (entry_of_slot i.all.schedule k).domain z)
-      unfolding whole
+      unfolding whole_by
       buffer_after ran =
           let w = whole i k in
           let p = i.all.hardware in

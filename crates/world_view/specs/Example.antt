@@ -23,6 +23,8 @@ use Rattle.call_table.specs.Calls as calls
 use Rattle.kernel_call.specs.Logs.{log_of}
 use Rattle.frame_colours.specs.Colours as colours
 use Rattle.hardware_check.specs.declared.hardware.Policy.TheVariants.{Lru}
+use Rattle.guards.specs.declared.Guard.{Guard}
+use Rattle.guards.specs.declared.Guard.TheVariants as guard
 use Rattle.hardware_check.specs.Hardware.{Hardware}
 use Rattle.domain_check.specs.declared.capabilities.InitialCap.TheVariants.{Irq}
 use Rattle.image_check.specs.Own.{Segment}
@@ -39,7 +41,7 @@ use Rattle.mem_system.specs.Translation.{lines_of, look_of}
 use Rattle.cache_sharing.specs.Operations.{footprint, operation, leave, enter, shared_region, prefetch}
 use Rattle.world_view.specs.Cost.{hierarchy, region}
 use Rattle.world_view.specs.Event.{touch, frame_or_stop, translate, address_in, line_in, read, write, unless, load, store, loaded, noted, guessed, settle, execute, call_touches, make_call, perform, instruction, delivery_touches, interrupts_of, event}
-use Rattle.world_view.specs.Machine.{clock_of, with_hart, paid, delivered, happened, step, steps, leave_part, prefetch_part, flush_part, enter_part, switch_work, with_part, switch, run_slot, opening_doms, opening, whole, alone_opening, alone_enter, alone_in, alone_out, alone_if, alone}
+use Rattle.world_view.specs.Machine.{clock_of, with_hart, paid, delivered, happened, step, steps, enter_part, with_part, switch, opening_doms, opening, whole, alone_opening, alone_enter, alone_in, alone_out, alone_if, alone, flush_by, guarded, leave_by, own_slot, prefetch_by, run_slot_by, switch_by, switch_work_by, whole_by, with_end, dom_of, whole_off, first_due, step_among, steps_among}
 use Rattle.world_view.specs.View.{View, view, view_whole, view_alone, memory_sum}
 use Rattle.world_view.specs.Used.{count_of, largest_of}
 use Rattle.world_view.specs.Laws.{local_in}
@@ -158,6 +160,12 @@ interrupted =
           ∷ own_of i 1 ∷ [];
     }
 
+-- the same with one moment of line 3
+unfoldable pub beside_moment : ℕ → Image
+beside_moment cycle =
+    let i = interrupted in
+    record i { owns = record (own_of i 0) { moments = record { at = cycle; line = 3 } ∷ [] } ∷ own_of i 1 ∷ [] }
+
 -- what is seen of a domain that waited for line 5 and then polled line 3, by the clock at its next instruction
 abbrev pub waited_and_polled : ℕ → View
 waited_and_polled clock = record {
@@ -173,7 +181,7 @@ waited_and_polled clock = record {
 
 -- all that a run computes with
 pub everything : ℕ
-unfolding interrupts.next_cycle interrupts.due threads.waiter threads.woken threads.blocked threads.finished threads.vacant threads.spawned threads.with_thread domain.recorded domain.with_bit domain.signalled_by domain.signalled domain.delivered_on domain.turned domain.waiting domain.thread_ended domain.with_spawned calls.line_at calls.poll calls.waited calls.wait calls.signal calls.spawn empty at put go_on ◌>>=◌ ◌>>◌ give stop note either start frame_at word written frame_words put_word tabled root_entry rights_in leaf_with leaf_entry root_placed table_placed tables_placed page_words pages_placed segments_placed placed all_placed has_region regions_below pages_below pages_in table_word leaf_word leaf_bits bit ppn ppn_0 ppn_1 with_ppn vpn_0 vpn_1 leaf superpage first_level last_level entry_address from_table from_entry walk first_cap first_slots opening_dom page_numbers kept_pages first_regions fixed_claims estate layout no_dom threads.opening never turned_to yielded given_way with_current all_ended domain.opening domain.placed domain.replied domain.exited domain.with_caps calls.zeroed_in calls.entries_in calls.work_of calls.zero_out calls.page_refusal calls.table_refusal calls.map_at calls.unmap_at calls.install_at calls.uninstall_at calls.empty_buffer calls.some_or calls.is_slot calls.filled calls.allowed calls.put_byte calls.alloc calls.install calls.map_page calls.unmap calls.unless_refused calls.copy calls.clear_entry calls.drop_slot calls.delete calls.unmap_all calls.revoke calls.call_of calls.call slots.maps_in slots.in_use slots.count_in frame_of is_shared leaf_at place_of region_of claim_of all_claims claims frames_in is_named free_frames least_free text_touches stack_touches data_touches shared_touches zeroed_touches entry_touches touches check stopped trapped retired_at read_out colour_of_line cost.fresh_core cost.cold cost.fetched cost.accessed cost.looked cost.branched cost.flushed cost.on_core cost.below_by cost.below_if cost.below cost.below_all cost.pass_on cost.touched cost.and_then cost.touched_all lines_of look_of footprint operation leave enter shared_region prefetch hierarchy region touch frame_or_stop translate address_in line_in read write unless load store loaded noted guessed settle execute calls.empties call_touches make_call perform instruction delivery_touches interrupts_of event paid delivered happened step steps leave_part prefetch_part flush_part enter_part switch_work with_part switch run_slot opening_doms opening whole alone_opening alone_enter alone_in alone_out alone_if alone log_of colours.pool colours.frame_at view view_whole view_alone memory_sum count_of largest_of two_domains interrupted with_hart
+unfolding interrupts.next_cycle interrupts.due threads.waiter threads.woken threads.blocked threads.finished threads.vacant threads.spawned threads.with_thread domain.recorded domain.with_bit domain.signalled_by domain.signalled domain.delivered_on domain.turned domain.waiting domain.thread_ended domain.with_spawned calls.line_at calls.poll calls.waited calls.wait calls.signal calls.spawn empty at put go_on ◌>>=◌ ◌>>◌ give stop note either start frame_at word written frame_words put_word tabled root_entry rights_in leaf_with leaf_entry root_placed table_placed tables_placed page_words pages_placed segments_placed placed all_placed has_region regions_below pages_below pages_in table_word leaf_word leaf_bits bit ppn ppn_0 ppn_1 with_ppn vpn_0 vpn_1 leaf superpage first_level last_level entry_address from_table from_entry walk first_cap first_slots opening_dom page_numbers kept_pages first_regions fixed_claims estate layout no_dom threads.opening never turned_to yielded given_way with_current all_ended domain.opening domain.placed domain.replied domain.exited domain.with_caps calls.zeroed_in calls.entries_in calls.work_of calls.zero_out calls.page_refusal calls.table_refusal calls.map_at calls.unmap_at calls.install_at calls.uninstall_at calls.empty_buffer calls.some_or calls.is_slot calls.filled calls.allowed calls.put_byte calls.alloc calls.install calls.map_page calls.unmap calls.unless_refused calls.copy calls.clear_entry calls.drop_slot calls.delete calls.unmap_all calls.revoke calls.call_of calls.call slots.maps_in slots.in_use slots.count_in frame_of is_shared leaf_at place_of region_of claim_of all_claims claims frames_in is_named free_frames least_free text_touches stack_touches data_touches shared_touches zeroed_touches entry_touches touches check stopped trapped retired_at read_out colour_of_line cost.fresh_core cost.cold cost.fetched cost.accessed cost.looked cost.branched cost.flushed cost.on_core cost.below_by cost.below_if cost.below cost.below_all cost.pass_on cost.touched cost.and_then cost.touched_all lines_of look_of footprint operation leave enter shared_region prefetch hierarchy region touch frame_or_stop translate address_in line_in read write unless load store loaded noted guessed settle execute calls.empties call_touches make_call perform instruction delivery_touches interrupts_of event paid delivered happened step steps leave_by guarded prefetch_by flush_by enter_part switch_work_by with_part switch_by run_slot_by own_slot with_end opening_doms opening whole_by alone_opening alone_enter alone_in alone_out alone_if alone log_of colours.pool colours.frame_at view view_whole view_alone memory_sum count_of largest_of two_domains interrupted with_hart beside_moment first_due step_among steps_among
 everything = 0
 
 -- ---- the memory that it opens with
@@ -299,3 +307,43 @@ retired_low = refl
 
 pub retired_high : counter_value InstretHigh 0 (record no_dom { retired = late }) ≡ 3
 retired_high = refl
+
+-- ---- one guard off: what blue reads of the clock
+
+abbrev pub blue_reads : Guard → Image → List ℕ
+blue_reads off i = (dom_of (whole_off off i 2) 1).readings
+
+pub unflushed : blue_reads guard.Flush timed_prints ≡ 22300 ∷ 22773 ∷ []
+unfolding everything
+unflushed = refl
+
+pub unprefetched : blue_reads guard.Prefetch timed_prints ≡ 22300 ∷ 22771 ∷ []
+unfolding everything
+unprefetched = refl
+
+-- its slot begins where the work of the switch ended
+pub unpadded : blue_reads guard.Pad timed_prints ≡ 11575 ∷ 12046 ∷ []
+unfolding everything
+unpadded = refl
+
+-- red's kernel calls left in the caches the lines of the clone that blue's use, too
+pub uncloned : blue_reads guard.Clone timed_prints ≡ 22300 ∷ 22531 ∷ []
+unfolding everything
+uncloned = refl
+
+-- with a moment of red's between them
+pub shared_moments : blue_reads guard.Irq (beside_moment 22400) ≡ 22300 ∷ 23086 ∷ []
+unfolding everything
+shared_moments = refl
+
+pub own_moments : (dom_of (whole (beside_moment 22400) 2) 1).readings ≡ 22300 ∷ 22771 ∷ []
+unfolding everything
+own_moments = refl
+
+-- jal x0, 0
+abbrev pub idle_loop : List ℕ
+idle_loop = 0x6f ∷ 0 ∷ 0 ∷ 0 ∷ []
+
+pub unflushed_beside_a_loop : blue_reads guard.Flush (two_domains idle_loop (timed_print 0x20)) ≡ 22300 ∷ 22763 ∷ []
+unfolding everything
+unflushed_beside_a_loop = refl

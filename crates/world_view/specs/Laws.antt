@@ -212,16 +212,16 @@ OthersLeaveLaw = (i : Image) (d e : ℕ) (c : Caches) → Runnable i → IsDomai
 
 abbrev pub OthersEnterLaw : Type 0
 OthersEnterLaw = (i : Image) (d e : ℕ) (c : Caches) → Runnable i → IsDomain i d → IsDomain i e → d ≢ e
-    → SameSets i.all.hardware (own_of i d) (enter_part i.all.hardware (own_of i e) false c).caches c
+    → SameSets i.all.hardware (own_of i d) (enter_part (hierarchy i.all.hardware) false (layout i.all.hardware (own_of i e)) c).caches c
 
 -- the prefetch and the flush, whoever leaves and enters
 abbrev pub PrefetchLaw : Type 0
 PrefetchLaw = (i : Image) (d : ℕ) (c : Caches) → Runnable i → IsDomain i d
-    → SameSets i.all.hardware (own_of i d) (prefetch_part i.all.hardware c).caches c
+    → SameSets i.all.hardware (own_of i d) (prefetch_part i c).caches c
 
 abbrev pub FlushLaw : Type 0
 FlushLaw = (i : Image) (d : ℕ) (c : Caches) → Runnable i → IsDomain i d
-    → SameSets i.all.hardware (own_of i d) (flush_part i.all.hardware c).caches c
+    → SameSets i.all.hardware (own_of i d) (flush_part i c).caches c
 
 -- the domain's own step, from states that are beside: at equal cost, since the clocks stay equal
 abbrev pub OwnStepLaw : Type 0

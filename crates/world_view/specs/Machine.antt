@@ -1,23 +1,27 @@
 -- The whole machine, and one domain alone.
-use Rattle.std.specs.Prelude.{ℕ, zero, suc, ◌+◌, ◌-◌, ◌==◌, max, nat_lt, Bool, true, false, List, [], ◌∷◌, ◌++◌, Option, Some, None}
+use Rattle.std.specs.Prelude.{ℕ, zero, suc, ◌+◌, ◌-◌, ◌/◌, ◌==◌, max, nat_lt, nat_eq, Bool, true, false, if◌then◌else◌, List, [], ◌∷◌, ◌++◌, length, Option, Some, None}
 use Rattle.tp_base.specs.Table.{Table, empty, at, put}
 use Rattle.tp_base.specs.Act.{Done, either}
+use Rattle.guards.specs.declared.Guard.{Guard}
+use Rattle.guards.specs.declared.Guard.TheVariants as guard
+use Rattle.irq_partition.specs.declared.Moment.{Moment}
+use Rattle.irq_partition.specs.Interrupts.{next_of}
 use Rattle.hardware_check.specs.Hardware.{Hardware}
 use Rattle.image_check.specs.Public.{Public}
 use Rattle.image_check.specs.Own.{Own}
 use Rattle.image_check.specs.Image.{Image, own_of}
 use Rattle.sched_table.specs.Schedule.{entry_of_slot, switch_entry, start, slot_end, last_end, outgoing}
 use Rattle.world_view.specs.Opening.{placed, all_placed}
-use Rattle.call_table.specs.Domain.{Dom, delivered_on}
+use Rattle.call_table.specs.Domain.{Dom, is_running, delivered_on}
 use Rattle.world_view.specs.Kernel.{opening_dom, estate, layout, no_dom}
 use Rattle.kernel_clone.specs.Footprints.{Layout}
 use Rattle.mem_system.specs.Hierarchy.{Hierarchy}
 use Rattle.branch_pred.specs.Guesses.{fresh_guesses}
 use Rattle.set_cache.specs.Cache.{Sets}
-use Rattle.mem_system.specs.Cost.{Touch, Flush, Core, Caches, fresh_core, cold, Touched, at_no_cost, and_then, touched, touched_all}
+use Rattle.mem_system.specs.Cost.{Touch, EmptyTlb, Flush, Core, Caches, fresh_core, cold, Touched, at_no_cost, and_then, touched, touched_all}
 use Rattle.cache_sharing.specs.Operations.{leave, enter, prefetch}
 use Rattle.world_view.specs.Cost.{hierarchy, region}
-use Rattle.world_view.specs.Event.{Storage, instruction, delivery_touches, Event, event}
+use Rattle.world_view.specs.Event.{Storage, instruction, delivery_touches, Event, event, interrupts_of}
 use Rattle.world_view.specs.Event.Event.{Jump, Deliver, Run}
 
 -- ---- a domain in its slot
@@ -73,6 +77,51 @@ steps w end (suc n) s = elim (nat_lt s.clock end) [ true ↦ steps w end n (step
 abbrev pub stretch : Setting → ℕ → Local → Local
 stretch w end s = steps w end (end - s.clock) s
 
+-- ---- what keeps domains apart in time
+
+-- what each guard gives
+pub record Guards : Type 0 where
+  pub flush : Bool  -- a switch makes all that is on the core fresh, not the translation buffer alone
+  pub prefetch : Bool  -- it loads the shared lines
+  pub pad : Bool  -- it waits for the next start
+  pub levels : Hierarchy  -- the second level's sets are shared out by colours
+  pub clone : ℕ → Layout  -- each domain's kernel clone is its own
+  pub irq : Bool  -- a moment comes in its domain's own slots alone
+
+-- all of them
+unfoldable pub guarded : Image → Guards
+guarded i = record {
+  flush = true;
+  prefetch = true;
+  pad = true;
+  levels = hierarchy i.all.hardware;
+  clone = λ d. layout i.all.hardware (own_of i d);
+  irq = true;
+}
+
+-- a second level of one colour: it has the sets of a frame's lines alone
+abbrev pub uncoloured : Hardware → Hierarchy
+uncoloured p = record (hierarchy p) { l2 = record (hierarchy p).l2 { count = 4096 / p.line } }
+
+-- all but one
+abbrev pub without : Guard → Image → Guards
+without guard.Flush i = record (guarded i) { flush = false }
+without guard.Prefetch i = record (guarded i) { prefetch = false }
+without guard.Pad i = record (guarded i) { pad = false }
+without guard.Colour i = record (guarded i) { levels = uncoloured i.all.hardware }
+without guard.Clone i = record (guarded i) { clone = λ d. layout i.all.hardware (own_of i 0) }
+without guard.Irq i = record (guarded i) { irq = false }
+
+-- all, or all but one
+abbrev pub guards_of : Option Guard → Image → Guards
+guards_of None i = guarded i
+guards_of (Some off) i = without off i
+
+-- domain d on the whole machine
+abbrev pub setting_by : Guards → Image → ℕ → Setting
+setting_by g i d =
+    record { machine = i.all.hardware; own = own_of i d; levels = g.levels; clone = g.clone d; pinned = false }
+
 -- ---- a switch, in its parts
 
 -- the kernel clone of who leaves: nobody's at the boot
@@ -80,39 +129,57 @@ abbrev pub clone_of : Image → Option ℕ → Option Layout
 clone_of i None = None
 clone_of i (Some d) = Some (layout i.all.hardware (own_of i d))
 
+-- the one that works for it
+abbrev pub clone_by : Guards → Option ℕ → Option Layout
+clone_by g None = None
+clone_by g (Some d) = Some (g.clone d)
+
 -- who was running leaves: nobody at the boot
-unfoldable pub leave_part : Image → Option ℕ → Caches → Touched
-leave_part i None c = at_no_cost c
-leave_part i (Some d) c =
-    let p = i.all.hardware in
-    touched_all (hierarchy p) false c (leave p.costs (layout p (own_of i d)))
+unfoldable pub leave_by : Guards → Image → Option ℕ → Caches → Touched
+leave_by g i None c = at_no_cost c
+leave_by g i (Some d) c = touched_all g.levels false c (leave i.all.hardware.costs (g.clone d))
 
-unfoldable pub prefetch_part : Hardware → Caches → Touched
-prefetch_part p c = touched_all (hierarchy p) false c (prefetch (region p))
+unfoldable pub prefetch_by : Guards → Image → Caches → Touched
+prefetch_by g i c =
+    if g.prefetch then touched_all g.levels false c (prefetch (region i.all.hardware)) else at_no_cost c
 
-unfoldable pub flush_part : Hardware → Caches → Touched
-flush_part p c = touched (hierarchy p) false c Flush
+unfoldable pub flush_by : Guards → Caches → Touched
+flush_by g c = touched g.levels false c (if g.flush then Flush else EmptyTlb)
 
-unfoldable pub enter_part : Hardware → Own → Bool → Caches → Touched
-enter_part p o pinned c = touched_all (hierarchy p) pinned c (enter (layout p o))
+unfoldable pub enter_part : Hierarchy → Bool → Layout → Caches → Touched
+enter_part h pinned l c = touched_all h pinned c (enter l)
 
-unfoldable pub switch_work : Image → Option ℕ → ℕ → Caches → Touched
-switch_work i out d c =
-    let p = i.all.hardware in
-    and_then (and_then (and_then (leave_part i out c) (prefetch_part p)) (flush_part p)) (enter_part p (own_of i d) false)
+unfoldable pub switch_work_by : Guards → Image → Option ℕ → ℕ → Caches → Touched
+switch_work_by g i out d c =
+    and_then (and_then (and_then (leave_by g i out c) (prefetch_by g i)) (flush_by g)) (enter_part g.levels false (g.clone d))
+
+-- with all guards on
+abbrev pub leave_part : Image → Option ℕ → Caches → Touched
+leave_part i = leave_by (guarded i) i
+
+abbrev pub prefetch_part : Image → Caches → Touched
+prefetch_part i = prefetch_by (guarded i) i
+
+abbrev pub flush_part : Image → Caches → Touched
+flush_part i = flush_by (guarded i)
+
+abbrev pub switch_work : Image → Option ℕ → ℕ → Caches → Touched
+switch_work i = switch_work_by (guarded i) i
 
 -- ---- the whole machine, which has one hart, number 0
 
--- what a hart has to itself: the state on its core, and its clock
+-- what a hart has to itself: the state on its core, its clock, and when its last slot ended
 pub record Hart : Type 0 where
   pub core : Core
   pub clock : ℕ
+  pub ended : ℕ
 
 -- a hart that no machine has
 abbrev pub no_hart : Hart
 no_hart = record {
   core = record { l1i = empty; l1d = empty; tlb = empty; guesses = fresh_guesses 0 };
   clock = 0;
+  ended = 0;
 }
 
 -- memory and the second level are of all harts
@@ -134,7 +201,12 @@ abbrev pub clock_of : ℕ → World → ℕ
 clock_of h w = (at no_hart w.harts h).clock
 
 unfoldable pub with_hart : ℕ → World → Caches → ℕ → World
-with_hart h w c t = record w { l2 = c.l2; harts = put w.harts h (record { core = c.core; clock = t }) }
+with_hart h w c t =
+    record w { l2 = c.l2; harts = put w.harts h (record (at no_hart w.harts h) { core = c.core; clock = t }) }
+
+-- its slot ended then
+unfoldable pub with_end : ℕ → World → ℕ → World
+with_end h w end = record w { harts = put w.harts h (record (at no_hart w.harts h) { ended = end }) }
 
 -- a domain on a hart
 abbrev pub part_of : ℕ → ℕ → World → Local
@@ -143,21 +215,90 @@ part_of h d w = record { dom = dom_of w d; storage = w.storage; caches = caches_
 unfoldable pub with_part : ℕ → ℕ → World → Local → World
 with_part h d w s = with_hart h (record w { doms = put w.doms d s.dom; storage = s.storage }) s.caches s.clock
 
--- switch k: its work, and then the wait for the next start
-unfoldable pub switch : Image → ℕ → World → World
-switch i k w =
+-- switch k begins when the last slot has ended: with pads that is known before
+abbrev pub ended_by : Guards → Image → ℕ → World → ℕ
+ended_by g i k w = if g.pad then last_end i.all.schedule k else (at no_hart w.harts 0).ended
+
+-- its work was done at this clock, and then it waits for the next start
+abbrev pub begins_by : Guards → Image → ℕ → ℕ → ℕ
+begins_by g i k now = if g.pad then max now (start i.all.schedule k) else now
+
+-- when slot k ends, which begins at this clock
+abbrev pub ends_by : Guards → Image → ℕ → ℕ → ℕ
+ends_by g i k begun = if g.pad then slot_end i.all.schedule k else begun + (entry_of_slot i.all.schedule k).length
+
+-- switch k: its work, and then the wait
+unfoldable pub switch_by : Guards → Image → ℕ → World → World
+switch_by g i k w =
     let es = i.all.schedule in
-    let r = switch_work i (outgoing es k) (entry_of_slot es k).domain (caches_of 0 w) in
+    let r = switch_work_by g i (outgoing es k) (entry_of_slot es k).domain (caches_of 0 w) in
     let now = clock_of 0 w + r.cost in
-    record (with_hart 0 w r.caches (max now (start es k))) {
-      used = w.used ++ (switch_entry es k, now - last_end es k) ∷ [];
+    record (with_hart 0 w r.caches (begins_by g i k now)) {
+      used = w.used ++ (switch_entry es k, now - ended_by g i k w) ∷ [];
     }
 
-unfoldable pub run_slot : Image → ℕ → World → World
-run_slot i k w =
-    let d = (entry_of_slot i.all.schedule k).domain in
-    let before = switch i k w in
-    with_part 0 d before (stretch (setting i.all.hardware (own_of i d) false) (slot_end i.all.schedule k) (part_of 0 d before))
+-- a slot of domain d up to this end, in which its own moments come
+unfoldable pub own_slot : Guards → Image → ℕ → ℕ → World → World
+own_slot g i d end w = with_part 0 d w (stretch (setting_by g i d) end (part_of 0 d w))
+
+-- ---- where moments of all domains come
+
+-- a moment, and whose it is
+pub record Owned : Type 0 where
+  pub owner : ℕ
+  pub moment : Moment
+
+-- domain d's next moment, if its cycle has come
+abbrev pub if_due : ℕ → ℕ → Option Moment → Option Owned
+if_due now d None = None
+if_due now d (Some x) = if nat_lt now x.at then None else Some (record { owner = d; moment = x })
+
+abbrev pub comes_first : Moment → Moment → Bool
+comes_first x y = if nat_eq x.at y.at then nat_lt x.line y.line else nat_lt x.at y.at
+
+-- the one that comes first, if there is one
+abbrev pub first_of : Option Owned → Option Owned → Option Owned
+first_of None y = y
+first_of (Some x) None = Some x
+first_of (Some x) (Some y) = if comes_first y.moment x.moment then Some y else Some x
+
+-- the first moment that is due of the domains below this number
+unfoldable pub first_due : Image → World → ℕ → Option Owned
+first_due i w zero = None
+first_due i w (suc d) =
+    first_of (first_due i w d) (if_due (clock_of 0 w) d (next_of (interrupts_of (own_of i d) (dom_of w d))))
+
+-- it comes to its owner; the kernel clone of the domain that runs is charged
+abbrev pub delivered_or_step : Guards → Image → ℕ → ℕ → World → Option Owned → World
+delivered_or_step g i d end w None = with_part 0 d w (step (setting_by g i d) end (part_of 0 d w))
+delivered_or_step g i d end w (Some x) =
+    with_part 0 x.owner w (delivered (setting_by g i d) x.moment.line (part_of 0 x.owner w))
+
+-- one event in a slot of domain d: while it runs, the first moment that is due of any domain comes first
+unfoldable pub step_among : Guards → Image → ℕ → ℕ → World → World
+step_among g i d end w =
+    delivered_or_step g i d end w (if is_running (dom_of w d).status then first_due i w (length i.owns) else None)
+
+unfoldable pub steps_among : Guards → Image → ℕ → ℕ → ℕ → World → World
+steps_among g i d end zero w = w
+steps_among g i d end (suc n) w =
+    elim (nat_lt (clock_of 0 w) end) [ true ↦ steps_among g i d end n (step_among g i d end w) | false ↦ w ]
+
+abbrev pub open_slot : Guards → Image → ℕ → ℕ → World → World
+open_slot g i d end w = steps_among g i d end (end - clock_of 0 w) w
+
+-- ---- slots
+
+-- whose moments come in a slot
+abbrev pub slot_if : Bool → Guards → Image → ℕ → ℕ → World → World
+slot_if true = own_slot
+slot_if false = open_slot
+
+unfoldable pub run_slot_by : Guards → Image → ℕ → World → World
+run_slot_by g i k w =
+    let before = switch_by g i k w in
+    let end = ends_by g i k (clock_of 0 before) in
+    with_end 0 (slot_if g.irq g i (entry_of_slot i.all.schedule k).domain end before) end
 
 -- the domains from number d on, each at its entry
 unfoldable pub opening_doms : Hardware → List Own → ℕ → Table Dom
@@ -176,9 +317,23 @@ opening i =
     with_hart 0 before (cold (hierarchy i.all.hardware)) 0
 
 -- after so many slots
-unfoldable pub whole : Image → ℕ → World
-whole i zero = opening i
-whole i (suc k) = run_slot i k (whole i k)
+unfoldable pub whole_by : Guards → Image → ℕ → World
+whole_by g i zero = opening i
+whole_by g i (suc k) = run_slot_by g i k (whole_by g i k)
+
+-- with all guards on: the machine of which isolation is proved
+abbrev pub switch : Image → ℕ → World → World
+switch i = switch_by (guarded i) i
+
+abbrev pub run_slot : Image → ℕ → World → World
+run_slot i = run_slot_by (guarded i) i
+
+abbrev pub whole : Image → ℕ → World
+whole i = whole_by (guarded i) i
+
+-- with one of them off
+abbrev pub whole_off : Guard → Image → ℕ → World
+whole_off off i = whole_by (without off i) i
 
 -- ---- the domain alone: one domain, its own frames, and nobody else to switch from or to
 
@@ -193,7 +348,8 @@ alone_opening p o = record {
 -- slot k begins: on-core state is fresh, the clock stands at its start, and enter isn't charged
 unfoldable pub alone_enter : Public → Own → ℕ → Local → Local
 alone_enter p o k s =
-    let r = enter_part p.hardware o true (record s.caches { core = fresh_core (hierarchy p.hardware) }) in
+    let h = hierarchy p.hardware in
+    let r = enter_part h true (layout p.hardware o) (record s.caches { core = fresh_core h }) in
     record s { caches = r.caches; clock = start p.schedule k }
 
 -- slot k up to its end

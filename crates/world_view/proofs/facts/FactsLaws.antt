@@ -1,73 +1,202 @@
--- The facts of every domain hold at each moment of each slot, whoever runs, and their leaves are within rights.
-use Rattle.std.proofs.Common.{ℕ, zero, suc, ◌-◌, false, sym, refl, subst, inl, inr}
-use Rattle.tp_base.specs.Table.{at, put}
+-- The facts of every domain hold at each moment of each slot, whoever runs, and their leaves are within rights: with all
+-- guards on, and with any of them off.
+use Rattle.std.proofs.Common.{◌≡◌, ℕ, zero, suc, ◌-◌, ◌<◌, ltb, Bool, true, false, Option, Some, None, sym, refl, subst, subst₂, inl, inr, arith}
+use Rattle.std.specs.Prelude.{IfSome, length, if◌then◌else◌}
+use Rattle.tp_base.specs.Table.{at, put, at-put_other, at-put_same}
 use Rattle.std.proofs.lemmas.Bool.{cases_eq}
+use Rattle.phys_mem.specs.Mem.{frame_at}
+use Rattle.irq_partition.specs.declared.Moment.{Moment}
+use Rattle.irq_partition.specs.Interrupts.{next_of}
+use Rattle.call_table.specs.Domain.{Dom, is_running}
 use Rattle.image_check.specs.Image.{Image, own_of}
 use Rattle.sched_table.specs.Schedule.{entry_of_slot, slot_end}
-use Rattle.world_view.specs.Kernel.{opening_dom}
-use Rattle.world_view.specs.Machine.{with_hart, clock_of, setting, World, steps, dom_of, part_of, with_part, switch, run_slot, opening, whole}
+use Rattle.world_view.specs.Frames.{own_frame}
+use Rattle.world_view.specs.Kernel.{opening_dom, no_dom}
+use Rattle.world_view.specs.Event.{Storage, interrupts_of}
+use Rattle.world_view.specs.Machine.{with_hart, clock_of, Guards, setting_by, delivered, Local, World, step, steps, dom_of, part_of, with_part, Owned, if_due, first_of, first_due, delivered_or_step, step_among, steps_among, open_slot, slot_if, switch, opening, whole, guarded, own_slot, ends_by, run_slot_by, switch_by, whole_by, with_end}
 use Rattle.world_view.specs.Relations.{IsDomain, HasFacts}
 use Rattle.world_view.specs.Laws.{local_in, world_in}
 use Rattle.world_view.proofs.opening.Separate.{Separated}
-use Rattle.world_view.proofs.facts.RightsLaws.{HasBoth, both_with, steps_keep_both}
+use Rattle.world_view.proofs.facts.RightsLaws.{HasBoth, both_with, same_caps, step_keeps_both}
 use Rattle.world_view.proofs.opening.OpeningFacts.{kernel_of}
 use Rattle.world_view.proofs.opening.OpeningRights.{opening_both}
 use Rattle.world_view.proofs.opening.OpeningLaws.{opening_dom_is}
-use Rattle.world_view.proofs.steps.StepLaws.{steps_keep}
-use Rattle.world_view.proofs.runs.DomainLaws.{own_is, others_same}
+use Rattle.world_view.proofs.steps.Fuel.{steps_by}
+use Rattle.world_view.proofs.steps.StepLaws.{delivered_caps, steps_keep}
+use Rattle.world_view.proofs.steps.Clones.{step_same, step_keeps_so, steps_keep_so}
+
+-- ---- whose moment comes first
+
+abbrev pub OwnerBelow : ℕ → Option Owned → Type 0
+OwnerBelow n o = IfSome o (λ x. x.owner < n)
+
+due_if : (b : Bool) (n : ℕ) (x : Owned) → x.owner < n → OwnerBelow n (if b then None else Some x)
+due_if true n x h = tt
+due_if false n x h = h
+
+due_below : (now d : ℕ) (next : Option Moment) → OwnerBelow (suc d) (if_due now d next)
+due_below now d None = tt
+due_below now d (Some x) = due_if _ (suc d) _ (omega arith)
+
+first_if : (b : Bool) (n : ℕ) (x y : Owned) → x.owner < n → y.owner < n → OwnerBelow n (if b then Some y else Some x)
+first_if true n x y h k = k
+first_if false n x y h k = h
+
+first_below : (n : ℕ) (x y : Option Owned) → OwnerBelow n x → OwnerBelow n y → OwnerBelow n (first_of x y)
+first_below n None y h k = k
+first_below n (Some x) None h k = h
+first_below n (Some x) (Some y) h k = first_if _ n x y h k
+
+more : (n : ℕ) (o : Option Owned) → OwnerBelow n o → OwnerBelow (suc n) o
+more n None h = tt
+more n (Some x) h = omega (arith, h)
+
+-- the first moment that is due is of one of these domains
+pub due_owner : (i : Image) (w : World) (n : ℕ) → OwnerBelow n (first_due i w n)
+unfolding first_due
+due_owner i w zero = tt
+due_owner i w (suc d) =
+    first_below (suc d) (first_due i w d) _ (more d (first_due i w d) (due_owner i w d))
+    (due_below (clock_of 0 w) d (next_of (interrupts_of (own_of i d) (dom_of w d))))
+
+or_none : (b : Bool) (n : ℕ) (o : Option Owned) → OwnerBelow n o → OwnerBelow n (if b then o else None)
+or_none true n o h = h
+or_none false n o h = tt
 
 module _ (i : Image) (r : Separated i) where
   abbrev BothOf : World → ℕ → Type 0
   BothOf w d = HasBoth i.all.hardware (own_of i d) (dom_of w d) w.storage
 
-  -- of every domain, between slots
-  abbrev AtSlot : ℕ → Type 0
-  AtSlot k = (d : ℕ) → IsDomain i d → BothOf (whole i k) d
+  -- of every domain
+  abbrev pub AllBoth : World → Type 0
+  AllBoth w = (d : ℕ) → IsDomain i d → BothOf w d
 
-  -- steps of a slot keep it of each domain: of the one that runs, and all others untouched
-  both_in : (k n d : ℕ) → IsDomain i d → AtSlot k → BothOf (world_in i k n) d
-  unfolding switch with_part with_hart at put
-  both_in k n d is before =
+  -- what changes one domain, and memory in its frames alone, keeps it of all
+  changed : (e : ℕ) → IsDomain i e → (w : World) (s : Local) → HasBoth i.all.hardware (own_of i e) s.dom s.storage
+      → ((f : ℕ) → own_frame i.all.hardware (own_of i e) f ≡ false → frame_at s.storage.mem f ≡ frame_at w.storage.mem f)
+      → AllBoth w → AllBoth (with_part 0 e w s)
+  unfolding with_part with_hart at put
+  changed e ie w s both outside before d is =
       let p = i.all.hardware in
-      let end = slot_end i.all.schedule k in
-      let e = (entry_of_slot i.all.schedule k).domain in
-      let kernel = kernel_of i r e (r.named k) in
-      let s = part_of 0 e (switch i k (whole i k)) in
-      let later = steps (setting p (own_of i e) false) end n s in
-      let h = before e (r.named k) in
       elim (cases_eq d e) [
         | inl same ↦
-            subst (λ (x : ℕ). HasBoth p (own_of i x) (dom_of (world_in i k n) x) later.storage) (sym same)
-            (both_with p (own_of i e) later.dom _ later.storage later.storage (own_is i k n) (λ f own. refl)
-            (steps_keep_both p (own_of i e) kernel false end n s h))
+            subst (λ (x : ℕ). HasBoth p (own_of i x) (dom_of (with_part 0 e w s) x) s.storage) (sym same)
+            (both_with p (own_of i e) s.dom _ s.storage s.storage (at-put_same no_dom w.doms e s.dom) (λ f own. refl) both)
         | inr apart ↦
-            let kept = steps_keep p (own_of i e) kernel false end n s.storage s (record { facts = h.facts; outside = λ f out. refl }) in
-            both_with p (own_of i d) (dom_of (whole i k) d) _ (whole i k).storage later.storage (others_same i k n d apart)
-            (λ f own. kept.outside f (r.apart e d (r.named k) is (λ q. apart (sym q)) f own)) (before d is)
+            both_with p (own_of i d) (dom_of w d) _ w.storage s.storage (at-put_other no_dom w.doms e d s.dom apart)
+            (λ f own. outside f (r.apart e d ie is (λ q. apart (sym q)) f own)) (before d is)
       ]
 
-  -- before and after each slot
-  at_slot : (k : ℕ) → AtSlot k
-  unfolding whole run_slot
-  at_slot zero = λ d is.
-      both_with i.all.hardware (own_of i d) (opening_dom i.all.hardware (own_of i d)) _
-      (opening i).storage (opening i).storage (opening_dom_is i r d is) (λ f own. refl) (opening_both i r d is)
-  at_slot (suc k) = λ d is. both_in k (slot_end i.all.schedule k - (clock_of 0 (switch i k (whole i k)))) d is (at_slot k)
+  module _ (g : Guards) where
+    -- one step of a domain
+    step_both : (e end : ℕ) (s : Local) → IsDomain i e → HasBoth i.all.hardware (own_of i e) s.dom s.storage
+        → HasBoth i.all.hardware (own_of i e) (step (setting_by g i e) end s).dom (step (setting_by g i e) end s).storage
+    step_both e end s ie h =
+        let p = i.all.hardware in
+        let o = own_of i e in
+        let n = step_same p o g.levels (g.clone e) false end s in
+        subst₂ (λ (d : Dom) (t : Storage). HasBoth p o d t) (sym n.0) (sym n.1)
+        (step_keeps_both p o (kernel_of i r e ie) false end s h)
+
+    -- steps of one domain
+    pub own_keeps : (e end n : ℕ) (w : World) → IsDomain i e → AllBoth w
+        → AllBoth (with_part 0 e w (steps (setting_by g i e) end n (part_of 0 e w)))
+    own_keeps e end n w ie before =
+        let p = i.all.hardware in
+        let o = own_of i e in
+        let s = part_of 0 e w in
+        let h = before e ie in
+        let kept = steps_keep_so p o g.levels (g.clone e) false (kernel_of i r e ie) end n s.storage s
+        (record { facts = h.facts; outside = λ f out. refl }) in
+        changed e ie w (steps (setting_by g i e) end n s)
+        (steps_by (setting_by g i e) end (λ (t : Local). HasBoth p o t.dom t.storage) (λ t below k. step_both e end t ie k) n s h)
+        kept.outside before
+
+    step_keeps_all : (e end : ℕ) (w : World) → IsDomain i e → AllBoth w
+        → AllBoth (with_part 0 e w (step (setting_by g i e) end (part_of 0 e w)))
+    step_keeps_all e end w ie before =
+        let p = i.all.hardware in
+        let o = own_of i e in
+        let s = part_of 0 e w in
+        let h = before e ie in
+        let kept = step_keeps_so p o g.levels (g.clone e) false (kernel_of i r e ie) end s.storage s
+        (record { facts = h.facts; outside = λ f out. refl }) in
+        changed e ie w (step (setting_by g i e) end s) (step_both e end s ie h) kept.outside before
+
+    -- a delivery leaves capabilities and memory
+    delivery_keeps : (e d line : ℕ) (w : World) → IsDomain i e → AllBoth w
+        → AllBoth (with_part 0 e w (delivered (setting_by g i d) line (part_of 0 e w)))
+    unfolding delivered
+    delivery_keeps e d line w ie before =
+        let p = i.all.hardware in
+        let o = own_of i e in
+        let s = part_of 0 e w in
+        changed e ie w (delivered (setting_by g i d) line s)
+        (same_caps p o (kernel_of i r e ie) s.dom _ s.storage (delivered_caps line s.dom) (before e ie)) (λ f out. refl) before
+
+    pub among_keeps_if : (d end : ℕ) (w : World) (o : Option Owned) → IsDomain i d → OwnerBelow (length i.owns) o → AllBoth w
+        → AllBoth (delivered_or_step g i d end w o)
+    among_keeps_if d end w None is below before = step_keeps_all d end w is before
+    among_keeps_if d end w (Some x) is below before = delivery_keeps x.owner d x.moment.line w below before
+
+    pub among_keeps : (d end : ℕ) (w : World) → IsDomain i d → AllBoth w → AllBoth (step_among g i d end w)
+    unfolding step_among
+    among_keeps d end w is before =
+        among_keeps_if d end w _ is
+        (or_none (is_running (dom_of w d).status) (length i.owns) (first_due i w (length i.owns)) (due_owner i w (length i.owns)))
+        before
+
+    open_if : (b : Bool) (x y : World) → AllBoth x → AllBoth y → AllBoth (elim b [ true ↦ x | false ↦ y ])
+    open_if true x y h k = h
+    open_if false x y h k = k
+
+    open_keeps : (d end n : ℕ) (w : World) → IsDomain i d → AllBoth w → AllBoth (steps_among g i d end n w)
+    unfolding steps_among
+    open_keeps d end zero w is before = before
+    open_keeps d end (suc n) w is before =
+        open_if (ltb (clock_of 0 w) end) _ w (open_keeps d end n (step_among g i d end w) is (among_keeps d end w is before)) before
+
+    slot_keeps : (b : Bool) (d end : ℕ) (w : World) → IsDomain i d → AllBoth w → AllBoth (slot_if b g i d end w)
+    unfolding own_slot
+    slot_keeps true d end w is before = own_keeps d end (end - clock_of 0 w) w is before
+    slot_keeps false d end w is before = open_keeps d end (end - clock_of 0 w) w is before
+
+    -- a switch leaves domains and memory as they are
+    pub switch_keeps : (k : ℕ) (w : World) → AllBoth w → AllBoth (switch_by g i k w)
+    unfolding switch_by with_hart
+    switch_keeps k w before d is = before d is
+
+    -- before and after each slot
+    pub at_slot : (k : ℕ) → AllBoth (whole_by g i k)
+    unfolding whole_by run_slot_by with_end
+    at_slot zero = λ d is.
+        both_with i.all.hardware (own_of i d) (opening_dom i.all.hardware (own_of i d)) _
+        (opening i).storage (opening i).storage (opening_dom_is i r d is) (λ f own. refl) (opening_both i r d is)
+    at_slot (suc k) =
+        let w = whole_by g i k in
+        let begun = switch_by g i k w in
+        let d = (entry_of_slot i.all.schedule k).domain in
+        slot_keeps g.irq d (ends_by g i k (clock_of 0 begun)) begun (r.named k) (switch_keeps k w (at_slot k))
+
+    pub all_facts_by : (k d : ℕ) → IsDomain i d
+        → HasFacts i.all.hardware (own_of i d) (dom_of (whole_by g i k) d) (whole_by g i k).storage
+    all_facts_by k d is = (at_slot k d is).facts
 
   pub all_facts : (k d : ℕ) → IsDomain i d → HasFacts i.all.hardware (own_of i d) (dom_of (whole i k) d) (whole i k).storage
-  all_facts k d is = (at_slot k d is).facts
+  all_facts = all_facts_by (guarded i)
 
-  -- and at each of its moments
+  -- and at each moment of a slot
   pub always_both : (k n d : ℕ) → IsDomain i d → BothOf (world_in i k n) d
-  always_both k n d is = both_in k n d is (at_slot k)
+  unfolding guarded
+  always_both k n d is =
+      own_keeps (guarded i) (entry_of_slot i.all.schedule k).domain (slot_end i.all.schedule k) n (switch i k (whole i k)) (r.named k)
+      (switch_keeps (guarded i) k (whole i k) (at_slot (guarded i) k)) d is
 
   pub always_facts : (k n d : ℕ) → IsDomain i d → HasFacts i.all.hardware (own_of i d) (dom_of (world_in i k n) d) (world_in i k n).storage
   always_facts k n d is = (always_both k n d is).facts
 
-  -- a switch leaves domains and memory as they are
   pub begun_facts : (k d : ℕ) → IsDomain i d → HasFacts i.all.hardware (own_of i d) (dom_of (switch i k (whole i k)) d) (switch i k (whole i k)).storage
-  unfolding switch with_hart at put
-  begun_facts k d is = all_facts k d is
+  begun_facts k d is = (switch_keeps (guarded i) k (whole i k) (at_slot (guarded i) k) d is).facts
 
   -- so it holds of the domain that runs
   pub running_facts : (k n : ℕ) → let s = local_in i k n in

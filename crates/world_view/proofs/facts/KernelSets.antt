@@ -13,7 +13,7 @@ use Rattle.image_check.specs.Image.{Image, own_of}
 use Rattle.sched_table.specs.Schedule.{entry_of_slot, slot_end, outgoing}
 use Rattle.world_view.specs.Kernel.{layout}
 use Rattle.world_view.specs.Cost.{hierarchy, region, own_colour}
-use Rattle.world_view.specs.Machine.{with_hart, caches_of, clock_of, setting, Local, clone_of, step, part_of, with_part, switch, run_slot, opening, whole}
+use Rattle.world_view.specs.Machine.{with_hart, caches_of, clock_of, setting, Local, clone_of, step, part_of, with_part, switch, opening, whole, guarded, own_slot, run_slot_by, switch_by, whole_by, with_end}
 use Rattle.world_view.specs.Relations.{IsDomain, HasFacts, KeepsSharedAlone}
 use Rattle.world_view.specs.Laws.{local_in, switch_touches, caches_in_switch, EmptyLaw}
 use Rattle.world_view.proofs.opening.Separate.{Separated}
@@ -25,7 +25,7 @@ use Rattle.world_view.proofs.facts.FactsLaws.{begun_facts}
 use Rattle.world_view.proofs.runs.SwitchParts.{region_is, switch_is}
 
 pub empty : EmptyLaw
-unfolding whole opening with_hart at put
+unfolding whole_by opening with_hart at put
 empty i s way = empty_law (hierarchy i.all.hardware) s way
 
 module _ (i : Image) (r : Separated i) where
@@ -44,7 +44,7 @@ module _ (i : Image) (r : Separated i) where
   who_leaves (suc k) e is = subst (IsDomain i) (same_Some _ _ is) (r.named k)
 
   switch_any : (k : ℕ) → MayTouchAll (hierarchy i.all.hardware) any_colour (region i.all.hardware) (switch_touches i k)
-  unfolding operations.switch
+  unfolding operations.switch_by
   switch_any k =
       let p = i.all.hardware in
       let h = hierarchy p in
@@ -68,7 +68,7 @@ module _ (i : Image) (r : Separated i) where
       (take_may (hierarchy p) any_colour (region p) n (switch_touches i k) (switch_any k)) alone
 
   pub after_switch : (k : ℕ) → caches_in_switch i k (length (switch_touches i k)) ≡ caches_of 0 (switch i k (whole i k))
-  unfolding switch with_hart at put
+  unfolding switch_by guarded with_hart at put
   after_switch k =
       let h = hierarchy i.all.hardware in
       ap (λ (ts : List Touch). (touched_all h false (caches_of 0 (whole i k)) ts).caches) (take_all (length (switch_touches i k)) (switch_touches i k) (le_refl _))
@@ -100,7 +100,7 @@ module _ (i : Image) (r : Separated i) where
       (part_of 0 d (switch i k (whole i k))) (record { facts = begun_facts i r k d (r.named k); alone = begun })).alone
 
   between : (k : ℕ) → KeepsSharedAlone i.all.hardware (caches_of 0 (whole i k))
-  unfolding whole run_slot with_part with_hart at put
+  unfolding whole_by run_slot_by own_slot with_end guarded with_part with_hart at put
   between zero = λ s way line kernel kept. absurd (cc (sym (empty i s way) ∙ kept))
   between (suc k) = in_slot k (slot_end i.all.schedule k - (clock_of 0 (switch i k (whole i k)))) (between k)
 

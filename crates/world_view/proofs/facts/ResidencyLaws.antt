@@ -9,7 +9,7 @@ use Rattle.image_check.specs.Image.{Image, own_of}
 use Rattle.sched_table.specs.Schedule.{entry_of_slot, slot_end, outgoing}
 use Rattle.world_view.specs.Kernel.{layout}
 use Rattle.world_view.specs.Cost.{hierarchy, region}
-use Rattle.world_view.specs.Machine.{with_hart, caches_of, World, leave_part, prefetch_part, flush_part, enter_part, switch_work, part_of, with_part, switch, run_slot, opening, whole}
+use Rattle.world_view.specs.Machine.{with_hart, caches_of, World, leave_part, prefetch_part, flush_part, enter_part, part_of, with_part, switch, opening, whole, flush_by, guarded, leave_by, own_slot, prefetch_by, run_slot_by, switch_by, switch_work_by, whole_by, with_end}
 use Rattle.world_view.specs.Laws.{local_in}
 use Rattle.world_view.specs.Relations.{IsDomain, Resident}
 use Rattle.world_view.proofs.opening.Separate.{Separated}
@@ -22,7 +22,7 @@ use Rattle.world_view.proofs.facts.FactsLaws.{begun_facts}
 
 module _ (i : Image) (r : Separated i) where
   left_by : (out : Option ℕ) (c : Caches) → ((e : ℕ) → out ≡ Some e → IsDomain i e) → Resident i.all.hardware c → Resident i.all.hardware (leave_part i out c).caches
-  unfolding leave_part
+  unfolding leave_by guarded
   left_by None c named there = there
   left_by (Some e) c named there =
       let p = i.all.hardware in
@@ -30,19 +30,19 @@ module _ (i : Image) (r : Separated i) where
       own_resident p (own_of i e) kernel (leave p.costs (layout p (own_of i e))) c (leave_may p (own_of i e) kernel (region p)) there
 
   -- the work of a switch keeps what its prefetch left there
-  worked : (k : ℕ) (w : World) → Resident i.all.hardware (prefetch_part i.all.hardware (leave_part i (outgoing i.all.schedule k) (caches_of 0 w)).caches).caches
+  worked : (k : ℕ) (w : World) → Resident i.all.hardware (prefetch_part i (leave_part i (outgoing i.all.schedule k) (caches_of 0 w)).caches).caches
       → Resident i.all.hardware (caches_of 0 (switch i k w))
-  unfolding switch switch_work and_then flush_part enter_part touched on_core flushed pass_on below_all with_hart at put
+  unfolding switch_by guarded switch_work_by and_then flush_by enter_part touched on_core flushed pass_on below_all with_hart at put
   worked k w there =
       let p = i.all.hardware in
       let d = (entry_of_slot i.all.schedule k).domain in
       let kernel = kernel_of i r d (r.named k) in
-      own_resident p (own_of i d) kernel (enter (layout p (own_of i d))) (flush_part p (prefetch_part p (leave_part i (outgoing i.all.schedule k) (caches_of 0 w)).caches).caches).caches
+      own_resident p (own_of i d) kernel (enter (layout p (own_of i d))) (flush_part i (prefetch_part i (leave_part i (outgoing i.all.schedule k) (caches_of 0 w)).caches).caches).caches
       (enter_may p (own_of i d) kernel (region p)) there
 
   -- after a slot
   after : (k : ℕ) → Resident i.all.hardware (caches_of 0 (switch i k (whole i k))) → Resident i.all.hardware (caches_of 0 (whole i (suc k)))
-  unfolding whole run_slot with_part with_hart at put
+  unfolding whole_by run_slot_by own_slot with_end guarded with_part with_hart at put
   after k there =
       let e = (entry_of_slot i.all.schedule k).domain in
       let begun = part_of 0 e (switch i k (whole i k)) in
@@ -51,7 +51,7 @@ module _ (i : Image) (r : Separated i) where
 
   -- as a slot begins: at the boot the caches hold nothing, and the prefetch brings all lines
   pub begun_resident : (k : ℕ) → Resident i.all.hardware (caches_of 0 (switch i k (whole i k)))
-  unfolding whole opening leave_part prefetch_part with_hart at put
+  unfolding whole_by opening leave_by guarded prefetch_by with_hart at put
   begun_resident zero = worked 0 (whole i 0) (resident (hierarchy i.all.hardware) (region i.all.hardware) (region_room i.all.hardware r.hardware))
   begun_resident (suc k) =
       let p = i.all.hardware in

@@ -74,7 +74,7 @@ module _ (p : Hardware) (o : Own) where
   -- ---- the domain's own steps
 
   module _ (kernel : IsKernel p o) where
-    same_caps : (d x : Dom) (s : Storage) → x.caps ≡ d.caps → HasBoth p o d s → HasBoth p o x s
+    pub same_caps : (d x : Dom) (s : Storage) → x.caps ≡ d.caps → HasBoth p o d s → HasBoth p o x s
     same_caps d x s same h = record { facts = facts_of p o d x s same h.facts; rights = rights_of d x s same h.rights }
 
     after_call : (d : Dom) (s : Storage) → HasBoth p o d s
@@ -114,7 +114,7 @@ module _ (p : Hardware) (o : Own) where
     event_keeps_both pinned s (Deliver line) h = same_caps s.dom (delivered_on line s.dom) s.storage (delivered_caps line s.dom) h
     event_keeps_both pinned s Run h = after_instruction s.clock s.dom s.storage h
 
-    step_keeps_both : (pinned : Bool) (end : ℕ) (s : Local) → HasBoth p o s.dom s.storage
+    pub step_keeps_both : (pinned : Bool) (end : ℕ) (s : Local) → HasBoth p o s.dom s.storage
         → HasBoth p o (step (setting p o pinned) end s).dom (step (setting p o pinned) end s).storage
     unfolding step
     step_keeps_both pinned end s h = event_keeps_both pinned s (event o s.clock end s.dom) h

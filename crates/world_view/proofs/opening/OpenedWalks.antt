@@ -22,7 +22,7 @@ use Rattle.image_check.specs.Pages.{has_region, frames_in}
 use Rattle.world_view.specs.Frames.{pool, root_of, table_frame, page_frame}
 use Rattle.world_view.specs.Opening.{root_entry, rights_in, rights_number, leaf_with, leaf_entry, placed}
 use Rattle.world_view.specs.Kernel.{opening_dom, estate}
-use Rattle.world_view.specs.Machine.{opening, whole, alone_opening}
+use Rattle.world_view.specs.Machine.{opening, alone_opening, whole_by}
 use Rattle.world_view.specs.Relations.{IsDomain}
 use Rattle.world_view.specs.Laws.{opening_walk}
 use Rattle.world_view.proofs.opening.Counts.{rights_there, rights_region, rights_are_good}
@@ -126,7 +126,7 @@ module _ (i : Image) (r : Separated i) (d : ℕ) (is : IsDomain i d) (va : ℕ) 
   own = own_of i d
 
   own_walk : opening_walk i d va a ≡ (walk (placed hardware own empty) hardware.frames (root_of hardware own) va a).result
-  unfolding whole alone_opening estate
+  unfolding whole_by alone_opening estate
   own_walk =
       let dom = opening_dom hardware own in
       let m = placed hardware own empty in

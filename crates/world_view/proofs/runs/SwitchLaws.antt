@@ -12,7 +12,7 @@ use Rattle.sched_table.specs.Schedule.{entry_of_slot, outgoing}
 use Rattle.world_view.specs.Frames.{own_frame}
 use Rattle.world_view.specs.Kernel.{layout, no_dom}
 use Rattle.world_view.specs.Cost.{hierarchy, region, own_colour}
-use Rattle.world_view.specs.Machine.{with_hart, caches_of, setting, Local, World, step, leave_part, prefetch_part, flush_part, enter_part, switch_work, dom_of, part_of, with_part, switch, alone_enter, alone_out}
+use Rattle.world_view.specs.Machine.{with_hart, caches_of, setting, Local, World, step, leave_part, prefetch_part, flush_part, enter_part, switch_work, dom_of, part_of, with_part, switch, alone_enter, alone_out, flush_by, guarded, leave_by, prefetch_by, switch_by, switch_work_by}
 use Rattle.world_view.specs.Laws.{event_of}
 use Rattle.world_view.specs.Relations.{IsDomain, SameFrames, SameSets, HasFacts, Within, Apiece, Untouched, InTime}
 use Rattle.world_view.proofs.opening.Separate.{Separated}
@@ -44,13 +44,13 @@ module _ (i : Image) (r : Separated i) (d e : ℕ) (is : IsDomain i d) (ie : IsD
 
   -- another domain leaves or enters
   pub others_leave : (c : Caches) → SameSets i.all.hardware (own_of i d) (leave_part i (Some e) c).caches c
-  unfolding leave_part
+  unfolding leave_by guarded
   others_leave c =
       let p = i.all.hardware in
       others_touches p (own_of i d) (kernel_of i r d is) (own_of i e) (leave p.costs (layout p (own_of i e))) c (r.colours_apart d e is ie ne)
       (leave_may p (own_of i e) (kernel_of i r e ie) (region p))
 
-  pub others_enter : (c : Caches) → SameSets i.all.hardware (own_of i d) (enter_part i.all.hardware (own_of i e) false c).caches c
+  pub others_enter : (c : Caches) → SameSets i.all.hardware (own_of i d) (enter_part (hierarchy i.all.hardware) false (layout i.all.hardware (own_of i e)) c).caches c
   unfolding enter_part
   others_enter c =
       let p = i.all.hardware in
@@ -60,12 +60,12 @@ module _ (i : Image) (r : Separated i) (d e : ℕ) (is : IsDomain i d) (ie : IsD
 module _ (i : Image) (r : Separated i) (d : ℕ) (is : IsDomain i d) where
   -- ---- phases of a switch, whoever leaves and enters
 
-  pub prefetch_leaves : (c : Caches) → SameSets i.all.hardware (own_of i d) (prefetch_part i.all.hardware c).caches c
-  unfolding prefetch_part
+  pub prefetch_leaves : (c : Caches) → SameSets i.all.hardware (own_of i d) (prefetch_part i c).caches c
+  unfolding prefetch_by guarded
   prefetch_leaves c = prefetch_own i.all.hardware (own_of i d) (kernel_of i r d is) c
 
-  pub flush_leaves : (c : Caches) → SameSets i.all.hardware (own_of i d) (flush_part i.all.hardware c).caches c
-  unfolding flush_part touched on_core flushed pass_on below_all
+  pub flush_leaves : (c : Caches) → SameSets i.all.hardware (own_of i d) (flush_part i c).caches c
+  unfolding flush_by guarded touched on_core flushed pass_on below_all
   flush_leaves c s own = refl
 
   -- nobody, or a domain, leaves
@@ -74,7 +74,7 @@ module _ (i : Image) (r : Separated i) (d : ℕ) (is : IsDomain i d) where
   is_domain (suc k) e out = subst (IsDomain i) (same_Some _ _ out) (r.named k)
 
   left_by : (out : Option ℕ) (c : Caches) → out ≢ Some d → ((e : ℕ) → out ≡ Some e → IsDomain i e) → SameSets i.all.hardware (own_of i d) (leave_part i out c).caches c
-  unfolding leave_part
+  unfolding leave_by guarded
   left_by None c other named = λ s own. refl
   left_by (Some e) c other named = others_leave i r d e is (named e refl) (λ q. other (ap Some (sym q))) c
 
@@ -84,7 +84,7 @@ module _ (i : Image) (r : Separated i) (d : ℕ) (is : IsDomain i d) where
   -- the domain's own leave, beside the same of it alone
   left_own : (c : Caches) (a : Local) → c.core ≡ a.caches.core → SameSets i.all.hardware (own_of i d) c a.caches
       → SameSets i.all.hardware (own_of i d) (leave_part i (Some d) c).caches (alone_out i.all.hardware (own_of i d) a).caches
-  unfolding leave_part alone_out
+  unfolding leave_by guarded alone_out
   left_own c a core same =
       let p = i.all.hardware in
       (own_lines p (own_of i d) (kernel_of i r d is) (leave p.costs (layout p (own_of i d))) c a.caches (leave_may p (own_of i d) (kernel_of i r d is) []) core same).caches.l2.same
@@ -96,14 +96,14 @@ module _ (i : Image) (r : Separated i) (d : ℕ) (is : IsDomain i d) where
 
   -- prefetch and flush after it
   prepared : Caches → Caches
-  prepared c = (flush_part i.all.hardware (prefetch_part i.all.hardware c).caches).caches
+  prepared c = (flush_part i (prefetch_part i c).caches).caches
 
   prepared_leaves : (c : Caches) → SameSets i.all.hardware (own_of i d) (prepared c) c
   unfolding prepared
-  prepared_leaves c s own = flush_leaves (prefetch_part i.all.hardware c).caches s own ∙ prefetch_leaves c s own
+  prepared_leaves c s own = flush_leaves (prefetch_part i c).caches s own ∙ prefetch_leaves c s own
 
-  work_is : (out : Option ℕ) (n : ℕ) (c : Caches) → (switch_work i out n c).caches ≡ (enter_part i.all.hardware (own_of i n) false (prepared (leave_part i out c).caches)).caches
-  unfolding switch_work and_then prepared
+  work_is : (out : Option ℕ) (n : ℕ) (c : Caches) → (switch_work i out n c).caches ≡ (enter_part (hierarchy i.all.hardware) false (layout i.all.hardware (own_of i n)) (prepared (leave_part i out c).caches)).caches
+  unfolding switch_work_by guarded and_then prepared
   work_is out n c = refl
 
   -- ---- where another enters
@@ -117,9 +117,9 @@ module _ (i : Image) (r : Separated i) (d : ℕ) (is : IsDomain i d) where
   -- ---- where it enters
 
   entered : (c k : Caches) → SameSets i.all.hardware (own_of i d) c k
-      → BesideTouched (hierarchy i.all.hardware) (own_colour (own_of i d)) [] (prepared c).l2 (enter_part i.all.hardware (own_of i d) false (prepared c))
-      (enter_part i.all.hardware (own_of i d) true (record k { core = fresh_core (hierarchy i.all.hardware) }))
-  unfolding enter_part prepared flush_part touched on_core flushed pass_on below_all
+      → BesideTouched (hierarchy i.all.hardware) (own_colour (own_of i d)) [] (prepared c).l2 (enter_part (hierarchy i.all.hardware) false (layout i.all.hardware (own_of i d)) (prepared c))
+      (enter_part (hierarchy i.all.hardware) true (layout i.all.hardware (own_of i d)) (record k { core = fresh_core (hierarchy i.all.hardware) }))
+  unfolding enter_part prepared flush_by guarded touched on_core flushed pass_on below_all
   entered c k same =
       let p = i.all.hardware in
       own_lines p (own_of i d) (kernel_of i r d is) (enter (layout p (own_of i d))) (prepared c) (record k { core = fresh_core (hierarchy p) })
@@ -129,7 +129,7 @@ module _ (i : Image) (r : Separated i) (k d : ℕ) (is : IsDomain i d) (w : Worl
   -- a switch between others
   pub switch_past : outgoing i.all.schedule k ≢ Some d → (entry_of_slot i.all.schedule k).domain ≢ d
       → Apiece i.all.hardware (own_of i d) (part_of 0 d w) a → Apiece i.all.hardware (own_of i d) (part_of 0 d (switch i k w)) a
-  unfolding switch with_hart at put
+  unfolding switch_by guarded with_hart at put
   switch_past out other h = record {
     dom = h.dom;
     frames = h.frames;
@@ -142,7 +142,7 @@ module _ (i : Image) (r : Separated i) (k d : ℕ) (is : IsDomain i d) (w : Worl
   pub switch_out : outgoing i.all.schedule k ≡ Some d → (entry_of_slot i.all.schedule k).domain ≢ d
       → Within i.all.hardware (own_of i d) (part_of 0 d w) a
       → Apiece i.all.hardware (own_of i d) (part_of 0 d (switch i k w)) (alone_out i.all.hardware (own_of i d) a)
-  unfolding switch alone_out with_hart at put
+  unfolding switch_by guarded alone_out with_hart at put
   switch_out out other h = record {
     dom = h.dom;
     frames = h.frames;
@@ -155,12 +155,12 @@ module _ (i : Image) (r : Separated i) (k d : ℕ) (is : IsDomain i d) (w : Worl
   switch_to : InTime i k w → (entry_of_slot i.all.schedule k).domain ≡ d → (dom_of w d ≡ a.dom) → SameFrames i.all.hardware (own_of i d) w.storage.mem a.storage.mem
       → SameSets i.all.hardware (own_of i d) (leave_part i (outgoing i.all.schedule k) (caches_of 0 w)).caches a.caches
       → Within i.all.hardware (own_of i d) (part_of 0 d (switch i k w)) (alone_enter i.all (own_of i d) k a)
-  unfolding switch alone_enter with_hart at put
+  unfolding switch_by guarded alone_enter with_hart at put
   switch_to time e dom frames same =
       let p = i.all.hardware in
       let out = outgoing i.all.schedule k in
       let n = entered i r d is (leave_part i out (caches_of 0 w)).caches a.caches same in
-      let work : (switch_work i out (entry_of_slot i.all.schedule k).domain (caches_of 0 w)).caches ≡ (enter_part p (own_of i d) false (prepared i r d is (leave_part i out (caches_of 0 w)).caches)).caches =
+      let work : (switch_work i out (entry_of_slot i.all.schedule k).domain (caches_of 0 w)).caches ≡ (enter_part (hierarchy p) false (layout p (own_of i d)) (prepared i r d is (leave_part i out (caches_of 0 w)).caches)).caches =
       ap (λ (x : ℕ). (switch_work i out x (caches_of 0 w)).caches) e ∙ work_is i r d is out d (caches_of 0 w) in
       record {
         dom = dom;

@@ -1,6 +1,8 @@
 -- A switch's work is the touches of its parts, one after the other.
-use Rattle.std.proofs.Common.{◌≡◌, ℕ, false, List, ◌∷◌, ◌++◌, Option, Some, None, ap₂, refl, arith}
-use Rattle.mem_system.specs.Cost.{Touch, Flush, Caches, and_then, touched_all}
+use Rattle.std.proofs.Common.{◌≡◌, ◌∙◌, ℕ, Bool, true, false, List, [], ◌∷◌, ◌++◌, Option, Some, None, ap, ap₂, refl, arith}
+use Rattle.std.specs.Prelude.{if◌then◌else◌}
+use Rattle.mem_system.specs.Cost.{Touch, EmptyTlb, Flush, Caches, at_no_cost, and_then, touched_all}
+use Rattle.kernel_clone.specs.Footprints.{Layout}
 use Rattle.mem_system.proofs.Touches.{touched_all-append}
 use Rattle.cache_sharing.specs.Operations as operations
 use Rattle.cache_sharing.specs.Operations.{enter, prefetch, shared_region}
@@ -9,29 +11,60 @@ use Rattle.image_check.specs.Own.{Own}
 use Rattle.image_check.specs.Image.{Image, own_of}
 use Rattle.world_view.specs.Kernel.{layout}
 use Rattle.world_view.specs.Cost.{hierarchy, region}
-use Rattle.world_view.specs.Machine.{clone_of, leave_part, prefetch_part, flush_part, enter_part, switch_work}
-
--- all that a switch touches
-abbrev pub all_touches : Image → Option ℕ → ℕ → List Touch
-all_touches i out d = operations.switch i.all.hardware.costs (clone_of i out) (layout i.all.hardware (own_of i d))
-
-leave_is : (i : Image) (out : Option ℕ) (c : Caches)
-    → leave_part i out c ≡ touched_all (hierarchy i.all.hardware) false c (operations.leave_if i.all.hardware.costs (clone_of i out))
-unfolding leave_part operations.leave_if touched_all
-leave_is i None c = refl
-leave_is i (Some d) c = refl
+use Rattle.world_view.specs.Machine.{Guards, guarded, clone_of, clone_by, leave_by, prefetch_by, flush_by, enter_part, switch_work_by, switch_work}
 
 pub region_is : (p : Hardware) (o : Own) → shared_region (layout p o) ≡ region p
 unfolding region shared_region layout
 region_is p o = refl
 
+-- ---- by any guards
+
+module _ (g : Guards) (i : Image) where
+  -- all that a switch touches
+  abbrev pub touches_by : Option ℕ → ℕ → List Touch
+  touches_by out d = operations.switch_by g.prefetch g.flush i.all.hardware.costs (clone_by g out) (g.clone d)
+
+  leave_is : (out : Option ℕ) (c : Caches)
+      → leave_by g i out c ≡ touched_all g.levels false c (operations.leave_if i.all.hardware.costs (clone_by g out))
+  unfolding leave_by operations.leave_if touched_all
+  leave_is None c = refl
+  leave_is (Some d) c = refl
+
+  loads_is : (b : Bool) (c : Caches)
+      → (if b then touched_all g.levels false c (prefetch (region i.all.hardware)) else at_no_cost c)
+      ≡ touched_all g.levels false c (if b then prefetch (region i.all.hardware) else [])
+  unfolding touched_all
+  loads_is true c = refl
+  loads_is false c = refl
+
+  pub work_by_is : (out : Option ℕ) (d : ℕ) (c : Caches) → shared_region (g.clone d) ≡ region i.all.hardware
+      → switch_work_by g i out d c ≡ touched_all g.levels false c (touches_by out d)
+  unfolding switch_work_by prefetch_by flush_by enter_part operations.switch_by touched_all and_then
+  work_by_is out d c same =
+      let p = i.all.hardware in
+      let h = g.levels in
+      let l = g.clone d in
+      let left = operations.leave_if p.costs (clone_by g out) in
+      let loads : List Touch = if g.prefetch then prefetch (region p) else [] in
+      let emptied : Touch = if g.flush then Flush else EmptyTlb in
+      rw (same, leave_is out c, loads_is g.prefetch (touched_all h false c left).caches, touched_all-append h false c left (loads ++ emptied ∷ enter l), touched_all-append h false (touched_all h false c left).caches loads (emptied ∷ enter l))
+      (ap₂ (λ (x : ℕ) (y : Caches). record { cost = x; caches = y }) (omega arith) refl)
+
+-- ---- with all on
+
+-- all that a switch touches
+abbrev pub all_touches : Image → Option ℕ → ℕ → List Touch
+all_touches i out d = operations.switch i.all.hardware.costs (clone_of i out) (layout i.all.hardware (own_of i d))
+
+clone_is : (i : Image) (out : Option ℕ) → clone_by (guarded i) out ≡ clone_of i out
+unfolding guarded
+clone_is i None = refl
+clone_is i (Some d) = refl
+
 pub switch_is : (i : Image) (out : Option ℕ) (d : ℕ) (c : Caches)
     → switch_work i out d c ≡ touched_all (hierarchy i.all.hardware) false c (all_touches i out d)
-unfolding switch_work prefetch_part flush_part enter_part operations.switch touched_all and_then
+unfolding guarded
 switch_is i out d c =
     let p = i.all.hardware in
-    let h = hierarchy p in
-    let l = layout p (own_of i d) in
-    let left = operations.leave_if p.costs (clone_of i out) in
-    rw (region_is p (own_of i d), leave_is i out c, touched_all-append h false c left (prefetch (region p) ++ Flush ∷ enter l), touched_all-append h false (touched_all h false c left).caches (prefetch (region p)) (Flush ∷ enter l))
-    (ap₂ (λ (x : ℕ) (y : Caches). record { cost = x; caches = y }) (omega arith) refl)
+    work_by_is (guarded i) i out d c (region_is p (own_of i d))
+    ∙ ap (λ (l : Option Layout). touched_all (hierarchy p) false c (operations.switch p.costs l (layout p (own_of i d)))) (clone_is i out)

@@ -16,7 +16,7 @@ use Rattle.call_table.specs.Domain.{Dom}
 use Rattle.kernel_call.specs.Logs.{log_of}
 use Rattle.world_view.specs.Kernel.{no_dom}
 use Rattle.world_view.specs.Event.{Storage}
-use Rattle.world_view.specs.Machine.{with_hart, setting, Local, stretch, dom_of, part_of, with_part, switch, run_slot, opening, whole, alone_opening, alone_enter, alone_in, alone_out, alone_if, alone}
+use Rattle.world_view.specs.Machine.{with_hart, setting, Local, stretch, dom_of, part_of, with_part, switch, opening, whole, alone_opening, alone_enter, alone_in, alone_out, alone_if, alone, guarded, own_slot, run_slot_by, whole_by, with_end}
 use Rattle.world_view.specs.View.{view, view_whole, view_alone}
 use Rattle.world_view.specs.Relations.{IsDomain, SameFrames, IsKernel, HasFacts, Resident, Beside, Within, Apiece, Agree}
 use Rattle.world_view.proofs.opening.PoolLaws.{own_at_place}
@@ -56,10 +56,10 @@ module _ (i : Image) (r : Separated i) where
       record { dom = n.dom; frames = n.storage.same; core = n.caches.core; sets = n.caches.l2.same; clock = n.clock }
 
   -- slot k is the domain's own
-  own_slot : (k d : ℕ) (a : Local) → IsDomain i d → (entry_of_slot i.all.schedule k).domain ≡ d → Within i.all.hardware (own_of i d) (part_of 0 d (switch i k (whole i k))) (alone_enter i.all (own_of i d) k a)
+  slot_own : (k d : ℕ) (a : Local) → IsDomain i d → (entry_of_slot i.all.schedule k).domain ≡ d → Within i.all.hardware (own_of i d) (part_of 0 d (switch i k (whole i k))) (alone_enter i.all (own_of i d) k a)
       → Within i.all.hardware (own_of i d) (part_of 0 d (whole i (suc k))) (alone_in i.all (own_of i d) k a)
-  unfolding whole run_slot with_part alone_in with_hart at put
-  own_slot k d a within is h =
+  unfolding whole_by run_slot_by own_slot with_end guarded with_part alone_in with_hart at put
+  slot_own k d a within is h =
       let p = i.all.hardware in
       let es = i.all.schedule in
       let begun = switch i k (whole i k) in
@@ -76,7 +76,7 @@ module _ (i : Image) (r : Separated i) where
   -- slot k is another's
   others_slot : (k d : ℕ) (a : Local) → IsDomain i d → (entry_of_slot i.all.schedule k).domain ≢ d → Apiece i.all.hardware (own_of i d) (part_of 0 d (switch i k (whole i k))) a
       → Apiece i.all.hardware (own_of i d) (part_of 0 d (whole i (suc k))) a
-  unfolding whole run_slot with_part with_hart at put
+  unfolding whole_by run_slot_by own_slot with_end guarded with_part with_hart at put
   others_slot k d a is ne h =
       let p = i.all.hardware in
       let es = i.all.schedule in
@@ -127,13 +127,13 @@ module _ (i : Image) (r : Separated i) where
     next_if : (k : ℕ) (b : Bool) → eqb (entry_of_slot i.all.schedule k).domain d ≡ b → Joined i d k → JoinedIf i d k b
     next_if k true t j =
         let e : (entry_of_slot i.all.schedule k).domain ≡ d = eqb-true (entry_of_slot i.all.schedule k).domain d t in
-        own_slot k d (alone i.all (own_of i d) d k) is e (entered k e j)
+        slot_own k d (alone i.all (own_of i d) d k) is e (entered k e j)
     next_if k false t j =
         let ne : (entry_of_slot i.all.schedule k).domain ≢ d = λ q. true≢false (sym (eq-eqb (entry_of_slot i.all.schedule k).domain d q) ∙ t) in
         others_slot k d (alone i.all (own_of i d) d k) is ne (switched k ne j)
 
     joined : (k : ℕ) → Joined i d k
-    unfolding whole alone alone_opening opening with_hart at put
+    unfolding whole_by alone alone_opening opening with_hart at put
     joined zero = record { dom = opening_dom_is i r d is; frames = opening_frames i r d is; sets = λ s own. refl }
     joined (suc k) = next_if k _ refl (joined k)
 

@@ -25,7 +25,7 @@ use Rattle.kernel_clone.specs.Footprints.{Layout}
 use Rattle.world_view.specs.Kernel.{opening_dom, estate, layout, no_dom}
 use Rattle.mem_system.specs.Cost.{Touched}
 use Rattle.world_view.specs.Event.{Storage, Act, frame_or_stop, translate, loaded, noted, guessed, execute, perform, instruction, interrupts_of, idle_until, event}
-use Rattle.world_view.specs.Machine.{with_hart, caches_of, clock_of, Setting, setting, Local, paid, delivered, happened, step, stretch, World, dom_of, part_of, with_part, switch_work, switch, run_slot, whole}
+use Rattle.world_view.specs.Machine.{with_hart, caches_of, clock_of, Setting, setting, Local, paid, delivered, happened, step, stretch, World, dom_of, part_of, with_part, switch_work, switch, run_slot, whole, guarded, own_slot, run_slot_by, switch_by, whole_by, with_end}
 use Rattle.world_view.specs.Relations.{IsDomain}
 use Rattle.world_view.proofs.opening.Separate.{Separated}
 use Rattle.world_view.proofs.opening.OpeningLaws.{at-tabled, at-tabled_past, opening_dom_is}
@@ -171,23 +171,23 @@ module _ (i : Image) (k : ℕ) (w : World) where
   work = switch_work i (outgoing i.all.schedule k) (entry_of_slot i.all.schedule k).domain (caches_of 0 w)
 
   pub switch-doms : (switch i k w).doms ≡ w.doms
-  unfolding switch with_hart at put
+  unfolding switch_by guarded with_hart at put
   switch-doms = refl
 
   pub switch-storage : (switch i k w).storage ≡ w.storage
-  unfolding switch with_hart at put
+  unfolding switch_by guarded with_hart at put
   switch-storage = refl
 
   pub switch-caches : caches_of 0 (switch i k w) ≡ work.caches
-  unfolding switch with_hart at put
+  unfolding switch_by guarded with_hart at put
   switch-caches = refl
 
   pub switch-clock : clock_of 0 (switch i k w) ≡ max (clock_of 0 w + work.cost) (start i.all.schedule k)
-  unfolding switch with_hart at put
+  unfolding switch_by guarded with_hart at put
   switch-clock = refl
 
   pub switch-used : (switch i k w).used ≡ w.used ++ (switch_entry i.all.schedule k, (clock_of 0 w + work.cost) - last_end i.all.schedule k) ∷ []
-  unfolding switch with_hart at put
+  unfolding switch_by guarded with_hart at put
   switch-used = refl
 
   -- the domain of slot k as it begins, and as it ends
@@ -198,39 +198,39 @@ module _ (i : Image) (k : ℕ) (w : World) where
   slot_over = stretch (setting i.all.hardware (own_of i (entry_of_slot i.all.schedule k).domain) false) (slot_end i.all.schedule k) slot_begun
 
   pub run_slot-dom_same : dom_of (run_slot i k w) (entry_of_slot i.all.schedule k).domain ≡ slot_over.dom
-  unfolding run_slot with_part with_hart at put
+  unfolding run_slot_by own_slot with_end guarded with_part with_hart at put
   run_slot-dom_same = at-put_same no_dom (switch i k w).doms (entry_of_slot i.all.schedule k).domain slot_over.dom
 
   pub run_slot-dom_other : (d : ℕ) → d ≢ (entry_of_slot i.all.schedule k).domain → dom_of (run_slot i k w) d ≡ dom_of w d
-  unfolding run_slot with_part with_hart at put
+  unfolding run_slot_by own_slot with_end guarded with_part with_hart at put
   run_slot-dom_other d other =
       at-put_other no_dom (switch i k w).doms (entry_of_slot i.all.schedule k).domain d slot_over.dom other
       ∙ ap (λ m. at no_dom m d) switch-doms
 
   pub run_slot-storage : (run_slot i k w).storage ≡ slot_over.storage
-  unfolding run_slot with_part with_hart at put
+  unfolding run_slot_by own_slot with_end guarded with_part with_hart at put
   run_slot-storage = refl
 
   pub run_slot-clock : clock_of 0 (run_slot i k w) ≡ slot_over.clock
-  unfolding run_slot with_part with_hart at put
+  unfolding run_slot_by own_slot with_end guarded with_part with_hart at put
   run_slot-clock = refl
 
   pub run_slot-caches : caches_of 0 (run_slot i k w) ≡ slot_over.caches
-  unfolding run_slot with_part with_hart at put
+  unfolding run_slot_by own_slot with_end guarded with_part with_hart at put
   run_slot-caches = refl
 
   pub run_slot-used : (run_slot i k w).used ≡ w.used ++ (switch_entry i.all.schedule k, (clock_of 0 w + work.cost) - last_end i.all.schedule k) ∷ []
-  unfolding run_slot with_part with_hart at put
+  unfolding run_slot_by own_slot with_end guarded with_part with_hart at put
   run_slot-used = switch-used
 
 pub whole-suc : (i : Image) (k : ℕ) → whole i (suc k) ≡ run_slot i k (whole i k)
-unfolding whole
+unfolding whole_by
 whole-suc i k = refl
 
 -- ---- the opening
 
 pub whole_first-dom : (i : Image) (d : ℕ) → Separated i → IsDomain i d → dom_of (whole i 0) d ≡ opening_dom i.all.hardware (own_of i d)
-unfolding whole
+unfolding whole_by
 whole_first-dom i d r is = opening_dom_is i r d is
 
 -- ---- what switches took, with one more

@@ -22,7 +22,7 @@ use Rattle.world_view.specs.Kernel.{estate, layout}
 use Rattle.world_view.specs.Cost.{hierarchy}
 use Rattle.world_view.specs.Event.{Event, event, instruction, delivery_touches}
 use Rattle.world_view.specs.Event.Event.{Jump, Deliver, Run}
-use Rattle.world_view.specs.Machine.{with_hart, caches_of, clock_of, setting, Local, World, paid, delivered, happened, step, steps, stretch, clone_of, switch_work, with_part, part_of, switch, run_slot, opening, whole}
+use Rattle.world_view.specs.Machine.{with_hart, caches_of, clock_of, setting, Local, World, paid, delivered, happened, step, steps, stretch, clone_of, switch_work, with_part, part_of, switch, opening, whole, guarded, own_slot, run_slot_by, switch_by, whole_by, with_end}
 use Rattle.world_view.specs.Used.{largest_of}
 use Rattle.world_view.specs.Relations.{largest_step, bound, InTime, AllWithinPads}
 use Rattle.world_view.proofs.opening.Separate.{Separated}
@@ -134,7 +134,7 @@ cold_ways p s below =
     ap (λ (x : CacheSet). length x.places) (at-empty (fresh_set ways) s) ∙ length-replicate ways None
 
 pub switch_ways : (i : Image) (k : ℕ) (w : World) → HasWays (hierarchy i.all.hardware) (caches_of 0 w) → HasWays (hierarchy i.all.hardware) (caches_of 0 (switch i k w))
-unfolding switch with_hart at put
+unfolding switch_by guarded with_hart at put
 switch_ways i k w ways =
     let p = i.all.hardware in
     let out = outgoing i.all.schedule k in
@@ -158,7 +158,7 @@ used_in_pad i k w padded time = let used = used_in_bound i k w time in omega (ar
 
 -- the next slot begins at its start
 pub switch_on_start : (i : Image) (k : ℕ) (w : World) → bound i.all.hardware ≤ pad_of i.all.schedule k → InTime i k w → clock_of 0 (switch i k w) ≡ start i.all.schedule k
-unfolding switch with_hart at put
+unfolding switch_by guarded with_hart at put
 switch_on_start i k w padded time =
     let used = used_in_pad i k w padded time in
     let at = pad_law i.all.schedule k in
@@ -181,7 +181,7 @@ module _ (i : Image) (r : Separated i) where
       record { clock = omega (arith, at, within, base); ways = switch_ways i k (whole i k) time.ways }
 
   slot_in_time : (k : ℕ) → InTime i k (whole i k) → InTime i (suc k) (whole i (suc k))
-  unfolding whole run_slot with_part with_hart at put
+  unfolding whole_by run_slot_by own_slot with_end guarded with_part with_hart at put
   slot_in_time k time =
       let p = i.all.hardware in
       let end = slot_end i.all.schedule k in
@@ -191,7 +191,7 @@ module _ (i : Image) (r : Separated i) where
       record { over = stretch_over p r.timed (own_of i d) false end begun; soon = ends.clock; ways = ends.ways }
 
   pub in_time : (k : ℕ) → InTime i k (whole i k)
-  unfolding whole opening with_hart at put
+  unfolding whole_by opening with_hart at put
   in_time zero =
       let within = instruction_within i.all.hardware (own_of i 0) 0 (part_of 0 0 (opening i)).dom (opening i).storage in
       let base = r.timed.base in
@@ -230,7 +230,7 @@ within_append es [] vs h k = k
 within_append es (u ∷ us) vs h k = (h.0, within_append es us vs h.1 k)
 
 pub used_within : (i : Image) (n : ℕ) → Separated i → AllWithinPads i.all.schedule (whole i n).used
-unfolding whole opening run_slot with_part switch with_hart at put
+unfolding whole_by opening run_slot_by own_slot with_end guarded with_part switch_by with_hart at put
 used_within i zero r = tt
 used_within i (suc k) r = within_append i.all.schedule (whole i k).used _ (used_within i k r) (used_in_pad i k (whole i k) (r.padded k) (in_time i r k), tt)
 

@@ -1,27 +1,19 @@
 -- The parts of a switch, one after the other, and when they are done.
-use Rattle.std.proofs.Common.{◌∙◌, refl, arith, Option}
+use Rattle.std.proofs.Common.{◌∙◌, refl, arith}
 use Rattle.std.specs.Option.{option_copied}
 use Rattle.std.proofs.Math.Nat.{max-eq_right}
-use Rattle.kernel_clone.specs.Footprints.{Layout}
 use Rattle.kernel_clone.specs.Models.{layout_model}
 use Rattle.mem_system.specs.Hierarchy.{Hierarchy}
 use Rattle.mem_system.specs.Contents.{hierarchy_of}
 use Rattle.domain_switch.specs.Switch.{layout_if}
-use Rattle.domain_switch.proofs.Charges.{switch_made}
 use Rattle.domain_switch.proofs.OnTime.{done_by}
 use Rattle.domain_switch.proofs.switching.switch.Goals as goal
 
 pub returns-clause-work : goal.returns-clause-work
 returns-clause-work g c caches for =
-    let out : Option Layout = layout_if (option_copied c.args.out) in
-    let into : Layout = layout_model c.args.into.now in
-    let made = switch_made g.P.Policy.rule g.P.Policy.stands_for c.args.system.now.core.costs out into
-    c.leave_if-left.result c.prefetch-loaded.result c.flush-flushed.result c.enter-entered.result
-    c.args.system.now c.leave_if-left.new.system c.prefetch-loaded.new.system c.flush-flushed.new.self c.enter-entered.new.system
-    c.leave_if-left.ensures.makes c.prefetch-loaded.ensures.makes c.flush-flushed.ensures.makes c.enter-entered.ensures.makes in
-    let step = made.steps caches for in
+    let step = c.work.ensures.makes.steps caches for in
     record {
-      time = omega (arith, step.cost, c.from.ensures, c.from-2.ensures, c.from-3.ensures, c.from-4.ensures);
+      time = omega (arith, step.cost);
       next = step.next;
     }
 

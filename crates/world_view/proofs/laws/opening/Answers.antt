@@ -1,11 +1,11 @@
 use Rattle.world_view.proofs.opening.Separate.{separated}
 use Rattle.world_view.proofs.opening.OpenedWalks.{opened_page, opened_refused, opened_nowhere, pages_apart}
 use Rattle.world_view.proofs.opening.Parts.{opened_zero, opened_elsewhere}
-use Rattle.world_view.specs.Machine.{whole}
+use Rattle.world_view.specs.Machine.{whole_by}
 use Rattle.world_view.proofs.laws.opening.Goals as goal
 
 pub returns : goal.returns
-unfolding whole
+unfolding whole_by
 returns c = record {
   page = λ i d va a q r is fits e given. opened_page i (separated i r) d is va a q fits e given;
   rights = λ i d va a q r is fits e refused. opened_refused i (separated i r) d is va a q fits e refused;
