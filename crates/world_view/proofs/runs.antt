@@ -3,3 +3,4 @@ pub mod SwitchParts
 pub mod SwitchLaws
 pub mod DomainLaws
 pub mod WholeLaws
+pub mod GuardLaws

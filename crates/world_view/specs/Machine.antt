@@ -1,5 +1,5 @@
 -- The whole machine, and one domain alone.
-use Rattle.std.specs.Prelude.{ℕ, zero, suc, ◌+◌, ◌-◌, ◌/◌, ◌==◌, max, nat_lt, nat_eq, Bool, true, false, if◌then◌else◌, List, [], ◌∷◌, ◌++◌, length, Option, Some, None}
+use Rattle.std.specs.Prelude.{ℕ, zero, suc, ◌+◌, ◌-◌, ◌/◌, ◌==◌, max, nat_lt, nat_le, nat_eq, Bool, true, false, if◌then◌else◌, List, [], ◌∷◌, ◌++◌, length, Option, Some, None}
 use Rattle.tp_base.specs.Table.{Table, empty, at, put}
 use Rattle.tp_base.specs.Act.{Done, either}
 use Rattle.guards.specs.declared.Guard.{Guard}
@@ -200,6 +200,9 @@ caches_of h w = record { core = (at no_hart w.harts h).core; l2 = w.l2 }
 abbrev pub clock_of : ℕ → World → ℕ
 clock_of h w = (at no_hart w.harts h).clock
 
+abbrev pub ended_of : ℕ → World → ℕ
+ended_of h w = (at no_hart w.harts h).ended
+
 unfoldable pub with_hart : ℕ → World → Caches → ℕ → World
 with_hart h w c t =
     record w { l2 = c.l2; harts = put w.harts h (record (at no_hart w.harts h) { core = c.core; clock = t }) }
@@ -217,7 +220,7 @@ with_part h d w s = with_hart h (record w { doms = put w.doms d s.dom; storage =
 
 -- switch k begins when the last slot has ended: with pads that is known before
 abbrev pub ended_by : Guards → Image → ℕ → World → ℕ
-ended_by g i k w = if g.pad then last_end i.all.schedule k else (at no_hart w.harts 0).ended
+ended_by g i k w = if g.pad then last_end i.all.schedule k else ended_of 0 w
 
 -- its work was done at this clock, and then it waits for the next start
 abbrev pub begins_by : Guards → Image → ℕ → ℕ → ℕ
@@ -251,7 +254,7 @@ pub record Owned : Type 0 where
 -- domain d's next moment, if its cycle has come
 abbrev pub if_due : ℕ → ℕ → Option Moment → Option Owned
 if_due now d None = None
-if_due now d (Some x) = if nat_lt now x.at then None else Some (record { owner = d; moment = x })
+if_due now d (Some x) = if nat_le x.at now then Some (record { owner = d; moment = x }) else None
 
 abbrev pub comes_first : Moment → Moment → Bool
 comes_first x y = if nat_eq x.at y.at then nat_lt x.line y.line else nat_lt x.at y.at

@@ -15,7 +15,8 @@ use Rattle.world_view.specs.Frames.{pool}
 use Rattle.phys_mem.specs.Mem.{frame_at}
 use Rattle.world_view.specs.Opening.{frame_words}
 use Rattle.world_view.specs.Event.{Storage}
-use Rattle.world_view.specs.Machine.{whole, dom_of, alone}
+use Rattle.guards.specs.declared.Guard.{Guard}
+use Rattle.world_view.specs.Machine.{World, whole, whole_off, dom_of, alone}
 
 pub record View : Type 0 where
   pub status : DomainStatus
@@ -39,9 +40,17 @@ view p o d s = record {
   frames = map (λ f. frame_words (frame_at s.mem f)) (pool p o);
 }
 
--- domain d of the whole machine after n slots
+-- domain d of the whole machine
+abbrev pub view_in : Image → ℕ → World → View
+view_in i d w = view i.all.hardware (own_of i d) (dom_of w d) w.storage
+
+-- after n slots
 unfoldable pub view_whole : Image → ℕ → ℕ → View
-view_whole i d n = let w = whole i n in view i.all.hardware (own_of i d) (dom_of w d) w.storage
+view_whole i d n = view_in i d (whole i n)
+
+-- with a guard off
+unfoldable pub view_off : Guard → Image → ℕ → ℕ → View
+view_off off i d n = view_in i d (whole_off off i n)
 
 -- the same domain alone, from the public part and its own
 unfoldable pub view_alone : Public → Own → ℕ → ℕ → View

@@ -30,9 +30,9 @@ use Rattle.world_view.proofs.steps.Clones.{step_same, step_keeps_so, steps_keep_
 abbrev pub OwnerBelow : ℕ → Option Owned → Type 0
 OwnerBelow n o = IfSome o (λ x. x.owner < n)
 
-due_if : (b : Bool) (n : ℕ) (x : Owned) → x.owner < n → OwnerBelow n (if b then None else Some x)
-due_if true n x h = tt
-due_if false n x h = h
+due_if : (b : Bool) (n : ℕ) (x : Owned) → x.owner < n → OwnerBelow n (if b then Some x else None)
+due_if true n x h = h
+due_if false n x h = tt
 
 due_below : (now d : ℕ) (next : Option Moment) → OwnerBelow (suc d) (if_due now d next)
 due_below now d None = tt
