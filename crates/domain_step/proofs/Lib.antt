@@ -3,8 +3,8 @@ mod Charges
 mod Yields
 mod Accesses
 mod Instructions
-mod Events
+pub mod Events
 mod Calls
-mod Moved
+pub mod Moved
 pub mod Counts
 pub mod Standing

@@ -13,7 +13,8 @@ use Rattle.world_view.specs.declared.view.Used.{Used}
 use Rattle.world_view.specs.Frames.{root_of}
 use Rattle.world_view.specs.Kernel.{estate}
 use Rattle.world_view.specs.Cost.{hierarchy}
-use Rattle.world_view.specs.Machine.{caches_of, clock_of, Setting, setting, switch, whole, dom_of}
+use Rattle.mem_system.specs.Hierarchy.{Hierarchy}
+use Rattle.world_view.specs.Machine.{World, caches_of, clock_of, Setting, setting, switch, whole, dom_of}
 use Rattle.world_view.specs.Relations.{Resident}
 use Rattle.domain_step.specs.Standing.{MachineStands, DomainStands}
 use Rattle.tp_machine.specs.Usage.{IsUsed, CountedUpTo}
@@ -40,16 +41,18 @@ KeepsBuffer i (suc n) k =
     KeepsLeaves (whole i (suc n)).storage.mem k.memory.frames (root_of i.all.hardware (own_of i (entry_of_slot i.all.schedule n).domain))
     k.system.core.tlb
 
--- it stands for the whole machine after so many slots: memory, each set of each cache and of the buffer, the predictor's
--- counters, each domain, what switches took, and the clock
-pub record StandsFor (i : Image) (slots : ℕ) (k : Kept) : Type 0 where
-  pub machine : MachineStands i.all.hardware (hierarchy i.all.hardware) false k.memory k.system k.clock
-      (whole i slots).storage (caches_of 0 (whole i slots)) (clock_of 0 (whole i slots))
+-- it stands for a world with this hierarchy and these settings of its domains: memory, each set of each cache and of the
+-- buffer, the predictor's counters, each domain, what switches took, and the clock
+pub record StandsOn (i : Image) (h : Hierarchy) (settings : ℕ → Setting) (w : World) (k : Kept) : Type 0 where
+  pub machine : MachineStands i.all.hardware h false k.memory k.system k.clock w.storage (caches_of 0 w) (clock_of 0 w)
   pub all_domains : length k.domains ≡ length i.owns
-  pub each_domain : (d : ℕ) (x : Domain) → slice_get k.domains d ≡ Some x
-      → DomainStands (setting_of i d) x (dom_of (whole i slots) d)
+  pub each_domain : (d : ℕ) (x : Domain) → slice_get k.domains d ≡ Some x → DomainStands (settings d) x (dom_of w d)
   pub all_entries : length k.used ≡ length i.all.schedule
-  pub each_entry : IsUsed k.used (whole i slots).used
+  pub each_entry : IsUsed k.used w.used
+
+-- for the whole machine after so many slots
+abbrev pub StandsFor : Image → ℕ → Kept → Type 0
+StandsFor i slots k = StandsOn i (hierarchy i.all.hardware) (setting_of i) (whole i slots) k
 
 -- each domain has its facts, of its frames, capabilities and page tables, in this memory; and the buffer keeps what walks
 -- find there

@@ -3,6 +3,7 @@
 #![tactic(auto)]
 
 mod machine;
+mod open;
 mod used;
 
 pub use machine::Machine;

@@ -1,0 +1,83 @@
+-- What the code's machine with a guard off stands for.
+use Rattle.std.specs.Prelude.{◌≡◌, ℕ, zero, suc, ◌+◌, ◌*◌, ◌^◌, ◌≤◌, false, List, length, slice_get, Option, Some, None, option_map}
+use Rattle.phys_mem.specs.Contents.{Contents}
+use Rattle.repl_policy.specs.declared.AnyPolicy.{AnyPolicy}
+use Rattle.guards.specs.declared.Guard.{Guard}
+use Rattle.irq_partition.specs.declared.Moment.{Moment}
+use Rattle.irq_partition.specs.Interrupts.{next_of}
+use Rattle.mem_system.specs.Contents.{SystemContents}
+use Rattle.mem_system.specs.Translation.{KeepsLeaves}
+use Rattle.image_check.specs.Image.{Image, own_of}
+use Rattle.image_check.specs.Laws.{Runnable}
+use Rattle.kernel_call.specs.declared.domain.Domain.{Domain}
+use Rattle.kernel_call.specs.Models.{CountsUpTo}
+use Rattle.domain_step.specs.Standing.{MachineStands, DomainStands}
+use Rattle.world_view.specs.Frames.{root_of}
+use Rattle.world_view.specs.Machine.{World, caches_of, clock_of, dom_of, Guards, guards_of, without, setting_by, whole_off, Owned, if_due, first_of}
+use Rattle.world_view.specs.Relations.{IsDomain, HasFacts, HasRights}
+use Rattle.tp_machine.specs.Usage.{CountedUpTo}
+use Rattle.tp_machine.specs.Worlds.{Kept, StandsOn}
+use Rattle.tp_machine.specs.declared.open.Due.{Due}
+
+-- it stands for the machine with this guard off after so many slots
+abbrev pub StandsOff : Guard → Image → ℕ → Kept → Type 0
+StandsOff off i slots k = StandsOn i (without off i).levels (setting_by (without off i) i) (whole_off off i slots) k
+
+-- so that no number is too large
+pub record IsInBounds (slots ended : ℕ) (k : Kept) : Type 0 where
+  pub slots_left : slots ≤ 65536
+  pub few_calls : (d : ℕ) (x : Domain) → slice_get k.domains d ≡ Some x → CountsUpTo k.clock x
+  pub few_switches : CountedUpTo slots k.used
+  pub early : k.clock ≤ 2 ^ 61 + slots * 2 ^ 34
+  pub ended_before : ended ≤ k.clock
+
+-- ---- within a slot
+
+-- no count of a domain is past the clock
+abbrev pub CountUpTo : ℕ → List Domain → Type 0
+CountUpTo now domains = (d : ℕ) (x : Domain) → slice_get domains d ≡ Some x → CountsUpTo now x
+
+-- memory, hierarchy, domains and clock stand for a world of an accepted image in a slot of domain d; the facts of each
+-- domain hold there, and the buffer keeps walks of domain d
+pub record StandsIn (off : Option Guard) (i : Image) (d : ℕ) (w : World) (memory : Contents)
+    (system : SystemContents AnyPolicy) (domains : List Domain) (now : ℕ) : Type 0 where
+  pub runnable : Runnable i
+  pub domain : IsDomain i d
+  pub machine : MachineStands i.all.hardware (guards_of off i).levels false memory system now w.storage (caches_of 0 w) (clock_of 0 w)
+  pub all_domains : length domains ≡ length i.owns
+  pub each_domain : (e : ℕ) (x : Domain) → slice_get domains e ≡ Some x
+      → DomainStands (setting_by (guards_of off i) i e) x (dom_of w e)
+  pub each_facts : (e : ℕ) → IsDomain i e → HasFacts i.all.hardware (own_of i e) (dom_of w e) w.storage
+  pub each_rights : (e : ℕ) → IsDomain i e → HasRights i.all.hardware (own_of i e) (dom_of w e) w.storage
+  pub leaves : KeepsLeaves w.storage.mem memory.frames (root_of i.all.hardware (own_of i d)) system.core.tlb
+
+-- they stand for some world so
+pub record Stands (d : ℕ) (memory : Contents) (system : SystemContents AnyPolicy) (domains : List Domain) (now : ℕ) : Type 0 where
+  pub off : Option Guard
+  pub image : Image
+  pub world : World
+  pub stands : StandsIn off image d world memory system domains now
+
+-- whatever world the old ones stand for, the new ones stand for f of it
+abbrev pub Becomes : (Guards → Image → World → World) → ℕ
+    → Contents → SystemContents AnyPolicy → List Domain → ℕ
+    → Contents → SystemContents AnyPolicy → List Domain → ℕ → Type 0
+Becomes f d memory system domains now memory' system' domains' later = (off : Option Guard) (i : Image) (w : World)
+    → StandsIn off i d w memory system domains now
+    → StandsIn off i d (f (guards_of off i) i w) memory' system' domains' later
+
+-- ---- moments of all domains
+
+abbrev pub owned : Due → Owned
+owned x = record { owner = x.owner; moment = record { at = x.at; line = x.line } }
+
+-- a domain's next moment, if there is that domain
+abbrev pub next_at : Option Domain → Option Moment
+next_at None = None
+next_at (Some x) = next_of x.interrupts
+
+-- the first moment that is due of the domains below a number
+unfoldable pub first_among : ℕ → List Domain → ℕ → Option Owned
+first_among now domains zero = None
+first_among now domains (suc d) =
+    first_of (first_among now domains d) (if_due now d (next_at (slice_get domains d)))
