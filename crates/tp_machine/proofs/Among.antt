@@ -1,5 +1,5 @@
 -- One event in a slot in which moments of all domains come, of the code and of the definitions.
-use Rattle.std.proofs.Common.{◌≡◌, ℕ, ◌+◌, ◌<◌, ◌≤◌, Bool, true, false, List, length, Option, Some, None, refl, ap, ap₂, sym, subst, ◌∙◌, arith}
+use Rattle.std.proofs.Common.{◌≡◌, ℕ, ◌+◌, ◌-◌, ◌<◌, ◌≤◌, Bool, true, false, List, length, Option, Some, None, refl, ap, ap₂, sym, subst, ◌∙◌, arith}
 use Rattle.std.specs.Prelude.{slice_get, option_map, IfSome, if◌then◌else◌}
 use Rattle.std.proofs.Math.ListN.{set}
 use Rattle.std.proofs.lemmas.List.{length-set}
@@ -32,12 +32,12 @@ use Rattle.kernel_call.specs.Threads.{KeepsAtDelivery}
 use Rattle.world_view.specs.Frames.{root_of}
 use Rattle.world_view.specs.Kernel.{estate, no_dom}
 use Rattle.world_view.specs.Event.{delivery_touches, interrupts_of}
-use Rattle.world_view.specs.Machine.{Guards, World, Local, caches_of, clock_of, dom_of, part_of, with_part, with_hart, guards_of, setting_by, delivered, step, Owned, first_due, delivered_or_step, step_among}
+use Rattle.world_view.specs.Machine.{Guards, World, Local, caches_of, clock_of, dom_of, part_of, with_part, with_hart, guards_of, setting_by, delivered, step, stretch, Owned, first_due, delivered_or_step, step_among, own_slot}
 use Rattle.world_view.specs.Relations.{IsDomain}
 use Rattle.world_view.proofs.opening.Separate.{Separated, separated}
 use Rattle.world_view.proofs.opening.OpeningFacts.{kernel_of}
 use Rattle.world_view.proofs.actions.TableLaws.{root_is}
-use Rattle.world_view.proofs.facts.FactsLaws.{AllBoth, among_keeps}
+use Rattle.world_view.proofs.facts.FactsLaws.{AllBoth, among_keeps, own_keeps}
 use Rattle.world_view.proofs.runs.GuardLaws.{AreGuards, are_guards}
 use Rattle.domain_step.specs.Kept.{IsSetting}
 use Rattle.domain_step.specs.Moves as moves
@@ -130,21 +130,17 @@ module _ (off : Option Guard) (i : Image) (d : ℕ) (w : World) (memory : Conten
       own_if (is_running (dom_of w d).status) (first_due i w (length i.owns)) end refl refl
       (λ runs. sym first_there ∙ none (sym (runs_there x got) ∙ runs))
 
-  pub own_stands : (end : ℕ) (x y : Domain) (memory' : Contents) (system' : SystemContents AnyPolicy) (later : ℕ)
-      → slice_get domains d ≡ Some x
-      → (is_running x.status ≡ true → first_among now domains (length domains) ≡ None)
-      → moves.StandsIn any_rule any_stands_for (setting_by g i d) memory' y system' later (step (setting_by g i d) end begun)
-      → StandsIn off i d (step_among g i d end w) memory' system' (set domains d y) later
+  -- after steps of its own
+  after_own : (s : Local) (x y : Domain) (memory' : Contents) (system' : SystemContents AnyPolicy) (later : ℕ)
+      → slice_get domains d ≡ Some x → AllBoth i r (with_part 0 d w s)
+      → moves.StandsIn any_rule any_stands_for (setting_by g i d) memory' y system' later s
+      → StandsIn off i d (with_part 0 d w s) memory' system' (set domains d y) later
   unfolding with_part with_hart at put
-  own_stands end x y memory' system' later got none over =
+  after_own s x y memory' system' later got both over =
       let p = i.all.hardware in
       let o = own_of i d in
-      let s = step (setting_by g i d) end begun in
-      let to = own_event end x got none in
-      let both = subst (AllBoth i r) to (among_keeps i r g d end w is.domain all_both) in
       let within = slice_get_within domains d x got in
-      subst (λ (v : World). StandsIn off i d v memory' system' (set domains d y) later) (sym to)
-      (record {
+      record {
         runnable = is.runnable;
         domain = is.domain;
         machine = machine_of (setting_by g i d) memory' y system' later s over;
@@ -162,7 +158,29 @@ module _ (off : Option Guard) (i : Image) (d : ℕ) (w : World) (memory : Conten
         leaves =
             subst (λ (root : ℕ). KeepsLeaves s.storage.mem memory'.frames root system'.core.tlb)
             (over.facts.has.root ∙ root_is p o) over.leaves;
-      })
+      }
+
+  -- a whole slot in which its own moments come
+  pub slot_stands : (end : ℕ) (x y : Domain) (memory' : Contents) (system' : SystemContents AnyPolicy) (later : ℕ)
+      → slice_get domains d ≡ Some x
+      → moves.StandsIn any_rule any_stands_for (setting_by g i d) memory' y system' later (stretch (setting_by g i d) end begun)
+      → StandsIn off i d (own_slot g i d end w) memory' system' (set domains d y) later
+  unfolding own_slot
+  slot_stands end x y memory' system' later got over =
+      after_own (stretch (setting_by g i d) end begun) x y memory' system' later got
+      (own_keeps i r g d end (end - clock_of 0 w) w is.domain all_both) over
+
+  pub own_stands : (end : ℕ) (x y : Domain) (memory' : Contents) (system' : SystemContents AnyPolicy) (later : ℕ)
+      → slice_get domains d ≡ Some x
+      → (is_running x.status ≡ true → first_among now domains (length domains) ≡ None)
+      → moves.StandsIn any_rule any_stands_for (setting_by g i d) memory' y system' later (step (setting_by g i d) end begun)
+      → StandsIn off i d (step_among g i d end w) memory' system' (set domains d y) later
+  own_stands end x y memory' system' later got none over =
+      let s = step (setting_by g i d) end begun in
+      let to = own_event end x got none in
+      let both = subst (AllBoth i r) to (among_keeps i r g d end w is.domain all_both) in
+      subst (λ (v : World). StandsIn off i d v memory' system' (set domains d y) later) (sym to)
+      (after_own s x y memory' system' later got both over)
 
   -- ---- a delivery, to any domain
 

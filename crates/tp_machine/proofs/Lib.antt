@@ -2,6 +2,7 @@ pub mod Elements
 pub mod Moments
 pub mod Among
 pub mod Opens
+pub mod Offs
 pub mod SwitchCounts
 pub mod Openings
 pub mod Switches

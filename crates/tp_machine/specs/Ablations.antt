@@ -3,6 +3,11 @@ use Rattle.std.specs.Prelude.{◌≡◌, ℕ, zero, suc, ◌+◌, ◌*◌, ◌^�
 use Rattle.phys_mem.specs.Contents.{Contents}
 use Rattle.repl_policy.specs.declared.AnyPolicy.{AnyPolicy}
 use Rattle.guards.specs.declared.Guard.{Guard}
+use Rattle.guards.specs.declared.Guard.TheVariants as guard
+use Rattle.hardware_check.specs.Hardware.{Hardware}
+use Rattle.kernel_clone.specs.declared.CloneLayout.{CloneLayout}
+use Rattle.mem_system.specs.Hierarchy.{Hierarchy}
+use Rattle.world_view.specs.Cost.{hierarchy}
 use Rattle.irq_partition.specs.declared.Moment.{Moment}
 use Rattle.irq_partition.specs.Interrupts.{next_of}
 use Rattle.mem_system.specs.Contents.{SystemContents}
@@ -13,7 +18,7 @@ use Rattle.kernel_call.specs.declared.domain.Domain.{Domain}
 use Rattle.kernel_call.specs.Models.{CountsUpTo}
 use Rattle.domain_step.specs.Standing.{MachineStands, DomainStands}
 use Rattle.world_view.specs.Frames.{root_of}
-use Rattle.world_view.specs.Machine.{World, caches_of, clock_of, dom_of, Guards, guards_of, without, setting_by, whole_off, Owned, if_due, first_of}
+use Rattle.world_view.specs.Machine.{World, caches_of, clock_of, dom_of, Guards, guards_of, without, uncoloured, setting_by, whole_off, Owned, if_due, first_of}
 use Rattle.world_view.specs.Relations.{IsDomain, HasFacts, HasRights}
 use Rattle.tp_machine.specs.Usage.{CountedUpTo}
 use Rattle.tp_machine.specs.Worlds.{Kept, StandsOn}
@@ -23,12 +28,41 @@ use Rattle.tp_machine.specs.declared.open.Due.{Due}
 abbrev pub StandsOff : Guard → Image → ℕ → Kept → Type 0
 StandsOff off i slots k = StandsOn i (without off i).levels (setting_by (without off i) i) (whole_off off i slots) k
 
+-- the hierarchy with this guard off
+abbrev pub levels_off : Guard → Hardware → Hierarchy
+levels_off guard.Colour p = uncoloured p
+levels_off guard.Flush p = hierarchy p
+levels_off guard.Prefetch p = hierarchy p
+levels_off guard.Pad p = hierarchy p
+levels_off guard.Clone p = hierarchy p
+levels_off guard.Irq p = hierarchy p
+
+-- a domain is as it was, but for its kernel clone
+pub record HasClone (layout : CloneLayout) (old new : Domain) : Type 0 where
+  pub layout_is : new.layout ≡ layout
+  pub status : new.status ≡ old.status
+  pub threads : new.threads ≡ old.threads
+  pub caps : new.caps ≡ old.caps
+  pub interrupts : new.interrupts ≡ old.interrupts
+  pub map : new.map ≡ old.map
+  pub pool : new.pool ≡ old.pool
+  pub retired : new.retired ≡ old.retired
+  pub readings : new.readings ≡ old.readings
+  pub replies : new.replies ≡ old.replies
+  pub printed : new.printed ≡ old.printed
+
+-- each of them is
+pub record HaveClone (layout : CloneLayout) (old new : List Domain) : Type 0 where
+  pub same : length new ≡ length old
+  pub each : (e : ℕ) (x : Domain) → slice_get new e ≡ Some x
+      → (y : Domain) × (slice_get old e ≡ Some y) × HasClone layout y x
+
 -- so that no number is too large
 pub record IsInBounds (slots ended : ℕ) (k : Kept) : Type 0 where
   pub slots_left : slots ≤ 65536
   pub few_calls : (d : ℕ) (x : Domain) → slice_get k.domains d ≡ Some x → CountsUpTo k.clock x
   pub few_switches : CountedUpTo slots k.used
-  pub early : k.clock ≤ 2 ^ 61 + slots * 2 ^ 34
+  pub early : k.clock ≤ 2 ^ 61 + slots * 2 ^ 40
   pub ended_before : ended ≤ k.clock
 
 -- ---- within a slot
@@ -65,6 +99,14 @@ abbrev pub Becomes : (Guards → Image → World → World) → ℕ
 Becomes f d memory system domains now memory' system' domains' later = (off : Option Guard) (i : Image) (w : World)
     → StandsIn off i d w memory system domains now
     → StandsIn off i d (f (guards_of off i) i w) memory' system' domains' later
+
+-- with this guard off
+abbrev pub BecomesOff : Guard → (Guards → Image → World → World) → ℕ
+    → Contents → SystemContents AnyPolicy → List Domain → ℕ
+    → Contents → SystemContents AnyPolicy → List Domain → ℕ → Type 0
+BecomesOff off f d memory system domains now memory' system' domains' later = (i : Image) (w : World)
+    → StandsIn (Some off) i d w memory system domains now
+    → StandsIn (Some off) i d (f (without off i) i w) memory' system' domains' later
 
 -- ---- moments of all domains
 

@@ -3,6 +3,7 @@
 #![tactic(auto)]
 
 mod machine;
+mod off;
 mod open;
 mod used;
 

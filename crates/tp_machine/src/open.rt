@@ -111,6 +111,7 @@ pub(crate) fn open_slot(
     ensures few { CountUpTo result domains.new }
     ensures same { length domains.new ≡ length domains.old }
     ensures over { now ≤ result }
+    ensures past { end ≤ result }
     ensures soon { now < end → result < end + most_event }
     ensures done { end ≤ now → result ≡ now }
 {
