@@ -102,9 +102,10 @@ impl Entry {
     }
 }
 
-/// The first of these entries that keeps a line.
+/// The first of these entries that keeps a line, of a set that fills in order.
 #[inline(always)]
 fn first_with(entries: &[Entry], epoch: u32, number: u32) -> Option<usize>
+    requires first { AreFirst (map (line_in epoch) entries.now) }
     ensures value { result ≡ position (λ entry. is_line number (line_in epoch entry)) entries.now }
 {
     // A set has few ways, so that the first is worth a look of its own.
@@ -113,8 +114,13 @@ fn first_with(entries: &[Entry], epoch: u32, number: u32) -> Option<usize>
     }
     let mut way = 1;
     while way < entries.len() {
-        if entries[way].keeps(epoch, number) {
+        let entry = entries[way];
+        if entry.keeps(epoch, number) {
             return Some(way);
+        }
+        // After a way that keeps nothing none keeps a line.
+        if entry.is_empty(epoch) {
+            return None;
         }
         way += 1;
     }
@@ -218,6 +224,7 @@ impl PackedSets {
     #[inline(always)]
     pub fn find(&self, set: usize, number: u32) -> Option<usize>
         requires below { set < length self.now.table }
+        requires first { AreFirst (kept_at self.now.table set).places }
         ensures value { result ≡ way_of number (kept_at self.now.table set).places }
         ensures below { IfSome result (λ way. way < self.now.ways) }
     {
