@@ -108,19 +108,21 @@ fn first_with(entries: &[Entry], epoch: u32, number: u32) -> Option<usize>
     requires first { AreFirst (map (line_in epoch) entries.now) }
     ensures value { result ≡ position (λ entry. is_line number (line_in epoch entry)) entries.now }
 {
-    // A set has few ways, so that the first is worth a look of its own.
+    // A set has few ways, so that the first two are worth a look of their own.
     if entries.first()?.keeps(epoch, number) {
         return Some(0);
     }
-    let mut way = 1;
+    if entries.get(1)?.keeps(epoch, number) {
+        return Some(1);
+    }
+    // A set fills in order: where its third way is empty, no later one keeps a line.
+    if entries.get(2)?.is_empty(epoch) {
+        return None;
+    }
+    let mut way = 2;
     while way < entries.len() {
-        let entry = entries[way];
-        if entry.keeps(epoch, number) {
+        if entries[way].keeps(epoch, number) {
             return Some(way);
-        }
-        // After a way that keeps nothing none keeps a line.
-        if entry.is_empty(epoch) {
-            return None;
         }
         way += 1;
     }
