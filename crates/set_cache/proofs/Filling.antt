@@ -1,5 +1,5 @@
 -- Sets fill in the order of their ways, and none of these is emptied by itself.
-use Rattle.std.proofs.Common.{◌≡◌, ℕ, zero, suc, ◌+◌, ◌<◌, ◌≤◌, Bool, true, false, cond, ltb, List, [], map, length, get_or, set, Option, Some, None, is_some, replicate, refl, ap, sym, subst, ◌∙◌, arith, inl, inr, unwrap_or, get_or-set_same, get_or-set_other}
+use Rattle.std.proofs.Common.{◌≡◌, ◌≢◌, ℕ, zero, suc, ◌+◌, ◌<◌, ◌≤◌, Bool, true, false, cond, ltb, List, [], map, length, get_or, set, Option, Some, None, is_some, replicate, refl, ap, sym, subst, ◌∙◌, arith, inl, inr, unwrap_or, get_or-set_same, get_or-set_other}
 use Rattle.std.proofs.Math.ListN.{length-map}
 use Rattle.std.proofs.lemmas.List.{get_or_past, get_or-map}
 use Rattle.std.proofs.lemmas.List.Quantifiers.{position-Some}
@@ -9,6 +9,7 @@ use Rattle.std.proofs.lemmas.Bool.Decides.{nat_tests}
 use Rattle.std.specs.Prelude.{position, is_none}
 use Rattle.std.specs.List.{position_or_len}
 use Rattle.set_cache.specs.declared.KeptLine.{KeptLine}
+use Rattle.set_cache.specs.Cache.{is_line}
 use Rattle.set_cache.specs.Contents.{AreFirst}
 use Rattle.set_cache.proofs.Vectors.{position-map}
 
@@ -120,3 +121,25 @@ none_empty line entries d n first count kept =
     sym (position-map is_none line entries)
     ∙ none_passes is_none places None
     (λ k within. none_of (get_or places k None) (kept_before_way places first n last k (omega (arith, within, long, count))))
+
+-- a way that keeps nothing keeps no line
+nothing_kept : (number : ℕ) (o : Option KeptLine) → is_some o ≢ true → is_line number o ≡ false
+nothing_kept number None t = refl
+nothing_kept number (Some line) t = absurd (t refl)
+
+-- where a way keeps nothing, and none before it this line, none does
+pub none_after : {A : Type 0} (line : A → Option KeptLine) (entries : List A) (d : A) (number way : ℕ)
+    → AreFirst (map line entries) → way < length entries → is_none (line (get_or entries way d)) ≡ true
+    → ((k : ℕ) → k < way → is_line number (line (get_or entries k d)) ≡ false)
+    → position (λ entry. is_line number (line entry)) entries ≡ None
+none_after line entries d number way first within empty before =
+    none_passes (λ entry. is_line number (line entry)) entries d (λ k below. elim (cases_lt k way) [
+      | inl lt ↦ before k lt
+      | inr ge ↦ nothing_kept number (line (get_or entries k d)) (λ kept.
+          let at : (j : ℕ) → j < length entries → get_or (map line entries) j None ≡ line (get_or entries j d) =
+          λ j under. get_or-map line entries j d None under in
+          let here : is_some (line (get_or entries way d)) ≡ true =
+          ap is_some (sym (at way within))
+          ∙ kept_before_way (map line entries) first k (ap is_some (at k below) ∙ kept) way (omega (arith, ge)) in
+          false≢true (sym (none_of (line (get_or entries way d)) here) ∙ empty))
+    ])

@@ -102,16 +102,24 @@ impl Entry {
     }
 }
 
-/// The first of these entries that keeps a line.
+/// The first of these entries that keeps a line, of a set that fills in order.
 #[inline(always)]
 fn first_with(entries: &[Entry], epoch: u32, number: u32) -> Option<usize>
+    requires first { AreFirst (map (line_in epoch) entries.now) }
     ensures value { result ≡ position (λ entry. is_line number (line_in epoch entry)) entries.now }
 {
-    // A set has few ways, so that the first is worth a look of its own.
+    // A set has few ways, so that the first two are worth a look of their own.
     if entries.first()?.keeps(epoch, number) {
         return Some(0);
     }
-    let mut way = 1;
+    if entries.get(1)?.keeps(epoch, number) {
+        return Some(1);
+    }
+    // A set fills in order: where its third way is empty, no later one keeps a line.
+    if entries.get(2)?.is_empty(epoch) {
+        return None;
+    }
+    let mut way = 2;
     while way < entries.len() {
         if entries[way].keeps(epoch, number) {
             return Some(way);
@@ -218,6 +226,7 @@ impl PackedSets {
     #[inline(always)]
     pub fn find(&self, set: usize, number: u32) -> Option<usize>
         requires below { set < length self.now.table }
+        requires first { AreFirst (kept_at self.now.table set).places }
         ensures value { result ≡ way_of number (kept_at self.now.table set).places }
         ensures below { IfSome result (λ way. way < self.now.ways) }
     {
