@@ -1,13 +1,16 @@
 // The charge of an operation's footprint, line by line.
-ghost use Rattle.std.specs.Prelude.{◌≡◌, ◌<◌, ◌≤◌, ◌*◌, map, IfSome};
+ghost use Rattle.std.specs.Prelude.{◌≡◌, ◌<◌, ◌≤◌, ◌+◌, ◌*◌, ◌^◌, map, IfSome};
 ghost use Rattle.tp_base.specs.Ranges.{IsFrameNo};
 ghost use Rattle.cycle_cost.specs.Ranges.{most_access, most_footprint, most_operation};
-ghost use Rattle.kernel_clone.specs.Footprints.{IsLayout, own_touches, zeroed_touches, entry_touches};
+ghost use Rattle.kernel_clone.specs.Footprints.{IsLayout, run_of, shared_touches, own_touches, zeroed_touches, entry_touches};
 ghost use Rattle.kernel_clone.specs.Models.{layout_model, work_model, IsWork};
 ghost use Rattle.mem_system.specs.Contents.{MakesTouch, MakesTouches};
 ghost use Rattle.cache_sharing.specs.Operations.{touch_by, touch_of_line, footprint, operation};
 
-use kernel_clone::{CloneLayout, Kind, Work, entry_line, own_count, own_touch};
+use kernel_clone::{
+    CloneLayout, Kind, STACK_LINES, TEXT_LINES, Work, data_count, data_start, entry_line,
+    loaded_line, shared_count, stack_start, text_start,
+};
 use mem_system::MemSystem;
 use set_cache::Policy;
 use tp_base::{FrameNo, Line};
@@ -49,20 +52,35 @@ pub(crate) fn charge_footprint<P: Policy>(
 }
 
 /// Touches the lines of the operation itself, whatever it wrote. Answers the cycles.
-#[inline(always)]
-fn charge_own<P: Policy>(system: &mut MemSystem<P>, layout: &CloneLayout, op: u8) -> u32
+pub(crate) fn charge_own<P: Policy>(system: &mut MemSystem<P>, layout: &CloneLayout, op: u8) -> u32
     requires layout { IsLayout (layout_model layout.now) }
     ensures makes { MakesTouches P.rule P.stands_for
         (map touch_of_line (own_touches (layout_model layout.now) op)) result system.old system.new }
     ensures buffer { system.new.core.tlb ≡ system.old.core.tlb }
     ensures few { result ≤ most_access * 9 }
 {
-    let mut cycles = 0;
-    for place in 0..own_count(op) {
-        let (line, kind) = own_touch(layout, op, place);
-        cycles += touch(system, line, kind);
+    let text = touch_run(system, Kind::Fetch, text_start(layout, op), TEXT_LINES);
+    let stack = touch_run(system, Kind::Store, stack_start(layout), STACK_LINES);
+    let stored = touch_run(system, Kind::Store, data_start(layout, op), data_count(op));
+    let loaded = charge_loaded(system, layout, op);
+    text + stack + stored + loaded
+}
+
+/// Loads the operation's shared line, if it has one. Answers the cycles.
+#[inline(always)]
+fn charge_loaded<P: Policy>(system: &mut MemSystem<P>, layout: &CloneLayout, op: u8) -> u32
+    requires layout { IsLayout (layout_model layout.now) }
+    ensures makes { MakesTouches P.rule P.stands_for
+        (map touch_of_line (shared_touches (layout_model layout.now) op)) result system.old system.new }
+    ensures buffer { system.new.core.tlb ≡ system.old.core.tlb }
+    ensures few { result ≤ most_access }
+{
+    let count = shared_count(op);
+    // To find the line takes a division.
+    if count == 0 {
+        return 0;
     }
-    cycles
+    touch_run(system, Kind::Load, loaded_line(layout, op), count)
 }
 
 /// Stores each line of the frame that was zeroed, if one was. Answers the cycles.
@@ -83,11 +101,7 @@ fn charge_zeroed<P: Policy>(
         return 0;
     };
     let first = layout.line_of(FrameNo::new(frame), 0);
-    let mut cycles = 0;
-    for place in 0..layout.lines_in_frame() {
-        cycles += system.access(Line::new(first.number() + place), true);
-    }
-    cycles
+    touch_run(system, Kind::Store, first, layout.lines_in_frame())
 }
 
 /// Stores the line of each entry that was written. Answers the cycles.
@@ -104,6 +118,30 @@ fn charge_entries<P: Policy>(system: &mut MemSystem<P>, layout: &CloneLayout, wo
     let mut cycles = 0;
     for place in 0..work.count {
         cycles += system.access(entry_line(layout, work, place), true);
+    }
+    cycles
+}
+
+/// Touches lines side by side, ascending, in one way. Answers the cycles.
+///
+/// The way is known where this is called, so that no line asks for it.
+#[inline(always)]
+pub(crate) fn touch_run<P: Policy>(
+    system: &mut MemSystem<P>,
+    kind: Kind,
+    first: Line,
+    count: u32,
+) -> u32
+    requires few { count ≤ 256 }
+    requires room { first + count ≤ 2 ^ 23 }
+    ensures makes { MakesTouches P.rule P.stands_for (map touch_of_line (run_of kind first count))
+        result system.old system.new }
+    ensures buffer { system.new.core.tlb ≡ system.old.core.tlb }
+    ensures few { result ≤ most_access * count }
+{
+    let mut cycles = 0;
+    for place in 0..count {
+        cycles += touch(system, Line::new(first.number() + place), kind);
     }
     cycles
 }

@@ -4,16 +4,16 @@ ghost use Rattle.cycle_cost.specs.Ranges.{most_footprint, most_operation, most_p
 ghost use Rattle.std.specs.Option.{option_copied};
 ghost use Rattle.phys_mem.specs.Mem.{Mem};
 ghost use Rattle.kernel_clone.specs.Footprints.{IsLayout};
-ghost use Rattle.kernel_clone.specs.Models.{layout_model, work_model, IsWork};
+ghost use Rattle.kernel_clone.specs.Models.{layout_model};
 ghost use Rattle.mem_system.specs.Cost.{Caches, EmptyTlb, Flush, touched_all};
 ghost use Rattle.mem_system.specs.Contents.{SystemStands, MakesTouch, MakesTouches, hierarchy_of};
 ghost use Rattle.mem_system.specs.Translation.{KeepsLeaves};
-ghost use Rattle.cache_sharing.specs.Operations.{plain, shared_region, prefetch};
+ghost use Rattle.cache_sharing.specs.Operations.{shared_region, prefetch};
 ghost use Rattle.cache_sharing.specs.Operations as spec;
 ghost use Rattle.domain_switch.specs.Switch.{IsCloneOn, IsInTime, IsSwitched, layout_if};
 
-use crate::charging::{charge, charge_footprint};
-use kernel_clone::{CloneLayout, ENTER, LEAVE, Work};
+use crate::charging::{charge_own, touch_run};
+use kernel_clone::{CloneLayout, ENTER, Kind, LEAVE};
 use mem_system::MemSystem;
 use set_cache::Policy;
 
@@ -158,7 +158,7 @@ pub fn enter<P: Policy>(system: &mut MemSystem<P>, layout: &CloneLayout) -> u32
     ensures buffer { system.new.core.tlb ≡ system.old.core.tlb }
     ensures few { result ≤ most_footprint }
 {
-    charge_footprint(system, layout, &work_of(ENTER))
+    charge_own(system, layout, ENTER)
 }
 
 /// Charges that a clone leaves. Answers the cycles.
@@ -169,7 +169,8 @@ pub fn leave<P: Policy>(system: &mut MemSystem<P>, layout: &CloneLayout) -> u32
     ensures buffer { system.new.core.tlb ≡ system.old.core.tlb }
     ensures few { result ≤ most_operation }
 {
-    charge(system, layout, &work_of(LEAVE))
+    let trap = system.costs().trap;
+    trap + charge_own(system, layout, LEAVE)
 }
 
 // Charges that a clone leaves, if there is one. Answers the cycles.
@@ -225,22 +226,15 @@ fn prefetch<P: Policy>(system: &mut MemSystem<P>, layout: &CloneLayout) -> u32
         result system.old system.new }
     ensures few { result ≤ most_prefetch }
 {
+    let shared = layout.shared_lines();
+    let lines = layout.lines_in_frame();
     let mut cycles = 0;
-    for place in 0..layout.shared / layout.line {
-        cycles += system.access(layout.shared_line(place), false);
+    let mut place = 0;
+    while place < shared {
+        // In each frame they stand side by side.
+        let count = lines.min(shared - place);
+        cycles += touch_run(system, Kind::Load, layout.shared_line(place), count);
+        place += count;
     }
     cycles
-}
-
-/// The work of an operation that writes nothing beside it.
-fn work_of(op: u8) -> Work
-    ensures work { work_model result ≡ plain op }
-    ensures is { IsWork result }
-{
-    Work {
-        op,
-        zeroed: None,
-        count: 0,
-        entries: [0; 64],
-    }
 }

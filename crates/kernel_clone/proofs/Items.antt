@@ -130,54 +130,34 @@ past_zeroed l w i n is le = get_right (zeroed_touches l w.zeroed) (entry_touches
 
 -- ---- the items of the operation itself
 
-pub text_item : (l : Layout) (op i : ℕ) → i < 4
-    → slice_get (own_touches l op) i ≡ Some (touch_of Fetch (text_line l ((4 * op + i) % (2 * lines_in_frame l))))
-unfolding own_touches text_touches
-text_item l op i lt =
-    get_left (text_touches l op) _ i _ (get_range (λ k. touch_of Fetch (text_line l ((4 * op + k) % (2 * lines_in_frame l)))) 4 i lt)
+pub text_item : (l : Layout) (op i : ℕ) (t : LineTouch) → slice_get (text_touches l op) i ≡ Some t → slice_get (own_touches l op) i ≡ Some t
+unfolding own_touches
+text_item l op i t is = get_left (text_touches l op) _ i t is
 
 past_text : (l : Layout) (op i : ℕ) → 4 ≤ i
     → slice_get (own_touches l op) i ≡ slice_get (stack_touches l ++ (data_touches l op ++ shared_touches l op)) (i - 4)
 unfolding own_touches
 past_text l op i le = get_right (text_touches l op) _ 4 i (length-text l op) le
 
-pub stack_item : (l : Layout) (op i : ℕ) → 4 ≤ i → i - 4 < 2
-    → slice_get (own_touches l op) i ≡ Some (touch_of Store (line_of l l.stack (i - 4)))
-unfolding stack_touches
-stack_item l op i le lt =
-    past_text l op i le ∙ get_left (stack_touches l) _ (i - 4) _ (get_range (λ k. touch_of Store (line_of l l.stack k)) 2 (i - 4) lt)
+pub stack_item : (l : Layout) (op i : ℕ) (t : LineTouch) → 4 ≤ i → slice_get (stack_touches l) (i - 4) ≡ Some t → slice_get (own_touches l op) i ≡ Some t
+stack_item l op i t le is = past_text l op i le ∙ get_left (stack_touches l) _ (i - 4) t is
 
 past_stack : (l : Layout) (op i : ℕ) → 4 ≤ i → 2 ≤ i - 4
     → slice_get (own_touches l op) i ≡ slice_get (data_touches l op ++ shared_touches l op) (i - 4 - 2)
 past_stack l op i le two = past_text l op i le ∙ get_right (stack_touches l) _ 2 (i - 4) (length-stack l) two
 
-pub data_item : (l : Layout) (op i d : ℕ) → d ≡ data_count op → 4 ≤ i → 2 ≤ i - 4 → i - 4 - 2 < d
-    → slice_get (own_touches l op) i ≡ Some (touch_of Store (line_of l l.data_frame ((2 * op + (i - 4 - 2)) % lines_in_frame l)))
-unfolding data_touches
-data_item l op i d is le two lt =
-    past_stack l op i le two ∙ get_left (data_touches l op) _ (i - 4 - 2) _
-    (get_range (λ k. touch_of Store (line_of l l.data_frame ((2 * op + k) % lines_in_frame l))) (data_count op) (i - 4 - 2)
-    (subst (λ (n : ℕ). i - 4 - 2 < n) is lt))
+pub data_item : (l : Layout) (op i : ℕ) (t : LineTouch) → 4 ≤ i → 2 ≤ i - 4 → slice_get (data_touches l op) (i - 4 - 2) ≡ Some t
+    → slice_get (own_touches l op) i ≡ Some t
+data_item l op i t le two is = past_stack l op i le two ∙ get_left (data_touches l op) _ (i - 4 - 2) t is
 
 past_data : (l : Layout) (op i d : ℕ) → d ≡ data_count op → 4 ≤ i → 2 ≤ i - 4 → d ≤ i - 4 - 2
     → slice_get (own_touches l op) i ≡ slice_get (shared_touches l op) (i - 4 - 2 - d)
 past_data l op i d is le two more =
     past_stack l op i le two ∙ get_right (data_touches l op) _ d (i - 4 - 2) (length-data l op ∙ sym is) more
 
--- the one shared line, where there is one
-shared_one : (l : Layout) (op : ℕ) (k : ℕ) → k < shared_count op
-    → slice_get (shared_touches l op) k ≡ Some (touch_of Load (shared_line l (op % shared_lines l)))
-unfolding shared_touches
-shared_one l op k =
-    elim (is_of_switch op) as (λ b. k < (if b then 0 else 1) → slice_get {X = LineTouch} (if b then [] else touch_of Load (shared_line l (op % shared_lines l)) ∷ []) k ≡ Some (touch_of Load (shared_line l (op % shared_lines l)))) [
-      | true ↦ λ lt. absurd (omega (arith, lt))
-      | false ↦ λ lt. let first : k ≡ 0 = omega (arith, lt) in rw first refl
-    ]
-
-pub shared_item : (l : Layout) (op i d : ℕ) → d ≡ data_count op → 4 ≤ i → 2 ≤ i - 4 → d ≤ i - 4 - 2 → i < own_count op
-    → slice_get (own_touches l op) i ≡ Some (touch_of Load (shared_line l (op % shared_lines l)))
-shared_item l op i d is le two more lt =
-    past_data l op i d is le two more ∙ shared_one l op (i - 4 - 2 - d) (omega (arith, is, le, two, more, lt))
+pub shared_item : (l : Layout) (op i d : ℕ) (t : LineTouch) → d ≡ data_count op → 4 ≤ i → 2 ≤ i - 4 → d ≤ i - 4 - 2
+    → slice_get (shared_touches l op) (i - 4 - 2 - d) ≡ Some t → slice_get (own_touches l op) i ≡ Some t
+shared_item l op i d t is le two more at = past_data l op i d is le two more ∙ at
 
 -- ---- the items of the whole
 

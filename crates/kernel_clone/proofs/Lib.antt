@@ -3,3 +3,4 @@ pub mod Totals
 pub mod LineLaws
 pub mod PlaceLaws
 pub mod Powers
+pub mod Runs

@@ -75,11 +75,11 @@ entry_frame l address is = div-div-eq-div-mul address l.line (lines_in_frame l) 
 
 -- ---- the text
 
-text_line-below : (l : Layout) (j : ℕ) → j < lines_in_frame l → text_line l j ≡ line_of l l.text j
+pub text_line-below : (l : Layout) (j : ℕ) → j < lines_in_frame l → text_line l j ≡ line_of l l.text j
 text_line-below l j lt =
     ap (λ (b : Bool). if b then line_of l l.text j else line_of l l.more_text (j % lines_in_frame l)) (lt-ltb j (lines_in_frame l) lt)
 
-text_line-past : (l : Layout) (j : ℕ) → lines_in_frame l ≤ j → text_line l j ≡ line_of l l.more_text (j % lines_in_frame l)
+pub text_line-past : (l : Layout) (j : ℕ) → lines_in_frame l ≤ j → text_line l j ≡ line_of l l.more_text (j % lines_in_frame l)
 text_line-past l j le =
     ap (λ (b : Bool). if b then line_of l l.text j else line_of l l.more_text (j % lines_in_frame l)) (le-ltb j (lines_in_frame l) le)
 

@@ -11,7 +11,7 @@ use Rattle.kernel_clone.proofs.LineLaws.{line_cases}
 -- ---- a line's size
 
 -- what holds of each size that a line may have
-each_line : (P : ℕ → Type 0) → P 16 → P 32 → P 64 → P 128 → (l : Layout) → IsLayout l → P l.line
+pub each_line : (P : ℕ → Type 0) → P 16 → P 32 → P 64 → P 128 → (l : Layout) → IsLayout l → P l.line
 each_line P a b c d l is = elim (line_cases l is) [
   | inl e ↦ subst P (sym e) a
   | inr (inl e) ↦ subst P (sym e) b

@@ -86,6 +86,10 @@ shared_line l i = line_of l (i / lines_in_frame l * l.colours) (i % lines_in_fra
 abbrev pub touch_of : Kind → ℕ → LineTouch
 touch_of kind line = record { line = line; kind = kind }
 
+-- lines side by side, ascending
+unfoldable pub run_of : Kind → ℕ → ℕ → List LineTouch
+run_of kind first count = map (λ i. touch_of kind (first + i)) (range_with_len 0 count)
+
 -- ---- the footprint, in its order
 
 unfoldable pub text_touches : Layout → ℕ → List LineTouch

@@ -1,7 +1,7 @@
 // The touches of an operation, one by one, with no list in memory.
-ghost use Rattle.std.specs.Prelude.{◌≡◌, ◌<◌, ◌≤◌, length, slice_get, Some};
-ghost use Rattle.kernel_clone.specs.Footprints.{IsLayout, touch_of, is_of_switch, data_count, own_touches, written_touches, entry_touches};
-ghost use Rattle.kernel_clone.specs.declared.Kind.TheVariants.{Store};
+ghost use Rattle.std.specs.Prelude.{◌≡◌, ◌+◌, ◌^◌, ◌<◌, ◌≤◌, length, slice_get, Some};
+ghost use Rattle.kernel_clone.specs.Footprints.{IsLayout, touch_of, run_of, is_of_switch, data_count, text_touches, stack_touches, data_touches, shared_touches, own_touches, written_touches, entry_touches};
+ghost use Rattle.kernel_clone.specs.declared.Kind.TheVariants.{Fetch, Load, Store};
 ghost use Rattle.kernel_clone.specs.Footprints as spec;
 ghost use Rattle.kernel_clone.specs.Models.{layout_model, work_model, IsWork, IsAsked};
 ghost use Rattle.kernel_clone.specs.Laws.{own_count, shared_count};
@@ -10,11 +10,13 @@ use crate::{CloneLayout, ENTER, Kind, LEAVE, Work};
 use std::marker::Model;
 use tp_base::{FrameNo, Line};
 
-// How many lines of each an operation touches.
-const TEXT: u32 = 4;
+/// How many lines of the text an operation fetches.
+pub const TEXT_LINES: u32 = 4;
 
-const STACK: u32 = 2;
+/// How many lines of the stack an operation stores.
+pub const STACK_LINES: u32 = 2;
 
+// How many lines of the data an operation stores, and of the shared region it loads.
 const DATA: u32 = 2;
 
 const SHARED: u32 = 1;
@@ -46,7 +48,8 @@ impl<'a> Model for Touches<'a> {
 }
 
 /// How many lines of the data an operation stores.
-fn data_count(op: u8) -> u32
+#[inline(always)]
+pub fn data_count(op: u8) -> u32
     ensures value { result ≡ data_count op }
     ensures few { result ≤ 2 }
 {
@@ -58,7 +61,8 @@ fn data_count(op: u8) -> u32
 }
 
 /// How many lines of the shared region an operation loads.
-fn shared_count(op: u8) -> u32
+#[inline(always)]
+pub fn shared_count(op: u8) -> u32
     ensures value { result ≡ shared_count op }
     ensures few { result ≤ 1 }
 {
@@ -75,33 +79,70 @@ pub fn own_count(op: u8) -> u32
     ensures value { result ≡ own_count op }
     ensures few { result ≤ 9 }
 {
-    TEXT + STACK + data_count(op) + shared_count(op)
+    TEXT_LINES + STACK_LINES + data_count(op) + shared_count(op)
 }
 
 /// One of them, by its place in their order: which line is touched, and how.
-#[inline(always)]
 pub fn own_touch(layout: &CloneLayout, op: u8, place: u32) -> (Line, Kind)
     requires layout { IsLayout (layout_model layout.now) }
     requires below { place < own_count op }
     ensures touch { slice_get (own_touches (layout_model layout.now) op) place
         ≡ Some (touch_of result.1 result.0) }
 {
-    let op_place = u32::from(op);
-    if place < TEXT {
-        let line = layout.text_line(layout.place_in_text(4 * op_place + place));
-        return (line, Kind::Fetch);
+    if place < TEXT_LINES {
+        let first = text_start(layout, op);
+        return (Line::new(first.number() + place), Kind::Fetch);
     }
-    let place = place - TEXT;
-    if place < STACK {
-        return (layout.line_of(layout.stack, place), Kind::Store);
+    let place = place - TEXT_LINES;
+    if place < STACK_LINES {
+        let first = stack_start(layout);
+        return (Line::new(first.number() + place), Kind::Store);
     }
-    let place = place - STACK;
+    let place = place - STACK_LINES;
     if place < data_count(op) {
-        let line = layout.line_of(layout.data, layout.place_in_frame(2 * op_place + place));
-        return (line, Kind::Store);
+        let first = data_start(layout, op);
+        return (Line::new(first.number() + place), Kind::Store);
     }
-    let line = layout.shared_line(op_place % layout.shared_lines());
-    (line, Kind::Load)
+    (loaded_line(layout, op), Kind::Load)
+}
+
+/// The first of the text's lines that an operation fetches, 4 side by side.
+#[inline(always)]
+pub fn text_start(layout: &CloneLayout, op: u8) -> Line
+    requires layout { IsLayout (layout_model layout.now) }
+    ensures touches { text_touches (layout_model layout.now) op ≡ run_of Fetch result 4 }
+    ensures room { result + 4 ≤ 2 ^ 23 }
+{
+    layout.text_line(layout.place_in_text(4 * u32::from(op)))
+}
+
+/// The first of the stack's lines that an operation stores, 2 side by side.
+#[inline(always)]
+pub fn stack_start(layout: &CloneLayout) -> Line
+    requires layout { IsLayout (layout_model layout.now) }
+    ensures touches { stack_touches (layout_model layout.now) ≡ run_of Store result 2 }
+    ensures room { result + 2 ≤ 2 ^ 23 }
+{
+    layout.line_of(layout.stack, 0)
+}
+
+/// The first of the data's lines that an operation stores, side by side.
+#[inline(always)]
+pub fn data_start(layout: &CloneLayout, op: u8) -> Line
+    requires layout { IsLayout (layout_model layout.now) }
+    ensures touches { data_touches (layout_model layout.now) op ≡ run_of Store result (data_count op) }
+    ensures room { result + 2 ≤ 2 ^ 23 }
+{
+    layout.line_of(layout.data, layout.place_in_frame(2 * u32::from(op)))
+}
+
+/// The shared line that an operation loads, unless it is of a switch.
+#[inline(always)]
+pub fn loaded_line(layout: &CloneLayout, op: u8) -> Line
+    requires layout { IsLayout (layout_model layout.now) }
+    ensures touches { shared_touches (layout_model layout.now) op ≡ run_of Load result (shared_count op) }
+{
+    layout.shared_line(u32::from(op) % layout.shared_lines())
 }
 
 /// How many lines the work stored.
@@ -118,6 +159,7 @@ fn written_count(layout: &CloneLayout, work: &Work) -> u32
 }
 
 /// Whether a domain leaves or enters.
+#[inline(always)]
 fn is_of_switch(op: u8) -> bool
     ensures value { result ≡ is_of_switch op }
 {

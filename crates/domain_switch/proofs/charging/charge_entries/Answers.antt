@@ -1,5 +1,5 @@
 -- One store more, and all of them.
-use Rattle.std.proofs.Common.{◌≡◌, ◌≤◌, ◌∙◌, List, refl, arith, length}
+use Rattle.std.proofs.Common.{◌≤◌, ◌∙◌, List, refl, arith, length}
 use Rattle.std.proofs.lemmas.List.{length-take}
 use Rattle.kernel_clone.specs.Footprints.{LineTouch, entry_touches, touch_of}
 use Rattle.kernel_clone.specs.declared.Kind.TheVariants.{Store}

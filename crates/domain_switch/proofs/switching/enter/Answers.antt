@@ -1,8 +1,8 @@
-use Rattle.kernel_clone.specs.Models.{layout_model, work_model}
+use Rattle.kernel_clone.specs.Models.{layout_model}
 use Rattle.domain_switch.proofs.Charges.{enters}
 use Rattle.domain_switch.proofs.switching.enter.Goals as goal
 
 pub returns-clause-makes : goal.returns-clause-makes
 returns-clause-makes g c =
-    enters g.P.Policy.rule g.P.Policy.stands_for (layout_model c.args.layout.now) (work_model c.work_of.result)
-    c.charge_footprint.result c.args.system.now c.charge_footprint.new.system c.work_of.ensures.work c.charge_footprint.ensures.makes
+    enters g.P.Policy.rule g.P.Policy.stands_for (layout_model c.args.layout.now)
+    c.charge_own.result c.args.system.now c.charge_own.new.system c.charge_own.ensures.makes

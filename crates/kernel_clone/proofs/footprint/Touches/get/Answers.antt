@@ -1,4 +1,4 @@
-use Rattle.std.proofs.Common.{◌≡◌, ◌∙◌, ◌<◌, List, length, subst, sym}
+use Rattle.std.proofs.Common.{◌∙◌, ◌<◌, List, length, subst, sym}
 use Rattle.kernel_clone.specs.Footprints.{LineTouch}
 use Rattle.kernel_clone.proofs.Items.{own_item, past_own, written_below}
 use Rattle.kernel_clone.proofs.footprint.Touches.get.Goals as goal
