@@ -196,11 +196,7 @@ fn prefetch_if<P: Policy>(system: &mut MemSystem<P>, layout: &CloneLayout, wante
         result system.old system.new }
     ensures few { result ≤ most_prefetch }
 {
-    if wanted {
-        prefetch(system, layout)
-    } else {
-        0
-    }
+    if wanted { prefetch(system, layout) } else { 0 }
 }
 
 // Makes all on-core state fresh, or the translation buffer alone, at no cost.

@@ -32,9 +32,11 @@ module _ (d end : ℕ) (memory between memory' : Contents) (system middle system
       → OpensAlong d end memory system old first memory' system' new later
   along_more below so_far becomes off i w is =
       let (x, at, same) = so_far off i w is in
-      let early : clock_of 0 x < end = subst (λ (n : ℕ). n < end) at.machine.time below in
-      (step_among (guards_of off i) i d end x, becomes off i x at,
-      sym (open_step i (separated i at.runnable) (guards_of off i) d end x early) ∙ same)
+      let early : clock_of 0 x < end = subst (λ (n : ℕ). n < end) at.machine.time below in (
+        step_among (guards_of off i) i d end x,
+        becomes off i x at,
+        sym (open_step i (separated i at.runnable) (guards_of off i) d end x early) ∙ same,
+      )
 
 module _ (d end : ℕ) (memory memory' : Contents) (system system' : SystemContents AnyPolicy) (old new : List Domain)
     (first clock : ℕ) where

@@ -24,19 +24,23 @@ loop-d-preserved c =
       done =
           each_set (λ e x. slice_get now e ≡ Some x)
           (λ e x. e < d + 1 → (y : Domain) × (slice_get old e ≡ Some y) × HasClone layout y x) now d _ within
-          (λ below. (z, inv.rest d z got (omega arith), record {
-            layout_is = refl;
-            status = refl;
-            threads = refl;
-            caps = refl;
-            interrupts = refl;
-            map = refl;
-            pool = refl;
-            retired = refl;
-            readings = refl;
-            replies = refl;
-            printed = refl;
-          }))
+          (λ below. (
+            z,
+            inv.rest d z got (omega arith),
+            record {
+              layout_is = refl;
+              status = refl;
+              threads = refl;
+              caps = refl;
+              interrupts = refl;
+              map = refl;
+              pool = refl;
+              retired = refl;
+              readings = refl;
+              replies = refl;
+              printed = refl;
+            },
+          ))
           (λ e x apart was below. inv.done e x was (omega (arith, below, apart))) (λ e x was. was);
       rest =
           each_set (λ e x. slice_get now e ≡ Some x) (λ e x. d + 1 ≤ e → slice_get old e ≡ Some x) now d _ within
