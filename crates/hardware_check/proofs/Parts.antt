@@ -10,7 +10,7 @@ use Rattle.std.proofs.Math.Pow.{pow_mono}
 use Rattle.cycle_cost.specs.Costs.{IsCost, AreCosts}
 use Rattle.image_text.specs.declared.refusal.Refusal.{Refusal}
 use Rattle.image_text.specs.Record.{Raw, RawCache}
-use Rattle.hardware_check.specs.declared.hardware.Policy.TheVariants.{Lru, Fifo, Plru}
+use Rattle.hardware_check.specs.declared.hardware.Policy.TheVariants.{Lru, Fifo, Plru, Nmru}
 use Rattle.hardware_check.specs.Cases.{first_in, refusal, outside, range_case}
 use Rattle.hardware_check.specs.Hardware.{IsNatural, natural_of, policy_of, shape_of, costs_of, hardware_of, colours_of, IsSize, IsCache, IsSmallShape}
 use Rattle.hardware_check.specs.Rules.{k3, k4, k5, k6, k6_cost, costs_in, size_case, cache_case, ways_case, is_size, is_policy, is_uneven_tree, is_region}
@@ -82,10 +82,11 @@ size_most low high x h = most_inside low high x (no (outside (pos low) (pos high
 
 -- ---- caches
 
-named_tree : (a b : Bool) → (if a then Fifo else if b then Plru else Lru) ≡ Plru → b ≡ true
-named_tree true b e = cc
-named_tree false true e = refl
-named_tree false false e = cc
+named_tree : (a b c : Bool) → (if a then Fifo else if b then Plru else if c then Nmru else Lru) ≡ Plru → b ≡ true
+named_tree true b c e = cc
+named_tree false true c e = refl
+named_tree false false true e = cc
+named_tree false false false e = cc
 
 even : (a b : Bool) → (a && not b) ≡ false → a ≡ true → b ≡ true
 even true true h e = refl
@@ -106,7 +107,7 @@ ways_sound part c n =
     let tree = bytes_eq c.policy (codes "plru") in
     record {
       range = inside 1 16 c.ways (if_first (outside (pos 1) (pos 16) c.ways) (at 2) later n);
-      tree = λ e. even tree (is_power_of_two (natural_of c.ways)) uneven (named_tree (bytes_eq c.policy (codes "fifo")) tree e);
+      tree = λ e. even tree (is_power_of_two (natural_of c.ways)) uneven (named_tree (bytes_eq c.policy (codes "fifo")) tree (bytes_eq c.policy (codes "nmru")) e);
     }
 
 cache_sound : (part most : ℕ) (c : RawCache) → cache_case part most c ≡ None → IsCache most (shape_of c)

@@ -5,7 +5,7 @@ use Rattle.std.specs.Int.{is_power_of_two}
 use Rattle.cycle_cost.specs.Costs.{CostTable, AreCosts}
 use Rattle.image_text.specs.Record.{Raw, RawCache, RawCosts}
 use Rattle.hardware_check.specs.declared.hardware.Policy.{Policy}
-use Rattle.hardware_check.specs.declared.hardware.Policy.TheVariants.{Lru, Fifo, Plru}
+use Rattle.hardware_check.specs.declared.hardware.Policy.TheVariants.{Lru, Fifo, Plru, Nmru}
 
 -- a cache, or the translation buffer
 pub record CacheShape : Type 0 where
@@ -50,7 +50,11 @@ IsNatural (negsuc n) = ⊥
 
 -- a text that is no policy's name stands for least recently used
 abbrev pub policy_of : List ℕ → Policy
-policy_of s = if bytes_eq s (codes "fifo") then Fifo else if bytes_eq s (codes "plru") then Plru else Lru
+policy_of s =
+    if bytes_eq s (codes "fifo") then Fifo
+    else if bytes_eq s (codes "plru") then Plru
+    else if bytes_eq s (codes "nmru") then Nmru
+    else Lru
 
 unfoldable pub shape_of : RawCache → CacheShape
 shape_of c = record { sets = natural_of c.sets; ways = natural_of c.ways; policy = policy_of c.policy }

@@ -17,7 +17,7 @@ abbrev pub size_case : ℕ → ℕ → ℕ → ℤ → Option Refusal
 size_case part low high x = if is_size low high x then None else Some (refusal 3 (pos part) x (pos 1))
 
 abbrev pub is_policy : List ℕ → Bool
-is_policy s = bytes_eq s (codes "lru") || (bytes_eq s (codes "fifo") || bytes_eq s (codes "plru"))
+is_policy s = bytes_eq s (codes "lru") || (bytes_eq s (codes "fifo") || (bytes_eq s (codes "plru") || bytes_eq s (codes "nmru")))
 
 -- the tree policy halves the ways of a set
 abbrev pub is_uneven_tree : RawCache → Bool

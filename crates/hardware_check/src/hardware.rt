@@ -12,6 +12,8 @@ pub enum Policy {
     Fifo,
     /// That to which a binary tree points; the ways are a power of two.
     Plru,
+    /// The least without a mark, which each gets as it is used, until all have one.
+    Nmru,
 }
 
 /// A cache, or the translation buffer, in the ranges of an image that breaks no

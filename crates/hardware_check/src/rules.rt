@@ -53,6 +53,8 @@ fn policy_in(name: &str) -> Option<Policy>
         Some(Policy::Fifo)
     } else if name == "plru" {
         Some(Policy::Plru)
+    } else if name == "nmru" {
+        Some(Policy::Nmru)
     } else if name == "lru" {
         Some(Policy::Lru)
     } else {

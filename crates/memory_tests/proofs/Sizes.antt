@@ -1,7 +1,7 @@
 -- The sizes of the tests' hierarchies.
 use Rattle.std.proofs.Common.{arith, ◌≡◌, ◌∙◌, refl, ℕ, ◌*◌, ◌^◌, ◌<◌}
 use Rattle.repl_policy.specs.declared.AnyPolicy.{AnyPolicy}
-use Rattle.repl_policy.specs.declared.AnyPolicy.TheVariants.{Lru, Fifo, TreePlru}
+use Rattle.repl_policy.specs.declared.AnyPolicy.TheVariants.{Lru, Fifo, TreePlru, Nmru}
 use Rattle.repl_policy.specs.Members.{any_takes}
 use Rattle.mem_system.specs.declared.geometry.CacheGeometry.{CacheGeometry}
 use Rattle.mem_system.specs.Geometry.{IsCache}
@@ -10,11 +10,13 @@ pub takes_two : (policy : AnyPolicy) → any_takes policy 2
 takes_two Lru = (omega arith, omega arith)
 takes_two Fifo = (omega arith, omega arith)
 takes_two TreePlru = (omega arith, omega arith, refl)
+takes_two Nmru = (omega arith, omega arith)
 
 pub takes_four : (policy : AnyPolicy) → any_takes policy 4
 takes_four Lru = (omega arith, omega arith)
 takes_four Fifo = (omega arith, omega arith)
 takes_four TreePlru = (omega arith, omega arith, refl)
+takes_four Nmru = (omega arith, omega arith)
 
 -- a cache of 2 ^ k sets
 pub is_cache : (g : CacheGeometry AnyPolicy) (policy : AnyPolicy) (sets ways k : ℕ) → g.policy ≡ policy → g.sets ≡ sets → g.ways ≡ ways

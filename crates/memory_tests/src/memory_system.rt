@@ -295,5 +295,6 @@ fn it_does_as_plain_lists_do(rt: HostRuntime) -> Result<(), Fail> {
     let mem = memory_with(rt.alloc(), words_of_tables())?;
     does_as_plain_lists(&rt, rt.alloc(), &mem, AnyPolicy::Lru)?;
     does_as_plain_lists(&rt, rt.alloc(), &mem, AnyPolicy::Fifo)?;
-    does_as_plain_lists(&rt, rt.alloc(), &mem, AnyPolicy::TreePlru)
+    does_as_plain_lists(&rt, rt.alloc(), &mem, AnyPolicy::TreePlru)?;
+    does_as_plain_lists(&rt, rt.alloc(), &mem, AnyPolicy::Nmru)
 }

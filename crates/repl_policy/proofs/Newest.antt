@@ -40,7 +40,7 @@ neither None true n e = (refl, refl)
 neither None false n e = absurd (let x : Some n ≡ None = e in cc)
 neither (Some v) listed n e = absurd (let x : Some v ≡ None = e in cc)
 
-is_unlisted : (n w : ℕ) (list : List ℕ) → least_unlisted n list ≡ Some w → has list w ≡ false
+pub is_unlisted : (n w : ℕ) (list : List ℕ) → least_unlisted n list ≡ Some w → has list w ≡ false
 is_unlisted zero w list e = absurd (let x : None ≡ Some w = e in cc)
 is_unlisted (suc n) w list e =
     elim (either (least_unlisted n list) (has list n) n w e) [
@@ -48,7 +48,7 @@ is_unlisted (suc n) w list e =
       | inr here ↦ subst (λ (v : ℕ). has list v ≡ false) here.1 here.0
     ]
 
-all_listed : (n v : ℕ) (list : List ℕ) → least_unlisted n list ≡ None → v < n → has list v ≡ true
+pub all_listed : (n v : ℕ) (list : List ℕ) → least_unlisted n list ≡ None → v < n → has list v ≡ true
 all_listed zero v list e lt = absurd (omega arith)
 all_listed (suc n) v list e lt =
     let both = neither (least_unlisted n list) (has list n) n e in
@@ -57,13 +57,13 @@ all_listed (suc n) v list e lt =
       | inr other ↦ all_listed n v list both.0 (omega arith)
     ]
 
-has_front : (way : ℕ) (list : List ℕ) → has (to_front list way) way ≡ true
+pub has_front : (way : ℕ) (list : List ℕ) → has (to_front list way) way ≡ true
 has_front way list = let t : eqb way way ≡ true = grind (arith, nat_tests) in rw t refl
 
 has_behind : (v way : ℕ) (list : List ℕ) → v ≢ way → has (to_front list way) v ≡ true → has (without list way) v ≡ true
 has_behind v way list n listed = let t : eqb way v ≡ false = grind (arith, nat_tests) in rw t at listed
 
-another : (ways way : ℕ) → 2 ≤ ways → (v : ℕ) × (v < ways) × (v ≢ way)
+pub another : (ways way : ℕ) → 2 ≤ ways → (v : ℕ) × (v < ways) × (v ≢ way)
 another ways zero two = (1, omega arith, λ e. omega arith)
 another ways (suc way) two = (0, omega arith, λ e. omega arith)
 

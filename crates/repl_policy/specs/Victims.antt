@@ -6,9 +6,10 @@ use Rattle.std.proofs.lemmas.List.Elements.{All-head, All-tail}
 use Rattle.std.proofs.Math.Nat.{pow-suc}
 use Rattle.repl_policy.specs.Orders.{has, oldest, last_way, least_unlisted}
 use Rattle.repl_policy.specs.Halves.{victim_in, other_half, half_away, newest_in, depth_of, UpToSixteen, IsPowerUpToSixteen}
+use Rattle.repl_policy.specs.Marks.{unmarked}
 use Rattle.repl_policy.specs.Members.{any_takes, any_rule}
 use Rattle.repl_policy.specs.declared.AnyPolicy.{AnyPolicy}
-use Rattle.repl_policy.specs.declared.AnyPolicy.TheVariants.{Lru, Fifo, TreePlru}
+use Rattle.repl_policy.specs.declared.AnyPolicy.TheVariants.{Lru, Fifo, TreePlru, Nmru}
 
 last_way_lt : (ways way : ℕ) (list : List ℕ) → way < ways → All (λ w. w < ways) list → last_way way list < ways
 last_way_lt ways way [] lt below = lt
@@ -54,7 +55,13 @@ pub victim_in_below : {P : Type 0} (policy : P) (ways : ℕ) (list : List ℕ) �
     → victim_in (depth_of ways) 0 list < ways
 victim_in_below policy ways list taken below = let h = victim_in_lt (depth_of ways) 0 list in omega (arith, h, taken.2)
 
+pub unmarked_below : {P : Type 0} (policy : P) (ways : ℕ) (list : List ℕ) → UpToSixteen ways
+    → All (λ way. way < ways) list → unmarked ways list < ways
+unfolding unmarked
+unmarked_below policy ways list taken below = least_lt ways ways 0 list (omega arith) taken.0
+
 pub any_victim_below : (policy : AnyPolicy) (ways : ℕ) (list : List ℕ) → any_takes policy ways → All (λ way. way < ways) list → (any_rule policy ways).victim list < ways
 any_victim_below Lru ways list taken below = oldest_lt ways list taken.0 below
 any_victim_below Fifo ways list taken below = oldest_lt ways list taken.0 below
 any_victim_below TreePlru ways list taken below = victim_in_below TreePlru ways list taken below
+any_victim_below Nmru ways list taken below = unmarked_below Nmru ways list taken below

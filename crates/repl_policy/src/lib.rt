@@ -5,9 +5,11 @@
 ghost use Rattle.std.specs.Prelude.{◌≢◌, ◌<◌, ◌≤◌, ℕ, List};
 ghost use Rattle.repl_policy.specs.Orders.{lru_rule, fifo_rule};
 ghost use Rattle.repl_policy.specs.Halves.{plru_rule, depth_of, UpToSixteen, IsPowerUpToSixteen};
+ghost use Rattle.repl_policy.specs.Marks.{nmru_rule, Marks};
 ghost use Rattle.repl_policy.specs.Packed.{Packs};
 ghost use Rattle.repl_policy.specs.Bits.{Points};
 
+mod marks;
 mod order;
 mod tree;
 
@@ -122,6 +124,43 @@ impl Policy for TreePlru {
     }
 }
 
+/// Gives up the least way without a mark: a way gets one as it is touched or
+/// filled, and keeps it until every way has one; takes 1 to 16 ways.
+#[derive(Clone, Copy, Debug, PartialEq, Eq)]
+pub struct Nmru;
+
+impl Policy for Nmru {
+    ghost takes = { λ _ ways. UpToSixteen ways };
+
+    ghost rule = { λ _. nmru_rule };
+
+    ghost stands_for = { λ _ ways state list. Marks ways state list };
+
+    ghost use Rattle.repl_policy.specs.Victims.{unmarked_below};
+
+    ghost victim_below = { unmarked_below };
+
+    #[inline(always)]
+    fn fresh(&self, _ways: u32) -> u64 {
+        0
+    }
+
+    #[inline(always)]
+    fn touch(&self, ways: u32, state: u64, way: u32) -> u64 {
+        marks::with_mark(ways, state, way)
+    }
+
+    #[inline(always)]
+    fn fill(&self, ways: u32, state: u64, way: u32) -> u64 {
+        marks::with_mark(ways, state, way)
+    }
+
+    #[inline(always)]
+    fn victim(&self, ways: u32, state: u64) -> u32 {
+        marks::least_unmarked(ways, state)
+    }
+}
+
 /// One of the policies, chosen when the program runs.
 #[derive(Clone, Copy, Debug, PartialEq, Eq)]
 pub enum AnyPolicy {
@@ -131,6 +170,8 @@ pub enum AnyPolicy {
     Fifo,
     /// As `TreePlru`.
     TreePlru,
+    /// As `Nmru`.
+    Nmru,
 }
 
 impl Policy for AnyPolicy {
@@ -152,6 +193,7 @@ impl Policy for AnyPolicy {
             AnyPolicy::Lru => Lru.fresh(ways),
             AnyPolicy::Fifo => Fifo.fresh(ways),
             AnyPolicy::TreePlru => TreePlru.fresh(ways),
+            AnyPolicy::Nmru => Nmru.fresh(ways),
         }
     }
 
@@ -161,36 +203,42 @@ impl Policy for AnyPolicy {
             AnyPolicy::Lru => Lru.touch(ways, state, way),
             AnyPolicy::Fifo => Fifo.touch(ways, state, way),
             AnyPolicy::TreePlru => TreePlru.touch(ways, state, way),
+            AnyPolicy::Nmru => Nmru.touch(ways, state, way),
         }
     }
 
     #[inline(always)]
     fn fill(&self, ways: u32, state: u64, way: u32) -> u64 {
         match self {
-            AnyPolicy::Lru => Lru.fill(ways, state, way),
-            AnyPolicy::Fifo => Fifo.fill(ways, state, way),
             AnyPolicy::TreePlru => TreePlru.fill(ways, state, way),
+            AnyPolicy::Nmru => Nmru.fill(ways, state, way),
+            // Both fill alike.
+            AnyPolicy::Lru | AnyPolicy::Fifo => Lru.fill(ways, state, way),
         }
     }
 
     #[inline(always)]
     fn victim(&self, ways: u32, state: u64) -> u32 {
         match self {
-            AnyPolicy::Lru => Lru.victim(ways, state),
-            AnyPolicy::Fifo => Fifo.victim(ways, state),
             AnyPolicy::TreePlru => TreePlru.victim(ways, state),
+            AnyPolicy::Nmru => Nmru.victim(ways, state),
+            // Both give up the oldest.
+            AnyPolicy::Lru | AnyPolicy::Fifo => Lru.victim(ways, state),
         }
     }
 }
 
-/// The law that neither least recently used nor the tree gives up the way that
-/// was touched last, where there are two ways or more.
+/// The law that where there are two ways or more, the way that was touched last
+/// is not given up next, by least recently used, by the tree, and by not most
+/// recently used; by the last neither is the way that was filled last.
 pub fn touched_way_stays(ways: u32, way: u32)
     requires two { 2 ≤ ways }
     requires below { way < ways }
     ensures lru { (list : List ℕ) → (lru_rule ways).victim ((lru_rule ways).touched list way) ≢ way }
     ensures plru { IsPowerUpToSixteen ways → (list : List ℕ)
         → (plru_rule ways).victim ((plru_rule ways).touched list way) ≢ way }
+    ensures nmru { (list : List ℕ) → (nmru_rule ways).victim ((nmru_rule ways).touched list way) ≢ way }
+    ensures nmru_filled { (list : List ℕ) → (nmru_rule ways).victim ((nmru_rule ways).filled list way) ≢ way }
 {
     let _ = (ways, way);
 }

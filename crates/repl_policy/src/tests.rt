@@ -1,22 +1,30 @@
-// The three policies beside plain lists of ways.
-use super::{AnyPolicy, Fifo, Lru, TreePlru};
+// The policies beside plain lists of ways.
+use super::{AnyPolicy, Fifo, Lru, Nmru, TreePlru};
 use set_cache::{Policy, SetCache};
 use std::alloc::Global;
 use std::test::Fail;
 use tp_base::Memory;
 
-// A set of 4 ways takes lines 1 to 4, then 1 again, then 5.
+// A set of 4 ways takes lines 1 to 4 and these, then 5: the victim of each policy.
 #[test]
 fn each_policy_gives_up_its_victim(rt: HostRuntime) -> Result<(), Fail> {
-    let rows = [
-        (AnyPolicy::Lru, 2),
-        (AnyPolicy::Fifo, 1),
-        (AnyPolicy::TreePlru, 3),
+    let rows: [(AnyPolicy, &[u32], u32); 8] = [
+        (AnyPolicy::Lru, &[1], 2),
+        (AnyPolicy::Fifo, &[1], 1),
+        (AnyPolicy::TreePlru, &[1], 3),
+        (AnyPolicy::Nmru, &[1], 2),
+        (AnyPolicy::Lru, &[3, 2, 1], 4),
+        (AnyPolicy::Fifo, &[3, 2, 1], 1),
+        (AnyPolicy::TreePlru, &[3, 2, 1], 4),
+        (AnyPolicy::Nmru, &[3, 2, 1], 2),
     ];
-    for (policy, victim) in rows {
+    for (policy, lines, victim) in rows {
         let mut cache = SetCache::new(rt.alloc(), policy, 1, 4)?;
-        for line in [1, 2, 3, 4, 1] {
+        for line in [1, 2, 3, 4] {
             cache.touch(line, false);
+        }
+        for line in lines {
+            cache.touch(*line, false);
         }
         assert_eq!(rt; cache.touch(5, false).victim, Some(victim));
     }
@@ -36,8 +44,7 @@ impl PlainSet {
     fn touch(&mut self, ways: usize, line: u32) -> Result<(bool, Option<u32>), Fail> {
         if let Some(way) = self.lines.iter().position(|kept| *kept == line) {
             if self.policy != AnyPolicy::Fifo {
-                self.order.retain(|listed| *listed != way);
-                self.order.insert(0, way)?;
+                self.list(ways, way)?;
             }
             return Ok((true, None));
         }
@@ -52,12 +59,24 @@ impl PlainSet {
                 *kept = line;
             }
         }
-        self.order.retain(|listed| *listed != way);
-        self.order.insert(0, way)?;
+        self.list(ways, way)?;
         Ok((false, victim))
     }
 
+    // To the front; of marks that every way would have, the last is left.
+    fn list(&mut self, ways: usize, way: usize) -> Result<(), Fail> {
+        self.order.retain(|listed| *listed != way);
+        if self.policy == AnyPolicy::Nmru && self.order.len() + 1 >= ways {
+            self.order.clear();
+        }
+        self.order.insert(0, way)?;
+        Ok(())
+    }
+
     fn victim(&self, ways: usize) -> usize {
+        if self.policy == AnyPolicy::Nmru {
+            return (0..ways).find(|way| !self.order.contains(way)).unwrap_or(0);
+        }
         if self.policy != AnyPolicy::TreePlru {
             return self.order.last().copied().unwrap_or(0);
         }
@@ -82,7 +101,12 @@ impl PlainSet {
 
 #[test]
 fn each_policy_does_as_plain_lists_do(rt: HostRuntime) -> Result<(), Fail> {
-    for policy in [AnyPolicy::Lru, AnyPolicy::Fifo, AnyPolicy::TreePlru] {
+    for policy in [
+        AnyPolicy::Lru,
+        AnyPolicy::Fifo,
+        AnyPolicy::TreePlru,
+        AnyPolicy::Nmru,
+    ] {
         for ways in [1, 2, 4, 8, 16] {
             let mut cache = SetCache::new(rt.alloc(), policy, 1, ways)?;
             let mut plain = PlainSet {
@@ -175,6 +199,7 @@ fn the_greatest_epoch_is_passed(rt: HostRuntime) -> Result<(), Fail> {
     assert_eq!(rt; differences_over_epochs(rt.alloc(), Lru)?, 0);
     assert_eq!(rt; differences_over_epochs(rt.alloc(), Fifo)?, 0);
     assert_eq!(rt; differences_over_epochs(rt.alloc(), TreePlru)?, 0);
+    assert_eq!(rt; differences_over_epochs(rt.alloc(), Nmru)?, 0);
     assert_eq!(rt;
         differences_over_epochs(rt.alloc(), AnyPolicy::TreePlru)?,
         0

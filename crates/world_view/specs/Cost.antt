@@ -5,11 +5,12 @@ use Rattle.set_cache.specs.Rule.{Rule}
 use Rattle.set_cache.specs.Cache.{Shape}
 use Rattle.repl_policy.specs.Orders.{lru_rule, fifo_rule}
 use Rattle.repl_policy.specs.Halves.{plru_rule}
+use Rattle.repl_policy.specs.Marks.{nmru_rule}
 use Rattle.kernel_clone.specs.Footprints.{Layout}
 use Rattle.mem_system.specs.Hierarchy.{Hierarchy}
 use Rattle.cache_sharing.specs.Operations.{shared_region}
 use Rattle.hardware_check.specs.declared.hardware.Policy.{Policy}
-use Rattle.hardware_check.specs.declared.hardware.Policy.TheVariants.{Lru, Fifo, Plru}
+use Rattle.hardware_check.specs.declared.hardware.Policy.TheVariants.{Lru, Fifo, Plru, Nmru}
 use Rattle.hardware_check.specs.Hardware.{Hardware, CacheShape, colours_of}
 use Rattle.image_check.specs.Own.{Own}
 
@@ -19,6 +20,7 @@ abbrev pub rule_of : Policy → ℕ → Rule
 rule_of Lru = lru_rule
 rule_of Fifo = fifo_rule
 rule_of Plru = plru_rule
+rule_of Nmru = nmru_rule
 
 abbrev pub cache_shape : CacheShape → Shape
 cache_shape c = record { rule = rule_of c.policy c.ways; ways = c.ways; count = c.sets }

@@ -4,13 +4,14 @@ use Rattle.repl_policy.specs.declared.AnyPolicy.TheVariants as any
 use Rattle.mem_system.specs.declared.geometry.CacheGeometry.{CacheGeometry}
 use Rattle.mem_system.specs.declared.geometry.Geometry.{Geometry}
 use Rattle.hardware_check.specs.declared.hardware.Policy.{Policy}
-use Rattle.hardware_check.specs.declared.hardware.Policy.TheVariants.{Lru, Fifo, Plru}
+use Rattle.hardware_check.specs.declared.hardware.Policy.TheVariants.{Lru, Fifo, Plru, Nmru}
 use Rattle.hardware_check.specs.Hardware.{CacheShape, Hardware}
 
 abbrev pub any_of : Policy → AnyPolicy
 any_of Lru = any.Lru
 any_of Fifo = any.Fifo
 any_of Plru = any.TreePlru
+any_of Nmru = any.Nmru
 
 abbrev pub cache_geometry : CacheShape → CacheGeometry AnyPolicy
 cache_geometry c = record { policy = any_of c.policy; sets = c.sets; ways = c.ways }

@@ -18,6 +18,7 @@ fn policy_of(policy: Policy) -> AnyPolicy
         Policy::Lru => AnyPolicy::Lru,
         Policy::Fifo => AnyPolicy::Fifo,
         Policy::Plru => AnyPolicy::TreePlru,
+        Policy::Nmru => AnyPolicy::Nmru,
     }
 }
 

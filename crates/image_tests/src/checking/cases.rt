@@ -39,7 +39,11 @@ l2 = { sets = 256 => l2 = { sets = 32768
 K3 at 4 found 32768 wanted 1
 l2 = { sets = 256, ways = 4, policy = "lru" => l2 = { sets = 256, ways = 4, policy = "LRU"
 K3 at 4 found 4 wanted 3
+l2 = { sets = 256, ways = 4, policy = "lru" => l2 = { sets = 256, ways = 4, policy = "nmr"
+K3 at 4 found 4 wanted 3
 l2 = { sets = 256, ways = 4, policy = "lru" => l2 = { sets = 256, ways = 3, policy = "fifo"
+accepted
+l2 = { sets = 256, ways = 4, policy = "lru" => l2 = { sets = 256, ways = 3, policy = "nmru"
 accepted
 tlb = { sets = 4, ways = 2, policy = "lru" => tlb = { sets = 512, ways = 3, policy = "plru"
 K3 at 5 found 512 wanted 1

@@ -12,6 +12,8 @@ struct Kept {
     number: u32,
     way: usize,
     dirty: bool,
+    // Under the policy of marks: whether it has one.
+    marked: bool,
 }
 
 // What a touch found, and whether it gave up a dirty line.
@@ -74,8 +76,10 @@ impl PlainCache {
             number,
             way,
             dirty: store,
+            marked: true,
         };
         self.kept.insert(0, line)?;
+        self.clear_marks(number);
         Ok(Found {
             hit: false,
             dirty_victim,
@@ -85,18 +89,41 @@ impl PlainCache {
     fn touch_again(&mut self, place: usize, store: bool) -> Result<(), Fail> {
         if let Some(kept) = self.kept.get_mut(place) {
             kept.dirty = kept.dirty || store;
+            kept.marked = true;
             let again = *kept;
             if self.policy != AnyPolicy::Fifo {
                 self.kept.retain(|other| other.number != again.number);
                 self.kept.insert(0, again)?;
+                self.clear_marks(again.number);
             }
         }
         Ok(())
     }
 
+    // Where all ways of its set have a mark, only that of this number is left.
+    fn clear_marks(&mut self, number: u32) {
+        let mask = self.mask;
+        let marked = self
+            .kept
+            .iter()
+            .filter(|kept| kept.number & mask == number & mask && kept.marked)
+            .count();
+        if marked < self.ways {
+            return;
+        }
+        for kept in self.kept.iter_mut() {
+            if kept.number & mask == number & mask {
+                kept.marked = kept.number == number;
+            }
+        }
+    }
+
     fn victim(&self, set: u32) -> usize {
         if self.policy == AnyPolicy::TreePlru {
             return self.victim_by_halves(set);
+        }
+        if self.policy == AnyPolicy::Nmru {
+            return self.least_unmarked(set);
         }
         let mut oldest = 0;
         for kept in &self.kept {
@@ -105,6 +132,16 @@ impl PlainCache {
             }
         }
         oldest
+    }
+
+    // The least way whose line has no mark.
+    fn least_unmarked(&self, set: u32) -> usize {
+        let mask = self.mask;
+        (0..self.ways)
+            .find(|way| !self.kept.iter().any(|kept| kept.number & mask == set
+                && kept.way == *way
+                && kept.marked))
+            .unwrap_or(0)
     }
 
     // Away from the half of the newest of 4 ways, then from the newest of 2.

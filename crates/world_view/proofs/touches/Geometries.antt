@@ -12,7 +12,7 @@ use Rattle.mem_system.specs.declared.geometry.CacheGeometry.{CacheGeometry}
 use Rattle.mem_system.specs.declared.geometry.Geometry.{Geometry}
 use Rattle.mem_system.specs.Geometry.{IsGeometry, hierarchy_by, costs_of}
 use Rattle.hardware_check.specs.declared.hardware.Policy.{Policy}
-use Rattle.hardware_check.specs.declared.hardware.Policy.TheVariants.{Lru, Fifo, Plru}
+use Rattle.hardware_check.specs.declared.hardware.Policy.TheVariants.{Lru, Fifo, Plru, Nmru}
 use Rattle.hardware_check.specs.Hardware.{Hardware, CacheShape, IsCache, IsHardware}
 use Rattle.world_view.specs.Cost.{rule_of, hierarchy}
 use Rattle.world_view.specs.Geometry.{any_of, cache_geometry, geometry}
@@ -36,6 +36,7 @@ takes c most is = by_policy c.policy refl
     by_policy : (policy : Policy) → c.policy ≡ policy → any_takes (any_of policy) c.ways
     by_policy Lru e = (is.some_way, is.few_ways)
     by_policy Fifo e = (is.some_way, is.few_ways)
+    by_policy Nmru e = (is.some_way, is.few_ways)
     by_policy Plru e =
         let power = power_is c.ways (is.tree e) in
         (is.some_way, is.few_ways, depth_is power.0 c.ways power.1 is.few_ways)
@@ -64,6 +65,7 @@ rule_is : (policy : Policy) → any_rule (any_of policy) ≡ rule_of policy
 rule_is Lru = refl
 rule_is Fifo = refl
 rule_is Plru = refl
+rule_is Nmru = refl
 
 geometry_hierarchy : (p : Hardware) (costs : Costs) → costs_of costs ≡ p.costs → hierarchy_by any_rule (geometry p) costs ≡ hierarchy p
 unfolding hierarchy
