@@ -80,7 +80,7 @@ impl<P: Policy> L2<P> {
             → kept_at self.new.cache.table s ≡ kept_at self.old.cache.table s }
         ensures clean { IsClean self.new.cache }
     {
-        self.cache.touch(line.number(), false).hit
+        self.cache.load(line.number())
     }
 
     /// The colour of a frame: its number modulo the number of colours.

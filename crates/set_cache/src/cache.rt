@@ -58,12 +58,12 @@ const HIT: Touch = Touch {
 
 /// The set of a number: its low bits.
 #[inline(always)]
-fn set_of(number: u32, sets: usize) -> usize
+fn set_of(number: u32, sets: u32) -> usize
     requires power { IsPowerOfTwo sets }
     ensures value { result ≡ number % sets }
     ensures below { result < sets }
 {
-    number as usize & (sets - 1)
+    (number & (sets - 1)) as usize
 }
 
 /// The way that a miss takes in a set: the least empty one, else the victim.
@@ -142,7 +142,7 @@ impl<P: Policy> SetCache<P> {
         if self.repeats(number, store) {
             return HIT;
         }
-        let set = set_of(number, self.packed.count());
+        let set = set_of(number, self.packed.count() as u32);
         match self.packed.find(set, number) {
             Some(way) => {
                 self.hit(set, way, number, store);
@@ -179,7 +179,7 @@ impl<P: Policy> SetCache<P> {
         self.packed.write_hit(set, way, number, store, state);
         self.last = Some(LastTouch {
             number,
-            place: set as u32 * ways + way as u32,
+            place: (set * ways as usize + way) as u32,
         });
     }
 
@@ -202,12 +202,12 @@ impl<P: Policy> SetCache<P> {
         let old = self.packed.write(set, way, line, state);
         self.last = Some(LastTouch {
             number,
-            place: set as u32 * ways + way as u32,
+            place: (set * ways as usize + way) as u32,
         });
         Touch {
             hit: false,
-            victim: old.map(|line| line.number),
-            dirty_victim: old.is_some_and(|line| line.dirty),
+            victim: old.number,
+            dirty_victim: old.dirty,
         }
     }
 
@@ -230,7 +230,7 @@ impl<P: Policy> SetCache<P> {
         ensures below { IfSome result (λ place. place < length self.now.table * self.now.ways) }
         ensures sound { IsSound P.takes P.stands_for self.now }
     {
-        let set = set_of(number, self.packed.count());
+        let set = set_of(number, self.packed.count() as u32);
         let way = self.packed.find(set, number)?;
         Some(set as u32 * self.packed.ways() + way as u32)
     }
@@ -253,10 +253,37 @@ impl<P: Policy> SetCache<P> {
                 return Some(last.place);
             }
         }
-        let set = set_of(number, self.packed.count());
+        let set = set_of(number, self.packed.count() as u32);
         let way = self.packed.find(set, number)?;
         self.hit(set, way, number, false);
         Some(set as u32 * self.packed.ways() + way as u32)
+    }
+
+    /// A touch of a line that is no store; whether it was here.
+    ///
+    /// A miss is worked apart, so that a hit saves no registers for it: of use
+    /// where most lines are here.
+    #[inline(always)]
+    pub fn load(&mut self, number: u32) -> bool
+        ensures touch { TellsHit P.takes P.rule P.stands_for result number self.old self.new }
+        ensures epoch { self.new.epoch ≡ self.old.epoch }
+    {
+        if self.find(number).is_some() {
+            return true;
+        }
+        self.load_absent(number);
+        false
+    }
+
+    /// A touch of a line that isn't here, which is no store.
+    #[inline(never)]
+    fn load_absent(&mut self, number: u32)
+        requires absent { place_in self.old number ≡ None }
+        ensures touch { TellsHit P.takes P.rule P.stands_for false number self.old self.new }
+        ensures epoch { self.new.epoch ≡ self.old.epoch }
+    {
+        let set = set_of(number, self.packed.count() as u32);
+        self.fill(set, number, false);
     }
 
     /// The number of lines with a dirty mark.

@@ -25,6 +25,15 @@ pub struct WrittenState {
     epoch: u32,
 }
 
+/// What a way kept until it was written.
+#[derive(Clone, Copy)]
+pub struct GivenUp {
+    /// The line's number, if there was one.
+    pub number: Option<u32>,
+    /// Whether it had a dirty mark.
+    pub dirty: bool,
+}
+
 /// Epoch 0 is no cache's, so what has it counts in none.
 const UNWRITTEN: Entry = Entry {
     number: 0,
@@ -63,7 +72,7 @@ impl Model for PackedSets {
 }
 
 impl Entry {
-    ghost use Rattle.std.specs.Prelude.{is_none};
+    ghost use Rattle.std.specs.Prelude.{is_none, option_map};
     ghost use Rattle.set_cache.specs.Cache.{is_line, is_dirty};
     ghost use Rattle.set_cache.specs.Packed.{line_in};
 
@@ -89,16 +98,14 @@ impl Entry {
     }
 
     #[inline(always)]
-    fn line(self, epoch: u32) -> Option<KeptLine>
-        ensures value { result ≡ line_in epoch self }
+    fn number(self, epoch: u32) -> Option<u32>
+        ensures value { result ≡ option_map (λ line. line.number) (line_in epoch self) }
     {
-        if self.epoch != epoch {
-            return None;
+        if self.epoch == epoch {
+            Some(self.number)
+        } else {
+            None
         }
-        Some(KeptLine {
-            number: self.number,
-            dirty: self.dirty,
-        })
     }
 }
 
@@ -139,6 +146,10 @@ fn first_empty(entries: &[Entry], epoch: u32) -> Option<usize>
     if !entries.last()?.is_empty(epoch) {
         return None;
     }
+    // After a flush the first one is.
+    if entries.first()?.is_empty(epoch) {
+        return Some(0);
+    }
     entries.iter().position(|entry| entry.is_empty(epoch))
 }
 
@@ -169,7 +180,7 @@ fn unwrite_states(states: &mut [WrittenState], steps: &mut u64)
 }
 
 impl PackedSets {
-    ghost use Rattle.std.specs.Prelude.{◌*◌, ◌||◌, true, None, Some, slice_index_or, slice_set, IfOk, IfSome, if◌then◌else◌, ◌==◌};
+    ghost use Rattle.std.specs.Prelude.{option_map, ◌*◌, ◌||◌, true, None, Some, slice_index_or, slice_set, IfOk, IfSome, if◌then◌else◌, ◌==◌};
     ghost use Rattle.set_cache.specs.Cache.{way_of, is_dirty};
     ghost use Rattle.set_cache.specs.Contents.{kept_at};
     ghost use Rattle.set_cache.specs.Packed.{fresh_sets, with_kept, dirty_sum, epoch_after, greatest_epoch};
@@ -295,10 +306,13 @@ impl PackedSets {
     /// Writes a line into a way, and the policy's state of its set; answers what the way kept.
     #[tactic(auto, using(crate::proofs::Vectors::length_table))]
     #[inline(always)]
-    pub fn write(&mut self, set: usize, way: usize, line: KeptLine, state: u64) -> Option<KeptLine>
+    pub fn write(&mut self, set: usize, way: usize, line: KeptLine, state: u64) -> GivenUp
         requires below { set < length self.old.table }
         requires within { way < self.old.ways }
-        ensures kept { result ≡ slice_index_or (kept_at self.old.table set).places way None }
+        ensures number { result.number ≡ option_map (λ line. line.number)
+            (slice_index_or (kept_at self.old.table set).places way None) }
+        ensures dirty { result.dirty
+            ≡ is_dirty (slice_index_or (kept_at self.old.table set).places way None) }
         ensures written { self.new ≡ with_kept self.old set (record {
           places = slice_set (kept_at self.old.table set).places way (Some line);
           state = state;
@@ -306,14 +320,18 @@ impl PackedSets {
     {
         let epoch = self.epoch;
         let place = set * self.ways as usize + way;
-        let old = self.entries[place].line(epoch);
+        let was = self.entries[place];
+        let old = GivenUp {
+            number: was.number(epoch),
+            dirty: was.is_dirty(epoch),
+        };
         self.entries[place] = Entry {
             number: line.number,
             dirty: line.dirty,
             epoch,
         };
         self.states[set] = WrittenState { state, epoch };
-        self.dirty -= u32::from(old.is_some_and(|line| line.dirty));
+        self.dirty -= u32::from(old.dirty);
         self.dirty += u32::from(line.dirty);
         old
     }

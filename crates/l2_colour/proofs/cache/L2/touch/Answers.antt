@@ -1,4 +1,4 @@
-use Rattle.std.proofs.Common.{ℕ, length, ap, sym, subst, ◌∙◌, refl}
+use Rattle.std.proofs.Common.{ℕ, length, ap, sym, subst, ◌∙◌}
 use Rattle.set_cache.specs.Lines.{mark_in}
 use Rattle.set_cache.proofs.Ways.{marks_clean}
 use Rattle.l2_colour.specs.Colours.{IsColoured, colours_of, colour_of_set}
@@ -7,24 +7,24 @@ use Rattle.l2_colour.proofs.cache.L2.touch.Goals as goal
 
 pub returns-clause-touch : goal.returns-clause-touch
 returns-clause-touch g c =
-    rw (← c.number.ensures.same) (rw (← c.self.view_is) (record { answer = c.touch.result; told = refl; touch = c.touch.ensures.touch }))
+    rw (← c.number.ensures.same) (rw (← c.self.view_is) c.load.ensures.touch)
 
 pub returns-clause-colour : goal.returns-clause-colour
 returns-clause-colour g c =
     let a = c.self.inside in
-    rw (← c.number.ensures.same) (rw (← c.self.view_is) (λ s apart. c.touch.ensures.touch.other_sets s (λ e.
+    rw (← c.number.ensures.same) (rw (← c.self.view_is) (λ s apart. c.load.ensures.touch.touch.other_sets s (λ e.
     apart (ap (colour_of_set a.line_size) e ∙ line_in_colour a.line_size (length a.cache.table) c.number.result c.self.invariant.coloured))))
 
 pub returns-clause-clean : goal.returns-clause-clean
 returns-clause-clean g c =
-    marks_clean c.touch.result c.number.result (mark_in c.self.inside.cache) (mark_in c.touch.new.self) c.touch.ensures.touch.marks c.self.invariant.clean
+    marks_clean c.load.ensures.touch.answer c.number.result (mark_in c.self.inside.cache) (mark_in c.load.new.self) c.load.ensures.touch.touch.marks c.self.invariant.clean
 
 pub invariant_of-self : goal.invariant_of-self
 invariant_of-self g c =
     let a = c.self.inside in
-    let same = sym c.touch.ensures.touch.shape.same_sets in
+    let same = sym c.load.ensures.touch.touch.shape.same_sets in
     record {
       coloured = subst (λ (n : ℕ). IsColoured a.line_size n) same c.self.invariant.coloured;
       counted = c.self.invariant.counted ∙ ap (colours_of a.line_size) same;
-      clean = marks_clean c.touch.result c.number.result (mark_in a.cache) (mark_in c.touch.new.self) c.touch.ensures.touch.marks c.self.invariant.clean;
+      clean = marks_clean c.load.ensures.touch.answer c.number.result (mark_in a.cache) (mark_in c.load.new.self) c.load.ensures.touch.touch.marks c.self.invariant.clean;
     }

@@ -1,9 +1,7 @@
-use Rattle.std.proofs.Common.{◌≡◌, ◌∙◌, ◌%◌, ◌*◌, ◌+◌, ℕ, Bool, List, length, set, get_or, Option, Some, None, false, option_map, unwrap_or, refl, ap, sym, subst, arith, rules}
-use Rattle.std.proofs.lemmas.Grind.{common_steps}
+use Rattle.std.proofs.Common.{◌≡◌, ◌%◌, ◌*◌, ◌+◌, ℕ, Bool, List, length, set, Option, Some, None, false, unwrap_or, refl, ap, sym, subst, arith}
 use Rattle.std.specs.Prelude.{position, is_none}
-use Rattle.set_cache.specs.declared.KeptLine.{KeptLine}
 use Rattle.set_cache.specs.declared.Touch.{Touch}
-use Rattle.set_cache.specs.Cache.{way_of, is_dirty}
+use Rattle.set_cache.specs.Cache.{way_of}
 use Rattle.set_cache.specs.Contents.{KeptSet, Contents, kept_at}
 use Rattle.set_cache.specs.Packed.{KeptSets}
 use Rattle.set_cache.specs.Last.{IsCache}
@@ -155,16 +153,10 @@ returns-clause-touch g c =
           → stands n c.fill-state.result ((rule n).touched list way))
           ways c.fill-state.ensures.again;
     }) in
-    let kept : c.write-old.result ≡ get_or old.places way None = c.write-old.ensures.kept in
-    let gave : c.map.result ≡ option_map (λ (line : KeptLine). line.number) c.write-old.result =
-    search (rules, common_steps) in
-    let told : c.is_some_and.result ≡ is_dirty c.write-old.result = search (rules, common_steps) in
-    let victim = gave ∙ ap (option_map (λ (line : KeptLine). line.number)) kept in
-    let dirty = told ∙ ap is_dirty kept in
     let answer : fill_answer old.places way
-    ≡ record { hit = false; victim = c.map.result; dirty_victim = c.is_some_and.result } =
+    ≡ record { hit = false; victim = c.write-old.result.number; dirty_victim = c.write-old.result.dirty } =
     ap (λ (t : Option ℕ × Bool). record { hit = false; victim = t.0; dirty_victim = t.1 })
-    (λ j. (sym victim j, sym dirty j)) in
+    (λ j. (sym c.write-old.ensures.number j, sym c.write-old.ensures.dirty j)) in
     subst
     (λ (t : Touch × Contents _ × KeptSets).
     IsTouch g.P.Policy.takes g.P.Policy.rule g.P.Policy.stands_for t.0 c.args.number c.args.store t.1

@@ -1,5 +1,7 @@
-use Rattle.std.proofs.Common.{◌≡◌, ◌∙◌, List, Some, ap, refl, arith, rules}
+use Rattle.std.proofs.Common.{◌≡◌, ◌∙◌, Bool, List, Some, cond, option_map, ap, refl, arith, rules}
 use Rattle.std.proofs.lemmas.Grind.{common_steps}
+use Rattle.set_cache.specs.declared.KeptLine.{KeptLine}
+use Rattle.set_cache.specs.Cache.{is_dirty}
 use Rattle.set_cache.specs.Contents.{KeptSet}
 use Rattle.set_cache.specs.Packed.{KeptSets}
 use Rattle.set_cache.proofs.Vectors.{Vectors, NamesWay, OneEntry, line_read, mark_count, write_way, set_below, way_within, table-entry}
@@ -21,11 +23,11 @@ overflow_sub-self c =
       below = c.requires.below;
       within = c.requires.within;
     } in
-    let line = line_read v c.args.self.now c.args.set c.args.way names c.index.result.now c.index.ensures in
-    let gone : c.from.result ≡ mark_count c.line-old.result = search (rules, common_steps) in
+    let line = line_read v c.args.self.now c.args.set c.args.way names c.index-was.result.now c.index-was.ensures in
+    let gone : c.from.result ≡ cond c.is_dirty.result 1 0 = search (rules, common_steps) in
     let writes =
     write_way v c.args.self.now c.args.set c.args.way names c.args.line c.args.state c.from.result (mark_count (Some c.args.line))
-    (gone ∙ ap mark_count (c.line-old.ensures.value ∙ line)) refl in
+    (gone ∙ ap (λ (b : Bool). cond b 1 0) (c.is_dirty.ensures.value ∙ ap is_dirty line)) refl in
     writes.goes
 
 pub overflow_add-self : goal.overflow_add-self
@@ -44,12 +46,12 @@ overflow_add-self c =
       below = c.requires.below;
       within = c.requires.within;
     } in
-    let line = line_read v c.args.self.now c.args.set c.args.way names c.index.result.now c.index.ensures in
-    let gone : c.from.result ≡ mark_count c.line-old.result = search (rules, common_steps) in
+    let line = line_read v c.args.self.now c.args.set c.args.way names c.index-was.result.now c.index-was.ensures in
+    let gone : c.from.result ≡ cond c.is_dirty.result 1 0 = search (rules, common_steps) in
     let came : c.from-2.result ≡ mark_count (Some c.args.line) = search (rules, common_steps) in
     let writes =
     write_way v c.args.self.now c.args.set c.args.way names c.args.line c.args.state c.from.result c.from-2.result
-    (gone ∙ ap mark_count (c.line-old.ensures.value ∙ line)) came in
+    (gone ∙ ap (λ (b : Bool). cond b 1 0) (c.is_dirty.ensures.value ∙ ap is_dirty line)) came in
     omega (arith, writes.comes)
 
 pub invariant_of-self : goal.invariant_of-self
@@ -68,16 +70,16 @@ invariant_of-self c =
       below = c.requires.below;
       within = c.requires.within;
     } in
-    let line = line_read v c.args.self.now c.args.set c.args.way names c.index.result.now c.index.ensures in
-    let gone : c.from.result ≡ mark_count c.line-old.result = search (rules, common_steps) in
+    let line = line_read v c.args.self.now c.args.set c.args.way names c.index-was.result.now c.index-was.ensures in
+    let gone : c.from.result ≡ cond c.is_dirty.result 1 0 = search (rules, common_steps) in
     let came : c.from-2.result ≡ mark_count (Some c.args.line) = search (rules, common_steps) in
     let writes =
     write_way v c.args.self.now c.args.set c.args.way names c.args.line c.args.state c.from.result c.from-2.result
-    (gone ∙ ap mark_count (c.line-old.ensures.value ∙ line)) came in
+    (gone ∙ ap (λ (b : Bool). cond b 1 0) (c.is_dirty.ensures.value ∙ ap is_dirty line)) came in
     writes.packed
 
-pub returns-clause-kept : goal.returns-clause-kept
-returns-clause-kept c =
+pub returns-clause-number : goal.returns-clause-number
+returns-clause-number c =
     let s = c.self.inside in
     let v : Vectors = record {
       ways = s.ways;
@@ -92,8 +94,27 @@ returns-clause-kept c =
       below = c.requires.below;
       within = c.requires.within;
     } in
-    let line = line_read v c.args.self.now c.args.set c.args.way names c.index.result.now c.index.ensures in
-    rw (← c.self.view_is) (c.line-old.ensures.value ∙ line)
+    let line = line_read v c.args.self.now c.args.set c.args.way names c.index-was.result.now c.index-was.ensures in
+    rw (← c.self.view_is) (c.number.ensures.value ∙ ap (option_map (λ (kept : KeptLine). kept.number)) line)
+
+pub returns-clause-dirty : goal.returns-clause-dirty
+returns-clause-dirty c =
+    let s = c.self.inside in
+    let v : Vectors = record {
+      ways = s.ways;
+      epoch = s.epoch;
+      fresh = s.fresh;
+      dirty = s.dirty;
+      entries = s.entries.items;
+      states = s.states.items;
+    } in
+    let names : NamesWay v c.args.self.now c.args.set c.args.way = record {
+      packs = record { view = c.self.view_is; lawful = c.self.invariant };
+      below = c.requires.below;
+      within = c.requires.within;
+    } in
+    let line = line_read v c.args.self.now c.args.set c.args.way names c.index-was.result.now c.index-was.ensures in
+    rw (← c.self.view_is) (c.is_dirty.ensures.value ∙ ap is_dirty line)
 
 pub returns-clause-written : goal.returns-clause-written
 returns-clause-written c =
