@@ -18,9 +18,6 @@ pub enum Guard {
     Irq,
 }
 
-/// The names of the guards.
-pub const NAMES: [&str; 6] = ["flush", "prefetch", "pad", "colour", "clone", "irq"];
-
 impl Guard {
     ghost use Rattle.std.specs.Prelude.{◌≡◌};
     ghost use Rattle.guards.specs.Names.{name_of, named};

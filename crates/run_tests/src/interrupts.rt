@@ -9,7 +9,7 @@ use tp_run::Status;
 //     addi x17, x0, 10; ecall
 //     csrrs x5, cycle, x0
 //     addi x17, x0, 0; ecall
-const WAITS_FOR_A_LINE: &str = "9308a00073000000f32200c09308000073000000";
+pub const WAITS_FOR_A_LINE: &str = "9308a00073000000f32200c09308000073000000";
 
 const ONE_MOMENT: &str = "caps = [\"irq 3\"]\nlines = [3]\nmoments = [[25000, 3]]";
 
@@ -82,7 +82,7 @@ fn a_domain_has_eight_threads(rt: HostRuntime) -> Result<(), Fail> {
 //     addi x17, x0, 0; ecall
 const SIGNALS: &str = "93089000730000009308b0007300000093089000730000009308000073000000";
 
-const ONE_LINE: &str = "caps = [\"irq 3\"]\nlines = [3]";
+pub const ONE_LINE: &str = "caps = [\"irq 3\"]\nlines = [3]";
 
 #[test]
 fn a_line_is_signalled_by_its_owner(rt: HostRuntime) -> Result<(), Fail> {

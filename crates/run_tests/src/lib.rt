@@ -16,3 +16,5 @@ mod large;
 mod machines;
 #[cfg(test)]
 mod timed;
+#[cfg(test)]
+mod unprotected;

@@ -183,16 +183,17 @@ fn push_schedule(alloc: Global, image: &mut String, dice: &mut Dice) -> Result<(
 }
 
 fn policy(number: u32) -> &'static str {
-    match number % 3 {
+    match number % 4 {
         0 => "lru",
         1 => "fifo",
-        _ => "plru",
+        2 => "plru",
+        _ => "nmru",
     }
 }
 
 fn generated(alloc: Global, seed: u32) -> Result<String, Fail> {
     let mut dice = Dice { state: seed };
-    let (second, first) = (policy(seed), policy(seed / 3));
+    let (second, first) = (policy(seed), policy(seed / 4));
     let mut image = MACHINE
         .replace(
             alloc,

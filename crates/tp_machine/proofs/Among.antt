@@ -1,6 +1,6 @@
 -- One event in a slot in which moments of all domains come, of the code and of the definitions.
-use Rattle.std.proofs.Common.{◌≡◌, ℕ, ◌+◌, ◌-◌, ◌<◌, ◌≤◌, Bool, true, false, List, length, Option, Some, None, refl, ap, ap₂, sym, subst, ◌∙◌, arith}
-use Rattle.std.specs.Prelude.{slice_get, option_map, IfSome, if◌then◌else◌}
+use Rattle.std.proofs.Common.{◌≡◌, ℕ, ◌+◌, ◌-◌, Bool, true, false, List, length, Option, Some, None, refl, ap, ap₂, sym, subst, ◌∙◌, arith}
+use Rattle.std.specs.Prelude.{slice_get}
 use Rattle.std.proofs.Math.ListN.{set}
 use Rattle.std.proofs.lemmas.List.{length-set}
 use Rattle.std.proofs.lemmas.Option.{slice_get_within}
@@ -11,13 +11,13 @@ use Rattle.repl_policy.specs.Members.{any_rule, any_stands_for}
 use Rattle.guards.specs.declared.Guard.{Guard}
 use Rattle.cycle_cost.specs.Costs.{CostTable}
 use Rattle.irq_partition.specs.declared.Moment.{Moment}
-use Rattle.irq_partition.specs.Interrupts.{next_of, due}
+use Rattle.irq_partition.specs.Interrupts.{next_of}
 use Rattle.kernel_clone.specs.declared.CloneLayout.{CloneLayout}
 use Rattle.kernel_clone.specs.Footprints.{Layout, WorkDone, delivery_op}
 use Rattle.kernel_clone.specs.Models.{layout_model}
 use Rattle.mem_system.specs.Hierarchy.{Hierarchy}
 use Rattle.mem_system.specs.Cost.{Touch, touched_all}
-use Rattle.mem_system.specs.Contents.{SystemContents, SystemStands, SystemSteps, MakesTouches, hierarchy_of}
+use Rattle.mem_system.specs.Contents.{SystemContents, SystemSteps, MakesTouches, hierarchy_of}
 use Rattle.mem_system.specs.Translation.{KeepsLeaves}
 use Rattle.cache_sharing.specs.Operations.{operation, plain}
 use Rattle.cap_table.specs.Slots.{Slots}
@@ -32,16 +32,16 @@ use Rattle.kernel_call.specs.Threads.{KeepsAtDelivery}
 use Rattle.world_view.specs.Frames.{root_of}
 use Rattle.world_view.specs.Kernel.{estate, no_dom}
 use Rattle.world_view.specs.Event.{delivery_touches, interrupts_of}
-use Rattle.world_view.specs.Machine.{Guards, World, Local, caches_of, clock_of, dom_of, part_of, with_part, with_hart, guards_of, setting_by, delivered, step, stretch, Owned, first_due, delivered_or_step, step_among, own_slot}
+use Rattle.world_view.specs.Machine.{Guards, World, Local, caches_of, clock_of, dom_of, part_of, with_part, with_hart, guards_of, setting_by, delivered, step, stretch, Owned, first_due, step_among, own_slot}
 use Rattle.world_view.specs.Relations.{IsDomain}
 use Rattle.world_view.proofs.opening.Separate.{Separated, separated}
 use Rattle.world_view.proofs.opening.OpeningFacts.{kernel_of}
 use Rattle.world_view.proofs.actions.TableLaws.{root_is}
 use Rattle.world_view.proofs.facts.FactsLaws.{AllBoth, among_keeps, own_keeps}
-use Rattle.world_view.proofs.runs.GuardLaws.{AreGuards, are_guards}
+use Rattle.world_view.proofs.runs.GuardLaws.{are_guards}
 use Rattle.domain_step.specs.Kept.{IsSetting}
 use Rattle.domain_step.specs.Moves as moves
-use Rattle.domain_step.specs.Standing.{MachineStands, DomainStands}
+use Rattle.domain_step.specs.Standing.{DomainStands}
 use Rattle.domain_step.proofs.Standing.{stands_in, machine_of, domain_of}
 use Rattle.domain_step.proofs.Events.{has_still}
 use Rattle.tp_machine.specs.Ablations.{StandsIn, first_among}

@@ -4,6 +4,8 @@ pub mod Among
 pub mod Opens
 pub mod Offs
 pub mod SwitchCounts
+pub mod Whole
 pub mod Openings
 pub mod Switches
 pub mod Slots
+pub mod SlotsOff

@@ -41,7 +41,7 @@ counted_none used n is = rw is (record { few = λ e. each_replicate (λ u. u.cou
 
 -- ---- a slice of all entries, written back
 
-written_back : {A : Type 0} (new items : List A) (n : ℕ) → length new ≡ n → length items ≡ n → take n (new ++ drop (length new) items) ≡ new
+pub written_back : {A : Type 0} (new items : List A) (n : ℕ) → length new ≡ n → length items ≡ n → take n (new ++ drop (length new) items) ≡ new
 written_back new items n long same =
     let rest : drop (length new) items ≡ [] = drop_all (length new) items (omega arith) in
     rw (rest, append-nil new) (take_all n new (omega arith))

@@ -1,74 +1,113 @@
--- The code's switch beside the definition's.
-use Rattle.std.proofs.Common.{◌≡◌, ℕ, ◌≤◌, Bool, false, Option, Some, sym, ap, subst, ◌∙◌, arith}
-use Rattle.std.specs.List.{slice_get}
-use Rattle.repl_policy.specs.Members.{any_rule}
-use Rattle.cycle_cost.specs.Costs.{CostTable}
-use Rattle.kernel_clone.specs.Footprints.{Layout, IsLayout}
+-- The code's switch beside the definition's, where all guards are on.
+use Rattle.std.proofs.Common.{◌≡◌, ◌∙◌, ℕ, ◌+◌, ◌≤◌, max, true, Option, Some, None, refl, ap, arith}
+use Rattle.std.specs.Prelude.{slice_get}
+use Rattle.repl_policy.specs.Members.{any_rule, any_stands_for}
+use Rattle.phys_mem.specs.Mem.{Mem}
+use Rattle.kernel_clone.specs.Footprints.{Layout}
+use Rattle.kernel_clone.specs.Models.{layout_model}
 use Rattle.mem_system.specs.Hierarchy.{Hierarchy}
-use Rattle.mem_system.specs.Cost.{touched_all}
-use Rattle.mem_system.specs.Contents.{hierarchy_of}
-use Rattle.cache_sharing.specs.Operations as operations
-use Rattle.domain_switch.specs.Switch.{IsCloneOn, IsInTime}
+use Rattle.mem_system.specs.Cost.{Caches}
+use Rattle.mem_system.specs.Contents.{SystemStands, hierarchy_of}
+use Rattle.mem_system.specs.Translation.{KeepsLeaves}
+use Rattle.domain_switch.specs.Switch.{IsCloneOn, IsSwitched}
 use Rattle.sched_table.specs.Schedule.{entry_of_slot, start, last_end, outgoing}
-use Rattle.sched_table.proofs.Starts.{pad_law}
 use Rattle.image_check.specs.Image.{Image, own_of}
 use Rattle.image_check.specs.Laws.{Runnable}
 use Rattle.kernel_call.specs.declared.domain.Domain.{Domain}
 use Rattle.world_view.specs.Kernel.{layout}
 use Rattle.world_view.specs.Cost.{hierarchy}
-use Rattle.world_view.specs.Machine.{caches_of, clone_of, switch_work, whole}
+use Rattle.world_view.specs.Machine.{guarded, clone_of, clone_by}
 use Rattle.world_view.specs.Relations.{IsDomain}
 use Rattle.world_view.proofs.opening.Separate.{separated}
-use Rattle.world_view.proofs.opening.OpeningFacts.{kernel_of}
 use Rattle.world_view.proofs.time.TimeLaws.{in_time}
-use Rattle.world_view.proofs.runs.SwitchParts.{switch_is}
 use Rattle.tp_machine.specs.Worlds.{Kept, StandsFor}
+use Rattle.tp_machine.proofs.Whole.{StandsBy, SwitchGiven, SlotStart, given_work, Switches, AreGiven, Begins, clone_is, begins}
+
+-- with all guards on
+pub by_all : (i : Image) (k : ℕ) (s : Kept) → StandsFor i k s → StandsBy None i k s
+unfolding guarded
+by_all i k s is = is
+
+pub own_clone : (i : Image) (out : Option ℕ) → clone_of i out ≡ clone_by (guarded i) out
+unfolding guarded
+own_clone i None = refl
+own_clone i (Some d) = refl
+
+-- what the code's switch is given, and what comes of it
+pub record Switching : Type 0 where
+  pub out : Option Layout
+  pub domain : ℕ  -- who enters
+  pub enters : Domain
+  pub old_end : ℕ
+  pub until : ℕ
+  pub start : SlotStart
+
+abbrev pub given : Switching → SwitchGiven
+given q = record {
+  loads = true;
+  flushes = true;
+  out = q.out;
+  into = layout_model q.enters.layout;
+  old_end = q.old_end;
+  until = q.until;
+}
+
+-- by the clauses of the code
+pub record IsSwitching (i : Image) (k : ℕ) (s : Kept) (q : Switching) : Type 0 where
+  pub out : q.out ≡ clone_of i (outgoing i.all.schedule k)
+  pub domain : q.domain ≡ (entry_of_slot i.all.schedule k).domain
+  pub enters : slice_get s.domains q.domain ≡ Some q.enters
+  pub old_end : q.old_end ≡ last_end i.all.schedule k
+  pub until : q.until ≡ start i.all.schedule k
+  pub levels : hierarchy_of any_rule q.start.system ≡ hierarchy_of any_rule s.system
+  pub pinned : q.start.system.core.pinned ≡ s.system.core.pinned
+  pub work : (c : Caches) → SystemStands any_stands_for s.system c
+      → IsSwitched any_stands_for q.old_end s.clock q.start.used q.start.system (given_work s (given q) c)
+  pub clock : q.start.now ≡ max (q.old_end + q.start.used) q.until
+  pub kept : (m : Mem) (frames root : ℕ) → KeepsLeaves m frames root q.start.system.core.tlb
 
 module _ (i : Image) (r : Runnable i) (k : ℕ) (s : Kept) (is : StandsFor i k s) where
   -- a domain's kernel clone is one of the code's hierarchy
   pub clone_on : (d : ℕ) (x : Domain) → IsDomain i d → slice_get s.domains d ≡ Some x
       → IsCloneOn (hierarchy_of any_rule s.system) x.layout
   unfolding hierarchy layout
-  clone_on d x domain got =
-      let same = (is.each_domain d x got).layout in
-      record {
-        layout = subst IsLayout (sym same) (kernel_of i (separated i r) d domain).has_layout;
-        line = ap (λ (l : Layout). l.line) same ∙ ap (λ (h : Hierarchy). h.line_size) is.machine.levels;
-      }
-
-  costs_are : s.system.core.costs ≡ i.all.hardware.costs
-  unfolding hierarchy
-  costs_are = ap (λ (h : Hierarchy). h.costs) (sym is.machine.levels)
-
-  -- what it touches is the definition's work
-  pub work_is : (out : Option Layout) (into : Layout) → out ≡ clone_of i (outgoing i.all.schedule k)
-      → into ≡ layout i.all.hardware (own_of i (entry_of_slot i.all.schedule k).domain)
-      → touched_all (hierarchy_of any_rule s.system) s.system.core.pinned (caches_of 0 (whole i k)) (operations.switch s.system.core.costs out into)
-      ≡ switch_work i (outgoing i.all.schedule k) (entry_of_slot i.all.schedule k).domain (caches_of 0 (whole i k))
-  work_is out into e f =
-      let p = i.all.hardware in
-      let c = caches_of 0 (whole i k) in
-      ap (λ (h : Hierarchy). touched_all h s.system.core.pinned c (operations.switch s.system.core.costs out into)) (sym is.machine.levels)
-      ∙ ap (λ (b : Bool). touched_all (hierarchy p) b c (operations.switch s.system.core.costs out into)) is.machine.pinned
-      ∙ ap (λ (t : CostTable). touched_all (hierarchy p) false c (operations.switch t out into)) costs_are
-      ∙ ap (λ (l : Option Layout). touched_all (hierarchy p) false c (operations.switch p.costs l into)) e
-      ∙ ap (λ (l : Layout). touched_all (hierarchy p) false c (operations.switch p.costs (clone_of i (outgoing i.all.schedule k)) l)) f
-      ∙ sym (switch_is i (outgoing i.all.schedule k) (entry_of_slot i.all.schedule k).domain c)
-
-  in_time_by : IsInTime (hierarchy i.all.hardware) (caches_of 0 (whole i k)) i.all.hardware.shared (last_end i.all.schedule k) s.clock (start i.all.schedule k)
-  unfolding hierarchy
-  in_time_by =
-      let time = in_time i (separated i r) k in
-      let soon = time.soon in
-      let padded = (separated i r).padded k in
-      let at = pad_law i.all.schedule k in
-      record { ways = time.ways; late = omega (arith, soon, is.machine.time); pad = omega (arith, padded, at) }
-
-  -- it begins in time, and the next start is far enough
-  pub is_in_time : IsInTime (hierarchy_of any_rule s.system) (caches_of 0 (whole i k)) i.all.hardware.shared (last_end i.all.schedule k) s.clock (start i.all.schedule k)
-  is_in_time =
-      subst (λ (h : Hierarchy). IsInTime h (caches_of 0 (whole i k)) i.all.hardware.shared (last_end i.all.schedule k) s.clock (start i.all.schedule k)) is.machine.levels in_time_by
+  clone_on d x domain got = record {
+    layout = clone_is None i k r s (by_all i k s is) d x domain got;
+    line =
+        ap (λ (l : Layout). l.line) (is.each_domain d x got).layout
+        ∙ ap (λ (h : Hierarchy). h.line_size) is.machine.levels;
+  }
 
   -- the last slot has ended
   pub ended : last_end i.all.schedule k ≤ s.clock
   ended = let over = (in_time i (separated i r) k).over in omega (arith, over, is.machine.time)
+
+  module _ (q : Switching) (does : IsSwitching i k s q) where
+    are_given : AreGiven None i k (given q)
+    unfolding guarded
+    are_given = record {
+      loads = refl;
+      flushes = refl;
+      out = does.out ∙ own_clone i (outgoing i.all.schedule k);
+      into =
+          (is.each_domain q.domain q.enters does.enters).layout
+          ∙ ap (λ (n : ℕ). layout i.all.hardware (own_of i n)) does.domain;
+      old_end = does.old_end;
+      padded = λ pads. does.until;
+      unpadded = λ other. absurd (cc other);
+    }
+
+    switches : Switches s (given q) q.start
+    switches = record {
+      levels = does.levels;
+      pinned = does.pinned;
+      work = does.work;
+      clock = λ c stands.
+          let time = (does.work c stands).time in
+          let over = ended in
+          omega (arith, time, over, does.clock, does.old_end);
+      kept = does.kept;
+    }
+
+    pub begins_here : Begins None i k s q.start
+    begins_here = begins None i k r s (by_all i k s is) (given q) q.start are_given switches

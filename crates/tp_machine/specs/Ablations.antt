@@ -1,5 +1,5 @@
 -- What the code's machine with a guard off stands for.
-use Rattle.std.specs.Prelude.{◌≡◌, ℕ, zero, suc, ◌+◌, ◌*◌, ◌^◌, ◌≤◌, false, List, length, slice_get, Option, Some, None, option_map}
+use Rattle.std.specs.Prelude.{◌≡◌, ℕ, zero, suc, ◌+◌, ◌*◌, ◌^◌, ◌≤◌, false, List, length, slice_get, Option, Some, None}
 use Rattle.phys_mem.specs.Contents.{Contents}
 use Rattle.repl_policy.specs.declared.AnyPolicy.{AnyPolicy}
 use Rattle.guards.specs.declared.Guard.{Guard}

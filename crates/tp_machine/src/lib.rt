@@ -2,9 +2,11 @@
 //! that it stands for the definition of the whole machine after so many slots.
 #![tactic(auto)]
 
+mod ablated;
 mod machine;
 mod off;
 mod open;
 mod used;
 
+pub use ablated::Ablated;
 pub use machine::Machine;

@@ -42,8 +42,8 @@ pub struct Machine<'a> {
     ghost in_bounds: { IsInBounds slots (kept memory system domains.items used.items clock) },
 }
 
-// For each entry, that there was no switch.
-fn unused(alloc: Global, entries: u32) -> Result<Vec<Used>, Memory>
+/// For each entry, that there was no switch.
+pub(crate) fn unused(alloc: Global, entries: u32) -> Result<Vec<Used>, Memory>
     ensures all { IfOk result (λ us. length us.items ≡ entries) }
     ensures unused { IfOk result (λ us. IsUsed us.items []) }
     ensures few { IfOk result (λ us. CountedUpTo 0 us.items) }

@@ -1,5 +1,5 @@
 // What a guard that is off leaves out.
-ghost use Rattle.std.specs.Prelude.{◌≡◌, ◌≢◌, ◌+◌, ◌^◌, ◌<◌, ◌≤◌, length, max, slice_get, Some};
+ghost use Rattle.std.specs.Prelude.{true, false, ◌≡◌, ◌≢◌, ◌+◌, ◌^◌, ◌<◌, ◌≤◌, length, max, slice_get, Some};
 ghost use Rattle.repl_policy.specs.Members.{any_rule, any_takes};
 ghost use Rattle.cycle_cost.specs.Ranges.{most_event};
 ghost use Rattle.mem_system.specs.Geometry.{IsGeometry, hierarchy_by};
@@ -88,6 +88,32 @@ fn give_clone(domains: &mut [Domain], layout: &CloneLayout)
 {
     for d in 0..domains.len() {
         domains[d].layout = *layout;
+    }
+}
+
+/// What a switch waits for where the next slot starts then, in cycles: without pads
+/// for nothing.
+pub(crate) fn until_off(off: Guard, start: u64) -> u64
+    ensures waits { (i : Image) → (spec.without off i).pad ≡ true → result ≡ start }
+    ensures waits_not { (i : Image) → (spec.without off i).pad ≡ false → result ≡ 0 }
+    ensures soon { result ≤ start }
+{
+    match off {
+        Guard::Pad => 0,
+        _ => start,
+    }
+}
+
+/// From when a slot's length counts, in cycles: from its start, and without pads from
+/// when it begins.
+pub(crate) fn begins_by(off: Guard, start: u64, begins: u64) -> u64
+    ensures padded { (i : Image) → (spec.without off i).pad ≡ true → result ≡ start }
+    ensures unpadded { (i : Image) → (spec.without off i).pad ≡ false → result ≡ begins }
+    ensures soon { result ≤ max start begins }
+{
+    match off {
+        Guard::Pad => begins,
+        _ => start,
     }
 }
 

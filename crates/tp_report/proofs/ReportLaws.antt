@@ -7,7 +7,7 @@ use Rattle.world_view.specs.View.{view_whole, view_alone}
 use Rattle.tp_report.specs.Texts.{section}
 use Rattle.world_view.specs.Used.{largest_of}
 use Rattle.tp_report.specs.Laws.{SaysWithinPad}
-use Rattle.tp_report.specs.Report.{switch_text, section_of, sections, switch_lines, end_text, report_with, report, report_apart}
+use Rattle.tp_report.specs.Report.{switch_text, section_of, sections, switch_lines, end_text, report_with, report_of, report, report_apart}
 use Rattle.world_view.specs.Relations.{IsDomain, AllWithinPads}
 use Rattle.world_view.proofs.opening.Separate.{Separated}
 use Rattle.world_view.proofs.time.TimeLaws.{largest_within}
@@ -23,7 +23,7 @@ unfolding section_of
 section_same i n d r is = ap (section d (own_of i d).name) (isolated i d n r is)
 
 pub reported_apart : (i : Image) (n : ℕ) → Separated i → report i n ≡ report_apart i n
-unfolding report report_apart report_with sections
+unfolding report report_of report_apart report_with sections view_whole
 reported_apart i n r =
     let whole_section = section_of i (λ d. view_whole i d n) in
     let alone_section = section_of i (λ d. view_alone i.all (own_of i d) d n) in

@@ -2,15 +2,17 @@
 use Rattle.std.specs.Prelude.{ℕ, List, [], ◌∷◌, ◌++◌, length, codes, decimal}
 use Rattle.std.specs.Fmt.{signed_decimal}
 use Rattle.std.specs.List.{concat, flat_map, range_with_len}
+use Rattle.guards.specs.declared.Guard.{Guard}
+use Rattle.guards.specs.Names.{name_of}
 use Rattle.image_text.specs.declared.refusal.Refusal.{Refusal}
 use Rattle.sched_table.specs.declared.schedule.Entry.{Entry}
 use Rattle.sched_table.specs.Schedule.{entry_in}
 use Rattle.pad_bound.specs.Bound.{MachineShape, worst_instruction, worst_operation, worst_leave, worst_prefetch, worst_flush, worst_enter, bound_of}
 use Rattle.pad_bound.specs.declared.shape.Bound.{Bound}
 use Rattle.image_check.specs.Image.{Image, own_of}
-use Rattle.world_view.specs.Machine.{whole}
+use Rattle.world_view.specs.Machine.{World, whole, whole_off}
 use Rattle.world_view.specs.Used.{count_of, largest_of}
-use Rattle.world_view.specs.View.{View, view_whole, view_alone}
+use Rattle.world_view.specs.View.{View, view_in, view_alone}
 use Rattle.tp_report.specs.Texts.{section}
 
 -- ---- switches
@@ -41,17 +43,34 @@ sections i views = flat_map (section_of i views) (range_with_len 0 (length i.own
 unfoldable pub report_with : Image → (ℕ → View) → List (ℕ × ℕ) → List ℕ
 report_with i views used = concat (sections i views ∷ switch_lines i.all.schedule used ∷ end_text ∷ [])
 
--- the report of the whole machine after n slots
-unfoldable pub report : Image → ℕ → List ℕ
-report i n = report_with i (λ d. view_whole i d n) (whole i n).used
+-- of a machine in this state
+unfoldable pub report_of : Image → World → List ℕ
+report_of i w = report_with i (λ d. view_in i d w) w.used
 
 -- what ends it: the switch lines, and the last line
+unfoldable pub ending_of : Image → World → List ℕ
+ending_of i w = switch_lines i.all.schedule w.used ++ end_text
+
+-- the report of the whole machine after n slots
+unfoldable pub report : Image → ℕ → List ℕ
+report i n = report_of i (whole i n)
+
 unfoldable pub ending : Image → ℕ → List ℕ
-ending i n = switch_lines i.all.schedule (whole i n).used ++ end_text
+ending i n = ending_of i (whole i n)
 
 -- the report in which each section is that of its domain alone
 unfoldable pub report_apart : Image → ℕ → List ℕ
 report_apart i n = report_with i (λ d. view_alone i.all (own_of i d) d n) (whole i n).used
+
+-- ---- with a guard off
+
+-- which one
+unfoldable pub unprotected_text : Guard → List ℕ
+unprotected_text off = concat (codes "unprotected " ∷ name_of off ∷ codes "\n" ∷ [])
+
+-- which one, and the report of that machine after n slots
+unfoldable pub report_off : Guard → Image → ℕ → List ℕ
+report_off off i n = unprotected_text off ++ report_of i (whole_off off i n)
 
 -- ---- the bound on a switch
 

@@ -4,8 +4,9 @@ ghost use Rattle.std.specs.Prelude.{◌≡◌, ℕ, List, [], ◌∷◌, Some, N
 ghost use Rattle.rv_core.specs.Registers.{zeros, with_register};
 ghost use Rattle.call_table.specs.declared.DomainStatus.TheVariants.{Running};
 ghost use Rattle.thread_set.specs.declared.ThreadState.TheVariants.{Never, Ready, Waiting, Ended};
+ghost use Rattle.guards.specs.declared.Guard.TheVariants.{Flush};
 ghost use Rattle.tp_report.specs.Report.{switch_line, end_text, usage_text, refusal_text, too_long_text};
-ghost use Rattle.tp_report.specs.Report.{bound_text, accepted_text};
+ghost use Rattle.tp_report.specs.Report.{bound_text, accepted_text, unprotected_text};
 ghost use Rattle.tp_report.specs.Texts.{thread_text, threads_text};
 ghost use Rattle.tp_report.specs.Demo.{demo_head, demo_domain};
 ghost use Rattle.tp_report.specs.Laws.{ReportLaw, LinesLaw};
@@ -43,6 +44,7 @@ pub fn texts()
         ≡ codes "instruction 306\noperation 4277\nleave 383\nprefetch 472\nflush 340\nenter 373\nbound 6150\n" }
     ensures accepted { accepted_text ≡ codes "accepted\n" }
     ensures too_long { too_long_text ≡ codes "too long\n" }
+    ensures unprotected { unprotected_text Flush ≡ codes "unprotected flush\n" }
     ensures waiting { thread_text (1, record { state = Waiting 12; pc = 4294967292; regs = zeros })
         ≡ codes "\nthread 1 waiting 12 pc fffffffc" }
     ensures second { thread_text (3, record { state = Ended; pc = 65536; regs = with_register zeros 10 2 })

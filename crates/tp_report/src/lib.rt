@@ -10,5 +10,5 @@ mod report;
 pub use demo::{DemoPart, write_demo};
 pub use report::{
     write_accepted, write_bound, write_refusal, write_section, write_switches, write_too_long,
-    write_usage,
+    write_unprotected, write_usage,
 };

@@ -11,6 +11,7 @@ ghost use Rattle.tp_report.specs.Switches.{ending_text, switches_text};
 
 use crate::batch::Batch;
 use crate::pieces::{Piece, add_pieces, write_pieces};
+use guards::Guard;
 use image_check::{Refusal, Schedule};
 use pad_bound::Bound;
 use thread_set::{Thread, ThreadState};
@@ -300,6 +301,22 @@ pub fn write_usage<K: Sink>(out: &mut K) -> Result<(), Failed>
     ensures sends { Sends (state K.Sink out.old) (state K.Sink out.new) result report_spec.usage_text }
 {
     write_all_of(out, b"usage: tp check|bound|run|alone|gen|demo\n")
+}
+
+/// Writes which guard is off: the first line of what a machine without it reports.
+#[tactic(auto, unfolding(crate::specs::Report::unprotected_text))]
+pub fn write_unprotected<K: Sink>(out: &mut K, off: Guard) -> Result<(), Failed>
+    ensures sends { Sends (state K.Sink out.old) (state K.Sink out.new)
+        result (report_spec.unprotected_text off) }
+{
+    write_pieces(
+        out,
+        &[
+            Piece::Text("unprotected "),
+            Piece::Text(off.name()),
+            Piece::Text("\n"),
+        ],
+    )
 }
 
 /// Writes the rule that an image breaks, and its three numbers.

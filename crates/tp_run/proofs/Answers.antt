@@ -14,7 +14,7 @@ use Rattle.world_view.specs.Reading.{most_bytes}
 use Rattle.world_view.specs.Relations.{IsDomain}
 use Rattle.tp_report.specs.Report.{usage_text, refusal_text, too_long_text}
 use Rattle.tp_words.specs.declared.Command.{Command}
-use Rattle.tp_words.specs.declared.Command.TheVariants.{Check, Bound, Run, Alone, Gen, Demo}
+use Rattle.tp_words.specs.declared.Command.TheVariants.{Check, Bound, Run, Alone, Gen, Demo, Ablate}
 use Rattle.tp_run.specs.declared.status.Status.{Status}
 use Rattle.tp_run.specs.declared.status.Status.TheVariants.{Done, Refused, Usage, ReadFault, WriteFault, Memory, TooLong}
 use Rattle.tp_words.specs.Words.{Reads, command}
@@ -138,6 +138,7 @@ longer_reads Check bytes none over = tt
 longer_reads Bound bytes none over = tt
 longer_reads (Run n) bytes none over = tt
 longer_reads (Alone d n) bytes none over = tt
+longer_reads (Ablate off n) bytes none over = tt
 longer_reads (Gen s) bytes none over =
     let empty = ap length (none (λ reads. reads)) in absurd (omega (arith, empty))
 longer_reads (Demo s) bytes none over =
@@ -151,6 +152,7 @@ read_due bytes Check reads = refl
 read_due bytes Bound reads = refl
 read_due bytes (Run n) reads = refl
 read_due bytes (Alone d n) reads = refl
+read_due bytes (Ablate off n) reads = refl
 read_due bytes (Gen s) reads = absurd reads
 read_due bytes (Demo s) reads = absurd reads
 
@@ -233,6 +235,7 @@ of_image (Run n) (Ok i) = tt
 of_image (Alone d n) (Ok i) =
     of_chosen IsOfImage (ltb d (length i.owns)) (Done, section_alone i d n) (Usage, usage_text) tt
     tt
+of_image (Ablate off n) (Ok i) = tt
 of_image (Gen s) (Ok i) = tt
 of_image (Demo s) (Ok i) = tt
 of_image c (Err r) = tt
@@ -245,6 +248,7 @@ usage_of Check (Ok i) e = cc e
 usage_of Bound (Ok i) e = cc e
 usage_of (Run n) (Ok i) e = cc e
 usage_of (Alone d n) found e = tt
+usage_of (Ablate off n) (Ok i) e = cc e
 usage_of (Gen s) (Ok i) e = cc e
 usage_of (Demo s) (Ok i) e = cc e
 usage_of c (Err r) e = absurd (cc e)
@@ -257,6 +261,7 @@ other_reads Check items status e other = tt
 other_reads Bound items status e other = tt
 other_reads (Run n) items status e other = tt
 other_reads (Alone d n) items status e other = tt
+other_reads (Ablate off n) items status e other = tt
 other_reads (Gen s) items status e other = absurd (other e)
 other_reads (Demo s) items status e other = absurd (other e)
 

@@ -4,6 +4,7 @@ use Rattle.std.specs.Prelude.{slice_get}
 use Rattle.std.proofs.lemmas.Bool.{cases_lt}
 use Rattle.tp_io.specs.Bytes.{before_known, after_known, AtEnd}
 use Rattle.tp_io.specs.Sends.{SinkState}
+use Rattle.guards.specs.declared.Guard.{Guard}
 use Rattle.image_text.specs.declared.refusal.Refusal.{Refusal}
 use Rattle.image_text.specs.Record as text
 use Rattle.image_check.specs.Pads.{shape_of}
@@ -24,14 +25,14 @@ use Rattle.tp_report.specs.Texts.{section}
 use Rattle.tp_report.specs.Report.{report, section_of, bound_text, bound_in_parts, usage_text, refusal_text}
 use Rattle.tp_report.proofs.ReportLaws.{reported_apart}
 use Rattle.tp_words.specs.declared.Command.{Command}
-use Rattle.tp_words.specs.declared.Command.TheVariants.{Check, Bound, Run, Alone, Gen, Demo}
+use Rattle.tp_words.specs.declared.Command.TheVariants.{Check, Bound, Run, Alone, Gen, Demo, Ablate}
 use Rattle.tp_run.specs.declared.status.Status.{Status}
 use Rattle.tp_run.specs.declared.status.Status.TheVariants.{Done, Refused, Usage, TooLong}
 use Rattle.tp_words.specs.Words.{Reads, command}
 use Rattle.tp_run.specs.Reading.{broken_for, broken_in, checked_for, image_for}
 use Rattle.tp_run.specs.Answer.{Answer, answer, answer_of_bytes, answer_unless_broken, answer_of_image, answer_alone, section_alone}
 use Rattle.tp_run.proofs.Accepted.{value_or}
-use Rattle.tp_run.specs.TopCall.{Writes, Delivers, MayBeUsage, ReadsImage, Refuses, Accepts, Bounds, Isolated, Padded, LacksDomain, WritesSection, SameSection, ReadsBack, Generates, Summarizes}
+use Rattle.tp_run.specs.TopCall.{Writes, Delivers, MayBeUsage, ReadsImage, Refuses, Accepts, Bounds, Isolated, Padded, LacksDomain, WritesSection, SameSection, WritesOff, ReadsBack, Generates, Summarizes}
 use Rattle.tp_run.proofs.Answers.{all_taken, over_taken, too_long_due, image_due, bytes_due, gen_due, demo_due, alone_due, lacks_due, of_chosen, usage_of, other_reads, is_few, is_over}
 
 -- ---- the same is due
@@ -57,6 +58,8 @@ same_taken Bound bytes items rest took whole = same_read Bound tt bytes items re
 same_taken (Run n) bytes items rest took whole = same_read (Run n) tt bytes items rest took whole
 same_taken (Alone d n) bytes items rest took whole =
     same_read (Alone d n) tt bytes items rest took whole
+same_taken (Ablate off n) bytes items rest took whole =
+    same_read (Ablate off n) tt bytes items rest took whole
 
 -- ---- a command that was answered
 
@@ -167,6 +170,12 @@ unfolding checked_for checked broken_for
 alone_reads d n (Ok i) = refl
 alone_reads d n (Err r) = refl
 
+off_reads : (off : Guard) (n : ℕ) (found : Result text.Raw Refusal)
+    → checked_for (Ablate off n) found ≡ checked found
+unfolding checked_for checked broken_for
+off_reads off n (Ok i) = refl
+off_reads off n (Err r) = refl
+
 -- another status than Refused tells that an image was found
 found_image : (c : Command) (found : Result Image Refusal) (status : Status) → status ≢ Refused
     → status ≡ (answer_unless_broken c found).0
@@ -186,6 +195,7 @@ unfolding answer_of_image answer_alone
 no_refusal Check i e = cc e
 no_refusal Bound i e = cc e
 no_refusal (Run n) i e = cc e
+no_refusal (Ablate off n) i e = cc e
 no_refusal (Gen s) i e = cc e
 no_refusal (Demo s) i e = cc e
 no_refusal (Alone d n) i e =
@@ -417,6 +427,19 @@ is_same_section k n left left' old new w = record {
       ∙ ap (after_known old)
       (alone_section w.ran.found k n (read_separated left left' w.ran) w.domain);
 }
+
+-- ---- a run with a guard off
+
+pub writes_off : (off : Guard) (n : ℕ) (a : Asked) → IsAnswered a → a.command ≡ Ablate off n → a.status ≡ Done
+    → WritesOff off n a.left a.left' a.old.written a.new.written
+unfolding answer_of_image
+writes_off off n a h asked done =
+    let b : Asked = record a { command = Ablate off n } in
+    let k : IsAnswered b = as_command a (Ablate off n) asked h in
+    let due : IsDue b Done (due_to b) = wrote_as b k Done done in
+    let (r, is, wrote) =
+    reads_image b k tt (off_reads off n) Done done_is_found due (done_reads b k tt done) in
+    record { ran = r; wrote = wrote }
 
 -- ---- the image that a seed makes
 

@@ -5,12 +5,12 @@ use Rattle.std.proofs.lemmas.List.{append-nil}
 use Rattle.std.proofs.lemmas.Option.{slice_get-get_or}
 use Rattle.sched_table.specs.declared.schedule.Entry.{Entry}
 use Rattle.image_check.specs.Image.{Image, own_of}
-use Rattle.world_view.specs.Machine.{whole}
-use Rattle.world_view.specs.View.{View, view_whole, view_alone}
+use Rattle.world_view.specs.Machine.{World}
+use Rattle.world_view.specs.View.{View, view_in, view_alone}
 use Rattle.world_view.specs.declared.view.Used.{Used}
 use Rattle.tp_machine.specs.Usage.{IsUsed}
 use Rattle.tp_report.specs.Texts.{section}
-use Rattle.tp_report.specs.Report.{section_of, sections, switch_lines, end_text, report_with, report, ending}
+use Rattle.tp_report.specs.Report.{section_of, sections, switch_lines, end_text, report_with, report_of, ending_of}
 use Rattle.tp_report.specs.Switches.{no_used, used_in, switches_text, ending_text}
 use Rattle.tp_report.proofs.Switches.{switches_text-lines}
 use Rattle.tp_run.specs.Answer.{section_alone}
@@ -31,13 +31,14 @@ kept_lines es used us same is =
     (is.largest e (used_in used e) kept, is.count e (used_in used e) kept))
 
 -- what the code keeps of the switches ends the report
-pub kept_ending : (i : Image) (n : ℕ) (es : List Entry) (used : List Used) → es ≡ i.all.schedule
-    → length used ≡ length i.all.schedule → IsUsed used (whole i n).used → ending_text es used ≡ ending i n
-unfolding ending_text ending
-kept_ending i n es used own all each =
-    let lines = kept_lines i.all.schedule used (whole i n).used all each in
+pub kept_ending : (i : Image) (w : World) (es : List Entry) (used : List Used) → es ≡ i.all.schedule
+    → length used ≡ length i.all.schedule → IsUsed used w.used → ending_text es used ≡ ending_of i w
+unfolding ending_text ending_of
+kept_ending i w es used own all each =
+    let lines = kept_lines i.all.schedule used w.used all each in
     ap (λ entries. switches_text entries used ++ end_text) own ∙ ap (λ text. text ++ end_text) lines
 
-pub report_parts : (i : Image) (n : ℕ) → report i n ≡ sections i (λ d. view_whole i d n) ++ ending i n
-unfolding report report_with ending
-report_parts i n = ap (λ text. sections i (λ d. view_whole i d n) ++ (switch_lines i.all.schedule (whole i n).used ++ text)) (append-nil end_text)
+pub report_parts : (i : Image) (w : World) → report_of i w ≡ sections i (λ d. view_in i d w) ++ ending_of i w
+unfolding report_of report_with ending_of
+report_parts i w =
+    ap (λ text. sections i (λ d. view_in i d w) ++ (switch_lines i.all.schedule w.used ++ text)) (append-nil end_text)

@@ -7,10 +7,10 @@ use Rattle.image_gen.specs.Generated.{generated}
 use Rattle.image_gen.specs.Text.{text as generated_text}
 use Rattle.world_view.specs.Reading.{most_bytes}
 use Rattle.world_view.specs.View.{view_alone}
-use Rattle.tp_report.specs.Report.{report, section_of, bound_in_parts, bound_text, accepted_text, usage_text, refusal_text, too_long_text}
+use Rattle.tp_report.specs.Report.{report, report_off, section_of, bound_in_parts, bound_text, accepted_text, usage_text, refusal_text, too_long_text}
 use Rattle.tp_report.specs.Demo.{demo_text}
 use Rattle.tp_words.specs.declared.Command.{Command}
-use Rattle.tp_words.specs.declared.Command.TheVariants.{Check, Bound, Run, Alone, Gen, Demo}
+use Rattle.tp_words.specs.declared.Command.TheVariants.{Check, Bound, Run, Alone, Gen, Demo, Ablate}
 use Rattle.tp_run.specs.declared.status.Status.{Status}
 use Rattle.tp_run.specs.declared.status.Status.TheVariants.{Done, Refused, Usage, TooLong}
 use Rattle.tp_run.specs.Reading.{image_for}
@@ -44,6 +44,7 @@ answer_of_image (Run n) i = (Done, report i n)
 answer_of_image (Alone d n) i = answer_alone d n i
 answer_of_image (Gen s) i = answer_gen s
 answer_of_image (Demo s) i = answer_demo s
+answer_of_image (Ablate off n) i = (Done, report_off off i n)
 
 unfoldable pub answer_unless_broken : Command → Result Image Refusal → Answer
 answer_unless_broken c (Ok i) = answer_of_image c i

@@ -4,6 +4,7 @@ use Rattle.tp_io.specs.Bytes.{before_known, after_known, AtEnd, PutsFront}
 use Rattle.tp_io.specs.Causes.{TellsFault}
 use Rattle.tp_io.specs.Sends.{SinkState}
 use Rattle.tp_io.specs.Sure.{Exceeds}
+use Rattle.guards.specs.declared.Guard.{Guard}
 use Rattle.image_text.specs.declared.refusal.Refusal.{Refusal}
 use Rattle.image_text.specs.Record as text
 use Rattle.image_gen.specs.Generated.{generated}
@@ -18,7 +19,7 @@ use Rattle.world_view.specs.Machine.{clock_of, switch, whole}
 use Rattle.world_view.specs.View.{view_whole, view_alone}
 use Rattle.world_view.specs.Relations.{IsDomain, AllWithinPads}
 use Rattle.world_view.specs.Used.{largest_of}
-use Rattle.tp_report.specs.Report.{report_apart, section_of, bound_in_parts, bound_text, accepted_text, usage_text, refusal_text}
+use Rattle.tp_report.specs.Report.{report_apart, report_off, section_of, bound_in_parts, bound_text, accepted_text, usage_text, refusal_text}
 use Rattle.tp_report.specs.Demo.{demo_text}
 use Rattle.tp_words.specs.declared.Command.{Command}
 use Rattle.tp_words.specs.declared.Command.TheVariants.{Alone}
@@ -153,6 +154,13 @@ pub record SameSection (d slots : ℕ) (left left' written written' : Option (Li
   pub ran : ReadsImage left left'
   pub domain : IsDomain ran.found d
   pub wrote : written' ≡ after_known written (section_of ran.found (λ e. view_whole ran.found e slots) d)
+
+-- ---- a run with a guard off
+
+-- which guard is off, and the report of the machine without it, were written
+pub record WritesOff (off : Guard) (slots : ℕ) (left left' written written' : Option (List ℕ)) : Type 0 where
+  pub ran : ReadsImage left left'
+  pub wrote : written' ≡ after_known written (report_off off ran.found slots)
 
 -- ---- the image that a seed makes
 

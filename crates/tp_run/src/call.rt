@@ -4,13 +4,14 @@ ghost use Rattle.std.specs.Prelude.{List, [], ℕ, Some, None, Result, Err, leng
 ghost use Rattle.tp_io.specs.Bytes.{before_known, AtEnd};
 ghost use Rattle.tp_io.specs.Causes.{TellsFault};
 ghost use Rattle.tp_io.specs.Sink.{state};
+ghost use Rattle.guards.specs.declared.Guard.{Guard};
 ghost use Rattle.image_text.specs.declared.refusal.Refusal.{Refusal};
 ghost use Rattle.image_check.specs.Image.{Image};
 ghost use Rattle.tp_run.specs.Answer as spec;
 ghost use Rattle.tp_run.specs.TopCall.{Writes, EndsUsage, Delivers, ComesTo, Answered, IsOver};
 ghost use Rattle.tp_run.specs.TopCall.{Isolated, Padded, MayBeUsage};
 ghost use Rattle.tp_run.specs.TopCall.{Refuses, Accepts, Bounds};
-ghost use Rattle.tp_run.specs.TopCall.{LacksDomain, WritesSection, SameSection};
+ghost use Rattle.tp_run.specs.TopCall.{LacksDomain, WritesSection, SameSection, WritesOff};
 ghost use Rattle.tp_run.specs.TopCall.{ReadsBack, Generates, Summarizes};
 ghost use Rattle.tp_run.specs.Accepting.{Accepting, IsRefused};
 ghost use Rattle.tp_run.specs.Reading.{image_for};
@@ -19,7 +20,8 @@ ghost use Rattle.tp_words.specs.Words.{IsInRange, Reads, command, words_of};
 use crate::Status;
 use crate::alone::run_domain;
 use crate::generate::{run_demo, write_generated};
-use crate::run::{domains_of, run_image};
+use crate::run::{domains_of, run_image, run_off};
+use guards::Guard;
 use image_check::{CheckRefusal, Checked, Unpadded, check, check_but_pads};
 use image_text::read_image;
 use pad_bound::bound;
@@ -116,6 +118,12 @@ pub fn tp_main<S: Source, K: Sink>(
         → command (words_of words.now) ≡ Some (Command.Alone d slots) → result ≡ Status.Done
         → SameSection d slots (S.left src.old) (S.left src.new) (K.written out.old) (K.written out.new) }
 
+    // A run with a guard off: which one, and what that machine reports, of which no isolation and no
+    // pad is promised.
+    ensures unprotected { (off : Guard) (slots : ℕ)
+        → command (words_of words.now) ≡ Some (Command.Ablate off slots) → result ≡ Status.Done
+        → WritesOff off slots (S.left src.old) (S.left src.new) (K.written out.old) (K.written out.new) }
+
     // The image that a seed makes, as a text that reads as its record; and the summary of its run.
     ensures generated { (seed : ℕ)
         → command (words_of words.now) ≡ Some (Command.Gen seed) → result ≡ Status.Done
@@ -172,6 +180,7 @@ fn answer_bytes<K: Sink>(alloc: Global, command: Command, bytes: &[u8], out: &mu
         Command::Alone { domain, slots } => answer_alone(alloc, bytes, domain, slots, out),
         Command::Gen { seed } => write_generated(alloc, seed, out),
         Command::Demo { seed } => run_demo(alloc, seed, out),
+        Command::Ablate { off, slots } => answer_off(alloc, bytes, off, slots, out),
     }
 }
 
@@ -229,6 +238,19 @@ fn answer_alone<K: Sink>(alloc: Global, bytes: &[u8], domain: u8, slots: u32, ou
     }
 }
 
+// A run with a guard off of the image that bytes are, where it breaks no rule.
+fn answer_off<K: Sink>(alloc: Global, bytes: &[u8], off: Guard, slots: u32, out: &mut K) -> Status
+    requires few { slots ≤ 65536 }
+    ensures delivers { Delivers (spec.answer_unless_broken
+        (Command.Ablate off slots) (image_for (Command.Ablate off slots) bytes.now))
+        result (state K.Sink out.old) (state K.Sink out.new) }
+{
+    match accepted(alloc, bytes) {
+        Ok(image) => run_off(alloc, &image, off, slots, out),
+        Err(refusal) => refuse(&refusal, out),
+    }
+}
+
 // Names the rule that is broken, unless memory ran out.
 fn refuse<K: Sink>(refusal: &CheckRefusal, out: &mut K) -> Status
     ensures delivers { (c : Command) (found : Result Image Refusal) → IsRefused refusal.now found
@@ -248,6 +270,8 @@ pub fn accepted(alloc: Global, bytes: &[u8]) -> Result<Checked, CheckRefusal>
     ensures check { Accepting result (image_for Command.Check bytes.now) }
     ensures run { (slots : ℕ) → Accepting result (image_for (Command.Run slots) bytes.now) }
     ensures alone { (d slots : ℕ) → Accepting result (image_for (Command.Alone d slots) bytes.now) }
+    ensures ablate { (off : Guard) (slots : ℕ)
+        → Accepting result (image_for (Command.Ablate off slots) bytes.now) }
 {
     match read_image(alloc, bytes) {
         Ok(raw) => check(alloc, raw),

@@ -4,6 +4,7 @@
 mod alone;
 mod call;
 mod generate;
+mod reported;
 mod run;
 mod status;
 

@@ -4,18 +4,20 @@ ghost use Rattle.tp_io.specs.Sends.{Sends};
 ghost use Rattle.tp_io.specs.Sink.{state};
 ghost use Rattle.image_check.specs.Own.{owns_of};
 ghost use Rattle.image_check.specs.Image.{image_from};
-ghost use Rattle.world_view.specs.View.{view_whole};
+ghost use Rattle.world_view.specs.View.{view_in};
 ghost use Rattle.tp_report.specs.Report as spec;
 ghost use Rattle.tp_run.specs.TopCall.{Delivers};
 
 use crate::Status;
 use crate::call::status_unless_failed;
+use crate::reported::Reported;
+use guards::Guard;
 use image_check::Checked;
 use std::alloc::Global;
 use tp_base::Memory;
 use tp_io::{Failed, Sink};
-use tp_machine::Machine;
-use tp_report::{write_section, write_switches};
+use tp_machine::{Ablated, Machine};
+use tp_report::{write_section, write_switches, write_unprotected};
 
 /// Runs the image for so many slots and writes the report.
 pub fn run_image<K: Sink>(alloc: Global, image: &Checked, slots: u32, out: &mut K) -> Status
@@ -25,6 +27,24 @@ pub fn run_image<K: Sink>(alloc: Global, image: &Checked, slots: u32, out: &mut 
 {
     match machine_after(alloc, image, slots) {
         Ok(machine) => status_unless_failed(Status::Done, write_report(out, &machine)),
+        Err(Memory) => Status::Memory,
+    }
+}
+
+/// Runs the image with a guard off for so many slots and writes which one, and the report.
+pub fn run_off<K: Sink>(
+    alloc: Global,
+    image: &Checked,
+    off: Guard,
+    slots: u32,
+    out: &mut K,
+) -> Status
+    requires few { slots ≤ 65536 }
+    ensures delivers { Delivers (Status.Done, spec.report_off off (image_from image.now) slots)
+        result (state K.Sink out.old) (state K.Sink out.new) }
+{
+    match ablated_after(alloc, image, off, slots) {
+        Ok(machine) => status_unless_failed(Status::Done, write_report_off(out, &machine)),
         Err(Memory) => Status::Memory,
     }
 }
@@ -49,31 +69,63 @@ pub fn machine_after<'a>(
     Ok(machine)
 }
 
-// The report after the slots that have run.
-fn write_report<K: Sink>(out: &mut K, machine: &Machine<'_>) -> Result<(), Failed>
+// The machine of the image with a guard off, after so many slots.
+fn ablated_after<'a>(
+    alloc: Global,
+    image: &'a Checked,
+    off: Guard,
+    slots: u32,
+) -> Result<Ablated<'a>, Memory>
+    requires few { slots ≤ 65536 }
+    ensures slots { IfOk result (λ m. m.slots ≡ slots) }
+    ensures image { IfOk result (λ m. m.image.now ≡ image.now) }
+    ensures off { IfOk result (λ m. m.off ≡ off) }
+{
+    let mut machine = match Ablated::load(alloc, image, off) {
+        Ok(machine) => machine,
+        Err(Memory) => return Err(Memory),
+    };
+    for slot in 0..slots {
+        machine.run_slot();
+    }
+    Ok(machine)
+}
+
+// Which guard is off, and the report after the slots that have run.
+#[tactic(auto, unfolding(tp_report::specs::Report::report_off))]
+fn write_report_off<K: Sink>(out: &mut K, machine: &Ablated<'_>) -> Result<(), Failed>
     ensures sends { Sends (state K.Sink out.old) (state K.Sink out.new)
-        result (spec.report (image_from machine.now.image.now) machine.now.slots) }
+        result (spec.report_off machine.now.off (image_from machine.now.image.now) machine.now.slots) }
+{
+    write_unprotected(out, machine.off)?;
+    write_report(out, machine)
+}
+
+// The report after the slots that have run.
+fn write_report<K: Sink, M: Reported>(out: &mut K, machine: &M) -> Result<(), Failed>
+    ensures sends { Sends (state K.Sink out.old) (state K.Sink out.new)
+        result (spec.report_of (M.image machine.now) (M.world machine.now)) }
 {
     write_sections(out, machine)?;
     write_ending(out, machine)
 }
 
 /// Writes the switch lines and the last line.
-pub fn write_ending<K: Sink>(out: &mut K, machine: &Machine<'_>) -> Result<(), Failed>
+pub fn write_ending<K: Sink, M: Reported>(out: &mut K, machine: &M) -> Result<(), Failed>
     ensures sends { Sends (state K.Sink out.old) (state K.Sink out.new)
-        result (spec.ending (image_from machine.now.image.now) machine.now.slots) }
+        result (spec.ending_of (M.image machine.now) (M.world machine.now)) }
 {
-    let public = machine.image.public();
-    write_switches(out, &public.schedule, machine.all_used())
+    let public = machine.checked().public();
+    write_switches(out, &public.schedule, machine.switches())
 }
 
 // The section of each domain.
-fn write_sections<K: Sink>(out: &mut K, machine: &Machine<'_>) -> Result<(), Failed>
+fn write_sections<K: Sink, M: Reported>(out: &mut K, machine: &M) -> Result<(), Failed>
     ensures sends { Sends (state K.Sink out.old) (state K.Sink out.new)
-        result (spec.sections (image_from machine.now.image.now)
-        (λ d. view_whole (image_from machine.now.image.now) d machine.now.slots)) }
+        result (spec.sections (M.image machine.now)
+        (λ d. view_in (M.image machine.now) d (M.world machine.now))) }
 {
-    for d in 0..domains_of(machine.image) {
+    for d in 0..domains_of(machine.checked()) {
         write_domain(out, machine, d)?;
     }
     Ok(())
@@ -88,12 +140,12 @@ pub fn domains_of(image: &Checked) -> u8
 }
 
 #[tactic(auto, unfolding(tp_report::specs::Report::section_of))]
-fn write_domain<K: Sink>(out: &mut K, machine: &Machine<'_>, d: u8) -> Result<(), Failed>
-    requires domain { d < length (image_from machine.now.image.now).owns }
+fn write_domain<K: Sink, M: Reported>(out: &mut K, machine: &M, d: u8) -> Result<(), Failed>
+    requires domain { d < length (M.image machine.now).owns }
     ensures sends { Sends (state K.Sink out.old) (state K.Sink out.new)
-        result (spec.section_of (image_from machine.now.image.now)
-        (λ e. view_whole (image_from machine.now.image.now) e machine.now.slots) d) }
+        result (spec.section_of (M.image machine.now)
+        (λ e. view_in (M.image machine.now) e (M.world machine.now)) d) }
 {
-    let own = machine.image.own(usize::from(d));
-    write_section(out, d, own.name.as_str(), &machine.view(d))
+    let own = machine.checked().own(usize::from(d));
+    write_section(out, d, own.name.as_str(), &machine.seen(d))
 }

@@ -1,11 +1,13 @@
 // Lines of words, and what they ask for.
+use guards::Guard;
 use std::alloc::Global;
 use std::process::Abort;
 use std::test::Fail;
 use tp_words::{Command, parse};
 
 // A line, a bar, and what it asks for, if anything: a number of slots asks for a run, and
-// a domain's number before it for that domain alone; a seed has its command before it.
+// a domain's number before it for that domain alone, a guard before it for a run without that
+// guard; a seed has its command before it.
 const LINES: &str = "tp check|check
 tp bound|bound
 tp run --slots 4|4
@@ -31,6 +33,13 @@ tp gen --seed=-0|gen 0
 tp gen --seed 4294967295|gen 4294967295
 tp demo --seed 7|demo 7
 tp demo --seed +4294967295|demo 4294967295
+tp ablate --off flush --slots 4|flush 4
+tp ablate --off=flush --slots=4|flush 4
+tp ablate --slots 4 --off prefetch|prefetch 4
+tp ablate --off pad --slots 0|pad 0
+tp ablate --off colour --slots 65536|colour 65536
+tp ablate --off clone --slots +4|clone 4
+tp ablate --off irq --slots=-0|irq 0
 |
 tp|
 tp fly|
@@ -98,6 +107,27 @@ tp help gen|
 tp demo|
 tp demo --seed 4294967296|
 tp demo --seed 7 --slots 64|
+tp ablate|
+tp ablate --slots 4|
+tp ablate --off flush|
+tp ablate --off|
+tp ablate --off --slots 4|
+tp ablate --off= --slots 4|
+tp ablate --off=flus --slots 4|
+tp ablate --off flushes --slots 4|
+tp ablate --off Flush --slots 4|
+tp ablate --off flush --slots 65537|
+tp ablate --off flush --slots -1|
+tp ablate --off flush --off pad --slots 4|
+tp ablate --off flush --off flush --slots 4|
+tp ablate --off flush --slots 4 --slots 4|
+tp ablate --off flush pad --slots 4|
+tp ablate --off flush --domain 1 --slots 4|
+tp ablate flush --slots 4|
+tp ablate --help|
+tp help ablate|
+tp run --off flush --slots 4|
+tp --off flush --slots 4|
 tp --seed 7|
 tp --domain 1 --slots 4|";
 
@@ -127,11 +157,21 @@ fn wanted_of_numbers(asked: &str) -> Option<Command> {
     match first {
         "gen" => Some(Command::Gen { seed: number }),
         "demo" => Some(Command::Demo { seed: number }),
+        "flush" => without(Guard::Flush, number),
+        "prefetch" => without(Guard::Prefetch, number),
+        "pad" => without(Guard::Pad, number),
+        "colour" => without(Guard::Colour, number),
+        "clone" => without(Guard::Clone, number),
+        "irq" => without(Guard::Irq, number),
         _ => Some(Command::Alone {
             domain: first.parse::<u8>().ok()?,
             slots: number,
         }),
     }
+}
+
+fn without(off: Guard, slots: u32) -> Option<Command> {
+    Some(Command::Ablate { off, slots })
 }
 
 fn is_asked(rt: &impl Abort, line: &str, asked: Option<Command>, due: Option<Command>) {

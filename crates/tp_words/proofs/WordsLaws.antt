@@ -28,11 +28,11 @@ unfolding clap_on_literals tp_app
 tp_is_free = refl
 
 -- no fault: what the matches ask for
-pub taken : (words : List Text) (sub : Option (Text × List Row)) → fault_of tp_app words ≡ [] → sub ≡ subcommand_of tp_app words → Some (asked_for sub) ≡ command words
+pub taken : (words : List Text) (sub : Option (Text × List Row)) → fault_of tp_app words ≡ [] → sub ≡ subcommand_of tp_app words → asked_for sub ≡ command words
 unfolding command
-taken words sub none is = ap (λ s. Some (asked_for s)) is ∙ sym (ap (λ ks. unless_faulty ks (asked_for (subcommand_of tp_app words))) none)
+taken words sub none is = ap asked_for is ∙ sym (ap (λ ks. unless_faulty ks (asked_for (subcommand_of tp_app words))) none)
 
-none_if : (k : ErrorKind) (ks : Kinds) (asked : Command) → IsAmong k ks → None ≡ unless_faulty ks asked
+none_if : (k : ErrorKind) (ks : Kinds) (asked : Option Command) → IsAmong k ks → None ≡ unless_faulty ks asked
 none_if k [] asked among = absurd among
 none_if k (x ∷ xs) asked among = refl
 

@@ -1,15 +1,17 @@
 -- The words of the command line: the program's command, as clap reads it, and what its matches ask for.
-use Rattle.std.specs.Prelude.{ℕ, ℤ, ◌≤◌, ⊤, pos, negsuc, nat_le, unsigned_abs, true, if◌then◌else◌, List, [], ◌∷◌, codes, fold, map, Option, Some, None, String, string_bytes}
+use Rattle.std.specs.Prelude.{ℕ, ℤ, ◌≤◌, ⊤, pos, negsuc, nat_le, unsigned_abs, true, if◌then◌else◌, List, [], ◌∷◌, codes, fold, map, Option, Some, None, option_map, String, string_bytes}
 use Rattle.std.specs.Global.{Global}
 use Rattle.std.specs.Str.{bytes_eq}
 use Rattle.std.specs.Str.Parse.{signed_digits_value}
-use Rattle.clap.specs.Words.{App, Rule, Row, Shape, Text, Kinds, new_app, new_rule, with_rule, with_subcommand, one_of, fault_of, subcommand_of}
+use Rattle.clap.specs.Words.{App, Rule, Row, Shape, Text, Kinds, new_app, new_rule, with_rule, with_subcommand, one_of, first_of, fault_of, subcommand_of}
 use Rattle.clap.specs.Simple.{on_top}
 use Rattle.clap.specs.ValueTests.{is_signed_in}
 use Rattle.clap.specs.declared.builder.action.ArgAction.TheVariants.{Set}
 use Rattle.clap.specs.declared.builder.value_parser.ValueParser.TheVariants as vp
+use Rattle.guards.specs.declared.Guard.{Guard}
+use Rattle.guards.specs.Names.{named}
 use Rattle.tp_words.specs.declared.Command.{Command}
-use Rattle.tp_words.specs.declared.Command.TheVariants.{Check, Bound, Run, Alone, Gen, Demo}
+use Rattle.tp_words.specs.declared.Command.TheVariants.{Check, Bound, Run, Alone, Gen, Demo, Ablate}
 use Rattle.tp_words.specs.Partial.{◌>>=◌, ◌>>◌, when}
 
 -- ---- the program's command
@@ -32,6 +34,10 @@ domain_rule = number_rule (codes "domain") 15
 abbrev pub seed_rule : Rule
 seed_rule = number_rule (codes "seed") 4294967295
 
+-- `--off TEXT`, which must be given
+abbrev pub off_rule : Rule
+off_rule = record (new_rule (codes "off")) { long = Some (codes "off"); action = Some Set; required = true }
+
 abbrev pub check_app : App
 check_app = new_app (codes "check")
 
@@ -43,6 +49,9 @@ run_app = with_rule (new_app (codes "run")) slots_rule
 
 abbrev pub alone_app : App
 alone_app = with_rule (with_rule (new_app (codes "alone")) domain_rule) slots_rule
+
+abbrev pub ablate_app : App
+ablate_app = with_rule (with_rule (new_app (codes "ablate")) off_rule) slots_rule
 
 -- one that makes its image of a seed
 abbrev pub seed_app : Text → App
@@ -61,6 +70,7 @@ tp_app = fold with_subcommand (on_top required (new_app (codes "tp"))) (
     ∷ alone_app.top
     ∷ (seed_app (codes "gen")).top
     ∷ (seed_app (codes "demo")).top
+    ∷ ablate_app.top
     ∷ [])
 
 -- ---- what its matches ask for
@@ -98,31 +108,38 @@ domain_in rows = or_zero (number_in (codes "domain") 15 rows)
 abbrev pub seed_in : List Row → ℕ
 seed_in rows = or_zero (number_in (codes "seed") 4294967295 rows)
 
--- what a subcommand asks for, by its name and what was found for its options: one case for each
-abbrev pub asked_by : Text → List Row → Command
-asked_by name rows =
-    if bytes_eq name (codes "check") then Check
-    else if bytes_eq name (codes "bound") then Bound
-    else if bytes_eq name (codes "run") then Run (slots_in rows)
-    else if bytes_eq name (codes "alone") then Alone (domain_in rows) (slots_in rows)
-    else if bytes_eq name (codes "gen") then Gen (seed_in rows)
-    else if bytes_eq name (codes "demo") then Demo (seed_in rows)
-    else never_asked
+-- the guard whose name is the value of `--off`
+unfoldable pub guard_in : List Row → Option Guard
+guard_in rows = first_of (codes "off") rows >>= named
 
-abbrev pub asked_for : Option (Text × List Row) → Command
-asked_for None = never_asked
+-- what a subcommand asks for, by its name and what was found for its options: one case for each;
+-- nothing where a guard is to be named, and none is
+abbrev pub asked_by : Text → List Row → Option Command
+asked_by name rows =
+    if bytes_eq name (codes "check") then Some Check
+    else if bytes_eq name (codes "bound") then Some Bound
+    else if bytes_eq name (codes "run") then Some (Run (slots_in rows))
+    else if bytes_eq name (codes "alone") then Some (Alone (domain_in rows) (slots_in rows))
+    else if bytes_eq name (codes "gen") then Some (Gen (seed_in rows))
+    else if bytes_eq name (codes "demo") then Some (Demo (seed_in rows))
+    else if bytes_eq name (codes "ablate") then option_map (λ off. Ablate off (slots_in rows)) (guard_in rows)
+    else Some never_asked
+
+abbrev pub asked_for : Option (Text × List Row) → Option Command
+asked_for None = Some never_asked
 asked_for (Some p) = asked_by p.0 p.1
 
--- a command exactly where there is no fault; help that is asked for is a fault, too
-abbrev pub unless_faulty : Kinds → Command → Option Command
-unless_faulty [] asked = Some asked
+-- a command only where there is no fault; help that is asked for is a fault, too
+abbrev pub unless_faulty : Kinds → Option Command → Option Command
+unless_faulty [] asked = asked
 unless_faulty (k ∷ ks) asked = None
 
 -- the words of the command line, as bytes
 abbrev pub words_of : List (String Global) → List (List ℕ)
 words_of words = map (λ w. string_bytes w) words
 
--- what the words ask for, where clap finds no fault in them; the first is the program's name
+-- what the words ask for, where clap finds no fault in them and a guard that is to be off is one;
+-- the first word is the program's name
 unfoldable pub command : List (List ℕ) → Option Command
 command words = unless_faulty (fault_of tp_app words) (asked_for (subcommand_of tp_app words))
 
@@ -136,6 +153,7 @@ IsInRange (Run n) = n ≤ 65536
 IsInRange (Alone d n) = n ≤ 65536
 IsInRange (Gen s) = s ≤ 4294967295
 IsInRange (Demo s) = s ≤ 4294967295
+IsInRange (Ablate off n) = n ≤ 65536
 
 -- it works on an image that it reads; the others make theirs of a seed, and read nothing
 abbrev pub Reads : Command → Type 0

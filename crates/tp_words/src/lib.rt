@@ -3,6 +3,7 @@
 
 mod words;
 
+use guards::Guard;
 pub use words::parse;
 
 /// What the words of the command line ask for.
@@ -20,6 +21,8 @@ pub enum Command {
     Gen { seed: u32 },
     /// Run the image that a seed makes for 64 slots, and write a summary.
     Demo { seed: u32 },
+    /// Run the image with one guard off for so many slots, 0 to 65,536.
+    Ablate { off: Guard, slots: u32 },
 }
 
 impl Command {
@@ -32,7 +35,11 @@ impl Command {
         ensures makes { result ≡ false → ¬ Reads self }
     {
         match self {
-            Command::Check | Command::Bound | Command::Run { .. } | Command::Alone { .. } => true,
+            Command::Check
+            | Command::Bound
+            | Command::Run { .. }
+            | Command::Alone { .. }
+            | Command::Ablate { .. } => true,
             Command::Gen { .. } | Command::Demo { .. } => false,
         }
     }

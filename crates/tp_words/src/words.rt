@@ -9,6 +9,7 @@ use crate::Command;
 use clap::builder::ValueParser;
 use clap::error::ErrorKind;
 use clap::{Arg, ArgAction, ArgMatches};
+use guards::Guard;
 use std::alloc::{AllocError, Global};
 use tp_base::Memory;
 
@@ -22,14 +23,15 @@ const LAST_DOMAIN: u32 = 15;
 const LAST_SEED: u32 = u32::MAX;
 
 /// What the words ask for, the first being the program's name: `None` exactly
-/// where clap finds a fault in them. `Err` is for want of memory alone.
+/// where clap finds a fault in them, or where a guard is to be off and none has
+/// the name that is given. `Err` is for want of memory alone.
 pub fn parse(alloc: Global, words: &[String]) -> Result<Option<Command>, Memory>
     ensures value { IfOk result (λ asked. asked ≡ spec.command (spec.words_of words.now)) }
     ensures range { IfOk result (λ asked. IfSome asked IsInRange) }
 {
     let command = tp_command(alloc)?;
     match command.try_get_matches_from(words) {
-        Ok(matches) => Ok(Some(asked(&matches))),
+        Ok(matches) => Ok(asked(&matches)),
         Err(error) => match error.kind() {
             ErrorKind::OutOfMemory => Err(Memory),
             _ => Ok(None),
@@ -45,13 +47,15 @@ fn tp_command<'a>(alloc: Global) -> Result<clap::Command<'a>, AllocError>
     let alone = alone_command(alloc)?;
     let generate = seed_command(alloc, "gen")?;
     let demo = seed_command(alloc, "demo")?;
+    let ablate = ablate_command(alloc)?;
     let top = clap::Command::new(alloc, "tp").subcommand_required(true);
     let one = top.subcommand(clap::Command::new(alloc, "check"))?;
     let two = one.subcommand(clap::Command::new(alloc, "bound"))?;
     let three = two.subcommand(run)?;
     let four = three.subcommand(alone)?;
     let five = four.subcommand(generate)?;
-    five.subcommand(demo)
+    let six = five.subcommand(demo)?;
+    six.subcommand(ablate)
 }
 
 fn run_command<'a>(alloc: Global) -> Result<clap::Command<'a>, AllocError>
@@ -69,12 +73,32 @@ fn alone_command<'a>(alloc: Global) -> Result<clap::Command<'a>, AllocError>
     alone.arg(number_arg(alloc, "slots", MOST_SLOTS))
 }
 
+fn ablate_command<'a>(alloc: Global) -> Result<clap::Command<'a>, AllocError>
+    ensures app { IfOk result (λ c. app_of c ≡ spec.ablate_app) }
+    ensures local { IfOk result (λ c. (out-Command c).has_globals ≡ false) }
+{
+    let ablate = clap::Command::new(alloc, "ablate").arg(off_arg(alloc))?;
+    ablate.arg(number_arg(alloc, "slots", MOST_SLOTS))
+}
+
 // A subcommand that makes its image of a seed.
 fn seed_command<'a>(alloc: Global, name: &'a str) -> Result<clap::Command<'a>, AllocError>
     ensures app { IfOk result (λ c. app_of c ≡ spec.seed_app name.now) }
     ensures local { IfOk result (λ c. (out-Command c).has_globals ≡ false) }
 {
     clap::Command::new(alloc, name).arg(number_arg(alloc, "seed", LAST_SEED))
+}
+
+// The option `--off`, which must be given. (Which texts name a guard clap isn't
+// told: its list of names is of references, of which no definition can speak.)
+fn off_arg<'a>(alloc: Global) -> Arg<'a>
+    ensures rule { rule_of result ≡ spec.off_rule }
+    ensures local { result.global ≡ false }
+{
+    Arg::new(alloc, "off")
+        .long("off")
+        .action(ArgAction::Set)
+        .required(true)
 }
 
 // The option `--name`, which must be given, a whole number 0 to the greatest.
@@ -96,13 +120,14 @@ fn number_parser<'a>(greatest: u32) -> ValueParser<'a>
     clap::value_parser!(i64).range(0..=i64::from(greatest))
 }
 
-// What the matches ask for, by the subcommand's name. clap gives no matches
-// without one of the names above and its options, so the rest is never asked for.
-fn asked(matches: &ArgMatches<'_>) -> Command
+// What the matches ask for, by the subcommand's name; nothing where `--off` names no
+// guard. clap gives no matches without one of the names above and its options, so the
+// rest is never asked for.
+fn asked(matches: &ArgMatches<'_>) -> Option<Command>
     ensures value { result ≡ spec.asked_for (subcommand_rows_of matches.now) }
-    ensures range { IsInRange result }
+    ensures range { IfSome result IsInRange }
 {
-    match matches.subcommand() {
+    let command = match matches.subcommand() {
         Some(("check", _)) => Command::Check,
         Some(("bound", _)) => Command::Bound,
         Some(("run", found)) => Command::Run {
@@ -118,8 +143,21 @@ fn asked(matches: &ArgMatches<'_>) -> Command
         Some(("demo", found)) => Command::Demo {
             seed: number_in(found, "seed", LAST_SEED).unwrap_or(0),
         },
+        Some(("ablate", found)) => Command::Ablate {
+            off: guard_in(found)?,
+            slots: number_in(found, "slots", MOST_SLOTS).unwrap_or(0),
+        },
         _ => Command::Run { slots: 0 },
-    }
+    };
+    Some(command)
+}
+
+// The guard whose name is the value of `--off`.
+#[tactic(auto, unfolding(crate::specs::Words::guard_in))]
+fn guard_in(found: &ArgMatches<'_>) -> Option<Guard>
+    ensures value { result ≡ spec.guard_in (rows_of (found_of found.now)) }
+{
+    Guard::named(found.get_str("off")?)
 }
 
 // The number, where it is 0 to the greatest.

@@ -1,4 +1,4 @@
-use Rattle.std.proofs.Common.{◌≡◌, ◌≤◌, ap, sym, subst}
+use Rattle.std.proofs.Common.{◌≤◌, ap, sym, subst}
 use Rattle.repl_policy.specs.declared.AnyPolicy.{AnyPolicy}
 use Rattle.mem_system.specs.declared.geometry.Geometry.{Geometry}
 use Rattle.hardware_check.specs.Models.{hardware_model}

@@ -1,4 +1,4 @@
-use Rattle.std.proofs.Common.{◌∙◌, ap₂, sym, refl, length, List, Option}
+use Rattle.std.proofs.Common.{◌∙◌, ap₂, sym, refl, length, List}
 use Rattle.std.proofs.lemmas.Option.{slice_get_read}
 use Rattle.kernel_call.specs.declared.domain.Domain.{Domain}
 use Rattle.world_view.specs.Machine.{first_of}

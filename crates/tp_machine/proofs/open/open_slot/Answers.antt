@@ -1,5 +1,5 @@
 use Rattle.std.proofs.Common.{◌∙◌, arith}
-use Rattle.tp_machine.proofs.Opens.{along_more, along_over, along_none, stands_on}
+use Rattle.tp_machine.proofs.Opens.{along_more, along_over, stands_on}
 use Rattle.tp_machine.proofs.open.open_slot.Goals as goal
 
 pub loop-clock-preserved : goal.loop-clock-preserved

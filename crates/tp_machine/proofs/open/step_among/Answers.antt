@@ -1,27 +1,25 @@
 -- A delivery to any domain, or the running one's own event.
-use Rattle.std.proofs.Common.{◌≡◌, ◌∙◌, ℕ, ◌+◌, ◌*◌, ◌^◌, ◌<◌, ◌≤◌, List, length, Option, Some, None, true, false, refl, ap, sym, subst, arith}
-use Rattle.std.specs.Prelude.{slice_get, slice_index_or, option_map}
+use Rattle.std.proofs.Common.{◌≡◌, ◌∙◌, ℕ, ◌+◌, ◌<◌, List, length, Some, None, true, false, ap, sym, subst, arith}
+use Rattle.std.specs.Prelude.{slice_index_or, option_map}
 use Rattle.irq_partition.specs.declared.Moment.{Moment}
 use Rattle.irq_partition.specs.Interrupts.{next_of}
 use Rattle.call_table.specs.declared.DomainStatus.TheVariants.{Running}
 use Rattle.std.proofs.lemmas.Bool.{false≢true}
-use Rattle.std.proofs.lemmas.List.{length-set, get_or_default}
+use Rattle.std.proofs.lemmas.List.{get_or_default}
 use Rattle.std.proofs.lemmas.Option.{slice_get-get_or, slice_get_within, same_Some}
-use Rattle.kernel_clone.specs.declared.CloneLayout.{CloneLayout}
-use Rattle.kernel_clone.specs.Footprints.{Layout, IsLayout}
-use Rattle.kernel_clone.specs.Models.{layout_model}
+use Rattle.kernel_clone.specs.Footprints.{IsLayout}
 use Rattle.kernel_call.specs.declared.domain.Domain.{Domain}
 use Rattle.kernel_call.specs.declared.log.Log.{Log}
 use Rattle.kernel_call.specs.Models.{CountsUpTo}
 use Rattle.call_table.specs.Domain.{is_running}
-use Rattle.world_view.specs.Machine.{guards_of, setting_by, part_of, step}
+use Rattle.world_view.specs.Machine.{guards_of, setting_by, part_of}
 use Rattle.world_view.proofs.opening.Separate.{separated}
 use Rattle.world_view.proofs.runs.GuardLaws.{are_guards}
 use Rattle.domain_step.proofs.Moved.{due_line, due_left, not_running}
 use Rattle.domain_step.proofs.Counts.{counts_later}
 use Rattle.tp_machine.specs.Ablations.{owned, first_among}
 use Rattle.tp_machine.proofs.Elements.{each_set}
-use Rattle.tp_machine.proofs.Moments.{Comes, comes_of, found, none_found}
+use Rattle.tp_machine.proofs.Moments.{comes_of, found, none_found}
 use Rattle.tp_machine.proofs.Among.{in_slot, own_stands, due_stands}
 use Rattle.tp_machine.proofs.open.step_among.Goals as goal
 use Rattle.tp_machine.proofs.open.step_among.Goals.{in-Running+in_default-first_due, in_default}

@@ -1,7 +1,7 @@
 -- Computed from the definitions.
 use Rattle.std.proofs.Common.{refl}
 use Rattle.std.specs.Fmt.{digits}
-use Rattle.tp_report.specs.Report.{switch_line, end_text, usage_text, refusal_text, bound_text, accepted_text, too_long_text}
+use Rattle.tp_report.specs.Report.{switch_line, end_text, usage_text, refusal_text, bound_text, accepted_text, too_long_text, unprotected_text}
 use Rattle.hex.specs.Hex.{encode_with}
 use Rattle.tp_report.specs.Texts.{h8, state_text, register_text, registers_text, thread_line, thread_text, threads_text}
 use Rattle.world_view.specs.View.{memory_sum}
@@ -39,6 +39,10 @@ returns-clause-accepted c = refl
 pub returns-clause-too_long : goal.returns-clause-too_long
 unfolding too_long_text
 returns-clause-too_long c = refl
+
+pub returns-clause-unprotected : goal.returns-clause-unprotected
+unfolding unprotected_text
+returns-clause-unprotected c = refl
 
 pub returns-clause-waiting : goal.returns-clause-waiting
 unfolding thread_text thread_line state_text h8 encode_with registers_text register_text digits

@@ -2,7 +2,7 @@ use Rattle.std.proofs.Common.{◌≤◌, ◌<◌, length, sym, ap, ◌∙◌, su
 use Rattle.world_view.specs.Reading.{most_bytes}
 use Rattle.tp_io.specs.Sink.{state}
 use Rattle.tp_words.specs.declared.Command.{Command}
-use Rattle.tp_words.specs.declared.Command.TheVariants.{Check, Bound, Run, Alone}
+use Rattle.tp_words.specs.declared.Command.TheVariants.{Check, Bound, Run, Alone, Ablate}
 use Rattle.tp_run.specs.Answer.{Answer, answer_of_bytes}
 use Rattle.tp_run.specs.TopCall.{Delivers}
 use Rattle.tp_run.specs.declared.status.Status.TheVariants.{TooLong}
@@ -39,6 +39,15 @@ returns-in-Alone-clause-delivers g c =
     let few : length c.args.bytes.now ≤ most_bytes = search rules in
     subst (λ (due : Answer). Delivers due c.answer_alone.result (state g.K.Sink c.args.out.now) (state g.K.Sink c.answer_alone.new.out))
     (sym (ap (λ (k : Command). answer_of_bytes k c.args.bytes.now) c.in-Alone.is ∙ image_due c.args.bytes.now (Alone c.in-Alone.domain c.in-Alone.slots) tt few)) c.answer_alone.ensures.delivers
+
+pub returns-in-Ablate-clause-delivers : goal.returns-in-Ablate-clause-delivers
+returns-in-Ablate-clause-delivers g c =
+    let few : length c.args.bytes.now ≤ most_bytes = search rules in
+    let asked = Ablate c.in-Ablate.off c.in-Ablate.slots in
+    let due = ap (λ (k : Command). answer_of_bytes k c.args.bytes.now) c.in-Ablate.is
+    ∙ image_due c.args.bytes.now asked tt few in
+    subst (λ (d : Answer). Delivers d c.answer_off.result (state g.K.Sink c.args.out.now) (state g.K.Sink c.answer_off.new.out))
+    (sym due) c.answer_off.ensures.delivers
 
 pub returns-in-Gen-clause-delivers : goal.returns-in-Gen-clause-delivers
 returns-in-Gen-clause-delivers g c =

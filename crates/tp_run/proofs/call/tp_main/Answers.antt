@@ -5,7 +5,7 @@ use Rattle.tp_words.specs.declared.Command.TheVariants.{Gen, Demo}
 use Rattle.tp_words.specs.Words.{Reads, IsInRange, command, words_of}
 use Rattle.tp_run.specs.TopCall.{MayBeUsage}
 use Rattle.tp_run.proofs.Answers.{none_taken, bytes_due, usage_sent, usage_delivers, ends_usage, completes, completes_surely}
-use Rattle.tp_run.proofs.Commands.{answering, as_command, told_delivers, done_reads, refused_reads, too_long_reads, may_be_usage, refuses, accepts, bounds, ran, is_isolated, is_padded, lacks_domain, writes_section, is_same_section, generates, summarizes}
+use Rattle.tp_run.proofs.Commands.{answering, as_command, told_delivers, done_reads, refused_reads, too_long_reads, may_be_usage, refuses, accepts, bounds, ran, is_isolated, is_padded, lacks_domain, writes_section, is_same_section, writes_off, generates, summarizes}
 use Rattle.tp_run.proofs.call.tp_main.Goals as goal
 
 -- ---- words that are no command
@@ -251,6 +251,18 @@ returns-clause-same_section g c d slots is done =
     c.in-Ok.ensures.taken c.in-Ok.ensures.whole delivers in
     is_same_section d slots _ _ _ _
     (writes_section d slots _ h (same_Some _ _ (sym asked ∙ is)) done)
+
+-- ---- a run with a guard off
+
+pub returns-clause-unprotected : goal.returns-clause-unprotected
+returns-clause-unprotected g c off slots is done =
+    let asked : command (words_of c.args.words.now) ≡ Some c.in-Ok-Some.command =
+    sym (rw c.in-Ok-Some.field-0-is at c.in-Ok-Some.ensures.value) in
+    let delivers = rw c.as_slice.ensures.value at c.answer_bytes.ensures.delivers in
+    let h =
+    answering c.in-Ok-Some.command c.in-Ok.bytes.items (g.S.Source.left c.read_for.new.src)
+    c.in-Ok.ensures.taken c.in-Ok.ensures.whole delivers in
+    writes_off off slots _ h (same_Some _ _ (sym asked ∙ is)) done
 
 -- ---- the image that a seed makes
 

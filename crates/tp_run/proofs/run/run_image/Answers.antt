@@ -12,6 +12,7 @@ pub returns-in-Err : goal.returns-in-Err
 returns-in-Err g c = record { delivers = nothing_held _ _ }
 
 pub returns-in-Ok : goal.returns-in-Ok
+unfolding report
 returns-in-Ok g c =
     let m = c.in-Ok.machine in
     let old = state g.K.Sink c.args.out.now in

@@ -2,12 +2,12 @@ use Rattle.std.proofs.Common.{length, take}
 use Rattle.std.specs.List.{flat_map, range_with_len}
 use Rattle.tp_io.specs.Sends.{Sent}
 use Rattle.tp_io.specs.Sink.{state}
-use Rattle.world_view.specs.View.{view_whole}
-use Rattle.image_check.specs.Image.{image_from}
+use Rattle.world_view.specs.View.{view_in}
 use Rattle.tp_report.specs.Report.{section_of}
 use Rattle.tp_run.proofs.run.write_sections.Given as goal
 
 abbrev pub invariant-loop-d : goal.invariant-loop-d
 invariant-loop-d g l =
-    let i = image_from l.machine.image.now in
-    Sent (state g.K.Sink l.fn.out) (state g.K.Sink l.out) (flat_map (section_of i (λ e. view_whole i e l.machine.slots)) (take l.d (range_with_len 0 (length i.owns))))
+    let i = g.M.Reported.image l.machine in
+    Sent (state g.K.Sink l.fn.out) (state g.K.Sink l.out)
+    (flat_map (section_of i (λ e. view_in i e (g.M.Reported.world l.machine))) (take l.d (range_with_len 0 (length i.owns))))

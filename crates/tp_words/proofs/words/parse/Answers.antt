@@ -1,4 +1,4 @@
-use Rattle.std.proofs.Common.{◌≡◌, None, Some, sym, ap, subst, ◌∙◌, inl, inr}
+use Rattle.std.proofs.Common.{◌≡◌, None, sym, ap, subst, ◌∙◌, inl, inr}
 use Rattle.clap.specs.Words.{App, IsAmong, kind_of, fault_of, is_simple, is_simple_and_free, subcommand_of}
 use Rattle.tp_words.specs.Words.{command}
 use Rattle.tp_words.proofs.WordsLaws.{tp_is_simple, tp_is_free, taken, refused}
@@ -11,7 +11,7 @@ returns-in-Ok-clause-value c =
     let app = c.in_ok-command.ensures.app in
     let none = sym (ap (λ (a : App). fault_of a words) app) ∙ c.in-Ok.ensures.kinds (ap is_simple_and_free app ∙ tp_is_free) in
     let sub = (c.in-Ok.ensures.matches (ap is_simple app ∙ tp_is_simple)).1 ∙ ap (λ (a : App). subcommand_of a words) app in
-    ap Some c.asked.ensures.value ∙ taken words _ none sub
+    c.asked.ensures.value ∙ taken words _ none sub
 
 pub returns : goal.returns
 returns c =

@@ -16,11 +16,13 @@ returns c =
     let alone = ap (λ (a : App). a.top) c.in_ok-alone.ensures.app in
     let generate = ap (λ (a : App). a.top) c.in_ok-generate.ensures.app in
     let demo = ap (λ (a : App). a.top) c.in_ok-demo.ensures.app in
+    let ablate = ap (λ (a : App). a.top) c.in_ok-ablate.ensures.app in
     let one = c.in_ok-one.ensures.shape c.new-2.ensures.local ∙ ap₂ with_subcommand top check in
     let two = c.in_ok-two.ensures.shape c.new-3.ensures.local ∙ ap₂ with_subcommand one bound in
     let three = c.in_ok-three.ensures.shape c.in_ok-run.ensures.local ∙ ap₂ with_subcommand two run in
     let four = c.in_ok-four.ensures.shape c.in_ok-alone.ensures.local ∙ ap₂ with_subcommand three alone in
     let five = c.in_ok-five.ensures.shape c.in_ok-generate.ensures.local ∙ ap₂ with_subcommand four generate in
+    let six = c.in_ok-six.ensures.shape c.in_ok-demo.ensures.local ∙ ap₂ with_subcommand five demo in
     record {
-      app = IfOk-weaker c.subcommand-6.result _ _ (λ made adds. adds.shape c.in_ok-demo.ensures.local ∙ ap₂ with_subcommand five demo) c.subcommand-6.ensures;
+      app = IfOk-weaker c.subcommand-7.result _ _ (λ made adds. adds.shape c.in_ok-ablate.ensures.local ∙ ap₂ with_subcommand six ablate) c.subcommand-7.ensures;
     }

@@ -1,27 +1,26 @@
-use Rattle.std.proofs.Common.{◌≡◌, ℕ, ◌+◌, ◌<◌, [], ◌∷◌, ◌++◌, length, List, Some, refl, sym, ap, subst, ◌∙◌, rules, arith}
-use Rattle.kernel_clone.specs.Models.{layout_model}
-use Rattle.std.specs.Prelude.{slice_get, slice_set, take, drop}
+use Rattle.std.proofs.Common.{◌≡◌, ◌∙◌, ℕ, ◌+◌, ◌<◌, [], ◌∷◌, ◌++◌, length, List, None, refl, sym, ap, subst, rules, arith}
+use Rattle.std.specs.Prelude.{slice_set, take, drop}
 use Rattle.std.specs.Option.{option_copied}
 use Rattle.std.proofs.lemmas.Option.{slice_get_read}
 use Rattle.repl_policy.specs.Members.{any_rule, any_stands_for}
 use Rattle.sched_table.specs.declared.schedule.Entry.{Entry}
-use Rattle.sched_table.specs.Schedule.{entry_of_slot, switch_entry}
+use Rattle.sched_table.specs.Schedule.{switch_entry}
 use Rattle.domain_switch.specs.Switch.{layout_if}
 use Rattle.image_check.specs.Public.{Public}
-use Rattle.image_check.specs.Image.{Image, image_from}
-use Rattle.world_view.specs.Machine.{Setting, stretch, whole}
+use Rattle.image_check.specs.Image.{image_from}
+use Rattle.world_view.specs.Machine.{Setting, stretch}
 use Rattle.world_view.specs.Relations.{IsDomain}
 use Rattle.world_view.proofs.time.ClockLaws.{clocks_fit}
 use Rattle.world_view.proofs.opening.Separate.{separated}
 use Rattle.world_view.proofs.time.TimeLaws.{on_time}
-use Rattle.world_view.proofs.steps.CodeLaws.{slot_begun}
 use Rattle.domain_step.specs.Moves.{Moves}
-use Rattle.tp_machine.specs.Usage.{IsUsed, CountedUpTo}
-use Rattle.tp_machine.specs.Worlds.{Kept, kept, setting_of, StandsFor, HaveFacts}
-use Rattle.tp_machine.proofs.Switches.{clone_on}
-use Rattle.tp_machine.proofs.SwitchCounts.{noted_back, counted_back, length_back}
 use Rattle.domain_step.proofs.Counts.{counts_later}
-use Rattle.tp_machine.proofs.Slots.{SlotStart, SlotEnd, SwitchTimes, AreTimes, Switches, Begins, Next, kept_after, begins_here, ended_here, begun, resident_at, next, in_bounds_next}
+use Rattle.tp_machine.specs.Usage.{IsUsed, CountedUpTo}
+use Rattle.tp_machine.specs.Worlds.{kept}
+use Rattle.tp_machine.proofs.SwitchCounts.{noted_back, counted_back, length_back}
+use Rattle.tp_machine.proofs.Whole.{SlotStart, Begins}
+use Rattle.tp_machine.proofs.Switches.{Switching, clone_on, ended, begins_here}
+use Rattle.tp_machine.proofs.Slots.{SlotEnd, Next, setting_at, slot_begun, now_is, begun, next, resident_at, in_bounds_next}
 use Rattle.tp_machine.proofs.machine.Machine.run_slot.Goals as goal
 
 -- ---- the switch
@@ -43,17 +42,9 @@ switch-switched-requires-clause-into c =
 pub switch-switched-requires-clause-ended : goal.switch-switched-requires-clause-ended
 switch-switched-requires-clause-ended c =
     let m = c.args.self.now in
-    let i = image_from m.image.now in
     let s = kept m.memory m.system m.domains.items m.used.items m.clock in
-    let t : SwitchTimes = record {
-      old_end = c.last_end-last_end.result;
-      until = c.next_start-start.result;
-    } in
-    let are : AreTimes i m.slots t = record {
-      old_end = c.last_end-last_end.ensures.end;
-      until = c.next_start-start.ensures.start;
-    } in
-    ended_here i m.accepted m.slots s m.stands t are
+    let over = ended (image_from m.image.now) m.accepted m.slots s m.stands in
+    omega (arith, over, c.last_end-last_end.ensures.end)
 
 pub switch-switched-requires-clause-early : goal.switch-switched-requires-clause-early
 switch-switched-requires-clause-early c =
@@ -64,77 +55,83 @@ switch-switched-requires-clause-early c =
 
 -- ---- the slot begins
 
-begins : (c : goal.After-from) → Begins (image_from c.args.self.now.image.now) c.args.self.now.slots
-    (kept c.args.self.now.memory c.args.self.now.system c.args.self.now.domains.items c.args.self.now.used.items c.args.self.now.clock)
-    (record { system = c.switch-switched.new.system; used = c.switch-switched.result.used; now = c.switch-switched.result.now })
-begins c =
-    let m = c.args.self.now in
-    let i = image_from m.image.now in
-    let d = c.from-d.result in
-    let within : d < length m.domains.items =
-    omega (arith, c.next_entry-entry.ensures.domain, c.from-d.ensures, m.stands.all_domains) in
-    let y = c.index.result.now in
-    let enters : d ≡ (entry_of_slot i.all.schedule m.slots).domain =
-    c.from-d.ensures ∙ ap (λ (e : Entry). e.domain) c.next_entry-entry.ensures.entry in
-    let s = kept m.memory m.system m.domains.items m.used.items m.clock in
-    let t : SwitchTimes = record {
-      old_end = c.last_end-last_end.result;
-      until = c.next_start-start.result;
-    } in
-    let are : AreTimes i m.slots t = record {
-      old_end = c.last_end-last_end.ensures.end;
-      until = c.next_start-start.ensures.start;
-    } in
-    let b : SlotStart = record {
+begins : (c : goal.After-from) → Begins None (image_from c.args.self.now.image.now) c.args.self.now.slots
+    (kept c.args.self.now.memory c.args.self.now.system c.args.self.now.domains.items
+    c.args.self.now.used.items c.args.self.now.clock)
+    (record {
       system = c.switch-switched.new.system;
       used = c.switch-switched.result.used;
       now = c.switch-switched.result.now;
+    })
+begins c =
+    let m = c.args.self.now in
+    let i = image_from m.image.now in
+    let s = kept m.memory m.system m.domains.items m.used.items m.clock in
+    let d = c.from-d.result in
+    let y = c.index.result.now in
+    let within : d < length m.domains.items =
+    omega (arith, c.next_entry-entry.ensures.domain, c.from-d.ensures, m.stands.all_domains) in
+    let q : Switching = record {
+      out = layout_if (option_copied c.as_ref.result);
+      domain = d;
+      enters = y;
+      old_end = c.last_end-last_end.result;
+      until = c.next_start-start.result;
+      start = record {
+        system = c.switch-switched.new.system;
+        used = c.switch-switched.result.used;
+        now = c.switch-switched.result.now;
+      };
     } in
-    let out = layout_if (option_copied c.as_ref.result) in
-    let switches : Switches s t out (layout_model y.layout) b = record {
+    begins_here i m.accepted m.slots s m.stands q
+    (record {
+      out = ap layout_if c.as_ref.ensures.value ∙ c.outgoing-out.ensures.clone;
+      domain = c.from-d.ensures ∙ ap (λ (e : Entry). e.domain) c.next_entry-entry.ensures.entry;
+      enters = slice_get_read m.domains.items (length m.domains.items) d y refl within c.index.ensures;
+      old_end = c.last_end-last_end.ensures.end;
+      until = c.next_start-start.ensures.start;
       levels = c.switch-switched.ensures.hierarchy;
       pinned = c.switch-switched.ensures.pinned;
       work = c.switch-switched.ensures.work;
-      on_time = c.switch-switched.ensures.on_time;
+      clock = c.switch-switched.ensures.clock;
       kept = c.switch-switched.ensures.kept;
-    } in
-    let got =
-    slice_get_read m.domains.items (length m.domains.items) d y refl within c.index.ensures in
-    let leaves = ap layout_if c.as_ref.ensures.value ∙ c.outgoing-out.ensures.clone in
-    begins_here i m.accepted m.slots s m.stands t are d y got enters out leaves b switches
+    })
 
 pub stretch-self-requires-clause-runs : goal.stretch-self-requires-clause-runs
 stretch-self-requires-clause-runs c =
     let m = c.args.self.now in
     let i = image_from m.image.now in
-    let es = i.all.schedule in
+    let s = kept m.memory m.system m.domains.items m.used.items m.clock in
     let d = c.from-d.result in
     let x = c.index_mut.result.now in
     let within : d < length m.domains.items =
     omega (arith, c.next_entry-entry.ensures.domain, c.from-d.ensures, m.stands.all_domains) in
-    let enters : d ≡ (entry_of_slot es m.slots).domain =
-    c.from-d.ensures ∙ ap (λ (e : Entry). e.domain) c.next_entry-entry.ensures.entry in
+    let enters = c.from-d.ensures ∙ ap (λ (e : Entry). e.domain) c.next_entry-entry.ensures.entry in
     let got =
     slice_get_read m.domains.items (length m.domains.items) d x refl within
     c.index_mut.ensures.value in
-    let got_there : slice_get m.domains.items (entry_of_slot es m.slots).domain ≡ Some x =
-    subst (λ (n : ℕ). slice_get m.domains.items n ≡ Some x) enters got in
     let b : SlotStart = record {
       system = c.switch-switched.new.system;
       used = c.switch-switched.result.used;
       now = c.switch-switched.result.now;
     } in
+    let starts = begins c in
     record {
-      setting = setting_of i (entry_of_slot es m.slots).domain;
-      state = slot_begun i m.slots (whole i m.slots);
-      stands_in = begun i m.accepted m.slots _ m.stands x got_there b (begins c);
+      setting = setting_at i m.accepted m.slots s m.stands b starts d enters x got;
+      state = slot_begun i m.accepted m.slots s m.stands b starts d enters x got;
+      stands_in = begun i m.accepted m.slots s m.stands b starts d enters x got;
     }
 
+-- it begins at its start
+begins_at : (c : goal.After-from) → c.switch-switched.result.now ≡ c.next_start-start.result
+begins_at c =
+    let m = c.args.self.now in
+    let s = kept m.memory m.system m.domains.items m.used.items m.clock in
+    now_is (image_from m.image.now) m.accepted m.slots s m.stands _ (begins c)
+    ∙ sym c.next_start-start.ensures.start
+
 pub stretch-self-requires-clause-before : goal.stretch-self-requires-clause-before
-stretch-self-requires-clause-before c =
-    let at =
-    (begins c).now_is in omega
-    (arith, at, c.next_start-start.ensures.soon, c.next_start-start.ensures.start)
+stretch-self-requires-clause-before c = omega (arith, begins_at c, c.next_start-start.ensures.soon)
 
 pub stretch-self-requires-clause-few : goal.stretch-self-requires-clause-few
 stretch-self-requires-clause-few c =
@@ -151,51 +148,55 @@ stretch-self-requires-clause-few c =
 
 -- ---- what it leaves
 
-begun_so : (c : goal.After-self-2-1)
-    → Begins (image_from c.args.self.now.image.now) c.args.self.now.slots
-    (kept c.args.self.now.memory c.args.self.now.system c.args.self.now.domains.items c.args.self.now.used.items c.args.self.now.clock)
-    (record { system = c.switch-switched.new.system; used = c.switch-switched.result.used; now = c.switch-switched.result.now })
-begun_so c =
-    let m = c.args.self.now in
-    let i = image_from m.image.now in
-    let d = c.from-d.result in
-    let within : d < length m.domains.items =
-    omega (arith, c.next_entry-entry.ensures.domain, c.from-d.ensures, m.stands.all_domains) in
-    let y = c.index.result.now in
-    let enters : d ≡ (entry_of_slot i.all.schedule m.slots).domain =
-    c.from-d.ensures ∙ ap (λ (e : Entry). e.domain) c.next_entry-entry.ensures.entry in
-    let s = kept m.memory m.system m.domains.items m.used.items m.clock in
-    let t : SwitchTimes = record {
-      old_end = c.last_end-last_end.result;
-      until = c.next_start-start.result;
-    } in
-    let are : AreTimes i m.slots t = record {
-      old_end = c.last_end-last_end.ensures.end;
-      until = c.next_start-start.ensures.start;
-    } in
-    let b : SlotStart = record {
+begun_so : (c : goal.After-self-2-1) → Begins None (image_from c.args.self.now.image.now) c.args.self.now.slots
+    (kept c.args.self.now.memory c.args.self.now.system c.args.self.now.domains.items
+    c.args.self.now.used.items c.args.self.now.clock)
+    (record {
       system = c.switch-switched.new.system;
       used = c.switch-switched.result.used;
       now = c.switch-switched.result.now;
+    })
+begun_so c =
+    let m = c.args.self.now in
+    let i = image_from m.image.now in
+    let s = kept m.memory m.system m.domains.items m.used.items m.clock in
+    let d = c.from-d.result in
+    let y = c.index.result.now in
+    let within : d < length m.domains.items =
+    omega (arith, c.next_entry-entry.ensures.domain, c.from-d.ensures, m.stands.all_domains) in
+    let q : Switching = record {
+      out = layout_if (option_copied c.as_ref.result);
+      domain = d;
+      enters = y;
+      old_end = c.last_end-last_end.result;
+      until = c.next_start-start.result;
+      start = record {
+        system = c.switch-switched.new.system;
+        used = c.switch-switched.result.used;
+        now = c.switch-switched.result.now;
+      };
     } in
-    let out = layout_if (option_copied c.as_ref.result) in
-    let switches : Switches s t out (layout_model y.layout) b = record {
+    begins_here i m.accepted m.slots s m.stands q
+    (record {
+      out = ap layout_if c.as_ref.ensures.value ∙ c.outgoing-out.ensures.clone;
+      domain = c.from-d.ensures ∙ ap (λ (e : Entry). e.domain) c.next_entry-entry.ensures.entry;
+      enters = slice_get_read m.domains.items (length m.domains.items) d y refl within c.index.ensures;
+      old_end = c.last_end-last_end.ensures.end;
+      until = c.next_start-start.ensures.start;
       levels = c.switch-switched.ensures.hierarchy;
       pinned = c.switch-switched.ensures.pinned;
       work = c.switch-switched.ensures.work;
-      on_time = c.switch-switched.ensures.on_time;
+      clock = c.switch-switched.ensures.clock;
       kept = c.switch-switched.ensures.kept;
-    } in
-    let got =
-    slice_get_read m.domains.items (length m.domains.items) d y refl within c.index.ensures in
-    let leaves = ap layout_if c.as_ref.ensures.value ∙ c.outgoing-out.ensures.clone in
-    begins_here i m.accepted m.slots s m.stands t are d y got enters out leaves b switches
+    })
 
 -- the machine after the slot, and its domains' facts
 next_so : (c : goal.After-self-2-1)
     → Next (image_from c.args.self.now.image.now) (c.args.self.now.slots + 1)
-    (kept c.stretch-self.new.memory c.stretch-self.new.system (slice_set c.args.self.now.domains.items c.from-d.result c.stretch-self.new.domain)
-    (take c.args.self.now.used.len (c.note_switch.new.used ++ drop (length c.note_switch.new.used) c.args.self.now.used.items))
+    (kept c.stretch-self.new.memory c.stretch-self.new.system
+    (slice_set c.args.self.now.domains.items c.from-d.result c.stretch-self.new.domain)
+    (take c.args.self.now.used.len
+    (c.note_switch.new.used ++ drop (length c.note_switch.new.used) c.args.self.now.used.items))
     c.stretch-self.result)
 next_so c =
     let m = c.args.self.now in
@@ -206,23 +207,18 @@ next_so c =
     let x = c.index_mut.result.now in
     let within : d < length m.domains.items =
     omega (arith, c.next_entry-entry.ensures.domain, c.from-d.ensures, m.stands.all_domains) in
-    let enters : d ≡ (entry_of_slot es m.slots).domain =
-    c.from-d.ensures ∙ ap (λ (e : Entry). e.domain) c.next_entry-entry.ensures.entry in
+    let enters = c.from-d.ensures ∙ ap (λ (e : Entry). e.domain) c.next_entry-entry.ensures.entry in
     let got =
     slice_get_read m.domains.items (length m.domains.items) d x refl within
     c.index_mut.ensures.value in
-    let got_there : slice_get m.domains.items (entry_of_slot es m.slots).domain ≡ Some x =
-    subst (λ (n : ℕ). slice_get m.domains.items n ≡ Some x) enters got in
-    let e : Entry =
-    record { domain = d; length = c.from.result; pad = c.next_entry-entry.result.pad; hart = c.next_entry-entry.result.hart } in
-    let same : c.next_entry-entry.result ≡ e = rw (c.from-d.ensures, c.from.ensures) in
-    let entry : e ≡ entry_of_slot es m.slots = sym same ∙ c.next_entry-entry.ensures.entry in
+    let lasts = c.from.ensures ∙ ap (λ (e : Entry). e.length) c.next_entry-entry.ensures.entry in
     let long : length c.note_switch.new.used ≡ m.used.len = search rules in
     let was : length m.used.items ≡ m.used.len = search rules in
     let es_long : length es ≡ c.len.result =
     ap (λ (q : Public). length q.schedule) (sym c.public-public.ensures.value)
     ∙ sym c.len.ensures.value in
-    let noted : (us : List (ℕ × ℕ)) → IsUsed m.used.items us → IsUsed c.note_switch.new.used (us ++ (c.switch_entry-place.result, c.switch-switched.result.used) ∷ []) =
+    let noted : (us : List (ℕ × ℕ)) → IsUsed m.used.items us
+    → IsUsed c.note_switch.new.used (us ++ (c.switch_entry-place.result, c.switch-switched.result.used) ∷ []) =
     rw c.as_mut_slice.ensures.value at c.note_switch.ensures.noted in
     let all = length_back m.used.items c.note_switch.new.used m.used.len long was in
     let each =
@@ -248,7 +244,7 @@ next_so c =
     (λ (w : Setting). stretch w (n + c.from.result))
     m.memory x b.system b.now z.memory z.domain z.system z.clock in
     let runs = subst Runs c.next_start-start.ensures.start c.stretch-self.ensures.becomes in
-    next i m.accepted m.slots s m.stands x got_there b (begun_so c) z all each e entry runs
+    next i m.accepted m.slots s m.stands b (begun_so c) d enters x got z c.from.result lasts all each runs
 
 pub invariant_of-self-clause-stands : goal.invariant_of-self-clause-stands
 invariant_of-self-clause-stands c = (next_so c).stands
@@ -263,6 +259,7 @@ invariant_of-self-clause-resident c =
 pub invariant_of-self-clause-in_bounds : goal.invariant_of-self-clause-in_bounds
 invariant_of-self-clause-in_bounds c =
     let m = c.args.self.now in
+    let i = image_from m.image.now in
     let s = kept m.memory m.system m.domains.items m.used.items m.clock in
     let within : c.from-d.result < length m.domains.items =
     omega (arith, c.next_entry-entry.ensures.domain, c.from-d.ensures, m.stands.all_domains) in
@@ -270,7 +267,7 @@ invariant_of-self-clause-in_bounds c =
     let was : length m.used.items ≡ m.used.len = search rules in
     let counted : (n : ℕ) → CountedUpTo n m.used.items → CountedUpTo (n + 1) c.note_switch.new.used =
     rw c.as_mut_slice.ensures.value at c.note_switch.ensures.few in
-    let at = (begun_so c).now_is in
+    let at = now_is i m.accepted m.slots s m.stands _ (begun_so c) in
     let z : SlotEnd = record {
       memory = c.stretch-self.new.memory;
       system = c.stretch-self.new.system;
@@ -281,7 +278,14 @@ invariant_of-self-clause-in_bounds c =
       clock = c.stretch-self.result;
     } in
     in_bounds_next m.slots s c.from-d.result z m.in_bounds c.requires.slots within
-    (omega (arith, at, c.next_start-start.ensures.start, c.switch-switched.ensures.clock, c.switch-switched.ensures.later, c.stretch-self.ensures.over))
+    (omega (
+      arith,
+      at,
+      c.next_start-start.ensures.start,
+      c.switch-switched.ensures.clock,
+      c.switch-switched.ensures.later,
+      c.stretch-self.ensures.over,
+    ))
     c.stretch-self.ensures.few
     (counted_back m.used.items c.note_switch.new.used m.used.len long was counted)
 
