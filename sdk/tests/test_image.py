@@ -14,7 +14,7 @@ from elf_files import DYN, Elf, Load, R, W, X
 
 pytest.importorskip("elftools")
 
-from tp_sdk.build import build_text, set_words  # noqa: E402
+from tp_sdk.build import build_text, set_moments, set_words  # noqa: E402
 from tp_sdk.description import read_description  # noqa: E402
 from tp_sdk.faults import Fault, Missing  # noqa: E402
 from tp_sdk.program import Program  # noqa: E402
@@ -268,6 +268,28 @@ def test_a_setting_that_is_at_fault(folder: Folder) -> None:
         ("red.key=1", "there is no symbol 'key'"),
     ):
         assert fault in folder.fault(setting)
+
+
+def test_moments_in_the_place_of_the_descriptions(folder: Folder) -> None:
+    folder.write(DESCRIPTION.replace("[1]", "[1]\nlines = [3]\nmoments = [[9000, 3]]"))
+
+    def moments(*settings: str) -> Any:
+        description = read_description(folder.path / "red.toml")
+        set_moments(description, list(settings))
+        return tomllib.loads(build_text(description, None))["domain"][0].get("moments")
+
+    assert moments() == [[9000, 3]]
+    assert moments("red=[[1, 3], [2, 3]]") == [[1, 3], [2, 3]]
+    assert moments("red=[[1, 3]]", "red=[]") is None
+    for setting, fault in (
+        ("red", "--moments red: DOMAIN=[[CYCLE, LINE], ..] is wanted"),
+        ("red=[[1, 3]", "DOMAIN=[[CYCLE, LINE], ..] is wanted"),
+        ("red=[1, 3]", "DOMAIN=[[CYCLE, LINE], ..] is wanted"),
+        ("red=[[1, 3, 5]]", "DOMAIN=[[CYCLE, LINE], ..] is wanted"),
+        ("rd=[]", "--moments rd: PATH/red.toml has no domain 'rd': did you mean 'red'?"),
+    ):
+        with pytest.raises(Fault, match=re.escape(fault.replace("PATH", str(folder.path)))):
+            moments(setting)
 
 
 def test_a_source_in_assembler(folder: Folder, compiler: str) -> None:

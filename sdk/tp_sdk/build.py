@@ -14,7 +14,7 @@ from tp_sdk.keys import KEY_ROWS, PAGE, Array
 from tp_sdk.program import Ended, Program
 from tp_sdk.refusals import Refusal
 from tp_sdk.spelling import did_you_mean
-from tp_sdk.values import PLACE, integer_of, parse_setting
+from tp_sdk.values import PLACE, integer_of, parse_moments, parse_setting
 
 STACK, STACK_TOP = "stack", "__stack_top"
 
@@ -26,17 +26,25 @@ def set_words(description: Description, settings: list[str]) -> None:
     """Puts values, each as `DOMAIN.SYMBOL[+OFFSET]=VALUE`, in the place of the description's."""
     for setting in settings:
         domain, where, data = parse_setting(setting)
-        for it in description.domains:
-            if it.name == domain:
-                it.words.pop(where, None)  # (what is put last stays)
-                it.words[where] = data
-                break
-        else:
-            named = setting.partition("=")[0]
-            names = [it.name for it in description.domains]
-            raise Fault(
-                f"--set {named}: {description.file} has no domain '{domain}'{did_you_mean(domain, names)}"
-            )
+        words = _domain_of(description, domain, f"--set {setting.partition('=')[0]}").words
+        words.pop(where, None)  # (what is put last stays)
+        words[where] = data
+
+
+def set_moments(description: Description, settings: list[str]) -> None:
+    """Gives domains other moments, each as `DOMAIN=[[CYCLE, LINE], ..]`."""
+    for setting in settings:
+        domain, moments = parse_moments(setting)
+        _domain_of(description, domain, f"--moments {domain}").moments = moments
+
+
+def _domain_of(description: Description, name: str, asked: str) -> DomainDescription:
+    """The domain that words of the command line name."""
+    for it in description.domains:
+        if it.name == name:
+            return it
+    names = [it.name for it in description.domains]
+    raise Fault(f"{asked}: {description.file} has no domain '{name}'{did_you_mean(name, names)}")
 
 
 def load_programs(description: Description) -> list[Loaded]:

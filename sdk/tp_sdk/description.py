@@ -30,7 +30,7 @@ from tp_sdk.keys import (
 )
 from tp_sdk.spelling import did_you_mean
 from tp_sdk.symbols import Symbols
-from tp_sdk.values import bytes_of
+from tp_sdk.values import MOMENTS, bytes_of
 
 
 @dataclass(frozen=True)
@@ -62,7 +62,7 @@ _LISTS = {
     "colours": Key(Array(Integer()), "an array of integers"),
     "caps": Key(Array(Text()), "an array of strings", needed=False),
     "lines": Key(Array(Integer()), "an array of integers", needed=False),
-    "moments": Key(Array(Array(Integer(), 2, 2)), "an array of pairs [cycle, line]", needed=False),
+    "moments": Key(MOMENTS, "an array of pairs [cycle, line]", needed=False),
 }
 DOMAIN_KEYS = {
     "name": Key(Text(), "a string"),

@@ -285,7 +285,7 @@ CASES: tuple[Case, ...] = (
     Case(
         _K3,
         3,
-        "`policy` is none of `lru`, `fifo`, `plru`",
+        "`policy` is none of `lru`, `fifo`, `plru`, `nmru`",
         _any_of(keys.POLICIES),
         _of_part("policy"),
         _wanted_is(3),

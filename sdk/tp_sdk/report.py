@@ -1,4 +1,4 @@
-"""A report that `tp run` wrote, as values."""
+"""A report that `tp run` or `tp ablate` wrote, as values."""
 
 from __future__ import annotations
 
@@ -8,6 +8,7 @@ from dataclasses import dataclass, field
 from tp_sdk.faults import Fault
 
 MOST_READING = 0xFFFF_FFFF
+GUARDS = ("flush", "prefetch", "pad", "colour", "clone", "irq")
 
 _STATUS = re.compile(r"running|exited \d+|stopped \d+ pc [0-9a-f]{8} value [0-9a-f]{8}")
 
@@ -88,10 +89,11 @@ class Switch:
 
 @dataclass
 class Report:
-    """A report's sections and its lines of switches."""
+    """A report's sections and its lines of switches, and the guard that was off."""
 
     sections: list[Section] = field(default_factory=list)
     switches: list[Switch] = field(default_factory=list)
+    off: str | None = None
 
     def section(self, name: str) -> Section:
         """The section of the domain of this name."""
@@ -113,7 +115,7 @@ def parse_report(text: str, file: str) -> Report:
     if not lines or lines[-1] != "end":
         told = f": the program's answer is '{lines[0]}'" if lines and lines[0].startswith("refused ") else ""
         raise Fault(f"{file}: no report, which ends with the line 'end'{told}")
-    report = Report()
+    report = Report(off=_off(lines[0], file))
     starts = [number for number, line in enumerate(lines) if line.startswith(("domain ", "switch ", "end"))]
     for start, after in zip(starts, starts[1:]):
         try:
@@ -124,6 +126,16 @@ def parse_report(text: str, file: str) -> Report:
         except (ValueError, IndexError, KeyError):
             raise Fault(f"{file}:{start + 1}: no section of a report begins here") from None
     return report
+
+
+def _off(line: str, file: str) -> str | None:
+    """The guard of a first line `unprotected GUARD`."""
+    if not line.startswith("unprotected"):
+        return None
+    guard = line.removeprefix("unprotected ")
+    if guard not in GUARDS:
+        raise Fault(f"{file}:1: '{line}' names no guard: unprotected {', '.join(GUARDS)}")
+    return guard
 
 
 def _section(lines: list[str], at: int) -> Section:

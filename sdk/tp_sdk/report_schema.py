@@ -4,6 +4,8 @@ from __future__ import annotations
 
 from typing import Any
 
+from tp_sdk.report import GUARDS
+
 Schema = dict[str, Any]
 
 _INTEGER: Schema = {"type": "integer"}
@@ -16,11 +18,12 @@ def report_schema() -> Schema:
     """The schema."""
     return {
         "$schema": "http://json-schema.org/draft-07/schema#",
-        "title": "A report of tp run, explained",
+        "title": "A report of tp run or tp ablate, explained",
         "description": "Made by `tp-report --schema`.",
         **_object(
             report=_TEXT,
             image=_TEXT_OR_NONE,
+            unprotected={"enum": [None, *GUARDS]},
             slots=_INTEGER,
             domains=_array(_DOMAIN),
             switches=_array(_SWITCH),

@@ -32,7 +32,8 @@ class Telling:
         """The report in words, what belongs to a domain indented below it."""
         image = self.known.file
         of = f" of {image}" if image is not None and str(image) != self.file else ""
-        lines = [f"{self.file}: {_count(self.report.slots, 'slot')}{of}"]
+        off = "" if self.report.off is None else f", unprotected: the guard {self.report.off} was off"
+        lines = [f"{self.file}: {_count(self.report.slots, 'slot')}{of}{off}"]
         for section in self.report.sections:
             lines.extend(self.domain(section).sentences())
         lines.extend(self._switch(switch) for switch in self.report.switches)
@@ -43,6 +44,7 @@ class Telling:
         return {
             "report": self.file,
             "image": None if self.known.file is None else str(self.known.file),
+            "unprotected": self.report.off,
             "slots": self.report.slots,
             "domains": [self.domain(section).fields() for section in self.report.sections],
             "switches": [self._switch_fields(switch) for switch in self.report.switches],

@@ -1,4 +1,5 @@
-"""What is put at a symbol of a program: a word, an array of words, a string, a file's bytes."""
+"""What words of the command line and descriptions put in an image: at a symbol of a program a word, an
+array of words, a string, a file's bytes; and a domain's moments."""
 
 from __future__ import annotations
 
@@ -8,9 +9,10 @@ from pathlib import Path
 from typing import Any
 
 from tp_sdk.faults import Fault, read_bytes
-from tp_sdk.keys import Array, Either, Text, Within, fault_in
+from tp_sdk.keys import Array, Either, Integer, Text, Within, fault_in
 
 WORD = Within(0, 0xFFFF_FFFF)
+MOMENTS = Array(Array(Integer(), 2, 2))
 VALUE = Either((WORD, Array(WORD), Text()))
 WANTED = (
     f"a word, {WORD.low} to {WORD.high:#x}, an array of words, a string (a zero comes after it), "
@@ -51,12 +53,24 @@ def parse_setting(setting: str) -> tuple[str, str, bytes]:
     match = _SETTING.fullmatch(setting)
     value = None if match is None else _parse_value(match[match.re.groups])
     if match is None or value is None:
-        shown = setting if len(setting) < 80 else setting[:76] + " ..."
         raise Fault(
-            f"--set {shown}: DOMAIN.SYMBOL[+OFFSET]=VALUE is wanted, the value decimal, 0x.., "
+            f"--set {_shown(setting)}: DOMAIN.SYMBOL[+OFFSET]=VALUE is wanted, the value decimal, 0x.., "
             '[1, 2], "text" or @FILE'
         )
     return match[1], match[2], bytes_of(value, Path(), f"--set {setting}: the value")
+
+
+def parse_moments(setting: str) -> tuple[str, list[list[int]]]:
+    """`DOMAIN=[[CYCLE, LINE], ..]` as the domain and its moments."""
+    domain, _, text = setting.partition("=")
+    moments = _parse_value(text)
+    if fault_in(MOMENTS, moments, ()) is not None:
+        raise Fault(f"--moments {_shown(setting)}: DOMAIN=[[CYCLE, LINE], ..] is wanted")
+    return domain, moments
+
+
+def _shown(setting: str) -> str:
+    return setting if len(setting) < 80 else setting[:76] + " ..."
 
 
 def _parse_value(text: str) -> Any:

@@ -7,7 +7,7 @@ import sys
 from argparse import ArgumentParser, RawDescriptionHelpFormatter
 from pathlib import Path
 
-from tp_sdk.build import build_text, set_words
+from tp_sdk.build import build_text, set_moments, set_words
 from tp_sdk.description import read_description
 from tp_sdk.description_schema import description_schema
 from tp_sdk.faults import EXIT_CODES, Fault, Missing, write_bytes
@@ -61,6 +61,13 @@ def main(words: list[str]) -> int:
         "may stand several times",
     )
     parser.add_argument(
+        "--moments",
+        action="append",
+        default=[],
+        metavar="DOMAIN=[[CYCLE, LINE], ..]",
+        help="gives a domain these moments, in the place of the description's; may stand several times",
+    )
+    parser.add_argument(
         "--schema", action="store_true", help="writes a JSON schema of descriptions, for editors, and ends"
     )
     asked = parser.parse_args(words)
@@ -71,6 +78,7 @@ def main(words: list[str]) -> int:
         parser.error("the description is wanted")
     description = read_description(asked.description)
     set_words(description, asked.set)
+    set_moments(description, asked.moments)
     text = build_text(description, _program())
     size = len(text.encode())
     if size > MOST_BYTES:

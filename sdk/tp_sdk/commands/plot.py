@@ -7,12 +7,14 @@ import tomllib
 from argparse import ArgumentParser, Namespace, RawDescriptionHelpFormatter
 from collections.abc import Sequence
 from dataclasses import dataclass
+from math import log2
 from pathlib import Path
 
 from tp_sdk.faults import EXIT_CODES, Fault, Missing, read_text
-from tp_sdk.information import Measured, measure
+from tp_sdk.information import Measured, entropy, measure
 from tp_sdk.measurements import MEASURES, by_pads, by_schedule, measurements_of, rows_of
 from tp_sdk.memory import memory_of
+from tp_sdk.plot_matrix import Side, draw_channel
 from tp_sdk.plot_memory import draw_memory
 from tp_sdk.plot_readings import Panel, draw_histogram, draw_matrix
 from tp_sdk.plot_timeline import Strip, draw_timeline
@@ -20,17 +22,20 @@ from tp_sdk.plots import picture_file
 from tp_sdk.program import Program
 from tp_sdk.refusals import Image
 from tp_sdk.replay import Replay, replay
-from tp_sdk.report import Report, parse_report
+from tp_sdk.report import Report, Section, parse_report
 from tp_sdk.schedule import Entry, domain_names, entries_of, slot_count
 from tp_sdk.toml_places import read_with_places
 
-_HELP = """Draws reports of `tp run`, as NAME.svg or NAME.png:
+_HELP = """Draws reports of `tp run` and `tp ablate`, as NAME.svg or NAME.png:
 
   tp-plot timeline mine.toml mine.report -o mine.svg
       what was done in each slot, and what each switch used of its pad, as running the image
       again tells; with no program, what the report alone does
   tp-plot readings FOLDER --domain spy -o spy.svg
       what one domain measured in each FOLDER/*.report: a spy beside many neighbours, say
+  tp-plot matrix FOLDER OTHER --domain spy -o spy.svg
+      what one domain measured beside each message, in FOLDER/*.report and in OTHER/*.report of the
+      same names, on one scale, with the bits that it tells: all guards on, and one off, say
   tp-plot memory mine.toml -o mine.svg
       whose each frame and each set of the second level is, and what is shared"""
 
@@ -40,7 +45,7 @@ def main(words: list[str]) -> int:
     parser = ArgumentParser(
         "tp-plot", description=_HELP, epilog=EXIT_CODES, formatter_class=RawDescriptionHelpFormatter
     )
-    commands = parser.add_subparsers(required=True, metavar="timeline|readings|memory")
+    commands = parser.add_subparsers(required=True, metavar="timeline|readings|matrix|memory")
     timeline = commands.add_parser("timeline", help="slots, what was done in them, pads and switches")
     timeline.add_argument("image", type=Path)
     timeline.add_argument("reports", type=Path, nargs="+", metavar="report")
@@ -58,12 +63,6 @@ def main(words: list[str]) -> int:
     )
     readings.add_argument("--as", dest="form", choices=("matrix", "histogram"), default="matrix")
     readings.add_argument(
-        "--measure",
-        choices=MEASURES,
-        default="pairs",
-        help="; ".join(f"{name}: {what}" for name, what in MEASURES.items()),
-    )
-    readings.add_argument(
         "--image",
         type=Path,
         help="an image with the reports' schedule: it tells exactly within which measurements a slot ended",
@@ -74,10 +73,21 @@ def main(words: list[str]) -> int:
         help="the name of the report that others are compared with, else the first",
     )
     readings.set_defaults(draw=_readings)
+    matrix = commands.add_parser("matrix", help="messages by measurements, on one scale")
+    matrix.add_argument("folders", type=Path, nargs="+", metavar="folder")
+    matrix.add_argument("--domain", required=True, help="its name")
+    matrix.set_defaults(draw=_matrix)
+    for command in (readings, matrix):
+        command.add_argument(
+            "--measure",
+            choices=MEASURES,
+            default="pairs",
+            help="; ".join(f"{name}: {what}" for name, what in MEASURES.items()),
+        )
     memory = commands.add_parser("memory", help="whose colours, frames, pages and sets are whose")
     memory.add_argument("image", type=Path)
     memory.set_defaults(draw=_memory)
-    for command in (timeline, readings, memory):
+    for command in (timeline, readings, matrix, memory):
         command.add_argument(
             "-o", dest="out", type=Path, required=True, metavar="PICTURE", help="NAME.svg or NAME.png"
         )
@@ -105,6 +115,8 @@ class _Scheduled:
         pads = [switch.pad for switch in report.switches]
         if pads != [entry.pad for entry in self.entries] or [it.name for it in report.sections] != self.names:
             raise Fault(f"{file}: a report of another image than {self.file}")
+        if report.off == "pad":
+            raise Fault(f"{file}:1: pad was off: slots began at other cycles than the schedule tells")
 
 
 def _read_image(file: Path) -> _Scheduled:
@@ -120,6 +132,8 @@ def _timeline(asked: Namespace) -> None:
     reports = [(file, _read(file)) for file in asked.reports]
     for file, report in reports:
         image.refuse_others(file, report)
+        if report.off is not None:
+            raise Fault(f"{file}:1: {report.off} was off: a timeline is of a run with all guards on")
     try:
         program = Program.find()
     except Missing as missing:
@@ -141,17 +155,12 @@ def _memory(asked: Namespace) -> None:
 
 
 def _readings(asked: Namespace) -> None:
-    if not asked.folder.is_dir():
-        raise Fault(f"{asked.folder}: there is no such folder")
-    files = sorted(asked.folder.glob("*.report"))
-    if len(files) < 2:
-        raise Fault(f"{asked.folder}: two reports NAME.report or more are wanted, and {len(files)} are there")
-    reports = [(file, _read(file)) for file in files]
+    reports = _reports_of(asked.folder)
     image = None if asked.image is None else _read_image(asked.image)
     if image is not None:
         for file, report in reports:
             image.refuse_others(file, report)
-    if asked.against is not None and asked.against not in [file.stem for file in files]:
+    if asked.against is not None and asked.against not in [file.stem for file, _ in reports]:
         raise Fault(f"{asked.folder}: there is no {asked.against}.report to compare with")
     panels = [_panel(domain, reports, asked, image) for domain in asked.domain]
     for panel in panels:
@@ -160,15 +169,63 @@ def _readings(asked: Namespace) -> None:
     draw(asked.out, panels)
 
 
+def _reports_of(folder: Path) -> list[tuple[Path, Report]]:
+    """The reports of a folder, by their names: two or more."""
+    if not folder.is_dir():
+        raise Fault(f"{folder}: there is no such folder")
+    files = sorted(folder.glob("*.report"))
+    if len(files) < 2:
+        raise Fault(f"{folder}: two reports NAME.report or more are wanted, and {len(files)} are there")
+    return [(file, _read(file)) for file in files]
+
+
+def _matrix(asked: Namespace) -> None:
+    first, *others = asked.folders
+    reports = {folder: _reports_of(folder) for folder in asked.folders}
+    messages = [file.stem for file, _ in reports[first]]
+    for folder in others:
+        _refuse_other_names(first, messages, folder, [file.stem for file, _ in reports[folder]])
+    sides = {folder: _side(of, asked.domain, asked.measure) for folder, of in reports.items()}
+    for folder, side in sides.items():
+        print(f"{folder}: {side.title} ({log2(len(messages)):.2f} bits would tell all {len(messages)} apart)")
+    draw_channel(asked.out, asked.domain, messages, list(sides.values()))
+
+
+def _refuse_other_names(one: Path, ones: Sequence[str], other: Path, others: Sequence[str]) -> None:
+    for name in sorted({*ones} ^ {*others}):
+        has, lacks = (one, other) if name in ones else (other, one)
+        raise Fault(f"{lacks}: there is no {name}.report, as there is in {has}")
+
+
+def _side(reports: Sequence[tuple[Path, Report]], domain: str, measure_by: str) -> Side:
+    """What a domain measured in each report, all of which have the same guard off."""
+    first, of_first = reports[0]
+    for file, report in reports:
+        if report.off != of_first.off:
+            raise Fault(f"{file}:1: {_guards(report)}, and {_guards(of_first)} in {first}")
+    sections = [_section(file, report, domain) for file, report in reports]
+    # (all are drawn: that a slot ended within a measurement may be what tells)
+    rows = [measurements_of(section, measure_by, by_pads([])).cycles for section in sections]
+    return Side(of_first.off, rows, entropy([section.readings for section in sections]))
+
+
+def _guards(report: Report) -> str:
+    return "all guards were on" if report.off is None else f"{report.off} was off"
+
+
+def _section(file: Path, report: Report, domain: str) -> Section:
+    try:
+        return report.section(domain)
+    except Fault as fault:
+        raise Fault(f"{file}: {fault}") from None
+
+
 def _panel(
     domain: str, reports: Sequence[tuple[Path, Report]], asked: Namespace, image: _Scheduled | None
 ) -> Panel:
     sections, series = [], []
     for file, report in reports:
-        try:
-            section = report.section(domain)
-        except Fault as fault:
-            raise Fault(f"{file}: {fault}") from None
+        section = _section(file, report, domain)
         if image is None:
             slot_ended = by_pads(switch.pad for switch in report.switches)
         else:
