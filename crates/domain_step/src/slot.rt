@@ -396,7 +396,9 @@ pub fn step<P: Policy>(
     ensures soon { result < end + most_event }
 {
     if now < plain_until(domain, end) {
-        run(memory, system, domain, now).clock
+        // One instruction, as it takes a cycle or more. So the code of an instruction
+        // stands in one place, and is no call there.
+        stretch(memory, system, domain, now, now + 1)
     } else {
         wait_or_deliver(memory, system, domain, now, end)
     }
@@ -458,6 +460,7 @@ pub fn stretch<P: Policy>(
     ensures frames { memory.new.frames ≡ memory.old.frames }
     ensures hierarchy { hierarchy_of P.rule system.new ≡ hierarchy_of P.rule system.old }
     ensures pinned { system.new.core.pinned ≡ system.old.core.pinned }
+    ensures runs { Runs P.rule P.stands_for memory.new domain.new system.new result }
     ensures few { CountsUpTo result domain.new }
     ensures over { end ≤ result }
     ensures soon { now < end → result < end + most_event }
