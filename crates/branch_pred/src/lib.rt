@@ -1,10 +1,13 @@
-//! A branch predictor of two-bit counters.
+//! A branch predictor: counters of two bits, chosen by a branch's pc and the
+//! last outcomes, and a target buffer.
 #![tactic(auto)]
 
-ghost use Rattle.std.specs.Prelude.{◌≡◌, ◌≢◌, ◌↔◌, ◌/◌, ◌%◌, ◌<◌, Bool, List, ℕ, IfOk, length};
+ghost use Rattle.std.specs.Prelude.{◌≡◌, ◌≢◌, ◌+◌, ◌/◌, ◌%◌, ◌^◌, ◌<◌, ◌≤◌, Bool, true, List, ℕ, IfOk, length, slice_index, replicate, take, bit_xor, None};
 ghost use Rattle.std.specs.Int.{IsPowerOfTwo};
+ghost use Rattle.branch_pred.specs.Guesses as spec;
 ghost use Rattle.branch_pred.specs.Guesses.{
   Guesses,
+  AreSizes,
   AreCounters,
   fresh_guesses,
   place_of,
@@ -12,6 +15,9 @@ ghost use Rattle.branch_pred.specs.Guesses.{
   guess_of,
   learned,
   next_counter,
+  shifted,
+  number_of,
+  history_after,
 };
 
 use std::alloc::Global;
@@ -20,21 +26,68 @@ use tp_base::Memory;
 
 const STRONGLY_TAKEN: u8 = 3;
 
-/// Counters of two bits, of which a branch uses the one at its pc divided by
-/// 4, modulo their number, which is a power of two.
+/// The sizes of a predictor.
+#[derive(Clone, Copy, Debug, PartialEq, Eq)]
+pub struct Sizes {
+    /// Counters: a power of two.
+    pub counters: u32,
+    /// Outcomes that choose a counter besides its branch's pc: up to 8.
+    pub history: u32,
+    /// Places of the target buffer: a power of two, or 0 where there is none.
+    pub targets: u32,
+}
+
+/// A jump, or a branch that is taken: where it stands, and where it goes, as
+/// virtual addresses.
+#[derive(Clone, Copy, Debug, PartialEq, Eq)]
+pub struct Jump {
+    pub pc: u32,
+    pub target: u32,
+}
+
+/// Counters of two bits, of which a branch uses the one at its pc divided by 4,
+/// exclusive or the last outcomes, modulo their number; and where jumps went.
 #[derive(Drop)]
 pub struct Predictor {
     counters: Vec<u8>,
+    /// How many outcomes the history has.
+    outcomes: u32,
+    /// The largest history of so many.
+    largest: u32,
+    history: u32,
+    targets: Vec<Option<Jump>>,
 }
 
 impl Model for Predictor {
-    ghost use Rattle.branch_pred.specs.Guesses.{Guesses, AreCounters};
+    ghost use Rattle.branch_pred.specs.Guesses.{Guesses, IsPredictor};
 
     ghost Value = { Guesses };
 
-    ghost view = { λ a. record { counters = a.counters.items } };
+    ghost view = { λ a. record {
+      counters = a.counters.items;
+      outcomes = a.outcomes;
+      history = a.history;
+      targets = a.targets.items;
+    } };
 
-    ghost invariant = { λ a. AreCounters (record { counters = a.counters.items }) };
+    ghost invariant = { λ a. IsPredictor a.largest (record {
+      counters = a.counters.items;
+      outcomes = a.outcomes;
+      history = a.history;
+      targets = a.targets.items;
+    }) };
+}
+
+fn new_counters(alloc: Global, count: u32) -> Result<Vec<u8>, Memory>
+    ensures items { IfOk result (λ counters. counters.items ≡ replicate count 1) }
+{
+    Ok(vec![in alloc; 1; count as usize]?)
+}
+
+fn no_targets(alloc: Global, count: u32) -> Result<Vec<Option<Jump>>, Memory>
+    ensures items { IfOk result (λ targets. targets.items ≡ replicate count None) }
+{
+    Ok(vec![in alloc; None; count as usize]?)
 }
 
 /// The next state of a counter.
@@ -54,28 +107,53 @@ fn next_counter(counter: u8, taken: bool) -> u8
     }
 }
 
-/// The place of the counter of the branch at this pc.
+/// A number modulo a power of two.
 #[inline(always)]
-fn index_in(counters: &[u8], pc: u32) -> usize
-    requires power { IsPowerOfTwo (length counters.now) }
-    ensures place { result ≡ place_of (length counters.now) pc }
-    ensures below { result < length counters.now }
+fn modulo(number: u32, power: usize) -> usize
+    requires power { IsPowerOfTwo power }
+    ensures value { result ≡ number % power }
+    ensures below { result < power }
 {
-    (pc / 4) as usize & (counters.len() - 1)
+    number as usize & (power - 1)
+}
+
+/// A number modulo a power of two, of which one less is handed in.
+#[inline(always)]
+fn low_bits(number: u32, largest: u32) -> u32
+    requires power { IsPowerOfTwo (largest + 1) }
+    ensures value { result ≡ number % (largest + 1) }
+{
+    number & largest
 }
 
 impl Predictor {
-    /// A predictor of this many counters, each at 1.
+    /// A predictor of these sizes, each counter at 1, without an outcome and a
+    /// target.
     ///
     /// # Errors
     ///
     /// `Memory`, where memory ran out.
-    pub fn new(alloc: Global, counters: u32) -> Result<Self, Memory>
-        requires power { IsPowerOfTwo counters }
-        ensures fresh { IfOk result (λ predictor. predictor ≡ fresh_guesses counters) }
+    pub fn new(alloc: Global, sizes: Sizes) -> Result<Self, Memory>
+        requires sizes { AreSizes sizes }
+        ensures fresh { IfOk result (λ predictor. predictor ≡ fresh_guesses sizes) }
     {
-        let fresh = vec![in alloc; 1; counters as usize]?;
-        Ok(Predictor { counters: fresh })
+        Ok(Predictor {
+            counters: new_counters(alloc, sizes.counters)?,
+            outcomes: sizes.history,
+            largest: (1 << sizes.history) - 1,
+            history: 0,
+            targets: no_targets(alloc, sizes.targets)?,
+        })
+    }
+
+    /// The place of the counter of the branch at this pc.
+    #[inline(always)]
+    fn place(&self, pc: u32) -> usize
+        ensures place { result ≡ place_of self.now pc }
+        ensures below { result < length self.now.counters }
+        ensures sound { AreCounters self.now }
+    {
+        modulo(pc / 4 ^ self.history, self.counters.len())
     }
 
     /// Whether the branch at this pc is guessed to be taken: its counter is 2 or 3.
@@ -84,40 +162,103 @@ impl Predictor {
         ensures guess { result ≡ guess_of self.now pc }
         ensures sound { AreCounters self.now }
     {
-        self.counters[index_in(&self.counters, pc)] >= 2
+        self.counters[self.place(pc)] >= 2
     }
 
-    /// Moves the counter of the branch at this pc by its outcome, within 0 to 3.
+    /// Moves the counter of the branch at this pc by its outcome, within 0 to 3,
+    /// and then takes the outcome into the history.
     #[inline(always)]
     pub fn learn(&mut self, pc: u32, taken: bool)
         ensures learned { self.new ≡ learned self.old pc taken }
     {
-        let index = index_in(&self.counters, pc);
-        let counter = self.counters[index];
-        self.counters[index] = next_counter(counter, taken);
+        let place = self.place(pc);
+        let counter = self.counters[place];
+        self.counters[place] = next_counter(counter, taken);
+        let outcomes = 2 * self.history + u32::from(taken);
+        self.history = low_bits(outcomes, self.largest);
     }
 
-    /// Sets every counter to 1.
+    /// Looks a jump up, whose place in the target buffer then has it: whether it
+    /// had it before. Without a target buffer each is known.
+    #[inline(always)]
+    pub fn look(&mut self, jump: Jump) -> bool
+        ensures known { result ≡ spec.is_known self.old jump }
+        ensures gone { self.new ≡ spec.gone self.old jump }
+    {
+        if self.targets.is_empty() {
+            return true;
+        }
+        let place = modulo(jump.pc / 4, self.targets.len());
+        let kept = self.targets[place];
+        self.targets[place] = Some(jump);
+        kept == Some(jump)
+    }
+
+    /// A jump from a pc to a target: whether the target buffer was wrong.
+    #[inline(always)]
+    pub fn jump(&mut self, pc: u32, target: u32) -> bool
+        ensures wrong { result ≡ spec.is_wrong_jump self.old pc target }
+        ensures jumped { self.new ≡ spec.jumped self.old pc target }
+    {
+        !self.look(Jump { pc, target })
+    }
+
+    /// A branch at a pc that is taken, to this target, or not: whether its guess
+    /// was wrong, or the target buffer where it is taken.
+    #[inline(always)]
+    pub fn branch(&mut self, pc: u32, taken: bool, target: u32) -> bool
+        ensures wrong { result ≡ spec.is_wrong_branch self.old pc taken target }
+        ensures branched { self.new ≡ spec.branched self.old pc taken target }
+    {
+        let guess = self.guess(pc);
+        self.learn(pc, taken);
+        if !taken {
+            return guess;
+        }
+        let wrong = self.jump(pc, target);
+        !guess || wrong
+    }
+
+    /// Sets every counter to 1, and forgets all outcomes and targets.
     pub fn reset(&mut self)
-        ensures fresh { self.new ≡ fresh_guesses (length self.old.counters) }
+        ensures fresh { self.new ≡ fresh_guesses (spec.sizes_of self.old) }
     {
         self.counters.fill(1);
+        self.history = 0;
+        self.targets.fill(None);
     }
 }
 
-/// The law that two branches share a counter exactly where their pcs, divided
-/// by 4, agree modulo the number of counters: an outcome at the one is learned
-/// for the other then, and else leaves it as it was.
-pub fn counters_are_shared(pc: u32, other: u32)
-    ensures together { (guesses : Guesses) → AreCounters guesses → (taken : Bool)
-        → pc / 4 % length guesses.counters ≡ other / 4 % length guesses.counters
-        → counter_of (learned guesses pc taken) other ≡ next_counter taken (counter_of guesses other) }
-    ensures apart { (guesses : Guesses) → AreCounters guesses → (taken : Bool)
-        → pc / 4 % length guesses.counters ≢ other / 4 % length guesses.counters
-        → counter_of (learned guesses pc taken) other ≡ counter_of guesses other }
-{
-    let _ = (pc, other);
-}
+/// The law that branches share a counter by their places alone: an outcome at
+/// one is learned where another has its place, and every other counter stays.
+pub fn counters_are_shared()
+    ensures together { (guesses : Guesses) → AreCounters guesses → (pc other : ℕ) (taken : Bool)
+        → place_of guesses pc ≡ place_of guesses other
+        → slice_index (learned guesses pc taken).counters (place_of guesses other)
+        ≡ next_counter taken (counter_of guesses other) }
+    ensures apart { (guesses : Guesses) → AreCounters guesses → (pc other : ℕ) (taken : Bool)
+        → place_of guesses pc ≢ place_of guesses other
+        → slice_index (learned guesses pc taken).counters (place_of guesses other)
+        ≡ counter_of guesses other }
+{}
+
+/// The law that the history is the last outcomes: after any outcomes, the newest
+/// first, it is the number of which the first so many are the binary digits, the
+/// newest the lowest.
+pub fn the_history_is_the_last_outcomes()
+    ensures last { (count : ℕ) (outcomes : List Bool)
+        → history_after count outcomes ≡ number_of (take count outcomes) }
+{}
+
+/// The law that the target buffer knows a jump until another one comes to its
+/// place.
+pub fn targets_are_kept()
+    ensures same { (guesses : Guesses) → AreCounters guesses → (jump : Jump)
+        → spec.is_known (spec.gone guesses jump) jump ≡ true }
+    ensures apart { (guesses : Guesses) → AreCounters guesses → (jump other : Jump)
+        → spec.target_place guesses.targets jump.pc ≢ spec.target_place guesses.targets other.pc
+        → spec.is_known (spec.gone guesses other) jump ≡ spec.is_known guesses jump }
+{}
 
 #[cfg(test)]
 mod tests;

@@ -7,7 +7,7 @@ use Rattle.set_cache.specs.declared.KeptLine.{KeptLine}
 use Rattle.set_cache.specs.Cache.{CacheSet, Sets, fresh_set, set_at, is_line, step_of}
 use Rattle.l2_colour.specs.Colours.{IsColoured, colour_of_set}
 use Rattle.mem_system.specs.Hierarchy.{Hierarchy, colour_of_line}
-use Rattle.mem_system.specs.Cost.{Touch, Fetch, Load, Store, WalkRead, Look, Branch, EmptyTlb, Flush, Charge, Caches, cold, below, below_if, below_by, below_all, on_core, pass_on, touched, touched_all, and_then}
+use Rattle.mem_system.specs.Cost.{Touch, Fetch, Load, Store, WalkRead, Look, Branch, Jump, EmptyTlb, Flush, Charge, Caches, cold, below, below_if, below_by, below_all, on_core, pass_on, touched, touched_all, and_then}
 use Rattle.mem_system.specs.TouchLaws.{lines_in_l2}
 use Rattle.mem_system.proofs.TouchLaws.{set_colour, handed_on}
 use Rattle.cache_sharing.specs.Operations.{prefetch}
@@ -108,7 +108,8 @@ any_touch h own region not_kernel (Load line) (inr may) = inr may
 any_touch h own region not_kernel (Store line) may = any_own h own not_kernel line may
 any_touch h own region not_kernel (WalkRead line) may = any_own h own not_kernel line may
 any_touch h own region not_kernel (Look page reads found) may = All-weaker (IsOwnLine h own) (IsOwnLine h any_colour) (any_own h own not_kernel) reads may
-any_touch h own region not_kernel (Branch pc taken) may = tt
+any_touch h own region not_kernel (Branch pc taken target) may = tt
+any_touch h own region not_kernel (Jump pc target) may = tt
 any_touch h own region not_kernel EmptyTlb may = tt
 any_touch h own region not_kernel Flush may = tt
 any_touch h own region not_kernel (Charge cycles) may = tt

@@ -9,7 +9,7 @@ use Rattle.set_cache.specs.declared.KeptLine.{KeptLine}
 use Rattle.set_cache.proofs.Steps.{set_at-touch_other}
 use Rattle.l2_colour.specs.Colours.{colour_of_set}
 use Rattle.mem_system.specs.Hierarchy.{Hierarchy, colour_of_line}
-use Rattle.mem_system.specs.Cost.{Touch, Fetch, Load, Store, WalkRead, Look, Branch, EmptyTlb, Flush, Charge, Core, Caches, Below, below, below_if, below_by, below_all, on_core, pass_on, touched, touched_all, and_then}
+use Rattle.mem_system.specs.Cost.{Touch, Fetch, Load, Store, WalkRead, Look, Branch, Jump, EmptyTlb, Flush, Charge, Core, Caches, Below, below, below_if, below_by, below_all, on_core, pass_on, touched, touched_all, and_then}
 use Rattle.mem_system.specs.TouchLaws.{lines_in_l2, holds}
 use Rattle.mem_system.proofs.TouchLaws.{set_colour, line_elsewhere, Spares, touch_spares, handed_on, below_if_held}
 use Rattle.cache_sharing.specs.Operations.{prefetch}
@@ -71,7 +71,8 @@ may_reach h own region (Store line) may = All-cons (MayReach h own region) line 
 may_reach h own region (WalkRead line) may = All-cons (MayReach h own region) line [] (inl may) (All-nil (MayReach h own region))
 may_reach h own region (Look page reads found) may =
     All-weaker (IsOwnLine h own) (MayReach h own region) (λ line mine. inl mine) reads may
-may_reach h own region (Branch pc taken) may = All-nil (MayReach h own region)
+may_reach h own region (Branch pc taken target) may = All-nil (MayReach h own region)
+may_reach h own region (Jump pc target) may = All-nil (MayReach h own region)
 may_reach h own region EmptyTlb may = All-nil (MayReach h own region)
 may_reach h own region Flush may = All-nil (MayReach h own region)
 may_reach h own region (Charge cycles) may = All-nil (MayReach h own region)

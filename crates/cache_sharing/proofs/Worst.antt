@@ -13,7 +13,7 @@ use Rattle.pad_bound.specs.Bound.{worst_access, worst_read, worst_leave, worst_p
 use Rattle.pad_bound.specs.Worst.{worst, worst_of, prefetch_touches, IsCloneOf}
 use Rattle.pad_bound.proofs.Parts.{leave_costs, enter_costs, prefetch_costs}
 use Rattle.mem_system.specs.Hierarchy.{Hierarchy}
-use Rattle.mem_system.specs.Cost.{Touch, Fetch, Load, Store, WalkRead, Look, Branch, EmptyTlb, Flush, Charge, Core, Caches, fresh_core, fetched, accessed, branched, flushed, on_core, pass_on, touched, touched_all, and_then}
+use Rattle.mem_system.specs.Cost.{Touch, Fetch, Load, Store, WalkRead, Look, Branch, Jump, EmptyTlb, Flush, Charge, Core, Caches, fresh_core, fetched, accessed, guessed, branched, jumped, flushed, on_core, pass_on, touched, touched_all, and_then}
 use Rattle.mem_system.specs.TouchLaws.{IsCostBelow, IsCostOfData, IsCostOfWalk, IsCost}
 use Rattle.mem_system.proofs.TouchLaws.{cost_is, looked_l1d}
 use Rattle.cache_sharing.specs.Operations.{touch_of_line, touch_by, footprint, operation, plain, leave, enter, shared_region, prefetch, leave_if, switch, switch_by}
@@ -53,14 +53,15 @@ ways_touch shape sets line store ways =
 
 -- no touch changes how many ways the sets have
 ways_kept : (h : Hierarchy) (pinned : Bool) (c : Caches) (touch : Touch) → HasWays h c → HasWays h (touched h pinned c touch).caches
-unfolding touched on_core fetched accessed branched flushed fresh_core pass_on
+unfolding touched on_core fetched accessed guessed branched jumped flushed fresh_core pass_on
 ways_kept h pinned c (Fetch line) ways = ways
 ways_kept h pinned c (Load line) ways = ways_touch h.l1d c.core.l1d line false ways
 ways_kept h pinned c (Store line) ways = ways_touch h.l1d c.core.l1d line true ways
 ways_kept h pinned c (WalkRead line) ways = ways
 ways_kept h pinned c (Look page reads found) ways =
     subst (SetsHaveWays h.l1d) (sym (looked_l1d h c.core page reads found (is_some (place_of h.tlb c.core.tlb page)))) ways
-ways_kept h pinned c (Branch pc taken) ways = ways
+ways_kept h pinned c (Branch pc taken target) ways = ways
+ways_kept h pinned c (Jump pc target) ways = ways
 ways_kept h pinned c EmptyTlb ways = ways
 ways_kept h pinned c Flush ways = λ s below. (IsFull-empty h.l1d.ways).each s
 ways_kept h pinned c (Charge cycles) ways = ways
@@ -108,8 +109,10 @@ module _ (h : Hierarchy) where
   touch_most core (WalkRead line) cost few is = let most = below_most 0 cost is in omega (arith, most)
   touch_most core (Look page reads found) cost few (inl held) = omega (arith, held)
   touch_most core (Look page reads found) cost few (inr walk) = walk_most (length reads) cost walk
-  touch_most core (Branch pc taken) cost few (inl right) = omega (arith, right)
-  touch_most core (Branch pc taken) cost few (inr wrong) = omega (arith, wrong)
+  touch_most core (Branch pc taken target) cost few (inl right) = omega (arith, right)
+  touch_most core (Branch pc taken target) cost few (inr wrong) = omega (arith, wrong)
+  touch_most core (Jump pc target) cost few (inl right) = omega (arith, right)
+  touch_most core (Jump pc target) cost few (inr wrong) = omega (arith, wrong)
   touch_most core EmptyTlb cost few is = omega (arith, is)
   touch_most core Flush cost few is =
       let written : h.costs.wb * dirty_of h.l1d core.l1d ≤ h.costs.wb * (h.l1d.count * h.l1d.ways) = mul-le-mul_left h.costs.wb few in

@@ -4,7 +4,7 @@ use Rattle.set_cache.specs.Cache.{Sets, set_at}
 use Rattle.set_cache.specs.declared.KeptLine.{KeptLine}
 use Rattle.l2_colour.specs.Colours.{IsColoured, colour_of_set}
 use Rattle.mem_system.specs.Hierarchy.{Hierarchy, colour_of_line}
-use Rattle.mem_system.specs.Cost.{Touch, Fetch, Load, Store, WalkRead, Look, Branch, EmptyTlb, Flush, Charge, Caches, Touched}
+use Rattle.mem_system.specs.Cost.{Touch, Fetch, Load, Store, WalkRead, Look, Branch, Jump, EmptyTlb, Flush, Charge, Caches, Touched}
 use Rattle.mem_system.specs.TouchLaws.{holds}
 
 -- ---- whose lines and sets; a domain's colours are a test
@@ -49,7 +49,8 @@ MayTouch h own region (Load line) = IsOwnLine h own line ⊎ IsShared region lin
 MayTouch h own region (Store line) = IsOwnLine h own line
 MayTouch h own region (WalkRead line) = IsOwnLine h own line
 MayTouch h own region (Look page reads found) = All (IsOwnLine h own) reads
-MayTouch h own region (Branch pc taken) = Unit {0}
+MayTouch h own region (Branch pc taken target) = Unit {0}
+MayTouch h own region (Jump pc target) = Unit {0}
 MayTouch h own region EmptyTlb = Unit {0}
 MayTouch h own region Flush = Unit {0}
 MayTouch h own region (Charge cycles) = Unit {0}

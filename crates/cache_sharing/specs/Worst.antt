@@ -1,9 +1,10 @@
 -- What touches cost at worst, whatever the caches hold.
 use Rattle.std.specs.Prelude.{◌≡◌, ℕ, ◌+◌, ◌*◌, ◌<◌, ◌≤◌, List, [], ◌∷◌, length}
 use Rattle.set_cache.specs.Cache.{set_at}
+use Rattle.cycle_cost.specs.Costs.{most_added}
 use Rattle.pad_bound.specs.Bound.{MachineShape, most_written, worst_fetch, worst_access, worst_read}
 use Rattle.mem_system.specs.Hierarchy.{Hierarchy}
-use Rattle.mem_system.specs.Cost.{Touch, Fetch, Load, Store, WalkRead, Look, Branch, EmptyTlb, Flush, Charge, Caches, Touched}
+use Rattle.mem_system.specs.Cost.{Touch, Fetch, Load, Store, WalkRead, Look, Branch, Jump, EmptyTlb, Flush, Charge, Caches, Touched}
 
 -- what of a hierarchy the bound depends on, with a shared region of so many bytes
 abbrev pub shape_of : Hierarchy → ℕ → MachineShape
@@ -15,7 +16,7 @@ shape_of h shared = record {
   ways = h.l1d.ways;
   written = most_written h.line_size;
   again = 0;
-  product = 0;
+  product = most_added h.products;
 }
 
 -- every line misses both levels, its victim is dirty, and the guess is wrong; a flush finds every line dirty
@@ -25,7 +26,8 @@ worst_touch h (Load line) = worst_access h.costs 0
 worst_touch h (Store line) = worst_access h.costs 0
 worst_touch h (WalkRead line) = worst_read h.costs 0
 worst_touch h (Look page reads found) = h.costs.tlb + length reads * worst_read h.costs 0
-worst_touch h (Branch pc taken) = h.costs.mispredict
+worst_touch h (Branch pc taken target) = h.costs.mispredict
+worst_touch h (Jump pc target) = h.costs.mispredict
 worst_touch h EmptyTlb = 0
 worst_touch h Flush = h.costs.flush + h.costs.wb * (h.l1d.count * h.l1d.ways)
 worst_touch h (Charge cycles) = cycles

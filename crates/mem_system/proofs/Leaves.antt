@@ -1,6 +1,6 @@
 -- Look-ups: what a walk read, and the leaf words that the buffer keeps.
-use Rattle.std.proofs.Common.{arith, ◌≡◌, ◌≢◌, ◌∙◌, sym, refl, ap, subst, inl, inr, ℕ, ◌<◌, ◌≤◌, ◌/◌, ◌^◌, List, [], ◌∷◌, length, take, Some}
-use Rattle.std.specs.Prelude.{Result, Ok, Err, IfOk}
+use Rattle.std.proofs.Common.{arith, ◌≡◌, ◌≢◌, ◌∙◌, sym, refl, ap, subst, inl, inr, ℕ, ◌<◌, ◌≤◌, ◌/◌, ◌^◌, List, [], ◌∷◌, length, take, Some, None, Bool, false}
+use Rattle.std.specs.Prelude.{Result, Ok, Err, IfOk, is_some}
 use Rattle.std.proofs.lemmas.Bool.{cases_eq}
 use Rattle.phys_mem.specs.Mem.{Mem}
 use Rattle.sv32_walk.specs.declared.access.Access.{Access}
@@ -9,6 +9,9 @@ use Rattle.sv32_walk.specs.PageTableEntry.{ppn}
 use Rattle.sv32_walk.specs.Walk.{walk, padded}
 use Rattle.sv32_walk.specs.KeptLeaf.{end_at, IsLeafOf}
 use Rattle.sv32_walk.proofs.KeptLeafLemmas.{walk_again, leaf_within}
+use Rattle.set_cache.specs.Rule.{Rule}
+use Rattle.set_cache.specs.Cache.{Sets, place_of}
+use Rattle.set_cache.specs.Contents.{StandsFor, shape_of}
 use Rattle.tlb_model.specs.Buffer.{Buffer, leaf_of}
 use Rattle.mem_system.specs.Translation.{KeepsLeaves, address_in, translated}
 
@@ -75,3 +78,16 @@ keeps_by old new frames root buffer stays keeps = record {
       let is : IsLeafOf old frames root page leaf = keeps.each page leaf kept in
       record { at = is.at; access = is.access; small = is.small; in_page = is.in_page; walked = stays is.at leaf is.access is.small is.walked };
 }
+
+-- what a look-up missed isn't held afterwards
+pub missed_still : {P : Type 0} (rule : P → ℕ → Rule) (stands : P → ℕ → ℕ → List ℕ → Type 0) (old new : Buffer P) (page : ℕ)
+    → new ≡ old
+    → ((sets : Sets) → StandsFor stands old.pages sets → false ≡ is_some (place_of (shape_of rule old.pages) sets page))
+    → (sets : Sets) → StandsFor stands new.pages sets → is_some (place_of (shape_of rule new.pages) sets page) ≡ false
+missed_still {P} rule stands old new page same found sets stand =
+    rw same (sym (found sets (subst (λ (b : Buffer P). StandsFor stands b.pages sets) same stand)))
+
+-- nothing is kept where no page has a leaf
+pub keeps_none : {P : Type 0} (mem : Mem) (frames root : ℕ) (buffer : Buffer P) → ((page : ℕ) → leaf_of buffer page ≡ None)
+    → KeepsLeaves mem frames root buffer
+keeps_none mem frames root buffer none = record { each = λ page leaf is. absurd (cc (sym (none page) ∙ is)) }

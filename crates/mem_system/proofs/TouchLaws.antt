@@ -1,19 +1,18 @@
 -- The laws of touches: colours, costs, hits, and what isn't touched.
 use Rattle.std.proofs.Common.{arith, ◌≡◌, ◌≢◌, ◌∙◌, sym, refl, ap, subst, inl, inr, ◌⊎◌, true≢false, ℕ, ◌+◌, ◌*◌, ◌/◌, ◌%◌, ◌≤◌, Bool, true, false, List, [], ◌∷◌, length, Option, Some, None, get_or, set}
-use Rattle.std.specs.Prelude.{◌==◌, ◌&&◌, if◌then◌else◌, All, is_some, option_map, slice_index}
+use Rattle.std.specs.Prelude.{◌==◌, ◌&&◌, if◌then◌else◌, All, is_some, option_map, slice_index, slice_index_or}
 use Rattle.std.proofs.lemmas.List.{get_or-set_other}
 use Rattle.std.proofs.lemmas.List.Elements.{All-nil, All-head, All-tail}
-use Rattle.std.proofs.Math.ListN.{length-set}
 use Rattle.tp_base.specs.Table.{at-put_other}
 use Rattle.set_cache.specs.Rule.{Rule}
 use Rattle.set_cache.specs.Cache.{Sets, CacheSet, Shape, fresh_set, set_at, step_of, step_by, way_of, touch_of, place_of}
 use Rattle.l2_colour.specs.Colours.{IsColoured, colour_of_set}
 use Rattle.l2_colour.proofs.Rows.{line_in_colour}
 use Rattle.branch_pred.specs.Guesses as counters
-use Rattle.branch_pred.specs.Guesses.{Guesses, guess_of, counter_of, next_counter}
+use Rattle.branch_pred.specs.Guesses.{Guesses, counter_of, next_counter, target_place, jump, is_wrong_branch, is_wrong_jump}
 use Rattle.mem_system.specs.Hierarchy.{Hierarchy, colour_of_line}
-use Rattle.mem_system.specs.Cost.{Touch, Fetch, Load, Store, WalkRead, Look, Branch, EmptyTlb, Flush, Charge, Core, Caches, below, below_if, below_by, below_all, pass_on, touched, on_core, fetched, accessed, looked, branched, flushed, unless_hit, is_wrong}
-use Rattle.mem_system.specs.TouchLaws.{lines_in_l1i, lines_in_l1d, lines_in_l2, pages_in_tlb, pcs_in, is_flush, empties_tlb, holds, IsCostBelow, IsCostOfData, IsCostOfWalk, IsCost}
+use Rattle.mem_system.specs.Cost.{Touch, Fetch, Load, Store, WalkRead, Look, Branch, Jump, EmptyTlb, Flush, Charge, Core, Caches, below, below_if, below_by, below_all, pass_on, touched, on_core, fetched, accessed, looked, guessed, branched, jumped, flushed, unless_hit}
+use Rattle.mem_system.specs.TouchLaws.{lines_in_l1i, lines_in_l1d, lines_in_l2, pages_in_tlb, branches_in, jumps_in, is_flush, empties_tlb, holds, IsCostBelow, IsCostOfData, IsCostOfWalk, IsCost}
 
 -- ---- colours
 
@@ -74,14 +73,15 @@ module _ (P : ℕ → Type 0) where
 
   pub handed_on : (h : Hierarchy) (core : Core) (touch : Touch)
       → All P (lines_in_l2 touch) → All P (on_core h core touch).lines
-  unfolding on_core fetched accessed branched flushed
+  unfolding on_core fetched accessed guessed branched jumped flushed
   handed_on h core (Fetch line) all = unless_all (touch_of h.l1i core.l1i line false).answer.hit line all
   handed_on h core (Load line) all = unless_all (touch_of h.l1d core.l1d line false).answer.hit line all
   handed_on h core (Store line) all = unless_all (touch_of h.l1d core.l1d line true).answer.hit line all
   handed_on h core (WalkRead line) all = all
   handed_on h core (Look page reads found) all =
       looked_all h core page reads found (is_some (place_of h.tlb core.tlb page)) all
-  handed_on h core (Branch pc taken) all = All-nil P
+  handed_on h core (Branch pc taken target) all = All-nil P
+  handed_on h core (Jump pc target) all = All-nil P
   handed_on h core EmptyTlb all = All-nil P
   handed_on h core Flush all = All-nil P
   handed_on h core (Charge cycles) all = All-nil P
@@ -238,7 +238,7 @@ module _ (h : Hierarchy) where
 
     pub cost_is : (caches : Caches) (touch : Touch)
         → IsCost h caches.core touch (touched h pinned caches touch).cost
-    unfolding touched on_core fetched accessed branched flushed pass_on below_all
+    unfolding touched on_core fetched accessed guessed branched jumped flushed pass_on below_all
     cost_is caches (Fetch line) =
         fetch_cost caches.l2 line (touch_of h.l1i caches.core.l1i line false).answer.hit
     cost_is caches (Load line) = line_cost caches line false
@@ -246,8 +246,9 @@ module _ (h : Hierarchy) where
     cost_is caches (WalkRead line) = one_cost caches.l2 line 0
     cost_is caches (Look page reads found) =
         look_cost caches.l2 caches.core page reads found (is_some (place_of h.tlb caches.core.tlb page))
-    cost_is caches (Branch pc taken) =
-        guess_cost (is_wrong (guess_of caches.core.guesses pc) taken) h.costs.mispredict
+    cost_is caches (Branch pc taken target) =
+        guess_cost (is_wrong_branch caches.core.guesses pc taken target) h.costs.mispredict
+    cost_is caches (Jump pc target) = guess_cost (is_wrong_jump caches.core.guesses pc target) h.costs.mispredict
     cost_is caches EmptyTlb = refl
     cost_is caches Flush = omega arith
     cost_is caches (Charge cycles) = omega arith
@@ -433,7 +434,7 @@ module _ (h : Hierarchy) (pinned : Bool) (caches : Caches) where
   pub l1i_stays : (touch : Touch) (s : ℕ) → is_flush touch ≡ false
       → All (λ line. line % h.l1i.count ≢ s) (lines_in_l1i touch)
       → set_at h.l1i.ways (core_after touch).l1i s ≡ set_at h.l1i.ways caches.core.l1i s
-  unfolding touched on_core fetched accessed branched pass_on
+  unfolding touched on_core fetched accessed guessed branched jumped pass_on
   l1i_stays (Fetch line) s kept apart =
       other_set h.l1i caches.core.l1i line s false (only h.l1i.count s line apart)
   l1i_stays (Load line) s kept apart = refl
@@ -442,7 +443,8 @@ module _ (h : Hierarchy) (pinned : Bool) (caches : Caches) where
   l1i_stays (Look page reads found) s kept apart =
       ap (λ (sets : Sets). set_at h.l1i.ways sets s)
       (looked_l1i h caches.core page reads found (is_some (place_of h.tlb caches.core.tlb page)))
-  l1i_stays (Branch pc taken) s kept apart = refl
+  l1i_stays (Branch pc taken target) s kept apart = refl
+  l1i_stays (Jump pc target) s kept apart = refl
   l1i_stays EmptyTlb s kept apart = refl
   l1i_stays Flush s kept apart = absurd (true≢false kept)
   l1i_stays (Charge cycles) s kept apart = refl
@@ -450,7 +452,7 @@ module _ (h : Hierarchy) (pinned : Bool) (caches : Caches) where
   pub l1d_stays : (touch : Touch) (s : ℕ) → is_flush touch ≡ false
       → All (λ line. line % h.l1d.count ≢ s) (lines_in_l1d touch)
       → set_at h.l1d.ways (core_after touch).l1d s ≡ set_at h.l1d.ways caches.core.l1d s
-  unfolding touched on_core fetched accessed branched pass_on
+  unfolding touched on_core fetched accessed guessed branched jumped pass_on
   l1d_stays (Fetch line) s kept apart = refl
   l1d_stays (Load line) s kept apart =
       other_set h.l1d caches.core.l1d line s false (only h.l1d.count s line apart)
@@ -460,7 +462,8 @@ module _ (h : Hierarchy) (pinned : Bool) (caches : Caches) where
   l1d_stays (Look page reads found) s kept apart =
       ap (λ (sets : Sets). set_at h.l1d.ways sets s)
       (looked_l1d h caches.core page reads found (is_some (place_of h.tlb caches.core.tlb page)))
-  l1d_stays (Branch pc taken) s kept apart = refl
+  l1d_stays (Branch pc taken target) s kept apart = refl
+  l1d_stays (Jump pc target) s kept apart = refl
   l1d_stays EmptyTlb s kept apart = refl
   l1d_stays Flush s kept apart = absurd (true≢false kept)
   l1d_stays (Charge cycles) s kept apart = refl
@@ -468,7 +471,7 @@ module _ (h : Hierarchy) (pinned : Bool) (caches : Caches) where
   pub tlb_stays : (touch : Touch) (s : ℕ) → empties_tlb touch ≡ false
       → All (λ page. page % h.tlb.count ≢ s) (pages_in_tlb touch)
       → set_at h.tlb.ways (core_after touch).tlb s ≡ set_at h.tlb.ways caches.core.tlb s
-  unfolding touched on_core fetched accessed branched pass_on
+  unfolding touched on_core fetched accessed guessed branched jumped pass_on
   tlb_stays (Fetch line) s kept apart = refl
   tlb_stays (Load line) s kept apart = refl
   tlb_stays (Store line) s kept apart = refl
@@ -476,38 +479,79 @@ module _ (h : Hierarchy) (pinned : Bool) (caches : Caches) where
   tlb_stays (Look page reads found) s kept apart =
       looked_tlb h caches.core page reads s found (is_some (place_of h.tlb caches.core.tlb page))
       (only h.tlb.count s page apart)
-  tlb_stays (Branch pc taken) s kept apart = refl
+  tlb_stays (Branch pc taken target) s kept apart = refl
+  tlb_stays (Jump pc target) s kept apart = refl
   tlb_stays EmptyTlb s kept apart = absurd (true≢false kept)
   tlb_stays Flush s kept apart = absurd (true≢false kept)
   tlb_stays (Charge cycles) s kept apart = refl
 
-other_counter : (xs : List ℕ) (p q v : ℕ) → p % length xs ≢ q % length xs
-    → let next = set xs (p % length xs) v in
-    slice_index next (q % length next) ≡ slice_index xs (q % length xs)
-other_counter xs p q v apart =
-    ap (λ (n : ℕ). slice_index (set xs (p % length xs) v) (q % n)) (length-set xs (p % length xs) v)
-    ∙ get_or-set_other xs (p % length xs) (q % length xs) v 0 (λ e. apart (sym e))
+-- an element beside one that is set
+beside : {A : Type 0} (xs : List A) (i j : ℕ) (v d : A) → i ≢ j → slice_index_or (set xs i v) j d ≡ slice_index_or xs j d
+beside xs i j v d apart = get_or-set_other xs i j v d (λ e. apart (sym e))
 
 module _ (h : Hierarchy) (pinned : Bool) (caches : Caches) where
-  -- which counter a pc has
-  abbrev place_in : ℕ → ℕ
-  place_in pc = counters.place_of (length caches.core.guesses.counters) pc
+  after_look : (page : ℕ) (reads : List ℕ) (found : Bool)
+      → (core_after h pinned caches (Look page reads found)).guesses ≡ caches.core.guesses
+  unfolding touched on_core pass_on
+  after_look page reads found =
+      looked_guesses h caches.core page reads found (is_some (place_of h.tlb caches.core.tlb page))
 
-  pub guesses_stay : (touch : Touch) (pc : ℕ) → is_flush touch ≡ false
-      → All (λ other. place_in other ≢ place_in pc) (pcs_in touch)
-      → counter_of (core_after h pinned caches touch).guesses pc ≡ counter_of caches.core.guesses pc
-  unfolding touched on_core fetched accessed branched pass_on
-  guesses_stay (Fetch line) pc kept apart = refl
-  guesses_stay (Load line) pc kept apart = refl
-  guesses_stay (Store line) pc kept apart = refl
-  guesses_stay (WalkRead line) pc kept apart = refl
-  guesses_stay (Look page reads found) pc kept apart =
-      ap (λ (g : Guesses). counter_of g pc)
-      (looked_guesses h caches.core page reads found (is_some (place_of h.tlb caches.core.tlb page)))
-  guesses_stay (Branch other taken) pc kept apart =
-      other_counter caches.core.guesses.counters (other / 4) (pc / 4)
-      (next_counter taken (counter_of caches.core.guesses other))
-      (All-head (λ k. place_in k ≢ place_in pc) other [] apart)
-  guesses_stay EmptyTlb pc kept apart = refl
-  guesses_stay Flush pc kept apart = absurd (true≢false kept)
-  guesses_stay (Charge cycles) pc kept apart = refl
+  pub counters_stay : (touch : Touch) (place : ℕ) → is_flush touch ≡ false
+      → All (λ pc. counters.place_of caches.core.guesses pc ≢ place) (branches_in touch)
+      → slice_index (core_after h pinned caches touch).guesses.counters place
+      ≡ slice_index caches.core.guesses.counters place
+  unfolding touched on_core fetched accessed guessed branched jumped pass_on
+  counters_stay (Fetch line) place kept apart = refl
+  counters_stay (Load line) place kept apart = refl
+  counters_stay (Store line) place kept apart = refl
+  counters_stay (WalkRead line) place kept apart = refl
+  counters_stay (Look page reads found) place kept apart =
+      ap (λ (g : Guesses). slice_index g.counters place) (after_look page reads found)
+  counters_stay (Branch pc true target) place kept apart =
+      beside caches.core.guesses.counters (counters.place_of caches.core.guesses pc) place
+      (next_counter true (counter_of caches.core.guesses pc)) 0
+      (All-head (λ k. counters.place_of caches.core.guesses k ≢ place) pc [] apart)
+  counters_stay (Branch pc false target) place kept apart =
+      beside caches.core.guesses.counters (counters.place_of caches.core.guesses pc) place
+      (next_counter false (counter_of caches.core.guesses pc)) 0
+      (All-head (λ k. counters.place_of caches.core.guesses k ≢ place) pc [] apart)
+  counters_stay (Jump pc target) place kept apart = refl
+  counters_stay EmptyTlb place kept apart = refl
+  counters_stay Flush place kept apart = absurd (true≢false kept)
+  counters_stay (Charge cycles) place kept apart = refl
+
+  pub history_stays : (touch : Touch) → is_flush touch ≡ false → branches_in touch ≡ []
+      → (core_after h pinned caches touch).guesses.history ≡ caches.core.guesses.history
+  unfolding touched on_core fetched accessed guessed branched jumped pass_on
+  history_stays (Fetch line) kept none = refl
+  history_stays (Load line) kept none = refl
+  history_stays (Store line) kept none = refl
+  history_stays (WalkRead line) kept none = refl
+  history_stays (Look page reads found) kept none = ap (λ (g : Guesses). g.history) (after_look page reads found)
+  history_stays (Branch pc taken target) kept none = absurd (let some : 1 ≡ 0 = ap length none in omega arith)
+  history_stays (Jump pc target) kept none = refl
+  history_stays EmptyTlb kept none = refl
+  history_stays Flush kept none = absurd (true≢false kept)
+  history_stays (Charge cycles) kept none = refl
+
+  pub targets_stay : (touch : Touch) (place : ℕ) → is_flush touch ≡ false
+      → All (λ pc. target_place caches.core.guesses.targets pc ≢ place) (jumps_in touch)
+      → slice_index_or (core_after h pinned caches touch).guesses.targets place None
+      ≡ slice_index_or caches.core.guesses.targets place None
+  unfolding touched on_core fetched accessed guessed branched jumped pass_on
+  targets_stay (Fetch line) place kept apart = refl
+  targets_stay (Load line) place kept apart = refl
+  targets_stay (Store line) place kept apart = refl
+  targets_stay (WalkRead line) place kept apart = refl
+  targets_stay (Look page reads found) place kept apart =
+      ap (λ (g : Guesses). slice_index_or g.targets place None) (after_look page reads found)
+  targets_stay (Branch pc true target) place kept apart =
+      beside caches.core.guesses.targets (target_place caches.core.guesses.targets pc) place (Some (jump pc target)) None
+      (All-head (λ k. target_place caches.core.guesses.targets k ≢ place) pc [] apart)
+  targets_stay (Branch pc false target) place kept apart = refl
+  targets_stay (Jump pc target) place kept apart =
+      beside caches.core.guesses.targets (target_place caches.core.guesses.targets pc) place (Some (jump pc target)) None
+      (All-head (λ k. target_place caches.core.guesses.targets k ≢ place) pc [] apart)
+  targets_stay EmptyTlb place kept apart = refl
+  targets_stay Flush place kept apart = absurd (true≢false kept)
+  targets_stay (Charge cycles) place kept apart = refl

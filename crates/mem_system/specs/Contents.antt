@@ -1,20 +1,22 @@
 -- What the code keeps, the hierarchy that it is, and the caches that it stands for.
-use Rattle.std.specs.Prelude.{◌≡◌, ℕ, ◌^◌, ◌<◌, ◌≤◌, Bool, List, length, refl}
-use Rattle.std.specs.Coded.{Coded, code_by, coded×, coded_ℕ, coded_bool, coded_list}
+use Rattle.std.specs.Prelude.{◌≡◌, ℕ, ◌^◌, ◌<◌, ◌≤◌, Bool, List, Option, length, refl}
+use Rattle.std.specs.Coded.{Coded, code_by, coded×, coded_ℕ, coded_bool, coded_list, coded_option}
 use Rattle.set_cache.specs.Rule.{Rule}
 use Rattle.set_cache.specs.Cache.{CacheStep}
 use Rattle.set_cache.specs.Contents.{Contents, StandsFor, coded_contents, shape_of}
 use Rattle.tlb_model.specs.Buffer.{Buffer, coded_buffer}
-use Rattle.branch_pred.specs.Guesses.{Guesses}
+use Rattle.branch_pred.specs.Guesses.{Guesses, sizes_of}
+use Rattle.branch_pred.specs.declared.Jump.{Jump}
 use Rattle.l2_colour.specs.Colours.{IsColoured, colours_of}
 use Rattle.l2_colour.specs.Contents.{L2Contents, coded_l2}
-use Rattle.cycle_cost.specs.Costs.{CostTable}
+use Rattle.cycle_cost.specs.Costs.{CostTable, ProductCosts}
 use Rattle.mem_system.specs.Hierarchy.{Hierarchy}
 use Rattle.mem_system.specs.Cost.{Touch, Core, Caches, Touched, Below, touched, touched_all}
 
 -- what one core has
 pub record CoreContents (P : Type 0) : Type 0 where
   pub costs : CostTable
+  pub products : Option ProductCosts
   pub pinned : Bool
   pub l1i : Contents P
   pub l1d : Contents P
@@ -56,15 +58,37 @@ coded_costs =
     })
     (λ _. refl)
 
+abbrev pub coded_products : Coded ProductCosts
+coded_products =
+    code_by (ℕ × ℕ) (coded× coded_ℕ coded_ℕ) (λ c. (c.mul, c.div)) (λ t. record { mul = t.0; div = t.1 }) (λ _. refl)
+
+abbrev pub coded_jump : Coded Jump
+coded_jump =
+    code_by (ℕ × ℕ) (coded× coded_ℕ coded_ℕ) (λ j. (j.pc, j.target)) (λ t. record { pc = t.0; target = t.1 }) (λ _. refl)
+
 abbrev pub coded_guesses : Coded Guesses
-coded_guesses = code_by (List ℕ) (coded_list coded_ℕ) (λ g. g.counters) (λ l. record { counters = l }) (λ _. refl)
+coded_guesses =
+    code_by (List ℕ × (ℕ × (ℕ × List (Option Jump))))
+    (coded× (coded_list coded_ℕ) (coded× coded_ℕ (coded× coded_ℕ (coded_list (coded_option coded_jump)))))
+    (λ g. (g.counters, (g.outcomes, (g.history, g.targets))))
+    (λ t. record { counters = t.0; outcomes = t.1.0; history = t.1.1.0; targets = t.1.1.1 })
+    (λ _. refl)
 
 abbrev pub coded_core : {P : Type 0} → Coded P → Coded (CoreContents P)
 coded_core {P} p =
-    code_by (CostTable × (Bool × (Contents P × (Contents P × (Buffer P × Guesses)))))
-    (coded× coded_costs (coded× coded_bool (coded× (coded_contents p) (coded× (coded_contents p) (coded× (coded_buffer p) coded_guesses)))))
-    (λ c. (c.costs, (c.pinned, (c.l1i, (c.l1d, (c.tlb, c.guesses))))))
-    (λ t. record { costs = t.0; pinned = t.1.0; l1i = t.1.1.0; l1d = t.1.1.1.0; tlb = t.1.1.1.1.0; guesses = t.1.1.1.1.1 })
+    code_by (CostTable × (Option ProductCosts × (Bool × (Contents P × (Contents P × (Buffer P × Guesses))))))
+    (coded× coded_costs (coded× (coded_option coded_products) (coded× coded_bool
+    (coded× (coded_contents p) (coded× (coded_contents p) (coded× (coded_buffer p) coded_guesses))))))
+    (λ c. (c.costs, (c.products, (c.pinned, (c.l1i, (c.l1d, (c.tlb, c.guesses)))))))
+    (λ t. record {
+      costs = t.0;
+      products = t.1.0;
+      pinned = t.1.1.0;
+      l1i = t.1.1.1.0;
+      l1d = t.1.1.1.1.0;
+      tlb = t.1.1.1.1.1.0;
+      guesses = t.1.1.1.1.1.1;
+    })
     (λ _. refl)
 
 abbrev pub coded_system : {P : Type 0} → Coded P → Coded (SystemContents P)
@@ -75,8 +99,9 @@ coded_system {P} p =
 abbrev pub hierarchy_of : {P : Type 0} → (P → ℕ → Rule) → SystemContents P → Hierarchy
 hierarchy_of rule s = record {
   costs = s.core.costs;
+  products = s.core.products;
   line_size = s.l2.line_size;
-  counters = length s.core.guesses.counters;
+  predictor = sizes_of s.core.guesses;
   l1i = shape_of rule s.core.l1i;
   l1d = shape_of rule s.core.l1d;
   l2 = shape_of rule s.l2.cache;

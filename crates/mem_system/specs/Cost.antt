@@ -1,10 +1,11 @@
 -- What touches cost, in cycles, and the caches after them. On-core state sees a touch first; the lines that it passes on
 -- go to the second level.
-use Rattle.std.specs.Prelude.{ℕ, ◌+◌, ◌*◌, ◌==◌, ◌&&◌, Bool, true, false, not, if◌then◌else◌, List, [], ◌∷◌, is_some}
+use Rattle.std.specs.Prelude.{ℕ, ◌+◌, ◌*◌, ◌==◌, ◌&&◌, Bool, true, false, if◌then◌else◌, List, [], ◌∷◌, is_some}
 use Rattle.tp_base.specs.Table.{empty}
 use Rattle.set_cache.specs.Cache.{Sets, CacheStep, touch_of, place_of, dirty_of}
 use Rattle.tlb_model.specs.Buffer.{found_of, filled_of}
-use Rattle.branch_pred.specs.Guesses.{Guesses, fresh_guesses, guess_of, learned}
+use Rattle.branch_pred.specs.Guesses as guesses
+use Rattle.branch_pred.specs.Guesses.{Guesses, fresh_guesses, is_wrong_branch, is_wrong_jump}
 use Rattle.mem_system.specs.Hierarchy.{Hierarchy, colour_of_line}
 
 pub data Touch : Type 0 where
@@ -14,7 +15,8 @@ pub data Touch : Type 0 where
   WalkRead : ℕ → Touch  -- a walk reads an entry in this physical line
   -- a page's translation is looked up: its number, the lines of the entries that its walk reads, and whether it is found
   Look : ℕ → List ℕ → Bool → Touch
-  Branch : ℕ → Bool → Touch  -- a branch at this pc, and whether it is taken
+  Branch : ℕ → Bool → ℕ → Touch  -- a branch at this pc, whether it is taken, and its target
+  Jump : ℕ → ℕ → Touch  -- a jump at this pc, and its target
   EmptyTlb : Touch
   Flush : Touch  -- everything on the core is made fresh
   Charge : ℕ → Touch  -- so many cycles, and nothing else
@@ -31,7 +33,7 @@ pub record Caches : Type 0 where
   pub l2 : Sets
 
 unfoldable pub fresh_core : Hierarchy → Core
-fresh_core h = record { l1i = empty; l1d = empty; tlb = empty; guesses = fresh_guesses h.counters }
+fresh_core h = record { l1i = empty; l1d = empty; tlb = empty; guesses = fresh_guesses h.predictor }
 
 -- caches that hold nothing
 unfoldable pub cold : Hierarchy → Caches
@@ -78,15 +80,21 @@ looked h core page reads true false = record {
 }
 looked h core page reads false false = record { cost = h.costs.tlb; core = core; lines = reads }
 
-abbrev pub is_wrong : Bool → Bool → Bool
-is_wrong guess taken = if guess then not taken else taken
-
-unfoldable pub branched : Hierarchy → Core → ℕ → Bool → PassedOn
-branched h core pc taken = record {
-  cost = if is_wrong (guess_of core.guesses pc) taken then h.costs.mispredict else 0;
-  core = record core { guesses = learned core.guesses pc taken };
+-- a wrong guess, of what is done or of where it goes, costs once
+unfoldable pub guessed : Hierarchy → Core → Bool → Guesses → PassedOn
+guessed h core wrong next = record {
+  cost = if wrong then h.costs.mispredict else 0;
+  core = record core { guesses = next };
   lines = [];
 }
+
+unfoldable pub branched : Hierarchy → Core → ℕ → Bool → ℕ → PassedOn
+branched h core pc taken target =
+    guessed h core (is_wrong_branch core.guesses pc taken target) (guesses.branched core.guesses pc taken target)
+
+unfoldable pub jumped : Hierarchy → Core → ℕ → ℕ → PassedOn
+jumped h core pc target =
+    guessed h core (is_wrong_jump core.guesses pc target) (guesses.jumped core.guesses pc target)
 
 -- the dirty lines are written back
 unfoldable pub flushed : Hierarchy → Core → PassedOn
@@ -102,7 +110,8 @@ on_core h core (Load line) = accessed h core line (touch_of h.l1d core.l1d line 
 on_core h core (Store line) = accessed h core line (touch_of h.l1d core.l1d line true)
 on_core h core (WalkRead line) = record { cost = 0; core = core; lines = line ∷ [] }
 on_core h core (Look page reads found) = looked h core page reads found (is_some (place_of h.tlb core.tlb page))
-on_core h core (Branch pc taken) = branched h core pc taken
+on_core h core (Branch pc taken target) = branched h core pc taken target
+on_core h core (Jump pc target) = jumped h core pc target
 on_core h core EmptyTlb = record { cost = 0; core = record core { tlb = empty }; lines = [] }
 on_core h core Flush = flushed h core
 on_core h core (Charge cycles) = record { cost = cycles; core = core; lines = [] }

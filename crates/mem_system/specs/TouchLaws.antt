@@ -2,7 +2,7 @@
 use Rattle.std.specs.Prelude.{◌≡◌, ℕ, ◌+◌, ◌*◌, ◌≤◌, Bool, true, false, List, [], ◌∷◌, length, is_some, ◌⊎◌}
 use Rattle.set_cache.specs.Cache.{Shape, Sets, place_of, dirty_of}
 use Rattle.mem_system.specs.Hierarchy.{Hierarchy}
-use Rattle.mem_system.specs.Cost.{Touch, Fetch, Load, Store, WalkRead, Look, Branch, EmptyTlb, Flush, Charge, Core}
+use Rattle.mem_system.specs.Cost.{Touch, Fetch, Load, Store, WalkRead, Look, Branch, Jump, EmptyTlb, Flush, Charge, Core}
 
 -- ---- where it may come
 
@@ -28,9 +28,15 @@ pages_in_tlb (Look page reads found) = page ∷ []
 pages_in_tlb _ = []
 
 -- the pcs of branches
-abbrev pub pcs_in : Touch → List ℕ
-pcs_in (Branch pc taken) = pc ∷ []
-pcs_in _ = []
+abbrev pub branches_in : Touch → List ℕ
+branches_in (Branch pc taken target) = pc ∷ []
+branches_in _ = []
+
+-- the pcs of jumps, and of branches that are taken
+abbrev pub jumps_in : Touch → List ℕ
+jumps_in (Branch pc true target) = pc ∷ []
+jumps_in (Jump pc target) = pc ∷ []
+jumps_in _ = []
 
 abbrev pub is_flush : Touch → Bool
 is_flush Flush = true
@@ -67,7 +73,8 @@ IsCost h core (Load line) cost = IsCostOfData h cost
 IsCost h core (Store line) cost = IsCostOfData h cost
 IsCost h core (WalkRead line) cost = IsCostBelow h 0 cost
 IsCost h core (Look page reads found) cost = (cost ≡ h.costs.tlb) ⊎ IsCostOfWalk h (length reads) cost
-IsCost h core (Branch pc taken) cost = (cost ≡ 0) ⊎ (cost ≡ h.costs.mispredict)
+IsCost h core (Branch pc taken target) cost = (cost ≡ 0) ⊎ (cost ≡ h.costs.mispredict)
+IsCost h core (Jump pc target) cost = (cost ≡ 0) ⊎ (cost ≡ h.costs.mispredict)
 IsCost h core EmptyTlb cost = cost ≡ 0
 IsCost h core Flush cost = cost ≡ h.costs.flush + h.costs.wb * dirty_of h.l1d core.l1d
 IsCost h core (Charge cycles) cost = cost ≡ cycles

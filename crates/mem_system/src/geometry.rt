@@ -1,4 +1,5 @@
 // The sizes and policies of all that is cached.
+use branch_pred::Sizes;
 use set_cache::Policy;
 
 /// The sizes of a cache, and its policy.
@@ -17,8 +18,8 @@ pub struct CacheGeometry<P: Policy> {
 pub struct Geometry<P: Policy> {
     /// The bytes of a line: a power of two from 16 on.
     pub line_size: u32,
-    /// The number of the predictor's counters, a power of two.
-    pub counters: u32,
+    /// The predictor's sizes.
+    pub predictor: Sizes,
     /// The first level of instructions.
     pub l1i: CacheGeometry<P>,
     /// The first level of data.

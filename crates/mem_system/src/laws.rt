@@ -1,8 +1,8 @@
 //! Laws of the definitions: what touches cost and change, in words.
-ghost use Rattle.std.specs.Prelude.{◌≡◌, ◌≢◌, ℕ, ◌≤◌, ◌%◌, Bool, true, false, List, length, All};
+ghost use Rattle.std.specs.Prelude.{◌≡◌, ◌≢◌, ℕ, ◌≤◌, ◌%◌, Bool, true, false, List, [], All, None, slice_index, slice_index_or};
 ghost use Rattle.set_cache.specs.Cache.{set_at};
 ghost use Rattle.l2_colour.specs.Colours.{IsColoured};
-ghost use Rattle.branch_pred.specs.Guesses.{place_of, counter_of};
+ghost use Rattle.branch_pred.specs.Guesses.{place_of, target_place};
 ghost use Rattle.mem_system.specs.Hierarchy.{Hierarchy, colour_of_line};
 ghost use Rattle.mem_system.specs.Cost.{
   Touch,
@@ -19,7 +19,8 @@ ghost use Rattle.mem_system.specs.TouchLaws.{
   lines_in_l1d,
   lines_in_l2,
   pages_in_tlb,
-  pcs_in,
+  branches_in,
+  jumps_in,
   is_flush,
   empties_tlb,
   holds,
@@ -70,9 +71,10 @@ pub fn hits_cost_least()
 {}
 
 /// What isn't touched stays on the core but for a flush: each set of the first
-/// level and of the buffer in which no line or page of the touch stands, and
-/// each counter that no branch of the touch uses. Emptying the buffer changes
-/// the buffer alone.
+/// level and of the buffer in which no line or page of the touch stands, each
+/// counter that no branch of the touch uses, the history where it has none, and
+/// each place of the target buffer where nothing of it jumps. Emptying the
+/// translation buffer changes that alone.
 pub fn the_untouched_stays()
     ensures l1i { (h : Hierarchy) (pinned : Bool) (caches : Caches) (touch : Touch) (s : ℕ)
         → is_flush touch ≡ false → All (λ line. line % h.l1i.count ≢ s) (lines_in_l1i touch)
@@ -86,10 +88,17 @@ pub fn the_untouched_stays()
         → empties_tlb touch ≡ false → All (λ page. page % h.tlb.count ≢ s) (pages_in_tlb touch)
         → set_at h.tlb.ways (touched h pinned caches touch).caches.core.tlb s
         ≡ set_at h.tlb.ways caches.core.tlb s }
-    ensures guesses { (h : Hierarchy) (pinned : Bool) (caches : Caches) (touch : Touch) (pc : ℕ)
+    ensures counters { (h : Hierarchy) (pinned : Bool) (caches : Caches) (touch : Touch) (place : ℕ)
         → is_flush touch ≡ false
-        → All (λ other. place_of (length caches.core.guesses.counters) other
-        ≢ place_of (length caches.core.guesses.counters) pc) (pcs_in touch)
-        → counter_of (touched h pinned caches touch).caches.core.guesses pc
-        ≡ counter_of caches.core.guesses pc }
+        → All (λ pc. place_of caches.core.guesses pc ≢ place) (branches_in touch)
+        → slice_index (touched h pinned caches touch).caches.core.guesses.counters place
+        ≡ slice_index caches.core.guesses.counters place }
+    ensures history { (h : Hierarchy) (pinned : Bool) (caches : Caches) (touch : Touch)
+        → is_flush touch ≡ false → branches_in touch ≡ []
+        → (touched h pinned caches touch).caches.core.guesses.history ≡ caches.core.guesses.history }
+    ensures targets { (h : Hierarchy) (pinned : Bool) (caches : Caches) (touch : Touch) (place : ℕ)
+        → is_flush touch ≡ false
+        → All (λ pc. target_place caches.core.guesses.targets pc ≢ place) (jumps_in touch)
+        → slice_index_or (touched h pinned caches touch).caches.core.guesses.targets place None
+        ≡ slice_index_or caches.core.guesses.targets place None }
 {}

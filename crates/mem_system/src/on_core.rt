@@ -6,8 +6,8 @@ ghost use Rattle.sv32_walk.specs.KeptLeaf.{end_at};
 ghost use Rattle.mem_system.specs.Translation.{address_in, translated};
 
 use crate::{CacheGeometry, SecondLevel};
-use branch_pred::Predictor;
-use cycle_cost::Costs;
+use branch_pred::{Predictor, Sizes};
+use cycle_cost::{Costs, ProductCosts};
 use l1_cache::{L1D, L1I};
 use phys_mem::PhysMem;
 use set_cache::Policy;
@@ -31,6 +31,7 @@ pub struct Translated {
 #[derive(Drop)]
 pub struct OnCore<P: Policy> {
     costs: Costs,
+    products: Option<ProductCosts>,
     pinned: bool,
     l1i: L1I<P>,
     l1d: L1D<P>,
@@ -39,9 +40,9 @@ pub struct OnCore<P: Policy> {
 }
 
 impl<P: Policy> Model for OnCore<P> {
-    ghost use Rattle.std.specs.Prelude.{◌*◌, ◌≤◌, ◌^◌, length};
+    ghost use Rattle.std.specs.Prelude.{◌*◌, ◌≤◌, ◌^◌, length, option_map};
     ghost use Rattle.mem_system.specs.Contents.{CoreContents, coded_core};
-    ghost use Rattle.mem_system.specs.Geometry.{costs_of};
+    ghost use Rattle.mem_system.specs.Geometry.{costs_of, product_costs_of};
 
     ghost Value = { CoreContents P };
 
@@ -49,6 +50,7 @@ impl<P: Policy> Model for OnCore<P> {
 
     ghost view = { λ a. record {
       costs = costs_of a.costs;
+      products = option_map product_costs_of a.products;
       pinned = a.pinned;
       l1i = a.l1i;
       l1d = a.l1d;
@@ -72,13 +74,13 @@ impl<P: Policy> OnCore<P> {
       None,
       false,
       is_some,
+      option_map,
       take,
       slice_index,
       if◌then◌else◌,
     };
-    ghost use Rattle.std.specs.Int.{IsPowerOfTwo};
     ghost use Rattle.tp_base.specs.Table.{empty};
-    ghost use Rattle.branch_pred.specs.Guesses.{fresh_guesses};
+    ghost use Rattle.branch_pred.specs.Guesses.{AreSizes, fresh_guesses};
     ghost use Rattle.cycle_cost.specs.Ranges.{most_read, most_fetch, most_access, most_walk, most_look, most_guess};
     ghost use Rattle.phys_mem.specs.Mem.{Mem};
     ghost use Rattle.phys_mem.specs.Holds.{Holds};
@@ -93,6 +95,7 @@ impl<P: Policy> OnCore<P> {
       Store,
       WalkRead,
       Branch,
+      Jump,
       EmptyTlb,
       Flush,
       below,
@@ -105,7 +108,7 @@ impl<P: Policy> OnCore<P> {
       BelowSteps,
       MakesTouch,
     };
-    ghost use Rattle.mem_system.specs.Geometry.{IsCache, shape_by, costs_of};
+    ghost use Rattle.mem_system.specs.Geometry.{IsCache, shape_by, costs_of, product_costs_of};
     ghost use Rattle.mem_system.specs.Translation.{KeepsLeaves, look_of, lines_of, translated};
 
     /// A core whose caches hold nothing.
@@ -115,35 +118,38 @@ impl<P: Policy> OnCore<P> {
     /// `Memory`, where memory ran out.
     pub fn new(
         alloc: Global,
-        counters: u32,
+        predictor: Sizes,
         l1i: CacheGeometry<P>,
         l1d: CacheGeometry<P>,
         tlb: CacheGeometry<P>,
         costs: Costs,
+        products: Option<ProductCosts>,
         pinned: bool,
     ) -> Result<Self, Memory>
-        requires counters { IsPowerOfTwo counters }
+        requires predictor { AreSizes predictor }
         requires l1i { IsCache P.takes l1i }
         requires l1d { IsCache P.takes l1d }
         requires tlb { IsCache P.takes tlb }
         requires dirty { l1d.sets * l1d.ways ≤ 2 ^ 14 }
         ensures costs { IfOk result (λ core. core.costs ≡ costs_of costs) }
+        ensures products { IfOk result (λ core. core.products ≡ option_map product_costs_of products) }
         ensures pinned { IfOk result (λ core. core.pinned ≡ pinned) }
         ensures l1i { IfOk result (λ core. shape_of P.rule core.l1i ≡ shape_by P.rule l1i) }
         ensures l1d { IfOk result (λ core. shape_of P.rule core.l1d ≡ shape_by P.rule l1d) }
         ensures tlb { IfOk result (λ core. shape_of P.rule core.tlb.pages ≡ shape_by P.rule tlb) }
         ensures fresh { IfOk result (λ core. CoreStands P.stands_for core
-            (record { l1i = empty; l1d = empty; tlb = empty; guesses = fresh_guesses counters })) }
+            (record { l1i = empty; l1d = empty; tlb = empty; guesses = fresh_guesses predictor })) }
         ensures kept { IfOk result (λ core. (mem : Mem) (frames root : ℕ)
             → KeepsLeaves mem frames root core.tlb) }
     {
         Ok(OnCore {
             costs,
+            products,
             pinned,
             l1i: L1I::new(alloc, l1i.policy, l1i.sets, l1i.ways)?,
             l1d: L1D::new(alloc, l1d.policy, l1d.sets, l1d.ways)?,
             tlb: Tlb::new(alloc, tlb.policy, tlb.sets, tlb.ways)?,
-            predictor: Predictor::new(alloc, counters)?,
+            predictor: Predictor::new(alloc, predictor)?,
         })
     }
 
@@ -152,6 +158,13 @@ impl<P: Policy> OnCore<P> {
         ensures table { costs_of result ≡ self.now.costs }
     {
         self.costs
+    }
+
+    /// What products and divisions cost, in cycles; `None` where the core makes none.
+    pub fn products(&self) -> Option<ProductCosts>
+        ensures table { option_map product_costs_of result ≡ self.now.products }
+    {
+        self.products
     }
 
     /// The cost of a line at the second level.
@@ -223,22 +236,38 @@ impl<P: Policy> OnCore<P> {
         self.below(l2, line)
     }
 
-    /// The cost of a branch at a pc, which is taken or not.
-    #[tactic(auto, unfolding(crate::specs::Cost::touched, crate::specs::Cost::on_core, crate::specs::Cost::branched, crate::specs::Cost::pass_on, crate::specs::Cost::below_all))]
+    /// The cost of a branch at a pc, which is taken or not, with the address to
+    /// which it goes if it is.
+    #[tactic(auto, unfolding(crate::specs::Cost::touched, crate::specs::Cost::on_core, crate::specs::Cost::branched, crate::specs::Cost::guessed, crate::specs::Cost::pass_on, crate::specs::Cost::below_all))]
     #[inline(always)]
-    pub fn branch(&mut self, pc: u32, taken: bool) -> u32
+    pub fn branch(&mut self, pc: u32, taken: bool, target: u32) -> u32
         ensures few { result ≤ most_guess }
         ensures makes { (l2 : L2Contents P)
-            → MakesTouch P.rule P.stands_for (Branch pc taken) result
+            → MakesTouch P.rule P.stands_for (Branch pc taken target) result
             (system self.old l2) (system self.new l2) }
         ensures buffer { self.new.tlb ≡ self.old.tlb }
     {
-        let guess = self.predictor.guess(pc);
-        self.predictor.learn(pc, taken);
-        if guess == taken {
-            0
-        } else {
+        if self.predictor.branch(pc, taken, target) {
             self.costs.mispredict
+        } else {
+            0
+        }
+    }
+
+    /// The cost of a jump at a pc, to a target.
+    #[tactic(auto, unfolding(crate::specs::Cost::touched, crate::specs::Cost::on_core, crate::specs::Cost::jumped, crate::specs::Cost::guessed, crate::specs::Cost::pass_on, crate::specs::Cost::below_all))]
+    #[inline(always)]
+    pub fn jump(&mut self, pc: u32, target: u32) -> u32
+        ensures few { result ≤ most_guess }
+        ensures makes { (l2 : L2Contents P)
+            → MakesTouch P.rule P.stands_for (Jump pc target) result
+            (system self.old l2) (system self.new l2) }
+        ensures buffer { self.new.tlb ≡ self.old.tlb }
+    {
+        if self.predictor.jump(pc, target) {
+            self.costs.mispredict
+        } else {
+            0
         }
     }
 

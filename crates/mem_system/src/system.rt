@@ -1,6 +1,6 @@
 // A core over a second level of its own.
 use crate::{Geometry, OnCore, SecondLevel, Translated};
-use cycle_cost::Costs;
+use cycle_cost::{Costs, ProductCosts};
 use phys_mem::PhysMem;
 use set_cache::Policy;
 use std::alloc::Global;
@@ -27,17 +27,18 @@ impl<P: Policy> Model for MemSystem<P> {
 }
 
 impl<P: Policy> MemSystem<P> {
-    ghost use Rattle.std.specs.Prelude.{◌≡◌, ◌≤◌, ◌<◌, ◌^◌, ◌/◌, ℕ, IfOk, if◌then◌else◌};
+    ghost use Rattle.std.specs.Prelude.{◌≡◌, ◌≤◌, ◌<◌, ◌^◌, ◌/◌, ℕ, IfOk, if◌then◌else◌, option_map};
     ghost use Rattle.phys_mem.specs.Mem.{Mem};
     ghost use Rattle.phys_mem.specs.Holds.{Holds};
     ghost use Rattle.sv32_walk.specs.Walk.{walk};
-    ghost use Rattle.mem_system.specs.Cost.{cold, Fetch, Load, Store, WalkRead, Branch, EmptyTlb, Flush};
+    ghost use Rattle.mem_system.specs.Cost.{cold, Fetch, Load, Store, WalkRead, Branch, Jump, EmptyTlb, Flush};
     ghost use Rattle.mem_system.specs.Contents.{MakesTouch, SystemStands, hierarchy_of};
     ghost use Rattle.cycle_cost.specs.Ranges.{most_read, most_fetch, most_access, most_look, most_guess};
-    ghost use Rattle.mem_system.specs.Geometry.{IsGeometry, hierarchy_by, costs_of};
+    ghost use Rattle.mem_system.specs.Geometry.{IsGeometry, hierarchy_by, costs_of, product_costs_of};
     ghost use Rattle.mem_system.specs.Translation.{KeepsLeaves, look_of, translated};
 
-    /// A hierarchy that holds nothing. `pinned`: at the second level the lines
+    /// A hierarchy that holds nothing. `products`: what products and divisions
+    /// cost, where the core makes them. `pinned`: at the second level the lines
     /// of colour 0 count as always there, and change nothing.
     ///
     /// # Errors
@@ -48,27 +49,28 @@ impl<P: Policy> MemSystem<P> {
         alloc: Global,
         geometry: Geometry<P>,
         costs: Costs,
+        products: Option<ProductCosts>,
         pinned: bool,
     ) -> Result<Self, Memory>
         requires geometry { IsGeometry P.takes geometry }
         ensures hierarchy { IfOk result (λ system.
-            hierarchy_of P.rule system ≡ hierarchy_by P.rule geometry costs) }
+            hierarchy_of P.rule system ≡ hierarchy_by P.rule geometry costs products) }
         ensures pinned { IfOk result (λ system. system.core.pinned ≡ pinned) }
         ensures cold { IfOk result (λ system.
-            SystemStands P.stands_for system (cold (hierarchy_by P.rule geometry costs))) }
+            SystemStands P.stands_for system (cold (hierarchy_by P.rule geometry costs products))) }
         ensures kept { IfOk result (λ system.
             (mem : Mem) (frames root : ℕ) → KeepsLeaves mem frames root system.core.tlb) }
     {
         let Geometry {
             line_size,
-            counters,
+            predictor,
             l1i,
             l1d,
             l2,
             tlb,
         } = geometry;
         Ok(MemSystem {
-            core: OnCore::new(alloc, counters, l1i, l1d, tlb, costs, pinned)?,
+            core: OnCore::new(alloc, predictor, l1i, l1d, tlb, costs, products, pinned)?,
             l2: SecondLevel::new(alloc, line_size, l2)?,
         })
     }
@@ -103,14 +105,25 @@ impl<P: Policy> MemSystem<P> {
         self.core.walk_read(&mut self.l2, line)
     }
 
-    /// A branch at a pc, which is taken or not.
+    /// A branch at a pc, which is taken or not, with the address to which it
+    /// goes if it is.
     #[inline(always)]
-    pub fn branch(&mut self, pc: u32, taken: bool) -> u32
+    pub fn branch(&mut self, pc: u32, taken: bool, target: u32) -> u32
         ensures few { result ≤ most_guess }
-        ensures makes { MakesTouch P.rule P.stands_for (Branch pc taken) result self.old self.new }
+        ensures makes { MakesTouch P.rule P.stands_for (Branch pc taken target) result self.old self.new }
         ensures buffer { self.new.core.tlb ≡ self.old.core.tlb }
     {
-        self.core.branch(pc, taken)
+        self.core.branch(pc, taken, target)
+    }
+
+    /// A jump at a pc, to a target.
+    #[inline(always)]
+    pub fn jump(&mut self, pc: u32, target: u32) -> u32
+        ensures few { result ≤ most_guess }
+        ensures makes { MakesTouch P.rule P.stands_for (Jump pc target) result self.old self.new }
+        ensures buffer { self.new.core.tlb ≡ self.old.core.tlb }
+    {
+        self.core.jump(pc, target)
     }
 
     /// The physical address of a virtual one for an access from user mode, by
@@ -170,5 +183,12 @@ impl<P: Policy> MemSystem<P> {
         ensures table { costs_of result ≡ self.now.core.costs }
     {
         self.core.costs()
+    }
+
+    /// What products and divisions cost, in cycles; `None` where the core makes none.
+    pub fn products(&self) -> Option<ProductCosts>
+        ensures table { option_map product_costs_of result ≡ self.now.core.products }
+    {
+        self.core.products()
     }
 }

@@ -1,6 +1,7 @@
 // The hierarchies of the tests.
 ghost use Rattle.std.specs.Prelude.{◌≡◌, IfOk};
 
+use branch_pred::Sizes;
 use cycle_cost::Costs;
 use mem_system::{CacheGeometry, Geometry, MemSystem};
 use repl_policy::AnyPolicy;
@@ -33,24 +34,32 @@ pub fn small(alloc: Global, policy: AnyPolicy, pinned: bool) -> Result<MemSystem
 {
     let geometry = Geometry {
         line_size: 64,
-        counters: 16,
+        predictor: Sizes {
+            counters: 16,
+            history: 0,
+            targets: 0,
+        },
         l1i: cache(policy, 16, 2),
         l1d: cache(policy, 16, 2),
         l2: cache(policy, 256, 4),
         tlb: cache(policy, 4, 2),
     };
-    MemSystem::new(alloc, geometry, COSTS, pinned)
+    MemSystem::new(alloc, geometry, COSTS, None, pinned)
 }
 
 // The largest of each number.
 pub fn largest(alloc: Global) -> Result<MemSystem<AnyPolicy>, Memory> {
     let geometry = Geometry {
         line_size: 16,
-        counters: 4096,
+        predictor: Sizes {
+            counters: 4096,
+            history: 0,
+            targets: 0,
+        },
         l1i: cache(AnyPolicy::Lru, 1024, 16),
         l1d: cache(AnyPolicy::Lru, 1024, 16),
         l2: cache(AnyPolicy::Lru, 16_384, 16),
         tlb: cache(AnyPolicy::Lru, 256, 16),
     };
-    MemSystem::new(alloc, geometry, COSTS, false)
+    MemSystem::new(alloc, geometry, COSTS, None, false)
 }

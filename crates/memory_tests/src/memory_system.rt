@@ -32,7 +32,7 @@ fn cost_of(system: &mut MemSystem<AnyPolicy>, touch: Touch) -> u32 {
         Touch::Load(line) => system.access(line_at(line), false),
         Touch::Store(line) => system.access(line_at(line), true),
         Touch::WalkRead(line) => system.walk_read(line_at(line)),
-        Touch::Branch(pc, taken) => system.branch(pc, taken),
+        Touch::Branch(pc, taken) => system.branch(pc, taken, pc),
         Touch::Flush => system.flush(),
     }
 }
@@ -204,7 +204,7 @@ fn agree_at(
         0..=2 => system.fetch(Line::new(line)) == plain.fetch(line)?,
         3..=6 => system.access(Line::new(line), odd) == plain.access(line, odd)?,
         7 => system.walk_read(Line::new(line)) == u32::from(plain.below(line)?),
-        8 | 9 => system.branch(pc, odd) == plain.branch(pc, odd),
+        8 | 9 => system.branch(pc, odd, line) == plain.branch(pc, odd),
         _ => {
             let va = ((word >> 9) & 0x00c1_3fff) | 0x8;
             let access = access_of(word >> 6);

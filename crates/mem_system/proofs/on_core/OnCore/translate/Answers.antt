@@ -1,6 +1,6 @@
 -- At a hit the kept leaf answers as the walk does; at a miss the walk itself.
-use Rattle.std.proofs.Common.{sym}
-use Rattle.mem_system.proofs.Leaves.{answered, translated_within}
+use Rattle.std.proofs.Common.{sym, ◌/◌}
+use Rattle.mem_system.proofs.Leaves.{answered, translated_within, missed_still}
 use Rattle.mem_system.proofs.on_core.OnCore.translate.Goals as goal
 
 pub returns-in-Some-clause-result : goal.returns-in-Some-clause-result
@@ -19,3 +19,8 @@ returns-in-None-clause-within g c = λ m holds keeps.
 pub returns-in-None-clause-makes : goal.returns-in-None-clause-makes
 returns-in-None-clause-makes g c = λ m holds keeps.
     rw (← c.self.view_is, ← c.in-None.ensures.missed) (c.walk_and_fill.ensures.makes m holds)
+
+pub walk_and_fill-requires-clause-absent : goal.walk_and_fill-requires-clause-absent
+walk_and_fill-requires-clause-absent g c =
+    missed_still g.P.Policy.rule g.P.Policy.stands_for c.self.inside.tlb c.find.new.self (c.args.va / 4096) c.in-None.ensures.missed
+    c.in-None.ensures.found
