@@ -1,5 +1,5 @@
 -- The costs of the machine's events, their range, and the range of what they sum to.
-use Rattle.std.specs.Prelude.{ℕ, ◌+◌, ◌^◌, ◌<◌, ◌≤◌, List, length, All, sum}
+use Rattle.std.specs.Prelude.{ℕ, ◌+◌, ◌*◌, ◌^◌, ◌<◌, ◌≤◌, max, List, length, All, sum, Option, Some, None}
 use Rattle.tp_base.specs.Ranges.{IsCycles}
 
 -- a cost is 1 to 1,000 cycles
@@ -29,6 +29,23 @@ pub record AreCosts (c : CostTable) : Type 0 where
   pub mispredict : IsCost c.mispredict
   pub trap : IsCost c.trap
   pub flush : IsCost c.flush
+
+-- what products and divisions cost beside their instruction, in cycles
+pub record ProductCosts : Type 0 where
+  pub mul : ℕ  -- a product
+  pub div : ℕ  -- a step of a division: there is one, and one for each binary digit of the dividend
+
+abbrev pub division_cost : ProductCosts → ℕ → ℕ
+division_cost c digits = c.div * (1 + digits)
+
+-- the most that an instruction costs more by them: a dividend has at most 32 digits
+abbrev pub most_cost : ProductCosts → ℕ
+most_cost c = max c.mul (division_cost c 32)
+
+-- of a machine that may have none
+abbrev pub most_added : Option ProductCosts → ℕ
+most_added None = 0
+most_added (Some c) = most_cost c
 
 -- from a clock below 2 ^ 62, up to 2 ^ 30 charges of any 32-bit number end within 63 bits
 abbrev pub ChargesFit : ℕ → Type 0

@@ -56,13 +56,17 @@ most_guess = 1000
 abbrev pub most_product : ℕ
 most_product = 33000
 
--- what comes of an instruction: a store, a guess and a product
+-- what comes of an instruction: a store and a guess
 abbrev pub most_outcome : ℕ
-most_outcome = 46000
+most_outcome = 13000
 
 -- with what it loads
 abbrev pub most_plain : ℕ
-most_plain = 58000
+most_plain = 25000
+
+-- or with the time of a product or a division
+abbrev pub most_timed : ℕ
+most_timed = 58000
 
 -- without its base: its page's look-up, its fetch, and the operation that it calls
 abbrev pub most_instruction : ℕ

@@ -1,7 +1,7 @@
 //! What the machine's events cost, and the charge of a cost to a clock.
 #![tactic(auto)]
 
-ghost use Rattle.std.specs.Prelude.{◌≡◌, ◌+◌, ◌^◌, ◌<◌};
+ghost use Rattle.std.specs.Prelude.{◌≡◌, ◌+◌, ◌^◌, ◌<◌, ◌≤◌};
 ghost use Rattle.tp_base.specs.Ranges.{IsCycles};
 ghost use Rattle.cycle_cost.specs.Costs.{IsCost, ChargesFit};
 
@@ -37,6 +37,45 @@ pub struct Costs {
     ghost mispredict_range: { IsCost mispredict },
     ghost trap_range: { IsCost trap },
     ghost flush_range: { IsCost flush },
+}
+
+/// What products and divisions cost beside their instruction, each up to 1,000 cycles.
+#[derive(Clone, Copy, Debug, PartialEq, Eq)]
+pub struct ProductCosts {
+    /// A product.
+    pub mul: u32,
+    /// A step of a division: there is one, and one for each binary digit of the
+    /// dividend's magnitude.
+    pub div: u32,
+    ghost few_mul: { mul ≤ 1000 },
+    ghost few_div: { div ≤ 1000 },
+}
+
+/// The most binary digits that a dividend has.
+const MOST_DIGITS: u32 = 32;
+
+impl ProductCosts {
+    ghost use Rattle.std.specs.Prelude.{◌≡◌, ◌≤◌};
+    ghost use Rattle.cycle_cost.specs.Costs.{division_cost, most_cost};
+    ghost use Rattle.cycle_cost.specs.Models.{product_costs_of};
+    ghost use Rattle.cycle_cost.specs.Ranges.{most_product};
+
+    /// What a division costs whose dividend has so many digits, up to 32.
+    pub fn division(&self, digits: u32) -> u32
+        requires digits { digits ≤ 32 }
+        ensures value { result ≡ division_cost (product_costs_of self.now) digits }
+        ensures few { result ≤ most_product }
+    {
+        self.div * (1 + digits)
+    }
+
+    /// The most that an instruction costs more by them.
+    pub fn most(&self) -> u32
+        ensures value { result ≡ most_cost (product_costs_of self.now) }
+        ensures few { result ≤ most_product }
+    {
+        self.mul.max(self.division(MOST_DIGITS))
+    }
 }
 
 /// Adds a number of cycles to a clock.

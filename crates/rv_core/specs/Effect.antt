@@ -1,10 +1,11 @@
 -- What an instruction does to the registers, and what comes next.
 use Rattle.std.specs.Prelude.{◌≡◌, ◌⊎◌, ℕ, ◌+◌, ◌*◌, ◌/◌, ◌%◌, ◌^◌, ◌<◌, Bool, true, false, List, Option, Some, None, ◌==◌, if◌then◌else◌}
 use Rattle.rv_decode.specs.declared.Instr.{Instr}
-use Rattle.rv_decode.specs.declared.Instr.TheVariants.{Lui, Auipc, Jal, Jalr, Branch, Load, Store, Immediate, Register, Fence, Ecall, Ebreak, ReadCounter}
+use Rattle.rv_decode.specs.declared.Instr.TheVariants.{Lui, Auipc, Jal, Jalr, Branch, Load, Store, Immediate, Register, Multiply, Divide, Fence, Ecall, Ebreak, ReadCounter}
 use Rattle.rv_decode.specs.declared.StoreWidth.{StoreWidth}
 use Rattle.rv_core.specs.Registers.{register, with_register}
 use Rattle.rv_core.specs.Alu.{value_of, holds}
+use Rattle.rv_core.specs.Products.{product_of, division_of}
 use Rattle.rv_core.specs.Memory.{load_size, store_size, loaded_word, stored_word, sum_of, alignment_trap}
 use Rattle.rv_core.specs.declared.Effect.{Effect}
 use Rattle.rv_core.specs.declared.Store.{Store as StoreMade}
@@ -54,7 +55,8 @@ abbrev pub branch : List ℕ → ℕ → ℕ → Bool → Outcome
 branch regs pc target true = arrival regs regs pc target true
 branch regs pc target false = continuation regs pc
 
--- the table, one line an instruction; value_of and holds have a line for each operation and each branch
+-- the table, one line an instruction; value_of, product_of, division_of and holds have a line for each
+-- operation and each branch
 abbrev pub effect_of : List ℕ → ℕ → Instr → ℕ → Outcome
 effect_of regs pc (Lui rd imm) loaded = register_write regs pc rd imm
 effect_of regs pc (Auipc rd imm) loaded = register_write regs pc rd ((pc + imm) % 2 ^ 32)
@@ -65,6 +67,8 @@ effect_of regs pc (Load width rd rs1 offset) loaded = access regs pc (alignment_
 effect_of regs pc (Store width rs1 rs2 offset) loaded = access regs pc (alignment_trap (store_size width) StoreMisaligned (sum_of regs rs1 offset)) (memory_write regs pc width (sum_of regs rs1 offset) (register regs rs2))
 effect_of regs pc (Immediate operation rd rs1 imm) loaded = register_write regs pc rd (value_of operation (register regs rs1) imm)
 effect_of regs pc (Register operation rd rs1 rs2) loaded = register_write regs pc rd (value_of operation (register regs rs1) (register regs rs2))
+effect_of regs pc (Multiply product rd rs1 rs2) loaded = register_write regs pc rd (product_of product (register regs rs1) (register regs rs2))
+effect_of regs pc (Divide division rd rs1 rs2) loaded = register_write regs pc rd (division_of division (register regs rs1) (register regs rs2))
 effect_of regs pc Fence loaded = continuation regs pc
 effect_of regs pc Ecall loaded = exception regs pc (record { exception = UserCall; value = 0 })
 effect_of regs pc Ebreak loaded = exception regs pc (record { exception = Breakpoint; value = pc })

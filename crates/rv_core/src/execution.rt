@@ -5,6 +5,7 @@ ghost use Rattle.rv_core.specs.Effect.{continuation, register_write, memory_writ
 
 use crate::alu::{compute, holds};
 use crate::memory::{address, loaded_word, misalignment, store_size, stored_word};
+use crate::products::{divide, multiply};
 use crate::{Effect, Exception, Regs, Store, Trap};
 use rv_decode::{Instr, StoreWidth};
 
@@ -100,7 +101,8 @@ fn branch(pc: u32, target: u32, taken: bool) -> Effect
 /// a misaligned load or store, EBREAK and ECALL; where there is a trap, nothing
 /// else changes (RISC-V unprivileged specification, "RV32I Base Integer
 /// Instruction Set"). A caller that makes an ECALL's call itself takes the ECALL
-/// before it runs it. FENCE changes nothing.
+/// before it runs it. FENCE changes nothing. No division traps ("M" Extension for
+/// Integer Multiplication and Division).
 #[inline(always)]
 pub fn execute(regs: &mut Regs, pc: u32, instr: Instr, loaded: u32) -> Effect
     requires registers { HasRegisters instr }
@@ -155,6 +157,24 @@ pub fn execute(regs: &mut Regs, pc: u32, instr: Instr, loaded: u32) -> Effect
         } => {
             let word = compute(operation, regs.get(rs1), regs.get(rs2));
             write_register(regs, pc, rd, word)
+        }
+        Instr::Multiply {
+            product,
+            rd,
+            rs1,
+            rs2,
+        } => {
+            multiply(regs, product, rd, rs1, rs2);
+            go_on(pc)
+        }
+        Instr::Divide {
+            division,
+            rd,
+            rs1,
+            rs2,
+        } => {
+            divide(regs, division, rd, rs1, rs2);
+            go_on(pc)
         }
         Instr::Fence => go_on(pc),
         Instr::Ecall => raise(pc, Exception::UserCall.with(0)),

@@ -1,21 +1,25 @@
-//! What the instructions of RV32I do, as the RISC-V unprivileged specification
-//! says: to the registers, to the program counter and to memory. An instruction
-//! reads and writes no memory here. It is handed what a load found, and it
-//! answers the store that is to be made.
+//! What the instructions of RV32I and of its M extension do, as the RISC-V
+//! unprivileged specification says: to the registers, to the program counter and
+//! to memory. An instruction reads and writes no memory here. It is handed what a
+//! load found, and it answers the store that is to be made.
 //!
-//! specs/ has the table, one line an instruction: `Effect` on `Alu` and
-//! `Registers`.
+//! specs/ has the table, one line an instruction: `Effect` on `Alu`, `Products`
+//! and `Registers`. `Laws` says a second time what products and divisions are, in
+//! integers; `laws` proves it.
 #![tactic(auto)]
 
 mod alu;
 mod exception;
 mod execution;
+pub mod laws;
 mod memory;
+mod products;
 mod registers;
 
 pub use exception::Exception;
 pub use execution::execute;
 pub use memory::{address, misalignment};
+pub use products::{divide, division_digits, multiply};
 pub use registers::Regs;
 
 /// A store that is to be made.

@@ -5,6 +5,8 @@ use crate::{Effect, Exception, Regs, Store, Trap, address, execute, misalignment
 use rv_decode::decode;
 use std::process::Abort;
 
+mod products;
+
 // The program counter of each instruction that doesn't name its own.
 const PC: u32 = 0x0001_0000;
 
@@ -528,7 +530,7 @@ fn registers(x5: u32, x6: u32, x7: u32) -> Regs {
 
 // x7 is 0x7777 before.
 fn ran(word: u32, pc: u32, x5: u32, x6: u32, loaded: u32) -> Option<Outcome> {
-    let instr = decode(word)?;
+    let instr = decode(word, true)?;
     let mut regs = registers(x5, x6, 0x7777);
     let at = address(&regs, instr);
     let effect = execute(&mut regs, pc, instr, loaded);

@@ -1,2 +1,3 @@
 pub mod Immediates
 pub mod WordLaws
+pub mod WithoutMuldiv

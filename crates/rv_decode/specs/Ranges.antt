@@ -1,7 +1,7 @@
 -- The ranges of what an instruction names.
 use Rattle.std.specs.Prelude.{◌≡◌, ℕ, ◌+◌, ◌-◌, ◌%◌, ◌^◌, ◌<◌}
 use Rattle.rv_decode.specs.declared.Instr.{Instr}
-use Rattle.rv_decode.specs.declared.Instr.TheVariants.{Lui, Auipc, Jal, Jalr, Branch, Load, Store, Immediate, Register, Fence, Ecall, Ebreak, ReadCounter}
+use Rattle.rv_decode.specs.declared.Instr.TheVariants.{Lui, Auipc, Jal, Jalr, Branch, Load, Store, Immediate, Register, Multiply, Divide, Fence, Ecall, Ebreak, ReadCounter}
 use Rattle.rv_decode.specs.declared.Operation.{Operation}
 use Rattle.rv_decode.specs.declared.Operation.TheVariants.{Subtract, ShiftLeft, ShiftRight, ShiftRightArithmetic}
 
@@ -16,6 +16,8 @@ HasRegisters (Load width rd rs1 offset) = (rd < 32) × (rs1 < 32)
 HasRegisters (Store width rs1 rs2 offset) = (rs1 < 32) × (rs2 < 32)
 HasRegisters (Immediate operation rd rs1 imm) = (rd < 32) × (rs1 < 32)
 HasRegisters (Register operation rd rs1 rs2) = (rd < 32) × (rs1 < 32) × (rs2 < 32)
+HasRegisters (Multiply product rd rs1 rs2) = (rd < 32) × (rs1 < 32) × (rs2 < 32)
+HasRegisters (Divide division rd rs1 rs2) = (rd < 32) × (rs1 < 32) × (rs2 < 32)
 HasRegisters Fence = Unit {0}
 HasRegisters Ecall = Unit {0}
 HasRegisters Ebreak = Unit {0}
@@ -42,6 +44,8 @@ HasImmediates (Load width rd rs1 offset) = IsSigned 12 offset
 HasImmediates (Store width rs1 rs2 offset) = IsSigned 12 offset
 HasImmediates (Immediate operation rd rs1 imm) = IsOperand operation imm
 HasImmediates (Register operation rd rs1 rs2) = Unit {0}
+HasImmediates (Multiply product rd rs1 rs2) = Unit {0}
+HasImmediates (Divide division rd rs1 rs2) = Unit {0}
 HasImmediates Fence = Unit {0}
 HasImmediates Ecall = Unit {0}
 HasImmediates Ebreak = Unit {0}

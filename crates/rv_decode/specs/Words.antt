@@ -1,8 +1,8 @@
 -- The manual's own table: which words an instruction has, field by field, and which bits of a word are the bits of its immediate.
-use Rattle.std.specs.Prelude.{◌≡◌, ◌⊎◌, ℕ, ◌-◌, ◌*◌, ◌/◌, ◌^◌}
+use Rattle.std.specs.Prelude.{◌≡◌, ◌⊎◌, ℕ, Bool, true, ◌-◌, ◌*◌, ◌/◌, ◌^◌}
 use Rattle.rv_decode.specs.Fields.{field, opcode_of, rd_of, funct3_of, rs1_of, rs2_of, funct7_of, csr_of}
 use Rattle.rv_decode.specs.declared.Instr.{Instr}
-use Rattle.rv_decode.specs.declared.Instr.TheVariants.{Lui, Auipc, Jal, Jalr, Branch, Load, Store, Immediate, Register, Fence, Ecall, Ebreak, ReadCounter}
+use Rattle.rv_decode.specs.declared.Instr.TheVariants.{Lui, Auipc, Jal, Jalr, Branch, Load, Store, Immediate, Register, Multiply, Divide, Fence, Ecall, Ebreak, ReadCounter}
 use Rattle.rv_decode.specs.declared.Comparison.{Comparison}
 use Rattle.rv_decode.specs.declared.Comparison.TheVariants.{Equal, NotEqual, Less, GreaterOrEqual, LessUnsigned, GreaterOrEqualUnsigned}
 use Rattle.rv_decode.specs.declared.LoadWidth.{LoadWidth}
@@ -11,6 +11,10 @@ use Rattle.rv_decode.specs.declared.StoreWidth.{StoreWidth}
 use Rattle.rv_decode.specs.declared.StoreWidth.TheVariants.{Byte as StoreByte, Half as StoreHalf, Word as StoreWord}
 use Rattle.rv_decode.specs.declared.Operation.{Operation}
 use Rattle.rv_decode.specs.declared.Operation.TheVariants.{Add, Subtract, ShiftLeft, SetLess, SetLessUnsigned, Xor, ShiftRight, ShiftRightArithmetic, Or, And}
+use Rattle.rv_decode.specs.declared.Product.{Product}
+use Rattle.rv_decode.specs.declared.Product.TheVariants.{Low, High, HighSignedUnsigned, HighUnsigned}
+use Rattle.rv_decode.specs.declared.Division.{Division}
+use Rattle.rv_decode.specs.declared.Division.TheVariants.{Quotient, QuotientUnsigned, Remainder, RemainderUnsigned}
 use Rattle.rv_decode.specs.declared.Counter.{Counter}
 use Rattle.rv_decode.specs.declared.Counter.TheVariants.{Cycle, Time, Instret, CycleHigh, TimeHigh, InstretHigh}
 
@@ -82,6 +86,27 @@ IsOperation ShiftRightArithmetic word = (funct3_of word ≡ 0b101) × (funct7_of
 IsOperation Or word = (funct3_of word ≡ 0b110) × (funct7_of word ≡ 0b0000000)
 IsOperation And word = (funct3_of word ≡ 0b111) × (funct7_of word ≡ 0b0000000)
 
+-- the funct3 of a product: MUL, MULH, MULHSU, MULHU
+abbrev pub product_code : Product → ℕ
+product_code Low = 0b000
+product_code High = 0b001
+product_code HighSignedUnsigned = 0b010
+product_code HighUnsigned = 0b011
+
+-- the funct3 of a division: DIV, DIVU, REM, REMU
+abbrev pub division_code : Division → ℕ
+division_code Quotient = 0b100
+division_code QuotientUnsigned = 0b101
+division_code Remainder = 0b110
+division_code RemainderUnsigned = 0b111
+
+-- a word of the M extension, with its funct3, on a machine that has the extension
+pub record IsMuldiv (muldiv : Bool) (funct3 word : ℕ) : Type 0 where
+  pub has : muldiv ≡ true
+  pub opcode : opcode_of word ≡ 0b0110011
+  pub funct7 : funct7_of word ≡ 0b0000001
+  pub code : funct3_of word ≡ funct3
+
 -- the funct3 and the immediate of ADDI, SLLI, SLTI, SLTIU, XORI, SRLI, SRAI, ORI, ANDI; a shift has a funct7, and its amount where others have rs2
 abbrev pub IsImmediateOperation : Operation → ℕ → ℕ → Type 0
 IsImmediateOperation Add imm word = (funct3_of word ≡ 0b000) × IsImmediateI imm word
@@ -108,17 +133,20 @@ counter_number InstretHigh = 0xC82
 abbrev pub IsCsrRead : ℕ → Type 0
 IsCsrRead word = ((funct3_of word ≡ 0b010) ⊎ ((funct3_of word ≡ 0b011) ⊎ ((funct3_of word ≡ 0b110) ⊎ (funct3_of word ≡ 0b111)))) × (rs1_of word ≡ 0)
 
-abbrev pub IsWordOf : Instr → ℕ → Type 0
-IsWordOf (Lui rd imm) word = (opcode_of word ≡ 0b0110111) × (rd_of word ≡ rd) × IsImmediateU imm word
-IsWordOf (Auipc rd imm) word = (opcode_of word ≡ 0b0010111) × (rd_of word ≡ rd) × IsImmediateU imm word
-IsWordOf (Jal rd offset) word = (opcode_of word ≡ 0b1101111) × (rd_of word ≡ rd) × IsImmediateJ offset word
-IsWordOf (Jalr rd rs1 offset) word = (opcode_of word ≡ 0b1100111) × (funct3_of word ≡ 0b000) × (rd_of word ≡ rd) × (rs1_of word ≡ rs1) × IsImmediateI offset word
-IsWordOf (Branch comparison rs1 rs2 offset) word = (opcode_of word ≡ 0b1100011) × (funct3_of word ≡ comparison_code comparison) × (rs1_of word ≡ rs1) × (rs2_of word ≡ rs2) × IsImmediateB offset word
-IsWordOf (Load width rd rs1 offset) word = (opcode_of word ≡ 0b0000011) × (funct3_of word ≡ load_code width) × (rd_of word ≡ rd) × (rs1_of word ≡ rs1) × IsImmediateI offset word
-IsWordOf (Store width rs1 rs2 offset) word = (opcode_of word ≡ 0b0100011) × (funct3_of word ≡ store_code width) × (rs1_of word ≡ rs1) × (rs2_of word ≡ rs2) × IsImmediateS offset word
-IsWordOf (Immediate operation rd rs1 imm) word = (opcode_of word ≡ 0b0010011) × IsImmediateOperation operation imm word × (rd_of word ≡ rd) × (rs1_of word ≡ rs1)
-IsWordOf (Register operation rd rs1 rs2) word = (opcode_of word ≡ 0b0110011) × IsOperation operation word × (rd_of word ≡ rd) × (rs1_of word ≡ rs1) × (rs2_of word ≡ rs2)
-IsWordOf Fence word = (opcode_of word ≡ 0b0001111) × (funct3_of word ≡ 0b000)
-IsWordOf Ecall word = word ≡ 0x00000073
-IsWordOf Ebreak word = word ≡ 0x00100073
-IsWordOf (ReadCounter counter rd) word = (opcode_of word ≡ 0b1110011) × IsCsrRead word × (csr_of word ≡ counter_number counter) × (rd_of word ≡ rd)
+-- the first argument says whether the machine has the M extension
+abbrev pub IsWordOf : Bool → Instr → ℕ → Type 0
+IsWordOf muldiv (Lui rd imm) word = (opcode_of word ≡ 0b0110111) × (rd_of word ≡ rd) × IsImmediateU imm word
+IsWordOf muldiv (Auipc rd imm) word = (opcode_of word ≡ 0b0010111) × (rd_of word ≡ rd) × IsImmediateU imm word
+IsWordOf muldiv (Jal rd offset) word = (opcode_of word ≡ 0b1101111) × (rd_of word ≡ rd) × IsImmediateJ offset word
+IsWordOf muldiv (Jalr rd rs1 offset) word = (opcode_of word ≡ 0b1100111) × (funct3_of word ≡ 0b000) × (rd_of word ≡ rd) × (rs1_of word ≡ rs1) × IsImmediateI offset word
+IsWordOf muldiv (Branch comparison rs1 rs2 offset) word = (opcode_of word ≡ 0b1100011) × (funct3_of word ≡ comparison_code comparison) × (rs1_of word ≡ rs1) × (rs2_of word ≡ rs2) × IsImmediateB offset word
+IsWordOf muldiv (Load width rd rs1 offset) word = (opcode_of word ≡ 0b0000011) × (funct3_of word ≡ load_code width) × (rd_of word ≡ rd) × (rs1_of word ≡ rs1) × IsImmediateI offset word
+IsWordOf muldiv (Store width rs1 rs2 offset) word = (opcode_of word ≡ 0b0100011) × (funct3_of word ≡ store_code width) × (rs1_of word ≡ rs1) × (rs2_of word ≡ rs2) × IsImmediateS offset word
+IsWordOf muldiv (Immediate operation rd rs1 imm) word = (opcode_of word ≡ 0b0010011) × IsImmediateOperation operation imm word × (rd_of word ≡ rd) × (rs1_of word ≡ rs1)
+IsWordOf muldiv (Register operation rd rs1 rs2) word = (opcode_of word ≡ 0b0110011) × IsOperation operation word × (rd_of word ≡ rd) × (rs1_of word ≡ rs1) × (rs2_of word ≡ rs2)
+IsWordOf muldiv (Multiply product rd rs1 rs2) word = IsMuldiv muldiv (product_code product) word × (rd_of word ≡ rd) × (rs1_of word ≡ rs1) × (rs2_of word ≡ rs2)
+IsWordOf muldiv (Divide division rd rs1 rs2) word = IsMuldiv muldiv (division_code division) word × (rd_of word ≡ rd) × (rs1_of word ≡ rs1) × (rs2_of word ≡ rs2)
+IsWordOf muldiv Fence word = (opcode_of word ≡ 0b0001111) × (funct3_of word ≡ 0b000)
+IsWordOf muldiv Ecall word = word ≡ 0x00000073
+IsWordOf muldiv Ebreak word = word ≡ 0x00100073
+IsWordOf muldiv (ReadCounter counter rd) word = (opcode_of word ≡ 0b1110011) × IsCsrRead word × (csr_of word ≡ counter_number counter) × (rd_of word ≡ rd)

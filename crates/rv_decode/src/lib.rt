@@ -1,7 +1,8 @@
-//! The instruction words of RV32I, with the reads of its counters: what each
-//! word of 32 bits means, and which words mean nothing. The words are those of
-//! the RISC-V unprivileged specification, chapters 'RV32I Base Integer
-//! Instruction Set' and 'Zicntr'.
+//! The instruction words of RV32I, with the reads of its counters, and of the
+//! products and divisions that a machine may have: what each word of 32 bits
+//! means, and which words mean nothing. The words are those of the RISC-V
+//! unprivileged specification, chapters 'RV32I Base Integer Instruction Set',
+//! 'Zicntr' and '"M" Extension for Integer Multiplication and Division'.
 //!
 //! specs/ says it twice: `Table` is the map from a word to its instruction,
 //! `Words` the manual's own table, the fields of each instruction's words. That
@@ -11,7 +12,7 @@
 mod fields;
 mod table;
 
-pub use table::{decode, words_decode};
+pub use table::{decode, words_decode, words_without_muldiv};
 
 /// The condition of a branch, on the words of its two registers.
 #[derive(Clone, Copy, Debug, PartialEq, Eq)]
@@ -58,6 +59,28 @@ pub enum Operation {
     ShiftRightArithmetic,
     Or,
     And,
+}
+
+/// A word of the product of two words, which has 64 bits (MUL, MULH, MULHSU, MULHU).
+#[derive(Clone, Copy, Debug, PartialEq, Eq)]
+pub enum Product {
+    /// The same whether the words are signed or not.
+    Low,
+    /// Of two numbers in two's complement.
+    High,
+    /// Of a first number in two's complement, and of a second that is unsigned.
+    HighSignedUnsigned,
+    HighUnsigned,
+}
+
+/// What is wanted of a division of two words (DIV, DIVU, REM, REMU).
+#[derive(Clone, Copy, Debug, PartialEq, Eq)]
+pub enum Division {
+    /// Of numbers in two's complement, as is `Remainder`.
+    Quotient,
+    QuotientUnsigned,
+    Remainder,
+    RemainderUnsigned,
 }
 
 /// A counter of 64 bits, or its high half.
@@ -128,6 +151,20 @@ pub enum Instr {
     /// An operation on two registers.
     Register {
         operation: Operation,
+        rd: u8,
+        rs1: u8,
+        rs2: u8,
+    },
+    /// A word of a product; on a machine with products and divisions alone.
+    Multiply {
+        product: Product,
+        rd: u8,
+        rs1: u8,
+        rs2: u8,
+    },
+    /// A division of the word in `rs1` by that in `rs2`; on such a machine alone.
+    Divide {
+        division: Division,
         rd: u8,
         rs1: u8,
         rs2: u8,

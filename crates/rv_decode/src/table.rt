@@ -1,13 +1,16 @@
 // Which instruction a word is.
-ghost use Rattle.std.specs.Prelude.{◌≡◌, IfSome};
-ghost use Rattle.rv_decode.specs.Fields.{funct3_of};
-ghost use Rattle.rv_decode.specs.Table.{comparison_of, load_width_of, store_width_of, immediate_operation_of, register_operation_of, operand_of, counter_of, system_of, decode_of};
+ghost use Rattle.std.specs.Prelude.{◌≡◌, true, false, IfSome};
+ghost use Rattle.rv_decode.specs.Fields.{opcode_of, funct3_of};
+ghost use Rattle.rv_decode.specs.Table.{comparison_of, load_width_of, store_width_of};
+ghost use Rattle.rv_decode.specs.Table.{immediate_operation_of, register_operation_of, operand_of};
+ghost use Rattle.rv_decode.specs.Table.{product_of, division_of, muldiv_of, register_form_of, without_muldiv};
+ghost use Rattle.rv_decode.specs.Table.{counter_of, system_of, decode_of};
 ghost use Rattle.rv_decode.specs.Words.{IsWordOf};
 ghost use Rattle.rv_decode.specs.Ranges.{HasRegisters, HasImmediates};
 ghost use Rattle.rv_decode.specs.declared.Instr.{Instr};
 
 use crate::fields::*;
-use crate::{Comparison, Counter, Instr, LoadWidth, Operation, StoreWidth};
+use crate::{Comparison, Counter, Division, Instr, LoadWidth, Operation, Product, StoreWidth};
 
 fn comparison_of(funct3: u32) -> Option<Comparison>
     ensures value { result ≡ comparison_of funct3 }
@@ -82,6 +85,68 @@ fn register_operation_of(funct3: u32, funct7: u32) -> Option<Operation>
     }
 }
 
+fn product_of(funct3: u32) -> Option<Product>
+    ensures value { result ≡ product_of funct3 }
+{
+    match funct3 {
+        0b000 => Some(Product::Low),
+        0b001 => Some(Product::High),
+        0b010 => Some(Product::HighSignedUnsigned),
+        0b011 => Some(Product::HighUnsigned),
+        _ => None,
+    }
+}
+
+fn division_of(funct3: u32) -> Option<Division>
+    ensures value { result ≡ division_of funct3 }
+{
+    match funct3 {
+        0b100 => Some(Division::Quotient),
+        0b101 => Some(Division::QuotientUnsigned),
+        0b110 => Some(Division::Remainder),
+        0b111 => Some(Division::RemainderUnsigned),
+        _ => None,
+    }
+}
+
+fn muldiv_of(word: u32) -> Option<Instr>
+    ensures value { result ≡ muldiv_of word }
+{
+    if funct3(word) < 0b100 {
+        Some(Instr::Multiply {
+            product: product_of(funct3(word))?,
+            rd: rd(word),
+            rs1: rs1(word),
+            rs2: rs2(word),
+        })
+    } else {
+        Some(Instr::Divide {
+            division: division_of(funct3(word))?,
+            rd: rd(word),
+            rs1: rs1(word),
+            rs2: rs2(word),
+        })
+    }
+}
+
+#[inline(always)]
+fn register_form_of(word: u32, muldiv: bool) -> Option<Instr>
+    ensures value { result ≡ register_form_of muldiv word }
+    ensures word { opcode_of word ≡ 0b0110011 → IfSome result (λ instr. IsWordOf muldiv instr word) }
+    ensures registers { IfSome result HasRegisters }
+    ensures immediates { IfSome result HasImmediates }
+{
+    match funct7(word) {
+        0b000_0001 if muldiv => muldiv_of(word),
+        _ => Some(Instr::Register {
+            operation: register_operation_of(funct3(word), funct7(word))?,
+            rd: rd(word),
+            rs1: rs1(word),
+            rs2: rs2(word),
+        }),
+    }
+}
+
 // The immediate of an operation: a shift keeps its amount where others keep rs2.
 fn operand_of(word: u32) -> u32
     ensures value { result ≡ operand_of (funct3_of word) word }
@@ -125,12 +190,13 @@ fn system_of(word: u32) -> Option<Instr>
 }
 
 /// The instruction that a word is, `None` where it is none of RV32I's 40
-/// instructions and no read of a counter. A FENCE counts by its opcode and
-/// funct3 alone.
+/// instructions and no read of a counter, nor, where `muldiv` says that the
+/// machine has products and divisions, one of the M extension's 8. A FENCE
+/// counts by its opcode and funct3 alone.
 #[inline(always)]
-pub fn decode(word: u32) -> Option<Instr>
-    ensures value { result ≡ decode_of word }
-    ensures word { IfSome result (λ instr. IsWordOf instr word) }
+pub fn decode(word: u32, muldiv: bool) -> Option<Instr>
+    ensures value { result ≡ decode_of muldiv word }
+    ensures word { IfSome result (λ instr. IsWordOf muldiv instr word) }
     ensures registers { IfSome result HasRegisters }
     ensures immediates { IfSome result HasImmediates }
 {
@@ -179,12 +245,7 @@ pub fn decode(word: u32) -> Option<Instr>
             rs1: rs1(word),
             imm: operand_of(word),
         }),
-        0b011_0011 => Some(Instr::Register {
-            operation: register_operation_of(funct3(word), funct7(word))?,
-            rd: rd(word),
-            rs1: rs1(word),
-            rs2: rs2(word),
-        }),
+        0b011_0011 => register_form_of(word, muldiv),
         0b000_1111 => match funct3(word) {
             0b000 => Some(Instr::Fence),
             _ => None,
@@ -196,9 +257,17 @@ pub fn decode(word: u32) -> Option<Instr>
 
 /// The other direction of `decode`: each word that the manual's table gives an
 /// instruction decodes to it, so no instruction has a word that is `None`.
-pub fn words_decode(word: u32)
-    ensures some { (instr : Instr) → IsWordOf instr word → decode_of word ≡ Some instr }
-    ensures none { decode_of word ≡ None → (instr : Instr) → ¬ IsWordOf instr word }
+pub fn words_decode(word: u32, muldiv: bool)
+    ensures some { (instr : Instr) → IsWordOf muldiv instr word → decode_of muldiv word ≡ Some instr }
+    ensures none { decode_of muldiv word ≡ None → (instr : Instr) → ¬ IsWordOf muldiv instr word }
+{
+    let _ = (word, muldiv);
+}
+
+/// What a machine without products and divisions makes of a word: nothing of
+/// those, and of each other word the same.
+pub fn words_without_muldiv(word: u32)
+    ensures rest { decode_of false word ≡ without_muldiv (decode_of true word) }
 {
     let _ = word;
 }

@@ -5,14 +5,16 @@ use crate::Comparison::{
     Equal, GreaterOrEqual, GreaterOrEqualUnsigned, Less, LessUnsigned, NotEqual,
 };
 use crate::Counter::{Cycle, CycleHigh, Instret, InstretHigh, Time, TimeHigh};
+use crate::Division::{Quotient, QuotientUnsigned, Remainder, RemainderUnsigned};
 use crate::Instr::{
-    Auipc, Branch, Ebreak, Ecall, Fence, Immediate, Jal, Jalr, Load, Lui, ReadCounter, Register,
-    Store,
+    Auipc, Branch, Divide, Ebreak, Ecall, Fence, Immediate, Jal, Jalr, Load, Lui, Multiply,
+    ReadCounter, Register, Store,
 };
 use crate::Operation::{
     Add, And, Or, SetLess, SetLessUnsigned, ShiftLeft, ShiftRight, ShiftRightArithmetic, Subtract,
     Xor,
 };
+use crate::Product::{High, HighSignedUnsigned, HighUnsigned, Low};
 use crate::{Instr, LoadWidth, StoreWidth, decode};
 use std::process::Abort;
 
@@ -221,6 +223,30 @@ const REGISTERS: [(u32, Instr); 10] = [
 ];
 
 #[rattlefmt::skip]
+const PRODUCTS_AND_DIVISIONS: [(u32, Instr); 10] = [
+    // mul x12, x0, x31
+    (0x03f0_0633, Multiply { product: Low, rd: 12, rs1: 0, rs2: 31 }),
+    // mul x0, x15, x16
+    (0x0307_8033, Multiply { product: Low, rd: 0, rs1: 15, rs2: 16 }),
+    // mulh x31, x31, x31
+    (0x03ff_9fb3, Multiply { product: High, rd: 31, rs1: 31, rs2: 31 }),
+    // mulhsu x1, x2, x3
+    (0x0231_20b3, Multiply { product: HighSignedUnsigned, rd: 1, rs1: 2, rs2: 3 }),
+    // mulhu x16, x8, x4
+    (0x0244_3833, Multiply { product: HighUnsigned, rd: 16, rs1: 8, rs2: 4 }),
+    // div x30, x0, x17
+    (0x0310_4f33, Divide { division: Quotient, rd: 30, rs1: 0, rs2: 17 }),
+    // divu x31, x31, x31
+    (0x03ff_dfb3, Divide { division: QuotientUnsigned, rd: 31, rs1: 31, rs2: 31 }),
+    // rem x1, x2, x3
+    (0x0231_60b3, Divide { division: Remainder, rd: 1, rs1: 2, rs2: 3 }),
+    // remu x16, x8, x4
+    (0x0244_7833, Divide { division: RemainderUnsigned, rd: 16, rs1: 8, rs2: 4 }),
+    // remu x0, x0, x0
+    (0x0200_7033, Divide { division: RemainderUnsigned, rd: 0, rs1: 0, rs2: 0 }),
+];
+
+#[rattlefmt::skip]
 const FENCES_AND_CALLS: [(u32, Instr); 7] = [
     // fence
     (0x0ff0_000f, Fence),
@@ -336,16 +362,35 @@ const RESERVED_OPERATIONS: [u32; 22] = [
     0x5031_70b3,
 ];
 
-// Products and divisions of the M extension.
+// All of the M extension on x1, x2 and x3, which a machine may have.
 const PRODUCTS: [u32; 8] = [
+    // mul, mulh, mulhsu, mulhu
     0x0231_00b3,
     0x0231_10b3,
     0x0231_20b3,
     0x0231_30b3,
+    // div, divu, rem, remu
     0x0231_40b3,
     0x0231_50b3,
     0x0231_60b3,
     0x0231_70b3,
+];
+
+// Products that differ from those in a bit of their funct7, or in their opcode:
+// a shift by an immediate, and words of 64-bit machines.
+const NO_PRODUCTS: [u32; 12] = [
+    0x0631_00b3,
+    0x0a31_00b3,
+    0x1231_40b3,
+    0x2231_40b3,
+    0x4231_00b3,
+    0x8231_70b3,
+    0x0231_1093,
+    0x0231_5093,
+    0x0231_00bb,
+    0x0231_40bb,
+    0x0231_60bb,
+    0x0231_70bb,
 ];
 
 // System words: calls with other fields, returns, waits, writes of counters, other registers.
@@ -433,15 +478,18 @@ const OTHER_WORDS: [u32; 21] = [
     0x0000_006e,
 ];
 
+// On every machine.
 fn check(rt: &impl Abort, rows: &[(u32, Instr)]) {
     for (word, instr) in rows {
-        assert_eq!(rt; decode(*word), Some(*instr), "at {word:08x}");
+        assert_eq!(rt; decode(*word, false), Some(*instr), "at {word:08x}");
+        assert_eq!(rt; decode(*word, true), Some(*instr), "at {word:08x}");
     }
 }
 
 fn check_illegal(rt: &impl Abort, words: &[u32]) {
     for word in words {
-        assert_eq!(rt; decode(*word), None, "at {word:08x}");
+        assert_eq!(rt; decode(*word, false), None, "at {word:08x}");
+        assert_eq!(rt; decode(*word, true), None, "at {word:08x}");
     }
 }
 
@@ -512,8 +560,24 @@ fn no_reserved_operations(rt: HostRuntime) {
 }
 
 #[test]
-fn no_products(rt: HostRuntime) {
-    check_illegal(&rt, &PRODUCTS);
+fn products_and_divisions(rt: HostRuntime) {
+    for (word, instr) in PRODUCTS_AND_DIVISIONS {
+        assert_eq!(rt; decode(word, true), Some(instr), "at {word:08x}");
+        assert_eq!(rt; decode(word, false), None, "at {word:08x}");
+    }
+}
+
+#[test]
+fn no_products_on_other_machines(rt: HostRuntime) {
+    for word in PRODUCTS {
+        assert_eq!(rt; decode(word, false), None, "at {word:08x}");
+        assert!(rt; decode(word, true).is_some(), "at {word:08x}");
+    }
+}
+
+#[test]
+fn no_words_near_products(rt: HostRuntime) {
+    check_illegal(&rt, &NO_PRODUCTS);
 }
 
 #[test]

@@ -1,0 +1,4 @@
+pub mod Words
+pub mod ProductLaws
+pub mod DivisionLaws
+pub mod Digits
