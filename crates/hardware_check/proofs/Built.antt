@@ -10,7 +10,8 @@ use Rattle.hardware_check.specs.Hardware.{Hardware, natural_of, shape_of, hardwa
 use Rattle.hardware_check.specs.Rules.{k11, room_case, is_region}
 use Rattle.hardware_check.specs.Laws.{HardwareLaw}
 use Rattle.hardware_check.proofs.FirstCases.{if_first, if_rest}
-use Rattle.hardware_check.proofs.Parts.{some_line, parts_sound, frames_sound, colours_sound, costs_sound, whole_frames, region_sound}
+use Rattle.hardware_check.proofs.Parts.{some_line, parts_sound, frames_sound, colours_sound, costs_sound, short_history, whole_frames, region_sound}
+use Rattle.hardware_check.proofs.Products.{few_mul, few_div, few_targets, buffer_sound}
 
 -- ---- the shared region
 
@@ -59,7 +60,12 @@ hardware_law i k =
       l2 = parts.l2;
       tlb = parts.tlb;
       predictor = parts.predictor;
+      few_history = short_history i k.parts.parts;
       costs = costs_sound i k.parts.costs;
+      few_mul = few_mul i.muldiv;
+      few_div = few_div i.muldiv;
+      few_targets = few_targets i.targets;
+      targets = buffer_sound i.targets;
       some_colours = colours.least;
       few_colours = colours.most;
       whole_colours = whole_frames (shape_of i.l2).sets (natural_of i.line) (power_is (shape_of i.l2).sets parts.l2.sets.power) (power_is (natural_of i.line) parts.line.power) (omega (arith, colours.least));

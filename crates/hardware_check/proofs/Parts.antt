@@ -12,8 +12,8 @@ use Rattle.image_text.specs.declared.refusal.Refusal.{Refusal}
 use Rattle.image_text.specs.Record.{Raw, RawCache}
 use Rattle.hardware_check.specs.declared.hardware.Policy.TheVariants.{Lru, Fifo, Plru, Nmru}
 use Rattle.hardware_check.specs.Cases.{first_in, refusal, outside, range_case}
-use Rattle.hardware_check.specs.Hardware.{IsNatural, natural_of, policy_of, shape_of, costs_of, hardware_of, colours_of, IsSize, IsCache, IsSmallShape}
-use Rattle.hardware_check.specs.Rules.{k3, k4, k5, k6, k6_cost, costs_in, size_case, cache_case, ways_case, is_size, is_policy, is_uneven_tree, is_region}
+use Rattle.hardware_check.specs.Hardware.{IsNatural, natural_of, policy_of, shape_of, costs_of, hardware_of, colours_of, is_size, IsSize, IsCache, IsSmallShape}
+use Rattle.hardware_check.specs.Rules.{k3, k4, k5, k6, k6_cost, costs_in, size_case, history_case, predictor_case, cache_case, ways_case, is_policy, is_uneven_tree, is_region}
 use Rattle.hardware_check.specs.Laws.{KeepsParts}
 use Rattle.hardware_check.proofs.FirstCases.{or_first, or_rest, if_first, if_rest, first_in_none}
 
@@ -64,21 +64,38 @@ no : (a : Bool) → not a ≡ true → a ≡ false
 no true h = cc
 no false h = refl
 
-none_if : {A : Type 0} (b : Bool) (x : A) → (if b then None else Some x) ≡ None → b ≡ true
+pub none_if : {A : Type 0} (b : Bool) (x : A) → (if b then None else Some x) ≡ None → b ≡ true
 none_if true x n = refl
 none_if false x n = cc
 
-size_sound : (part low high : ℕ) (x : ℤ) → size_case part low high x ≡ None → IsSize low high (natural_of x)
-size_sound part low high x n =
-    let parts = both (not (outside (pos low) (pos high) x)) (is_power_of_two (natural_of x)) (none_if (is_size low high x) (refusal 3 (pos part) x (pos 1)) n) in
+pub size_is : (low high : ℕ) (x : ℤ) → is_size low high x ≡ true → IsSize low high (natural_of x)
+size_is low high x h =
+    let parts = both (not (outside (pos low) (pos high) x)) (is_power_of_two (natural_of x)) h in
     let range = inside low high x (no (outside (pos low) (pos high) x) parts.0) in
     record { least = range.least; most = range.most; power = parts.1 }
+
+size_sound : (part low high : ℕ) (x : ℤ) → size_case part low high x ≡ None → IsSize low high (natural_of x)
+size_sound part low high x n = size_is low high x (none_if (is_size low high x) (refusal 3 (pos part) x (pos 1)) n)
 
 pub size_natural : (low high : ℕ) (x : ℤ) → is_size low high x ≡ true → IsNatural x
 size_natural low high x h = natural_inside low high x (no (outside (pos low) (pos high) x) (both (not (outside (pos low) (pos high) x)) (is_power_of_two (natural_of x)) h).0)
 
 pub size_most : (low high : ℕ) (x : ℤ) → is_size low high x ≡ true → natural_of x ≤ high
 size_most low high x h = most_inside low high x (no (outside (pos low) (pos high) x) (both (not (outside (pos low) (pos high) x)) (is_power_of_two (natural_of x)) h).0)
+
+record IsPredictor (counters outcomes : ℤ) : Type 0 where
+  pub size : IsSize 1 4096 (natural_of counters)
+  pub history : outside (pos 0) (pos 8) outcomes ≡ false
+
+few_outcomes : (x : ℤ) → history_case x ≡ None → outside (pos 0) (pos 8) x ≡ false
+few_outcomes x n = if_first (outside (pos 0) (pos 8) x) (refusal 3 (pos 6) x (pos 2)) None n
+
+predictor_sound : (size history : ℤ) → predictor_case size history ≡ None → IsPredictor size history
+unfolding predictor_case
+predictor_sound size history n = record {
+  size = size_sound 6 1 4096 size (or_first (size_case 6 1 4096 size) (history_case history) n);
+  history = few_outcomes history (or_rest (size_case 6 1 4096 size) (history_case history) n);
+}
 
 -- ---- caches
 
@@ -128,6 +145,7 @@ pub record PartsSound (i : Raw) : Type 0 where
   pub l2 : IsCache 16384 (shape_of i.l2)
   pub tlb : IsCache 256 (shape_of i.tlb)
   pub predictor : IsSize 1 4096 (natural_of i.predictor)
+  pub history : outside (pos 0) (pos 8) i.history ≡ false
 
 pub parts_sound : (i : Raw) → k3 i ≡ None → PartsSound i
 unfolding k3
@@ -136,13 +154,15 @@ parts_sound i n =
     let b = or_rest (cache_case 2 1024 i.l1i) _ a in
     let c = or_rest (cache_case 3 1024 i.l1d) _ b in
     let d = or_rest (cache_case 4 16384 i.l2) _ c in
+    let p = predictor_sound i.predictor i.history (or_rest (cache_case 5 256 i.tlb) _ d) in
     record {
       line = size_sound 1 16 128 i.line (or_first (size_case 1 16 128 i.line) _ n);
       l1i = cache_sound 2 1024 i.l1i (or_first (cache_case 2 1024 i.l1i) _ a);
       l1d = cache_sound 3 1024 i.l1d (or_first (cache_case 3 1024 i.l1d) _ b);
       l2 = cache_sound 4 16384 i.l2 (or_first (cache_case 4 16384 i.l2) _ c);
       tlb = cache_sound 5 256 i.tlb (or_first (cache_case 5 256 i.tlb) _ d);
-      predictor = size_sound 6 1 4096 i.predictor (or_rest (cache_case 5 256 i.tlb) _ d);
+      predictor = p.size;
+      history = p.history;
     }
 
 -- ---- as the code asks for them
@@ -159,6 +179,12 @@ line_natural i n = let least = (parts_sound i n).line.least in natural_positive 
 
 pub predictor_natural : (i : Raw) → k3 i ≡ None → IsNatural i.predictor
 predictor_natural i n = let least = (parts_sound i n).predictor.least in natural_positive i.predictor (omega (arith, least))
+
+pub history_natural : (i : Raw) → k3 i ≡ None → IsNatural i.history
+history_natural i n = natural_inside 0 8 i.history (parts_sound i n).history
+
+pub short_history : (i : Raw) → k3 i ≡ None → natural_of i.history ≤ 8
+short_history i n = most_inside 0 8 i.history (parts_sound i n).history
 
 pub l2_natural : (i : Raw) → k3 i ≡ None → IsNatural i.l2.sets
 unfolding shape_of
@@ -231,6 +257,7 @@ pub record FitsCode (i : Raw) : Type 0 where
   pub frames : natural_of i.frames < 2 ^ 32
   pub line : natural_of i.line < 2 ^ 32
   pub predictor : natural_of i.predictor < 2 ^ 32
+  pub history : natural_of i.history < 2 ^ 32
   pub l1i : IsSmallShape (shape_of i.l1i)
   pub l1d : IsSmallShape (shape_of i.l1d)
   pub l2 : IsSmallShape (shape_of i.l2)
@@ -246,6 +273,7 @@ fits i k =
       frames = omega (arith, (frames_sound i k.frames).most);
       line = omega (arith, parts.line.most);
       predictor = omega (arith, parts.predictor.most);
+      history = omega (arith, short_history i k.parts);
       l1i = small_shape 1024 i.l1i (omega arith) parts.l1i;
       l1d = small_shape 1024 i.l1d (omega arith) parts.l1d;
       l2 = small_shape 16384 i.l2 (omega arith) parts.l2;

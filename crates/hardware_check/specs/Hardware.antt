@@ -1,9 +1,10 @@
 -- The machine that an image says, in natural numbers.
-use Rattle.std.specs.Prelude.{◌≡◌, ℕ, ◌+◌, ◌-◌, ◌*◌, ◌/◌, ◌%◌, ◌^◌, ◌<◌, ◌≤◌, IsTrue, ⊤, ℤ, pos, negsuc, if◌then◌else◌, List, codes}
+use Rattle.std.specs.Prelude.{◌≡◌, ℕ, ◌+◌, ◌-◌, ◌*◌, ◌/◌, ◌%◌, ◌^◌, ◌<◌, ◌≤◌, ◌==◌, ◌&&◌, ◌||◌, not, Bool, IsTrue, ⊤, ℤ, pos, negsuc, if◌then◌else◌, List, codes, Option, Some, None, option_map}
 use Rattle.std.specs.Str.{bytes_eq}
 use Rattle.std.specs.Int.{is_power_of_two}
-use Rattle.cycle_cost.specs.Costs.{CostTable, AreCosts}
-use Rattle.image_text.specs.Record.{Raw, RawCache, RawCosts}
+use Rattle.cycle_cost.specs.Costs.{CostTable, AreCosts, ProductCosts}
+use Rattle.image_text.specs.Record.{Raw, RawCache, RawCosts, RawMuldiv}
+use Rattle.hardware_check.specs.Cases.{outside}
 use Rattle.hardware_check.specs.declared.hardware.Policy.{Policy}
 use Rattle.hardware_check.specs.declared.hardware.Policy.TheVariants.{Lru, Fifo, Plru, Nmru}
 
@@ -22,7 +23,10 @@ pub record Hardware : Type 0 where
   pub l2 : CacheShape
   pub tlb : CacheShape
   pub predictor : ℕ  -- counters
+  pub history : ℕ  -- outcomes that the predictor's index takes in
   pub costs : CostTable
+  pub muldiv : Option ProductCosts  -- None where there are no products and divisions
+  pub targets : ℕ  -- places of the target buffer; 0 where there is none
 
 -- the page colours: as many as frames fill the second level's sets
 abbrev pub colours_of : Hardware → ℕ
@@ -47,6 +51,25 @@ natural_of (negsuc n) = 0
 abbrev pub IsNatural : ℤ → Type 0
 IsNatural (pos n) = ⊤
 IsNatural (negsuc n) = ⊥
+
+-- a power of two of the range
+abbrev pub is_size : ℕ → ℕ → ℤ → Bool
+is_size low high x = not (outside (pos low) (pos high) x) && is_power_of_two (natural_of x)
+
+-- a cost that isn't 1 to 1,000 cycles counts as 0
+abbrev pub cost_or_none : ℤ → ℕ
+cost_or_none x = if outside (pos 1) (pos 1000) x then 0 else natural_of x
+
+unfoldable pub products_of : RawMuldiv → ProductCosts
+products_of c = record { mul = cost_or_none c.mul; div = cost_or_none c.div }
+
+-- a number of places that is no size stands for no buffer
+abbrev pub places_of : ℤ → ℕ
+places_of x = if is_size 1 256 x then natural_of x else 0
+
+abbrev pub targets_of : Option ℤ → ℕ
+targets_of None = 0
+targets_of (Some x) = places_of x
 
 -- a text that is no policy's name stands for least recently used
 abbrev pub policy_of : List ℕ → Policy
@@ -82,7 +105,10 @@ hardware_of i = record {
   l2 = shape_of i.l2;
   tlb = shape_of i.tlb;
   predictor = natural_of i.predictor;
+  history = natural_of i.history;
   costs = costs_of i.costs;
+  muldiv = option_map products_of i.muldiv;
+  targets = targets_of i.targets;
 }
 
 -- its numbers fit those of the code
@@ -104,6 +130,19 @@ pub record IsCache (most_sets : ℕ) (c : CacheShape) : Type 0 where
   pub few_ways : c.ways ≤ 16
   pub tree : c.policy ≡ Plru → IsTrue (is_power_of_two c.ways)
 
+-- what a product costs, and a step of a division; 0 where there are none
+abbrev pub mul_of : Option ProductCosts → ℕ
+mul_of None = 0
+mul_of (Some c) = c.mul
+
+abbrev pub div_of : Option ProductCosts → ℕ
+div_of None = 0
+div_of (Some c) = c.div
+
+-- no target buffer, or one of a power of two of places
+abbrev pub IsBuffer : ℕ → Type 0
+IsBuffer targets = IsTrue (targets == 0 || is_power_of_two targets)
+
 pub record IsHardware (h : Hardware) : Type 0 where
   pub least_frames : 64 ≤ h.frames
   pub most_frames : h.frames ≤ 4096
@@ -113,7 +152,12 @@ pub record IsHardware (h : Hardware) : Type 0 where
   pub l2 : IsCache 16384 h.l2
   pub tlb : IsCache 256 h.tlb
   pub predictor : IsSize 1 4096 h.predictor
+  pub few_history : h.history ≤ 8
   pub costs : AreCosts h.costs
+  pub few_mul : mul_of h.muldiv ≤ 1000
+  pub few_div : div_of h.muldiv ≤ 1000
+  pub few_targets : h.targets ≤ 256
+  pub targets : IsBuffer h.targets
   pub some_colours : 2 ≤ colours_of h
   pub few_colours : colours_of h ≤ 64
   pub whole_colours : colours_of h * 4096 ≡ h.l2.sets * h.line

@@ -1,7 +1,7 @@
 -- What contracts see of the machine in the code.
-use Rattle.std.specs.Prelude.{◌≡◌}
+use Rattle.std.specs.Prelude.{◌≡◌, option_map}
 use Rattle.image_text.specs.Record.{Raw}
-use Rattle.cycle_cost.specs.Models.{costs_of}
+use Rattle.cycle_cost.specs.Models.{costs_of, product_costs_of}
 use Rattle.hardware_check.specs.Hardware as spec
 use Rattle.hardware_check.specs.declared.hardware.CacheShape.{CacheShape}
 use Rattle.hardware_check.specs.declared.hardware.Caches.{Caches}
@@ -20,7 +20,10 @@ hardware_model h = record {
   l2 = shape_model h.l2;
   tlb = shape_model h.tlb;
   predictor = h.predictor;
+  history = h.history;
   costs = costs_of h.costs;
+  muldiv = option_map product_costs_of h.muldiv;
+  targets = h.targets;
 }
 
 -- the caches are those that an image says

@@ -5,13 +5,10 @@ use Rattle.std.specs.Int.{is_power_of_two}
 use Rattle.image_text.specs.declared.refusal.Refusal.{Refusal}
 use Rattle.image_text.specs.Record.{Raw, RawCache, RawCosts}
 use Rattle.hardware_check.specs.Cases.{or_else, first_in, refusal, outside, range_case}
+pub use Rattle.hardware_check.specs.Hardware.{is_size}
 use Rattle.hardware_check.specs.Hardware.{Hardware, natural_of, colours_of, shared_frames, last_shared_frame, hardware_of}
 
 -- ---- K3: the parts, 1 line, 2 l1i, 3 l1d, 4 l2, 5 tlb, 6 predictor
-
--- a power of two of the range
-abbrev pub is_size : ℕ → ℕ → ℤ → Bool
-is_size low high x = not (outside (pos low) (pos high) x) && is_power_of_two (natural_of x)
 
 abbrev pub size_case : ℕ → ℕ → ℕ → ℤ → Option Refusal
 size_case part low high x = if is_size low high x then None else Some (refusal 3 (pos part) x (pos 1))
@@ -34,6 +31,14 @@ ways_case part c =
 unfoldable pub cache_case : ℕ → ℕ → RawCache → Option Refusal
 cache_case part most c = or_else (size_case part 1 most c.sets) (ways_case part c)
 
+-- 2: outcomes that the predictor's index takes in
+abbrev pub history_case : ℤ → Option Refusal
+history_case x = if outside (pos 0) (pos 8) x then Some (refusal 3 (pos 6) x (pos 2)) else None
+
+-- its size, and its history
+unfoldable pub predictor_case : ℤ → ℤ → Option Refusal
+predictor_case size history = or_else (size_case 6 1 4096 size) (history_case history)
+
 unfoldable pub k3 : Raw → Option Refusal
 k3 i =
     or_else (size_case 1 16 128 i.line)
@@ -41,7 +46,7 @@ k3 i =
     (or_else (cache_case 3 1024 i.l1d)
     (or_else (cache_case 4 16384 i.l2)
     (or_else (cache_case 5 256 i.tlb)
-    (size_case 6 1 4096 i.predictor)))))
+    (predictor_case i.predictor i.history)))))
 
 -- ---- K4: 64 to 4,096 frames
 

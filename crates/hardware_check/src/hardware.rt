@@ -1,7 +1,7 @@
 // The machine: its sizes, policies and costs.
 ghost use Rattle.std.specs.Prelude.{◌*◌, ◌/◌, ◌≤◌};
 
-use cycle_cost::Costs;
+use cycle_cost::{Costs, ProductCosts};
 
 /// Which way of a full set gives up its line.
 #[derive(Clone, Copy, Debug, PartialEq, Eq)]
@@ -53,7 +53,14 @@ pub struct Hardware {
     pub tlb: CacheShape,
     /// The predictor's counters: a power of two up to 4,096.
     pub predictor: u32,
+    /// Outcomes of branches that the predictor's index takes in: 0 to 8.
+    pub history: u32,
     pub costs: Costs,
+    /// None where products and divisions (RV32M) are no instructions.
+    pub muldiv: Option<ProductCosts>,
+    /// Places of the target buffer: a power of two up to 256; 0 where there is no
+    /// such buffer.
+    pub targets: u32,
     pub ghost few_colours: { l2.sets * line / 4096 ≤ 64 },
 }
 

@@ -9,17 +9,11 @@ ghost use Rattle.hardware_check.specs.Laws.{KeepsParts};
 ghost use Rattle.hardware_check.specs.Models.{AreCaches, hardware_model};
 ghost use Rattle.hardware_check.specs.Rules.{is_region};
 
+use crate::extensions::{muldiv_of, targets_of};
 use crate::hardware::{Caches, Hardware};
+use crate::numbers::natural_of;
 use cycle_cost::Costs;
 use image_text::{Raw, RawCosts};
-
-/// A number that isn't negative.
-pub fn natural_of(number: i64) -> u64
-    requires natural { spec.IsNatural number }
-    ensures value { result ≡ spec.natural_of number }
-{
-    number as u64
-}
 
 #[tactic(auto, unfolding(crate::specs::Hardware::costs_of), using(crate::proofs::Parts::natural_cost))]
 fn costs_of(costs: &RawCosts) -> Costs
@@ -57,6 +51,9 @@ pub fn hardware_of(raw: &Raw, caches: Caches) -> Hardware
         l2: caches.l2,
         tlb: caches.tlb,
         predictor: natural_of(raw.predictor) as u32,
+        history: natural_of(raw.history) as u32,
         costs: costs_of(&raw.costs),
+        muldiv: muldiv_of(raw.muldiv),
+        targets: targets_of(raw.targets),
     }
 }

@@ -1,6 +1,5 @@
 // The rules of the machine, each with its first broken case.
 ghost use Rattle.std.specs.Prelude.{◌≡◌, ◌<◌, None, is_some, IfOk, IfSome};
-ghost use Rattle.std.specs.Int.{is_power_of_two as spec_is_power_of_two};
 ghost use Rattle.image_text.specs.Reads.{raw_model};
 ghost use Rattle.image_text.specs.Models.{cache_model};
 ghost use Rattle.hardware_check.specs.Cases.{first_in};
@@ -13,25 +12,9 @@ ghost use Rattle.hardware_check.specs.Rules as spec;
 
 use crate::cases::{outside, range_case, refusal};
 use crate::hardware::{CacheShape, Caches, Hardware, Policy};
-use crate::reading::{hardware_of, natural_of};
+use crate::numbers::{is_power_of_two, is_size, natural_of};
+use crate::reading::hardware_of;
 use image_text::{Raw, RawCache, Refusal};
-
-fn is_power_of_two(number: i64) -> bool
-    requires natural { IsNatural number }
-    ensures value { result ≡ spec_is_power_of_two (spec_natural_of number) }
-{
-    natural_of(number).is_power_of_two()
-}
-
-#[tactic(auto, using(crate::proofs::Parts::natural_inside))]
-fn is_size(low: u32, high: u32, number: i64) -> bool
-    ensures value { result ≡ spec.is_size low high number }
-{
-    if outside(i64::from(low), i64::from(high), number) {
-        return false;
-    }
-    is_power_of_two(number)
-}
 
 #[tactic(auto, using(crate::proofs::Parts::size_natural, crate::proofs::Parts::size_most))]
 fn size_case(part: u8, low: u32, high: u32, number: i64) -> Result<u32, Refusal>
@@ -100,8 +83,26 @@ fn cache_case(part: u8, most_sets: u32, cache: &RawCache) -> Result<CacheShape, 
     ways_case(part, sets, cache)
 }
 
+fn history_case(history: i64) -> Result<(), Refusal>
+    ensures verdict { IsVerdict result (spec.history_case history) }
+{
+    if outside(0, 8, history) {
+        return Err(refusal(3, 6, history, 2));
+    }
+    Ok(())
+}
+
+#[tactic(auto, unfolding(crate::specs::Rules::predictor_case))]
+fn predictor_case(size: i64, history: i64) -> Result<(), Refusal>
+    ensures verdict { IsVerdict result (spec.predictor_case size history) }
+{
+    size_case(6, 1, 4096, size)?;
+    history_case(history)
+}
+
 /// K3: the line, the caches, the translation buffer and the predictor have
-/// sizes, ways and policies that there are; so these caches.
+/// sizes, ways and policies that there are, and the predictor's history is not too
+/// long; so these caches.
 #[tactic(auto, unfolding(crate::specs::Rules::k3))]
 pub fn k3(raw: &Raw) -> Result<Caches, Refusal>
     ensures verdict { IsVerdict result (spec.k3 (raw_model raw.now)) }
@@ -112,7 +113,7 @@ pub fn k3(raw: &Raw) -> Result<Caches, Refusal>
     let l1d = cache_case(3, 1024, &raw.l1d)?;
     let l2 = cache_case(4, 16384, &raw.l2)?;
     let tlb = cache_case(5, 256, &raw.tlb)?;
-    size_case(6, 1, 4096, raw.predictor)?;
+    predictor_case(raw.predictor, raw.history)?;
     Ok(Caches { l1i, l1d, l2, tlb })
 }
 

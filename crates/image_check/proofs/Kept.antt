@@ -9,13 +9,15 @@ use Rattle.hardware_check.specs.Outcomes.{IsVerdictOrMemory}
 use Rattle.image_check.specs.Outcomes.{IsFirst}
 use Rattle.image_text.specs.Record.{Raw}
 use Rattle.hardware_check.specs.Cases.{first_in, refusal, count_case}
+use Rattle.hardware_check.specs.Extensions.{k22}
 use Rattle.hardware_check.specs.Laws.{KeepsParts, KeepsHardware}
 use Rattle.domain_check.specs.Names.{k7, k7_domain}
 use Rattle.image_check.specs.Schedule.{k16, k16_entry}
 use Rattle.image_check.specs.Pads.{k17}
 use Rattle.image_check.specs.Checking.{rules_before_pads, rules_after_pads, ended_by, followed_by, broken_of, broken, broken_but_pads, broken_before_pads}
-use Rattle.image_check.specs.Laws.{Keeps, KeepsButPads, KeepsBeforePads, HasPadsItem, AcceptanceLaw, ButPadsLaw, PadsLaw}
+use Rattle.image_check.specs.Laws.{Keeps, KeepsButPads, KeepsBeforePads, HasPadsItem, AcceptanceLaw, ButPadsLaw, PadsLaw, ExtensionsLaw}
 use Rattle.hardware_check.proofs.FirstCases.{or_first, or_rest, if_first}
+use Rattle.hardware_check.proofs.Products.{extensions_said}
 
 -- ---- the list is empty exactly where no rule has a broken case
 
@@ -79,18 +81,34 @@ pub kept_before_pads : (i : Raw) → broken_before_pads i ≡ [] → KeepsBefore
 unfolding broken_before_pads
 kept_before_pads i e = kept_before_those i [] e
 
+kept_after_pads : (i : Raw) → broken_of rules_after_pads i [] ≡ [] → k22 i ≡ None
+unfolding rules_after_pads
+kept_after_pads i e = none_here (k22 i) [] e
+
 pub kept_but_pads : (i : Raw) → broken_but_pads i ≡ [] → KeepsButPads i
 unfolding broken_but_pads
-kept_but_pads i e = record { before = kept_before_those i (broken_of rules_after_pads i []) e }
+kept_but_pads i e =
+    let later = broken_of rules_after_pads i [] in
+    record {
+      before = kept_before_those i later e;
+      extensions = kept_after_pads i (later_empty rules_before_pads i later e);
+    }
+
+pub extensions_law : ExtensionsLaw
+extensions_law i e = extensions_said i (kept_but_pads i e).extensions
 
 -- what is broken is what those after them leave
 later_alone : (i : Raw) (later : List Refusal) → KeepsBeforePads i → broken_of rules_before_pads i later ≡ later
 unfolding rules_before_pads
 later_alone i later k = rw (k.parts, k.frames, k.colours, k.costs, k.domains, k.named, k.apart, k.pools, k.shared, k.segments, k.capabilities, k.lines, k.moments, k.schedule) refl
 
-none_after_pads : (i : Raw) → KeepsButPads i → broken_of rules_after_pads i [] ≡ []
+-- the rule after that of pads is the last
+after_pads : (i : Raw) (o : Option Refusal) → k22 i ≡ o → broken_of rules_after_pads i [] ≡ ended_by o []
 unfolding rules_after_pads
-none_after_pads i k = refl
+after_pads i o e = ap (λ (p : Option Refusal). ended_by p []) e
+
+none_after_pads : (i : Raw) → KeepsButPads i → broken_of rules_after_pads i [] ≡ []
+none_after_pads i k = after_pads i None k.extensions
 
 unbroken_but_pads : (i : Raw) → KeepsButPads i → broken_but_pads i ≡ []
 unfolding broken_but_pads
@@ -99,10 +117,8 @@ unbroken_but_pads i k = later_alone i (broken_of rules_after_pads i []) k.before
 pub but_pads_law : ButPadsLaw
 but_pads_law i = (kept_but_pads i, unbroken_but_pads i)
 
--- no rule comes after that of pads
-pub but_pads_is : (i : Raw) → broken_but_pads i ≡ broken_before_pads i
-unfolding broken_but_pads broken_before_pads rules_after_pads
-but_pads_is i = refl
+pub others_kept : (i : Raw) → broken_before_pads i ≡ [] → k22 i ≡ None → broken_but_pads i ≡ []
+others_kept i before last = unbroken_but_pads i (record { before = kept_before_pads i before; extensions = last })
 
 -- ---- the rule of pads comes between the others
 
@@ -193,6 +209,35 @@ pub first_of_pads : {A : Type 0} → (i : Raw) (result : Result A ReadRefusal) �
 first_of_pads i (Ok x) before verdict = tt
 first_of_pads i (Err Memory) before verdict = tt
 first_of_pads i (Err (Broken r)) before verdict = ap (λ (rs : List Refusal). slice_get rs 0) (from_pads i (Some r) (kept_before_pads i before) verdict)
+
+-- the first of those before the rule of pads is the first without it, too
+pub first_of_others : {A : Type 0} → (i : Raw) (result : Result A ReadRefusal)
+    → IfErr result (IsFirst (broken_before_pads i)) → IfErr result (IsFirst (broken_but_pads i))
+unfolding broken_but_pads
+first_of_others i (Ok x) first = first
+first_of_others i (Err Memory) first = first
+first_of_others i (Err (Broken r)) first = first_before_pads i r (broken_of rules_after_pads i []) first
+
+-- where none but the last rule is broken
+last_but_pads : (i : Raw) (o : Option Refusal) → KeepsBeforePads i → k22 i ≡ o → broken_but_pads i ≡ ended_by o []
+unfolding broken_but_pads
+last_but_pads i o k e = later_alone i (broken_of rules_after_pads i []) k ∙ after_pads i o e
+
+pub last_of_others : {A : Type 0} → (i : Raw) (result : Result A ReadRefusal) → broken_before_pads i ≡ []
+    → IsVerdictOrMemory result (k22 i) → IfErr result (IsFirst (broken_but_pads i))
+last_of_others i (Ok x) before verdict = tt
+last_of_others i (Err Memory) before verdict = tt
+last_of_others i (Err (Broken r)) before verdict =
+    let due = last_but_pads i (Some r) (kept_before_pads i before) verdict in
+    ap (λ (rs : List Refusal). slice_get rs 0) due
+
+pub last_of_all : {A : Type 0} → (i : Raw) (result : Result A ReadRefusal) → broken_before_pads i ≡ []
+    → k17 i ≡ None → IsVerdictOrMemory result (k22 i) → IfErr result (IsFirst (broken i))
+last_of_all i (Ok x) before pads verdict = tt
+last_of_all i (Err Memory) before pads verdict = tt
+last_of_all i (Err (Broken r)) before pads verdict =
+    let due = from_pads i None (kept_before_pads i before) pads ∙ after_pads i (Some r) verdict in
+    ap (λ (rs : List Refusal). slice_get rs 0) due
 
 pub none_broken : (i : Raw) → broken_but_pads i ≡ [] → k17 i ≡ None → broken i ≡ []
 none_broken i others pads = unbroken i (record { others = kept_but_pads i others; pads = pads })

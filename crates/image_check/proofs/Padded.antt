@@ -1,5 +1,5 @@
 -- What the rule of pads gives, and the machine whose bound it asks for.
-use Rattle.std.proofs.Common.{◌≡◌, ℕ, ◌+◌, ◌-◌, ◌*◌, ◌%◌, ◌^◌, ◌<◌, ◌≤◌, false, length, map, take, get_or, None, sym, ap, subst, ◌∙◌, arith, inl, inr}
+use Rattle.std.proofs.Common.{◌≡◌, ℕ, ◌+◌, ◌-◌, ◌*◌, ◌%◌, ◌^◌, ◌<◌, ◌≤◌, false, length, map, take, get_or, Option, None, Some, sym, ap, subst, ◌∙◌, arith, inl, inr}
 use Rattle.std.specs.Prelude.{ℤ, pos, negsuc, int_lt}
 use Rattle.std.specs.Int.{IsPowerOfTwo}
 use Rattle.std.proofs.lemmas.Bool.{cases_lt}
@@ -10,15 +10,17 @@ use Rattle.std.proofs.Math.Nat.{mul-mod_left}
 use Rattle.std.proofs.Math.Pow.{pow_mono}
 use Rattle.set_cache.proofs.Powers.{power_is}
 use Rattle.image_text.specs.Record.{Raw, RawEntry}
+use Rattle.cycle_cost.specs.Costs.{ProductCosts}
+use Rattle.cycle_cost.specs.Ranges.{most_product}
 use Rattle.pad_bound.specs.Bound.{IsShape}
 use Rattle.pad_bound.proofs.Parts.{few_most}
 use Rattle.sched_table.specs.declared.schedule.Entry.{Entry}
 use Rattle.sched_table.specs.Schedule.{entry_in, no_entry}
 use Rattle.hardware_check.specs.Cases.{refusal}
-use Rattle.hardware_check.specs.Hardware.{Hardware, IsHardware, natural_of, hardware_of}
+use Rattle.hardware_check.specs.Hardware.{Hardware, mul_of, div_of, IsHardware, natural_of, hardware_of}
 use Rattle.hardware_check.proofs.Built.{hardware_law}
 use Rattle.hardware_check.proofs.FirstCases.{if_first, first_in_none}
-use Rattle.image_check.specs.Pads.{shape_of, bound_in, k17, k17_case, k17_entry}
+use Rattle.image_check.specs.Pads.{most_added, shape_of, bound_in, k17, k17_case, k17_entry}
 use Rattle.image_check.specs.Public.{entry_of}
 use Rattle.image_check.specs.Laws.{Keeps, KeepsBeforePads, ShapeLaw}
 use Rattle.image_check.proofs.Kept.{kept_but_pads, keeps_hardware}
@@ -40,6 +42,11 @@ whole_power k few =
 whole_frame : (line : ℕ) → IsPowerOfTwo line → line ≤ 128 → 4096 % line ≡ 0
 whole_frame line p few = let P : ℕ → Type 0 = λ n. n ≤ 128 → 4096 % n ≡ 0 in subst P (sym p.1) (whole_power p.0) few
 
+-- the larger of a product and of a division with 33 steps
+pub few_added : (o : Option ProductCosts) → mul_of o ≤ 1000 → div_of o ≤ 1000 → most_added o ≤ most_product
+few_added None mul div = omega arith
+few_added (Some c) mul div = omega (arith, mul, div)
+
 shape_sound : (h : Hardware) → IsHardware h → IsShape (shape_of h)
 shape_sound h s = record {
   costs = s.costs;
@@ -55,7 +62,7 @@ shape_sound h s = record {
   few_ways = s.l1d.few_ways;
   few_written = few_most h.line s.line.least;
   few_again = omega arith;
-  few_product = omega arith;
+  few_product = few_added h.muldiv s.few_mul s.few_div;
 }
 
 pub shape_before_pads : (i : Raw) → KeepsBeforePads i → IsShape (shape_of (hardware_of i))

@@ -3,6 +3,7 @@ use Rattle.std.specs.Prelude.{List, [], ◌∷◌, Option, Some, None}
 use Rattle.image_text.specs.declared.refusal.Refusal.{Refusal}
 use Rattle.image_text.specs.Record.{Raw}
 use Rattle.hardware_check.specs.Rules.{k3, k4, k5, k6, k11}
+use Rattle.hardware_check.specs.Extensions.{k22}
 use Rattle.domain_check.specs.Names.{k7}
 use Rattle.image_check.specs.Schedule.{k16}
 use Rattle.domain_check.specs.Colours.{k8, k9, k10}
@@ -15,9 +16,9 @@ use Rattle.image_check.specs.Pads.{k17}
 unfoldable pub rules_before_pads : List (Raw → Option Refusal)
 rules_before_pads = k3 ∷ k4 ∷ k5 ∷ k6 ∷ k7 ∷ k8 ∷ k9 ∷ k10 ∷ k11 ∷ k12 ∷ k13 ∷ k14 ∷ k15 ∷ k16 ∷ []
 
--- those after it: none yet
+-- that after it
 unfoldable pub rules_after_pads : List (Raw → Option Refusal)
-rules_after_pads = []
+rules_after_pads = k22 ∷ []
 
 -- a broken rule ends the tests
 abbrev pub ended_by : Option Refusal → List Refusal → List Refusal

@@ -10,6 +10,7 @@ use Rattle.domain_check.specs.declared.capabilities.InitialCap.TheVariants.{Page
 use Rattle.frame_colours.specs.Colours.{AreDisjoint, pool}
 use Rattle.hardware_check.specs.Hardware.{IsHardware, colours_of, hardware_of}
 use Rattle.hardware_check.specs.Rules.{k3, k4, k5, k6, k11}
+use Rattle.hardware_check.specs.Extensions.{k22, HasExtensions}
 use Rattle.domain_check.specs.Names.{k7}
 use Rattle.image_check.specs.Schedule.{k16}
 use Rattle.domain_check.specs.Colours.{k8, k9, k10}
@@ -45,6 +46,7 @@ pub record KeepsBeforePads (i : text.Raw) : Type 0 where
 -- no rule but that of pads has
 pub record KeepsButPads (i : text.Raw) : Type 0 where
   pub before : KeepsBeforePads i
+  pub extensions : k22 i ≡ None
 
 -- no rule has
 pub record Keeps (i : text.Raw) : Type 0 where
@@ -72,6 +74,10 @@ PadsLaw = (i : text.Raw) → (broken i ≡ broken_but_pads i) ⊎ HasPadsItem i 
 -- the bound is of a machine whose numbers are in their ranges
 abbrev pub ShapeLaw : Type 0
 ShapeLaw = (i : text.Raw) → broken_but_pads i ≡ [] → IsShape (shape_of (hardware_of i))
+
+-- products and the target buffer are those that the image says, in their ranges
+abbrev pub ExtensionsLaw : Type 0
+ExtensionsLaw = (i : text.Raw) → broken_but_pads i ≡ [] → HasExtensions i (hardware_of i)
 
 -- an image has one hart, whose entries are all of them, each at its place
 abbrev pub OneHartLaw : Type 0

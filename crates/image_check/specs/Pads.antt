@@ -2,12 +2,13 @@
 use Rattle.std.specs.Prelude.{ℕ, pos, int_lt, if◌then◌else◌, List, length, Option, Some, None}
 use Rattle.image_text.specs.declared.refusal.Refusal.{Refusal}
 use Rattle.image_text.specs.Record.{Raw, RawEntry}
+pub use Rattle.cycle_cost.specs.Costs.{most_added}
 use Rattle.pad_bound.specs.Bound.{MachineShape, most_written, bound_of}
 use Rattle.hardware_check.specs.Cases.{first_in, refusal}
 use Rattle.hardware_check.specs.Hardware.{Hardware, hardware_of}
 
--- what of a machine the bound depends on: each domain may make every call, the second level writes nothing back, and
--- there are no products
+-- what of a machine the bound depends on: each domain may make every call, and the second level writes nothing
+-- back
 abbrev pub shape_of : Hardware → MachineShape
 shape_of h = record {
   costs = h.costs;
@@ -17,7 +18,7 @@ shape_of h = record {
   ways = h.l1d.ways;
   written = most_written h.line;
   again = 0;
-  product = 0;
+  product = most_added h.muldiv;
 }
 
 -- of the machine that an image says

@@ -13,6 +13,7 @@ use crate::parts::parts_of;
 use crate::public::Public;
 use crate::unpadded::{Unpadded, image_of};
 use crate::{CheckRefusal, laws};
+use hardware_check::k22;
 use image_text::Raw;
 use std::alloc::Global;
 use std::marker::Model;
@@ -66,7 +67,7 @@ impl Checked {
 ///
 /// `Broken` with the first item of that list: the first broken rule, and the
 /// three numbers of its first broken case. `Memory` where memory runs out.
-#[tactic(auto, using(crate::proofs::Kept::none_broken, crate::proofs::Kept::but_pads_is))]
+#[tactic(auto, using(crate::proofs::Kept::none_broken, crate::proofs::Kept::others_kept))]
 pub fn check(alloc: Global, raw: Raw) -> Result<Checked, CheckRefusal>
     ensures refused { IfErr result (IsFirst (broken (raw_model raw))) }
     ensures accepted { IfOk result (λ c. broken c ≡ []) }
@@ -74,6 +75,7 @@ pub fn check(alloc: Global, raw: Raw) -> Result<Checked, CheckRefusal>
 {
     let parts = parts_of(alloc, &raw)?;
     k17(&parts.hardware, &raw)?;
+    k22(&raw)?;
     let image = image_of(alloc, raw, parts)?;
     Ok(Checked { image })
 }

@@ -1,6 +1,6 @@
 // What the rules give whoever runs an image.
 ghost use Rattle.image_check.specs.Laws.{AcceptanceLaw, ButPadsLaw, PadsLaw, ShapeLaw};
-ghost use Rattle.image_check.specs.Laws.{OneHartLaw, RunnableLaw};
+ghost use Rattle.image_check.specs.Laws.{ExtensionsLaw, OneHartLaw, RunnableLaw};
 
 /// The list of the rules that an image breaks is empty exactly where no rule has
 /// a broken case.
@@ -19,6 +19,13 @@ pub fn all_but_pads()
 /// numbers are in their ranges.
 pub fn shape()
     ensures shape { ShapeLaw }
+{}
+
+/// The products and the target buffer of an image that breaks no other rule than
+/// that of pads are those that it says, with costs of 1 to 1,000 cycles and a
+/// power of two of places up to 256.
+pub fn extensions()
+    ensures extensions { ExtensionsLaw }
 {}
 
 /// The entries of hart 0 are all entries of an image, each with its place.

@@ -1,5 +1,6 @@
 // The rule of pads: none is below the bound on a switch.
-ghost use Rattle.std.specs.Prelude.{◌≡◌, ◌<◌, ◌≤◌, ◌^◌, [], map};
+ghost use Rattle.std.specs.Prelude.{◌≡◌, ◌<◌, ◌≤◌, ◌^◌, [], map, option_map};
+ghost use Rattle.cycle_cost.specs.Models.{product_costs_of};
 ghost use Rattle.image_text.specs.Reads.{raw_model};
 ghost use Rattle.image_text.specs.Models.{entry_model};
 ghost use Rattle.pad_bound.specs.Models.{shape_model};
@@ -10,10 +11,21 @@ ghost use Rattle.hardware_check.specs.Outcomes.{IsVerdict};
 ghost use Rattle.image_check.specs.Checking.{broken_before_pads};
 ghost use Rattle.image_check.specs.Pads as spec;
 
+use cycle_cost::ProductCosts;
 use hardware_check::Hardware;
 use hardware_check::cases::refusal;
 use image_text::{Raw, RawEntry, Refusal};
 use pad_bound::{Shape, bound, most_written};
+
+/// The most that a product or a division adds to an instruction, in cycles.
+fn most_added(muldiv: Option<ProductCosts>) -> u32
+    ensures value { result ≡ spec.most_added (option_map product_costs_of muldiv) }
+{
+    match muldiv {
+        Some(costs) => costs.most(),
+        None => 0,
+    }
+}
 
 /// What of a machine the bound on a switch depends on.
 pub fn shape_of(hardware: &Hardware) -> Shape
@@ -28,7 +40,7 @@ pub fn shape_of(hardware: &Hardware) -> Shape
         ways: hardware.l1d.ways,
         written: most_written(hardware.line),
         again: 0,
-        product: 0,
+        product: most_added(hardware.muldiv),
     }
 }
 

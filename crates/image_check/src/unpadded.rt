@@ -19,6 +19,7 @@ use crate::own::{Own, owns_of};
 use crate::pads::shape_of;
 use crate::parts::{Parts, parts_of};
 use crate::public::{Public, public_of};
+use hardware_check::k22;
 use image_text::Raw;
 use pad_bound::Shape;
 use std::alloc::Global;
@@ -105,12 +106,13 @@ pub(crate) fn image_of(alloc: Global, raw: Raw, parts: Parts) -> Result<Unpadded
 ///
 /// `Broken` with the first item of that list without the rule of pads. `Memory`
 /// where memory runs out.
-#[tactic(auto, using(crate::proofs::Kept::but_pads_is))]
+#[tactic(auto, using(crate::proofs::Kept::others_kept))]
 pub fn check_but_pads(alloc: Global, raw: Raw) -> Result<Unpadded, CheckRefusal>
     ensures refused { IfErr result (IsFirst (broken_but_pads (raw_model raw))) }
     ensures accepted { IfOk result (λ u. broken_but_pads u ≡ []) }
     ensures same { IfOk result (λ u. u ≡ raw_model raw) }
 {
     let parts = parts_of(alloc, &raw)?;
+    k22(&raw)?;
     image_of(alloc, raw, parts)
 }

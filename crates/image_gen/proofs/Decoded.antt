@@ -1,5 +1,5 @@
 -- The words of a program decode to its instructions.
-use Rattle.std.proofs.Common.{◌≡◌, ℕ, ◌+◌, ◌*◌, ◌/◌, ◌%◌, ◌^◌, ◌<◌, ◌==◌, List, [], ◌∷◌, ◌++◌, map, Some, refl, sym, ap, ◌∙◌, inl, inr, arith, mod-lt}
+use Rattle.std.proofs.Common.{◌≡◌, ℕ, ◌+◌, ◌*◌, ◌/◌, ◌%◌, ◌^◌, ◌<◌, ◌==◌, List, [], ◌∷◌, ◌++◌, map, Some, refl, sym, ap, ◌∙◌, inl, inr, arith, mod-lt, Bool}
 use Rattle.std.proofs.lemmas.Bool.{cases_Bool}
 use Rattle.std.proofs.lemmas.List.{map-append}
 use Rattle.std.specs.List.{range_with_len}
@@ -57,44 +57,44 @@ immediate_b w s register low high sign = record { sign = omega arith; bit_11 = o
 
 -- ---- the eight kinds
 
-module _ (r s i j : ℕ) (few_r : r < 2 ^ 5) (few_s : s < 2 ^ 5) (few_i : i < 2048) (few_j : j < 2048) where
-  add : decode_of (encoded 0b0010011 r 0b000 s i) ≡ Some (Immediate Add r s i)
+module _ (muldiv : Bool) (r s i j : ℕ) (few_r : r < 2 ^ 5) (few_s : s < 2 ^ 5) (few_i : i < 2048) (few_j : j < 2048) where
+  add : decode_of muldiv (encoded 0b0010011 r 0b000 s i) ≡ Some (Immediate Add r s i)
   add =
       let f = fields_of 0b0010011 r 0b000 s i (omega arith) few_r (omega arith) few_s (omega arith) in
       let i_is = immediate_i _ i few_i f.high_is f.sign_is in
-      decode_of-word (Immediate Add r s i) _ f.small (f.opcode_is, (f.funct3_is, i_is), f.rd_is, f.rs1_is)
+      decode_of-word muldiv (Immediate Add r s i) _ f.small (f.opcode_is, (f.funct3_is, i_is), f.rd_is, f.rs1_is)
 
-  xor : decode_of (encoded 0b0110011 r 0b100 r s) ≡ Some (Register Xor r r s)
+  xor : decode_of muldiv (encoded 0b0110011 r 0b100 r s) ≡ Some (Register Xor r r s)
   xor =
       let f = fields_of 0b0110011 r 0b100 r s (omega arith) few_r (omega arith) few_r (omega arith) in
-      decode_of-word (Register Xor r r s) _ f.small (f.opcode_is, (f.funct3_is, f.funct7_is ∙ omega arith), f.rd_is, f.rs1_is, f.rs2_is ∙ omega arith)
+      decode_of-word muldiv (Register Xor r r s) _ f.small (f.opcode_is, (f.funct3_is, f.funct7_is ∙ omega arith), f.rd_is, f.rs1_is, f.rs2_is ∙ omega arith)
 
-  load : decode_of (encoded 0b0000011 r 0b010 5 j) ≡ Some (Load LoadWord r 5 j)
+  load : decode_of muldiv (encoded 0b0000011 r 0b010 5 j) ≡ Some (Load LoadWord r 5 j)
   load =
       let f = fields_of 0b0000011 r 0b010 5 j (omega arith) few_r (omega arith) (omega arith) (omega arith) in
-      decode_of-word (Load LoadWord r 5 j) _ f.small (f.opcode_is, f.funct3_is, f.rd_is, f.rs1_is, immediate_i _ j few_j f.high_is f.sign_is)
+      decode_of-word muldiv (Load LoadWord r 5 j) _ f.small (f.opcode_is, f.funct3_is, f.rd_is, f.rs1_is, immediate_i _ j few_j f.high_is f.sign_is)
 
-  store : decode_of (encoded 0b0100011 (j % 32) 0b010 5 (j / 32 * 32 + r)) ≡ Some (Store StoreWord 5 r j)
+  store : decode_of muldiv (encoded 0b0100011 (j % 32) 0b010 5 (j / 32 * 32 + r)) ≡ Some (Store StoreWord 5 r j)
   store =
       let f = fields_of 0b0100011 (j % 32) 0b010 5 (j / 32 * 32 + r) (omega arith) (omega arith) (omega arith) (omega arith) (omega arith) in
-      decode_of-word (Store StoreWord 5 r j) _ f.small (f.opcode_is, f.funct3_is, f.rs1_is, f.rs2_is ∙ omega arith, immediate_s _ j r few_j few_r f.rd_is f.funct7_is f.sign_is)
+      decode_of-word muldiv (Store StoreWord 5 r j) _ f.small (f.opcode_is, f.funct3_is, f.rs1_is, f.rs2_is ∙ omega arith, immediate_s _ j r few_j few_r f.rd_is f.funct7_is f.sign_is)
 
-  less : decode_of (encoded 0b0110011 r 0b010 s r) ≡ Some (Register SetLess r s r)
+  less : decode_of muldiv (encoded 0b0110011 r 0b010 s r) ≡ Some (Register SetLess r s r)
   less =
       let f = fields_of 0b0110011 r 0b010 s r (omega arith) few_r (omega arith) few_s (omega arith) in
-      decode_of-word (Register SetLess r s r) _ f.small (f.opcode_is, (f.funct3_is, f.funct7_is ∙ omega arith), f.rd_is, f.rs1_is, f.rs2_is ∙ omega arith)
+      decode_of-word muldiv (Register SetLess r s r) _ f.small (f.opcode_is, (f.funct3_is, f.funct7_is ∙ omega arith), f.rd_is, f.rs1_is, f.rs2_is ∙ omega arith)
 
-  cycles : decode_of (encoded 0b1110011 r 0b010 0 0xC00) ≡ Some (ReadCounter Cycle r)
+  cycles : decode_of muldiv (encoded 0b1110011 r 0b010 0 0xC00) ≡ Some (ReadCounter Cycle r)
   cycles =
       let f = fields_of 0b1110011 r 0b010 0 0xC00 (omega arith) few_r (omega arith) (omega arith) (omega arith) in
-      decode_of-word (ReadCounter Cycle r) _ f.small (f.opcode_is, (inl f.funct3_is, f.rs1_is), f.high_is, f.rd_is)
+      decode_of-word muldiv (ReadCounter Cycle r) _ f.small (f.opcode_is, (inl f.funct3_is, f.rs1_is), f.high_is, f.rd_is)
 
-  equal : decode_of (encoded 0b1100011 8 0b000 r s) ≡ Some (Branch Equal r s 8)
+  equal : decode_of muldiv (encoded 0b1100011 8 0b000 r s) ≡ Some (Branch Equal r s 8)
   equal =
       let f = fields_of 0b1100011 8 0b000 r s (omega arith) (omega arith) (omega arith) few_r (omega arith) in
-      decode_of-word (Branch Equal r s 8) _ f.small (f.opcode_is, f.funct3_is, f.rs1_is, f.rs2_is ∙ omega arith, immediate_b _ s few_s f.rd_is f.funct7_is f.sign_is)
+      decode_of-word muldiv (Branch Equal r s 8) _ f.small (f.opcode_is, f.funct3_is, f.rs1_is, f.rs2_is ∙ omega arith, immediate_b _ s few_s f.rd_is f.funct7_is f.sign_is)
 
-  kind_decoded : (kind : ℕ) → decode_of (instruction_of kind r s i j) ≡ Some (chosen_of kind r s i j)
+  kind_decoded : (kind : ℕ) → decode_of muldiv (instruction_of kind r s i j) ≡ Some (chosen_of kind r s i j)
   kind_decoded kind = elim (cases_Bool (kind == 0)) [
     | inl is ↦ rw is add
     | inr not0 ↦ elim (cases_Bool (kind == 1)) [
@@ -120,23 +120,23 @@ module _ (r s i j : ℕ) (few_r : r < 2 ^ 5) (few_s : s < 2 ^ 5) (few_i : i < 20
 
 -- ---- programs
 
-word_decoded : (w : ℕ) → decode_of (instruction w) ≡ Some (chosen w)
+word_decoded : (muldiv : Bool) (w : ℕ) → decode_of muldiv (instruction w) ≡ Some (chosen w)
 unfolding instruction chosen
-word_decoded w =
+word_decoded muldiv w =
     let r_within : w / 8 % 8 < 8 = mod-lt _ (omega arith) in
     let s_within : w / 64 % 8 < 8 = mod-lt _ (omega arith) in
     let i_within : w / 512 % 2048 < 2048 = mod-lt _ (omega arith) in
-    kind_decoded (first_register w) (second_register w) (number w) (offset w) (omega arith) (omega arith) i_within (omega arith) (w % 8)
+    kind_decoded muldiv (first_register w) (second_register w) (number w) (offset w) (omega arith) (omega arith) i_within (omega arith) (w % 8)
 
-words_decoded : (g : Lcg) (ks : List ℕ) → map decode_of (map (λ k. instruction (word g k)) ks) ≡ map Some (map (λ k. chosen (word g k)) ks)
-words_decoded g [] = refl
-words_decoded g (k ∷ ks) = rw (word_decoded (word g k), words_decoded g ks)
+words_decoded : (muldiv : Bool) (g : Lcg) (ks : List ℕ) → map (decode_of muldiv) (map (λ k. instruction (word g k)) ks) ≡ map Some (map (λ k. chosen (word g k)) ks)
+words_decoded muldiv g [] = refl
+words_decoded muldiv g (k ∷ ks) = rw (word_decoded muldiv (word g k), words_decoded muldiv g ks)
 
 pub decoded_law : DecodedLaw
 unfolding program instructions
-decoded_law g =
+decoded_law muldiv g =
     let ks = range_with_len 0 64 in
     ap (λ xs. map Some first_instructions ++ xs)
-    (map-append decode_of (map (λ k. instruction (word g k)) ks) last_words
-    ∙ ap (λ xs. xs ++ map decode_of last_words) (words_decoded g ks)
+    (map-append (decode_of muldiv) (map (λ k. instruction (word g k)) ks) last_words
+    ∙ ap (λ xs. xs ++ map (decode_of muldiv) last_words) (words_decoded muldiv g ks)
     ∙ sym (map-append Some (map (λ k. chosen (word g k)) ks) last_instructions))

@@ -15,7 +15,8 @@ use Rattle.frame_colours.specs.Colours.{pool}
 use Rattle.image_text.specs.Record.{Raw, RawDomain, RawEntry, RawMoment}
 use Rattle.hardware_check.specs.Cases.{or_else, first_case, first_in, outside}
 use Rattle.hardware_check.specs.Hardware.{hardware_of, shape_of, costs_of}
-use Rattle.hardware_check.specs.Rules.{k3, k4, k5, k6, k11, cache_case, ways_case, is_region, room_case}
+use Rattle.hardware_check.specs.Rules.{k3, k4, k5, k6, k11, cache_case, ways_case, predictor_case, is_region, room_case}
+use Rattle.hardware_check.specs.Extensions.{k22}
 use Rattle.image_check.specs.Own.{segment_of}
 use Rattle.image_check.specs.Pages.{has_region, regions_below, pages_in}
 use Rattle.domain_check.specs.Names.{k7, k7_domain}
@@ -152,7 +153,7 @@ unfolding policy_of
 policy_is seed = policy_by_is (seed % 3)
 
 parts_kept : (p : List ℕ) (ds : List RawDomain) (es : List RawEntry) → IsPolicy p → k3 (image_with p ds es) ≡ None
-unfolding k3 cache_case ways_case image_with ones
+unfolding k3 cache_case ways_case predictor_case image_with ones
 parts_kept p ds es (inl lru) = rw lru refl
 parts_kept p ds es (inr (inl fifo)) = rw fifo refl
 parts_kept p ds es (inr (inr plru)) = rw plru refl
@@ -172,6 +173,10 @@ costs_kept p ds es = refl
 shared_kept : (p : List ℕ) (ds : List RawDomain) (es : List RawEntry) → k11 (image_with p ds es) ≡ None
 unfolding k11 is_region room_case image_with hardware_of shape_of costs_of
 shared_kept p ds es = refl
+
+extensions_kept : (p : List ℕ) (ds : List RawDomain) (es : List RawEntry) → k22 (image_with p ds es) ≡ None
+unfolding k22 image_with
+extensions_kept p ds es = refl
 
 bound_is : (p : List ℕ) (ds : List RawDomain) (es : List RawEntry) → bound_in (image_with p ds es) ≡ 6150
 unfolding bound_in image_with hardware_of shape_of costs_of bound_of worst_instruction worst_operation worst_leave worst_prefetch worst_flush worst_enter
@@ -273,6 +278,7 @@ keeps seed =
           moments = no_case k15_domain [] ds (passes_map k15_domain _ (λ d e. moments_kept d (h d) (at d) e) ns);
           schedule = schedule_kept p h m w seed;
         };
+        extensions = extensions_kept p ds es;
       };
       pads = pads_kept p ds w (count seed);
     }

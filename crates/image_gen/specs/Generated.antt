@@ -1,6 +1,6 @@
 -- The record of the image that a seed makes: two to five domains on one machine, each with a program and interrupts of its
 -- own, and a schedule of one slot for each.
-use Rattle.std.specs.Prelude.{ℕ, ◌+◌, ◌*◌, ◌%◌, ◌==◌, if◌then◌else◌, ℤ, pos, List, [], ◌∷◌, ◌++◌, map, codes, decimal}
+use Rattle.std.specs.Prelude.{ℕ, ◌+◌, ◌*◌, ◌%◌, ◌==◌, if◌then◌else◌, ℤ, pos, List, [], ◌∷◌, ◌++◌, map, codes, decimal, None}
 use Rattle.std.specs.List.{range_with_len}
 use Rattle.hex.specs.Hex.{encode_lower}
 use Rattle.rand_pcg.specs.Lcg.{Lcg}
@@ -72,7 +72,7 @@ costs = record {
   flush = pos 20;
 }
 
--- eight colours
+-- eight colours; no history, no products and no target buffer
 unfoldable pub image_with : List ℕ → List RawDomain → List RawEntry → Raw
 image_with policy domains schedule = record {
   frames = pos 128;
@@ -83,7 +83,10 @@ image_with policy domains schedule = record {
   l2 = cache (pos 512) (pos 4) policy;
   tlb = cache (pos 4) (pos 2) (codes "lru");
   predictor = pos 16;
+  history = pos 0;
   costs = costs;
+  muldiv = None;
+  targets = None;
   domains = domains;
   schedule = schedule;
 }

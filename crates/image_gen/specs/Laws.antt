@@ -1,5 +1,5 @@
 -- What holds of the image of every seed.
-use Rattle.std.specs.Prelude.{◌≡◌, ℕ, ◌<◌, ◌^◌, [], map, Some}
+use Rattle.std.specs.Prelude.{◌≡◌, ℕ, ◌<◌, ◌^◌, Bool, [], map, Some}
 use Rattle.rand_pcg.specs.Lcg.{Lcg}
 use Rattle.rv_decode.specs.Table.{decode_of}
 use Rattle.image_check.specs.Checking.{broken}
@@ -11,6 +11,6 @@ use Rattle.image_gen.specs.Generated.{generated}
 abbrev pub AcceptedLaw : Type 0
 AcceptedLaw = (seed : ℕ) → seed < 2 ^ 64 → broken (generated seed) ≡ []
 
--- the words of a program decode to its instructions
+-- the words of a program decode to its instructions, on a machine with products and divisions or without
 abbrev pub DecodedLaw : Type 0
-DecodedLaw = (g : Lcg) → map decode_of (program g) ≡ map Some (instructions g)
+DecodedLaw = (muldiv : Bool) (g : Lcg) → map (decode_of muldiv) (program g) ≡ map Some (instructions g)

@@ -1,4 +1,4 @@
--- Row 26 beside rows of later keys: a table in a place where none is wanted is looked into. The key table has no such rows yet.
+-- Row 26 beside rows of later keys of any kind: a table in a place where none is wanted is looked into.
 use Rattle.std.specs.Prelude.{◌≡◌, ℕ, Bool, true, false, List, [], ◌∷◌, map, codes, Option, Some, option_map}
 use Rattle.toml.specs.Parse.{parse_document}
 use Rattle.image_text.specs.declared.kinds.Place.TheVariants.{Top}

@@ -1,7 +1,7 @@
 // What no clause says: that the key table is the format's, row by row, and that an image is read.
 use image_text::{
-    Raw, RawCache, RawCosts, RawDomain, RawEntry, RawMoment, RawSegment, ReadRefusal, Refusal,
-    read_image,
+    Raw, RawCache, RawCosts, RawDomain, RawEntry, RawMoment, RawMuldiv, RawSegment, ReadRefusal,
+    Refusal, read_image,
 };
 use std::alloc::Global;
 use std::process::Abort;
@@ -116,6 +116,30 @@ const OF_ENTRIES: [Change; 4] = [
     ("pad = 6150", "pad = 6150.0", 25, 0),
 ];
 
+const OF_LATER_KEYS: [Change; 16] = [
+    ("= 16\n", "= 16\nhistory = \"8\"\n", 30, 0),
+    ("= 16\n", "= 16\nhistory = 1.0\n", 30, 0),
+    ("= 16\n", "= 16\nmuldiv = 4\n", 37, 0),
+    ("= 16\n", "= 16\nmuldiv = []\n", 37, 0),
+    ("= 16\n", "= 16\nmuldiv = {}\n", 37, 0),
+    ("= 16\n", "= 16\nmuldiv = { div = 2 }\n", 37, 0),
+    ("= 16\n", "= 16\nmuldiv = { mul = 4 }\n", 37, 0),
+    ("= 16\n", "= 16\nmuldiv = { mul = \"4\", div = 2 }\n", 37, 0),
+    ("= 16\n", "= 16\ntargets = \"16\"\n", 38, 0),
+    ("= 16\n", "= 16\ntargets = true\n", 38, 0),
+    ("= 16\n", "= 16\nhistory = true\nmuldiv = 4\n", 30, 0),
+    ("= 16\n", "= 16\nmuldiv = 4\ntargets = []\n", 37, 0),
+    (
+        "= 16\n",
+        "= 16\nmuldiv = { mul = 4, div = \"2\", rem = 1 }\n",
+        26,
+        0,
+    ),
+    ("= 16\n", "= 16\ntargets = { x = 1 }\n", 26, 0),
+    ("[2]\n", "[2]\nhistory = 1\n", 26, 0),
+    ("domain = 1\n", "history = true\n", 23, 1),
+];
+
 const OF_OTHER_KEYS: [Change; 9] = [
     ("frames", "x = 1\nframes", 26, 0),
     ("frames", "caps = []\nframes", 26, 0),
@@ -199,6 +223,7 @@ fn a_broken_row_is_named(rt: HostRuntime) {
     all_break(&rt, alloc, &OF_DOMAINS);
     all_break(&rt, alloc, &OF_ENTRIES);
     all_break(&rt, alloc, &OF_OTHER_KEYS);
+    all_break(&rt, alloc, &OF_LATER_KEYS);
     expect(&rt, with_segments(alloc, 16), by(2, 14, 1));
     expect(&rt, answer(alloc, b""), by(2, 1, 0));
     expect(&rt, answer(alloc, b"frames = "), by(1, 0, 0));
@@ -238,7 +263,11 @@ fn numbers_are_read_as_they_are_written(rt: HostRuntime) {
 
 /// Texts of the image, and what stands in their place where numbers differ and
 /// blue has optional keys.
-const FULL: [(&str, &str); 4] = [
+const FULL: [(&str, &str); 5] = [
+    (
+        "= 16\n",
+        "= 16\nhistory = -3\nmuldiv = { mul = 0, div = 1001 }\ntargets = 3\n",
+    ),
     (
         "[2]\n",
         "[2]\ncaps = [\"irq 3\", \"page 32\"]\nlines = [3, -5]\nmoments = [[9000, 3], [25000, -1]]\n",
@@ -290,10 +319,24 @@ fn is_machine(rt: &impl Abort, raw: &Raw) {
         &[64, 512, 64, 16],
     );
     assert_eq!(rt; raw.costs, costs);
+    has_later(rt, raw, -3, Some(RawMuldiv { mul: 0, div: 1001 }), Some(3));
     is_cache(rt, &raw.l1i, 32, 1, "fifo");
     is_cache(rt, &raw.l1d, 16, 2, "lru");
     is_cache(rt, &raw.l2, 256, 4, "lru");
     is_cache(rt, &raw.tlb, 4, 2, "lru");
+}
+
+fn has_later(
+    rt: &impl Abort,
+    raw: &Raw,
+    history: i64,
+    muldiv: Option<RawMuldiv>,
+    targets: Option<i64>,
+) {
+    assert_eq!(rt;
+        (raw.history, raw.muldiv, raw.targets),
+        (history, muldiv, targets)
+    );
 }
 
 fn is_code(rt: &impl Abort, segment: &RawSegment, hex: &str) {
@@ -369,5 +412,12 @@ fn an_image_gives_its_record(rt: HostRuntime) -> Result<(), Fail> {
     assert_eq!(rt; raw.domains.len(), 2);
     is_red(&rt, &raw.domains[0]);
     is_blue(&rt, &raw.domains[1]);
+    Ok(())
+}
+
+#[test]
+fn what_is_missing_is_none(rt: HostRuntime) -> Result<(), Fail> {
+    let raw = read_image(rt.alloc(), IMAGE.as_bytes())?;
+    has_later(&rt, &raw, 0, None, None);
     Ok(())
 }

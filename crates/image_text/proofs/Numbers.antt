@@ -1,15 +1,15 @@
 -- The numbers of an image that is read are those of its text.
-use Rattle.std.proofs.Common.{◌≡◌, ℕ, ◌&&◌, nat_le, pos, negsuc, Bool, true, false, List, ◌∷◌, take, drop, codes, Option, Some, None, Ok, IfOk, refl, sym, subst, ap, ◌∙◌, inl, inr}
+use Rattle.std.proofs.Common.{◌≡◌, ℕ, ◌&&◌, nat_le, pos, negsuc, Bool, true, false, List, ◌∷◌, take, drop, codes, Option, Some, None, option_map, Ok, IfOk, refl, sym, subst, ap, ◌∙◌, inl, inr}
 use Rattle.std.proofs.lemmas.Bool.{and_parts, true≢false}
 use Rattle.std.proofs.lemmas.Result.{IfOk-at_ok}
-use Rattle.toml.specs.Data.{Data, Items, no_items, item, Members, get_member, as_array, as_table}
-use Rattle.image_text.specs.Rows.{Row, Field, Kind, One, Array, SomeTables, Pairs, Fields, needs, may_have, integer, fits_one, all_items, count_items, some_tables, is_pair, is_pair_value, in_array, has_one, has_field, has_all, in_fields, cache_fields, cost_fields, fits, fits_if, whole_in, whole_item, whole_segments, items_or_none, items_at, broken_in, Broken, first_broken, key_rows}
+use Rattle.toml.specs.Data.{Data, Items, no_items, item, Members, get_member, as_integer, as_array, as_table}
+use Rattle.image_text.specs.Rows.{Row, Field, Kind, One, Array, SomeTables, Pairs, Fields, needs, may_have, integer, fits_one, all_items, count_items, some_tables, is_pair, is_pair_value, in_array, has_one, has_field, has_all, in_fields, cache_fields, cost_fields, muldiv_fields, fits, fits_if, whole_in, whole_item, whole_segments, items_or_none, items_at, broken_in, Broken, first_broken, key_rows}
 use Rattle.image_text.specs.Unknown.{broken_key}
-use Rattle.image_text.specs.Record.{integer_of, integer_at, ranged, map_items, table_of, cache_of, costs_of, segment_of, segment_in, moment_in, domain_of, domain_in, entry_of, entry_in, record_of, read_whole, read_table, image_of}
-use Rattle.image_text.specs.Numbers.{IsInteger, IntegerAt, TableAt, Each, ArrayAt, ArrayIfAt, IsTableOf, CacheNumbers, CostNumbers, SegmentNumbers, IsMoment, DomainNumbers, EntryNumbers, Numbers, NumbersLaw}
+use Rattle.image_text.specs.Record.{integer_of, integer_at, ranged, map_items, table_of, cache_of, costs_of, muldiv_of, muldiv_at, integer_if, targets_at, table_if, segment_of, segment_in, moment_in, domain_of, domain_in, entry_of, entry_in, record_of, read_whole, read_table, image_of}
+use Rattle.image_text.specs.Numbers.{IsInteger, IntegerAt, IntegerOrZeroAt, IntegerIfAt, TableAt, TableIfAt, Each, ArrayAt, ArrayIfAt, IsTableOf, CacheNumbers, CostNumbers, MuldivNumbers, SegmentNumbers, IsMoment, DomainNumbers, EntryNumbers, Numbers, NumbersLaw}
 use Rattle.image_text.specs.declared.kinds.Simple.TheVariants.{Integer, Within, Table}
 use Rattle.image_text.specs.declared.kinds.Place.TheVariants.{Top as TopPlace, Domain as DomainPlace, Segment as SegmentPlace, Entry as EntryPlace}
-use Rattle.image_text.proofs.WholeRows.{all_pass, holds_if, whole_from, first_whole, rows_whole}
+use Rattle.image_text.proofs.WholeRows.{all_pass, holds_if, whole_from, first_whole, rows_whole, later_whole}
 
 -- ---- values
 
@@ -141,6 +141,52 @@ fields_at fields key t P one h =
     let full : get_member key t ≡ Some (Data.table f.table) = s.is ∙ ap (λ d. Some d) f.is in
     record { table = f.table; stands = full; holds = subst (λ o. P (table_of o) f.table) (sym full) (one f.table f.holds) }
 
+-- ---- at a key that may be missing
+
+module _ (key : List ℕ) (t : Members) where
+  integer_or_zero : (o : Option Data) → get_member key t ≡ o → fits_if false (One Integer) o ≡ true
+      → IntegerOrZeroAt key t (integer_at key t)
+  integer_or_zero None e h = inl (e, ap integer_of e)
+  integer_or_zero (Some d) e h =
+      let here = subst (λ o. fits_if true (One Integer) o ≡ true) (sym e) h in
+      inr (integer_in (get_member key t) here)
+
+  integer_if_here : (d : Data) → get_member key t ≡ Some d → fits_one Integer d ≡ true
+      → IntegerIfAt key t (as_integer d)
+  integer_if_here (Data.integer z) e h = e
+  integer_if_here (Data.string s) e h = no h
+  integer_if_here (Data.float x) e h = no h
+  integer_if_here (Data.boolean b) e h = no h
+  integer_if_here (Data.datetime u) e h = no h
+  integer_if_here (Data.array ds) e h = no h
+  integer_if_here (Data.table u) e h = no h
+
+  integer_if_found : (o : Option Data) → get_member key t ≡ o → fits_if false (One Integer) o ≡ true
+      → IntegerIfAt key t (integer_if o)
+  unfolding fits
+  integer_if_found None e h = e
+  integer_if_found (Some d) e h = integer_if_here d e h
+
+  table_if_here : {A : Type 0} (fields : List Field) (make : Members → A) (P : A → Members → Type 0)
+      → ((u : Members) → has_all fields u ≡ true → P (make u) u)
+      → (d : Data) → get_member key t ≡ Some d → in_fields fields (as_table d) ≡ true
+      → TableIfAt key t P (option_map make (as_table d))
+  table_if_here fields make P one (Data.table u) e h = record { table = u; stands = e; holds = one u h }
+  table_if_here fields make P one (Data.integer z) e h = no h
+  table_if_here fields make P one (Data.string s) e h = no h
+  table_if_here fields make P one (Data.float x) e h = no h
+  table_if_here fields make P one (Data.boolean b) e h = no h
+  table_if_here fields make P one (Data.datetime u) e h = no h
+  table_if_here fields make P one (Data.array ds) e h = no h
+
+  table_if_found : {A : Type 0} (fields : List Field) (make : Members → A) (P : A → Members → Type 0)
+      → ((u : Members) → has_all fields u ≡ true → P (make u) u)
+      → (o : Option Data) → get_member key t ≡ o → fits_if false (Fields fields) o ≡ true
+      → TableIfAt key t P (option_map make (table_if o))
+  unfolding fits
+  table_if_found fields make P one None e h = e
+  table_if_found fields make P one (Some d) e h = table_if_here fields make P one d e h
+
 module _ {A : Type 0} (key : List ℕ) (t : Members) (kind : Kind) (p : Items → Bool) (f : Data → A) (Is : Data → A → Type 0)
     (arrays : (d : Data) → fits kind d ≡ true → in_array p (as_array d) ≡ true)
     (one : (ds : Items) → items_at key t ≡ ds → p ds ≡ true → Each Is ds (map_items f ds)) where
@@ -194,6 +240,13 @@ cost_numbers u h =
       trap = field_in _ k.0;
       flush = field_in _ l.0;
     }
+
+muldiv_numbers : (u : Members) → has_all muldiv_fields u ≡ true → MuldivNumbers (muldiv_of u) u
+unfolding muldiv_fields muldiv_of
+muldiv_numbers u h =
+    let a = and_parts (has_field (integer (codes "mul")) u) _ h in
+    let b = and_parts (has_field (integer (codes "div")) u) _ a.1 in
+    record { mul = field_in _ a.0; div = field_in _ b.0 }
 
 -- ---- segments
 
@@ -352,10 +405,35 @@ entries_each ds tables domain length pad =
 
 -- ---- the rows of the table
 
-module _ (t : Members) (whole : first_broken 1 (take 25 key_rows) t ≡ None) where
+module _ (t : Members) (whole : first_broken 1 (take 25 key_rows) t ≡ None)
+    (later : first_broken 1 (drop 25 key_rows) t ≡ None) where
   -- row n + 1
   row : (n : ℕ) (r : Row) (rest : List Row) → drop n (take 25 key_rows) ≡ r ∷ rest → broken_in 1 r t ≡ None
   row n r rest e = first_whole 1 r rest t (subst (λ rows. first_broken 1 rows t ≡ None) e (whole_from 1 n (take 25 key_rows) t whole))
+
+  -- of those after row 25
+  later_row : (n : ℕ) (r : Row) (rest : List Row) → drop n (drop 25 key_rows) ≡ r ∷ rest
+      → broken_in 1 r t ≡ None
+  later_row n r rest e =
+      let from = subst (λ rows. first_broken 1 rows t ≡ None) e (whole_from 1 n (drop 25 key_rows) t later) in
+      first_whole 1 r rest t from
+
+  history : broken_in 1 (may_have 30 TopPlace (codes "history") (One Integer)) t ≡ None
+      → IntegerOrZeroAt (codes "history") t (integer_at (codes "history") t)
+  unfolding broken_in whole_in
+  history h = integer_or_zero (codes "history") t (get_member (codes "history") t) refl (holds_if _ h)
+
+  muldiv : broken_in 1 (may_have 37 TopPlace (codes "muldiv") (Fields muldiv_fields)) t ≡ None
+      → TableIfAt (codes "muldiv") t MuldivNumbers (muldiv_at t)
+  unfolding broken_in whole_in
+  muldiv h =
+      let found = get_member (codes "muldiv") t in
+      table_if_found (codes "muldiv") t muldiv_fields muldiv_of MuldivNumbers muldiv_numbers found refl (holds_if _ h)
+
+  targets : broken_in 1 (may_have 38 TopPlace (codes "targets") (One Integer)) t ≡ None
+      → IntegerIfAt (codes "targets") t (targets_at t)
+  unfolding broken_in whole_in
+  targets h = integer_if_found (codes "targets") t (get_member (codes "targets") t) refl (holds_if _ h)
 
   number : (key : List ℕ) (n : ℕ) → broken_in 1 (needs n TopPlace key (One Integer)) t ≡ None → IntegerAt key t (integer_at key t)
   unfolding broken_in whole_in
@@ -423,7 +501,10 @@ module _ (t : Members) (whole : first_broken 1 (take 25 key_rows) t ≡ None) wh
     l2 = cache (codes "l2") 6 (row 5 (needs 6 TopPlace (codes "l2") (Fields cache_fields)) _ refl);
     tlb = cache (codes "tlb") 7 (row 6 (needs 7 TopPlace (codes "tlb") (Fields cache_fields)) _ refl);
     predictor = number (codes "predictor") 8 (row 7 (needs 8 TopPlace (codes "predictor") (One Integer)) _ refl);
+    history = history (later_row 0 (may_have 30 TopPlace (codes "history") (One Integer)) _ refl);
     costs = costs (row 8 (needs 9 TopPlace (codes "costs") (Fields cost_fields)) _ refl);
+    muldiv = muldiv (later_row 1 (may_have 37 TopPlace (codes "muldiv") (Fields muldiv_fields)) _ refl);
+    targets = targets (later_row 2 (may_have 38 TopPlace (codes "targets") (One Integer)) _ refl);
     domains = domains;
     schedule = schedule;
   }
@@ -431,7 +512,7 @@ module _ (t : Members) (whole : first_broken 1 (take 25 key_rows) t ≡ None) wh
 -- ---- the image that bytes are
 
 of_whole : (t : Members) (b : Option Broken) → broken_key t ≡ b → IfOk (read_whole t b) (Numbers t)
-of_whole t None h = numbers t (rows_whole t h)
+of_whole t None h = numbers t (rows_whole t h) (later_whole t h)
 of_whole t (Some b) h = tt
 
 pub numbers_law : NumbersLaw

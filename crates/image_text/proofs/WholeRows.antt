@@ -3,7 +3,7 @@ use Rattle.std.proofs.Common.{◌≡◌, ℕ, zero, suc, ◌+◌, Bool, true, fa
 use Rattle.std.proofs.lemmas.Option.{none-some}
 use Rattle.toml.specs.Data.{Data, Items, no_items, item, Members}
 use Rattle.image_text.specs.Rows.{Row, all_items, first_failing, broken_in, Broken, first_or, first_broken, key_rows}
-use Rattle.image_text.specs.Unknown.{or_broken, broken_key}
+use Rattle.image_text.specs.Unknown.{or_broken, or_unknown, broken_key}
 
 -- ---- items
 
@@ -52,3 +52,15 @@ no_first (Some b) rest h = absurd (none-some b (sym h))
 pub rows_whole : (t : Members) → broken_key t ≡ None → first_broken 1 (take 25 key_rows) t ≡ None
 unfolding broken_key
 rows_whole t h = no_first _ _ h
+
+no_later : (first rest : Option Broken) → or_broken first rest ≡ None → rest ≡ None
+no_later None rest h = h
+no_later (Some b) rest h = absurd (none-some b (sym h))
+
+all_known_then : (known : Bool) (rest : Option Broken) → or_unknown known rest ≡ None → rest ≡ None
+all_known_then true rest h = h
+all_known_then false rest h = absurd (none-some _ (sym h))
+
+pub later_whole : (t : Members) → broken_key t ≡ None → first_broken 1 (drop 25 key_rows) t ≡ None
+unfolding broken_key
+later_whole t h = all_known_then _ _ (no_later _ _ h)

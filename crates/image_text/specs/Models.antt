@@ -9,6 +9,7 @@ use Rattle.image_text.specs.declared.kinds.Kind.{Kind}
 use Rattle.image_text.specs.declared.kinds.Kind.TheVariants.{One, Array, SomeTables, Pairs, Fields}
 use Rattle.image_text.specs.declared.raw.RawCache.{RawCache}
 use Rattle.image_text.specs.declared.raw.RawCosts.{RawCosts}
+use Rattle.image_text.specs.declared.raw.RawMuldiv.{RawMuldiv}
 use Rattle.image_text.specs.declared.raw.RawSegment.{RawSegment}
 use Rattle.image_text.specs.declared.raw.RawMoment.{RawMoment}
 use Rattle.image_text.specs.declared.raw.RawDomain.{RawDomain}
@@ -49,6 +50,9 @@ costs_model c = record {
   trap = c.trap;
   flush = c.flush;
 }
+
+abbrev pub muldiv_model : RawMuldiv → record_spec.RawMuldiv
+muldiv_model c = record { mul = c.mul; div = c.div }
 
 abbrev pub segment_model : RawSegment → record_spec.RawSegment
 segment_model s = record { page = s.page; pages = s.pages; rights = string_bytes s.rights; hex = string_bytes s.hex }

@@ -1,7 +1,7 @@
 -- The numbers of a record are those of its text: at each key of an integer stands, in the table that TOML finds in the bytes, the very number of the record.
-use Rattle.std.specs.Prelude.{◌≡◌, ℕ, ℤ, pos, List, [], ◌∷◌, codes, Some, None, Ok, ◌⊎◌}
+use Rattle.std.specs.Prelude.{◌≡◌, ℕ, ℤ, pos, List, [], ◌∷◌, codes, Option, Some, None, Ok, ◌⊎◌}
 use Rattle.toml.specs.Data.{Data, Items, no_items, item, Members, get_member}
-use Rattle.image_text.specs.Record.{RawCache, RawCosts, RawSegment, RawMoment, RawDomain, RawEntry, Raw, document, image_of}
+use Rattle.image_text.specs.Record.{RawCache, RawCosts, RawMuldiv, RawSegment, RawMoment, RawDomain, RawEntry, Raw, document, image_of}
 
 -- ---- what stands at a key
 
@@ -16,6 +16,19 @@ pub record TableAt (key : List ℕ) (t : Members) (P : Members → Type 0) : Typ
   pub table : Members
   pub stands : get_member key t ≡ Some (Data.table table)
   pub holds : P table
+
+-- where it is missing, the number is 0
+abbrev pub IntegerOrZeroAt : List ℕ → Members → ℤ → Type 0
+IntegerOrZeroAt key t z = ((get_member key t ≡ None) × (z ≡ pos 0)) ⊎ IntegerAt key t z
+
+-- where it is missing, there is no number, and no part
+abbrev pub IntegerIfAt : List ℕ → Members → Option ℤ → Type 0
+IntegerIfAt key t None = get_member key t ≡ None
+IntegerIfAt key t (Some z) = IntegerAt key t z
+
+abbrev pub TableIfAt : {A : Type 0} → List ℕ → Members → (A → Members → Type 0) → Option A → Type 0
+TableIfAt key t P None = get_member key t ≡ None
+TableIfAt key t P (Some x) = TableAt key t (P x)
 
 -- each item is the value of a list, in order
 abbrev pub Each : {A : Type 0} → (Data → A → Type 0) → Items → List A → Type 0
@@ -53,6 +66,10 @@ pub record CostNumbers (c : RawCosts) (t : Members) : Type 0 where
   pub trap : IntegerAt (codes "trap") t c.trap
   pub flush : IntegerAt (codes "flush") t c.flush
 
+pub record MuldivNumbers (c : RawMuldiv) (t : Members) : Type 0 where
+  pub mul : IntegerAt (codes "mul") t c.mul
+  pub div : IntegerAt (codes "div") t c.div
+
 pub record SegmentNumbers (t : Members) (s : RawSegment) : Type 0 where
   pub page : IntegerAt (codes "page") t (pos s.page)
   pub pages : IntegerAt (codes "pages") t (pos s.pages)
@@ -83,7 +100,10 @@ pub record Numbers (t : Members) (i : Raw) : Type 0 where
   pub l2 : TableAt (codes "l2") t (CacheNumbers i.l2)
   pub tlb : TableAt (codes "tlb") t (CacheNumbers i.tlb)
   pub predictor : IntegerAt (codes "predictor") t i.predictor
+  pub history : IntegerOrZeroAt (codes "history") t i.history
   pub costs : TableAt (codes "costs") t (CostNumbers i.costs)
+  pub muldiv : TableIfAt (codes "muldiv") t MuldivNumbers i.muldiv
+  pub targets : IntegerIfAt (codes "targets") t i.targets
   pub domains : ArrayAt (codes "domain") t (IsTableOf DomainNumbers) i.domains
   pub schedule : ArrayAt (codes "schedule") t (IsTableOf EntryNumbers) i.schedule
 

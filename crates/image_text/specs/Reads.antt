@@ -1,7 +1,7 @@
 -- How a reader answers, and how contracts see the record that it gives.
-use Rattle.std.specs.Prelude.{◌≡◌, map, Result, Ok, Err}
+use Rattle.std.specs.Prelude.{◌≡◌, map, option_map, Result, Ok, Err}
 use Rattle.image_text.specs.Record as spec
-use Rattle.image_text.specs.Models.{cache_model, costs_model, domain_model, entry_model}
+use Rattle.image_text.specs.Models.{cache_model, costs_model, muldiv_model, domain_model, entry_model}
 use Rattle.image_text.specs.declared.refusal.Refusal.{Refusal}
 use Rattle.image_text.specs.declared.refusal.ReadRefusal.{ReadRefusal}
 use Rattle.image_text.specs.declared.refusal.ReadRefusal.TheVariants.{Broken, Memory}
@@ -29,7 +29,10 @@ raw_model r = record {
   l2 = cache_model r.l2;
   tlb = cache_model r.tlb;
   predictor = r.predictor;
+  history = r.history;
   costs = costs_model r.costs;
+  muldiv = option_map muldiv_model r.muldiv;
+  targets = r.targets;
   domains = map domain_model r.domains.items;
   schedule = map entry_model r.schedule.items;
 }

@@ -1,7 +1,7 @@
 -- The record of an image's table. What is missing, or of another type, reads as zero or empty, and a number outside its row's range as the least of it: the key table says where something is.
-use Rattle.std.specs.Prelude.{◌≡◌, ℕ, ◌<◌, ◌≤◌, ◌^◌, ◌&&◌, nat_le, ℤ, pos, negsuc, if◌then◌else◌, List, [], ◌∷◌, length, codes, slice_index_or, Option, Some, None, Result, Ok, Err}
+use Rattle.std.specs.Prelude.{◌≡◌, ℕ, ◌<◌, ◌≤◌, ◌^◌, ◌&&◌, nat_le, ℤ, pos, negsuc, if◌then◌else◌, List, [], ◌∷◌, length, codes, slice_index_or, Option, Some, None, option_map, Result, Ok, Err}
 use Rattle.std.specs.Str.{is_utf8}
-use Rattle.toml.specs.Data.{Data, Items, no_items, item, Members, no_members, get_member}
+use Rattle.toml.specs.Data.{Data, Items, no_items, item, Members, no_members, get_member, as_integer, as_table}
 use Rattle.toml.specs.Parse.{parse_document}
 use Rattle.image_text.specs.Rows.{items_or_none, items_at, Broken}
 use Rattle.image_text.specs.Unknown.{broken_key}
@@ -26,6 +26,11 @@ pub record RawCosts : Type 0 where
   pub mispredict : ℤ
   pub trap : ℤ
   pub flush : ℤ
+
+-- what products and divisions cost beside their instruction, in cycles
+pub record RawMuldiv : Type 0 where
+  pub mul : ℤ
+  pub div : ℤ
 
 pub record RawSegment : Type 0 where
   pub page : ℕ
@@ -61,7 +66,10 @@ pub record Raw : Type 0 where
   pub l2 : RawCache
   pub tlb : RawCache
   pub predictor : ℤ
+  pub history : ℤ  -- outcomes that the predictor's index takes in
   pub costs : RawCosts
+  pub muldiv : Option RawMuldiv
+  pub targets : Option ℤ  -- places of the target buffer
   pub domains : List RawDomain
   pub schedule : List RawEntry
 
@@ -92,6 +100,15 @@ natural_at key low high t = ranged low high (integer_at key t)
 
 abbrev pub text_at : List ℕ → Members → List ℕ
 text_at key t = text_of (get_member key t)
+
+-- the integer, or the table, if there is one
+abbrev pub integer_if : Option Data → Option ℤ
+integer_if (Some d) = as_integer d
+integer_if None = None
+
+abbrev pub table_if : Option Data → Option Members
+table_if (Some d) = as_table d
+table_if None = None
 
 abbrev pub map_items : {A : Type 0} → (Data → A) → Items → List A
 map_items f no_items = []
@@ -127,6 +144,15 @@ costs_of t = record {
 
 abbrev pub costs_at : Members → RawCosts
 costs_at t = costs_of (table_of (get_member (codes "costs") t))
+
+unfoldable pub muldiv_of : Members → RawMuldiv
+muldiv_of t = record { mul = integer_at (codes "mul") t; div = integer_at (codes "div") t }
+
+abbrev pub muldiv_at : Members → Option RawMuldiv
+muldiv_at t = option_map muldiv_of (table_if (get_member (codes "muldiv") t))
+
+abbrev pub targets_at : Members → Option ℤ
+targets_at t = integer_if (get_member (codes "targets") t)
 
 unfoldable pub segment_of : Members → RawSegment
 segment_of t = record {
@@ -181,7 +207,10 @@ record_of t = record {
   l2 = cache_at (codes "l2") t;
   tlb = cache_at (codes "tlb") t;
   predictor = integer_at (codes "predictor") t;
+  history = integer_at (codes "history") t;
   costs = costs_at t;
+  muldiv = muldiv_at t;
+  targets = targets_at t;
   domains = map_items domain_in (items_at (codes "domain") t);
   schedule = map_items entry_in (items_at (codes "schedule") t);
 }

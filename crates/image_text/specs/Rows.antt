@@ -108,6 +108,9 @@ cache_fields = integer (codes "sets") ∷ integer (codes "ways") ∷ record { ke
 unfoldable pub cost_fields : List Field
 cost_fields = integer (codes "base") ∷ integer (codes "l1") ∷ integer (codes "l2") ∷ integer (codes "mem") ∷ integer (codes "wb") ∷ integer (codes "tlb") ∷ integer (codes "mispredict") ∷ integer (codes "trap") ∷ integer (codes "flush") ∷ []
 
+unfoldable pub muldiv_fields : List Field
+muldiv_fields = integer (codes "mul") ∷ integer (codes "div") ∷ []
+
 -- the key table; row 26, any other key, is made from these rows
 unfoldable pub key_rows : List Row
 key_rows =
@@ -136,6 +139,9 @@ key_rows =
     ∷ needs 23 Entry (codes "domain") (One Integer)
     ∷ needs 24 Entry (codes "length") (One Integer)
     ∷ needs 25 Entry (codes "pad") (One Integer)
+    ∷ may_have 30 Top (codes "history") (One Integer)
+    ∷ may_have 37 Top (codes "muldiv") (Fields muldiv_fields)
+    ∷ may_have 38 Top (codes "targets") (One Integer)
     ∷ []
 
 -- the version of the format: there is one as yet

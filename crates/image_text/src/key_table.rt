@@ -71,7 +71,9 @@ const COST_FIELDS: [Field<'static>; 9] = [
     integer!("flush"),
 ];
 
-static KEY_ROWS: [Row<'static>; 25] = [
+const MULDIV_FIELDS: [Field<'static>; 2] = [integer!("mul"), integer!("div")];
+
+static KEY_ROWS: [Row<'static>; 28] = [
     needs!(1, Top, "frames", Kind::One(Simple::Integer)),
     needs!(2, Top, "shared", Kind::One(Simple::Integer)),
     needs!(3, Top, "line", Kind::One(Simple::Integer)),
@@ -102,11 +104,14 @@ static KEY_ROWS: [Row<'static>; 25] = [
     needs!(23, Entry, "domain", Kind::One(Simple::Integer)),
     needs!(24, Entry, "length", Kind::One(Simple::Integer)),
     needs!(25, Entry, "pad", Kind::One(Simple::Integer)),
+    may_have!(30, Top, "history", Kind::One(Simple::Integer)),
+    may_have!(37, Top, "muldiv", Kind::Fields(&MULDIV_FIELDS)),
+    may_have!(38, Top, "targets", Kind::One(Simple::Integer)),
 ];
 
 /// The key table. For the prover it stands in a function of its own: its rows
 /// are compared with the definitions' once.
-#[tactic(auto, unfolding(crate::specs::Rows::key_rows, crate::specs::Rows::cache_fields, crate::specs::Rows::cost_fields))]
+#[tactic(auto, unfolding(crate::specs::Rows::key_rows, crate::specs::Rows::cache_fields, crate::specs::Rows::cost_fields, crate::specs::Rows::muldiv_fields))]
 fn key_rows() -> &'static [Row<'static>]
     ensures rows { map row_model result.now ≡ key_rows }
 {

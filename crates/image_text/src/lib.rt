@@ -15,6 +15,6 @@ mod rows;
 mod unknown;
 mod values;
 
-pub use raw::{Raw, RawCache, RawCosts, RawDomain, RawEntry, RawMoment, RawSegment};
+pub use raw::{Raw, RawCache, RawCosts, RawDomain, RawEntry, RawMoment, RawMuldiv, RawSegment};
 pub use reading::read_image;
 pub use refusal::{ReadRefusal, Refusal};

@@ -38,6 +38,16 @@ pub struct RawCosts {
     pub flush: i64,
 }
 
+/// What products and divisions cost beside their instruction, in cycles.
+#[derive(Clone, Copy, Debug, PartialEq, Eq)]
+pub struct RawMuldiv {
+    /// A product.
+    pub mul: i64,
+    /// A step of a division: there is one, and one for each binary digit of the
+    /// dividend's magnitude.
+    pub div: i64,
+}
+
 /// Pages of a domain's address space, one after the other.
 #[derive(Drop)]
 pub struct RawSegment {
@@ -105,7 +115,14 @@ pub struct Raw {
     pub tlb: RawCache,
     /// Counters.
     pub predictor: i64,
+    /// Outcomes of branches that the predictor's index takes in; 0 where the
+    /// image says none.
+    pub history: i64,
     pub costs: RawCosts,
+    /// None where the machine has no products and divisions (RV32M).
+    pub muldiv: Option<RawMuldiv>,
+    /// Places of the target buffer; None where there is no such buffer.
+    pub targets: Option<i64>,
     pub domains: Vec<RawDomain>,
     pub schedule: Vec<RawEntry>,
     pub ghost in_ranges: { AreInKeyRanges (map domain_model domains.items) },

@@ -1,20 +1,23 @@
 // The record of an image's table.
-ghost use Rattle.std.specs.Prelude.{◌≡◌, ◌<◌, ◌^◌, map, None, Some, codes};
+ghost use Rattle.std.specs.Prelude.{◌≡◌, ◌<◌, ◌^◌, map, option_map, None, Some, codes};
 ghost use Rattle.toml.specs.View.{view, items_view, table_view};
-ghost use Rattle.toml.specs.Data.{get_member};
+ghost use Rattle.toml.specs.Data.{get_member, as_table};
 ghost use Rattle.image_text.specs.Record as spec;
 ghost use Rattle.image_text.specs.Unknown.{broken_key as spec_broken_key};
-ghost use Rattle.image_text.specs.Models.{broken_model, cache_model, costs_model, segment_model, moment_model};
+ghost use Rattle.image_text.specs.Models.{broken_model, cache_model, costs_model, muldiv_model};
+ghost use Rattle.image_text.specs.Models.{segment_model, moment_model};
 ghost use Rattle.image_text.specs.Models.{domain_model, entry_model};
 ghost use Rattle.image_text.specs.Reads.{Reads, Agrees, raw_model};
 
 use crate::items::{Item, read_items};
 use crate::key_table::broken_key;
-use crate::lookup::{items_at, items_of};
-use crate::raw::{Raw, RawCache, RawCosts, RawDomain, RawEntry, RawMoment, RawSegment};
+use crate::lookup::{get, items_at, items_of};
+use crate::raw::{Raw, RawCache, RawCosts, RawDomain, RawEntry, RawMoment, RawMuldiv, RawSegment};
 use crate::refusal::{ReadRefusal, Refusal};
 use crate::rows::Broken;
-use crate::values::{integer_at, integer_of, integers_at, natural_at, table_at, table_of, text_at};
+use crate::values::{
+    integer_at, integer_if_at, integer_of, integers_at, natural_at, table_at, table_of, text_at,
+};
 use std::alloc::Global;
 use toml::{Table, Value};
 
@@ -67,6 +70,35 @@ fn costs_at(alloc: Global, table: &Table) -> RawCosts
 {
     let empty = Table::new(alloc);
     costs_of(table_at(table, "costs", &empty))
+}
+
+#[tactic(auto, unfolding(crate::specs::Record::muldiv_of))]
+fn muldiv_of(table: &Table) -> RawMuldiv
+    ensures value { muldiv_model result ≡ spec.muldiv_of (table_view table.now) }
+{
+    RawMuldiv {
+        mul: integer_at(table, "mul"),
+        div: integer_at(table, "div"),
+    }
+}
+
+fn muldiv_in(value: &Value) -> Option<RawMuldiv>
+    ensures value { option_map muldiv_model result
+        ≡ option_map spec.muldiv_of (as_table (view value.now)) }
+{
+    match value.as_table() {
+        Some(table) => Some(muldiv_of(table)),
+        None => None,
+    }
+}
+
+fn muldiv_at(table: &Table) -> Option<RawMuldiv>
+    ensures value { option_map muldiv_model result ≡ spec.muldiv_at (table_view table.now) }
+{
+    match get(table, "muldiv") {
+        Some(value) => muldiv_in(value),
+        None => None,
+    }
 }
 
 #[tactic(auto, unfolding(crate::specs::Record::segment_of))]
@@ -214,7 +246,10 @@ fn record_of(alloc: Global, table: &Table) -> Result<Raw, ReadRefusal>
         l2,
         tlb,
         predictor: integer_at(table, "predictor"),
+        history: integer_at(table, "history"),
         costs: costs_at(alloc, table),
+        muldiv: muldiv_at(table),
+        targets: integer_if_at(table, "targets"),
         domains,
         schedule,
     })

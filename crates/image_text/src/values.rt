@@ -30,6 +30,16 @@ pub fn integer_at(table: &Table, key: &str) -> i64
     }
 }
 
+/// The integer at a key, if there is one.
+pub fn integer_if_at(table: &Table, key: &str) -> Option<i64>
+    ensures value { result ≡ spec.integer_if (get_member key.now (table_view table.now)) }
+{
+    match get(table, key) {
+        Some(value) => value.as_integer(),
+        None => None,
+    }
+}
+
 /// A number of the range, else the least of it.
 fn ranged(number: i64, low: u32, high: u32) -> u32
     ensures value { result ≡ spec.ranged low high number }

@@ -1,6 +1,6 @@
 use Rattle.std.proofs.Common.{rules}
 use Rattle.image_text.specs.Reads.{raw_model}
-use Rattle.hardware_check.proofs.Parts.{fits, frames_natural, line_natural, predictor_natural, some_line, natural_region}
+use Rattle.hardware_check.proofs.Parts.{fits, frames_natural, line_natural, predictor_natural, history_natural, some_line, natural_region}
 use Rattle.hardware_check.proofs.reading.hardware_of.Goals as goal
 
 pub overflow_cast-result : goal.overflow_cast-result
@@ -11,6 +11,9 @@ overflow_cast-result-3 c = let small = (fits (raw_model c.args.raw.now) c.requir
 
 pub overflow_cast-result-4 : goal.overflow_cast-result-4
 overflow_cast-result-4 c = let small = (fits (raw_model c.args.raw.now) c.requires.parts).predictor in search (rules, small)
+
+pub overflow_cast-result-5 : goal.overflow_cast-result-5
+overflow_cast-result-5 c = let small = (fits (raw_model c.args.raw.now) c.requires.parts).history in search (rules, small)
 
 pub costs_of-requires : goal.costs_of-requires
 costs_of-requires c = record { ranges = (fits (raw_model c.args.raw.now) c.requires.parts).costs }
@@ -31,3 +34,6 @@ natural_of-requires-3 c = let natural = line_natural (raw_model c.args.raw.now) 
 
 pub natural_of-requires-4 : goal.natural_of-requires-4
 natural_of-requires-4 c = let natural = predictor_natural (raw_model c.args.raw.now) c.requires.parts.parts in record { natural = search (rules, natural) }
+
+pub natural_of-requires-5 : goal.natural_of-requires-5
+natural_of-requires-5 c = let natural = history_natural (raw_model c.args.raw.now) c.requires.parts.parts in record { natural = search (rules, natural) }

@@ -1,11 +1,12 @@
 use Rattle.std.proofs.Common.{rules}
-use Rattle.std.specs.Prelude.{IfErr}
+use Rattle.std.specs.Prelude.{◌≡◌, None, IfErr}
 use Rattle.image_text.specs.Reads.{raw_model}
 use Rattle.hardware_check.specs.Outcomes.{IsVerdictOrMemory}
+use Rattle.hardware_check.specs.Extensions.{k22}
 use Rattle.image_check.specs.Pads.{k17}
 use Rattle.image_check.specs.Outcomes.{IsFirst}
 use Rattle.image_check.specs.Checking.{broken_before_pads}
-use Rattle.image_check.proofs.Kept.{first_of_all, first_of_pads}
+use Rattle.image_check.proofs.Kept.{first_of_all, first_of_pads, last_of_all}
 use Rattle.image_check.proofs.checked.check.Goals as goal
 
 pub returns-in_err-parts-clause-refused : goal.returns-in_err-parts-clause-refused
@@ -19,3 +20,10 @@ returns-in_err-k17-clause-refused c =
     let i = raw_model c.args.raw in
     let verdict : IsVerdictOrMemory c.from_residual-in_err-k17.result (k17 i) = search rules in
     first_of_pads i c.from_residual-in_err-k17.result c.in_ok-parts.ensures.accepted verdict
+
+pub returns-in_err-k22-clause-refused : goal.returns-in_err-k22-clause-refused
+returns-in_err-k22-clause-refused c =
+    let i = raw_model c.args.raw in
+    let pads : k17 i ≡ None = search rules in
+    let verdict : IsVerdictOrMemory c.from_residual-in_err-k22.result (k22 i) = search rules in
+    last_of_all i c.from_residual-in_err-k22.result c.in_ok-parts.ensures.accepted pads verdict
