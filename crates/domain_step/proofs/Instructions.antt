@@ -1,7 +1,7 @@
 -- An instruction, of the code and of the definitions.
-use Rattle.std.proofs.Common.{◌≡◌, ◌≢◌, ◌⊎◌, ℕ, ◌+◌, ◌*◌, ◌/◌, ◌%◌, ◌^◌, inl, inr, Bool, true, false, cond, eqb, List, Option, Some, None, Result, Ok, Err, refl, sym, ap, ap₂, subst, subst₂, ◌∙◌, arith}
+use Rattle.std.proofs.Common.{◌≡◌, ◌≢◌, ◌⊎◌, ℕ, ◌+◌, ◌*◌, ◌/◌, ◌%◌, ◌^◌, inl, inr, Bool, true, false, cond, eqb, List, Option, Some, None, is_some, option_map, Result, Ok, Err, refl, sym, ap, ap₂, subst, subst₂, ◌∙◌, arith}
 use Rattle.std.proofs.lemmas.Option.{none-some}
-use Rattle.tp_base.specs.Act.{◌>>◌, give, either}
+use Rattle.tp_base.specs.Act.{◌>>◌, give, either, ◌>>=◌}
 use Rattle.phys_mem.specs.Contents.{Contents}
 use Rattle.phys_mem.specs.Holds.{Holds}
 use Rattle.phys_mem.specs.Mem.{Mem, word}
@@ -10,6 +10,8 @@ use Rattle.set_cache.specs.Rule.{Rule}
 use Rattle.cap_table.specs.Slots.{Slots}
 use Rattle.rv_core.specs.Alu as alu
 use Rattle.rv_core.specs.Effect as effect
+use Rattle.rv_core.specs.declared.Effect.{Effect}
+use Rattle.cycle_cost.specs.Costs.{ProductCosts}
 use Rattle.rv_core.specs.Effect.{Outcome, effect_of}
 use Rattle.rv_core.specs.Memory.{load_size, store_size, sum_of, address_of, alignment_trap, misalignment_of}
 use Rattle.rv_core.specs.Registers.{register}
@@ -22,26 +24,30 @@ use Rattle.rv_decode.specs.declared.Comparison.{Comparison}
 use Rattle.rv_decode.specs.declared.Counter.{Counter}
 use Rattle.rv_decode.specs.declared.Instr.{Instr}
 use Rattle.rv_decode.specs.declared.LoadWidth.{LoadWidth}
+use Rattle.rv_decode.specs.declared.Product.{Product}
+use Rattle.rv_decode.specs.declared.Division.{Division}
 use Rattle.rv_decode.specs.declared.Instr.TheVariants as instr
 use Rattle.sv32_walk.specs.declared.access.Access.TheVariants as access
 use Rattle.tlb_model.specs.Buffer.{Buffer}
-use Rattle.mem_system.specs.Cost.{Touch, Touched, Fetch, Branch}
-use Rattle.mem_system.specs.Contents.{SystemContents, MakesTouch}
+use Rattle.mem_system.specs.Cost.{Touch, Touched, Fetch, Branch, Jump as JumpTouch, Charge, touched, on_core, pass_on, below_all}
+use Rattle.mem_system.specs.Contents.{SystemContents, MakesTouch, hierarchy_of}
+use Rattle.mem_system.specs.Hierarchy.{Hierarchy}
 use Rattle.mem_system.specs.Translation.{KeepsLeaves}
+use Rattle.hardware_check.specs.Hardware.{Hardware}
 use Rattle.thread_set.specs.Threads.{with_current}
 use Rattle.call_table.specs.Domain.{Dom, placed}
 use Rattle.kernel_call.specs.declared.domain.Domain.{Domain}
 use Rattle.kernel_call.specs.Models.{dom_model, Stands, Becomes}
 use Rattle.world_view.specs.Kernel.{estate}
 use Rattle.world_view.specs.Instruction.{counter_value, trapped, stopped, retired_at, read_out}
-use Rattle.world_view.specs.Event.{Storage, Act, load, translate, place, line_in, read, store, loaded, noted, guessed, settle, execute, make_call, perform, instruction}
-use Rattle.world_view.proofs.steps.CodeLaws.{noted-other, loaded-other, guessed-other, perform-other}
+use Rattle.world_view.specs.Event.{Storage, Act, touch, load, translate, place, line_in, read, store, computed, loaded, noted, guessed, settle, execute, timed, make_call, perform, instruction}
+use Rattle.world_view.proofs.steps.CodeLaws.{noted-other, loaded-other, guessed-other, timed-other, perform-other}
 use Rattle.world_view.specs.Machine.{Setting}
-use Rattle.domain_step.specs.Kept.{charged, Kept}
+use Rattle.domain_step.specs.Kept.{IsSetting, charged, Kept}
 use Rattle.domain_step.specs.Moves.{Yields, Answered, Left}
 use Rattle.domain_step.proofs.Charges.{touch_kept}
 use Rattle.domain_step.proofs.Points.{Point, YieldsAt, YieldsFrom}
-use Rattle.domain_step.proofs.Yields.{yields_rules, y_found, y_faults, y_touch, y_give, y_stop, becomes_then}
+use Rattle.domain_step.proofs.Yields.{yields_rules, y_next, y_found, y_faults, y_touch, y_give, y_stop, becomes_then}
 use Rattle.domain_step.proofs.Accesses.{line_kept}
 
 -- ---- the end of an instruction
@@ -108,6 +114,8 @@ module _ (regs : List ℕ) (made : StoreMade) where
       keeps_store pc (alignment_trap (store_size width) exception.StoreMisaligned (sum_of regs rs1 offset)) _ refl e
   store_keeps pc (instr.Immediate operation rd rs1 imm) loaded e = absurd (none-some made e)
   store_keeps pc (instr.Register operation rd rs1 rs2) loaded e = absurd (none-some made e)
+  store_keeps pc (instr.Multiply product rd rs1 rs2) loaded e = absurd (none-some made e)
+  store_keeps pc (instr.Divide division rd rs1 rs2) loaded e = absurd (none-some made e)
   store_keeps pc instr.Fence loaded e = absurd (none-some made e)
   store_keeps pc instr.Ecall loaded e = absurd (none-some made e)
   store_keeps pc instr.Ebreak loaded e = absurd (none-some made e)
@@ -138,6 +146,8 @@ retired_same next value (instr.Load width rd rs1 offset) regs d = refl
 retired_same next value (instr.Store width rs1 rs2 offset) regs d = refl
 retired_same next value (instr.Immediate operation rd rs1 imm) regs d = refl
 retired_same next value (instr.Register operation rd rs1 rs2) regs d = refl
+retired_same next value (instr.Multiply product rd rs1 rs2) regs d = refl
+retired_same next value (instr.Divide division rd rs1 rs2) regs d = refl
 retired_same next value instr.Fence regs d = refl
 retired_same next value instr.Ecall regs d = refl
 retired_same next value instr.Ebreak regs d = refl
@@ -199,47 +209,105 @@ module _ (p : Point) (K : Storage → Touched → Type 0) (i : Instr) where
       rw (loaded-other p.setting.machine p.root p.clock p.dom i not_load not_counter)
       (y_give p.setting p.storage p.reached 0 _ (record { value = refl; kept = keeps }))
 
--- ---- a branch
+-- ---- what makes one touch, or none: a branch or a jump; a product or a division
 
--- a guess in the code: whether the branch at this address is taken, and the hierarchy before and after
-pub record Guess (P : Type 0) : Type 0 where
-  pub pc : ℕ
-  pub taken : Bool
+-- a touch in the code, and the hierarchy before and after
+pub record OneTouch (P : Type 0) : Type 0 where
+  pub touch : Touch
   pub before : SystemContents P
   pub later : SystemContents P
   pub spent : ℕ
   pub cycles : ℕ
 
-pub guessed_branch : {P : Type 0} (rule : P → ℕ → Rule) (stands : P → ℕ → ℕ → List ℕ → Type 0)
-    (p : Point) (caps : Slots) (memory : Contents) (g : Guess P)
-    {i : Instr} {comparison : Comparison} {rs1 rs2 offset : ℕ} → i ≡ instr.Branch comparison rs1 rs2
-    offset
-    → MakesTouch rule stands (Branch g.pc g.taken) g.cycles g.before g.later
+pub yields_touch : {P : Type 0} (rule : P → ℕ → Rule) (stands : P → ℕ → ℕ → List ℕ → Type 0)
+    (p : Point) (caps : Slots) (memory : Contents) (g : OneTouch P) (x : Act (Unit {0}))
+    → x ≡ touch g.touch
+    → MakesTouch rule stands g.touch g.cycles g.before g.later
     → g.later.core.tlb ≡ g.before.core.tlb
     → Kept rule stands p.setting caps p.root memory g.before g.spent p.storage p.reached
-    → YieldsAt p (guessed i g.pc g.taken)
+    → YieldsAt p x
     (Answered p.dom (Ok tt) (Kept rule stands p.setting caps p.root memory g.later (g.spent + g.cycles)))
-unfolding guessed
-guessed_branch {P} rule stands p caps memory g e makes buffer k =
+yields_touch {P} rule stands p caps memory g x is makes buffer k =
     let leaves : KeepsLeaves p.storage.mem memory.frames p.root g.later.core.tlb =
     subst (λ (b : Buffer P). KeepsLeaves p.storage.mem memory.frames p.root b) (sym buffer)
     k.leaves in
     let keeps =
-    touch_kept rule stands p.setting memory g.before g.later (Branch g.pc g.taken) caps p.root
+    touch_kept rule stands p.setting memory g.before g.later g.touch caps p.root
     g.spent
     (g.spent + g.cycles) g.cycles p.storage p.reached makes refl leaves k in
-    rw e
-    (y_touch p.setting p.storage p.reached (Branch g.pc g.taken) _
+    rw is
+    (y_touch p.setting p.storage p.reached g.touch _
     (record { value = refl; kept = keeps }))
 
-pub guessed_no_branch : (p : Point) (K : Storage → Touched → Type 0) (i : Instr) (pc : ℕ)
-    (taken : Bool)
+pub guesses_branch : (i : Instr) {comparison : Comparison} {rs1 rs2 offset : ℕ} (pc : ℕ) (e : Effect)
+    → i ≡ instr.Branch comparison rs1 rs2 offset → guessed i pc e ≡ touch (Branch pc e.taken e.next)
+unfolding guessed
+guesses_branch i pc e is = rw is refl
+
+pub guesses_jal : (i : Instr) {rd offset : ℕ} (pc : ℕ) (e : Effect)
+    → i ≡ instr.Jal rd offset → guessed i pc e ≡ touch (JumpTouch pc e.next)
+unfolding guessed
+guesses_jal i pc e is = rw is refl
+
+pub guesses_jalr : (i : Instr) {rd rs1 offset : ℕ} (pc : ℕ) (e : Effect)
+    → i ≡ instr.Jalr rd rs1 offset → guessed i pc e ≡ touch (JumpTouch pc e.next)
+unfolding guessed
+guesses_jalr i pc e is = rw is refl
+
+pub guessed_none : (p : Point) (K : Storage → Touched → Type 0) (i : Instr) (pc : ℕ) (e : Effect)
     → K p.storage p.reached
     → ((c : Comparison) (rs1 rs2 offset : ℕ) → i ≢ instr.Branch c rs1 rs2 offset)
-    → YieldsAt p (guessed i pc taken) (Answered p.dom (Ok tt) K)
-guessed_no_branch p K i pc taken keeps other =
-    rw (guessed-other i pc taken other)
+    → ((rd offset : ℕ) → i ≢ instr.Jal rd offset)
+    → ((rd rs1 offset : ℕ) → i ≢ instr.Jalr rd rs1 offset)
+    → YieldsAt p (guessed i pc e) (Answered p.dom (Ok tt) K)
+guessed_none p K i pc e keeps branch jal jalr =
+    rw (guessed-other i pc e branch jal jalr)
     (y_give p.setting p.storage p.reached tt _ (record { value = refl; kept = keeps }))
+
+-- cycles alone change nothing of the hierarchy
+pub charge_makes : {P : Type 0} (rule : P → ℕ → Rule) (stands : P → ℕ → ℕ → List ℕ → Type 0) (cycles : ℕ)
+    (system : SystemContents P) → MakesTouch rule stands (Charge cycles) cycles system system
+unfolding touched on_core pass_on below_all
+charge_makes rule stands cycles system = record {
+  same = refl;
+  pinned = refl;
+  steps = λ caches stand. record { cost = omega arith; next = stand };
+}
+
+-- what products cost in the code is what they cost in the machine
+pub same_costs : {P : Type 0} (rule : P → ℕ → Rule) (w : Setting) (system : SystemContents P)
+    (products : Option ProductCosts) → IsSetting w → w.levels ≡ hierarchy_of rule system
+    → products ≡ system.core.products → products ≡ w.machine.muldiv
+same_costs rule w system products sound levels table =
+    table ∙ sym (sound.products ∙ ap (λ (h : Hierarchy). h.products) levels)
+
+-- an instruction that takes its own time, and then retires with these registers
+pub yields_timed : {P : Type 0} (rule : P → ℕ → Rule) (stands : P → ℕ → ℕ → List ℕ → Type 0)
+    (p : Point) (caps : Slots) (memory : Contents) (system : SystemContents P) (spent cycles : ℕ) (i : Instr)
+    (new : Domain) (last : Dom)
+    → computed p.setting.machine p.dom i ≡ touch (Charge cycles)
+    → execute p.setting.machine p.root p.clock p.dom i ≡ give last
+    → Stands new last
+    → Kept rule stands p.setting caps p.root memory system spent p.storage p.reached
+    → YieldsAt p (timed p.setting.machine p.root p.clock p.dom i)
+    (Left new (Kept rule stands p.setting caps p.root memory system (spent + cycles)))
+unfolding timed either
+yields_timed rule stands p caps memory system spent cycles i new last computes executes is k =
+    let once : OneTouch _ = record {
+      touch = Charge cycles;
+      before = system;
+      later = system;
+      spent = spent;
+      cycles = cycles;
+    } in
+    let takes =
+    yields_touch rule stands p caps memory once (computed p.setting.machine p.dom i) computes
+    (charge_makes rule stands cycles system) refl k in
+    y_next p.setting (computed p.setting.machine p.dom i) (execute p.setting.machine p.root p.clock p.dom i)
+    p.storage p.reached _
+    (y_found p.setting p.dom (Kept rule stands p.setting caps p.root memory system (spent + cycles))
+    (computed p.setting.machine p.dom i) p.storage p.reached _ tt takes
+    (λ t q n. rw executes (y_give p.setting t q last _ (record { dom = is; kept = n }))))
 
 -- ---- the effect
 
@@ -256,7 +324,7 @@ module _ (p : Point) (K : Storage → Touched → Type 0) (i : Instr) (value : �
 
   module _ (K' K'' : Storage → Touched → Type 0) (e : out.effect.trap ≡ None)
       (guess :
-      YieldsFrom p K (guessed i p.dom.threads.current.pc out.effect.taken) (Answered p.dom (Ok tt) K'))
+      YieldsFrom p K (guessed i p.dom.threads.current.pc out.effect) (Answered p.dom (Ok tt) K'))
     where
       abbrev Stores : Result (Unit {0}) Trap → Type 0
       Stores result =
@@ -337,7 +405,7 @@ LooksUp p root result K =
     (Answered {A = ℕ} p.dom result K)
 
 -- the fetch of a word in the code: where it was found, the line of that address, the hierarchy before and
--- after, and the cycles spent before it and on it
+-- after, whether there are products, and the cycles spent before it and on it
 pub record Fetched (P : Type 0) : Type 0 where
   pub caps : Slots
   pub memory : Contents
@@ -346,6 +414,7 @@ pub record Fetched (P : Type 0) : Type 0 where
   pub at : ℕ
   pub line : ℕ
   pub word : ℕ
+  pub muldiv : Bool
   pub spent : ℕ
   pub cycles : ℕ
 
@@ -363,6 +432,7 @@ pub record IsFetched {P : Type 0} (rule : P → ℕ → Rule) (stands : P → �
   pub placed_at : f.at % 4096 ≡ p.dom.threads.current.pc % 4096
   pub line : f.line ≡ f.at / f.before.l2.line_size
   pub makes : MakesTouch rule stands (Fetch f.line) f.cycles f.before f.later
+  pub muldiv : f.muldiv ≡ is_some f.later.core.products
   pub buffer : f.later.core.tlb ≡ f.before.core.tlb
   pub found : (m : Mem) → Holds f.memory m
       → f.word ≡ word m (f.at / 4096) (place p.dom.threads.current.pc)
@@ -393,7 +463,7 @@ module _ (p : Point) (new : Domain)
     abbrev Performs : (Storage → Touched → Type 0) → ℕ → Option Instr → Type 0
     Performs K x i = Goes (λ w. perform w.machine (estate w.machine w.own) w.clone p.clock p.dom x i) K
 
-    instruction_read : (K : Storage → Touched → Type 0) → Performs K f.word (decode_of f.word)
+    instruction_read : (K : Storage → Touched → Type 0) → Performs K f.word (decode_of f.muldiv f.word)
         → Runs K
     unfolding instruction
     instruction_read K rest =
@@ -412,13 +482,18 @@ module _ (p : Point) (new : Domain)
         (f.spent + f.cycles) f.cycles
         f.before f.later u q is.placed_at is.line is.makes is.buffer refl k in
         let Does : Storage → Touched → ℕ → Type 0 = λ u q x.
-        Yields w (perform w.machine e l p.clock p.dom x (decode_of x)) u q (Left new K) in
+        Yields w (perform w.machine e l p.clock p.dom x (decode_of (is_some w.machine.muldiv) x)) u q (Left new K) in
+        let Performed : Storage → Touched → Bool → Type 0 = λ u q b.
+        Yields w (perform w.machine e l p.clock p.dom f.word (decode_of b f.word)) u q (Left new K) in
         let goes : (u : Storage) (q : Touched) → N u q → Does u q (word u.mem frame (place pc)) =
-        λ u q k. subst (Does u q) (is.found u.mem k.holds) (rest u q k) in
+        λ u q k.
+        let products = k.fits.sound.products ∙ ap (λ (h : Hierarchy). h.products) k.fits.levels in
+        let flag = is.muldiv ∙ ap (λ (o : Option ProductCosts). is_some o) (sym products) in
+        subst (Does u q) (is.found u.mem k.holds) (subst (Performed u q) flag (rest u q k)) in
         search (yields_rules, y_found, there, fetches, goes) depth 40
 
     pub instruction_undefined : (trap : Trap) → trap ≡ record { exception = exception.IllegalInstruction; value = f.word }
-        → decode_of f.word ≡ None
+        → decode_of f.muldiv f.word ≡ None
         → Stands new (trapped trap p.dom) → Runs (AfterFetch rule stands p f)
     unfolding perform trapped either
     instruction_undefined trap same none stands' =
@@ -427,21 +502,37 @@ module _ (p : Point) (new : Domain)
         (λ u q k.
         rw none (y_stop p.setting u q (stopped 2 f.word p.dom) _ (record { dom = dom; kept = k })))
 
-    pub instruction_called : (K : Storage → Touched → Type 0) → decode_of f.word ≡ Some instr.Ecall
+    pub instruction_called : (K : Storage → Touched → Type 0) → decode_of f.muldiv f.word ≡ Some instr.Ecall
         → Goes (λ w. make_call w.machine (estate w.machine w.own) w.clone p.dom) K → Runs K
     unfolding perform
     instruction_called K some rest = instruction_read K (λ u q k. rw some (rest u q k))
 
-    pub instruction_executed : (i : Instr) (K : Storage → Touched → Type 0)
-        → decode_of f.word ≡ Some i → i ≢ instr.Ecall
-        → Goes (λ w. execute w.machine p.root p.clock p.dom i) K → Runs K
-    instruction_executed i K some other rest =
+    pub instruction_timed : (i : Instr) (K : Storage → Touched → Type 0)
+        → decode_of f.muldiv f.word ≡ Some i → i ≢ instr.Ecall
+        → Goes (λ w. timed w.machine p.root p.clock p.dom i) K → Runs K
+    instruction_timed i K some other rest =
         let w = p.setting in
         let e = estate w.machine w.own in
         let l = w.clone in
         instruction_read K (λ u q k.
         rw (some, perform-other w.machine e l p.clock p.dom f.word i other)
-        (subst (λ (n : ℕ). Yields w (execute w.machine n p.clock p.dom i) u q (Left new K)) top (rest u q k)))
+        (subst (λ (n : ℕ). Yields w (timed w.machine n p.clock p.dom i) u q (Left new K)) top (rest u q k)))
+
+    pub instruction_executed : (i : Instr) (K : Storage → Touched → Type 0)
+        → decode_of f.muldiv f.word ≡ Some i → i ≢ instr.Ecall
+        → ((c : Product) (rd rs1 rs2 : ℕ) → i ≢ instr.Multiply c rd rs1 rs2)
+        → ((c : Division) (rd rs1 rs2 : ℕ) → i ≢ instr.Divide c rd rs1 rs2)
+        → Goes (λ w. execute w.machine p.root p.clock p.dom i) K → Runs K
+    instruction_executed i K some other multiply divide rest =
+        instruction_timed i K some other
+        (λ u q k.
+        rw (timed-other p.setting.machine p.root p.clock p.dom i multiply divide) (rest u q k))
+
+-- the code's table of costs has products where its own are some
+pub same_products : {A B : Type 0} (f : A → B) (o : Option A) (products : Option B) (b : Bool) → b ≡ is_some o
+    → option_map f o ≡ products → b ≡ is_some products
+same_products f None products b is e = is ∙ ap (λ (x : Option _). is_some x) e
+same_products f (Some a) products b is e = is ∙ ap (λ (x : Option _). is_some x) e
 
 -- the word of an address is that of the place where its own word begins
 pub found_word : (m : Mem) (x at pc : ℕ) → at % 4096 ≡ pc % 4096

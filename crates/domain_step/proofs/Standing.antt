@@ -20,7 +20,7 @@ use Rattle.domain_step.specs.Moves.{StandsIn}
 -- that of a domain with the clone of its own is one
 pub is_setting : (p : Hardware) (o : Own) (pinned : Bool) → IsKernel p o → IsSetting (setting p o pinned)
 unfolding hierarchy
-is_setting p o pinned kernel = record { costs = refl; line = refl; clone = kernel.has_layout }
+is_setting p o pinned kernel = record { costs = refl; products = refl; line = refl; clone = kernel.has_layout }
 
 module _ (w : Setting) (memory : Contents) (x : Domain) (system : SystemContents AnyPolicy) (now : ℕ) (s : Local) where
   -- what is kept for all domains, and the domain in its slot

@@ -17,9 +17,11 @@ use Rattle.world_view.specs.Event.{Storage}
 use Rattle.world_view.specs.Machine.{Setting}
 use Rattle.world_view.specs.Relations.{IsKernel}
 
--- what the hierarchy of a setting costs, and the size of its lines, are the machine's; and its clone is one
+-- what the hierarchy of a setting costs, what products do, and the size of its lines, are the machine's; and its clone
+-- is one
 pub record IsSetting (w : Setting) : Type 0 where
   pub costs : w.machine.costs ≡ w.levels.costs
+  pub products : w.machine.muldiv ≡ w.levels.products
   pub line : w.machine.line ≡ w.levels.line_size
   pub clone : IsLayout w.clone
 

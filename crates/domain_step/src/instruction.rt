@@ -89,9 +89,9 @@ fn read_out(domain: &mut Domain, value: u32)
     domain.readings.push(u64::from(value));
 }
 
-// The domain goes on there, and one more instruction has retired.
+/// The domain goes on there, and one more instruction has retired.
 #[tactic(auto, unfolding(world_view::specs::Instruction::retired_at, call_table::specs::Domain::placed, thread_set::specs::Threads::with_current))]
-fn retire(domain: &mut Domain, next: u32)
+pub fn retire(domain: &mut Domain, next: u32)
     requires retired { domain.old.retired < 2 ^ 63 }
     ensures becomes { Becomes (λ d. spec.retired_at next d.threads.current.regs d) domain.old domain.new }
     ensures grows { Grows 1 0 0 domain.old domain.new }

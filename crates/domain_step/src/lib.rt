@@ -4,6 +4,7 @@
 
 mod access;
 mod instruction;
+mod products;
 mod slot;
 
 pub use slot::{step, stretch};

@@ -29,12 +29,13 @@ ghost use Rattle.domain_step.specs.Moves.{Yields, Answered, Finds, Leaves, Moves
 
 use crate::access::{load, store, translate};
 use crate::instruction::{call, counter_value, finish, stop};
+use crate::products::{divide, multiply};
 use call_table::DomainStatus;
 use domain_switch::charge;
 use kernel_call::{Domain, deliver};
 use mem_system::MemSystem;
 use phys_mem::PhysMem;
-use rv_core::{Exception, Trap, address, misalignment};
+use rv_core::{Effect, Exception, Trap, address, misalignment};
 use rv_decode::{Instr, decode};
 use set_cache::Policy;
 use sv32_walk::Access;
@@ -78,21 +79,29 @@ fn loaded<P: Policy>(
     }
 }
 
-// A branch is guessed, and taught whether it is taken.
+// A branch is guessed, and taught whether it is taken; where it or a jump goes is looked up.
 #[inline(always)]
-fn guess<P: Policy>(system: &mut MemSystem<P>, spent: &mut u32, instr: Instr, pc: u32, taken: bool)
+fn guess<P: Policy>(
+    system: &mut MemSystem<P>,
+    spent: &mut u32,
+    instr: Instr,
+    pc: u32,
+    effect: Effect,
+)
     requires spent { spent.old < 2 ^ 31 }
     ensures finds { (w : Setting) (caps : Slots) (root : ℕ) (memory : Contents)
-        → Finds w (λ d. event.guessed instr pc taken) (Ok tt)
+        → Finds w (λ d. event.guessed instr pc effect) (Ok tt)
         (Kept P.rule P.stands_for w caps root memory system.old spent.old)
         (Kept P.rule P.stands_for w caps root memory system.new spent.new) }
     ensures buffer { system.new.core.tlb ≡ system.old.core.tlb }
     ensures few { spent.new ≤ spent.old + most_guess }
 {
-    let Instr::Branch { .. } = instr else {
-        return;
-    };
-    *spent += system.branch(pc, taken);
+    match instr {
+        Instr::Branch { .. } => *spent += system.branch(pc, effect.taken, effect.next),
+        Instr::Jal { .. } => *spent += system.jump(pc, effect.next),
+        Instr::Jalr { .. } => *spent += system.jump(pc, effect.next),
+        _ => {}
+    }
 }
 
 // The effect of an instruction: a trap, or a branch's guess, a store, the
@@ -130,7 +139,7 @@ fn settle<P: Policy>(
         stop(domain, trap);
         return false;
     }
-    guess(system, spent, instr, pc, effect.taken);
+    guess(system, spent, instr, pc, effect);
     match store(memory, system, spent, root, effect.store) {
         Ok(()) => {
             finish(domain, instr, value, effect.next);
@@ -220,7 +229,7 @@ fn run_instruction<P: Policy>(
     };
     *spent += system.fetch(system.line_of(at));
     let word = memory.read_word(at / 4 * 4);
-    let Some(instr) = decode(word) else {
+    let Some(instr) = decode(word, system.products().is_some()) else {
         stop(
             domain,
             Trap {
@@ -235,6 +244,18 @@ fn run_instruction<P: Policy>(
             call(memory, system, domain, spent);
             false
         }
+        Instr::Multiply {
+            product,
+            rd,
+            rs1,
+            rs2,
+        } => multiply(system, domain, spent, product, rd, rs1, rs2),
+        Instr::Divide {
+            division,
+            rd,
+            rs1,
+            rs2,
+        } => divide(system, domain, spent, division, rd, rs1, rs2),
         _ => execute(memory, system, domain, spent, root, now, instr),
     }
 }

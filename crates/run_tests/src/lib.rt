@@ -7,6 +7,8 @@ mod answers;
 #[cfg(test)]
 mod calls;
 #[cfg(test)]
+mod extensions;
+#[cfg(test)]
 mod images;
 #[cfg(test)]
 mod interrupts;

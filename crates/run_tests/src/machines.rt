@@ -72,12 +72,14 @@ fn load_upper(rd: u32, immediate: u32) -> u32 {
     (immediate << 12) | (rd << 7) | 0x37
 }
 
-// Sums, a load and a store in the data page, counters, and branches over one instruction.
-fn instruction(dice: &mut Dice) -> u32 {
+// Sums, a load and a store in the data page, counters, branches over one instruction,
+// and, where the machine has them, products and divisions.
+fn instruction(dice: &mut Dice, muldiv: bool) -> u32 {
     let rd = 6 + dice.below(4);
     let rs = 6 + dice.below(12);
     let at = 4 * dice.below(512);
-    match dice.below(6) {
+    let kinds = if muldiv { 8 } else { 6 };
+    match dice.below(kinds) {
         // addi rd, rs, at
         0 => add_immediate(rd, rs, at),
         // xor rd, rd, rs
@@ -89,7 +91,9 @@ fn instruction(dice: &mut Dice) -> u32 {
         // csrrs rd, cycle (or time, or instret), x0
         4 => ((0xc00 + dice.below(3)) << 20) | 0x2000 | (rd << 7) | 0x73,
         // beq (or bne) rd, rs, .+8
-        _ => (rs << 20) | (rd << 15) | (dice.below(2) << 12) | 0x400 | 0x63,
+        5 => (rs << 20) | (rd << 15) | (dice.below(2) << 12) | 0x400 | 0x63,
+        // mul (or mulh, to remu) rd, rd, rs
+        _ => 0x0200_0033 | (rs << 20) | (rd << 15) | (dice.below(8) << 12) | (rd << 7),
     }
 }
 
@@ -121,14 +125,14 @@ fn push_call(alloc: Global, code: &mut String, dice: &mut Dice) -> Result<(), Fa
 }
 
 // A program that goes round for ever, unless a call or an exception ends it.
-fn program(alloc: Global, dice: &mut Dice) -> Result<String, Fail> {
+fn program(alloc: Global, dice: &mut Dice, muldiv: bool) -> Result<String, Fail> {
     let mut code = String::new(alloc);
     // lui x5, 0x20
     push(alloc, &mut code, load_upper(5, 0x20))?;
     for item in 0..40 {
         match dice.below(3) {
             0 => push_call(alloc, &mut code, dice)?,
-            _ => push(alloc, &mut code, instruction(dice))?,
+            _ => push(alloc, &mut code, instruction(dice, muldiv))?,
         }
     }
     // lui x18, 0x10; jalr x0, 0(x18)
@@ -152,10 +156,16 @@ fn moments(alloc: Global, dice: &mut Dice, d: u32) -> Result<String, Fail>
     Ok(moments)
 }
 
-fn push_domain(alloc: Global, image: &mut String, dice: &mut Dice, d: u32) -> Result<(), Fail>
+fn push_domain(
+    alloc: Global,
+    image: &mut String,
+    dice: &mut Dice,
+    d: u32,
+    muldiv: bool,
+) -> Result<(), Fail>
     requires few { d < 8 }
 {
-    let program = program(alloc, dice)?;
+    let program = program(alloc, dice, muldiv)?;
     let moments = moments(alloc, dice, d)?;
     let (colour, other) = (d + 1, d + 8);
     let domain = format!(in alloc;
@@ -173,7 +183,7 @@ fn push_schedule(alloc: Global, image: &mut String, dice: &mut Dice) -> Result<(
             _ => dice.below(2),
         };
         let length = 1000 + dice.below(6000);
-        let pad = 6150 + dice.below(100);
+        let pad = 6216 + dice.below(100);
         let entry = format!(in alloc;
             "[[schedule]]\ndomain = {domain}\nlength = {length}\npad = {pad}\n"
         )?;
@@ -191,10 +201,25 @@ fn policy(number: u32) -> &'static str {
     }
 }
 
+// A predictor with or without a history and targets, products and divisions or none.
+fn parts(alloc: Global, seed: u32, muldiv: bool) -> Result<String, Fail> {
+    let history = [0, 2, 8][seed as usize % 3];
+    let targets = ["", "targets = 1\n", "targets = 16\n"][seed as usize / 3 % 3];
+    let costs = if muldiv {
+        "muldiv = { mul = 4, div = 2 }\n"
+    } else {
+        ""
+    };
+    Ok(format!(in alloc; "predictor = 16\nhistory = {history}\n{targets}{costs}")?)
+}
+
 fn generated(alloc: Global, seed: u32) -> Result<String, Fail> {
     let mut dice = Dice { state: seed };
     let (second, first) = (policy(seed), policy(seed / 4));
+    let muldiv = seed % 2 == 1;
+    let parts = parts(alloc, seed, muldiv)?;
     let mut image = MACHINE
+        .replace(alloc, "predictor = 16\n", parts.as_str())?
         .replace(
             alloc,
             "4, policy = \"lru\"",
@@ -205,8 +230,8 @@ fn generated(alloc: Global, seed: u32) -> Result<String, Fail> {
             "2, policy = \"lru\"",
             format!(in alloc; "2, policy = \"{first}\"")?.as_str(),
         )?;
-    push_domain(alloc, &mut image, &mut dice, 0)?;
-    push_domain(alloc, &mut image, &mut dice, 1)?;
+    push_domain(alloc, &mut image, &mut dice, 0, muldiv)?;
+    push_domain(alloc, &mut image, &mut dice, 1, muldiv)?;
     push_schedule(alloc, &mut image, &mut dice)?;
     Ok(image)
 }

@@ -7,6 +7,7 @@ use Rattle.repl_policy.specs.Orders.{lru_rule, fifo_rule}
 use Rattle.repl_policy.specs.Halves.{plru_rule}
 use Rattle.repl_policy.specs.Marks.{nmru_rule}
 use Rattle.kernel_clone.specs.Footprints.{Layout}
+use Rattle.branch_pred.specs.declared.Sizes.{Sizes}
 use Rattle.mem_system.specs.Hierarchy.{Hierarchy}
 use Rattle.cache_sharing.specs.Operations.{shared_region}
 use Rattle.hardware_check.specs.declared.hardware.Policy.{Policy}
@@ -25,11 +26,15 @@ rule_of Nmru = nmru_rule
 abbrev pub cache_shape : CacheShape → Shape
 cache_shape c = record { rule = rule_of c.policy c.ways; ways = c.ways; count = c.sets }
 
+abbrev pub predictor_sizes : Hardware → Sizes
+predictor_sizes p = record { counters = p.predictor; history = p.history; targets = p.targets }
+
 unfoldable pub hierarchy : Hardware → Hierarchy
 hierarchy p = record {
   costs = p.costs;
+  products = p.muldiv;
   line_size = p.line;
-  counters = p.predictor;
+  predictor = predictor_sizes p;
   l1i = cache_shape p.l1i;
   l1d = cache_shape p.l1d;
   l2 = cache_shape p.l2;

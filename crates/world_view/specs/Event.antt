@@ -1,5 +1,5 @@
 -- One event of a domain in its slot: what happens, as a function of the domain, the memory and the clock, with what it touches.
-use Rattle.std.specs.Prelude.{ℕ, ◌+◌, ◌*◌, ◌/◌, ◌%◌, ◌==◌, min, Bool, true, false, if◌then◌else◌, List, [], ◌∷◌, ◌++◌, Option, Some, None, Result, Ok, Err, ◌⊎◌}
+use Rattle.std.specs.Prelude.{ℕ, ◌+◌, ◌*◌, ◌/◌, ◌%◌, ◌==◌, min, is_some, Bool, true, false, if◌then◌else◌, List, [], ◌∷◌, ◌++◌, Option, Some, None, Result, Ok, Err, ◌⊎◌}
 use Rattle.std.proofs.Common.{inl, inr}
 use Rattle.tp_base.specs.Act as act
 use Rattle.tp_base.specs.Act.{◌>>=◌, ◌>>◌, Done, give, stop, note, either}
@@ -11,17 +11,21 @@ use Rattle.rv_decode.specs.declared.Instr.TheVariants as instr
 use Rattle.rv_decode.specs.declared.LoadWidth.{LoadWidth}
 use Rattle.rv_core.specs.Effect.{Outcome, effect_of}
 use Rattle.rv_core.specs.Memory.{load_size, address_of, misalignment_of}
+use Rattle.rv_core.specs.declared.Effect.{Effect}
 use Rattle.rv_core.specs.declared.Store.{Store as StoreMade}
 use Rattle.rv_core.specs.declared.Trap.{Trap}
 use Rattle.rv_core.specs.declared.exception.Exception.{Exception}
 use Rattle.rv_core.specs.declared.exception.Exception.TheVariants as exception
 use Rattle.rv_core.specs.Exceptions.{code_of}
+use Rattle.rv_core.specs.Products.{digits_of, dividend_of}
+use Rattle.rv_decode.specs.declared.Division.{Division}
 use Rattle.sv32_walk.specs.declared.access.Access.{Access}
 use Rattle.sv32_walk.specs.declared.access.Access.TheVariants as access
 use Rattle.sv32_walk.specs.declared.access.WalkFault.{WalkFault}
 use Rattle.sv32_walk.specs.declared.access.WalkFault.TheVariants as fault
 use Rattle.sv32_walk.specs.PageTableEntry.{ppn}
 use Rattle.sv32_walk.specs.Walk.{walk}
+use Rattle.cycle_cost.specs.Costs.{ProductCosts, division_cost}
 use Rattle.hardware_check.specs.Hardware.{Hardware}
 use Rattle.image_check.specs.Own.{Own}
 use Rattle.irq_partition.specs.Interrupts.{Interrupts, next_cycle, due}
@@ -32,7 +36,7 @@ use Rattle.call_table.specs.Domain.{Dom, is_running}
 use Rattle.call_table.specs.Claims.{Estate}
 use Rattle.call_table.specs.Calls.{Note, empties, work_of, call}
 use Rattle.world_view.specs.Instruction.{stopped, trapped, retired_at, counter_value, read_out}
-use Rattle.mem_system.specs.Cost.{Touch, Fetch, Load, Store as StoreTouch, Branch, EmptyTlb}
+use Rattle.mem_system.specs.Cost.{Touch, Fetch, Load, Store as StoreTouch, Branch, Jump as JumpTouch, EmptyTlb, Charge}
 use Rattle.mem_system.specs.Translation.{look_of}
 use Rattle.cache_sharing.specs.Operations.{operation, plain}
 
@@ -119,6 +123,26 @@ store p r d (Some s) = do
 
 -- ---- an instruction at a clock
 
+-- what a product takes beside its instruction, and a division of so many digits
+abbrev pub product_time : Option ProductCosts → ℕ
+product_time None = 0
+product_time (Some costs) = costs.mul
+
+abbrev pub division_time : Option ProductCosts → ℕ → ℕ
+division_time None digits = 0
+division_time (Some costs) digits = division_cost costs digits
+
+-- the digits of the dividend's magnitude
+abbrev pub digits_in : List ℕ → Division → ℕ → ℕ
+digits_in regs division rs1 = digits_of (dividend_of division (register regs rs1))
+
+-- products and divisions take their time
+unfoldable pub computed : Hardware → Dom → Instr → Act (Unit {0})
+computed p d (instr.Multiply product rd rs1 rs2) = touch (Charge (product_time p.muldiv))
+computed p d (instr.Divide division rd rs1 rs2) =
+    touch (Charge (division_time p.muldiv (digits_in d.threads.current.regs division rs1)))
+computed p d _ = give tt
+
 -- what the instruction needs from outside the registers: what a load finds, or a counter's value
 unfoldable pub loaded : Hardware → ℕ → ℕ → Dom → Instr → Act ℕ
 loaded p r t d (instr.Load width rd rs1 offset) = load p r d width (address_of d.threads.current.regs (instr.Load width rd rs1 offset))
@@ -130,16 +154,18 @@ unfoldable pub noted : Instr → ℕ → Dom → Dom
 noted (instr.ReadCounter counter rd) value d = read_out value d
 noted _ value d = d
 
--- a branch is guessed, and taught whether it is taken
-unfoldable pub guessed : Instr → ℕ → Bool → Act (Unit {0})
-guessed (instr.Branch comparison rs1 rs2 offset) pc taken = touch (Branch pc taken)
-guessed _ pc taken = give tt
+-- a branch is guessed, and taught whether it is taken; where it or a jump goes is looked up
+unfoldable pub guessed : Instr → ℕ → Effect → Act (Unit {0})
+guessed (instr.Branch comparison rs1 rs2 offset) pc e = touch (Branch pc e.taken e.next)
+guessed (instr.Jal rd offset) pc e = touch (JumpTouch pc e.next)
+guessed (instr.Jalr rd rs1 offset) pc e = touch (JumpTouch pc e.next)
+guessed _ pc e = give tt
 
 -- the effect: a trap, or a store, the registers and the next instruction
 unfoldable pub settle : Hardware → ℕ → Dom → Instr → ℕ → Outcome → Act Dom
 settle p r d i value out = do
   unless out.effect.trap d
-  guessed i d.threads.current.pc out.effect.taken
+  guessed i d.threads.current.pc out.effect
   store p r d out.effect.store
   give (retired_at out.effect.next out.regs (noted i value d))
 
@@ -149,6 +175,12 @@ execute p r t d i = do
   unless (misalignment_of i (address_of d.threads.current.regs i)) d
   value ← loaded p r t d i
   settle p r d i value (effect_of d.threads.current.regs d.threads.current.pc i value)
+
+-- the same in its own time
+unfoldable pub timed : Hardware → ℕ → ℕ → Dom → Instr → Act Dom
+timed p r t d i = do
+  computed p d i
+  execute p r t d i
 
 -- ---- a kernel call
 
@@ -171,14 +203,14 @@ make_call p e l d = λ s.
 unfoldable pub perform : Hardware → Estate → Layout → ℕ → Dom → ℕ → Option Instr → Act Dom
 perform p e l t d w None = stop (stopped (code_of exception.IllegalInstruction) w d)
 perform p e l t d w (Some instr.Ecall) = make_call p e l d
-perform p e l t d w (Some i) = execute p e.root t d i
+perform p e l t d w (Some i) = timed p e.root t d i
 
 unfoldable pub instruction : Hardware → Estate → Layout → ℕ → Dom → Act Dom
 instruction p e l t d = do
   f ← translate p e.root d access.Fetch d.threads.current.pc
   touch (Fetch (line_in p f d.threads.current.pc))
   w ← read f (place d.threads.current.pc)
-  perform p e l t d w (decode_of w)
+  perform p e l t d w (decode_of (is_some p.muldiv) w)
 
 -- ---- a delivery
 

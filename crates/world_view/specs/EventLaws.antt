@@ -1,5 +1,5 @@
 -- One event of a domain in its slot, as laws: what it touches, and what it costs at most.
-use Rattle.std.specs.Prelude.{◌≡◌, ◌≢◌, ℕ, suc, ◌+◌, ◌<◌, ◌≤◌, Bool, List, [], Option, Some, None, Result, Ok, Err}
+use Rattle.std.specs.Prelude.{◌≡◌, ◌≢◌, ℕ, suc, ◌+◌, ◌<◌, ◌≤◌, Bool, List, [], Option, Some, None, is_some, Result, Ok, Err}
 use Rattle.phys_mem.specs.Mem.{Mem, word}
 use Rattle.rv_decode.specs.Table.{decode_of}
 use Rattle.rv_decode.specs.declared.Instr.{Instr}
@@ -71,16 +71,16 @@ abbrev pub StepCostLaw : Type 0
 StepCostLaw = (p : Hardware) (o : Own) (pinned : Bool) (end : ℕ) (s : Local) → HasWays (hierarchy p) s.caches
     → EndsBy p s.clock end (event o s.clock end s.dom) (step (setting p o pinned) end s).clock
 
--- the instruction that a walk's leaf leads to, where it found one
-abbrev pub instruction_at : Mem → ℕ → Result ℕ WalkFault → Option Instr
-instruction_at m pc (Ok leaf) = decode_of (word m (ppn leaf) (place pc))
-instruction_at m pc (Err f) = None
+-- the instruction that a walk's leaf leads to, where it found one, of a machine with products and divisions or without
+abbrev pub instruction_at : Bool → Mem → ℕ → Result ℕ WalkFault → Option Instr
+instruction_at muldiv m pc (Ok leaf) = decode_of muldiv (word m (ppn leaf) (place pc))
+instruction_at muldiv m pc (Err f) = None
 
 -- the one that the current thread runs next
 abbrev pub next_instruction : Hardware → Own → Dom → Mem → Option Instr
 next_instruction p o d m =
     let pc = d.threads.current.pc in
-    instruction_at m pc (walk m p.frames (root_of p o) pc Fetch).result
+    instruction_at (is_some p.muldiv) m pc (walk m p.frames (root_of p o) pc Fetch).result
 
 -- one that makes no kernel call takes the bound's instruction at most
 abbrev pub PlainCostLaw : Type 0

@@ -1,5 +1,5 @@
 -- Worked runs, computed from the definitions alone. In the first each domain prints a byte and exits; in the second it reads the clock before and after it prints.
-use Rattle.std.specs.Prelude.{◌≡◌, ℕ, true, false, Ok, Err, List, [], ◌∷◌, codes, refl, slice_set, replicate, ◌+◌, ◌*◌}
+use Rattle.std.specs.Prelude.{◌≡◌, ℕ, true, false, Some, None, Ok, Err, List, [], ◌∷◌, codes, refl, slice_set, replicate, length, ◌+◌, ◌*◌}
 use Rattle.tp_base.specs.Table.{empty, at, put}
 use Rattle.tp_base.specs.Act.{go_on, ◌>>=◌, ◌>>◌, give, stop, note, check, either}
 use Rattle.phys_mem.specs.Mem.{frame_at, word, written}
@@ -18,6 +18,8 @@ use Rattle.irq_partition.specs.Interrupts as interrupts
 use Rattle.kernel_clone.specs.Footprints.{text_touches, stack_touches, data_touches, shared_touches, zeroed_touches, entry_touches, touches}
 use Rattle.call_table.specs.declared.DomainStatus.TheVariants.{Exited}
 use Rattle.call_table.specs.Domain as domain
+use Rattle.call_table.specs.Domain.{is_running}
+use Rattle.irq_partition.specs.Interrupts.{next_of}
 use Rattle.call_table.specs.Claims.{frame_of, is_shared, leaf_at, place_of, region_of, claim_of, all_claims, claims, frames_in, is_named, free_frames, least_free}
 use Rattle.call_table.specs.Calls as calls
 use Rattle.kernel_call.specs.Logs.{log_of}
@@ -40,8 +42,8 @@ use Rattle.mem_system.specs.Cost as cost
 use Rattle.mem_system.specs.Translation.{lines_of, look_of}
 use Rattle.cache_sharing.specs.Operations.{footprint, operation, leave, enter, shared_region, prefetch}
 use Rattle.world_view.specs.Cost.{hierarchy, region}
-use Rattle.world_view.specs.Event.{touch, frame_or_stop, translate, address_in, line_in, read, write, unless, load, store, loaded, noted, guessed, settle, execute, call_touches, make_call, perform, instruction, delivery_touches, interrupts_of, event}
-use Rattle.world_view.specs.Machine.{clock_of, with_hart, paid, delivered, happened, step, steps, enter_part, with_part, switch, opening_doms, opening, whole, alone_opening, alone_enter, alone_in, alone_out, alone_if, alone, flush_by, guarded, leave_by, own_slot, prefetch_by, run_slot_by, switch_by, switch_work_by, whole_by, with_end, dom_of, whole_off, first_due, step_among, steps_among}
+use Rattle.world_view.specs.Event.{touch, frame_or_stop, translate, address_in, line_in, read, write, unless, load, store, computed, loaded, noted, guessed, settle, execute, timed, call_touches, make_call, perform, instruction, delivery_touches, interrupts_of, event}
+use Rattle.world_view.specs.Machine.{clock_of, with_hart, paid, delivered, happened, step, steps, enter_part, with_part, switch, opening_doms, opening, whole, alone_opening, alone_enter, alone_in, alone_out, alone_if, alone, flush_by, guarded, leave_by, own_slot, prefetch_by, run_slot_by, switch_by, switch_work_by, whole_by, with_end, dom_of, part_of, whole_off, World, Guards, setting_by, Owned, if_due, first_of, first_due, step_among, steps_among}
 use Rattle.world_view.specs.View.{View, view, view_whole, view_alone, memory_sum}
 use Rattle.world_view.specs.Used.{count_of, largest_of}
 use Rattle.world_view.specs.Laws.{local_in}
@@ -81,6 +83,9 @@ small_machine = record {
   l2 = record { sets = 256; ways = 4; policy = Lru };
   tlb = record { sets = 4; ways = 2; policy = Lru };
   predictor = 16;
+  history = 0;
+  muldiv = None;
+  targets = 0;
   costs = record { base = 1; l1 = 1; l2 = 8; mem = 40; wb = 10; tlb = 1; mispredict = 3; trap = 10; flush = 20 };
 }
 
@@ -181,7 +186,7 @@ waited_and_polled clock = record {
 
 -- all that a run computes with
 pub everything : ℕ
-unfolding interrupts.next_cycle interrupts.due threads.waiter threads.woken threads.blocked threads.finished threads.vacant threads.spawned threads.with_thread domain.recorded domain.with_bit domain.signalled_by domain.signalled domain.delivered_on domain.turned domain.waiting domain.thread_ended domain.with_spawned calls.line_at calls.poll calls.waited calls.wait calls.signal calls.spawn empty at put go_on ◌>>=◌ ◌>>◌ give stop note either start frame_at word written frame_words put_word tabled root_entry rights_in leaf_with leaf_entry root_placed table_placed tables_placed page_words pages_placed segments_placed placed all_placed has_region regions_below pages_below pages_in table_word leaf_word leaf_bits bit ppn ppn_0 ppn_1 with_ppn vpn_0 vpn_1 leaf superpage first_level last_level entry_address from_table from_entry walk first_cap first_slots opening_dom page_numbers kept_pages first_regions fixed_claims estate layout no_dom threads.opening never turned_to yielded given_way with_current all_ended domain.opening domain.placed domain.replied domain.exited domain.with_caps calls.zeroed_in calls.entries_in calls.work_of calls.zero_out calls.page_refusal calls.table_refusal calls.map_at calls.unmap_at calls.install_at calls.uninstall_at calls.empty_buffer calls.some_or calls.is_slot calls.filled calls.allowed calls.put_byte calls.alloc calls.install calls.map_page calls.unmap calls.unless_refused calls.copy calls.clear_entry calls.drop_slot calls.delete calls.unmap_all calls.revoke calls.call_of calls.call slots.maps_in slots.in_use slots.count_in frame_of is_shared leaf_at place_of region_of claim_of all_claims claims frames_in is_named free_frames least_free text_touches stack_touches data_touches shared_touches zeroed_touches entry_touches touches check stopped trapped retired_at read_out colour_of_line cost.fresh_core cost.cold cost.fetched cost.accessed cost.looked cost.branched cost.flushed cost.on_core cost.below_by cost.below_if cost.below cost.below_all cost.pass_on cost.touched cost.and_then cost.touched_all lines_of look_of footprint operation leave enter shared_region prefetch hierarchy region touch frame_or_stop translate address_in line_in read write unless load store loaded noted guessed settle execute calls.empties call_touches make_call perform instruction delivery_touches interrupts_of event paid delivered happened step steps leave_by guarded prefetch_by flush_by enter_part switch_work_by with_part switch_by run_slot_by own_slot with_end opening_doms opening whole_by alone_opening alone_enter alone_in alone_out alone_if alone log_of colours.pool colours.frame_at view view_whole view_alone memory_sum count_of largest_of two_domains interrupted with_hart beside_moment first_due step_among steps_among
+unfolding interrupts.next_cycle interrupts.due threads.waiter threads.woken threads.blocked threads.finished threads.vacant threads.spawned threads.with_thread domain.recorded domain.with_bit domain.signalled_by domain.signalled domain.delivered_on domain.turned domain.waiting domain.thread_ended domain.with_spawned calls.line_at calls.poll calls.waited calls.wait calls.signal calls.spawn empty at put go_on ◌>>=◌ ◌>>◌ give stop note either start frame_at word written frame_words put_word tabled root_entry rights_in leaf_with leaf_entry root_placed table_placed tables_placed page_words pages_placed segments_placed placed all_placed has_region regions_below pages_below pages_in table_word leaf_word leaf_bits bit ppn ppn_0 ppn_1 with_ppn vpn_0 vpn_1 leaf superpage first_level last_level entry_address from_table from_entry walk first_cap first_slots opening_dom page_numbers kept_pages first_regions fixed_claims estate layout no_dom threads.opening never turned_to yielded given_way with_current all_ended domain.opening domain.placed domain.replied domain.exited domain.with_caps calls.zeroed_in calls.entries_in calls.work_of calls.zero_out calls.page_refusal calls.table_refusal calls.map_at calls.unmap_at calls.install_at calls.uninstall_at calls.empty_buffer calls.some_or calls.is_slot calls.filled calls.allowed calls.put_byte calls.alloc calls.install calls.map_page calls.unmap calls.unless_refused calls.copy calls.clear_entry calls.drop_slot calls.delete calls.unmap_all calls.revoke calls.call_of calls.call slots.maps_in slots.in_use slots.count_in frame_of is_shared leaf_at place_of region_of claim_of all_claims claims frames_in is_named free_frames least_free text_touches stack_touches data_touches shared_touches zeroed_touches entry_touches touches check stopped trapped retired_at read_out colour_of_line cost.fresh_core cost.cold cost.fetched cost.accessed cost.looked cost.guessed cost.branched cost.jumped cost.flushed cost.on_core cost.below_by cost.below_if cost.below cost.below_all cost.pass_on cost.touched cost.and_then cost.touched_all lines_of look_of footprint operation leave enter shared_region prefetch hierarchy region touch frame_or_stop translate address_in line_in read write unless load store computed loaded noted guessed settle execute timed calls.empties call_touches make_call perform instruction delivery_touches interrupts_of event paid delivered happened step steps leave_by guarded prefetch_by flush_by enter_part switch_work_by with_part switch_by run_slot_by own_slot with_end opening_doms opening whole_by alone_opening alone_enter alone_in alone_out alone_if alone log_of colours.pool colours.frame_at view view_whole view_alone memory_sum count_of largest_of two_domains interrupted with_hart beside_moment first_due step_among steps_among
 everything = 0
 
 -- ---- the memory that it opens with
@@ -339,6 +344,41 @@ shared_moments = refl
 pub own_moments : (dom_of (whole (beside_moment 22400) 2) 1).readings ≡ 22300 ∷ 22771 ∷ []
 unfolding everything
 own_moments = refl
+
+-- of all moments that are due the earliest comes first, and of one cycle that of the least line, whoever owns it
+abbrev pub owned : ℕ → ℕ → ℕ → Owned
+owned owner cycle line = record { owner = owner; moment = record { at = cycle; line = line } }
+
+pub earliest : first_of (Some (owned 0 20 1)) (Some (owned 1 10 5)) ≡ Some (owned 1 10 5)
+earliest = refl
+
+pub earliest_before : first_of (Some (owned 0 10 5)) (Some (owned 1 20 1)) ≡ Some (owned 0 10 5)
+earliest_before = refl
+
+pub least_line : first_of (Some (owned 0 10 5)) (Some (owned 1 10 1)) ≡ Some (owned 1 10 1)
+least_line = refl
+
+pub least_line_before : first_of (Some (owned 0 10 1)) (Some (owned 1 10 5)) ≡ Some (owned 0 10 1)
+least_line_before = refl
+
+-- a domain's moment is due whatever became of it
+pub owner_may_have_ended : (i : Image) (w : World)
+    → first_due i w 1 ≡ if_due (clock_of 0 w) 0 (next_of (interrupts_of (own_of i 0) (dom_of w 0)))
+unfolding first_due
+owner_may_have_ended i w = refl
+
+-- in the slot of one that has ended none comes
+pub none_where_nobody_runs : (g : Guards) (i : Image) (d end : ℕ) (w : World) → is_running (dom_of w d).status ≡ false
+    → step_among g i d end w ≡ with_part 0 d w (step (setting_by g i d) end (part_of 0 d w))
+unfolding step_among
+none_where_nobody_runs g i d end w ended = rw ended refl
+
+-- while one runs that is idle, another's moment comes, too, and is charged by the clone of the one that runs
+pub comes_to_its_owner : (g : Guards) (i : Image) (d end : ℕ) (w : World) (x : Owned) → is_running (dom_of w d).status ≡ true
+    → first_due i w (length i.owns) ≡ Some x
+    → step_among g i d end w ≡ with_part 0 x.owner w (delivered (setting_by g i d) x.moment.line (part_of 0 x.owner w))
+unfolding step_among
+comes_to_its_owner g i d end w x runs due = rw (runs, due) refl
 
 -- jal x0, 0
 abbrev pub idle_loop : List ℕ

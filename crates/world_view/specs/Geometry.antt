@@ -6,6 +6,7 @@ use Rattle.mem_system.specs.declared.geometry.Geometry.{Geometry}
 use Rattle.hardware_check.specs.declared.hardware.Policy.{Policy}
 use Rattle.hardware_check.specs.declared.hardware.Policy.TheVariants.{Lru, Fifo, Plru, Nmru}
 use Rattle.hardware_check.specs.Hardware.{CacheShape, Hardware}
+use Rattle.world_view.specs.Cost.{predictor_sizes}
 
 abbrev pub any_of : Policy → AnyPolicy
 any_of Lru = any.Lru
@@ -19,7 +20,7 @@ cache_geometry c = record { policy = any_of c.policy; sets = c.sets; ways = c.wa
 abbrev pub geometry : Hardware → Geometry AnyPolicy
 geometry p = record {
   line_size = p.line;
-  counters = p.predictor;
+  predictor = predictor_sizes p;
   l1i = cache_geometry p.l1i;
   l1d = cache_geometry p.l1d;
   l2 = cache_geometry p.l2;

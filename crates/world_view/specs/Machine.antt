@@ -177,7 +177,7 @@ pub record Hart : Type 0 where
 -- a hart that no machine has
 abbrev pub no_hart : Hart
 no_hart = record {
-  core = record { l1i = empty; l1d = empty; tlb = empty; guesses = fresh_guesses 0 };
+  core = record { l1i = empty; l1d = empty; tlb = empty; guesses = fresh_guesses (record { counters = 0; history = 0; targets = 0 }) };
   clock = 0;
   ended = 0;
 }

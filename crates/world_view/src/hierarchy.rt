@@ -7,6 +7,7 @@ ghost use Rattle.hardware_check.specs.Models.{hardware_model, shape_model};
 ghost use Rattle.world_view.specs.Cost.{hierarchy};
 ghost use Rattle.world_view.specs.Geometry as spec;
 
+use branch_pred::Sizes;
 use image_check::{CacheShape, Hardware, Policy};
 use mem_system::{CacheGeometry, Geometry};
 use repl_policy::AnyPolicy;
@@ -37,12 +38,16 @@ pub fn geometry_of(hardware: &Hardware) -> Geometry<AnyPolicy>
     requires hardware { IsHardware (hardware_model hardware.now) }
     ensures value { result ≡ spec.geometry (hardware_model hardware.now) }
     ensures sound { IsGeometry any_takes result }
-    ensures hierarchy { hierarchy_by any_rule result hardware.now.costs
+    ensures hierarchy { hierarchy_by any_rule result hardware.now.costs hardware.now.muldiv
         ≡ hierarchy (hardware_model hardware.now) }
 {
     Geometry {
         line_size: hardware.line,
-        counters: hardware.predictor,
+        predictor: Sizes {
+            counters: hardware.predictor,
+            history: hardware.history,
+            targets: hardware.targets,
+        },
         l1i: cache_of(hardware.l1i),
         l1d: cache_of(hardware.l1d),
         l2: cache_of(hardware.l2),

@@ -32,7 +32,7 @@ impl<'a> Alone<'a> {
     {
         let hardware = &public.hardware;
         let geometry = geometry_of(hardware);
-        let system = MemSystem::new(alloc, geometry, hardware.costs, true)?;
+        let system = MemSystem::new(alloc, geometry, hardware.costs, hardware.muldiv, true)?;
         let mut memory = PhysMem::new(alloc, hardware.frames)?;
         let share = share_of(alloc, hardware, own)?;
         let domain = open_domain(alloc, hardware, own, share, &mut memory)?;

@@ -8,6 +8,7 @@ use Rattle.phys_mem.specs.Mem.{Mem, Frame, frame_at, word, written, frame_at-wri
 use Rattle.rv_decode.specs.declared.Instr.{Instr}
 use Rattle.rv_decode.specs.declared.Instr.TheVariants as instr
 use Rattle.rv_decode.specs.declared.LoadWidth.{LoadWidth}
+use Rattle.rv_core.specs.declared.Effect.{Effect}
 use Rattle.rv_core.specs.Registers.{register}
 use Rattle.rv_core.specs.Effect.{Outcome}
 use Rattle.rv_core.specs.declared.Store.{Store as StoreMade}
@@ -29,12 +30,12 @@ use Rattle.image_check.specs.Own.{Own}
 use Rattle.world_view.specs.Frames.{own_frame}
 use Rattle.world_view.specs.Kernel.{estate, layout}
 use Rattle.world_view.specs.Instruction.{stopped, trapped}
-use Rattle.mem_system.specs.Cost.{Touch, Fetch, Load, Store as StoreTouch, Branch}
+use Rattle.mem_system.specs.Cost.{Touch, Fetch, Load, Store as StoreTouch, Branch, Jump, Charge}
 use Rattle.mem_system.specs.Translation.{lines_of, look_of}
 use Rattle.cache_sharing.specs.Sharing.{IsOwnLine, MayTouch}
 use Rattle.cache_sharing.proofs.OwnTouches.{may_append}
 use Rattle.world_view.specs.Cost.{hierarchy, region, own_colour}
-use Rattle.world_view.specs.Event.{Storage, Act, touch, fault_of, frame_or_stop, translate, address_in, line_in, read, write, unless, load, store, loaded, guessed, settle, execute, call_touches, make_call, perform, instruction}
+use Rattle.world_view.specs.Event.{Storage, Act, touch, fault_of, frame_or_stop, translate, address_in, line_in, read, write, unless, load, store, computed, loaded, guessed, settle, execute, timed, call_touches, make_call, perform, instruction}
 use Rattle.world_view.specs.Relations.{IsOwnFrame, MayAll, IsKernel, HasFacts, BesideStorage}
 use Rattle.world_view.proofs.actions.TableLaws.{IsPage, walkable, own_reads, own_page, walk_alike, mine_own, own_mine, not_mine}
 use Rattle.world_view.proofs.actions.InstructionLaws.{retired_caps}
@@ -273,17 +274,28 @@ module _ (p : Hardware) (o : Own) (kernel : IsKernel p o) (d : Dom) (first : Sto
   loaded_near t (instr.ReadCounter counter rd) = search near_rules depth 40
   loaded_near t _ = search near_rules depth 40
 
-  guessed_still : (i : Instr) (pc : ℕ) (taken : Bool) → Near p o kernel d first (Held p o kernel d first) (Still p o kernel d first (Held p o kernel d first)) (guessed i pc taken)
+  computed_still : (i : Instr) → Near p o kernel d first (Held p o kernel d first) (Still p o kernel d first (Held p o kernel d first)) (computed p d i)
+  unfolding computed
+  computed_still (instr.Multiply product rd rs1 rs2) = touch_still p o kernel d first (Held p o kernel d first) (Charge _) (λ s h. tt)
+  computed_still (instr.Divide division rd rs1 rs2) = touch_still p o kernel d first (Held p o kernel d first) (Charge _) (λ s h. tt)
+  computed_still _ = record { runs = (give_any p o kernel d first tt).runs }
+
+  guessed_still : (i : Instr) (pc : ℕ) (e : Effect) → Near p o kernel d first (Held p o kernel d first) (Still p o kernel d first (Held p o kernel d first)) (guessed i pc e)
   unfolding guessed
-  guessed_still (instr.Branch comparison rs1 rs2 offset) pc taken = touch_still p o kernel d first (Held p o kernel d first) (Branch pc taken) (λ s h. tt)
-  guessed_still _ pc taken = record { runs = (give_any p o kernel d first tt).runs }
+  guessed_still (instr.Branch comparison rs1 rs2 offset) pc e =
+      touch_still p o kernel d first (Held p o kernel d first) (Branch pc e.taken e.next) (λ s h. tt)
+  guessed_still (instr.Jal rd offset) pc e =
+      touch_still p o kernel d first (Held p o kernel d first) (Jump pc e.next) (λ s h. tt)
+  guessed_still (instr.Jalr rd rs1 offset) pc e =
+      touch_still p o kernel d first (Held p o kernel d first) (Jump pc e.next) (λ s h. tt)
+  guessed_still _ pc e = record { runs = (give_any p o kernel d first tt).runs }
 
 module _ (p : Hardware) (o : Own) (kernel : IsKernel p o) (d : Dom) (first : Storage) where
   settle_near : (i : Instr) (value : ℕ) (out : Outcome) → Near p o kernel d first (Held p o kernel d first) (Ends p o kernel d first) (settle p (estate p o).root d i value out)
   unfolding settle
   settle_near i value out =
       then_still p o kernel d first (Ends p o kernel d first) (Held p o kernel d first) _ _ (unless_still p o kernel d first out.effect.trap)
-      (then_still p o kernel d first (Ends p o kernel d first) (Held p o kernel d first) _ _ (guessed_still p o kernel d first i d.threads.current.pc out.effect.taken)
+      (then_still p o kernel d first (Ends p o kernel d first) (Held p o kernel d first) _ _ (guessed_still p o kernel d first i d.threads.current.pc out.effect)
       (then_any p o kernel d first (Ends p o kernel d first) (Held p o kernel d first) _ _ (store_near p o kernel d first out.effect.store)
       (give_ends p o kernel d first _ (retired_caps out.effect.next out.regs i value d))))
 
@@ -291,12 +303,18 @@ module _ (p : Hardware) (o : Own) (kernel : IsKernel p o) (d : Dom) (first : Sto
   unfolding execute
   execute_near t i = search (near_rules, loaded_near, settle_near) depth 40
 
+  timed_near : (t : ℕ) (i : Instr) → Near p o kernel d first (Held p o kernel d first) (Ends p o kernel d first) (timed p (estate p o).root t d i)
+  unfolding timed
+  timed_near t i =
+      then_still p o kernel d first (Ends p o kernel d first) (Held p o kernel d first) _ _ (computed_still p o kernel d first i)
+      (execute_near t i)
+
 module _ (p : Hardware) (o : Own) (kernel : IsKernel p o) (d : Dom) (first : Storage) where
   perform_near : (t : ℕ) (w : ℕ) (i : Option Instr) → Near p o kernel d first (Held p o kernel d first) (Ends p o kernel d first) (perform p (estate p o) (layout p o) t d w i)
   unfolding perform
   perform_near t w None = stop_stopped p o kernel d first (Ends p o kernel d first) 2 w
   perform_near t w (Some instr.Ecall) = call_near p o kernel d first
-  perform_near t w (Some i) = execute_near p o kernel d first t i
+  perform_near t w (Some i) = timed_near p o kernel d first t i
 
   pub instruction_near : (t : ℕ) → Near p o kernel d first (Held p o kernel d first) (Ends p o kernel d first) (instruction p (estate p o) (layout p o) t d)
   unfolding instruction

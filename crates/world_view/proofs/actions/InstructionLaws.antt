@@ -7,6 +7,7 @@ use Rattle.phys_mem.specs.Mem.{Mem, written}
 use Rattle.rv_decode.specs.declared.Instr.{Instr}
 use Rattle.rv_decode.specs.declared.Instr.TheVariants as instr
 use Rattle.rv_decode.specs.declared.LoadWidth.{LoadWidth}
+use Rattle.rv_core.specs.declared.Effect.{Effect}
 use Rattle.rv_core.specs.Effect.{Outcome, effect_of}
 use Rattle.rv_core.specs.declared.Store.{Store as StoreMade}
 use Rattle.rv_core.specs.declared.Trap.{Trap}
@@ -16,14 +17,14 @@ use Rattle.sv32_walk.specs.declared.access.Access.TheVariants as access
 use Rattle.sv32_walk.specs.declared.access.WalkFault.{WalkFault}
 use Rattle.sv32_walk.specs.PageTableEntry.{ppn}
 use Rattle.sv32_walk.specs.Walk.{walk}
-use Rattle.mem_system.specs.Cost.{Touch, Fetch, Load, Store as StoreTouch, Branch}
+use Rattle.mem_system.specs.Cost.{Touch, Fetch, Load, Store as StoreTouch, Branch, Jump, Charge}
 use Rattle.kernel_clone.specs.Footprints.{Layout}
 use Rattle.call_table.specs.Domain.{Dom, placed}
 use Rattle.call_table.specs.Claims.{Estate}
 use Rattle.call_table.specs.Calls.{call}
 use Rattle.hardware_check.specs.Hardware.{Hardware}
 use Rattle.world_view.specs.Instruction.{stopped, trapped, retired_at, read_out}
-use Rattle.world_view.specs.Event.{Storage, Act, fault_of, frame_or_stop, touch, translate, line_in, read, write, unless, load, store, loaded, noted, guessed, settle, execute, make_call, perform, instruction}
+use Rattle.world_view.specs.Event.{Storage, Act, fault_of, frame_or_stop, touch, translate, line_in, read, write, unless, load, store, computed, loaded, noted, guessed, settle, execute, timed, make_call, perform, instruction}
 
 module _ (p : Hardware) (e : Estate) (l : Layout) (d : Dom) (Held : Storage → Type 0) (Q : Dom → Storage → Type 0)
     (stops : (code value : ℕ) (s : Storage) → Held s → Q (stopped code value d) s)
@@ -139,16 +140,24 @@ module _ (p : Hardware) (e : Estate) (l : Layout) (d : Dom) (Held : Storage → 
   loaded_ends t (instr.ReadCounter counter rd) = give_ends Held Any _ (λ s h. h)
   loaded_ends t i = give_ends Held Any 0 (λ s h. h)
 
-  guessed_ends : (i : Instr) (pc : ℕ) (taken : Bool) → Ends Held (Still Held) (guessed i pc taken)
+  guessed_ends : (i : Instr) (pc : ℕ) (e : Effect) → Ends Held (Still Held) (guessed i pc e)
   unfolding guessed
-  guessed_ends (instr.Branch comparison rs1 rs2 offset) pc taken = touch_ends Held (Branch pc taken)
-  guessed_ends i pc taken = give_ends Held (Still Held) tt (λ s h. h)
+  guessed_ends (instr.Branch comparison rs1 rs2 offset) pc e = touch_ends Held (Branch pc e.taken e.next)
+  guessed_ends (instr.Jal rd offset) pc e = touch_ends Held (Jump pc e.next)
+  guessed_ends (instr.Jalr rd rs1 offset) pc e = touch_ends Held (Jump pc e.next)
+  guessed_ends i pc e = give_ends Held (Still Held) tt (λ s h. h)
+
+  computed_ends : (i : Instr) → Ends Held (Still Held) (computed p d i)
+  unfolding computed
+  computed_ends (instr.Multiply product rd rs1 rs2) = touch_ends Held (Charge _)
+  computed_ends (instr.Divide division rd rs1 rs2) = touch_ends Held (Charge _)
+  computed_ends i = give_ends Held (Still Held) tt (λ s h. h)
 
   settle_ends : (i : Instr) (value : ℕ) (out : Outcome) → Ends Held Q (settle p e.root d i value out)
   unfolding settle
   settle_ends i value out =
       then_ends Held Held Q _ _ (unless_ends out.effect.trap)
-      (then_ends Held Held Q _ _ (guessed_ends i d.threads.current.pc out.effect.taken)
+      (then_ends Held Held Q _ _ (guessed_ends i d.threads.current.pc out.effect)
       (then_ends Held Held Q _ _ (store_ends out.effect.store) (give_ends Held Q _ (retires out.effect.next value out.regs i))))
 
   execute_ends : (t : ℕ) (i : Instr) → Ends Held Q (execute p e.root t d i)
@@ -156,6 +165,10 @@ module _ (p : Hardware) (e : Estate) (l : Layout) (d : Dom) (Held : Storage → 
   execute_ends t i =
       then_ends Held Held Q _ _ (unless_ends _)
       (bind_ends Held Any Q _ _ (loaded_ends t i) (λ value. settle_ends i value (effect_of d.threads.current.regs d.threads.current.pc i value)))
+
+  timed_ends : (t : ℕ) (i : Instr) → Ends Held Q (timed p e.root t d i)
+  unfolding timed
+  timed_ends t i = then_ends Held Held Q _ _ (computed_ends i) (execute_ends t i)
 
   call_ends : Ends Held Q (make_call p e l d)
   unfolding make_call
@@ -165,7 +178,7 @@ module _ (p : Hardware) (e : Estate) (l : Layout) (d : Dom) (Held : Storage → 
   unfolding perform
   perform_ends t w None = stop_ends Q _ (stops 2 w)
   perform_ends t w (Some instr.Ecall) = call_ends
-  perform_ends t w (Some i) = execute_ends t i
+  perform_ends t w (Some i) = timed_ends t i
 
   instruction_ends : (t : ℕ) → Ends Held Q (instruction p e l t d)
   unfolding instruction

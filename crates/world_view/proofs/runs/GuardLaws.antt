@@ -19,6 +19,7 @@ use Rattle.world_view.proofs.runs.SwitchParts.{region_is}
 -- costs and lines are the machine's, each clone is one, and all share the same lines
 pub record AreGuards (i : Image) (g : Guards) : Type 0 where
   pub costs : i.all.hardware.costs ≡ g.levels.costs
+  pub products : i.all.hardware.muldiv ≡ g.levels.products
   pub line : i.all.hardware.line ≡ g.levels.line_size
   pub layout : (d : ℕ) → IsDomain i d → IsLayout (g.clone d)
   pub region : (d : ℕ) → shared_region (g.clone d) ≡ region i.all.hardware
@@ -37,18 +38,19 @@ module _ (i : Image) (r : Separated i) where
 
   pub are_guards : (off : Option Guard) → AreGuards i (guards_of off i)
   unfolding guarded hierarchy
-  are_guards None = record { costs = refl; line = refl; layout = own_layouts; region = own_regions }
-  are_guards (Some guard.Flush) = record { costs = refl; line = refl; layout = own_layouts; region = own_regions }
-  are_guards (Some guard.Prefetch) = record { costs = refl; line = refl; layout = own_layouts; region = own_regions }
-  are_guards (Some guard.Pad) = record { costs = refl; line = refl; layout = own_layouts; region = own_regions }
-  are_guards (Some guard.Colour) = record { costs = refl; line = refl; layout = own_layouts; region = own_regions }
+  are_guards None = record { costs = refl; products = refl; line = refl; layout = own_layouts; region = own_regions }
+  are_guards (Some guard.Flush) = record { costs = refl; products = refl; line = refl; layout = own_layouts; region = own_regions }
+  are_guards (Some guard.Prefetch) = record { costs = refl; products = refl; line = refl; layout = own_layouts; region = own_regions }
+  are_guards (Some guard.Pad) = record { costs = refl; products = refl; line = refl; layout = own_layouts; region = own_regions }
+  are_guards (Some guard.Colour) = record { costs = refl; products = refl; line = refl; layout = own_layouts; region = own_regions }
   are_guards (Some guard.Clone) = record {
     costs = refl;
+    products = refl;
     line = refl;
     layout = λ d is. own_layouts 0 first_is;
     region = λ d. own_regions 0;
   }
-  are_guards (Some guard.Irq) = record { costs = refl; line = refl; layout = own_layouts; region = own_regions }
+  are_guards (Some guard.Irq) = record { costs = refl; products = refl; line = refl; layout = own_layouts; region = own_regions }
 
 -- ---- steps of a slot in which moments of all domains come
 

@@ -57,6 +57,8 @@ module _ (p : Hardware) (e : Estate) (l m : Layout) (t : ℕ) (d : Dom) where
   perform_same w (Some (instr.Store width rs1 rs2 offset)) s = record { state = refl; value = refl }
   perform_same w (Some (instr.Immediate operation rd rs1 imm)) s = record { state = refl; value = refl }
   perform_same w (Some (instr.Register operation rd rs1 rs2)) s = record { state = refl; value = refl }
+  perform_same w (Some (instr.Multiply product rd rs1 rs2)) s = record { state = refl; value = refl }
+  perform_same w (Some (instr.Divide division rd rs1 rs2)) s = record { state = refl; value = refl }
   perform_same w (Some instr.Fence) s = record { state = refl; value = refl }
   perform_same w (Some instr.Ebreak) s = record { state = refl; value = refl }
 
@@ -66,7 +68,7 @@ module _ (p : Hardware) (e : Estate) (l m : Layout) (t : ℕ) (d : Dom) where
       let pc = d.threads.current.pc in
       then_same (translate p e.root d access.Fetch pc) _ _
       (λ f. then_same (touch (Fetch (line_in p f pc))) _ _
-      (λ _. then_same (read f (place pc)) _ _ (λ w. perform_same w (decode_of w))))
+      (λ _. then_same (read f (place pc)) _ _ (λ w. perform_same w (decode_of _ w))))
 
 -- ---- a step
 

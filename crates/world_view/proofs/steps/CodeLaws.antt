@@ -1,14 +1,20 @@
 -- What code that runs the machine wants to know of its definitions.
-use Rattle.std.proofs.Common.{◌≡◌, ◌≢◌, ℕ, suc, ◌+◌, ◌-◌, ◌*◌, ◌/◌, ◌≤◌, max, Bool, true, false, cond, eqb, List, [], ◌∷◌, ◌++◌, length, Some, None, Result, inl, inr, refl, sym, ap, ◌∙◌, arith, add-zero, eq-eqb, ne_eqb}
+use Rattle.std.proofs.Common.{◌≡◌, ◌≢◌, ℕ, suc, ◌+◌, ◌-◌, ◌*◌, ◌/◌, ◌%◌, ◌^◌, ◌≤◌, max, Bool, true, false, cond, eqb, List, [], ◌∷◌, ◌++◌, length, Some, None, Result, inl, inr, refl, sym, ap, ◌∙◌, arith, add-zero, eq-eqb, ne_eqb}
 use Rattle.std.specs.List.{sum_by}
 use Rattle.std.proofs.lemmas.Bool.{cases_Bool, cases_lt}
 use Rattle.std.proofs.lemmas.List.{get_or_past}
 use Rattle.std.proofs.lemmas.List.Sums.{sum_by-append}
 use Rattle.tp_base.specs.Table.{put, at, at-put_same, at-put_other}
-use Rattle.tp_base.specs.Act.{◌>>=◌, go_on, give}
+use Rattle.tp_base.specs.Act.{◌>>=◌, ◌>>◌, go_on, give}
 use Rattle.rv_decode.specs.declared.Instr.{Instr}
 use Rattle.rv_decode.specs.declared.Instr.TheVariants as instr
 use Rattle.rv_decode.specs.declared.Counter.{Counter}
+use Rattle.rv_decode.specs.declared.Product.{Product}
+use Rattle.rv_decode.specs.declared.Division.{Division}
+use Rattle.rv_core.specs.Registers.{register, with_register}
+use Rattle.rv_core.specs.Products.{product_of, division_of}
+use Rattle.world_view.specs.Instruction.{retired_at}
+use Rattle.rv_core.specs.declared.Effect.{Effect}
 use Rattle.sv32_walk.specs.declared.access.Access.{Access}
 use Rattle.sv32_walk.specs.declared.access.WalkFault.{WalkFault}
 use Rattle.sv32_walk.specs.Walk.{walk}
@@ -24,7 +30,7 @@ use Rattle.call_table.specs.Claims.{Estate}
 use Rattle.kernel_clone.specs.Footprints.{Layout}
 use Rattle.world_view.specs.Kernel.{opening_dom, estate, layout, no_dom}
 use Rattle.mem_system.specs.Cost.{Touched}
-use Rattle.world_view.specs.Event.{Storage, Act, frame_or_stop, translate, loaded, noted, guessed, execute, perform, instruction, interrupts_of, idle_until, event}
+use Rattle.world_view.specs.Event.{Storage, Act, frame_or_stop, translate, unless, store, settle, computed, loaded, noted, guessed, execute, timed, perform, instruction, interrupts_of, idle_until, event}
 use Rattle.world_view.specs.Machine.{with_hart, caches_of, clock_of, Setting, setting, Local, paid, delivered, happened, step, stretch, World, dom_of, part_of, with_part, switch_work, switch, run_slot, whole, guarded, own_slot, run_slot_by, switch_by, whole_by, with_end}
 use Rattle.world_view.specs.Relations.{IsDomain}
 use Rattle.world_view.proofs.opening.Separate.{Separated}
@@ -87,6 +93,8 @@ noted-other (instr.Load width rd rs1 offset) value d other = refl
 noted-other (instr.Store width rs1 rs2 offset) value d other = refl
 noted-other (instr.Immediate operation rd rs1 imm) value d other = refl
 noted-other (instr.Register operation rd rs1 rs2) value d other = refl
+noted-other (instr.Multiply product rd rs1 rs2) value d other = refl
+noted-other (instr.Divide division rd rs1 rs2) value d other = refl
 noted-other instr.Fence value d other = refl
 noted-other instr.Ecall value d other = refl
 noted-other instr.Ebreak value d other = refl
@@ -104,11 +112,13 @@ loaded-other p root t d (instr.Load width rd rs1 offset) load other = absurd (lo
 loaded-other p root t d (instr.Store width rs1 rs2 offset) load other = refl
 loaded-other p root t d (instr.Immediate operation rd rs1 imm) load other = refl
 loaded-other p root t d (instr.Register operation rd rs1 rs2) load other = refl
+loaded-other p root t d (instr.Multiply product rd rs1 rs2) load other = refl
+loaded-other p root t d (instr.Divide division rd rs1 rs2) load other = refl
 loaded-other p root t d instr.Fence load other = refl
 loaded-other p root t d instr.Ecall load other = refl
 loaded-other p root t d instr.Ebreak load other = refl
 
-pub perform-other : (p : Hardware) (e : Estate) (l : Layout) (t : ℕ) (d : Dom) (w : ℕ) (i : Instr) → i ≢ instr.Ecall → perform p e l t d w (Some i) ≡ execute p e.root t d i
+pub perform-other : (p : Hardware) (e : Estate) (l : Layout) (t : ℕ) (d : Dom) (w : ℕ) (i : Instr) → i ≢ instr.Ecall → perform p e l t d w (Some i) ≡ timed p e.root t d i
 unfolding perform
 perform-other p e l t d w (instr.ReadCounter c rd) other = refl
 perform-other p e l t d w (instr.Lui rd imm) other = refl
@@ -120,26 +130,75 @@ perform-other p e l t d w (instr.Load width rd rs1 offset) other = refl
 perform-other p e l t d w (instr.Store width rs1 rs2 offset) other = refl
 perform-other p e l t d w (instr.Immediate operation rd rs1 imm) other = refl
 perform-other p e l t d w (instr.Register operation rd rs1 rs2) other = refl
+perform-other p e l t d w (instr.Multiply product rd rs1 rs2) other = refl
+perform-other p e l t d w (instr.Divide division rd rs1 rs2) other = refl
 perform-other p e l t d w instr.Fence other = refl
 perform-other p e l t d w instr.Ecall other = absurd (other refl)
 perform-other p e l t d w instr.Ebreak other = refl
 
--- only a branch is guessed
-pub guessed-other : (i : Instr) (pc : ℕ) (taken : Bool) → ((c : _) (rs1 rs2 offset : ℕ) → i ≢ instr.Branch c rs1 rs2 offset) → guessed i pc taken ≡ give tt
+-- only branches and jumps are
+pub guessed-other : (i : Instr) (pc : ℕ) (e : Effect)
+    → ((c : _) (rs1 rs2 offset : ℕ) → i ≢ instr.Branch c rs1 rs2 offset)
+    → ((rd offset : ℕ) → i ≢ instr.Jal rd offset)
+    → ((rd rs1 offset : ℕ) → i ≢ instr.Jalr rd rs1 offset) → guessed i pc e ≡ give tt
 unfolding guessed
-guessed-other (instr.Branch comparison rs1 rs2 offset) pc taken other = absurd (other comparison rs1 rs2 offset refl)
-guessed-other (instr.ReadCounter c rd) pc taken other = refl
-guessed-other (instr.Lui rd imm) pc taken other = refl
-guessed-other (instr.Auipc rd imm) pc taken other = refl
-guessed-other (instr.Jal rd offset) pc taken other = refl
-guessed-other (instr.Jalr rd rs1 offset) pc taken other = refl
-guessed-other (instr.Load width rd rs1 offset) pc taken other = refl
-guessed-other (instr.Store width rs1 rs2 offset) pc taken other = refl
-guessed-other (instr.Immediate operation rd rs1 imm) pc taken other = refl
-guessed-other (instr.Register operation rd rs1 rs2) pc taken other = refl
-guessed-other instr.Fence pc taken other = refl
-guessed-other instr.Ecall pc taken other = refl
-guessed-other instr.Ebreak pc taken other = refl
+guessed-other (instr.Branch comparison rs1 rs2 offset) pc e branch jal jalr = absurd (branch comparison rs1 rs2 offset refl)
+guessed-other (instr.Jal rd offset) pc e branch jal jalr = absurd (jal rd offset refl)
+guessed-other (instr.Jalr rd rs1 offset) pc e branch jal jalr = absurd (jalr rd rs1 offset refl)
+guessed-other (instr.ReadCounter c rd) pc e branch jal jalr = refl
+guessed-other (instr.Lui rd imm) pc e branch jal jalr = refl
+guessed-other (instr.Auipc rd imm) pc e branch jal jalr = refl
+guessed-other (instr.Load width rd rs1 offset) pc e branch jal jalr = refl
+guessed-other (instr.Store width rs1 rs2 offset) pc e branch jal jalr = refl
+guessed-other (instr.Immediate operation rd rs1 imm) pc e branch jal jalr = refl
+guessed-other (instr.Register operation rd rs1 rs2) pc e branch jal jalr = refl
+guessed-other (instr.Multiply product rd rs1 rs2) pc e branch jal jalr = refl
+guessed-other (instr.Divide division rd rs1 rs2) pc e branch jal jalr = refl
+guessed-other instr.Fence pc e branch jal jalr = refl
+guessed-other instr.Ecall pc e branch jal jalr = refl
+guessed-other instr.Ebreak pc e branch jal jalr = refl
+
+-- only products and divisions take a time of their own
+pub computed-other : (p : Hardware) (d : Dom) (i : Instr) → ((c : _) (rd rs1 rs2 : ℕ) → i ≢ instr.Multiply c rd rs1 rs2)
+    → ((c : _) (rd rs1 rs2 : ℕ) → i ≢ instr.Divide c rd rs1 rs2) → computed p d i ≡ give tt
+unfolding computed
+computed-other p d (instr.Multiply product rd rs1 rs2) multiply divide = absurd (multiply product rd rs1 rs2 refl)
+computed-other p d (instr.Divide division rd rs1 rs2) multiply divide = absurd (divide division rd rs1 rs2 refl)
+computed-other p d (instr.Branch comparison rs1 rs2 offset) multiply divide = refl
+computed-other p d (instr.Jal rd offset) multiply divide = refl
+computed-other p d (instr.Jalr rd rs1 offset) multiply divide = refl
+computed-other p d (instr.ReadCounter c rd) multiply divide = refl
+computed-other p d (instr.Lui rd imm) multiply divide = refl
+computed-other p d (instr.Auipc rd imm) multiply divide = refl
+computed-other p d (instr.Load width rd rs1 offset) multiply divide = refl
+computed-other p d (instr.Store width rs1 rs2 offset) multiply divide = refl
+computed-other p d (instr.Immediate operation rd rs1 imm) multiply divide = refl
+computed-other p d (instr.Register operation rd rs1 rs2) multiply divide = refl
+computed-other p d instr.Fence multiply divide = refl
+computed-other p d instr.Ecall multiply divide = refl
+computed-other p d instr.Ebreak multiply divide = refl
+
+-- what they do to the domain
+pub executed-product : (p : Hardware) (r t : ℕ) (d : Dom) (product : Product) (rd rs1 rs2 : ℕ)
+    → let regs = d.threads.current.regs in
+    execute p r t d (instr.Multiply product rd rs1 rs2)
+    ≡ give (retired_at ((d.threads.current.pc + 4) % 2 ^ 32)
+    (with_register regs rd (product_of product (register regs rs1) (register regs rs2))) d)
+unfolding execute unless loaded settle guessed store noted ◌>>◌ ◌>>=◌ go_on give
+executed-product p r t d product rd rs1 rs2 = refl
+
+pub executed-division : (p : Hardware) (r t : ℕ) (d : Dom) (division : Division) (rd rs1 rs2 : ℕ)
+    → let regs = d.threads.current.regs in
+    execute p r t d (instr.Divide division rd rs1 rs2)
+    ≡ give (retired_at ((d.threads.current.pc + 4) % 2 ^ 32)
+    (with_register regs rd (division_of division (register regs rs1) (register regs rs2))) d)
+unfolding execute unless loaded settle guessed store noted ◌>>◌ ◌>>=◌ go_on give
+executed-division p r t d division rd rs1 rs2 = refl
+
+pub timed-other : (p : Hardware) (r t : ℕ) (d : Dom) (i : Instr) → ((c : _) (rd rs1 rs2 : ℕ) → i ≢ instr.Multiply c rd rs1 rs2)
+    → ((c : _) (rd rs1 rs2 : ℕ) → i ≢ instr.Divide c rd rs1 rs2) → timed p r t d i ≡ execute p r t d i
+unfolding timed ◌>>◌ ◌>>=◌ go_on give
+timed-other p r t d i multiply divide = rw (computed-other p d i multiply divide) refl
 
 module _ (w : Setting) (end : ℕ) (s : Local) where
   -- no moment is due, and the current thread is ready

@@ -1,13 +1,19 @@
 -- What an instruction costs at worst, with the kernel call that it makes.
 use Rattle.std.proofs.Common.{◌≡◌, ℕ, ◌+◌, ◌*◌, ◌/◌, ◌≤◌, Bool, true, false, if◌then◌else◌, List, [], ◌∷◌, length, Option, Some, None, Result, Ok, Err, ◌≢◌, ◌⊎◌, inl, inr, refl, sym, subst, arith, le_refl, mul-le-mul_right}
+use Rattle.std.specs.Prelude.{is_some}
 use Rattle.std.proofs.lemmas.List.{length-map}
+use Rattle.std.proofs.lemmas.Nat.{mul-le}
 use Rattle.tp_base.specs.Act.{Done, go_on, ◌>>=◌, ◌>>◌, give, stop, note}
 use Rattle.phys_mem.specs.Mem.{Mem, word}
 use Rattle.rv_decode.specs.Table.{decode_of}
 use Rattle.rv_decode.specs.declared.Instr.{Instr}
 use Rattle.rv_decode.specs.declared.Instr.TheVariants as instr
 use Rattle.rv_decode.specs.declared.LoadWidth.{LoadWidth}
+use Rattle.rv_core.specs.declared.Effect.{Effect}
 use Rattle.rv_core.specs.Registers.{register}
+use Rattle.rv_core.specs.Products.{digits_of, dividend_of}
+use Rattle.rv_core.proofs.Digits.{least_power-few}
+use Rattle.cycle_cost.specs.Costs.{ProductCosts, division_cost, most_added}
 use Rattle.rv_core.specs.Effect as effect
 use Rattle.rv_core.specs.Effect.{Outcome, continuation, effect_of}
 use Rattle.rv_core.specs.declared.Store.{Store as StoreMade}
@@ -20,7 +26,7 @@ use Rattle.sv32_walk.specs.Walk.{walk, from_table, from_entry, first_level}
 use Rattle.kernel_clone.specs.Footprints.{touches, delivery_op}
 use Rattle.pad_bound.specs.Bound.{worst_look, worst_read, worst_fetch, worst_access, worst_instruction, worst_operation}
 use Rattle.pad_bound.proofs.Parts.{operation_covers, few_written}
-use Rattle.mem_system.specs.Cost.{Touch, Fetch, Load, Store as StoreTouch, Branch, EmptyTlb}
+use Rattle.mem_system.specs.Cost.{Touch, Fetch, Load, Store as StoreTouch, Branch, Jump, EmptyTlb, Charge}
 use Rattle.mem_system.specs.Translation.{lines_of, look_of}
 use Rattle.cache_sharing.specs.Operations.{footprint, operation, plain}
 use Rattle.cache_sharing.specs.Worst.{worst_touch, worst_touches}
@@ -35,13 +41,28 @@ use Rattle.world_view.specs.Cost.{hierarchy}
 use Rattle.image_check.specs.Pads.{shape_of}
 use Rattle.world_view.specs.EventLaws.{instruction_at, next_instruction}
 use Rattle.world_view.specs.Frames.{root_of}
-use Rattle.world_view.specs.Event.{Storage, Act, touch, frame_or_stop, translate, place, line_in, read, write, unless, load, store, loaded, guessed, settle, execute, call_touches, make_call, perform, instruction, delivery_touches}
+use Rattle.world_view.specs.Event.{Storage, Act, touch, frame_or_stop, translate, place, line_in, read, write, unless, load, store, product_time, division_time, digits_in, computed, loaded, guessed, settle, execute, timed, call_touches, make_call, perform, instruction, delivery_touches}
 use Rattle.world_view.specs.Relations.{largest_step}
 
 -- a walk reads two entries at most
 few_reads : (m : Mem) (frames root va : ℕ) (a : Access) → length (walk m frames root va a).reads ≤ 2
 unfolding walk from_entry from_table first_level
 few_reads m frames root va a = grind arith
+
+-- a product or a division takes no longer than the longest
+few_product : (products : Option ProductCosts) → product_time products ≤ most_added products
+few_product None = omega arith
+few_product (Some costs) = omega arith
+
+few_division : (products : Option ProductCosts) (digits : ℕ) → digits ≤ 32
+    → division_time products digits ≤ most_added products
+few_division None digits few = omega arith
+few_division (Some costs) digits few =
+    let most = mul-le costs.div (1 + digits) costs.div 33 (le_refl costs.div) (omega (arith, few)) in
+    omega (arith, most)
+
+few_digits : (n : ℕ) → digits_of n ≤ 32
+few_digits n = let few = least_power-few 32 0 n in omega (arith, few)
 
 module _ (p : Hardware) where
   worst : List Touch → ℕ
@@ -135,21 +156,47 @@ module _ (p : Hardware) where
 
   -- ---- an instruction
 
-  guessed_costs : (i : Instr) (pc : ℕ) (taken : Bool) → Costs p.costs.mispredict (guessed i pc taken)
+  guessed_costs : (i : Instr) (pc : ℕ) (e : Effect) → Costs p.costs.mispredict (guessed i pc e)
   unfolding guessed hierarchy
-  guessed_costs (instr.Branch comparison rs1 rs2 offset) pc taken = touch_costs (Branch pc taken)
-  guessed_costs (instr.Lui rd imm) pc taken = more 0 p.costs.mispredict _ (omega arith) (give_costs tt)
-  guessed_costs (instr.Auipc rd imm) pc taken = more 0 p.costs.mispredict _ (omega arith) (give_costs tt)
-  guessed_costs (instr.Jal rd offset) pc taken = more 0 p.costs.mispredict _ (omega arith) (give_costs tt)
-  guessed_costs (instr.Jalr rd rs1 offset) pc taken = more 0 p.costs.mispredict _ (omega arith) (give_costs tt)
-  guessed_costs (instr.Load width rd rs1 offset) pc taken = more 0 p.costs.mispredict _ (omega arith) (give_costs tt)
-  guessed_costs (instr.Store width rs1 rs2 offset) pc taken = more 0 p.costs.mispredict _ (omega arith) (give_costs tt)
-  guessed_costs (instr.Immediate operation rd rs1 imm) pc taken = more 0 p.costs.mispredict _ (omega arith) (give_costs tt)
-  guessed_costs (instr.Register operation rd rs1 rs2) pc taken = more 0 p.costs.mispredict _ (omega arith) (give_costs tt)
-  guessed_costs instr.Fence pc taken = more 0 p.costs.mispredict _ (omega arith) (give_costs tt)
-  guessed_costs instr.Ecall pc taken = more 0 p.costs.mispredict _ (omega arith) (give_costs tt)
-  guessed_costs instr.Ebreak pc taken = more 0 p.costs.mispredict _ (omega arith) (give_costs tt)
-  guessed_costs (instr.ReadCounter counter rd) pc taken = more 0 p.costs.mispredict _ (omega arith) (give_costs tt)
+  guessed_costs (instr.Branch comparison rs1 rs2 offset) pc e = touch_costs (Branch pc e.taken e.next)
+  guessed_costs (instr.Lui rd imm) pc e = more 0 p.costs.mispredict _ (omega arith) (give_costs tt)
+  guessed_costs (instr.Auipc rd imm) pc e = more 0 p.costs.mispredict _ (omega arith) (give_costs tt)
+  guessed_costs (instr.Jal rd offset) pc e = touch_costs (Jump pc e.next)
+  guessed_costs (instr.Jalr rd rs1 offset) pc e = touch_costs (Jump pc e.next)
+  guessed_costs (instr.Load width rd rs1 offset) pc e = more 0 p.costs.mispredict _ (omega arith) (give_costs tt)
+  guessed_costs (instr.Store width rs1 rs2 offset) pc e = more 0 p.costs.mispredict _ (omega arith) (give_costs tt)
+  guessed_costs (instr.Immediate operation rd rs1 imm) pc e = more 0 p.costs.mispredict _ (omega arith) (give_costs tt)
+  guessed_costs (instr.Register operation rd rs1 rs2) pc e = more 0 p.costs.mispredict _ (omega arith) (give_costs tt)
+  guessed_costs (instr.Multiply product rd rs1 rs2) pc e = more 0 p.costs.mispredict _ (omega arith) (give_costs tt)
+  guessed_costs (instr.Divide division rd rs1 rs2) pc e = more 0 p.costs.mispredict _ (omega arith) (give_costs tt)
+  guessed_costs instr.Fence pc e = more 0 p.costs.mispredict _ (omega arith) (give_costs tt)
+  guessed_costs instr.Ecall pc e = more 0 p.costs.mispredict _ (omega arith) (give_costs tt)
+  guessed_costs instr.Ebreak pc e = more 0 p.costs.mispredict _ (omega arith) (give_costs tt)
+  guessed_costs (instr.ReadCounter counter rd) pc e = more 0 p.costs.mispredict _ (omega arith) (give_costs tt)
+
+  -- a product or a division takes no longer than the machine's longest
+  computed_costs : (d : Dom) (i : Instr) → Costs (most_added p.muldiv) (computed p d i)
+  unfolding computed hierarchy
+  computed_costs d (instr.Multiply product rd rs1 rs2) =
+      more (product_time p.muldiv) (most_added p.muldiv) _ (few_product p.muldiv) (touch_costs (Charge _))
+  computed_costs d (instr.Divide division rd rs1 rs2) =
+      let digits = digits_in d.threads.current.regs division rs1 in
+      more (division_time p.muldiv digits) (most_added p.muldiv) _
+      (few_division p.muldiv digits (few_digits (dividend_of division (register d.threads.current.regs rs1))))
+      (touch_costs (Charge _))
+  computed_costs d (instr.Branch comparison rs1 rs2 offset) = more 0 (most_added p.muldiv) _ (omega arith) (give_costs tt)
+  computed_costs d (instr.Lui rd imm) = more 0 (most_added p.muldiv) _ (omega arith) (give_costs tt)
+  computed_costs d (instr.Auipc rd imm) = more 0 (most_added p.muldiv) _ (omega arith) (give_costs tt)
+  computed_costs d (instr.Jal rd offset) = more 0 (most_added p.muldiv) _ (omega arith) (give_costs tt)
+  computed_costs d (instr.Jalr rd rs1 offset) = more 0 (most_added p.muldiv) _ (omega arith) (give_costs tt)
+  computed_costs d (instr.Load width rd rs1 offset) = more 0 (most_added p.muldiv) _ (omega arith) (give_costs tt)
+  computed_costs d (instr.Store width rs1 rs2 offset) = more 0 (most_added p.muldiv) _ (omega arith) (give_costs tt)
+  computed_costs d (instr.Immediate operation rd rs1 imm) = more 0 (most_added p.muldiv) _ (omega arith) (give_costs tt)
+  computed_costs d (instr.Register operation rd rs1 rs2) = more 0 (most_added p.muldiv) _ (omega arith) (give_costs tt)
+  computed_costs d instr.Fence = more 0 (most_added p.muldiv) _ (omega arith) (give_costs tt)
+  computed_costs d instr.Ecall = more 0 (most_added p.muldiv) _ (omega arith) (give_costs tt)
+  computed_costs d instr.Ebreak = more 0 (most_added p.muldiv) _ (omega arith) (give_costs tt)
+  computed_costs d (instr.ReadCounter counter rd) = more 0 (most_added p.muldiv) _ (omega arith) (give_costs tt)
 
   -- by what its store costs
   settle_costs : (root : ℕ) (d : Dom) (i : Instr) (value most : ℕ) (out : Outcome) → Costs most (store p root d out.effect.store) → Costs (p.costs.mispredict + most) (settle p root d i value out)
@@ -157,12 +204,16 @@ module _ (p : Hardware) where
   settle_costs root d i value most out stores =
       more (0 + (p.costs.mispredict + (most + 0))) (p.costs.mispredict + most) _ (omega arith)
       (then_costs 0 _ _ _ (unless_costs out.effect.trap d)
-      (then_costs p.costs.mispredict _ _ _ (guessed_costs i d.threads.current.pc out.effect.taken)
+      (then_costs p.costs.mispredict _ _ _ (guessed_costs i d.threads.current.pc out.effect)
       (then_costs most 0 _ _ stores (give_costs _))))
 
   loads_alone : (regs : List ℕ) (pc : ℕ) (trap : Option Trap) (new : List ℕ) → (effect.access regs pc trap (continuation new pc)).effect.store ≡ None
   loads_alone regs pc None new = refl
   loads_alone regs pc (Some trap) new = refl
+
+  -- what an instruction costs after its fetch that makes no call
+  abbrev plain_worst : ℕ
+  plain_worst = p.costs.mispredict + access_worst + most_added p.muldiv
 
   -- what needs something from outside the registers stores nothing
   execute_by : (root t : ℕ) (d : Dom) (i : Instr) (loads stores : ℕ) → Costs loads (loaded p root t d i)
@@ -191,9 +242,17 @@ module _ (p : Hardware) where
   execute_costs root t d (instr.Store width rs1 rs2 offset) = stores_only root t d (instr.Store width rs1 rs2 offset) refl
   execute_costs root t d (instr.Immediate operation rd rs1 imm) = stores_only root t d (instr.Immediate operation rd rs1 imm) refl
   execute_costs root t d (instr.Register operation rd rs1 rs2) = stores_only root t d (instr.Register operation rd rs1 rs2) refl
+  execute_costs root t d (instr.Multiply product rd rs1 rs2) = stores_only root t d (instr.Multiply product rd rs1 rs2) refl
+  execute_costs root t d (instr.Divide division rd rs1 rs2) = stores_only root t d (instr.Divide division rd rs1 rs2) refl
   execute_costs root t d instr.Fence = stores_only root t d instr.Fence refl
   execute_costs root t d instr.Ecall = stores_only root t d instr.Ecall refl
   execute_costs root t d instr.Ebreak = stores_only root t d instr.Ebreak refl
+
+  timed_costs : (root t : ℕ) (d : Dom) (i : Instr) → Costs plain_worst (timed p root t d i)
+  unfolding timed
+  timed_costs root t d i =
+      more (most_added p.muldiv + (p.costs.mispredict + access_worst)) plain_worst _ (omega arith)
+      (then_costs (most_added p.muldiv) _ _ _ (computed_costs d i) (execute_costs root t d i))
 
 module _ (p : Hardware) (o : Own) where
   emptied_costs : (b : Bool) → worst p (if b then EmptyTlb ∷ [] else []) ≡ 0
@@ -219,11 +278,11 @@ module _ (p : Hardware) (o : Own) where
 
   -- what an instruction costs after its fetch
   perform_worst : ℕ
-  perform_worst = p.costs.mispredict + access_worst p + worst_operation (shape_of p)
+  perform_worst = plain_worst p + worst_operation (shape_of p)
 
-  executes : (t : ℕ) (d : Dom) (i : Instr) → Costs p perform_worst (execute p (estate p o).root t d i)
+  executes : (t : ℕ) (d : Dom) (i : Instr) → Costs p perform_worst (timed p (estate p o).root t d i)
   unfolding perform_worst
-  executes t d i = more p (p.costs.mispredict + access_worst p) perform_worst _ (omega arith) (execute_costs p (estate p o).root t d i)
+  executes t d i = more p (plain_worst p) perform_worst _ (omega arith) (timed_costs p (estate p o).root t d i)
 
   perform_costs : (t : ℕ) (d : Dom) (w : ℕ) (i : Option Instr) → Costs p perform_worst (perform p (estate p o) (layout p o) t d w i)
   unfolding perform perform_worst
@@ -248,37 +307,34 @@ module _ (p : Hardware) (o : Own) where
       let both = worst-append (hierarchy p) r.notes (y v r.state).notes in
       omega (arith, first, rest, both)
 
-  abbrev plain_worst : ℕ
-  plain_worst = p.costs.mispredict + access_worst p
-
-  plain_costs : (t : ℕ) (d : Dom) (w : ℕ) (i : Option Instr) → i ≢ Some instr.Ecall → Costs p plain_worst (perform p (estate p o) (layout p o) t d w i)
+  plain_costs : (t : ℕ) (d : Dom) (w : ℕ) (i : Option Instr) → i ≢ Some instr.Ecall → Costs p (plain_worst p) (perform p (estate p o) (layout p o) t d w i)
   unfolding perform
-  plain_costs t d w None plain = more p 0 plain_worst _ (omega arith) (stop_costs p _)
+  plain_costs t d w None plain = more p 0 (plain_worst p) _ (omega arith) (stop_costs p _)
   plain_costs t d w (Some instr.Ecall) plain = absurd (plain refl)
-  plain_costs t d w (Some i) plain = execute_costs p (estate p o).root t d i
+  plain_costs t d w (Some i) plain = timed_costs p (estate p o).root t d i
 
   -- what follows the fetch's look-up
   abbrev rest_of : ℕ → Dom → ℕ → Act Dom
-  rest_of t d f = touch (Fetch (line_in p f d.threads.current.pc)) >> (read f (place d.threads.current.pc) >>= (λ w. perform p (estate p o) (layout p o) t d w (decode_of w)))
+  rest_of t d f = touch (Fetch (line_in p f d.threads.current.pc)) >> (read f (place d.threads.current.pc) >>= (λ w. perform p (estate p o) (layout p o) t d w (decode_of (is_some p.muldiv) w)))
 
-  rest_costs : (t f : ℕ) (d : Dom) (s : Storage) → decode_of (word s.mem f (place d.threads.current.pc)) ≢ Some instr.Ecall
-      → worst p (rest_of t d f s).notes ≤ worst_fetch p.costs 0 + (0 + plain_worst)
+  rest_costs : (t f : ℕ) (d : Dom) (s : Storage) → decode_of (is_some p.muldiv) (word s.mem f (place d.threads.current.pc)) ≢ Some instr.Ecall
+      → worst p (rest_of t d f s).notes ≤ worst_fetch p.costs 0 + (0 + (plain_worst p))
   unfolding ◌>>=◌ ◌>>◌ touch note read hierarchy
   rest_costs t f d s plain =
       let line = line_in p f d.threads.current.pc in
       let w = word s.mem f (place d.threads.current.pc) in
-      value_costs (worst_fetch p.costs 0) (0 + plain_worst) (touch (Fetch line) s) (λ _. read f (place d.threads.current.pc) >>= (λ x. perform p (estate p o) (layout p o) t d x (decode_of x))) tt
+      value_costs (worst_fetch p.costs 0) (0 + (plain_worst p)) (touch (Fetch line) s) (λ _. read f (place d.threads.current.pc) >>= (λ x. perform p (estate p o) (layout p o) t d x (decode_of (is_some p.muldiv) x))) tt
       ((touch_costs p (Fetch line)).within s)
-      (value_costs 0 plain_worst (read f (place d.threads.current.pc) s) (λ x. perform p (estate p o) (layout p o) t d x (decode_of x)) w
-      ((read_costs p f (place d.threads.current.pc)).within s) ((plain_costs t d w (decode_of w) plain).within s))
+      (value_costs 0 (plain_worst p) (read f (place d.threads.current.pc) s) (λ x. perform p (estate p o) (layout p o) t d x (decode_of (is_some p.muldiv) x)) w
+      ((read_costs p f (place d.threads.current.pc)).within s) ((plain_costs t d w (decode_of (is_some p.muldiv) w) plain).within s))
 
-  plain_by : (t : ℕ) (d : Dom) (s : Storage) (r : Result ℕ WalkFault) → instruction_at s.mem d.threads.current.pc r ≢ Some instr.Ecall
+  plain_by : (t : ℕ) (d : Dom) (s : Storage) (r : Result ℕ WalkFault) → instruction_at (is_some p.muldiv) s.mem d.threads.current.pc r ≢ Some instr.Ecall
       → worst p (go_on (translate p (estate p o).root d access.Fetch d.threads.current.pc s) (rest_of t d) (frame_or_stop d access.Fetch d.threads.current.pc r)).notes
-      ≤ worst_look p.costs 0 + (worst_fetch p.costs 0 + (0 + plain_worst))
+      ≤ worst_look p.costs 0 + (worst_fetch p.costs 0 + (0 + (plain_worst p)))
   unfolding frame_or_stop go_on translate
   plain_by t d s (Err f) plain = let looks = (translate_costs p (estate p o).root d access.Fetch d.threads.current.pc).within s in omega (arith, looks)
   plain_by t d s (Ok leaf) plain =
-      value_costs (worst_look p.costs 0) (worst_fetch p.costs 0 + (0 + plain_worst)) (translate p (estate p o).root d access.Fetch d.threads.current.pc s) (rest_of t d) (ppn leaf)
+      value_costs (worst_look p.costs 0) (worst_fetch p.costs 0 + (0 + (plain_worst p))) (translate p (estate p o).root d access.Fetch d.threads.current.pc s) (rest_of t d) (ppn leaf)
       ((translate_costs p (estate p o).root d access.Fetch d.threads.current.pc).within s) (rest_costs t (ppn leaf) d s plain)
 
   -- with its base, it is within the bound's instruction

@@ -1,6 +1,7 @@
 -- Every clock of a run is far from the end of its range, by the limits of an image and of a run.
 use Rattle.std.proofs.Common.{ℕ, zero, suc, false, ◌+◌, ◌*◌, ◌/◌, ◌^◌, ◌<◌, ◌≤◌, arith, mul-le-mul_right}
 use Rattle.std.proofs.lemmas.Nat.{mul-le}
+use Rattle.image_check.proofs.Padded.{few_added}
 use Rattle.pad_bound.specs.Bound.{worst_access, lines_of_shared, most_written, most_dirty, worst_instruction, worst_operation, worst_leave, worst_prefetch, worst_flush, worst_enter, bound_of}
 use Rattle.pad_bound.proofs.Parts.{few_most}
 use Rattle.cycle_cost.specs.Ranges.{most_access}
@@ -61,7 +62,8 @@ module _ (p : Hardware) (h : IsHardware p) where
       let l2 = h.costs.l2.few in
       let mem = h.costs.mem.few in
       let wb = h.costs.wb.few in
-      omega (arith, written, shared, flush, base, tlb, mispredict, trap, flushes, l1, l2, mem, wb)
+      let product = few_added p.muldiv h.few_mul h.few_div in
+      omega (arith, written, shared, flush, base, tlb, mispredict, trap, flushes, l1, l2, mem, wb, product)
 
   pub step_small : largest_step p ≤ 2 ^ 26
   unfolding bound_of

@@ -43,7 +43,7 @@ returns-in-Ok-clause-leaves g c w s r readings replies k h q =
     let goes_on : out.effect.trap ≡ None =
     ap (λ (e : Effect). e.trap) (sym same) ∙ c.in_default.is in
     let Guesses : Storage → Touched → Effect → Type 0 = λ t z e.
-    Yields w (guessed c.args.instr old.threads.active.pc e.taken) t z (Answered d (Ok tt) K') in
+    Yields w (guessed c.args.instr old.threads.active.pc e) t z (Answered d (Ok tt) K') in
     let Stores : Storage → Touched → Effect → Type 0 = λ t z e.
     Yields w (store w.machine c.args.root d e.store) t z (Answered d (Ok tt) K'') in
     let finished = c.finish.ensures.becomes readings replies h q in
@@ -77,7 +77,7 @@ returns-in-Err-clause-leaves g c w s r readings replies k h q =
     (ap (λ (e : Effect). e.store) (sym same))
     (c.in-Err.ensures.finds w old.caps d _ _ found.met.kept) in
     let Guesses : Storage → Touched → Effect → Type 0 = λ t z e.
-    Yields w (guessed c.args.instr old.threads.active.pc e.taken) t z (Answered d (Ok tt) K') in
+    Yields w (guessed c.args.instr old.threads.active.pc e) t z (Answered d (Ok tt) K') in
     let Stores : Storage → Touched → Effect → Type 0 = λ t z e.
     Yields w (store w.machine c.args.root d e.store) t z (Answered d (Err trap) K'') in
     let unwritten : c.execute-effect.new.regs ≡ old.threads.active.regs = c.execute-effect.ensures.regs ∙ kept in

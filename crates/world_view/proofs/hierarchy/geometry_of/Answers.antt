@@ -10,4 +10,5 @@ returns-clause-sound c =
 
 pub returns-clause-hierarchy : goal.returns-clause-hierarchy
 returns-clause-hierarchy c =
-    parts_hierarchy (hardware_model c.args.hardware.now) _ _ _ _ c.cache_of.ensures.value c.cache_of-2.ensures.value c.cache_of-3.ensures.value c.cache_of-4.ensures.value c.args.hardware.now.costs refl
+    parts_hierarchy (hardware_model c.args.hardware.now) _ _ _ _ c.cache_of.ensures.value c.cache_of-2.ensures.value c.cache_of-3.ensures.value c.cache_of-4.ensures.value c.args.hardware.now.costs
+    c.args.hardware.now.muldiv refl refl
