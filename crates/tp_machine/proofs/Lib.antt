@@ -1,11 +1,7 @@
 pub mod Elements
-pub mod Moments
-pub mod Among
-pub mod Opens
-pub mod Offs
+pub mod InSlot
 pub mod SwitchCounts
 pub mod Whole
 pub mod Openings
 pub mod Switches
 pub mod Slots
-pub mod SlotsOff

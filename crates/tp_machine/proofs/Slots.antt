@@ -31,9 +31,9 @@ use Rattle.domain_step.specs.Moves.{StandsIn, Moves}
 use Rattle.domain_step.proofs.Counts.{counts_later}
 use Rattle.tp_machine.specs.Usage.{IsUsed, CountedUpTo}
 use Rattle.tp_machine.specs.Worlds.{Kept, kept, KeepsBuffer, StandsFor, HaveFacts, StaysResident, IsInBounds}
-use Rattle.tp_machine.specs.Ablations as slots
+use Rattle.tp_machine.specs.InSlot as slots
 use Rattle.tp_machine.proofs.Elements.{each_set}
-use Rattle.tp_machine.proofs.Among.{in_slot, slot_stands}
+use Rattle.tp_machine.proofs.InSlot.{in_slot, slot_stands}
 use Rattle.tp_machine.proofs.Whole.{SlotStart, Begins, begun_in, stands_after}
 use Rattle.tp_machine.proofs.Switches.{by_all}
 

@@ -31,7 +31,7 @@ use Rattle.world_view.proofs.runs.SwitchParts.{work_by_is}
 use Rattle.domain_step.specs.Standing.{MachineStands}
 use Rattle.tp_machine.specs.Usage.{IsUsed}
 use Rattle.tp_machine.specs.Worlds.{Kept, StandsOn}
-use Rattle.tp_machine.specs.Ablations.{StandsIn}
+use Rattle.tp_machine.specs.InSlot.{StandsIn}
 
 -- ---- a slot leaves what switches took
 

@@ -1,5 +1,5 @@
 pub mod Usage
 pub mod Worlds
-pub mod Ablations
+pub mod InSlot
 pub mod Propositions
 pub mod Models

@@ -3,12 +3,7 @@ use Rattle.std.specs.Prelude.{ℕ}
 use denote.Struct.Props.{props}
 use Rattle.domain_step.specs.Propositions.{system_prop}
 use Rattle.image_check.specs.Image.{Image}
-use Rattle.guards.specs.declared.Guard.{Guard}
 use Rattle.tp_machine.specs.Worlds.{Kept, StandsFor}
-use Rattle.tp_machine.specs.Ablations.{StandsOff}
 
 pub stands_prop : (i : Image) (slots : ℕ) (k : Kept) → IsProp (StandsFor i slots k)
 stands_prop i slots k = hlevel (props, system_prop)
-
-pub stands_off_prop : (off : Guard) (i : Image) (slots : ℕ) (k : Kept) → IsProp (StandsOff off i slots k)
-stands_off_prop off i slots k = hlevel (props, system_prop)

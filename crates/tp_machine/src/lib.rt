@@ -2,11 +2,8 @@
 //! that it stands for the definition of the whole machine after so many slots.
 #![tactic(auto)]
 
-mod ablated;
 mod machine;
-mod off;
-mod open;
 mod used;
 
-pub use ablated::Ablated;
 pub use machine::Machine;
+pub use used::{note_switch, switch_entry, unused};

@@ -1,8 +1,7 @@
 // The whole machine: all domains, one slot after another.
-ghost use Rattle.std.specs.Prelude.{◌≡◌, ◌≤◌, [], length, IfOk};
+ghost use Rattle.std.specs.Prelude.{◌≡◌, ◌≤◌};
 ghost use Rattle.image_check.specs.Image.{image_from};
 ghost use Rattle.image_check.specs.Laws.{Runnable};
-ghost use Rattle.tp_machine.specs.Usage.{IsUsed, CountedUpTo};
 ghost use Rattle.tp_machine.specs.Propositions.{stands_prop};
 ghost use Rattle.tp_machine.specs.Worlds.{kept, StandsFor, HaveFacts, StaysResident, IsInBounds};
 
@@ -13,8 +12,6 @@ use kernel_call::Domain;
 use mem_system::MemSystem;
 use phys_mem::PhysMem;
 use repl_policy::AnyPolicy;
-use std::alloc::Global;
-use tp_base::Memory;
 use world_view::Used;
 
 /// The whole machine between two slots. Its data stand for the definition of
@@ -40,17 +37,4 @@ pub struct Machine<'a> {
         (kept memory system domains.items used.items clock) ∥₁ },
     ghost resident: { StaysResident (image_from image.now) slots },
     ghost in_bounds: { IsInBounds slots (kept memory system domains.items used.items clock) },
-}
-
-/// For each entry, that there was no switch.
-pub(crate) fn unused(alloc: Global, entries: u32) -> Result<Vec<Used>, Memory>
-    ensures all { IfOk result (λ us. length us.items ≡ entries) }
-    ensures unused { IfOk result (λ us. IsUsed us.items []) }
-    ensures few { IfOk result (λ us. CountedUpTo 0 us.items) }
-{
-    let used = vec![in alloc; Used {
-        largest: 0,
-        count: 0
-    }; entries as usize]?;
-    Ok(used)
 }

@@ -1,10 +1,28 @@
 // What switches took.
-ghost use Rattle.std.specs.Prelude.{◌≡◌, ℕ, ◌+◌, ◌^◌, ◌<◌, ◌≤◌, ◌∷◌, [], ◌++◌, List, length};
+ghost use Rattle.std.specs.Prelude.{◌≡◌, ℕ, ◌+◌, ◌^◌, ◌<◌, ◌≤◌, ◌∷◌, [], ◌++◌, List, length, IfOk};
 ghost use Rattle.sched_table.specs.Schedule as spec;
 ghost use Rattle.sched_table.specs.declared.schedule.Entry.{Entry};
 ghost use Rattle.tp_machine.specs.Usage.{IsUsed, CountedUpTo};
 
+use std::alloc::Global;
+use tp_base::Memory;
 use world_view::Used;
+
+/// For each entry of the schedule, that there was no switch.
+///
+/// # Errors
+/// `Memory` where no memory is left for it.
+pub fn unused(alloc: Global, entries: u32) -> Result<Vec<Used>, Memory>
+    ensures all { IfOk result (λ us. length us.items ≡ entries) }
+    ensures unused { IfOk result (λ us. IsUsed us.items []) }
+    ensures few { IfOk result (λ us. CountedUpTo 0 us.items) }
+{
+    let used = vec![in alloc; Used {
+        largest: 0,
+        count: 0
+    }; entries as usize]?;
+    Ok(used)
+}
 
 /// The place of the entry to which the switch before a slot belongs: it is the
 /// entry of the slot that ended, and the last one at the boot.

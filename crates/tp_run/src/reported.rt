@@ -6,8 +6,9 @@ ghost use Rattle.world_view.specs.View.{view_in};
 ghost use Rattle.world_view.specs.Models.{view_model};
 ghost use Rattle.tp_machine.specs.Usage.{IsUsed};
 
+use ablated_run::Ablated;
 use image_check::Checked;
-use tp_machine::{Ablated, Machine};
+use tp_machine::Machine;
 use world_view::{Used, View};
 
 /// A machine after its slots.

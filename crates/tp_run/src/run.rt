@@ -11,12 +11,13 @@ ghost use Rattle.tp_run.specs.TopCall.{Delivers};
 use crate::Status;
 use crate::call::status_unless_failed;
 use crate::reported::Reported;
+use ablated_run::Ablated;
 use guards::Guard;
 use image_check::Checked;
 use std::alloc::Global;
 use tp_base::Memory;
 use tp_io::{Failed, Sink};
-use tp_machine::{Ablated, Machine};
+use tp_machine::Machine;
 use tp_report::{write_section, write_switches, write_unprotected};
 
 /// Runs the image for so many slots and writes the report.

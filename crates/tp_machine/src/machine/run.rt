@@ -1,6 +1,6 @@
 // The machine's calls.
-use super::{Machine, unused};
-use crate::used::{note_switch, switch_entry};
+use super::Machine;
+use crate::used::{note_switch, switch_entry, unused};
 use domain_open::{load_pages, open_all};
 use domain_step::stretch;
 use domain_switch::switch;
@@ -40,7 +40,13 @@ impl<'a> Machine<'a> {
         image.runnable();
         let public = image.public();
         let geometry = geometry_of(&public.hardware);
-        let system = MemSystem::new(alloc, geometry, public.hardware.costs, false)?;
+        let system = MemSystem::new(
+            alloc,
+            geometry,
+            public.hardware.costs,
+            public.hardware.muldiv,
+            false,
+        )?;
         let mut memory = PhysMem::new(alloc, public.hardware.frames)?;
         let domains = open_all(alloc, image, &mut memory)?;
         load_pages(image, domains.as_slice(), &mut memory);

@@ -25,7 +25,8 @@ invariant_of-result-clause-stands c =
     let i = image_from c.args.image.now in
     let public = c.public-public.ensures.value in
     let levels : hierarchy_by any_rule c.geometry_of-geometry.result
-    c.public-public.result.now.hardware.costs ≡ hierarchy i.all.hardware =
+    c.public-public.result.now.hardware.costs
+    c.public-public.result.now.hardware.muldiv ≡ hierarchy i.all.hardware =
     c.geometry_of-geometry.ensures.hierarchy ∙ ap (λ (p : Public). hierarchy p.hardware) public in
     stands_first None i c.runnable.ensures.runnable c.load_pages.new.memory c.in_ok-system.system
     c.in_ok-domains.domains.items c.in_ok-used.used.items

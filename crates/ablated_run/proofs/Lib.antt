@@ -1,0 +1,6 @@
+mod Moments
+mod Among
+mod Opens
+mod Offs
+mod OpeningsOff
+mod SlotsOff

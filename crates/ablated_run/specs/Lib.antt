@@ -1,0 +1,3 @@
+pub mod Ablations
+pub mod Propositions
+pub mod Models

@@ -1,0 +1,140 @@
+// The calls of the machine with one guard off.
+use super::Ablated;
+use crate::off::{begins_by, geometry_off, parts_off, share_clone, slot_off, until_off};
+use domain_open::{load_pages, open_all};
+use domain_switch::switch_off;
+use guards::Guard;
+use image_check::Checked;
+use kernel_clone::CloneLayout;
+use mem_system::MemSystem;
+use phys_mem::PhysMem;
+use std::alloc::Global;
+use tp_base::Memory;
+use tp_machine::{note_switch, switch_entry, unused};
+use world_view::{Used, View};
+
+impl<'a> Ablated<'a> {
+    ghost use Rattle.std.specs.Prelude.{◌≡◌, ◌+◌, ◌<◌, length, option_map, IfOk, IfSome};
+    ghost use Rattle.kernel_clone.specs.Footprints.{IsLayout};
+    ghost use Rattle.kernel_clone.specs.Models.{layout_model};
+    ghost use Rattle.sched_table.specs.Schedule as schedule;
+    ghost use Rattle.world_view.specs.Machine as spec;
+    ghost use Rattle.world_view.specs.View.{view_off};
+    ghost use Rattle.world_view.specs.Models.{view_model};
+    ghost use Rattle.world_view.specs.Used.{largest_of, count_of};
+    ghost use Rattle.tp_machine.specs.Usage.{IsUsed};
+    ghost use Rattle.ablated_run.specs.Models.{image_off, world_off};
+
+    /// The machine before its first slot. All that it will need is allocated here.
+    ///
+    /// # Errors
+    /// `Memory` where no memory is left for it.
+    pub fn load(alloc: Global, image: &'a Checked, off: Guard) -> Result<Self, Memory>
+        ensures slots { IfOk result (λ m. m.slots ≡ 0) }
+        ensures image { IfOk result (λ m. m.image.now ≡ image.now) }
+        ensures off { IfOk result (λ m. m.off ≡ off) }
+    {
+        image.runnable();
+        let public = image.public();
+        let geometry = geometry_off(off, &public.hardware);
+        let system = MemSystem::new(
+            alloc,
+            geometry,
+            public.hardware.costs,
+            public.hardware.muldiv,
+            false,
+        )?;
+        let mut memory = PhysMem::new(alloc, public.hardware.frames)?;
+        let mut domains = open_all(alloc, image, &mut memory)?;
+        load_pages(image, domains.as_slice(), &mut memory);
+        share_clone(off, domains.as_mut_slice());
+        let used = unused(alloc, public.schedule.len())?;
+        Ok(Ablated {
+            image,
+            off,
+            slots: 0,
+            memory,
+            system,
+            domains,
+            used,
+            clock: 0,
+            ended: 0,
+        })
+    }
+
+    /// Switches to the domain of the next slot, and runs it. Never allocates.
+    pub fn run_slot(&mut self)
+        requires slots { self.old.slots < 65536 }
+        ensures slots { self.new.slots ≡ self.old.slots + 1 }
+        ensures image { self.new.image.now ≡ self.old.image.now }
+        ensures off { self.new.off ≡ self.old.off }
+    {
+        let public = self.image.public();
+        let entry = public.schedule.entry(self.slots);
+        let start = public.schedule.start(self.slots);
+        let out = self.outgoing();
+        let d = usize::from(entry.domain);
+        let switched = switch_off(
+            &mut self.system,
+            parts_off(self.off),
+            out.as_ref(),
+            &self.domains[d].layout,
+            self.ended,
+            self.clock,
+            until_off(self.off, start),
+        );
+        let place = switch_entry(public.schedule.len(), self.slots);
+        note_switch(self.used.as_mut_slice(), place as usize, switched.used);
+        self.ended = begins_by(self.off, start, switched.now) + u64::from(entry.length);
+        self.clock = slot_off(
+            self.off,
+            &mut self.memory,
+            &mut self.system,
+            self.domains.as_mut_slice(),
+            d,
+            switched.now,
+            self.ended,
+        );
+        self.slots += 1;
+    }
+
+    // The kernel clone that works for the domain whose slot was last: nobody's before
+    // the first.
+    fn outgoing(&self) -> Option<CloneLayout>
+        ensures clone { option_map layout_model result
+            ≡ spec.clone_by (spec.without self.now.off (image_off self.now))
+            (schedule.outgoing (image_off self.now).all.schedule self.now.slots) }
+        ensures layout { IfSome result (λ clone. IsLayout (layout_model clone)) }
+    {
+        if self.slots == 0 {
+            return None;
+        }
+        let entry = self.image.public().schedule.entry(self.slots - 1);
+        Some(self.domains[usize::from(entry.domain)].layout)
+    }
+
+    /// What is seen of a domain after the slots that have run.
+    pub fn view(&self, d: u8) -> View<'_>
+        requires domain { d < length (image_off self.now).owns }
+        ensures view { view_model result ≡ view_off self.now.off (image_off self.now) d self.now.slots }
+    {
+        View::new(&self.domains[usize::from(d)], &self.memory)
+    }
+
+    /// What the switches of an entry took.
+    pub fn used(&self, entry: u32) -> Used
+        requires entry { entry < length (image_off self.now).all.schedule }
+        ensures largest { result.largest ≡ largest_of entry (world_off self.now).used }
+        ensures count { result.count ≡ count_of entry (world_off self.now).used }
+    {
+        self.used[entry as usize]
+    }
+
+    /// What the switches of each entry took.
+    pub fn all_used(&self) -> &[Used]
+        ensures all { length result.now ≡ length (image_off self.now).all.schedule }
+        ensures each { IsUsed result.now (world_off self.now).used }
+    {
+        self.used.as_slice()
+    }
+}
