@@ -1,2 +1,1 @@
-mod Opened
-mod Sizes
+pub mod Opened

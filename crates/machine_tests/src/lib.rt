@@ -1,14 +1,11 @@
-//! The tests of the machine: of the step, the whole machine and the domain alone,
-//! through their public calls.
+//! The tests of the whole machine and of the domain alone, through their public
+//! calls; and the images that these and the tests of the step run.
 #![tactic(auto)]
 
 #[cfg(test)]
 mod domain_alone;
-#[cfg(test)]
-mod images;
+pub mod images;
 #[cfg(test)]
 mod seen;
-#[cfg(test)]
-mod steps;
 #[cfg(test)]
 mod whole_machine;

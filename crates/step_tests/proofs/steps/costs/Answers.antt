@@ -12,7 +12,7 @@ use Rattle.image_check.specs.Public as spec
 use Rattle.image_check.specs.Image.{image_from}
 use Rattle.world_view.specs.Cost.{hierarchy}
 use Rattle.machine_tests.proofs.Opened.{opened_runs}
-use Rattle.machine_tests.proofs.steps.costs.Goals as goal
+use Rattle.step_tests.proofs.steps.costs.Goals as goal
 
 pub four_steps-costs-requires-clause-runs : goal.four_steps-costs-requires-clause-runs
 four_steps-costs-requires-clause-runs c =

@@ -14,12 +14,13 @@ ghost use Rattle.kernel_call.specs.Models.{CountsUpTo};
 ghost use Rattle.world_view.specs.Cost.{hierarchy};
 ghost use Rattle.domain_step.specs.Moves.{Runs};
 
-use crate::images::{accepted, hex_of};
+use branch_pred::Sizes;
 use domain_open::{load_pages, open_all};
 use domain_step::step;
 use hardware_check::CacheShape;
 use image_check::Hardware;
 use kernel_call::Domain;
+use machine_tests::images::{accepted, hex_of};
 use mem_system::{CacheGeometry, Geometry, MemSystem};
 use phys_mem::PhysMem;
 use repl_policy::Lru;
@@ -99,6 +100,9 @@ fn system_of(alloc: Global, hardware: &Hardware) -> Result<Option<MemSystem<Lru>
     if hardware.line != 64 || hardware.predictor != 16 {
         return Ok(None);
     }
+    if hardware.history != 0 || hardware.targets != 0 {
+        return Ok(None);
+    }
     if !is_shape(hardware.l1i, 16, 2) || !is_shape(hardware.l1d, 16, 2) {
         return Ok(None);
     }
@@ -107,13 +111,17 @@ fn system_of(alloc: Global, hardware: &Hardware) -> Result<Option<MemSystem<Lru>
     }
     let geometry = Geometry {
         line_size: 64,
-        counters: 16,
+        predictor: Sizes {
+            counters: 16,
+            history: 0,
+            targets: 0,
+        },
         l1i: cache(16, 2),
         l1d: cache(16, 2),
         l2: cache(256, 4),
         tlb: cache(4, 2),
     };
-    Ok(Some(MemSystem::new(alloc, geometry, hardware.costs, false)?))
+    Ok(Some(MemSystem::new(alloc, geometry, hardware.costs, hardware.muldiv, false)?))
 }
 
 // ---- steps

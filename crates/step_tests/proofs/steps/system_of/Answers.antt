@@ -1,15 +1,15 @@
 -- Its sizes are a hierarchy's.
-use Rattle.std.proofs.Common.{arith, refl, sym, subst}
+use Rattle.std.proofs.Common.{arith, refl, sym, subst, inl, lit≤}
 use Rattle.l2_colour.specs.Colours.{IsColoured}
-use Rattle.machine_tests.proofs.Sizes.{is_lru_cache}
-use Rattle.machine_tests.proofs.steps.system_of.Goals as goal
+use Rattle.step_tests.proofs.Sizes.{is_lru_cache}
+use Rattle.step_tests.proofs.steps.system_of.Goals as goal
 
 pub new-requires : goal.new-requires
 new-requires c = record {
   geometry = record {
     least = omega arith;
     coloured = subst (IsColoured 64) (sym c.cache-3.ensures.sets) (record { whole_lines = refl; whole_colours = refl; some = omega arith; few = omega arith });
-    counters = (4, refl);
+    predictor = record { counters = (4, refl); history = lit≤ tt; targets = inl refl };
     l1i = is_lru_cache c.cache.result 16 2 4 c.cache.ensures.sets c.cache.ensures.ways (omega arith, omega arith) refl (omega arith);
     l1d = is_lru_cache c.cache-2.result 16 2 4 c.cache-2.ensures.sets c.cache-2.ensures.ways (omega arith, omega arith) refl (omega arith);
     l2 = is_lru_cache c.cache-3.result 256 4 8 c.cache-3.ensures.sets c.cache-3.ensures.ways (omega arith, omega arith) refl (omega arith);
