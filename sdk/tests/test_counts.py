@@ -48,14 +48,34 @@ def example(name: str) -> Image:
     return tomllib.loads((EXAMPLES / f"{name}.toml").read_text())
 
 
+# Ten products, and divisions of 0 to 9: of 0 + 1 + 2 + 2 + 3 + 3 + 3 + 3 + 4 + 4 digits.
+PRODUCTS = """
+    .globl _start
+_start:
+    li x6, 10
+1:  mul x7, x5, x5
+    divu x8, x5, x6
+    jal 2f
+2:  addi x5, x5, 1
+    bne x5, x6, 1b
+    li x17, 0
+    ecall
+"""
+
+
+def image_of(folder: Path, name: str, source: str, description: str) -> Image:
+    """The image of a program in assembler."""
+    (folder / f"{name}.s").write_text(source)
+    (folder / f"{name}.toml").write_text(description)
+    made = run_tool("tp-image", folder / f"{name}.toml")
+    assert (made.returncode, made.stderr) == (0, "")
+    return tomllib.loads(made.stdout)
+
+
 @pytest.fixture(scope="module")
 def loop(program: Program, built: Path) -> Image:
     """The image of the loop."""
-    (built / "loop.s").write_text(LOOP)
-    (built / "loop.toml").write_text(LOOP_DESCRIPTION)
-    made = run_tool("tp-image", built / "loop.toml")
-    assert (made.returncode, made.stderr) == (0, "")
-    return tomllib.loads(made.stdout)
+    return image_of(built, "loop", LOOP, LOOP_DESCRIPTION)
 
 
 def events(*counts: int) -> dict[str, int]:
@@ -76,6 +96,18 @@ def test_a_loop_counted_by_hand(program: Program, loop: Image) -> None:
     assert told[1].events is not None and told[1].events["base"] + 685 + 1 == 3 + 4 * 200 + 1
     assert told[1].events["mispredict"] == 2
     assert [it.events for it in told[2:]] == [events(*[0] * len(COUNTED))] * 2
+
+
+def test_products_and_jumps_counted_by_hand(program: Program, built: Path) -> None:
+    machine = built / "jumps.toml"
+    machine.write_text((built / "machine-muldiv.toml").read_text() + "targets = 16\n")
+    description = LOOP_DESCRIPTION.replace('"machine.toml"', '"jumps.toml"').replace("loop", "products")
+    image = image_of(built, "products", PRODUCTS, description)
+    (first,) = count_events(program, image, "products", 0, 1)
+    assert first.events is not None
+    # (wrong are the first JAL, the first branch that is taken, its target too, and the last one, which isn't)
+    counts = {"base": 1 + 10 * 5 + 1, "mispredict": 3, "trap": 0, "mul": 10, "div": 10 + 25}
+    assert {cost: first.events[cost] for cost in counts} == counts
 
 
 def test_counts_do_not_depend_on_the_costs(program: Program, loop: Image) -> None:

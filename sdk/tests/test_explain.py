@@ -185,9 +185,12 @@ def test_what_is_broken_in_the_examples(image: Path) -> None:
     assert line == str(first[0]) if first is not None else not is_refused(image)
 
 
+MORE = ("predictor = 16", "predictor = 16\nmuldiv = { mul = 4, div = 2 }")
+
+
 def test_the_bound_is_the_programs(program: Program) -> None:
     text = (REPOSITORY / "examples" / "bound.toml").read_text()
-    for old, new in (("wb = 10", "wb = 999"), ("line = 64", "line = 128"), ("trap = 10", "trap = 77")):
+    for old, new in (("wb = 10", "wb = 999"), ("line = 64", "line = 128"), ("trap = 10", "trap = 77"), MORE):
         assert old in text
         other = text.replace(old, new, 1)
         ended = program.run(["bound"], re.sub(r"pad = \d+", "pad = 1000000", other))

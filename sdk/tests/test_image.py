@@ -17,6 +17,7 @@ pytest.importorskip("elftools")
 from tp_sdk.build import build_text, set_moments, set_words  # noqa: E402
 from tp_sdk.description import read_description  # noqa: E402
 from tp_sdk.faults import Fault, Missing  # noqa: E402
+from tp_sdk.instructions import lacking  # noqa: E402
 from tp_sdk.program import Program  # noqa: E402
 
 # addi x17, x0, 0 and ecall: EXIT with x10, which is zero
@@ -93,6 +94,19 @@ def test_the_rest_is_the_description(folder: Folder) -> None:
     assert {key: image[key] for key in machine} == machine
 
 
+def test_the_machine_may_have_more_keys(folder: Folder) -> None:
+    machine = folder.path / "machine.toml"
+    text = machine.read_text() + "history = 8\nmuldiv = { mul = 4, div = 2 }\ntargets = 16\n"
+    machine.write_text(text)
+    image = folder.image()
+    assert (image["history"], image["muldiv"], image["targets"]) == (8, {"mul": 4, "div": 2}, 16)
+    (folder.path / "red.toml").write_text(text + DESCRIPTION.replace('machine = "machine.toml"\n', ""))
+    assert folder.image() == image
+    machine.write_text(text.replace("targets = 16", 'targets = "16"'))
+    folder.write()
+    assert folder.fault().startswith("machine.toml:14:11: 'targets' must be as docs/IMAGE.md says: integer")
+
+
 def test_a_pad_that_is_left_out_is_the_bound(folder: Folder, program: Program) -> None:
     folder.write(DESCRIPTION.replace("pad = 6150\n", ""))
     machine = folder.path / "machine.toml"
@@ -130,7 +144,7 @@ FAULTS = [
     (
         Elf([Load(0x10000, R | X, EXITS + bytes.fromhex("b3801002"))]),
         "red.elf: 0x10008 is mul, of the extension M, which the machine lacks: "
-        "compile it with -march=rv32i -mabi=ilp32",
+        "compile it with -march=rv32i -mabi=ilp32, or give the machine `muldiv`",
     ),
     (
         Elf([Load(0x10000, R | X, EXITS + bytes.fromhex("afa00010"))]),
@@ -431,7 +445,59 @@ def test_an_elf_file_for_another_machine(
     command = [COMPILER, "-mabi=ilp32", *words, *linked]
     subprocess.run([*command, "-o", folder.path / "red.elf", folder.path / "red.c"], check=True)
     told = folder.fault()
-    assert re.match(fault, told) and told.endswith(": compile it with -march=rv32i -mabi=ilp32")
+    advice = ": compile it with -march=rv32i -mabi=ilp32"
+    if words == ["-march=rv32im"]:
+        advice += ", or give the machine `muldiv`"
+    assert re.match(fault, told) and told.endswith(advice)
+
+
+# ---- products and divisions, which a machine may have
+
+
+PRODUCTS = """volatile unsigned one = 7;
+int main(void)
+{
+    return one * one == 49 && one / one == 1 && 50 % one == 1 ? 0 : 1;
+}
+"""
+MULDIV = "muldiv = { mul = 4, div = 2 }\n"
+
+
+def products_in(image: dict[str, Any]) -> set[str]:
+    """The products and divisions of the first domain's text."""
+    text = bytes.fromhex(image["domain"][0]["segment"][0]["hex"])
+    words = (int.from_bytes(text[at : at + 4], "little") for at in range(0, len(text), 4))
+    return {it.name for it in map(lacking, words) if it is not None}
+
+
+@pytest.mark.parametrize("made_before", (False, True))
+def test_a_program_is_compiled_for_its_machine(
+    folder: Folder, program: Program, compiler: str, made_before: bool
+) -> None:
+    (folder.path / "red.c").write_text(PRODUCTS)
+    machine = folder.path / "machine.toml"
+    without = machine.read_text()
+    for arch, keys, found in (("rv32i", "", set()), ("rv32im", MULDIV, {"mul", "divu", "remu"})):
+        machine.write_text(without + keys)
+        name = "out/red.elf" if made_before else "red.c"
+        if made_before:
+            words = ["-f", SDK / "c" / "Makefile", "PROGRAMS=red", f"ARCH={arch}"]
+            subprocess.run(["make", "-C", folder.path, *words], check=True, capture_output=True)
+        text = DESCRIPTION.replace("red.elf", name).replace("pad = 6150\n", "")
+        (folder.path / "red.toml").write_text(text)
+        assert products_in(folder.image(program=program)) == found
+        ended = run_tool("tp-run", folder.path / "red.toml", "--slots", "4")
+        assert (ended.returncode, ended.stderr) == (0, "")
+        assert "red (domain 0): exited with code 0\n" in ended.stdout
+
+
+def test_products_in_assembler(folder: Folder, compiler: str) -> None:
+    (folder.path / "red.s").write_text(".globl _start\n_start: mul x5, x6, x7\nremu x5, x6, x7\n")
+    folder.write(DESCRIPTION.replace("red.elf", "red.s"))
+    assert "can't be assembled" in folder.fault()
+    machine = folder.path / "machine.toml"
+    machine.write_text(machine.read_text() + MULDIV)
+    assert products_in(folder.image()) == {"mul", "remu"}
 
 
 def test_a_full_disk(folder: Folder, program: Program) -> None:

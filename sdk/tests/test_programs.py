@@ -3,10 +3,11 @@
 from __future__ import annotations
 
 import subprocess
+import tomllib
 from pathlib import Path
 
 import pytest
-from conftest import run_tool
+from conftest import REPOSITORY, run_tool
 
 from tp_sdk.program import Program
 from tp_sdk.report import Report, parse_report
@@ -26,11 +27,18 @@ def run(program: Program, built: Path, name: str, *settings: str) -> str:
     return ended.text
 
 
-def test_another_stack_builds_anew(built: Path) -> None:
+def test_another_stack_or_architecture_builds_anew(built: Path) -> None:
     elf = built / "out" / "hello.elf"
-    for size, is_other in (("4096", False), ("8192", True), ("8192", False), ("4096", True)):
+    for setting, is_other in (
+        ("STACK=4096", False),
+        ("STACK=8192", True),
+        ("STACK=8192", False),
+        ("ARCH=rv32im", True),
+        ("ARCH=rv32im", False),
+        ("ARCH=rv32i", True),
+    ):
         before = elf.stat().st_mtime_ns
-        subprocess.run(["make", "-C", built, f"STACK={size}"], check=True, capture_output=True)
+        subprocess.run(["make", "-C", built, setting], check=True, capture_output=True)
         assert (elf.stat().st_mtime_ns != before) == is_other
 
 
@@ -40,6 +48,35 @@ def test_reports_are_those_stored(program: Program, built: Path, compiler: str, 
     if compiler != of:
         pytest.skip(f"the stored reports are of programs that {of} built")
     assert run(program, built, name) == (REPORTS / f"{name}.report").read_text()
+
+
+@pytest.mark.parametrize("name", ("powers", "powers-muldiv"))
+def test_the_examples_are_what_the_tools_make(built: Path, compiler: str, name: str) -> None:
+    of = (REPORTS / "compiler").read_text().strip()
+    if compiler != of:
+        pytest.skip(f"the examples are of programs that {of} built")
+    made = run_tool("tp-image", built / f"{name}.toml")
+    example = (REPOSITORY / "examples" / f"{name}.toml").read_text()
+    assert tomllib.loads(made.stdout) == tomllib.loads(example)
+    # (and its comment is the description's, and a command)
+    comment = (built / f"{name}.toml").read_text().split("machine =")[0]
+    assert example.startswith(f"{comment}#\n#   ./tp run --slots 1 < examples/{name}.toml\n")
+
+
+def test_products_are_instructions_where_the_machine_has_them(program: Program, built: Path) -> None:
+    reports = {}
+    for name in ("powers", "powers-muldiv"):
+        made = run_tool("tp-image", built / f"{name}.toml")
+        reports[name] = parse_report(program.run(["run", "--slots", "1"], made.stdout).text, name)
+    without, having = (report.section("powers") for report in reports.values())
+    due = "".join(f"{base}^1000003 mod 65521 = {pow(base, 1000003, 65521)}\n" for base in range(2, 6))
+    assert without.out == having.out == due.encode()
+    assert without.retired > 5 * having.retired
+    slow, fast = (
+        [after - before for before, after in zip(it.readings[::2], it.readings[1::2])]
+        for it in (without, having)
+    )
+    assert all(5 * one < other for one, other in zip(fast, slow))
 
 
 def test_each_program_does_what_it_says(program: Program, built: Path) -> None:

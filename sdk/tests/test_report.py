@@ -15,7 +15,7 @@ pytest.importorskip("elftools")
 from tp_sdk.calls import CALLS, ERRORS  # noqa: E402
 from tp_sdk.description import read_description  # noqa: E402
 from tp_sdk.elf import Loaded, Segment  # noqa: E402
-from tp_sdk.instructions import about, beyond, lacking  # noqa: E402
+from tp_sdk.instructions import RV32IM, about, beyond, lacking  # noqa: E402
 from tp_sdk.report import Stop, Thread  # noqa: E402
 from tp_sdk.stops import NAMES, overflow_of, value_in_words  # noqa: E402
 from tp_sdk.symbols import Symbols  # noqa: E402
@@ -185,6 +185,9 @@ def test_instructions_that_the_machine_lacks() -> None:
         ("rv32i2p1_m2p0_a2p1_f2p2_d2p2_c2p0_zicsr2p0_zmmul1p0", ["m", "a", "f", "d", "c", "zmmul"]),
     ):
         assert beyond(arch) == others
+        assert beyond(arch, RV32IM) == [name for name in others if name not in ("m", "zmmul")]
+    assert lacking(0x02208033, RV32IM) is None
+    assert str(lacking(0x1000A0AF, RV32IM)).startswith("lr.w")
 
 
 # ---- what is at fault

@@ -16,7 +16,9 @@ jsonschema = pytest.importorskip("jsonschema")
 
 # A schema can say of the refused examples that these are broken; others are no TOML, or broken in
 # what several values come to together.
-OF_ONE_VALUE = [it for it in examples() if it.stem in {f"refused-k{rule}" for rule in (2, 3, 4, 6, 8, 16)}]
+OF_ONE_VALUE = [
+    it for it in examples() if it.stem in {f"refused-k{rule}" for rule in (2, 3, 4, 6, 8, 16, 22)}
+]
 
 
 def complaints(image: Path) -> list[str]:
@@ -64,7 +66,7 @@ def faults_of_description(text: str) -> list[str]:
 
 @pytest.mark.parametrize("description", sorted(C.glob("*.toml")), ids=lambda it: it.stem)
 def test_it_takes_a_description(description: Path) -> None:
-    if description.stem != "machine":
+    if not description.stem.startswith("machine"):
         assert faults_of_description(description.read_text()) == []
 
 

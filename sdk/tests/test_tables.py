@@ -47,8 +47,10 @@ def test_the_table_of_refusals() -> None:
 def test_the_table_of_keys() -> None:
     rows = table_with("row", "key", "value", "an example")
     told = [(int(number), re.findall("`(.*?)`", key)[-1:], value) for number, key, value, _ in rows]
-    assert told[:-1] == [(row.number, [row.key], row.value) for row in keys.KEY_ROWS]
-    assert told[-1][0] == keys.OTHER_KEYS
+    known = [(row.number, [row.key], row.value) for row in keys.KEY_ROWS]
+    assert [row for row in told if row[0] != keys.OTHER_KEYS] == known
+    numbers = [row[0] for row in told]
+    assert numbers == sorted(numbers) and keys.OTHER_KEYS in numbers
 
 
 @pytest.mark.parametrize("row", keys.KEY_ROWS, ids=lambda row: row.key)
@@ -75,6 +77,8 @@ def test_the_fields_of_the_tables() -> None:
     cache, costs = sentence.group().split("The table `costs`")
     assert re.findall("`(.*?)`", cache) == [key for key, _ in keys.CACHE.fields]
     assert re.findall("`(.*?)`", costs) == list(keys.COSTS)
+    sentence = re.search(r"The table `muldiv` (.*)", IMAGE_MD)
+    assert sentence is not None and re.findall("`(.*?)`", sentence[1]) == list(keys.PRODUCTS)
 
 
 def test_the_parts_of_the_machine() -> None:
@@ -82,7 +86,7 @@ def test_the_parts_of_the_machine() -> None:
     assert rows == [[str(it.number), f"`{it.key}`", f"{it.low:,} to {it.high:,}"] for it in keys.PARTS]
 
 
-@pytest.mark.parametrize("rule", (3, 11, 12, 13, 15))
+@pytest.mark.parametrize("rule", (3, 11, 12, 13, 15, 22))
 def test_the_cases_of_a_rule(rule: int) -> None:
     told = [
         (int(row[0]), row[1])
@@ -99,6 +103,7 @@ def test_the_cases_of_the_schedule() -> None:
 @pytest.mark.parametrize(
     ("rule", "said"),
     [
+        (3, "`history` is not {0.HISTORY.low} to {0.HISTORY.high}"),
         (4, "`frames` is {0.FRAMES.low} to {0.FRAMES.high:,}."),
         (5, "there are {0.COLOURS.low} to {0.COLOURS.high} page colours"),
         (6, "each cost is {0.COST.low} to {0.COST.high:,}."),
@@ -109,6 +114,8 @@ def test_the_cases_of_the_schedule() -> None:
         (15, "there are more than {0.MOMENTS_MOST:,}"),
         (15, "{0.MOMENT.low} to {0.MOMENT.high:,}"),
         (16, "there are {0.ENTRIES.low} to {0.ENTRIES.high} entries"),
+        (22, "cost {0.COST.low} to {0.COST.high:,} cycles"),
+        (22, "`targets` is no power of two from {0.TARGETS.low} to {0.TARGETS.high}"),
         (16, "of {0.LENGTH.low:,} to {0.LENGTH.high:,} cycles, with a pad of {0.PAD.low} to {0.PAD.high:,}."),
     ],
 )

@@ -49,7 +49,7 @@ def _domain_of(description: Description, name: str, asked: str) -> DomainDescrip
 
 def load_programs(description: Description) -> list[Loaded]:
     """The programs of its domains, with the stacks that it asks for."""
-    return [_load(it) for it in description.domains]
+    return [_load(it, description.arch) for it in description.domains]
 
 
 def build_text(
@@ -105,8 +105,8 @@ def _entry(entry: EntryDescription, numbers: dict[str, int], pad: int) -> ImageE
     return ImageEntry(domain, entry.length, pad if entry.pad is None else entry.pad)
 
 
-def _load(it: DomainDescription) -> Loaded:
-    loaded = it.program if isinstance(it.program, Loaded) else load_program(it.program, it.stack)
+def _load(it: DomainDescription, arch: str) -> Loaded:
+    loaded = it.program if isinstance(it.program, Loaded) else load_program(it.program, it.stack, arch)
     if it.stack is not None:
         others = [segment for segment in loaded.segments if segment.name != STACK]
         loaded.segments = [*others, _stack(loaded, it.stack)]

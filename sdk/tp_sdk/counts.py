@@ -12,7 +12,7 @@ from dataclasses import dataclass
 from typing import Any
 
 from tp_sdk.faults import Fault
-from tp_sdk.keys import COST, COSTS, ENTRIES, LENGTH, PAD
+from tp_sdk.keys import COST, COSTS, ENTRIES, LENGTH, PAD, PRODUCTS
 from tp_sdk.program import Program
 from tp_sdk.refusals import Image
 from tp_sdk.replay import has_ended, number, written
@@ -20,6 +20,11 @@ from tp_sdk.report import Section, parse_report
 
 # Switches alone flush.
 COUNTED = tuple(cost for cost in COSTS if cost != "flush")
+
+
+def counted_in(image: Image) -> tuple[str, ...]:
+    """The costs by which events of an image are counted: of a machine with products theirs, too."""
+    return (*COUNTED, *PRODUCTS) if "muldiv" in image else COUNTED
 
 
 @dataclass(frozen=True)
@@ -41,18 +46,19 @@ def count_events(program: Program, image: Image, file: str, domain: int, slots: 
     if slots > len(runs.schedule):
         raise Fault(f"{file}: of the first {len(runs.schedule)} slots alone can events be counted")
     own = [slot for slot in range(slots) if runs.schedule[slot]["domain"] == domain]
-    plain = image["costs"]
+    counts = counted_in(image)
+    plain = image["costs"] | image.get("muldiv", {})
     reached = {slot: runs.section(plain, {}, slot + 1) for slot in own}
     raised = plain | {"base": _raised(plain["base"], list(reached.values()))}
     in_time, least = runs.least_lengths(plain, reached), runs.least_lengths(raised, reached)
     longer = {}
-    for cost in COUNTED:
+    for cost in counts:
         step = 1 if raised[cost] < COST.high else -1
         lengths = runs.least_lengths(raised | {cost: raised[cost] + step}, reached)
         longer[cost] = {slot: (lengths[slot] - least[slot]) * step for slot in own}
     counted, before = [], 0
     for slot in own:
-        events = {cost: longer[cost][slot] for cost in COUNTED}
+        events = {cost: longer[cost][slot] for cost in counts}
         # (a domain that came no further did nothing; nor can a slot be shorter than the shortest)
         if progress(reached[slot]) > before and least[slot] == LENGTH.low:
             counted.append(Counted(slot, None, None))
@@ -77,7 +83,7 @@ def _raised(base: int, reached: Sequence[Section]) -> int:
 
 
 def _sum(events: dict[str, int], costs: dict[str, int]) -> int:
-    return sum(costs[cost] * events[cost] for cost in COUNTED)
+    return sum(costs[cost] * count for cost, count in events.items())
 
 
 class _Runs:
@@ -86,6 +92,7 @@ class _Runs:
 
     def __init__(self, program: Program, image: Image, file: str, domain: int) -> None:
         self._program, self._image, self._file, self._domain = program, image, file, domain
+        self._costly = [key for key in ("costs", "muldiv") if key in image]
         self.schedule: list[dict[str, Any]] = image["schedule"] * (ENTRIES.high // len(image["schedule"]))
 
     def section(self, costs: dict[str, int], lengths: dict[int, int], slots: int) -> Section:
@@ -94,7 +101,8 @@ class _Runs:
             entry | {"length": lengths.get(slot, entry["length"]), "pad": PAD.high}
             for slot, entry in enumerate(self.schedule)
         ]
-        image = self._image | {"costs": costs, "schedule": schedule}
+        keys = {key: {cost: costs[cost] for cost in self._image[key]} for key in self._costly}
+        image = self._image | keys | {"schedule": schedule}
         words = ["alone", "--domain", str(self._domain), "--slots", str(slots)]
         text = written(self._program, words, image, self._file)
         return parse_report(f"{text}end\n", self._file).sections[0]

@@ -13,6 +13,7 @@ from typing import Any
 from tp_sdk import toml_places
 from tp_sdk.elf import PAGES, Loaded, Segment
 from tp_sdk.faults import Fault, read_text, refuse_unread
+from tp_sdk.instructions import arch_of
 from tp_sdk.keys import (
     HEX,
     KEY_ROWS,
@@ -167,6 +168,11 @@ class Description:
         """Its file."""
         return self.text.file
 
+    @property
+    def arch(self) -> str:
+        """What its machine's instructions are."""
+        return arch_of(self.machine)
+
     def place(self, path: toml_places.Path) -> str:
         """Where that stands from which a place of the image is made."""
         is_of_machine = bool(path) and path[0] in MACHINE_KEYS
@@ -230,7 +236,8 @@ def _check_machine(text: _Text, others: tuple[str, ...]) -> None:
     for row in rows:
         fault = broken_place(row, text.data, 0)
         if fault is not None:
-            raise Fault(f"{text.place(fault)}: '{row.key}' must be there, as docs/IMAGE.md says: {row.value}")
+            must = "be there, as" if row.needed else "be as"
+            raise Fault(f"{text.place(fault)}: '{row.key}' must {must} docs/IMAGE.md says: {row.value}")
     machine = {key: value for key, value in text.data.items() if key in MACHINE_KEYS}
     for path in other_keys(machine):
         raise Fault(f"{text.place_of_key(path)}: there is no key '{path[-1]}' of a machine")

@@ -10,9 +10,11 @@ from tp_sdk.values import PLACE, VALUE, WANTED
 
 def description_schema() -> Schema:
     """The schema: an image's keys may stand in the place of the names of files."""
-    image = of_place(Place.TOP)["properties"]
+    top = of_place(Place.TOP)
+    image = top["properties"]
     domain = image["domain"]["items"]["properties"]
     machine = [key for key in image if key not in ("domain", "schedule")]
+    needed = [key for key in machine if key in top["required"]]
     return {
         "$schema": "http://json-schema.org/draft-07/schema#",
         "title": "A description of an image of tp",
@@ -37,7 +39,7 @@ def description_schema() -> Schema:
                 ),
             },
             ["domain", "schedule"],
-            [["machine"], machine],
+            [["machine"], needed],
         ),
     }
 

@@ -8,7 +8,7 @@ from dataclasses import dataclass
 from pathlib import Path
 
 from tp_sdk.faults import Fault, MissingLibrary, read_bytes
-from tp_sdk.instructions import ADVICE, beyond, lacking
+from tp_sdk.instructions import RV32I, advice, are_products, beyond, lacking
 from tp_sdk.keys import KEY_ROWS, PAGE, RIGHTS, Within
 from tp_sdk.symbols import Symbol, Symbols
 
@@ -79,14 +79,14 @@ class Loaded:
         return found
 
 
-def load_elf(file: Path) -> Loaded:
-    """Reads an ELF file for RV32I without compressed instructions, with fixed addresses."""
+def load_elf(file: Path, arch: str = RV32I) -> Loaded:
+    """Reads an ELF file for a machine with these instructions, with fixed addresses."""
     data = read_bytes(file)
     try:
         elf = ELFFile(io.BytesIO(data))
-        _refuse_others(elf, file)
+        _refuse_others(elf, file, arch)
         symbols = Symbols(data, _symbols(elf))
-        _refuse_extensions(elf, file, symbols)
+        _refuse_extensions(elf, file, symbols, arch)
         segments = [
             _segment(elf, number, header, file)
             for number, header in enumerate(elf.iter_segments())
@@ -114,40 +114,42 @@ def _symbols(elf: ELFFile) -> list[Symbol]:
     ]
 
 
-def _refuse_others(elf: ELFFile, file: Path) -> None:
+def _refuse_others(elf: ELFFile, file: Path, arch: str) -> None:
     """Refuses what another machine runs."""
     machine, kind, flags = elf["e_machine"], elf["e_type"], elf["e_flags"]
     wrong = None
     if machine != "EM_RISCV":
         wrong = f"for another machine: e_machine is {machine}, not EM_RISCV"
     elif elf.elfclass != 32:
-        wrong = f"for RV{elf.elfclass}: {ADVICE}"
+        wrong = f"for RV{elf.elfclass}: {advice(arch)}"
     elif not elf.little_endian:
         wrong = "big-endian, and the machine is little-endian"
     elif flags & _COMPRESSED:
-        wrong = f"with compressed instructions: {ADVICE}"
+        wrong = f"with compressed instructions: {advice(arch)}"
     elif flags & _FLOATS:
-        wrong = f"for a machine with floating point: {ADVICE}"
+        wrong = f"for a machine with floating point: {advice(arch)}"
     elif kind != "ET_EXEC":
         wrong = f"of type {kind}, not ET_EXEC: link it, and to fixed addresses (-static, not -pie)"
     if wrong is not None:
         raise Fault(f"{file}: {wrong}")
 
 
-def _refuse_extensions(elf: ELFFile, file: Path, symbols: Symbols) -> None:
+def _refuse_extensions(elf: ELFFile, file: Path, symbols: Symbols, arch: str) -> None:
     """Refuses a program with instructions that the machine lacks, or that was compiled with leave
     to have some."""
     for start, data in _texts(elf):
         for at in range(0, len(data) - 3, 4):
-            instruction = lacking(int.from_bytes(data[at : at + 4], "little"))
+            instruction = lacking(int.from_bytes(data[at : at + 4], "little"), arch)
             if instruction is not None and symbols.is_text(start + at):
                 place = symbols.place(start + at)
-                raise Fault(f"{file}: {place} is {instruction}: {ADVICE}")
-    arch = _arch(elf)
-    others = beyond(arch)
+                told = advice(arch, instruction.extension == "M")
+                raise Fault(f"{file}: {place} is {instruction}: {told}")
+    its_arch = _arch(elf)
+    others = beyond(its_arch, arch)
     if others:
         named = ", ".join(name.upper() if len(name) == 1 else name.capitalize() for name in others)
-        raise Fault(f"{file}: for {arch}, and the machine lacks {named}: {ADVICE}")
+        told = advice(arch, are_products(others))
+        raise Fault(f"{file}: for {its_arch}, and the machine lacks {named}: {told}")
 
 
 def _texts(elf: ELFFile) -> Iterator[tuple[int, bytes]]:

@@ -86,6 +86,7 @@ class KeyRow:
 
 CACHE = Table((("sets", Integer()), ("ways", Integer()), ("policy", Text())))
 COSTS = ("base", "l1", "l2", "mem", "wb", "tlb", "mispredict", "trap", "flush")
+PRODUCTS = ("mul", "div")
 
 KEY_ROWS = (
     KeyRow(1, Place.TOP, "frames", Integer(), "integer"),
@@ -134,6 +135,23 @@ KEY_ROWS = (
     KeyRow(23, Place.ENTRY, "domain", Integer(), "integer: the place of the domain that runs"),
     KeyRow(24, Place.ENTRY, "length", Integer(), "integer: cycles of the slot"),
     KeyRow(25, Place.ENTRY, "pad", Integer(), "integer: cycles from the slot's end to the next slot's start"),
+    KeyRow(
+        30,
+        Place.TOP,
+        "history",
+        Integer(),
+        "integer: outcomes of branches; it may be missing",
+        needed=False,
+    ),
+    KeyRow(
+        37,
+        Place.TOP,
+        "muldiv",
+        Table(tuple((cost, Integer()) for cost in PRODUCTS)),
+        "table of integers, below; it may be missing",
+        needed=False,
+    ),
+    KeyRow(38, Place.TOP, "targets", Integer(), "integer: places; it may be missing", needed=False),
 )
 
 # ---- what the values' rules ask for, where the schema can ask for it, too
@@ -169,7 +187,10 @@ COLOURS = Within(2, 64)
 WAYS = Within(1, 16)
 TREE_POLICY = "plru"  # its ways are a power of two
 POLICIES = ("lru", "fifo", TREE_POLICY, "nmru")
+HISTORY = Within(0, 8)
 COST = Within(1, 1_000)
+DIVISION_STEPS = 33  # at most: one, and one for each binary digit of the dividend
+TARGETS = Within(1, 256)  # a power of two
 DOMAINS = Within(1, 16)
 NAME = "[a-z0-9]{1,16}"
 SHARED_MOST = 65_536

@@ -40,7 +40,7 @@ def read_known(file: Path, elfs: list[str]) -> Known:
     description = read_description(file)
     known = known_of(description, load_programs(description))
     for elf in elfs:
-        _put_elf(known, elf)
+        _put_elf(known, elf, description.arch)
     return known
 
 
@@ -55,7 +55,7 @@ def known_of(description: Description, programs: list[Loaded]) -> Known:
     return Known(description.file, names, programs, entries)
 
 
-def _put_elf(known: Known, elf: str) -> None:
+def _put_elf(known: Known, elf: str, arch: str) -> None:
     """The symbols and segments' names are the file's, which must be the program of the domain."""
     named, equals, rest = elf.partition("=")
     file = Path(rest if equals else named)
@@ -64,7 +64,7 @@ def _put_elf(known: Known, elf: str) -> None:
         meant = did_you_mean(name, known.names) or f": {', '.join(known.names)}"
         raise Fault(f"--elf {elf}: {known.file} has no domain '{name}'{meant} (DOMAIN=FILE says of which)")
     number = known.names.index(name)
-    loaded = load_elf(file)
+    loaded = load_elf(file, arch)
     _refuse_another_program(known, number, loaded)
     known.programs[number] = loaded
 

@@ -13,7 +13,7 @@ from tp_sdk.toml_places import Path
 
 Image = dict[str, Any]
 
-_RULES_OF_CASES = (3, 11, 12, 13, 15, 16)
+_RULES_OF_CASES = (3, 11, 12, 13, 15, 16, 22)
 
 _LINE = re.compile(r"refused K(\d{1,9}) at (-?\d{1,20}) found (-?\d{1,20}) wanted (-?\d{1,20})")
 
@@ -187,6 +187,7 @@ def _is_high(refusal: Refusal) -> bool:
 # ---- the rows
 
 _NO_LINE = 32
+_PREDICTOR = next(part.number for part in keys.PARTS if part.key == "predictor")
 
 _K1 = Columns(1, "the text is no TOML", "0", "0", "0")
 _K2 = Columns(
@@ -230,6 +231,8 @@ _K15_ONE = Columns(15, "a moment", "the domain", "its place", "the case, 2 to 4"
 _K16_MANY = Columns(16, "there are too few entries, or too many", "0", "how many there are", "1")
 _K16_ONE = Columns(16, "an entry", "the entry", "the value", "the case, 2 to 4")
 _K17 = Columns(17, "a pad is below the bound on a switch", "the entry", "the pad", "the bound")
+_K22_COST = Columns(22, "a cost of products is out of its range", "the case, 1 or 2", "the cost", "1000")
+_K22_TARGETS = Columns(22, "the target buffer has no size that there is", "3", "its places", "256")
 
 
 def _from_to(kind: keys.Within) -> str:
@@ -280,7 +283,15 @@ CASES: tuple[Case, ...] = (
         "`ways` is not 1 to 16",
         _from_to(keys.WAYS),
         _of_part("ways"),
-        _wanted_is(2),
+        lambda refusal: refusal.wanted == 2 and refusal.at != _PREDICTOR,
+    ),
+    Case(
+        _K3,
+        2,
+        "of part 6, `history` is not 0 to 8",
+        _from_to(keys.HISTORY),
+        _at("history"),
+        lambda refusal: refusal.wanted == 2 and refusal.at == _PREDICTOR,
     ),
     Case(
         _K3,
@@ -577,6 +588,25 @@ CASES: tuple[Case, ...] = (
         "the pad is below the bound on a switch",
         "`pad = {wanted}` or more",
         _of_entry("pad"),
+    ),
+    *(
+        Case(
+            _K22_COST,
+            number,
+            f"`{cost}` is not 1 to 1,000",
+            _from_to(keys.COST),
+            _at("muldiv", cost),
+            _at_is(number),
+        )
+        for number, cost in enumerate(keys.PRODUCTS, 1)
+    ),
+    Case(
+        _K22_TARGETS,
+        3,
+        "`targets` is no power of two from 1 to 256",
+        f"a power of two: {_from_to(keys.TARGETS)}",
+        _at("targets"),
+        _at_is(3),
     ),
 )
 

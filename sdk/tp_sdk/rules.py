@@ -46,13 +46,12 @@ class Rules:
 
     def broken(self) -> Iterator[Broken]:
         """The refusals; with a place where the refusal's numbers don't say which of several it is."""
-        for row, number in self.rows:
-            yield Refusal(2, row, number, 0), None
-        for path in keys.other_keys(self.image):
-            yield Refusal(2, keys.OTHER_KEYS, 0, 0), path
+        rows: list[Broken] = [(Refusal(2, row, number, 0), None) for row, number in self.rows]
+        rows += [(Refusal(2, keys.OTHER_KEYS, 0, 0), path) for path in keys.other_keys(self.image)]
+        yield from sorted(rows, key=lambda it: it[0].at)
         values = [*self._machine(), *self._names(), *self._colours(), *self._shared()]
         values += [*self._segments(), *self._caps(), *self._lines(), *self._moments()]
-        values += [*self._schedule(), *self._pads()]
+        values += [*self._schedule(), *self._pads(), *self._extensions()]
         yield from ((it, None) for it in sorted(values, key=lambda it: it.rule))
 
     # ---- the machine
@@ -62,11 +61,19 @@ class Rules:
             return
         for part in PARTS:
             yield from self._part(part)
+        history = self._optional("history", 0)
+        if not _is_within(history, keys.HISTORY):
+            yield Refusal(3, PARTS[-1].number, history, 2)
         yield from _outside(4, 0, self.image["frames"], keys.FRAMES)
         if self._is_good(PARTS[0]) and self._is_good(PARTS[3]):
             yield from _outside(5, 0, self._count_colours(), keys.COLOURS)
         for place, cost in enumerate(keys.COSTS, 1):
             yield from _outside(6, place, self.image["costs"][cost], keys.COST)
+
+    def _optional(self, key: str, missing: Any) -> Any:
+        """The value of a key that may be missing; as if it were, where it breaks its row."""
+        row = next(row for row in KEY_ROWS if row.place is Place.TOP and row.key == key)
+        return missing if (row.number, 0) in self.rows else self.image.get(key, missing)
 
     def _part(self, part: keys.Part) -> Iterator[Refusal]:
         if not self._is_good(part):
@@ -222,10 +229,21 @@ class Rules:
         broken = [*self._machine(), *self._shared()]
         if not self.has_machine or any(it.rule in (3, 6) or (it.rule, it.at) == (11, 1) for it in broken):
             return
-        bound = bound_on_a_switch(self.image)
+        bound = bound_on_a_switch(self.image | {"muldiv": self._optional("muldiv", None)})
         for number, it in self.entries:
             if _is_within(it["pad"], keys.PAD) and it["pad"] < bound:
                 yield Refusal(17, number, it["pad"], bound)
+
+    # ---- products and the target buffer
+
+    def _extensions(self) -> Iterator[Refusal]:
+        muldiv = self._optional("muldiv", None)
+        for case, cost in enumerate(keys.PRODUCTS, 1):
+            if muldiv is not None and not _is_within(muldiv[cost], keys.COST):
+                yield Refusal(22, case, muldiv[cost], keys.COST.high)
+        targets = self._optional("targets", None)
+        if targets is not None and not (_is_within(targets, keys.TARGETS) and _is_power_of_two(targets)):
+            yield Refusal(22, 3, targets, keys.TARGETS.high)
 
 
 def bound_on_a_switch(image: Image) -> int:
@@ -236,7 +254,7 @@ def bound_on_a_switch(image: Image) -> int:
     dirty = misses + wb
     walk = l2 + mem
     parts = (
-        base + 2 * (tlb + 2 * walk) + misses + dirty + mispredict,
+        base + 2 * (tlb + 2 * walk) + misses + dirty + mispredict + _most_added(image.get("muldiv")),
         trap + 4 * misses + 5 * dirty + max(PAGE // line, 63) * dirty,
         trap + 4 * misses + 3 * dirty,
         image["shared"] // line * dirty,
@@ -244,6 +262,14 @@ def bound_on_a_switch(image: Image) -> int:
         4 * misses + 3 * dirty,
     )
     return int(sum(parts) - 1)
+
+
+def _most_added(muldiv: dict[str, int] | None) -> int:
+    """What a product or a division adds at most; a cost out of its range counts as none."""
+    if muldiv is None:
+        return 0
+    mul, div = (muldiv[cost] if _is_within(muldiv[cost], keys.COST) else 0 for cost in keys.PRODUCTS)
+    return max(mul, keys.DIVISION_STEPS * div)
 
 
 def _broken_rows(image: Image) -> Iterator[tuple[int, int]]:

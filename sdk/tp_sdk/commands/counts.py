@@ -8,7 +8,7 @@ from argparse import ArgumentParser, RawDescriptionHelpFormatter
 from collections.abc import Sequence
 from pathlib import Path
 
-from tp_sdk.counts import COUNTED, Counted, count_events
+from tp_sdk.counts import Counted, count_events, counted_in
 from tp_sdk.faults import EXIT_CODES, Fault, read_text
 from tp_sdk.program import Program
 from tp_sdk.schedule import domain_names, entries_of, slot_count
@@ -29,8 +29,9 @@ short to tell. The columns are, by the costs of docs/IMAGE.md:
   memory         those of the second level's that it misses
   write-backs    dirty lines that gave way
   translations   pages looked up: one for each instruction, load and store
-  wrong guesses  of branches
-  calls          of the kernel"""
+  wrong guesses  of branches, and of where jumps go
+  calls          of the kernel
+  products, steps of divisions   where the machine has `muldiv`"""
 
 _WHAT = {
     "base": "instructions",
@@ -41,6 +42,8 @@ _WHAT = {
     "tlb": "translations",
     "mispredict": "wrong guesses",
     "trap": "calls",
+    "mul": "products",
+    "div": "steps of divisions",
 }
 
 
@@ -65,15 +68,16 @@ def main(words: list[str]) -> int:
     if asked.domain not in names:
         raise Fault(f"{asked.image}: there is no domain '{asked.domain}': {', '.join(names)}")
     counted = count_events(Program.find(), image, str(asked.image), names.index(asked.domain), asked.slots)
-    print(json.dumps([vars(it) for it in counted]) if asked.json else _table(counted))
+    table = json.dumps([vars(it) for it in counted]) if asked.json else _table(counted, counted_in(image))
+    print(table)
     return 0
 
 
-def _table(counted: Sequence[Counted]) -> str:
-    heads = ["slot", "cycles", *(_WHAT[cost] for cost in COUNTED)]
+def _table(counted: Sequence[Counted], costs: Sequence[str]) -> str:
+    heads = ["slot", "cycles", *(_WHAT[cost] for cost in costs)]
     lines = [heads]
     for it in counted:
-        told = None if it.events is None else [it.cycles, *(it.events[cost] for cost in COUNTED)]
+        told = None if it.events is None else [it.cycles, *(it.events[cost] for cost in costs)]
         lines.append(
             [
                 str(it.slot),
