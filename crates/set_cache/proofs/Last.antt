@@ -173,10 +173,10 @@ pub record Touches {P : Type 0} (takes : P → ℕ → Type 0) (rule : P → ℕ
     (stands : P → ℕ → ℕ → List ℕ → Type 0)
     (cache : Contents P) (fresh : ℕ) (t : OneTouch) (last : LastTouch) : Type 0 where
   pub touch : IsTouch takes rule stands t.answer t.number t.store cache (with_set cache t)
-  pub lawful : IsCache takes rule stands (with_set cache t) fresh (Some last)
+  pub lawful : IsCache takes rule stands (with_set cache t) fresh last
 
 touches : {P : Type 0} (takes : P → ℕ → Type 0) (rule : P → ℕ → Rule) (stands : P → ℕ → ℕ → List ℕ → Type 0)
-    (cache : Contents P) (fresh : ℕ) (before : Option LastTouch) (t : OneTouch) (way : ℕ)
+    (cache : Contents P) (fresh : ℕ) (before : LastTouch) (t : OneTouch) (way : ℕ)
     → IsCache takes rule stands cache fresh before → IsOfTable cache.table t
     → IsTouch takes rule stands t.answer t.number t.store cache (with_set cache t)
     → LeavesLast (rule cache.policy cache.ways) (stands cache.policy cache.ways) t way
@@ -187,13 +187,13 @@ touches takes rule stands cache fresh before t way lawful at touch left = record
     sound = touch.sound;
     few = rw (length-set cache.table t.set t.new) lawful.few;
     fresh_stands = lawful.fresh_stands;
-    last_stands = last_touched rule stands cache t way at left;
+    last_stands = λ _. last_touched rule stands cache t way at left;
   };
 }
 
 pub cache_hit : {P : Type 0} (takes : P → ℕ → Type 0) (rule : P → ℕ → Rule)
     (stands : P → ℕ → ℕ → List ℕ → Type 0)
-    (cache : Contents P) (fresh : ℕ) (before : Option LastTouch) (h : OneHit)
+    (cache : Contents P) (fresh : ℕ) (before : LastTouch) (h : OneHit)
     → IsCache takes rule stands cache fresh before → HitsCache rule stands cache h
     → Touches takes rule stands cache fresh (touch_of_hit h) (last_of cache.ways (touch_of_hit h) h.way)
 cache_hit takes rule stands cache fresh before h lawful hit =
@@ -218,7 +218,7 @@ pub record FillsCache {P : Type 0} (rule : P → ℕ → Rule) (stands : P → �
 
 pub cache_fill : {P : Type 0} (takes : P → ℕ → Type 0) (rule : P → ℕ → Rule)
     (stands : P → ℕ → ℕ → List ℕ → Type 0)
-    (cache : Contents P) (fresh : ℕ) (before : Option LastTouch) (f : OneFill)
+    (cache : Contents P) (fresh : ℕ) (before : LastTouch) (f : OneFill)
     → IsCache takes rule stands cache fresh before → FillsCache rule stands cache f
     → Touches takes rule stands cache fresh (touch_of_fill f)
     (last_of cache.ways (touch_of_fill f) f.way)

@@ -14,9 +14,18 @@ use tp_base::Memory;
 /// it is its first store: so the policies' clauses `again` say.
 #[derive(Clone, Copy)]
 pub struct LastTouch {
-    number: u32,
-    place: u32,
+    // as a line's number, or `NO_LINE`
+    number: u64,
+    place: usize,
 }
+
+/// No line's number: so one comparison tells whether a line was touched last.
+const NO_LINE: u64 = 1 << 32;
+
+const NO_TOUCH: LastTouch = LastTouch {
+    number: NO_LINE,
+    place: 0,
+};
 
 /// A set-associative store of numbers: a number stands in the set of its
 /// remainder by the number of sets, which is a power of two.
@@ -24,7 +33,7 @@ pub struct LastTouch {
 pub struct SetCache<P: Policy> {
     policy: P,
     packed: PackedSets,
-    last: Option<LastTouch>,
+    last: LastTouch,
 }
 
 impl<P: Policy> Model for SetCache<P> {
@@ -128,7 +137,7 @@ impl<P: Policy> SetCache<P> {
         Ok(SetCache {
             policy,
             packed,
-            last: None,
+            last: NO_TOUCH,
         })
     }
 
@@ -158,29 +167,29 @@ impl<P: Policy> SetCache<P> {
         ensures repeats { result ≡ true → IsTouch P.takes P.rule P.stands_for
             (record { hit = true; victim = None; dirty_victim = false }) number store self.now self.now }
     {
-        let Some(last) = self.last else {
-            return false;
-        };
-        last.number == number && (!store || self.packed.is_marked(last.place as usize))
+        self.last.number == u64::from(number) && (!store || self.packed.is_marked(self.last.place))
     }
 
-    /// A touch of a line that its set keeps at this way.
+    /// A touch of a line that its set keeps at this way. Answers its place.
     #[inline(always)]
-    fn hit(&mut self, set: usize, way: usize, number: u32, store: bool)
+    fn hit(&mut self, set: usize, way: usize, number: u32, store: bool) -> u32
         requires home { set ≡ number % length self.old.table }
         requires found { way_of number (kept_at self.old.table set).places ≡ Some way }
         requires within { way < self.old.ways }
         ensures touch { IsTouch P.takes P.rule P.stands_for
             (record { hit = true; victim = None; dirty_victim = false }) number store self.old self.new }
+        ensures place { result ≡ set * self.old.ways + way }
         ensures epoch { self.new.epoch ≡ self.old.epoch }
     {
         let ways = self.packed.ways();
+        let place = set * ways as usize + way;
         let state = self.policy.touch(ways, self.packed.state(set), way as u32);
         self.packed.write_hit(set, way, number, store, state);
-        self.last = Some(LastTouch {
-            number,
-            place: (set * ways as usize + way) as u32,
-        });
+        self.last = LastTouch {
+            number: u64::from(number),
+            place,
+        };
+        place as u32
     }
 
     /// A touch of a line that its set doesn't keep.
@@ -200,10 +209,10 @@ impl<P: Policy> SetCache<P> {
             dirty: store,
         };
         let old = self.packed.write(set, way, line, state);
-        self.last = Some(LastTouch {
-            number,
-            place: (set * ways as usize + way) as u32,
-        });
+        self.last = LastTouch {
+            number: u64::from(number),
+            place: set * ways as usize + way,
+        };
         Touch {
             hit: false,
             victim: old.number,
@@ -248,15 +257,13 @@ impl<P: Policy> SetCache<P> {
             TellsHit P.takes P.rule P.stands_for true number self.old self.new) }
         ensures epoch { self.new.epoch ≡ self.old.epoch }
     {
-        if let Some(last) = self.last {
-            if last.number == number {
-                return Some(last.place);
-            }
+        let sets = self.packed.count() as u32;
+        if self.last.number == u64::from(number) {
+            return Some(self.last.place as u32);
         }
-        let set = set_of(number, self.packed.count() as u32);
+        let set = set_of(number, sets);
         let way = self.packed.find(set, number)?;
-        self.hit(set, way, number, false);
-        Some(set as u32 * self.packed.ways() + way as u32)
+        Some(self.hit(set, way, number, false))
     }
 
     /// A touch of a line that is no store; whether it was here.
@@ -321,7 +328,7 @@ impl<P: Policy> SetCache<P> {
     {
         let dirty = self.packed.dirty();
         self.packed.empty(steps);
-        self.last = None;
+        self.last = NO_TOUCH;
         dirty
     }
 }

@@ -297,10 +297,10 @@ impl PackedSets {
         ensures written { self.new ≡ with_kept self.old set
             (record { places = (kept_at self.old.table set).places; state = state }) }
     {
-        self.states[set] = WrittenState {
-            state,
-            epoch: self.epoch,
-        };
+        let epoch = self.epoch;
+        let written = &mut self.states[set];
+        written.state = state;
+        written.epoch = epoch;
     }
 
     /// Writes a line into a way, and the policy's state of its set; answers what the way kept.
@@ -325,12 +325,13 @@ impl PackedSets {
             number: was.number(epoch),
             dirty: was.is_dirty(epoch),
         };
-        self.entries[place] = Entry {
-            number: line.number,
-            dirty: line.dirty,
-            epoch,
-        };
-        self.states[set] = WrittenState { state, epoch };
+        let entry = &mut self.entries[place];
+        entry.number = line.number;
+        entry.dirty = line.dirty;
+        entry.epoch = epoch;
+        let written = &mut self.states[set];
+        written.state = state;
+        written.epoch = epoch;
         self.dirty -= u32::from(old.dirty);
         self.dirty += u32::from(line.dirty);
         old

@@ -1,4 +1,4 @@
-use Rattle.std.proofs.Common.{◌≡◌, ◌%◌, ◌*◌, ◌+◌, ℕ, List, length, Some, refl, sym, subst}
+use Rattle.std.proofs.Common.{◌≡◌, ◌%◌, ◌*◌, ◌+◌, ℕ, List, length, Some, refl, sym, subst, rules}
 use Rattle.set_cache.specs.Cache.{way_of}
 use Rattle.set_cache.specs.Contents.{KeptSet, Contents, kept_at}
 use Rattle.set_cache.specs.Packed.{KeptSets}
@@ -31,6 +31,7 @@ invariant_of-self g c =
     let home : c.args.set ≡ c.args.number % length s.packed.table =
     subst (λ (v : Contents _). c.args.set ≡ c.args.number % length v.table)
     (sym c.self.view_is) c.requires.home in
+    let number : c.args.number ≡ c.from.result = search rules in
     let rule = g.P.Policy.rule s.policy in
     let stands = g.P.Policy.stands_for s.policy in
     let ways : c.ways-ways.result ≡ s.packed.ways = c.ways-ways.ensures.value in
@@ -69,10 +70,10 @@ invariant_of-self g c =
           ways c.touch-state.ensures.again;
     }) in
     subst
-    (λ (t : KeptSets × ℕ).
+    (λ (t : KeptSets × ℕ × ℕ).
     IsCache g.P.Policy.takes g.P.Policy.rule g.P.Policy.stands_for (fresh_cache s.policy t.0) t.0.fresh
-    (Some (record { number = c.args.number; place = c.args.set * t.1 + c.args.way })))
-    (λ j. (sym c.write_hit.ensures.written j, sym ways j)) of.lawful
+    (record { number = t.2; place = c.args.set * t.1 + c.args.way }))
+    (λ j. (sym c.write_hit.ensures.written j, sym ways j, number j)) of.lawful
 
 pub returns-clause-touch : goal.returns-clause-touch
 returns-clause-touch g c =

@@ -1,7 +1,5 @@
-use Rattle.std.proofs.Common.{◌%◌, ℕ, Option, length, sym, subst, ◌∙◌}
-use Rattle.std.specs.Prelude.{IfSome}
+use Rattle.std.proofs.Common.{◌≡◌, ◌%◌, ℕ, length, sym, subst, ◌∙◌, arith, rules}
 use Rattle.std.proofs.lemmas.Bool.{false≢true}
-use Rattle.set_cache.specs.declared.cache.LastTouch.{LastTouch}
 use Rattle.set_cache.specs.Contents.{Contents}
 use Rattle.set_cache.specs.Calls.{IsTouch}
 use Rattle.set_cache.specs.Last.{IsLast}
@@ -14,11 +12,11 @@ is_marked-requires g c =
     let s = c.self.inside in
     let cache : Contents _ =
     record { policy = s.policy; ways = s.packed.ways; epoch = s.packed.epoch; table = s.packed.table } in
-    let is : IsLast g.P.Policy.rule g.P.Policy.stands_for cache c.in-Some.last =
-    subst (λ (o : Option LastTouch). IfSome o (IsLast g.P.Policy.rule g.P.Policy.stands_for cache))
-    c.in-Some.is c.self.invariant.last_stands in
+    let number : c.from.result ≡ c.args.number = search rules in
+    let is : IsLast g.P.Policy.rule g.P.Policy.stands_for cache s.last =
+    c.self.invariant.last_stands (omega (arith, number, c.if-self-from.true)) in
     record {
-      below = last_below g.P.Policy.takes g.P.Policy.rule g.P.Policy.stands_for cache c.in-Some.last
+      below = last_below g.P.Policy.takes g.P.Policy.rule g.P.Policy.stands_for cache s.last
           c.self.invariant.sound is;
     }
 
@@ -28,16 +26,16 @@ returns-then-not-store g c = record {
       let s = c.self.inside in
       let cache : Contents _ =
       record { policy = s.policy; ways = s.packed.ways; epoch = s.packed.epoch; table = s.packed.table } in
-      let is : IsLast g.P.Policy.rule g.P.Policy.stands_for cache c.in-Some.last =
-      subst (λ (o : Option LastTouch). IfSome o (IsLast g.P.Policy.rule g.P.Policy.stands_for cache))
-      c.in-Some.is c.self.invariant.last_stands in
+      let number : c.from.result ≡ c.args.number = search rules in
+      let is : IsLast g.P.Policy.rule g.P.Policy.stands_for cache s.last =
+      c.self.invariant.last_stands (omega (arith, number, c.if-self-from.true)) in
       let again =
-      touch_again g.P.Policy.takes g.P.Policy.rule g.P.Policy.stands_for cache c.in-Some.last c.args.store
+      touch_again g.P.Policy.takes g.P.Policy.rule g.P.Policy.stands_for cache s.last c.args.store
       c.self.invariant.sound is (λ on. absurd (false≢true (sym c.if-not-store.true ∙ on))) in
       subst
       (λ (t : ℕ × Contents _).
       IsTouch g.P.Policy.takes g.P.Policy.rule g.P.Policy.stands_for hit_answer t.0 c.args.store t.1 t.1)
-      (λ j. (c.if-last-number.true j, c.self.view_is j)) again;
+      (λ j. ((c.if-self-from.true ∙ number) j, c.self.view_is j)) again;
 }
 
 pub returns-else-not-store : goal.returns-else-not-store
@@ -46,19 +44,19 @@ returns-else-not-store g c = record {
       let s = c.self.inside in
       let cache : Contents _ =
       record { policy = s.policy; ways = s.packed.ways; epoch = s.packed.epoch; table = s.packed.table } in
-      let is : IsLast g.P.Policy.rule g.P.Policy.stands_for cache c.in-Some.last =
-      subst (λ (o : Option LastTouch). IfSome o (IsLast g.P.Policy.rule g.P.Policy.stands_for cache))
-      c.in-Some.is c.self.invariant.last_stands in
+      let number : c.from.result ≡ c.args.number = search rules in
+      let is : IsLast g.P.Policy.rule g.P.Policy.stands_for cache s.last =
+      c.self.invariant.last_stands (omega (arith, number, c.if-self-from.true)) in
       let sound = c.self.invariant.sound in
-      let set : ℕ = c.in-Some.last.number % length s.packed.table in
-      let below = set_below g.P.Policy.takes g.P.Policy.stands_for cache set c.in-Some.last.number sound (λ _. set) in
-      let within = way_below g.P.Policy.takes g.P.Policy.rule g.P.Policy.stands_for cache c.in-Some.last sound is in
+      let set : ℕ = s.last.number % length s.packed.table in
+      let below = set_below g.P.Policy.takes g.P.Policy.stands_for cache set s.last.number sound (λ _. set) in
+      let within = way_below g.P.Policy.takes g.P.Policy.rule g.P.Policy.stands_for cache s.last sound is in
       let mark = c.is_marked.ensures.value set is.way below within is.place in
       let again =
-      touch_again g.P.Policy.takes g.P.Policy.rule g.P.Policy.stands_for cache c.in-Some.last c.args.store
+      touch_again g.P.Policy.takes g.P.Policy.rule g.P.Policy.stands_for cache s.last c.args.store
       sound is (λ _. sym mark ∙ marked) in
       subst
       (λ (t : ℕ × Contents _).
       IsTouch g.P.Policy.takes g.P.Policy.rule g.P.Policy.stands_for hit_answer t.0 c.args.store t.1 t.1)
-      (λ j. (c.if-last-number.true j, c.self.view_is j)) again;
+      (λ j. ((c.if-self-from.true ∙ number) j, c.self.view_is j)) again;
 }
