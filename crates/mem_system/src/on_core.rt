@@ -361,6 +361,34 @@ impl<P: Policy> OnCore<P> {
         }
     }
 
+    /// The same. It is a call of its own, so that the room for the answer is
+    /// made where the walk is, and not at each hit.
+    #[inline(always)]
+    fn missed(
+        &mut self,
+        l2: &mut SecondLevel<P>,
+        mem: &PhysMem,
+        root: u32,
+        va: u32,
+        access: Access,
+    ) -> Translated
+        requires frames { mem.now.frames ≤ 2 ^ 15 }
+        requires missing { leaf_of self.old.tlb (va / 4096) ≡ None }
+        requires absent { (sets : Sets) → StandsFor P.stands_for self.old.tlb.pages sets
+            → is_some (place_of (shape_of P.rule self.old.tlb.pages) sets (va / 4096)) ≡ false }
+        ensures few { result.cycles ≤ most_look }
+        ensures kept { (m : Mem) → Holds mem.now m → KeepsLeaves m mem.now.frames root self.old.tlb
+            → KeepsLeaves m mem.now.frames root self.new.tlb }
+        ensures result { (m : Mem) → Holds mem.now m
+            → result.result ≡ translated va (walk m mem.now.frames root va access).result }
+        ensures makes { (m : Mem) → Holds mem.now m
+            → MakesTouch P.rule P.stands_for
+            (look_of l2.old.line_size va (walk m mem.now.frames root va access))
+            result.cycles (system self.old l2.old) (system self.new l2.new) }
+    {
+        self.walk_and_fill(l2, mem, root, va, access)
+    }
+
     /// The physical address of a virtual one for an access from user mode, by
     /// the tables whose root is in a frame, and the cost of the look-up. Where
     /// the buffer holds the page its kept leaf answers, and no walk is made.
@@ -397,7 +425,7 @@ impl<P: Policy> OnCore<P> {
                 result: at_leaf(leaf, va, access),
                 cycles: self.costs.tlb,
             },
-            None => self.walk_and_fill(l2, mem, root, va, access),
+            None => self.missed(l2, mem, root, va, access),
         }
     }
 }

@@ -14,13 +14,13 @@ returns-in-Some-clause-within g c = λ m holds keeps.
 
 pub returns-in-None-clause-within : goal.returns-in-None-clause-within
 returns-in-None-clause-within g c = λ m holds keeps.
-    translated_within m c.args.mem.now.frames c.args.root c.args.va c.args.access c.walk_and_fill.result.result c.ranges.va.fits (c.walk_and_fill.ensures.result m holds)
+    translated_within m c.args.mem.now.frames c.args.root c.args.va c.args.access c.missed.result.result c.ranges.va.fits (c.missed.ensures.result m holds)
 
 pub returns-in-None-clause-makes : goal.returns-in-None-clause-makes
 returns-in-None-clause-makes g c = λ m holds keeps.
-    rw (← c.self.view_is, ← c.in-None.ensures.missed) (c.walk_and_fill.ensures.makes m holds)
+    rw (← c.self.view_is, ← c.in-None.ensures.missed) (c.missed.ensures.makes m holds)
 
-pub walk_and_fill-requires-clause-absent : goal.walk_and_fill-requires-clause-absent
-walk_and_fill-requires-clause-absent g c =
+pub missed-requires-clause-absent : goal.missed-requires-clause-absent
+missed-requires-clause-absent g c =
     missed_still g.P.Policy.rule g.P.Policy.stands_for c.self.inside.tlb c.find.new.self (c.args.va / 4096) c.in-None.ensures.missed
     c.in-None.ensures.found
