@@ -147,33 +147,35 @@ fn answer(memory: &mut PhysMem, domain: &mut Domain) -> Outcome
 }
 
 /// The kernel call that the domain makes. Its work is charged, and then the
-/// translation buffer is emptied where the call does that.
+/// translation buffer is emptied where the call does that. Answers the cycles
+/// spent then, of which so many were before.
 #[inline(never)]
 pub fn call<P: Policy>(
     memory: &mut PhysMem,
     system: &mut MemSystem<P>,
     domain: &mut Domain,
-    spent: &mut u32,
-)
+    spent: u32,
+) -> u32
     requires valid { Valid memory.old domain.old }
     requires clone { IsLayout (layout_model domain.old.layout) }
     requires frames { memory.old.frames ≤ 2 ^ 15 }
     requires ready { is_ready domain.old.threads.active.state ≡ true }
     requires replies { domain.old.replies.count < 2 ^ 63 }
-    requires spent { spent.old < 2 ^ 31 }
+    requires spent { spent < 2 ^ 31 }
     ensures leaves { (w : Setting) → Leaves w
         (λ d. event.make_call w.machine (estate w.machine w.own) w.clone d)
-        domain.old (KeptOf P.rule P.stands_for w domain.old memory.old system.old spent.old)
-        domain.new (KeptOf P.rule P.stands_for w domain.new memory.new system.new spent.new) }
+        domain.old (KeptOf P.rule P.stands_for w domain.old memory.old system.old spent)
+        domain.new (KeptOf P.rule P.stands_for w domain.new memory.new system.new result) }
     ensures frames { memory.new.frames ≡ memory.old.frames }
     ensures grows { Grows 0 0 2 domain.old domain.new }
     ensures moments { domain.new.interrupts.moments ≡ domain.old.interrupts.moments }
-    ensures few { spent.new ≤ spent.old + most_operation }
+    ensures few { result ≤ spent + most_operation }
 {
     let outcome = answer(memory, domain);
-    *spent += charge(system, &domain.layout, &outcome.work);
+    let charged = spent + charge(system, &domain.layout, &outcome.work);
     if !outcome.empties_buffer() {
-        return;
+        return charged;
     }
     system.empty_tlb();
+    charged
 }

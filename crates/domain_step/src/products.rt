@@ -41,67 +41,68 @@ fn division_time(products: Option<ProductCosts>, division: Division, dividend: u
     }
 }
 
-/// A product of two registers. Answers that the domain goes on.
+/// A product of two registers. Answers the cycles spent then, of which so many were before.
 #[inline(never)]
 pub fn multiply<P: Policy>(
     system: &MemSystem<P>,
     domain: &mut Domain,
-    spent: &mut u32,
+    spent: u32,
     product: Product,
     rd: u8,
     rs1: u8,
     rs2: u8,
-) -> bool
+) -> u32
     requires rd { rd < 32 }
     requires rs1 { rs1 < 32 }
     requires rs2 { rs2 < 32 }
     requires room { HasRoom domain.old }
-    requires spent { spent.old < 2 ^ 31 }
+    requires spent { spent < 2 ^ 31 }
     ensures leaves { (w : Setting) (memory : Contents) (root now : ℕ)
         → Leaves w (λ d. event.timed w.machine root now d (Multiply product rd rs1 rs2))
-        domain.old (Kept P.rule P.stands_for w domain.old.caps root memory system.now spent.old)
-        domain.new (Kept P.rule P.stands_for w domain.old.caps root memory system.now spent.new) }
+        domain.old (Kept P.rule P.stands_for w domain.old.caps root memory system.now spent)
+        domain.new (Kept P.rule P.stands_for w domain.old.caps root memory system.now result) }
     ensures grows { Grows 1 1 0 domain.old domain.new }
     ensures keeps { KeepsFrames domain.old domain.new }
-    ensures goes_on { result ≡ true → GoesOn domain.old domain.new }
-    ensures few { spent.new ≤ spent.old + most_product }
+    ensures goes_on { GoesOn domain.old domain.new }
+    ensures few { result ≤ spent + most_product }
 {
-    *spent += product_time(system.products());
+    let after = spent + product_time(system.products());
     let next = domain.threads.active.pc.wrapping_add(4);
     rv_core::multiply(&mut domain.threads.active.regs, product, rd, rs1, rs2);
     retire(domain, next);
-    true
+    after
 }
 
-/// A quotient or a remainder of two registers. Answers that the domain goes on.
+/// A quotient or a remainder of two registers. Answers the cycles spent then, of
+/// which so many were before.
 #[inline(never)]
 pub fn divide<P: Policy>(
     system: &MemSystem<P>,
     domain: &mut Domain,
-    spent: &mut u32,
+    spent: u32,
     division: Division,
     rd: u8,
     rs1: u8,
     rs2: u8,
-) -> bool
+) -> u32
     requires rd { rd < 32 }
     requires rs1 { rs1 < 32 }
     requires rs2 { rs2 < 32 }
     requires room { HasRoom domain.old }
-    requires spent { spent.old < 2 ^ 31 }
+    requires spent { spent < 2 ^ 31 }
     ensures leaves { (w : Setting) (memory : Contents) (root now : ℕ)
         → Leaves w (λ d. event.timed w.machine root now d (Divide division rd rs1 rs2))
-        domain.old (Kept P.rule P.stands_for w domain.old.caps root memory system.now spent.old)
-        domain.new (Kept P.rule P.stands_for w domain.old.caps root memory system.now spent.new) }
+        domain.old (Kept P.rule P.stands_for w domain.old.caps root memory system.now spent)
+        domain.new (Kept P.rule P.stands_for w domain.old.caps root memory system.now result) }
     ensures grows { Grows 1 1 0 domain.old domain.new }
     ensures keeps { KeepsFrames domain.old domain.new }
-    ensures goes_on { result ≡ true → GoesOn domain.old domain.new }
-    ensures few { spent.new ≤ spent.old + most_product }
+    ensures goes_on { GoesOn domain.old domain.new }
+    ensures few { result ≤ spent + most_product }
 {
     let dividend = domain.threads.active.regs.get(rs1);
-    *spent += division_time(system.products(), division, dividend);
+    let after = spent + division_time(system.products(), division, dividend);
     let next = domain.threads.active.pc.wrapping_add(4);
     rv_core::divide(&mut domain.threads.active.regs, division, rd, rs1, rs2);
     retire(domain, next);
-    true
+    after
 }

@@ -241,7 +241,7 @@ fn run_instruction<P: Policy>(
     };
     match instr {
         Instr::Ecall => {
-            call(memory, system, domain, spent);
+            *spent = call(memory, system, domain, *spent);
             false
         }
         Instr::Multiply {
@@ -249,13 +249,19 @@ fn run_instruction<P: Policy>(
             rd,
             rs1,
             rs2,
-        } => multiply(system, domain, spent, product, rd, rs1, rs2),
+        } => {
+            *spent = multiply(system, domain, *spent, product, rd, rs1, rs2);
+            true
+        }
         Instr::Divide {
             division,
             rd,
             rs1,
             rs2,
-        } => divide(system, domain, spent, division, rd, rs1, rs2),
+        } => {
+            *spent = divide(system, domain, *spent, division, rd, rs1, rs2);
+            true
+        }
         _ => execute(memory, system, domain, spent, root, now, instr),
     }
 }

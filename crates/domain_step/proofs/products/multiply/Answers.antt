@@ -35,7 +35,7 @@ returns-clause-leaves g c w memory root now s r readings replies k h q =
     let retired =
     finished_same c.retire.new.domain (effect_of regs old.threads.active.pc i 0) _ 0 i c.multiply.new.regs d refl
     c.multiply.ensures.written (c.retire.ensures.becomes readings replies h q) in
-    yields_timed rule g.P.Policy.stands_for p old.caps memory system c.args.spent.now c.product_time.result i
+    yields_timed rule g.P.Policy.stands_for p old.caps memory system c.args.spent c.product_time.result i
     c.retire.new.domain
     (retired_at ((old.threads.active.pc + 4) % 2 ^ 32) (with_register regs c.args.rd word) d)
     (ap (λ (n : ℕ). touch (Charge n)) time)

@@ -137,7 +137,7 @@ returns-in-Ecall-clause-leaves g c w s r readings replies k h q =
     record { domain = old; memory = memory; system = f.later; spent = f.spent + f.cycles } in
     let whole = kept_whole rule stands p first k top called (keeps_itself old) refl in
     instruction_called p c.call.new.domain (is_root rule stands p first k top) rule stands f is
-    (KeptOf rule stands w c.call.new.domain c.call.new.memory c.call.new.system c.call.new.spent)
+    (KeptOf rule stands w c.call.new.domain c.call.new.memory c.call.new.system c.call.result)
     (sym c.in-Some.ensures.value ∙ ap (λ x. Some x) c.in-Ecall.is)
     (λ u z n. c.call.ensures.leaves w u z readings replies (whole u z n) h q)
 
@@ -186,7 +186,7 @@ returns-in-Multiply-clause-leaves g c w s r readings replies k h q =
       domain = c.multiply.new.domain;
       memory = memory;
       system = f.later;
-      spent = c.multiply.new.spent;
+      spent = c.multiply.result;
     } in
     left_whole rule stands p first k top last c.multiply.ensures.keeps refl
     (instruction w.machine (estate w.machine w.own) w.clone p.clock p.dom)
@@ -240,7 +240,7 @@ returns-in-Divide-clause-leaves g c w s r readings replies k h q =
       domain = c.divide.new.domain;
       memory = memory;
       system = f.later;
-      spent = c.divide.new.spent;
+      spent = c.divide.result;
     } in
     left_whole rule stands p first k top last c.divide.ensures.keeps refl
     (instruction w.machine (estate w.machine w.own) w.clone p.clock p.dom)
