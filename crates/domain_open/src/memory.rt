@@ -192,6 +192,9 @@ impl<'a> Words for Page<'a> {
     // The least byte comes first.
     fn word(&self, i: u32) -> u32 {
         let at = 4 * i as usize;
+        if at >= self.bytes.len() {
+            return 0;
+        }
         byte_at(self.bytes, at)
             + (1 << 8) * byte_at(self.bytes, at + 1)
             + (1 << 16) * byte_at(self.bytes, at + 2)
