@@ -3,13 +3,14 @@ ghost use Rattle.std.specs.Prelude.{◌≡◌, ◌<◌, ◌≤◌, ◌+◌, ◌*
 ghost use Rattle.tp_base.specs.Ranges.{IsFrameNo};
 ghost use Rattle.cycle_cost.specs.Ranges.{most_access, most_footprint, most_operation};
 ghost use Rattle.kernel_clone.specs.Footprints.{IsLayout, run_of, shared_touches, own_touches, zeroed_touches, entry_touches};
+ghost use Rattle.kernel_clone.specs.declared.Kind.TheVariants.{Fetch, Load, Store};
 ghost use Rattle.kernel_clone.specs.Models.{layout_model, work_model, IsWork};
-ghost use Rattle.mem_system.specs.Contents.{MakesTouch, MakesTouches};
-ghost use Rattle.cache_sharing.specs.Operations.{touch_by, touch_of_line, footprint, operation};
+ghost use Rattle.mem_system.specs.Contents.{MakesTouches};
+ghost use Rattle.cache_sharing.specs.Operations.{touch_of_line, footprint, operation};
 
 use kernel_clone::{
-    CloneLayout, Kind, STACK_LINES, TEXT_LINES, Work, data_count, data_start, entry_line,
-    loaded_line, shared_count, stack_start, text_start,
+    CloneLayout, STACK_LINES, TEXT_LINES, Work, data_count, data_start, entry_line, loaded_line,
+    shared_count, stack_start, text_start,
 };
 use mem_system::MemSystem;
 use set_cache::Policy;
@@ -59,9 +60,9 @@ pub(crate) fn charge_own<P: Policy>(system: &mut MemSystem<P>, layout: &CloneLay
     ensures buffer { system.new.core.tlb ≡ system.old.core.tlb }
     ensures few { result ≤ most_access * 9 }
 {
-    let text = touch_run(system, Kind::Fetch, text_start(layout, op), TEXT_LINES);
-    let stack = touch_run(system, Kind::Store, stack_start(layout), STACK_LINES);
-    let stored = touch_run(system, Kind::Store, data_start(layout, op), data_count(op));
+    let text = fetch_run(system, text_start(layout, op), TEXT_LINES);
+    let stack = store_run(system, stack_start(layout), STACK_LINES);
+    let stored = store_run(system, data_start(layout, op), data_count(op));
     let loaded = charge_loaded(system, layout, op);
     text + stack + stored + loaded
 }
@@ -80,7 +81,7 @@ fn charge_loaded<P: Policy>(system: &mut MemSystem<P>, layout: &CloneLayout, op:
     if count == 0 {
         return 0;
     }
-    touch_run(system, Kind::Load, loaded_line(layout, op), count)
+    load_run(system, loaded_line(layout, op), count)
 }
 
 /// Stores each line of the frame that was zeroed, if one was. Answers the cycles.
@@ -101,7 +102,7 @@ fn charge_zeroed<P: Policy>(
         return 0;
     };
     let first = layout.line_of(FrameNo::new(frame), 0);
-    touch_run(system, Kind::Store, first, layout.lines_in_frame())
+    store_run(system, first, layout.lines_in_frame())
 }
 
 /// Stores the line of each entry that was written. Answers the cycles.
@@ -122,40 +123,55 @@ fn charge_entries<P: Policy>(system: &mut MemSystem<P>, layout: &CloneLayout, wo
     cycles
 }
 
-/// Touches lines side by side, ascending, in one way. Answers the cycles.
-///
-/// The way is known where this is called, so that no line asks for it.
+// One way a function: one for all would be so large that each line would be a call.
+
+/// Fetches lines side by side, ascending. Answers the cycles.
 #[inline(always)]
-pub(crate) fn touch_run<P: Policy>(
-    system: &mut MemSystem<P>,
-    kind: Kind,
-    first: Line,
-    count: u32,
-) -> u32
+fn fetch_run<P: Policy>(system: &mut MemSystem<P>, first: Line, count: u32) -> u32
     requires few { count ≤ 256 }
     requires room { first + count ≤ 2 ^ 23 }
-    ensures makes { MakesTouches P.rule P.stands_for (map touch_of_line (run_of kind first count))
+    ensures makes { MakesTouches P.rule P.stands_for (map touch_of_line (run_of Fetch first count))
         result system.old system.new }
     ensures buffer { system.new.core.tlb ≡ system.old.core.tlb }
     ensures few { result ≤ most_access * count }
 {
     let mut cycles = 0;
     for place in 0..count {
-        cycles += touch(system, Line::new(first.number() + place), kind);
+        cycles += system.fetch(Line::new(first.number() + place));
     }
     cycles
 }
 
-/// Touches a line. Answers the cycles.
+/// Loads lines side by side, ascending. Answers the cycles.
 #[inline(always)]
-fn touch<P: Policy>(system: &mut MemSystem<P>, line: Line, kind: Kind) -> u32
-    ensures makes { MakesTouch P.rule P.stands_for (touch_by kind line) result system.old system.new }
+pub(crate) fn load_run<P: Policy>(system: &mut MemSystem<P>, first: Line, count: u32) -> u32
+    requires few { count ≤ 256 }
+    requires room { first + count ≤ 2 ^ 23 }
+    ensures makes { MakesTouches P.rule P.stands_for (map touch_of_line (run_of Load first count))
+        result system.old system.new }
     ensures buffer { system.new.core.tlb ≡ system.old.core.tlb }
-    ensures few { result ≤ most_access }
+    ensures few { result ≤ most_access * count }
 {
-    match kind {
-        Kind::Fetch => system.fetch(line),
-        Kind::Load => system.access(line, false),
-        Kind::Store => system.access(line, true),
+    let mut cycles = 0;
+    for place in 0..count {
+        cycles += system.access(Line::new(first.number() + place), false);
     }
+    cycles
+}
+
+/// Stores lines side by side, ascending. Answers the cycles.
+#[inline(always)]
+fn store_run<P: Policy>(system: &mut MemSystem<P>, first: Line, count: u32) -> u32
+    requires few { count ≤ 256 }
+    requires room { first + count ≤ 2 ^ 23 }
+    ensures makes { MakesTouches P.rule P.stands_for (map touch_of_line (run_of Store first count))
+        result system.old system.new }
+    ensures buffer { system.new.core.tlb ≡ system.old.core.tlb }
+    ensures few { result ≤ most_access * count }
+{
+    let mut cycles = 0;
+    for place in 0..count {
+        cycles += system.access(Line::new(first.number() + place), true);
+    }
+    cycles
 }

@@ -12,8 +12,8 @@ ghost use Rattle.cache_sharing.specs.Operations.{shared_region, prefetch};
 ghost use Rattle.cache_sharing.specs.Operations as spec;
 ghost use Rattle.domain_switch.specs.Switch.{IsCloneOn, IsInTime, IsSwitched, layout_if};
 
-use crate::charging::{charge_own, touch_run};
-use kernel_clone::{CloneLayout, ENTER, Kind, LEAVE};
+use crate::charging::{charge_own, load_run};
+use kernel_clone::{CloneLayout, ENTER, LEAVE};
 use mem_system::MemSystem;
 use set_cache::Policy;
 
@@ -229,7 +229,7 @@ fn prefetch<P: Policy>(system: &mut MemSystem<P>, layout: &CloneLayout) -> u32
     while place < shared {
         // In each frame they stand side by side.
         let count = lines.min(shared - place);
-        cycles += touch_run(system, Kind::Load, layout.shared_line(place), count);
+        cycles += load_run(system, layout.shared_line(place), count);
         place += count;
     }
     cycles

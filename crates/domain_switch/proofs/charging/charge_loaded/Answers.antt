@@ -15,6 +15,6 @@ returns-then-count-eq0-clause-makes g c =
 
 pub returns-clause-makes : goal.returns-clause-makes
 returns-clause-makes g c =
-    subst (λ (ts : List LineTouch). MakesTouches g.P.Policy.rule g.P.Policy.stands_for (map touch_of_line ts) c.touch_run.result c.args.system.now c.touch_run.new.system)
+    subst (λ (ts : List LineTouch). MakesTouches g.P.Policy.rule g.P.Policy.stands_for (map touch_of_line ts) c.load_run.result c.args.system.now c.load_run.new.system)
     (sym (c.loaded_line.ensures.touches ∙ ap (run_of Load c.loaded_line.result) (sym c.shared_count-count.ensures.value)))
-    c.touch_run.ensures.makes
+    c.load_run.ensures.makes

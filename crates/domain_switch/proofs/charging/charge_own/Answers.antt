@@ -10,8 +10,8 @@ pub returns-clause-makes : goal.returns-clause-makes
 returns-clause-makes g c =
     own_made g.P.Policy.rule g.P.Policy.stands_for (layout_model c.args.layout.now) c.args.op
     (run_of Fetch c.text_start.result 4) (run_of Store c.stack_start.result 2) (run_of Store c.data_start.result c.data_count.result)
-    c.touch_run-text.result c.touch_run-stack.result c.touch_run-stored.result c.charge_loaded-loaded.result
-    c.args.system.now c.touch_run-text.new.system c.touch_run-stack.new.system c.touch_run-stored.new.system c.charge_loaded-loaded.new.system
+    c.fetch_run-text.result c.store_run-stack.result c.store_run-stored.result c.charge_loaded-loaded.result
+    c.args.system.now c.fetch_run-text.new.system c.store_run-stack.new.system c.store_run-stored.new.system c.charge_loaded-loaded.new.system
     c.text_start.ensures.touches c.stack_start.ensures.touches
     (c.data_start.ensures.touches ∙ ap (run_of Store c.data_start.result) (sym c.data_count.ensures.value))
-    c.touch_run-text.ensures.makes c.touch_run-stack.ensures.makes c.touch_run-stored.ensures.makes c.charge_loaded-loaded.ensures.makes
+    c.fetch_run-text.ensures.makes c.store_run-stack.ensures.makes c.store_run-stored.ensures.makes c.charge_loaded-loaded.ensures.makes

@@ -17,7 +17,7 @@ returns-clause-makes g c =
     let l : Layout = layout_model c.args.layout.now in
     let first : c.line_of-first.result ≡ line_of l c.in-Some.frame 0 =
     c.line_of-first.ensures.value ∙ ap (λ (f : ℕ). line_of l f 0) c.new.ensures.value in
-    zeroed_some g.P.Policy.rule g.P.Policy.stands_for l c.args.zeroed c.in-Some.frame c.line_of-first.result c.touch_run.result
-    c.args.system.now c.touch_run.new.system c.in-Some.is first
-    (subst (λ (n : ℕ). MakesTouches g.P.Policy.rule g.P.Policy.stands_for (map touch_of_line (run_of Store c.line_of-first.result n)) c.touch_run.result c.args.system.now c.touch_run.new.system)
-    c.lines_in_frame.ensures.value c.touch_run.ensures.makes)
+    zeroed_some g.P.Policy.rule g.P.Policy.stands_for l c.args.zeroed c.in-Some.frame c.line_of-first.result c.store_run.result
+    c.args.system.now c.store_run.new.system c.in-Some.is first
+    (subst (λ (n : ℕ). MakesTouches g.P.Policy.rule g.P.Policy.stands_for (map touch_of_line (run_of Store c.line_of-first.result n)) c.store_run.result c.args.system.now c.store_run.new.system)
+    c.lines_in_frame.ensures.value c.store_run.ensures.makes)

@@ -22,10 +22,10 @@ loop-place-preserved g c =
     let count = c.min-count.ensures in
     let starts = c.loop-place.invariant.starts c.loop-place-test.true in
     record {
-      made = loads_more g.P.Policy.rule g.P.Policy.stands_for l place c.min-count.result c.loop-place.cycles c.touch_run-cycles.result c.shared_line.result
-          c.args.system.now c.loop-place.system c.touch_run-cycles.new.system c.shared_line.ensures.value starts (omega (arith, count, lines))
-          c.loop-place.invariant.made c.touch_run-cycles.ensures.makes;
-      few = omega (arith, c.loop-place.invariant.few, c.touch_run-cycles.ensures.few);
+      made = loads_more g.P.Policy.rule g.P.Policy.stands_for l place c.min-count.result c.loop-place.cycles c.load_run-cycles.result c.shared_line.result
+          c.args.system.now c.loop-place.system c.load_run-cycles.new.system c.shared_line.ensures.value starts (omega (arith, count, lines))
+          c.loop-place.invariant.made c.load_run-cycles.ensures.makes;
+      few = omega (arith, c.loop-place.invariant.few, c.load_run-cycles.ensures.few);
       within = omega (arith, count, c.loop-place-test.true);
       starts = λ lt.
           let whole : place + c.min-count.result ≡ lines_in_frame l + place = omega (arith, count, lines, lt) in
