@@ -169,32 +169,32 @@ module _ (h : Hierarchy) where
   loads_are line [] = refl
   loads_are line (i ∷ places) = ap (λ (ts : List Touch). Load (line i) ∷ ts) (loads_are line places)
 
-  module _ (shared : ℕ) where
+  module _ (shared calls : ℕ) where
     -- whoever leaves, and at the boot nobody
-    leave_most : (out : Option Layout) → worst_touches h (leave_if h.costs out) ≤ worst_leave (shape_of h shared)
+    leave_most : (out : Option Layout) → worst_touches h (leave_if h.costs out) ≤ worst_leave (shape_of h shared calls)
     unfolding leave_if leave operation footprint worst_touches
     leave_most None = omega arith
     leave_most (Some l) =
         let lines = worst_lines (touches l (plain leave_op)) in
-        let costs = leave_costs (shape_of h shared) l (plain leave_op) (record { zeroed = refl; entries = refl }) refl in
+        let costs = leave_costs (shape_of h shared calls) l (plain leave_op) (record { zeroed = refl; entries = refl }) refl in
         omega (arith, lines, costs)
 
-    enter_is : (into : Layout) → worst_touches h (enter into) ≡ worst_enter (shape_of h shared)
+    enter_is : (into : Layout) → worst_touches h (enter into) ≡ worst_enter (shape_of h shared calls)
     unfolding enter footprint
     enter_is into =
         worst_lines (touches into (plain enter_op))
-        ∙ enter_costs (shape_of h shared) into (plain enter_op) (record { zeroed = refl; entries = refl }) refl
+        ∙ enter_costs (shape_of h shared calls) into (plain enter_op) (record { zeroed = refl; entries = refl }) refl
 
-    prefetch_is : (into : Layout) → IsCloneOf (shape_of h shared) into
-        → worst_touches h (prefetch (shared_region into)) ≡ worst_prefetch (shape_of h shared)
+    prefetch_is : (into : Layout) → IsCloneOf (shape_of h shared calls) into
+        → worst_touches h (prefetch (shared_region into)) ≡ worst_prefetch (shape_of h shared calls)
     unfolding prefetch shared_region prefetch_touches
     prefetch_is into clone =
         ap (worst_touches h) (loads_are (shared_line into) (range_with_len 0 (shared_lines into)))
-        ∙ worst_lines (prefetch_touches into) ∙ prefetch_costs (shape_of h shared) into clone
+        ∙ worst_lines (prefetch_touches into) ∙ prefetch_costs (shape_of h shared calls) into clone
 
     -- the switch, part by part
-    pub switch_most : (out : Option Layout) (into : Layout) → IsCloneOf (shape_of h shared) into
-        → let s = shape_of h shared in
+    pub switch_most : (out : Option Layout) (into : Layout) → IsCloneOf (shape_of h shared calls) into
+        → let s = shape_of h shared calls in
         worst_touches h (switch h.costs out into) ≤ worst_leave s + worst_prefetch s + worst_flush s + worst_enter s
     unfolding switch_by worst_touches worst_flush
     switch_most out into clone =
@@ -214,15 +214,15 @@ worst_law h pinned ts c ways = touches_within h pinned ts c ways
 
 -- a switch is within its parts
 pub switch_law : SwitchLaw
-switch_law h shared out into c ways clone =
+switch_law h shared calls out into c ways clone =
     let made = touches_within h false (switch h.costs out into) c ways in
     let cost = made.cost in
-    let most = switch_most h shared out into clone in
+    let most = switch_most h shared calls out into clone in
     record { cost = omega (arith, cost, most); ways = made.ways }
 
 -- begun late by less than the largest step, it is done by the bound
 pub on_time_law : OnTimeLaw
 unfolding bound_of
-on_time_law h shared old_end now out into c ways clone after late =
-    let cost = (switch_law h shared out into c ways clone).cost in
+on_time_law h shared calls old_end now out into c ways clone after late =
+    let cost = (switch_law h shared calls out into c ways clone).cost in
     omega (arith, cost, after, late)

@@ -86,14 +86,14 @@ WorstLaw = (h : Hierarchy) (pinned : Bool) (ts : List Touch) (c : Caches) → Ha
 
 -- a switch, part by part
 abbrev pub SwitchLaw : Type 0
-SwitchLaw = (h : Hierarchy) (shared : ℕ) (out : Option Layout) (into : Layout) (c : Caches) → HasWays h c
-    → IsCloneOf (shape_of h shared) into
-    → let s = shape_of h shared in
+SwitchLaw = (h : Hierarchy) (shared calls : ℕ) (out : Option Layout) (into : Layout) (c : Caches) → HasWays h c
+    → IsCloneOf (shape_of h shared calls) into
+    → let s = shape_of h shared calls in
     IsWithin h (worst_leave s + worst_prefetch s + worst_flush s + worst_enter s) (touched_all h false c (switch h.costs out into))
 
--- begun past a slot's end by less than the largest step, it is done by the bound
+-- begun past a slot's end by less than the largest step of the domain that leaves, it is done by that domain's bound
 abbrev pub OnTimeLaw : Type 0
-OnTimeLaw = (h : Hierarchy) (shared old_end now : ℕ) (out : Option Layout) (into : Layout) (c : Caches) → HasWays h c
-    → IsCloneOf (shape_of h shared) into → old_end ≤ now
-    → now < old_end + (worst_instruction (shape_of h shared) + worst_operation (shape_of h shared))
-    → now + (touched_all h false c (switch h.costs out into)).cost - old_end ≤ bound_of (shape_of h shared)
+OnTimeLaw = (h : Hierarchy) (shared calls old_end now : ℕ) (out : Option Layout) (into : Layout) (c : Caches) → HasWays h c
+    → let s = shape_of h shared calls in
+    IsCloneOf s into → old_end ≤ now → now < old_end + (worst_instruction s + worst_operation s)
+    → now + (touched_all h false c (switch h.costs out into)).cost - old_end ≤ bound_of s

@@ -6,15 +6,16 @@ use Rattle.pad_bound.specs.Bound.{MachineShape, most_written, worst_fetch, worst
 use Rattle.mem_system.specs.Hierarchy.{Hierarchy}
 use Rattle.mem_system.specs.Cost.{Touch, Fetch, Load, Store, WalkRead, Look, Branch, Jump, EmptyTlb, Flush, Charge, Caches, Touched}
 
--- what of a hierarchy the bound depends on, with a shared region of so many bytes
-abbrev pub shape_of : Hierarchy → ℕ → MachineShape
-shape_of h shared = record {
+-- what of a hierarchy the bound depends on, with a shared region of so many bytes, where the domain that leaves may
+-- make these calls
+abbrev pub shape_of : Hierarchy → ℕ → ℕ → MachineShape
+shape_of h shared calls = record {
   costs = h.costs;
   line = h.line_size;
   shared = shared;
   sets = h.l1d.count;
   ways = h.l1d.ways;
-  written = most_written h.line_size;
+  written = most_written calls h.line_size;
   again = 0;
   product = most_added h.products;
 }

@@ -10,11 +10,11 @@ use Rattle.cache_sharing.specs.Worst.{shape_of}
 use Rattle.cache_sharing.proofs.Worst.{worst_law, switch_most}
 use Rattle.domain_switch.specs.Switch.{IsInTime}
 
-pub done_by : (h : Hierarchy) (pinned : Bool) (caches : Caches) (out : Option Layout) (into : Layout) (shared old_end now until used : ℕ)
-    → IsCloneOf (shape_of h shared) into → old_end ≤ now → IsInTime h caches shared old_end now until
+pub done_by : (h : Hierarchy) (pinned : Bool) (caches : Caches) (out : Option Layout) (into : Layout) (shared calls old_end now until used : ℕ)
+    → IsCloneOf (shape_of h shared calls) into → old_end ≤ now → IsInTime h caches shared calls old_end now until
     → used ≡ now + (touched_all h pinned caches (switch h.costs out into)).cost - old_end → old_end + used ≤ until
 unfolding bound_of
-done_by h pinned caches out into shared old_end now until used clone ended in_time is =
+done_by h pinned caches out into shared calls old_end now until used clone ended in_time is =
     let cost = (worst_law h pinned (switch h.costs out into) caches in_time.ways).cost in
-    let most = switch_most h shared out into clone in
+    let most = switch_most h shared calls out into clone in
     omega (arith, is, ended, cost, most, in_time.late, in_time.pad)

@@ -18,12 +18,12 @@ pub record IsCloneOn (h : Hierarchy) (clone : CloneLayout) : Type 0 where
   pub layout : IsLayout (layout_model clone)
   pub line : clone.line ≡ h.line_size
 
--- it begins past the slot's end by less than the largest step, and the next start is the bound past
--- the end or later
-pub record IsInTime (h : Hierarchy) (caches : Caches) (shared old_end now until : ℕ) : Type 0 where
+-- it begins past the slot's end by less than the largest step of a domain that may make these calls, and the next
+-- start is that domain's bound past the end or later
+pub record IsInTime (h : Hierarchy) (caches : Caches) (shared calls old_end now until : ℕ) : Type 0 where
   pub ways : HasWays h caches
-  pub late : now < old_end + (worst_instruction (shape_of h shared) + worst_operation (shape_of h shared))
-  pub pad : old_end + bound_of (shape_of h shared) ≤ until
+  pub late : now < old_end + (worst_instruction (shape_of h shared calls) + worst_operation (shape_of h shared calls))
+  pub pad : old_end + bound_of (shape_of h shared calls) ≤ until
 
 -- its work was begun at a clock: used is the clock after the work less the ended slot's end,
 -- and what is kept stands for the caches that the work leaves

@@ -46,7 +46,8 @@ const ALL_PARTS: Parts = Parts {
 /// Then the clock waits for `until`, where it isn't past that already.
 ///
 /// The slot before ended at `old_end`, the clock is `now`, and the next slot
-/// starts at `until`, all in cycles below 2^62.
+/// starts at `until`, all in cycles below 2^62. Its domain may make `calls`, a
+/// bit each; at the boot it counts as that of the last entry.
 pub fn switch<P: Policy>(
     system: &mut MemSystem<P>,
     out: Option<&CloneLayout>,
@@ -54,6 +55,7 @@ pub fn switch<P: Policy>(
     old_end: u64,
     now: u64,
     until: u64,
+    calls: u32,
 ) -> Switched
     requires out { IfSome (option_copied out) (IsCloneOn (hierarchy_of P.rule system.old)) }
     requires into { IsCloneOn (hierarchy_of P.rule system.old) into.now }
@@ -68,10 +70,10 @@ pub fn switch<P: Policy>(
         (spec.switch system.old.core.costs (layout_if (option_copied out.entry)) (layout_model into.now))) }
     ensures clock { result.now ≡ max (old_end + result.used) until }
     ensures within { (caches : Caches) → SystemStands P.stands_for system.old caches
-        → IsInTime (hierarchy_of P.rule system.old) caches into.now.shared old_end now until
+        → IsInTime (hierarchy_of P.rule system.old) caches into.now.shared calls old_end now until
         → result.used ≤ until - old_end }
     ensures on_time { (caches : Caches) → SystemStands P.stands_for system.old caches
-        → IsInTime (hierarchy_of P.rule system.old) caches into.now.shared old_end now until
+        → IsInTime (hierarchy_of P.rule system.old) caches into.now.shared calls old_end now until
         → result.now ≡ until }
     ensures kept { (mem : Mem) (frames root : ℕ) → KeepsLeaves mem frames root system.new.core.tlb }
     ensures later { now ≤ old_end + result.used }

@@ -4,3 +4,4 @@ pub mod LineLaws
 pub mod PlaceLaws
 pub mod Powers
 pub mod Runs
+pub mod CallLaws

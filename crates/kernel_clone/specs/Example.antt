@@ -1,6 +1,7 @@
--- Worked footprints, counted out by hand.
-use Rattle.std.specs.Prelude.{◌≡◌, ℕ, List, [], ◌∷◌, Option, Some, None, refl}
+-- Worked footprints, counted out by hand; and which calls may be made.
+use Rattle.std.specs.Prelude.{◌≡◌, ℕ, nat_le, nat_lt, true, false, List, [], ◌∷◌, Option, Some, None, refl}
 use Rattle.kernel_clone.specs.Footprints.{Layout, WorkDone, LineTouch, touch_of, touches, text_touches, stack_touches, data_touches, shared_touches, zeroed_touches, entry_touches}
+use Rattle.kernel_clone.specs.Permissions.{may_make, every_call, permitted, calls_below, calls_of}
 use Rattle.kernel_clone.specs.declared.Kind.TheVariants.{Fetch, Load, Store}
 
 -- text in frames 1 and 3, stack in 5, data in 7; two colours
@@ -73,3 +74,40 @@ both : touches (layout 128 8192) (done 5 (Some 9) (45068 ∷ [])) ≡
     ∷ store 352 ∷ []
 unfolding touches text_touches stack_touches data_touches shared_touches zeroed_touches entry_touches
 both = refl
+
+-- ---- which calls may be made
+
+-- ALLOC and REVOKE, 2 and 8
+revoke_may : may_make 260 8 ≡ true
+unfolding may_make
+revoke_may = refl
+
+delete_may_not : may_make 260 7 ≡ false
+unfolding may_make
+delete_may_not = refl
+
+-- a call that may not be made is one that is none
+revoke_is_made : permitted 260 8 ≡ 8
+unfolding may_make
+revoke_is_made = refl
+
+delete_is_none : permitted 260 7 ≡ 18
+unfolding may_make
+delete_is_none = refl
+
+-- bits above those of the calls let no call be made
+no_call : permitted 32768 0 ≡ 18
+unfolding may_make
+no_call = refl
+
+every_call_is : every_call ≡ 32767
+every_call_is = refl
+
+two_lowest : calls_of (λ n. nat_lt n 2) ≡ 3
+unfolding calls_below
+two_lowest = refl
+
+-- a test of more numbers than there are calls
+highest : calls_of (λ n. nat_le 13 n) ≡ 24576
+unfolding calls_below
+highest = refl

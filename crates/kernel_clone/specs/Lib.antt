@@ -1,5 +1,6 @@
 -- What a kernel operation touches.
 pub mod Footprints
 pub mod Models
+pub mod Permissions
 pub mod Laws
 pub mod Example

@@ -1,7 +1,8 @@
-//! Laws of the definitions: where touches are, how many there are, and which
-//! lines are whose.
+//! Laws of the definitions: where touches are, how many there are, which lines
+//! are whose, and which calls may be made.
 ghost use Rattle.std.specs.Prelude.{◌≡◌, ◌≢◌, ℕ, ◌*◌, ◌/◌, ◌%◌, ◌<◌, Bool, true, false, All, length, slice_get, Some};
 ghost use Rattle.kernel_clone.specs.Footprints.{Layout, WorkDone, IsLayout, touches, is_of_switch, lines_in_frame, text_line, shared_line};
+ghost use Rattle.kernel_clone.specs.Permissions.{EveryCallLaw, CallsLaw};
 ghost use Rattle.kernel_clone.specs.Laws.{frame_of, frame_at, IsPlaced, MayStore, StoresIn, count_of, IsPlain, text_lines};
 ghost use Rattle.kernel_clone.specs.declared.Kind.TheVariants.{Load};
 
@@ -43,4 +44,11 @@ pub fn lines()
 pub fn entries_lie_in_their_frames()
     ensures entry { (l : Layout) (address : ℕ) → IsLayout l
         → frame_of l (address / l.line) ≡ frame_at address }
+{}
+
+/// Each call has a bit of its own: of the calls that a test has, just these may
+/// be made, and of all calls each.
+pub fn permissions()
+    ensures every { EveryCallLaw }
+    ensures calls { CallsLaw }
 {}

@@ -15,8 +15,8 @@ pub use footprint::{
     STACK_LINES, TEXT_LINES, Touches, data_count, data_start, entry_line, loaded_line, own_count,
     own_touch, shared_count, stack_start, text_start,
 };
-pub use laws::{counts, entries_lie_in_their_frames, lines, places};
-pub use operation::{BAD_CALL, Call, DELIVERY, ENTER, LEAVE};
+pub use laws::{counts, entries_lie_in_their_frames, lines, permissions, places};
+pub use operation::{BAD_CALL, Call, DELIVERY, ENTER, EVERY_CALL, LEAVE};
 use tp_base::FrameNo;
 
 /// How a line is touched.

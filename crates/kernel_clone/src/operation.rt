@@ -1,6 +1,7 @@
 // The operations of the kernel, by number: 0 to 14 are its calls, and the others what it does besides.
 ghost use Rattle.std.specs.Prelude.{◌≡◌, ◌<◌, IfSome, IfNone};
 ghost use Rattle.kernel_clone.specs.Footprints.{number_of};
+ghost use Rattle.kernel_clone.specs.Permissions.{may_make};
 
 /// The operation of an interrupt's delivery.
 pub const DELIVERY: u8 = 15;
@@ -10,6 +11,9 @@ pub const LEAVE: u8 = 16;
 pub const ENTER: u8 = 17;
 /// A call that is none.
 pub const BAD_CALL: u8 = 18;
+
+/// Every call, a bit each: bit n is that of call n.
+pub const EVERY_CALL: u32 = 0x7fff;
 
 /// A kernel call.
 #[derive(Clone, Copy, Debug, PartialEq, Eq)]
@@ -60,7 +64,16 @@ impl Call {
     /// Its number, which is that of its operation.
     pub fn number(self) -> u8
         ensures value { result ≡ number_of self }
+        ensures few { result < 15 }
     {
         self as u8
+    }
+
+    /// Whether it is one of these calls, a bit each.
+    #[tactic(auto, unfolding(crate::specs::Permissions::may_make))]
+    pub fn is_in(self, calls: u32) -> bool
+        ensures value { result ≡ may_make calls (number_of self) }
+    {
+        (calls >> self.number()) & 1 == 1
     }
 }

@@ -3,7 +3,7 @@ ghost use Rattle.kernel_clone.specs.Footprints.{IsLayout};
 ghost use Rattle.kernel_clone.specs.Models.{layout_model, IsWork};
 
 use crate::Kind::{Fetch, Load, Store};
-use crate::{BAD_CALL, CloneLayout, DELIVERY, ENTER, Kind, LEAVE, Work, touches};
+use crate::{BAD_CALL, Call, CloneLayout, DELIVERY, ENTER, EVERY_CALL, Kind, LEAVE, Work, touches};
 use std::process::Abort;
 use tp_base::FrameNo;
 
@@ -117,4 +117,16 @@ fn lines_are_touched_in_order(rt: HostRuntime) {
 #[test]
 fn operations_have_their_numbers(rt: HostRuntime) {
     assert_eq!(rt; [DELIVERY, LEAVE, ENTER, BAD_CALL], [15, 16, 17, 18]);
+}
+
+#[test]
+fn calls_have_a_bit_each(rt: HostRuntime) {
+    assert_eq!(rt; EVERY_CALL, 32767);
+    for number in 0..15 {
+        let call = Call::of(number).expect(&rt, "a call");
+        assert!(rt; call.is_in(EVERY_CALL));
+        assert!(rt; !call.is_in(0));
+        let named = call == Call::Table || call == Call::Revoke;
+        assert_eq!(rt; call.is_in(0b1_0000_1000), named, "call {}", number);
+    }
 }

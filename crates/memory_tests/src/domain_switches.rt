@@ -6,7 +6,7 @@ ghost use Rattle.kernel_clone.specs.Models.{layout_model};
 
 use crate::hierarchies::small;
 use domain_switch::{Switched, charge, switch};
-use kernel_clone::{BAD_CALL, CloneLayout, Work};
+use kernel_clone::{BAD_CALL, CloneLayout, EVERY_CALL, Work};
 use repl_policy::AnyPolicy;
 use std::alloc::Global;
 use std::process::Abort;
@@ -33,15 +33,23 @@ fn red() -> CloneLayout
 fn two_switches(alloc: Global, policy: AnyPolicy) -> Result<(Switched, Switched), Memory> {
     let mut system = small(alloc, policy, false)?;
     let clone = red();
-    let boot = switch(&mut system, None, &clone, 0, 0, 6150);
-    let again = switch(&mut system, Some(&clone), &clone, 6150, 6150, 12300);
+    let boot = switch(&mut system, None, &clone, 0, 0, 6150, EVERY_CALL);
+    let again = switch(
+        &mut system,
+        Some(&clone),
+        &clone,
+        6150,
+        6150,
+        12300,
+        EVERY_CALL,
+    );
     Ok((boot, again))
 }
 
 // A boot that begins late and is done past the next start.
 fn late_boot(alloc: Global) -> Result<Switched, Memory> {
     let mut system = small(alloc, AnyPolicy::Lru, false)?;
-    Ok(switch(&mut system, None, &red(), 100, 150, 200))
+    Ok(switch(&mut system, None, &red(), 100, 150, 200, EVERY_CALL))
 }
 
 // A call that is none, twice.

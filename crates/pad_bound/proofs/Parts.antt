@@ -1,43 +1,21 @@
 -- What the parts of the bound are the worst of.
-use Rattle.std.proofs.Common.{◌≡◌, ◌∙◌, ◌<◌, ◌≤◌, ◌+◌, ◌*◌, ◌/◌, ℕ, List, length, Option, Some, None, Bool, true, false, ap, refl, arith, lit≤, inl, inr, mul-le-mul_right}
-use Rattle.std.specs.Prelude.{if◌then◌else◌}
+use Rattle.std.proofs.Common.{◌≡◌, ◌∙◌, ◌<◌, ◌≤◌, ◌+◌, ◌*◌, ℕ, List, length, Bool, true, false, ap, refl, arith, lit≤}
+use Rattle.std.specs.Prelude.{max, if◌then◌else◌}
 use Rattle.std.proofs.lemmas.Nat.{mul-le}
-use Rattle.std.proofs.Math.Nat.{le-max_left, le-max_right, max-eq_left, max-eq_right}
+use Rattle.std.proofs.Math.Nat.{max-eq_left, max-eq_right}
 use Rattle.cycle_cost.specs.Costs.{CostTable}
 use Rattle.kernel_clone.specs.Footprints.{Layout, WorkDone, touches, data_count, is_of_switch, leave_op, enter_op, shared_lines}
-use Rattle.kernel_clone.specs.Footprints as clone
 use Rattle.kernel_clone.specs.Laws.{shared_count, zeroed_count, IsPlain}
-use Rattle.pad_bound.specs.Bound.{MachineShape, IsShape, worst_fetch, worst_access, lines_in_frame, lines_of_shared, most_entries, most_written, most_dirty, worst_instruction, worst_operation, worst_leave, worst_enter, worst_prefetch, worst_flush, bound_of}
-use Rattle.pad_bound.specs.Worst.{worst_of, lines_written, IsCloneOf, IsCallWork, AreNoDearer, IsNoSmaller, alloc_work, revoke_work, prefetch_touches}
+use Rattle.kernel_clone.specs.Permissions.{every_call}
+use Rattle.pad_bound.specs.Bound.{MachineShape, IsShape, worst_fetch, worst_access, lines_in_frame, lines_of_shared, most_entries, most_written, most_dirty, worst_instruction, worst_operation, worst_leave, worst_enter, worst_prefetch, worst_flush, bound_of, with_calls}
+use Rattle.pad_bound.specs.Worst.{worst_of, lines_written, IsCloneOf, IsCallWork, IsPermitted, AreNoDearer, IsNoSmaller, AreWithin, alloc_work, revoke_work, prefetch_touches}
 use Rattle.pad_bound.proofs.Costs.{worst_of-touches, worst_of-prefetch}
+use Rattle.pad_bound.proofs.Written.{work_within, every_written, more_written}
 
 -- ---- operations
 
-few_zeroed : (l : Layout) (zeroed : Option ℕ) → zeroed_count l zeroed ≤ clone.lines_in_frame l
-few_zeroed l None = omega arith
-few_zeroed l (Some frame) = omega arith
-
-pub few_written : (l : Layout) (w : WorkDone) → IsCallWork w → lines_written l w ≤ most_written l.line
-few_written l w is =
-    let lines : lines_in_frame l.line ≤ most_written l.line = le-max_left (lines_in_frame l.line) most_entries in
-    let entries : most_entries ≤ most_written l.line = le-max_right (lines_in_frame l.line) most_entries in
-    elim is.not_both [
-      | inl none ↦
-          let zeroed : zeroed_count l w.zeroed ≡ 0 = ap (zeroed_count l) none in
-          let few = is.few in
-          omega (arith, zeroed, few, entries)
-      | inr none ↦
-          let written : length w.entries ≡ 0 = ap length none in
-          let zeroed = few_zeroed l w.zeroed in
-          omega (arith, zeroed, written, lines)
-    ]
-
--- lines have 16 bytes or more
-pub few_most : (line : ℕ) → 16 ≤ line → most_written line ≤ 256
-few_most line least =
-    let product = mul-le-mul_right (4096 / line) least in
-    let few : 4096 / line ≤ 256 = omega (arith, product) in
-    grind (arith, few)
+pub few_written : (calls : ℕ) (l : Layout) (w : WorkDone) → IsCallWork w → IsPermitted calls w → lines_written l w ≤ most_written calls l.line
+few_written calls l w is = work_within calls l w.op w.zeroed (length w.entries) is.zeroes is.few
 
 -- a call that writes so many lines
 call_costs : (c : CostTable) (again : ℕ) (l : Layout) (w : WorkDone) → is_of_switch w.op ≡ false
@@ -69,21 +47,23 @@ operation_reached s l w call most =
     omega (arith, costs, written)
 
 pub alloc_is_call : (frame : ℕ) → IsCallWork (alloc_work frame)
-alloc_is_call frame = record { call = refl; few = lit≤ tt; not_both = inr refl }
+alloc_is_call frame = record { call = refl; zeroes = λ other is. refl; few = lit≤ tt }
 
 pub revoke_is_call : (entries : List ℕ) → length entries ≡ most_entries → IsCallWork (revoke_work entries)
-revoke_is_call entries most = record { call = refl; few = omega (arith, most); not_both = inl refl }
+revoke_is_call entries most = record { call = refl; zeroes = λ frame is. absurd (cc is); few = omega (arith, most) }
 
-pub alloc_writes : (l : Layout) (frame : ℕ) → most_entries ≤ lines_in_frame l.line → lines_written l (alloc_work frame) ≡ most_written l.line
+pub alloc_writes : (l : Layout) (frame : ℕ) → most_entries ≤ lines_in_frame l.line → lines_written l (alloc_work frame) ≡ most_written every_call l.line
 alloc_writes l frame many =
-    let lines : most_written l.line ≡ lines_in_frame l.line = max-eq_left many in
-    omega (arith, lines)
+    let every = every_written l.line in
+    let lines : max (lines_in_frame l.line) most_entries ≡ lines_in_frame l.line = max-eq_left many in
+    omega (arith, every, lines)
 
 pub revoke_writes : (l : Layout) (entries : List ℕ) → lines_in_frame l.line ≤ most_entries → length entries ≡ most_entries
-    → lines_written l (revoke_work entries) ≡ most_written l.line
+    → lines_written l (revoke_work entries) ≡ most_written every_call l.line
 revoke_writes l entries few most =
-    let lines : most_written l.line ≡ most_entries = max-eq_right few in
-    omega (arith, most, lines)
+    let every = every_written l.line in
+    let lines : max (lines_in_frame l.line) most_entries ≡ most_entries = max-eq_right few in
+    omega (arith, most, every, lines)
 
 -- a switch, which writes nothing but its clone's own lines
 switch_costs : (c : CostTable) (again : ℕ) (l : Layout) (w : WorkDone) → IsPlain w → is_of_switch w.op ≡ true
@@ -178,3 +158,31 @@ no_smaller s t le =
     let again = le.again in
     let product = le.product in
     omega (arith, a, b, c, base, l1, l2, mem, wb, tlb, mispredict, trap, flush, again, product)
+
+same_costs : (c : CostTable) → AreNoDearer c c
+same_costs c = record {
+  base = omega arith;
+  l1 = omega arith;
+  l2 = omega arith;
+  mem = omega arith;
+  wb = omega arith;
+  tlb = omega arith;
+  mispredict = omega arith;
+  trap = omega arith;
+  flush = omega arith;
+}
+
+-- ---- a domain that may make more calls
+
+pub more_calls : (s : MachineShape) (calls others : ℕ) → AreWithin calls others → bound_of (with_calls s calls) ≤ bound_of (with_calls s others)
+more_calls s calls others within =
+    no_smaller (with_calls s calls) (with_calls s others) (record {
+      costs = same_costs s.costs;
+      line = refl;
+      shared = refl;
+      sets = refl;
+      ways = refl;
+      written = more_written calls others s.line within;
+      again = omega arith;
+      product = omega arith;
+    })

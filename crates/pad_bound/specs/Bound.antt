@@ -1,7 +1,11 @@
 -- The most cycles that a switch of domains uses, whatever ran before it, part by part.
-use Rattle.std.specs.Prelude.{◌≡◌, ℕ, ◌+◌, ◌-◌, ◌*◌, ◌/◌, ◌%◌, ◌≤◌, max}
+use Rattle.std.specs.Prelude.{◌≡◌, ℕ, ◌+◌, ◌-◌, ◌*◌, ◌/◌, ◌%◌, ◌≤◌, max, if◌then◌else◌}
 use Rattle.cycle_cost.specs.Costs.{CostTable, AreCosts}
 use Rattle.cycle_cost.specs.Ranges.{most_again, most_product}
+use Rattle.kernel_clone.specs.Footprints.{number_of}
+use Rattle.kernel_clone.specs.Permissions.{may_make}
+use Rattle.kernel_clone.specs.declared.operation.Call.{Call}
+use Rattle.kernel_clone.specs.declared.operation.Call.TheVariants.{Alloc, Table, Map, Unmap, Delete, Revoke}
 
 -- what of a machine the bound depends on
 pub record MachineShape : Type 0 where
@@ -10,7 +14,7 @@ pub record MachineShape : Type 0 where
   pub shared : ℕ  -- bytes of the shared region
   pub sets : ℕ  -- of the first-level data cache
   pub ways : ℕ  -- of it
-  pub written : ℕ  -- the most lines that an operation writes
+  pub written : ℕ  -- the most lines that an operation of the domain that leaves writes
   pub again : ℕ  -- the cycles of one more write-back, if a miss of the second level makes one; else 0
   pub product : ℕ  -- the most cycles that a product or a division adds to an instruction
 
@@ -44,9 +48,21 @@ lines_of_shared s = s.shared / s.line
 abbrev pub most_entries : ℕ
 most_entries = 63
 
--- the most lines that a call writes, be it a frame that it zeroes or entries; none does both
-abbrev pub most_written : ℕ → ℕ
-most_written line = max (lines_in_frame line) most_entries
+-- so many lines, where the domain may make the call
+abbrev pub if_may : ℕ → Call → ℕ → ℕ
+if_may calls call lines = if may_make calls (number_of call) then lines else 0
+
+-- the most lines that an operation writes, where the domain may make these calls: an ALLOC zeroes a frame, four calls write
+-- an entry, and a REVOKE those of all other slots
+unfoldable pub most_written : ℕ → ℕ → ℕ
+most_written calls line =
+    max (if_may calls Alloc (lines_in_frame line))
+    (max (if_may calls Table 1) (max (if_may calls Map 1) (max (if_may calls Unmap 1)
+    (max (if_may calls Delete 1) (if_may calls Revoke most_entries)))))
+
+-- the same machine, for a domain that may make these calls
+abbrev pub with_calls : MachineShape → ℕ → MachineShape
+with_calls s calls = record s { written = most_written calls s.line }
 
 -- all of the first-level data cache may be dirty
 abbrev pub most_dirty : MachineShape → ℕ
@@ -61,7 +77,7 @@ worst_instruction s =
     s.costs.base + 2 * worst_look s.costs s.again + worst_fetch s.costs s.again + worst_access s.costs s.again
     + s.costs.mispredict + s.product
 
--- four lines of text; two of stack, two of data and a shared one; and what the call writes
+-- four lines of text; two of stack, two of data and a shared one; and what a call writes at most
 unfoldable pub worst_operation : MachineShape → ℕ
 worst_operation s =
     s.costs.trap + 4 * worst_fetch s.costs s.again + 5 * worst_access s.costs s.again

@@ -1,6 +1,7 @@
 -- Worked bounds, computed from the definitions.
-use Rattle.std.specs.Prelude.{◌≡◌, ◌+◌, refl}
-use Rattle.pad_bound.specs.Bound.{MachineShape, most_written, worst_instruction, worst_operation, worst_leave, worst_prefetch, worst_flush, worst_enter, bound_of}
+use Rattle.std.specs.Prelude.{◌≡◌, ◌+◌, ◌^◌, refl}
+use Rattle.kernel_clone.specs.Permissions.{may_make, every_call}
+use Rattle.pad_bound.specs.Bound.{MachineShape, most_written, with_calls, worst_instruction, worst_operation, worst_leave, worst_prefetch, worst_flush, worst_enter, bound_of}
 
 -- 8 shared lines, 64 lines in a frame, 32 lines in the cache
 abbrev pub small : MachineShape
@@ -10,7 +11,7 @@ small = record {
   shared = 512;
   sets = 16;
   ways = 2;
-  written = most_written 64;
+  written = most_written every_call 64;
   again = 0;
   product = 0;
 }
@@ -20,7 +21,7 @@ unfolding worst_instruction
 instruction = refl
 
 pub operation : worst_operation small ≡ 4277
-unfolding worst_operation
+unfolding worst_operation most_written may_make
 operation = refl
 
 pub leave : worst_leave small ≡ 383
@@ -40,8 +41,35 @@ unfolding worst_enter
 enter = refl
 
 pub total : bound_of small ≡ 6150
-unfolding bound_of worst_instruction worst_operation worst_leave worst_prefetch worst_flush worst_enter
+unfolding bound_of worst_instruction worst_operation worst_leave worst_prefetch worst_flush worst_enter most_written may_make
 total = refl
+
+-- ---- where the domain that leaves may make some calls alone
+
+few : worst_operation (with_calls small (2 ^ 0 + 2 ^ 1)) ≡ 501
+unfolding worst_operation most_written may_make
+few = refl
+
+few_total : bound_of (with_calls small (2 ^ 0 + 2 ^ 1)) ≡ 2374
+unfolding bound_of worst_instruction worst_operation worst_leave worst_prefetch worst_flush worst_enter most_written may_make
+few_total = refl
+
+tables : worst_operation (with_calls small (2 ^ 3)) ≡ 560
+unfolding worst_operation most_written may_make
+tables = refl
+
+revokes : worst_operation (with_calls small (2 ^ 8)) ≡ 4218
+unfolding worst_operation most_written may_make
+revokes = refl
+
+allocs : worst_operation (with_calls small (2 ^ 2)) ≡ 4277
+unfolding worst_operation most_written may_make
+allocs = refl
+
+-- COPY and the calls on lines and threads write nothing
+others : worst_operation (with_calls small (2 ^ 6 + 2 ^ 9 + 2 ^ 10 + 2 ^ 11 + 2 ^ 12 + 2 ^ 13 + 2 ^ 14)) ≡ 501
+unfolding worst_operation most_written may_make
+others = refl
 
 -- where a second-level miss writes back again, and a division may take 2 cycles a digit and one more
 abbrev pub larger : MachineShape

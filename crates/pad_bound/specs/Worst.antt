@@ -1,9 +1,11 @@
 -- What the parts are the worst of: footprints whose every line costs the most.
-use Rattle.std.specs.Prelude.{◌≡◌, ℕ, ◌+◌, ◌≤◌, ◌⊎◌, false, List, [], length, map, Some, None}
+use Rattle.std.specs.Prelude.{◌≡◌, ℕ, ◌+◌, ◌<◌, ◌≤◌, nat_eq, Bool, ◌||◌, if◌then◌else◌, true, false, List, [], length, map, Some, None}
 use Rattle.std.specs.List.{range_with_len, sum_by}
 use Rattle.cycle_cost.specs.Costs.{CostTable}
-use Rattle.kernel_clone.specs.Footprints.{Layout, WorkDone, LineTouch, is_of_switch, touch_of, shared_line, shared_lines}
+use Rattle.kernel_clone.specs.Footprints.{Layout, WorkDone, LineTouch, number_of, delivery_op, is_of_switch, touch_of, shared_line, shared_lines}
 use Rattle.kernel_clone.specs.Laws.{zeroed_count}
+use Rattle.kernel_clone.specs.Permissions.{may_make}
+use Rattle.kernel_clone.specs.declared.operation.Call.TheVariants.{Alloc, Table, Map, Unmap, Delete, Revoke}
 use Rattle.kernel_clone.specs.declared.Kind.{Kind}
 use Rattle.kernel_clone.specs.declared.Kind.TheVariants.{Fetch, Load, Store}
 use Rattle.pad_bound.specs.Bound.{MachineShape, worst_fetch, worst_access, most_entries}
@@ -26,29 +28,36 @@ pub record IsCloneOf (s : MachineShape) (l : Layout) : Type 0 where
   pub line : l.line ≡ s.line
   pub shared : l.shared ≡ s.shared
 
--- what a call or a delivery can have done: it zeroed a frame or wrote entries, not both
+-- the calls that write an entry of a page table
+abbrev pub writes_entry : ℕ → Bool
+writes_entry op =
+    nat_eq op (number_of Table) || (nat_eq op (number_of Map) || (nat_eq op (number_of Unmap) || nat_eq op (number_of Delete)))
+
+-- the most entries that an operation writes
+abbrev pub most_entries_of : ℕ → ℕ
+most_entries_of op = if nat_eq op (number_of Revoke) then most_entries else if writes_entry op then 1 else 0
+
+-- what a call or a delivery can have done: an ALLOC alone zeroes a frame, and few write entries
 pub record IsCallWork (w : WorkDone) : Type 0 where
   pub call : is_of_switch w.op ≡ false
-  pub few : length w.entries ≤ most_entries
-  pub not_both : (w.zeroed ≡ None) ⊎ (w.entries ≡ [])
+  pub zeroes : (frame : ℕ) → w.zeroed ≡ Some frame → w.op ≡ number_of Alloc
+  pub few : length w.entries ≤ most_entries_of w.op
+
+-- a domain that may make these calls can have made it; deliveries and bad calls come to all
+abbrev pub IsPermitted : ℕ → WorkDone → Type 0
+IsPermitted calls w = w.op < delivery_op → may_make calls w.op ≡ true
 
 -- the lines that it wrote
 abbrev pub lines_written : Layout → WorkDone → ℕ
 lines_written l w = zeroed_count l w.zeroed + length w.entries
 
-abbrev pub alloc_op : ℕ
-alloc_op = 2
-
-abbrev pub revoke_op : ℕ
-revoke_op = 8
-
 -- an ALLOC that gives this frame
 abbrev pub alloc_work : ℕ → WorkDone
-alloc_work frame = record { op = alloc_op; zeroed = Some frame; entries = [] }
+alloc_work frame = record { op = number_of Alloc; zeroed = Some frame; entries = [] }
 
 -- a REVOKE that writes these entries
 abbrev pub revoke_work : List ℕ → WorkDone
-revoke_work entries = record { op = revoke_op; zeroed = None; entries = entries }
+revoke_work entries = record { op = number_of Revoke; zeroed = None; entries = entries }
 
 -- each shared line once, in their order
 unfoldable pub prefetch_touches : Layout → List LineTouch
@@ -77,3 +86,9 @@ pub record IsNoSmaller (s t : MachineShape) : Type 0 where
   pub written : s.written ≤ t.written
   pub again : s.again ≤ t.again
   pub product : s.product ≤ t.product
+
+-- ---- calls side by side
+
+-- whatever the first may make, the second may
+abbrev pub AreWithin : ℕ → ℕ → Type 0
+AreWithin calls others = (n : ℕ) → may_make calls n ≡ true → may_make others n ≡ true

@@ -1,12 +1,13 @@
 //! Laws of the bound: what each of its parts is the worst of.
-ghost use Rattle.std.specs.Prelude.{◌≡◌, ℕ, ◌+◌, ◌*◌, ◌<◌, ◌≤◌, false, List, length};
+ghost use Rattle.std.specs.Prelude.{◌≡◌, ℕ, ◌+◌, ◌*◌, ◌<◌, ◌≤◌, max, false, List, length};
 ghost use Rattle.kernel_clone.specs.Footprints.{Layout, WorkDone, touches, is_of_switch, leave_op, enter_op};
 ghost use Rattle.kernel_clone.specs.Laws.{IsPlain};
 ghost use Rattle.pad_bound.specs.Bound.{MachineShape, IsShape, lines_in_frame, most_entries, most_written, most_dirty};
 ghost use Rattle.pad_bound.specs.Bound.{worst_instruction, worst_operation, worst_leave, worst_enter};
-ghost use Rattle.pad_bound.specs.Bound.{worst_prefetch, worst_flush, bound_of};
+ghost use Rattle.pad_bound.specs.Bound.{worst_prefetch, worst_flush, bound_of, with_calls};
+ghost use Rattle.kernel_clone.specs.Permissions.{every_call};
 ghost use Rattle.pad_bound.specs.Worst.{worst_of, lines_written, IsCloneOf, IsCallWork, IsNoSmaller, prefetch_touches};
-ghost use Rattle.pad_bound.specs.Worst.{alloc_work, revoke_work};
+ghost use Rattle.pad_bound.specs.Worst.{alloc_work, revoke_work, AreWithin, IsPermitted};
 
 /// Each call's and delivery's trap, and what it touches at its worst, is within
 /// the operation where it writes no more lines than that counts, and reaches it
@@ -25,15 +26,17 @@ pub fn kernel_touches()
         → w.op ≡ enter_op → worst_of s.costs s.again (touches l w) ≡ worst_enter s }
 {}
 
-/// No call writes more lines than the most; an ALLOC writes as many where a
-/// frame has 63 lines or more, and else a REVOKE of 63 entries.
+/// No call that a domain may make writes more lines than the most; of every call
+/// an ALLOC writes as many where a frame has 63 lines or more, and else a REVOKE
+/// of 63 entries.
 pub fn calls_write()
-    ensures most { (l : Layout) (w : WorkDone) → IsCallWork w → lines_written l w ≤ most_written l.line }
+    ensures most { (calls : ℕ) (l : Layout) (w : WorkDone) → IsCallWork w → IsPermitted calls w
+        → lines_written l w ≤ most_written calls l.line }
     ensures alloc { (l : Layout) (frame : ℕ) → most_entries ≤ lines_in_frame l.line
-        → lines_written l (alloc_work frame) ≡ most_written l.line }
+        → lines_written l (alloc_work frame) ≡ most_written every_call l.line }
     ensures revoke { (l : Layout) (entries : List ℕ) → lines_in_frame l.line ≤ most_entries
         → length entries ≡ most_entries
-        → lines_written l (revoke_work entries) ≡ most_written l.line }
+        → lines_written l (revoke_work entries) ≡ most_written every_call l.line }
     // the works that write as many are such work
     ensures alloc_is_call { (frame : ℕ) → IsCallWork (alloc_work frame) }
     ensures revoke_is_call { (entries : List ℕ) → length entries ≡ most_entries
@@ -71,4 +74,13 @@ pub fn late_steps()
 /// write more, a miss may cost again, or a product may add.
 pub fn grows_with_machines()
     ensures bound { (s t : MachineShape) → IsNoSmaller s t → bound_of s ≤ bound_of t }
+{}
+
+/// Calls that are left out never raise the bound; with every call it is that of
+/// a machine that leaves none out, and with none that writes anything the least.
+pub fn grows_with_calls()
+    ensures bound { (s : MachineShape) (calls others : ℕ) → AreWithin calls others
+        → bound_of (with_calls s calls) ≤ bound_of (with_calls s others) }
+    ensures every { (s : MachineShape) → most_written every_call s.line ≡ max (lines_in_frame s.line) most_entries }
+    ensures none { (s : MachineShape) → most_written 0 s.line ≡ 0 }
 {}

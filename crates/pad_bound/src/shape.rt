@@ -2,11 +2,12 @@
 ghost use Rattle.std.specs.Prelude.{◌≡◌, ◌≤◌};
 ghost use Rattle.pad_bound.specs.Bound.{IsShape, worst_fetch, worst_access, worst_read, worst_look};
 ghost use Rattle.pad_bound.specs.Bound.{worst_instruction, worst_operation, worst_leave, worst_enter};
-ghost use Rattle.pad_bound.specs.Bound.{worst_prefetch, worst_flush, most_written as spec_most_written, most_dirty};
+ghost use Rattle.pad_bound.specs.Bound.{worst_prefetch, worst_flush, if_may, most_written as spec_most_written, most_dirty};
 ghost use Rattle.pad_bound.specs.Models.{shape_model};
 ghost use Rattle.cycle_cost.specs.Ranges.{most_again, most_read, most_fetch, most_access, most_look, most_prefetch};
 
 use cycle_cost::Costs;
+use kernel_clone::Call;
 
 /// Bytes of a frame.
 const FRAME: u32 = 4096;
@@ -14,14 +15,29 @@ const FRAME: u32 = 4096;
 /// The most page table entries that one call writes: a REVOKE.
 const MOST_ENTRIES: u32 = 63;
 
-/// The most lines of so many bytes, 16 to 128, that a call writes: those of a
-/// frame that it zeroes, or the entries that it writes.
-pub fn most_written(line: u32) -> u32
+// So many lines, where the call is one of these.
+fn lines_if(calls: u32, call: Call, lines: u32) -> u32
+    ensures value { result ≡ if_may calls call lines }
+    ensures few { result ≤ lines }
+{
+    if call.is_in(calls) { lines } else { 0 }
+}
+
+/// The most lines, of so many bytes from 16 to 128, that one of these calls
+/// writes: those of a frame that it zeroes, or of the entries that it writes.
+/// Bit n of `calls` is that of call n; bits above 14 count for nothing.
+#[tactic(auto, unfolding(crate::specs::Bound::most_written))]
+pub fn most_written(calls: u32, line: u32) -> u32
     requires line { 16 ≤ line }
-    ensures value { result ≡ spec_most_written line }
+    ensures value { result ≡ spec_most_written calls line }
     ensures few { result ≤ 256 }
 {
-    (FRAME / line).max(MOST_ENTRIES)
+    let mut most = lines_if(calls, Call::Alloc, FRAME / line);
+    most = most.max(lines_if(calls, Call::Table, 1));
+    most = most.max(lines_if(calls, Call::Map, 1));
+    most = most.max(lines_if(calls, Call::Unmap, 1));
+    most = most.max(lines_if(calls, Call::Delete, 1));
+    most.max(lines_if(calls, Call::Revoke, MOST_ENTRIES))
 }
 
 /// What of a machine the bound depends on.
@@ -36,7 +52,7 @@ pub struct Shape {
     pub sets: u32,
     /// Its ways, 1 to 16.
     pub ways: u32,
-    /// The most lines that an operation writes, up to 256.
+    /// The most lines that an operation of the domain that leaves writes, up to 256.
     pub written: u32,
     /// What a miss of the second level costs again where it writes a line back, up to 1,000 cycles.
     pub again: u32,

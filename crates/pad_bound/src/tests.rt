@@ -1,6 +1,7 @@
 // The bounds of two machines, worked out by hand.
-use super::{Bound, Shape, bound, most_written};
+use super::{Bound, Shape, bound, bound_from, most_written};
 use cycle_cost::Costs;
+use kernel_clone::EVERY_CALL;
 
 #[test]
 fn bounds_are_as_worked_out(rt: HostRuntime) {
@@ -22,7 +23,7 @@ fn bounds_are_as_worked_out(rt: HostRuntime) {
         shared: 512,
         sets: 16,
         ways: 2,
-        written: most_written(64),
+        written: most_written(EVERY_CALL, 64),
         again: 0,
         product: 0,
     };
@@ -40,7 +41,7 @@ fn bounds_are_as_worked_out(rt: HostRuntime) {
     let fine = Shape {
         line: 16,
         shared: 65536,
-        written: most_written(16),
+        written: most_written(EVERY_CALL, 16),
         ..small
     };
     let of_fine = Bound {
@@ -65,4 +66,46 @@ fn bounds_are_as_worked_out(rt: HostRuntime) {
         ..of_small
     };
     assert_eq!(rt; bound(&larger), of_larger);
+}
+
+#[test]
+fn bounds_go_by_the_calls_that_are_left(rt: HostRuntime) {
+    let small = Shape {
+        costs: Costs {
+            base: 1,
+            l1: 1,
+            l2: 8,
+            mem: 40,
+            wb: 10,
+            tlb: 1,
+            mispredict: 3,
+            trap: 10,
+            flush: 20,
+        },
+        line: 64,
+        shared: 512,
+        sets: 16,
+        ways: 2,
+        written: 0,
+        again: 0,
+        product: 0,
+    };
+    // No call; EXIT and PUT; TABLE; MAP and UNMAP; DELETE; REVOKE; ALLOC with REVOKE; all; bits of no call.
+    let operations = [
+        (0, 501),
+        (0b11, 501),
+        (1 << 3, 560),
+        (0b11 << 4, 560),
+        (1 << 7, 560),
+        (1 << 8, 4218),
+        (0b1_0000_0100, 4277),
+        (EVERY_CALL, 4277),
+        (0xffff_8000, 501),
+    ];
+    for (calls, operation) in operations {
+        let found = bound_from(&small, calls);
+        assert_eq!(rt; found.operation, operation);
+        assert_eq!(rt; found.total, operation + 1873);
+        assert_eq!(rt; found.leave, 383);
+    }
 }
