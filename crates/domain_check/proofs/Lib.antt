@@ -4,3 +4,4 @@ pub mod Parts
 pub mod Slots
 pub mod OwnInterrupts
 pub mod Shares
+pub mod CallBits

@@ -1,5 +1,5 @@
 -- K7, the rule of domains and their names, with its first broken case.
-use Rattle.std.specs.Prelude.{ℕ, ◌&&◌, ◌||◌, nat_le, pos, Bool, if◌then◌else◌, List, length, Option, Some, None}
+use Rattle.std.specs.Prelude.{ℕ, ◌&&◌, ◌||◌, nat_eq, nat_le, pos, Bool, if◌then◌else◌, List, length, Option, Some, None}
 use Rattle.std.specs.List.{list_all}
 use Rattle.std.specs.Str.{bytes_eq}
 use Rattle.image_text.specs.declared.refusal.Refusal.{Refusal}
@@ -27,5 +27,12 @@ k7_domain earlier o =
     if is_name o.name then same_name (length earlier) (first_in (named_so o.name) earlier)
     else Some (refusal 7 (pos (length earlier)) (pos (length o.name)) (pos 16))
 
+-- 1 to 16 domains, in the second version 32
+abbrev pub most_domains : ℕ → ℕ
+most_domains version = if nat_eq version 1 then 16 else 32
+
+-- how many there are, and then each one's name
 unfoldable pub k7 : Raw → Option Refusal
-k7 i = or_else (count_case 7 16 16 16 (length i.domains)) (first_in k7_domain i.domains)
+k7 i =
+    let most = most_domains i.version in
+    or_else (count_case 7 most most most (length i.domains)) (first_in k7_domain i.domains)

@@ -27,9 +27,9 @@ fn is_name(text: &str) -> bool
 
 /// The place of the first domain of this name.
 fn named_so(name: &str, domains: &[RawDomain]) -> Option<usize>
-    requires few { length domains.now ≤ 16 }
+    requires few { length domains.now ≤ 32 }
     ensures value { result ≡ cases.first_in (spec.named_so name.now) (map domain_model domains.now) }
-    ensures small { IfSome result (λ e. e < 16) }
+    ensures small { IfSome result (λ e. e < 32) }
 {
     for (e, domain) in domains.iter().enumerate() {
         if domain.name.as_str() == name {
@@ -41,7 +41,7 @@ fn named_so(name: &str, domains: &[RawDomain]) -> Option<usize>
 
 #[tactic(auto, unfolding(crate::specs::Names::k7_domain))]
 fn k7_domain(earlier: &[RawDomain], domain: &RawDomain) -> Result<(), Refusal>
-    requires few { length earlier.now ≤ 16 }
+    requires few { length earlier.now ≤ 32 }
     ensures verdict { IsVerdict result
         (spec.k7_domain (map domain_model earlier.now) (domain_model domain.now)) }
 {
@@ -57,7 +57,7 @@ fn k7_domain(earlier: &[RawDomain], domain: &RawDomain) -> Result<(), Refusal>
 }
 
 fn k7_domains(domains: &[RawDomain]) -> Result<(), Refusal>
-    requires few { length domains.now ≤ 16 }
+    requires few { length domains.now ≤ 32 }
     ensures verdict { IsVerdict result (cases.first_in spec.k7_domain (map domain_model domains.now)) }
 {
     for (d, domain) in domains.iter().enumerate() {
@@ -66,7 +66,14 @@ fn k7_domains(domains: &[RawDomain]) -> Result<(), Refusal>
     Ok(())
 }
 
-/// K7: 1 to 16 domains, each of a name of its own.
+fn most_domains(version: u8) -> u32
+    ensures value { result ≡ spec.most_domains version }
+    ensures few { result ≤ 32 }
+{
+    if version == 1 { 16 } else { 32 }
+}
+
+/// K7: 1 to 16 domains, in the second version 32, each of a name of its own.
 ///
 /// # Errors
 ///
@@ -76,6 +83,7 @@ pub fn k7(raw: &Raw) -> Result<(), Refusal>
     ensures verdict { IsVerdict result (spec.k7 (raw_model raw.now)) }
 {
     let domains = raw.domains.as_slice();
-    count_case(7, 16, 16, 16, domains.len())?;
+    let most = most_domains(raw.version);
+    count_case(7, most, most, most as usize, domains.len())?;
     k7_domains(domains)
 }

@@ -1,6 +1,6 @@
 -- What the rules of the parts, of frames, colours and costs give, each in natural numbers.
 use Rattle.std.proofs.Common.{◌≡◌, ℕ, ◌+◌, ◌-◌, ◌*◌, ◌/◌, ◌%◌, ◌^◌, ◌<◌, ◌≤◌, Bool, true, false, ◌&&◌, ◌||◌, not, List, length, take, get_or, eqb-true, Option, None, Some, refl, sym, ap, subst, ◌∙◌, arith, inl, inr}
-use Rattle.std.specs.Prelude.{ℤ, pos, negsuc, int_lt, codes, if◌then◌else◌, ◌==◌}
+use Rattle.std.specs.Prelude.{nat_eq, ℤ, pos, negsuc, int_lt, codes, if◌then◌else◌, ◌==◌}
 use Rattle.std.specs.Str.{bytes_eq}
 use Rattle.std.specs.Int.{IsPowerOfTwo, is_power_of_two}
 use Rattle.std.proofs.lemmas.Bool.{cases_lt}
@@ -13,7 +13,7 @@ use Rattle.image_text.specs.Record.{Raw, RawCache}
 use Rattle.hardware_check.specs.declared.hardware.Policy.TheVariants.{Lru, Fifo, Plru, Nmru}
 use Rattle.hardware_check.specs.Cases.{first_in, refusal, outside, range_case}
 use Rattle.hardware_check.specs.Hardware.{IsNatural, natural_of, policy_of, shape_of, costs_of, hardware_of, colours_of, is_size, IsSize, IsCache, IsSmallShape}
-use Rattle.hardware_check.specs.Rules.{k3, k4, k5, k6, k6_cost, costs_in, size_case, history_case, predictor_case, cache_case, ways_case, is_policy, is_uneven_tree, is_region}
+use Rattle.hardware_check.specs.Rules.{k3, most_frames, k4, k5, k6, k6_cost, costs_in, size_case, history_case, predictor_case, cache_case, ways_case, is_policy, is_uneven_tree, is_region}
 use Rattle.hardware_check.specs.Laws.{KeepsParts}
 use Rattle.hardware_check.proofs.FirstCases.{or_first, or_rest, if_first, if_rest, first_in_none}
 
@@ -199,9 +199,18 @@ some_line i k = let line = (parts_sound i k.parts).line in omega (arith, line.le
 
 -- ---- frames, colours, costs
 
-pub frames_sound : (i : Raw) → k4 i ≡ None → Within 64 4096 (natural_of i.frames)
+few_frames : (version : ℕ) → most_frames version ≤ 16384
+few_frames version = if_few (nat_eq version 1)
+  where
+    if_few : (first : Bool) → (if first then 4096 else 16384) ≤ 16384
+    if_few true = omega arith
+    if_few false = omega arith
+
+pub frames_sound : (i : Raw) → k4 i ≡ None → Within 64 16384 (natural_of i.frames)
 unfolding k4
-frames_sound i n = in_range 4 (pos 0) 64 4096 i.frames n
+frames_sound i n =
+    let range = in_range 4 (pos 0) 64 (most_frames i.version) i.frames n in
+    record { least = range.least; most = omega (arith, range.most, few_frames i.version) }
 
 pub frames_natural : (i : Raw) → k4 i ≡ None → IsNatural i.frames
 frames_natural i n = let least = (frames_sound i n).least in natural_positive i.frames (omega (arith, least))

@@ -145,7 +145,7 @@ IsBuffer targets = IsTrue (targets == 0 || is_power_of_two targets)
 
 pub record IsHardware (h : Hardware) : Type 0 where
   pub least_frames : 64 ≤ h.frames
-  pub most_frames : h.frames ≤ 4096
+  pub most_frames : h.frames ≤ 16384
   pub line : IsSize 16 128 h.line
   pub l1i : IsCache 1024 h.l1i
   pub l1d : IsCache 1024 h.l1d

@@ -1,5 +1,5 @@
 -- The rules of the machine, each with its first broken case.
-use Rattle.std.specs.Prelude.{ℕ, ◌+◌, ◌%◌, ◌==◌, ◌&&◌, not, nat_le, nat_lt, ℤ, pos, Bool, if◌then◌else◌, List, [], ◌∷◌, length, codes, ◌||◌, Option, Some, None}
+use Rattle.std.specs.Prelude.{ℕ, ◌+◌, ◌%◌, ◌==◌, ◌&&◌, not, nat_eq, nat_le, nat_lt, ℤ, pos, Bool, if◌then◌else◌, List, [], ◌∷◌, length, codes, ◌||◌, Option, Some, None}
 use Rattle.std.specs.Str.{bytes_eq}
 use Rattle.std.specs.Int.{is_power_of_two}
 use Rattle.image_text.specs.declared.refusal.Refusal.{Refusal}
@@ -48,10 +48,13 @@ k3 i =
     (or_else (cache_case 5 256 i.tlb)
     (predictor_case i.predictor i.history)))))
 
--- ---- K4: 64 to 4,096 frames
+-- ---- K4: 64 to 4,096 frames, in the second version 16,384
+
+abbrev pub most_frames : ℕ → ℕ
+most_frames version = if nat_eq version 1 then 4096 else 16384
 
 unfoldable pub k4 : Raw → Option Refusal
-k4 i = range_case 4 (pos 0) 64 4096 i.frames
+k4 i = range_case 4 (pos 0) 64 (most_frames i.version) i.frames
 
 -- ---- K5: 2 to 64 colours
 

@@ -40,7 +40,7 @@ pub struct Caches {
 /// breaks no rule.
 #[derive(Clone, Copy, Debug, PartialEq, Eq)]
 pub struct Hardware {
-    /// Frames of 4,096 bytes: 64 to 4,096.
+    /// Frames of 4,096 bytes: 64 to 16,384.
     pub frames: u32,
     /// Bytes of the kernel's shared region: whole lines, up to 65,536.
     pub shared: u32,

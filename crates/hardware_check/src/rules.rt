@@ -117,15 +117,21 @@ pub fn k3(raw: &Raw) -> Result<Caches, Refusal>
     Ok(Caches { l1i, l1d, l2, tlb })
 }
 
-/// K4: 64 to 4,096 frames.
+fn most_frames(version: u8) -> u32
+    ensures value { result ≡ spec.most_frames version }
+{
+    if version == 1 { 4096 } else { 16384 }
+}
+
+/// K4: 64 to 4,096 frames, in the second version 16,384.
 #[tactic(auto, unfolding(crate::specs::Rules::k4))]
 pub fn k4(raw: &Raw) -> Result<(), Refusal>
     ensures verdict { IsVerdict result (spec.k4 (raw_model raw.now)) }
 {
-    range_case(4, 0, 64, 4096, raw.frames)
+    range_case(4, 0, 64, most_frames(raw.version), raw.frames)
 }
 
-/// The number of frames, 64 to 4,096.
+/// The number of frames, 64 to 16,384.
 #[tactic(auto, unfolding(crate::specs::Hardware::hardware_of))]
 pub fn frames_in(raw: &Raw) -> u32
     requires frames { spec.k4 (raw_model raw.now) ≡ None }

@@ -10,7 +10,7 @@ use Rattle.image_text.specs.declared.raw.Raw.{Raw}
 use Rattle.image_text.specs.declared.refusal.Refusal.{Refusal}
 use Rattle.image_text.specs.Record.{Raw as RawText, RawEntry as TextEntry}
 use Rattle.image_text.specs.Reads.{raw_model}
-use Rattle.image_text.specs.Models.{domain_model}
+use Rattle.image_text.specs.Models.{domain_model, entry_model}
 use Rattle.hardware_check.specs.Cases.{first_in, outside, refusal}
 use Rattle.image_check.specs.Schedule.{is_number, k16, k16_case, k16_entry}
 use Rattle.hardware_check.specs.Hardware.{IsNatural, natural_of}
@@ -78,6 +78,26 @@ all_short domains es n e = either (cases_lt e (length es))
     either (inl l) = let p = entry_in_passed domains es n e l in record { length = p.length; pad = p.pad }
     either (inr m) = subst Short (sym (get_or_past (map entry_of es) e no_entry (omega (arith, length-map es entry_of, m)))) (record { length = omega arith; pad = omega arith })
 
+-- each entry is of a domain that is there
+numbered : (domains place : ℕ) (e : TextEntry) → k16_case domains place e ≡ None → not (is_number domains e.domain) ≡ false
+unfolding k16_case
+numbered domains place e n =
+    let last : Option Refusal = if outside (pos 0) (pos 1000000) e.pad then Some (refusal 16 (pos place) e.pad (pos 4)) else None in
+    let later : Option Refusal = if outside (pos 1000) (pos 1000000) e.length then Some (refusal 16 (pos place) e.length (pos 3)) else last in
+    if_first (not (is_number domains e.domain)) (refusal 16 (pos place) e.domain (pos 2)) later n
+
+pub all_numbered : (raw : Raw) (many : ℕ) → many ≡ length (raw_model raw).domains → k16 (raw_model raw) ≡ None
+    → All (λ e. not (is_number many e.domain) ≡ false) raw.schedule.items
+all_numbered raw many same n = λ k d l.
+    let i = raw_model raw in
+    let within : k < length i.schedule = omega (arith, length-map raw.schedule.items entry_model, l) in
+    let case = first_in_none (k16_entry (length i.domains)) i.schedule (entries_pass i n) k within no_text_entry in
+    let P : TextEntry → Type 0 = λ e. not (is_number many e.domain) ≡ false in
+    let here = numbered (length i.domains) (length (take k i.schedule)) (get_or i.schedule k no_text_entry) case in
+    let there : P (get_or i.schedule k no_text_entry) =
+    subst (λ (m : ℕ). not (is_number m (get_or i.schedule k no_text_entry).domain) ≡ false) (sym same) here in
+    subst P (read_map entry_model raw.schedule.items k d no_text_entry l) there
+
 pub schedule_sound : (i : RawText) → k16 i ≡ None → IsSchedule (map entry_of i.schedule)
 schedule_sound i n =
     let count = entries_within i n in
@@ -91,11 +111,11 @@ schedule_sound i n =
     }
 
 -- of an image that breaks no rule but that of pads
-pub few_raw_domains : (raw : Raw) → broken_but_pads (raw_model raw) ≡ [] → length raw.domains.items ≤ 16
+pub few_raw_domains : (raw : Raw) → broken_but_pads (raw_model raw) ≡ [] → length raw.domains.items ≤ 32
 few_raw_domains raw n = omega (arith, length-map raw.domains.items domain_model, few_domains (raw_model raw) n)
 
 -- of one that keeps the rule of domains
-pub few_texts : (raw : Raw) → k7 (raw_model raw) ≡ None → length raw.domains.items ≤ 16
+pub few_texts : (raw : Raw) → k7 (raw_model raw) ≡ None → length raw.domains.items ≤ 32
 few_texts raw n = let most = (domains_within (raw_model raw) n).most in omega (arith, length-map raw.domains.items domain_model, most)
 
 -- ---- harts

@@ -1,6 +1,6 @@
 -- The rules one by one, and the counts that they bound.
-use Rattle.std.proofs.Common.{◌≡◌, ℕ, ◌≤◌, ◌||◌, List, [], ◌∷◌, length, Option, Some, None, Result, Ok, Err, refl, sym, ap, ◌∙◌, ◌⊎◌, inl, inr, arith}
-use Rattle.std.specs.Prelude.{nat_lt, pos, slice_get, IfErr}
+use Rattle.std.proofs.Common.{◌≡◌, ℕ, ◌≤◌, Bool, true, false, ◌||◌, List, [], ◌∷◌, length, Option, Some, None, Result, Ok, Err, refl, sym, ap, ap₂, ◌∙◌, ◌⊎◌, inl, inr, arith}
+use Rattle.std.specs.Prelude.{nat_eq, nat_lt, pos, slice_get, if◌then◌else◌, IfErr}
 use Rattle.std.proofs.lemmas.Bool.Decides.{nat_tests}
 use Rattle.image_text.specs.declared.refusal.Refusal.{Refusal}
 use Rattle.image_text.specs.declared.refusal.ReadRefusal.{ReadRefusal}
@@ -11,8 +11,9 @@ use Rattle.image_text.specs.Record.{Raw}
 use Rattle.hardware_check.specs.Cases.{first_in, refusal, count_case}
 use Rattle.hardware_check.specs.Extensions.{k22}
 use Rattle.hardware_check.specs.Laws.{KeepsParts, KeepsHardware}
-use Rattle.domain_check.specs.Names.{k7, k7_domain}
-use Rattle.image_check.specs.Schedule.{k16, k16_entry}
+use Rattle.domain_check.specs.Names.{most_domains, k7, k7_domain}
+use Rattle.domain_check.specs.Calls.{k18}
+use Rattle.image_check.specs.Schedule.{most_entries, k16, k16_entry}
 use Rattle.image_check.specs.Pads.{k17}
 use Rattle.image_check.specs.Checking.{rules_before_pads, rules_after_pads, ended_by, followed_by, broken_of, broken, broken_but_pads, broken_before_pads}
 use Rattle.image_check.specs.Laws.{Keeps, KeepsButPads, KeepsBeforePads, HasPadsItem, AcceptanceLaw, ButPadsLaw, PadsLaw, ExtensionsLaw}
@@ -81,18 +82,22 @@ pub kept_before_pads : (i : Raw) → broken_before_pads i ≡ [] → KeepsBefore
 unfolding broken_before_pads
 kept_before_pads i e = kept_before_those i [] e
 
-kept_after_pads : (i : Raw) → broken_of rules_after_pads i [] ≡ [] → k22 i ≡ None
+record KeepsAfterPads (i : Raw) : Type 0 where
+  calls : k18 i ≡ None
+  extensions : k22 i ≡ None
+
+kept_after_pads : (i : Raw) → broken_of rules_after_pads i [] ≡ [] → KeepsAfterPads i
 unfolding rules_after_pads
-kept_after_pads i e = none_here (k22 i) [] e
+kept_after_pads i e =
+    let last = ended_by (k22 i) [] in
+    record { calls = none_here (k18 i) last e; extensions = none_here (k22 i) [] (none_later (k18 i) last e) }
 
 pub kept_but_pads : (i : Raw) → broken_but_pads i ≡ [] → KeepsButPads i
 unfolding broken_but_pads
 kept_but_pads i e =
     let later = broken_of rules_after_pads i [] in
-    record {
-      before = kept_before_those i later e;
-      extensions = kept_after_pads i (later_empty rules_before_pads i later e);
-    }
+    let after = kept_after_pads i (later_empty rules_before_pads i later e) in
+    record { before = kept_before_those i later e; calls = after.calls; extensions = after.extensions }
 
 pub extensions_law : ExtensionsLaw
 extensions_law i e = extensions_said i (kept_but_pads i e).extensions
@@ -102,13 +107,13 @@ later_alone : (i : Raw) (later : List Refusal) → KeepsBeforePads i → broken_
 unfolding rules_before_pads
 later_alone i later k = rw (k.parts, k.frames, k.colours, k.costs, k.domains, k.named, k.apart, k.pools, k.shared, k.segments, k.capabilities, k.lines, k.moments, k.schedule) refl
 
--- the rule after that of pads is the last
-after_pads : (i : Raw) (o : Option Refusal) → k22 i ≡ o → broken_of rules_after_pads i [] ≡ ended_by o []
+-- two rules come after that of pads
+after_pads : (i : Raw) (o p : Option Refusal) → k18 i ≡ o → k22 i ≡ p → broken_of rules_after_pads i [] ≡ ended_by o (ended_by p [])
 unfolding rules_after_pads
-after_pads i o e = ap (λ (p : Option Refusal). ended_by p []) e
+after_pads i o p e f = ap₂ (λ (q r : Option Refusal). ended_by q (ended_by r [])) e f
 
 none_after_pads : (i : Raw) → KeepsButPads i → broken_of rules_after_pads i [] ≡ []
-none_after_pads i k = after_pads i None k.extensions
+none_after_pads i k = after_pads i None None k.calls k.extensions
 
 unbroken_but_pads : (i : Raw) → KeepsButPads i → broken_but_pads i ≡ []
 unfolding broken_but_pads
@@ -117,8 +122,8 @@ unbroken_but_pads i k = later_alone i (broken_of rules_after_pads i []) k.before
 pub but_pads_law : ButPadsLaw
 but_pads_law i = (kept_but_pads i, unbroken_but_pads i)
 
-pub others_kept : (i : Raw) → broken_before_pads i ≡ [] → k22 i ≡ None → broken_but_pads i ≡ []
-others_kept i before last = unbroken_but_pads i (record { before = kept_before_pads i before; extensions = last })
+pub others_kept : (i : Raw) → broken_before_pads i ≡ [] → k18 i ≡ None → k22 i ≡ None → broken_but_pads i ≡ []
+others_kept i before calls last = unbroken_but_pads i (record { before = kept_before_pads i before; calls = calls; extensions = last })
 
 -- ---- the rule of pads comes between the others
 
@@ -218,26 +223,47 @@ first_of_others i (Ok x) first = first
 first_of_others i (Err Memory) first = first
 first_of_others i (Err (Broken r)) first = first_before_pads i r (broken_of rules_after_pads i []) first
 
--- where none but the last rule is broken
-last_but_pads : (i : Raw) (o : Option Refusal) → KeepsBeforePads i → k22 i ≡ o → broken_but_pads i ≡ ended_by o []
+-- where the first of those after it is this one
+calls_after_pads : (i : Raw) (r : Refusal) → k18 i ≡ Some r → broken_of rules_after_pads i [] ≡ r ∷ []
+calls_after_pads i r e = after_pads i (Some r) (k22 i) e refl
+
+last_after_pads : (i : Raw) (r : Refusal) → k18 i ≡ None → k22 i ≡ Some r → broken_of rules_after_pads i [] ≡ r ∷ []
+last_after_pads i r calls e = after_pads i None (Some r) calls e
+
+after_of_others : (i : Raw) (r : Refusal) → broken_before_pads i ≡ [] → broken_of rules_after_pads i [] ≡ r ∷ [] → IsFirst (broken_but_pads i) (Broken r)
 unfolding broken_but_pads
-last_but_pads i o k e = later_alone i (broken_of rules_after_pads i []) k ∙ after_pads i o e
+after_of_others i r before due =
+    let all = later_alone i (broken_of rules_after_pads i []) (kept_before_pads i before) ∙ due in
+    ap (λ (rs : List Refusal). slice_get rs 0) all
+
+after_of_all : (i : Raw) (r : Refusal) → broken_before_pads i ≡ [] → k17 i ≡ None → broken_of rules_after_pads i [] ≡ r ∷ [] → IsFirst (broken i) (Broken r)
+after_of_all i r before pads due =
+    let all = from_pads i None (kept_before_pads i before) pads ∙ due in
+    ap (λ (rs : List Refusal). slice_get rs 0) all
+
+pub calls_of_others : {A : Type 0} → (i : Raw) (result : Result A ReadRefusal) → broken_before_pads i ≡ []
+    → IsVerdictOrMemory result (k18 i) → IfErr result (IsFirst (broken_but_pads i))
+calls_of_others i (Ok x) before verdict = tt
+calls_of_others i (Err Memory) before verdict = tt
+calls_of_others i (Err (Broken r)) before verdict = after_of_others i r before (calls_after_pads i r verdict)
 
 pub last_of_others : {A : Type 0} → (i : Raw) (result : Result A ReadRefusal) → broken_before_pads i ≡ []
-    → IsVerdictOrMemory result (k22 i) → IfErr result (IsFirst (broken_but_pads i))
-last_of_others i (Ok x) before verdict = tt
-last_of_others i (Err Memory) before verdict = tt
-last_of_others i (Err (Broken r)) before verdict =
-    let due = last_but_pads i (Some r) (kept_before_pads i before) verdict in
-    ap (λ (rs : List Refusal). slice_get rs 0) due
+    → k18 i ≡ None → IsVerdictOrMemory result (k22 i) → IfErr result (IsFirst (broken_but_pads i))
+last_of_others i (Ok x) before calls verdict = tt
+last_of_others i (Err Memory) before calls verdict = tt
+last_of_others i (Err (Broken r)) before calls verdict = after_of_others i r before (last_after_pads i r calls verdict)
+
+pub calls_of_all : {A : Type 0} → (i : Raw) (result : Result A ReadRefusal) → broken_before_pads i ≡ []
+    → k17 i ≡ None → IsVerdictOrMemory result (k18 i) → IfErr result (IsFirst (broken i))
+calls_of_all i (Ok x) before pads verdict = tt
+calls_of_all i (Err Memory) before pads verdict = tt
+calls_of_all i (Err (Broken r)) before pads verdict = after_of_all i r before pads (calls_after_pads i r verdict)
 
 pub last_of_all : {A : Type 0} → (i : Raw) (result : Result A ReadRefusal) → broken_before_pads i ≡ []
-    → k17 i ≡ None → IsVerdictOrMemory result (k22 i) → IfErr result (IsFirst (broken i))
-last_of_all i (Ok x) before pads verdict = tt
-last_of_all i (Err Memory) before pads verdict = tt
-last_of_all i (Err (Broken r)) before pads verdict =
-    let due = from_pads i None (kept_before_pads i before) pads ∙ after_pads i (Some r) verdict in
-    ap (λ (rs : List Refusal). slice_get rs 0) due
+    → k17 i ≡ None → k18 i ≡ None → IsVerdictOrMemory result (k22 i) → IfErr result (IsFirst (broken i))
+last_of_all i (Ok x) before pads calls verdict = tt
+last_of_all i (Err Memory) before pads calls verdict = tt
+last_of_all i (Err (Broken r)) before pads calls verdict = after_of_all i r before pads (last_after_pads i r calls verdict)
 
 pub none_broken : (i : Raw) → broken_but_pads i ≡ [] → k17 i ≡ None → broken i ≡ []
 none_broken i others pads = unbroken i (record { others = kept_but_pads i others; pads = pads })
@@ -261,17 +287,34 @@ counted rule at wanted most many n =
     let o = if_first (nat_lt many 1 || nat_lt most many) (refusal rule (pos at) (pos many) (pos wanted)) None n in
     record { least = grind (arith, nat_tests, o); most = grind (arith, nat_tests, o) }
 
-pub domains_within : (i : Raw) → k7 i ≡ None → Within 1 16 (length i.domains)
-unfolding k7
-domains_within i n = counted 7 16 16 16 (length i.domains) (or_first (count_case 7 16 16 16 (length i.domains)) (first_in k7_domain i.domains) n)
+-- a number that depends on the version is at most the greater of both
+at_most : (first : Bool) (low high : ℕ) → low ≤ high → (if first then low else high) ≤ high
+at_most true low high l = l
+at_most false low high l = omega arith
 
-pub entries_within : (i : Raw) → k16 i ≡ None → Within 1 64 (length i.schedule)
-unfolding k16
-entries_within i n = counted 16 0 1 64 (length i.schedule) (or_first (count_case 16 0 1 64 (length i.schedule)) (first_in (k16_entry (length i.domains)) i.schedule) n)
+pub domains_within : (i : Raw) → k7 i ≡ None → Within 1 32 (length i.domains)
+unfolding k7
+domains_within i n =
+    let most = most_domains i.version in
+    let case = or_first (count_case 7 most most most (length i.domains)) (first_in k7_domain i.domains) n in
+    let range = counted 7 most most most (length i.domains) case in
+    let few = at_most (nat_eq i.version 1) 16 32 (omega arith) in
+    record { least = range.least; most = omega (arith, range.most, few) }
+
+entry_count : Raw → Option Refusal
+entry_count i = count_case 16 0 1 (most_entries i.version) (length i.schedule)
+
+pub entries_within : (i : Raw) → k16 i ≡ None → Within 1 256 (length i.schedule)
+unfolding k16 entry_count
+entries_within i n =
+    let case = or_first (entry_count i) (first_in (k16_entry (length i.domains)) i.schedule) n in
+    let range = counted 16 0 1 (most_entries i.version) (length i.schedule) case in
+    let few = at_most (nat_eq i.version 1) 64 256 (omega arith) in
+    record { least = range.least; most = omega (arith, range.most, few) }
 
 pub entries_pass : (i : Raw) → k16 i ≡ None → first_in (k16_entry (length i.domains)) i.schedule ≡ None
-unfolding k16
-entries_pass i n = or_rest (count_case 16 0 1 64 (length i.schedule)) (first_in (k16_entry (length i.domains)) i.schedule) n
+unfolding k16 entry_count
+entries_pass i n = or_rest (entry_count i) (first_in (k16_entry (length i.domains)) i.schedule) n
 
-pub few_domains : (i : Raw) → broken_but_pads i ≡ [] → length i.domains ≤ 16
+pub few_domains : (i : Raw) → broken_but_pads i ≡ [] → length i.domains ≤ 32
 few_domains i e = (domains_within i (kept_but_pads i e).before.domains).most

@@ -1,6 +1,6 @@
 -- What the rule of pads gives, and the machine whose bound it asks for.
-use Rattle.std.proofs.Common.{◌≡◌, ℕ, ◌+◌, ◌-◌, ◌*◌, ◌%◌, ◌^◌, ◌<◌, ◌≤◌, false, length, map, take, get_or, Option, None, Some, sym, ap, subst, ◌∙◌, arith, inl, inr}
-use Rattle.std.specs.Prelude.{ℤ, pos, negsuc, int_lt}
+use Rattle.std.proofs.Common.{◌≡◌, ℕ, zero, suc, ◌+◌, ◌-◌, ◌*◌, ◌%◌, ◌^◌, ◌<◌, ◌≤◌, false, List, [], ◌∷◌, ◌++◌, length, map, take, get_or, Option, None, Some, refl, sym, ap, ap₂, subst, ◌∙◌, arith, inl, inr}
+use Rattle.std.specs.Prelude.{ℤ, pos, negsuc, int_lt, slice_index_or}
 use Rattle.std.specs.Int.{IsPowerOfTwo}
 use Rattle.std.proofs.lemmas.Bool.{cases_lt}
 use Rattle.std.proofs.lemmas.Bool.Decides.{nat_tests}
@@ -9,18 +9,21 @@ use Rattle.std.proofs.lemmas.List.{get_or-map}
 use Rattle.std.proofs.Math.Nat.{mul-mod_left}
 use Rattle.std.proofs.Math.Pow.{pow_mono}
 use Rattle.set_cache.proofs.Powers.{power_is}
-use Rattle.image_text.specs.Record.{Raw, RawEntry}
+use Rattle.image_text.specs.Record.{Raw, RawDomain, RawEntry}
 use Rattle.cycle_cost.specs.Costs.{ProductCosts}
 use Rattle.cycle_cost.specs.Ranges.{most_product}
-use Rattle.pad_bound.specs.Bound.{IsShape}
-use Rattle.pad_bound.proofs.Parts.{few_most}
+use Rattle.kernel_clone.specs.Permissions.{every_call}
+use Rattle.pad_bound.specs.Bound.{IsShape, bound_of}
+use Rattle.pad_bound.proofs.Written.{few_most}
 use Rattle.sched_table.specs.declared.schedule.Entry.{Entry}
 use Rattle.sched_table.specs.Schedule.{entry_in, no_entry}
-use Rattle.hardware_check.specs.Cases.{refusal}
+use Rattle.hardware_check.specs.Cases.{or_else, first_case, first_in, refusal}
 use Rattle.hardware_check.specs.Hardware.{Hardware, mul_of, div_of, IsHardware, natural_of, hardware_of}
 use Rattle.hardware_check.proofs.Built.{hardware_law}
 use Rattle.hardware_check.proofs.FirstCases.{if_first, first_in_none}
-use Rattle.image_check.specs.Pads.{most_added, shape_of, bound_in, k17, k17_case, k17_entry}
+use Rattle.domain_check.specs.Calls.{own_calls}
+use Rattle.image_check.specs.Own.{own_from, owns_of, own_at}
+use Rattle.image_check.specs.Pads.{most_added, shape_for, shape_of, bound_out_of, k17, k17_case, k17_entry, k17_by}
 use Rattle.image_check.specs.Public.{entry_of}
 use Rattle.image_check.specs.Laws.{Keeps, KeepsBeforePads, ShapeLaw}
 use Rattle.image_check.proofs.Kept.{kept_but_pads, keeps_hardware}
@@ -47,8 +50,8 @@ pub few_added : (o : Option ProductCosts) → mul_of o ≤ 1000 → div_of o ≤
 few_added None mul div = omega arith
 few_added (Some c) mul div = omega (arith, mul, div)
 
-shape_sound : (h : Hardware) → IsHardware h → IsShape (shape_of h)
-shape_sound h s = record {
+shape_sound : (h : Hardware) (calls : ℕ) → IsHardware h → IsShape (shape_for h calls)
+shape_sound h calls s = record {
   costs = s.costs;
   least_line = s.line.least;
   most_line = s.line.most;
@@ -60,16 +63,16 @@ shape_sound h s = record {
   few_sets = s.l1d.sets.most;
   some_ways = s.l1d.some_way;
   few_ways = s.l1d.few_ways;
-  few_written = few_most h.line s.line.least;
+  few_written = few_most calls h.line s.line.least;
   few_again = omega arith;
   few_product = few_added h.muldiv s.few_mul s.few_div;
 }
 
-pub shape_before_pads : (i : Raw) → KeepsBeforePads i → IsShape (shape_of (hardware_of i))
-shape_before_pads i k = shape_sound (hardware_of i) (hardware_law i (keeps_hardware i k))
+pub shape_before_pads : (i : Raw) (calls : ℕ) → KeepsBeforePads i → IsShape (shape_for (hardware_of i) calls)
+shape_before_pads i calls k = shape_sound (hardware_of i) calls (hardware_law i (keeps_hardware i k))
 
 pub shape_law : ShapeLaw
-shape_law i e = shape_before_pads i (kept_but_pads i e).before
+shape_law i calls e = shape_before_pads i calls (kept_but_pads i e).before
 
 -- ---- pads
 
@@ -81,9 +84,41 @@ long_pad : (bound place : ℕ) (e : RawEntry) → k17_case bound place e ≡ Non
 unfolding k17_case entry_of
 long_pad bound place e n = not_short bound e.pad (if_first (int_lt e.pad (pos bound)) (refusal 17 (pos place) e.pad (pos bound)) None n)
 
-pub pads_enough : (i : Raw) → Keeps i → (e : ℕ) → e < length i.schedule → bound_in i ≤ (entry_in (map entry_of i.schedule) e).pad
-unfolding k17
+-- the pad of an entry is enough for its domain
+IsEnough : Raw → Entry → Type 0
+IsEnough i x = bound_of (shape_for (hardware_of i) (own_at (owns_of i) x.domain).calls) ≤ x.pad
+
+entry_enough : (i : Raw) (place : ℕ) (e : RawEntry) → k17_case (bound_out_of i e.domain) place e ≡ None → IsEnough i (entry_of e)
+unfolding entry_of bound_out_of IsEnough
+entry_enough i place e n = long_pad (bound_out_of i e.domain) place e n
+
+pub pads_enough : (i : Raw) → Keeps i → (e : ℕ) → e < length i.schedule
+    → let x = entry_in (map entry_of i.schedule) e in
+    bound_of (shape_for (hardware_of i) (own_at (owns_of i) x.domain).calls) ≤ x.pad
+unfolding k17 IsEnough
 pads_enough i k e l =
-    let here = first_in_none (k17_entry (bound_in i)) i.schedule k.pads e l no_text_entry in
-    let P : Entry → Type 0 = λ x. bound_in i ≤ x.pad in
-    subst P (sym (get_or-map entry_of i.schedule e no_text_entry no_entry l)) (long_pad (bound_in i) (length (take e i.schedule)) (get_or i.schedule e no_text_entry) here)
+    let here = first_in_none (k17_entry i) i.schedule k.pads e l no_text_entry in
+    let enough = entry_enough i (length (take e i.schedule)) (get_or i.schedule e no_text_entry) here in
+    subst (IsEnough i) (sym (get_or-map entry_of i.schedule e no_text_entry no_entry l)) enough
+
+-- ---- the calls of each domain, as the code has them
+
+calls_at : (ds : List RawDomain) (n : ℕ) → (own_at (map own_from ds) n).calls ≡ slice_index_or (map own_calls ds) n every_call
+unfolding own_from
+calls_at [] n = refl
+calls_at (o ∷ ds) zero = refl
+calls_at (o ∷ ds) (suc n) = calls_at ds n
+
+same_cases : {A R : Type 0} (f g : List A → A → Option R) → ((earlier : List A) (x : A) → f earlier x ≡ g earlier x)
+    → (earlier xs : List A) → first_case f earlier xs ≡ first_case g earlier xs
+same_cases f g same earlier [] = refl
+same_cases f g same earlier (x ∷ xs) = ap₂ (λ (o rest : Option _). or_else o rest) (same earlier x) (same_cases f g same (earlier ++ x ∷ []) xs)
+
+by_calls : (i : Raw) (earlier : List RawEntry) (e : RawEntry) → k17_by (shape_of (hardware_of i)) (map own_calls i.domains) earlier e ≡ k17_entry i earlier e
+unfolding bound_out_of owns_of
+by_calls i earlier e =
+    ap (λ (calls : ℕ). k17_case (bound_of (shape_for (hardware_of i) calls)) (length earlier) e) (sym (calls_at i.domains (natural_of e.domain)))
+
+pub k17_by_calls : (i : Raw) → first_in (k17_by (shape_of (hardware_of i)) (map own_calls i.domains)) i.schedule ≡ k17 i
+unfolding k17
+k17_by_calls i = same_cases (k17_by (shape_of (hardware_of i)) (map own_calls i.domains)) (k17_entry i) (by_calls i) [] i.schedule

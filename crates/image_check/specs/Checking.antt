@@ -10,15 +10,16 @@ use Rattle.domain_check.specs.Colours.{k8, k9, k10}
 use Rattle.domain_check.specs.Segments.{k12}
 use Rattle.domain_check.specs.Capabilities.{k13}
 use Rattle.domain_check.specs.Interrupts.{k14, k15}
+use Rattle.domain_check.specs.Calls.{k18}
 use Rattle.image_check.specs.Pads.{k17}
 
 -- the rules before that of pads
 unfoldable pub rules_before_pads : List (Raw → Option Refusal)
 rules_before_pads = k3 ∷ k4 ∷ k5 ∷ k6 ∷ k7 ∷ k8 ∷ k9 ∷ k10 ∷ k11 ∷ k12 ∷ k13 ∷ k14 ∷ k15 ∷ k16 ∷ []
 
--- that after it
+-- those after it
 unfoldable pub rules_after_pads : List (Raw → Option Refusal)
-rules_after_pads = k22 ∷ []
+rules_after_pads = k18 ∷ k22 ∷ []
 
 -- a broken rule ends the tests
 abbrev pub ended_by : Option Refusal → List Refusal → List Refusal

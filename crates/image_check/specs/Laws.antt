@@ -17,10 +17,11 @@ use Rattle.domain_check.specs.Colours.{k8, k9, k10}
 use Rattle.domain_check.specs.Segments.{k12}
 use Rattle.domain_check.specs.Capabilities.{k13}
 use Rattle.domain_check.specs.Interrupts.{k14, k15}
+use Rattle.domain_check.specs.Calls.{k18}
 use Rattle.image_text.specs.declared.refusal.Refusal.{Refusal}
 use Rattle.sched_table.specs.Schedule.{entry_in, entries_on, IsSchedule}
 use Rattle.pad_bound.specs.Bound.{IsShape, bound_of}
-use Rattle.image_check.specs.Pads.{shape_of, k17}
+use Rattle.image_check.specs.Pads.{shape_for, k17}
 use Rattle.image_check.specs.Checking.{broken, broken_but_pads}
 use Rattle.image_check.specs.Own.{Segment, Own, segment_at, cap_at, has_line}
 use Rattle.image_check.specs.Pages.{has_page, has_page_in, frames_in, share_of}
@@ -46,6 +47,7 @@ pub record KeepsBeforePads (i : text.Raw) : Type 0 where
 -- no rule but that of pads has
 pub record KeepsButPads (i : text.Raw) : Type 0 where
   pub before : KeepsBeforePads i
+  pub calls : k18 i ≡ None
   pub extensions : k22 i ≡ None
 
 -- no rule has
@@ -71,9 +73,18 @@ pub record HasPadsItem (i : text.Raw) (others all : List Refusal) : Type 0 where
 abbrev pub PadsLaw : Type 0
 PadsLaw = (i : text.Raw) → (broken i ≡ broken_but_pads i) ⊎ HasPadsItem i (broken_but_pads i) (broken i)
 
--- the bound is of a machine whose numbers are in their ranges
+-- each entry is of one of the domains
+pub record NamesDomains (i : Image) : Type 0 where
+  pub counted : i.all.domains ≡ length i.owns
+  pub schedule : IsSchedule i.all.schedule
+  pub named : (e : ℕ) → e < length i.all.schedule → (entry_in i.all.schedule e).domain < length i.owns
+
+abbrev pub NamedLaw : Type 0
+NamedLaw = (i : text.Raw) → broken_but_pads i ≡ [] → NamesDomains (image_from i)
+
+-- the bound is of a machine whose numbers are in their ranges, whoever leaves
 abbrev pub ShapeLaw : Type 0
-ShapeLaw = (i : text.Raw) → broken_but_pads i ≡ [] → IsShape (shape_of (hardware_of i))
+ShapeLaw = (i : text.Raw) (calls : ℕ) → broken_but_pads i ≡ [] → IsShape (shape_for (hardware_of i) calls)
 
 -- products and the target buffer are those that the image says, in their ranges
 abbrev pub ExtensionsLaw : Type 0
@@ -112,16 +123,20 @@ pub record IsOwn (o : Own) : Type 0 where
   pub early : (k : ℕ) (x : Moment) → slice_get o.moments k ≡ Some x → x.at ≤ 1000000000000
   pub own_lines : (k : ℕ) (x : Moment) → slice_get o.moments k ≡ Some x → has_line o x.line ≡ true
 
+-- the bound on the switch after an entry's slot, by the calls of its domain
+abbrev pub bound_after : Image → ℕ → ℕ
+bound_after i e = bound_of (shape_for i.all.hardware (own_of i (entry_in i.all.schedule e).domain).calls)
+
 pub record Runnable (i : Image) : Type 0 where
   pub counted : i.all.domains ≡ length i.owns
   pub some_domain : 0 < length i.owns
-  pub few_domains : length i.owns ≤ 16
+  pub few_domains : length i.owns ≤ 32
   pub hardware : IsHardware i.all.hardware
   pub disjoint : AreDisjoint (colours_of i.all.hardware) (map (λ o. o.colours) i.owns)
   pub pools : (d : ℕ) → d < length i.owns → frames_in (own_of i d).segments ≤ length (pool (share_of i.all.hardware (own_of i d)))
   pub schedule : IsSchedule i.all.schedule
   pub named : (e : ℕ) → e < length i.all.schedule → (entry_in i.all.schedule e).domain < length i.owns
-  pub padded : (e : ℕ) → e < length i.all.schedule → bound_of (shape_of i.all.hardware) ≤ (entry_in i.all.schedule e).pad
+  pub padded : (e : ℕ) → e < length i.all.schedule → bound_after i e ≤ (entry_in i.all.schedule e).pad
   pub sound : (d : ℕ) → IsOwn (own_of i d)
   pub owned : (d e n : ℕ) → d < length i.owns → e < length i.owns → d ≢ e
       → has_line (own_of i d) n ≡ true → has_line (own_of i e) n ≡ false

@@ -9,6 +9,7 @@ use Rattle.image_check.specs.declared.own.Own.{Own}
 
 abbrev pub public_model : Public → public_spec.Public
 public_model p = record {
+  version = p.version;
   hardware = hardware_model p.hardware;
   schedule = p.schedule;
   domains = p.domains;
@@ -23,4 +24,5 @@ own_model o = record {
   caps = o.caps.items;
   lines = o.lines.items;
   moments = o.moments.items;
+  calls = o.calls;
 }

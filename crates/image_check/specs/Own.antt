@@ -11,6 +11,8 @@ pub use Rattle.domain_check.specs.Segments.{Segment}
 unfoldable pub use Rattle.domain_check.specs.Segments.{segment_of}
 use Rattle.domain_check.specs.Capabilities.{cap_of, IsSmallCap}
 use Rattle.domain_check.specs.Interrupts.{moment_of}
+use Rattle.domain_check.specs.Calls.{calls_in}
+use Rattle.kernel_clone.specs.Permissions.{every_call}
 
 pub record Own : Type 0 where
   pub name : List ℕ
@@ -20,6 +22,7 @@ pub record Own : Type 0 where
   pub caps : List InitialCap  -- what each capability slot names as it begins
   pub lines : List ℕ  -- its interrupt lines
   pub moments : List Moment  -- when they interrupt it
+  pub calls : ℕ  -- those that it may make, a bit each
 
 -- the numbers of what its slots name fit those of the code
 pub record IsSmallOwn (o : RawDomain) : Type 0 where
@@ -34,13 +37,14 @@ own_from o = record {
   caps = map cap_of o.caps;
   lines = map natural_of o.lines;
   moments = map moment_of o.moments;
+  calls = calls_in o.calls;
 }
 
 unfoldable pub owns_of : Raw → List Own
 owns_of i = map own_from i.domains
 
 abbrev pub no_own : Own
-no_own = record { name = []; colours = []; entry = 0; segments = []; caps = []; lines = []; moments = [] }
+no_own = record { name = []; colours = []; entry = 0; segments = []; caps = []; lines = []; moments = []; calls = every_call }
 
 abbrev pub own_at : List Own → ℕ → Own
 own_at owns d = slice_index_or owns d no_own

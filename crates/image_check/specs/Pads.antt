@@ -1,37 +1,48 @@
--- The rule of pads: none is below the bound on a switch.
-use Rattle.std.specs.Prelude.{ℕ, pos, int_lt, if◌then◌else◌, List, length, Option, Some, None}
+-- The rule of pads: none is below the bound on its switch, by the calls of the domain that leaves: the entry's own.
+use Rattle.std.specs.Prelude.{ℕ, ℤ, pos, int_lt, if◌then◌else◌, List, length, slice_index_or, Option, Some, None}
 use Rattle.image_text.specs.declared.refusal.Refusal.{Refusal}
 use Rattle.image_text.specs.Record.{Raw, RawEntry}
 pub use Rattle.cycle_cost.specs.Costs.{most_added}
-use Rattle.pad_bound.specs.Bound.{MachineShape, most_written, bound_of}
+use Rattle.pad_bound.specs.Bound.{MachineShape, most_written, bound_of, with_calls}
 use Rattle.hardware_check.specs.Cases.{first_in, refusal}
-use Rattle.hardware_check.specs.Hardware.{Hardware, hardware_of}
+use Rattle.kernel_clone.specs.Permissions.{every_call}
+use Rattle.hardware_check.specs.Hardware.{Hardware, natural_of, hardware_of}
+use Rattle.image_check.specs.Own.{own_at, owns_of}
 
--- what of a machine the bound depends on: each domain may make every call, and the second level writes nothing
+-- what of a machine the bound depends on, where a domain leaves that may make these calls; the second level writes nothing
 -- back
-abbrev pub shape_of : Hardware → MachineShape
-shape_of h = record {
+abbrev pub shape_for : Hardware → ℕ → MachineShape
+shape_for h calls = record {
   costs = h.costs;
   line = h.line;
   shared = h.shared;
   sets = h.l1d.sets;
   ways = h.l1d.ways;
-  written = most_written h.line;
+  written = most_written calls h.line;
   again = 0;
   product = most_added h.muldiv;
 }
 
--- of the machine that an image says
-unfoldable pub bound_in : Raw → ℕ
-bound_in i = bound_of (shape_of (hardware_of i))
+-- where it may make every call
+abbrev pub shape_of : Hardware → MachineShape
+shape_of h = shape_for h every_call
+
+-- the bound on the switch out of a domain's slot
+unfoldable pub bound_out_of : Raw → ℤ → ℕ
+bound_out_of i d = bound_of (shape_for (hardware_of i) (own_at (owns_of i) (natural_of d)).calls)
 
 -- ---- K17: each pad is at least the bound
 
 unfoldable pub k17_case : ℕ → ℕ → RawEntry → Option Refusal
 k17_case bound place e = if int_lt e.pad (pos bound) then Some (refusal 17 (pos place) e.pad (pos bound)) else None
 
-abbrev pub k17_entry : ℕ → List RawEntry → RawEntry → Option Refusal
-k17_entry bound earlier e = k17_case bound (length earlier) e
+abbrev pub k17_entry : Raw → List RawEntry → RawEntry → Option Refusal
+k17_entry i earlier e = k17_case (bound_out_of i e.domain) (length earlier) e
+
+-- the same of a machine, and of the calls that each domain may make
+abbrev pub k17_by : MachineShape → List ℕ → List RawEntry → RawEntry → Option Refusal
+k17_by s calls earlier e =
+    k17_case (bound_of (with_calls s (slice_index_or calls (natural_of e.domain) every_call))) (length earlier) e
 
 unfoldable pub k17 : Raw → Option Refusal
-k17 i = first_in (k17_entry (bound_in i)) i.schedule
+k17 i = first_in (k17_entry i) i.schedule

@@ -6,6 +6,7 @@ use Rattle.hardware_check.specs.Hardware.{natural_of, hardware_of}
 use Rattle.sched_table.specs.declared.schedule.Entry.{Entry}
 
 pub record Public : Type 0 where
+  pub version : ℕ  -- of the image's format, 1 or 2
   pub hardware : Hardware
   pub schedule : List Entry
   pub domains : ℕ  -- how many there are
@@ -15,6 +16,7 @@ entry_of e = record { domain = natural_of e.domain; length = natural_of e.length
 
 unfoldable pub public_of : Raw → Public
 public_of i = record {
+  version = i.version;
   hardware = hardware_of i;
   schedule = map entry_of i.schedule;
   domains = length i.domains;

@@ -1,5 +1,5 @@
--- K16, the rule of the schedule: 1 to 64 entries, each of a domain that is there, a length and a pad.
-use Rattle.std.specs.Prelude.{ℕ, ◌&&◌, not, ℤ, pos, int_lt, Bool, if◌then◌else◌, List, length, Option, Some, None}
+-- K16, the rule of the schedule: 1 to 64 entries, in the second version 256, each of a domain that is there, a length and a pad.
+use Rattle.std.specs.Prelude.{ℕ, ◌&&◌, not, nat_eq, ℤ, pos, int_lt, Bool, if◌then◌else◌, List, length, Option, Some, None}
 use Rattle.image_text.specs.declared.refusal.Refusal.{Refusal}
 use Rattle.image_text.specs.Record.{Raw, RawEntry}
 use Rattle.hardware_check.specs.Cases.{or_else, first_in, refusal, outside, count_case}
@@ -18,5 +18,8 @@ k16_case domains place e =
 abbrev pub k16_entry : ℕ → List RawEntry → RawEntry → Option Refusal
 k16_entry domains earlier e = k16_case domains (length earlier) e
 
+abbrev pub most_entries : ℕ → ℕ
+most_entries version = if nat_eq version 1 then 64 else 256
+
 unfoldable pub k16 : Raw → Option Refusal
-k16 i = or_else (count_case 16 0 1 64 (length i.schedule)) (first_in (k16_entry (length i.domains)) i.schedule)
+k16 i = or_else (count_case 16 0 1 (most_entries i.version) (length i.schedule)) (first_in (k16_entry (length i.domains)) i.schedule)

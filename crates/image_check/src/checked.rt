@@ -13,6 +13,7 @@ use crate::parts::parts_of;
 use crate::public::Public;
 use crate::unpadded::{Unpadded, image_of};
 use crate::{CheckRefusal, laws};
+use domain_check::k18;
 use hardware_check::k22;
 use image_text::Raw;
 use std::alloc::Global;
@@ -74,7 +75,8 @@ pub fn check(alloc: Global, raw: Raw) -> Result<Checked, CheckRefusal>
     ensures same { IfOk result (λ c. c ≡ raw_model raw) }
 {
     let parts = parts_of(alloc, &raw)?;
-    k17(&parts.hardware, &raw)?;
+    k17(&parts.hardware, parts.domains.calls.as_slice(), &raw)?;
+    k18(&raw)?;
     k22(&raw)?;
     let image = image_of(alloc, raw, parts)?;
     Ok(Checked { image })

@@ -1,5 +1,5 @@
 // What the rules give whoever runs an image.
-ghost use Rattle.image_check.specs.Laws.{AcceptanceLaw, ButPadsLaw, PadsLaw, ShapeLaw};
+ghost use Rattle.image_check.specs.Laws.{AcceptanceLaw, ButPadsLaw, PadsLaw, NamedLaw, ShapeLaw};
 ghost use Rattle.image_check.specs.Laws.{ExtensionsLaw, OneHartLaw, RunnableLaw};
 
 /// The list of the rules that an image breaks is empty exactly where no rule has
@@ -15,8 +15,14 @@ pub fn all_but_pads()
     ensures besides { PadsLaw }
 {}
 
+/// Each entry of an image that breaks no other rule than that of pads is of one
+/// of its domains.
+pub fn named()
+    ensures named { NamedLaw }
+{}
+
 /// The bound of an image that breaks no other rule is of a machine whose
-/// numbers are in their ranges.
+/// numbers are in their ranges, whichever calls the domain that leaves may make.
 pub fn shape()
     ensures shape { ShapeLaw }
 {}

@@ -11,6 +11,7 @@ ghost use Rattle.domain_check.specs.Segments.{segments_of};
 ghost use Rattle.domain_check.specs.Capabilities.{caps_of};
 ghost use Rattle.domain_check.specs.Colours.{own_colours};
 ghost use Rattle.domain_check.specs.Interrupts.{own_lines, own_moments};
+ghost use Rattle.domain_check.specs.Calls.{own_calls};
 ghost use Rattle.image_check.specs.Parts.{ArePartsOf};
 ghost use Rattle.image_check.specs.Models.{segment_model, own_model};
 
@@ -35,6 +36,8 @@ pub struct Own {
     pub lines: Vec<u8>,
     /// When its lines interrupt it, in their order; at most 1,024.
     pub moments: Vec<Moment>,
+    /// The calls that it may make, a bit each: bit n is that of call n.
+    pub calls: u32,
 }
 
 /// What the rules let through of the domains: of each, in their order.
@@ -46,6 +49,8 @@ pub struct DomainParts {
     pub caps: Vec<Vec<Named>>,
     pub lines: Vec<Vec<u8>>,
     pub moments: Vec<Vec<Moment>>,
+    /// Those that each may make, a bit each.
+    pub calls: Vec<u32>,
 }
 
 #[tactic(auto, unfolding(crate::specs::Own::own_from))]
@@ -57,6 +62,7 @@ fn own_from(
     named: Vec<Named>,
     lines: Vec<u8>,
     moments: Vec<Moment>,
+    calls: u32,
 ) -> Result<Own, CheckRefusal>
     requires small { spec.IsSmallOwn (domain_model domain.now) }
     requires colours { colours.items ≡ own_colours (domain_model domain.now) }
@@ -64,6 +70,7 @@ fn own_from(
     requires caps { map named_model named.items ≡ caps_of (domain_model domain.now) }
     requires lines { lines.items ≡ own_lines (domain_model domain.now) }
     requires moments { moments.items ≡ own_moments (domain_model domain.now) }
+    requires calls { calls ≡ own_calls (domain_model domain.now) }
     ensures value { Makes own_model result (spec.own_from (domain_model domain.now)) }
 {
     let name = String::from_str(alloc, domain.name.as_str())?;
@@ -76,6 +83,7 @@ fn own_from(
         caps,
         lines,
         moments,
+        calls,
     })
 }
 
@@ -95,6 +103,7 @@ fn owns_in(
         mut caps,
         mut lines,
         mut moments,
+        mut calls,
     } = parts;
     let mut owns = Vec::new(alloc);
     for domain in domains {
@@ -106,6 +115,7 @@ fn owns_in(
             caps.remove(0),
             lines.remove(0),
             moments.remove(0),
+            calls.remove(0),
         )?;
         owns.push(own)?;
     }

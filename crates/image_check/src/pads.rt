@@ -1,21 +1,27 @@
-// The rule of pads: none is below the bound on a switch.
-ghost use Rattle.std.specs.Prelude.{◌≡◌, ◌<◌, ◌≤◌, ◌^◌, [], map, option_map};
+// The rule of pads: none is below the bound on its switch, by the calls of the domain that leaves.
+ghost use Rattle.std.specs.Prelude.{◌≡◌, ◌<◌, ◌≤◌, ◌^◌, false, not, [], length, map, slice_index_or, option_map};
+ghost use Rattle.std.specs.List.{All};
 ghost use Rattle.cycle_cost.specs.Models.{product_costs_of};
 ghost use Rattle.image_text.specs.Reads.{raw_model};
 ghost use Rattle.image_text.specs.Models.{entry_model};
+ghost use Rattle.kernel_clone.specs.Permissions.{every_call};
+ghost use Rattle.pad_bound.specs.Bound.{IsShape, bound_of, with_calls};
 ghost use Rattle.pad_bound.specs.Models.{shape_model};
 ghost use Rattle.hardware_check.specs.Cases as cases;
-ghost use Rattle.hardware_check.specs.Hardware.{hardware_of};
+ghost use Rattle.hardware_check.specs.Hardware.{hardware_of, natural_of as spec_natural_of};
 ghost use Rattle.hardware_check.specs.Models.{hardware_model};
 ghost use Rattle.hardware_check.specs.Outcomes.{IsVerdict};
+ghost use Rattle.domain_check.specs.Calls.{own_calls};
 ghost use Rattle.image_check.specs.Checking.{broken_before_pads};
+ghost use Rattle.image_check.specs.Schedule.{is_number};
 ghost use Rattle.image_check.specs.Pads as spec;
 
 use cycle_cost::ProductCosts;
-use hardware_check::Hardware;
 use hardware_check::cases::refusal;
+use hardware_check::{Hardware, natural_of};
 use image_text::{Raw, RawEntry, Refusal};
-use pad_bound::{Shape, bound, most_written};
+use kernel_clone::EVERY_CALL;
+use pad_bound::{Shape, bound_from, most_written};
 
 /// The most that a product or a division adds to an instruction, in cycles.
 fn most_added(muldiv: Option<ProductCosts>) -> u32
@@ -27,10 +33,11 @@ fn most_added(muldiv: Option<ProductCosts>) -> u32
     }
 }
 
-/// What of a machine the bound on a switch depends on.
-pub fn shape_of(hardware: &Hardware) -> Shape
+/// What of a machine the bound on a switch depends on, where a domain leaves that
+/// may make these calls, a bit each.
+pub fn shape_for(hardware: &Hardware, calls: u32) -> Shape
     requires line { 16 ≤ hardware.now.line }
-    ensures value { shape_model result ≡ spec.shape_of (hardware_model hardware.now) }
+    ensures value { shape_model result ≡ spec.shape_for (hardware_model hardware.now) calls }
 {
     Shape {
         costs: hardware.costs,
@@ -38,10 +45,18 @@ pub fn shape_of(hardware: &Hardware) -> Shape
         shared: hardware.shared,
         sets: hardware.l1d.sets,
         ways: hardware.l1d.ways,
-        written: most_written(hardware.line),
+        written: most_written(calls, hardware.line),
         again: 0,
         product: most_added(hardware.muldiv),
     }
+}
+
+/// The same, where the domain may make every call.
+pub fn shape_of(hardware: &Hardware) -> Shape
+    requires line { 16 ≤ hardware.now.line }
+    ensures value { shape_model result ≡ spec.shape_of (hardware_model hardware.now) }
+{
+    shape_for(hardware, EVERY_CALL)
 }
 
 #[tactic(auto, unfolding(crate::specs::Pads::k17_case))]
@@ -56,29 +71,39 @@ fn k17_case(bound: u64, place: usize, entry: &RawEntry) -> Result<(), Refusal>
     Ok(())
 }
 
-fn k17_entries(bound: u64, entries: &[RawEntry]) -> Result<(), Refusal>
-    requires bound { bound < 2 ^ 63 }
+/// The calls of the domain that leaves at an entry's end: its own.
+#[tactic(auto, using(crate::proofs::Entries::number_below, crate::proofs::Entries::number_natural))]
+fn leaving_calls(calls: &[u32], entry: &RawEntry) -> u32
+    requires domain { not (is_number (length calls.now) entry.now.domain) ≡ false }
+    ensures value { result ≡ slice_index_or calls.now (spec_natural_of entry.now.domain) every_call }
+{
+    calls[natural_of(entry.domain) as usize]
+}
+
+fn k17_entries(shape: &Shape, calls: &[u32], entries: &[RawEntry]) -> Result<(), Refusal>
+    requires shape { IsShape (shape_model shape.now) }
+    requires domains { All (λ e. not (is_number (length calls.now) e.domain) ≡ false) entries.now }
     ensures verdict { IsVerdict result
-        (cases.first_in (spec.k17_entry bound) (map entry_model entries.now)) }
+        (cases.first_in (spec.k17_by (shape_model shape.now) calls.now) (map entry_model entries.now)) }
 {
     for (place, entry) in entries.iter().enumerate() {
+        let bound = bound_from(shape, leaving_calls(calls, entry)).total;
         k17_case(bound, place, entry)?;
     }
     Ok(())
 }
 
-/// K17: each pad is at least the bound on a switch of the image's machine, in
-/// cycles.
+/// K17: each pad is at least the bound on its switch of the image's machine, by
+/// the calls of the entry's domain, in cycles.
 ///
 /// # Errors
 ///
 /// The refusal with the first broken case.
-#[tactic(auto, unfolding(crate::specs::Pads::k17, crate::specs::Pads::bound_in))]
-pub fn k17(hardware: &Hardware, raw: &Raw) -> Result<(), Refusal>
+pub fn k17(hardware: &Hardware, calls: &[u32], raw: &Raw) -> Result<(), Refusal>
     requires before { broken_before_pads (raw_model raw.now) ≡ [] }
     requires hardware { hardware_model hardware.now ≡ hardware_of (raw_model raw.now) }
+    requires calls { calls.now ≡ map own_calls (raw_model raw.now).domains }
     ensures verdict { IsVerdict result (spec.k17 (raw_model raw.now)) }
 {
-    let bound = bound(&shape_of(hardware)).total;
-    k17_entries(bound, raw.schedule.as_slice())
+    k17_entries(&shape_of(hardware), calls, raw.schedule.as_slice())
 }

@@ -1,4 +1,4 @@
-// What the rules before that of pads let through, tested in their order.
+// What the rules before that of pads let through, tested in their order; and the calls of each domain.
 ghost use Rattle.std.specs.Prelude.{◌≡◌, [], map, IfOk, IfErr, OnOk};
 ghost use Rattle.image_text.specs.Reads.{raw_model};
 ghost use Rattle.image_check.specs.Outcomes.{IsFirst};
@@ -11,13 +11,14 @@ ghost use Rattle.image_check.specs.Models.{hardware_model};
 use crate::CheckRefusal;
 use crate::own::DomainParts;
 use crate::schedule::k16;
-use domain_check::{k7, k8, k9, k10, k12, k13, k14, k15};
+use domain_check::{calls_in, k7, k8, k9, k10, k12, k13, k14, k15};
 use hardware_check::{Hardware, k3, k4, k5, k6, k11};
 use image_text::Raw;
 use sched_table::Entry;
 use std::alloc::Global;
 
-/// What the rules before that of pads let through of an image.
+/// What the rules before that of pads let through of an image, and the calls of
+/// each domain, whose rule comes later.
 #[derive(Drop)]
 pub struct Parts {
     pub hardware: Hardware,
@@ -53,6 +54,7 @@ pub fn parts_of(alloc: Global, raw: &Raw) -> Result<Parts, CheckRefusal>
     let lines = k14(alloc, raw)?;
     let moments = k15(alloc, raw)?;
     let schedule = k16(alloc, raw)?;
+    let calls = calls_in(alloc, raw)?;
     Ok(Parts {
         hardware,
         domains: DomainParts {
@@ -61,6 +63,7 @@ pub fn parts_of(alloc: Global, raw: &Raw) -> Result<Parts, CheckRefusal>
             caps,
             lines,
             moments,
+            calls,
         },
         schedule,
     })

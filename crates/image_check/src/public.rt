@@ -18,6 +18,8 @@ use tp_base::Memory;
 /// What all domains may know: the hardware, and the schedule.
 #[derive(Drop)]
 pub struct Public {
+    /// Of the image's format, 1 or 2.
+    pub version: u8,
     pub hardware: Hardware,
     pub schedule: Schedule,
     /// How many domains there are.
@@ -55,6 +57,7 @@ pub fn public_of(
     let schedule = schedule_of(alloc, entries)?;
     let domains = raw.domains.len() as u32;
     Ok(Public {
+        version: raw.version,
         hardware,
         schedule,
         domains,

@@ -24,7 +24,7 @@ fn is_number(many: usize, number: i64) -> bool
 
 #[tactic(auto, unfolding(crate::specs::Schedule::k16_case, crate::specs::Public::entry_of), using(crate::proofs::Entries::number_below, crate::proofs::Entries::number_natural, hardware_check::proofs::Parts::most_inside, hardware_check::proofs::Parts::natural_inside))]
 fn entry_in(domains: usize, place: usize, text: &RawEntry) -> Result<Entry, Refusal>
-    requires domains { domains ≤ 16 }
+    requires domains { domains ≤ 32 }
     requires place { place < 2 ^ 63 }
     ensures verdict { IsVerdict result (spec.k16_case domains place (entry_model text.now)) }
     ensures value { IfOk result (λ e. e ≡ entry_of (entry_model text.now)) }
@@ -47,7 +47,7 @@ fn entry_in(domains: usize, place: usize, text: &RawEntry) -> Result<Entry, Refu
 }
 
 fn entries_in(alloc: Global, domains: usize, texts: &[RawEntry]) -> Result<Vec<Entry>, CheckRefusal>
-    requires domains { domains ≤ 16 }
+    requires domains { domains ≤ 32 }
     ensures verdict { IsVerdictOrMemory result
         (cases.first_in (spec.k16_entry domains) (map entry_model texts.now)) }
     ensures value { IfOk result (λ v. v.items ≡ map entry_of (map entry_model texts.now)) }
@@ -59,8 +59,14 @@ fn entries_in(alloc: Global, domains: usize, texts: &[RawEntry]) -> Result<Vec<E
     Ok(entries)
 }
 
-/// K16: 1 to 64 entries, each of a domain that is there, a length and a pad; so
-/// the entries.
+fn most_entries(version: u8) -> usize
+    ensures value { result ≡ spec.most_entries version }
+{
+    if version == 1 { 64 } else { 256 }
+}
+
+/// K16: 1 to 64 entries, in the second version 256, each of a domain that is
+/// there, a length and a pad; so the entries.
 ///
 /// # Errors
 ///
@@ -72,6 +78,6 @@ pub fn k16(alloc: Global, raw: &Raw) -> Result<Vec<Entry>, CheckRefusal>
     ensures value { IfOk result (λ v. v.items ≡ map entry_of (raw_model raw.now).schedule) }
 {
     let texts = raw.schedule.as_slice();
-    count_case(16, 0, 1, 64, texts.len())?;
+    count_case(16, 0, 1, most_entries(raw.version), texts.len())?;
     entries_in(alloc, raw.domains.len(), texts)
 }

@@ -9,16 +9,18 @@ ghost use Rattle.image_check.specs.Outcomes.{IsFirst};
 ghost use Rattle.image_check.specs.Checking.{broken_but_pads};
 ghost use Rattle.image_check.specs.Public.{entry_of};
 ghost use Rattle.image_check.specs.Image.{image_from, own_of};
+ghost use Rattle.image_check.specs.Laws.{NamesDomains};
 ghost use Rattle.hardware_check.specs.Hardware.{hardware_of};
 ghost use Rattle.image_check.specs.Parts.{ArePartsOf};
 ghost use Rattle.image_check.specs.Models.{hardware_model, public_model, own_model};
 ghost use Rattle.image_check.specs.Pads as spec;
 
-use crate::CheckRefusal;
 use crate::own::{Own, owns_of};
 use crate::pads::shape_of;
 use crate::parts::{Parts, parts_of};
 use crate::public::{Public, public_of};
+use crate::{CheckRefusal, laws};
+use domain_check::k18;
 use hardware_check::k22;
 use image_text::Raw;
 use pad_bound::Shape;
@@ -50,15 +52,19 @@ impl Model for Unpadded {
 }
 
 impl Unpadded {
-    /// That it breaks no rule but that of pads.
+    /// That it breaks no rule but that of pads; so each entry is of one of its
+    /// domains.
     pub fn kept(&self)
         ensures ranges { InKeyRanges self.now }
         ensures kept { broken_but_pads self.now ≡ [] }
+        ensures named { NamesDomains (image_from self.now) }
     {
+        laws::named();
         let _ = &self.raw;
     }
 
-    /// What of its machine the bound on a switch depends on.
+    /// What of its machine the bound on a switch depends on, where a domain leaves
+    /// that may make every call.
     pub fn shape(&self) -> Shape
         ensures value { shape_model result ≡ spec.shape_of (image_from self.now).all.hardware }
         ensures sound { IsShape (shape_model result) }
@@ -67,14 +73,14 @@ impl Unpadded {
     }
 
     /// What all domains may know.
-    pub(crate) fn public(&self) -> &Public
+    pub fn public(&self) -> &Public
         ensures value { public_model result.now ≡ (image_from self.now).all }
     {
         &self.public
     }
 
-    /// What is domain `d`'s own.
-    pub(crate) fn own(&self, d: usize) -> &Own
+    /// What is domain `d`'s own; there are `public().domains` of them.
+    pub fn own(&self, d: usize) -> &Own
         requires domain { d < length (image_from self.now).owns }
         ensures value { own_model result.now ≡ own_of (image_from self.now) d }
     {
@@ -113,6 +119,7 @@ pub fn check_but_pads(alloc: Global, raw: Raw) -> Result<Unpadded, CheckRefusal>
     ensures same { IfOk result (λ u. u ≡ raw_model raw) }
 {
     let parts = parts_of(alloc, &raw)?;
+    k18(&raw)?;
     k22(&raw)?;
     image_of(alloc, raw, parts)
 }

@@ -1,5 +1,5 @@
 -- The image of every seed keeps each rule.
-use Rattle.std.proofs.Common.{◌≡◌, ℕ, zero, suc, ◌+◌, ◌-◌, ◌%◌, ◌<◌, ◌==◌, true, false, pos, List, [], ◌∷◌, ◌++◌, map, length, codes, flat_map, Option, Some, None, refl, sym, ap, subst, ◌⊎◌, inl, inr, arith, mod-lt, int_lt}
+use Rattle.std.proofs.Common.{◌≡◌, ℕ, zero, suc, ◌+◌, ◌-◌, ◌%◌, ◌<◌, ◌==◌, true, false, ℤ, pos, List, [], ◌∷◌, ◌++◌, map, length, codes, flat_map, Option, Some, None, refl, sym, ap, subst, ◌∙◌, ◌⊎◌, inl, inr, arith, mod-lt, int_lt}
 use Rattle.std.proofs.lemmas.Bool.{cases_Bool}
 use Rattle.std.proofs.lemmas.Bool.Decides.{nat_tests}
 use Rattle.std.specs.Prelude.{slice_get}
@@ -14,7 +14,7 @@ use Rattle.rand_pcg.specs.Lcg.{Lcg}
 use Rattle.frame_colours.specs.Colours.{pool}
 use Rattle.image_text.specs.Record.{Raw, RawDomain, RawEntry, RawMoment}
 use Rattle.hardware_check.specs.Cases.{or_else, first_case, first_in, outside}
-use Rattle.hardware_check.specs.Hardware.{hardware_of, shape_of, costs_of}
+use Rattle.hardware_check.specs.Hardware.{natural_of, hardware_of, shape_of, costs_of}
 use Rattle.hardware_check.specs.Rules.{k3, k4, k5, k6, k11, cache_case, ways_case, predictor_case, is_region, room_case}
 use Rattle.hardware_check.specs.Extensions.{k22}
 use Rattle.image_check.specs.Own.{segment_of}
@@ -26,8 +26,11 @@ use Rattle.domain_check.specs.Segments.{bytes_in, k12, k12_domain, segment_case,
 use Rattle.domain_check.specs.CapTexts.{cap_in, number_after}
 use Rattle.domain_check.specs.Capabilities.{k13, k13_case, k13_domain}
 use Rattle.domain_check.specs.Interrupts.{k14, k14_line, k15, k15_moment, k15_domain}
-use Rattle.image_check.specs.Pads.{bound_in, k17, k17_case, k17_entry}
-use Rattle.pad_bound.specs.Bound.{bound_of, worst_instruction, worst_operation, worst_leave, worst_prefetch, worst_flush, worst_enter}
+use Rattle.domain_check.specs.Calls.{calls_in, k18, k18_domain}
+use Rattle.kernel_clone.specs.Permissions.{may_make, every_call}
+use Rattle.image_check.specs.Own.{own_from, owns_of, own_at}
+use Rattle.image_check.specs.Pads.{shape_for, bound_out_of, k17, k17_case, k17_entry}
+use Rattle.pad_bound.specs.Bound.{most_written, bound_of, worst_instruction, worst_operation, worst_leave, worst_prefetch, worst_flush, worst_enter}
 use Rattle.image_check.specs.Laws.{Keeps}
 use Rattle.image_check.proofs.Kept.{acceptance_law}
 use Rattle.image_gen.specs.Words.{after, word}
@@ -178,9 +181,29 @@ extensions_kept : (p : List ℕ) (ds : List RawDomain) (es : List RawEntry) → 
 unfolding k22 image_with
 extensions_kept p ds es = refl
 
-bound_is : (p : List ℕ) (ds : List RawDomain) (es : List RawEntry) → bound_in (image_with p ds es) ≡ 6150
-unfolding bound_in image_with hardware_of shape_of costs_of bound_of worst_instruction worst_operation worst_leave worst_prefetch worst_flush worst_enter
+-- where a domain leaves that may make every call
+bound_is : (p : List ℕ) (ds : List RawDomain) (es : List RawEntry) → bound_of (shape_for (hardware_of (image_with p ds es)) every_call) ≡ 6150
+unfolding image_with hardware_of shape_of costs_of bound_of worst_instruction worst_operation worst_leave worst_prefetch worst_flush worst_enter most_written may_make
 bound_is p ds es = refl
+
+-- ---- calls
+
+module _ (h : ℕ → List ℕ) (m : ℕ → List RawMoment) where
+  every_one : (ks : List ℕ) (n : ℕ) → (own_at (map own_from (map (λ d. domain_with d (h d) (m d)) ks)) n).calls ≡ every_call
+  unfolding own_from domain_with calls_in
+  every_one [] n = refl
+  every_one (k ∷ ks) zero = refl
+  every_one (k ∷ ks) (suc n) = every_one ks n
+
+  bound_out : (p : List ℕ) (ks : List ℕ) (es : List RawEntry) (d : ℤ) → bound_out_of (image_with p (map (λ d. domain_with d (h d) (m d)) ks) es) d ≡ 6150
+  unfolding bound_out_of owns_of image_with
+  bound_out p ks es d =
+      let ds = map (λ d. domain_with d (h d) (m d)) ks in
+      ap (λ (calls : ℕ). bound_of (shape_for (hardware_of (image_with p ds es)) calls)) (every_one ks (natural_of d)) ∙ bound_is p ds es
+
+none_listed : (d : ℕ) (hex : List ℕ) (m : List RawMoment) (before : List RawDomain) → k18_domain before (domain_with d hex m) ≡ None
+unfolding domain_with
+none_listed d hex m before = refl
 
 -- ---- domains beside each other
 
@@ -241,16 +264,18 @@ pad_kept : (k w place : ℕ) → k17_case 6150 place (entry k w) ≡ None
 unfolding k17_case
 pad_kept k w place = refl
 
-pads_kept : (p : List ℕ) (ds : List RawDomain) (w : ℕ → ℕ) (n : ℕ) → k17 (image_with p ds (entries_by w n)) ≡ None
+pads_kept : (p : List ℕ) (h : ℕ → List ℕ) (m : ℕ → List RawMoment) (w : ℕ → ℕ) (n : ℕ) → k17 (image_with p (domains_by h m n) (entries_by w n)) ≡ None
 unfolding k17 image_with
-pads_kept p ds w n =
-    let P : ℕ → Type 0 = λ b. first_in (k17_entry b) (entries_by w n) ≡ None in
-    subst P (sym (bound_is p ds (entries_by w n))) (no_case (k17_entry 6150) [] (entries_by w n) (passes_map (k17_entry 6150) _ (λ k e. pad_kept k (w k) (length e)) (range_with_len 0 n)))
+pads_kept p h m w n =
+    let i = image_with p (domains_by h m n) (entries_by w n) in
+    let kept : (k : ℕ) (earlier : List RawEntry) → k17_entry i earlier (entry k (w k)) ≡ None =
+    λ k earlier. subst (λ b. k17_case b (length earlier) (entry k (w k)) ≡ None) (sym (bound_out h m p (range_with_len 0 n) (entries_by w n) (pos k))) (pad_kept k (w k) (length earlier)) in
+    no_case (k17_entry i) [] (entries_by w n) (passes_map (k17_entry i) _ kept (range_with_len 0 n))
 
 -- ---- all rules
 
 keeps : (seed : ℕ) → Keeps (generated seed)
-unfolding generated domains_of schedule_of image_with k12 k15
+unfolding generated domains_of schedule_of image_with k12 k15 k18
 keeps seed =
     let p = policy_of seed in
     let at : ℕ → Lcg = at_domain seed in
@@ -278,9 +303,10 @@ keeps seed =
           moments = no_case k15_domain [] ds (passes_map k15_domain _ (λ d e. moments_kept d (h d) (at d) e) ns);
           schedule = schedule_kept p h m w seed;
         };
+        calls = no_case k18_domain [] ds (passes_map k18_domain _ (λ d e. none_listed d (h d) (m d) e) ns);
         extensions = extensions_kept p ds es;
       };
-      pads = pads_kept p ds w (count seed);
+      pads = pads_kept p h m w (count seed);
     }
 
 pub accepted_law : AcceptedLaw

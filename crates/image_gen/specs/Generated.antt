@@ -30,6 +30,7 @@ domain_with d hex moments = record {
   caps = (codes "irq " ++ decimal d) ∷ [];
   lines = pos d ∷ [];
   moments = moments;
+  calls = None;
 }
 
 -- the first 64 words are the program's, the next 8 the interrupts'
@@ -72,9 +73,10 @@ costs = record {
   flush = pos 20;
 }
 
--- eight colours; no history, no products and no target buffer
+-- of the first version, with eight colours; no history, no products and no target buffer
 unfoldable pub image_with : List ℕ → List RawDomain → List RawEntry → Raw
 image_with policy domains schedule = record {
+  version = 1;
   frames = pos 128;
   shared = pos 512;
   line = pos 64;

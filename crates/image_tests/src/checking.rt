@@ -10,8 +10,10 @@ use pad_bound::bound;
 use std::alloc::Global;
 use std::process::Abort;
 
+mod calls;
 mod cases;
 mod extensions;
+mod limits;
 mod orders;
 
 // Red's code is three bytes, one fewer than an instruction has; blue's is `jal x0, 0`.
@@ -208,6 +210,7 @@ fn is_blue(rt: &impl Abort, own: &Own) {
     assert_eq!(rt; own.lines.as_slice(), [7, 3].as_slice());
     let moments = [Moment { at: 9000, line: 3 }, Moment { at: 9000, line: 7 }];
     assert_eq!(rt; own.moments.as_slice(), moments.as_slice());
+    assert_eq!(rt; own.calls, 0x7fff);
 }
 
 fn shape(sets: u32, ways: u32) -> CacheShape {
@@ -262,7 +265,10 @@ fn an_image_is_accepted(rt: HostRuntime) -> Result<(), CheckRefusal> {
         pad: 1_000_000,
         hart: 0,
     };
-    assert_eq!(rt; (public.domains, public.hardware), (2, hardware));
+    assert_eq!(rt;
+        (public.version, public.domains, public.hardware),
+        (1, 2, hardware)
+    );
     assert_eq!(rt; public.schedule.len(), 2);
     assert_eq!(rt; public.schedule.entry(1), last);
     assert_eq!(rt; public.domains, 2);

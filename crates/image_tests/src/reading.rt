@@ -9,6 +9,7 @@ use std::test::Fail;
 
 mod refusal;
 mod unknown;
+mod versions;
 
 const IMAGE: &str = r#"frames = 64
 shared = 512
@@ -179,9 +180,14 @@ fn answer(alloc: Global, bytes: &[u8]) -> Result<Option<Refusal>, ReadRefusal> {
     }
 }
 
-// The answer to the image with one text in the place of another.
-fn answer_to(alloc: Global, old: &str, new: &str) -> Result<Option<Refusal>, ReadRefusal> {
-    let text = IMAGE.replace(alloc, old, new)?;
+// The answer to an image with one text in the place of another.
+fn answer_to(
+    alloc: Global,
+    image: &str,
+    old: &str,
+    new: &str,
+) -> Result<Option<Refusal>, ReadRefusal> {
+    let text = image.replace(alloc, old, new)?;
     answer(alloc, text.as_bytes())
 }
 
@@ -189,7 +195,7 @@ fn answer_to(alloc: Global, old: &str, new: &str) -> Result<Option<Refusal>, Rea
 fn with_segments(alloc: Global, many: usize) -> Result<Option<Refusal>, ReadRefusal> {
     let mut segments = SMALL_SEGMENT.repeat(alloc, many)?;
     segments.push_str(BLUE_SEGMENT)?;
-    answer_to(alloc, BLUE_SEGMENT, segments.as_str())
+    answer_to(alloc, IMAGE, BLUE_SEGMENT, segments.as_str())
 }
 
 fn by(rule: u8, at: i64, found: i64) -> Option<Refusal> {
@@ -206,34 +212,52 @@ fn expect(rt: &impl Abort, found: Result<Option<Refusal>, ReadRefusal>, wanted: 
     assert_eq!(rt; found, Ok(wanted));
 }
 
-fn expect_of(rt: &impl Abort, alloc: Global, old: &str, new: &str, wanted: Option<Refusal>) {
-    assert_eq!(rt; answer_to(alloc, old, new), Ok(wanted), "{old} to {new}");
+fn expect_of(
+    rt: &impl Abort,
+    alloc: Global,
+    image: &str,
+    old: &str,
+    new: &str,
+    wanted: Option<Refusal>,
+) {
+    assert!(rt; image.contains(old), "{old} is none of the image");
+    assert_eq!(rt;
+        answer_to(alloc, image, old, new),
+        Ok(wanted),
+        "{old} to {new}"
+    );
 }
 
-fn all_break(rt: &impl Abort, alloc: Global, changes: &[Change]) {
+fn all_break(rt: &impl Abort, alloc: Global, image: &str, changes: &[Change]) {
     for &(old, new, row, found) in changes {
-        expect_of(rt, alloc, old, new, by(2, row, found));
+        expect_of(rt, alloc, image, old, new, by(2, row, found));
     }
 }
 
 #[test]
 fn a_broken_row_is_named(rt: HostRuntime) {
     let alloc = rt.alloc();
-    all_break(&rt, alloc, &OF_THE_MACHINE);
-    all_break(&rt, alloc, &OF_DOMAINS);
-    all_break(&rt, alloc, &OF_ENTRIES);
-    all_break(&rt, alloc, &OF_OTHER_KEYS);
-    all_break(&rt, alloc, &OF_LATER_KEYS);
+    all_break(&rt, alloc, IMAGE, &OF_THE_MACHINE);
+    all_break(&rt, alloc, IMAGE, &OF_DOMAINS);
+    all_break(&rt, alloc, IMAGE, &OF_ENTRIES);
+    all_break(&rt, alloc, IMAGE, &OF_OTHER_KEYS);
+    all_break(&rt, alloc, IMAGE, &OF_LATER_KEYS);
     expect(&rt, with_segments(alloc, 16), by(2, 14, 1));
     expect(&rt, answer(alloc, b""), by(2, 1, 0));
     expect(&rt, answer(alloc, b"frames = "), by(1, 0, 0));
     expect(&rt, answer(alloc, b"frames = 64 # \xff"), by(1, 0, 0));
-    expect_of(&rt, alloc, "= 64", "= 9223372036854775808", by(1, 0, 0));
+    expect_of(
+        &rt,
+        alloc,
+        IMAGE,
+        "= 64",
+        "= 9223372036854775808",
+        by(1, 0, 0),
+    );
 }
 
 fn is_read(rt: &impl Abort, alloc: Global, old: &str, new: &str) {
-    assert!(rt; IMAGE.contains(old), "{old} is none of the image");
-    expect_of(rt, alloc, old, new, None);
+    expect_of(rt, alloc, IMAGE, old, new, None);
 }
 
 #[test]

@@ -3,4 +3,5 @@ pub mod Counts
 pub mod KeyRows
 pub mod WholeRows
 pub mod Ranges
+pub mod Calls
 pub mod Numbers

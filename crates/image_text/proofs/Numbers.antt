@@ -1,15 +1,16 @@
 -- The numbers of an image that is read are those of its text.
-use Rattle.std.proofs.Common.{◌≡◌, ℕ, ◌&&◌, nat_le, pos, negsuc, Bool, true, false, List, ◌∷◌, take, drop, codes, Option, Some, None, option_map, Ok, IfOk, refl, sym, subst, ap, ◌∙◌, inl, inr}
-use Rattle.std.proofs.lemmas.Bool.{and_parts, true≢false}
+use Rattle.std.proofs.Common.{◌≡◌, ℕ, zero, suc, if◌then◌else◌, ◌⊎◌, ◌&&◌, nat_le, pos, negsuc, Bool, true, false, List, ◌∷◌, take, drop, codes, Option, Some, None, option_map, Ok, IfOk, refl, sym, subst, ap, ◌∙◌, inl, inr, arith}
+use Rattle.std.proofs.lemmas.Bool.{leb-true, and_parts, true≢false}
 use Rattle.std.proofs.lemmas.Result.{IfOk-at_ok}
 use Rattle.toml.specs.Data.{Data, Items, no_items, item, Members, get_member, as_integer, as_array, as_table}
-use Rattle.image_text.specs.Rows.{Row, Field, Kind, One, Array, SomeTables, Pairs, Fields, needs, may_have, integer, fits_one, all_items, count_items, some_tables, is_pair, is_pair_value, in_array, has_one, has_field, has_all, in_fields, cache_fields, cost_fields, muldiv_fields, fits, fits_if, whole_in, whole_item, whole_segments, items_or_none, items_at, broken_in, Broken, first_broken, key_rows}
+use Rattle.image_text.specs.Rows.{Row, Field, Kind, One, Array, SomeTables, Pairs, Fields, needs, may_have, integer, version_from, version_of, fits_one, all_items, count_items, some_tables, is_pair, is_pair_value, in_array, has_one, has_field, has_all, in_fields, cache_fields, cost_fields, muldiv_fields, fits, fits_if, whole_in, whole_item, whole_segments, items_or_none, items_at, broken_in, Broken, first_broken, key_rows}
 use Rattle.image_text.specs.Unknown.{broken_key}
-use Rattle.image_text.specs.Record.{integer_of, integer_at, ranged, map_items, table_of, cache_of, costs_of, muldiv_of, muldiv_at, integer_if, targets_at, table_if, segment_of, segment_in, moment_in, domain_of, domain_in, entry_of, entry_in, record_of, read_whole, read_table, image_of}
-use Rattle.image_text.specs.Numbers.{IsInteger, IntegerAt, IntegerOrZeroAt, IntegerIfAt, TableAt, TableIfAt, Each, ArrayAt, ArrayIfAt, IsTableOf, CacheNumbers, CostNumbers, MuldivNumbers, SegmentNumbers, IsMoment, DomainNumbers, EntryNumbers, Numbers, NumbersLaw}
+use Rattle.image_text.specs.Record.{integer_of, integer_at, ranged, map_items, table_of, cache_of, costs_of, muldiv_of, muldiv_at, integer_if, targets_at, table_if, items_if, integers_in, segment_of, segment_in, moment_in, domain_of, domain_in, entry_of, entry_in, record_of, read_whole, read_table, image_of}
+use Rattle.image_text.specs.Numbers.{IsInteger, IntegerAt, IntegerOrZeroAt, IntegerIfAt, TableAt, TableIfAt, Each, ArrayAt, ArrayIfAt, IsTableOf, VersionAt, ArrayOrNoneAt, CacheNumbers, CostNumbers, MuldivNumbers, SegmentNumbers, IsMoment, DomainNumbers, EntryNumbers, Numbers, NumbersLaw}
 use Rattle.image_text.specs.declared.kinds.Simple.TheVariants.{Integer, Within, Table}
 use Rattle.image_text.specs.declared.kinds.Place.TheVariants.{Top as TopPlace, Domain as DomainPlace, Segment as SegmentPlace, Entry as EntryPlace}
-use Rattle.image_text.proofs.WholeRows.{all_pass, holds_if, whole_from, first_whole, rows_whole, later_whole}
+use Rattle.image_text.proofs.WholeRows.{all_pass, holds_if, whole_from, first_whole, rows_whole, later_whole_first, versions}
+use Rattle.image_text.proofs.Calls.{calls_row, calls_whole}
 
 -- ---- values
 
@@ -87,6 +88,36 @@ moment_here (Data.boolean b) h = no h
 moment_here (Data.datetime t) h = no h
 moment_here (Data.table t) h = no h
 
+-- ---- the version
+
+one_of_two : (n : ℕ) → nat_le 1 n && nat_le n 2 ≡ true → n ≡ (if nat_le 1 n && nat_le n 1 then 1 else 2)
+one_of_two zero h = no h
+one_of_two (suc zero) h = refl
+one_of_two (suc (suc zero)) h = refl
+one_of_two (suc (suc (suc n))) h =
+    let both = and_parts (nat_le 1 (suc (suc (suc n)))) (nat_le (suc (suc (suc n))) 2) h in
+    let most = leb-true (suc (suc (suc n))) 2 both.1 in
+    absurd (omega (arith, most))
+
+version_here : (d : Data) → fits_one (Within 1 2) d ≡ true → IsInteger d (pos (version_from (Some d)))
+version_here (Data.integer (pos n)) h = ap (λ m. Data.integer (pos m)) (one_of_two n h)
+version_here (Data.integer (negsuc n)) h = no h
+version_here (Data.string s) h = no h
+version_here (Data.float x) h = no h
+version_here (Data.boolean b) h = no h
+version_here (Data.datetime t) h = no h
+version_here (Data.array ds) h = no h
+version_here (Data.table t) h = no h
+
+version_found : (t : Members) (o : Option Data) → get_member (codes "version") t ≡ o → (version_of t ≡ 1) ⊎ (version_of t ≡ 2)
+    → fits_if false (One (Within 1 2)) o ≡ true → VersionAt t (version_of t)
+unfolding fits
+version_found t None e is h = inl (e, ap version_from e)
+version_found t (Some d) e is h =
+    let same : version_from (Some d) ≡ version_of t = ap version_from (sym e) in
+    let here : d ≡ Data.integer (pos (version_of t)) = version_here d h ∙ ap (λ n. Data.integer (pos n)) same in
+    inr (e ∙ ap (λ x. Some x) here, is)
+
 -- ---- items
 
 abbrev AllOf : (Data → Type 0) → Items → Type 0
@@ -141,6 +172,9 @@ fields_at fields key t P one h =
     let full : get_member key t ≡ Some (Data.table f.table) = s.is ∙ ap (λ d. Some d) f.is in
     record { table = f.table; stands = full; holds = subst (λ o. P (table_of o) f.table) (sym full) (one f.table f.holds) }
 
+integers_each : (ds : Items) → all_items (fits_one Integer) ds ≡ true → Each IsInteger ds (integers_in ds)
+integers_each ds h = each_of (λ d. fits_one Integer d ≡ true) (λ d. integer_of (Some d)) IsInteger integer_here ds (all_of (fits_one Integer) ds h)
+
 -- ---- at a key that may be missing
 
 module _ (key : List ℕ) (t : Members) where
@@ -166,6 +200,22 @@ module _ (key : List ℕ) (t : Members) where
   unfolding fits
   integer_if_found None e h = e
   integer_if_found (Some d) e h = integer_if_here d e h
+
+  array_or_none_here : (d : Data) → get_member key t ≡ Some d → in_array (all_items (fits_one Integer)) (as_array d) ≡ true
+      → ArrayOrNoneAt key t IsInteger (option_map integers_in (as_array d))
+  array_or_none_here (Data.array ds) e h = record { items = ds; stands = e; each = integers_each ds h }
+  array_or_none_here (Data.integer z) e h = no h
+  array_or_none_here (Data.string s) e h = no h
+  array_or_none_here (Data.float x) e h = no h
+  array_or_none_here (Data.boolean b) e h = no h
+  array_or_none_here (Data.datetime u) e h = no h
+  array_or_none_here (Data.table u) e h = no h
+
+  array_or_none : (o : Option Data) → get_member key t ≡ o → fits_if false (Array Integer) o ≡ true
+      → ArrayOrNoneAt key t IsInteger (option_map integers_in (items_if o))
+  unfolding fits
+  array_or_none None e h = e
+  array_or_none (Some d) e h = array_or_none_here d e h
 
   table_if_here : {A : Type 0} (fields : List Field) (make : Members → A) (P : A → Members → Type 0)
       → ((u : Members) → has_all fields u ≡ true → P (make u) u)
@@ -201,9 +251,6 @@ module _ {A : Type 0} (key : List ℕ) (t : Members) (kind : Kind) (p : Items �
   array_if : (o : Option Data) → get_member key t ≡ o → fits_if false kind o ≡ true → ArrayIfAt key t Is (map_items f (items_at key t))
   array_if None e h = inl (e, ap (λ o. map_items f (items_or_none o)) e)
   array_if (Some d) e h = inr (array_at (subst (λ o. fits_if true kind o ≡ true) (sym e) h))
-
-integers_each : (ds : Items) → all_items (fits_one Integer) ds ≡ true → Each IsInteger ds (map_items (λ d. integer_of (Some d)) ds)
-integers_each ds h = each_of (λ d. fits_one Integer d ≡ true) (λ d. integer_of (Some d)) IsInteger integer_here ds (all_of (fits_one Integer) ds h)
 
 moments_each : (ds : Items) → all_items is_pair_value ds ≡ true → Each IsMoment ds (map_items moment_in ds)
 moments_each ds h = each_of (λ d. is_pair_value d ≡ true) moment_in IsMoment moment_here ds (all_of is_pair_value ds h)
@@ -305,6 +352,7 @@ record Whole (t : Members) : Type 0 where
   pages : all_items (whole_item pages_row) (items_at (codes "segment") t) ≡ true
   lines : whole_in lines_row t ≡ true
   moments : whole_in moments_row t ≡ true
+  calls : whole_in calls_row t ≡ true
 
 domain_numbers : (u : Members) → Whole u → DomainNumbers u (domain_of u)
 unfolding whole_in fits domain_of
@@ -315,6 +363,7 @@ domain_numbers u w = record {
       (λ ds same h. segments_each ds h (subst (λ x. all_items (whole_item page_row) x ≡ true) same w.page) (subst (λ x. all_items (whole_item pages_row) x ≡ true) same w.pages)) w.segment;
   lines = array_if (codes "lines") u (Array Integer) (all_items (fits_one Integer)) (λ d. integer_of (Some d)) IsInteger (λ d h. h) (λ ds same h. integers_each ds h) (get_member (codes "lines") u) refl w.lines;
   moments = array_if (codes "moments") u Pairs (all_items is_pair_value) moment_in IsMoment (λ d h. h) (λ ds same h. moments_each ds h) (get_member (codes "moments") u) refl w.moments;
+  calls = array_or_none (codes "calls") u (get_member (codes "calls") u) refl w.calls;
 }
 
 -- the same of an item of the array of domains
@@ -326,11 +375,12 @@ record WholeItem (d : Data) : Type 0 where
   pages : whole_segments pages_row d ≡ true
   lines : whole_item lines_row d ≡ true
   moments : whole_item moments_row d ≡ true
+  calls : whole_item calls_row d ≡ true
 
 domain_here : (d : Data) → (fits_one Table d ≡ true) × WholeItem d → IsTableOf DomainNumbers d (domain_in d)
 unfolding whole_item whole_segments
 domain_here (Data.table u) w =
-    domain_numbers u (record { colours = w.1.colours; entry = w.1.entry; segment = w.1.segment; page = w.1.page; pages = w.1.pages; lines = w.1.lines; moments = w.1.moments })
+    domain_numbers u (record { colours = w.1.colours; entry = w.1.entry; segment = w.1.segment; page = w.1.page; pages = w.1.pages; lines = w.1.lines; moments = w.1.moments; calls = w.1.calls })
 domain_here (Data.array ds) w = no w.0
 domain_here (Data.string s) w = no w.0
 domain_here (Data.integer z) w = no w.0
@@ -346,6 +396,7 @@ record WholeItems (ds : Items) : Type 0 where
   pages : all_items (whole_segments pages_row) ds ≡ true
   lines : all_items (whole_item lines_row) ds ≡ true
   moments : all_items (whole_item moments_row) ds ≡ true
+  calls : all_items (whole_item calls_row) ds ≡ true
 
 whole_items : (ds : Items) → WholeItems ds → AllOf WholeItem ds
 whole_items no_items w = tt
@@ -356,9 +407,10 @@ whole_items (item d ds) w =
     let page = and_parts (whole_segments page_row d) (all_items (whole_segments page_row) ds) w.page in
     let pages = and_parts (whole_segments pages_row d) (all_items (whole_segments pages_row) ds) w.pages in
     let lines = and_parts (whole_item lines_row d) (all_items (whole_item lines_row) ds) w.lines in
-    let moments = and_parts (whole_item moments_row d) (all_items (whole_item moments_row) ds) w.moments in (
-      record { colours = colours.0; entry = entry.0; segment = segment.0; page = page.0; pages = pages.0; lines = lines.0; moments = moments.0 },
-      whole_items ds (record { colours = colours.1; entry = entry.1; segment = segment.1; page = page.1; pages = pages.1; lines = lines.1; moments = moments.1 }),
+    let moments = and_parts (whole_item moments_row d) (all_items (whole_item moments_row) ds) w.moments in
+    let calls = and_parts (whole_item calls_row d) (all_items (whole_item calls_row) ds) w.calls in (
+      record { colours = colours.0; entry = entry.0; segment = segment.0; page = page.0; pages = pages.0; lines = lines.0; moments = moments.0; calls = calls.0 },
+      whole_items ds (record { colours = colours.1; entry = entry.1; segment = segment.1; page = page.1; pages = pages.1; lines = lines.1; moments = moments.1; calls = calls.1 }),
     )
 
 domains_each : (ds : Items) → all_items (fits_one Table) ds ≡ true → WholeItems ds → Each (IsTableOf DomainNumbers) ds (map_items domain_in ds)
@@ -406,7 +458,8 @@ entries_each ds tables domain length pad =
 -- ---- the rows of the table
 
 module _ (t : Members) (whole : first_broken 1 (take 25 key_rows) t ≡ None)
-    (later : first_broken 1 (drop 25 key_rows) t ≡ None) where
+    (later : first_broken 1 (drop 25 key_rows) t ≡ None)
+    (of_calls : all_items (whole_item calls_row) (items_at (codes "domain") t) ≡ true) where
   -- row n + 1
   row : (n : ℕ) (r : Row) (rest : List Row) → drop n (take 25 key_rows) ≡ r ∷ rest → broken_in 1 r t ≡ None
   row n r rest e = first_whole 1 r rest t (subst (λ rows. first_broken 1 rows t ≡ None) e (whole_from 1 n (take 25 key_rows) t whole))
@@ -417,6 +470,10 @@ module _ (t : Members) (whole : first_broken 1 (take 25 key_rows) t ≡ None)
   later_row n r rest e =
       let from = subst (λ rows. first_broken 1 rows t ≡ None) e (whole_from 1 n (drop 25 key_rows) t later) in
       first_whole 1 r rest t from
+
+  version : broken_in 1 (may_have 28 TopPlace (codes "version") (One (Within 1 2))) t ≡ None → VersionAt t (version_of t)
+  unfolding broken_in whole_in
+  version h = version_found t (get_member (codes "version") t) refl (versions t) (holds_if _ h)
 
   history : broken_in 1 (may_have 30 TopPlace (codes "history") (One Integer)) t ≡ None
       → IntegerOrZeroAt (codes "history") t (integer_at (codes "history") t)
@@ -474,6 +531,7 @@ module _ (t : Members) (whole : first_broken 1 (take 25 key_rows) t ≡ None)
     pages = of_segments 16 (codes "pages") (One (Within 1 64)) (row 15 pages_row _ refl);
     lines = of_domains 20 (codes "lines") false (Array Integer) (row 19 lines_row _ refl);
     moments = of_domains 21 (codes "moments") false Pairs (row 20 moments_row _ refl);
+    calls = of_calls;
   }
 
   domains : ArrayAt (codes "domain") t (IsTableOf DomainNumbers) (map_items domain_in (items_at (codes "domain") t))
@@ -493,6 +551,7 @@ module _ (t : Members) (whole : first_broken 1 (take 25 key_rows) t ≡ None)
   numbers : Numbers t (record_of t)
   unfolding key_rows record_of
   numbers = record {
+    version = version (later_row 0 (may_have 28 TopPlace (codes "version") (One (Within 1 2))) _ refl);
     frames = number (codes "frames") 1 (row 0 (needs 1 TopPlace (codes "frames") (One Integer)) _ refl);
     shared = number (codes "shared") 2 (row 1 (needs 2 TopPlace (codes "shared") (One Integer)) _ refl);
     line = number (codes "line") 3 (row 2 (needs 3 TopPlace (codes "line") (One Integer)) _ refl);
@@ -501,10 +560,10 @@ module _ (t : Members) (whole : first_broken 1 (take 25 key_rows) t ≡ None)
     l2 = cache (codes "l2") 6 (row 5 (needs 6 TopPlace (codes "l2") (Fields cache_fields)) _ refl);
     tlb = cache (codes "tlb") 7 (row 6 (needs 7 TopPlace (codes "tlb") (Fields cache_fields)) _ refl);
     predictor = number (codes "predictor") 8 (row 7 (needs 8 TopPlace (codes "predictor") (One Integer)) _ refl);
-    history = history (later_row 0 (may_have 30 TopPlace (codes "history") (One Integer)) _ refl);
+    history = history (later_row 2 (may_have 30 TopPlace (codes "history") (One Integer)) _ refl);
     costs = costs (row 8 (needs 9 TopPlace (codes "costs") (Fields cost_fields)) _ refl);
-    muldiv = muldiv (later_row 1 (may_have 37 TopPlace (codes "muldiv") (Fields muldiv_fields)) _ refl);
-    targets = targets (later_row 2 (may_have 38 TopPlace (codes "targets") (One Integer)) _ refl);
+    muldiv = muldiv (later_row 3 (may_have 37 TopPlace (codes "muldiv") (Fields muldiv_fields)) _ refl);
+    targets = targets (later_row 4 (may_have 38 TopPlace (codes "targets") (One Integer)) _ refl);
     domains = domains;
     schedule = schedule;
   }
@@ -512,7 +571,7 @@ module _ (t : Members) (whole : first_broken 1 (take 25 key_rows) t ≡ None)
 -- ---- the image that bytes are
 
 of_whole : (t : Members) (b : Option Broken) → broken_key t ≡ b → IfOk (read_whole t b) (Numbers t)
-of_whole t None h = numbers t (rows_whole t h) (later_whole t h)
+of_whole t None h = numbers t (rows_whole t h) (later_whole_first t h) (calls_whole t h)
 of_whole t (Some b) h = tt
 
 pub numbers_law : NumbersLaw

@@ -35,7 +35,7 @@ each_at f P none q each (item d ds) zero = each d
 each_at f P none q each (item d ds) (suc k) = each_at f P none q each ds k
 
 -- and what holds of each value whose item passes, where all pass
-passing_at : {A : Type 0} (test : Data → Bool) (f : Data → A) (P : A → Type 0) (none : A) → P none → ((d : Data) → test d ≡ true → P (f d))
+pub passing_at : {A : Type 0} (test : Data → Bool) (f : Data → A) (P : A → Type 0) (none : A) → P none → ((d : Data) → test d ≡ true → P (f d))
     → (ds : Items) → all_items test ds ≡ true → (k : ℕ) → P (slice_index_or (map_items f ds) k none)
 passing_at test f P none q each no_items h k = q
 passing_at test f P none q each (item d ds) h zero = each d (and_parts (test d) (all_items test ds) h).0

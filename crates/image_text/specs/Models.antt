@@ -1,5 +1,5 @@
 -- How contracts see the code's rows, and the parts of its record.
-use Rattle.std.specs.Prelude.{map, string_bytes}
+use Rattle.std.specs.Prelude.{map, option_map, string_bytes}
 use Rattle.image_text.specs.Record as record_spec
 use Rattle.image_text.specs.Rows as spec
 use Rattle.image_text.specs.declared.rows.Row.{Row}
@@ -69,6 +69,7 @@ domain_model d = record {
   caps = map (λ s. string_bytes s) d.caps.items;
   lines = d.lines.items;
   moments = map moment_model d.moments.items;
+  calls = option_map (λ v. v.items) d.calls;
 }
 
 abbrev pub entry_model : RawEntry → record_spec.RawEntry

@@ -21,6 +21,10 @@ pub record TableAt (key : List ℕ) (t : Members) (P : Members → Type 0) : Typ
 abbrev pub IntegerOrZeroAt : List ℕ → Members → ℤ → Type 0
 IntegerOrZeroAt key t z = ((get_member key t ≡ None) × (z ≡ pos 0)) ⊎ IntegerAt key t z
 
+-- one of the two versions; where it is missing, the first
+abbrev pub VersionAt : Members → ℕ → Type 0
+VersionAt t v = ((get_member (codes "version") t ≡ None) × (v ≡ 1)) ⊎ (IntegerAt (codes "version") t (pos v) × ((v ≡ 1) ⊎ (v ≡ 2)))
+
 -- where it is missing, there is no number, and no part
 abbrev pub IntegerIfAt : List ℕ → Members → Option ℤ → Type 0
 IntegerIfAt key t None = get_member key t ≡ None
@@ -44,6 +48,11 @@ pub record ArrayAt {A : Type 0} (key : List ℕ) (t : Members) (Is : Data → A 
 -- where it is missing, the list is empty
 abbrev pub ArrayIfAt : {A : Type 0} → List ℕ → Members → (Data → A → Type 0) → List A → Type 0
 ArrayIfAt key t Is xs = ((get_member key t ≡ None) × (xs ≡ [])) ⊎ ArrayAt key t Is xs
+
+-- where it is missing, there is no list
+abbrev pub ArrayOrNoneAt : {A : Type 0} → List ℕ → Members → (Data → A → Type 0) → Option (List A) → Type 0
+ArrayOrNoneAt key t Is None = get_member key t ≡ None
+ArrayOrNoneAt key t Is (Some xs) = ArrayAt key t Is xs
 
 abbrev pub IsTableOf : {A : Type 0} → (Members → A → Type 0) → Data → A → Type 0
 IsTableOf P (Data.table t) x = P t x
@@ -83,6 +92,7 @@ pub record DomainNumbers (t : Members) (o : RawDomain) : Type 0 where
   pub segments : ArrayAt (codes "segment") t (IsTableOf SegmentNumbers) o.segments
   pub lines : ArrayIfAt (codes "lines") t IsInteger o.lines
   pub moments : ArrayIfAt (codes "moments") t IsMoment o.moments
+  pub calls : ArrayOrNoneAt (codes "calls") t IsInteger o.calls
 
 pub record EntryNumbers (t : Members) (e : RawEntry) : Type 0 where
   pub domain : IntegerAt (codes "domain") t e.domain
@@ -92,6 +102,7 @@ pub record EntryNumbers (t : Members) (e : RawEntry) : Type 0 where
 -- ---- the image
 
 pub record Numbers (t : Members) (i : Raw) : Type 0 where
+  pub version : VersionAt t i.version
   pub frames : IntegerAt (codes "frames") t i.frames
   pub shared : IntegerAt (codes "shared") t i.shared
   pub line : IntegerAt (codes "line") t i.line

@@ -21,6 +21,7 @@ Agrees model (Err (Broken r)) found = found ≡ Err r
 
 abbrev pub raw_model : Raw → spec.Raw
 raw_model r = record {
+  version = r.version;
   frames = r.frames;
   shared = r.shared;
   line = r.line;

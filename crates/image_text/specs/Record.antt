@@ -1,9 +1,9 @@
 -- The record of an image's table. What is missing, or of another type, reads as zero or empty, and a number outside its row's range as the least of it: the key table says where something is.
 use Rattle.std.specs.Prelude.{◌≡◌, ℕ, ◌<◌, ◌≤◌, ◌^◌, ◌&&◌, nat_le, ℤ, pos, negsuc, if◌then◌else◌, List, [], ◌∷◌, length, codes, slice_index_or, Option, Some, None, option_map, Result, Ok, Err}
 use Rattle.std.specs.Str.{is_utf8}
-use Rattle.toml.specs.Data.{Data, Items, no_items, item, Members, no_members, get_member, as_integer, as_table}
+use Rattle.toml.specs.Data.{Data, Items, no_items, item, Members, no_members, get_member, as_integer, as_array, as_table}
 use Rattle.toml.specs.Parse.{parse_document}
-use Rattle.image_text.specs.Rows.{items_or_none, items_at, Broken}
+use Rattle.image_text.specs.Rows.{items_or_none, items_at, version_of, Broken}
 use Rattle.image_text.specs.Unknown.{broken_key}
 use Rattle.image_text.specs.declared.refusal.Refusal.{Refusal}
 
@@ -51,6 +51,7 @@ pub record RawDomain : Type 0 where
   pub caps : List (List ℕ)
   pub lines : List ℤ
   pub moments : List RawMoment
+  pub calls : Option (List ℤ)  -- those that it may make; none: all
 
 pub record RawEntry : Type 0 where
   pub domain : ℤ
@@ -58,6 +59,7 @@ pub record RawEntry : Type 0 where
   pub pad : ℤ
 
 pub record Raw : Type 0 where
+  pub version : ℕ  -- of the format, 1 or 2
   pub frames : ℤ
   pub shared : ℤ
   pub line : ℤ
@@ -101,7 +103,7 @@ natural_at key low high t = ranged low high (integer_at key t)
 abbrev pub text_at : List ℕ → Members → List ℕ
 text_at key t = text_of (get_member key t)
 
--- the integer, or the table, if there is one
+-- the integer, the table or the array, if there is one
 abbrev pub integer_if : Option Data → Option ℤ
 integer_if (Some d) = as_integer d
 integer_if None = None
@@ -110,13 +112,24 @@ abbrev pub table_if : Option Data → Option Members
 table_if (Some d) = as_table d
 table_if None = None
 
+abbrev pub items_if : Option Data → Option Items
+items_if (Some d) = as_array d
+items_if None = None
+
 abbrev pub map_items : {A : Type 0} → (Data → A) → Items → List A
 map_items f no_items = []
 map_items f (item d ds) = f d ∷ map_items f ds
 
 -- the integers, or the texts, of an array
+abbrev pub integers_in : Items → List ℤ
+integers_in ds = map_items (λ d. integer_of (Some d)) ds
+
 abbrev pub integers_at : List ℕ → Members → List ℤ
-integers_at key t = map_items (λ d. integer_of (Some d)) (items_at key t)
+integers_at key t = integers_in (items_at key t)
+
+-- the integers of the array, if there is one
+abbrev pub integers_if_at : List ℕ → Members → Option (List ℤ)
+integers_if_at key t = option_map integers_in (items_if (get_member key t))
 
 abbrev pub texts_at : List ℕ → Members → List (List ℕ)
 texts_at key t = map_items (λ d. text_of (Some d)) (items_at key t)
@@ -186,6 +199,7 @@ domain_of t = record {
   caps = texts_at (codes "caps") t;
   lines = integers_at (codes "lines") t;
   moments = map_items moment_in (items_at (codes "moments") t);
+  calls = integers_if_at (codes "calls") t;
 }
 
 abbrev pub domain_in : Data → RawDomain
@@ -199,6 +213,7 @@ entry_in d = entry_of (table_of (Some d))
 
 unfoldable pub record_of : Members → Raw
 record_of t = record {
+  version = version_of t;
   frames = integer_at (codes "frames") t;
   shared = integer_at (codes "shared") t;
   line = integer_at (codes "line") t;
@@ -252,7 +267,7 @@ abbrev pub no_raw_segment : RawSegment
 no_raw_segment = record { page = 0; pages = 1; rights = []; hex = [] }
 
 abbrev pub no_raw_domain : RawDomain
-no_raw_domain = record { name = []; colours = []; entry = 0; segments = []; caps = []; lines = []; moments = [] }
+no_raw_domain = record { name = []; colours = []; entry = 0; segments = []; caps = []; lines = []; moments = []; calls = None }
 
 abbrev pub raw_domain : List RawDomain → ℕ → RawDomain
 raw_domain domains d = slice_index_or domains d no_raw_domain
@@ -268,6 +283,10 @@ pub record AreInKeyRanges (domains : List RawDomain) : Type 0 where
 
 abbrev pub InKeyRanges : Raw → Type 0
 InKeyRanges i = AreInKeyRanges i.domains
+
+-- in the first version no domain says which calls it may make
+abbrev pub FirstVersionLaw : Type 0
+FirstVersionLaw = (bytes : List ℕ) (i : Raw) → image_of bytes ≡ Ok i → i.version ≡ 1 → (d : ℕ) → (raw_domain i.domains d).calls ≡ None
 
 -- of every image that bytes are
 abbrev pub RangesLaw : Type 0

@@ -99,6 +99,10 @@ needs number place key kind = record { number = number; since = 1; place = place
 abbrev pub may_have : ℕ → Place → List ℕ → Kind → Row
 may_have number place key kind = record { number = number; since = 1; place = place; needed = false; key = key; kind = kind }
 
+-- a key of the second version alone
+abbrev pub may_have_2 : ℕ → Place → List ℕ → Kind → Row
+may_have_2 number place key kind = record { number = number; since = 2; place = place; needed = false; key = key; kind = kind }
+
 abbrev pub integer : List ℕ → Field
 integer key = record { key = key; simple = Integer }
 
@@ -139,14 +143,20 @@ key_rows =
     ∷ needs 23 Entry (codes "domain") (One Integer)
     ∷ needs 24 Entry (codes "length") (One Integer)
     ∷ needs 25 Entry (codes "pad") (One Integer)
+    ∷ may_have 28 Top (codes "version") (One (Within 1 2))
+    ∷ may_have_2 29 Domain (codes "calls") (Array Integer)
     ∷ may_have 30 Top (codes "history") (One Integer)
     ∷ may_have 37 Top (codes "muldiv") (Fields muldiv_fields)
     ∷ may_have 38 Top (codes "targets") (One Integer)
     ∷ []
 
--- the version of the format: there is one as yet
+-- the version of the format. One that is neither the first nor the second breaks its own row, and knows all keys.
+abbrev pub version_from : Option Data → ℕ
+version_from None = 1
+version_from (Some d) = if within 1 1 (as_integer d) then 1 else 2
+
 abbrev pub version_of : Members → ℕ
-version_of t = 1
+version_of t = version_from (get_member (codes "version") t)
 
 -- ---- where a row is broken
 

@@ -1,17 +1,16 @@
 // The key table, and its least broken row.
-ghost use Rattle.std.specs.Prelude.{◌≡◌, ◌<◌, ◌^◌, map, option_map, IfSome};
+ghost use Rattle.std.specs.Prelude.{◌≡◌, ◌<◌, ◌^◌, map, take, drop, option_map, IfSome};
 ghost use Rattle.toml.specs.View.{table_view};
 ghost use Rattle.image_text.specs.Unknown as spec;
-ghost use Rattle.image_text.specs.Rows.{key_rows};
+ghost use Rattle.image_text.specs.Rows.{key_rows, first_broken as spec_first_broken};
+ghost use Rattle.image_text.specs.Rows.{version_of as spec_version_of};
 ghost use Rattle.image_text.specs.Models.{row_model, broken_model};
 
-use crate::kinds::{Field, Kind, Place, Simple};
+use crate::kinds::{Field, Kind, Place, Simple, fits_one};
+use crate::lookup::get;
 use crate::rows::{Broken, Row, first_broken};
 use crate::unknown::all_known;
 use toml::Table;
-
-/// The version of the format: there is one as yet.
-const VERSION: u8 = 1;
 
 /// The row that any other key breaks.
 const OTHER_KEYS: u8 = 26;
@@ -26,10 +25,10 @@ macro_rules! integer {
 }
 
 macro_rules! row {
-    ($number:literal, $place:ident, $needed:literal, $key:literal, $kind:expr) => {
+    ($number:literal, $since:literal, $place:ident, $needed:literal, $key:literal, $kind:expr) => {
         Row {
             number: $number,
-            since: 1,
+            since: $since,
             place: Place::$place,
             needed: $needed,
             key: $key,
@@ -40,13 +39,20 @@ macro_rules! row {
 
 macro_rules! needs {
     ($number:literal, $place:ident, $key:literal, $kind:expr) => {
-        row!($number, $place, true, $key, $kind)
+        row!($number, 1, $place, true, $key, $kind)
     };
 }
 
 macro_rules! may_have {
     ($number:literal, $place:ident, $key:literal, $kind:expr) => {
-        row!($number, $place, false, $key, $kind)
+        row!($number, 1, $place, false, $key, $kind)
+    };
+}
+
+// A key of the second version alone.
+macro_rules! may_have_2 {
+    ($number:literal, $place:ident, $key:literal, $kind:expr) => {
+        row!($number, 2, $place, false, $key, $kind)
     };
 }
 
@@ -73,7 +79,7 @@ const COST_FIELDS: [Field<'static>; 9] = [
 
 const MULDIV_FIELDS: [Field<'static>; 2] = [integer!("mul"), integer!("div")];
 
-static KEY_ROWS: [Row<'static>; 28] = [
+static KEY_ROWS: [Row<'static>; 30] = [
     needs!(1, Top, "frames", Kind::One(Simple::Integer)),
     needs!(2, Top, "shared", Kind::One(Simple::Integer)),
     needs!(3, Top, "line", Kind::One(Simple::Integer)),
@@ -104,6 +110,8 @@ static KEY_ROWS: [Row<'static>; 28] = [
     needs!(23, Entry, "domain", Kind::One(Simple::Integer)),
     needs!(24, Entry, "length", Kind::One(Simple::Integer)),
     needs!(25, Entry, "pad", Kind::One(Simple::Integer)),
+    may_have!(28, Top, "version", Kind::One(Simple::Within(1, 2))),
+    may_have_2!(29, Domain, "calls", Kind::Array(Simple::Integer)),
     may_have!(30, Top, "history", Kind::One(Simple::Integer)),
     may_have!(37, Top, "muldiv", Kind::Fields(&MULDIV_FIELDS)),
     may_have!(38, Top, "targets", Kind::One(Simple::Integer)),
@@ -118,24 +126,41 @@ fn key_rows() -> &'static [Row<'static>]
     &KEY_ROWS
 }
 
-fn first_rows(table: &Table) -> Option<Broken>
-    ensures value { option_map broken_model result ≡ spec.first_rows (table_view table.now) }
-    ensures small { IfSome result (λ broken. broken.found < 2 ^ 63) }
+/// The version of the format that a table says, 1 or 2. One that is neither
+/// breaks its own row; till that is told, all keys are known.
+pub fn version_of(table: &Table) -> u8
+    ensures value { result ≡ spec_version_of (table_view table.now) }
 {
-    first_broken(VERSION, &key_rows()[..25], table)
+    match get(table, "version") {
+        Some(value) => if fits_one(Simple::Within(1, 1), value) {
+            1
+        } else {
+            2
+        },
+        None => 1,
+    }
 }
 
-fn later_rows(table: &Table) -> Option<Broken>
-    ensures value { option_map broken_model result ≡ spec.later_rows (table_view table.now) }
+fn first_rows(version: u8, table: &Table) -> Option<Broken>
+    ensures value { option_map broken_model result
+        ≡ spec_first_broken version (take 25 key_rows) (table_view table.now) }
     ensures small { IfSome result (λ broken. broken.found < 2 ^ 63) }
 {
-    first_broken(VERSION, &key_rows()[25..], table)
+    first_broken(version, &key_rows()[..25], table)
 }
 
-fn no_other_keys(table: &Table) -> bool
-    ensures value { result ≡ spec.no_other_keys (table_view table.now) }
+fn later_rows(version: u8, table: &Table) -> Option<Broken>
+    ensures value { option_map broken_model result
+        ≡ spec_first_broken version (drop 25 key_rows) (table_view table.now) }
+    ensures small { IfSome result (λ broken. broken.found < 2 ^ 63) }
 {
-    all_known(VERSION, key_rows(), table)
+    first_broken(version, &key_rows()[25..], table)
+}
+
+fn no_other_keys(version: u8, table: &Table) -> bool
+    ensures value { result ≡ spec.all_known version key_rows (table_view table.now) }
+{
+    all_known(version, key_rows(), table)
 }
 
 /// The least row that the image's table breaks.
@@ -144,14 +169,15 @@ pub fn broken_key(table: &Table) -> Option<Broken>
     ensures value { option_map broken_model result ≡ spec.broken_key (table_view table.now) }
     ensures small { IfSome result (λ broken. broken.found < 2 ^ 63) }
 {
-    if let Some(broken) = first_rows(table) {
+    let version = version_of(table);
+    if let Some(broken) = first_rows(version, table) {
         return Some(broken);
     }
-    if !no_other_keys(table) {
+    if !no_other_keys(version, table) {
         return Some(Broken {
             row: OTHER_KEYS,
             found: 0,
         });
     }
-    later_rows(table)
+    later_rows(version, table)
 }

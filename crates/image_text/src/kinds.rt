@@ -58,7 +58,7 @@ fn is_within(number: i64, low: u32, high: u32) -> bool
     }
 }
 
-fn fits_one(simple: Simple, value: &Value) -> bool
+pub fn fits_one(simple: Simple, value: &Value) -> bool
     ensures value { result ≡ spec.fits_one simple (view value.now) }
 {
     match simple {

@@ -86,6 +86,9 @@ pub struct RawDomain {
     pub lines: Vec<i64>,
     /// When its lines interrupt it.
     pub moments: Vec<RawMoment>,
+    /// The numbers of the calls that it may make; None where the image says none:
+    /// every call.
+    pub calls: Option<Vec<i64>>,
 }
 
 /// A slot of a domain, and the pad of the switch that ends it, in cycles.
@@ -103,6 +106,8 @@ pub struct RawEntry {
 /// lists are in the ranges of their keys.
 #[derive(Drop)]
 pub struct Raw {
+    /// Of the format: 1, also where the image says none, or 2.
+    pub version: u8,
     /// Of 4,096 bytes.
     pub frames: i64,
     /// Bytes that all domains share.

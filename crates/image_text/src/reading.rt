@@ -10,13 +10,14 @@ ghost use Rattle.image_text.specs.Models.{domain_model, entry_model};
 ghost use Rattle.image_text.specs.Reads.{Reads, Agrees, raw_model};
 
 use crate::items::{Item, read_items};
-use crate::key_table::broken_key;
+use crate::key_table::{broken_key, version_of};
 use crate::lookup::{get, items_at, items_of};
 use crate::raw::{Raw, RawCache, RawCosts, RawDomain, RawEntry, RawMoment, RawMuldiv, RawSegment};
 use crate::refusal::{ReadRefusal, Refusal};
 use crate::rows::Broken;
 use crate::values::{
-    integer_at, integer_if_at, integer_of, integers_at, natural_at, table_at, table_of, text_at,
+    integer_at, integer_if_at, integer_of, integers_at, integers_if_at, natural_at, table_at,
+    table_of, text_at,
 };
 use std::alloc::Global;
 use toml::{Table, Value};
@@ -178,6 +179,7 @@ fn domain_of(alloc: Global, table: &Table) -> Result<RawDomain, ReadRefusal>
     let caps = read_items(alloc, items_at(table, "caps"))?;
     let lines = integers_at(alloc, table, "lines")?;
     let moments = read_items(alloc, items_at(table, "moments"))?;
+    let calls = integers_if_at(alloc, table, "calls")?;
     Ok(RawDomain {
         name,
         colours,
@@ -186,6 +188,7 @@ fn domain_of(alloc: Global, table: &Table) -> Result<RawDomain, ReadRefusal>
         caps,
         lines,
         moments,
+        calls,
     })
 }
 
@@ -238,6 +241,7 @@ fn record_of(alloc: Global, table: &Table) -> Result<Raw, ReadRefusal>
     let domains = read_items(alloc, items_at(table, "domain"))?;
     let schedule = read_items(alloc, items_at(table, "schedule"))?;
     Ok(Raw {
+        version: version_of(table),
         frames: integer_at(table, "frames"),
         shared: integer_at(table, "shared"),
         line: integer_at(table, "line"),

@@ -1,8 +1,8 @@
 // Values at keys. What is missing, or of another type, reads as zero or empty:
 // the key table says where something is.
-ghost use Rattle.std.specs.Prelude.{◌≡◌, ℕ, ℤ, List, Some, string_bytes};
-ghost use Rattle.toml.specs.View.{view, table_view};
-ghost use Rattle.toml.specs.Data.{get_member, no_members};
+ghost use Rattle.std.specs.Prelude.{◌≡◌, ℕ, ℤ, List, Some, option_map, string_bytes};
+ghost use Rattle.toml.specs.View.{view, items_view, table_view};
+ghost use Rattle.toml.specs.Data.{as_array, get_member, no_members};
 ghost use Rattle.image_text.specs.Record as spec;
 ghost use Rattle.image_text.specs.Reads.{Reads};
 
@@ -115,10 +115,41 @@ impl Item for i64 {
 }
 
 #[tactic(auto, using(crate::proofs::Counts::plain_integers))]
+fn integers_of(alloc: Global, values: &[Value]) -> Result<Vec<i64>, ReadRefusal>
+    ensures read { Reads (λ found. found.items) result (spec.integers_in (items_view values.now)) }
+{
+    read_items(alloc, values)
+}
+
 pub fn integers_at(alloc: Global, table: &Table, key: &str) -> Result<Vec<i64>, ReadRefusal>
     ensures read { Reads (λ found. found.items) result (spec.integers_at key.now (table_view table.now)) }
 {
-    read_items(alloc, items_at(table, key))
+    integers_of(alloc, items_at(table, key))
+}
+
+fn integers_if(alloc: Global, value: &Value) -> Result<Option<Vec<i64>>, ReadRefusal>
+    ensures read { Reads (option_map (λ found. found.items)) result
+        (option_map spec.integers_in (as_array (view value.now))) }
+{
+    match value.as_array() {
+        Some(array) => Ok(Some(integers_of(alloc, array.as_slice())?)),
+        None => Ok(None),
+    }
+}
+
+/// The integers of the array at a key, if there is one.
+pub fn integers_if_at(
+    alloc: Global,
+    table: &Table,
+    key: &str,
+) -> Result<Option<Vec<i64>>, ReadRefusal>
+    ensures read { Reads (option_map (λ found. found.items)) result
+        (spec.integers_if_at key.now (table_view table.now)) }
+{
+    match get(table, key) {
+        Some(value) => integers_if(alloc, value),
+        None => Ok(None),
+    }
 }
 
 impl Item for String {

@@ -44,9 +44,9 @@ abbrev pub outgoing : List Entry → ℕ → Option ℕ
 outgoing es zero = None
 outgoing es (suc k) = Some (entry_of_slot es k).domain
 
--- 1 to 64 entries, each of a length and a pad up to 1,000,000 cycles
+-- 1 to 256 entries, each of a length and a pad up to 1,000,000 cycles
 pub record IsSchedule (es : List Entry) : Type 0 where
   pub some : 0 < length es
-  pub few : length es ≤ 64
+  pub few : length es ≤ 256
   pub lengths : (e : ℕ) → (entry_in es e).length ≤ 1000000
   pub pads : (e : ℕ) → (entry_in es e).pad ≤ 1000000

@@ -19,7 +19,7 @@ pub struct Entry {
     pub hart: u8,
 }
 
-/// 1 to 64 entries, whose slots follow one another cyclically. It stands for
+/// 1 to 256 entries, whose slots follow one another cyclically. It stands for
 /// their list.
 #[derive(Drop)]
 pub struct Schedule {
@@ -43,7 +43,7 @@ impl Model for Schedule {
 }
 
 impl Schedule {
-    /// 1 to 64 entries, of lengths and pads up to 1,000,000 cycles.
+    /// 1 to 256 entries, of lengths and pads up to 1,000,000 cycles.
     ///
     /// # Errors
     ///
@@ -66,7 +66,7 @@ impl Schedule {
         })
     }
 
-    /// The number of entries, 1 to 64.
+    /// The number of entries, 1 to 256.
     pub fn len(&self) -> u32
         ensures value { result ≡ length self.now }
         ensures schedule { IsSchedule self.now }

@@ -4,6 +4,7 @@ use Rattle.domain_check.specs.Colours.{own_colours}
 use Rattle.domain_check.specs.Segments.{segments_of}
 use Rattle.domain_check.specs.Capabilities.{caps_of}
 use Rattle.domain_check.specs.Interrupts.{own_lines, own_moments}
+use Rattle.domain_check.specs.Calls.{own_calls}
 use Rattle.domain_check.specs.Models.{named_model}
 use Rattle.image_check.specs.Own.{own_from}
 use Rattle.image_check.specs.Models.{segment_model, own_model}
@@ -17,3 +18,4 @@ invariant-loop-domain l =
     × (map (λ v. map named_model v.items) l.caps.items ≡ map caps_of (map domain_model (drop l.domain-index l.domains)))
     × (map (λ v. v.items) l.lines.items ≡ map own_lines (map domain_model (drop l.domain-index l.domains)))
     × (map (λ v. v.items) l.moments.items ≡ map own_moments (map domain_model (drop l.domain-index l.domains)))
+    × (l.calls.items ≡ map own_calls (map domain_model (drop l.domain-index l.domains)))

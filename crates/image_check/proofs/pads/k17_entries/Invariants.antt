@@ -1,8 +1,11 @@
 use Rattle.std.proofs.Common.{◌≡◌, take, drop, map}
 use Rattle.image_text.specs.Models.{entry_model}
+use Rattle.pad_bound.specs.Models.{shape_model}
 use Rattle.hardware_check.specs.Cases.{first_case, first_in}
 use Rattle.image_check.specs.Pads as spec
 use Rattle.image_check.proofs.pads.k17_entries.Given as goal
 
 abbrev pub invariant-loop-place : goal.invariant-loop-place
-invariant-loop-place l = first_case (spec.k17_entry l.bound) (map entry_model (take l.place l.entries)) (map entry_model (drop l.place l.entries)) ≡ first_in (spec.k17_entry l.bound) (map entry_model l.entries)
+invariant-loop-place l =
+    first_case (spec.k17_by (shape_model l.shape) l.calls) (map entry_model (take l.place l.entries)) (map entry_model (drop l.place l.entries))
+    ≡ first_in (spec.k17_by (shape_model l.shape) l.calls) (map entry_model l.entries)

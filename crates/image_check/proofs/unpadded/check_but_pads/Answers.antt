@@ -1,11 +1,12 @@
 use Rattle.std.proofs.Common.{rules}
-use Rattle.std.specs.Prelude.{IfErr}
+use Rattle.std.specs.Prelude.{◌≡◌, None, IfErr}
 use Rattle.image_text.specs.Reads.{raw_model}
 use Rattle.hardware_check.specs.Outcomes.{IsVerdictOrMemory}
 use Rattle.hardware_check.specs.Extensions.{k22}
+use Rattle.domain_check.specs.Calls.{k18}
 use Rattle.image_check.specs.Outcomes.{IsFirst}
 use Rattle.image_check.specs.Checking.{broken_before_pads}
-use Rattle.image_check.proofs.Kept.{first_of_others, last_of_others}
+use Rattle.image_check.proofs.Kept.{first_of_others, calls_of_others, last_of_others}
 use Rattle.image_check.proofs.unpadded.check_but_pads.Goals as goal
 
 pub returns-in_err-parts-clause-refused : goal.returns-in_err-parts-clause-refused
@@ -14,8 +15,15 @@ returns-in_err-parts-clause-refused c =
     let first : IfErr c.from_residual.result (IsFirst (broken_before_pads i)) = search rules in
     first_of_others i c.from_residual.result first
 
+pub returns-in_err-k18-clause-refused : goal.returns-in_err-k18-clause-refused
+returns-in_err-k18-clause-refused c =
+    let i = raw_model c.args.raw in
+    let verdict : IsVerdictOrMemory c.from_residual-in_err-k18.result (k18 i) = search rules in
+    calls_of_others i c.from_residual-in_err-k18.result c.in_ok-parts.ensures.accepted verdict
+
 pub returns-in_err-k22-clause-refused : goal.returns-in_err-k22-clause-refused
 returns-in_err-k22-clause-refused c =
     let i = raw_model c.args.raw in
+    let calls : k18 i ≡ None = search rules in
     let verdict : IsVerdictOrMemory c.from_residual-in_err-k22.result (k22 i) = search rules in
-    last_of_others i c.from_residual-in_err-k22.result c.in_ok-parts.ensures.accepted verdict
+    last_of_others i c.from_residual-in_err-k22.result c.in_ok-parts.ensures.accepted calls verdict

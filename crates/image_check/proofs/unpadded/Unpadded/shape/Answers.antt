@@ -1,5 +1,6 @@
 use Rattle.std.proofs.Common.{◌≡◌, ◌≤◌, ◌∙◌, ap, sym, subst}
 use Rattle.image_text.specs.Reads.{raw_model}
+use Rattle.kernel_clone.specs.Permissions.{every_call}
 use Rattle.pad_bound.specs.Bound.{IsShape}
 use Rattle.pad_bound.specs.Models.{shape_model}
 use Rattle.hardware_check.specs.Hardware.{hardware_of}
@@ -12,7 +13,7 @@ pub shape_of-requires : goal.shape_of-requires
 unfolding public_of
 shape_of-requires c =
     let i = raw_model c.self.inside.raw in
-    let least = (shape_law i c.self.invariant.accepted).least_line in
+    let least = (shape_law i every_call c.self.invariant.accepted).least_line in
     record { line = subst (λ (p : Public). 16 ≤ p.hardware.line) (sym c.self.invariant.public_is) least }
 
 pub returns-clause-sound : goal.returns-clause-sound
@@ -20,4 +21,4 @@ unfolding public_of
 returns-clause-sound c =
     let i = raw_model c.self.inside.raw in
     let same : shape_model c.shape_of.result ≡ shape_of (hardware_of i) = c.shape_of.ensures.value ∙ ap (λ (p : Public). shape_of p.hardware) c.self.invariant.public_is in
-    subst IsShape (sym same) (shape_law i c.self.invariant.accepted)
+    subst IsShape (sym same) (shape_law i every_call c.self.invariant.accepted)

@@ -1,0 +1,39 @@
+-- K18, the rule of the calls that a domain may make: each is one of 15, and above the one before.
+use Rattle.std.specs.Prelude.{ℕ, ◌-◌, ◌||◌, not, ℤ, pos, int_lt, Bool, true, if◌then◌else◌, List, [], length, slice_get, Option, Some, None}
+use Rattle.kernel_clone.specs.Permissions.{every_call, calls_of}
+use Rattle.image_text.specs.declared.refusal.Refusal.{Refusal}
+use Rattle.image_text.specs.Record.{Raw, RawDomain}
+use Rattle.hardware_check.specs.Cases.{first_in, refusal, outside}
+use Rattle.domain_check.specs.Colours.{names}
+
+-- above the number before, if there is one
+abbrev pub is_next : Option ℤ → ℤ → Bool
+is_next None x = true
+is_next (Some y) x = int_lt y x
+
+-- domain d, and the place in its list
+unfoldable pub k18_call : ℕ → List ℤ → ℤ → Option Refusal
+k18_call d earlier x =
+    if outside (pos 0) (pos 14) x || not (is_next (slice_get earlier (length earlier - 1)) x)
+    then Some (refusal 18 (pos d) (pos (length earlier)) (pos 14))
+    else None
+
+-- the numbers that are listed, if there is a list
+abbrev pub listed : Option (List ℤ) → List ℤ
+listed None = []
+listed (Some calls) = calls
+
+abbrev pub k18_domain : List RawDomain → RawDomain → Option Refusal
+k18_domain earlier o = first_in (k18_call (length earlier)) (listed o.calls)
+
+unfoldable pub k18 : Raw → Option Refusal
+k18 i = first_in k18_domain i.domains
+
+-- ---- which calls a domain may make, a bit each: those that are listed, whatever else is; every call where there is no list
+
+unfoldable pub calls_in : Option (List ℤ) → ℕ
+calls_in None = every_call
+calls_in (Some calls) = calls_of (λ n. names calls (pos n))
+
+abbrev pub own_calls : RawDomain → ℕ
+own_calls o = calls_in o.calls

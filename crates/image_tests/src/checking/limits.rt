@@ -1,0 +1,120 @@
+// What an image may have at most, by its version.
+use super::{IMAGE, are_named, checked};
+use image_check::CheckRefusal;
+use std::alloc::Global;
+
+// K4, K7 and K16 of the second version: past the first's limits, at their own and past it. Of more
+// domains than two, the third and the fourth have one name: the rule's next case.
+const OF_THE_SECOND: &str = r#"# K4
+frames = 64 => version = 2~frames = 4096
+accepted
+frames = 64 => version = 2~frames = 4097
+accepted
+frames = 64 => version = 2~frames = 16384
+accepted
+frames = 64 => version = 2~frames = 16385
+K4 at 0 found 16385 wanted 16384
+frames = 64 => version = 2~frames = 63
+K4 at 0 found 63 wanted 64
+# K7
+frames = 64 => version = 2~frames = 64
+[[schedule]] => MORE[[schedule]]
+MORE => [[domain]]~name = "c"~colours = [2]~entry = 0~segment = [{ page = 0, pages = 1, rights = "x", hex = "" }]~ * 15
+K7 at 3 found 2 wanted 0
+frames = 64 => version = 2~frames = 64
+[[schedule]] => MORE[[schedule]]
+MORE => [[domain]]~name = "c"~colours = [2]~entry = 0~segment = [{ page = 0, pages = 1, rights = "x", hex = "" }]~ * 30
+K7 at 3 found 2 wanted 0
+frames = 64 => version = 2~frames = 64
+[[schedule]] => MORE[[schedule]]
+MORE => [[domain]]~name = "c"~colours = [2]~entry = 0~segment = [{ page = 0, pages = 1, rights = "x", hex = "" }]~ * 31
+K7 at 32 found 33 wanted 32
+# K16
+frames = 64 => version = 2~frames = 64
+[[schedule]]~domain = 0~length = 10000~pad = 6150~ => [[schedule]]~domain = 0~length = 10000~pad = 6150~ * 64
+accepted
+frames = 64 => version = 2~frames = 64
+[[schedule]]~domain = 0~length = 10000~pad = 6150~ => [[schedule]]~domain = 0~length = 10000~pad = 6150~ * 255
+accepted
+frames = 64 => version = 2~frames = 64
+[[schedule]]~domain = 0~length = 10000~pad = 6150~ => [[schedule]]~domain = 0~length = 10000~pad = 6150~ * 256
+K16 at 0 found 257 wanted 1"#;
+
+// The same of an image that says that it is of the first.
+const OF_THE_FIRST: &str = r#"# K4
+frames = 64 => version = 1~frames = 4096
+accepted
+frames = 64 => version = 1~frames = 4097
+K4 at 0 found 4097 wanted 4096
+# K7
+frames = 64 => version = 1~frames = 64
+[[schedule]] => MORE[[schedule]]
+MORE => [[domain]]~name = "c"~colours = [2]~entry = 0~segment = [{ page = 0, pages = 1, rights = "x", hex = "" }]~ * 14
+K7 at 3 found 2 wanted 0
+frames = 64 => version = 1~frames = 64
+[[schedule]] => MORE[[schedule]]
+MORE => [[domain]]~name = "c"~colours = [2]~entry = 0~segment = [{ page = 0, pages = 1, rights = "x", hex = "" }]~ * 15
+K7 at 16 found 17 wanted 16
+# K16
+frames = 64 => version = 1~frames = 64
+[[schedule]]~domain = 0~length = 10000~pad = 6150~ => [[schedule]]~domain = 0~length = 10000~pad = 6150~ * 63
+accepted
+frames = 64 => version = 1~frames = 64
+[[schedule]]~domain = 0~length = 10000~pad = 6150~ => [[schedule]]~domain = 0~length = 10000~pad = 6150~ * 64
+K16 at 0 found 65 wanted 1"#;
+
+#[test]
+fn the_first_broken_case_is_named(rt: HostRuntime) -> Result<(), CheckRefusal> {
+    for lines in [OF_THE_SECOND, OF_THE_FIRST] {
+        are_named(&rt, rt.alloc(), IMAGE, lines)?;
+    }
+    Ok(())
+}
+
+const LARGE_MACHINE: &str = r#"version = 2
+frames = 16384
+shared = 512
+line = 64
+l1i = { sets = 16, ways = 2, policy = "lru" }
+l1d = { sets = 16, ways = 2, policy = "lru" }
+l2 = { sets = 4096, ways = 4, policy = "lru" }
+tlb = { sets = 4, ways = 2, policy = "lru" }
+predictor = 16
+costs = { base = 1, l1 = 1, l2 = 8, mem = 40, wb = 10, tlb = 1, mispredict = 3, trap = 10, flush = 20 }
+"#;
+
+// 32 domains of a colour each, and 256 entries, eight for each of them.
+fn large_image(alloc: Global) -> Result<String, CheckRefusal> {
+    let mut text = String::from_str(alloc, LARGE_MACHINE)?;
+    for d in 0..32_u32 {
+        let colour = d + 1;
+        let domain = format!(in alloc; "[[domain]]\nname = \"d{d}\"\ncolours = [{colour}]\n")?;
+        text.push_str(domain.as_str())?;
+        text.push_str("entry = 0\ncalls = [0]\n")?;
+        text.push_str("segment = [{ page = 0, pages = 1, rights = \"x\", hex = \"\" }]\n")?;
+    }
+    for entry in 0..256_u32 {
+        let d = entry % 32;
+        let slot = format!(in alloc; "[[schedule]]\ndomain = {d}\nlength = 1000\npad = 2374\n")?;
+        text.push_str(slot.as_str())?;
+    }
+    Ok(text)
+}
+
+#[test]
+fn an_image_may_have_as_much_as_the_second_allows(rt: HostRuntime) -> Result<(), CheckRefusal> {
+    let alloc = rt.alloc();
+    let text = large_image(alloc)?;
+    let checked = checked(alloc, text.as_str())?;
+    let public = checked.public();
+    assert_eq!(rt;
+        (
+            public.hardware.frames,
+            public.domains,
+            public.schedule.len()
+        ),
+        (16384, 32, 256)
+    );
+    assert_eq!(rt; public.schedule.entry(255).domain, 31);
+    Ok(())
+}
