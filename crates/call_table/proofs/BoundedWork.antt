@@ -1,22 +1,23 @@
 -- What each call notes: which calls empty the translation buffer, how much one call writes, and where.
-use Rattle.std.proofs.Common.{◌≡◌, ◌∙◌, sym, subst, refl, ℕ, ◌<◌, ◌≤◌, Bool, true, false, arith, eqb-true, ne_eqb, leb-true, ◌/◌, List, [], ◌∷◌, length, Some, None}
+use Rattle.std.proofs.Common.{◌≡◌, ◌∙◌, ap, sym, subst, refl, ◌⊎◌, ℕ, ◌<◌, ◌≤◌, Bool, true, false, arith, eqb-true, ne_eqb, leb-true, leb-false, ◌/◌, List, [], ◌∷◌, length, Some, None}
 use Rattle.std.proofs.lemmas.List.Elements.{All-nil, All-cons, All-head, All-tail}
 use Rattle.std.specs.List.{All, range_with_len}
 use Rattle.std.specs.Prelude.{nat_eq, nat_le, if◌then◌else◌}
 use Rattle.tp_base.specs.Act.{either}
 use Rattle.phys_mem.specs.Mem.{Mem}
 use Rattle.rv_core.specs.Registers.{register}
-use Rattle.kernel_clone.specs.Footprints.{is_of_switch, bad_call_op}
+use Rattle.kernel_clone.specs.Footprints.{is_of_switch, delivery_op, bad_call_op}
+use Rattle.kernel_clone.specs.Permissions.{may_make, permitted}
 use Rattle.pad_bound.specs.Bound.{most_entries}
-use Rattle.pad_bound.specs.Worst.{IsCallWork}
+use Rattle.pad_bound.specs.Worst.{IsCallWork, most_entries_of}
 use Rattle.cap_table.specs.declared.Cap.{Cap}
 use Rattle.cap_table.specs.declared.Cap.TheVariants as cap
 use Rattle.cap_table.specs.Slots.{revoked, revoked_count}
 use Rattle.cap_table.proofs.RevokeLemmas.{entries_few, count_below}
 use Rattle.call_table.specs.Domain.{Dom, reply_past, exited, with_caps}
 use Rattle.call_table.specs.Claims.{Estate}
-use Rattle.call_table.specs.Calls.{Act, Note, zeroed_in, entries_in, op_of, work_of, empties, empties_buffer, clears_entries, put_byte, alloc, install, map_page, unmap, may_give, copy_refusal, copy, drop_slot, delete, emptied_at, revoke, call_of, call}
-use Rattle.call_table.specs.Laws.{Kept, IsMine, IsOwnWork, EmptiesLaw, OperationLaw, WorkLaw}
+use Rattle.call_table.specs.Calls.{Act, Note, zeroed_in, entries_in, op_of, work_of, empties, empties_buffer, clears_entries, put_byte, alloc, install, map_page, unmap, may_give, copy_refusal, copy, drop_slot, delete, emptied_at, revoke, call_of, call, number_made}
+use Rattle.call_table.specs.Laws.{Kept, IsMine, IsOwnWork, EmptiesLaw, OperationLaw, WorkLaw, PermittedLaw}
 use Rattle.call_table.proofs.QuietCalls.{poll_quiet, wait_quiet, signal_quiet, spawn_quiet, yield_quiet, end_quiet}
 use Rattle.call_table.proofs.ConfinedCalls.{ready, any_call}
 use Rattle.call_table.proofs.WorkSteps.{Works, IsWork, drops_fewer, drop_slot_drops, stop_works, check_works, some_works, filled_works, slot_works, page_refusal_works, table_refusal_works, allowed_works, unless_works, quiet_works, give_works, zero_works, map_at_works, install_at_works, unmap_at_works, unmap_all_works, drops_works}
@@ -32,62 +33,60 @@ copy_code (cap.Frame f rights w) c code e = by_test (may_give rights c) e
 copy_code (cap.Table f w) c code e = let same : 5 ≡ code = cc e in subst (λ (n : ℕ). nat_eq n 0 ≡ false) same refl
 copy_code (cap.Irq line) c code e = absurd (cc e)
 
-put_works : (d : Dom) (a : ℕ) → Works d false (put_byte d a)
+put_works : (d : Dom) (a : ℕ) → Works d 1 (put_byte d a)
 unfolding put_byte
 put_works d a = search (check_works, give_works) depth 30
 
-alloc_works : (e : Estate) (d : Dom) (a b : ℕ) → Works d false (alloc e d a b)
+alloc_works : (e : Estate) (d : Dom) (a b : ℕ) → Works d 2 (alloc e d a b)
 unfolding alloc
 alloc_works e d a b = search (slot_works, check_works, some_works, zero_works) depth 30
 
-install_works : (e : Estate) (d : Dom) (a b : ℕ) → Works d false (install e d a b)
+install_works : (e : Estate) (d : Dom) (a b : ℕ) → Works d 3 (install e d a b)
 unfolding install
 install_works e d a b =
     search (filled_works, check_works, some_works, table_refusal_works, allowed_works, install_at_works) depth 30
 
-map_page_works : (e : Estate) (d : Dom) (a b c : ℕ) → Works d false (map_page e d a b c)
+map_page_works : (e : Estate) (d : Dom) (a b c : ℕ) → Works d 4 (map_page e d a b c)
 unfolding map_page
 map_page_works e d a b c =
     search (filled_works, check_works, some_works, page_refusal_works, allowed_works, map_at_works) depth 30
 
-unmap_works : (e : Estate) (d : Dom) (a : ℕ) → Works d true (unmap e d a)
+unmap_works : (e : Estate) (d : Dom) (a : ℕ) → Works d 5 (unmap e d a)
 unfolding unmap
 unmap_works e d a = search (filled_works, some_works, unmap_at_works) depth 30
 
-copy_works : (d : Dom) (a b c : ℕ) → Works d false (copy d a b c)
+copy_works : (d : Dom) (a b c : ℕ) → Works d 6 (copy d a b c)
 unfolding copy
 copy_works d a b c = search (slot_works, check_works, some_works, unless_works, copy_code, give_works) depth 30
 
-delete_works : (e : Estate) (d : Dom) (a : ℕ) → Works d true (delete e d a)
+delete_works : (e : Estate) (d : Dom) (a : ℕ) → Works d 7 (delete e d a)
 unfolding delete
 delete_works e d a =
-    filled_works d true a _ (λ c _. check_works d true 12 _ _ refl
-    (drops_works d (drop_slot e a d) 0 (drops_fewer d 1 most_entries _ (omega arith) (drop_slot_drops e a d))))
+    filled_works d 7 a _ (λ c _. check_works d 7 12 _ _ refl (drops_works d 7 refl (drop_slot e a d) 0 (drop_slot_drops e a d)))
 
 -- 63 of 64 slots at most are others
 few_emptied : (d : Dom) (a : ℕ) → a < 64 → length (emptied_at d.caps a) ≤ most_entries
 few_emptied d a below = omega (arith, entries_few d.caps a (range_with_len 0 64), count_below d.caps a below)
 
-revoke_works : (e : Estate) (d : Dom) (a : ℕ) → Works d true (revoke e d a)
+revoke_works : (e : Estate) (d : Dom) (a : ℕ) → Works d 8 (revoke e d a)
 unfolding revoke with_caps
 revoke_works e d a =
-    filled_works d true a _ (λ c below.
-    unmap_all_works d e.root (emptied_at d.caps a) (with_caps (revoked d.caps a) d) (revoked_count d.caps a) (few_emptied d a below) refl)
+    filled_works d 8 a _ (λ c below.
+    unmap_all_works d 8 refl e.root (emptied_at d.caps a) (with_caps (revoked d.caps a) d) (revoked_count d.caps a) (few_emptied d a below) refl)
 
 -- ---- a call by its number
 
-by_number : (d : Dom) (number k : ℕ) (x y : Act Dom) → Works d (clears_entries k) x → Works d (clears_entries number) y
-    → Works d (clears_entries number) (if nat_eq number k then x else y)
+by_number : (d : Dom) (number k : ℕ) (x y : Act Dom) → Works d k x → Works d number y → Works d number (if nat_eq number k then x else y)
 by_number d number k x y h g = by_test (nat_eq number k) refl
   where
-    by_test : (b : Bool) → nat_eq number k ≡ b → Works d (clears_entries number) (if b then x else y)
-    by_test true is = subst (λ (n : ℕ). Works d (clears_entries n) x) (sym (eqb-true number k is)) h
+    by_test : (b : Bool) → nat_eq number k ≡ b → Works d number (if b then x else y)
+    by_test true is = subst (λ (n : ℕ). Works d n x) (sym (eqb-true number k is)) h
     by_test false is = g
 
-pub call_of_works : (e : Estate) (d : Dom) (number a b c : ℕ) → Works d (clears_entries number) (call_of e d number a b c)
+pub call_of_works : (e : Estate) (d : Dom) (number a b c : ℕ) → Works d number (call_of e d number a b c)
 unfolding call_of
 call_of_works e d number a b c =
-    by_number d number 0 _ _ (give_works d (exited a d))
+    by_number d number 0 _ _ (give_works d 0 refl (exited a d))
     (by_number d number 1 _ _ (put_works d a)
     (by_number d number 2 _ _ (alloc_works e d a b)
     (by_number d number 3 _ _ (install_works e d a b)
@@ -96,13 +95,13 @@ call_of_works e d number a b c =
     (by_number d number 6 _ _ (copy_works d a b c)
     (by_number d number 7 _ _ (delete_works e d a)
     (by_number d number 8 _ _ (revoke_works e d a)
-    (by_number d number 9 _ _ (quiet_works d _ (poll_quiet d a))
-    (by_number d number 10 _ _ (quiet_works d _ (wait_quiet d a))
-    (by_number d number 11 _ _ (quiet_works d _ (signal_quiet d a))
-    (by_number d number 12 _ _ (quiet_works d _ (spawn_quiet d a b))
-    (by_number d number 13 _ _ (quiet_works d _ (yield_quiet d))
-    (by_number d number 14 _ _ (quiet_works d _ (end_quiet d))
-    (stop_works d (clears_entries number) 1 refl)))))))))))))))
+    (by_number d number 9 _ _ (quiet_works d 9 refl _ (poll_quiet d a))
+    (by_number d number 10 _ _ (quiet_works d 10 refl _ (wait_quiet d a))
+    (by_number d number 11 _ _ (quiet_works d 11 refl _ (signal_quiet d a))
+    (by_number d number 12 _ _ (quiet_works d 12 refl _ (spawn_quiet d a b))
+    (by_number d number 13 _ _ (quiet_works d 13 refl _ (yield_quiet d))
+    (by_number d number 14 _ _ (quiet_works d 14 refl _ (end_quiet d))
+    (stop_works d number 1 refl)))))))))))))))
 
 -- a call's operation is of no switch
 pub is_call_op : (number : ℕ) → is_of_switch (op_of number) ≡ false
@@ -114,18 +113,48 @@ is_call_op number = by_test (nat_le number 14) refl
         rw (ne_eqb number 16 (λ e. absurd (omega (arith, below, e))), ne_eqb number 17 (λ e. absurd (omega (arith, below, e)))) refl
     by_test false large = refl
 
-pub call_of_bounded : (e : Estate) (d : Dom) (m : Mem) (number a b c : ℕ) → IsCallWork (work_of number (call_of e d number a b c m).notes)
+-- a number above those of the calls writes nothing
+no_entries : (number : ℕ) → nat_le number 14 ≡ false → most_entries_of number ≡ 0
+no_entries number large =
+    let above : 14 < number = leb-false number 14 large in
+    rw (
+      ne_eqb number 8 (λ e. absurd (omega (arith, above, e))),
+      ne_eqb number 3 (λ e. absurd (omega (arith, above, e))),
+      ne_eqb number 4 (λ e. absurd (omega (arith, above, e))),
+      ne_eqb number 5 (λ e. absurd (omega (arith, above, e))),
+      ne_eqb number 7 (λ e. absurd (omega (arith, above, e))),
+    ) refl
+
+call_work : (d : Dom) (number : ℕ) (v : Dom ⊎ Dom) (ns : List Note) → IsWork d number v ns → IsCallWork (work_of number ns)
 unfolding work_of
+call_work d number v ns w = by_test (nat_le number 14) refl
+  where
+    by_test : (b : Bool) → nat_le number 14 ≡ b → IsCallWork (work_of number ns)
+    by_test true small =
+        let own : op_of number ≡ number = ap (λ (t : Bool). if t then number else bad_call_op) small in
+        record {
+          call = is_call_op number;
+          zeroes = λ frame is. own ∙ w.zeroes frame is;
+          few = subst (λ (op : ℕ). length (entries_in ns) ≤ most_entries_of op) (sym own) w.few;
+        }
+    by_test false large =
+        let above : 14 < number = leb-false number 14 large in
+        let none = no_entries number large in
+        record {
+          call = is_call_op number;
+          zeroes = λ frame is. let same = w.zeroes frame is in absurd (omega (arith, above, same));
+          few = let few = w.few in omega (arith, few, none);
+        }
+
+pub call_of_bounded : (e : Estate) (d : Dom) (m : Mem) (number a b c : ℕ) → IsCallWork (work_of number (call_of e d number a b c m).notes)
 call_of_bounded e d m number a b c =
-    let w : IsWork d (clears_entries number) (call_of e d number a b c m).value (call_of e d number a b c m).notes =
-    (call_of_works e d number a b c).each m in
-    record { call = is_call_op number; few = w.few; not_both = w.not_both }
+    call_work d number (call_of e d number a b c m).value (call_of e d number a b c m).notes ((call_of_works e d number a b c).each m)
 
 pub call_of_empties : (e : Estate) (d : Dom) (m : Mem) (number a b c : ℕ)
     → empties (call_of e d number a b c m).notes
     ≡ empties_buffer number (reply_past (length d.replies) (either (call_of e d number a b c m).value))
 call_of_empties e d m number a b c =
-    let w : IsWork d (clears_entries number) (call_of e d number a b c m).value (call_of e d number a b c m).notes =
+    let w : IsWork d number (call_of e d number a b c m).value (call_of e d number a b c m).notes =
     (call_of_works e d number a b c).each m in
     w.buffer ∙ w.reply
 
@@ -133,7 +162,7 @@ pub calls_empty : EmptiesLaw
 unfolding call
 calls_empty e d m =
     let regs = d.threads.current.regs in
-    call_of_empties e d m (register regs 17) (register regs 10) (register regs 11) (register regs 12)
+    call_of_empties e d m (number_made e d) (register regs 10) (register regs 11) (register regs 12)
 
 pub operations : OperationLaw
 unfolding work_of
@@ -143,7 +172,25 @@ pub calls_bounded : WorkLaw
 unfolding call
 calls_bounded e d m =
     let regs = d.threads.current.regs in
-    call_of_bounded e d m (register regs 17) (register regs 10) (register regs 11) (register regs 12)
+    call_of_bounded e d m (number_made e d) (register regs 10) (register regs 11) (register regs 12)
+
+-- an operation below those of the kernel's own is that of a call which the domain may make
+made_permitted : (calls number : ℕ) → op_of (permitted calls number) < delivery_op → may_make calls (op_of (permitted calls number)) ≡ true
+made_permitted calls number = by_test (may_make calls number) refl
+  where
+    by_test : (b : Bool) → may_make calls number ≡ b → let n = if b then number else bad_call_op in
+        op_of n < delivery_op → may_make calls (op_of n) ≡ true
+    by_test true may below = by_number (nat_le number 14) refl below
+      where
+        by_number : (b : Bool) → nat_le number 14 ≡ b → (if b then number else bad_call_op) < delivery_op
+            → may_make calls (if b then number else bad_call_op) ≡ true
+        by_number true small below = may
+        by_number false large below = absurd (omega (arith, below))
+    by_test false may below = absurd (omega (arith, below))
+
+pub calls_permitted : PermittedLaw
+unfolding work_of
+calls_permitted e d m = made_permitted e.calls (register d.threads.current.regs 17)
 
 -- ---- where the work lies
 

@@ -17,7 +17,7 @@ use Rattle.rv_core.specs.Registers.{register}
 use Rattle.call_table.specs.Domain.{Dom, done, exited, with_caps}
 use Rattle.call_table.specs.Claims.{Claim, Estate, is_mine, place_of, region_of, claim_of, claims, IsMapped, IsEstate}
 use Rattle.call_table.specs.Claims.Claim.{Nothing, Fixed, Leaf, Directory}
-use Rattle.call_table.specs.Calls.{put_byte, clear_entry, unmap_at, uninstall_at, empty_buffer, with_slot, drop_slot, delete, emptied_at, revoke, call_of, call}
+use Rattle.call_table.specs.Calls.{put_byte, clear_entry, unmap_at, uninstall_at, empty_buffer, with_slot, drop_slot, delete, emptied_at, revoke, call_of, call, number_made}
 use Rattle.call_table.specs.Laws.{Kept, LeavesKept, CallsKeepLaw}
 use Rattle.call_table.proofs.ClaimLaws.{one_slot, same_frame}
 use Rattle.call_table.proofs.ClaimLawsSlots.{claims_at, claims_fixed}
@@ -210,4 +210,4 @@ pub calls_keep : CallsKeepLaw
 unfolding call
 calls_keep e d m s h =
     let regs = d.threads.current.regs in
-    call_of_keeps e d m (register regs 17) (register regs 10) (register regs 11) (register regs 12) s h
+    call_of_keeps e d m (number_made e d) (register regs 10) (register regs 11) (register regs 12) s h

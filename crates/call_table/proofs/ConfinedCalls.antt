@@ -17,7 +17,7 @@ use Rattle.cap_table.specs.Slots as slots
 use Rattle.cap_table.specs.Slots.{Slots, cap_at, mapped_at, is_revoked, push_some}
 use Rattle.call_table.specs.Domain.{Dom, refused, exited, with_caps}
 use Rattle.call_table.specs.Claims.{Estate, is_mine, claims, claim_of, place_of, is_named, free_frames, least_free}
-use Rattle.call_table.specs.Calls.{Act, Page, is_slot, page_in, table_in, put_byte, with_slot, alloc, install, map_page, unmap, copy, copy_refusal, unless_refused, drop_slot, delete, emptied_at, unmap_all, revoke, call_of, call}
+use Rattle.call_table.specs.Calls.{Act, Page, is_slot, page_in, table_in, put_byte, with_slot, alloc, install, map_page, unmap, copy, copy_refusal, unless_refused, drop_slot, delete, emptied_at, unmap_all, revoke, call_of, call, number_made}
 use Rattle.call_table.specs.Laws.{IsMine, Kept, SameMine, IsConfined}
 use Rattle.call_table.proofs.TablesClaims.{some_same, own_root, table_own, table_not_root, valid-table}
 use Rattle.call_table.proofs.TablesSlots.{claim_at, cap_by}
@@ -252,5 +252,5 @@ pub calls_are_confined : (e : Estate) (d : Dom) (m k : Mem) → Kept e d m → S
 unfolding call
 calls_are_confined e d m k h same =
     let regs = d.threads.current.regs in
-    let r = any_call e m d m k (record { same = same; outside = λ f _. refl }) (ready e d m h) (register regs 17) (register regs 10) (register regs 11) (register regs 12) in
+    let r = any_call e m d m k (record { same = same; outside = λ f _. refl }) (ready e d m h) (number_made e d) (register regs 10) (register regs 11) (register regs 12) in
     record { value = r.value; notes = r.notes; same = r.beside.same; outside = r.beside.outside; work = r.work }

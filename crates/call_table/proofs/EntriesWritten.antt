@@ -18,8 +18,7 @@ use Rattle.cap_table.specs.Slots.{cap_at, copied, noted, revoked, revoked_count,
 use Rattle.cap_table.proofs.RevokeLemmas.{at_revoked}
 use Rattle.call_table.specs.Domain.{Dom, placed, replied, done, refused, exited, with_caps}
 use Rattle.call_table.specs.Claims.{Estate, least_free}
-use Rattle.call_table.specs.Calls.{Note, Act, entries_in, zero_out, page_refusal, table_refusal, map_at, unmap_at, install_at, uninstall_at, empty_buffer, some_or, is_slot, filled, allowed, unless_refused, page_in, table_in, copy_refusal, clear_entry, with_slot, put_byte, alloc, install, map_page, unmap, copy, drop_slot, delete, emptied_at, unmap_all, revoke, call_of, call, fresh_cap}
-use Rattle.call_table.specs.Laws as laws
+use Rattle.call_table.specs.Calls.{Note, Act, entries_in, zero_out, page_refusal, table_refusal, map_at, unmap_at, install_at, uninstall_at, empty_buffer, some_or, is_slot, filled, allowed, unless_refused, page_in, table_in, copy_refusal, clear_entry, with_slot, put_byte, alloc, install, map_page, unmap, copy, drop_slot, delete, emptied_at, unmap_all, revoke, call_of, call, fresh_cap, number_made}
 use Rattle.call_table.specs.Laws.{Kept}
 use Rattle.call_table.specs.Meanings.{Makes, argument_a, argument_b, argument_c}
 use Rattle.call_table.specs.Entries.{SetsSlot, AllocatedSlotLaw, MappedSlotLaw, CopiedPageLaw, CopiedLineLaw, DeletedSlotLaw, IsRevokedAll, RevokedSlotsLaw, entry_of, entries_written, EntriesLaw}
@@ -44,7 +43,7 @@ set_is d slot c below = record {
 }
 
 -- the value of a call, by its number
-value_of : (e : Estate) (d x : Dom) (m : Mem) (number : ℕ) → Makes d number → (call e d m).value ≡ inr x
+value_of : (e : Estate) (d x : Dom) (m : Mem) (number : ℕ) → Makes e d number → (call e d m).value ≡ inr x
     → (call_of e d number (argument_a d) (argument_b d) (argument_c d) m).value ≡ inr x
 value_of e d x m number is does = ap (λ (r : Done Mem Note Dom Dom). r.value) (sym (by_number e d m number is)) ∙ does
 
@@ -129,7 +128,7 @@ mapped_slot e d x m frame rights at h is does there =
     sets_by d x a (noted (cap_at d.caps a) (Some b)) (Some (cap.Frame frame rights (Some b))) r.0 r.1
     (ap (λ (o : Option Cap). noted o (Some b)) there)
 
-copied_as : (e : Estate) (d x : Dom) (m : Mem) (c z : Option Cap) → Kept e d m → Makes d 6 → (call e d m).value ≡ inr x
+copied_as : (e : Estate) (d x : Dom) (m : Mem) (c z : Option Cap) → Kept e d m → Makes e d 6 → (call e d m).value ≡ inr x
     → cap_at d.caps (argument_a d) ≡ c → copied c (argument_c d) ≡ z → SetsSlot (argument_b d) z d x
 unfolding call_of
 copied_as e d x m c z h is does there same =
@@ -416,4 +415,4 @@ module _ (e : Estate) (d : Dom) (m : Mem) (h : Kept e d m) (a b c : ℕ) where
 pub entries_are : EntriesLaw
 unfolding call
 entries_are e d x m h does =
-    (call_right e d m h (argument_a d) (argument_b d) (argument_c d) (laws.number_of d)).when x does
+    (call_right e d m h (argument_a d) (argument_b d) (argument_c d) (number_made e d)).when x does

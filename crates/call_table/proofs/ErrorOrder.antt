@@ -14,9 +14,8 @@ use Rattle.cap_table.specs.declared.Cap.TheVariants as cap
 use Rattle.cap_table.specs.Slots.{cap_at, is_filled, page_of, table_of, line_of, mapped_at, installed_at, in_use}
 use Rattle.call_table.specs.Domain.{Dom, refused}
 use Rattle.call_table.specs.Claims.{Estate, free_frames, least_free}
-use Rattle.call_table.specs.Calls.{Note, Act, page_refusal, table_refusal, some_or, is_slot, filled, page_in, table_in, line_in, line_at, may_give, allowed, put_byte, alloc, install, map_page, unmap, copy_refusal, unless_refused, copy, drop_slot, delete, revoke, poll, wait, signal, spawn, call_of, call}
+use Rattle.call_table.specs.Calls.{Note, Act, page_refusal, table_refusal, some_or, is_slot, filled, page_in, table_in, line_in, line_at, may_give, allowed, put_byte, alloc, install, map_page, unmap, copy_refusal, unless_refused, copy, drop_slot, delete, revoke, poll, wait, signal, spawn, call_of, call, number_made}
 use Rattle.call_table.specs.Calls.{Page, Directory as TableCap}
-use Rattle.call_table.specs.Laws as laws
 use Rattle.call_table.specs.Meanings.{argument_a, argument_b, argument_c}
 use Rattle.call_table.proofs.Refusals.{Sure, give_sure, zero_sure, map_at_sure, unmap_at_sure, install_at_sure, buffer_sure, bind_sure, drop_sure, unmap_all_sure}
 use Rattle.call_table.specs.Errors.{Error, bad_call, bad_slot, empty, used, wrong_kind, bad_rights, bad_address, mapped, no_table, no_frame, output_full, table_in_use, no_thread, in_slot, rights_of, is_multiple, is_beyond, errors_of, first_so, AscendLaw, FirstErrorLaw, NoErrorLaw}
@@ -331,11 +330,11 @@ module _ (d : Dom) (m : Mem) where
 
 pub first_error : FirstErrorLaw
 unfolding call
-first_error e d m = (call_ends d m e (laws.number_of d) (argument_a d) (argument_b d) (argument_c d)).refused
+first_error e d m = (call_ends d m e (number_made e d) (argument_a d) (argument_b d) (argument_c d)).refused
 
 pub no_error : NoErrorLaw
 unfolding call
-no_error e d m = (call_ends d m e (laws.number_of d) (argument_a d) (argument_b d) (argument_c d)).done
+no_error e d m = (call_ends d m e (number_made e d) (argument_a d) (argument_b d) (argument_c d)).done
 
 -- ---- the codes ascend
 
@@ -369,4 +368,4 @@ all_ascend e d m number a b c =
 pub codes_ascend : AscendLaw
 unfolding codes
 codes_ascend e d m =
-    increasing_from_Ascends _ 0 (all_ascend e d m (laws.number_of d) (argument_a d) (argument_b d) (argument_c d))
+    increasing_from_Ascends _ 0 (all_ascend e d m (number_made e d) (argument_a d) (argument_b d) (argument_c d))

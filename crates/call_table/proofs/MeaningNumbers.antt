@@ -53,7 +53,7 @@ module _ (d : Dom) (m : Mem) (f : ℕ → Act Dom) (line : ℕ) where
 
 -- ---- each call
 
-pub by_number : (e : Estate) (d : Dom) (m : Mem) (number : ℕ) → Makes d number
+pub by_number : (e : Estate) (d : Dom) (m : Mem) (number : ℕ) → Makes e d number
     → call e d m ≡ call_of e d number (argument_a d) (argument_b d) (argument_c d) m
 unfolding call
 by_number e d m number is = ap (λ (n : ℕ). call_of e d n (argument_a d) (argument_b d) (argument_c d) m) is
@@ -63,45 +63,45 @@ module _ (e : Estate) (d : Dom) (m : Mem) where
   abbrev Left : Done Mem Note Dom Dom → Dom
   Left r = either r.value
 
-  pub exit_is : Makes d 0 → after_call e d m ≡ exited (argument_a d) d
+  pub exit_is : Makes e d 0 → after_call e d m ≡ exited (argument_a d) d
   unfolding call_of give either
   exit_is is = ap Left (by_number e d m 0 is)
 
-  pub end_is : Makes d 14 → after_call e d m ≡ thread_ended d
+  pub end_is : Makes e d 14 → after_call e d m ≡ thread_ended d
   unfolding call_of give either
   end_is is = ap Left (by_number e d m 14 is)
 
-  pub yield_is : Makes d 13 → after_call e d m ≡ turned (done 0 d)
+  pub yield_is : Makes e d 13 → after_call e d m ≡ turned (done 0 d)
   unfolding call_of give either
   yield_is is = ap Left (by_number e d m 13 is)
 
-  pub put_is : Makes d 1 → length d.printed < 4096
+  pub put_is : Makes e d 1 → length d.printed < 4096
       → after_call e d m ≡ done 0 (record d { printed = d.printed ++ argument_a d % 256 ∷ [] })
   unfolding call_of put_byte give either
   put_is is room =
       ap Left (by_number e d m 1 is)
       ∙ ap Left (passes d m 11 (nat_lt (length d.printed) 4096) _ (lt-ltb (length d.printed) 4096 room))
 
-  pub full_is : Makes d 1 → 4096 ≤ length d.printed → after_call e d m ≡ refused 11 d
+  pub full_is : Makes e d 1 → 4096 ≤ length d.printed → after_call e d m ≡ refused 11 d
   unfolding call_of put_byte stop either
   full_is is full =
       ap Left (by_number e d m 1 is)
       ∙ ap Left (fails d m 11 (nat_lt (length d.printed) 4096) _ (le-ltb (length d.printed) 4096 full))
 
   module _ (line : ℕ) (names : Names d line) where
-    pub poll_is : Makes d 9 → after_call e d m ≡ done (bit_value (is_set d line)) (with_bit line false d)
+    pub poll_is : Makes e d 9 → after_call e d m ≡ done (bit_value (is_set d line)) (with_bit line false d)
     unfolding call_of poll give either
     poll_is is = ap Left (by_number e d m 9 is) ∙ ap Left (line_found d m _ line names)
 
-    pub wait_is : Makes d 10 → after_call e d m ≡ waited (is_set d line) line d
+    pub wait_is : Makes e d 10 → after_call e d m ≡ waited (is_set d line) line d
     unfolding call_of wait give either
     wait_is is = ap Left (by_number e d m 10 is) ∙ ap Left (line_found d m _ line names)
 
-    pub signal_is : Makes d 11 → after_call e d m ≡ done 0 (signalled line d)
+    pub signal_is : Makes e d 11 → after_call e d m ≡ done 0 (signalled line d)
     unfolding call_of signal give either
     signal_is is = ap Left (by_number e d m 11 is) ∙ ap Left (line_found d m _ line names)
 
-  module _ (is : Makes d 12) (aligned : argument_a d % 4 ≡ 0) where
+  module _ (is : Makes e d 12) (aligned : argument_a d % 4 ≡ 0) where
     pub spawn_is : (t : ℕ) → vacant d.threads ≡ Some t → after_call e d m ≡ done t (with_spawned (argument_a d) (argument_b d) d)
     unfolding call_of spawn give either
     spawn_is t there =
@@ -135,7 +135,7 @@ module _ (e : Estate) (d : Dom) (m : Mem) (frame rights va : ℕ) where
       some_or (refused 7 d) page.mapped >>= (λ at.
       unmap_at e.root at >> (empty_buffer >> give (done 0 (with_slot d (argument_a d) (noted (Some c) None)))))))) m
 
-  pub unmap_is : Makes d 5 → argument_a d < 64 → cap_at d.caps (argument_a d) ≡ Some (cap.Frame frame rights (Some va))
+  pub unmap_is : Makes e d 5 → argument_a d < 64 → cap_at d.caps (argument_a d) ≡ Some (cap.Frame frame rights (Some va))
       → call e d m ≡ cleared
   unfolding call_of unmap filled is_slot check some_or unmap_at empty_buffer give stop ◌>>◌ ◌>>=◌ go_on
   unmap_is is below there = by_number e d m 5 is ∙ ap₂ from_slot (lt-ltb (argument_a d) 64 below) there

@@ -18,8 +18,7 @@ use Rattle.cap_table.specs.declared.Cap.TheVariants as cap
 use Rattle.cap_table.specs.Slots.{cap_at, table_of, noted}
 use Rattle.call_table.specs.Domain.{Dom, replied, placed, done, exited, with_caps}
 use Rattle.call_table.specs.Claims.{Claim, Estate, is_mine, claims, claim_of, region_of}
-use Rattle.call_table.specs.Calls.{Note, Act, Directory, some_or, is_slot, table_in, unless_refused, copy_refusal, put_byte, with_slot, install, copy, call_of, call}
-use Rattle.call_table.specs.Laws as laws
+use Rattle.call_table.specs.Calls.{Note, Act, Directory, some_or, is_slot, table_in, unless_refused, copy_refusal, put_byte, with_slot, install, copy, call_of, call, number_made}
 use Rattle.call_table.specs.Laws.{Kept}
 use Rattle.call_table.specs.Meanings.{argument_a, argument_b, argument_c, touches_memory, MemoryLaw, IsInstalled, IsTableCall, TableLaw, IsUnmapped, UnmapLaw}
 use Rattle.call_table.proofs.ClaimLaws.{not_root}
@@ -210,5 +209,5 @@ module _ (m : Mem) where
 pub memory_stays : MemoryLaw
 unfolding call
 memory_stays e d m none =
-    let still = call_still m e d (laws.number_of d) none (argument_a d) (argument_b d) (argument_c d) in
+    let still = call_still m e d (number_made e d) none (argument_a d) (argument_b d) (argument_c d) in
     record { memory = still.memory; no_work = still.no_work }

@@ -14,7 +14,7 @@ use Rattle.cap_table.specs.Slots.{Slots, cap_at, with_cap, copied, noted, is_rev
 use Rattle.cap_table.proofs.RevokeLemmas.{at_revoked}
 use Rattle.call_table.specs.Domain.{Dom, replied, placed, done, refused, exited, with_caps}
 use Rattle.call_table.specs.Claims.{Estate, is_named, least_free}
-use Rattle.call_table.specs.Calls.{Note, is_slot, page_in, table_in, is_within, may_give, put_byte, fresh_cap, with_slot, alloc, install, map_page, unmap, copy, copy_refusal, drop_slot, delete, revoke, call_of, call}
+use Rattle.call_table.specs.Calls.{Note, is_slot, page_in, table_in, is_within, may_give, put_byte, fresh_cap, with_slot, alloc, install, map_page, unmap, copy, copy_refusal, drop_slot, delete, revoke, call_of, call, number_made}
 use Rattle.call_table.specs.Laws.{IsNoWider, after_copies}
 use Rattle.call_table.proofs.TablesSlots.{cap_by}
 use Rattle.call_table.proofs.QuietCalls.{later_quiet}
@@ -242,7 +242,7 @@ module _ (New : ℕ → Type 0) (d : Dom) (m : Mem) where
   unfolding call
   call_old e new =
       let regs = d.threads.current.regs in
-      either_gives (Old New d.caps) _ (any_old e new (register regs 17) (register regs 10) (register regs 11) (register regs 12))
+      either_gives (Old New d.caps) _ (any_old e new (number_made e d) (register regs 10) (register regs 11) (register regs 12))
 
   copy_old : (a to c : ℕ) → AreOld New d.caps (either (copy d a to c m).value).caps
   copy_old a to c =

@@ -12,8 +12,9 @@ use Rattle.cap_table.specs.Slots.{cap_at}
 use Rattle.rv_core.specs.Registers.{register}
 use Rattle.call_table.specs.Domain.{Dom, refused, exited}
 use Rattle.call_table.specs.Claims.{Estate}
-use Rattle.call_table.specs.Calls.{Note, Act, zero_out, page_refusal, table_refusal, map_at, unmap_at, install_at, uninstall_at, empty_buffer, some_or, is_slot, filled, allowed, error_of, put_byte, alloc, install, map_page, unmap, may_give, copy_refusal, unless_refused, copy, clear_entry, drop_slot, delete, unmap_all, revoke, call_of, call, with_slot}
-use Rattle.call_table.specs.Laws.{IsRefusal, RefusalLaw}
+use Rattle.call_table.specs.Calls.{Note, Act, zero_out, page_refusal, table_refusal, map_at, unmap_at, install_at, uninstall_at, empty_buffer, some_or, is_slot, filled, allowed, error_of, put_byte, alloc, install, map_page, unmap, may_give, copy_refusal, unless_refused, copy, clear_entry, drop_slot, delete, unmap_all, revoke, call_of, call, with_slot, number_made}
+use Rattle.kernel_clone.specs.Footprints.{bad_call_op}
+use Rattle.call_table.specs.Laws.{IsRefusal, RefusalLaw, LeftOutLaw}
 use Rattle.call_table.proofs.RevokedSlots.{after_all}
 use Rattle.call_table.proofs.QuietCalls.{IsCode, is_code, IsRefused, QuietEnd, Quiet, later_quiet}
 
@@ -279,4 +280,11 @@ pub refusals : RefusalLaw
 unfolding call
 refusals e d x m =
     let regs = d.threads.current.regs in
-    (call_of_tidy e d (register regs 17) (register regs 10) (register regs 11) (register regs 12)).ends m x
+    (call_of_tidy e d (number_made e d) (register regs 10) (register regs 11) (register regs 12)).ends m x
+
+-- a call that may not be made counts as one that is none
+pub left_out : LeftOutLaw
+unfolding call call_of stop
+left_out e d m out =
+    let regs = d.threads.current.regs in
+    ap (λ (b : Bool). call_of e d (if b then register regs 17 else bad_call_op) (register regs 10) (register regs 11) (register regs 12) m) out

@@ -23,7 +23,7 @@ use Rattle.cap_table.proofs.RevokeLemmas.{at_revoked}
 use Rattle.rv_core.specs.Registers.{register}
 use Rattle.call_table.specs.Domain.{Dom, placed, replied, done, refused, exited, with_caps}
 use Rattle.call_table.specs.Claims.{Claim, Estate, is_mine, claims, claim_of, place_of, least_free, IsMapped}
-use Rattle.call_table.specs.Calls.{Note, Page, is_within, may_give, is_slot, page_in, table_in, fresh_cap, copy_refusal, clear_entry, with_slot, put_byte, alloc, install, map_page, unmap, copy, drop_slot, delete, unmap_at, emptied_at, unmap_all, revoke, call_of, call}
+use Rattle.call_table.specs.Calls.{Note, Page, is_within, may_give, is_slot, page_in, table_in, fresh_cap, copy_refusal, clear_entry, with_slot, put_byte, alloc, install, map_page, unmap, copy, drop_slot, delete, unmap_at, emptied_at, unmap_all, revoke, call_of, call, number_made}
 use Rattle.call_table.specs.Laws.{Kept, LeavesKept}
 use Rattle.call_table.specs.Rights.{IsWithin, AreWithin, NothingMappedLaw, CallsWithinLaw, StoresWithinLaw, MayReach, by_cap, for_good, WalksWithinLaw}
 use Rattle.call_table.proofs.TablesClaims.{leaf_entry, leaf_frame}
@@ -411,8 +411,8 @@ pub calls_within : CallsWithinLaw
 unfolding call
 calls_within e d m s h w =
     let regs = d.threads.current.regs in
-    call_within e d m w h (register regs 17) (register regs 10) (register regs 11) (register regs 12)
-    (call_of_keeps e d m (register regs 17) (register regs 10) (register regs 11) (register regs 12) s h)
+    call_within e d m w h (number_made e d) (register regs 10) (register regs 11) (register regs 12)
+    (call_of_keeps e d m (number_made e d) (register regs 10) (register regs 11) (register regs 12) s h)
 
 pub nothing_mapped : NothingMappedLaw
 nothing_mapped e d m none = record {

@@ -17,8 +17,7 @@ use Rattle.cap_table.specs.declared.Cap.{Cap}
 use Rattle.cap_table.specs.Slots.{cap_at, copied, noted, line_of, revoked, revoked_count}
 use Rattle.call_table.specs.Domain.{Dom, placed, recorded, replied, done, refused, exited, with_caps, is_set, with_bit, signalled_by, signalled, delivered_on, turned, waiting, thread_ended, with_spawned}
 use Rattle.call_table.specs.Claims.{Estate, least_free}
-use Rattle.call_table.specs.Calls.{is_slot, page_in, table_in, fresh_cap, copy_refusal, with_slot, bit_value, put_byte, alloc, install, map_page, unmap, copy, drop_slot, delete, revoke, poll, waited, wait, signal, spawn, call_of, call}
-use Rattle.call_table.specs.Laws as laws
+use Rattle.call_table.specs.Calls.{is_slot, page_in, table_in, fresh_cap, copy_refusal, with_slot, bit_value, put_byte, alloc, install, map_page, unmap, copy, drop_slot, delete, revoke, poll, waited, wait, signal, spawn, call_of, call, number_made}
 use Rattle.call_table.specs.ThreadLaws.{HasTurn, MayRun, after_call, Signals, CallTurnLaw, DeliveryTurnLaw, CallWakesLaw, DeliveryWakesLaw, SignalWakesLaw, SignalSetsLaw, DeliveryCountLaw, CallCountLaw}
 use Rattle.call_table.proofs.MeaningSteps.{Gives, either_gives, bind_gives, give_gives, stop_gives, if_gives, zero_gives, map_gives, unmap_gives, install_gives, unmap_all_gives, buffer_gives, drop_gives, page_refusal_gives, table_refusal_gives, check_gives, some_gives, filled_gives, line_gives, allowed_gives, unless_gives}
 use Rattle.call_table.proofs.ThreadLawsTurns.{waits_apart, current_eight, current_others, yielded_turn, ended_turn, moved_turn, blocked_turn, finished_turn, woken_turn, waiter_waits, woken_ready, spawned_ready, waits_started}
@@ -378,13 +377,13 @@ module _ (Excuse : ℕ → Type 0) (d : Dom) where
 
 -- ---- the laws of calls
 
-call_fair : (e : Estate) (d : Dom) (m : Mem) → IsFair (λ line. Signals d line ⊎ (laws.number_of d ≡ 0)) d (after_call e d m)
+call_fair : (e : Estate) (d : Dom) (m : Mem) → IsFair (λ line. Signals e d line ⊎ (number_made e d ≡ 0)) d (after_call e d m)
 unfolding call
 call_fair e d m =
     let regs = d.threads.current.regs in
-    let Excuse : ℕ → Type 0 = λ line. Signals d line ⊎ (laws.number_of d ≡ 0) in
+    let Excuse : ℕ → Type 0 = λ line. Signals e d line ⊎ (number_made e d ≡ 0) in
     either_gives (IsFair Excuse d) _
-    (any_call Excuse d e m (register regs 17) (register regs 10) (register regs 11) (register regs 12)
+    (any_call Excuse d e m (number_made e d) (register regs 10) (register regs 11) (register regs 12)
     (λ is line. inr is) (λ is line names. inl (record { number = is; names = names })))
 
 pub call_turn : CallTurnLaw

@@ -16,7 +16,7 @@ use Rattle.page_map.proofs.KeptLemmas.{at_write, root_stays}
 use Rattle.cap_table.specs.Slots.{cap_at}
 use Rattle.call_table.specs.Domain.{Dom, exited}
 use Rattle.call_table.specs.Claims.{Estate, is_mine, claims, frame_of, least_free}
-use Rattle.call_table.specs.Calls.{empties, clears_entries, is_slot, page_in, table_in, copy_refusal, put_byte, alloc, install, map_page, copy, call_of, call}
+use Rattle.call_table.specs.Calls.{empties, clears_entries, is_slot, page_in, table_in, copy_refusal, put_byte, alloc, install, map_page, copy, call_of, call, number_made}
 use Rattle.call_table.specs.Laws.{Kept, KeepsWalks, WalksStayLaw}
 use Rattle.call_table.proofs.ClaimLawsSlots.{IsFree, least_is_free, unnamed}
 use Rattle.call_table.proofs.TablesClaims.{root_frame, table_frame, table_not_root}
@@ -212,7 +212,7 @@ module _ (e : Estate) (d : Dom) (m : Mem) (h : Kept e d m) where
     walks_by : (v : Dom ⊎ Dom) → (call_of e d number a b c m).value ≡ v → KeepsWalks e m (call_of e d number a b c m).state
     walks_by (inl x) is = same_walks e m _ ((call_of_tidy e d number a b c).ends m x is).memory
     walks_by (inr x) is =
-        let w : IsWork d (clears_entries number) (call_of e d number a b c m).value (call_of e d number a b c m).notes =
+        let w : IsWork d number (call_of e d number a b c m).value (call_of e d number a b c m).notes =
         (call_of_works e d number a b c).each m in
         let none : clears_entries number ≡ false =
         ap (emptied_by (clears_entries number)) (sym is) ∙ sym w.buffer ∙ quiet in
@@ -225,4 +225,4 @@ pub walks_stay : WalksStayLaw
 unfolding call
 walks_stay e d m h quiet =
     let regs = d.threads.current.regs in
-    call_of_keeps_walks e d m h (register regs 17) (register regs 10) (register regs 11) (register regs 12) quiet
+    call_of_keeps_walks e d m h (number_made e d) (register regs 10) (register regs 11) (register regs 12) quiet

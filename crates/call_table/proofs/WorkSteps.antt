@@ -8,14 +8,14 @@ use Rattle.phys_mem.specs.Mem.{Mem}
 use Rattle.page_map.specs.declared.refusal.MapRefusal.{MapRefusal}
 use Rattle.page_map.specs.declared.refusal.MapRefusal.TheVariants as refusal
 use Rattle.page_map.specs.Tables.{map_refusal, install_refusal}
-use Rattle.pad_bound.specs.Bound.{most_entries}
+use Rattle.pad_bound.specs.Worst.{most_entries_of}
 use Rattle.cap_table.specs.declared.Cap.{Cap}
 use Rattle.cap_table.specs.declared.Cap.TheVariants as cap
 use Rattle.cap_table.specs.Slots.{cap_at}
 use Rattle.call_table.specs.declared.Reply.{Reply}
 use Rattle.call_table.specs.Domain.{Dom, reply_past, placed, replied, done, refused, with_caps}
 use Rattle.call_table.specs.Claims.{Estate}
-use Rattle.call_table.specs.Calls.{Note, Act, zeroed_in, entries_in, empties, is_done, zero_out, page_refusal, table_refusal, map_at, unmap_at, unmap_all, install_at, uninstall_at, empty_buffer, some_or, is_slot, filled, allowed, unless_refused, with_slot, clear_entry, drop_slot}
+use Rattle.call_table.specs.Calls.{Note, Act, zeroed_in, entries_in, empties, clears_entries, is_done, zero_out, page_refusal, table_refusal, map_at, unmap_at, unmap_all, install_at, uninstall_at, empty_buffer, some_or, is_slot, filled, allowed, unless_refused, with_slot, clear_entry, drop_slot}
 use Rattle.page_map.specs.Changes.{unmapped}
 use Rattle.call_table.proofs.RevokedSlots.{after_all}
 use Rattle.call_table.proofs.QuietCalls.{Quiet}
@@ -112,150 +112,175 @@ abbrev pub emptied_by : Bool → Dom ⊎ Dom → Bool
 emptied_by t (inl x) = false
 emptied_by t (inr x) = t
 
-pub record IsWork (d : Dom) (t : Bool) (v : Dom ⊎ Dom) (ns : List Note) : Type 0 where
-  pub buffer : empties ns ≡ emptied_by t v
-  pub reply : emptied_by t v ≡ (t && is_done (reply_past (length d.replies) (either v)))
-  pub few : length (entries_in ns) ≤ most_entries
-  pub not_both : (zeroed_in ns ≡ None) ⊎ (entries_in ns ≡ [])
+-- the work of the call of this number
+pub record IsWork (d : Dom) (number : ℕ) (v : Dom ⊎ Dom) (ns : List Note) : Type 0 where
+  pub buffer : empties ns ≡ emptied_by (clears_entries number) v
+  pub reply : emptied_by (clears_entries number) v ≡ (clears_entries number && is_done (reply_past (length d.replies) (either v)))
+  pub few : length (entries_in ns) ≤ most_entries_of number
+  pub zeroes : (frame : ℕ) → zeroed_in ns ≡ Some frame → number ≡ 2
 
-pub record Works (d : Dom) (t : Bool) (y : Act Dom) : Type 0 where
-  pub each : (m : Mem) → IsWork d t (y m).value (y m).notes
+pub record Works (d : Dom) (number : ℕ) (y : Act Dom) : Type 0 where
+  pub each : (m : Mem) → IsWork d number (y m).value (y m).notes
 
 never_both : (t b : Bool) → b ≡ false → false ≡ (t && b)
 never_both true b e = sym e
 never_both false b e = refl
 
-module _ (d : Dom) (t : Bool) where
-  stopped : (code : ℕ) → nat_eq code 0 ≡ false → IsWork d t (inl (refused code d)) []
+never_empties : (t b : Bool) (v : Dom ⊎ Dom) → t ≡ false → (false ≡ emptied_by t v) × (emptied_by t v ≡ (t && b))
+never_empties true b v e = absurd (cc e)
+never_empties false b (inl x) e = (refl, refl)
+never_empties false b (inr x) e = (refl, refl)
+
+-- where nothing is zeroed
+none_zeroed : (number : ℕ) (ns : List Note) → zeroed_in ns ≡ None → (frame : ℕ) → zeroed_in ns ≡ Some frame → number ≡ 2
+none_zeroed number ns none frame e = absurd (cc (sym none ∙ e))
+
+module _ (d : Dom) (number : ℕ) where
+  stopped : (code : ℕ) → nat_eq code 0 ≡ false → IsWork d number (inl (refused code d)) []
   unfolding either zeroed_in entries_in empties
   stopped code bad = record {
     buffer = refl;
-    reply = never_both t _ (ap is_done (first_reply d d code 0 refl) ∙ bad);
+    reply = never_both (clears_entries number) _ (ap is_done (first_reply d d code 0 refl) ∙ bad);
     few = omega arith;
-    not_both = inl refl;
+    zeroes = none_zeroed number [] refl;
   }
 
-  pub stop_works : (code : ℕ) → nat_eq code 0 ≡ false → Works d t (stop (refused code d))
+  pub stop_works : (code : ℕ) → nat_eq code 0 ≡ false → Works d number (stop (refused code d))
   unfolding stop
   stop_works code bad = record { each = λ m. stopped code bad }
 
-  pub check_works : (code : ℕ) (b : Bool) (y : Act Dom) → nat_eq code 0 ≡ false → Works d t y → Works d t (check (refused code d) b >> y)
+  pub check_works : (code : ℕ) (b : Bool) (y : Act Dom) → nat_eq code 0 ≡ false → Works d number y → Works d number (check (refused code d) b >> y)
   unfolding check ◌>>◌ ◌>>=◌ go_on give stop
   check_works code true y bad h = record { each = λ m. h.each m }
   check_works code false y bad h = record { each = λ m. stopped code bad }
 
-  pub some_works : {A : Type 0} (code : ℕ) (o : Option A) (f : A → Act Dom) → nat_eq code 0 ≡ false → ((a : A) → Works d t (f a))
-      → Works d t (some_or (refused code d) o >>= f)
+  pub some_works : {A : Type 0} (code : ℕ) (o : Option A) (f : A → Act Dom) → nat_eq code 0 ≡ false → ((a : A) → Works d number (f a))
+      → Works d number (some_or (refused code d) o >>= f)
   unfolding some_or ◌>>=◌ go_on give stop
   some_works code None f bad h = record { each = λ m. stopped code bad }
   some_works code (Some a) f bad h = record { each = λ m. (h a).each m }
 
-  filled_by : (b : Bool) (o : Option Cap) (f : Cap → Act Dom) → ((c : Cap) → b ≡ true → Works d t (f c))
-      → Works d t ((check (refused 2 d) b >> some_or (refused 3 d) o) >>= f)
+  filled_by : (b : Bool) (o : Option Cap) (f : Cap → Act Dom) → ((c : Cap) → b ≡ true → Works d number (f c))
+      → Works d number ((check (refused 2 d) b >> some_or (refused 3 d) o) >>= f)
   unfolding check some_or ◌>>◌ ◌>>=◌ go_on give stop
   filled_by false o f h = record { each = λ m. stopped 2 refl }
   filled_by true None f h = record { each = λ m. stopped 3 refl }
   filled_by true (Some c) f h = record { each = λ m. (h c refl).each m }
 
-  pub filled_works : (a : ℕ) (f : Cap → Act Dom) → ((c : Cap) → a < 64 → Works d t (f c)) → Works d t (filled d a >>= f)
+  pub filled_works : (a : ℕ) (f : Cap → Act Dom) → ((c : Cap) → a < 64 → Works d number (f c)) → Works d number (filled d a >>= f)
   unfolding filled is_slot
   filled_works a f h = filled_by (nat_lt a 64) (cap_at d.caps a) f (λ c is. h c (ltb-true a 64 is))
 
-  pub slot_works : (a : ℕ) (y : Act Dom) → Works d t y → Works d t (is_slot d a >> y)
+  pub slot_works : (a : ℕ) (y : Act Dom) → Works d number y → Works d number (is_slot d a >> y)
   unfolding is_slot
   slot_works a y h = check_works 2 (nat_lt a 64) y refl h
 
-  pub page_refusal_works : (root va : ℕ) (f : Option MapRefusal → Act Dom) → ((r : Option MapRefusal) → Works d t (f r))
-      → Works d t (page_refusal root va >>= f)
+  pub page_refusal_works : (root va : ℕ) (f : Option MapRefusal → Act Dom) → ((r : Option MapRefusal) → Works d number (f r))
+      → Works d number (page_refusal root va >>= f)
   unfolding page_refusal ◌>>=◌ go_on
   page_refusal_works root va f h = record { each = λ m. (h (map_refusal m root va)).each m }
 
-  pub table_refusal_works : (root va : ℕ) (f : Option MapRefusal → Act Dom) → ((r : Option MapRefusal) → Works d t (f r))
-      → Works d t (table_refusal root va >>= f)
+  pub table_refusal_works : (root va : ℕ) (f : Option MapRefusal → Act Dom) → ((r : Option MapRefusal) → Works d number (f r))
+      → Works d number (table_refusal root va >>= f)
   unfolding table_refusal ◌>>=◌ go_on
   table_refusal_works root va f h = record { each = λ m. (h (install_refusal m root va)).each m }
 
-  pub allowed_works : (o : Option MapRefusal) (y : Act Dom) → Works d t y → Works d t (allowed d o >> y)
+  pub allowed_works : (o : Option MapRefusal) (y : Act Dom) → Works d number y → Works d number (allowed d o >> y)
   unfolding allowed ◌>>◌ ◌>>=◌ go_on give stop
   allowed_works None y h = record { each = λ m. h.each m }
   allowed_works (Some refusal.BadAddress) y h = record { each = λ m. stopped 7 refl }
   allowed_works (Some refusal.Mapped) y h = record { each = λ m. stopped 8 refl }
   allowed_works (Some refusal.NoTable) y h = record { each = λ m. stopped 9 refl }
 
-  pub unless_works : (o : Option ℕ) (y : Act Dom) → ((code : ℕ) → o ≡ Some code → nat_eq code 0 ≡ false) → Works d t y
-      → Works d t (unless_refused d o >> y)
+  pub unless_works : (o : Option ℕ) (y : Act Dom) → ((code : ℕ) → o ≡ Some code → nat_eq code 0 ≡ false) → Works d number y
+      → Works d number (unless_refused d o >> y)
   unfolding unless_refused ◌>>◌ ◌>>=◌ go_on give stop
   unless_works None y bad h = record { each = λ m. h.each m }
   unless_works (Some code) y bad h = record { each = λ m. stopped code (bad code refl) }
 
 -- ---- what a call does last, where it never empties the buffer
 
-module _ (d : Dom) where
-  nothing_done : (v : Dom ⊎ Dom) → IsWork d false v []
+module _ (d : Dom) (number : ℕ) (quiet : clears_entries number ≡ false) where
+  nothing_done : (v : Dom ⊎ Dom) → IsWork d number v []
   unfolding zeroed_in entries_in empties
-  nothing_done (inl x) = record { buffer = refl; reply = refl; few = omega arith; not_both = inl refl }
-  nothing_done (inr x) = record { buffer = refl; reply = refl; few = omega arith; not_both = inl refl }
+  nothing_done v =
+      let never = never_empties (clears_entries number) (is_done (reply_past (length d.replies) (either v))) v quiet in
+      record { buffer = never.0; reply = never.1; few = omega arith; zeroes = none_zeroed number [] refl }
 
-  pub quiet_works : (y : Act Dom) → Quiet d y → Works d false y
+  pub quiet_works : (y : Act Dom) → Quiet d y → Works d number y
   quiet_works y q = record {
-    each = λ m. subst (λ (ns : List Note). IsWork d false (y m).value ns) (sym (q.no_work m)) (nothing_done (y m).value);
+    each = λ m. subst (λ (ns : List Note). IsWork d number (y m).value ns) (sym (q.no_work m)) (nothing_done (y m).value);
   }
 
-  pub give_works : (x : Dom) → Works d false (give x)
-  unfolding give zeroed_in entries_in empties
-  give_works x = record { each = λ m. record { buffer = refl; reply = refl; few = omega arith; not_both = inl refl } }
+  pub give_works : (x : Dom) → Works d number (give x)
+  unfolding give
+  give_works x = record { each = λ m. nothing_done (inr x) }
 
-  pub zero_works : (f : ℕ) (x : Dom) → Works d false (zero_out f >> give x)
+module _ (d : Dom) where
+  pub zero_works : (f : ℕ) (x : Dom) → Works d 2 (zero_out f >> give x)
   unfolding zero_out give ◌>>◌ ◌>>=◌ go_on zeroed_in entries_in empties
-  zero_works f x = record { each = λ m. record { buffer = refl; reply = refl; few = omega arith; not_both = inr refl } }
+  zero_works f x = record { each = λ m. record { buffer = refl; reply = refl; few = omega arith; zeroes = λ frame is. refl } }
 
-  pub map_at_works : (root va f rights : ℕ) (x : Dom) → Works d false (map_at root va f rights >> give x)
+  pub map_at_works : (root va f rights : ℕ) (x : Dom) → Works d 4 (map_at root va f rights >> give x)
   unfolding map_at give ◌>>◌ ◌>>=◌ go_on zeroed_in entries_in empties
-  map_at_works root va f rights x = record { each = λ m. record { buffer = refl; reply = refl; few = omega arith; not_both = inl refl } }
-
-  pub install_at_works : (root va f : ℕ) (x : Dom) → Works d false (install_at root va f >> give x)
-  unfolding install_at give ◌>>◌ ◌>>=◌ go_on zeroed_in entries_in empties
-  install_at_works root va f x = record { each = λ m. record { buffer = refl; reply = refl; few = omega arith; not_both = inl refl } }
-
-  -- ---- and where it empties it
-
-  emptied : (x : Dom) (value : ℕ) (ns : List Note) → x.replies ≡ d.replies → Writes most_entries ns
-      → IsWork d true (inr (done value x)) (ns ++ Note.Emptied ∷ [])
-  unfolding either zeroed_in entries_in empties
-  emptied x value ns same h = record {
-    buffer = empties-append ns (Note.Emptied ∷ []) h.quiet;
-    reply = sym (ap is_done (first_reply d x 0 value same));
-    few = omega (arith, h.few, ap length (entries-append ns (Note.Emptied ∷ [])), length-append (entries_in ns) []);
-    not_both = inl (zeroed-append ns (Note.Emptied ∷ []) h.zeroed);
+  map_at_works root va f rights x = record {
+    each = λ m. record { buffer = refl; reply = refl; few = omega arith; zeroes = none_zeroed 4 (map_at root va f rights m).notes refl };
   }
 
-  emptied_on : (r : Done Mem Note Dom Dom) (v : Dom ⊎ Dom) (value : ℕ) → Dropped d most_entries v r.notes
-      → IsWork d true (go_on r (λ x. empty_buffer >> give (done value x)) v).value (go_on r (λ x. empty_buffer >> give (done value x)) v).notes
+  pub install_at_works : (root va f : ℕ) (x : Dom) → Works d 3 (install_at root va f >> give x)
+  unfolding install_at give ◌>>◌ ◌>>=◌ go_on zeroed_in entries_in empties
+  install_at_works root va f x = record {
+    each = λ m. record { buffer = refl; reply = refl; few = omega arith; zeroes = none_zeroed 3 (install_at root va f m).notes refl };
+  }
+
+-- ---- and where it empties it
+
+always_empties : (t b : Bool) (x : Dom) → t ≡ true → b ≡ true → (true ≡ emptied_by t (inr x)) × (emptied_by t (inr x) ≡ (t && b))
+always_empties true b x e done = (refl, sym done)
+always_empties false b x e done = absurd (cc e)
+
+module _ (d : Dom) (number : ℕ) (clears : clears_entries number ≡ true) where
+  emptied : (x : Dom) (value : ℕ) (ns : List Note) → x.replies ≡ d.replies → Writes (most_entries_of number) ns
+      → IsWork d number (inr (done value x)) (ns ++ Note.Emptied ∷ [])
+  unfolding either zeroed_in entries_in empties
+  emptied x value ns same h =
+      let always = always_empties (clears_entries number) _ (done value x) clears (ap is_done (first_reply d x 0 value same)) in
+      record {
+        buffer = empties-append ns (Note.Emptied ∷ []) h.quiet ∙ always.0;
+        reply = always.1;
+        few = omega (arith, h.few, ap length (entries-append ns (Note.Emptied ∷ [])), length-append (entries_in ns) []);
+        zeroes = none_zeroed number (ns ++ Note.Emptied ∷ []) (zeroed-append ns (Note.Emptied ∷ []) h.zeroed);
+      }
+
+  emptied_on : (r : Done Mem Note Dom Dom) (v : Dom ⊎ Dom) (value : ℕ) → Dropped d (most_entries_of number) v r.notes
+      → IsWork d number (go_on r (λ x. empty_buffer >> give (done value x)) v).value (go_on r (λ x. empty_buffer >> give (done value x)) v).notes
   unfolding go_on ◌>>◌ ◌>>=◌ empty_buffer give
   emptied_on r (inl x) value h = absurd h
   emptied_on r (inr x) value h = emptied x value r.notes h.0 h.1
 
-  pub drops_works : (y : Act Dom) (value : ℕ) → Drops d most_entries y → Works d true (y >>= λ x. empty_buffer >> give (done value x))
+  pub drops_works : (y : Act Dom) (value : ℕ) → Drops d (most_entries_of number) y
+      → Works d number (y >>= λ x. empty_buffer >> give (done value x))
   unfolding ◌>>=◌
   drops_works y value h = record { each = λ m. emptied_on (y m) (y m).value value (h.each m) }
 
-  pub unmap_all_works : (root : ℕ) (vas : List ℕ) (x : Dom) (value : ℕ) → length vas ≤ most_entries → x.replies ≡ d.replies
-      → Works d true (unmap_all root vas >> (empty_buffer >> give (done value x)))
+  pub unmap_all_works : (root : ℕ) (vas : List ℕ) (x : Dom) (value : ℕ) → length vas ≤ most_entries_of number → x.replies ≡ d.replies
+      → Works d number (unmap_all root vas >> (empty_buffer >> give (done value x)))
   unfolding empty_buffer give ◌>>◌ ◌>>=◌ go_on
   unmap_all_works root vas x value few same = record {
     each = λ m.
         let w = all_written root vas m in
-        subst (λ (r : Done Mem Note Dom Dom). IsWork d true r.value r.notes) (sym (after_all root vas (empty_buffer >> give (done value x)) m))
+        subst (λ (r : Done Mem Note Dom Dom). IsWork d number r.value r.notes) (sym (after_all root vas (empty_buffer >> give (done value x)) m))
         (emptied x value (unmap_all root vas m).notes same (record { zeroed = w.zeroed; few = omega (arith, w.few, few); quiet = w.quiet }));
   }
 
-  pub unmap_at_works : (root va a : ℕ) (c : Option Cap) → Works d true (unmap_at root va >> (empty_buffer >> give (done 0 (with_slot d a c))))
+module _ (d : Dom) where
+  pub unmap_at_works : (root va a : ℕ) (c : Option Cap) → Works d 5 (unmap_at root va >> (empty_buffer >> give (done 0 (with_slot d a c))))
   unfolding unmap_at empty_buffer give ◌>>◌ ◌>>=◌ go_on with_caps zeroed_in entries_in empties either
   unmap_at_works root va a c = record {
     each = λ m. record {
       buffer = refl;
       reply = sym (ap is_done (first_reply d (with_slot d a c) 0 0 refl));
       few = omega arith;
-      not_both = inl refl;
+      zeroes = none_zeroed 5 ((unmap_at root va m).notes ++ Note.Emptied ∷ []) refl;
     };
   }

@@ -1,4 +1,4 @@
--- The kernel calls 0 to 14. The number is in x17, the arguments a, b and c are in x10, x11 and x12. A call is refused by the
+-- The kernel calls 0 to 14, of which a domain may make those that it is allowed. The number is in x17, the arguments a, b and c are in x10, x11 and x12. A call is refused by the
 -- first of its errors, in the order of their numbers: 1 BadCall, 2 BadSlot, 3 Empty, 4 Used, 5 WrongKind, 6 BadRights,
 -- 7 BadAddress, 8 Mapped, 9 NoTable, 10 NoFrame, 11 OutputFull, 12 InUse, 13 NoThread.
 use Rattle.std.specs.Prelude.{ℕ, ◌/◌, ◌%◌, Bool, true, false, not, ◌&&◌, ◌||◌, nat_eq, nat_le, nat_lt, if◌then◌else◌, List, [], ◌∷◌, ◌++◌, length, Option, Some, None, is_some}
@@ -15,6 +15,7 @@ use Rattle.page_map.specs.declared.refusal.MapRefusal.TheVariants as refusal
 use Rattle.page_map.specs.Tables.{map_refusal, install_refusal}
 use Rattle.page_map.specs.Changes.{table_entry, page_entry, mapped, unmapped, installed, uninstalled}
 use Rattle.kernel_clone.specs.Footprints.{WorkDone, bad_call_op}
+use Rattle.kernel_clone.specs.Permissions.{permitted}
 use Rattle.cap_table.specs.declared.Cap.{Cap}
 use Rattle.cap_table.specs.declared.Cap.TheVariants as cap
 use Rattle.cap_table.specs.Slots as slots
@@ -330,11 +331,14 @@ call_of e d number a b c =
     else if nat_eq number 14 then give (thread_ended d)
     else stop (refused 1 d)
 
--- the call that the current thread makes
+-- the number of the call that the current thread makes; one that the domain may not make counts as none
+abbrev pub number_made : Estate → Dom → ℕ
+number_made e d = permitted e.calls (register d.threads.current.regs 17)
+
 unfoldable pub call : Estate → Dom → Act Dom
 call e d =
     let regs = d.threads.current.regs in
-    call_of e d (register regs 17) (register regs 10) (register regs 11) (register regs 12)
+    call_of e d (number_made e d) (register regs 10) (register regs 11) (register regs 12)
 
 -- ---- which calls empty the translation buffer, by their number and their reply
 

@@ -8,8 +8,7 @@ use Rattle.cap_table.specs.declared.Cap.TheVariants as cap
 use Rattle.cap_table.specs.Slots.{cap_at, slot_after, revoked_count, revoked_entries}
 use Rattle.call_table.specs.Domain.{Dom}
 use Rattle.call_table.specs.Claims.{Estate, least_free}
-use Rattle.call_table.specs.Calls.{entries_in, call}
-use Rattle.call_table.specs.Laws as laws
+use Rattle.call_table.specs.Calls.{entries_in, call, number_made}
 use Rattle.call_table.specs.Laws.{Kept}
 use Rattle.call_table.specs.Meanings.{Makes, argument_a, argument_b, argument_c, IsDone, SlotsStay}
 
@@ -30,29 +29,29 @@ pub record IsAllocated (e : Estate) (d x : Dom) : Type 0 where
   pub table : argument_b d ≡ 1 → SetsSlot (argument_a d) (Some (cap.Table frame None)) d x
 
 abbrev pub AllocatedSlotLaw : Type 0
-AllocatedSlotLaw = (e : Estate) (d x : Dom) (m : Mem) → Kept e d m → Makes d 2 → (call e d m).value ≡ inr x
+AllocatedSlotLaw = (e : Estate) (d x : Dom) (m : Mem) → Kept e d m → Makes e d 2 → (call e d m).value ≡ inr x
     → IsAllocated e d x
 
 -- MAP notes where the page is mapped
 abbrev pub MappedSlotLaw : Type 0
-MappedSlotLaw = (e : Estate) (d x : Dom) (m : Mem) (frame rights : ℕ) (at : Option ℕ) → Kept e d m → Makes d 4
+MappedSlotLaw = (e : Estate) (d x : Dom) (m : Mem) (frame rights : ℕ) (at : Option ℕ) → Kept e d m → Makes e d 4
     → (call e d m).value ≡ inr x → cap_at d.caps (argument_a d) ≡ Some (cap.Frame frame rights at)
     → SetsSlot (argument_a d) (Some (cap.Frame frame rights (Some (argument_b d)))) d x
 
 -- COPY names the same page, with the rights that are asked for and mapped nowhere
 abbrev pub CopiedPageLaw : Type 0
-CopiedPageLaw = (e : Estate) (d x : Dom) (m : Mem) (frame rights : ℕ) (at : Option ℕ) → Kept e d m → Makes d 6
+CopiedPageLaw = (e : Estate) (d x : Dom) (m : Mem) (frame rights : ℕ) (at : Option ℕ) → Kept e d m → Makes e d 6
     → (call e d m).value ≡ inr x → cap_at d.caps (argument_a d) ≡ Some (cap.Frame frame rights at)
     → SetsSlot (argument_b d) (Some (cap.Frame frame (argument_c d) None)) d x
 
 -- or the same line
 abbrev pub CopiedLineLaw : Type 0
-CopiedLineLaw = (e : Estate) (d x : Dom) (m : Mem) (line : ℕ) → Kept e d m → Makes d 6 → (call e d m).value ≡ inr x
+CopiedLineLaw = (e : Estate) (d x : Dom) (m : Mem) (line : ℕ) → Kept e d m → Makes e d 6 → (call e d m).value ≡ inr x
     → cap_at d.caps (argument_a d) ≡ Some (cap.Irq line) → SetsSlot (argument_b d) (Some (cap.Irq line)) d x
 
 -- DELETE empties it
 abbrev pub DeletedSlotLaw : Type 0
-DeletedSlotLaw = (e : Estate) (d x : Dom) (m : Mem) → Makes d 7 → (call e d m).value ≡ inr x
+DeletedSlotLaw = (e : Estate) (d x : Dom) (m : Mem) → Makes e d 7 → (call e d m).value ≡ inr x
     → SetsSlot (argument_a d) None d x
 
 -- REVOKE empties every other slot that names the same page or line, counts them, and every other slot is as it was
@@ -62,7 +61,7 @@ pub record IsRevokedAll (d x : Dom) : Type 0 where
   pub rest : x ≡ record d { threads = x.threads; replies = x.replies; caps = x.caps }
 
 abbrev pub RevokedSlotsLaw : Type 0
-RevokedSlotsLaw = (e : Estate) (d x : Dom) (m : Mem) → Kept e d m → Makes d 8 → (call e d m).value ≡ inr x
+RevokedSlotsLaw = (e : Estate) (d x : Dom) (m : Mem) → Kept e d m → Makes e d 8 → (call e d m).value ≡ inr x
     → IsRevokedAll d x
 
 -- ---- entries
@@ -86,4 +85,4 @@ entries_written e d m number a b =
 
 abbrev pub EntriesLaw : Type 0
 EntriesLaw = (e : Estate) (d x : Dom) (m : Mem) → Kept e d m → (call e d m).value ≡ inr x
-    → entries_in (call e d m).notes ≡ entries_written e d m (laws.number_of d) (argument_a d) (argument_b d)
+    → entries_in (call e d m).notes ≡ entries_written e d m (number_made e d) (argument_a d) (argument_b d)

@@ -10,8 +10,7 @@ use Rattle.cap_table.specs.declared.Cap.TheVariants as cap
 use Rattle.cap_table.specs.Slots.{cap_at, page_of, table_of, line_of, mapped_at, installed_at, in_use}
 use Rattle.call_table.specs.Domain.{Dom, refused}
 use Rattle.call_table.specs.Claims.{Estate, free_frames}
-use Rattle.call_table.specs.Calls.{may_give, call}
-use Rattle.call_table.specs.Laws as laws
+use Rattle.call_table.specs.Calls.{may_give, call, number_made}
 use Rattle.call_table.specs.Meanings.{argument_a, argument_b, argument_c}
 
 -- an error's code, and whether it is so
@@ -139,7 +138,7 @@ errors_of e d m number a b c =
 
 -- of the call that the current thread makes
 abbrev pub errors : Estate → Dom → Mem → List Error
-errors e d m = errors_of e d m (laws.number_of d) (argument_a d) (argument_b d) (argument_c d)
+errors e d m = errors_of e d m (number_made e d) (argument_a d) (argument_b d) (argument_c d)
 
 -- the first that is so
 unfoldable pub first_so : List Error → Option ℕ

@@ -1,22 +1,23 @@
 -- Kernel calls at their ends, computed from the definitions.
-use Rattle.std.specs.Prelude.{◌≡◌, ℕ, zero, suc, true, false, List, [], ◌∷◌, length, replicate, Some, None, refl}
+use Rattle.std.specs.Prelude.{◌≡◌, ℕ, zero, suc, ◌+◌, ◌^◌, true, false, List, [], ◌∷◌, length, replicate, slice_set, Some, None, refl}
 use Rattle.tp_base.specs.Table.{empty}
 use Rattle.tp_base.specs.Act.{go_on, ◌>>=◌, ◌>>◌, give, stop, check, either}
 use Rattle.rv_core.specs.Registers.{zeros, with_register}
 use Rattle.thread_set.specs.declared.ThreadState.TheVariants.{Ready, Waiting, Ended}
 use Rattle.thread_set.specs.Threads as threads
 use Rattle.thread_set.specs.Threads.{number_of, never, turned_to, yielded, given_way, with_current, with_thread, vacant, spawned, blocked, finished, waiter, woken, all_ended}
+use Rattle.kernel_clone.specs.Permissions.{may_make, every_call}
 use Rattle.cap_table.specs.declared.Cap.TheVariants as cap
 use Rattle.cap_table.specs.Slots.{empty_slots, in_use}
 use Rattle.call_table.specs.declared.DomainStatus.TheVariants.{Exited}
 use Rattle.call_table.specs.declared.Reply.{Reply}
 use Rattle.call_table.specs.Domain.{Dom, opening, placed, recorded, replied, exited, with_caps, is_set, with_bit, signalled_by, signalled, delivered_on, turned, waiting, thread_ended, with_spawned}
 use Rattle.call_table.specs.Claims.{Estate}
-use Rattle.call_table.specs.Calls.{Note, zeroed_in, entries_in, work_of, empty_buffer, some_or, is_slot, filled, put_byte, clear_entry, drop_slot, delete, line_at, poll, waited, wait, signal, spawn, call_of}
+use Rattle.call_table.specs.Calls.{Note, zeroed_in, entries_in, work_of, empty_buffer, some_or, is_slot, filled, put_byte, clear_entry, drop_slot, delete, line_at, poll, waited, wait, signal, spawn, call_of, number_made, call}
 
 -- a domain of which the calls below use nothing
 abbrev pub nothing : Estate
-nothing = record { share = record { frames = 0; colours = 0; own = [] }; root = 0; fixed = [] }
+nothing = record { share = record { frames = 0; colours = 0; own = [] }; root = 0; fixed = []; calls = every_call }
 
 unfoldable pub fresh : Dom
 fresh = opening 65536 empty_slots
@@ -119,6 +120,27 @@ pub last_thread : ((after fresh 14 0).status ≡ Exited 0)
     × ((after fresh 14 0).threads.current ≡ record { state = Ended; pc = 65536; regs = zeros })
 unfolding fresh opening threads.opening with_current thread_ended turned_to yielded given_way finished never call_of give either
 last_thread = (refl, refl)
+
+-- ---- calls that are left out
+
+-- a domain that may make EXIT and PUT alone
+abbrev pub few : Estate
+few = record nothing { calls = 2 ^ 0 + 2 ^ 1 }
+
+-- a domain whose next call has this number
+abbrev pub asking : ℕ → Dom
+asking number =
+    record fresh { threads = with_current fresh.threads (record fresh.threads.current { regs = slice_set zeros 17 number }) }
+
+pub made : (number_made few (asking 1) ≡ 1) × (number_made nothing (asking 13) ≡ 13)
+unfolding fresh opening threads.opening with_current may_make
+made = (refl, refl)
+
+-- its YIELD is none: 1 is BadCall, and the operation is that of a bad call
+pub left_out : ((either (call few (asking 13) empty).value).replies ≡ answer 1 0 ∷ [])
+    × ((work_of (number_made few (asking 13)) []).op ≡ 18)
+unfolding fresh opening threads.opening placed replied with_current may_make call call_of stop work_of zeroed_in entries_in either
+left_out = (refl, refl)
 
 -- ---- the work of calls, and the buffer
 

@@ -13,13 +13,14 @@ use Rattle.page_map.specs.Tables.{IsPageMap, TablesOnce}
 use Rattle.page_map.specs.Reached.{leaf_at, ReachesIn, IsApart, IsSealed}
 use Rattle.frame_colours.specs.Colours.{pool}
 use Rattle.rv_core.specs.Registers.{register}
-use Rattle.pad_bound.specs.Worst.{IsCallWork}
+use Rattle.kernel_clone.specs.Permissions.{may_make}
+use Rattle.pad_bound.specs.Worst.{IsCallWork, IsPermitted}
 use Rattle.cap_table.specs.Slots.{Slots, cap_at, page_of, table_of, mapped_at}
 use Rattle.cap_table.specs.declared.Cap.TheVariants as cap
 use Rattle.call_table.specs.declared.Reply.{Reply}
 use Rattle.call_table.specs.Domain.{Dom, refused, reply_past}
 use Rattle.call_table.specs.Claims.{Claim, Estate, is_mine, claims, is_named, frame_of, Facts, IsEstate}
-use Rattle.call_table.specs.Calls.{Note, alloc, map_page, copy, delete, revoke, call, is_within, empties, empties_buffer, op_of, work_of}
+use Rattle.call_table.specs.Calls.{Note, alloc, map_page, copy, delete, revoke, call, is_within, empties, empties_buffer, op_of, work_of, number_made}
 
 -- ---- the facts of a domain and a memory
 
@@ -48,6 +49,11 @@ pub record IsRefusal (d : Dom) (m : Mem) (r : Done Mem Note Dom Dom) (x : Dom) :
 
 abbrev pub RefusalLaw : Type 0
 RefusalLaw = (e : Estate) (d x : Dom) (m : Mem) → (call e d m).value ≡ inl x → IsRefusal d m (call e d m) x
+
+-- a call that the domain may not make is refused before all else, whatever its number and arguments
+abbrev pub LeftOutLaw : Type 0
+LeftOutLaw = (e : Estate) (d : Dom) (m : Mem) → may_make e.calls (register d.threads.current.regs 17) ≡ false
+    → call e d m ≡ record { notes = []; state = m; value = inl (refused 1 d) }
 
 -- ---- a call stays within the domain's own frames
 
@@ -184,10 +190,6 @@ PoolLaw = (e : Estate) (d : Dom) (m : Mem) (fs : List ℕ) → Kept e d m
 
 -- ---- the translation buffer
 
--- the number of the call that the current thread makes
-abbrev pub number_of : Dom → ℕ
-number_of d = register d.threads.current.regs 17
-
 -- the reply that a call gave: the last, where one was recorded past those that the domain had
 abbrev pub reply_of : Dom → Done Mem Note Dom Dom → Option Reply
 reply_of d r = reply_past (length d.replies) (either r.value)
@@ -195,7 +197,7 @@ reply_of d r = reply_past (length d.replies) (either r.value)
 -- the calls that empty the buffer are UNMAP, DELETE and REVOKE that are done
 abbrev pub EmptiesLaw : Type 0
 EmptiesLaw = (e : Estate) (d : Dom) (m : Mem)
-    → empties (call e d m).notes ≡ empties_buffer (number_of d) (reply_of d (call e d m))
+    → empties (call e d m).notes ≡ empties_buffer (number_made e d) (reply_of d (call e d m))
 
 -- each walk that comes to a leaf in one memory comes to it in another
 pub record KeepsWalks (e : Estate) (m k : Mem) : Type 0 where
@@ -212,8 +214,12 @@ WalksStayLaw = (e : Estate) (d : Dom) (m : Mem) → Kept e d m → empties (call
 -- its operation is that of its number
 abbrev pub OperationLaw : Type 0
 OperationLaw = (e : Estate) (d : Dom) (m : Mem)
-    → (work_of (number_of d) (call e d m).notes).op ≡ op_of (number_of d)
+    → (work_of (number_made e d) (call e d m).notes).op ≡ op_of (number_made e d)
 
 -- it is within what the bound on a switch allows to one call
 abbrev pub WorkLaw : Type 0
-WorkLaw = (e : Estate) (d : Dom) (m : Mem) → IsCallWork (work_of (number_of d) (call e d m).notes)
+WorkLaw = (e : Estate) (d : Dom) (m : Mem) → IsCallWork (work_of (number_made e d) (call e d m).notes)
+
+-- and of an operation that the domain may make
+abbrev pub PermittedLaw : Type 0
+PermittedLaw = (e : Estate) (d : Dom) (m : Mem) → IsPermitted e.calls (work_of (number_made e d) (call e d m).notes)

@@ -15,16 +15,15 @@ use Rattle.cap_table.specs.Slots.{Slots, cap_at, table_of}
 use Rattle.call_table.specs.declared.DomainStatus.TheVariants.{Exited}
 use Rattle.call_table.specs.Domain.{Dom, refused, is_set, delivered_on}
 use Rattle.call_table.specs.Claims.{Estate}
-use Rattle.call_table.specs.Calls.{call}
-use Rattle.call_table.specs.Laws as laws
+use Rattle.call_table.specs.Calls.{call, number_made}
 use Rattle.call_table.specs.Laws.{Kept}
 use Rattle.call_table.specs.ThreadLaws.{MayRun, after_call}
 
 -- ---- a call and its reply
 
--- the call that the current thread makes has this number
-abbrev pub Makes : Dom → ℕ → Type 0
-Makes d number = laws.number_of d ≡ number
+-- the call that the current thread makes has this number, and the domain may make it
+abbrev pub Makes : Estate → Dom → ℕ → Type 0
+Makes e d number = number_made e d ≡ number
 
 -- its arguments
 abbrev pub argument_a : Dom → ℕ
@@ -68,7 +67,7 @@ pub record LeavesMemory (e : Estate) (d : Dom) (m : Mem) : Type 0 where
   pub no_work : (call e d m).notes ≡ []
 
 abbrev pub MemoryLaw : Type 0
-MemoryLaw = (e : Estate) (d : Dom) (m : Mem) → touches_memory (laws.number_of d) ≡ false → LeavesMemory e d m
+MemoryLaw = (e : Estate) (d : Dom) (m : Mem) → touches_memory (number_made e d) ≡ false → LeavesMemory e d m
 
 -- ---- EXIT and ENDTHREAD: no reply, and the caller stays at its call
 
@@ -82,7 +81,7 @@ pub record IsExited (code : ℕ) (d x : Dom) : Type 0 where
   pub rest : x ≡ record d { status = x.status; threads = x.threads }
 
 abbrev pub ExitLaw : Type 0
-ExitLaw = (e : Estate) (d : Dom) (m : Mem) → AreThreads d.threads → Makes d 0
+ExitLaw = (e : Estate) (d : Dom) (m : Mem) → AreThreads d.threads → Makes e d 0
     → IsExited (argument_a d) d (after_call e d m)
 
 -- no other thread is live
@@ -99,7 +98,7 @@ pub record IsThreadEnded (d x : Dom) : Type 0 where
   pub rest : x ≡ record d { status = x.status; threads = x.threads }
 
 abbrev pub EndThreadLaw : Type 0
-EndThreadLaw = (e : Estate) (d : Dom) (m : Mem) → AreThreads d.threads → Makes d 14
+EndThreadLaw = (e : Estate) (d : Dom) (m : Mem) → AreThreads d.threads → Makes e d 14
     → IsThreadEnded d (after_call e d m)
 
 -- ---- PUT
@@ -112,12 +111,12 @@ pub record IsPrinted (byte : ℕ) (d x : Dom) : Type 0 where
 
 -- of a low byte, where fewer than 4,096 are printed
 abbrev pub PutLaw : Type 0
-PutLaw = (e : Estate) (d : Dom) (m : Mem) → Makes d 1 → length d.printed < 4096
+PutLaw = (e : Estate) (d : Dom) (m : Mem) → Makes e d 1 → length d.printed < 4096
     → IsPrinted (argument_a d % 256) d (after_call e d m)
 
 -- else OutputFull
 abbrev pub OutputFullLaw : Type 0
-OutputFullLaw = (e : Estate) (d : Dom) (m : Mem) → Makes d 1 → 4096 ≤ length d.printed
+OutputFullLaw = (e : Estate) (d : Dom) (m : Mem) → Makes e d 1 → 4096 ≤ length d.printed
     → after_call e d m ≡ refused 11 d
 
 -- ---- POLL, WAIT and SIGNAL of a line
@@ -142,19 +141,19 @@ pub record IsWaiting (line : ℕ) (d x : Dom) : Type 0 where
   pub rest : x ≡ record d { threads = x.threads }
 
 abbrev pub PollSetLaw : Type 0
-PollSetLaw = (e : Estate) (d : Dom) (m : Mem) (line : ℕ) → Makes d 9 → Names d line → is_set d line ≡ true
+PollSetLaw = (e : Estate) (d : Dom) (m : Mem) (line : ℕ) → Makes e d 9 → Names d line → is_set d line ≡ true
     → IsPolled 1 line d (after_call e d m)
 
 abbrev pub PollClearLaw : Type 0
-PollClearLaw = (e : Estate) (d : Dom) (m : Mem) (line : ℕ) → Makes d 9 → Names d line → is_set d line ≡ false
+PollClearLaw = (e : Estate) (d : Dom) (m : Mem) (line : ℕ) → Makes e d 9 → Names d line → is_set d line ≡ false
     → IsPolled 0 line d (after_call e d m)
 
 abbrev pub WaitSetLaw : Type 0
-WaitSetLaw = (e : Estate) (d : Dom) (m : Mem) (line : ℕ) → Makes d 10 → Names d line → is_set d line ≡ true
+WaitSetLaw = (e : Estate) (d : Dom) (m : Mem) (line : ℕ) → Makes e d 10 → Names d line → is_set d line ≡ true
     → IsPolled 1 line d (after_call e d m)
 
 abbrev pub WaitClearLaw : Type 0
-WaitClearLaw = (e : Estate) (d : Dom) (m : Mem) (line : ℕ) → AreThreads d.threads → Makes d 10 → Names d line
+WaitClearLaw = (e : Estate) (d : Dom) (m : Mem) (line : ℕ) → AreThreads d.threads → Makes e d 10 → Names d line
     → is_set d line ≡ false → IsWaiting line d (after_call e d m)
 
 -- all that a delivery of the line does to threads and bits, but that no moment is counted; and the caller goes on
@@ -165,7 +164,7 @@ pub record IsSignalled (line : ℕ) (d x : Dom) : Type 0 where
   pub rest : x ≡ record d { threads = x.threads; replies = x.replies; bits = x.bits }
 
 abbrev pub SignalLaw : Type 0
-SignalLaw = (e : Estate) (d : Dom) (m : Mem) (line : ℕ) → AreThreads d.threads → MayRun d → Makes d 11 → Names d line
+SignalLaw = (e : Estate) (d : Dom) (m : Mem) (line : ℕ) → AreThreads d.threads → MayRun d → Makes e d 11 → Names d line
     → IsSignalled line d (after_call e d m)
 
 -- ---- SPAWN
@@ -193,12 +192,12 @@ pub record IsSpawned (t : ℕ) (d x : Dom) : Type 0 where
   pub rest : x ≡ record d { threads = x.threads; replies = x.replies }
 
 abbrev pub SpawnLaw : Type 0
-SpawnLaw = (e : Estate) (d : Dom) (m : Mem) (t : ℕ) → AreThreads d.threads → MayRun d → Makes d 12
+SpawnLaw = (e : Estate) (d : Dom) (m : Mem) (t : ℕ) → AreThreads d.threads → MayRun d → Makes e d 12
     → argument_a d % 4 ≡ 0 → IsVacant d t → IsSpawned t d (after_call e d m)
 
 -- NoThread, where all eight are live
 abbrev pub NoThreadLaw : Type 0
-NoThreadLaw = (e : Estate) (d : Dom) (m : Mem) → AreThreads d.threads → Makes d 12 → argument_a d % 4 ≡ 0
+NoThreadLaw = (e : Estate) (d : Dom) (m : Mem) → AreThreads d.threads → Makes e d 12 → argument_a d % 4 ≡ 0
     → ((t : ℕ) → t < 8 → is_live (thread_at d.threads t).state ≡ true)
     → after_call e d m ≡ refused 13 d
 
@@ -215,7 +214,7 @@ pub record IsYielded (d x : Dom) : Type 0 where
   pub rest : x ≡ record d { threads = x.threads; replies = x.replies }
 
 abbrev pub YieldLaw : Type 0
-YieldLaw = (e : Estate) (d : Dom) (m : Mem) → AreThreads d.threads → MayRun d → Makes d 13
+YieldLaw = (e : Estate) (d : Dom) (m : Mem) → AreThreads d.threads → MayRun d → Makes e d 13
     → IsYielded d (after_call e d m)
 
 -- ---- TABLE and UNMAP
@@ -240,7 +239,7 @@ pub record IsTableCall (e : Estate) (d x : Dom) (m n : Mem) (frame : ℕ) : Type
   pub rest : x ≡ record d { threads = x.threads; replies = x.replies; caps = x.caps }
 
 abbrev pub TableLaw : Type 0
-TableLaw = (e : Estate) (d x : Dom) (m : Mem) (frame : ℕ) → Kept e d m → Makes d 3 → (call e d m).value ≡ inr x
+TableLaw = (e : Estate) (d x : Dom) (m : Mem) (frame : ℕ) → Kept e d m → Makes e d 3 → (call e d m).value ≡ inr x
     → table_of (cap_at d.caps (argument_a d)) ≡ Some frame → IsTableCall e d x m (memory_after e d m) frame
 
 -- no access of the page succeeds any more, walks elsewhere are as before, and the slot is mapped nowhere
@@ -253,6 +252,6 @@ pub record IsUnmapped (e : Estate) (d x : Dom) (m n : Mem) (frame rights va : �
   pub rest : x ≡ record d { threads = x.threads; replies = x.replies; caps = x.caps }
 
 abbrev pub UnmapLaw : Type 0
-UnmapLaw = (e : Estate) (d : Dom) (m : Mem) (frame rights va : ℕ) → Kept e d m → Makes d 5
+UnmapLaw = (e : Estate) (d : Dom) (m : Mem) (frame rights va : ℕ) → Kept e d m → Makes e d 5
     → cap_at d.caps (argument_a d) ≡ Some (cap.Frame frame rights (Some va))
     → IsUnmapped e d (after_call e d m) m (memory_after e d m) frame rights va

@@ -8,8 +8,7 @@ use Rattle.thread_set.specs.Threads.{Threads, AreThreads, thread_at, is_ready, w
 use Rattle.cap_table.specs.Slots.{cap_at, line_of}
 use Rattle.call_table.specs.Domain.{Dom, is_set, signalled, delivered_on}
 use Rattle.call_table.specs.Claims.{Estate}
-use Rattle.call_table.specs.Calls.{call}
-use Rattle.call_table.specs.Laws as laws
+use Rattle.call_table.specs.Calls.{call, number_made}
 
 -- ---- whose turn it is
 
@@ -35,15 +34,15 @@ DeliveryTurnLaw = (d : Dom) (line : ℕ) → HasTurn d.threads → HasTurn (deli
 -- ---- who wakes a thread that waits
 
 -- the current thread calls SIGNAL of the line
-pub record Signals (d : Dom) (line : ℕ) : Type 0 where
-  pub number : laws.number_of d ≡ 11
+pub record Signals (e : Estate) (d : Dom) (line : ℕ) : Type 0 where
+  pub number : number_made e d ≡ 11
   pub names : line_of (cap_at d.caps (register d.threads.current.regs 10)) ≡ Some line
 
 -- a call leaves a thread that waits for a line, but a SIGNAL of that line, and an EXIT, which ends all
 abbrev pub CallWakesLaw : Type 0
 CallWakesLaw = (e : Estate) (d : Dom) (m : Mem) (t line : ℕ) → HasTurn d.threads → MayRun d → t < 8
     → waits_for line (thread_at d.threads t).state ≡ true
-    → (thread_at (after_call e d m).threads t ≡ thread_at d.threads t) ⊎ (Signals d line ⊎ (laws.number_of d ≡ 0))
+    → (thread_at (after_call e d m).threads t ≡ thread_at d.threads t) ⊎ (Signals e d line ⊎ (number_made e d ≡ 0))
 
 -- and a delivery of another line leaves it
 abbrev pub DeliveryWakesLaw : Type 0

@@ -1,6 +1,6 @@
 //! Laws of kernel calls over their definitions, each the contract of a function
 //! that does nothing: a caller that calls it may rely on the law.
-ghost use Rattle.call_table.specs.Laws.{CallsKeepLaw, RefusalLaw, ConfinedLaw, PageTablesLaw, StoreLaw, MapLaw, DeleteLaw, RevokeLaw, AllocLaw, NoWiderLaw, CopiesLaw, PoolLaw};
+ghost use Rattle.call_table.specs.Laws.{CallsKeepLaw, RefusalLaw, LeftOutLaw, ConfinedLaw, PageTablesLaw, StoreLaw, MapLaw, DeleteLaw, RevokeLaw, AllocLaw, NoWiderLaw, CopiesLaw, PoolLaw};
 ghost use Rattle.call_table.specs.ThreadLaws.{CallTurnLaw, DeliveryTurnLaw, CallWakesLaw, DeliveryWakesLaw};
 ghost use Rattle.call_table.specs.ThreadLaws.{SignalWakesLaw, SignalSetsLaw, DeliveryCountLaw, CallCountLaw};
 ghost use Rattle.call_table.specs.Meanings.{ExitLaw, EndThreadLaw, SpawnLaw, NoThreadLaw, YieldLaw, PutLaw, OutputFullLaw};
@@ -8,16 +8,18 @@ ghost use Rattle.call_table.specs.Meanings.{PollSetLaw, PollClearLaw, WaitSetLaw
 ghost use Rattle.call_table.specs.Errors.{AscendLaw, FirstErrorLaw, NoErrorLaw};
 ghost use Rattle.call_table.specs.Rights.{NothingMappedLaw, CallsWithinLaw, StoresWithinLaw, WalksWithinLaw};
 ghost use Rattle.call_table.specs.Entries.{AllocatedSlotLaw, MappedSlotLaw, CopiedPageLaw, CopiedLineLaw, DeletedSlotLaw, RevokedSlotsLaw, EntriesLaw};
-ghost use Rattle.call_table.specs.Laws.{EmptiesLaw, WalksStayLaw, OperationLaw, WorkLaw};
+ghost use Rattle.call_table.specs.Laws.{EmptiesLaw, WalksStayLaw, OperationLaw, WorkLaw, PermittedLaw};
 
 /// Every call keeps the facts of a domain's frames and page tables.
 pub fn calls_keep()
     ensures kept { CallsKeepLaw }
 {}
 
-/// A call that is refused gives its code, and changes and does nothing else.
+/// A call that is refused gives its code, and changes and does nothing else; one
+/// that the domain may not make is a bad call.
 pub fn refusals()
     ensures refused { RefusalLaw }
+    ensures left_out { LeftOutLaw }
 {}
 
 /// A call reads and changes the domain's own frames alone.
@@ -50,10 +52,12 @@ pub fn buffer()
 {}
 
 /// What a call tells of its work: its operation, and no more frames and entries
-/// than the bound on a switch allows for.
+/// than the bound on a switch allows for; it is of a call that the domain may make,
+/// or of a bad one.
 pub fn work()
     ensures operation { OperationLaw }
     ensures bounded { WorkLaw }
+    ensures permitted { PermittedLaw }
 {}
 
 /// Whose turn it is after a call or a delivery, and who wakes a thread that waits.

@@ -1,7 +1,7 @@
 -- A call by its number, and what is left after its reply.
 use Rattle.std.proofs.lemmas.Bool.{lt-leb}
 use Rattle.std.proofs.Common.{◌≡◌, ◌≢◌, ℕ, ◌<◌, ◌≤◌, ◌/◌, ◌^◌, take, Bool, true, false, ◌&&◌, List, [], length, Option, Some, None, Ok, Err, ◌⊎◌, refl, ap, sym, subst, ◌∙◌, arith, leb-false, ne_eqb}
-use Rattle.std.specs.Prelude.{nat_le, if◌then◌else◌, Result, All, IfSome}
+use Rattle.std.specs.Prelude.{nat_eq, nat_le, if◌then◌else◌, Result, All, IfSome}
 use Rattle.std.proofs.lemmas.List.{length-take}
 use Rattle.std.proofs.lemmas.List.Elements.{All-weaker}
 use Rattle.tp_base.specs.Ranges.{IsFrameNo}
@@ -19,7 +19,7 @@ use Rattle.call_table.specs.Domain.{Dom, reply_past, placed, replied}
 use Rattle.call_table.specs.Claims.{Estate, is_mine, claims, Facts}
 use Rattle.call_table.specs.Calls.{Note, call_of, op_of, work_of, zeroed_in, entries_in, empties, clears_entries, is_done, empties_buffer}
 use Rattle.call_table.specs.Laws.{LeavesKept, IsMine}
-use Rattle.pad_bound.specs.Worst.{IsCallWork}
+use Rattle.pad_bound.specs.Worst.{IsCallWork, writes_entry, most_entries_of}
 use Rattle.call_table.proofs.CallLawsDelete.{call_of_keeps}
 use Rattle.call_table.proofs.WorkSteps.{last_reply}
 use Rattle.call_table.proofs.BoundedWork.{LiesInOwn, call_of_bounded}
@@ -88,11 +88,11 @@ bad_op number above = ap (λ (b : Bool). if b then number else bad_call_op) (lt-
 
 -- the parts that hold the facts are as they were
 pub facts_still : (e : Estate) (memory : Contents) (m : Mem) (old new : Domain) → HasFacts e memory m old
-    → new.map ≡ old.map → new.pool ≡ old.pool → new.caps ≡ old.caps → HasFacts e memory m new
-facts_still e memory m old new h map pool caps = record {
+    → new.map ≡ old.map → new.calls ≡ old.calls → new.pool ≡ old.pool → new.caps ≡ old.caps → HasFacts e memory m new
+facts_still e memory m old new h map calls pool caps = record {
   estate = h.estate;
   frames = h.frames;
-  has = has_still e old new h.has map pool caps;
+  has = has_still e old new h.has map calls pool caps;
   holds = h.holds;
   facts = subst (λ (s : Slots). Facts e.root (is_mine e) (claims e s) m) (sym caps) h.facts;
 }
@@ -241,6 +241,15 @@ told_work number e old new memory readings replies m x a b c ends = (
   subst IsCallWork (sym ends.work) (call_of_bounded e (dom_model old readings replies) m number a b c),
 )
 
+-- no operation writes more entries than a REVOKE
+few_entries : (op : ℕ) → most_entries_of op ≤ 63
+few_entries op = by_test (nat_eq op 8) (writes_entry op)
+  where
+    by_test : (revokes writes : Bool) → (if revokes then 63 else if writes then 1 else 0) ≤ 63
+    by_test true writes = omega arith
+    by_test false true = omega arith
+    by_test false false = omega arith
+
 -- its frame and its entries are the domain's own, so they lie in memory
 module _ (e : Estate) (few : e.share.frames ≤ 2 ^ 15) where
   own_frame : (f : ℕ) → IsMine e f → f < 2 ^ 15
@@ -258,7 +267,7 @@ module _ (e : Estate) (few : e.share.frames ≤ 2 ^ 15) where
   unfolding work_of
   work_in_memory number notes w long is bounded own = record {
     zeroed = zeroed_frame_no w.zeroed (λ f there. own.zeroed f (sym (ap (λ (x : WorkDone). x.zeroed) is) ∙ there));
-    few = omega (arith, bounded.few, long, length-take w.count w.entries);
+    few = let most = few_entries w.op in omega (arith, bounded.few, most, long, length-take w.count w.entries);
     entries = All-weaker (λ at. IsMine e (at / 4096)) (λ at. at < 2 ^ 27) entry_below (take w.count w.entries)
         (subst (All (λ at. IsMine e (at / 4096))) (sym (ap (λ (x : WorkDone). x.entries) is)) own.entries);
   }

@@ -41,6 +41,7 @@ pub record KeepsParts (old new : Domain) : Type 0 where
   pub tables : new.tables ≡ old.tables
   pub kept : new.kept ≡ old.kept
   pub layout : new.layout ≡ old.layout
+  pub calls : new.calls ≡ old.calls
   pub moments : new.interrupts.moments ≡ old.interrupts.moments
   pub delivered : new.interrupts.delivered ≡ old.interrupts.delivered
   pub retired : new.retired ≡ old.retired

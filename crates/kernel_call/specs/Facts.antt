@@ -28,6 +28,7 @@ pub record Has (e : Estate) (d : Domain) : Type 0 where
   pub root : d.map ≡ e.root
   pub pool : d.pool ≡ pool_of e d
   pub slots : length d.caps ≡ 64
+  pub calls : d.calls ≡ e.calls
 
 -- the facts of frames and page tables hold of it in a memory
 pub record HasFacts (e : Estate) (memory : Contents) (m : Mem) (d : Domain) : Type 0 where
@@ -54,6 +55,7 @@ pub record KeepsRest (old new : Domain) : Type 0 where
   pub tables : new.tables ≡ old.tables
   pub kept : new.kept ≡ old.kept
   pub layout : new.layout ≡ old.layout
+  pub calls : new.calls ≡ old.calls
   pub retired : new.retired ≡ old.retired
   pub readings : new.readings ≡ old.readings
   pub replies : new.replies ≡ old.replies

@@ -34,6 +34,7 @@ pub record KeepsAtSignal (count : ℕ) (old new : Domain) : Type 0 where
   pub tables : new.tables ≡ old.tables
   pub kept : new.kept ≡ old.kept
   pub layout : new.layout ≡ old.layout
+  pub calls : new.calls ≡ old.calls
   pub moments : new.interrupts.moments ≡ old.interrupts.moments
   pub delivered : new.interrupts.delivered ≡ count
   pub retired : new.retired ≡ old.retired

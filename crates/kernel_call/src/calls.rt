@@ -1,8 +1,9 @@
 // The kernel call that a domain makes.
-ghost use Rattle.std.specs.Prelude.{◌≡◌, ◌≢◌, ◌^◌, ◌<◌, ◌≤◌, ◌||◌, nat_eq, nat_lt, true, IfErr, IfSome, slice_index};
+ghost use Rattle.std.specs.Prelude.{◌≡◌, ◌≢◌, ◌^◌, ◌<◌, ◌≤◌, ◌||◌, nat_eq, nat_lt, true, IfErr, IfNone, IfSome, slice_index};
 ghost use Rattle.kernel_clone.specs.Footprints.{number_of};
 ghost use Rattle.kernel_clone.specs.Models.{work_model, IsWork};
-ghost use Rattle.pad_bound.specs.Worst.{IsCallWork};
+ghost use Rattle.kernel_clone.specs.Permissions.{may_make, permitted as spec_permitted};
+ghost use Rattle.pad_bound.specs.Worst.{IsCallWork, IsPermitted};
 ghost use Rattle.thread_set.specs.Threads.{is_ready};
 ghost use Rattle.call_table.specs.Calls as spec;
 ghost use Rattle.kernel_call.specs.Facts.{Valid, Does, KeepsRest};
@@ -125,26 +126,38 @@ fn make(domain: &mut Domain, memory: &mut PhysMem, call: Call, args: [u32; 3]) -
     }
 }
 
+// The call with this number, if it is one of these.
+fn permitted(calls: u32, number: u32) -> Option<Call>
+    ensures number { IfSome result (λ call. number_of call ≡ spec_permitted calls number) }
+    ensures allowed { IfSome result (λ call. may_make calls (number_of call) ≡ true) }
+    ensures none { IfNone result (14 < spec_permitted calls number) }
+{
+    let call = Call::of(number)?;
+    if call.is_in(calls) { Some(call) } else { None }
+}
+
 /// The kernel call with this number and these arguments, of the domain's
-/// current thread, which must be ready. Numbers above 14 are bad calls. Takes
-/// no memory.
+/// current thread, which must be ready. A number above 14, or of a call that the
+/// domain may not make, is a bad call. Takes no memory.
 pub fn call(domain: &mut Domain, memory: &mut PhysMem, number: u32, args: [u32; 3]) -> Outcome
     requires valid { Valid memory.old domain.old }
     requires ready { is_ready domain.old.threads.active.state ≡ true }
     requires replies { domain.old.replies.count < 2 ^ 63 }
-    ensures calls { Calls number args result memory.old domain.old memory.new domain.new }
+    ensures calls { Calls (spec_permitted domain.old.calls number) args result
+        memory.old domain.old memory.new domain.new }
     ensures valid { Valid memory.new domain.new }
     ensures keeps { KeepsParts domain.old domain.new }
     ensures frames { memory.new.frames ≡ memory.old.frames }
     ensures refused { IfSome result.reply (λ r. r.code ≢ 0 → IsRefused domain.old domain.new r) }
     ensures memory { IfSome result.reply (λ r. r.code ≢ 0 → memory.new ≡ memory.old) }
-    ensures operation { result.work.op ≡ spec.op_of number }
+    ensures operation { result.work.op ≡ spec.op_of (spec_permitted domain.old.calls number) }
+    ensures permitted { IsPermitted domain.old.calls (work_model result.work) }
     ensures work { IsCallWork (work_model result.work) }
     ensures in_memory { memory.old.frames ≤ 2 ^ 15 → IsWork result.work }
     ensures buffer { spec.empties_buffer result.work.op result.reply
-        ≡ spec.empties_buffer number result.reply }
+        ≡ spec.empties_buffer (spec_permitted domain.old.calls number) result.reply }
 {
-    match Call::of(number) {
+    match permitted(domain.calls, number) {
         Some(call) => make(domain, memory, call, args),
         None => Outcome {
             reply: Some(reply_to(domain, CallError::BadCall.reply())),

@@ -34,6 +34,8 @@ pub struct Domain {
     /// pages that no capability named at first.
     pub kept: Vec<Frame<Held>>,
     pub layout: CloneLayout,
+    /// The calls that it may make, a bit each: bit n is that of call n.
+    pub calls: u32,
     /// Instructions.
     pub retired: u64,
     /// Of the counters.
@@ -55,6 +57,8 @@ pub struct Beginning {
     pub interrupts: IrqPart,
     pub threads: ThreadSet,
     pub layout: CloneLayout,
+    /// The calls that it may make, a bit each.
+    pub calls: u32,
 }
 
 impl Domain {
@@ -74,6 +78,7 @@ impl Domain {
         ensures interrupts { IfOk result (λ d. d.interrupts ≡ begin.interrupts) }
         ensures threads { IfOk result (λ d. d.threads ≡ begin.threads) }
         ensures layout { IfOk result (λ d. d.layout ≡ begin.layout) }
+        ensures calls { IfOk result (λ d. d.calls ≡ begin.calls) }
     {
         Ok(Domain {
             status: DomainStatus::Running,
@@ -85,6 +90,7 @@ impl Domain {
             tables: begin.tables,
             kept: begin.kept,
             layout: begin.layout,
+            calls: begin.calls,
             retired: 0,
             readings: Log::new(alloc)?,
             replies: Log::new(alloc)?,

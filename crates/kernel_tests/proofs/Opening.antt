@@ -10,6 +10,7 @@ use Rattle.phys_mem.specs.Holds.{Holds}
 use Rattle.phys_mem.proofs.HoldsLemmas.{holds-zeroed}
 use Rattle.frame_colours.specs.Colours.{whole_of, share_of, pool}
 use Rattle.frame_colours.specs.FreeList.{FreeList, all_free, without_least}
+use Rattle.kernel_clone.specs.Permissions.{every_call}
 use Rattle.cap_table.specs.declared.Cap.TheVariants as cap
 use Rattle.cap_table.specs.Slots.{Slots, empty_slots, with_cap}
 use Rattle.call_table.specs.Claims.{Claim, Estate, is_mine, frame_of, is_shared, leaf_at, claim_of, region_of, all_claims, claims, frames_in, is_named, free_frames, Facts, IsEstate}
@@ -21,7 +22,7 @@ use Rattle.kernel_call.specs.Facts.{Valid}
 
 -- the frames 1, 5, .. to 61, of which the root has the first for good
 unfoldable estate : Estate
-estate = record { share = share_of (whole_of 64 4) (1 ∷ []); root = 1; fixed = Fixed 1 ∷ [] }
+estate = record { share = share_of (whole_of 64 4) (1 ∷ []); root = 1; fixed = Fixed 1 ∷ []; calls = every_call }
 
 -- a table, in the second of them, and two lines
 abbrev pub slots_of : ℕ → Slots
@@ -167,10 +168,10 @@ long = refl
 -- ---- so calls can be made
 
 of_these : (first : Contents) (d : Domain) → first.frames ≡ 64 → Holds first empty → d.map ≡ 1
-    → d.pool ≡ without_least (without_least (all_free (share_of (whole_of 64 4) (1 ∷ [])))) → d.caps ≡ slots
+    → d.pool ≡ without_least (without_least (all_free (share_of (whole_of 64 4) (1 ∷ [])))) → d.caps ≡ slots → d.calls ≡ every_call
     → Valid (zeroed (zeroed first 1) 5) d
 unfolding estate memory_of
-of_these first d size holds root free caps = record {
+of_these first d size holds root free caps calls = record {
   estate = estate;
   mem = memory_of;
   facts = record {
@@ -180,6 +181,7 @@ of_these first d size holds root free caps = record {
       root = root;
       pool = free ∙ (left ∙ ap (λ (s : Slots). record { share = estate.share; free = free_frames estate s }) (sym caps));
       slots = ap (λ (s : Slots). length s) caps ∙ long;
+      calls = calls;
     };
     holds = holds-zeroed (zeroed first 1) (zeroed_frame empty 1) 5 (omega (arith, size))
         (holds-zeroed first empty 1 (omega (arith, size)) holds);
@@ -190,9 +192,9 @@ of_these first d size holds root free caps = record {
 pub is_valid : (first second last : Contents) (root table : ℕ) (d : Domain) → first.frames ≡ 64 → Holds first empty
     → root ≡ 1 → table ≡ 5 → second ≡ zeroed first root → last ≡ zeroed second table → d.map ≡ root
     → d.pool ≡ without_least (without_least (all_free (share_of (whole_of 64 4) (1 ∷ [])))) → d.caps ≡ slots_of table
-    → Valid last d
+    → d.calls ≡ every_call → Valid last d
 unfolding slots
-is_valid first second last root table d size holds one five then after at free caps =
+is_valid first second last root table d size holds one five then after at free caps calls =
     let memory : last ≡ zeroed (zeroed first 1) 5 =
     after ∙ ap (λ (m : Contents). zeroed m table) (then ∙ ap (λ (f : ℕ). zeroed first f) one) ∙ ap (λ (f : ℕ). zeroed (zeroed first 1) f) five in
-    subst (λ (m : Contents). Valid m d) (sym memory) (of_these first d size holds (at ∙ one) free (caps ∙ ap (λ (f : ℕ). slots_of f) five))
+    subst (λ (m : Contents). Valid m d) (sym memory) (of_these first d size holds (at ∙ one) free (caps ∙ ap (λ (f : ℕ). slots_of f) five) calls)

@@ -13,7 +13,7 @@ use cap_table::{CapTable, Given};
 use frame_colours::{AllColours, Frame, Pool, Table};
 use irq_partition::{IrqPart, Moment};
 use kernel_call::{Beginning, Domain, Outcome, call, deliver};
-use kernel_clone::{CloneLayout, DELIVERY};
+use kernel_clone::{CloneLayout, DELIVERY, EVERY_CALL};
 use page_map::PageMap;
 use phys_mem::PhysMem;
 use rv_core::Regs;
@@ -81,6 +81,7 @@ pub fn opened(alloc: Global) -> Result<(Domain, PhysMem), Memory>
         interrupts: IrqPart::new(alloc, &moments)?,
         threads: ThreadSet::new(0x10000),
         layout: layout(),
+        calls: EVERY_CALL,
     };
     let domain = Domain::new(alloc, begin)?;
     Ok((domain, memory))

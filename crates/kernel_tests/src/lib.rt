@@ -13,6 +13,8 @@ mod outcomes;
 #[cfg(test)]
 mod page_tables;
 #[cfg(test)]
+mod permissions;
+#[cfg(test)]
 mod refusals;
 #[cfg(test)]
 mod threads;

@@ -27,4 +27,4 @@ returns-clause-does c e readings replies m h =
     (ap (λ (bytes : List ℕ). let d = dom_model c.args.domain.now readings replies in record d { printed = bytes }) printed)
     h.holds
     (tells_nothing 1 (work_model c.no_work.result) refl c.no_work.ensures.work)
-    (has_still e c.args.domain.now _ h.has refl refl refl)
+    (has_still e c.args.domain.now _ h.has refl refl refl refl)

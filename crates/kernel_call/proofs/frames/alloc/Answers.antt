@@ -36,7 +36,7 @@ returns-in_default-clause-does c = λ e readings replies m h.
     let unused : is_some (cap_at c.args.domain.now.caps c.args.a) ≡ false = search rules in
     let none : slice_get c.args.domain.now.pool.free 0 ≡ None = sym c.take.ensures.value ∙ c.in_default.is in
     ends_none e c.args.domain.now _ c.args.memory.now readings replies m c.args.a c.args.b h c.if-a-ge-SLOTS.false
-    (empty (cap_at c.args.domain.now.caps c.args.a) unused) c.if-b-gt1.false error.NoFrame refl none refl refl c.take.ensures.becomes
+    (empty (cap_at c.args.domain.now.caps c.args.a) unused) c.if-b-gt1.false error.NoFrame refl none refl refl refl c.take.ensures.becomes
 
 pub put-requires-clause-new : goal.put-requires-clause-new
 put-requires-clause-new c =
@@ -55,4 +55,4 @@ returns-clause-does c = λ e readings replies m h.
     (c.put.ensures.becomes ∙ ap (λ (x : Cap). with_cap c.args.domain.now.caps c.args.a (Some x)) c.given_of-given.ensures.given)
     c.take.ensures.becomes (c.given_of-given.ensures.zeroed m h.holds) refl
     (c.zeroing.ensures.work ∙ ap (λ (n : ℕ). record { op = 2; zeroed = Some n; entries = [] }) number) in
-    record { value = t.value; holds = t.holds; work = t.told; has = record { root = t.root; pool = t.free; slots = t.slots } }
+    record { value = t.value; holds = t.holds; work = t.told; has = record { root = t.root; pool = t.free; slots = t.slots; calls = h.has.calls } }

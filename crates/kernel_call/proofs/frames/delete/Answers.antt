@@ -60,4 +60,4 @@ returns-clause-does c = λ e readings replies m h.
     c.in_ok-filled.ensures.there unused c.delete-gone.ensures.becomes c.delete-gone.ensures.unmapped c.delete-gone.ensures.uninstalled
     c.delete-gone.ensures.held c.delete-gone.ensures.table c.give_back.ensures.becomes c.clear_entry-work.ensures.map refl
     (c.clear_entry-work.ensures.clears m h.holds) in
-    record { value = t.value; holds = t.holds; work = t.told; has = record { root = t.root; pool = t.free; slots = t.slots } }
+    record { value = t.value; holds = t.holds; work = t.told; has = record { root = t.root; pool = t.free; slots = t.slots; calls = h.has.calls } }

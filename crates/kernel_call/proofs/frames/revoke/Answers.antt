@@ -28,4 +28,4 @@ returns-clause-does c = λ e readings replies m h.
     (record { value = c.revoke-revoked.result.count; work = c.clear_all.result })
     c.in_ok-filled.ensures.below c.in_ok-filled.ensures.there c.revoke-revoked.ensures.becomes c.revoke-revoked.ensures.entries
     refl c.clear_all.ensures.map c.revoke-revoked.ensures.count (c.clear_all.ensures.unmaps m h.holds) in
-    record { value = t.value; holds = t.holds; work = t.told; has = record { root = t.root; pool = t.free; slots = t.slots } }
+    record { value = t.value; holds = t.holds; work = t.told; has = record { root = t.root; pool = t.free; slots = t.slots; calls = h.has.calls } }

@@ -79,5 +79,5 @@ returns-clause-does c e readings replies m h =
     (ap (λ (caps : Slots). with_caps caps (dom_model c.args.domain.now readings replies)) caps)
     h.holds
     (tells_nothing 6 (work_model c.no_work.result) refl c.no_work.ensures.work)
-    (has_set e c.args.domain.now _ c.args.b _ h.has refl refl caps
+    (has_set e c.args.domain.now _ c.args.b _ h.has refl refl refl caps
     (free_copied e c.args.domain.now.caps c.args.a c.args.b c.args.c c.in_ok-cap.cap h.has.slots below in_range there empty))

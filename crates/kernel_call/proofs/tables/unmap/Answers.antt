@@ -75,5 +75,5 @@ returns-clause-does c e readings replies m h =
     (ap (λ (caps : Slots). with_caps caps (dom_model c.args.domain.now readings replies)) caps)
     holds
     (tells_entry_emptied 5 c.unmap-entry.result (page_entry m e.root c.in_ok-va.va) (work_model c.writing.result) refl c.writing.ensures.work entry)
-    (has_set e c.args.domain.now _ c.args.a _ h.has c.unmap-entry.ensures.root refl caps
+    (has_set e c.args.domain.now _ c.args.a _ h.has c.unmap-entry.ensures.root refl refl caps
     (free_page e c.args.domain.now.caps c.args.a c.in-Frame.frame c.in-Frame.rights c.in-Frame.mapped None h.has.slots below there))

@@ -7,6 +7,7 @@ use Rattle.frame_colours.specs.FreeList.{FreeList, all_free, without_least}
 use Rattle.tp_base.specs.Table.{empty}
 use Rattle.phys_mem.specs.Contents.{zeroed}
 use Rattle.phys_mem.specs.Holds.{Holds}
+use Rattle.kernel_clone.specs.Permissions.{every_call}
 use Rattle.kernel_tests.proofs.Opening.{slots_of, first_of, second_of, is_valid}
 use Rattle.kernel_tests.proofs.calls.opened.Goals as goal
 
@@ -28,9 +29,10 @@ returns c =
     let at : c.in_ok-domain.domain.map ≡ c.in_ok-ok_or.field-0 = search rules in
     let free : c.in_ok-domain.domain.pool ≡ without_least (without_least c.in_ok-pool.pool) = search rules in
     let caps : c.in_ok-domain.domain.caps ≡ slots_of c.in_ok-ok_or-2.field-0 = search rules in
+    let calls : c.in_ok-domain.domain.calls ≡ every_call = search rules in
     record {
       valid =
           is_valid c.in_ok-memory.memory c.table-root.new.memory c.table-table.new.memory c.in_ok-ok_or.field-0 c.in_ok-ok_or-2.field-0
           c.in_ok-domain.domain size holds one five then after at
-          (free ∙ ap (λ (l : FreeList). without_least (without_least l)) pool_is) caps;
+          (free ∙ ap (λ (l : FreeList). without_least (without_least l)) pool_is) caps calls;
     }
