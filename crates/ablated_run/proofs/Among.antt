@@ -174,7 +174,7 @@ module _ (off : Option Guard) (i : Image) (d : ℕ) (w : World) (memory : Conten
       let new : DomainStands (setting_by g i o.owner) z (delivered_on o.moment.line (dom_of w o.owner)) =
       record {
         dom = dom;
-        has = has_still (estate p (own_of i o.owner)) y z was.has keeps.caps keeps.pool keeps.map;
+        has = has_still (estate p (own_of i o.owner)) y z was.has keeps.caps keeps.pool keeps.map keeps.calls;
         layout = ap (λ (c : CloneLayout). layout_model c) keeps.layout ∙ was.layout;
         moments = keeps.moments ∙ was.moments;
       } in

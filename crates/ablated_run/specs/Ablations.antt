@@ -43,6 +43,7 @@ pub record HasClone (layout : CloneLayout) (old new : Domain) : Type 0 where
   pub interrupts : new.interrupts ≡ old.interrupts
   pub map : new.map ≡ old.map
   pub pool : new.pool ≡ old.pool
+  pub calls : new.calls ≡ old.calls
   pub retired : new.retired ≡ old.retired
   pub readings : new.readings ≡ old.readings
   pub replies : new.replies ≡ old.replies

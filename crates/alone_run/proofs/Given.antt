@@ -1,6 +1,9 @@
 -- What an accepted image gives to a domain that runs alone.
-use Rattle.std.proofs.Common.{◌≡◌, ◌≢◌, ℕ, zero, suc, ◌<◌, true, false, true≢false, List, [], ◌∷◌, refl, ap, sym, subst₂, ◌∙◌, arith}
+use Rattle.std.proofs.Common.{◌≡◌, ◌≢◌, ℕ, zero, suc, ◌<◌, true, false, true≢false, List, [], ◌∷◌, ◌≤◌, refl, ap, sym, subst, subst₂, ◌∙◌, arith}
 use Rattle.frame_colours.specs.Colours.{has, list_at, AreDisjoint}
+use Rattle.sched_table.specs.Schedule.{entry_in}
+use Rattle.pad_bound.specs.Bound.{bound_of}
+use Rattle.image_check.specs.Pads.{shape_for}
 use Rattle.hardware_check.specs.Hardware.{colours_of}
 use Rattle.image_check.specs.Public.{Public}
 use Rattle.image_check.specs.Own.{Own}
@@ -27,18 +30,19 @@ alone_disjoint colours cs low no_zero = record { in_range = in_range; no_zero = 
     apart zero (suc k) c other h = refl
     apart (suc j) k c other h = absurd (true≢false (sym h))
 
-runs_alone : (i : Image) → Runnable i → (d : ℕ) → IsDomain i d → RunsAlone i.all (own_of i d)
+runs_alone : (i : Image) → Runnable i → (d : ℕ) → IsDomain i d → RunsAlone i.all (own_of i d) d
 runs_alone i r d is =
     let own = list_is i r d is in
     let most = r.hardware.most_frames in
     record {
       hardware = r.hardware;
       schedule = r.schedule;
-      padded = r.padded;
+      padded = λ e within same.
+          subst (λ (n : ℕ). bound_of (shape_for i.all.hardware (own_of i n).calls) ≤ (entry_in i.all.schedule e).pad) same (r.padded e within);
       colours = alone_disjoint (colours_of i.all.hardware) (own_of i d).colours
           (λ c h. r.disjoint.in_range d c (ap (λ (cs : List ℕ). has cs c) own ∙ h)) (ap (λ (cs : List ℕ). has cs 0) (sym own) ∙ r.disjoint.no_zero d);
       pool = record { few = omega (arith, most); enough = r.pools d is; sound = r.sound d };
     }
 
-pub runs_of : (p : Public) (o : Own) (d : ℕ) → IsOf p o d → RunsAlone p o
-runs_of p o d is = subst₂ (λ (q : Public) (x : Own). RunsAlone q x) (sym is.public) (sym is.own) (runs_alone is.image is.runnable d is.domain)
+pub runs_of : (p : Public) (o : Own) (d : ℕ) → IsOf p o d → RunsAlone p o d
+runs_of p o d is = subst₂ (λ (q : Public) (x : Own). RunsAlone q x d) (sym is.public) (sym is.own) (runs_alone is.image is.runnable d is.domain)

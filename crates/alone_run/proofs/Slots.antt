@@ -69,7 +69,7 @@ makes_fresh h n old new c levels made is =
 
 -- ---- a slot
 
-module _ (p : Public) (o : Own) (runs : RunsAlone p o) where
+module _ (p : Public) (o : Own) {number : ℕ} (runs : RunsAlone p o number) where
   has_facts : (d k : ℕ) (memory : Contents) (x : Domain) → memory.frames ≡ p.hardware.frames → Holds memory (alone p o d k).storage.mem
       → Stands x (alone p o d k).dom → Has (estate p.hardware o) x → call.HasFacts (estate p.hardware o) memory (alone p o d k).storage.mem x
   unfolding estate

@@ -1,5 +1,6 @@
 -- A domain alone by the definitions: it keeps its facts, and each of its slots is over before the next one begins.
-use Rattle.std.proofs.Common.{◌≡◌, ℕ, zero, suc, ◌%◌, ◌≤◌, Bool, true, false, length, refl, ap, arith, mod-lt, eq-eqb, ne_eqb, ◌≢◌}
+use Rattle.std.proofs.Common.{◌≡◌, ℕ, zero, suc, ◌%◌, ◌≤◌, Bool, true, false, length, refl, ap, arith, mod-lt, eqb-true, eq-eqb, ne_eqb, ◌≢◌}
+use Rattle.std.specs.Prelude.{◌==◌}
 use Rattle.tp_base.specs.Table.{empty}
 use Rattle.sched_table.specs.Schedule.{entry_of_slot, pad_of, start, slot_end}
 use Rattle.pad_bound.specs.Bound.{bound_of}
@@ -20,7 +21,7 @@ use Rattle.world_view.proofs.steps.StepLaws.{steps_keep}
 use Rattle.world_view.proofs.time.TimeLaws.{IsSoon, cold_ways, stretch_soon}
 use Rattle.alone_run.specs.Runs.{RunsAlone}
 
-module _ (p : Public) (o : Own) (runs : RunsAlone p o) where
+module _ (p : Public) (o : Own) {number : ℕ} (runs : RunsAlone p o number) where
   pub kernel : IsKernel p.hardware o
   kernel = kernel_is p.hardware o runs.pool.enough runs.pool.sound runs.hardware (runs.colours.no_zero 0)
 
@@ -53,19 +54,22 @@ module _ (p : Public) (o : Own) (runs : RunsAlone p o) where
       let base = timed.base in
       stretch_soon p.hardware timed o true (slot_end p.schedule k) (alone_enter p o k s) (record { clock = omega (arith, within, base); ways = entered_ways k s })
 
-  pad_enough : (k : ℕ) → bound p.hardware ≤ pad_of p.schedule (suc k)
-  pad_enough k = runs.padded (k % length p.schedule) (mod-lt k runs.schedule.some)
+  pad_enough : (k : ℕ) → (entry_of_slot p.schedule k).domain ≡ number → bound p.hardware o ≤ pad_of p.schedule (suc k)
+  pad_enough k own = runs.padded (k % length p.schedule) (mod-lt k runs.schedule.some) own
 
-  early_if : (k : ℕ) (s : Local) (b : Bool) → s.clock ≤ start p.schedule k → (alone_if p o k s b).clock ≤ start p.schedule (suc k)
+  early_if : (k : ℕ) (s : Local) (b : Bool) → (entry_of_slot p.schedule k).domain == number ≡ b → s.clock ≤ start p.schedule k → (alone_if p o k s b).clock ≤ start p.schedule (suc k)
   unfolding alone_if alone_out start bound_of
-  early_if k s true h = let soon = (slot_soon k s).clock in let pad = pad_enough k in omega (arith, soon, pad)
-  early_if k s false h = omega (arith, h)
+  early_if k s true own h =
+      let soon = (slot_soon k s).clock in
+      let pad = pad_enough k (eqb-true (entry_of_slot p.schedule k).domain number own) in
+      omega (arith, soon, pad)
+  early_if k s false own h = omega (arith, h)
 
   -- its last slot was over before the next one of the schedule begins
-  pub alone_early : (d k : ℕ) → (alone p o d k).clock ≤ start p.schedule k
+  pub alone_early : (k : ℕ) → (alone p o number k).clock ≤ start p.schedule k
   unfolding alone alone_opening
-  alone_early d zero = omega arith
-  alone_early d (suc k) = early_if k (alone p o d k) _ (alone_early d k)
+  alone_early zero = omega arith
+  alone_early (suc k) = early_if k (alone p o number k) _ refl (alone_early k)
 
 -- ---- a slot by whose it is
 

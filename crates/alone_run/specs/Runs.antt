@@ -8,7 +8,7 @@ use Rattle.image_check.specs.Public.{Public}
 use Rattle.image_check.specs.Own.{Own}
 use Rattle.image_check.specs.Image.{Image, own_of}
 use Rattle.image_check.specs.Laws.{Runnable}
-use Rattle.image_check.specs.Pads.{shape_of}
+use Rattle.image_check.specs.Pads.{shape_for}
 use Rattle.domain_open.specs.Placing.{HasPool}
 
 -- the public part is that of an accepted image, and the own part that of its domain d
@@ -19,10 +19,11 @@ pub record IsOf (p : Public) (o : Own) (d : ℕ) : Type 0 where
   pub public : p ≡ image.all
   pub own : o ≡ own_of image d
 
--- an accepted image gives this to each of its domains
-pub record RunsAlone (p : Public) (o : Own) : Type 0 where
+-- an accepted image gives this to each of its domains, by its number
+pub record RunsAlone (p : Public) (o : Own) (d : ℕ) : Type 0 where
   pub hardware : IsHardware p.hardware
   pub schedule : IsSchedule p.schedule
-  pub padded : (e : ℕ) → e < length p.schedule → bound_of (shape_of p.hardware) ≤ (entry_in p.schedule e).pad
+  pub padded : (e : ℕ) → e < length p.schedule → (entry_in p.schedule e).domain ≡ d
+      → bound_of (shape_for p.hardware o.calls) ≤ (entry_in p.schedule e).pad
   pub colours : AreDisjoint (colours_of p.hardware) (o.colours ∷ [])
   pub pool : HasPool p.hardware o

@@ -39,7 +39,7 @@ pub struct Alone<'a> {
     domain: Domain,
     /// In cycles, as its last slot ended.
     clock: u64,
-    ghost runs: { RunsAlone (public_model public.now) (own_model own.now) },
+    ghost runs: { RunsAlone (public_model public.now) (own_model own.now) number },
     ghost stands: { StandsFor (hardware_model public.now.hardware) (own_model own.now)
         (alone (public_model public.now) (own_model own.now) number slots)
         (kept memory system domain clock) } by { stands_prop (hardware_model public.now.hardware)

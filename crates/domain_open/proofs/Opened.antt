@@ -217,10 +217,11 @@ module _ (p : Hardware) (o : Own) where
               by_case false e = refl
 
       pub has_estate : (d : Domain) → d.map ≡ root_of p o → d.pool ≡ record { share = share_of p o; free = drop (frames_in o.segments) (pool p o) }
-          → d.caps ≡ first_slots p o → Has (estate p o) d
+          → d.caps ≡ first_slots p o → d.calls ≡ o.calls → Has (estate p o) d
       unfolding estate
-      has_estate d root free caps = record {
+      has_estate d root free caps calls = record {
         root = root;
+        calls = calls;
         pool = free ∙ ap (λ (fs : List ℕ). record { share = share_of p o; free = fs }) (free_left ∙ ap (λ (s : Slots). free_frames (estate p o) s) (sym caps));
         slots = ap (λ (s : Slots). length s) caps ∙ slots_long p o enough sound;
       }
@@ -261,11 +262,11 @@ module _ (p : Hardware) (o : Own) (has : HasPool p o) (apart : AreApart o.segmen
   pub is_opened : (d : Domain) → IsNew d → d.map ≡ root_of p o
       → d.pool ≡ record { share = share_of p o; free = drop (frames_in o.segments) (pool p o) } → d.caps ≡ first_slots p o
       → d.interrupts ≡ irq.opening o.moments → threads_model d.threads ≡ threads.opening o.entry → d.tables.items ≡ first_tables p o
-      → d.kept.items ≡ clone_frames p o ++ unnamed (first_slots p o) (page_frames p o) → layout_model d.layout ≡ layout p o → IsOpened p o d
+      → d.kept.items ≡ clone_frames p o ++ unnamed (first_slots p o) (page_frames p o) → layout_model d.layout ≡ layout p o → d.calls ≡ o.calls → IsOpened p o d
   unfolding irq.opening
-  is_opened d new root free caps irqs at tables kept clone = record {
+  is_opened d new root free caps irqs at tables kept clone calls = record {
     stands = at_entry p o d new at caps irqs;
-    has = has_estate p o has.enough has.sound apart d root free caps;
+    has = has_estate p o has.enough has.sound apart d root free caps calls;
     tables = tables;
     kept = kept ∙ ap (λ (fs : List ℕ). clone_frames p o ++ fs) (kept_are p o);
     layout = clone;

@@ -85,6 +85,7 @@ pub fn open_domain(
         interrupts,
         threads: ThreadSet::new(own.entry),
         layout,
+        calls: own.calls,
     };
     Domain::new(alloc, begin)
 }

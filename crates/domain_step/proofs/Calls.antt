@@ -6,7 +6,6 @@ use Rattle.tp_base.specs.Act.{either}
 use Rattle.phys_mem.specs.Contents.{Contents}
 use Rattle.phys_mem.specs.Mem.{Mem}
 use Rattle.set_cache.specs.Rule.{Rule}
-use Rattle.rv_core.specs.Registers.{register}
 use Rattle.cycle_cost.specs.Costs.{CostTable}
 use Rattle.kernel_clone.specs.Footprints.{Layout, WorkDone}
 use Rattle.kernel_clone.specs.declared.CloneLayout.{CloneLayout}
@@ -21,7 +20,7 @@ use Rattle.mem_system.proofs.Touches.{makes_one, makes_then}
 use Rattle.cache_sharing.specs.Operations.{operation}
 use Rattle.call_table.specs.declared.Reply.{Reply}
 use Rattle.call_table.specs.Domain.{Dom}
-use Rattle.call_table.specs.Calls.{Note, empties, work_of, call}
+use Rattle.call_table.specs.Calls.{Note, empties, work_of, call, number_made}
 use Rattle.call_table.specs.Laws.{Kept as HasClaims}
 use Rattle.call_table.proofs.WalksStay.{walks_stay}
 use Rattle.kernel_call.specs.declared.domain.Domain.{Domain}
@@ -41,19 +40,19 @@ append_none (t ∷ ts) = ap (λ (us : List Touch). t ∷ us) (append_none ts)
 
 module _ {P : Type 0} (rule : P → ℕ → Rule) (stands : P → ℕ → ℕ → List ℕ → Type 0) (w : Setting) (old new : Domain) (memory memory' : Contents) (system : SystemContents P) (spent : ℕ)
     (readings : List ℕ) (replies : List Reply) (outcome : Outcome) (s : Storage) (r : Touched) (k : KeptOf rule stands w old memory system spent s r)
-    (called : IsCalled (estate w.machine w.own) memory' new (register old.threads.active.regs 17) (length replies) outcome (call (estate w.machine w.own) (dom_model old readings replies) s.mem))
+    (called : IsCalled (estate w.machine w.own) memory' new (number_made (estate w.machine w.own) (dom_model old readings replies)) (length replies) outcome (call (estate w.machine w.own) (dom_model old readings replies) s.mem))
     (keeps : KeepsParts old new) (frames : memory'.frames ≡ memory.frames) where
   abbrev done : act.Done Mem Note Dom Dom
   done = call (estate w.machine w.own) (dom_model old readings replies) s.mem
 
   abbrev touches : List Touch
-  touches = call_touches w.machine w.clone (register old.threads.active.regs 17) done.notes
+  touches = call_touches w.machine w.clone (number_made (estate w.machine w.own) (dom_model old readings replies)) done.notes
 
   abbrev ours : List Touch
   ours = operation system.core.costs (layout_model new.layout) (work_model outcome.work)
 
   abbrev theirs : List Touch
-  theirs = operation w.machine.costs w.clone (work_of (register old.threads.active.regs 17) done.notes)
+  theirs = operation w.machine.costs w.clone (work_of (number_made (estate w.machine w.own) (dom_model old readings replies)) done.notes)
 
   same_layout : layout_model new.layout ≡ w.clone
   same_layout = ap (λ (c : CloneLayout). layout_model c) keeps.layout ∙ k.layout

@@ -23,6 +23,7 @@ pub record KeepsFrames (old new : Domain) : Type 0 where
   pub pool : new.pool ≡ old.pool
   pub map : new.map ≡ old.map
   pub layout : new.layout ≡ old.layout
+  pub calls : new.calls ≡ old.calls
   pub moments : new.interrupts.moments ≡ old.interrupts.moments
 
 -- it goes on as it stood: it runs if it ran, its thread is ready if it was, and no moment was delivered

@@ -123,7 +123,8 @@ pub fn finish(domain: &mut Domain, instr: Instr, value: u32, next: u32)
 
 // ---- kernel calls
 
-// The kernel call in x17, with the arguments in x10, x11 and x12.
+// The kernel call in x17, if the domain may make it, with the arguments in x10, x11
+// and x12.
 #[tactic(auto, unfolding(call_table::specs::Calls::call))]
 fn answer(memory: &mut PhysMem, domain: &mut Domain) -> Outcome
     requires valid { Valid memory.old domain.old }
@@ -133,8 +134,8 @@ fn answer(memory: &mut PhysMem, domain: &mut Domain) -> Outcome
     ensures calls { (e : Estate) (readings : List ℕ) (replies : List Reply) (m : Mem)
         → HasFacts e memory.old m domain.old
         → log_model domain.old.readings ≡ log_of readings → log_model domain.old.replies ≡ log_of replies
-        → IsCalled e memory.new domain.new (register domain.old.threads.active.regs 17) (length replies)
-        result (table.call e (dom_model domain.old readings replies) m) }
+        → IsCalled e memory.new domain.new (table.number_made e (dom_model domain.old readings replies))
+        (length replies) result (table.call e (dom_model domain.old readings replies) m) }
     ensures work { IsWork result.work }
     ensures keeps { KeepsParts domain.old domain.new }
     ensures frames { memory.new.frames ≡ memory.old.frames }

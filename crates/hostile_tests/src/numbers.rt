@@ -44,6 +44,8 @@ pages = 1|pages = #|K2 at 16 found 0 wanted 0
 domain = 0|domain = #|K16 at 0 found # wanted 2
 length = 10000|length = #|K16 at 0 found # wanted 3
 pad = 6150|pad = #|K16 at 0 found # wanted 4
+frames = 64|version = #~frames = 64|K2 at 28 found 0 wanted 0
+frames = 64|version = 2~frames = #|K4 at 0 found # wanted 16384
 frames = 64|frames = 9223372036854775808|K1 at 0 found 0 wanted 0";
 
 #[test]

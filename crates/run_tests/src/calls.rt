@@ -40,10 +40,10 @@ const WITH_DATA: &str =
 //     addi x10, x0, 0; addi x17, x0, 7; ecall
 //     addi x17, x0, 2; ecall
 //     addi x17, x0, 0; ecall
-const TEN_FRAMES: &str =
+pub const TEN_FRAMES: &str =
     "1385020093050000930820007300000093821200e30605fe13050000930870007300000093082000730000009308000073000000";
 
-const TEN_REPLIES: &str =
+pub const TEN_REPLIES: &str =
     "status exited 0|replies 12 last 0:0 list 0:0 0:0 0:0 0:0 0:0 0:0 0:0 0:0 0:0 10:0 0:0 0:0";
 
 // ALLOC of a page and of a table; MAP where no table is, TABLE, MAP, a store and

@@ -20,3 +20,5 @@ mod machines;
 mod timed;
 #[cfg(test)]
 mod unprotected;
+#[cfg(test)]
+mod versions;

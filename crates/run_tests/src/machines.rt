@@ -12,6 +12,8 @@ const ALONE: &str = "tp alone --domain 1 --slots 4";
 
 const NO_DOMAIN: &str = "tp alone --domain 2 --slots 4";
 
+const LAST_NUMBER: &str = "tp alone --domain 31 --slots 4";
+
 #[test]
 fn a_domain_alone_has_its_section(rt: HostRuntime) -> Result<(), Fail> {
     let alloc = rt.alloc();
@@ -24,7 +26,9 @@ fn a_domain_alone_has_its_section(rt: HostRuntime) -> Result<(), Fail> {
 fn a_domain_that_the_image_lacks_is_not_run(rt: HostRuntime) -> Result<(), Fail> {
     let alloc = rt.alloc();
     let image = image(alloc, "", "", READS_A)?;
-    expect(&rt, alloc, NO_DOMAIN, image.as_str(), Status::Usage, USAGE)?;
+    for words in [NO_DOMAIN, LAST_NUMBER] {
+        expect(&rt, alloc, words, image.as_str(), Status::Usage, USAGE)?;
+    }
     let broken = image.replace(alloc, "pad = 6150", "pad = 6149")?;
     let line = "refused K17 at 0 found 6149 wanted 6150\n";
     expect(
@@ -156,20 +160,37 @@ fn moments(alloc: Global, dice: &mut Dice, d: u32) -> Result<String, Fail>
     Ok(moments)
 }
 
+// The line of some of the calls, two of three each.
+fn some_calls(alloc: Global, dice: &mut Dice) -> Result<String, Fail> {
+    let mut calls = String::new(alloc);
+    for number in 0..15 {
+        if dice.below(3) > 0 {
+            let call = format!(in alloc; "{number}, ")?;
+            calls.push_str(call.as_str())?;
+        }
+    }
+    Ok(format!(in alloc; "calls = [{calls}]\n")?)
+}
+
 fn push_domain(
     alloc: Global,
     image: &mut String,
     dice: &mut Dice,
     d: u32,
-    muldiv: bool,
+    parts: Parts,
 ) -> Result<(), Fail>
     requires few { d < 8 }
 {
-    let program = program(alloc, dice, muldiv)?;
+    let program = program(alloc, dice, parts.muldiv)?;
     let moments = moments(alloc, dice, d)?;
+    let calls = if parts.calls {
+        some_calls(alloc, dice)?
+    } else {
+        String::new(alloc)
+    };
     let (colour, other) = (d + 1, d + 8);
     let domain = format!(in alloc;
-        "[[domain]]\nname = \"g{d}\"\ncolours = [{colour}]\nentry = 0x10000\ncaps = [\"irq {d}\", \"page 32\", \"irq {other}\"]\nlines = [{d}, {other}]\nmoments = [{moments}]\nsegment = [{{ page = 16, pages = 1, rights = \"rx\", hex = \"{program}\" }}, {{ page = 32, pages = 1, rights = \"rw\", hex = \"\" }}]\n"
+        "[[domain]]\nname = \"g{d}\"\n{calls}colours = [{colour}]\nentry = 0x10000\ncaps = [\"irq {d}\", \"page 32\", \"irq {other}\"]\nlines = [{d}, {other}]\nmoments = [{moments}]\nsegment = [{{ page = 16, pages = 1, rights = \"rx\", hex = \"{program}\" }}, {{ page = 32, pages = 1, rights = \"rw\", hex = \"\" }}]\n"
     )?;
     image.push_str(domain.as_str())?;
     Ok(())
@@ -201,25 +222,37 @@ fn policy(number: u32) -> &'static str {
     }
 }
 
-// A predictor with or without a history and targets, products and divisions or none.
-fn parts(alloc: Global, seed: u32, muldiv: bool) -> Result<String, Fail> {
+// What an image has beside its machine: whether products and divisions, and
+// whether it is of the second version, with the calls of each domain.
+#[derive(Clone, Copy)]
+struct Parts {
+    muldiv: bool,
+    calls: bool,
+}
+
+// A predictor with or without a history and targets, and what `parts` says of the machine.
+fn keys(alloc: Global, seed: u32, parts: Parts) -> Result<String, Fail> {
     let history = [0, 2, 8][seed as usize % 3];
     let targets = ["", "targets = 1\n", "targets = 16\n"][seed as usize / 3 % 3];
-    let costs = if muldiv {
+    let costs = if parts.muldiv {
         "muldiv = { mul = 4, div = 2 }\n"
     } else {
         ""
     };
-    Ok(format!(in alloc; "predictor = 16\nhistory = {history}\n{targets}{costs}")?)
+    let version = if parts.calls { "version = 2\n" } else { "" };
+    Ok(format!(in alloc; "{version}predictor = 16\nhistory = {history}\n{targets}{costs}")?)
 }
 
 fn generated(alloc: Global, seed: u32) -> Result<String, Fail> {
     let mut dice = Dice { state: seed };
     let (second, first) = (policy(seed), policy(seed / 4));
-    let muldiv = seed % 2 == 1;
-    let parts = parts(alloc, seed, muldiv)?;
+    let parts = Parts {
+        muldiv: seed % 2 == 1,
+        calls: seed / 16 % 2 == 1,
+    };
+    let keys = keys(alloc, seed, parts)?;
     let mut image = MACHINE
-        .replace(alloc, "predictor = 16\n", parts.as_str())?
+        .replace(alloc, "predictor = 16\n", keys.as_str())?
         .replace(
             alloc,
             "4, policy = \"lru\"",
@@ -230,8 +263,8 @@ fn generated(alloc: Global, seed: u32) -> Result<String, Fail> {
             "2, policy = \"lru\"",
             format!(in alloc; "2, policy = \"{first}\"")?.as_str(),
         )?;
-    push_domain(alloc, &mut image, &mut dice, 0, muldiv)?;
-    push_domain(alloc, &mut image, &mut dice, 1, muldiv)?;
+    push_domain(alloc, &mut image, &mut dice, 0, parts)?;
+    push_domain(alloc, &mut image, &mut dice, 1, parts)?;
     push_schedule(alloc, &mut image, &mut dice)?;
     Ok(image)
 }

@@ -1,5 +1,5 @@
 -- The texts that the program writes.
-use Rattle.std.specs.Prelude.{ℕ, List, [], ◌∷◌, ◌++◌, length, codes, decimal}
+use Rattle.std.specs.Prelude.{ℕ, nat_eq, if◌then◌else◌, map, List, [], ◌∷◌, ◌++◌, length, slice_index_or, codes, decimal}
 use Rattle.std.specs.Fmt.{signed_decimal}
 use Rattle.std.specs.List.{concat, flat_map, range_with_len}
 use Rattle.guards.specs.declared.Guard.{Guard}
@@ -7,9 +7,10 @@ use Rattle.guards.specs.Names.{name_of}
 use Rattle.image_text.specs.declared.refusal.Refusal.{Refusal}
 use Rattle.sched_table.specs.declared.schedule.Entry.{Entry}
 use Rattle.sched_table.specs.Schedule.{entry_in}
-use Rattle.pad_bound.specs.Bound.{MachineShape, worst_instruction, worst_operation, worst_leave, worst_prefetch, worst_flush, worst_enter, bound_of}
+use Rattle.pad_bound.specs.Bound.{MachineShape, worst_instruction, worst_operation, worst_leave, worst_prefetch, worst_flush, worst_enter, bound_of, with_calls}
 use Rattle.pad_bound.specs.declared.shape.Bound.{Bound}
 use Rattle.image_check.specs.Image.{Image, own_of}
+use Rattle.image_check.specs.Pads.{shape_of}
 use Rattle.world_view.specs.Machine.{World, whole, whole_off}
 use Rattle.world_view.specs.Used.{count_of, largest_of}
 use Rattle.world_view.specs.View.{View, view_in, view_alone}
@@ -97,6 +98,39 @@ bound_text b = concat (
     ∷ codes "\nenter " ∷ decimal b.enter
     ∷ codes "\nbound " ∷ decimal b.total
     ∷ codes "\n" ∷ [])
+
+-- ---- the bounds on switches, where each domain may make calls of its own
+
+-- a line for each part that is the same whoever leaves
+unfoldable pub shared_parts_text : MachineShape → List ℕ
+shared_parts_text s = concat (
+    codes "instruction " ∷ decimal (worst_instruction s)
+    ∷ codes "\nleave " ∷ decimal (worst_leave s)
+    ∷ codes "\nprefetch " ∷ decimal (worst_prefetch s)
+    ∷ codes "\nflush " ∷ decimal (worst_flush s)
+    ∷ codes "\nenter " ∷ decimal (worst_enter s)
+    ∷ codes "\n" ∷ [])
+
+-- the operation and all parts, of a machine for the domain of entry e
+unfoldable pub entry_line : ℕ → MachineShape → List ℕ
+entry_line e s = concat (codes "entry " ∷ decimal e ∷ codes " operation " ∷ decimal (worst_operation s) ∷ codes " bound " ∷ decimal (bound_of s) ∷ codes "\n" ∷ [])
+
+-- the line of entry e, after which its domain leaves; which calls may be made is listed by domain
+unfoldable pub entry_text : MachineShape → List Entry → List ℕ → ℕ → List ℕ
+entry_text s es calls e = entry_line e (with_calls s (slice_index_or calls (entry_in es e).domain 0))
+
+-- a line for each entry
+unfoldable pub entries_text : MachineShape → List Entry → List ℕ → List ℕ
+entries_text s es calls = flat_map (entry_text s es calls) (range_with_len 0 (length es))
+
+unfoldable pub bound_2_text : MachineShape → List Entry → List ℕ → List ℕ
+bound_2_text s es calls = shared_parts_text s ++ entries_text s es calls
+
+-- what is told of an image's switches: in the first version every domain may make every call
+unfoldable pub bounds_of : Image → List ℕ
+bounds_of i =
+    if nat_eq i.all.version 1 then bound_text (bound_in_parts (shape_of i.all.hardware))
+    else bound_2_text (shape_of i.all.hardware) i.all.schedule (map (λ o. o.calls) i.owns)
 
 -- ---- other texts
 

@@ -6,7 +6,9 @@ ghost use Rattle.call_table.specs.declared.DomainStatus.TheVariants.{Running};
 ghost use Rattle.thread_set.specs.declared.ThreadState.TheVariants.{Never, Ready, Waiting, Ended};
 ghost use Rattle.guards.specs.declared.Guard.TheVariants.{Flush};
 ghost use Rattle.tp_report.specs.Report.{switch_line, end_text, usage_text, refusal_text, too_long_text};
-ghost use Rattle.tp_report.specs.Report.{bound_text, accepted_text, unprotected_text};
+ghost use Rattle.kernel_clone.specs.Permissions.{every_call};
+ghost use Rattle.pad_bound.specs.Example.{small};
+ghost use Rattle.tp_report.specs.Report.{bound_text, bound_2_text, accepted_text, unprotected_text};
 ghost use Rattle.tp_report.specs.Texts.{thread_text, threads_text};
 ghost use Rattle.tp_report.specs.Demo.{demo_head, demo_domain};
 ghost use Rattle.tp_report.specs.Laws.{ReportLaw, LinesLaw};
@@ -42,6 +44,10 @@ pub fn texts()
       total = 6150;
     })
         ≡ codes "instruction 306\noperation 4277\nleave 383\nprefetch 472\nflush 340\nenter 373\nbound 6150\n" }
+    ensures bound_2 { bound_2_text small
+        (record { domain = 1; length = 9; pad = 2374; hart = 0 }
+        ∷ record { domain = 0; length = 9; pad = 6150; hart = 0 } ∷ []) (every_call ∷ 3 ∷ [])
+        ≡ codes "instruction 306\nleave 383\nprefetch 472\nflush 340\nenter 373\nentry 0 operation 501 bound 2374\nentry 1 operation 4277 bound 6150\n" }
     ensures accepted { accepted_text ≡ codes "accepted\n" }
     ensures too_long { too_long_text ≡ codes "too long\n" }
     ensures unprotected { unprotected_text Flush ≡ codes "unprotected flush\n" }

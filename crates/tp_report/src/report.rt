@@ -13,7 +13,6 @@ use crate::batch::Batch;
 use crate::pieces::{Piece, add_pieces, write_pieces};
 use guards::Guard;
 use image_check::{Refusal, Schedule};
-use pad_bound::Bound;
 use thread_set::{Thread, ThreadState};
 use tp_io::{Failed, Sink, write_all_of};
 use world_view::{Used, View};
@@ -254,34 +253,6 @@ fn write_switch<K: Sink>(
             Piece::Number(u64::from(pad)),
             Piece::Text(" count "),
             Piece::Number(u64::from(used.count)),
-            Piece::Text("\n"),
-        ],
-    )
-}
-
-/// Writes the most cycles of each part of a switch, and of all.
-#[tactic(auto, unfolding(crate::specs::Report::bound_text))]
-pub fn write_bound<K: Sink>(out: &mut K, bound: &Bound) -> Result<(), Failed>
-    ensures sends { Sends (state K.Sink out.old) (state K.Sink out.new)
-        result (report_spec.bound_text bound.now) }
-{
-    write_pieces(
-        out,
-        &[
-            Piece::Text("instruction "),
-            Piece::Number(bound.instruction),
-            Piece::Text("\noperation "),
-            Piece::Number(bound.operation),
-            Piece::Text("\nleave "),
-            Piece::Number(bound.leave),
-            Piece::Text("\nprefetch "),
-            Piece::Number(bound.prefetch),
-            Piece::Text("\nflush "),
-            Piece::Number(bound.flush),
-            Piece::Text("\nenter "),
-            Piece::Number(bound.enter),
-            Piece::Text("\nbound "),
-            Piece::Number(bound.total),
             Piece::Text("\n"),
         ],
     )

@@ -7,8 +7,6 @@ use Rattle.tp_io.specs.Sends.{SinkState}
 use Rattle.guards.specs.declared.Guard.{Guard}
 use Rattle.image_text.specs.declared.refusal.Refusal.{Refusal}
 use Rattle.image_text.specs.Record as text
-use Rattle.image_check.specs.Pads.{shape_of}
-use Rattle.image_check.specs.Public.{public_of}
 use Rattle.image_check.specs.Image.{Image, own_of, image_from}
 use Rattle.world_view.specs.Reading.{image, checked, unless_broken, most_bytes}
 use Rattle.world_view.specs.Machine.{whole}
@@ -22,7 +20,7 @@ use Rattle.world_view.proofs.time.TimeLaws.{used_within, on_time, largest_within
 use Rattle.image_gen.specs.Text.{text as generated_text}
 use Rattle.image_gen.proofs.Kept.{accepted_law}
 use Rattle.tp_report.specs.Texts.{section}
-use Rattle.tp_report.specs.Report.{report, section_of, bound_text, bound_in_parts, usage_text, refusal_text}
+use Rattle.tp_report.specs.Report.{report, section_of, bounds_of, usage_text, refusal_text}
 use Rattle.tp_report.proofs.ReportLaws.{reported_apart}
 use Rattle.tp_words.specs.declared.Command.{Command}
 use Rattle.tp_words.specs.declared.Command.TheVariants.{Check, Bound, Run, Alone, Gen, Demo, Ablate}
@@ -317,13 +315,9 @@ accepts a h asked done =
       wrote = wrote;
     }
 
--- the text of the bound on the switches of an image's machine
-abbrev bound_of : Image → List ℕ
-bound_of i = bound_text (bound_in_parts (shape_of i.all.hardware))
-
 pub bounds : (a : Asked) → IsAnswered a → a.command ≡ Bound → a.status ≡ Done
     → Bounds a.left a.left' a.old.written a.new.written
-unfolding answer_of_image broken_for public_of
+unfolding answer_of_image broken_for
 bounds a h asked done =
     let b : Asked = record a { command = Bound } in
     let k : IsAnswered b = as_command a Bound asked h in
@@ -334,7 +328,7 @@ bounds a h asked done =
       record_of = found.record_of;
       read = found.is;
       unbroken = found.unbroken;
-      wrote = wrote ∙ ap (λ (j : Image). after_known a.old.written (bound_of j)) found.image;
+      wrote = wrote ∙ ap (λ (j : Image). after_known a.old.written (bounds_of j)) found.image;
     }
 
 pub ran : (n : ℕ) (a : Asked) → IsAnswered a → a.command ≡ Run n → a.status ≡ Done

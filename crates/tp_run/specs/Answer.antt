@@ -2,12 +2,11 @@
 use Rattle.std.specs.Prelude.{ℕ, nat_le, nat_lt, if◌then◌else◌, List, length, Option, Some, None, Result, Ok, Err}
 use Rattle.image_text.specs.declared.refusal.Refusal.{Refusal}
 use Rattle.image_check.specs.Image.{Image, own_of, image_from}
-use Rattle.image_check.specs.Pads.{shape_of}
 use Rattle.image_gen.specs.Generated.{generated}
 use Rattle.image_gen.specs.Text.{text as generated_text}
 use Rattle.world_view.specs.Reading.{most_bytes}
 use Rattle.world_view.specs.View.{view_alone}
-use Rattle.tp_report.specs.Report.{report, report_off, section_of, bound_in_parts, bound_text, accepted_text, usage_text, refusal_text, too_long_text}
+use Rattle.tp_report.specs.Report.{report, report_off, section_of, bounds_of, accepted_text, usage_text, refusal_text, too_long_text}
 use Rattle.tp_report.specs.Demo.{demo_text}
 use Rattle.tp_words.specs.declared.Command.{Command}
 use Rattle.tp_words.specs.declared.Command.TheVariants.{Check, Bound, Run, Alone, Gen, Demo, Ablate}
@@ -39,7 +38,7 @@ answer_demo s = (Done, demo_text (image_from (generated s)) s)
 -- to an image that breaks no rule, by command; where the bound is asked for, none but that of pads
 unfoldable pub answer_of_image : Command → Image → Answer
 answer_of_image Check i = (Done, accepted_text)
-answer_of_image Bound i = (Done, bound_text (bound_in_parts (shape_of i.all.hardware)))
+answer_of_image Bound i = (Done, bounds_of i)
 answer_of_image (Run n) i = (Done, report i n)
 answer_of_image (Alone d n) i = answer_alone d n i
 answer_of_image (Gen s) i = answer_gen s

@@ -9,9 +9,7 @@ use Rattle.image_text.specs.declared.refusal.Refusal.{Refusal}
 use Rattle.image_text.specs.Record as text
 use Rattle.image_gen.specs.Generated.{generated}
 use Rattle.image_gen.specs.Text.{text as generated_text}
-use Rattle.hardware_check.specs.Hardware.{hardware_of}
 use Rattle.image_check.specs.Checking.{broken, broken_but_pads}
-use Rattle.image_check.specs.Pads.{shape_of}
 use Rattle.image_check.specs.Image.{Image, own_of, image_from}
 use Rattle.world_view.specs.Reading.{most_bytes, image}
 use Rattle.sched_table.specs.Schedule.{entry_in, start}
@@ -19,7 +17,7 @@ use Rattle.world_view.specs.Machine.{clock_of, switch, whole}
 use Rattle.world_view.specs.View.{view_whole, view_alone}
 use Rattle.world_view.specs.Relations.{IsDomain, AllWithinPads}
 use Rattle.world_view.specs.Used.{largest_of}
-use Rattle.tp_report.specs.Report.{report_apart, report_off, section_of, bound_in_parts, bound_text, accepted_text, usage_text, refusal_text}
+use Rattle.tp_report.specs.Report.{report_apart, report_off, section_of, bounds_of, accepted_text, usage_text, refusal_text}
 use Rattle.tp_report.specs.Demo.{demo_text}
 use Rattle.tp_words.specs.declared.Command.{Command}
 use Rattle.tp_words.specs.declared.Command.TheVariants.{Alone}
@@ -103,13 +101,13 @@ pub record Accepts (left left' written written' : Option (List ℕ)) : Type 0 wh
   pub unbroken : broken record_of ≡ []
   pub wrote : written' ≡ after_known written accepted_text
 
--- it breaks no rule but that of pads, and the bound on its machine's switches is what was written
+-- it breaks no rule but that of pads, and the bounds on its switches are what was written
 pub record Bounds (left left' written written' : Option (List ℕ)) : Type 0 where
   pub all : ReadsAll left left'
   pub record_of : text.Raw
   pub read : text.image_of all.bytes ≡ Ok record_of
   pub unbroken : broken_but_pads record_of ≡ []
-  pub wrote : written' ≡ after_known written (bound_text (bound_in_parts (shape_of (hardware_of record_of))))
+  pub wrote : written' ≡ after_known written (bounds_of (image_from record_of))
 
 -- ---- a run that was done
 

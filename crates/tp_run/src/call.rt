@@ -19,16 +19,16 @@ ghost use Rattle.tp_words.specs.Words.{IsInRange, Reads, command, words_of};
 
 use crate::Status;
 use crate::alone::run_domain;
+use crate::bounds::write_bounds;
 use crate::generate::{run_demo, write_generated};
 use crate::run::{domains_of, run_image, run_off};
 use guards::Guard;
 use image_check::{CheckRefusal, Checked, Unpadded, check, check_but_pads};
 use image_text::read_image;
-use pad_bound::bound;
 use std::alloc::Global;
 use tp_base::Memory;
 use tp_io::{Failed, ReadError, Sink, Source, read_within};
-use tp_report::{write_accepted, write_bound, write_refusal, write_too_long, write_usage};
+use tp_report::{write_accepted, write_refusal, write_too_long, write_usage};
 use tp_words::{Command, parse};
 
 /// The most bytes of an image.
@@ -203,10 +203,7 @@ fn answer_bound<K: Sink>(alloc: Global, bytes: &[u8], out: &mut K) -> Status
         result (state K.Sink out.old) (state K.Sink out.new) }
 {
     match accepted_but_pads(alloc, bytes) {
-        Ok(image) => {
-            let bound = bound(&image.shape());
-            status_unless_failed(Status::Done, write_bound(out, &bound))
-        }
+        Ok(image) => write_bounds(alloc, &image, out),
         Err(refusal) => refuse(&refusal, out),
     }
 }

@@ -2,6 +2,7 @@
 #![tactic(auto)]
 
 mod alone;
+mod bounds;
 mod call;
 mod generate;
 mod reported;

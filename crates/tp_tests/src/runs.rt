@@ -366,7 +366,7 @@ fn counters_have_two_halves(rt: HostRuntime) -> Result<(), Fail> {
 fn other_words_have_the_usage_line(rt: HostRuntime) -> Result<(), Fail> {
     let alloc = rt.alloc();
     let image = image(alloc, PRINTS_A, PRINTS_B)?;
-    for line in "tp|tp run|tp run --slots 65537|tp fly|tp help|tp run --help|tp check x|tp bound --slots 4|tp alone|tp alone --domain 16 --slots 4".split(
+    for line in "tp|tp run|tp run --slots 65537|tp fly|tp help|tp run --help|tp check x|tp bound --slots 4|tp alone|tp alone --domain 32 --slots 4".split(
         '|',
     ) {
         expect(&rt, alloc, line, image.as_str(), Status::Usage, USAGE)?;

@@ -24,7 +24,7 @@ tp check --|check
 tp bound --|bound
 tp alone --domain 1 --slots 4|1 4
 tp alone --slots 4 --domain 1|1 4
-tp alone --slots=0 --domain=15|15 0
+tp alone --slots=0 --domain=31|31 0
 tp alone --domain +0 --slots 65536|0 65536
 tp alone --domain=-0 --slots=-0|0 0
 tp gen --seed 7|gen 7
@@ -85,7 +85,7 @@ tp run --slots 4 --domain 1|
 tp alone|
 tp alone --slots 4|
 tp alone --domain 1|
-tp alone --domain 16 --slots 4|
+tp alone --domain 32 --slots 4|
 tp alone --domain -1 --slots 4|
 tp alone --domain x --slots 4|
 tp alone --domain 1 --slots 65537|

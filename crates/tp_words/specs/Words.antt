@@ -29,7 +29,7 @@ abbrev pub slots_rule : Rule
 slots_rule = number_rule (codes "slots") 65536
 
 abbrev pub domain_rule : Rule
-domain_rule = number_rule (codes "domain") 15
+domain_rule = number_rule (codes "domain") 31
 
 abbrev pub seed_rule : Rule
 seed_rule = number_rule (codes "seed") 4294967295
@@ -103,7 +103,7 @@ abbrev pub slots_in : List Row → ℕ
 slots_in rows = or_zero (number_in (codes "slots") 65536 rows)
 
 abbrev pub domain_in : List Row → ℕ
-domain_in rows = or_zero (number_in (codes "domain") 15 rows)
+domain_in rows = or_zero (number_in (codes "domain") 31 rows)
 
 abbrev pub seed_in : List Row → ℕ
 seed_in rows = or_zero (number_in (codes "seed") 4294967295 rows)

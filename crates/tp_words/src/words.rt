@@ -17,7 +17,7 @@ use tp_base::Memory;
 const MOST_SLOTS: u32 = 65_536;
 
 /// The greatest number of a domain.
-const LAST_DOMAIN: u32 = 15;
+const LAST_DOMAIN: u32 = 31;
 
 /// The greatest seed.
 const LAST_SEED: u32 = u32::MAX;

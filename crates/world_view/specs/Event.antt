@@ -34,7 +34,7 @@ use Rattle.thread_set.specs.Threads.{is_ready}
 use Rattle.kernel_clone.specs.Footprints.{Layout, delivery_op}
 use Rattle.call_table.specs.Domain.{Dom, is_running}
 use Rattle.call_table.specs.Claims.{Estate}
-use Rattle.call_table.specs.Calls.{Note, empties, work_of, call}
+use Rattle.call_table.specs.Calls.{Note, empties, work_of, call, number_made}
 use Rattle.world_view.specs.Instruction.{stopped, trapped, retired_at, counter_value, read_out}
 use Rattle.mem_system.specs.Cost.{Touch, Fetch, Load, Store as StoreTouch, Branch, Jump as JumpTouch, EmptyTlb, Charge}
 use Rattle.mem_system.specs.Translation.{look_of}
@@ -193,7 +193,7 @@ unfoldable pub make_call : Hardware → Estate → Layout → Dom → Act Dom
 make_call p e l d = λ s.
     let r = call e d s.mem in
     record {
-      notes = call_touches p l (register d.threads.current.regs 17) r.notes;
+      notes = call_touches p l (number_made e d) r.notes;
       state = record { mem = r.state };
       value = inr (either r.value);
     }

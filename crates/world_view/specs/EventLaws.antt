@@ -17,14 +17,13 @@ use Rattle.hardware_check.specs.Hardware.{Hardware}
 use Rattle.image_check.specs.Own.{Own}
 use Rattle.image_check.specs.Image.{Image, own_of}
 use Rattle.image_check.specs.Laws.{Runnable}
-use Rattle.image_check.specs.Pads.{shape_of}
 use Rattle.world_view.specs.Frames.{root_of}
 use Rattle.world_view.specs.Kernel.{estate, layout}
 use Rattle.world_view.specs.Cost.{hierarchy}
 use Rattle.world_view.specs.Event.{place, instruction, delivery_touches, Event, event}
 use Rattle.world_view.specs.Event.Event.{Jump, Deliver, Run}
 use Rattle.world_view.specs.Machine.{setting, Local, step}
-use Rattle.world_view.specs.Relations.{IsDomain, HasFacts, MayAll}
+use Rattle.world_view.specs.Relations.{IsDomain, shape_of, largest_step, HasFacts, MayAll}
 use Rattle.world_view.specs.Laws.{local_in}
 use Rattle.world_view.specs.Interrupts.{owner}
 
@@ -61,15 +60,15 @@ SlotTouchesLaw = (i : Image) (k n : ℕ) → Runnable i →
 -- ---- what it costs at most, whatever the caches hold
 
 -- the clock after an event that began at `now`: a jump goes to the slot's end at the latest; a delivery takes the
--- bound's operation at most, and an instruction, with its kernel call, the bound's instruction and operation
-abbrev pub EndsBy : Hardware → ℕ → ℕ → Event → ℕ → Type 0
-EndsBy p now end (Jump t) later = later ≤ end
-EndsBy p now end (Deliver line) later = later ≤ now + worst_operation (shape_of p)
-EndsBy p now end Run later = later ≤ now + (worst_instruction (shape_of p) + worst_operation (shape_of p))
+-- operation of the domain's bound at most, and an instruction, with its kernel call, its instruction and operation
+abbrev pub EndsBy : Hardware → Own → ℕ → ℕ → Event → ℕ → Type 0
+EndsBy p o now end (Jump t) later = later ≤ end
+EndsBy p o now end (Deliver line) later = later ≤ now + worst_operation (shape_of p o)
+EndsBy p o now end Run later = later ≤ now + largest_step p o
 
 abbrev pub StepCostLaw : Type 0
 StepCostLaw = (p : Hardware) (o : Own) (pinned : Bool) (end : ℕ) (s : Local) → HasWays (hierarchy p) s.caches
-    → EndsBy p s.clock end (event o s.clock end s.dom) (step (setting p o pinned) end s).clock
+    → EndsBy p o s.clock end (event o s.clock end s.dom) (step (setting p o pinned) end s).clock
 
 -- the instruction that a walk's leaf leads to, where it found one, of a machine with products and divisions or without
 abbrev pub instruction_at : Bool → Mem → ℕ → Result ℕ WalkFault → Option Instr
@@ -86,11 +85,11 @@ next_instruction p o d m =
 abbrev pub PlainCostLaw : Type 0
 PlainCostLaw = (p : Hardware) (o : Own) (pinned : Bool) (end : ℕ) (s : Local) → HasWays (hierarchy p) s.caches
     → event o s.clock end s.dom ≡ Run → next_instruction p o s.dom s.storage.mem ≢ Some Ecall
-    → (step (setting p o pinned) end s).clock ≤ s.clock + worst_instruction (shape_of p)
+    → (step (setting p o pinned) end s).clock ≤ s.clock + worst_instruction (shape_of p o)
 
 -- at each moment of each slot the caches have their ways, so each step costs no more
 abbrev pub SlotCostLaw : Type 0
 SlotCostLaw = (i : Image) (k n : ℕ) → Runnable i → (local_in i k n).clock < slot_end i.all.schedule k →
     let s = local_in i k n in
     let end = slot_end i.all.schedule k in
-    EndsBy i.all.hardware s.clock end (event (owner i k) s.clock end s.dom) (local_in i k (suc n)).clock
+    EndsBy i.all.hardware (owner i k) s.clock end (event (owner i k) s.clock end s.dom) (local_in i k (suc n)).clock

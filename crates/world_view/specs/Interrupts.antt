@@ -8,6 +8,7 @@ use Rattle.sched_table.specs.Schedule.{entry_of_slot, slot_end}
 use Rattle.call_table.specs.Domain.{is_running}
 use Rattle.call_table.specs.ThreadLaws.{HasTurn, Signals}
 use Rattle.image_check.specs.Own.{Own}
+use Rattle.world_view.specs.Kernel.{estate}
 use Rattle.image_check.specs.Image.{Image, own_of}
 use Rattle.image_check.specs.Laws.{Runnable}
 use Rattle.world_view.specs.Machine.{dom_of, whole}
@@ -69,4 +70,4 @@ abbrev pub WakeLaw : Type 0
 WakeLaw = (i : Image) (k n t line : ℕ) → Runnable i → t < 8
     → waits_for line (thread_at (local_in i k n).dom.threads t).state ≡ true
     → (thread_at (local_in i k (suc n)).dom.threads t ≡ thread_at (local_in i k n).dom.threads t)
-    ⊎ (Delivers i k n line ⊎ (Signals (local_in i k n).dom line ⊎ (is_running (local_in i k (suc n)).dom.status ≢ true)))
+    ⊎ (Delivers i k n line ⊎ (Signals (estate i.all.hardware (owner i k)) (local_in i k n).dom line ⊎ (is_running (local_in i k (suc n)).dom.status ≢ true)))

@@ -1,5 +1,5 @@
--- What the kernel has of a domain: its frames and what they are used as for good, its capabilities at first, and where its
--- kernel clone lies.
+-- What the kernel has of a domain: its frames and what they are used as for good, the calls that it may make, its
+-- capabilities at first, and where its kernel clone lies.
 use Rattle.std.specs.Prelude.{ℕ, ◌*◌, nat_eq, Bool, false, not, List, [], ◌∷◌, ◌++◌, map, filter, Option, Some, None}
 use Rattle.std.specs.List.{list_any, range_with_len}
 use Rattle.cap_table.specs.declared.Cap.{Cap}
@@ -81,7 +81,7 @@ fixed_claims p o =
     ++ (Claim.Fixed (root_of p o) ∷ (map (table_claim p o) (first_regions o) ++ map (page_claim p o) (kept_pages o)))
 
 unfoldable pub estate : Hardware → Own → Estate
-estate p o = record { share = share_of p o; root = root_of p o; fixed = fixed_claims p o }
+estate p o = record { share = share_of p o; root = root_of p o; fixed = fixed_claims p o; calls = o.calls }
 
 -- ---- its kernel clone
 

@@ -2,7 +2,7 @@
 use Rattle.std.specs.Prelude.{◌≡◌, ℕ, false, IsTrue, ◌<◌, ◌≤◌, ◌+◌, List, [], ◌∷◌, length}
 use Rattle.phys_mem.specs.Mem.{Mem, frame_at}
 use Rattle.kernel_clone.specs.Footprints.{IsLayout}
-use Rattle.pad_bound.specs.Bound.{worst_instruction, worst_operation, bound_of}
+use Rattle.pad_bound.specs.Bound.{MachineShape, worst_instruction, worst_operation, bound_of}
 use Rattle.mem_system.specs.Cost.{Touch, Caches}
 use Rattle.cache_sharing.specs.Sharing as sharing
 use Rattle.cache_sharing.specs.Worst.{HasWays}
@@ -14,14 +14,14 @@ use Rattle.call_table.specs.Rights.{AreWithin}
 use Rattle.frame_colours.specs.Colours.{has}
 use Rattle.hardware_check.specs.Hardware.{Hardware}
 use Rattle.sched_table.specs.declared.schedule.Entry.{Entry}
-use Rattle.sched_table.specs.Schedule.{entry_in}
+use Rattle.sched_table.specs.Schedule.{entry_in, switch_entry}
 use Rattle.image_check.specs.Own.{Own}
 use Rattle.image_check.specs.Image.{Image, own_of}
 use Rattle.world_view.specs.Frames.{own_frame}
 use Rattle.world_view.specs.Kernel.{estate, layout}
 use Rattle.sched_table.specs.Schedule.{last_end}
 use Rattle.world_view.specs.Cost.{hierarchy, region, own_colour}
-use Rattle.image_check.specs.Pads.{shape_of}
+use Rattle.image_check.specs.Pads.{shape_for}
 use Rattle.world_view.specs.Event.{Storage}
 use Rattle.world_view.specs.Machine.{caches_of, clock_of, Local, World, dom_of}
 
@@ -30,13 +30,21 @@ use Rattle.world_view.specs.Machine.{caches_of, clock_of, Local, World, dom_of}
 abbrev pub IsDomain : Image → ℕ → Type 0
 IsDomain i d = d < length i.owns
 
--- the most cycles that one step takes: an instruction, and the operation that it calls
-abbrev pub largest_step : Hardware → ℕ
-largest_step p = worst_instruction (shape_of p) + worst_operation (shape_of p)
+-- what the bound on a switch out of a domain's slot depends on
+abbrev pub shape_of : Hardware → Own → MachineShape
+shape_of p o = shape_for p o.calls
 
--- the most cycles from a slot's end to the end of the next switch's work
-abbrev pub bound : Hardware → ℕ
-bound p = bound_of (shape_of p)
+-- the most cycles that one step of the domain takes: an instruction, and the operation that it calls
+abbrev pub largest_step : Hardware → Own → ℕ
+largest_step p o = worst_instruction (shape_of p o) + worst_operation (shape_of p o)
+
+-- the most cycles from the end of its slot to the end of the next switch's work
+abbrev pub bound : Hardware → Own → ℕ
+bound p o = bound_of (shape_of p o)
+
+-- whose slot ended before switch k: at the boot the last entry's domain counts so
+abbrev pub ended_own : Image → ℕ → Own
+ended_own i k = own_of i (entry_in i.all.schedule (switch_entry i.all.schedule k)).domain
 
 -- equal public parts, and equal own parts of d
 pub record Agree (i j : Image) (d : ℕ) : Type 0 where
@@ -143,11 +151,11 @@ pub record Untouched (p : Hardware) (o : Own) (d : ℕ) (later w : World) : Type
 
 -- ---- time
 
--- before switch k the clock is at the last slot's end, or past it by less than the largest step; and the caches have their
--- ways
+-- before switch k the clock is at the last slot's end, or past it by less than the largest step of its domain; and the caches
+-- have their ways
 pub record InTime (i : Image) (k : ℕ) (w : World) : Type 0 where
   pub over : last_end i.all.schedule k ≤ clock_of 0 w
-  pub soon : clock_of 0 w < last_end i.all.schedule k + largest_step i.all.hardware
+  pub soon : clock_of 0 w < last_end i.all.schedule k + largest_step i.all.hardware (ended_own i k)
   pub ways : HasWays (hierarchy i.all.hardware) (caches_of 0 w)
 
 -- each switch's cycles are at most its entry's pad

@@ -21,6 +21,7 @@ impl<'a> Machine<'a> {
     ghost use Rattle.domain_switch.specs.Switch.{IsCloneOn};
     ghost use Rattle.image_check.specs.Image.{own_of};
     ghost use Rattle.world_view.specs.Machine as spec;
+    ghost use Rattle.world_view.specs.Relations.{ended_own};
     ghost use Rattle.sched_table.specs.Schedule as schedule;
     ghost use Rattle.sched_table.specs.Schedule.{entry_in};
     ghost use Rattle.world_view.specs.View.{view_whole, view_alone};
@@ -75,6 +76,7 @@ impl<'a> Machine<'a> {
         let start = self.next_start();
         let last_end = self.last_end();
         let out = self.outgoing();
+        let calls = self.last_calls();
         let public = self.image.public();
         let d = usize::from(entry.domain);
         let switched = switch(
@@ -84,6 +86,7 @@ impl<'a> Machine<'a> {
             last_end,
             self.clock,
             start,
+            calls,
         );
         let place = switch_entry(public.schedule.len(), self.slots);
         note_switch(self.used.as_mut_slice(), place as usize, switched.used);
@@ -126,6 +129,16 @@ impl<'a> Machine<'a> {
         let entries = &self.image.public().schedule;
         let switched = entries.entry(switch_entry(entries.len(), self.slots));
         entries.start(self.slots) - u64::from(switched.pad)
+    }
+
+    // The calls that the domain may make whose slot was last, a bit each: before the
+    // first those of the last entry's.
+    fn last_calls(&self) -> u32
+        ensures calls { result ≡ (ended_own (image_of self.now) self.now.slots).calls }
+    {
+        let entries = &self.image.public().schedule;
+        let switched = entries.entry(switch_entry(entries.len(), self.slots));
+        self.image.own(usize::from(switched.domain)).calls
     }
 
     // The entry of the next slot.

@@ -18,16 +18,18 @@ pub fn refused(rt: &impl Abort, alloc: Global, text: &str, line: &str) -> Result
     )
 }
 
-// So is the image of two domains, with one text in the place of another. A row
-// of the table has both and the line, a bar between them, and ~ for a new line.
-fn refuses(rt: &impl Abort, alloc: Global, table: &str) -> Result<(), Fail> {
+// So is the image of two domains, after this line, with one text in the place of
+// another. A row of the table has both and the line, a bar between them, and ~ for a
+// new line.
+fn refuses(rt: &impl Abort, alloc: Global, front: &str, table: &str) -> Result<(), Fail> {
     for row in table.split('\n') {
         let row = row.replace(alloc, "~", "\n")?;
         let mut fields = row.split('|');
         let old = fields.next().unwrap_or("");
         let new = fields.next().unwrap_or("");
         let line = fields.next().unwrap_or("");
-        let text = image(alloc, PRINTS_A, PRINTS_B)?.replace(alloc, old, new)?;
+        let broken = image(alloc, PRINTS_A, PRINTS_B)?.replace(alloc, old, new)?;
+        let text = format!(in alloc; "{front}{broken}")?;
         refused(rt, alloc, text.as_str(), line)?;
     }
     Ok(())
@@ -65,6 +67,10 @@ colours = [2]|colours = [2]~moments = [[9000]]|K2 at 21 found 1 wanted 0
 domain = 1|domain = \"blue\"|K2 at 23 found 1 wanted 0
 1~length = 10000|1|K2 at 24 found 1 wanted 0
 1~length = 10000~pad = 6150|1~length = 10000|K2 at 25 found 1 wanted 0";
+
+// In the first version it is an unknown key.
+const CALLS_OF_THE_FIRST: &str = "colours = [2]|colours = [2]~calls = [0]|K2 at 26 found 0 wanted 0
+colours = [2]|colours = [2]~calls = 3|K2 at 26 found 0 wanted 0";
 
 // Numbers, names and the schedule, a case each.
 const VALUES: &str = "frames = 64|frames = 63|K4 at 0 found 63 wanted 64
@@ -107,14 +113,39 @@ const CAPS: &str = "[1]|[1]~caps = [\"page 016\"]|K13 at 0 found 0 wanted 2
 [1]|[1]~caps = [\"irq 3\"]|K13 at 0 found 0 wanted 4
 [1]|[1]~caps = [\"none\", \"page 16\", \"page 16\"]|K13 at 0 found 2 wanted 5";
 
+// The key of the second version and its range, in the second domain; a limit; and what is
+// as in the first.
+const CALLS: &str = "colours = [2]|colours = [2]~calls = 3|K2 at 29 found 1 wanted 0
+colours = [2]|colours = [2]~calls = [true]|K2 at 29 found 1 wanted 0
+colours = [2]|colours = [2]~calls = [15]|K18 at 1 found 0 wanted 14
+colours = [2]|colours = [2]~calls = [-1]|K18 at 1 found 0 wanted 14
+colours = [2]|colours = [2]~calls = [1, 0]|K18 at 1 found 1 wanted 14
+colours = [2]|colours = [2]~calls = [1, 1]|K18 at 1 found 1 wanted 14
+frames = 64|frames = 16385|K4 at 0 found 16385 wanted 16384
+frames = 64|frames = 63|K4 at 0 found 63 wanted 64
+name = \"red\"|name = \"Red\"|K7 at 0 found 3 wanted 16
+domain = 1|domain = 2|K16 at 1 found 2 wanted 2";
+
+// A version that there isn't knows each key; what no version knows is named before it.
+const VERSION: &str = "frames = 64|frames = 64|K2 at 28 found 0 wanted 0
+frames = 64|frames = 64~x = 1|K2 at 26 found 0 wanted 0
+colours = [2]|colours = [2]~calls = [1, 0]|K2 at 28 found 0 wanted 0";
+
 #[test]
 fn images_that_break_a_rule_are_refused(rt: HostRuntime) -> Result<(), Fail> {
-    refuses(&rt, rt.alloc(), KEYS)?;
-    refuses(&rt, rt.alloc(), KEYS_OF_ITEMS)?;
-    refuses(&rt, rt.alloc(), VALUES)?;
-    refuses(&rt, rt.alloc(), GEOMETRY)?;
-    refuses(&rt, rt.alloc(), SEGMENTS)?;
-    refuses(&rt, rt.alloc(), CAPS)
+    for table in [KEYS, KEYS_OF_ITEMS, VALUES, GEOMETRY, SEGMENTS, CAPS] {
+        refuses(&rt, rt.alloc(), "", table)?;
+    }
+    for table in [KEYS, KEYS_OF_ITEMS, SEGMENTS, CAPS, CALLS] {
+        refuses(&rt, rt.alloc(), "version = 2\n", table)?;
+    }
+    for front in ["", "version = 1\n"] {
+        refuses(&rt, rt.alloc(), front, CALLS_OF_THE_FIRST)?;
+    }
+    for front in ["version = 0\n", "version = 3\n", "version = true\n"] {
+        refuses(&rt, rt.alloc(), front, VERSION)?;
+    }
+    Ok(())
 }
 
 fn without_domains(alloc: Global) -> Result<String, Fail> {

@@ -15,6 +15,10 @@ const BOUND: &str =
 const DEARER_BOUND: &str =
     "instruction 307\noperation 4346\nleave 386\nprefetch 480\nflush 372\nenter 376\nbound 6266\n";
 
+// Of the second version: whoever leaves may make every call.
+const BOUND_2: &str =
+    "instruction 306\nleave 383\nprefetch 472\nflush 340\nenter 373\nentry 0 operation 4277 bound 6150\nentry 1 operation 4277 bound 6150\n";
+
 // A line of 128 bytes: a frame has 32, and a call that empties slots may touch 63.
 const WIDE_BOUND: &str =
     "instruction 306\noperation 4218\nleave 383\nprefetch 236\nflush 340\nenter 373\nbound 5855\n";
@@ -166,6 +170,10 @@ fn a_failed_read_and_a_failed_write_are_told(rt: HostRuntime) -> Result<(), Fail
         Status::WriteFault,
         "instruction 306\n",
     );
+    let second = format!(in rt.alloc(); "version = 2\n{image}")?;
+    let found = answer(rt.alloc(), "tp bound", second.as_bytes(), 64, &[], &[2])?;
+    let front = BOUND_2.get(..64).unwrap_or("");
+    is_answered(&rt, "tp bound", &found, Status::WriteFault, front);
     let found = answer(rt.alloc(), "tp check", image.as_bytes(), 4, &[], &[2])?;
     is_answered(&rt, "tp check", &found, Status::WriteFault, "acce");
     Ok(())
@@ -175,10 +183,18 @@ fn a_failed_read_and_a_failed_write_are_told(rt: HostRuntime) -> Result<(), Fail
 fn what_has_room_is_done(rt: HostRuntime) -> Result<(), Fail> {
     let alloc = rt.alloc();
     let image = image(alloc, PRINTS_A, PRINTS_B)?;
-    for (line, text) in [("tp check", ACCEPTED), ("tp bound", BOUND), (RUN, REPORT)] {
+    for (line, version, text) in [
+        ("tp check", "", ACCEPTED),
+        ("tp bound", "", BOUND),
+        (RUN, "", REPORT),
+        ("tp bound", "version = 1\n", BOUND),
+        ("tp bound", "version = 2\n", BOUND_2),
+        (RUN, "version = 2\n", REPORT),
+    ] {
         let words = words_in(alloc, line)?;
+        let versioned = format!(in alloc; "{version}{image}")?;
         for (less, due) in [(0, Status::Done), (1, Status::WriteFault)] {
-            let bytes = Vec::from_slice(alloc, image.as_bytes())?;
+            let bytes = Vec::from_slice(alloc, versioned.as_bytes())?;
             let room = text.len().saturating_sub(less);
             let status = run_surely(alloc, words.as_slice(), bytes, room)?;
             assert_eq!(rt; status, due, "at {line}");

@@ -9,7 +9,6 @@ use Rattle.rv_decode.specs.declared.Instr.{Instr}
 use Rattle.rv_decode.specs.declared.Instr.TheVariants as instr
 use Rattle.rv_decode.specs.declared.LoadWidth.{LoadWidth}
 use Rattle.rv_core.specs.declared.Effect.{Effect}
-use Rattle.rv_core.specs.Registers.{register}
 use Rattle.rv_core.specs.Effect.{Outcome}
 use Rattle.rv_core.specs.declared.Store.{Store as StoreMade}
 use Rattle.rv_core.specs.declared.Trap.{Trap}
@@ -19,7 +18,7 @@ use Rattle.sv32_walk.specs.declared.access.WalkFault.{WalkFault}
 use Rattle.sv32_walk.specs.PageTableEntry.{ppn}
 use Rattle.sv32_walk.specs.Walk.{Walk, walk}
 use Rattle.call_table.specs.Domain.{Dom}
-use Rattle.call_table.specs.Calls.{call}
+use Rattle.call_table.specs.Calls.{call, number_made}
 use Rattle.call_table.specs.Claims.{is_mine, claims, Facts}
 use Rattle.cap_table.specs.Slots.{Slots}
 use Rattle.call_table.proofs.CallLawsDelete.{calls_keep}
@@ -245,8 +244,8 @@ module _ (p : Hardware) (o : Own) (kernel : IsKernel p o) (d : Dom) (first : Sto
         let e = estate p o in
         let c = calls_are_confined e d s.mem k.mem h (λ f mine. b.same f (mine_own p o f mine)) in
         record {
-          notes = ap (call_touches p (layout p o) (register d.threads.current.regs 17)) c.notes;
-          may = call_may p o kernel (register d.threads.current.regs 17) (call e d s.mem).notes c.work;
+          notes = ap (call_touches p (layout p o) (number_made e d)) c.notes;
+          may = call_may p o kernel (number_made e d) (call e d s.mem).notes c.work;
           state = record {
             same = λ f own. c.same f (own_mine p o f own);
             outside = λ f out. c.outside f (not_mine p o f out) ∙ b.outside f out;

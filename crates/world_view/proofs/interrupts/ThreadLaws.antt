@@ -18,8 +18,7 @@ use Rattle.image_check.specs.Image.{Image}
 use Rattle.call_table.specs.Domain as domain
 use Rattle.call_table.specs.Domain.{Dom, is_running, placed, exited}
 use Rattle.call_table.specs.Claims.{Estate}
-use Rattle.call_table.specs.Calls.{call, call_of}
-use Rattle.call_table.specs.Laws as laws
+use Rattle.call_table.specs.Calls.{call, call_of, number_made}
 use Rattle.call_table.specs.ThreadLaws.{HasTurn, MayRun, Signals, after_call}
 use Rattle.call_table.proofs.ThreadLawsTurns.{current_others, waits_apart, moved_turn}
 use Rattle.call_table.proofs.ThreadLaws.{call_turn, delivery_turn, call_wakes, delivery_wakes, delivery_counts}
@@ -39,13 +38,13 @@ use Rattle.world_view.proofs.runs.DomainLaws.{always, always_running}
 
 -- ---- an instruction
 
-module _ (d : Dom) where
+module _ (e : Estate) (d : Dom) where
   -- the current thread is ready wherever one is; and a thread that waits is left, but by a SIGNAL of its line and by the
   -- domain's end
   record GoesOn (x : Dom) : Type 0 where
     turn : HasTurn x.threads
     waits : (t line : ℕ) → t < 8 → waits_for line (thread_at d.threads t).state ≡ true
-        → (thread_at x.threads t ≡ thread_at d.threads t) ⊎ (Signals d line ⊎ (is_running x.status ≢ true))
+        → (thread_at x.threads t ≡ thread_at d.threads t) ⊎ (Signals e d line ⊎ (is_running x.status ≢ true))
 
   module _ (h : HasTurn d.threads) (may : MayRun d) where
     -- where all threads are left
@@ -74,17 +73,17 @@ module _ (d : Dom) where
         (ap (λ (ts : Threads). with_current ts (record ts.current { pc = pc; regs = regs })) (noted_threads i value d)) refl
 
 -- an EXIT ends the domain
-exit_is : (e : Estate) (d : Dom) (m : Mem) → laws.number_of d ≡ 0 → after_call e d m ≡ exited (register d.threads.current.regs 10) d
+exit_is : (e : Estate) (d : Dom) (m : Mem) → number_made e d ≡ 0 → after_call e d m ≡ exited (register d.threads.current.regs 10) d
 unfolding call call_of give either
 exit_is e d m number =
     let regs = d.threads.current.regs in
     ap (λ (n : ℕ). either (call_of e d n (register regs 10) (register regs 11) (register regs 12) m).value) number
 
-exit_ends : (e : Estate) (d : Dom) (m : Mem) → laws.number_of d ≡ 0 → is_running (after_call e d m).status ≢ true
+exit_ends : (e : Estate) (d : Dom) (m : Mem) → number_made e d ≡ 0 → is_running (after_call e d m).status ≢ true
 unfolding exited
 exit_ends e d m number runs = true≢false (sym runs ∙ ap (λ (x : Dom). is_running x.status) (exit_is e d m number))
 
-call_goes_on : (e : Estate) (d : Dom) (m : Mem) → HasTurn d.threads → MayRun d → GoesOn d (after_call e d m)
+call_goes_on : (e : Estate) (d : Dom) (m : Mem) → HasTurn d.threads → MayRun d → GoesOn e d (after_call e d m)
 call_goes_on e d m h may = record {
   turn = call_turn e d m h may;
   waits = λ t line below waits. elim (call_wakes e d m t line h may below waits) [
@@ -97,9 +96,9 @@ call_goes_on e d m h may = record {
 -- ---- an event
 
 module _ (p : Hardware) (o : Own) where
-  instruction_goes_on : (t : ℕ) (d : Dom) (s : Storage) → HasTurn d.threads → MayRun d → GoesOn d (either (instruction p (estate p o) (layout p o) t d s).value)
+  instruction_goes_on : (t : ℕ) (d : Dom) (s : Storage) → HasTurn d.threads → MayRun d → GoesOn (estate p o) d (either (instruction p (estate p o) (layout p o) t d s).value)
   instruction_goes_on t d s h may =
-      leaves p (estate p o) (layout p o) d (GoesOn d) (stopped_goes_on d h may) (retired_goes_on d h may) (λ m. call_goes_on (estate p o) d m h may) t s
+      leaves p (estate p o) (layout p o) d (GoesOn (estate p o) d) (stopped_goes_on (estate p o) d h may) (retired_goes_on (estate p o) d h may) (λ m. call_goes_on (estate p o) d m h may) t s
 
   happened_turn : (s : Local) (e : Event) → Fits o s.clock s.dom e → HasTurn s.dom.threads → HasTurn (happened (setting p o false) s e).dom.threads
   unfolding happened paid delivered
@@ -120,7 +119,7 @@ module _ (p : Hardware) (o : Own) where
   Wakes u line s t =
       HasTurn s.dom.threads → u < 8 → waits_for line (thread_at s.dom.threads u).state ≡ true
       → (thread_at t.dom.threads u ≡ thread_at s.dom.threads u)
-      ⊎ (Comes line s t ⊎ (Signals s.dom line ⊎ (is_running t.dom.status ≢ true)))
+      ⊎ (Comes line s t ⊎ (Signals (estate p o) s.dom line ⊎ (is_running t.dom.status ≢ true)))
 
   happened_wakes : (u line : ℕ) (s : Local) (e : Event) → Fits o s.clock s.dom e → Wakes u line s (happened (setting p o false) s e)
   unfolding happened paid delivered
@@ -157,7 +156,7 @@ module _ (i : Image) (r : Separated i) where
 
   pub wakes_in : (k n t line : ℕ) → t < 8 → waits_for line (thread_at (local_in i k n).dom.threads t).state ≡ true
       → (thread_at (local_in i k (suc n)).dom.threads t ≡ thread_at (local_in i k n).dom.threads t)
-      ⊎ (Delivers i k n line ⊎ (Signals (local_in i k n).dom line ⊎ (is_running (local_in i k (suc n)).dom.status ≢ true)))
+      ⊎ (Delivers i k n line ⊎ (Signals (estate i.all.hardware (owner i k)) (local_in i k n).dom line ⊎ (is_running (local_in i k (suc n)).dom.status ≢ true)))
   wakes_in k n t line =
       let p = i.all.hardware in
       let end = slot_end i.all.schedule k in

@@ -13,7 +13,7 @@ use Rattle.image_check.specs.Image.{Image, own_of}
 use Rattle.world_view.specs.Frames.{own_frame, pool}
 use Rattle.world_view.specs.Cost.{own_colour}
 use Rattle.sched_table.specs.Schedule.{entry_of_slot, switch_entry, pad_of}
-use Rattle.world_view.specs.Relations.{IsDomain, IsOwnFrame, bound}
+use Rattle.world_view.specs.Relations.{IsDomain, IsOwnFrame, bound, ended_own}
 use Rattle.world_view.proofs.steps.Fuel.{IsTimed}
 
 -- no frame of the one is a frame of the other
@@ -29,7 +29,7 @@ pub record Separated (i : Image) : Type 0 where
   pub apart : (d e : ℕ) → IsDomain i d → IsDomain i e → d ≢ e → Apart i.all.hardware (own_of i d) (own_of i e)
   pub colours_apart : (d e : ℕ) → IsDomain i d → IsDomain i e → d ≢ e → AreApart (own_colour (own_of i d)) (own_colour (own_of i e))
   pub not_kernel : (d : ℕ) → IsDomain i d → own_colour (own_of i d) 0 ≡ false
-  pub padded : (k : ℕ) → bound i.all.hardware ≤ pad_of i.all.schedule k
+  pub padded : (k : ℕ) → bound i.all.hardware (ended_own i k) ≤ pad_of i.all.schedule k
   pub hardware : IsHardware i.all.hardware
 
 module _ (i : Image) (r : Runnable i) where

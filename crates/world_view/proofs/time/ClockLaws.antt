@@ -3,7 +3,8 @@ use Rattle.std.proofs.Common.{ℕ, zero, suc, false, ◌+◌, ◌*◌, ◌/◌, 
 use Rattle.std.proofs.lemmas.Nat.{mul-le}
 use Rattle.image_check.proofs.Padded.{few_added}
 use Rattle.pad_bound.specs.Bound.{worst_access, lines_of_shared, most_written, most_dirty, worst_instruction, worst_operation, worst_leave, worst_prefetch, worst_flush, worst_enter, bound_of}
-use Rattle.pad_bound.proofs.Parts.{few_most}
+use Rattle.pad_bound.proofs.Written.{few_most}
+use Rattle.image_check.specs.Own.{Own}
 use Rattle.cycle_cost.specs.Ranges.{most_access}
 use Rattle.hardware_check.specs.Hardware.{Hardware, IsHardware}
 use Rattle.image_check.specs.Image.{Image, own_of}
@@ -12,8 +13,7 @@ use Rattle.sched_table.proofs.Starts.{soon_law}
 use Rattle.world_view.specs.Machine.{part_of, switch, whole}
 use Rattle.image_check.specs.Laws.{Runnable}
 use Rattle.world_view.specs.Cost.{}
-use Rattle.image_check.specs.Pads.{shape_of}
-use Rattle.world_view.specs.Relations.{largest_step, bound}
+use Rattle.world_view.specs.Relations.{shape_of, largest_step, bound, ended_own}
 use Rattle.world_view.specs.Laws.{ClocksFit}
 use Rattle.world_view.proofs.opening.Separate.{separated}
 use Rattle.world_view.proofs.time.ActCosts.{instruction_within}
@@ -21,7 +21,7 @@ use Rattle.world_view.proofs.time.TimeLaws.{steps_soon, switch_ways, used_in_bou
 
 -- ---- the bound is small
 
-module _ (p : Hardware) (h : IsHardware p) where
+module _ (p : Hardware) (h : IsHardware p) (o : Own) where
   access_small : worst_access p.costs 0 ≤ most_access
   access_small =
       let l1 = h.costs.l1.few in
@@ -33,25 +33,25 @@ module _ (p : Hardware) (h : IsHardware p) where
   times_access : (n most : ℕ) → n ≤ most → n * worst_access p.costs 0 ≤ most * most_access
   times_access n most few = mul-le n (worst_access p.costs 0) most most_access few access_small
 
-  written_small : most_written p.line ≤ 256
-  written_small = few_most p.line h.line.least
+  written_small : most_written o.calls p.line ≤ 256
+  written_small = few_most o.calls p.line h.line.least
 
-  lines_small : lines_of_shared (shape_of p) ≤ 4096
+  lines_small : lines_of_shared (shape_of p o) ≤ 4096
   lines_small =
       let least = h.line.least in
       let most = h.few_shared in
       let product = mul-le-mul_right (p.shared / p.line) least in
       omega (arith, product, most)
 
-  dirty_small : most_dirty (shape_of p) ≤ 16384
+  dirty_small : most_dirty (shape_of p o) ≤ 16384
   dirty_small = mul-le p.l1d.sets p.l1d.ways 1024 16 h.l1d.sets.most h.l1d.few_ways
 
-  pub bound_small : bound p < 2 ^ 26
+  pub bound_small : bound p o < 2 ^ 26
   unfolding bound_of worst_instruction worst_operation worst_leave worst_prefetch worst_flush worst_enter
   bound_small =
-      let written = times_access (most_written p.line) 256 written_small in
-      let shared = times_access (lines_of_shared (shape_of p)) 4096 lines_small in
-      let flush = mul-le p.costs.wb (most_dirty (shape_of p)) 1000 16384 h.costs.wb.few dirty_small in
+      let written = times_access (most_written o.calls p.line) 256 written_small in
+      let shared = times_access (lines_of_shared (shape_of p o)) 4096 lines_small in
+      let flush = mul-le p.costs.wb (most_dirty (shape_of p o)) 1000 16384 h.costs.wb.few dirty_small in
       let access = access_small in
       let base = h.costs.base.few in
       let tlb = h.costs.tlb.few in
@@ -65,7 +65,7 @@ module _ (p : Hardware) (h : IsHardware p) where
       let product = few_added p.muldiv h.few_mul h.few_div in
       omega (arith, written, shared, flush, base, tlb, mispredict, trap, flushes, l1, l2, mem, wb, product)
 
-  pub step_small : largest_step p ≤ 2 ^ 26
+  pub step_small : largest_step p o ≤ 2 ^ 26
   unfolding bound_of
   step_small = let small = bound_small in omega (arith, small)
 
@@ -95,8 +95,8 @@ module _ (i : Image) (r : Runnable i) where
       let last = last_end_soon k in
       let first = start_soon k in
       let slot = slot_short k in
-      let largest = step_small p r.hardware in
-      let most = bound_small p r.hardware in
+      let largest = step_small p r.hardware (ended_own i k) in
+      let most = bound_small p r.hardware (ended_own i k) in
       let used = used_in_bound i k w time in
       let on = on_time i (separated i r) k in
       let timed = (separated i r).timed in
@@ -104,7 +104,8 @@ module _ (i : Image) (r : Runnable i) where
       let d = (entry_of_slot es k).domain in
       let begun = part_of 0 d (switch i k w) in
       let within = instruction_within p (own_of i d) 0 begun.dom begun.storage in
-      let early : begun.clock < slot_end es k + largest_step p = omega (arith, on, within, base) in
+      let own_step = step_small p r.hardware (own_of i d) in
+      let early : begun.clock < slot_end es k + largest_step p (own_of i d) = omega (arith, on, within, base) in
       record {
         before = omega (arith, soon, last, largest, few);
         worked = omega (arith, used, last, most, few);
@@ -112,5 +113,5 @@ module _ (i : Image) (r : Runnable i) where
         ends = omega (arith, first, slot, few);
         within = λ n.
             let clock = (steps_soon p timed (own_of i d) false (slot_end es k) n begun (record { clock = early; ways = switch_ways i k w time.ways })).clock in
-            omega (arith, clock, first, slot, largest, few);
+            omega (arith, clock, first, slot, own_step, few);
       }

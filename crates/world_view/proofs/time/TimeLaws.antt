@@ -5,7 +5,6 @@ use Rattle.std.proofs.lemmas.List.{length-replicate}
 use Rattle.std.specs.Prelude.{Some, None, ◌≢◌}
 use Rattle.rv_decode.specs.declared.Instr.TheVariants.{Ecall}
 use Rattle.pad_bound.specs.Bound.{worst_instruction}
-use Rattle.image_check.specs.Pads.{shape_of}
 use Rattle.tp_base.specs.Table.{at, put, at-empty}
 use Rattle.set_cache.specs.Cache.{CacheSet, fresh_set}
 use Rattle.mem_system.specs.Cost.{Touched, cold, fresh_core}
@@ -24,7 +23,7 @@ use Rattle.world_view.specs.Event.{Event, event, instruction, delivery_touches}
 use Rattle.world_view.specs.Event.Event.{Jump, Deliver, Run}
 use Rattle.world_view.specs.Machine.{with_hart, caches_of, clock_of, setting, Local, World, paid, delivered, happened, step, steps, stretch, clone_of, switch_work, with_part, part_of, switch, opening, whole, guarded, own_slot, run_slot_by, switch_by, whole_by, with_end}
 use Rattle.world_view.specs.Used.{largest_of}
-use Rattle.world_view.specs.Relations.{largest_step, bound, InTime, AllWithinPads}
+use Rattle.world_view.specs.Relations.{shape_of, largest_step, bound, ended_own, InTime, AllWithinPads}
 use Rattle.world_view.proofs.opening.Separate.{Separated}
 use Rattle.world_view.specs.Laws.{local_in}
 use Rattle.world_view.specs.EventLaws.{EndsBy, next_instruction, StepCostLaw, PlainCostLaw}
@@ -36,7 +35,7 @@ use Rattle.world_view.proofs.runs.SwitchParts.{all_touches, switch_is}
 
 -- what an event costs at most
 costs_if : (p : Hardware) (o : Own) (pinned : Bool) (end : ℕ) (s : Local) (e : Event) → HasWays (hierarchy p) s.caches → StaysWithin end e
-    → EndsBy p s.clock end e (happened (setting p o pinned) s e).clock
+    → EndsBy p o s.clock end e (happened (setting p o pinned) s e).clock
 unfolding happened paid delivered
 costs_if p o pinned end s (Jump t) ways stays = stays
 costs_if p o pinned end s (Deliver line) ways stays =
@@ -55,7 +54,7 @@ step_costs p o pinned end s ways = costs_if p o pinned end s (event o s.clock en
 
 -- an instruction that makes no call is within the bound's
 plain_if : (p : Hardware) (o : Own) (pinned : Bool) (s : Local) (e : Event) → HasWays (hierarchy p) s.caches → e ≡ Run
-    → next_instruction p o s.dom s.storage.mem ≢ Some Ecall → (happened (setting p o pinned) s e).clock ≤ s.clock + worst_instruction (shape_of p)
+    → next_instruction p o s.dom s.storage.mem ≢ Some Ecall → (happened (setting p o pinned) s e).clock ≤ s.clock + worst_instruction (shape_of p o)
 unfolding happened paid
 plain_if p o pinned s (Jump t) ways is plain = absurd (cc is)
 plain_if p o pinned s (Deliver line) ways is plain = absurd (cc is)
@@ -74,7 +73,7 @@ plain_costs p o pinned end s ways is plain = plain_if p o pinned s (event o s.cl
 module _ (p : Hardware) (timed : IsTimed p) (o : Own) (pinned : Bool) (end : ℕ) where
   -- the clock is past the end by less than the largest step, and the caches have their ways
   pub record IsSoon (s : Local) : Type 0 where
-    pub clock : s.clock < end + largest_step p
+    pub clock : s.clock < end + largest_step p o
     pub ways : HasWays (hierarchy p) s.caches
 
   soon_if : (s : Local) (e : Event) → s.clock < end → HasWays (hierarchy p) s.caches → StaysWithin end e → IsSoon (happened (setting p o pinned) s e)
@@ -143,21 +142,21 @@ switch_ways i k w ways =
     subst (λ (r : Touched). HasWays (hierarchy p) r.caches) (sym (switch_is i out d (caches_of 0 w))) touches.ways
 
 pub used_in_bound : (i : Image) (k : ℕ) (w : World) → InTime i k w
-    → (clock_of 0 w + (switch_work i (outgoing i.all.schedule k) (entry_of_slot i.all.schedule k).domain (caches_of 0 w)).cost) - last_end i.all.schedule k ≤ bound i.all.hardware
+    → (clock_of 0 w + (switch_work i (outgoing i.all.schedule k) (entry_of_slot i.all.schedule k).domain (caches_of 0 w)).cost) - last_end i.all.schedule k ≤ bound i.all.hardware (ended_own i k)
 unfolding hierarchy layout
 used_in_bound i k w time =
     let p = i.all.hardware in
     let out = outgoing i.all.schedule k in
     let d = (entry_of_slot i.all.schedule k).domain in
-    subst (λ (r : Touched). (clock_of 0 w + r.cost) - last_end i.all.schedule k ≤ bound p) (sym (switch_is i out d (caches_of 0 w)))
-    (on_time_law (hierarchy p) p.shared (last_end i.all.schedule k) (clock_of 0 w) (clone_of i out) (layout p (own_of i d)) (caches_of 0 w) time.ways (record { line = refl; shared = refl }) time.over time.soon)
+    subst (λ (r : Touched). (clock_of 0 w + r.cost) - last_end i.all.schedule k ≤ bound p (ended_own i k)) (sym (switch_is i out d (caches_of 0 w)))
+    (on_time_law (hierarchy p) p.shared (ended_own i k).calls (last_end i.all.schedule k) (clock_of 0 w) (clone_of i out) (layout p (own_of i d)) (caches_of 0 w) time.ways (record { line = refl; shared = refl }) time.over time.soon)
 
-pub used_in_pad : (i : Image) (k : ℕ) (w : World) → bound i.all.hardware ≤ pad_of i.all.schedule k → InTime i k w
+pub used_in_pad : (i : Image) (k : ℕ) (w : World) → bound i.all.hardware (ended_own i k) ≤ pad_of i.all.schedule k → InTime i k w
     → (clock_of 0 w + (switch_work i (outgoing i.all.schedule k) (entry_of_slot i.all.schedule k).domain (caches_of 0 w)).cost) - last_end i.all.schedule k ≤ pad_of i.all.schedule k
 used_in_pad i k w padded time = let used = used_in_bound i k w time in omega (arith, padded, used)
 
 -- the next slot begins at its start
-pub switch_on_start : (i : Image) (k : ℕ) (w : World) → bound i.all.hardware ≤ pad_of i.all.schedule k → InTime i k w → clock_of 0 (switch i k w) ≡ start i.all.schedule k
+pub switch_on_start : (i : Image) (k : ℕ) (w : World) → bound i.all.hardware (ended_own i k) ≤ pad_of i.all.schedule k → InTime i k w → clock_of 0 (switch i k w) ≡ start i.all.schedule k
 unfolding switch_by guarded with_hart at put
 switch_on_start i k w padded time =
     let used = used_in_pad i k w padded time in
@@ -193,7 +192,7 @@ module _ (i : Image) (r : Separated i) where
   pub in_time : (k : ℕ) → InTime i k (whole i k)
   unfolding whole_by opening with_hart at put
   in_time zero =
-      let within = instruction_within i.all.hardware (own_of i 0) 0 (part_of 0 0 (opening i)).dom (opening i).storage in
+      let within = instruction_within i.all.hardware (ended_own i 0) 0 (part_of 0 0 (opening i)).dom (opening i).storage in
       let base = r.timed.base in
       record { over = omega arith; soon = omega (arith, base, within); ways = cold_ways i.all.hardware }
   in_time (suc k) = slot_in_time k (in_time k)
@@ -211,12 +210,12 @@ module _ (i : Image) (r : Separated i) where
   Timely k s t =
       let end = slot_end i.all.schedule k in
       s.clock < end → HasWays (hierarchy i.all.hardware) s.caches
-      → EndsBy i.all.hardware s.clock end (event (own_of i (entry_of_slot i.all.schedule k).domain) s.clock end s.dom) t.clock
+      → EndsBy i.all.hardware (own_of i (entry_of_slot i.all.schedule k).domain) s.clock end (event (own_of i (entry_of_slot i.all.schedule k).domain) s.clock end s.dom) t.clock
 
   pub slot_costs : (k n : ℕ) → (local_in i k n).clock < slot_end i.all.schedule k →
       let s = local_in i k n in
       let end = slot_end i.all.schedule k in
-      EndsBy i.all.hardware s.clock end (event (own_of i (entry_of_slot i.all.schedule k).domain) s.clock end s.dom) (local_in i k (suc n)).clock
+      EndsBy i.all.hardware (own_of i (entry_of_slot i.all.schedule k).domain) s.clock end (event (own_of i (entry_of_slot i.all.schedule k).domain) s.clock end s.dom) (local_in i k (suc n)).clock
   unfolding Timely
   slot_costs k n below =
       let p = i.all.hardware in

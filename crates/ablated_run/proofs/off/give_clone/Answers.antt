@@ -36,6 +36,7 @@ loop-d-preserved c =
               interrupts = refl;
               map = refl;
               pool = refl;
+              calls = refl;
               retired = refl;
               readings = refl;
               replies = refl;

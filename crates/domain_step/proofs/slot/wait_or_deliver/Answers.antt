@@ -46,7 +46,7 @@ returns-in-Some-clause-becomes g c =
     moves_due g.P.Policy.rule g.P.Policy.stands_for c.args.end c.args.memory.now old new c.args.system.now c.deliver_due.new.system
     c.args.now (c.args.now + c.from.result) c.deliver_due.result c.in-Some._line (plain delivery_op) c.in-Running.is comes
     (c.deliver_due.ensures.delivers c.in-Some._line (due_line old.interrupts c.args.now c.in-Some._line comes))
-    keeps.caps keeps.pool keeps.map keeps.layout keeps.moments refl c.deliver_due.ensures.makes c.deliver_due.ensures.buffer
+    keeps.caps keeps.pool keeps.map keeps.layout keeps.calls keeps.moments refl c.deliver_due.ensures.makes c.deliver_due.ensures.buffer
     (ap (λ n. c.args.now + n) c.from.ensures)
 
 pub returns-in-Some-clause-runs : goal.returns-in-Some-clause-runs

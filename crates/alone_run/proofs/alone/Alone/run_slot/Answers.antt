@@ -60,7 +60,7 @@ stretch-self-requires-clause-runs c =
 pub stretch-self-requires-clause-few : goal.stretch-self-requires-clause-few
 stretch-self-requires-clause-few c =
     let a = c.args.self.now in
-    let early = alone_early (public_model a.public.now) (own_model a.own.now) a.runs a.number a.slots in
+    let early = alone_early (public_model a.public.now) (own_model a.own.now) a.runs a.slots in
     counts_later a.clock c.start-start.result a.domain (omega (arith, early, a.stands.machine.time, c.start-start.ensures.value)) a.in_bounds.few_calls
 
 pub leave-requires : goal.leave-requires
