@@ -7,7 +7,7 @@
 
 enum tp_error {
     TP_OK = 0,
-    TP_BAD_CALL = 1,
+    TP_BAD_CALL = 1, /* no such call, or one that the domain's `calls` leave out */
     TP_BAD_SLOT = 2,
     TP_EMPTY = 3,
     TP_USED = 4,
@@ -62,7 +62,7 @@ static inline struct tp_reply tp_call(enum tp_call number, uint32_t a, uint32_t 
     return (struct tp_reply){(enum tp_error)a0, a1};
 }
 
-/* Ends the domain. */
+/* Ends the domain. (Where `calls` leave EXIT out nothing does, and what comes next is run.) */
 static inline void __attribute__((noreturn)) tp_exit(uint32_t code)
 {
     tp_call(TP_CALL_EXIT, code, 0, 0);

@@ -122,7 +122,9 @@ def test_counts_do_not_depend_on_the_costs(program: Program, loop: Image) -> Non
         assert count_events(program, dearer, "loop", 0, 1)[0].events == plain
 
 
-@pytest.mark.parametrize(("name", "domain"), (("calls", 1), ("two-domains", 0), ("spy-loud", 0)))
+@pytest.mark.parametrize(
+    ("name", "domain"), (("calls", 1), ("two-domains", 0), ("spy-loud", 0), ("fewer-calls", 1))
+)
 def test_counts_are_those_of_the_report(program: Program, name: str, domain: int) -> None:
     image = example(name)
     for slots in (2, 6):

@@ -15,9 +15,10 @@ from tp_sdk.explain import Explanation, explain, explain_all
 from tp_sdk.faults import Fault
 from tp_sdk.program import Program
 from tp_sdk.refusals import CASES, Refusal
-from tp_sdk.rules import Rules, bound_on_a_switch
+from tp_sdk.rules import Rules
 
 IMAGE = re.sub(" *#.*", "", (REPOSITORY / "examples" / "two-domains.toml").read_text())
+SECOND = IMAGE.replace("frames = 64", "version = 2\nframes = 64")
 
 
 @dataclass(frozen=True)
@@ -51,12 +52,14 @@ def written_rows() -> list[Row]:
     return rows
 
 
-DOMAINS = "".join(
+DOMAINS = [
     f'[[domain]]\nname = "x{number}"\ncolours = []\nentry = 0\n'
     'segment = [{ page = 0, pages = 1, rights = "x", hex = "" }]\n'
-    for number in range(15)
-)
-ENTRIES = "[[schedule]]\ndomain = 0\nlength = 1000\npad = 6150\n" * 63
+    for number in range(31)
+]
+# (with the two domains fifteen are too many for version 1, as sixty-three entries are)
+FIFTEEN, THIRTY_ONE = "".join(DOMAINS[:15]), "".join(DOMAINS)
+ENTRY = "[[schedule]]\ndomain = 0\nlength = 1000\npad = 6150\n"
 # Of 64 colours, with one frame each: the shared region's second frame would be frame 64.
 NARROW = (
     IMAGE.replace("sets = 256", "sets = 4096")
@@ -67,7 +70,7 @@ NARROW = (
 NONES = f"""[1]\ncaps = [{many(65, '"none"')}]"""
 MOMENTS = f"[1]\nlines = [3]\nmoments = [{many(1025, '[1, 3]')}]"
 MADE_ROWS = [
-    Row(1, IMAGE, IMAGE + DOMAINS, "K7 at 16 found 17 wanted 16", "`domain`", ""),
+    Row(1, IMAGE, IMAGE + FIFTEEN, "K7 at 16 found 17 wanted 16", "`domain`", ""),
     Row(3, IMAGE, NARROW, "K11 at 3 found 64 wanted 64", "`shared`", "`8192`"),
     Row(
         4,
@@ -93,10 +96,59 @@ MADE_ROWS = [
         "`moments` of domain 0 (red)",
         "`[[1, 3], [1, 3], [1, 3], [1, 3], [1, ...`",
     ),
-    Row(1, IMAGE, IMAGE + ENTRIES, "K16 at 0 found 65 wanted 1", "`schedule`", ""),
+    Row(1, IMAGE, IMAGE + ENTRY * 63, "K16 at 0 found 65 wanted 1", "`schedule`", ""),
 ]
 
-ROWS = written_rows() + MADE_ROWS
+
+def second(case: int, edits: dict[str, str], refusal: str, what: str, stands: str) -> Row:
+    """A row of an image of version 2."""
+    text = SECOND
+    for old, new in edits.items():
+        assert old in text
+        text = text.replace(old, new)
+    return Row(case, IMAGE, text, refusal, what, stands)
+
+
+RED, BLUE = "colours = [1]\n", "colours = [2]\n"
+OF_RED, OF_BLUE = "`calls{}` of domain 0 (red)", "`calls{}` of domain 1 (blue)"
+BOTH = {RED: f"{RED}calls = [0, 1]\n", BLUE: f"{BLUE}calls = [0, 1]\n"}
+# The 17th domain's name: in version 1 the same line tells that there are 17 domains.
+NAME = "x" * 17
+LONG = FIFTEEN.replace('"x14"', f'"{NAME}"')
+OF_LONG = f"`name` of domain 16 ({NAME})"
+SECOND_ROWS = [
+    Row(26, BLUE, f"{BLUE}calls = [0]\n", "K2 at 26 found 0 wanted 0", OF_BLUE.format(""), ""),
+    second(28, {"= 2\nframes": "= 3\nframes"}, "K2 at 28 found 0 wanted 0", "`version`", "`3`"),
+    second(28, {"= 2\nframes": '= "2"\nframes'}, "K2 at 28 found 0 wanted 0", "`version`", '`"2"`'),
+    second(29, {BLUE: f"{BLUE}calls = 5\n"}, "K2 at 29 found 1 wanted 0", OF_BLUE.format(""), "`5`"),
+    second(29, {RED: f"{RED}calls = [true]\n"}, "K2 at 29 found 0 wanted 0", OF_RED.format("[0]"), "`true`"),
+    second(1, {"frames = 64": "frames = 63"}, "K4 at 0 found 63 wanted 64", "`frames`", "`63`"),
+    second(2, {"frames = 64": "frames = 16385"}, "K4 at 0 found 16385 wanted 16384", "`frames`", "`16385`"),
+    second(1, {SECOND: SECOND + THIRTY_ONE}, "K7 at 32 found 33 wanted 32", "`domain`", ""),
+    second(2, {SECOND: SECOND + LONG}, "K7 at 16 found 17 wanted 16", OF_LONG, f'`"{NAME}"`'),
+    second(1, {SECOND: SECOND + ENTRY * 255}, "K16 at 0 found 257 wanted 1", "`schedule`", ""),
+    second(1, {"6150": "6149"}, "K17 at 0 found 6149 wanted 6150", "`pad` of entry 0 (red)", "`6149`"),
+    second(1, BOTH | {"6150": "2373"}, "K17 at 0 found 2373 wanted 2374", "`pad` of entry 0 (red)", "`2373`"),
+    second(
+        1,
+        {RED: f"{RED}calls = []\n", "6150": "2374"},
+        "K17 at 1 found 2374 wanted 6150",
+        "`pad` of entry 1 (blue)",
+        "`2374`",
+    ),
+    second(
+        1,
+        BOTH | {"6150": "2374", f"{BLUE}calls = [0, 1]": f"{BLUE}calls = [1, 0]"},
+        "K18 at 1 found 1 wanted 14",
+        OF_BLUE.format("[1]"),
+        "`0`",
+    ),
+    second(1, {RED: f"{RED}calls = [0, 15]\n"}, "K18 at 0 found 1 wanted 14", OF_RED.format("[1]"), "`15`"),
+    second(1, {RED: f"{RED}calls = [-1, 0]\n"}, "K18 at 0 found 0 wanted 14", OF_RED.format("[0]"), "`-1`"),
+    second(1, {RED: f"{RED}calls = [4, 4]\n"}, "K18 at 0 found 1 wanted 14", OF_RED.format("[1]"), "`4`"),
+]
+
+ROWS = written_rows() + MADE_ROWS + SECOND_ROWS
 OF_TEXTS = [row for row in ROWS if row.refusal.startswith("K1 ")]
 
 
@@ -185,18 +237,6 @@ def test_what_is_broken_in_the_examples(image: Path) -> None:
     assert line == str(first[0]) if first is not None else not is_refused(image)
 
 
-MORE = ("predictor = 16", "predictor = 16\nmuldiv = { mul = 4, div = 2 }")
-
-
-def test_the_bound_is_the_programs(program: Program) -> None:
-    text = (REPOSITORY / "examples" / "bound.toml").read_text()
-    for old, new in (("wb = 10", "wb = 999"), ("line = 64", "line = 128"), ("trap = 10", "trap = 77"), MORE):
-        assert old in text
-        other = text.replace(old, new, 1)
-        ended = program.run(["bound"], re.sub(r"pad = \d+", "pad = 1000000", other))
-        assert ended.text.endswith(f"bound {bound_on_a_switch(tomllib.loads(other))}\n")
-
-
 CLASHES = [
     ("K7 at 1 found 0 wanted 0", 'name = "blue"', 'name = "red"', "`name` of domain 0 (red)", '`"red"`'),
     ("K8 at 1 found 2 wanted 4", "[2]", "[2, 3, 2]", "`colours[0]` of domain 1 (blue)", "`2`"),
@@ -223,12 +263,13 @@ CLASHES = [
         "`moments[0]` of domain 0 (red)",
         "`[9, 3]`",
     ),
+    ("K18 at 1 found 2 wanted 14", "[2]", "[2]\ncalls = [0, 4, 1]", "`calls[1]` of domain 1 (blue)", "`4`"),
 ]
 
 
 @pytest.mark.parametrize(("refusal", "old", "new", "what", "stands"), CLASHES, ids=lambda it: it[:24])
 def test_the_other_place_of_a_clash(refusal: str, old: str, new: str, what: str, stands: str) -> None:
-    text = IMAGE.replace(old, new)
+    text = (SECOND if "calls" in new else IMAGE).replace(old, new)
     explanation = explain(text.encode(), "mine.toml", Refusal.parse(f"refused {refusal}"))
     other = explanation.other
     assert other is not None and (other.what, other.stands) == (what, stands)
@@ -251,6 +292,39 @@ def test_did_you_mean(old: str, new: str, hint: str) -> None:
     text = IMAGE.replace(old, new)
     refusal, _ = next(Rules(tomllib.loads(text)).broken())
     assert old in IMAGE and explain(text.encode(), "mine.toml", refusal).hint == hint
+
+
+def test_what_the_second_version_has() -> None:
+    for old, new, line, wanted, hint in (
+        ("frames = 64", "frames = 5000", "K4 at 0 found 5000 wanted 4096", "64 to 4,096, or to 16,384", ""),
+        (IMAGE, IMAGE + FIFTEEN, "K7 at 16 found 17 wanted 16", "1 to 16, or to 32", ""),
+        (IMAGE, IMAGE + ENTRY * 63, "K16 at 0 found 65 wanted 1", "1 to 64, or to 256", ""),
+        (
+            BLUE,
+            f"{BLUE}calls = [0]\n",
+            "K2 at 26 found 0 wanted 0",
+            "no such key here",
+            ": with `version = 2`",
+        ),
+    ):
+        it = explain(IMAGE.replace(old, new).encode(), "mine.toml", Refusal.parse(f"refused {line}"))
+        assert it.wanted.startswith(wanted) and it.hint.startswith(hint) and "`version = 2`" in it.reason()
+    misspelt = SECOND.replace(BLUE, f"{BLUE}call = [0]\n")
+    assert explain(misspelt.encode(), "mine.toml", Refusal(2, 26, 0, 0)).hint == ": did you mean `calls`?"
+
+
+def test_fewer_calls_make_a_pad_enough() -> None:
+    pads = SECOND.replace("pad = 6150", "pad = 2373")
+    wanted = {}
+    for calls in ("", "calls = [0, 4]\n", "calls = [0, 1]\n"):
+        text = pads.replace(RED, RED + calls)
+        refusal, _ = next(Rules(tomllib.loads(text)).broken())
+        wanted[calls] = explain(text.encode(), "mine.toml", refusal).wanted
+    assert list(wanted.values()) == [
+        "`pad = 6150` or more, or fewer `calls` of domain 0 (red)",
+        "`pad = 2433` or more, or fewer `calls` of domain 0 (red)",
+        "`pad = 2374` or more",
+    ]
 
 
 def test_a_key_that_is_none() -> None:

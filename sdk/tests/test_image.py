@@ -15,6 +15,7 @@ from elf_files import DYN, Elf, Load, R, W, X
 pytest.importorskip("elftools")
 
 from tp_sdk.build import build_text, set_moments, set_words  # noqa: E402
+from tp_sdk.calls import NUMBERS  # noqa: E402
 from tp_sdk.description import read_description  # noqa: E402
 from tp_sdk.faults import Fault, Missing  # noqa: E402
 from tp_sdk.instructions import lacking  # noqa: E402
@@ -122,15 +123,103 @@ def test_an_image_that_is_refused_is_explained(folder: Folder, program: Program)
     folder.write(DESCRIPTION.replace("6150", "6149"))
     assert folder.fault(program=program) == (
         "red.toml:9:7: the image is refused: K17: `pad` of entry 0 (red) is `6149`: the pad is below the "
-        "bound on a switch; wanted: `pad = 6150` or more"
+        "bound on its switch; wanted: `pad = 6150` or more"
     )
     # (of what stands in another file, and in none)
     machine = folder.path / "machine.toml"
     machine.write_text(machine.read_text().replace("frames = 128", "frames = 63"))
-    assert folder.fault(program=program).startswith("machine.toml:3:10: the image is refused: K4: `frames`")
+    told = folder.fault(program=program)
+    assert told.startswith(
+        "machine.toml:3:10: the image is refused: K4: `frames` is `63`: there are too few "
+    )
+    assert told.endswith("; wanted: 64 to 4,096, or to 16,384 with `version = 2`")
     folder.write(DESCRIPTION, Elf([CODE], entry=2).encode())
     machine.write_text(machine.read_text().replace("frames = 63", "frames = 128"))
     assert folder.fault(program=program).startswith("red.toml:2:1: the image is refused: K12, case 6: ")
+
+
+# ---- the second version, and the calls that a domain may make
+
+
+def second(calls: str) -> str:
+    """The description as one of version 2, where red has these calls."""
+    text = "version = 2\n" + DESCRIPTION
+    return text.replace("colours = [1]", f"colours = [1]\ncalls = {calls}" if calls else "colours = [1]")
+
+
+@pytest.mark.parametrize(
+    ("calls", "numbers"),
+    [
+        ('["put", "exit"]', [0, 1]),
+        ('["endthread", 1, "alloc", 0]', [0, 1, 2, 14]),
+        ("[8, 2]", [2, 8]),
+        ("[]", []),
+        ("", None),
+    ],
+)
+def test_calls_by_name(folder: Folder, calls: str, numbers: list[int] | None) -> None:
+    folder.write(second(calls))
+    image = folder.image()
+    assert image["version"] == 2 and image["domain"][0].get("calls") == numbers
+
+
+def test_every_call_has_a_name(folder: Folder) -> None:
+    folder.write(second(str(list(NUMBERS))))
+    assert folder.image()["domain"][0]["calls"] == list(range(15))
+
+
+@pytest.mark.parametrize(
+    ("old", "new", "fault"),
+    [
+        ("version = 2\n", "", "red.toml:6:1: 'calls' wants version = 2"),
+        ("version = 2", "version = 1", "red.toml:7:1: 'calls' wants version = 2"),
+        ("version = 2", "version = 3", "red.toml:1:11: 'version' must be the version of the format, 1 or 2"),
+        ('["exit"]', '"exit"', "red.toml:7:9: 'calls' must be an array of names or numbers of calls"),
+        ('["exit"]', "[true]", "red.toml:7:10: 'calls' must be an array of names or numbers of calls"),
+        ('["exit"]', '["exit", "puts"]', "red.toml:7:18: 'puts' is no call: did you mean 'put'?"),
+        ('["exit"]', '["EXIT"]', "red.toml:7:10: 'EXIT' is no call: did you mean 'exit'?"),
+        ('["exit"]', '["x"]', "red.toml:7:10: 'x' is no call: exit, put, alloc, table, map, unmap, copy, "),
+        ('["exit"]', "[0, 15]", "red.toml:7:13: '15' is no call: exit, put, "),
+        ('["exit"]', "[-1]", "red.toml:7:10: '-1' is no call: exit, put, "),
+        ('["exit"]', '["exit", 0]', "red.toml:7:18: '0': the call stands twice"),
+    ],
+)
+def test_calls_that_are_at_fault(folder: Folder, old: str, new: str, fault: str) -> None:
+    text = second('["exit"]')
+    assert old in text
+    folder.write(text.replace(old, new, 1))
+    assert folder.fault().startswith(fault)
+
+
+def test_the_version_is_the_descriptions(folder: Folder) -> None:
+    machine = folder.path / "machine.toml"
+    text = machine.read_text()
+    machine.write_text("version = 2\n" + text)
+    assert folder.fault() == "machine.toml:1:1: there is no key 'version' of a machine"
+    folder.write("version = 2\n" + text + DESCRIPTION.replace('machine = "machine.toml"\n', ""))
+    image = folder.image()
+    assert (image["version"], list(image)[0]) == (2, "version")
+
+
+def test_a_pad_that_is_left_out_goes_by_the_calls(folder: Folder, program: Program) -> None:
+    domain = DESCRIPTION[DESCRIPTION.index("[[domain]]") : DESCRIPTION.index("[[schedule]]")]
+    entry = DESCRIPTION[DESCRIPTION.index("[[schedule]]") :].replace("pad = 6150\n", "")
+    text = 'version = 2\nmachine = "machine.toml"\n'
+    lists = {"red": '["exit", "put"]', "blue": '["exit", "map"]', "grey": "", "green": '["revoke"]'}
+    for number, (name, calls) in enumerate(lists.items(), 1):
+        listed = f"calls = {calls}\n" if calls else ""
+        text += domain.replace('"red"', f'"{name}"').replace("[1]\n", f"[{number}]\n{listed}")
+    for name in (*lists, "red"):
+        text += entry.replace('"red"', f'"{name}"')
+    folder.write(text)
+    image = folder.image(program=program)
+    assert [it["pad"] for it in image["schedule"]] == [2374, 2433, 6150, 6091, 2374]
+    # (one that is there stays, and is no less than the bound)
+    folder.write(text.replace('"blue"\nlength = 10000\n', '"blue"\nlength = 10000\npad = 2500\n'))
+    image = folder.image(program=program)
+    assert [it["pad"] for it in image["schedule"]] == [2374, 2500, 6150, 6091, 2374]
+    folder.write(text.replace('"red"\nlength = 10000\n', '"red"\nlength = 10000\npad = 2373\n'))
+    assert "K17: `pad` of entry 0 (red) is `2373`" in folder.fault(program=program)
 
 
 FAULTS = [

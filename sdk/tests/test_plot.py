@@ -143,6 +143,29 @@ def test_a_timeline_of_a_report_alone(tmp_path: Path, monkeypatch: pytest.Monkey
     assert "16,603 instructions" in text and "1 call, 0 readings" in text
 
 
+def test_a_timeline_of_the_second_version(tmp_path: Path, monkeypatch: pytest.MonkeyPatch) -> None:
+    pytest.importorskip("matplotlib")
+    monkeypatch.setenv("TP", str(tmp_path / "none"))
+    words = (EXAMPLES / "fewer-calls.toml", EXAMPLES / "fewer-calls.report")
+    pictures = {}
+    for calls in ("calls = [0, 1]", ""):
+        image, report, picture = (tmp_path / f"mine.{end}" for end in ("toml", "report", "svg"))
+        text = words[0].read_text()
+        assert "calls = [0, 1] " in text
+        image.write_text(text.replace("calls = [0, 1] ", f"{calls} "))
+        report.write_text(words[1].read_text())
+        ended = run_tool("tp-plot", "timeline", image, report, "-o", picture)
+        assert ended.returncode == 0
+        pictures[calls] = picture.read_text()
+    both, blues = pictures.values()
+    for told in ("the least pad", "saved by calls left out", " 1,919 in place of 5,636"):
+        assert told in both and told in blues
+    assert " 1,860 in place of 5,636" in both and " 1,860 in" not in blues
+    image.write_text(text.replace("line = 64\n", ""))
+    ended = run_tool("tp-plot", "timeline", image, report, "-o", picture)
+    assert ended.returncode == 1 and "mine.toml: no bound can be told of it" in ended.stderr
+
+
 def test_a_timeline_of_no_slots(tmp_path: Path) -> None:
     pytest.importorskip("matplotlib")
     words = ("--slots", "0", "-o", tmp_path / "a.svg")

@@ -14,7 +14,7 @@ from tp_sdk.report import Report, parse_report
 
 REPORTS = Path(__file__).parent / "reports"
 # What an image is run for, by its name.
-SLOTS = {"hello": 1, "spy": 24, "victim": 24, "driver": 6, "all": 44}
+SLOTS = {"hello": 1, "spy": 24, "victim": 24, "driver": 6, "all": 44, "calls": 1}
 KEYS = (0, 1, 2, 3, 4, 5, 6, 7)
 
 
@@ -77,6 +77,28 @@ def test_products_are_instructions_where_the_machine_has_them(program: Program, 
         for it in (without, having)
     )
     assert all(5 * one < other for one, other in zip(fast, slow))
+
+
+def test_a_call_that_is_left_out_is_a_bad_call(program: Program, built: Path, tmp_path: Path) -> None:
+    image, report = tmp_path / "calls.toml", tmp_path / "calls.report"
+    words = ("--slots", "1", "--image", image, "--report", report)
+    ended = run_tool("tp-run", built / "calls.toml", *words)
+    assert (ended.returncode, ended.stderr) == (0, "")
+    for line in (
+        "calls (domain 0): exited with code 1",
+        "  | left out",
+        "  10 replies to calls, 9 of them PUT; refused: 1",
+        "    1 by BadCall (1: no call has the number, or the domain's `calls` leave it out), as all but EXIT "
+        "and PUT are: reply 0",
+        "entry 0 (calls): 1 switch used 755 of the 2,374 cycles of its pad at most",
+    ):
+        assert line in ended.stdout.splitlines()
+    assert tomllib.loads(image.read_text())["domain"][0]["calls"] == [0, 1]
+    # (the same program, where the list has ALLOC)
+    text = (built / "calls.toml").read_text()
+    (built / "allocs.toml").write_text(text.replace('"exit", "put"', '"exit", "put", "alloc"'))
+    ended = run_tool("tp-run", built / "allocs.toml", "--slots", "1")
+    assert "  | done\n" in ended.stdout and "of the 6,150 cycles of its pad" in ended.stdout
 
 
 def test_each_program_does_what_it_says(program: Program, built: Path) -> None:

@@ -15,7 +15,7 @@ from tp_sdk.report import Report, parse_report
 from tp_sdk.schedule import Slot, entries_of, slots_of
 
 EXAMPLES = REPOSITORY / "examples"
-NAMES = ("calls", "clock", "interrupts", "spy-loud", "stops", "two-domains")
+NAMES = ("calls", "clock", "fewer-calls", "interrupts", "spy-loud", "stops", "two-domains")
 
 
 def run(program: Program, name: str, slots: int) -> tuple[Image, Report]:
@@ -83,6 +83,9 @@ def test_more_slots_than_a_schedule_can_be_written_out_for(program: Program) -> 
     image, report = run(program, "two-domains", 100)
     told = replay(program, image, "two", report, 100)
     assert told is not None and len(told.slots) == 64 and len(told.used) == 63
+    image, report = run(program, "fewer-calls", 70)
+    told = replay(program, image, "fewer", report, 70)
+    assert told is not None and len(told.slots) == 70
     image, report = run(program, "two-domains", 0)
     assert replay(program, image, "two", report, 4) is None
 

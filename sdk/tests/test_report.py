@@ -12,13 +12,14 @@ from test_tables import table_with
 
 pytest.importorskip("elftools")
 
-from tp_sdk.calls import CALLS, ERRORS  # noqa: E402
+from tp_sdk.calls import CALLS, ERRORS, EVERY_CALL, callers_of  # noqa: E402
 from tp_sdk.description import read_description  # noqa: E402
 from tp_sdk.elf import Loaded, Segment  # noqa: E402
 from tp_sdk.instructions import RV32IM, about, beyond, lacking  # noqa: E402
-from tp_sdk.report import Stop, Thread  # noqa: E402
+from tp_sdk.report import Reply, Section, Stop, Thread  # noqa: E402
 from tp_sdk.stops import NAMES, overflow_of, value_in_words  # noqa: E402
 from tp_sdk.symbols import Symbols  # noqa: E402
+from tp_sdk.telling import DomainTold  # noqa: E402
 
 EXAMPLES = REPOSITORY / "examples"
 LOUD = (EXAMPLES / "spy-loud.report").read_text()
@@ -121,6 +122,23 @@ def test_calls_and_readings() -> None:
     steps = "+1009 +34679 +369 +34676 +369 +34676 +369"
     assert f"8 readings, the first 22456, each less the one before it: {steps}" in told
     assert "entry 0 (loud): 8 switches used 1,142 of the 6,150 cycles of the pad at most" in told
+
+
+def test_calls_that_are_left_out() -> None:
+    replies = Section(0, "red", "running", 0, (), b"", "", replies_count=3, replies=(Reply(1, 0),) * 3)
+    for calls, told in (
+        (EVERY_CALL, ": replies 0, 1, 2"),
+        (frozenset({0, 1}), ", as all but EXIT and PUT are: replies 0, 1, 2"),
+        (frozenset[int](), ", as all are: replies 0, 1, 2"),
+    ):
+        it = DomainTold(replies, None, calls)
+        bad = next(line.strip() for line in it.sentences() if "BadCall" in line)
+        words = "3 by BadCall (1: no call has the number, or the domain's `calls` leave it out)"
+        assert bad == words + told
+        (refused,) = it.fields()["replies"]["refused"]
+        assert refused["calls"] == [call.name for call in CALLS if call.number not in calls]
+    # (none of a list's calls can come to another call's code)
+    assert callers_of(12) == ["DELETE"] and callers_of(12, frozenset({0, 1})) == []
 
 
 # ---- what a value says

@@ -7,9 +7,9 @@ import tomllib
 from pathlib import Path
 
 import pytest
-from conftest import SDK, examples, is_refused, run_tool
+from conftest import REPOSITORY, SDK, examples, is_refused, run_tool
 
-from tp_sdk.schema import image_schema
+from tp_sdk.schema import Schema, image_schema
 
 C = SDK / "c"
 jsonschema = pytest.importorskip("jsonschema")
@@ -21,10 +21,13 @@ OF_ONE_VALUE = [
 ]
 
 
+def faults_of(schema: Schema, text: str) -> list[str]:
+    validator = jsonschema.Draft7Validator(schema)
+    return [str(error.message) for error in validator.iter_errors(tomllib.loads(text))]
+
+
 def complaints(image: Path) -> list[str]:
-    data = tomllib.loads(image.read_text())
-    validator = jsonschema.Draft7Validator(image_schema())
-    return [str(error.message) for error in validator.iter_errors(data)]
+    return faults_of(image_schema(), image.read_text())
 
 
 def test_it_is_a_schema() -> None:
@@ -46,6 +49,45 @@ def test_it_refuses_an_example_that_one_value_breaks(image: Path) -> None:
     assert complaints(image) != []
 
 
+TWO_DOMAINS = (REPOSITORY / "examples" / "two-domains.toml").read_text()
+SECOND = TWO_DOMAINS.replace("frames = 64", "version = 2\nframes = 64")
+ENTRY = "[[schedule]]\ndomain = 0\nlength = 1000\npad = 6150\n"
+
+
+@pytest.mark.parametrize(
+    ("old", "new", "versions"),
+    [
+        ("frames = 64", "frames = 16384", (2,)),
+        ("frames = 64", "frames = 16385", ()),
+        ("frames = 64", "frames = 4096", (1, 2)),
+        ("colours = [1] ", "calls = [0, 1]\ncolours = [1] ", (2,)),
+        ("colours = [1] ", "calls = []\ncolours = [1] ", (2,)),
+        ("colours = [1] ", "calls = [15]\ncolours = [1] ", ()),
+        ("colours = [1] ", "calls = [0, 0]\ncolours = [1] ", ()),
+        ("[[schedule]]", ENTRY * 63 + "[[schedule]]", (2,)),
+        ("[[schedule]]", ENTRY * 255 + "[[schedule]]", ()),
+        ("domain = 1", "domain = 31", (2,)),
+    ],
+    ids=lambda it: it[:24] if isinstance(it, str) else "",
+)
+def test_what_each_version_has(old: str, new: str, versions: tuple[int, ...]) -> None:
+    taken = []
+    for version, text in enumerate((TWO_DOMAINS, SECOND), 1):
+        assert old in text
+        changed = text.replace(old, new, 1)
+        is_taken = not faults_of(image_schema(), changed)
+        assert is_taken == (not faults_of_description(changed))
+        if is_taken:
+            taken.append(version)
+    assert tuple(taken) == versions
+
+
+def test_a_version_that_is_none() -> None:
+    for version in ("0", "3", '"2"', "true"):
+        assert faults_of(image_schema(), SECOND.replace("version = 2", f"version = {version}")) != []
+    assert faults_of(image_schema(), SECOND.replace("version = 2", "version = 1")) == []
+
+
 # ---- of descriptions and reports
 
 
@@ -59,9 +101,7 @@ def test_the_other_files_are_as_the_tools_write_them() -> None:
 
 
 def faults_of_description(text: str) -> list[str]:
-    schema = json.loads((SDK / "description.schema.json").read_text())
-    validator = jsonschema.Draft7Validator(schema)
-    return [str(error.message) for error in validator.iter_errors(tomllib.loads(text))]
+    return faults_of(json.loads((SDK / "description.schema.json").read_text()), text)
 
 
 @pytest.mark.parametrize("description", sorted(C.glob("*.toml")), ids=lambda it: it.stem)
@@ -85,6 +125,8 @@ def test_an_image_is_a_description(image: Path) -> None:
         ("length = 10000", "length = 10"),
         ("colours = [1]", 'colours = [1]\nwords = { "a+" = 1 }'),
         ("colours = [1]", "colours = [1]\nwords = { a = -1 }"),
+        ("colours = [1]", 'colours = [1]\ncalls = ["exit"]'),
+        ('machine = "machine.toml"', 'version = 3\nmachine = "machine.toml"'),
     ],
 )
 def test_it_refuses_a_description_that_one_key_breaks(old: str, new: str) -> None:
@@ -92,3 +134,6 @@ def test_it_refuses_a_description_that_one_key_breaks(old: str, new: str) -> Non
     assert old in text and faults_of_description(text.replace(old, new)) != []
     good = 'colours = [1]\nwords = { a = 1, "b+4" = [1, 2], c = "text", d = "@file" }'
     assert faults_of_description(text.replace("colours = [1]", good)) == []
+    second = "version = 2\n" + text.replace("colours = [1]", 'colours = [1]\ncalls = ["put", "exit", 2]')
+    assert faults_of_description(second) == []
+    assert faults_of_description(second.replace('"put"', '"puts"')) != []

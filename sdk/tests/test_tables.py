@@ -104,28 +104,48 @@ def test_the_cases_of_the_schedule() -> None:
     ("rule", "said"),
     [
         (3, "`history` is not {0.HISTORY.low} to {0.HISTORY.high}"),
-        (4, "`frames` is {0.FRAMES.low} to {0.FRAMES.high:,}."),
+        (
+            4,
+            "`frames` is {1.frames.low} to {1.frames.high:,}, in version 2 {2.frames.low} to {2.frames.high:,}.",
+        ),
         (5, "there are {0.COLOURS.low} to {0.COLOURS.high} page colours"),
         (6, "each cost is {0.COST.low} to {0.COST.high:,}."),
-        (7, "there are {0.DOMAINS.low} to {0.DOMAINS.high} domains"),
+        (
+            7,
+            "{1.domains.low} to {1.domains.high} domains, in version 2 {2.domains.low} to {2.domains.high}, ",
+        ),
+        (7, "of 1 to {0.NAME_MOST} small letters"),
         (11, "or above {0.SHARED_MOST:,}"),
         (13, "there are more than {0.CAPS_MOST}"),
         (14, "a line is {0.LINE.low} to {0.LINE.high}"),
         (15, "there are more than {0.MOMENTS_MOST:,}"),
         (15, "{0.MOMENT.low} to {0.MOMENT.high:,}"),
-        (16, "there are {0.ENTRIES.low} to {0.ENTRIES.high} entries"),
+        (
+            16,
+            "{1.entries.low} to {1.entries.high} entries, in version 2 {2.entries.low} to {2.entries.high}, ",
+        ),
+        (18, "each item of `calls` is {0.CALL.low} to {0.CALL.high}, and above the one before."),
         (22, "cost {0.COST.low} to {0.COST.high:,} cycles"),
         (22, "`targets` is no power of two from {0.TARGETS.low} to {0.TARGETS.high}"),
         (16, "of {0.LENGTH.low:,} to {0.LENGTH.high:,} cycles, with a pad of {0.PAD.low} to {0.PAD.high:,}."),
     ],
 )
 def test_the_numbers_of_the_rules(rule: int, said: str) -> None:
-    assert said.format(keys) in section_of(rule)
+    assert said.format(keys, *keys.LIMITS.values()) in section_of(rule)
+
+
+def test_the_versions() -> None:
+    first, second = keys.LIMITS.values()
+    rows = {row[0].split(" (")[0]: row[1:] for row in table_with("", "version 1", "version 2")}
+    for name, row in (("frames", "`frames`"), ("domains", "domains"), ("entries", "entries of the schedule")):
+        ends = [getattr(limits, name) for limits in (first, second)]
+        assert rows[row] == [f"{it.low:,} to {it.high:,}" for it in ends]
 
 
 @pytest.mark.parametrize("line", sorted(set(REFUSED.findall(IMAGE_MD))))
 def test_each_refusal_of_the_document_has_a_case(line: str) -> None:
     refusal = Refusal.parse(line)
     assert str(refusal) == line
-    holding = [case for case in CASES if case.rule == refusal.rule and case.holds(refusal)]
-    assert holding == [case_of(refusal)]
+    for version in keys.LIMITS:
+        holding = [it for it in CASES if it.rule == refusal.rule and it.holds(refusal, version)]
+        assert holding == [case_of(refusal, version)]

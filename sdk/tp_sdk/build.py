@@ -4,6 +4,7 @@ from __future__ import annotations
 
 import re
 
+from tp_sdk.bounds import parse_bound
 from tp_sdk.compiling import load_program
 from tp_sdk.description import Description, DomainDescription, EntryDescription
 from tp_sdk.elf import Loaded, Segment
@@ -65,30 +66,32 @@ def build_text(
             meant = did_you_mean(entry.domain, numbers) or f": {', '.join(numbers)}"
             raise Fault(f"{entry.place}: there is no domain '{entry.domain}'{meant}")
 
-    def image(pad: int) -> str:
-        entries = [_entry(it, numbers, pad) for it in description.schedule]
-        return Image(description.machine, domains, entries).to_toml()
+    def image(pads: list[int]) -> str:
+        entries = [_entry(it, numbers, pad) for it, pad in zip(description.schedule, pads)]
+        return Image(description.version, description.machine, domains, entries).to_toml()
 
-    pad = 0
+    pads = [0] * len(description.schedule)
     for entry in description.schedule:
         if entry.pad is None:
             if program is None:
                 raise Missing(f"{entry.place}: no pad, which the program alone can tell, and it is not there")
-            pad = _bound(description, image(0), program)
+            pads = _bounds(description, image(pads), program)
             break
-    text = image(pad)
+    text = image(pads)
     if program is not None:
         _accepted(description, text, program.run(["check"], text))
     return text
 
 
-def _bound(description: Description, text: str, program: Program) -> int:
+def _bounds(description: Description, text: str, program: Program) -> list[int]:
+    """The bound on the switch after each entry's slot."""
     ended = program.run(["bound"], text)
     _accepted(description, text, ended)
-    bound = ended.text.split()[-1:]
-    if not bound or not bound[0].isdecimal():
+    bound = parse_bound(ended.text)
+    bounds = [None if bound is None else bound.of_entry(it) for it in range(len(description.schedule))]
+    if any(it is None for it in bounds):
         raise program.other()
-    return int(bound[0])
+    return [it for it in bounds if it is not None]
 
 
 def _accepted(description: Description, text: str, ended: Ended) -> None:
@@ -118,7 +121,9 @@ def _domain(it: DomainDescription, loaded: Loaded) -> ImageDomain:
     for where, data in it.words.items():
         _put(loaded, where, data)
     caps = [_cap(cap, loaded.segments, it.place) for cap in it.caps]
-    return ImageDomain(it.name, it.colours, loaded.entry, caps, it.lines, it.moments, loaded.segments)
+    return ImageDomain(
+        it.name, it.colours, loaded.entry, caps, it.lines, it.moments, it.calls, loaded.segments
+    )
 
 
 def _stack(loaded: Loaded, pages: int) -> Segment:

@@ -2,16 +2,26 @@
 
 from __future__ import annotations
 
+from collections.abc import Iterable
 from dataclasses import dataclass
+
+from tp_sdk.keys import PAGE
 
 
 @dataclass(frozen=True)
 class Call:
-    """A kernel call, and the codes with which it may be refused."""
+    """A kernel call, the codes with which it may be refused, and what it writes at most: a frame that it
+    zeroes, or so many entries of page tables."""
 
     number: int
     name: str
     refused_with: tuple[int, ...]
+    zeroes: bool = False
+    entries: int = 0
+
+    def lines_written(self, line: int) -> int:
+        """The most lines, of so many bytes, that it writes."""
+        return PAGE // line if self.zeroes else self.entries
 
 
 @dataclass(frozen=True)
@@ -27,13 +37,13 @@ PUT = Call(1, "PUT", (11,))
 CALLS = (
     Call(0, "EXIT", ()),
     PUT,
-    Call(2, "ALLOC", (2, 4, 5, 10)),
-    Call(3, "TABLE", (2, 3, 5, 7, 8)),
-    Call(4, "MAP", (2, 3, 5, 6, 7, 8, 9)),
-    Call(5, "UNMAP", (2, 3, 5, 7)),
+    Call(2, "ALLOC", (2, 4, 5, 10), zeroes=True),
+    Call(3, "TABLE", (2, 3, 5, 7, 8), entries=1),
+    Call(4, "MAP", (2, 3, 5, 6, 7, 8, 9), entries=1),
+    Call(5, "UNMAP", (2, 3, 5, 7), entries=1),
     Call(6, "COPY", (2, 3, 4, 5, 6)),
-    Call(7, "DELETE", (2, 3, 12)),
-    Call(8, "REVOKE", (2, 3)),
+    Call(7, "DELETE", (2, 3, 12), entries=1),
+    Call(8, "REVOKE", (2, 3), entries=63),
     Call(9, "POLL", (2, 3, 5)),
     Call(10, "WAIT", (2, 3, 5)),
     Call(11, "SIGNAL", (2, 3, 5)),
@@ -41,8 +51,12 @@ CALLS = (
     Call(13, "YIELD", ()),
     Call(14, "ENDTHREAD", ()),
 )
+EVERY_CALL = frozenset(call.number for call in CALLS)
+# As descriptions name them: "exit", "put".
+NUMBERS = {call.name.lower(): call.number for call in CALLS}
+BAD_CALL = Error(1, "BadCall", "no call has the number, or the domain's `calls` leave it out")
 ERRORS = (
-    Error(1, "BadCall", "no call has the number"),
+    BAD_CALL,
     Error(2, "BadSlot", "the slot is 64 or more"),
     Error(3, "Empty", "the slot is empty"),
     Error(4, "Used", "the slot is not empty"),
@@ -65,6 +79,14 @@ def error_of(code: int) -> Error:
     return _BY_CODE.get(code, Error(code, "unknown", "the program's table has no such code"))
 
 
-def callers_of(code: int) -> list[str]:
-    """The calls that can be refused with a code."""
-    return [call.name for call in CALLS if code in call.refused_with]
+def callers_of(code: int, calls: frozenset[int] = EVERY_CALL) -> list[str]:
+    """The calls that can be refused with a code, where these may be made."""
+    if code == BAD_CALL.code:
+        return [call.name for call in CALLS if call.number not in calls]
+    return [call.name for call in CALLS if call.number in calls and code in call.refused_with]
+
+
+def in_words(names: Iterable[str], last: str) -> str:
+    """`EXIT`, `EXIT and PUT`, `EXIT, PUT and MAP`."""
+    *others, one = names
+    return f"{', '.join(others)} {last} {one}" if others else one

@@ -12,7 +12,7 @@ from dataclasses import dataclass
 from typing import Any
 
 from tp_sdk.faults import Fault
-from tp_sdk.keys import COST, COSTS, ENTRIES, LENGTH, PAD, PRODUCTS
+from tp_sdk.keys import COST, COSTS, LENGTH, PAD, PRODUCTS, limits_of
 from tp_sdk.program import Program
 from tp_sdk.refusals import Image
 from tp_sdk.replay import has_ended, number, written
@@ -93,7 +93,8 @@ class _Runs:
     def __init__(self, program: Program, image: Image, file: str, domain: int) -> None:
         self._program, self._image, self._file, self._domain = program, image, file, domain
         self._costly = [key for key in ("costs", "muldiv") if key in image]
-        self.schedule: list[dict[str, Any]] = image["schedule"] * (ENTRIES.high // len(image["schedule"]))
+        most_entries = limits_of(image).entries.high
+        self.schedule: list[dict[str, Any]] = image["schedule"] * (most_entries // len(image["schedule"]))
 
     def section(self, costs: dict[str, int], lengths: dict[int, int], slots: int) -> Section:
         """What the domain sees after so many slots."""

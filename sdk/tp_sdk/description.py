@@ -11,6 +11,7 @@ from pathlib import Path
 from typing import Any
 
 from tp_sdk import toml_places
+from tp_sdk.calls import EVERY_CALL, NUMBERS
 from tp_sdk.elf import PAGES, Loaded, Segment
 from tp_sdk.faults import Fault, read_text, refuse_unread
 from tp_sdk.instructions import arch_of
@@ -18,6 +19,7 @@ from tp_sdk.keys import (
     HEX,
     KEY_ROWS,
     PAGE,
+    VERSION,
     Array,
     Either,
     Integer,
@@ -28,6 +30,7 @@ from tp_sdk.keys import (
     broken_place,
     fault_in,
     other_keys,
+    version_of,
 )
 from tp_sdk.spelling import did_you_mean
 from tp_sdk.symbols import Symbols
@@ -52,9 +55,10 @@ def _keys_of(place: Place) -> dict[str, Key]:
     }
 
 
-_FRAME = ("domain", "schedule")
+_FRAME = ("version", "domain", "schedule")
 MACHINE_KEYS = {name: key for name, key in _keys_of(Place.TOP).items() if name not in _FRAME}
 FRAME_KEYS = {
+    "version": Key(VERSION, f"the version of the format, {VERSION.low} or {VERSION.high}", needed=False),
     "machine": Key(Text(), "the name of a file with the machine's keys"),
     "domain": Key(Array(Table(), 1), "one or more tables [[domain]]"),
     "schedule": Key(Array(Table(), 1), "one or more tables [[schedule]]"),
@@ -64,6 +68,7 @@ _LISTS = {
     "caps": Key(Array(Text()), "an array of strings", needed=False),
     "lines": Key(Array(Integer()), "an array of integers", needed=False),
     "moments": Key(MOMENTS, "an array of pairs [cycle, line]", needed=False),
+    "calls": Key(Array(Either((Text(), Integer()))), "an array of names or numbers of calls", needed=False),
 }
 DOMAIN_KEYS = {
     "name": Key(Text(), "a string"),
@@ -72,7 +77,7 @@ DOMAIN_KEYS = {
     **_LISTS,
     "words": Key(Table(), "a table of symbols and the values that stand there", needed=False),
 }
-WRITTEN_DOMAIN_KEYS = _keys_of(Place.DOMAIN)
+WRITTEN_DOMAIN_KEYS = _keys_of(Place.DOMAIN) | {"calls": _LISTS["calls"]}
 SEGMENT_KEYS = _keys_of(Place.SEGMENT)
 ENTRY_KEYS = {
     "domain": Key(Either((Text(), Integer())), "the name of a domain, or its place"),
@@ -84,7 +89,8 @@ ENTRY_KEYS = {
 @dataclass
 class DomainDescription:
     """A domain: `place` says where in the description's file it begins. Its program is a file, or
-    written out; `words` has the bytes that are put at a symbol, or at an offset from it."""
+    written out; `calls` has the numbers of those that it may make, ascending, where not every call;
+    `words` has the bytes that are put at a symbol, or at an offset from it."""
 
     place: str
     name: str
@@ -94,6 +100,7 @@ class DomainDescription:
     caps: list[str]
     lines: list[int]
     moments: list[list[int]]
+    calls: list[int] | None
     words: dict[str, bytes]
 
 
@@ -158,6 +165,7 @@ class Description:
     """A description, as its file says."""
 
     text: _Text
+    version: int | None
     machine_text: _Text
     machine: dict[str, Any]
     domains: list[DomainDescription]
@@ -196,7 +204,7 @@ def read_description(file: Path, given: str | None = None) -> Description:
     domains = [_domain(text, number, table) for number, table in enumerate(text.data["domain"])]
     schedule = [_entry(text, number, table) for number, table in enumerate(text.data["schedule"])]
     keys = {key: value for key, value in machine.data.items() if key in MACHINE_KEYS}
-    return Description(text, machine, keys, domains, schedule)
+    return Description(text, text.data.get("version"), machine, keys, domains, schedule)
 
 
 def describe(programs: dict[str, Path], machine: Path, length: int, stack: int | None) -> str:
@@ -264,8 +272,28 @@ def _domain(text: _Text, number: int, table: dict[str, Any]) -> DomainDescriptio
         table.get("caps", []),
         table.get("lines", []),
         table.get("moments", []),
+        _calls(text, path + ("calls",), table.get("calls")),
         words,
     )
+
+
+def _calls(text: _Text, path: toml_places.Path, calls: list[str | int] | None) -> list[int] | None:
+    """The numbers of the calls that a domain may make, ascending."""
+    if calls is None:
+        return None
+    if version_of(text.data) == VERSION.low:
+        raise Fault(f"{text.place_of_key(path)}: 'calls' wants version = {VERSION.high}")
+    numbers: set[int] = set()
+    for place, call in enumerate(calls):
+        here = f"{text.place(path + (place,))}: '{call}'"
+        number = NUMBERS.get(call) if isinstance(call, str) else call
+        if number is None or number not in EVERY_CALL:
+            meant = did_you_mean(str(call), NUMBERS) or f": {', '.join(NUMBERS)}, or their numbers"
+            raise Fault(f"{here} is no call{meant}")
+        if number in numbers:
+            raise Fault(f"{here}: the call stands twice")
+        numbers.add(number)
+    return sorted(numbers)
 
 
 def _written(text: _Text, path: toml_places.Path, table: dict[str, Any]) -> Loaded:

@@ -2,9 +2,10 @@
 
 from __future__ import annotations
 
+from tp_sdk.calls import NUMBERS
 from tp_sdk.description import DOMAIN_KEYS, ENTRY_KEYS, FRAME_KEYS, WRITTEN_DOMAIN_KEYS, Key
-from tp_sdk.keys import Place
-from tp_sdk.schema import Schema, of_kind, of_place, values_at
+from tp_sdk.keys import CALL, Place
+from tp_sdk.schema import Schema, of_kind, of_place, of_versions, values_at
 from tp_sdk.values import PLACE, VALUE, WANTED
 
 
@@ -27,23 +28,32 @@ def description_schema() -> Schema:
                     FRAME_KEYS["domain"],
                     {key: domain[key] for key in WRITTEN_DOMAIN_KEYS}
                     | {key: _of(it) for key, it in DOMAIN_KEYS.items() if key not in WRITTEN_DOMAIN_KEYS}
-                    | {"words": _WORDS, "caps": _of(DOMAIN_KEYS["caps"])},
+                    | {"words": _WORDS, "caps": _of(DOMAIN_KEYS["caps"]), "calls": _CALLS},
                     [key for key in DOMAIN_KEYS if DOMAIN_KEYS[key].needed and key != "program"],
                     [["program"], ["entry", "segment"]],
-                ),
+                )
+                | values_at(Place.TOP, "domain"),
                 "schedule": _tables(
                     FRAME_KEYS["schedule"],
                     {key: _of(it) | values_at(Place.ENTRY, key) for key, it in ENTRY_KEYS.items()}
                     | {"domain": _of(ENTRY_KEYS["domain"])},
                     [key for key, it in ENTRY_KEYS.items() if it.needed],
-                ),
+                )
+                | values_at(Place.TOP, "schedule"),
             },
             ["domain", "schedule"],
             [["machine"], needed],
         ),
+        "allOf": [of_versions()],
     }
 
 
+_CALLS: Schema = {
+    "description": DOMAIN_KEYS["calls"].words,
+    "type": "array",
+    "items": {"anyOf": [{"enum": list(NUMBERS)}, of_kind(CALL)]},
+    "uniqueItems": True,
+}
 _WORDS: Schema = {
     "description": DOMAIN_KEYS["words"].words,
     "type": "object",
@@ -66,7 +76,5 @@ def _table(properties: Schema, needed: list[str], one_of: list[list[str]] | None
     } | ({"anyOf": [{"required": keys} for keys in one_of]} if one_of else {})
 
 
-def _tables(
-    key: Key, properties: Schema, needed: list[str], one_of: list[list[str]] | None = None
-) -> Schema:
+def _tables(key: Key, properties: Schema, needed: list[str], one_of: list[list[str]] | None = None) -> Schema:
     return _of(key) | {"items": _table(properties, needed, one_of)}

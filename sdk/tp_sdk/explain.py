@@ -8,8 +8,9 @@ from dataclasses import asdict, dataclass
 from typing import Any
 
 from tp_sdk import keys
+from tp_sdk.bounds import bound_on_a_switch
 from tp_sdk.faults import Fault
-from tp_sdk.refusals import Case, Image, Refusal, case_of
+from tp_sdk.refusals import Case, Image, Refusal, case_of, limits_in_words
 from tp_sdk.rules import Rules
 from tp_sdk.spelling import did_you_mean, meant
 from tp_sdk.toml_places import Path, Places, Position, read_with_places
@@ -74,9 +75,8 @@ def explain(text: bytes, file: str, refusal: Refusal) -> Explanation:
 
 def explain_all(text: bytes, file: str, refusal: Refusal) -> list[Explanation]:
     """Explains a refusal and, after it, whatever else is broken in the image and can be told."""
-    case = case_of(refusal)
     if refusal.rule == 1:
-        return [_of_no_toml(text, file, refusal, case)]
+        return [_of_no_toml(text, file, refusal, case_of(refusal))]
     try:
         image, places = read_with_places(text.decode())
     except (UnicodeDecodeError, tomllib.TOMLDecodeError) as error:
@@ -95,11 +95,12 @@ class _OfImage:
     def __init__(self, file: str, image: Image, places: Places) -> None:
         self.file = file
         self.image = image
+        self.version = keys.version_of(image)
         self.places = places
 
     def told(self, refusal: Refusal, at: Path | None) -> Explanation | None:
         """The explanation, at the place if it is given; none where nothing is there."""
-        case = case_of(refusal)
+        case = case_of(refusal, self.version)
         path = at
         if path is None:
             try:
@@ -119,6 +120,8 @@ class _OfImage:
             "wanted": refusal.wanted,
             "last": refusal.wanted - 1,
             "other": _OtherDomain(refusal, self.image),
+            "fewer": self._fewer_calls(refusal),
+            **limits_in_words(self.version),
         }
         return Explanation(
             self.file,
@@ -137,6 +140,17 @@ class _OfImage:
             self._other(refusal, case),
         )
 
+    def _fewer_calls(self, refusal: Refusal) -> str:
+        """Whether a shorter list of calls would make a bound smaller, too."""
+        if refusal.rule != 17 or self.version == keys.VERSION.low:
+            return ""
+        try:
+            domain = self.image["schedule"][refusal.at]["domain"]
+            least = bound_on_a_switch(self.image, frozenset())
+        except (KeyError, IndexError, TypeError, ValueError, ZeroDivisionError):
+            return ""
+        return f", or fewer `calls` of {_domain(domain, self.image)}" if refusal.wanted > least else ""
+
     def _other(self, refusal: Refusal, case: Case) -> Other | None:
         try:
             path = case.other(refusal, self.image)
@@ -152,8 +166,11 @@ class _OfImage:
         if not path or not isinstance(path[-1], str):
             return ""
         table = _value_at(self.image, path[:-1])
-        known, key = keys.keys_at(path[:-1]), path[-1]
+        known, key = keys.keys_at(path[:-1], self.image), path[-1]
         if key not in known:
+            version = keys.version_with(path)
+            if version is not None:
+                return f": with `version = {version}` there is one"
             return did_you_mean(key, [it for it in known if it not in table], "`")
         if key not in table:
             written = meant(key, [it for it in table if it not in known])

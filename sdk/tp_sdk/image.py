@@ -11,7 +11,7 @@ from tp_sdk.elf import Segment
 
 @dataclass
 class ImageDomain:
-    """A domain of an image."""
+    """A domain of an image; it may make every call where `calls` is none."""
 
     name: str
     colours: list[int]
@@ -19,6 +19,7 @@ class ImageDomain:
     caps: list[str]
     lines: list[int]
     moments: list[list[int]]
+    calls: list[int] | None
     segments: list[Segment]
 
     def to_toml(self) -> str:
@@ -29,6 +30,7 @@ class ImageDomain:
                 f"[[domain]]\nname = {_json(self.name)}\n",
                 f"colours = {self.colours}\nentry = {self.entry:#x}\n",
                 *(f"{key} = {_json(items)}\n" for key, items in lists if items),
+                *([] if self.calls is None else [f"calls = {_json(self.calls)}\n"]),
                 "segment = [\n",
                 *(_segment(segment) for segment in self.segments),
                 "]\n",
@@ -51,15 +53,18 @@ class ImageEntry:
 
 @dataclass
 class Image:
-    """An image: the keys of its machine, its domains, its schedule."""
+    """An image: the version of its format, where it is told, the keys of its machine, its domains, its
+    schedule."""
 
+    version: int | None
     machine: dict[str, Any]
     domains: list[ImageDomain]
     schedule: list[ImageEntry]
 
     def to_toml(self) -> str:
         """The text."""
-        machine = "".join(f"{key} = {_value(value)}\n" for key, value in self.machine.items())
+        told = self.machine if self.version is None else {"version": self.version} | self.machine
+        machine = "".join(f"{key} = {_value(value)}\n" for key, value in told.items())
         return "\n".join(
             [machine, *(it.to_toml() for it in self.domains), *(it.to_toml() for it in self.schedule)]
         )

@@ -74,7 +74,8 @@ class Place(Enum):
 
 @dataclass(frozen=True)
 class KeyRow:
-    """A row of the table of keys; `value` has the words of docs/IMAGE.md for what must stand there."""
+    """A row of the table of keys; `value` has the words of docs/IMAGE.md for what must stand there, and
+    `since` the version of the format from which on there is the key."""
 
     number: int
     place: Place
@@ -82,11 +83,13 @@ class KeyRow:
     kind: Kind
     value: str
     needed: bool = True
+    since: int = 1
 
 
 CACHE = Table((("sets", Integer()), ("ways", Integer()), ("policy", Text())))
 COSTS = ("base", "l1", "l2", "mem", "wb", "tlb", "mispredict", "trap", "flush")
 PRODUCTS = ("mul", "div")
+VERSION = Within(1, 2)
 
 KEY_ROWS = (
     KeyRow(1, Place.TOP, "frames", Integer(), "integer"),
@@ -136,6 +139,23 @@ KEY_ROWS = (
     KeyRow(24, Place.ENTRY, "length", Integer(), "integer: cycles of the slot"),
     KeyRow(25, Place.ENTRY, "pad", Integer(), "integer: cycles from the slot's end to the next slot's start"),
     KeyRow(
+        28,
+        Place.TOP,
+        "version",
+        VERSION,
+        "integer 1 to 2: the version of the format; it may be missing",
+        needed=False,
+    ),
+    KeyRow(
+        29,
+        Place.DOMAIN,
+        "calls",
+        Array(Integer()),
+        "array of integers, from version 2 on; it may be missing",
+        needed=False,
+        since=2,
+    ),
+    KeyRow(
         30,
         Place.TOP,
         "history",
@@ -182,7 +202,6 @@ PARTS = (
     Part(6, "predictor", 1, 4_096, False),
 )
 PAGE = 4_096
-FRAMES = Within(64, 4_096)
 COLOURS = Within(2, 64)
 WAYS = Within(1, 16)
 TREE_POLICY = "plru"  # its ways are a power of two
@@ -191,8 +210,8 @@ HISTORY = Within(0, 8)
 COST = Within(1, 1_000)
 DIVISION_STEPS = 33  # at most: one, and one for each binary digit of the dividend
 TARGETS = Within(1, 256)  # a power of two
-DOMAINS = Within(1, 16)
 NAME = "[a-z0-9]{1,16}"
+NAME_MOST = 16
 SHARED_MOST = 65_536
 PAGES_OF_ALL = 1_048_576
 RIGHTS = ("r", "rw", "x", "rx", "rwx")
@@ -202,11 +221,43 @@ CAP = r"none|(page|irq) (0|[1-9][0-9]{0,9})"
 LINE = Within(0, 31)
 MOMENTS_MOST = 1_024
 MOMENT = Within(0, 1_000_000_000_000)
-ENTRIES = Within(1, 64)
 LENGTH = Within(1_000, 1_000_000)
 PAD = Within(0, 1_000_000)
+CALL = Within(0, 14)
+
+
+@dataclass(frozen=True)
+class Limits:
+    """How many of a thing there may be in an image of a version."""
+
+    frames: Within
+    domains: Within
+    entries: Within
+
+
+LIMITS = {
+    1: Limits(Within(64, 4_096), Within(1, 16), Within(1, 64)),
+    2: Limits(Within(64, 16_384), Within(1, 32), Within(1, 256)),
+}
 
 # ---- looking into an image
+
+
+def version_of(image: dict[str, Any]) -> int:
+    """The version of an image. One that is none breaks its own row, and counts as the last one, which has
+    all keys."""
+    version = image.get("version", VERSION.low)
+    return VERSION.low if _is_integer(version) and version == VERSION.low else VERSION.high
+
+
+def limits_of(image: dict[str, Any]) -> Limits:
+    """The limits of an image's version."""
+    return LIMITS[version_of(image)]
+
+
+def rows_of(image: dict[str, Any]) -> list[KeyRow]:
+    """The rows of an image's version."""
+    return [row for row in KEY_ROWS if row.since <= version_of(image)]
 
 
 def fault_in(kind: Kind, value: Any, path: Path) -> Path | None:
@@ -264,8 +315,9 @@ def broken_place(row: KeyRow, image: dict[str, Any], number: int) -> Path | None
 
 def other_keys(image: dict[str, Any]) -> Iterator[Path]:
     """Each key that no row has."""
+    known_rows = rows_of(image)
     for place in Place:
-        rows = {row.key: row.kind for row in KEY_ROWS if row.place is place}
+        rows = {row.key: row.kind for row in known_rows if row.place is place}
         for path, table in tables_at(image, place):
             for key, value in table.items():
                 kind = rows.get(key)
@@ -276,14 +328,20 @@ def other_keys(image: dict[str, Any]) -> Iterator[Path]:
                     yield from (path + (key, name) for name in value if name not in known)
 
 
-def keys_at(path: Path) -> list[str]:
-    """The keys that a table may have."""
+def keys_at(path: Path, image: dict[str, Any]) -> list[str]:
+    """The keys that a table of an image may have."""
     names = tuple(it for it in path if isinstance(it, str))
     for place in Place:
         if place.path == names:
-            return [row.key for row in KEY_ROWS if row.place is place]
+            return [row.key for row in rows_of(image) if row.place is place]
     row = next((it for it in KEY_ROWS if it.place is Place.TOP and (it.key,) == names), None)
     return [name for name, _ in row.kind.fields] if row is not None and isinstance(row.kind, Table) else []
+
+
+def version_with(path: Path) -> int | None:
+    """The version from which on there is a key."""
+    names = tuple(it for it in path if isinstance(it, str))
+    return next((row.since for row in KEY_ROWS if (*row.place.path, row.key) == names), None)
 
 
 def _is_integer(value: Any) -> bool:

@@ -6,6 +6,7 @@ from dataclasses import dataclass, field
 from pathlib import Path
 
 from tp_sdk.build import load_programs
+from tp_sdk.calls import EVERY_CALL
 from tp_sdk.description import Description, read_description
 from tp_sdk.elf import Loaded, load_elf
 from tp_sdk.faults import Fault
@@ -29,6 +30,11 @@ class Known:
     names: list[str] = field(default_factory=list)
     programs: list[Loaded] = field(default_factory=list)
     entries: list[KnownEntry] = field(default_factory=list)
+    calls: list[frozenset[int]] = field(default_factory=list)
+
+    def calls_of(self, domain: int) -> frozenset[int]:
+        """The calls that a domain may make, as far as is known."""
+        return self.calls[domain] if domain < len(self.calls) else EVERY_CALL
 
     def program(self, domain: int) -> Loaded | None:
         """The program of a domain."""
@@ -52,7 +58,8 @@ def known_of(description: Description, programs: list[Loaded]) -> Known:
         KnownEntry(it.domain if isinstance(it.domain, int) else numbers.get(it.domain, -1), it.pad)
         for it in description.schedule
     ]
-    return Known(description.file, names, programs, entries)
+    calls = [EVERY_CALL if it.calls is None else frozenset(it.calls) for it in description.domains]
+    return Known(description.file, names, programs, entries, calls)
 
 
 def _put_elf(known: Known, elf: str, arch: str) -> None:

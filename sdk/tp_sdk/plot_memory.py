@@ -20,6 +20,7 @@ if TYPE_CHECKING:
 _SHARED, _NOBODYS = "0.25", "0.93"
 # More frames than these have no room for words.
 _MOST_TOLD = 32
+_COLUMNS = 8  # of the legend
 
 
 def draw_memory(file: Path, names: Sequence[str], memory: Memory) -> None:
@@ -35,8 +36,11 @@ def draw_memory(file: Path, names: Sequence[str], memory: Memory) -> None:
     )
     _draw_frames(frames, names, memory)
     _draw_sets(sets, memory)
-    figure.legend(handles=_legend(names, memory), loc="upper left", ncols=8, fontsize=SMALL, frameon=False)
-    figure.suptitle(" \n ", fontsize=SMALL)
+    legend = _legend(names, memory)
+    figure.legend(handles=legend, loc="upper left", ncols=_COLUMNS, fontsize=SMALL, frameon=False)
+    # (room for its lines, which stand further apart than those of a title)
+    lines = -(-len(legend) // _COLUMNS)
+    figure.suptitle("\n".join(" " * max(2, lines + lines // 3)), fontsize=SMALL)
     save(figure, file)
 
 

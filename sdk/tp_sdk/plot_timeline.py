@@ -7,6 +7,7 @@ from dataclasses import dataclass
 from pathlib import Path
 from typing import TYPE_CHECKING
 
+from tp_sdk.bounds import EntryBound
 from tp_sdk.keys import LENGTH
 from tp_sdk.plots import SMALL, colour_of, pyplot, save
 from tp_sdk.replay import Did, Replay, number
@@ -21,6 +22,7 @@ if TYPE_CHECKING:
     from matplotlib.axes import Axes
 
 _PAD, _USED, _IDLE = "0.88", "0.35", "0.97"
+_SAVED = "////"
 
 
 @dataclass(frozen=True)
@@ -33,21 +35,37 @@ class Strip:
 
 
 def draw_timeline(
-    file: Path, names: Sequence[str], entries: Sequence[Entry], strips: Sequence[Strip], most: int
+    file: Path,
+    names: Sequence[str],
+    entries: Sequence[Entry],
+    strips: Sequence[Strip],
+    most: int,
+    bounds: Sequence[EntryBound] = (),
 ) -> None:
-    """The first slots, what was done in them, their pads and what switches used, a strip for each report."""
+    """The first slots, what was done in them, their pads and what switches used, a strip for each report;
+    and, where bounds are given, those of each domain beside the bound with every call."""
+    of_domains = list({it.domain: it for it in bounds}.values())
+    heights = [0.7 + 0.5 * len(names)] * len(strips)
+    heights += [0.7 + 0.25 * len(of_domains)] if of_domains else []
     figure, places = pyplot.subplots(
-        len(strips),
+        len(heights),
         1,
-        sharex=True,
         squeeze=False,
-        figsize=(15, 0.9 + len(strips) * (0.7 + 0.5 * len(names))),
+        figsize=(15, 0.9 + sum(heights)),
         layout="constrained",
+        height_ratios=heights,
     )
-    for axes, strip in zip(places[:, 0], strips):
+    of_strips = places[: len(strips), 0]
+    for axes, strip in zip(of_strips, strips):
         _draw_strip(axes, names, list(slots_of(list(entries), min(strip.report.slots, most))), entries, strip)
-    places[-1, 0].set_xlabel("cycles")
-    figure.legend(handles=_legend(strips), loc="upper right", ncols=6, fontsize=SMALL, frameon=False)
+        axes.sharex(of_strips[-1])
+        axes.tick_params(labelbottom=axes is of_strips[-1])
+    of_strips[-1].set_xlabel("cycles")
+    if of_domains:
+        _draw_bounds(places[-1, 0], names, of_domains)
+    figure.legend(
+        handles=_legend(strips, bool(of_domains)), loc="upper right", ncols=7, fontsize=SMALL, frameon=False
+    )
     save(figure, file)
 
 
@@ -76,6 +94,20 @@ def _draw_strip(
     axes.set_yticks(range(len(names)), names)
     axes.set_ylim(len(names) - 0.2, -0.6)
     axes.set_title(strip.title + _untold(strip, len(slots)), loc="left", fontsize=SMALL)
+
+
+def _draw_bounds(axes: Axes, names: Sequence[str], bounds: Sequence[EntryBound]) -> None:
+    """A row for each domain that has slots: the bound by its calls, and on to the bound with every call."""
+    for row, it in enumerate(bounds):
+        colour, height = colour_of(names.index(it.domain)), (row - 0.35, 0.7)
+        axes.broken_barh([(0, it.bound)], height, facecolor=colour, alpha=0.55)
+        axes.broken_barh([(it.bound, it.saved)], height, facecolor="none", edgecolor=colour, hatch=_SAVED)
+        told = f" {it.bound:,}" + (f" in place of {it.with_every_call:,}" if it.saved else "")
+        axes.text(it.with_every_call, row, told, fontsize=SMALL, va="center")
+    axes.set_yticks(range(len(bounds)), [it.domain for it in bounds])
+    axes.set_ylim(len(bounds) - 0.5, -0.5)
+    axes.set_xlim(0, 1.2 * bounds[0].with_every_call)
+    axes.set_xlabel("cycles from the end of a domain's slot: the bound on the switch, the least pad")
 
 
 def _untold(strip: Strip, slots: int) -> str:
@@ -141,8 +173,9 @@ def _many(number: int, what: str) -> str:
     return f"{number:,} {what}{'' if number == 1 else 's'}"
 
 
-def _legend(strips: Sequence[Strip]) -> list[Patch | Line2D]:
+def _legend(strips: Sequence[Strip], has_bounds: bool) -> list[Patch | Line2D]:
     is_replayed = any(strip.replay is not None for strip in strips)
+    saved = Patch(facecolor="none", edgecolor=colour_of(0), hatch=_SAVED, label="saved by calls left out")
     return [
         Patch(
             facecolor=colour_of(0),
@@ -160,4 +193,5 @@ def _legend(strips: Sequence[Strip]) -> list[Patch | Line2D]:
         ),
         Patch(facecolor=_PAD, label="pad"),
         Patch(facecolor=_USED, label="cycles that the switch used"),
+        *([saved] if has_bounds else []),
     ]

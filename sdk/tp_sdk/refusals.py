@@ -52,14 +52,15 @@ class Columns:
 
 @dataclass(frozen=True)
 class Case:
-    """A case of a rule. `broken` has the words of docs/IMAGE.md where it has a table of the rule's cases."""
+    """A case of a rule. `broken` has the words of docs/IMAGE.md where it has a table of the rule's cases;
+    `holds` says of a refusal of an image of a version whether it is of this case."""
 
     columns: Columns
     number: int
     broken: str
     wants: str
     place: Callable[[Refusal, Image], Path | None]
-    holds: Callable[[Refusal], bool] = lambda refusal: True
+    holds: Callable[[Refusal, int], bool] = lambda refusal, version: True
     is_of_key: bool = False  # and not of what stands there
     # where that stands with which it clashes
     other: Callable[[Refusal, Image], Path | None] = lambda refusal, image: None
@@ -157,6 +158,13 @@ def _earlier_segment(refusal: Refusal, image: Image) -> Path | None:
     return None
 
 
+def _call_before(refusal: Refusal, image: Image) -> Path | None:
+    """The item before the one found, where that is a call."""
+    call = image["domain"][refusal.at]["calls"][refusal.found]
+    is_call = keys.CALL.low <= call <= keys.CALL.high
+    return ("domain", refusal.at, "calls", refusal.found - 1) if is_call else None
+
+
 def _other_key(refusal: Refusal, image: Image) -> Path | None:
     return next(keys.other_keys(image), None)
 
@@ -168,20 +176,25 @@ def _of_row(row: keys.KeyRow) -> Callable[[Refusal, Image], Path | None]:
 # ---- which case
 
 
-def _at_is(at: int) -> Callable[[Refusal], bool]:
-    return lambda refusal: refusal.at == at
+def _at_is(at: int) -> Callable[[Refusal, int], bool]:
+    return lambda refusal, version: refusal.at == at
 
 
-def _wanted_is(wanted: int) -> Callable[[Refusal], bool]:
-    return lambda refusal: refusal.wanted == wanted
+def _wanted_is(wanted: int) -> Callable[[Refusal, int], bool]:
+    return lambda refusal, version: refusal.wanted == wanted
 
 
-def _is_low(refusal: Refusal) -> bool:
+def _is_low(refusal: Refusal, version: int) -> bool:
     return refusal.found < refusal.wanted
 
 
-def _is_high(refusal: Refusal) -> bool:
+def _is_high(refusal: Refusal, version: int) -> bool:
     return refusal.found > refusal.wanted
+
+
+def _is_of_many_domains(refusal: Refusal, version: int) -> bool:
+    """It tells how many domains there are, in the place of a domain's number the most that there may be."""
+    return refusal.at == keys.LIMITS[version].domains.high
 
 
 # ---- the rows
@@ -194,7 +207,7 @@ _K2 = Columns(
     2,
     "a key is missing, of another kind, or one too many",
     "the row of the table of keys",
-    "the domain (rows 11 to 21), the entry (rows 23 to 25), else 0",
+    "the domain (rows 11 to 21, and 29), the entry (rows 23 to 25), else 0",
     "0",
 )
 _K3 = Columns(
@@ -205,7 +218,13 @@ _K5 = Columns(
     5, "there are too few page colours, or too many", "0", "how many there are", "the end that they pass"
 )
 _K6 = Columns(6, "a cost is out of its range", "its place, 1 to 9", "the cost", "the end that it passes")
-_K7_MANY = Columns(7, "there are too few domains, or too many", "16", "how many there are", "16")
+_K7_MANY = Columns(
+    7,
+    "there are too few domains, or too many",
+    "16, in version 2 32",
+    "how many there are",
+    "16, in version 2 32",
+)
 _K7_NAME = Columns(7, "a name is none", "the domain", "the name's bytes", "16")
 _K7_TWICE = Columns(7, "a name stands twice", "the later domain", "the earlier domain", "0")
 _K8 = Columns(
@@ -230,13 +249,24 @@ _K15_MANY = Columns(15, "there are more than 1,024 moments", "the domain", "how 
 _K15_ONE = Columns(15, "a moment", "the domain", "its place", "the case, 2 to 4")
 _K16_MANY = Columns(16, "there are too few entries, or too many", "0", "how many there are", "1")
 _K16_ONE = Columns(16, "an entry", "the entry", "the value", "the case, 2 to 4")
-_K17 = Columns(17, "a pad is below the bound on a switch", "the entry", "the pad", "the bound")
+_K17 = Columns(17, "a pad is below the bound on its switch", "the entry", "the pad", "the bound")
+_K18 = Columns(18, "a domain's list of calls", "the domain", "the place in the list", "14")
 _K22_COST = Columns(22, "a cost of products is out of its range", "the case, 1 or 2", "the cost", "1000")
 _K22_TARGETS = Columns(22, "the target buffer has no size that there is", "3", "its places", "256")
 
 
 def _from_to(kind: keys.Within) -> str:
     return f"{kind.low:,} to {kind.high:,}"
+
+
+def limits_in_words(version: int) -> dict[str, str]:
+    """What a version has at `{frames}`, `{domains}` and `{entries}`, and what a later one takes."""
+    words = {}
+    for name in ("frames", "domains", "entries"):
+        own, last = (getattr(keys.LIMITS[it], name) for it in (version, keys.VERSION.high))
+        later = "" if own == last else f", or to {last.high:,} with `version = {keys.VERSION.high}`"
+        words[name] = _from_to(own) + later
+    return words
 
 
 def _any_of(words: tuple[str, ...]) -> str:
@@ -283,7 +313,7 @@ CASES: tuple[Case, ...] = (
         "`ways` is not 1 to 16",
         _from_to(keys.WAYS),
         _of_part("ways"),
-        lambda refusal: refusal.wanted == 2 and refusal.at != _PREDICTOR,
+        lambda refusal, version: refusal.wanted == 2 and refusal.at != _PREDICTOR,
     ),
     Case(
         _K3,
@@ -291,7 +321,7 @@ CASES: tuple[Case, ...] = (
         "of part 6, `history` is not 0 to 8",
         _from_to(keys.HISTORY),
         _at("history"),
-        lambda refusal: refusal.wanted == 2 and refusal.at == _PREDICTOR,
+        lambda refusal, version: refusal.wanted == 2 and refusal.at == _PREDICTOR,
     ),
     Case(
         _K3,
@@ -309,8 +339,8 @@ CASES: tuple[Case, ...] = (
         _of_part("ways"),
         _wanted_is(4),
     ),
-    Case(_K4, 1, "there are too few frames", _from_to(keys.FRAMES), _at("frames"), _is_low),
-    Case(_K4, 2, "there are too many frames", _from_to(keys.FRAMES), _at("frames"), _is_high),
+    Case(_K4, 1, "there are too few frames", "{frames}", _at("frames"), _is_low),
+    Case(_K4, 2, "there are too many frames", "{frames}", _at("frames"), _is_high),
     Case(
         _K5,
         1,
@@ -333,9 +363,9 @@ CASES: tuple[Case, ...] = (
         _K7_MANY,
         1,
         "the number of domains is {found}",
-        _from_to(keys.DOMAINS),
+        "{domains}",
         _at("domain"),
-        lambda refusal: refusal.at == keys.DOMAINS.high,
+        _is_of_many_domains,
     ),
     Case(
         _K7_NAME,
@@ -343,7 +373,7 @@ CASES: tuple[Case, ...] = (
         _K7_NAME.broken,
         "1 to 16 small letters (a to z) and digits",
         _of_domain("name"),
-        lambda refusal: refusal.at != keys.DOMAINS.high and refusal.wanted != 0,
+        lambda refusal, version: not _is_of_many_domains(refusal, version) and refusal.wanted != 0,
     ),
     Case(
         _K7_TWICE,
@@ -351,7 +381,7 @@ CASES: tuple[Case, ...] = (
         "{other:found} has this name",
         "a name of its own",
         _of_domain("name"),
-        lambda refusal: refusal.at != keys.DOMAINS.high and refusal.wanted == 0,
+        lambda refusal, version: not _is_of_many_domains(refusal, version) and refusal.wanted == 0,
         other=lambda refusal, image: ("domain", refusal.found, "name"),
     ),
     Case(
@@ -360,7 +390,7 @@ CASES: tuple[Case, ...] = (
         "no domain can have this colour (0 is the kernel's, and there are {wanted})",
         "a colour from 1 to {last}",
         _in_list("colours", again=False),
-        lambda refusal: not 1 <= refusal.found < refusal.wanted,
+        lambda refusal, version: not 1 <= refusal.found < refusal.wanted,
     ),
     Case(
         _K8,
@@ -368,7 +398,7 @@ CASES: tuple[Case, ...] = (
         "the colour stands twice in the list",
         "each colour once",
         _in_list("colours", again=True),
-        lambda refusal: 1 <= refusal.found < refusal.wanted,
+        lambda refusal, version: 1 <= refusal.found < refusal.wanted,
         other=_in_list("colours", again=False),
     ),
     Case(
@@ -514,7 +544,7 @@ CASES: tuple[Case, ...] = (
         "the line is named before, by {other:wanted}",
         "a line that no domain names before",
         _of_line_named_before,
-        lambda refusal: refusal.wanted != _NO_LINE,
+        lambda refusal, version: refusal.wanted != _NO_LINE,
         other=_in_list_of_wanted("lines"),
     ),
     Case(
@@ -554,7 +584,7 @@ CASES: tuple[Case, ...] = (
         _K16_MANY,
         1,
         "the number of entries is {found}",
-        _from_to(keys.ENTRIES),
+        "{entries}",
         _at("schedule"),
         _wanted_is(1),
     ),
@@ -585,9 +615,17 @@ CASES: tuple[Case, ...] = (
     Case(
         _K17,
         1,
-        "the pad is below the bound on a switch",
-        "`pad = {wanted}` or more",
+        "the pad is below the bound on its switch",
+        "`pad = {wanted}` or more{fewer}",
         _of_entry("pad"),
+    ),
+    Case(
+        _K18,
+        1,
+        "it is no call, or not above the one before",
+        f"calls that ascend, {_from_to(keys.CALL)}",
+        _of_item("calls"),
+        other=_call_before,
     ),
     *(
         Case(
@@ -611,9 +649,9 @@ CASES: tuple[Case, ...] = (
 )
 
 
-def case_of(refusal: Refusal) -> Case:
-    """The row of a refusal."""
+def case_of(refusal: Refusal, version: int = keys.VERSION.low) -> Case:
+    """The row of a refusal of an image of a version."""
     for case in CASES:
-        if case.rule == refusal.rule and case.holds(refusal):
+        if case.rule == refusal.rule and case.holds(refusal, version):
             return case
     raise Fault(f"no case of a rule is told by '{refusal}'")

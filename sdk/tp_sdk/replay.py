@@ -14,7 +14,7 @@ from dataclasses import dataclass
 from typing import Any
 
 from tp_sdk.faults import Fault
-from tp_sdk.keys import ENTRIES, LENGTH
+from tp_sdk.keys import LENGTH, limits_of
 from tp_sdk.program import Program
 from tp_sdk.refusals import Image
 from tp_sdk.report import Report, Section, parse_report
@@ -45,7 +45,8 @@ def replay(program: Program, image: Image, file: str, report: Report, count: int
     """The first slots of a report, where it is one of this image; else nothing."""
     if _sections(_run(program, image, file, report.slots)) != _sections(report):
         return None
-    written_out = image | {"schedule": image["schedule"] * (ENTRIES.high // len(image["schedule"]))}
+    most_entries = limits_of(image).entries.high
+    written_out = image | {"schedule": image["schedule"] * (most_entries // len(image["schedule"]))}
     count = min(count, report.slots, len(written_out["schedule"]))
     if count == 0:
         return None

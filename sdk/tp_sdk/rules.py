@@ -9,6 +9,8 @@ from dataclasses import dataclass
 from typing import Any
 
 from tp_sdk import keys
+from tp_sdk.bounds import bound_on_a_switch, calls_of
+from tp_sdk.calls import EVERY_CALL
 from tp_sdk.keys import KEY_ROWS, PAGE, PARTS, Place, Within
 from tp_sdk.refusals import Image, Refusal
 from tp_sdk.toml_places import Path
@@ -31,17 +33,22 @@ class Rules:
 
     def __init__(self, image: Image) -> None:
         self.image = image
-        self.rows = list(_broken_rows(image))
+        self.is_first_version = keys.version_of(image) == keys.VERSION.low
+        self.limits = keys.limits_of(image)
+        broken = list(_broken_rows(image))
+        self.rows = [(row.number, number) for row, number in broken]
         self.has_machine = not any(row <= 9 for row, _ in self.rows)
+        of_domains = {number for row, number in broken if "domain" in row.place.path}
+        of_entries = {number for row, number in broken if row.place is Place.ENTRY}
         self.domains = [
             _Domain(number, table)
             for number, table in enumerate(_tables(image, "domain"))
-            if not any(11 <= row <= 21 and of == number for row, of in self.rows)
+            if number not in of_domains
         ]
         self.entries = [
             (number, table)
             for number, table in enumerate(_tables(image, "schedule"))
-            if not any(23 <= row <= 25 and of == number for row, of in self.rows)
+            if number not in of_entries
         ]
 
     def broken(self) -> Iterator[Broken]:
@@ -51,7 +58,7 @@ class Rules:
         yield from sorted(rows, key=lambda it: it[0].at)
         values = [*self._machine(), *self._names(), *self._colours(), *self._shared()]
         values += [*self._segments(), *self._caps(), *self._lines(), *self._moments()]
-        values += [*self._schedule(), *self._pads(), *self._extensions()]
+        values += [*self._schedule(), *self._pads(), *self._calls(), *self._extensions()]
         yield from ((it, None) for it in sorted(values, key=lambda it: it.rule))
 
     # ---- the machine
@@ -64,7 +71,7 @@ class Rules:
         history = self._optional("history", 0)
         if not _is_within(history, keys.HISTORY):
             yield Refusal(3, PARTS[-1].number, history, 2)
-        yield from _outside(4, 0, self.image["frames"], keys.FRAMES)
+        yield from _outside(4, 0, self.image["frames"], self.limits.frames)
         if self._is_good(PARTS[0]) and self._is_good(PARTS[3]):
             yield from _outside(5, 0, self._count_colours(), keys.COLOURS)
         for place, cost in enumerate(keys.COSTS, 1):
@@ -110,13 +117,14 @@ class Rules:
 
     def _names(self) -> Iterator[Refusal]:
         count = len(_tables(self.image, "domain"))
-        if (10, 0) not in self.rows and not _is_within(count, keys.DOMAINS):
-            yield Refusal(7, keys.DOMAINS.high, count, keys.DOMAINS.high)
+        most = self.limits.domains.high
+        if (10, 0) not in self.rows and not _is_within(count, self.limits.domains):
+            yield Refusal(7, most, count, most)
         names: dict[str, int] = {}
         for it in self.domains:
             name = it.table["name"]
             if not re.fullmatch(keys.NAME, name):
-                yield Refusal(7, it.number, len(name.encode()), keys.DOMAINS.high)
+                yield Refusal(7, it.number, len(name.encode()), keys.NAME_MOST)
             elif name in names:
                 yield Refusal(7, it.number, names[name], 0)
             names.setdefault(name, it.number)
@@ -137,7 +145,7 @@ class Rules:
             yield from self._frames(it, there)
 
     def _frames(self, it: _Domain, there: int | None) -> Iterator[Refusal]:
-        if there is None or not _is_within(self.image["frames"], keys.FRAMES):
+        if there is None or not _is_within(self.image["frames"], self.limits.frames):
             return
         own = set(it.table["colours"])
         pool = sum(frame % there in own for frame in range(self.image["frames"]))
@@ -214,7 +222,7 @@ class Rules:
 
     def _schedule(self) -> Iterator[Refusal]:
         count = len(_tables(self.image, "schedule"))
-        if (22, 0) not in self.rows and not _is_within(count, keys.ENTRIES):
+        if (22, 0) not in self.rows and not _is_within(count, self.limits.entries):
             yield Refusal(16, 0, count, 1)
         domains = len(_tables(self.image, "domain"))
         for number, it in self.entries:
@@ -229,10 +237,31 @@ class Rules:
         broken = [*self._machine(), *self._shared()]
         if not self.has_machine or any(it.rule in (3, 6) or (it.rule, it.at) == (11, 1) for it in broken):
             return
-        bound = bound_on_a_switch(self.image | {"muldiv": self._optional("muldiv", None)})
+        image = self.image | {"muldiv": self._optional("muldiv", None)}
         for number, it in self.entries:
-            if _is_within(it["pad"], keys.PAD) and it["pad"] < bound:
+            calls = self._calls_of(it["domain"])
+            if calls is None or not _is_within(it["pad"], keys.PAD):
+                continue
+            bound = bound_on_a_switch(image, calls)
+            if it["pad"] < bound:
                 yield Refusal(17, number, it["pad"], bound)
+
+    def _calls_of(self, domain: int) -> frozenset[int] | None:
+        """The calls that an entry's domain may make, where they can be told."""
+        if self.is_first_version:
+            return EVERY_CALL
+        return calls_of(self.image, domain) if any(it.number == domain for it in self.domains) else None
+
+    # ---- calls
+
+    def _calls(self) -> Iterator[Refusal]:
+        if self.is_first_version:
+            return
+        for it in self.domains:
+            calls = it.table.get("calls", [])
+            for place, call in enumerate(calls):
+                if not _is_within(call, keys.CALL) or (place and call <= calls[place - 1]):
+                    yield Refusal(18, it.number, place, keys.CALL.high)
 
     # ---- products and the target buffer
 
@@ -246,40 +275,14 @@ class Rules:
             yield Refusal(22, 3, targets, keys.TARGETS.high)
 
 
-def bound_on_a_switch(image: Image) -> int:
-    """The least pad, by the parts that docs/IMAGE.md has."""
-    line = image["line"]
-    base, l1, l2, mem, wb, tlb, mispredict, trap, flush = (image["costs"][cost] for cost in keys.COSTS)
-    misses = l1 + l2 + mem
-    dirty = misses + wb
-    walk = l2 + mem
-    parts = (
-        base + 2 * (tlb + 2 * walk) + misses + dirty + mispredict + _most_added(image.get("muldiv")),
-        trap + 4 * misses + 5 * dirty + max(PAGE // line, 63) * dirty,
-        trap + 4 * misses + 3 * dirty,
-        image["shared"] // line * dirty,
-        flush + wb * image["l1d"]["sets"] * image["l1d"]["ways"],
-        4 * misses + 3 * dirty,
-    )
-    return int(sum(parts) - 1)
-
-
-def _most_added(muldiv: dict[str, int] | None) -> int:
-    """What a product or a division adds at most; a cost out of its range counts as none."""
-    if muldiv is None:
-        return 0
-    mul, div = (muldiv[cost] if _is_within(muldiv[cost], keys.COST) else 0 for cost in keys.PRODUCTS)
-    return max(mul, keys.DIVISION_STEPS * div)
-
-
-def _broken_rows(image: Image) -> Iterator[tuple[int, int]]:
+def _broken_rows(image: Image) -> Iterator[tuple[keys.KeyRow, int]]:
     """Each broken row of the table of keys, with the domain or entry; by the rows, then by those."""
-    for row in KEY_ROWS:
+    for row in keys.rows_of(image):
         root = row.place.path[0] if row.place is not Place.TOP else None
         count = 1 if root is None else len(_tables(image, root))
         for number in range(count):
             if keys.broken_place(row, image, number) is not None:
-                yield row.number, number
+                yield row, number
 
 
 def _tables(image: Image, key: str) -> list[dict[str, Any]]:

@@ -18,7 +18,36 @@ def image_schema() -> Schema:
         "title": "An image of tp",
         "description": "Made by `tp-explain --schema`; what it cannot say, `tp check` says.",
         **of_place(Place.TOP),
+        **of_versions(),
     }
+
+
+def of_versions() -> Schema:
+    """Each version's keys and limits; a table of a place has those of the last one."""
+    return {"anyOf": [_of_version(version) for version in keys.LIMITS]}
+
+
+def _of_version(version: int) -> Schema:
+    number: Schema = {"version": {"const": version}}
+    if version == keys.VERSION.high:
+        return {"properties": number, "required": ["version"]}
+    limits = keys.LIMITS[version]
+    later = [row for row in KEY_ROWS if row.since > version]
+    lacking = {place: {row.key: False for row in later if row.place is place} for place in Place}
+    domain, entry = {"properties": lacking[Place.DOMAIN]}, {"properties": _entry_of(limits)}
+    return {
+        "properties": {
+            **number,
+            **lacking[Place.TOP],
+            "frames": of_kind(limits.frames),
+            "domain": {"maxItems": limits.domains.high, "items": domain},
+            "schedule": {"maxItems": limits.entries.high, "items": entry},
+        }
+    }
+
+
+def _entry_of(limits: keys.Limits) -> Schema:
+    return {"domain": {"minimum": 0, "exclusiveMaximum": limits.domains.high}}
 
 
 def of_place(place: Place) -> Schema:
@@ -99,15 +128,16 @@ def _of_cache(part: keys.Part) -> Schema:
     }
 
 
+_MOST = keys.LIMITS[keys.VERSION.high]
 _VALUES: dict[tuple[Place, str], Schema] = {
-    (Place.TOP, "frames"): of_kind(keys.FRAMES),
+    (Place.TOP, "frames"): of_kind(_MOST.frames),
     (Place.TOP, "shared"): {"maximum": keys.SHARED_MOST},
     (Place.TOP, "costs"): {"properties": {cost: of_kind(keys.COST) for cost in keys.COSTS}},
     (Place.TOP, "history"): of_kind(keys.HISTORY),
     (Place.TOP, "muldiv"): {"properties": {cost: of_kind(keys.COST) for cost in keys.PRODUCTS}},
     (Place.TOP, "targets"): _powers_of_two(keys.TARGETS.low, keys.TARGETS.high),
-    (Place.TOP, "domain"): _ends("minItems", keys.DOMAINS.low, "maxItems", keys.DOMAINS.high),
-    (Place.TOP, "schedule"): _ends("minItems", keys.ENTRIES.low, "maxItems", keys.ENTRIES.high),
+    (Place.TOP, "domain"): _ends("minItems", _MOST.domains.low, "maxItems", _MOST.domains.high),
+    (Place.TOP, "schedule"): _ends("minItems", _MOST.entries.low, "maxItems", _MOST.entries.high),
     (Place.DOMAIN, "name"): {"pattern": f"^{keys.NAME}$"},
     (Place.DOMAIN, "colours"): {
         "items": {"type": "integer", "minimum": 1, "exclusiveMaximum": keys.COLOURS.high},
@@ -127,9 +157,10 @@ _VALUES: dict[tuple[Place, str], Schema] = {
         },
         "maxItems": keys.MOMENTS_MOST,
     },
+    (Place.DOMAIN, "calls"): {"items": of_kind(keys.CALL), "uniqueItems": True},
     (Place.SEGMENT, "rights"): {"enum": list(keys.RIGHTS)},
     (Place.SEGMENT, "hex"): {"pattern": f"^{keys.HEX}$"},
-    (Place.ENTRY, "domain"): {"minimum": 0, "exclusiveMaximum": keys.DOMAINS.high},
+    (Place.ENTRY, "domain"): _entry_of(_MOST)["domain"],
     (Place.ENTRY, "length"): of_kind(keys.LENGTH),
     (Place.ENTRY, "pad"): of_kind(keys.PAD),
 }

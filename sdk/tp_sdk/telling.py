@@ -6,7 +6,7 @@ from collections import Counter
 from dataclasses import asdict
 from typing import Any
 
-from tp_sdk.calls import PUT, callers_of, error_of
+from tp_sdk.calls import BAD_CALL, CALLS, EVERY_CALL, PUT, callers_of, error_of, in_words
 from tp_sdk.elf import Loaded
 from tp_sdk.known import Known
 from tp_sdk.report import Report, Section, Stop, Switch, Thread
@@ -52,7 +52,8 @@ class Telling:
 
     def domain(self, section: Section) -> DomainTold:
         """A domain's section."""
-        return DomainTold(section, self.known.program(section.number))
+        number = section.number
+        return DomainTold(section, self.known.program(number), self.known.calls_of(number))
 
     def _switch(self, switch: Switch) -> str:
         of = self._name_of_entry(switch)
@@ -78,11 +79,12 @@ class Telling:
 
 
 class DomainTold:
-    """A section, and the domain's program where it is known."""
+    """A section, the domain's program where it is known, and the calls that it may make."""
 
-    def __init__(self, section: Section, loaded: Loaded | None) -> None:
+    def __init__(self, section: Section, loaded: Loaded | None, calls: frozenset[int] = EVERY_CALL) -> None:
         self.section = section
         self.loaded = loaded
+        self.calls = calls
         self.symbols = loaded.symbols if loaded is not None else Symbols()
 
     # ---- what it came to
@@ -185,12 +187,18 @@ class DomainTold:
 
     def _refused(self, code: int, count: int) -> str:
         error = error_of(code)
-        callers = callers_of(code)
-        by = f", as {_any_of(callers)} can be" if callers else ""
         places = self._places_of(code)
         shown = ", ".join(map(str, places[:_PLACES_SHOWN])) + (", .." if count > _PLACES_SHOWN else "")
         which = "reply" if count == 1 else "replies"
-        return f"{count} by {error.name} ({code}: {error.so_where}){by}: {which} {shown}"
+        return f"{count} by {error.name} ({code}: {error.so_where}){self._callers(code)}: {which} {shown}"
+
+    def _callers(self, code: int) -> str:
+        """The calls that can be refused with a code, in words."""
+        callers = callers_of(code, self.calls)
+        if code == BAD_CALL.code and callers:
+            others = [call.name for call in CALLS if call.number in self.calls]
+            return f", as all but {in_words(others, 'and')} are" if others else ", as all are"
+        return f", as {in_words(callers, 'or')} can be" if callers else ""
 
     def _places_of(self, code: int) -> list[int]:
         """The places of a code among the replies, from 0."""
@@ -264,7 +272,8 @@ class DomainTold:
         }
 
     def _refused_fields(self, code: int) -> dict[str, Any]:
-        return asdict(error_of(code)) | {"calls": callers_of(code), "at": self._places_of(code)}
+        calls = callers_of(code, self.calls)
+        return asdict(error_of(code)) | {"calls": calls, "at": self._places_of(code)}
 
 
 def place_fields(place: Place) -> dict[str, Any]:
@@ -275,10 +284,6 @@ def place_fields(place: Place) -> dict[str, Any]:
 def steps_of(readings: tuple[int, ...]) -> list[int]:
     """Each reading less the one before it."""
     return [after - before for before, after in zip(readings, readings[1:])]
-
-
-def _any_of(names: list[str]) -> str:
-    return " or ".join([", ".join(names[:-1]), names[-1]] if len(names) > 1 else names)
 
 
 def _count(count: int, what: str) -> str:

@@ -1,14 +1,16 @@
-"""tp-explain: tells where an image breaks a rule, and what is wanted there."""
+"""tp-explain: tells where an image breaks a rule, and what is wanted there; or what its bounds are of."""
 
 from __future__ import annotations
 
 import json
 import sys
-from argparse import ArgumentParser, RawDescriptionHelpFormatter
+from argparse import ArgumentParser, Namespace, RawDescriptionHelpFormatter
 from pathlib import Path
 
+from tp_sdk.bounds import Bound, parse_bound
 from tp_sdk.explain import explain_all
-from tp_sdk.faults import EXIT_CODES, read_bytes
+from tp_sdk.explain_bound import BoundTold
+from tp_sdk.faults import EXIT_CODES, read_bytes, read_text
 from tp_sdk.refusals import Refusal
 from tp_sdk.schema import image_schema
 
@@ -16,6 +18,9 @@ _HELP = """Tells in a sentence where an image breaks a rule, what stands there, 
 
   ./tp check < mine.toml | tp-explain mine.toml
   tp-explain mine.toml 'refused K9 at 1 found 1 wanted 0'
+  ./tp bound < mine.toml | tp-explain mine.toml
+      what each part of the bound on a switch is of, and which calls of an entry's domain make it what
+      it is; whether each pad is enough
 
 The program tells the first rule that an image breaks; what else is broken comes after it, marked
 'also', as far as it can be told."""
@@ -24,12 +29,12 @@ _MOST_OTHERS = 20
 
 
 def main(words: list[str]) -> int:
-    """Writes the explanation, or the schema."""
+    """Writes the explanations, or the schema."""
     parser = ArgumentParser(
         "tp-explain", description=_HELP, epilog=EXIT_CODES, formatter_class=RawDescriptionHelpFormatter
     )
     parser.add_argument("image", type=Path, nargs="?", help="the image")
-    parser.add_argument("refusal", nargs="?", help="the program's line, else read from standard input")
+    parser.add_argument("refusal", nargs="?", help="what the program wrote, else read from standard input")
     parser.add_argument(
         "--json", action="store_true", help="writes an object with the place and the words, for editors"
     )
@@ -42,18 +47,31 @@ def main(words: list[str]) -> int:
         return 0
     if asked.image is None:
         parser.error("the image is wanted")
+    written = sys.stdin.read() if asked.refusal is None else asked.refusal
+    bound = parse_bound(written)
+    if bound is None:
+        _tell_refusal(asked, written.partition("\n")[0])
+    else:
+        _tell_bound(asked, bound)
+    return 0
+
+
+def _tell_refusal(asked: Namespace, line: str) -> None:
     text = read_bytes(asked.image)
-    line = sys.stdin.readline() if asked.refusal is None else asked.refusal
     if line.strip() == "accepted":
         print("accepted: no rule is broken")
-        return 0
+        return
     told, *others = explain_all(text, str(asked.image), Refusal.parse(line))
     if asked.json:
         print(json.dumps(told.fields() | {"also": [it.fields() for it in others]}))
-        return 0
+        return
     print(told.sentence())
     for other in others[:_MOST_OTHERS]:
         print(other.sentence(also=True))
     if len(others) > _MOST_OTHERS:
         print(f"{asked.image}: and {len(others) - _MOST_OTHERS} more")
-    return 0
+
+
+def _tell_bound(asked: Namespace, bound: Bound) -> None:
+    told = BoundTold(read_text(asked.image), str(asked.image), bound)
+    print(json.dumps(told.fields()) if asked.json else "\n".join(told.sentences()))

@@ -17,6 +17,7 @@ MOST_BYTES = 1_048_576
 
 _HELP = """Makes an image from a short description in TOML:
 
+  version = 2                   where it is of the second version of the format
   machine = "machine.toml"      a file with the keys of the machine (docs/IMAGE.md)
 
   [[domain]]
@@ -27,13 +28,14 @@ _HELP = """Makes an image from a short description in TOML:
   caps = ["irq 3", "data", "data+1", "none"]    a segment's name means its page
   lines = [3]
   moments = [[9000, 3]]
+  calls = ["exit", "put", "wait"]               of version 2: those that it may make, else all
   words = { key = 0x5a, "table+4" = [1, 2], title = "text", noise = "@noise.bin" }
                                 what stands at symbols: words, a string and a zero, a file's bytes
 
   [[schedule]]
   domain = "driver"             by name, or by its place as in an image
   length = 10000
-  pad = 6150                    left out: what `tp bound` says
+  pad = 6150                    left out: what `tp bound` says, in version 2 of this entry
 
 An image's own keys may stand in it, too: the machine's in the place of `machine`, `entry` and
 `segment` in that of `program`. So every image is a description.

@@ -10,8 +10,10 @@ from dataclasses import dataclass
 from math import log2
 from pathlib import Path
 
+from tp_sdk.bounds import EntryBound, bounds_of
 from tp_sdk.faults import EXIT_CODES, Fault, Missing, read_text
 from tp_sdk.information import Measured, entropy, measure
+from tp_sdk.keys import VERSION, version_of
 from tp_sdk.measurements import MEASURES, by_pads, by_schedule, measurements_of, rows_of
 from tp_sdk.memory import memory_of
 from tp_sdk.plot_matrix import Side, draw_channel
@@ -30,7 +32,8 @@ _HELP = """Draws reports of `tp run` and `tp ablate`, as NAME.svg or NAME.png:
 
   tp-plot timeline mine.toml mine.report -o mine.svg
       what was done in each slot, and what each switch used of its pad, as running the image
-      again tells; with no program, what the report alone does
+      again tells; with no program, what the report alone does; of an image of version 2 also each
+      domain's bound on a switch, beside the one with every call
   tp-plot readings FOLDER --domain spy -o spy.svg
       what one domain measured in each FOLDER/*.report: a spy beside many neighbours, say
   tp-plot matrix FOLDER OTHER --domain spy -o spy.svg
@@ -142,7 +145,17 @@ def _timeline(asked: Namespace) -> None:
     strips = [
         Strip(file.name, report, _replay(program, image, report, asked.slots)) for file, report in reports
     ]
-    draw_timeline(asked.out, image.names, image.entries, strips, asked.slots)
+    draw_timeline(asked.out, image.names, image.entries, strips, asked.slots, _bounds(image))
+
+
+def _bounds(image: _Scheduled) -> list[EntryBound]:
+    """The bounds of an image's entries, where its version has lists of calls, by which they differ."""
+    if version_of(image.image) == VERSION.low:
+        return []
+    try:
+        return bounds_of(image.image)
+    except (KeyError, IndexError, TypeError, ZeroDivisionError):
+        raise Fault(f"{image.file}: no bound can be told of it: does 'tp check' accept it?") from None
 
 
 def _replay(program: Program | None, image: _Scheduled, report: Report, slots: int) -> Replay | None:
