@@ -1,6 +1,4 @@
 // The most that an image has, with ample memory.
-ghost use Rattle.std.specs.Prelude.{◌≤◌};
-
 use crate::answers::{MACHINE, PRINTS_A, USAGE, answer, expect, tells};
 use crate::calls::{TEN_FRAMES, TEN_REPLIES};
 use std::alloc::Global;
@@ -22,9 +20,7 @@ fn many_segments(alloc: Global) -> Result<String, Fail> {
 }
 
 // So many domains with these segments, and with these further keys.
-fn many_domains(alloc: Global, count: u32, keys: &str, segments: &str) -> Result<String, Fail>
-    requires few { count ≤ 32 }
-{
+fn many_domains(alloc: Global, count: u32, keys: &str, segments: &str) -> Result<String, Fail> {
     let mut domains = String::new(alloc);
     for colour in 1..=count {
         let domain = format!(in alloc;
@@ -36,9 +32,7 @@ fn many_domains(alloc: Global, count: u32, keys: &str, segments: &str) -> Result
 }
 
 // So many entries with this pad of each of so many domains, one after the other.
-fn many_entries(alloc: Global, domains: u32, pad: u32, times: usize) -> Result<String, Fail>
-    requires few { domains ≤ 32 }
-{
+fn many_entries(alloc: Global, domains: u32, pad: u32, times: usize) -> Result<String, Fail> {
     let mut entries = String::new(alloc);
     for domain in 0..domains {
         let entry = format!(in alloc;
@@ -49,7 +43,7 @@ fn many_entries(alloc: Global, domains: u32, pad: u32, times: usize) -> Result<S
     Ok(entries.repeat(alloc, times)?)
 }
 
-// The most of the first version: 16 domains, and 64 entries.
+// 16 domains and 64 entries, the most of the first version.
 fn large_image(alloc: Global) -> Result<String, Fail> {
     let machine = MACHINE
         .replace(alloc, "frames = 64", "frames = 1024")?
@@ -60,12 +54,18 @@ fn large_image(alloc: Global) -> Result<String, Fail> {
     Ok(format!(in alloc; "{machine}{domains}{entries}")?)
 }
 
-// The most of the second version: 16,384 frames of 64 colours, 32 domains that may make few calls, and
-// 256 entries.
+// 16,384 frames of 64 colours, the most of the second version.
+fn larger_machine(alloc: Global) -> Result<String, Fail> {
+    Ok(
+        MACHINE
+            .replace(alloc, "frames = 64", "version = 2\nframes = 16384")?
+            .replace(alloc, "sets = 256", "sets = 4096")?,
+    )
+}
+
+// So are 32 domains, that may make few calls, and 256 entries.
 fn larger_image(alloc: Global) -> Result<String, Fail> {
-    let machine = MACHINE
-        .replace(alloc, "frames = 64", "version = 2\nframes = 16384")?
-        .replace(alloc, "sets = 256", "sets = 4096")?;
+    let machine = larger_machine(alloc)?;
     let segments = many_segments(alloc)?;
     let domains = many_domains(alloc, 32, "calls = [0, 1]\n", segments.as_str())?;
     let entries = many_entries(alloc, 32, 2374, 8)?;
@@ -111,18 +111,22 @@ fn the_second_version_has_more_of_all(rt: HostRuntime) -> Result<(), Fail> {
 const LAST_OF_32: &str =
     "domain 31 d32\nstatus exited 0\nretired 3\nthread 0 ended pc 00010010\nreadings 0\nreplies 1 last 0:0 list 0:0\nout 1 41\n";
 
-// Too much by one, or of the second version alone: what stands in the larger image, what stands there
-// in its place, and the refusal, with a bar between and ~ for a new line.
-const TOO_MUCH: &str = "frames = 16384|frames = 16385|K4 at 0 found 16385 wanted 16384
+// One more of each, the first version, and a last domain that breaks a rule: what stands first in the
+// larger image, what stands there in its place, and the refusal, with a bar between and ~ for a new line.
+const BROKEN: &str = "frames = 16384|frames = 16385|K4 at 0 found 16385 wanted 16384
 [[schedule]]~domain = 0~length|[[domain]]~name = \"e\"~colours = [33]~entry = 0x10000~segment = [{ page = 16, pages = 1, rights = \"rx\", hex = \"\" }]~[[schedule]]~domain = 0~length|K7 at 32 found 33 wanted 32
 [[schedule]]~domain = 0~length|[[schedule]]~domain = 1~length = 10000~pad = 2374~[[schedule]]~domain = 0~length|K16 at 0 found 257 wanted 1
-version = 2|version = 1|K2 at 26 found 0 wanted 0";
+version = 2|version = 1|K2 at 26 found 0 wanted 0
+name = \"d32\"|name = \"d16\"|K7 at 31 found 15 wanted 0
+colours = [32]|colours = [16]|K9 at 31 found 16 wanted 15
+domain = 31|domain = 32|K16 at 31 found 32 wanted 2
+name = \"d32\"~calls = [0, 1]|name = \"d32\"~calls = [0, 1, 0]|K18 at 31 found 2 wanted 14";
 
 #[test]
-fn one_more_is_too_much(rt: HostRuntime) -> Result<(), Fail> {
+fn more_than_the_second_version_has_is_refused(rt: HostRuntime) -> Result<(), Fail> {
     let alloc = rt.alloc();
     let image = larger_image(alloc)?;
-    for row in TOO_MUCH.split('\n') {
+    for row in BROKEN.split('\n') {
         let row = row.replace(alloc, "~", "\n")?;
         let mut fields = row.split('|');
         let old = fields.next().unwrap_or("");
@@ -150,9 +154,7 @@ const FAR_PAGE: &str = "37f41000930470002320940003290400";
 #[test]
 fn frames_past_those_of_the_first_version_are_used(rt: HostRuntime) -> Result<(), Fail> {
     let alloc = rt.alloc();
-    let machine = MACHINE
-        .replace(alloc, "frames = 64", "version = 2\nframes = 16384")?
-        .replace(alloc, "sets = 256", "sets = 4096")?;
+    let machine = larger_machine(alloc)?;
     let mut segments = format!(in alloc;
         "{{ page = 16, pages = 1, rights = \"rx\", hex = \"{FAR_PAGE}{TEN_FRAMES}\" }}"
     )?;

@@ -129,7 +129,13 @@ domain = 1|domain = 2|K16 at 1 found 2 wanted 2";
 // A version that there isn't knows each key; what no version knows is named before it.
 const VERSION: &str = "frames = 64|frames = 64|K2 at 28 found 0 wanted 0
 frames = 64|frames = 64~x = 1|K2 at 26 found 0 wanted 0
-colours = [2]|colours = [2]~calls = [1, 0]|K2 at 28 found 0 wanted 0";
+colours = [2]|colours = [2]~calls = [1, 0]|K2 at 28 found 0 wanted 0
+colours = [2]|colours = [2]~calls = 3|K2 at 28 found 0 wanted 0";
+
+// Of two rows that are broken the first is named.
+const CALLS_BEFORE_HISTORY: &str = "colours = [2]|colours = [2]~calls = 3|K2 at 29 found 1 wanted 0
+colours = [2]|colours = [2]~calls = [1, 0]|K2 at 30 found 0 wanted 0
+colours = [2]|colours = 2~calls = 3|K2 at 12 found 1 wanted 0";
 
 #[test]
 fn images_that_break_a_rule_are_refused(rt: HostRuntime) -> Result<(), Fail> {
@@ -139,6 +145,8 @@ fn images_that_break_a_rule_are_refused(rt: HostRuntime) -> Result<(), Fail> {
     for table in [KEYS, KEYS_OF_ITEMS, SEGMENTS, CAPS, CALLS] {
         refuses(&rt, rt.alloc(), "version = 2\n", table)?;
     }
+    let front = "version = 2\nhistory = true\n";
+    refuses(&rt, rt.alloc(), front, CALLS_BEFORE_HISTORY)?;
     for front in ["", "version = 1\n"] {
         refuses(&rt, rt.alloc(), front, CALLS_OF_THE_FIRST)?;
     }
