@@ -26,8 +26,24 @@ impl<P: Policy> Model for L1D<P> {
 }
 
 impl<P: Policy> L1D<P> {
-    ghost use Rattle.std.specs.Prelude.{◌≡◌, ℕ, Some, false, true, IfOk};
+    ghost use Rattle.std.specs.Prelude.{
+      ◌≡◌,
+      ◌<◌,
+      ◌+◌,
+      ◌*◌,
+      ℕ,
+      length,
+      Some,
+      None,
+      false,
+      true,
+      IfOk,
+      slice_index_or,
+    };
     ghost use Rattle.tp_base.specs.Ranges.{IsLine};
+    ghost use Rattle.set_cache.specs.Cache.{dirty_number};
+    ghost use Rattle.set_cache.specs.Contents.{kept_at};
+    ghost use Rattle.set_cache.specs.Lines.{dirty_kept, places_kept};
     ghost use Rattle.set_cache.specs.Calls.{IsGeometry, IsNew, IsTouch, IsFlush};
 
     /// A cache of fresh sets.
@@ -59,6 +75,32 @@ impl<P: Policy> L1D<P> {
         ensures victim { (victim : ℕ) → result.victim ≡ Some victim → IsLine victim }
     {
         self.cache.touch(line.number(), true)
+    }
+
+    /// How many lines are dirty.
+    pub fn dirty(&self) -> u32
+        ensures here { result ≡ dirty_kept self.now }
+    {
+        self.cache.dirty()
+    }
+
+    /// How many places lines have: the sets times the ways.
+    pub fn places(&self) -> u32
+        ensures value { result ≡ length (places_kept self.now.table) }
+        ensures table { result ≡ length self.now.table * self.now.ways }
+    {
+        self.cache.places()
+    }
+
+    /// The line at a place, its set times the ways plus its way, if it is dirty.
+    pub fn dirty_at(&self, place: u32) -> Option<Line>
+        requires below { place < length self.now.table * self.now.ways }
+        ensures here { (set way : ℕ) → set < length self.now.table → way < self.now.ways
+            → place ≡ set * self.now.ways + way
+            → result ≡ dirty_number (slice_index_or (kept_at self.now.table set).places way None) }
+        ensures listed { result ≡ dirty_number (slice_index_or (places_kept self.now.table) place None) }
+    {
+        Some(Line::new(self.cache.dirty_at(place)?))
     }
 
     /// Makes every set fresh, and answers how many lines were dirty.

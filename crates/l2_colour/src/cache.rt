@@ -1,5 +1,6 @@
-// The second level over a cache of sets, in which nothing is ever dirty.
-use set_cache::{Policy, SetCache};
+// The second level over a cache of sets, in which lines are dirty only where they are
+// written back into it.
+use set_cache::{Policy, SetCache, Touch};
 use std::alloc::Global;
 use std::marker::Model;
 use tp_base::{Colour, FrameNo, Line, Memory};
@@ -7,13 +8,15 @@ use tp_base::{Colour, FrameNo, Line, Memory};
 /// The bytes of a frame.
 const FRAME_SIZE: u32 = 4096;
 
-/// A second-level cache. It keeps the numbers of physical lines, and none is
-/// ever dirty. Its sets are shared out by colours: a line uses only sets of the
-/// colour of its frame.
+/// A second-level cache. It keeps the numbers of physical lines. Its sets are
+/// shared out by colours: a line uses only sets of the colour of its frame.
+/// Where lines are written back into it, those that it holds are dirty then;
+/// else none is ever dirty.
 #[derive(Drop)]
 pub struct L2<P: Policy> {
     line_size: u32,
     colours: u32,
+    back: bool,
     cache: SetCache<P>,
 }
 
@@ -24,16 +27,33 @@ impl<P: Policy> Model for L2<P> {
 
     ghost coded = { coded_l2 P.code };
 
-    ghost view = { λ a. record { line_size = a.line_size; cache = a.cache } };
+    ghost view = { λ a. record { line_size = a.line_size; back = a.back; cache = a.cache } };
 
-    ghost invariant = { λ a. IsL2 a.colours (record { line_size = a.line_size; cache = a.cache }) };
+    ghost invariant = { λ a. IsL2 a.colours (record {
+      line_size = a.line_size;
+      back = a.back;
+      cache = a.cache;
+    }) };
 }
 
 impl<P: Policy> L2<P> {
-    ghost use Rattle.std.specs.Prelude.{◌≡◌, ◌≢◌, ◌↔◌, ◌<◌, ◌≤◌, ℕ, length, IfOk};
-    ghost use Rattle.set_cache.specs.Contents.{kept_at};
-    ghost use Rattle.set_cache.specs.Lines.{IsClean};
-    ghost use Rattle.set_cache.specs.Calls.{IsGeometry, IsNew, TellsHit};
+    ghost use Rattle.std.specs.Prelude.{
+      ◌≡◌,
+      ◌≢◌,
+      ◌↔◌,
+      ◌<◌,
+      ◌≤◌,
+      ℕ,
+      false,
+      length,
+      None,
+      IfOk,
+      if◌then◌else◌,
+    };
+    ghost use Rattle.set_cache.specs.Cache.{Sets, marked_of};
+    ghost use Rattle.set_cache.specs.Contents.{StandsFor, SameShape, shape_of, kept_at};
+    ghost use Rattle.set_cache.specs.Lines.{IsClean, place_in};
+    ghost use Rattle.set_cache.specs.Calls.{IsGeometry, IsNew, IsTouch};
     ghost use Rattle.l2_colour.specs.Colours.{
       IsColoured,
       colours_of,
@@ -42,7 +62,8 @@ impl<P: Policy> L2<P> {
       colour_of_set,
     };
 
-    /// A cache of fresh sets, for lines of this many bytes.
+    /// A cache of fresh sets, for lines of this many bytes. `back`: lines are
+    /// written back into it.
     ///
     /// # Errors
     ///
@@ -53,10 +74,12 @@ impl<P: Policy> L2<P> {
         policy: P,
         sets: u32,
         ways: u32,
+        back: bool,
     ) -> Result<Self, Memory>
         requires coloured { IsColoured line_size sets }
         requires geometry { IsGeometry (P.takes policy) sets ways }
         ensures line_size { IfOk result (λ l2. l2.line_size ≡ line_size) }
+        ensures back { IfOk result (λ l2. l2.back ≡ back) }
         ensures made { IfOk result (λ l2. IsNew P.takes P.stands_for policy sets ways l2.cache) }
         ensures clean { IfOk result (λ l2. IsClean l2.cache) }
     {
@@ -65,22 +88,58 @@ impl<P: Policy> L2<P> {
         Ok(L2 {
             line_size,
             colours,
+            back,
             cache,
         })
     }
 
-    /// A touch of a line; whether it was here. It changes sets of the colour of
-    /// the line's frame alone, and no line is dirty then.
+    /// A touch of a line, which changes sets of the colour of the line's frame
+    /// alone. The line that it gives up is dirty only where lines are written back.
     #[inline(always)]
-    pub fn touch(&mut self, line: Line) -> bool
+    pub fn touch(&mut self, line: Line) -> Touch
         ensures line_size { self.new.line_size ≡ self.old.line_size }
-        ensures touch { TellsHit P.takes P.rule P.stands_for result line self.old.cache self.new.cache }
+        ensures back { self.new.back ≡ self.old.back }
+        ensures touch { IsTouch P.takes P.rule P.stands_for result line false
+            self.old.cache self.new.cache }
         ensures colour { (s : ℕ) → colour_of_set self.old.line_size s
             ≢ colour_of_line self.old.line_size (length self.old.cache.table) line
             → kept_at self.new.cache.table s ≡ kept_at self.old.cache.table s }
-        ensures clean { IsClean self.new.cache }
+        ensures clean { self.old.back ≡ false → result.dirty_victim ≡ false }
     {
         self.cache.load(line.number())
+    }
+
+    /// A dirty line that the first level gives up: it is dirty here then, if it is
+    /// here and lines are written back. Else it passes through to memory. It is no
+    /// touch: each line keeps its place, and each set its policy state.
+    #[inline(never)]
+    pub fn write_back(&mut self, line: Line)
+        ensures line_size { self.new.line_size ≡ self.old.line_size }
+        ensures back { self.new.back ≡ self.old.back }
+        ensures steps { (sets : Sets) → StandsFor P.stands_for self.old.cache sets
+            → StandsFor P.stands_for self.new.cache
+            (if self.old.back then marked_of (shape_of P.rule self.old.cache) sets line else sets) }
+        ensures shape { SameShape self.old.cache self.new.cache }
+        ensures colour { (s : ℕ) → colour_of_set self.old.line_size s
+            ≢ colour_of_line self.old.line_size (length self.old.cache.table) line
+            → kept_at self.new.cache.table s ≡ kept_at self.old.cache.table s }
+        ensures passes { self.old.back ≡ false → self.new ≡ self.old }
+        ensures absent { place_in self.old.cache line ≡ None → self.new ≡ self.old }
+        ensures places { (other : ℕ) → place_in self.new.cache other ≡ place_in self.old.cache other }
+        ensures states { (s : ℕ) → (kept_at self.new.cache.table s).state
+            ≡ (kept_at self.old.cache.table s).state }
+    {
+        if self.back && self.cache.holds(line.number()) {
+            self.cache.mark(line.number());
+        }
+    }
+
+    /// Whether lines are written back into it.
+    #[inline(always)]
+    pub fn back(&self) -> bool
+        ensures value { result ≡ self.now.back }
+    {
+        self.back
     }
 
     /// The colour of a frame: its number modulo the number of colours.

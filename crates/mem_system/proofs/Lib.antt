@@ -1,4 +1,5 @@
 pub mod Leaves
 pub mod Touches
+pub mod WriteBacks
 pub mod TouchLaws
 pub mod LineSizes

@@ -1,17 +1,18 @@
 -- The laws of touches: colours, costs, hits, and what isn't touched.
 use Rattle.std.proofs.Common.{arith, ◌≡◌, ◌≢◌, ◌∙◌, sym, refl, ap, subst, inl, inr, ◌⊎◌, true≢false, ℕ, ◌+◌, ◌*◌, ◌/◌, ◌%◌, ◌≤◌, Bool, true, false, List, [], ◌∷◌, length, Option, Some, None, get_or, set}
-use Rattle.std.specs.Prelude.{◌==◌, ◌&&◌, if◌then◌else◌, All, is_some, option_map, slice_index, slice_index_or}
+use Rattle.std.specs.Prelude.{◌==◌, ◌&&◌, not, if◌then◌else◌, All, ◌++◌, map, is_some, option_map, slice_index, slice_index_or}
 use Rattle.std.proofs.lemmas.List.{get_or-set_other}
-use Rattle.std.proofs.lemmas.List.Elements.{All-nil, All-head, All-tail}
+use Rattle.std.proofs.lemmas.List.Elements.{All-nil, All-cons, All-head, All-tail, All-append, All-map}
 use Rattle.tp_base.specs.Table.{at-put_other}
 use Rattle.set_cache.specs.Rule.{Rule}
-use Rattle.set_cache.specs.Cache.{Sets, CacheSet, Shape, fresh_set, set_at, step_of, step_by, way_of, touch_of, place_of}
+use Rattle.set_cache.specs.Cache.{Sets, CacheSet, Shape, fresh_set, set_at, step_of, step_by, way_of, touch_of, place_of, marked_of, dirty_lines, EachDirty}
+use Rattle.set_cache.proofs.Dirty.{dirty_victim_fits, dirty_lines_fit, set_at-marked_other}
 use Rattle.l2_colour.specs.Colours.{IsColoured, colour_of_set}
 use Rattle.l2_colour.proofs.Rows.{line_in_colour}
 use Rattle.branch_pred.specs.Guesses as counters
 use Rattle.branch_pred.specs.Guesses.{Guesses, counter_of, next_counter, target_place, jump, is_wrong_branch, is_wrong_jump}
 use Rattle.mem_system.specs.Hierarchy.{Hierarchy, colour_of_line}
-use Rattle.mem_system.specs.Cost.{Touch, Fetch, Load, Store, WalkRead, Look, Branch, Jump, EmptyTlb, Flush, Charge, Core, Caches, below, below_if, below_by, below_all, pass_on, touched, on_core, fetched, accessed, looked, guessed, branched, jumped, flushed, unless_hit}
+use Rattle.mem_system.specs.Cost.{Touch, Fetch, Load, Store, WalkRead, Look, Branch, Jump, EmptyTlb, Flush, Charge, Core, Caches, Passed, Read, WriteBack, given_up, missed_cost, marked_where, is_pinned, below, below_if, below_by, below_all, pass_on, touched, on_core, fetched, accessed, looked, guessed, branched, jumped, flushed, unless_hit}
 use Rattle.mem_system.specs.TouchLaws.{lines_in_l1i, lines_in_l1d, lines_in_l2, pages_in_tlb, branches_in, jumps_in, is_flush, empties_tlb, holds, IsCostBelow, IsCostOfData, IsCostOfWalk, IsCost}
 
 -- ---- colours
@@ -44,56 +45,96 @@ module _ (h : Hierarchy) where
       at-put_other (fresh_set h.l2.ways) sets (other % h.l2.count) s (step_of h.l2.rule set other false).next
       (apart refl)
 
+  marked_where_spares : (test : Bool) (sets : Sets) (s other : ℕ) → (test ≡ true → s ≢ other % h.l2.count)
+      → set_at h.l2.ways (marked_where test h sets other) s ≡ set_at h.l2.ways sets s
+  marked_where_spares true sets s other apart = set_at-marked_other h.l2 sets other s (apart refl)
+  marked_where_spares false sets s other apart = refl
+
   -- a line that gets to the sets of the second level stands in another set than this one
   abbrev pub Spares : Bool → ℕ → ℕ → Type 0
-  Spares pinned s other = (pinned && colour_of_line h other == 0) ≡ false → s ≢ other % h.l2.count
+  Spares pinned s other = is_pinned h pinned other ≡ false → s ≢ other % h.l2.count
+
+  -- whatever comes to it
+  abbrev pub SparesOne : Bool → ℕ → Passed → Type 0
+  SparesOne pinned s (Read line) = Spares pinned s line
+  SparesOne pinned s (WriteBack line) = Spares pinned s line
 
   module _ (pinned : Bool) (s : ℕ) where
-    all_spare : (lines : List ℕ) (sets : Sets) → All (Spares pinned s) lines
-        → set_at h.l2.ways (below_all h pinned sets lines).l2 s ≡ set_at h.l2.ways sets s
-    unfolding below_all below
-    all_spare [] sets spare = refl
-    all_spare (line ∷ lines) sets spare =
-        all_spare lines (below h pinned sets line).l2 (All-tail (Spares pinned s) line lines spare)
-        ∙ below_if_spares (pinned && colour_of_line h line == 0) sets s line
-        (All-head (Spares pinned s) line lines spare)
+    below_spares : (one : Passed) (sets : Sets) → SparesOne pinned s one
+        → set_at h.l2.ways (below h pinned sets one).l2 s ≡ set_at h.l2.ways sets s
+    unfolding below
+    below_spares (Read line) sets spare = below_if_spares (is_pinned h pinned line) sets s line spare
+    below_spares (WriteBack line) sets spare =
+        marked_where_spares (h.back && not (is_pinned h pinned line)) sets s line
+        (λ comes. spare (not_pinned h.back (is_pinned h pinned line) comes))
+      where
+        not_pinned : (back test : Bool) → (back && not test) ≡ true → test ≡ false
+        not_pinned true true comes = absurd (true≢false (sym comes))
+        not_pinned true false comes = refl
+        not_pinned false test comes = absurd (true≢false (sym comes))
 
--- what is so of the lines of a touch is so of those that it hands on
-module _ (P : ℕ → Type 0) where
-  unless_all : (hit : Bool) (line : ℕ) → All P (line ∷ []) → All P (unless_hit hit line)
-  unless_all true line all = All-nil P
-  unless_all false line all = all
+    all_spare : (passed : List Passed) (sets : Sets) → All (SparesOne pinned s) passed
+        → set_at h.l2.ways (below_all h pinned sets passed).l2 s ≡ set_at h.l2.ways sets s
+    unfolding below_all
+    all_spare [] sets spare = refl
+    all_spare (one ∷ passed) sets spare =
+        all_spare passed (below h pinned sets one).l2 (All-tail (SparesOne pinned s) one passed spare)
+        ∙ below_spares one sets (All-head (SparesOne pinned s) one passed spare)
+
+-- what is so of the lines of a touch, and of the dirty lines, is so of what goes on
+module _ (P : Passed → Type 0) where
+  unless_all : (hit : Bool) (line : ℕ) → P (Read line) → All P (unless_hit hit line)
+  unless_all true line its = All-nil P
+  unless_all false line its = All-cons P (Read line) [] its (All-nil P)
+
+  given_all : (victim : Option ℕ) (dirty : Bool) → ((line : ℕ) → victim ≡ Some line → dirty ≡ true → P (WriteBack line))
+      → All P (given_up victim dirty)
+  given_all (Some line) true its = All-cons P (WriteBack line) [] (its line refl refl) (All-nil P)
+  given_all (Some line) false its = All-nil P
+  given_all None dirty its = All-nil P
+
+  accessed_all : (h : Hierarchy) (core : Core) (line : ℕ) (store : Bool) → P (Read line)
+      → EachDirty (λ n. P (WriteBack n)) h.l1d core.l1d → All P (accessed h core line (touch_of h.l1d core.l1d line store)).passed
+  unfolding accessed
+  accessed_all h core line store its dirty =
+      let answer = (touch_of h.l1d core.l1d line store).answer in
+      All-append P (given_up answer.victim answer.dirty_victim) (unless_hit answer.hit line)
+      (given_all answer.victim answer.dirty_victim
+      (λ victim is marked. dirty_victim_fits (λ n. P (WriteBack n)) h.l1d core.l1d line store victim is marked dirty))
+      (unless_all answer.hit line its)
 
   looked_all : (h : Hierarchy) (core : Core) (page : ℕ) (reads : List ℕ) (found held : Bool)
-      → All P reads → All P (looked h core page reads found held).lines
+      → All (λ n. P (Read n)) reads → All P (looked h core page reads found held).passed
   unfolding looked
   looked_all h core page reads found true all = All-nil P
-  looked_all h core page reads true false all = all
-  looked_all h core page reads false false all = all
+  looked_all h core page reads true false all = All-map P Read reads all
+  looked_all h core page reads false false all = All-map P Read reads all
 
-  pub handed_on : (h : Hierarchy) (core : Core) (touch : Touch)
-      → All P (lines_in_l2 touch) → All P (on_core h core touch).lines
-  unfolding on_core fetched accessed guessed branched jumped flushed
-  handed_on h core (Fetch line) all = unless_all (touch_of h.l1i core.l1i line false).answer.hit line all
-  handed_on h core (Load line) all = unless_all (touch_of h.l1d core.l1d line false).answer.hit line all
-  handed_on h core (Store line) all = unless_all (touch_of h.l1d core.l1d line true).answer.hit line all
-  handed_on h core (WalkRead line) all = all
-  handed_on h core (Look page reads found) all =
+  pub handed_on : (h : Hierarchy) (core : Core) (touch : Touch) → All (λ n. P (Read n)) (lines_in_l2 touch)
+      → EachDirty (λ n. P (WriteBack n)) h.l1d core.l1d → All P (on_core h core touch).passed
+  unfolding on_core fetched guessed branched jumped flushed
+  handed_on h core (Fetch line) all dirty =
+      unless_all (touch_of h.l1i core.l1i line false).answer.hit line (All-head (λ n. P (Read n)) line [] all)
+  handed_on h core (Load line) all dirty = accessed_all h core line false (All-head (λ n. P (Read n)) line [] all) dirty
+  handed_on h core (Store line) all dirty = accessed_all h core line true (All-head (λ n. P (Read n)) line [] all) dirty
+  handed_on h core (WalkRead line) all dirty = All-map P Read (line ∷ []) all
+  handed_on h core (Look page reads found) all dirty =
       looked_all h core page reads found (is_some (place_of h.tlb core.tlb page)) all
-  handed_on h core (Branch pc taken target) all = All-nil P
-  handed_on h core (Jump pc target) all = All-nil P
-  handed_on h core EmptyTlb all = All-nil P
-  handed_on h core Flush all = All-nil P
-  handed_on h core (Charge cycles) all = All-nil P
+  handed_on h core (Branch pc taken target) all dirty = All-nil P
+  handed_on h core (Jump pc target) all dirty = All-nil P
+  handed_on h core EmptyTlb all dirty = All-nil P
+  handed_on h core Flush all dirty =
+      All-map P WriteBack (dirty_lines h.l1d core.l1d) (dirty_lines_fit (λ n. P (WriteBack n)) h.l1d core.l1d dirty)
+  handed_on h core (Charge cycles) all dirty = All-nil P
 
 module _ (h : Hierarchy) where
   pub touch_spares : (pinned : Bool) (caches : Caches) (touch : Touch) (s : ℕ)
-      → All (Spares h pinned s) (lines_in_l2 touch)
+      → All (Spares h pinned s) (lines_in_l2 touch) → EachDirty (Spares h pinned s) h.l1d caches.core.l1d
       → set_at h.l2.ways (touched h pinned caches touch).caches.l2 s ≡ set_at h.l2.ways caches.l2 s
   unfolding touched pass_on
-  touch_spares pinned caches touch s spare =
-      all_spare h pinned s (on_core h caches.core touch).lines caches.l2
-      (handed_on (Spares h pinned s) h caches.core touch spare)
+  touch_spares pinned caches touch s spare dirty =
+      all_spare h pinned s (on_core h caches.core touch).passed caches.l2
+      (handed_on (SparesOne h pinned s) h caches.core touch spare dirty)
 
   -- a touch leaves the set of a line in the second level as it was
   abbrev LeavesLine : Bool → Caches → Touch → ℕ → Type 0
@@ -104,10 +145,12 @@ module _ (h : Hierarchy) where
   pub apart : (pinned : Bool) (caches : Caches) (touch : Touch) (line : ℕ)
       → IsColoured h.line_size h.l2.count
       → All (λ other. colour_of_line h other ≢ colour_of_line h line) (lines_in_l2 touch)
+      → EachDirty (λ other. colour_of_line h other ≢ colour_of_line h line) h.l1d caches.core.l1d
       → LeavesLine pinned caches touch line
-  apart pinned caches touch line coloured others =
+  apart pinned caches touch line coloured others dirty =
       touch_spares pinned caches touch (line % h.l2.count)
       (λ k d lt _. sets_apart h line (get_or (lines_in_l2 touch) k d) coloured (others k d lt))
+      (λ s way kept at marked _. sets_apart h line kept.number coloured (dirty s way kept at marked))
 
 not_first : (k : ℕ) → (true && k == 0) ≡ false → k ≢ 0
 not_first k other first = true≢false (subst (λ (j : ℕ). (true && j == 0) ≡ false) first other)
@@ -115,17 +158,23 @@ not_first k other first = true≢false (subst (λ (j : ℕ). (true && j == 0) �
 pub pinned_stay : (h : Hierarchy) (caches : Caches) (touch : Touch) (line : ℕ)
     → IsColoured h.line_size h.l2.count → colour_of_line h line ≡ 0 → LeavesLine h true caches touch line
 pinned_stay h caches touch line coloured first =
-    let colour : (k d : ℕ) → ℕ = λ k d. colour_of_line h (get_or (lines_in_l2 touch) k d) in
-    touch_spares h true caches touch (line % h.l2.count)
-    (λ k d lt other. sets_apart h line (get_or (lines_in_l2 touch) k d) coloured
-    (λ same. not_first (colour k d) other (same ∙ first)))
+    let spared : (n : ℕ) → Spares h true (line % h.l2.count) n
+    = λ n other. sets_apart h line n coloured (λ same. not_first (colour_of_line h n) other (same ∙ first)) in
+    touch_spares h true caches touch (line % h.l2.count) (λ k d lt. spared (get_or (lines_in_l2 touch) k d))
+    (λ s way kept at marked. spared kept.number)
 
 -- ---- costs
 
-hit_or_miss : (hit : Bool) (l2 mem : ℕ)
-    → (l2 + (if hit then 0 else mem) ≡ l2) ⊎ (l2 + (if hit then 0 else mem) ≡ l2 + mem)
-hit_or_miss true l2 mem = inl (omega arith)
-hit_or_miss false l2 mem = inr refl
+-- what a line costs at the second level, in these of its costs
+abbrev IsLineCost : Bool → ℕ → ℕ → ℕ → ℕ → Type 0
+IsLineCost back l2 mem wb cost = (cost ≡ l2) ⊎ ((cost ≡ l2 + mem) ⊎ ((back ≡ true) × (cost ≡ l2 + (mem + wb))))
+
+hit_or_miss : (hit back marked : Bool) (l2 mem wb : ℕ)
+    → IsLineCost back l2 mem wb (l2 + (if hit then 0 else mem + (if back && marked then wb else 0)))
+hit_or_miss true back marked l2 mem wb = inl (omega arith)
+hit_or_miss false true true l2 mem wb = inr (inr (refl, refl))
+hit_or_miss false true false l2 mem wb = inr (inl (omega arith))
+hit_or_miss false false marked l2 mem wb = inr (inl (omega arith))
 
 guess_cost : (wrong : Bool) (n : ℕ) → ((if wrong then n else 0) + 0 ≡ 0) ⊎ ((if wrong then n else 0) + 0 ≡ n)
 guess_cost true n = inr (omega arith)
@@ -134,34 +183,54 @@ guess_cost false n = inl refl
 module _ (h : Hierarchy) where
   -- what one line costs at the second level
   abbrev IsCostOfLine : ℕ → Type 0
-  IsCostOfLine cost = (cost ≡ h.costs.l2) ⊎ (cost ≡ h.costs.l2 + h.costs.mem)
+  IsCostOfLine cost = IsLineCost h.back h.costs.l2 h.costs.mem h.costs.wb cost
 
   below_if_cost : (test : Bool) (sets : Sets) (line : ℕ) → IsCostOfLine (below_if test h sets line).cost
-  unfolding below_if below_by
+  unfolding below_if below_by missed_cost
   below_if_cost true sets line = inl refl
   below_if_cost false sets line =
-      hit_or_miss (touch_of h.l2 sets line false).answer.hit h.costs.l2 h.costs.mem
+      let answer = (touch_of h.l2 sets line false).answer in
+      hit_or_miss answer.hit h.back answer.dirty_victim h.costs.l2 h.costs.mem h.costs.wb
 
   record IsCostOfReads (reads cost : ℕ) : Type 0 where
     misses : ℕ
+    written : ℕ
     few : misses ≤ reads
-    sum : cost ≡ reads * h.costs.l2 + misses * h.costs.mem
+    fewer : written ≤ misses
+    none : h.back ≡ false → written ≡ 0
+    sum : cost ≡ reads * h.costs.l2 + misses * h.costs.mem + written * h.costs.wb
 
   module _ (pinned : Bool) where
     -- what lines that go on cost
-    abbrev cost_of : Sets → List ℕ → ℕ
-    cost_of sets lines = (below_all h pinned sets lines).cost
+    abbrev cost_of : Sets → List Passed → ℕ
+    cost_of sets passed = (below_all h pinned sets passed).cost
 
-    below_cost : (sets : Sets) (line : ℕ) → IsCostOfLine (below h pinned sets line).cost
+    below_cost : (sets : Sets) (line : ℕ) → IsCostOfLine (below h pinned sets (Read line)).cost
     unfolding below
-    below_cost sets line = below_if_cost (pinned && colour_of_line h line == 0) sets line
+    below_cost sets line = below_if_cost (is_pinned h pinned line) sets line
 
-    one_cost : (sets : Sets) (line first : ℕ) → IsCostBelow h first (first + cost_of sets (line ∷ []))
+    one_cost : (sets : Sets) (line first : ℕ) → IsCostBelow h first (first + cost_of sets (Read line ∷ []))
     unfolding below_all
     one_cost sets line first = elim (below_cost sets line) [
       | inl e ↦ inl (omega (arith, e))
-      | inr e ↦ inr (omega (arith, e))
+      | inr (inl e) ↦ inr (inl (omega (arith, e)))
+      | inr (inr (on, e)) ↦ inr (inr (on, omega (arith, e)))
     ]
+
+    -- write-backs cost nothing there
+    backs_cost : (lines : List ℕ) (sets : Sets) → cost_of sets (map WriteBack lines) ≡ 0
+    unfolding below_all below
+    backs_cost [] sets = refl
+    backs_cost (line ∷ lines) sets =
+        let rest = backs_cost lines (below h pinned sets (WriteBack line)).l2 in
+        omega (arith, rest)
+
+    given_cost : (sets : Sets) (victim : Option ℕ) (dirty : Bool) (passed : List Passed)
+        → (kept : Sets) × (cost_of sets (given_up victim dirty ++ passed) ≡ cost_of kept passed)
+    unfolding below_all below
+    given_cost sets (Some line) true passed = ((below h pinned sets (WriteBack line)).l2, omega arith)
+    given_cost sets (Some line) false passed = (sets, refl)
+    given_cost sets None dirty passed = (sets, refl)
 
     abbrev IsCostOfFetch : ℕ → Type 0
     IsCostOfFetch cost = (cost ≡ h.costs.l1) ⊎ IsCostBelow h h.costs.l1 cost
@@ -172,46 +241,72 @@ module _ (h : Hierarchy) where
     fetch_cost sets line true = inl (omega arith)
     fetch_cost sets line false = inr (one_cost sets line h.costs.l1)
 
-    missed_cost : (sets : Sets) (line : ℕ) (dirty : Bool)
-        → IsCostOfData h (h.costs.l1 + (if dirty then h.costs.wb else 0) + cost_of sets (line ∷ []))
-    missed_cost sets line true = inr (inr (one_cost sets line (h.costs.l1 + h.costs.wb)))
-    missed_cost sets line false = elim (one_cost sets line h.costs.l1) [
+    absent_cost : (sets : Sets) (line : ℕ) (dirty : Bool)
+        → IsCostOfData h (h.costs.l1 + (if dirty then h.costs.wb else 0) + cost_of sets (Read line ∷ []))
+    absent_cost sets line true = inr (inr (one_cost sets line (h.costs.l1 + h.costs.wb)))
+    absent_cost sets line false = elim (one_cost sets line h.costs.l1) [
       | inl e ↦ inr (inl (inl (omega (arith, e))))
-      | inr e ↦ inr (inl (inr (omega (arith, e))))
+      | inr (inl e) ↦ inr (inl (inr (inl (omega (arith, e)))))
+      | inr (inr (on, e)) ↦ inr (inl (inr (inr (on, omega (arith, e)))))
     ]
 
     data_cost : (sets : Sets) (rule : Rule) (set : CacheSet) (line : ℕ) (store : Bool) (way : Option ℕ)
         → let step = step_by rule set line store way in
         IsCostOfData h (h.costs.l1 + (if step.answer.dirty_victim then h.costs.wb else 0)
-        + cost_of sets (unless_hit step.answer.hit line))
+        + cost_of sets (given_up step.answer.victim step.answer.dirty_victim ++ unless_hit step.answer.hit line))
     unfolding below_all
     data_cost sets rule set line store (Some way) = inl (omega arith)
     data_cost sets rule set line store None =
-        missed_cost sets line (step_by rule set line store None).answer.dirty_victim
+        let answer = (step_by rule set line store None).answer in
+        let given = given_cost sets answer.victim answer.dirty_victim (Read line ∷ []) in
+        subst (λ (n : ℕ). IsCostOfData h (h.costs.l1 + (if answer.dirty_victim then h.costs.wb else 0) + n)) (sym given.1)
+        (absent_cost given.0 line answer.dirty_victim)
 
-    reads_cost : (sets : Sets) (reads : List ℕ) → IsCostOfReads (length reads) (cost_of sets reads)
+    reads_cost : (sets : Sets) (reads : List ℕ) → IsCostOfReads (length reads) (cost_of sets (map Read reads))
     unfolding below_all
-    reads_cost sets [] = record { misses = 0; few = omega arith; sum = omega arith }
+    reads_cost sets [] =
+        record { misses = 0; written = 0; few = omega arith; fewer = omega arith; none = λ _. refl; sum = omega arith }
     reads_cost sets (line ∷ lines) =
-        let rest = reads_cost (below h pinned sets line).l2 lines in
+        let rest = reads_cost (below h pinned sets (Read line)).l2 lines in
         elim (below_cost sets line) [
           | inl e ↦ record {
             misses = rest.misses;
+            written = rest.written;
             few = omega (arith, rest.few);
+            fewer = rest.fewer;
+            none = rest.none;
             sum = grind (arith, e, rest.sum);
           }
-          | inr e ↦ record {
+          | inr (inl e) ↦ record {
             misses = 1 + rest.misses;
+            written = rest.written;
             few = omega (arith, rest.few);
+            fewer = omega (arith, rest.fewer);
+            none = rest.none;
+            sum = grind (arith, e, rest.sum);
+          }
+          | inr (inr (on, e)) ↦ record {
+            misses = 1 + rest.misses;
+            written = 1 + rest.written;
+            few = omega (arith, rest.few);
+            fewer = omega (arith, rest.fewer);
+            none = λ off. absurd (true≢false (sym on ∙ off));
             sum = grind (arith, e, rest.sum);
           }
         ]
 
     walk_cost : (sets : Sets) (reads : List ℕ)
-        → IsCostOfWalk h (length reads) (h.costs.tlb + cost_of sets reads)
+        → IsCostOfWalk h (length reads) (h.costs.tlb + cost_of sets (map Read reads))
     walk_cost sets reads =
         let made = reads_cost sets reads in
-        record { misses = made.misses; few = made.few; sum = ap (λ (n : ℕ). h.costs.tlb + n) made.sum }
+        record {
+          misses = made.misses;
+          written = made.written;
+          few = made.few;
+          fewer = made.fewer;
+          none = made.none;
+          sum = ap (λ (n : ℕ). h.costs.tlb + n) made.sum;
+        }
 
     -- what a look-up costs, by whether its walk finds the page and the buffer holds it
     abbrev cost_of_look : Sets → Core → ℕ → List ℕ → Bool → Bool → ℕ
@@ -231,7 +326,7 @@ module _ (h : Hierarchy) where
         → let set = set_at h.l1d.ways caches.core.l1d (line % h.l1d.count) in
         let step = step_by h.l1d.rule set line store (way_of line set.places) in
         IsCostOfData h (h.costs.l1 + (if step.answer.dirty_victim then h.costs.wb else 0)
-        + cost_of caches.l2 (unless_hit step.answer.hit line))
+        + cost_of caches.l2 (given_up step.answer.victim step.answer.dirty_victim ++ unless_hit step.answer.hit line))
     line_cost caches line store =
         let set : CacheSet = set_at h.l1d.ways caches.core.l1d (line % h.l1d.count) in
         data_cost caches.l2 h.l1d.rule set line store (way_of line set.places)
@@ -250,7 +345,9 @@ module _ (h : Hierarchy) where
         guess_cost (is_wrong_branch caches.core.guesses pc taken target) h.costs.mispredict
     cost_is caches (Jump pc target) = guess_cost (is_wrong_jump caches.core.guesses pc target) h.costs.mispredict
     cost_is caches EmptyTlb = refl
-    cost_is caches Flush = omega arith
+    cost_is caches Flush =
+        let none = backs_cost (dirty_lines h.l1d caches.core.l1d) caches.l2 in
+        omega (arith, none)
     cost_is caches (Charge cycles) = omega arith
 
 -- ---- hits
@@ -262,24 +359,35 @@ module _ (rule : Rule) (set : CacheSet) (line : ℕ) (store : Bool) (f : ℕ →
   hit_of (Some way) held = refl
   hit_of None held = absurd (true≢false (sym held))
 
-  nothing_written : (wb : ℕ) (way : Option ℕ) → is_some (option_map f way) ≡ true
-      → (if (step_by rule set line store way).answer.dirty_victim then wb else 0) ≡ 0
-  nothing_written wb (Some way) held = refl
-  nothing_written wb None held = absurd (true≢false (sym held))
+  nothing_written : (way : Option ℕ) → is_some (option_map f way) ≡ true
+      → (step_by rule set line store way).answer.victim ≡ None
+  nothing_written (Some way) held = refl
+  nothing_written None held = absurd (true≢false (sym held))
+
+  nothing_dirty : (way : Option ℕ) → is_some (option_map f way) ≡ true
+      → (step_by rule set line store way).answer.dirty_victim ≡ false
+  nothing_dirty (Some way) held = refl
+  nothing_dirty None held = absurd (true≢false (sym held))
 
 module _ (shape : Shape) (sets : Sets) (line : ℕ) (store : Bool) (held : holds shape sets line ≡ true) where
   -- a line that a cache holds is a hit of a touch
-  held_hit : (touch_of shape sets line store).answer.hit ≡ true
+  pub held_hit : (touch_of shape sets line store).answer.hit ≡ true
   held_hit =
       let set : CacheSet = set_at shape.ways sets (line % shape.count) in
       hit_of shape.rule set line store (λ way. line % shape.count * shape.ways + way)
       (way_of line set.places) held
 
-  -- which writes nothing back
-  held_clean : (wb : ℕ) → (if (touch_of shape sets line store).answer.dirty_victim then wb else 0) ≡ 0
-  held_clean wb =
+  -- which gives nothing up
+  pub held_spares : (touch_of shape sets line store).answer.victim ≡ None
+  held_spares =
       let set : CacheSet = set_at shape.ways sets (line % shape.count) in
-      nothing_written shape.rule set line store (λ way. line % shape.count * shape.ways + way) wb
+      nothing_written shape.rule set line store (λ way. line % shape.count * shape.ways + way)
+      (way_of line set.places) held
+
+  held_clean : (touch_of shape sets line store).answer.dirty_victim ≡ false
+  held_clean =
+      let set : CacheSet = set_at shape.ways sets (line % shape.count) in
+      nothing_dirty shape.rule set line store (λ way. line % shape.count * shape.ways + way)
       (way_of line set.places) held
 
 hit_cost : (hit : Bool) (l2 mem : ℕ) → hit ≡ true → l2 + (if hit then 0 else mem) ≡ l2
@@ -292,8 +400,8 @@ module _ (h : Hierarchy) where
   unfolding below_if below_by
   below_if_held true sets line held = refl
   below_if_held false sets line held =
-      hit_cost (touch_of h.l2 sets line false).answer.hit h.costs.l2 h.costs.mem
-      (held_hit h.l2 sets line false held)
+      let answer = (touch_of h.l2 sets line false).answer in
+      hit_cost answer.hit h.costs.l2 (missed_cost h answer.dirty_victim) (held_hit h.l2 sets line false held)
 
   module _ (pinned : Bool) where
     nothing_below : (sets : Sets) (line : ℕ) (hit : Bool) → hit ≡ true
@@ -302,10 +410,16 @@ module _ (h : Hierarchy) where
     nothing_below sets line true held = refl
     nothing_below sets line false held = absurd (true≢false (sym held))
 
-    l2_least : (sets : Sets) (line : ℕ) → h.costs.l2 ≤ (below h pinned sets line).cost
+    -- what is held gives nothing up, so that nothing goes on
+    nothing_passed : (sets : Sets) (victim : Option ℕ) (dirty : Bool) (line : ℕ) (hit : Bool) → hit ≡ true → victim ≡ None
+        → cost_of h pinned sets (given_up victim dirty ++ unless_hit hit line) ≡ 0
+    nothing_passed sets victim dirty line hit held spared = rw spared (nothing_below sets line hit held)
+
+    l2_least : (sets : Sets) (line : ℕ) → h.costs.l2 ≤ (below h pinned sets (Read line)).cost
     l2_least sets line = elim (below_cost h pinned sets line) [
       | inl e ↦ omega (arith, e)
-      | inr e ↦ omega (arith, e)
+      | inr (inl e) ↦ omega (arith, e)
+      | inr (inr (on, e)) ↦ omega (arith, e)
     ]
 
     look_held : (sets : Sets) (core : Core) (page : ℕ) (reads : List ℕ) (found held : Bool) → held ≡ true
@@ -344,10 +458,12 @@ module _ (h : Hierarchy) where
           → cost_of_data caches line store ≤ cost_of_data others line store
       unfolding accessed pass_on
       data_least line store held =
+          let answer = (touch_of h.l1d caches.core.l1d line store).answer in
           let none =
-          nothing_below caches.l2 line (touch_of h.l1d caches.core.l1d line store).answer.hit
-          (held_hit h.l1d caches.core.l1d line store held) in
-          let clean = held_clean h.l1d caches.core.l1d line store held h.costs.wb in
+          nothing_passed caches.l2 answer.victim answer.dirty_victim line answer.hit
+          (held_hit h.l1d caches.core.l1d line store held) (held_spares h.l1d caches.core.l1d line store held) in
+          let clean : (if answer.dirty_victim then h.costs.wb else 0) ≡ 0
+          = ap (λ (b : Bool). if b then h.costs.wb else 0) (held_clean h.l1d caches.core.l1d line store held) in
           omega (arith, none, clean)
 
       pub load_least : (line : ℕ) → holds h.l1d caches.core.l1d line ≡ true → IsLeast (Load line)
@@ -361,7 +477,7 @@ module _ (h : Hierarchy) where
       pub walk_read_least : (line : ℕ) → holds h.l2 caches.l2 line ≡ true → IsLeast (WalkRead line)
       unfolding touched on_core pass_on below_all below
       walk_read_least line held =
-          let here = below_if_held (pinned && colour_of_line h line == 0) caches.l2 line held in
+          let here = below_if_held (is_pinned h pinned line) caches.l2 line held in
           let there = l2_least others.l2 line in
           omega (arith, here, there)
 

@@ -101,6 +101,7 @@ hierarchy_of rule s = record {
   costs = s.core.costs;
   products = s.core.products;
   line_size = s.l2.line_size;
+  back = s.l2.back;
   predictor = sizes_of s.core.guesses;
   l1i = shape_of rule s.core.l1i;
   l1d = shape_of rule s.core.l1d;
@@ -122,11 +123,6 @@ pub record SystemStands {P : Type 0} (stands : P → ℕ → ℕ → List ℕ �
   pub l2 : StandsFor stands kept.l2.cache caches.l2
 
 -- ---- what calls promise
-
--- whether it was a hit is the step's, and what is kept stands for the sets that it leaves
-pub record HitSteps {P : Type 0} (stands : P → ℕ → ℕ → List ℕ → Type 0) (hit : Bool) (kept : Contents P) (step : CacheStep) : Type 0 where
-  pub told : hit ≡ step.answer.hit
-  pub next : StandsFor stands kept step.next
 
 -- the cycles are the definition's, and what is kept stands for the second level that it leaves
 pub record BelowSteps {P : Type 0} (stands : P → ℕ → ℕ → List ℕ → Type 0) (cycles : ℕ) (kept : L2Contents P) (below : Below) : Type 0 where

@@ -20,6 +20,7 @@ hierarchy_by rule g costs products = record {
   costs = costs_of costs;
   products = option_map product_costs_of products;
   line_size = g.line_size;
+  back = g.back;
   predictor = g.predictor;
   l1i = shape_by rule g.l1i;
   l1d = shape_by rule g.l1d;

@@ -1,5 +1,5 @@
 -- What decides costs: their table, the bytes of a line, and the shape of each part.
-use Rattle.std.specs.Prelude.{ℕ, Option}
+use Rattle.std.specs.Prelude.{ℕ, Bool, Option}
 use Rattle.cycle_cost.specs.Costs.{CostTable, ProductCosts}
 use Rattle.set_cache.specs.Cache.{Shape}
 use Rattle.l2_colour.specs.Colours as colours
@@ -9,6 +9,7 @@ pub record Hierarchy : Type 0 where
   pub costs : CostTable
   pub products : Option ProductCosts  -- of products and divisions, where the core makes them
   pub line_size : ℕ
+  pub back : Bool  -- whether dirty lines are written back into the second level, else past it
   pub predictor : Sizes
   pub l1i : Shape
   pub l1d : Shape

@@ -52,19 +52,26 @@ holds shape sets number = is_some (place_of shape sets number)
 
 -- ---- what it may cost
 
--- what a line costs at the second level, after so much
+-- what a line costs at the second level, after so much: where it isn't there, memory's cost, and that of one more
+-- write-back, if lines are written back into it
 abbrev pub IsCostBelow : Hierarchy → ℕ → ℕ → Type 0
-IsCostBelow h first cost = (cost ≡ first + h.costs.l2) ⊎ (cost ≡ first + (h.costs.l2 + h.costs.mem))
+IsCostBelow h first cost =
+    (cost ≡ first + h.costs.l2) ⊎ ((cost ≡ first + (h.costs.l2 + h.costs.mem))
+    ⊎ ((h.back ≡ true) × (cost ≡ first + (h.costs.l2 + (h.costs.mem + h.costs.wb)))))
 
 -- what a load or store costs
 abbrev pub IsCostOfData : Hierarchy → ℕ → Type 0
 IsCostOfData h cost = (cost ≡ h.costs.l1) ⊎ (IsCostBelow h h.costs.l1 cost ⊎ IsCostBelow h (h.costs.l1 + h.costs.wb) cost)
 
--- what a look-up that makes reads costs: each is an access to the second level, and some of them miss it
+-- what a look-up that makes reads costs: each is an access to the second level, some of them miss it, and some of these
+-- write a line back, if lines are written back into it
 pub record IsCostOfWalk (h : Hierarchy) (reads cost : ℕ) : Type 0 where
   pub misses : ℕ
+  pub written : ℕ
   pub few : misses ≤ reads
-  pub sum : cost ≡ h.costs.tlb + (reads * h.costs.l2 + misses * h.costs.mem)
+  pub fewer : written ≤ misses
+  pub none : h.back ≡ false → written ≡ 0
+  pub sum : cost ≡ h.costs.tlb + (reads * h.costs.l2 + misses * h.costs.mem + written * h.costs.wb)
 
 -- the costs of each touch, by the table
 abbrev pub IsCost : Hierarchy → Core → Touch → ℕ → Type 0

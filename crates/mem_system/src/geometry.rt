@@ -18,6 +18,9 @@ pub struct CacheGeometry<P: Policy> {
 pub struct Geometry<P: Policy> {
     /// The bytes of a line: a power of two from 16 on.
     pub line_size: u32,
+    /// Whether the dirty lines that leave the first level are written back into
+    /// the second, where that holds them; else all go past it to memory.
+    pub back: bool,
     /// The predictor's sizes.
     pub predictor: Sizes,
     /// The first level of instructions.

@@ -1,6 +1,6 @@
 //! Laws of the definitions: what touches cost and change, in words.
 ghost use Rattle.std.specs.Prelude.{◌≡◌, ◌≢◌, ℕ, ◌≤◌, ◌%◌, Bool, true, false, List, [], All, None, slice_index, slice_index_or};
-ghost use Rattle.set_cache.specs.Cache.{set_at};
+ghost use Rattle.set_cache.specs.Cache.{set_at, EachDirty};
 ghost use Rattle.l2_colour.specs.Colours.{IsColoured};
 ghost use Rattle.branch_pred.specs.Guesses.{place_of, target_place};
 ghost use Rattle.mem_system.specs.Hierarchy.{Hierarchy, colour_of_line};
@@ -27,14 +27,16 @@ ghost use Rattle.mem_system.specs.TouchLaws.{
   IsCost,
 };
 
-/// A line of one colour never moves a line of another in the second level: a
-/// touch whose lines all have other colours leaves the set of a line, with all
-/// that it keeps, as it was. And no touch changes a set of a line of colour 0
-/// where those are pinned.
+/// A line of one colour never moves or marks a line of another in the second
+/// level: a touch leaves the set of a line, with all that it keeps, as it was,
+/// where its own lines have other colours, and so have the dirty lines of the
+/// first level, which may be written back. And no touch changes a set of a line
+/// of colour 0 where those are pinned.
 pub fn colours_keep_apart()
     ensures apart { (h : Hierarchy) (pinned : Bool) (caches : Caches) (touch : Touch) (line : ℕ)
         → IsColoured h.line_size h.l2.count
         → All (λ other. colour_of_line h other ≢ colour_of_line h line) (lines_in_l2 touch)
+        → EachDirty (λ other. colour_of_line h other ≢ colour_of_line h line) h.l1d caches.core.l1d
         → set_at h.l2.ways (touched h pinned caches touch).caches.l2 (line % h.l2.count)
         ≡ set_at h.l2.ways caches.l2 (line % h.l2.count) }
     ensures pinned { (h : Hierarchy) (caches : Caches) (touch : Touch) (line : ℕ)

@@ -10,7 +10,7 @@ use branch_pred::{Predictor, Sizes};
 use cycle_cost::{Costs, ProductCosts};
 use l1_cache::{L1D, L1I};
 use phys_mem::PhysMem;
-use set_cache::Policy;
+use set_cache::{Policy, Touch};
 use std::alloc::Global;
 use std::marker::Model;
 use sv32_walk::{Access, PageTableEntry, WalkFault, Walked, walk};
@@ -71,25 +71,29 @@ impl<P: Policy> OnCore<P> {
       ◌/◌,
       ℕ,
       IfOk,
+      Some,
       None,
       false,
       is_some,
       option_map,
+      map,
       take,
       slice_index,
       if◌then◌else◌,
     };
     ghost use Rattle.tp_base.specs.Table.{empty};
+    ghost use Rattle.tp_base.specs.Ranges.{IsLine};
     ghost use Rattle.branch_pred.specs.Guesses.{AreSizes, fresh_guesses};
-    ghost use Rattle.cycle_cost.specs.Ranges.{most_read, most_fetch, most_access, most_walk, most_look, most_guess};
+    ghost use Rattle.cycle_cost.specs.Ranges.{most_again, most_read, most_fetch, most_access, most_walk, most_look, most_guess};
     ghost use Rattle.phys_mem.specs.Mem.{Mem};
     ghost use Rattle.phys_mem.specs.Holds.{Holds};
     ghost use Rattle.sv32_walk.specs.Walk.{walk};
-    ghost use Rattle.set_cache.specs.Cache.{Sets, place_of};
+    ghost use Rattle.set_cache.specs.Cache.{Sets, place_of, dirty_lines};
     ghost use Rattle.set_cache.specs.Contents.{StandsFor, shape_of};
     ghost use Rattle.l2_colour.specs.Contents.{L2Contents};
     ghost use Rattle.tlb_model.specs.Buffer.{leaf_of};
     ghost use Rattle.mem_system.specs.Cost.{
+      Caches,
       Fetch,
       Load,
       Store,
@@ -98,6 +102,10 @@ impl<P: Policy> OnCore<P> {
       Jump,
       EmptyTlb,
       Flush,
+      Read,
+      WriteBack,
+      given_up,
+      is_pinned,
       below,
       below_all,
     };
@@ -105,6 +113,7 @@ impl<P: Policy> OnCore<P> {
       system,
       hierarchy_of,
       CoreStands,
+      SystemStands,
       BelowSteps,
       MakesTouch,
     };
@@ -167,24 +176,75 @@ impl<P: Policy> OnCore<P> {
         self.products
     }
 
-    /// The cost of a line at the second level.
-    #[tactic(auto, unfolding(crate::specs::Cost::below, crate::specs::Cost::below_if, crate::specs::Cost::below_by, crate::specs::Hierarchy::colour_of_line))]
+    /// Whether a line counts as always there at the second level.
+    #[tactic(auto, unfolding(crate::specs::Hierarchy::colour_of_line))]
+    #[inline(always)]
+    fn is_pinned(&self, l2: &SecondLevel<P>, line: Line) -> bool
+        ensures value { result
+            ≡ is_pinned (hierarchy_of P.rule (system self.now l2.now)) self.now.pinned line }
+    {
+        self.pinned && l2.colour_of(line) == 0
+    }
+
+    /// The cost of a read of a line at the second level.
+    #[tactic(auto, unfolding(crate::specs::Cost::below, crate::specs::Cost::below_if, crate::specs::Cost::below_by, crate::specs::Cost::missed_cost))]
     fn below(&self, l2: &mut SecondLevel<P>, line: Line) -> u32
         ensures same { hierarchy_of P.rule (system self.now l2.new)
             ≡ hierarchy_of P.rule (system self.now l2.old) }
         ensures few { result ≤ most_read }
         ensures steps { (sets : Sets) → StandsFor P.stands_for l2.old.cache sets
             → BelowSteps P.stands_for result l2.new
-            (below (hierarchy_of P.rule (system self.now l2.old)) self.now.pinned sets line) }
+            (below (hierarchy_of P.rule (system self.now l2.old)) self.now.pinned sets (Read line)) }
     {
-        if self.pinned && l2.colour_of(line) == 0 {
+        if self.is_pinned(l2, line) {
             return self.costs.l2;
         }
-        if l2.touch(line) {
-            self.costs.l2
-        } else {
-            self.costs.l2 + self.costs.mem
+        let found = l2.touch(line);
+        if found.hit {
+            return self.costs.l2;
         }
+        if found.dirty_victim {
+            return self.costs.l2 + self.costs.mem + self.costs.wb;
+        }
+        self.costs.l2 + self.costs.mem
+    }
+
+    /// The write-back of a dirty line that the core gives up.
+    #[tactic(auto, unfolding(crate::specs::Cost::below))]
+    #[inline(always)]
+    fn write_back(&self, l2: &mut SecondLevel<P>, line: Line)
+        ensures same { hierarchy_of P.rule (system self.now l2.new)
+            ≡ hierarchy_of P.rule (system self.now l2.old) }
+        ensures steps { (sets : Sets) → StandsFor P.stands_for l2.old.cache sets
+            → BelowSteps P.stands_for 0 l2.new
+            (below (hierarchy_of P.rule (system self.now l2.old)) self.now.pinned sets (WriteBack line)) }
+    {
+        if l2.back() && !self.is_pinned(l2, line) {
+            l2.write_back(line);
+        }
+    }
+
+    /// The cost of what a touch of the first level gave up, which is written back if it is dirty.
+    #[tactic(auto, unfolding(crate::specs::Cost::below_all))]
+    #[inline(always)]
+    fn give_up(&self, l2: &mut SecondLevel<P>, found: Touch) -> u32
+        requires fits { (victim : ℕ) → found.victim ≡ Some victim → IsLine victim }
+        ensures same { hierarchy_of P.rule (system self.now l2.new)
+            ≡ hierarchy_of P.rule (system self.now l2.old) }
+        ensures few { result ≤ most_again }
+        ensures cost { result ≡ if found.dirty_victim then self.now.costs.wb else 0 }
+        ensures steps { (sets : Sets) → StandsFor P.stands_for l2.old.cache sets
+            → BelowSteps P.stands_for 0 l2.new
+            (below_all (hierarchy_of P.rule (system self.now l2.old)) self.now.pinned sets
+            (given_up found.victim found.dirty_victim)) }
+    {
+        if !found.dirty_victim {
+            return 0;
+        }
+        if let Some(victim) = found.victim {
+            self.write_back(l2, Line::new(victim));
+        }
+        self.costs.wb
     }
 
     /// The cost of a fetch from a line.
@@ -219,11 +279,9 @@ impl<P: Policy> OnCore<P> {
         if found.hit {
             return self.costs.l1;
         }
-        let mut cycles = self.costs.l1;
-        if found.dirty_victim {
-            cycles += self.costs.wb;
-        }
-        cycles + self.below(l2, line)
+        // What is given up is written back before the line is read.
+        let given_up = self.give_up(l2, found);
+        self.costs.l1 + given_up + self.below(l2, line)
     }
 
     /// The cost of a walk's read of an entry in a line.
@@ -281,18 +339,44 @@ impl<P: Policy> OnCore<P> {
         self.tlb.flush();
     }
 
-    /// Makes everything on the core fresh; the cost of it.
-    #[tactic(auto, unfolding(crate::specs::Cost::touched, crate::specs::Cost::on_core, crate::specs::Cost::flushed, crate::specs::Cost::fresh_core, crate::specs::Cost::pass_on, crate::specs::Cost::below_all))]
-    pub fn flush(&mut self) -> u32
+    /// Makes everything on the core fresh, after the dirty lines are written
+    /// back; the cost of it.
+    #[tactic(auto, unfolding(crate::specs::Cost::touched, crate::specs::Cost::on_core, crate::specs::Cost::flushed, crate::specs::Cost::fresh_core, crate::specs::Cost::pass_on))]
+    pub fn flush(&mut self, l2: &mut SecondLevel<P>) -> u32
         ensures kept { (mem : Mem) (frames root : ℕ) → KeepsLeaves mem frames root self.new.tlb }
-        ensures makes { (l2 : L2Contents P)
-            → MakesTouch P.rule P.stands_for Flush result (system self.old l2) (system self.new l2) }
+        ensures makes { MakesTouch P.rule P.stands_for Flush result
+            (system self.old l2.old) (system self.new l2.new) }
     {
+        self.write_all_back(l2);
         let dirty = self.l1d.flush();
         self.l1i.flush();
         self.tlb.flush();
         self.predictor.reset();
         self.costs.flush + self.costs.wb * dirty
+    }
+
+    /// The write-back of each dirty line, in the order of their places.
+    fn write_all_back(&self, l2: &mut SecondLevel<P>)
+        ensures same { hierarchy_of P.rule (system self.now l2.new)
+            ≡ hierarchy_of P.rule (system self.now l2.old) }
+        ensures steps { (caches : Caches) → SystemStands P.stands_for (system self.now l2.old) caches
+            → BelowSteps P.stands_for 0 l2.new
+            (below_all (hierarchy_of P.rule (system self.now l2.old)) self.now.pinned caches.l2
+            (map WriteBack (dirty_lines (shape_of P.rule self.now.l1d) caches.core.l1d))) }
+    {
+        if !l2.back() {
+            return;
+        }
+        let mut left = self.l1d.dirty();
+        for place in 0..self.l1d.places() {
+            if left == 0 {
+                return;
+            }
+            if let Some(line) = self.l1d.dirty_at(place) {
+                self.write_back(l2, line);
+                left -= 1;
+            }
+        }
     }
 
     /// The cost of the reads that a walk made.
@@ -306,7 +390,7 @@ impl<P: Policy> OnCore<P> {
         ensures steps { (sets : Sets) → StandsFor P.stands_for l2.old.cache sets
             → BelowSteps P.stands_for result l2.new
             (below_all (hierarchy_of P.rule (system self.now l2.old)) self.now.pinned sets
-            (lines_of l2.old.line_size (take walked.now.count walked.now.reads))) }
+            (map Read (lines_of l2.old.line_size (take walked.now.count walked.now.reads)))) }
     {
         if walked.count == 0 {
             return 0;

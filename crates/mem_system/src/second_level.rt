@@ -1,7 +1,7 @@
 // The second level with the sizes that lines and colours are told by.
 use crate::CacheGeometry;
 use l2_colour::L2;
-use set_cache::Policy;
+use set_cache::{Policy, Touch};
 use std::alloc::Global;
 use std::marker::Model;
 use tp_base::{Line, Memory};
@@ -33,24 +33,41 @@ impl<P: Policy> Model for SecondLevel<P> {
 }
 
 impl<P: Policy> SecondLevel<P> {
-    ghost use Rattle.std.specs.Prelude.{◌≡◌, ◌≤◌, ◌<◌, ◌/◌, ◌^◌, ℕ, false, length, IfOk};
-    ghost use Rattle.set_cache.specs.Cache.{Sets, touch_of};
-    ghost use Rattle.set_cache.specs.Contents.{StandsFor, SameShape, shape_of};
+    ghost use Rattle.std.specs.Prelude.{
+      ◌≡◌,
+      ◌≤◌,
+      ◌<◌,
+      ◌/◌,
+      ◌^◌,
+      ℕ,
+      false,
+      length,
+      IfOk,
+      if◌then◌else◌,
+    };
+    ghost use Rattle.set_cache.specs.Cache.{Sets, touch_of, marked_of};
+    ghost use Rattle.set_cache.specs.Contents.{StandsFor, SameShape, CacheSteps, shape_of};
     ghost use Rattle.set_cache.specs.Calls.{IsNew};
     ghost use Rattle.l2_colour.specs.Colours.{IsColoured, colour_of_line};
-    ghost use Rattle.mem_system.specs.Contents.{HitSteps};
     ghost use Rattle.mem_system.specs.Geometry.{IsCache};
 
-    /// A second level of fresh sets, for lines of this many bytes.
+    /// A second level of fresh sets, for lines of this many bytes. `back`: lines
+    /// are written back into it.
     ///
     /// # Errors
     ///
     /// `Memory`, where memory ran out.
-    pub fn new(alloc: Global, line_size: u32, geometry: CacheGeometry<P>) -> Result<Self, Memory>
+    pub fn new(
+        alloc: Global,
+        line_size: u32,
+        geometry: CacheGeometry<P>,
+        back: bool,
+    ) -> Result<Self, Memory>
         requires least { 16 ≤ line_size }
         requires coloured { IsColoured line_size geometry.sets }
         requires cache { IsCache P.takes geometry }
         ensures line_size { IfOk result (λ l2. l2.line_size ≡ line_size) }
+        ensures back { IfOk result (λ l2. l2.back ≡ back) }
         ensures made { IfOk result (λ l2.
             IsNew P.takes P.stands_for geometry.policy geometry.sets geometry.ways l2.cache) }
     {
@@ -59,20 +76,44 @@ impl<P: Policy> SecondLevel<P> {
             line_size,
             line_bits: line_size.trailing_zeros(),
             colours: sets * line_size / FRAME_SIZE,
-            l2: L2::new(alloc, line_size, policy, sets, ways)?,
+            l2: L2::new(alloc, line_size, policy, sets, ways, back)?,
         })
     }
 
-    /// A touch of a line; whether it was here.
+    /// A touch of a line. What it gives up is dirty only where lines are written back.
     #[inline(always)]
-    pub fn touch(&mut self, line: Line) -> bool
+    pub fn touch(&mut self, line: Line) -> Touch
         ensures line_size { self.new.line_size ≡ self.old.line_size }
+        ensures back { self.new.back ≡ self.old.back }
         ensures shape { SameShape self.old.cache self.new.cache }
         ensures step { (sets : Sets) → StandsFor P.stands_for self.old.cache sets
-            → HitSteps P.stands_for result self.new.cache
+            → CacheSteps P.stands_for result self.new.cache
             (touch_of (shape_of P.rule self.old.cache) sets line false) }
+        ensures clean { self.old.back ≡ false → result.dirty_victim ≡ false }
     {
         self.l2.touch(line)
+    }
+
+    /// A dirty line that the first level gives up: it is dirty here then, if it
+    /// is here and lines are written back.
+    #[inline(always)]
+    pub fn write_back(&mut self, line: Line)
+        ensures line_size { self.new.line_size ≡ self.old.line_size }
+        ensures back { self.new.back ≡ self.old.back }
+        ensures shape { SameShape self.old.cache self.new.cache }
+        ensures steps { (sets : Sets) → StandsFor P.stands_for self.old.cache sets
+            → StandsFor P.stands_for self.new.cache
+            (if self.old.back then marked_of (shape_of P.rule self.old.cache) sets line else sets) }
+    {
+        self.l2.write_back(line);
+    }
+
+    /// Whether lines are written back into it.
+    #[inline(always)]
+    pub fn back(&self) -> bool
+        ensures value { result ≡ self.now.back }
+    {
+        self.l2.back()
     }
 
     /// The colour of a line's frame.

@@ -63,6 +63,7 @@ impl<P: Policy> MemSystem<P> {
     {
         let Geometry {
             line_size,
+            back,
             predictor,
             l1i,
             l1d,
@@ -71,7 +72,7 @@ impl<P: Policy> MemSystem<P> {
         } = geometry;
         Ok(MemSystem {
             core: OnCore::new(alloc, predictor, l1i, l1d, tlb, costs, products, pinned)?,
-            l2: SecondLevel::new(alloc, line_size, l2)?,
+            l2: SecondLevel::new(alloc, line_size, l2, back)?,
         })
     }
 
@@ -161,12 +162,12 @@ impl<P: Policy> MemSystem<P> {
     }
 
     /// Makes everything on the core fresh, after the dirty lines are written
-    /// back; the second level stays as it is.
+    /// back; no line moves in the second level.
     pub fn flush(&mut self) -> u32
         ensures kept { (mem : Mem) (frames root : ℕ) → KeepsLeaves mem frames root self.new.core.tlb }
         ensures makes { MakesTouch P.rule P.stands_for Flush result self.old self.new }
     {
-        self.core.flush()
+        self.core.flush(&mut self.l2)
     }
 
     /// The line of an address below 2^27.

@@ -31,7 +31,7 @@ fn red() -> CloneLayout
 
 // The boot, and a switch from the clone to itself at once.
 fn two_switches(alloc: Global, policy: AnyPolicy) -> Result<(Switched, Switched), Memory> {
-    let mut system = small(alloc, policy, false)?;
+    let mut system = small(alloc, policy, false, false)?;
     let clone = red();
     let boot = switch(&mut system, None, &clone, 0, 0, 6150, EVERY_CALL);
     let again = switch(
@@ -48,13 +48,13 @@ fn two_switches(alloc: Global, policy: AnyPolicy) -> Result<(Switched, Switched)
 
 // A boot that begins late and is done past the next start.
 fn late_boot(alloc: Global) -> Result<Switched, Memory> {
-    let mut system = small(alloc, AnyPolicy::Lru, false)?;
+    let mut system = small(alloc, AnyPolicy::Lru, false, false)?;
     Ok(switch(&mut system, None, &red(), 100, 150, 200, EVERY_CALL))
 }
 
 // A call that is none, twice.
 fn two_charges(alloc: Global) -> Result<(u32, u32), Memory> {
-    let mut system = small(alloc, AnyPolicy::Lru, false)?;
+    let mut system = small(alloc, AnyPolicy::Lru, false, false)?;
     let clone = red();
     let work = Work {
         op: BAD_CALL,

@@ -29,11 +29,17 @@ fn cache(policy: AnyPolicy, sets: u32, ways: u32) -> CacheGeometry<AnyPolicy>
 }
 
 // Lines of 64 bytes, 4 colours.
-pub fn small(alloc: Global, policy: AnyPolicy, pinned: bool) -> Result<MemSystem<AnyPolicy>, Memory>
+pub fn small(
+    alloc: Global,
+    policy: AnyPolicy,
+    pinned: bool,
+    back: bool,
+) -> Result<MemSystem<AnyPolicy>, Memory>
     ensures line { IfOk result (λ system. system.l2.line_size ≡ 64) }
 {
     let geometry = Geometry {
         line_size: 64,
+        back,
         predictor: Sizes {
             counters: 16,
             history: 0,
@@ -51,6 +57,7 @@ pub fn small(alloc: Global, policy: AnyPolicy, pinned: bool) -> Result<MemSystem
 pub fn largest(alloc: Global) -> Result<MemSystem<AnyPolicy>, Memory> {
     let geometry = Geometry {
         line_size: 16,
+        back: true,
         predictor: Sizes {
             counters: 4096,
             history: 0,

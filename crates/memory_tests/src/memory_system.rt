@@ -61,8 +61,77 @@ static OF_A_DIRTY_VICTIM: [(Touch, u32); 7] = [
 
 #[test]
 fn a_dirty_victim_is_charged(rt: HostRuntime) -> Result<(), Fail> {
-    let mut system = small(rt.alloc(), AnyPolicy::Lru, false)?;
+    let mut system = small(rt.alloc(), AnyPolicy::Lru, false, false)?;
     costs_are(&rt, &mut system, &OF_A_DIRTY_VICTIM);
+    Ok(())
+}
+
+// Lines 100, 356 and so on to 1124 meet in one set of the second level, and 100, 116,
+// 132 and 1124 in one of the first. Line 100 is written back when 132 comes, and given
+// up with its mark when 1124 does.
+static OF_A_MARKED_VICTIM: [(Touch, u32); 7] = [
+    (Touch::Store(100), 49),
+    (Touch::Store(116), 49),
+    (Touch::Load(132), 59),
+    (Touch::WalkRead(356), 48),
+    (Touch::WalkRead(612), 48),
+    (Touch::WalkRead(868), 48),
+    (Touch::WalkRead(1124), 58),
+];
+
+#[test]
+fn a_marked_victim_is_charged(rt: HostRuntime) -> Result<(), Fail> {
+    let mut system = small(rt.alloc(), AnyPolicy::Lru, false, true)?;
+    costs_are(&rt, &mut system, &OF_A_MARKED_VICTIM);
+    Ok(())
+}
+
+// Without the mark the last read costs a miss.
+#[test]
+fn what_passes_is_charged_once(rt: HostRuntime) -> Result<(), Fail> {
+    let mut system = small(rt.alloc(), AnyPolicy::Lru, false, false)?;
+    costs_are(&rt, &mut system, &OF_A_MARKED_VICTIM[..6]);
+    costs_are(&rt, &mut system, &[(Touch::WalkRead(1124), 48)]);
+    Ok(())
+}
+
+// Line 1124 gives up line 100 at both levels: first it is written back.
+static OF_ONE_LOAD: [(Touch, u32); 6] = [
+    (Touch::Store(100), 49),
+    (Touch::WalkRead(356), 48),
+    (Touch::WalkRead(612), 48),
+    (Touch::WalkRead(868), 48),
+    (Touch::Load(116), 49),
+    (Touch::Load(1124), 69),
+];
+
+#[test]
+fn a_victim_is_written_back_before_the_line_is_read(rt: HostRuntime) -> Result<(), Fail> {
+    let mut system = small(rt.alloc(), AnyPolicy::Lru, false, true)?;
+    costs_are(&rt, &mut system, &OF_ONE_LOAD);
+    Ok(())
+}
+
+// Of two dirty lines the second level holds one, line 100, when they are flushed.
+static OF_A_FLUSH: [(Touch, u32); 12] = [
+    (Touch::Store(101), 49),
+    (Touch::WalkRead(357), 48),
+    (Touch::WalkRead(613), 48),
+    (Touch::WalkRead(869), 48),
+    (Touch::WalkRead(1125), 48),
+    (Touch::Store(100), 49),
+    (Touch::Flush, 40),
+    (Touch::WalkRead(356), 48),
+    (Touch::WalkRead(612), 48),
+    (Touch::WalkRead(868), 48),
+    (Touch::WalkRead(1124), 58),
+    (Touch::WalkRead(101), 48),
+];
+
+#[test]
+fn a_flush_writes_back(rt: HostRuntime) -> Result<(), Fail> {
+    let mut system = small(rt.alloc(), AnyPolicy::Lru, false, true)?;
+    costs_are(&rt, &mut system, &OF_A_FLUSH);
     Ok(())
 }
 
@@ -76,7 +145,7 @@ static OF_PINNED_LINES: [(Touch, u32); 4] = [
 
 #[test]
 fn pinned_lines_are_always_there(rt: HostRuntime) -> Result<(), Fail> {
-    let mut system = small(rt.alloc(), AnyPolicy::Lru, true)?;
+    let mut system = small(rt.alloc(), AnyPolicy::Lru, true, false)?;
     costs_are(&rt, &mut system, &OF_PINNED_LINES);
     Ok(())
 }
@@ -120,7 +189,7 @@ fn is_translated(
 // A page of 4 KiB in frame 5 that is only read.
 #[test]
 fn a_kept_leaf_is_asked_for_its_rights(rt: HostRuntime) -> Result<(), Fail> {
-    let mut system = small(rt.alloc(), AnyPolicy::Lru, false)?;
+    let mut system = small(rt.alloc(), AnyPolicy::Lru, false, false)?;
     let mem = memory_with(rt.alloc(), &[(0x801, 0xc01), (0xc05, 0x1453)])?;
     is_translated(
         &rt,
@@ -262,11 +331,12 @@ fn first_wrong(
     mem: &PhysMem,
     policy: AnyPolicy,
     pinned: bool,
+    back: bool,
 ) -> Result<(Option<u32>, Option<u32>), Fail>
     requires frames { mem.now.frames ≤ 2 ^ 15 }
 {
-    let mut system = small(alloc, policy, pinned)?;
-    let mut plain = PlainSystem::new(alloc, policy, pinned);
+    let mut system = small(alloc, policy, pinned, back)?;
+    let mut plain = PlainSystem::new(alloc, policy, pinned, back);
     let step = first_wrong_step(&mut system, &mut plain, mem)?;
     let line = first_wrong_line(&mut system, &mut plain)?;
     Ok((step, line))
@@ -276,7 +346,8 @@ fn is_right(rt: &impl Abort, found: (Option<u32>, Option<u32>)) {
     assert_eq!(rt; found, (None, None));
 }
 
-// Not pinned, and pinned.
+// Not pinned and pinned, with lines that pass the second level and such as are written
+// back into it.
 fn does_as_plain_lists(
     rt: &impl Abort,
     alloc: Global,
@@ -285,8 +356,10 @@ fn does_as_plain_lists(
 ) -> Result<(), Fail>
     requires frames { mem.now.frames ≤ 2 ^ 15 }
 {
-    is_right(rt, first_wrong(alloc, mem, policy, false)?);
-    is_right(rt, first_wrong(alloc, mem, policy, true)?);
+    is_right(rt, first_wrong(alloc, mem, policy, false, false)?);
+    is_right(rt, first_wrong(alloc, mem, policy, true, false)?);
+    is_right(rt, first_wrong(alloc, mem, policy, false, true)?);
+    is_right(rt, first_wrong(alloc, mem, policy, true, true)?);
     Ok(())
 }
 

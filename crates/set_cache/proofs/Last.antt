@@ -161,7 +161,7 @@ pub record HitsCache {P : Type 0} (rule : P → ℕ → Rule) (stands : P → �
   pub again : (list : List ℕ) → stands cache.policy cache.ways h.new.state list
       → stands cache.policy cache.ways h.new.state ((rule cache.policy cache.ways).touched list h.way)
 
-of_table : {P : Type 0} (takes : P → ℕ → Type 0) (stands : P → ℕ → ℕ → List ℕ → Type 0)
+pub of_table : {P : Type 0} (takes : P → ℕ → Type 0) (stands : P → ℕ → ℕ → List ℕ → Type 0)
     (cache : Contents P) (t : OneTouch) → IsSound takes stands cache → t.set ≡ t.number % length cache.table
     → t.old ≡ kept_at cache.table t.set → IsOfTable cache.table t
 of_table takes stands cache t sound home old =

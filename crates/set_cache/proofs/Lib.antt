@@ -6,3 +6,5 @@ pub mod Steps
 pub mod Vectors
 pub mod Filling
 pub mod Last
+pub mod Dirty
+pub mod Marks

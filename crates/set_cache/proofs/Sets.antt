@@ -81,7 +81,7 @@ set_at-put_other : (ways : ℕ) (sets : Sets) (k s : ℕ) (v : CacheSet)
 set_at-put_other ways sets k s v n = at-put_other (fresh_set ways) sets k s v n
 
 -- a set that is written in the table and in the sets
-stands_put : (stands : ℕ → List ℕ → Type 0) (ways : ℕ) (table : List KeptSet) (sets : Sets)
+pub stands_put : (stands : ℕ → List ℕ → Type 0) (ways : ℕ) (table : List KeptSet) (sets : Sets)
     (i : ℕ) (new : KeptSet) (next : CacheSet) → i < length table → SetStands stands new next
     → ((k : ℕ) → k < length table → SetStands stands (kept_at table k) (set_at ways sets k))
     → (k : ℕ) → k < length (set table i new)
@@ -199,7 +199,7 @@ fresh_sound takes stands cache taken power small full fresh = record {
 
 -- ---- what a touch of one set does to the lines of the whole table
 
-is_some-map : (f : ℕ → ℕ) (o : Option ℕ) → is_some (option_map f o) ≡ is_some o
+pub is_some-map : (f : ℕ → ℕ) (o : Option ℕ) → is_some (option_map f o) ≡ is_some o
 is_some-map f None = refl
 is_some-map f (Some x) = refl
 
@@ -228,7 +228,7 @@ of_set f table number = f (number % length table) (kept_at table (number % lengt
 
 module _ (table : List KeptSet) (t : OneTouch) (at : IsOfTable table t) where
   -- before the touch, and after it, of a line of the touched set; and of another's
-  of_old : {A : Type 0} (f : ℕ → KeptSet → A) (number : ℕ) → number % length table ≡ t.set
+  pub of_old : {A : Type 0} (f : ℕ → KeptSet → A) (number : ℕ) → number % length table ≡ t.set
       → of_set f table number ≡ f t.set t.old
   of_old f number e =
       ap (λ (j : ℕ). f j (kept_at table j)) e ∙ ap (f t.set) (sym (old_is table t at))
@@ -241,7 +241,7 @@ module _ (table : List KeptSet) (t : OneTouch) (at : IsOfTable table t) where
       ∙ ap (λ (j : ℕ). f j (kept_at written j)) e
       ∙ ap (f t.set) (get_or-set_same table t.set t.new _ at.below)
 
-  of_else : {A : Type 0} (f : ℕ → KeptSet → A) (number : ℕ) → number % length table ≢ t.set
+  pub of_else : {A : Type 0} (f : ℕ → KeptSet → A) (number : ℕ) → number % length table ≢ t.set
       → of_set f (set table t.set t.new) number ≡ of_set f table number
   of_else f number n =
       let written : List KeptSet = set table t.set t.new in
@@ -275,7 +275,7 @@ module _ {P : Type 0} (cache : Contents P) (t : OneTouch) (at : IsOfTable cache.
     (home : IsHome cache.table)
     (moves : MovesLines t.answer t.number (ways_of t.old.places) (ways_of t.new.places)) where
   -- the lines of the whole cache move as those of the one set do
-  lines_move : MovesLines t.answer t.number (place_in cache) (place_in (with_set cache t))
+  pub lines_move : MovesLines t.answer t.number (place_in cache) (place_in (with_set cache t))
   lines_move =
       let f : ℕ → ℕ = λ (way : ℕ). t.set * cache.ways + way in
       let before = λ (number : ℕ) (e : number % length cache.table ≡ t.set).
@@ -303,7 +303,7 @@ module _ {P : Type 0} (cache : Contents P) (t : OneTouch) (at : IsOfTable cache.
       }
 
   -- and so do their marks
-  marks_move : MovesMarks t.answer t.number t.store (mark_of t.old.places) (mark_of t.new.places)
+  pub marks_move : MovesMarks t.answer t.number t.store (mark_of t.old.places) (mark_of t.new.places)
       → MovesMarks t.answer t.number t.store (mark_in cache) (mark_in (with_set cache t))
   marks_move marks =
       let before = λ (number : ℕ) (e : number % length cache.table ≡ t.set).
@@ -512,17 +512,17 @@ line_kept number None t = absurd (false≢true t)
 line_kept number (Some line) t = refl
 
 module _ (places : List (Option KeptLine)) (way number : ℕ) (found : way_of number places ≡ Some way) where
-  length-hit : (store : Bool) → length (hit_places places way number store) ≡ length places
+  pub length-hit : (store : Bool) → length (hit_places places way number store) ≡ length places
   length-hit true = length-set places way (Some (record { number = number; dirty = true }))
   length-hit false = refl
 
-  once_hit : (store : Bool) → IsOnce places → IsOnce (hit_places places way number store)
+  pub once_hit : (store : Bool) → IsOnce places → IsOnce (hit_places places way number store)
   once_hit true once =
       let at = position-Some (is_line number) places way None found in
       once_put places way number true at.0 once (others_of_way number way places once at.1)
   once_hit false once = once
 
-  first_hit : (store : Bool) → AreFirst places → AreFirst (hit_places places way number store)
+  pub first_hit : (store : Bool) → AreFirst places → AreFirst (hit_places places way number store)
   first_hit true first =
       let at = position-Some (is_line number) places way None found in
       first_put places way (record { number = number; dirty = true }) at.0 first
@@ -530,12 +530,12 @@ module _ (places : List (Option KeptLine)) (way number : ℕ) (found : way_of nu
       (omega (arith, before)))
   first_hit false first = first
 
-  moves_hit : (store : Bool)
+  pub moves_hit : (store : Bool)
       → MovesLines hit_answer number (ways_of places) (ways_of (hit_places places way number store))
   moves_hit true = moves_marked places way number found
   moves_hit false = moves_same places way number found
 
-  marks_hit : (store : Bool)
+  pub marks_hit : (store : Bool)
       → MovesMarks hit_answer number store (mark_of places) (mark_of (hit_places places way number store))
   marks_hit true = marks_marked places way number found
   marks_hit false = marks_same places way number found
@@ -580,7 +580,7 @@ hit_steps rule stands h hits = record {
 module _ {P : Type 0} (takes : P → ℕ → Type 0) (stands : P → ℕ → ℕ → List ℕ → Type 0)
     (cache : Contents P) (t : OneTouch)
     (sound : IsSound takes stands cache) (at : IsOfTable cache.table t) where
-  full_at : length t.old.places ≡ cache.ways
+  pub full_at : length t.old.places ≡ cache.ways
   full_at =
       read_at (λ (k : KeptSet). length k.places ≡ cache.ways) cache.table t.set t.old at.below at.read
       sound.full
@@ -589,11 +589,11 @@ module _ {P : Type 0} (takes : P → ℕ → Type 0) (stands : P → ℕ → ℕ
   once_at =
       read_at (λ (k : KeptSet). IsOnce k.places) cache.table t.set t.old at.below at.read sound.once
 
-  first_at : AreFirst t.old.places
+  pub first_at : AreFirst t.old.places
   first_at =
       read_at (λ (k : KeptSet). AreFirst k.places) cache.table t.set t.old at.below at.read sound.first
 
-  valid_at : (list : List ℕ) × stands cache.policy cache.ways t.old.state list
+  pub valid_at : (list : List ℕ) × stands cache.policy cache.ways t.old.state list
   valid_at =
       read_at (λ (k : KeptSet). (list : List ℕ) × stands cache.policy cache.ways k.state list)
       cache.table t.set t.old at.below at.read sound.valid

@@ -397,3 +397,13 @@ marks_clean answer number before after marks clean line e =
         | inr stays ↦ clean line (sym (marks.others line apart stays) ∙ e)
       ]
     ]
+
+-- where no line has a mark none is given up that has one
+pub no_dirty_victim : (answer : Touch) (number : ℕ) (store : Bool) (before after : ℕ → Option Bool)
+    → MovesMarks answer number store before after
+    → ((line : ℕ) → before line ≢ Some true) → answer.dirty_victim ≡ false
+no_dirty_victim answer number store before after marks clean = of answer.victim refl
+  where
+    of : (victim : Option ℕ) → answer.victim ≡ victim → answer.dirty_victim ≡ false
+    of None e = marks.clean e
+    of (Some v) e = not_true answer.dirty_victim (λ dirty. clean v ((marks.given_up v e).0 ∙ ap Some dirty))

@@ -1,5 +1,5 @@
 -- A set-associative cache as a table of sets, each a list of ways and the policy's list.
-use Rattle.std.specs.Prelude.{ℕ, zero, suc, ◌%◌, ◌+◌, ◌*◌, Bool, true, false, List, [], Option, Some, None, option_map, unwrap_or, position, replicate, slice_set, slice_index_or, count_by, is_none, if◌then◌else◌, ◌==◌}
+use Rattle.std.specs.Prelude.{◌≡◌, ℕ, zero, suc, ◌%◌, ◌+◌, ◌*◌, Bool, true, false, ◌||◌, List, [], ◌∷◌, ◌++◌, map, Option, Some, None, option_map, unwrap_or, position, replicate, slice_set, slice_index_or, count_by, is_none, if◌then◌else◌, ◌==◌}
 use Rattle.tp_base.specs.Table.{Table, at, put}
 use Rattle.set_cache.specs.Rule.{Rule}
 use Rattle.set_cache.specs.declared.Touch.{Touch}
@@ -110,3 +110,48 @@ dirty_below ways sets (suc count) = dirty_below ways sets count + dirty_in (set_
 -- how many lines have a mark
 abbrev pub dirty_of : Shape → Sets → ℕ
 dirty_of shape sets = dirty_below shape.ways sets shape.count
+
+-- ---- marks
+
+-- what a way keeps, whose line has a mark then if it passes a test
+abbrev pub marked_if : (ℕ → Bool) → Option KeptLine → Option KeptLine
+marked_if test None = None
+marked_if test (Some line) = Some (record { number = line.number; dirty = line.dirty || test line.number })
+
+-- a set in which this line has a mark, if it is there; the policy's list stays
+abbrev pub marked_in : CacheSet → ℕ → CacheSet
+marked_in set number = record set { places = map (marked_if (λ n. n == number)) set.places }
+
+-- a cache in which this line has a mark, if it is there
+abbrev pub marked_of : Shape → Sets → ℕ → Sets
+marked_of shape sets number =
+    let s = number % shape.count in
+    put sets s (marked_in (set_at shape.ways sets s) number)
+
+-- the line of a way, if it has a mark
+abbrev pub dirty_number : Option KeptLine → Option ℕ
+dirty_number None = None
+dirty_number (Some line) = if line.dirty then Some line.number else None
+
+abbrev pub with_number : Option ℕ → List ℕ → List ℕ
+with_number None numbers = numbers
+with_number (Some number) numbers = number ∷ numbers
+
+-- the lines that have a mark, in the order of their ways
+abbrev pub dirty_numbers : List (Option KeptLine) → List ℕ
+dirty_numbers [] = []
+dirty_numbers (kept ∷ places) = with_number (dirty_number kept) (dirty_numbers places)
+
+-- what the ways of the first sets keep, set after set
+abbrev pub places_below : ℕ → Sets → ℕ → List (Option KeptLine)
+places_below ways sets zero = []
+places_below ways sets (suc count) = places_below ways sets count ++ (set_at ways sets count).places
+
+-- the lines of a cache that have a mark, in the order of their places
+abbrev pub dirty_lines : Shape → Sets → List ℕ
+dirty_lines shape sets = dirty_numbers (places_below shape.ways sets shape.count)
+
+-- each line of a cache that has a mark is as `Fits` says
+abbrev pub EachDirty : (ℕ → Type 0) → Shape → Sets → Type 0
+EachDirty Fits shape sets = (s way : ℕ) (line : KeptLine)
+    → slice_index_or (set_at shape.ways sets s).places way None ≡ Some line → line.dirty ≡ true → Fits line.number

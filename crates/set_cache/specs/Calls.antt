@@ -1,9 +1,9 @@
 -- What the calls of a cache promise, each named once. `takes`, `rule` and `stands` are the policy's members.
-use Rattle.std.specs.Prelude.{◌≡◌, ◌≢◌, ℕ, ◌<◌, ◌≤◌, ◌+◌, ◌*◌, ◌%◌, ◌^◌, Bool, false, List, length, None, if◌then◌else◌, ◌==◌}
+use Rattle.std.specs.Prelude.{◌≡◌, ◌≢◌, ℕ, ◌<◌, ◌≤◌, ◌+◌, ◌*◌, ◌%◌, ◌^◌, Bool, true, false, List, length, None, if◌then◌else◌, ◌==◌, Some}
 use Rattle.std.specs.Int.{IsPowerOfTwo}
 use Rattle.tp_base.specs.Table.{empty}
 use Rattle.set_cache.specs.Rule.{Rule}
-use Rattle.set_cache.specs.Cache.{Sets, touch_of, dirty_of}
+use Rattle.set_cache.specs.Cache.{Sets, touch_of, marked_of, dirty_of}
 use Rattle.set_cache.specs.Contents.{Contents, StandsFor, SameShape, CacheSteps, IsSound, kept_at, shape_of}
 use Rattle.set_cache.specs.Packed.{greatest_epoch}
 use Rattle.set_cache.specs.Lines.{MovesLines, MovesMarks, place_in, mark_in, dirty_kept}
@@ -41,6 +41,18 @@ pub record TellsHit {P : Type 0} (takes : P → ℕ → Type 0) (rule : P → �
   pub answer : Touch
   pub told : hit ≡ answer.hit
   pub touch : IsTouch takes rule stands answer number false old new
+
+-- the mark of a line that is here is set, and nothing else changes: in the table of sets it is the definition's (`step`)
+pub record IsMark {P : Type 0} (takes : P → ℕ → Type 0) (rule : P → ℕ → Rule) (stands : P → ℕ → ℕ → List ℕ → Type 0)
+    (number : ℕ) (old new : Contents P) : Type 0 where
+  pub shape : SameShape old new
+  pub sound : IsSound takes stands new
+  pub step : (sets : Sets) → StandsFor stands old sets → StandsFor stands new (marked_of (shape_of rule old) sets number)
+  pub other_sets : (s : ℕ) → s ≢ number % length old.table → kept_at new.table s ≡ kept_at old.table s
+  pub states : (s : ℕ) → (kept_at new.table s).state ≡ (kept_at old.table s).state
+  pub places : (other : ℕ) → place_in new other ≡ place_in old other
+  pub own : mark_in new number ≡ Some true
+  pub others : (other : ℕ) → other ≢ number → mark_in new other ≡ mark_in old other
 
 -- a flush, with the number of lines that had a mark
 pub record IsFlush {P : Type 0} (takes : P → ℕ → Type 0) (rule : P → ℕ → Rule) (stands : P → ℕ → ℕ → List ℕ → Type 0)

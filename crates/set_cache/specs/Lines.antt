@@ -1,7 +1,7 @@
 -- Where the lines of a cache are kept, and how a touch moves them and their marks.
-use Rattle.std.specs.Prelude.{◌≡◌, ◌≢◌, ℕ, ◌%◌, ◌+◌, ◌*◌, Bool, true, false, ◌||◌, List, length, Option, Some, None, option_map, unwrap_or, is_some, slice_index_or, sum_by}
+use Rattle.std.specs.Prelude.{◌≡◌, ◌≢◌, ℕ, ◌%◌, ◌+◌, ◌*◌, Bool, true, false, ◌||◌, List, [], ◌∷◌, ◌++◌, length, Option, Some, None, option_map, unwrap_or, is_some, slice_index_or, sum_by}
 use Rattle.set_cache.specs.Cache.{way_of, is_dirty, dirty_in}
-use Rattle.set_cache.specs.Contents.{Contents, kept_at}
+use Rattle.set_cache.specs.Contents.{KeptSet, Contents, kept_at}
 use Rattle.set_cache.specs.declared.Touch.{Touch}
 use Rattle.set_cache.specs.declared.KeptLine.{KeptLine}
 
@@ -26,6 +26,11 @@ AllKept Fits contents = (number : ℕ) → is_some (place_in contents number) �
 -- no line has a mark
 abbrev pub IsClean : {P : Type 0} → Contents P → Type 0
 IsClean contents = (number : ℕ) → mark_in contents number ≢ Some true
+
+-- what the ways of all sets keep, set after set
+abbrev pub places_kept : List KeptSet → List (Option KeptLine)
+places_kept [] = []
+places_kept (kept ∷ table) = kept.places ++ places_kept table
 
 -- how many lines have a mark
 abbrev pub dirty_kept : {P : Type 0} → Contents P → ℕ

@@ -94,12 +94,35 @@ fn way_for<P: Policy>(policy: &P, packed: &PackedSets, set: usize, state: u64) -
 }
 
 impl<P: Policy> SetCache<P> {
-    ghost use Rattle.std.specs.Prelude.{◌≢◌, ◌≤◌, ◌+◌, ◌*◌, ◌^◌, true, false, is_some, Some, None, IfOk, IfSome, IfNone};
-    ghost use Rattle.set_cache.specs.Cache.{Sets, place_of, dirty_of, way_of};
+    ghost use Rattle.std.specs.Prelude.{
+      ◌≢◌,
+      ◌≤◌,
+      ◌+◌,
+      ◌*◌,
+      ◌^◌,
+      true,
+      false,
+      is_some,
+      Some,
+      None,
+      IfOk,
+      IfSome,
+      IfNone,
+      slice_index_or,
+    };
+    ghost use Rattle.set_cache.specs.Cache.{Sets, place_of, dirty_of, way_of, dirty_number};
     ghost use Rattle.set_cache.specs.Contents.{StandsFor, IsSound, shape_of};
     ghost use Rattle.set_cache.specs.Packed.{epoch_after};
-    ghost use Rattle.set_cache.specs.Lines.{place_in, dirty_kept};
-    ghost use Rattle.set_cache.specs.Calls.{IsGeometry, IsNew, IsTouch, TellsHit, IsFlush, flush_steps};
+    ghost use Rattle.set_cache.specs.Lines.{place_in, dirty_kept, places_kept};
+    ghost use Rattle.set_cache.specs.Calls.{
+      IsGeometry,
+      IsNew,
+      IsTouch,
+      TellsHit,
+      IsMark,
+      IsFlush,
+      flush_steps,
+    };
 
     /// A cache of fresh sets, in epoch 1.
     ///
@@ -266,31 +289,63 @@ impl<P: Policy> SetCache<P> {
         Some(self.hit(set, way, number, false))
     }
 
-    /// A touch of a line that is no store; whether it was here.
+    /// A touch of a line that is no store.
     ///
     /// A miss is worked apart, so that a hit saves no registers for it: of use
     /// where most lines are here.
     #[inline(always)]
-    pub fn load(&mut self, number: u32) -> bool
-        ensures touch { TellsHit P.takes P.rule P.stands_for result number self.old self.new }
+    pub fn load(&mut self, number: u32) -> Touch
+        ensures touch { IsTouch P.takes P.rule P.stands_for result number false self.old self.new }
         ensures epoch { self.new.epoch ≡ self.old.epoch }
     {
         if self.find(number).is_some() {
-            return true;
+            return HIT;
         }
-        self.load_absent(number);
-        false
+        self.load_absent(number)
     }
 
     /// A touch of a line that isn't here, which is no store.
     #[inline(never)]
-    fn load_absent(&mut self, number: u32)
+    fn load_absent(&mut self, number: u32) -> Touch
         requires absent { place_in self.old number ≡ None }
-        ensures touch { TellsHit P.takes P.rule P.stands_for false number self.old self.new }
+        ensures touch { IsTouch P.takes P.rule P.stands_for result number false self.old self.new }
         ensures epoch { self.new.epoch ≡ self.old.epoch }
     {
         let set = set_of(number, self.packed.count() as u32);
-        self.fill(set, number, false);
+        self.fill(set, number, false)
+    }
+
+    /// Marks a line that is here, and touches nothing: its set's policy state stays.
+    pub fn mark(&mut self, number: u32)
+        requires held { is_some (place_in self.old number) ≡ true }
+        ensures marks { IsMark P.takes P.rule P.stands_for number self.old self.new }
+        ensures epoch { self.new.epoch ≡ self.old.epoch }
+    {
+        let set = set_of(number, self.packed.count() as u32);
+        if let Some(way) = self.packed.find(set, number) {
+            self.packed
+                .write_hit(set, way, number, true, self.packed.state(set));
+        }
+    }
+
+    /// How many places lines have: the sets times the ways.
+    pub fn places(&self) -> u32
+        ensures value { result ≡ length (places_kept self.now.table) }
+        ensures table { result ≡ length self.now.table * self.now.ways }
+    {
+        self.packed.count() as u32 * self.packed.ways()
+    }
+
+    /// The line at a place, its set times the ways plus its way, if it has a dirty mark.
+    pub fn dirty_at(&self, place: u32) -> Option<u32>
+        requires below { place < length self.now.table * self.now.ways }
+        ensures here { (set way : ℕ) → set < length self.now.table → way < self.now.ways
+            → place ≡ set * self.now.ways + way
+            → result ≡ dirty_number (slice_index_or (kept_at self.now.table set).places way None) }
+        ensures listed { result ≡ dirty_number (slice_index_or (places_kept self.now.table) place None) }
+        ensures kept { IfSome result (λ number. is_some (place_in self.now number) ≡ true) }
+    {
+        self.packed.dirty_at(place as usize)
     }
 
     /// The number of lines with a dirty mark.

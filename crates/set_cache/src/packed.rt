@@ -73,7 +73,7 @@ impl Model for PackedSets {
 
 impl Entry {
     ghost use Rattle.std.specs.Prelude.{is_none, option_map};
-    ghost use Rattle.set_cache.specs.Cache.{is_line, is_dirty};
+    ghost use Rattle.set_cache.specs.Cache.{is_line, is_dirty, dirty_number};
     ghost use Rattle.set_cache.specs.Packed.{line_in};
 
     #[inline(always)]
@@ -102,6 +102,17 @@ impl Entry {
         ensures value { result ≡ option_map (λ line. line.number) (line_in epoch self) }
     {
         if self.epoch == epoch {
+            Some(self.number)
+        } else {
+            None
+        }
+    }
+
+    #[inline(always)]
+    fn dirty_number(self, epoch: u32) -> Option<u32>
+        ensures value { result ≡ dirty_number (line_in epoch self) }
+    {
+        if self.is_dirty(epoch) {
             Some(self.number)
         } else {
             None
@@ -181,7 +192,7 @@ fn unwrite_states(states: &mut [WrittenState], steps: &mut u64)
 
 impl PackedSets {
     ghost use Rattle.std.specs.Prelude.{option_map, ◌*◌, ◌||◌, true, None, Some, slice_index_or, slice_set, IfOk, IfSome, if◌then◌else◌, ◌==◌};
-    ghost use Rattle.set_cache.specs.Cache.{way_of, is_dirty};
+    ghost use Rattle.set_cache.specs.Cache.{way_of, is_dirty, dirty_number};
     ghost use Rattle.set_cache.specs.Contents.{kept_at};
     ghost use Rattle.set_cache.specs.Packed.{fresh_sets, with_kept, dirty_sum, epoch_after, greatest_epoch};
 
@@ -287,6 +298,18 @@ impl PackedSets {
             → result ≡ is_dirty (slice_index_or (kept_at self.now.table set).places way None) }
     {
         self.entries[place].is_dirty(self.epoch)
+    }
+
+    /// The line at a place, as `is_marked` counts them, if it has a dirty mark.
+    #[tactic(auto, using(crate::proofs::Vectors::length_table))]
+    #[inline(always)]
+    pub fn dirty_at(&self, place: usize) -> Option<u32>
+        requires below { place < length self.now.table * self.now.ways }
+        ensures value { (set way : ℕ) → set < length self.now.table → way < self.now.ways
+            → place ≡ set * self.now.ways + way
+            → result ≡ dirty_number (slice_index_or (kept_at self.now.table set).places way None) }
+    {
+        self.entries[place].dirty_number(self.epoch)
     }
 
     /// Writes the policy's state of a set.

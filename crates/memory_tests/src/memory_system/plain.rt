@@ -16,11 +16,11 @@ struct Kept {
     marked: bool,
 }
 
-// What a touch found, and whether it gave up a dirty line.
+// What a touch found, and the dirty line that it gave up.
 #[derive(Clone, Copy)]
 struct Found {
     hit: bool,
-    dirty_victim: bool,
+    dirty_victim: Option<u32>,
 }
 
 // A cache as one list of what it keeps, newest first.
@@ -54,7 +54,7 @@ impl PlainCache {
             self.touch_again(place, store)?;
             return Ok(Found {
                 hit: true,
-                dirty_victim: false,
+                dirty_victim: None,
             });
         }
         let filled = self
@@ -67,9 +67,11 @@ impl PlainCache {
         } else {
             self.victim(set)
         };
-        let dirty_victim = self.kept.iter().any(|kept| kept.number & mask == set
-            && kept.way == way
-            && kept.dirty);
+        let dirty_victim = self
+            .kept
+            .iter()
+            .find(|kept| kept.number & mask == set && kept.way == way && kept.dirty)
+            .map(|kept| kept.number);
         self.kept
             .retain(|kept| kept.number & mask != set || kept.way != way);
         let line = Kept {
@@ -84,6 +86,18 @@ impl PlainCache {
             hit: false,
             dirty_victim,
         })
+    }
+
+    fn dirty_at(&self, place: usize) -> Option<u32> {
+        let kept = self.kept.get(place)?;
+        if kept.dirty { Some(kept.number) } else { None }
+    }
+
+    // A line that is here is dirty then.
+    fn mark(&mut self, number: u32) {
+        for kept in self.kept.iter_mut() {
+            kept.dirty = kept.dirty || kept.number == number;
+        }
     }
 
     fn touch_again(&mut self, place: usize, store: bool) -> Result<(), Fail> {
@@ -219,6 +233,7 @@ fn address_of(va: u32, access: Access) -> Option<u32> {
 #[derive(Drop)]
 pub struct PlainSystem {
     pinned: bool,
+    back: bool,
     l1i: PlainCache,
     l1d: PlainCache,
     l2: PlainCache,
@@ -227,9 +242,10 @@ pub struct PlainSystem {
 }
 
 impl PlainSystem {
-    pub fn new(alloc: Global, policy: AnyPolicy, pinned: bool) -> Self {
+    pub fn new(alloc: Global, policy: AnyPolicy, pinned: bool, back: bool) -> Self {
         PlainSystem {
             pinned,
+            back,
             l1i: PlainCache::new(alloc, policy, 15, 2),
             l1d: PlainCache::new(alloc, policy, 15, 2),
             l2: PlainCache::new(alloc, policy, 255, 4),
@@ -238,13 +254,26 @@ impl PlainSystem {
         }
     }
 
+    fn is_pinned(&self, line: u32) -> bool {
+        self.pinned && line / 64 % 4 == 0
+    }
+
     // Past the first level.
     pub fn below(&mut self, line: u32) -> Result<u16, Fail> {
-        if self.pinned && line / 64 % 4 == 0 {
+        if self.is_pinned(line) {
             return Ok(8);
         }
         let found = self.l2.touch(line, false)?;
-        Ok(if found.hit { 8 } else { 48 })
+        if found.hit {
+            return Ok(8);
+        }
+        Ok(if found.dirty_victim.is_some() { 58 } else { 48 })
+    }
+
+    fn write_back(&mut self, line: u32) {
+        if self.back && !self.is_pinned(line) {
+            self.l2.mark(line);
+        }
     }
 
     pub fn fetch(&mut self, line: u32) -> Result<u32, Fail> {
@@ -259,8 +288,12 @@ impl PlainSystem {
         if found.hit {
             return Ok(1);
         }
-        let back = if found.dirty_victim { 10 } else { 0 };
-        Ok(1 + back + u32::from(self.below(line)?))
+        let mut cycles = 1;
+        if let Some(victim) = found.dirty_victim {
+            self.write_back(victim);
+            cycles = 11;
+        }
+        Ok(cycles + u32::from(self.below(line)?))
     }
 
     pub fn branch(&mut self, pc: u32, taken: bool) -> u32 {
@@ -298,8 +331,9 @@ impl PlainSystem {
 
     pub fn flush(&mut self) -> u32 {
         let mut cycles = 20u32;
-        for kept in &self.l1d.kept {
-            if kept.dirty {
+        for place in 0..self.l1d.kept.len() {
+            if let Some(line) = self.l1d.dirty_at(place) {
+                self.write_back(line);
                 cycles = cycles.saturating_add(10);
             }
         }

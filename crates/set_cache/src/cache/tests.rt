@@ -1,4 +1,4 @@
-// What a touch answers, row by row, and caches at the ends of their sizes.
+// What a touch answers, row by row, marks, and caches at the ends of their sizes.
 use super::SetCache;
 use crate::{Policy, Touch};
 use std::test::Fail;
@@ -35,6 +35,43 @@ impl Policy for First {
     }
 }
 
+// Of two ways gives up the one that wasn't touched last.
+#[derive(Drop)]
+struct Older;
+
+impl Policy for Older {
+    ghost use Rattle.std.specs.Prelude.{◌≡◌, ◌-◌, ◌%◌, [], ◌∷◌, slice_index_or};
+    ghost use Rattle.std.proofs.Common.{arith};
+
+    ghost takes = { λ _ ways. ways ≡ 2 };
+
+    ghost rule = { λ _ _. record {
+      touched = λ _ way. way ∷ [];
+      filled = λ _ way. way ∷ [];
+      victim = λ list. 1 - slice_index_or list 0 0 % 2;
+    } };
+
+    ghost stands_for = { λ _ _ state list. state ≡ slice_index_or list 0 0 };
+
+    ghost victim_below = { λ _ _ _ two _. omega (arith, two) };
+
+    fn fresh(&self, _ways: u32) -> u64 {
+        0
+    }
+
+    fn touch(&self, _ways: u32, _state: u64, way: u32) -> u64 {
+        u64::from(way)
+    }
+
+    fn fill(&self, _ways: u32, _state: u64, way: u32) -> u64 {
+        u64::from(way)
+    }
+
+    fn victim(&self, _ways: u32, state: u64) -> u32 {
+        1 - (state % 2) as u32
+    }
+}
+
 const HIT: Touch = Touch {
     hit: true,
     victim: None,
@@ -56,7 +93,7 @@ fn gave_up(number: u32, dirty: bool) -> Touch {
 }
 
 // The first line whose touch answers otherwise than its row says.
-fn first_wrong(cache: &mut SetCache<First>, rows: &[(u32, bool, Touch)]) -> Option<u32> {
+fn first_wrong<P: Policy>(cache: &mut SetCache<P>, rows: &[(u32, bool, Touch)]) -> Option<u32> {
     for (number, store, wanted) in rows {
         if cache.touch(*number, *store) != *wanted {
             return Some(*number);
@@ -85,6 +122,67 @@ fn a_victim_is_given_up_with_its_mark(rt: HostRuntime) -> Result<(), Fail> {
     assert!(rt; !cache.holds(4));
     assert_eq!(rt; (cache.dirty(), cache.flush(), cache.dirty()), (1, 1, 0));
     assert!(rt; !cache.holds(6));
+    Ok(())
+}
+
+// Marks a line, if it is here.
+fn mark<P: Policy>(cache: &mut SetCache<P>, number: u32) {
+    if cache.holds(number) {
+        cache.mark(number);
+    }
+}
+
+// The line at a place, if it has a mark.
+fn dirty_at<P: Policy>(cache: &SetCache<P>, place: u32) -> Option<u32> {
+    if place < cache.places() {
+        cache.dirty_at(place)
+    } else {
+        None
+    }
+}
+
+#[test]
+fn dirty_lines_are_told_by_their_places(rt: HostRuntime) -> Result<(), Fail> {
+    // Two sets of two ways: places 0 and 1 are the even lines', 2 and 3 the odd ones'.
+    let mut cache = SetCache::new(rt.alloc(), First, 2, 2)?;
+    let rows = [
+        (4, true, TOOK_AN_EMPTY_WAY),
+        (6, false, TOOK_AN_EMPTY_WAY),
+        (7, false, TOOK_AN_EMPTY_WAY),
+        (9, true, TOOK_AN_EMPTY_WAY),
+    ];
+    assert_eq!(rt; first_wrong(&mut cache, &rows), None);
+    assert_eq!(rt; cache.places(), 4);
+    assert_eq!(rt; (dirty_at(&cache, 0), dirty_at(&cache, 1)), (Some(4), None));
+    assert_eq!(rt; (dirty_at(&cache, 2), dirty_at(&cache, 3)), (None, Some(9)));
+    // Marked twice it counts once.
+    mark(&mut cache, 6);
+    mark(&mut cache, 6);
+    assert_eq!(rt;
+        (dirty_at(&cache, 0), dirty_at(&cache, 1)),
+        (Some(4), Some(6))
+    );
+    assert_eq!(rt; (cache.dirty(), cache.flush()), (3, 3));
+    assert_eq!(rt; (dirty_at(&cache, 0), dirty_at(&cache, 1)), (None, None));
+    Ok(())
+}
+
+// Lines 1 and 2 in one set of two ways, then a mark of line 1, and a third line.
+fn after_a_mark(cache: &mut SetCache<Older>, marked: bool) -> Touch {
+    cache.touch(1, false);
+    cache.touch(2, false);
+    if marked {
+        mark(cache, 1);
+    }
+    cache.touch(3, false)
+}
+
+#[test]
+fn a_mark_leaves_the_order(rt: HostRuntime) -> Result<(), Fail> {
+    let mut cache = SetCache::new(rt.alloc(), Older, 1, 2)?;
+    assert_eq!(rt; after_a_mark(&mut cache, true), gave_up(1, true));
+    cache.flush();
+    assert_eq!(rt; after_a_mark(&mut cache, false), gave_up(1, false));
     Ok(())
 }
 

@@ -1,4 +1,4 @@
-use Rattle.std.proofs.Common.{◌≡◌, ◌<◌, ◌≤◌, ◌+◌, ◌*◌, ◌/◌, length, rules, arith}
+use Rattle.std.proofs.Common.{◌<◌, ◌≤◌, ◌+◌, ◌*◌, ◌/◌, length, rules, arith}
 use Rattle.l2_colour.specs.Colours.{colours_of}
 use Rattle.l2_colour.proofs.Rows.{sets_are, row_end}
 use Rattle.l2_colour.proofs.cache.L2.sets_of.Goals as goal

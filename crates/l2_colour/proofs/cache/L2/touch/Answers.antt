@@ -1,6 +1,6 @@
-use Rattle.std.proofs.Common.{ℕ, length, ap, sym, subst, ◌∙◌}
+use Rattle.std.proofs.Common.{ℕ, false, length, ap, sym, subst, ◌∙◌}
 use Rattle.set_cache.specs.Lines.{mark_in}
-use Rattle.set_cache.proofs.Ways.{marks_clean}
+use Rattle.set_cache.proofs.Ways.{marks_clean, no_dirty_victim}
 use Rattle.l2_colour.specs.Colours.{IsColoured, colours_of, colour_of_set}
 use Rattle.l2_colour.proofs.Rows.{line_in_colour}
 use Rattle.l2_colour.proofs.cache.L2.touch.Goals as goal
@@ -12,19 +12,24 @@ returns-clause-touch g c =
 pub returns-clause-colour : goal.returns-clause-colour
 returns-clause-colour g c =
     let a = c.self.inside in
-    rw (← c.number.ensures.same) (rw (← c.self.view_is) (λ s apart. c.load.ensures.touch.touch.other_sets s (λ e.
-    apart (ap (colour_of_set a.line_size) e ∙ line_in_colour a.line_size (length a.cache.table) c.number.result c.self.invariant.coloured))))
+    rw (← c.number.ensures.same) (rw (← c.self.view_is) (λ s apart. c.load.ensures.touch.other_sets s (λ e.
+    apart (ap (colour_of_set a.line_size) e
+    ∙ line_in_colour a.line_size (length a.cache.table) c.number.result c.self.invariant.coloured))))
 
 pub returns-clause-clean : goal.returns-clause-clean
 returns-clause-clean g c =
-    marks_clean c.load.ensures.touch.answer c.number.result (mark_in c.self.inside.cache) (mark_in c.load.new.self) c.load.ensures.touch.touch.marks c.self.invariant.clean
+    rw (← c.self.view_is) (λ past.
+    no_dirty_victim c.load.result c.number.result false (mark_in c.self.inside.cache) (mark_in c.load.new.self)
+    c.load.ensures.touch.marks (c.self.invariant.clean past))
 
 pub invariant_of-self : goal.invariant_of-self
 invariant_of-self g c =
     let a = c.self.inside in
-    let same = sym c.load.ensures.touch.touch.shape.same_sets in
+    let same = sym c.load.ensures.touch.shape.same_sets in
     record {
       coloured = subst (λ (n : ℕ). IsColoured a.line_size n) same c.self.invariant.coloured;
       counted = c.self.invariant.counted ∙ ap (colours_of a.line_size) same;
-      clean = marks_clean c.load.ensures.touch.answer c.number.result (mark_in a.cache) (mark_in c.load.new.self) c.load.ensures.touch.touch.marks c.self.invariant.clean;
+      clean = λ past.
+          marks_clean c.load.result c.number.result (mark_in a.cache) (mark_in c.load.new.self)
+          c.load.ensures.touch.marks (c.self.invariant.clean past);
     }
