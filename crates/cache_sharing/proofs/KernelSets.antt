@@ -1,13 +1,14 @@
 -- The sets of the kernel's colour keep shared lines alone.
 use Rattle.std.proofs.Common.{◌≡◌, ◌∙◌, sym, refl, ap, subst, inl, inr, true≢false, eqb-true, eq-eqb, ne_eqb, ℕ, zero, suc, ◌%◌, Bool, true, false, List, [], ◌∷◌, replicate, Option, Some, None, get_or}
-use Rattle.std.specs.Prelude.{◌==◌, ◌&&◌, not, All, take}
+use Rattle.std.specs.Prelude.{◌==◌, ◌&&◌, not, All, take, option_map}
 use Rattle.std.proofs.lemmas.List.Elements.{All-head, All-tail, All-weaker}
-use Rattle.tp_base.specs.Table.{at-put_by, at-empty}
+use Rattle.tp_base.specs.Table.{at-put_by}
 use Rattle.set_cache.specs.declared.KeptLine.{KeptLine}
-use Rattle.set_cache.specs.Cache.{CacheSet, Sets, fresh_set, set_at, is_line, step_of}
+use Rattle.set_cache.specs.Cache.{CacheSet, Sets, fresh_set, set_at, is_line, step_of, marked_if}
+use Rattle.set_cache.proofs.Dirty.{empty_kept, marked_at, is_here, set_at-marked}
 use Rattle.l2_colour.specs.Colours.{IsColoured, colour_of_set}
 use Rattle.mem_system.specs.Hierarchy.{Hierarchy, colour_of_line}
-use Rattle.mem_system.specs.Cost.{Touch, Fetch, Load, Store, WalkRead, Look, Branch, Jump, EmptyTlb, Flush, Charge, Caches, cold, below, below_if, below_by, below_all, on_core, pass_on, touched, touched_all, and_then}
+use Rattle.mem_system.specs.Cost.{Touch, Fetch, Load, Store, WalkRead, Look, Branch, Jump, EmptyTlb, Flush, Charge, Caches, cold, Passed, Read, WriteBack, marked_where, is_pinned, below, below_if, below_by, below_all, on_core, pass_on, touched, touched_all, and_then}
 use Rattle.mem_system.specs.TouchLaws.{lines_in_l2}
 use Rattle.mem_system.proofs.TouchLaws.{set_colour, handed_on}
 use Rattle.cache_sharing.specs.Operations.{prefetch}
@@ -16,15 +17,9 @@ use Rattle.cache_sharing.specs.Laws.{EmptyLaw, SharedAloneLaw, PrefetchAloneLaw}
 use Rattle.cache_sharing.proofs.ResidencyWays.{only_touched}
 use Rattle.cache_sharing.proofs.OwnTouches.{MayReach, may_reach, prefetch_may}
 
-none_kept : (ways way : ℕ) → get_or {A = Option KeptLine} (replicate ways None) way None ≡ None
-none_kept zero way = refl
-none_kept (suc ways) zero = refl
-none_kept (suc ways) (suc way) = none_kept ways way
-
 pub empty_law : EmptyLaw
 unfolding cold
-empty_law h s way =
-    ap (λ (set : CacheSet). get_or set.places way None) (at-empty (fresh_set h.l2.ways) s) ∙ none_kept h.l2.ways way
+empty_law h s way = empty_kept h.l2.ways s way
 
 -- what a way keeps where it keeps this line
 kept_is : (number : ℕ) (kept : Option KeptLine) → is_line number kept ≡ true → (line : KeptLine) × (kept ≡ Some line) × (line.number ≡ number)
@@ -56,19 +51,51 @@ module _ (h : Hierarchy) (region : List ℕ) (coloured : IsColoured h.line_size 
       ])
       (λ k other way kept. alone k way kept) s
 
-  lines_alone : (pinned : Bool) (lines : List ℕ) (sets : Sets) → All MayStand lines → KeepsSharedAlone h region sets
-      → KeepsSharedAlone h region (below_all h pinned sets lines).l2
-  unfolding below_all below
+  -- a way that has a line after a mark had it before
+  kept_before : (test : ℕ → Bool) (old : Option KeptLine) (kept : KeptLine) → marked_if test old ≡ Some kept
+      → (line : KeptLine) × (old ≡ Some line) × (line.number ≡ kept.number)
+  kept_before test None kept is = absurd (let x : None ≡ Some kept = is in cc)
+  kept_before test (Some line) kept is =
+      let same : Some line.number ≡ Some kept.number = ap (option_map (λ (k : KeptLine). k.number)) is in
+      (line, refl, cc)
+
+  -- a mark brings no line
+  marked_alone : (test : Bool) (sets : Sets) (line : ℕ) → KeepsSharedAlone h region sets
+      → KeepsSharedAlone h region (marked_where test h sets line)
+  marked_alone false sets line alone = alone
+  marked_alone true sets line alone = λ s way kept kernel is.
+      let its : CacheSet = set_at h.l2.ways sets s in
+      let here = is_here h.l2 s line in
+      let old =
+      kept_before here (get_or its.places way None) kept
+      (sym (ap (λ (one : CacheSet). get_or one.places way None) (set_at-marked h.l2 sets line s) ∙ marked_at here its.places way) ∙ is) in
+      subst (IsShared region) old.2 (alone s way old.0 kernel old.1)
+
+  -- what may come there
+  abbrev MayCome : Passed → Type 0
+  MayCome (Read line) = MayStand line
+  MayCome (WriteBack line) = Unit {0}
+
+  one_alone : (pinned : Bool) (one : Passed) (sets : Sets) → MayCome one → KeepsSharedAlone h region sets
+      → KeepsSharedAlone h region (below h pinned sets one).l2
+  unfolding below
+  one_alone pinned (Read line) sets may alone = line_alone (is_pinned h pinned line) sets line may alone
+  one_alone pinned (WriteBack line) sets may alone = marked_alone (h.back && not (is_pinned h pinned line)) sets line alone
+
+  lines_alone : (pinned : Bool) (passed : List Passed) (sets : Sets) → All MayCome passed → KeepsSharedAlone h region sets
+      → KeepsSharedAlone h region (below_all h pinned sets passed).l2
+  unfolding below_all
   lines_alone pinned [] sets may alone = alone
-  lines_alone pinned (line ∷ lines) sets may alone =
-      lines_alone pinned lines (below h pinned sets line).l2 (All-tail MayStand line lines may)
-      (line_alone (pinned && colour_of_line h line == 0) sets line (All-head MayStand line lines may) alone)
+  lines_alone pinned (one ∷ passed) sets may alone =
+      lines_alone pinned passed (below h pinned sets one).l2 (All-tail MayCome one passed may)
+      (one_alone pinned one sets (All-head MayCome one passed may) alone)
 
   touch_alone : (pinned : Bool) (c : Caches) (touch : Touch) → All MayStand (lines_in_l2 touch) → KeepsSharedAlone h region c.l2
       → KeepsSharedAlone h region (touched h pinned c touch).caches.l2
   unfolding touched pass_on
   touch_alone pinned c touch may alone =
-      lines_alone pinned (on_core h c.core touch).lines c.l2 (handed_on MayStand h c.core touch may) alone
+      lines_alone pinned (on_core h c.core touch).passed c.l2
+      (handed_on MayCome h c.core touch may (λ s way line at marked. tt)) alone
 
   -- no line of a domain's own has colour 0
   reached_stand : (own : ℕ → Bool) → own 0 ≡ false → (line : ℕ) → MayReach h own region line → MayStand line
@@ -90,7 +117,7 @@ shared_alone_law h own region pinned ts c sharing may alone =
 -- as the touches of a domain of no colour
 pub prefetch_alone_law : PrefetchAloneLaw
 prefetch_alone_law h own region pinned c sharing alone =
-    touches_alone h region sharing.coloured (λ _. false) refl pinned (prefetch region) c (prefetch_may h region) alone
+    touches_alone h region sharing.coloured (λ _. false) refl pinned (prefetch region) c (prefetch_may h (λ _. false) region) alone
 
 -- ---- touches of several domains, one after the other
 
@@ -101,7 +128,7 @@ any_colour colour = not (colour == 0)
 any_own : (h : Hierarchy) (own : ℕ → Bool) → own 0 ≡ false → (line : ℕ) → IsOwnLine h own line → IsOwnLine h any_colour line
 any_own h own not_kernel line mine = ap not (ne_eqb (colour_of_line h line) 0 (λ is. true≢false (sym mine ∙ ap own is ∙ not_kernel)))
 
-any_touch : (h : Hierarchy) (own : ℕ → Bool) (region : List ℕ) → own 0 ≡ false → (t : Touch) → MayTouch h own region t → MayTouch h any_colour region t
+pub any_touch : (h : Hierarchy) (own : ℕ → Bool) (region : List ℕ) → own 0 ≡ false → (t : Touch) → MayTouch h own region t → MayTouch h any_colour region t
 any_touch h own region not_kernel (Fetch line) may = any_own h own not_kernel line may
 any_touch h own region not_kernel (Load line) (inl may) = inl (any_own h own not_kernel line may)
 any_touch h own region not_kernel (Load line) (inr may) = inr may

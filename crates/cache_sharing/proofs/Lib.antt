@@ -5,3 +5,5 @@ pub mod Residency
 pub mod KernelSets
 pub mod Region
 pub mod Worst
+pub mod Settling
+pub mod Clean

@@ -1,14 +1,16 @@
 -- Loads of the shared lines bring all of them into an empty second level, where each set has room for its own.
-use Rattle.std.proofs.Common.{◌≡◌, ◌⊎◌, inl, inr, ℕ, zero, suc, ◌+◌, ◌*◌, ◌<◌, ◌≤◌, ◌%◌, Bool, true, false, cond, List, [], ◌∷◌, length, replicate, Option, Some, None, is_some, option_map, ap, sym, subst, refl, arith, true≢false, eq-eqb}
-use Rattle.std.specs.Prelude.{count_by, slice_index, ◌==◌}
+use Rattle.std.proofs.Common.{◌≡◌, ◌∙◌, ◌⊎◌, inl, inr, ℕ, zero, suc, ◌+◌, ◌*◌, ◌<◌, ◌≤◌, ◌%◌, Bool, true, false, cond, List, [], ◌∷◌, length, replicate, Option, Some, None, is_some, option_map, get_or, ap, sym, subst, refl, arith, true≢false, eq-eqb}
+use Rattle.std.specs.Prelude.{count_by, slice_index, ◌==◌, ◌&&◌, map, ◌++◌}
 use Rattle.std.proofs.lemmas.List.Sums.{sum_by-cons}
 use Rattle.tp_base.specs.Table.{empty, at-put_by, at-empty}
 use Rattle.set_cache.specs.declared.KeptLine.{KeptLine}
-use Rattle.set_cache.specs.Cache.{Shape, CacheSet, Sets, fresh_set, set_at, way_of, step_of, touch_of}
+use Rattle.set_cache.specs.Cache.{Shape, CacheSet, Sets, fresh_set, set_at, is_line, way_of, step_of, touch_of, marked_if, marked_of}
 use Rattle.set_cache.proofs.Steps.{IsFull, IsFull-empty, IsFull-touch, set_at-touch_same}
 use Rattle.set_cache.proofs.Ways.{some_at}
+use Rattle.set_cache.proofs.Dirty.{line_marked, marked_at, marked_by, is_here, set_at-marked}
+use Rattle.std.proofs.lemmas.List.{length-map}
 use Rattle.mem_system.specs.Hierarchy.{Hierarchy}
-use Rattle.mem_system.specs.Cost.{Load, Caches, fresh_core, cold, accessed, unless_hit, on_core, below_by, below_if, below, below_all, pass_on, touched, and_then, touched_all}
+use Rattle.mem_system.specs.Cost.{Load, Caches, Passed, WriteBack, given_up, marked_where, fresh_core, cold, accessed, unless_hit, on_core, below_by, below_if, below, below_all, pass_on, touched, and_then, touched_all}
 use Rattle.cache_sharing.specs.Operations.{prefetch}
 use Rattle.cache_sharing.specs.Sharing.{HasRoom, Resident}
 use Rattle.cache_sharing.proofs.ResidencyWays.{Stands, filled, Grows, only_touched, hit_stands, grows}
@@ -118,21 +120,73 @@ again shape seen sets line is holds = record {
   full = holds.full;
 }
 
-loaded_if : (h : Hierarchy) (seen : List ℕ) (c : Caches) (line : ℕ) (hit : Bool) → (touch_of h.l1d c.core.l1d line false).answer.hit ≡ hit
-    → lines_at h.l2 (line % h.l2.count) seen < h.l2.ways → Loaded h seen c → Holds h.l2 (line ∷ seen) (below_all h false c.l2 (unless_hit hit line)).l2
+-- ---- what is given up is marked, if at all, and moves nothing
+
+stands_marked : (line : ℕ) (test : ℕ → Bool) (places : List (Option KeptLine)) → Stands line places → Stands line (map (marked_if test) places)
+stands_marked line test places (way, at) =
+    (way, ap (is_line line) (marked_at test places way) ∙ line_marked line test (get_or places way None) ∙ at)
+
+filled_marked : (test : ℕ → Bool) (places : List (Option KeptLine)) → filled (map (marked_if test) places) ≡ filled places
+filled_marked test [] = refl
+filled_marked test (None ∷ places) = filled_marked test places
+filled_marked test (Some line ∷ places) =
+    let rest = filled_marked test places in
+    let new = sum_by-cons (λ (kept : Option KeptLine). cond (is_some kept) 1 0) (marked_if test (Some line)) (map (marked_if test) places) in
+    let old = sum_by-cons (λ (kept : Option KeptLine). cond (is_some kept) 1 0) (Some line) places in
+    omega (arith, rest, new, old)
+
+holds_marked : (shape : Shape) (seen : List ℕ) (sets : Sets) (line : ℕ) → Holds shape seen sets → Holds shape seen (marked_of shape sets line)
+holds_marked shape seen sets line holds =
+    let By : (ℕ → CacheSet → Type 0) → Type 0
+    = λ P. (s : ℕ) → P s (marked_by (is_here shape s line) (set_at shape.ways sets s)) → P s (set_at shape.ways (marked_of shape sets line) s) in
+    let by : (P : ℕ → CacheSet → Type 0) → By P = λ P s its. subst (P s) (sym (set_at-marked shape sets line s)) its in
+    record {
+      held = λ other is.
+          by (λ _ one. Stands other one.places) (other % shape.count)
+          (stands_marked other (is_here shape (other % shape.count) line) (set_at shape.ways sets (other % shape.count)).places (holds.held other is));
+      room = λ s.
+          by (λ k one. filled one.places ≤ lines_at shape k seen) s
+          (omega (arith, filled_marked (is_here shape s line) (set_at shape.ways sets s).places, holds.room s));
+      full = record {
+        each = λ s.
+            by (λ _ one. length one.places ≡ shape.ways) s
+            (length-map (set_at shape.ways sets s).places (marked_if (is_here shape s line)) ∙ holds.full.each s);
+      };
+    }
+
+holds_where : (h : Hierarchy) (seen : List ℕ) (test : Bool) (sets : Sets) (line : ℕ) → Holds h.l2 seen sets → Holds h.l2 seen (marked_where test h sets line)
+holds_where h seen true sets line holds = holds_marked h.l2 seen sets line holds
+holds_where h seen false sets line holds = holds
+
+given_holds : (h : Hierarchy) (seen : List ℕ) (sets : Sets) (victim : Option ℕ) (dirty : Bool) (passed : List Passed) → Holds h.l2 seen sets
+    → (kept : Sets) × Holds h.l2 seen kept × ((below_all h false sets (given_up victim dirty ++ passed)).l2 ≡ (below_all h false kept passed).l2)
+unfolding below_all below
+given_holds h seen sets (Some line) true passed holds =
+    (marked_where (h.back && true) h sets line, holds_where h seen (h.back && true) sets line holds, refl)
+given_holds h seen sets (Some line) false passed holds = (sets, holds, refl)
+given_holds h seen sets None dirty passed holds = (sets, holds, refl)
+
+loaded_if : (h : Hierarchy) (seen : List ℕ) (c : Caches) (kept : Sets) (line : ℕ) (hit : Bool) → (touch_of h.l1d c.core.l1d line false).answer.hit ≡ hit
+    → lines_at h.l2 (line % h.l2.count) seen < h.l2.ways → Loaded h seen c → Holds h.l2 seen kept
+    → Holds h.l2 (line ∷ seen) (below_all h false kept (unless_hit hit line)).l2
 unfolding below_all below below_if below_by
-loaded_if h seen c line true hit enough loaded =
+loaded_if h seen c kept line true hit enough loaded holds =
     let s : ℕ = line % h.l1d.count in
-    again h.l2 seen c.l2 line (loaded.from s line (hit_stands h.l1d.rule (set_at h.l1d.ways c.core.l1d s) line hit)) loaded.l2
-loaded_if h seen c line false miss enough loaded = holds_next h.l2 seen c.l2 line enough loaded.l2
+    again h.l2 seen kept line (loaded.from s line (hit_stands h.l1d.rule (set_at h.l1d.ways c.core.l1d s) line hit)) holds
+loaded_if h seen c kept line false miss enough loaded holds = holds_next h.l2 seen kept line enough holds
 
 loaded_next : (h : Hierarchy) (seen : List ℕ) (c : Caches) (line : ℕ) → lines_at h.l2 (line % h.l2.count) seen < h.l2.ways
     → Loaded h seen c → Loaded h (line ∷ seen) (touched h false c (Load line)).caches
 unfolding touched pass_on on_core accessed
-loaded_next h seen c line enough loaded = record {
-  from = from_next h.l1d seen c.core.l1d line loaded.from;
-  l2 = loaded_if h seen c line _ refl enough loaded;
-}
+loaded_next h seen c line enough loaded =
+    let answer = (touch_of h.l1d c.core.l1d line false).answer in
+    let given = given_holds h seen c.l2 answer.victim answer.dirty_victim (unless_hit answer.hit line) loaded.l2 in
+    record {
+      from = from_next h.l1d seen c.core.l1d line loaded.from;
+      l2 =
+          subst (Holds h.l2 (line ∷ seen)) (sym given.2)
+          (loaded_if h seen c given.0 line answer.hit refl enough loaded given.1);
+    }
 
 -- each set has room for what it has of both lists
 abbrev HasRoomFor : Shape → List ℕ → List ℕ → Type 0

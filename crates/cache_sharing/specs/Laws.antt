@@ -7,8 +7,8 @@ use Rattle.pad_bound.specs.Bound.{worst_instruction, worst_operation, worst_leav
 use Rattle.pad_bound.specs.Worst.{IsCloneOf}
 use Rattle.mem_system.specs.Hierarchy.{Hierarchy}
 use Rattle.mem_system.specs.Cost.{Touch, Caches, cold, and_then, touched_all}
-use Rattle.cache_sharing.specs.Operations.{shared_region, prefetch, switch}
-use Rattle.cache_sharing.specs.Sharing.{IsRegion, IsSharing, HasRoom, AreApart, MayTouchAll, SameSets, Resident, kept_at, KeepsSharedAlone, BesideCaches, BesideTouched}
+use Rattle.cache_sharing.specs.Operations.{shared_region, prefetch, leave_if, switch}
+use Rattle.cache_sharing.specs.Sharing.{IsRegion, IsSharing, HasRoom, AreApart, MayTouchAll, SameSets, Resident, kept_at, KeepsSharedAlone, KernelIsClean, OwnDirty, settled, BesideCaches, BesideTouched}
 use Rattle.cache_sharing.specs.Worst.{shape_of, worst_touches, HasWays, IsWithin}
 
 -- touches after touches
@@ -24,11 +24,16 @@ BesideLaw = (h : Hierarchy) (own : ℕ → Bool) (region : List ℕ) (first : Se
     → IsSharing h own region → MayTouchAll h own region ts → BesideCaches h own region first c alone
     → BesideTouched h own region first (touched_all h false c ts) (touched_all h true alone ts)
 
--- leave the sets of another's colours
+-- leave the sets of another's colours, where the dirty lines are its own
 abbrev pub OthersLaw : Type 0
 OthersLaw = (h : Hierarchy) (own others : ℕ → Bool) (region : List ℕ) (ts : List Touch) (c : Caches)
-    → IsSharing h own region → AreApart own others → MayTouchAll h others region ts
+    → IsSharing h own region → AreApart own others → MayTouchAll h others region ts → OwnDirty h others c.core
     → SameSets h own (touched_all h false c ts).caches.l2 c.l2
+
+-- so they stay, since it stores to its own lines alone
+abbrev pub OwnDirtyLaw : Type 0
+OwnDirtyLaw = (h : Hierarchy) (own : ℕ → Bool) (region : List ℕ) (pinned : Bool) (ts : List Touch) (c : Caches)
+    → MayTouchAll h own region ts → OwnDirty h own c.core → OwnDirty h own (touched_all h pinned c ts).caches.core
 
 -- and the shared lines in place
 abbrev pub StaysResidentLaw : Type 0
@@ -38,10 +43,16 @@ StaysResidentLaw = (h : Hierarchy) (own : ℕ → Bool) (region : List ℕ) (ts 
 
 -- ---- the prefetch
 
--- leaves the sets of all domains
+-- leaves the sets of all domains but of the one whose lines are dirty, some of which it writes back
 abbrev pub PrefetchLaw : Type 0
-PrefetchLaw = (h : Hierarchy) (own : ℕ → Bool) (region : List ℕ) (c : Caches) → IsSharing h own region
+PrefetchLaw = (h : Hierarchy) (own others : ℕ → Bool) (region : List ℕ) (c : Caches) → IsSharing h own region
+    → AreApart own others → OwnDirty h others c.core
     → SameSets h own (touched_all h false c (prefetch region)).caches.l2 c.l2
+
+-- whose sets are after the flush as if there had been none
+abbrev pub SettledLaw : Type 0
+SettledLaw = (h : Hierarchy) (own : ℕ → Bool) (region : List ℕ) (c : Caches) → IsSharing h own region → 0 < h.l1d.count
+    → SameSets h own (settled h (touched_all h false c (prefetch region)).caches) (settled h c)
 
 -- and the shared lines in place
 abbrev pub PrefetchStaysLaw : Type 0
@@ -78,22 +89,36 @@ PrefetchAloneLaw = (h : Hierarchy) (own : ℕ → Bool) (region : List ℕ) (pin
     → IsSharing h own region → KeepsSharedAlone h region c.l2
     → KeepsSharedAlone h region (touched_all h pinned c (prefetch region)).caches.l2
 
+-- ---- no line of colour 0 is ever dirty
+
+-- at first none is
+abbrev pub ColdIsCleanLaw : Type 0
+ColdIsCleanLaw = (h : Hierarchy) → KernelIsClean h (cold h)
+
+-- and a domain's touches make none so: so the kernel's shared lines cost the same whatever domains wrote
+abbrev pub StaysCleanLaw : Type 0
+StaysCleanLaw = (h : Hierarchy) (own : ℕ → Bool) (region : List ℕ) (pinned : Bool) (ts : List Touch) (c : Caches)
+    → IsSharing h own region → MayTouchAll h own region ts → KernelIsClean h c → KernelIsClean h (touched_all h pinned c ts).caches
+
 -- ---- what it costs at worst
 
 abbrev pub WorstLaw : Type 0
 WorstLaw = (h : Hierarchy) (pinned : Bool) (ts : List Touch) (c : Caches) → HasWays h c
     → IsWithin h (worst_touches h ts) (touched_all h pinned c ts)
 
--- a switch, part by part
+-- a switch, part by part, where no line of the kernel's colour is dirty, and who leaves makes none so
 abbrev pub SwitchLaw : Type 0
-SwitchLaw = (h : Hierarchy) (shared calls : ℕ) (out : Option Layout) (into : Layout) (c : Caches) → HasWays h c
+SwitchLaw = (h : Hierarchy) (own : ℕ → Bool) (pinned : Bool) (shared calls : ℕ) (out : Option Layout) (into : Layout) (c : Caches)
+    → HasWays h c → KernelIsClean h c → IsSharing h own (shared_region into) → MayTouchAll h own (shared_region into) (leave_if h.costs out)
     → IsCloneOf (shape_of h shared calls) into
     → let s = shape_of h shared calls in
-    IsWithin h (worst_leave s + worst_prefetch s + worst_flush s + worst_enter s) (touched_all h false c (switch h.costs out into))
+    IsWithin h (worst_leave s + worst_prefetch s + worst_flush s + worst_enter s) (touched_all h pinned c (switch h.costs out into))
 
 -- begun past a slot's end by less than the largest step of the domain that leaves, it is done by that domain's bound
 abbrev pub OnTimeLaw : Type 0
-OnTimeLaw = (h : Hierarchy) (shared calls old_end now : ℕ) (out : Option Layout) (into : Layout) (c : Caches) → HasWays h c
+OnTimeLaw = (h : Hierarchy) (own : ℕ → Bool) (pinned : Bool) (shared calls old_end now : ℕ) (out : Option Layout) (into : Layout) (c : Caches)
+    → HasWays h c → KernelIsClean h c → IsSharing h own (shared_region into)
+    → MayTouchAll h own (shared_region into) (leave_if h.costs out)
     → let s = shape_of h shared calls in
     IsCloneOf s into → old_end ≤ now → now < old_end + (worst_instruction s + worst_operation s)
-    → now + (touched_all h false c (switch h.costs out into)).cost - old_end ≤ bound_of s
+    → now + (touched_all h pinned c (switch h.costs out into)).cost - old_end ≤ bound_of s

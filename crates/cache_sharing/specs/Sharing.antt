@@ -1,10 +1,10 @@
 -- How domains share the second level: each has the sets of its colours, and the kernel's shared lines stand in those of colour 0.
 use Rattle.std.specs.Prelude.{◌≡◌, ◌≢◌, ℕ, ◌%◌, ◌==◌, ◌<◌, ◌≤◌, ◌⊎◌, Bool, false, IsTrue, List, [], ◌∷◌, length, slice_index, slice_index_or, count_by, All, Option, Some, None}
-use Rattle.set_cache.specs.Cache.{Sets, set_at}
+use Rattle.set_cache.specs.Cache.{Sets, set_at, EachDirty}
 use Rattle.set_cache.specs.declared.KeptLine.{KeptLine}
 use Rattle.l2_colour.specs.Colours.{IsColoured, colour_of_set}
 use Rattle.mem_system.specs.Hierarchy.{Hierarchy, colour_of_line}
-use Rattle.mem_system.specs.Cost.{Touch, Fetch, Load, Store, WalkRead, Look, Branch, Jump, EmptyTlb, Flush, Charge, Caches, Touched}
+use Rattle.mem_system.specs.Cost.{Touch, Fetch, Load, Store, WalkRead, Look, Branch, Jump, EmptyTlb, Flush, Charge, Core, Caches, Touched, touched}
 use Rattle.mem_system.specs.TouchLaws.{holds}
 
 -- ---- whose lines and sets; a domain's colours are a test
@@ -59,6 +59,16 @@ abbrev pub MayTouchAll : Hierarchy → (ℕ → Bool) → List ℕ → List Touc
 MayTouchAll h own region [] = Unit {0}
 MayTouchAll h own region (t ∷ ts) = MayTouch h own region t × MayTouchAll h own region ts
 
+-- ---- dirty lines
+
+-- each dirty line of the first level is the domain's own
+abbrev pub OwnDirty : Hierarchy → (ℕ → Bool) → Core → Type 0
+OwnDirty h own core = EachDirty (IsOwnLine h own) h.l1d core.l1d
+
+-- the second level when the dirty lines of the first have been written back: each that it holds has a mark
+abbrev pub settled : Hierarchy → Caches → Sets
+settled h c = (touched h false c Flush).caches.l2
+
 -- ---- two second levels
 
 -- equal in the sets of the domain's colours
@@ -85,6 +95,11 @@ abbrev pub KeepsSharedAlone : Hierarchy → List ℕ → Sets → Type 0
 KeepsSharedAlone h region l2 = (s way : ℕ) (line : KeptLine) → colour_of_set h.line_size s ≡ 0
     → kept_at h l2 s way ≡ Some line → IsShared region line.number
 
+-- no line of the kernel's colour is dirty: none in the first level, and none that the sets of that colour keep in the second
+pub record KernelIsClean (h : Hierarchy) (c : Caches) : Type 0 where
+  pub core : EachDirty (λ line. colour_of_line h line ≢ 0) h.l1d c.core.l1d
+  pub l2 : (s way : ℕ) (line : KeptLine) → colour_of_set h.line_size s ≡ 0 → kept_at h c.l2 s way ≡ Some line → line.dirty ≡ false
+
 -- ---- the whole machine's caches beside those of the domain alone
 
 pub record BesideL2 (h : Hierarchy) (own : ℕ → Bool) (region : List ℕ) (first l2 alone : Sets) : Type 0 where
@@ -94,6 +109,7 @@ pub record BesideL2 (h : Hierarchy) (own : ℕ → Bool) (region : List ℕ) (fi
 
 pub record BesideCaches (h : Hierarchy) (own : ℕ → Bool) (region : List ℕ) (first : Sets) (c alone : Caches) : Type 0 where
   pub core : c.core ≡ alone.core
+  pub dirty : OwnDirty h own c.core
   pub l2 : BesideL2 h own region first c.l2 alone.l2
 
 -- at equal cost

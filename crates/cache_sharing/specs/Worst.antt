@@ -1,10 +1,14 @@
 -- What touches cost at worst, whatever the caches hold.
-use Rattle.std.specs.Prelude.{◌≡◌, ℕ, ◌+◌, ◌*◌, ◌<◌, ◌≤◌, List, [], ◌∷◌, length}
+use Rattle.std.specs.Prelude.{◌≡◌, ℕ, ◌+◌, ◌*◌, ◌<◌, ◌≤◌, if◌then◌else◌, List, [], ◌∷◌, length}
 use Rattle.set_cache.specs.Cache.{set_at}
 use Rattle.cycle_cost.specs.Costs.{most_added}
 use Rattle.pad_bound.specs.Bound.{MachineShape, most_written, worst_fetch, worst_access, worst_read}
 use Rattle.mem_system.specs.Hierarchy.{Hierarchy}
 use Rattle.mem_system.specs.Cost.{Touch, Fetch, Load, Store, WalkRead, Look, Branch, Jump, EmptyTlb, Flush, Charge, Caches, Touched}
+
+-- what a miss of the second level costs again at worst: where lines are written back into it, its victim may have a mark
+abbrev pub again : Hierarchy → ℕ
+again h = if h.back then h.costs.wb else 0
 
 -- what of a hierarchy the bound depends on, with a shared region of so many bytes, where the domain that leaves may
 -- make these calls
@@ -16,17 +20,17 @@ shape_of h shared calls = record {
   sets = h.l1d.count;
   ways = h.l1d.ways;
   written = most_written calls h.line_size;
-  again = 0;
+  again = again h;
   product = most_added h.products;
 }
 
--- every line misses both levels, its victim is dirty, and the guess is wrong; a flush finds every line dirty
+-- every line misses both levels, the victims are dirty, and the guess is wrong; a flush finds every line dirty
 abbrev pub worst_touch : Hierarchy → Touch → ℕ
-worst_touch h (Fetch line) = worst_fetch h.costs 0
-worst_touch h (Load line) = worst_access h.costs 0
-worst_touch h (Store line) = worst_access h.costs 0
-worst_touch h (WalkRead line) = worst_read h.costs 0
-worst_touch h (Look page reads found) = h.costs.tlb + length reads * worst_read h.costs 0
+worst_touch h (Fetch line) = worst_fetch h.costs (again h)
+worst_touch h (Load line) = worst_access h.costs (again h)
+worst_touch h (Store line) = worst_access h.costs (again h)
+worst_touch h (WalkRead line) = worst_read h.costs (again h)
+worst_touch h (Look page reads found) = h.costs.tlb + length reads * worst_read h.costs (again h)
 worst_touch h (Branch pc taken target) = h.costs.mispredict
 worst_touch h (Jump pc target) = h.costs.mispredict
 worst_touch h EmptyTlb = 0

@@ -1,8 +1,8 @@
 //! Laws of shared caches over their definitions, each the contract of a function
 //! that does nothing: a caller that calls it may rely on the law.
-ghost use Rattle.cache_sharing.specs.Laws.{AppendLaw, BesideLaw, OthersLaw, StaysResidentLaw};
-ghost use Rattle.cache_sharing.specs.Laws.{EmptyLaw, SharedAloneLaw, PrefetchAloneLaw};
-ghost use Rattle.cache_sharing.specs.Laws.{PrefetchLaw, PrefetchStaysLaw, ResidentLaw, RegionLaw, WorstLaw, SwitchLaw, OnTimeLaw};
+ghost use Rattle.cache_sharing.specs.Laws.{AppendLaw, BesideLaw, OthersLaw, OwnDirtyLaw, StaysResidentLaw};
+ghost use Rattle.cache_sharing.specs.Laws.{EmptyLaw, SharedAloneLaw, PrefetchAloneLaw, ColdIsCleanLaw, StaysCleanLaw};
+ghost use Rattle.cache_sharing.specs.Laws.{PrefetchLaw, PrefetchStaysLaw, SettledLaw, ResidentLaw, RegionLaw, WorstLaw, SwitchLaw, OnTimeLaw};
 
 /// Touches one after the other are a touch of all of them in order.
 pub fn in_order()
@@ -10,13 +10,18 @@ pub fn in_order()
 {}
 
 /// What a domain touches costs the same among others as alone, and leaves equal
-/// caches; another's touches leave its sets; neither moves a shared line out.
+/// caches; another's touches leave its sets, since a dirty line lies in its own
+/// domain's sets, and so does what gives way to it there; neither moves a shared
+/// line out. The prefetch writes dirty lines of who leaves back before the flush
+/// would: after it that makes no difference.
 pub fn own_touches()
     ensures beside { BesideLaw }
     ensures others { OthersLaw }
+    ensures own_dirty { OwnDirtyLaw }
     ensures stays { StaysResidentLaw }
     ensures prefetch { PrefetchLaw }
     ensures prefetch_stays { PrefetchStaysLaw }
+    ensures settled { SettledLaw }
 {}
 
 /// The first prefetch brings every shared line into the second level, under any
@@ -32,6 +37,13 @@ pub fn kernel_sets()
     ensures empty { EmptyLaw }
     ensures touches { SharedAloneLaw }
     ensures prefetch { PrefetchAloneLaw }
+{}
+
+/// No line of colour 0 is ever dirty, so the kernel's shared lines cost the same
+/// whatever the domains wrote.
+pub fn clean_kernel()
+    ensures cold { ColdIsCleanLaw }
+    ensures touches { StaysCleanLaw }
 {}
 
 /// No caches make touches dearer than their worst, and a switch that begins

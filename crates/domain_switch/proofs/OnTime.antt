@@ -7,14 +7,15 @@ use Rattle.mem_system.specs.Hierarchy.{Hierarchy}
 use Rattle.mem_system.specs.Cost.{Caches, touched_all}
 use Rattle.cache_sharing.specs.Operations.{switch}
 use Rattle.cache_sharing.specs.Worst.{shape_of}
-use Rattle.cache_sharing.proofs.Worst.{worst_law, switch_most}
+use Rattle.cache_sharing.proofs.Worst.{switch_law}
 use Rattle.domain_switch.specs.Switch.{IsInTime}
 
 pub done_by : (h : Hierarchy) (pinned : Bool) (caches : Caches) (out : Option Layout) (into : Layout) (shared calls old_end now until used : ℕ)
-    → IsCloneOf (shape_of h shared calls) into → old_end ≤ now → IsInTime h caches shared calls old_end now until
+    → IsCloneOf (shape_of h shared calls) into → old_end ≤ now → IsInTime h caches out into shared calls old_end now until
     → used ≡ now + (touched_all h pinned caches (switch h.costs out into)).cost - old_end → old_end + used ≤ until
 unfolding bound_of
 done_by h pinned caches out into shared calls old_end now until used clone ended in_time is =
-    let cost = (worst_law h pinned (switch h.costs out into) caches in_time.ways).cost in
-    let most = switch_most h shared calls out into clone in
-    omega (arith, is, ended, cost, most, in_time.late, in_time.pad)
+    let work =
+    switch_law h in_time.own pinned shared calls out into caches in_time.ways in_time.clean in_time.shares in_time.leaves clone in
+    let cost = work.cost in
+    omega (arith, is, ended, cost, in_time.late, in_time.pad)

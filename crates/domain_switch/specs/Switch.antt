@@ -1,5 +1,5 @@
 -- What a switch of domains is given, and what it comes to.
-use Rattle.std.specs.Prelude.{◌≡◌, ℕ, ◌+◌, ◌-◌, ◌<◌, ◌≤◌, List, Option, option_map}
+use Rattle.std.specs.Prelude.{◌≡◌, ℕ, ◌+◌, ◌-◌, ◌<◌, ◌≤◌, Bool, List, Option, option_map}
 use Rattle.kernel_clone.specs.declared.CloneLayout.{CloneLayout}
 use Rattle.kernel_clone.specs.Footprints.{Layout, IsLayout}
 use Rattle.kernel_clone.specs.Models.{layout_model}
@@ -7,6 +7,8 @@ use Rattle.pad_bound.specs.Bound.{worst_instruction, worst_operation, bound_of}
 use Rattle.mem_system.specs.Hierarchy.{Hierarchy}
 use Rattle.mem_system.specs.Cost.{Caches, Touched}
 use Rattle.mem_system.specs.Contents.{SystemContents, SystemStands}
+use Rattle.cache_sharing.specs.Operations.{shared_region, leave_if}
+use Rattle.cache_sharing.specs.Sharing.{IsSharing, MayTouchAll, KernelIsClean}
 use Rattle.cache_sharing.specs.Worst.{shape_of, HasWays}
 
 -- the clone of who was running, if anybody was
@@ -19,9 +21,15 @@ pub record IsCloneOn (h : Hierarchy) (clone : CloneLayout) : Type 0 where
   pub line : clone.line ≡ h.line_size
 
 -- it begins past the slot's end by less than the largest step of a domain that may make these calls, and the next
--- start is that domain's bound past the end or later
-pub record IsInTime (h : Hierarchy) (caches : Caches) (shared calls old_end now until : ℕ) : Type 0 where
+-- start is that domain's bound past the end or later; no line of the kernel's colour is dirty, and who leaves stores to
+-- lines of its own colours alone
+pub record IsInTime (h : Hierarchy) (caches : Caches) (out : Option Layout) (into : Layout) (shared calls old_end now until : ℕ)
+    : Type 0 where
   pub ways : HasWays h caches
+  pub clean : KernelIsClean h caches
+  pub own : ℕ → Bool
+  pub shares : IsSharing h own (shared_region into)
+  pub leaves : MayTouchAll h own (shared_region into) (leave_if h.costs out)
   pub late : now < old_end + (worst_instruction (shape_of h shared calls) + worst_operation (shape_of h shared calls))
   pub pad : old_end + bound_of (shape_of h shared calls) ≤ until
 

@@ -70,10 +70,12 @@ pub fn switch<P: Policy>(
         (spec.switch system.old.core.costs (layout_if (option_copied out.entry)) (layout_model into.now))) }
     ensures clock { result.now ≡ max (old_end + result.used) until }
     ensures within { (caches : Caches) → SystemStands P.stands_for system.old caches
-        → IsInTime (hierarchy_of P.rule system.old) caches into.now.shared calls old_end now until
+        → IsInTime (hierarchy_of P.rule system.old) caches (layout_if (option_copied out.entry)) (layout_model into.now)
+        into.now.shared calls old_end now until
         → result.used ≤ until - old_end }
     ensures on_time { (caches : Caches) → SystemStands P.stands_for system.old caches
-        → IsInTime (hierarchy_of P.rule system.old) caches into.now.shared calls old_end now until
+        → IsInTime (hierarchy_of P.rule system.old) caches (layout_if (option_copied out.entry)) (layout_model into.now)
+        into.now.shared calls old_end now until
         → result.now ≡ until }
     ensures kept { (mem : Mem) (frames root : ℕ) → KeepsLeaves mem frames root system.new.core.tlb }
     ensures later { now ≤ old_end + result.used }

@@ -1,5 +1,6 @@
 -- What a domain touches.
-use Rattle.cache_sharing.proofs.OwnTouches.{beside_law, others_law, stays_law, prefetch_law, prefetch_stays_law}
+use Rattle.cache_sharing.proofs.OwnTouches.{beside_law, others_law, own_dirty_law, stays_law, prefetch_law, prefetch_stays_law}
+use Rattle.cache_sharing.proofs.Settling.{settled_law}
 use Rattle.cache_sharing.proofs.laws.own_touches.Goals as goal
 
 pub returns-clause-beside : goal.returns-clause-beside
@@ -7,6 +8,9 @@ returns-clause-beside c = beside_law
 
 pub returns-clause-others : goal.returns-clause-others
 returns-clause-others c = others_law
+
+pub returns-clause-own_dirty : goal.returns-clause-own_dirty
+returns-clause-own_dirty c = own_dirty_law
 
 pub returns-clause-stays : goal.returns-clause-stays
 returns-clause-stays c = stays_law
@@ -16,3 +20,6 @@ returns-clause-prefetch c = prefetch_law
 
 pub returns-clause-prefetch_stays : goal.returns-clause-prefetch_stays
 returns-clause-prefetch_stays c = prefetch_stays_law
+
+pub returns-clause-settled : goal.returns-clause-settled
+returns-clause-settled c = settled_law
