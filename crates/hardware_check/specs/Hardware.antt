@@ -21,6 +21,7 @@ pub record Hardware : Type 0 where
   pub l1i : CacheShape
   pub l1d : CacheShape
   pub l2 : CacheShape
+  pub back : Bool  -- whether dirty lines are written back into the second level, else past it
   pub tlb : CacheShape
   pub predictor : ℕ  -- counters
   pub history : ℕ  -- outcomes that the predictor's index takes in
@@ -103,6 +104,7 @@ hardware_of i = record {
   l1i = shape_of i.l1i;
   l1d = shape_of i.l1d;
   l2 = shape_of i.l2;
+  back = i.back;
   tlb = shape_of i.tlb;
   predictor = natural_of i.predictor;
   history = natural_of i.history;

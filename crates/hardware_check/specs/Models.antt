@@ -18,6 +18,7 @@ hardware_model h = record {
   l1i = shape_model h.l1i;
   l1d = shape_model h.l1d;
   l2 = shape_model h.l2;
+  back = h.back;
   tlb = shape_model h.tlb;
   predictor = h.predictor;
   history = h.history;

@@ -49,6 +49,8 @@ pub struct Hardware {
     pub l1i: CacheShape,
     pub l1d: CacheShape,
     pub l2: CacheShape,
+    /// Whether dirty lines are written back into the second level, else past it.
+    pub back: bool,
     /// The translation buffer.
     pub tlb: CacheShape,
     /// The predictor's counters: a power of two up to 4,096.

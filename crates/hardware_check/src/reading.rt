@@ -49,6 +49,7 @@ pub fn hardware_of(raw: &Raw, caches: Caches) -> Hardware
         l1i: caches.l1i,
         l1d: caches.l1d,
         l2: caches.l2,
+        back: raw.back,
         tlb: caches.tlb,
         predictor: natural_of(raw.predictor) as u32,
         history: natural_of(raw.history) as u32,

@@ -1,6 +1,6 @@
 -- What the rule of pads gives, and the machine whose bound it asks for.
-use Rattle.std.proofs.Common.{◌≡◌, ℕ, zero, suc, ◌+◌, ◌-◌, ◌*◌, ◌%◌, ◌^◌, ◌<◌, ◌≤◌, false, List, [], ◌∷◌, ◌++◌, length, map, take, get_or, Option, None, Some, refl, sym, ap, ap₂, subst, ◌∙◌, arith, inl, inr}
-use Rattle.std.specs.Prelude.{ℤ, pos, negsuc, int_lt, slice_index_or}
+use Rattle.std.proofs.Common.{◌≡◌, ℕ, zero, suc, ◌+◌, ◌-◌, ◌*◌, ◌%◌, ◌^◌, ◌<◌, ◌≤◌, Bool, true, false, List, [], ◌∷◌, ◌++◌, length, map, take, get_or, Option, None, Some, refl, sym, ap, ap₂, subst, ◌∙◌, arith, inl, inr}
+use Rattle.std.specs.Prelude.{ℤ, pos, negsuc, int_lt, slice_index_or, if◌then◌else◌}
 use Rattle.std.specs.Int.{IsPowerOfTwo}
 use Rattle.std.proofs.lemmas.Bool.{cases_lt}
 use Rattle.std.proofs.lemmas.Bool.Decides.{nat_tests}
@@ -11,7 +11,7 @@ use Rattle.std.proofs.Math.Pow.{pow_mono}
 use Rattle.set_cache.proofs.Powers.{power_is}
 use Rattle.image_text.specs.Record.{Raw, RawDomain, RawEntry}
 use Rattle.cycle_cost.specs.Costs.{ProductCosts}
-use Rattle.cycle_cost.specs.Ranges.{most_product}
+use Rattle.cycle_cost.specs.Ranges.{most_again, most_product}
 use Rattle.kernel_clone.specs.Permissions.{every_call}
 use Rattle.pad_bound.specs.Bound.{IsShape, bound_of}
 use Rattle.pad_bound.proofs.Written.{few_most}
@@ -50,6 +50,10 @@ pub few_added : (o : Option ProductCosts) → mul_of o ≤ 1000 → div_of o ≤
 few_added None mul div = omega arith
 few_added (Some c) mul div = omega (arith, mul, div)
 
+few_again_if : (b : Bool) (wb : ℕ) → wb ≤ most_again → (if b then wb else 0) ≤ most_again
+few_again_if true wb few = few
+few_again_if false wb few = omega arith
+
 shape_sound : (h : Hardware) (calls : ℕ) → IsHardware h → IsShape (shape_for h calls)
 shape_sound h calls s = record {
   costs = s.costs;
@@ -64,7 +68,7 @@ shape_sound h calls s = record {
   some_ways = s.l1d.some_way;
   few_ways = s.l1d.few_ways;
   few_written = few_most calls h.line s.line.least;
-  few_again = omega arith;
+  few_again = few_again_if h.back h.costs.wb s.costs.wb.few;
   few_product = few_added h.muldiv s.few_mul s.few_div;
 }
 

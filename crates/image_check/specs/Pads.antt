@@ -9,8 +9,11 @@ use Rattle.kernel_clone.specs.Permissions.{every_call}
 use Rattle.hardware_check.specs.Hardware.{Hardware, natural_of, hardware_of}
 use Rattle.image_check.specs.Own.{own_at, owns_of}
 
--- what of a machine the bound depends on, where a domain leaves that may make these calls; the second level writes nothing
--- back
+-- what a miss of the second level costs again: one more write-back, if lines are written back into it
+abbrev pub again_of : Hardware → ℕ
+again_of h = if h.back then h.costs.wb else 0
+
+-- what of a machine the bound depends on, where a domain leaves that may make these calls
 abbrev pub shape_for : Hardware → ℕ → MachineShape
 shape_for h calls = record {
   costs = h.costs;
@@ -19,7 +22,7 @@ shape_for h calls = record {
   sets = h.l1d.sets;
   ways = h.l1d.ways;
   written = most_written calls h.line;
-  again = 0;
+  again = again_of h;
   product = most_added h.muldiv;
 }
 

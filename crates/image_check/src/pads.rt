@@ -33,6 +33,14 @@ fn most_added(muldiv: Option<ProductCosts>) -> u32
     }
 }
 
+/// What a miss of the second level costs again, in cycles: one more write-back, if
+/// lines are written back into it.
+fn again_of(hardware: &Hardware) -> u32
+    ensures value { result ≡ spec.again_of (hardware_model hardware.now) }
+{
+    if hardware.back { hardware.costs.wb } else { 0 }
+}
+
 /// What of a machine the bound on a switch depends on, where a domain leaves that
 /// may make these calls, a bit each.
 pub fn shape_for(hardware: &Hardware, calls: u32) -> Shape
@@ -46,7 +54,7 @@ pub fn shape_for(hardware: &Hardware, calls: u32) -> Shape
         sets: hardware.l1d.sets,
         ways: hardware.l1d.ways,
         written: most_written(calls, hardware.line),
-        again: 0,
+        again: again_of(hardware),
         product: most_added(hardware.muldiv),
     }
 }

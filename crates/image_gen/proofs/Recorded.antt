@@ -5,7 +5,7 @@ use Rattle.toml.specs.Data.{Data, Members, table, as_table}
 use Rattle.toml.specs.Tables.{close}
 use Rattle.toml.specs.View.{items_of}
 use Rattle.image_text.specs.declared.kinds.Place.TheVariants.{Entry}
-use Rattle.image_text.specs.Rows.{Row, key_rows, cache_fields, cost_fields, muldiv_fields, fits, whole_in, whole_item, whole_segments, all_items, first_failing, broken_in, first_broken}
+use Rattle.image_text.specs.Rows.{Row, key_rows, cache_fields, level2_fields, cost_fields, muldiv_fields, fits, whole_in, whole_item, whole_segments, all_items, first_failing, broken_in, first_broken}
 use Rattle.image_text.specs.Unknown.{no_key, known_table, known_item, known_domain, all_known, later_rows, broken_key}
 use Rattle.image_text.specs.Record.{map_items, cache_of, costs_of, segment_of, domain_of, domain_in, entry_of, entry_in, record_of}
 use Rattle.image_gen.specs.Generated.{domain_with, moment, entry, image_with}
@@ -61,7 +61,7 @@ module _ (p : List ℕ) (h : ℕ → List ℕ) (w : ℕ → ℕ → ℕ) (v : �
   recorded = rw (mapped domain_in domain_made _ domain_recorded ds, mapped entry_in slot_made _ slot_recorded es)
 
   unbroken : Unbroken members (take 25 key_rows)
-  unfolding Unbroken key_rows cache_fields cost_fields broken_in whole_in whole_item whole_segments fits
+  unfolding Unbroken key_rows cache_fields level2_fields cost_fields broken_in whole_in whole_item whole_segments fits
   unbroken =
       let top = all_made (λ x. is_some (as_table x)) domain_made (λ k. refl) ds in
       let slots = all_made (λ x. is_some (as_table x)) slot_made (λ k. refl) es in (
@@ -139,7 +139,7 @@ module _ (p : List ℕ) (h : ℕ → List ℕ) (w : ℕ → ℕ → ℕ) (v : �
       in_slots test pass = none_failing test slot_made pass 0 es
 
   known : all_known 1 key_rows members ≡ true
-  unfolding all_known known_table known_item known_domain key_rows cache_fields cost_fields muldiv_fields
+  unfolding all_known known_table known_item known_domain key_rows cache_fields level2_fields cost_fields muldiv_fields
   known =
       rw (
         all_made (λ d. is_some (as_table d) || no_key d) domain_made (λ k. refl) ds,
@@ -149,7 +149,7 @@ module _ (p : List ℕ) (h : ℕ → List ℕ) (w : ℕ → ℕ → ℕ) (v : �
       )
 
   none_later : later_rows members ≡ None
-  unfolding key_rows first_broken broken_in whole_in
+  unfolding key_rows first_broken broken_in whole_in whole_item
   none_later = refl
 
   pub whole : broken_key members ≡ None

@@ -1,6 +1,6 @@
 -- The record of the image that a seed makes: two to five domains on one machine, each with a program and interrupts of its
 -- own, and a schedule of one slot for each.
-use Rattle.std.specs.Prelude.{ℕ, ◌+◌, ◌*◌, ◌%◌, ◌==◌, if◌then◌else◌, ℤ, pos, List, [], ◌∷◌, ◌++◌, map, codes, decimal, None}
+use Rattle.std.specs.Prelude.{ℕ, ◌+◌, ◌*◌, ◌%◌, ◌==◌, if◌then◌else◌, false, ℤ, pos, List, [], ◌∷◌, ◌++◌, map, codes, decimal, None}
 use Rattle.std.specs.List.{range_with_len}
 use Rattle.hex.specs.Hex.{encode_lower}
 use Rattle.rand_pcg.specs.Lcg.{Lcg}
@@ -73,7 +73,7 @@ costs = record {
   flush = pos 20;
 }
 
--- of the first version, with eight colours; no history, no products and no target buffer
+-- of the first version, with eight colours; no write-back into the second level, no history, no products, no target buffer
 unfoldable pub image_with : List ℕ → List RawDomain → List RawEntry → Raw
 image_with policy domains schedule = record {
   version = 1;
@@ -83,6 +83,7 @@ image_with policy domains schedule = record {
   l1i = cache (pos 16) (pos 2) (codes "lru");
   l1d = cache (pos 16) (pos 2) (codes "lru");
   l2 = cache (pos 512) (pos 4) policy;
+  back = false;
   tlb = cache (pos 4) (pos 2) (codes "lru");
   predictor = pos 16;
   history = pos 0;

@@ -13,6 +13,7 @@ use std::process::Abort;
 mod calls;
 mod cases;
 mod extensions;
+mod level2;
 mod limits;
 mod orders;
 
@@ -233,6 +234,7 @@ fn hardware() -> Hardware {
             ways: 4,
             policy: Policy::Lru,
         },
+        back: false,
         tlb: shape(4, 2),
         predictor: 16,
         history: 0,

@@ -83,7 +83,7 @@ whole_second t h = all_pass _ 0 (items_at (codes "domain") t) h
 
 row_second : (t : Members) → first_broken 2 (drop 25 key_rows) t ≡ None → broken_in 2 calls_row t ≡ None
 unfolding key_rows
-row_second t h = first_whole 2 calls_row _ t (whole_from 2 1 _ t h)
+row_second t h = first_whole 2 calls_row _ t (whole_from 2 2 _ t h)
 
 pub calls_whole : (t : Members) → broken_key t ≡ None → all_items (whole_item calls_row) (items_at (codes "domain") t) ≡ true
 calls_whole t h = elim (versions t) [

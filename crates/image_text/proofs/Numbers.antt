@@ -1,14 +1,14 @@
--- The numbers of an image that is read are those of its text.
-use Rattle.std.proofs.Common.{◌≡◌, ℕ, zero, suc, if◌then◌else◌, ◌⊎◌, ◌&&◌, nat_le, pos, negsuc, Bool, true, false, List, ◌∷◌, take, drop, codes, Option, Some, None, option_map, Ok, IfOk, refl, sym, subst, ap, ◌∙◌, inl, inr, arith}
+-- The numbers and truth values of an image that is read are those of its text.
+use Rattle.std.proofs.Common.{◌≡◌, ℕ, zero, suc, if◌then◌else◌, ◌⊎◌, ◌&&◌, nat_le, pos, negsuc, Bool, true, false, List, [], ◌∷◌, take, drop, codes, Option, Some, None, option_map, Ok, IfOk, refl, sym, subst, ap, ◌∙◌, inl, inr, arith}
 use Rattle.std.proofs.lemmas.Bool.{leb-true, and_parts, true≢false}
 use Rattle.std.proofs.lemmas.Result.{IfOk-at_ok}
 use Rattle.toml.specs.Data.{Data, Items, no_items, item, Members, get_member, as_integer, as_array, as_table}
-use Rattle.image_text.specs.Rows.{Row, Field, Kind, One, Array, SomeTables, Pairs, Fields, needs, may_have, integer, version_from, version_of, fits_one, all_items, count_items, some_tables, is_pair, is_pair_value, in_array, has_one, has_field, has_all, in_fields, cache_fields, cost_fields, muldiv_fields, fits, fits_if, whole_in, whole_item, whole_segments, items_or_none, items_at, broken_in, Broken, first_broken, key_rows}
+use Rattle.image_text.specs.Rows.{Row, Field, Kind, One, Array, SomeTables, Pairs, Fields, needs, may_have, integer, text, of_own_row, version_from, version_of, fits_one, all_items, count_items, some_tables, is_pair, is_pair_value, in_array, has_one, has_field, has_all, in_fields, cache_fields, level2_fields, cost_fields, muldiv_fields, fits, fits_if, whole_in, whole_item, whole_level2, whole_segments, items_or_none, items_at, broken_in, Broken, first_broken, key_rows}
 use Rattle.image_text.specs.Unknown.{broken_key}
-use Rattle.image_text.specs.Record.{integer_of, integer_at, ranged, map_items, table_of, cache_of, costs_of, muldiv_of, muldiv_at, integer_if, targets_at, table_if, items_if, integers_in, segment_of, segment_in, moment_in, domain_of, domain_in, entry_of, entry_in, record_of, read_whole, read_table, image_of}
-use Rattle.image_text.specs.Numbers.{IsInteger, IntegerAt, IntegerOrZeroAt, IntegerIfAt, TableAt, TableIfAt, Each, ArrayAt, ArrayIfAt, IsTableOf, VersionAt, ArrayOrNoneAt, CacheNumbers, CostNumbers, MuldivNumbers, SegmentNumbers, IsMoment, DomainNumbers, EntryNumbers, Numbers, NumbersLaw}
-use Rattle.image_text.specs.declared.kinds.Simple.TheVariants.{Integer, Within, Table}
-use Rattle.image_text.specs.declared.kinds.Place.TheVariants.{Top as TopPlace, Domain as DomainPlace, Segment as SegmentPlace, Entry as EntryPlace}
+use Rattle.image_text.specs.Record.{integer_of, integer_at, truth_of, truth_at, ranged, map_items, table_of, cache_of, back_at, costs_of, muldiv_of, muldiv_at, integer_if, targets_at, table_if, items_if, integers_in, segment_of, segment_in, moment_in, domain_of, domain_in, entry_of, entry_in, record_of, read_whole, read_table, image_of}
+use Rattle.image_text.specs.Numbers.{IsInteger, IntegerAt, IntegerOrZeroAt, TruthOrFalseAt, IntegerIfAt, TableAt, TableIfAt, Each, ArrayAt, ArrayIfAt, IsTableOf, VersionAt, ArrayOrNoneAt, CacheNumbers, Level2Numbers, CostNumbers, MuldivNumbers, SegmentNumbers, IsMoment, DomainNumbers, EntryNumbers, Numbers, NumbersLaw}
+use Rattle.image_text.specs.declared.kinds.Simple.TheVariants.{Integer, Within, Truth, Table}
+use Rattle.image_text.specs.declared.kinds.Place.TheVariants.{Top as TopPlace, Level2 as Level2Place, Domain as DomainPlace, Segment as SegmentPlace, Entry as EntryPlace}
 use Rattle.image_text.proofs.WholeRows.{all_pass, holds_if, whole_from, first_whole, rows_whole, later_whole_first, versions}
 use Rattle.image_text.proofs.Calls.{calls_row, calls_whole}
 
@@ -38,6 +38,15 @@ ranged_here low high (Data.boolean b) h = no h
 ranged_here low high (Data.datetime t) h = no h
 ranged_here low high (Data.array ds) h = no h
 ranged_here low high (Data.table t) h = no h
+
+truth_here : (d : Data) → fits_one Truth d ≡ true → d ≡ Data.boolean (truth_of (Some d))
+truth_here (Data.boolean b) h = refl
+truth_here (Data.integer z) h = no h
+truth_here (Data.string s) h = no h
+truth_here (Data.float x) h = no h
+truth_here (Data.datetime t) h = no h
+truth_here (Data.array ds) h = no h
+truth_here (Data.table t) h = no h
 
 record IsArray (p : Items → Bool) (d : Data) : Type 0 where
   items : Items
@@ -163,14 +172,16 @@ field_in : (o : Option Data) → has_one Integer o ≡ true → o ≡ Some (Data
 field_in None h = no h
 field_in (Some d) h = ap (λ e. Some e) (integer_here d h)
 
-fields_at : (fields : List Field) (key : List ℕ) (t : Members) (P : Members → Members → Type 0) → ((u : Members) → has_all fields u ≡ true → P u u)
+fields_at : (fields : List Field) (key : List ℕ) (t : Members) (P : Members → Members → Type 0)
+    → ((u : Members) → get_member key t ≡ Some (Data.table u) → has_all fields u ≡ true → P u u)
     → fits_if true (Fields fields) (get_member key t) ≡ true → TableAt key t (P (table_of (get_member key t)))
 unfolding fits
 fields_at fields key t P one h =
     let s = stands (Fields fields) (get_member key t) h in
     let f = fields_here fields s.value s.fit in
     let full : get_member key t ≡ Some (Data.table f.table) = s.is ∙ ap (λ d. Some d) f.is in
-    record { table = f.table; stands = full; holds = subst (λ o. P (table_of o) f.table) (sym full) (one f.table f.holds) }
+    let here : P f.table f.table = one f.table full f.holds in
+    record { table = f.table; stands = full; holds = subst (λ o. P (table_of o) f.table) (sym full) here }
 
 integers_each : (ds : Items) → all_items (fits_one Integer) ds ≡ true → Each IsInteger ds (integers_in ds)
 integers_each ds h = each_of (λ d. fits_one Integer d ≡ true) (λ d. integer_of (Some d)) IsInteger integer_here ds (all_of (fits_one Integer) ds h)
@@ -184,6 +195,15 @@ module _ (key : List ℕ) (t : Members) where
   integer_or_zero (Some d) e h =
       let here = subst (λ o. fits_if true (One Integer) o ≡ true) (sym e) h in
       inr (integer_in (get_member key t) here)
+
+  truth_or_false : (o : Option Data) → get_member key t ≡ o → fits_if false (One Truth) o ≡ true
+      → TruthOrFalseAt key t (truth_at key t)
+  unfolding fits
+  truth_or_false None e h = inl (e, ap truth_of e)
+  truth_or_false (Some d) e h =
+      let same : Data.boolean (truth_of (Some d)) ≡ Data.boolean (truth_at key t) =
+      ap (λ o. Data.boolean (truth_of o)) (sym e) in
+      inr (e ∙ ap (λ x. Some x) (truth_here d h ∙ same))
 
   integer_if_here : (d : Data) → get_member key t ≡ Some d → fits_one Integer d ≡ true
       → IntegerIfAt key t (as_integer d)
@@ -257,12 +277,24 @@ moments_each ds h = each_of (λ d. is_pair_value d ≡ true) moment_in IsMoment 
 
 -- ---- fields
 
-cache_numbers : (u : Members) → has_all cache_fields u ≡ true → CacheNumbers (cache_of u) u
-unfolding cache_fields cache_of
-cache_numbers u h =
+cache_numbers : (others : List Field) (u : Members)
+    → has_all (integer (codes "sets") ∷ integer (codes "ways") ∷ others) u ≡ true → CacheNumbers (cache_of u) u
+unfolding cache_of
+cache_numbers others u h =
     let a = and_parts (has_field (integer (codes "sets")) u) _ h in
     let b = and_parts (has_field (integer (codes "ways")) u) _ a.1 in
     record { sets = field_in _ a.0; ways = field_in _ b.0 }
+
+-- the row of the key that the second level's table may have
+abbrev back_row : Row
+back_row = may_have 27 Level2Place (codes "back") (One Truth)
+
+back_found : (u : Members) (o : Option Data) → o ≡ Some (Data.table u) → whole_level2 back_row o ≡ true
+    → TruthOrFalseAt (codes "back") u (truth_at (codes "back") u)
+unfolding whole_item whole_in
+back_found u o e h =
+    let here : whole_in back_row u ≡ true = subst (λ x. whole_level2 back_row x ≡ true) e h in
+    truth_or_false (codes "back") u (get_member (codes "back") u) refl here
 
 cost_numbers : (u : Members) → has_all cost_fields u ≡ true → CostNumbers (costs_of u) u
 unfolding cost_fields costs_of
@@ -497,12 +529,26 @@ module _ (t : Members) (whole : first_broken 1 (take 25 key_rows) t ≡ None)
   number key n h = integer_in (get_member key t) (holds_if _ h)
 
   cache : (key : List ℕ) (n : ℕ) → broken_in 1 (needs n TopPlace key (Fields cache_fields)) t ≡ None → TableAt key t (CacheNumbers (cache_of (table_of (get_member key t))))
-  unfolding broken_in whole_in
-  cache key n h = fields_at cache_fields key t (λ v. CacheNumbers (cache_of v)) cache_numbers (holds_if _ h)
+  unfolding broken_in whole_in cache_fields
+  cache key n h =
+      fields_at cache_fields key t (λ v. CacheNumbers (cache_of v))
+      (λ u at all. cache_numbers (text (codes "policy") ∷ []) u all)
+      (holds_if _ h)
+
+  level2 : broken_in 1 (needs 6 TopPlace (codes "l2") (Fields level2_fields)) t ≡ None → broken_in 1 back_row t ≡ None
+      → TableAt (codes "l2") t (Level2Numbers (cache_of (table_of (get_member (codes "l2") t))) (back_at t))
+  unfolding broken_in whole_in level2_fields
+  level2 h b =
+      let others : List Field = text (codes "policy") ∷ of_own_row (codes "back") ∷ [] in
+      let found = get_member (codes "l2") t in
+      fields_at level2_fields (codes "l2") t (λ v. Level2Numbers (cache_of v) (truth_at (codes "back") v))
+      (λ u at all. record { cache = cache_numbers others u all; back = back_found u found at (holds_if _ b) })
+      (holds_if _ h)
 
   costs : broken_in 1 (needs 9 TopPlace (codes "costs") (Fields cost_fields)) t ≡ None → TableAt (codes "costs") t (CostNumbers (costs_of (table_of (get_member (codes "costs") t))))
   unfolding broken_in whole_in
-  costs h = fields_at cost_fields (codes "costs") t (λ v. CostNumbers (costs_of v)) cost_numbers (holds_if _ h)
+  costs h =
+      fields_at cost_fields (codes "costs") t (λ v. CostNumbers (costs_of v)) (λ u at all. cost_numbers u all) (holds_if _ h)
 
   top_array : (key : List ℕ) (n : ℕ) → broken_in 1 (needs n TopPlace key (Array Table)) t ≡ None → fits_if true (Array Table) (get_member key t) ≡ true
   unfolding broken_in whole_in
@@ -551,19 +597,19 @@ module _ (t : Members) (whole : first_broken 1 (take 25 key_rows) t ≡ None)
   numbers : Numbers t (record_of t)
   unfolding key_rows record_of
   numbers = record {
-    version = version (later_row 0 (may_have 28 TopPlace (codes "version") (One (Within 1 2))) _ refl);
+    version = version (later_row 1 (may_have 28 TopPlace (codes "version") (One (Within 1 2))) _ refl);
     frames = number (codes "frames") 1 (row 0 (needs 1 TopPlace (codes "frames") (One Integer)) _ refl);
     shared = number (codes "shared") 2 (row 1 (needs 2 TopPlace (codes "shared") (One Integer)) _ refl);
     line = number (codes "line") 3 (row 2 (needs 3 TopPlace (codes "line") (One Integer)) _ refl);
     l1i = cache (codes "l1i") 4 (row 3 (needs 4 TopPlace (codes "l1i") (Fields cache_fields)) _ refl);
     l1d = cache (codes "l1d") 5 (row 4 (needs 5 TopPlace (codes "l1d") (Fields cache_fields)) _ refl);
-    l2 = cache (codes "l2") 6 (row 5 (needs 6 TopPlace (codes "l2") (Fields cache_fields)) _ refl);
+    l2 = level2 (row 5 (needs 6 TopPlace (codes "l2") (Fields level2_fields)) _ refl) (later_row 0 back_row _ refl);
     tlb = cache (codes "tlb") 7 (row 6 (needs 7 TopPlace (codes "tlb") (Fields cache_fields)) _ refl);
     predictor = number (codes "predictor") 8 (row 7 (needs 8 TopPlace (codes "predictor") (One Integer)) _ refl);
-    history = history (later_row 2 (may_have 30 TopPlace (codes "history") (One Integer)) _ refl);
+    history = history (later_row 3 (may_have 30 TopPlace (codes "history") (One Integer)) _ refl);
     costs = costs (row 8 (needs 9 TopPlace (codes "costs") (Fields cost_fields)) _ refl);
-    muldiv = muldiv (later_row 3 (may_have 37 TopPlace (codes "muldiv") (Fields muldiv_fields)) _ refl);
-    targets = targets (later_row 4 (may_have 38 TopPlace (codes "targets") (One Integer)) _ refl);
+    muldiv = muldiv (later_row 4 (may_have 37 TopPlace (codes "muldiv") (Fields muldiv_fields)) _ refl);
+    targets = targets (later_row 5 (may_have 38 TopPlace (codes "targets") (One Integer)) _ refl);
     domains = domains;
     schedule = schedule;
   }

@@ -1,5 +1,6 @@
--- The numbers of a record are those of its text: at each key of an integer stands, in the table that TOML finds in the bytes, the very number of the record.
-use Rattle.std.specs.Prelude.{◌≡◌, ℕ, ℤ, pos, List, [], ◌∷◌, codes, Option, Some, None, Ok, ◌⊎◌}
+-- The numbers and truth values of a record are those of its text: at each of their keys stands, in the table that TOML finds
+-- in the bytes, the very value of the record.
+use Rattle.std.specs.Prelude.{◌≡◌, ℕ, Bool, false, ℤ, pos, List, [], ◌∷◌, codes, Option, Some, None, Ok, ◌⊎◌}
 use Rattle.toml.specs.Data.{Data, Items, no_items, item, Members, get_member}
 use Rattle.image_text.specs.Record.{RawCache, RawCosts, RawMuldiv, RawSegment, RawMoment, RawDomain, RawEntry, Raw, document, image_of}
 
@@ -20,6 +21,10 @@ pub record TableAt (key : List ℕ) (t : Members) (P : Members → Type 0) : Typ
 -- where it is missing, the number is 0
 abbrev pub IntegerOrZeroAt : List ℕ → Members → ℤ → Type 0
 IntegerOrZeroAt key t z = ((get_member key t ≡ None) × (z ≡ pos 0)) ⊎ IntegerAt key t z
+
+-- where it is missing, the value is false
+abbrev pub TruthOrFalseAt : List ℕ → Members → Bool → Type 0
+TruthOrFalseAt key t b = ((get_member key t ≡ None) × (b ≡ false)) ⊎ (get_member key t ≡ Some (Data.boolean b))
 
 -- one of the two versions; where it is missing, the first
 abbrev pub VersionAt : Members → ℕ → Type 0
@@ -63,6 +68,10 @@ IsTableOf P d x = ⊥
 pub record CacheNumbers (c : RawCache) (t : Members) : Type 0 where
   pub sets : IntegerAt (codes "sets") t c.sets
   pub ways : IntegerAt (codes "ways") t c.ways
+
+pub record Level2Numbers (c : RawCache) (b : Bool) (t : Members) : Type 0 where
+  pub cache : CacheNumbers c t
+  pub back : TruthOrFalseAt (codes "back") t b
 
 pub record CostNumbers (c : RawCosts) (t : Members) : Type 0 where
   pub base : IntegerAt (codes "base") t c.base
@@ -108,7 +117,7 @@ pub record Numbers (t : Members) (i : Raw) : Type 0 where
   pub line : IntegerAt (codes "line") t i.line
   pub l1i : TableAt (codes "l1i") t (CacheNumbers i.l1i)
   pub l1d : TableAt (codes "l1d") t (CacheNumbers i.l1d)
-  pub l2 : TableAt (codes "l2") t (CacheNumbers i.l2)
+  pub l2 : TableAt (codes "l2") t (Level2Numbers i.l2 i.back)
   pub tlb : TableAt (codes "tlb") t (CacheNumbers i.tlb)
   pub predictor : IntegerAt (codes "predictor") t i.predictor
   pub history : IntegerOrZeroAt (codes "history") t i.history

@@ -28,6 +28,7 @@ raw_model r = record {
   l1i = cache_model r.l1i;
   l1d = cache_model r.l1d;
   l2 = cache_model r.l2;
+  back = r.back;
   tlb = cache_model r.tlb;
   predictor = r.predictor;
   history = r.history;

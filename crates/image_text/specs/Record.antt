@@ -1,5 +1,6 @@
--- The record of an image's table. What is missing, or of another type, reads as zero or empty, and a number outside its row's range as the least of it: the key table says where something is.
-use Rattle.std.specs.Prelude.{◌≡◌, ℕ, ◌<◌, ◌≤◌, ◌^◌, ◌&&◌, nat_le, ℤ, pos, negsuc, if◌then◌else◌, List, [], ◌∷◌, length, codes, slice_index_or, Option, Some, None, option_map, Result, Ok, Err}
+-- The record of an image's table. What is missing, or of another type, reads as zero, false or empty, and a number outside
+-- its row's range as the least of it: the key table says where something is.
+use Rattle.std.specs.Prelude.{◌≡◌, ℕ, ◌<◌, ◌≤◌, ◌^◌, ◌&&◌, nat_le, Bool, false, ℤ, pos, negsuc, if◌then◌else◌, List, [], ◌∷◌, length, codes, slice_index_or, Option, Some, None, option_map, Result, Ok, Err}
 use Rattle.std.specs.Str.{is_utf8}
 use Rattle.toml.specs.Data.{Data, Items, no_items, item, Members, no_members, get_member, as_integer, as_array, as_table}
 use Rattle.toml.specs.Parse.{parse_document}
@@ -66,6 +67,7 @@ pub record Raw : Type 0 where
   pub l1i : RawCache
   pub l1d : RawCache
   pub l2 : RawCache
+  pub back : Bool  -- whether dirty lines are written back into the second level, else past it
   pub tlb : RawCache
   pub predictor : ℤ
   pub history : ℤ  -- outcomes that the predictor's index takes in
@@ -80,6 +82,10 @@ pub record Raw : Type 0 where
 abbrev pub integer_of : Option Data → ℤ
 integer_of (Some (Data.integer z)) = z
 integer_of _ = pos 0
+
+abbrev pub truth_of : Option Data → Bool
+truth_of (Some (Data.boolean b)) = b
+truth_of _ = false
 
 abbrev pub text_of : Option Data → List ℕ
 text_of (Some (Data.string s)) = s
@@ -99,6 +105,9 @@ integer_at key t = integer_of (get_member key t)
 
 abbrev pub natural_at : List ℕ → ℕ → ℕ → Members → ℕ
 natural_at key low high t = ranged low high (integer_at key t)
+
+abbrev pub truth_at : List ℕ → Members → Bool
+truth_at key t = truth_of (get_member key t)
 
 abbrev pub text_at : List ℕ → Members → List ℕ
 text_at key t = text_of (get_member key t)
@@ -141,6 +150,10 @@ cache_of t = record { sets = integer_at (codes "sets") t; ways = integer_at (cod
 
 abbrev pub cache_at : List ℕ → Members → RawCache
 cache_at key t = cache_of (table_of (get_member key t))
+
+-- it stands in the second level's table
+abbrev pub back_at : Members → Bool
+back_at t = truth_at (codes "back") (table_of (get_member (codes "l2") t))
 
 unfoldable pub costs_of : Members → RawCosts
 costs_of t = record {
@@ -220,6 +233,7 @@ record_of t = record {
   l1i = cache_at (codes "l1i") t;
   l1d = cache_at (codes "l1d") t;
   l2 = cache_at (codes "l2") t;
+  back = back_at t;
   tlb = cache_at (codes "tlb") t;
   predictor = integer_at (codes "predictor") t;
   history = integer_at (codes "history") t;

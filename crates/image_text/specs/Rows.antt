@@ -1,17 +1,17 @@
 -- What must stand in the table that an image's text gives: the key table, its rows as data. A row is broken where its key is missing, of another type, or out of its range.
 use Rattle.std.specs.Prelude.{ℕ, ◌+◌, ◌&&◌, nat_le, ℤ, pos, Bool, true, false, not, if◌then◌else◌, List, [], ◌∷◌, codes, Option, Some, None, is_some}
-use Rattle.toml.specs.Data.{Data, Items, no_items, item, Members, get_member, as_str, as_integer, as_array, as_table}
+use Rattle.toml.specs.Data.{Data, Items, no_items, item, Members, get_member, as_str, as_integer, as_bool, as_array, as_table}
 use Rattle.image_text.specs.declared.kinds.Simple.{Simple}
-use Rattle.image_text.specs.declared.kinds.Simple.TheVariants.{Integer, Within, Text, Table}
+use Rattle.image_text.specs.declared.kinds.Simple.TheVariants.{Integer, Within, Truth, Text, Table}
 use Rattle.image_text.specs.declared.kinds.Place.{Place}
-use Rattle.image_text.specs.declared.kinds.Place.TheVariants.{Top, Domain, Segment, Entry}
+use Rattle.image_text.specs.declared.kinds.Place.TheVariants.{Top, Level2, Domain, Segment, Entry}
 
 -- ---- values
 
 -- a key of a table in the image's table, and what must stand there
 pub record Field : Type 0 where
   pub key : List ℕ
-  pub simple : Simple
+  pub simple : Option Simple  -- None: it may be missing, and a row of its own says what must stand there
 
 pub data Kind : Type 0 where
   One : Simple → Kind  -- one value
@@ -28,6 +28,7 @@ within low high _ = false
 abbrev pub fits_one : Simple → Data → Bool
 fits_one Integer d = is_some (as_integer d)
 fits_one (Within low high) d = within low high (as_integer d)
+fits_one Truth d = is_some (as_bool d)
 fits_one Text d = is_some (as_str d)
 fits_one Table d = is_some (as_table d)
 
@@ -65,8 +66,12 @@ abbrev pub has_one : Simple → Option Data → Bool
 has_one simple (Some d) = fits_one simple d
 has_one simple None = false
 
+abbrev pub fits_field : Option Simple → Option Data → Bool
+fits_field None o = true
+fits_field (Some simple) o = has_one simple o
+
 abbrev pub has_field : Field → Members → Bool
-has_field f t = has_one f.simple (get_member f.key t)
+has_field f t = fits_field f.simple (get_member f.key t)
 
 abbrev pub has_all : List Field → Members → Bool
 has_all [] t = true
@@ -104,10 +109,20 @@ abbrev pub may_have_2 : ℕ → Place → List ℕ → Kind → Row
 may_have_2 number place key kind = record { number = number; since = 2; place = place; needed = false; key = key; kind = kind }
 
 abbrev pub integer : List ℕ → Field
-integer key = record { key = key; simple = Integer }
+integer key = record { key = key; simple = Some Integer }
+
+abbrev pub text : List ℕ → Field
+text key = record { key = key; simple = Some Text }
+
+-- a key that has a row of its own
+abbrev pub of_own_row : List ℕ → Field
+of_own_row key = record { key = key; simple = None }
 
 unfoldable pub cache_fields : List Field
-cache_fields = integer (codes "sets") ∷ integer (codes "ways") ∷ record { key = codes "policy"; simple = Text } ∷ []
+cache_fields = integer (codes "sets") ∷ integer (codes "ways") ∷ text (codes "policy") ∷ []
+
+unfoldable pub level2_fields : List Field
+level2_fields = integer (codes "sets") ∷ integer (codes "ways") ∷ text (codes "policy") ∷ of_own_row (codes "back") ∷ []
 
 unfoldable pub cost_fields : List Field
 cost_fields = integer (codes "base") ∷ integer (codes "l1") ∷ integer (codes "l2") ∷ integer (codes "mem") ∷ integer (codes "wb") ∷ integer (codes "tlb") ∷ integer (codes "mispredict") ∷ integer (codes "trap") ∷ integer (codes "flush") ∷ []
@@ -123,7 +138,7 @@ key_rows =
     ∷ needs 3 Top (codes "line") (One Integer)
     ∷ needs 4 Top (codes "l1i") (Fields cache_fields)
     ∷ needs 5 Top (codes "l1d") (Fields cache_fields)
-    ∷ needs 6 Top (codes "l2") (Fields cache_fields)
+    ∷ needs 6 Top (codes "l2") (Fields level2_fields)
     ∷ needs 7 Top (codes "tlb") (Fields cache_fields)
     ∷ needs 8 Top (codes "predictor") (One Integer)
     ∷ needs 9 Top (codes "costs") (Fields cost_fields)
@@ -143,6 +158,7 @@ key_rows =
     ∷ needs 23 Entry (codes "domain") (One Integer)
     ∷ needs 24 Entry (codes "length") (One Integer)
     ∷ needs 25 Entry (codes "pad") (One Integer)
+    ∷ may_have 27 Level2 (codes "back") (One Truth)
     ∷ may_have 28 Top (codes "version") (One (Within 1 2))
     ∷ may_have_2 29 Domain (codes "calls") (Array Integer)
     ∷ may_have 30 Top (codes "history") (One Integer)
@@ -187,6 +203,11 @@ whole_item row d = if_table (whole_in row) (as_table d)
 unfoldable pub whole_segments : Row → Data → Bool
 whole_segments row d = if_table (λ t. all_items (whole_item row) (items_at (codes "segment") t)) (as_table d)
 
+-- the row is whole in the second level's table
+abbrev pub whole_level2 : Row → Option Data → Bool
+whole_level2 row None = true
+whole_level2 row (Some d) = whole_item row d
+
 -- the row is whole in an item of the array in which its tables stand
 abbrev pub passes : Place → Row → Data → Bool
 passes Segment row d = whole_segments row d
@@ -203,6 +224,7 @@ first_broken_item row ds = first_failing (passes row.place row) 0 ds
 -- the least domain or entry in which the row is broken, else 0
 abbrev pub broken_at : Place → Row → Members → Option ℕ
 broken_at Top row t = if whole_in row t then None else Some 0
+broken_at Level2 row t = if whole_level2 row (get_member (codes "l2") t) then None else Some 0
 broken_at Entry row t = first_failing (passes Entry row) 0 (items_at (codes "schedule") t)
 broken_at place row t = first_failing (passes place row) 0 (items_at (codes "domain") t)
 

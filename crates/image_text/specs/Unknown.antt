@@ -3,13 +3,14 @@ use Rattle.std.specs.Prelude.{ℕ, ◌&&◌, ◌||◌, nat_le, is_some, Bool, tr
 use Rattle.std.specs.Str.{bytes_eq}
 use Rattle.toml.specs.Data.{Data, Items, no_items, item, Members, no_members, member, get_member, as_table}
 use Rattle.image_text.specs.declared.kinds.Place.{Place}
-use Rattle.image_text.specs.declared.kinds.Place.TheVariants.{Top, Domain, Segment, Entry}
+use Rattle.image_text.specs.declared.kinds.Place.TheVariants.{Top, Level2, Domain, Segment, Entry}
 use Rattle.image_text.specs.declared.kinds.Simple.{Simple}
 use Rattle.image_text.specs.declared.kinds.Simple.TheVariants.{Table}
 use Rattle.image_text.specs.Rows.{Field, Kind, One, Array, SomeTables, Pairs, Fields, Row, key_rows, version_of, if_table, all_items, items_at, Broken, first_broken}
 
 abbrev pub same_place : Place → Place → Bool
 same_place Top Top = true
+same_place Level2 Level2 = true
 same_place Domain Domain = true
 same_place Segment Segment = true
 same_place Entry Entry = true

@@ -19,7 +19,26 @@ macro_rules! integer {
     ($key:literal) => {
         Field {
             key: $key,
-            simple: Simple::Integer,
+            simple: Some(Simple::Integer),
+        }
+    };
+}
+
+macro_rules! text {
+    ($key:literal) => {
+        Field {
+            key: $key,
+            simple: Some(Simple::Text),
+        }
+    };
+}
+
+// A key that has a row of its own.
+macro_rules! of_own_row {
+    ($key:literal) => {
+        Field {
+            key: $key,
+            simple: None,
         }
     };
 }
@@ -56,13 +75,13 @@ macro_rules! may_have_2 {
     };
 }
 
-const CACHE_FIELDS: [Field<'static>; 3] = [
+const CACHE_FIELDS: [Field<'static>; 3] = [integer!("sets"), integer!("ways"), text!("policy")];
+
+const LEVEL2_FIELDS: [Field<'static>; 4] = [
     integer!("sets"),
     integer!("ways"),
-    Field {
-        key: "policy",
-        simple: Simple::Text,
-    },
+    text!("policy"),
+    of_own_row!("back"),
 ];
 
 const COST_FIELDS: [Field<'static>; 9] = [
@@ -79,13 +98,13 @@ const COST_FIELDS: [Field<'static>; 9] = [
 
 const MULDIV_FIELDS: [Field<'static>; 2] = [integer!("mul"), integer!("div")];
 
-static KEY_ROWS: [Row<'static>; 30] = [
+static KEY_ROWS: [Row<'static>; 31] = [
     needs!(1, Top, "frames", Kind::One(Simple::Integer)),
     needs!(2, Top, "shared", Kind::One(Simple::Integer)),
     needs!(3, Top, "line", Kind::One(Simple::Integer)),
     needs!(4, Top, "l1i", Kind::Fields(&CACHE_FIELDS)),
     needs!(5, Top, "l1d", Kind::Fields(&CACHE_FIELDS)),
-    needs!(6, Top, "l2", Kind::Fields(&CACHE_FIELDS)),
+    needs!(6, Top, "l2", Kind::Fields(&LEVEL2_FIELDS)),
     needs!(7, Top, "tlb", Kind::Fields(&CACHE_FIELDS)),
     needs!(8, Top, "predictor", Kind::One(Simple::Integer)),
     needs!(9, Top, "costs", Kind::Fields(&COST_FIELDS)),
@@ -110,6 +129,7 @@ static KEY_ROWS: [Row<'static>; 30] = [
     needs!(23, Entry, "domain", Kind::One(Simple::Integer)),
     needs!(24, Entry, "length", Kind::One(Simple::Integer)),
     needs!(25, Entry, "pad", Kind::One(Simple::Integer)),
+    may_have!(27, Level2, "back", Kind::One(Simple::Truth)),
     may_have!(28, Top, "version", Kind::One(Simple::Within(1, 2))),
     may_have_2!(29, Domain, "calls", Kind::Array(Simple::Integer)),
     may_have!(30, Top, "history", Kind::One(Simple::Integer)),
@@ -119,7 +139,7 @@ static KEY_ROWS: [Row<'static>; 30] = [
 
 /// The key table. For the prover it stands in a function of its own: its rows
 /// are compared with the definitions' once.
-#[tactic(auto, unfolding(crate::specs::Rows::key_rows, crate::specs::Rows::cache_fields, crate::specs::Rows::cost_fields, crate::specs::Rows::muldiv_fields))]
+#[tactic(auto, unfolding(crate::specs::Rows::key_rows, crate::specs::Rows::cache_fields, crate::specs::Rows::level2_fields, crate::specs::Rows::cost_fields, crate::specs::Rows::muldiv_fields))]
 fn key_rows() -> &'static [Row<'static>]
     ensures rows { map row_model result.now ≡ key_rows }
 {

@@ -12,6 +12,8 @@ use toml::{Table, Value};
 pub enum Place {
     /// The image's own table.
     Top,
+    /// The second level's table.
+    Level2,
     Domain,
     /// Segments of domains.
     Segment,
@@ -25,6 +27,8 @@ pub enum Simple {
     Integer,
     /// An integer from one to another.
     Within(u32, u32),
+    /// True or false.
+    Truth,
     Text,
     Table,
 }
@@ -33,7 +37,8 @@ pub enum Simple {
 #[derive(Clone, Copy)]
 pub struct Field<'a> {
     pub key: &'a str,
-    pub simple: Simple,
+    /// None where it may be missing, and a row of its own says what must stand there.
+    pub simple: Option<Simple>,
 }
 
 #[derive(Clone, Copy)]
@@ -67,6 +72,7 @@ pub fn fits_one(simple: Simple, value: &Value) -> bool
             Some(number) => is_within(number, low, high),
             None => false,
         },
+        Simple::Truth => value.as_bool().is_some(),
         Simple::Text => value.as_str().is_some(),
         Simple::Table => value.as_table().is_some(),
     }
@@ -138,8 +144,11 @@ fn all_pairs(values: &[Value]) -> bool
 fn has_field(field: &Field<'_>, table: &Table) -> bool
     ensures value { result ≡ spec.has_field (field_model field.now) (table_view table.now) }
 {
+    let Some(simple) = field.simple else {
+        return true;
+    };
     match get(table, field.key) {
-        Some(value) => fits_one(field.simple, value),
+        Some(value) => fits_one(simple, value),
         None => false,
     }
 }

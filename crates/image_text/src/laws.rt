@@ -14,7 +14,7 @@ pub fn first_version()
 {}
 
 /// Each number of a record is the integer that stands at its key in the table
-/// that TOML finds in the bytes.
+/// that TOML finds in the bytes, and a truth value is the one that stands there.
 pub fn numbers()
     ensures numbers { NumbersLaw }
 {}

@@ -117,6 +117,9 @@ pub struct Raw {
     pub l1i: RawCache,
     pub l1d: RawCache,
     pub l2: RawCache,
+    /// Whether dirty lines are written back into the second level, else past it;
+    /// false where the image doesn't say.
+    pub back: bool,
     pub tlb: RawCache,
     /// Counters.
     pub predictor: i64,

@@ -17,7 +17,7 @@ use crate::refusal::{ReadRefusal, Refusal};
 use crate::rows::Broken;
 use crate::values::{
     integer_at, integer_if_at, integer_of, integers_at, integers_if_at, natural_at, table_at,
-    table_of, text_at,
+    table_of, text_at, truth_at,
 };
 use std::alloc::Global;
 use toml::{Table, Value};
@@ -47,6 +47,14 @@ fn cache_at(alloc: Global, table: &Table, key: &str) -> Result<RawCache, ReadRef
 {
     let empty = Table::new(alloc);
     cache_of(alloc, table_at(table, key, &empty))
+}
+
+/// Whether dirty lines are written back into the second level.
+fn back_at(alloc: Global, table: &Table) -> bool
+    ensures value { result ≡ spec.back_at (table_view table.now) }
+{
+    let empty = Table::new(alloc);
+    truth_at(table_at(table, "l2", &empty), "back")
 }
 
 #[tactic(auto, unfolding(crate::specs::Record::costs_of))]
@@ -248,6 +256,7 @@ fn record_of(alloc: Global, table: &Table) -> Result<Raw, ReadRefusal>
         l1i,
         l1d,
         l2,
+        back: back_at(alloc, table),
         tlb,
         predictor: integer_at(table, "predictor"),
         history: integer_at(table, "history"),

@@ -1,5 +1,6 @@
 // Rows of the key table, and where they are broken.
-ghost use Rattle.std.specs.Prelude.{◌≡◌, ◌<◌, ◌^◌, map, option_map, IfSome};
+ghost use Rattle.std.specs.Prelude.{◌≡◌, ◌<◌, ◌^◌, map, option_map, codes, IfSome};
+ghost use Rattle.toml.specs.Data.{get_member};
 ghost use Rattle.toml.specs.View.{view, items_view, table_view};
 ghost use Rattle.image_text.specs.Rows as spec;
 ghost use Rattle.image_text.specs.Models.{row_model, broken_model};
@@ -68,12 +69,24 @@ fn whole_segments(row: &Row<'_>, value: &Value) -> bool
     }
 }
 
+/// What is no table breaks the second level's own row.
+fn whole_level2(row: &Row<'_>, table: &Table) -> bool
+    ensures value { result
+        ≡ spec.whole_level2 (row_model row.now) (get_member (codes "l2") (table_view table.now)) }
+{
+    match get(table, "l2") {
+        Some(value) => whole_item(row, value),
+        None => true,
+    }
+}
+
 fn passes(row: &Row<'_>, value: &Value) -> bool
     ensures value { result ≡ spec.passes row.now.place (row_model row.now) (view value.now) }
 {
     match row.place {
         Place::Segment => whole_segments(row, value),
         Place::Top => whole_item(row, value),
+        Place::Level2 => whole_item(row, value),
         Place::Domain => whole_item(row, value),
         Place::Entry => whole_item(row, value),
     }
@@ -97,6 +110,13 @@ fn broken_at(row: &Row<'_>, table: &Table) -> Option<usize>
 {
     match row.place {
         Place::Top => { if whole_in(row, table) { None } else { Some(0) } }
+        Place::Level2 => {
+            if whole_level2(row, table) {
+                None
+            } else {
+                Some(0)
+            }
+        }
         Place::Domain => first_failing(row, items_at(table, "domain")),
         Place::Segment => first_failing(row, items_at(table, "domain")),
         Place::Entry => first_failing(row, items_at(table, "schedule")),

@@ -17,6 +17,7 @@ fn same_place(first: Place, second: Place) -> bool
 {
     match (first, second) {
         (Place::Top, Place::Top) => true,
+        (Place::Level2, Place::Level2) => true,
         (Place::Domain, Place::Domain) => true,
         (Place::Segment, Place::Segment) => true,
         (Place::Entry, Place::Entry) => true,

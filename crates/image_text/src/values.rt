@@ -1,4 +1,4 @@
-// Values at keys. What is missing, or of another type, reads as zero or empty:
+// Values at keys. What is missing, or of another type, reads as zero, false or empty:
 // the key table says where something is.
 ghost use Rattle.std.specs.Prelude.{◌≡◌, ℕ, ℤ, List, Some, option_map, string_bytes};
 ghost use Rattle.toml.specs.View.{view, items_view, table_view};
@@ -37,6 +37,24 @@ pub fn integer_if_at(table: &Table, key: &str) -> Option<i64>
     match get(table, key) {
         Some(value) => value.as_integer(),
         None => None,
+    }
+}
+
+fn truth_of(value: &Value) -> bool
+    ensures value { result ≡ spec.truth_of (Some (view value.now)) }
+{
+    match value.as_bool() {
+        Some(truth) => truth,
+        None => false,
+    }
+}
+
+pub fn truth_at(table: &Table, key: &str) -> bool
+    ensures value { result ≡ spec.truth_at key.now (table_view table.now) }
+{
+    match get(table, key) {
+        Some(value) => truth_of(value),
+        None => false,
     }
 }
 

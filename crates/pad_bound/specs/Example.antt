@@ -71,6 +71,39 @@ others : worst_operation (with_calls small (2 ^ 6 + 2 ^ 9 + 2 ^ 10 + 2 ^ 11 + 2 
 unfolding worst_operation most_written may_make
 others = refl
 
+-- ---- where lines are written back into the second level, so that a miss of it may write one back again
+
+abbrev pub written_back : MachineShape
+written_back = record small { again = small.costs.wb }
+
+pub back_instruction : worst_instruction written_back ≡ 366
+unfolding worst_instruction
+back_instruction = refl
+
+pub back_operation : worst_operation written_back ≡ 5007
+unfolding worst_operation most_written may_make
+back_operation = refl
+
+pub back_leave : worst_leave written_back ≡ 453
+unfolding worst_leave
+back_leave = refl
+
+pub back_prefetch : worst_prefetch written_back ≡ 472
+unfolding worst_prefetch
+back_prefetch = refl
+
+pub back_flush : worst_flush written_back ≡ 340
+unfolding worst_flush
+back_flush = refl
+
+pub back_enter : worst_enter written_back ≡ 443
+unfolding worst_enter
+back_enter = refl
+
+pub back_total : bound_of written_back ≡ 7080
+unfolding bound_of worst_instruction worst_operation worst_leave worst_prefetch worst_flush worst_enter most_written may_make
+back_total = refl
+
 -- where a second-level miss writes back again, and a division may take 2 cycles a digit and one more
 abbrev pub larger : MachineShape
 larger = record { costs = small.costs; line = 64; shared = 512; sets = 16; ways = 2; written = 64; again = 10; product = 66 }

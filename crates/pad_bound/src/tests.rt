@@ -51,7 +51,18 @@ fn bounds_are_as_worked_out(rt: HostRuntime) {
         ..of_small
     };
     assert_eq!(rt; bound(&fine), of_fine);
-    // A miss of the second level costs 10 more, and a product up to 132 cycles.
+    // A miss of the second level costs 10 more.
+    let written_back = Shape { again: 10, ..small };
+    let of_written_back = Bound {
+        instruction: 366,
+        operation: 5007,
+        leave: 453,
+        enter: 443,
+        total: 7080,
+        ..of_small
+    };
+    assert_eq!(rt; bound(&written_back), of_written_back);
+    // So it does, and a product costs up to 132 cycles.
     let larger = Shape {
         again: 10,
         product: 132,
