@@ -9,7 +9,8 @@ use Rattle.repl_policy.specs.Members.{any_rule, any_stands_for}
 use Rattle.cycle_cost.specs.Costs.{CostTable}
 use Rattle.kernel_clone.specs.Footprints.{Layout}
 use Rattle.mem_system.specs.Hierarchy.{Hierarchy}
-use Rattle.mem_system.specs.Cost.{Touch, Caches, Flush, fresh_core, cold, touched, touched_all, on_core, flushed, pass_on, below_all}
+use Rattle.mem_system.specs.Cost.{Touch, Core, Caches, EmptyTlb, Flush, fresh_core, cold, touched, touched_all, on_core, pass_on, below_all}
+use Rattle.set_cache.specs.Cache.{Sets}
 use Rattle.mem_system.specs.Contents.{SystemContents, SystemStands, MakesTouch, MakesTouches, hierarchy_of}
 use Rattle.mem_system.specs.Translation.{KeepsLeaves}
 use Rattle.cache_sharing.specs.Operations.{enter, leave}
@@ -33,7 +34,7 @@ use Rattle.domain_step.specs.Moves.{StandsIn}
 use Rattle.domain_step.proofs.Standing.{is_setting, machine_of, domain_of}
 use Rattle.alone_run.specs.Runs.{RunsAlone}
 use Rattle.alone_run.specs.Standing.{Kept, kept, StandsFor, HasFacts}
-use Rattle.alone_run.proofs.States.{kernel, alone_facts}
+use Rattle.alone_run.proofs.States.{kernel, alone_facts, alone_fresh}
 
 -- the code's parts stand for a state of the domain alone
 abbrev pub Stand : Hardware → Own → Kept → Local → Type 0
@@ -57,15 +58,15 @@ makes_all : (h : Hierarchy) (b : Bool) (ts : List Touch) (n : ℕ) (old new : Sy
 makes_all h b ts n old new c levels pinned made is =
     subst₂ (λ (l : Hierarchy) (q : Bool). SystemStands any_stands_for new (touched_all l q c ts).caches) levels pinned (made.steps c is).next
 
-flush_is : (h : Hierarchy) (b : Bool) (c : Caches) → (touched h b c Flush).caches ≡ record c { core = fresh_core h }
-unfolding touched on_core flushed pass_on below_all
-flush_is h b c = refl
+makes_one : (h : Hierarchy) (b : Bool) (t : Touch) (n : ℕ) (old new : SystemContents AnyPolicy) (c : Caches) → hierarchy_of any_rule old ≡ h → old.core.pinned ≡ b
+    → MakesTouch any_rule any_stands_for t n old new → SystemStands any_stands_for old c → SystemStands any_stands_for new (touched h b c t).caches
+makes_one h b t n old new c levels pinned made is =
+    subst₂ (λ (l : Hierarchy) (q : Bool). SystemStands any_stands_for new (touched l q c t).caches) levels pinned (made.steps c is).next
 
-makes_fresh : (h : Hierarchy) (n : ℕ) (old new : SystemContents AnyPolicy) (c : Caches) → hierarchy_of any_rule old ≡ h
-    → MakesTouch any_rule any_stands_for Flush n old new → SystemStands any_stands_for old c → SystemStands any_stands_for new (record c { core = fresh_core h })
-makes_fresh h n old new c levels made is =
-    subst (λ (l : Hierarchy). SystemStands any_stands_for new (record c { core = fresh_core l })) levels
-    (subst (SystemStands any_stands_for new) (flush_is (hierarchy_of any_rule old) old.core.pinned c) (made.steps c is).next)
+-- a fresh core has nothing in its buffer
+empty_is : (h : Hierarchy) (b : Bool) (l2 : Sets) → (touched h b (record { core = fresh_core h; l2 = l2 }) EmptyTlb).caches ≡ record { core = fresh_core h; l2 = l2 }
+unfolding touched on_core fresh_core pass_on below_all
+empty_is h b l2 = refl
 
 -- ---- a slot
 
@@ -102,24 +103,28 @@ module _ (p : Public) (o : Own) {number : ℕ} (runs : RunsAlone p o number) whe
     time = refl;
   }
 
-  -- the core is fresh, and the domain has entered
-  pub begun : (d k : ℕ) (c : Kept) (l : Layout) (fresh entered : SystemContents AnyPolicy) (f e now : ℕ) → StandsFor p.hardware o (alone p o d k) c
+  -- the domain has entered: its core is fresh from the end of its last slot on
+  pub begun : (d k : ℕ) (c : Kept) (l : Layout) (empty entered : SystemContents AnyPolicy) (e now : ℕ) → StandsFor p.hardware o (alone p o d k) c
       → l ≡ layout p.hardware o
-      → MakesTouch any_rule any_stands_for Flush f c.system fresh
-      → ((mem : Mem) (frames root : ℕ) → KeepsLeaves mem frames root fresh.core.tlb)
-      → MakesTouches any_rule any_stands_for (enter l) e fresh entered → entered.core.tlb ≡ fresh.core.tlb
+      → MakesTouch any_rule any_stands_for EmptyTlb 0 c.system empty
+      → ((mem : Mem) (frames root : ℕ) → KeepsLeaves mem frames root empty.core.tlb)
+      → MakesTouches any_rule any_stands_for (enter l) e empty entered → entered.core.tlb ≡ empty.core.tlb
       → now ≡ start p.schedule k
       → Stand p.hardware o (kept c.memory entered c.domain now) (alone_enter p o k (alone p o d k))
   unfolding alone_enter enter_part
-  begun d k c l fresh entered f e now is clone flushes no_leaves enters buffer time =
+  begun d k c l empty entered e now is clone empties no_leaves enters buffer time =
       let h = hierarchy p.hardware in
       let s = alone p o d k in
       let m = is.machine in
-      let levels : hierarchy_of any_rule fresh ≡ h = flushes.same ∙ sym m.levels in
-      let pinned : fresh.core.pinned ≡ true = flushes.pinned ∙ m.pinned in
-      let cold : SystemStands any_stands_for fresh (record s.caches { core = fresh_core h }) = makes_fresh h f c.system fresh s.caches (sym m.levels) flushes m.caches in
-      let into : MakesTouches any_rule any_stands_for (enter (layout p.hardware o)) e fresh entered =
-      subst (λ (x : Layout). MakesTouches any_rule any_stands_for (enter x) e fresh entered) clone enters in
+      let levels : hierarchy_of any_rule empty ≡ h = empties.same ∙ sym m.levels in
+      let pinned : empty.core.pinned ≡ true = empties.pinned ∙ m.pinned in
+      let was : SystemStands any_stands_for c.system (record s.caches { core = fresh_core h }) =
+      subst (λ (core : Core). SystemStands any_stands_for c.system (record s.caches { core = core })) (alone_fresh p o d k) m.caches in
+      let fresh : SystemStands any_stands_for empty (record s.caches { core = fresh_core h }) =
+      subst (SystemStands any_stands_for empty) (empty_is h true s.caches.l2)
+      (makes_one h true EmptyTlb 0 c.system empty (record s.caches { core = fresh_core h }) (sym m.levels) m.pinned empties was) in
+      let into : MakesTouches any_rule any_stands_for (enter (layout p.hardware o)) e empty entered =
+      subst (λ (x : Layout). MakesTouches any_rule any_stands_for (enter x) e empty entered) clone enters in
       record {
         fits = record {
           kernel = kernel p o runs;
@@ -132,33 +137,38 @@ module _ (p : Public) (o : Own) {number : ℕ} (runs : RunsAlone p o number) whe
         facts = has_facts d k c.memory c.domain m.frames m.holds is.domain.dom is.domain.has;
         layout = is.domain.layout;
         leaves = subst (KeepsLeaves s.storage.mem c.memory.frames c.domain.map) (sym buffer) (no_leaves s.storage.mem c.memory.frames c.domain.map);
-        caches = makes_all h true (enter (layout p.hardware o)) e fresh entered (record s.caches { core = fresh_core h }) levels pinned into cold;
+        caches = makes_all h true (enter (layout p.hardware o)) e empty entered (record s.caches { core = fresh_core h }) levels pinned into fresh;
         moments = is.domain.moments;
         time = time;
       }
 
--- the domain has left
-pub left : (p : Hardware) (o : Own) (c : Kept) (l : Layout) (new : SystemContents AnyPolicy) (n : ℕ) (s : Local) → Stand p o c s
-    → l ≡ layout p o → MakesTouches any_rule any_stands_for (leave c.system.core.costs l) n c.system new → new.core.tlb ≡ c.system.core.tlb
+-- the domain has left, and its dirty lines are written back
+pub left : (p : Hardware) (o : Own) (c : Kept) (l : Layout) (gone new : SystemContents AnyPolicy) (n f : ℕ) (s : Local) → Stand p o c s
+    → l ≡ layout p o → MakesTouches any_rule any_stands_for (leave c.system.core.costs l) n c.system gone
+    → MakesTouch any_rule any_stands_for Flush f gone new
+    → ((mem : Mem) (frames root : ℕ) → KeepsLeaves mem frames root new.core.tlb)
     → Stand p o (kept c.memory new c.domain c.clock) (alone_out p o s)
 unfolding alone_out hierarchy
-left p o c l new n s is clone leaves buffer =
+left p o c l gone new n f s is clone leaves flushes no_leaves =
     let h = hierarchy p in
-    let out : MakesTouches any_rule any_stands_for (leave p.costs (layout p o)) n c.system new =
-    subst₂ (λ (t : CostTable) (x : Layout). MakesTouches any_rule any_stands_for (leave t x) n c.system new) (costs_are p c.system is.fits.levels) clone leaves in
+    let out : MakesTouches any_rule any_stands_for (leave p.costs (layout p o)) n c.system gone =
+    subst₂ (λ (t : CostTable) (x : Layout). MakesTouches any_rule any_stands_for (leave t x) n c.system gone) (costs_are p c.system is.fits.levels) clone leaves in
+    let caches = makes_all h true (leave p.costs (layout p o)) n c.system gone s.caches (sym is.fits.levels) is.fits.pinned out is.caches in
     record {
       fits = record {
         kernel = is.fits.kernel;
         sound = is.fits.sound;
         frames = is.fits.frames;
-        levels = is.fits.levels ∙ sym leaves.same;
-        pinned = leaves.pinned ∙ is.fits.pinned;
+        levels = is.fits.levels ∙ sym leaves.same ∙ sym flushes.same;
+        pinned = flushes.pinned ∙ leaves.pinned ∙ is.fits.pinned;
       };
       dom = is.dom;
       facts = is.facts;
       layout = is.layout;
-      leaves = subst (KeepsLeaves s.storage.mem c.memory.frames c.domain.map) (sym buffer) is.leaves;
-      caches = makes_all h true (leave p.costs (layout p o)) n c.system new s.caches (sym is.fits.levels) is.fits.pinned out is.caches;
+      leaves = no_leaves s.storage.mem c.memory.frames c.domain.map;
+      caches =
+          makes_one h true Flush f gone new (touched_all h true s.caches (leave p.costs (layout p o))).caches
+          (leaves.same ∙ sym is.fits.levels) (leaves.pinned ∙ is.fits.pinned) flushes caches;
       moments = is.moments;
       time = is.time;
     }

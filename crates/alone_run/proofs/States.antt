@@ -6,7 +6,7 @@ use Rattle.sched_table.specs.Schedule.{entry_of_slot, pad_of, start, slot_end}
 use Rattle.pad_bound.specs.Bound.{bound_of}
 use Rattle.image_check.specs.Public.{Public}
 use Rattle.image_check.specs.Own.{Own}
-use Rattle.mem_system.specs.Cost.{fresh_core, cold}
+use Rattle.mem_system.specs.Cost.{fresh_core, cold, on_core, flushed, pass_on, touched}
 use Rattle.cache_sharing.specs.Operations.{enter}
 use Rattle.cache_sharing.specs.Worst.{HasWays}
 use Rattle.cache_sharing.proofs.Worst.{worst_law}
@@ -70,6 +70,19 @@ module _ (p : Public) (o : Own) {number : ℕ} (runs : RunsAlone p o number) whe
   unfolding alone alone_opening
   alone_early zero = omega arith
   alone_early (suc k) = early_if k (alone p o number k) _ refl (alone_early k)
+
+-- ---- its core is fresh between its slots
+
+fresh_if : (p : Public) (o : Own) (k : ℕ) (s : Local) (b : Bool) → s.caches.core ≡ fresh_core (hierarchy p.hardware)
+    → (alone_if p o k s b).caches.core ≡ fresh_core (hierarchy p.hardware)
+unfolding alone_if alone_out touched on_core flushed pass_on
+fresh_if p o k s true fresh = refl
+fresh_if p o k s false fresh = fresh
+
+pub alone_fresh : (p : Public) (o : Own) (d k : ℕ) → (alone p o d k).caches.core ≡ fresh_core (hierarchy p.hardware)
+unfolding alone alone_opening cold
+alone_fresh p o d zero = refl
+alone_fresh p o d (suc k) = fresh_if p o k (alone p o d k) ((entry_of_slot p.schedule k).domain == d) (alone_fresh p o d k)
 
 -- ---- a slot by whose it is
 

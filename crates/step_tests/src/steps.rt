@@ -100,7 +100,7 @@ fn system_of(alloc: Global, hardware: &Hardware) -> Result<Option<MemSystem<Lru>
     if hardware.line != 64 || hardware.predictor != 16 {
         return Ok(None);
     }
-    if hardware.history != 0 || hardware.targets != 0 {
+    if hardware.back || hardware.history != 0 || hardware.targets != 0 {
         return Ok(None);
     }
     if !is_shape(hardware.l1i, 16, 2) || !is_shape(hardware.l1d, 16, 2) {
@@ -111,6 +111,7 @@ fn system_of(alloc: Global, hardware: &Hardware) -> Result<Option<MemSystem<Lru>
     }
     let geometry = Geometry {
         line_size: 64,
+        back: false,
         predictor: Sizes {
             counters: 16,
             history: 0,

@@ -34,6 +34,7 @@ hierarchy p = record {
   costs = p.costs;
   products = p.muldiv;
   line_size = p.line;
+  back = p.back;
   predictor = predictor_sizes p;
   l1i = cache_shape p.l1i;
   l1d = cache_shape p.l1d;

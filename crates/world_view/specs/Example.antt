@@ -38,8 +38,9 @@ use Rattle.world_view.specs.Opening.{frame_words, put_word, tabled, root_entry, 
 use Rattle.rv_decode.specs.declared.Counter.TheVariants.{Cycle, Time, Instret, CycleHigh, TimeHigh, InstretHigh}
 use Rattle.world_view.specs.Kernel.{first_cap, first_slots, opening_dom, page_numbers, kept_pages, first_regions, fixed_claims, estate, layout, no_dom}
 use Rattle.world_view.specs.Instruction.{counter_value, stopped, trapped, retired_at, read_out}
-use Rattle.mem_system.specs.Hierarchy.{colour_of_line}
+use Rattle.mem_system.specs.Hierarchy.{Hierarchy, colour_of_line}
 use Rattle.mem_system.specs.Cost as cost
+use Rattle.mem_system.specs.Cost.{Touch, Load, Store, WalkRead, Flush, Caches, cold, touched}
 use Rattle.mem_system.specs.Translation.{lines_of, look_of}
 use Rattle.cache_sharing.specs.Operations.{footprint, operation, leave, enter, shared_region, prefetch}
 use Rattle.world_view.specs.Cost.{hierarchy, region}
@@ -82,6 +83,7 @@ small_machine = record {
   l1i = record { sets = 16; ways = 2; policy = Lru };
   l1d = record { sets = 16; ways = 2; policy = Lru };
   l2 = record { sets = 256; ways = 4; policy = Lru };
+  back = false;
   tlb = record { sets = 4; ways = 2; policy = Lru };
   predictor = 16;
   history = 0;
@@ -188,7 +190,7 @@ waited_and_polled clock = record {
 
 -- all that a run computes with
 pub everything : ℕ
-unfolding interrupts.next_cycle interrupts.due threads.waiter threads.woken threads.blocked threads.finished threads.vacant threads.spawned threads.with_thread domain.recorded domain.with_bit domain.signalled_by domain.signalled domain.delivered_on domain.turned domain.waiting domain.thread_ended domain.with_spawned calls.line_at calls.poll calls.waited calls.wait calls.signal calls.spawn empty at put go_on ◌>>=◌ ◌>>◌ give stop note either start frame_at word written frame_words put_word tabled root_entry rights_in leaf_with leaf_entry root_placed table_placed tables_placed page_words pages_placed segments_placed placed all_placed has_region regions_below pages_below pages_in table_word leaf_word leaf_bits bit ppn ppn_0 ppn_1 with_ppn vpn_0 vpn_1 leaf superpage first_level last_level entry_address from_table from_entry walk first_cap first_slots opening_dom page_numbers kept_pages first_regions fixed_claims estate layout no_dom threads.opening never turned_to yielded given_way with_current all_ended domain.opening domain.placed domain.replied domain.exited domain.with_caps calls.zeroed_in calls.entries_in calls.work_of calls.zero_out calls.page_refusal calls.table_refusal calls.map_at calls.unmap_at calls.install_at calls.uninstall_at calls.empty_buffer calls.some_or calls.is_slot calls.filled calls.allowed calls.put_byte calls.alloc calls.install calls.map_page calls.unmap calls.unless_refused calls.copy calls.clear_entry calls.drop_slot calls.delete calls.unmap_all calls.revoke calls.call_of calls.call slots.maps_in slots.in_use slots.count_in frame_of is_shared leaf_at place_of region_of claim_of all_claims claims frames_in is_named free_frames least_free text_touches stack_touches data_touches shared_touches zeroed_touches entry_touches touches check stopped trapped retired_at read_out colour_of_line cost.fresh_core cost.cold cost.fetched cost.accessed cost.looked cost.guessed cost.branched cost.jumped cost.flushed cost.on_core cost.below_by cost.below_if cost.below cost.below_all cost.pass_on cost.touched cost.and_then cost.touched_all lines_of look_of footprint operation leave enter shared_region prefetch hierarchy region touch frame_or_stop translate address_in line_in read write unless load store computed loaded noted guessed settle execute timed calls.empties call_touches make_call perform instruction delivery_touches interrupts_of event paid delivered happened step steps leave_by guarded prefetch_by flush_by enter_part switch_work_by with_part switch_by run_slot_by own_slot with_end opening_doms opening whole_by alone_opening alone_enter alone_in alone_out alone_if alone log_of colours.pool colours.frame_at view view_whole view_alone memory_sum count_of largest_of two_domains interrupted with_hart beside_moment first_due step_among steps_among may_make
+unfolding interrupts.next_cycle interrupts.due threads.waiter threads.woken threads.blocked threads.finished threads.vacant threads.spawned threads.with_thread domain.recorded domain.with_bit domain.signalled_by domain.signalled domain.delivered_on domain.turned domain.waiting domain.thread_ended domain.with_spawned calls.line_at calls.poll calls.waited calls.wait calls.signal calls.spawn empty at put go_on ◌>>=◌ ◌>>◌ give stop note either start frame_at word written frame_words put_word tabled root_entry rights_in leaf_with leaf_entry root_placed table_placed tables_placed page_words pages_placed segments_placed placed all_placed has_region regions_below pages_below pages_in table_word leaf_word leaf_bits bit ppn ppn_0 ppn_1 with_ppn vpn_0 vpn_1 leaf superpage first_level last_level entry_address from_table from_entry walk first_cap first_slots opening_dom page_numbers kept_pages first_regions fixed_claims estate layout no_dom threads.opening never turned_to yielded given_way with_current all_ended domain.opening domain.placed domain.replied domain.exited domain.with_caps calls.zeroed_in calls.entries_in calls.work_of calls.zero_out calls.page_refusal calls.table_refusal calls.map_at calls.unmap_at calls.install_at calls.uninstall_at calls.empty_buffer calls.some_or calls.is_slot calls.filled calls.allowed calls.put_byte calls.alloc calls.install calls.map_page calls.unmap calls.unless_refused calls.copy calls.clear_entry calls.drop_slot calls.delete calls.unmap_all calls.revoke calls.call_of calls.call slots.maps_in slots.in_use slots.count_in frame_of is_shared leaf_at place_of region_of claim_of all_claims claims frames_in is_named free_frames least_free text_touches stack_touches data_touches shared_touches zeroed_touches entry_touches touches check stopped trapped retired_at read_out colour_of_line cost.fresh_core cost.cold cost.fetched cost.accessed cost.looked cost.guessed cost.branched cost.jumped cost.flushed cost.on_core cost.missed_cost cost.below_by cost.below_if cost.below cost.below_all cost.pass_on cost.touched cost.and_then cost.touched_all lines_of look_of footprint operation leave enter shared_region prefetch hierarchy region touch frame_or_stop translate address_in line_in read write unless load store computed loaded noted guessed settle execute timed calls.empties call_touches make_call perform instruction delivery_touches interrupts_of event paid delivered happened step steps leave_by guarded prefetch_by flush_by enter_part switch_work_by with_part switch_by run_slot_by own_slot with_end opening_doms opening whole_by alone_opening alone_enter alone_in alone_out alone_if alone log_of colours.pool colours.frame_at view view_whole view_alone memory_sum count_of largest_of two_domains interrupted with_hart beside_moment first_due step_among steps_among may_make
 everything = 0
 
 -- ---- the memory that it opens with
@@ -389,3 +391,48 @@ idle_loop = 0x6f ∷ 0 ∷ 0 ∷ 0 ∷ []
 pub unflushed_beside_a_loop : blue_reads guard.Flush (two_domains idle_loop (timed_print 0x20)) ≡ 22300 ∷ 22763 ∷ []
 unfolding everything
 unflushed_beside_a_loop = refl
+
+-- ---- dirty lines that are written back into the second level
+
+abbrev pub writing_back : Hardware
+writing_back = record small_machine { back = true }
+
+-- what touches cost, one after the other
+abbrev pub costs_in_order : Hierarchy → Caches → List Touch → List ℕ
+costs_in_order h c [] = []
+costs_in_order h c (t ∷ ts) = (touched h false c t).cost ∷ costs_in_order h (touched h false c t).caches ts
+
+abbrev pub from_cold : Hardware → List Touch → List ℕ
+from_cold p ts = costs_in_order (hierarchy p) (cold (hierarchy p)) ts
+
+-- line 132 takes the place of line 100 in the first level, which is marked in the second, where line 1124 takes its place
+abbrev pub evicting : List Touch
+evicting = Store 100 ∷ Store 116 ∷ Load 132 ∷ WalkRead 356 ∷ WalkRead 612 ∷ WalkRead 868 ∷ WalkRead 1124 ∷ []
+
+pub evicts_marked : from_cold writing_back evicting ≡ 49 ∷ 49 ∷ 59 ∷ 48 ∷ 48 ∷ 48 ∷ 58 ∷ []
+unfolding everything
+evicts_marked = refl
+
+-- without it none has a mark there
+pub evicts_unmarked : from_cold small_machine evicting ≡ 49 ∷ 49 ∷ 59 ∷ 48 ∷ 48 ∷ 48 ∷ 48 ∷ []
+unfolding everything
+evicts_unmarked = refl
+
+-- the first level's victim is written back before the second level is touched for the new line, which then gives it up;
+-- a mark doesn't move it
+pub victim_first : from_cold writing_back (Store 100 ∷ WalkRead 356 ∷ WalkRead 612 ∷ WalkRead 868 ∷ Load 116 ∷ Load 1124 ∷ [])
+    ≡ 49 ∷ 48 ∷ 48 ∷ 48 ∷ 49 ∷ 69 ∷ []
+unfolding everything
+victim_first = refl
+
+-- a flush writes back, too; a line that the second level has lost passes through
+pub flush_marks : from_cold writing_back (Store 100 ∷ Flush ∷ WalkRead 356 ∷ WalkRead 612 ∷ WalkRead 868 ∷ WalkRead 1124 ∷ [])
+    ≡ 49 ∷ 30 ∷ 48 ∷ 48 ∷ 48 ∷ 58 ∷ []
+unfolding everything
+flush_marks = refl
+
+pub passes_through : from_cold writing_back
+    (Store 100 ∷ WalkRead 356 ∷ WalkRead 612 ∷ WalkRead 868 ∷ WalkRead 1124 ∷ Flush ∷ WalkRead 100 ∷ WalkRead 356 ∷ [])
+    ≡ 49 ∷ 48 ∷ 48 ∷ 48 ∷ 48 ∷ 30 ∷ 48 ∷ 48 ∷ []
+unfolding everything
+passes_through = refl

@@ -20,6 +20,7 @@ cache_geometry c = record { policy = any_of c.policy; sets = c.sets; ways = c.wa
 abbrev pub geometry : Hardware → Geometry AnyPolicy
 geometry p = record {
   line_size = p.line;
+  back = p.back;
   predictor = predictor_sizes p;
   l1i = cache_geometry p.l1i;
   l1d = cache_geometry p.l1d;

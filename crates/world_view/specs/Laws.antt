@@ -27,7 +27,7 @@ use Rattle.world_view.specs.Machine.{caches_of, clock_of, setting, Local, World,
 use Rattle.world_view.specs.View.{view_whole, view_alone}
 use Rattle.world_view.specs.Used.{largest_of}
 use Rattle.image_check.specs.Laws.{Runnable}
-use Rattle.world_view.specs.Relations.{IsDomain, IsOwnFrame, Agree, SameSets, Resident, KeepsSharedAlone, IsKernel, IsForGood, HasFacts, HasRights, ReachesOwn, Beside, Within, Apiece, Untouched, InTime, AllWithinPads}
+use Rattle.world_view.specs.Relations.{IsDomain, IsOwnFrame, Agree, SameSets, Resident, KeepsSharedAlone, OwnDirty, KernelIsClean, IsKernel, IsForGood, HasFacts, HasRights, ReachesOwn, Beside, Within, Apiece, Untouched, InTime, AllWithinPads}
 
 -- ---- isolation
 
@@ -199,29 +199,36 @@ ReadingLaw = (bytes : List ℕ) (i : Image) → image bytes ≡ Ok i → Runnabl
 unfoldable pub event_of : Image → ℕ → ℕ → World → World
 event_of i e end w = with_part 0 e w (step (setting i.all.hardware (own_of i e) false) end (part_of 0 e w))
 
--- another domain's event leaves domain d, its memory and its part of the caches
+-- another domain's event leaves domain d, its memory and its part of the caches, where the dirty lines are the other's
 abbrev pub OthersStepLaw : Type 0
 OthersStepLaw = (i : Image) (d e end : ℕ) (w : World) → Runnable i → IsDomain i d → IsDomain i e → d ≢ e
-    → HasFacts i.all.hardware (own_of i e) (dom_of w e) w.storage
+    → HasFacts i.all.hardware (own_of i e) (dom_of w e) w.storage → OwnDirty i.all.hardware (own_of i e) (caches_of 0 w)
     → Untouched i.all.hardware (own_of i d) d (event_of i e end w) w
 
 -- another domain leaves or enters
 abbrev pub OthersLeaveLaw : Type 0
 OthersLeaveLaw = (i : Image) (d e : ℕ) (c : Caches) → Runnable i → IsDomain i d → IsDomain i e → d ≢ e
+    → OwnDirty i.all.hardware (own_of i e) c
     → SameSets i.all.hardware (own_of i d) (leave_part i (Some e) c).caches c
 
 abbrev pub OthersEnterLaw : Type 0
 OthersEnterLaw = (i : Image) (d e : ℕ) (c : Caches) → Runnable i → IsDomain i d → IsDomain i e → d ≢ e
+    → OwnDirty i.all.hardware (own_of i e) c
     → SameSets i.all.hardware (own_of i d) (enter_part (hierarchy i.all.hardware) false (layout i.all.hardware (own_of i e)) c).caches c
 
--- the prefetch and the flush, whoever leaves and enters
+-- the prefetch and the flush leave all domains but the one that leaves, whose dirty lines they write back
 abbrev pub PrefetchLaw : Type 0
-PrefetchLaw = (i : Image) (d : ℕ) (c : Caches) → Runnable i → IsDomain i d
-    → SameSets i.all.hardware (own_of i d) (prefetch_part i c).caches c
+PrefetchLaw = (i : Image) (d e : ℕ) (c : Caches) → Runnable i → IsDomain i d → IsDomain i e → d ≢ e
+    → OwnDirty i.all.hardware (own_of i e) c → SameSets i.all.hardware (own_of i d) (prefetch_part i c).caches c
 
 abbrev pub FlushLaw : Type 0
-FlushLaw = (i : Image) (d : ℕ) (c : Caches) → Runnable i → IsDomain i d
-    → SameSets i.all.hardware (own_of i d) (flush_part i c).caches c
+FlushLaw = (i : Image) (d e : ℕ) (c : Caches) → Runnable i → IsDomain i d → IsDomain i e → d ≢ e
+    → OwnDirty i.all.hardware (own_of i e) c → SameSets i.all.hardware (own_of i d) (flush_part i c).caches c
+
+-- and for that one it makes no difference that a prefetch comes before the flush
+abbrev pub SettledLaw : Type 0
+SettledLaw = (i : Image) (d : ℕ) (c : Caches) → Runnable i → IsDomain i d
+    → SameSets i.all.hardware (own_of i d) (flush_part i (prefetch_part i c).caches).caches (flush_part i c).caches
 
 -- the domain's own step, from states that are beside: at equal cost, since the clocks stay equal
 abbrev pub OwnStepLaw : Type 0
@@ -230,7 +237,7 @@ OwnStepLaw = (p : Hardware) (o : Own) (end : ℕ) (first s a : Local) → Beside
 
 -- a switch from d to another
 abbrev pub SwitchOutLaw : Type 0
-SwitchOutLaw = (i : Image) (k d : ℕ) (w : World) (a : Local) → Runnable i → IsDomain i d
+SwitchOutLaw = (i : Image) (k d : ℕ) (w : World) (a : Local) → Runnable i → IsDomain i d → InTime i k w
     → outgoing i.all.schedule k ≡ Some d → (entry_of_slot i.all.schedule k).domain ≢ d
     → Within i.all.hardware (own_of i d) (part_of 0 d w) a
     → Apiece i.all.hardware (own_of i d) (part_of 0 d (switch i k w)) (alone_out i.all.hardware (own_of i d) a)
@@ -252,7 +259,7 @@ SwitchBothLaw = (i : Image) (k d : ℕ) (w : World) (a : Local) → Runnable i �
 
 -- a switch between others
 abbrev pub SwitchPastLaw : Type 0
-SwitchPastLaw = (i : Image) (k d : ℕ) (w : World) (a : Local) → Runnable i → IsDomain i d
+SwitchPastLaw = (i : Image) (k d : ℕ) (w : World) (a : Local) → Runnable i → IsDomain i d → InTime i k w
     → outgoing i.all.schedule k ≢ Some d → (entry_of_slot i.all.schedule k).domain ≢ d
     → Apiece i.all.hardware (own_of i d) (part_of 0 d w) a
     → Apiece i.all.hardware (own_of i d) (part_of 0 d (switch i k w)) a
@@ -291,3 +298,20 @@ SwitchAloneLaw = (i : Image) (k n : ℕ) → Runnable i → KeepsSharedAlone i.a
 -- and at each moment of each slot
 abbrev pub SlotAloneLaw : Type 0
 SlotAloneLaw = (i : Image) (k n : ℕ) → Runnable i → KeepsSharedAlone i.all.hardware (local_in i k n).caches
+
+-- ---- dirty lines
+
+-- no line of colour 0 is ever dirty, so the kernel's shared lines cost the same whatever the domains wrote: at each moment of
+-- each switch
+abbrev pub SwitchCleanLaw : Type 0
+SwitchCleanLaw = (i : Image) (k n : ℕ) → Runnable i → KernelIsClean i.all.hardware (caches_in_switch i k n)
+
+-- and of each slot
+abbrev pub SlotCleanLaw : Type 0
+SlotCleanLaw = (i : Image) (k n : ℕ) → Runnable i → KernelIsClean i.all.hardware (local_in i k n).caches
+
+-- a domain's dirty lines lie in its own sets, so what gives way to them costs no one else: at each moment of each slot those
+-- of the first level are of the domain whose slot it is
+abbrev pub SlotDirtyLaw : Type 0
+SlotDirtyLaw = (i : Image) (k n : ℕ) → Runnable i →
+    OwnDirty i.all.hardware (own_of i (entry_of_slot i.all.schedule k).domain) (local_in i k n).caches

@@ -359,9 +359,11 @@ alone_enter p o k s =
 unfoldable pub alone_in : Public → Own → ℕ → Local → Local
 alone_in p o k s = stretch (setting p.hardware o true) (slot_end p.schedule k) (alone_enter p o k s)
 
--- leave isn't charged either
+-- leave isn't charged either; nor is the flush, which writes its dirty lines back
 unfoldable pub alone_out : Hardware → Own → Local → Local
-alone_out p o s = record s { caches = (touched_all (hierarchy p) true s.caches (leave p.costs (layout p o))).caches }
+alone_out p o s =
+    let left = touched_all (hierarchy p) true s.caches (leave p.costs (layout p o)) in
+    record s { caches = (touched (hierarchy p) true left.caches Flush).caches }
 
 unfoldable pub alone_if : Public → Own → ℕ → Local → Bool → Local
 alone_if p o k s true = alone_out p.hardware o (alone_in p o k s)

@@ -1,5 +1,5 @@
 -- The words of the laws: what is alike for a domain, in two states of machines, and what the kernel has of it.
-use Rattle.std.specs.Prelude.{◌≡◌, ℕ, false, IsTrue, ◌<◌, ◌≤◌, ◌+◌, List, [], ◌∷◌, length}
+use Rattle.std.specs.Prelude.{◌≡◌, ℕ, Bool, false, IsTrue, ◌<◌, ◌≤◌, ◌+◌, List, [], ◌∷◌, length, Option, Some, None}
 use Rattle.phys_mem.specs.Mem.{Mem, frame_at}
 use Rattle.kernel_clone.specs.Footprints.{IsLayout}
 use Rattle.pad_bound.specs.Bound.{MachineShape, worst_instruction, worst_operation, bound_of}
@@ -19,7 +19,7 @@ use Rattle.image_check.specs.Own.{Own}
 use Rattle.image_check.specs.Image.{Image, own_of}
 use Rattle.world_view.specs.Frames.{own_frame}
 use Rattle.world_view.specs.Kernel.{estate, layout}
-use Rattle.sched_table.specs.Schedule.{last_end}
+use Rattle.sched_table.specs.Schedule.{last_end, outgoing}
 use Rattle.world_view.specs.Cost.{hierarchy, region, own_colour}
 use Rattle.image_check.specs.Pads.{shape_for}
 use Rattle.world_view.specs.Event.{Storage}
@@ -72,6 +72,14 @@ Resident p c = sharing.Resident (hierarchy p) (region p) c.l2
 -- the second level's sets of colour 0, the kernel's, keep lines that the domains share alone
 abbrev pub KeepsSharedAlone : Hardware → Caches → Type 0
 KeepsSharedAlone p c = sharing.KeepsSharedAlone (hierarchy p) (region p) c.l2
+
+-- each dirty line of the first level is one of the domain's own
+abbrev pub OwnDirty : Hardware → Own → Caches → Type 0
+OwnDirty p o c = sharing.OwnDirty (hierarchy p) (own_colour o) c.core
+
+-- no line of the kernel's colour, which is 0, is dirty
+abbrev pub KernelIsClean : Hardware → Caches → Type 0
+KernelIsClean p c = sharing.KernelIsClean (hierarchy p) c
 
 -- what a domain, and the kernel for it, may touch: lines of its colours, and loads of what all share
 abbrev pub MayAll : Hardware → Own → List Touch → Type 0
@@ -151,12 +159,19 @@ pub record Untouched (p : Hardware) (o : Own) (d : ℕ) (later w : World) : Type
 
 -- ---- time
 
--- before switch k the clock is at the last slot's end, or past it by less than the largest step of its domain; and the caches
--- have their ways
+-- the colours of who leaves: none, where nobody does
+abbrev pub left_colours : Image → Option ℕ → ℕ → Bool
+left_colours i None = λ _. false
+left_colours i (Some d) = own_colour (own_of i d)
+
+-- before switch k the clock is at the last slot's end, or past it by less than the largest step of its domain; the caches
+-- have their ways, each dirty line of the first level is of who leaves, and none is of the kernel's colour
 pub record InTime (i : Image) (k : ℕ) (w : World) : Type 0 where
   pub over : last_end i.all.schedule k ≤ clock_of 0 w
   pub soon : clock_of 0 w < last_end i.all.schedule k + largest_step i.all.hardware (ended_own i k)
   pub ways : HasWays (hierarchy i.all.hardware) (caches_of 0 w)
+  pub dirty : sharing.OwnDirty (hierarchy i.all.hardware) (left_colours i (outgoing i.all.schedule k)) (caches_of 0 w).core
+  pub clean : KernelIsClean i.all.hardware (caches_of 0 w)
 
 -- each switch's cycles are at most its entry's pad
 abbrev pub AllWithinPads : List Entry → List (ℕ × ℕ) → Type 0

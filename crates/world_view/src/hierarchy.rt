@@ -43,6 +43,7 @@ pub fn geometry_of(hardware: &Hardware) -> Geometry<AnyPolicy>
 {
     Geometry {
         line_size: hardware.line,
+        back: hardware.back,
         predictor: Sizes {
             counters: hardware.predictor,
             history: hardware.history,

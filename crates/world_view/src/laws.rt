@@ -2,7 +2,7 @@
 //! that does nothing: a caller that calls it may rely on the law.
 ghost use Rattle.world_view.specs.EventLaws.{StepTouchesLaw, OwnTouchesLaw, SlotTouchesLaw, StepCostLaw, PlainCostLaw, SlotCostLaw};
 ghost use Rattle.world_view.specs.Interrupts.{DueLaw, PromptLaw, FewLaw, AscendLaw, OwnSlotsLaw, TurnLaw, WakeLaw};
-ghost use Rattle.world_view.specs.Laws.{ReadingLaw, IsolationLaw, TwoRunLaw, PadLaw, LargestLaw, StartLaw, InTimeLaw, ClockLaw, OpeningPageLaw, OpeningRightsLaw, OpeningNoPageLaw, OpeningFramesLaw, OpeningZeroLaw, OpeningElsewhereLaw, PoolsApartLaw, KernelColourLaw, PoolPartsLaw, FactsLaw, ReachLaw, NoAccessFaultLaw, RightsLaw, PermittedLaw, KernelLaw, OthersStepLaw, OthersLeaveLaw, OthersEnterLaw, PrefetchLaw, FlushLaw, OwnStepLaw, SwitchOutLaw, SwitchInLaw, SwitchBothLaw, SwitchPastLaw, ResidencyLaw, ForGoodLaw, EmptyLaw, AfterSwitchLaw, SwitchAloneLaw, SlotAloneLaw};
+ghost use Rattle.world_view.specs.Laws.{ReadingLaw, IsolationLaw, TwoRunLaw, PadLaw, LargestLaw, StartLaw, InTimeLaw, ClockLaw, OpeningPageLaw, OpeningRightsLaw, OpeningNoPageLaw, OpeningFramesLaw, OpeningZeroLaw, OpeningElsewhereLaw, PoolsApartLaw, KernelColourLaw, PoolPartsLaw, FactsLaw, ReachLaw, NoAccessFaultLaw, RightsLaw, PermittedLaw, KernelLaw, OthersStepLaw, OthersLeaveLaw, OthersEnterLaw, PrefetchLaw, FlushLaw, OwnStepLaw, SwitchOutLaw, SwitchInLaw, SwitchBothLaw, SwitchPastLaw, ResidencyLaw, ForGoodLaw, EmptyLaw, AfterSwitchLaw, SwitchAloneLaw, SlotAloneLaw, SettledLaw, SwitchCleanLaw, SlotCleanLaw, SlotDirtyLaw};
 
 /// Every image of the form that is read may be run, and its numbers are within the limits.
 pub fn reading()
@@ -90,13 +90,16 @@ pub fn costs()
 {}
 
 /// An event of another domain leaves a domain, its memory and its part of the
-/// caches as they were, and each phase of a switch that part.
+/// caches as they were, and each phase of a switch that part. Where it is the
+/// domain itself that leaves, its dirty lines are written back, by the prefetch
+/// or by the flush: after both it makes no difference by which.
 pub fn others_events()
     ensures step { OthersStepLaw }
     ensures leave { OthersLeaveLaw }
     ensures enter { OthersEnterLaw }
     ensures prefetch { PrefetchLaw }
     ensures flush { FlushLaw }
+    ensures settled { SettledLaw }
 {}
 
 /// A domain's own step does the same among others and alone, at equal cost.
@@ -125,6 +128,15 @@ pub fn kernel_sets()
     ensures after_switch { AfterSwitchLaw }
     ensures in_switches { SwitchAloneLaw }
     ensures in_slots { SlotAloneLaw }
+{}
+
+/// No line of colour 0 is ever dirty, so the kernel's shared lines cost the same
+/// whatever the domains wrote. A domain's dirty lines lie in its own sets, so what
+/// gives way to them there costs no one else.
+pub fn dirty_lines()
+    ensures in_switches { SwitchCleanLaw }
+    ensures in_slots { SlotCleanLaw }
+    ensures own { SlotDirtyLaw }
 {}
 
 /// Each moment of a domain is delivered once, in the moments' order, in a slot of

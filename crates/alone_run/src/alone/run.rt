@@ -67,7 +67,8 @@ impl<'a> Alone<'a> {
         }
         let start = self.public.schedule.start(slot);
         let layout = self.domain.layout;
-        self.system.flush();
+        // For the prover: the core is fresh, so that no leaf is kept.
+        self.system.empty_tlb();
         enter(&mut self.system, &layout);
         self.clock = stretch(
             &mut self.memory,
@@ -77,6 +78,8 @@ impl<'a> Alone<'a> {
             start + u64::from(entry.length),
         );
         leave(&mut self.system, &layout);
+        // Its dirty lines are written back, and the next slot finds a fresh core.
+        self.system.flush();
     }
 
     /// What is seen of the domain after the slots that have passed.

@@ -1,8 +1,8 @@
 -- From the boot on every shared line is in the second level, at each moment of each slot.
-use Rattle.std.proofs.Common.{◌≡◌, ℕ, zero, suc, ◌-◌, Option, Some, None, refl, subst}
+use Rattle.std.proofs.Common.{◌≡◌, ℕ, zero, suc, ◌-◌, List, ◌∷◌, Option, Some, None, refl, subst}
 use Rattle.tp_base.specs.Table.{at, put}
 use Rattle.std.proofs.lemmas.Option.{same_Some}
-use Rattle.mem_system.specs.Cost.{Caches, and_then, touched, on_core, flushed, pass_on, below_all}
+use Rattle.mem_system.specs.Cost.{Flush, Caches, and_then, touched_all}
 use Rattle.cache_sharing.specs.Operations.{leave, enter}
 use Rattle.cache_sharing.proofs.Residency.{resident}
 use Rattle.image_check.specs.Image.{Image, own_of}
@@ -32,13 +32,14 @@ module _ (i : Image) (r : Separated i) where
   -- the work of a switch keeps what its prefetch left there
   worked : (k : ℕ) (w : World) → Resident i.all.hardware (prefetch_part i (leave_part i (outgoing i.all.schedule k) (caches_of 0 w)).caches).caches
       → Resident i.all.hardware (caches_of 0 (switch i k w))
-  unfolding switch_by guarded switch_work_by and_then flush_by enter_part touched on_core flushed pass_on below_all with_hart at put
+  unfolding switch_by guarded switch_work_by and_then flush_by enter_part touched_all with_hart at put
   worked k w there =
       let p = i.all.hardware in
       let d = (entry_of_slot i.all.schedule k).domain in
       let kernel = kernel_of i r d (r.named k) in
-      own_resident p (own_of i d) kernel (enter (layout p (own_of i d))) (flush_part i (prefetch_part i (leave_part i (outgoing i.all.schedule k) (caches_of 0 w)).caches).caches).caches
-      (enter_may p (own_of i d) kernel (region p)) there
+      own_resident p (own_of i d) kernel (Flush ∷ enter (layout p (own_of i d)))
+      (prefetch_part i (leave_part i (outgoing i.all.schedule k) (caches_of 0 w)).caches).caches
+      (tt, enter_may p (own_of i d) kernel (region p)) there
 
   -- after a slot
   after : (k : ℕ) → Resident i.all.hardware (caches_of 0 (switch i k (whole i k))) → Resident i.all.hardware (caches_of 0 (whole i (suc k)))

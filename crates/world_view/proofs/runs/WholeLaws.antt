@@ -16,15 +16,16 @@ use Rattle.call_table.specs.Domain.{Dom}
 use Rattle.kernel_call.specs.Logs.{log_of}
 use Rattle.world_view.specs.Kernel.{no_dom}
 use Rattle.world_view.specs.Event.{Storage}
-use Rattle.world_view.specs.Machine.{with_hart, setting, Local, stretch, dom_of, part_of, with_part, switch, opening, whole, alone_opening, alone_enter, alone_in, alone_out, alone_if, alone, guarded, own_slot, run_slot_by, whole_by, with_end}
+use Rattle.world_view.specs.Machine.{with_hart, setting, Local, steps, stretch, dom_of, part_of, with_part, switch, opening, whole, alone_opening, alone_enter, alone_in, alone_out, alone_if, alone, guarded, own_slot, run_slot_by, whole_by, with_end}
 use Rattle.world_view.specs.View.{view, view_whole, view_alone}
-use Rattle.world_view.specs.Relations.{IsDomain, SameFrames, IsKernel, HasFacts, Resident, Beside, Within, Apiece, Agree}
+use Rattle.world_view.specs.Relations.{IsDomain, SameFrames, IsKernel, HasFacts, OwnDirty, Resident, Beside, Within, Apiece, Agree}
 use Rattle.world_view.proofs.opening.PoolLaws.{own_at_place}
 use Rattle.world_view.proofs.opening.Separate.{Separated}
 use Rattle.world_view.proofs.opening.OpeningFacts.{kernel_of}
 use Rattle.world_view.proofs.steps.StepLaws.{stretch_near, steps_keep, steps_others}
 use Rattle.world_view.proofs.facts.FactsLaws.{begun_facts}
 use Rattle.world_view.proofs.facts.ResidencyLaws.{begun_resident}
+use Rattle.world_view.proofs.facts.KernelSets.{slots_dirty}
 use Rattle.world_view.proofs.time.TimeLaws.{in_time}
 use Rattle.world_view.proofs.opening.OpeningLaws.{opening_dom_is, opening_frames}
 use Rattle.world_view.proofs.runs.SwitchLaws.{others_frames, switch_past, switch_out, switch_in, switch_both}
@@ -41,19 +42,27 @@ Joined i d (suc k) = JoinedIf i d k (eqb (entry_of_slot i.all.schedule k).domain
 
 module _ (i : Image) (r : Separated i) where
   -- the domain's own slot: steps from states that are beside
-  slot_within : (p : Hardware) (o : Own) (end : ℕ) (s a : Local) → IsKernel p o → HasFacts p o s.dom s.storage → Resident p s.caches → Within p o s a
+  slot_within : (p : Hardware) (o : Own) (end : ℕ) (s a : Local) → IsKernel p o → HasFacts p o s.dom s.storage → OwnDirty p o s.caches
+      → Resident p s.caches → Within p o s a
       → Within p o (stretch (setting p o false) end s) (stretch (setting p o true) end a)
-  slot_within p o end s a kernel facts resident h =
+  slot_within p o end s a kernel facts dirty resident h =
       let b : Beside p o s s a = record {
         kernel = kernel;
         dom = h.dom;
         facts = facts;
         storage = record { same = h.frames; outside = λ f x. refl };
-        caches = record { core = h.core; l2 = record { same = h.sets; resident = resident; outside = λ m out kernels. refl } };
+        caches = record { core = h.core; dirty = dirty; l2 = record { same = h.sets; resident = resident; outside = λ m out kernels. refl } };
         clock = h.clock;
       } in
       let n = stretch_near p o end s s a b in
       record { dom = n.dom; frames = n.storage.same; core = n.caches.core; sets = n.caches.l2.same; clock = n.clock }
+
+  -- as a slot begins each dirty line is of its domain
+  begun_dirty : (k d : ℕ) → (entry_of_slot i.all.schedule k).domain ≡ d
+      → OwnDirty i.all.hardware (own_of i d) (part_of 0 d (switch i k (whole i k))).caches
+  unfolding steps at
+  begun_dirty k d is =
+      subst (λ (x : ℕ). OwnDirty i.all.hardware (own_of i x) (part_of 0 x (switch i k (whole i k))).caches) is (slots_dirty i r k 0)
 
   -- slot k is the domain's own
   slot_own : (k d : ℕ) (a : Local) → IsDomain i d → (entry_of_slot i.all.schedule k).domain ≡ d → Within i.all.hardware (own_of i d) (part_of 0 d (switch i k (whole i k))) (alone_enter i.all (own_of i d) k a)
@@ -64,7 +73,7 @@ module _ (i : Image) (r : Separated i) where
       let es = i.all.schedule in
       let begun = switch i k (whole i k) in
       subst (λ (x : ℕ). Within p (own_of i d) (part_of 0 d (with_part 0 x begun (stretch (setting p (own_of i x) false) (slot_end es k) (part_of 0 x begun)))) (stretch (setting p (own_of i d) true) (slot_end es k) (alone_enter i.all (own_of i d) k a))) (sym is)
-      (let n = slot_within p (own_of i d) (slot_end es k) (part_of 0 d begun) (alone_enter i.all (own_of i d) k a) (kernel_of i r d within) (begun_facts i r k d within) (begun_resident i r k) h in
+      (let n = slot_within p (own_of i d) (slot_end es k) (part_of 0 d begun) (alone_enter i.all (own_of i d) k a) (kernel_of i r d within) (begun_facts i r k d within) (begun_dirty k d is) (begun_resident i r k) h in
       record {
         dom = at-put_same no_dom begun.doms d _ ∙ n.dom;
         frames = n.frames;
@@ -86,7 +95,7 @@ module _ (i : Image) (r : Separated i) where
       let ie = r.named k in
       let facts = begun_facts i r k e ie in
       let kept = steps_keep p (own_of i e) (kernel_of i r e ie) false (slot_end es k) (slot_end es k - s.clock) s.storage s (record { facts = facts; outside = λ f out. refl }) in
-      let sets = steps_others p (own_of i e) (kernel_of i r e ie) (own_of i d) (kernel_of i r d is) (r.colours_apart d e is ie (λ q. ne (sym q))) (slot_end es k) (slot_end es k - s.clock) s facts in
+      let sets = steps_others p (own_of i e) (kernel_of i r e ie) (own_of i d) (kernel_of i r d is) (r.colours_apart d e is ie (λ q. ne (sym q))) (slot_end es k) (slot_end es k - s.clock) s facts (begun_dirty k e refl) in
       record {
         dom = at-put_other no_dom begun.doms e d _ (λ q. ne (sym q)) ∙ h.dom;
         frames = λ f own. others_frames i r d e is ie (λ q. ne (sym q)) (stretch (setting p (own_of i e) false) (slot_end es k) s) s kept.outside f own ∙ h.frames f own;
@@ -104,12 +113,12 @@ module _ (i : Image) (r : Separated i) where
     left_if : (k : ℕ) (b : Bool) → eqb (entry_of_slot i.all.schedule k).domain d ≡ b → (entry_of_slot i.all.schedule (suc k)).domain ≢ d → JoinedIf i d k b
         → Apiece i.all.hardware (own_of i d) (part_of 0 d (switch i (suc k) (whole i (suc k)))) (alone_if i.all (own_of i d) k (alone i.all (own_of i d) d k) b)
     unfolding alone_if
-    left_if k true t ne j = switch_out i r (suc k) d is (whole i (suc k)) (alone_in i.all (own_of i d) k (alone i.all (own_of i d) d k)) (leaves_as k t) ne j
-    left_if k false t ne j = switch_past i r (suc k) d is (whole i (suc k)) (alone i.all (own_of i d) d k) (leaves_not k t) ne j
+    left_if k true t ne j = switch_out i r (suc k) d is (whole i (suc k)) (alone_in i.all (own_of i d) k (alone i.all (own_of i d) d k)) (in_time i r (suc k)) (leaves_as k t) ne j
+    left_if k false t ne j = switch_past i r (suc k) d is (whole i (suc k)) (alone i.all (own_of i d) d k) (in_time i r (suc k)) (leaves_not k t) ne j
 
     switched : (k : ℕ) → (entry_of_slot i.all.schedule k).domain ≢ d → Joined i d k → Apiece i.all.hardware (own_of i d) (part_of 0 d (switch i k (whole i k))) (alone i.all (own_of i d) d k)
     unfolding alone
-    switched zero ne j = switch_past i r 0 d is (whole i 0) (alone i.all (own_of i d) d 0) (λ q. absurd (cc q)) ne j
+    switched zero ne j = switch_past i r 0 d is (whole i 0) (alone i.all (own_of i d) d 0) (in_time i r 0) (λ q. absurd (cc q)) ne j
     switched (suc k) ne j = left_if k _ refl ne j
 
     enter_if : (k : ℕ) (b : Bool) → eqb (entry_of_slot i.all.schedule k).domain d ≡ b → (entry_of_slot i.all.schedule (suc k)).domain ≡ d → JoinedIf i d k b

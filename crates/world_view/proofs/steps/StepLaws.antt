@@ -16,10 +16,10 @@ use Rattle.world_view.specs.Cost.{hierarchy, region, own_colour}
 use Rattle.world_view.specs.Event.{Storage, instruction, delivery_touches, Event, event}
 use Rattle.world_view.specs.Event.Event.{Jump, Deliver, Run}
 use Rattle.world_view.specs.Machine.{setting, Local, paid, delivered, happened, step, steps, stretch}
-use Rattle.world_view.specs.Relations.{IsKernel, HasFacts, SameSets, MayAll, Resident, BesideStorage, BesideCaches, Beside}
+use Rattle.world_view.specs.Relations.{IsKernel, HasFacts, SameSets, MayAll, Resident, OwnDirty, BesideStorage, BesideCaches, Beside}
 use Rattle.world_view.specs.EventLaws.{event_touches, step_touches, StepTouchesLaw}
 use Rattle.world_view.proofs.steps.Fuel.{steps_by}
-use Rattle.world_view.proofs.touches.CostLaws.{own_touches, own_resident, others_touches}
+use Rattle.world_view.proofs.touches.CostLaws.{own_touches, own_resident, own_dirties, others_touches}
 use Rattle.world_view.proofs.actions.ActLaws.{Known, Alike, instruction_near}
 use Rattle.world_view.proofs.touches.KernelTouches.{delivery_may}
 
@@ -142,6 +142,21 @@ module _ (p : Hardware) (o : Own) (kernel : IsKernel p o) where
   pub steps_keep : (pinned : Bool) (end n : ℕ) (first : Storage) (s : Local) → Keeps p o first s → Keeps p o first (steps (setting p o pinned) end n s)
   steps_keep pinned end n first s h = steps_by (setting p o pinned) end (Keeps p o first) (λ t below k. step_keeps pinned end first t k) n s h
 
+  -- its own lines stay the only dirty ones
+  dirties_if : (pinned : Bool) (s : Local) (e : Event) → HasFacts p o s.dom s.storage → OwnDirty p o s.caches
+      → OwnDirty p o (happened (setting p o pinned) s e).caches
+  unfolding happened paid delivered
+  dirties_if pinned s (Jump t) facts dirty = dirty
+  dirties_if pinned s (Deliver line) facts dirty =
+      own_dirties p o kernel pinned (delivery_touches p (layout p o)) s.caches (delivery_may p o kernel) dirty
+  dirties_if pinned s Run facts dirty =
+      own_dirties p o kernel pinned (instruction p (estate p o) (layout p o) s.clock s.dom s.storage).notes s.caches (may_run s.clock s facts) dirty
+
+  pub step_dirties : (pinned : Bool) (end : ℕ) (s : Local) → HasFacts p o s.dom s.storage → OwnDirty p o s.caches
+      → OwnDirty p o (step (setting p o pinned) end s).caches
+  unfolding step
+  step_dirties pinned end s facts dirty = dirties_if pinned s (event o s.clock end s.dom) facts dirty
+
   -- what is shared stays in place
   resident_if : (s : Local) (e : Event) → HasFacts p o s.dom s.storage → Resident p s.caches → Resident p (happened (setting p o false) s e).caches
   unfolding happened paid delivered
@@ -166,27 +181,34 @@ module _ (p : Hardware) (o : Own) (kernel : IsKernel p o) where
 
   -- and so do the sets of another domain
   module _ (q : Own) (other : IsKernel p q) (apart : AreApart (own_colour q) (own_colour o)) where
-    others_if : (s : Local) (e : Event) → HasFacts p o s.dom s.storage → SameSets p q (happened (setting p o false) s e).caches s.caches
+    others_if : (s : Local) (e : Event) → HasFacts p o s.dom s.storage → OwnDirty p o s.caches
+        → SameSets p q (happened (setting p o false) s e).caches s.caches
     unfolding happened paid delivered
-    others_if s (Jump t) facts = λ n own. refl
-    others_if s (Deliver line) facts = others_touches p q other o (delivery_touches p (layout p o)) s.caches apart (delivery_may p o kernel)
-    others_if s Run facts = others_touches p q other o (instruction p (estate p o) (layout p o) s.clock s.dom s.storage).notes s.caches apart (may_run s.clock s facts)
+    others_if s (Jump t) facts dirty = λ n own. refl
+    others_if s (Deliver line) facts dirty =
+        others_touches p q other o (delivery_touches p (layout p o)) s.caches apart (delivery_may p o kernel) dirty
+    others_if s Run facts dirty =
+        others_touches p q other o (instruction p (estate p o) (layout p o) s.clock s.dom s.storage).notes s.caches apart (may_run s.clock s facts) dirty
 
-    pub step_others : (end : ℕ) (s : Local) → HasFacts p o s.dom s.storage → SameSets p q (step (setting p o false) end s).caches s.caches
+    pub step_others : (end : ℕ) (s : Local) → HasFacts p o s.dom s.storage → OwnDirty p o s.caches
+        → SameSets p q (step (setting p o false) end s).caches s.caches
     unfolding step
-    step_others end s facts = others_if s (event o s.clock end s.dom) facts
+    step_others end s facts dirty = others_if s (event o s.clock end s.dom) facts dirty
 
     record Spares (first : Caches) (s : Local) : Type 0 where
       keeps : Keeps p o s.storage s
+      dirty : OwnDirty p o s.caches
       sets : SameSets p q s.caches first
 
-    pub steps_others : (end n : ℕ) (s : Local) → HasFacts p o s.dom s.storage → SameSets p q (steps (setting p o false) end n s).caches s.caches
-    steps_others end n s facts =
+    pub steps_others : (end n : ℕ) (s : Local) → HasFacts p o s.dom s.storage → OwnDirty p o s.caches
+        → SameSets p q (steps (setting p o false) end n s).caches s.caches
+    steps_others end n s facts dirty =
         (steps_by (setting p o false) end (Spares s.caches)
         (λ t below h. record {
           keeps = record { facts = (step_keeps false end t.storage t h.keeps).facts; outside = λ f out. refl };
-          sets = λ m own. step_others end t h.keeps.facts m own ∙ h.sets m own;
-        }) n s (record { keeps = record { facts = facts; outside = λ f out. refl }; sets = λ m own. refl })).sets
+          dirty = step_dirties false end t h.keeps.facts h.dirty;
+          sets = λ m own. step_others end t h.keeps.facts h.dirty m own ∙ h.sets m own;
+        }) n s (record { keeps = record { facts = facts; outside = λ f out. refl }; dirty = dirty; sets = λ m own. refl })).sets
 
 -- ---- what a step does to the caches
 
@@ -204,16 +226,17 @@ step_caches p o pinned end s = caches_if p o pinned s (event o s.clock end s.dom
 -- ---- a state and itself
 
 -- caches are beside themselves, where what is shared is in them
-pub caches_themselves : (p : Hardware) (o : Own) (c : Caches) → Resident p c → BesideCaches p o c c c
-caches_themselves p o c resident = record { core = refl; l2 = record { same = λ s own. refl; resident = resident; outside = λ s out kernel. refl } }
+pub caches_themselves : (p : Hardware) (o : Own) (c : Caches) → OwnDirty p o c → Resident p c → BesideCaches p o c c c
+caches_themselves p o c dirty resident = record { core = refl; dirty = dirty; l2 = record { same = λ s own. refl; resident = resident; outside = λ s out kernel. refl } }
 
 -- and so is a state
-pub beside_itself : (p : Hardware) (o : Own) (s : Local) → IsKernel p o → HasFacts p o s.dom s.storage → Resident p s.caches → Beside p o s s s
-beside_itself p o s kernel facts resident = record {
+pub beside_itself : (p : Hardware) (o : Own) (s : Local) → IsKernel p o → HasFacts p o s.dom s.storage → OwnDirty p o s.caches
+    → Resident p s.caches → Beside p o s s s
+beside_itself p o s kernel facts dirty resident = record {
   kernel = kernel;
   dom = refl;
   facts = facts;
   storage = record { same = λ f h. refl; outside = λ f h. refl };
-  caches = caches_themselves p o s.caches resident;
+  caches = caches_themselves p o s.caches dirty resident;
   clock = refl;
 }

@@ -36,6 +36,7 @@ use Rattle.call_table.specs.Calls.{empties, work_of, call, number_made}
 use Rattle.call_table.proofs.BoundedWork.{calls_bounded, calls_permitted}
 use Rattle.hardware_check.specs.Hardware.{Hardware}
 use Rattle.image_check.specs.Own.{Own}
+use Rattle.image_check.specs.Pads.{again_of}
 use Rattle.world_view.specs.Kernel.{estate, layout}
 use Rattle.world_view.specs.Cost.{hierarchy}
 use Rattle.world_view.specs.EventLaws.{instruction_at, next_instruction}
@@ -118,35 +119,35 @@ module _ (p : Hardware) where
   touch_costs t = record { within = λ s. omega arith }
 
   -- a look-up makes two reads at most
-  translate_costs : (root : ℕ) (d : Dom) (a : Access) (va : ℕ) → Costs (worst_look p.costs 0) (translate p root d a va)
+  translate_costs : (root : ℕ) (d : Dom) (a : Access) (va : ℕ) → Costs (worst_look p.costs (again_of p)) (translate p root d a va)
   unfolding translate look_of lines_of worst worst_touches hierarchy
   translate_costs root d a va = record {
     within = λ s.
         let reads = (walk s.mem p.frames root va a).reads in
-        let many : length (lines_of p.line reads) * worst_read p.costs 0 ≤ 2 * worst_read p.costs 0 =
-        mul-le-mul_right (worst_read p.costs 0) (subst (λ (n : ℕ). n ≤ 2) (sym (length-map reads (λ at. at / p.line))) (few_reads s.mem p.frames root va a)) in
+        let many : length (lines_of p.line reads) * worst_read p.costs (again_of p) ≤ 2 * worst_read p.costs (again_of p) =
+        mul-le-mul_right (worst_read p.costs (again_of p)) (subst (λ (n : ℕ). n ≤ 2) (sym (length-map reads (λ at. at / p.line))) (few_reads s.mem p.frames root va a)) in
         omega (arith, many);
   }
 
   -- ---- loads and stores
 
   access_worst : ℕ
-  access_worst = worst_look p.costs 0 + worst_access p.costs 0
+  access_worst = worst_look p.costs (again_of p) + worst_access p.costs (again_of p)
 
   load_costs : (root : ℕ) (d : Dom) (width : LoadWidth) (va : ℕ) → Costs access_worst (load p root d width va)
   unfolding load access_worst hierarchy
   load_costs root d width va =
       more _ access_worst _ (omega arith)
-      (bind_costs (worst_look p.costs 0) (worst_access p.costs 0 + (0 + 0)) _ _ (translate_costs root d _ va) (λ f.
-      then_costs (worst_access p.costs 0) (0 + 0) _ _ (touch_costs (Load (line_in p f va))) (bind_costs 0 0 _ _ (read_costs f _) (λ w. give_costs _))))
+      (bind_costs (worst_look p.costs (again_of p)) (worst_access p.costs (again_of p) + (0 + 0)) _ _ (translate_costs root d _ va) (λ f.
+      then_costs (worst_access p.costs (again_of p)) (0 + 0) _ _ (touch_costs (Load (line_in p f va))) (bind_costs 0 0 _ _ (read_costs f _) (λ w. give_costs _))))
 
   store_costs : (root : ℕ) (d : Dom) (made : Option StoreMade) → Costs access_worst (store p root d made)
   unfolding store access_worst hierarchy
   store_costs root d None = more 0 access_worst _ (omega arith) (give_costs tt)
   store_costs root d (Some made) =
       more _ access_worst _ (omega arith)
-      (bind_costs (worst_look p.costs 0) (worst_access p.costs 0 + (0 + 0)) _ _ (translate_costs root d _ made.at) (λ f.
-      then_costs (worst_access p.costs 0) (0 + 0) _ _ (touch_costs (StoreTouch (line_in p f made.at))) (bind_costs 0 0 _ _ (read_costs f _) (λ w. write_costs f _ _))))
+      (bind_costs (worst_look p.costs (again_of p)) (worst_access p.costs (again_of p) + (0 + 0)) _ _ (translate_costs root d _ made.at) (λ f.
+      then_costs (worst_access p.costs (again_of p)) (0 + 0) _ _ (touch_costs (StoreTouch (line_in p f made.at))) (bind_costs 0 0 _ _ (read_costs f _) (λ w. write_costs f _ _))))
 
   no_store_costs : (root : ℕ) (d : Dom) (made : Option StoreMade) → made ≡ None → Costs 0 (store p root d made)
   unfolding store
@@ -289,11 +290,11 @@ module _ (p : Hardware) (o : Own) where
   perform_costs t d w (Some instr.Ecall) = more p (worst_operation (shape_of p o)) perform_worst _ (omega arith) (call_costs d)
   perform_costs t d w (Some i) = executes t d i
 
-  instruction_costs : (t : ℕ) (d : Dom) → Costs p (worst_look p.costs 0 + (worst_fetch p.costs 0 + (0 + perform_worst))) (instruction p (estate p o) (layout p o) t d)
+  instruction_costs : (t : ℕ) (d : Dom) → Costs p (worst_look p.costs (again_of p) + (worst_fetch p.costs (again_of p) + (0 + perform_worst))) (instruction p (estate p o) (layout p o) t d)
   unfolding instruction hierarchy
   instruction_costs t d =
-      bind_costs p (worst_look p.costs 0) _ _ _ (translate_costs p _ d _ _) (λ f.
-      then_costs p (worst_fetch p.costs 0) _ _ _ (touch_costs p (Fetch (line_in p f d.threads.current.pc)))
+      bind_costs p (worst_look p.costs (again_of p)) _ _ _ (translate_costs p _ d _ _) (λ f.
+      then_costs p (worst_fetch p.costs (again_of p)) _ _ _ (touch_costs p (Fetch (line_in p f d.threads.current.pc)))
       (bind_costs p 0 perform_worst _ _ (read_costs p f _) (λ w. perform_costs t d w _)))
 
   -- ---- an instruction that makes no call
@@ -317,23 +318,23 @@ module _ (p : Hardware) (o : Own) where
   rest_of t d f = touch (Fetch (line_in p f d.threads.current.pc)) >> (read f (place d.threads.current.pc) >>= (λ w. perform p (estate p o) (layout p o) t d w (decode_of (is_some p.muldiv) w)))
 
   rest_costs : (t f : ℕ) (d : Dom) (s : Storage) → decode_of (is_some p.muldiv) (word s.mem f (place d.threads.current.pc)) ≢ Some instr.Ecall
-      → worst p (rest_of t d f s).notes ≤ worst_fetch p.costs 0 + (0 + (plain_worst p))
+      → worst p (rest_of t d f s).notes ≤ worst_fetch p.costs (again_of p) + (0 + (plain_worst p))
   unfolding ◌>>=◌ ◌>>◌ touch note read hierarchy
   rest_costs t f d s plain =
       let line = line_in p f d.threads.current.pc in
       let w = word s.mem f (place d.threads.current.pc) in
-      value_costs (worst_fetch p.costs 0) (0 + (plain_worst p)) (touch (Fetch line) s) (λ _. read f (place d.threads.current.pc) >>= (λ x. perform p (estate p o) (layout p o) t d x (decode_of (is_some p.muldiv) x))) tt
+      value_costs (worst_fetch p.costs (again_of p)) (0 + (plain_worst p)) (touch (Fetch line) s) (λ _. read f (place d.threads.current.pc) >>= (λ x. perform p (estate p o) (layout p o) t d x (decode_of (is_some p.muldiv) x))) tt
       ((touch_costs p (Fetch line)).within s)
       (value_costs 0 (plain_worst p) (read f (place d.threads.current.pc) s) (λ x. perform p (estate p o) (layout p o) t d x (decode_of (is_some p.muldiv) x)) w
       ((read_costs p f (place d.threads.current.pc)).within s) ((plain_costs t d w (decode_of (is_some p.muldiv) w) plain).within s))
 
   plain_by : (t : ℕ) (d : Dom) (s : Storage) (r : Result ℕ WalkFault) → instruction_at (is_some p.muldiv) s.mem d.threads.current.pc r ≢ Some instr.Ecall
       → worst p (go_on (translate p (estate p o).root d access.Fetch d.threads.current.pc s) (rest_of t d) (frame_or_stop d access.Fetch d.threads.current.pc r)).notes
-      ≤ worst_look p.costs 0 + (worst_fetch p.costs 0 + (0 + (plain_worst p)))
+      ≤ worst_look p.costs (again_of p) + (worst_fetch p.costs (again_of p) + (0 + (plain_worst p)))
   unfolding frame_or_stop go_on translate
   plain_by t d s (Err f) plain = let looks = (translate_costs p (estate p o).root d access.Fetch d.threads.current.pc).within s in omega (arith, looks)
   plain_by t d s (Ok leaf) plain =
-      value_costs (worst_look p.costs 0) (worst_fetch p.costs 0 + (0 + (plain_worst p))) (translate p (estate p o).root d access.Fetch d.threads.current.pc s) (rest_of t d) (ppn leaf)
+      value_costs (worst_look p.costs (again_of p)) (worst_fetch p.costs (again_of p) + (0 + (plain_worst p))) (translate p (estate p o).root d access.Fetch d.threads.current.pc s) (rest_of t d) (ppn leaf)
       ((translate_costs p (estate p o).root d access.Fetch d.threads.current.pc).within s) (rest_costs t (ppn leaf) d s plain)
 
   -- with its base, it is within the bound's instruction

@@ -1,10 +1,12 @@
 -- Every clock of a run is far from the end of its range, by the limits of an image and of a run.
-use Rattle.std.proofs.Common.{ℕ, zero, suc, false, ◌+◌, ◌*◌, ◌/◌, ◌^◌, ◌<◌, ◌≤◌, arith, mul-le-mul_right}
+use Rattle.std.specs.Prelude.{if◌then◌else◌}
+use Rattle.std.proofs.Common.{ℕ, zero, suc, Bool, true, false, ◌+◌, ◌*◌, ◌/◌, ◌^◌, ◌<◌, ◌≤◌, arith, mul-le-mul_right}
 use Rattle.std.proofs.lemmas.Nat.{mul-le}
 use Rattle.image_check.proofs.Padded.{few_added}
 use Rattle.pad_bound.specs.Bound.{worst_access, lines_of_shared, most_written, most_dirty, worst_instruction, worst_operation, worst_leave, worst_prefetch, worst_flush, worst_enter, bound_of}
 use Rattle.pad_bound.proofs.Written.{few_most}
 use Rattle.image_check.specs.Own.{Own}
+use Rattle.image_check.specs.Pads.{again_of}
 use Rattle.cycle_cost.specs.Ranges.{most_access}
 use Rattle.hardware_check.specs.Hardware.{Hardware, IsHardware}
 use Rattle.image_check.specs.Image.{Image, own_of}
@@ -22,16 +24,20 @@ use Rattle.world_view.proofs.time.TimeLaws.{steps_soon, switch_ways, used_in_bou
 -- ---- the bound is small
 
 module _ (p : Hardware) (h : IsHardware p) (o : Own) where
-  access_small : worst_access p.costs 0 ≤ most_access
-  access_small =
+  again_small : (back : Bool) → (if back then p.costs.wb else 0) ≤ 1000
+  again_small true = h.costs.wb.few
+  again_small false = omega arith
+
+  access_small : (again : ℕ) → again ≤ 1000 → worst_access p.costs again ≤ most_access
+  access_small again few =
       let l1 = h.costs.l1.few in
       let l2 = h.costs.l2.few in
       let mem = h.costs.mem.few in
       let wb = h.costs.wb.few in
-      omega (arith, l1, l2, mem, wb)
+      omega (arith, l1, l2, mem, wb, few)
 
-  times_access : (n most : ℕ) → n ≤ most → n * worst_access p.costs 0 ≤ most * most_access
-  times_access n most few = mul-le n (worst_access p.costs 0) most most_access few access_small
+  times_access : (n most again : ℕ) → n ≤ most → again ≤ 1000 → n * worst_access p.costs again ≤ most * most_access
+  times_access n most again few rare = mul-le n (worst_access p.costs again) most most_access few (access_small again rare)
 
   written_small : most_written o.calls p.line ≤ 256
   written_small = few_most o.calls p.line h.line.least
@@ -49,10 +55,10 @@ module _ (p : Hardware) (h : IsHardware p) (o : Own) where
   pub bound_small : bound p o < 2 ^ 26
   unfolding bound_of worst_instruction worst_operation worst_leave worst_prefetch worst_flush worst_enter
   bound_small =
-      let written = times_access (most_written o.calls p.line) 256 written_small in
-      let shared = times_access (lines_of_shared (shape_of p o)) 4096 lines_small in
+      let again = again_small p.back in
+      let written = times_access (most_written o.calls p.line) 256 (again_of p) written_small again in
+      let shared = times_access (lines_of_shared (shape_of p o)) 4096 0 lines_small (omega arith) in
       let flush = mul-le p.costs.wb (most_dirty (shape_of p o)) 1000 16384 h.costs.wb.few dirty_small in
-      let access = access_small in
       let base = h.costs.base.few in
       let tlb = h.costs.tlb.few in
       let mispredict = h.costs.mispredict.few in
@@ -63,7 +69,7 @@ module _ (p : Hardware) (h : IsHardware p) (o : Own) where
       let mem = h.costs.mem.few in
       let wb = h.costs.wb.few in
       let product = few_added p.muldiv h.few_mul h.few_div in
-      omega (arith, written, shared, flush, base, tlb, mispredict, trap, flushes, l1, l2, mem, wb, product)
+      omega (arith, again, written, shared, flush, base, tlb, mispredict, trap, flushes, l1, l2, mem, wb, product)
 
   pub step_small : largest_step p o ≤ 2 ^ 26
   unfolding bound_of
@@ -97,7 +103,7 @@ module _ (i : Image) (r : Runnable i) where
       let slot = slot_short k in
       let largest = step_small p r.hardware (ended_own i k) in
       let most = bound_small p r.hardware (ended_own i k) in
-      let used = used_in_bound i k w time in
+      let used = used_in_bound i (separated i r) k w time in
       let on = on_time i (separated i r) k in
       let timed = (separated i r).timed in
       let base = timed.base in

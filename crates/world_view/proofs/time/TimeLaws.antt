@@ -9,6 +9,8 @@ use Rattle.tp_base.specs.Table.{at, put, at-empty}
 use Rattle.set_cache.specs.Cache.{CacheSet, fresh_set}
 use Rattle.mem_system.specs.Cost.{Touched, cold, fresh_core}
 use Rattle.cache_sharing.specs.Worst.{HasWays}
+use Rattle.cache_sharing.specs.Operations.{shared_region}
+use Rattle.cache_sharing.proofs.KernelSets.{any_colour}
 use Rattle.cache_sharing.proofs.Worst.{worst_law, on_time_law}
 use Rattle.hardware_check.specs.Hardware.{Hardware}
 use Rattle.sched_table.specs.declared.schedule.Entry.{Entry}
@@ -18,7 +20,7 @@ use Rattle.image_check.specs.Image.{Image, own_of}
 use Rattle.sched_table.proofs.Starts.{pad_law}
 use Rattle.sched_table.specs.Schedule.{entry_of_slot, pad_of, start, slot_end, last_end, outgoing}
 use Rattle.world_view.specs.Kernel.{estate, layout}
-use Rattle.world_view.specs.Cost.{hierarchy}
+use Rattle.world_view.specs.Cost.{hierarchy, region}
 use Rattle.world_view.specs.Event.{Event, event, instruction, delivery_touches}
 use Rattle.world_view.specs.Event.Event.{Jump, Deliver, Run}
 use Rattle.world_view.specs.Machine.{with_hart, caches_of, clock_of, setting, Local, World, paid, delivered, happened, step, steps, stretch, clone_of, switch_work, with_part, part_of, switch, opening, whole, guarded, own_slot, run_slot_by, switch_by, whole_by, with_end}
@@ -30,6 +32,7 @@ use Rattle.world_view.specs.EventLaws.{EndsBy, next_instruction, StepCostLaw, Pl
 use Rattle.world_view.proofs.steps.Fuel.{IsTimed, StaysWithin, event_within, step_later, steps_by, one_more_by}
 use Rattle.world_view.proofs.time.ActCosts.{instruction_within, delivery_within, plain_within}
 use Rattle.world_view.proofs.runs.SwitchParts.{all_touches, switch_is}
+use Rattle.world_view.proofs.facts.KernelSets.{leave_any, who_leaves, any_sharing, between_clean, between_dirty}
 
 -- ---- a step, from any caches
 
@@ -141,25 +144,26 @@ switch_ways i k w ways =
     let touches = worst_law (hierarchy p) false (all_touches i out d) (caches_of 0 w) ways in
     subst (λ (r : Touched). HasWays (hierarchy p) r.caches) (sym (switch_is i out d (caches_of 0 w))) touches.ways
 
-pub used_in_bound : (i : Image) (k : ℕ) (w : World) → InTime i k w
+pub used_in_bound : (i : Image) (r : Separated i) (k : ℕ) (w : World) → InTime i k w
     → (clock_of 0 w + (switch_work i (outgoing i.all.schedule k) (entry_of_slot i.all.schedule k).domain (caches_of 0 w)).cost) - last_end i.all.schedule k ≤ bound i.all.hardware (ended_own i k)
-unfolding hierarchy layout
-used_in_bound i k w time =
+unfolding hierarchy layout region shared_region
+used_in_bound i r k w time =
     let p = i.all.hardware in
     let out = outgoing i.all.schedule k in
     let d = (entry_of_slot i.all.schedule k).domain in
     subst (λ (r : Touched). (clock_of 0 w + r.cost) - last_end i.all.schedule k ≤ bound p (ended_own i k)) (sym (switch_is i out d (caches_of 0 w)))
-    (on_time_law (hierarchy p) p.shared (ended_own i k).calls (last_end i.all.schedule k) (clock_of 0 w) (clone_of i out) (layout p (own_of i d)) (caches_of 0 w) time.ways (record { line = refl; shared = refl }) time.over time.soon)
+    (on_time_law (hierarchy p) any_colour false p.shared (ended_own i k).calls (last_end i.all.schedule k) (clock_of 0 w) (clone_of i out) (layout p (own_of i d))
+    (caches_of 0 w) time.ways time.clean (any_sharing i r) (leave_any i r out (who_leaves i r k)) (record { line = refl; shared = refl }) time.over time.soon)
 
-pub used_in_pad : (i : Image) (k : ℕ) (w : World) → bound i.all.hardware (ended_own i k) ≤ pad_of i.all.schedule k → InTime i k w
+pub used_in_pad : (i : Image) (r : Separated i) (k : ℕ) (w : World) → bound i.all.hardware (ended_own i k) ≤ pad_of i.all.schedule k → InTime i k w
     → (clock_of 0 w + (switch_work i (outgoing i.all.schedule k) (entry_of_slot i.all.schedule k).domain (caches_of 0 w)).cost) - last_end i.all.schedule k ≤ pad_of i.all.schedule k
-used_in_pad i k w padded time = let used = used_in_bound i k w time in omega (arith, padded, used)
+used_in_pad i r k w padded time = let used = used_in_bound i r k w time in omega (arith, padded, used)
 
 -- the next slot begins at its start
-pub switch_on_start : (i : Image) (k : ℕ) (w : World) → bound i.all.hardware (ended_own i k) ≤ pad_of i.all.schedule k → InTime i k w → clock_of 0 (switch i k w) ≡ start i.all.schedule k
+pub switch_on_start : (i : Image) (r : Separated i) (k : ℕ) (w : World) → bound i.all.hardware (ended_own i k) ≤ pad_of i.all.schedule k → InTime i k w → clock_of 0 (switch i k w) ≡ start i.all.schedule k
 unfolding switch_by guarded with_hart at put
-switch_on_start i k w padded time =
-    let used = used_in_pad i k w padded time in
+switch_on_start i r k w padded time =
+    let used = used_in_pad i r k w padded time in
     let at = pad_law i.all.schedule k in
     omega (arith, used, at)
 
@@ -174,7 +178,7 @@ module _ (i : Image) (r : Separated i) where
       let p = i.all.hardware in
       let d = (entry_of_slot i.all.schedule k).domain in
       let begun = part_of 0 d (switch i k (whole i k)) in
-      let at = switch_on_start i k (whole i k) (r.padded k) time in
+      let at = switch_on_start i r k (whole i k) (r.padded k) time in
       let within = instruction_within p (own_of i d) 0 begun.dom begun.storage in
       let base = r.timed.base in
       record { clock = omega (arith, at, within, base); ways = switch_ways i k (whole i k) time.ways }
@@ -187,18 +191,30 @@ module _ (i : Image) (r : Separated i) where
       let d = (entry_of_slot i.all.schedule k).domain in
       let begun = part_of 0 d (switch i k (whole i k)) in
       let ends = stretch_soon p r.timed (own_of i d) false end begun (begins_soon k time) in
-      record { over = stretch_over p r.timed (own_of i d) false end begun; soon = ends.clock; ways = ends.ways }
+      record {
+        over = stretch_over p r.timed (own_of i d) false end begun;
+        soon = ends.clock;
+        ways = ends.ways;
+        dirty = between_dirty i r (suc k);
+        clean = between_clean i r (suc k);
+      }
 
   pub in_time : (k : ℕ) → InTime i k (whole i k)
   unfolding whole_by opening with_hart at put
   in_time zero =
       let within = instruction_within i.all.hardware (ended_own i 0) 0 (part_of 0 0 (opening i)).dom (opening i).storage in
       let base = r.timed.base in
-      record { over = omega arith; soon = omega (arith, base, within); ways = cold_ways i.all.hardware }
+      record {
+        over = omega arith;
+        soon = omega (arith, base, within);
+        ways = cold_ways i.all.hardware;
+        dirty = between_dirty i r 0;
+        clean = between_clean i r 0;
+      }
   in_time (suc k) = slot_in_time k (in_time k)
 
   pub on_time : (k : ℕ) → clock_of 0 (switch i k (whole i k)) ≡ start i.all.schedule k
-  on_time k = switch_on_start i k (whole i k) (r.padded k) (in_time k)
+  on_time k = switch_on_start i r k (whole i k) (r.padded k) (in_time k)
 
   -- at each moment of a slot
   soon_in : (k n : ℕ) → IsSoon i.all.hardware r.timed (own_of i (entry_of_slot i.all.schedule k).domain) false (slot_end i.all.schedule k) (local_in i k n)
@@ -231,7 +247,7 @@ within_append es (u ∷ us) vs h k = (h.0, within_append es us vs h.1 k)
 pub used_within : (i : Image) (n : ℕ) → Separated i → AllWithinPads i.all.schedule (whole i n).used
 unfolding whole_by opening run_slot_by own_slot with_end guarded with_part switch_by with_hart at put
 used_within i zero r = tt
-used_within i (suc k) r = within_append i.all.schedule (whole i k).used _ (used_within i k r) (used_in_pad i k (whole i k) (r.padded k) (in_time i r k), tt)
+used_within i (suc k) r = within_append i.all.schedule (whole i k).used _ (used_within i k r) (used_in_pad i r k (whole i k) (r.padded k) (in_time i r k), tt)
 
 largest_if : (e largest pad : ℕ) (u : ℕ × ℕ) (b : Bool) → eqb u.0 e ≡ b → largest ≤ pad → (u.0 ≡ e → u.1 ≤ pad) → cond b (max u.1 largest) largest ≤ pad
 largest_if e largest pad u true t h k = let here = k (eqb-true u.0 e t) in omega arith

@@ -87,7 +87,7 @@ geometry_hierarchy p costs products same made = rw (same, made, rule_is p.l1i.po
 module _ (p : Hardware) (l1i l1d l2 tlb : CacheGeometry AnyPolicy) (a : l1i ≡ cache_geometry p.l1i) (b : l1d ≡ cache_geometry p.l1d)
     (c : l2 ≡ cache_geometry p.l2) (d : tlb ≡ cache_geometry p.tlb) where
   abbrev pub parts : Geometry AnyPolicy
-  parts = record { line_size = p.line; predictor = predictor_sizes p; l1i = l1i; l1d = l1d; l2 = l2; tlb = tlb }
+  parts = record { line_size = p.line; back = p.back; predictor = predictor_sizes p; l1i = l1i; l1d = l1d; l2 = l2; tlb = tlb }
 
   parts_are : parts ≡ geometry p
   parts_are =

@@ -1,5 +1,5 @@
 -- The hierarchy of a machine that keeps the rules: whole colours, and a shared region of colour 0 with a way for each of its lines.
-use Rattle.std.proofs.Common.{◌≡◌, ◌/◌, false, refl, arith, ◌∙◌}
+use Rattle.std.proofs.Common.{◌≡◌, ◌/◌, ◌<◌, false, refl, arith, ◌∙◌}
 use Rattle.std.proofs.Math.Nat.{mul_comm}
 use Rattle.set_cache.proofs.Powers.{power_is}
 use Rattle.kernel_clone.specs.Footprints.{IsLayout}
@@ -36,6 +36,11 @@ module _ (p : Hardware) (h : IsHardware p) where
     some = let some = h.some_colours in omega (arith, some);
     few = h.few_colours;
   }
+
+  -- the first-level data cache has sets
+  pub some_data : 0 < (hierarchy p).l1d.count
+  unfolding hierarchy
+  some_data = let some = h.l1d.sets.least in omega (arith, some)
 
   pub region_kernel : IsRegion (hierarchy p) (region p)
   unfolding hierarchy region

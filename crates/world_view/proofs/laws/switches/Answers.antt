@@ -3,7 +3,7 @@ use Rattle.world_view.proofs.runs.SwitchLaws.{switch_past, switch_out, switch_in
 use Rattle.world_view.proofs.laws.switches.Goals as goal
 
 pub returns-clause-out : goal.returns-clause-out
-returns-clause-out c i k d w a r is out other h = switch_out i (separated i r) k d is w a out other h
+returns-clause-out c i k d w a r is time out other h = switch_out i (separated i r) k d is w a time out other h
 
 pub returns-clause-into : goal.returns-clause-into
 returns-clause-into c i k d w a r is time out e h = switch_in i (separated i r) k d is w a time out e h
@@ -12,4 +12,4 @@ pub returns-clause-both : goal.returns-clause-both
 returns-clause-both c i k d w a r is time out e h = switch_both i (separated i r) k d is w a time out e h
 
 pub returns-clause-past : goal.returns-clause-past
-returns-clause-past c i k d w a r is out other h = switch_past i (separated i r) k d is w a out other h
+returns-clause-past c i k d w a r is time out other h = switch_past i (separated i r) k d is w a time out other h

@@ -12,7 +12,7 @@ use Rattle.alone_run.proofs.States.{kernel, alone_early, others_slot, own_slot}
 use Rattle.domain_step.proofs.Counts.{counts_later}
 use Rattle.alone_run.proofs.Slots.{Stand, stands_of, facts_of, begun, left}
 use Rattle.alone_run.proofs.alone.Alone.run_slot.Goals as goal
-use Rattle.alone_run.proofs.alone.Alone.run_slot.Goals.{After-leave}
+use Rattle.alone_run.proofs.alone.Alone.run_slot.Goals.{After-flush}
 
 -- ---- another's slot
 
@@ -53,8 +53,8 @@ stretch-self-requires-clause-runs c =
       setting = setting p.hardware o true;
       state = alone_enter p o a.slots (alone p o a.number a.slots);
       stands_in = begun p o a.runs a.number a.slots (kept a.memory a.system a.domain a.clock) (layout_model a.domain.layout)
-          c.flush.new.self c.enter.new.system c.flush.result c.enter.result c.start-start.result a.stands a.stands.domain.layout c.flush.ensures.makes c.flush.ensures.kept
-          c.enter.ensures.makes c.enter.ensures.buffer c.start-start.ensures.value;
+          c.empty_tlb.new.self c.enter.new.system c.enter.result c.start-start.result a.stands a.stands.domain.layout
+          c.empty_tlb.ensures.makes c.empty_tlb.ensures.kept c.enter.ensures.makes c.enter.ensures.buffer c.start-start.ensures.value;
     }
 
 pub stretch-self-requires-clause-few : goal.stretch-self-requires-clause-few
@@ -71,8 +71,8 @@ leave-requires c =
     record { layout = subst IsLayout (sym a.stands.domain.layout) (kernel p o a.runs).has_layout }
 
 -- after the slot, and when the domain has left
-over : (c : After-leave) → Stand (public_model c.args.self.now.public.now).hardware (own_model c.args.self.now.own.now)
-    (kept c.stretch-self.new.memory c.leave.new.system c.stretch-self.new.domain c.stretch-self.result)
+over : (c : After-flush) → Stand (public_model c.args.self.now.public.now).hardware (own_model c.args.self.now.own.now)
+    (kept c.stretch-self.new.memory c.flush.new.self c.stretch-self.new.domain c.stretch-self.result)
     (alone (public_model c.args.self.now.public.now) (own_model c.args.self.now.own.now) c.args.self.now.number (c.args.self.now.slots + 1))
 unfolding alone_in
 over c =
@@ -86,13 +86,14 @@ over c =
     let runs = subst (λ (n : ℕ). Moves any_rule any_stands_for (λ (w : Setting). stretch w n) a.memory a.domain c.enter.new.system c.start-start.result
     c.stretch-self.new.memory c.stretch-self.new.domain c.stretch-self.new.system c.stretch-self.result) until c.stretch-self.ensures.becomes in
     let begins = begun p o a.runs a.number a.slots (kept a.memory a.system a.domain a.clock) (layout_model a.domain.layout)
-    c.flush.new.self c.enter.new.system c.flush.result c.enter.result c.start-start.result a.stands a.stands.domain.layout c.flush.ensures.makes c.flush.ensures.kept
-    c.enter.ensures.makes c.enter.ensures.buffer c.start-start.ensures.value in
+    c.empty_tlb.new.self c.enter.new.system c.enter.result c.start-start.result a.stands a.stands.domain.layout
+    c.empty_tlb.ensures.makes c.empty_tlb.ensures.kept c.enter.ensures.makes c.enter.ensures.buffer c.start-start.ensures.value in
     let ran = runs (setting p.hardware o true) (alone_enter p o a.slots s) begins in
-    subst (Stand p.hardware o (kept c.stretch-self.new.memory c.leave.new.system c.stretch-self.new.domain c.stretch-self.result))
+    subst (Stand p.hardware o (kept c.stretch-self.new.memory c.flush.new.self c.stretch-self.new.domain c.stretch-self.result))
     (sym (ap (alone p o a.number) (add-one a.slots) ∙ own_slot p o a.number a.slots named))
-    (left p.hardware o (kept c.stretch-self.new.memory c.stretch-self.new.system c.stretch-self.new.domain c.stretch-self.result) (layout_model a.domain.layout) c.leave.new.system c.leave.result
-    (alone_in p o a.slots s) ran a.stands.domain.layout c.leave.ensures.makes c.leave.ensures.buffer)
+    (left p.hardware o (kept c.stretch-self.new.memory c.stretch-self.new.system c.stretch-self.new.domain c.stretch-self.result) (layout_model a.domain.layout)
+    c.leave.new.system c.flush.new.self c.leave.result c.flush.result (alone_in p o a.slots s) ran a.stands.domain.layout c.leave.ensures.makes
+    c.flush.ensures.makes c.flush.ensures.kept)
 
 pub invariant_of-self-2-clause-stands : goal.invariant_of-self-2-clause-stands
 invariant_of-self-2-clause-stands c =
