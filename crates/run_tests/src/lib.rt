@@ -22,3 +22,5 @@ mod timed;
 mod unprotected;
 #[cfg(test)]
 mod versions;
+#[cfg(test)]
+mod write_back;
