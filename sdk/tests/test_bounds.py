@@ -31,6 +31,8 @@ entry 0 operation 501 bound 2374
 entry 1 operation 4277 bound 6150
 """
 RED_LISTS = SECOND.replace(COLOURS, f"{COLOURS}\ncalls = [0, 1]")
+POLICY = 'ways = 4, policy = "lru"'
+BACK = f"{POLICY}, back = true"
 
 
 def image(text: str = BOUND) -> Image:
@@ -99,7 +101,8 @@ def test_a_text_that_is_no_bound(old: str, new: str) -> None:
 
 def test_the_bounds_are_the_programs(program: Program) -> None:
     more = ("predictor = 16", "predictor = 16\nmuldiv = { mul = 4, div = 2 }")
-    for old, new in (("wb = 10", "wb = 999"), ("line = 64", "line = 128"), ("trap = 10", "trap = 77"), more):
+    costs = (("wb = 10", "wb = 999"), ("trap = 10", "trap = 77"))
+    for old, new in (*costs, ("line = 64", "line = 128"), more, (POLICY, BACK)):
         assert old in BOUND
         for text in (BOUND, SECOND, RED_LISTS):
             other = text.replace(old, new, 1)
@@ -121,6 +124,25 @@ def test_the_bound_of_each_call_is_the_programs(program: Program, call: object) 
 def test_the_program_writes_what_is_read(program: Program) -> None:
     assert program.run(["bound"], BOUND).text == FIRST_TEXT
     assert program.run(["bound"], RED_LISTS).text == SECOND_TEXT
+
+
+# ---- write-back into the second level
+
+
+def test_a_miss_of_the_second_level_may_write_back() -> None:
+    (told,) = re.findall(r"the parts are then (.*?), and the bound is ([0-9,]+)", section_of(17))
+    back = image(written_back(BOUND))
+    assert [int(it) for it in re.findall(r"\d+", told[0])] == list(parts_of(back).values())
+    assert int(told[1]) == bound_on_a_switch(back)
+    more = {part: cycles - parts_of(image())[part] for part, cycles in parts_of(back).items()}
+    assert more == {"instruction": 60, "operation": 730, "leave": 70, "prefetch": 0, "flush": 0, "enter": 70}
+    past = BOUND.replace(POLICY, f"{POLICY}, back = false")
+    assert past != BOUND and parts_of(image(past)) == parts_of(image())
+
+
+def written_back(text: str) -> str:
+    assert POLICY in text
+    return text.replace(POLICY, BACK)
 
 
 # ---- in sentences
@@ -180,6 +202,18 @@ def test_the_first_version_in_sentences(tmp_path: Path) -> None:
     assert enough.count("its pad is 6,150: enough") == 2
 
 
+def test_write_back_in_sentences(tmp_path: Path) -> None:
+    parts = parts_of(image(written_back(BOUND)))
+    text = "".join(f"{part} {cycles}\n" for part, cycles in parts.items()) + "bound 7080\n"
+    lines = told(tmp_path, written_back(BOUND), text).splitlines()
+    assert lines[7] == "  bound 7,080: their sum, less the cycle of the slot in which the instruction began"
+    assert lines[8] == (
+        "  with `back`, a line that the second level misses may make it write one back, too, but for the "
+        "shared lines of the prefetch (10 cycles, the cost `wb`)"
+    )
+    assert len(lines) == 11 and lines[9].endswith("64 lines; its pad is 0: 7,080 too short")
+
+
 def test_an_object(tmp_path: Path) -> None:
     fields = json.loads(told(tmp_path, RED_LISTS, SECOND_TEXT, "--json"))
     assert fields["bound"] is None and fields["parts"]["flush"] == 340
@@ -196,6 +230,8 @@ def test_an_object(tmp_path: Path) -> None:
         (SECOND, FIRST_TEXT.replace("6150", "6151")),
         (SECOND, SECOND_TEXT),
         (RED_LISTS.replace("trap = 10", "trap = 11"), SECOND_TEXT),
+        (written_back(BOUND), FIRST_TEXT),
+        (BOUND.replace("l2 = {", "l2 = 5\nlost = {"), FIRST_TEXT),
         (RED_LISTS.replace("shared = 512\n", ""), SECOND_TEXT),
         (RED_LISTS + "\n[[schedule]]\ndomain = 0\nlength = 1000\npad = 0\n", SECOND_TEXT),
     ],

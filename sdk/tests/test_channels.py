@@ -77,10 +77,28 @@ def test_the_images_are_what_the_tools_make(program: Program, compiler: str, tmp
     ignore = shutil.ignore_patterns("out", "secret-*", "__pycache__")
     shutil.copytree(SDK, tmp_path / "sdk", ignore=ignore)
     shutil.copytree(CHANNELS, made, ignore=ignore)
-    images = [f"{channel}/secret-{number}.toml" for channel in NAMES for number in (0, 5)]
+    images = [f"{channel}/secret-{number}.toml" for channel in [*NAMES, "back"] for number in (0, 5)]
     subprocess.run(["make", "-C", made, f"TP={program.path}", *images], check=True, capture_output=True)
     for image in images:
         assert (made / image).read_text() == (CHANNELS / image).read_text()
+
+
+def test_write_back_into_the_second_level_tells_nothing(program: Program) -> None:
+    images = [(CHANNELS / "back" / f"{name}.toml").read_text() for name in SECRETS]
+    # (without colours, what the spy brings in puts out lines that the sender left dirty in the second level)
+    off = (["ablate", "--off", "pad"], "3.00", 8), (["ablate", "--off", "colour"], "0.54", 2)
+    for words, bits, reports_differ in ((["run"], "0.00", 1), *off):
+        reports = [program.run([*words, "--slots", "10"], image).text for image in images]
+        sections = [parse_report(text, "back").section("spy") for text in reports]
+        assert f"{entropy([it.readings for it in sections]):.2f}" == bits
+        assert len({it.text for it in sections}) == reports_differ
+
+
+def test_its_images_are_those_of_the_dirty_lines() -> None:
+    for name in SECRETS:
+        plain = (CHANNELS / "dirty" / f"{name}.toml").read_text()
+        back = plain.replace('ways = 4, policy = "lru"', 'ways = 4, policy = "lru", back = true')
+        assert (CHANNELS / "back" / f"{name}.toml").read_text() == back.replace("pad = 6150", "pad = 7080")
 
 
 # ---- the tables of docs/CHANNELS.md

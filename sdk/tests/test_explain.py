@@ -208,7 +208,7 @@ def test_a_line_of_another_image_is_a_fault() -> None:
             explain(IMAGE.encode(), "mine.toml", Refusal.parse(f"refused {line}"))
     for line in (
         "accepted!",
-        "refused K2 at 27 found 0 wanted 0",
+        "refused K2 at 31 found 0 wanted 0",
         "refused K99 at 0 found 0 wanted 0",
         f"refused K9 at {'9' * 5000} found 0 wanted 0",
     ):

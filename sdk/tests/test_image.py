@@ -108,6 +108,19 @@ def test_the_machine_may_have_more_keys(folder: Folder) -> None:
     assert folder.fault().startswith("machine.toml:14:11: 'targets' must be as docs/IMAGE.md says: integer")
 
 
+def test_the_second_level_may_have_one_more(folder: Folder) -> None:
+    machine = folder.path / "machine.toml"
+    plain = machine.read_text()
+    for said, back in (("back = true", True), ("back = false", False)):
+        machine.write_text(plain.replace("l2 = {", f"l2 = {{ {said},"))
+        folder.write()
+        assert folder.image()["l2"]["back"] is back
+    machine.write_text(plain.replace("l2 = {", "l2 = { back = 1,"))
+    assert "'back' must be as docs/IMAGE.md says: boolean" in folder.fault()
+    machine.write_text(plain.replace("l1d = {", "l1d = { back = true,"))
+    assert "there is no key 'back' of a machine" in folder.fault()
+
+
 def test_a_pad_that_is_left_out_is_the_bound(folder: Folder, program: Program) -> None:
     folder.write(DESCRIPTION.replace("pad = 6150\n", ""))
     machine = folder.path / "machine.toml"

@@ -67,6 +67,11 @@ ENTRY = "[[schedule]]\ndomain = 0\nlength = 1000\npad = 6150\n"
         ("[[schedule]]", ENTRY * 63 + "[[schedule]]", (2,)),
         ("[[schedule]]", ENTRY * 255 + "[[schedule]]", ()),
         ("domain = 1", "domain = 31", (2,)),
+        ("l2 = {", "l2 = { back = true,", (1, 2)),
+        ("l2 = {", "l2 = { back = false,", (1, 2)),
+        ("l2 = {", "l2 = { back = 1,", ()),
+        ("l1d = {", "l1d = { back = true,", ()),
+        ("frames = 64", "back = true\nframes = 64", ()),
     ],
     ids=lambda it: it[:24] if isinstance(it, str) else "",
 )

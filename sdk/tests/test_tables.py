@@ -58,6 +58,7 @@ def test_the_words_of_a_key_are_its_kind(row: keys.KeyRow) -> None:
     words = {
         keys.Integer: "integer",
         keys.Within: "integer",
+        keys.Truth: "boolean",
         keys.Text: "string",
         keys.Table: "table of",
         keys.Array: "array of",
@@ -77,6 +78,10 @@ def test_the_fields_of_the_tables() -> None:
     cache, costs = sentence.group().split("The table `costs`")
     assert re.findall("`(.*?)`", cache) == [key for key, _ in keys.CACHE.fields]
     assert re.findall("`(.*?)`", costs) == list(keys.COSTS)
+    sentence = re.search(r"The table `l2` may have (`.*?`)", IMAGE_MD)
+    assert sentence is not None and keys.keys_at(("l2",), {}) == [key for key, _ in keys.CACHE.fields] + [
+        sentence[1].strip("`")
+    ]
     sentence = re.search(r"The table `muldiv` (.*)", IMAGE_MD)
     assert sentence is not None and re.findall("`(.*?)`", sentence[1]) == list(keys.PRODUCTS)
 

@@ -28,19 +28,25 @@ def lines_written(calls: frozenset[int], line: int) -> int:
     return max((call.lines_written(line) for call in CALLS if call.number in calls), default=0)
 
 
+def writes_back(image: Image) -> bool:
+    """Whether dirty lines are written back into the second level, which may then write one back at a miss."""
+    return "back" in image["l2"] and bool(image["l2"]["back"])
+
+
 def parts_of(image: Image, calls: frozenset[int] = EVERY_CALL) -> dict[str, int]:
     """The parts of the bound on the switch out of a slot in which these calls may be made."""
     line = image["line"]
     base, l1, l2, mem, wb, tlb, mispredict, trap, flush = (image["costs"][cost] for cost in keys.COSTS)
-    misses = l1 + l2 + mem
+    read = l2 + mem + (wb if writes_back(image) else 0)
+    misses = l1 + read
     dirty = misses + wb
-    look_up = tlb + 2 * (l2 + mem)
+    look_up = tlb + 2 * read
     instruction = base + 2 * look_up + misses + dirty + mispredict + _most_added(image.get("muldiv"))
     return {
         "instruction": instruction,
         OPERATION: trap + 4 * misses + 5 * dirty + lines_written(calls, line) * dirty,
         "leave": trap + 4 * misses + 3 * dirty,
-        "prefetch": image["shared"] // line * dirty,
+        "prefetch": image["shared"] // line * (l1 + l2 + mem + wb),
         "flush": flush + wb * image["l1d"]["sets"] * image["l1d"]["ways"],
         "enter": 4 * misses + 3 * dirty,
     }

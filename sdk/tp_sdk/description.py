@@ -236,7 +236,7 @@ def _optional(known: dict[str, Key]) -> dict[str, Key]:
 
 def _check_machine(text: _Text, others: tuple[str, ...]) -> None:
     """The keys of the machine are there, and none but they and the others."""
-    rows = [row for row in KEY_ROWS if row.key in MACHINE_KEYS and row.place is Place.TOP]
+    rows = [row for row in KEY_ROWS if row.place.is_one and (*row.place.path, row.key)[0] in MACHINE_KEYS]
     for name in text.data:
         if name not in (*MACHINE_KEYS, *others):
             meant = did_you_mean(name, MACHINE_KEYS)

@@ -7,7 +7,7 @@ from dataclasses import asdict
 from typing import Any
 
 from tp_sdk import keys
-from tp_sdk.bounds import OPERATION, Bound, EntryBound, bound_on_a_switch, bounds_of, parts_of
+from tp_sdk.bounds import OPERATION, Bound, EntryBound, bound_on_a_switch, bounds_of, parts_of, writes_back
 from tp_sdk.calls import CALLS, in_words
 from tp_sdk.explain import label
 from tp_sdk.faults import Fault
@@ -24,6 +24,13 @@ WORDS = {
     "enter": "the incoming clone's",
     "bound": "their sum, less the cycle of the slot in which the instruction began",
 }
+
+
+# (where dirty lines are written back into the second level)
+WRITTEN_BACK = (
+    "with `back`, a line that the second level misses may make it write one back, too, but for the shared "
+    "lines of the prefetch"
+)
 
 
 def sentence_of(it: EntryBound, what: str, line: int) -> str:
@@ -81,6 +88,8 @@ class BoundTold:
         for part, words in WORDS.items():
             cycles = self.bound.total if part == "bound" else self.bound.parts.get(part)
             lines.append(f"  {part}{', by the entry' if cycles is None else f' {cycles:,}'}: {words}")
+        if writes_back(self.image):
+            lines.append(f"  {WRITTEN_BACK} ({self.image['costs']['wb']:,} cycles, the cost `wb`)")
         lines += [
             "  " + sentence_of(it, label(("schedule", it.entry), self.image), self.image["line"])
             for it in self.entries

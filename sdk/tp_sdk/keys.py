@@ -28,6 +28,11 @@ class Within:
 
 
 @dataclass(frozen=True)
+class Truth:
+    """True or false."""
+
+
+@dataclass(frozen=True)
 class Text:
     """A string."""
 
@@ -55,13 +60,14 @@ class Either:
     kinds: tuple[Kind, ...]
 
 
-Kind = Integer | Within | Text | Table | Array | Either
+Kind = Integer | Within | Truth | Text | Table | Array | Either
 
 
 class Place(Enum):
     """The tables in which a key stands, by the keys that lead to them."""
 
     TOP = ""
+    LEVEL2 = "l2"
     DOMAIN = "domain"
     SEGMENT = "domain segment"
     ENTRY = "schedule"
@@ -70,6 +76,11 @@ class Place(Enum):
     def path(self) -> tuple[str, ...]:
         """Those keys."""
         return tuple(self.value.split())
+
+    @property
+    def is_one(self) -> bool:
+        """There is one such table, and not one for each item of an array."""
+        return self in (Place.TOP, Place.LEVEL2)
 
 
 @dataclass(frozen=True)
@@ -138,6 +149,14 @@ KEY_ROWS = (
     KeyRow(23, Place.ENTRY, "domain", Integer(), "integer: the place of the domain that runs"),
     KeyRow(24, Place.ENTRY, "length", Integer(), "integer: cycles of the slot"),
     KeyRow(25, Place.ENTRY, "pad", Integer(), "integer: cycles from the slot's end to the next slot's start"),
+    KeyRow(
+        27,
+        Place.LEVEL2,
+        "back",
+        Truth(),
+        "boolean: whether dirty lines are written back into it; it may be missing",
+        needed=False,
+    ),
     KeyRow(
         28,
         Place.TOP,
@@ -267,6 +286,8 @@ def fault_in(kind: Kind, value: Any, path: Path) -> Path | None:
             return None if _is_integer(value) else path
         case Within(low, high):
             return None if _is_integer(value) and low <= value <= high else path
+        case Truth():
+            return None if isinstance(value, bool) else path
         case Text():
             return None if isinstance(value, str) else path
         case Table(fields):
@@ -289,18 +310,23 @@ def tables_at(image: dict[str, Any], place: Place) -> Iterator[tuple[Path, dict[
     tables: list[tuple[Path, dict[str, Any]]] = [((), image)]
     for key in place.path:
         tables = [
-            (path + (key, number), item)
+            (path + (key, *within), item)
             for path, table in tables
-            for number, item in enumerate(_items(table.get(key)))
+            for within, item in _tables_in(table.get(key), place)
             if isinstance(item, dict)
         ]
     yield from tables
 
 
+def _tables_in(value: Any, place: Place) -> list[tuple[Path, Any]]:
+    """What may be a table of the place in a value on the way to it: the value itself, or each item."""
+    return [((), value)] if place.is_one else [((number,), item) for number, item in enumerate(_items(value))]
+
+
 def broken_place(row: KeyRow, image: dict[str, Any], number: int) -> Path | None:
     """Where a row is broken, in the domain or the entry of this number."""
     for path, table in tables_at(image, row.place):
-        if path and path[1] != number:
+        if not row.place.is_one and path[1] != number:
             continue
         here = path + (row.key,)
         if row.key not in table:
@@ -317,6 +343,8 @@ def other_keys(image: dict[str, Any]) -> Iterator[Path]:
     """Each key that no row has."""
     known_rows = rows_of(image)
     for place in Place:
+        if place is Place.LEVEL2:
+            continue  # (a key of the table above it)
         rows = {row.key: row.kind for row in known_rows if row.place is place}
         for path, table in tables_at(image, place):
             for key, value in table.items():
@@ -324,18 +352,25 @@ def other_keys(image: dict[str, Any]) -> Iterator[Path]:
                 if kind is None:
                     yield path + (key,)
                 elif isinstance(kind, Table) and isinstance(value, dict):
-                    known = {name for name, _ in kind.fields}
+                    known = _keys_in(kind, (*place.path, key))
                     yield from (path + (key, name) for name in value if name not in known)
 
 
 def keys_at(path: Path, image: dict[str, Any]) -> list[str]:
     """The keys that a table of an image may have."""
     names = tuple(it for it in path if isinstance(it, str))
+    row = next((it for it in KEY_ROWS if it.place is Place.TOP and (it.key,) == names), None)
+    if row is not None and isinstance(row.kind, Table):
+        return _keys_in(row.kind, names)
     for place in Place:
         if place.path == names:
             return [row.key for row in rows_of(image) if row.place is place]
-    row = next((it for it in KEY_ROWS if it.place is Place.TOP and (it.key,) == names), None)
-    return [name for name, _ in row.kind.fields] if row is not None and isinstance(row.kind, Table) else []
+    return []
+
+
+def _keys_in(kind: Table, names: tuple[str, ...]) -> list[str]:
+    """The keys of the table at these keys: those that it must have, and those with rows of their own."""
+    return [name for name, _ in kind.fields] + [row.key for row in KEY_ROWS if row.place.path == names]
 
 
 def version_with(path: Path) -> int | None:

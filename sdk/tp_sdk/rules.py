@@ -77,10 +77,13 @@ class Rules:
         for place, cost in enumerate(keys.COSTS, 1):
             yield from _outside(6, place, self.image["costs"][cost], keys.COST)
 
-    def _optional(self, key: str, missing: Any) -> Any:
+    def _optional(self, key: str, missing: Any, place: Place = Place.TOP) -> Any:
         """The value of a key that may be missing; as if it were, where it breaks its row."""
-        row = next(row for row in KEY_ROWS if row.place is Place.TOP and row.key == key)
-        return missing if (row.number, 0) in self.rows else self.image.get(key, missing)
+        row = next(row for row in KEY_ROWS if row.place is place and row.key == key)
+        if (row.number, 0) in self.rows:
+            return missing
+        table = self.image if place is Place.TOP else self.image[place.value]
+        return table.get(key, missing)
 
     def _part(self, part: keys.Part) -> Iterator[Refusal]:
         if not self._is_good(part):
@@ -237,7 +240,8 @@ class Rules:
         broken = [*self._machine(), *self._shared()]
         if not self.has_machine or any(it.rule in (3, 6) or (it.rule, it.at) == (11, 1) for it in broken):
             return
-        image = self.image | {"muldiv": self._optional("muldiv", None)}
+        l2 = self.image["l2"] | {"back": self._optional("back", False, Place.LEVEL2)}
+        image = self.image | {"muldiv": self._optional("muldiv", None), "l2": l2}
         for number, it in self.entries:
             calls = self._calls_of(it["domain"])
             if calls is None or not _is_within(it["pad"], keys.PAD):
@@ -278,7 +282,7 @@ class Rules:
 def _broken_rows(image: Image) -> Iterator[tuple[keys.KeyRow, int]]:
     """Each broken row of the table of keys, with the domain or entry; by the rows, then by those."""
     for row in keys.rows_of(image):
-        root = row.place.path[0] if row.place is not Place.TOP else None
+        root = None if row.place.is_one else row.place.path[0]
         count = 1 if root is None else len(_tables(image, root))
         for number in range(count):
             if keys.broken_place(row, image, number) is not None:

@@ -6,7 +6,7 @@ from __future__ import annotations
 from typing import Any
 
 from tp_sdk import keys
-from tp_sdk.keys import KEY_ROWS, Array, Either, Integer, Kind, Place, Table, Text, Within
+from tp_sdk.keys import KEY_ROWS, Array, Either, Integer, Kind, Place, Table, Text, Truth, Within
 
 Schema = dict[str, Any]
 
@@ -64,7 +64,10 @@ def of_place(place: Place) -> Schema:
 
 
 def _of_key(place: Place, key: str, kind: Kind) -> Schema:
-    return of_kind(kind) | _inner(place, key) | values_at(place, key)
+    schema = of_kind(kind) | _inner(place, key) | values_at(place, key)
+    if (*place.path, key) == Place.LEVEL2.path:
+        schema["properties"] |= of_place(Place.LEVEL2)["properties"]
+    return schema
 
 
 def of_kind(kind: Kind) -> Schema:
@@ -74,6 +77,8 @@ def of_kind(kind: Kind) -> Schema:
             return {"type": "integer"}
         case Within(low, high):
             return {"type": "integer"} | _ends("minimum", low, "maximum", high)
+        case Truth():
+            return {"type": "boolean"}
         case Text():
             return {"type": "string"}
         case Table(fields):
@@ -97,7 +102,7 @@ def _ends(low_key: str, low: int | None, high_key: str, high: int | None) -> Sch
 
 def _inner(place: Place, key: str) -> Schema:
     """An array of a place's tables."""
-    inner = next((it for it in Place if it.path == (*place.path, key)), None)
+    inner = next((it for it in Place if not it.is_one and it.path == (*place.path, key)), None)
     return {} if inner is None else {"items": of_place(inner)}
 
 
