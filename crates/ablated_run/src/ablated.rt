@@ -1,5 +1,6 @@
 // The whole machine with one guard off.
 ghost use Rattle.std.specs.Prelude.{◌≡◌};
+ghost use Rattle.mem_system.specs.Contents.{system};
 ghost use Rattle.image_check.specs.Image.{image_from};
 ghost use Rattle.image_check.specs.Laws.{Runnable};
 ghost use Rattle.world_view.specs.Machine.{ended_of, whole_off};
@@ -12,7 +13,8 @@ mod run;
 use guards::Guard;
 use image_check::Checked;
 use kernel_call::Domain;
-use mem_system::MemSystem;
+use l2_colour::L2;
+use mem_system::OnCore;
 use phys_mem::PhysMem;
 use repl_policy::AnyPolicy;
 use tp_base::Memory;
@@ -30,7 +32,8 @@ pub struct Ablated<'a> {
     /// How many slots have run.
     pub slots: u32,
     memory: PhysMem,
-    system: MemSystem<AnyPolicy>,
+    core: OnCore<AnyPolicy>,
+    l2: L2<AnyPolicy>,
     domains: Vec<Domain>,
     /// By entry of the schedule.
     used: Vec<Used>,
@@ -40,8 +43,8 @@ pub struct Ablated<'a> {
     ended: u64,
     ghost accepted: { Runnable (image_from image.now) },
     ghost stands: { StandsOff off (image_from image.now) slots
-        (kept memory system domains.items used.items clock) } by { stands_off_prop off (image_from image.now) slots
-            (kept memory system domains.items used.items clock) },
+        (kept memory (system core l2) domains.items used.items clock) } by { stands_off_prop off (image_from image.now) slots
+            (kept memory (system core l2) domains.items used.items clock) },
     ghost ends: { ended ≡ ended_of 0 (whole_off off (image_from image.now) slots) },
-    ghost in_bounds: { IsInBounds slots ended (kept memory system domains.items used.items clock) },
+    ghost in_bounds: { IsInBounds slots ended (kept memory (system core l2) domains.items used.items clock) },
 }

@@ -2,6 +2,7 @@
 ghost use Rattle.std.specs.Prelude.{true, false, ◌≡◌, ◌≢◌, ◌+◌, ◌^◌, ◌<◌, ◌≤◌, length, max, slice_get, Some};
 ghost use Rattle.repl_policy.specs.Members.{any_rule, any_takes};
 ghost use Rattle.cycle_cost.specs.Ranges.{most_event};
+ghost use Rattle.mem_system.specs.Contents.{system};
 ghost use Rattle.mem_system.specs.Geometry.{IsGeometry, hierarchy_by};
 ghost use Rattle.hardware_check.specs.Hardware.{IsHardware};
 ghost use Rattle.hardware_check.specs.Models.{hardware_model};
@@ -17,7 +18,8 @@ use guards::Guard;
 use image_check::Hardware;
 use kernel_call::Domain;
 use kernel_clone::CloneLayout;
-use mem_system::{Geometry, MemSystem};
+use l2_colour::L2;
+use mem_system::{Geometry, OnCore};
 use phys_mem::PhysMem;
 use repl_policy::AnyPolicy;
 use world_view::geometry_of;
@@ -121,19 +123,20 @@ pub(crate) fn begins_by(off: Guard, start: u64, begins: u64) -> u64
 pub(crate) fn slot_off(
     off: Guard,
     memory: &mut PhysMem,
-    system: &mut MemSystem<AnyPolicy>,
+    core: &mut OnCore<AnyPolicy>,
+    l2: &mut L2<AnyPolicy>,
     domains: &mut [Domain],
     d: usize,
     now: u64,
     end: u64,
 ) -> u64
     requires domain { d < length domains.old }
-    requires stands { Stands d memory.old system.old domains.old now }
+    requires stands { Stands d memory.old (system core.old l2.old) domains.old now }
     requires before { now < 2 ^ 62 }
     requires end { end < 2 ^ 62 }
     requires few { CountUpTo now domains.old }
     ensures becomes { BecomesOff off (λ g i w. spec.slot_if g.irq g i d end w) d
-        memory.old system.old domains.old now memory.new system.new domains.new result }
+        memory.old (system core.old l2.old) domains.old now memory.new (system core.new l2.new) domains.new result }
     ensures few { CountUpTo result domains.new }
     ensures same { length domains.new ≡ length domains.old }
     ensures over { now ≤ result }
@@ -141,7 +144,7 @@ pub(crate) fn slot_off(
     ensures soon { result < max now end + most_event }
 {
     match off {
-        Guard::Irq => open_slot(memory, system, domains, d, now, end),
-        _ => stretch(memory, system, &mut domains[d], now, end),
+        Guard::Irq => open_slot(memory, core, l2, domains, d, now, end),
+        _ => stretch(memory, core, l2, &mut domains[d], now, end),
     }
 }

@@ -2,6 +2,7 @@
 ghost use Rattle.std.specs.Prelude.{◌≡◌, ◌+◌, ◌^◌, ◌<◌, ◌≤◌, length, option_map};
 ghost use Rattle.irq_partition.specs.Interrupts.{next_of};
 ghost use Rattle.cycle_cost.specs.Ranges.{most_event};
+ghost use Rattle.mem_system.specs.Contents.{system};
 ghost use Rattle.world_view.specs.Machine as spec;
 ghost use Rattle.world_view.specs.Machine.{first_of, if_due};
 ghost use Rattle.ablated_run.specs.Ablations.{Becomes, CountUpTo, Stands, first_among, owned};
@@ -10,7 +11,8 @@ use call_table::DomainStatus;
 use domain_step::step;
 use domain_switch::charge;
 use kernel_call::{Domain, deliver};
-use mem_system::MemSystem;
+use l2_colour::L2;
+use mem_system::OnCore;
 use phys_mem::PhysMem;
 use repl_policy::AnyPolicy;
 
@@ -65,19 +67,20 @@ fn first_due(domains: &[Domain], now: u64) -> Option<Due>
 // of any domain comes to its owner, and the kernel clone of `d` is charged.
 fn step_among(
     memory: &mut PhysMem,
-    system: &mut MemSystem<AnyPolicy>,
+    core: &mut OnCore<AnyPolicy>,
+    l2: &mut L2<AnyPolicy>,
     domains: &mut [Domain],
     d: usize,
     now: u64,
     end: u64,
 ) -> u64
     requires domain { d < length domains.old }
-    requires stands { Stands d memory.old system.old domains.old now }
+    requires stands { Stands d memory.old (system core.old l2.old) domains.old now }
     requires before { now < end }
     requires end { end < 2 ^ 62 }
     requires few { CountUpTo now domains.old }
     ensures becomes { Becomes (λ g i w. spec.step_among g i d end w) d
-        memory.old system.old domains.old now memory.new system.new domains.new result }
+        memory.old (system core.old l2.old) domains.old now memory.new (system core.new l2.new) domains.new result }
     ensures few { CountUpTo result domains.new }
     ensures same { length domains.new ≡ length domains.old }
     ensures later { now < result }
@@ -87,27 +90,28 @@ fn step_among(
         if let Some(due) = first_due(domains, now) {
             let layout = domains[d].layout;
             let work = deliver(&mut domains[due.owner]);
-            return now + u64::from(charge(system, &layout, &work));
+            return now + u64::from(charge(core, l2, &layout, &work));
         }
     }
-    step(memory, system, &mut domains[d], now, end)
+    step(memory, core, l2, &mut domains[d], now, end)
 }
 
 /// A slot of domain `d`, from a clock on. Answers the clock after it, in cycles.
 pub(crate) fn open_slot(
     memory: &mut PhysMem,
-    system: &mut MemSystem<AnyPolicy>,
+    core: &mut OnCore<AnyPolicy>,
+    l2: &mut L2<AnyPolicy>,
     domains: &mut [Domain],
     d: usize,
     now: u64,
     end: u64,
 ) -> u64
     requires domain { d < length domains.old }
-    requires stands { Stands d memory.old system.old domains.old now }
+    requires stands { Stands d memory.old (system core.old l2.old) domains.old now }
     requires end { end < 2 ^ 62 }
     requires few { CountUpTo now domains.old }
     ensures becomes { Becomes (λ g i w. spec.open_slot g i d end w) d
-        memory.old system.old domains.old now memory.new system.new domains.new result }
+        memory.old (system core.old l2.old) domains.old now memory.new (system core.new l2.new) domains.new result }
     ensures few { CountUpTo result domains.new }
     ensures same { length domains.new ≡ length domains.old }
     ensures over { now ≤ result }
@@ -117,7 +121,7 @@ pub(crate) fn open_slot(
 {
     let mut clock = now;
     while clock < end {
-        clock = step_among(memory, system, domains, d, clock, end);
+        clock = step_among(memory, core, l2, domains, d, clock, end);
     }
     clock
 }

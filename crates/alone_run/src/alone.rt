@@ -3,6 +3,7 @@ ghost use Rattle.std.specs.Prelude.{◌≡◌, ◌≤◌, ◌∷◌, [], IfOk};
 ghost use Rattle.frame_colours.specs.Colours.{AreDisjoint};
 ghost use Rattle.hardware_check.specs.Hardware.{IsHardware, colours_of};
 ghost use Rattle.hardware_check.specs.Models.{hardware_model};
+ghost use Rattle.mem_system.specs.Contents.{system};
 ghost use Rattle.image_check.specs.Models.{public_model, own_model};
 ghost use Rattle.image_check.specs.Pages as pages;
 ghost use Rattle.world_view.specs.Machine.{alone};
@@ -15,7 +16,8 @@ mod run;
 use frame_colours::{AllColours, ColourShare};
 use image_check::{Hardware, Own, Public};
 use kernel_call::Domain;
-use mem_system::MemSystem;
+use l2_colour::L2;
+use mem_system::OnCore;
 use phys_mem::PhysMem;
 use repl_policy::AnyPolicy;
 use std::alloc::Global;
@@ -35,20 +37,21 @@ pub struct Alone<'a> {
     pub slots: u32,
     memory: PhysMem,
     /// The kernel's lines are pinned in it.
-    system: MemSystem<AnyPolicy>,
+    core: OnCore<AnyPolicy>,
+    l2: L2<AnyPolicy>,
     domain: Domain,
     /// In cycles, as its last slot ended.
     clock: u64,
     ghost runs: { RunsAlone (public_model public.now) (own_model own.now) number },
     ghost stands: { StandsFor (hardware_model public.now.hardware) (own_model own.now)
         (alone (public_model public.now) (own_model own.now) number slots)
-        (kept memory system domain clock) } by { stands_prop (hardware_model public.now.hardware)
+        (kept memory (system core l2) domain clock) } by { stands_prop (hardware_model public.now.hardware)
             (own_model own.now) (alone (public_model public.now) (own_model own.now) number slots)
-            (kept memory system domain clock) },
+            (kept memory (system core l2) domain clock) },
     ghost facts: { ∥ HasFacts (hardware_model public.now.hardware) (own_model own.now)
         (alone (public_model public.now) (own_model own.now) number slots)
-        (kept memory system domain clock) ∥₁ },
-    ghost in_bounds: { IsInBounds slots (kept memory system domain clock) },
+        (kept memory (system core l2) domain clock) ∥₁ },
+    ghost in_bounds: { IsInBounds slots (kept memory (system core l2) domain clock) },
 }
 
 // The frames of the domain's colours.

@@ -11,7 +11,6 @@ use Rattle.kernel_clone.specs.Footprints.{Layout, WorkDone}
 use Rattle.kernel_clone.specs.declared.CloneLayout.{CloneLayout}
 use Rattle.kernel_clone.specs.Models.{layout_model, work_model}
 use Rattle.tlb_model.specs.Buffer.{Buffer}
-use Rattle.mem_system.specs.Hierarchy.{Hierarchy}
 use Rattle.mem_system.specs.Cost.{Touch, Touched, EmptyTlb}
 use Rattle.mem_system.specs.Contents.{SystemContents, MakesTouch, MakesTouches}
 use Rattle.mem_system.specs.Translation.{KeepsLeaves}
@@ -27,7 +26,7 @@ use Rattle.kernel_call.specs.declared.domain.Domain.{Domain}
 use Rattle.kernel_call.specs.declared.outcome.Outcome.{Outcome}
 use Rattle.kernel_call.specs.Models.{dom_model}
 use Rattle.kernel_call.specs.Calls.{IsCalled, KeepsParts}
-use Rattle.world_view.specs.Kernel.{estate, layout}
+use Rattle.world_view.specs.Kernel.{estate}
 use Rattle.world_view.specs.Event.{Storage, call_touches, make_call}
 use Rattle.world_view.specs.Machine.{Setting}
 use Rattle.domain_step.specs.Kept.{KeptOf}

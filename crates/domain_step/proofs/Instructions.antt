@@ -1,7 +1,7 @@
 -- An instruction, of the code and of the definitions.
 use Rattle.std.proofs.Common.{◌≡◌, ◌≢◌, ◌⊎◌, ℕ, ◌+◌, ◌*◌, ◌/◌, ◌%◌, ◌^◌, inl, inr, Bool, true, false, cond, eqb, List, Option, Some, None, is_some, option_map, Result, Ok, Err, refl, sym, ap, ap₂, subst, subst₂, ◌∙◌, arith}
 use Rattle.std.proofs.lemmas.Option.{none-some}
-use Rattle.tp_base.specs.Act.{◌>>◌, give, either, ◌>>=◌}
+use Rattle.tp_base.specs.Act.{◌>>◌, give, either}
 use Rattle.phys_mem.specs.Contents.{Contents}
 use Rattle.phys_mem.specs.Holds.{Holds}
 use Rattle.phys_mem.specs.Mem.{Mem, word}
@@ -33,7 +33,6 @@ use Rattle.mem_system.specs.Cost.{Touch, Touched, Fetch, Branch, Jump as JumpTou
 use Rattle.mem_system.specs.Contents.{SystemContents, MakesTouch, hierarchy_of}
 use Rattle.mem_system.specs.Hierarchy.{Hierarchy}
 use Rattle.mem_system.specs.Translation.{KeepsLeaves}
-use Rattle.hardware_check.specs.Hardware.{Hardware}
 use Rattle.thread_set.specs.Threads.{with_current}
 use Rattle.call_table.specs.Domain.{Dom, placed}
 use Rattle.kernel_call.specs.declared.domain.Domain.{Domain}

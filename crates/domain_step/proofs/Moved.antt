@@ -15,7 +15,6 @@ use Rattle.kernel_clone.specs.declared.CloneLayout.{CloneLayout}
 use Rattle.kernel_clone.specs.Models.{layout_model}
 use Rattle.tlb_model.specs.Buffer.{Buffer}
 use Rattle.set_cache.specs.Rule.{Rule}
-use Rattle.mem_system.specs.Hierarchy.{Hierarchy}
 use Rattle.mem_system.specs.Cost.{Touch, Touched, at_no_cost, touched_all}
 use Rattle.mem_system.specs.Contents.{SystemContents, MakesTouches, hierarchy_of}
 use Rattle.mem_system.specs.Translation.{KeepsLeaves}
@@ -26,8 +25,7 @@ use Rattle.call_table.specs.Domain.{Dom, is_running, delivered_on}
 use Rattle.call_table.specs.Claims.{is_mine, claims, Facts}
 use Rattle.kernel_call.specs.declared.domain.Domain.{Domain}
 use Rattle.kernel_call.specs.Models.{Becomes, Stands}
-use Rattle.world_view.specs.Cost.{hierarchy}
-use Rattle.world_view.specs.Kernel.{estate, layout}
+use Rattle.world_view.specs.Kernel.{estate}
 use Rattle.world_view.specs.Event.{Act, instruction, interrupts_of, idle_until, delivery_touches}
 use Rattle.world_view.specs.Machine.{Setting, Local, paid, delivered, step, steps, stretch}
 use Rattle.world_view.proofs.steps.Fuel.{IsTimed, idle_past, stretch_step, stretch_done}

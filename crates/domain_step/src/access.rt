@@ -9,13 +9,15 @@ ghost use Rattle.page_map.specs.Tables.{StandsWith};
 ghost use Rattle.rv_core.specs.Effect.{IsStore};
 ghost use Rattle.rv_core.specs.Memory.{load_size};
 ghost use Rattle.cap_table.specs.Slots.{Slots};
+ghost use Rattle.mem_system.specs.Contents.{system};
 ghost use Rattle.mem_system.specs.Translation.{KeepsLeaves};
 ghost use Rattle.world_view.specs.Event as spec;
 ghost use Rattle.world_view.specs.Machine.{Setting};
 ghost use Rattle.domain_step.specs.Kept.{Kept};
 ghost use Rattle.domain_step.specs.Moves.{Finds, frame_found, stored};
 
-use mem_system::MemSystem;
+use l2_colour::L2;
+use mem_system::OnCore;
 use phys_mem::PhysMem;
 use rv_core::{Exception, Store, Trap};
 use rv_decode::LoadWidth;
@@ -44,7 +46,8 @@ fn fault_of(access: Access, fault: WalkFault) -> Exception
 #[inline(always)]
 pub fn translate<P: Policy>(
     memory: &PhysMem,
-    system: &mut MemSystem<P>,
+    core: &mut OnCore<P>,
+    l2: &mut L2<P>,
     spent: &mut u32,
     root: FrameNo,
     access: Access,
@@ -52,19 +55,19 @@ pub fn translate<P: Policy>(
 ) -> Result<u32, Trap>
     requires frames { memory.now.frames ≤ 2 ^ 15 }
     requires leaves { StandsWith memory.now
-        (λ m. KeepsLeaves m memory.now.frames root system.old.core.tlb) }
+        (λ m. KeepsLeaves m memory.now.frames root core.old.tlb) }
     requires spent { spent.old < 2 ^ 31 }
     ensures finds { (w : Setting) (caps : Slots)
         → Finds w (λ d. spec.translate w.machine root d access va) (frame_found result)
-        (Kept P.rule P.stands_for w caps root memory.now system.old spent.old)
-        (Kept P.rule P.stands_for w caps root memory.now system.new spent.new) }
+        (Kept P.rule P.stands_for w caps root memory.now (system core.old l2.old) spent.old)
+        (Kept P.rule P.stands_for w caps root memory.now (system core.new l2.new) spent.new) }
     ensures leaves { StandsWith memory.now
-        (λ m. KeepsLeaves m memory.now.frames root system.new.core.tlb) }
+        (λ m. KeepsLeaves m memory.now.frames root core.new.tlb) }
     ensures within { IfOk result (λ at. frame_of at < memory.now.frames) }
     ensures place { IfOk result (λ at. at % 4096 ≡ va % 4096) }
     ensures few { spent.new ≤ spent.old + most_look }
 {
-    let found = system.translate(memory, root.number(), va, access);
+    let found = core.translate(l2, memory, root.number(), va, access);
     *spent += found.cycles;
     match found.result {
         Ok(at) => Ok(at),
@@ -97,7 +100,8 @@ fn read(memory: &PhysMem, width: LoadWidth, at: u32) -> u32
 #[inline(always)]
 pub fn load<P: Policy>(
     memory: &PhysMem,
-    system: &mut MemSystem<P>,
+    core: &mut OnCore<P>,
+    l2: &mut L2<P>,
     spent: &mut u32,
     root: FrameNo,
     width: LoadWidth,
@@ -106,18 +110,19 @@ pub fn load<P: Policy>(
     requires aligned { va % load_size width ≡ 0 }
     requires frames { memory.now.frames ≤ 2 ^ 15 }
     requires leaves { StandsWith memory.now
-        (λ m. KeepsLeaves m memory.now.frames root system.old.core.tlb) }
+        (λ m. KeepsLeaves m memory.now.frames root core.old.tlb) }
     requires spent { spent.old < 2 ^ 31 }
     ensures finds { (w : Setting) (caps : Slots)
         → Finds w (λ d. spec.load w.machine root d width va) result
-        (Kept P.rule P.stands_for w caps root memory.now system.old spent.old)
-        (Kept P.rule P.stands_for w caps root memory.now system.new spent.new) }
+        (Kept P.rule P.stands_for w caps root memory.now (system core.old l2.old) spent.old)
+        (Kept P.rule P.stands_for w caps root memory.now (system core.new l2.new) spent.new) }
     ensures leaves { StandsWith memory.now
-        (λ m. KeepsLeaves m memory.now.frames root system.new.core.tlb) }
+        (λ m. KeepsLeaves m memory.now.frames root core.new.tlb) }
     ensures few { spent.new ≤ spent.old + most_data }
 {
-    let at = translate(memory, system, spent, root, Access::Load, va)?;
-    *spent += system.access(system.line_of(at), false);
+    let at = translate(memory, core, l2, spent, root, Access::Load, va)?;
+    let line = l2.line_of(at);
+    *spent += core.access(l2, line, false);
     Ok(read(memory, width, at))
 }
 
@@ -146,7 +151,8 @@ fn write(memory: &mut PhysMem, at: u32, size: u8, value: u32)
 #[inline(always)]
 pub fn store<P: Policy>(
     memory: &mut PhysMem,
-    system: &mut MemSystem<P>,
+    core: &mut OnCore<P>,
+    l2: &mut L2<P>,
     spent: &mut u32,
     root: FrameNo,
     made: Option<Store>,
@@ -154,20 +160,21 @@ pub fn store<P: Policy>(
     requires store { IfSome made IsStore }
     requires frames { memory.old.frames ≤ 2 ^ 15 }
     requires leaves { StandsWith memory.old
-        (λ m. KeepsLeaves m memory.old.frames root system.old.core.tlb) }
+        (λ m. KeepsLeaves m memory.old.frames root core.old.tlb) }
     requires spent { spent.old < 2 ^ 31 }
     ensures finds { (w : Setting) (caps : Slots)
         → Finds w (λ d. spec.store w.machine root d made) result
-        (Kept P.rule P.stands_for w caps root memory.old system.old spent.old)
-        (Kept P.rule P.stands_for w caps root memory.new system.new spent.new) }
+        (Kept P.rule P.stands_for w caps root memory.old (system core.old l2.old) spent.old)
+        (Kept P.rule P.stands_for w caps root memory.new (system core.new l2.new) spent.new) }
     ensures frames { memory.new.frames ≡ memory.old.frames }
     ensures few { spent.new ≤ spent.old + most_data }
 {
     let Some(made) = made else {
         return Ok(());
     };
-    let at = translate(memory, system, spent, root, Access::Store, made.at)?;
-    *spent += system.access(system.line_of(at), true);
+    let at = translate(memory, core, l2, spent, root, Access::Store, made.at)?;
+    let line = l2.line_of(at);
+    *spent += core.access(l2, line, true);
     write(memory, at, made.size, made.word);
     Ok(())
 }

@@ -14,6 +14,7 @@ ghost use Rattle.kernel_call.specs.LogModel.{log_model};
 ghost use Rattle.kernel_call.specs.Models.{dom_model, Becomes};
 ghost use Rattle.kernel_call.specs.Facts.{HasFacts, Valid};
 ghost use Rattle.kernel_call.specs.Calls.{IsCalled, KeepsParts};
+ghost use Rattle.mem_system.specs.Contents.{system};
 ghost use Rattle.world_view.specs.Instruction as spec;
 ghost use Rattle.world_view.specs.Event as event;
 ghost use Rattle.world_view.specs.Kernel.{estate};
@@ -25,7 +26,8 @@ ghost use Rattle.domain_step.specs.Moves.{Leaves};
 use call_table::DomainStatus;
 use domain_switch::charge;
 use kernel_call::{Domain, Outcome};
-use mem_system::MemSystem;
+use l2_colour::L2;
+use mem_system::OnCore;
 use phys_mem::PhysMem;
 use rv_core::Trap;
 use rv_decode::{Counter, Instr};
@@ -153,7 +155,8 @@ fn answer(memory: &mut PhysMem, domain: &mut Domain) -> Outcome
 #[inline(never)]
 pub fn call<P: Policy>(
     memory: &mut PhysMem,
-    system: &mut MemSystem<P>,
+    core: &mut OnCore<P>,
+    l2: &mut L2<P>,
     domain: &mut Domain,
     spent: u32,
 ) -> u32
@@ -165,18 +168,18 @@ pub fn call<P: Policy>(
     requires spent { spent < 2 ^ 31 }
     ensures leaves { (w : Setting) → Leaves w
         (λ d. event.make_call w.machine (estate w.machine w.own) w.clone d)
-        domain.old (KeptOf P.rule P.stands_for w domain.old memory.old system.old spent)
-        domain.new (KeptOf P.rule P.stands_for w domain.new memory.new system.new result) }
+        domain.old (KeptOf P.rule P.stands_for w domain.old memory.old (system core.old l2.old) spent)
+        domain.new (KeptOf P.rule P.stands_for w domain.new memory.new (system core.new l2.new) result) }
     ensures frames { memory.new.frames ≡ memory.old.frames }
     ensures grows { Grows 0 0 2 domain.old domain.new }
     ensures moments { domain.new.interrupts.moments ≡ domain.old.interrupts.moments }
     ensures few { result ≤ spent + most_operation }
 {
     let outcome = answer(memory, domain);
-    let charged = spent + charge(system, &domain.layout, &outcome.work);
+    let charged = spent + charge(core, l2, &domain.layout, &outcome.work);
     if !outcome.empties_buffer() {
         return charged;
     }
-    system.empty_tlb();
+    core.empty_tlb();
     charged
 }

@@ -6,6 +6,8 @@ ghost use Rattle.cycle_cost.specs.Ranges.{most_product};
 ghost use Rattle.phys_mem.specs.Contents.{Contents};
 ghost use Rattle.rv_core.specs.Products.{digits_of, dividend_of};
 ghost use Rattle.rv_decode.specs.declared.Instr.TheVariants.{Multiply, Divide};
+ghost use Rattle.l2_colour.specs.Contents.{L2Contents};
+ghost use Rattle.mem_system.specs.Contents.{system};
 ghost use Rattle.world_view.specs.Event as event;
 ghost use Rattle.world_view.specs.Machine.{Setting};
 ghost use Rattle.domain_step.specs.Stands.{HasRoom, Grows, KeepsFrames, GoesOn};
@@ -15,7 +17,7 @@ ghost use Rattle.domain_step.specs.Moves.{Leaves};
 use crate::instruction::retire;
 use cycle_cost::ProductCosts;
 use kernel_call::Domain;
-use mem_system::MemSystem;
+use mem_system::OnCore;
 use rv_core::division_digits;
 use rv_decode::{Division, Product};
 use set_cache::Policy;
@@ -44,7 +46,7 @@ fn division_time(products: Option<ProductCosts>, division: Division, dividend: u
 /// A product of two registers. Answers the cycles spent then, of which so many were before.
 #[inline(never)]
 pub fn multiply<P: Policy>(
-    system: &MemSystem<P>,
+    core: &OnCore<P>,
     domain: &mut Domain,
     spent: u32,
     product: Product,
@@ -57,16 +59,16 @@ pub fn multiply<P: Policy>(
     requires rs2 { rs2 < 32 }
     requires room { HasRoom domain.old }
     requires spent { spent < 2 ^ 31 }
-    ensures leaves { (w : Setting) (memory : Contents) (root now : ℕ)
+    ensures leaves { (w : Setting) (l2 : L2Contents P) (memory : Contents) (root now : ℕ)
         → Leaves w (λ d. event.timed w.machine root now d (Multiply product rd rs1 rs2))
-        domain.old (Kept P.rule P.stands_for w domain.old.caps root memory system.now spent)
-        domain.new (Kept P.rule P.stands_for w domain.old.caps root memory system.now result) }
+        domain.old (Kept P.rule P.stands_for w domain.old.caps root memory (system core.now l2) spent)
+        domain.new (Kept P.rule P.stands_for w domain.old.caps root memory (system core.now l2) result) }
     ensures grows { Grows 1 1 0 domain.old domain.new }
     ensures keeps { KeepsFrames domain.old domain.new }
     ensures goes_on { GoesOn domain.old domain.new }
     ensures few { result ≤ spent + most_product }
 {
-    let after = spent + product_time(system.products());
+    let after = spent + product_time(core.products());
     let next = domain.threads.active.pc.wrapping_add(4);
     rv_core::multiply(&mut domain.threads.active.regs, product, rd, rs1, rs2);
     retire(domain, next);
@@ -77,7 +79,7 @@ pub fn multiply<P: Policy>(
 /// which so many were before.
 #[inline(never)]
 pub fn divide<P: Policy>(
-    system: &MemSystem<P>,
+    core: &OnCore<P>,
     domain: &mut Domain,
     spent: u32,
     division: Division,
@@ -90,17 +92,17 @@ pub fn divide<P: Policy>(
     requires rs2 { rs2 < 32 }
     requires room { HasRoom domain.old }
     requires spent { spent < 2 ^ 31 }
-    ensures leaves { (w : Setting) (memory : Contents) (root now : ℕ)
+    ensures leaves { (w : Setting) (l2 : L2Contents P) (memory : Contents) (root now : ℕ)
         → Leaves w (λ d. event.timed w.machine root now d (Divide division rd rs1 rs2))
-        domain.old (Kept P.rule P.stands_for w domain.old.caps root memory system.now spent)
-        domain.new (Kept P.rule P.stands_for w domain.old.caps root memory system.now result) }
+        domain.old (Kept P.rule P.stands_for w domain.old.caps root memory (system core.now l2) spent)
+        domain.new (Kept P.rule P.stands_for w domain.old.caps root memory (system core.now l2) result) }
     ensures grows { Grows 1 1 0 domain.old domain.new }
     ensures keeps { KeepsFrames domain.old domain.new }
     ensures goes_on { GoesOn domain.old domain.new }
     ensures few { result ≤ spent + most_product }
 {
     let dividend = domain.threads.active.regs.get(rs1);
-    let after = spent + division_time(system.products(), division, dividend);
+    let after = spent + division_time(core.products(), division, dividend);
     let next = domain.threads.active.pc.wrapping_add(4);
     rv_core::divide(&mut domain.threads.active.regs, division, rd, rs1, rs2);
     retire(domain, next);

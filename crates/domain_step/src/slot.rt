@@ -16,7 +16,8 @@ ghost use Rattle.call_table.specs.Domain.{delivered_on};
 ghost use Rattle.kernel_call.specs.Models.{dom_model, Becomes, CountsUpTo};
 ghost use Rattle.kernel_call.specs.Threads.{KeepsAtDelivery};
 ghost use Rattle.mem_system.specs.Cost.{Touched};
-ghost use Rattle.mem_system.specs.Contents.{MakesTouches, hierarchy_of};
+ghost use Rattle.l2_colour.specs.Contents.{L2Contents};
+ghost use Rattle.mem_system.specs.Contents.{system, MakesTouches, hierarchy_of};
 ghost use Rattle.mem_system.specs.Translation.{KeepsLeaves};
 ghost use Rattle.cache_sharing.specs.Operations.{operation, plain};
 ghost use Rattle.world_view.specs.Event as event;
@@ -33,7 +34,8 @@ use crate::products::{divide, multiply};
 use call_table::DomainStatus;
 use domain_switch::charge;
 use kernel_call::{Domain, deliver};
-use mem_system::MemSystem;
+use l2_colour::L2;
+use mem_system::OnCore;
 use phys_mem::PhysMem;
 use rv_core::{Effect, Exception, Trap, address, misalignment};
 use rv_decode::{Instr, decode};
@@ -48,7 +50,8 @@ use tp_base::FrameNo;
 #[inline(always)]
 fn loaded<P: Policy>(
     memory: &PhysMem,
-    system: &mut MemSystem<P>,
+    core: &mut OnCore<P>,
+    l2: &mut L2<P>,
     domain: &Domain,
     spent: &mut u32,
     root: FrameNo,
@@ -60,20 +63,20 @@ fn loaded<P: Policy>(
     requires aligned { misalignment_of instr at ≡ None }
     requires frames { memory.now.frames ≤ 2 ^ 15 }
     requires leaves { StandsWith memory.now
-        (λ m. KeepsLeaves m memory.now.frames root system.old.core.tlb) }
+        (λ m. KeepsLeaves m memory.now.frames root core.old.tlb) }
     requires spent { spent.old < 2 ^ 31 }
     ensures finds { (w : Setting) (caps : Slots) (s : event.Storage) (r : Touched)
         (readings : List ℕ) (replies : List Reply)
-        → Kept P.rule P.stands_for w caps root memory.now system.old spent.old s r
+        → Kept P.rule P.stands_for w caps root memory.now (system core.old l2.old) spent.old s r
         → Yields w (event.loaded w.machine root now (dom_model domain.now readings replies) instr) s r
         (Answered (dom_model domain.now readings replies) result
-        (Kept P.rule P.stands_for w caps root memory.now system.new spent.new)) }
+        (Kept P.rule P.stands_for w caps root memory.now (system core.new l2.new) spent.new)) }
     ensures leaves { StandsWith memory.now
-        (λ m. KeepsLeaves m memory.now.frames root system.new.core.tlb) }
+        (λ m. KeepsLeaves m memory.now.frames root core.new.tlb) }
     ensures few { spent.new ≤ spent.old + most_data }
 {
     match instr {
-        Instr::Load { width, .. } => load(memory, system, spent, root, width, at),
+        Instr::Load { width, .. } => load(memory, core, l2, spent, root, width, at),
         Instr::ReadCounter { counter, .. } => Ok(counter_value(counter, now, domain)),
         _ => Ok(0),
     }
@@ -81,25 +84,19 @@ fn loaded<P: Policy>(
 
 // A branch is guessed, and taught whether it is taken; where it or a jump goes is looked up.
 #[inline(always)]
-fn guess<P: Policy>(
-    system: &mut MemSystem<P>,
-    spent: &mut u32,
-    instr: Instr,
-    pc: u32,
-    effect: Effect,
-)
+fn guess<P: Policy>(core: &mut OnCore<P>, spent: &mut u32, instr: Instr, pc: u32, effect: Effect)
     requires spent { spent.old < 2 ^ 31 }
-    ensures finds { (w : Setting) (caps : Slots) (root : ℕ) (memory : Contents)
+    ensures finds { (w : Setting) (l2 : L2Contents P) (caps : Slots) (root : ℕ) (memory : Contents)
         → Finds w (λ d. event.guessed instr pc effect) (Ok tt)
-        (Kept P.rule P.stands_for w caps root memory system.old spent.old)
-        (Kept P.rule P.stands_for w caps root memory system.new spent.new) }
-    ensures buffer { system.new.core.tlb ≡ system.old.core.tlb }
+        (Kept P.rule P.stands_for w caps root memory (system core.old l2) spent.old)
+        (Kept P.rule P.stands_for w caps root memory (system core.new l2) spent.new) }
+    ensures buffer { core.new.tlb ≡ core.old.tlb }
     ensures few { spent.new ≤ spent.old + most_guess }
 {
     match instr {
-        Instr::Branch { .. } => *spent += system.branch(pc, effect.taken, effect.next),
-        Instr::Jal { .. } => *spent += system.jump(pc, effect.next),
-        Instr::Jalr { .. } => *spent += system.jump(pc, effect.next),
+        Instr::Branch { .. } => *spent += core.branch(pc, effect.taken, effect.next),
+        Instr::Jal { .. } => *spent += core.jump(pc, effect.next),
+        Instr::Jalr { .. } => *spent += core.jump(pc, effect.next),
         _ => {}
     }
 }
@@ -109,7 +106,8 @@ fn guess<P: Policy>(
 #[inline(always)]
 fn settle<P: Policy>(
     memory: &mut PhysMem,
-    system: &mut MemSystem<P>,
+    core: &mut OnCore<P>,
+    l2: &mut L2<P>,
     domain: &mut Domain,
     spent: &mut u32,
     root: FrameNo,
@@ -120,13 +118,13 @@ fn settle<P: Policy>(
     requires room { HasRoom domain.old }
     requires frames { memory.old.frames ≤ 2 ^ 15 }
     requires leaves { StandsWith memory.old
-        (λ m. KeepsLeaves m memory.old.frames root system.old.core.tlb) }
+        (λ m. KeepsLeaves m memory.old.frames root core.old.tlb) }
     requires spent { spent.old < 2 ^ 30 }
     ensures leaves { (w : Setting) → Leaves w
         (λ d. event.settle w.machine root d instr value
         (effect_of d.threads.current.regs d.threads.current.pc instr value))
-        domain.old (Kept P.rule P.stands_for w domain.old.caps root memory.old system.old spent.old)
-        domain.new (Kept P.rule P.stands_for w domain.old.caps root memory.new system.new spent.new) }
+        domain.old (Kept P.rule P.stands_for w domain.old.caps root memory.old (system core.old l2.old) spent.old)
+        domain.new (Kept P.rule P.stands_for w domain.old.caps root memory.new (system core.new l2.new) spent.new) }
     ensures frames { memory.new.frames ≡ memory.old.frames }
     ensures grows { Grows 1 1 0 domain.old domain.new }
     ensures keeps { KeepsFrames domain.old domain.new }
@@ -139,8 +137,8 @@ fn settle<P: Policy>(
         stop(domain, trap);
         return false;
     }
-    guess(system, spent, instr, pc, effect);
-    match store(memory, system, spent, root, effect.store) {
+    guess(core, spent, instr, pc, effect);
+    match store(memory, core, l2, spent, root, effect.store) {
         Ok(()) => {
             finish(domain, instr, value, effect.next);
             true
@@ -157,7 +155,8 @@ fn settle<P: Policy>(
 #[inline(always)]
 fn execute<P: Policy>(
     memory: &mut PhysMem,
-    system: &mut MemSystem<P>,
+    core: &mut OnCore<P>,
+    l2: &mut L2<P>,
     domain: &mut Domain,
     spent: &mut u32,
     root: FrameNo,
@@ -168,11 +167,11 @@ fn execute<P: Policy>(
     requires room { HasRoom domain.old }
     requires frames { memory.old.frames ≤ 2 ^ 15 }
     requires leaves { StandsWith memory.old
-        (λ m. KeepsLeaves m memory.old.frames root system.old.core.tlb) }
+        (λ m. KeepsLeaves m memory.old.frames root core.old.tlb) }
     requires spent { spent.old < 2 ^ 29 }
     ensures leaves { (w : Setting) → Leaves w (λ d. event.execute w.machine root now d instr)
-        domain.old (Kept P.rule P.stands_for w domain.old.caps root memory.old system.old spent.old)
-        domain.new (Kept P.rule P.stands_for w domain.old.caps root memory.new system.new spent.new) }
+        domain.old (Kept P.rule P.stands_for w domain.old.caps root memory.old (system core.old l2.old) spent.old)
+        domain.new (Kept P.rule P.stands_for w domain.old.caps root memory.new (system core.new l2.new) spent.new) }
     ensures frames { memory.new.frames ≡ memory.old.frames }
     ensures grows { Grows 1 1 0 domain.old domain.new }
     ensures keeps { KeepsFrames domain.old domain.new }
@@ -184,8 +183,8 @@ fn execute<P: Policy>(
         stop(domain, trap);
         return false;
     }
-    match loaded(memory, system, domain, spent, root, now, instr, at) {
-        Ok(value) => settle(memory, system, domain, spent, root, instr, value),
+    match loaded(memory, core, l2, domain, spent, root, now, instr, at) {
+        Ok(value) => settle(memory, core, l2, domain, spent, root, instr, value),
         Err(trap) => {
             stop(domain, trap);
             false
@@ -198,20 +197,21 @@ fn execute<P: Policy>(
 #[inline(always)]
 fn run_instruction<P: Policy>(
     memory: &mut PhysMem,
-    system: &mut MemSystem<P>,
+    core: &mut OnCore<P>,
+    l2: &mut L2<P>,
     domain: &mut Domain,
     spent: &mut u32,
     now: u64,
 ) -> bool
     requires room { HasRoom domain.old }
     requires frames { memory.old.frames ≤ 2 ^ 15 }
-    requires runs { Runs P.rule P.stands_for memory.old domain.old system.old now }
+    requires runs { Runs P.rule P.stands_for memory.old domain.old (system core.old l2.old) now }
     requires ready { is_ready domain.old.threads.active.state ≡ true }
     requires spent { spent.old < 2 ^ 28 }
     ensures leaves { (w : Setting) → Leaves w
         (event.instruction w.machine (estate w.machine w.own) w.clone now)
-        domain.old (KeptOf P.rule P.stands_for w domain.old memory.old system.old spent.old)
-        domain.new (KeptOf P.rule P.stands_for w domain.new memory.new system.new spent.new) }
+        domain.old (KeptOf P.rule P.stands_for w domain.old memory.old (system core.old l2.old) spent.old)
+        domain.new (KeptOf P.rule P.stands_for w domain.new memory.new (system core.new l2.new) spent.new) }
     ensures frames { memory.new.frames ≡ memory.old.frames }
     ensures grows { Grows 1 1 2 domain.old domain.new }
     ensures moments { domain.new.interrupts.moments ≡ domain.old.interrupts.moments }
@@ -220,16 +220,17 @@ fn run_instruction<P: Policy>(
 {
     let root = domain.map.root();
     let pc = domain.threads.active.pc;
-    let at = match translate(memory, system, spent, root, Access::Fetch, pc) {
+    let at = match translate(memory, core, l2, spent, root, Access::Fetch, pc) {
         Ok(at) => at,
         Err(trap) => {
             stop(domain, trap);
             return false;
         }
     };
-    *spent += system.fetch(system.line_of(at));
+    let line = l2.line_of(at);
+    *spent += core.fetch(l2, line);
     let word = memory.read_word(at / 4 * 4);
-    let Some(instr) = decode(word, system.products().is_some()) else {
+    let Some(instr) = decode(word, core.products().is_some()) else {
         stop(
             domain,
             Trap {
@@ -241,7 +242,7 @@ fn run_instruction<P: Policy>(
     };
     match instr {
         Instr::Ecall => {
-            *spent = call(memory, system, domain, *spent);
+            *spent = call(memory, core, l2, domain, *spent);
             false
         }
         Instr::Multiply {
@@ -250,7 +251,7 @@ fn run_instruction<P: Policy>(
             rs1,
             rs2,
         } => {
-            *spent = multiply(system, domain, *spent, product, rd, rs1, rs2);
+            *spent = multiply(core, domain, *spent, product, rd, rs1, rs2);
             true
         }
         Instr::Divide {
@@ -259,10 +260,10 @@ fn run_instruction<P: Policy>(
             rs1,
             rs2,
         } => {
-            *spent = divide(system, domain, *spent, division, rd, rs1, rs2);
+            *spent = divide(core, domain, *spent, division, rd, rs1, rs2);
             true
         }
-        _ => execute(memory, system, domain, spent, root, now, instr),
+        _ => execute(memory, core, l2, domain, spent, root, now, instr),
     }
 }
 
@@ -282,7 +283,7 @@ fn idle_until(end: u64, next: Option<u64>) -> u64
 // Delivers the moment that is due, and charges the delivery. Answers the cycles.
 // It stands apart, since a step would pay at each event for the room of its work.
 #[inline(never)]
-fn deliver_due<P: Policy>(system: &mut MemSystem<P>, domain: &mut Domain) -> u32
+fn deliver_due<P: Policy>(core: &mut OnCore<P>, l2: &mut L2<P>, domain: &mut Domain) -> u32
     requires left { domain.old.interrupts.delivered < length domain.old.interrupts.moments }
     requires clone { IsLayout (layout_model domain.old.layout) }
     requires replies { domain.old.replies.count < 2 ^ 63 }
@@ -290,14 +291,14 @@ fn deliver_due<P: Policy>(system: &mut MemSystem<P>, domain: &mut Domain) -> u32
         → Becomes (delivered_on line) domain.old domain.new }
     ensures keeps { KeepsAtDelivery domain.old domain.new }
     ensures makes { MakesTouches P.rule P.stands_for
-        (operation system.old.core.costs (layout_model domain.new.layout) (plain delivery_op)) result
-        system.old system.new }
-    ensures buffer { system.new.core.tlb ≡ system.old.core.tlb }
+        (operation core.old.costs (layout_model domain.new.layout) (plain delivery_op)) result
+        (system core.old l2.old) (system core.new l2.new) }
+    ensures buffer { core.new.tlb ≡ core.old.tlb }
     ensures some { 0 < result }
     ensures few { result ≤ most_operation }
 {
     let work = deliver(domain);
-    charge(system, &domain.layout, &work)
+    charge(core, l2, &domain.layout, &work)
 }
 
 // What an instruction came to.
@@ -314,29 +315,32 @@ struct Ran {
 #[inline(always)]
 fn run<P: Policy>(
     memory: &mut PhysMem,
-    system: &mut MemSystem<P>,
+    core: &mut OnCore<P>,
+    l2: &mut L2<P>,
     domain: &mut Domain,
     now: u64,
 ) -> Ran
     requires frames { memory.old.frames ≤ 2 ^ 15 }
-    requires runs { Runs P.rule P.stands_for memory.old domain.old system.old now }
+    requires runs { Runs P.rule P.stands_for memory.old domain.old (system core.old l2.old) now }
     requires plain { IsPlain domain.old now }
     requires early { now < 2 ^ 62 }
     requires few { CountsUpTo now domain.old }
     ensures becomes { (end : ℕ) → Moves P.rule P.stands_for (λ w. spec.step w end)
-        memory.old domain.old system.old now memory.new domain.new system.new result.clock }
+        memory.old domain.old (system core.old l2.old) now memory.new domain.new
+        (system core.new l2.new) result.clock }
     ensures frames { memory.new.frames ≡ memory.old.frames }
-    ensures hierarchy { hierarchy_of P.rule system.new ≡ hierarchy_of P.rule system.old }
-    ensures pinned { system.new.core.pinned ≡ system.old.core.pinned }
-    ensures runs { Runs P.rule P.stands_for memory.new domain.new system.new result.clock }
+    ensures hierarchy { hierarchy_of P.rule (system core.new l2.new) ≡ hierarchy_of P.rule
+        (system core.old l2.old) }
+    ensures pinned { core.new.pinned ≡ core.old.pinned }
+    ensures runs { Runs P.rule P.stands_for memory.new domain.new (system core.new l2.new) result.clock }
     ensures few { CountsUpTo result.clock domain.new }
     ensures goes_on { result.goes_on ≡ true → GoesOn domain.old domain.new }
     ensures later { now < result.clock }
     ensures soon { result.clock ≤ now + most_event }
 {
     let mut spent = 0;
-    let goes_on = run_instruction(memory, system, domain, &mut spent, now);
-    let clock = now + u64::from(system.costs().base) + u64::from(spent);
+    let goes_on = run_instruction(memory, core, l2, domain, &mut spent, now);
+    let clock = now + u64::from(core.costs().base) + u64::from(spent);
     Ran { clock, goes_on }
 }
 
@@ -363,21 +367,24 @@ fn plain_until(domain: &Domain, end: u64) -> u64
 #[inline(never)]
 fn wait_or_deliver<P: Policy>(
     memory: &PhysMem,
-    system: &mut MemSystem<P>,
+    core: &mut OnCore<P>,
+    l2: &mut L2<P>,
     domain: &mut Domain,
     now: u64,
     end: u64,
 ) -> u64
-    requires runs { Runs P.rule P.stands_for memory.now domain.old system.old now }
+    requires runs { Runs P.rule P.stands_for memory.now domain.old (system core.old l2.old) now }
     requires before { now < end }
     requires end { end < 2 ^ 62 }
     requires few { CountsUpTo now domain.old }
     requires other { IsOther domain.old now end }
     ensures becomes { Moves P.rule P.stands_for (λ w. spec.step w end)
-        memory.now domain.old system.old now memory.now domain.new system.new result }
-    ensures hierarchy { hierarchy_of P.rule system.new ≡ hierarchy_of P.rule system.old }
-    ensures pinned { system.new.core.pinned ≡ system.old.core.pinned }
-    ensures runs { Runs P.rule P.stands_for memory.now domain.new system.new result }
+        memory.now domain.old (system core.old l2.old) now memory.now domain.new
+        (system core.new l2.new) result }
+    ensures hierarchy { hierarchy_of P.rule (system core.new l2.new) ≡ hierarchy_of P.rule
+        (system core.old l2.old) }
+    ensures pinned { core.new.pinned ≡ core.old.pinned }
+    ensures runs { Runs P.rule P.stands_for memory.now domain.new (system core.new l2.new) result }
     ensures few { CountsUpTo result domain.new }
     ensures later { now < result }
     ensures soon { result < end + most_event }
@@ -388,7 +395,7 @@ fn wait_or_deliver<P: Policy>(
         return end;
     };
     if let Some(_line) = domain.interrupts.due(now) {
-        return now + u64::from(deliver_due(system, domain));
+        return now + u64::from(deliver_due(core, l2, domain));
     }
     let next = domain.interrupts.next_moment();
     idle_until(end, next)
@@ -402,22 +409,25 @@ fn wait_or_deliver<P: Policy>(
 /// the end.
 pub fn step<P: Policy>(
     memory: &mut PhysMem,
-    system: &mut MemSystem<P>,
+    core: &mut OnCore<P>,
+    l2: &mut L2<P>,
     domain: &mut Domain,
     now: u64,
     end: u64,
 ) -> u64
     requires frames { memory.old.frames ≤ 2 ^ 15 }
-    requires runs { Runs P.rule P.stands_for memory.old domain.old system.old now }
+    requires runs { Runs P.rule P.stands_for memory.old domain.old (system core.old l2.old) now }
     requires before { now < end }
     requires end { end < 2 ^ 62 }
     requires few { CountsUpTo now domain.old }
     ensures becomes { Moves P.rule P.stands_for (λ w. spec.step w end)
-        memory.old domain.old system.old now memory.new domain.new system.new result }
+        memory.old domain.old (system core.old l2.old) now memory.new domain.new
+        (system core.new l2.new) result }
     ensures frames { memory.new.frames ≡ memory.old.frames }
-    ensures hierarchy { hierarchy_of P.rule system.new ≡ hierarchy_of P.rule system.old }
-    ensures pinned { system.new.core.pinned ≡ system.old.core.pinned }
-    ensures runs { Runs P.rule P.stands_for memory.new domain.new system.new result }
+    ensures hierarchy { hierarchy_of P.rule (system core.new l2.new) ≡ hierarchy_of P.rule
+        (system core.old l2.old) }
+    ensures pinned { core.new.pinned ≡ core.old.pinned }
+    ensures runs { Runs P.rule P.stands_for memory.new domain.new (system core.new l2.new) result }
     ensures few { CountsUpTo result domain.new }
     ensures later { now < result }
     ensures soon { result < end + most_event }
@@ -425,9 +435,9 @@ pub fn step<P: Policy>(
     if now < plain_until(domain, end) {
         // One instruction, as it takes a cycle or more. So the code of an instruction
         // stands in one place, and is no call there.
-        stretch(memory, system, domain, now, now + 1)
+        stretch(memory, core, l2, domain, now, now + 1)
     } else {
-        wait_or_deliver(memory, system, domain, now, end)
+        wait_or_deliver(memory, core, l2, domain, now, end)
     }
 }
 
@@ -436,33 +446,36 @@ pub fn step<P: Policy>(
 #[inline(always)]
 fn run_plain<P: Policy>(
     memory: &mut PhysMem,
-    system: &mut MemSystem<P>,
+    core: &mut OnCore<P>,
+    l2: &mut L2<P>,
     domain: &mut Domain,
     now: u64,
     until: u64,
 ) -> u64
     requires frames { memory.old.frames ≤ 2 ^ 15 }
-    requires runs { Runs P.rule P.stands_for memory.old domain.old system.old now }
+    requires runs { Runs P.rule P.stands_for memory.old domain.old (system core.old l2.old) now }
     requires plain { (t : ℕ) → t < until → IsPlain domain.old t }
     requires before { now < until }
     requires until { until < 2 ^ 62 }
     requires few { CountsUpTo now domain.old }
     ensures along { (end : ℕ) → until ≤ end → MovesAlong P.rule P.stands_for end
-        memory.old domain.old system.old now memory.new domain.new system.new result }
+        memory.old domain.old (system core.old l2.old) now memory.new domain.new
+        (system core.new l2.new) result }
     ensures frames { memory.new.frames ≡ memory.old.frames }
-    ensures hierarchy { hierarchy_of P.rule system.new ≡ hierarchy_of P.rule system.old }
-    ensures pinned { system.new.core.pinned ≡ system.old.core.pinned }
-    ensures runs { Runs P.rule P.stands_for memory.new domain.new system.new result }
+    ensures hierarchy { hierarchy_of P.rule (system core.new l2.new) ≡ hierarchy_of P.rule
+        (system core.old l2.old) }
+    ensures pinned { core.new.pinned ≡ core.old.pinned }
+    ensures runs { Runs P.rule P.stands_for memory.new domain.new (system core.new l2.new) result }
     ensures few { CountsUpTo result domain.new }
     ensures later { now < result }
     ensures soon { result < until + most_event }
 {
     // Each event takes a cycle or more.
-    let _costs = system.costs();
+    let _costs = core.costs();
     let mut clock = now;
     let mut goes_on = true;
     while goes_on && clock < until {
-        let ran = run(memory, system, domain, clock);
+        let ran = run(memory, core, l2, domain, clock);
         clock = ran.clock;
         goes_on = ran.goes_on;
     }
@@ -472,36 +485,39 @@ fn run_plain<P: Policy>(
 /// Events while the clock is below the end. Answers the clock after them.
 pub fn stretch<P: Policy>(
     memory: &mut PhysMem,
-    system: &mut MemSystem<P>,
+    core: &mut OnCore<P>,
+    l2: &mut L2<P>,
     domain: &mut Domain,
     now: u64,
     end: u64,
 ) -> u64
     requires frames { memory.old.frames ≤ 2 ^ 15 }
-    requires runs { Runs P.rule P.stands_for memory.old domain.old system.old now }
+    requires runs { Runs P.rule P.stands_for memory.old domain.old (system core.old l2.old) now }
     requires before { now < 2 ^ 62 }
     requires end { end < 2 ^ 62 }
     requires few { CountsUpTo now domain.old }
     ensures becomes { Moves P.rule P.stands_for (λ w. spec.stretch w end)
-        memory.old domain.old system.old now memory.new domain.new system.new result }
+        memory.old domain.old (system core.old l2.old) now memory.new domain.new
+        (system core.new l2.new) result }
     ensures frames { memory.new.frames ≡ memory.old.frames }
-    ensures hierarchy { hierarchy_of P.rule system.new ≡ hierarchy_of P.rule system.old }
-    ensures pinned { system.new.core.pinned ≡ system.old.core.pinned }
-    ensures runs { Runs P.rule P.stands_for memory.new domain.new system.new result }
+    ensures hierarchy { hierarchy_of P.rule (system core.new l2.new) ≡ hierarchy_of P.rule
+        (system core.old l2.old) }
+    ensures pinned { core.new.pinned ≡ core.old.pinned }
+    ensures runs { Runs P.rule P.stands_for memory.new domain.new (system core.new l2.new) result }
     ensures few { CountsUpTo result domain.new }
     ensures over { end ≤ result }
     ensures soon { now < end → result < end + most_event }
     ensures done { end ≤ now → result ≡ now }
 {
     // Each event takes a cycle or more.
-    let _costs = system.costs();
+    let _costs = core.costs();
     let mut clock = now;
     while clock < end {
         let until = plain_until(domain, end);
         clock = if clock < until {
-            run_plain(memory, system, domain, clock, until)
+            run_plain(memory, core, l2, domain, clock, until)
         } else {
-            wait_or_deliver(memory, system, domain, clock, end)
+            wait_or_deliver(memory, core, l2, domain, clock, end)
         };
     }
     clock

@@ -6,7 +6,7 @@ ghost use Rattle.phys_mem.specs.Mem.{Mem};
 ghost use Rattle.kernel_clone.specs.Footprints.{IsLayout};
 ghost use Rattle.kernel_clone.specs.Models.{layout_model};
 ghost use Rattle.mem_system.specs.Cost.{Caches, EmptyTlb, Flush, touched_all};
-ghost use Rattle.mem_system.specs.Contents.{SystemStands, MakesTouch, MakesTouches, hierarchy_of};
+ghost use Rattle.mem_system.specs.Contents.{system, SystemStands, MakesTouch, MakesTouches, hierarchy_of};
 ghost use Rattle.mem_system.specs.Translation.{KeepsLeaves};
 ghost use Rattle.cache_sharing.specs.Operations.{shared_region, prefetch};
 ghost use Rattle.cache_sharing.specs.Operations as spec;
@@ -14,7 +14,8 @@ ghost use Rattle.domain_switch.specs.Switch.{IsCloneOn, IsInTime, IsSwitched, la
 
 use crate::charging::{charge_own, load_run};
 use kernel_clone::{CloneLayout, ENTER, LEAVE};
-use mem_system::MemSystem;
+use l2_colour::L2;
+use mem_system::OnCore;
 use set_cache::Policy;
 
 /// What a switch took.
@@ -49,7 +50,8 @@ const ALL_PARTS: Parts = Parts {
 /// starts at `until`, all in cycles below 2^62. Its domain may make `calls`, a
 /// bit each; at the boot it counts as that of the last entry.
 pub fn switch<P: Policy>(
-    system: &mut MemSystem<P>,
+    core: &mut OnCore<P>,
+    l2: &mut L2<P>,
     out: Option<&CloneLayout>,
     into: &CloneLayout,
     old_end: u64,
@@ -57,31 +59,34 @@ pub fn switch<P: Policy>(
     until: u64,
     calls: u32,
 ) -> Switched
-    requires out { IfSome (option_copied out) (IsCloneOn (hierarchy_of P.rule system.old)) }
-    requires into { IsCloneOn (hierarchy_of P.rule system.old) into.now }
+    requires out { IfSome (option_copied out) (IsCloneOn (hierarchy_of P.rule (system core.old l2.old))) }
+    requires into { IsCloneOn (hierarchy_of P.rule (system core.old l2.old)) into.now }
     requires ended { old_end ≤ now }
     requires early { now < 2 ^ 62 }
     requires near { until < 2 ^ 62 }
-    ensures hierarchy { hierarchy_of P.rule system.new ≡ hierarchy_of P.rule system.old }
-    ensures pinned { system.new.core.pinned ≡ system.old.core.pinned }
-    ensures work { (caches : Caches) → SystemStands P.stands_for system.old caches
-        → IsSwitched P.stands_for old_end now result.used system.new
-        (touched_all (hierarchy_of P.rule system.old) system.old.core.pinned caches
-        (spec.switch system.old.core.costs (layout_if (option_copied out.entry)) (layout_model into.now))) }
+    ensures hierarchy { hierarchy_of P.rule (system core.new l2.new) ≡ hierarchy_of P.rule
+        (system core.old l2.old) }
+    ensures pinned { core.new.pinned ≡ core.old.pinned }
+    ensures work { (caches : Caches) → SystemStands P.stands_for (system core.old l2.old) caches
+        → IsSwitched P.stands_for old_end now result.used (system core.new l2.new)
+        (touched_all (hierarchy_of P.rule (system core.old l2.old)) core.old.pinned caches
+        (spec.switch core.old.costs (layout_if (option_copied out.entry)) (layout_model into.now))) }
     ensures clock { result.now ≡ max (old_end + result.used) until }
-    ensures within { (caches : Caches) → SystemStands P.stands_for system.old caches
-        → IsInTime (hierarchy_of P.rule system.old) caches (layout_if (option_copied out.entry)) (layout_model into.now)
+    ensures within { (caches : Caches) → SystemStands P.stands_for (system core.old l2.old) caches
+        → IsInTime (hierarchy_of P.rule
+        (system core.old l2.old)) caches (layout_if (option_copied out.entry)) (layout_model into.now)
         into.now.shared calls old_end now until
         → result.used ≤ until - old_end }
-    ensures on_time { (caches : Caches) → SystemStands P.stands_for system.old caches
-        → IsInTime (hierarchy_of P.rule system.old) caches (layout_if (option_copied out.entry)) (layout_model into.now)
+    ensures on_time { (caches : Caches) → SystemStands P.stands_for (system core.old l2.old) caches
+        → IsInTime (hierarchy_of P.rule
+        (system core.old l2.old)) caches (layout_if (option_copied out.entry)) (layout_model into.now)
         into.now.shared calls old_end now until
         → result.now ≡ until }
-    ensures kept { (mem : Mem) (frames root : ℕ) → KeepsLeaves mem frames root system.new.core.tlb }
+    ensures kept { (mem : Mem) (frames root : ℕ) → KeepsLeaves mem frames root core.new.tlb }
     ensures later { now ≤ old_end + result.used }
     ensures few { old_end + result.used < now + 2 ^ 33 }
 {
-    let done = now + work(system, ALL_PARTS, out, into);
+    let done = now + work(core, l2, ALL_PARTS, out, into);
     Switched {
         used: done - old_end,
         now: done.max(until),
@@ -94,7 +99,8 @@ pub fn switch<P: Policy>(
 /// All times are in cycles below 2^62; `used` is 0 where the work is done before
 /// `old_end`.
 pub fn switch_off<P: Policy>(
-    system: &mut MemSystem<P>,
+    core: &mut OnCore<P>,
+    l2: &mut L2<P>,
     parts: Parts,
     out: Option<&CloneLayout>,
     into: &CloneLayout,
@@ -106,22 +112,24 @@ pub fn switch_off<P: Policy>(
     requires into { IsLayout (layout_model into.now) }
     requires early { now < 2 ^ 62 }
     requires near { until < 2 ^ 62 }
-    ensures hierarchy { hierarchy_of P.rule system.new ≡ hierarchy_of P.rule system.old }
-    ensures pinned { system.new.core.pinned ≡ system.old.core.pinned }
-    ensures work { (caches : Caches) → SystemStands P.stands_for system.old caches
-        → IsSwitched P.stands_for old_end now result.used system.new
-        (touched_all (hierarchy_of P.rule system.old) system.old.core.pinned caches
-        (spec.switch_by parts.loads parts.flushes system.old.core.costs
+    ensures hierarchy { hierarchy_of P.rule (system core.new l2.new) ≡ hierarchy_of P.rule
+        (system core.old l2.old) }
+    ensures pinned { core.new.pinned ≡ core.old.pinned }
+    ensures work { (caches : Caches) → SystemStands P.stands_for (system core.old l2.old) caches
+        → IsSwitched P.stands_for old_end now result.used (system core.new l2.new)
+        (touched_all (hierarchy_of P.rule (system core.old l2.old)) core.old.pinned caches
+        (spec.switch_by parts.loads parts.flushes core.old.costs
         (layout_if (option_copied out.entry)) (layout_model into.now))) }
-    ensures clock { (caches : Caches) → SystemStands P.stands_for system.old caches
-        → result.now ≡ max (now + (touched_all (hierarchy_of P.rule system.old) system.old.core.pinned caches
-        (spec.switch_by parts.loads parts.flushes system.old.core.costs
+    ensures clock { (caches : Caches) → SystemStands P.stands_for (system core.old l2.old) caches
+        → result.now ≡ max (now + (touched_all (hierarchy_of P.rule
+        (system core.old l2.old)) core.old.pinned caches
+        (spec.switch_by parts.loads parts.flushes core.old.costs
         (layout_if (option_copied out.entry)) (layout_model into.now))).cost) until }
-    ensures kept { (mem : Mem) (frames root : ℕ) → KeepsLeaves mem frames root system.new.core.tlb }
+    ensures kept { (mem : Mem) (frames root : ℕ) → KeepsLeaves mem frames root core.new.tlb }
     ensures later { now ≤ result.now }
     ensures few { result.now < max now until + 2 ^ 33 }
 {
-    let done = now + work(system, parts, out, into);
+    let done = now + work(core, l2, parts, out, into);
     let begins = done.max(until);
     Switched {
         used: done.saturating_sub(old_end),
@@ -133,7 +141,8 @@ pub fn switch_off<P: Policy>(
 // Answers the cycles.
 #[inline(always)]
 fn work<P: Policy>(
-    system: &mut MemSystem<P>,
+    core: &mut OnCore<P>,
+    l2: &mut L2<P>,
     parts: Parts,
     out: Option<&CloneLayout>,
     into: &CloneLayout,
@@ -141,89 +150,99 @@ fn work<P: Policy>(
     requires out { IfSome (option_copied out) (λ clone. IsLayout (layout_model clone)) }
     requires into { IsLayout (layout_model into.now) }
     ensures makes { MakesTouches P.rule P.stands_for
-        (spec.switch_by parts.loads parts.flushes system.old.core.costs
+        (spec.switch_by parts.loads parts.flushes core.old.costs
         (layout_if (option_copied out.entry)) (layout_model into.now))
-        result system.old system.new }
-    ensures kept { (mem : Mem) (frames root : ℕ) → KeepsLeaves mem frames root system.new.core.tlb }
+        result (system core.old l2.old) (system core.new l2.new) }
+    ensures kept { (mem : Mem) (frames root : ℕ) → KeepsLeaves mem frames root core.new.tlb }
     ensures few { result < 2 ^ 33 }
 {
-    let left = leave_if(system, out);
-    let loaded = prefetch_if(system, into, parts.loads);
-    let emptied = flush_if(system, parts.flushes);
-    let entered = enter(system, into);
+    let left = leave_if(core, l2, out);
+    let loaded = prefetch_if(core, l2, into, parts.loads);
+    let emptied = flush_if(core, l2, parts.flushes);
+    let entered = enter(core, l2, into);
     u64::from(left) + u64::from(loaded) + u64::from(emptied) + u64::from(entered)
 }
 
 /// Charges that a clone enters. Answers the cycles.
-pub fn enter<P: Policy>(system: &mut MemSystem<P>, layout: &CloneLayout) -> u32
+pub fn enter<P: Policy>(core: &mut OnCore<P>, l2: &mut L2<P>, layout: &CloneLayout) -> u32
     requires layout { IsLayout (layout_model layout.now) }
     ensures makes { MakesTouches P.rule P.stands_for (spec.enter (layout_model layout.now))
-        result system.old system.new }
-    ensures buffer { system.new.core.tlb ≡ system.old.core.tlb }
+        result (system core.old l2.old) (system core.new l2.new) }
+    ensures buffer { core.new.tlb ≡ core.old.tlb }
     ensures few { result ≤ most_footprint }
 {
-    charge_own(system, layout, ENTER)
+    charge_own(core, l2, layout, ENTER)
 }
 
 /// Charges that a clone leaves. Answers the cycles.
-pub fn leave<P: Policy>(system: &mut MemSystem<P>, layout: &CloneLayout) -> u32
+pub fn leave<P: Policy>(core: &mut OnCore<P>, l2: &mut L2<P>, layout: &CloneLayout) -> u32
     requires layout { IsLayout (layout_model layout.now) }
     ensures makes { MakesTouches P.rule P.stands_for
-        (spec.leave system.old.core.costs (layout_model layout.now)) result system.old system.new }
-    ensures buffer { system.new.core.tlb ≡ system.old.core.tlb }
+        (spec.leave core.old.costs (layout_model layout.now)) result (system core.old l2.old)
+        (system core.new l2.new) }
+    ensures buffer { core.new.tlb ≡ core.old.tlb }
     ensures few { result ≤ most_operation }
 {
-    let trap = system.costs().trap;
-    trap + charge_own(system, layout, LEAVE)
+    let trap = core.costs().trap;
+    trap + charge_own(core, l2, layout, LEAVE)
 }
 
 // Charges that a clone leaves, if there is one. Answers the cycles.
-fn leave_if<P: Policy>(system: &mut MemSystem<P>, out: Option<&CloneLayout>) -> u32
+fn leave_if<P: Policy>(core: &mut OnCore<P>, l2: &mut L2<P>, out: Option<&CloneLayout>) -> u32
     requires layout { IfSome (option_copied out) (λ clone. IsLayout (layout_model clone)) }
     ensures makes { MakesTouches P.rule P.stands_for
-        (spec.leave_if system.old.core.costs (layout_if (option_copied out.entry)))
-        result system.old system.new }
+        (spec.leave_if core.old.costs (layout_if (option_copied out.entry)))
+        result (system core.old l2.old) (system core.new l2.new) }
     ensures few { result ≤ most_operation }
 {
     match out {
-        Some(clone) => leave(system, clone),
+        Some(clone) => leave(core, l2, clone),
         None => 0,
     }
 }
 
 // Loads each shared line, if that is wanted. Answers the cycles.
 #[inline(always)]
-fn prefetch_if<P: Policy>(system: &mut MemSystem<P>, layout: &CloneLayout, wanted: bool) -> u32
+fn prefetch_if<P: Policy>(
+    core: &mut OnCore<P>,
+    l2: &mut L2<P>,
+    layout: &CloneLayout,
+    wanted: bool,
+) -> u32
     requires layout { IsLayout (layout_model layout.now) }
     ensures makes { MakesTouches P.rule P.stands_for
         (if wanted then prefetch (shared_region (layout_model layout.now)) else [])
-        result system.old system.new }
+        result (system core.old l2.old) (system core.new l2.new) }
     ensures few { result ≤ most_prefetch }
 {
-    if wanted { prefetch(system, layout) } else { 0 }
+    if wanted {
+        prefetch(core, l2, layout)
+    } else {
+        0
+    }
 }
 
 // Makes all on-core state fresh, or the translation buffer alone, at no cost.
 // Answers the cycles.
 #[inline(always)]
-fn flush_if<P: Policy>(system: &mut MemSystem<P>, all: bool) -> u32
+fn flush_if<P: Policy>(core: &mut OnCore<P>, l2: &mut L2<P>, all: bool) -> u32
     ensures makes { MakesTouch P.rule P.stands_for (if all then Flush else EmptyTlb)
-        result system.old system.new }
-    ensures kept { (mem : Mem) (frames root : ℕ) → KeepsLeaves mem frames root system.new.core.tlb }
+        result (system core.old l2.old) (system core.new l2.new) }
+    ensures kept { (mem : Mem) (frames root : ℕ) → KeepsLeaves mem frames root core.new.tlb }
 {
     if all {
-        system.flush()
+        core.flush(l2)
     } else {
-        system.empty_tlb();
+        core.empty_tlb();
         0
     }
 }
 
 /// Loads each shared line, ascending. Answers the cycles.
-fn prefetch<P: Policy>(system: &mut MemSystem<P>, layout: &CloneLayout) -> u32
+fn prefetch<P: Policy>(core: &mut OnCore<P>, l2: &mut L2<P>, layout: &CloneLayout) -> u32
     requires layout { IsLayout (layout_model layout.now) }
     ensures makes { MakesTouches P.rule P.stands_for (prefetch (shared_region (layout_model layout.now)))
-        result system.old system.new }
+        result (system core.old l2.old) (system core.new l2.new) }
     ensures few { result ≤ most_prefetch }
 {
     let shared = layout.shared_lines();
@@ -233,7 +252,7 @@ fn prefetch<P: Policy>(system: &mut MemSystem<P>, layout: &CloneLayout) -> u32
     while place < shared {
         // In each frame they stand side by side.
         let count = lines.min(shared - place);
-        cycles += load_run(system, layout.shared_line(place), count);
+        cycles += load_run(core, l2, layout.shared_line(place), count);
         place += count;
     }
     cycles

@@ -1,5 +1,5 @@
 -- What a second level keeps.
-use Rattle.std.specs.Prelude.{◌≡◌, ℕ, Bool, false, length, refl}
+use Rattle.std.specs.Prelude.{◌≡◌, ℕ, ◌^◌, ◌<◌, ◌≤◌, Bool, false, length, refl}
 use Rattle.std.specs.Coded.{Coded, code_by, coded×, coded_ℕ, coded_bool}
 use Rattle.set_cache.specs.Contents.{Contents, coded_contents}
 use Rattle.set_cache.specs.Lines.{IsClean}
@@ -18,8 +18,11 @@ coded_l2 {P} p =
     (λ t. record { line_size = t.0; back = t.1.0; cache = t.1.1 })
     (λ _. refl)
 
--- what is true of every second level with this many colours
-pub record IsL2 {P : Type 0} (colours : ℕ) (l2 : L2Contents P) : Type 0 where
+-- what is true of every second level whose lines have 2 to these bits of bytes, and which has this many colours
+pub record IsL2 {P : Type 0} (line_bits colours : ℕ) (l2 : L2Contents P) : Type 0 where
+  pub least : 16 ≤ l2.line_size
+  pub power : l2.line_size ≡ 2 ^ line_bits
+  pub few_bits : line_bits < 32
   pub coloured : IsColoured l2.line_size (length l2.cache.table)
   pub counted : colours ≡ colours_of l2.line_size (length l2.cache.table)
   pub clean : l2.back ≡ false → IsClean l2.cache

@@ -15,6 +15,8 @@ const FRAME_SIZE: u32 = 4096;
 #[derive(Drop)]
 pub struct L2<P: Policy> {
     line_size: u32,
+    // the line size is 2 to this
+    line_bits: u32,
     colours: u32,
     back: bool,
     cache: SetCache<P>,
@@ -29,7 +31,7 @@ impl<P: Policy> Model for L2<P> {
 
     ghost view = { λ a. record { line_size = a.line_size; back = a.back; cache = a.cache } };
 
-    ghost invariant = { λ a. IsL2 a.colours (record {
+    ghost invariant = { λ a. IsL2 a.line_bits a.colours (record {
       line_size = a.line_size;
       back = a.back;
       cache = a.cache;
@@ -44,16 +46,20 @@ impl<P: Policy> L2<P> {
       ◌<◌,
       ◌≤◌,
       ℕ,
+      true,
       false,
       length,
+      is_some,
       None,
       IfOk,
       if◌then◌else◌,
+      ◌/◌,
+      ◌^◌,
     };
     ghost use Rattle.set_cache.specs.Cache.{Sets, marked_of};
     ghost use Rattle.set_cache.specs.Contents.{StandsFor, SameShape, shape_of, kept_at};
     ghost use Rattle.set_cache.specs.Lines.{IsClean, place_in};
-    ghost use Rattle.set_cache.specs.Calls.{IsGeometry, IsNew, IsTouch};
+    ghost use Rattle.set_cache.specs.Calls.{IsGeometry, IsNew, IsTouch, TellsHit};
     ghost use Rattle.l2_colour.specs.Colours.{
       IsColoured,
       colours_of,
@@ -62,8 +68,8 @@ impl<P: Policy> L2<P> {
       colour_of_set,
     };
 
-    /// A cache of fresh sets, for lines of this many bytes. `back`: lines are
-    /// written back into it.
+    /// A cache of fresh sets, for lines of this many bytes, 16 at least. `back`:
+    /// lines are written back into it.
     ///
     /// # Errors
     ///
@@ -76,6 +82,7 @@ impl<P: Policy> L2<P> {
         ways: u32,
         back: bool,
     ) -> Result<Self, Memory>
+        requires least { 16 ≤ line_size }
         requires coloured { IsColoured line_size sets }
         requires geometry { IsGeometry (P.takes policy) sets ways }
         ensures line_size { IfOk result (λ l2. l2.line_size ≡ line_size) }
@@ -87,6 +94,7 @@ impl<P: Policy> L2<P> {
         let cache = SetCache::new(alloc, policy, sets, ways)?;
         Ok(L2 {
             line_size,
+            line_bits: line_size.trailing_zeros(),
             colours,
             back,
             cache,
@@ -106,7 +114,41 @@ impl<P: Policy> L2<P> {
             → kept_at self.new.cache.table s ≡ kept_at self.old.cache.table s }
         ensures clean { self.old.back ≡ false → result.dirty_victim ≡ false }
     {
-        self.cache.load(line.number())
+        self.cache.touch(line.number(), false)
+    }
+
+    /// Whether a line is here: a touch of it then. A look-up that misses changes
+    /// nothing.
+    #[inline(always)]
+    pub fn find(&mut self, line: Line) -> bool
+        ensures line_size { self.new.line_size ≡ self.old.line_size }
+        ensures back { self.new.back ≡ self.old.back }
+        ensures here { result ≡ is_some (place_in self.old.cache line) }
+        ensures shape { SameShape self.old.cache self.new.cache }
+        ensures found { result ≡ true
+            → TellsHit P.takes P.rule P.stands_for true line self.old.cache self.new.cache }
+        ensures missed { result ≡ false → self.new ≡ self.old }
+        ensures colour { (s : ℕ) → colour_of_set self.old.line_size s
+            ≢ colour_of_line self.old.line_size (length self.old.cache.table) line
+            → kept_at self.new.cache.table s ≡ kept_at self.old.cache.table s }
+    {
+        self.cache.find(line.number()).is_some()
+    }
+
+    /// A touch of a line that isn't here, as `touch` makes it.
+    #[inline(always)]
+    pub fn touch_absent(&mut self, line: Line) -> Touch
+        requires absent { place_in self.old.cache line ≡ None }
+        ensures line_size { self.new.line_size ≡ self.old.line_size }
+        ensures back { self.new.back ≡ self.old.back }
+        ensures touch { IsTouch P.takes P.rule P.stands_for result line false
+            self.old.cache self.new.cache }
+        ensures colour { (s : ℕ) → colour_of_set self.old.line_size s
+            ≢ colour_of_line self.old.line_size (length self.old.cache.table) line
+            → kept_at self.new.cache.table s ≡ kept_at self.old.cache.table s }
+        ensures clean { self.old.back ≡ false → result.dirty_victim ≡ false }
+    {
+        self.cache.touch_absent(line.number(), false)
     }
 
     /// A dirty line that the first level gives up: it is dirty here then, if it is
@@ -140,6 +182,24 @@ impl<P: Policy> L2<P> {
         ensures value { result ≡ self.now.back }
     {
         self.back
+    }
+
+    /// The line of an address below 2^27.
+    #[inline(always)]
+    pub fn line_of(&self, at: u32) -> Line
+        requires small { at < 2 ^ 27 }
+        ensures line { result ≡ at / self.now.line_size }
+    {
+        // A division by a number that isn't known here would cost several times this.
+        Line::new(at >> self.line_bits)
+    }
+
+    /// The number of the colour of a line's frame.
+    #[inline(always)]
+    pub fn colour_of_line(&self, line: Line) -> u32
+        ensures colour { result ≡ colour_of_line self.now.line_size (length self.now.cache.table) line }
+    {
+        line.number() / (FRAME_SIZE / self.line_size) % self.colours
     }
 
     /// The colour of a frame: its number modulo the number of colours.

@@ -1,5 +1,5 @@
 -- Look-ups: what a walk read, and the leaf words that the buffer keeps.
-use Rattle.std.proofs.Common.{arith, ◌≡◌, ◌≢◌, ◌∙◌, sym, refl, ap, subst, inl, inr, ℕ, ◌<◌, ◌≤◌, ◌/◌, ◌^◌, List, [], ◌∷◌, length, take, Some, None, Bool, false}
+use Rattle.std.proofs.Common.{arith, ◌≡◌, ◌≢◌, ◌∙◌, sym, refl, ap, subst, inl, inr, ℕ, ◌<◌, ◌≤◌, ◌/◌, ◌^◌, List, [], ◌∷◌, length, take, Some, None, false}
 use Rattle.std.specs.Prelude.{Result, Ok, Err, IfOk, is_some}
 use Rattle.std.proofs.lemmas.Bool.{cases_eq}
 use Rattle.phys_mem.specs.Mem.{Mem}

@@ -2,4 +2,3 @@ pub mod Leaves
 pub mod Touches
 pub mod WriteBacks
 pub mod TouchLaws
-pub mod LineSizes

@@ -1,11 +1,11 @@
 -- The laws of touches: colours, costs, hits, and what isn't touched.
-use Rattle.std.proofs.Common.{arith, ◌≡◌, ◌≢◌, ◌∙◌, sym, refl, ap, subst, inl, inr, ◌⊎◌, true≢false, ℕ, ◌+◌, ◌*◌, ◌/◌, ◌%◌, ◌≤◌, Bool, true, false, List, [], ◌∷◌, length, Option, Some, None, get_or, set}
+use Rattle.std.proofs.Common.{arith, ◌≡◌, ◌≢◌, ◌∙◌, sym, refl, ap, subst, inl, inr, ◌⊎◌, true≢false, ℕ, ◌+◌, ◌*◌, ◌%◌, ◌≤◌, Bool, true, false, List, [], ◌∷◌, length, Option, Some, None, get_or, set}
 use Rattle.std.specs.Prelude.{◌==◌, ◌&&◌, not, if◌then◌else◌, All, ◌++◌, map, is_some, option_map, slice_index, slice_index_or}
 use Rattle.std.proofs.lemmas.List.{get_or-set_other}
 use Rattle.std.proofs.lemmas.List.Elements.{All-nil, All-cons, All-head, All-tail, All-append, All-map}
 use Rattle.tp_base.specs.Table.{at-put_other}
 use Rattle.set_cache.specs.Rule.{Rule}
-use Rattle.set_cache.specs.Cache.{Sets, CacheSet, Shape, fresh_set, set_at, step_of, step_by, way_of, touch_of, place_of, marked_of, dirty_lines, EachDirty}
+use Rattle.set_cache.specs.Cache.{Sets, CacheSet, Shape, fresh_set, set_at, step_of, step_by, way_of, touch_of, place_of, dirty_lines, EachDirty}
 use Rattle.set_cache.proofs.Dirty.{dirty_victim_fits, dirty_lines_fit, set_at-marked_other}
 use Rattle.l2_colour.specs.Colours.{IsColoured, colour_of_set}
 use Rattle.l2_colour.proofs.Rows.{line_in_colour}

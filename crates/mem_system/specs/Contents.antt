@@ -1,13 +1,11 @@
 -- What the code keeps, the hierarchy that it is, and the caches that it stands for.
-use Rattle.std.specs.Prelude.{◌≡◌, ℕ, ◌^◌, ◌<◌, ◌≤◌, Bool, List, Option, length, refl}
+use Rattle.std.specs.Prelude.{◌≡◌, ℕ, Bool, List, Option, refl}
 use Rattle.std.specs.Coded.{Coded, code_by, coded×, coded_ℕ, coded_bool, coded_list, coded_option}
 use Rattle.set_cache.specs.Rule.{Rule}
-use Rattle.set_cache.specs.Cache.{CacheStep}
 use Rattle.set_cache.specs.Contents.{Contents, StandsFor, coded_contents, shape_of}
 use Rattle.tlb_model.specs.Buffer.{Buffer, coded_buffer}
 use Rattle.branch_pred.specs.Guesses.{Guesses, sizes_of}
 use Rattle.branch_pred.specs.declared.Jump.{Jump}
-use Rattle.l2_colour.specs.Colours.{IsColoured, colours_of}
 use Rattle.l2_colour.specs.Contents.{L2Contents, coded_l2}
 use Rattle.cycle_cost.specs.Costs.{CostTable, ProductCosts}
 use Rattle.mem_system.specs.Hierarchy.{Hierarchy}
@@ -26,15 +24,6 @@ pub record CoreContents (P : Type 0) : Type 0 where
 pub record SystemContents (P : Type 0) : Type 0 where
   pub core : CoreContents P
   pub l2 : L2Contents P
-
--- what is true of a second level with these sizes
-pub record IsSecondLevel {P : Type 0} (line_size line_bits colours : ℕ) (l2 : L2Contents P) : Type 0 where
-  pub kept : line_size ≡ l2.line_size
-  pub least : 16 ≤ line_size
-  pub power : line_size ≡ 2 ^ line_bits
-  pub few : line_bits < 32
-  pub coloured : IsColoured line_size (length l2.cache.table)
-  pub counted : colours ≡ colours_of line_size (length l2.cache.table)
 
 -- a core over a second level
 abbrev pub system : {P : Type 0} → CoreContents P → L2Contents P → SystemContents P

@@ -9,11 +9,9 @@
 mod geometry;
 mod laws;
 mod on_core;
-mod second_level;
 mod system;
 
 pub use geometry::{CacheGeometry, Geometry};
 pub use laws::{colours_keep_apart, costs_are_the_tables, hits_cost_least, the_untouched_stays};
 pub use on_core::{OnCore, Translated};
-pub use second_level::SecondLevel;
-pub use system::MemSystem;
+pub use system::{MemSystem, new_parts};

@@ -5,10 +5,11 @@ ghost use Rattle.sv32_walk.specs.PageTableEntry.{ppn};
 ghost use Rattle.sv32_walk.specs.KeptLeaf.{end_at};
 ghost use Rattle.mem_system.specs.Translation.{address_in, translated};
 
-use crate::{CacheGeometry, SecondLevel};
+use crate::CacheGeometry;
 use branch_pred::{Predictor, Sizes};
 use cycle_cost::{Costs, ProductCosts};
 use l1_cache::{L1D, L1I};
+use l2_colour::L2;
 use phys_mem::PhysMem;
 use set_cache::{Policy, Touch};
 use std::alloc::Global;
@@ -90,6 +91,7 @@ impl<P: Policy> OnCore<P> {
     ghost use Rattle.sv32_walk.specs.Walk.{walk};
     ghost use Rattle.set_cache.specs.Cache.{Sets, place_of, dirty_lines};
     ghost use Rattle.set_cache.specs.Contents.{StandsFor, shape_of};
+    ghost use Rattle.set_cache.specs.Lines.{place_in};
     ghost use Rattle.l2_colour.specs.Contents.{L2Contents};
     ghost use Rattle.tlb_model.specs.Buffer.{leaf_of};
     ghost use Rattle.mem_system.specs.Cost.{
@@ -179,16 +181,16 @@ impl<P: Policy> OnCore<P> {
     /// Whether a line counts as always there at the second level.
     #[tactic(auto, unfolding(crate::specs::Hierarchy::colour_of_line))]
     #[inline(always)]
-    fn is_pinned(&self, l2: &SecondLevel<P>, line: Line) -> bool
+    fn is_pinned(&self, l2: &L2<P>, line: Line) -> bool
         ensures value { result
             ≡ is_pinned (hierarchy_of P.rule (system self.now l2.now)) self.now.pinned line }
     {
-        self.pinned && l2.colour_of(line) == 0
+        self.pinned && l2.colour_of_line(line) == 0
     }
 
     /// The cost of a read of a line at the second level.
     #[tactic(auto, unfolding(crate::specs::Cost::below, crate::specs::Cost::below_if, crate::specs::Cost::below_by, crate::specs::Cost::missed_cost))]
-    fn below(&self, l2: &mut SecondLevel<P>, line: Line) -> u32
+    fn below(&self, l2: &mut L2<P>, line: Line) -> u32
         ensures same { hierarchy_of P.rule (system self.now l2.new)
             ≡ hierarchy_of P.rule (system self.now l2.old) }
         ensures few { result ≤ most_read }
@@ -196,13 +198,27 @@ impl<P: Policy> OnCore<P> {
             → BelowSteps P.stands_for result l2.new
             (below (hierarchy_of P.rule (system self.now l2.old)) self.now.pinned sets (Read line)) }
     {
-        if self.is_pinned(l2, line) {
+        if self.is_pinned(l2, line) || l2.find(line) {
             return self.costs.l2;
         }
-        let found = l2.touch(line);
-        if found.hit {
-            return self.costs.l2;
-        }
+        self.below_absent(l2, line)
+    }
+
+    /// The cost of a read of a line that the second level doesn't hold. It is worked
+    /// apart, so that a read of one that it holds saves no registers for it.
+    #[tactic(auto, unfolding(crate::specs::Cost::below, crate::specs::Cost::below_if, crate::specs::Cost::below_by, crate::specs::Cost::missed_cost))]
+    #[inline(never)]
+    fn below_absent(&self, l2: &mut L2<P>, line: Line) -> u32
+        requires absent { place_in l2.old.cache line ≡ None }
+        requires counts { is_pinned (hierarchy_of P.rule (system self.now l2.old)) self.now.pinned line ≡ false }
+        ensures same { hierarchy_of P.rule (system self.now l2.new)
+            ≡ hierarchy_of P.rule (system self.now l2.old) }
+        ensures few { result ≤ most_read }
+        ensures steps { (sets : Sets) → StandsFor P.stands_for l2.old.cache sets
+            → BelowSteps P.stands_for result l2.new
+            (below (hierarchy_of P.rule (system self.now l2.old)) self.now.pinned sets (Read line)) }
+    {
+        let found = l2.touch_absent(line);
         if found.dirty_victim {
             return self.costs.l2 + self.costs.mem + self.costs.wb;
         }
@@ -212,14 +228,30 @@ impl<P: Policy> OnCore<P> {
     /// The write-back of a dirty line that the core gives up.
     #[tactic(auto, unfolding(crate::specs::Cost::below))]
     #[inline(always)]
-    fn write_back(&self, l2: &mut SecondLevel<P>, line: Line)
+    fn write_back(&self, l2: &mut L2<P>, line: Line)
         ensures same { hierarchy_of P.rule (system self.now l2.new)
             ≡ hierarchy_of P.rule (system self.now l2.old) }
         ensures steps { (sets : Sets) → StandsFor P.stands_for l2.old.cache sets
             → BelowSteps P.stands_for 0 l2.new
             (below (hierarchy_of P.rule (system self.now l2.old)) self.now.pinned sets (WriteBack line)) }
     {
-        if l2.back() && !self.is_pinned(l2, line) {
+        // The rest is worked apart, so that a touch saves no registers for it.
+        if l2.back() {
+            self.mark_below(l2, line);
+        }
+    }
+
+    /// The write-back of a dirty line into a second level that takes them.
+    #[tactic(auto, unfolding(crate::specs::Cost::below))]
+    #[inline(never)]
+    fn mark_below(&self, l2: &mut L2<P>, line: Line)
+        ensures same { hierarchy_of P.rule (system self.now l2.new)
+            ≡ hierarchy_of P.rule (system self.now l2.old) }
+        ensures steps { (sets : Sets) → StandsFor P.stands_for l2.old.cache sets
+            → BelowSteps P.stands_for 0 l2.new
+            (below (hierarchy_of P.rule (system self.now l2.old)) self.now.pinned sets (WriteBack line)) }
+    {
+        if !self.is_pinned(l2, line) {
             l2.write_back(line);
         }
     }
@@ -227,7 +259,7 @@ impl<P: Policy> OnCore<P> {
     /// The cost of what a touch of the first level gave up, which is written back if it is dirty.
     #[tactic(auto, unfolding(crate::specs::Cost::below_all))]
     #[inline(always)]
-    fn give_up(&self, l2: &mut SecondLevel<P>, found: Touch) -> u32
+    fn give_up(&self, l2: &mut L2<P>, found: Touch) -> u32
         requires fits { (victim : ℕ) → found.victim ≡ Some victim → IsLine victim }
         ensures same { hierarchy_of P.rule (system self.now l2.new)
             ≡ hierarchy_of P.rule (system self.now l2.old) }
@@ -250,7 +282,7 @@ impl<P: Policy> OnCore<P> {
     /// The cost of a fetch from a line.
     #[tactic(auto, unfolding(crate::specs::Cost::touched, crate::specs::Cost::on_core, crate::specs::Cost::fetched, crate::specs::Cost::pass_on, crate::specs::Cost::below_all))]
     #[inline(always)]
-    pub fn fetch(&mut self, l2: &mut SecondLevel<P>, line: Line) -> u32
+    pub fn fetch(&mut self, l2: &mut L2<P>, line: Line) -> u32
         ensures few { result ≤ most_fetch }
         ensures makes { MakesTouch P.rule P.stands_for (Fetch line) result
             (system self.old l2.old) (system self.new l2.new) }
@@ -265,7 +297,7 @@ impl<P: Policy> OnCore<P> {
     /// The cost of a load from a line, or of a store to it.
     #[tactic(auto, unfolding(crate::specs::Cost::touched, crate::specs::Cost::on_core, crate::specs::Cost::accessed, crate::specs::Cost::pass_on, crate::specs::Cost::below_all))]
     #[inline(always)]
-    pub fn access(&mut self, l2: &mut SecondLevel<P>, line: Line, store: bool) -> u32
+    pub fn access(&mut self, l2: &mut L2<P>, line: Line, store: bool) -> u32
         ensures few { result ≤ most_access }
         ensures makes { MakesTouch P.rule P.stands_for (if store then Store line else Load line) result
             (system self.old l2.old) (system self.new l2.new) }
@@ -286,7 +318,7 @@ impl<P: Policy> OnCore<P> {
 
     /// The cost of a walk's read of an entry in a line.
     #[tactic(auto, unfolding(crate::specs::Cost::touched, crate::specs::Cost::on_core, crate::specs::Cost::pass_on, crate::specs::Cost::below_all))]
-    pub fn walk_read(&self, l2: &mut SecondLevel<P>, line: Line) -> u32
+    pub fn walk_read(&self, l2: &mut L2<P>, line: Line) -> u32
         ensures few { result ≤ most_read }
         ensures makes { MakesTouch P.rule P.stands_for (WalkRead line) result
             (system self.now l2.old) (system self.now l2.new) }
@@ -342,7 +374,7 @@ impl<P: Policy> OnCore<P> {
     /// Makes everything on the core fresh, after the dirty lines are written
     /// back; the cost of it.
     #[tactic(auto, unfolding(crate::specs::Cost::touched, crate::specs::Cost::on_core, crate::specs::Cost::flushed, crate::specs::Cost::fresh_core, crate::specs::Cost::pass_on))]
-    pub fn flush(&mut self, l2: &mut SecondLevel<P>) -> u32
+    pub fn flush(&mut self, l2: &mut L2<P>) -> u32
         ensures kept { (mem : Mem) (frames root : ℕ) → KeepsLeaves mem frames root self.new.tlb }
         ensures makes { MakesTouch P.rule P.stands_for Flush result
             (system self.old l2.old) (system self.new l2.new) }
@@ -356,7 +388,7 @@ impl<P: Policy> OnCore<P> {
     }
 
     /// The write-back of each dirty line, in the order of their places.
-    fn write_all_back(&self, l2: &mut SecondLevel<P>)
+    fn write_all_back(&self, l2: &mut L2<P>)
         ensures same { hierarchy_of P.rule (system self.now l2.new)
             ≡ hierarchy_of P.rule (system self.now l2.old) }
         ensures steps { (caches : Caches) → SystemStands P.stands_for (system self.now l2.old) caches
@@ -381,7 +413,7 @@ impl<P: Policy> OnCore<P> {
 
     /// The cost of the reads that a walk made.
     #[tactic(auto, unfolding(crate::specs::Cost::below_all, crate::specs::Translation::lines_of))]
-    fn read_entries(&self, l2: &mut SecondLevel<P>, walked: &Walked) -> u32
+    fn read_entries(&self, l2: &mut L2<P>, walked: &Walked) -> u32
         requires two { walked.now.count ≤ 2 }
         requires small { (i : ℕ) → i < walked.now.count → slice_index walked.now.reads i < 2 ^ 27 }
         ensures same { hierarchy_of P.rule (system self.now l2.new)
@@ -408,7 +440,7 @@ impl<P: Policy> OnCore<P> {
     #[inline(never)]
     fn walk_and_fill(
         &mut self,
-        l2: &mut SecondLevel<P>,
+        l2: &mut L2<P>,
         mem: &PhysMem,
         root: u32,
         va: u32,
@@ -450,7 +482,7 @@ impl<P: Policy> OnCore<P> {
     #[inline(always)]
     fn missed(
         &mut self,
-        l2: &mut SecondLevel<P>,
+        l2: &mut L2<P>,
         mem: &PhysMem,
         root: u32,
         va: u32,
@@ -485,7 +517,7 @@ impl<P: Policy> OnCore<P> {
     #[inline(always)]
     pub fn translate(
         &mut self,
-        l2: &mut SecondLevel<P>,
+        l2: &mut L2<P>,
         mem: &PhysMem,
         root: u32,
         va: u32,

@@ -1,6 +1,14 @@
 // A core over a second level of its own.
-use crate::{Geometry, OnCore, SecondLevel, Translated};
+ghost use Rattle.std.specs.Prelude.{◌≡◌, ℕ, IfOk};
+ghost use Rattle.phys_mem.specs.Mem.{Mem};
+ghost use Rattle.mem_system.specs.Cost.{cold};
+ghost use Rattle.mem_system.specs.Contents.{system, SystemStands, hierarchy_of};
+ghost use Rattle.mem_system.specs.Geometry.{IsGeometry, hierarchy_by};
+ghost use Rattle.mem_system.specs.Translation.{KeepsLeaves};
+
+use crate::{CacheGeometry, Geometry, OnCore, Translated};
 use cycle_cost::{Costs, ProductCosts};
+use l2_colour::L2;
 use phys_mem::PhysMem;
 use set_cache::Policy;
 use std::alloc::Global;
@@ -13,7 +21,7 @@ use tp_base::{Line, Memory};
 #[derive(Drop)]
 pub struct MemSystem<P: Policy> {
     core: OnCore<P>,
-    l2: SecondLevel<P>,
+    l2: L2<P>,
 }
 
 impl<P: Policy> Model for MemSystem<P> {
@@ -44,7 +52,6 @@ impl<P: Policy> MemSystem<P> {
     /// # Errors
     ///
     /// `Memory`, where memory ran out.
-    #[tactic(auto, unfolding(crate::specs::Cost::cold, crate::specs::Cost::fresh_core))]
     pub fn new(
         alloc: Global,
         geometry: Geometry<P>,
@@ -61,19 +68,8 @@ impl<P: Policy> MemSystem<P> {
         ensures kept { IfOk result (λ system.
             (mem : Mem) (frames root : ℕ) → KeepsLeaves mem frames root system.core.tlb) }
     {
-        let Geometry {
-            line_size,
-            back,
-            predictor,
-            l1i,
-            l1d,
-            l2,
-            tlb,
-        } = geometry;
-        Ok(MemSystem {
-            core: OnCore::new(alloc, predictor, l1i, l1d, tlb, costs, products, pinned)?,
-            l2: SecondLevel::new(alloc, line_size, l2, back)?,
-        })
+        let (core, l2) = new_parts(alloc, geometry, costs, products, pinned)?;
+        Ok(MemSystem { core, l2 })
     }
 
     /// A fetch from a line.
@@ -192,4 +188,41 @@ impl<P: Policy> MemSystem<P> {
     {
         self.core.products()
     }
+}
+
+/// A core and a second level under it that hold nothing, as `MemSystem::new` has them.
+///
+/// # Errors
+///
+/// `Memory`, where memory ran out.
+#[tactic(auto, unfolding(crate::specs::Cost::cold, crate::specs::Cost::fresh_core))]
+pub fn new_parts<P: Policy>(
+    alloc: Global,
+    geometry: Geometry<P>,
+    costs: Costs,
+    products: Option<ProductCosts>,
+    pinned: bool,
+) -> Result<(OnCore<P>, L2<P>), Memory>
+    requires geometry { IsGeometry P.takes geometry }
+    ensures hierarchy { IfOk result (λ made. hierarchy_of P.rule (system made.0 made.1)
+        ≡ hierarchy_by P.rule geometry costs products) }
+    ensures pinned { IfOk result (λ made. made.0.pinned ≡ pinned) }
+    ensures cold { IfOk result (λ made. SystemStands P.stands_for (system made.0 made.1)
+        (cold (hierarchy_by P.rule geometry costs products))) }
+    ensures kept { IfOk result (λ made.
+        (mem : Mem) (frames root : ℕ) → KeepsLeaves mem frames root made.0.tlb) }
+{
+    let Geometry {
+        line_size,
+        back,
+        predictor,
+        l1i,
+        l1d,
+        l2,
+        tlb,
+    } = geometry;
+    let CacheGeometry { policy, sets, ways } = l2;
+    let core = OnCore::new(alloc, predictor, l1i, l1d, tlb, costs, products, pinned)?;
+    let l2 = L2::new(alloc, line_size, policy, sets, ways, back)?;
+    Ok((core, l2))
 }

@@ -4,7 +4,7 @@ ghost use Rattle.std.specs.Prelude.{◌≡◌};
 ghost use Rattle.kernel_clone.specs.Footprints.{IsLayout};
 ghost use Rattle.kernel_clone.specs.Models.{layout_model};
 
-use crate::hierarchies::small;
+use crate::hierarchies::small_parts;
 use domain_switch::{Switched, charge, switch};
 use kernel_clone::{BAD_CALL, CloneLayout, EVERY_CALL, Work};
 use repl_policy::AnyPolicy;
@@ -31,11 +31,12 @@ fn red() -> CloneLayout
 
 // The boot, and a switch from the clone to itself at once.
 fn two_switches(alloc: Global, policy: AnyPolicy) -> Result<(Switched, Switched), Memory> {
-    let mut system = small(alloc, policy, false, false)?;
+    let (mut core, mut l2) = small_parts(alloc, policy)?;
     let clone = red();
-    let boot = switch(&mut system, None, &clone, 0, 0, 6150, EVERY_CALL);
+    let boot = switch(&mut core, &mut l2, None, &clone, 0, 0, 6150, EVERY_CALL);
     let again = switch(
-        &mut system,
+        &mut core,
+        &mut l2,
         Some(&clone),
         &clone,
         6150,
@@ -48,13 +49,13 @@ fn two_switches(alloc: Global, policy: AnyPolicy) -> Result<(Switched, Switched)
 
 // A boot that begins late and is done past the next start.
 fn late_boot(alloc: Global) -> Result<Switched, Memory> {
-    let mut system = small(alloc, AnyPolicy::Lru, false, false)?;
-    Ok(switch(&mut system, None, &red(), 100, 150, 200, EVERY_CALL))
+    let (mut core, mut l2) = small_parts(alloc, AnyPolicy::Lru)?;
+    Ok(switch(&mut core, &mut l2, None, &red(), 100, 150, 200, EVERY_CALL))
 }
 
 // A call that is none, twice.
 fn two_charges(alloc: Global) -> Result<(u32, u32), Memory> {
-    let mut system = small(alloc, AnyPolicy::Lru, false, false)?;
+    let (mut core, mut l2) = small_parts(alloc, AnyPolicy::Lru)?;
     let clone = red();
     let work = Work {
         op: BAD_CALL,
@@ -62,8 +63,8 @@ fn two_charges(alloc: Global) -> Result<(u32, u32), Memory> {
         count: 0,
         entries: [0; 64],
     };
-    let first = charge(&mut system, &clone, &work);
-    Ok((first, charge(&mut system, &clone, &work)))
+    let first = charge(&mut core, &mut l2, &clone, &work);
+    Ok((first, charge(&mut core, &mut l2, &clone, &work)))
 }
 
 fn took(rt: &impl Abort, switched: Switched, used: u64, now: u64) {

@@ -1,9 +1,12 @@
 // The hierarchies of the tests.
 ghost use Rattle.std.specs.Prelude.{◌≡◌, IfOk};
+ghost use Rattle.repl_policy.specs.Members.{any_takes};
+ghost use Rattle.mem_system.specs.Geometry.{IsGeometry};
 
 use branch_pred::Sizes;
 use cycle_cost::Costs;
-use mem_system::{CacheGeometry, Geometry, MemSystem};
+use l2_colour::L2;
+use mem_system::{CacheGeometry, Geometry, MemSystem, OnCore, new_parts};
 use repl_policy::AnyPolicy;
 use std::alloc::Global;
 use tp_base::Memory;
@@ -29,15 +32,11 @@ fn cache(policy: AnyPolicy, sets: u32, ways: u32) -> CacheGeometry<AnyPolicy>
 }
 
 // Lines of 64 bytes, 4 colours.
-pub fn small(
-    alloc: Global,
-    policy: AnyPolicy,
-    pinned: bool,
-    back: bool,
-) -> Result<MemSystem<AnyPolicy>, Memory>
-    ensures line { IfOk result (λ system. system.l2.line_size ≡ 64) }
+fn small_geometry(policy: AnyPolicy, back: bool) -> Geometry<AnyPolicy>
+    ensures sound { IsGeometry any_takes result }
+    ensures line { result.line_size ≡ 64 }
 {
-    let geometry = Geometry {
+    Geometry {
         line_size: 64,
         back,
         predictor: Sizes {
@@ -49,8 +48,26 @@ pub fn small(
         l1d: cache(policy, 16, 2),
         l2: cache(policy, 256, 4),
         tlb: cache(policy, 4, 2),
-    };
-    MemSystem::new(alloc, geometry, COSTS, None, pinned)
+    }
+}
+
+pub fn small(
+    alloc: Global,
+    policy: AnyPolicy,
+    pinned: bool,
+    back: bool,
+) -> Result<MemSystem<AnyPolicy>, Memory> {
+    MemSystem::new(alloc, small_geometry(policy, back), COSTS, None, pinned)
+}
+
+// The same as a core and a second level, without `back`.
+pub fn small_parts(
+    alloc: Global,
+    policy: AnyPolicy,
+) -> Result<(OnCore<AnyPolicy>, L2<AnyPolicy>), Memory>
+    ensures line { IfOk result (λ made. made.1.line_size ≡ 64) }
+{
+    new_parts(alloc, small_geometry(policy, false), COSTS, None, false)
 }
 
 // The largest of each number.

@@ -289,30 +289,16 @@ impl<P: Policy> SetCache<P> {
         Some(self.hit(set, way, number, false))
     }
 
-    /// A touch of a line that is no store.
-    ///
-    /// A miss is worked apart, so that a hit saves no registers for it: of use
-    /// where most lines are here.
+    /// A touch of a line that isn't here. Beside `find` it lets a caller work a miss
+    /// apart, so that a hit saves no registers for it.
     #[inline(always)]
-    pub fn load(&mut self, number: u32) -> Touch
-        ensures touch { IsTouch P.takes P.rule P.stands_for result number false self.old self.new }
-        ensures epoch { self.new.epoch ≡ self.old.epoch }
-    {
-        if self.find(number).is_some() {
-            return HIT;
-        }
-        self.load_absent(number)
-    }
-
-    /// A touch of a line that isn't here, which is no store.
-    #[inline(never)]
-    fn load_absent(&mut self, number: u32) -> Touch
+    pub fn touch_absent(&mut self, number: u32, store: bool) -> Touch
         requires absent { place_in self.old number ≡ None }
-        ensures touch { IsTouch P.takes P.rule P.stands_for result number false self.old self.new }
+        ensures touch { IsTouch P.takes P.rule P.stands_for result number store self.old self.new }
         ensures epoch { self.new.epoch ≡ self.old.epoch }
     {
         let set = set_of(number, self.packed.count() as u32);
-        self.fill(set, number, false)
+        self.fill(set, number, store)
     }
 
     /// Marks a line that is here, and touches nothing: its set's policy state stays.

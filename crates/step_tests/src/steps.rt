@@ -6,7 +6,7 @@ ghost use Rattle.phys_mem.specs.Mem.{Mem};
 ghost use Rattle.repl_policy.specs.Orders.{lru_rule};
 ghost use Rattle.repl_policy.specs.Packed.{Packs};
 ghost use Rattle.mem_system.specs.Cost.{cold};
-ghost use Rattle.mem_system.specs.Contents.{SystemStands, hierarchy_of};
+ghost use Rattle.mem_system.specs.Contents.{system, SystemStands, hierarchy_of};
 ghost use Rattle.mem_system.specs.Translation.{KeepsLeaves};
 ghost use Rattle.hardware_check.specs.Models.{hardware_model, shape_model};
 ghost use Rattle.hardware_check.specs.declared.hardware.Policy.TheVariants as policy;
@@ -21,7 +21,8 @@ use hardware_check::CacheShape;
 use image_check::Hardware;
 use kernel_call::Domain;
 use machine_tests::images::{accepted, hex_of};
-use mem_system::{CacheGeometry, Geometry, MemSystem};
+use l2_colour::L2;
+use mem_system::{CacheGeometry, Geometry, OnCore, new_parts};
 use phys_mem::PhysMem;
 use repl_policy::Lru;
 use set_cache::Policy;
@@ -87,15 +88,15 @@ fn cache(sets: u32, ways: u32) -> CacheGeometry<Lru>
 }
 
 #[tactic(auto, unfolding(world_view::specs::Cost::hierarchy))]
-fn system_of(alloc: Global, hardware: &Hardware) -> Result<Option<MemSystem<Lru>>, Memory>
-    ensures levels { IfOk result (λ made. IfSome made (λ system.
-        hierarchy (hardware_model hardware.now) ≡ hierarchy_of (λ _. lru_rule) system)) }
-    ensures pinned { IfOk result (λ made. IfSome made (λ system. system.core.pinned ≡ false)) }
-    ensures cold { IfOk result (λ made. IfSome made (λ system.
-        SystemStands (λ _ ways state list. Packs ways state list) system
+fn parts_of(alloc: Global, hardware: &Hardware) -> Result<Option<(OnCore<Lru>, L2<Lru>)>, Memory>
+    ensures levels { IfOk result (λ made. IfSome made (λ parts.
+        hierarchy (hardware_model hardware.now) ≡ hierarchy_of (λ _. lru_rule) (system parts.0 parts.1))) }
+    ensures pinned { IfOk result (λ made. IfSome made (λ parts. parts.0.pinned ≡ false)) }
+    ensures cold { IfOk result (λ made. IfSome made (λ parts.
+        SystemStands (λ _ ways state list. Packs ways state list) (system parts.0 parts.1)
         (cold (hierarchy (hardware_model hardware.now))))) }
-    ensures kept { IfOk result (λ made. IfSome made (λ system.
-        (mem : Mem) (frames root : ℕ) → KeepsLeaves mem frames root system.core.tlb)) }
+    ensures kept { IfOk result (λ made. IfSome made (λ parts.
+        (mem : Mem) (frames root : ℕ) → KeepsLeaves mem frames root parts.0.tlb)) }
 {
     if hardware.line != 64 || hardware.predictor != 16 {
         return Ok(None);
@@ -122,7 +123,8 @@ fn system_of(alloc: Global, hardware: &Hardware) -> Result<Option<MemSystem<Lru>
         l2: cache(256, 4),
         tlb: cache(4, 2),
     };
-    Ok(Some(MemSystem::new(alloc, geometry, hardware.costs, hardware.muldiv, false)?))
+    let parts = new_parts(alloc, geometry, hardware.costs, hardware.muldiv, false)?;
+    Ok(Some(parts))
 }
 
 // ---- steps
@@ -133,17 +135,18 @@ const LEFT: u64 = 10_000;
 // What four steps cost from clock 0 on, each with so many cycles left of its slot.
 fn four_steps<P: Policy>(
     memory: &mut PhysMem,
-    system: &mut MemSystem<P>,
+    core: &mut OnCore<P>,
+    l2: &mut L2<P>,
     domain: &mut Domain,
 ) -> [u64; 4]
     requires frames { memory.old.frames ≤ 2 ^ 15 }
-    requires runs { Runs P.rule P.stands_for memory.old domain.old system.old 0 }
+    requires runs { Runs P.rule P.stands_for memory.old domain.old (system core.old l2.old) 0 }
     requires few { CountsUpTo 0 domain.old }
 {
-    let first = step(memory, system, domain, 0, LEFT);
-    let second = step(memory, system, domain, first, first + LEFT);
-    let third = step(memory, system, domain, second, second + LEFT);
-    let fourth = step(memory, system, domain, third, third + LEFT);
+    let first = step(memory, core, l2, domain, 0, LEFT);
+    let second = step(memory, core, l2, domain, first, first + LEFT);
+    let third = step(memory, core, l2, domain, second, second + LEFT);
+    let fourth = step(memory, core, l2, domain, third, third + LEFT);
     [first, second - first, third - second, fourth - third]
 }
 
@@ -180,10 +183,10 @@ fn costs(alloc: Global, program: &[u32], moments: &str) -> Result<Option<Events>
     let mut memory = PhysMem::new(alloc, public.hardware.frames)?;
     let mut domains = open_all(alloc, &image, &mut memory)?;
     load_pages(&image, domains.as_slice(), &mut memory);
-    let Some(mut system) = system_of(alloc, &public.hardware)? else {
+    let Some((mut core, mut l2)) = parts_of(alloc, &public.hardware)? else {
         return Ok(None);
     };
-    let costs = four_steps(&mut memory, &mut system, &mut domains[0]);
+    let costs = four_steps(&mut memory, &mut core, &mut l2, &mut domains[0]);
     Ok(Some(told(&domains[0], costs)))
 }
 

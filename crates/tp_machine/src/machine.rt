@@ -1,5 +1,6 @@
 // The whole machine: all domains, one slot after another.
 ghost use Rattle.std.specs.Prelude.{◌≡◌, ◌≤◌};
+ghost use Rattle.mem_system.specs.Contents.{system};
 ghost use Rattle.image_check.specs.Image.{image_from};
 ghost use Rattle.image_check.specs.Laws.{Runnable};
 ghost use Rattle.tp_machine.specs.Propositions.{stands_prop};
@@ -9,7 +10,8 @@ mod run;
 
 use image_check::Checked;
 use kernel_call::Domain;
-use mem_system::MemSystem;
+use l2_colour::L2;
+use mem_system::OnCore;
 use phys_mem::PhysMem;
 use repl_policy::AnyPolicy;
 use world_view::Used;
@@ -23,7 +25,8 @@ pub struct Machine<'a> {
     /// How many slots have run.
     pub slots: u32,
     memory: PhysMem,
-    system: MemSystem<AnyPolicy>,
+    core: OnCore<AnyPolicy>,
+    l2: L2<AnyPolicy>,
     domains: Vec<Domain>,
     /// By entry of the schedule.
     used: Vec<Used>,
@@ -31,10 +34,10 @@ pub struct Machine<'a> {
     clock: u64,
     ghost accepted: { Runnable (image_from image.now) },
     ghost stands: { StandsFor (image_from image.now) slots
-        (kept memory system domains.items used.items clock) } by { stands_prop (image_from image.now) slots
-            (kept memory system domains.items used.items clock) },
+        (kept memory (system core l2) domains.items used.items clock) } by { stands_prop (image_from image.now) slots
+            (kept memory (system core l2) domains.items used.items clock) },
     ghost facts: { ∥ HaveFacts (image_from image.now) slots
-        (kept memory system domains.items used.items clock) ∥₁ },
+        (kept memory (system core l2) domains.items used.items clock) ∥₁ },
     ghost resident: { StaysResident (image_from image.now) slots },
-    ghost in_bounds: { IsInBounds slots (kept memory system domains.items used.items clock) },
+    ghost in_bounds: { IsInBounds slots (kept memory (system core l2) domains.items used.items clock) },
 }

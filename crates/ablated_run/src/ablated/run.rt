@@ -6,7 +6,7 @@ use domain_switch::switch_off;
 use guards::Guard;
 use image_check::Checked;
 use kernel_clone::CloneLayout;
-use mem_system::MemSystem;
+use mem_system::new_parts;
 use phys_mem::PhysMem;
 use std::alloc::Global;
 use tp_base::Memory;
@@ -37,7 +37,7 @@ impl<'a> Ablated<'a> {
         image.runnable();
         let public = image.public();
         let geometry = geometry_off(off, &public.hardware);
-        let system = MemSystem::new(
+        let (core, l2) = new_parts(
             alloc,
             geometry,
             public.hardware.costs,
@@ -54,7 +54,8 @@ impl<'a> Ablated<'a> {
             off,
             slots: 0,
             memory,
-            system,
+            core,
+            l2,
             domains,
             used,
             clock: 0,
@@ -75,7 +76,8 @@ impl<'a> Ablated<'a> {
         let out = self.outgoing();
         let d = usize::from(entry.domain);
         let switched = switch_off(
-            &mut self.system,
+            &mut self.core,
+            &mut self.l2,
             parts_off(self.off),
             out.as_ref(),
             &self.domains[d].layout,
@@ -89,7 +91,8 @@ impl<'a> Ablated<'a> {
         self.clock = slot_off(
             self.off,
             &mut self.memory,
-            &mut self.system,
+            &mut self.core,
+            &mut self.l2,
             self.domains.as_mut_slice(),
             d,
             switched.now,

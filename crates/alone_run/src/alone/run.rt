@@ -4,7 +4,7 @@ use domain_open::{load_domain, open_domain};
 use domain_step::stretch;
 use domain_switch::{enter, leave};
 use image_check::{Own, Public};
-use mem_system::MemSystem;
+use mem_system::new_parts;
 use phys_mem::PhysMem;
 use std::alloc::Global;
 use tp_base::Memory;
@@ -32,7 +32,7 @@ impl<'a> Alone<'a> {
     {
         let hardware = &public.hardware;
         let geometry = geometry_of(hardware);
-        let system = MemSystem::new(alloc, geometry, hardware.costs, hardware.muldiv, true)?;
+        let (core, l2) = new_parts(alloc, geometry, hardware.costs, hardware.muldiv, true)?;
         let mut memory = PhysMem::new(alloc, hardware.frames)?;
         let share = share_of(alloc, hardware, own)?;
         let domain = open_domain(alloc, hardware, own, share, &mut memory)?;
@@ -43,7 +43,8 @@ impl<'a> Alone<'a> {
             number: d,
             slots: 0,
             memory,
-            system,
+            core,
+            l2,
             domain,
             clock: 0,
         })
@@ -68,18 +69,19 @@ impl<'a> Alone<'a> {
         let start = self.public.schedule.start(slot);
         let layout = self.domain.layout;
         // For the prover: the core is fresh, so that no leaf is kept.
-        self.system.empty_tlb();
-        enter(&mut self.system, &layout);
+        self.core.empty_tlb();
+        enter(&mut self.core, &mut self.l2, &layout);
         self.clock = stretch(
             &mut self.memory,
-            &mut self.system,
+            &mut self.core,
+            &mut self.l2,
             &mut self.domain,
             start,
             start + u64::from(entry.length),
         );
-        leave(&mut self.system, &layout);
+        leave(&mut self.core, &mut self.l2, &layout);
         // Its dirty lines are written back, and the next slot finds a fresh core.
-        self.system.flush();
+        self.core.flush(&mut self.l2);
     }
 
     /// What is seen of the domain after the slots that have passed.

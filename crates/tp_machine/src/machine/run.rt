@@ -6,7 +6,7 @@ use domain_step::stretch;
 use domain_switch::switch;
 use image_check::Checked;
 use kernel_clone::CloneLayout;
-use mem_system::MemSystem;
+use mem_system::new_parts;
 use phys_mem::PhysMem;
 use sched_table::Entry;
 use std::alloc::Global;
@@ -17,7 +17,7 @@ impl<'a> Machine<'a> {
     ghost use Rattle.std.specs.Prelude.{◌≡◌, ◌+◌, ◌^◌, ◌<◌, ◌≤◌, length, option_map, IfOk, IfSome};
     ghost use Rattle.repl_policy.specs.Members.{any_rule};
     ghost use Rattle.kernel_clone.specs.Models.{layout_model};
-    ghost use Rattle.mem_system.specs.Contents.{hierarchy_of};
+    ghost use Rattle.mem_system.specs.Contents.{system, hierarchy_of};
     ghost use Rattle.domain_switch.specs.Switch.{IsCloneOn};
     ghost use Rattle.image_check.specs.Image.{own_of};
     ghost use Rattle.world_view.specs.Machine as spec;
@@ -41,7 +41,7 @@ impl<'a> Machine<'a> {
         image.runnable();
         let public = image.public();
         let geometry = geometry_of(&public.hardware);
-        let system = MemSystem::new(
+        let (core, l2) = new_parts(
             alloc,
             geometry,
             public.hardware.costs,
@@ -56,7 +56,8 @@ impl<'a> Machine<'a> {
             image,
             slots: 0,
             memory,
-            system,
+            core,
+            l2,
             domains,
             used,
             clock: 0,
@@ -80,7 +81,8 @@ impl<'a> Machine<'a> {
         let public = self.image.public();
         let d = usize::from(entry.domain);
         let switched = switch(
-            &mut self.system,
+            &mut self.core,
+            &mut self.l2,
             out.as_ref(),
             &self.domains[d].layout,
             last_end,
@@ -92,7 +94,8 @@ impl<'a> Machine<'a> {
         note_switch(self.used.as_mut_slice(), place as usize, switched.used);
         self.clock = stretch(
             &mut self.memory,
-            &mut self.system,
+            &mut self.core,
+            &mut self.l2,
             &mut self.domains[d],
             switched.now,
             start + u64::from(entry.length),
@@ -104,7 +107,7 @@ impl<'a> Machine<'a> {
     fn outgoing(&self) -> Option<CloneLayout>
         ensures clone { option_map layout_model result ≡ spec.clone_of (image_of self.now)
             (schedule.outgoing (image_of self.now).all.schedule self.now.slots) }
-        ensures on { IfSome result (IsCloneOn (hierarchy_of any_rule self.now.system)) }
+        ensures on { IfSome result (IsCloneOn (hierarchy_of any_rule (system self.now.core self.now.l2))) }
     {
         if self.slots == 0 {
             return None;

@@ -15,6 +15,7 @@ use Rattle.tp_machine.specs.InSlot.{StandsIn}
 use Rattle.tp_machine.proofs.Elements.{each_set}
 use Rattle.tp_machine.proofs.InSlot.{in_slot, slot_stands}
 use Rattle.ablated_run.proofs.Offs.{own_moments, own_moments_not}
+use Rattle.mem_system.specs.Contents.{system}
 use Rattle.ablated_run.proofs.off.slot_off.Goals as goal
 
 pub stretch-requires : goal.stretch-requires
@@ -29,7 +30,7 @@ stretch-requires c =
         setting = setting_by (guards_of s.off s.image) s.image c.args.d;
         state = part_of 0 c.args.d s.world;
         stands_in =
-            in_slot s.off s.image c.args.d s.world c.args.memory.now c.args.system.now domains c.args.now
+            in_slot s.off s.image c.args.d s.world c.args.memory.now (system c.args.core.now c.args.l2.now) domains c.args.now
             s.stands _ got;
       };
       before = c.requires.before;
@@ -43,7 +44,7 @@ returns-in-Irq-clause-becomes c i w is =
     subst
     (λ (b : Bool). StandsIn (Some off) i c.args.d (slot_if b (without off i) i c.args.d c.args.end w)
     c.open_slot.new.memory
-    c.open_slot.new.system c.open_slot.new.domains c.open_slot.result)
+    (system c.open_slot.new.core c.open_slot.new.l2) c.open_slot.new.domains c.open_slot.result)
     (own_moments_not off i c.in-Irq.is) (c.open_slot.ensures.becomes (Some off) i w is)
 
 pub returns-in_default : goal.returns-in_default
@@ -69,13 +70,13 @@ returns-in_default c =
           subst
           (λ (b : Bool). StandsIn (Some off) i c.args.d
           (slot_if b (without off i) i c.args.d c.args.end w) c.stretch.new.memory
-          c.stretch.new.system (set domains c.args.d c.stretch.new.domain) later)
+          (system c.stretch.new.core c.stretch.new.l2) (set domains c.args.d c.stretch.new.domain) later)
           (own_moments off i c.in_default.not-Irq)
-          (slot_stands (Some off) i c.args.d w c.args.memory.now c.args.system.now domains c.args.now is
+          (slot_stands (Some off) i c.args.d w c.args.memory.now (system c.args.core.now c.args.l2.now) domains c.args.now is
           c.args.end x c.stretch.new.domain
-          c.stretch.new.memory c.stretch.new.system later got
+          c.stretch.new.memory (system c.stretch.new.core c.stretch.new.l2) later got
           (c.stretch.ensures.becomes (setting_by (without off i) i c.args.d) (part_of 0 c.args.d w)
-          (in_slot (Some off) i c.args.d w c.args.memory.now c.args.system.now domains c.args.now is x
+          (in_slot (Some off) i c.args.d w c.args.memory.now (system c.args.core.now c.args.l2.now) domains c.args.now is x
           got)));
       few =
           each_set (λ j z. CountsUpTo c.args.now z) (λ j z. CountsUpTo later z) domains c.args.d

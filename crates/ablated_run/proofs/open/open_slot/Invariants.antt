@@ -2,6 +2,7 @@ use Rattle.std.proofs.Common.{◌≡◌, ◌-◌, ◌+◌, ◌<◌, ◌≤◌, l
 use Rattle.cycle_cost.specs.Ranges.{most_event}
 use Rattle.ablated_run.specs.Ablations.{CountUpTo, Stands}
 use Rattle.ablated_run.proofs.Opens.{OpensAlong}
+use Rattle.mem_system.specs.Contents.{system}
 use Rattle.ablated_run.proofs.open.open_slot.Given as goal
 
 abbrev pub invariant-loop-clock : goal.invariant-loop-clock
@@ -11,8 +12,8 @@ invariant-loop-clock l = record {
   over : l.now ≤ l.clock;
   soon : l.now < l.end → l.clock < l.end + most_event;
   still : l.end ≤ l.now → l.clock ≡ l.now;
-  stands : Stands l.d l.memory l.system l.domains l.clock;
-  so_far : OpensAlong l.d l.end l.fn.memory l.fn.system l.fn.domains l.now l.memory l.system l.domains
+  stands : Stands l.d l.memory (system l.core l.l2) l.domains l.clock;
+  so_far : OpensAlong l.d l.end l.fn.memory (system l.fn.core l.fn.l2) l.fn.domains l.now l.memory (system l.core l.l2) l.domains
       l.clock;
 }
 

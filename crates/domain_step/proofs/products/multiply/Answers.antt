@@ -13,21 +13,22 @@ use Rattle.world_view.specs.Event.{touch, noted, computed, product_time}
 use Rattle.world_view.proofs.steps.CodeLaws.{executed-product}
 use Rattle.domain_step.proofs.Points.{Point}
 use Rattle.domain_step.proofs.Instructions.{finished_same, same_costs, yields_timed}
+use Rattle.mem_system.specs.Contents.{system}
 use Rattle.domain_step.proofs.products.multiply.Goals as goal
 
 pub returns-clause-leaves : goal.returns-clause-leaves
 unfolding computed noted
-returns-clause-leaves g c w memory root now s r readings replies k h q =
+returns-clause-leaves g c w l2 memory root now s r readings replies k h q =
     let rule = g.P.Policy.rule in
     let old = c.args.domain.now in
-    let system = c.args.system.now in
+    let on = system c.args.core.now l2 in
     let d = dom_model old readings replies in
     let p : Point =
     record { setting = w; clock = now; root = root; dom = d; storage = s; reached = r } in
     let i = Multiply c.args.product c.args.rd c.args.rs1 c.args.rs2 in
     let regs = old.threads.active.regs in
     let costs =
-    same_costs rule w system (option_map product_costs_of c.products.result) k.fits.sound k.fits.levels
+    same_costs rule w on (option_map product_costs_of c.products.result) k.fits.sound k.fits.levels
     c.products.ensures.table in
     let time : product_time w.machine.muldiv ≡ c.product_time.result =
     sym (c.product_time.ensures.value ∙ ap (λ (o : Option ProductCosts). product_time o) costs) in
@@ -35,7 +36,7 @@ returns-clause-leaves g c w memory root now s r readings replies k h q =
     let retired =
     finished_same c.retire.new.domain (effect_of regs old.threads.active.pc i 0) _ 0 i c.multiply.new.regs d refl
     c.multiply.ensures.written (c.retire.ensures.becomes readings replies h q) in
-    yields_timed rule g.P.Policy.stands_for p old.caps memory system c.args.spent c.product_time.result i
+    yields_timed rule g.P.Policy.stands_for p old.caps memory on c.args.spent c.product_time.result i
     c.retire.new.domain
     (retired_at ((old.threads.active.pc + 4) % 2 ^ 32) (with_register regs c.args.rd word) d)
     (ap (λ (n : ℕ). touch (Charge n)) time)

@@ -4,6 +4,7 @@ use Rattle.kernel_call.specs.Models.{dom_model}
 use Rattle.domain_step.specs.Kept.{Kept}
 use Rattle.domain_step.proofs.Points.{Point}
 use Rattle.domain_step.proofs.Instructions.{execute_misaligned, execute_faulted, execute_settled}
+use Rattle.mem_system.specs.Contents.{system}
 use Rattle.domain_step.proofs.slot.execute.Goals as goal
 
 pub returns-in-Some-clause-leaves : goal.returns-in-Some-clause-leaves
@@ -15,7 +16,7 @@ returns-in-Some-clause-leaves g c w s r readings replies k h q =
     let i = c.args.instr in
     let misaligned =
     ap (misalignment_of i) (sym c.address-at.ensures.address) ∙ sym c.in-Some.ensures.trap in
-    execute_misaligned p (K c.args.memory.now c.args.system.now c.args.spent.now) i
+    execute_misaligned p (K c.args.memory.now (system c.args.core.now c.args.l2.now) c.args.spent.now) i
     c.stop.new.domain k
     c.in-Some.trap misaligned (c.stop.ensures.becomes readings replies h q)
 
@@ -29,10 +30,10 @@ returns-in-Ok-clause-leaves g c w s r readings replies k h q =
     let i = c.args.instr in
     let aligned =
     ap (misalignment_of i) (sym c.address-at.ensures.address) ∙ sym c.in_default.ensures.trap in
-    execute_settled p (K c.args.memory.now c.args.system.now c.args.spent.now) i c.settle.new.domain
+    execute_settled p (K c.args.memory.now (system c.args.core.now c.args.l2.now) c.args.spent.now) i c.settle.new.domain
     k
-    c.in-Ok.value (K c.args.memory.now c.loaded.new.system c.loaded.new.spent)
-    (K c.settle.new.memory c.settle.new.system c.settle.new.spent) aligned
+    c.in-Ok.value (K c.args.memory.now (system c.loaded.new.core c.loaded.new.l2) c.loaded.new.spent)
+    (K c.settle.new.memory (system c.settle.new.core c.settle.new.l2) c.settle.new.spent) aligned
     (λ u z n. c.in-Ok.ensures.finds w caps u z readings replies n)
     (λ u z n. c.settle.ensures.leaves w u z readings replies n h q)
 
@@ -46,8 +47,8 @@ returns-in-Err-clause-leaves g c w s r readings replies k h q =
     let i = c.args.instr in
     let aligned =
     ap (misalignment_of i) (sym c.address-at.ensures.address) ∙ sym c.in_default.ensures.trap in
-    execute_faulted p (K c.args.memory.now c.args.system.now c.args.spent.now) i
+    execute_faulted p (K c.args.memory.now (system c.args.core.now c.args.l2.now) c.args.spent.now) i
     c.stop-in-Err.new.domain k
-    (K c.args.memory.now c.loaded.new.system c.loaded.new.spent) c.in-Err.trap aligned
+    (K c.args.memory.now (system c.loaded.new.core c.loaded.new.l2) c.loaded.new.spent) c.in-Err.trap aligned
     (λ u z n. c.in-Err.ensures.finds w caps u z readings replies n)
     (c.stop-in-Err.ensures.becomes readings replies h q)

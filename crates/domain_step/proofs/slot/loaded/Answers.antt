@@ -3,6 +3,7 @@ use Rattle.kernel_call.specs.Models.{dom_model}
 use Rattle.domain_step.specs.Kept.{Kept}
 use Rattle.domain_step.proofs.Points.{Point}
 use Rattle.domain_step.proofs.Instructions.{loaded_load, loaded_counter, loaded_other}
+use Rattle.mem_system.specs.Contents.{system}
 use Rattle.domain_step.proofs.slot.loaded.Goals as goal
 
 pub returns-in-Load-clause-finds : goal.returns-in-Load-clause-finds
@@ -11,7 +12,7 @@ returns-in-Load-clause-finds g c w caps s r readings replies k =
     let p : Point =
     record { setting = w; clock = c.args.now; root = c.args.root; dom = d; storage = s; reached = r } in
     let K = Kept g.P.Policy.rule g.P.Policy.stands_for w caps p.root c.args.memory.now in
-    loaded_load p (K c.load.new.system c.load.new.spent) c.args.instr c.args.at c.load.result
+    loaded_load p (K (system c.load.new.core c.load.new.l2) c.load.new.spent) c.args.instr c.args.at c.load.result
     c.in-Load.is
     c.requires.address (c.load.ensures.finds w caps d s r k)
 
@@ -21,7 +22,7 @@ returns-in-ReadCounter-clause-finds g c w caps s r readings replies k =
     let p : Point =
     record { setting = w; clock = c.args.now; root = c.args.root; dom = d; storage = s; reached = r } in
     let K = Kept g.P.Policy.rule g.P.Policy.stands_for w caps p.root c.args.memory.now in
-    loaded_counter p (K c.args.system.now c.args.spent.now) c.args.instr c.counter_value.result k
+    loaded_counter p (K (system c.args.core.now c.args.l2.now) c.args.spent.now) c.args.instr c.counter_value.result k
     c.in-ReadCounter.is
     (c.counter_value.ensures.value readings replies)
 
@@ -32,7 +33,7 @@ returns-in_default g c = record {
       let p : Point =
       record { setting = w; clock = c.args.now; root = c.args.root; dom = d; storage = s; reached = r } in
       let K = Kept g.P.Policy.rule g.P.Policy.stands_for w caps p.root c.args.memory.now in
-      loaded_other p (K c.args.system.now c.args.spent.now) c.args.instr k c.in_default.not-Load
+      loaded_other p (K (system c.args.core.now c.args.l2.now) c.args.spent.now) c.args.instr k c.in_default.not-Load
       c.in_default.not-ReadCounter;
   leaves = c.requires.leaves;
   few = omega arith;

@@ -8,6 +8,7 @@ use Rattle.domain_step.specs.Kept.{KeptOf}
 use Rattle.domain_step.proofs.Points.{Point, Side, KeptParts}
 use Rattle.domain_step.proofs.Instructions.{Fetched, IsFetched, instruction_missed, instruction_undefined, instruction_called, instruction_timed, instruction_executed, same_products, found_word}
 use Rattle.domain_step.proofs.Events.{kept_in, is_root, kept_whole, left_whole, keeps_itself}
+use Rattle.mem_system.specs.Contents.{system}
 use Rattle.domain_step.proofs.slot.run_instruction.Goals as goal
 
 pub returns-in-Err-clause-leaves : goal.returns-in-Err-clause-leaves
@@ -25,11 +26,11 @@ returns-in-Err-clause-leaves g c w s r readings replies k h q =
       reached = r;
     } in
     let first : Side _ =
-    record { domain = old; memory = memory; system = c.args.system.now; spent = c.args.spent.now } in
+    record { domain = old; memory = memory; system = (system c.args.core.now c.args.l2.now); spent = c.args.spent.now } in
     let last : Side _ = record {
       domain = c.stop.new.domain;
       memory = memory;
-      system = c.translate.new.system;
+      system = (system c.translate.new.core c.translate.new.l2);
       spent = c.translate.new.spent;
     } in
     let top = c.root-root.ensures.value in
@@ -54,15 +55,15 @@ returns-in_default-clause-leaves g c w s r readings replies k h q =
       reached = r;
     } in
     let first : Side _ =
-    record { domain = old; memory = memory; system = c.args.system.now; spent = c.args.spent.now } in
+    record { domain = old; memory = memory; system = (system c.args.core.now c.args.l2.now); spent = c.args.spent.now } in
     let top = c.root-root.ensures.value in
     let f : Fetched _ = record {
       caps = old.caps;
       memory = memory;
-      before = c.translate.new.system;
-      later = c.fetch.new.self;
+      before = (system c.translate.new.core c.translate.new.l2);
+      later = (system c.fetch.new.self c.fetch.new.l2);
       at = c.in-Ok.at;
-      line = c.line_of.result;
+      line = c.line_of-line.result;
       word = c.read_word-word.result;
       muldiv = c.is_some.result;
       spent = c.translate.new.spent;
@@ -71,7 +72,7 @@ returns-in_default-clause-leaves g c w s r readings replies k h q =
     let is : IsFetched rule stands p f = record {
       page = c.in-Ok.ensures.finds w old.caps p.dom s r (kept_in rule stands p first k top);
       placed_at = c.in-Ok.ensures.place;
-      line = c.line_of.ensures.line;
+      line = c.line_of-line.ensures.line;
       makes = c.fetch.ensures.makes;
       muldiv = same_products product_costs_of c.products.result _ c.is_some.result c.is_some.ensures c.products.ensures.table;
       buffer = c.fetch.ensures.buffer;
@@ -107,15 +108,15 @@ returns-in-Ecall-clause-leaves g c w s r readings replies k h q =
       reached = r;
     } in
     let first : Side _ =
-    record { domain = old; memory = memory; system = c.args.system.now; spent = c.args.spent.now } in
+    record { domain = old; memory = memory; system = (system c.args.core.now c.args.l2.now); spent = c.args.spent.now } in
     let top = c.root-root.ensures.value in
     let f : Fetched _ = record {
       caps = old.caps;
       memory = memory;
-      before = c.translate.new.system;
-      later = c.fetch.new.self;
+      before = (system c.translate.new.core c.translate.new.l2);
+      later = (system c.fetch.new.self c.fetch.new.l2);
       at = c.in-Ok.at;
-      line = c.line_of.result;
+      line = c.line_of-line.result;
       word = c.read_word-word.result;
       muldiv = c.is_some.result;
       spent = c.translate.new.spent;
@@ -124,7 +125,7 @@ returns-in-Ecall-clause-leaves g c w s r readings replies k h q =
     let is : IsFetched rule stands p f = record {
       page = c.in-Ok.ensures.finds w old.caps p.dom s r (kept_in rule stands p first k top);
       placed_at = c.in-Ok.ensures.place;
-      line = c.line_of.ensures.line;
+      line = c.line_of-line.ensures.line;
       makes = c.fetch.ensures.makes;
       muldiv = same_products product_costs_of c.products.result _ c.is_some.result c.is_some.ensures c.products.ensures.table;
       buffer = c.fetch.ensures.buffer;
@@ -137,7 +138,7 @@ returns-in-Ecall-clause-leaves g c w s r readings replies k h q =
     record { domain = old; memory = memory; system = f.later; spent = f.spent + f.cycles } in
     let whole = kept_whole rule stands p first k top called (keeps_itself old) refl in
     instruction_called p c.call.new.domain (is_root rule stands p first k top) rule stands f is
-    (KeptOf rule stands w c.call.new.domain c.call.new.memory c.call.new.system c.call.result)
+    (KeptOf rule stands w c.call.new.domain c.call.new.memory (system c.call.new.core c.call.new.l2) c.call.result)
     (sym c.in-Some.ensures.value ∙ ap (λ x. Some x) c.in-Ecall.is)
     (λ u z n. c.call.ensures.leaves w u z readings replies (whole u z n) h q)
 
@@ -156,15 +157,15 @@ returns-in-Multiply-clause-leaves g c w s r readings replies k h q =
       reached = r;
     } in
     let first : Side _ =
-    record { domain = old; memory = memory; system = c.args.system.now; spent = c.args.spent.now } in
+    record { domain = old; memory = memory; system = (system c.args.core.now c.args.l2.now); spent = c.args.spent.now } in
     let top = c.root-root.ensures.value in
     let f : Fetched _ = record {
       caps = old.caps;
       memory = memory;
-      before = c.translate.new.system;
-      later = c.fetch.new.self;
+      before = (system c.translate.new.core c.translate.new.l2);
+      later = (system c.fetch.new.self c.fetch.new.l2);
       at = c.in-Ok.at;
-      line = c.line_of.result;
+      line = c.line_of-line.result;
       word = c.read_word-word.result;
       muldiv = c.is_some.result;
       spent = c.translate.new.spent;
@@ -173,7 +174,7 @@ returns-in-Multiply-clause-leaves g c w s r readings replies k h q =
     let is : IsFetched rule stands p f = record {
       page = c.in-Ok.ensures.finds w old.caps p.dom s r (kept_in rule stands p first k top);
       placed_at = c.in-Ok.ensures.place;
-      line = c.line_of.ensures.line;
+      line = c.line_of-line.ensures.line;
       makes = c.fetch.ensures.makes;
       muldiv = same_products product_costs_of c.products.result _ c.is_some.result c.is_some.ensures c.products.ensures.table;
       buffer = c.fetch.ensures.buffer;
@@ -193,7 +194,7 @@ returns-in-Multiply-clause-leaves g c w s r readings replies k h q =
     (instruction_timed p last.domain (is_root rule stands p first k top) rule stands f is _
     (KeptParts rule stands p old.caps last) (sym c.in-Some.ensures.value ∙ ap (λ x. Some x) c.in-Multiply.is)
     (λ e. cc)
-    (λ u z n. c.multiply.ensures.leaves w memory p.root p.clock u z readings replies n h q))
+    (λ u z n. c.multiply.ensures.leaves w c.fetch.new.l2 memory p.root p.clock u z readings replies n h q))
 
 pub returns-in-Divide-clause-leaves : goal.returns-in-Divide-clause-leaves
 returns-in-Divide-clause-leaves g c w s r readings replies k h q =
@@ -210,15 +211,15 @@ returns-in-Divide-clause-leaves g c w s r readings replies k h q =
       reached = r;
     } in
     let first : Side _ =
-    record { domain = old; memory = memory; system = c.args.system.now; spent = c.args.spent.now } in
+    record { domain = old; memory = memory; system = (system c.args.core.now c.args.l2.now); spent = c.args.spent.now } in
     let top = c.root-root.ensures.value in
     let f : Fetched _ = record {
       caps = old.caps;
       memory = memory;
-      before = c.translate.new.system;
-      later = c.fetch.new.self;
+      before = (system c.translate.new.core c.translate.new.l2);
+      later = (system c.fetch.new.self c.fetch.new.l2);
       at = c.in-Ok.at;
-      line = c.line_of.result;
+      line = c.line_of-line.result;
       word = c.read_word-word.result;
       muldiv = c.is_some.result;
       spent = c.translate.new.spent;
@@ -227,7 +228,7 @@ returns-in-Divide-clause-leaves g c w s r readings replies k h q =
     let is : IsFetched rule stands p f = record {
       page = c.in-Ok.ensures.finds w old.caps p.dom s r (kept_in rule stands p first k top);
       placed_at = c.in-Ok.ensures.place;
-      line = c.line_of.ensures.line;
+      line = c.line_of-line.ensures.line;
       makes = c.fetch.ensures.makes;
       muldiv = same_products product_costs_of c.products.result _ c.is_some.result c.is_some.ensures c.products.ensures.table;
       buffer = c.fetch.ensures.buffer;
@@ -247,7 +248,7 @@ returns-in-Divide-clause-leaves g c w s r readings replies k h q =
     (instruction_timed p last.domain (is_root rule stands p first k top) rule stands f is _
     (KeptParts rule stands p old.caps last) (sym c.in-Some.ensures.value ∙ ap (λ x. Some x) c.in-Divide.is)
     (λ e. cc)
-    (λ u z n. c.divide.ensures.leaves w memory p.root p.clock u z readings replies n h q))
+    (λ u z n. c.divide.ensures.leaves w c.fetch.new.l2 memory p.root p.clock u z readings replies n h q))
 
 pub returns-in_default-instr : goal.returns-in_default-instr
 returns-in_default-instr g c = record {
@@ -265,15 +266,15 @@ returns-in_default-instr g c = record {
         reached = r;
       } in
       let first : Side _ =
-      record { domain = old; memory = memory; system = c.args.system.now; spent = c.args.spent.now } in
+      record { domain = old; memory = memory; system = (system c.args.core.now c.args.l2.now); spent = c.args.spent.now } in
       let top = c.root-root.ensures.value in
       let f : Fetched _ = record {
         caps = old.caps;
         memory = memory;
-        before = c.translate.new.system;
-        later = c.fetch.new.self;
+        before = (system c.translate.new.core c.translate.new.l2);
+        later = (system c.fetch.new.self c.fetch.new.l2);
         at = c.in-Ok.at;
-        line = c.line_of.result;
+        line = c.line_of-line.result;
         word = c.read_word-word.result;
         muldiv = c.is_some.result;
         spent = c.translate.new.spent;
@@ -282,7 +283,7 @@ returns-in_default-instr g c = record {
       let is : IsFetched rule stands p f = record {
         page = c.in-Ok.ensures.finds w old.caps p.dom s r (kept_in rule stands p first k top);
         placed_at = c.in-Ok.ensures.place;
-        line = c.line_of.ensures.line;
+        line = c.line_of-line.ensures.line;
         makes = c.fetch.ensures.makes;
         muldiv = same_products product_costs_of c.products.result _ c.is_some.result c.is_some.ensures c.products.ensures.table;
         buffer = c.fetch.ensures.buffer;
@@ -294,7 +295,7 @@ returns-in_default-instr g c = record {
       let last : Side _ = record {
         domain = c.execute.new.domain;
         memory = c.execute.new.memory;
-        system = c.execute.new.system;
+        system = (system c.execute.new.core c.execute.new.l2);
         spent = c.execute.new.spent;
       } in
       left_whole rule stands p first k top last c.execute.ensures.keeps c.execute.ensures.frames

@@ -3,6 +3,7 @@ use Rattle.std.proofs.Common.{◌<◌, ℕ, ap, sym, subst, ◌∙◌, arith}
 use Rattle.cycle_cost.specs.Costs.{CostTable}
 use Rattle.mem_system.specs.Hierarchy.{Hierarchy}
 use Rattle.domain_step.proofs.Moved.{plain_on, along_then, along_step}
+use Rattle.mem_system.specs.Contents.{system}
 use Rattle.domain_step.proofs.slot.run_plain.Goals as goal
 
 pub run-ran-requires-clause-plain : goal.run-ran-requires-clause-plain
@@ -15,11 +16,11 @@ loop-goes_on-preserved g c =
     let inv = here.invariant in
     let ran = c.run-ran in
     let costs = c.costs-costs in
-    let base : 0 < here.system.core.costs.base =
+    let base : 0 < here.core.costs.base =
     subst (λ (n : ℕ). 0 < n)
     (ap (λ (t : CostTable). t.base) costs.ensures.table ∙ sym (ap (λ (h : Hierarchy). h.costs.base) inv.hierarchy))
     costs.result.base_range.some in
-    let trap : 0 < here.system.core.costs.trap =
+    let trap : 0 < here.core.costs.trap =
     subst (λ (n : ℕ). 0 < n)
     (ap (λ (t : CostTable). t.trap) costs.ensures.table ∙ sym (ap (λ (h : Hierarchy). h.costs.trap) inv.hierarchy))
     costs.result.trap_range.some in
@@ -36,9 +37,9 @@ loop-goes_on-preserved g c =
       runs = ran.ensures.runs;
       along = λ end within.
           along_then g.P.Policy.rule g.P.Policy.stands_for end c.args.memory.now here.memory ran.new.memory
-          c.args.domain.now here.domain ran.new.domain c.args.system.now here.system ran.new.system
+          c.args.domain.now here.domain ran.new.domain (system c.args.core.now c.args.l2.now) (system here.core here.l2) (system ran.new.core ran.new.l2)
           c.args.now here.clock ran.result.clock (inv.along end within)
-          (along_step g.P.Policy.rule g.P.Policy.stands_for end here.memory here.domain here.system here.clock base trap
-          ran.new.memory ran.new.domain ran.new.system ran.result.clock (omega (arith, c.if-clock-until.true, within))
+          (along_step g.P.Policy.rule g.P.Policy.stands_for end here.memory here.domain (system here.core here.l2) here.clock base trap
+          ran.new.memory ran.new.domain (system ran.new.core ran.new.l2) ran.result.clock (omega (arith, c.if-clock-until.true, within))
           (ran.ensures.becomes end));
     }

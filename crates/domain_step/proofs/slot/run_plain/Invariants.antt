@@ -1,7 +1,7 @@
 use Rattle.std.proofs.Common.{◌≡◌, ◌+◌, ◌<◌, ◌≤◌, ◌-◌, ℕ, true}
 use Rattle.cycle_cost.specs.Ranges.{most_event}
 use Rattle.kernel_call.specs.Models.{CountsUpTo}
-use Rattle.mem_system.specs.Contents.{hierarchy_of}
+use Rattle.mem_system.specs.Contents.{system, hierarchy_of}
 use Rattle.domain_step.specs.Stands.{IsPlain}
 use Rattle.domain_step.specs.Moves.{Runs, MovesAlong}
 use Rattle.domain_step.proofs.slot.run_plain.Given as goal
@@ -14,11 +14,11 @@ invariant-loop-goes_on g l = record {
   some : l.clock ≡ l.now → l.goes_on ≡ true;
   plain : l.goes_on ≡ true → (t : ℕ) → t < l.until → IsPlain l.domain t;
   frames : l.memory.frames ≡ l.fn.memory.frames;
-  hierarchy : hierarchy_of g.P.Policy.rule l.system ≡ hierarchy_of g.P.Policy.rule l.fn.system;
-  pinned : l.system.core.pinned ≡ l.fn.system.core.pinned;
-  runs : Runs g.P.Policy.rule g.P.Policy.stands_for l.memory l.domain l.system l.clock;
+  hierarchy : hierarchy_of g.P.Policy.rule (system l.core l.l2) ≡ hierarchy_of g.P.Policy.rule (system l.fn.core l.fn.l2);
+  pinned : l.core.pinned ≡ l.fn.core.pinned;
+  runs : Runs g.P.Policy.rule g.P.Policy.stands_for l.memory l.domain (system l.core l.l2) l.clock;
   along : (end : ℕ) → l.until ≤ end → MovesAlong g.P.Policy.rule g.P.Policy.stands_for end
-      l.fn.memory l.fn.domain l.fn.system l.now l.memory l.domain l.system l.clock;
+      l.fn.memory l.fn.domain (system l.fn.core l.fn.l2) l.now l.memory l.domain (system l.core l.l2) l.clock;
 }
 
 abbrev pub decreases-loop-goes_on : goal.decreases-loop-goes_on

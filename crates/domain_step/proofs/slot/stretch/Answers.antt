@@ -2,6 +2,7 @@ use Rattle.std.proofs.Common.{◌<◌, ℕ, ap, sym, subst, ◌∙◌, arith}
 use Rattle.cycle_cost.specs.Costs.{CostTable}
 use Rattle.mem_system.specs.Hierarchy.{Hierarchy}
 use Rattle.domain_step.proofs.Moved.{along_then, along_step, along_over}
+use Rattle.mem_system.specs.Contents.{system}
 use Rattle.domain_step.proofs.slot.stretch.Goals as goal
 
 pub loop-clock-preserved-then-clock-until : goal.loop-clock-preserved-then-clock-until
@@ -20,7 +21,7 @@ loop-clock-preserved-then-clock-until g c =
       runs = ran.ensures.runs;
       so_far =
           along_then g.P.Policy.rule g.P.Policy.stands_for c.args.end c.args.memory.now here.memory ran.new.memory
-          c.args.domain.now here.domain ran.new.domain c.args.system.now here.system ran.new.system
+          c.args.domain.now here.domain ran.new.domain (system c.args.core.now c.args.l2.now) (system here.core here.l2) (system ran.new.core ran.new.l2)
           c.args.now here.clock ran.result inv.so_far (ran.ensures.along c.args.end within);
     }
 
@@ -30,11 +31,11 @@ loop-clock-preserved g c =
     let inv = here.invariant in
     let next = c.wait_or_deliver-clock in
     let costs = c.costs-costs in
-    let base : 0 < here.system.core.costs.base =
+    let base : 0 < here.core.costs.base =
     subst (λ (n : ℕ). 0 < n)
     (ap (λ (t : CostTable). t.base) costs.ensures.table ∙ sym (ap (λ (h : Hierarchy). h.costs.base) inv.hierarchy))
     costs.result.base_range.some in
-    let trap : 0 < here.system.core.costs.trap =
+    let trap : 0 < here.core.costs.trap =
     subst (λ (n : ℕ). 0 < n)
     (ap (λ (t : CostTable). t.trap) costs.ensures.table ∙ sym (ap (λ (h : Hierarchy). h.costs.trap) inv.hierarchy))
     costs.result.trap_range.some in
@@ -48,18 +49,18 @@ loop-clock-preserved g c =
       runs = next.ensures.runs;
       so_far =
           along_then g.P.Policy.rule g.P.Policy.stands_for c.args.end c.args.memory.now here.memory here.memory
-          c.args.domain.now here.domain next.new.domain c.args.system.now here.system next.new.system
+          c.args.domain.now here.domain next.new.domain (system c.args.core.now c.args.l2.now) (system here.core here.l2) (system next.new.core next.new.l2)
           c.args.now here.clock next.result inv.so_far
-          (along_step g.P.Policy.rule g.P.Policy.stands_for c.args.end here.memory here.domain here.system here.clock base trap
-          here.memory next.new.domain next.new.system next.result c.loop-clock-test.true next.ensures.becomes);
+          (along_step g.P.Policy.rule g.P.Policy.stands_for c.args.end here.memory here.domain (system here.core here.l2) here.clock base trap
+          here.memory next.new.domain (system next.new.core next.new.l2) next.result c.loop-clock-test.true next.ensures.becomes);
     }
 
 pub returns-clause-becomes : goal.returns-clause-becomes
 returns-clause-becomes g c =
     let costs = c.costs-costs in
-    let base : 0 < c.args.system.now.core.costs.base =
+    let base : 0 < c.args.core.now.costs.base =
     subst (λ (n : ℕ). 0 < n) (ap (λ (t : CostTable). t.base) costs.ensures.table) costs.result.base_range.some in
-    let trap : 0 < c.args.system.now.core.costs.trap =
+    let trap : 0 < c.args.core.now.costs.trap =
     subst (λ (n : ℕ). 0 < n) (ap (λ (t : CostTable). t.trap) costs.ensures.table) costs.result.trap_range.some in
-    along_over g.P.Policy.rule g.P.Policy.stands_for c.args.end c.args.memory.now c.args.domain.now c.args.system.now c.args.now base trap
-    c.loop-clock.memory c.loop-clock.domain c.loop-clock.system c.loop-clock.clock c.loop-clock.invariant.so_far c.loop-clock-test.false
+    along_over g.P.Policy.rule g.P.Policy.stands_for c.args.end c.args.memory.now c.args.domain.now (system c.args.core.now c.args.l2.now) c.args.now base trap
+    c.loop-clock.memory c.loop-clock.domain (system c.loop-clock.core c.loop-clock.l2) c.loop-clock.clock c.loop-clock.invariant.so_far c.loop-clock-test.false

@@ -1,5 +1,4 @@
-use Rattle.std.proofs.Common.{◌≡◌, ◌≢◌, ◌+◌, ℕ, Option, Some, None, true, false, refl, ap, sym, ◌∙◌, arith}
-use Rattle.cycle_cost.specs.Costs.{CostTable}
+use Rattle.std.proofs.Common.{◌≡◌, ◌≢◌, ◌+◌, ℕ, Option, Some, None, false, refl, ap, sym, ◌∙◌, arith}
 use Rattle.irq_partition.specs.Interrupts.{due, next_cycle}
 use Rattle.thread_set.specs.Threads.{is_ready}
 use Rattle.kernel_clone.specs.Footprints.{delivery_op}
@@ -8,6 +7,7 @@ use Rattle.world_view.specs.Event.{idle_until}
 use Rattle.world_view.specs.Machine.{step}
 use Rattle.domain_step.proofs.Counts.{counts_later}
 use Rattle.domain_step.proofs.Moved.{due_line, due_left, idle_later, moves_due, moves_idle, moves_still, not_ready, not_running, runs_on}
+use Rattle.mem_system.specs.Contents.{system}
 use Rattle.domain_step.proofs.slot.wait_or_deliver.Goals as goal
 
 -- no moment
@@ -19,13 +19,13 @@ none_left (Some x) none = absurd (none x refl)
 
 pub returns-in_default : goal.returns-in_default
 returns-in_default g c =
-    let still = moves_still g.P.Policy.rule g.P.Policy.stands_for c.args.end c.args.memory.now c.args.domain.now c.args.system.now c.args.now
+    let still = moves_still g.P.Policy.rule g.P.Policy.stands_for c.args.end c.args.memory.now c.args.domain.now (system c.args.core.now c.args.l2.now) c.args.now
     (not_running c.args.domain.now.status c.in_default.not-Running) in
     record {
       becomes = still;
       hierarchy = refl;
       pinned = refl;
-      runs = runs_on g.P.Policy.rule g.P.Policy.stands_for c.args.end c.args.memory.now c.args.memory.now c.args.domain.now c.args.domain.now c.args.system.now c.args.system.now
+      runs = runs_on g.P.Policy.rule g.P.Policy.stands_for c.args.end c.args.memory.now c.args.memory.now c.args.domain.now c.args.domain.now (system c.args.core.now c.args.l2.now) (system c.args.core.now c.args.l2.now)
           (λ w. step w c.args.end) c.args.now c.args.end still c.requires.runs;
       few = counts_later c.args.now c.args.end c.args.domain.now (omega (arith, c.requires.before)) c.requires.few;
       later = c.requires.before;
@@ -43,7 +43,7 @@ returns-in-Some-clause-becomes g c =
     let new = c.deliver_due.new.domain in
     let keeps = c.deliver_due.ensures.keeps in
     let comes : due c.args.now old.interrupts ≡ Some c.in-Some._line = sym c.due.ensures.due ∙ c.in-Some.is in
-    moves_due g.P.Policy.rule g.P.Policy.stands_for c.args.end c.args.memory.now old new c.args.system.now c.deliver_due.new.system
+    moves_due g.P.Policy.rule g.P.Policy.stands_for c.args.end c.args.memory.now old new (system c.args.core.now c.args.l2.now) (system c.deliver_due.new.core c.deliver_due.new.l2)
     c.args.now (c.args.now + c.from.result) c.deliver_due.result c.in-Some._line (plain delivery_op) c.in-Running.is comes
     (c.deliver_due.ensures.delivers c.in-Some._line (due_line old.interrupts c.args.now c.in-Some._line comes))
     keeps.caps keeps.pool keeps.map keeps.layout keeps.calls keeps.moments refl c.deliver_due.ensures.makes c.deliver_due.ensures.buffer
@@ -51,7 +51,7 @@ returns-in-Some-clause-becomes g c =
 
 pub returns-in-Some-clause-runs : goal.returns-in-Some-clause-runs
 returns-in-Some-clause-runs g c =
-    runs_on g.P.Policy.rule g.P.Policy.stands_for c.args.end c.args.memory.now c.args.memory.now c.args.domain.now c.deliver_due.new.domain c.args.system.now c.deliver_due.new.system
+    runs_on g.P.Policy.rule g.P.Policy.stands_for c.args.end c.args.memory.now c.args.memory.now c.args.domain.now c.deliver_due.new.domain (system c.args.core.now c.args.l2.now) (system c.deliver_due.new.core c.deliver_due.new.l2)
     (λ w. step w c.args.end) c.args.now _ (returns-in-Some-clause-becomes g c) c.requires.runs
 
 -- ---- no thread is ready
@@ -61,12 +61,12 @@ returns-clause-becomes g c =
     let d = c.args.domain.now in
     let none : due c.args.now d.interrupts ≡ None = sym c.due.ensures.due ∙ none_left c.due.result c.in_default-due.not-Some in
     let idle : is_ready d.threads.active.state ≡ false = not_ready d c.args.now c.args.end c.requires.before c.in-Running.is none c.requires.other in
-    moves_idle g.P.Policy.rule g.P.Policy.stands_for c.args.end c.args.memory.now d c.args.system.now c.args.now c.idle_until.result c.in-Running.is none idle
+    moves_idle g.P.Policy.rule g.P.Policy.stands_for c.args.end c.args.memory.now d (system c.args.core.now c.args.l2.now) c.args.now c.idle_until.result c.in-Running.is none idle
     (c.idle_until.ensures.value ∙ ap (idle_until c.args.end) c.next_moment-next.ensures.next)
 
 pub returns-clause-runs : goal.returns-clause-runs
 returns-clause-runs g c =
-    runs_on g.P.Policy.rule g.P.Policy.stands_for c.args.end c.args.memory.now c.args.memory.now c.args.domain.now c.args.domain.now c.args.system.now c.args.system.now
+    runs_on g.P.Policy.rule g.P.Policy.stands_for c.args.end c.args.memory.now c.args.memory.now c.args.domain.now c.args.domain.now (system c.args.core.now c.args.l2.now) (system c.args.core.now c.args.l2.now)
     (λ w. step w c.args.end) c.args.now _ (returns-clause-becomes g c) c.requires.runs
 
 pub returns-clause-later : goal.returns-clause-later

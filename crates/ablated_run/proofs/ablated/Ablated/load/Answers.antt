@@ -6,7 +6,7 @@ use Rattle.phys_mem.specs.Contents.{Contents}
 use Rattle.repl_policy.specs.Members.{any_rule, any_stands_for}
 use Rattle.mem_system.specs.Hierarchy.{Hierarchy}
 use Rattle.mem_system.specs.Cost.{cold}
-use Rattle.mem_system.specs.Contents.{SystemStands}
+use Rattle.mem_system.specs.Contents.{system, SystemStands}
 use Rattle.mem_system.specs.Geometry.{hierarchy_by}
 use Rattle.hardware_check.specs.Hardware.{IsHardware}
 use Rattle.image_check.specs.Public.{Public}
@@ -50,18 +50,18 @@ invariant_of-result-clause-stands c =
     c.public-public.result.now.hardware.muldiv ≡ (without off i).levels =
     c.geometry_off-geometry.ensures.hierarchy ∙ ap (λ (p : Public). levels_off off p.hardware) public
     ∙ levels_are off i in
-    stands_first (Some off) i r c.load_pages.new.memory c.in_ok-system.system _ c.in_ok-used.used.items
+    stands_first (Some off) i r c.load_pages.new.memory (system c.in_ok-core.core c.in_ok-core.l2) _ c.in_ok-used.used.items
     (record {
       frames =
           c.load_pages.ensures.size ∙ c.in_ok-domains.ensures.size
           ∙ ap (λ (x : Contents). x.frames) c.in_ok-memory.ensures.zero
           ∙ ap (λ (p : Public). p.hardware.frames) public;
       holds = c.load_pages.ensures.holds;
-      levels = sym (c.in_ok-system.ensures.hierarchy ∙ levels);
-      pinned = c.in_ok-system.ensures.pinned;
+      levels = sym (c.in_ok-core.ensures.hierarchy ∙ levels);
+      pinned = c.in_ok-core.ensures.pinned;
       cold_is =
-          subst (λ (h : Hierarchy). SystemStands any_stands_for c.in_ok-system.system (cold h)) levels
-          c.in_ok-system.ensures.cold;
+          subst (λ (h : Hierarchy). SystemStands any_stands_for (system c.in_ok-core.core c.in_ok-core.l2) (cold h)) levels
+          c.in_ok-core.ensures.cold;
       opened = domains_are c;
       all_entries =
           c.in_ok-used.ensures.all ∙ c.len.ensures.value ∙ ap (λ (p : Public). length p.schedule) public;
@@ -75,5 +75,5 @@ invariant_of-result-clause-ends c =
 pub invariant_of-result-clause-in_bounds : goal.invariant_of-result-clause-in_bounds
 invariant_of-result-clause-in_bounds c =
     in_bounds_off_first (Some c.args.off) (image_from c.args.image.now) c.load_pages.new.memory
-    c.in_ok-system.system _ c.in_ok-used.used.items
+    (system c.in_ok-core.core c.in_ok-core.l2) _ c.in_ok-used.used.items
     (domains_are c) c.in_ok-used.ensures.few

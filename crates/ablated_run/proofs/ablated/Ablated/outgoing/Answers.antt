@@ -3,6 +3,7 @@ use Rattle.std.proofs.lemmas.Option.{slice_get_read}
 use Rattle.image_check.specs.Image.{image_from}
 use Rattle.tp_machine.specs.Worlds.{kept}
 use Rattle.tp_machine.proofs.Whole.{domain_is, clone_is, clone_before}
+use Rattle.mem_system.specs.Contents.{system}
 use Rattle.ablated_run.proofs.ablated.Ablated.outgoing.Goals as goal
 
 pub returns-clause-layout : goal.returns-clause-layout
@@ -17,7 +18,7 @@ returns-clause-layout c =
     c.from.ensures in
     let within : d < length m.domains.items = omega (arith, left.named, m.stands.all_domains) in
     let got = slice_get_read m.domains.items (length m.domains.items) d x refl within c.index.ensures in
-    let s = kept m.memory m.system m.domains.items m.used.items m.clock in
+    let s = kept m.memory (system m.core m.l2) m.domains.items m.used.items m.clock in
     clone_is (Some m.off) i m.slots m.accepted s m.stands d x left.named got
 
 pub returns-clause-clone : goal.returns-clause-clone
@@ -32,6 +33,6 @@ returns-clause-clone c =
     c.from.ensures in
     let within : d < length m.domains.items = omega (arith, left.named, m.stands.all_domains) in
     let got = slice_get_read m.domains.items (length m.domains.items) d x refl within c.index.ensures in
-    let s = kept m.memory m.system m.domains.items m.used.items m.clock in
+    let s = kept m.memory (system m.core m.l2) m.domains.items m.used.items m.clock in
     let more : suc last ≡ m.slots = omega (arith, c.if-self-eq0.false) in
     clone_before (Some m.off) i m.slots m.accepted s m.stands last d x more left.is got

@@ -17,6 +17,7 @@ use Rattle.ablated_run.specs.Ablations.{StandsOff, CountUpTo}
 use Rattle.tp_machine.proofs.SwitchCounts.{noted_back, counted_back, length_back, written_back}
 use Rattle.tp_machine.proofs.Whole.{SwitchGiven, Begins, domain_is, clone_is, begins, ended_so, ends_so, begun_in, end_of, stands_after, ended_after}
 use Rattle.ablated_run.proofs.SlotsOff.{SlotTimes, AreTimes, in_bounds_off_next}
+use Rattle.mem_system.specs.Contents.{system}
 use Rattle.ablated_run.proofs.ablated.Ablated.run_slot.Goals as goal
 
 -- ---- the switch
@@ -25,7 +26,7 @@ pub switch_off-switched-requires-clause-into : goal.switch_off-switched-requires
 switch_off-switched-requires-clause-into c =
     let m = c.args.self.now in
     let i = image_from m.image.now in
-    let s = kept m.memory m.system m.domains.items m.used.items m.clock in
+    let s = kept m.memory (system m.core m.l2) m.domains.items m.used.items m.clock in
     let d = c.from-d.result in
     let y = c.index.result.now in
     let enters =
@@ -39,17 +40,17 @@ switch_off-switched-requires-clause-into c =
 
 starts : (c : goal.After-as_mut_slice-2)
     → Begins (Some c.args.self.now.off) (image_from c.args.self.now.image.now) c.args.self.now.slots
-    (kept c.args.self.now.memory c.args.self.now.system c.args.self.now.domains.items
+    (kept c.args.self.now.memory (system c.args.self.now.core c.args.self.now.l2) c.args.self.now.domains.items
     c.args.self.now.used.items c.args.self.now.clock)
     (record {
-      system = c.switch_off-switched.new.system;
+      system = (system c.switch_off-switched.new.core c.switch_off-switched.new.l2);
       used = c.switch_off-switched.result.used;
       now = c.switch_off-switched.result.now;
     })
 starts c =
     let m = c.args.self.now in
     let i = image_from m.image.now in
-    let s = kept m.memory m.system m.domains.items m.used.items m.clock in
+    let s = kept m.memory (system m.core m.l2) m.domains.items m.used.items m.clock in
     let d = c.from-d.result in
     let y = c.index.result.now in
     let public = c.public-public.ensures.value in
@@ -88,7 +89,7 @@ pub slot_off-self-requires-clause-stands : goal.slot_off-self-requires-clause-st
 slot_off-self-requires-clause-stands c =
     let m = c.args.self.now in
     let i = image_from m.image.now in
-    let s = kept m.memory m.system m.domains.items m.used.items m.clock in
+    let s = kept m.memory (system m.core m.l2) m.domains.items m.used.items m.clock in
     let d = c.from-d.result in
     let enters =
     domain_is i m.accepted m.slots _ c.public-public.ensures.value c.entry-entry.result
@@ -102,7 +103,7 @@ slot_off-self-requires-clause-stands c =
           subst
           (λ (ds : List Domain). StandsIn (Some m.off) i d
           (switch_by (without m.off i) i m.slots (whole_off m.off i m.slots)) m.memory
-          c.switch_off-switched.new.system ds c.switch_off-switched.result.now)
+          (system c.switch_off-switched.new.core c.switch_off-switched.new.l2) ds c.switch_off-switched.result.now)
           (sym c.as_mut_slice-2.ensures.value) at;
     }
 
@@ -110,17 +111,17 @@ slot_off-self-requires-clause-stands c =
 
 starts_so : (c : goal.After-self-2-1)
     → Begins (Some c.args.self.now.off) (image_from c.args.self.now.image.now) c.args.self.now.slots
-    (kept c.args.self.now.memory c.args.self.now.system c.args.self.now.domains.items
+    (kept c.args.self.now.memory (system c.args.self.now.core c.args.self.now.l2) c.args.self.now.domains.items
     c.args.self.now.used.items c.args.self.now.clock)
     (record {
-      system = c.switch_off-switched.new.system;
+      system = (system c.switch_off-switched.new.core c.switch_off-switched.new.l2);
       used = c.switch_off-switched.result.used;
       now = c.switch_off-switched.result.now;
     })
 starts_so c =
     let m = c.args.self.now in
     let i = image_from m.image.now in
-    let s = kept m.memory m.system m.domains.items m.used.items m.clock in
+    let s = kept m.memory (system m.core m.l2) m.domains.items m.used.items m.clock in
     let d = c.from-d.result in
     let y = c.index.result.now in
     let public = c.public-public.ensures.value in
@@ -188,7 +189,7 @@ invariant_of-self-clause-stands c =
     let off = m.off in
     let i = image_from m.image.now in
     let es = i.all.schedule in
-    let s = kept m.memory m.system m.domains.items m.used.items m.clock in
+    let s = kept m.memory (system m.core m.l2) m.domains.items m.used.items m.clock in
     let d = c.from-d.result in
     let public = c.public-public.ensures.value in
     let enters = domain_is i m.accepted m.slots _ public c.entry-entry.result c.entry-entry.ensures.value d
@@ -196,10 +197,10 @@ invariant_of-self-clause-stands c =
     let begun = switch_by (without off i) i m.slots (whole_off off i m.slots) in
     let at = begun_in (Some off) i m.slots m.accepted s m.stands _ (starts_so c) d enters.is in
     let in_slot =
-    subst (λ (ds : List Domain). StandsIn (Some off) i d begun m.memory c.switch_off-switched.new.system ds
+    subst (λ (ds : List Domain). StandsIn (Some off) i d begun m.memory (system c.switch_off-switched.new.core c.switch_off-switched.new.l2) ds
     c.switch_off-switched.result.now)
     (sym c.as_mut_slice-2.ensures.value) at in
-    let z = kept c.slot_off-self.new.memory c.slot_off-self.new.system
+    let z = kept c.slot_off-self.new.memory (system c.slot_off-self.new.core c.slot_off-self.new.l2)
     (take m.domains.len (c.slot_off-self.new.domains ++ drop (length c.slot_off-self.new.domains)
     m.domains.items))
     (take m.used.len (c.note_switch.new.used ++ drop (length c.note_switch.new.used) m.used.items))
@@ -239,12 +240,12 @@ invariant_of-self-clause-ends c =
 pub invariant_of-self-clause-in_bounds : goal.invariant_of-self-clause-in_bounds
 invariant_of-self-clause-in_bounds c =
     let m = c.args.self.now in
-    let s = kept m.memory m.system m.domains.items m.used.items m.clock in
+    let s = kept m.memory (system m.core m.l2) m.domains.items m.used.items m.clock in
     let long : length c.note_switch.new.used ≡ m.used.len = search rules in
     let was : length m.used.items ≡ m.used.len = search rules in
     let counted : (n : ℕ) → CountedUpTo n m.used.items → CountedUpTo (n + 1) c.note_switch.new.used =
     rw c.as_mut_slice.ensures.value at c.note_switch.ensures.few in
-    let z = kept c.slot_off-self.new.memory c.slot_off-self.new.system
+    let z = kept c.slot_off-self.new.memory (system c.slot_off-self.new.core c.slot_off-self.new.l2)
     (take m.domains.len (c.slot_off-self.new.domains ++ drop (length c.slot_off-self.new.domains)
     m.domains.items))
     (take m.used.len (c.note_switch.new.used ++ drop (length c.note_switch.new.used) m.used.items))

@@ -6,6 +6,10 @@ use Rattle.l2_colour.proofs.Rows.{line_in_colour}
 use Rattle.l2_colour.proofs.cache.L2.write_back.Goals.{else-self-via-then-self+else-holds, else-self-via-else-self}
 use Rattle.l2_colour.proofs.cache.L2.write_back.Goals as goal
 
+pub returns-then-holds-clause-steps : goal.returns-then-holds-clause-steps
+returns-then-holds-clause-steps g c =
+    rw (← c.number-then-holds.ensures.same, ← c.self.view_is, c.if-self.true) (λ sets for. c.mark.ensures.marks.step sets for)
+
 pub returns-then-holds-clause-colour : goal.returns-then-holds-clause-colour
 returns-then-holds-clause-colour g c =
     let a = c.self.inside in

@@ -3,7 +3,7 @@ use Rattle.phys_mem.specs.Contents.{Contents}
 use Rattle.repl_policy.specs.Members.{any_rule, any_stands_for}
 use Rattle.mem_system.specs.Hierarchy.{Hierarchy}
 use Rattle.mem_system.specs.Cost.{cold}
-use Rattle.mem_system.specs.Contents.{SystemStands}
+use Rattle.mem_system.specs.Contents.{system, SystemStands}
 use Rattle.mem_system.specs.Geometry.{hierarchy_by}
 use Rattle.hardware_check.specs.Hardware.{IsHardware}
 use Rattle.image_check.specs.Public.{Public}
@@ -28,7 +28,7 @@ invariant_of-result-clause-stands c =
     c.public-public.result.now.hardware.costs
     c.public-public.result.now.hardware.muldiv ≡ hierarchy i.all.hardware =
     c.geometry_of-geometry.ensures.hierarchy ∙ ap (λ (p : Public). hierarchy p.hardware) public in
-    stands_first None i c.runnable.ensures.runnable c.load_pages.new.memory c.in_ok-system.system
+    stands_first None i c.runnable.ensures.runnable c.load_pages.new.memory (system c.in_ok-core.core c.in_ok-core.l2)
     c.in_ok-domains.domains.items c.in_ok-used.used.items
     (record {
       frames =
@@ -36,11 +36,11 @@ invariant_of-result-clause-stands c =
           ∙ ap (λ (x : Contents). x.frames) c.in_ok-memory.ensures.zero
           ∙ ap (λ (p : Public). p.hardware.frames) public;
       holds = c.load_pages.ensures.holds;
-      levels = sym (c.in_ok-system.ensures.hierarchy ∙ levels);
-      pinned = c.in_ok-system.ensures.pinned;
+      levels = sym (c.in_ok-core.ensures.hierarchy ∙ levels);
+      pinned = c.in_ok-core.ensures.pinned;
       cold_is =
-          subst (λ (h : Hierarchy). SystemStands any_stands_for c.in_ok-system.system (cold h)) levels
-          c.in_ok-system.ensures.cold;
+          subst (λ (h : Hierarchy). SystemStands any_stands_for (system c.in_ok-core.core c.in_ok-core.l2) (cold h)) levels
+          c.in_ok-core.ensures.cold;
       opened = entered i c.in_ok-domains.domains.items c.in_ok-domains.ensures.opened;
       all_entries =
           c.in_ok-used.ensures.all ∙ c.len.ensures.value ∙ ap (λ (p : Public). length p.schedule) public;
@@ -50,7 +50,7 @@ invariant_of-result-clause-stands c =
 pub invariant_of-result-clause-in_bounds : goal.invariant_of-result-clause-in_bounds
 invariant_of-result-clause-in_bounds c =
     let i = image_from c.args.image.now in
-    in_bounds_first None i c.load_pages.new.memory c.in_ok-system.system c.in_ok-domains.domains.items
+    in_bounds_first None i c.load_pages.new.memory (system c.in_ok-core.core c.in_ok-core.l2) c.in_ok-domains.domains.items
     c.in_ok-used.used.items
     (entered i c.in_ok-domains.domains.items c.in_ok-domains.ensures.opened) c.in_ok-used.ensures.few
 

@@ -5,6 +5,7 @@ use Rattle.image_check.specs.Image.{image_from}
 use Rattle.tp_machine.specs.Worlds.{kept}
 use Rattle.tp_machine.proofs.Whole.{domain_is, clone_before}
 use Rattle.tp_machine.proofs.Switches.{by_all, own_clone, clone_on}
+use Rattle.mem_system.specs.Contents.{system}
 use Rattle.tp_machine.proofs.machine.Machine.outgoing.Goals as goal
 
 pub returns-clause-on : goal.returns-clause-on
@@ -19,7 +20,7 @@ returns-clause-on c =
     c.from.ensures in
     let within : d < length m.domains.items = omega (arith, left.named, m.stands.all_domains) in
     let got = slice_get_read m.domains.items (length m.domains.items) d x refl within c.index.ensures in
-    let s = kept m.memory m.system m.domains.items m.used.items m.clock in
+    let s = kept m.memory (system m.core m.l2) m.domains.items m.used.items m.clock in
     clone_on i m.accepted m.slots s m.stands d x left.named got
 
 pub returns-clause-clone : goal.returns-clause-clone
@@ -34,7 +35,7 @@ returns-clause-clone c =
     c.from.ensures in
     let within : d < length m.domains.items = omega (arith, left.named, m.stands.all_domains) in
     let got = slice_get_read m.domains.items (length m.domains.items) d x refl within c.index.ensures in
-    let s = kept m.memory m.system m.domains.items m.used.items m.clock in
+    let s = kept m.memory (system m.core m.l2) m.domains.items m.used.items m.clock in
     let more : suc last ≡ m.slots = omega (arith, c.if-self-eq0.false) in
     clone_before None i m.slots m.accepted s (by_all i m.slots s m.stands) last d x more left.is got
     ∙ sym (own_clone i (outgoing i.all.schedule m.slots))

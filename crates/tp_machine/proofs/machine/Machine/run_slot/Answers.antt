@@ -21,6 +21,7 @@ use Rattle.tp_machine.proofs.SwitchCounts.{noted_back, counted_back, length_back
 use Rattle.tp_machine.proofs.Whole.{SlotStart, Begins}
 use Rattle.tp_machine.proofs.Switches.{Switching, clone_on, ended, begins_here}
 use Rattle.tp_machine.proofs.Slots.{SlotEnd, Next, setting_at, slot_begun, now_is, begun, next, resident_at, in_bounds_next}
+use Rattle.mem_system.specs.Contents.{system}
 use Rattle.tp_machine.proofs.machine.Machine.run_slot.Goals as goal
 
 -- ---- the switch
@@ -29,7 +30,7 @@ pub switch-switched-requires-clause-into : goal.switch-switched-requires-clause-
 switch-switched-requires-clause-into c =
     let m = c.args.self.now in
     let i = image_from m.image.now in
-    let s = kept m.memory m.system m.domains.items m.used.items m.clock in
+    let s = kept m.memory (system m.core m.l2) m.domains.items m.used.items m.clock in
     let d = c.from-d.result in
     let domain : IsDomain i d =
     omega (arith, c.next_entry-entry.ensures.domain, c.from-d.ensures) in
@@ -42,7 +43,7 @@ switch-switched-requires-clause-into c =
 pub switch-switched-requires-clause-ended : goal.switch-switched-requires-clause-ended
 switch-switched-requires-clause-ended c =
     let m = c.args.self.now in
-    let s = kept m.memory m.system m.domains.items m.used.items m.clock in
+    let s = kept m.memory (system m.core m.l2) m.domains.items m.used.items m.clock in
     let over = ended (image_from m.image.now) m.accepted m.slots s m.stands in
     omega (arith, over, c.last_end-last_end.ensures.end)
 
@@ -56,17 +57,17 @@ switch-switched-requires-clause-early c =
 -- ---- the slot begins
 
 begins : (c : goal.After-from) → Begins None (image_from c.args.self.now.image.now) c.args.self.now.slots
-    (kept c.args.self.now.memory c.args.self.now.system c.args.self.now.domains.items
+    (kept c.args.self.now.memory (system c.args.self.now.core c.args.self.now.l2) c.args.self.now.domains.items
     c.args.self.now.used.items c.args.self.now.clock)
     (record {
-      system = c.switch-switched.new.system;
+      system = (system c.switch-switched.new.core c.switch-switched.new.l2);
       used = c.switch-switched.result.used;
       now = c.switch-switched.result.now;
     })
 begins c =
     let m = c.args.self.now in
     let i = image_from m.image.now in
-    let s = kept m.memory m.system m.domains.items m.used.items m.clock in
+    let s = kept m.memory (system m.core m.l2) m.domains.items m.used.items m.clock in
     let d = c.from-d.result in
     let y = c.index.result.now in
     let within : d < length m.domains.items =
@@ -78,7 +79,7 @@ begins c =
       old_end = c.last_end-last_end.result;
       until = c.next_start-start.result;
       start = record {
-        system = c.switch-switched.new.system;
+        system = (system c.switch-switched.new.core c.switch-switched.new.l2);
         used = c.switch-switched.result.used;
         now = c.switch-switched.result.now;
       };
@@ -101,7 +102,7 @@ pub stretch-self-requires-clause-runs : goal.stretch-self-requires-clause-runs
 stretch-self-requires-clause-runs c =
     let m = c.args.self.now in
     let i = image_from m.image.now in
-    let s = kept m.memory m.system m.domains.items m.used.items m.clock in
+    let s = kept m.memory (system m.core m.l2) m.domains.items m.used.items m.clock in
     let d = c.from-d.result in
     let x = c.index_mut.result.now in
     let within : d < length m.domains.items =
@@ -111,7 +112,7 @@ stretch-self-requires-clause-runs c =
     slice_get_read m.domains.items (length m.domains.items) d x refl within
     c.index_mut.ensures.value in
     let b : SlotStart = record {
-      system = c.switch-switched.new.system;
+      system = (system c.switch-switched.new.core c.switch-switched.new.l2);
       used = c.switch-switched.result.used;
       now = c.switch-switched.result.now;
     } in
@@ -126,7 +127,7 @@ stretch-self-requires-clause-runs c =
 begins_at : (c : goal.After-from) → c.switch-switched.result.now ≡ c.next_start-start.result
 begins_at c =
     let m = c.args.self.now in
-    let s = kept m.memory m.system m.domains.items m.used.items m.clock in
+    let s = kept m.memory (system m.core m.l2) m.domains.items m.used.items m.clock in
     now_is (image_from m.image.now) m.accepted m.slots s m.stands _ (begins c)
     ∙ sym c.next_start-start.ensures.start
 
@@ -149,17 +150,17 @@ stretch-self-requires-clause-few c =
 -- ---- what it leaves
 
 begun_so : (c : goal.After-self-2-1) → Begins None (image_from c.args.self.now.image.now) c.args.self.now.slots
-    (kept c.args.self.now.memory c.args.self.now.system c.args.self.now.domains.items
+    (kept c.args.self.now.memory (system c.args.self.now.core c.args.self.now.l2) c.args.self.now.domains.items
     c.args.self.now.used.items c.args.self.now.clock)
     (record {
-      system = c.switch-switched.new.system;
+      system = (system c.switch-switched.new.core c.switch-switched.new.l2);
       used = c.switch-switched.result.used;
       now = c.switch-switched.result.now;
     })
 begun_so c =
     let m = c.args.self.now in
     let i = image_from m.image.now in
-    let s = kept m.memory m.system m.domains.items m.used.items m.clock in
+    let s = kept m.memory (system m.core m.l2) m.domains.items m.used.items m.clock in
     let d = c.from-d.result in
     let y = c.index.result.now in
     let within : d < length m.domains.items =
@@ -171,7 +172,7 @@ begun_so c =
       old_end = c.last_end-last_end.result;
       until = c.next_start-start.result;
       start = record {
-        system = c.switch-switched.new.system;
+        system = (system c.switch-switched.new.core c.switch-switched.new.l2);
         used = c.switch-switched.result.used;
         now = c.switch-switched.result.now;
       };
@@ -193,7 +194,7 @@ begun_so c =
 -- the machine after the slot, and its domains' facts
 next_so : (c : goal.After-self-2-1)
     → Next (image_from c.args.self.now.image.now) (c.args.self.now.slots + 1)
-    (kept c.stretch-self.new.memory c.stretch-self.new.system
+    (kept c.stretch-self.new.memory (system c.stretch-self.new.core c.stretch-self.new.l2)
     (slice_set c.args.self.now.domains.items c.from-d.result c.stretch-self.new.domain)
     (take c.args.self.now.used.len
     (c.note_switch.new.used ++ drop (length c.note_switch.new.used) c.args.self.now.used.items))
@@ -202,7 +203,7 @@ next_so c =
     let m = c.args.self.now in
     let i = image_from m.image.now in
     let es = i.all.schedule in
-    let s = kept m.memory m.system m.domains.items m.used.items m.clock in
+    let s = kept m.memory (system m.core m.l2) m.domains.items m.used.items m.clock in
     let d = c.from-d.result in
     let x = c.index_mut.result.now in
     let within : d < length m.domains.items =
@@ -226,13 +227,13 @@ next_so c =
     (switch_entry es m.slots) c.switch-switched.result.used c.switch-switched.result.used
     (c.switch_entry-place.ensures.value es es_long) refl noted in
     let b : SlotStart = record {
-      system = c.switch-switched.new.system;
+      system = (system c.switch-switched.new.core c.switch-switched.new.l2);
       used = c.switch-switched.result.used;
       now = c.switch-switched.result.now;
     } in
     let z : SlotEnd = record {
       memory = c.stretch-self.new.memory;
-      system = c.stretch-self.new.system;
+      system = (system c.stretch-self.new.core c.stretch-self.new.l2);
       domain = c.stretch-self.new.domain;
       used =
           take m.used.len
@@ -260,7 +261,7 @@ pub invariant_of-self-clause-in_bounds : goal.invariant_of-self-clause-in_bounds
 invariant_of-self-clause-in_bounds c =
     let m = c.args.self.now in
     let i = image_from m.image.now in
-    let s = kept m.memory m.system m.domains.items m.used.items m.clock in
+    let s = kept m.memory (system m.core m.l2) m.domains.items m.used.items m.clock in
     let within : c.from-d.result < length m.domains.items =
     omega (arith, c.next_entry-entry.ensures.domain, c.from-d.ensures, m.stands.all_domains) in
     let long : length c.note_switch.new.used ≡ m.used.len = search rules in
@@ -270,7 +271,7 @@ invariant_of-self-clause-in_bounds c =
     let at = now_is i m.accepted m.slots s m.stands _ (begun_so c) in
     let z : SlotEnd = record {
       memory = c.stretch-self.new.memory;
-      system = c.stretch-self.new.system;
+      system = (system c.stretch-self.new.core c.stretch-self.new.l2);
       domain = c.stretch-self.new.domain;
       used =
           take m.used.len

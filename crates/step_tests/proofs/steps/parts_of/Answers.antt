@@ -2,10 +2,10 @@
 use Rattle.std.proofs.Common.{arith, refl, sym, subst, inl, lit≤}
 use Rattle.l2_colour.specs.Colours.{IsColoured}
 use Rattle.step_tests.proofs.Sizes.{is_lru_cache}
-use Rattle.step_tests.proofs.steps.system_of.Goals as goal
+use Rattle.step_tests.proofs.steps.parts_of.Goals as goal
 
-pub new-requires : goal.new-requires
-new-requires c = record {
+pub new_parts-parts-requires : goal.new_parts-parts-requires
+new_parts-parts-requires c = record {
   geometry = record {
     least = omega arith;
     coloured = subst (IsColoured 64) (sym c.cache-3.ensures.sets) (record { whole_lines = refl; whole_colours = refl; some = omega arith; few = omega arith });
