@@ -1,5 +1,6 @@
 -- A switch, and whole runs, by induction on slots.
 pub mod SwitchParts
+pub mod PartyLaws
 pub mod SwitchLaws
 pub mod DomainLaws
 pub mod WholeLaws

@@ -1,7 +1,7 @@
 -- The laws of the machine over its definitions, each as a type; they are the clauses of the functions of `laws`.
 use Rattle.std.specs.Prelude.{◌≡◌, ◌≢◌, ℕ, true, false, ◌+◌, ◌/◌, ◌%◌, ◌<◌, ◌≤◌, ◌^◌, ◌⊎◌, List, ◌∷◌, ◌++◌, length, Some, None, Result, Ok, Err, take, All}
 use Rattle.domain_check.specs.declared.segments.Rights.{Rights}
-use Rattle.hardware_check.specs.Hardware.{Hardware, colours_of}
+use Rattle.hardware_check.specs.Hardware.{Hardware, IsHardware, colours_of}
 use Rattle.sched_table.specs.Schedule.{entry_in}
 use Rattle.image_check.specs.Own.{Own}
 use Rattle.sv32_walk.specs.declared.access.Access.{Access}
@@ -16,18 +16,18 @@ use Rattle.world_view.specs.Frames.{own_frame, pool, pool_frame, root_of, page_f
 use Rattle.world_view.specs.Opening.{rights_in, rights_number}
 use Rattle.world_view.specs.Reading.{image}
 use Rattle.sched_table.specs.Schedule.{entry_of_slot, start, slot_end, outgoing}
-use Rattle.mem_system.specs.Cost.{Touch, Caches, touched_all}
+use Rattle.mem_system.specs.Cost.{Touch, Caches, at_no_cost, and_then, touched_all}
 use Rattle.cache_sharing.specs.Operations as operations
 use Rattle.cache_sharing.specs.Sharing.{kept_at}
-use Rattle.world_view.specs.Cost.{hierarchy}
+use Rattle.world_view.specs.Cost.{hierarchy, region}
 use Rattle.call_table.specs.Laws.{found_at}
 use Rattle.call_table.specs.Rights.{MayReach}
 use Rattle.world_view.specs.Kernel.{estate, layout, frames_for_good}
-use Rattle.world_view.specs.Machine.{caches_of, clock_of, setting, Local, World, step, steps, dom_of, part_of, with_part, clone_of, leave_part, enter_part, prefetch_part, flush_part, switch_work, switch, whole, alone_enter, alone_out}
+use Rattle.world_view.specs.Machine.{caches_of, clock_of, hart_of, setting, Local, World, step, steps, dom_of, part_of, with_part, clone_of, leave_part, enter_part, prefetch_part, flush_part, switch_work, switch, whole, alone_enter, alone_out}
 use Rattle.world_view.specs.View.{view_whole, view_alone}
 use Rattle.world_view.specs.Used.{largest_of}
 use Rattle.image_check.specs.Laws.{Runnable}
-use Rattle.world_view.specs.Relations.{IsDomain, IsOwnFrame, Agree, SameSets, Resident, KeepsSharedAlone, OwnDirty, KernelIsClean, IsKernel, IsForGood, HasFacts, HasRights, ReachesOwn, Beside, Within, Apiece, Untouched, InTime, AllWithinPads}
+use Rattle.world_view.specs.Relations.{IsDomain, IsOwnFrame, Agree, SameSets, SamePart, Resident, KeepsSharedAlone, OwnDirty, KernelIsClean, IsKernel, AreParties, IsForGood, HasFacts, HasRights, ReachesOwn, Beside, Within, Apiece, Untouched, InTime, AllWithinPads}
 
 -- ---- isolation
 
@@ -193,47 +193,97 @@ ForGoodLaw = (i : Image) (k n d : ℕ) → Runnable i → IsDomain i d →
 abbrev pub ReadingLaw : Type 0
 ReadingLaw = (bytes : List ℕ) (i : Image) → image bytes ≡ Ok i → Runnable i
 
--- ---- one event and one phase, of which isolation is made
+-- ---- parties: who has frames and sets of its own, as each domain of an image has
+
+-- any two domains of an image are parties
+abbrev pub PartiesLaw : Type 0
+PartiesLaw = (i : Image) (d e : ℕ) → Runnable i → IsDomain i d → IsDomain i e → d ≢ e
+    → AreParties i.all.hardware (own_of i d) (own_of i e)
+
+-- whichever is named first
+abbrev pub PartiesSwapLaw : Type 0
+PartiesSwapLaw = (p : Hardware) (o other : Own) → AreParties p o other → AreParties p other o
+
+-- no frame is of two parties
+abbrev pub PartyFramesLaw : Type 0
+PartyFramesLaw = (p : Hardware) (o other : Own) (f : ℕ) → AreParties p o other → IsOwnFrame p o f
+    → own_frame p other f ≡ false
+
+-- ---- one event and one phase, of which isolation is made: what another party does, or is done for it, leaves a party's
+-- frames and sets, where the dirty lines are the other's
+
+-- it has an event
+abbrev pub OthersStepLaw : Type 0
+OthersStepLaw = (p : Hardware) (o other : Own) (end : ℕ) (s : Local) → AreParties p o other
+    → HasFacts p other s.dom s.storage → OwnDirty p other s.caches
+    → SamePart p o (step (setting p other false) end s) s
+
+-- it leaves or enters
+abbrev pub OthersLeaveLaw : Type 0
+OthersLeaveLaw = (p : Hardware) (o other : Own) (c : Caches) → AreParties p o other → OwnDirty p other c
+    → SameSets p o (leave_part (hierarchy p) false p.costs (layout p other) c).caches c
+
+abbrev pub OthersEnterLaw : Type 0
+OthersEnterLaw = (p : Hardware) (o other : Own) (c : Caches) → AreParties p o other → OwnDirty p other c
+    → SameSets p o (enter_part (hierarchy p) false (layout p other) c).caches c
+
+-- it has left: the prefetch and the flush write its dirty lines back
+abbrev pub PrefetchLaw : Type 0
+PrefetchLaw = (p : Hardware) (o other : Own) (c : Caches) → AreParties p o other → OwnDirty p other c
+    → SameSets p o (prefetch_part (hierarchy p) (region p) c).caches c
+
+abbrev pub FlushLaw : Type 0
+FlushLaw = (p : Hardware) (o other : Own) (c : Caches) → AreParties p o other → OwnDirty p other c
+    → SameSets p o (flush_part (hierarchy p) false c).caches c
+
+-- for the one that has left itself it makes no difference that a prefetch comes before the flush
+abbrev pub SettledLaw : Type 0
+SettledLaw = (p : Hardware) (o : Own) (c : Caches) → IsHardware p → IsKernel p o →
+    let h = hierarchy p in
+    SameSets p o (flush_part h false (prefetch_part h (region p) c).caches).caches (flush_part h false c).caches
 
 -- one event of domain e, in a slot that ends then
 unfoldable pub event_of : Image → ℕ → ℕ → World → World
 event_of i e end w = with_part 0 e w (step (setting i.all.hardware (own_of i e) false) end (part_of 0 e w))
 
--- another domain's event leaves domain d, its memory and its part of the caches, where the dirty lines are the other's
-abbrev pub OthersStepLaw : Type 0
-OthersStepLaw = (i : Image) (d e end : ℕ) (w : World) → Runnable i → IsDomain i d → IsDomain i e → d ≢ e
+-- so another domain's event leaves domain d, its memory and its part of the caches
+abbrev pub OthersEventLaw : Type 0
+OthersEventLaw = (i : Image) (d e end : ℕ) (w : World) → Runnable i → IsDomain i d → IsDomain i e → d ≢ e
     → HasFacts i.all.hardware (own_of i e) (dom_of w e) w.storage → OwnDirty i.all.hardware (own_of i e) (caches_of 0 w)
     → Untouched i.all.hardware (own_of i d) d (event_of i e end w) w
 
--- another domain leaves or enters
-abbrev pub OthersLeaveLaw : Type 0
-OthersLeaveLaw = (i : Image) (d e : ℕ) (c : Caches) → Runnable i → IsDomain i d → IsDomain i e → d ≢ e
-    → OwnDirty i.all.hardware (own_of i e) c
-    → SameSets i.all.hardware (own_of i d) (leave_part i (Some e) c).caches c
+-- what is done to a domain on one hart changes nothing of another: its on-core state, its clock, and when its slot ended
+abbrev pub OtherHartLaw : Type 0
+OtherHartLaw = (h other d : ℕ) (w : World) (s : Local) → h ≢ other → hart_of h (with_part other d w s) ≡ hart_of h w
 
-abbrev pub OthersEnterLaw : Type 0
-OthersEnterLaw = (i : Image) (d e : ℕ) (c : Caches) → Runnable i → IsDomain i d → IsDomain i e → d ≢ e
-    → OwnDirty i.all.hardware (own_of i e) c
-    → SameSets i.all.hardware (own_of i d) (enter_part (hierarchy i.all.hardware) false (layout i.all.hardware (own_of i e)) c).caches c
-
--- the prefetch and the flush leave all domains but the one that leaves, whose dirty lines they write back
-abbrev pub PrefetchLaw : Type 0
-PrefetchLaw = (i : Image) (d e : ℕ) (c : Caches) → Runnable i → IsDomain i d → IsDomain i e → d ≢ e
-    → OwnDirty i.all.hardware (own_of i e) c → SameSets i.all.hardware (own_of i d) (prefetch_part i c).caches c
-
-abbrev pub FlushLaw : Type 0
-FlushLaw = (i : Image) (d e : ℕ) (c : Caches) → Runnable i → IsDomain i d → IsDomain i e → d ≢ e
-    → OwnDirty i.all.hardware (own_of i e) c → SameSets i.all.hardware (own_of i d) (flush_part i c).caches c
-
--- and for that one it makes no difference that a prefetch comes before the flush
-abbrev pub SettledLaw : Type 0
-SettledLaw = (i : Image) (d : ℕ) (c : Caches) → Runnable i → IsDomain i d
-    → SameSets i.all.hardware (own_of i d) (flush_part i (prefetch_part i c).caches).caches (flush_part i c).caches
+-- and of its own hart on-core state and clock alone
+abbrev pub OwnHartLaw : Type 0
+OwnHartLaw = (h d : ℕ) (w : World) (s : Local)
+    → hart_of h (with_part h d w s) ≡ record (hart_of h w) { core = s.caches.core; clock = s.clock }
 
 -- the domain's own step, from states that are beside: at equal cost, since the clocks stay equal
 abbrev pub OwnStepLaw : Type 0
 OwnStepLaw = (p : Hardware) (o : Own) (end : ℕ) (first s a : Local) → Beside p o first s a
     → Beside p o first (step (setting p o false) end s) (step (setting p o true) end a)
+
+-- the work of a switch is its parts, one after the other
+abbrev pub SwitchWorkLaw : Type 0
+SwitchWorkLaw = (i : Image) (d e : ℕ) (c : Caches) →
+    let p = i.all.hardware in
+    let h = hierarchy p in
+    let left = leave_part h false p.costs (layout p (own_of i d)) c in
+    switch_work i (Some d) e c
+    ≡ and_then (and_then (and_then left (prefetch_part h (region p))) (flush_part h false))
+    (enter_part h false (layout p (own_of i e)))
+
+-- at the boot nobody leaves, at no cost
+abbrev pub BootWorkLaw : Type 0
+BootWorkLaw = (i : Image) (e : ℕ) (c : Caches) →
+    let p = i.all.hardware in
+    let h = hierarchy p in
+    switch_work i None e c
+    ≡ and_then (and_then (and_then (at_no_cost c) (prefetch_part h (region p))) (flush_part h false))
+    (enter_part h false (layout p (own_of i e)))
 
 -- a switch from d to another
 abbrev pub SwitchOutLaw : Type 0

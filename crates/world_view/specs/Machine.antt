@@ -14,6 +14,7 @@ use Rattle.sched_table.specs.Schedule.{entry_of_slot, switch_entry, start, slot_
 use Rattle.world_view.specs.Opening.{placed, all_placed}
 use Rattle.call_table.specs.Domain.{Dom, is_running, delivered_on}
 use Rattle.world_view.specs.Kernel.{opening_dom, estate, layout, no_dom}
+use Rattle.cycle_cost.specs.Costs.{CostTable}
 use Rattle.kernel_clone.specs.Footprints.{Layout}
 use Rattle.mem_system.specs.Hierarchy.{Hierarchy}
 use Rattle.branch_pred.specs.Guesses.{fresh_guesses}
@@ -122,7 +123,25 @@ abbrev pub setting_by : Guards → Image → ℕ → Setting
 setting_by g i d =
     record { machine = i.all.hardware; own = own_of i d; levels = g.levels; clone = g.clone d; pinned = false }
 
--- ---- a switch, in its parts
+-- ---- a switch, in its parts: in a hierarchy, where the kernel's lines are pinned or not
+
+-- the domain of a kernel clone leaves
+abbrev pub leave_part : Hierarchy → Bool → CostTable → Layout → Caches → Touched
+leave_part h pinned costs l c = touched_all h pinned c (leave costs l)
+
+-- the shared lines are loaded
+abbrev pub prefetch_part : Hierarchy → List ℕ → Caches → Touched
+prefetch_part h lines c = touched_all h false c (prefetch lines)
+
+-- all on-core state is made fresh
+abbrev pub flush_part : Hierarchy → Bool → Caches → Touched
+flush_part h pinned c = touched h pinned c Flush
+
+-- the domain of a kernel clone enters
+unfoldable pub enter_part : Hierarchy → Bool → Layout → Caches → Touched
+enter_part h pinned l c = touched_all h pinned c (enter l)
+
+-- ---- a switch, by the guards that are on
 
 -- the kernel clone of who leaves: nobody's at the boot
 abbrev pub clone_of : Image → Option ℕ → Option Layout
@@ -137,32 +156,19 @@ clone_by g (Some d) = Some (g.clone d)
 -- who was running leaves: nobody at the boot
 unfoldable pub leave_by : Guards → Image → Option ℕ → Caches → Touched
 leave_by g i None c = at_no_cost c
-leave_by g i (Some d) c = touched_all g.levels false c (leave i.all.hardware.costs (g.clone d))
+leave_by g i (Some d) c = leave_part g.levels false i.all.hardware.costs (g.clone d) c
 
 unfoldable pub prefetch_by : Guards → Image → Caches → Touched
-prefetch_by g i c =
-    if g.prefetch then touched_all g.levels false c (prefetch (region i.all.hardware)) else at_no_cost c
+prefetch_by g i c = if g.prefetch then prefetch_part g.levels (region i.all.hardware) c else at_no_cost c
 
 unfoldable pub flush_by : Guards → Caches → Touched
-flush_by g c = touched g.levels false c (if g.flush then Flush else EmptyTlb)
-
-unfoldable pub enter_part : Hierarchy → Bool → Layout → Caches → Touched
-enter_part h pinned l c = touched_all h pinned c (enter l)
+flush_by g c = if g.flush then flush_part g.levels false c else touched g.levels false c EmptyTlb
 
 unfoldable pub switch_work_by : Guards → Image → Option ℕ → ℕ → Caches → Touched
 switch_work_by g i out d c =
     and_then (and_then (and_then (leave_by g i out c) (prefetch_by g i)) (flush_by g)) (enter_part g.levels false (g.clone d))
 
 -- with all guards on
-abbrev pub leave_part : Image → Option ℕ → Caches → Touched
-leave_part i = leave_by (guarded i) i
-
-abbrev pub prefetch_part : Image → Caches → Touched
-prefetch_part i = prefetch_by (guarded i) i
-
-abbrev pub flush_part : Image → Caches → Touched
-flush_part i = flush_by (guarded i)
-
 abbrev pub switch_work : Image → Option ℕ → ℕ → Caches → Touched
 switch_work i = switch_work_by (guarded i) i
 
@@ -193,23 +199,27 @@ pub record World : Type 0 where
 abbrev pub dom_of : World → ℕ → Dom
 dom_of w d = at no_dom w.doms d
 
+-- a hart by its number
+abbrev pub hart_of : ℕ → World → Hart
+hart_of h w = at no_hart w.harts h
+
 -- the caches that a hart works on, and its clock
 abbrev pub caches_of : ℕ → World → Caches
-caches_of h w = record { core = (at no_hart w.harts h).core; l2 = w.l2 }
+caches_of h w = record { core = (hart_of h w).core; l2 = w.l2 }
 
 abbrev pub clock_of : ℕ → World → ℕ
-clock_of h w = (at no_hart w.harts h).clock
+clock_of h w = (hart_of h w).clock
 
 abbrev pub ended_of : ℕ → World → ℕ
-ended_of h w = (at no_hart w.harts h).ended
+ended_of h w = (hart_of h w).ended
 
 unfoldable pub with_hart : ℕ → World → Caches → ℕ → World
 with_hart h w c t =
-    record w { l2 = c.l2; harts = put w.harts h (record (at no_hart w.harts h) { core = c.core; clock = t }) }
+    record w { l2 = c.l2; harts = put w.harts h (record (hart_of h w) { core = c.core; clock = t }) }
 
 -- its slot ended then
 unfoldable pub with_end : ℕ → World → ℕ → World
-with_end h w end = record w { harts = put w.harts h (record (at no_hart w.harts h) { ended = end }) }
+with_end h w end = record w { harts = put w.harts h (record (hart_of h w) { ended = end }) }
 
 -- a domain on a hart
 abbrev pub part_of : ℕ → ℕ → World → Local
@@ -362,8 +372,8 @@ alone_in p o k s = stretch (setting p.hardware o true) (slot_end p.schedule k) (
 -- leave isn't charged either; nor is the flush, which writes its dirty lines back
 unfoldable pub alone_out : Hardware → Own → Local → Local
 alone_out p o s =
-    let left = touched_all (hierarchy p) true s.caches (leave p.costs (layout p o)) in
-    record s { caches = (touched (hierarchy p) true left.caches Flush).caches }
+    let left = leave_part (hierarchy p) true p.costs (layout p o) s.caches in
+    record s { caches = (flush_part (hierarchy p) true left.caches).caches }
 
 unfoldable pub alone_if : Public → Own → ℕ → Local → Bool → Local
 alone_if p o k s true = alone_out p.hardware o (alone_in p o k s)

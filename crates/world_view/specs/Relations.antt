@@ -23,7 +23,7 @@ use Rattle.sched_table.specs.Schedule.{last_end, outgoing}
 use Rattle.world_view.specs.Cost.{hierarchy, region, own_colour}
 use Rattle.image_check.specs.Pads.{shape_for}
 use Rattle.world_view.specs.Event.{Storage}
-use Rattle.world_view.specs.Machine.{caches_of, clock_of, Local, World, dom_of}
+use Rattle.world_view.specs.Machine.{caches_of, clock_of, Local, World, dom_of, part_of}
 
 -- ---- what an accepted image gives
 
@@ -65,6 +65,11 @@ SameFrames p o m k = (f : ℕ) → IsOwnFrame p o f → frame_at m f ≡ frame_a
 abbrev pub SameSets : Hardware → Own → Caches → Caches → Type 0
 SameSets p o c k = sharing.SameSets (hierarchy p) (own_colour o) c.l2 k.l2
 
+-- equal in both
+pub record SamePart (p : Hardware) (o : Own) (s a : Local) : Type 0 where
+  pub frames : SameFrames p o s.storage.mem a.storage.mem
+  pub sets : SameSets p o s.caches a.caches
+
 -- all lines that the domains share are in the second level
 abbrev pub Resident : Hardware → Caches → Type 0
 Resident p c = sharing.Resident (hierarchy p) (region p) c.l2
@@ -97,6 +102,12 @@ pub record IsKernel (p : Hardware) (o : Own) : Type 0 where
   pub stack : IsOwnFrame p o (layout p o).stack
   pub data_frame : IsOwnFrame p o (layout p o).data_frame
   pub shares : sharing.IsSharing (hierarchy p) (own_colour o) (region p)
+
+-- two parties: the kernel has what it should of each, and no colour is of both
+pub record AreParties (p : Hardware) (o other : Own) : Type 0 where
+  pub kernel : IsKernel p o
+  pub others_kernel : IsKernel p other
+  pub apart : sharing.AreApart (own_colour o) (own_colour other)
 
 -- a frame that the domain has for good, in this state of it: its own, named by no capability, and never free
 pub record IsForGood (p : Hardware) (o : Own) (d : Dom) (f : ℕ) : Type 0 where
@@ -140,22 +151,19 @@ pub record Beside (p : Hardware) (o : Own) (first s a : Local) : Type 0 where
 -- inside a slot of the domain
 pub record Within (p : Hardware) (o : Own) (s a : Local) : Type 0 where
   pub dom : s.dom ≡ a.dom
-  pub frames : SameFrames p o s.storage.mem a.storage.mem
+  pub part : SamePart p o s a
   pub core : s.caches.core ≡ a.caches.core
-  pub sets : SameSets p o s.caches a.caches
   pub clock : s.clock ≡ a.clock
 
 -- outside the domain's slots
 pub record Apiece (p : Hardware) (o : Own) (s a : Local) : Type 0 where
   pub dom : s.dom ≡ a.dom
-  pub frames : SameFrames p o s.storage.mem a.storage.mem
-  pub sets : SameSets p o s.caches a.caches
+  pub part : SamePart p o s a
 
 -- domain d's own state, its part of memory and of the caches are in the later world as they were
 pub record Untouched (p : Hardware) (o : Own) (d : ℕ) (later w : World) : Type 0 where
   pub dom : dom_of later d ≡ dom_of w d
-  pub frames : SameFrames p o later.storage.mem w.storage.mem
-  pub sets : SameSets p o (caches_of 0 later) (caches_of 0 w)
+  pub part : SamePart p o (part_of 0 d later) (part_of 0 d w)
 
 -- ---- time
 

@@ -2,7 +2,7 @@
 //! that does nothing: a caller that calls it may rely on the law.
 ghost use Rattle.world_view.specs.EventLaws.{StepTouchesLaw, OwnTouchesLaw, SlotTouchesLaw, StepCostLaw, PlainCostLaw, SlotCostLaw};
 ghost use Rattle.world_view.specs.Interrupts.{DueLaw, PromptLaw, FewLaw, AscendLaw, OwnSlotsLaw, TurnLaw, WakeLaw};
-ghost use Rattle.world_view.specs.Laws.{ReadingLaw, IsolationLaw, TwoRunLaw, PadLaw, LargestLaw, StartLaw, InTimeLaw, ClockLaw, OpeningPageLaw, OpeningRightsLaw, OpeningNoPageLaw, OpeningFramesLaw, OpeningZeroLaw, OpeningElsewhereLaw, PoolsApartLaw, KernelColourLaw, PoolPartsLaw, FactsLaw, ReachLaw, NoAccessFaultLaw, RightsLaw, PermittedLaw, KernelLaw, OthersStepLaw, OthersLeaveLaw, OthersEnterLaw, PrefetchLaw, FlushLaw, OwnStepLaw, SwitchOutLaw, SwitchInLaw, SwitchBothLaw, SwitchPastLaw, ResidencyLaw, ForGoodLaw, EmptyLaw, AfterSwitchLaw, SwitchAloneLaw, SlotAloneLaw, SettledLaw, SwitchCleanLaw, SlotCleanLaw, SlotDirtyLaw};
+ghost use Rattle.world_view.specs.Laws.{ReadingLaw, IsolationLaw, TwoRunLaw, PadLaw, LargestLaw, StartLaw, InTimeLaw, ClockLaw, OpeningPageLaw, OpeningRightsLaw, OpeningNoPageLaw, OpeningFramesLaw, OpeningZeroLaw, OpeningElsewhereLaw, PoolsApartLaw, KernelColourLaw, PoolPartsLaw, FactsLaw, ReachLaw, NoAccessFaultLaw, RightsLaw, PermittedLaw, KernelLaw, PartiesLaw, PartiesSwapLaw, PartyFramesLaw, OthersStepLaw, OthersLeaveLaw, OthersEnterLaw, PrefetchLaw, FlushLaw, OthersEventLaw, OtherHartLaw, OwnHartLaw, OwnStepLaw, SwitchWorkLaw, BootWorkLaw, SwitchOutLaw, SwitchInLaw, SwitchBothLaw, SwitchPastLaw, ResidencyLaw, ForGoodLaw, EmptyLaw, AfterSwitchLaw, SwitchAloneLaw, SlotAloneLaw, SettledLaw, SwitchCleanLaw, SlotCleanLaw, SlotDirtyLaw};
 
 /// Every image of the form that is read may be run, and its numbers are within the limits.
 pub fn reading()
@@ -89,10 +89,20 @@ pub fn costs()
     ensures in_slots { SlotCostLaw }
 {}
 
-/// An event of another domain leaves a domain, its memory and its part of the
-/// caches as they were, and each phase of a switch that part. Where it is the
-/// domain itself that leaves, its dirty lines are written back, by the prefetch
-/// or by the flush: after both it makes no difference by which.
+/// Each domain of an image is a party: the kernel has of it what it should. Any
+/// two of them have no colour in common, and so no frame, whichever is named first.
+pub fn parties()
+    ensures each { KernelLaw }
+    ensures two { PartiesLaw }
+    ensures swap { PartiesSwapLaw }
+    ensures frames { PartyFramesLaw }
+{}
+
+/// An event of another party leaves a party's memory and its part of the caches as
+/// they were, and each phase of a switch that part; so an event of another domain
+/// leaves a domain. Where it is the party itself that leaves, its dirty lines are
+/// written back, by the prefetch or by the flush: after both it makes no difference
+/// by which.
 pub fn others_events()
     ensures step { OthersStepLaw }
     ensures leave { OthersLeaveLaw }
@@ -100,6 +110,15 @@ pub fn others_events()
     ensures prefetch { PrefetchLaw }
     ensures flush { FlushLaw }
     ensures settled { SettledLaw }
+    ensures event { OthersEventLaw }
+{}
+
+/// An event on one hart leaves every other hart as it was: its on-core state, its
+/// clock, and when its last slot ended. Of its own hart it changes on-core state and
+/// clock alone.
+pub fn harts()
+    ensures other { OtherHartLaw }
+    ensures own { OwnHartLaw }
 {}
 
 /// A domain's own step does the same among others and alone, at equal cost.
@@ -107,8 +126,13 @@ pub fn own_step()
     ensures step { OwnStepLaw }
 {}
 
-/// A switch out of a domain, into it, from it to itself, and between others.
+/// A switch is its parts, one after the other: a domain leaves, shared lines are
+/// prefetched, on-core state is flushed, the next domain enters; at the boot nobody
+/// leaves. What it does out of a domain, into it, from it to itself, and between
+/// others.
 pub fn switches()
+    ensures work { SwitchWorkLaw }
+    ensures boot { BootWorkLaw }
     ensures out { SwitchOutLaw }
     ensures into { SwitchInLaw }
     ensures both { SwitchBothLaw }

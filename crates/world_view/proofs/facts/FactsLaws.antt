@@ -13,16 +13,17 @@ use Rattle.sched_table.specs.Schedule.{entry_of_slot, slot_end}
 use Rattle.world_view.specs.Frames.{own_frame}
 use Rattle.world_view.specs.Kernel.{opening_dom, no_dom}
 use Rattle.world_view.specs.Event.{Storage, interrupts_of}
-use Rattle.world_view.specs.Machine.{with_hart, clock_of, Guards, setting_by, delivered, Local, World, step, steps, dom_of, part_of, with_part, Owned, if_due, first_of, first_due, delivered_or_step, step_among, steps_among, open_slot, slot_if, switch, opening, whole, guarded, own_slot, ends_by, run_slot_by, switch_by, whole_by, with_end}
+use Rattle.world_view.specs.Machine.{with_hart, clock_of, Guards, setting_by, delivered, Local, World, step, steps, dom_of, part_of, with_part, Owned, if_due, first_of, first_due, delivered_or_step, step_among, steps_among, slot_if, switch, opening, whole, guarded, own_slot, ends_by, run_slot_by, switch_by, whole_by, with_end}
 use Rattle.world_view.specs.Relations.{IsDomain, HasFacts}
 use Rattle.world_view.specs.Laws.{local_in, world_in}
 use Rattle.world_view.proofs.opening.Separate.{Separated}
 use Rattle.world_view.proofs.facts.RightsLaws.{HasBoth, both_with, same_caps, step_keeps_both}
-use Rattle.world_view.proofs.opening.OpeningFacts.{kernel_of}
+use Rattle.world_view.proofs.opening.OpeningFacts.{kernel_of, parties_of}
 use Rattle.world_view.proofs.opening.OpeningRights.{opening_both}
 use Rattle.world_view.proofs.opening.OpeningLaws.{opening_dom_is}
 use Rattle.world_view.proofs.steps.Fuel.{steps_by}
 use Rattle.world_view.proofs.steps.StepLaws.{delivered_caps, steps_keep}
+use Rattle.world_view.proofs.runs.PartyLaws.{others_frames}
 use Rattle.world_view.proofs.steps.Clones.{step_same, step_keeps_so, steps_keep_so}
 
 -- ---- whose moment comes first
@@ -84,7 +85,7 @@ module _ (i : Image) (r : Separated i) where
             (both_with p (own_of i e) s.dom _ s.storage s.storage (at-put_same no_dom w.doms e s.dom) (λ f own. refl) both)
         | inr apart ↦
             both_with p (own_of i d) (dom_of w d) _ w.storage s.storage (at-put_other no_dom w.doms e d s.dom apart)
-            (λ f own. outside f (r.apart e d ie is (λ q. apart (sym q)) f own)) (before d is)
+            (others_frames p (own_of i d) (own_of i e) (parties_of i r d e is ie apart) s.storage.mem w.storage.mem outside) (before d is)
       ]
 
   module _ (g : Guards) where

@@ -1,10 +1,10 @@
 -- The second level's sets of colour 0 keep shared lines alone, at each moment of each switch and of each slot.
-use Rattle.std.proofs.Common.{◌≡◌, ℕ, zero, suc, ◌-◌, false, ap, sym, ◌∙◌, List, ◌∷◌, ◌++◌, length, take, Option, Some, None, refl, subst, le_refl}
+use Rattle.std.proofs.Common.{◌≡◌, ℕ, zero, suc, ◌-◌, Bool, false, ap, sym, ◌∙◌, List, ◌∷◌, ◌++◌, length, take, Option, Some, None, refl, subst, le_refl}
 use Rattle.tp_base.specs.Table.{at, put}
 use Rattle.std.proofs.lemmas.List.{take_all}
 use Rattle.std.proofs.lemmas.Option.{same_Some}
 use Rattle.set_cache.proofs.Dirty.{EachDirty-empty}
-use Rattle.mem_system.specs.Cost.{Touch, Flush, Touched, cold, fresh_core, flushed, on_core, pass_on, touched, touched_all, and_then}
+use Rattle.mem_system.specs.Cost.{Touch, Flush, Caches, Touched, cold, fresh_core, flushed, on_core, pass_on, touched, touched_all, and_then}
 use Rattle.cache_sharing.specs.Operations as operations
 use Rattle.cache_sharing.specs.Operations.{leave, leave_if, enter, prefetch}
 use Rattle.cache_sharing.specs.Sharing as sharing
@@ -12,25 +12,39 @@ use Rattle.cache_sharing.specs.Sharing.{IsOwnLine, IsSharing, MayTouchAll}
 use Rattle.cache_sharing.proofs.Clean.{cold_clean_law, stays_clean_law}
 use Rattle.cache_sharing.proofs.OwnTouches.{may_append, prefetch_may}
 use Rattle.cache_sharing.proofs.KernelSets.{empty_law, shared_alone_law, any_colour, any_may, take_may}
+use Rattle.hardware_check.specs.Hardware.{Hardware}
 use Rattle.image_check.specs.Image.{Image, own_of}
 use Rattle.sched_table.specs.Schedule.{entry_of_slot, slot_end, outgoing}
 use Rattle.world_view.specs.Kernel.{layout}
 use Rattle.world_view.specs.Cost.{hierarchy, region, own_colour}
-use Rattle.world_view.specs.Machine.{with_hart, caches_of, clock_of, setting, Local, clone_of, leave_part, prefetch_part, flush_part, enter_part, flush_by, switch_work_by, step, part_of, with_part, switch, opening, whole, guarded, own_slot, run_slot_by, switch_by, whole_by, with_end}
+use Rattle.world_view.specs.Machine.{with_hart, caches_of, clock_of, setting, Local, clone_of, prefetch_part, flush_part, enter_part, leave_by, prefetch_by, flush_by, switch_work_by, step, part_of, with_part, switch, opening, whole, guarded, own_slot, run_slot_by, switch_by, whole_by, with_end}
 use Rattle.world_view.specs.Relations.{IsDomain, HasFacts, KeepsSharedAlone, KernelIsClean, OwnDirty, left_colours}
 use Rattle.world_view.proofs.touches.CostLaws.{own_dirties}
+use Rattle.world_view.specs.EventLaws.{step_touches}
 use Rattle.world_view.specs.Laws.{local_in, switch_touches, caches_in_switch, EmptyLaw}
 use Rattle.world_view.proofs.opening.Separate.{Separated}
 use Rattle.world_view.proofs.touches.KernelTouches.{leave_may, enter_may}
 use Rattle.world_view.proofs.opening.OpeningFacts.{kernel_of}
-use Rattle.world_view.proofs.steps.Fuel.{steps_by}
-use Rattle.world_view.proofs.steps.StepLaws.{step_may, step_keeps, step_dirties, step_caches}
+use Rattle.world_view.proofs.steps.StepLaws.{step_may, step_dirties, step_caches, steps_hold}
 use Rattle.world_view.proofs.facts.FactsLaws.{begun_facts}
 use Rattle.world_view.proofs.runs.SwitchParts.{region_is, switch_is}
 
 pub empty : EmptyLaw
 unfolding whole_by opening with_hart at put
 empty i s way = empty_law (hierarchy i.all.hardware) s way
+
+-- the sets of colour 0 keep shared lines alone, and none of them is dirty
+record KernelsSets (p : Hardware) (c : Caches) : Type 0 where
+  alone : KeepsSharedAlone p c
+  clean : KernelIsClean p c
+
+-- after touches, too
+touched_sets : (p : Hardware) (own : ℕ → Bool) → IsSharing (hierarchy p) own (region p) → (ts : List Touch) (c : Caches)
+    → MayTouchAll (hierarchy p) own (region p) ts → KernelsSets p c → KernelsSets p (touched_all (hierarchy p) false c ts).caches
+touched_sets p own shares ts c may h = record {
+  alone = shared_alone_law (hierarchy p) own (region p) false ts c shares may h.alone;
+  clean = stays_clean_law (hierarchy p) own (region p) false ts c shares may h.clean;
+}
 
 module _ (i : Image) (r : Separated i) where
   -- what a switch touches, some domain may touch
@@ -65,17 +79,11 @@ module _ (i : Image) (r : Separated i) where
       let kernel = kernel_of i r (entry_of_slot i.all.schedule 0).domain (r.named 0) in
       record { coloured = kernel.shares.coloured; not_kernel = refl; kernel = kernel.shares.kernel }
 
-  in_switch : (k n : ℕ) → KeepsSharedAlone i.all.hardware (caches_of 0 (whole i k)) → KeepsSharedAlone i.all.hardware (caches_in_switch i k n)
-  in_switch k n alone =
+  in_switch : (k n : ℕ) → KernelsSets i.all.hardware (caches_of 0 (whole i k)) → KernelsSets i.all.hardware (caches_in_switch i k n)
+  in_switch k n before =
       let p = i.all.hardware in
-      shared_alone_law (hierarchy p) any_colour (region p) false (take n (switch_touches i k)) (caches_of 0 (whole i k)) any_sharing
-      (take_may (hierarchy p) any_colour (region p) n (switch_touches i k) (switch_any k)) alone
-
-  clean_in_switch : (k n : ℕ) → KernelIsClean i.all.hardware (caches_of 0 (whole i k)) → KernelIsClean i.all.hardware (caches_in_switch i k n)
-  clean_in_switch k n clean =
-      let p = i.all.hardware in
-      stays_clean_law (hierarchy p) any_colour (region p) false (take n (switch_touches i k)) (caches_of 0 (whole i k)) any_sharing
-      (take_may (hierarchy p) any_colour (region p) n (switch_touches i k) (switch_any k)) clean
+      touched_sets p any_colour any_sharing (take n (switch_touches i k)) (caches_of 0 (whole i k))
+      (take_may (hierarchy p) any_colour (region p) n (switch_touches i k) (switch_any k)) before
 
   pub after_switch : (k : ℕ) → caches_in_switch i k (length (switch_touches i k)) ≡ caches_of 0 (switch i k (whole i k))
   unfolding switch_by guarded with_hart at put
@@ -86,66 +94,54 @@ module _ (i : Image) (r : Separated i) where
 
   -- after so many steps of a slot
   record Keeping (k : ℕ) (s : Local) : Type 0 where
-    facts : HasFacts i.all.hardware (own_of i (entry_of_slot i.all.schedule k).domain) s.dom s.storage
-    alone : KeepsSharedAlone i.all.hardware s.caches
-    clean : KernelIsClean i.all.hardware s.caches
+    sets : KernelsSets i.all.hardware s.caches
     dirty : OwnDirty i.all.hardware (own_of i (entry_of_slot i.all.schedule k).domain) s.caches
 
-  next : (k : ℕ) (s : Local) → Keeping k s
+  next : (k : ℕ) (s : Local) → HasFacts i.all.hardware (own_of i (entry_of_slot i.all.schedule k).domain) s.dom s.storage → Keeping k s
       → Keeping k (step (setting i.all.hardware (own_of i (entry_of_slot i.all.schedule k).domain) false) (slot_end i.all.schedule k) s)
-  next k s h =
+  next k s facts h =
       let p = i.all.hardware in
       let o = own_of i (entry_of_slot i.all.schedule k).domain in
       let kernel = kernel_of i r (entry_of_slot i.all.schedule k).domain (r.named k) in
       let end = slot_end i.all.schedule k in
       record {
-        facts = (step_keeps p o kernel false end s.storage s (record { facts = h.facts; outside = λ f out. refl })).facts;
-        alone = subst (KeepsSharedAlone p) (sym (step_caches p o false end s))
-            (shared_alone_law (hierarchy p) (own_colour o) (region p) false _ s.caches kernel.shares (step_may p o kernel end s h.facts) h.alone);
-        clean = subst (KernelIsClean p) (sym (step_caches p o false end s))
-            (stays_clean_law (hierarchy p) (own_colour o) (region p) false _ s.caches kernel.shares (step_may p o kernel end s h.facts) h.clean);
-        dirty = step_dirties p o kernel false end s h.facts h.dirty;
+        sets = subst (KernelsSets p) (sym (step_caches p o false end s))
+            (touched_sets p (own_colour o) kernel.shares (step_touches p o end s) s.caches (step_may p o kernel end s facts) h.sets);
+        dirty = step_dirties p o kernel false end s facts h.dirty;
       }
 
   -- as a slot begins, after the flush and the enter of its domain
   switched_dirty : (k : ℕ) → OwnDirty i.all.hardware (own_of i (entry_of_slot i.all.schedule k).domain) (caches_of 0 (switch i k (whole i k)))
-  unfolding switch_by guarded switch_work_by and_then flush_by enter_part touched on_core flushed fresh_core pass_on with_hart at put
+  unfolding switch_by guarded switch_work_by and_then prefetch_by flush_by enter_part touched on_core flushed fresh_core pass_on with_hart at put
   switched_dirty k =
       let p = i.all.hardware in
       let d = (entry_of_slot i.all.schedule k).domain in
       let kernel = kernel_of i r d (r.named k) in
-      let emptied = (flush_part i (prefetch_part i (leave_part i (outgoing i.all.schedule k) (caches_of 0 (whole i k))).caches).caches).caches in
+      let left = leave_by (guarded i) i (outgoing i.all.schedule k) (caches_of 0 (whole i k)) in
+      let emptied = (flush_part (hierarchy p) false (prefetch_part (hierarchy p) (region p) left.caches).caches).caches in
       own_dirties p (own_of i d) kernel false (enter (layout p (own_of i d))) emptied (enter_may p (own_of i d) kernel (region p))
       (EachDirty-empty (IsOwnLine (hierarchy p) (own_colour (own_of i d))) (hierarchy p).l1d)
 
-  -- between slots
-  record Between (k : ℕ) : Type 0 where
-    alone : KeepsSharedAlone i.all.hardware (caches_of 0 (whole i k))
-    clean : KernelIsClean i.all.hardware (caches_of 0 (whole i k))
-
-  in_slot : (k n : ℕ) → Between k → Keeping k (local_in i k n)
+  in_slot : (k n : ℕ) → KernelsSets i.all.hardware (caches_of 0 (whole i k)) → Keeping k (local_in i k n)
   in_slot k n before =
       let p = i.all.hardware in
       let d = (entry_of_slot i.all.schedule k).domain in
-      let all = length (switch_touches i k) in
-      steps_by (setting p (own_of i d) false) (slot_end i.all.schedule k) (Keeping k) (λ s below h. next k s h) n
-      (part_of 0 d (switch i k (whole i k)))
+      steps_hold p (own_of i d) (kernel_of i r d (r.named k)) (Keeping k) (slot_end i.all.schedule k) (next k) n
+      (part_of 0 d (switch i k (whole i k))) (begun_facts i r k d (r.named k))
       (record {
-        facts = begun_facts i r k d (r.named k);
-        alone = subst (KeepsSharedAlone p) (after_switch k) (in_switch k all before.alone);
-        clean = subst (KernelIsClean p) (after_switch k) (clean_in_switch k all before.clean);
+        sets = subst (KernelsSets p) (after_switch k) (in_switch k (length (switch_touches i k)) before);
         dirty = switched_dirty k;
       })
 
-  between : (k : ℕ) → Between k
+  between : (k : ℕ) → KernelsSets i.all.hardware (caches_of 0 (whole i k))
   unfolding whole_by opening run_slot_by own_slot with_end guarded with_part with_hart at put
   between zero = record {
     alone = λ s way line kernel kept. absurd (cc (sym (empty i s way) ∙ kept));
     clean = cold_clean_law (hierarchy i.all.hardware);
   }
   between (suc k) =
-      let ended = in_slot k (slot_end i.all.schedule k - (clock_of 0 (switch i k (whole i k)))) (between k) in
-      record { alone = ended.alone; clean = ended.clean }
+      let sets = (in_slot k (slot_end i.all.schedule k - (clock_of 0 (switch i k (whole i k)))) (between k)).sets in
+      record { alone = sets.alone; clean = sets.clean }
 
   pub between_clean : (k : ℕ) → KernelIsClean i.all.hardware (caches_of 0 (whole i k))
   between_clean k = (between k).clean
@@ -157,16 +153,16 @@ module _ (i : Image) (r : Separated i) where
   between_dirty (suc k) = (in_slot k (slot_end i.all.schedule k - (clock_of 0 (switch i k (whole i k)))) (between k)).dirty
 
   pub switches_alone : (k n : ℕ) → KeepsSharedAlone i.all.hardware (caches_in_switch i k n)
-  switches_alone k n = in_switch k n (between k).alone
+  switches_alone k n = (in_switch k n (between k)).alone
 
   pub slots_alone : (k n : ℕ) → KeepsSharedAlone i.all.hardware (local_in i k n).caches
-  slots_alone k n = (in_slot k n (between k)).alone
+  slots_alone k n = (in_slot k n (between k)).sets.alone
 
   pub switches_clean : (k n : ℕ) → KernelIsClean i.all.hardware (caches_in_switch i k n)
-  switches_clean k n = clean_in_switch k n (between k).clean
+  switches_clean k n = (in_switch k n (between k)).clean
 
   pub slots_clean : (k n : ℕ) → KernelIsClean i.all.hardware (local_in i k n).caches
-  slots_clean k n = (in_slot k n (between k)).clean
+  slots_clean k n = (in_slot k n (between k)).sets.clean
 
   pub slots_dirty : (k n : ℕ) → OwnDirty i.all.hardware (own_of i (entry_of_slot i.all.schedule k).domain) (local_in i k n).caches
   slots_dirty k n = (in_slot k n (between k)).dirty

@@ -22,11 +22,11 @@ use Rattle.world_view.specs.Opening.{root_entry, rights_in, rights_number, leaf_
 use Rattle.world_view.specs.Kernel.{first_regions, kept_pages, table_claim, fixed_claims, first_slots, estate, layout, opening_dom}
 use Rattle.world_view.specs.Cost.{own_colour}
 use Rattle.world_view.specs.Machine.{opening, alone_opening}
-use Rattle.world_view.specs.Relations.{IsDomain, IsKernel, HasFacts}
+use Rattle.world_view.specs.Relations.{IsDomain, IsKernel, AreParties, HasFacts}
 use Rattle.world_view.proofs.opening.Counts.{is_page, rights_there, rights_region, rights_are_good}
 use Rattle.world_view.proofs.opening.PoolLaws.{pool_own, pool_inside}
 use Rattle.world_view.proofs.opening.Separate.{Separated}
-use Rattle.world_view.proofs.touches.Hierarchies.{bare_is, sharing_is}
+use Rattle.world_view.proofs.touches.Hierarchies.{clone_is, sharing_is}
 use Rattle.world_view.proofs.facts.FactsSame.{facts_same}
 use Rattle.world_view.proofs.opening.OpeningLaws.{at-tabled_past, root_whole, table_whole, root_words, table_words, root_some, root_is, opening_frames}
 use Rattle.world_view.proofs.opening.OpeningClaims.{Fix, fix, fix_table, region_at, region_place, kept_at, Holds, holds_once, Case, case, place, stands, slots_long, frames_once, root_slot, table_slot, page_slot}
@@ -117,20 +117,10 @@ module _ (p : Hardware) (o : Own) (enough : frames_in o.segments ≤ length (poo
 
     is_layout : IsLayout (layout p o)
     unfolding layout
-    is_layout = record {
-      power = (bare_is p h).power;
-      least_line = h.line.least;
-      most_line = h.line.most;
-      some_shared = h.some_shared;
-      most_shared = h.few_shared;
-      whole_lines = h.whole_lines;
-      some_colours = h.some_colours;
-      few_colours = h.few_colours;
-      text = frame_no 0 (omega (arith, enough));
-      more_text = frame_no 1 (omega (arith, enough));
-      stack = frame_no 2 (omega (arith, enough));
-      data_frame = frame_no 3 (omega (arith, enough));
-    }
+    is_layout =
+        clone_is p h (pool_frame p o 0) (pool_frame p o 1) (pool_frame p o 2) (pool_frame p o 3)
+        (frame_no 0 (omega (arith, enough))) (frame_no 1 (omega (arith, enough)))
+        (frame_no 2 (omega (arith, enough))) (frame_no 3 (omega (arith, enough)))
 
     pub kernel_is : own_colour o 0 ≡ false → IsKernel p o
     unfolding layout
@@ -313,3 +303,9 @@ module _ (i : Image) (r : Separated i) where
 
 pub kernel_of : (i : Image) → Separated i → (d : ℕ) → IsDomain i d → IsKernel i.all.hardware (own_of i d)
 kernel_of i r d is = kernel_is i.all.hardware (own_of i d) (r.enough d is) (r.sound d) r.hardware (r.not_kernel d is)
+
+-- any two domains are parties
+pub parties_of : (i : Image) → Separated i → (d e : ℕ) → IsDomain i d → IsDomain i e → d ≢ e
+    → AreParties i.all.hardware (own_of i d) (own_of i e)
+parties_of i r d e is ie other =
+    record { kernel = kernel_of i r d is; others_kernel = kernel_of i r e ie; apart = r.apart d e is ie other }

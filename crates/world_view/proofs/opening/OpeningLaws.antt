@@ -17,7 +17,7 @@ use Rattle.world_view.specs.Machine.{with_hart, opening_doms, opening, alone_ope
 use Rattle.world_view.specs.Relations.{IsDomain, IsOwnFrame, SameFrames}
 use Rattle.world_view.proofs.opening.Counts.{region_before, region_once, is_page, pages_low, page_once}
 use Rattle.world_view.proofs.opening.PoolLaws.{pool_own, pool_once}
-use Rattle.world_view.proofs.opening.Separate.{Separated}
+use Rattle.world_view.proofs.opening.Separate.{Separated, frames_apart}
 
 -- ---- the values of a function
 
@@ -313,4 +313,4 @@ module _ (i : Image) (r : Separated i) where
   unfolding opening alone_opening with_hart at put
   opening_frames d is f own =
       let p = i.all.hardware in
-      placed_once p i.owns d f is (λ e ie. placed_other p (own_of i e) (r.enough e ie)) (λ e ie ne. r.apart e d ie is ne f own)
+      placed_once p i.owns d f is (λ e ie. placed_other p (own_of i e) (r.enough e ie)) (λ e ie ne. frames_apart p (own_of i d) (own_of i e) f (r.apart d e is ie (λ q. ne (sym q))) own)

@@ -1,5 +1,5 @@
 -- What the laws use of an image that may run.
-use Rattle.std.proofs.Common.{◌≡◌, ◌≢◌, ℕ, zero, suc, ◌%◌, ◌<◌, ◌≤◌, true, false, nat_lt, List, [], length, map, sym, ap, ◌∙◌, arith, mod-lt}
+use Rattle.std.proofs.Common.{◌≡◌, ◌≢◌, ℕ, zero, suc, ◌%◌, ◌<◌, ◌≤◌, false, nat_lt, List, [], length, map, sym, ap, ◌∙◌, arith, mod-lt}
 use Rattle.std.proofs.lemmas.Bool.{and_parts}
 use Rattle.std.proofs.lemmas.List.{get_or-map}
 use Rattle.std.proofs.Math.Bool.{and-false}
@@ -16,9 +16,12 @@ use Rattle.sched_table.specs.Schedule.{entry_of_slot, switch_entry, pad_of}
 use Rattle.world_view.specs.Relations.{IsDomain, IsOwnFrame, bound, ended_own}
 use Rattle.world_view.proofs.steps.Fuel.{IsTimed}
 
--- no frame of the one is a frame of the other
-abbrev pub Apart : Hardware → Own → Own → Type 0
-Apart p e o = (f : ℕ) → IsOwnFrame p o f → own_frame p e f ≡ false
+-- a frame has one colour, so where no colour is of both, no frame is
+pub frames_apart : (p : Hardware) (o other : Own) (f : ℕ) → AreApart (own_colour o) (own_colour other) → IsOwnFrame p o f
+    → own_frame p other f ≡ false
+frames_apart p o other f apart own =
+    let unnamed : has other.colours (f % colours_of p) ≡ false = apart (f % colours_of p) (and_parts _ _ own).1 in
+    rw unnamed (and-false (nat_lt f p.frames))
 
 pub record Separated (i : Image) : Type 0 where
   pub counted : i.all.domains ≡ length i.owns
@@ -26,8 +29,7 @@ pub record Separated (i : Image) : Type 0 where
   pub named : (k : ℕ) → IsDomain i (entry_of_slot i.all.schedule k).domain
   pub enough : (d : ℕ) → IsDomain i d → frames_in (own_of i d).segments ≤ length (pool i.all.hardware (own_of i d))
   pub sound : (d : ℕ) → IsOwn (own_of i d)
-  pub apart : (d e : ℕ) → IsDomain i d → IsDomain i e → d ≢ e → Apart i.all.hardware (own_of i d) (own_of i e)
-  pub colours_apart : (d e : ℕ) → IsDomain i d → IsDomain i e → d ≢ e → AreApart (own_colour (own_of i d)) (own_colour (own_of i e))
+  pub apart : (d e : ℕ) → IsDomain i d → IsDomain i e → d ≢ e → AreApart (own_colour (own_of i d)) (own_colour (own_of i e))
   pub not_kernel : (d : ℕ) → IsDomain i d → own_colour (own_of i d) 0 ≡ false
   pub padded : (k : ℕ) → bound i.all.hardware (ended_own i k) ≤ pad_of i.all.schedule k
   pub hardware : IsHardware i.all.hardware
@@ -37,17 +39,9 @@ module _ (i : Image) (r : Runnable i) where
   pub list_is : (d : ℕ) → IsDomain i d → list_at (map (λ o. o.colours) i.owns) d ≡ (own_of i d).colours
   list_is d is = get_or-map (λ (o : Own). o.colours) i.owns d no_own [] is
 
-  -- a frame has one colour, and that is named by one domain at most
-  separate : (d e : ℕ) → IsDomain i d → IsDomain i e → d ≢ e → Apart i.all.hardware (own_of i d) (own_of i e)
-  separate d e is ie other f own =
-      let c = f % colours_of i.all.hardware in
-      let named : has (list_at (map (λ o. o.colours) i.owns) e) c ≡ true = ap (λ (cs : List ℕ). has cs c) (list_is e ie) ∙ (and_parts _ _ own).1 in
-      let unnamed : has (own_of i d).colours c ≡ false =
-      ap (λ (cs : List ℕ). has cs c) (sym (list_is d is)) ∙ r.disjoint.apart e d c (λ same. other (sym same)) named in
-      rw unnamed (and-false (nat_lt f i.all.hardware.frames))
-
-  colours_separate : (d e : ℕ) → IsDomain i d → IsDomain i e → d ≢ e → AreApart (own_colour (own_of i d)) (own_colour (own_of i e))
-  colours_separate d e is ie other c own =
+  -- a colour is named by one domain at most
+  separate : (d e : ℕ) → IsDomain i d → IsDomain i e → d ≢ e → AreApart (own_colour (own_of i d)) (own_colour (own_of i e))
+  separate d e is ie other c own =
       ap (λ (cs : List ℕ). has cs c) (sym (list_is e ie)) ∙ r.disjoint.apart d e c other (ap (λ (cs : List ℕ). has cs c) (list_is d is) ∙ own)
 
   not_zero : (d : ℕ) → IsDomain i d → own_colour (own_of i d) 0 ≡ false
@@ -66,7 +60,6 @@ module _ (i : Image) (r : Runnable i) where
     enough = r.pools;
     sound = r.sound;
     apart = separate;
-    colours_apart = colours_separate;
     not_kernel = not_zero;
     padded = λ k. r.padded (switch_entry i.all.schedule k) (entry_there k);
     hardware = r.hardware;

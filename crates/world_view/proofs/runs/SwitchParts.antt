@@ -1,7 +1,7 @@
 -- A switch's work is the touches of its parts, one after the other.
 use Rattle.std.proofs.Common.{◌≡◌, ◌∙◌, ℕ, Bool, true, false, List, [], ◌∷◌, ◌++◌, Option, Some, None, ap, ap₂, refl, arith}
 use Rattle.std.specs.Prelude.{if◌then◌else◌}
-use Rattle.mem_system.specs.Cost.{Touch, EmptyTlb, Flush, Caches, at_no_cost, and_then, touched_all}
+use Rattle.mem_system.specs.Cost.{Touch, EmptyTlb, Flush, Caches, at_no_cost, and_then, touched, touched_all}
 use Rattle.kernel_clone.specs.Footprints.{Layout}
 use Rattle.mem_system.proofs.Touches.{touched_all-append}
 use Rattle.cache_sharing.specs.Operations as operations
@@ -11,7 +11,7 @@ use Rattle.image_check.specs.Own.{Own}
 use Rattle.image_check.specs.Image.{Image, own_of}
 use Rattle.world_view.specs.Kernel.{layout}
 use Rattle.world_view.specs.Cost.{hierarchy, region}
-use Rattle.world_view.specs.Machine.{Guards, guarded, clone_of, clone_by, leave_by, prefetch_by, flush_by, enter_part, switch_work_by, switch_work}
+use Rattle.world_view.specs.Machine.{Guards, guarded, clone_of, clone_by, prefetch_part, flush_part, enter_part, leave_by, prefetch_by, flush_by, switch_work_by, switch_work}
 
 pub region_is : (p : Hardware) (o : Own) → shared_region (layout p o) ≡ region p
 unfolding region shared_region layout
@@ -31,11 +31,17 @@ module _ (g : Guards) (i : Image) where
   leave_is (Some d) c = refl
 
   loads_is : (b : Bool) (c : Caches)
-      → (if b then touched_all g.levels false c (prefetch (region i.all.hardware)) else at_no_cost c)
+      → (if b then prefetch_part g.levels (region i.all.hardware) c else at_no_cost c)
       ≡ touched_all g.levels false c (if b then prefetch (region i.all.hardware) else [])
   unfolding touched_all
   loads_is true c = refl
   loads_is false c = refl
+
+  emptied_is : (b : Bool) (c : Caches)
+      → (if b then flush_part g.levels false c else touched g.levels false c EmptyTlb)
+      ≡ touched g.levels false c (if b then Flush else EmptyTlb)
+  emptied_is true c = refl
+  emptied_is false c = refl
 
   pub work_by_is : (out : Option ℕ) (d : ℕ) (c : Caches) → shared_region (g.clone d) ≡ region i.all.hardware
       → switch_work_by g i out d c ≡ touched_all g.levels false c (touches_by out d)
@@ -47,7 +53,7 @@ module _ (g : Guards) (i : Image) where
       let left = operations.leave_if p.costs (clone_by g out) in
       let loads : List Touch = if g.prefetch then prefetch (region p) else [] in
       let emptied : Touch = if g.flush then Flush else EmptyTlb in
-      rw (same, leave_is out c, loads_is g.prefetch (touched_all h false c left).caches, touched_all-append h false c left (loads ++ emptied ∷ enter l), touched_all-append h false (touched_all h false c left).caches loads (emptied ∷ enter l))
+      rw (same, leave_is out c, loads_is g.prefetch (touched_all h false c left).caches, emptied_is g.flush (touched_all h false (touched_all h false c left).caches loads).caches, touched_all-append h false c left (loads ++ emptied ∷ enter l), touched_all-append h false (touched_all h false c left).caches loads (emptied ∷ enter l))
       (ap₂ (λ (x : ℕ) (y : Caches). record { cost = x; caches = y }) (omega arith) refl)
 
 -- ---- with all on

@@ -11,9 +11,7 @@ use Rattle.world_view.specs.Frames.{pool}
 use Rattle.sched_table.specs.Schedule.{entry_of_slot, slot_end, outgoing}
 use Rattle.phys_mem.specs.Mem.{frame_at}
 use Rattle.world_view.specs.Opening.{frame_words}
-use Rattle.thread_set.specs.Threads.{all_of}
 use Rattle.call_table.specs.Domain.{Dom}
-use Rattle.kernel_call.specs.Logs.{log_of}
 use Rattle.world_view.specs.Kernel.{no_dom}
 use Rattle.world_view.specs.Event.{Storage}
 use Rattle.world_view.specs.Machine.{with_hart, setting, Local, steps, stretch, dom_of, part_of, with_part, switch, opening, whole, alone_opening, alone_enter, alone_in, alone_out, alone_if, alone, guarded, own_slot, run_slot_by, whole_by, with_end}
@@ -21,14 +19,15 @@ use Rattle.world_view.specs.View.{view, view_whole, view_alone}
 use Rattle.world_view.specs.Relations.{IsDomain, SameFrames, IsKernel, HasFacts, OwnDirty, Resident, Beside, Within, Apiece, Agree}
 use Rattle.world_view.proofs.opening.PoolLaws.{own_at_place}
 use Rattle.world_view.proofs.opening.Separate.{Separated}
-use Rattle.world_view.proofs.opening.OpeningFacts.{kernel_of}
-use Rattle.world_view.proofs.steps.StepLaws.{stretch_near, steps_keep, steps_others}
+use Rattle.world_view.proofs.opening.OpeningFacts.{kernel_of, parties_of}
+use Rattle.world_view.proofs.steps.StepLaws.{stretch_near}
 use Rattle.world_view.proofs.facts.FactsLaws.{begun_facts}
 use Rattle.world_view.proofs.facts.ResidencyLaws.{begun_resident}
 use Rattle.world_view.proofs.facts.KernelSets.{slots_dirty}
 use Rattle.world_view.proofs.time.TimeLaws.{in_time}
 use Rattle.world_view.proofs.opening.OpeningLaws.{opening_dom_is, opening_frames}
-use Rattle.world_view.proofs.runs.SwitchLaws.{others_frames, switch_past, switch_out, switch_in, switch_both}
+use Rattle.world_view.proofs.runs.PartyLaws.{others_steps}
+use Rattle.world_view.proofs.runs.SwitchLaws.{switch_past, switch_out, switch_in, switch_both}
 
 -- in the last slot of the domain, before it leaves; or outside its slots
 abbrev JoinedIf : Image → ℕ → ℕ → Bool → Type 0
@@ -50,12 +49,12 @@ module _ (i : Image) (r : Separated i) where
         kernel = kernel;
         dom = h.dom;
         facts = facts;
-        storage = record { same = h.frames; outside = λ f x. refl };
-        caches = record { core = h.core; dirty = dirty; l2 = record { same = h.sets; resident = resident; outside = λ m out kernels. refl } };
+        storage = record { same = h.part.frames; outside = λ f x. refl };
+        caches = record { core = h.core; dirty = dirty; l2 = record { same = h.part.sets; resident = resident; outside = λ m out kernels. refl } };
         clock = h.clock;
       } in
       let n = stretch_near p o end s s a b in
-      record { dom = n.dom; frames = n.storage.same; core = n.caches.core; sets = n.caches.l2.same; clock = n.clock }
+      record { dom = n.dom; part = record { frames = n.storage.same; sets = n.caches.l2.same }; core = n.caches.core; clock = n.clock }
 
   -- as a slot begins each dirty line is of its domain
   begun_dirty : (k d : ℕ) → (entry_of_slot i.all.schedule k).domain ≡ d
@@ -76,9 +75,8 @@ module _ (i : Image) (r : Separated i) where
       (let n = slot_within p (own_of i d) (slot_end es k) (part_of 0 d begun) (alone_enter i.all (own_of i d) k a) (kernel_of i r d within) (begun_facts i r k d within) (begun_dirty k d is) (begun_resident i r k) h in
       record {
         dom = at-put_same no_dom begun.doms d _ ∙ n.dom;
-        frames = n.frames;
+        part = record { frames = n.part.frames; sets = n.part.sets };
         core = n.core;
-        sets = n.sets;
         clock = n.clock;
       })
 
@@ -92,14 +90,12 @@ module _ (i : Image) (r : Separated i) where
       let e = (entry_of_slot es k).domain in
       let begun = switch i k (whole i k) in
       let s = part_of 0 e begun in
-      let ie = r.named k in
-      let facts = begun_facts i r k e ie in
-      let kept = steps_keep p (own_of i e) (kernel_of i r e ie) false (slot_end es k) (slot_end es k - s.clock) s.storage s (record { facts = facts; outside = λ f out. refl }) in
-      let sets = steps_others p (own_of i e) (kernel_of i r e ie) (own_of i d) (kernel_of i r d is) (r.colours_apart d e is ie (λ q. ne (sym q))) (slot_end es k) (slot_end es k - s.clock) s facts (begun_dirty k e refl) in
+      let other : d ≢ e = λ q. ne (sym q) in
+      let parties = parties_of i r d e is (r.named k) other in
+      let left = others_steps p (own_of i d) (own_of i e) (slot_end es k) (slot_end es k - s.clock) s parties (begun_facts i r k e (r.named k)) (begun_dirty k e refl) in
       record {
-        dom = at-put_other no_dom begun.doms e d _ (λ q. ne (sym q)) ∙ h.dom;
-        frames = λ f own. others_frames i r d e is ie (λ q. ne (sym q)) (stretch (setting p (own_of i e) false) (slot_end es k) s) s kept.outside f own ∙ h.frames f own;
-        sets = λ m own. sets m own ∙ h.sets m own;
+        dom = at-put_other no_dom begun.doms e d _ other ∙ h.dom;
+        part = record { frames = λ f own. left.frames f own ∙ h.part.frames f own; sets = λ m own. left.sets m own ∙ h.part.sets m own };
       }
 
   module _ (d : ℕ) (is : IsDomain i d) where
@@ -143,18 +139,18 @@ module _ (i : Image) (r : Separated i) where
 
     joined : (k : ℕ) → Joined i d k
     unfolding whole_by alone alone_opening opening with_hart at put
-    joined zero = record { dom = opening_dom_is i r d is; frames = opening_frames i r d is; sets = λ s own. refl }
+    joined zero = record { dom = opening_dom_is i r d is; part = record { frames = opening_frames i r d is; sets = λ s own. refl } }
     joined (suc k) = next_if k _ refl (joined k)
 
     seen_if : (k : ℕ) (b : Bool) → JoinedIf i d k b → (dom_of (whole i (suc k)) d ≡ (alone_if i.all (own_of i d) k (alone i.all (own_of i d) d k) b).dom) × SameFrames i.all.hardware (own_of i d) (whole i (suc k)).storage.mem (alone_if i.all (own_of i d) k (alone i.all (own_of i d) d k) b).storage.mem
     unfolding alone_if alone_out
-    seen_if k true j = (j.dom, j.frames)
-    seen_if k false j = (j.dom, j.frames)
+    seen_if k true j = (j.dom, j.part.frames)
+    seen_if k false j = (j.dom, j.part.frames)
 
     -- its state and its frames are those of the domain alone
     seen : (k : ℕ) → Joined i d k → (dom_of (whole i k) d ≡ (alone i.all (own_of i d) d k).dom) × SameFrames i.all.hardware (own_of i d) (whole i k).storage.mem (alone i.all (own_of i d) d k).storage.mem
     unfolding alone
-    seen zero j = (j.dom, j.frames)
+    seen zero j = (j.dom, j.part.frames)
     seen (suc k) j = seen_if k _ j
 
 -- what agrees on each item gives the same list
@@ -166,16 +162,7 @@ same_view : (p : Hardware) (o : Own) (d e : Dom) (s t : Storage) → d ≡ e →
 unfolding view
 same_view p o d e s t dom frames =
     let same = same_map (λ f. frame_words (frame_at s.mem f)) (λ f. frame_words (frame_at t.mem f)) (pool p o) (λ n h. ap frame_words (frames _ (own_at_place p o n h))) in
-    ap₂ (λ (x : Dom) (y : List (List ℕ)). record {
-      status = x.status;
-      retired = x.retired;
-      threads = all_of x.threads;
-      readings = log_of x.readings;
-      replies = log_of x.replies;
-      printed = x.printed;
-      pool = pool p o;
-      frames = y;
-    }) dom same
+    ap₂ (λ (x : Dom) (y : List (List ℕ)). record (view p o x s) { frames = y }) dom same
 
 pub isolated : (i : Image) (d n : ℕ) → Separated i → IsDomain i d → view_whole i d n ≡ view_alone i.all (own_of i d) d n
 unfolding view_whole view_alone

@@ -1,5 +1,5 @@
 -- Steps of the domain from states that are beside give states that are beside, at equal cost.
-use Rattle.std.proofs.Common.{◌≡◌, ℕ, Bool, true, false, ltb, zero, suc, ◌+◌, ◌-◌, ◌⊎◌, inl, inr, length, Option, Some, None, List, ap, sym, refl, subst, subst₂, ◌∙◌}
+use Rattle.std.proofs.Common.{◌≡◌, ℕ, Bool, true, false, ltb, zero, suc, ◌+◌, ◌-◌, ◌⊎◌, inl, inr, length, Option, Some, None, List, ap, sym, refl, subst, subst₂}
 use Rattle.tp_base.specs.Act.{either}
 use Rattle.phys_mem.specs.Mem.{frame_at}
 use Rattle.hardware_check.specs.Hardware.{Hardware}
@@ -11,15 +11,15 @@ use Rattle.call_table.specs.Claims.{is_mine, claims, Facts}
 use Rattle.world_view.specs.Frames.{own_frame}
 use Rattle.world_view.specs.Kernel.{estate, layout}
 use Rattle.mem_system.specs.Cost.{Touch, Caches, touched_all}
-use Rattle.cache_sharing.specs.Sharing.{AreApart, BesideTouched}
+use Rattle.cache_sharing.specs.Sharing.{BesideTouched}
 use Rattle.world_view.specs.Cost.{hierarchy, region, own_colour}
 use Rattle.world_view.specs.Event.{Storage, instruction, delivery_touches, Event, event}
 use Rattle.world_view.specs.Event.Event.{Jump, Deliver, Run}
 use Rattle.world_view.specs.Machine.{setting, Local, paid, delivered, happened, step, steps, stretch}
-use Rattle.world_view.specs.Relations.{IsKernel, HasFacts, SameSets, MayAll, Resident, OwnDirty, BesideStorage, BesideCaches, Beside}
+use Rattle.world_view.specs.Relations.{IsKernel, HasFacts, MayAll, Resident, OwnDirty, BesideStorage, BesideCaches, Beside}
 use Rattle.world_view.specs.EventLaws.{event_touches, step_touches, StepTouchesLaw}
 use Rattle.world_view.proofs.steps.Fuel.{steps_by}
-use Rattle.world_view.proofs.touches.CostLaws.{own_touches, own_resident, own_dirties, others_touches}
+use Rattle.world_view.proofs.touches.CostLaws.{own_touches, own_resident, own_dirties}
 use Rattle.world_view.proofs.actions.ActLaws.{Known, Alike, instruction_near}
 use Rattle.world_view.proofs.touches.KernelTouches.{delivery_may}
 
@@ -98,6 +98,19 @@ module _ (p : Hardware) (o : Own) (end : ℕ) (first : Local) where
   stretch_near s a b =
       subst (λ (t : ℕ). Beside p o first (stretch (setting p o false) end s) (steps (setting p o true) end (end - t) a)) b.clock (steps_near (end - s.clock) s a b)
 
+-- ---- what a step does to the caches
+
+caches_if : (p : Hardware) (o : Own) (pinned : Bool) (s : Local) (e : Event)
+    → (happened (setting p o pinned) s e).caches ≡ (touched_all (hierarchy p) pinned s.caches (event_touches p o s e)).caches
+unfolding happened paid delivered touched_all
+caches_if p o pinned s (Jump t) = refl
+caches_if p o pinned s (Deliver line) = refl
+caches_if p o pinned s Run = refl
+
+pub step_caches : StepTouchesLaw
+unfolding step
+step_caches p o pinned end s = caches_if p o pinned s (event o s.clock end s.dom)
+
 -- ---- one machine's steps, whatever its caches hold
 
 -- the domain's facts hold, and outside its frames memory is as at first
@@ -143,100 +156,34 @@ module _ (p : Hardware) (o : Own) (kernel : IsKernel p o) where
   steps_keep pinned end n first s h = steps_by (setting p o pinned) end (Keeps p o first) (λ t below k. step_keeps pinned end first t k) n s h
 
   -- its own lines stay the only dirty ones
-  dirties_if : (pinned : Bool) (s : Local) (e : Event) → HasFacts p o s.dom s.storage → OwnDirty p o s.caches
-      → OwnDirty p o (happened (setting p o pinned) s e).caches
-  unfolding happened paid delivered
-  dirties_if pinned s (Jump t) facts dirty = dirty
-  dirties_if pinned s (Deliver line) facts dirty =
-      own_dirties p o kernel pinned (delivery_touches p (layout p o)) s.caches (delivery_may p o kernel) dirty
-  dirties_if pinned s Run facts dirty =
-      own_dirties p o kernel pinned (instruction p (estate p o) (layout p o) s.clock s.dom s.storage).notes s.caches (may_run s.clock s facts) dirty
-
   pub step_dirties : (pinned : Bool) (end : ℕ) (s : Local) → HasFacts p o s.dom s.storage → OwnDirty p o s.caches
       → OwnDirty p o (step (setting p o pinned) end s).caches
-  unfolding step
-  step_dirties pinned end s facts dirty = dirties_if pinned s (event o s.clock end s.dom) facts dirty
+  step_dirties pinned end s facts dirty =
+      subst (OwnDirty p o) (sym (step_caches p o pinned end s))
+      (own_dirties p o kernel pinned (step_touches p o end s) s.caches (step_may end s facts) dirty)
 
   -- what is shared stays in place
-  resident_if : (s : Local) (e : Event) → HasFacts p o s.dom s.storage → Resident p s.caches → Resident p (happened (setting p o false) s e).caches
-  unfolding happened paid delivered
-  resident_if s (Jump t) facts resident = resident
-  resident_if s (Deliver line) facts resident = own_resident p o kernel (delivery_touches p (layout p o)) s.caches (delivery_may p o kernel) resident
-  resident_if s Run facts resident = own_resident p o kernel (instruction p (estate p o) (layout p o) s.clock s.dom s.storage).notes s.caches (may_run s.clock s facts) resident
+  step_resident : (end : ℕ) (s : Local) → HasFacts p o s.dom s.storage → Resident p s.caches
+      → Resident p (step (setting p o false) end s).caches
+  step_resident end s facts resident =
+      subst (Resident p) (sym (step_caches p o false end s))
+      (own_resident p o kernel (step_touches p o end s) s.caches (step_may end s facts) resident)
 
-  record Resides (s : Local) : Type 0 where
+  -- what holds wherever the facts do, and each step keeps, holds after so many steps
+  record Holds (Q : Local → Type 0) (s : Local) : Type 0 where
     keeps : Keeps p o s.storage s
-    resident : Resident p s.caches
+    so : Q s
 
-  resides : (end : ℕ) (s : Local) → Resides s → Resides (step (setting p o false) end s)
-  unfolding step
-  resides end s h = record {
-    keeps = record { facts = (keeps_if false s.storage s (event o s.clock end s.dom) h.keeps).facts; outside = λ f out. refl };
-    resident = resident_if s (event o s.clock end s.dom) h.keeps.facts h.resident;
-  }
+  pub steps_hold : (Q : Local → Type 0) (end : ℕ)
+      → ((s : Local) → HasFacts p o s.dom s.storage → Q s → Q (step (setting p o false) end s))
+      → (n : ℕ) (s : Local) → HasFacts p o s.dom s.storage → Q s → Q (steps (setting p o false) end n s)
+  steps_hold Q end next n s facts so =
+      (steps_by (setting p o false) end (Holds Q)
+      (λ t below h. record {
+        keeps = record { facts = (step_keeps false end t.storage t h.keeps).facts; outside = λ f out. refl };
+        so = next t h.keeps.facts h.so;
+      }) n s (record { keeps = record { facts = facts; outside = λ f out. refl }; so = so })).so
 
   pub steps_resident : (end n : ℕ) (s : Local) → HasFacts p o s.dom s.storage → Resident p s.caches → Resident p (steps (setting p o false) end n s).caches
   steps_resident end n s facts resident =
-      (steps_by (setting p o false) end Resides (λ t below h. resides end t h) n s (record { keeps = record { facts = facts; outside = λ f out. refl }; resident = resident })).resident
-
-  -- and so do the sets of another domain
-  module _ (q : Own) (other : IsKernel p q) (apart : AreApart (own_colour q) (own_colour o)) where
-    others_if : (s : Local) (e : Event) → HasFacts p o s.dom s.storage → OwnDirty p o s.caches
-        → SameSets p q (happened (setting p o false) s e).caches s.caches
-    unfolding happened paid delivered
-    others_if s (Jump t) facts dirty = λ n own. refl
-    others_if s (Deliver line) facts dirty =
-        others_touches p q other o (delivery_touches p (layout p o)) s.caches apart (delivery_may p o kernel) dirty
-    others_if s Run facts dirty =
-        others_touches p q other o (instruction p (estate p o) (layout p o) s.clock s.dom s.storage).notes s.caches apart (may_run s.clock s facts) dirty
-
-    pub step_others : (end : ℕ) (s : Local) → HasFacts p o s.dom s.storage → OwnDirty p o s.caches
-        → SameSets p q (step (setting p o false) end s).caches s.caches
-    unfolding step
-    step_others end s facts dirty = others_if s (event o s.clock end s.dom) facts dirty
-
-    record Spares (first : Caches) (s : Local) : Type 0 where
-      keeps : Keeps p o s.storage s
-      dirty : OwnDirty p o s.caches
-      sets : SameSets p q s.caches first
-
-    pub steps_others : (end n : ℕ) (s : Local) → HasFacts p o s.dom s.storage → OwnDirty p o s.caches
-        → SameSets p q (steps (setting p o false) end n s).caches s.caches
-    steps_others end n s facts dirty =
-        (steps_by (setting p o false) end (Spares s.caches)
-        (λ t below h. record {
-          keeps = record { facts = (step_keeps false end t.storage t h.keeps).facts; outside = λ f out. refl };
-          dirty = step_dirties false end t h.keeps.facts h.dirty;
-          sets = λ m own. step_others end t h.keeps.facts h.dirty m own ∙ h.sets m own;
-        }) n s (record { keeps = record { facts = facts; outside = λ f out. refl }; dirty = dirty; sets = λ m own. refl })).sets
-
--- ---- what a step does to the caches
-
-caches_if : (p : Hardware) (o : Own) (pinned : Bool) (s : Local) (e : Event)
-    → (happened (setting p o pinned) s e).caches ≡ (touched_all (hierarchy p) pinned s.caches (event_touches p o s e)).caches
-unfolding happened paid delivered touched_all
-caches_if p o pinned s (Jump t) = refl
-caches_if p o pinned s (Deliver line) = refl
-caches_if p o pinned s Run = refl
-
-pub step_caches : StepTouchesLaw
-unfolding step
-step_caches p o pinned end s = caches_if p o pinned s (event o s.clock end s.dom)
-
--- ---- a state and itself
-
--- caches are beside themselves, where what is shared is in them
-pub caches_themselves : (p : Hardware) (o : Own) (c : Caches) → OwnDirty p o c → Resident p c → BesideCaches p o c c c
-caches_themselves p o c dirty resident = record { core = refl; dirty = dirty; l2 = record { same = λ s own. refl; resident = resident; outside = λ s out kernel. refl } }
-
--- and so is a state
-pub beside_itself : (p : Hardware) (o : Own) (s : Local) → IsKernel p o → HasFacts p o s.dom s.storage → OwnDirty p o s.caches
-    → Resident p s.caches → Beside p o s s s
-beside_itself p o s kernel facts dirty resident = record {
-  kernel = kernel;
-  dom = refl;
-  facts = facts;
-  storage = record { same = λ f h. refl; outside = λ f h. refl };
-  caches = caches_themselves p o s.caches dirty resident;
-  clock = refl;
-}
+      steps_hold (λ t. Resident p t.caches) end (λ t holds there. step_resident end t holds there) n s facts resident

@@ -10,19 +10,13 @@ use Rattle.cache_sharing.proofs.Settling.{settled_law}
 use Rattle.hardware_check.specs.Hardware.{Hardware}
 use Rattle.image_check.specs.Own.{Own}
 use Rattle.world_view.specs.Cost.{hierarchy, region, own_colour}
-use Rattle.world_view.specs.Relations.{MayAll, IsKernel, SameSets, Resident, OwnDirty, BesideCaches}
+use Rattle.world_view.specs.Relations.{MayAll, IsKernel, AreParties, SameSets, Resident, OwnDirty, BesideCaches}
 
 module _ (p : Hardware) (o : Own) (kernel : IsKernel p o) where
   -- its own: equal costs, and caches that are still beside
   pub own_touches : (first : Caches) (ts : List Touch) (c k : Caches) → MayAll p o ts → BesideCaches p o first c k
       → BesideTouched (hierarchy p) (own_colour o) (region p) first.l2 (touched_all (hierarchy p) false c ts) (touched_all (hierarchy p) true k ts)
   own_touches first ts c k may b = beside_law (hierarchy p) (own_colour o) (region p) first.l2 ts c k kernel.shares may b
-
-  -- another's leave its sets
-  pub others_touches : (q : Own) (ts : List Touch) (c : Caches) → AreApart (own_colour o) (own_colour q) → MayAll p q ts → OwnDirty p q c
-      → SameSets p o (touched_all (hierarchy p) false c ts).caches c
-  others_touches q ts c apart may dirty =
-      others_law (hierarchy p) (own_colour o) (own_colour q) (region p) ts c kernel.shares apart may dirty
 
   -- its own leave its own lines dirty alone
   pub own_dirties : (pinned : Bool) (ts : List Touch) (c : Caches) → MayAll p o ts → OwnDirty p o c
@@ -73,3 +67,9 @@ module _ (p : Hardware) (o : Own) (kernel : IsKernel p o) where
       → SameSets p o (touched (hierarchy p) false (touched_all (hierarchy p) false c (prefetch (region p))).caches Flush).caches
       (touched (hierarchy p) false c Flush).caches
   settled_own some c = settled_law (hierarchy p) (own_colour o) (region p) c kernel.shares some
+
+-- another party's leave its sets, where the dirty lines are the other's
+pub others_touches : (p : Hardware) (o other : Own) → AreParties p o other → (ts : List Touch) (c : Caches) → MayAll p other ts
+    → OwnDirty p other c → SameSets p o (touched_all (hierarchy p) false c ts).caches c
+others_touches p o other parties ts c may dirty =
+    others_law (hierarchy p) (own_colour o) (own_colour other) (region p) ts c parties.kernel.shares parties.apart may dirty

@@ -1,6 +1,7 @@
 -- The hierarchy of a machine that keeps the rules: whole colours, and a shared region of colour 0 with a way for each of its lines.
-use Rattle.std.proofs.Common.{◌≡◌, ◌/◌, ◌<◌, false, refl, arith, ◌∙◌}
+use Rattle.std.proofs.Common.{◌≡◌, ℕ, ◌/◌, ◌<◌, false, refl, arith, ◌∙◌}
 use Rattle.std.proofs.Math.Nat.{mul_comm}
+use Rattle.tp_base.specs.Ranges.{IsFrameNo}
 use Rattle.set_cache.proofs.Powers.{power_is}
 use Rattle.kernel_clone.specs.Footprints.{IsLayout}
 use Rattle.kernel_clone.proofs.LineLaws.{whole_lines}
@@ -12,8 +13,10 @@ use Rattle.image_check.specs.Own.{Own}
 use Rattle.world_view.specs.Cost.{hierarchy, region, bare_layout, own_colour}
 
 module _ (p : Hardware) (h : IsHardware p) where
-  pub bare_is : IsLayout (bare_layout p)
-  bare_is = record {
+  -- a kernel clone of these frames
+  pub clone_is : (text more_text stack data_frame : ℕ) → IsFrameNo text → IsFrameNo more_text → IsFrameNo stack → IsFrameNo data_frame
+      → IsLayout (record (bare_layout p) { text = text; more_text = more_text; stack = stack; data_frame = data_frame })
+  clone_is text more_text stack data_frame in_text in_more in_stack in_data = record {
     power = power_is p.line h.line.power;
     least_line = h.line.least;
     most_line = h.line.most;
@@ -22,11 +25,14 @@ module _ (p : Hardware) (h : IsHardware p) where
     whole_lines = h.whole_lines;
     some_colours = h.some_colours;
     few_colours = h.few_colours;
-    text = omega arith;
-    more_text = omega arith;
-    stack = omega arith;
-    data_frame = omega arith;
+    text = in_text;
+    more_text = in_more;
+    stack = in_stack;
+    data_frame = in_data;
   }
+
+  pub bare_is : IsLayout (bare_layout p)
+  bare_is = clone_is 0 0 0 0 (omega arith) (omega arith) (omega arith) (omega arith)
 
   pub coloured : IsColoured (hierarchy p).line_size (hierarchy p).l2.count
   unfolding hierarchy

@@ -1,6 +1,12 @@
 use Rattle.world_view.proofs.opening.Separate.{separated}
-use Rattle.world_view.proofs.runs.SwitchLaws.{switch_past, switch_out, switch_in, switch_both}
+use Rattle.world_view.proofs.runs.SwitchLaws.{switch_parts, boot_parts, switch_past, switch_out, switch_in, switch_both}
 use Rattle.world_view.proofs.laws.switches.Goals as goal
+
+pub returns-clause-work : goal.returns-clause-work
+returns-clause-work c = switch_parts
+
+pub returns-clause-boot : goal.returns-clause-boot
+returns-clause-boot c = boot_parts
 
 pub returns-clause-out : goal.returns-clause-out
 returns-clause-out c i k d w a r is time out other h = switch_out i (separated i r) k d is w a time out other h

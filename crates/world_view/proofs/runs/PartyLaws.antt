@@ -1,0 +1,98 @@
+-- What another party does, or is done for it, leaves a party's frames and sets, where the dirty lines are the other's.
+use Rattle.std.proofs.Common.{◌≡◌, ◌≢◌, ℕ, Bool, true, false, IsTrue, true≢false, sym, ◌∙◌, refl, subst}
+use Rattle.tp_base.specs.Table.{at, put, at-put_other}
+use Rattle.phys_mem.specs.Mem.{Mem, frame_at}
+use Rattle.mem_system.specs.Cost.{Caches}
+use Rattle.cache_sharing.specs.Operations.{leave, enter}
+use Rattle.hardware_check.specs.Hardware.{Hardware}
+use Rattle.image_check.specs.Own.{Own}
+use Rattle.image_check.specs.Image.{Image, own_of}
+use Rattle.world_view.specs.Frames.{own_frame}
+use Rattle.world_view.specs.Kernel.{layout, no_dom}
+use Rattle.world_view.specs.Cost.{region, own_colour}
+use Rattle.world_view.specs.Machine.{with_hart, caches_of, setting, Local, World, step, steps, enter_part, dom_of, part_of, with_part}
+use Rattle.world_view.specs.EventLaws.{step_touches}
+use Rattle.world_view.specs.Laws.{event_of, PartiesSwapLaw, PartyFramesLaw, OthersStepLaw, OthersLeaveLaw, OthersEnterLaw, PrefetchLaw, FlushLaw, SettledLaw}
+use Rattle.world_view.specs.Relations.{IsDomain, SameFrames, SameSets, SamePart, OwnDirty, AreParties, HasFacts, Untouched}
+use Rattle.world_view.proofs.opening.Separate.{Separated, frames_apart}
+use Rattle.world_view.proofs.opening.OpeningFacts.{parties_of}
+use Rattle.world_view.proofs.touches.Hierarchies.{some_data}
+use Rattle.world_view.proofs.touches.KernelTouches.{leave_may, enter_may}
+use Rattle.world_view.proofs.touches.CostLaws.{others_touches, prefetch_others, flush_others, settled_own}
+use Rattle.world_view.proofs.steps.StepLaws.{step_keeps, step_may, step_caches, step_dirties, steps_hold}
+
+-- a colour of the other's is none of its own
+unnamed : (b : Bool) {c : Bool} → (IsTrue b → c ≡ false) → IsTrue c → b ≡ false
+unnamed false none is = refl
+unnamed true none is = absurd (true≢false (sym is ∙ none refl))
+
+pub parties_swap : PartiesSwapLaw
+parties_swap p o other parties = record {
+  kernel = parties.others_kernel;
+  others_kernel = parties.kernel;
+  apart = λ colour is. unnamed (own_colour o colour) (parties.apart colour) is;
+}
+
+pub party_frames : PartyFramesLaw
+party_frames p o other f parties own = frames_apart p o other f parties.apart own
+
+-- what changed in the other's frames alone leaves its own
+pub others_frames : (p : Hardware) (o other : Own) → AreParties p o other → (m k : Mem)
+    → ((f : ℕ) → own_frame p other f ≡ false → frame_at m f ≡ frame_at k f) → SameFrames p o m k
+others_frames p o other parties m k outside f own = outside f (party_frames p o other f parties own)
+
+-- ---- its events
+
+pub others_step : OthersStepLaw
+others_step p o other end s parties facts dirty =
+    let its = parties.others_kernel in
+    let kept = step_keeps p other its false end s.storage s (record { facts = facts; outside = λ f out. refl }) in
+    record {
+      frames = others_frames p o other parties (step (setting p other false) end s).storage.mem s.storage.mem kept.outside;
+      sets = subst (λ (c : Caches). SameSets p o c s.caches) (sym (step_caches p other false end s))
+          (others_touches p o other parties (step_touches p other end s) s.caches (step_may p other its end s facts) dirty);
+    }
+
+-- equal to a state that is equal to a third
+pub part_trans : (p : Hardware) (o : Own) (s t a : Local) → SamePart p o s t → SamePart p o t a → SamePart p o s a
+part_trans p o s t a h k = record { frames = λ f own. h.frames f own ∙ k.frames f own; sets = λ m own. h.sets m own ∙ k.sets m own }
+
+-- so many steps leave it, too
+pub others_steps : (p : Hardware) (o other : Own) (end n : ℕ) (s : Local) → AreParties p o other
+    → HasFacts p other s.dom s.storage → OwnDirty p other s.caches → SamePart p o (steps (setting p other false) end n s) s
+others_steps p o other end n s parties facts dirty =
+    (steps_hold p other parties.others_kernel (λ t. OwnDirty p other t.caches × SamePart p o t s) end
+    (λ t holds h. (
+      step_dirties p other parties.others_kernel false end t holds h.0,
+      part_trans p o _ t s (others_step p o other end t parties holds h.0) h.1,
+    )) n s facts (dirty, record { frames = λ f own. refl; sets = λ m own. refl })).1
+
+-- so another domain's, in the world of all, leaves a domain
+pub others_event : (i : Image) → Separated i → (d e : ℕ) → IsDomain i d → IsDomain i e → d ≢ e → (end : ℕ) (w : World)
+    → HasFacts i.all.hardware (own_of i e) (dom_of w e) w.storage → OwnDirty i.all.hardware (own_of i e) (caches_of 0 w)
+    → Untouched i.all.hardware (own_of i d) d (event_of i e end w) w
+unfolding event_of with_part with_hart at put
+others_event i r d e is ie ne end w facts dirty =
+    let h = others_step i.all.hardware (own_of i d) (own_of i e) end (part_of 0 e w) (parties_of i r d e is ie ne) facts dirty in
+    record { dom = at-put_other no_dom w.doms e d _ ne; part = record { frames = h.frames; sets = h.sets } }
+
+-- ---- phases of a switch
+
+pub others_leave : OthersLeaveLaw
+others_leave p o other c parties dirty =
+    others_touches p o other parties (leave p.costs (layout p other)) c (leave_may p other parties.others_kernel (region p)) dirty
+
+pub others_enter : OthersEnterLaw
+unfolding enter_part
+others_enter p o other c parties dirty =
+    others_touches p o other parties (enter (layout p other)) c (enter_may p other parties.others_kernel (region p)) dirty
+
+pub prefetch_leaves : PrefetchLaw
+prefetch_leaves p o other c parties dirty = prefetch_others p o parties.kernel (own_colour other) parties.apart c dirty
+
+pub flush_leaves : FlushLaw
+flush_leaves p o other c parties dirty = flush_others p o parties.kernel (own_colour other) parties.apart c dirty
+
+-- its own dirty lines are written back by the flush as they would be without the prefetch
+pub settled : SettledLaw
+settled p o c is kernel = settled_own p o kernel (some_data p is) c
