@@ -10,7 +10,7 @@ use Rattle.std.proofs.lemmas.List.{take-append-drop}
 use Rattle.std.proofs.lemmas.Slice.Eq.{bytes_eq-Decides}
 use Rattle.std.proofs.lemmas.Str.Parse.{IsNumeralModel, numerals_by_value, tells_all_ascii_digits, digits_value_short}
 use Rattle.std.proofs.lemmas.Fmt.{decimal_is_IsNumeral, decimal-digits_value, length-decimal-le, first_decimal}
-use Rattle.hardware_check.specs.Cases.{or_else}
+use Rattle.image_record.specs.Cases.{or_else}
 use Rattle.domain_check.specs.declared.capabilities.InitialCap.{InitialCap}
 use Rattle.domain_check.specs.declared.capabilities.InitialCap.TheVariants.{None as NoCap, Page, Irq}
 use Rattle.domain_check.specs.CapTexts.{is_numeral, number_in, number_if, after, number_after, cap_in, IsShort}

@@ -4,17 +4,17 @@ use Rattle.std.specs.Prelude.{ℤ, pos, negsuc}
 use Rattle.std.specs.List.{All}
 use Rattle.std.proofs.lemmas.List.{get_or-map, get_or-take}
 use Rattle.frame_colours.specs.Colours.{has}
-use Rattle.image_text.specs.declared.raw.Raw.{Raw}
-use Rattle.image_text.specs.Reads.{raw_model}
-use Rattle.image_text.specs.Models.{domain_model}
-use Rattle.image_text.specs.Record as text
-use Rattle.image_text.specs.Record.{raw_domain, no_raw_domain}
-use Rattle.hardware_check.specs.Cases.{first_in, refusal, outside}
-use Rattle.hardware_check.specs.Hardware.{IsNatural, natural_of, colours_of, hardware_of}
-use Rattle.hardware_check.proofs.FirstCases.{if_first, first_in_none}
-use Rattle.hardware_check.proofs.Parts.{Within, inside, most_inside, natural_inside}
-use Rattle.domain_check.specs.Colours.{names, k8, k8_colour, k8_domain, k9, k9_domain, k9_colour, coloured_so, same_colour, IsSmallDomain}
-use Rattle.domain_check.proofs.Numbers.{found, names_at}
+use Rattle.image_record.specs.declared.raw.Raw.{Raw}
+use Rattle.image_record.specs.Models.{raw_model}
+use Rattle.image_record.specs.Parts.{domain_model}
+use Rattle.image_record.specs.Record as text
+use Rattle.image_record.specs.Record.{raw_domain, no_raw_domain}
+use Rattle.image_record.specs.Cases.{first_in, refusal, outside}
+use Rattle.image_record.specs.Numbers.{IsNatural, natural_of, names}
+use Rattle.image_record.proofs.FirstCases.{if_first, first_in_none}
+use Rattle.image_record.proofs.Ranges.{Within, inside, most_inside, natural_inside}
+use Rattle.domain_check.specs.Colours.{k8, k8_colour, k8_domain, k9, k9_domain, k9_colour, coloured_so, same_colour, IsSmallDomain}
+use Rattle.image_record.proofs.Listed.{found, names_at}
 
 -- ---- K8: a colour is from 1 on, and below the number of colours
 
@@ -29,11 +29,10 @@ colour_within c d earlier x n =
     inside 1 (c - 1) x (or_first_false out (names earlier x) (if_first (out || names earlier x) (refusal 8 (pos d) x (pos c)) None n))
 
 -- the colours of domain d
-pub named : (i : text.Raw) → k8 i ≡ None → (d : ℕ) → d < length i.domains → (k : ℕ) → k < length (raw_domain i.domains d).colours → (x : ℤ)
-    → Within 1 (colours_of (hardware_of i) - 1) (natural_of (get_or (raw_domain i.domains d).colours k x))
+pub named : (c : ℕ) (i : text.Raw) → k8 c i ≡ None → (d : ℕ) → d < length i.domains → (k : ℕ) → k < length (raw_domain i.domains d).colours → (x : ℤ)
+    → Within 1 (c - 1) (natural_of (get_or (raw_domain i.domains d).colours k x))
 unfolding k8
-named i n d l k m x =
-    let c = colours_of (hardware_of i) in
+named c i n d l k m x =
     let own = (raw_domain i.domains d).colours in
     let here = first_in_none (k8_domain c) i.domains n d l no_raw_domain in
     colour_within c (length (take d i.domains)) (take k own) (get_or own k x) (first_in_none (k8_colour c (length (take d i.domains))) own here k m x)
@@ -76,14 +75,14 @@ earlier_apart i n d l e before k m =
     subst P (get_or-take d i.domains e no_raw_domain before) (if_first (names (get_or earlier e no_raw_domain).colours x) (length (take e earlier)) None there)
 
 -- a colour of one domain, which is none of an earlier one's
-pub two_apart : (i : text.Raw) → k8 i ≡ None → k9 i ≡ None → (d : ℕ) → d < length i.domains → (e : ℕ) → e < d → (c : ℕ)
+pub two_apart : (colours : ℕ) (i : text.Raw) → k8 colours i ≡ None → k9 i ≡ None → (d : ℕ) → d < length i.domains → (e : ℕ) → e < d → (c : ℕ)
     → has (map natural_of (raw_domain i.domains d).colours) c ≡ true → has (map natural_of (raw_domain i.domains e).colours) c ≡ true → ⊥
-two_apart i n m d l e before c mine theirs =
+two_apart colours i n m d l e before c mine theirs =
     let a = (raw_domain i.domains d).colours in
     let b = (raw_domain i.domains e).colours in
     let here = found a c mine in
     let there = found b c theirs in
-    let some = (named i n d l here.place here.within (pos 0)).least in
+    let some = (named colours i n d l here.place here.within (pos 0)).least in
     let positive : 1 ≤ c = subst (λ (k : ℕ). 1 ≤ k) here.same some in
     let first : get_or a here.place (pos 0) ≡ pos c = the_integer (get_or a here.place (pos 0)) c here.same positive in
     let second : get_or b there.place (pos 0) ≡ pos c = the_integer (get_or b there.place (pos 0)) c there.same positive in

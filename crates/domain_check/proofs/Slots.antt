@@ -6,13 +6,13 @@ use Rattle.std.specs.Str.{bytes_eq}
 use Rattle.std.proofs.lemmas.Bool.{or_parts, or_cases, or_left, or_right, and_parts, ltb-true, ltb-false}
 use Rattle.std.proofs.lemmas.List.{length-map, get_or-map, get_or-take}
 use Rattle.std.proofs.lemmas.Slice.Eq.{bytes_eq-Decides}
-use Rattle.image_text.specs.declared.refusal.Refusal.{Refusal}
-use Rattle.image_text.specs.Record.{Raw, RawDomain, RawSegment, IsRawSegment, raw_domain, no_raw_domain, no_raw_segment}
-use Rattle.hardware_check.specs.Cases.{first_in, refusal}
-use Rattle.hardware_check.proofs.FirstCases.{if_first, if_rest, first_in_none}
+use Rattle.image_record.specs.declared.refusal.Refusal.{Refusal}
+use Rattle.image_record.specs.Record.{Raw, RawDomain, RawSegment, IsRawSegment, raw_domain, no_raw_domain, no_raw_segment}
+use Rattle.image_record.specs.Cases.{first_in, refusal}
+use Rattle.image_record.proofs.FirstCases.{if_first, if_rest, first_in_none, passed}
 use Rattle.domain_check.specs.declared.capabilities.InitialCap.{InitialCap}
 use Rattle.domain_check.specs.declared.capabilities.InitialCap.TheVariants.{None as NoCap, Page, Irq}
-use Rattle.domain_check.specs.Colours.{names}
+use Rattle.image_record.specs.Numbers.{names}
 use Rattle.domain_check.specs.CapTexts.{cap_in}
 use Rattle.domain_check.specs.Capabilities.{lies_in, again_case, named_case, k13_case, k13_domain, k13, own_cap, cap_of, IsSmallCap}
 use Rattle.domain_check.specs.Segments.{segment_of}
@@ -27,11 +27,6 @@ any_false f (x ∷ xs) h (suc j) l d = any_false f xs (or_parts (f x) (list_any 
 
 not_again : (d : ℕ) (earlier : List (List ℕ)) (s : List ℕ) → again_case d earlier s ≡ None → list_any (bytes_eq s) earlier ≡ false
 not_again d earlier s n = if_first (list_any (bytes_eq s) earlier) (refusal 13 (pos d) (pos (length earlier)) (pos 5)) None n
-
--- a test that is passed, and what follows it
-pub passed : (b : Bool) (first : Option Refusal) (r : Refusal) → (if b then first else Some r) ≡ None → (b ≡ true) × (first ≡ None)
-passed true first r n = (refl, n)
-passed false first r n = cc
 
 page_had : (o : RawDomain) (d : ℕ) (earlier : List (List ℕ)) (s : List ℕ) (n : ℕ) → named_case o d earlier s (Some (Page n)) ≡ None → list_any (lies_in n) o.segments ≡ true
 page_had o d earlier s n e = (passed (list_any (lies_in n) o.segments) (again_case d earlier s) (refusal 13 (pos d) (pos (length earlier)) (pos 3)) e).0

@@ -1,10 +1,10 @@
 -- K18, the rule of the calls that a domain may make: each is one of 15, and above the one before.
 use Rattle.std.specs.Prelude.{ℕ, ◌-◌, ◌||◌, not, ℤ, pos, int_lt, Bool, true, if◌then◌else◌, List, [], length, slice_get, Option, Some, None}
 use Rattle.kernel_clone.specs.Permissions.{every_call, calls_of}
-use Rattle.image_text.specs.declared.refusal.Refusal.{Refusal}
-use Rattle.image_text.specs.Record.{Raw, RawDomain}
-use Rattle.hardware_check.specs.Cases.{first_in, refusal, outside}
-use Rattle.domain_check.specs.Colours.{names}
+use Rattle.image_record.specs.declared.refusal.Refusal.{Refusal}
+use Rattle.image_record.specs.Record.{Raw, RawDomain}
+use Rattle.image_record.specs.Cases.{first_in, refusal, outside}
+use Rattle.image_record.specs.Numbers.{names}
 
 -- above the number before, if there is one
 abbrev pub is_next : Option ℤ → ℤ → Bool

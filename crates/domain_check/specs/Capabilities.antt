@@ -3,10 +3,10 @@
 use Rattle.std.specs.Prelude.{ℕ, ◌<◌, ◌^◌, nat_lt, ⊤, pos, Bool, if◌then◌else◌, List, length, map, Option, Some, None}
 use Rattle.std.specs.List.{list_any}
 use Rattle.std.specs.Str.{bytes_eq}
-use Rattle.image_text.specs.declared.refusal.Refusal.{Refusal}
-use Rattle.image_text.specs.Record.{Raw, RawDomain, RawSegment}
-use Rattle.hardware_check.specs.Cases.{first_in, refusal}
-use Rattle.domain_check.specs.Colours.{names}
+use Rattle.image_record.specs.declared.refusal.Refusal.{Refusal}
+use Rattle.image_record.specs.Record.{Raw, RawDomain, RawSegment}
+use Rattle.image_record.specs.Cases.{first_in, refusal}
+use Rattle.image_record.specs.Numbers.{names}
 use Rattle.domain_check.specs.Segments.{has_page}
 use Rattle.domain_check.specs.CapTexts.{cap_in}
 use Rattle.domain_check.specs.declared.capabilities.InitialCap.{InitialCap}

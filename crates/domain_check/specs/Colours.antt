@@ -1,20 +1,13 @@
 -- The rules of colours and frames, each with its first broken case.
 use Rattle.std.specs.Prelude.{ℕ, ◌+◌, ◌-◌, ◌≤◌, ◌||◌, not, nat_lt, ℤ, pos, int_lt, Bool, if◌then◌else◌, List, length, map, Option, Some, None}
 use Rattle.std.specs.List.{list_any}
-use Rattle.frame_colours.specs.Colours.{Whole, whole_of, share_of, pool}
-use Rattle.image_text.specs.declared.refusal.Refusal.{Refusal}
-use Rattle.image_text.specs.Record.{Raw, RawDomain}
-use Rattle.hardware_check.specs.Cases.{first_in, refusal, outside}
-use Rattle.hardware_check.specs.Hardware.{Hardware, natural_of, colours_of, hardware_of}
+use Rattle.frame_colours.specs.Colours.{Whole, share_of, pool}
+use Rattle.image_record.specs.declared.refusal.Refusal.{Refusal}
+use Rattle.image_record.specs.Record.{Raw, RawDomain}
+use Rattle.image_record.specs.Cases.{first_in, refusal, outside}
+use Rattle.image_record.specs.Numbers.{natural_of, names}
 use Rattle.domain_check.specs.Segments.{Segment, segment_of}
 use Rattle.domain_check.specs.Pages.{regions_below, pages_in}
-
-abbrev pub is_same : ℤ → ℤ → Bool
-is_same x y = not (int_lt x y || int_lt y x)
-
--- whether a number stands in a list
-abbrev pub names : List ℤ → ℤ → Bool
-names numbers x = list_any (λ y. is_same y x) numbers
 
 -- ---- K8: a domain's colours, each from 1 on and below the number of colours, and named once
 
@@ -25,8 +18,9 @@ k8_colour colours d earlier x =
 abbrev pub k8_domain : ℕ → List RawDomain → RawDomain → Option Refusal
 k8_domain colours earlier o = first_in (k8_colour colours (length earlier)) o.colours
 
-unfoldable pub k8 : Raw → Option Refusal
-k8 i = first_in (k8_domain (colours_of (hardware_of i))) i.domains
+-- where there are so many colours
+unfoldable pub k8 : ℕ → Raw → Option Refusal
+k8 colours i = first_in (k8_domain colours) i.domains
 
 -- of a domain, in natural numbers
 abbrev pub own_colours : RawDomain → List ℕ
@@ -71,8 +65,6 @@ k10_case whole d o = need_case d (length (pool (share_of whole (own_colours o)))
 abbrev pub k10_domain : Whole → List RawDomain → RawDomain → Option Refusal
 k10_domain whole earlier o = k10_case whole (length earlier) o
 
-abbrev pub whole_in : Hardware → Whole
-whole_in p = whole_of p.frames (colours_of p)
-
-unfoldable pub k10 : Raw → Option Refusal
-k10 i = first_in (k10_domain (whole_in (hardware_of i))) i.domains
+-- where a memory of frames and colours is shared out
+unfoldable pub k10 : Whole → Raw → Option Refusal
+k10 whole i = first_in (k10_domain whole) i.domains

@@ -4,8 +4,6 @@ pub mod CapTexts
 pub mod Pages
 pub mod Colours
 pub mod Capabilities
-pub mod Interrupts
 pub mod Calls
 pub mod Models
-pub mod Outcomes
 pub mod Laws

@@ -2,9 +2,9 @@
 use Rattle.std.specs.Prelude.{ℕ, ◌&&◌, ◌||◌, nat_eq, nat_le, pos, Bool, if◌then◌else◌, List, length, Option, Some, None}
 use Rattle.std.specs.List.{list_all}
 use Rattle.std.specs.Str.{bytes_eq}
-use Rattle.image_text.specs.declared.refusal.Refusal.{Refusal}
-use Rattle.image_text.specs.Record.{Raw, RawDomain}
-use Rattle.hardware_check.specs.Cases.{or_else, first_in, refusal, count_case}
+use Rattle.image_record.specs.declared.refusal.Refusal.{Refusal}
+use Rattle.image_record.specs.Record.{Raw, RawDomain}
+use Rattle.image_record.specs.Cases.{or_else, first_in, refusal, count_case}
 
 -- a small letter or a digit
 abbrev pub is_name_byte : ℕ → Bool

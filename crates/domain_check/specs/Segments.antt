@@ -4,9 +4,9 @@ use Rattle.std.specs.Result.{result_ok}
 use Rattle.std.specs.List.{list_any}
 use Rattle.std.specs.Str.{bytes_eq}
 use Rattle.hex.specs.Hex.{decode_of}
-use Rattle.image_text.specs.declared.refusal.Refusal.{Refusal}
-use Rattle.image_text.specs.Record.{Raw, RawDomain, RawSegment}
-use Rattle.hardware_check.specs.Cases.{or_else, first_in, refusal}
+use Rattle.image_record.specs.declared.refusal.Refusal.{Refusal}
+use Rattle.image_record.specs.Record.{Raw, RawDomain, RawSegment}
+use Rattle.image_record.specs.Cases.{or_else, first_in, refusal}
 use Rattle.domain_check.specs.declared.segments.Rights.{Rights}
 
 -- domain d, the segment at a place or the entry, and the case

@@ -1,16 +1,14 @@
 // K18, the rule of the calls that a domain may make; and which those are.
 ghost use Rattle.std.specs.Prelude.{◌≡◌, ◌-◌, ◌<◌, ◌^◌, pos, if◌then◌else◌, map, length, slice_get, option_map};
 ghost use Rattle.kernel_clone.specs.Permissions.{calls_of as spec_calls_of};
-ghost use Rattle.image_text.specs.Reads.{raw_model};
-ghost use Rattle.hardware_check.specs.Cases.{first_in};
-ghost use Rattle.hardware_check.specs.Outcomes.{IsVerdict};
+ghost use Rattle.image_record.specs.Models.{raw_model};
+ghost use Rattle.image_record.specs.Cases.{first_in};
+ghost use Rattle.image_record.specs.Outcomes.{IsVerdict, Makes};
 ghost use Rattle.domain_check.specs.Calls as spec;
-ghost use Rattle.domain_check.specs.Outcomes.{Makes};
-ghost use Rattle.domain_check.specs.Colours.{names as spec_names};
+ghost use Rattle.image_record.specs.Numbers.{names as spec_names};
 
-use crate::colours::names;
-use hardware_check::cases::{outside, refusal};
-use image_text::{Raw, ReadRefusal, Refusal};
+use image_record::cases::{outside, refusal};
+use image_record::{Raw, ReadRefusal, Refusal, names};
 use kernel_clone::EVERY_CALL;
 use std::alloc::Global;
 

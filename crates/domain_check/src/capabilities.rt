@@ -4,17 +4,15 @@ ghost use Rattle.std.specs.Char.{is_ascii_digit};
 ghost use Rattle.std.specs.List.{All, list_any, list_all};
 ghost use Rattle.std.specs.Str.{bytes_eq};
 ghost use Rattle.std.specs.Str.Parse.{digits_value};
-ghost use Rattle.image_text.specs.Reads.{raw_model};
-ghost use Rattle.image_text.specs.Models.{domain_model, segment_model};
-ghost use Rattle.hardware_check.specs.Outcomes.{IsVerdict, IsVerdictOrMemory};
+ghost use Rattle.image_record.specs.Models.{raw_model};
+ghost use Rattle.image_record.specs.Parts.{domain_model, segment_model};
+ghost use Rattle.image_record.specs.Outcomes.{IsVerdict, IsVerdictOrMemory, Makes};
 ghost use Rattle.domain_check.specs.CapTexts as texts;
 ghost use Rattle.domain_check.specs.Capabilities as spec;
-ghost use Rattle.domain_check.specs.Outcomes.{Makes};
 ghost use Rattle.domain_check.specs.Models.{named_model};
 
-use crate::colours::names;
 use crate::segments::has_page;
-use image_text::{Raw, RawDomain, RawSegment, ReadRefusal, Refusal};
+use image_record::{Raw, RawDomain, RawSegment, ReadRefusal, Refusal, names};
 use std::alloc::Global;
 
 /// The most capability slots that a domain has.

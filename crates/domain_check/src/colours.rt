@@ -3,33 +3,18 @@
 ghost use Rattle.std.specs.Prelude.{◌≡◌, ◌<◌, ◌≤◌, ◌^◌, map, length, None, IfSome, IfOk};
 ghost use Rattle.std.specs.List.{All};
 ghost use Rattle.frame_colours.specs.Colours.{whole_of};
-ghost use Rattle.image_text.specs.Reads.{raw_model};
-ghost use Rattle.image_text.specs.Models.{domain_model};
-ghost use Rattle.hardware_check.specs.Cases.{first_in};
-ghost use Rattle.hardware_check.specs.Hardware.{natural_of as spec_natural_of};
-ghost use Rattle.hardware_check.specs.Laws.{KeepsParts};
-ghost use Rattle.hardware_check.specs.Outcomes.{IsVerdict, IsVerdictOrMemory};
-ghost use Rattle.hardware_check.specs.Rules.{k3 as spec_k3, k5 as spec_k5};
+ghost use Rattle.image_record.specs.Models.{raw_model};
+ghost use Rattle.image_record.specs.Parts.{domain_model};
+ghost use Rattle.image_record.specs.Cases.{first_in};
+ghost use Rattle.image_record.specs.Numbers.{natural_of as spec_natural_of};
+ghost use Rattle.image_record.specs.Outcomes.{IsVerdict, IsVerdictOrMemory};
 ghost use Rattle.domain_check.specs.Colours as spec;
 
 use crate::regions::need_of;
 use frame_colours::pool_length;
-use hardware_check::cases::{outside, refusal};
-use hardware_check::{colours_in, frames_in, natural_of};
-use image_text::{Raw, RawDomain, ReadRefusal, Refusal};
+use image_record::cases::{outside, refusal};
+use image_record::{Raw, RawDomain, ReadRefusal, Refusal, names, natural_of};
 use std::alloc::Global;
-
-/// Whether a number stands in a list.
-pub fn names(numbers: &[i64], number: i64) -> bool
-    ensures value { result ≡ spec.names numbers.now number }
-{
-    for other in numbers {
-        if *other == number {
-            return true;
-        }
-    }
-    false
-}
 
 #[tactic(auto, unfolding(crate::specs::Colours::k8_colour), using(crate::proofs::Shares::colour_most, crate::proofs::Shares::colour_natural))]
 fn k8_colour(colours: u32, d: usize, earlier: &[i64], colour: i64) -> Result<u8, Refusal>
@@ -78,21 +63,20 @@ fn k8_domains(
     Ok(found)
 }
 
-/// K8: each colour is below their number, none is the kernel's, and a domain
-/// names none twice; so the colours of each domain.
+/// K8, where there are so many colours: each colour is below their number, none
+/// is the kernel's, and a domain names none twice; so the colours of each domain.
 ///
 /// # Errors
 ///
 /// `Broken` with the first broken case; `Memory` where memory runs out.
 #[tactic(auto, unfolding(crate::specs::Colours::k8))]
-pub fn k8(alloc: Global, raw: &Raw) -> Result<Vec<Vec<u8>>, ReadRefusal>
-    requires parts { spec_k3 (raw_model raw.now) ≡ None }
-    requires few { spec_k5 (raw_model raw.now) ≡ None }
-    ensures verdict { IsVerdictOrMemory result (spec.k8 (raw_model raw.now)) }
+pub fn k8(alloc: Global, colours: u32, raw: &Raw) -> Result<Vec<Vec<u8>>, ReadRefusal>
+    requires few { colours ≤ 64 }
+    ensures verdict { IsVerdictOrMemory result (spec.k8 colours (raw_model raw.now)) }
     ensures value { IfOk result (λ v. map (λ c. c.items) v.items
         ≡ map spec.own_colours (raw_model raw.now).domains) }
 {
-    k8_domains(alloc, colours_in(raw), raw.domains.as_slice())
+    k8_domains(alloc, colours, raw.domains.as_slice())
 }
 
 /// The place of the first domain that has this colour.
@@ -180,22 +164,19 @@ fn k10_domains(
     Ok(())
 }
 
-/// K10: a domain's colours, as K8 hands them out, have frames for its pages, its
-/// page tables and its clone of the kernel.
+/// K10, where a memory of so many frames has so many colours: a domain's colours,
+/// as K8 hands them out, have frames for its pages, its page tables and its clone
+/// of the kernel.
 ///
 /// # Errors
 ///
 /// The first broken case.
 #[tactic(auto, unfolding(crate::specs::Colours::k10))]
-pub fn k10(raw: &Raw, owns: &[Vec<u8>]) -> Result<(), Refusal>
-    requires parts { KeepsParts (raw_model raw.now) }
-    requires colours { map (λ c. c.items) owns.now ≡ map spec.own_colours (raw_model raw.now).domains }
-    ensures verdict { IsVerdict result (spec.k10 (raw_model raw.now)) }
+pub fn k10(frames: u32, colours: u32, owns: &[Vec<u8>], raw: &Raw) -> Result<(), Refusal>
+    requires some { 0 < colours }
+    requires few { colours ≤ 64 }
+    requires owns { map (λ c. c.items) owns.now ≡ map spec.own_colours (raw_model raw.now).domains }
+    ensures verdict { IsVerdict result (spec.k10 (whole_of frames colours) (raw_model raw.now)) }
 {
-    k10_domains(
-        frames_in(raw),
-        colours_in(raw),
-        owns,
-        raw.domains.as_slice(),
-    )
+    k10_domains(frames, colours, owns, raw.domains.as_slice())
 }

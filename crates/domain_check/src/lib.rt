@@ -1,13 +1,11 @@
 //! The rules of an image's domains: their names, colours and frames, segments,
-//! initial capabilities, interrupt lines and moments, and the calls that they may
-//! make, each with the numbers of its first broken case; and what the texts of
-//! these say.
+//! initial capabilities, and the calls that they may make, each with the numbers of
+//! its first broken case; and what the texts of these say.
 #![tactic(auto)]
 
 mod calls;
 mod capabilities;
 mod colours;
-mod interrupts;
 pub mod laws;
 mod names;
 mod regions;
@@ -16,6 +14,5 @@ mod segments;
 pub use calls::{calls_in, calls_of, k18};
 pub use capabilities::{InitialCap, Named, caps_from, k13};
 pub use colours::{k8, k9, k10};
-pub use interrupts::{k14, k15};
 pub use names::k7;
 pub use segments::{Rights, Segment, k12};

@@ -1,14 +1,14 @@
 // K7, the rule of domains and their names.
 ghost use Rattle.std.specs.Prelude.{◌≡◌, ◌≤◌, ◌<◌, map, length, IfSome, IfNone};
 ghost use Rattle.std.specs.List.{list_all};
-ghost use Rattle.image_text.specs.Reads.{raw_model};
-ghost use Rattle.image_text.specs.Models.{domain_model};
-ghost use Rattle.hardware_check.specs.Cases as cases;
-ghost use Rattle.hardware_check.specs.Outcomes.{IsVerdict};
+ghost use Rattle.image_record.specs.Models.{raw_model};
+ghost use Rattle.image_record.specs.Parts.{domain_model};
+ghost use Rattle.image_record.specs.Cases as cases;
+ghost use Rattle.image_record.specs.Outcomes.{IsVerdict};
 ghost use Rattle.domain_check.specs.Names as spec;
 
-use hardware_check::cases::{count_case, refusal};
-use image_text::{Raw, RawDomain, Refusal};
+use image_record::cases::{count_case, refusal};
+use image_record::{Raw, RawDomain, Refusal};
 
 fn has_name_bytes(text: &[u8]) -> bool
     ensures value { result ≡ list_all spec.is_name_byte text.now }

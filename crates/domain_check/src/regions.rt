@@ -1,11 +1,11 @@
 // The frames that segments need.
 ghost use Rattle.std.specs.Prelude.{◌≡◌, ◌<◌, ◌≤◌, ◌^◌, map, length};
-ghost use Rattle.image_text.specs.Models.{segment_model};
+ghost use Rattle.image_record.specs.Parts.{segment_model};
 ghost use Rattle.domain_check.specs.Colours as colours_spec;
 ghost use Rattle.domain_check.specs.Segments.{segment_of};
 ghost use Rattle.domain_check.specs.Pages as spec;
 
-use image_text::RawSegment;
+use image_record::RawSegment;
 
 /// The regions in which a segment may have a page: its last page may be past
 /// the last of the address space, as its rule comes later.

@@ -1,16 +1,15 @@
 // K12, the rule of segments: their pages, rights and bytes, and the entry.
 ghost use Rattle.std.specs.Prelude.{◌≡◌, ◌<◌, ◌^◌, map, length, Some, option_map, IfOk};
 ghost use Rattle.std.specs.List.{list_any};
-ghost use Rattle.image_text.specs.Reads.{raw_model};
-ghost use Rattle.image_text.specs.Models.{domain_model, segment_model};
-ghost use Rattle.domain_check.specs.Outcomes.{Makes};
-ghost use Rattle.hardware_check.specs.Cases.{first_in};
-ghost use Rattle.hardware_check.specs.Outcomes.{IsVerdict, IsVerdictOrMemory};
+ghost use Rattle.image_record.specs.Models.{raw_model};
+ghost use Rattle.image_record.specs.Parts.{domain_model, segment_model};
+ghost use Rattle.image_record.specs.Outcomes.{Makes, IsVerdict, IsVerdictOrMemory};
+ghost use Rattle.image_record.specs.Cases.{first_in};
 ghost use Rattle.domain_check.specs.Models.{segment_model as part_model};
 ghost use Rattle.domain_check.specs.Segments as spec;
 
 use hex::FromHexError;
-use image_text::{Raw, RawDomain, RawSegment, ReadRefusal, Refusal};
+use image_record::{Raw, RawDomain, RawSegment, ReadRefusal, Refusal};
 use std::alloc::Global;
 
 /// The pages of an address space: 4 GiB of 4,096 bytes.

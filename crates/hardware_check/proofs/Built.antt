@@ -3,13 +3,14 @@ use Rattle.std.proofs.Common.{◌≡◌, ◌<◌, ◌≤◌, Bool, true, false, 
 use Rattle.std.specs.Prelude.{pos, if◌then◌else◌, nat_lt, nat_le}
 use Rattle.std.proofs.lemmas.Bool.Decides.{nat_tests}
 use Rattle.set_cache.proofs.Powers.{power_is}
-use Rattle.image_text.specs.declared.refusal.Refusal.{Refusal}
-use Rattle.image_text.specs.Record.{Raw}
-use Rattle.hardware_check.specs.Cases.{refusal}
-use Rattle.hardware_check.specs.Hardware.{Hardware, natural_of, shape_of, hardware_of, shared_frames, last_shared_frame}
+use Rattle.image_record.specs.declared.refusal.Refusal.{Refusal}
+use Rattle.image_record.specs.Record.{Raw}
+use Rattle.image_record.specs.Cases.{refusal}
+use Rattle.image_record.specs.Numbers.{natural_of}
+use Rattle.hardware_check.specs.Hardware.{Hardware, shape_of, hardware_of, shared_frames, last_shared_frame}
 use Rattle.hardware_check.specs.Rules.{k11, room_case, is_region}
 use Rattle.hardware_check.specs.Laws.{HardwareLaw}
-use Rattle.hardware_check.proofs.FirstCases.{if_first, if_rest}
+use Rattle.image_record.proofs.FirstCases.{if_first, if_rest}
 use Rattle.hardware_check.proofs.Parts.{some_line, parts_sound, frames_sound, colours_sound, costs_sound, short_history, whole_frames, region_sound}
 use Rattle.hardware_check.proofs.Products.{few_mul, few_div, few_targets, buffer_sound}
 

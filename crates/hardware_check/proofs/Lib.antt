@@ -1,4 +1,3 @@
-pub mod FirstCases
 pub mod Parts
 pub mod Products
 pub mod Built

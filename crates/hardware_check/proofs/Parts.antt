@@ -8,31 +8,18 @@ use Rattle.std.proofs.lemmas.Bool.Decides.{nat_tests}
 use Rattle.std.proofs.lemmas.Nat.{pow-add, mul-le}
 use Rattle.std.proofs.Math.Pow.{pow_mono}
 use Rattle.cycle_cost.specs.Costs.{IsCost, AreCosts}
-use Rattle.image_text.specs.declared.refusal.Refusal.{Refusal}
-use Rattle.image_text.specs.Record.{Raw, RawCache}
+use Rattle.image_record.specs.declared.refusal.Refusal.{Refusal}
+use Rattle.image_record.specs.Record.{Raw, RawCache}
 use Rattle.hardware_check.specs.declared.hardware.Policy.TheVariants.{Lru, Fifo, Plru, Nmru}
-use Rattle.hardware_check.specs.Cases.{first_in, refusal, outside, range_case}
-use Rattle.hardware_check.specs.Hardware.{IsNatural, natural_of, policy_of, shape_of, costs_of, hardware_of, colours_of, is_size, IsSize, IsCache, IsSmallShape}
+use Rattle.image_record.specs.Cases.{first_in, refusal, outside, range_case}
+use Rattle.image_record.specs.Numbers.{IsNatural, natural_of}
+use Rattle.hardware_check.specs.Hardware.{policy_of, shape_of, costs_of, hardware_of, colours_of, is_size, IsSize, IsCache, IsSmallShape}
 use Rattle.hardware_check.specs.Rules.{k3, most_frames, k4, k5, k6, k6_cost, costs_in, size_case, history_case, predictor_case, cache_case, ways_case, is_policy, is_uneven_tree, is_region}
 use Rattle.hardware_check.specs.Laws.{KeepsParts}
-use Rattle.hardware_check.proofs.FirstCases.{or_first, or_rest, if_first, if_rest, first_in_none}
+use Rattle.image_record.proofs.FirstCases.{or_first, or_rest, if_first, if_rest, first_in_none}
+use Rattle.image_record.proofs.Ranges.{Within, inside, most_inside, natural_inside}
 
 -- ---- numbers of ranges
-
-pub record Within (low high n : ℕ) : Type 0 where
-  pub least : low ≤ n
-  pub most : n ≤ high
-
-pub inside : (low high : ℕ) (x : ℤ) → outside (pos low) (pos high) x ≡ false → Within low high (natural_of x)
-inside low high (pos n) h = record { least = grind (arith, nat_tests, h); most = grind (arith, nat_tests, h) }
-inside low high (negsuc n) h = cc
-
-pub most_inside : (low high : ℕ) (x : ℤ) → outside (pos low) (pos high) x ≡ false → natural_of x ≤ high
-most_inside low high x h = (inside low high x h).most
-
-pub natural_inside : (low high : ℕ) (x : ℤ) → outside (pos low) (pos high) x ≡ false → IsNatural x
-natural_inside low high (pos n) h = tt
-natural_inside low high (negsuc n) h = cc
 
 pub natural_positive : (x : ℤ) → 0 < natural_of x → IsNatural x
 natural_positive (pos n) some = tt

@@ -2,12 +2,14 @@
 use Rattle.std.proofs.Common.{◌≡◌, ℕ, ◌≤◌, Bool, true, false, Option, None, Some, refl, arith}
 use Rattle.std.specs.Prelude.{ℤ, pos, negsuc, if◌then◌else◌, ◌==◌, ◌||◌, option_map}
 use Rattle.cycle_cost.specs.Costs.{IsCost}
-use Rattle.image_text.specs.Record.{Raw, RawMuldiv}
-use Rattle.hardware_check.specs.Cases.{refusal, outside}
-use Rattle.hardware_check.specs.Hardware.{natural_of, is_size, cost_or_none, products_of, places_of, targets_of, hardware_of, mul_of, div_of, IsBuffer, IsSize}
+use Rattle.image_record.specs.Record.{Raw, RawMuldiv}
+use Rattle.image_record.specs.Cases.{refusal, outside}
+use Rattle.image_record.specs.Numbers.{natural_of}
+use Rattle.hardware_check.specs.Hardware.{is_size, cost_or_none, products_of, places_of, targets_of, hardware_of, mul_of, div_of, IsBuffer, IsSize}
 use Rattle.hardware_check.specs.Extensions.{product_case, muldiv_case, targets_case, k22, IsMuldiv, AreTargets, HasExtensions}
-use Rattle.hardware_check.proofs.FirstCases.{or_first, or_rest, if_first}
-use Rattle.hardware_check.proofs.Parts.{inside, most_inside, size_is, none_if}
+use Rattle.image_record.proofs.FirstCases.{or_first, or_rest, if_first}
+use Rattle.image_record.proofs.Ranges.{inside, most_inside}
+use Rattle.hardware_check.proofs.Parts.{size_is, none_if}
 
 -- ---- ranges, whatever the image says
 

@@ -1,9 +1,9 @@
 -- K22, the rule of products and of the target buffer, and what it gives.
 use Rattle.std.specs.Prelude.{◌≡◌, ℕ, ℤ, pos, if◌then◌else◌, Option, Some, None}
 use Rattle.cycle_cost.specs.Costs.{IsCost, ProductCosts}
-use Rattle.image_text.specs.declared.refusal.Refusal.{Refusal}
-use Rattle.image_text.specs.Record.{Raw, RawMuldiv}
-use Rattle.hardware_check.specs.Cases.{or_else, refusal, outside}
+use Rattle.image_record.specs.declared.refusal.Refusal.{Refusal}
+use Rattle.image_record.specs.Record.{Raw, RawMuldiv}
+use Rattle.image_record.specs.Cases.{or_else, refusal, outside}
 use Rattle.hardware_check.specs.Hardware.{Hardware, is_size, IsSize}
 
 -- 1: mul, 2: div

@@ -3,8 +3,9 @@ use Rattle.std.specs.Prelude.{◌≡◌, ℕ, ◌+◌, ◌-◌, ◌*◌, ◌/◌
 use Rattle.std.specs.Str.{bytes_eq}
 use Rattle.std.specs.Int.{is_power_of_two}
 use Rattle.cycle_cost.specs.Costs.{CostTable, AreCosts, ProductCosts}
-use Rattle.image_text.specs.Record.{Raw, RawCache, RawCosts, RawMuldiv}
-use Rattle.hardware_check.specs.Cases.{outside}
+use Rattle.image_record.specs.Record.{Raw, RawCache, RawCosts, RawMuldiv}
+use Rattle.image_record.specs.Numbers.{natural_of}
+use Rattle.image_record.specs.Cases.{outside}
 use Rattle.hardware_check.specs.declared.hardware.Policy.{Policy}
 use Rattle.hardware_check.specs.declared.hardware.Policy.TheVariants.{Lru, Fifo, Plru, Nmru}
 
@@ -42,16 +43,6 @@ abbrev pub last_shared_frame : Hardware → ℕ
 last_shared_frame h = (shared_frames h - 1) * colours_of h
 
 -- ---- what an image says
-
--- the natural number, or 0 for a negative one
-abbrev pub natural_of : ℤ → ℕ
-natural_of (pos n) = n
-natural_of (negsuc n) = 0
-
--- a number that isn't negative
-abbrev pub IsNatural : ℤ → Type 0
-IsNatural (pos n) = ⊤
-IsNatural (negsuc n) = ⊥
 
 -- a power of two of the range
 abbrev pub is_size : ℕ → ℕ → ℤ → Bool

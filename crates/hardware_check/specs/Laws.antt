@@ -1,6 +1,6 @@
 -- What the rules of the machine give.
 use Rattle.std.specs.Prelude.{◌≡◌, None}
-use Rattle.image_text.specs.Record.{Raw}
+use Rattle.image_record.specs.Record.{Raw}
 use Rattle.hardware_check.specs.Hardware.{IsHardware, hardware_of}
 use Rattle.hardware_check.specs.Rules.{k3, k4, k5, k6, k11}
 

@@ -1,7 +1,5 @@
-pub mod Cases
 pub mod Hardware
 pub mod Rules
 pub mod Extensions
 pub mod Models
 pub mod Laws
-pub mod Outcomes

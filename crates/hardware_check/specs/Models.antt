@@ -1,6 +1,6 @@
 -- What contracts see of the machine in the code.
 use Rattle.std.specs.Prelude.{◌≡◌, option_map}
-use Rattle.image_text.specs.Record.{Raw}
+use Rattle.image_record.specs.Record.{Raw}
 use Rattle.cycle_cost.specs.Models.{costs_of, product_costs_of}
 use Rattle.hardware_check.specs.Hardware as spec
 use Rattle.hardware_check.specs.declared.hardware.CacheShape.{CacheShape}

@@ -2,11 +2,12 @@
 use Rattle.std.specs.Prelude.{ℕ, ◌+◌, ◌%◌, ◌==◌, ◌&&◌, not, nat_eq, nat_le, nat_lt, ℤ, pos, Bool, if◌then◌else◌, List, [], ◌∷◌, length, codes, ◌||◌, Option, Some, None}
 use Rattle.std.specs.Str.{bytes_eq}
 use Rattle.std.specs.Int.{is_power_of_two}
-use Rattle.image_text.specs.declared.refusal.Refusal.{Refusal}
-use Rattle.image_text.specs.Record.{Raw, RawCache, RawCosts}
-use Rattle.hardware_check.specs.Cases.{or_else, first_in, refusal, outside, range_case}
+use Rattle.image_record.specs.declared.refusal.Refusal.{Refusal}
+use Rattle.image_record.specs.Record.{Raw, RawCache, RawCosts}
+use Rattle.image_record.specs.Cases.{or_else, first_in, refusal, outside, range_case}
 pub use Rattle.hardware_check.specs.Hardware.{is_size}
-use Rattle.hardware_check.specs.Hardware.{Hardware, natural_of, colours_of, shared_frames, last_shared_frame, hardware_of}
+use Rattle.image_record.specs.Numbers.{natural_of}
+use Rattle.hardware_check.specs.Hardware.{Hardware, colours_of, shared_frames, last_shared_frame, hardware_of}
 
 -- ---- K3: the parts, 1 line, 2 l1i, 3 l1d, 4 l2, 5 tlb, 6 predictor
 

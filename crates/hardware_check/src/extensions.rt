@@ -2,21 +2,21 @@
 // their rule.
 ghost use Rattle.std.specs.Prelude.{◌≡◌, ◌≤◌, option_map};
 ghost use Rattle.cycle_cost.specs.Models.{product_costs_of};
-ghost use Rattle.image_text.specs.Models.{muldiv_model};
-ghost use Rattle.image_text.specs.Reads.{raw_model};
+ghost use Rattle.image_record.specs.Parts.{muldiv_model};
+ghost use Rattle.image_record.specs.Models.{raw_model};
 ghost use Rattle.hardware_check.specs.Extensions as spec;
 ghost use Rattle.hardware_check.specs.Hardware.{cost_or_none as spec_cost_or_none};
 ghost use Rattle.hardware_check.specs.Hardware.{products_of as spec_products_of};
 ghost use Rattle.hardware_check.specs.Hardware.{places_of as spec_places_of};
 ghost use Rattle.hardware_check.specs.Hardware.{targets_of as spec_targets_of};
-ghost use Rattle.hardware_check.specs.Outcomes.{IsVerdict};
+ghost use Rattle.image_record.specs.Outcomes.{IsVerdict};
 
-use crate::cases::{outside, refusal};
-use crate::numbers::{is_size, natural_of};
+use crate::numbers::is_size;
 use cycle_cost::ProductCosts;
-use image_text::{Raw, RawMuldiv, Refusal};
+use image_record::cases::{outside, refusal};
+use image_record::{Raw, RawMuldiv, Refusal, natural_of};
 
-#[tactic(auto, using(crate::proofs::Parts::natural_inside, crate::proofs::Parts::most_inside))]
+#[tactic(auto, using(image_record::proofs::Ranges::natural_inside, image_record::proofs::Ranges::most_inside))]
 fn cost_or_none(cost: i64) -> u32
     ensures value { result ≡ spec_cost_or_none cost }
     ensures few { result ≤ 1000 }

@@ -4,7 +4,6 @@
 //! is broken.
 #![tactic(auto)]
 
-pub mod cases;
 mod extensions;
 mod hardware;
 pub mod laws;
@@ -14,5 +13,4 @@ mod rules;
 
 pub use extensions::k22;
 pub use hardware::{CacheShape, Caches, Hardware, Policy};
-pub use numbers::natural_of;
-pub use rules::{colours_in, frames_in, k3, k4, k5, k6, k11};
+pub use rules::{k3, k4, k5, k6, k11};

@@ -2,8 +2,8 @@
 ghost use Rattle.std.specs.Prelude.{◌≡◌, true};
 ghost use Rattle.cycle_cost.specs.Costs.{AreCosts};
 ghost use Rattle.cycle_cost.specs.Models.{costs_of as cost_table_of};
-ghost use Rattle.image_text.specs.Models.{costs_model};
-ghost use Rattle.image_text.specs.Reads.{raw_model};
+ghost use Rattle.image_record.specs.Parts.{costs_model};
+ghost use Rattle.image_record.specs.Models.{raw_model};
 ghost use Rattle.hardware_check.specs.Hardware as spec;
 ghost use Rattle.hardware_check.specs.Laws.{KeepsParts};
 ghost use Rattle.hardware_check.specs.Models.{AreCaches, hardware_model};
@@ -11,9 +11,8 @@ ghost use Rattle.hardware_check.specs.Rules.{is_region};
 
 use crate::extensions::{muldiv_of, targets_of};
 use crate::hardware::{Caches, Hardware};
-use crate::numbers::natural_of;
 use cycle_cost::Costs;
-use image_text::{Raw, RawCosts};
+use image_record::{Raw, RawCosts, natural_of};
 
 #[tactic(auto, unfolding(crate::specs::Hardware::costs_of), using(crate::proofs::Parts::natural_cost))]
 fn costs_of(costs: &RawCosts) -> Costs

@@ -1,20 +1,21 @@
 // The rules of the machine, each with its first broken case.
-ghost use Rattle.std.specs.Prelude.{◌≡◌, ◌<◌, None, is_some, IfOk, IfSome};
-ghost use Rattle.image_text.specs.Reads.{raw_model};
-ghost use Rattle.image_text.specs.Models.{cache_model};
-ghost use Rattle.hardware_check.specs.Cases.{first_in};
-ghost use Rattle.hardware_check.specs.Hardware.{IsNatural, hardware_of as spec_hardware_of, natural_of as spec_natural_of, colours_of};
+ghost use Rattle.std.specs.Prelude.{◌≡◌, ◌<◌, ◌≤◌, None, is_some, IfOk, IfSome};
+ghost use Rattle.image_record.specs.Models.{raw_model};
+ghost use Rattle.image_record.specs.Parts.{cache_model};
+ghost use Rattle.image_record.specs.Cases.{first_in};
+ghost use Rattle.image_record.specs.Numbers.{IsNatural, natural_of as spec_natural_of};
+ghost use Rattle.hardware_check.specs.Hardware.{hardware_of as spec_hardware_of, colours_of};
 ghost use Rattle.hardware_check.specs.Hardware.{policy_of, shape_of};
 ghost use Rattle.hardware_check.specs.Laws.{KeepsParts};
 ghost use Rattle.hardware_check.specs.Models.{AreCaches, shape_model, hardware_model};
-ghost use Rattle.hardware_check.specs.Outcomes.{IsVerdict};
+ghost use Rattle.image_record.specs.Outcomes.{IsVerdict};
 ghost use Rattle.hardware_check.specs.Rules as spec;
 
-use crate::cases::{outside, range_case, refusal};
 use crate::hardware::{CacheShape, Caches, Hardware, Policy};
-use crate::numbers::{is_power_of_two, is_size, natural_of};
+use crate::numbers::{is_power_of_two, is_size};
 use crate::reading::hardware_of;
-use image_text::{Raw, RawCache, Refusal};
+use image_record::cases::{outside, range_case, refusal};
+use image_record::{Raw, RawCache, Refusal, natural_of};
 
 #[tactic(auto, using(crate::proofs::Parts::size_natural, crate::proofs::Parts::size_most))]
 fn size_case(part: u8, low: u32, high: u32, number: i64) -> Result<u32, Refusal>
@@ -52,7 +53,7 @@ fn is_uneven_tree(cache: &RawCache) -> bool
     cache.policy.as_str() == "plru" && !is_power_of_two(cache.ways)
 }
 
-#[tactic(auto, unfolding(crate::specs::Rules::ways_case, crate::specs::Hardware::shape_of), using(crate::proofs::Parts::natural_inside, crate::proofs::Parts::most_inside))]
+#[tactic(auto, unfolding(crate::specs::Rules::ways_case, crate::specs::Hardware::shape_of), using(image_record::proofs::Ranges::natural_inside, image_record::proofs::Ranges::most_inside))]
 fn ways_case(part: u8, sets: u32, cache: &RawCache) -> Result<CacheShape, Refusal>
     requires sets { sets ≡ spec_natural_of cache.now.sets }
     ensures verdict { IsVerdict result (spec.ways_case part (cache_model cache.now)) }
@@ -123,39 +124,45 @@ fn most_frames(version: u8) -> u32
     if version == 1 { 4096 } else { 16384 }
 }
 
-/// K4: 64 to 4,096 frames, in the second version 16,384.
-#[tactic(auto, unfolding(crate::specs::Rules::k4))]
-pub fn k4(raw: &Raw) -> Result<(), Refusal>
-    ensures verdict { IsVerdict result (spec.k4 (raw_model raw.now)) }
-{
-    range_case(4, 0, 64, most_frames(raw.version), raw.frames)
-}
-
-/// The number of frames, 64 to 16,384.
 #[tactic(auto, unfolding(crate::specs::Hardware::hardware_of))]
-pub fn frames_in(raw: &Raw) -> u32
+fn frames_in(raw: &Raw) -> u32
     requires frames { spec.k4 (raw_model raw.now) ≡ None }
     ensures value { result ≡ (spec_hardware_of (raw_model raw.now)).frames }
 {
     natural_of(raw.frames) as u32
 }
 
+/// K4: 64 to 4,096 frames, in the second version 16,384; so their number.
+#[tactic(auto, unfolding(crate::specs::Rules::k4))]
+pub fn k4(raw: &Raw) -> Result<u32, Refusal>
+    ensures verdict { IsVerdict result (spec.k4 (raw_model raw.now)) }
+    ensures value { IfOk result (λ f. f ≡ (spec_hardware_of (raw_model raw.now)).frames) }
+{
+    range_case(4, 0, 64, most_frames(raw.version), raw.frames)?;
+    Ok(frames_in(raw))
+}
+
 /// The number of page colours, at most 512; K5 asks for 2 to 64.
 #[tactic(auto, unfolding(crate::specs::Hardware::hardware_of, crate::specs::Hardware::shape_of))]
-pub fn colours_in(raw: &Raw) -> u32
+fn colours_in(raw: &Raw) -> u32
     requires parts { spec.k3 (raw_model raw.now) ≡ None }
     ensures value { result ≡ colours_of (spec_hardware_of (raw_model raw.now)) }
 {
     (natural_of(raw.l2.sets) * natural_of(raw.line) / 4096) as u32
 }
 
-/// K5: 2 to 64 colours.
+/// K5: 2 to 64 colours; so their number.
 #[tactic(auto, unfolding(crate::specs::Rules::k5))]
-pub fn k5(raw: &Raw) -> Result<(), Refusal>
+pub fn k5(raw: &Raw) -> Result<u32, Refusal>
     requires parts { spec.k3 (raw_model raw.now) ≡ None }
     ensures verdict { IsVerdict result (spec.k5 (raw_model raw.now)) }
+    ensures value { IfOk result (λ c. c ≡ colours_of (spec_hardware_of (raw_model raw.now))) }
+    ensures some { IfOk result (λ c. 2 ≤ c) }
+    ensures few { IfOk result (λ c. c ≤ 64) }
 {
-    range_case(5, 0, 2, 64, i64::from(colours_in(raw)))
+    let colours = colours_in(raw);
+    range_case(5, 0, 2, 64, i64::from(colours))?;
+    Ok(colours)
 }
 
 fn first_dear(costs: &[i64]) -> Result<(), Refusal>

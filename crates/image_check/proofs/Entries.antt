@@ -6,14 +6,14 @@ use Rattle.std.proofs.lemmas.List.Elements.{All-map}
 use Rattle.std.proofs.lemmas.List.{length-map, get_or_past, get_or-map as read_map}
 use Rattle.std.proofs.lemmas.Bool.{cases_lt}
 use Rattle.std.proofs.lemmas.Bool.Decides.{nat_tests}
-use Rattle.image_text.specs.declared.raw.Raw.{Raw}
-use Rattle.image_text.specs.declared.refusal.Refusal.{Refusal}
-use Rattle.image_text.specs.Record.{Raw as RawText, RawEntry as TextEntry}
-use Rattle.image_text.specs.Reads.{raw_model}
-use Rattle.image_text.specs.Models.{domain_model, entry_model}
-use Rattle.hardware_check.specs.Cases.{first_in, outside, refusal}
+use Rattle.image_record.specs.declared.raw.Raw.{Raw}
+use Rattle.image_record.specs.declared.refusal.Refusal.{Refusal}
+use Rattle.image_record.specs.Record.{Raw as RawText, RawEntry as TextEntry}
+use Rattle.image_record.specs.Models.{raw_model}
+use Rattle.image_record.specs.Parts.{domain_model, entry_model}
+use Rattle.image_record.specs.Cases.{first_in, outside, refusal}
 use Rattle.image_check.specs.Schedule.{is_number, k16, k16_case, k16_entry}
-use Rattle.hardware_check.specs.Hardware.{IsNatural, natural_of}
+use Rattle.image_record.specs.Numbers.{IsNatural, natural_of}
 use Rattle.sched_table.specs.declared.schedule.Entry.{Entry}
 use Rattle.sched_table.specs.Schedule.{entry_in, no_entry, IsSchedule}
 use Rattle.domain_check.specs.Names.{k7}
@@ -21,8 +21,8 @@ use Rattle.sched_table.proofs.Harts.{one_hart_law as on_one_hart}
 use Rattle.image_check.specs.Public.{entry_of, public_of}
 use Rattle.image_check.specs.Laws.{OneHartLaw}
 use Rattle.image_check.specs.Checking.{broken_but_pads}
-use Rattle.hardware_check.proofs.FirstCases.{if_first, if_rest, first_in_none}
-use Rattle.hardware_check.proofs.Parts.{most_inside}
+use Rattle.image_record.proofs.FirstCases.{if_first, if_rest, first_in_none}
+use Rattle.image_record.proofs.Ranges.{most_inside}
 use Rattle.image_check.proofs.Kept.{few_domains, domains_within, entries_within, entries_pass}
 
 pub record Passed (domains : ℕ) (e : Entry) : Type 0 where

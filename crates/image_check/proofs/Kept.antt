@@ -2,13 +2,13 @@
 use Rattle.std.proofs.Common.{◌≡◌, ℕ, ◌≤◌, Bool, true, false, ◌||◌, List, [], ◌∷◌, length, Option, Some, None, Result, Ok, Err, refl, sym, ap, ap₂, ◌∙◌, ◌⊎◌, inl, inr, arith}
 use Rattle.std.specs.Prelude.{nat_eq, nat_lt, pos, slice_get, if◌then◌else◌, IfErr}
 use Rattle.std.proofs.lemmas.Bool.Decides.{nat_tests}
-use Rattle.image_text.specs.declared.refusal.Refusal.{Refusal}
-use Rattle.image_text.specs.declared.refusal.ReadRefusal.{ReadRefusal}
-use Rattle.image_text.specs.declared.refusal.ReadRefusal.TheVariants.{Broken, Memory}
-use Rattle.hardware_check.specs.Outcomes.{IsVerdictOrMemory}
+use Rattle.image_record.specs.declared.refusal.Refusal.{Refusal}
+use Rattle.image_record.specs.declared.refusal.ReadRefusal.{ReadRefusal}
+use Rattle.image_record.specs.declared.refusal.ReadRefusal.TheVariants.{Broken, Memory}
+use Rattle.image_record.specs.Outcomes.{IsVerdictOrMemory}
 use Rattle.image_check.specs.Outcomes.{IsFirst}
-use Rattle.image_text.specs.Record.{Raw}
-use Rattle.hardware_check.specs.Cases.{first_in, refusal, count_case}
+use Rattle.image_record.specs.Record.{Raw}
+use Rattle.image_record.specs.Cases.{first_in, refusal, count_case}
 use Rattle.hardware_check.specs.Extensions.{k22}
 use Rattle.hardware_check.specs.Laws.{KeepsParts, KeepsHardware}
 use Rattle.domain_check.specs.Names.{most_domains, k7, k7_domain}
@@ -17,7 +17,7 @@ use Rattle.image_check.specs.Schedule.{most_entries, k16, k16_entry}
 use Rattle.image_check.specs.Pads.{k17}
 use Rattle.image_check.specs.Checking.{rules_before_pads, rules_after_pads, ended_by, followed_by, broken_of, broken, broken_but_pads, broken_before_pads}
 use Rattle.image_check.specs.Laws.{Keeps, KeepsButPads, KeepsBeforePads, HasPadsItem, AcceptanceLaw, ButPadsLaw, PadsLaw, ExtensionsLaw}
-use Rattle.hardware_check.proofs.FirstCases.{or_first, or_rest, if_first}
+use Rattle.image_record.proofs.FirstCases.{or_first, or_rest, if_first}
 use Rattle.hardware_check.proofs.Products.{extensions_said}
 
 -- ---- the list is empty exactly where no rule has a broken case

@@ -5,3 +5,4 @@ pub mod OwnSlots
 pub mod Owns
 pub mod Shares
 pub mod Running
+pub mod FirstParts

@@ -2,7 +2,7 @@
 use Rattle.std.proofs.Common.{◌≡◌, ◌≢◌, ℕ, ◌<◌, ◌≤◌, true, [], length, map, get_or, Option, None, Some, sym, ap, ◌∙◌, arith, ◌⊎◌, inl, inr}
 use Rattle.std.proofs.lemmas.Bool.{cases_lt}
 use Rattle.std.proofs.lemmas.List.{length-map, get_or-map, get_or_past}
-use Rattle.image_text.specs.Record.{RawDomain}
+use Rattle.image_record.specs.Record.{RawDomain}
 use Rattle.domain_check.specs.declared.capabilities.InitialCap.{InitialCap}
 use Rattle.domain_check.specs.declared.capabilities.InitialCap.TheVariants.{None as NoCap, Page, Irq}
 use Rattle.domain_check.specs.CapTexts.{cap_in}
@@ -10,7 +10,7 @@ use Rattle.domain_check.specs.Capabilities.{own_cap, cap_of}
 use Rattle.domain_check.specs.Pages.{has_page_in}
 use Rattle.domain_check.proofs.CapTexts.{cap_is}
 use Rattle.domain_check.proofs.Slots.{HasSlots, has_in}
-use Rattle.domain_check.proofs.OwnInterrupts.{HasInterrupts, named_line}
+use Rattle.interrupt_check.proofs.OwnInterrupts.{HasInterrupts, named_line}
 use Rattle.image_check.specs.Own.{own_from, cap_at}
 
 own_cap_is : (x : Option InitialCap) (c : InitialCap) → c ≢ NoCap → own_cap x ≡ c → x ≡ Some c

@@ -6,22 +6,22 @@ use Rattle.std.specs.List.{list_any}
 use Rattle.std.proofs.lemmas.List.{length-map, get_or-map, get_or-take, get_or_past}
 use Rattle.std.proofs.lemmas.Option.{slice_get_within}
 use Rattle.std.proofs.lemmas.Bool.{cases_Bool, cases_lt, ltb-false, ltb-true, lt-ltb, leb-true, and_parts}
-use Rattle.image_text.specs.Record.{Raw, RawSegment, IsRawSegment, InKeyRanges, raw_domain, no_raw_domain, no_raw_segment}
-use Rattle.image_text.specs.declared.refusal.Refusal.{Refusal}
-use Rattle.hardware_check.specs.Cases.{first_in, refusal}
+use Rattle.image_record.specs.Record.{Raw, RawSegment, IsRawSegment, InKeyRanges, raw_domain, no_raw_domain, no_raw_segment}
+use Rattle.image_record.specs.declared.refusal.Refusal.{Refusal}
+use Rattle.image_record.specs.Cases.{first_in, refusal}
 use Rattle.domain_check.specs.declared.capabilities.InitialCap.TheVariants.{None as NoCap, Page, Irq}
 use Rattle.domain_check.specs.Segments.{k12, k12_domain, segment_case, entry_case, bytes_case, bytes_in, bytes_or_none, rights_of, is_rights, share_page, broken}
 use Rattle.image_check.specs.Pages.{has_page}
 use Rattle.domain_check.specs.Capabilities.{cap_of}
 use Rattle.image_check.specs.Own.{Own, Segment, segment_of, own_from, owns_of, no_own, own_at, no_segment, has_line}
 use Rattle.image_check.specs.Laws.{KeepsBeforePads, AreRights, IsSegment, IsOwn}
-use Rattle.domain_check.specs.Interrupts.{k14, moment_of}
+use Rattle.interrupt_check.specs.Interrupts.{k14, moment_of}
 use Rattle.irq_partition.specs.declared.Moment.{Moment}
 use Rattle.set_cache.proofs.Ways.{not_true}
-use Rattle.domain_check.proofs.OwnInterrupts.{interrupts, line_below, early, own_line, moments_sound, two_apart}
+use Rattle.interrupt_check.proofs.OwnInterrupts.{interrupts, line_below, early, own_line, moments_sound, two_apart}
 use Rattle.domain_check.proofs.Slots.{any_false, slots}
 use Rattle.image_check.proofs.OwnSlots.{few_lines, has_its_page, named_once}
-use Rattle.hardware_check.proofs.FirstCases.{or_first, if_first, if_rest, first_in_none}
+use Rattle.image_record.proofs.FirstCases.{or_first, if_first, if_rest, first_in_none}
 
 -- ---- the list of owns
 

@@ -9,7 +9,7 @@ use Rattle.std.proofs.lemmas.List.{get_or-map}
 use Rattle.std.proofs.Math.Nat.{mul-mod_left}
 use Rattle.std.proofs.Math.Pow.{pow_mono}
 use Rattle.set_cache.proofs.Powers.{power_is}
-use Rattle.image_text.specs.Record.{Raw, RawDomain, RawEntry}
+use Rattle.image_record.specs.Record.{Raw, RawDomain, RawEntry}
 use Rattle.cycle_cost.specs.Costs.{ProductCosts}
 use Rattle.cycle_cost.specs.Ranges.{most_again, most_product}
 use Rattle.kernel_clone.specs.Permissions.{every_call}
@@ -17,10 +17,11 @@ use Rattle.pad_bound.specs.Bound.{IsShape, bound_of}
 use Rattle.pad_bound.proofs.Written.{few_most}
 use Rattle.sched_table.specs.declared.schedule.Entry.{Entry}
 use Rattle.sched_table.specs.Schedule.{entry_in, no_entry}
-use Rattle.hardware_check.specs.Cases.{or_else, first_case, first_in, refusal}
-use Rattle.hardware_check.specs.Hardware.{Hardware, mul_of, div_of, IsHardware, natural_of, hardware_of}
+use Rattle.image_record.specs.Cases.{or_else, first_case, first_in, refusal}
+use Rattle.image_record.specs.Numbers.{natural_of}
+use Rattle.hardware_check.specs.Hardware.{Hardware, mul_of, div_of, IsHardware, hardware_of}
 use Rattle.hardware_check.proofs.Built.{hardware_law}
-use Rattle.hardware_check.proofs.FirstCases.{if_first, first_in_none}
+use Rattle.image_record.proofs.FirstCases.{if_first, first_in_none}
 use Rattle.domain_check.specs.Calls.{own_calls}
 use Rattle.image_check.specs.Own.{own_from, owns_of, own_at}
 use Rattle.image_check.specs.Pads.{most_added, shape_for, shape_of, bound_out_of, k17, k17_case, k17_entry, k17_by}

@@ -4,26 +4,28 @@ use Rattle.std.specs.Prelude.{pos, nat_lt}
 use Rattle.std.specs.List.{All}
 use Rattle.std.proofs.lemmas.List.{length-map, get_or-map, get_or_past}
 use Rattle.std.proofs.lemmas.Bool.{cases_lt}
-use Rattle.frame_colours.specs.Colours.{AreDisjoint, pool, has, list_at}
-use Rattle.image_text.specs.declared.raw.Raw.{Raw}
-use Rattle.image_text.specs.Reads.{raw_model}
-use Rattle.image_text.specs.Models.{domain_model}
-use Rattle.image_text.specs.Record as text
-use Rattle.image_text.specs.Record.{raw_domain, no_raw_domain}
-use Rattle.hardware_check.specs.Cases.{refusal}
-use Rattle.hardware_check.specs.Hardware.{natural_of, colours_of, hardware_of}
-use Rattle.hardware_check.proofs.FirstCases.{if_first, first_in_none}
-use Rattle.hardware_check.proofs.Parts.{Within, colours_sound}
+use Rattle.frame_colours.specs.Colours.{AreDisjoint, whole_of, pool, has, list_at}
+use Rattle.image_record.specs.declared.raw.Raw.{Raw}
+use Rattle.image_record.specs.Models.{raw_model}
+use Rattle.image_record.specs.Parts.{domain_model}
+use Rattle.image_record.specs.Record as text
+use Rattle.image_record.specs.Record.{raw_domain, no_raw_domain}
+use Rattle.image_record.specs.Cases.{refusal}
+use Rattle.image_record.specs.Numbers.{natural_of}
+use Rattle.hardware_check.specs.Hardware.{colours_of, hardware_of}
+use Rattle.image_record.proofs.FirstCases.{if_first, first_in_none}
+use Rattle.image_record.proofs.Ranges.{Within}
+use Rattle.hardware_check.proofs.Parts.{colours_sound}
 use Rattle.set_cache.proofs.Ways.{not_true}
-use Rattle.domain_check.specs.Colours.{k8, k9, k10, k10_domain, k10_case, need_case, need_of, whole_in}
-use Rattle.domain_check.proofs.Numbers.{found}
+use Rattle.domain_check.specs.Colours.{k9, k10, k10_domain, k10_case, need_case, need_of}
+use Rattle.image_record.proofs.Listed.{found}
 use Rattle.domain_check.proofs.Slots.{slots, small_caps}
-use Rattle.domain_check.proofs.OwnInterrupts.{interrupts, named_line}
+use Rattle.interrupt_check.proofs.OwnInterrupts.{interrupts, named_line}
 use Rattle.domain_check.proofs.Shares.{named, two_apart}
 use Rattle.image_check.specs.Own.{Own, Segment, IsSmallOwn, no_own, own_at, own_from, owns_of, segment_of}
 use Rattle.image_check.specs.Pages.{regions_below, frames_in, share_of}
 use Rattle.image_check.specs.Laws.{KeepsBeforePads}
-use Rattle.image_check.specs.Checking.{broken_but_pads}
+use Rattle.image_check.specs.Checking.{k8_in_machine, k10_in_machine, broken_but_pads}
 use Rattle.image_check.proofs.Kept.{kept_but_pads}
 use Rattle.image_check.proofs.Owns.{owns_at, owns_length}
 
@@ -60,22 +62,22 @@ at_each i P d inside none = either (cases_lt d (length i.domains))
 record IsOfRange (colours : ℕ) (own : List ℕ) : Type 0 where
   pub within : (c : ℕ) → has own c ≡ true → Within 1 (colours - 1) c
 
-of_range : (i : text.Raw) → k8 i ≡ None → (d : ℕ) → IsOfRange (colours_of (hardware_of i)) (list_at (lists i) d)
+of_range : (i : text.Raw) → k8_in_machine i ≡ None → (d : ℕ) → IsOfRange (colours_of (hardware_of i)) (list_at (lists i) d)
 of_range i n d = at_each i (IsOfRange (colours_of (hardware_of i))) d
     (λ l. record {
       within = λ c h. let f = found (raw_domain i.domains d).colours c h in
-          subst (λ (k : ℕ). Within 1 (colours_of (hardware_of i) - 1) k) f.same (named i n d l f.place f.within (pos 0));
+          subst (λ (k : ℕ). Within 1 (colours_of (hardware_of i) - 1) k) f.same (named (colours_of (hardware_of i)) i n d l f.place f.within (pos 0));
     })
     (record { within = λ c h. absurd (true≢false (sym h)) })
 
 record IsApart (own other : List ℕ) : Type 0 where
   pub none : (c : ℕ) → has own c ≡ true → has other c ≡ true → ⊥
 
-later_apart : (i : text.Raw) → k8 i ≡ None → k9 i ≡ None → (d e : ℕ) → e < d → IsApart (list_at (lists i) d) (list_at (lists i) e)
+later_apart : (i : text.Raw) → k8_in_machine i ≡ None → k9 i ≡ None → (d e : ℕ) → e < d → IsApart (list_at (lists i) d) (list_at (lists i) e)
 later_apart i n m d e before =
     at_each i (λ own. IsApart own (list_at (lists i) e)) d
     (λ l. at_each i (IsApart (map natural_of (raw_domain i.domains d).colours)) e
-    (λ _. record { none = λ c mine theirs. two_apart i n m d l e before c mine theirs })
+    (λ _. record { none = λ c mine theirs. two_apart (colours_of (hardware_of i)) i n m d l e before c mine theirs })
     (record { none = λ c mine theirs. true≢false (sym theirs) }))
     (record { none = λ c mine theirs. true≢false (sym mine) })
 
@@ -100,13 +102,13 @@ regions_more ss r = omega arith
 enough : (d frames need : ℕ) → need_case d frames need ≡ None → need ≤ frames
 enough d frames need n = ltb-false frames need (if_first (nat_lt frames need) (refusal 10 (pos d) (pos frames) (pos need)) None n)
 
-raw_pools : (i : text.Raw) → k10 i ≡ None → (d : ℕ) → d < length i.domains
+raw_pools : (i : text.Raw) → k10_in_machine i ≡ None → (d : ℕ) → d < length i.domains
     → frames_in (own_from (raw_domain i.domains d)).segments ≤ length (pool (share_of (hardware_of i) (own_from (raw_domain i.domains d))))
 unfolding k10 k10_case own_from
 raw_pools i n d l =
     let o = raw_domain i.domains d in
     let ss = map segment_of o.segments in
-    let here = first_in_none (k10_domain (whole_in (hardware_of i))) i.domains n d l no_raw_domain in
+    let here = first_in_none (k10_domain (whole_of (hardware_of i).frames (colours_of (hardware_of i)))) i.domains n d l no_raw_domain in
     let most = enough (length (take d i.domains)) (length (pool (share_of (hardware_of i) (own_from o)))) (need_of ss) here in
     let more = regions_more ss 1024 in
     omega (arith, most, more)

@@ -1,7 +1,9 @@
 -- The rules in their order, and those that an image breaks.
 use Rattle.std.specs.Prelude.{List, [], ◌∷◌, Option, Some, None}
-use Rattle.image_text.specs.declared.refusal.Refusal.{Refusal}
-use Rattle.image_text.specs.Record.{Raw}
+use Rattle.image_record.specs.declared.refusal.Refusal.{Refusal}
+use Rattle.image_record.specs.Record.{Raw}
+use Rattle.frame_colours.specs.Colours.{whole_of}
+use Rattle.hardware_check.specs.Hardware.{colours_of, hardware_of}
 use Rattle.hardware_check.specs.Rules.{k3, k4, k5, k6, k11}
 use Rattle.hardware_check.specs.Extensions.{k22}
 use Rattle.domain_check.specs.Names.{k7}
@@ -9,13 +11,20 @@ use Rattle.image_check.specs.Schedule.{k16}
 use Rattle.domain_check.specs.Colours.{k8, k9, k10}
 use Rattle.domain_check.specs.Segments.{k12}
 use Rattle.domain_check.specs.Capabilities.{k13}
-use Rattle.domain_check.specs.Interrupts.{k14, k15}
+use Rattle.interrupt_check.specs.Interrupts.{k14, k15}
 use Rattle.domain_check.specs.Calls.{k18}
 use Rattle.image_check.specs.Pads.{k17}
 
+-- the rules of colours and frames, where there are as many as the machine has
+abbrev pub k8_in_machine : Raw → Option Refusal
+k8_in_machine i = k8 (colours_of (hardware_of i)) i
+
+abbrev pub k10_in_machine : Raw → Option Refusal
+k10_in_machine i = let p = hardware_of i in k10 (whole_of p.frames (colours_of p)) i
+
 -- the rules before that of pads
 unfoldable pub rules_before_pads : List (Raw → Option Refusal)
-rules_before_pads = k3 ∷ k4 ∷ k5 ∷ k6 ∷ k7 ∷ k8 ∷ k9 ∷ k10 ∷ k11 ∷ k12 ∷ k13 ∷ k14 ∷ k15 ∷ k16 ∷ []
+rules_before_pads = k3 ∷ k4 ∷ k5 ∷ k6 ∷ k7 ∷ k8_in_machine ∷ k9 ∷ k10_in_machine ∷ k11 ∷ k12 ∷ k13 ∷ k14 ∷ k15 ∷ k16 ∷ []
 
 -- those after it
 unfoldable pub rules_after_pads : List (Raw → Option Refusal)

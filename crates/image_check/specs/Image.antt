@@ -1,6 +1,6 @@
 -- What runs: what all domains may know, and what each has of its own.
 use Rattle.std.specs.Prelude.{ℕ, List}
-use Rattle.image_text.specs.Record as text
+use Rattle.image_record.specs.Record as text
 use Rattle.image_check.specs.Public.{Public, public_of}
 use Rattle.image_check.specs.Own.{Own, own_at, owns_of}
 

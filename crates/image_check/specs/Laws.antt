@@ -1,8 +1,8 @@
 -- What an image that breaks no rule is: no rule has a broken case, and in natural numbers it can be run.
 use Rattle.std.specs.Prelude.{◌≡◌, ◌≢◌, ℕ, ◌+◌, ◌*◌, ◌<◌, ◌≤◌, ◌^◌, ◌||◌, ◌⊎◌, ◌↔◌, true, false, List, [], ◌∷◌, length, map, slice_get, Some, None}
 use Rattle.std.specs.List.{enumerate_from}
-use Rattle.image_text.specs.Record as text
-use Rattle.image_text.specs.Record.{InKeyRanges}
+use Rattle.image_record.specs.Record as text
+use Rattle.image_record.specs.Record.{InKeyRanges}
 use Rattle.irq_partition.specs.declared.Moment.{Moment}
 use Rattle.irq_partition.specs.Interrupts.{AreMoments}
 use Rattle.domain_check.specs.declared.segments.Rights.{Rights}
@@ -13,16 +13,16 @@ use Rattle.hardware_check.specs.Rules.{k3, k4, k5, k6, k11}
 use Rattle.hardware_check.specs.Extensions.{k22, HasExtensions}
 use Rattle.domain_check.specs.Names.{k7}
 use Rattle.image_check.specs.Schedule.{k16}
-use Rattle.domain_check.specs.Colours.{k8, k9, k10}
+use Rattle.domain_check.specs.Colours.{k9}
 use Rattle.domain_check.specs.Segments.{k12}
 use Rattle.domain_check.specs.Capabilities.{k13}
-use Rattle.domain_check.specs.Interrupts.{k14, k15}
+use Rattle.interrupt_check.specs.Interrupts.{k14, k15}
 use Rattle.domain_check.specs.Calls.{k18}
-use Rattle.image_text.specs.declared.refusal.Refusal.{Refusal}
+use Rattle.image_record.specs.declared.refusal.Refusal.{Refusal}
 use Rattle.sched_table.specs.Schedule.{entry_in, entries_on, IsSchedule}
 use Rattle.pad_bound.specs.Bound.{IsShape, bound_of}
 use Rattle.image_check.specs.Pads.{shape_for, k17}
-use Rattle.image_check.specs.Checking.{broken, broken_but_pads}
+use Rattle.image_check.specs.Checking.{k8_in_machine, k10_in_machine, broken, broken_but_pads}
 use Rattle.image_check.specs.Own.{Segment, Own, segment_at, cap_at, has_line}
 use Rattle.image_check.specs.Pages.{has_page, has_page_in, frames_in, share_of}
 use Rattle.image_check.specs.Image.{Image, image_from, own_of}
@@ -34,9 +34,9 @@ pub record KeepsBeforePads (i : text.Raw) : Type 0 where
   pub colours : k5 i ≡ None
   pub costs : k6 i ≡ None
   pub domains : k7 i ≡ None
-  pub named : k8 i ≡ None
+  pub named : k8_in_machine i ≡ None
   pub apart : k9 i ≡ None
-  pub pools : k10 i ≡ None
+  pub pools : k10_in_machine i ≡ None
   pub shared : k11 i ≡ None
   pub segments : k12 i ≡ None
   pub capabilities : k13 i ≡ None

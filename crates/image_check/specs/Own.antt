@@ -3,14 +3,14 @@ use Rattle.std.specs.Prelude.{ℕ, Bool, true, false, List, [], map, slice_index
 use Rattle.std.specs.List.{All}
 use Rattle.irq_partition.specs.declared.Moment.{Moment}
 use Rattle.frame_colours.specs.Colours.{has}
-use Rattle.image_text.specs.Record.{Raw, RawDomain}
-use Rattle.hardware_check.specs.Hardware.{natural_of}
+use Rattle.image_record.specs.Record.{Raw, RawDomain}
+use Rattle.image_record.specs.Numbers.{natural_of}
 use Rattle.domain_check.specs.declared.capabilities.InitialCap.{InitialCap}
 use Rattle.domain_check.specs.declared.capabilities.InitialCap.TheVariants.{None as NoCap}
 pub use Rattle.domain_check.specs.Segments.{Segment}
 unfoldable pub use Rattle.domain_check.specs.Segments.{segment_of}
 use Rattle.domain_check.specs.Capabilities.{cap_of, IsSmallCap}
-use Rattle.domain_check.specs.Interrupts.{moment_of}
+use Rattle.interrupt_check.specs.Interrupts.{moment_of}
 use Rattle.domain_check.specs.Calls.{calls_in}
 use Rattle.kernel_clone.specs.Permissions.{every_call}
 

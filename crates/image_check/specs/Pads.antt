@@ -1,12 +1,13 @@
 -- The rule of pads: none is below the bound on its switch, by the calls of the domain that leaves: the entry's own.
 use Rattle.std.specs.Prelude.{ℕ, ℤ, pos, int_lt, if◌then◌else◌, List, length, slice_index_or, Option, Some, None}
-use Rattle.image_text.specs.declared.refusal.Refusal.{Refusal}
-use Rattle.image_text.specs.Record.{Raw, RawEntry}
+use Rattle.image_record.specs.declared.refusal.Refusal.{Refusal}
+use Rattle.image_record.specs.Record.{Raw, RawEntry}
 pub use Rattle.cycle_cost.specs.Costs.{most_added}
 use Rattle.pad_bound.specs.Bound.{MachineShape, most_written, bound_of, with_calls}
-use Rattle.hardware_check.specs.Cases.{first_in, refusal}
+use Rattle.image_record.specs.Cases.{first_in, refusal}
 use Rattle.kernel_clone.specs.Permissions.{every_call}
-use Rattle.hardware_check.specs.Hardware.{Hardware, natural_of, hardware_of}
+use Rattle.image_record.specs.Numbers.{natural_of}
+use Rattle.hardware_check.specs.Hardware.{Hardware, hardware_of}
 use Rattle.image_check.specs.Own.{own_at, owns_of}
 
 -- what a miss of the second level costs again: one more write-back, if lines are written back into it

@@ -1,8 +1,9 @@
 -- What all domains may know of an image: the hardware, and the schedule.
 use Rattle.std.specs.Prelude.{ℕ, List, length, map}
-use Rattle.image_text.specs.Record.{Raw, RawEntry}
+use Rattle.image_record.specs.Record.{Raw, RawEntry}
 pub use Rattle.hardware_check.specs.Hardware.{Hardware}
-use Rattle.hardware_check.specs.Hardware.{natural_of, hardware_of}
+use Rattle.image_record.specs.Numbers.{natural_of}
+use Rattle.hardware_check.specs.Hardware.{hardware_of}
 use Rattle.sched_table.specs.declared.schedule.Entry.{Entry}
 
 pub record Public : Type 0 where

@@ -1,8 +1,8 @@
 -- K16, the rule of the schedule: 1 to 64 entries, in the second version 256, each of a domain that is there, a length and a pad.
 use Rattle.std.specs.Prelude.{ℕ, ◌&&◌, not, nat_eq, ℤ, pos, int_lt, Bool, if◌then◌else◌, List, length, Option, Some, None}
-use Rattle.image_text.specs.declared.refusal.Refusal.{Refusal}
-use Rattle.image_text.specs.Record.{Raw, RawEntry}
-use Rattle.hardware_check.specs.Cases.{or_else, first_in, refusal, outside, count_case}
+use Rattle.image_record.specs.declared.refusal.Refusal.{Refusal}
+use Rattle.image_record.specs.Record.{Raw, RawEntry}
+use Rattle.image_record.specs.Cases.{or_else, first_in, refusal, outside, count_case}
 
 -- a number of one of so many
 abbrev pub is_number : ℕ → ℤ → Bool

@@ -1,6 +1,6 @@
 -- When parts in the code stand for an image that breaks no rule but that of pads.
 use Rattle.std.specs.Prelude.{◌≡◌, List, []}
-use Rattle.image_text.specs.Record.{Raw, InKeyRanges}
+use Rattle.image_record.specs.Record.{Raw, InKeyRanges}
 use Rattle.image_check.specs.Checking.{broken_but_pads}
 use Rattle.image_check.specs.Public.{Public, public_of}
 use Rattle.image_check.specs.Own.{Own, owns_of}

@@ -1,6 +1,6 @@
 // An image that breaks no rule.
 ghost use Rattle.std.specs.Prelude.{◌≡◌, ◌<◌, [], length, IfOk, IfErr};
-ghost use Rattle.image_text.specs.Reads.{raw_model};
+ghost use Rattle.image_record.specs.Models.{raw_model};
 ghost use Rattle.image_check.specs.Outcomes.{IsFirst};
 ghost use Rattle.image_check.specs.Checking.{broken};
 ghost use Rattle.image_check.specs.Laws.{Runnable};
@@ -15,7 +15,7 @@ use crate::unpadded::{Unpadded, image_of};
 use crate::{CheckRefusal, laws};
 use domain_check::k18;
 use hardware_check::k22;
-use image_text::Raw;
+use image_record::Raw;
 use std::alloc::Global;
 use std::marker::Model;
 
@@ -27,7 +27,7 @@ pub struct Checked {
 
 impl Model for Checked {
     ghost use Rattle.std.specs.Prelude.{◌≡◌, []};
-    ghost use Rattle.image_text.specs.Record.{Raw};
+    ghost use Rattle.image_record.specs.Record.{Raw};
     ghost use Rattle.image_check.specs.Checking.{broken};
 
     ghost Value = { Raw };

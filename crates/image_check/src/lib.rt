@@ -22,7 +22,7 @@ pub use irq_partition::Moment;
 /// The machine, which the rules of `hardware_check` let through.
 pub use hardware_check::{CacheShape, Hardware, Policy};
 /// Why an image is not accepted: the first rule that it breaks, or want of memory.
-pub use image_text::{ReadRefusal as CheckRefusal, Refusal};
+pub use image_record::{ReadRefusal as CheckRefusal, Refusal};
 pub use own::Own;
 pub use public::Public;
 /// The schedule, whose slots are a domain's each.

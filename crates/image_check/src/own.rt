@@ -1,23 +1,17 @@
 // What is one domain's own.
 ghost use Rattle.std.specs.Prelude.{◌≡◌, [], map};
 ghost use Rattle.std.specs.List.{All};
-ghost use Rattle.image_text.specs.Reads.{raw_model};
-ghost use Rattle.image_text.specs.Models.{domain_model};
-ghost use Rattle.domain_check.specs.Outcomes.{Makes};
+ghost use Rattle.image_record.specs.Models.{raw_model};
+ghost use Rattle.image_record.specs.Parts.{domain_model};
+ghost use Rattle.image_record.specs.Outcomes.{Makes};
 ghost use Rattle.image_check.specs.Checking.{broken_but_pads};
 ghost use Rattle.image_check.specs.Own as spec;
-ghost use Rattle.domain_check.specs.Models.{named_model};
-ghost use Rattle.domain_check.specs.Segments.{segments_of};
-ghost use Rattle.domain_check.specs.Capabilities.{caps_of};
-ghost use Rattle.domain_check.specs.Colours.{own_colours};
-ghost use Rattle.domain_check.specs.Interrupts.{own_lines, own_moments};
-ghost use Rattle.domain_check.specs.Calls.{own_calls};
-ghost use Rattle.image_check.specs.Parts.{ArePartsOf};
-ghost use Rattle.image_check.specs.Models.{segment_model, own_model};
+ghost use Rattle.image_check.specs.Parts.{IsPartOf, ArePartsOf};
+ghost use Rattle.image_check.specs.Models.{own_model};
 
 use crate::CheckRefusal;
 use domain_check::{InitialCap, Named, Segment, caps_from};
-use image_text::{Raw, RawDomain};
+use image_record::{Raw, RawDomain};
 use irq_partition::Moment;
 use std::alloc::Global;
 
@@ -40,6 +34,19 @@ pub struct Own {
     pub calls: u32,
 }
 
+/// What the rules let through of one domain.
+#[derive(Drop)]
+pub struct DomainPart {
+    pub colours: Vec<u8>,
+    pub segments: Vec<Segment>,
+    /// What the slots name.
+    pub caps: Vec<Named>,
+    pub lines: Vec<u8>,
+    pub moments: Vec<Moment>,
+    /// The calls that it may make, a bit each.
+    pub calls: u32,
+}
+
 /// What the rules let through of the domains: of each, in their order.
 #[derive(Drop)]
 pub struct DomainParts {
@@ -53,71 +60,59 @@ pub struct DomainParts {
     pub calls: Vec<u32>,
 }
 
+impl DomainParts {
+    ghost use Rattle.image_check.specs.Parts.{HasFirst, BeginsWith};
+
+    /// Takes out the parts of the first domain.
+    #[tactic(auto, using(crate::proofs::FirstParts::first_and_rest))]
+    fn take_first(&mut self) -> DomainPart
+        requires first { HasFirst self.old }
+        ensures taken { BeginsWith result self.new self.old }
+    {
+        DomainPart {
+            colours: self.colours.remove(0),
+            segments: self.segments.remove(0),
+            caps: self.caps.remove(0),
+            lines: self.lines.remove(0),
+            moments: self.moments.remove(0),
+            calls: self.calls.remove(0),
+        }
+    }
+}
+
 #[tactic(auto, unfolding(crate::specs::Own::own_from))]
-fn own_from(
-    alloc: Global,
-    domain: &RawDomain,
-    colours: Vec<u8>,
-    segments: Vec<Segment>,
-    named: Vec<Named>,
-    lines: Vec<u8>,
-    moments: Vec<Moment>,
-    calls: u32,
-) -> Result<Own, CheckRefusal>
+fn own_from(alloc: Global, domain: &RawDomain, part: DomainPart) -> Result<Own, CheckRefusal>
     requires small { spec.IsSmallOwn (domain_model domain.now) }
-    requires colours { colours.items ≡ own_colours (domain_model domain.now) }
-    requires segments { map segment_model segments.items ≡ segments_of (domain_model domain.now) }
-    requires caps { map named_model named.items ≡ caps_of (domain_model domain.now) }
-    requires lines { lines.items ≡ own_lines (domain_model domain.now) }
-    requires moments { moments.items ≡ own_moments (domain_model domain.now) }
-    requires calls { calls ≡ own_calls (domain_model domain.now) }
+    requires part { IsPartOf part (domain_model domain.now) }
     ensures value { Makes own_model result (spec.own_from (domain_model domain.now)) }
 {
     let name = String::from_str(alloc, domain.name.as_str())?;
-    let caps = caps_from(alloc, named.as_slice())?;
+    let caps = caps_from(alloc, part.caps.as_slice())?;
     Ok(Own {
         name,
-        colours,
+        colours: part.colours,
         entry: domain.entry,
-        segments,
+        segments: part.segments,
         caps,
-        lines,
-        moments,
-        calls,
+        lines: part.lines,
+        moments: part.moments,
+        calls: part.calls,
     })
 }
 
 fn owns_in(
     alloc: Global,
     domains: &[RawDomain],
-    parts: DomainParts,
+    mut parts: DomainParts,
 ) -> Result<Vec<Own>, CheckRefusal>
     requires small { All (λ o. spec.IsSmallOwn (domain_model o)) domains.now }
     requires parts { ArePartsOf parts (map domain_model domains.now) }
     ensures value { Makes (λ v. map own_model v.items) result
         (map spec.own_from (map domain_model domains.now)) }
 {
-    let DomainParts {
-        mut colours,
-        mut segments,
-        mut caps,
-        mut lines,
-        mut moments,
-        mut calls,
-    } = parts;
     let mut owns = Vec::new(alloc);
     for domain in domains {
-        let own = own_from(
-            alloc,
-            domain,
-            colours.remove(0),
-            segments.remove(0),
-            caps.remove(0),
-            lines.remove(0),
-            moments.remove(0),
-            calls.remove(0),
-        )?;
-        owns.push(own)?;
+        owns.push(own_from(alloc, domain, parts.take_first())?)?;
     }
     Ok(owns)
 }

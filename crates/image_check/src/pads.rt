@@ -2,24 +2,25 @@
 ghost use Rattle.std.specs.Prelude.{◌≡◌, ◌<◌, ◌≤◌, ◌^◌, false, not, [], length, map, slice_index_or, option_map};
 ghost use Rattle.std.specs.List.{All};
 ghost use Rattle.cycle_cost.specs.Models.{product_costs_of};
-ghost use Rattle.image_text.specs.Reads.{raw_model};
-ghost use Rattle.image_text.specs.Models.{entry_model};
+ghost use Rattle.image_record.specs.Models.{raw_model};
+ghost use Rattle.image_record.specs.Parts.{entry_model};
 ghost use Rattle.kernel_clone.specs.Permissions.{every_call};
 ghost use Rattle.pad_bound.specs.Bound.{IsShape, bound_of, with_calls};
 ghost use Rattle.pad_bound.specs.Models.{shape_model};
-ghost use Rattle.hardware_check.specs.Cases as cases;
-ghost use Rattle.hardware_check.specs.Hardware.{hardware_of, natural_of as spec_natural_of};
+ghost use Rattle.image_record.specs.Cases as cases;
+ghost use Rattle.image_record.specs.Numbers.{natural_of as spec_natural_of};
+ghost use Rattle.hardware_check.specs.Hardware.{hardware_of};
 ghost use Rattle.hardware_check.specs.Models.{hardware_model};
-ghost use Rattle.hardware_check.specs.Outcomes.{IsVerdict};
+ghost use Rattle.image_record.specs.Outcomes.{IsVerdict};
 ghost use Rattle.domain_check.specs.Calls.{own_calls};
 ghost use Rattle.image_check.specs.Checking.{broken_before_pads};
 ghost use Rattle.image_check.specs.Schedule.{is_number};
 ghost use Rattle.image_check.specs.Pads as spec;
 
 use cycle_cost::ProductCosts;
-use hardware_check::cases::refusal;
-use hardware_check::{Hardware, natural_of};
-use image_text::{Raw, RawEntry, Refusal};
+use hardware_check::Hardware;
+use image_record::cases::refusal;
+use image_record::{Raw, RawEntry, Refusal, natural_of};
 use kernel_clone::EVERY_CALL;
 use pad_bound::{Shape, bound_from, most_written};
 

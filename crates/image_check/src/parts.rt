@@ -1,6 +1,6 @@
 // What the rules before that of pads let through, tested in their order; and the calls of each domain.
 ghost use Rattle.std.specs.Prelude.{◌≡◌, [], map, IfOk, IfErr, OnOk};
-ghost use Rattle.image_text.specs.Reads.{raw_model};
+ghost use Rattle.image_record.specs.Models.{raw_model};
 ghost use Rattle.image_check.specs.Outcomes.{IsFirst};
 ghost use Rattle.image_check.specs.Checking.{broken_before_pads};
 ghost use Rattle.image_check.specs.Public.{entry_of};
@@ -11,9 +11,10 @@ ghost use Rattle.image_check.specs.Models.{hardware_model};
 use crate::CheckRefusal;
 use crate::own::DomainParts;
 use crate::schedule::k16;
-use domain_check::{calls_in, k7, k8, k9, k10, k12, k13, k14, k15};
+use domain_check::{calls_in, k7, k8, k9, k10, k12, k13};
 use hardware_check::{Hardware, k3, k4, k5, k6, k11};
-use image_text::Raw;
+use image_record::Raw;
+use interrupt_check::{k14, k15};
 use sched_table::Entry;
 use std::alloc::Global;
 
@@ -41,13 +42,13 @@ pub fn parts_of(alloc: Global, raw: &Raw) -> Result<Parts, CheckRefusal>
     ensures schedule { IfOk result (λ p. p.schedule.items ≡ map entry_of (raw_model raw.now).schedule) }
 {
     let caches = k3(raw)?;
-    k4(raw)?;
-    k5(raw)?;
+    let frames = k4(raw)?;
+    let colours = k5(raw)?;
     k6(raw)?;
     k7(raw)?;
-    let colours = k8(alloc, raw)?;
+    let owns = k8(alloc, colours, raw)?;
     k9(raw)?;
-    k10(raw, colours.as_slice())?;
+    k10(frames, colours, owns.as_slice(), raw)?;
     let hardware = k11(raw, caches)?;
     let segments = k12(alloc, raw)?;
     let caps = k13(alloc, raw)?;
@@ -58,7 +59,7 @@ pub fn parts_of(alloc: Global, raw: &Raw) -> Result<Parts, CheckRefusal>
     Ok(Parts {
         hardware,
         domains: DomainParts {
-            colours,
+            colours: owns,
             segments,
             caps,
             lines,

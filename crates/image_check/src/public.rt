@@ -1,8 +1,8 @@
 // What all domains may know of an image.
 ghost use Rattle.std.specs.Prelude.{◌≡◌, [], map};
 ghost use Rattle.sched_table.specs.Schedule.{IsSchedule};
-ghost use Rattle.image_text.specs.Reads.{raw_model};
-ghost use Rattle.domain_check.specs.Outcomes.{Makes};
+ghost use Rattle.image_record.specs.Models.{raw_model};
+ghost use Rattle.image_record.specs.Outcomes.{Makes};
 ghost use Rattle.image_check.specs.Checking.{broken_but_pads};
 ghost use Rattle.image_check.specs.Public as spec;
 ghost use Rattle.hardware_check.specs.Hardware.{hardware_of as spec_hardware_of};
@@ -10,7 +10,7 @@ ghost use Rattle.image_check.specs.Models.{hardware_model, public_model};
 
 use crate::CheckRefusal;
 use hardware_check::Hardware;
-use image_text::Raw;
+use image_record::Raw;
 use sched_table::{Entry, Schedule};
 use std::alloc::Global;
 use tp_base::Memory;

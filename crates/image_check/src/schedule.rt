@@ -1,17 +1,16 @@
 // K16, the rule of the schedule, and the entries that it lets through.
 ghost use Rattle.std.specs.Prelude.{◌≡◌, ◌<◌, ◌≤◌, ◌^◌, map, None, IfOk};
-ghost use Rattle.image_text.specs.Reads.{raw_model};
-ghost use Rattle.image_text.specs.Models.{entry_model};
-ghost use Rattle.hardware_check.specs.Cases as cases;
-ghost use Rattle.hardware_check.specs.Outcomes.{IsVerdict, IsVerdictOrMemory};
+ghost use Rattle.image_record.specs.Models.{raw_model};
+ghost use Rattle.image_record.specs.Parts.{entry_model};
+ghost use Rattle.image_record.specs.Cases as cases;
+ghost use Rattle.image_record.specs.Outcomes.{IsVerdict, IsVerdictOrMemory};
 ghost use Rattle.domain_check.specs.Names.{k7};
 ghost use Rattle.image_check.specs.Public.{entry_of};
 ghost use Rattle.image_check.specs.Schedule as spec;
 
 use crate::CheckRefusal;
-use hardware_check::cases::{count_case, outside, refusal};
-use hardware_check::natural_of;
-use image_text::{Raw, RawEntry, Refusal};
+use image_record::cases::{count_case, outside, refusal};
+use image_record::{Raw, RawEntry, Refusal, natural_of};
 use sched_table::Entry;
 use std::alloc::Global;
 
@@ -22,7 +21,7 @@ fn is_number(many: usize, number: i64) -> bool
     0 <= number && number < many as i64
 }
 
-#[tactic(auto, unfolding(crate::specs::Schedule::k16_case, crate::specs::Public::entry_of), using(crate::proofs::Entries::number_below, crate::proofs::Entries::number_natural, hardware_check::proofs::Parts::most_inside, hardware_check::proofs::Parts::natural_inside))]
+#[tactic(auto, unfolding(crate::specs::Schedule::k16_case, crate::specs::Public::entry_of), using(crate::proofs::Entries::number_below, crate::proofs::Entries::number_natural, image_record::proofs::Ranges::most_inside, image_record::proofs::Ranges::natural_inside))]
 fn entry_in(domains: usize, place: usize, text: &RawEntry) -> Result<Entry, Refusal>
     requires domains { domains ≤ 32 }
     requires place { place < 2 ^ 63 }

@@ -1,10 +1,10 @@
 // An image that breaks no rule but that of pads.
 ghost use Rattle.std.specs.Prelude.{◌≡◌, ◌<◌, [], map, length, IfOk, IfErr};
-ghost use Rattle.image_text.specs.Record.{InKeyRanges};
-ghost use Rattle.image_text.specs.Reads.{raw_model};
+ghost use Rattle.image_record.specs.Record.{InKeyRanges};
+ghost use Rattle.image_record.specs.Models.{raw_model};
 ghost use Rattle.pad_bound.specs.Bound.{IsShape};
 ghost use Rattle.pad_bound.specs.Models.{shape_model};
-ghost use Rattle.domain_check.specs.Outcomes.{Makes};
+ghost use Rattle.image_record.specs.Outcomes.{Makes};
 ghost use Rattle.image_check.specs.Outcomes.{IsFirst};
 ghost use Rattle.image_check.specs.Checking.{broken_but_pads};
 ghost use Rattle.image_check.specs.Public.{entry_of};
@@ -22,7 +22,7 @@ use crate::public::{Public, public_of};
 use crate::{CheckRefusal, laws};
 use domain_check::k18;
 use hardware_check::k22;
-use image_text::Raw;
+use image_record::Raw;
 use pad_bound::Shape;
 use std::alloc::Global;
 use std::marker::Model;
@@ -38,8 +38,8 @@ pub struct Unpadded {
 
 impl Model for Unpadded {
     ghost use Rattle.std.specs.Prelude.{map};
-    ghost use Rattle.image_text.specs.Record.{Raw};
-    ghost use Rattle.image_text.specs.Reads.{raw_model};
+    ghost use Rattle.image_record.specs.Record.{Raw};
+    ghost use Rattle.image_record.specs.Models.{raw_model};
     ghost use Rattle.image_check.specs.Models.{public_model, own_model};
     ghost use Rattle.image_check.specs.Standing.{IsUnpadded};
 

@@ -12,20 +12,22 @@ use Rattle.hex.specs.Hex.{encode_lower, decode_pairs, IsBytes}
 use Rattle.hex.proofs.HexLemmas.{decode_of-encode_lower}
 use Rattle.rand_pcg.specs.Lcg.{Lcg}
 use Rattle.frame_colours.specs.Colours.{pool}
-use Rattle.image_text.specs.Record.{Raw, RawDomain, RawEntry, RawMoment}
-use Rattle.hardware_check.specs.Cases.{or_else, first_case, first_in, outside}
-use Rattle.hardware_check.specs.Hardware.{natural_of, hardware_of, shape_of, costs_of}
+use Rattle.image_record.specs.Record.{Raw, RawDomain, RawEntry, RawMoment}
+use Rattle.image_record.specs.Cases.{or_else, first_case, first_in, outside}
+use Rattle.image_record.specs.Numbers.{natural_of, names}
+use Rattle.hardware_check.specs.Hardware.{hardware_of, shape_of, costs_of}
 use Rattle.hardware_check.specs.Rules.{k3, k4, k5, k6, k11, cache_case, ways_case, predictor_case, is_region, room_case}
 use Rattle.hardware_check.specs.Extensions.{k22}
 use Rattle.image_check.specs.Own.{segment_of}
 use Rattle.image_check.specs.Pages.{has_region, regions_below, pages_in}
+use Rattle.image_check.specs.Checking.{k8_in_machine, k10_in_machine}
 use Rattle.domain_check.specs.Names.{k7, k7_domain}
 use Rattle.image_check.specs.Schedule.{is_number, k16, k16_case, k16_entry}
-use Rattle.domain_check.specs.Colours.{names, k8, k8_colour, k9, k10, k10_case}
+use Rattle.domain_check.specs.Colours.{k8, k8_colour, k9, k10, k10_case}
 use Rattle.domain_check.specs.Segments.{bytes_in, k12, k12_domain, segment_case, entry_case}
 use Rattle.domain_check.specs.CapTexts.{cap_in, number_after}
 use Rattle.domain_check.specs.Capabilities.{k13, k13_case, k13_domain}
-use Rattle.domain_check.specs.Interrupts.{k14, k14_line, k15, k15_moment, k15_domain}
+use Rattle.interrupt_check.specs.Interrupts.{k14, k14_line, k15, k15_moment, k15_domain}
 use Rattle.domain_check.specs.Calls.{calls_in, k18, k18_domain}
 use Rattle.kernel_clone.specs.Permissions.{may_make, every_call}
 use Rattle.image_check.specs.Own.{own_from, owns_of, own_at}
@@ -218,17 +220,17 @@ module _ (p : List ℕ) (h : ℕ → List ℕ) (m : ℕ → List RawMoment) (es 
   unfolding k7 k7_domain image_with domain_with digits
   names_kept = by_count (λ n. k7 (image n) ≡ None) refl refl refl refl seed
 
-  colour_lists_kept : k8 (image (count seed)) ≡ None
+  colour_lists_kept : k8_in_machine (image (count seed)) ≡ None
   unfolding k8 k8_colour image_with domain_with hardware_of shape_of costs_of
-  colour_lists_kept = by_count (λ n. k8 (image n) ≡ None) refl refl refl refl seed
+  colour_lists_kept = by_count (λ n. k8_in_machine (image n) ≡ None) refl refl refl refl seed
 
   apart_kept : k9 (image (count seed)) ≡ None
   unfolding k9 image_with domain_with
   apart_kept = by_count (λ n. k9 (image n) ≡ None) refl refl refl refl seed
 
-  pools_kept : k10 (image (count seed)) ≡ None
+  pools_kept : k10_in_machine (image (count seed)) ≡ None
   unfolding k10 k10_case image_with domain_with hardware_of shape_of costs_of pool segment_of regions_below has_region pages_in
-  pools_kept = by_count (λ n. k10 (image n) ≡ None) refl refl refl refl seed
+  pools_kept = by_count (λ n. k10_in_machine (image n) ≡ None) refl refl refl refl seed
 
   capabilities_kept : k13 (image (count seed)) ≡ None
   unfolding k13 k13_domain k13_case image_with domain_with digits cap_in number_after

@@ -5,7 +5,8 @@ use image_check::{
     CacheShape, CheckRefusal, Checked, Entry, Hardware, InitialCap, Moment, Own, Policy, Rights,
     check, check_but_pads,
 };
-use image_text::{Refusal, read_image};
+use image_record::Refusal;
+use image_text::read_image;
 use pad_bound::bound;
 use std::alloc::Global;
 use std::process::Abort;

@@ -1,8 +1,9 @@
 // What no clause says: that the key table is the format's, row by row, and that an image is read.
-use image_text::{
+use image_record::{
     Raw, RawCache, RawCosts, RawDomain, RawEntry, RawMoment, RawMuldiv, RawSegment, ReadRefusal,
-    Refusal, read_image,
+    Refusal,
 };
+use image_text::read_image;
 use std::alloc::Global;
 use std::process::Abort;
 use std::test::Fail;

@@ -10,7 +10,8 @@ use Rattle.image_text.specs.declared.kinds.Simple.TheVariants.{Integer}
 use Rattle.image_text.specs.declared.kinds.Place.TheVariants.{Domain as DomainPlace}
 use Rattle.image_text.specs.Rows.{Row, Array, may_have_2, all_items, whole_in, whole_item, items_at, broken_in, Broken, first_broken, key_rows, version_of}
 use Rattle.image_text.specs.Unknown.{all_keys, is_known, known_table, known_item, known_domain, all_known, broken_key}
-use Rattle.image_text.specs.Record.{Raw, domain_of, domain_in, record_of, document, read_whole, read_table, image_of, no_raw_domain, raw_domain, FirstVersionLaw}
+use Rattle.image_record.specs.Record.{Raw, no_raw_domain, raw_domain}
+use Rattle.image_text.specs.Record.{domain_of, domain_in, record_of, document, read_whole, read_table, image_of, FirstVersionLaw}
 use Rattle.image_text.proofs.WholeRows.{all_pass, first_whole, whole_from, later_whole, keys_known, versions}
 use Rattle.image_text.proofs.Ranges.{passing_at}
 

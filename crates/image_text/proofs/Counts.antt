@@ -6,9 +6,9 @@ use Rattle.toml.specs.declared.value.Value.{Value}
 use Rattle.toml.specs.View.{items_view, members_view}
 use Rattle.image_text.specs.Rows.{count_items, is_pair}
 use Rattle.image_text.specs.Unknown.{is_empty}
-use Rattle.image_text.specs.Reads.{Reads}
-use Rattle.image_text.specs.declared.refusal.ReadRefusal.{ReadRefusal}
-use Rattle.image_text.specs.declared.refusal.ReadRefusal.TheVariants.{Broken, Memory}
+use Rattle.image_record.specs.Outcomes.{Makes}
+use Rattle.image_record.specs.declared.refusal.ReadRefusal.{ReadRefusal}
+use Rattle.image_record.specs.declared.refusal.ReadRefusal.TheVariants.{Broken, Memory}
 
 pub item_count : (vs : List Value) → count_items (items_view vs) ≡ length vs
 item_count [] = refl
@@ -29,7 +29,7 @@ same_integers [] = refl
 same_integers (z ∷ zs) = ap (λ rest. z ∷ rest) (same_integers zs)
 
 -- integers are read as themselves
-pub plain_integers : (result : Result (Vec ℤ Global) ReadRefusal) (ys : List ℤ) → Reads (λ found. map (λ z. z) found.items) result ys → Reads (λ found. found.items) result ys
+pub plain_integers : (result : Result (Vec ℤ Global) ReadRefusal) (ys : List ℤ) → Makes (λ found. map (λ z. z) found.items) result ys → Makes (λ found. found.items) result ys
 plain_integers (Ok found) ys h = sym (same_integers found.items) ∙ h
 plain_integers (Err Memory) ys h = tt
 plain_integers (Err (Broken r)) ys h = h

@@ -5,7 +5,8 @@ use Rattle.std.proofs.lemmas.Result.{IfOk-at_ok}
 use Rattle.toml.specs.Data.{Data, Items, no_items, item, Members, no_members, get_member}
 use Rattle.image_text.specs.Rows.{Row, needs, SomeTables, all_items, count_items, some_tables, fits, fits_if, whole_in, whole_item, items_or_none, items_at, broken_in, Broken, key_rows}
 use Rattle.image_text.specs.Unknown.{broken_key}
-use Rattle.image_text.specs.Record.{RawDomain, integer_at, ranged, map_items, table_of, segment_of, segment_in, domain_of, domain_in, record_of, document, read_whole, read_table, image_of, IsRawSegment, no_raw_segment, no_raw_domain, raw_domain, AreInKeyRanges, InKeyRanges, RangesLaw}
+use Rattle.image_record.specs.Record.{RawDomain, IsRawSegment, no_raw_segment, no_raw_domain, raw_domain, AreInKeyRanges, InKeyRanges}
+use Rattle.image_text.specs.Record.{integer_at, ranged, map_items, table_of, segment_of, segment_in, domain_of, domain_in, record_of, document, read_whole, read_table, image_of, RangesLaw}
 use Rattle.image_text.specs.declared.kinds.Place.TheVariants.{Domain as DomainPlace}
 use Rattle.image_text.proofs.WholeRows.{all_pass, whole_from, first_whole, rows_whole}
 

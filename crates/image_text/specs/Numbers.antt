@@ -2,7 +2,8 @@
 -- in the bytes, the very value of the record.
 use Rattle.std.specs.Prelude.{◌≡◌, ℕ, Bool, false, ℤ, pos, List, [], ◌∷◌, codes, Option, Some, None, Ok, ◌⊎◌}
 use Rattle.toml.specs.Data.{Data, Items, no_items, item, Members, get_member}
-use Rattle.image_text.specs.Record.{RawCache, RawCosts, RawMuldiv, RawSegment, RawMoment, RawDomain, RawEntry, Raw, document, image_of}
+use Rattle.image_record.specs.Record.{RawCache, RawCosts, RawMuldiv, RawSegment, RawMoment, RawDomain, RawEntry, Raw}
+use Rattle.image_text.specs.Record.{document, image_of}
 
 -- ---- what stands at a key
 

@@ -8,13 +8,9 @@ mod key_table;
 mod kinds;
 pub mod laws;
 mod lookup;
-mod raw;
 mod reading;
-mod refusal;
 mod rows;
 mod unknown;
 mod values;
 
-pub use raw::{Raw, RawCache, RawCosts, RawDomain, RawEntry, RawMoment, RawMuldiv, RawSegment};
 pub use reading::read_image;
-pub use refusal::{ReadRefusal, Refusal};

@@ -4,20 +4,25 @@ ghost use Rattle.toml.specs.View.{view, items_view, table_view};
 ghost use Rattle.toml.specs.Data.{get_member, as_table};
 ghost use Rattle.image_text.specs.Record as spec;
 ghost use Rattle.image_text.specs.Unknown.{broken_key as spec_broken_key};
-ghost use Rattle.image_text.specs.Models.{broken_model, cache_model, costs_model, muldiv_model};
-ghost use Rattle.image_text.specs.Models.{segment_model, moment_model};
-ghost use Rattle.image_text.specs.Models.{domain_model, entry_model};
-ghost use Rattle.image_text.specs.Reads.{Reads, Agrees, raw_model};
+ghost use Rattle.image_text.specs.Models.{broken_model};
+ghost use Rattle.image_record.specs.Record as parts;
+ghost use Rattle.image_record.specs.Parts.{cache_model, costs_model, muldiv_model, domain_model, entry_model};
+ghost use Rattle.image_record.specs.Parts.{segment_model, moment_model};
+ghost use Rattle.image_record.specs.Models.{raw_model};
+ghost use Rattle.image_record.specs.Outcomes.{Makes};
+ghost use Rattle.image_text.specs.Reads.{Agrees};
 
 use crate::items::{Item, read_items};
 use crate::key_table::{broken_key, version_of};
 use crate::lookup::{get, items_at, items_of};
-use crate::raw::{Raw, RawCache, RawCosts, RawDomain, RawEntry, RawMoment, RawMuldiv, RawSegment};
-use crate::refusal::{ReadRefusal, Refusal};
 use crate::rows::Broken;
 use crate::values::{
     integer_at, integer_if_at, integer_of, integers_at, integers_if_at, natural_at, table_at,
     table_of, text_at, truth_at,
+};
+use image_record::{
+    Raw, RawCache, RawCosts, RawDomain, RawEntry, RawMoment, RawMuldiv, RawSegment, ReadRefusal,
+    Refusal,
 };
 use std::alloc::Global;
 use toml::{Table, Value};
@@ -32,7 +37,7 @@ const NOT_TOML: Refusal = Refusal {
 
 #[tactic(auto, unfolding(crate::specs::Record::cache_of))]
 fn cache_of(alloc: Global, table: &Table) -> Result<RawCache, ReadRefusal>
-    ensures read { Reads cache_model result (spec.cache_of (table_view table.now)) }
+    ensures read { Makes cache_model result (spec.cache_of (table_view table.now)) }
 {
     let policy = text_at(alloc, table, "policy")?;
     Ok(RawCache {
@@ -43,7 +48,7 @@ fn cache_of(alloc: Global, table: &Table) -> Result<RawCache, ReadRefusal>
 }
 
 fn cache_at(alloc: Global, table: &Table, key: &str) -> Result<RawCache, ReadRefusal>
-    ensures read { Reads cache_model result (spec.cache_at key.now (table_view table.now)) }
+    ensures read { Makes cache_model result (spec.cache_at key.now (table_view table.now)) }
 {
     let empty = Table::new(alloc);
     cache_of(alloc, table_at(table, key, &empty))
@@ -112,7 +117,7 @@ fn muldiv_at(table: &Table) -> Option<RawMuldiv>
 
 #[tactic(auto, unfolding(crate::specs::Record::segment_of))]
 fn segment_of(alloc: Global, table: &Table) -> Result<RawSegment, ReadRefusal>
-    ensures read { Reads segment_model result (spec.segment_of (table_view table.now)) }
+    ensures read { Makes segment_model result (spec.segment_of (table_view table.now)) }
 {
     let rights = text_at(alloc, table, "rights")?;
     let hex = text_at(alloc, table, "hex")?;
@@ -125,7 +130,7 @@ fn segment_of(alloc: Global, table: &Table) -> Result<RawSegment, ReadRefusal>
 }
 
 impl Item for RawSegment {
-    ghost Part = { spec.RawSegment };
+    ghost Part = { parts.RawSegment };
 
     ghost model = { segment_model };
 
@@ -166,7 +171,7 @@ fn moment_of(value: &Value) -> RawMoment
 }
 
 impl Item for RawMoment {
-    ghost Part = { spec.RawMoment };
+    ghost Part = { parts.RawMoment };
 
     ghost model = { moment_model };
 
@@ -179,7 +184,7 @@ impl Item for RawMoment {
 
 #[tactic(auto, unfolding(crate::specs::Record::domain_of))]
 fn domain_of(alloc: Global, table: &Table) -> Result<RawDomain, ReadRefusal>
-    ensures read { Reads domain_model result (spec.domain_of (table_view table.now)) }
+    ensures read { Makes domain_model result (spec.domain_of (table_view table.now)) }
 {
     let name = text_at(alloc, table, "name")?;
     let colours = integers_at(alloc, table, "colours")?;
@@ -201,7 +206,7 @@ fn domain_of(alloc: Global, table: &Table) -> Result<RawDomain, ReadRefusal>
 }
 
 impl Item for RawDomain {
-    ghost Part = { spec.RawDomain };
+    ghost Part = { parts.RawDomain };
 
     ghost model = { domain_model };
 
@@ -225,7 +230,7 @@ fn entry_of(table: &Table) -> RawEntry
 }
 
 impl Item for RawEntry {
-    ghost Part = { spec.RawEntry };
+    ghost Part = { parts.RawEntry };
 
     ghost model = { entry_model };
 
@@ -240,7 +245,7 @@ impl Item for RawEntry {
 #[tactic(auto, unfolding(crate::specs::Record::record_of))]
 fn record_of(alloc: Global, table: &Table) -> Result<Raw, ReadRefusal>
     requires whole { spec_broken_key (table_view table.now) ≡ None }
-    ensures read { Reads raw_model result (spec.record_of (table_view table.now)) }
+    ensures read { Makes raw_model result (spec.record_of (table_view table.now)) }
 {
     let l1i = cache_at(alloc, table, "l1i")?;
     let l1d = cache_at(alloc, table, "l1d")?;

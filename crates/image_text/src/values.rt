@@ -4,11 +4,11 @@ ghost use Rattle.std.specs.Prelude.{◌≡◌, ℕ, ℤ, List, Some, option_map,
 ghost use Rattle.toml.specs.View.{view, items_view, table_view};
 ghost use Rattle.toml.specs.Data.{as_array, get_member, no_members};
 ghost use Rattle.image_text.specs.Record as spec;
-ghost use Rattle.image_text.specs.Reads.{Reads};
+ghost use Rattle.image_record.specs.Outcomes.{Makes};
 
 use crate::items::{Item, read_items};
 use crate::lookup::{get, items_at};
-use crate::refusal::ReadRefusal;
+use image_record::ReadRefusal;
 use std::alloc::Global;
 use toml::{Table, Value};
 
@@ -90,7 +90,7 @@ fn text_of(value: &Value) -> &str
 }
 
 pub fn text_at(alloc: Global, table: &Table, key: &str) -> Result<String, ReadRefusal>
-    ensures read { Reads (λ text. string_bytes text) result (spec.text_at key.now (table_view table.now)) }
+    ensures read { Makes (λ text. string_bytes text) result (spec.text_at key.now (table_view table.now)) }
 {
     let text = match get(table, key) {
         Some(value) => text_of(value),
@@ -134,19 +134,19 @@ impl Item for i64 {
 
 #[tactic(auto, using(crate::proofs::Counts::plain_integers))]
 fn integers_of(alloc: Global, values: &[Value]) -> Result<Vec<i64>, ReadRefusal>
-    ensures read { Reads (λ found. found.items) result (spec.integers_in (items_view values.now)) }
+    ensures read { Makes (λ found. found.items) result (spec.integers_in (items_view values.now)) }
 {
     read_items(alloc, values)
 }
 
 pub fn integers_at(alloc: Global, table: &Table, key: &str) -> Result<Vec<i64>, ReadRefusal>
-    ensures read { Reads (λ found. found.items) result (spec.integers_at key.now (table_view table.now)) }
+    ensures read { Makes (λ found. found.items) result (spec.integers_at key.now (table_view table.now)) }
 {
     integers_of(alloc, items_at(table, key))
 }
 
 fn integers_if(alloc: Global, value: &Value) -> Result<Option<Vec<i64>>, ReadRefusal>
-    ensures read { Reads (option_map (λ found. found.items)) result
+    ensures read { Makes (option_map (λ found. found.items)) result
         (option_map spec.integers_in (as_array (view value.now))) }
 {
     match value.as_array() {
@@ -161,7 +161,7 @@ pub fn integers_if_at(
     table: &Table,
     key: &str,
 ) -> Result<Option<Vec<i64>>, ReadRefusal>
-    ensures read { Reads (option_map (λ found. found.items)) result
+    ensures read { Makes (option_map (λ found. found.items)) result
         (spec.integers_if_at key.now (table_view table.now)) }
 {
     match get(table, key) {

@@ -1,6 +1,7 @@
 // The images that the tests run.
 use image_check::{CheckRefusal, Checked, check};
-use image_text::{ReadRefusal, read_image};
+use image_record::ReadRefusal;
+use image_text::read_image;
 use std::alloc::Global;
 use tp_base::Memory;
 

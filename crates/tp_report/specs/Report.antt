@@ -4,7 +4,7 @@ use Rattle.std.specs.Fmt.{signed_decimal}
 use Rattle.std.specs.List.{concat, flat_map, range_with_len}
 use Rattle.guards.specs.declared.Guard.{Guard}
 use Rattle.guards.specs.Names.{name_of}
-use Rattle.image_text.specs.declared.refusal.Refusal.{Refusal}
+use Rattle.image_record.specs.declared.refusal.Refusal.{Refusal}
 use Rattle.sched_table.specs.declared.schedule.Entry.{Entry}
 use Rattle.sched_table.specs.Schedule.{entry_in}
 use Rattle.pad_bound.specs.Bound.{MachineShape, worst_instruction, worst_operation, worst_leave, worst_prefetch, worst_flush, worst_enter, bound_of, with_calls}

@@ -2,10 +2,11 @@
 use Rattle.std.proofs.Common.{◌≡◌, ℕ, List, [], ◌∷◌, Some, Result, Ok, Err, refl, sym, ap, ◌∙◌}
 use Rattle.std.specs.Prelude.{slice_get, IfOk, IfErr}
 use Rattle.std.proofs.lemmas.Option.{same_Some}
-use Rattle.image_text.specs.declared.refusal.Refusal.{Refusal}
-use Rattle.image_text.specs.Record as text
-use Rattle.image_text.specs.declared.refusal.ReadRefusal.{ReadRefusal}
-use Rattle.image_text.specs.declared.refusal.ReadRefusal.TheVariants.{Broken, Memory}
+use Rattle.image_record.specs.declared.refusal.Refusal.{Refusal}
+use Rattle.image_record.specs.Record as text
+use Rattle.image_text.specs.Record.{image_of}
+use Rattle.image_record.specs.declared.refusal.ReadRefusal.{ReadRefusal}
+use Rattle.image_record.specs.declared.refusal.ReadRefusal.TheVariants.{Broken, Memory}
 use Rattle.image_check.specs.Outcomes.{IsFirst}
 use Rattle.world_view.specs.Reading.{unless_broken}
 use Rattle.tp_words.specs.declared.Command.{Command}
@@ -30,7 +31,7 @@ accepts_checked c t found (Err (Broken r)) is refused accepted same = rw is (fir
 accepts_checked c t found (Err Memory) is refused accepted same = tt
 
 -- a text that reads as a record that breaks no rule
-pub checks_unbroken : (bytes : List ℕ) (t : text.Raw) → text.image_of bytes ≡ Ok t → broken t ≡ [] → image_for Check bytes ≡ Ok (image_from t)
+pub checks_unbroken : (bytes : List ℕ) (t : text.Raw) → image_of bytes ≡ Ok t → broken t ≡ [] → image_for Check bytes ≡ Ok (image_from t)
 unfolding image_for checked_for broken_for
 checks_unbroken bytes t reads unbroken = rw (reads, unbroken)
 

@@ -8,7 +8,7 @@ use Rattle.std.proofs.lemmas.Bool.Decides.{nat_tests}
 use Rattle.tp_io.specs.Bytes.{before_known, after_known, AtEnd}
 use Rattle.tp_io.specs.Sends.{SinkState, Sent, CutShort, Sends}
 use Rattle.tp_io.specs.Sure.{Exceeds}
-use Rattle.image_text.specs.declared.refusal.Refusal.{Refusal}
+use Rattle.image_record.specs.declared.refusal.Refusal.{Refusal}
 use Rattle.image_check.specs.Image.{Image}
 use Rattle.world_view.specs.Reading.{most_bytes}
 use Rattle.world_view.specs.Relations.{IsDomain}

@@ -5,8 +5,9 @@ use Rattle.std.proofs.lemmas.Bool.{cases_lt}
 use Rattle.tp_io.specs.Bytes.{before_known, after_known, AtEnd}
 use Rattle.tp_io.specs.Sends.{SinkState}
 use Rattle.guards.specs.declared.Guard.{Guard}
-use Rattle.image_text.specs.declared.refusal.Refusal.{Refusal}
-use Rattle.image_text.specs.Record as text
+use Rattle.image_record.specs.declared.refusal.Refusal.{Refusal}
+use Rattle.image_record.specs.Record as text
+use Rattle.image_text.specs.Record.{image_of}
 use Rattle.image_check.specs.Image.{Image, own_of, image_from}
 use Rattle.world_view.specs.Reading.{image, checked, unless_broken, most_bytes}
 use Rattle.world_view.specs.Machine.{whole}
@@ -257,12 +258,12 @@ module _ (a : Asked) (h : IsAnswered a) where
       record {
         all = record { bytes = a.items; took = h.took; whole = h.whole reads few; few = few };
         item = r;
-        first = first_in a.command (text.image_of a.items) r broken;
+        first = first_in a.command (image_of a.items) r broken;
         wrote = t.1 ∙ ap (λ (x : Answer). after_known a.old.written x.1) is;
       }
 
   done_found : Reads a.command → a.status ≡ Done
-      → (i : Image) × Found a.command (text.image_of a.items) i
+      → (i : Image) × Found a.command (image_of a.items) i
       × HasWritten a (answer_of_image a.command i).1
   unfolding image_for
   done_found reads done =
@@ -270,7 +271,7 @@ module _ (a : Asked) (h : IsAnswered a) where
       let (i, read, is) =
       found_image a.command (image_for a.command a.items) Done done_is_found t.0 in (
         i,
-        found_in a.command (text.image_of a.items) i read,
+        found_in a.command (image_of a.items) i read,
         t.1 ∙ ap (λ (x : Answer). after_known a.old.written x.1) is,
       )
 
@@ -293,7 +294,7 @@ module _ (a : Asked) (h : IsAnswered a) where
           took = h.took;
           whole = h.whole reads few;
           few = few;
-          read = sym (as_run (text.image_of a.items)) ∙ read;
+          read = sym (as_run (image_of a.items)) ∙ read;
         },
         due.0 ∙ ap (λ (x : Answer). x.0) (is ∙ same),
         due.1 ∙ ap (λ (x : Answer). after_known a.old.written x.1) (is ∙ same),

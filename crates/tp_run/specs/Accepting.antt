@@ -1,9 +1,9 @@
 -- How bytes are taken for an image.
 use Rattle.std.specs.Prelude.{◌≡◌, Result, Ok, Err}
-use Rattle.image_text.specs.declared.refusal.Refusal.{Refusal}
-use Rattle.image_text.specs.Record as text
-use Rattle.image_text.specs.declared.refusal.ReadRefusal.{ReadRefusal}
-use Rattle.image_text.specs.declared.refusal.ReadRefusal.TheVariants.{Broken, Memory}
+use Rattle.image_record.specs.declared.refusal.Refusal.{Refusal}
+use Rattle.image_record.specs.Record as text
+use Rattle.image_record.specs.declared.refusal.ReadRefusal.{ReadRefusal}
+use Rattle.image_record.specs.declared.refusal.ReadRefusal.TheVariants.{Broken, Memory}
 use Rattle.image_check.specs.Image.{Image, image_from}
 
 -- the first broken rule, unless memory ran out

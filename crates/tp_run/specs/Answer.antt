@@ -1,6 +1,6 @@
 -- What the program answers to its words and the bytes of its source.
 use Rattle.std.specs.Prelude.{ℕ, nat_le, nat_lt, if◌then◌else◌, List, length, Option, Some, None, Result, Ok, Err}
-use Rattle.image_text.specs.declared.refusal.Refusal.{Refusal}
+use Rattle.image_record.specs.declared.refusal.Refusal.{Refusal}
 use Rattle.image_check.specs.Image.{Image, own_of, image_from}
 use Rattle.image_gen.specs.Generated.{generated}
 use Rattle.image_gen.specs.Text.{text as generated_text}

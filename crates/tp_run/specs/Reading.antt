@@ -1,7 +1,8 @@
 -- The image that bytes are, for the command that asks for it, and the rules that they break.
 use Rattle.std.specs.Prelude.{ℕ, List, [], ◌∷◌, Result, Ok, Err}
-use Rattle.image_text.specs.declared.refusal.Refusal.{Refusal}
-use Rattle.image_text.specs.Record as text
+use Rattle.image_record.specs.declared.refusal.Refusal.{Refusal}
+use Rattle.image_record.specs.Record as text
+use Rattle.image_text.specs.Record.{image_of}
 use Rattle.image_check.specs.Checking.{broken, broken_but_pads}
 use Rattle.image_check.specs.Image.{Image}
 use Rattle.world_view.specs.Reading.{unless_broken}
@@ -29,4 +30,4 @@ checked_for c (Ok i) = unless_broken i (broken_for c i)
 
 -- the image, or the first rule that it breaks
 unfoldable pub image_for : Command → List ℕ → Result Image Refusal
-image_for c bytes = checked_for c (text.image_of bytes)
+image_for c bytes = checked_for c (image_of bytes)

@@ -5,8 +5,9 @@ use Rattle.tp_io.specs.Causes.{TellsFault}
 use Rattle.tp_io.specs.Sends.{SinkState}
 use Rattle.tp_io.specs.Sure.{Exceeds}
 use Rattle.guards.specs.declared.Guard.{Guard}
-use Rattle.image_text.specs.declared.refusal.Refusal.{Refusal}
-use Rattle.image_text.specs.Record as text
+use Rattle.image_record.specs.declared.refusal.Refusal.{Refusal}
+use Rattle.image_record.specs.Record as text
+use Rattle.image_text.specs.Record.{image_of}
 use Rattle.image_gen.specs.Generated.{generated}
 use Rattle.image_gen.specs.Text.{text as generated_text}
 use Rattle.image_check.specs.Checking.{broken, broken_but_pads}
@@ -90,14 +91,14 @@ pub record ReadsAll (left left' : Option (List ℕ)) : Type 0 where
 pub record Refuses (c : Command) (left left' written written' : Option (List ℕ)) : Type 0 where
   pub all : ReadsAll left left'
   pub item : Refusal
-  pub first : slice_get (broken_in c (text.image_of all.bytes)) 0 ≡ Some item
+  pub first : slice_get (broken_in c (image_of all.bytes)) 0 ≡ Some item
   pub wrote : written' ≡ after_known written (refusal_text item)
 
 -- it breaks no rule, and that is what was written
 pub record Accepts (left left' written written' : Option (List ℕ)) : Type 0 where
   pub all : ReadsAll left left'
   pub record_of : text.Raw
-  pub read : text.image_of all.bytes ≡ Ok record_of
+  pub read : image_of all.bytes ≡ Ok record_of
   pub unbroken : broken record_of ≡ []
   pub wrote : written' ≡ after_known written accepted_text
 
@@ -105,7 +106,7 @@ pub record Accepts (left left' written written' : Option (List ℕ)) : Type 0 wh
 pub record Bounds (left left' written written' : Option (List ℕ)) : Type 0 where
   pub all : ReadsAll left left'
   pub record_of : text.Raw
-  pub read : text.image_of all.bytes ≡ Ok record_of
+  pub read : image_of all.bytes ≡ Ok record_of
   pub unbroken : broken_but_pads record_of ≡ []
   pub wrote : written' ≡ after_known written (bounds_of (image_from record_of))
 
@@ -164,13 +165,13 @@ pub record WritesOff (off : Guard) (slots : ℕ) (left left' written written' : 
 
 -- its text reads as its record
 abbrev pub ReadsBack : ℕ → Type 0
-ReadsBack seed = text.image_of (generated_text seed) ≡ Ok (generated seed)
+ReadsBack seed = image_of (generated_text seed) ≡ Ok (generated seed)
 
 -- a text that reads as the seed's record was written, and that record breaks no rule
 pub record Generates (seed : ℕ) (written written' : Option (List ℕ)) : Type 0 where
   pub bytes : List ℕ
   pub wrote : written' ≡ after_known written bytes
-  pub read : text.image_of bytes ≡ Ok (generated seed)
+  pub read : image_of bytes ≡ Ok (generated seed)
   pub unbroken : broken (generated seed) ≡ []
 
 -- the seed's record breaks no rule, and the summary of its run was written

@@ -5,7 +5,7 @@ ghost use Rattle.tp_io.specs.Bytes.{before_known, AtEnd};
 ghost use Rattle.tp_io.specs.Causes.{TellsFault};
 ghost use Rattle.tp_io.specs.Sink.{state};
 ghost use Rattle.guards.specs.declared.Guard.{Guard};
-ghost use Rattle.image_text.specs.declared.refusal.Refusal.{Refusal};
+ghost use Rattle.image_record.specs.declared.refusal.Refusal.{Refusal};
 ghost use Rattle.image_check.specs.Image.{Image};
 ghost use Rattle.tp_run.specs.Answer as spec;
 ghost use Rattle.tp_run.specs.TopCall.{Writes, EndsUsage, Delivers, ComesTo, Answered, IsOver};

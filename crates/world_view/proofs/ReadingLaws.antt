@@ -1,8 +1,9 @@
 -- An image that was read and breaks no rule may be run.
 use Rattle.std.proofs.Common.{◌≡◌, ℕ, List, [], ◌∷◌, Result, Ok, Err, refl, ap, subst}
-use Rattle.image_text.specs.declared.refusal.Refusal.{Refusal}
-use Rattle.image_text.specs.Record as text
-use Rattle.image_text.specs.Record.{InKeyRanges}
+use Rattle.image_record.specs.declared.refusal.Refusal.{Refusal}
+use Rattle.image_record.specs.Record as text
+use Rattle.image_text.specs.Record.{image_of}
+use Rattle.image_record.specs.Record.{InKeyRanges}
 use Rattle.image_text.proofs.Ranges.{ranges_law}
 use Rattle.image_check.specs.Checking.{broken}
 use Rattle.image_check.proofs.Running.{runnable_law}
@@ -25,4 +26,4 @@ checked_runs (Ok t) i ranges e = unbroken_runs t i (broken t) (ranges t refl) re
 
 pub read_runs : (bytes : List ℕ) (i : Image) → image bytes ≡ Ok i → Runnable i
 unfolding image
-read_runs bytes i e = checked_runs (text.image_of bytes) i (ranges_law bytes) e
+read_runs bytes i e = checked_runs (image_of bytes) i (ranges_law bytes) e

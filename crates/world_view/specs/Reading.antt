@@ -1,7 +1,8 @@
 -- The image that bytes are, where they are TOML, their keys are those of the key table, and no rule is broken.
 use Rattle.std.specs.Prelude.{ℕ, List, [], ◌∷◌, Result, Ok, Err}
-use Rattle.image_text.specs.declared.refusal.Refusal.{Refusal}
-use Rattle.image_text.specs.Record as text
+use Rattle.image_record.specs.declared.refusal.Refusal.{Refusal}
+use Rattle.image_record.specs.Record as text
+use Rattle.image_text.specs.Record.{image_of}
 use Rattle.image_check.specs.Checking.{broken}
 use Rattle.image_check.specs.Image.{Image, image_from}
 
@@ -19,4 +20,4 @@ checked (Ok i) = unless_broken i (broken i)
 
 -- the image, or its first broken rule
 unfoldable pub image : List ℕ → Result Image Refusal
-image bytes = checked (text.image_of bytes)
+image bytes = checked (image_of bytes)

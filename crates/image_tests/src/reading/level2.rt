@@ -1,7 +1,8 @@
 // The key that the second level's table alone may have: where it may stand, what must stand there,
 // and when its row is told.
 use super::{Change, IMAGE, all_break, by, expect_of};
-use image_text::{ReadRefusal, read_image};
+use image_record::ReadRefusal;
+use image_text::read_image;
 use std::alloc::Global;
 use std::process::Abort;
 use std::test::Fail;

@@ -1,5 +1,5 @@
 // The texts of errors.
-use image_text::{ReadRefusal, Refusal};
+use image_record::{ReadRefusal, Refusal};
 use std::test::Fail;
 
 const BROKEN: Refusal = Refusal {

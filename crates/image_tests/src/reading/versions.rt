@@ -1,6 +1,7 @@
 // The version of the format, and what the second has beside the first: the calls of a domain.
 use super::{Change, IMAGE, all_break, expect_of};
-use image_text::{Raw, RawDomain, ReadRefusal, read_image};
+use image_record::{Raw, RawDomain, ReadRefusal};
+use image_text::read_image;
 use std::alloc::Global;
 use std::process::Abort;
 use std::test::Fail;

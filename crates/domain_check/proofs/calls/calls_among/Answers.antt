@@ -1,6 +1,6 @@
 use Rattle.std.proofs.Common.{pos, arith, refl}
 use Rattle.kernel_clone.specs.Permissions.{calls_below}
-use Rattle.domain_check.specs.Colours.{names}
+use Rattle.image_record.specs.Numbers.{names}
 use Rattle.domain_check.proofs.CallBits.{bits_more, bits_fit}
 use Rattle.domain_check.proofs.calls.calls_among.Goals as goal
 

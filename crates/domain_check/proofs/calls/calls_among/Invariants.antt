@@ -1,6 +1,6 @@
 use Rattle.std.proofs.Common.{◌≡◌, pos}
 use Rattle.kernel_clone.specs.Permissions.{calls_below}
-use Rattle.domain_check.specs.Colours.{names}
+use Rattle.image_record.specs.Numbers.{names}
 use Rattle.domain_check.proofs.calls.calls_among.Given as goal
 
 abbrev pub invariant-loop-call : goal.invariant-loop-call

@@ -1,5 +1,5 @@
 use Rattle.std.proofs.Common.{◌≡◌, ◌++◌, drop, map}
-use Rattle.image_text.specs.Models.{domain_model}
+use Rattle.image_record.specs.Parts.{domain_model}
 use Rattle.domain_check.specs.Calls.{own_calls}
 use Rattle.domain_check.proofs.calls.calls_in.Given as goal
 

@@ -1,5 +1,5 @@
 use Rattle.std.proofs.Common.{◌≡◌, take, drop}
-use Rattle.hardware_check.specs.Cases.{first_case, first_in}
+use Rattle.image_record.specs.Cases.{first_case, first_in}
 use Rattle.domain_check.specs.Calls as spec
 use Rattle.domain_check.proofs.calls.k18_calls.Given as goal
 

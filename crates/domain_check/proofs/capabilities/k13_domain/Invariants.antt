@@ -1,7 +1,7 @@
 use Rattle.std.proofs.Common.{◌≡◌, ◌++◌, take, drop, map}
 use Rattle.std.specs.Prelude.{string_bytes}
-use Rattle.image_text.specs.Models.{domain_model}
-use Rattle.hardware_check.specs.Cases.{first_case, first_in}
+use Rattle.image_record.specs.Parts.{domain_model}
+use Rattle.image_record.specs.Cases.{first_case, first_in}
 use Rattle.domain_check.specs.Models.{named_model}
 use Rattle.domain_check.specs.Capabilities as spec
 use Rattle.domain_check.proofs.capabilities.k13_domain.Given as goal

@@ -1,6 +1,6 @@
 use Rattle.std.proofs.Common.{◌≡◌, drop, map}
 use Rattle.std.specs.List.{list_any}
-use Rattle.image_text.specs.Models.{segment_model}
+use Rattle.image_record.specs.Parts.{segment_model}
 use Rattle.domain_check.specs.Capabilities as spec
 use Rattle.domain_check.proofs.capabilities.lies_in_any.Given as goal
 

@@ -1,5 +1,5 @@
 use Rattle.std.proofs.Common.{◌∙◌}
-use Rattle.image_text.specs.Models.{domain_model}
+use Rattle.image_record.specs.Parts.{domain_model}
 use Rattle.domain_check.specs.Colours.{own_colours}
 use Rattle.domain_check.proofs.Parts.{part_at}
 use Rattle.domain_check.proofs.colours.k10_domains.Goals as goal

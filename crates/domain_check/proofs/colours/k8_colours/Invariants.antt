@@ -1,6 +1,6 @@
 use Rattle.std.proofs.Common.{◌≡◌, ◌++◌, take, drop, map}
-use Rattle.hardware_check.specs.Cases.{first_case, first_in}
-use Rattle.hardware_check.specs.Hardware.{natural_of}
+use Rattle.image_record.specs.Cases.{first_case, first_in}
+use Rattle.image_record.specs.Numbers.{natural_of}
 use Rattle.domain_check.specs.Colours as spec
 use Rattle.domain_check.proofs.colours.k8_colours.Given as goal
 

@@ -1,6 +1,6 @@
 use Rattle.std.proofs.Common.{◌≡◌, take, drop, map}
-use Rattle.image_text.specs.Models.{domain_model}
-use Rattle.hardware_check.specs.Cases.{first_case, first_in}
+use Rattle.image_record.specs.Parts.{domain_model}
+use Rattle.image_record.specs.Cases.{first_case, first_in}
 use Rattle.domain_check.specs.Names as spec
 use Rattle.domain_check.proofs.names.named_so.Given as goal
 

@@ -1,5 +1,5 @@
 use Rattle.std.proofs.Common.{◌≡◌, ◌≤◌, ◌-◌, map}
-use Rattle.image_text.specs.Models.{segment_model}
+use Rattle.image_record.specs.Parts.{segment_model}
 use Rattle.domain_check.specs.Segments.{segment_of}
 use Rattle.domain_check.specs.Pages as spec
 use Rattle.domain_check.proofs.regions.regions_in.Given as goal

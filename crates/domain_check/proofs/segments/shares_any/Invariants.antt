@@ -1,6 +1,6 @@
 use Rattle.std.proofs.Common.{◌≡◌, drop, map}
 use Rattle.std.specs.List.{list_any}
-use Rattle.image_text.specs.Models.{segment_model}
+use Rattle.image_record.specs.Parts.{segment_model}
 use Rattle.domain_check.specs.Segments as spec
 use Rattle.domain_check.proofs.segments.shares_any.Given as goal
 

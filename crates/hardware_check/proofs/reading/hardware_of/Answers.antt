@@ -1,5 +1,5 @@
 use Rattle.std.proofs.Common.{rules}
-use Rattle.image_text.specs.Reads.{raw_model}
+use Rattle.image_record.specs.Models.{raw_model}
 use Rattle.hardware_check.proofs.Parts.{fits, frames_natural, line_natural, predictor_natural, history_natural, some_line, natural_region}
 use Rattle.hardware_check.proofs.reading.hardware_of.Goals as goal
 

@@ -1,5 +1,5 @@
 use Rattle.std.proofs.Common.{rules, ◌≤◌, arith}
-use Rattle.image_text.specs.Reads.{raw_model}
+use Rattle.image_record.specs.Models.{raw_model}
 use Rattle.hardware_check.proofs.Parts.{few_sets, short_line, few_bytes, l2_natural, line_natural}
 use Rattle.hardware_check.proofs.rules.colours_in.Goals as goal
 

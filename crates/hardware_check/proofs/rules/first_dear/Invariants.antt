@@ -1,5 +1,5 @@
 use Rattle.std.proofs.Common.{◌≡◌, take, drop}
-use Rattle.hardware_check.specs.Cases.{first_case, first_in}
+use Rattle.image_record.specs.Cases.{first_case, first_in}
 use Rattle.hardware_check.specs.Rules as spec
 use Rattle.hardware_check.proofs.rules.first_dear.Given as goal
 

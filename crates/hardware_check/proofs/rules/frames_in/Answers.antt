@@ -1,6 +1,6 @@
 use Rattle.std.proofs.Common.{rules, ◌<◌, ◌^◌, arith}
-use Rattle.image_text.specs.Reads.{raw_model}
-use Rattle.hardware_check.specs.Hardware.{natural_of}
+use Rattle.image_record.specs.Models.{raw_model}
+use Rattle.image_record.specs.Numbers.{natural_of}
 use Rattle.hardware_check.proofs.Parts.{frames_sound, frames_natural}
 use Rattle.hardware_check.proofs.rules.frames_in.Goals as goal
 

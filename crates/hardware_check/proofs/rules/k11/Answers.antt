@@ -1,5 +1,5 @@
 use Rattle.std.proofs.Common.{rules}
-use Rattle.image_text.specs.Reads.{raw_model}
+use Rattle.image_record.specs.Models.{raw_model}
 use Rattle.hardware_check.proofs.Parts.{some_line}
 use Rattle.hardware_check.proofs.rules.k11.Goals as goal
 

@@ -7,6 +7,6 @@ use Rattle.image_check.proofs.own.own_from.Goals as goal
 
 pub caps_from-requires : goal.caps_from-requires
 caps_from-requires c =
-    let all = subst (All IsSmallCap) (sym c.requires.caps) c.requires.small.caps in
-    let small = all_of_map IsSmallCap named_model c.args.named.items all in
+    let all = subst (All IsSmallCap) (sym c.requires.part.caps) c.requires.small.caps in
+    let small = all_of_map IsSmallCap named_model c.args.part.caps.items all in
     record { small = subst (All (λ n. IsSmallCap (named_model n))) (sym c.as_slice.ensures.value) small }

@@ -1,5 +1,5 @@
 use Rattle.std.proofs.Common.{sym, subst}
-use Rattle.image_text.specs.Models.{domain_model}
+use Rattle.image_record.specs.Parts.{domain_model}
 use Rattle.image_check.specs.Own.{IsSmallOwn}
 use Rattle.image_check.proofs.own.owns_in.Goals as goal
 

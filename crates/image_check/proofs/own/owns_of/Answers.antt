@@ -1,7 +1,7 @@
 use Rattle.std.proofs.Common.{sym, subst, List, map}
 use Rattle.std.specs.List.{All}
-use Rattle.image_text.specs.declared.raw.RawDomain.{RawDomain}
-use Rattle.image_text.specs.Models.{domain_model}
+use Rattle.image_record.specs.declared.raw.RawDomain.{RawDomain}
+use Rattle.image_record.specs.Parts.{domain_model}
 use Rattle.image_check.specs.Own.{IsSmallOwn}
 use Rattle.image_check.specs.Parts.{ArePartsOf}
 use Rattle.image_check.proofs.Shares.{small_owns}

@@ -1,15 +1,15 @@
 use Rattle.std.proofs.Common.{◌≡◌, ◌≤◌, ◌∙◌, ℕ, false, not, List, length, map, ap, sym, subst}
 use Rattle.std.specs.List.{All}
 use Rattle.std.proofs.lemmas.List.{length-map}
-use Rattle.image_text.specs.declared.raw.RawEntry.{RawEntry}
-use Rattle.image_text.specs.Reads.{raw_model}
-use Rattle.image_text.specs.Models.{entry_model}
+use Rattle.image_record.specs.declared.raw.RawEntry.{RawEntry}
+use Rattle.image_record.specs.Models.{raw_model}
+use Rattle.image_record.specs.Parts.{entry_model}
 use Rattle.kernel_clone.specs.Permissions.{every_call}
 use Rattle.pad_bound.specs.Bound.{MachineShape, IsShape}
 use Rattle.pad_bound.specs.Models.{shape_model}
-use Rattle.hardware_check.specs.Cases.{first_in}
+use Rattle.image_record.specs.Cases.{first_in}
 use Rattle.hardware_check.specs.Hardware.{Hardware, hardware_of}
-use Rattle.hardware_check.specs.Outcomes.{IsVerdict}
+use Rattle.image_record.specs.Outcomes.{IsVerdict}
 use Rattle.domain_check.specs.Calls.{own_calls}
 use Rattle.image_check.specs.Schedule.{is_number}
 use Rattle.image_check.specs.Pads.{shape_of, k17, k17_by}

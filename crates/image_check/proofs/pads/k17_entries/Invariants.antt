@@ -1,7 +1,7 @@
 use Rattle.std.proofs.Common.{◌≡◌, take, drop, map}
-use Rattle.image_text.specs.Models.{entry_model}
+use Rattle.image_record.specs.Parts.{entry_model}
 use Rattle.pad_bound.specs.Models.{shape_model}
-use Rattle.hardware_check.specs.Cases.{first_case, first_in}
+use Rattle.image_record.specs.Cases.{first_case, first_in}
 use Rattle.image_check.specs.Pads as spec
 use Rattle.image_check.proofs.pads.k17_entries.Given as goal
 

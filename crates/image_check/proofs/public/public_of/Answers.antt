@@ -1,5 +1,5 @@
 use Rattle.std.proofs.Common.{sym, subst}
-use Rattle.image_text.specs.Reads.{raw_model}
+use Rattle.image_record.specs.Models.{raw_model}
 use Rattle.sched_table.specs.Schedule.{IsSchedule}
 use Rattle.image_check.proofs.Kept.{kept_but_pads}
 use Rattle.image_check.proofs.Entries.{schedule_sound}

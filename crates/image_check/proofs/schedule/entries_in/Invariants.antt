@@ -1,6 +1,6 @@
 use Rattle.std.proofs.Common.{◌≡◌, ◌++◌, take, drop, map}
-use Rattle.image_text.specs.Models.{entry_model}
-use Rattle.hardware_check.specs.Cases.{first_case, first_in}
+use Rattle.image_record.specs.Parts.{entry_model}
+use Rattle.image_record.specs.Cases.{first_case, first_in}
 use Rattle.image_check.specs.Public.{entry_of}
 use Rattle.image_check.specs.Schedule as spec
 use Rattle.image_check.proofs.schedule.entries_in.Given as goal

@@ -1,7 +1,7 @@
 use Rattle.std.proofs.Common.{rules}
 use Rattle.std.specs.Prelude.{◌≡◌, None, IfErr}
-use Rattle.image_text.specs.Reads.{raw_model}
-use Rattle.hardware_check.specs.Outcomes.{IsVerdictOrMemory}
+use Rattle.image_record.specs.Models.{raw_model}
+use Rattle.image_record.specs.Outcomes.{IsVerdictOrMemory}
 use Rattle.hardware_check.specs.Extensions.{k22}
 use Rattle.domain_check.specs.Calls.{k18}
 use Rattle.image_check.specs.Outcomes.{IsFirst}

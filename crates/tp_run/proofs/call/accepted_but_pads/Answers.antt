@@ -1,4 +1,4 @@
-use Rattle.image_text.specs.Reads.{raw_model}
+use Rattle.image_record.specs.Models.{raw_model}
 use Rattle.image_text.specs.Record.{image_of}
 use Rattle.tp_words.specs.declared.Command.TheVariants.{Bound}
 use Rattle.tp_run.specs.Reading.{broken_for, image_for}

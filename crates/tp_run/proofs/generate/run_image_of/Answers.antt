@@ -1,5 +1,5 @@
 use Rattle.std.proofs.Common.{subst₂, ℕ}
-use Rattle.image_text.specs.Record as text
+use Rattle.image_record.specs.Record as text
 use Rattle.image_check.specs.Image.{image_from}
 use Rattle.tp_io.specs.Sink.{state}
 use Rattle.tp_report.specs.Demo.{demo_after, demo_text}

@@ -1,6 +1,6 @@
 use Rattle.std.proofs.Common.{subst, subst₂, ℕ}
 use Rattle.guards.specs.declared.Guard.{Guard}
-use Rattle.image_text.specs.Record as text
+use Rattle.image_record.specs.Record as text
 use Rattle.image_check.specs.Image.{image_from}
 use Rattle.tp_io.specs.Sink.{state}
 use Rattle.tp_report.specs.Report.{report_off}

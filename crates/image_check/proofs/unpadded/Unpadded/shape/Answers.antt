@@ -1,5 +1,5 @@
 use Rattle.std.proofs.Common.{◌≡◌, ◌≤◌, ◌∙◌, ap, sym, subst}
-use Rattle.image_text.specs.Reads.{raw_model}
+use Rattle.image_record.specs.Models.{raw_model}
 use Rattle.kernel_clone.specs.Permissions.{every_call}
 use Rattle.pad_bound.specs.Bound.{IsShape}
 use Rattle.pad_bound.specs.Models.{shape_model}

@@ -1,0 +1,4 @@
+-- The lemmas of the crate.
+pub mod FirstCases
+pub mod Ranges
+pub mod Listed
