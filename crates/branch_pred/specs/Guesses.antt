@@ -30,11 +30,11 @@ sizes_of guesses = record {
 -- ---- whether a branch is taken
 
 -- the place of a branch's counter: its pc divided by 4, with the history, by the number of counters
-abbrev pub place_of : Guesses → ℕ → ℕ
-place_of guesses pc = bit_xor (pc / 4) guesses.history % length guesses.counters
+abbrev pub counter_place : Guesses → ℕ → ℕ
+counter_place guesses pc = bit_xor (pc / 4) guesses.history % length guesses.counters
 
 abbrev pub counter_of : Guesses → ℕ → ℕ
-counter_of guesses pc = slice_index guesses.counters (place_of guesses pc)
+counter_of guesses pc = slice_index guesses.counters (counter_place guesses pc)
 
 -- taken at 2 and 3
 abbrev pub guess_of : Guesses → ℕ → Bool
@@ -53,7 +53,7 @@ shifted outcomes history taken = (2 * history + (if taken then 1 else 0)) % 2 ^ 
 abbrev pub learned : Guesses → ℕ → Bool → Guesses
 learned guesses pc taken =
     record guesses {
-      counters = slice_set guesses.counters (place_of guesses pc) (next_counter taken (counter_of guesses pc));
+      counters = slice_set guesses.counters (counter_place guesses pc) (next_counter taken (counter_of guesses pc));
       history = shifted guesses.outcomes guesses.history taken;
     }
 
@@ -124,9 +124,9 @@ pub record IsPredictor (largest : ℕ) (guesses : Guesses) : Type 0 where
 -- ---- the history as outcomes, the newest first
 
 -- the number of which they are the binary digits, the newest the lowest
-abbrev pub number_of : List Bool → ℕ
-number_of [] = 0
-number_of (taken ∷ outcomes) = (if taken then 1 else 0) + 2 * number_of outcomes
+abbrev pub binary_number : List Bool → ℕ
+binary_number [] = 0
+binary_number (taken ∷ outcomes) = (if taken then 1 else 0) + 2 * binary_number outcomes
 
 -- after these outcomes
 abbrev pub history_after : ℕ → List Bool → ℕ

@@ -10,13 +10,13 @@ ghost use Rattle.branch_pred.specs.Guesses.{
   AreSizes,
   AreCounters,
   fresh_guesses,
-  place_of,
+  counter_place,
   counter_of,
   guess_of,
   learned,
   next_counter,
   shifted,
-  number_of,
+  binary_number,
   history_after,
 };
 
@@ -149,7 +149,7 @@ impl Predictor {
     /// The place of the counter of the branch at this pc.
     #[inline(always)]
     fn place(&self, pc: u32) -> usize
-        ensures place { result ≡ place_of self.now pc }
+        ensures place { result ≡ counter_place self.now pc }
         ensures below { result < length self.now.counters }
         ensures sound { AreCounters self.now }
     {
@@ -233,12 +233,12 @@ impl Predictor {
 /// one is learned where another has its place, and every other counter stays.
 pub fn counters_are_shared()
     ensures together { (guesses : Guesses) → AreCounters guesses → (pc other : ℕ) (taken : Bool)
-        → place_of guesses pc ≡ place_of guesses other
-        → slice_index (learned guesses pc taken).counters (place_of guesses other)
+        → counter_place guesses pc ≡ counter_place guesses other
+        → slice_index (learned guesses pc taken).counters (counter_place guesses other)
         ≡ next_counter taken (counter_of guesses other) }
     ensures apart { (guesses : Guesses) → AreCounters guesses → (pc other : ℕ) (taken : Bool)
-        → place_of guesses pc ≢ place_of guesses other
-        → slice_index (learned guesses pc taken).counters (place_of guesses other)
+        → counter_place guesses pc ≢ counter_place guesses other
+        → slice_index (learned guesses pc taken).counters (counter_place guesses other)
         ≡ counter_of guesses other }
 {}
 
@@ -247,7 +247,7 @@ pub fn counters_are_shared()
 /// newest the lowest.
 pub fn the_history_is_the_last_outcomes()
     ensures last { (count : ℕ) (outcomes : List Bool)
-        → history_after count outcomes ≡ number_of (take count outcomes) }
+        → history_after count outcomes ≡ binary_number (take count outcomes) }
 {}
 
 /// The law that the target buffer knows a jump until another one comes to its

@@ -22,7 +22,7 @@ use Rattle.mem_system.proofs.TouchLaws.{cost_is, looked_l1d, set_colour}
 use Rattle.mem_system.proofs.Touches.{touched_all-append}
 use Rattle.cache_sharing.specs.Operations.{touch_of_line, touch_by, footprint, operation, plain, leave, enter, shared_region, prefetch, leave_if, switch, switch_by}
 use Rattle.cache_sharing.specs.Sharing.{IsShared, IsSharing, KernelIsClean}
-use Rattle.cache_sharing.specs.Worst.{again, shape_of, worst_touch, worst_touches, HasWays, IsWithin}
+use Rattle.cache_sharing.specs.Worst.{again, machine_shape, worst_touch, worst_touches, HasWays, IsWithin}
 use Rattle.cache_sharing.proofs.OwnTouches.{shared_colour, region_shared}
 use Rattle.cache_sharing.proofs.Clean.{IsCleanBelow, none_of, marked_clean, touch_clean, stays_clean_law}
 use Rattle.cache_sharing.specs.Laws.{WorstLaw, SwitchLaw, OnTimeLaw}
@@ -183,22 +183,22 @@ module _ (h : Hierarchy) where
 
   module _ (shared calls : ℕ) where
     -- whoever leaves, and at the boot nobody
-    leave_most : (out : Option Layout) → worst_touches h (leave_if h.costs out) ≤ worst_leave (shape_of h shared calls)
+    leave_most : (out : Option Layout) → worst_touches h (leave_if h.costs out) ≤ worst_leave (machine_shape h shared calls)
     unfolding leave_if leave operation footprint worst_touches
     leave_most None = omega arith
     leave_most (Some l) =
         let lines = worst_lines (touches l (plain leave_op)) in
-        let costs = leave_costs (shape_of h shared calls) l (plain leave_op) (record { zeroed = refl; entries = refl }) refl in
+        let costs = leave_costs (machine_shape h shared calls) l (plain leave_op) (record { zeroed = refl; entries = refl }) refl in
         omega (arith, lines, costs)
 
-    enter_is : (into : Layout) → worst_touches h (enter into) ≡ worst_enter (shape_of h shared calls)
+    enter_is : (into : Layout) → worst_touches h (enter into) ≡ worst_enter (machine_shape h shared calls)
     unfolding enter footprint
     enter_is into =
         worst_lines (touches into (plain enter_op))
-        ∙ enter_costs (shape_of h shared calls) into (plain enter_op) (record { zeroed = refl; entries = refl }) refl
+        ∙ enter_costs (machine_shape h shared calls) into (plain enter_op) (record { zeroed = refl; entries = refl }) refl
 
     -- after the prefetch
-    later_most : (into : Layout) → worst_touches h (Flush ∷ enter into) ≡ worst_flush (shape_of h shared calls) + worst_enter (shape_of h shared calls)
+    later_most : (into : Layout) → worst_touches h (Flush ∷ enter into) ≡ worst_flush (machine_shape h shared calls) + worst_enter (machine_shape h shared calls)
     unfolding worst_touches worst_flush
     later_most into = let entered = enter_is into in omega (arith, entered)
 
@@ -214,12 +214,12 @@ loads_are : (line : ℕ → ℕ) (places : List ℕ)
 loads_are line [] = refl
 loads_are line (i ∷ places) = ap (λ (ts : List Touch). Load (line i) ∷ ts) (loads_are line places)
 
-prefetch_is : (h : Hierarchy) (shared calls : ℕ) (into : Layout) → IsCloneOf (shape_of h shared calls) into
-    → worst_touches (bare h) (prefetch (shared_region into)) ≡ worst_prefetch (shape_of h shared calls)
+prefetch_is : (h : Hierarchy) (shared calls : ℕ) (into : Layout) → IsCloneOf (machine_shape h shared calls) into
+    → worst_touches (bare h) (prefetch (shared_region into)) ≡ worst_prefetch (machine_shape h shared calls)
 unfolding prefetch shared_region prefetch_touches
 prefetch_is h shared calls into clone =
     ap (worst_touches (bare h)) (loads_are (shared_line into) (range_with_len 0 (shared_lines into)))
-    ∙ worst_lines (bare h) (prefetch_touches into) ∙ prefetch_costs (shape_of h shared calls) into clone
+    ∙ worst_lines (bare h) (prefetch_touches into) ∙ prefetch_costs (machine_shape h shared calls) into clone
 
 module _ (h : Hierarchy) (own : ℕ → Bool) (region : List ℕ) (sharing : IsSharing h own region) (pinned : Bool) where
   -- what a line costs that gives up none with a mark
@@ -311,7 +311,7 @@ switch_law h own pinned shared calls out into c ways clean sharing may clone =
     let leaves : List Touch = leave_if h.costs out in
     let loads : List Touch = prefetch region in
     let later : List Touch = Flush ∷ enter into in
-    let s = shape_of h shared calls in
+    let s = machine_shape h shared calls in
     let left = touches_within h pinned leaves c ways in
     let c1 : Caches = (touched_all h pinned c leaves).caches in
     let clean1 = stays_clean_law h own region pinned leaves c sharing may clean in

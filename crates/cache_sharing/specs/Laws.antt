@@ -9,7 +9,7 @@ use Rattle.mem_system.specs.Hierarchy.{Hierarchy}
 use Rattle.mem_system.specs.Cost.{Touch, Caches, cold, and_then, touched_all}
 use Rattle.cache_sharing.specs.Operations.{shared_region, prefetch, leave_if, switch}
 use Rattle.cache_sharing.specs.Sharing.{IsRegion, IsSharing, HasRoom, AreApart, MayTouchAll, SameSets, Resident, kept_at, KeepsSharedAlone, KernelIsClean, OwnDirty, settled, BesideCaches, BesideTouched}
-use Rattle.cache_sharing.specs.Worst.{shape_of, worst_touches, HasWays, IsWithin}
+use Rattle.cache_sharing.specs.Worst.{machine_shape, worst_touches, HasWays, IsWithin}
 
 -- touches after touches
 abbrev pub AppendLaw : Type 0
@@ -110,8 +110,8 @@ WorstLaw = (h : Hierarchy) (pinned : Bool) (ts : List Touch) (c : Caches) → Ha
 abbrev pub SwitchLaw : Type 0
 SwitchLaw = (h : Hierarchy) (own : ℕ → Bool) (pinned : Bool) (shared calls : ℕ) (out : Option Layout) (into : Layout) (c : Caches)
     → HasWays h c → KernelIsClean h c → IsSharing h own (shared_region into) → MayTouchAll h own (shared_region into) (leave_if h.costs out)
-    → IsCloneOf (shape_of h shared calls) into
-    → let s = shape_of h shared calls in
+    → IsCloneOf (machine_shape h shared calls) into
+    → let s = machine_shape h shared calls in
     IsWithin h (worst_leave s + worst_prefetch s + worst_flush s + worst_enter s) (touched_all h pinned c (switch h.costs out into))
 
 -- begun past a slot's end by less than the largest step of the domain that leaves, it is done by that domain's bound
@@ -119,6 +119,6 @@ abbrev pub OnTimeLaw : Type 0
 OnTimeLaw = (h : Hierarchy) (own : ℕ → Bool) (pinned : Bool) (shared calls old_end now : ℕ) (out : Option Layout) (into : Layout) (c : Caches)
     → HasWays h c → KernelIsClean h c → IsSharing h own (shared_region into)
     → MayTouchAll h own (shared_region into) (leave_if h.costs out)
-    → let s = shape_of h shared calls in
+    → let s = machine_shape h shared calls in
     IsCloneOf s into → old_end ≤ now → now < old_end + (worst_instruction s + worst_operation s)
     → now + (touched_all h pinned c (switch h.costs out into)).cost - old_end ≤ bound_of s

@@ -12,8 +12,8 @@ again h = if h.back then h.costs.wb else 0
 
 -- what of a hierarchy the bound depends on, with a shared region of so many bytes, where the domain that leaves may
 -- make these calls
-abbrev pub shape_of : Hierarchy → ℕ → ℕ → MachineShape
-shape_of h shared calls = record {
+abbrev pub machine_shape : Hierarchy → ℕ → ℕ → MachineShape
+machine_shape h shared calls = record {
   costs = h.costs;
   line = h.line_size;
   shared = shared;

@@ -1,8 +1,9 @@
 -- Calls keep the facts: ALLOC, TABLE, MAP, UNMAP and COPY.
 use Rattle.std.proofs.Common.{◌≡◌, ℕ, ◌<◌, ◌%◌, Bool, true, false, not, ◌&&◌, Option, Some, None, is_some, ◌⊎◌, inl, inr, refl, ap, sym, subst, ◌∙◌}
 use Rattle.std.specs.Prelude.{nat_eq, if◌then◌else◌}
+use Rattle.tp_base.specs.Rights.{are_good}
 use Rattle.phys_mem.specs.Mem.{Mem, word, written, zeroed_frame}
-use Rattle.sv32_walk.specs.PageTableEntry.{valid, ppn, vpn_0, vpn_1, are_good, leaf_word}
+use Rattle.sv32_walk.specs.PageTableEntry.{valid, ppn, vpn_0, vpn_1, leaf_word}
 use Rattle.sv32_walk.specs.Translation.{second_entry}
 use Rattle.sv32_walk.proofs.WordLemmas.{ppn-table}
 use Rattle.sv32_walk.proofs.EntryLemmas.{first_of_both}
@@ -14,7 +15,7 @@ use Rattle.cap_table.specs.declared.Cap.{Cap}
 use Rattle.cap_table.specs.declared.Cap.TheVariants as cap
 use Rattle.cap_table.specs.Slots.{cap_at, is_filled, copied, noted}
 use Rattle.call_table.specs.Domain.{Dom}
-use Rattle.call_table.specs.Claims.{Claim, Estate, is_mine, place_of, region_of, claim_of, claims, least_free, IsTable, IsMapped, IsEstate}
+use Rattle.call_table.specs.Claims.{Claim, Estate, is_mine, entry_places, region_of, claim_of, claims, least_free, IsTable, IsMapped, IsEstate}
 use Rattle.call_table.specs.Claims.Claim.{Nothing, Leaf, Directory}
 use Rattle.call_table.specs.Calls.{fresh_cap, alloc, table_in, Directory as TableCap, install, page_in, Page, is_within, map_page, unmap, copy_refusal, copy}
 use Rattle.call_table.specs.Laws.{Kept, LeavesKept}
@@ -29,20 +30,20 @@ unfolding claim_of
 empty_claim None h = refl
 empty_claim (Some c) h = absurd (cc h)
 
-pub page_claim : (x : Cap) (page : Page) → page_in x ≡ Some page → claim_of (Some x) ≡ Leaf true page.frame (place_of page.mapped)
+pub page_claim : (x : Cap) (page : Page) → page_in x ≡ Some page → claim_of (Some x) ≡ Leaf true page.frame (entry_places page.mapped)
 unfolding claim_of
 page_claim (cap.Frame f rights w) page h =
     let same : record { frame = f; rights = rights; mapped = w } ≡ page = cc h in
-    ap (λ (p : Page). Leaf true p.frame (place_of p.mapped)) same
+    ap (λ (p : Page). Leaf true p.frame (entry_places p.mapped)) same
 page_claim (cap.Table f w) page h = absurd (cc h)
 page_claim (cap.Irq line) page h = absurd (cc h)
 
 pub page_noted : (x : Cap) (page : Page) (at : Option ℕ) → page_in x ≡ Some page
-    → claim_of (noted (Some x) at) ≡ Leaf true page.frame (place_of at)
+    → claim_of (noted (Some x) at) ≡ Leaf true page.frame (entry_places at)
 unfolding claim_of
 page_noted (cap.Frame f rights w) page at h =
     let same : record { frame = f; rights = rights; mapped = w } ≡ page = cc h in
-    ap (λ (p : Page). Leaf true p.frame (place_of at)) same
+    ap (λ (p : Page). Leaf true p.frame (entry_places at)) same
 page_noted (cap.Table f w) page at h = absurd (cc h)
 page_noted (cap.Irq line) page at h = absurd (cc h)
 
@@ -67,9 +68,9 @@ none_there : (w : Option ℕ) → not (is_some w) ≡ true → w ≡ None
 none_there None h = refl
 none_there (Some a) h = absurd (cc h)
 
-no_place : (w : Option ℕ) → not (is_some w) ≡ true → place_of w ≡ None
-unfolding place_of
-no_place w h = ap place_of (none_there w h)
+no_place : (w : Option ℕ) → not (is_some w) ≡ true → entry_places w ≡ None
+unfolding entry_places
+no_place w h = ap entry_places (none_there w h)
 
 no_region : (w : Option ℕ) → not (is_some w) ≡ true → region_of w ≡ None
 unfolding region_of
@@ -79,7 +80,7 @@ no_region w h = ap region_of (none_there w h)
 
 fresh_is : (t : Bool) (f : ℕ) → (claim_of (Some (if t then cap.Frame f 7 None else cap.Table f None)) ≡ Leaf true f None)
     ⊎ (claim_of (Some (if t then cap.Frame f 7 None else cap.Table f None)) ≡ Directory f None)
-unfolding claim_of place_of region_of
+unfolding claim_of entry_places region_of
 fresh_is true f = inl refl
 fresh_is false f = inr refl
 
@@ -168,7 +169,7 @@ map_allowed m root va h =
 pub map_facts : (e : Estate) (d : Dom) (m : Mem) (a b c : ℕ) (x : Cap) (page : Page) → Kept e d m → a < 64 → cap_at d.caps a ≡ Some x
     → page_in x ≡ Some page → are_good c ≡ true → not (is_some page.mapped) ≡ true → map_refusal m e.root b ≡ None
     → FactsWith e d a (claim_of (noted (Some x) (Some b))) (mapped m e.root b page.frame c)
-unfolding place_of
+unfolding entry_places
 map_facts e d m a b c x page h below there is good loose_one ok =
     let claim : claims e d.caps a ≡ Leaf true page.frame None =
     claims_at e d.caps h.slots a below ∙ ap claim_of there ∙ page_claim x page is
@@ -213,11 +214,11 @@ table_at e d m va i f h claim = ap ppn (h.facts.installed i f (vpn_1 va) claim) 
 pub unmap_facts : (e : Estate) (d : Dom) (m : Mem) (a va : ℕ) (c : Cap) (page : Page) → Kept e d m → a < 64 → cap_at d.caps a ≡ Some c
     → page_in c ≡ Some page → page.mapped ≡ Some va
     → FactsWith e d a (claim_of (noted (Some c) None)) (unmapped m e.root va)
-unfolding place_of
+unfolding entry_places
 unmap_facts e d m a va c page h below there is at =
     let claim : claims e d.caps a ≡ Leaf true page.frame (Some (vpn_1 va, vpn_0 va)) =
     claims_at e d.caps h.slots a below ∙ ap claim_of there ∙ page_claim c page is
-    ∙ ap (λ w. Leaf true page.frame (place_of w)) at in
+    ∙ ap (λ w. Leaf true page.frame (entry_places w)) at in
     let l : IsMapped (claims e d.caps) m page.frame (vpn_1 va) (vpn_0 va) =
     h.facts.mapped a true page.frame (vpn_1 va) (vpn_0 va) claim in
     let facts : FactsWith e d a (Leaf true page.frame None) (written m l.frame (vpn_0 va) 0) =
@@ -246,7 +247,7 @@ unmap_keeps e d m a s h = (unmap_ends e d m a h).kept
 pub copy_facts : (e : Estate) (d : Dom) (m : Mem) (a b c : ℕ) (x : Cap) → Kept e d m → a < 64 → b < 64 → cap_at d.caps a ≡ Some x
     → not (is_filled (cap_at d.caps b)) ≡ true → copy_refusal x c ≡ None
     → FactsWith e d b (claim_of (copied (Some x) c)) m
-unfolding claim_of place_of
+unfolding claim_of entry_places
 copy_facts e d m a b c (cap.Frame f rights w) h below in_range there empty ok =
     copying e.root (is_mine e) (claims e d.caps) m h.facts a b
     (λ same.
@@ -254,7 +255,7 @@ copy_facts e d m a b c (cap.Frame f rights w) h below in_range there empty ok =
     subst (λ (n : ℕ). not (is_filled (cap_at d.caps n)) ≡ true) same empty in
     let q : false ≡ true = sym (ap (λ z. not (is_filled z)) there) ∙ p in absurd (cc q))
     (claims_at e d.caps h.slots b in_range ∙ empty_claim (cap_at d.caps b) empty)
-    f (place_of w) (claims_at e d.caps h.slots a below ∙ ap claim_of there)
+    f (entry_places w) (claims_at e d.caps h.slots a below ∙ ap claim_of there)
 copy_facts e d m a b c (cap.Table f w) h below in_range there empty ok = absurd (cc ok)
 copy_facts e d m a b c (cap.Irq line) h below in_range there empty ok =
     idling e.root (is_mine e) (claims e d.caps) m h.facts b

@@ -15,7 +15,7 @@ use Rattle.cap_table.proofs.RevokeLemmas.{alike_unused}
 use Rattle.cap_table.specs.Slots as slots
 use Rattle.rv_core.specs.Registers.{register}
 use Rattle.call_table.specs.Domain.{Dom, done, exited, with_caps}
-use Rattle.call_table.specs.Claims.{Claim, Estate, is_mine, place_of, region_of, claim_of, claims, IsMapped, IsEstate}
+use Rattle.call_table.specs.Claims.{Claim, Estate, is_mine, entry_places, region_of, claim_of, claims, IsMapped, IsEstate}
 use Rattle.call_table.specs.Claims.Claim.{Nothing, Fixed, Leaf, Directory}
 use Rattle.call_table.specs.Calls.{put_byte, clear_entry, unmap_at, uninstall_at, empty_buffer, with_slot, drop_slot, delete, emptied_at, revoke, call_of, call, number_made}
 use Rattle.call_table.specs.Laws.{Kept, LeavesKept, CallsKeepLaw}
@@ -31,7 +31,7 @@ use Rattle.call_table.proofs.CallLaws.{table_at, alloc_keeps, install_keeps, map
 
 -- a page's capability is in the region of its claim
 page_maps : (x : Option Cap) (b : Bool) (g r u : ℕ) → claim_of x ≡ Leaf b g (Some (r, u)) → is_in_region r (mapped_at x) ≡ true
-unfolding claim_of place_of vpn_1
+unfolding claim_of entry_places vpn_1
 page_maps None b g r u e = absurd (cc e)
 page_maps (Some (cap.Frame f c None)) b g r u e = absurd (cc e)
 page_maps (Some (cap.Frame f c (Some va))) b g r u e = eq-eqb (vpn_1 va) r (sym (leaf_same e).0)
@@ -101,7 +101,7 @@ drop_table e d m a f va s h below is none =
 -- every slot that is no table in use
 pub drop_facts : (e : Estate) (d : Dom) (m : Mem) (a : ℕ) (c : Option Cap) → IsEstate e → Kept e d m → a < 64
     → cap_at d.caps a ≡ c → in_use_at d.caps (installed_at c) ≡ false → Dropped e d a (clear_entry e.root c m).state
-unfolding clear_entry unmap_at uninstall_at give claim_of place_of region_of
+unfolding clear_entry unmap_at uninstall_at give claim_of entry_places region_of
 drop_facts e d m a None s h below is unused =
     drop_loose e d m a 0 Nothing h (claims_at e d.caps h.slots a below ∙ ap claim_of is) (inl refl)
 drop_facts e d m a (Some (cap.Frame f rights None)) s h below is unused =

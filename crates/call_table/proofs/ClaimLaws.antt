@@ -1,8 +1,9 @@
 -- Changes of one claim and one word, or of memory alone, that keep the facts.
 use Rattle.std.proofs.Common.{◌≡◌, ◌≢◌, ℕ, Bool, true, false, cond, eqb, Option, Some, None, inl, inr, refl, ap, sym, subst, ◌∙◌, ne_eqb, eq-eqb}
 use Rattle.std.proofs.lemmas.Bool.{cases_eq}
+use Rattle.tp_base.specs.Rights.{are_good}
 use Rattle.phys_mem.specs.Mem.{Mem, word, written, word-written_same, word-written_place, word-written_frame}
-use Rattle.sv32_walk.specs.PageTableEntry.{valid, ppn, are_good, table_word, leaf_word}
+use Rattle.sv32_walk.specs.PageTableEntry.{valid, ppn, table_word, leaf_word}
 use Rattle.sv32_walk.proofs.WordLemmas.{ppn-table, points-table, valid-zero}
 use Rattle.call_table.specs.Claims.{Claim, Claims, frame_of, is_shared, leaf_at, IsTable, IsLeaf, IsMapped, Facts}
 use Rattle.call_table.specs.Claims.Claim.{Nothing, Fixed, Leaf, Directory}

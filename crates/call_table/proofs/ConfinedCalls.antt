@@ -16,7 +16,7 @@ use Rattle.cap_table.specs.declared.Cap.TheVariants as cap
 use Rattle.cap_table.specs.Slots as slots
 use Rattle.cap_table.specs.Slots.{Slots, cap_at, mapped_at, is_revoked, push_some}
 use Rattle.call_table.specs.Domain.{Dom, refused, exited, with_caps}
-use Rattle.call_table.specs.Claims.{Estate, is_mine, claims, claim_of, place_of, is_named, free_frames, least_free}
+use Rattle.call_table.specs.Claims.{Estate, is_mine, claims, claim_of, entry_places, is_named, free_frames, least_free}
 use Rattle.call_table.specs.Calls.{Act, Page, is_slot, page_in, table_in, put_byte, with_slot, alloc, install, map_page, unmap, copy, copy_refusal, unless_refused, drop_slot, delete, emptied_at, unmap_all, revoke, call_of, call, number_made}
 use Rattle.call_table.specs.Laws.{IsMine, Kept, SameMine, IsConfined}
 use Rattle.call_table.proofs.TablesClaims.{some_same, own_root, table_own, table_not_root, valid-table}
@@ -34,7 +34,7 @@ pub record Ready (e : Estate) (d : Dom) (m : Mem) : Type 0 where
 
 module _ (e : Estate) (d : Dom) (m : Mem) (h : Kept e d m) where
   mapped_claim : (i f rights va : ℕ) → cap_at d.caps i ≡ Some (cap.Frame f rights (Some va)) → has_table m e.root va ≡ true
-  unfolding claim_of place_of
+  unfolding claim_of entry_places
   mapped_claim i f rights va is =
       let l = h.facts.mapped i true f _ _ (claim_at e d.caps i (cap.Frame f rights (Some va)) is) in
       ap valid (h.facts.installed l.slot l.frame (vpn_1 va) l.claim) ∙ valid-table l.frame

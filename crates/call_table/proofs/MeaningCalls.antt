@@ -6,9 +6,10 @@ use Rattle.std.specs.List.Sorted.{IsStrictlyIncreasing}
 use Rattle.std.proofs.lemmas.Bool.{and_parts, cases_eq, cases_lt}
 use Rattle.std.proofs.lemmas.List.{get_or-append_right, length-map}
 use Rattle.std.proofs.lemmas.List.Elements.{All-head, All-tail}
+use Rattle.tp_base.specs.Rights.{are_good}
 use Rattle.phys_mem.specs.Mem.{Mem, word, zeroed_frame, word-zeroed_same}
 use Rattle.sv32_walk.specs.declared.access.Access.{Access}
-use Rattle.sv32_walk.specs.PageTableEntry.{are_good, rights_permit, leaf_word}
+use Rattle.sv32_walk.specs.PageTableEntry.{rights_permit, leaf_word}
 use Rattle.sv32_walk.specs.Walk.{walk}
 use Rattle.page_map.specs.Tables.{map_refusal}
 use Rattle.page_map.specs.Changes.{mapped, CanMap}
@@ -21,7 +22,7 @@ use Rattle.cap_table.specs.declared.Cap.{Cap}
 use Rattle.cap_table.specs.declared.Cap.TheVariants as cap
 use Rattle.cap_table.specs.Slots.{Slots, cap_at, with_cap, page_of, table_of, noted}
 use Rattle.call_table.specs.Domain.{Dom, replied, placed, done, with_caps}
-use Rattle.call_table.specs.Claims.{Claim, Estate, claims, all_claims, claim_of, place_of, frame_of, is_named, least_free}
+use Rattle.call_table.specs.Claims.{Claim, Estate, claims, all_claims, claim_of, entry_places, frame_of, is_named, least_free}
 use Rattle.call_table.specs.Calls.{Page, is_slot, page_in, is_within, may_give, fresh_cap, with_slot, alloc, map_page}
 use Rattle.call_table.specs.Laws.{Kept, IsMine, IsFresh, IsReached}
 use Rattle.call_table.proofs.ClaimLawsSlots.{names}
@@ -108,7 +109,7 @@ module _ (e : Estate) (d : Dom) (m : Mem) (h : Kept e d m) where
         → map_refusal m e.root b ≡ None → (x : Dom) → Found x (mapped m e.root b page.frame c)
     unfolding claim_of
     found page is good none x f named =
-        let frame = page_frame e d m h a page.frame true (place_of page.mapped) (claim_at e d.caps a (cap.Frame page.frame page.rights page.mapped) is) in
+        let frame = page_frame e d m h a page.frame true (entry_places page.mapped) (claim_at e d.caps a (cap.Frame page.frame page.rights page.mapped) is) in
         let can : CanMap m e.root e.share.frames b page.frame c = record {
           tables = (page_tables e d m h).map;
           allowed = none;

@@ -14,7 +14,7 @@ use Rattle.cap_table.specs.declared.Cap.TheVariants as cap
 use Rattle.cap_table.specs.Slots.{Slots, cap_at, with_cap, page_of, mapped_at, alike, same_number, revoked, revoked_count}
 use Rattle.cap_table.proofs.RevokeLemmas.{length_revoked, after_itself, none_left}
 use Rattle.call_table.specs.Domain.{Dom, replied, placed, done, with_caps}
-use Rattle.call_table.specs.Claims.{Claim, Estate, is_mine, claims, claim_of, place_of, frame_of, is_shared, leaf_at, IsEstate}
+use Rattle.call_table.specs.Claims.{Claim, Estate, is_mine, claims, claim_of, entry_places, frame_of, is_shared, leaf_at, IsEstate}
 use Rattle.call_table.specs.Calls.{with_slot, clear_entry, drop_slot, delete, emptied_at, unmap_all, revoke}
 use Rattle.call_table.specs.Laws.{Kept, IsUnreached, IsRevoked}
 use Rattle.call_table.proofs.TablesClaims.{some_same, leaf_entry, leaf_frame}
@@ -107,7 +107,7 @@ module _ (e : Estate) (first : Mem) (x : Dom) (n : Mem) (l : Leaves e first x n)
 
     unmapped_leaf : (r t : ℕ) → valid (word (unmapped n e.root va) e.root r) ≡ true → valid (entry_at (unmapped n e.root va) e.root r t) ≡ true
         → Claimed e (with_slot x i None).caps (ppn (entry_at (unmapped n e.root va) e.root r t)) r t
-    unfolding claim_of place_of
+    unfolding claim_of entry_places
     unmapped_leaf r t r_ok ok = elim (entry_by r t) [
       | inl gone ↦ never (ap valid (sym gone) ∙ ok)
       | inr same ↦
@@ -128,7 +128,7 @@ module _ (e : Estate) (first : Mem) (x : Dom) (n : Mem) (l : Leaves e first x n)
 
   slot_leaves : (c : Option Cap) → cap_at x.caps i ≡ c → ((f : ℕ) (w : Option ℕ) → c ≢ Some (cap.Table f w))
       → Leaves e first (with_slot x i None) (unmapped_if n e.root (mapped_at c))
-  unfolding claim_of place_of leaf_at
+  unfolding claim_of entry_places leaf_at
   slot_leaves (Some (cap.Frame f rights (Some va))) is no_table = unmapped_leaves f rights va is
   slot_leaves (Some (cap.Frame f rights None)) is no_table = loose_leaves (Claim.Leaf true f None) (ap claim_of is) refl
   slot_leaves (Some (cap.Irq line)) is no_table = loose_leaves Claim.Nothing (ap claim_of is) refl
@@ -144,7 +144,7 @@ module _ (e : Estate) (first : Mem) (x : Dom) (n : Mem) (l : Leaves e first x n)
 -- ---- a frame that no slot maps is not reached
 
 leaf_cap : (c : Option Cap) (b : Bool) (f : ℕ) (p : ℕ × ℕ) → claim_of c ≡ Claim.Leaf b f (Some p) → (page_of c ≡ Some f) × (mapped_at c ≢ None)
-unfolding claim_of place_of
+unfolding claim_of entry_places
 leaf_cap None b f p e = absurd (cc e)
 leaf_cap (Some (cap.Irq line)) b f p e = absurd (cc e)
 leaf_cap (Some (cap.Table g w)) b f p e = absurd (cc e)

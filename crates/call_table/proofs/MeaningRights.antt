@@ -3,8 +3,8 @@ use Rattle.std.proofs.Common.{◌≡◌, ◌⊎◌, ◌∙◌, sym, subst, refl,
 use Rattle.std.specs.Prelude.{nat_eq, nat_le, if◌then◌else◌}
 use Rattle.std.proofs.lemmas.Bool.{and_parts}
 use Rattle.tp_base.specs.Act.{Done, either}
+use Rattle.tp_base.specs.Rights.{are_good}
 use Rattle.phys_mem.specs.Mem.{Mem, zeroed_frame}
-use Rattle.sv32_walk.specs.PageTableEntry.{are_good}
 use Rattle.page_map.specs.Tables.{map_refusal, install_refusal}
 use Rattle.page_map.specs.Changes.{mapped, unmapped, installed}
 use Rattle.rv_core.specs.Registers.{register}

@@ -8,7 +8,7 @@ use Rattle.std.proofs.lemmas.List.Folds.{list_any_at}
 use Rattle.rv_core.specs.Registers.{zeros}
 use Rattle.thread_set.specs.declared.Thread.{Thread}
 use Rattle.thread_set.specs.declared.ThreadState.TheVariants.{Ended}
-use Rattle.thread_set.specs.Threads.{Threads, AreThreads, all_of, number_of, never, thread_at, is_ready, is_live, in_state, yielded, given_way, with_current, with_thread, started, vacant, started_at, spawned, finished, waiter, resumed, resumed_at, woken, end_live}
+use Rattle.thread_set.specs.Threads.{Threads, AreThreads, all_of, current_number, never, thread_at, is_ready, is_live, in_state, yielded, given_way, with_current, with_thread, started, vacant, started_at, spawned, finished, waiter, resumed, resumed_at, woken, end_live}
 use Rattle.thread_set.proofs.Parts.{number-below}
 use Rattle.thread_set.proofs.Places.{position-first, position-nowhere}
 use Rattle.thread_set.proofs.Turns.{yielded-ready, yielded-soonest, yielded-all, given-all}
@@ -178,18 +178,18 @@ module _ (line : ℕ) (d : Dom) where
   means_by (Some t) = (refl, refl, refl, refl)
 
   module _ (sound : AreThreads d.threads) (run : MayRun d) where
-    woken_turn : (w : ℕ) → waiter line d.threads ≡ Some w → number_of (woken line d.threads) ≡ caller d
+    woken_turn : (w : ℕ) → waiter line d.threads ≡ Some w → current_number (woken line d.threads) ≡ caller d
     unfolding woken given_way
     woken_turn w is =
         let x : Thread = resumed (thread_at d.threads w) in
         let apart : w ≢ caller d = waits_apart d.threads line w run (waiter_waits d.threads line w is) in
         let ready : is_ready (with_thread d.threads w x).current.state ≡ true =
         ap (λ (y : Thread). is_ready y.state) (current_stays d.threads sound w x apart) ∙ run in
-        ap (λ (o : Option ℕ). number_of (resumed_at d.threads o)) is
-        ∙ ap (λ (t : Bool). number_of (if t then with_thread d.threads w x else yielded (with_thread d.threads w x))) ready
+        ap (λ (o : Option ℕ). current_number (resumed_at d.threads o)) is
+        ∙ ap (λ (t : Bool). current_number (if t then with_thread d.threads w x else yielded (with_thread d.threads w x))) ready
         ∙ put-turn d.threads w x sound
 
-    turn_by : (o : Option ℕ) → waiter line d.threads ≡ o → number_of (done 0 (Now o)).threads ≡ caller d
+    turn_by : (o : Option ℕ) → waiter line d.threads ≡ o → current_number (done 0 (Now o)).threads ≡ caller d
     unfolding signalled_by with_bit recorded replied placed with_current
     turn_by None is = refl
     turn_by (Some w) is = woken_turn w is
@@ -255,8 +255,8 @@ module _ (d : Dom) (entry argument t : ℕ) (sound : AreThreads d.threads) (run 
   unfolding spawned
   is_put = ap (λ (o : Option ℕ). started_at d.threads entry argument o) there
 
-  turn : number_of Spawned ≡ caller d
-  turn = ap (λ (ts : Threads). number_of ts) is_put ∙ put-turn d.threads t (started entry argument) sound
+  turn : current_number Spawned ≡ caller d
+  turn = ap (λ (ts : Threads). current_number ts) is_put ∙ put-turn d.threads t (started entry argument) sound
 
   current : Spawned.current ≡ d.threads.current
   current = ap (λ (ts : Threads). ts.current) is_put ∙ current_stays d.threads sound t (started entry argument) not_caller

@@ -3,10 +3,11 @@ use Rattle.std.proofs.Common.{◌≡◌, ◌≢◌, ◌∙◌, ap, ap₂, sym, s
 use Rattle.std.specs.Prelude.{if◌then◌else◌, nat_eq, nat_le}
 use Rattle.std.proofs.lemmas.Bool.{and_parts, cases_lt}
 use Rattle.tp_base.specs.Act.{Done, go_on, ◌>>=◌, ◌>>◌, give, either}
+use Rattle.tp_base.specs.Rights.{are_good}
 use Rattle.phys_mem.specs.Mem.{Mem, word, written, zeroed_frame, word-written_frame}
 use Rattle.sv32_walk.specs.declared.access.Access.{Access}
 use Rattle.sv32_walk.specs.declared.access.Access.TheVariants.{Fetch, Load, Store}
-use Rattle.sv32_walk.specs.PageTableEntry.{valid, ppn, vpn_0, vpn_1, are_good, rights_permit, leaf_word, permits, user}
+use Rattle.sv32_walk.specs.PageTableEntry.{valid, ppn, vpn_0, vpn_1, rights_permit, leaf_word, permits, user}
 use Rattle.sv32_walk.specs.Translation.{second_entry, Allows, HasLeaf, big, small}
 use Rattle.sv32_walk.proofs.EntryLemmas.{allowed-permits}
 use Rattle.sv32_walk.proofs.WordLemmas.{valid-leaf, permits-leaf, points-table, ppn-table}
@@ -22,7 +23,7 @@ use Rattle.cap_table.specs.Slots.{Slots, cap_at, mapped_at, copied, noted, is_re
 use Rattle.cap_table.proofs.RevokeLemmas.{at_revoked}
 use Rattle.rv_core.specs.Registers.{register}
 use Rattle.call_table.specs.Domain.{Dom, placed, replied, done, refused, exited, with_caps}
-use Rattle.call_table.specs.Claims.{Claim, Estate, is_mine, claims, claim_of, place_of, least_free, IsMapped}
+use Rattle.call_table.specs.Claims.{Claim, Estate, is_mine, claims, claim_of, entry_places, least_free, IsMapped}
 use Rattle.call_table.specs.Calls.{Note, Page, is_within, may_give, is_slot, page_in, table_in, fresh_cap, copy_refusal, clear_entry, with_slot, put_byte, alloc, install, map_page, unmap, copy, drop_slot, delete, unmap_at, emptied_at, unmap_all, revoke, call_of, call, number_made}
 use Rattle.call_table.specs.Laws.{Kept, LeavesKept}
 use Rattle.call_table.specs.Rights.{IsWithin, AreWithin, NothingMappedLaw, CallsWithinLaw, StoresWithinLaw, MayReach, by_cap, for_good, WalksWithinLaw}
@@ -285,7 +286,7 @@ module _ (e : Estate) (d : Dom) (m : Mem) (w : AreWithin e d m) where
   kept_within x n k o = record { each = λ i f r va is. leaf_kept n f r va k (w.each i f r va (o.each i f r va is)) }
 
   less_within : (x : Dom) (n : Mem) → Kept e x n → IsLess e d m x n → AreWithin e x n
-  unfolding claim_of place_of
+  unfolding claim_of entry_places
   less_within x n h l = record {
     each = λ i f r va is.
         let old : IsWithin e m f r va = w.each i f r va (l.maps.each i f r va is) in
@@ -460,7 +461,7 @@ record MappedAt (c : Option Cap) (f r t : ℕ) : Type 0 where
   table : vpn_0 at ≡ t
 
 mapped_claim : (c : Option Cap) (b : Bool) (f r t : ℕ) → claim_of c ≡ Claim.Leaf b f (Some (r, t)) → MappedAt c f r t
-unfolding claim_of place_of
+unfolding claim_of entry_places
 mapped_claim None b f r t is = absurd (cc is)
 mapped_claim (Some (cap.Irq line)) b f r t is = absurd (cc is)
 mapped_claim (Some (cap.Table g v)) b f r t is = absurd (cc is)

@@ -1,8 +1,9 @@
 -- What a call does to claims and memory keeps the facts.
 use Rattle.std.proofs.Common.{◌≡◌, ◌≢◌, ℕ, Bool, true, false, Option, Some, None, ◌⊎◌, inl, inr, refl, ap, sym, subst, ◌∙◌}
 use Rattle.std.proofs.lemmas.Bool.{cases_eq}
+use Rattle.tp_base.specs.Rights.{are_good}
 use Rattle.phys_mem.specs.Mem.{Mem, word, written, zeroed_frame, word-zeroed_same, word-zeroed_other}
-use Rattle.sv32_walk.specs.PageTableEntry.{valid, are_good, table_word, leaf_word}
+use Rattle.sv32_walk.specs.PageTableEntry.{valid, table_word, leaf_word}
 use Rattle.sv32_walk.proofs.WordLemmas.{valid-leaf}
 use Rattle.call_table.specs.Claims.{Claim, Claims, frame_of, is_shared, leaf_at, IsMapped, Facts}
 use Rattle.call_table.specs.Claims.Claim.{Nothing, Fixed, Leaf, Directory}

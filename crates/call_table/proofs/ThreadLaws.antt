@@ -9,7 +9,7 @@ use Rattle.rv_core.specs.Registers.{register}
 use Rattle.thread_set.specs.declared.Thread.{Thread}
 use Rattle.thread_set.specs.declared.ThreadState.{ThreadState}
 use Rattle.thread_set.specs.declared.ThreadState.TheVariants.{Never, Ready, Waiting, Ended}
-use Rattle.thread_set.specs.Threads.{Threads, AreThreads, all_of, number_of, never, thread_at, waits_for, with_current, vacant, spawned, waiter}
+use Rattle.thread_set.specs.Threads.{Threads, AreThreads, all_of, current_number, never, thread_at, waits_for, with_current, vacant, spawned, waiter}
 use Rattle.thread_set.proofs.Places.{position-nowhere}
 use Rattle.thread_set.proofs.Turns.{yielded-all}
 use Rattle.thread_set.proofs.Changes.{spawned-eight, blocked-others, finished-others, woken-at, woken-others, spawned-others}
@@ -145,8 +145,8 @@ module _ (Excuse : ℕ → Type 0) (d : Dom) where
     waits = λ h run t line waits.
         let sound : AreThreads x.threads = subst AreThreads (sym s.threads) h.eight in
         let same : (k : ℕ) → thread_at x.threads k ≡ thread_at d.threads k = λ k. ap (λ (ts : Threads). thread_at ts k) s.threads in
-        let apart : t ≢ number_of x.threads =
-        subst (λ (ts : Threads). t ≢ number_of ts) (sym s.threads) (waits_apart d.threads line t run waits) in
+        let apart : t ≢ current_number x.threads =
+        subst (λ (ts : Threads). t ≢ current_number ts) (sym s.threads) (waits_apart d.threads line t run waits) in
         inl (current_others x.threads sound _ t apart ∙ same t);
   }
 
@@ -170,7 +170,7 @@ module _ (Excuse : ℕ → Type 0) (d : Dom) where
         count = refl;
         turn = λ h run. blocked_turn (with_current d.threads x) line (current_eight d.threads h.eight x);
         waits = λ h run t other waits.
-            let apart : t ≢ number_of d.threads = waits_apart d.threads other t run waits in
+            let apart : t ≢ current_number d.threads = waits_apart d.threads other t run waits in
             inl (blocked-others (with_current d.threads x) line t (current_eight d.threads h.eight x) apart
             ∙ current_others d.threads h.eight x t apart);
       }
@@ -186,7 +186,7 @@ module _ (Excuse : ℕ → Type 0) (d : Dom) where
           | inl same ↦ inr (subst Excuse (sym same) excused)
           | inr apart ↦
               let left : thread_at x.threads t ≡ thread_at d.threads t = signalled_others line d h.eight other t apart waits in
-              let not_here : t ≢ number_of x.threads =
+              let not_here : t ≢ current_number x.threads =
               waits_apart x.threads other t (signalled_ready line d h run)
               (ap (λ (y : Thread). waits_for other y.state) left ∙ waits) in
               inl (current_others x.threads (signalled_turn line d h).eight _ t not_here ∙ left)
@@ -206,7 +206,7 @@ module _ (Excuse : ℕ → Type 0) (d : Dom) where
         waits = λ h run t line waits.
             let left : thread_at ts t ≡ thread_at d.threads t =
             spawned-others d.threads entry argument v t h.eight is (waits_started d.threads entry argument v h.eight run is line t waits) in
-            let not_here : t ≢ number_of ts =
+            let not_here : t ≢ current_number ts =
             waits_apart ts line t (spawned_ready d.threads entry argument v h.eight run is)
             (ap (λ (y : Thread). waits_for line y.state) left ∙ waits) in
             inl (current_others ts (spawned-eight d.threads entry argument h.eight) _ t not_here ∙ left);

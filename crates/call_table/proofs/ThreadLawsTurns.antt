@@ -6,7 +6,7 @@ use Rattle.std.proofs.lemmas.Bool.{cases_eq}
 use Rattle.thread_set.specs.declared.Thread.{Thread}
 use Rattle.thread_set.specs.declared.ThreadState.{ThreadState}
 use Rattle.thread_set.specs.declared.ThreadState.TheVariants.{Never, Ready, Waiting, Ended}
-use Rattle.thread_set.specs.Threads.{Threads, AreThreads, all_of, number_of, never, thread_at, is_ready, is_live, waits_for, in_state, turned_to, yielded, given_way, with_current, with_thread, started, vacant, started_at, spawned, blocked, finished, waiter, resumed, resumed_at, woken, end_live, all_ended}
+use Rattle.thread_set.specs.Threads.{Threads, AreThreads, all_of, current_number, never, thread_at, is_ready, is_live, waits_for, in_state, turned_to, yielded, given_way, with_current, with_thread, started, vacant, started_at, spawned, blocked, finished, waiter, resumed, resumed_at, woken, end_live, all_ended}
 use Rattle.thread_set.proofs.Parts.{turned-set, turned-self, number-below}
 use Rattle.thread_set.proofs.Turns.{yielded-ready, yielded-all, given-ready, given-all}
 use Rattle.thread_set.proofs.Changes.{yielded-eight, given-eight, thread-eight, ended-eight, waiter-first, woken-others, vacant-ended, put-others, put-turn, ended-at}
@@ -46,34 +46,34 @@ none_ready x = by_state (is_live x.state) refl
 -- ---- the current thread among all
 
 module _ (ts : Threads) where
-  pub current_at : thread_at ts (number_of ts) ≡ ts.current
+  pub current_at : thread_at ts (current_number ts) ≡ ts.current
   current_at = get_or-append_seam ts.before ts.current ts.after never
 
   -- a thread that waits isn't the current one, where that is ready
-  pub waits_apart : (line t : ℕ) → is_ready ts.current.state ≡ true → waits_for line (thread_at ts t).state ≡ true → t ≢ number_of ts
+  pub waits_apart : (line t : ℕ) → is_ready ts.current.state ≡ true → waits_for line (thread_at ts t).state ≡ true → t ≢ current_number ts
   waits_apart line t run waits same =
       let here : thread_at ts t ≡ ts.current = ap (λ (k : ℕ). thread_at ts k) same ∙ current_at in
       not_both line ts.current.state run (sym (ap (λ (x : Thread). waits_for line x.state) here) ∙ waits)
 
   module _ (sound : AreThreads ts) where
-    current_put : (x : Thread) → with_current ts x ≡ with_thread ts (number_of ts) x
+    current_put : (x : Thread) → with_current ts x ≡ with_thread ts (current_number ts) x
     unfolding with_current with_thread turned_to
     current_put x =
-        sym (turned-set (number_of ts) (all_of ts) x (omega (arith, sound.eight, number-below ts sound))
+        sym (turned-set (current_number ts) (all_of ts) x (omega (arith, sound.eight, number-below ts sound))
         ∙ ap (λ (s : Threads). with_current s x) (turned-self ts))
 
     pub current_eight : (x : Thread) → AreThreads (with_current ts x)
-    current_eight x = subst AreThreads (sym (current_put x)) (thread-eight ts (number_of ts) x sound)
+    current_eight x = subst AreThreads (sym (current_put x)) (thread-eight ts (current_number ts) x sound)
 
-    pub current_others : (x : Thread) (t : ℕ) → t ≢ number_of ts → thread_at (with_current ts x) t ≡ thread_at ts t
-    current_others x t other = ap (λ (s : Threads). thread_at s t) (current_put x) ∙ put-others ts (number_of ts) t x sound other
+    pub current_others : (x : Thread) (t : ℕ) → t ≢ current_number ts → thread_at (with_current ts x) t ≡ thread_at ts t
+    current_others x t other = ap (λ (s : Threads). thread_at s t) (current_put x) ∙ put-others ts (current_number ts) t x sound other
 
     -- one that is put elsewhere leaves the current one
-    pub current_stays : (t : ℕ) (x : Thread) → t ≢ number_of ts → (with_thread ts t x).current ≡ ts.current
+    pub current_stays : (t : ℕ) (x : Thread) → t ≢ current_number ts → (with_thread ts t x).current ≡ ts.current
     current_stays t x other =
         sym (get_or-append_seam (with_thread ts t x).before (with_thread ts t x).current (with_thread ts t x).after never)
         ∙ ap (λ (k : ℕ). thread_at (with_thread ts t x) k) (put-turn ts t x sound)
-        ∙ put-others ts t (number_of ts) x sound (λ same. other (sym same))
+        ∙ put-others ts t (current_number ts) x sound (λ same. other (sym same))
         ∙ current_at
 
     -- ---- whose turn it is
@@ -104,7 +104,7 @@ pub moved_turn : (ts : Threads) (x : Thread) → x.state ≡ ts.current.state �
 unfolding with_current
 moved_turn ts x same h = record {
   eight = current_eight ts h.eight x;
-  ready = λ t below is. elim (cases_eq t (number_of ts)) [
+  ready = λ t below is. elim (cases_eq t (current_number ts)) [
     | inl here ↦
         sym (ap (λ (y : Thread). is_ready y.state) (ap (λ (k : ℕ). thread_at (with_current ts x) k) here ∙ current_at (with_current ts x))) ∙ is
     | inr other ↦
@@ -138,10 +138,10 @@ waiter_waits ts line w is = (waiter-first ts line w is).passes
 pub woken_ready : (ts : Threads) (line w : ℕ) → HasTurn ts → is_ready ts.current.state ≡ true → waiter line ts ≡ Some w
     → is_ready (woken line ts).current.state ≡ true
 woken_ready ts line w h run is =
-    let apart : w ≢ number_of ts = waits_apart ts line w run (waiter_waits ts line w is) in
-    (woken_turn ts line h).ready (number_of ts) (number-below ts h.eight)
+    let apart : w ≢ current_number ts = waits_apart ts line w run (waiter_waits ts line w is) in
+    (woken_turn ts line h).ready (current_number ts) (number-below ts h.eight)
     (ap (λ (x : Thread). is_ready x.state)
-    (woken-others ts line w (number_of ts) h.eight is (λ same. apart (sym same)) ∙ current_at ts) ∙ run)
+    (woken-others ts line w (current_number ts) h.eight is (λ same. apart (sym same)) ∙ current_at ts) ∙ run)
 
 -- ---- the one that is started
 
@@ -149,7 +149,7 @@ module _ (ts : Threads) (entry argument v : ℕ) (sound : AreThreads ts) (run : 
   pub spawned_ready : is_ready (spawned ts entry argument).current.state ≡ true
   unfolding spawned
   spawned_ready =
-      let apart : v ≢ number_of ts =
+      let apart : v ≢ current_number ts =
       λ same. true≢false (sym (ready_live ts.current.state run)
       ∙ ap (λ (x : Thread). is_live x.state) (sym (ap (λ (k : ℕ). thread_at ts k) same ∙ current_at ts)) ∙ vacant-ended ts v is) in
       ap (λ (o : Option ℕ). is_ready (started_at ts entry argument o).current.state) is

@@ -6,8 +6,8 @@ use Rattle.std.specs.List.{range_with_len}
 use Rattle.std.proofs.Common.{inr}
 use Rattle.tp_base.specs.Act as act
 use Rattle.tp_base.specs.Act.{◌>>=◌, ◌>>◌, Done, give, stop, check}
+use Rattle.tp_base.specs.Rights.{are_good}
 use Rattle.phys_mem.specs.Mem.{Mem, zeroed_frame}
-use Rattle.sv32_walk.specs.PageTableEntry.{are_good}
 use Rattle.rv_core.specs.Registers.{register}
 use Rattle.thread_set.specs.Threads.{vacant}
 use Rattle.page_map.specs.declared.refusal.MapRefusal.{MapRefusal}

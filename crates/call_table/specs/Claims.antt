@@ -1,7 +1,8 @@
 -- What a domain's frames are used as: who holds which frame, and for which entry of the page tables it accounts.
 use Rattle.std.specs.Prelude.{◌≡◌, ◌≢◌, ℕ, Bool, true, false, not, ◌&&◌, nat_lt, List, [], ◌∷◌, ◌++◌, map, filter, slice_get, slice_index_or, Option, Some, None}
+use Rattle.tp_base.specs.Rights.{are_good}
 use Rattle.phys_mem.specs.Mem.{Mem, word}
-use Rattle.sv32_walk.specs.PageTableEntry.{valid, are_good, table_word, leaf_word, vpn_0, vpn_1}
+use Rattle.sv32_walk.specs.PageTableEntry.{valid, table_word, leaf_word, vpn_0, vpn_1}
 use Rattle.frame_colours.specs.Colours.{Share, has, has_colour, pool}
 use Rattle.cap_table.specs.declared.Cap.{Cap}
 use Rattle.cap_table.specs.declared.Cap.TheVariants as cap
@@ -32,16 +33,17 @@ leaf_at _ = None
 
 -- ---- what capabilities claim
 
-unfoldable pub place_of : Option ℕ → Option (ℕ × ℕ)
-place_of None = None
-place_of (Some va) = Some (vpn_1 va, vpn_0 va)
+-- the places of the entries of an address, in the root and in its table
+unfoldable pub entry_places : Option ℕ → Option (ℕ × ℕ)
+entry_places None = None
+entry_places (Some va) = Some (vpn_1 va, vpn_0 va)
 
 unfoldable pub region_of : Option ℕ → Option ℕ
 region_of None = None
 region_of (Some va) = Some (vpn_1 va)
 
 unfoldable pub claim_of : Option Cap → Claim
-claim_of (Some (cap.Frame f rights mapped)) = Claim.Leaf true f (place_of mapped)
+claim_of (Some (cap.Frame f rights mapped)) = Claim.Leaf true f (entry_places mapped)
 claim_of (Some (cap.Table f installed)) = Claim.Directory f (region_of installed)
 claim_of _ = Claim.Nothing
 

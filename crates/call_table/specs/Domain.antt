@@ -26,10 +26,10 @@ is_running Running = true
 is_running _ = false
 
 -- at its entry, with these capabilities
-unfoldable pub opening : ℕ → Slots → Dom
-opening entry caps = record {
+unfoldable pub dom_at_entry : ℕ → Slots → Dom
+dom_at_entry entry caps = record {
   status = Running;
-  threads = threads.opening entry;
+  threads = threads.threads_at_entry entry;
   caps = caps;
   delivered = 0;
   bits = replicate 32 false;

@@ -5,7 +5,7 @@ use Rattle.phys_mem.specs.Mem.{Mem}
 use Rattle.rv_core.specs.Registers.{register, with_register}
 use Rattle.thread_set.specs.declared.Thread.{Thread}
 use Rattle.thread_set.specs.declared.ThreadState.TheVariants.{Waiting, Ended}
-use Rattle.thread_set.specs.Threads.{AreThreads, number_of, thread_at, is_ready, is_live, in_state, between}
+use Rattle.thread_set.specs.Threads.{AreThreads, current_number, thread_at, is_ready, is_live, in_state, between}
 use Rattle.sv32_walk.specs.PageTableEntry.{vpn_1, table_word}
 use Rattle.sv32_walk.specs.Translation.{first_entry}
 use Rattle.page_map.specs.Tables.{map_refusal}
@@ -37,7 +37,7 @@ argument_c d = register d.threads.current.regs 12
 
 -- the number of the thread that makes it
 abbrev pub caller : Dom → ℕ
-caller d = number_of d.threads
+caller d = current_number d.threads
 
 -- memory after it
 abbrev pub memory_after : Estate → Dom → Mem → Mem
@@ -160,7 +160,7 @@ WaitClearLaw = (e : Estate) (d : Dom) (m : Mem) (line : ℕ) → AreThreads d.th
 pub record IsSignalled (line : ℕ) (d x : Dom) : Type 0 where
   pub done : IsDone 0 (delivered_on line d) x
   pub bits : x.bits ≡ (delivered_on line d).bits
-  pub turn : number_of x.threads ≡ caller d
+  pub turn : current_number x.threads ≡ caller d
   pub rest : x ≡ record d { threads = x.threads; replies = x.replies; bits = x.bits }
 
 abbrev pub SignalLaw : Type 0
@@ -186,7 +186,7 @@ pub record IsStarted (entry argument : ℕ) (x : Thread) : Type 0 where
 pub record IsSpawned (t : ℕ) (d x : Dom) : Type 0 where
   pub started : IsStarted (argument_a d) (argument_b d) (thread_at x.threads t)
   pub caller_goes_on : thread_at x.threads (caller d) ≡ answered 0 t d.threads.current
-  pub turn : number_of x.threads ≡ caller d
+  pub turn : current_number x.threads ≡ caller d
   pub others : (s : ℕ) → s ≢ t → s ≢ caller d → thread_at x.threads s ≡ thread_at d.threads s
   pub reply : x.replies ≡ d.replies ++ record { code = 0; value = t } ∷ []
   pub rest : x ≡ record d { threads = x.threads; replies = x.replies }
@@ -209,7 +209,7 @@ pub record IsYielded (d x : Dom) : Type 0 where
   pub others : OthersStay d x
   pub ready : is_ready x.threads.current.state ≡ true
   pub soonest : (t : ℕ) → t < 8 → is_ready (thread_at d.threads t).state ≡ true
-      → between (caller d) (number_of x.threads) ≤ between (caller d) t
+      → between (caller d) (current_number x.threads) ≤ between (caller d) t
   pub reply : x.replies ≡ d.replies ++ record { code = 0; value = 0 } ∷ []
   pub rest : x ≡ record d { threads = x.threads; replies = x.replies }
 

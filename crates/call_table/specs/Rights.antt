@@ -1,8 +1,9 @@
 -- No leaf's rights are wider than those of the capability through which its page is mapped.
 use Rattle.std.specs.Prelude.{◌≡◌, ℕ, Bool, true, Some, None, Ok, slice_index_or}
+use Rattle.tp_base.specs.Rights.{are_good}
 use Rattle.phys_mem.specs.Mem.{Mem, written}
 use Rattle.sv32_walk.specs.declared.access.Access.{Access}
-use Rattle.sv32_walk.specs.PageTableEntry.{ppn, vpn_0, vpn_1, are_good, rights_permit, leaf_word}
+use Rattle.sv32_walk.specs.PageTableEntry.{ppn, vpn_0, vpn_1, rights_permit, leaf_word}
 use Rattle.sv32_walk.specs.Translation.{second_entry}
 use Rattle.page_map.specs.Tables.{has_table}
 use Rattle.cap_table.specs.declared.Cap.TheVariants as cap

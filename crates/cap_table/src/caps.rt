@@ -3,7 +3,7 @@ ghost use Rattle.std.specs.Prelude.{◌≡◌};
 ghost use Rattle.cap_table.specs.Slots.{page_of, line_of, mapped_at, installed_at, alike, copied, noted, is_in_region};
 
 use crate::Cap;
-use tp_base::FrameNo;
+use tp_base::{FrameNo, Rights};
 
 /// The bytes of addresses that one page table maps.
 pub(crate) const REGION: u32 = 4 << 20;
@@ -57,7 +57,7 @@ pub(crate) fn are_alike(cap: &Option<Cap>, other: &Option<Cap>) -> bool
 }
 
 // The same page with these rights, not mapped, or the same line.
-pub(crate) fn copied(cap: &Option<Cap>, rights: u8) -> Option<Cap>
+pub(crate) fn copied(cap: &Option<Cap>, rights: Rights) -> Option<Cap>
     ensures value { result ≡ copied cap.now rights }
 {
     match cap {

@@ -13,7 +13,7 @@ mod tally;
 
 use frame_colours::{Frame, Held, Table};
 pub use table::CapTable;
-use tp_base::FrameNo;
+use tp_base::{FrameNo, Rights};
 
 /// What a slot names.
 #[derive(Clone, Copy, Debug, PartialEq, Eq)]
@@ -22,8 +22,8 @@ pub enum Cap {
     Frame {
         /// Its frame.
         frame: FrameNo,
-        /// A sum of 1 read, 2 write and 4 execute.
-        rights: u8,
+        /// What it may be used for.
+        rights: Rights,
         /// The address at which it is mapped through this capability.
         mapped: Option<u32>,
     },
@@ -44,8 +44,8 @@ pub enum Cap {
 /// What a slot is given to name, and to own.
 #[derive(Drop)]
 pub enum Given {
-    /// A page, and its rights, a sum of 1 read, 2 write and 4 execute.
-    Page(Frame<Held>, u8),
+    /// A page, and its rights.
+    Page(Frame<Held>, Rights),
     /// A page table.
     Table(Frame<Table>),
     /// An interrupt line, below 32.

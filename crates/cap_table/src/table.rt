@@ -28,7 +28,7 @@ use crate::{Cap, Given, Gone, Revoked};
 use frame_colours::{Frame, Held, Table};
 use std::alloc::Global;
 use std::marker::Model;
-use tp_base::{FrameNo, Memory};
+use tp_base::{FrameNo, Memory, Rights};
 
 const SLOTS: u32 = 64;
 
@@ -162,7 +162,7 @@ impl CapTable {
 
     /// Lets an empty slot name the page of another with these rights, not
     /// mapped, or its line. A table can't be copied.
-    pub fn copy(&mut self, from: u32, to: u32, rights: u8)
+    pub fn copy(&mut self, from: u32, to: u32, rights: Rights)
         requires from { from < 64 }
         requires to { to < 64 }
         requires filled { is_filled (cap_at self.old from) ≡ true }

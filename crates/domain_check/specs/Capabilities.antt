@@ -13,24 +13,24 @@ use Rattle.domain_check.specs.declared.capabilities.InitialCap.{InitialCap}
 use Rattle.domain_check.specs.declared.capabilities.InitialCap.TheVariants.{None as NoCap, Page, Irq}
 
 -- domain d, the slot or how many there are, and the case
-abbrev pub broken : ℕ → ℕ → ℕ → Option Refusal
-broken d found case = Some (refusal 13 (pos d) (pos found) (pos case))
+abbrev pub k13_refusal : ℕ → ℕ → ℕ → Option Refusal
+k13_refusal d found case = Some (refusal 13 (pos d) (pos found) (pos case))
 
 abbrev pub lies_in : ℕ → RawSegment → Bool
 lies_in page s = has_page s page
 
 -- 5: an earlier slot has the same text. Equal texts name the same, and others another, as no zero stands before a number
 abbrev pub again_case : ℕ → List (List ℕ) → List ℕ → Option Refusal
-again_case d earlier s = if list_any (bytes_eq s) earlier then broken d (length earlier) 5 else None
+again_case d earlier s = if list_any (bytes_eq s) earlier then k13_refusal d (length earlier) 5 else None
 
 -- 2: no text of a slot; 3: a page in no segment; 4: none of the domain's lines
 abbrev pub named_case : RawDomain → ℕ → List (List ℕ) → List ℕ → Option InitialCap → Option Refusal
-named_case o d earlier s None = broken d (length earlier) 2
+named_case o d earlier s None = k13_refusal d (length earlier) 2
 named_case o d earlier s (Some NoCap) = None
 named_case o d earlier s (Some (Page n)) =
-    if list_any (lies_in n) o.segments then again_case d earlier s else broken d (length earlier) 3
+    if list_any (lies_in n) o.segments then again_case d earlier s else k13_refusal d (length earlier) 3
 named_case o d earlier s (Some (Irq n)) =
-    if names o.lines (pos n) then again_case d earlier s else broken d (length earlier) 4
+    if names o.lines (pos n) then again_case d earlier s else k13_refusal d (length earlier) 4
 
 unfoldable pub k13_case : RawDomain → ℕ → List (List ℕ) → List ℕ → Option Refusal
 k13_case o d earlier s = named_case o d earlier s (cap_in s)
@@ -38,7 +38,7 @@ k13_case o d earlier s = named_case o d earlier s (cap_in s)
 -- 1: more than 64 slots
 unfoldable pub k13_domain : List RawDomain → RawDomain → Option Refusal
 k13_domain earlier o =
-    if nat_lt 64 (length o.caps) then broken (length earlier) (length o.caps) 1
+    if nat_lt 64 (length o.caps) then k13_refusal (length earlier) (length o.caps) 1
     else first_in (k13_case o (length earlier)) o.caps
 
 unfoldable pub k13 : Raw → Option Refusal

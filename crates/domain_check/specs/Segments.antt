@@ -4,14 +4,14 @@ use Rattle.std.specs.Result.{result_ok}
 use Rattle.std.specs.List.{list_any}
 use Rattle.std.specs.Str.{bytes_eq}
 use Rattle.hex.specs.Hex.{decode_of}
+use Rattle.tp_base.specs.Rights.{rights_with}
 use Rattle.image_record.specs.declared.refusal.Refusal.{Refusal}
 use Rattle.image_record.specs.Record.{Raw, RawDomain, RawSegment}
 use Rattle.image_record.specs.Cases.{or_else, first_in, refusal}
-use Rattle.domain_check.specs.declared.segments.Rights.{Rights}
 
 -- domain d, the segment at a place or the entry, and the case
-abbrev pub broken : ℕ → ℕ → ℕ → Option Refusal
-broken d found case = Some (refusal 12 (pos d) (pos found) (pos case))
+abbrev pub k12_refusal : ℕ → ℕ → ℕ → Option Refusal
+k12_refusal d found case = Some (refusal 12 (pos d) (pos found) (pos case))
 
 abbrev pub has_execute : List ℕ → Bool
 has_execute s = bytes_eq s (codes "x") || (bytes_eq s (codes "rx") || bytes_eq s (codes "rwx"))
@@ -33,17 +33,17 @@ bytes_in hex = result_ok (decode_of hex)
 
 -- 3: no bytes; 4: more than the pages hold; 5: a page of an earlier segment
 abbrev pub bytes_case : ℕ → List RawSegment → RawSegment → Option (List ℕ) → Option Refusal
-bytes_case d earlier s None = broken d (length earlier) 3
+bytes_case d earlier s None = k12_refusal d (length earlier) 3
 bytes_case d earlier s (Some bytes) =
-    if nat_lt (s.pages * 4096) (length bytes) then broken d (length earlier) 4
-    else if list_any (share_page s) earlier then broken d (length earlier) 5
+    if nat_lt (s.pages * 4096) (length bytes) then k12_refusal d (length earlier) 4
+    else if list_any (share_page s) earlier then k12_refusal d (length earlier) 5
     else None
 
 -- 1: pages past the last; 2: no rights
 unfoldable pub segment_case : ℕ → List RawSegment → RawSegment → Option Refusal
 segment_case d earlier s =
-    if nat_lt 1048576 (s.page + s.pages) then broken d (length earlier) 1
-    else if not (is_rights s.rights) then broken d (length earlier) 2
+    if nat_lt 1048576 (s.page + s.pages) then k12_refusal d (length earlier) 1
+    else if not (is_rights s.rights) then k12_refusal d (length earlier) 2
     else bytes_case d earlier s (bytes_in s.hex)
 
 -- the page may be executed
@@ -53,7 +53,7 @@ executes page s = has_execute s.rights && has_page s page
 -- 6: the entry is no place of an instruction
 unfoldable pub entry_case : ℕ → RawDomain → Option Refusal
 entry_case d o =
-    if o.entry % 4 == 0 && list_any (executes (o.entry / 4096)) o.segments then None else broken d o.entry 6
+    if o.entry % 4 == 0 && list_any (executes (o.entry / 4096)) o.segments then None else k12_refusal d o.entry 6
 
 unfoldable pub k12_domain : List RawDomain → RawDomain → Option Refusal
 k12_domain earlier o = or_else (first_in (segment_case (length earlier)) o.segments) (entry_case (length earlier) o)
@@ -67,15 +67,17 @@ k12 i = first_in k12_domain i.domains
 pub record Segment : Type 0 where
   pub page : ℕ  -- the first page's address divided by 4,096
   pub pages : ℕ
-  pub rights : Rights
+  pub rights : ℕ  -- what they may be used for
   pub bytes : List ℕ  -- the first bytes; zeros follow to the end of the pages
 
-abbrev pub rights_of : List ℕ → Rights
-rights_of s = record {
-  read = bytes_eq s (codes "r") || (bytes_eq s (codes "rw") || (bytes_eq s (codes "rx") || bytes_eq s (codes "rwx")));
-  write = bytes_eq s (codes "rw") || bytes_eq s (codes "rwx");
-  execute = has_execute s;
-}
+abbrev pub has_read : List ℕ → Bool
+has_read s = bytes_eq s (codes "r") || (bytes_eq s (codes "rw") || (bytes_eq s (codes "rx") || bytes_eq s (codes "rwx")))
+
+abbrev pub has_write : List ℕ → Bool
+has_write s = bytes_eq s (codes "rw") || bytes_eq s (codes "rwx")
+
+abbrev pub rights_of : List ℕ → ℕ
+rights_of s = rights_with (has_read s) (has_write s) (has_execute s)
 
 abbrev pub bytes_or_none : Option (List ℕ) → List ℕ
 bytes_or_none (Some bytes) = bytes

@@ -109,10 +109,10 @@ fn cap_in(text: &str) -> Option<Named>
     None
 }
 
-fn broken(d: usize, found: usize, case: u8) -> Refusal
+fn k13_refusal(d: usize, found: usize, case: u8) -> Refusal
     requires domain { d < 2 ^ 63 }
     requires found { found < 2 ^ 63 }
-    ensures value { Some result ≡ spec.broken d found case }
+    ensures value { Some result ≡ spec.k13_refusal d found case }
 {
     Refusal {
         rule: 13,
@@ -142,7 +142,7 @@ fn again_case(d: usize, earlier: &[String], text: &str) -> Result<(), Refusal>
 {
     for other in earlier {
         if text == other.as_str() {
-            return Err(broken(d, earlier.len(), 5));
+            return Err(k13_refusal(d, earlier.len(), 5));
         }
     }
     Ok(())
@@ -157,19 +157,19 @@ fn named_in(domain: &RawDomain, d: usize, earlier: &[String], text: &str) -> Res
     ensures value { IfOk result (λ n. named_model n ≡ spec.cap_of text.now) }
 {
     let Some(named) = cap_in(text) else {
-        return Err(broken(d, earlier.len(), 2));
+        return Err(k13_refusal(d, earlier.len(), 2));
     };
     match named {
         Named::Nothing => {}
         Named::Page(page) => {
             if !lies_in_any(page, domain.segments.as_slice()) {
-                return Err(broken(d, earlier.len(), 3));
+                return Err(k13_refusal(d, earlier.len(), 3));
             }
             again_case(d, earlier, text)?;
         }
         Named::Irq(line) => {
             if !names(domain.lines.as_slice(), line as i64) {
-                return Err(broken(d, earlier.len(), 4));
+                return Err(k13_refusal(d, earlier.len(), 4));
             }
             again_case(d, earlier, text)?;
         }
@@ -191,7 +191,7 @@ fn k13_domain(
     let caps = domain.caps.as_slice();
     let d = earlier.len();
     if caps.len() > MOST_SLOTS {
-        return Err(ReadRefusal::Broken(broken(d, caps.len(), 1)));
+        return Err(ReadRefusal::Broken(k13_refusal(d, caps.len(), 1)));
     }
     let mut found = Vec::new(alloc);
     for (slot, text) in caps.iter().enumerate() {

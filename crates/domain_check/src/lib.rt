@@ -15,4 +15,4 @@ pub use calls::{calls_in, calls_of, k18};
 pub use capabilities::{InitialCap, Named, caps_from, k13};
 pub use colours::{k8, k9, k10};
 pub use names::k7;
-pub use segments::{Rights, Segment, k12};
+pub use segments::{Segment, k12};

@@ -11,17 +11,10 @@ ghost use Rattle.domain_check.specs.Segments as spec;
 use hex::FromHexError;
 use image_record::{Raw, RawDomain, RawSegment, ReadRefusal, Refusal};
 use std::alloc::Global;
+use tp_base::Rights;
 
 /// The pages of an address space: 4 GiB of 4,096 bytes.
 const ALL_PAGES: u32 = 1_048_576;
-
-/// What pages may be used for.
-#[derive(Clone, Copy, Debug, PartialEq, Eq)]
-pub struct Rights {
-    pub read: bool,
-    pub write: bool,
-    pub execute: bool,
-}
 
 /// Pages of a domain's address space, one after the other.
 #[derive(Drop)]
@@ -29,15 +22,16 @@ pub struct Segment {
     /// The first page's address divided by 4,096.
     pub page: u32,
     pub pages: u32,
+    /// What they may be used for.
     pub rights: Rights,
     /// The first bytes; zeros follow to the end of the pages.
     pub bytes: Vec<u8>,
 }
 
-fn broken(d: usize, found: usize, case: u8) -> Refusal
+fn k12_refusal(d: usize, found: usize, case: u8) -> Refusal
     requires domain { d < 2 ^ 63 }
     requires found { found < 2 ^ 63 }
-    ensures value { Some result ≡ spec.broken d found case }
+    ensures value { Some result ≡ spec.k12_refusal d found case }
 {
     Refusal {
         rule: 12,
@@ -104,11 +98,9 @@ fn bytes_in(alloc: Global, hex: &str) -> Result<Option<Vec<u8>>, ReadRefusal>
 fn rights_of(text: &str) -> Rights
     ensures value { result ≡ spec.rights_of text.now }
 {
-    Rights {
-        read: text == "r" || (text == "rw" || (text == "rx" || text == "rwx")),
-        write: text == "rw" || text == "rwx",
-        execute: has_execute(text),
-    }
+    let read = text == "r" || (text == "rw" || (text == "rx" || text == "rwx"));
+    let write = text == "rw" || text == "rwx";
+    Rights::with(read, write, has_execute(text))
 }
 
 /// The cases of the bytes: more than the pages hold; then pages of another segment.
@@ -124,10 +116,10 @@ fn bytes_case(
         (segment_model segment.now) (Some bytes.now)) }
 {
     if segment.pages as usize * 4096 < bytes.len() {
-        return Err(broken(d, earlier.len(), 4));
+        return Err(k12_refusal(d, earlier.len(), 4));
     }
     if shares_any(segment, earlier) {
-        return Err(broken(d, earlier.len(), 5));
+        return Err(k12_refusal(d, earlier.len(), 5));
     }
     Ok(())
 }
@@ -146,13 +138,13 @@ fn segment_in(
     ensures value { IfOk result (λ s. part_model s ≡ spec.segment_of (segment_model segment.now)) }
 {
     if u64::from(ALL_PAGES) < u64::from(segment.page) + u64::from(segment.pages) {
-        return Err(ReadRefusal::Broken(broken(d, earlier.len(), 1)));
+        return Err(ReadRefusal::Broken(k12_refusal(d, earlier.len(), 1)));
     }
     if !is_rights(segment.rights.as_str()) {
-        return Err(ReadRefusal::Broken(broken(d, earlier.len(), 2)));
+        return Err(ReadRefusal::Broken(k12_refusal(d, earlier.len(), 2)));
     }
     let Some(bytes) = bytes_in(alloc, segment.hex.as_str())? else {
-        return Err(ReadRefusal::Broken(broken(d, earlier.len(), 3)));
+        return Err(ReadRefusal::Broken(k12_refusal(d, earlier.len(), 3)));
     };
     bytes_case(d, earlier, segment, &bytes)?;
     Ok(Segment {
@@ -203,7 +195,7 @@ fn entry_case(d: usize, domain: &RawDomain) -> Result<(), Refusal>
     {
         Ok(())
     } else {
-        Err(broken(d, domain.entry as usize, 6))
+        Err(k12_refusal(d, domain.entry as usize, 6))
     }
 }
 

@@ -12,7 +12,7 @@ use Rattle.thread_set.specs.Models.{threads_model}
 use Rattle.thread_set.specs.Threads as threads
 use Rattle.irq_partition.specs.Interrupts as irq
 use Rattle.kernel_clone.specs.Models.{layout_model}
-use Rattle.call_table.specs.Claims.{Claim, frame_of, place_of, claims, is_named, free_frames}
+use Rattle.call_table.specs.Claims.{Claim, frame_of, entry_places, claims, is_named, free_frames}
 use Rattle.call_table.specs.Domain as domain
 use Rattle.call_table.proofs.ClaimLawsSlots.{named_by, names, claims_fixed}
 use Rattle.kernel_call.specs.declared.domain.Domain.{Domain}
@@ -187,7 +187,7 @@ module _ (p : Hardware) (o : Own) where
                   let slot = page_slot p o enough sound m.0 m.2 in
                   let count = m.3 in
                   let at : 5 + regions_in o.segments + pages_below o.segments m.0 ≡ n = omega (arith, page, count) in
-                  (slot.0, page_at m.0 (claims (estate p o) (first_slots p o) slot.0) slot.1 (place_of (Some (m.0 * 4096))) slot.2 at)
+                  (slot.0, page_at m.0 (claims (estate p o) (first_slots p o) slot.0) slot.1 (entry_places (Some (m.0 * 4096))) slot.2 at)
             ]
           ]
         where
@@ -228,8 +228,8 @@ module _ (p : Hardware) (o : Own) where
 
   -- ---- at its entry
 
-  pub at_entry : (d : Domain) → IsNew d → threads_model d.threads ≡ threads.opening o.entry → d.caps ≡ first_slots p o → d.interrupts ≡ irq.opening o.moments → Stands d (opening_dom p o)
-  unfolding opening_dom domain.opening irq.opening
+  pub at_entry : (d : Domain) → IsNew d → threads_model d.threads ≡ threads.threads_at_entry o.entry → d.caps ≡ first_slots p o → d.interrupts ≡ irq.none_delivered o.moments → Stands d (opening_dom p o)
+  unfolding opening_dom domain.dom_at_entry irq.none_delivered
   at_entry d new at caps irqs = record {
     same = λ i. record {
       status = new.status i;
@@ -261,9 +261,9 @@ new_counts d new =
 module _ (p : Hardware) (o : Own) (has : HasPool p o) (apart : AreApart o.segments) where
   pub is_opened : (d : Domain) → IsNew d → d.map ≡ root_of p o
       → d.pool ≡ record { share = share_of p o; free = drop (frames_in o.segments) (pool p o) } → d.caps ≡ first_slots p o
-      → d.interrupts ≡ irq.opening o.moments → threads_model d.threads ≡ threads.opening o.entry → d.tables.items ≡ first_tables p o
+      → d.interrupts ≡ irq.none_delivered o.moments → threads_model d.threads ≡ threads.threads_at_entry o.entry → d.tables.items ≡ first_tables p o
       → d.kept.items ≡ clone_frames p o ++ unnamed (first_slots p o) (page_frames p o) → layout_model d.layout ≡ layout p o → d.calls ≡ o.calls → IsOpened p o d
-  unfolding irq.opening
+  unfolding irq.none_delivered
   is_opened d new root free caps irqs at tables kept clone calls = record {
     stands = at_entry p o d new at caps irqs;
     has = has_estate p o has.enough has.sound apart d root free caps calls;

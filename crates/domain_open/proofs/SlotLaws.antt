@@ -21,7 +21,7 @@ use Rattle.image_check.specs.Laws.{IsSegment, IsOwn}
 use Rattle.image_check.specs.Own.{Segment, Own, cap_at, no_segment}
 use Rattle.image_check.specs.Pages.{has_page, has_page_in, pages_below}
 use Rattle.world_view.specs.Opening.{rights_in}
-use Rattle.world_view.specs.Kernel.{number_of}
+use Rattle.world_view.specs.Kernel.{rights_or_none}
 use Rattle.world_view.proofs.opening.Counts.{is_page, page_once}
 use Rattle.domain_open.specs.Giving.{page_at, line_cap, page_cap, cap_after, line_slots, slots_after, unnamed}
 
@@ -52,13 +52,13 @@ pub none_set : (f g : ℕ → Option Cap) → ((i : ℕ) → i < 64 → f i ≡ 
 none_set f g same = fill_by_all g (by_slot f) 64 None (slots_long f) (λ k h. slot_at f k h ∙ same k h)
 
 -- a page is put in a slot and noted there
-pub put_noted : (o : Own) (s t u : Slots) (a f r n at : ℕ) → length s ≡ 64 → a < 64 → r ≡ number_of (rights_in o.segments n) → at ≡ n * 4096
+pub put_noted : (o : Own) (s t u : Slots) (a f r n at : ℕ) → length s ≡ 64 → a < 64 → r ≡ rights_or_none (rights_in o.segments n) → at ≡ n * 4096
     → t ≡ set s a (Some (cap.Frame f r None)) → u ≡ set t a (noted (get_or t a None) (Some at)) → u ≡ set s a (Some (page_cap o f n))
 put_noted o s t u a f r n at long below rights address put note =
     let there : get_or t a None ≡ Some (cap.Frame f r None) = ap (λ (v : Slots). get_or v a None) put ∙ get_or-set_same s a (Some (cap.Frame f r None)) None (omega (arith, long, below)) in
     note ∙ ap (λ (x : Option Cap). set t a (noted x (Some at))) there
     ∙ ap (λ (v : Slots). set v a (Some (cap.Frame f r (Some at)))) put ∙ set-set s a (Some (cap.Frame f r None)) (Some (cap.Frame f r (Some at)))
-    ∙ ap (λ (q : ℕ). set s a (Some (cap.Frame f q (Some at)))) rights ∙ ap (λ (q : ℕ). set s a (Some (cap.Frame f (number_of (rights_in o.segments n)) (Some q)))) address
+    ∙ ap (λ (q : ℕ). set s a (Some (cap.Frame f q (Some at)))) rights ∙ ap (λ (q : ℕ). set s a (Some (cap.Frame f (rights_or_none (rights_in o.segments n)) (Some q)))) address
 
 -- ---- lines
 

@@ -11,7 +11,7 @@ use Rattle.domain_check.specs.declared.capabilities.InitialCap.TheVariants as in
 use Rattle.image_check.specs.Own.{Segment, Own, cap_at}
 use Rattle.image_check.specs.Pages.{pages_below, pages_in}
 use Rattle.world_view.specs.Opening.{rights_in}
-use Rattle.world_view.specs.Kernel.{number_of}
+use Rattle.world_view.specs.Kernel.{rights_or_none}
 
 -- the page that is named, if it stands at this place
 abbrev pub page_at : List Segment → ℕ → InitialCap → Option ℕ
@@ -28,7 +28,7 @@ line_cap (initial.Irq line) = Some (cap.Irq line)
 
 -- a page in a frame, mapped at its page with its segment's rights
 abbrev pub page_cap : Own → ℕ → ℕ → Cap
-page_cap o f n = cap.Frame f (number_of (rights_in o.segments n)) (Some (n * 4096))
+page_cap o f n = cap.Frame f (rights_or_none (rights_in o.segments n)) (Some (n * 4096))
 
 -- its line, or its page if that stands at one of the first so many places
 abbrev pub cap_after : Own → List ℕ → ℕ → InitialCap → Option Cap

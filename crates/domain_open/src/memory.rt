@@ -2,7 +2,7 @@
 ghost use Rattle.std.specs.Prelude.{◌≡◌, ℕ, ◌+◌, ◌*◌, ◌%◌, ◌^◌, ◌<◌, ◌≤◌, slice_index};
 ghost use Rattle.tp_base.specs.Table.{empty, at, put};
 ghost use Rattle.phys_mem.specs.Holds.{Holds};
-ghost use Rattle.phys_mem.specs.Address.{frame_of, place_of};
+ghost use Rattle.phys_mem.specs.Address.{frame_of, word_place};
 ghost use Rattle.phys_mem.specs.Contents.{word_at};
 ghost use Rattle.phys_mem.specs.Mem.{Mem, Frame, written};
 ghost use Rattle.hardware_check.specs.Models.{hardware_model};
@@ -232,7 +232,7 @@ fn place_word(memory: &mut PhysMem, at: u32, word: u32)
     requires within { frame_of at < memory.old.frames }
     requires aligned { at % 4 ≡ 0 }
     ensures placed { (m : Mem) → Holds memory.old m
-        → Holds memory.new (written m (frame_of at) (place_of at) word) }
+        → Holds memory.new (written m (frame_of at) (word_place at) word) }
     ensures kept { word_at memory.old at ≡ word → memory.new ≡ memory.old }
     ensures frames { memory.new.frames ≡ memory.old.frames }
 {

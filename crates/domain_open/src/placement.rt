@@ -8,7 +8,7 @@ ghost use Rattle.world_view.specs.Frames as spec;
 ghost use Rattle.world_view.specs.Opening as opening;
 ghost use Rattle.domain_open.specs.Placing.{HasPool};
 
-use crate::segments::{REGIONS, has_region, pages_below, regions_below, rights_number, rights_of};
+use crate::segments::{REGIONS, has_region, pages_below, regions_below, rights_of};
 use image_check::{Hardware, Own};
 use sv32_walk::{leaf_word, table_word};
 use tp_base::FrameNo;
@@ -112,6 +112,6 @@ impl<'a> Placement<'a> {
         let Some(rights) = rights_of(self.own.segments.as_slice(), page) else {
             return 0;
         };
-        leaf_word(self.page_frame(page), rights_number(rights))
+        leaf_word(self.page_frame(page), rights)
     }
 }

@@ -6,7 +6,8 @@ ghost use Rattle.domain_open.specs.Placing.{AreSegments};
 ghost use Rattle.world_view.specs.Opening as opening;
 ghost use Rattle.world_view.specs.Kernel as kernel;
 
-use image_check::{Rights, Segment};
+use image_check::Segment;
+use tp_base::Rights;
 
 /// How many regions there are.
 pub const REGIONS: u32 = 1024;
@@ -58,21 +59,11 @@ pub fn rights_of(segments: &[Segment], page: u32) -> Option<Rights>
     None
 }
 
-/// A sum of 1 read, 2 write and 4 execute.
-pub fn rights_number(rights: Rights) -> u8
-    ensures value { result ≡ opening.rights_number rights }
+/// The rights of a page, none where there isn't that page.
+pub fn page_rights(segments: &[Segment], page: u32) -> Rights
+    ensures value { result ≡ kernel.rights_or_none (opening.rights_in (map segment_model segments.now) page) }
 {
-    u8::from(rights.read) + 2 * u8::from(rights.write) + 4 * u8::from(rights.execute)
-}
-
-/// The rights of a page by their number, 0 if there isn't that page.
-pub fn page_rights(segments: &[Segment], page: u32) -> u8
-    ensures value { result ≡ kernel.number_of (opening.rights_in (map segment_model segments.now) page) }
-{
-    match rights_of(segments, page) {
-        Some(rights) => rights_number(rights),
-        None => 0,
-    }
+    rights_of(segments, page).unwrap_or(Rights::new(0))
 }
 
 /// How many regions below one have a page.

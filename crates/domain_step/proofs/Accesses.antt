@@ -1,6 +1,6 @@
 -- Translations, loads and stores, of the code and of the definitions.
 use Rattle.std.proofs.Common.{◌≡◌, ◌≢◌, ◌⊎◌, ℕ, ◌+◌, ◌*◌, ◌/◌, ◌%◌, List, inl, inr, Some, None, Result, Ok, Err, refl, sym, ap, ap₂, subst, subst₂, ◌∙◌, arith}
-use Rattle.phys_mem.specs.Address.{frame_of, place_of}
+use Rattle.phys_mem.specs.Address.{frame_of, word_place}
 use Rattle.phys_mem.specs.Contents.{Contents}
 use Rattle.phys_mem.specs.Holds.{Holds}
 use Rattle.phys_mem.specs.Mem.{Mem, word, written, word-written_frame}
@@ -78,7 +78,7 @@ module _ (at va : ℕ) (e : at % 4096 ≡ va % 4096) where
   unfolding address_in
   address_there = omega (arith, e)
 
-  pub place_there : place_of at ≡ place va
+  pub place_there : word_place at ≡ place va
   place_there = ap (λ (n : ℕ). n / 4) e
 
   pub low_there : at % 4 ≡ va % 4
@@ -321,7 +321,7 @@ module _ {P : Type 0} (rule : P → ℕ → Rule) (stands : P → ℕ → ℕ �
       → MakesTouch rule stands (Load line) cycles mid new → new.core.tlb ≡ mid.core.tlb
       → spent' ≡ spent + cycles
       → ((m : Mem) → Holds memory m
-      → v ≡ part_of_word (load_size width) (word m (frame_of at) (place_of at)) (at % 4))
+      → v ≡ part_of_word (load_size width) (word m (frame_of at) (word_place at)) (at % 4))
       → Comes (load w.machine root d width va) (Ok v) (KeepsAll memory new spent')
   unfolding load
   load_found width va v at line spent spent' cycles mid new page e is makes buffer more value =
@@ -381,7 +381,7 @@ module _ {P : Type 0} (rule : P → ℕ → Rule) (stands : P → ℕ → ℕ �
       → MakesTouch rule stands (StoreTouch line) cycles mid new → new.core.tlb ≡ mid.core.tlb
       → spent' ≡ spent + cycles → memory'.frames ≡ memory.frames
       → ((m : Mem) → Holds memory m
-      → Holds memory' (with_store made (frame_of at) (place_of at) (at % 4) m))
+      → Holds memory' (with_store made (frame_of at) (word_place at) (at % 4) m))
       → Comes (store w.machine root d (Some made)) (Ok tt) (KeepsAll memory' new spent')
   unfolding store
   store_made made at line spent spent' cycles mid new memory' found e is makes buffer more frames write =

@@ -5,7 +5,7 @@ use Rattle.tp_base.specs.Act.{◌>>◌, give, either}
 use Rattle.phys_mem.specs.Contents.{Contents}
 use Rattle.phys_mem.specs.Holds.{Holds}
 use Rattle.phys_mem.specs.Mem.{Mem, word}
-use Rattle.phys_mem.specs.Address.{frame_of, place_of}
+use Rattle.phys_mem.specs.Address.{frame_of, word_place}
 use Rattle.set_cache.specs.Rule.{Rule}
 use Rattle.cap_table.specs.Slots.{Slots}
 use Rattle.rv_core.specs.Alu as alu
@@ -535,8 +535,8 @@ same_products f (Some a) products b is e = is ∙ ap (λ (x : Option _). is_some
 
 -- the word of an address is that of the place where its own word begins
 pub found_word : (m : Mem) (x at pc : ℕ) → at % 4096 ≡ pc % 4096
-    → x ≡ word m (frame_of (at / 4 * 4)) (place_of (at / 4 * 4)) → x ≡ word m (at / 4096) (place pc)
+    → x ≡ word m (frame_of (at / 4 * 4)) (word_place (at / 4 * 4)) → x ≡ word m (at / 4096) (place pc)
 found_word m x at pc e is =
     let frame : frame_of (at / 4 * 4) ≡ at / 4096 = omega arith in
-    let there : place_of (at / 4 * 4) ≡ place pc = omega (arith, e) in
+    let there : word_place (at / 4 * 4) ≡ place pc = omega (arith, e) in
     is ∙ ap₂ (word m) frame there

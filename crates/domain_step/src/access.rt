@@ -2,7 +2,7 @@
 // charged to the cycles spent, also where it ends with an exception.
 ghost use Rattle.std.specs.Prelude.{◌≡◌, ◌+◌, ◌⊎◌, ◌*◌, ◌/◌, ◌%◌, ◌^◌, ◌<◌, ◌≤◌, IfOk, IfSome};
 ghost use Rattle.cycle_cost.specs.Ranges.{most_look, most_data};
-ghost use Rattle.phys_mem.specs.Address.{frame_of, place_of};
+ghost use Rattle.phys_mem.specs.Address.{frame_of, word_place};
 ghost use Rattle.phys_mem.specs.Holds.{Holds};
 ghost use Rattle.phys_mem.specs.Mem.{Mem, word};
 ghost use Rattle.page_map.specs.Tables.{StandsWith};
@@ -86,7 +86,7 @@ fn read(memory: &PhysMem, width: LoadWidth, at: u32) -> u32
     requires within { frame_of at < memory.now.frames }
     requires aligned { at % load_size width ≡ 0 }
     ensures value { (m : Mem) → Holds memory.now m
-        → result ≡ spec.part_of_word (load_size width) (word m (frame_of at) (place_of at)) (at % 4) }
+        → result ≡ spec.part_of_word (load_size width) (word m (frame_of at) (word_place at)) (at % 4) }
 {
     match width {
         LoadWidth::Byte | LoadWidth::ByteUnsigned => u32::from(memory.read_byte(at)),
@@ -136,7 +136,7 @@ fn write(memory: &mut PhysMem, at: u32, size: u8, value: u32)
     requires aligned { at % size ≡ 0 }
     requires cut { value < 2 ^ (8 * size) }
     ensures holds { (m : Mem) → Holds memory.old m
-        → Holds memory.new (stored m (frame_of at) (place_of at) size (at % 4) value) }
+        → Holds memory.new (stored m (frame_of at) (word_place at) size (at % 4) value) }
     ensures frames { memory.new.frames ≡ memory.old.frames }
 {
     match size {

@@ -6,12 +6,12 @@ use Rattle.pad_bound.specs.Worst.{IsCloneOf}
 use Rattle.mem_system.specs.Hierarchy.{Hierarchy}
 use Rattle.mem_system.specs.Cost.{Caches, touched_all}
 use Rattle.cache_sharing.specs.Operations.{switch}
-use Rattle.cache_sharing.specs.Worst.{shape_of}
+use Rattle.cache_sharing.specs.Worst.{machine_shape}
 use Rattle.cache_sharing.proofs.Worst.{switch_law}
 use Rattle.domain_switch.specs.Switch.{IsInTime}
 
 pub done_by : (h : Hierarchy) (pinned : Bool) (caches : Caches) (out : Option Layout) (into : Layout) (shared calls old_end now until used : ℕ)
-    → IsCloneOf (shape_of h shared calls) into → old_end ≤ now → IsInTime h caches out into shared calls old_end now until
+    → IsCloneOf (machine_shape h shared calls) into → old_end ≤ now → IsInTime h caches out into shared calls old_end now until
     → used ≡ now + (touched_all h pinned caches (switch h.costs out into)).cost - old_end → old_end + used ≤ until
 unfolding bound_of
 done_by h pinned caches out into shared calls old_end now until used clone ended in_time is =

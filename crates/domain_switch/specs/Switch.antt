@@ -9,7 +9,7 @@ use Rattle.mem_system.specs.Cost.{Caches, Touched}
 use Rattle.mem_system.specs.Contents.{SystemContents, SystemStands}
 use Rattle.cache_sharing.specs.Operations.{shared_region, leave_if}
 use Rattle.cache_sharing.specs.Sharing.{IsSharing, MayTouchAll, KernelIsClean}
-use Rattle.cache_sharing.specs.Worst.{shape_of, HasWays}
+use Rattle.cache_sharing.specs.Worst.{machine_shape, HasWays}
 
 -- the clone of who was running, if anybody was
 abbrev pub layout_if : Option CloneLayout → Option Layout
@@ -30,8 +30,8 @@ pub record IsInTime (h : Hierarchy) (caches : Caches) (out : Option Layout) (int
   pub own : ℕ → Bool
   pub shares : IsSharing h own (shared_region into)
   pub leaves : MayTouchAll h own (shared_region into) (leave_if h.costs out)
-  pub late : now < old_end + (worst_instruction (shape_of h shared calls) + worst_operation (shape_of h shared calls))
-  pub pad : old_end + bound_of (shape_of h shared calls) ≤ until
+  pub late : now < old_end + (worst_instruction (machine_shape h shared calls) + worst_operation (machine_shape h shared calls))
+  pub pad : old_end + bound_of (machine_shape h shared calls) ≤ until
 
 -- its work was begun at a clock: used is the clock after the work less the ended slot's end,
 -- and what is kept stands for the caches that the work leaves

@@ -7,7 +7,7 @@ use Rattle.image_record.specs.declared.refusal.Refusal.{Refusal}
 use Rattle.image_record.specs.Record.{Raw}
 use Rattle.image_record.specs.Cases.{refusal}
 use Rattle.image_record.specs.Numbers.{natural_of}
-use Rattle.hardware_check.specs.Hardware.{Hardware, shape_of, hardware_of, shared_frames, last_shared_frame}
+use Rattle.hardware_check.specs.Hardware.{Hardware, cache_shape_of, hardware_of, shared_frames, last_shared_frame}
 use Rattle.hardware_check.specs.Rules.{k11, room_case, is_region}
 use Rattle.hardware_check.specs.Laws.{HardwareLaw}
 use Rattle.image_record.proofs.FirstCases.{if_first, if_rest}
@@ -69,7 +69,7 @@ hardware_law i k =
       targets = buffer_sound i.targets;
       some_colours = colours.least;
       few_colours = colours.most;
-      whole_colours = whole_frames (shape_of i.l2).sets (natural_of i.line) (power_is (shape_of i.l2).sets parts.l2.sets.power) (power_is (natural_of i.line) parts.line.power) (omega (arith, colours.least));
+      whole_colours = whole_frames (cache_shape_of i.l2).sets (natural_of i.line) (power_is (cache_shape_of i.l2).sets parts.l2.sets.power) (power_is (natural_of i.line) parts.line.power) (omega (arith, colours.least));
       some_shared = region.some;
       few_shared = region.few;
       whole_lines = region.whole;

@@ -13,7 +13,7 @@ use Rattle.image_record.specs.Record.{Raw, RawCache}
 use Rattle.hardware_check.specs.declared.hardware.Policy.TheVariants.{Lru, Fifo, Plru, Nmru}
 use Rattle.image_record.specs.Cases.{first_in, refusal, outside, range_case}
 use Rattle.image_record.specs.Numbers.{IsNatural, natural_of}
-use Rattle.hardware_check.specs.Hardware.{policy_of, shape_of, costs_of, hardware_of, colours_of, is_size, IsSize, IsCache, IsSmallShape}
+use Rattle.hardware_check.specs.Hardware.{policy_of, cache_shape_of, costs_of, hardware_of, colours_of, is_size, IsSize, IsCache, IsSmallShape}
 use Rattle.hardware_check.specs.Rules.{k3, most_frames, k4, k5, k6, k6_cost, costs_in, size_case, history_case, predictor_case, cache_case, ways_case, is_policy, is_uneven_tree, is_region}
 use Rattle.hardware_check.specs.Laws.{KeepsParts}
 use Rattle.image_record.proofs.FirstCases.{or_first, or_rest, if_first, if_rest, first_in_none}
@@ -114,8 +114,8 @@ ways_sound part c n =
       tree = λ e. even tree (is_power_of_two (natural_of c.ways)) uneven (named_tree (bytes_eq c.policy (codes "fifo")) tree (bytes_eq c.policy (codes "nmru")) e);
     }
 
-cache_sound : (part most : ℕ) (c : RawCache) → cache_case part most c ≡ None → IsCache most (shape_of c)
-unfolding cache_case shape_of
+cache_sound : (part most : ℕ) (c : RawCache) → cache_case part most c ≡ None → IsCache most (cache_shape_of c)
+unfolding cache_case cache_shape_of
 cache_sound part most c n =
     let ways = ways_sound part c (or_rest (size_case part 1 most c.sets) (ways_case part c) n) in
     record {
@@ -127,10 +127,10 @@ cache_sound part most c n =
 
 pub record PartsSound (i : Raw) : Type 0 where
   pub line : IsSize 16 128 (natural_of i.line)
-  pub l1i : IsCache 1024 (shape_of i.l1i)
-  pub l1d : IsCache 1024 (shape_of i.l1d)
-  pub l2 : IsCache 16384 (shape_of i.l2)
-  pub tlb : IsCache 256 (shape_of i.tlb)
+  pub l1i : IsCache 1024 (cache_shape_of i.l1i)
+  pub l1d : IsCache 1024 (cache_shape_of i.l1d)
+  pub l2 : IsCache 16384 (cache_shape_of i.l2)
+  pub tlb : IsCache 256 (cache_shape_of i.tlb)
   pub predictor : IsSize 1 4096 (natural_of i.predictor)
   pub history : outside (pos 0) (pos 8) i.history ≡ false
 
@@ -155,7 +155,7 @@ parts_sound i n =
 -- ---- as the code asks for them
 
 pub few_sets : (i : Raw) → k3 i ≡ None → natural_of i.l2.sets ≤ 16384
-unfolding shape_of
+unfolding cache_shape_of
 few_sets i n = (parts_sound i n).l2.sets.most
 
 pub short_line : (i : Raw) → k3 i ≡ None → natural_of i.line ≤ 128
@@ -174,7 +174,7 @@ pub short_history : (i : Raw) → k3 i ≡ None → natural_of i.history ≤ 8
 short_history i n = most_inside 0 8 i.history (parts_sound i n).history
 
 pub l2_natural : (i : Raw) → k3 i ≡ None → IsNatural i.l2.sets
-unfolding shape_of
+unfolding cache_shape_of
 l2_natural i n = let least = (parts_sound i n).l2.sets.least in natural_positive i.l2.sets (omega (arith, least))
 
 -- a product of two such numbers is small
@@ -246,7 +246,7 @@ costs_sound i n =
 
 -- ---- the numbers fit those of the code
 
-small_shape : (most : ℕ) (c : RawCache) → most ≤ 16384 → IsCache most (shape_of c) → IsSmallShape (shape_of c)
+small_shape : (most : ℕ) (c : RawCache) → most ≤ 16384 → IsCache most (cache_shape_of c) → IsSmallShape (cache_shape_of c)
 small_shape most c few cache = record { sets = omega (arith, few, cache.sets.most); ways = omega (arith, cache.few_ways) }
 
 pub record FitsCode (i : Raw) : Type 0 where
@@ -254,12 +254,12 @@ pub record FitsCode (i : Raw) : Type 0 where
   pub line : natural_of i.line < 2 ^ 32
   pub predictor : natural_of i.predictor < 2 ^ 32
   pub history : natural_of i.history < 2 ^ 32
-  pub l1i : IsSmallShape (shape_of i.l1i)
-  pub l1d : IsSmallShape (shape_of i.l1d)
-  pub l2 : IsSmallShape (shape_of i.l2)
-  pub tlb : IsSmallShape (shape_of i.tlb)
+  pub l1i : IsSmallShape (cache_shape_of i.l1i)
+  pub l1d : IsSmallShape (cache_shape_of i.l1d)
+  pub l2 : IsSmallShape (cache_shape_of i.l2)
+  pub tlb : IsSmallShape (cache_shape_of i.tlb)
   pub costs : AreCosts (costs_of i.costs)
-  pub few_colours : (shape_of i.l2).sets * natural_of i.line / 4096 ≤ 64
+  pub few_colours : (cache_shape_of i.l2).sets * natural_of i.line / 4096 ≤ 64
 
 pub fits : (i : Raw) → KeepsParts i → FitsCode i
 unfolding hardware_of

@@ -71,8 +71,8 @@ policy_of s =
     else if bytes_eq s (codes "nmru") then Nmru
     else Lru
 
-unfoldable pub shape_of : RawCache → CacheShape
-shape_of c = record { sets = natural_of c.sets; ways = natural_of c.ways; policy = policy_of c.policy }
+unfoldable pub cache_shape_of : RawCache → CacheShape
+cache_shape_of c = record { sets = natural_of c.sets; ways = natural_of c.ways; policy = policy_of c.policy }
 
 unfoldable pub costs_of : RawCosts → CostTable
 costs_of c = record {
@@ -92,11 +92,11 @@ hardware_of i = record {
   frames = natural_of i.frames;
   shared = natural_of i.shared;
   line = natural_of i.line;
-  l1i = shape_of i.l1i;
-  l1d = shape_of i.l1d;
-  l2 = shape_of i.l2;
+  l1i = cache_shape_of i.l1i;
+  l1d = cache_shape_of i.l1d;
+  l2 = cache_shape_of i.l2;
   back = i.back;
-  tlb = shape_of i.tlb;
+  tlb = cache_shape_of i.tlb;
   predictor = natural_of i.predictor;
   history = natural_of i.history;
   costs = costs_of i.costs;

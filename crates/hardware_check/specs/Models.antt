@@ -29,7 +29,7 @@ hardware_model h = record {
 
 -- the caches are those that an image says
 pub record AreCaches (c : Caches) (i : Raw) : Type 0 where
-  pub l1i : shape_model c.l1i ≡ spec.shape_of i.l1i
-  pub l1d : shape_model c.l1d ≡ spec.shape_of i.l1d
-  pub l2 : shape_model c.l2 ≡ spec.shape_of i.l2
-  pub tlb : shape_model c.tlb ≡ spec.shape_of i.tlb
+  pub l1i : shape_model c.l1i ≡ spec.cache_shape_of i.l1i
+  pub l1d : shape_model c.l1d ≡ spec.cache_shape_of i.l1d
+  pub l2 : shape_model c.l2 ≡ spec.cache_shape_of i.l2
+  pub tlb : shape_model c.tlb ≡ spec.cache_shape_of i.tlb

@@ -5,7 +5,7 @@ ghost use Rattle.image_record.specs.Parts.{cache_model};
 ghost use Rattle.image_record.specs.Cases.{first_in};
 ghost use Rattle.image_record.specs.Numbers.{IsNatural, natural_of as spec_natural_of};
 ghost use Rattle.hardware_check.specs.Hardware.{hardware_of as spec_hardware_of, colours_of};
-ghost use Rattle.hardware_check.specs.Hardware.{policy_of, shape_of};
+ghost use Rattle.hardware_check.specs.Hardware.{policy_of, cache_shape_of};
 ghost use Rattle.hardware_check.specs.Laws.{KeepsParts};
 ghost use Rattle.hardware_check.specs.Models.{AreCaches, shape_model, hardware_model};
 ghost use Rattle.image_record.specs.Outcomes.{IsVerdict};
@@ -53,11 +53,11 @@ fn is_uneven_tree(cache: &RawCache) -> bool
     cache.policy.as_str() == "plru" && !is_power_of_two(cache.ways)
 }
 
-#[tactic(auto, unfolding(crate::specs::Rules::ways_case, crate::specs::Hardware::shape_of), using(image_record::proofs::Ranges::natural_inside, image_record::proofs::Ranges::most_inside))]
+#[tactic(auto, unfolding(crate::specs::Rules::ways_case, crate::specs::Hardware::cache_shape_of), using(image_record::proofs::Ranges::natural_inside, image_record::proofs::Ranges::most_inside))]
 fn ways_case(part: u8, sets: u32, cache: &RawCache) -> Result<CacheShape, Refusal>
     requires sets { sets ≡ spec_natural_of cache.now.sets }
     ensures verdict { IsVerdict result (spec.ways_case part (cache_model cache.now)) }
-    ensures value { IfOk result (λ s. shape_model s ≡ shape_of (cache_model cache.now)) }
+    ensures value { IfOk result (λ s. shape_model s ≡ cache_shape_of (cache_model cache.now)) }
 {
     if outside(1, 16, cache.ways) {
         return Err(refusal(3, i64::from(part), cache.ways, 2));
@@ -78,7 +78,7 @@ fn ways_case(part: u8, sets: u32, cache: &RawCache) -> Result<CacheShape, Refusa
 #[tactic(auto, unfolding(crate::specs::Rules::cache_case))]
 fn cache_case(part: u8, most_sets: u32, cache: &RawCache) -> Result<CacheShape, Refusal>
     ensures verdict { IsVerdict result (spec.cache_case part most_sets (cache_model cache.now)) }
-    ensures value { IfOk result (λ s. shape_model s ≡ shape_of (cache_model cache.now)) }
+    ensures value { IfOk result (λ s. shape_model s ≡ cache_shape_of (cache_model cache.now)) }
 {
     let sets = size_case(part, 1, most_sets, cache.sets)?;
     ways_case(part, sets, cache)
@@ -143,7 +143,7 @@ pub fn k4(raw: &Raw) -> Result<u32, Refusal>
 }
 
 /// The number of page colours, at most 512; K5 asks for 2 to 64.
-#[tactic(auto, unfolding(crate::specs::Hardware::hardware_of, crate::specs::Hardware::shape_of))]
+#[tactic(auto, unfolding(crate::specs::Hardware::hardware_of, crate::specs::Hardware::cache_shape_of))]
 fn colours_in(raw: &Raw) -> u32
     requires parts { spec.k3 (raw_model raw.now) ≡ None }
     ensures value { result ≡ colours_of (spec_hardware_of (raw_model raw.now)) }

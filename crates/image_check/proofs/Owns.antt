@@ -6,15 +6,16 @@ use Rattle.std.specs.List.{list_any}
 use Rattle.std.proofs.lemmas.List.{length-map, get_or-map, get_or-take, get_or_past}
 use Rattle.std.proofs.lemmas.Option.{slice_get_within}
 use Rattle.std.proofs.lemmas.Bool.{cases_Bool, cases_lt, ltb-false, ltb-true, lt-ltb, leb-true, and_parts}
+use Rattle.tp_base.specs.Rights.{rights_with, are_good}
 use Rattle.image_record.specs.Record.{Raw, RawSegment, IsRawSegment, InKeyRanges, raw_domain, no_raw_domain, no_raw_segment}
 use Rattle.image_record.specs.declared.refusal.Refusal.{Refusal}
 use Rattle.image_record.specs.Cases.{first_in, refusal}
 use Rattle.domain_check.specs.declared.capabilities.InitialCap.TheVariants.{None as NoCap, Page, Irq}
-use Rattle.domain_check.specs.Segments.{k12, k12_domain, segment_case, entry_case, bytes_case, bytes_in, bytes_or_none, rights_of, is_rights, share_page, broken}
+use Rattle.domain_check.specs.Segments.{k12, k12_domain, segment_case, entry_case, bytes_case, bytes_in, bytes_or_none, has_read, has_write, has_execute, rights_of, is_rights, share_page, k12_refusal}
 use Rattle.image_check.specs.Pages.{has_page}
 use Rattle.domain_check.specs.Capabilities.{cap_of}
 use Rattle.image_check.specs.Own.{Own, Segment, segment_of, own_from, owns_of, no_own, own_at, no_segment, has_line}
-use Rattle.image_check.specs.Laws.{KeepsBeforePads, AreRights, IsSegment, IsOwn}
+use Rattle.image_check.specs.Laws.{KeepsBeforePads, IsSegment, IsOwn}
 use Rattle.interrupt_check.specs.Interrupts.{k14, moment_of}
 use Rattle.irq_partition.specs.declared.Moment.{Moment}
 use Rattle.set_cache.proofs.Ways.{not_true}
@@ -38,7 +39,7 @@ owns_at i d l = get_or-map own_from i.domains d no_raw_domain no_own l
 bytes_few : (d : ℕ) (earlier : List RawSegment) (s : RawSegment) (bytes : Option (List ℕ)) → bytes_case d earlier s bytes ≡ None → length (bytes_or_none bytes) ≤ s.pages * 4096
 bytes_few d earlier s None n = cc
 bytes_few d earlier s (Some bytes) n =
-    let more : Option Refusal = if list_any (share_page s) earlier then broken d (length earlier) 5 else None in
+    let more : Option Refusal = if list_any (share_page s) earlier then k12_refusal d (length earlier) 5 else None in
     ltb-false (s.pages * 4096) (length bytes) (if_first (nat_lt (s.pages * 4096) (length bytes)) (refusal 12 (pos d) (pos (length earlier)) (pos 4)) more n)
 
 -- by the five texts of rights: r, rw, x, rx, rwx
@@ -57,19 +58,27 @@ rights_read false false true rwx e = refl
 rights_read false false false true e = refl
 rights_read false false false false e = absurd (cc)
 
-rights_sound : (s : RawSegment) → not (is_rights s.rights) ≡ false → AreRights (rights_of s.rights)
+good_with : (read write execute : Bool) → read || execute ≡ true → (write ≡ true → read ≡ true) → are_good (rights_with read write execute) ≡ true
+good_with true true true some reads = refl
+good_with true true false some reads = refl
+good_with true false true some reads = refl
+good_with true false false some reads = refl
+good_with false true execute some reads = absurd (cc (reads refl))
+good_with false false true some reads = refl
+good_with false false false some reads = absurd (cc)
+
+rights_sound : (s : RawSegment) → not (is_rights s.rights) ≡ false → are_good (rights_of s.rights) ≡ true
 rights_sound s e =
     let is = λ (text : List ℕ). bytes_eq s.rights text in
-    record {
-      some = rights_some (is (codes "r")) (is (codes "rw")) (is (codes "x")) (is (codes "rx")) (is (codes "rwx")) e;
-      write_reads = rights_read (is (codes "r")) (is (codes "rw")) (is (codes "rx")) (is (codes "rwx"));
-    }
+    good_with (has_read s.rights) (has_write s.rights) (has_execute s.rights)
+    (rights_some (is (codes "r")) (is (codes "rw")) (is (codes "x")) (is (codes "rx")) (is (codes "rwx")) e)
+    (rights_read (is (codes "r")) (is (codes "rw")) (is (codes "rx")) (is (codes "rwx")))
 
 segment_sound : (d : ℕ) (earlier : List RawSegment) (s : RawSegment) → segment_case d earlier s ≡ None → IsRawSegment s → IsSegment (segment_of s)
 unfolding segment_case segment_of
 segment_sound d earlier s n ranges =
     let bytes = bytes_case d earlier s (bytes_in s.hex) in
-    let later : Option Refusal = if not (is_rights s.rights) then broken d (length earlier) 2 else bytes in
+    let later : Option Refusal = if not (is_rights s.rights) then k12_refusal d (length earlier) 2 else bytes in
     let first = refusal 12 (pos d) (pos (length earlier)) (pos 1) in
     let second = refusal 12 (pos d) (pos (length earlier)) (pos 2) in
     record {
@@ -85,7 +94,7 @@ no_segment_sound = record {
   page = omega arith;
   some = omega arith;
   few = omega arith;
-  rights = record { some = refl; write_reads = λ e. refl };
+  rights = refl;
   bytes = omega arith;
 }
 
@@ -102,7 +111,7 @@ segments_sound d ss n ranges k = either (cases_lt k (length ss))
 none_shared : (d : ℕ) (earlier : List RawSegment) (s : RawSegment) (bytes : Option (List ℕ)) → bytes_case d earlier s bytes ≡ None → list_any (share_page s) earlier ≡ false
 none_shared d earlier s None n = absurd (cc n)
 none_shared d earlier s (Some bytes) n =
-    let shared : Option Refusal = if list_any (share_page s) earlier then broken d (length earlier) 5 else None in
+    let shared : Option Refusal = if list_any (share_page s) earlier then k12_refusal d (length earlier) 5 else None in
     if_first (list_any (share_page s) earlier) (refusal 12 (pos d) (pos (length earlier)) (pos 5)) None
     (if_rest (nat_lt (s.pages * 4096) (length bytes)) (refusal 12 (pos d) (pos (length earlier)) (pos 4)) shared n)
 
@@ -110,7 +119,7 @@ shares_none : (d : ℕ) (earlier : List RawSegment) (s : RawSegment) → segment
 unfolding segment_case
 shares_none d earlier s n =
     let bytes = bytes_case d earlier s (bytes_in s.hex) in
-    let later : Option Refusal = if not (is_rights s.rights) then broken d (length earlier) 2 else bytes in
+    let later : Option Refusal = if not (is_rights s.rights) then k12_refusal d (length earlier) 2 else bytes in
     let first = refusal 12 (pos d) (pos (length earlier)) (pos 1) in
     let second = refusal 12 (pos d) (pos (length earlier)) (pos 2) in
     none_shared d earlier s (bytes_in s.hex) (if_rest (not (is_rights s.rights)) second bytes (if_rest (nat_lt 1048576 (s.page + s.pages)) first later n))

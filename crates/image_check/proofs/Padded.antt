@@ -24,7 +24,7 @@ use Rattle.hardware_check.proofs.Built.{hardware_law}
 use Rattle.image_record.proofs.FirstCases.{if_first, first_in_none}
 use Rattle.domain_check.specs.Calls.{own_calls}
 use Rattle.image_check.specs.Own.{own_from, owns_of, own_at}
-use Rattle.image_check.specs.Pads.{most_added, shape_for, shape_of, bound_out_of, k17, k17_case, k17_entry, k17_by}
+use Rattle.image_check.specs.Pads.{most_added, shape_for, shape_for_every_call, bound_out_of, k17, k17_case, k17_entry, k17_by}
 use Rattle.image_check.specs.Public.{entry_of}
 use Rattle.image_check.specs.Laws.{Keeps, KeepsBeforePads, ShapeLaw}
 use Rattle.image_check.proofs.Kept.{kept_but_pads, keeps_hardware}
@@ -119,11 +119,11 @@ same_cases : {A R : Type 0} (f g : List A → A → Option R) → ((earlier : Li
 same_cases f g same earlier [] = refl
 same_cases f g same earlier (x ∷ xs) = ap₂ (λ (o rest : Option _). or_else o rest) (same earlier x) (same_cases f g same (earlier ++ x ∷ []) xs)
 
-by_calls : (i : Raw) (earlier : List RawEntry) (e : RawEntry) → k17_by (shape_of (hardware_of i)) (map own_calls i.domains) earlier e ≡ k17_entry i earlier e
+by_calls : (i : Raw) (earlier : List RawEntry) (e : RawEntry) → k17_by (shape_for_every_call (hardware_of i)) (map own_calls i.domains) earlier e ≡ k17_entry i earlier e
 unfolding bound_out_of owns_of
 by_calls i earlier e =
     ap (λ (calls : ℕ). k17_case (bound_of (shape_for (hardware_of i) calls)) (length earlier) e) (sym (calls_at i.domains (natural_of e.domain)))
 
-pub k17_by_calls : (i : Raw) → first_in (k17_by (shape_of (hardware_of i)) (map own_calls i.domains)) i.schedule ≡ k17 i
+pub k17_by_calls : (i : Raw) → first_in (k17_by (shape_for_every_call (hardware_of i)) (map own_calls i.domains)) i.schedule ≡ k17 i
 unfolding k17
-k17_by_calls i = same_cases (k17_by (shape_of (hardware_of i)) (map own_calls i.domains)) (k17_entry i) (by_calls i) [] i.schedule
+k17_by_calls i = same_cases (k17_by (shape_for_every_call (hardware_of i)) (map own_calls i.domains)) (k17_entry i) (by_calls i) [] i.schedule

@@ -1,11 +1,11 @@
 -- What an image that breaks no rule is: no rule has a broken case, and in natural numbers it can be run.
-use Rattle.std.specs.Prelude.{◌≡◌, ◌≢◌, ℕ, ◌+◌, ◌*◌, ◌<◌, ◌≤◌, ◌^◌, ◌||◌, ◌⊎◌, ◌↔◌, true, false, List, [], ◌∷◌, length, map, slice_get, Some, None}
+use Rattle.std.specs.Prelude.{◌≡◌, ◌≢◌, ℕ, ◌+◌, ◌*◌, ◌<◌, ◌≤◌, ◌^◌, ◌⊎◌, ◌↔◌, true, false, List, [], ◌∷◌, length, map, slice_get, Some, None}
 use Rattle.std.specs.List.{enumerate_from}
+use Rattle.tp_base.specs.Rights.{are_good}
 use Rattle.image_record.specs.Record as text
 use Rattle.image_record.specs.Record.{InKeyRanges}
 use Rattle.irq_partition.specs.declared.Moment.{Moment}
 use Rattle.irq_partition.specs.Interrupts.{AreMoments}
-use Rattle.domain_check.specs.declared.segments.Rights.{Rights}
 use Rattle.domain_check.specs.declared.capabilities.InitialCap.TheVariants.{Page, Irq}
 use Rattle.frame_colours.specs.Colours.{AreDisjoint, pool}
 use Rattle.hardware_check.specs.Hardware.{IsHardware, colours_of, hardware_of}
@@ -94,16 +94,11 @@ ExtensionsLaw = (i : text.Raw) → broken_but_pads i ≡ [] → HasExtensions i 
 abbrev pub OneHartLaw : Type 0
 OneHartLaw = (i : text.Raw) → let es = (image_from i).all.schedule in entries_on es 0 ≡ enumerate_from 0 es
 
--- a page has some right, and one that is written is read, too
-pub record AreRights (r : Rights) : Type 0 where
-  pub some : r.read || r.execute ≡ true
-  pub write_reads : r.write ≡ true → r.read ≡ true
-
 pub record IsSegment (s : Segment) : Type 0 where
   pub page : s.page + s.pages ≤ 2 ^ 20
   pub some : 1 ≤ s.pages
   pub few : s.pages ≤ 64
-  pub rights : AreRights s.rights
+  pub rights : are_good s.rights ≡ true
   pub bytes : length s.bytes ≤ s.pages * 4096
 
 pub record IsOwn (o : Own) : Type 0 where

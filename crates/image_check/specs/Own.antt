@@ -1,5 +1,5 @@
 -- What is one domain's own in an image.
-use Rattle.std.specs.Prelude.{ℕ, Bool, true, false, List, [], map, slice_index_or}
+use Rattle.std.specs.Prelude.{ℕ, Bool, List, [], map, slice_index_or}
 use Rattle.std.specs.List.{All}
 use Rattle.irq_partition.specs.declared.Moment.{Moment}
 use Rattle.frame_colours.specs.Colours.{has}
@@ -50,7 +50,7 @@ abbrev pub own_at : List Own → ℕ → Own
 own_at owns d = slice_index_or owns d no_own
 
 abbrev pub no_segment : Segment
-no_segment = record { page = 0; pages = 1; rights = record { read = true; write = false; execute = false }; bytes = [] }
+no_segment = record { page = 0; pages = 1; rights = 1; bytes = [] }
 
 abbrev pub segment_at : Own → ℕ → Segment
 segment_at o k = slice_index_or o.segments k no_segment

@@ -28,8 +28,8 @@ shape_for h calls = record {
 }
 
 -- where it may make every call
-abbrev pub shape_of : Hardware → MachineShape
-shape_of h = shape_for h every_call
+abbrev pub shape_for_every_call : Hardware → MachineShape
+shape_for_every_call h = shape_for h every_call
 
 -- the bound on the switch out of a domain's slot
 unfoldable pub bound_out_of : Raw → ℤ → ℕ

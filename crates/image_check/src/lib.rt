@@ -16,7 +16,7 @@ mod unpadded;
 
 pub use checked::{Checked, check};
 /// The parts of a domain, which the rules of `domain_check` let through.
-pub use domain_check::{InitialCap, Rights, Segment};
+pub use domain_check::{InitialCap, Segment};
 /// When an interrupt comes.
 pub use irq_partition::Moment;
 /// The machine, which the rules of `hardware_check` let through.

@@ -61,9 +61,9 @@ pub fn shape_for(hardware: &Hardware, calls: u32) -> Shape
 }
 
 /// The same, where the domain may make every call.
-pub fn shape_of(hardware: &Hardware) -> Shape
+pub fn shape_for_every_call(hardware: &Hardware) -> Shape
     requires line { 16 ≤ hardware.now.line }
-    ensures value { shape_model result ≡ spec.shape_of (hardware_model hardware.now) }
+    ensures value { shape_model result ≡ spec.shape_for_every_call (hardware_model hardware.now) }
 {
     shape_for(hardware, EVERY_CALL)
 }
@@ -114,5 +114,9 @@ pub fn k17(hardware: &Hardware, calls: &[u32], raw: &Raw) -> Result<(), Refusal>
     requires calls { calls.now ≡ map own_calls (raw_model raw.now).domains }
     ensures verdict { IsVerdict result (spec.k17 (raw_model raw.now)) }
 {
-    k17_entries(&shape_of(hardware), calls, raw.schedule.as_slice())
+    k17_entries(
+        &shape_for_every_call(hardware),
+        calls,
+        raw.schedule.as_slice(),
+    )
 }

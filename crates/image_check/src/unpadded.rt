@@ -16,7 +16,7 @@ ghost use Rattle.image_check.specs.Models.{hardware_model, public_model, own_mod
 ghost use Rattle.image_check.specs.Pads as spec;
 
 use crate::own::{Own, owns_of};
-use crate::pads::shape_of;
+use crate::pads::shape_for_every_call;
 use crate::parts::{Parts, parts_of};
 use crate::public::{Public, public_of};
 use crate::{CheckRefusal, laws};
@@ -66,10 +66,10 @@ impl Unpadded {
     /// What of its machine the bound on a switch depends on, where a domain leaves
     /// that may make every call.
     pub fn shape(&self) -> Shape
-        ensures value { shape_model result ≡ spec.shape_of (image_from self.now).all.hardware }
+        ensures value { shape_model result ≡ spec.shape_for_every_call (image_from self.now).all.hardware }
         ensures sound { IsShape (shape_model result) }
     {
-        shape_of(&self.public.hardware)
+        shape_for_every_call(&self.public.hardware)
     }
 
     /// What all domains may know.

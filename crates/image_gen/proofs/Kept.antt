@@ -15,7 +15,7 @@ use Rattle.frame_colours.specs.Colours.{pool}
 use Rattle.image_record.specs.Record.{Raw, RawDomain, RawEntry, RawMoment}
 use Rattle.image_record.specs.Cases.{or_else, first_case, first_in, outside}
 use Rattle.image_record.specs.Numbers.{natural_of, names}
-use Rattle.hardware_check.specs.Hardware.{hardware_of, shape_of, costs_of}
+use Rattle.hardware_check.specs.Hardware.{hardware_of, cache_shape_of, costs_of}
 use Rattle.hardware_check.specs.Rules.{k3, k4, k5, k6, k11, cache_case, ways_case, predictor_case, is_region, room_case}
 use Rattle.hardware_check.specs.Extensions.{k22}
 use Rattle.image_check.specs.Own.{segment_of}
@@ -168,7 +168,7 @@ unfolding k4 image_with
 frames_kept p ds es = refl
 
 colours_kept : (p : List ℕ) (ds : List RawDomain) (es : List RawEntry) → k5 (image_with p ds es) ≡ None
-unfolding k5 image_with hardware_of shape_of costs_of
+unfolding k5 image_with hardware_of cache_shape_of costs_of
 colours_kept p ds es = refl
 
 costs_kept : (p : List ℕ) (ds : List RawDomain) (es : List RawEntry) → k6 (image_with p ds es) ≡ None
@@ -176,7 +176,7 @@ unfolding k6 image_with
 costs_kept p ds es = refl
 
 shared_kept : (p : List ℕ) (ds : List RawDomain) (es : List RawEntry) → k11 (image_with p ds es) ≡ None
-unfolding k11 is_region room_case image_with hardware_of shape_of costs_of
+unfolding k11 is_region room_case image_with hardware_of cache_shape_of costs_of
 shared_kept p ds es = refl
 
 extensions_kept : (p : List ℕ) (ds : List RawDomain) (es : List RawEntry) → k22 (image_with p ds es) ≡ None
@@ -185,7 +185,7 @@ extensions_kept p ds es = refl
 
 -- where a domain leaves that may make every call
 bound_is : (p : List ℕ) (ds : List RawDomain) (es : List RawEntry) → bound_of (shape_for (hardware_of (image_with p ds es)) every_call) ≡ 6150
-unfolding image_with hardware_of shape_of costs_of bound_of worst_instruction worst_operation worst_leave worst_prefetch worst_flush worst_enter most_written may_make
+unfolding image_with hardware_of cache_shape_of costs_of bound_of worst_instruction worst_operation worst_leave worst_prefetch worst_flush worst_enter most_written may_make
 bound_is p ds es = refl
 
 -- ---- calls
@@ -221,7 +221,7 @@ module _ (p : List ℕ) (h : ℕ → List ℕ) (m : ℕ → List RawMoment) (es 
   names_kept = by_count (λ n. k7 (image n) ≡ None) refl refl refl refl seed
 
   colour_lists_kept : k8_in_machine (image (count seed)) ≡ None
-  unfolding k8 k8_colour image_with domain_with hardware_of shape_of costs_of
+  unfolding k8 k8_colour image_with domain_with hardware_of cache_shape_of costs_of
   colour_lists_kept = by_count (λ n. k8_in_machine (image n) ≡ None) refl refl refl refl seed
 
   apart_kept : k9 (image (count seed)) ≡ None
@@ -229,7 +229,7 @@ module _ (p : List ℕ) (h : ℕ → List ℕ) (m : ℕ → List RawMoment) (es 
   apart_kept = by_count (λ n. k9 (image n) ≡ None) refl refl refl refl seed
 
   pools_kept : k10_in_machine (image (count seed)) ≡ None
-  unfolding k10 k10_case image_with domain_with hardware_of shape_of costs_of pool segment_of regions_below has_region pages_in
+  unfolding k10 k10_case image_with domain_with hardware_of cache_shape_of costs_of pool segment_of regions_below has_region pages_in
   pools_kept = by_count (λ n. k10_in_machine (image n) ≡ None) refl refl refl refl seed
 
   capabilities_kept : k13 (image (count seed)) ≡ None

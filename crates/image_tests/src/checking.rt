@@ -2,14 +2,15 @@
 // image that is accepted, with what it says.
 use cycle_cost::Costs;
 use image_check::{
-    CacheShape, CheckRefusal, Checked, Entry, Hardware, InitialCap, Moment, Own, Policy, Rights,
-    check, check_but_pads,
+    CacheShape, CheckRefusal, Checked, Entry, Hardware, InitialCap, Moment, Own, Policy, check,
+    check_but_pads,
 };
 use image_record::Refusal;
 use image_text::read_image;
 use pad_bound::bound;
 use std::alloc::Global;
 use std::process::Abort;
+use tp_base::Rights;
 
 mod calls;
 mod cases;
@@ -187,11 +188,7 @@ fn is_blue(rt: &impl Abort, own: &Own) {
         .iter()
         .zip([(16, 1, false), (32, 3, true)])
     {
-        let rights = Rights {
-            read: true,
-            write,
-            execute: !write,
-        };
+        let rights = Rights::with(true, write, !write);
         assert_eq!(rt;
             (segment.page, segment.pages, segment.rights),
             (page, pages, rights)

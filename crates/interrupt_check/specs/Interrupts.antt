@@ -45,8 +45,8 @@ pub record AreSmall (lines : List ℤ) : Type 0 where
 -- ---- K15: at most 1,024 moments, each of a line of the domain and above the one before
 
 -- domain d, the moment's place or how many there are, and the case
-abbrev pub broken : ℕ → ℕ → ℕ → Option Refusal
-broken d found case = Some (refusal 15 (pos d) (pos found) (pos case))
+abbrev pub k15_refusal : ℕ → ℕ → ℕ → Option Refusal
+k15_refusal d found case = Some (refusal 15 (pos d) (pos found) (pos case))
 
 -- later, or at the same cycle of a greater line
 abbrev pub is_above : RawMoment → RawMoment → Bool
@@ -55,19 +55,19 @@ is_above x y = int_lt y.at x.at || (is_same y.at x.at && int_lt y.line x.line)
 -- 4: not above the one before
 abbrev pub order_case : ℕ → ℕ → RawMoment → Option RawMoment → Option Refusal
 order_case d place x None = None
-order_case d place x (Some y) = if is_above x y then None else broken d place 4
+order_case d place x (Some y) = if is_above x y then None else k15_refusal d place 4
 
 -- 2: no cycle from 0 to 1,000,000,000,000; 3: none of the domain's lines
 unfoldable pub k15_moment : List ℤ → ℕ → List RawMoment → RawMoment → Option Refusal
 k15_moment lines d earlier x =
-    if outside (pos 0) (pos 1000000000000) x.at then broken d (length earlier) 2
-    else if not (names lines x.line) then broken d (length earlier) 3
+    if outside (pos 0) (pos 1000000000000) x.at then k15_refusal d (length earlier) 2
+    else if not (names lines x.line) then k15_refusal d (length earlier) 3
     else order_case d (length earlier) x (slice_get earlier (length earlier - 1))
 
 -- 1: more than 1,024 moments
 unfoldable pub k15_domain : List RawDomain → RawDomain → Option Refusal
 k15_domain earlier o =
-    if nat_lt 1024 (length o.moments) then broken (length earlier) (length o.moments) 1
+    if nat_lt 1024 (length o.moments) then k15_refusal (length earlier) (length o.moments) 1
     else first_in (k15_moment o.lines (length earlier)) o.moments
 
 unfoldable pub k15 : Raw → Option Refusal

@@ -5,23 +5,23 @@ use Rattle.std.proofs.lemmas.Bool.Decides.{nat_tests}
 use Rattle.std.proofs.lemmas.Option.{slice_get_within}
 use Rattle.std.proofs.Math.ListN.{length-set}
 use Rattle.irq_partition.specs.declared.Moment.{Moment}
-use Rattle.irq_partition.specs.Interrupts.{Interrupts, AreInterrupts, IsBefore, AreMoments, opening, next_of, line_by, due, delivered, after_deliveries, with_bit}
+use Rattle.irq_partition.specs.Interrupts.{Interrupts, AreInterrupts, IsBefore, AreMoments, none_delivered, next_of, line_by, due, delivered, after_deliveries, with_bit}
 
 -- so many are delivered, and no bit is set
 abbrev with_delivered : List Moment → ℕ → Interrupts
 with_delivered moments n = record { moments = moments; delivered = n; bits = replicate 32 false }
 
-after-n : (moments : List Moment) (n : ℕ) → after_deliveries n (opening moments) ≡ with_delivered moments n
-unfolding after_deliveries opening delivered
+after-n : (moments : List Moment) (n : ℕ) → after_deliveries n (none_delivered moments) ≡ with_delivered moments n
+unfolding after_deliveries none_delivered delivered
 after-n moments zero = refl
 after-n moments (suc n) = ap delivered (after-n moments n) ∙ ap (with_delivered moments) (add-one n)
 
-pub next-after : (moments : List Moment) (n : ℕ) → next_of (after_deliveries n (opening moments)) ≡ slice_get moments n
+pub next-after : (moments : List Moment) (n : ℕ) → next_of (after_deliveries n (none_delivered moments)) ≡ slice_get moments n
 next-after moments n = ap (λ (s : Interrupts). next_of s) (after-n moments n)
 
 pub later : (moments : List Moment) → AreMoments moments → (m n : ℕ) (x y : Moment) → m < n
-    → next_of (after_deliveries m (opening moments)) ≡ Some x
-    → next_of (after_deliveries n (opening moments)) ≡ Some y → IsBefore x y
+    → next_of (after_deliveries m (none_delivered moments)) ≡ Some x
+    → next_of (after_deliveries n (none_delivered moments)) ≡ Some y → IsBefore x y
 later moments sound m n x y below first second =
     sound.ascend m n x y below (sym (next-after moments m) ∙ first) (sym (next-after moments n) ∙ second)
 
@@ -46,8 +46,8 @@ pub due-Some : (s : Interrupts) (now line : ℕ) → due now s ≡ Some line
 unfolding due
 due-Some s now line e = line_by-Some now line (next_of s) e
 
-pub opening-sound : (moments : List Moment) → AreMoments moments → AreInterrupts (opening moments)
-unfolding opening
+pub opening-sound : (moments : List Moment) → AreMoments moments → AreInterrupts (none_delivered moments)
+unfolding none_delivered
 opening-sound moments sound = record { moments = sound; delivered = omega arith; lines = refl }
 
 pub with_bit-sound : (s : Interrupts) (line : ℕ) (bit : Bool) → AreInterrupts s → AreInterrupts (with_bit s line bit)

@@ -23,8 +23,8 @@ pub record AreInterrupts (s : Interrupts) : Type 0 where
   pub lines : length s.bits ≡ 32
 
 -- none is delivered, and no bit is set
-unfoldable pub opening : List Moment → Interrupts
-opening moments = record { moments = moments; delivered = 0; bits = replicate 32 false }
+unfoldable pub none_delivered : List Moment → Interrupts
+none_delivered moments = record { moments = moments; delivered = 0; bits = replicate 32 false }
 
 -- ---- moments
 

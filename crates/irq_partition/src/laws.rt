@@ -5,7 +5,7 @@ ghost use Rattle.irq_partition.specs.Interrupts.{
   IsBefore,
   AreMoments,
   AreInterrupts,
-  opening,
+  none_delivered,
   next_of,
   due,
   delivered,
@@ -20,11 +20,11 @@ use crate::Moment;
 /// what is delivered after another is later, or at its cycle of a greater line.
 pub fn moments_in_order()
     ensures each { (moments : List Moment) (n : ℕ)
-        → next_of (after_deliveries n (opening moments)) ≡ slice_get moments n }
+        → next_of (after_deliveries n (none_delivered moments)) ≡ slice_get moments n }
     ensures later { (moments : List Moment) → AreMoments moments → (m n : ℕ) (x y : Moment) → m < n
-        → next_of (after_deliveries m (opening moments)) ≡ Some x
-        → next_of (after_deliveries n (opening moments)) ≡ Some y → IsBefore x y }
-    ensures opening { (moments : List Moment) → AreMoments moments → AreInterrupts (opening moments) }
+        → next_of (after_deliveries m (none_delivered moments)) ≡ Some x
+        → next_of (after_deliveries n (none_delivered moments)) ≡ Some y → IsBefore x y }
+    ensures opening { (moments : List Moment) → AreMoments moments → AreInterrupts (none_delivered moments) }
     ensures sound { (s : Interrupts) (x : Moment) → AreInterrupts s → next_of s ≡ Some x
         → AreInterrupts (delivered s) }
 {}

@@ -7,7 +7,7 @@ ghost use Rattle.irq_partition.specs.Interrupts.{
   Interrupts,
   AreMoments,
   AreInterrupts,
-  opening,
+  none_delivered,
   next_of,
   next_cycle,
   due,
@@ -60,10 +60,10 @@ impl IrqPart {
     /// # Errors
     ///
     /// `Memory`, where memory ran out.
-    #[tactic(auto, unfolding(crate::specs::Interrupts::opening))]
+    #[tactic(auto, unfolding(crate::specs::Interrupts::none_delivered))]
     pub fn new(alloc: Global, moments: &[Moment]) -> Result<Self, Memory>
         requires moments { AreMoments moments.now }
-        ensures opening { IfOk result (λ irqs. irqs ≡ opening moments.now) }
+        ensures opening { IfOk result (λ irqs. irqs ≡ none_delivered moments.now) }
     {
         let moments = Vec::from_slice(alloc, moments)?;
         Ok(IrqPart {

@@ -16,7 +16,7 @@ use Rattle.cap_table.specs.declared.Cap.{Cap}
 use Rattle.cap_table.specs.declared.Cap.TheVariants as cap
 use Rattle.cap_table.specs.Slots.{cap_at, mapped_at, installed_at, in_use, revoked, revoked_count}
 use Rattle.call_table.specs.Domain.{Dom, refused, done, with_caps}
-use Rattle.call_table.specs.Claims.{Estate, place_of, region_of, claim_of, IsEstate}
+use Rattle.call_table.specs.Claims.{Estate, entry_places, region_of, claim_of, IsEstate}
 use Rattle.call_table.specs.Calls.{Note, Act, with_slot, clear_entry, unmap_at, uninstall_at, empty_buffer, filled, drop_slot, delete, emptied_at, unmap_all, revoke}
 use Rattle.call_table.specs.Calls as calls
 use Rattle.call_table.specs.Laws.{Kept}
@@ -104,7 +104,7 @@ module _ (root : ℕ) (u v : Option ℕ) (m : Mem) (memory : Contents) (work : W
 
 module _ (e : Estate) (d : Dom) (m : Mem) (h : Kept e d m) (i : ℕ) where
   pub has_leaf : (f rights va : ℕ) → cap_at d.caps i ≡ Some (cap.Frame f rights (Some va)) → has_page m e.root va ≡ true
-  unfolding claim_of place_of
+  unfolding claim_of entry_places
   has_leaf f rights va is =
       let l = h.facts.mapped i true f (vpn_1 va) (vpn_0 va) (claim_at e d.caps i (cap.Frame f rights (Some va)) is) in
       let root : valid (word m e.root (vpn_1 va)) ≡ true = ap valid (h.facts.installed l.slot l.frame (vpn_1 va) l.claim) ∙ table_valid l.frame in

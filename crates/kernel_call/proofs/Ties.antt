@@ -18,7 +18,7 @@ use Rattle.cap_table.specs.declared.Cap.{Cap}
 use Rattle.cap_table.specs.declared.Cap.TheVariants as cap
 use Rattle.cap_table.specs.Slots.{Slots, cap_at, with_cap}
 use Rattle.call_table.specs.Domain.{Dom, done, refused}
-use Rattle.call_table.specs.Claims.{Claim, Claims, Estate, is_mine, frame_of, claim_of, claims, place_of, region_of, is_named, free_frames, IsMapped}
+use Rattle.call_table.specs.Claims.{Claim, Claims, Estate, is_mine, frame_of, claim_of, claims, entry_places, region_of, is_named, free_frames, IsMapped}
 use Rattle.call_table.specs.Calls.{Note, work_of, filled}
 use Rattle.call_table.specs.Laws.{Kept, IsMine, IsPageFrame}
 use Rattle.call_table.specs.declared.Reply.{Reply}
@@ -192,7 +192,7 @@ module _ (memory : Contents) (d : Domain) (v : Valid memory d) where
   page_there : (a f rights : ℕ) (w : Option ℕ) → a < 64 → cap_at d.caps a ≡ Some (cap.Frame f rights w) → IsPageFrame v.estate dom v.mem f
   unfolding dom claim_of
   page_there a f rights w below there =
-      page_frame v.estate dom v.mem kept a f true (place_of w) (claim_there a (Some (cap.Frame f rights w)) below there)
+      page_frame v.estate dom v.mem kept a f true (entry_places w) (claim_there a (Some (cap.Frame f rights w)) below there)
 
   pub page_below : (a f rights : ℕ) (w : Option ℕ) → a < 64 → cap_at d.caps a ≡ Some (cap.Frame f rights w) → f < memory.frames
   page_below a f rights w below there = in_memory f (page_there a f rights w below there).own
@@ -204,7 +204,7 @@ module _ (memory : Contents) (d : Domain) (v : Valid memory d) where
   -- a page that is mapped
   pub page_mapped : (a f rights va : ℕ) → a < 64 → cap_at d.caps a ≡ Some (cap.Frame f rights (Some va))
       → StandsWith memory (λ m. has_page m d.map va ≡ true)
-  unfolding dom claim_of place_of
+  unfolding dom claim_of entry_places
   page_mapped a f rights va below there =
       let claim : claims v.estate d.caps a ≡ Claim.Leaf true f (Some (vpn_1 va, vpn_0 va)) =
       claim_there a (Some (cap.Frame f rights (Some va))) below there in

@@ -11,7 +11,7 @@ use Rattle.phys_mem.specs.Contents.{Contents}
 use Rattle.phys_mem.specs.Mem.{Mem}
 use Rattle.kernel_clone.specs.declared.operation.Call.{Call}
 use Rattle.kernel_clone.specs.declared.operation.Call.TheVariants as call
-use Rattle.kernel_clone.specs.Footprints.{WorkDone, number_of, bad_call_op}
+use Rattle.kernel_clone.specs.Footprints.{WorkDone, call_number, bad_call_op}
 use Rattle.kernel_clone.specs.declared.Work.{Work}
 use Rattle.kernel_clone.specs.Models.{work_model, IsWork}
 use Rattle.cap_table.specs.Slots.{Slots}
@@ -45,8 +45,8 @@ performed number k e old new memory readings replies m result a b c r is same en
     (subst (λ (r : act.Done Mem Note Dom Dom). Ends k e old new memory readings replies result r) (sym same) ends)
 
 -- the last call on memory, where it is none of the others
-pub last_on_memory : (c : Call) → 0 < number_of c → number_of c ≤ 8 → c ≢ call.Put → c ≢ call.Alloc → c ≢ call.Table → c ≢ call.Map
-    → c ≢ call.Unmap → c ≢ call.Copy → c ≢ call.Delete → number_of c ≡ 8
+pub last_on_memory : (c : Call) → 0 < call_number c → call_number c ≤ 8 → c ≢ call.Put → c ≢ call.Alloc → c ≢ call.Table → c ≢ call.Map
+    → c ≢ call.Unmap → c ≢ call.Copy → c ≢ call.Delete → call_number c ≡ 8
 last_on_memory call.Exit some few p a t m u k d = absurd (omega (arith, some))
 last_on_memory call.Put some few p a t m u k d = absurd (p refl)
 last_on_memory call.Alloc some few p a t m u k d = absurd (a refl)
@@ -64,7 +64,7 @@ last_on_memory call.Yield some few p a t m u k d = absurd (omega (arith, few))
 last_on_memory call.EndThread some few p a t m u k d = absurd (omega (arith, few))
 
 -- the operation of a call's number is its own, and that of any other number one of a bad call
-pub own_op : (c : Call) → op_of (number_of c) ≡ number_of c
+pub own_op : (c : Call) → op_of (call_number c) ≡ call_number c
 own_op call.Exit = refl
 own_op call.Put = refl
 own_op call.Alloc = refl

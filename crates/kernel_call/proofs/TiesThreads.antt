@@ -14,7 +14,7 @@ use Rattle.cap_table.specs.declared.Cap.TheVariants as cap
 use Rattle.cap_table.specs.Slots.{cap_at}
 use Rattle.call_table.specs.Domain.{Dom, reply_past, recorded, replied, done, refused, is_set, with_bit, signalled_by, signalled, turned, waiting, with_spawned}
 use Rattle.call_table.specs.Claims.{Estate}
-use Rattle.kernel_clone.specs.Footprints.{number_of}
+use Rattle.kernel_clone.specs.Footprints.{call_number}
 use Rattle.kernel_clone.specs.declared.operation.Call.{Call}
 use Rattle.kernel_clone.specs.declared.operation.Call.TheVariants as call
 use Rattle.call_table.specs.Calls.{Note, Act, filled, line_in, line_at, bit_value, poll, waited, wait, signal, spawn, call_of}
@@ -223,8 +223,8 @@ answered_by number k e d a b c m before reply new r is same h =
     (subst (IsAnswered m before reply new) (sym same) h)
 
 -- the last call that leaves memory alone, where it is none of the others
-pub last_without_memory : (c : Call) → (0 < number_of c → 8 < number_of c) → c ≢ call.Exit → c ≢ call.Poll → c ≢ call.Wait → c ≢ call.Signal
-    → c ≢ call.Spawn → c ≢ call.Yield → number_of c ≡ 14
+pub last_without_memory : (c : Call) → (0 < call_number c → 8 < call_number c) → c ≢ call.Exit → c ≢ call.Poll → c ≢ call.Wait → c ≢ call.Signal
+    → c ≢ call.Spawn → c ≢ call.Yield → call_number c ≡ 14
 last_without_memory call.Exit later x p w s n y = absurd (x refl)
 last_without_memory call.Put later x p w s n y = let above = later (omega arith) in absurd (omega (arith, above))
 last_without_memory call.Alloc later x p w s n y = let above = later (omega arith) in absurd (omega (arith, above))

@@ -1,6 +1,6 @@
 // The kernel call that a domain makes.
 ghost use Rattle.std.specs.Prelude.{◌≡◌, ◌≢◌, ◌^◌, ◌<◌, ◌≤◌, ◌||◌, nat_eq, nat_lt, true, IfErr, IfNone, IfSome, slice_index};
-ghost use Rattle.kernel_clone.specs.Footprints.{number_of};
+ghost use Rattle.kernel_clone.specs.Footprints.{call_number};
 ghost use Rattle.kernel_clone.specs.Models.{work_model, IsWork};
 ghost use Rattle.kernel_clone.specs.Permissions.{may_make, permitted as spec_permitted};
 ghost use Rattle.pad_bound.specs.Worst.{IsCallWork, IsPermitted};
@@ -41,7 +41,7 @@ fn put_byte(domain: &mut Domain, memory: &PhysMem, a: u32) -> Result<Done, CallE
 // Whether a call leaves memory, frames and slots alone: one that ends the
 // domain, or is on interrupt lines or threads.
 fn leaves_memory(call: Call) -> bool
-    ensures value { result ≡ (nat_eq (number_of call) 0 || nat_lt 8 (number_of call)) }
+    ensures value { result ≡ (nat_eq (call_number call) 0 || nat_lt 8 (call_number call)) }
 {
     !matches!(
         call,
@@ -64,10 +64,11 @@ fn perform(
     args: [u32; 3],
 ) -> Result<Done, CallError>
     requires valid { Valid memory.old domain.old }
-    requires first { 0 < number_of call }
-    requires last { number_of call ≤ 8 }
-    ensures does { Does (number_of call)
-        (λ e d. spec.call_of e d (number_of call) (slice_index args 0) (slice_index args 1) (slice_index args 2))
+    requires first { 0 < call_number call }
+    requires last { call_number call ≤ 8 }
+    ensures does { Does (call_number call)
+        (λ e d. spec.call_of e d (call_number call)
+        (slice_index args 0) (slice_index args 1) (slice_index args 2))
         result memory.old domain.old memory.new domain.new }
     ensures rest { KeepsRest domain.old domain.new }
     ensures unchanged { IfErr result (λ error. domain.new ≡ domain.old) }
@@ -92,13 +93,13 @@ fn make(domain: &mut Domain, memory: &mut PhysMem, call: Call, args: [u32; 3]) -
     requires valid { Valid memory.old domain.old }
     requires ready { is_ready domain.old.threads.active.state ≡ true }
     requires replies { domain.old.replies.count < 2 ^ 63 }
-    ensures calls { Calls (number_of call) args result memory.old domain.old memory.new domain.new }
+    ensures calls { Calls (call_number call) args result memory.old domain.old memory.new domain.new }
     ensures valid { Valid memory.new domain.new }
     ensures keeps { KeepsParts domain.old domain.new }
     ensures frames { memory.new.frames ≡ memory.old.frames }
     ensures refused { IfSome result.reply (λ r. r.code ≢ 0 → IsRefused domain.old domain.new r) }
     ensures memory { IfSome result.reply (λ r. r.code ≢ 0 → memory.new ≡ memory.old) }
-    ensures operation { result.work.op ≡ number_of call }
+    ensures operation { result.work.op ≡ call_number call }
     ensures work { IsCallWork (work_model result.work) }
     ensures in_memory { memory.old.frames ≤ 2 ^ 15 → IsWork result.work }
 {
@@ -128,8 +129,8 @@ fn make(domain: &mut Domain, memory: &mut PhysMem, call: Call, args: [u32; 3]) -
 
 // The call with this number, if it is one of these.
 fn permitted(calls: u32, number: u32) -> Option<Call>
-    ensures number { IfSome result (λ call. number_of call ≡ spec_permitted calls number) }
-    ensures allowed { IfSome result (λ call. may_make calls (number_of call) ≡ true) }
+    ensures number { IfSome result (λ call. call_number call ≡ spec_permitted calls number) }
+    ensures allowed { IfSome result (λ call. may_make calls (call_number call) ≡ true) }
     ensures none { IfNone result (14 < spec_permitted calls number) }
 {
     let call = Call::of(number)?;

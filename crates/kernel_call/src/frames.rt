@@ -20,9 +20,7 @@ use frame_colours::{Frame, Free, Held, Pool, Table};
 use kernel_clone::{Call, Work};
 use page_map::PageMap;
 use phys_mem::PhysMem;
-
-// The rights of a page that was allocated: to read, to write and to execute.
-const ALL_RIGHTS: u8 = 7;
+use tp_base::Rights;
 
 /// ALLOC: slot `a` names the least free frame, zeroed: a page where `b` is 0, a
 /// table where it is 1.
@@ -65,7 +63,8 @@ fn given_of(frame: Frame<Free>, memory: &mut PhysMem, b: u32) -> Given
     ensures frames { memory.new.frames ≡ memory.old.frames }
 {
     if b == 0 {
-        return Given::Page(frame.hold(memory), ALL_RIGHTS);
+        // to read, to write and to execute
+        return Given::Page(frame.hold(memory), Rights::with(true, true, true));
     }
     Given::Table(frame.table(memory))
 }

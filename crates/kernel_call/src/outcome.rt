@@ -1,7 +1,7 @@
 // What a kernel call comes to.
 ghost use Rattle.std.specs.Prelude.{◌≡◌, [], ◌∷◌, Some, None};
 ghost use Rattle.kernel_clone.specs.Models.{work_model};
-ghost use Rattle.kernel_clone.specs.Footprints.{number_of};
+ghost use Rattle.kernel_clone.specs.Footprints.{call_number};
 ghost use Rattle.call_table.specs.Calls.{clears_entries};
 
 use call_table::Reply;
@@ -60,14 +60,14 @@ pub fn plain(op: u8) -> Work
 
 /// The work of such a call.
 pub fn no_work(call: Call) -> Work
-    ensures work { work_model result ≡ record { op = number_of call; zeroed = None; entries = [] } }
+    ensures work { work_model result ≡ record { op = call_number call; zeroed = None; entries = [] } }
 {
     plain(call.number())
 }
 
 /// Of one that zeroed a frame.
 pub fn zeroing(call: Call, frame: u32) -> Work
-    ensures work { work_model result ≡ record { op = number_of call; zeroed = Some frame; entries = [] } }
+    ensures work { work_model result ≡ record { op = call_number call; zeroed = Some frame; entries = [] } }
 {
     Work {
         zeroed: Some(frame),
@@ -77,7 +77,7 @@ pub fn zeroing(call: Call, frame: u32) -> Work
 
 /// Of one that wrote an entry, at a physical address in bytes.
 pub fn writing(call: Call, entry: u32) -> Work
-    ensures work { work_model result ≡ record { op = number_of call; zeroed = None; entries = entry ∷ [] } }
+    ensures work { work_model result ≡ record { op = call_number call; zeroed = None; entries = entry ∷ [] } }
 {
     let mut entries = [0; 64];
     entries[0] = entry;

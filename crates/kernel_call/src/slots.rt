@@ -1,5 +1,5 @@
 // Calls on slots alone, and what several calls read of a slot.
-ghost use Rattle.std.specs.Prelude.{◌≡◌, ℕ, ◌<◌, Some, None, IfOk, IfErr};
+ghost use Rattle.std.specs.Prelude.{◌≡◌, ℕ, ◌<◌, true, false, Some, None, IfOk, IfErr, IfSome, IfNone};
 ghost use Rattle.cap_table.specs.Slots.{cap_at, line_of, copied};
 ghost use Rattle.call_table.specs.Calls as spec;
 ghost use Rattle.kernel_call.specs.Facts.{Valid, Finds, Does, KeepsRest, code_of};
@@ -10,6 +10,7 @@ use crate::{Domain, SLOTS};
 use cap_table::Cap;
 use kernel_clone::Call;
 use phys_mem::PhysMem;
+use tp_base::Rights;
 
 /// The capability in a slot.
 #[tactic(auto, unfolding(call_table::specs::Calls::filled))]
@@ -37,37 +38,43 @@ pub fn line_at(domain: &Domain, slot: u32) -> Result<u8, CallError>
     Ok(line)
 }
 
-/// No right that the other lacks: sums of 1 read, 2 write and 4 execute.
-fn is_within(rights: u32, wider: u8) -> bool
+/// No right that the other lacks.
+fn is_within(rights: Rights, wider: Rights) -> bool
     ensures value { result ≡ spec.is_within rights wider }
 {
-    let wider = u32::from(wider);
+    let rights = rights.number();
+    let wider = wider.number();
     rights % 2 <= wider % 2 && rights / 2 % 2 <= wider / 2 % 2 && rights / 4 % 2 <= wider / 4 % 2
 }
 
-/// Whether a capability with such rights may give these.
-pub fn may_give(held: u8, rights: u32) -> bool
-    ensures value { result ≡ spec.may_give held rights }
+/// The rights of a number that a program says, where a capability with such rights
+/// may give them.
+pub fn given_rights(held: Rights, number: u32) -> Option<Rights>
+    ensures given { IfSome result (λ rights. spec.may_give held number ≡ true) }
+    ensures number { IfSome result (λ rights. rights ≡ number) }
+    ensures refused { IfNone result (spec.may_give held number ≡ false) }
 {
-    matches!(rights, 1 | 3 | 4 | 5 | 7) && is_within(rights, held)
+    if !matches!(number, 1 | 3 | 4 | 5 | 7) {
+        return None;
+    }
+    let rights = Rights::new(number as u8);
+    if !is_within(rights, held) {
+        return None;
+    }
+    Some(rights)
 }
 
 // The rights of a capability's copy, where it may be copied with these. An
 // interrupt line has none.
-fn copied_rights(cap: Cap, rights: u32) -> Result<u8, CallError>
-    ensures refused { IfErr result (λ error. spec.copy_refusal cap rights ≡ Some (code_of error)) }
-    ensures allowed { IfOk result (λ narrower. spec.copy_refusal cap rights ≡ None) }
-    ensures copied { IfOk result (λ narrower. copied (Some cap) narrower ≡ copied (Some cap) rights) }
+fn copied_rights(cap: Cap, number: u32) -> Result<Rights, CallError>
+    ensures refused { IfErr result (λ error. spec.copy_refusal cap number ≡ Some (code_of error)) }
+    ensures allowed { IfOk result (λ rights. spec.copy_refusal cap number ≡ None) }
+    ensures copied { IfOk result (λ rights. copied (Some cap) rights ≡ copied (Some cap) number) }
 {
     match cap {
         Cap::Table { .. } => Err(CallError::WrongKind),
-        Cap::Frame { rights: held, .. } => {
-            if !may_give(held, rights) {
-                return Err(CallError::BadRights);
-            }
-            Ok(rights as u8)
-        }
-        Cap::Irq { .. } => Ok(0),
+        Cap::Frame { rights: held, .. } => given_rights(held, number).ok_or(CallError::BadRights),
+        Cap::Irq { .. } => Ok(Rights::new(0)),
     }
 }
 

@@ -6,7 +6,7 @@ ghost use Rattle.kernel_call.specs.Facts.{Valid, Does, KeepsRest};
 use crate::Domain;
 use crate::error::{CallError, refusal_error};
 use crate::outcome::{Done, writing};
-use crate::slots::{filled, may_give};
+use crate::slots::{filled, given_rights};
 use cap_table::Cap;
 use kernel_clone::Call;
 use phys_mem::PhysMem;
@@ -68,16 +68,16 @@ pub fn map_page(
     else {
         return Err(CallError::WrongKind);
     };
-    if !may_give(rights, c) {
+    let Some(given) = given_rights(rights, c) else {
         return Err(CallError::BadRights);
-    }
+    };
     if !b.is_multiple_of(PAGE) {
         return Err(CallError::BadAddress);
     }
     if mapped.is_some() {
         return Err(CallError::Mapped);
     }
-    let entry = match domain.map.map(memory, b, frame, c as u8) {
+    let entry = match domain.map.map(memory, b, frame, given) {
         Ok(entry) => entry,
         Err(refusal) => return Err(refusal_error(refusal)),
     };

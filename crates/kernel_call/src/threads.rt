@@ -2,7 +2,7 @@
 // threads. Deliveries of interrupts.
 ghost use Rattle.std.specs.Prelude.{◌≡◌, ◌≢◌, ℕ, ◌+◌, ◌^◌, ◌<◌, ◌≤◌, true, [], length, slice_index, Some, None, IfSome, option_map};
 ghost use Rattle.phys_mem.specs.Contents.{Contents};
-ghost use Rattle.kernel_clone.specs.Footprints.{number_of};
+ghost use Rattle.kernel_clone.specs.Footprints.{call_number};
 ghost use Rattle.kernel_clone.specs.Models.{work_model, IsWork};
 ghost use Rattle.pad_bound.specs.Worst.{IsCallWork};
 ghost use Rattle.thread_set.specs.Threads.{is_ready};
@@ -27,9 +27,10 @@ use kernel_clone::{Call, DELIVERY, Work};
 pub fn call_without_memory(domain: &mut Domain, call: Call, args: [u32; 3]) -> Option<Reply>
     requires ready { is_ready domain.old.threads.active.state ≡ true }
     requires replies { domain.old.replies.count < 2 ^ 63 }
-    requires others { 0 < number_of call → 8 < number_of call }
+    requires others { 0 < call_number call → 8 < call_number call }
     ensures answers { Answers
-        (λ e d. spec.call_of e d (number_of call) (slice_index args 0) (slice_index args 1) (slice_index args 2))
+        (λ e d. spec.call_of e d (call_number call)
+        (slice_index args 0) (slice_index args 1) (slice_index args 2))
         result domain.old domain.new }
     ensures keeps { KeepsParts domain.old domain.new }
     ensures caps { domain.new.caps ≡ domain.old.caps }

@@ -30,22 +30,22 @@ pub record LineTouch : Type 0 where
 
 -- ---- operations, by number: the calls, and what the kernel does besides
 
-abbrev pub number_of : Call → ℕ
-number_of Exit = 0
-number_of Put = 1
-number_of Alloc = 2
-number_of Table = 3
-number_of Map = 4
-number_of Unmap = 5
-number_of Copy = 6
-number_of Delete = 7
-number_of Revoke = 8
-number_of Poll = 9
-number_of Wait = 10
-number_of Signal = 11
-number_of Spawn = 12
-number_of Yield = 13
-number_of EndThread = 14
+abbrev pub call_number : Call → ℕ
+call_number Exit = 0
+call_number Put = 1
+call_number Alloc = 2
+call_number Table = 3
+call_number Map = 4
+call_number Unmap = 5
+call_number Copy = 6
+call_number Delete = 7
+call_number Revoke = 8
+call_number Poll = 9
+call_number Wait = 10
+call_number Signal = 11
+call_number Spawn = 12
+call_number Yield = 13
+call_number EndThread = 14
 
 abbrev pub delivery_op : ℕ
 delivery_op = 15

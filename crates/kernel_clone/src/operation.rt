@@ -1,6 +1,6 @@
 // The operations of the kernel, by number: 0 to 14 are its calls, and the others what it does besides.
 ghost use Rattle.std.specs.Prelude.{◌≡◌, ◌<◌, IfSome, IfNone};
-ghost use Rattle.kernel_clone.specs.Footprints.{number_of};
+ghost use Rattle.kernel_clone.specs.Footprints.{call_number};
 ghost use Rattle.kernel_clone.specs.Permissions.{may_make};
 
 /// The operation of an interrupt's delivery.
@@ -38,7 +38,7 @@ pub enum Call {
 impl Call {
     /// The call with a number; `None` above 14.
     pub fn of(number: u32) -> Option<Call>
-        ensures number { IfSome result (λ call. number_of call ≡ number) }
+        ensures number { IfSome result (λ call. call_number call ≡ number) }
         ensures none { IfNone result (14 < number) }
     {
         Some(match number {
@@ -63,7 +63,7 @@ impl Call {
 
     /// Its number, which is that of its operation.
     pub fn number(self) -> u8
-        ensures value { result ≡ number_of self }
+        ensures value { result ≡ call_number self }
         ensures few { result < 15 }
     {
         self as u8
@@ -72,7 +72,7 @@ impl Call {
     /// Whether it is one of these calls, a bit each.
     #[tactic(auto, unfolding(crate::specs::Permissions::may_make))]
     pub fn is_in(self, calls: u32) -> bool
-        ensures value { result ≡ may_make calls (number_of self) }
+        ensures value { result ≡ may_make calls (call_number self) }
     {
         (calls >> self.number()) & 1 == 1
     }

@@ -3,13 +3,14 @@ use Rattle.std.proofs.Common.{arith, ◌≡◌, ◌≢◌, ◌∙◌, sym, ap, s
 use Rattle.std.proofs.lemmas.Bool.{cases_eq}
 use Rattle.std.specs.Prelude.{None, Result, Ok, Err, IfOk, IfErr, slice_get}
 use Rattle.tp_base.specs.Table.{empty}
+use Rattle.tp_base.specs.Rights.{are_good}
 use Rattle.frame_colours.specs.Colours.{pool, whole_of, share_of}
 use Rattle.frame_colours.specs.FreeList.{FreeList, all_free}
 use Rattle.phys_mem.specs.Contents.{Contents, zeroed}
 use Rattle.phys_mem.specs.Mem.{Mem, word, zeroed_frame, word-empty, word-written_frame, word-zeroed_same, word-zeroed_other}
 use Rattle.phys_mem.specs.Holds.{Holds}
 use Rattle.phys_mem.proofs.HoldsLemmas.{holds-zeroed}
-use Rattle.sv32_walk.specs.PageTableEntry.{ppn, vpn_0, vpn_1, are_good, table_word, leaf_word}
+use Rattle.sv32_walk.specs.PageTableEntry.{ppn, vpn_0, vpn_1, table_word, leaf_word}
 use Rattle.sv32_walk.proofs.WordLemmas.{ppn-table, valid-leaf}
 use Rattle.page_map.specs.declared.refusal.MapRefusal.{MapRefusal}
 use Rattle.page_map.specs.Tables.{IsPageMap, IsBlank, StandsWith, has_table, has_page, table_of, map_refusal}

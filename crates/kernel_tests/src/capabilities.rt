@@ -5,7 +5,7 @@ use cap_table::{Cap, CapTable, Given, Gone};
 use frame_colours::{AllColours, Pool};
 use std::alloc::Global;
 use std::test::Fail;
-use tp_base::{FrameNo, Memory, Zero};
+use tp_base::{FrameNo, Memory, Rights, Zero};
 
 // A memory that reads zero everywhere.
 #[derive(Drop)]
@@ -39,7 +39,7 @@ fn filled(alloc: Global) -> Result<CapTable, Memory> {
     let page = pool.take().ok_or(Memory)?;
     let table = pool.take().ok_or(Memory)?;
     let mut caps = CapTable::new(alloc)?;
-    caps.put(0, Given::Page(page.hold(&mut Zeros), 7));
+    caps.put(0, Given::Page(page.hold(&mut Zeros), Rights::new(7)));
     caps.put(1, Given::Table(table.table(&mut Zeros)));
     caps.put(2, Given::Irq(3));
     Ok(caps)
@@ -47,7 +47,7 @@ fn filled(alloc: Global) -> Result<CapTable, Memory> {
 
 // The calls where they may be called; what they may not be called with is left out.
 
-fn copy(caps: &mut CapTable, from: u32, to: u32, rights: u8) {
+fn copy(caps: &mut CapTable, from: u32, to: u32, rights: Rights) {
     if from < 64 && to < 64 && caps.get(to).is_none() {
         if let Some(Cap::Frame { .. } | Cap::Irq { .. }) = caps.get(from) {
             caps.copy(from, to, rights);
@@ -101,7 +101,13 @@ fn revoked(caps: &mut CapTable, slot: u32) -> Option<(u32, u32, u32, u32)> {
 fn frames_come_back_with_their_last_capability(rt: HostRuntime) -> Result<(), Fail> {
     let mut caps = filled(rt.alloc())?;
     // Page 1 has slots 0, 63, 9 and 10, of which 9 isn't mapped; line 3 has 2 and 11.
-    for (from, to, rights) in [(0, 63, 1), (0, 9, 3), (63, 10, 5), (2, 11, 0), (1, 12, 7)] {
+    for (from, to, rights) in [
+        (0, 63, Rights::new(1)),
+        (0, 9, Rights::new(3)),
+        (63, 10, Rights::new(5)),
+        (2, 11, Rights::new(0)),
+        (1, 12, Rights::new(7)),
+    ] {
         copy(&mut caps, from, to, rights);
     }
     for (slot, at) in [
@@ -121,7 +127,7 @@ fn frames_come_back_with_their_last_capability(rt: HostRuntime) -> Result<(), Fa
         caps.get(10),
         Some(Cap::Frame {
             frame: FrameNo::new(1),
-            rights: 5,
+            rights: Rights::new(5),
             mapped: Some(0x007f_f000),
         })
     );

@@ -1,8 +1,8 @@
 // Page tables of 64 frames with the root in frame 2, changed and walked. What is
 // written stands in the manual's section on Sv32.
 ghost use Rattle.std.specs.Prelude.{◌≡◌, ℕ, ◌+◌, ◌<◌, ◌≤◌, true, IfOk};
+ghost use Rattle.tp_base.specs.Rights.{are_good};
 ghost use Rattle.phys_mem.specs.Contents.{zeroed};
-ghost use Rattle.sv32_walk.specs.PageTableEntry.{are_good};
 ghost use Rattle.page_map.specs.Tables.{IsPageMap, IsBlank, StandsWith, has_table, has_page};
 ghost use Rattle.page_map.specs.Reached.{TablesIn};
 
@@ -11,7 +11,7 @@ use page_map::{MapRefusal, PageMap};
 use phys_mem::PhysMem;
 use std::alloc::Global;
 use sv32_walk::{Access, WalkFault, walk};
-use tp_base::{FrameNo, Memory};
+use tp_base::{FrameNo, Memory, Rights};
 
 // The frame of the root: of 64 frames in four colours, the least one of colour 2.
 fn root_frame(alloc: Global, mem: &mut PhysMem) -> Result<Frame<Table>, Memory>
@@ -66,7 +66,7 @@ fn map_page(
     map: &mut PageMap,
     va: u32,
     frame: u32,
-    rights: u8,
+    rights: Rights,
 ) -> Result<u32, MapRefusal>
     requires size { mem.old.frames ≡ 64 }
     requires root { map.old ≡ 2 }
@@ -96,7 +96,7 @@ fn walks(mem: &PhysMem, map: &PageMap, va: u32) -> [Result<u32, WalkFault>; 3] {
 // A page in frame 5 with these rights: its entry, and the walks at its end.
 fn page_with(
     alloc: Global,
-    rights: u8,
+    rights: Rights,
 ) -> Result<(Result<u32, MapRefusal>, [Result<u32, WalkFault>; 3]), Memory>
     requires rights { are_good rights ≡ true }
 {
@@ -111,18 +111,24 @@ fn page_with(
 fn rights(rt: HostRuntime) -> Result<(), Memory> {
     let at = Ok(0x3014);
     let page = Err(WalkFault::Page);
-    assert_eq!(rt; page_with(rt.alloc(), 1)?, (at, [page, Ok(0x1453), page]));
     assert_eq!(rt;
-        page_with(rt.alloc(), 3)?,
+        page_with(rt.alloc(), Rights::new(1))?,
+        (at, [page, Ok(0x1453), page])
+    );
+    assert_eq!(rt;
+        page_with(rt.alloc(), Rights::new(3))?,
         (at, [page, Ok(0x14d7), Ok(0x14d7)])
     );
-    assert_eq!(rt; page_with(rt.alloc(), 4)?, (at, [Ok(0x1459), page, page]));
     assert_eq!(rt;
-        page_with(rt.alloc(), 5)?,
+        page_with(rt.alloc(), Rights::new(4))?,
+        (at, [Ok(0x1459), page, page])
+    );
+    assert_eq!(rt;
+        page_with(rt.alloc(), Rights::new(5))?,
         (at, [Ok(0x145b), Ok(0x145b), page])
     );
     assert_eq!(rt;
-        page_with(rt.alloc(), 7)?,
+        page_with(rt.alloc(), Rights::new(7))?,
         (at, [Ok(0x14df), Ok(0x14df), Ok(0x14df)])
     );
     Ok(())
@@ -132,11 +138,11 @@ fn rights(rt: HostRuntime) -> Result<(), Memory> {
 fn refusals(rt: HostRuntime) -> Result<(), Memory> {
     let (mut mem, mut map) = open(rt.alloc())?;
     assert_eq!(rt;
-        map_page(&mut mem, &mut map, 0x0040_5000, 3, 1),
+        map_page(&mut mem, &mut map, 0x0040_5000, 3, Rights::new(1)),
         Err(MapRefusal::NoTable)
     );
     assert_eq!(rt;
-        map_page(&mut mem, &mut map, 0x0040_5004, 3, 1),
+        map_page(&mut mem, &mut map, 0x0040_5004, 3, Rights::new(1)),
         Err(MapRefusal::BadAddress)
     );
     assert_eq!(rt;
@@ -153,17 +159,20 @@ fn refusals(rt: HostRuntime) -> Result<(), Memory> {
         Err(MapRefusal::BadAddress)
     );
     assert_eq!(rt; walks(&mem, &map, 0x0040_5000), [Err(WalkFault::Page); 3]);
-    assert_eq!(rt; map_page(&mut mem, &mut map, 0x0040_5000, 7, 7), Ok(0x4014));
     assert_eq!(rt;
-        map_page(&mut mem, &mut map, 0x0040_5000, 7, 1),
+        map_page(&mut mem, &mut map, 0x0040_5000, 7, Rights::new(7)),
+        Ok(0x4014)
+    );
+    assert_eq!(rt;
+        map_page(&mut mem, &mut map, 0x0040_5000, 7, Rights::new(1)),
         Err(MapRefusal::Mapped)
     );
     assert_eq!(rt;
-        map_page(&mut mem, &mut map, 0x0040_5800, 7, 1),
+        map_page(&mut mem, &mut map, 0x0040_5800, 7, Rights::new(1)),
         Err(MapRefusal::BadAddress)
     );
     assert_eq!(rt;
-        map_page(&mut mem, &mut map, 0x0080_5000, 7, 1),
+        map_page(&mut mem, &mut map, 0x0080_5000, 7, Rights::new(1)),
         Err(MapRefusal::NoTable)
     );
     assert_eq!(rt; walks(&mem, &map, 0x0040_5000), [Ok(0x1cdf); 3]);
@@ -181,8 +190,8 @@ fn clearing(rt: HostRuntime) -> Result<(), Memory> {
     assert_eq!(rt; mem.read_word(0x2004), 0);
     let (mut mem, mut map) = open(rt.alloc())?;
     let _ = install(&mut mem, &mut map, 0x0040_0000, 3);
-    let _ = map_page(&mut mem, &mut map, 0x0040_4000, 4, 3);
-    let mapped = map_page(&mut mem, &mut map, 0x0040_5000, 4, 3);
+    let _ = map_page(&mut mem, &mut map, 0x0040_4000, 4, Rights::new(3));
+    let mapped = map_page(&mut mem, &mut map, 0x0040_5000, 4, Rights::new(3));
     assert_eq!(rt; mapped, Ok(0x3014));
     assert_eq!(rt; map.unmap(&mut mem, 0x0040_5000), 0x3014);
     assert_eq!(rt; walks(&mem, &map, 0x0040_5000), [page; 3]);

@@ -10,7 +10,7 @@ use kernel_call::{Domain, Outcome};
 use kernel_clone::{BAD_CALL, Kind, Work, touches};
 use phys_mem::PhysMem;
 use std::test::Fail;
-use tp_base::FrameNo;
+use tp_base::{FrameNo, Rights};
 
 const PUT: u32 = 1;
 
@@ -305,7 +305,7 @@ fn a_call_stores_what_it_writes(rt: HostRuntime) -> Result<(), Fail> {
     assert_eq!(rt; domain.printed.as_slice(), [0x7f, 0x80, 0xff].as_slice());
     let page = Cap::Frame {
         frame: FrameNo::new(5),
-        rights: 7,
+        rights: Rights::new(7),
         mapped: None,
     };
     assert_eq!(rt; domain.caps.get(0), Some(page));

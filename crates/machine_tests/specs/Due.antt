@@ -1,7 +1,7 @@
 -- Which moment comes where those of all domains come: computed on two domains at cycle 100.
 use Rattle.std.specs.Prelude.{◌≡◌, ℕ, Bool, true, false, if◌then◌else◌, List, [], ◌∷◌, length, Option, Some, None, refl}
 use Rattle.tp_base.specs.Table.{empty, put, at}
-use Rattle.call_table.specs.Domain.{is_running, opening}
+use Rattle.call_table.specs.Domain.{is_running, dom_at_entry}
 use Rattle.irq_partition.specs.declared.Moment.{Moment}
 use Rattle.image_check.specs.Image.{Image, own_of}
 use Rattle.mem_system.specs.Cost.{Caches}
@@ -31,25 +31,25 @@ module _ (w : World) (c : Caches) where
 
   -- the earliest, whoever has it
   pub earliest_of_blue : due (moment 20 1 ∷ []) (moment 10 5 ∷ []) ≡ owned 1 10 5
-  unfolding first_due interrupts_of beside at_cycle_100 two_domains with_hart put at empty no_dom opening
+  unfolding first_due interrupts_of beside at_cycle_100 two_domains with_hart put at empty no_dom dom_at_entry
   earliest_of_blue = refl
 
   pub earliest_of_red : due (moment 10 5 ∷ []) (moment 20 1 ∷ []) ≡ owned 0 10 5
-  unfolding first_due interrupts_of beside at_cycle_100 two_domains with_hart put at empty no_dom opening
+  unfolding first_due interrupts_of beside at_cycle_100 two_domains with_hart put at empty no_dom dom_at_entry
   earliest_of_red = refl
 
   -- of one cycle that of the least line
   pub least_line_of_blue : due (moment 10 5 ∷ []) (moment 10 1 ∷ []) ≡ owned 1 10 1
-  unfolding first_due interrupts_of beside at_cycle_100 two_domains with_hart put at empty no_dom opening
+  unfolding first_due interrupts_of beside at_cycle_100 two_domains with_hart put at empty no_dom dom_at_entry
   least_line_of_blue = refl
 
   pub least_line_of_red : due (moment 10 1 ∷ []) (moment 10 5 ∷ []) ≡ owned 0 10 1
-  unfolding first_due interrupts_of beside at_cycle_100 two_domains with_hart put at empty no_dom opening
+  unfolding first_due interrupts_of beside at_cycle_100 two_domains with_hart put at empty no_dom dom_at_entry
   least_line_of_red = refl
 
   -- none before its cycle
   pub not_yet : due (moment 101 1 ∷ []) [] ≡ None
-  unfolding first_due interrupts_of beside at_cycle_100 two_domains with_hart put at empty no_dom opening
+  unfolding first_due interrupts_of beside at_cycle_100 two_domains with_hart put at empty no_dom dom_at_entry
   not_yet = refl
 
 -- where none is due, the domain makes its own step, which sees no moment of another

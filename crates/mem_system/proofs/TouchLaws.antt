@@ -613,7 +613,7 @@ module _ (h : Hierarchy) (pinned : Bool) (caches : Caches) where
       looked_guesses h caches.core page reads found (is_some (place_of h.tlb caches.core.tlb page))
 
   pub counters_stay : (touch : Touch) (place : ℕ) → is_flush touch ≡ false
-      → All (λ pc. counters.place_of caches.core.guesses pc ≢ place) (branches_in touch)
+      → All (λ pc. counters.counter_place caches.core.guesses pc ≢ place) (branches_in touch)
       → slice_index (core_after h pinned caches touch).guesses.counters place
       ≡ slice_index caches.core.guesses.counters place
   unfolding touched on_core fetched accessed guessed branched jumped pass_on
@@ -624,13 +624,13 @@ module _ (h : Hierarchy) (pinned : Bool) (caches : Caches) where
   counters_stay (Look page reads found) place kept apart =
       ap (λ (g : Guesses). slice_index g.counters place) (after_look page reads found)
   counters_stay (Branch pc true target) place kept apart =
-      beside caches.core.guesses.counters (counters.place_of caches.core.guesses pc) place
+      beside caches.core.guesses.counters (counters.counter_place caches.core.guesses pc) place
       (next_counter true (counter_of caches.core.guesses pc)) 0
-      (All-head (λ k. counters.place_of caches.core.guesses k ≢ place) pc [] apart)
+      (All-head (λ k. counters.counter_place caches.core.guesses k ≢ place) pc [] apart)
   counters_stay (Branch pc false target) place kept apart =
-      beside caches.core.guesses.counters (counters.place_of caches.core.guesses pc) place
+      beside caches.core.guesses.counters (counters.counter_place caches.core.guesses pc) place
       (next_counter false (counter_of caches.core.guesses pc)) 0
-      (All-head (λ k. counters.place_of caches.core.guesses k ≢ place) pc [] apart)
+      (All-head (λ k. counters.counter_place caches.core.guesses k ≢ place) pc [] apart)
   counters_stay (Jump pc target) place kept apart = refl
   counters_stay EmptyTlb place kept apart = refl
   counters_stay Flush place kept apart = absurd (true≢false kept)

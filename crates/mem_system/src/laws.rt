@@ -2,7 +2,7 @@
 ghost use Rattle.std.specs.Prelude.{◌≡◌, ◌≢◌, ℕ, ◌≤◌, ◌%◌, Bool, true, false, List, [], All, None, slice_index, slice_index_or};
 ghost use Rattle.set_cache.specs.Cache.{set_at, EachDirty};
 ghost use Rattle.l2_colour.specs.Colours.{IsColoured};
-ghost use Rattle.branch_pred.specs.Guesses.{place_of, target_place};
+ghost use Rattle.branch_pred.specs.Guesses.{counter_place, target_place};
 ghost use Rattle.mem_system.specs.Hierarchy.{Hierarchy, colour_of_line};
 ghost use Rattle.mem_system.specs.Cost.{
   Touch,
@@ -92,7 +92,7 @@ pub fn the_untouched_stays()
         ≡ set_at h.tlb.ways caches.core.tlb s }
     ensures counters { (h : Hierarchy) (pinned : Bool) (caches : Caches) (touch : Touch) (place : ℕ)
         → is_flush touch ≡ false
-        → All (λ pc. place_of caches.core.guesses pc ≢ place) (branches_in touch)
+        → All (λ pc. counter_place caches.core.guesses pc ≢ place) (branches_in touch)
         → slice_index (touched h pinned caches touch).caches.core.guesses.counters place
         ≡ slice_index caches.core.guesses.counters place }
     ensures history { (h : Hierarchy) (pinned : Bool) (caches : Caches) (touch : Touch)

@@ -2,7 +2,7 @@
 use Rattle.std.proofs.Common.{◌≡◌, ◌<◌, ◌≤◌, ◌+◌, ◌/◌, ℕ, Option, Some, None, Bool, true, false, ap, subst, refl, arith, lit≤, inl, inr, mul-le-mul_right}
 use Rattle.std.specs.Prelude.{max, nat_eq, if◌then◌else◌}
 use Rattle.std.proofs.lemmas.Bool.{cases_Bool, or_cases, cond_both, eqb-true}
-use Rattle.kernel_clone.specs.Footprints.{Layout, number_of, delivery_op}
+use Rattle.kernel_clone.specs.Footprints.{Layout, call_number, delivery_op}
 use Rattle.kernel_clone.specs.Laws.{zeroed_count}
 use Rattle.kernel_clone.specs.Permissions.{may_make, every_call}
 use Rattle.kernel_clone.specs.declared.operation.Call.{Call}
@@ -15,19 +15,19 @@ use Rattle.pad_bound.specs.Worst.{writes_entry, most_entries_of, AreWithin}
 -- what is counted where it may not be made, and where it may
 few_if : (calls : ℕ) (call : Call) (lines : ℕ) → if_may calls call lines ≤ lines
 few_if calls call lines =
-    elim (may_make calls (number_of call)) as (λ b. (if b then lines else 0) ≤ lines) [ true ↦ omega arith | false ↦ omega arith ]
+    elim (may_make calls (call_number call)) as (λ b. (if b then lines else 0) ≤ lines) [ true ↦ omega arith | false ↦ omega arith ]
 
-all_if : (calls : ℕ) (call : Call) (lines : ℕ) → may_make calls (number_of call) ≡ true → lines ≤ if_may calls call lines
+all_if : (calls : ℕ) (call : Call) (lines : ℕ) → may_make calls (call_number call) ≡ true → lines ≤ if_may calls call lines
 all_if calls call lines may =
     let all : if_may calls call lines ≡ lines = ap (λ (b : Bool). if b then lines else 0) may in
     omega (arith, all)
 
 -- of a domain that may make more
 more_if : (calls others : ℕ) (call : Call) (lines : ℕ) → AreWithin calls others → if_may calls call lines ≤ if_may others call lines
-more_if calls others call lines within = elim (cases_Bool (may_make calls (number_of call))) [
+more_if calls others call lines within = elim (cases_Bool (may_make calls (call_number call))) [
   | inl may ↦
       let few = few_if calls call lines in
-      let all = all_if others call lines (within (number_of call) may) in
+      let all = all_if others call lines (within (call_number call) may) in
       omega (arith, few, all)
   | inr not ↦
       let none : if_may calls call lines ≡ 0 = ap (λ (b : Bool). if b then lines else 0) not in
@@ -36,7 +36,7 @@ more_if calls others call lines within = elim (cases_Bool (may_make calls (numbe
 
 -- of a domain that made it
 made : (calls op : ℕ) (call : Call) (lines : ℕ) → (op < delivery_op → may_make calls op ≡ true)
-    → number_of call < delivery_op → op ≡ number_of call → lines ≤ if_may calls call lines
+    → call_number call < delivery_op → op ≡ call_number call → lines ≤ if_may calls call lines
 made calls op call lines permitted below same =
     let early : op < delivery_op = omega (arith, below, same) in
     all_if calls call lines (subst (λ (n : ℕ). may_make calls n ≡ true) same (permitted early))
@@ -107,20 +107,20 @@ more_written calls others line within =
 -- the calls that write one entry
 one_entry : (calls line op : ℕ) → (op < delivery_op → may_make calls op ≡ true) → writes_entry op ≡ true → 1 ≤ most_written calls line
 one_entry calls line op permitted writes =
-    let is : (call : Call) → nat_eq op (number_of call) ≡ true → op ≡ number_of call = λ call. eqb-true op (number_of call) in
-    elim (or_cases (nat_eq op (number_of Table)) _ writes) [
+    let is : (call : Call) → nat_eq op (call_number call) ≡ true → op ≡ call_number call = λ call. eqb-true op (call_number call) in
+    elim (or_cases (nat_eq op (call_number Table)) _ writes) [
       | inl e ↦
           let one = made calls op Table 1 permitted (lit≤ tt) (is Table e) in
           let counts = table_counts calls line in
           omega (arith, one, counts)
       | inr more ↦
-          elim (or_cases (nat_eq op (number_of Map)) _ more) [
+          elim (or_cases (nat_eq op (call_number Map)) _ more) [
             | inl e ↦
                 let one = made calls op Map 1 permitted (lit≤ tt) (is Map e) in
                 let counts = map_counts calls line in
                 omega (arith, one, counts)
             | inr most ↦
-                elim (or_cases (nat_eq op (number_of Unmap)) _ most) [
+                elim (or_cases (nat_eq op (call_number Unmap)) _ most) [
                   | inl e ↦
                       let one = made calls op Unmap 1 permitted (lit≤ tt) (is Unmap e) in
                       let counts = unmap_counts calls line in
@@ -136,22 +136,22 @@ one_entry calls line op permitted writes =
 entries_within : (calls line op : ℕ) → (op < delivery_op → may_make calls op ≡ true) → most_entries_of op ≤ most_written calls line
 entries_within calls line op permitted =
     let within : ℕ → Type 0 = λ n. n ≤ most_written calls line in
-    cond_both (nat_eq op (number_of Revoke)) most_entries (if writes_entry op then 1 else 0) within
+    cond_both (nat_eq op (call_number Revoke)) most_entries (if writes_entry op then 1 else 0) within
     (λ e.
-    let all = made calls op Revoke most_entries permitted (lit≤ tt) (eqb-true op (number_of Revoke) e) in
+    let all = made calls op Revoke most_entries permitted (lit≤ tt) (eqb-true op (call_number Revoke) e) in
     let counts = revoke_counts calls line in
     omega (arith, all, counts))
     (λ other. cond_both (writes_entry op) 1 0 within (one_entry calls line op permitted) (λ none. omega arith))
 
 -- an ALLOC zeroes a frame and writes no entry; what is no ALLOC zeroes none
 pub work_within : (calls : ℕ) (l : Layout) (op : ℕ) (zeroed : Option ℕ) (entries : ℕ)
-    → ((frame : ℕ) → zeroed ≡ Some frame → op ≡ number_of Alloc) → entries ≤ most_entries_of op
+    → ((frame : ℕ) → zeroed ≡ Some frame → op ≡ call_number Alloc) → entries ≤ most_entries_of op
     → (op < delivery_op → may_make calls op ≡ true) → zeroed_count l zeroed + entries ≤ most_written calls l.line
 work_within calls l op None entries zeroes few permitted =
     let within = entries_within calls l.line op permitted in
     omega (arith, few, within)
 work_within calls l op (Some frame) entries zeroes few permitted =
-    let alloc : op ≡ number_of Alloc = zeroes frame refl in
+    let alloc : op ≡ call_number Alloc = zeroes frame refl in
     let none : entries ≤ 0 = subst (λ (n : ℕ). entries ≤ most_entries_of n) alloc few in
     let all = made calls op Alloc (lines_in_frame l.line) permitted (lit≤ tt) alloc in
     let counts = alloc_counts calls l.line in

@@ -2,7 +2,7 @@
 use Rattle.std.specs.Prelude.{◌≡◌, ℕ, ◌+◌, ◌-◌, ◌*◌, ◌/◌, ◌%◌, ◌≤◌, max, if◌then◌else◌}
 use Rattle.cycle_cost.specs.Costs.{CostTable, AreCosts}
 use Rattle.cycle_cost.specs.Ranges.{most_again, most_product}
-use Rattle.kernel_clone.specs.Footprints.{number_of}
+use Rattle.kernel_clone.specs.Footprints.{call_number}
 use Rattle.kernel_clone.specs.Permissions.{may_make}
 use Rattle.kernel_clone.specs.declared.operation.Call.{Call}
 use Rattle.kernel_clone.specs.declared.operation.Call.TheVariants.{Alloc, Table, Map, Unmap, Delete, Revoke}
@@ -50,7 +50,7 @@ most_entries = 63
 
 -- so many lines, where the domain may make the call
 abbrev pub if_may : ℕ → Call → ℕ → ℕ
-if_may calls call lines = if may_make calls (number_of call) then lines else 0
+if_may calls call lines = if may_make calls (call_number call) then lines else 0
 
 -- the most lines that an operation writes, where the domain may make these calls: an ALLOC zeroes a frame, four calls write
 -- an entry, and a REVOKE those of all other slots

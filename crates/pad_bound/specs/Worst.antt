@@ -2,7 +2,7 @@
 use Rattle.std.specs.Prelude.{◌≡◌, ℕ, ◌+◌, ◌<◌, ◌≤◌, nat_eq, Bool, ◌||◌, if◌then◌else◌, true, false, List, [], length, map, Some, None}
 use Rattle.std.specs.List.{range_with_len, sum_by}
 use Rattle.cycle_cost.specs.Costs.{CostTable}
-use Rattle.kernel_clone.specs.Footprints.{Layout, WorkDone, LineTouch, number_of, delivery_op, is_of_switch, touch_of, shared_line, shared_lines}
+use Rattle.kernel_clone.specs.Footprints.{Layout, WorkDone, LineTouch, call_number, delivery_op, is_of_switch, touch_of, shared_line, shared_lines}
 use Rattle.kernel_clone.specs.Laws.{zeroed_count}
 use Rattle.kernel_clone.specs.Permissions.{may_make}
 use Rattle.kernel_clone.specs.declared.operation.Call.TheVariants.{Alloc, Table, Map, Unmap, Delete, Revoke}
@@ -31,16 +31,17 @@ pub record IsCloneOf (s : MachineShape) (l : Layout) : Type 0 where
 -- the calls that write an entry of a page table
 abbrev pub writes_entry : ℕ → Bool
 writes_entry op =
-    nat_eq op (number_of Table) || (nat_eq op (number_of Map) || (nat_eq op (number_of Unmap) || nat_eq op (number_of Delete)))
+    nat_eq op (call_number Table)
+    || (nat_eq op (call_number Map) || (nat_eq op (call_number Unmap) || nat_eq op (call_number Delete)))
 
 -- the most entries that an operation writes
 abbrev pub most_entries_of : ℕ → ℕ
-most_entries_of op = if nat_eq op (number_of Revoke) then most_entries else if writes_entry op then 1 else 0
+most_entries_of op = if nat_eq op (call_number Revoke) then most_entries else if writes_entry op then 1 else 0
 
 -- what a call or a delivery can have done: an ALLOC alone zeroes a frame, and few write entries
 pub record IsCallWork (w : WorkDone) : Type 0 where
   pub call : is_of_switch w.op ≡ false
-  pub zeroes : (frame : ℕ) → w.zeroed ≡ Some frame → w.op ≡ number_of Alloc
+  pub zeroes : (frame : ℕ) → w.zeroed ≡ Some frame → w.op ≡ call_number Alloc
   pub few : length w.entries ≤ most_entries_of w.op
 
 -- a domain that may make these calls can have made it; deliveries and bad calls come to all
@@ -53,11 +54,11 @@ lines_written l w = zeroed_count l w.zeroed + length w.entries
 
 -- an ALLOC that gives this frame
 abbrev pub alloc_work : ℕ → WorkDone
-alloc_work frame = record { op = number_of Alloc; zeroed = Some frame; entries = [] }
+alloc_work frame = record { op = call_number Alloc; zeroed = Some frame; entries = [] }
 
 -- a REVOKE that writes these entries
 abbrev pub revoke_work : List ℕ → WorkDone
-revoke_work entries = record { op = number_of Revoke; zeroed = None; entries = entries }
+revoke_work entries = record { op = call_number Revoke; zeroed = None; entries = entries }
 
 -- each shared line once, in their order
 unfoldable pub prefetch_touches : Layout → List LineTouch

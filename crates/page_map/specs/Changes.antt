@@ -1,7 +1,8 @@
 -- What each call makes of memory: one word is written.
 use Rattle.std.specs.Prelude.{◌≡◌, ℕ, ◌<◌, true, None}
+use Rattle.tp_base.specs.Rights.{are_good}
 use Rattle.phys_mem.specs.Mem.{Mem, written}
-use Rattle.sv32_walk.specs.PageTableEntry.{vpn_0, vpn_1, are_good, table_word, leaf_word}
+use Rattle.sv32_walk.specs.PageTableEntry.{vpn_0, vpn_1, table_word, leaf_word}
 use Rattle.sv32_walk.specs.Walk.{entry_address}
 use Rattle.page_map.specs.Tables.{IsPageMap, IsBlank, has_table, has_page, table_of, map_refusal, install_refusal}
 use Rattle.page_map.specs.Reached.{IsApart}

@@ -1,9 +1,10 @@
 // The calls that change page tables, one entry each.
 ghost use Rattle.std.specs.Prelude.{◌≡◌, ◌≢◌, ℕ, ◌/◌, ◌%◌, ◌^◌, ◌<◌, ◌≤◌, true, Some, None, IfOk, IfErr};
+ghost use Rattle.tp_base.specs.Rights.{are_good};
 ghost use Rattle.phys_mem.specs.Contents.{byte_at};
 ghost use Rattle.phys_mem.specs.Mem.{Mem, word};
 ghost use Rattle.phys_mem.specs.Holds.{Holds};
-ghost use Rattle.sv32_walk.specs.PageTableEntry.{vpn_0, vpn_1, are_good};
+ghost use Rattle.sv32_walk.specs.PageTableEntry.{vpn_0, vpn_1};
 ghost use Rattle.sv32_walk.specs.Walk.{entry_address};
 ghost use Rattle.sv32_walk.specs.Translation.{first_entry};
 ghost use Rattle.page_map.specs.Tables.{IsPageMap, IsBlank, StandsWith, has_table, has_page, map_refusal, install_refusal};
@@ -15,7 +16,7 @@ use frame_colours::{Frame, Table};
 use phys_mem::PhysMem;
 use std::marker::Model;
 use sv32_walk::{PageTableEntry, leaf_word, table_word};
-use tp_base::FrameNo;
+use tp_base::{FrameNo, Rights};
 
 // What a page has in bytes, and what the pages of one table have together.
 const PAGE: u32 = 4096;
@@ -62,8 +63,8 @@ impl PageMap {
     /// Maps the page at a virtual address to a frame of memory in which none of
     /// these page tables stands, and answers the physical address in bytes of the
     /// leaf that it wrote, a multiple of 4 (RISC-V privileged specification, Sv32,
-    /// "Addressing and Memory Protection"). `rights` is the sum of 1 read, 2 write
-    /// and 4 execute: 1, 3, 4, 5 or 7.
+    /// "Addressing and Memory Protection"). A page may have the rights 1, 3, 4, 5
+    /// or 7.
     ///
     /// # Errors
     /// The first of these; memory is unchanged then. `BadAddress` where the
@@ -75,7 +76,7 @@ impl PageMap {
         mem: &mut PhysMem,
         va: u32,
         frame: FrameNo,
-        rights: u8,
+        rights: Rights,
     ) -> Result<u32, MapRefusal>
         requires tables { StandsWith mem.old (λ m. IsPageMap m self.old mem.old.frames) }
         requires frame { frame < mem.old.frames }

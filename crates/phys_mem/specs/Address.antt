@@ -6,5 +6,5 @@ abbrev pub frame_of : ℕ → ℕ
 frame_of address = address / 4096
 
 -- the place in its frame of the word that an address lies in, from 0 to 1,023
-abbrev pub place_of : ℕ → ℕ
-place_of address = address % 4096 / 4
+abbrev pub word_place : ℕ → ℕ
+word_place address = address % 4096 / 4

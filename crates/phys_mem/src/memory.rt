@@ -4,7 +4,7 @@
 ghost use Rattle.std.specs.Prelude.{◌≡◌, ◌≢◌, ℕ, ◌+◌, ◌*◌, ◌/◌, ◌%◌, ◌^◌, ◌<◌, ◌≤◌, true, false, length, slice_set, IfOk};
 ghost use Rattle.byteorder.specs.Endian.{little_bytes};
 ghost use Rattle.tp_base.specs.Table.{empty};
-ghost use Rattle.phys_mem.specs.Address.{frame_of, place_of};
+ghost use Rattle.phys_mem.specs.Address.{frame_of, word_place};
 ghost use Rattle.phys_mem.specs.Bytes.{byte_in, half_in, with_byte_in, with_half_in};
 ghost use Rattle.phys_mem.specs.Contents.{Contents, frame_words, word_of, word_at, byte_at, half_at, with_word, with_byte, with_half, zeroed, zeroed_words, all_zero, zeros, is_marked, marks};
 ghost use Rattle.phys_mem.specs.Mem.{Mem, word, written, zeroed_frame};
@@ -126,7 +126,7 @@ impl PhysMem {
         requires aligned { at % 4 ≡ 0 }
         ensures value { result ≡ word_at self.now at }
         ensures holds { (mem : Mem) → Holds self.now mem
-            → result ≡ word mem (frame_of at) (place_of at) }
+            → result ≡ word mem (frame_of at) (word_place at) }
     {
         self.word(at)
     }
@@ -144,7 +144,7 @@ impl PhysMem {
         ensures bytes { (address : ℕ) → address / 4 ≢ at / 4
             → byte_at self.new address ≡ byte_at self.old address }
         ensures holds { (mem : Mem) → Holds self.old mem
-            → Holds self.new (written mem (frame_of at) (place_of at) word) }
+            → Holds self.new (written mem (frame_of at) (word_place at) word) }
     {
         self.set_word(at, word);
     }
@@ -155,7 +155,7 @@ impl PhysMem {
         requires aligned { at % 2 ≡ 0 }
         ensures value { result ≡ half_at self.now at }
         ensures holds { (mem : Mem) → Holds self.now mem
-            → result ≡ half_in (word mem (frame_of at) (place_of at)) (at % 4) }
+            → result ≡ half_in (word mem (frame_of at) (word_place at)) (at % 4) }
     {
         half_of(self.word(at), at % 4)
     }
@@ -172,8 +172,8 @@ impl PhysMem {
         ensures bytes { (address : ℕ) → address / 2 ≢ at / 2
             → byte_at self.new address ≡ byte_at self.old address }
         ensures holds { (mem : Mem) → Holds self.old mem
-            → Holds self.new (written mem (frame_of at) (place_of at)
-            (with_half_in (word mem (frame_of at) (place_of at)) (at % 4) half)) }
+            → Holds self.new (written mem (frame_of at) (word_place at)
+            (with_half_in (word mem (frame_of at) (word_place at)) (at % 4) half)) }
     {
         let word = self.word(at);
         self.set_word(at, with_half_of(word, at % 4, half));
@@ -184,7 +184,7 @@ impl PhysMem {
         requires within { frame_of at < self.now.frames }
         ensures value { result ≡ byte_at self.now at }
         ensures holds { (mem : Mem) → Holds self.now mem
-            → result ≡ byte_in (word mem (frame_of at) (place_of at)) (at % 4) }
+            → result ≡ byte_in (word mem (frame_of at) (word_place at)) (at % 4) }
     {
         byte_of(self.word(at), at % 4)
     }
@@ -200,8 +200,8 @@ impl PhysMem {
         ensures bytes { (address : ℕ) → address ≢ at
             → byte_at self.new address ≡ byte_at self.old address }
         ensures holds { (mem : Mem) → Holds self.old mem
-            → Holds self.new (written mem (frame_of at) (place_of at)
-            (with_byte_in (word mem (frame_of at) (place_of at)) (at % 4) byte)) }
+            → Holds self.new (written mem (frame_of at) (word_place at)
+            (with_byte_in (word mem (frame_of at) (word_place at)) (at % 4) byte)) }
     {
         let word = self.word(at);
         self.set_word(at, with_byte_of(word, at % 4, byte));
@@ -213,7 +213,7 @@ impl PhysMem {
         requires within { frame_of at < self.now.frames }
         ensures value { result ≡ word_at self.now at }
         ensures holds { (mem : Mem) → Holds self.now mem
-            → result ≡ word mem (frame_of at) (place_of at) }
+            → result ≡ word mem (frame_of at) (word_place at) }
     {
         let slot = self.slots[at as usize / FRAME_BYTES] as usize;
         self.words[FRAME_WORDS * slot + at as usize % FRAME_BYTES / 4]
@@ -229,7 +229,7 @@ impl PhysMem {
         ensures others { (frame : ℕ) → frame ≢ frame_of at
             → frame_words self.new frame ≡ frame_words self.old frame }
         ensures holds { (mem : Mem) → Holds self.old mem
-            → Holds self.new (written mem (frame_of at) (place_of at) word) }
+            → Holds self.new (written mem (frame_of at) (word_place at) word) }
     {
         self.put(at, word);
     }

@@ -1,8 +1,9 @@
 -- The fields of the words that the kernel writes.
 use Rattle.std.proofs.Common.{arith, ◌≡◌, ◌∙◌, ap, sym, refl, inl, inr, ◌⊎◌, ℕ, ◌+◌, ◌*◌, ◌/◌, ◌%◌, ◌^◌, ◌<◌, Bool, true, false, ◌&&◌, ◌||◌, eqb, eqb-true}
+use Rattle.tp_base.specs.Rights.{are_good}
 use Rattle.sv32_walk.specs.declared.access.Access.{Access}
 use Rattle.sv32_walk.specs.declared.access.Access.TheVariants.{Fetch, Load, Store}
-use Rattle.sv32_walk.specs.PageTableEntry.{bit, valid, readable, writable, executable, user, accessed, dirty, ppn, is_leaf, permits, are_good, rights_permit, table_word, leaf_bits, leaf_word}
+use Rattle.sv32_walk.specs.PageTableEntry.{bit, valid, readable, writable, executable, user, accessed, dirty, ppn, is_leaf, permits, rights_permit, table_word, leaf_bits, leaf_word}
 use Rattle.sv32_walk.specs.Translation.{Allows, Points}
 use Rattle.sv32_walk.proofs.EntryLemmas.{allowed-leaf, not_reserved, allowed}
 

@@ -74,12 +74,7 @@ is_marked Store entry = accessed entry && dirty entry
 abbrev pub permits : Access → ℕ → Bool
 permits access entry = user entry && (has_right access entry && is_marked access entry)
 
--- ---- the words that the kernel writes; rights are a number: 1 read, 2 write, 4 execute
-
--- the rights that a page may have: a page that is written is read too
-abbrev pub are_good : ℕ → Bool
-are_good rights =
-    nat_eq rights 1 || (nat_eq rights 3 || (nat_eq rights 4 || (nat_eq rights 5 || nat_eq rights 7)))
+-- ---- the words that the kernel writes; rights are a number: 1 to read, 2 to write, 4 to execute
 
 -- the rights permit an access
 unfoldable pub rights_permit : ℕ → Access → Bool

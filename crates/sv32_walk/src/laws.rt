@@ -1,8 +1,9 @@
 //! Laws of the definitions: what an entry and a walk mean, in words.
 ghost use Rattle.std.specs.Prelude.{◌≡◌, ℕ, ◌/◌, ◌<◌, ◌≤◌, ◌↔◌, [], ◌∷◌, true};
+ghost use Rattle.tp_base.specs.Rights.{are_good};
 ghost use Rattle.phys_mem.specs.Mem.{Mem};
 ghost use Rattle.sv32_walk.specs.declared.access.Access.{Access};
-ghost use Rattle.sv32_walk.specs.PageTableEntry.{ppn, accessed, dirty, writable, permits, are_good, rights_permit, table_word, leaf_word, vpn_0, vpn_1};
+ghost use Rattle.sv32_walk.specs.PageTableEntry.{ppn, accessed, dirty, writable, permits, rights_permit, table_word, leaf_word, vpn_0, vpn_1};
 ghost use Rattle.sv32_walk.specs.Walk.{walk, entry_address};
 ghost use Rattle.sv32_walk.specs.Translation.{HasLeaf, LeavesMemory, Points, first_entry};
 ghost use Rattle.sv32_walk.specs.KeptLeaf.{IsLeafOf, end_at};

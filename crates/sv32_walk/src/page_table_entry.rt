@@ -1,10 +1,11 @@
 // A page table entry, how a walk ends at it, and the words that the kernel writes.
 ghost use Rattle.std.specs.Prelude.{◌≡◌, ◌+◌, ◌*◌, ◌^◌, ◌<◌, ◌≤◌, true, IfOk, IfSome};
-ghost use Rattle.sv32_walk.specs.PageTableEntry.{bit, valid, ppn, ppn_0, ppn_1, with_ppn, vpn_0, is_reserved, is_leaf, is_pointer, has_right, is_marked, permits, are_good, table_word, leaf_word};
+ghost use Rattle.tp_base.specs.Rights.{are_good};
+ghost use Rattle.sv32_walk.specs.PageTableEntry.{bit, valid, ppn, ppn_0, ppn_1, with_ppn, vpn_0, is_reserved, is_leaf, is_pointer, has_right, is_marked, permits, table_word, leaf_word};
 ghost use Rattle.sv32_walk.specs.Walk.{leaf, superpage, first_level, last_level};
 
 use crate::{Access, WalkFault};
-use tp_base::FrameNo;
+use tp_base::{FrameNo, Rights};
 
 /// A page table entry (RISC-V privileged specification, Sv32, "Addressing and
 /// Memory Protection"), by its word of 32 bits.
@@ -34,15 +35,15 @@ pub fn table_word(frame: FrameNo) -> u32
     (frame.number() << 10) + (1 << VALID)
 }
 
-/// The word of a leaf whose page lies in a frame. `rights` is the sum of 1 read,
-/// 2 write and 4 execute: 1, 3, 4, 5 or 7. V, U and A are set, and D exactly
-/// where the page may be written: so no walk has to set a bit.
+/// The word of a leaf whose page lies in a frame, with rights that a page may have:
+/// 1, 3, 4, 5 or 7. V, U and A are set, and D exactly where the page may be
+/// written: so no walk has to set a bit.
 #[tactic(auto, unfolding(crate::specs::PageTableEntry::leaf_word, crate::specs::PageTableEntry::leaf_bits))]
-pub fn leaf_word(frame: FrameNo, rights: u8) -> u32
+pub fn leaf_word(frame: FrameNo, rights: Rights) -> u32
     requires good { are_good rights ≡ true }
     ensures value { result ≡ leaf_word frame rights }
 {
-    let rights = u32::from(rights);
+    let rights = u32::from(rights.number());
     let dirty = (rights & 2) << 6;
     let always = (1 << VALID) + (1 << USER) + (1 << ACCESSED);
     (frame.number() << 10) + always + (rights << READ) + dirty

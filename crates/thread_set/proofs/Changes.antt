@@ -7,7 +7,7 @@ use Rattle.std.proofs.lemmas.List.{get_or-append-add, get_or_default, get_or-map
 use Rattle.std.proofs.lemmas.Bool.{cases_lt}
 use Rattle.thread_set.specs.declared.Thread.{Thread}
 use Rattle.thread_set.specs.declared.ThreadState.TheVariants.{Waiting, Ended}
-use Rattle.thread_set.specs.Threads.{Threads, AreThreads, all_of, number_of, never, thread_at, is_live, waits_for, in_state, yielded, given_way, with_current, with_thread, started, opening, vacant, started_at, spawned, blocked, finished, waiter, resumed, resumed_at, woken, end_live, all_ended}
+use Rattle.thread_set.specs.Threads.{Threads, AreThreads, all_of, current_number, never, thread_at, is_live, waits_for, in_state, yielded, given_way, with_current, with_thread, started, threads_at_entry, vacant, started_at, spawned, blocked, finished, waiter, resumed, resumed_at, woken, end_live, all_ended}
 use Rattle.thread_set.proofs.Parts.{all-turned, number-turned, number-below}
 use Rattle.thread_set.proofs.Places.{IsFirst, IsNowhere, position-nowhere, first-Some, nowhere-None}
 use Rattle.thread_set.proofs.Turns.{yielded-all, given-all}
@@ -28,13 +28,13 @@ current-eight ts x sound =
 pub thread-all : (ts : Threads) (t : ℕ) (x : Thread) → AreThreads ts → all_of (with_thread ts t x) ≡ set (all_of ts) t x
 unfolding with_thread
 thread-all ts t x sound =
-    all-turned (number_of ts) (set (all_of ts) t x) (omega (arith, length-set (all_of ts) t x, sound.eight, number-below ts sound))
+    all-turned (current_number ts) (set (all_of ts) t x) (omega (arith, length-set (all_of ts) t x, sound.eight, number-below ts sound))
 
 pub thread-eight : (ts : Threads) (t : ℕ) (x : Thread) → AreThreads ts → AreThreads (with_thread ts t x)
 thread-eight ts t x sound = record { eight = ap length (thread-all ts t x sound) ∙ length-set (all_of ts) t x ∙ sound.eight }
 
-pub opening-eight : (entry : ℕ) → AreThreads (opening entry)
-unfolding opening
+pub opening-eight : (entry : ℕ) → AreThreads (threads_at_entry entry)
+unfolding threads_at_entry
 opening-eight entry = record { eight = refl }
 
 started-eight : (ts : Threads) (entry argument : ℕ) (o : Option ℕ) → AreThreads ts → AreThreads (started_at ts entry argument o)
@@ -80,9 +80,9 @@ ended-eight ts sound =
 given-same : (ts : Threads) (t : ℕ) → AreThreads ts → thread_at (given_way ts) t ≡ thread_at ts t
 given-same ts t sound = ap (λ (xs : List Thread). get_or xs t never) (given-all ts sound)
 
-current-at : (ts : Threads) (x : Thread) → AreThreads ts → thread_at (given_way (with_current ts x)) (number_of ts) ≡ x
+current-at : (ts : Threads) (x : Thread) → AreThreads ts → thread_at (given_way (with_current ts x)) (current_number ts) ≡ x
 unfolding with_current
-current-at ts x sound = given-same (with_current ts x) (number_of ts) (current-eight ts x sound) ∙ get_or-append_seam ts.before x ts.after never
+current-at ts x sound = given-same (with_current ts x) (current_number ts) (current-eight ts x sound) ∙ get_or-append_seam ts.before x ts.after never
 
 beside : (xs ys : List Thread) (x y : Thread) (t : ℕ) → t ≢ length xs → get_or (xs ++ x ∷ ys) t never ≡ get_or (xs ++ y ∷ ys) t never
 beside xs ys x y t other =
@@ -94,23 +94,23 @@ beside xs ys x y t other =
     ∙ sym (ap (λ (k : ℕ). get_or (xs ++ y ∷ ys) k never) place ∙ get_or-append-add xs (y ∷ ys) (suc (t - length xs - 1)) never))
     (cases_lt t (length xs))
 
-current-others : (ts : Threads) (x : Thread) (t : ℕ) → AreThreads ts → t ≢ number_of ts → thread_at (given_way (with_current ts x)) t ≡ thread_at ts t
+current-others : (ts : Threads) (x : Thread) (t : ℕ) → AreThreads ts → t ≢ current_number ts → thread_at (given_way (with_current ts x)) t ≡ thread_at ts t
 unfolding with_current
 current-others ts x t sound other = given-same (with_current ts x) t (current-eight ts x sound) ∙ beside ts.before ts.after x ts.current t other
 
-pub blocked-at : (ts : Threads) (line : ℕ) → AreThreads ts → thread_at (blocked line ts) (number_of ts) ≡ in_state (Waiting line) ts.current
+pub blocked-at : (ts : Threads) (line : ℕ) → AreThreads ts → thread_at (blocked line ts) (current_number ts) ≡ in_state (Waiting line) ts.current
 unfolding blocked
 blocked-at ts line sound = current-at ts (in_state (Waiting line) ts.current) sound
 
-pub blocked-others : (ts : Threads) (line t : ℕ) → AreThreads ts → t ≢ number_of ts → thread_at (blocked line ts) t ≡ thread_at ts t
+pub blocked-others : (ts : Threads) (line t : ℕ) → AreThreads ts → t ≢ current_number ts → thread_at (blocked line ts) t ≡ thread_at ts t
 unfolding blocked
 blocked-others ts line t sound other = current-others ts (in_state (Waiting line) ts.current) t sound other
 
-pub finished-at : (ts : Threads) → AreThreads ts → thread_at (finished ts) (number_of ts) ≡ in_state Ended ts.current
+pub finished-at : (ts : Threads) → AreThreads ts → thread_at (finished ts) (current_number ts) ≡ in_state Ended ts.current
 unfolding finished
 finished-at ts sound = current-at ts (in_state Ended ts.current) sound
 
-pub finished-others : (ts : Threads) (t : ℕ) → AreThreads ts → t ≢ number_of ts → thread_at (finished ts) t ≡ thread_at ts t
+pub finished-others : (ts : Threads) (t : ℕ) → AreThreads ts → t ≢ current_number ts → thread_at (finished ts) t ≡ thread_at ts t
 unfolding finished
 finished-others ts t sound other = current-others ts (in_state Ended ts.current) t sound other
 
@@ -224,10 +224,10 @@ pub put-others : (ts : Threads) (t other : ℕ) (x : Thread) → AreThreads ts �
 put-others ts t other x sound apart =
     ap (λ (xs : List Thread). get_or xs other never) (thread-all ts t x sound) ∙ get_or-set_other (all_of ts) t other x never apart
 
-pub put-turn : (ts : Threads) (t : ℕ) (x : Thread) → AreThreads ts → number_of (with_thread ts t x) ≡ number_of ts
+pub put-turn : (ts : Threads) (t : ℕ) (x : Thread) → AreThreads ts → current_number (with_thread ts t x) ≡ current_number ts
 unfolding with_thread
 put-turn ts t x sound =
-    number-turned (number_of ts) (set (all_of ts) t x) (omega (arith, length-set (all_of ts) t x, sound.eight, number-below ts sound))
+    number-turned (current_number ts) (set (all_of ts) t x) (omega (arith, length-set (all_of ts) t x, sound.eight, number-below ts sound))
 
 pub ended-at : (ts : Threads) (t : ℕ) → AreThreads ts → t < 8 → thread_at (all_ended ts) t ≡ end_live (thread_at ts t)
 unfolding all_ended
@@ -235,6 +235,6 @@ ended-at ts t sound below =
     ap (λ (xs : List Thread). get_or xs t never) (sym (map-append end_live ts.before (ts.current ∷ ts.after)))
     ∙ get_or-map end_live (all_of ts) t never never (omega (arith, sound.eight))
 
-pub ended-turn : (ts : Threads) → number_of (all_ended ts) ≡ number_of ts
+pub ended-turn : (ts : Threads) → current_number (all_ended ts) ≡ current_number ts
 unfolding all_ended
 ended-turn ts = length-map ts.before end_live

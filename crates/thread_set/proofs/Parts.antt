@@ -6,7 +6,7 @@ use Rattle.std.proofs.Math.ListN.{length-set}
 use Rattle.thread_set.specs.declared.Thread.{Thread}
 use Rattle.thread_set.specs.declared.ThreadSet.{ThreadSet}
 use Rattle.thread_set.specs.Models.{threads_model}
-use Rattle.thread_set.specs.Threads.{Threads, AreThreads, all_of, number_of, never, turned_to, with_thread}
+use Rattle.thread_set.specs.Threads.{Threads, AreThreads, all_of, current_number, never, turned_to, with_thread}
 
 -- the threads of a list, of which number n is x and current, whatever stands there
 abbrev pub seen : ℕ → List Thread → Thread → Threads
@@ -22,7 +22,7 @@ set-parts n xs x within =
 pub all-seen : (n : ℕ) (xs : List Thread) (x : Thread) → n < length xs → all_of (seen n xs x) ≡ set xs n x
 all-seen n xs x within = set-parts n xs x within
 
-pub number-seen : (n : ℕ) (xs : List Thread) (x : Thread) → n < length xs → number_of (seen n xs x) ≡ n
+pub number-seen : (n : ℕ) (xs : List Thread) (x : Thread) → n < length xs → current_number (seen n xs x) ≡ n
 number-seen n xs x within = omega (arith, length-take n xs)
 
 -- ---- turned to a number
@@ -31,7 +31,7 @@ pub all-turned : (t : ℕ) (xs : List Thread) → t < length xs → all_of (turn
 unfolding turned_to
 all-turned t xs within = set-parts t xs (get_or xs t never) within ∙ set-get_or xs t never
 
-pub number-turned : (t : ℕ) (xs : List Thread) → t < length xs → number_of (turned_to t xs) ≡ t
+pub number-turned : (t : ℕ) (xs : List Thread) → t < length xs → current_number (turned_to t xs) ≡ t
 unfolding turned_to
 number-turned t xs within = omega (arith, length-take t xs)
 
@@ -50,11 +50,11 @@ turned-set n xs x within =
     parts before current after = record { before = before; current = current; after = after }
 
 -- it is the number's own turn already
-pub turned-self : (ts : Threads) → turned_to (number_of ts) (all_of ts) ≡ ts
+pub turned-self : (ts : Threads) → turned_to (current_number ts) (all_of ts) ≡ ts
 unfolding turned_to
 turned-self ts =
-    ap (λ (ys : List Thread). parts ys (get_or (all_of ts) (number_of ts) never) (drop (number_of ts + 1) (all_of ts))) (take-append_seam ts.before (ts.current ∷ ts.after))
-    ∙ ap (λ (y : Thread). parts ts.before y (drop (number_of ts + 1) (all_of ts))) (get_or-append_seam ts.before ts.current ts.after never)
+    ap (λ (ys : List Thread). parts ys (get_or (all_of ts) (current_number ts) never) (drop (current_number ts + 1) (all_of ts))) (take-append_seam ts.before (ts.current ∷ ts.after))
+    ∙ ap (λ (y : Thread). parts ts.before y (drop (current_number ts + 1) (all_of ts))) (get_or-append_seam ts.before ts.current ts.after never)
     ∙ ap (λ (ys : List Thread). parts ts.before ts.current ys) (drop-append-add ts.before (ts.current ∷ ts.after) 1)
   where
     parts : List Thread → Thread → List Thread → Threads
@@ -92,7 +92,7 @@ eight-seen n xs x below eight = record { eight = ap length (all-seen n xs x (ome
 pub eight-model : (s : ThreadSet) → AreThreads (threads_model s)
 eight-model s = eight-seen s.number s.others s.active s.below s.eight
 
-pub number-below : (ts : Threads) → AreThreads ts → number_of ts < 8
+pub number-below : (ts : Threads) → AreThreads ts → current_number ts < 8
 number-below ts sound = omega (arith, sound.eight, length-append {A = Thread})
 
 pub eight-turned : (t : ℕ) (xs : List Thread) → length xs ≡ 8 → t < 8 → AreThreads (turned_to t xs)

@@ -19,8 +19,8 @@ pub record AreThreads (ts : Threads) : Type 0 where
   pub eight : length (all_of ts) ≡ 8
 
 -- the current one's number
-abbrev pub number_of : Threads → ℕ
-number_of ts = length ts.before
+abbrev pub current_number : Threads → ℕ
+current_number ts = length ts.before
 
 -- never started: it has no place and no registers
 unfoldable pub never : Thread
@@ -65,7 +65,7 @@ between a b = (b + 7 - a) % 8
 -- so many after the current one, in cyclic order
 abbrev pub turned_by : Threads → Option ℕ → Threads
 turned_by ts None = ts
-turned_by ts (Some n) = turned_to ((number_of ts + 1 + n) % 8) (all_of ts)
+turned_by ts (Some n) = turned_to ((current_number ts + 1 + n) % 8) (all_of ts)
 
 -- the next ready one in cyclic order is current, where there is one
 unfoldable pub yielded : Threads → Threads
@@ -81,15 +81,19 @@ unfoldable pub with_current : Threads → Thread → Threads
 with_current ts x = record ts { current = x }
 
 unfoldable pub with_thread : Threads → ℕ → Thread → Threads
-with_thread ts t x = turned_to (number_of ts) (slice_set (all_of ts) t x)
+with_thread ts t x = turned_to (current_number ts) (slice_set (all_of ts) t x)
 
 -- ready at an entry, all registers 0 but x10
 abbrev pub started : ℕ → ℕ → Thread
 started entry argument = record { state = Ready; pc = entry; regs = with_register zeros 10 argument }
 
 -- thread 0 is ready at the entry and current, all registers 0, and no other was ever started
-unfoldable pub opening : ℕ → Threads
-opening entry = record { before = []; current = record { state = Ready; pc = entry; regs = zeros }; after = replicate 7 never }
+unfoldable pub threads_at_entry : ℕ → Threads
+threads_at_entry entry = record {
+  before = [];
+  current = record { state = Ready; pc = entry; regs = zeros };
+  after = replicate 7 never;
+}
 
 -- the least-numbered thread that is not live
 unfoldable pub vacant : Threads → Option ℕ

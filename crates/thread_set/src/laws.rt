@@ -3,7 +3,7 @@ ghost use Rattle.std.specs.Prelude.{◌≡◌, ◌≢◌, ℕ, ◌<◌, ◌≤�
 ghost use Rattle.thread_set.specs.Threads.{
   Threads,
   AreThreads,
-  number_of,
+  current_number,
   thread_at,
   is_ready,
   is_live,
@@ -13,7 +13,7 @@ ghost use Rattle.thread_set.specs.Threads.{
   yielded,
   given_way,
   with_thread,
-  opening,
+  threads_at_entry,
   vacant,
   started,
   spawned,
@@ -40,7 +40,7 @@ pub fn next_in_turn()
         → is_ready (thread_at ts t).state ≡ true → is_ready (yielded ts).current.state ≡ true }
     ensures soonest { (ts : Threads) (t : ℕ) → AreThreads ts → t < 8
         → is_ready (thread_at ts t).state ≡ true
-        → between (number_of ts) (number_of (yielded ts)) ≤ between (number_of ts) t }
+        → between (current_number ts) (current_number (yielded ts)) ≤ between (current_number ts) t }
     ensures none { (ts : Threads) → AreThreads ts
         → ((t : ℕ) → t < 8 → is_ready (thread_at ts t).state ≡ false) → yielded ts ≡ ts }
     ensures same { (ts : Threads) (t : ℕ) → AreThreads ts → thread_at (yielded ts) t ≡ thread_at ts t }
@@ -54,12 +54,12 @@ pub fn next_in_turn()
 /// nothing else of any thread.
 pub fn block_and_finish()
     ensures blocked { (ts : Threads) (line : ℕ) → AreThreads ts
-        → thread_at (blocked line ts) (number_of ts) ≡ in_state (Waiting line) ts.current }
-    ensures block_others { (ts : Threads) (line t : ℕ) → AreThreads ts → t ≢ number_of ts
+        → thread_at (blocked line ts) (current_number ts) ≡ in_state (Waiting line) ts.current }
+    ensures block_others { (ts : Threads) (line t : ℕ) → AreThreads ts → t ≢ current_number ts
         → thread_at (blocked line ts) t ≡ thread_at ts t }
     ensures finished { (ts : Threads) → AreThreads ts
-        → thread_at (finished ts) (number_of ts) ≡ in_state Ended ts.current }
-    ensures finish_others { (ts : Threads) (t : ℕ) → AreThreads ts → t ≢ number_of ts
+        → thread_at (finished ts) (current_number ts) ≡ in_state Ended ts.current }
+    ensures finish_others { (ts : Threads) (t : ℕ) → AreThreads ts → t ≢ current_number ts
         → thread_at (finished ts) t ≡ thread_at ts t }
 {}
 
@@ -99,10 +99,10 @@ pub fn each_is_apart()
     ensures put_others { (ts : Threads) (t other : ℕ) (x : Thread) → AreThreads ts → other ≢ t
         → thread_at (with_thread ts t x) other ≡ thread_at ts other }
     ensures put_turn { (ts : Threads) (t : ℕ) (x : Thread) → AreThreads ts
-        → number_of (with_thread ts t x) ≡ number_of ts }
+        → current_number (with_thread ts t x) ≡ current_number ts }
     ensures ended { (ts : Threads) (t : ℕ) → AreThreads ts → t < 8
         → thread_at (all_ended ts) t ≡ end_live (thread_at ts t) }
-    ensures ended_turn { (ts : Threads) → number_of (all_ended ts) ≡ number_of ts }
+    ensures ended_turn { (ts : Threads) → current_number (all_ended ts) ≡ current_number ts }
 {}
 
 /// There are eight threads.
@@ -114,7 +114,7 @@ pub fn are_eight(threads: &ThreadSet)
 
 /// There are eight threads, whatever is done.
 pub fn eight_are_kept()
-    ensures opening { (entry : ℕ) → AreThreads (opening entry) }
+    ensures opening { (entry : ℕ) → AreThreads (threads_at_entry entry) }
     ensures put { (ts : Threads) (t : ℕ) (x : Thread) → AreThreads ts → AreThreads (with_thread ts t x) }
     ensures yielded { (ts : Threads) → AreThreads ts → AreThreads (yielded ts) }
     ensures spawned { (ts : Threads) (entry argument : ℕ) → AreThreads ts

@@ -11,7 +11,7 @@ ghost use Rattle.std.specs.List.{list_any};
 ghost use Rattle.thread_set.specs.Threads.{
   Threads,
   all_of,
-  number_of,
+  current_number,
   thread_at,
   is_ready,
   is_live,
@@ -19,7 +19,7 @@ ghost use Rattle.thread_set.specs.Threads.{
   yielded,
   given_way,
   with_thread,
-  opening,
+  threads_at_entry,
   vacant,
   spawned,
   blocked,
@@ -141,9 +141,9 @@ impl ThreadSet {
     ghost use Rattle.thread_set.specs.Models.{threads_model};
 
     /// Thread 0 is ready at the entry and current, and no other was ever started.
-    #[tactic(auto, unfolding(crate::specs::Threads::opening, crate::specs::Threads::never))]
+    #[tactic(auto, unfolding(crate::specs::Threads::threads_at_entry, crate::specs::Threads::never))]
     pub fn new(entry: u32) -> Self
-        ensures opening { threads_model result ≡ opening entry }
+        ensures opening { threads_model result ≡ threads_at_entry entry }
     {
         let never = Thread {
             state: ThreadState::Never,
@@ -165,7 +165,7 @@ impl ThreadSet {
     #[inline(always)]
     pub fn current(&self) -> Option<u8>
         ensures current { result ≡ (if is_ready (threads_model self.now).current.state
-            then Some (number_of (threads_model self.now)) else None) }
+            then Some (current_number (threads_model self.now)) else None) }
     {
         if self.active.state.is_ready() {
             Some(self.number)

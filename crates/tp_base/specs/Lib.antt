@@ -2,3 +2,4 @@
 pub mod Table
 pub mod Act
 pub mod Ranges
+pub mod Rights

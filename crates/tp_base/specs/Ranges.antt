@@ -13,6 +13,10 @@ IsLine n = n < 2 ^ 23
 abbrev pub IsColour : ℕ → Type 0
 IsColour n = n < 64
 
+-- sums of 1, 2 and 4
+abbrev pub IsRights : ℕ → Type 0
+IsRights n = n < 8
+
 -- domains, and what is numbered after them
 abbrev pub IsDomainNo : ℕ → Type 0
 IsDomainNo n = n < 32

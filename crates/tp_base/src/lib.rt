@@ -9,5 +9,5 @@ mod numbers;
 mod zero;
 
 pub use memory::Memory;
-pub use numbers::{Colour, Cycles, DomainNo, FrameNo, Line};
+pub use numbers::{Colour, Cycles, DomainNo, FrameNo, Line, Rights};
 pub use zero::Zero;

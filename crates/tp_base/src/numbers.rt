@@ -1,7 +1,8 @@
 // The typed numbers of the machine, each with its range. They are written out one by one, since a
 // macro can write neither contracts nor a `Model`.
 ghost use Rattle.std.specs.Prelude.{◌≡◌, ℕ};
-ghost use Rattle.tp_base.specs.Ranges.{IsFrameNo, IsLine, IsColour, IsDomainNo, IsCycles};
+ghost use Rattle.tp_base.specs.Ranges.{IsFrameNo, IsLine, IsColour, IsRights, IsDomainNo, IsCycles};
+ghost use Rattle.tp_base.specs.Rights.{rights_with};
 
 use std::marker::Model;
 
@@ -96,6 +97,49 @@ impl Colour {
     pub fn number(self) -> u8
         ensures same { result ≡ self }
         ensures range { IsColour result }
+    {
+        self.0
+    }
+}
+
+/// What a page may be used for, as one number: the sum of 1 to read, 2 to write and
+/// 4 to execute.
+#[derive(Clone, Copy, Debug, PartialEq, Eq)]
+pub struct Rights(u8);
+
+impl Model for Rights {
+    ghost Value = { ℕ };
+
+    ghost view = { λ r. r.0 };
+
+    ghost invariant = { λ r. IsRights r.0 };
+
+    ghost inverse = { λ r. record { 0 = r } };
+}
+
+impl Rights {
+    /// The rights of a number below 8.
+    #[inline(always)]
+    pub fn new(number: u8) -> Self
+        requires range { IsRights number }
+        ensures value { result ≡ number }
+    {
+        Rights(number)
+    }
+
+    /// The rights to read, to write and to execute, each where it is said.
+    #[inline(always)]
+    pub fn with(read: bool, write: bool, execute: bool) -> Self
+        ensures value { result ≡ rights_with read write execute }
+    {
+        Rights(u8::from(read) + 2 * u8::from(write) + 4 * u8::from(execute))
+    }
+
+    /// They as an integer below 8.
+    #[inline(always)]
+    pub fn number(self) -> u8
+        ensures same { result ≡ self }
+        ensures range { IsRights result }
     {
         self.0
     }

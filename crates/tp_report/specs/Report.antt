@@ -10,7 +10,7 @@ use Rattle.sched_table.specs.Schedule.{entry_in}
 use Rattle.pad_bound.specs.Bound.{MachineShape, worst_instruction, worst_operation, worst_leave, worst_prefetch, worst_flush, worst_enter, bound_of, with_calls}
 use Rattle.pad_bound.specs.declared.shape.Bound.{Bound}
 use Rattle.image_check.specs.Image.{Image, own_of}
-use Rattle.image_check.specs.Pads.{shape_of}
+use Rattle.image_check.specs.Pads.{shape_for_every_call}
 use Rattle.world_view.specs.Machine.{World, whole, whole_off}
 use Rattle.world_view.specs.Used.{count_of, largest_of}
 use Rattle.world_view.specs.View.{View, view_in, view_alone}
@@ -129,8 +129,8 @@ bound_2_text s es calls = shared_parts_text s ++ entries_text s es calls
 -- what is told of an image's switches: in the first version every domain may make every call
 unfoldable pub bounds_of : Image → List ℕ
 bounds_of i =
-    if nat_eq i.all.version 1 then bound_text (bound_in_parts (shape_of i.all.hardware))
-    else bound_2_text (shape_of i.all.hardware) i.all.schedule (map (λ o. o.calls) i.owns)
+    if nat_eq i.all.version 1 then bound_text (bound_in_parts (shape_for_every_call i.all.hardware))
+    else bound_2_text (shape_for_every_call i.all.hardware) i.all.schedule (map (λ o. o.calls) i.owns)
 
 -- ---- other texts
 

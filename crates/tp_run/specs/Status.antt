@@ -3,11 +3,11 @@ use Rattle.std.specs.Prelude.{ℕ}
 use Rattle.tp_run.specs.declared.status.Status.{Status}
 use Rattle.tp_run.specs.declared.status.Status.TheVariants.{Done, Refused, Usage, ReadFault, WriteFault, Memory, TooLong}
 
-abbrev pub number_of : Status → ℕ
-number_of Done = 0
-number_of Refused = 1
-number_of Usage = 2
-number_of ReadFault = 3
-number_of WriteFault = 4
-number_of Memory = 5
-number_of TooLong = 6
+abbrev pub exit_number : Status → ℕ
+exit_number Done = 0
+exit_number Refused = 1
+exit_number Usage = 2
+exit_number ReadFault = 3
+exit_number WriteFault = 4
+exit_number Memory = 5
+exit_number TooLong = 6

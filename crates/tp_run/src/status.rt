@@ -23,12 +23,12 @@ pub enum Status {
 }
 
 impl Status {
-    ghost use Rattle.tp_run.specs.Status.{number_of};
+    ghost use Rattle.tp_run.specs.Status.{exit_number};
     ghost use Rattle.std.specs.Process.{exit_status};
 
     /// The exit code, 0 to 6.
     pub fn exit_code(self) -> ExitCode
-        ensures number { exit_status result ≡ number_of self }
+        ensures number { exit_status result ≡ exit_number self }
     {
         ExitCode::from(match self {
             Status::Done => 0,

@@ -15,7 +15,7 @@ use Rattle.clap.proofs.WalkLemmas.{both}
 use Rattle.clap.specs.declared.error.kind.ErrorKind.{ErrorKind}
 use Rattle.clap.proofs.OnLiterals.{clap_on_literals}
 use Rattle.tp_words.specs.declared.Command.{Command}
-use Rattle.tp_words.specs.Words.{tp_app, number_of, up_to, asked_for, unless_faulty}
+use Rattle.tp_words.specs.Words.{tp_app, number_written, up_to, asked_for, unless_faulty}
 use Rattle.tp_words.specs.Partial.{◌>>=◌, ◌>>◌, when}
 use Rattle.tp_words.specs.Words.{command}
 
@@ -43,10 +43,10 @@ refused words k among = none_if k (fault_of tp_app words) (asked_for (subcommand
 
 -- ---- the value of an option
 
-by_test : (greatest : ℕ) (text : List ℕ) (r : Option ℕ) → (is_signed_in (pos 0) (pos greatest) text ≡ true → r ≡ Some (unsigned_abs (signed_digits_value 10 text))) → (is_signed_in (pos 0) (pos greatest) text ≡ false → r ≡ None) → r ≡ number_of greatest text
+by_test : (greatest : ℕ) (text : List ℕ) (r : Option ℕ) → (is_signed_in (pos 0) (pos greatest) text ≡ true → r ≡ Some (unsigned_abs (signed_digits_value 10 text))) → (is_signed_in (pos 0) (pos greatest) text ≡ false → r ≡ None) → r ≡ number_written greatest text
 by_test greatest text r passed failed = go (is_signed_in (pos 0) (pos greatest) text) refl
   where
-    go : (b : Bool) → is_signed_in (pos 0) (pos greatest) text ≡ b → r ≡ number_of greatest text
+    go : (b : Bool) → is_signed_in (pos 0) (pos greatest) text ≡ b → r ≡ number_written greatest text
     go true e = passed e ∙ sym (ap (λ t. when t >> Some (unsigned_abs (signed_digits_value 10 text))) e)
     go false e = failed e ∙ sym (ap (λ t. when t >> Some (unsigned_abs (signed_digits_value 10 text))) e)
 
@@ -55,7 +55,7 @@ in_range greatest (pos n) some few = ap (λ t. when t >> Some n) few
 in_range greatest (negsuc n) some few = absurd (cc)
 
 -- a number that `i64` reads, if it is 0 to the greatest
-read_number : (E : Type 0) (greatest : ℕ) (text : List ℕ) (z : ℤ) → ParsesSigned {E = E} w64 10 text (Ok z) → up_to greatest z ≡ number_of greatest text
+read_number : (E : Type 0) (greatest : ℕ) (text : List ℕ) (z : ℤ) → ParsesSigned {E = E} w64 10 text (Ok z) → up_to greatest z ≡ number_written greatest text
 read_number E greatest text z h = by_test greatest text (up_to greatest z)
     (λ e. let range = both _ _ (both _ _ (both _ _ e).1).1 in ap (up_to greatest) h.1 ∙ in_range greatest (signed_digits_value 10 text) range.0 range.1)
     (λ e. go z h e)
@@ -73,7 +73,7 @@ read_number E greatest text z h = by_test greatest text (up_to greatest z)
     go (negsuc n) h e = refl
 
 -- a text that `i64` doesn't read
-read_none : {E : Type 0} (greatest : ℕ) (text : List ℕ) (e : E) → ParsesSigned w64 10 text (Err e) → None ≡ number_of greatest text
+read_none : {E : Type 0} (greatest : ℕ) (text : List ℕ) (e : E) → ParsesSigned w64 10 text (Err e) → None ≡ number_written greatest text
 read_none greatest text e h = by_test greatest text None
     (λ t. let a = accepts-Accepts false (vp.Signed (pos 0) (pos greatest)) text t in absurd (h (a.0, a.1)))
     (λ t. refl)
@@ -83,7 +83,7 @@ abbrev pub ReadAsI64 : List ℕ → Result ℤ ParseIntError → Type 0
 ReadAsI64 text r = ParsesSigned w64 10 text r × ExplainsSignedError 10 text r × HasSignedDigitsIfOk text r
 
 -- what is read of the value, if it is 0 to the greatest
-pub given : (greatest : ℕ) (t : Option (List ℕ)) (r : Option ℤ) → (t ≡ None → r ≡ None) → ((u : List ℕ) → t ≡ Some u → ReadsOne ReadAsI64 u r) → (r >>= up_to greatest) ≡ (t >>= number_of greatest)
+pub given : (greatest : ℕ) (t : Option (List ℕ)) (r : Option ℤ) → (t ≡ None → r ≡ None) → ((u : List ℕ) → t ≡ Some u → ReadsOne ReadAsI64 u r) → (r >>= up_to greatest) ≡ (t >>= number_written greatest)
 given greatest None r none value = ap (λ o. o >>= up_to greatest) (none refl)
 given greatest (Some u) (Some z) none value = read_number ParseIntError greatest u z (value u refl).0
 given greatest (Some u) None none value = let h = value u refl in read_none greatest u h.0 h.1.0

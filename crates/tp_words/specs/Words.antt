@@ -82,13 +82,13 @@ up_to greatest (negsuc n) = None
 
 -- the number that a text writes, where it is a whole number 0 to the greatest, as clap takes it: digits,
 -- maybe after a sign; of those after a minus only zeros are in range, and write 0
-abbrev pub number_of : ℕ → Text → Option ℕ
-number_of greatest text =
+abbrev pub number_written : ℕ → Text → Option ℕ
+number_written greatest text =
     when (is_signed_in (pos 0) (pos greatest) text) >> Some (unsigned_abs (signed_digits_value 10 text))
 
 -- the value of `--NAME`
 unfoldable pub number_in : Text → ℕ → List Row → Option ℕ
-number_in name greatest rows = one_of name rows >>= number_of greatest
+number_in name greatest rows = one_of name rows >>= number_written greatest
 
 -- clap takes no words without a subcommand, no other name of one, and no text of an option that writes no
 -- such number: these are never asked for

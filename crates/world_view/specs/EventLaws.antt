@@ -23,7 +23,7 @@ use Rattle.world_view.specs.Cost.{hierarchy}
 use Rattle.world_view.specs.Event.{place, instruction, delivery_touches, Event, event}
 use Rattle.world_view.specs.Event.Event.{Jump, Deliver, Run}
 use Rattle.world_view.specs.Machine.{setting, Local, step}
-use Rattle.world_view.specs.Relations.{IsDomain, shape_of, largest_step, HasFacts, MayAll}
+use Rattle.world_view.specs.Relations.{IsDomain, own_shape, largest_step, HasFacts, MayAll}
 use Rattle.world_view.specs.Laws.{local_in}
 use Rattle.world_view.specs.Interrupts.{owner}
 
@@ -63,7 +63,7 @@ SlotTouchesLaw = (i : Image) (k n : ℕ) → Runnable i →
 -- operation of the domain's bound at most, and an instruction, with its kernel call, its instruction and operation
 abbrev pub EndsBy : Hardware → Own → ℕ → ℕ → Event → ℕ → Type 0
 EndsBy p o now end (Jump t) later = later ≤ end
-EndsBy p o now end (Deliver line) later = later ≤ now + worst_operation (shape_of p o)
+EndsBy p o now end (Deliver line) later = later ≤ now + worst_operation (own_shape p o)
 EndsBy p o now end Run later = later ≤ now + largest_step p o
 
 abbrev pub StepCostLaw : Type 0
@@ -85,7 +85,7 @@ next_instruction p o d m =
 abbrev pub PlainCostLaw : Type 0
 PlainCostLaw = (p : Hardware) (o : Own) (pinned : Bool) (end : ℕ) (s : Local) → HasWays (hierarchy p) s.caches
     → event o s.clock end s.dom ≡ Run → next_instruction p o s.dom s.storage.mem ≢ Some Ecall
-    → (step (setting p o pinned) end s).clock ≤ s.clock + worst_instruction (shape_of p o)
+    → (step (setting p o pinned) end s).clock ≤ s.clock + worst_instruction (own_shape p o)
 
 -- at each moment of each slot the caches have their ways, so each step costs no more
 abbrev pub SlotCostLaw : Type 0

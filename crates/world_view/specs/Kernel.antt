@@ -6,30 +6,29 @@ use Rattle.cap_table.specs.declared.Cap.{Cap}
 use Rattle.cap_table.specs.declared.Cap.TheVariants as cap
 use Rattle.cap_table.specs.Slots.{Slots}
 use Rattle.kernel_clone.specs.Footprints.{Layout}
-use Rattle.call_table.specs.Claims.{Claim, Estate, place_of}
+use Rattle.call_table.specs.Claims.{Claim, Estate, entry_places}
 use Rattle.call_table.specs.declared.DomainStatus.TheVariants.{Exited}
 use Rattle.call_table.specs.Domain as domain
 use Rattle.call_table.specs.Domain.{Dom}
 use Rattle.hardware_check.specs.Hardware.{Hardware, colours_of}
-use Rattle.domain_check.specs.declared.segments.Rights.{Rights}
 use Rattle.domain_check.specs.declared.capabilities.InitialCap.{InitialCap}
 use Rattle.domain_check.specs.declared.capabilities.InitialCap.TheVariants as initial
 use Rattle.image_check.specs.Own.{Segment, Own, cap_at}
 use Rattle.image_check.specs.Pages.{has_page_in, has_region, share_of}
 use Rattle.world_view.specs.Frames.{pool_frame, clone_frames, root_of, table_frame, page_frame}
-use Rattle.world_view.specs.Opening.{rights_in, rights_number}
+use Rattle.world_view.specs.Opening.{rights_in}
 
 -- ---- capabilities at first
 
--- the rights of a page of the domain's segments
-abbrev pub number_of : Option Rights → ℕ
-number_of None = 0
-number_of (Some r) = rights_number r
+-- none where there is no page
+abbrev pub rights_or_none : Option ℕ → ℕ
+rights_or_none None = 0
+rights_or_none (Some r) = r
 
 -- a page's is mapped at its page, with its segment's rights
 unfoldable pub first_cap : Hardware → Own → InitialCap → Option Cap
 first_cap p o initial.None = None
-first_cap p o (initial.Page n) = Some (cap.Frame (page_frame p o n) (number_of (rights_in o.segments n)) (Some (n * 4096)))
+first_cap p o (initial.Page n) = Some (cap.Frame (page_frame p o n) (rights_or_none (rights_in o.segments n)) (Some (n * 4096)))
 first_cap p o (initial.Irq line) = Some (cap.Irq line)
 
 unfoldable pub first_slots : Hardware → Own → Slots
@@ -37,7 +36,7 @@ first_slots p o = map (λ i. first_cap p o (cap_at o i)) (range_with_len 0 64)
 
 -- thread 0 is ready at the entry
 unfoldable pub opening_dom : Hardware → Own → Dom
-opening_dom p o = domain.opening o.entry (first_slots p o)
+opening_dom p o = domain.dom_at_entry o.entry (first_slots p o)
 
 -- ---- what its frames are used as for good
 
@@ -72,7 +71,7 @@ table_claim p o r = Claim.Directory (table_frame p o r) (Some r)
 
 -- a page that stays is mapped at its place in the table of its region
 abbrev pub page_claim : Hardware → Own → ℕ → Claim
-page_claim p o n = Claim.Leaf false (page_frame p o n) (place_of (Some (n * 4096)))
+page_claim p o n = Claim.Leaf false (page_frame p o n) (entry_places (Some (n * 4096)))
 
 -- the kernel clone's frames, the root, the first tables, and the pages that stay
 unfoldable pub fixed_claims : Hardware → Own → List Claim
@@ -107,4 +106,4 @@ frames_for_good p o =
 
 -- where no domain is
 unfoldable pub no_dom : Dom
-no_dom = record (domain.opening 0 []) { status = Exited 0 }
+no_dom = record (domain.dom_at_entry 0 []) { status = Exited 0 }

@@ -1,6 +1,5 @@
 -- The laws of the machine over its definitions, each as a type; they are the clauses of the functions of `laws`.
 use Rattle.std.specs.Prelude.{◌≡◌, ◌≢◌, ℕ, true, false, ◌+◌, ◌/◌, ◌%◌, ◌<◌, ◌≤◌, ◌^◌, ◌⊎◌, List, ◌∷◌, ◌++◌, length, Some, None, Result, Ok, Err, take, All}
-use Rattle.domain_check.specs.declared.segments.Rights.{Rights}
 use Rattle.hardware_check.specs.Hardware.{Hardware, IsHardware, colours_of}
 use Rattle.sched_table.specs.Schedule.{entry_in}
 use Rattle.image_check.specs.Own.{Own}
@@ -13,7 +12,7 @@ use Rattle.image_check.specs.Image.{Image, own_of}
 use Rattle.phys_mem.specs.Mem.{word}
 use Rattle.image_check.specs.Pages.{frames_in}
 use Rattle.world_view.specs.Frames.{own_frame, pool, pool_frame, root_of, page_frame, clone_frames, first_tables, page_frames, free_frames}
-use Rattle.world_view.specs.Opening.{rights_in, rights_number}
+use Rattle.world_view.specs.Opening.{rights_in}
 use Rattle.world_view.specs.Reading.{image}
 use Rattle.sched_table.specs.Schedule.{entry_of_slot, start, slot_end, outgoing}
 use Rattle.mem_system.specs.Cost.{Touch, Caches, at_no_cost, and_then, touched_all}
@@ -89,19 +88,19 @@ opening_walk i d va a =
     (walk (whole i 0).storage.mem p.frames (root_of p (own_of i d)) va a).result
 
 -- the rights that a domain's segments give the page of an address
-abbrev pub rights_at : Image → ℕ → ℕ → Rights → Type 0
-rights_at i d va r = rights_in (own_of i d).segments (va / 4096) ≡ Some r
+abbrev pub rights_at : Image → ℕ → ℕ → ℕ → Type 0
+rights_at i d va rights = rights_in (own_of i d).segments (va / 4096) ≡ Some rights
 
 -- it comes to the page that one of the domain's segments has there, where its rights let the access through
 abbrev pub OpeningPageLaw : Type 0
-OpeningPageLaw = (i : Image) (d va : ℕ) (a : Access) (r : Rights) → Runnable i → IsDomain i d → va < 2 ^ 32
-    → rights_at i d va r → rights_permit (rights_number r) a ≡ true
-    → opening_walk i d va a ≡ Ok (leaf_word (page_frame i.all.hardware (own_of i d) (va / 4096)) (rights_number r))
+OpeningPageLaw = (i : Image) (d va : ℕ) (a : Access) (rights : ℕ) → Runnable i → IsDomain i d → va < 2 ^ 32
+    → rights_at i d va rights → rights_permit rights a ≡ true
+    → opening_walk i d va a ≡ Ok (leaf_word (page_frame i.all.hardware (own_of i d) (va / 4096)) rights)
 
 -- else it is a page fault
 abbrev pub OpeningRightsLaw : Type 0
-OpeningRightsLaw = (i : Image) (d va : ℕ) (a : Access) (r : Rights) → Runnable i → IsDomain i d → va < 2 ^ 32
-    → rights_at i d va r → rights_permit (rights_number r) a ≡ false → opening_walk i d va a ≡ Err fault.Page
+OpeningRightsLaw = (i : Image) (d va : ℕ) (a : Access) (rights : ℕ) → Runnable i → IsDomain i d → va < 2 ^ 32
+    → rights_at i d va rights → rights_permit rights a ≡ false → opening_walk i d va a ≡ Err fault.Page
 
 abbrev pub OpeningNoPageLaw : Type 0
 OpeningNoPageLaw = (i : Image) (d va : ℕ) (a : Access) → Runnable i → IsDomain i d → va < 2 ^ 32
@@ -109,7 +108,7 @@ OpeningNoPageLaw = (i : Image) (d va : ℕ) (a : Access) → Runnable i → IsDo
 
 -- each page of a domain has a frame of its own
 abbrev pub OpeningFramesLaw : Type 0
-OpeningFramesLaw = (i : Image) (d n m : ℕ) (r q : Rights) → Runnable i → IsDomain i d
+OpeningFramesLaw = (i : Image) (d n m r q : ℕ) → Runnable i → IsDomain i d
     → rights_in (own_of i d).segments n ≡ Some r → rights_in (own_of i d).segments m ≡ Some q
     → page_frame i.all.hardware (own_of i d) n ≡ page_frame i.all.hardware (own_of i d) m → n ≡ m
 

@@ -4,7 +4,6 @@ use Rattle.std.specs.List.{range_with_len}
 use Rattle.tp_base.specs.Table.{empty, at, put}
 use Rattle.phys_mem.specs.Mem.{Frame, Mem}
 use Rattle.sv32_walk.specs.PageTableEntry.{table_word, leaf_word}
-use Rattle.domain_check.specs.declared.segments.Rights.{Rights}
 use Rattle.hardware_check.specs.Hardware.{Hardware}
 use Rattle.image_check.specs.Own.{Segment, Own}
 use Rattle.image_check.specs.Pages.{has_page, has_region}
@@ -31,17 +30,13 @@ unfoldable pub root_entry : Hardware → Own → ℕ → ℕ
 root_entry p o r = if has_region o.segments r then table_word (table_frame p o r) else 0
 
 -- the rights of a page, if there is that page
-unfoldable pub rights_in : List Segment → ℕ → Option Rights
+unfoldable pub rights_in : List Segment → ℕ → Option ℕ
 rights_in [] n = None
 rights_in (s ∷ ss) n = if has_page s n then Some s.rights else rights_in ss n
 
--- 1 read, 2 write, 4 execute
-abbrev pub rights_number : Rights → ℕ
-rights_number r = (if r.read then 1 else 0) + (if r.write then 2 else 0) + (if r.execute then 4 else 0)
-
-unfoldable pub leaf_with : Hardware → Own → ℕ → Option Rights → ℕ
+unfoldable pub leaf_with : Hardware → Own → ℕ → Option ℕ → ℕ
 leaf_with p o n None = 0
-leaf_with p o n (Some r) = leaf_word (page_frame p o n) (rights_number r)
+leaf_with p o n (Some r) = leaf_word (page_frame p o n) r
 
 -- a table's entry for a page names the page's frame
 unfoldable pub leaf_entry : Hardware → Own → ℕ → ℕ

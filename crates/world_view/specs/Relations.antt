@@ -31,16 +31,16 @@ abbrev pub IsDomain : Image → ℕ → Type 0
 IsDomain i d = d < length i.owns
 
 -- what the bound on a switch out of a domain's slot depends on
-abbrev pub shape_of : Hardware → Own → MachineShape
-shape_of p o = shape_for p o.calls
+abbrev pub own_shape : Hardware → Own → MachineShape
+own_shape p o = shape_for p o.calls
 
 -- the most cycles that one step of the domain takes: an instruction, and the operation that it calls
 abbrev pub largest_step : Hardware → Own → ℕ
-largest_step p o = worst_instruction (shape_of p o) + worst_operation (shape_of p o)
+largest_step p o = worst_instruction (own_shape p o) + worst_operation (own_shape p o)
 
 -- the most cycles from the end of its slot to the end of the next switch's work
 abbrev pub bound : Hardware → Own → ℕ
-bound p o = bound_of (shape_of p o)
+bound p o = bound_of (own_shape p o)
 
 -- whose slot ended before switch k: at the boot the last entry's domain counts so
 abbrev pub ended_own : Image → ℕ → Own

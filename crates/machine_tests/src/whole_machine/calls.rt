@@ -341,7 +341,7 @@ fn is_mapped_at(cap: &Option<Cap>, address: u32) -> bool {
 fn allows(cap: &Option<Cap>, page: u32, given: u32) -> bool {
     match cap {
         Some(Cap::Frame { frame, rights, .. }) => {
-            frame.number() == page && u32::from(*rights) & given == given
+            frame.number() == page && u32::from(rights.number()) & given == given
         }
         _ => false,
     }

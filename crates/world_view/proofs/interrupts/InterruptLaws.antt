@@ -96,7 +96,7 @@ module _ (i : Image) (r : Separated i) where
       (part_of 0 (entry_of_slot i.all.schedule k).domain (switch i k (whole i k)))
 
   none_first : (o : Own) → (opening_dom i.all.hardware o).delivered ≤ length o.moments
-  unfolding opening_dom domain.opening
+  unfolding opening_dom domain.dom_at_entry
   none_first o = omega arith
 
   pub few_in : (k n d : ℕ) → IsDomain i d → (dom_of (world_in i k n) d).delivered ≤ length (own_of i d).moments

@@ -145,7 +145,7 @@ module _ (p : Hardware) (o : Own) where
 
 module _ (i : Image) (r : Separated i) where
   first_turn : (o : Own) → HasTurn (opening_dom i.all.hardware o).threads
-  unfolding opening_dom domain.opening threads.opening
+  unfolding opening_dom domain.dom_at_entry threads.threads_at_entry
   first_turn o = record { eight = opening-eight o.entry; ready = λ t below is. refl }
 
   pub turn_in : (k n d : ℕ) → IsDomain i d → HasTurn (dom_of (world_in i k n) d).threads

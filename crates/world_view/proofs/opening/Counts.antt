@@ -3,12 +3,11 @@ use Rattle.std.proofs.Common.{◌≡◌, ℕ, zero, suc, ◌+◌, ◌-◌, ◌*�
 use Rattle.std.proofs.lemmas.Bool.{cases_Bool, cases_lt, cases_eq, leb-true, ltb-true, lt-ltb, and_parts}
 use Rattle.std.proofs.Math.Bool.{or-true}
 use Rattle.std.proofs.lemmas.Option.{none-some, same_Some}
-use Rattle.domain_check.specs.declared.segments.Rights.{Rights}
 use Rattle.image_check.specs.Own.{Segment, Own, no_segment}
-use Rattle.image_check.specs.Laws.{AreRights, IsSegment, IsOwn}
-use Rattle.sv32_walk.specs.PageTableEntry.{are_good}
+use Rattle.image_check.specs.Laws.{IsSegment, IsOwn}
+use Rattle.tp_base.specs.Rights.{are_good}
 use Rattle.image_check.specs.Pages.{has_page, meets, has_region, regions_below, pages_below, pages_in}
-use Rattle.world_view.specs.Opening.{rights_in, rights_number}
+use Rattle.world_view.specs.Opening.{rights_in}
 
 -- ---- regions
 
@@ -161,7 +160,7 @@ page_once ss n m there other e =
     ]
 
 -- a page that has rights is there
-pub rights_there : (ss : List Segment) (n : ℕ) (r : Rights) → rights_in ss n ≡ Some r → is_page ss n ≡ true
+pub rights_there : (ss : List Segment) (n : ℕ) (r : ℕ) → rights_in ss n ≡ Some r → is_page ss n ≡ true
 unfolding rights_in is_page
 rights_there [] n r e = absurd (none-some r e)
 rights_there (s ∷ ss) n r e =
@@ -171,7 +170,7 @@ rights_there (s ∷ ss) n r e =
     ]
 
 -- and so is its region
-pub rights_region : (ss : List Segment) (n : ℕ) (r : Rights) → rights_in ss n ≡ Some r → has_region ss (n / 1024) ≡ true
+pub rights_region : (ss : List Segment) (n : ℕ) (r : ℕ) → rights_in ss n ≡ Some r → has_region ss (n / 1024) ≡ true
 unfolding rights_in has_region
 rights_region [] n r e = absurd (none-some r e)
 rights_region (s ∷ ss) n r e =
@@ -186,26 +185,15 @@ rights_region (s ∷ ss) n r e =
 
 -- ---- rights
 
-rights_sound : (ss : List Segment) (n : ℕ) (r : Rights) → ((k : ℕ) → IsSegment (get_or ss k no_segment)) → rights_in ss n ≡ Some r → AreRights r
+-- the rights of a page are good
+good_in : (ss : List Segment) (n r : ℕ) → ((k : ℕ) → IsSegment (get_or ss k no_segment)) → rights_in ss n ≡ Some r → are_good r ≡ true
 unfolding rights_in
-rights_sound [] n r each e = absurd (none-some r e)
-rights_sound (s ∷ ss) n r each e =
+good_in [] n r each e = absurd (none-some r e)
+good_in (s ∷ ss) n r each e =
     elim (cases_Bool (has_page s n)) [
-      | inl here ↦ subst AreRights (same_Some s.rights r (rw here at e)) (each 0).rights
-      | inr elsewhere ↦ rights_sound ss n r (λ k. each (suc k)) (rw elsewhere at e)
+      | inl here ↦ subst (λ (x : ℕ). are_good x ≡ true) (same_Some s.rights r (rw here at e)) (each 0).rights
+      | inr elsewhere ↦ good_in ss n r (λ k. each (suc k)) (rw elsewhere at e)
     ]
 
-good_number : (r w x : Bool) → r || x ≡ true → (w ≡ true → r ≡ true) → are_good (cond r 1 0 + cond w 2 0 + cond x 4 0) ≡ true
-good_number true true true some reads = refl
-good_number true true false some reads = refl
-good_number true false true some reads = refl
-good_number true false false some reads = refl
-good_number false true x some reads = absurd (cc (reads refl))
-good_number false false true some reads = refl
-good_number false false false some reads = absurd (cc)
-
--- the rights of a page are good
-pub rights_are_good : (o : Own) (n : ℕ) (r : Rights) → IsOwn o → rights_in o.segments n ≡ Some r → are_good (rights_number r) ≡ true
-rights_are_good o n r sound e =
-    let is = rights_sound o.segments n r sound.segments e in
-    good_number r.read r.write r.execute is.some is.write_reads
+pub rights_are_good : (o : Own) (n r : ℕ) → IsOwn o → rights_in o.segments n ≡ Some r → are_good r ≡ true
+rights_are_good o n r sound e = good_in o.segments n r sound.segments e

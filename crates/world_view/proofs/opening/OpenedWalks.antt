@@ -13,14 +13,13 @@ use Rattle.sv32_walk.proofs.WalkLemmas.{leaf_in_words}
 use Rattle.sv32_walk.specs.PageTableEntry.{rights_permit, table_word, leaf_word}
 use Rattle.sv32_walk.proofs.WordLemmas.{valid-zero, ppn-table, points-table, ppn-leaf, allows-leaf, refuses-leaf}
 use Rattle.page_map.proofs.WalkLemmas.{last_invalid, last_refused, by_table, no_entry, vpn_0-below, vpn_1-below}
-use Rattle.domain_check.specs.declared.segments.Rights.{Rights}
 use Rattle.hardware_check.specs.Hardware.{Hardware}
 use Rattle.image_check.specs.Own.{Own}
 use Rattle.image_check.specs.Laws.{IsOwn}
 use Rattle.image_check.specs.Image.{Image, own_of}
 use Rattle.image_check.specs.Pages.{has_region, frames_in}
 use Rattle.world_view.specs.Frames.{pool, root_of, table_frame, page_frame}
-use Rattle.world_view.specs.Opening.{root_entry, rights_in, rights_number, leaf_with, leaf_entry, placed}
+use Rattle.world_view.specs.Opening.{root_entry, rights_in, leaf_with, leaf_entry, placed}
 use Rattle.world_view.specs.Kernel.{opening_dom, estate}
 use Rattle.world_view.specs.Machine.{opening, alone_opening, whole_by}
 use Rattle.world_view.specs.Relations.{IsDomain}
@@ -41,7 +40,7 @@ page_region : (va : ℕ) → va < 2 ^ 32 → va / 4096 / 1024 ≡ vpn_1 va
 unfolding vpn_1
 page_region va fits = omega (arith, fits)
 
-leaf_some : (p : Hardware) (o : Own) (n : ℕ) (r : Rights) → rights_in o.segments n ≡ Some r → leaf_entry p o n ≡ leaf_word (page_frame p o n) (rights_number r)
+leaf_some : (p : Hardware) (o : Own) (n : ℕ) (r : ℕ) → rights_in o.segments n ≡ Some r → leaf_entry p o n ≡ leaf_word (page_frame p o n) r
 unfolding leaf_entry leaf_with
 leaf_some p o n r e = rw e refl
 
@@ -79,33 +78,33 @@ module _ (p : Hardware) (o : Own) (m : Mem) (sound : IsOwn o) (enough : frames_i
   ends some = by_table (placed p o m) p.frames (root_of p o) va a in_root (points some) (in_table some) ∙ ap (last_level p.frames a) (second_is some)
 
   -- a page is in a region that has one
-  region_of : (r : Rights) → rights_in o.segments (va / 4096) ≡ Some r → has_region o.segments (vpn_1 va) ≡ true
+  region_of : (r : ℕ) → rights_in o.segments (va / 4096) ≡ Some r → has_region o.segments (vpn_1 va) ≡ true
   region_of r e = ap (has_region o.segments) (sym (page_region va fits)) ∙ rights_region o.segments (va / 4096) r e
 
-  placed_page : (r : Rights) → rights_in o.segments (va / 4096) ≡ Some r → rights_permit (rights_number r) a ≡ true
-      → (walk (placed p o m) p.frames (root_of p o) va a).result ≡ Ok (leaf_word (page_frame p o (va / 4096)) (rights_number r))
+  placed_page : (r : ℕ) → rights_in o.segments (va / 4096) ≡ Some r → rights_permit r a ≡ true
+      → (walk (placed p o m) p.frames (root_of p o) va a).result ≡ Ok (leaf_word (page_frame p o (va / 4096)) r)
   placed_page r e given =
       let n = va / 4096 in
       let some = region_of r e in
       let are_good = rights_are_good o n r sound e in
-      let leaf = leaf_word (page_frame p o n) (rights_number r) in
+      let leaf = leaf_word (page_frame p o n) r in
       let second : second_entry (placed p o m) (root_of p o) va ≡ leaf = second_is some ∙ leaf_some p o n r e in
       let own = own_inside p o _ (own_page p o enough n (rights_there o.segments n r e)) in
-      let named = ap ppn second ∙ ppn-leaf (page_frame p o n) (rights_number r) are_good in
+      let named = ap ppn second ∙ ppn-leaf (page_frame p o n) r are_good in
       let in_page : InPage (placed p o m) p.frames (root_of p o) va a = record {
         in_root = in_root;
         pointer = points some;
         in_table = in_table some;
-        allowed = subst (Allows a) (sym second) (allows-leaf (page_frame p o n) (rights_number r) a are_good given);
+        allowed = subst (Allows a) (sym second) (allows-leaf (page_frame p o n) r a are_good given);
       } in
       (leaf_in_words (placed p o m) p.frames (root_of p o) va a leaf).1 (small in_page (subst (λ (f : ℕ). f < p.frames) (sym named) own) (sym second))
 
-  placed_refused : (r : Rights) → rights_in o.segments (va / 4096) ≡ Some r → rights_permit (rights_number r) a ≡ false
+  placed_refused : (r : ℕ) → rights_in o.segments (va / 4096) ≡ Some r → rights_permit r a ≡ false
       → (walk (placed p o m) p.frames (root_of p o) va a).result ≡ Err fault.Page
   placed_refused r e refused =
       let n = va / 4096 in
       ends (region_of r e) ∙ ap (last_level p.frames a) (leaf_some p o n r e)
-      ∙ last_refused p.frames a (leaf_word (page_frame p o n) (rights_number r)) (refuses-leaf (page_frame p o n) (rights_number r) a (rights_are_good o n r sound e) refused)
+      ∙ last_refused p.frames a (leaf_word (page_frame p o n) r) (refuses-leaf (page_frame p o n) r a (rights_are_good o n r sound e) refused)
 
   placed_nowhere : rights_in o.segments (va / 4096) ≡ None → (walk (placed p o m) p.frames (root_of p o) va a).result ≡ Err fault.Page
   placed_nowhere e =
@@ -132,18 +131,18 @@ module _ (i : Image) (r : Separated i) (d : ℕ) (is : IsDomain i d) (va : ℕ) 
       let m = placed hardware own empty in
       ap (λ (w : Walk). w.result) (walk_alike hardware own (estate hardware own).root (IsPage hardware own dom m) m (walkable hardware own dom m (placed_facts hardware own (r.enough d is) (r.sound d) empty)) va a (opening i).storage.mem (λ f mine. sym (opening_frames i r d is f mine)))
 
-  pub opened_page : (q : Rights) → va < 2 ^ 32 → rights_in own.segments (va / 4096) ≡ Some q → rights_permit (rights_number q) a ≡ true
-      → opening_walk i d va a ≡ Ok (leaf_word (page_frame hardware own (va / 4096)) (rights_number q))
+  pub opened_page : (q : ℕ) → va < 2 ^ 32 → rights_in own.segments (va / 4096) ≡ Some q → rights_permit q a ≡ true
+      → opening_walk i d va a ≡ Ok (leaf_word (page_frame hardware own (va / 4096)) q)
   opened_page q fits e given = own_walk ∙ placed_page hardware own empty (r.sound d) (r.enough d is) va fits a q e given
 
-  pub opened_refused : (q : Rights) → va < 2 ^ 32 → rights_in own.segments (va / 4096) ≡ Some q → rights_permit (rights_number q) a ≡ false → opening_walk i d va a ≡ Err fault.Page
+  pub opened_refused : (q : ℕ) → va < 2 ^ 32 → rights_in own.segments (va / 4096) ≡ Some q → rights_permit q a ≡ false → opening_walk i d va a ≡ Err fault.Page
   opened_refused q fits e refused = own_walk ∙ placed_refused hardware own empty (r.sound d) (r.enough d is) va fits a q e refused
 
   pub opened_nowhere : va < 2 ^ 32 → rights_in own.segments (va / 4096) ≡ None → opening_walk i d va a ≡ Err fault.Page
   opened_nowhere fits e = own_walk ∙ placed_nowhere hardware own empty (r.sound d) (r.enough d is) va fits a e
 
 -- each page has a frame of its own
-pub pages_apart : (i : Image) (d n m : ℕ) (r q : Rights) → Separated i → IsDomain i d → rights_in (own_of i d).segments n ≡ Some r → rights_in (own_of i d).segments m ≡ Some q
+pub pages_apart : (i : Image) (d n m : ℕ) (r q : ℕ) → Separated i → IsDomain i d → rights_in (own_of i d).segments n ≡ Some r → rights_in (own_of i d).segments m ≡ Some q
     → page_frame i.all.hardware (own_of i d) n ≡ page_frame i.all.hardware (own_of i d) m → n ≡ m
 pages_apart i d n m r q sep is here there same =
     let o = own_of i d in

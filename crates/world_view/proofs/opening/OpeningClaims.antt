@@ -13,7 +13,7 @@ use Rattle.frame_colours.specs.Colours as colours
 use Rattle.frame_colours.specs.Colours.{has}
 use Rattle.frame_colours.proofs.Ascending.{has_head, has_other, has_at}
 use Rattle.cap_table.specs.Slots as slots
-use Rattle.call_table.specs.Claims.{Claim, Claims, frame_of, claim_of, claims, place_of}
+use Rattle.call_table.specs.Claims.{Claim, Claims, frame_of, claim_of, claims, entry_places}
 use Rattle.call_table.proofs.ClaimLawsSlots.{claims_at, claims_fixed}
 use Rattle.hardware_check.specs.Hardware.{Hardware}
 use Rattle.domain_check.specs.declared.capabilities.InitialCap.{InitialCap}
@@ -339,7 +339,7 @@ pub data Case (p : Hardware) (o : Own) (i : ℕ) (c : Claim) : Type 0 where
   nothing : c ≡ Claim.Nothing → Case p o i c
   fixed : (n : ℕ) → i ≡ 64 + n → n < 5 → c ≡ Claim.Fixed (pool_frame p o n) → Case p o i c
   table : (j : ℕ) → i ≡ 69 + j → j < length (first_regions o) → c ≡ table_claim p o (get_or (first_regions o) j 0) → Case p o i c
-  page : (n : ℕ) (b : Bool) → Holds o i n → is_page o.segments n ≡ true → c ≡ Claim.Leaf b (page_frame p o n) (place_of (Some (n * 4096))) → Case p o i c
+  page : (n : ℕ) (b : Bool) → Holds o i n → is_page o.segments n ≡ true → c ≡ Claim.Leaf b (page_frame p o n) (entry_places (Some (n * 4096))) → Case p o i c
 
 -- the place in the pool of a claim's frame
 pub place : {p : Hardware} {o : Own} {i : ℕ} {c : Claim} → Case p o i c → ℕ
@@ -446,7 +446,7 @@ module _ (p : Hardware) (o : Own) (enough : frames_in o.segments ≤ length (poo
       (64 + (5 + at.0), k_fixed (5 + at.0) ∙ fix_table p o enough at.0 at.1 ∙ ap (table_claim p o) at.2)
 
   -- and each page its own
-  pub page_slot : (n : ℕ) → is_page o.segments n ≡ true → (i : ℕ) × (b : Bool) × (k i ≡ Claim.Leaf b (page_frame p o n) (place_of (Some (n * 4096))))
+  pub page_slot : (n : ℕ) → is_page o.segments n ≡ true → (i : ℕ) × (b : Bool) × (k i ≡ Claim.Leaf b (page_frame p o n) (entry_places (Some (n * 4096))))
   unfolding claim_of first_cap
   page_slot n there =
       elim (cases_Bool (stays o n)) [

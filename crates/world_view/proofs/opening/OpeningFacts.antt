@@ -8,17 +8,16 @@ use Rattle.phys_mem.specs.Mem.{Mem, Frame, word}
 use Rattle.sv32_walk.specs.PageTableEntry.{valid, table_word, leaf_word, vpn_0, vpn_1}
 use Rattle.sv32_walk.proofs.WordLemmas.{valid-zero}
 use Rattle.kernel_clone.specs.Footprints.{IsLayout}
-use Rattle.call_table.specs.Claims.{Claim, Claims, frame_of, is_shared, leaf_at, place_of, claims, IsTable, IsLeaf, IsMapped, Facts, IsEstate}
+use Rattle.call_table.specs.Claims.{Claim, Claims, frame_of, is_shared, leaf_at, entry_places, claims, IsTable, IsLeaf, IsMapped, Facts, IsEstate}
 use Rattle.call_table.specs.Domain as domain
 use Rattle.call_table.specs.Laws.{Kept}
 use Rattle.hardware_check.specs.Hardware.{Hardware, IsHardware}
-use Rattle.domain_check.specs.declared.segments.Rights.{Rights}
 use Rattle.image_check.specs.Own.{Segment, Own, no_segment}
 use Rattle.image_check.specs.Laws.{IsSegment, IsOwn}
 use Rattle.image_check.specs.Image.{Image, own_of}
 use Rattle.image_check.specs.Pages.{has_page, has_region, frames_in}
 use Rattle.world_view.specs.Frames.{pool, pool_frame, root_of, table_frame, page_frame, own_frame}
-use Rattle.world_view.specs.Opening.{root_entry, rights_in, rights_number, leaf_with, leaf_entry, placed}
+use Rattle.world_view.specs.Opening.{root_entry, rights_in, leaf_with, leaf_entry, placed}
 use Rattle.world_view.specs.Kernel.{first_regions, kept_pages, table_claim, fixed_claims, first_slots, estate, layout, opening_dom}
 use Rattle.world_view.specs.Cost.{own_colour}
 use Rattle.world_view.specs.Machine.{opening, alone_opening}
@@ -46,7 +45,7 @@ page_small (s ∷ ss) n each there =
       | inr elsewhere ↦ page_small ss n (λ k. each (suc k)) (rw elsewhere at there)
     ]
 
-pub page_rights : (ss : List Segment) (n : ℕ) → is_page ss n ≡ true → (r : Rights) × (rights_in ss n ≡ Some r)
+pub page_rights : (ss : List Segment) (n : ℕ) → is_page ss n ≡ true → (r : ℕ) × (rights_in ss n ≡ Some r)
 unfolding is_page rights_in
 page_rights [] n there = absurd (true≢false (sym there))
 page_rights (s ∷ ss) n there =
@@ -56,19 +55,19 @@ page_rights (s ∷ ss) n there =
     ]
 
 -- the places of a page in the root and in its table
-page_at : (n : ℕ) → n < 2 ^ 20 → place_of (Some (n * 4096)) ≡ Some (n / 1024, n % 1024)
-unfolding place_of vpn_1 vpn_0
+page_at : (n : ℕ) → n < 2 ^ 20 → entry_places (Some (n * 4096)) ≡ Some (n / 1024, n % 1024)
+unfolding entry_places vpn_1 vpn_0
 page_at n small =
     let first : n * 4096 / 2 ^ 22 % 2 ^ 10 ≡ n / 1024 = omega (arith, small) in
     let second : n * 4096 / 2 ^ 12 % 2 ^ 10 ≡ n % 1024 = omega (arith, small) in
     rw (first, second) refl
 
-leaf_is : (p : Hardware) (o : Own) (n : ℕ) (r : Rights) → rights_in o.segments n ≡ Some r → leaf_entry p o n ≡ leaf_word (page_frame p o n) (rights_number r)
+leaf_is : (p : Hardware) (o : Own) (n : ℕ) (r : ℕ) → rights_in o.segments n ≡ Some r → leaf_entry p o n ≡ leaf_word (page_frame p o n) r
 unfolding leaf_entry leaf_with
 leaf_is p o n r e = rw e refl
 
 -- a valid entry for a page is that of one that is there
-leaf_there : (p : Hardware) (o : Own) (n : ℕ) (v : Option Rights) → rights_in o.segments n ≡ v → valid (leaf_with p o n v) ≡ true → (r : Rights) × (rights_in o.segments n ≡ Some r)
+leaf_there : (p : Hardware) (o : Own) (n : ℕ) (v : Option ℕ) → rights_in o.segments n ≡ v → valid (leaf_with p o n v) ≡ true → (r : ℕ) × (rights_in o.segments n ≡ Some r)
 unfolding leaf_with
 leaf_there p o n None e is_valid = absurd (true≢false (sym is_valid ∙ valid-zero))
 leaf_there p o n (Some r) e is_valid = (r, e)
@@ -154,7 +153,7 @@ module _ (p : Hardware) (o : Own) (enough : frames_in o.segments ≤ length (poo
       let same : table_claim p o (get_or (first_regions o) j 0) ≡ Claim.Directory f w = sym e ∙ is in
       record { region = get_or (first_regions o) j 0; some = at.0; low = at.1; frame = cc same; installed = cc same }
   table_of i f c w (Case.page n b h there e) is =
-      let no : Claim.Leaf b (page_frame p o n) (place_of (Some (n * 4096))) ≡ Claim.Directory f w = sym e ∙ is in absurd (cc no)
+      let no : Claim.Leaf b (page_frame p o n) (entry_places (Some (n * 4096))) ≡ Claim.Directory f w = sym e ∙ is in absurd (cc no)
 
   pub record IsPageOf (i r t : ℕ) (c : Claim) : Type 0 where
     pub number : ℕ
@@ -199,7 +198,7 @@ module _ (p : Hardware) (o : Own) (enough : frames_in o.segments ≤ length (poo
         ]
 
     -- the entry of a page in the table of its region
-    pub page_entry : (n : ℕ) (r : Rights) → rights_in o.segments n ≡ Some r → word (placed p o m) (table_frame p o (n / 1024)) (n % 1024) ≡ leaf_word (page_frame p o n) (rights_number r)
+    pub page_entry : (n : ℕ) (r : ℕ) → rights_in o.segments n ≡ Some r → word (placed p o m) (table_frame p o (n / 1024)) (n % 1024) ≡ leaf_word (page_frame p o n) r
     page_entry n r e =
         let there = rights_there o.segments n r e in
         table_words p o enough m (n / 1024) (n % 1024) (region_low n there) (omega arith) (page_region n there)
@@ -212,7 +211,7 @@ module _ (p : Hardware) (o : Own) (enough : frames_in o.segments ≤ length (poo
         record {
           slot = slot.0;
           frame = table_frame p o (n / 1024);
-          rights = rights_number has.0;
+          rights = has.0;
           claim = slot.1;
           good = rights_are_good o n has.0 sound has.1;
           entry_is = page_entry n has.0 has.1;
@@ -224,12 +223,12 @@ module _ (p : Hardware) (o : Own) (enough : frames_in o.segments ≤ length (poo
         let has = leaf_there p o n (rights_in o.segments n) refl (ap valid (sym e) ∙ is_valid) in
         let there = rights_there o.segments n has.0 has.1 in
         let slot = page_slot p o enough sound n there in
-        let place : place_of (Some (n * 4096)) ≡ Some (r, t) = page_at n (page_small o.segments n sound.segments there) ∙ rw (region, index) refl in
+        let place : entry_places (Some (n * 4096)) ≡ Some (r, t) = page_at n (page_small o.segments n sound.segments there) ∙ rw (region, index) refl in
         record {
           slot = slot.0;
           by_cap = slot.1;
           frame = page_frame p o n;
-          rights = rights_number has.0;
+          rights = has.0;
           claim = slot.2 ∙ ap (Claim.Leaf slot.1 (page_frame p o n)) place;
           good = rights_are_good o n has.0 sound has.1;
           entry_is = e ∙ leaf_is p o n has.0 has.1;
@@ -284,7 +283,7 @@ module _ (p : Hardware) (o : Own) (enough : frames_in o.segments ≤ length (poo
     }
 
     pub placed_facts : Kept (estate p o) (opening_dom p o) (placed p o m)
-    unfolding estate opening_dom domain.opening
+    unfolding estate opening_dom domain.dom_at_entry
     placed_facts = record { slots = slots_long p o enough sound; facts = root_facts }
 
 -- ---- all domains

@@ -13,7 +13,6 @@ use Rattle.call_table.specs.Calls.{is_within}
 use Rattle.call_table.specs.Domain as domain
 use Rattle.call_table.specs.Rights.{IsWithin, AreWithin}
 use Rattle.hardware_check.specs.Hardware.{Hardware}
-use Rattle.domain_check.specs.declared.segments.Rights.{Rights}
 use Rattle.domain_check.specs.declared.capabilities.InitialCap.{InitialCap}
 use Rattle.domain_check.specs.declared.capabilities.InitialCap.TheVariants as initial
 use Rattle.image_check.specs.Own.{Own, cap_at}
@@ -21,8 +20,8 @@ use Rattle.image_check.specs.Laws.{IsOwn}
 use Rattle.image_check.specs.Image.{Image, own_of}
 use Rattle.image_check.specs.Pages.{frames_in}
 use Rattle.world_view.specs.Frames.{pool, root_of, table_frame, page_frame}
-use Rattle.world_view.specs.Opening.{rights_in, rights_number, placed}
-use Rattle.world_view.specs.Kernel.{number_of, first_cap, first_slots, estate, opening_dom}
+use Rattle.world_view.specs.Opening.{rights_in, placed}
+use Rattle.world_view.specs.Kernel.{rights_or_none, first_cap, first_slots, estate, opening_dom}
 use Rattle.world_view.specs.Machine.{opening, alone_opening}
 use Rattle.world_view.specs.Relations.{IsDomain}
 use Rattle.world_view.proofs.opening.Counts.{is_page, rights_are_good}
@@ -49,11 +48,11 @@ second_index n small = omega (arith, small)
 
 module _ (p : Hardware) (o : Own) (enough : frames_in o.segments ≤ length (pool p o)) (sound : IsOwn o) (m : Mem) where
   page_within : (n : ℕ) → is_page o.segments n ≡ true
-      → IsWithin (estate p o) (placed p o m) (page_frame p o n) (number_of (rights_in o.segments n)) (n * 4096)
+      → IsWithin (estate p o) (placed p o m) (page_frame p o n) (rights_or_none (rights_in o.segments n)) (n * 4096)
   unfolding estate
   page_within n there =
       let has = page_rights o.segments n there in
-      let rights = rights_number has.0 in
+      let rights = has.0 in
       let small = page_small o.segments n sound.segments there in
       let memory = placed p o m in
       let table = table_frame p o (n / 1024) in
@@ -64,7 +63,7 @@ module _ (p : Hardware) (o : Own) (enough : frames_in o.segments ≤ length (poo
         table = ap valid entry ∙ (points-table table).is_valid;
         given = rights;
         good = rights_are_good o n has.0 sound has.1;
-        within = subst (λ (v : Option Rights). is_within rights (number_of v) ≡ true) (sym has.1) (itself rights);
+        within = subst (λ (v : Option ℕ). is_within rights (rights_or_none v) ≡ true) (sym has.1) (itself rights);
         leaf =
             ap (λ (e : ℕ). word memory (ppn e) (vpn_0 (n * 4096))) entry
             ∙ ap (λ (f : ℕ). word memory f (vpn_0 (n * 4096))) (ppn-table table)
@@ -78,15 +77,15 @@ module _ (p : Hardware) (o : Own) (enough : frames_in o.segments ≤ length (poo
   cap_within i (initial.Irq line) e f r va is = absurd (cc is)
   cap_within i (initial.Page n) e f r va is =
       let frame : page_frame p o n ≡ f = cc is in
-      let rights : number_of (rights_in o.segments n) ≡ r = cc is in
+      let rights : rights_or_none (rights_in o.segments n) ≡ r = cc is in
       let at : n * 4096 ≡ va = cc is in
       subst (λ (x : ℕ). IsWithin (estate p o) (placed p o m) f r x) at
       (subst (λ (x : ℕ). IsWithin (estate p o) (placed p o m) f x (n * 4096)) rights
-      (subst (λ (x : ℕ). IsWithin (estate p o) (placed p o m) x (number_of (rights_in o.segments n)) (n * 4096)) frame
+      (subst (λ (x : ℕ). IsWithin (estate p o) (placed p o m) x (rights_or_none (rights_in o.segments n)) (n * 4096)) frame
       (page_within n (page_same o.segments n ∙ sound.pages i n e))))
 
   placed_rights : AreWithin (estate p o) (opening_dom p o) (placed p o m)
-  unfolding opening_dom domain.opening
+  unfolding opening_dom domain.dom_at_entry
   placed_rights = record {
     each = λ i f r va is. elim (cases_lt i 64) [
       | inl low ↦ cap_within i (cap_at o i) refl f r va (sym (slot_is p o enough sound i low) ∙ is)

@@ -42,7 +42,7 @@ use Rattle.world_view.specs.Cost.{hierarchy}
 use Rattle.world_view.specs.EventLaws.{instruction_at, next_instruction}
 use Rattle.world_view.specs.Frames.{root_of}
 use Rattle.world_view.specs.Event.{Storage, Act, touch, frame_or_stop, translate, place, line_in, read, write, unless, load, store, product_time, division_time, digits_in, computed, loaded, guessed, settle, execute, timed, call_touches, make_call, perform, instruction, delivery_touches}
-use Rattle.world_view.specs.Relations.{shape_of, largest_step}
+use Rattle.world_view.specs.Relations.{own_shape, largest_step}
 
 -- a walk reads two entries at most
 few_reads : (m : Mem) (frames root va : ℕ) (a : Access) → length (walk m frames root va a).reads ≤ 2
@@ -261,7 +261,7 @@ module _ (p : Hardware) (o : Own) where
   emptied_costs false = refl
 
   -- a kernel call is within the operation
-  call_costs : (d : Dom) → Costs p (worst_operation (shape_of p o)) (make_call p (estate p o) (layout p o) d)
+  call_costs : (d : Dom) → Costs p (worst_operation (own_shape p o)) (make_call p (estate p o) (layout p o) d)
   unfolding make_call call_touches operation footprint worst worst_touches hierarchy layout estate
   call_costs d = record {
     within = λ s.
@@ -269,7 +269,7 @@ module _ (p : Hardware) (o : Own) where
         let l = layout p o in
         let w = work_of (number_made e d) (call e d s.mem).notes in
         let bounded = calls_bounded e d s.mem in
-        let covers = operation_covers (shape_of p o) l w bounded.call (few_written o.calls l w bounded (calls_permitted e d s.mem)) in
+        let covers = operation_covers (own_shape p o) l w bounded.call (few_written o.calls l w bounded (calls_permitted e d s.mem)) in
         let lines = worst_lines (hierarchy p) (touches l w) in
         let both = worst-append (hierarchy p) (operation p.costs l w) (if empties (call e d s.mem).notes then EmptyTlb ∷ [] else []) in
         let none = emptied_costs (empties (call e d s.mem).notes) in
@@ -278,7 +278,7 @@ module _ (p : Hardware) (o : Own) where
 
   -- what an instruction costs after its fetch
   perform_worst : ℕ
-  perform_worst = plain_worst p + worst_operation (shape_of p o)
+  perform_worst = plain_worst p + worst_operation (own_shape p o)
 
   executes : (t : ℕ) (d : Dom) (i : Instr) → Costs p perform_worst (timed p (estate p o).root t d i)
   unfolding perform_worst
@@ -287,7 +287,7 @@ module _ (p : Hardware) (o : Own) where
   perform_costs : (t : ℕ) (d : Dom) (w : ℕ) (i : Option Instr) → Costs p perform_worst (perform p (estate p o) (layout p o) t d w i)
   unfolding perform perform_worst
   perform_costs t d w None = more p 0 perform_worst _ (omega arith) (stop_costs p _)
-  perform_costs t d w (Some instr.Ecall) = more p (worst_operation (shape_of p o)) perform_worst _ (omega arith) (call_costs d)
+  perform_costs t d w (Some instr.Ecall) = more p (worst_operation (own_shape p o)) perform_worst _ (omega arith) (call_costs d)
   perform_costs t d w (Some i) = executes t d i
 
   instruction_costs : (t : ℕ) (d : Dom) → Costs p (worst_look p.costs (again_of p) + (worst_fetch p.costs (again_of p) + (0 + perform_worst))) (instruction p (estate p o) (layout p o) t d)
@@ -339,7 +339,7 @@ module _ (p : Hardware) (o : Own) where
 
   -- with its base, it is within the bound's instruction
   pub plain_within : (t : ℕ) (d : Dom) (s : Storage) → next_instruction p o d s.mem ≢ Some instr.Ecall
-      → p.costs.base + worst_touches (hierarchy p) (instruction p (estate p o) (layout p o) t d s).notes ≤ worst_instruction (shape_of p o)
+      → p.costs.base + worst_touches (hierarchy p) (instruction p (estate p o) (layout p o) t d s).notes ≤ worst_instruction (own_shape p o)
   unfolding worst access_worst worst_instruction instruction ◌>>=◌ translate estate
   plain_within t d s plain =
       let within = plain_by t d s (walk s.mem p.frames (root_of p o) d.threads.current.pc access.Fetch).result plain in
@@ -354,11 +354,11 @@ module _ (p : Hardware) (o : Own) where
   instruction_within t d s = let within = (instruction_costs t d).within s in omega (arith, within)
 
   -- a delivery is within the operation
-  pub delivery_within : worst_touches (hierarchy p) (delivery_touches p (layout p o)) ≤ worst_operation (shape_of p o)
+  pub delivery_within : worst_touches (hierarchy p) (delivery_touches p (layout p o)) ≤ worst_operation (own_shape p o)
   unfolding delivery_touches operation footprint worst_touches hierarchy layout
   delivery_within =
       let l = layout p o in
       let w = plain delivery_op in
-      let covers = operation_covers (shape_of p o) l w refl (few_written o.calls l w (record { call = refl; zeroes = λ frame is. absurd (cc is); few = omega arith }) (λ below. absurd (omega (arith, below)))) in
+      let covers = operation_covers (own_shape p o) l w refl (few_written o.calls l w (record { call = refl; zeroes = λ frame is. absurd (cc is); few = omega arith }) (λ below. absurd (omega (arith, below)))) in
       let lines = worst_lines (hierarchy p) (touches l w) in
       omega (arith, covers, lines)

@@ -15,7 +15,7 @@ use Rattle.sched_table.proofs.Starts.{soon_law}
 use Rattle.world_view.specs.Machine.{part_of, switch, whole}
 use Rattle.image_check.specs.Laws.{Runnable}
 use Rattle.world_view.specs.Cost.{}
-use Rattle.world_view.specs.Relations.{shape_of, largest_step, bound, ended_own}
+use Rattle.world_view.specs.Relations.{own_shape, largest_step, bound, ended_own}
 use Rattle.world_view.specs.Laws.{ClocksFit}
 use Rattle.world_view.proofs.opening.Separate.{separated}
 use Rattle.world_view.proofs.time.ActCosts.{instruction_within}
@@ -42,14 +42,14 @@ module _ (p : Hardware) (h : IsHardware p) (o : Own) where
   written_small : most_written o.calls p.line ≤ 256
   written_small = few_most o.calls p.line h.line.least
 
-  lines_small : lines_of_shared (shape_of p o) ≤ 4096
+  lines_small : lines_of_shared (own_shape p o) ≤ 4096
   lines_small =
       let least = h.line.least in
       let most = h.few_shared in
       let product = mul-le-mul_right (p.shared / p.line) least in
       omega (arith, product, most)
 
-  dirty_small : most_dirty (shape_of p o) ≤ 16384
+  dirty_small : most_dirty (own_shape p o) ≤ 16384
   dirty_small = mul-le p.l1d.sets p.l1d.ways 1024 16 h.l1d.sets.most h.l1d.few_ways
 
   pub bound_small : bound p o < 2 ^ 26
@@ -57,8 +57,8 @@ module _ (p : Hardware) (h : IsHardware p) (o : Own) where
   bound_small =
       let again = again_small p.back in
       let written = times_access (most_written o.calls p.line) 256 (again_of p) written_small again in
-      let shared = times_access (lines_of_shared (shape_of p o)) 4096 0 lines_small (omega arith) in
-      let flush = mul-le p.costs.wb (most_dirty (shape_of p o)) 1000 16384 h.costs.wb.few dirty_small in
+      let shared = times_access (lines_of_shared (own_shape p o)) 4096 0 lines_small (omega arith) in
+      let flush = mul-le p.costs.wb (most_dirty (own_shape p o)) 1000 16384 h.costs.wb.few dirty_small in
       let base = h.costs.base.few in
       let tlb = h.costs.tlb.few in
       let mispredict = h.costs.mispredict.few in

@@ -25,7 +25,7 @@ use Rattle.world_view.specs.Event.{Event, event, instruction, delivery_touches}
 use Rattle.world_view.specs.Event.Event.{Jump, Deliver, Run}
 use Rattle.world_view.specs.Machine.{with_hart, caches_of, clock_of, setting, Local, World, paid, delivered, happened, step, steps, stretch, clone_of, switch_work, with_part, part_of, switch, opening, whole, guarded, own_slot, run_slot_by, switch_by, whole_by, with_end}
 use Rattle.world_view.specs.Used.{largest_of}
-use Rattle.world_view.specs.Relations.{shape_of, largest_step, bound, ended_own, InTime, AllWithinPads}
+use Rattle.world_view.specs.Relations.{own_shape, largest_step, bound, ended_own, InTime, AllWithinPads}
 use Rattle.world_view.proofs.opening.Separate.{Separated}
 use Rattle.world_view.specs.Laws.{local_in}
 use Rattle.world_view.specs.EventLaws.{EndsBy, next_instruction, StepCostLaw, PlainCostLaw}
@@ -57,7 +57,7 @@ step_costs p o pinned end s ways = costs_if p o pinned end s (event o s.clock en
 
 -- an instruction that makes no call is within the bound's
 plain_if : (p : Hardware) (o : Own) (pinned : Bool) (s : Local) (e : Event) → HasWays (hierarchy p) s.caches → e ≡ Run
-    → next_instruction p o s.dom s.storage.mem ≢ Some Ecall → (happened (setting p o pinned) s e).clock ≤ s.clock + worst_instruction (shape_of p o)
+    → next_instruction p o s.dom s.storage.mem ≢ Some Ecall → (happened (setting p o pinned) s e).clock ≤ s.clock + worst_instruction (own_shape p o)
 unfolding happened paid
 plain_if p o pinned s (Jump t) ways is plain = absurd (cc is)
 plain_if p o pinned s (Deliver line) ways is plain = absurd (cc is)

@@ -154,7 +154,7 @@ returns c =
           (c.give_pages.ensures.share ∙ c.take_into-2.ensures.share ∙ c.take_one-root.ensures.share ∙ c.take_into.ensures.share ∙ ap (λ (f : FreeList). f.share) fresh ∙ c.requires.share)
           (c.give_pages.ensures.free ∙ ap (drop many) tabled ∙ drop_twice (5 + regions_in o.segments) many all))
           (at_ok (λ (x : Domain). x.caps ≡ c.give_pages.new.caps) r d e made.caps ∙ caps)
-          (at_ok (λ (x : Domain). x.interrupts ≡ c.in_ok-interrupts.interrupts) r d e made.interrupts ∙ c.in_ok-interrupts.ensures.opening ∙ ap irq.opening c.as_slice-moments.ensures.value)
+          (at_ok (λ (x : Domain). x.interrupts ≡ c.in_ok-interrupts.interrupts) r d e made.interrupts ∙ c.in_ok-interrupts.ensures.opening ∙ ap irq.none_delivered c.as_slice-moments.ensures.value)
           (ap threads_model (at_ok (λ (x : Domain). x.threads ≡ c.new-4.result) r d e made.threads) ∙ c.new-4.ensures.opening)
           (ap (λ v. v.items) (at_ok (λ (x : Domain). x.tables ≡ c.take_into-2.new.frames) r d e made.tables)
           ∙ c.take_into-2.ensures.frames ∙ ap₂ (λ (ys zs : List ℕ). ys ++ zs) c.in_ok-tables.ensures.items (ap₂ take regions root.left))

@@ -12,14 +12,14 @@ use Rattle.hardware_check.specs.Hardware.{Hardware, hardware_of}
 use Rattle.image_record.specs.Outcomes.{IsVerdict}
 use Rattle.domain_check.specs.Calls.{own_calls}
 use Rattle.image_check.specs.Schedule.{is_number}
-use Rattle.image_check.specs.Pads.{shape_of, k17, k17_by}
+use Rattle.image_check.specs.Pads.{shape_for_every_call, k17, k17_by}
 use Rattle.image_check.proofs.Kept.{kept_before_pads}
 use Rattle.image_check.proofs.Entries.{all_numbered}
 use Rattle.image_check.proofs.Padded.{shape_before_pads, k17_by_calls}
 use Rattle.image_check.proofs.pads.k17.Goals as goal
 
-pub shape_of-requires : goal.shape_of-requires
-shape_of-requires c =
+pub shape_for_every_call-requires : goal.shape_for_every_call-requires
+shape_for_every_call-requires c =
     let i = raw_model c.args.raw.now in
     let least = (shape_before_pads i every_call (kept_before_pads i c.requires.before)).least_line in
     record { line = subst (λ (h : Hardware). 16 ≤ h.line) (sym c.requires.hardware) least }
@@ -28,7 +28,7 @@ pub k17_entries-requires-clause-shape : goal.k17_entries-requires-clause-shape
 k17_entries-requires-clause-shape c =
     let i = raw_model c.args.raw.now in
     let sound = shape_before_pads i every_call (kept_before_pads i c.requires.before) in
-    subst IsShape (sym (c.shape_of.ensures.value ∙ ap shape_of c.requires.hardware)) sound
+    subst IsShape (sym (c.shape_for_every_call.ensures.value ∙ ap shape_for_every_call c.requires.hardware)) sound
 
 pub k17_entries-requires-clause-domains : goal.k17_entries-requires-clause-domains
 k17_entries-requires-clause-domains c =
@@ -40,11 +40,11 @@ k17_entries-requires-clause-domains c =
 pub returns : goal.returns
 returns c =
     let i = raw_model c.args.raw.now in
-    let machine : shape_model c.shape_of.result ≡ shape_of (hardware_of i) = c.shape_of.ensures.value ∙ ap shape_of c.requires.hardware in
+    let machine : shape_model c.shape_for_every_call.result ≡ shape_for_every_call (hardware_of i) = c.shape_for_every_call.ensures.value ∙ ap shape_for_every_call c.requires.hardware in
     let of_calls = λ (s : MachineShape) (calls : List ℕ). first_in (k17_by s calls) (map entry_model c.as_slice.result.now) in
-    let same : of_calls (shape_model c.shape_of.result) c.args.calls.now ≡ k17 i =
+    let same : of_calls (shape_model c.shape_for_every_call.result) c.args.calls.now ≡ k17 i =
     ap (λ (s : MachineShape). of_calls s c.args.calls.now) machine
-    ∙ ap (λ (calls : List ℕ). of_calls (shape_of (hardware_of i)) calls) c.requires.calls
-    ∙ ap (λ (entries : List RawEntry). first_in (k17_by (shape_of (hardware_of i)) (map own_calls i.domains)) (map entry_model entries)) c.as_slice.ensures.value
+    ∙ ap (λ (calls : List ℕ). of_calls (shape_for_every_call (hardware_of i)) calls) c.requires.calls
+    ∙ ap (λ (entries : List RawEntry). first_in (k17_by (shape_for_every_call (hardware_of i)) (map own_calls i.domains)) (map entry_model entries)) c.as_slice.ensures.value
     ∙ k17_by_calls i in
     record { verdict = subst (IsVerdict c.k17_entries.result) same c.k17_entries.ensures.verdict }

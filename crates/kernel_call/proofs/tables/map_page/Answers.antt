@@ -1,4 +1,4 @@
-use Rattle.std.proofs.Common.{rules, ◌≡◌, ◌<◌, ◌%◌, ℕ, true, false, sym, ap, subst, ◌∙◌, Option, Some, None, refl, ◌∷◌, [], inl}
+use Rattle.std.proofs.Common.{rules, ◌≡◌, ◌<◌, ◌%◌, ℕ, true, false, sym, ap, subst, subst₂, ◌∙◌, Option, Some, None, refl, ◌∷◌, [], inl}
 use Rattle.std.specs.Prelude.{is_some, nat_eq}
 use Rattle.std.proofs.lemmas.Result.{err_from_is_err_and}
 use Rattle.phys_mem.specs.Holds.{Holds}
@@ -36,8 +36,8 @@ returns-in_default c = record {
   frames = refl;
 }
 
-pub returns-then-not-may_give-clause-does : goal.returns-then-not-may_give-clause-does
-returns-then-not-may_give-clause-does c e readings replies m h =
+pub returns-in_default-given_rights-clause-does : goal.returns-in_default-given_rights-clause-does
+returns-in_default-given_rights-clause-does c e readings replies m h =
     let below : c.args.a < 64 = search rules in
     let there : cap_at c.args.domain.now.caps c.args.a ≡ Some (cap.Frame c.in-Frame.frame c.in-Frame.rights c.in-Frame.mapped) = search rules in
     let bad : may_give c.in-Frame.rights c.args.c ≡ false = search rules in
@@ -109,8 +109,9 @@ returns-clause-does c e readings replies m h =
     subst (λ (r : ℕ). map_refusal m r c.args.b ≡ None) h.has.root (c.in-Ok.ensures.allowed m h.holds) in
     let entry : c.in-Ok.entry ≡ page_entry m e.root c.args.b =
     subst (λ (r : ℕ). c.in-Ok.entry ≡ page_entry m r c.args.b) h.has.root (c.in-Ok.ensures.entry m h.holds) in
+    let number : c.in-Some.given ≡ c.args.c = search rules in
     let holds : Holds c.map.new.mem (mapped m e.root c.args.b c.in-Frame.frame c.args.c) =
-    subst (λ (r : ℕ). Holds c.map.new.mem (mapped m r c.args.b c.in-Frame.frame c.args.c)) h.has.root (c.in-Ok.ensures.mapped m h.holds) in
+    subst₂ (λ (r given : ℕ). Holds c.map.new.mem (mapped m r c.args.b c.in-Frame.frame given)) h.has.root number (c.in-Ok.ensures.mapped m h.holds) in
     let caps : c.note.new.self ≡ with_cap c.args.domain.now.caps c.args.a (Some (cap.Frame c.in-Frame.frame c.in-Frame.rights (Some c.args.b))) =
     c.note.ensures.becomes ∙ ap (λ (x : Option Cap). with_cap c.args.domain.now.caps c.args.a (noted x (Some c.args.b))) there in
     ends_done 4 e c.args.domain.now _ c.map.new.mem readings replies _ (Note.Entry (page_entry m e.root c.args.b) ∷ [])

@@ -4,7 +4,7 @@ use Rattle.tp_base.specs.Act.{give}
 use Rattle.call_table.specs.Domain.{Dom, exited, turned, done, thread_ended}
 use Rattle.call_table.specs.Calls.{call_of, poll, wait, signal, spawn}
 use Rattle.kernel_call.specs.Models.{dom_model}
-use Rattle.kernel_clone.specs.Footprints.{number_of}
+use Rattle.kernel_clone.specs.Footprints.{call_number}
 use Rattle.kernel_call.proofs.TiesThreads.{answered_by, answered_not, answered_turned, last_without_memory}
 use Rattle.kernel_call.proofs.threads.call_without_memory.Goals as goal
 
@@ -12,63 +12,63 @@ pub returns-in-Exit-clause-answers : goal.returns-in-Exit-clause-answers
 unfolding call_of give exited
 returns-in-Exit-clause-answers c e readings replies m logged kept =
     let d : Dom = dom_model c.args.domain.now readings replies in
-    answered_by (number_of c.args.call) 0 e d (slice_index c.args.args 0) (slice_index c.args.args 1) (slice_index c.args.args 2) m
+    answered_by (call_number c.args.call) 0 e d (slice_index c.args.args 0) (slice_index c.args.args 1) (slice_index c.args.args 2) m
     (length replies) c.exit.result c.exit.new.domain
     (give (exited (slice_index c.args.args 0) d) m)
-    (ap number_of c.in-Exit.is) refl (answered_not m (length replies) c.exit.new.domain _ (exited (slice_index c.args.args 0) d) c.exit.result
+    (ap call_number c.in-Exit.is) refl (answered_not m (length replies) c.exit.new.domain _ (exited (slice_index c.args.args 0) d) c.exit.result
     refl (omega arith) c.exit.ensures.reply (c.exit.ensures.becomes readings replies logged kept))
 
 pub returns-in-Poll-clause-answers : goal.returns-in-Poll-clause-answers
 unfolding call_of
 returns-in-Poll-clause-answers c e readings replies m logged kept =
     let d : Dom = dom_model c.args.domain.now readings replies in
-    answered_by (number_of c.args.call) 9 e d (slice_index c.args.args 0) (slice_index c.args.args 1) (slice_index c.args.args 2) m
+    answered_by (call_number c.args.call) 9 e d (slice_index c.args.args 0) (slice_index c.args.args 1) (slice_index c.args.args 2) m
     (length replies) c.poll.result c.poll.new.domain
     (poll d (slice_index c.args.args 0) m)
-    (ap number_of c.in-Poll.is) refl (c.poll.ensures.answers e readings replies m logged kept)
+    (ap call_number c.in-Poll.is) refl (c.poll.ensures.answers e readings replies m logged kept)
 
 pub returns-in-Wait-clause-answers : goal.returns-in-Wait-clause-answers
 unfolding call_of
 returns-in-Wait-clause-answers c e readings replies m logged kept =
     let d : Dom = dom_model c.args.domain.now readings replies in
-    answered_by (number_of c.args.call) 10 e d (slice_index c.args.args 0) (slice_index c.args.args 1) (slice_index c.args.args 2) m
+    answered_by (call_number c.args.call) 10 e d (slice_index c.args.args 0) (slice_index c.args.args 1) (slice_index c.args.args 2) m
     (length replies) c.wait.result c.wait.new.domain
     (wait d (slice_index c.args.args 0) m)
-    (ap number_of c.in-Wait.is) refl (c.wait.ensures.answers e readings replies m logged kept)
+    (ap call_number c.in-Wait.is) refl (c.wait.ensures.answers e readings replies m logged kept)
 
 pub returns-in-Signal-clause-answers : goal.returns-in-Signal-clause-answers
 unfolding call_of
 returns-in-Signal-clause-answers c e readings replies m logged kept =
     let d : Dom = dom_model c.args.domain.now readings replies in
-    answered_by (number_of c.args.call) 11 e d (slice_index c.args.args 0) (slice_index c.args.args 1) (slice_index c.args.args 2) m
+    answered_by (call_number c.args.call) 11 e d (slice_index c.args.args 0) (slice_index c.args.args 1) (slice_index c.args.args 2) m
     (length replies) c.signal.result c.signal.new.domain
     (signal d (slice_index c.args.args 0) m)
-    (ap number_of c.in-Signal.is) refl (c.signal.ensures.answers e readings replies m logged kept)
+    (ap call_number c.in-Signal.is) refl (c.signal.ensures.answers e readings replies m logged kept)
 
 pub returns-in-Spawn-clause-answers : goal.returns-in-Spawn-clause-answers
 unfolding call_of
 returns-in-Spawn-clause-answers c e readings replies m logged kept =
     let d : Dom = dom_model c.args.domain.now readings replies in
-    answered_by (number_of c.args.call) 12 e d (slice_index c.args.args 0) (slice_index c.args.args 1) (slice_index c.args.args 2) m
+    answered_by (call_number c.args.call) 12 e d (slice_index c.args.args 0) (slice_index c.args.args 1) (slice_index c.args.args 2) m
     (length replies) c.spawn.result c.spawn.new.domain
     (spawn d (slice_index c.args.args 0) (slice_index c.args.args 1) m)
-    (ap number_of c.in-Spawn.is) refl (c.spawn.ensures.answers e readings replies m logged kept)
+    (ap call_number c.in-Spawn.is) refl (c.spawn.ensures.answers e readings replies m logged kept)
 
 pub returns-in-Yield-clause-answers : goal.returns-in-Yield-clause-answers
 unfolding call_of give
 returns-in-Yield-clause-answers c e readings replies m logged kept =
     let d : Dom = dom_model c.args.domain.now readings replies in
-    answered_by (number_of c.args.call) 13 e d (slice_index c.args.args 0) (slice_index c.args.args 1) (slice_index c.args.args 2) m
+    answered_by (call_number c.args.call) 13 e d (slice_index c.args.args 0) (slice_index c.args.args 1) (slice_index c.args.args 2) m
     (length replies) c.yield_turn.result c.yield_turn.new.domain
     (give (turned (done 0 d)) m)
-    (ap number_of c.in-Yield.is) refl (answered_turned m (length replies) c.yield_turn.new.domain _ d c.yield_turn.result
+    (ap call_number c.in-Yield.is) refl (answered_turned m (length replies) c.yield_turn.new.domain _ d c.yield_turn.result
     refl (omega arith) c.yield_turn.ensures.reply (c.yield_turn.ensures.becomes readings replies logged kept))
 
 pub returns-in_default-clause-answers : goal.returns-in_default-clause-answers
 unfolding call_of give thread_ended
 returns-in_default-clause-answers c e readings replies m logged kept =
     let d : Dom = dom_model c.args.domain.now readings replies in
-    answered_by (number_of c.args.call) 14 e d (slice_index c.args.args 0) (slice_index c.args.args 1) (slice_index c.args.args 2) m
+    answered_by (call_number c.args.call) 14 e d (slice_index c.args.args 0) (slice_index c.args.args 1) (slice_index c.args.args 2) m
     (length replies) c.end_thread.result c.end_thread.new.domain
     (give (thread_ended d) m)
     (last_without_memory c.args.call c.requires.others c.in_default.not-Exit c.in_default.not-Poll c.in_default.not-Wait

@@ -20,7 +20,7 @@ put-requires-clause-new c = subst (λ (slots : Slots). IsUnnamed slots c.hold.re
 pub put-requires-2-clause-empty : goal.put-requires-2-clause-empty
 unfolding empty_slots
 put-requires-2-clause-empty c =
-    ap (λ (slots : Slots). cap_at slots 1) c.put.ensures.becomes ∙ (set_other c.in_ok-caps.caps 0 (Some (cap.Frame c.hold.result 7 None)) None 1 (λ e. absurd (omega (arith, e)))
+    ap (λ (slots : Slots). cap_at slots 1) c.put.ensures.becomes ∙ (set_other c.in_ok-caps.caps 0 (Some (cap.Frame c.hold.result c.new-2.result None)) None 1 (λ e. absurd (omega (arith, e)))
     ∙ ap (λ (slots : Slots). cap_at slots 1) c.in_ok-caps.ensures.empty)
 
 pub put-requires-2-clause-new : goal.put-requires-2-clause-new
@@ -32,7 +32,7 @@ put-requires-2-clause-new c =
     let p : false ≡ true = sym taken ∙ (ap (is_free c.take.new.self) (sym c.hold.ensures.frame ∙ (e ∙ c.table.ensures.frame)) ∙ free) in absurd (cc p) in
     let below : 0 < length c.in_ok-caps.caps = omega (arith, ap length c.in_ok-caps.ensures.empty, length-replicate {A = Option Cap} 64 None) in
     subst (λ (slots : Slots). IsUnnamed slots c.table.result) (sym c.put.ensures.becomes)
-    (still_unnamed c.in_ok-caps.caps 0 c.table.result (Some (cap.Frame c.hold.result 7 None)) below
+    (still_unnamed c.in_ok-caps.caps 0 c.table.result (Some (cap.Frame c.hold.result c.new-2.result None)) below
     (subst (λ (slots : Slots). IsUnnamed slots c.table.result) (sym c.in_ok-caps.ensures.empty) (empty_unnamed c.table.result))
     (λ x. apart (cc x)) (λ x. absurd (cc x)))
 
@@ -40,5 +40,5 @@ pub put-requires-3-clause-empty : goal.put-requires-3-clause-empty
 unfolding empty_slots
 put-requires-3-clause-empty c =
     ap (λ (slots : Slots). cap_at slots 2) c.put-2.ensures.becomes ∙ (set_other c.put.new.self 1 (Some (cap.Table c.table.result None)) None 2 (λ e. absurd (omega (arith, e)))
-    ∙ (ap (λ (slots : Slots). cap_at slots 2) c.put.ensures.becomes ∙ (set_other c.in_ok-caps.caps 0 (Some (cap.Frame c.hold.result 7 None)) None 2 (λ e. absurd (omega (arith, e)))
+    ∙ (ap (λ (slots : Slots). cap_at slots 2) c.put.ensures.becomes ∙ (set_other c.in_ok-caps.caps 0 (Some (cap.Frame c.hold.result c.new-2.result None)) None 2 (λ e. absurd (omega (arith, e)))
     ∙ ap (λ (slots : Slots). cap_at slots 2) c.in_ok-caps.ensures.empty)))

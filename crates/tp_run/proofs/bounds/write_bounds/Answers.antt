@@ -8,7 +8,7 @@ use Rattle.pad_bound.specs.Bound.{MachineShape}
 use Rattle.pad_bound.specs.Models.{shape_model}
 use Rattle.image_check.specs.Public.{Public}
 use Rattle.image_check.specs.Own.{Own}
-use Rattle.image_check.specs.Pads.{shape_of}
+use Rattle.image_check.specs.Pads.{shape_for_every_call}
 use Rattle.image_check.specs.Image.{Image, image_from}
 use Rattle.tp_report.specs.Report.{bound_in_parts, bound_text, bound_2_text, bounds_of}
 use Rattle.tp_run.specs.Answer.{Answer}
@@ -19,12 +19,12 @@ use Rattle.tp_run.proofs.bounds.write_bounds.Goals as goal
 
 -- which text it is, by the version
 by_version : (i : Image) (b : Bool) → nat_eq i.all.version 1 ≡ b
-    → bounds_of i ≡ (if b then bound_text (bound_in_parts (shape_of i.all.hardware))
-    else bound_2_text (shape_of i.all.hardware) i.all.schedule (map (λ (o : Own). o.calls) i.owns))
+    → bounds_of i ≡ (if b then bound_text (bound_in_parts (shape_for_every_call i.all.hardware))
+    else bound_2_text (shape_for_every_call i.all.hardware) i.all.schedule (map (λ (o : Own). o.calls) i.owns))
 unfolding bounds_of
 by_version i b is =
-    ap (λ (t : Bool). if t then bound_text (bound_in_parts (shape_of i.all.hardware))
-    else bound_2_text (shape_of i.all.hardware) i.all.schedule (map (λ (o : Own). o.calls) i.owns)) is
+    ap (λ (t : Bool). if t then bound_text (bound_in_parts (shape_for_every_call i.all.hardware))
+    else bound_2_text (shape_for_every_call i.all.hardware) i.all.schedule (map (λ (o : Own). o.calls) i.owns)) is
 
 pub returns-then-public-eq1 : goal.returns-then-public-eq1
 unfolding bound_in_parts
@@ -66,7 +66,7 @@ returns-in-Ok g c =
     let es = ap (λ (p : Public). p.schedule) c.public-public.ensures.value in
     let text : bound_2_text (shape_model c.shape-shape.result) c.public-public.result.now.schedule c.as_slice.result.now ≡ bounds_of i =
     ap (λ (s : MachineShape). bound_2_text s c.public-public.result.now.schedule c.as_slice.result.now) c.shape-shape.ensures.value
-    ∙ ap₂ (λ (es : List Entry) (calls : List ℕ). bound_2_text (shape_of i.all.hardware) es calls) es calls ∙ sym (by_version i false other) in
+    ∙ ap₂ (λ (es : List Entry) (calls : List ℕ). bound_2_text (shape_for_every_call i.all.hardware) es calls) es calls ∙ sym (by_version i false other) in
     record {
       delivers = subst (λ (t : List ℕ). Delivers (Done, t) c.status_unless_failed-in-Ok.result (state g.K.Sink c.args.out.now) (state g.K.Sink c.write_bound_2-written.new.out)) text
           (delivered Done c.status_unless_failed-in-Ok.result _ _ _ c.write_bound_2-written.result tt c.write_bound_2-written.ensures.sends c.status_unless_failed-in-Ok.ensures.ok c.status_unless_failed-in-Ok.ensures.err);

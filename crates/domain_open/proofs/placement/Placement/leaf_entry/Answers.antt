@@ -1,4 +1,4 @@
-use Rattle.std.proofs.Common.{◌≡◌, ◌∙◌, Some, None, sym, ap₂, refl}
+use Rattle.std.proofs.Common.{◌≡◌, ◌∙◌, ℕ, Some, None, sym, ap, refl}
 use Rattle.image_check.specs.Models.{own_model}
 use Rattle.sv32_walk.specs.PageTableEntry.{leaf_word}
 use Rattle.world_view.specs.Opening.{rights_in, leaf_with, leaf_entry}
@@ -21,10 +21,10 @@ pub leaf_word-requires : goal.leaf_word-requires
 leaf_word-requires c =
     let o = own_model c.args.self.now.own.now in
     let some : rights_in o.segments c.args.page ≡ Some c.in-Some.rights = sym (rw c.as_slice.ensures.value at c.in-Some.ensures.value) in
-    record { good = rw c.rights_number.ensures.value (rights_are_good o c.args.page c.in-Some.rights c.args.self.now.has_pool.sound some) }
+    record { good = rights_are_good o c.args.page c.in-Some.rights c.args.self.now.has_pool.sound some }
 
 pub returns : goal.returns
 unfolding leaf_with leaf_entry
 returns c =
     let some : rights_in (own_model c.args.self.now.own.now).segments c.args.page ≡ Some c.in-Some.rights = sym (rw c.as_slice.ensures.value at c.in-Some.ensures.value) in
-    record { value = rw some (c.leaf_word.ensures.value ∙ ap₂ leaf_word c.page_frame.ensures.value c.rights_number.ensures.value) }
+    record { value = rw some (c.leaf_word.ensures.value ∙ ap (λ (f : ℕ). leaf_word f c.in-Some.rights) c.page_frame.ensures.value) }

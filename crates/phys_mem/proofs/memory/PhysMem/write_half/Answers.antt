@@ -1,6 +1,6 @@
 -- A half that was written.
 use Rattle.std.proofs.Common.{arith, rules, ◌≡◌, ◌∙◌, ap, subst, ℕ, ◌%◌}
-use Rattle.phys_mem.specs.Address.{frame_of, place_of}
+use Rattle.phys_mem.specs.Address.{frame_of, word_place}
 use Rattle.phys_mem.specs.Mem.{written}
 use Rattle.phys_mem.specs.Holds.{Holds}
 use Rattle.phys_mem.specs.Bytes.{half_in, with_half_in}
@@ -21,6 +21,6 @@ returns-clause-bytes c =
 
 pub returns-clause-holds : goal.returns-clause-holds
 returns-clause-holds c = λ mem holds.
-    subst (λ (value : ℕ). Holds c.set_word.new.self (written mem (frame_of c.args.at) (place_of c.args.at) value))
+    subst (λ (value : ℕ). Holds c.set_word.new.self (written mem (frame_of c.args.at) (word_place c.args.at) value))
     (c.with_half_of.ensures.value ∙ ap (λ (word : ℕ). with_half_in word (c.args.at % 4) c.args.half) (c.word-word.ensures.holds mem holds))
     (c.set_word.ensures.holds mem holds)
