@@ -12,7 +12,7 @@ mod table;
 mod tally;
 
 use frame_colours::{Frame, Held, Table};
-pub use table::CapTable;
+pub use table::{CapTable, SLOTS};
 use tp_base::{FrameNo, Rights};
 
 /// What a slot names.

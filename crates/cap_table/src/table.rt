@@ -30,7 +30,8 @@ use std::alloc::Global;
 use std::marker::Model;
 use tp_base::{FrameNo, Memory, Rights};
 
-const SLOTS: u32 = 64;
+/// How many slots a domain has for capabilities.
+pub const SLOTS: u32 = 64;
 
 /// 64 slots, and the frames that they own. Only `new` takes memory.
 #[derive(Drop)]

@@ -14,11 +14,9 @@ mod tables;
 mod threads;
 
 pub use calls::call;
+pub use cap_table::SLOTS;
 pub use domain::{Beginning, Domain, PRINTED};
 pub use error::CallError;
 pub use log::{KEPT, Log};
 pub use outcome::Outcome;
 pub use threads::deliver;
-
-/// How many slots a domain has for capabilities.
-pub const SLOTS: u32 = 64;

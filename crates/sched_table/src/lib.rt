@@ -6,4 +6,4 @@
 pub mod laws;
 mod schedule;
 
-pub use schedule::{Entry, Schedule};
+pub use schedule::{Entry, Schedule, Turn};

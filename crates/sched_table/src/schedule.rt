@@ -1,5 +1,5 @@
 // Entries, and the starts of their slots.
-ghost use Rattle.std.specs.Prelude.{◌≡◌, ◌+◌, ◌*◌, ◌/◌, ◌≤◌, length, IfOk};
+ghost use Rattle.std.specs.Prelude.{◌≡◌, ◌+◌, ◌*◌, ◌/◌, ◌<◌, ◌≤◌, length, IfOk};
 ghost use Rattle.sched_table.specs.Schedule as spec;
 ghost use Rattle.sched_table.specs.Schedule.{IsSchedule};
 
@@ -17,6 +17,22 @@ pub struct Entry {
     pub pad: u32,
     /// The hart on which it runs: 0.
     pub hart: u8,
+}
+
+/// What the switch before a slot goes by, and the slot itself.
+#[derive(Clone, Copy, Debug, PartialEq, Eq)]
+pub struct Turn {
+    /// The entry of the slot.
+    pub entry: Entry,
+    /// When the slot begins, in cycles.
+    pub start: u64,
+    /// The entry to which the switch belongs: it is that of the slot that ended, and
+    /// the last one at the boot.
+    pub ended: Entry,
+    /// The place of that entry among all.
+    pub place: u32,
+    /// When the slot before ended, in cycles: a pad before the start, and 0 at the boot.
+    pub last_end: u64,
 }
 
 /// 1 to 256 entries, whose slots follow one another cyclically. It stands for
@@ -90,6 +106,42 @@ impl Schedule {
         ensures soon { result ≤ 2000000 * k + 1000000 }
     {
         self.round_start(k) + self.before[k as usize % self.entries.len()]
+    }
+
+    /// What the switch before slot `k` goes by, and the slot, `k` being up to 65,536.
+    pub fn turn(&self, k: u32) -> Turn
+        requires few { k ≤ 65536 }
+        ensures entry { result.entry ≡ spec.entry_of_slot self.now k }
+        ensures start { result.start ≡ spec.start self.now k }
+        ensures ended { result.ended ≡ spec.entry_in self.now (spec.switch_entry self.now k) }
+        ensures place { result.place ≡ spec.switch_entry self.now k }
+        ensures last_end { result.last_end ≡ spec.last_end self.now k }
+        ensures length { result.entry.length ≤ 1000000 }
+        ensures within { result.place < length self.now }
+        ensures soon { result.start ≤ 2000000 * k + 1000000 }
+    {
+        let place = self.switch_entry(k);
+        let ended = self.entries[place as usize];
+        let start = self.start(k);
+        Turn {
+            entry: self.entry(k),
+            start,
+            ended,
+            place,
+            last_end: start - u64::from(ended.pad),
+        }
+    }
+
+    // The place of the entry to which the switch before slot `k` belongs.
+    fn switch_entry(&self, k: u32) -> u32
+        ensures value { result ≡ spec.switch_entry self.now k }
+        ensures within { result < length self.now }
+    {
+        let entries = self.entries.len() as u32;
+        if k == 0 {
+            return entries - 1;
+        }
+        (k - 1) % entries
     }
 
     // The clock at which the first slot of slot `k`'s round begins.

@@ -1,5 +1,5 @@
 -- A switch and a slot, of the code's machine and of the definitions: with all guards on, and with one off.
-use Rattle.std.proofs.Common.{◌≡◌, ◌∙◌, ℕ, zero, suc, ◌+◌, ◌-◌, max, Bool, true, false, List, [], ◌∷◌, ◌++◌, length, Option, Some, None, refl, sym, ap, ap₂, subst, subst₂, arith, ltb}
+use Rattle.std.proofs.Common.{◌≡◌, ◌∙◌, ◌<◌, ℕ, zero, suc, ◌+◌, ◌-◌, mod-lt, max, Bool, true, false, List, [], ◌∷◌, ◌++◌, length, Option, Some, None, refl, sym, ap, ap₂, subst, subst₂, arith, ltb}
 use Rattle.std.specs.Prelude.{slice_get, if◌then◌else◌}
 use Rattle.tp_base.specs.Table.{empty, at, put}
 use Rattle.phys_mem.specs.Mem.{Mem}
@@ -16,7 +16,7 @@ use Rattle.mem_system.specs.Translation.{KeepsLeaves}
 use Rattle.cache_sharing.specs.Operations as operations
 use Rattle.domain_switch.specs.Switch.{IsSwitched}
 use Rattle.sched_table.specs.declared.schedule.Entry.{Entry}
-use Rattle.sched_table.specs.Schedule.{entry_of_slot, switch_entry, start, slot_end, last_end, outgoing}
+use Rattle.sched_table.specs.Schedule.{entry_in, entry_of_slot, switch_entry, start, slot_end, last_end, outgoing}
 use Rattle.image_check.specs.Public.{Public}
 use Rattle.image_check.specs.Image.{Image, own_of}
 use Rattle.image_check.specs.Laws.{Runnable}
@@ -112,6 +112,31 @@ domain_is i r k p public x entry e domain =
     let is = domain ∙ ap (λ (y : Entry). y.domain) entry
     ∙ ap (λ (q : Public). (entry_of_slot q.schedule k).domain) public in
     record { is = is; named = subst (IsDomain i) (sym is) ((separated i r).named k) }
+
+-- ---- the slot before
+
+switch_within : (es : List Entry) → 0 < length es → (k : ℕ) → switch_entry es k < length es
+switch_within es some zero = omega (arith, some)
+switch_within es some (suc k) = mod-lt k some
+
+pub ended_named : (i : Image) → Runnable i → (k : ℕ) → IsDomain i (entry_in i.all.schedule (switch_entry i.all.schedule k)).domain
+ended_named i r k = r.named (switch_entry i.all.schedule k) (switch_within i.all.schedule r.schedule.some k)
+
+-- the domain whose slot ended before switch k; at the boot the last entry's
+pub record HasEnded (i : Image) (k e : ℕ) : Type 0 where
+  pub named : IsDomain i e
+  pub is : (last : ℕ) → suc last ≡ k → e ≡ (entry_of_slot i.all.schedule last).domain
+
+-- the code's entry is that of the switch
+pub has_ended : (i : Image) → Runnable i → (k : ℕ) (x : Entry)
+    → x ≡ entry_in i.all.schedule (switch_entry i.all.schedule k) → (e : ℕ) → e ≡ x.domain → HasEnded i k e
+has_ended i r k x entry e domain =
+    let es = i.all.schedule in
+    let read = domain ∙ ap (λ (y : Entry). y.domain) entry in
+    record {
+      named = subst (IsDomain i) (sym read) (ended_named i r k);
+      is = λ last more. read ∙ ap (λ (n : ℕ). (entry_in es (switch_entry es n)).domain) (sym more);
+    }
 
 -- ---- a switch
 

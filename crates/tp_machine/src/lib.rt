@@ -6,4 +6,4 @@ mod machine;
 mod used;
 
 pub use machine::Machine;
-pub use used::{note_switch, switch_entry, unused};
+pub use used::{note_switch, unused};

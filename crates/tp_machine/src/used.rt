@@ -24,19 +24,6 @@ pub fn unused(alloc: Global, entries: u32) -> Result<Vec<Used>, Memory>
     Ok(used)
 }
 
-/// The place of the entry to which the switch before a slot belongs: it is the
-/// entry of the slot that ended, and the last one at the boot.
-pub fn switch_entry(entries: u32, slot: u32) -> u32
-    requires some { 0 < entries }
-    ensures value { (es : List Entry) → length es ≡ entries → result ≡ spec.switch_entry es slot }
-    ensures within { result < entries }
-{
-    if slot == 0 {
-        return entries - 1;
-    }
-    (slot - 1) % entries
-}
-
 /// Counts a switch of an entry that took so many cycles.
 pub fn note_switch(used: &mut [Used], entry: usize, cycles: u64)
     requires entry { entry < length used.old }

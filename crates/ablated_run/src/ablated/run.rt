@@ -8,9 +8,10 @@ use image_check::Checked;
 use kernel_clone::CloneLayout;
 use mem_system::new_parts;
 use phys_mem::PhysMem;
+use sched_table::Entry;
 use std::alloc::Global;
 use tp_base::Memory;
-use tp_machine::{note_switch, switch_entry, unused};
+use tp_machine::{note_switch, unused};
 use world_view::{Used, View};
 
 impl<'a> Ablated<'a> {
@@ -70,11 +71,9 @@ impl<'a> Ablated<'a> {
         ensures image { self.new.image.now ≡ self.old.image.now }
         ensures off { self.new.off ≡ self.old.off }
     {
-        let public = self.image.public();
-        let entry = public.schedule.entry(self.slots);
-        let start = public.schedule.start(self.slots);
-        let out = self.outgoing();
-        let d = usize::from(entry.domain);
+        let turn = self.image.public().schedule.turn(self.slots);
+        let out = self.outgoing(turn.ended);
+        let d = usize::from(turn.entry.domain);
         let switched = switch_off(
             &mut self.core,
             &mut self.l2,
@@ -83,11 +82,10 @@ impl<'a> Ablated<'a> {
             &self.domains[d].layout,
             self.ended,
             self.clock,
-            until_off(self.off, start),
+            until_off(self.off, turn.start),
         );
-        let place = switch_entry(public.schedule.len(), self.slots);
-        note_switch(self.used.as_mut_slice(), place as usize, switched.used);
-        self.ended = begins_by(self.off, start, switched.now) + u64::from(entry.length);
+        note_switch(self.used.as_mut_slice(), turn.place as usize, switched.used);
+        self.ended = begins_by(self.off, turn.start, switched.now) + u64::from(turn.entry.length);
         self.clock = slot_off(
             self.off,
             &mut self.memory,
@@ -103,7 +101,9 @@ impl<'a> Ablated<'a> {
 
     // The kernel clone that works for the domain whose slot was last: nobody's before
     // the first.
-    fn outgoing(&self) -> Option<CloneLayout>
+    fn outgoing(&self, ended: Entry) -> Option<CloneLayout>
+        requires ended { ended ≡ schedule.entry_in (image_off self.now).all.schedule
+            (schedule.switch_entry (image_off self.now).all.schedule self.now.slots) }
         ensures clone { option_map layout_model result
             ≡ spec.clone_by (spec.without self.now.off (image_off self.now))
             (schedule.outgoing (image_off self.now).all.schedule self.now.slots) }
@@ -112,8 +112,7 @@ impl<'a> Ablated<'a> {
         if self.slots == 0 {
             return None;
         }
-        let entry = self.image.public().schedule.entry(self.slots - 1);
-        Some(self.domains[usize::from(entry.domain)].layout)
+        Some(self.domains[usize::from(ended.domain)].layout)
     }
 
     /// What is seen of a domain after the slots that have run.

@@ -1,6 +1,6 @@
 // The machine's calls.
 use super::Machine;
-use crate::used::{note_switch, switch_entry, unused};
+use crate::used::{note_switch, unused};
 use domain_open::{load_pages, open_all};
 use domain_step::stretch;
 use domain_switch::switch;
@@ -8,7 +8,7 @@ use image_check::Checked;
 use kernel_clone::CloneLayout;
 use mem_system::new_parts;
 use phys_mem::PhysMem;
-use sched_table::Entry;
+use sched_table::{Entry, Turn};
 use std::alloc::Global;
 use tp_base::Memory;
 use world_view::{Used, View, geometry_of};
@@ -73,38 +73,55 @@ impl<'a> Machine<'a> {
         ensures begins { spec.clock_of 0 (spec.switch (image_of self.old) self.old.slots (world_of self.old))
             ≡ schedule.start (image_of self.old).all.schedule self.old.slots }
     {
-        let entry = self.next_entry();
-        let start = self.next_start();
-        let last_end = self.last_end();
-        let out = self.outgoing();
-        let calls = self.last_calls();
-        let public = self.image.public();
-        let d = usize::from(entry.domain);
+        let turn = self.next_turn();
+        let out = self.outgoing(turn.ended);
+        let calls = self.last_calls(turn.ended);
+        let d = usize::from(turn.entry.domain);
         let switched = switch(
             &mut self.core,
             &mut self.l2,
             out.as_ref(),
             &self.domains[d].layout,
-            last_end,
+            turn.last_end,
             self.clock,
-            start,
+            turn.start,
             calls,
         );
-        let place = switch_entry(public.schedule.len(), self.slots);
-        note_switch(self.used.as_mut_slice(), place as usize, switched.used);
+        note_switch(self.used.as_mut_slice(), turn.place as usize, switched.used);
         self.clock = stretch(
             &mut self.memory,
             &mut self.core,
             &mut self.l2,
             &mut self.domains[d],
             switched.now,
-            start + u64::from(entry.length),
+            turn.start + u64::from(turn.entry.length),
         );
         self.slots += 1;
     }
 
+    // What the next switch goes by, and the next slot.
+    fn next_turn(&self) -> Turn
+        ensures entry { result.entry
+            ≡ schedule.entry_of_slot (image_of self.now).all.schedule self.now.slots }
+        ensures start { result.start ≡ schedule.start (image_of self.now).all.schedule self.now.slots }
+        ensures ended { result.ended ≡ entry_in (image_of self.now).all.schedule
+            (schedule.switch_entry (image_of self.now).all.schedule self.now.slots) }
+        ensures place { result.place
+            ≡ schedule.switch_entry (image_of self.now).all.schedule self.now.slots }
+        ensures last_end { result.last_end
+            ≡ schedule.last_end (image_of self.now).all.schedule self.now.slots }
+        ensures domain { result.entry.domain < length (image_of self.now).owns }
+        ensures length { result.entry.length ≤ 1000000 }
+        ensures within { result.place < length (image_of self.now).all.schedule }
+        ensures soon { result.start < 2 ^ 61 }
+    {
+        self.image.public().schedule.turn(self.slots)
+    }
+
     // The kernel clone of the domain whose slot was last: nobody's before the first.
-    fn outgoing(&self) -> Option<CloneLayout>
+    fn outgoing(&self, ended: Entry) -> Option<CloneLayout>
+        requires ended { ended ≡ entry_in (image_of self.now).all.schedule
+            (schedule.switch_entry (image_of self.now).all.schedule self.now.slots) }
         ensures clone { option_map layout_model result ≡ spec.clone_of (image_of self.now)
             (schedule.outgoing (image_of self.now).all.schedule self.now.slots) }
         ensures on { IfSome result (IsCloneOn (hierarchy_of any_rule (system self.now.core self.now.l2))) }
@@ -112,46 +129,17 @@ impl<'a> Machine<'a> {
         if self.slots == 0 {
             return None;
         }
-        let entry = self.image.public().schedule.entry(self.slots - 1);
-        Some(self.domains[usize::from(entry.domain)].layout)
-    }
-
-    // When the next slot begins, in cycles.
-    fn next_start(&self) -> u64
-        ensures start { result ≡ schedule.start (image_of self.now).all.schedule self.now.slots }
-        ensures soon { result < 2 ^ 61 }
-    {
-        self.image.public().schedule.start(self.slots)
-    }
-
-    // When the last slot ended, in cycles: its pad before the next start, and 0
-    // before the first slot.
-    fn last_end(&self) -> u64
-        ensures end { result ≡ schedule.last_end (image_of self.now).all.schedule self.now.slots }
-    {
-        let entries = &self.image.public().schedule;
-        let switched = entries.entry(switch_entry(entries.len(), self.slots));
-        entries.start(self.slots) - u64::from(switched.pad)
+        Some(self.domains[usize::from(ended.domain)].layout)
     }
 
     // The calls that the domain may make whose slot was last, a bit each: before the
     // first those of the last entry's.
-    fn last_calls(&self) -> u32
+    fn last_calls(&self, ended: Entry) -> u32
+        requires ended { ended ≡ entry_in (image_of self.now).all.schedule
+            (schedule.switch_entry (image_of self.now).all.schedule self.now.slots) }
         ensures calls { result ≡ (ended_own (image_of self.now) self.now.slots).calls }
     {
-        let entries = &self.image.public().schedule;
-        let switched = entries.entry(switch_entry(entries.len(), self.slots));
-        self.image.own(usize::from(switched.domain)).calls
-    }
-
-    // The entry of the next slot.
-    fn next_entry(&self) -> Entry
-        ensures entry { result
-            ≡ schedule.entry_of_slot (image_of self.now).all.schedule self.now.slots }
-        ensures domain { result.domain < length (image_of self.now).owns }
-        ensures length { result.length ≤ 1000000 }
-    {
-        self.image.public().schedule.entry(self.slots)
+        self.image.own(usize::from(ended.domain)).calls
     }
 
     /// What is seen of a domain after the slots that have run: what is seen of it

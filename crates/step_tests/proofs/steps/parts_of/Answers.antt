@@ -4,8 +4,8 @@ use Rattle.l2_colour.specs.Colours.{IsColoured}
 use Rattle.step_tests.proofs.Sizes.{is_lru_cache}
 use Rattle.step_tests.proofs.steps.parts_of.Goals as goal
 
-pub new_parts-parts-requires : goal.new_parts-parts-requires
-new_parts-parts-requires c = record {
+pub new_parts-requires : goal.new_parts-requires
+new_parts-requires c = record {
   geometry = record {
     least = omega arith;
     coloured = subst (IsColoured 64) (sym c.cache-3.ensures.sets) (record { whole_lines = refl; whole_colours = refl; some = omega arith; few = omega arith });

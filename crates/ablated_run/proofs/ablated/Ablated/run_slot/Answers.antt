@@ -30,8 +30,8 @@ switch_off-switched-requires-clause-into c =
     let d = c.from-d.result in
     let y = c.index.result.now in
     let enters =
-    domain_is i m.accepted m.slots _ c.public-public.ensures.value c.entry-entry.result
-    c.entry-entry.ensures.value d c.from-d.ensures in
+    domain_is i m.accepted m.slots _ c.public.ensures.value c.turn-turn.result.entry
+    c.turn-turn.ensures.entry d c.from-d.ensures in
     let got = slice_get_read m.domains.items (length m.domains.items) d y refl
     (omega (arith, enters.named, m.stands.all_domains)) c.index.ensures in
     clone_is (Some m.off) i m.slots m.accepted s m.stands d y enters.named got
@@ -53,12 +53,12 @@ starts c =
     let s = kept m.memory (system m.core m.l2) m.domains.items m.used.items m.clock in
     let d = c.from-d.result in
     let y = c.index.result.now in
-    let public = c.public-public.ensures.value in
-    let enters = domain_is i m.accepted m.slots _ public c.entry-entry.result c.entry-entry.ensures.value d
+    let public = c.public.ensures.value in
+    let enters = domain_is i m.accepted m.slots _ public c.turn-turn.result.entry c.turn-turn.ensures.entry d
     c.from-d.ensures in
     let got = slice_get_read m.domains.items (length m.domains.items) d y refl
     (omega (arith, enters.named, m.stands.all_domains)) c.index.ensures in
-    let starts_at = c.start-start.ensures.value ∙ ap (λ (p : Public). start p.schedule m.slots) public in
+    let starts_at = c.turn-turn.ensures.start ∙ ap (λ (p : Public). start p.schedule m.slots) public in
     let t : SwitchGiven = record {
       loads = c.parts_off.result.loads;
       flushes = c.parts_off.result.flushes;
@@ -92,8 +92,8 @@ slot_off-self-requires-clause-stands c =
     let s = kept m.memory (system m.core m.l2) m.domains.items m.used.items m.clock in
     let d = c.from-d.result in
     let enters =
-    domain_is i m.accepted m.slots _ c.public-public.ensures.value c.entry-entry.result
-    c.entry-entry.ensures.value d c.from-d.ensures in
+    domain_is i m.accepted m.slots _ c.public.ensures.value c.turn-turn.result.entry
+    c.turn-turn.ensures.entry d c.from-d.ensures in
     let at = begun_in (Some m.off) i m.slots m.accepted s m.stands _ (starts c) d enters.is in
     record {
       off = Some m.off;
@@ -124,12 +124,12 @@ starts_so c =
     let s = kept m.memory (system m.core m.l2) m.domains.items m.used.items m.clock in
     let d = c.from-d.result in
     let y = c.index.result.now in
-    let public = c.public-public.ensures.value in
-    let enters = domain_is i m.accepted m.slots _ public c.entry-entry.result c.entry-entry.ensures.value d
+    let public = c.public.ensures.value in
+    let enters = domain_is i m.accepted m.slots _ public c.turn-turn.result.entry c.turn-turn.ensures.entry d
     c.from-d.ensures in
     let got = slice_get_read m.domains.items (length m.domains.items) d y refl
     (omega (arith, enters.named, m.stands.all_domains)) c.index.ensures in
-    let starts_at = c.start-start.ensures.value ∙ ap (λ (p : Public). start p.schedule m.slots) public in
+    let starts_at = c.turn-turn.ensures.start ∙ ap (λ (p : Public). start p.schedule m.slots) public in
     let t : SwitchGiven = record {
       loads = c.parts_off.result.loads;
       flushes = c.parts_off.result.flushes;
@@ -162,11 +162,11 @@ ends : (c : goal.After-self-2-1) → c.begins_by.result + c.from.result
 ends c =
     let m = c.args.self.now in
     let i = image_from m.image.now in
-    let public = c.public-public.ensures.value in
+    let public = c.public.ensures.value in
     let lasts =
-    c.from.ensures ∙ ap (λ (e : Entry). e.length) c.entry-entry.ensures.value
+    c.from.ensures ∙ ap (λ (e : Entry). e.length) c.turn-turn.ensures.entry
     ∙ ap (λ (p : Public). (entry_of_slot p.schedule m.slots).length) public in
-    let starts_at = c.start-start.ensures.value ∙ ap (λ (p : Public). start p.schedule m.slots) public in
+    let starts_at = c.turn-turn.ensures.start ∙ ap (λ (p : Public). start p.schedule m.slots) public in
     ap (λ (n : ℕ). c.begins_by.result + n) lasts
     ∙ ends_so (without m.off i) i m.slots c.begins_by.result _
     (λ pads. c.begins_by.ensures.padded i pads ∙ starts_at)
@@ -191,8 +191,8 @@ invariant_of-self-clause-stands c =
     let es = i.all.schedule in
     let s = kept m.memory (system m.core m.l2) m.domains.items m.used.items m.clock in
     let d = c.from-d.result in
-    let public = c.public-public.ensures.value in
-    let enters = domain_is i m.accepted m.slots _ public c.entry-entry.result c.entry-entry.ensures.value d
+    let public = c.public.ensures.value in
+    let enters = domain_is i m.accepted m.slots _ public c.turn-turn.result.entry c.turn-turn.ensures.entry d
     c.from-d.ensures in
     let begun = switch_by (without off i) i m.slots (whole_off off i m.slots) in
     let at = begun_in (Some off) i m.slots m.accepted s m.stands _ (starts_so c) d enters.is in
@@ -213,17 +213,15 @@ invariant_of-self-clause-stands c =
     (sym (domains_back c)) (c.slot_off-self.ensures.becomes i begun in_slot) in
     let long : length c.note_switch.new.used ≡ m.used.len = search rules in
     let was : length m.used.items ≡ m.used.len = search rules in
-    let es_long : length es ≡ c.len.result = ap (λ (p : Public). length p.schedule) (sym public)
-    ∙ sym c.len.ensures.value in
     let noted : (us : List (ℕ × ℕ)) → IsUsed m.used.items us
     → IsUsed c.note_switch.new.used
-    (us ++ (c.switch_entry-place.result, c.switch_off-switched.result.used) ∷ []) =
+    (us ++ (c.turn-turn.result.place, c.switch_off-switched.result.used) ∷ []) =
     rw c.as_mut_slice.ensures.value at c.note_switch.ensures.noted in
     let each =
-    noted_back m.used.items c.note_switch.new.used m.used.len long was c.switch_entry-place.result
+    noted_back m.used.items c.note_switch.new.used m.used.len long was c.turn-turn.result.place
     (switch_entry es m.slots)
     c.switch_off-switched.result.used c.switch_off-switched.result.used
-    (c.switch_entry-place.ensures.value es es_long) refl noted in
+    (c.turn-turn.ensures.place ∙ ap (λ (p : Public). switch_entry p.schedule m.slots) public) refl noted in
     subst (λ (n : ℕ). StandsOff off i n z) (sym (add-one m.slots))
     (stands_after (Some off) i m.slots m.accepted s m.stands _ (starts_so c) d enters.is
     (c.begins_by.result + c.from.result) (ends c) z over
@@ -252,18 +250,18 @@ invariant_of-self-clause-in_bounds c =
     c.slot_off-self.result in
     let few = subst (CountUpTo c.slot_off-self.result) (sym (domains_back c)) c.slot_off-self.ensures.few in
     let t : SlotTimes = record {
-      start = c.start-start.result;
+      start = c.turn-turn.result.start;
       until = c.until_off.result;
       begun = c.switch_off-switched.result.now;
       begins = c.begins_by.result;
       length = c.from.result;
     } in
     let are : AreTimes m.clock t = record {
-      soon = omega (arith, c.start-start.ensures.soon, c.requires.slots);
+      soon = omega (arith, c.turn-turn.ensures.soon, c.requires.slots);
       waits = c.until_off.ensures.soon;
       worked = c.switch_off-switched.ensures.few;
       counts = c.begins_by.ensures.soon;
-      short = omega (arith, c.from.ensures, c.entry-entry.ensures.length);
+      short = omega (arith, c.from.ensures, c.turn-turn.ensures.length);
     } in
     in_bounds_off_next m.slots m.ended s m.in_bounds c.requires.slots t are z c.slot_off-self.ensures.soon
     c.slot_off-self.ensures.past few

@@ -1,11 +1,8 @@
 -- A look-up that hits is a touch; one that misses changes nothing.
-use Rattle.std.proofs.Common.{Option, Some, None, IfSome, IfNone, ◌⊎◌, ℕ, length, ap, sym, subst, ◌∙◌, inl, inr}
+use Rattle.std.proofs.Common.{Option, Some, None, IfSome, IfNone, ◌⊎◌, ap, sym, subst, inl, inr}
 use Rattle.set_cache.specs.Contents.{Contents, kept_at}
-use Rattle.set_cache.specs.Lines.{mark_in}
-use Rattle.set_cache.proofs.Ways.{marks_clean}
-use Rattle.l2_colour.specs.Colours.{IsColoured, colours_of, colour_of_set}
 use Rattle.l2_colour.specs.Contents.{IsL2}
-use Rattle.l2_colour.proofs.Rows.{line_in_colour}
+use Rattle.l2_colour.proofs.AfterTouch.{after_touch, others_stay}
 use Rattle.l2_colour.proofs.cache.L2.find.Goals as goal
 
 -- a look-up finds something or nothing
@@ -18,9 +15,9 @@ returns-clause-colour g c =
     let a = c.self.inside in
     rw (← c.number.ensures.same) (rw (← c.self.view_is) (λ s apart.
     elim (found_or_not c.find.result c.find.ensures.touch c.find.ensures.missed) [
-      | inl told ↦ told.touch.other_sets s (λ e.
-          apart (ap (colour_of_set a.line_size) e
-          ∙ line_in_colour a.line_size (length a.cache.table) c.number.result c.self.invariant.coloured))
+      | inl told ↦
+          others_stay g.P.Policy.takes g.P.Policy.rule g.P.Policy.stands_for a.line_bits a.colours _ c.self.invariant
+          told.answer c.number.result c.find.new.self told.touch s apart
       | inr same ↦ ap (λ (cache : Contents g.row.P.Denot). kept_at cache.table s) same
     ]))
 
@@ -29,17 +26,8 @@ invariant_of-self g c =
     let a = c.self.inside in
     elim (found_or_not c.find.result c.find.ensures.touch c.find.ensures.missed) [
       | inl told ↦
-          let same = sym told.touch.shape.same_sets in
-          record {
-            least = c.self.invariant.least;
-            power = c.self.invariant.power;
-            few_bits = c.self.invariant.few_bits;
-            coloured = subst (λ (n : ℕ). IsColoured a.line_size n) same c.self.invariant.coloured;
-            counted = c.self.invariant.counted ∙ ap (colours_of a.line_size) same;
-            clean = λ past.
-                marks_clean told.answer c.number.result (mark_in a.cache) (mark_in c.find.new.self)
-                told.touch.marks (c.self.invariant.clean past);
-          }
+          after_touch g.P.Policy.takes g.P.Policy.rule g.P.Policy.stands_for a.line_bits a.colours _ c.self.invariant
+          told.answer c.number.result c.find.new.self told.touch
       | inr same ↦
           subst (λ (cache : Contents g.row.P.Denot). IsL2 a.line_bits a.colours (record {
             line_size = a.line_size;

@@ -3,7 +3,7 @@ use Rattle.std.proofs.lemmas.Option.{slice_get_read}
 use Rattle.sched_table.specs.Schedule.{outgoing}
 use Rattle.image_check.specs.Image.{image_from}
 use Rattle.tp_machine.specs.Worlds.{kept}
-use Rattle.tp_machine.proofs.Whole.{domain_is, clone_before}
+use Rattle.tp_machine.proofs.Whole.{has_ended, clone_before}
 use Rattle.tp_machine.proofs.Switches.{by_all, own_clone, clone_on}
 use Rattle.mem_system.specs.Contents.{system}
 use Rattle.tp_machine.proofs.machine.Machine.outgoing.Goals as goal
@@ -14,10 +14,7 @@ returns-clause-on c =
     let i = image_from m.image.now in
     let d = c.from.result in
     let x = c.index.result.now in
-    let last : ℕ = m.slots - 1 in
-    let left =
-    domain_is i m.accepted last _ c.public.ensures.value c.entry-entry.result c.entry-entry.ensures.value d
-    c.from.ensures in
+    let left = has_ended i m.accepted m.slots c.args.ended c.requires.ended d c.from.ensures in
     let within : d < length m.domains.items = omega (arith, left.named, m.stands.all_domains) in
     let got = slice_get_read m.domains.items (length m.domains.items) d x refl within c.index.ensures in
     let s = kept m.memory (system m.core m.l2) m.domains.items m.used.items m.clock in
@@ -30,12 +27,10 @@ returns-clause-clone c =
     let d = c.from.result in
     let x = c.index.result.now in
     let last : ℕ = m.slots - 1 in
-    let left =
-    domain_is i m.accepted last _ c.public.ensures.value c.entry-entry.result c.entry-entry.ensures.value d
-    c.from.ensures in
+    let left = has_ended i m.accepted m.slots c.args.ended c.requires.ended d c.from.ensures in
     let within : d < length m.domains.items = omega (arith, left.named, m.stands.all_domains) in
     let got = slice_get_read m.domains.items (length m.domains.items) d x refl within c.index.ensures in
     let s = kept m.memory (system m.core m.l2) m.domains.items m.used.items m.clock in
     let more : suc last ≡ m.slots = omega (arith, c.if-self-eq0.false) in
-    clone_before None i m.slots m.accepted s (by_all i m.slots s m.stands) last d x more left.is got
+    clone_before None i m.slots m.accepted s (by_all i m.slots s m.stands) last d x more (left.is last more) got
     ∙ sym (own_clone i (outgoing i.all.schedule m.slots))

@@ -33,7 +33,7 @@ switch-switched-requires-clause-into c =
     let s = kept m.memory (system m.core m.l2) m.domains.items m.used.items m.clock in
     let d = c.from-d.result in
     let domain : IsDomain i d =
-    omega (arith, c.next_entry-entry.ensures.domain, c.from-d.ensures) in
+    omega (arith, c.next_turn-turn.ensures.domain, c.from-d.ensures) in
     let within : d < length m.domains.items = omega (arith, domain, m.stands.all_domains) in
     let got =
     slice_get_read m.domains.items (length m.domains.items) d c.index.result.now refl within
@@ -45,7 +45,7 @@ switch-switched-requires-clause-ended c =
     let m = c.args.self.now in
     let s = kept m.memory (system m.core m.l2) m.domains.items m.used.items m.clock in
     let over = ended (image_from m.image.now) m.accepted m.slots s m.stands in
-    omega (arith, over, c.last_end-last_end.ensures.end)
+    omega (arith, over, c.next_turn-turn.ensures.last_end)
 
 pub switch-switched-requires-clause-early : goal.switch-switched-requires-clause-early
 switch-switched-requires-clause-early c =
@@ -56,7 +56,7 @@ switch-switched-requires-clause-early c =
 
 -- ---- the slot begins
 
-begins : (c : goal.After-from) → Begins None (image_from c.args.self.now.image.now) c.args.self.now.slots
+begins : (c : goal.After-struct_known-2-1) → Begins None (image_from c.args.self.now.image.now) c.args.self.now.slots
     (kept c.args.self.now.memory (system c.args.self.now.core c.args.self.now.l2) c.args.self.now.domains.items
     c.args.self.now.used.items c.args.self.now.clock)
     (record {
@@ -71,13 +71,13 @@ begins c =
     let d = c.from-d.result in
     let y = c.index.result.now in
     let within : d < length m.domains.items =
-    omega (arith, c.next_entry-entry.ensures.domain, c.from-d.ensures, m.stands.all_domains) in
+    omega (arith, c.next_turn-turn.ensures.domain, c.from-d.ensures, m.stands.all_domains) in
     let q : Switching = record {
       out = layout_if (option_copied c.as_ref.result);
       domain = d;
       enters = y;
-      old_end = c.last_end-last_end.result;
-      until = c.next_start-start.result;
+      old_end = c.next_turn-turn.result.last_end;
+      until = c.next_turn-turn.result.start;
       start = record {
         system = (system c.switch-switched.new.core c.switch-switched.new.l2);
         used = c.switch-switched.result.used;
@@ -87,10 +87,10 @@ begins c =
     begins_here i m.accepted m.slots s m.stands q
     (record {
       out = ap layout_if c.as_ref.ensures.value ∙ c.outgoing-out.ensures.clone;
-      domain = c.from-d.ensures ∙ ap (λ (e : Entry). e.domain) c.next_entry-entry.ensures.entry;
+      domain = c.from-d.ensures ∙ ap (λ (e : Entry). e.domain) c.next_turn-turn.ensures.entry;
       enters = slice_get_read m.domains.items (length m.domains.items) d y refl within c.index.ensures;
-      old_end = c.last_end-last_end.ensures.end;
-      until = c.next_start-start.ensures.start;
+      old_end = c.next_turn-turn.ensures.last_end;
+      until = c.next_turn-turn.ensures.start;
       levels = c.switch-switched.ensures.hierarchy;
       pinned = c.switch-switched.ensures.pinned;
       work = c.switch-switched.ensures.work;
@@ -106,8 +106,8 @@ stretch-self-requires-clause-runs c =
     let d = c.from-d.result in
     let x = c.index_mut.result.now in
     let within : d < length m.domains.items =
-    omega (arith, c.next_entry-entry.ensures.domain, c.from-d.ensures, m.stands.all_domains) in
-    let enters = c.from-d.ensures ∙ ap (λ (e : Entry). e.domain) c.next_entry-entry.ensures.entry in
+    omega (arith, c.next_turn-turn.ensures.domain, c.from-d.ensures, m.stands.all_domains) in
+    let enters = c.from-d.ensures ∙ ap (λ (e : Entry). e.domain) c.next_turn-turn.ensures.entry in
     let got =
     slice_get_read m.domains.items (length m.domains.items) d x refl within
     c.index_mut.ensures.value in
@@ -124,21 +124,21 @@ stretch-self-requires-clause-runs c =
     }
 
 -- it begins at its start
-begins_at : (c : goal.After-from) → c.switch-switched.result.now ≡ c.next_start-start.result
+begins_at : (c : goal.After-struct_known-2-1) → c.switch-switched.result.now ≡ c.next_turn-turn.result.start
 begins_at c =
     let m = c.args.self.now in
     let s = kept m.memory (system m.core m.l2) m.domains.items m.used.items m.clock in
     now_is (image_from m.image.now) m.accepted m.slots s m.stands _ (begins c)
-    ∙ sym c.next_start-start.ensures.start
+    ∙ sym c.next_turn-turn.ensures.start
 
 pub stretch-self-requires-clause-before : goal.stretch-self-requires-clause-before
-stretch-self-requires-clause-before c = omega (arith, begins_at c, c.next_start-start.ensures.soon)
+stretch-self-requires-clause-before c = omega (arith, begins_at c, c.next_turn-turn.ensures.soon)
 
 pub stretch-self-requires-clause-few : goal.stretch-self-requires-clause-few
 stretch-self-requires-clause-few c =
     let m = c.args.self.now in
     let within : c.from-d.result < length m.domains.items =
-    omega (arith, c.next_entry-entry.ensures.domain, c.from-d.ensures, m.stands.all_domains) in
+    omega (arith, c.next_turn-turn.ensures.domain, c.from-d.ensures, m.stands.all_domains) in
     let x = c.index_mut.result.now in
     let got =
     slice_get_read m.domains.items (length m.domains.items) c.from-d.result x refl within
@@ -164,13 +164,13 @@ begun_so c =
     let d = c.from-d.result in
     let y = c.index.result.now in
     let within : d < length m.domains.items =
-    omega (arith, c.next_entry-entry.ensures.domain, c.from-d.ensures, m.stands.all_domains) in
+    omega (arith, c.next_turn-turn.ensures.domain, c.from-d.ensures, m.stands.all_domains) in
     let q : Switching = record {
       out = layout_if (option_copied c.as_ref.result);
       domain = d;
       enters = y;
-      old_end = c.last_end-last_end.result;
-      until = c.next_start-start.result;
+      old_end = c.next_turn-turn.result.last_end;
+      until = c.next_turn-turn.result.start;
       start = record {
         system = (system c.switch-switched.new.core c.switch-switched.new.l2);
         used = c.switch-switched.result.used;
@@ -180,10 +180,10 @@ begun_so c =
     begins_here i m.accepted m.slots s m.stands q
     (record {
       out = ap layout_if c.as_ref.ensures.value ∙ c.outgoing-out.ensures.clone;
-      domain = c.from-d.ensures ∙ ap (λ (e : Entry). e.domain) c.next_entry-entry.ensures.entry;
+      domain = c.from-d.ensures ∙ ap (λ (e : Entry). e.domain) c.next_turn-turn.ensures.entry;
       enters = slice_get_read m.domains.items (length m.domains.items) d y refl within c.index.ensures;
-      old_end = c.last_end-last_end.ensures.end;
-      until = c.next_start-start.ensures.start;
+      old_end = c.next_turn-turn.ensures.last_end;
+      until = c.next_turn-turn.ensures.start;
       levels = c.switch-switched.ensures.hierarchy;
       pinned = c.switch-switched.ensures.pinned;
       work = c.switch-switched.ensures.work;
@@ -207,25 +207,22 @@ next_so c =
     let d = c.from-d.result in
     let x = c.index_mut.result.now in
     let within : d < length m.domains.items =
-    omega (arith, c.next_entry-entry.ensures.domain, c.from-d.ensures, m.stands.all_domains) in
-    let enters = c.from-d.ensures ∙ ap (λ (e : Entry). e.domain) c.next_entry-entry.ensures.entry in
+    omega (arith, c.next_turn-turn.ensures.domain, c.from-d.ensures, m.stands.all_domains) in
+    let enters = c.from-d.ensures ∙ ap (λ (e : Entry). e.domain) c.next_turn-turn.ensures.entry in
     let got =
     slice_get_read m.domains.items (length m.domains.items) d x refl within
     c.index_mut.ensures.value in
-    let lasts = c.from.ensures ∙ ap (λ (e : Entry). e.length) c.next_entry-entry.ensures.entry in
+    let lasts = c.from.ensures ∙ ap (λ (e : Entry). e.length) c.next_turn-turn.ensures.entry in
     let long : length c.note_switch.new.used ≡ m.used.len = search rules in
     let was : length m.used.items ≡ m.used.len = search rules in
-    let es_long : length es ≡ c.len.result =
-    ap (λ (q : Public). length q.schedule) (sym c.public-public.ensures.value)
-    ∙ sym c.len.ensures.value in
     let noted : (us : List (ℕ × ℕ)) → IsUsed m.used.items us
-    → IsUsed c.note_switch.new.used (us ++ (c.switch_entry-place.result, c.switch-switched.result.used) ∷ []) =
+    → IsUsed c.note_switch.new.used (us ++ (c.next_turn-turn.result.place, c.switch-switched.result.used) ∷ []) =
     rw c.as_mut_slice.ensures.value at c.note_switch.ensures.noted in
     let all = length_back m.used.items c.note_switch.new.used m.used.len long was in
     let each =
-    noted_back m.used.items c.note_switch.new.used m.used.len long was c.switch_entry-place.result
+    noted_back m.used.items c.note_switch.new.used m.used.len long was c.next_turn-turn.result.place
     (switch_entry es m.slots) c.switch-switched.result.used c.switch-switched.result.used
-    (c.switch_entry-place.ensures.value es es_long) refl noted in
+    c.next_turn-turn.ensures.place refl noted in
     let b : SlotStart = record {
       system = (system c.switch-switched.new.core c.switch-switched.new.l2);
       used = c.switch-switched.result.used;
@@ -244,7 +241,7 @@ next_so c =
     Moves any_rule any_stands_for
     (λ (w : Setting). stretch w (n + c.from.result))
     m.memory x b.system b.now z.memory z.domain z.system z.clock in
-    let runs = subst Runs c.next_start-start.ensures.start c.stretch-self.ensures.becomes in
+    let runs = subst Runs c.next_turn-turn.ensures.start c.stretch-self.ensures.becomes in
     next i m.accepted m.slots s m.stands b (begun_so c) d enters x got z c.from.result lasts all each runs
 
 pub invariant_of-self-clause-stands : goal.invariant_of-self-clause-stands
@@ -263,7 +260,7 @@ invariant_of-self-clause-in_bounds c =
     let i = image_from m.image.now in
     let s = kept m.memory (system m.core m.l2) m.domains.items m.used.items m.clock in
     let within : c.from-d.result < length m.domains.items =
-    omega (arith, c.next_entry-entry.ensures.domain, c.from-d.ensures, m.stands.all_domains) in
+    omega (arith, c.next_turn-turn.ensures.domain, c.from-d.ensures, m.stands.all_domains) in
     let long : length c.note_switch.new.used ≡ m.used.len = search rules in
     let was : length m.used.items ≡ m.used.len = search rules in
     let counted : (n : ℕ) → CountedUpTo n m.used.items → CountedUpTo (n + 1) c.note_switch.new.used =
@@ -282,7 +279,7 @@ invariant_of-self-clause-in_bounds c =
     (omega (
       arith,
       at,
-      c.next_start-start.ensures.start,
+      c.next_turn-turn.ensures.start,
       c.switch-switched.ensures.clock,
       c.switch-switched.ensures.later,
       c.stretch-self.ensures.over,
