@@ -1,8 +1,7 @@
 -- The numbers of an entry that the rule of the schedule lets through.
-use Rattle.std.proofs.Common.{◌≡◌, ℕ, ◌<◌, ◌≤◌, not, false, List, [], length, map, take, get_or, None, Some, refl, sym, subst, arith, ◌⊎◌, inl, inr}
+use Rattle.std.proofs.Common.{◌≡◌, ℕ, ◌<◌, ◌≤◌, not, false, List, [], length, map, take, get_or, None, Some, sym, subst, arith, ◌⊎◌, inl, inr}
 use Rattle.std.specs.Prelude.{ℤ, pos, negsuc, Option, if◌then◌else◌}
 use Rattle.std.specs.List.{All}
-use Rattle.std.proofs.lemmas.List.Elements.{All-map}
 use Rattle.std.proofs.lemmas.List.{length-map, get_or_past, get_or-map as read_map}
 use Rattle.std.proofs.lemmas.Bool.{cases_lt}
 use Rattle.std.proofs.lemmas.Bool.Decides.{nat_tests}
@@ -17,17 +16,18 @@ use Rattle.image_record.specs.Numbers.{IsNatural, natural_of}
 use Rattle.sched_table.specs.declared.schedule.Entry.{Entry}
 use Rattle.sched_table.specs.Schedule.{entry_in, no_entry, IsSchedule}
 use Rattle.domain_check.specs.Names.{k7}
-use Rattle.sched_table.proofs.Harts.{one_hart_law as on_one_hart}
-use Rattle.image_check.specs.Public.{entry_of, public_of}
-use Rattle.image_check.specs.Laws.{OneHartLaw}
+use Rattle.image_check.specs.Public.{IsSmallEntry, entry_of}
+use Rattle.image_check.specs.Harts.{hart_case, k19_entry}
 use Rattle.image_check.specs.Checking.{broken_but_pads}
+use Rattle.image_check.specs.Laws.{KeepsBeforePads}
 use Rattle.image_record.proofs.FirstCases.{if_first, if_rest, first_in_none}
-use Rattle.image_record.proofs.Ranges.{most_inside}
+use Rattle.image_record.proofs.Ranges.{most_inside, inside}
 use Rattle.image_check.proofs.Kept.{few_domains, domains_within, entries_within, entries_pass}
 
 pub record Passed (domains : ℕ) (e : Entry) : Type 0 where
   pub domain : e.domain < domains
   pub length : e.length ≤ 1000000
+  pub lasting : 1000 ≤ e.length
   pub pad : e.pad ≤ 1000000
 
 pub number_below : (many : ℕ) (x : ℤ) → not (is_number many x) ≡ false → natural_of x < many
@@ -48,9 +48,11 @@ passed domains place e n =
     let third = refusal 16 (pos place) e.pad (pos 4) in
     let a = if_rest (not (is_number domains e.domain)) first later n in
     let b = if_rest (outside (pos 1000) (pos 1000000) e.length) second last a in
+    let long = inside 1000 1000000 e.length (if_first (outside (pos 1000) (pos 1000000) e.length) second last a) in
     record {
       domain = number_below domains e.domain (if_first (not (is_number domains e.domain)) first later n);
-      length = most_inside 1000 1000000 e.length (if_first (outside (pos 1000) (pos 1000000) e.length) second last a);
+      length = long.most;
+      lasting = long.least;
       pad = most_inside 0 1000000 e.pad (if_first (outside (pos 0) (pos 1000000) e.pad) third None b);
     }
 
@@ -58,7 +60,7 @@ pub entry_passed : (domains : ℕ) (es : List TextEntry) → first_in (k16_entry
 entry_passed domains es n e l d = passed domains (length (take e es)) (get_or es e d) (first_in_none (k16_entry domains) es n e l d)
 
 pub no_text_entry : TextEntry
-no_text_entry = record { domain = pos 0; length = pos 0; pad = pos 0 }
+no_text_entry = record { domain = pos 0; length = pos 0; pad = pos 0; hart = pos 0 }
 
 -- an entry of the schedule
 pub entry_in_passed : (domains : ℕ) (es : List TextEntry) → first_in (k16_entry domains) es ≡ None → (e : ℕ) → e < length es → Passed domains (entry_in (map entry_of es) e)
@@ -118,12 +120,47 @@ few_raw_domains raw n = omega (arith, length-map raw.domains.items domain_model,
 pub few_texts : (raw : Raw) → k7 (raw_model raw) ≡ None → length raw.domains.items ≤ 32
 few_texts raw n = let most = (domains_within (raw_model raw) n).most in omega (arith, length-map raw.domains.items domain_model, most)
 
--- ---- harts
+-- ---- in the code
 
-on_hart_0 : (es : List TextEntry) → All (λ e. e.hart ≡ 0) (map entry_of es)
-unfolding entry_of
-on_hart_0 es = All-map (λ (e : Entry). e.hart ≡ 0) entry_of es (λ k d l. refl)
+number_inside : (many : ℕ) (x : ℤ) → many ≤ 32 → not (is_number many x) ≡ false → outside (pos 0) (pos 255) x ≡ false
+number_inside many (pos n) few h = grind (arith, nat_tests, h, few)
+number_inside many (negsuc n) few h = cc
 
-pub one_hart_law : OneHartLaw
-unfolding public_of
-one_hart_law i = on_one_hart (map entry_of i.schedule) (on_hart_0 i.schedule)
+long_inside : (x : ℤ) → outside (pos 1000) (pos 1000000) x ≡ false → outside (pos 0) (pos 1000000) x ≡ false
+long_inside (pos n) h = grind (arith, nat_tests, h)
+long_inside (negsuc n) h = cc
+
+small : (domains place : ℕ) (e : TextEntry) → domains ≤ 32 → k16_case domains place e ≡ None → outside (pos 0) (pos 3) e.hart ≡ false → IsSmallEntry e
+unfolding k16_case
+small domains place e few n on =
+    let last : Option Refusal = if outside (pos 0) (pos 1000000) e.pad then Some (refusal 16 (pos place) e.pad (pos 4)) else None in
+    let later : Option Refusal = if outside (pos 1000) (pos 1000000) e.length then Some (refusal 16 (pos place) e.length (pos 3)) else last in
+    let first = refusal 16 (pos place) e.domain (pos 2) in
+    let second = refusal 16 (pos place) e.length (pos 3) in
+    let third = refusal 16 (pos place) e.pad (pos 4) in
+    let a = if_rest (not (is_number domains e.domain)) first later n in
+    let b = if_rest (outside (pos 1000) (pos 1000000) e.length) second last a in
+    record {
+      domain = number_inside domains e.domain few (if_first (not (is_number domains e.domain)) first later n);
+      length = long_inside e.length (if_first (outside (pos 1000) (pos 1000000) e.length) second last a);
+      pad = if_first (outside (pos 0) (pos 1000000) e.pad) third None b;
+      hart = on;
+    }
+
+on_hart : (place : ℕ) (e : TextEntry) → hart_case place e ≡ None → outside (pos 0) (pos 3) e.hart ≡ false
+unfolding hart_case
+on_hart place e n = if_first (outside (pos 0) (pos 3) e.hart) (refusal 19 (pos place) e.hart (pos 1)) None n
+
+pub hart_passed : (es : List TextEntry) → first_in k19_entry es ≡ None → (e : ℕ) → e < length es → outside (pos 0) (pos 3) (get_or es e no_text_entry).hart ≡ false
+hart_passed es n e l = on_hart (length (take e es)) (get_or es e no_text_entry) (first_in_none k19_entry es n e l no_text_entry)
+
+pub all_small : (raw : Raw) → KeepsBeforePads (raw_model raw) → first_in k19_entry (raw_model raw).schedule ≡ None
+    → All (λ e. IsSmallEntry (entry_model e)) raw.schedule.items
+all_small raw rules harts = λ k d l.
+    let i = raw_model raw in
+    let within : k < length i.schedule = omega (arith, length-map raw.schedule.items entry_model, l) in
+    let case = first_in_none (k16_entry (length i.domains)) i.schedule (entries_pass i rules.schedule) k within no_text_entry in
+    let few = (domains_within i rules.domains).most in
+    let here : IsSmallEntry (get_or i.schedule k no_text_entry) =
+    small (length i.domains) (length (take k i.schedule)) (get_or i.schedule k no_text_entry) few case (hart_passed i.schedule harts k within) in
+    subst IsSmallEntry (read_map entry_model raw.schedule.items k d no_text_entry l) here

@@ -1,5 +1,5 @@
 -- The rules one by one, and the counts that they bound.
-use Rattle.std.proofs.Common.{◌≡◌, ℕ, ◌≤◌, Bool, true, false, ◌||◌, List, [], ◌∷◌, length, Option, Some, None, Result, Ok, Err, refl, sym, ap, ap₂, ◌∙◌, ◌⊎◌, inl, inr, arith}
+use Rattle.std.proofs.Common.{◌≡◌, ℕ, ◌≤◌, Bool, true, false, ◌||◌, List, [], ◌∷◌, length, Option, Some, None, Result, Ok, Err, refl, sym, ap, ◌∙◌, ◌⊎◌, inl, inr, arith}
 use Rattle.std.specs.Prelude.{nat_eq, nat_lt, pos, slice_get, if◌then◌else◌, IfErr}
 use Rattle.std.proofs.lemmas.Bool.Decides.{nat_tests}
 use Rattle.image_record.specs.declared.refusal.Refusal.{Refusal}
@@ -15,6 +15,7 @@ use Rattle.domain_check.specs.Names.{most_domains, k7, k7_domain}
 use Rattle.domain_check.specs.Calls.{k18}
 use Rattle.image_check.specs.Schedule.{most_entries, k16, k16_entry}
 use Rattle.image_check.specs.Pads.{k17}
+use Rattle.image_check.specs.Harts.{k19}
 use Rattle.image_check.specs.Checking.{rules_before_pads, rules_after_pads, ended_by, followed_by, broken_of, broken, broken_but_pads, broken_before_pads}
 use Rattle.image_check.specs.Laws.{Keeps, KeepsButPads, KeepsBeforePads, HasPadsItem, AcceptanceLaw, ButPadsLaw, PadsLaw, ExtensionsLaw}
 use Rattle.image_record.proofs.FirstCases.{or_first, or_rest, if_first}
@@ -84,20 +85,27 @@ kept_before_pads i e = kept_before_those i [] e
 
 record KeepsAfterPads (i : Raw) : Type 0 where
   calls : k18 i ≡ None
+  harts : k19 i ≡ None
   extensions : k22 i ≡ None
 
 kept_after_pads : (i : Raw) → broken_of rules_after_pads i [] ≡ [] → KeepsAfterPads i
 unfolding rules_after_pads
 kept_after_pads i e =
     let last = ended_by (k22 i) [] in
-    record { calls = none_here (k18 i) last e; extensions = none_here (k22 i) [] (none_later (k18 i) last e) }
+    let later = ended_by (k19 i) last in
+    let from19 = none_later (k18 i) later e in
+    record {
+      calls = none_here (k18 i) later e;
+      harts = none_here (k19 i) last from19;
+      extensions = none_here (k22 i) [] (none_later (k19 i) last from19);
+    }
 
 pub kept_but_pads : (i : Raw) → broken_but_pads i ≡ [] → KeepsButPads i
 unfolding broken_but_pads
 kept_but_pads i e =
     let later = broken_of rules_after_pads i [] in
     let after = kept_after_pads i (later_empty rules_before_pads i later e) in
-    record { before = kept_before_those i later e; calls = after.calls; extensions = after.extensions }
+    record { before = kept_before_those i later e; calls = after.calls; harts = after.harts; extensions = after.extensions }
 
 pub extensions_law : ExtensionsLaw
 extensions_law i e = extensions_said i (kept_but_pads i e).extensions
@@ -107,13 +115,13 @@ later_alone : (i : Raw) (later : List Refusal) → KeepsBeforePads i → broken_
 unfolding rules_before_pads
 later_alone i later k = rw (k.parts, k.frames, k.colours, k.costs, k.domains, k.named, k.apart, k.pools, k.shared, k.segments, k.capabilities, k.lines, k.moments, k.schedule) refl
 
--- two rules come after that of pads
-after_pads : (i : Raw) (o p : Option Refusal) → k18 i ≡ o → k22 i ≡ p → broken_of rules_after_pads i [] ≡ ended_by o (ended_by p [])
+-- three rules come after that of pads
+after_pads : (i : Raw) (o p q : Option Refusal) → k18 i ≡ o → k19 i ≡ p → k22 i ≡ q → broken_of rules_after_pads i [] ≡ ended_by o (ended_by p (ended_by q []))
 unfolding rules_after_pads
-after_pads i o p e f = ap₂ (λ (q r : Option Refusal). ended_by q (ended_by r [])) e f
+after_pads i o p q e f g = rw (e, f, g) refl
 
 none_after_pads : (i : Raw) → KeepsButPads i → broken_of rules_after_pads i [] ≡ []
-none_after_pads i k = after_pads i None None k.calls k.extensions
+none_after_pads i k = after_pads i None None None k.calls k.harts k.extensions
 
 unbroken_but_pads : (i : Raw) → KeepsButPads i → broken_but_pads i ≡ []
 unfolding broken_but_pads
@@ -122,8 +130,8 @@ unbroken_but_pads i k = later_alone i (broken_of rules_after_pads i []) k.before
 pub but_pads_law : ButPadsLaw
 but_pads_law i = (kept_but_pads i, unbroken_but_pads i)
 
-pub others_kept : (i : Raw) → broken_before_pads i ≡ [] → k18 i ≡ None → k22 i ≡ None → broken_but_pads i ≡ []
-others_kept i before calls last = unbroken_but_pads i (record { before = kept_before_pads i before; calls = calls; extensions = last })
+pub others_kept : (i : Raw) → broken_before_pads i ≡ [] → k18 i ≡ None → k19 i ≡ None → k22 i ≡ None → broken_but_pads i ≡ []
+others_kept i before calls harts last = unbroken_but_pads i (record { before = kept_before_pads i before; calls = calls; harts = harts; extensions = last })
 
 -- ---- the rule of pads comes between the others
 
@@ -225,10 +233,13 @@ first_of_others i (Err (Broken r)) first = first_before_pads i r (broken_of rule
 
 -- where the first of those after it is this one
 calls_after_pads : (i : Raw) (r : Refusal) → k18 i ≡ Some r → broken_of rules_after_pads i [] ≡ r ∷ []
-calls_after_pads i r e = after_pads i (Some r) (k22 i) e refl
+calls_after_pads i r e = after_pads i (Some r) (k19 i) (k22 i) e refl refl
 
-last_after_pads : (i : Raw) (r : Refusal) → k18 i ≡ None → k22 i ≡ Some r → broken_of rules_after_pads i [] ≡ r ∷ []
-last_after_pads i r calls e = after_pads i None (Some r) calls e
+harts_after_pads : (i : Raw) (r : Refusal) → k18 i ≡ None → k19 i ≡ Some r → broken_of rules_after_pads i [] ≡ r ∷ []
+harts_after_pads i r calls e = after_pads i None (Some r) (k22 i) calls e refl
+
+last_after_pads : (i : Raw) (r : Refusal) → k18 i ≡ None → k19 i ≡ None → k22 i ≡ Some r → broken_of rules_after_pads i [] ≡ r ∷ []
+last_after_pads i r calls harts e = after_pads i None None (Some r) calls harts e
 
 after_of_others : (i : Raw) (r : Refusal) → broken_before_pads i ≡ [] → broken_of rules_after_pads i [] ≡ r ∷ [] → IsFirst (broken_but_pads i) (Broken r)
 unfolding broken_but_pads
@@ -247,11 +258,17 @@ calls_of_others i (Ok x) before verdict = tt
 calls_of_others i (Err Memory) before verdict = tt
 calls_of_others i (Err (Broken r)) before verdict = after_of_others i r before (calls_after_pads i r verdict)
 
+pub harts_of_others : {A : Type 0} → (i : Raw) (result : Result A ReadRefusal) → broken_before_pads i ≡ []
+    → k18 i ≡ None → IsVerdictOrMemory result (k19 i) → IfErr result (IsFirst (broken_but_pads i))
+harts_of_others i (Ok x) before calls verdict = tt
+harts_of_others i (Err Memory) before calls verdict = tt
+harts_of_others i (Err (Broken r)) before calls verdict = after_of_others i r before (harts_after_pads i r calls verdict)
+
 pub last_of_others : {A : Type 0} → (i : Raw) (result : Result A ReadRefusal) → broken_before_pads i ≡ []
-    → k18 i ≡ None → IsVerdictOrMemory result (k22 i) → IfErr result (IsFirst (broken_but_pads i))
-last_of_others i (Ok x) before calls verdict = tt
-last_of_others i (Err Memory) before calls verdict = tt
-last_of_others i (Err (Broken r)) before calls verdict = after_of_others i r before (last_after_pads i r calls verdict)
+    → k18 i ≡ None → k19 i ≡ None → IsVerdictOrMemory result (k22 i) → IfErr result (IsFirst (broken_but_pads i))
+last_of_others i (Ok x) before calls harts verdict = tt
+last_of_others i (Err Memory) before calls harts verdict = tt
+last_of_others i (Err (Broken r)) before calls harts verdict = after_of_others i r before (last_after_pads i r calls harts verdict)
 
 pub calls_of_all : {A : Type 0} → (i : Raw) (result : Result A ReadRefusal) → broken_before_pads i ≡ []
     → k17 i ≡ None → IsVerdictOrMemory result (k18 i) → IfErr result (IsFirst (broken i))
@@ -259,11 +276,17 @@ calls_of_all i (Ok x) before pads verdict = tt
 calls_of_all i (Err Memory) before pads verdict = tt
 calls_of_all i (Err (Broken r)) before pads verdict = after_of_all i r before pads (calls_after_pads i r verdict)
 
+pub harts_of_all : {A : Type 0} → (i : Raw) (result : Result A ReadRefusal) → broken_before_pads i ≡ []
+    → k17 i ≡ None → k18 i ≡ None → IsVerdictOrMemory result (k19 i) → IfErr result (IsFirst (broken i))
+harts_of_all i (Ok x) before pads calls verdict = tt
+harts_of_all i (Err Memory) before pads calls verdict = tt
+harts_of_all i (Err (Broken r)) before pads calls verdict = after_of_all i r before pads (harts_after_pads i r calls verdict)
+
 pub last_of_all : {A : Type 0} → (i : Raw) (result : Result A ReadRefusal) → broken_before_pads i ≡ []
-    → k17 i ≡ None → k18 i ≡ None → IsVerdictOrMemory result (k22 i) → IfErr result (IsFirst (broken i))
-last_of_all i (Ok x) before pads calls verdict = tt
-last_of_all i (Err Memory) before pads calls verdict = tt
-last_of_all i (Err (Broken r)) before pads calls verdict = after_of_all i r before pads (last_after_pads i r calls verdict)
+    → k17 i ≡ None → k18 i ≡ None → k19 i ≡ None → IsVerdictOrMemory result (k22 i) → IfErr result (IsFirst (broken i))
+last_of_all i (Ok x) before pads calls harts verdict = tt
+last_of_all i (Err Memory) before pads calls harts verdict = tt
+last_of_all i (Err (Broken r)) before pads calls harts verdict = after_of_all i r before pads (last_after_pads i r calls harts verdict)
 
 pub none_broken : (i : Raw) → broken_but_pads i ≡ [] → k17 i ≡ None → broken i ≡ []
 none_broken i others pads = unbroken i (record { others = kept_but_pads i others; pads = pads })

@@ -1,5 +1,6 @@
 pub mod Kept
 pub mod Entries
+pub mod HartLaws
 pub mod Padded
 pub mod OwnSlots
 pub mod Owns

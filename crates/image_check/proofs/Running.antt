@@ -7,6 +7,7 @@ use Rattle.image_check.specs.Public.{entry_of, public_of}
 use Rattle.image_check.specs.Laws.{NamedLaw, RunnableLaw}
 use Rattle.image_check.proofs.Kept.{kept, kept_but_pads, none_but_pads, keeps_hardware, domains_within, entries_pass}
 use Rattle.image_check.proofs.Entries.{entry_in_passed, schedule_sound}
+use Rattle.image_check.proofs.HartLaws.{harts_law}
 use Rattle.image_check.proofs.Padded.{pads_enough}
 use Rattle.image_check.proofs.Owns.{owns_length, owns_sound, lines_owned}
 use Rattle.image_check.proofs.Shares.{disjoint_colours, pools_enough}
@@ -30,6 +31,7 @@ runnable_law i ranges n =
     let rules = (kept i n).others.before in
     let domains = domains_within i rules.domains in
     let named = named_law i (none_but_pads i n) in
+    let pass = entries_pass i rules.schedule in
     let many = owns_length i in
     let long = length-map i.schedule entry_of in
     record {
@@ -41,6 +43,8 @@ runnable_law i ranges n =
       pools = λ d l. pools_enough i rules d (omega (arith, many, l));
       schedule = named.schedule;
       named = named.named;
+      lasting = λ e l. (entry_in_passed (length i.domains) i.schedule pass e (omega (arith, long, l))).lasting;
+      harts = harts_law i (none_but_pads i n);
       padded = λ e l. pads_enough i (kept i n) e (omega (arith, long, l));
       sound = owns_sound i ranges rules;
       owned = λ d e n l m. lines_owned i rules.lines d e n (omega (arith, many, l)) (omega (arith, many, m));

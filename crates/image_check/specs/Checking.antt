@@ -14,6 +14,7 @@ use Rattle.domain_check.specs.Capabilities.{k13}
 use Rattle.interrupt_check.specs.Interrupts.{k14, k15}
 use Rattle.domain_check.specs.Calls.{k18}
 use Rattle.image_check.specs.Pads.{k17}
+use Rattle.image_check.specs.Harts.{k19}
 
 -- the rules of colours and frames, where there are as many as the machine has
 abbrev pub k8_in_machine : Raw → Option Refusal
@@ -28,7 +29,7 @@ rules_before_pads = k3 ∷ k4 ∷ k5 ∷ k6 ∷ k7 ∷ k8_in_machine ∷ k9 ∷ 
 
 -- those after it
 unfoldable pub rules_after_pads : List (Raw → Option Refusal)
-rules_after_pads = k18 ∷ k22 ∷ []
+rules_after_pads = k18 ∷ k19 ∷ k22 ∷ []
 
 -- a broken rule ends the tests
 abbrev pub ended_by : Option Refusal → List Refusal → List Refusal

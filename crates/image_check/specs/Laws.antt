@@ -1,6 +1,6 @@
 -- What an image that breaks no rule is: no rule has a broken case, and in natural numbers it can be run.
-use Rattle.std.specs.Prelude.{◌≡◌, ◌≢◌, ℕ, ◌+◌, ◌*◌, ◌<◌, ◌≤◌, ◌^◌, ◌⊎◌, ◌↔◌, true, false, List, [], ◌∷◌, length, map, slice_get, Some, None}
-use Rattle.std.specs.List.{enumerate_from}
+use Rattle.std.specs.Prelude.{◌≡◌, ◌≢◌, ℕ, ◌+◌, ◌*◌, ◌<◌, ◌≤◌, ◌^◌, ◌⊎◌, ◌↔◌, true, false, pos, List, [], ◌∷◌, length, map, slice_get, Some, None}
+use Rattle.std.specs.List.{All, enumerate_from}
 use Rattle.tp_base.specs.Rights.{are_good}
 use Rattle.image_record.specs.Record as text
 use Rattle.image_record.specs.Record.{InKeyRanges}
@@ -19,9 +19,10 @@ use Rattle.domain_check.specs.Capabilities.{k13}
 use Rattle.interrupt_check.specs.Interrupts.{k14, k15}
 use Rattle.domain_check.specs.Calls.{k18}
 use Rattle.image_record.specs.declared.refusal.Refusal.{Refusal}
-use Rattle.sched_table.specs.Schedule.{entry_in, entries_on, IsSchedule}
+use Rattle.sched_table.specs.Schedule.{entry_in, entries_on, IsSchedule, AreHarts}
 use Rattle.pad_bound.specs.Bound.{IsShape, bound_of}
 use Rattle.image_check.specs.Pads.{shape_for, k17}
+use Rattle.image_check.specs.Harts.{k19}
 use Rattle.image_check.specs.Checking.{k8_in_machine, k10_in_machine, broken, broken_but_pads}
 use Rattle.image_check.specs.Own.{Segment, Own, segment_at, cap_at, has_line}
 use Rattle.image_check.specs.Pages.{has_page, has_page_in, frames_in, share_of}
@@ -48,6 +49,7 @@ pub record KeepsBeforePads (i : text.Raw) : Type 0 where
 pub record KeepsButPads (i : text.Raw) : Type 0 where
   pub before : KeepsBeforePads i
   pub calls : k18 i ≡ None
+  pub harts : k19 i ≡ None
   pub extensions : k22 i ≡ None
 
 -- no rule has
@@ -90,9 +92,13 @@ ShapeLaw = (i : text.Raw) (calls : ℕ) → broken_but_pads i ≡ [] → IsShape
 abbrev pub ExtensionsLaw : Type 0
 ExtensionsLaw = (i : text.Raw) → broken_but_pads i ≡ [] → HasExtensions i (hardware_of i)
 
--- an image has one hart, whose entries are all of them, each at its place
+-- each entry is on a hart, of four at most, each hart has one, and each domain is on one
+abbrev pub HartsLaw : Type 0
+HartsLaw = (i : text.Raw) → broken_but_pads i ≡ [] → AreHarts (image_from i).all.schedule
+
+-- where all entries are on hart 0, these are all of them, each at its place
 abbrev pub OneHartLaw : Type 0
-OneHartLaw = (i : text.Raw) → let es = (image_from i).all.schedule in entries_on es 0 ≡ enumerate_from 0 es
+OneHartLaw = (i : text.Raw) → All (λ e. e.hart ≡ pos 0) i.schedule → let es = (image_from i).all.schedule in entries_on es 0 ≡ enumerate_from 0 es
 
 pub record IsSegment (s : Segment) : Type 0 where
   pub page : s.page + s.pages ≤ 2 ^ 20
@@ -131,6 +137,8 @@ pub record Runnable (i : Image) : Type 0 where
   pub pools : (d : ℕ) → d < length i.owns → frames_in (own_of i d).segments ≤ length (pool (share_of i.all.hardware (own_of i d)))
   pub schedule : IsSchedule i.all.schedule
   pub named : (e : ℕ) → e < length i.all.schedule → (entry_in i.all.schedule e).domain < length i.owns
+  pub lasting : (e : ℕ) → e < length i.all.schedule → 1000 ≤ (entry_in i.all.schedule e).length
+  pub harts : AreHarts i.all.schedule
   pub padded : (e : ℕ) → e < length i.all.schedule → bound_after i e ≤ (entry_in i.all.schedule e).pad
   pub sound : (d : ℕ) → IsOwn (own_of i d)
   pub owned : (d e n : ℕ) → d < length i.owns → e < length i.owns → d ≢ e

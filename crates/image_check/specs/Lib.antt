@@ -4,6 +4,7 @@ pub mod Pages
 pub mod Pads
 pub mod Checking
 pub mod Public
+pub mod Harts
 pub mod Image
 pub mod Laws
 pub mod Models

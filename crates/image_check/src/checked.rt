@@ -7,6 +7,7 @@ ghost use Rattle.image_check.specs.Laws.{Runnable};
 ghost use Rattle.image_check.specs.Image.{image_from, own_of};
 ghost use Rattle.image_check.specs.Models.{public_model, own_model};
 
+use crate::harts::k19;
 use crate::own::Own;
 use crate::pads::k17;
 use crate::parts::parts_of;
@@ -77,7 +78,8 @@ pub fn check(alloc: Global, raw: Raw) -> Result<Checked, CheckRefusal>
     let parts = parts_of(alloc, &raw)?;
     k17(&parts.hardware, parts.domains.calls.as_slice(), &raw)?;
     k18(&raw)?;
+    let entries = k19(alloc, &raw)?;
     k22(&raw)?;
-    let image = image_of(alloc, raw, parts)?;
+    let image = image_of(alloc, raw, parts, entries.as_slice())?;
     Ok(Checked { image })
 }

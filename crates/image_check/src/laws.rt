@@ -1,6 +1,6 @@
 // What the rules give whoever runs an image.
 ghost use Rattle.image_check.specs.Laws.{AcceptanceLaw, ButPadsLaw, PadsLaw, NamedLaw, ShapeLaw};
-ghost use Rattle.image_check.specs.Laws.{ExtensionsLaw, OneHartLaw, RunnableLaw};
+ghost use Rattle.image_check.specs.Laws.{ExtensionsLaw, HartsLaw, OneHartLaw, RunnableLaw};
 
 /// The list of the rules that an image breaks is empty exactly where no rule has
 /// a broken case.
@@ -34,7 +34,14 @@ pub fn extensions()
     ensures extensions { ExtensionsLaw }
 {}
 
-/// The entries of hart 0 are all entries of an image, each with its place.
+/// The entries of an image that breaks no other rule than that of pads are on harts,
+/// of which there are four at most: each hart has one, and each domain is on one hart.
+pub fn harts()
+    ensures harts { HartsLaw }
+{}
+
+/// Where all entries of an image are on hart 0, its entries are all of them, each
+/// with its place.
 pub fn one_hart()
     ensures one { OneHartLaw }
 {}

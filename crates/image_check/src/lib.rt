@@ -1,11 +1,12 @@
 //! The rules that an image must keep, in their order: those of the machine, of
-//! the domains and of the schedule, of pads and calls, and that of products and
-//! the target buffer; an image that keeps them all, with what all domains may
+//! the domains and of the schedule, of pads, calls and harts, and that of products
+//! and the target buffer; an image that keeps them all, with what all domains may
 //! know of it and what each has of its own; and one that keeps all but the rule
 //! of pads, with what the bound on a switch depends on.
 #![tactic(auto)]
 
 mod checked;
+mod harts;
 pub mod laws;
 mod own;
 mod pads;
@@ -25,6 +26,6 @@ pub use hardware_check::{CacheShape, Hardware, Policy};
 pub use image_record::{ReadRefusal as CheckRefusal, Refusal};
 pub use own::Own;
 pub use public::Public;
-/// The schedule, whose slots are a domain's each.
-pub use sched_table::{Entry, Schedule};
+/// The schedule, whose slots are a domain's each, and that of a hart.
+pub use sched_table::{Entry, HartSchedule, Schedule};
 pub use unpadded::{Unpadded, check_but_pads};

@@ -1,9 +1,8 @@
 // What the rules before that of pads let through, tested in their order; and the calls of each domain.
-ghost use Rattle.std.specs.Prelude.{◌≡◌, [], map, IfOk, IfErr, OnOk};
+ghost use Rattle.std.specs.Prelude.{◌≡◌, [], IfOk, IfErr, OnOk};
 ghost use Rattle.image_record.specs.Models.{raw_model};
 ghost use Rattle.image_check.specs.Outcomes.{IsFirst};
 ghost use Rattle.image_check.specs.Checking.{broken_before_pads};
-ghost use Rattle.image_check.specs.Public.{entry_of};
 ghost use Rattle.hardware_check.specs.Hardware.{hardware_of};
 ghost use Rattle.image_check.specs.Parts.{ArePartsOf};
 ghost use Rattle.image_check.specs.Models.{hardware_model};
@@ -15,7 +14,6 @@ use domain_check::{calls_in, k7, k8, k9, k10, k12, k13};
 use hardware_check::{Hardware, k3, k4, k5, k6, k11};
 use image_record::Raw;
 use interrupt_check::{k14, k15};
-use sched_table::Entry;
 use std::alloc::Global;
 
 /// What the rules before that of pads let through of an image, and the calls of
@@ -24,7 +22,6 @@ use std::alloc::Global;
 pub struct Parts {
     pub hardware: Hardware,
     pub domains: DomainParts,
-    pub schedule: Vec<Entry>,
 }
 
 /// The parts, where no rule before that of pads is broken.
@@ -39,7 +36,6 @@ pub fn parts_of(alloc: Global, raw: &Raw) -> Result<Parts, CheckRefusal>
     ensures accepted { OnOk result (broken_before_pads (raw_model raw.now) ≡ []) }
     ensures hardware { IfOk result (λ p. hardware_model p.hardware ≡ hardware_of (raw_model raw.now)) }
     ensures domains { IfOk result (λ p. ArePartsOf p.domains (raw_model raw.now).domains) }
-    ensures schedule { IfOk result (λ p. p.schedule.items ≡ map entry_of (raw_model raw.now).schedule) }
 {
     let caches = k3(raw)?;
     let frames = k4(raw)?;
@@ -54,7 +50,7 @@ pub fn parts_of(alloc: Global, raw: &Raw) -> Result<Parts, CheckRefusal>
     let caps = k13(alloc, raw)?;
     let lines = k14(alloc, raw)?;
     let moments = k15(alloc, raw)?;
-    let schedule = k16(alloc, raw)?;
+    k16(raw)?;
     let calls = calls_in(alloc, raw)?;
     Ok(Parts {
         hardware,
@@ -66,6 +62,5 @@ pub fn parts_of(alloc: Global, raw: &Raw) -> Result<Parts, CheckRefusal>
             moments,
             calls,
         },
-        schedule,
     })
 }

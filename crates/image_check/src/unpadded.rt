@@ -15,6 +15,7 @@ ghost use Rattle.image_check.specs.Parts.{ArePartsOf};
 ghost use Rattle.image_check.specs.Models.{hardware_model, public_model, own_model};
 ghost use Rattle.image_check.specs.Pads as spec;
 
+use crate::harts::k19;
 use crate::own::{Own, owns_of};
 use crate::pads::shape_for_every_call;
 use crate::parts::{Parts, parts_of};
@@ -24,6 +25,7 @@ use domain_check::k18;
 use hardware_check::k22;
 use image_record::Raw;
 use pad_bound::Shape;
+use sched_table::Entry;
 use std::alloc::Global;
 use std::marker::Model;
 
@@ -88,19 +90,24 @@ impl Unpadded {
     }
 }
 
-/// The image of these parts.
+/// The image of these parts and entries.
 ///
 /// # Errors
 ///
 /// `Memory` alone.
-pub(crate) fn image_of(alloc: Global, raw: Raw, parts: Parts) -> Result<Unpadded, CheckRefusal>
+pub(crate) fn image_of(
+    alloc: Global,
+    raw: Raw,
+    parts: Parts,
+    entries: &[Entry],
+) -> Result<Unpadded, CheckRefusal>
     requires accepted { broken_but_pads (raw_model raw) ≡ [] }
     requires hardware { hardware_model parts.hardware ≡ hardware_of (raw_model raw) }
     requires domains { ArePartsOf parts.domains (raw_model raw).domains }
-    requires schedule { parts.schedule.items ≡ map entry_of (raw_model raw).schedule }
+    requires entries { entries.now ≡ map entry_of (raw_model raw).schedule }
     ensures value { Makes (λ u. u) result (raw_model raw) }
 {
-    let public = public_of(alloc, &raw, parts.hardware, parts.schedule.as_slice())?;
+    let public = public_of(alloc, &raw, parts.hardware, entries)?;
     let owns = owns_of(alloc, &raw, parts.domains)?;
     Ok(Unpadded { raw, public, owns })
 }
@@ -120,6 +127,7 @@ pub fn check_but_pads(alloc: Global, raw: Raw) -> Result<Unpadded, CheckRefusal>
 {
     let parts = parts_of(alloc, &raw)?;
     k18(&raw)?;
+    let entries = k19(alloc, &raw)?;
     k22(&raw)?;
-    image_of(alloc, raw, parts)
+    image_of(alloc, raw, parts, entries.as_slice())
 }

@@ -33,6 +33,9 @@ use Rattle.kernel_clone.specs.Permissions.{may_make, every_call}
 use Rattle.image_check.specs.Own.{own_from, owns_of, own_at}
 use Rattle.image_check.specs.Pads.{shape_for, bound_out_of, k17, k17_case, k17_entry}
 use Rattle.pad_bound.specs.Bound.{most_written, bound_of, worst_instruction, worst_operation, worst_leave, worst_prefetch, worst_flush, worst_enter}
+use Rattle.sched_table.specs.Schedule.{harts_in}
+use Rattle.image_check.specs.Public.{entry_of}
+use Rattle.image_check.specs.Harts.{k19, hart_case, k19_hart}
 use Rattle.image_check.specs.Laws.{Keeps}
 use Rattle.image_check.proofs.Kept.{acceptance_law}
 use Rattle.image_gen.specs.Words.{after, word}
@@ -274,6 +277,11 @@ pads_kept p h m w n =
     λ k earlier. subst (λ b. k17_case b (length earlier) (entry k (w k)) ≡ None) (sym (bound_out h m p (range_with_len 0 n) (entries_by w n) (pos k))) (pad_kept k (w k) (length earlier)) in
     no_case (k17_entry i) [] (entries_by w n) (passes_map (k17_entry i) _ kept (range_with_len 0 n))
 
+harts_kept : (p : List ℕ) (h : ℕ → List ℕ) (m : ℕ → List RawMoment) (w : ℕ → ℕ) (seed : ℕ)
+    → k19 (image_with p (domains_by h m (count seed)) (entries_by w (count seed))) ≡ None
+unfolding k19 hart_case k19_hart harts_in entry_of image_with
+harts_kept p h m w seed = by_count (λ n. k19 (image_with p (domains_by h m n) (entries_by w n)) ≡ None) refl refl refl refl seed
+
 -- ---- all rules
 
 keeps : (seed : ℕ) → Keeps (generated seed)
@@ -306,6 +314,7 @@ keeps seed =
           schedule = schedule_kept p h m w seed;
         };
         calls = no_case k18_domain [] ds (passes_map k18_domain _ (λ d e. none_listed d (h d) (m d) e) ns);
+        harts = harts_kept p h m w seed;
         extensions = extensions_kept p ds es;
       };
       pads = pads_kept p h m w (count seed);

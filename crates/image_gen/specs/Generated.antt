@@ -46,7 +46,7 @@ abbrev pub slot_length : ℕ → ℕ
 slot_length w = 5000 + w % 5000
 
 abbrev pub entry : ℕ → ℕ → RawEntry
-entry d w = record { domain = pos d; length = pos (slot_length w); pad = pos 6150 }
+entry d w = record { domain = pos d; length = pos (slot_length w); pad = pos 6150; hart = pos 0 }
 
 -- ---- the machine
 

@@ -47,4 +47,4 @@ domain_model d = record {
 }
 
 abbrev pub entry_model : RawEntry → spec.RawEntry
-entry_model e = record { domain = e.domain; length = e.length; pad = e.pad }
+entry_model e = record { domain = e.domain; length = e.length; pad = e.pad; hart = e.hart }

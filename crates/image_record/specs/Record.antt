@@ -49,6 +49,7 @@ pub record RawEntry : Type 0 where
   pub domain : ℤ
   pub length : ℤ
   pub pad : ℤ
+  pub hart : ℤ  -- on which it runs
 
 pub record Raw : Type 0 where
   pub version : ℕ  -- of the format, 1 or 2

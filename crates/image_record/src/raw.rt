@@ -100,6 +100,8 @@ pub struct RawEntry {
     pub length: i64,
     /// Cycles.
     pub pad: i64,
+    /// The number of the hart on which it runs, from 0; 0 where the image says none.
+    pub hart: i64,
 }
 
 /// The record of an image that breaks no row of the key table: its numbers and

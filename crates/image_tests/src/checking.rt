@@ -5,7 +5,7 @@ use image_check::{
     CacheShape, CheckRefusal, Checked, Entry, Hardware, InitialCap, Moment, Own, Policy, check,
     check_but_pads,
 };
-use image_record::Refusal;
+use image_record::{Raw, RawEntry, Refusal};
 use image_text::read_image;
 use pad_bound::bound;
 use std::alloc::Global;
@@ -15,6 +15,7 @@ use tp_base::Rights;
 mod calls;
 mod cases;
 mod extensions;
+mod harts;
 mod level2;
 mod limits;
 mod orders;
@@ -78,20 +79,55 @@ fn checked(alloc: Global, text: &str) -> Result<Checked, CheckRefusal> {
     check(alloc, read_image(alloc, text.as_bytes())?)
 }
 
-fn broken_by(alloc: Global, text: &str) -> Result<Option<Refusal>, CheckRefusal> {
-    match check(alloc, read_image(alloc, text.as_bytes())?) {
+fn broken_by(alloc: Global, raw: Raw) -> Result<Option<Refusal>, CheckRefusal> {
+    match check(alloc, raw) {
         Ok(_) => Ok(None),
         Err(CheckRefusal::Broken(refusal)) => Ok(Some(refusal)),
         Err(CheckRefusal::Memory) => Err(CheckRefusal::Memory),
     }
 }
 
-fn broken_but_pads(alloc: Global, text: &str) -> Result<Option<Refusal>, CheckRefusal> {
-    match check_but_pads(alloc, read_image(alloc, text.as_bytes())?) {
+fn broken_but_pads(alloc: Global, raw: Raw) -> Result<Option<Refusal>, CheckRefusal> {
+    match check_but_pads(alloc, raw) {
         Ok(_) => Ok(None),
         Err(CheckRefusal::Broken(refusal)) => Ok(Some(refusal)),
         Err(CheckRefusal::Memory) => Err(CheckRefusal::Memory),
     }
+}
+
+// An entry's domain and hart.
+type Place = (i64, i64);
+
+fn entries_at(alloc: Global, pad: i64, places: &[Place]) -> Result<Vec<RawEntry>, CheckRefusal> {
+    let mut entries = Vec::new(alloc);
+    for (domain, hart) in places {
+        entries.push(RawEntry {
+            domain: *domain,
+            length: 10_000,
+            pad,
+            hart: *hart,
+        })?;
+    }
+    Ok(entries)
+}
+
+fn first_pad(entries: &[RawEntry]) -> i64 {
+    match entries {
+        [first, ..] => first.pad,
+        [] => 0,
+    }
+}
+
+// An image's record, its schedule with these entries, if there are any, each with the pad of the
+// text's first: no text says a hart.
+fn record_on(alloc: Global, text: &str, places: &[Place]) -> Result<Raw, CheckRefusal> {
+    let mut raw = read_image(alloc, text.as_bytes())?;
+    if places.is_empty() {
+        return Ok(raw);
+    }
+    let pad = first_pad(raw.schedule.as_slice());
+    raw.schedule = entries_at(alloc, pad, places)?;
+    Ok(raw)
 }
 
 // What a line changes in the image, if anything.
@@ -121,16 +157,25 @@ fn text_of(alloc: Global, named: Option<Refusal>) -> Result<String, CheckRefusal
 
 // With the rule of pads, and without it: `K17 .., else ..` says what is named then, where it isn't
 // alone.
-fn is_named(rt: &impl Abort, alloc: Global, image: &str, line: &str) -> Result<(), CheckRefusal> {
+fn is_named(
+    rt: &impl Abort,
+    alloc: Global,
+    image: &str,
+    places: &[Place],
+    line: &str,
+) -> Result<(), CheckRefusal> {
     let alone = if line.starts_with("K17 ") {
         "accepted"
     } else {
         line
     };
     let (due, others_due) = line.split_once(", else ").unwrap_or((line, alone));
-    let first = text_of(alloc, broken_by(alloc, image)?)?;
+    let first = text_of(alloc, broken_by(alloc, record_on(alloc, image, places)?)?)?;
     assert_eq!(rt; first.as_str(), due);
-    let others = text_of(alloc, broken_but_pads(alloc, image)?)?;
+    let others = text_of(
+        alloc,
+        broken_but_pads(alloc, record_on(alloc, image, places)?)?,
+    )?;
     assert_eq!(rt; others.as_str(), others_due);
     Ok(())
 }
@@ -139,6 +184,17 @@ fn is_named(rt: &impl Abort, alloc: Global, image: &str, line: &str) -> Result<(
 // text; ~ is a new line. A line that changes nothing tells what is named then, and the next begins
 // from the image again. A line `# ..` says what comes.
 fn are_named(rt: &impl Abort, alloc: Global, image: &str, lines: &str) -> Result<(), CheckRefusal> {
+    are_named_on(rt, alloc, image, &[], lines)
+}
+
+// The same, with these entries.
+fn are_named_on(
+    rt: &impl Abort,
+    alloc: Global,
+    image: &str,
+    places: &[Place],
+    lines: &str,
+) -> Result<(), CheckRefusal> {
     let mut text = String::from_str(alloc, image)?;
     for line in lines.split('\n') {
         if line.starts_with('#') {
@@ -147,7 +203,7 @@ fn are_named(rt: &impl Abort, alloc: Global, image: &str, lines: &str) -> Result
         match changed(alloc, text.as_str(), line)? {
             Some(other) => text = other,
             None => {
-                is_named(rt, alloc, text.as_str(), line)?;
+                is_named(rt, alloc, text.as_str(), places, line)?;
                 text = String::from_str(alloc, image)?;
             }
         }

@@ -426,11 +426,13 @@ fn an_image_gives_its_record(rt: HostRuntime) -> Result<(), Fail> {
             domain: 0,
             length: 10000,
             pad: 6150,
+            hart: 0,
         },
         RawEntry {
             domain: 1,
             length: 10000,
             pad: 6150,
+            hart: 0,
         },
     ];
     is_machine(&rt, &raw);

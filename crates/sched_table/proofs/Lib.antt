@@ -1,3 +1,4 @@
 pub mod Starts
 pub mod Sums
 pub mod Harts
+pub mod HartSchedules

@@ -1,6 +1,6 @@
 -- When slots begin and end. Entries are taken cyclically; switch k leads into slot k, and belongs to the entry of the slot that ended.
-use Rattle.std.specs.Prelude.{ℕ, zero, suc, ◌+◌, ◌-◌, ◌%◌, ◌<◌, ◌≤◌, ◌==◌, List, length, slice_index_or, Option, Some, None}
-use Rattle.std.specs.List.{filter, enumerate_from}
+use Rattle.std.specs.Prelude.{◌≡◌, ℕ, zero, suc, ◌+◌, ◌-◌, ◌%◌, ◌<◌, ◌≤◌, ◌==◌, max, if◌then◌else◌, List, [], ◌∷◌, length, map, slice_index_or, Option, Some, None}
+use Rattle.std.specs.List.{filter, enumerate_from, range_with_len}
 use Rattle.sched_table.specs.declared.schedule.Entry.{Entry}
 
 abbrev pub no_entry : Entry
@@ -16,6 +16,34 @@ entry_of_slot es k = entry_in es (k % length es)
 -- the entries of a hart in their order, each after its place among all
 unfoldable pub entries_on : List Entry → ℕ → List (ℕ × Entry)
 entries_on es h = filter (λ placed. placed.1.hart == h) (enumerate_from 0 es)
+
+-- entries without their places, and the place of one
+abbrev pub entries_alone : List (ℕ × Entry) → List Entry
+entries_alone placed = map (λ (p : ℕ × Entry). p.1) placed
+
+abbrev pub place_in : List (ℕ × Entry) → ℕ → ℕ
+place_in placed e = (slice_index_or placed e (0, no_entry)).0
+
+-- a hart's entries alone, and the place of one among all
+abbrev pub on_hart : List Entry → ℕ → List Entry
+on_hart es h = entries_alone (entries_on es h)
+
+abbrev pub place_on : List Entry → ℕ → ℕ → ℕ
+place_on es h e = place_in (entries_on es h) e
+
+-- how many harts there are: one more than the greatest that an entry names
+unfoldable pub harts_in : List Entry → ℕ
+harts_in [] = 0
+harts_in (e ∷ es) = max (e.hart + 1) (harts_in es)
+
+-- the entries of each hart, one hart after the other
+unfoldable pub hart_schedules : List Entry → List (List (ℕ × Entry))
+hart_schedules es = map (entries_on es) (range_with_len 0 (harts_in es))
+
+-- the hart of a domain: that of the first entry that names it, or 0 where none does
+unfoldable pub hart_for : List Entry → ℕ → ℕ
+hart_for [] d = 0
+hart_for (e ∷ es) d = if e.domain == d then e.hart else hart_for es d
 
 -- the place of the entry to which switch k belongs: the boot's is the last
 abbrev pub switch_entry : List Entry → ℕ → ℕ
@@ -50,3 +78,10 @@ pub record IsSchedule (es : List Entry) : Type 0 where
   pub few : length es ≤ 256
   pub lengths : (e : ℕ) → (entry_in es e).length ≤ 1000000
   pub pads : (e : ℕ) → (entry_in es e).pad ≤ 1000000
+
+-- the harts that entries name: four at most, each of which has an entry, and each domain is on one of them
+pub record AreHarts (es : List Entry) : Type 0 where
+  pub few : (e : ℕ) → e < length es → (entry_in es e).hart < 4
+  pub each : (h : ℕ) → h < harts_in es → 0 < length (on_hart es h)
+  pub one : (e f : ℕ) → e < length es → f < length es → (entry_in es e).domain ≡ (entry_in es f).domain
+      → (entry_in es e).hart ≡ (entry_in es f).hart

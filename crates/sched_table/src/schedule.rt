@@ -15,7 +15,7 @@ pub struct Entry {
     pub length: u32,
     /// In cycles.
     pub pad: u32,
-    /// The hart on which it runs: 0.
+    /// The hart on which it runs.
     pub hart: u8,
 }
 

@@ -5,9 +5,10 @@ use Rattle.image_record.specs.Outcomes.{IsVerdictOrMemory}
 use Rattle.hardware_check.specs.Extensions.{k22}
 use Rattle.domain_check.specs.Calls.{k18}
 use Rattle.image_check.specs.Pads.{k17}
+use Rattle.image_check.specs.Harts.{k19}
 use Rattle.image_check.specs.Outcomes.{IsFirst}
 use Rattle.image_check.specs.Checking.{broken_before_pads}
-use Rattle.image_check.proofs.Kept.{first_of_all, first_of_pads, calls_of_all, last_of_all}
+use Rattle.image_check.proofs.Kept.{first_of_all, first_of_pads, calls_of_all, harts_of_all, last_of_all}
 use Rattle.image_check.proofs.checked.check.Goals as goal
 
 pub returns-in_err-parts-clause-refused : goal.returns-in_err-parts-clause-refused
@@ -29,10 +30,19 @@ returns-in_err-k18-clause-refused c =
     let verdict : IsVerdictOrMemory c.from_residual-in_err-k18.result (k18 i) = search rules in
     calls_of_all i c.from_residual-in_err-k18.result c.in_ok-parts.ensures.accepted pads verdict
 
+pub returns-in_err-entries-clause-refused : goal.returns-in_err-entries-clause-refused
+returns-in_err-entries-clause-refused c =
+    let i = raw_model c.args.raw in
+    let pads : k17 i ≡ None = search rules in
+    let calls : k18 i ≡ None = search rules in
+    let verdict : IsVerdictOrMemory c.from_residual-in_err-entries.result (k19 i) = search rules in
+    harts_of_all i c.from_residual-in_err-entries.result c.in_ok-parts.ensures.accepted pads calls verdict
+
 pub returns-in_err-k22-clause-refused : goal.returns-in_err-k22-clause-refused
 returns-in_err-k22-clause-refused c =
     let i = raw_model c.args.raw in
     let pads : k17 i ≡ None = search rules in
     let calls : k18 i ≡ None = search rules in
+    let harts : k19 i ≡ None = search rules in
     let verdict : IsVerdictOrMemory c.from_residual-in_err-k22.result (k22 i) = search rules in
-    last_of_all i c.from_residual-in_err-k22.result c.in_ok-parts.ensures.accepted pads calls verdict
+    last_of_all i c.from_residual-in_err-k22.result c.in_ok-parts.ensures.accepted pads calls harts verdict

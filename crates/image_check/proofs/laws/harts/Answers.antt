@@ -1,0 +1,5 @@
+use Rattle.image_check.proofs.HartLaws.{harts_law}
+use Rattle.image_check.proofs.laws.harts.Goals as goal
+
+pub returns : goal.returns
+returns c = record { harts = harts_law }

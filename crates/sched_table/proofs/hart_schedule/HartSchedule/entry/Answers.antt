@@ -1,0 +1,9 @@
+use Rattle.std.proofs.Common.{◌∙◌, List, ap}
+use Rattle.sched_table.specs.declared.schedule.Entry.{Entry}
+use Rattle.sched_table.specs.Schedule.{entry_of_slot}
+use Rattle.sched_table.proofs.HartSchedules.{alone_is}
+use Rattle.sched_table.proofs.hart_schedule.HartSchedule.entry.Goals as goal
+
+pub returns-clause-value : goal.returns-clause-value
+returns-clause-value c = c.entry.ensures.value
+    ∙ ap (λ (es : List Entry). entry_of_slot es c.args.k) (alone_is c.self.inside.places.items c.self.inside.schedule c.args.self.now c.self.invariant c.self.view_is)
