@@ -126,8 +126,9 @@ pub fn finish(domain: &mut Domain, instr: Instr, value: u32, next: u32)
 // ---- kernel calls
 
 // The kernel call in x17, if the domain may make it, with the arguments in x10, x11
-// and x12.
+// and x12. As a call of its own it would copy the outcome, which is large, once more.
 #[tactic(auto, unfolding(call_table::specs::Calls::call))]
+#[inline(always)]
 fn answer(memory: &mut PhysMem, domain: &mut Domain) -> Outcome
     requires valid { Valid memory.old domain.old }
     requires frames { memory.old.frames ≤ 2 ^ 15 }

@@ -44,7 +44,8 @@ impl CloneLayout {
         ensures some { 32 ≤ result }
         ensures few { result ≤ 256 }
     {
-        1 << self.frame_bits()
+        // A loop up to 1 << n would shift its place at each turn, to compare it.
+        (1 << FRAME_BITS) >> self.line_bits()
     }
 
     /// A place that goes round a frame: its remainder by the frame's lines.

@@ -11,12 +11,14 @@ use std::marker::Model;
 use tp_base::Memory;
 
 /// The line that was touched last. A second touch of it changes nothing, unless
-/// it is its first store: so the policies' clauses `again` say.
+/// it is its first store: so the policies' clauses `again` say. A touch writes each
+/// field by itself: with the whole struct it would write the padding, too.
 #[derive(Clone, Copy)]
 pub struct LastTouch {
     // as a line's number, or `NO_LINE`
     number: u64,
-    place: usize,
+    // as `find` answers it, so that a second look-up converts nothing
+    place: u32,
 }
 
 /// No line's number: so one comparison tells whether a line was touched last.
@@ -190,7 +192,8 @@ impl<P: Policy> SetCache<P> {
         ensures repeats { result ≡ true → IsTouch P.takes P.rule P.stands_for
             (record { hit = true; victim = None; dirty_victim = false }) number store self.now self.now }
     {
-        self.last.number == u64::from(number) && (!store || self.packed.is_marked(self.last.place))
+        self.last.number == u64::from(number)
+            && (!store || self.packed.is_marked(self.last.place as usize))
     }
 
     /// A touch of a line that its set keeps at this way. Answers its place.
@@ -205,14 +208,12 @@ impl<P: Policy> SetCache<P> {
         ensures epoch { self.new.epoch ≡ self.old.epoch }
     {
         let ways = self.packed.ways();
-        let place = set * ways as usize + way;
+        let place = (set * ways as usize + way) as u32;
         let state = self.policy.touch(ways, self.packed.state(set), way as u32);
         self.packed.write_hit(set, way, number, store, state);
-        self.last = LastTouch {
-            number: u64::from(number),
-            place,
-        };
-        place as u32
+        self.last.number = u64::from(number);
+        self.last.place = place;
+        place
     }
 
     /// A touch of a line that its set doesn't keep.
@@ -232,10 +233,8 @@ impl<P: Policy> SetCache<P> {
             dirty: store,
         };
         let old = self.packed.write(set, way, line, state);
-        self.last = LastTouch {
-            number: u64::from(number),
-            place: set * ways as usize + way,
-        };
+        self.last.number = u64::from(number);
+        self.last.place = (set * ways as usize + way) as u32;
         Touch {
             hit: false,
             victim: old.number,
@@ -262,6 +261,9 @@ impl<P: Policy> SetCache<P> {
         ensures below { IfSome result (λ place. place < length self.now.table * self.now.ways) }
         ensures sound { IsSound P.takes P.stands_for self.now }
     {
+        if self.last.number == u64::from(number) {
+            return Some(self.last.place);
+        }
         let set = set_of(number, self.packed.count() as u32);
         let way = self.packed.find(set, number)?;
         Some(set as u32 * self.packed.ways() + way as u32)
@@ -282,7 +284,7 @@ impl<P: Policy> SetCache<P> {
     {
         let sets = self.packed.count() as u32;
         if self.last.number == u64::from(number) {
-            return Some(self.last.place as u32);
+            return Some(self.last.place);
         }
         let set = set_of(number, sets);
         let way = self.packed.find(set, number)?;

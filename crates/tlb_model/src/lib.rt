@@ -103,7 +103,7 @@ impl<P: Policy> Tlb<P> {
         ensures step { (sets : Sets) → StandsFor P.stands_for self.old.pages sets
             → StandsFor P.stands_for self.new.pages (filled_of (shape_of P.rule self.old.pages) sets page) }
     {
-        self.pages.touch(page, false);
+        self.pages.touch_absent(page, false);
         let place = self.pages.place_of(page).unwrap();
         self.leaves[place as usize] = leaf;
     }

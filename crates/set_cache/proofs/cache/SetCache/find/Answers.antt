@@ -1,4 +1,4 @@
-use Rattle.std.proofs.Common.{◌≡◌, ◌*◌, ◌<◌, ◌^◌, ℕ, false, length, refl, subst, ◌∙◌, arith, rules}
+use Rattle.std.proofs.Common.{◌≡◌, ℕ, false, refl, subst, ◌∙◌, arith, rules}
 use Rattle.std.proofs.lemmas.Bool.{false≢true}
 use Rattle.set_cache.specs.Contents.{Contents}
 use Rattle.set_cache.specs.Calls.{IsTouch}
@@ -38,18 +38,3 @@ returns-then-self-from-clause-touch g c =
     IsTouch g.P.Policy.takes g.P.Policy.rule g.P.Policy.stands_for hit_answer t.0 false t.1 t.1)
     (λ j. ((c.if-self-from.true ∙ number) j, c.self.view_is j)) again in
     record { answer = hit_answer; told = refl; touch = of }
-
-pub overflow_cast-result : goal.overflow_cast-result
-overflow_cast-result g c =
-    let s = c.self.inside in
-    let cache : Contents _ =
-    record { policy = s.policy; ways = s.packed.ways; epoch = s.packed.epoch; table = s.packed.table } in
-    let number : c.from.result ≡ c.args.number = search rules in
-    let is : IsLast g.P.Policy.rule g.P.Policy.stands_for cache s.last =
-    c.self.invariant.last_stands (omega (arith, number, c.if-self-from.true)) in
-    let below =
-    last_below g.P.Policy.takes g.P.Policy.rule g.P.Policy.stands_for cache s.last
-    c.self.invariant.sound is in
-    let small : length s.packed.table * s.packed.ways < 2 ^ 32 =
-    subst (λ (n : ℕ). n * s.packed.ways < 2 ^ 32) c.count-sets.ensures.value c.count-sets.ensures.small in
-    omega (arith, below, small)

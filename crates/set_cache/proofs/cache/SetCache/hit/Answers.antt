@@ -31,7 +31,7 @@ invariant_of-self g c =
     let home : c.args.set ≡ c.args.number % length s.packed.table =
     subst (λ (v : Contents _). c.args.set ≡ c.args.number % length v.table)
     (sym c.self.view_is) c.requires.home in
-    let number : c.args.number ≡ c.from.result = search rules in
+    let number : c.args.number ≡ c.from-self-inside.result = search rules in
     let rule = g.P.Policy.rule s.policy in
     let stands = g.P.Policy.stands_for s.policy in
     let ways : c.ways-ways.result ≡ s.packed.ways = c.ways-ways.ensures.value in
