@@ -36,10 +36,10 @@ use Rattle.world_view.proofs.runs.GuardLaws.{are_guards}
 use Rattle.domain_step.specs.Moves as moves
 use Rattle.domain_step.specs.Standing.{DomainStands}
 use Rattle.domain_step.proofs.Events.{has_still}
-use Rattle.tp_machine.specs.InSlot.{StandsIn}
+use Rattle.machine_state.specs.InSlot.{StandsIn}
 use Rattle.ablated_run.specs.Ablations.{first_among}
-use Rattle.tp_machine.proofs.Elements.{each_set}
-use Rattle.tp_machine.proofs.InSlot.{all_both, after_own}
+use Rattle.machine_state.proofs.Elements.{each_set}
+use Rattle.machine_state.proofs.InSlot.{all_both, after_own}
 use Rattle.ablated_run.proofs.Moments.{among_is}
 
 module _ (off : Option Guard) (i : Image) (d : ℕ) (w : World) (memory : Contents)

@@ -26,11 +26,11 @@ use Rattle.world_view.specs.Machine.{Guards, guarded, guards_of, with_hart, open
 use Rattle.world_view.specs.declared.view.Used.{Used}
 use Rattle.domain_step.specs.Standing.{DomainStands}
 use Rattle.domain_step.proofs.Events.{has_still}
-use Rattle.tp_machine.specs.Usage.{CountedUpTo}
-use Rattle.tp_machine.specs.Worlds.{kept}
+use Rattle.machine_state.specs.Usage.{CountedUpTo}
+use Rattle.machine_state.specs.Worlds.{kept}
 use Rattle.ablated_run.specs.Ablations.{levels_off, HasClone, HaveClone, IsInBounds}
-use Rattle.tp_machine.proofs.SwitchCounts.{written_back}
-use Rattle.tp_machine.proofs.Openings.{AreEntered, entered_own}
+use Rattle.machine_state.proofs.SwitchCounts.{written_back}
+use Rattle.machine_state.proofs.Openings.{AreEntered, entered_own}
 
 -- ---- domains at their entries, each with the kernel clone that works for it
 

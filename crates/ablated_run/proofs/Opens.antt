@@ -9,7 +9,7 @@ use Rattle.kernel_call.specs.declared.domain.Domain.{Domain}
 use Rattle.world_view.specs.Machine.{World, clock_of, guards_of, step_among, open_slot}
 use Rattle.world_view.proofs.opening.Separate.{separated}
 use Rattle.world_view.proofs.runs.GuardLaws.{open_step, open_done}
-use Rattle.tp_machine.specs.InSlot.{StandsIn}
+use Rattle.machine_state.specs.InSlot.{StandsIn}
 use Rattle.ablated_run.specs.Ablations.{Stands, Becomes}
 
 -- whatever the old ones stand for, the new ones stand for a world from which as much of the slot is left

@@ -1,8 +1,8 @@
 -- A slot of the machine with a guard off: how far its clock is from the end of its range.
 use Rattle.std.proofs.Common.{ℕ, ◌+◌, ◌^◌, ◌<◌, ◌≤◌, max, arith}
 use Rattle.cycle_cost.specs.Ranges.{most_event}
-use Rattle.tp_machine.specs.Usage.{CountedUpTo}
-use Rattle.tp_machine.specs.Worlds.{Kept}
+use Rattle.machine_state.specs.Usage.{CountedUpTo}
+use Rattle.machine_state.specs.Worlds.{Kept}
 use Rattle.ablated_run.specs.Ablations.{IsInBounds, CountUpTo}
 
 pub record SlotTimes : Type 0 where

@@ -15,9 +15,9 @@ use Rattle.image_check.specs.Image.{Image}
 use Rattle.kernel_call.specs.declared.domain.Domain.{Domain}
 use Rattle.kernel_call.specs.Models.{CountsUpTo}
 use Rattle.world_view.specs.Machine.{World, Guards, guards_of, without, uncoloured, setting_by, whole_off, Owned, if_due, first_of}
-use Rattle.tp_machine.specs.Usage.{CountedUpTo}
-use Rattle.tp_machine.specs.Worlds.{Kept, StandsOn}
-use Rattle.tp_machine.specs.InSlot.{StandsIn}
+use Rattle.machine_state.specs.Usage.{CountedUpTo}
+use Rattle.machine_state.specs.Worlds.{Kept, StandsOn}
+use Rattle.machine_state.specs.InSlot.{StandsIn}
 use Rattle.ablated_run.specs.declared.open.Due.{Due}
 
 -- it stands for the machine with this guard off after so many slots

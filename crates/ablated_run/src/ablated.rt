@@ -4,7 +4,7 @@ ghost use Rattle.mem_system.specs.Contents.{system};
 ghost use Rattle.image_check.specs.Image.{image_from};
 ghost use Rattle.image_check.specs.Laws.{Runnable};
 ghost use Rattle.world_view.specs.Machine.{ended_of, whole_off};
-ghost use Rattle.tp_machine.specs.Worlds.{kept};
+ghost use Rattle.machine_state.specs.Worlds.{kept};
 ghost use Rattle.ablated_run.specs.Propositions.{stands_off_prop};
 ghost use Rattle.ablated_run.specs.Ablations.{StandsOff, IsInBounds};
 

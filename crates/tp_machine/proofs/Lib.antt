@@ -1,7 +1,3 @@
-pub mod Elements
-pub mod InSlot
-pub mod SwitchCounts
-pub mod Whole
-pub mod Openings
-pub mod Switches
-pub mod Slots
+mod Openings
+mod Switches
+mod Slots

@@ -29,12 +29,13 @@ use Rattle.world_view.proofs.facts.ResidencyLaws.{begun_resident}
 use Rattle.world_view.proofs.time.TimeLaws.{on_time}
 use Rattle.domain_step.specs.Moves.{StandsIn, Moves}
 use Rattle.domain_step.proofs.Counts.{counts_later}
-use Rattle.tp_machine.specs.Usage.{IsUsed, CountedUpTo}
-use Rattle.tp_machine.specs.Worlds.{Kept, kept, KeepsBuffer, StandsFor, HaveFacts, StaysResident, IsInBounds}
-use Rattle.tp_machine.specs.InSlot as slots
-use Rattle.tp_machine.proofs.Elements.{each_set}
-use Rattle.tp_machine.proofs.InSlot.{in_slot, slot_stands}
-use Rattle.tp_machine.proofs.Whole.{SlotStart, Begins, begun_in, stands_after}
+use Rattle.machine_state.specs.Usage.{IsUsed, CountedUpTo}
+use Rattle.machine_state.specs.Worlds.{Kept, kept}
+use Rattle.machine_state.specs.InSlot as slots
+use Rattle.machine_state.proofs.Elements.{each_set}
+use Rattle.machine_state.proofs.InSlot.{in_slot, slot_stands}
+use Rattle.machine_state.proofs.Whole.{SlotStart, Begins, begun_in, stands_after}
+use Rattle.tp_machine.specs.Worlds.{KeepsBuffer, StandsFor, HaveFacts, StaysResident, IsInBounds}
 use Rattle.tp_machine.proofs.Switches.{by_all}
 
 -- ---- the facts of domains

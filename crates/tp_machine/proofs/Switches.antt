@@ -20,8 +20,9 @@ use Rattle.world_view.specs.Machine.{guarded, clone_of, clone_by}
 use Rattle.world_view.specs.Relations.{IsDomain}
 use Rattle.world_view.proofs.opening.Separate.{separated}
 use Rattle.world_view.proofs.time.TimeLaws.{in_time}
-use Rattle.tp_machine.specs.Worlds.{Kept, StandsFor}
-use Rattle.tp_machine.proofs.Whole.{StandsBy, SwitchGiven, SlotStart, given_work, Switches, AreGiven, Begins, clone_is, begins}
+use Rattle.machine_state.specs.Worlds.{Kept}
+use Rattle.machine_state.proofs.Whole.{StandsBy, SwitchGiven, SlotStart, given_work, Switches, AreGiven, Begins, clone_is, begins}
+use Rattle.tp_machine.specs.Worlds.{StandsFor}
 
 -- with all guards on
 pub by_all : (i : Image) (k : ℕ) (s : Kept) → StandsFor i k s → StandsBy None i k s

@@ -1,5 +1,3 @@
-pub mod Usage
 pub mod Worlds
-pub mod InSlot
 pub mod Propositions
 pub mod Models

@@ -3,7 +3,5 @@
 #![tactic(auto)]
 
 mod machine;
-mod used;
 
 pub use machine::Machine;
-pub use used::{note_switch, unused};

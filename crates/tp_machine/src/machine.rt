@@ -3,8 +3,9 @@ ghost use Rattle.std.specs.Prelude.{◌≡◌, ◌≤◌};
 ghost use Rattle.mem_system.specs.Contents.{system};
 ghost use Rattle.image_check.specs.Image.{image_from};
 ghost use Rattle.image_check.specs.Laws.{Runnable};
+ghost use Rattle.machine_state.specs.Worlds.{kept};
 ghost use Rattle.tp_machine.specs.Propositions.{stands_prop};
-ghost use Rattle.tp_machine.specs.Worlds.{kept, StandsFor, HaveFacts, StaysResident, IsInBounds};
+ghost use Rattle.tp_machine.specs.Worlds.{StandsFor, HaveFacts, StaysResident, IsInBounds};
 
 mod run;
 

@@ -8,7 +8,7 @@ use Rattle.image_check.specs.Image.{Image, own_of}
 use Rattle.world_view.specs.Machine.{World}
 use Rattle.world_view.specs.View.{View, view_in, view_alone}
 use Rattle.world_view.specs.declared.view.Used.{Used}
-use Rattle.tp_machine.specs.Usage.{IsUsed}
+use Rattle.machine_state.specs.Usage.{IsUsed}
 use Rattle.tp_report.specs.Texts.{section}
 use Rattle.tp_report.specs.Report.{section_of, sections, switch_lines, end_text, report_with, report_of, ending_of}
 use Rattle.tp_report.specs.Switches.{no_used, used_in, switches_text, ending_text}

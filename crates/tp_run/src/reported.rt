@@ -4,7 +4,7 @@ ghost use Rattle.image_check.specs.Image.{Image, image_from};
 ghost use Rattle.world_view.specs.Machine.{World, whole, whole_off};
 ghost use Rattle.world_view.specs.View.{view_in};
 ghost use Rattle.world_view.specs.Models.{view_model};
-ghost use Rattle.tp_machine.specs.Usage.{IsUsed};
+ghost use Rattle.machine_state.specs.Usage.{IsUsed};
 
 use ablated_run::Ablated;
 use image_check::Checked;

@@ -6,12 +6,12 @@ use domain_switch::switch_off;
 use guards::Guard;
 use image_check::Checked;
 use kernel_clone::CloneLayout;
+use machine_state::{note_switch, unused};
 use mem_system::new_parts;
 use phys_mem::PhysMem;
 use sched_table::Entry;
 use std::alloc::Global;
 use tp_base::Memory;
-use tp_machine::{note_switch, unused};
 use world_view::{Used, View};
 
 impl<'a> Ablated<'a> {
@@ -23,7 +23,7 @@ impl<'a> Ablated<'a> {
     ghost use Rattle.world_view.specs.View.{view_off};
     ghost use Rattle.world_view.specs.Models.{view_model};
     ghost use Rattle.world_view.specs.Used.{largest_of, count_of};
-    ghost use Rattle.tp_machine.specs.Usage.{IsUsed};
+    ghost use Rattle.machine_state.specs.Usage.{IsUsed};
     ghost use Rattle.ablated_run.specs.Models.{image_off, world_off};
 
     /// The machine before its first slot. All that it will need is allocated here.

@@ -1,11 +1,11 @@
 // The machine's calls.
 use super::Machine;
-use crate::used::{note_switch, unused};
 use domain_open::{load_pages, open_all};
 use domain_step::stretch;
 use domain_switch::switch;
 use image_check::Checked;
 use kernel_clone::CloneLayout;
+use machine_state::{note_switch, unused};
 use mem_system::new_parts;
 use phys_mem::PhysMem;
 use sched_table::{Entry, Turn};
@@ -27,7 +27,7 @@ impl<'a> Machine<'a> {
     ghost use Rattle.world_view.specs.View.{view_whole, view_alone};
     ghost use Rattle.world_view.specs.Models.{view_model};
     ghost use Rattle.world_view.specs.Used.{largest_of, count_of};
-    ghost use Rattle.tp_machine.specs.Usage.{IsUsed};
+    ghost use Rattle.machine_state.specs.Usage.{IsUsed};
     ghost use Rattle.tp_machine.specs.Models.{image_of, world_of};
 
     /// The machine before its first slot. All that it will need is allocated here.

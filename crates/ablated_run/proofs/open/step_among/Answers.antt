@@ -18,9 +18,9 @@ use Rattle.world_view.proofs.runs.GuardLaws.{are_guards}
 use Rattle.domain_step.proofs.Moved.{due_line, due_left, not_running}
 use Rattle.domain_step.proofs.Counts.{counts_later}
 use Rattle.ablated_run.specs.Ablations.{owned, first_among}
-use Rattle.tp_machine.proofs.Elements.{each_set}
+use Rattle.machine_state.proofs.Elements.{each_set}
 use Rattle.ablated_run.proofs.Moments.{comes_of, found, none_found}
-use Rattle.tp_machine.proofs.InSlot.{in_slot}
+use Rattle.machine_state.proofs.InSlot.{in_slot}
 use Rattle.ablated_run.proofs.Among.{own_stands, due_stands}
 use Rattle.ablated_run.proofs.open.step_among.Goals as goal
 use Rattle.mem_system.specs.Contents.{system}

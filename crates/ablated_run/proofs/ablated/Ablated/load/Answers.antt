@@ -13,7 +13,7 @@ use Rattle.image_check.specs.Public.{Public}
 use Rattle.image_check.specs.Image.{image_from}
 use Rattle.world_view.specs.Machine.{without}
 use Rattle.ablated_run.specs.Ablations.{levels_off, HaveClone}
-use Rattle.tp_machine.proofs.Openings.{AreEntered, stands_first}
+use Rattle.machine_state.proofs.Openings.{AreEntered, stands_first}
 use Rattle.ablated_run.proofs.OpeningsOff.{entered_back, levels_are, in_bounds_off_first, ended_first}
 use Rattle.ablated_run.proofs.ablated.Ablated.load.Goals as goal
 

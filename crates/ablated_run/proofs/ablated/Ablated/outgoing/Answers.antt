@@ -1,8 +1,8 @@
 use Rattle.std.proofs.Common.{◌≡◌, ℕ, suc, ◌-◌, ◌<◌, length, Some, refl, arith}
 use Rattle.std.proofs.lemmas.Option.{slice_get_read}
 use Rattle.image_check.specs.Image.{image_from}
-use Rattle.tp_machine.specs.Worlds.{kept}
-use Rattle.tp_machine.proofs.Whole.{has_ended, clone_is, clone_before}
+use Rattle.machine_state.specs.Worlds.{kept}
+use Rattle.machine_state.proofs.Whole.{has_ended, clone_is, clone_before}
 use Rattle.mem_system.specs.Contents.{system}
 use Rattle.ablated_run.proofs.ablated.Ablated.outgoing.Goals as goal
 

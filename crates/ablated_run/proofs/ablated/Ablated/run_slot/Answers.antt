@@ -10,12 +10,12 @@ use Rattle.domain_switch.specs.Switch.{layout_if}
 use Rattle.image_check.specs.Public.{Public}
 use Rattle.image_check.specs.Image.{image_from}
 use Rattle.world_view.specs.Machine.{without, ended_of, whole_off, switch_by, slot_if}
-use Rattle.tp_machine.specs.Usage.{IsUsed, CountedUpTo}
-use Rattle.tp_machine.specs.Worlds.{kept}
-use Rattle.tp_machine.specs.InSlot.{StandsIn}
+use Rattle.machine_state.specs.Usage.{IsUsed, CountedUpTo}
+use Rattle.machine_state.specs.Worlds.{kept}
+use Rattle.machine_state.specs.InSlot.{StandsIn}
 use Rattle.ablated_run.specs.Ablations.{StandsOff, CountUpTo}
-use Rattle.tp_machine.proofs.SwitchCounts.{noted_back, counted_back, length_back, written_back}
-use Rattle.tp_machine.proofs.Whole.{SwitchGiven, Begins, domain_is, clone_is, begins, ended_so, ends_so, begun_in, end_of, stands_after, ended_after}
+use Rattle.machine_state.proofs.SwitchCounts.{noted_back, counted_back, length_back, written_back}
+use Rattle.machine_state.proofs.Whole.{SwitchGiven, Begins, domain_is, clone_is, begins, ended_so, ends_so, begun_in, end_of, stands_after, ended_after}
 use Rattle.ablated_run.proofs.SlotsOff.{SlotTimes, AreTimes, in_bounds_off_next}
 use Rattle.mem_system.specs.Contents.{system}
 use Rattle.ablated_run.proofs.ablated.Ablated.run_slot.Goals as goal

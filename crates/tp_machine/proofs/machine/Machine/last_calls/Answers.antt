@@ -3,7 +3,7 @@ use Rattle.sched_table.specs.declared.schedule.Entry.{Entry}
 use Rattle.sched_table.specs.Schedule.{switch_entry, entry_in}
 use Rattle.image_check.specs.Own.{Own}
 use Rattle.image_check.specs.Image.{image_from, own_of}
-use Rattle.tp_machine.proofs.Whole.{ended_named}
+use Rattle.machine_state.proofs.Whole.{ended_named}
 use Rattle.tp_machine.proofs.machine.Machine.last_calls.Goals as goal
 
 module _ (c : goal.After-from) where

@@ -10,7 +10,8 @@ use Rattle.image_check.specs.Public.{Public}
 use Rattle.image_check.specs.Image.{image_from}
 use Rattle.world_view.specs.Cost.{hierarchy}
 use Rattle.world_view.specs.Machine.{guarded}
-use Rattle.tp_machine.proofs.Openings.{entered, stands_first, in_bounds_first}
+use Rattle.machine_state.proofs.Openings.{stands_first}
+use Rattle.tp_machine.proofs.Openings.{entered, in_bounds_first}
 use Rattle.tp_machine.proofs.Slots.{all_at, resident_at}
 use Rattle.tp_machine.proofs.machine.Machine.load.Goals as goal
 
@@ -50,7 +51,7 @@ invariant_of-result-clause-stands c =
 pub invariant_of-result-clause-in_bounds : goal.invariant_of-result-clause-in_bounds
 invariant_of-result-clause-in_bounds c =
     let i = image_from c.args.image.now in
-    in_bounds_first None i c.load_pages.new.memory (system c.in_ok-core.core c.in_ok-core.l2) c.in_ok-domains.domains.items
+    in_bounds_first i c.load_pages.new.memory (system c.in_ok-core.core c.in_ok-core.l2) c.in_ok-domains.domains.items
     c.in_ok-used.used.items
     (entered i c.in_ok-domains.domains.items c.in_ok-domains.ensures.opened) c.in_ok-used.ensures.few
 

@@ -2,8 +2,8 @@ use Rattle.std.proofs.Common.{◌≡◌, ◌∙◌, ℕ, suc, ◌-◌, ◌<◌, 
 use Rattle.std.proofs.lemmas.Option.{slice_get_read}
 use Rattle.sched_table.specs.Schedule.{outgoing}
 use Rattle.image_check.specs.Image.{image_from}
-use Rattle.tp_machine.specs.Worlds.{kept}
-use Rattle.tp_machine.proofs.Whole.{has_ended, clone_before}
+use Rattle.machine_state.specs.Worlds.{kept}
+use Rattle.machine_state.proofs.Whole.{has_ended, clone_before}
 use Rattle.tp_machine.proofs.Switches.{by_all, own_clone, clone_on}
 use Rattle.mem_system.specs.Contents.{system}
 use Rattle.tp_machine.proofs.machine.Machine.outgoing.Goals as goal

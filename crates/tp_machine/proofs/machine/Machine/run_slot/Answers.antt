@@ -15,10 +15,10 @@ use Rattle.world_view.proofs.opening.Separate.{separated}
 use Rattle.world_view.proofs.time.TimeLaws.{on_time}
 use Rattle.domain_step.specs.Moves.{Moves}
 use Rattle.domain_step.proofs.Counts.{counts_later}
-use Rattle.tp_machine.specs.Usage.{IsUsed, CountedUpTo}
-use Rattle.tp_machine.specs.Worlds.{kept}
-use Rattle.tp_machine.proofs.SwitchCounts.{noted_back, counted_back, length_back}
-use Rattle.tp_machine.proofs.Whole.{SlotStart, Begins}
+use Rattle.machine_state.specs.Usage.{IsUsed, CountedUpTo}
+use Rattle.machine_state.specs.Worlds.{kept}
+use Rattle.machine_state.proofs.SwitchCounts.{noted_back, counted_back, length_back}
+use Rattle.machine_state.proofs.Whole.{SlotStart, Begins}
 use Rattle.tp_machine.proofs.Switches.{Switching, clone_on, ended, begins_here}
 use Rattle.tp_machine.proofs.Slots.{SlotEnd, Next, setting_at, slot_begun, now_is, begun, next, resident_at, in_bounds_next}
 use Rattle.mem_system.specs.Contents.{system}

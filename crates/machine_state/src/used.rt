@@ -1,8 +1,6 @@
 // What switches took.
-ghost use Rattle.std.specs.Prelude.{◌≡◌, ℕ, ◌+◌, ◌^◌, ◌<◌, ◌≤◌, ◌∷◌, [], ◌++◌, List, length, IfOk};
-ghost use Rattle.sched_table.specs.Schedule as spec;
-ghost use Rattle.sched_table.specs.declared.schedule.Entry.{Entry};
-ghost use Rattle.tp_machine.specs.Usage.{IsUsed, CountedUpTo};
+ghost use Rattle.std.specs.Prelude.{◌≡◌, ℕ, ◌+◌, ◌^◌, ◌<◌, ◌∷◌, [], ◌++◌, List, length, IfOk};
+ghost use Rattle.machine_state.specs.Usage.{IsUsed, CountedUpTo};
 
 use std::alloc::Global;
 use tp_base::Memory;

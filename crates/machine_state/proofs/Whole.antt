@@ -29,9 +29,9 @@ use Rattle.world_view.proofs.facts.FactsLaws.{at_slot, switch_keeps}
 use Rattle.world_view.proofs.runs.GuardLaws.{are_guards}
 use Rattle.world_view.proofs.runs.SwitchParts.{work_by_is}
 use Rattle.domain_step.specs.Standing.{MachineStands}
-use Rattle.tp_machine.specs.Usage.{IsUsed}
-use Rattle.tp_machine.specs.Worlds.{Kept, StandsOn}
-use Rattle.tp_machine.specs.InSlot.{StandsIn}
+use Rattle.machine_state.specs.Usage.{IsUsed}
+use Rattle.machine_state.specs.Worlds.{Kept, StandsOn}
+use Rattle.machine_state.specs.InSlot.{StandsIn}
 
 -- ---- a slot leaves what switches took
 

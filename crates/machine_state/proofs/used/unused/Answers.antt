@@ -1,6 +1,6 @@
 use Rattle.std.proofs.Common.{◌≡◌, replicate, rules}
-use Rattle.tp_machine.proofs.SwitchCounts.{is_used_none, counted_none}
-use Rattle.tp_machine.proofs.used.unused.Goals as goal
+use Rattle.machine_state.proofs.SwitchCounts.{is_used_none, counted_none}
+use Rattle.machine_state.proofs.used.unused.Goals as goal
 
 pub returns-clause-unused : goal.returns-clause-unused
 returns-clause-unused c =

@@ -29,8 +29,8 @@ use Rattle.domain_step.specs.Kept.{IsSetting}
 use Rattle.domain_step.specs.Moves as moves
 use Rattle.domain_step.specs.Standing.{DomainStands}
 use Rattle.domain_step.proofs.Standing.{stands_in, machine_of, domain_of}
-use Rattle.tp_machine.specs.InSlot.{StandsIn}
-use Rattle.tp_machine.proofs.Elements.{each_set}
+use Rattle.machine_state.specs.InSlot.{StandsIn}
+use Rattle.machine_state.proofs.Elements.{each_set}
 
 module _ (off : Option Guard) (i : Image) (d : ℕ) (w : World) (memory : Contents)
     (system : SystemContents AnyPolicy)

@@ -6,8 +6,8 @@ use Rattle.std.proofs.lemmas.Option.{slice_get-get_or}
 use Rattle.world_view.specs.Used.{largest_of, count_of}
 use Rattle.world_view.proofs.steps.CodeLaws.{count_of-push_same, count_of-push_other, largest_of-push_same, largest_of-push_other}
 use Rattle.world_view.specs.declared.view.Used.{Used}
-use Rattle.tp_machine.specs.Usage.{IsUsed, CountedUpTo}
-use Rattle.tp_machine.proofs.Elements.{each_set, each_replicate}
+use Rattle.machine_state.specs.Usage.{IsUsed, CountedUpTo}
+use Rattle.machine_state.proofs.Elements.{each_set, each_replicate}
 
 module _ (used : List Used) (e : ℕ) (none : Used) (within : e < length used) where
   pub is_used_noted : (cycles largest : ℕ) (us : List (ℕ × ℕ)) → largest ≡ max (get_or used e none).largest cycles → IsUsed used us

@@ -1,0 +1,5 @@
+pub mod Elements
+pub mod InSlot
+pub mod SwitchCounts
+pub mod Whole
+pub mod Openings
