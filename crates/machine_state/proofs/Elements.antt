@@ -18,19 +18,26 @@ slice_get-set_other (x ∷ xs) zero (suc j) y h = refl
 slice_get-set_other (x ∷ xs) (suc i) zero y h = refl
 slice_get-set_other (x ∷ xs) (suc i) (suc j) y h = slice_get-set_other xs i j y (λ e. h (ap suc e))
 
+-- Q holds of the new one, and of each other that was there
+pub each_set_kept : {A : Type 0} (Q : ℕ → A → Type 0) (xs : List A) (i : ℕ) (y : A) → i < length xs → Q i y
+    → ((j : ℕ) (x : A) → j ≢ i → slice_get xs j ≡ Some x → Q j x)
+    → (j : ℕ) (x : A) → slice_get (set xs i y) j ≡ Some x → Q j x
+each_set_kept Q xs i y within new other j x got =
+    elim (cases_eq j i) [
+      | inl same ↦
+          let at_i : slice_get (set xs i y) i ≡ Some x = subst (λ (n : ℕ). slice_get (set xs i y) n ≡ Some x) same got in
+          let is : y ≡ x = same_Some y x (sym (slice_get-set_same xs i y within) ∙ at_i) in
+          subst (λ (n : ℕ). Q n x) (sym same) (subst (Q i) is new)
+      | inr apart ↦ other j x apart (sym (slice_get-set_other xs i j y apart) ∙ got)
+    ]
+
 -- P held of each, Q holds of the new one, and of each other as P held of it
 pub each_set : {A : Type 0} (P Q : ℕ → A → Type 0) (xs : List A) (i : ℕ) (y : A) → i < length xs → Q i y
     → ((j : ℕ) (x : A) → j ≢ i → P j x → Q j x)
     → ((j : ℕ) (x : A) → slice_get xs j ≡ Some x → P j x)
     → (j : ℕ) (x : A) → slice_get (set xs i y) j ≡ Some x → Q j x
 each_set P Q xs i y within new other old j x got =
-    elim (cases_eq j i) [
-      | inl same ↦
-          let at_i : slice_get (set xs i y) i ≡ Some x = subst (λ (n : ℕ). slice_get (set xs i y) n ≡ Some x) same got in
-          let is : y ≡ x = same_Some y x (sym (slice_get-set_same xs i y within) ∙ at_i) in
-          subst (λ (n : ℕ). Q n x) (sym same) (subst (Q i) is new)
-      | inr apart ↦ other j x apart (old j x (sym (slice_get-set_other xs i j y apart) ∙ got))
-    ]
+    each_set_kept Q xs i y within new (λ n z apart was. other n z apart (old n z was)) j x got
 
 -- each of many copies
 pub each_replicate : {A : Type 0} (P : A → Type 0) (n : ℕ) (y : A) → P y → (j : ℕ) (x : A) → slice_get (replicate n y) j ≡ Some x → P x

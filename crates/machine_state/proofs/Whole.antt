@@ -22,7 +22,7 @@ use Rattle.image_check.specs.Image.{Image, own_of}
 use Rattle.image_check.specs.Laws.{Runnable}
 use Rattle.kernel_call.specs.declared.domain.Domain.{Domain}
 use Rattle.world_view.specs.Frames.{root_of}
-use Rattle.world_view.specs.Machine.{Guards, guards_of, setting_by, clone_by, World, caches_of, clock_of, ended_of, with_hart, with_part, with_end, Owned, ended_by, ends_by, switch_work_by, switch_by, own_slot, delivered_or_step, step_among, steps_among, slot_if, run_slot_by, opening, whole_by}
+use Rattle.world_view.specs.Machine.{Guards, guards_of, setting_by, clone_by, World, caches_of, clock_of, ended_of, with_hart, with_part, with_end, Owned, ended_by, ends_by, switch_work_by, switch_by, switch_on, own_slot, delivered_or_step, step_among, steps_among, slot_if, run_slot_by, opening, whole_by}
 use Rattle.world_view.specs.Relations.{IsDomain}
 use Rattle.world_view.proofs.opening.Separate.{separated}
 use Rattle.world_view.proofs.facts.FactsLaws.{at_slot, switch_keeps}
@@ -85,7 +85,7 @@ module _ (g : Guards) (i : Image) where
       (λ (b : Bool).
       if b then slot_end i.all.schedule k else clock_of 0 w + (entry_of_slot i.all.schedule k).length) pads
 
-  pub ended_so : (k ended : ℕ) → ended ≡ ended_of 0 (whole_by g i k) → ended ≡ ended_by g i k (whole_by g i k)
+  pub ended_so : (k ended : ℕ) → ended ≡ ended_of 0 (whole_by g i k) → ended ≡ ended_by g i 0 k (whole_by g i k)
   ended_so k ended is =
       is ∙ ended_is g.pad (ended_of 0 (whole_by g i k)) (last_end i.all.schedule k) (last_ended k)
 
@@ -198,7 +198,7 @@ module _ (off : Option Guard) (i : Image) (k : ℕ) where
     pub flushes : t.flushes ≡ g.flush
     pub out : t.out ≡ clone_by g (outgoing i.all.schedule k)
     pub into : t.into ≡ g.clone d
-    pub old_end : t.old_end ≡ ended_by g i k w
+    pub old_end : t.old_end ≡ ended_by g i 0 k w
     pub padded : g.pad ≡ true → t.until ≡ start i.all.schedule k
     pub unpadded : g.pad ≡ false → t.until ≡ 0
 
@@ -251,7 +251,7 @@ module _ (off : Option Guard) (i : Image) (k : ℕ) where
         ∙ sym (work_by_is g i (outgoing i.all.schedule k) d c ((are_guards i (separated i r) off).region d))
 
     pub begins : (t : SwitchGiven) (b : SlotStart) → AreGiven t → Switches s t b → Begins s b
-    unfolding switch_by with_hart at put
+    unfolding switch_by switch_on with_hart at put
     begins t b are switches =
         let c = caches_of 0 w in
         let same = work_is t are in
@@ -281,7 +281,7 @@ module _ (off : Option Guard) (i : Image) (k : ℕ) where
     module _ (b : SlotStart) (starts : Begins s b) (e : ℕ) (enters : e ≡ d) where
       -- so it does in the slot of its domain
       pub begun_in : StandsIn off i e begun s.memory b.system s.domains b.now
-      unfolding switch_by with_hart
+      unfolding switch_by switch_on with_hart
       begun_in =
           let both = switch_keeps i (separated i r) g k w (at_slot i (separated i r) g k) in
           subst (λ (n : ℕ). StandsIn off i n begun s.memory b.system s.domains b.now) (sym enters)

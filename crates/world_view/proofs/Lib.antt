@@ -5,5 +5,6 @@ pub mod facts
 pub mod time
 pub mod opening
 pub mod runs
+pub mod harts
 pub mod interrupts
 pub mod ReadingLaws

@@ -45,7 +45,7 @@ use Rattle.mem_system.specs.Translation.{lines_of, look_of}
 use Rattle.cache_sharing.specs.Operations.{footprint, operation, leave, enter, shared_region, prefetch}
 use Rattle.world_view.specs.Cost.{hierarchy, region}
 use Rattle.world_view.specs.Event.{touch, frame_or_stop, translate, address_in, line_in, read, write, unless, load, store, computed, loaded, noted, guessed, settle, execute, timed, call_touches, make_call, perform, instruction, delivery_touches, interrupts_of, event}
-use Rattle.world_view.specs.Machine.{clock_of, with_hart, paid, delivered, happened, step, steps, enter_part, with_part, switch, opening_doms, opening, whole, alone_opening, alone_enter, alone_in, alone_out, alone_if, alone, flush_by, guarded, leave_by, own_slot, prefetch_by, run_slot_by, switch_by, switch_work_by, whole_by, with_end, dom_of, part_of, whole_off, World, Guards, setting_by, Owned, if_due, first_of, first_due, step_among, steps_among}
+use Rattle.world_view.specs.Machine.{clock_of, with_hart, paid, delivered, happened, step, steps, enter_part, with_part, switch, opening_doms, opening, whole, alone_opening, alone_enter, alone_in, alone_out, alone_if, alone, flush_by, guarded, leave_by, own_slot, prefetch_by, run_slot_by, switch_by, switch_on, switch_work_by, whole_by, with_end, dom_of, part_of, whole_off, World, Guards, setting_by, Owned, if_due, first_of, first_due, step_among, steps_among}
 use Rattle.world_view.specs.View.{View, view, view_whole, view_alone, memory_sum}
 use Rattle.world_view.specs.Used.{count_of, largest_of}
 use Rattle.world_view.specs.Laws.{local_in}
@@ -189,8 +189,8 @@ waited_and_polled clock = record {
 }
 
 -- all that a run computes with
-pub everything : ℕ
-unfolding interrupts.next_cycle interrupts.due threads.waiter threads.woken threads.blocked threads.finished threads.vacant threads.spawned threads.with_thread domain.recorded domain.with_bit domain.signalled_by domain.signalled domain.delivered_on domain.turned domain.waiting domain.thread_ended domain.with_spawned calls.line_at calls.poll calls.waited calls.wait calls.signal calls.spawn empty at put go_on ◌>>=◌ ◌>>◌ give stop note either start frame_at word written frame_words put_word tabled root_entry rights_in leaf_with leaf_entry root_placed table_placed tables_placed page_words pages_placed segments_placed placed all_placed has_region regions_below pages_below pages_in table_word leaf_word leaf_bits bit ppn ppn_0 ppn_1 with_ppn vpn_0 vpn_1 leaf superpage first_level last_level entry_address from_table from_entry walk first_cap first_slots opening_dom page_numbers kept_pages first_regions fixed_claims estate layout no_dom threads.threads_at_entry never turned_to yielded given_way with_current all_ended domain.dom_at_entry domain.placed domain.replied domain.exited domain.with_caps calls.zeroed_in calls.entries_in calls.work_of calls.zero_out calls.page_refusal calls.table_refusal calls.map_at calls.unmap_at calls.install_at calls.uninstall_at calls.empty_buffer calls.some_or calls.is_slot calls.filled calls.allowed calls.put_byte calls.alloc calls.install calls.map_page calls.unmap calls.unless_refused calls.copy calls.clear_entry calls.drop_slot calls.delete calls.unmap_all calls.revoke calls.call_of calls.call slots.maps_in slots.in_use slots.count_in frame_of is_shared leaf_at entry_places region_of claim_of all_claims claims frames_in is_named free_frames least_free text_touches stack_touches data_touches shared_touches zeroed_touches entry_touches touches check stopped trapped retired_at read_out colour_of_line cost.fresh_core cost.cold cost.fetched cost.accessed cost.looked cost.guessed cost.branched cost.jumped cost.flushed cost.on_core cost.missed_cost cost.below_by cost.below_if cost.below cost.below_all cost.pass_on cost.touched cost.and_then cost.touched_all lines_of look_of footprint operation leave enter shared_region prefetch hierarchy region touch frame_or_stop translate address_in line_in read write unless load store computed loaded noted guessed settle execute timed calls.empties call_touches make_call perform instruction delivery_touches interrupts_of event paid delivered happened step steps leave_by guarded prefetch_by flush_by enter_part switch_work_by with_part switch_by run_slot_by own_slot with_end opening_doms opening whole_by alone_opening alone_enter alone_in alone_out alone_if alone log_of colours.pool colours.frame_at view view_whole view_alone memory_sum count_of largest_of two_domains interrupted with_hart beside_moment first_due step_among steps_among may_make
+unfoldable pub everything : ℕ
+unfolding interrupts.next_cycle interrupts.due threads.waiter threads.woken threads.blocked threads.finished threads.vacant threads.spawned threads.with_thread domain.recorded domain.with_bit domain.signalled_by domain.signalled domain.delivered_on domain.turned domain.waiting domain.thread_ended domain.with_spawned calls.line_at calls.poll calls.waited calls.wait calls.signal calls.spawn empty at put go_on ◌>>=◌ ◌>>◌ give stop note either start frame_at word written frame_words put_word tabled root_entry rights_in leaf_with leaf_entry root_placed table_placed tables_placed page_words pages_placed segments_placed placed all_placed has_region regions_below pages_below pages_in table_word leaf_word leaf_bits bit ppn ppn_0 ppn_1 with_ppn vpn_0 vpn_1 leaf superpage first_level last_level entry_address from_table from_entry walk first_cap first_slots opening_dom page_numbers kept_pages first_regions fixed_claims estate layout no_dom threads.threads_at_entry never turned_to yielded given_way with_current all_ended domain.dom_at_entry domain.placed domain.replied domain.exited domain.with_caps calls.zeroed_in calls.entries_in calls.work_of calls.zero_out calls.page_refusal calls.table_refusal calls.map_at calls.unmap_at calls.install_at calls.uninstall_at calls.empty_buffer calls.some_or calls.is_slot calls.filled calls.allowed calls.put_byte calls.alloc calls.install calls.map_page calls.unmap calls.unless_refused calls.copy calls.clear_entry calls.drop_slot calls.delete calls.unmap_all calls.revoke calls.call_of calls.call slots.maps_in slots.in_use slots.count_in frame_of is_shared leaf_at entry_places region_of claim_of all_claims claims frames_in is_named free_frames least_free text_touches stack_touches data_touches shared_touches zeroed_touches entry_touches touches check stopped trapped retired_at read_out colour_of_line cost.fresh_core cost.cold cost.fetched cost.accessed cost.looked cost.guessed cost.branched cost.jumped cost.flushed cost.on_core cost.missed_cost cost.below_by cost.below_if cost.below cost.below_all cost.pass_on cost.touched cost.and_then cost.touched_all lines_of look_of footprint operation leave enter shared_region prefetch hierarchy region touch frame_or_stop translate address_in line_in read write unless load store computed loaded noted guessed settle execute timed calls.empties call_touches make_call perform instruction delivery_touches interrupts_of event paid delivered happened step steps leave_by guarded prefetch_by flush_by enter_part switch_work_by with_part switch_by switch_on run_slot_by own_slot with_end opening_doms opening whole_by alone_opening alone_enter alone_in alone_out alone_if alone log_of colours.pool colours.frame_at view view_whole view_alone memory_sum count_of largest_of two_domains interrupted with_hart beside_moment first_due step_among steps_among may_make
 everything = 0
 
 -- ---- the memory that it opens with

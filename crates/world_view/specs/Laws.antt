@@ -52,7 +52,7 @@ abbrev pub StartLaw : Type 0
 StartLaw = (i : Image) (k : ℕ) → Runnable i → clock_of 0 (switch i k (whole i k)) ≡ start i.all.schedule k
 
 abbrev pub InTimeLaw : Type 0
-InTimeLaw = (i : Image) (k : ℕ) → Runnable i → InTime i k (whole i k)
+InTimeLaw = (i : Image) (k : ℕ) → Runnable i → InTime i 0 k (whole i k)
 
 -- the domain of slot k, after so many of its steps
 abbrev pub local_in : Image → ℕ → ℕ → Local
@@ -286,21 +286,21 @@ BootWorkLaw = (i : Image) (e : ℕ) (c : Caches) →
 
 -- a switch from d to another
 abbrev pub SwitchOutLaw : Type 0
-SwitchOutLaw = (i : Image) (k d : ℕ) (w : World) (a : Local) → Runnable i → IsDomain i d → InTime i k w
+SwitchOutLaw = (i : Image) (k d : ℕ) (w : World) (a : Local) → Runnable i → IsDomain i d → InTime i 0 k w
     → outgoing i.all.schedule k ≡ Some d → (entry_of_slot i.all.schedule k).domain ≢ d
     → Within i.all.hardware (own_of i d) (part_of 0 d w) a
     → Apiece i.all.hardware (own_of i d) (part_of 0 d (switch i k w)) (alone_out i.all.hardware (own_of i d) a)
 
 -- a switch from another, or from nobody, to d
 abbrev pub SwitchInLaw : Type 0
-SwitchInLaw = (i : Image) (k d : ℕ) (w : World) (a : Local) → Runnable i → IsDomain i d → InTime i k w
+SwitchInLaw = (i : Image) (k d : ℕ) (w : World) (a : Local) → Runnable i → IsDomain i d → InTime i 0 k w
     → outgoing i.all.schedule k ≢ Some d → (entry_of_slot i.all.schedule k).domain ≡ d
     → Apiece i.all.hardware (own_of i d) (part_of 0 d w) a
     → Within i.all.hardware (own_of i d) (part_of 0 d (switch i k w)) (alone_enter i.all (own_of i d) k a)
 
 -- a switch from d to d
 abbrev pub SwitchBothLaw : Type 0
-SwitchBothLaw = (i : Image) (k d : ℕ) (w : World) (a : Local) → Runnable i → IsDomain i d → InTime i k w
+SwitchBothLaw = (i : Image) (k d : ℕ) (w : World) (a : Local) → Runnable i → IsDomain i d → InTime i 0 k w
     → outgoing i.all.schedule k ≡ Some d → (entry_of_slot i.all.schedule k).domain ≡ d
     → Within i.all.hardware (own_of i d) (part_of 0 d w) a
     → Within i.all.hardware (own_of i d) (part_of 0 d (switch i k w))
@@ -308,7 +308,7 @@ SwitchBothLaw = (i : Image) (k d : ℕ) (w : World) (a : Local) → Runnable i �
 
 -- a switch between others
 abbrev pub SwitchPastLaw : Type 0
-SwitchPastLaw = (i : Image) (k d : ℕ) (w : World) (a : Local) → Runnable i → IsDomain i d → InTime i k w
+SwitchPastLaw = (i : Image) (k d : ℕ) (w : World) (a : Local) → Runnable i → IsDomain i d → InTime i 0 k w
     → outgoing i.all.schedule k ≢ Some d → (entry_of_slot i.all.schedule k).domain ≢ d
     → Apiece i.all.hardware (own_of i d) (part_of 0 d w) a
     → Apiece i.all.hardware (own_of i d) (part_of 0 d (switch i k w)) a

@@ -7,6 +7,8 @@ pub mod Cost
 pub mod Geometry
 pub mod Event
 pub mod Machine
+pub mod Harts
+pub mod HartLaws
 pub mod Used
 pub mod View
 pub mod Models
@@ -15,3 +17,4 @@ pub mod Laws
 pub mod Interrupts
 pub mod EventLaws
 pub mod Example
+pub mod HartExample

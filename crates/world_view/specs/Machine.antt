@@ -228,9 +228,9 @@ part_of h d w = record { dom = dom_of w d; storage = w.storage; caches = caches_
 unfoldable pub with_part : ℕ → ℕ → World → Local → World
 with_part h d w s = with_hart h (record w { doms = put w.doms d s.dom; storage = s.storage }) s.caches s.clock
 
--- switch k begins when the last slot has ended: with pads that is known before
-abbrev pub ended_by : Guards → Image → ℕ → World → ℕ
-ended_by g i k w = if g.pad then last_end i.all.schedule k else ended_of 0 w
+-- on hart h switch k begins when its last slot has ended: with pads that is known before
+abbrev pub ended_by : Guards → Image → ℕ → ℕ → World → ℕ
+ended_by g i h k w = if g.pad then last_end i.all.schedule k else ended_of h w
 
 -- its work was done at this clock, and then it waits for the next start
 abbrev pub begins_by : Guards → Image → ℕ → ℕ → ℕ
@@ -240,15 +240,28 @@ begins_by g i k now = if g.pad then max now (start i.all.schedule k) else now
 abbrev pub ends_by : Guards → Image → ℕ → ℕ → ℕ
 ends_by g i k begun = if g.pad then slot_end i.all.schedule k else begun + (entry_of_slot i.all.schedule k).length
 
--- switch k: its work, and then the wait
+-- what switch k does on a hart
+abbrev pub work_on : Guards → Image → ℕ → ℕ → World → Touched
+work_on g i h k w =
+    switch_work_by g i (outgoing i.all.schedule k) (entry_of_slot i.all.schedule k).domain (caches_of h w)
+
+-- its work, and then the wait
+unfoldable pub switch_on : Guards → Image → ℕ → ℕ → World → World
+switch_on g i h k w =
+    let r = work_on g i h k w in
+    with_hart h w r.caches (begins_by g i k (clock_of h w + r.cost))
+
+-- the cycles from the ended slot's end to the end of its work
+abbrev pub cycles_on : Guards → Image → ℕ → ℕ → World → ℕ
+cycles_on g i h k w = (clock_of h w + (work_on g i h k w).cost) - ended_by g i h k w
+
+-- a switch of an entry took so many
+abbrev pub noted : ℕ → ℕ → World → World
+noted e cycles w = record w { used = w.used ++ (e, cycles) ∷ [] }
+
+-- switch k
 unfoldable pub switch_by : Guards → Image → ℕ → World → World
-switch_by g i k w =
-    let es = i.all.schedule in
-    let r = switch_work_by g i (outgoing es k) (entry_of_slot es k).domain (caches_of 0 w) in
-    let now = clock_of 0 w + r.cost in
-    record (with_hart 0 w r.caches (begins_by g i k now)) {
-      used = w.used ++ (switch_entry es k, now - ended_by g i k w) ∷ [];
-    }
+switch_by g i k w = noted (switch_entry i.all.schedule k) (cycles_on g i 0 k w) (switch_on g i 0 k w)
 
 -- a slot of domain d up to this end, in which its own moments come
 unfoldable pub own_slot : Guards → Image → ℕ → ℕ → World → World
@@ -318,16 +331,22 @@ unfoldable pub opening_doms : Hardware → List Own → ℕ → Table Dom
 opening_doms p [] d = empty
 opening_doms p (o ∷ os) d = put (opening_doms p os (suc d)) d (opening_dom p o)
 
+-- memory, before there is a hart
+abbrev pub no_harts : Image → World
+no_harts i = record {
+  doms = opening_doms i.all.hardware i.owns 0;
+  storage = record { mem = all_placed i.all.hardware i.owns };
+  l2 = empty;
+  harts = empty;
+  used = [];
+}
+
+-- a hart whose caches hold nothing, at clock 0
+abbrev pub with_cold : Image → ℕ → World → World
+with_cold i h w = with_hart h w (cold (hierarchy i.all.hardware)) 0
+
 unfoldable pub opening : Image → World
-opening i =
-    let before : World = record {
-      doms = opening_doms i.all.hardware i.owns 0;
-      storage = record { mem = all_placed i.all.hardware i.owns };
-      l2 = empty;
-      harts = empty;
-      used = [];
-    } in
-    with_hart 0 before (cold (hierarchy i.all.hardware)) 0
+opening i = with_cold i 0 (no_harts i)
 
 -- after so many slots
 unfoldable pub whole_by : Guards → Image → ℕ → World

@@ -172,14 +172,14 @@ abbrev pub left_colours : Image → Option ℕ → ℕ → Bool
 left_colours i None = λ _. false
 left_colours i (Some d) = own_colour (own_of i d)
 
--- before switch k the clock is at the last slot's end, or past it by less than the largest step of its domain; the caches
--- have their ways, each dirty line of the first level is of who leaves, and none is of the kernel's colour
-pub record InTime (i : Image) (k : ℕ) (w : World) : Type 0 where
-  pub over : last_end i.all.schedule k ≤ clock_of 0 w
-  pub soon : clock_of 0 w < last_end i.all.schedule k + largest_step i.all.hardware (ended_own i k)
-  pub ways : HasWays (hierarchy i.all.hardware) (caches_of 0 w)
-  pub dirty : sharing.OwnDirty (hierarchy i.all.hardware) (left_colours i (outgoing i.all.schedule k)) (caches_of 0 w).core
-  pub clean : KernelIsClean i.all.hardware (caches_of 0 w)
+-- before switch k of a hart its clock is at its last slot's end, or past it by less than the largest step of that slot's
+-- domain; the caches have their ways, each dirty line of the first level is of who leaves, and none is of the kernel's colour
+pub record InTime (i : Image) (h k : ℕ) (w : World) : Type 0 where
+  pub over : last_end i.all.schedule k ≤ clock_of h w
+  pub soon : clock_of h w < last_end i.all.schedule k + largest_step i.all.hardware (ended_own i k)
+  pub ways : HasWays (hierarchy i.all.hardware) (caches_of h w)
+  pub dirty : sharing.OwnDirty (hierarchy i.all.hardware) (left_colours i (outgoing i.all.schedule k)) (caches_of h w).core
+  pub clean : KernelIsClean i.all.hardware (caches_of h w)
 
 -- each switch's cycles are at most its entry's pad
 abbrev pub AllWithinPads : List Entry → List (ℕ × ℕ) → Type 0

@@ -1,6 +1,7 @@
 //! Laws of the machine over its definitions, each the contract of a function
 //! that does nothing: a caller that calls it may rely on the law.
 ghost use Rattle.world_view.specs.EventLaws.{StepTouchesLaw, OwnTouchesLaw, SlotTouchesLaw, StepCostLaw, PlainCostLaw, SlotCostLaw};
+ghost use Rattle.world_view.specs.HartLaws.{HartIsolationLaw, TwoOrdersLaw, HartPadLaw, HartLargestLaw, HartCountLaw, OtherHartsLaw, NextLaw};
 ghost use Rattle.world_view.specs.Interrupts.{DueLaw, PromptLaw, FewLaw, AscendLaw, OwnSlotsLaw, TurnLaw, WakeLaw};
 ghost use Rattle.world_view.specs.Laws.{ReadingLaw, IsolationLaw, TwoRunLaw, PadLaw, LargestLaw, StartLaw, InTimeLaw, ClockLaw, OpeningPageLaw, OpeningRightsLaw, OpeningNoPageLaw, OpeningFramesLaw, OpeningZeroLaw, OpeningElsewhereLaw, PoolsApartLaw, KernelColourLaw, PoolPartsLaw, FactsLaw, ReachLaw, NoAccessFaultLaw, RightsLaw, PermittedLaw, KernelLaw, PartiesLaw, PartiesSwapLaw, PartyFramesLaw, OthersStepLaw, OthersLeaveLaw, OthersEnterLaw, PrefetchLaw, FlushLaw, OthersEventLaw, OtherHartLaw, OwnHartLaw, OwnStepLaw, SwitchWorkLaw, BootWorkLaw, SwitchOutLaw, SwitchInLaw, SwitchBothLaw, SwitchPastLaw, ResidencyLaw, ForGoodLaw, EmptyLaw, AfterSwitchLaw, SwitchAloneLaw, SlotAloneLaw, SettledLaw, SwitchCleanLaw, SlotCleanLaw, SlotDirtyLaw};
 
@@ -115,10 +116,26 @@ pub fn others_events()
 
 /// An event on one hart leaves every other hart as it was: its on-core state, its
 /// clock, and when its last slot ended. Of its own hart it changes on-core state and
-/// clock alone.
+/// clock alone. So it leaves each domain of another hart: its own state, its frames,
+/// its part of the second level, and how far that hart is.
 pub fn harts()
     ensures other { OtherHartLaw }
     ensures own { OwnHartLaw }
+    ensures others { OtherHartsLaw }
+{}
+
+/// Several harts, for every order of their events. Where a domain's hart has not
+/// begun its next slot, what is seen of the domain is what is seen of it alone, by the
+/// entries of that hart; so two orders after which the hart has had as many slots show
+/// the same. No switch of any hart overruns its pad, and no entry has more switches than
+/// its hart.
+pub fn orders()
+    ensures next { NextLaw }
+    ensures isolated { HartIsolationLaw }
+    ensures two_orders { TwoOrdersLaw }
+    ensures used { HartPadLaw }
+    ensures largest { HartLargestLaw }
+    ensures counted { HartCountLaw }
 {}
 
 /// A domain's own step does the same among others and alone, at equal cost.

@@ -13,7 +13,7 @@ use Rattle.sched_table.specs.Schedule.{entry_of_slot, slot_end}
 use Rattle.world_view.specs.Frames.{own_frame}
 use Rattle.world_view.specs.Kernel.{opening_dom, no_dom}
 use Rattle.world_view.specs.Event.{Storage, interrupts_of}
-use Rattle.world_view.specs.Machine.{with_hart, clock_of, Guards, setting_by, delivered, Local, World, step, steps, dom_of, part_of, with_part, Owned, if_due, first_of, first_due, delivered_or_step, step_among, steps_among, slot_if, switch, opening, whole, guarded, own_slot, ends_by, run_slot_by, switch_by, whole_by, with_end}
+use Rattle.world_view.specs.Machine.{with_hart, clock_of, Guards, setting_by, delivered, Local, World, step, steps, dom_of, part_of, with_part, Owned, if_due, first_of, first_due, delivered_or_step, step_among, steps_among, slot_if, switch, opening, whole, guarded, own_slot, ends_by, run_slot_by, switch_by, switch_on, whole_by, with_end}
 use Rattle.world_view.specs.Relations.{IsDomain, HasFacts}
 use Rattle.world_view.specs.Laws.{local_in, world_in}
 use Rattle.world_view.proofs.opening.Separate.{Separated}
@@ -73,15 +73,15 @@ module _ (i : Image) (r : Separated i) where
   AllBoth w = (d : ℕ) → IsDomain i d → BothOf w d
 
   -- what changes one domain, and memory in its frames alone, keeps it of all
-  changed : (e : ℕ) → IsDomain i e → (w : World) (s : Local) → HasBoth i.all.hardware (own_of i e) s.dom s.storage
+  changed : (h e : ℕ) → IsDomain i e → (w : World) (s : Local) → HasBoth i.all.hardware (own_of i e) s.dom s.storage
       → ((f : ℕ) → own_frame i.all.hardware (own_of i e) f ≡ false → frame_at s.storage.mem f ≡ frame_at w.storage.mem f)
-      → AllBoth w → AllBoth (with_part 0 e w s)
+      → AllBoth w → AllBoth (with_part h e w s)
   unfolding with_part with_hart at put
-  changed e ie w s both outside before d is =
+  changed h e ie w s both outside before d is =
       let p = i.all.hardware in
       elim (cases_eq d e) [
         | inl same ↦
-            subst (λ (x : ℕ). HasBoth p (own_of i x) (dom_of (with_part 0 e w s) x) s.storage) (sym same)
+            subst (λ (x : ℕ). HasBoth p (own_of i x) (dom_of (with_part h e w s) x) s.storage) (sym same)
             (both_with p (own_of i e) s.dom _ s.storage s.storage (at-put_same no_dom w.doms e s.dom) (λ f own. refl) both)
         | inr apart ↦
             both_with p (own_of i d) (dom_of w d) _ w.storage s.storage (at-put_other no_dom w.doms e d s.dom apart)
@@ -109,20 +109,20 @@ module _ (i : Image) (r : Separated i) where
         let h = before e ie in
         let kept = steps_keep_so p o g.levels (g.clone e) false (kernel_of i r e ie) end n s.storage s
         (record { facts = h.facts; outside = λ f out. refl }) in
-        changed e ie w (steps (setting_by g i e) end n s)
+        changed 0 e ie w (steps (setting_by g i e) end n s)
         (steps_by (setting_by g i e) end (λ (t : Local). HasBoth p o t.dom t.storage) (λ t below k. step_both e end t ie k) n s h)
         kept.outside before
 
-    step_keeps_all : (e end : ℕ) (w : World) → IsDomain i e → AllBoth w
-        → AllBoth (with_part 0 e w (step (setting_by g i e) end (part_of 0 e w)))
-    step_keeps_all e end w ie before =
+    pub step_keeps_all : (h e end : ℕ) (w : World) → IsDomain i e → AllBoth w
+        → AllBoth (with_part h e w (step (setting_by g i e) end (part_of h e w)))
+    step_keeps_all h e end w ie before =
         let p = i.all.hardware in
         let o = own_of i e in
-        let s = part_of 0 e w in
-        let h = before e ie in
+        let s = part_of h e w in
+        let its = before e ie in
         let kept = step_keeps_so p o g.levels (g.clone e) false (kernel_of i r e ie) end s.storage s
-        (record { facts = h.facts; outside = λ f out. refl }) in
-        changed e ie w (step (setting_by g i e) end s) (step_both e end s ie h) kept.outside before
+        (record { facts = its.facts; outside = λ f out. refl }) in
+        changed h e ie w (step (setting_by g i e) end s) (step_both e end s ie its) kept.outside before
 
     -- a delivery leaves capabilities and memory
     delivery_keeps : (e d line : ℕ) (w : World) → IsDomain i e → AllBoth w
@@ -132,12 +132,12 @@ module _ (i : Image) (r : Separated i) where
         let p = i.all.hardware in
         let o = own_of i e in
         let s = part_of 0 e w in
-        changed e ie w (delivered (setting_by g i d) line s)
+        changed 0 e ie w (delivered (setting_by g i d) line s)
         (same_caps p o (kernel_of i r e ie) s.dom _ s.storage (delivered_caps line s.dom) (before e ie)) (λ f out. refl) before
 
     pub among_keeps_if : (d end : ℕ) (w : World) (o : Option Owned) → IsDomain i d → OwnerBelow (length i.owns) o → AllBoth w
         → AllBoth (delivered_or_step g i d end w o)
-    among_keeps_if d end w None is below before = step_keeps_all d end w is before
+    among_keeps_if d end w None is below before = step_keeps_all 0 d end w is before
     among_keeps_if d end w (Some x) is below before = delivery_keeps x.owner d x.moment.line w below before
 
     pub among_keeps : (d end : ℕ) (w : World) → IsDomain i d → AllBoth w → AllBoth (step_among g i d end w)
@@ -164,7 +164,7 @@ module _ (i : Image) (r : Separated i) where
 
     -- a switch leaves domains and memory as they are
     pub switch_keeps : (k : ℕ) (w : World) → AllBoth w → AllBoth (switch_by g i k w)
-    unfolding switch_by with_hart
+    unfolding switch_by switch_on with_hart
     switch_keeps k w before d is = before d is
 
     -- before and after each slot

@@ -17,7 +17,7 @@ use Rattle.image_check.specs.Image.{Image, own_of}
 use Rattle.sched_table.specs.Schedule.{entry_of_slot, slot_end, outgoing}
 use Rattle.world_view.specs.Kernel.{layout}
 use Rattle.world_view.specs.Cost.{hierarchy, region, own_colour}
-use Rattle.world_view.specs.Machine.{with_hart, caches_of, clock_of, setting, Local, clone_of, prefetch_part, flush_part, enter_part, leave_by, prefetch_by, flush_by, switch_work_by, step, part_of, with_part, switch, opening, whole, guarded, own_slot, run_slot_by, switch_by, whole_by, with_end}
+use Rattle.world_view.specs.Machine.{with_hart, caches_of, clock_of, setting, Local, World, clone_of, prefetch_part, flush_part, enter_part, leave_by, prefetch_by, flush_by, switch_work_by, step, part_of, with_part, switch, opening, whole, guarded, own_slot, run_slot_by, switch_by, switch_on, whole_by, with_end}
 use Rattle.world_view.specs.Relations.{IsDomain, HasFacts, KeepsSharedAlone, KernelIsClean, OwnDirty, left_colours}
 use Rattle.world_view.proofs.touches.CostLaws.{own_dirties}
 use Rattle.world_view.specs.EventLaws.{step_touches}
@@ -27,7 +27,7 @@ use Rattle.world_view.proofs.touches.KernelTouches.{leave_may, enter_may}
 use Rattle.world_view.proofs.opening.OpeningFacts.{kernel_of}
 use Rattle.world_view.proofs.steps.StepLaws.{step_may, step_dirties, step_caches, steps_hold}
 use Rattle.world_view.proofs.facts.FactsLaws.{begun_facts}
-use Rattle.world_view.proofs.runs.SwitchParts.{region_is, switch_is}
+use Rattle.world_view.proofs.runs.SwitchParts.{region_is, switch_is, caches-with}
 
 pub empty : EmptyLaw
 unfolding whole_by opening with_hart at put
@@ -61,7 +61,7 @@ module _ (i : Image) (r : Separated i) where
   who_leaves zero e is = absurd (cc is)
   who_leaves (suc k) e is = subst (IsDomain i) (same_Some _ _ is) (r.named k)
 
-  switch_any : (k : ℕ) → MayTouchAll (hierarchy i.all.hardware) any_colour (region i.all.hardware) (switch_touches i k)
+  pub switch_any : (k : ℕ) → MayTouchAll (hierarchy i.all.hardware) any_colour (region i.all.hardware) (switch_touches i k)
   unfolding operations.switch_by
   switch_any k =
       let p = i.all.hardware in
@@ -86,11 +86,23 @@ module _ (i : Image) (r : Separated i) where
       (take_may (hierarchy p) any_colour (region p) n (switch_touches i k) (switch_any k)) before
 
   pub after_switch : (k : ℕ) → caches_in_switch i k (length (switch_touches i k)) ≡ caches_of 0 (switch i k (whole i k))
-  unfolding switch_by guarded with_hart at put
+  unfolding switch_by switch_on guarded with_hart at put
   after_switch k =
       let h = hierarchy i.all.hardware in
       ap (λ (ts : List Touch). (touched_all h false (caches_of 0 (whole i k)) ts).caches) (take_all (length (switch_touches i k)) (switch_touches i k) (le_refl _))
       ∙ sym (ap (λ (t : Touched). t.caches) (switch_is i (outgoing i.all.schedule k) (entry_of_slot i.all.schedule k).domain (caches_of 0 (whole i k))))
+
+  -- after a switch of any hart none of the kernel's lines is dirty, if none was before
+  pub switched_clean : (h k : ℕ) (w : World) → KernelIsClean i.all.hardware (caches_of h w)
+      → KernelIsClean i.all.hardware (caches_of h (switch_on (guarded i) i h k w))
+  unfolding switch_on guarded
+  switched_clean h k w clean =
+      let p = i.all.hardware in
+      let out = outgoing i.all.schedule k in
+      let d = (entry_of_slot i.all.schedule k).domain in
+      subst (KernelIsClean p) (sym (caches-with h w _ _))
+      (subst (λ (t : Touched). KernelIsClean p t.caches) (sym (switch_is i out d (caches_of h w)))
+      (stays_clean_law (hierarchy p) any_colour (region p) false (switch_touches i k) (caches_of h w) any_sharing (switch_any k) clean))
 
   -- after so many steps of a slot
   record Keeping (k : ℕ) (s : Local) : Type 0 where
@@ -111,18 +123,21 @@ module _ (i : Image) (r : Separated i) where
       }
 
   -- as a slot begins, after the flush and the enter of its domain
-  switched_dirty : (k : ℕ) → OwnDirty i.all.hardware (own_of i (entry_of_slot i.all.schedule k).domain) (caches_of 0 (switch i k (whole i k)))
-  unfolding switch_by guarded switch_work_by and_then prefetch_by flush_by enter_part touched on_core flushed fresh_core pass_on with_hart at put
-  switched_dirty k =
+  pub switched_dirty : (h k : ℕ) (w : World)
+      → OwnDirty i.all.hardware (own_of i (entry_of_slot i.all.schedule k).domain) (caches_of h (switch_on (guarded i) i h k w))
+  unfolding switch_on guarded switch_work_by and_then prefetch_by flush_by enter_part touched on_core flushed fresh_core pass_on
+  switched_dirty h k w =
       let p = i.all.hardware in
       let d = (entry_of_slot i.all.schedule k).domain in
       let kernel = kernel_of i r d (r.named k) in
-      let left = leave_by (guarded i) i (outgoing i.all.schedule k) (caches_of 0 (whole i k)) in
+      let left = leave_by (guarded i) i (outgoing i.all.schedule k) (caches_of h w) in
       let emptied = (flush_part (hierarchy p) false (prefetch_part (hierarchy p) (region p) left.caches).caches).caches in
-      own_dirties p (own_of i d) kernel false (enter (layout p (own_of i d))) emptied (enter_may p (own_of i d) kernel (region p))
-      (EachDirty-empty (IsOwnLine (hierarchy p) (own_colour (own_of i d))) (hierarchy p).l1d)
+      subst (OwnDirty p (own_of i d)) (sym (caches-with h w _ _))
+      (own_dirties p (own_of i d) kernel false (enter (layout p (own_of i d))) emptied (enter_may p (own_of i d) kernel (region p))
+      (EachDirty-empty (IsOwnLine (hierarchy p) (own_colour (own_of i d))) (hierarchy p).l1d))
 
   in_slot : (k n : ℕ) → KernelsSets i.all.hardware (caches_of 0 (whole i k)) → Keeping k (local_in i k n)
+  unfolding switch_by
   in_slot k n before =
       let p = i.all.hardware in
       let d = (entry_of_slot i.all.schedule k).domain in
@@ -130,7 +145,7 @@ module _ (i : Image) (r : Separated i) where
       (part_of 0 d (switch i k (whole i k))) (begun_facts i r k d (r.named k))
       (record {
         sets = subst (KernelsSets p) (after_switch k) (in_switch k (length (switch_touches i k)) before);
-        dirty = switched_dirty k;
+        dirty = switched_dirty 0 k (whole i k);
       })
 
   between : (k : ℕ) → KernelsSets i.all.hardware (caches_of 0 (whole i k))

@@ -1,14 +1,14 @@
 -- From the boot on every shared line is in the second level, at each moment of each slot.
-use Rattle.std.proofs.Common.{ℕ, zero, suc, ◌-◌, false, ◌∷◌}
+use Rattle.std.proofs.Common.{◌≡◌, ℕ, zero, suc, ◌-◌, false, ◌∷◌, refl, sym, subst}
 use Rattle.tp_base.specs.Table.{at, put}
-use Rattle.mem_system.specs.Cost.{Flush, Caches, and_then, touched_all}
+use Rattle.mem_system.specs.Cost.{Flush, Caches, cold, and_then, touched_all}
 use Rattle.cache_sharing.specs.Operations.{leave, enter}
 use Rattle.cache_sharing.proofs.Residency.{resident}
 use Rattle.image_check.specs.Image.{Image, own_of}
 use Rattle.sched_table.specs.Schedule.{entry_of_slot, slot_end, outgoing}
 use Rattle.world_view.specs.Kernel.{layout}
 use Rattle.world_view.specs.Cost.{hierarchy, region}
-use Rattle.world_view.specs.Machine.{with_hart, caches_of, World, prefetch_part, leave_part, enter_part, part_of, with_part, switch, opening, whole, flush_by, guarded, leave_by, own_slot, prefetch_by, run_slot_by, switch_by, switch_work_by, whole_by, with_end}
+use Rattle.world_view.specs.Machine.{with_hart, caches_of, World, prefetch_part, leave_part, enter_part, part_of, with_part, switch, opening, whole, flush_by, guarded, leave_by, own_slot, prefetch_by, run_slot_by, switch_by, switch_on, switch_work_by, whole_by, with_end}
 use Rattle.world_view.specs.Laws.{local_in}
 use Rattle.world_view.specs.Relations.{Resident}
 use Rattle.world_view.proofs.opening.Separate.{Separated}
@@ -20,20 +20,46 @@ use Rattle.world_view.proofs.steps.StepLaws.{steps_resident}
 use Rattle.world_view.proofs.facts.FactsLaws.{begun_facts}
 
 module _ (i : Image) (r : Separated i) where
-  -- after the leave and the prefetch of switch k
-  prefetched : ℕ → World → Caches
-  prefetched k w =
+  -- after the leave and the prefetch of switch k, on caches
+  pub prefetched : ℕ → Caches → Caches
+  prefetched k c =
       let p = i.all.hardware in
-      (prefetch_part (hierarchy p) (region p) (leave_by (guarded i) i (outgoing i.all.schedule k) (caches_of 0 w)).caches).caches
+      (prefetch_part (hierarchy p) (region p) (leave_by (guarded i) i (outgoing i.all.schedule k) c).caches).caches
 
   -- the work of a switch keeps what its prefetch left there
-  worked : (k : ℕ) (w : World) → Resident i.all.hardware (prefetched k w) → Resident i.all.hardware (caches_of 0 (switch i k w))
-  unfolding prefetched switch_by guarded switch_work_by and_then prefetch_by flush_by enter_part touched_all with_hart at put
-  worked k w there =
+  worked : (h k : ℕ) (w : World) → Resident i.all.hardware (prefetched k (caches_of h w))
+      → Resident i.all.hardware (caches_of h (switch_on (guarded i) i h k w))
+  unfolding prefetched switch_on guarded switch_work_by and_then prefetch_by flush_by enter_part touched_all with_hart at put
+  worked h k w there =
       let p = i.all.hardware in
       let d = (entry_of_slot i.all.schedule k).domain in
       let kernel = kernel_of i r d (r.named k) in
-      own_resident p (own_of i d) kernel (Flush ∷ enter (layout p (own_of i d))) (prefetched k w) (tt, enter_may p (own_of i d) kernel (region p)) there
+      own_resident p (own_of i d) kernel (Flush ∷ enter (layout p (own_of i d))) (prefetched k (caches_of h w)) (tt, enter_may p (own_of i d) kernel (region p)) there
+
+  -- the first switch of a hart whose caches hold nothing brings all lines
+  pub boot_resident : (h : ℕ) (w : World) → caches_of h w ≡ cold (hierarchy i.all.hardware)
+      → Resident i.all.hardware (caches_of h (switch_on (guarded i) i h 0 w))
+  unfolding prefetched leave_by guarded
+  boot_resident h w is =
+      let p = i.all.hardware in
+      worked h 0 w (subst (λ (c : Caches). Resident p (prefetched 0 c)) (sym is)
+      (resident (hierarchy p) (region p) (region_room p r.hardware)))
+
+  -- where all are there, they stay
+  left_resident : (k : ℕ) (c : Caches) → Resident i.all.hardware c → Resident i.all.hardware (prefetched k c)
+  unfolding prefetched leave_by guarded
+  left_resident zero c there =
+      prefetch_resident i.all.hardware (own_of i (entry_of_slot i.all.schedule 0).domain) (kernel_of i r (entry_of_slot i.all.schedule 0).domain (r.named 0)) c there
+  left_resident (suc k) c there =
+      let p = i.all.hardware in
+      let o = own_of i (entry_of_slot i.all.schedule k).domain in
+      let kernel = kernel_of i r (entry_of_slot i.all.schedule k).domain (r.named k) in
+      let left = own_resident p o kernel (leave p.costs (layout p o)) c (leave_may p o kernel (region p)) there in
+      prefetch_resident p o kernel (leave_part (hierarchy p) false p.costs (layout p o) c).caches left
+
+  pub switched_resident : (h k : ℕ) (w : World) → Resident i.all.hardware (caches_of h w)
+      → Resident i.all.hardware (caches_of h (switch_on (guarded i) i h k w))
+  switched_resident h k w there = worked h k w (left_resident k (caches_of h w) there)
 
   -- after a slot
   after : (k : ℕ) → Resident i.all.hardware (caches_of 0 (switch i k (whole i k))) → Resident i.all.hardware (caches_of 0 (whole i (suc k)))
@@ -46,15 +72,9 @@ module _ (i : Image) (r : Separated i) where
 
   -- as a slot begins: at the boot the caches hold nothing, and the prefetch brings all lines
   pub begun_resident : (k : ℕ) → Resident i.all.hardware (caches_of 0 (switch i k (whole i k)))
-  unfolding prefetched whole_by opening leave_by guarded with_hart at put
-  begun_resident zero = worked 0 (whole i 0) (resident (hierarchy i.all.hardware) (region i.all.hardware) (region_room i.all.hardware r.hardware))
-  begun_resident (suc k) =
-      let p = i.all.hardware in
-      let o = own_of i (entry_of_slot i.all.schedule k).domain in
-      let kernel = kernel_of i r (entry_of_slot i.all.schedule k).domain (r.named k) in
-      let c = caches_of 0 (whole i (suc k)) in
-      let left = own_resident p o kernel (leave p.costs (layout p o)) c (leave_may p o kernel (region p)) (after k (begun_resident k)) in
-      worked (suc k) (whole i (suc k)) (prefetch_resident p o kernel (leave_part (hierarchy p) false p.costs (layout p o) c).caches left)
+  unfolding whole_by opening switch_by with_hart at put
+  begun_resident zero = boot_resident 0 (whole i 0) refl
+  begun_resident (suc k) = switched_resident 0 (suc k) (whole i (suc k)) (after k (begun_resident k))
 
   pub always_resident : (k n : ℕ) → Resident i.all.hardware (local_in i k n).caches
   always_resident k n =

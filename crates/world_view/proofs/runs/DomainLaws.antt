@@ -8,7 +8,7 @@ use Rattle.image_check.specs.Own.{Own}
 use Rattle.image_check.specs.Image.{Image, own_of}
 use Rattle.call_table.specs.Domain.{Dom}
 use Rattle.world_view.specs.Kernel.{opening_dom, no_dom}
-use Rattle.world_view.specs.Machine.{with_hart, clock_of, setting, Local, step, dom_of, part_of, with_part, switch, whole, guarded, own_slot, run_slot_by, switch_by, whole_by, with_end}
+use Rattle.world_view.specs.Machine.{with_hart, clock_of, setting, Local, step, dom_of, part_of, with_part, switch, whole, guarded, own_slot, run_slot_by, switch_by, switch_on, whole_by, with_end}
 use Rattle.world_view.specs.Relations.{IsDomain}
 use Rattle.world_view.specs.Laws.{local_in, world_in}
 use Rattle.world_view.proofs.opening.Separate.{Separated}
@@ -17,7 +17,7 @@ use Rattle.world_view.proofs.opening.OpeningLaws.{opening_dom_is}
 
 -- another's slot leaves a domain as it was
 pub others_same : (i : Image) (k n d : ℕ) → d ≢ (entry_of_slot i.all.schedule k).domain → dom_of (world_in i k n) d ≡ dom_of (whole i k) d
-unfolding switch_by guarded with_part with_hart at put
+unfolding switch_by switch_on guarded with_part with_hart at put
 others_same i k n d other = at-put_other no_dom (whole i k).doms (entry_of_slot i.all.schedule k).domain d (local_in i k n).dom other
 
 -- and in its own slot it is as its steps leave it
@@ -34,7 +34,7 @@ module _ (i : Image) (r : Separated i) (Q : Own → Dom → Type 0)
 
   -- of the domain that runs
   running_in : (k n : ℕ) → AtSlot k → Q (own_of i (entry_of_slot i.all.schedule k).domain) (local_in i k n).dom
-  unfolding switch_by guarded with_hart at put
+  unfolding switch_by switch_on guarded with_hart at put
   running_in k n before =
       let d = (entry_of_slot i.all.schedule k).domain in
       steps_by (setting i.all.hardware (own_of i d) false) (slot_end i.all.schedule k) (λ (s : Local). Q (own_of i d) s.dom)

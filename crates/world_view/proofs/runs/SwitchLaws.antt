@@ -13,7 +13,7 @@ use Rattle.cache_sharing.specs.Sharing.{IsOwnLine, AreApart, BesideTouched}
 use Rattle.sched_table.specs.Schedule.{entry_of_slot, outgoing}
 use Rattle.world_view.specs.Kernel.{layout}
 use Rattle.world_view.specs.Cost.{hierarchy, region, own_colour}
-use Rattle.world_view.specs.Machine.{with_hart, caches_of, Local, World, leave_part, prefetch_part, flush_part, enter_part, leave_by, prefetch_by, flush_by, switch_work_by, switch_work, guarded, dom_of, part_of, switch_by, switch, alone_enter, alone_out}
+use Rattle.world_view.specs.Machine.{with_hart, caches_of, Local, World, leave_part, prefetch_part, flush_part, enter_part, leave_by, prefetch_by, flush_by, switch_work_by, switch_work, guarded, dom_of, part_of, switch_on, alone_enter, alone_out}
 use Rattle.world_view.specs.Laws.{SwitchWorkLaw, BootWorkLaw}
 use Rattle.world_view.specs.Relations.{IsDomain, SameFrames, SameSets, OwnDirty, IsKernel, AreParties, left_colours, Within, Apiece, InTime}
 use Rattle.world_view.proofs.opening.Separate.{Separated}
@@ -21,6 +21,7 @@ use Rattle.world_view.proofs.opening.OpeningFacts.{kernel_of, parties_of}
 use Rattle.world_view.proofs.touches.KernelTouches.{leave_may, enter_may}
 use Rattle.world_view.proofs.touches.CostLaws.{own_lines, own_dirties, prefetch_others, flush_others, prefetch_dirties, flush_beside}
 use Rattle.world_view.proofs.time.TimeLaws.{switch_on_start}
+use Rattle.world_view.proofs.runs.SwitchParts.{caches-with}
 use Rattle.world_view.proofs.runs.PartyLaws.{others_leave, others_enter, settled}
 
 -- ---- its parts
@@ -122,62 +123,63 @@ module _ (i : Image) (r : Separated i) (d : ℕ) (is : IsDomain i d) where
       ∙ others_enter p (own_of i d) (own_of i n) (left out c) (parties_of i r d n is named (λ q. other (sym q)))
       (prepared_dirty p (own_colour (own_of i n)) (leave_by (guarded i) i out c).caches) s own
 
-module _ (i : Image) (r : Separated i) (k d : ℕ) (is : IsDomain i d) (w : World) (a : Local) where
+module _ (i : Image) (r : Separated i) (h k d : ℕ) (is : IsDomain i d) (w : World) (a : Local) where
   -- into another, after whatever left the caches so
   switch_away : (entry_of_slot i.all.schedule k).domain ≢ d → (dom_of w d ≡ a.dom) → SameFrames i.all.hardware (own_of i d) w.storage.mem a.storage.mem
-      → SameSets i.all.hardware (own_of i d) (left i r d is (outgoing i.all.schedule k) (caches_of 0 w)) a.caches
-      → Apiece i.all.hardware (own_of i d) (part_of 0 d (switch i k w)) a
-  unfolding switch_by guarded with_hart at put
+      → SameSets i.all.hardware (own_of i d) (left i r d is (outgoing i.all.schedule k) (caches_of h w)) a.caches
+      → Apiece i.all.hardware (own_of i d) (part_of h d (switch_on (guarded i) i h k w)) a
+  unfolding switch_on guarded with_hart
   switch_away other dom frames same =
       let es = i.all.schedule in
-      let past = others_entered i r d is (entry_of_slot es k).domain (outgoing es k) (caches_of 0 w) (r.named k) other in
+      let past = others_entered i r d is (entry_of_slot es k).domain (outgoing es k) (caches_of h w) (r.named k) other in
       record { dom = dom; part = record { frames = frames; sets = λ s own. past s own ∙ same s own } }
 
   -- a switch between others
-  pub switch_past : InTime i k w → outgoing i.all.schedule k ≢ Some d → (entry_of_slot i.all.schedule k).domain ≢ d
-      → Apiece i.all.hardware (own_of i d) (part_of 0 d w) a → Apiece i.all.hardware (own_of i d) (part_of 0 d (switch i k w)) a
-  switch_past time out other h =
-      switch_away other h.dom h.part.frames (λ s own. others_left i r d is k (caches_of 0 w) out time.dirty s own ∙ h.part.sets s own)
+  pub switch_past : InTime i h k w → outgoing i.all.schedule k ≢ Some d → (entry_of_slot i.all.schedule k).domain ≢ d
+      → Apiece i.all.hardware (own_of i d) (part_of h d w) a → Apiece i.all.hardware (own_of i d) (part_of h d (switch_on (guarded i) i h k w)) a
+  switch_past time out other near =
+      switch_away other near.dom near.part.frames (λ s own. others_left i r d is k (caches_of h w) out time.dirty s own ∙ near.part.sets s own)
 
   -- into it, after whatever left the caches so
-  switch_to : InTime i k w → (entry_of_slot i.all.schedule k).domain ≡ d → (dom_of w d ≡ a.dom) → SameFrames i.all.hardware (own_of i d) w.storage.mem a.storage.mem
-      → SameSets i.all.hardware (own_of i d) (left i r d is (outgoing i.all.schedule k) (caches_of 0 w)) a.caches
-      → Within i.all.hardware (own_of i d) (part_of 0 d (switch i k w)) (alone_enter i.all (own_of i d) k a)
-  unfolding switch_by guarded alone_enter left with_hart at put
+  switch_to : InTime i h k w → (entry_of_slot i.all.schedule k).domain ≡ d → (dom_of w d ≡ a.dom) → SameFrames i.all.hardware (own_of i d) w.storage.mem a.storage.mem
+      → SameSets i.all.hardware (own_of i d) (left i r d is (outgoing i.all.schedule k) (caches_of h w)) a.caches
+      → Within i.all.hardware (own_of i d) (part_of h d (switch_on (guarded i) i h k w)) (alone_enter i.all (own_of i d) k a)
+  unfolding switch_on guarded alone_enter left with_hart
   switch_to time e dom frames same =
       let p = i.all.hardware in
       let out = outgoing i.all.schedule k in
-      let n = entered p (own_of i d) (kernel_of i r d is) (leave_by (guarded i) i out (caches_of 0 w)).caches a.caches same in
-      let work : (switch_work i out (entry_of_slot i.all.schedule k).domain (caches_of 0 w)).caches ≡ (enter_part (hierarchy p) false (layout p (own_of i d)) (left i r d is out (caches_of 0 w))).caches =
-      ap (λ (x : ℕ). (switch_work i out x (caches_of 0 w)).caches) e ∙ work_is i r d is out d (caches_of 0 w) in
+      let n = entered p (own_of i d) (kernel_of i r d is) (leave_by (guarded i) i out (caches_of h w)).caches a.caches same in
+      let work : (switch_work i out (entry_of_slot i.all.schedule k).domain (caches_of h w)).caches ≡ (enter_part (hierarchy p) false (layout p (own_of i d)) (left i r d is out (caches_of h w))).caches =
+      ap (λ (x : ℕ). (switch_work i out x (caches_of h w)).caches) e ∙ work_is i r d is out d (caches_of h w) in
       record {
         dom = dom;
         part = record { frames = frames; sets = λ s own. ap (λ (c : Caches). set_at (hierarchy p).l2.ways c.l2 s) work ∙ n.caches.l2.same s own };
-        core = ap (λ (c : Caches). c.core) work ∙ n.caches.core;
-        clock = switch_on_start i r k w (r.padded k) time;
+        core = ap (λ (c : Caches). c.core) (caches-with h w _ _ ∙ work) ∙ n.caches.core;
+        clock = switch_on_start i r h k w (r.padded k) time;
       }
 
-  pub switch_in : InTime i k w → outgoing i.all.schedule k ≢ Some d → (entry_of_slot i.all.schedule k).domain ≡ d
-      → Apiece i.all.hardware (own_of i d) (part_of 0 d w) a
-      → Within i.all.hardware (own_of i d) (part_of 0 d (switch i k w)) (alone_enter i.all (own_of i d) k a)
-  switch_in time out e h = switch_to time e h.dom h.part.frames (λ s own. others_left i r d is k (caches_of 0 w) out time.dirty s own ∙ h.part.sets s own)
+  pub switch_in : InTime i h k w → outgoing i.all.schedule k ≢ Some d → (entry_of_slot i.all.schedule k).domain ≡ d
+      → Apiece i.all.hardware (own_of i d) (part_of h d w) a
+      → Within i.all.hardware (own_of i d) (part_of h d (switch_on (guarded i) i h k w)) (alone_enter i.all (own_of i d) k a)
+  switch_in time out e near =
+      switch_to time e near.dom near.part.frames (λ s own. others_left i r d is k (caches_of h w) out time.dirty s own ∙ near.part.sets s own)
 
 -- from it to another
-pub switch_out : (i : Image) (r : Separated i) (k d : ℕ) (is : IsDomain i d) (w : World) (a : Local) → InTime i k w
+pub switch_out : (i : Image) (r : Separated i) (h k d : ℕ) (is : IsDomain i d) (w : World) (a : Local) → InTime i h k w
     → outgoing i.all.schedule k ≡ Some d → (entry_of_slot i.all.schedule k).domain ≢ d
-    → Within i.all.hardware (own_of i d) (part_of 0 d w) a
-    → Apiece i.all.hardware (own_of i d) (part_of 0 d (switch i k w)) (alone_out i.all.hardware (own_of i d) a)
+    → Within i.all.hardware (own_of i d) (part_of h d w) a
+    → Apiece i.all.hardware (own_of i d) (part_of h d (switch_on (guarded i) i h k w)) (alone_out i.all.hardware (own_of i d) a)
 unfolding alone_out
-switch_out i r k d is w a time out other h =
-    switch_away i r k d is w (alone_out i.all.hardware (own_of i d) a) other h.dom h.part.frames
-    (own_left i r d is k (caches_of 0 w) a out h.core time.dirty h.part.sets)
+switch_out i r h k d is w a time out other near =
+    switch_away i r h k d is w (alone_out i.all.hardware (own_of i d) a) other near.dom near.part.frames
+    (own_left i r d is k (caches_of h w) a out near.core time.dirty near.part.sets)
 
 -- from it to itself
-pub switch_both : (i : Image) (r : Separated i) (k d : ℕ) (is : IsDomain i d) (w : World) (a : Local) → InTime i k w
+pub switch_both : (i : Image) (r : Separated i) (h k d : ℕ) (is : IsDomain i d) (w : World) (a : Local) → InTime i h k w
     → outgoing i.all.schedule k ≡ Some d → (entry_of_slot i.all.schedule k).domain ≡ d
-    → Within i.all.hardware (own_of i d) (part_of 0 d w) a
-    → Within i.all.hardware (own_of i d) (part_of 0 d (switch i k w)) (alone_enter i.all (own_of i d) k (alone_out i.all.hardware (own_of i d) a))
+    → Within i.all.hardware (own_of i d) (part_of h d w) a
+    → Within i.all.hardware (own_of i d) (part_of h d (switch_on (guarded i) i h k w)) (alone_enter i.all (own_of i d) k (alone_out i.all.hardware (own_of i d) a))
 unfolding alone_out
-switch_both i r k d is w a time out e h =
-    switch_to i r k d is w (alone_out i.all.hardware (own_of i d) a) time e h.dom h.part.frames
-    (own_left i r d is k (caches_of 0 w) a out h.core time.dirty h.part.sets)
+switch_both i r h k d is w a time out e near =
+    switch_to i r h k d is w (alone_out i.all.hardware (own_of i d) a) time e near.dom near.part.frames
+    (own_left i r d is k (caches_of h w) a out near.core time.dirty near.part.sets)

@@ -1,6 +1,7 @@
 -- A switch's work is the touches of its parts, one after the other.
 use Rattle.std.proofs.Common.{◌≡◌, ◌∙◌, ℕ, Bool, true, false, List, [], ◌∷◌, ◌++◌, Option, Some, None, ap, ap₂, refl, arith}
 use Rattle.std.specs.Prelude.{if◌then◌else◌}
+use Rattle.tp_base.specs.Table.{at, put, at-put_same}
 use Rattle.mem_system.specs.Cost.{Touch, EmptyTlb, Flush, Caches, at_no_cost, and_then, touched, touched_all}
 use Rattle.kernel_clone.specs.Footprints.{Layout}
 use Rattle.mem_system.proofs.Touches.{touched_all-append}
@@ -11,7 +12,7 @@ use Rattle.image_check.specs.Own.{Own}
 use Rattle.image_check.specs.Image.{Image, own_of}
 use Rattle.world_view.specs.Kernel.{layout}
 use Rattle.world_view.specs.Cost.{hierarchy, region}
-use Rattle.world_view.specs.Machine.{Guards, guarded, clone_of, clone_by, prefetch_part, flush_part, enter_part, leave_by, prefetch_by, flush_by, switch_work_by, switch_work}
+use Rattle.world_view.specs.Machine.{Hart, World, no_hart, hart_of, caches_of, clock_of, with_hart, Guards, guarded, clone_of, clone_by, prefetch_part, flush_part, enter_part, leave_by, prefetch_by, flush_by, switch_work_by, switch_work}
 
 pub region_is : (p : Hardware) (o : Own) → shared_region (layout p o) ≡ region p
 unfolding region shared_region layout
@@ -55,6 +56,19 @@ module _ (g : Guards) (i : Image) where
       let emptied : Touch = if g.flush then Flush else EmptyTlb in
       rw (same, leave_is out c, loads_is g.prefetch (touched_all h false c left).caches, emptied_is g.flush (touched_all h false (touched_all h false c left).caches loads).caches, touched_all-append h false c left (loads ++ emptied ∷ enter l), touched_all-append h false (touched_all h false c left).caches loads (emptied ∷ enter l))
       (ap₂ (λ (x : ℕ) (y : Caches). record { cost = x; caches = y }) (omega arith) refl)
+
+-- ---- a hart, after what was done on it
+
+pub hart-with : (h : ℕ) (w : World) (c : Caches) (t : ℕ) → hart_of h (with_hart h w c t) ≡ record (hart_of h w) { core = c.core; clock = t }
+unfolding with_hart
+hart-with h w c t = at-put_same no_hart w.harts h _
+
+pub caches-with : (h : ℕ) (w : World) (c : Caches) (t : ℕ) → caches_of h (with_hart h w c t) ≡ c
+unfolding with_hart
+caches-with h w c t = ap (λ (x : Hart). record { core = x.core; l2 = c.l2 }) (hart-with h w c t)
+
+pub clock-with : (h : ℕ) (w : World) (c : Caches) (t : ℕ) → clock_of h (with_hart h w c t) ≡ t
+clock-with h w c t = ap (λ (x : Hart). x.clock) (hart-with h w c t)
 
 -- ---- with all on
 

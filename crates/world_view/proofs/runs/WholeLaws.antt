@@ -1,20 +1,18 @@
 -- The whole machine beside each domain alone, slot after slot.
 use Rattle.std.proofs.Common.{◌≡◌, ◌≢◌, ℕ, Bool, true, false, eqb, zero, suc, ◌-◌, ◌<◌, length, get_or, List, [], ◌∷◌, ap, ap₂, sym, ◌∙◌, refl, subst, arith, true≢false, eqb-true, eq-eqb, map}
-use Rattle.std.proofs.lemmas.Option.{same_Some}
-use Rattle.std.specs.Prelude.{Some}
 use Rattle.tp_base.specs.Table.{at, put, at-put_other, at-put_same}
 use Rattle.hardware_check.specs.Hardware.{Hardware}
 use Rattle.image_check.specs.Public.{Public}
 use Rattle.image_check.specs.Own.{Own}
 use Rattle.image_check.specs.Image.{Image, own_of}
 use Rattle.world_view.specs.Frames.{pool}
-use Rattle.sched_table.specs.Schedule.{entry_of_slot, slot_end, outgoing}
+use Rattle.sched_table.specs.Schedule.{entry_of_slot, slot_end}
 use Rattle.phys_mem.specs.Mem.{frame_at}
 use Rattle.world_view.specs.Opening.{frame_words}
 use Rattle.call_table.specs.Domain.{Dom}
 use Rattle.world_view.specs.Kernel.{no_dom}
 use Rattle.world_view.specs.Event.{Storage}
-use Rattle.world_view.specs.Machine.{with_hart, setting, Local, steps, stretch, dom_of, part_of, with_part, switch, opening, whole, alone_opening, alone_enter, alone_in, alone_out, alone_if, alone, guarded, own_slot, run_slot_by, whole_by, with_end}
+use Rattle.world_view.specs.Machine.{with_hart, setting, Local, steps, stretch, dom_of, part_of, with_part, switch, opening, whole, alone_opening, alone_enter, alone_in, alone_out, alone_if, alone, guarded, own_slot, run_slot_by, switch_by, whole_by, with_end}
 use Rattle.world_view.specs.View.{view, view_whole, view_alone}
 use Rattle.world_view.specs.Relations.{IsDomain, SameFrames, IsKernel, HasFacts, OwnDirty, Resident, Beside, Within, Apiece, Agree}
 use Rattle.world_view.proofs.opening.PoolLaws.{own_at_place}
@@ -27,17 +25,7 @@ use Rattle.world_view.proofs.facts.KernelSets.{slots_dirty}
 use Rattle.world_view.proofs.time.TimeLaws.{in_time}
 use Rattle.world_view.proofs.opening.OpeningLaws.{opening_dom_is, opening_frames}
 use Rattle.world_view.proofs.runs.PartyLaws.{others_steps}
-use Rattle.world_view.proofs.runs.SwitchLaws.{switch_past, switch_out, switch_in, switch_both}
-
--- in the last slot of the domain, before it leaves; or outside its slots
-abbrev JoinedIf : Image → ℕ → ℕ → Bool → Type 0
-JoinedIf i d k true = Within i.all.hardware (own_of i d) (part_of 0 d (whole i (suc k))) (alone_in i.all (own_of i d) k (alone i.all (own_of i d) d k))
-JoinedIf i d k false = Apiece i.all.hardware (own_of i d) (part_of 0 d (whole i (suc k))) (alone i.all (own_of i d) d k)
-
--- the whole machine after k slots, beside the domain alone
-abbrev Joined : Image → ℕ → ℕ → Type 0
-Joined i d zero = Apiece i.all.hardware (own_of i d) (part_of 0 d (whole i 0)) (alone i.all (own_of i d) d 0)
-Joined i d (suc k) = JoinedIf i d k (eqb (entry_of_slot i.all.schedule k).domain d)
+use Rattle.world_view.proofs.runs.Joined.{JoinedIf, Joined, another_enters, it_enters, seen}
 
 module _ (i : Image) (r : Separated i) where
   -- the domain's own slot: steps from states that are beside
@@ -99,66 +87,27 @@ module _ (i : Image) (r : Separated i) where
       }
 
   module _ (d : ℕ) (is : IsDomain i d) where
-    leaves_as : (k : ℕ) → eqb (entry_of_slot i.all.schedule k).domain d ≡ true → outgoing i.all.schedule (suc k) ≡ Some d
-    leaves_as k t = ap Some (eqb-true (entry_of_slot i.all.schedule k).domain d t)
-
-    leaves_not : (k : ℕ) → eqb (entry_of_slot i.all.schedule k).domain d ≡ false → outgoing i.all.schedule (suc k) ≢ Some d
-    leaves_not k t q = true≢false (sym (eq-eqb (entry_of_slot i.all.schedule k).domain d (same_Some _ _ q)) ∙ t)
-
-    -- after the leave, if any, where another enters
-    left_if : (k : ℕ) (b : Bool) → eqb (entry_of_slot i.all.schedule k).domain d ≡ b → (entry_of_slot i.all.schedule (suc k)).domain ≢ d → JoinedIf i d k b
-        → Apiece i.all.hardware (own_of i d) (part_of 0 d (switch i (suc k) (whole i (suc k)))) (alone_if i.all (own_of i d) k (alone i.all (own_of i d) d k) b)
-    unfolding alone_if
-    left_if k true t ne j = switch_out i r (suc k) d is (whole i (suc k)) (alone_in i.all (own_of i d) k (alone i.all (own_of i d) d k)) (in_time i r (suc k)) (leaves_as k t) ne j
-    left_if k false t ne j = switch_past i r (suc k) d is (whole i (suc k)) (alone i.all (own_of i d) d k) (in_time i r (suc k)) (leaves_not k t) ne j
-
-    switched : (k : ℕ) → (entry_of_slot i.all.schedule k).domain ≢ d → Joined i d k → Apiece i.all.hardware (own_of i d) (part_of 0 d (switch i k (whole i k))) (alone i.all (own_of i d) d k)
-    unfolding alone
-    switched zero ne j = switch_past i r 0 d is (whole i 0) (alone i.all (own_of i d) d 0) (in_time i r 0) (λ q. absurd (cc q)) ne j
-    switched (suc k) ne j = left_if k _ refl ne j
-
-    enter_if : (k : ℕ) (b : Bool) → eqb (entry_of_slot i.all.schedule k).domain d ≡ b → (entry_of_slot i.all.schedule (suc k)).domain ≡ d → JoinedIf i d k b
-        → Within i.all.hardware (own_of i d) (part_of 0 d (switch i (suc k) (whole i (suc k)))) (alone_enter i.all (own_of i d) (suc k) (alone_if i.all (own_of i d) k (alone i.all (own_of i d) d k) b))
-    unfolding alone_if
-    enter_if k true t e j = switch_both i r (suc k) d is (whole i (suc k)) _ (in_time i r (suc k)) (leaves_as k t) e j
-    enter_if k false t e j = switch_in i r (suc k) d is (whole i (suc k)) _ (in_time i r (suc k)) (leaves_not k t) e j
-
-    entered : (k : ℕ) → (entry_of_slot i.all.schedule k).domain ≡ d → Joined i d k
-        → Within i.all.hardware (own_of i d) (part_of 0 d (switch i k (whole i k))) (alone_enter i.all (own_of i d) k (alone i.all (own_of i d) d k))
-    unfolding alone
-    entered zero e j = switch_in i r 0 d is (whole i 0) _ (in_time i r 0) (λ q. absurd (cc q)) e j
-    entered (suc k) e j = enter_if k _ refl e j
-
-    next_if : (k : ℕ) (b : Bool) → eqb (entry_of_slot i.all.schedule k).domain d ≡ b → Joined i d k → JoinedIf i d k b
+    next_if : (k : ℕ) (b : Bool) → eqb (entry_of_slot i.all.schedule k).domain d ≡ b → Joined i d k (part_of 0 d (whole i k))
+        → JoinedIf i d k b (part_of 0 d (whole i (suc k)))
+    unfolding switch_by
     next_if k true t j =
         let e : (entry_of_slot i.all.schedule k).domain ≡ d = eqb-true (entry_of_slot i.all.schedule k).domain d t in
-        slot_own k d (alone i.all (own_of i d) d k) is e (entered k e j)
+        slot_own k d (alone i.all (own_of i d) d k) is e (it_enters i r d is 0 (whole i k) k e (in_time i r k) j)
     next_if k false t j =
         let ne : (entry_of_slot i.all.schedule k).domain ≢ d = λ q. true≢false (sym (eq-eqb (entry_of_slot i.all.schedule k).domain d q) ∙ t) in
-        others_slot k d (alone i.all (own_of i d) d k) is ne (switched k ne j)
+        others_slot k d (alone i.all (own_of i d) d k) is ne (another_enters i r d is 0 (whole i k) k ne (in_time i r k) j)
 
-    joined : (k : ℕ) → Joined i d k
+    joined : (k : ℕ) → Joined i d k (part_of 0 d (whole i k))
     unfolding whole_by alone alone_opening opening with_hart at put
     joined zero = record { dom = opening_dom_is i r d is; part = record { frames = opening_frames i r d is; sets = λ s own. refl } }
     joined (suc k) = next_if k _ refl (joined k)
-
-    seen_if : (k : ℕ) (b : Bool) → JoinedIf i d k b → (dom_of (whole i (suc k)) d ≡ (alone_if i.all (own_of i d) k (alone i.all (own_of i d) d k) b).dom) × SameFrames i.all.hardware (own_of i d) (whole i (suc k)).storage.mem (alone_if i.all (own_of i d) k (alone i.all (own_of i d) d k) b).storage.mem
-    unfolding alone_if alone_out
-    seen_if k true j = (j.dom, j.part.frames)
-    seen_if k false j = (j.dom, j.part.frames)
-
-    -- its state and its frames are those of the domain alone
-    seen : (k : ℕ) → Joined i d k → (dom_of (whole i k) d ≡ (alone i.all (own_of i d) d k).dom) × SameFrames i.all.hardware (own_of i d) (whole i k).storage.mem (alone i.all (own_of i d) d k).storage.mem
-    unfolding alone
-    seen zero j = (j.dom, j.part.frames)
-    seen (suc k) j = seen_if k _ j
 
 -- what agrees on each item gives the same list
 same_map : {B : Type 0} (f g : ℕ → B) (xs : List ℕ) → ((n : ℕ) → n < length xs → f (get_or xs n 0) ≡ g (get_or xs n 0)) → map f xs ≡ map g xs
 same_map f g [] same = refl
 same_map f g (x ∷ xs) same = ap₂ (λ y ys. y ∷ ys) (same 0 (omega arith)) (same_map f g xs (λ n h. same (suc n) (omega (arith, h))))
 
-same_view : (p : Hardware) (o : Own) (d e : Dom) (s t : Storage) → d ≡ e → SameFrames p o s.mem t.mem → view p o d s ≡ view p o e t
+pub same_view : (p : Hardware) (o : Own) (d e : Dom) (s t : Storage) → d ≡ e → SameFrames p o s.mem t.mem → view p o d s ≡ view p o e t
 unfolding view
 same_view p o d e s t dom frames =
     let same = same_map (λ f. frame_words (frame_at s.mem f)) (λ f. frame_words (frame_at t.mem f)) (pool p o) (λ n h. ap frame_words (frames _ (own_at_place p o n h))) in
@@ -167,7 +116,7 @@ same_view p o d e s t dom frames =
 pub isolated : (i : Image) (d n : ℕ) → Separated i → IsDomain i d → view_whole i d n ≡ view_alone i.all (own_of i d) d n
 unfolding view_whole view_alone
 isolated i d n r is =
-    let h = seen i r d is n (joined i r d is n) in
+    let h = seen i r d is n (part_of 0 d (whole i n)) (joined i r d is n) in
     same_view i.all.hardware (own_of i d) _ _ _ _ h.0 h.1
 
 pub two_runs : (i j : Image) (d n : ℕ) → Separated i → Separated j → IsDomain i d → Agree i j d → view_whole i d n ≡ view_whole j d n

@@ -31,7 +31,7 @@ use Rattle.kernel_clone.specs.Footprints.{Layout}
 use Rattle.world_view.specs.Kernel.{opening_dom, estate, layout, no_dom}
 use Rattle.mem_system.specs.Cost.{Touched}
 use Rattle.world_view.specs.Event.{Storage, Act, frame_or_stop, translate, unless, store, settle, computed, loaded, noted, guessed, execute, timed, perform, instruction, interrupts_of, idle_until, event}
-use Rattle.world_view.specs.Machine.{with_hart, caches_of, clock_of, Setting, setting, Local, paid, delivered, happened, step, stretch, World, dom_of, part_of, with_part, switch_work, switch, run_slot, whole, guarded, own_slot, run_slot_by, switch_by, whole_by, with_end}
+use Rattle.world_view.specs.Machine.{with_hart, caches_of, clock_of, Setting, setting, Local, paid, delivered, happened, step, stretch, World, dom_of, part_of, with_part, switch_work, switch, run_slot, whole, guarded, own_slot, run_slot_by, switch_by, switch_on, whole_by, with_end}
 use Rattle.world_view.specs.Relations.{IsDomain}
 use Rattle.world_view.proofs.opening.Separate.{Separated}
 use Rattle.world_view.proofs.opening.OpeningLaws.{at-tabled, at-tabled_past, opening_dom_is}
@@ -230,23 +230,23 @@ module _ (i : Image) (k : ℕ) (w : World) where
   work = switch_work i (outgoing i.all.schedule k) (entry_of_slot i.all.schedule k).domain (caches_of 0 w)
 
   pub switch-doms : (switch i k w).doms ≡ w.doms
-  unfolding switch_by guarded with_hart at put
+  unfolding switch_by switch_on guarded with_hart at put
   switch-doms = refl
 
   pub switch-storage : (switch i k w).storage ≡ w.storage
-  unfolding switch_by guarded with_hart at put
+  unfolding switch_by switch_on guarded with_hart at put
   switch-storage = refl
 
   pub switch-caches : caches_of 0 (switch i k w) ≡ work.caches
-  unfolding switch_by guarded with_hart at put
+  unfolding switch_by switch_on guarded with_hart at put
   switch-caches = refl
 
   pub switch-clock : clock_of 0 (switch i k w) ≡ max (clock_of 0 w + work.cost) (start i.all.schedule k)
-  unfolding switch_by guarded with_hart at put
+  unfolding switch_by switch_on guarded with_hart at put
   switch-clock = refl
 
   pub switch-used : (switch i k w).used ≡ w.used ++ (switch_entry i.all.schedule k, (clock_of 0 w + work.cost) - last_end i.all.schedule k) ∷ []
-  unfolding switch_by guarded with_hart at put
+  unfolding switch_by switch_on guarded with_hart at put
   switch-used = refl
 
   -- the domain of slot k as it begins, and as it ends

@@ -163,7 +163,7 @@ module _ (p : Hardware) (o : Own) (kernel : IsKernel p o) where
       (own_dirties p o kernel pinned (step_touches p o end s) s.caches (step_may end s facts) dirty)
 
   -- what is shared stays in place
-  step_resident : (end : ℕ) (s : Local) → HasFacts p o s.dom s.storage → Resident p s.caches
+  pub step_resident : (end : ℕ) (s : Local) → HasFacts p o s.dom s.storage → Resident p s.caches
       → Resident p (step (setting p o false) end s).caches
   step_resident end s facts resident =
       subst (Resident p) (sym (step_caches p o false end s))

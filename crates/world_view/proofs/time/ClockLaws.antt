@@ -12,7 +12,7 @@ use Rattle.hardware_check.specs.Hardware.{Hardware, IsHardware}
 use Rattle.image_check.specs.Image.{Image, own_of}
 use Rattle.sched_table.specs.Schedule.{entry_of_slot, start, slot_end, last_end}
 use Rattle.sched_table.proofs.Starts.{soon_law}
-use Rattle.world_view.specs.Machine.{part_of, switch, whole}
+use Rattle.world_view.specs.Machine.{part_of, switch_by, switch, whole}
 use Rattle.image_check.specs.Laws.{Runnable}
 use Rattle.world_view.specs.Cost.{}
 use Rattle.world_view.specs.Relations.{own_shape, largest_step, bound, ended_own}
@@ -92,6 +92,7 @@ module _ (i : Image) (r : Runnable i) where
       omega (arith, before, slot)
 
   pub clocks_fit : (k : ℕ) → k ≤ 65536 → ClocksFit i k
+  unfolding switch_by
   clocks_fit k few =
       let p = i.all.hardware in
       let es = i.all.schedule in
@@ -103,7 +104,7 @@ module _ (i : Image) (r : Runnable i) where
       let slot = slot_short k in
       let largest = step_small p r.hardware (ended_own i k) in
       let most = bound_small p r.hardware (ended_own i k) in
-      let used = used_in_bound i (separated i r) k w time in
+      let used = used_in_bound i (separated i r) 0 k w time in
       let on = on_time i (separated i r) k in
       let timed = (separated i r).timed in
       let base = timed.base in
@@ -118,6 +119,6 @@ module _ (i : Image) (r : Runnable i) where
         begins = omega (arith, first, few);
         ends = omega (arith, first, slot, few);
         within = λ n.
-            let clock = (steps_soon p timed (own_of i d) false (slot_end es k) n begun (record { clock = early; ways = switch_ways i k w time.ways })).clock in
+            let clock = (steps_soon p timed (own_of i d) false (slot_end es k) n begun (record { clock = early; ways = switch_ways i 0 k w time.ways })).clock in
             omega (arith, clock, first, slot, own_step, few);
       }

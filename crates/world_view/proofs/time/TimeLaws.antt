@@ -23,7 +23,7 @@ use Rattle.world_view.specs.Kernel.{estate, layout}
 use Rattle.world_view.specs.Cost.{hierarchy, region}
 use Rattle.world_view.specs.Event.{Event, event, instruction, delivery_touches}
 use Rattle.world_view.specs.Event.Event.{Jump, Deliver, Run}
-use Rattle.world_view.specs.Machine.{with_hart, caches_of, clock_of, setting, Local, World, paid, delivered, happened, step, steps, stretch, clone_of, switch_work, with_part, part_of, switch, opening, whole, guarded, own_slot, run_slot_by, switch_by, whole_by, with_end}
+use Rattle.world_view.specs.Machine.{with_hart, caches_of, clock_of, setting, Local, World, paid, delivered, happened, step, steps, stretch, clone_of, switch_work, with_part, part_of, switch, opening, whole, guarded, own_slot, run_slot_by, switch_by, switch_on, whole_by, with_end}
 use Rattle.world_view.specs.Used.{largest_of}
 use Rattle.world_view.specs.Relations.{own_shape, largest_step, bound, ended_own, InTime, AllWithinPads}
 use Rattle.world_view.proofs.opening.Separate.{Separated}
@@ -31,7 +31,7 @@ use Rattle.world_view.specs.Laws.{local_in}
 use Rattle.world_view.specs.EventLaws.{EndsBy, next_instruction, StepCostLaw, PlainCostLaw}
 use Rattle.world_view.proofs.steps.Fuel.{IsTimed, StaysWithin, event_within, step_later, steps_by, one_more_by}
 use Rattle.world_view.proofs.time.ActCosts.{instruction_within, delivery_within, plain_within}
-use Rattle.world_view.proofs.runs.SwitchParts.{all_touches, switch_is}
+use Rattle.world_view.proofs.runs.SwitchParts.{all_touches, switch_is, caches-with, clock-with}
 use Rattle.world_view.proofs.facts.KernelSets.{leave_any, who_leaves, any_sharing, between_clean, between_dirty}
 
 -- ---- a step, from any caches
@@ -94,7 +94,7 @@ module _ (p : Hardware) (timed : IsTimed p) (o : Own) (pinned : Bool) (end : ℕ
       record { clock = omega (arith, below, costs); ways = (worst_law (hierarchy p) pinned ts s.caches ways).ways }
 
   -- a step that begins in time ends past the end by less than the largest step
-  step_soon : (s : Local) → s.clock < end → IsSoon s → IsSoon (step (setting p o pinned) end s)
+  pub step_soon : (s : Local) → s.clock < end → IsSoon s → IsSoon (step (setting p o pinned) end s)
   unfolding step
   step_soon s below soon = soon_if s (event o s.clock end s.dom) below soon.ways (event_within o s.clock end s.dom)
 
@@ -135,55 +135,57 @@ cold_ways p s below =
     let ways = (hierarchy p).l1d.ways in
     ap (λ (x : CacheSet). length x.places) (at-empty (fresh_set ways) s) ∙ length-replicate ways None
 
-pub switch_ways : (i : Image) (k : ℕ) (w : World) → HasWays (hierarchy i.all.hardware) (caches_of 0 w) → HasWays (hierarchy i.all.hardware) (caches_of 0 (switch i k w))
-unfolding switch_by guarded with_hart at put
-switch_ways i k w ways =
+pub switch_ways : (i : Image) (h k : ℕ) (w : World) → HasWays (hierarchy i.all.hardware) (caches_of h w) → HasWays (hierarchy i.all.hardware) (caches_of h (switch_on (guarded i) i h k w))
+unfolding switch_on guarded
+switch_ways i h k w ways =
     let p = i.all.hardware in
     let out = outgoing i.all.schedule k in
     let d = (entry_of_slot i.all.schedule k).domain in
-    let touches = worst_law (hierarchy p) false (all_touches i out d) (caches_of 0 w) ways in
-    subst (λ (r : Touched). HasWays (hierarchy p) r.caches) (sym (switch_is i out d (caches_of 0 w))) touches.ways
+    let touches = worst_law (hierarchy p) false (all_touches i out d) (caches_of h w) ways in
+    subst (HasWays (hierarchy p)) (sym (caches-with h w _ _))
+    (subst (λ (r : Touched). HasWays (hierarchy p) r.caches) (sym (switch_is i out d (caches_of h w))) touches.ways)
 
-pub used_in_bound : (i : Image) (r : Separated i) (k : ℕ) (w : World) → InTime i k w
-    → (clock_of 0 w + (switch_work i (outgoing i.all.schedule k) (entry_of_slot i.all.schedule k).domain (caches_of 0 w)).cost) - last_end i.all.schedule k ≤ bound i.all.hardware (ended_own i k)
+pub used_in_bound : (i : Image) (r : Separated i) (h k : ℕ) (w : World) → InTime i h k w
+    → (clock_of h w + (switch_work i (outgoing i.all.schedule k) (entry_of_slot i.all.schedule k).domain (caches_of h w)).cost) - last_end i.all.schedule k ≤ bound i.all.hardware (ended_own i k)
 unfolding hierarchy layout region shared_region
-used_in_bound i r k w time =
+used_in_bound i r h k w time =
     let p = i.all.hardware in
     let out = outgoing i.all.schedule k in
     let d = (entry_of_slot i.all.schedule k).domain in
-    subst (λ (r : Touched). (clock_of 0 w + r.cost) - last_end i.all.schedule k ≤ bound p (ended_own i k)) (sym (switch_is i out d (caches_of 0 w)))
-    (on_time_law (hierarchy p) any_colour false p.shared (ended_own i k).calls (last_end i.all.schedule k) (clock_of 0 w) (clone_of i out) (layout p (own_of i d))
-    (caches_of 0 w) time.ways time.clean (any_sharing i r) (leave_any i r out (who_leaves i r k)) (record { line = refl; shared = refl }) time.over time.soon)
+    subst (λ (r : Touched). (clock_of h w + r.cost) - last_end i.all.schedule k ≤ bound p (ended_own i k)) (sym (switch_is i out d (caches_of h w)))
+    (on_time_law (hierarchy p) any_colour false p.shared (ended_own i k).calls (last_end i.all.schedule k) (clock_of h w) (clone_of i out) (layout p (own_of i d))
+    (caches_of h w) time.ways time.clean (any_sharing i r) (leave_any i r out (who_leaves i r k)) (record { line = refl; shared = refl }) time.over time.soon)
 
-pub used_in_pad : (i : Image) (r : Separated i) (k : ℕ) (w : World) → bound i.all.hardware (ended_own i k) ≤ pad_of i.all.schedule k → InTime i k w
-    → (clock_of 0 w + (switch_work i (outgoing i.all.schedule k) (entry_of_slot i.all.schedule k).domain (caches_of 0 w)).cost) - last_end i.all.schedule k ≤ pad_of i.all.schedule k
-used_in_pad i r k w padded time = let used = used_in_bound i r k w time in omega (arith, padded, used)
+pub used_in_pad : (i : Image) (r : Separated i) (h k : ℕ) (w : World) → bound i.all.hardware (ended_own i k) ≤ pad_of i.all.schedule k → InTime i h k w
+    → (clock_of h w + (switch_work i (outgoing i.all.schedule k) (entry_of_slot i.all.schedule k).domain (caches_of h w)).cost) - last_end i.all.schedule k ≤ pad_of i.all.schedule k
+used_in_pad i r h k w padded time = let used = used_in_bound i r h k w time in omega (arith, padded, used)
 
 -- the next slot begins at its start
-pub switch_on_start : (i : Image) (r : Separated i) (k : ℕ) (w : World) → bound i.all.hardware (ended_own i k) ≤ pad_of i.all.schedule k → InTime i k w → clock_of 0 (switch i k w) ≡ start i.all.schedule k
-unfolding switch_by guarded with_hart at put
-switch_on_start i r k w padded time =
-    let used = used_in_pad i r k w padded time in
-    let at = pad_law i.all.schedule k in
-    omega (arith, used, at)
+pub switch_on_start : (i : Image) (r : Separated i) (h k : ℕ) (w : World) → bound i.all.hardware (ended_own i k) ≤ pad_of i.all.schedule k → InTime i h k w → clock_of h (switch_on (guarded i) i h k w) ≡ start i.all.schedule k
+unfolding switch_on guarded
+switch_on_start i r h k w padded time =
+    let used = used_in_pad i r h k w padded time in
+    let pad = pad_law i.all.schedule k in
+    clock-with h w _ _ ∙ omega (arith, used, pad)
 
 -- ---- all slots
 
 module _ (i : Image) (r : Separated i) where
   -- a slot begins before its end
-  begins_soon : (k : ℕ) → InTime i k (whole i k)
+  begins_soon : (k : ℕ) → InTime i 0 k (whole i k)
       → let d = (entry_of_slot i.all.schedule k).domain in
       IsSoon i.all.hardware r.timed (own_of i d) false (slot_end i.all.schedule k) (part_of 0 d (switch i k (whole i k)))
+  unfolding switch_by
   begins_soon k time =
       let p = i.all.hardware in
       let d = (entry_of_slot i.all.schedule k).domain in
       let begun = part_of 0 d (switch i k (whole i k)) in
-      let at = switch_on_start i r k (whole i k) (r.padded k) time in
+      let at = switch_on_start i r 0 k (whole i k) (r.padded k) time in
       let within = instruction_within p (own_of i d) 0 begun.dom begun.storage in
       let base = r.timed.base in
-      record { clock = omega (arith, at, within, base); ways = switch_ways i k (whole i k) time.ways }
+      record { clock = omega (arith, at, within, base); ways = switch_ways i 0 k (whole i k) time.ways }
 
-  slot_in_time : (k : ℕ) → InTime i k (whole i k) → InTime i (suc k) (whole i (suc k))
+  slot_in_time : (k : ℕ) → InTime i 0 k (whole i k) → InTime i 0 (suc k) (whole i (suc k))
   unfolding whole_by run_slot_by own_slot with_end guarded with_part with_hart at put
   slot_in_time k time =
       let p = i.all.hardware in
@@ -199,7 +201,7 @@ module _ (i : Image) (r : Separated i) where
         clean = between_clean i r (suc k);
       }
 
-  pub in_time : (k : ℕ) → InTime i k (whole i k)
+  pub in_time : (k : ℕ) → InTime i 0 k (whole i k)
   unfolding whole_by opening with_hart at put
   in_time zero =
       let within = instruction_within i.all.hardware (ended_own i 0) 0 (part_of 0 0 (opening i)).dom (opening i).storage in
@@ -214,7 +216,8 @@ module _ (i : Image) (r : Separated i) where
   in_time (suc k) = slot_in_time k (in_time k)
 
   pub on_time : (k : ℕ) → clock_of 0 (switch i k (whole i k)) ≡ start i.all.schedule k
-  on_time k = switch_on_start i r k (whole i k) (r.padded k) (in_time k)
+  unfolding switch_by
+  on_time k = switch_on_start i r 0 k (whole i k) (r.padded k) (in_time k)
 
   -- at each moment of a slot
   soon_in : (k n : ℕ) → IsSoon i.all.hardware r.timed (own_of i (entry_of_slot i.all.schedule k).domain) false (slot_end i.all.schedule k) (local_in i k n)
@@ -240,14 +243,14 @@ module _ (i : Image) (r : Separated i) where
       one_more_by (setting p o false) end (Timely k) (λ s early _ ways. step_costs p o false end s ways) (λ s past early ways. absurd (omega (arith, past, early)))
       n (part_of 0 (entry_of_slot i.all.schedule k).domain (switch i k (whole i k))) below (soon_in k n).ways
 
-within_append : (es : List Entry) (us vs : List (ℕ × ℕ)) → AllWithinPads es us → AllWithinPads es vs → AllWithinPads es (us ++ vs)
+pub within_append : (es : List Entry) (us vs : List (ℕ × ℕ)) → AllWithinPads es us → AllWithinPads es vs → AllWithinPads es (us ++ vs)
 within_append es [] vs h k = k
 within_append es (u ∷ us) vs h k = (h.0, within_append es us vs h.1 k)
 
 pub used_within : (i : Image) (n : ℕ) → Separated i → AllWithinPads i.all.schedule (whole i n).used
-unfolding whole_by opening run_slot_by own_slot with_end guarded with_part switch_by with_hart at put
+unfolding whole_by opening run_slot_by own_slot with_end guarded with_part switch_by switch_on with_hart at put
 used_within i zero r = tt
-used_within i (suc k) r = within_append i.all.schedule (whole i k).used _ (used_within i k r) (used_in_pad i r k (whole i k) (r.padded k) (in_time i r k), tt)
+used_within i (suc k) r = within_append i.all.schedule (whole i k).used _ (used_within i k r) (used_in_pad i r 0 k (whole i k) (r.padded k) (in_time i r k), tt)
 
 largest_if : (e largest pad : ℕ) (u : ℕ × ℕ) (b : Bool) → eqb u.0 e ≡ b → largest ≤ pad → (u.0 ≡ e → u.1 ≤ pad) → cond b (max u.1 largest) largest ≤ pad
 largest_if e largest pad u true t h k = let here = k (eqb-true u.0 e t) in omega arith
