@@ -1,0 +1,98 @@
+-- What a call finds of the hart that it names.
+use Rattle.std.proofs.Common.{◌≡◌, ◌∙◌, ℕ, ◌<◌, ◌≤◌, List, Some, [], ◌∷◌, ◌++◌, length, refl, sym, subst, arith}
+use Rattle.std.specs.Prelude.{slice_get, slice_index_or}
+use Rattle.std.proofs.lemmas.Option.{slice_get_read, same_Some}
+use Rattle.std.proofs.lemmas.List.Elements.{All-push}
+use Rattle.image_record.specs.Record.{Raw}
+use Rattle.sched_table.specs.Schedule.{harts_in}
+use Rattle.image_check.specs.Image.{Image, image_from}
+use Rattle.kernel_call.specs.declared.domain.Domain.{Domain}
+use Rattle.world_view.specs.Relations.{IsDomain}
+use Rattle.world_view.specs.Harts.{Harts, harts, slots_of, next}
+use Rattle.world_view.specs.HartLaws.{AreHartsOf}
+use Rattle.world_view.proofs.harts.Runs.{Running}
+use Rattle.world_view.proofs.harts.Isolation.{running, next_law}
+use Rattle.hart_set.specs.declared.hart.Hart.{Hart as CodeHart}
+use Rattle.hart_set.specs.declared.set.State.{State}
+use Rattle.hart_set.specs.Standing.{StandsFor, HartStands, AtHart, IsInBounds}
+use Rattle.hart_set.specs.Reached.{IsReached}
+use Rattle.hart_set.specs.Models.{image_of}
+
+pub record Called (i : Image) (t : State) (h : ℕ) (x : CodeHart) : Type 0 where
+  pub reached : IsReached i t
+  pub below : h < harts_in i.all.schedule
+  pub got : slice_get t.harts.items h ≡ Some x
+
+-- whatever the order before, it stands for the harts after one event more
+abbrev pub NextStands : Image → ℕ → State → State → Type 0
+NextStands i h t t' = (order : List ℕ) → AreHartsOf i order → StandsFor i (harts i order) t → StandsFor i (harts i (order ++ h ∷ [])) t'
+
+module _ (image : Raw) (t : State) (v : Raw × State) (view : (image, t) ≡ v) where
+  -- what the value says is so of what stands inside, and back
+  pub of_image : (P : Image → Type 0) → P (image_of v) → P (image_from image)
+  of_image P is = subst (λ (u : Raw × State). P (image_of u)) (sym view) is
+
+  pub to_image : (P : Image → Type 0) → P (image_from image) → P (image_of v)
+  to_image P is = subst (λ (u : Raw × State). P (image_of u)) view is
+
+  pub hart_below : (h : ℕ) → h < harts_in (image_of v).all.schedule → h < harts_in (image_from image).all.schedule
+  hart_below h below = of_image (λ (i : Image). h < harts_in i.all.schedule) below
+
+  pub called : (h : ℕ) → h < harts_in (image_of v).all.schedule → IsReached (image_from image) t → (x : CodeHart)
+      → x ≡ slice_index_or t.harts.items h x → Called (image_from image) t h x
+  called h below reached x read =
+      let here = hart_below h below in
+      let within : h < length t.harts.items = omega (arith, here, reached.stands.all_harts) in
+      record { reached = reached; below = here; got = slice_get_read t.harts.items (length t.harts.items) h x refl within read }
+
+  -- what holds of the image, and at the hart
+  pub value_at : (h : ℕ) (x : CodeHart) (Q : Image → CodeHart → Type 0) → slice_get t.harts.items h ≡ Some x
+      → AtHart v.1 h (Q (image_of v)) → Q (image_from image) x
+  value_at h x Q got is = subst (λ (u : Raw × State). AtHart u.1 h (Q (image_of u))) (sym view) is x got
+
+  pub at_hart : (h : ℕ) (x : CodeHart) (Q : CodeHart → Type 0) → slice_get t.harts.items h ≡ Some x → AtHart v.1 h Q → Q x
+  at_hart h x Q got is = value_at h x (λ (i : Image). Q) got is
+
+  -- and back
+  pub for_hart : (h : ℕ) (x : CodeHart) (Q : Image → CodeHart → Type 0) → slice_get t.harts.items h ≡ Some x → Q (image_from image) x
+      → AtHart v.1 h (Q (image_of v))
+  for_hart h x Q got is =
+      subst (λ (u : Raw × State). AtHart u.1 h (Q (image_of u))) view (λ y at. subst (Q (image_from image)) (same_Some x y (sym got ∙ at)) is)
+
+  -- what an event of it leaves
+  pub value_next : (h : ℕ) (t' : State) → NextStands (image_from image) h t t' → NextStands (image_of v) h v.1 t'
+  value_next h t' next_stands = subst (λ (u : Raw × State). NextStands (image_of u) h u.1 t') view next_stands
+
+-- the code's domain of this number
+pub domain_read : (i : Image) (t : State) → IsReached i t → (d : ℕ) → IsDomain i d → (n : ℕ) (y : Domain) → n ≡ d → y ≡ slice_index_or t.domains.items n y
+    → slice_get t.domains.items d ≡ Some y
+domain_read i t reached d named n y same read =
+    let within : d < length t.domains.items = omega (arith, named, reached.stands.all_domains) in
+    slice_get_read t.domains.items (length t.domains.items) d y refl within (subst (λ (e : ℕ). y ≡ slice_index_or t.domains.items e y) same read)
+
+module _ (i : Image) (t : State) (h : ℕ) (x : CodeHart) (c : Called i t h x) where
+  abbrev pub s : Harts
+  s = harts i c.reached.order
+
+  pub run : Running i c.reached.accepted s
+  run = running i c.reached.accepted c.reached.order c.reached.of_harts
+
+  pub its : HartStands i s t h x
+  its = c.reached.stands.each_hart h x c.got
+
+  pub few : slots_of h s ≤ 65536
+  few = let most = c.reached.in_bounds.few_slots h x c.got in let same = its.slots in omega (arith, most, same)
+
+  -- after an event of it, whatever the order before
+  module _ (t' : State) (next_stands : (order : List ℕ) → AreHartsOf i order → StandsFor i (harts i order) t → StandsFor i (next i h (harts i order)) t') where
+    pub pushed : NextStands i h t t'
+    pushed order of_harts stands = subst (λ (z : Harts). StandsFor i z t') (sym (next_law i order h)) (next_stands order of_harts stands)
+
+    pub reached_next : IsInBounds i t' → IsReached i t'
+    reached_next bounds = record {
+      accepted = c.reached.accepted;
+      order = c.reached.order ++ h ∷ [];
+      of_harts = All-push (λ (g : ℕ). g < harts_in i.all.schedule) c.reached.order h c.reached.of_harts c.below;
+      stands = pushed c.reached.order c.reached.of_harts c.reached.stands;
+      in_bounds = bounds;
+    }

@@ -1,0 +1,11 @@
+pub mod Others
+pub mod Running
+pub mod Beginning
+pub mod Bounds
+pub mod Called
+pub mod GoingOn
+pub mod Turning
+pub mod Starting
+pub mod ColdCores
+pub mod Seen
+pub mod Loaded

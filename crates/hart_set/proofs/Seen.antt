@@ -1,0 +1,63 @@
+-- What is seen of a domain, and what switches took, of the code's harts.
+use Rattle.std.proofs.Common.{◌≡◌, ◌∙◌, ℕ, ◌<◌, ◌≤◌, List, Some, length, inl, inr, sym, ap, subst₂, arith}
+use Rattle.std.specs.Prelude.{slice_get}
+use Rattle.std.proofs.lemmas.Option.{slice_get_cases}
+use Rattle.image_check.specs.Image.{Image, own_of}
+use Rattle.sched_table.specs.Schedule.{entry_in}
+use Rattle.sched_table.proofs.Harts.{hart_there_law}
+use Rattle.kernel_call.specs.declared.domain.Domain.{Domain}
+use Rattle.domain_open.proofs.Seen.{view_is}
+use Rattle.world_view.specs.declared.view.Used.{Used}
+use Rattle.world_view.specs.Models.{seen_of}
+use Rattle.world_view.specs.Machine.{dom_of}
+use Rattle.world_view.specs.Relations.{IsDomain}
+use Rattle.world_view.specs.Harts.{harts, start_on, hart_of_domain, view_on, view_alone_on}
+use Rattle.world_view.proofs.harts.Isolation.{hart_isolation, hart_largest}
+use Rattle.hart_set.specs.declared.hart.Hart.{Hart as CodeHart}
+use Rattle.hart_set.specs.declared.set.State.{State}
+use Rattle.hart_set.specs.Standing.{StandsFor, AtHart}
+use Rattle.hart_set.specs.Reached.{IsReached}
+
+-- a hart of the code
+record HartThere (t : State) (h : ℕ) : Type 0 where
+  hart : CodeHart
+  got : slice_get t.harts.items h ≡ Some hart
+
+hart_there : (t : State) (h : ℕ) → h < length t.harts.items → HartThere t h
+hart_there t h within = elim (slice_get_cases t.harts.items h).1 [
+  | inl is ↦ record { hart = is.0; got = is.2 }
+  | inr past ↦ let none = past.0 in absurd (omega (arith, none, within))
+]
+
+module _ (i : Image) (t : State) (c : IsReached i t) where
+  -- that of a domain
+  home_there : (d : ℕ) → HartThere t (hart_of_domain i d)
+  home_there d =
+      let below = hart_there_law i.all.schedule d c.accepted.schedule.some in
+      hart_there t (hart_of_domain i d) (omega (arith, below, c.stands.all_harts))
+
+  pub frames_are : t.memory.frames ≡ i.all.hardware.frames
+  frames_are = let there = home_there 0 in (c.stands.each_hart (hart_of_domain i 0) there.hart there.got).machine.frames
+
+  module _ (d : ℕ) (x : Domain) (got : slice_get t.domains.items d ≡ Some x) where
+    pub seen : (order : List ℕ) → StandsFor i (harts i order) t → seen_of x t.memory ≡ view_on i d (harts i order)
+    unfolding view_on
+    seen order stands =
+        let there = home_there d in
+        let holds = (stands.each_hart (hart_of_domain i d) there.hart there.got).machine.holds in
+        let is = stands.each_domain d x got in
+        let w = (harts i order).world in
+        view_is i.all.hardware (own_of i d) x is.has t.memory frames_are (dom_of w d) w.storage is.dom holds
+
+    pub seen_alone : IsDomain i d → AtHart t (hart_of_domain i d)
+        (λ y. y.clock < start_on i (hart_of_domain i d) y.slots → seen_of x t.memory ≡ view_alone_on i d y.slots)
+    seen_alone id y at early =
+        let is = c.stands.each_hart (hart_of_domain i d) y at in
+        let between = subst₂ (λ (n k : ℕ). n < start_on i (hart_of_domain i d) k) is.machine.time is.slots early in
+        seen c.order c.stands ∙ hart_isolation i d c.order c.accepted id c.of_harts between ∙ ap (view_alone_on i d) (sym is.slots)
+
+  pub used_within : (e : ℕ) (u : Used) → slice_get t.used.items e ≡ Some u → u.largest ≤ (entry_in i.all.schedule e).pad
+  used_within e u got =
+      let most = hart_largest i c.order e c.accepted c.of_harts in
+      let is = c.stands.each_entry.largest e u got in
+      omega (arith, most, is)

@@ -1,0 +1,74 @@
+-- What a hart's next switch goes by, as the code finds it.
+use Rattle.std.proofs.Common.{◌≡◌, ◌∙◌, ℕ, zero, suc, ◌<◌, List, Some, length, zero-add, refl, sym, ap, subst, arith}
+use Rattle.std.specs.Prelude.{slice_get, slice_index_or}
+use Rattle.std.specs.List.{range_with_len}
+use Rattle.std.proofs.lemmas.List.{length-map, get_or-map}
+use Rattle.std.proofs.lemmas.List.FromFn.{length-range_with_len, get_or-range_with_len}
+use Rattle.kernel_clone.specs.Models.{layout_model}
+use Rattle.sched_table.specs.declared.schedule.Entry.{Entry}
+use Rattle.sched_table.specs.declared.schedule.Turn.{Turn}
+use Rattle.sched_table.specs.Schedule.{entry_in, entry_of_slot, switch_entry, start, last_end, outgoing, entries_on, on_hart, harts_in, hart_schedules}
+use Rattle.image_check.specs.declared.public.Public.{Public as CodePublic}
+use Rattle.image_check.specs.Public.{Public}
+use Rattle.image_check.specs.Models.{public_model}
+use Rattle.image_check.specs.Image.{Image, own_of}
+use Rattle.kernel_call.specs.declared.domain.Domain.{Domain}
+use Rattle.world_view.specs.Kernel.{layout}
+use Rattle.world_view.specs.Machine.{clone_of}
+use Rattle.world_view.specs.Relations.{IsDomain}
+use Rattle.world_view.specs.Harts.{image_on}
+use Rattle.world_view.proofs.harts.OnHart.{placed_switch}
+use Rattle.hart_set.specs.declared.hart.Hart.{Hart as CodeHart}
+use Rattle.hart_set.specs.declared.set.State.{State}
+use Rattle.hart_set.specs.Turns.{IsTurn}
+use Rattle.hart_set.proofs.Called.{Called}
+
+-- ---- the schedules of all harts
+
+module _ (public : CodePublic) (p : Public) (same : public_model public ≡ p) where
+  schedules : public.harts.items ≡ hart_schedules p.schedule
+  schedules = public.each_hart ∙ ap (λ (q : Public). hart_schedules q.schedule) same
+
+  pub one_each : length public.harts.items ≡ harts_in p.schedule
+  unfolding hart_schedules
+  one_each =
+      ap (λ (xs : List (List (ℕ × Entry))). length xs) schedules ∙ length-map (range_with_len 0 (harts_in p.schedule)) (entries_on p.schedule)
+      ∙ length-range_with_len 0 (harts_in p.schedule)
+
+  pub own_entries : (h : ℕ) (placed : List (ℕ × Entry)) → h < harts_in p.schedule → placed ≡ slice_index_or public.harts.items h placed
+      → placed ≡ entries_on p.schedule h
+  unfolding hart_schedules
+  own_entries h placed below read =
+      let all = range_with_len 0 (harts_in p.schedule) in
+      let within : h < length all = let n = length-range_with_len 0 (harts_in p.schedule) in omega (arith, n, below) in
+      read ∙ ap (λ (xs : List (List (ℕ × Entry))). slice_index_or xs h placed) schedules
+      ∙ get_or-map (entries_on p.schedule) all h 0 placed within
+      ∙ ap (entries_on p.schedule) (get_or-range_with_len 0 (harts_in p.schedule) h 0 below ∙ zero-add h)
+
+-- what a hart's schedule tells is told of its entries
+pub turn_on : (es own : List Entry) (h k : ℕ) (t : Turn) → own ≡ on_hart es h → t.entry ≡ entry_of_slot own k → t.start ≡ start own k
+    → t.ended ≡ entry_in own (switch_entry own k) → t.last_end ≡ last_end own k → IsTurn (on_hart es h) k t
+turn_on es own h k t same entry begins ended last =
+    subst (λ (xs : List Entry). IsTurn xs k t) same (record { entry = entry; start = begins; ended = ended; last_end = last })
+
+-- ---- the domain whose slot was last
+
+module _ (i : Image) (t : State) (h : ℕ) (x : CodeHart) (c : Called i t h x) (ended : Entry)
+    (is : ended ≡ entry_in (on_hart i.all.schedule h) (switch_entry (on_hart i.all.schedule h) x.slots)) where
+  pub ended_named : IsDomain i ended.domain
+  ended_named =
+      let r = c.reached.accepted in
+      let placed = placed_switch i r h c.below x.slots in
+      subst (λ (e : Entry). IsDomain i e.domain) (sym (is ∙ placed.same)) (r.named _ placed.there)
+
+  pub ended_there : ended.domain < length t.domains.items
+  ended_there = let named = ended_named in let all = c.reached.stands.all_domains in omega (arith, named, all)
+
+  own_clone : (k : ℕ) → (k ≡ 0 → ⊥) → ended ≡ entry_in (on_hart i.all.schedule h) (switch_entry (on_hart i.all.schedule h) k)
+      → Some (layout i.all.hardware (own_of i ended.domain)) ≡ clone_of (image_on i h) (outgoing (on_hart i.all.schedule h) k)
+  own_clone zero some was = absurd (some refl)
+  own_clone (suc last) some was = ap (λ (e : Entry). Some (layout i.all.hardware (own_of i e.domain))) was
+
+  pub clone_before : (y : Domain) → slice_get t.domains.items ended.domain ≡ Some y → (x.slots ≡ 0 → ⊥)
+      → Some (layout_model y.layout) ≡ clone_of (image_on i h) (outgoing (on_hart i.all.schedule h) x.slots)
+  clone_before y got some = ap Some (c.reached.stands.each_domain ended.domain y got).layout ∙ own_clone x.slots some is

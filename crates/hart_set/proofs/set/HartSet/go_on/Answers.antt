@@ -1,0 +1,159 @@
+use Rattle.std.proofs.Common.{◌≡◌, ℕ, ◌+◌, ◌<◌, Some, None, ◌⊎◌, ap, add-one, slice_get, inl, inr, refl, sym, subst, arith}
+use Rattle.std.proofs.Math.ListN.{set}
+use Rattle.image_check.specs.Image.{Image, image_from}
+use Rattle.hart_set.specs.declared.hart.Hart.{Hart}
+use Rattle.hart_set.specs.declared.set.State.{State}
+use Rattle.hart_set.specs.Reached.{IsReached}
+use Rattle.hart_set.specs.Models.{image_of}
+use Rattle.hart_set.proofs.Called.{Called, NextStands, called, at_hart, value_next}
+use Rattle.hart_set.proofs.Running.{StepEnd, GoesOn, IsOver}
+use Rattle.hart_set.proofs.GoingOn.{domain_there, slot_read, before, end_fits, frames_few, runs_here, counted_here, gone_on, reached_on}
+use Rattle.hart_set.proofs.set.HartSet.go_on.Goals.{then-slot-hart, else-slot-hart}
+use Rattle.hart_set.proofs.set.HartSet.go_on.Goals as goal
+
+-- src/set/calls.rt:125:18
+pub index_mut-requires : goal.index_mut-requires
+index_mut-requires c =
+    let t = c.self.inside.state in
+    let x = c.index_mut-hart.result.now in
+    let k = called c.self.inside.image.now t c.args.self.now c.self.view_is c.args.h c.requires.hart c.self.invariant x c.index_mut-hart.ensures.value in
+    let inside = at_hart c.self.inside.image.now t c.args.self.now c.self.view_is c.args.h x _ k.got c.requires.inside in
+    let there = domain_there (image_from c.self.inside.image.now) t c.args.h x k c.args.slot inside in
+    omega (arith, there, c.from.ensures)
+
+-- ---- what it is called with
+
+call : (c : goal.After-index_mut) → Called (image_from c.self.inside.image.now) c.self.inside.state c.args.h c.index_mut-hart.result.now
+call c =
+    called c.self.inside.image.now c.self.inside.state c.args.self.now c.self.view_is c.args.h c.requires.hart c.self.invariant
+    c.index_mut-hart.result.now c.index_mut-hart.ensures.value
+
+inside : (c : goal.After-index_mut) → c.index_mut-hart.result.now.slot ≡ Some c.args.slot
+inside c =
+    at_hart c.self.inside.image.now c.self.inside.state c.args.self.now c.self.view_is c.args.h c.index_mut-hart.result.now
+    (λ x. x.slot ≡ Some c.args.slot) (call c).got c.requires.inside
+
+got : (c : goal.After-index_mut) → slice_get c.self.inside.state.domains.items c.args.slot.domain ≡ Some c.index_mut.result.now
+got c =
+    slot_read (image_from c.self.inside.image.now) c.self.inside.state c.args.h c.index_mut-hart.result.now (call c) c.args.slot (inside c)
+    c.from.result c.index_mut.result.now c.from.ensures c.index_mut.ensures.value
+
+pub step-hart-requires-clause-frames : goal.step-hart-requires-clause-frames
+step-hart-requires-clause-frames c =
+    frames_few (image_from c.self.inside.image.now) c.self.inside.state c.args.h c.index_mut-hart.result.now (call c) c.args.slot (inside c)
+
+pub step-hart-requires-clause-runs : goal.step-hart-requires-clause-runs
+step-hart-requires-clause-runs c =
+    runs_here (image_from c.self.inside.image.now) c.self.inside.state c.args.h c.index_mut-hart.result.now (call c) c.args.slot (inside c)
+    c.index_mut.result.now (got c)
+
+pub step-hart-requires-clause-before : goal.step-hart-requires-clause-before
+step-hart-requires-clause-before c =
+    before (image_from c.self.inside.image.now) c.self.inside.state c.args.h c.index_mut-hart.result.now (call c) c.args.slot (inside c)
+
+pub step-hart-requires-clause-end : goal.step-hart-requires-clause-end
+step-hart-requires-clause-end c =
+    end_fits (image_from c.self.inside.image.now) c.self.inside.state c.args.h c.index_mut-hart.result.now (call c) c.args.slot (inside c)
+
+pub step-hart-requires-clause-few : goal.step-hart-requires-clause-few
+step-hart-requires-clause-few c =
+    counted_here (image_from c.self.inside.image.now) c.self.inside.state c.args.h c.index_mut-hart.result.now (call c) c.args.slot (inside c)
+    c.index_mut.result.now (got c)
+
+-- ---- what it leaves
+
+called_then : (c : goal.Then-slot-hart) → Called (image_from c.self.inside.image.now) c.self.inside.state c.args.h c.index_mut-hart.result.now
+called_then c =
+    called c.self.inside.image.now c.self.inside.state c.args.self.now c.self.view_is c.args.h c.requires.hart c.self.invariant
+    c.index_mut-hart.result.now c.index_mut-hart.ensures.value
+
+pub overflow_add-hart : goal.overflow_add-hart
+overflow_add-hart c =
+    let few =
+    at_hart c.self.inside.image.now c.self.inside.state c.args.self.now c.self.view_is c.args.h c.index_mut-hart.result.now
+    (λ x. x.slots < 65536) (called_then c).got c.requires.slots in
+    omega (arith, few)
+
+here : (c : goal.Joined-slot-hart) → Called (image_from c.self.inside.image.now) c.self.inside.state c.args.h c.index_mut-hart.result.now
+here c =
+    called c.self.inside.image.now c.self.inside.state c.args.self.now c.self.view_is c.args.h c.requires.hart c.self.invariant
+    c.index_mut-hart.result.now c.index_mut-hart.ensures.value
+
+in_slot : (c : goal.Joined-slot-hart) → c.index_mut-hart.result.now.slot ≡ Some c.args.slot
+in_slot c =
+    at_hart c.self.inside.image.now c.self.inside.state c.args.self.now c.self.view_is c.args.h c.index_mut-hart.result.now
+    (λ x. x.slot ≡ Some c.args.slot) (here c).got c.requires.inside
+
+got_after : (c : goal.Joined-slot-hart) → slice_get c.self.inside.state.domains.items c.args.slot.domain ≡ Some c.index_mut.result.now
+got_after c =
+    slot_read (image_from c.self.inside.image.now) c.self.inside.state c.args.h c.index_mut-hart.result.now (here c) c.args.slot (in_slot c)
+    c.from.result c.index_mut.result.now c.from.ensures c.index_mut.ensures.value
+
+abbrev left : (c : goal.Joined-slot-hart) → StepEnd
+left c = record {
+  memory = c.step-hart.new.memory;
+  core = c.step-hart.new.core;
+  l2 = c.step-hart.new.l2;
+  domain = c.step-hart.new.domain;
+  clock = c.step-hart.result;
+}
+
+-- both ends
+either : (c : goal.Joined-slot-hart) (P : Image → State → Type 0)
+    → ((t' : State) (x' : Hart) → GoesOn c.self.inside.state c.args.h c.index_mut-hart.result.now c.args.slot (left c) t' x'
+    ⊎ IsOver c.self.inside.state c.args.h c.index_mut-hart.result.now c.args.slot (left c) t' x' → P (image_from c.self.inside.image.now) t')
+    → P (image_from c.if-slot-hart.self-inside.image.now) c.if-slot-hart.self-inside.state
+either c P so = elim c.if-slot-hart.branch [
+  | then-slot-hart w ↦
+      subst (λ q. P (image_from q.image.now) q.state) (sym w.self-inside-is)
+      (so _ (record { core = c.step-hart.new.core; clock = c.step-hart.result; slots = c.index_mut-hart.result.now.slots + 1; slot = None })
+      (inr (record {
+        past = w.if-slot-hart.true;
+        kept = record {
+          memory = refl;
+          l2 = refl;
+          core = refl;
+          clock = refl;
+          slots = add-one c.index_mut-hart.result.now.slots;
+          now_in = refl;
+          harts = refl;
+          domains = ap (λ (d : ℕ). set c.self.inside.state.domains.items d c.step-hart.new.domain) c.from.ensures;
+          used = refl;
+        };
+      })))
+  | else-slot-hart w ↦
+      subst (λ q. P (image_from q.image.now) q.state) (sym w.self-inside-is)
+      (so _ (record { core = c.step-hart.new.core; clock = c.step-hart.result; slots = c.index_mut-hart.result.now.slots; slot = c.index_mut-hart.result.now.slot })
+      (inl (record {
+        soon = omega (arith, w.if-slot-hart.false);
+        kept = record {
+          memory = refl;
+          l2 = refl;
+          core = refl;
+          clock = refl;
+          slots = refl;
+          now_in = in_slot c;
+          harts = refl;
+          domains = ap (λ (d : ℕ). set c.self.inside.state.domains.items d c.step-hart.new.domain) c.from.ensures;
+          used = refl;
+        };
+      })))
+]
+
+pub invariant_of-self : goal.invariant_of-self
+invariant_of-self c =
+    let t = c.self.inside.state in
+    let x = c.index_mut-hart.result.now in
+    let few =
+    at_hart c.self.inside.image.now t c.args.self.now c.self.view_is c.args.h x (λ y. y.slots < 65536) (here c).got c.requires.slots in
+    either c IsReached (λ t' x' which.
+    reached_on (image_from c.self.inside.image.now) t c.args.h x (here c) c.args.slot (in_slot c) c.index_mut.result.now (got_after c) (left c)
+    c.step-hart.ensures.becomes t' x' which few c.step-hart.ensures.few c.step-hart.ensures.later)
+
+pub returns-clause-next : goal.returns-clause-next
+returns-clause-next c =
+    let t = c.self.inside.state in
+    either c (λ i t'. NextStands (image_of c.args.self.now) c.args.h c.args.self.now.1 t') (λ t' x' which.
+    value_next c.self.inside.image.now t c.args.self.now c.self.view_is c.args.h t'
+    (gone_on (image_from c.self.inside.image.now) t c.args.h c.index_mut-hart.result.now (here c) c.args.slot (in_slot c) c.index_mut.result.now
+    (got_after c) (left c) c.step-hart.ensures.becomes t' x' which))

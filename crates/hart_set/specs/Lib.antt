@@ -1,0 +1,5 @@
+pub mod Turns
+pub mod Standing
+pub mod Reached
+pub mod Models
+pub mod Cold

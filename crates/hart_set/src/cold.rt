@@ -1,0 +1,86 @@
+// Harts before their boots.
+ghost use Rattle.std.specs.Prelude.{◌≡◌, All, length, IfOk};
+ghost use Rattle.hardware_check.specs.Hardware.{IsHardware};
+ghost use Rattle.hardware_check.specs.Models.{hardware_model};
+ghost use Rattle.world_view.specs.Cost.{hierarchy};
+ghost use Rattle.hart_set.specs.Cold.{IsColdL2, IsColdHart};
+
+use crate::hart::Hart;
+use image_check::Hardware;
+use l2_colour::L2;
+use mem_system::{Geometry, OnCore};
+use repl_policy::AnyPolicy;
+use std::alloc::Global;
+use tp_base::Memory;
+use world_view::geometry_of;
+
+/// A second level with nothing in it.
+///
+/// # Errors
+/// `Memory` where no memory is left for it.
+pub fn cold_l2(alloc: Global, hardware: &Hardware) -> Result<L2<AnyPolicy>, Memory>
+    requires hardware { IsHardware (hardware_model hardware.now) }
+    ensures cold { IfOk result (IsColdL2 (hierarchy (hardware_model hardware.now))) }
+{
+    let Geometry {
+        line_size,
+        back,
+        l2,
+        ..
+    } = geometry_of(hardware);
+    L2::new(alloc, line_size, l2.policy, l2.sets, l2.ways, back)
+}
+
+// A hart over such a second level.
+fn cold_hart(alloc: Global, hardware: &Hardware, l2: &L2<AnyPolicy>) -> Result<Hart, Memory>
+    requires hardware { IsHardware (hardware_model hardware.now) }
+    requires l2 { IsColdL2 (hierarchy (hardware_model hardware.now)) l2.now }
+    ensures cold { IfOk result (IsColdHart (hierarchy (hardware_model hardware.now)) l2.now) }
+{
+    let Geometry {
+        predictor,
+        l1i,
+        l1d,
+        tlb,
+        ..
+    } = geometry_of(hardware);
+    let core = OnCore::new(
+        alloc,
+        predictor,
+        l1i,
+        l1d,
+        tlb,
+        hardware.costs,
+        hardware.muldiv,
+        false,
+    )?;
+    Ok(Hart {
+        core,
+        clock: 0,
+        slots: 0,
+        slot: None,
+    })
+}
+
+/// So many harts before their boots, over one second level with nothing in it.
+///
+/// # Errors
+/// `Memory` where no memory is left for them.
+pub fn cold_harts(
+    alloc: Global,
+    hardware: &Hardware,
+    l2: &L2<AnyPolicy>,
+    many: usize,
+) -> Result<Vec<Hart>, Memory>
+    requires hardware { IsHardware (hardware_model hardware.now) }
+    requires l2 { IsColdL2 (hierarchy (hardware_model hardware.now)) l2.now }
+    ensures all { IfOk result (λ harts. length harts.items ≡ many) }
+    ensures each { IfOk result (λ harts.
+        All (IsColdHart (hierarchy (hardware_model hardware.now)) l2.now) harts.items) }
+{
+    let mut harts = Vec::with_capacity(alloc, many)?;
+    for _ in 0..many {
+        harts.push_reserved(cold_hart(alloc, hardware, l2)?);
+    }
+    Ok(harts)
+}
