@@ -1,0 +1,48 @@
+// Images with entries on harts, and what is seen of their domains.
+ghost use Rattle.std.specs.Prelude.{◌≡◌, length};
+ghost use Rattle.image_check.specs.Own.{owns_of};
+
+use hart_set::HartSet;
+use image_check::{Checked, check};
+use image_record::RawEntry;
+use image_text::read_image;
+use std::alloc::Global;
+use std::test::Fail;
+use tp_io::MemSink;
+use tp_report::write_section;
+
+// The most bytes of an image's sections, and of a call.
+const ROOM: usize = 65536;
+
+// Deals out the domains to so many harts.
+fn deal_out(entries: &mut [RawEntry], harts: u8) {
+    for entry in entries.iter_mut() {
+        entry.hart = entry.domain.checked_rem(i64::from(harts)).unwrap_or(0);
+    }
+}
+
+/// The image of this text, its domains dealt out to so many harts: no text says a hart.
+pub fn on_harts(alloc: Global, text: &str, harts: u8) -> Result<Checked, Fail> {
+    let mut raw = read_image(alloc, text.as_bytes())?;
+    deal_out(raw.schedule.as_mut_slice(), harts);
+    Ok(check(alloc, raw)?)
+}
+
+fn domains_of(image: &Checked) -> u8
+    ensures value { result ≡ length (owns_of image.now) }
+{
+    image.runnable();
+    image.public().domains as u8
+}
+
+/// The sections of all domains, as a report has them.
+pub fn sections(alloc: Global, image: &Checked, harts: &HartSet<'_>) -> Result<String, Fail>
+    requires image { harts.now.0 ≡ image.now }
+{
+    let mut sink = MemSink::new(alloc, ROOM, ROOM, &[])?;
+    for d in 0..domains_of(image) {
+        let name = image.own(usize::from(d)).name.as_str();
+        write_section(&mut sink, d, name, &harts.view(d))?;
+    }
+    Ok(String::from_str(alloc, str::from_utf8(sink.bytes())?)?)
+}
