@@ -14,7 +14,7 @@ use Rattle.rv_decode.specs.declared.StoreWidth.TheVariants.{Word as StoreWord}
 use Rattle.rv_decode.specs.declared.Operation.TheVariants.{Add, SetLess, Xor}
 use Rattle.rv_decode.specs.declared.Counter.TheVariants.{Cycle}
 use Rattle.rv_decode.proofs.WordLaws.{decode_of-word}
-use Rattle.image_gen.specs.Words.{word}
+use Rattle.seed_words.specs.Words.{word}
 use Rattle.image_gen.specs.Program.{encoded, first_register, second_register, number, offset, instruction_of, instruction, last_words, program}
 use Rattle.image_gen.specs.Instructions.{chosen_of, chosen, first_instructions, last_instructions, instructions}
 use Rattle.image_gen.specs.Laws.{DecodedLaw}

@@ -38,7 +38,7 @@ use Rattle.image_check.specs.Public.{entry_of}
 use Rattle.image_check.specs.Harts.{k19, hart_case, k19_hart}
 use Rattle.image_check.specs.Laws.{Keeps}
 use Rattle.image_check.proofs.Kept.{acceptance_law}
-use Rattle.image_gen.specs.Words.{after, word}
+use Rattle.seed_words.specs.Words.{after, word}
 use Rattle.image_gen.specs.Program.{program, program_bytes}
 use Rattle.image_gen.specs.Generated.{domain_with, moment, moment_at, moments_of, entry, slot_length, policy_by, policy_of, image_with, count, at_domain, domains_of, schedule_of, generated}
 use Rattle.image_gen.specs.Laws.{AcceptedLaw}

@@ -14,7 +14,7 @@ use Rattle.toml.specs.Data.{Data, string, array, table, Items, no_items, item, p
 use Rattle.toml.specs.Tables.{Nodes, no_nodes, close, define, key_value, array_table, at_key, along_dots, along_header}
 use Rattle.toml.specs.View.{items_of}
 use Rattle.rand_pcg.specs.Lcg.{Lcg}
-use Rattle.image_gen.specs.Words.{word}
+use Rattle.seed_words.specs.Words.{word}
 use Rattle.image_gen.specs.Text.{heading, machine_text, separator, moment_text, moments_text, name_text, interrupts_text, segments_text, domain_text_with, slot_text, schedule_title}
 use Rattle.image_gen.specs.Generated.{moment_at, slot_length}
 use Rattle.image_gen.proofs.Values.{IsText, is_simple, word_is, number_is, string_is, Item, item_data, items_text, array_is, Pair, pairs_text, put_all, table_is}

@@ -13,7 +13,7 @@ use Rattle.toml.specs.Data.{Items, Members}
 use Rattle.toml.specs.Tables.{Nodes, no_nodes}
 use Rattle.toml.specs.Parse.{parse_document}
 use Rattle.image_text.specs.Record.{document, image_of}
-use Rattle.image_gen.specs.Words.{after, word}
+use Rattle.seed_words.specs.Words.{after, word}
 use Rattle.image_gen.specs.Program.{program, program_bytes}
 use Rattle.image_gen.specs.Generated.{policy_of, count, at_domain, moments_of, domains_of, schedule_of, generated}
 use Rattle.image_gen.specs.Text.{heading, machine_text, front, domain_text, slot_text, schedule_title, domains_text, slots_text, text}

@@ -1,7 +1,7 @@
 -- Worked rows: what seed 7 begins with.
 use Rattle.std.specs.Prelude.{◌≡◌, refl, [], ◌∷◌, take}
 use Rattle.rand_pcg.specs.Lcg.{state_after}
-use Rattle.image_gen.specs.Words.{seeded, after, word}
+use Rattle.seed_words.specs.Words.{seeded, after, word}
 use Rattle.image_gen.specs.Program.{instruction, program}
 use Rattle.image_gen.specs.Generated.{moment_at, slot_length, count, at_domain}
 

@@ -5,7 +5,7 @@ use Rattle.std.specs.List.{range_with_len}
 use Rattle.hex.specs.Hex.{encode_lower}
 use Rattle.rand_pcg.specs.Lcg.{Lcg}
 use Rattle.image_record.specs.Record.{Raw, RawCache, RawCosts, RawSegment, RawMoment, RawDomain, RawEntry}
-use Rattle.image_gen.specs.Words.{seeded, after, word}
+use Rattle.seed_words.specs.Words.{seeded, after, word}
 use Rattle.image_gen.specs.Program.{program_bytes}
 
 -- ---- a domain

@@ -9,7 +9,7 @@ use Rattle.rv_decode.specs.declared.LoadWidth.TheVariants.{Word as LoadWord}
 use Rattle.rv_decode.specs.declared.StoreWidth.TheVariants.{Word as StoreWord}
 use Rattle.rv_decode.specs.declared.Operation.TheVariants.{Add, SetLess, Xor}
 use Rattle.rv_decode.specs.declared.Counter.TheVariants.{Cycle}
-use Rattle.image_gen.specs.Words.{word}
+use Rattle.seed_words.specs.Words.{word}
 use Rattle.image_gen.specs.Program.{first_register, second_register, number, offset}
 
 -- by the kind of the instruction, with registers r and s, a number i, and an offset j from x5

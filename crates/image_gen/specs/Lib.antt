@@ -1,5 +1,4 @@
--- A seed's image: the words that it draws, the record that they make, and the text that says it.
-pub mod Words
+-- A seed's image: the record that the words it draws make, and the text that says it.
 pub mod Program
 pub mod Instructions
 pub mod Generated

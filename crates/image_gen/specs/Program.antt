@@ -3,7 +3,7 @@ use Rattle.std.specs.Prelude.{ℕ, ◌+◌, ◌-◌, ◌*◌, ◌/◌, ◌%◌, 
 use Rattle.std.specs.Int.{to_le_bytes, w32}
 use Rattle.std.specs.List.{flat_map, range_with_len}
 use Rattle.rand_pcg.specs.Lcg.{Lcg}
-use Rattle.image_gen.specs.Words.{word}
+use Rattle.seed_words.specs.Words.{word}
 
 -- an instruction by its fields: the opcode, rd, funct3, rs1, and the twelve bits above them
 abbrev pub encoded : ℕ → ℕ → ℕ → ℕ → ℕ → ℕ

@@ -3,7 +3,7 @@ use Rattle.std.specs.Prelude.{ℕ, ◌+◌, ◌==◌, if◌then◌else◌, List,
 use Rattle.std.specs.List.{concat, flat_map, range_with_len}
 use Rattle.hex.specs.Hex.{encode_lower}
 use Rattle.rand_pcg.specs.Lcg.{Lcg}
-use Rattle.image_gen.specs.Words.{after, word}
+use Rattle.seed_words.specs.Words.{after, word}
 use Rattle.image_gen.specs.Program.{program_bytes}
 use Rattle.image_gen.specs.Generated.{moment_at, slot_length, policy_of, count, at_domain}
 

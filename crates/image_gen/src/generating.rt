@@ -5,12 +5,11 @@ ghost use Rattle.image_gen.specs.Generated.{generated, policy_of as spec_policy_
 ghost use Rattle.image_gen.specs.Text.{text as spec_text};
 ghost use Rattle.image_gen.specs.Laws.{AcceptedLaw};
 
-use crate::words::draw;
 use crate::writing::{
     write_domain, write_heading, write_machine, write_schedule_title, write_slot,
 };
 use crate::{Memory, laws};
-use rand_pcg::Lcg64Xsh32;
+use seed_words::{draw, seeded};
 use std::alloc::Global;
 
 /// The policy of the second level.
@@ -38,7 +37,7 @@ pub fn generate(alloc: Global, seed: u64) -> Result<String, Memory>
     ensures accepted { AcceptedLaw }
 {
     laws::accepted();
-    let mut words = Lcg64Xsh32::new(seed, 1);
+    let mut words = seeded(seed);
     let count = 2 + draw(&mut words) % 4;
     let mut text = String::new(alloc);
     write_heading(&mut text, seed)?;

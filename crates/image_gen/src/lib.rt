@@ -5,7 +5,6 @@
 mod generating;
 pub mod laws;
 mod program;
-mod words;
 mod writing;
 
 pub use generating::generate;

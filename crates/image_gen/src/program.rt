@@ -2,12 +2,12 @@
 ghost use Rattle.std.specs.Prelude.{◌≡◌, ◌++◌, ◌<◌, ◌≤◌, ◌^◌, IfOk, OnOk};
 ghost use Rattle.std.specs.Int.{to_le_bytes, w32};
 ghost use Rattle.std.specs.List.{flat_map};
-ghost use Rattle.image_gen.specs.Words.{after};
+ghost use Rattle.seed_words.specs.Words.{after};
 ghost use Rattle.image_gen.specs.Program as spec;
 
 use crate::Memory;
-use crate::words::draw;
 use rand_pcg::Lcg64Xsh32;
+use seed_words::draw;
 use std::alloc::Global;
 
 /// The opcodes.
@@ -83,7 +83,7 @@ fn bytes_of(alloc: Global, program: &[u32]) -> Result<Vec<u8>, Memory>
 }
 
 /// The bytes of the program that the next 64 words choose.
-#[tactic(auto, using(crate::proofs::Draws::after_none, crate::proofs::Draws::after_next, crate::proofs::Draws::word_here), unfolding(crate::specs::Program::program, crate::specs::Program::program_bytes))]
+#[tactic(auto, using(seed_words::proofs::Draws::after_none, seed_words::proofs::Draws::after_next, seed_words::proofs::Draws::word_here), unfolding(crate::specs::Program::program, crate::specs::Program::program_bytes))]
 pub fn program(alloc: Global, words: &mut Lcg64Xsh32) -> Result<Vec<u8>, Memory>
     ensures bytes { IfOk result (λ b. b.items ≡ spec.program_bytes words.old) }
     ensures drawn { OnOk result (words.new ≡ after 64 words.old) }

@@ -1,12 +1,12 @@
 // The parts of a generated image's text.
 ghost use Rattle.std.specs.Prelude.{◌≡◌, ◌++◌, ◌<◌, ◌^◌, string_bytes, IfOk, OnOk};
-ghost use Rattle.image_gen.specs.Words.{after};
+ghost use Rattle.seed_words.specs.Words.{after};
 ghost use Rattle.image_gen.specs.Text as spec;
 
 use crate::Memory;
 use crate::program::program;
-use crate::words::draw;
 use rand_pcg::Lcg64Xsh32;
+use seed_words::draw;
 use std::alloc::{AllocError, Global};
 use std::fmt::Write;
 
@@ -62,7 +62,7 @@ fn separator(place: u32) -> &'static str
 
 /// The items of the list of domain `number`'s interrupts, at the moments that the
 /// next 8 words choose.
-#[tactic(auto, using(crate::proofs::Draws::after_none, crate::proofs::Draws::after_next, crate::proofs::Draws::word_here), unfolding(crate::specs::Text::moments_text))]
+#[tactic(auto, using(seed_words::proofs::Draws::after_none, seed_words::proofs::Draws::after_next, seed_words::proofs::Draws::word_here), unfolding(crate::specs::Text::moments_text))]
 fn moments(alloc: Global, number: u32, words: &mut Lcg64Xsh32) -> Result<String, Memory>
     ensures text { IfOk result (λ s. string_bytes s ≡ spec.moments_text number words.old) }
     ensures drawn { OnOk result (words.new ≡ after 8 words.old) }
@@ -127,7 +127,7 @@ fn write_segments(text: &mut String, hex: &str) -> Result<(), AllocError>
 }
 
 /// Domain `number`, made by the next 72 words.
-#[tactic(auto, using(crate::proofs::Draws::after_next))]
+#[tactic(auto, using(seed_words::proofs::Draws::after_next))]
 pub fn write_domain(
     alloc: Global,
     text: &mut String,

@@ -1,8 +1,8 @@
 use Rattle.std.proofs.Common.{◌≡◌, ◌+◌, ◌*◌, string_bytes, refl, ap, ◌∙◌, sym, arith}
-use Rattle.image_gen.specs.Words.{word, seeded}
+use Rattle.seed_words.specs.Words.{word, seeded}
 use Rattle.image_gen.specs.Generated.{count, at_domain}
 use Rattle.image_gen.specs.Text.{front, domain_text, domains_text, schedule_title, slot_text, slots_text}
-use Rattle.image_gen.proofs.Draws.{after_next, after_none, word_here}
+use Rattle.seed_words.proofs.Draws.{after_next, after_none, word_here}
 use Rattle.std.proofs.lemmas.Str.{IsUtf8-string_bytes}
 use Rattle.image_gen.proofs.Pieces.{written_more, written_under, titled, whole_text}
 use Rattle.image_gen.proofs.ReadBack.{read_back}

@@ -1,5 +1,5 @@
 use Rattle.std.proofs.Common.{◌≡◌, ◌++◌, string_bytes}
-use Rattle.image_gen.specs.Words.{after}
+use Rattle.seed_words.specs.Words.{after}
 use Rattle.image_gen.specs.Generated.{count, at_domain}
 use Rattle.image_gen.specs.Text.{front, domains_text, schedule_title, slots_text}
 use Rattle.image_gen.proofs.generating.generate.Given as goal

@@ -1,7 +1,7 @@
 use Rattle.std.proofs.Common.{◌≡◌, ◌+◌, ◌++◌, refl, ap, ◌∙◌, arith}
 use Rattle.image_gen.specs.Program.{instruction, last_words, program, program_bytes}
-use Rattle.image_gen.specs.Words.{word}
-use Rattle.image_gen.proofs.Draws.{after_next, word_here}
+use Rattle.seed_words.specs.Words.{word}
+use Rattle.seed_words.proofs.Draws.{after_next, word_here}
 use Rattle.image_gen.proofs.Pieces.{program_more}
 use Rattle.image_gen.proofs.program.program.Goals as goal
 

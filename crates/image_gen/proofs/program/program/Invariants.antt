@@ -1,6 +1,6 @@
 use Rattle.std.proofs.Common.{◌≡◌, map, ◌++◌}
 use Rattle.std.specs.List.{range_with_len}
-use Rattle.image_gen.specs.Words.{after, word}
+use Rattle.seed_words.specs.Words.{after, word}
 use Rattle.image_gen.specs.Program.{instruction, first_words}
 use Rattle.image_gen.proofs.program.program.Given as goal
 

@@ -1,7 +1,7 @@
 use Rattle.std.proofs.Common.{◌+◌, [], string_bytes, refl, ap, ◌∙◌}
-use Rattle.image_gen.specs.Words.{word}
+use Rattle.seed_words.specs.Words.{word}
 use Rattle.image_gen.specs.Text.{moment_text}
-use Rattle.image_gen.proofs.Draws.{after_next, word_here}
+use Rattle.seed_words.proofs.Draws.{after_next, word_here}
 use Rattle.image_gen.proofs.Pieces.{written_more}
 use Rattle.image_gen.proofs.writing.moments.Goals as goal
 

@@ -1,6 +1,6 @@
 use Rattle.std.proofs.Common.{◌≡◌, flat_map, string_bytes}
 use Rattle.std.specs.List.{range_with_len}
-use Rattle.image_gen.specs.Words.{after, word}
+use Rattle.seed_words.specs.Words.{after, word}
 use Rattle.image_gen.specs.Text.{moment_text}
 use Rattle.image_gen.proofs.writing.moments.Given as goal
 
