@@ -1,4 +1,3 @@
-pub mod Draws
 pub mod Kept
 pub mod Pieces
 pub mod Values
@@ -8,3 +7,4 @@ pub mod Parts
 pub mod Recorded
 pub mod ReadBack
 pub mod Decoded
+pub mod OneHart

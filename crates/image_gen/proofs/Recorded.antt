@@ -1,5 +1,5 @@
 -- The record of a generated image's table, which breaks no row of the key table.
-use Rattle.std.proofs.Common.{◌≡◌, ℕ, ◌+◌, Bool, true, ◌||◌, List, [], ◌∷◌, map, take, None, is_some, refl}
+use Rattle.std.proofs.Common.{◌≡◌, ℕ, ◌+◌, Bool, true, ◌||◌, List, [], ◌∷◌, map, take, drop, None, is_some, refl}
 use Rattle.std.specs.List.{range_with_len}
 use Rattle.toml.specs.Data.{Data, Members, table, as_table}
 use Rattle.toml.specs.Tables.{close}
@@ -59,6 +59,9 @@ module _ (p : List ℕ) (h : ℕ → List ℕ) (w : ℕ → ℕ → ℕ) (v : �
   pub recorded : record_of members ≡ image_with p (map (λ d. domain_with d (h d) (map (λ k. moment d k (w d k)) (range_with_len 0 8))) ds) (map (λ d. entry d (v d)) es)
   unfolding record_of cache_of costs_of image_with
   recorded = rw (mapped domain_in domain_made _ domain_recorded ds, mapped entry_in slot_made _ slot_recorded es)
+
+  in_slots : (test : Data → Bool) → ((k : ℕ) → test (slot_made k) ≡ true) → first_failing test 0 (items_of (map slot_made es)) ≡ None
+  in_slots test pass = none_failing test slot_made pass 0 es
 
   unbroken : Unbroken members (take 25 key_rows)
   unfolding Unbroken key_rows cache_fields level2_fields cost_fields broken_in whole_in whole_item whole_segments fits
@@ -135,9 +138,6 @@ module _ (p : List ℕ) (h : ℕ → List ℕ) (w : ℕ → ℕ → ℕ) (v : �
       in_domains : (test : Data → Bool) → ((k : ℕ) → test (domain_made k) ≡ true) → first_failing test 0 (items_of (map domain_made ds)) ≡ None
       in_domains test pass = none_failing test domain_made pass 0 ds
 
-      in_slots : (test : Data → Bool) → ((k : ℕ) → test (slot_made k) ≡ true) → first_failing test 0 (items_of (map slot_made es)) ≡ None
-      in_slots test pass = none_failing test slot_made pass 0 es
-
   known : all_known 1 key_rows members ≡ true
   unfolding all_known known_table known_item known_domain key_rows cache_fields level2_fields cost_fields muldiv_fields
   known =
@@ -148,9 +148,12 @@ module _ (p : List ℕ) (h : ℕ → List ℕ) (w : ℕ → ℕ → ℕ) (v : �
         all_made (known_item 1 Entry key_rows) slot_made (λ k. refl) es,
       )
 
+  later_unbroken : Unbroken members (drop 25 key_rows)
+  unfolding Unbroken key_rows broken_in whole_in whole_item
+  later_unbroken = (refl, (refl, (refl, (refl, (in_slots _ (λ k. refl), (refl, (refl, tt)))))))
+
   none_later : later_rows members ≡ None
-  unfolding key_rows first_broken broken_in whole_in whole_item
-  none_later = refl
+  none_later = none_broken members (drop 25 key_rows) later_unbroken
 
   pub whole : broken_key members ≡ None
   unfolding broken_key

@@ -118,8 +118,8 @@ fn first_pad(entries: &[RawEntry]) -> i64 {
     }
 }
 
-// An image's record, its schedule with these entries, if there are any, each with the pad of the
-// text's first: no text says a hart.
+// An image's record, its schedule with these entries in place of the text's, if there are any, each
+// with the pad of the text's first.
 fn record_on(alloc: Global, text: &str, places: &[Place]) -> Result<Raw, CheckRefusal> {
     let mut raw = read_image(alloc, text.as_bytes())?;
     if places.is_empty() {

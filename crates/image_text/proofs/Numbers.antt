@@ -461,14 +461,27 @@ length_row = needs 24 EntryPlace (codes "length") (One Integer)
 abbrev pad_row : Row
 pad_row = needs 25 EntryPlace (codes "pad") (One Integer)
 
-entry_numbers : (u : Members) → whole_in slot_domain_row u ≡ true → whole_in length_row u ≡ true → whole_in pad_row u ≡ true → EntryNumbers u (entry_of u)
-unfolding whole_in entry_of
-entry_numbers u domain length pad =
-    record { domain = integer_in (get_member (codes "domain") u) domain; length = integer_in (get_member (codes "length") u) length; pad = integer_in (get_member (codes "pad") u) pad }
+abbrev hart_row : Row
+hart_row = may_have 31 EntryPlace (codes "hart") (One Integer)
 
-entry_here : (d : Data) → (fits_one Table d ≡ true) × ((whole_item slot_domain_row d ≡ true) × ((whole_item length_row d ≡ true) × (whole_item pad_row d ≡ true))) → IsTableOf EntryNumbers d (entry_in d)
-unfolding whole_item
-entry_here (Data.table u) w = entry_numbers u w.1.0 w.1.1.0 w.1.1.1
+-- the rows of an item of the array of entries are whole
+record WholeEntry (d : Data) : Type 0 where
+  domain : whole_item slot_domain_row d ≡ true
+  length : whole_item length_row d ≡ true
+  pad : whole_item pad_row d ≡ true
+  hart : whole_item hart_row d ≡ true
+
+entry_numbers : (u : Members) → WholeEntry (Data.table u) → EntryNumbers u (entry_of u)
+unfolding whole_item whole_in entry_of
+entry_numbers u w = record {
+  domain = integer_in (get_member (codes "domain") u) w.domain;
+  length = integer_in (get_member (codes "length") u) w.length;
+  pad = integer_in (get_member (codes "pad") u) w.pad;
+  hart = integer_or_zero (codes "hart") u (get_member (codes "hart") u) refl w.hart;
+}
+
+entry_here : (d : Data) → (fits_one Table d ≡ true) × WholeEntry d → IsTableOf EntryNumbers d (entry_in d)
+entry_here (Data.table u) w = entry_numbers u w.1
 entry_here (Data.array ds) w = no w.0
 entry_here (Data.string s) w = no w.0
 entry_here (Data.integer z) w = no w.0
@@ -476,16 +489,29 @@ entry_here (Data.float x) w = no w.0
 entry_here (Data.boolean b) w = no w.0
 entry_here (Data.datetime t) w = no w.0
 
-entries_each : (ds : Items) → all_items (fits_one Table) ds ≡ true → all_items (whole_item slot_domain_row) ds ≡ true → all_items (whole_item length_row) ds ≡ true → all_items (whole_item pad_row) ds ≡ true
+record WholeEntries (ds : Items) : Type 0 where
+  domain : all_items (whole_item slot_domain_row) ds ≡ true
+  length : all_items (whole_item length_row) ds ≡ true
+  pad : all_items (whole_item pad_row) ds ≡ true
+  hart : all_items (whole_item hart_row) ds ≡ true
+
+whole_entries : (ds : Items) → WholeEntries ds → AllOf WholeEntry ds
+whole_entries no_items w = tt
+whole_entries (item d ds) w =
+    let domain = and_parts (whole_item slot_domain_row d) (all_items (whole_item slot_domain_row) ds) w.domain in
+    let length = and_parts (whole_item length_row d) (all_items (whole_item length_row) ds) w.length in
+    let pad = and_parts (whole_item pad_row d) (all_items (whole_item pad_row) ds) w.pad in
+    let hart = and_parts (whole_item hart_row d) (all_items (whole_item hart_row) ds) w.hart in (
+      record { domain = domain.0; length = length.0; pad = pad.0; hart = hart.0 },
+      whole_entries ds (record { domain = domain.1; length = length.1; pad = pad.1; hart = hart.1 }),
+    )
+
+entries_each : (ds : Items) → all_items (fits_one Table) ds ≡ true → WholeEntries ds
     → Each (IsTableOf EntryNumbers) ds (map_items entry_in ds)
-entries_each ds tables domain length pad =
+entries_each ds tables w =
     let T : Data → Type 0 = λ d. fits_one Table d ≡ true in
-    let P : Data → Type 0 = λ d. whole_item slot_domain_row d ≡ true in
-    let Q : Data → Type 0 = λ d. whole_item length_row d ≡ true in
-    let R : Data → Type 0 = λ d. whole_item pad_row d ≡ true in
-    let last = and_of Q R ds (all_of (whole_item length_row) ds length) (all_of (whole_item pad_row) ds pad) in
-    let both = and_of P (λ d. Q d × R d) ds (all_of (whole_item slot_domain_row) ds domain) last in
-    each_of (λ d. T d × (P d × (Q d × R d))) entry_in (IsTableOf EntryNumbers) entry_here ds (and_of T (λ d. P d × (Q d × R d)) ds (all_of (fits_one Table) ds tables) both)
+    let both = and_of T WholeEntry ds (all_of (fits_one Table) ds tables) (whole_entries ds w) in
+    each_of (λ d. T d × WholeEntry d) entry_in (IsTableOf EntryNumbers) entry_here ds both
 
 -- ---- the rows of the table
 
@@ -563,9 +589,10 @@ module _ (t : Members) (whole : first_broken 1 (take 25 key_rows) t ≡ None)
   unfolding broken_in
   of_segments n key kind h = all_pass _ 0 (items_at (codes "domain") t) h
 
-  of_entries : (n : ℕ) (key : List ℕ) (kind : Kind) → broken_in 1 (needs n EntryPlace key kind) t ≡ None → all_items (whole_item (needs n EntryPlace key kind)) (items_at (codes "schedule") t) ≡ true
+  of_entries : (n : ℕ) (key : List ℕ) (needed : Bool) → broken_in 1 (record { number = n; since = 1; place = EntryPlace; needed = needed; key = key; kind = One Integer }) t ≡ None
+      → all_items (whole_item (record { number = n; since = 1; place = EntryPlace; needed = needed; key = key; kind = One Integer })) (items_at (codes "schedule") t) ≡ true
   unfolding broken_in
-  of_entries n key kind h = all_pass _ 0 (items_at (codes "schedule") t) h
+  of_entries n key needed h = all_pass _ 0 (items_at (codes "schedule") t) h
 
   whole_domains : WholeItems (items_at (codes "domain") t)
   unfolding key_rows
@@ -580,6 +607,15 @@ module _ (t : Members) (whole : first_broken 1 (take 25 key_rows) t ≡ None)
     calls = of_calls;
   }
 
+  whole_schedule : WholeEntries (items_at (codes "schedule") t)
+  unfolding key_rows
+  whole_schedule = record {
+    domain = of_entries 23 (codes "domain") true (row 22 slot_domain_row _ refl);
+    length = of_entries 24 (codes "length") true (row 23 length_row _ refl);
+    pad = of_entries 25 (codes "pad") true (row 24 pad_row _ refl);
+    hart = of_entries 31 (codes "hart") false (later_row 4 hart_row _ refl);
+  }
+
   domains : ArrayAt (codes "domain") t (IsTableOf DomainNumbers) (map_items domain_in (items_at (codes "domain") t))
   unfolding key_rows fits
   domains = array_at (codes "domain") t (Array Table) (all_items (fits_one Table)) domain_in (IsTableOf DomainNumbers) (λ d h. h)
@@ -588,11 +624,7 @@ module _ (t : Members) (whole : first_broken 1 (take 25 key_rows) t ≡ None)
   schedule : ArrayAt (codes "schedule") t (IsTableOf EntryNumbers) (map_items entry_in (items_at (codes "schedule") t))
   unfolding key_rows fits
   schedule = array_at (codes "schedule") t (Array Table) (all_items (fits_one Table)) entry_in (IsTableOf EntryNumbers) (λ d h. h)
-      (λ ds same h. entries_each ds h
-      (subst (λ x. all_items (whole_item slot_domain_row) x ≡ true) same (of_entries 23 (codes "domain") (One Integer) (row 22 slot_domain_row _ refl)))
-      (subst (λ x. all_items (whole_item length_row) x ≡ true) same (of_entries 24 (codes "length") (One Integer) (row 23 length_row _ refl)))
-      (subst (λ x. all_items (whole_item pad_row) x ≡ true) same (of_entries 25 (codes "pad") (One Integer) (row 24 pad_row _ refl))))
-      (top_array (codes "schedule") 22 (row 21 (needs 22 TopPlace (codes "schedule") (Array Table)) _ refl))
+      (λ ds same h. entries_each ds h (subst WholeEntries same whole_schedule)) (top_array (codes "schedule") 22 (row 21 (needs 22 TopPlace (codes "schedule") (Array Table)) _ refl))
 
   numbers : Numbers t (record_of t)
   unfolding key_rows record_of
@@ -608,8 +640,8 @@ module _ (t : Members) (whole : first_broken 1 (take 25 key_rows) t ≡ None)
     predictor = number (codes "predictor") 8 (row 7 (needs 8 TopPlace (codes "predictor") (One Integer)) _ refl);
     history = history (later_row 3 (may_have 30 TopPlace (codes "history") (One Integer)) _ refl);
     costs = costs (row 8 (needs 9 TopPlace (codes "costs") (Fields cost_fields)) _ refl);
-    muldiv = muldiv (later_row 4 (may_have 37 TopPlace (codes "muldiv") (Fields muldiv_fields)) _ refl);
-    targets = targets (later_row 5 (may_have 38 TopPlace (codes "targets") (One Integer)) _ refl);
+    muldiv = muldiv (later_row 5 (may_have 37 TopPlace (codes "muldiv") (Fields muldiv_fields)) _ refl);
+    targets = targets (later_row 6 (may_have 38 TopPlace (codes "targets") (One Integer)) _ refl);
     domains = domains;
     schedule = schedule;
   }

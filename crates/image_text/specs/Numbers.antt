@@ -108,6 +108,7 @@ pub record EntryNumbers (t : Members) (e : RawEntry) : Type 0 where
   pub domain : IntegerAt (codes "domain") t e.domain
   pub length : IntegerAt (codes "length") t e.length
   pub pad : IntegerAt (codes "pad") t e.pad
+  pub hart : IntegerOrZeroAt (codes "hart") t e.hart
 
 -- ---- the image
 

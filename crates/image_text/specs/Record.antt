@@ -150,16 +150,12 @@ domain_of t = record {
 abbrev pub domain_in : Data → RawDomain
 domain_in d = domain_of (table_of (Some d))
 
--- no key says a hart: each entry is on hart 0
-abbrev pub hart_at : Members → ℤ
-hart_at t = pos 0
-
 unfoldable pub entry_of : Members → RawEntry
 entry_of t = record {
   domain = integer_at (codes "domain") t;
   length = integer_at (codes "length") t;
   pad = integer_at (codes "pad") t;
-  hart = hart_at t;
+  hart = integer_at (codes "hart") t;
 }
 
 abbrev pub entry_in : Data → RawEntry

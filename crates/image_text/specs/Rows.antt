@@ -162,6 +162,7 @@ key_rows =
     ∷ may_have 28 Top (codes "version") (One (Within 1 2))
     ∷ may_have_2 29 Domain (codes "calls") (Array Integer)
     ∷ may_have 30 Top (codes "history") (One Integer)
+    ∷ may_have 31 Entry (codes "hart") (One Integer)
     ∷ may_have 37 Top (codes "muldiv") (Fields muldiv_fields)
     ∷ may_have 38 Top (codes "targets") (One Integer)
     ∷ []

@@ -98,7 +98,7 @@ const COST_FIELDS: [Field<'static>; 9] = [
 
 const MULDIV_FIELDS: [Field<'static>; 2] = [integer!("mul"), integer!("div")];
 
-static KEY_ROWS: [Row<'static>; 31] = [
+static KEY_ROWS: [Row<'static>; 32] = [
     needs!(1, Top, "frames", Kind::One(Simple::Integer)),
     needs!(2, Top, "shared", Kind::One(Simple::Integer)),
     needs!(3, Top, "line", Kind::One(Simple::Integer)),
@@ -133,6 +133,7 @@ static KEY_ROWS: [Row<'static>; 31] = [
     may_have!(28, Top, "version", Kind::One(Simple::Within(1, 2))),
     may_have_2!(29, Domain, "calls", Kind::Array(Simple::Integer)),
     may_have!(30, Top, "history", Kind::One(Simple::Integer)),
+    may_have!(31, Entry, "hart", Kind::One(Simple::Integer)),
     may_have!(37, Top, "muldiv", Kind::Fields(&MULDIV_FIELDS)),
     may_have!(38, Top, "targets", Kind::One(Simple::Integer)),
 ];

@@ -218,13 +218,6 @@ impl Item for RawDomain {
     }
 }
 
-/// The hart of an entry: no key says it.
-fn hart_at(_table: &Table) -> i64
-    ensures value { result ≡ spec.hart_at (table_view _table.now) }
-{
-    0
-}
-
 #[tactic(auto, unfolding(crate::specs::Record::entry_of))]
 fn entry_of(table: &Table) -> RawEntry
     ensures value { entry_model result ≡ spec.entry_of (table_view table.now) }
@@ -233,7 +226,7 @@ fn entry_of(table: &Table) -> RawEntry
         domain: integer_at(table, "domain"),
         length: integer_at(table, "length"),
         pad: integer_at(table, "pad"),
-        hart: hart_at(table),
+        hart: integer_at(table, "hart"),
     }
 }
 

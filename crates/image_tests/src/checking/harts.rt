@@ -1,5 +1,5 @@
 // Entries on harts: the first broken case, and what is accepted.
-use super::{IMAGE, Place, are_named_on, record_on};
+use super::{IMAGE, Place, are_named, are_named_on, record_on};
 use image_check::{CheckRefusal, Entry, HartSchedule, check};
 use std::process::Abort;
 
@@ -42,6 +42,38 @@ const OF_HARTS: [Row; 20] = [
     (&[(0, 0), (2, 4)], "K16 at 1 found 2 wanted 2"),
 ];
 
+// K19, as texts say it.
+const OF_TEXTS: &str = "domain = 1 => domain = 1~hart = 1
+accepted
+domain = 1 => domain = 1~hart = 0
+accepted
+domain = 0 => domain = 0~hart = 1
+accepted
+domain = 1 => domain = 1~hart = 4
+K19 at 1 found 4 wanted 1
+domain = 1 => domain = 1~hart = -1
+K19 at 1 found -1 wanted 1
+domain = 1 => domain = 1~hart = 9223372036854775807
+K19 at 1 found 9223372036854775807 wanted 1
+domain = 1 => domain = 1~hart = 2
+K19 at 1 found 0 wanted 2
+domain = 0 => domain = 0~hart = 1
+domain = 1 => domain = 1~hart = 1
+K19 at 0 found 0 wanted 2
+# red's second entry, before blue's or after it
+domain = 1 => domain = 0~length = 10000~pad = 6150~[[schedule]]~domain = 1~hart = 1
+accepted
+length = 1000~pad = 1000000 => length = 10000~pad = 6150~[[schedule]]~domain = 0~length = 10000~pad = 6150~hart = 1
+K19 at 2 found 0 wanted 3
+domain = 1 => domain = 1~hart = 1
+pad = 1000000 => pad = 1000000~[[schedule]]~domain = 0~length = 10000~pad = 6150~hart = 1
+K19 at 2 found 0 wanted 3
+domain = 1 => domain = 1~hart = 3
+pad = 1000000 => pad = 1000000~[[schedule]]~domain = 0~length = 10000~pad = 6150~hart = 1
+K19 at 2 found 0 wanted 2
+pad = 1000000 => pad = 1000000~[[schedule]]~domain = 0~length = 10000~pad = 6149~hart = 1
+K17 at 2 found 6149 wanted 6150, else K19 at 2 found 0 wanted 3";
+
 // K17, K18, K19 and K22, of entries whose second is on hart 4.
 const OF_OTHERS: &str = "pad = 6150 => pad = 6149
 K17 at 0 found 6149 wanted 6150, else K19 at 1 found 4 wanted 1
@@ -56,6 +88,7 @@ fn the_first_broken_case_is_named(rt: HostRuntime) -> Result<(), CheckRefusal> {
     for (places, due) in OF_HARTS {
         are_named_on(&rt, rt.alloc(), IMAGE, places, due)?;
     }
+    are_named(&rt, rt.alloc(), IMAGE, OF_TEXTS)?;
     are_named_on(&rt, rt.alloc(), IMAGE, &[(0, 0), (1, 4)], OF_OTHERS)
 }
 
