@@ -4,3 +4,8 @@ pub mod Events
 pub mod Meets
 pub mod Runs
 pub mod Isolation
+pub mod Clocks
+pub mod OneHart
+pub mod Position
+pub mod Counted
+pub mod Schedules

@@ -1,5 +1,5 @@
 -- Several harts over one memory and one second level, in any order of their events.
-use Rattle.std.specs.Prelude.{ℕ, zero, suc, ◌+◌, ◌<◌, Bool, true, false, nat_lt, if◌then◌else◌, List, [], ◌∷◌}
+use Rattle.std.specs.Prelude.{◌≡◌, ℕ, zero, suc, ◌+◌, ◌<◌, Bool, true, false, nat_lt, if◌then◌else◌, List, [], ◌∷◌}
 use Rattle.tp_base.specs.Table.{Table, empty, at, put}
 use Rattle.image_check.specs.Public.{Public}
 use Rattle.image_check.specs.Own.{Own}
@@ -26,6 +26,10 @@ start_on i h k = start (image_on i h).all.schedule k
 
 abbrev pub end_on : Image → ℕ → ℕ → ℕ
 end_on i h k = slot_end (image_on i h).all.schedule k
+
+-- the image's entries are on one hart
+abbrev pub IsOnOneHart : Image → Type 0
+IsOnOneHart i = harts_in i.all.schedule ≡ 1
 
 -- the hart of a domain
 abbrev pub hart_of_domain : Image → ℕ → ℕ

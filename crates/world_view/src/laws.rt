@@ -1,7 +1,7 @@
 //! Laws of the machine over its definitions, each the contract of a function
 //! that does nothing: a caller that calls it may rely on the law.
 ghost use Rattle.world_view.specs.EventLaws.{StepTouchesLaw, OwnTouchesLaw, SlotTouchesLaw, StepCostLaw, PlainCostLaw, SlotCostLaw};
-ghost use Rattle.world_view.specs.HartLaws.{HartIsolationLaw, TwoOrdersLaw, HartPadLaw, HartLargestLaw, HartCountLaw, OtherHartsLaw, NextLaw};
+ghost use Rattle.world_view.specs.HartLaws.{HartIsolationLaw, TwoOrdersLaw, HartPadLaw, HartLargestLaw, HartCountLaw, OtherHartsLaw, NextLaw, HartBetweenLaw, HartBegunLaw, HartStartLaw, HartRiseLaw, HartSlotsLaw, HartStaysLaw, OneHartLaw, EventsLaw, SameEventsLaw};
 ghost use Rattle.world_view.specs.Interrupts.{DueLaw, PromptLaw, FewLaw, AscendLaw, OwnSlotsLaw, TurnLaw, WakeLaw};
 ghost use Rattle.world_view.specs.Laws.{ReadingLaw, IsolationLaw, TwoRunLaw, PadLaw, LargestLaw, StartLaw, InTimeLaw, ClockLaw, OpeningPageLaw, OpeningRightsLaw, OpeningNoPageLaw, OpeningFramesLaw, OpeningZeroLaw, OpeningElsewhereLaw, PoolsApartLaw, KernelColourLaw, PoolPartsLaw, FactsLaw, ReachLaw, NoAccessFaultLaw, RightsLaw, PermittedLaw, KernelLaw, PartiesLaw, PartiesSwapLaw, PartyFramesLaw, OthersStepLaw, OthersLeaveLaw, OthersEnterLaw, PrefetchLaw, FlushLaw, OthersEventLaw, OtherHartLaw, OwnHartLaw, OwnStepLaw, SwitchWorkLaw, BootWorkLaw, SwitchOutLaw, SwitchInLaw, SwitchBothLaw, SwitchPastLaw, ResidencyLaw, ForGoodLaw, EmptyLaw, AfterSwitchLaw, SwitchAloneLaw, SlotAloneLaw, SettledLaw, SwitchCleanLaw, SlotCleanLaw, SlotDirtyLaw};
 
@@ -128,7 +128,11 @@ pub fn harts()
 /// begun its next slot, what is seen of the domain is what is seen of it alone, by the
 /// entries of that hart; so two orders after which the hart has had as many slots show
 /// the same. No switch of any hart overruns its pad, and no entry has more switches than
-/// its hart.
+/// its hart. A hart that isn't in a slot has not begun its next one, which begins at
+/// exactly its start. Each event of a hart adds a cycle or more to its clock and a slot
+/// at most, and leaves the others as far as they were; so how far a hart is, and what is
+/// seen of its domains, goes by the number of its own events. Where there is one hart,
+/// its entries are all.
 pub fn orders()
     ensures next { NextLaw }
     ensures isolated { HartIsolationLaw }
@@ -136,6 +140,15 @@ pub fn orders()
     ensures used { HartPadLaw }
     ensures largest { HartLargestLaw }
     ensures counted { HartCountLaw }
+    ensures between { HartBetweenLaw }
+    ensures begun { HartBegunLaw }
+    ensures start { HartStartLaw }
+    ensures rises { HartRiseLaw }
+    ensures slots { HartSlotsLaw }
+    ensures stays { HartStaysLaw }
+    ensures one { OneHartLaw }
+    ensures events { EventsLaw }
+    ensures same_events { SameEventsLaw }
 {}
 
 /// A domain's own step does the same among others and alone, at equal cost.

@@ -1,6 +1,6 @@
 -- Before the first event, and so after every order of events, each domain is as it is alone.
-use Rattle.std.proofs.Common.{◌≡◌, ◌≢◌, ℕ, Bool, true, false, zero, suc, ◌<◌, ◌≤◌, ap, sym, ◌∙◌, refl, subst, arith, inl, List, [], ◌∷◌, ◌++◌}
-use Rattle.tp_base.specs.Table.{Table, at, put, at-empty}
+use Rattle.std.proofs.Common.{◌≡◌, ℕ, Bool, true, false, ◌<◌, ◌≤◌, ap, sym, ◌∙◌, refl, subst, arith, inl, List, [], ◌∷◌, ◌++◌}
+use Rattle.tp_base.specs.Table.{Table, at, at-empty}
 use Rattle.set_cache.specs.Cache.{set_at}
 use Rattle.set_cache.proofs.Dirty.{EachDirty-empty}
 use Rattle.phys_mem.specs.Mem.{frame_at}
@@ -17,11 +17,11 @@ use Rattle.sched_table.specs.Schedule.{entry_in, harts_in}
 use Rattle.world_view.specs.Cost.{hierarchy}
 use Rattle.world_view.specs.Kernel.{no_dom}
 use Rattle.world_view.specs.Event.{Storage}
-use Rattle.world_view.specs.Machine.{World, with_hart, caches_of, clock_of, dom_of, part_of, guarded, opening, whole_by, alone, alone_opening}
-use Rattle.world_view.specs.View.{view, view_alone}
+use Rattle.world_view.specs.Machine.{World, with_hart, clock_of, dom_of, part_of, guarded, opening, whole_by, alone, alone_opening}
+use Rattle.world_view.specs.View.{view_alone}
 use Rattle.world_view.specs.Used.{count_of}
 use Rattle.world_view.specs.Relations.{IsDomain, KernelIsClean, InTime, AllWithinPads, ended_own}
-use Rattle.world_view.specs.Harts.{Harts, Progress, image_on, start_on, hart_of_domain, progress_of, slots_of, switches_of, proceeds, next, after, all_cold, harts, view_on, view_alone_on}
+use Rattle.world_view.specs.Harts.{Harts, Progress, image_on, start_on, hart_of_domain, progress_of, slots_of, switches_of, next, after, all_cold, harts, view_on, view_alone_on}
 use Rattle.world_view.specs.HartLaws.{AreHartsOf, IsBetween, HartIsolationLaw, TwoOrdersLaw, HartPadLaw, HartLargestLaw, HartCountLaw, OtherHartsLaw, NextLaw}
 use Rattle.world_view.proofs.opening.Separate.{Separated, separated}
 use Rattle.world_view.proofs.opening.OpeningLaws.{opening_dom_is, opening_frames}
@@ -84,7 +84,7 @@ module _ (i : Image) (r : Runnable i) where
   }
 
   -- each hart is as at first
-  at_first : (h : ℕ) → progress_of h (harts i []) ≡ record { slots = 0; inside = false }
+  pub at_first : (h : ℕ) → progress_of h (harts i []) ≡ record { slots = 0; inside = false }
   unfolding harts after
   at_first h = at-empty (record { slots = 0; inside = false }) h
 

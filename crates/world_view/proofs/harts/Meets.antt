@@ -1,7 +1,6 @@
 -- Each domain on its hart beside the domain alone, from event to event.
 use Rattle.std.proofs.Common.{◌≡◌, ◌≢◌, ℕ, Bool, true, false, eqb, zero, suc, ◌<◌, ◌≤◌, ap, sym, ◌∙◌, refl, subst, arith, true≢false, eqb-true, eq-eqb}
 use Rattle.sched_table.specs.Schedule.{harts_in}
-use Rattle.image_check.specs.Public.{Public}
 use Rattle.image_check.specs.Own.{Own}
 use Rattle.image_check.specs.Image.{Image, own_of}
 use Rattle.image_check.specs.Laws.{Runnable}
@@ -125,12 +124,12 @@ module _ (i : Image) (h d : ℕ) where
             clock = ran-clock i r h is k w inside facts;
           })
 
-      moved : domain_in i h k ≡ d → (m : InOwn k (part_of h d w)) → Within p o (part_of h d w') (step (setting p o true) (end_on i h k) m.a)
-      moved same m =
+      pub moved : domain_in i h k ≡ d → (a : Local) → Within p o (part_of h d w) a → Within p o (part_of h d w') (step (setting p o true) (end_on i h k) a)
+      moved same a near =
           within_trans p o (part_of h d w') _ _ (moved_here same)
-          (step_within p o (end_on i h k) (part_of h d w) m.a (kernel_of on r_on d id)
+          (step_within p o (end_on i h k) (part_of h d w) a (kernel_of on r_on d id)
           (subst (λ (e : ℕ). HasFacts p (own_of i e) (dom_of w e) w.storage) same facts)
-          (subst (λ (e : ℕ). OwnDirty p (own_of i e) (caches_of h w)) same inside.dirty) there m.near)
+          (subst (λ (e : ℕ). OwnDirty p (own_of i e) (caches_of h w)) same inside.dirty) there near)
 
       leads : (m : InOwn k (part_of h d w)) → stretch (setting p o true) (end_on i h k) (step (setting p o true) (end_on i h k) m.a) ≡ alone_in on.all o k (alone on.all o d k)
       leads m =
@@ -147,14 +146,15 @@ module _ (i : Image) (h d : ℕ) where
       differs t q = true≢false (sym (eq-eqb (domain_in i h k) d q) ∙ t)
 
       on_if : (b : Bool) → eqb (domain_in i h k) d ≡ b → MeetsIn b k (part_of h d w) → MeetsIn b k (part_of h d w')
-      on_if true t m = record { a = _; near = moved (eqb-true (domain_in i h k) d t) m; ends = leads m }
+      on_if true t m = record { a = _; near = moved (eqb-true (domain_in i h k) d t) m.a m.near; ends = leads m }
       on_if false t m = apiece_trans p o (part_of h d w') (part_of h d w) _ (others_moved (differs t)) m
 
       over_if : (b : Bool) → eqb (domain_in i h k) d ≡ b → end_on i h k ≤ clock_of h w' → MeetsIn b k (part_of h d w) → JoinedIf on d k b (part_of h d w')
       over_if true t over m =
           let same = eqb-true (domain_in i h k) d t in
-          let at = (moved same m).clock in
-          subst (Within p o (part_of h d w')) (sym (stretch_done (setting p o true) r_on.timed (end_on i h k) _ (omega (arith, at, over))) ∙ leads m) (moved same m)
+          let near = moved same m.a m.near in
+          let at = near.clock in
+          subst (Within p o (part_of h d w')) (sym (stretch_done (setting p o true) r_on.timed (end_on i h k) _ (omega (arith, at, over))) ∙ leads m) near
       over_if false t over m = apiece_trans p o (part_of h d w') (part_of h d w) _ (others_moved (differs t)) m
 
       -- an event after which the slot goes on

@@ -13,7 +13,7 @@ use Rattle.sched_table.specs.declared.schedule.Entry.{Entry}
 use Rattle.sched_table.specs.Schedule.{entry_in, switch_entry, pad_of, place_on, harts_in}
 use Rattle.sched_table.proofs.Harts.{hart_there_law}
 use Rattle.world_view.specs.Cost.{hierarchy}
-use Rattle.world_view.specs.Machine.{Hart, Local, World, no_hart, hart_of, caches_of, clock_of, dom_of, part_of, with_part, with_hart, guarded, switch_on, cycles_on, noted, no_harts, with_cold}
+use Rattle.world_view.specs.Machine.{Hart, World, no_hart, hart_of, caches_of, clock_of, dom_of, part_of, with_part, with_hart, guarded, switch_on, cycles_on, noted, no_harts, with_cold}
 use Rattle.world_view.specs.Used.{count_of}
 use Rattle.world_view.proofs.steps.CodeLaws.{count_of-push_same, count_of-push_other}
 use Rattle.world_view.specs.Relations.{IsDomain, Resident, KernelIsClean, HasFacts, InTime, Within, Apiece, AllWithinPads}
@@ -72,11 +72,11 @@ module _ (i : Image) where
 
 -- ---- after each event
 
-progress-same : (h : ℕ) (s : Harts) (w : World) (k : ℕ) (b : Bool) → progress_of h (proceeds h s w k b) ≡ record { slots = k; inside = b }
+pub progress-same : (h : ℕ) (s : Harts) (w : World) (k : ℕ) (b : Bool) → progress_of h (proceeds h s w k b) ≡ record { slots = k; inside = b }
 unfolding proceeds
 progress-same h s w k b = at-put_same _ s.progress h _
 
-progress-other : (g h : ℕ) (s : Harts) (w : World) (k : ℕ) (b : Bool) → g ≢ h → progress_of g (proceeds h s w k b) ≡ progress_of g s
+pub progress-other : (g h : ℕ) (s : Harts) (w : World) (k : ℕ) (b : Bool) → g ≢ h → progress_of g (proceeds h s w k b) ≡ progress_of g s
 unfolding proceeds
 progress-other g h s w k b other = at-put_other _ s.progress h g _ other
 
@@ -105,7 +105,7 @@ module _ (i : Image) (r : Runnable i) where
     pub counted : (e : ℕ) → e < length i.all.schedule → count_of e s.world.used ≤ switches_of (entry_in i.all.schedule e).hart s
 
   -- a domain on its hart
-  here : (s : Harts) → Running s → (h d : ℕ) → IsDomain i d → hart_of_domain i d ≡ h
+  pub here : (s : Harts) → Running s → (h d : ℕ) → IsDomain i d → hart_of_domain i d ≡ h
       → Meets i h d (progress_of h s).inside (slots_of h s) (part_of h d s.world)
   here s was h d id home = subst (λ (x : ℕ). Meets i x d (progress_of x s).inside (slots_of x s) (part_of x d s.world)) home (was.meets d id)
 
@@ -359,7 +359,7 @@ module _ (i : Image) (r : Runnable i) where
   -- ---- every event
 
   -- a hart in a slot is past its boot
-  there_if : (h : ℕ) (s : Harts) → (progress_of h s).inside ≡ true → (s ≡ harts i []) ⊎ Resident p (caches_of 0 s.world) → Resident p (caches_of 0 s.world)
+  pub there_if : (h : ℕ) (s : Harts) → (progress_of h s).inside ≡ true → (s ≡ harts i []) ⊎ Resident p (caches_of 0 s.world) → Resident p (caches_of 0 s.world)
   unfolding harts after
   there_if h s inside (inl first) =
       let none : (progress_of h s).inside ≡ false =

@@ -1,0 +1,43 @@
+-- Where an image has one hart, its entries are all.
+use Rattle.std.proofs.Common.{◌≡◌, ℕ, ◌+◌, ◌<◌, ◌≤◌, List, [], ◌∷◌, length, ap, ◌∙◌, refl, arith}
+use Rattle.std.specs.List.{All, enumerate_from}
+use Rattle.std.proofs.lemmas.List.Elements.{All-nil, All-cons}
+use Rattle.sched_table.specs.declared.schedule.Entry.{Entry}
+use Rattle.sched_table.specs.Schedule.{entries_alone, on_hart, harts_in}
+use Rattle.sched_table.proofs.Harts.{one_hart_law, hart_there_law}
+use Rattle.image_check.specs.Public.{Public}
+use Rattle.image_check.specs.Image.{own_of}
+use Rattle.world_view.specs.View.{view_alone}
+use Rattle.world_view.specs.Harts.{public_on, hart_of_domain, view_alone_on}
+use Rattle.world_view.specs.HartLaws.{OneHartLaw}
+
+on_first : (es : List Entry) → harts_in es ≤ 1 → All (λ e. e.hart ≡ 0) es
+unfolding harts_in
+on_first [] few = All-nil (λ (x : Entry). x.hart ≡ 0)
+on_first (e ∷ es) few = All-cons (λ (x : Entry). x.hart ≡ 0) e es (omega (arith, few)) (on_first es (omega (arith, few)))
+
+some_entry : (es : List Entry) → harts_in es ≡ 1 → 0 < length es
+unfolding harts_in
+some_entry [] one = absurd (omega (arith, one))
+some_entry (e ∷ es) one = omega arith
+
+without_places : (n : ℕ) (es : List Entry) → entries_alone (enumerate_from n es) ≡ es
+without_places n [] = refl
+without_places n (e ∷ es) = ap (λ (xs : List Entry). e ∷ xs) (without_places (n + 1) es)
+
+all_entries : (es : List Entry) → harts_in es ≡ 1 → on_hart es 0 ≡ es
+all_entries es one = ap entries_alone (one_hart_law es (on_first es (omega (arith, one)))) ∙ without_places 0 es
+
+pub one_hart : OneHartLaw
+unfolding view_alone_on
+one_hart i one =
+    let es = i.all.schedule in
+    let entries : public_on i.all 0 ≡ i.all = ap (λ (xs : List Entry). record i.all { schedule = xs }) (all_entries es one) in
+    let home : (d : ℕ) → hart_of_domain i d ≡ 0 = λ d. let there = hart_there_law es d (some_entry es one) in omega (arith, there, one) in
+    record {
+      entries = entries;
+      home = home;
+      alone = λ d n.
+          ap (λ (h : ℕ). view_alone (public_on i.all h) (own_of i d) d n) (home d)
+          ∙ ap (λ (p : Public). view_alone p (own_of i d) d n) entries;
+    }
