@@ -1,3 +1,4 @@
 mod Given
+mod Finding
 mod States
 mod Slots

@@ -1,13 +1,13 @@
-// One domain alone, one slot of the schedule after another.
+// One domain alone, one slot of its hart after another.
 ghost use Rattle.std.specs.Prelude.{◌≡◌, ◌≤◌, ◌∷◌, [], IfOk};
 ghost use Rattle.frame_colours.specs.Colours.{AreDisjoint};
 ghost use Rattle.hardware_check.specs.Hardware.{IsHardware, colours_of};
 ghost use Rattle.hardware_check.specs.Models.{hardware_model};
+ghost use Rattle.sched_table.specs.Schedule.{entries_alone};
 ghost use Rattle.mem_system.specs.Contents.{system};
 ghost use Rattle.image_check.specs.Models.{public_model, own_model};
 ghost use Rattle.image_check.specs.Pages as pages;
-ghost use Rattle.world_view.specs.Machine.{alone};
-ghost use Rattle.alone_run.specs.Runs.{RunsAlone};
+ghost use Rattle.alone_run.specs.Runs.{public_for, alone_after, RunsAlone};
 ghost use Rattle.alone_run.specs.Standing.{kept, StandsFor, HasFacts, IsInBounds};
 ghost use Rattle.alone_run.specs.Propositions.{stands_prop};
 
@@ -20,10 +20,11 @@ use l2_colour::L2;
 use mem_system::OnCore;
 use phys_mem::PhysMem;
 use repl_policy::AnyPolicy;
+use sched_table::HartSchedule;
 use std::alloc::Global;
 use tp_base::Memory;
 
-/// One domain alone, between two slots of the schedule. Its data stand for the
+/// One domain alone, between two slots of its hart. Its data stand for the
 /// definition of the domain alone after so many slots.
 #[derive(Drop)]
 pub struct Alone<'a> {
@@ -33,8 +34,10 @@ pub struct Alone<'a> {
     pub own: &'a Own,
     /// The domain, as the schedule names it.
     pub number: u8,
-    /// How many slots have passed, its own and others'.
+    /// How many slots of its hart have passed, its own and others'.
     pub slots: u32,
+    /// That of its hart.
+    schedule: &'a HartSchedule,
     memory: PhysMem,
     /// The kernel's lines are pinned in it.
     core: OnCore<AnyPolicy>,
@@ -42,14 +45,15 @@ pub struct Alone<'a> {
     domain: Domain,
     /// In cycles, as its last slot ended.
     clock: u64,
-    ghost runs: { RunsAlone (public_model public.now) (own_model own.now) number },
+    ghost on_hart: { entries_alone schedule.now ≡ (public_for (public_model public.now) number).schedule },
+    ghost runs: { RunsAlone (public_for (public_model public.now) number) (own_model own.now) number },
     ghost stands: { StandsFor (hardware_model public.now.hardware) (own_model own.now)
-        (alone (public_model public.now) (own_model own.now) number slots)
+        (alone_after (public_model public.now) (own_model own.now) number slots)
         (kept memory (system core l2) domain clock) } by { stands_prop (hardware_model public.now.hardware)
-            (own_model own.now) (alone (public_model public.now) (own_model own.now) number slots)
+            (own_model own.now) (alone_after (public_model public.now) (own_model own.now) number slots)
             (kept memory (system core l2) domain clock) },
     ghost facts: { ∥ HasFacts (hardware_model public.now.hardware) (own_model own.now)
-        (alone (public_model public.now) (own_model own.now) number slots)
+        (alone_after (public_model public.now) (own_model own.now) number slots)
         (kept memory (system core l2) domain clock) ∥₁ },
     ghost in_bounds: { IsInBounds slots (kept memory (system core l2) domain clock) },
 }

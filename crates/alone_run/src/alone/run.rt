@@ -1,5 +1,6 @@
 // The calls.
 use super::{Alone, share_of};
+use crate::hart::schedule_for;
 use domain_open::{load_domain, open_domain};
 use domain_step::stretch;
 use domain_switch::{enter, leave};
@@ -13,9 +14,11 @@ use world_view::{View, geometry_of};
 impl<'a> Alone<'a> {
     ghost use Rattle.std.specs.Prelude.{◌≡◌, ◌+◌, ◌<◌, IfOk};
     ghost use Rattle.image_check.specs.Models.{public_model, own_model};
+    ghost use Rattle.image_check.specs.Image.{Image, own_of};
     ghost use Rattle.world_view.specs.View.{view_alone};
+    ghost use Rattle.world_view.specs.Harts.{view_alone_on};
     ghost use Rattle.world_view.specs.Models.{view_model};
-    ghost use Rattle.alone_run.specs.Runs.{IsOf};
+    ghost use Rattle.alone_run.specs.Runs.{public_for, IsOf};
 
     /// A domain before its first slot. All that it will need is allocated here.
     ///
@@ -30,6 +33,7 @@ impl<'a> Alone<'a> {
         ensures public { IfOk result (λ a. a.public.now ≡ public.now) }
         ensures own { IfOk result (λ a. a.own.now ≡ own.now) }
     {
+        let schedule = schedule_for(public, d);
         let hardware = &public.hardware;
         let geometry = geometry_of(hardware);
         let (core, l2) = new_parts(alloc, geometry, hardware.costs, hardware.muldiv, true)?;
@@ -42,6 +46,7 @@ impl<'a> Alone<'a> {
             own,
             number: d,
             slots: 0,
+            schedule,
             memory,
             core,
             l2,
@@ -50,7 +55,7 @@ impl<'a> Alone<'a> {
         })
     }
 
-    /// Passes the next slot of the schedule. One of its own is run, from exactly
+    /// Passes the next slot of its hart. One of its own is run, from exactly
     /// its start and with a fresh core: the domain enters and leaves without
     /// charge. Never allocates.
     pub fn run_slot(&mut self)
@@ -62,11 +67,11 @@ impl<'a> Alone<'a> {
     {
         let slot = self.slots;
         self.slots += 1;
-        let entry = self.public.schedule.entry(slot);
+        let entry = self.schedule.entry(slot);
         if entry.domain != self.number {
             return;
         }
-        let start = self.public.schedule.start(slot);
+        let start = self.schedule.start(slot);
         let layout = self.domain.layout;
         // For the prover: the core is fresh, so that no leaf is kept.
         self.core.empty_tlb();
@@ -84,10 +89,15 @@ impl<'a> Alone<'a> {
         self.core.flush(&mut self.l2);
     }
 
-    /// What is seen of the domain after the slots that have passed.
+    /// What is seen of the domain after the slots that have passed: what the
+    /// definitions see of it alone, by the entries of its hart.
     pub fn view(&self) -> View<'_>
-        ensures view { view_model result ≡ view_alone (public_model self.now.public.now)
+        ensures view { view_model result ≡ view_alone
+            (public_for (public_model self.now.public.now) self.now.number)
             (own_model self.now.own.now) self.now.number self.now.slots }
+        ensures image { (i : Image) → public_model self.now.public.now ≡ i.all
+            → own_model self.now.own.now ≡ own_of i self.now.number
+            → view_model result ≡ view_alone_on i self.now.number self.now.slots }
     {
         View::new(&self.domain, &self.memory)
     }

@@ -6,7 +6,7 @@ use Rattle.mem_system.specs.Hierarchy.{Hierarchy}
 use Rattle.mem_system.specs.Cost.{cold}
 use Rattle.mem_system.specs.Contents.{system, SystemStands}
 use Rattle.image_check.specs.Models.{public_model, own_model}
-use Rattle.world_view.specs.Machine.{alone}
+use Rattle.alone_run.specs.Runs.{public_for, alone_after}
 use Rattle.alone_run.specs.Standing.{kept}
 use Rattle.alone_run.proofs.Given.{runs_of}
 use Rattle.alone_run.proofs.Slots.{Stand, stands_of, facts_of, opened}
@@ -30,10 +30,10 @@ pub load_domain-requires-clause-has_pool : goal.load_domain-requires-clause-has_
 load_domain-requires-clause-has_pool c = (runs_of (public_model c.args.public.now) (own_model c.args.own.now) c.args.d c.requires.image).pool
 
 stood : (c : goal.After-load_domain) → Stand (public_model c.args.public.now).hardware (own_model c.args.own.now)
-    (kept c.load_domain.new.memory (system c.in_ok-core.core c.in_ok-core.l2) c.in_ok-domain.domain 0) (alone (public_model c.args.public.now) (own_model c.args.own.now) c.args.d 0)
+    (kept c.load_domain.new.memory (system c.in_ok-core.core c.in_ok-core.l2) c.in_ok-domain.domain 0) (alone_after (public_model c.args.public.now) (own_model c.args.own.now) c.args.d 0)
 stood c =
     let levels = c.geometry_of-geometry.ensures.hierarchy in
-    opened (public_model c.args.public.now) (own_model c.args.own.now) (runs_of (public_model c.args.public.now) (own_model c.args.own.now) c.args.d c.requires.image) c.args.d c.load_domain.new.memory (system c.in_ok-core.core c.in_ok-core.l2) c.in_ok-domain.domain
+    opened (public_for (public_model c.args.public.now) c.args.d) (own_model c.args.own.now) (runs_of (public_model c.args.public.now) (own_model c.args.own.now) c.args.d c.requires.image) c.args.d c.load_domain.new.memory (system c.in_ok-core.core c.in_ok-core.l2) c.in_ok-domain.domain
     (c.load_domain.ensures.size ∙ c.in_ok-domain.ensures.size ∙ ap (λ (x : Contents). x.frames) c.in_ok-memory.ensures.zero)
     (c.load_domain.ensures.placed empty (c.in_ok-domain.ensures.blank c.in_ok-memory.ensures.holds))
     (c.in_ok-core.ensures.hierarchy ∙ levels) c.in_ok-core.ensures.pinned
