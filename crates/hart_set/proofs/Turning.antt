@@ -1,9 +1,6 @@
 -- What a hart's next switch goes by, as the code finds it.
 use Rattle.std.proofs.Common.{◌≡◌, ◌∙◌, ℕ, zero, suc, ◌<◌, List, Some, length, zero-add, refl, sym, ap, subst, arith}
 use Rattle.std.specs.Prelude.{slice_get, slice_index_or}
-use Rattle.std.specs.List.{range_with_len}
-use Rattle.std.proofs.lemmas.List.{length-map, get_or-map}
-use Rattle.std.proofs.lemmas.List.FromFn.{length-range_with_len, get_or-range_with_len}
 use Rattle.kernel_clone.specs.Models.{layout_model}
 use Rattle.sched_table.specs.declared.schedule.Entry.{Entry}
 use Rattle.sched_table.specs.declared.schedule.Turn.{Turn}
@@ -18,6 +15,7 @@ use Rattle.world_view.specs.Machine.{clone_of}
 use Rattle.world_view.specs.Relations.{IsDomain}
 use Rattle.world_view.specs.Harts.{image_on}
 use Rattle.world_view.proofs.harts.OnHart.{placed_switch}
+use Rattle.world_view.proofs.harts.Schedules.{one_each as every_hart, own_entries as entries_at}
 use Rattle.hart_set.specs.declared.hart.Hart.{Hart as CodeHart}
 use Rattle.hart_set.specs.declared.set.State.{State}
 use Rattle.hart_set.specs.Turns.{IsTurn}
@@ -30,20 +28,11 @@ module _ (public : CodePublic) (p : Public) (same : public_model public ≡ p) w
   schedules = public.each_hart ∙ ap (λ (q : Public). hart_schedules q.schedule) same
 
   pub one_each : length public.harts.items ≡ harts_in p.schedule
-  unfolding hart_schedules
-  one_each =
-      ap (λ (xs : List (List (ℕ × Entry))). length xs) schedules ∙ length-map (range_with_len 0 (harts_in p.schedule)) (entries_on p.schedule)
-      ∙ length-range_with_len 0 (harts_in p.schedule)
+  one_each = every_hart p.schedule public.harts.items schedules
 
   pub own_entries : (h : ℕ) (placed : List (ℕ × Entry)) → h < harts_in p.schedule → placed ≡ slice_index_or public.harts.items h placed
       → placed ≡ entries_on p.schedule h
-  unfolding hart_schedules
-  own_entries h placed below read =
-      let all = range_with_len 0 (harts_in p.schedule) in
-      let within : h < length all = let n = length-range_with_len 0 (harts_in p.schedule) in omega (arith, n, below) in
-      read ∙ ap (λ (xs : List (List (ℕ × Entry))). slice_index_or xs h placed) schedules
-      ∙ get_or-map (entries_on p.schedule) all h 0 placed within
-      ∙ ap (entries_on p.schedule) (get_or-range_with_len 0 (harts_in p.schedule) h 0 below ∙ zero-add h)
+  own_entries = entries_at p.schedule public.harts.items schedules
 
 -- what a hart's schedule tells is told of its entries
 pub turn_on : (es own : List Entry) (h k : ℕ) (t : Turn) → own ≡ on_hart es h → t.entry ≡ entry_of_slot own k → t.start ≡ start own k

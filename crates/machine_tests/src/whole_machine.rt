@@ -5,6 +5,7 @@ mod timed_calls;
 use crate::images::{MACHINE, RED_AND_BLUE, accepted};
 use crate::seen::{Seen, told};
 use call_table::{DomainStatus, Reply};
+use machine_state::has_one_hart;
 use std::alloc::Global;
 use std::test::Fail;
 use tp_base::Memory;
@@ -27,6 +28,9 @@ fn ran(alloc: Global) -> Result<Option<(Seen, Used)>, Memory> {
         return Ok(None);
     };
     image.runnable();
+    if !has_one_hart(&image) {
+        return Ok(None);
+    }
     let mut machine = Machine::load(alloc, &image)?;
     machine.run_slot();
     machine.run_slot();

@@ -19,18 +19,22 @@ impl<'a> Ablated<'a> {
     ghost use Rattle.kernel_clone.specs.Footprints.{IsLayout};
     ghost use Rattle.kernel_clone.specs.Models.{layout_model};
     ghost use Rattle.sched_table.specs.Schedule as schedule;
+    ghost use Rattle.image_check.specs.Image.{image_from};
     ghost use Rattle.world_view.specs.Machine as spec;
     ghost use Rattle.world_view.specs.View.{view_off};
+    ghost use Rattle.world_view.specs.Harts.{IsOnOneHart};
     ghost use Rattle.world_view.specs.Models.{view_model};
     ghost use Rattle.world_view.specs.Used.{largest_of, count_of};
     ghost use Rattle.machine_state.specs.Usage.{IsUsed};
     ghost use Rattle.ablated_run.specs.Models.{image_off, world_off};
 
-    /// The machine before its first slot. All that it will need is allocated here.
+    /// The machine of an image of one hart, before its first slot. All that it will need is
+    /// allocated here.
     ///
     /// # Errors
     /// `Memory` where no memory is left for it.
     pub fn load(alloc: Global, image: &'a Checked, off: Guard) -> Result<Self, Memory>
+        requires one { IsOnOneHart (image_from image.now) }
         ensures slots { IfOk result (λ m. m.slots ≡ 0) }
         ensures image { IfOk result (λ m. m.image.now ≡ image.now) }
         ensures off { IfOk result (λ m. m.off ≡ off) }

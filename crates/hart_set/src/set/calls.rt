@@ -61,6 +61,13 @@ impl<'a> HartSet<'a> {
         })
     }
 
+    /// The image whose harts they are.
+    pub fn image(&self) -> &Checked
+        ensures value { result.now ≡ self.now.0 }
+    {
+        self.image
+    }
+
     /// How many harts there are, 1 to 4.
     pub fn harts(&self) -> u8
         ensures value { result ≡ harts_in (image_of self.now).all.schedule }

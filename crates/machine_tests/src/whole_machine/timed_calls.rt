@@ -3,6 +3,7 @@
 // walk has read 9, and any other 1.
 use crate::images::{accepted, hex_of};
 use call_table::Reply;
+use machine_state::has_one_hart;
 use std::alloc::Global;
 use std::test::Fail;
 use tp_base::Memory;
@@ -177,6 +178,9 @@ fn ran(alloc: Global) -> Result<Option<Option<u32>>, Memory> {
         return Ok(None);
     };
     image.runnable();
+    if !has_one_hart(&image) {
+        return Ok(None);
+    }
     let mut machine = Machine::load(alloc, &image)?;
     machine.run_slot();
     Ok(Some(first_wrong(&machine.view(0))))

@@ -19,22 +19,25 @@ impl<'a> Machine<'a> {
     ghost use Rattle.kernel_clone.specs.Models.{layout_model};
     ghost use Rattle.mem_system.specs.Contents.{system, hierarchy_of};
     ghost use Rattle.domain_switch.specs.Switch.{IsCloneOn};
-    ghost use Rattle.image_check.specs.Image.{own_of};
+    ghost use Rattle.image_check.specs.Image.{image_from, own_of};
     ghost use Rattle.world_view.specs.Machine as spec;
     ghost use Rattle.world_view.specs.Relations.{ended_own};
     ghost use Rattle.sched_table.specs.Schedule as schedule;
     ghost use Rattle.sched_table.specs.Schedule.{entry_in};
     ghost use Rattle.world_view.specs.View.{view_whole, view_alone};
+    ghost use Rattle.world_view.specs.Harts.{IsOnOneHart};
     ghost use Rattle.world_view.specs.Models.{view_model};
     ghost use Rattle.world_view.specs.Used.{largest_of, count_of};
     ghost use Rattle.machine_state.specs.Usage.{IsUsed};
     ghost use Rattle.tp_machine.specs.Models.{image_of, world_of};
 
-    /// The machine before its first slot. All that it will need is allocated here.
+    /// The machine of an image of one hart, before its first slot. All that it will need is
+    /// allocated here.
     ///
     /// # Errors
     /// `Memory` where no memory is left for it.
     pub fn load(alloc: Global, image: &'a Checked) -> Result<Self, Memory>
+        requires one { IsOnOneHart (image_from image.now) }
         ensures slots { IfOk result (λ m. m.slots ≡ 0) }
         ensures image { IfOk result (λ m. m.image.now ≡ image.now) }
     {
