@@ -1,5 +1,5 @@
 // Generated images, whose domains are dealt out to harts.
-use crate::images::on_harts;
+use crate::images::{on_harts, sections_alone};
 use crate::orders::{Order, sections_after};
 use image_gen::generate;
 use std::test::Fail;
@@ -10,7 +10,7 @@ use std::test::Fail;
 const IMAGES: [(u64, u8); 6] = [(8, 2), (0, 3), (1, 2), (2, 4), (4, 4), (6, 3)];
 
 #[test]
-fn sections_are_the_same_in_any_order(rt: HostRuntime) -> Result<(), Fail> {
+fn sections_are_the_same_in_any_order_and_alone(rt: HostRuntime) -> Result<(), Fail> {
     let alloc = rt.alloc();
     for (seed, harts) in IMAGES {
         let text = generate(alloc, seed)?;
@@ -25,6 +25,8 @@ fn sections_are_the_same_in_any_order(rt: HostRuntime) -> Result<(), Fail> {
             let found = sections_after(&rt, alloc, &image, order)?;
             assert_eq!(rt; found.as_str(), due.as_str(), "seed {seed}");
         }
+        let alone = sections_alone(alloc, &image)?;
+        assert_eq!(rt; alone.as_str(), due.as_str(), "seed {seed}");
     }
     Ok(())
 }

@@ -1,7 +1,8 @@
 // Images with entries on harts, and what is seen of their domains.
-ghost use Rattle.std.specs.Prelude.{◌≡◌, length};
+ghost use Rattle.std.specs.Prelude.{◌≡◌, ◌<◌, length};
 ghost use Rattle.image_check.specs.Own.{owns_of};
 
+use alone_run::Alone;
 use hart_set::HartSet;
 use image_check::{Checked, check};
 use image_record::RawEntry;
@@ -28,6 +29,13 @@ pub fn on_harts(alloc: Global, text: &str, harts: u8) -> Result<Checked, Fail> {
     Ok(check(alloc, raw)?)
 }
 
+/// The image of this text without its last entry.
+pub fn without_last(alloc: Global, text: &str) -> Result<Checked, Fail> {
+    let mut raw = read_image(alloc, text.as_bytes())?;
+    raw.schedule.pop();
+    Ok(check(alloc, raw)?)
+}
+
 fn domains_of(image: &Checked) -> u8
     ensures value { result ≡ length (owns_of image.now) }
 {
@@ -43,6 +51,28 @@ pub fn sections(alloc: Global, image: &Checked, harts: &HartSet<'_>) -> Result<S
     for d in 0..domains_of(image) {
         let name = image.own(usize::from(d)).name.as_str();
         write_section(&mut sink, d, name, &harts.view(d))?;
+    }
+    Ok(String::from_str(alloc, str::from_utf8(sink.bytes())?)?)
+}
+
+// A domain's section after two slots of its hart, as it is alone.
+fn write_alone(alloc: Global, image: &Checked, d: u8, sink: &mut MemSink) -> Result<(), Fail>
+    requires domain { d < length (owns_of image.now) }
+{
+    image.runnable();
+    let own = image.own(usize::from(d));
+    let mut alone = Alone::load(alloc, image.public(), own, d)?;
+    alone.run_slot();
+    alone.run_slot();
+    write_section(sink, d, own.name.as_str(), &alone.view())?;
+    Ok(())
+}
+
+/// The sections of all domains after two slots of each hart, each as it is alone.
+pub fn sections_alone(alloc: Global, image: &Checked) -> Result<String, Fail> {
+    let mut sink = MemSink::new(alloc, ROOM, ROOM, &[])?;
+    for d in 0..domains_of(image) {
+        write_alone(alloc, image, d, &mut sink)?;
     }
     Ok(String::from_str(alloc, str::from_utf8(sink.bytes())?)?)
 }

@@ -1,6 +1,6 @@
 // Two domains, each on a hart of its own and counted by hand: each reads the clock
 // before and after it prints.
-use crate::images::{on_harts, sections};
+use crate::images::{on_harts, sections, sections_alone, without_last};
 use crate::orders::{Order, run, sections_after};
 use hart_set::HartSet;
 use image_check::Checked;
@@ -63,6 +63,25 @@ out 1 42
 mem 84311de1
 ";
 
+// Where no entry names blue.
+const UNNAMED: &str = "domain 0 red
+status exited 0
+retired 5
+thread 0 ended pc 00010018 x5=00001806 x6=000019dd
+readings 2 last 6621 list 6150 6621
+replies 1 last 0:0 list 0:0
+out 1 41
+mem 842115e1
+domain 1 blue
+status running
+retired 0
+thread 0 ready pc 00010000
+readings 0
+replies 0
+out 0
+mem 84311de1
+";
+
 fn took(largest: u64, count: u32) -> Used {
     Used { largest, count }
 }
@@ -118,5 +137,27 @@ fn the_first_boot_takes_longest(rt: HostRuntime) -> Result<(), Fail> {
         let found = sections_after(&rt, alloc, &image, Order::OneByOne(first))?;
         assert_eq!(rt; found.as_str(), SECTIONS, "hart {first} first");
     }
+    Ok(())
+}
+
+// Alone, each goes by the entry of its own hart.
+#[test]
+fn each_is_the_same_alone(rt: HostRuntime) -> Result<(), Fail> {
+    let alloc = rt.alloc();
+    let image = on_harts(alloc, IMAGE, 2)?;
+    let found = sections_alone(alloc, &image)?;
+    assert_eq!(rt; found.as_str(), SECTIONS);
+    Ok(())
+}
+
+// Blue has no entry, and so no slot, neither among others nor alone.
+#[test]
+fn a_domain_that_no_entry_names_gets_no_slot(rt: HostRuntime) -> Result<(), Fail> {
+    let alloc = rt.alloc();
+    let image = without_last(alloc, IMAGE)?;
+    let found = sections_alone(alloc, &image)?;
+    assert_eq!(rt; found.as_str(), UNNAMED);
+    let among = sections_after(&rt, alloc, &image, Order::LeastClock)?;
+    assert_eq!(rt; among.as_str(), UNNAMED);
     Ok(())
 }

@@ -1,0 +1,6 @@
+pub mod Chosen
+pub mod Left
+pub mod Through
+pub mod Seen
+pub mod Standing
+pub mod Running

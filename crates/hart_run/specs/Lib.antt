@@ -1,0 +1,4 @@
+pub mod Order
+pub mod Choosers
+pub mod Models
+pub mod Laws
