@@ -9,6 +9,8 @@ mod calls;
 #[cfg(test)]
 mod extensions;
 #[cfg(test)]
+mod harts;
+#[cfg(test)]
 mod images;
 #[cfg(test)]
 mod interrupts;

@@ -1,5 +1,5 @@
 -- What is due, from what was read and what was written.
-use Rattle.std.proofs.Common.{◌≡◌, ◌≢◌, ℕ, ◌+◌, ◌-◌, ◌^◌, ◌<◌, ◌≤◌, leb, ltb, Bool, if◌then◌else◌, true, false, List, [], ◌++◌, length, Option, Some, None, Result, Ok, Err, refl, sym, ap, ◌∙◌, subst, arith, ◌⊎◌, inl, inr}
+use Rattle.std.proofs.Common.{◌≡◌, ◌≢◌, ℕ, ◌+◌, ◌-◌, ◌^◌, ◌<◌, ◌≤◌, leb, ltb, nat_eq, eq-eqb, ne_eqb, Bool, if◌then◌else◌, true, false, List, [], ◌++◌, length, Option, Some, None, Result, Ok, Err, refl, sym, ap, ◌∙◌, subst, arith, ◌⊎◌, inl, inr}
 use Rattle.std.specs.Prelude.{OnOk, OnErr}
 use Rattle.std.proofs.lemmas.List.{length-append, append-nil}
 use Rattle.std.proofs.lemmas.Option.{same_Some}
@@ -12,14 +12,17 @@ use Rattle.image_record.specs.declared.refusal.Refusal.{Refusal}
 use Rattle.image_check.specs.Image.{Image}
 use Rattle.world_view.specs.Reading.{most_bytes}
 use Rattle.world_view.specs.Relations.{IsDomain}
-use Rattle.tp_report.specs.Report.{usage_text, refusal_text, too_long_text}
+use Rattle.guards.specs.declared.Guard.{Guard}
+use Rattle.sched_table.specs.Schedule.{harts_in}
+use Rattle.tp_report.specs.Report.{report_off, usage_text, refusal_text, too_long_text}
 use Rattle.tp_words.specs.declared.Command.{Command}
-use Rattle.tp_words.specs.declared.Command.TheVariants.{Check, Bound, Run, Alone, Gen, Demo, Ablate}
+use Rattle.tp_words.specs.declared.Command.TheVariants.{Check, Bound, Run, Alone, Gen, Demo, Ablate, Harts}
 use Rattle.tp_run.specs.declared.status.Status.{Status}
 use Rattle.tp_run.specs.declared.status.Status.TheVariants.{Done, Refused, Usage, ReadFault, WriteFault, Memory, TooLong}
 use Rattle.tp_words.specs.Words.{Reads, command}
 use Rattle.tp_run.specs.Reading.{image_for}
-use Rattle.tp_run.specs.Answer.{Answer, answer, answer_by, answer_of_bytes, answer_to_image, answer_gen, answer_demo, answer_unless_broken, answer_of_image, answer_alone, section_alone}
+use Rattle.tp_run.specs.Answer.{Answer, answer, answer_by, answer_of_bytes, answer_to_image, answer_gen, answer_demo, answer_unless_broken, answer_of_image, answer_alone, answer_off}
+use Rattle.tp_run.specs.Runs.{section_alone}
 use Rattle.tp_run.specs.TopCall.{Writes, EndsUsage, Delivers, MayBeUsage, ComesTo}
 
 -- ---- what was written
@@ -139,6 +142,7 @@ longer_reads Bound bytes none over = tt
 longer_reads (Run n) bytes none over = tt
 longer_reads (Alone d n) bytes none over = tt
 longer_reads (Ablate off n) bytes none over = tt
+longer_reads (Harts n s) bytes none over = tt
 longer_reads (Gen s) bytes none over =
     let empty = ap length (none (λ reads. reads)) in absurd (omega (arith, empty))
 longer_reads (Demo s) bytes none over =
@@ -153,6 +157,7 @@ read_due bytes Bound reads = refl
 read_due bytes (Run n) reads = refl
 read_due bytes (Alone d n) reads = refl
 read_due bytes (Ablate off n) reads = refl
+read_due bytes (Harts n s) reads = refl
 read_due bytes (Gen s) reads = absurd reads
 read_due bytes (Demo s) reads = absurd reads
 
@@ -203,6 +208,19 @@ unfolding answer_of_image answer_alone
 lacks_due d n i lacks =
     let test : ltb d (length i.owns) ≡ false = grind (arith, nat_tests) in rw test
 
+-- an image of one hart is run with a guard off, and of several there is nothing to tell
+pub off_due : (off : Guard) (n : ℕ) (i : Image) → harts_in i.all.schedule ≡ 1
+    → answer_of_image (Ablate off n) i ≡ (Done, report_off off i n)
+unfolding answer_of_image answer_off
+off_due off n i one =
+    ap (λ (b : Bool). if b then (Done, report_off off i n) else (Usage, usage_text)) (eq-eqb (harts_in i.all.schedule) 1 one)
+
+pub many_due : (off : Guard) (n : ℕ) (i : Image) → harts_in i.all.schedule ≢ 1
+    → answer_of_image (Ablate off n) i ≡ (Usage, usage_text)
+unfolding answer_of_image answer_off
+many_due off n i many =
+    ap (λ (b : Bool). if b then (Done, report_off off i n) else (Usage, usage_text)) (ne_eqb (harts_in i.all.schedule) 1 many)
+
 pub usage_delivers : (words : List (List ℕ)) (bytes : List ℕ) (result : Status)
     (old new : SinkState) → command words ≡ None → Delivers (Usage, usage_text) result old new
     → Delivers (answer words bytes) result old new
@@ -228,19 +246,22 @@ of_chosen P true x y p q = p
 of_chosen P false x y p q = q
 
 of_image : (c : Command) (found : Result Image Refusal) → IsOfImage (answer_unless_broken c found).0
-unfolding answer_unless_broken answer_of_image answer_alone
+unfolding answer_unless_broken answer_of_image answer_alone answer_off
 of_image Check (Ok i) = tt
 of_image Bound (Ok i) = tt
 of_image (Run n) (Ok i) = tt
 of_image (Alone d n) (Ok i) =
     of_chosen IsOfImage (ltb d (length i.owns)) (Done, section_alone i d n) (Usage, usage_text) tt
     tt
-of_image (Ablate off n) (Ok i) = tt
+of_image (Ablate off n) (Ok i) =
+    of_chosen IsOfImage (nat_eq (harts_in i.all.schedule) 1) (Done, report_off off i n) (Usage, usage_text) tt
+    tt
+of_image (Harts n s) (Ok i) = tt
 of_image (Gen s) (Ok i) = tt
 of_image (Demo s) (Ok i) = tt
 of_image c (Err r) = tt
 
--- usage is due to no image, but where a domain is named
+-- usage is due to no image, but where a domain is named, or a guard
 pub usage_of : (c : Command) (found : Result Image Refusal)
     → Usage ≡ (answer_unless_broken c found).0 → MayBeUsage (Some c)
 unfolding answer_unless_broken answer_of_image
@@ -248,7 +269,8 @@ usage_of Check (Ok i) e = cc e
 usage_of Bound (Ok i) e = cc e
 usage_of (Run n) (Ok i) e = cc e
 usage_of (Alone d n) found e = tt
-usage_of (Ablate off n) (Ok i) e = cc e
+usage_of (Ablate off n) found e = tt
+usage_of (Harts n s) (Ok i) e = cc e
 usage_of (Gen s) (Ok i) e = cc e
 usage_of (Demo s) (Ok i) e = cc e
 usage_of c (Err r) e = absurd (cc e)
@@ -262,6 +284,7 @@ other_reads Bound items status e other = tt
 other_reads (Run n) items status e other = tt
 other_reads (Alone d n) items status e other = tt
 other_reads (Ablate off n) items status e other = tt
+other_reads (Harts n s) items status e other = tt
 other_reads (Gen s) items status e other = absurd (other e)
 other_reads (Demo s) items status e other = absurd (other e)
 

@@ -1,38 +1,38 @@
 -- What a command tells that was answered: the top call's clauses, by what was due.
-use Rattle.std.proofs.Common.{◌≡◌, ◌≢◌, ℕ, ◌^◌, ◌<◌, ◌≤◌, ltb, List, [], ◌∷◌, length, Option, Some, Result, Ok, Err, refl, sym, ap, ◌∙◌, subst, inl, inr}
+use Rattle.std.proofs.Common.{◌≡◌, ◌≢◌, ℕ, ◌^◌, ◌<◌, ◌≤◌, ltb, nat_eq, List, [], ◌∷◌, length, Option, Some, Result, Ok, Err, refl, sym, ap, ◌∙◌, subst, inl, inr}
 use Rattle.std.specs.Prelude.{slice_get}
-use Rattle.std.proofs.lemmas.Bool.{cases_lt}
+use Rattle.std.proofs.lemmas.Bool.{cases_lt, cases_eq}
 use Rattle.tp_io.specs.Bytes.{before_known, after_known, AtEnd}
 use Rattle.tp_io.specs.Sends.{SinkState}
 use Rattle.guards.specs.declared.Guard.{Guard}
 use Rattle.image_record.specs.declared.refusal.Refusal.{Refusal}
 use Rattle.image_record.specs.Record as text
 use Rattle.image_text.specs.Record.{image_of}
-use Rattle.image_check.specs.Image.{Image, own_of, image_from}
+use Rattle.sched_table.specs.Schedule.{harts_in}
+use Rattle.image_check.specs.Image.{Image, image_from}
 use Rattle.world_view.specs.Reading.{image, checked, unless_broken, most_bytes}
-use Rattle.world_view.specs.Machine.{whole}
-use Rattle.world_view.specs.View.{view_whole}
-use Rattle.world_view.specs.Relations.{IsDomain}
 use Rattle.image_check.specs.Laws.{Runnable}
 use Rattle.world_view.proofs.opening.Separate.{separated}
 use Rattle.world_view.proofs.ReadingLaws.{read_runs}
-use Rattle.world_view.proofs.runs.WholeLaws.{isolated}
-use Rattle.world_view.proofs.time.TimeLaws.{used_within, on_time, largest_within}
+use Rattle.world_view.proofs.time.TimeLaws.{on_time}
+use Rattle.world_view.proofs.harts.Clocks.{hart_starts}
+use Rattle.hart_run.specs.declared.choice.Choice.{Choice}
+use Rattle.hart_run.specs.declared.choice.Choice.TheVariants.{LeastClock, Drawn}
 use Rattle.image_gen.specs.Text.{text as generated_text}
 use Rattle.image_gen.proofs.Kept.{accepted_law}
-use Rattle.tp_report.specs.Texts.{section}
-use Rattle.tp_report.specs.Report.{report, section_of, bounds_of, usage_text, refusal_text}
-use Rattle.tp_report.proofs.ReportLaws.{reported_apart}
+use Rattle.tp_report.specs.Report.{report_off, bounds_of, usage_text, refusal_text}
 use Rattle.tp_words.specs.declared.Command.{Command}
-use Rattle.tp_words.specs.declared.Command.TheVariants.{Check, Bound, Run, Alone, Gen, Demo, Ablate}
+use Rattle.tp_words.specs.declared.Command.TheVariants.{Check, Bound, Run, Alone, Gen, Demo, Ablate, Harts}
 use Rattle.tp_run.specs.declared.status.Status.{Status}
 use Rattle.tp_run.specs.declared.status.Status.TheVariants.{Done, Refused, Usage, TooLong}
 use Rattle.tp_words.specs.Words.{Reads, command}
 use Rattle.tp_run.specs.Reading.{broken_for, broken_in, checked_for, image_for}
-use Rattle.tp_run.specs.Answer.{Answer, answer, answer_of_bytes, answer_unless_broken, answer_of_image, answer_alone, section_alone}
+use Rattle.tp_run.specs.Answer.{Answer, answer, answer_of_bytes, answer_unless_broken, answer_of_image, answer_alone, answer_off}
+use Rattle.tp_run.specs.Runs.{report, section_alone}
+use Rattle.tp_run.proofs.Runs.{seen_alone, within_pads, lines_within, apart, same_section}
 use Rattle.tp_run.proofs.Accepted.{value_or}
-use Rattle.tp_run.specs.TopCall.{Writes, Delivers, MayBeUsage, ReadsImage, Refuses, Accepts, Bounds, Isolated, Padded, LacksDomain, WritesSection, SameSection, WritesOff, ReadsBack, Generates, Summarizes}
-use Rattle.tp_run.proofs.Answers.{all_taken, over_taken, too_long_due, image_due, bytes_due, gen_due, demo_due, alone_due, lacks_due, of_chosen, usage_of, other_reads, is_few, is_over}
+use Rattle.tp_run.specs.TopCall.{Writes, Delivers, MayBeUsage, ReadsImage, Refuses, Accepts, Bounds, Isolated, Padded, LacksDomain, WritesSection, SameSection, HasManyHarts, WritesOff, ReadsBack, Generates, Summarizes}
+use Rattle.tp_run.proofs.Answers.{all_taken, over_taken, too_long_due, image_due, bytes_due, gen_due, demo_due, alone_due, lacks_due, off_due, many_due, of_chosen, usage_of, other_reads, is_few, is_over}
 
 -- ---- the same is due
 
@@ -59,6 +59,8 @@ same_taken (Alone d n) bytes items rest took whole =
     same_read (Alone d n) tt bytes items rest took whole
 same_taken (Ablate off n) bytes items rest took whole =
     same_read (Ablate off n) tt bytes items rest took whole
+same_taken (Harts n s) bytes items rest took whole =
+    same_read (Harts n s) tt bytes items rest took whole
 
 -- ---- a command that was answered
 
@@ -144,7 +146,7 @@ module _ (a : Asked) (h : IsAnswered a) where
       let due : IsDue a TooLong (due_to a) = wrote_as TooLong over in
       is_over a.command (other_reads a.command a.items TooLong due.0 (λ e. cc e)) a.items due.0
 
-  -- words that are a command have the usage line only where they name a domain
+  -- words that are a command have the usage line only where they name a domain, or a guard
   pub may_be_usage : a.status ≡ Usage → MayBeUsage (Some a.command)
   may_be_usage usage =
       let due : IsDue a Usage (due_to a) = wrote_as Usage usage in
@@ -175,6 +177,12 @@ unfolding checked_for checked broken_for
 off_reads off n (Ok i) = refl
 off_reads off n (Err r) = refl
 
+harts_read : (n s : ℕ) (found : Result text.Raw Refusal)
+    → checked_for (Harts n s) found ≡ checked found
+unfolding checked_for checked broken_for
+harts_read n s (Ok i) = refl
+harts_read n s (Err r) = refl
+
 -- another status than Refused tells that an image was found
 found_image : (c : Command) (found : Result Image Refusal) (status : Status) → status ≢ Refused
     → status ≡ (answer_unless_broken c found).0
@@ -190,11 +198,14 @@ usage_is_found : Usage ≢ Refused
 usage_is_found e = cc
 
 no_refusal : (c : Command) (i : Image) → Refused ≡ (answer_of_image c i).0 → ⊥
-unfolding answer_of_image answer_alone
+unfolding answer_of_image answer_alone answer_off
 no_refusal Check i e = cc e
 no_refusal Bound i e = cc e
 no_refusal (Run n) i e = cc e
-no_refusal (Ablate off n) i e = cc e
+no_refusal (Ablate off n) i e =
+    of_chosen (λ s. Refused ≢ s) (nat_eq (harts_in i.all.schedule) 1) (Done, report_off off i n)
+    (Usage, usage_text) (λ r. cc r) (λ r. cc r) e
+no_refusal (Harts n s) i e = cc e
 no_refusal (Gen s) i e = cc e
 no_refusal (Demo s) i e = cc e
 no_refusal (Alone d n) i e =
@@ -333,7 +344,7 @@ bounds a h asked done =
     }
 
 pub ran : (n : ℕ) (a : Asked) → IsAnswered a → a.command ≡ Run n → a.status ≡ Done
-    → (r : ReadsImage a.left a.left') × HasWritten a (report r.found n)
+    → (r : ReadsImage a.left a.left') × HasWritten a (report r.found LeastClock n)
 unfolding answer_of_image
 ran n a h asked done =
     let b : Asked = record a { command = Run n } in
@@ -343,30 +354,40 @@ ran n a h asked done =
     reads_image b k tt (run_reads n) Done done_is_found due (done_reads b k tt done) in
     (r, wrote)
 
+pub harts_ran : (n s : ℕ) (a : Asked) → IsAnswered a → a.command ≡ Harts n s → a.status ≡ Done
+    → (r : ReadsImage a.left a.left') × HasWritten a (report r.found (Drawn s) n)
+unfolding answer_of_image
+harts_ran n s a h asked done =
+    let b : Asked = record a { command = Harts n s } in
+    let k : IsAnswered b = as_command a (Harts n s) asked h in
+    let due : IsDue b Done (due_to b) = wrote_as b k Done done in
+    let (r, is, wrote) =
+    reads_image b k tt (harts_read n s) Done done_is_found due (done_reads b k tt done) in
+    (r, wrote)
+
 read_separated : (left left' : Option (List ℕ)) (r : ReadsImage left left') → Runnable r.found
 read_separated left left' r = read_runs r.bytes r.found r.read
 
-pub is_isolated : (n : ℕ) (left left' old new : Option (List ℕ)) (r : ReadsImage left left')
-    → new ≡ after_known old (report r.found n) → Isolated n left left' old new
-is_isolated n left left' old new r wrote =
-    let runs = separated r.found (read_separated left left' r) in
+pub is_isolated : (c : Choice) (n : ℕ) (left left' old new : Option (List ℕ)) (r : ReadsImage left left')
+    → new ≡ after_known old (report r.found c n) → Isolated c n left left' old new
+is_isolated c n left left' old new r wrote =
+    let runs = read_separated left left' r in
     record {
       ran = r;
-      wrote = wrote ∙ ap (after_known old) (reported_apart r.found n runs);
-      views = λ d is. isolated r.found d n runs is;
+      wrote = wrote ∙ ap (after_known old) (apart r.found c n runs);
+      views = λ d is. seen_alone r.found c n runs d is;
     }
 
-pub is_padded : (n : ℕ) (left left' : Option (List ℕ)) (r : ReadsImage left left')
-    → Padded n left left'
-is_padded n left left' r =
-    let runs = separated r.found (read_separated left left' r) in
+pub is_padded : (c : Choice) (n : ℕ) (left left' : Option (List ℕ)) (r : ReadsImage left left')
+    → Padded c n left left'
+is_padded c n left left' r =
+    let runs = read_separated left left' r in
     record {
       ran = r;
-      used = used_within r.found n runs;
-      lines =
-          λ e.
-          largest_within r.found.all.schedule e (whole r.found n).used (used_within r.found n runs);
-      starts = λ k. on_time r.found runs k;
+      used = within_pads r.found c n runs;
+      lines = λ e. lines_within r.found c n runs e;
+      starts = λ k. on_time r.found (separated r.found runs) k;
+      harts_start = λ h order below is. hart_starts r.found h order runs below is;
     }
 
 -- ---- a domain alone
@@ -406,35 +427,51 @@ writes_section d n a h asked done =
     ]
 
 -- the section is that of the report
-alone_section : (i : Image) (k n : ℕ) → Runnable i → IsDomain i k
-    → section_alone i k n ≡ section_of i (λ e. view_whole i e n) k
-unfolding section_alone section_of
-alone_section i k n r is =
-    ap (section k (own_of i k).name) (sym (isolated i k n (separated i r) is))
-
 pub is_same_section : (k n : ℕ) (left left' old new : Option (List ℕ))
     → WritesSection k n left left' old new → SameSection k n left left' old new
 is_same_section k n left left' old new w = record {
   ran = w.ran;
   domain = w.domain;
   wrote =
+      λ c.
       w.wrote
       ∙ ap (after_known old)
-      (alone_section w.ran.found k n (read_separated left left' w.ran) w.domain);
+      (same_section w.ran.found c n (read_separated left left' w.ran) k w.domain);
 }
 
 -- ---- a run with a guard off
 
 pub writes_off : (off : Guard) (n : ℕ) (a : Asked) → IsAnswered a → a.command ≡ Ablate off n → a.status ≡ Done
     → WritesOff off n a.left a.left' a.old.written a.new.written
-unfolding answer_of_image
 writes_off off n a h asked done =
     let b : Asked = record a { command = Ablate off n } in
     let k : IsAnswered b = as_command a (Ablate off n) asked h in
     let due : IsDue b Done (due_to b) = wrote_as b k Done done in
     let (r, is, wrote) =
     reads_image b k tt (off_reads off n) Done done_is_found due (done_reads b k tt done) in
-    record { ran = r; wrote = wrote }
+    elim (cases_eq (harts_in r.found.all.schedule) 1) [
+      | inl one ↦
+          let text = ap (λ (x : Answer). after_known a.old.written x.1) (off_due off n r.found one) in
+          record { ran = r; one = one; wrote = wrote ∙ text }
+      | inr many ↦
+          let same = is ∙ ap (λ (x : Answer). x.0) (many_due off n r.found many) in absurd (cc same)
+    ]
+
+pub has_many_harts : (off : Guard) (n : ℕ) (a : Asked) → IsAnswered a → a.command ≡ Ablate off n → a.status ≡ Usage
+    → HasManyHarts a.left a.left' a.old.written a.new.written
+has_many_harts off n a h asked usage =
+    let b : Asked = record a { command = Ablate off n } in
+    let k : IsAnswered b = as_command a (Ablate off n) asked h in
+    let due : IsDue b Usage (due_to b) = wrote_as b k Usage usage in
+    let (r, is, wrote) =
+    reads_image b k tt (off_reads off n) Usage usage_is_found due (usage_reads b k tt usage) in
+    elim (cases_eq (harts_in r.found.all.schedule) 1) [
+      | inl one ↦
+          let same = is ∙ ap (λ (x : Answer). x.0) (off_due off n r.found one) in absurd (cc same)
+      | inr many ↦
+          let line = ap (λ (x : Answer). after_known a.old.written x.1) (many_due off n r.found many) in
+          record { ran = r; many = many; wrote = wrote ∙ line }
+    ]
 
 -- ---- the image that a seed makes
 

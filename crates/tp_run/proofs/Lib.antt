@@ -3,3 +3,4 @@ pub mod Answers
 pub mod Commands
 pub mod Reports
 pub mod Numbers
+pub mod Runs

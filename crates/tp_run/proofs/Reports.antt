@@ -6,22 +6,23 @@ use Rattle.std.proofs.lemmas.Option.{slice_get-get_or}
 use Rattle.sched_table.specs.declared.schedule.Entry.{Entry}
 use Rattle.image_check.specs.Image.{Image, own_of}
 use Rattle.world_view.specs.Machine.{World}
-use Rattle.world_view.specs.View.{View, view_in, view_alone}
+use Rattle.world_view.specs.View.{View, view_in}
+use Rattle.world_view.specs.Harts.{view_alone_on}
 use Rattle.world_view.specs.declared.view.Used.{Used}
 use Rattle.machine_state.specs.Usage.{IsUsed}
 use Rattle.tp_report.specs.Texts.{section}
 use Rattle.tp_report.specs.Report.{section_of, sections, switch_lines, end_text, report_with, report_of, ending_of}
 use Rattle.tp_report.specs.Switches.{no_used, used_in, switches_text, ending_text}
 use Rattle.tp_report.proofs.Switches.{switches_text-lines}
-use Rattle.tp_run.specs.Answer.{section_alone}
+use Rattle.tp_run.specs.Runs.{section_alone}
 
 pub section_of_is : (i : Image) (views : ℕ → View) (d : ℕ) (name : List ℕ) (v : View) → name ≡ (own_of i d).name → v ≡ views d → section d name v ≡ section_of i views d
 unfolding section_of
 section_of_is i views d name v named seen = λ k. section d (named k) (seen k)
 
-pub section_alone_is : (i : Image) (d n : ℕ) (name : List ℕ) (v : View) → name ≡ (own_of i d).name → v ≡ view_alone i.all (own_of i d) d n → section d name v ≡ section_alone i d n
+pub section_alone_is : (i : Image) (d n : ℕ) (name : List ℕ) (v : View) → name ≡ (own_of i d).name → v ≡ view_alone_on i d n → section d name v ≡ section_alone i d n
 unfolding section_alone
-section_alone_is i d n name v named seen = section_of_is i (λ e. view_alone i.all (own_of i e) e n) d name v named seen
+section_alone_is i d n name v named seen = section_of_is i (λ e. view_alone_on i e n) d name v named seen
 
 -- the lines of what the code keeps of the switches
 kept_lines : (es : List Entry) (used : List Used) (us : List (ℕ × ℕ)) → length used ≡ length es → IsUsed used us → switches_text es used ≡ switch_lines es us

@@ -1,18 +1,21 @@
 -- What the program answers to its words and the bytes of its source.
-use Rattle.std.specs.Prelude.{ℕ, nat_le, nat_lt, if◌then◌else◌, List, length, Option, Some, None, Result, Ok, Err}
+use Rattle.std.specs.Prelude.{ℕ, nat_le, nat_lt, nat_eq, if◌then◌else◌, List, length, Option, Some, None, Result, Ok, Err}
 use Rattle.image_record.specs.declared.refusal.Refusal.{Refusal}
-use Rattle.image_check.specs.Image.{Image, own_of, image_from}
+use Rattle.guards.specs.declared.Guard.{Guard}
+use Rattle.sched_table.specs.Schedule.{harts_in}
+use Rattle.image_check.specs.Image.{Image, image_from}
 use Rattle.image_gen.specs.Generated.{generated}
 use Rattle.image_gen.specs.Text.{text as generated_text}
 use Rattle.world_view.specs.Reading.{most_bytes}
-use Rattle.world_view.specs.View.{view_alone}
-use Rattle.tp_report.specs.Report.{report, report_off, section_of, bounds_of, accepted_text, usage_text, refusal_text, too_long_text}
+use Rattle.hart_run.specs.declared.choice.Choice.TheVariants.{LeastClock, Drawn}
+use Rattle.tp_report.specs.Report.{report_off, bounds_of, accepted_text, usage_text, refusal_text, too_long_text}
 use Rattle.tp_report.specs.Demo.{demo_text}
 use Rattle.tp_words.specs.declared.Command.{Command}
-use Rattle.tp_words.specs.declared.Command.TheVariants.{Check, Bound, Run, Alone, Gen, Demo, Ablate}
+use Rattle.tp_words.specs.declared.Command.TheVariants.{Check, Bound, Run, Alone, Gen, Demo, Ablate, Harts}
 use Rattle.tp_run.specs.declared.status.Status.{Status}
 use Rattle.tp_run.specs.declared.status.Status.TheVariants.{Done, Refused, Usage, TooLong}
 use Rattle.tp_run.specs.Reading.{image_for}
+use Rattle.tp_run.specs.Runs.{report, section_alone}
 use Rattle.tp_words.specs.Words.{command}
 
 -- ---- the answer: a status and a text
@@ -20,13 +23,14 @@ use Rattle.tp_words.specs.Words.{command}
 abbrev pub Answer : Type 0
 Answer = Status × List ℕ
 
--- the section of domain d, alone after n slots
-unfoldable pub section_alone : Image → ℕ → ℕ → List ℕ
-section_alone i d n = section_of i (λ e. view_alone i.all (own_of i e) e n) d
-
 -- words that name no domain of the image have the usage line
 unfoldable pub answer_alone : ℕ → ℕ → Image → Answer
 answer_alone d n i = if nat_lt d (length i.owns) then (Done, section_alone i d n) else (Usage, usage_text)
+
+-- an image of several harts has no machine with a guard off
+unfoldable pub answer_off : Guard → ℕ → Image → Answer
+answer_off off n i =
+    if nat_eq (harts_in i.all.schedule) 1 then (Done, report_off off i n) else (Usage, usage_text)
 
 -- what a command writes of the image that a seed makes
 abbrev pub answer_gen : ℕ → Answer
@@ -39,11 +43,12 @@ answer_demo s = (Done, demo_text (image_from (generated s)) s)
 unfoldable pub answer_of_image : Command → Image → Answer
 answer_of_image Check i = (Done, accepted_text)
 answer_of_image Bound i = (Done, bounds_of i)
-answer_of_image (Run n) i = (Done, report i n)
+answer_of_image (Run n) i = (Done, report i LeastClock n)
 answer_of_image (Alone d n) i = answer_alone d n i
 answer_of_image (Gen s) i = answer_gen s
 answer_of_image (Demo s) i = answer_demo s
-answer_of_image (Ablate off n) i = (Done, report_off off i n)
+answer_of_image (Ablate off n) i = answer_off off n i
+answer_of_image (Harts n s) i = (Done, report i (Drawn s) n)
 
 unfoldable pub answer_unless_broken : Command → Result Image Refusal → Answer
 answer_unless_broken c (Ok i) = answer_of_image c i

@@ -7,7 +7,7 @@ use Rattle.image_check.specs.Checking.{broken, broken_but_pads}
 use Rattle.image_check.specs.Image.{Image}
 use Rattle.world_view.specs.Reading.{unless_broken}
 use Rattle.tp_words.specs.declared.Command.{Command}
-use Rattle.tp_words.specs.declared.Command.TheVariants.{Check, Bound, Run, Alone, Gen, Demo, Ablate}
+use Rattle.tp_words.specs.declared.Command.TheVariants.{Check, Bound, Run, Alone, Gen, Demo, Ablate, Harts}
 
 -- of the record of a text: pads may be too short where their bound is asked for
 unfoldable pub broken_for : Command → text.Raw → List Refusal
@@ -18,6 +18,7 @@ broken_for (Alone d n) i = broken i
 broken_for (Gen s) i = broken i
 broken_for (Demo s) i = broken i
 broken_for (Ablate off n) i = broken i
+broken_for (Harts n s) i = broken i
 
 -- of the text itself, too
 unfoldable pub broken_in : Command → Result text.Raw Refusal → List Refusal

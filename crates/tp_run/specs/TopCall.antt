@@ -1,5 +1,5 @@
 -- What the top call answers, and what it does to its source and its sink.
-use Rattle.std.specs.Prelude.{◌≡◌, ◌≢◌, ℕ, ◌+◌, ◌≤◌, ◌⊎◌, ⊤, List, [], length, slice_get, Option, Some, None, Ok}
+use Rattle.std.specs.Prelude.{◌≡◌, ◌≢◌, ℕ, ◌+◌, ◌<◌, ◌≤◌, ◌⊎◌, ⊤, false, List, [], length, slice_get, Option, Some, None, Ok}
 use Rattle.tp_io.specs.Bytes.{before_known, after_known, AtEnd, PutsFront}
 use Rattle.tp_io.specs.Causes.{TellsFault}
 use Rattle.tp_io.specs.Sends.{SinkState}
@@ -11,22 +11,26 @@ use Rattle.image_text.specs.Record.{image_of}
 use Rattle.image_gen.specs.Generated.{generated}
 use Rattle.image_gen.specs.Text.{text as generated_text}
 use Rattle.image_check.specs.Checking.{broken, broken_but_pads}
-use Rattle.image_check.specs.Image.{Image, own_of, image_from}
+use Rattle.image_check.specs.Image.{Image, image_from}
 use Rattle.world_view.specs.Reading.{most_bytes, image}
-use Rattle.sched_table.specs.Schedule.{entry_in, start}
+use Rattle.sched_table.specs.Schedule.{entry_in, start, harts_in}
 use Rattle.world_view.specs.Machine.{clock_of, switch, whole}
-use Rattle.world_view.specs.View.{view_whole, view_alone}
+use Rattle.world_view.specs.View.{view_in}
+use Rattle.world_view.specs.Harts.{progress_of, slots_of, start_on, next, harts, view_alone_on}
+use Rattle.world_view.specs.HartLaws.{AreHartsOf}
 use Rattle.world_view.specs.Relations.{IsDomain, AllWithinPads}
 use Rattle.world_view.specs.Used.{largest_of}
-use Rattle.tp_report.specs.Report.{report_apart, report_off, section_of, bounds_of, accepted_text, usage_text, refusal_text}
+use Rattle.hart_run.specs.declared.choice.Choice.{Choice}
+use Rattle.tp_report.specs.Report.{report_off, section_of, bounds_of, accepted_text, usage_text, refusal_text}
 use Rattle.tp_report.specs.Demo.{demo_text}
 use Rattle.tp_words.specs.declared.Command.{Command}
-use Rattle.tp_words.specs.declared.Command.TheVariants.{Alone}
+use Rattle.tp_words.specs.declared.Command.TheVariants.{Alone, Ablate}
 use Rattle.tp_run.specs.declared.status.Status.{Status}
 use Rattle.tp_run.specs.declared.status.Status.TheVariants.{Usage, ReadFault, WriteFault, Memory}
 use Rattle.tp_run.specs.Reading.{broken_in}
 use Rattle.tp_words.specs.Words.{Reads, command}
-use Rattle.tp_run.specs.Answer.{Answer, answer, section_alone}
+use Rattle.tp_run.specs.Runs.{world_after, report_apart, section_alone}
+use Rattle.tp_run.specs.Answer.{Answer, answer}
 
 -- ---- what is written
 
@@ -44,10 +48,12 @@ EndsUsage WriteFault old new = PutsFront old new usage_text
 EndsUsage Memory old new = new ≡ old
 EndsUsage _ old new = ⊥
 
--- words that may have the usage line: they are no command, or name a domain, which the image may lack
+-- words that may have the usage line: they are no command, or name a domain, which the image may lack, or a guard, which
+-- an image of several harts can't do without
 abbrev pub MayBeUsage : Option Command → Type 0
 MayBeUsage None = ⊤
 MayBeUsage (Some (Alone d n)) = ⊤
+MayBeUsage (Some (Ablate off n)) = ⊤
 MayBeUsage (Some _) = ⊥
 
 -- no read failed: the answer that is due was written, unless memory ran out or the sink failed,
@@ -121,18 +127,22 @@ pub record ReadsImage (left left' : Option (List ℕ)) : Type 0 where
   pub few : length bytes ≤ most_bytes
   pub read : image bytes ≡ Ok found
 
--- each section that was written is that of its domain alone
-pub record Isolated (slots : ℕ) (left left' written written' : Option (List ℕ)) : Type 0 where
+-- each section that was written is that of its domain alone, by the entries of its hart
+pub record Isolated (c : Choice) (slots : ℕ) (left left' written written' : Option (List ℕ)) : Type 0 where
   pub ran : ReadsImage left left'
-  pub wrote : written' ≡ after_known written (report_apart ran.found slots)
-  pub views : (d : ℕ) → IsDomain ran.found d → view_whole ran.found d slots ≡ view_alone ran.found.all (own_of ran.found d) d slots
+  pub wrote : written' ≡ after_known written (report_apart ran.found c slots)
+  pub views : (d : ℕ) → IsDomain ran.found d → view_in ran.found d (world_after ran.found c slots) ≡ view_alone_on ran.found d slots
 
--- no switch overran its pad, no switch line says more than its pad, and each slot began at exactly its start
-pub record Padded (slots : ℕ) (left left' : Option (List ℕ)) : Type 0 where
+-- no switch overran its pad, no switch line says more than its pad, and each slot began at exactly its start: of one hart
+-- slot k, and of several the next of each, whatever the order before
+pub record Padded (c : Choice) (slots : ℕ) (left left' : Option (List ℕ)) : Type 0 where
   pub ran : ReadsImage left left'
-  pub used : AllWithinPads ran.found.all.schedule (whole ran.found slots).used
-  pub lines : (e : ℕ) → largest_of e (whole ran.found slots).used ≤ (entry_in ran.found.all.schedule e).pad
+  pub used : AllWithinPads ran.found.all.schedule (world_after ran.found c slots).used
+  pub lines : (e : ℕ) → largest_of e (world_after ran.found c slots).used ≤ (entry_in ran.found.all.schedule e).pad
   pub starts : (k : ℕ) → clock_of 0 (switch ran.found k (whole ran.found k)) ≡ start ran.found.all.schedule k
+  pub harts_start : (h : ℕ) (order : List ℕ) → AreHartsOf ran.found order → h < harts_in ran.found.all.schedule →
+      let s = harts ran.found order in
+      (progress_of h s).inside ≡ false → clock_of h (next ran.found h s).world ≡ start_on ran.found h (slots_of h s)
 
 -- ---- a domain alone
 
@@ -148,17 +158,25 @@ pub record WritesSection (d slots : ℕ) (left left' written written' : Option (
   pub domain : IsDomain ran.found d
   pub wrote : written' ≡ after_known written (section_alone ran.found d slots)
 
--- its section in the report of the whole machine was written
+-- its section in the report of the whole machine was written, however the harts of that are chosen
 pub record SameSection (d slots : ℕ) (left left' written written' : Option (List ℕ)) : Type 0 where
   pub ran : ReadsImage left left'
   pub domain : IsDomain ran.found d
-  pub wrote : written' ≡ after_known written (section_of ran.found (λ e. view_whole ran.found e slots) d)
+  pub wrote : (c : Choice) → written' ≡ after_known written
+      (section_of ran.found (λ e. view_in ran.found e (world_after ran.found c slots)) d)
 
 -- ---- a run with a guard off
 
--- which guard is off, and the report of the machine without it, were written
+-- the image has several harts, and the usage line was written
+pub record HasManyHarts (left left' written written' : Option (List ℕ)) : Type 0 where
+  pub ran : ReadsImage left left'
+  pub many : harts_in ran.found.all.schedule ≢ 1
+  pub wrote : written' ≡ after_known written usage_text
+
+-- it has one; which guard is off, and the report of the machine without it, were written
 pub record WritesOff (off : Guard) (slots : ℕ) (left left' written written' : Option (List ℕ)) : Type 0 where
   pub ran : ReadsImage left left'
+  pub one : harts_in ran.found.all.schedule ≡ 1
   pub wrote : written' ≡ after_known written (report_off off ran.found slots)
 
 -- ---- the image that a seed makes

@@ -1,9 +1,9 @@
-// A run of one domain alone: so many slots, and then its section.
+// A run of one domain alone: so many slots of its hart, and then its section.
 ghost use Rattle.std.specs.Prelude.{◌≡◌, ◌<◌, ◌≤◌, length};
 ghost use Rattle.tp_io.specs.Sink.{state};
 ghost use Rattle.image_check.specs.Own.{owns_of};
 ghost use Rattle.image_check.specs.Image.{image_from};
-ghost use Rattle.tp_run.specs.Answer as spec;
+ghost use Rattle.tp_run.specs.Runs as spec;
 ghost use Rattle.tp_run.specs.TopCall.{Delivers};
 
 use crate::Status;
@@ -14,7 +14,7 @@ use std::alloc::Global;
 use tp_io::Sink;
 use tp_report::write_section;
 
-/// Runs domain `d` of the image alone for so many slots and writes its section.
+/// Runs domain `d` of the image alone for so many slots of its hart, and writes its section.
 pub fn run_domain<K: Sink>(alloc: Global, image: &Checked, d: u8, slots: u32, out: &mut K) -> Status
     requires domain { d < length (owns_of image.now) }
     requires few { slots ≤ 65536 }

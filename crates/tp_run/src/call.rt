@@ -11,7 +11,7 @@ ghost use Rattle.tp_run.specs.Answer as spec;
 ghost use Rattle.tp_run.specs.TopCall.{Writes, EndsUsage, Delivers, ComesTo, Answered, IsOver};
 ghost use Rattle.tp_run.specs.TopCall.{Isolated, Padded, MayBeUsage};
 ghost use Rattle.tp_run.specs.TopCall.{Refuses, Accepts, Bounds};
-ghost use Rattle.tp_run.specs.TopCall.{LacksDomain, WritesSection, SameSection, WritesOff};
+ghost use Rattle.tp_run.specs.TopCall.{LacksDomain, HasManyHarts, WritesSection, SameSection, WritesOff};
 ghost use Rattle.tp_run.specs.TopCall.{ReadsBack, Generates, Summarizes};
 ghost use Rattle.tp_run.specs.Accepting.{Accepting, IsRefused};
 ghost use Rattle.tp_run.specs.Reading.{image_for};
@@ -23,8 +23,10 @@ use crate::bounds::write_bounds;
 use crate::generate::{run_demo, write_generated};
 use crate::run::{domains_of, run_image, run_off};
 use guards::Guard;
+use hart_run::Choice;
 use image_check::{CheckRefusal, Checked, Unpadded, check, check_but_pads};
 use image_text::read_image;
+use machine_state::has_one_hart;
 use std::alloc::Global;
 use tp_base::Memory;
 use tp_io::{Failed, ReadError, Sink, Source, read_within};
@@ -60,11 +62,15 @@ pub fn tp_main<S: Source, K: Sink>(
         → EndsUsage result (K.written out.old) (K.written out.new) }
     ensures untouched { command (words_of words.now) ≡ None → src.new ≡ src.old }
 
-    // Other words have it only where they name a domain that the image lacks.
+    // Other words have it only where they name a domain that the image lacks, or a guard, and the image has
+    // several harts.
     ensures usage { result ≡ Status.Usage → MayBeUsage (command (words_of words.now)) }
     ensures no_domain { (d slots : ℕ)
         → command (words_of words.now) ≡ Some (Command.Alone d slots) → result ≡ Status.Usage
         → LacksDomain d (S.left src.old) (S.left src.new) (K.written out.old) (K.written out.new) }
+    ensures many_harts { (off : Guard) (slots : ℕ)
+        → command (words_of words.now) ≡ Some (Command.Ablate off slots) → result ≡ Status.Usage
+        → HasManyHarts (S.left src.old) (S.left src.new) (K.written out.old) (K.written out.new) }
 
     // What is read, and that words that name a seed leave the source as it was.
     ensures done_reads { (c : Command) → command (words_of words.now) ≡ Some c → Reads c
@@ -104,11 +110,19 @@ pub fn tp_main<S: Source, K: Sink>(
 
     // A run that is done: what each domain's section says, that domain alone says; no switch overran its pad.
     ensures isolation { (slots : ℕ)
-        → command (words_of words.now) ≡ Some (Command.Run slots) → result ≡ Status.Done
-        → Isolated slots (S.left src.old) (S.left src.new) (K.written out.old) (K.written out.new) }
+        → command (words_of words.now) ≡ Some (Command.Run slots) → result ≡ Status.Done → Isolated
+        Choice.LeastClock slots (S.left src.old) (S.left src.new) (K.written out.old) (K.written out.new) }
     ensures pad { (slots : ℕ)
         → command (words_of words.now) ≡ Some (Command.Run slots) → result ≡ Status.Done
-        → Padded slots (S.left src.old) (S.left src.new) }
+        → Padded Choice.LeastClock slots (S.left src.old) (S.left src.new) }
+
+    // So it is in every order of harts that a seed draws.
+    ensures harts_isolation { (slots seed : ℕ)
+        → command (words_of words.now) ≡ Some (Command.Harts slots seed) → result ≡ Status.Done → Isolated
+        (Choice.Drawn seed) slots (S.left src.old) (S.left src.new) (K.written out.old) (K.written out.new) }
+    ensures harts_pad { (slots seed : ℕ)
+        → command (words_of words.now) ≡ Some (Command.Harts slots seed) → result ≡ Status.Done
+        → Padded (Choice.Drawn seed) slots (S.left src.old) (S.left src.new) }
 
     // A domain alone: its section, which is that of the report of the whole machine.
     ensures alone { (d slots : ℕ)
@@ -176,11 +190,14 @@ fn answer_bytes<K: Sink>(alloc: Global, command: Command, bytes: &[u8], out: &mu
     match command {
         Command::Check => answer_check(alloc, bytes, out),
         Command::Bound => answer_bound(alloc, bytes, out),
-        Command::Run { slots } => answer_run(alloc, bytes, slots, out),
+        Command::Run { slots } => answer_run(alloc, bytes, Choice::LeastClock, slots, out),
         Command::Alone { domain, slots } => answer_alone(alloc, bytes, domain, slots, out),
         Command::Gen { seed } => write_generated(alloc, seed, out),
         Command::Demo { seed } => run_demo(alloc, seed, out),
         Command::Ablate { off, slots } => answer_off(alloc, bytes, off, slots, out),
+        Command::Harts { slots, seed } => {
+            answer_run(alloc, bytes, Choice::Drawn(seed), slots, out)
+        }
     }
 }
 
@@ -209,14 +226,23 @@ fn answer_bound<K: Sink>(alloc: Global, bytes: &[u8], out: &mut K) -> Status
 }
 
 // A run of the image that bytes are, where it breaks no rule.
-fn answer_run<K: Sink>(alloc: Global, bytes: &[u8], slots: u32, out: &mut K) -> Status
+fn answer_run<K: Sink>(
+    alloc: Global,
+    bytes: &[u8],
+    choice: Choice,
+    slots: u32,
+    out: &mut K,
+) -> Status
     requires few { slots ≤ 65536 }
-    ensures delivers { Delivers
+    ensures run { choice ≡ Choice.LeastClock → Delivers
         (spec.answer_unless_broken (Command.Run slots) (image_for (Command.Run slots) bytes.now))
+        result (state K.Sink out.old) (state K.Sink out.new) }
+    ensures harts { (seed : ℕ) → choice ≡ Choice.Drawn seed → Delivers
+        (spec.answer_unless_broken (Command.Harts slots seed) (image_for (Command.Harts slots seed) bytes.now))
         result (state K.Sink out.old) (state K.Sink out.new) }
 {
     match accepted(alloc, bytes) {
-        Ok(image) => run_image(alloc, &image, slots, out),
+        Ok(image) => run_image(alloc, &image, choice, slots, out),
         Err(refusal) => refuse(&refusal, out),
     }
 }
@@ -243,7 +269,13 @@ fn answer_off<K: Sink>(alloc: Global, bytes: &[u8], off: Guard, slots: u32, out:
         result (state K.Sink out.old) (state K.Sink out.new) }
 {
     match accepted(alloc, bytes) {
-        Ok(image) => run_off(alloc, &image, off, slots, out),
+        Ok(image) => {
+            if has_one_hart(&image) {
+                run_off(alloc, &image, off, slots, out)
+            } else {
+                status_unless_failed(Status::Usage, write_usage(out))
+            }
+        }
         Err(refusal) => refuse(&refusal, out),
     }
 }
@@ -269,6 +301,7 @@ pub fn accepted(alloc: Global, bytes: &[u8]) -> Result<Checked, CheckRefusal>
     ensures alone { (d slots : ℕ) → Accepting result (image_for (Command.Alone d slots) bytes.now) }
     ensures ablate { (off : Guard) (slots : ℕ)
         → Accepting result (image_for (Command.Ablate off slots) bytes.now) }
+    ensures harts { (slots seed : ℕ) → Accepting result (image_for (Command.Harts slots seed) bytes.now) }
 {
     match read_image(alloc, bytes) {
         Ok(raw) => check(alloc, raw),

@@ -3,6 +3,7 @@ ghost use Rattle.std.specs.Prelude.{◌≡◌, IfOk, IfErr};
 ghost use Rattle.tp_io.specs.Sends.{Sends};
 ghost use Rattle.tp_io.specs.Sink.{state};
 ghost use Rattle.image_check.specs.Image.{image_from};
+ghost use Rattle.world_view.specs.Harts.{IsOnOneHart};
 ghost use Rattle.image_gen.specs.Generated.{generated};
 ghost use Rattle.tp_report.specs.Demo as report_spec;
 ghost use Rattle.tp_run.specs.Answer as spec;
@@ -45,6 +46,7 @@ pub fn run_demo<K: Sink>(alloc: Global, seed: u32, out: &mut K) -> Status
 
 // Runs the image of a seed and writes the summary.
 fn run_image_of<K: Sink>(alloc: Global, image: &Checked, seed: u32, out: &mut K) -> Status
+    requires one { IsOnOneHart (image_from image.now) }
     ensures delivers { Delivers (Status.Done, report_spec.demo_text (image_from image.now) seed)
         result (state K.Sink out.old) (state K.Sink out.new) }
 {

@@ -5,8 +5,10 @@ ghost use Rattle.world_view.specs.Machine.{World, whole, whole_off};
 ghost use Rattle.world_view.specs.View.{view_in};
 ghost use Rattle.world_view.specs.Models.{view_model};
 ghost use Rattle.machine_state.specs.Usage.{IsUsed};
+ghost use Rattle.hart_run.specs.Models.{image_of, world_of};
 
 use ablated_run::Ablated;
+use hart_run::HartRun;
 use image_check::Checked;
 use tp_machine::Machine;
 use world_view::{Used, View};
@@ -59,6 +61,24 @@ impl<'a> Reported for Ablated<'a> {
 
     fn checked(&self) -> &Checked {
         self.image
+    }
+
+    fn seen(&self, d: u8) -> View<'_> {
+        self.view(d)
+    }
+
+    fn switches(&self) -> &[Used] {
+        self.all_used()
+    }
+}
+
+impl<'a> Reported for HartRun<'a> {
+    ghost image = { λ r. image_of r };
+
+    ghost world = { λ r. world_of r };
+
+    fn checked(&self) -> &Checked {
+        self.image()
     }
 
     fn seen(&self, d: u8) -> View<'_> {

@@ -5,7 +5,9 @@ ghost use Rattle.tp_io.specs.Sink.{state};
 ghost use Rattle.image_check.specs.Own.{owns_of};
 ghost use Rattle.image_check.specs.Image.{image_from};
 ghost use Rattle.world_view.specs.View.{view_in};
+ghost use Rattle.world_view.specs.Harts.{IsOnOneHart};
 ghost use Rattle.tp_report.specs.Report as spec;
+ghost use Rattle.tp_run.specs.Runs as runs;
 ghost use Rattle.tp_run.specs.TopCall.{Delivers};
 
 use crate::Status;
@@ -13,16 +15,41 @@ use crate::call::status_unless_failed;
 use crate::reported::Reported;
 use ablated_run::Ablated;
 use guards::Guard;
+use hart_run::{Choice, HartRun};
 use image_check::Checked;
+use machine_state::has_one_hart;
 use std::alloc::Global;
 use tp_base::Memory;
 use tp_io::{Failed, Sink};
 use tp_machine::Machine;
 use tp_report::{write_section, write_switches, write_unprotected};
 
-/// Runs the image for so many slots and writes the report.
-pub fn run_image<K: Sink>(alloc: Global, image: &Checked, slots: u32, out: &mut K) -> Status
+/// Runs the image for so many slots of each hart, and writes the report. Of several harts
+/// the one whose event is next is chosen so.
+pub fn run_image<K: Sink>(
+    alloc: Global,
+    image: &Checked,
+    choice: Choice,
+    slots: u32,
+    out: &mut K,
+) -> Status
     requires few { slots ≤ 65536 }
+    ensures delivers { Delivers (Status.Done, runs.report (image_from image.now) choice slots)
+        result (state K.Sink out.old) (state K.Sink out.new) }
+{
+    if has_one_hart(image) {
+        return run_machine(alloc, image, slots, out);
+    }
+    match HartRun::new(alloc, image, choice, slots) {
+        Ok(run) => status_unless_failed(Status::Done, write_report(out, &run)),
+        Err(Memory) => Status::Memory,
+    }
+}
+
+// Runs the image of one hart for so many slots and writes the report.
+fn run_machine<K: Sink>(alloc: Global, image: &Checked, slots: u32, out: &mut K) -> Status
+    requires few { slots ≤ 65536 }
+    requires one { IsOnOneHart (image_from image.now) }
     ensures delivers { Delivers (Status.Done, spec.report (image_from image.now) slots)
         result (state K.Sink out.old) (state K.Sink out.new) }
 {
@@ -41,6 +68,7 @@ pub fn run_off<K: Sink>(
     out: &mut K,
 ) -> Status
     requires few { slots ≤ 65536 }
+    requires one { IsOnOneHart (image_from image.now) }
     ensures delivers { Delivers (Status.Done, spec.report_off off (image_from image.now) slots)
         result (state K.Sink out.old) (state K.Sink out.new) }
 {
@@ -50,13 +78,14 @@ pub fn run_off<K: Sink>(
     }
 }
 
-/// The machine of the image after so many slots.
+/// The machine of the image of one hart after so many slots.
 pub fn machine_after<'a>(
     alloc: Global,
     image: &'a Checked,
     slots: u32,
 ) -> Result<Machine<'a>, Memory>
     requires few { slots ≤ 65536 }
+    requires one { IsOnOneHart (image_from image.now) }
     ensures slots { IfOk result (λ m. m.slots ≡ slots) }
     ensures image { IfOk result (λ m. m.image.now ≡ image.now) }
 {
@@ -78,6 +107,7 @@ fn ablated_after<'a>(
     slots: u32,
 ) -> Result<Ablated<'a>, Memory>
     requires few { slots ≤ 65536 }
+    requires one { IsOnOneHart (image_from image.now) }
     ensures slots { IfOk result (λ m. m.slots ≡ slots) }
     ensures image { IfOk result (λ m. m.image.now ≡ image.now) }
     ensures off { IfOk result (λ m. m.off ≡ off) }

@@ -7,7 +7,8 @@ use tp_words::{Command, parse};
 
 // A line, a bar, and what it asks for, if anything: a number of slots asks for a run, and
 // a domain's number before it for that domain alone, a guard before it for a run without that
-// guard; a seed has its command before it.
+// guard; a seed has its command before it, and so have the slots and the seed of an order of
+// harts.
 const LINES: &str = "tp check|check
 tp bound|bound
 tp run --slots 4|4
@@ -40,6 +41,10 @@ tp ablate --off pad --slots 0|pad 0
 tp ablate --off colour --slots 65536|colour 65536
 tp ablate --off clone --slots +4|clone 4
 tp ablate --off irq --slots=-0|irq 0
+tp harts --slots 4 --seed 7|harts 4 7
+tp harts --seed 7 --slots 4|harts 4 7
+tp harts --slots=65536 --seed=4294967295|harts 65536 4294967295
+tp harts --slots +0 --seed=-0|harts 0 0
 |
 tp|
 tp fly|
@@ -126,6 +131,21 @@ tp ablate --off flush --domain 1 --slots 4|
 tp ablate flush --slots 4|
 tp ablate --help|
 tp help ablate|
+tp harts|
+tp harts --slots 4|
+tp harts --seed 7|
+tp harts --slots 65537 --seed 7|
+tp harts --slots 4 --seed 4294967296|
+tp harts --slots -1 --seed 7|
+tp harts --slots 4 --seed x|
+tp harts --slots 4 --slots 4 --seed 7|
+tp harts --slots 4 --seed 7 --seed 7|
+tp harts --slots 4 --seed 7 --domain 1|
+tp harts 4 7|
+tp harts --help|
+tp help harts|
+tp hart --slots 4 --seed 7|
+tp run --slots 4 --seed 7|
 tp run --off flush --slots 4|
 tp --off flush --slots 4|
 tp --seed 7|
@@ -153,6 +173,9 @@ fn wanted_of_numbers(asked: &str) -> Option<Command> {
         let slots = asked.parse::<u32>().ok()?;
         return Some(Command::Run { slots });
     };
+    if first == "harts" {
+        return with_harts(last);
+    }
     let number = last.parse::<u32>().ok()?;
     match first {
         "gen" => Some(Command::Gen { seed: number }),
@@ -172,6 +195,14 @@ fn wanted_of_numbers(asked: &str) -> Option<Command> {
 
 fn without(off: Guard, slots: u32) -> Option<Command> {
     Some(Command::Ablate { off, slots })
+}
+
+fn with_harts(numbers: &str) -> Option<Command> {
+    let (slots, seed) = numbers.split_once(' ')?;
+    Some(Command::Harts {
+        slots: slots.parse::<u32>().ok()?,
+        seed: seed.parse::<u32>().ok()?,
+    })
 }
 
 fn is_asked(rt: &impl Abort, line: &str, asked: Option<Command>, due: Option<Command>) {

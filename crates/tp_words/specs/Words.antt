@@ -11,7 +11,7 @@ use Rattle.clap.specs.declared.builder.value_parser.ValueParser.TheVariants as v
 use Rattle.guards.specs.declared.Guard.{Guard}
 use Rattle.guards.specs.Names.{named}
 use Rattle.tp_words.specs.declared.Command.{Command}
-use Rattle.tp_words.specs.declared.Command.TheVariants.{Check, Bound, Run, Alone, Gen, Demo, Ablate}
+use Rattle.tp_words.specs.declared.Command.TheVariants.{Check, Bound, Run, Alone, Gen, Demo, Ablate, Harts}
 use Rattle.tp_words.specs.Partial.{◌>>=◌, ◌>>◌, when}
 
 -- ---- the program's command
@@ -53,6 +53,9 @@ alone_app = with_rule (with_rule (new_app (codes "alone")) domain_rule) slots_ru
 abbrev pub ablate_app : App
 ablate_app = with_rule (with_rule (new_app (codes "ablate")) off_rule) slots_rule
 
+abbrev pub harts_app : App
+harts_app = with_rule (with_rule (new_app (codes "harts")) slots_rule) seed_rule
+
 -- one that makes its image of a seed
 abbrev pub seed_app : Text → App
 seed_app name = with_rule (new_app name) seed_rule
@@ -71,6 +74,7 @@ tp_app = fold with_subcommand (on_top required (new_app (codes "tp"))) (
     ∷ (seed_app (codes "gen")).top
     ∷ (seed_app (codes "demo")).top
     ∷ ablate_app.top
+    ∷ harts_app.top
     ∷ [])
 
 -- ---- what its matches ask for
@@ -123,6 +127,7 @@ asked_by name rows =
     else if bytes_eq name (codes "gen") then Some (Gen (seed_in rows))
     else if bytes_eq name (codes "demo") then Some (Demo (seed_in rows))
     else if bytes_eq name (codes "ablate") then option_map (λ off. Ablate off (slots_in rows)) (guard_in rows)
+    else if bytes_eq name (codes "harts") then Some (Harts (slots_in rows) (seed_in rows))
     else Some never_asked
 
 abbrev pub asked_for : Option (Text × List Row) → Option Command
@@ -154,6 +159,7 @@ IsInRange (Alone d n) = n ≤ 65536
 IsInRange (Gen s) = s ≤ 4294967295
 IsInRange (Demo s) = s ≤ 4294967295
 IsInRange (Ablate off n) = n ≤ 65536
+IsInRange (Harts n s) = (n ≤ 65536) × (s ≤ 4294967295)
 
 -- it works on an image that it reads; the others make theirs of a seed, and read nothing
 abbrev pub Reads : Command → Type 0

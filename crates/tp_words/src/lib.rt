@@ -23,6 +23,9 @@ pub enum Command {
     Demo { seed: u32 },
     /// Run the image with one guard off for so many slots, 0 to 65,536.
     Ablate { off: Guard, slots: u32 },
+    /// Run each hart of the image for so many slots, 0 to 65,536, in the order of events that a
+    /// seed draws.
+    Harts { slots: u32, seed: u32 },
 }
 
 impl Command {
@@ -39,7 +42,8 @@ impl Command {
             | Command::Bound
             | Command::Run { .. }
             | Command::Alone { .. }
-            | Command::Ablate { .. } => true,
+            | Command::Ablate { .. }
+            | Command::Harts { .. } => true,
             Command::Gen { .. } | Command::Demo { .. } => false,
         }
     }

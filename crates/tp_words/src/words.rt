@@ -48,6 +48,7 @@ fn tp_command<'a>(alloc: Global) -> Result<clap::Command<'a>, AllocError>
     let generate = seed_command(alloc, "gen")?;
     let demo = seed_command(alloc, "demo")?;
     let ablate = ablate_command(alloc)?;
+    let harts = harts_command(alloc)?;
     let top = clap::Command::new(alloc, "tp").subcommand_required(true);
     let one = top.subcommand(clap::Command::new(alloc, "check"))?;
     let two = one.subcommand(clap::Command::new(alloc, "bound"))?;
@@ -55,7 +56,8 @@ fn tp_command<'a>(alloc: Global) -> Result<clap::Command<'a>, AllocError>
     let four = three.subcommand(alone)?;
     let five = four.subcommand(generate)?;
     let six = five.subcommand(demo)?;
-    six.subcommand(ablate)
+    let seven = six.subcommand(ablate)?;
+    seven.subcommand(harts)
 }
 
 fn run_command<'a>(alloc: Global) -> Result<clap::Command<'a>, AllocError>
@@ -79,6 +81,14 @@ fn ablate_command<'a>(alloc: Global) -> Result<clap::Command<'a>, AllocError>
 {
     let ablate = clap::Command::new(alloc, "ablate").arg(off_arg(alloc))?;
     ablate.arg(number_arg(alloc, "slots", MOST_SLOTS))
+}
+
+fn harts_command<'a>(alloc: Global) -> Result<clap::Command<'a>, AllocError>
+    ensures app { IfOk result (λ c. app_of c ≡ spec.harts_app) }
+    ensures local { IfOk result (λ c. (out-Command c).has_globals ≡ false) }
+{
+    let harts = clap::Command::new(alloc, "harts").arg(number_arg(alloc, "slots", MOST_SLOTS))?;
+    harts.arg(number_arg(alloc, "seed", LAST_SEED))
 }
 
 // A subcommand that makes its image of a seed.
@@ -146,6 +156,10 @@ fn asked(matches: &ArgMatches<'_>) -> Option<Command>
         Some(("ablate", found)) => Command::Ablate {
             off: guard_in(found)?,
             slots: number_in(found, "slots", MOST_SLOTS).unwrap_or(0),
+        },
+        Some(("harts", found)) => Command::Harts {
+            slots: number_in(found, "slots", MOST_SLOTS).unwrap_or(0),
+            seed: number_in(found, "seed", LAST_SEED).unwrap_or(0),
         },
         _ => Command::Run { slots: 0 },
     };

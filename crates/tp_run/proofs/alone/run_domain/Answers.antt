@@ -1,9 +1,10 @@
-use Rattle.std.proofs.Common.{◌≡◌, ◌∙◌, List, ℕ, ap, arith, subst}
-use Rattle.image_check.specs.Image.{image_from}
+use Rattle.std.proofs.Common.{◌≡◌, ◌∙◌, List, ℕ, ap, ap₂, sym, arith, subst}
+use Rattle.image_check.specs.Image.{image_from, own_of}
+use Rattle.world_view.specs.Harts.{view_alone_on}
 use Rattle.image_check.specs.Own.{Own}
 use Rattle.tp_io.specs.Sink.{state}
 use Rattle.tp_io.specs.Sends.{Sends}
-use Rattle.tp_run.specs.Answer.{section_alone}
+use Rattle.tp_run.specs.Runs.{section_alone}
 use Rattle.tp_run.specs.declared.status.Status.TheVariants.{Done}
 use Rattle.tp_run.proofs.Answers.{delivered, nothing_held}
 use Rattle.tp_run.proofs.Reports.{section_alone_is}
@@ -29,7 +30,7 @@ returns g c =
     let over : c.loop-slot.slot ≡ c.args.slots = omega arith in
     let at = c.loop-slot.invariant in
     let name = c.as_str-name.ensures.value ∙ ap (λ (o : Own). o.name) at.own in
-    let seen = rw (at.public, at.own, at.number, at.slots ∙ over) at c.view.ensures.view in
+    let seen = c.view.ensures.image i at.public (at.own ∙ ap (own_of i) (sym at.number)) ∙ ap₂ (λ (d n : ℕ). view_alone_on i d n) at.number (at.slots ∙ over) in
     let old = state g.K.Sink c.args.out.now in
     let new = state g.K.Sink c.write_section.new.out in
     let sends = subst (λ (text : List ℕ). Sends old new c.write_section.result text) (section_alone_is i c.args.d c.args.slots _ _ name seen) c.write_section.ensures.sends in

@@ -1,8 +1,8 @@
-use Rattle.std.proofs.Common.{◌≤◌, ◌<◌, length, sym, ap, ◌∙◌, subst, rules}
+use Rattle.std.proofs.Common.{◌≤◌, ◌<◌, length, refl, sym, ap, ◌∙◌, subst, rules}
 use Rattle.world_view.specs.Reading.{most_bytes}
 use Rattle.tp_io.specs.Sink.{state}
 use Rattle.tp_words.specs.declared.Command.{Command}
-use Rattle.tp_words.specs.declared.Command.TheVariants.{Check, Bound, Run, Alone, Ablate}
+use Rattle.tp_words.specs.declared.Command.TheVariants.{Check, Bound, Run, Alone, Ablate, Harts}
 use Rattle.tp_run.specs.Answer.{Answer, answer_of_bytes}
 use Rattle.tp_run.specs.TopCall.{Delivers}
 use Rattle.tp_run.specs.declared.status.Status.TheVariants.{TooLong}
@@ -32,7 +32,7 @@ pub returns-in-Run-clause-delivers : goal.returns-in-Run-clause-delivers
 returns-in-Run-clause-delivers g c =
     let few : length c.args.bytes.now ≤ most_bytes = search rules in
     subst (λ (due : Answer). Delivers due c.answer_run.result (state g.K.Sink c.args.out.now) (state g.K.Sink c.answer_run.new.out))
-    (sym (ap (λ (k : Command). answer_of_bytes k c.args.bytes.now) c.in-Run.is ∙ image_due c.args.bytes.now (Run c.in-Run.slots) tt few)) c.answer_run.ensures.delivers
+    (sym (ap (λ (k : Command). answer_of_bytes k c.args.bytes.now) c.in-Run.is ∙ image_due c.args.bytes.now (Run c.in-Run.slots) tt few)) (c.answer_run.ensures.run refl)
 
 pub returns-in-Alone-clause-delivers : goal.returns-in-Alone-clause-delivers
 returns-in-Alone-clause-delivers g c =
@@ -48,6 +48,15 @@ returns-in-Ablate-clause-delivers g c =
     ∙ image_due c.args.bytes.now asked tt few in
     subst (λ (d : Answer). Delivers d c.answer_off.result (state g.K.Sink c.args.out.now) (state g.K.Sink c.answer_off.new.out))
     (sym due) c.answer_off.ensures.delivers
+
+pub returns-in-Harts-clause-delivers : goal.returns-in-Harts-clause-delivers
+returns-in-Harts-clause-delivers g c =
+    let few : length c.args.bytes.now ≤ most_bytes = search rules in
+    let asked = Harts c.in-Harts.slots c.in-Harts.seed in
+    let due = ap (λ (k : Command). answer_of_bytes k c.args.bytes.now) c.in-Harts.is
+    ∙ image_due c.args.bytes.now asked tt few in
+    subst (λ (d : Answer). Delivers d c.answer_run-in-Harts.result (state g.K.Sink c.args.out.now) (state g.K.Sink c.answer_run-in-Harts.new.out))
+    (sym due) (c.answer_run-in-Harts.ensures.harts c.in-Harts.seed refl)
 
 pub returns-in-Gen-clause-delivers : goal.returns-in-Gen-clause-delivers
 returns-in-Gen-clause-delivers g c =

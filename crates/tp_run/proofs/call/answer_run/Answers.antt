@@ -1,16 +1,29 @@
-use Rattle.std.proofs.Common.{sym, subst}
+use Rattle.std.proofs.Common.{◌∙◌, sym, ap, subst, ℕ}
 use Rattle.tp_io.specs.Sink.{state}
+use Rattle.image_check.specs.Image.{image_from}
+use Rattle.hart_run.specs.declared.choice.Choice.{Choice}
+use Rattle.hart_run.specs.declared.choice.Choice.TheVariants.{LeastClock, Drawn}
 use Rattle.tp_run.specs.Answer.{Answer, answer_of_image}
 use Rattle.tp_run.specs.Reading.{image_for}
+use Rattle.tp_run.specs.Runs.{report}
 use Rattle.tp_run.specs.TopCall.{Delivers}
-use Rattle.tp_words.specs.declared.Command.TheVariants.{Run}
+use Rattle.tp_run.specs.declared.status.Status.TheVariants.{Done}
+use Rattle.tp_words.specs.declared.Command.TheVariants.{Run, Harts}
 use Rattle.tp_run.proofs.Answers.{found_due}
 use Rattle.tp_run.proofs.call.answer_run.Goals as goal
 
-pub returns-in-Ok : goal.returns-in-Ok
+pub returns-in-Ok-clause-run : goal.returns-in-Ok-clause-run
 unfolding answer_of_image
-returns-in-Ok g c = record {
-  delivers = subst (λ (due : Answer). Delivers due c.run_image.result (state g.K.Sink c.args.out.now) (state g.K.Sink c.run_image.new.out))
-      (sym (found_due (Run c.args.slots) (image_for (Run c.args.slots) c.args.bytes.now) _ (c.in-Ok.ensures.run c.args.slots)))
-      c.run_image.ensures.delivers;
-}
+returns-in-Ok-clause-run g c least =
+    let n = c.args.slots in
+    let i = image_from c.in-Ok.image in
+    let due = ap (λ (x : Choice). (Done, report i x n)) least ∙ sym (found_due (Run n) (image_for (Run n) c.args.bytes.now) _ (c.in-Ok.ensures.run n)) in
+    subst (λ (a : Answer). Delivers a c.run_image.result (state g.K.Sink c.args.out.now) (state g.K.Sink c.run_image.new.out)) due c.run_image.ensures.delivers
+
+pub returns-in-Ok-clause-harts : goal.returns-in-Ok-clause-harts
+unfolding answer_of_image
+returns-in-Ok-clause-harts g c seed drawn =
+    let n = c.args.slots in
+    let i = image_from c.in-Ok.image in
+    let due = ap (λ (x : Choice). (Done, report i x n)) drawn ∙ sym (found_due (Harts n seed) (image_for (Harts n seed) c.args.bytes.now) _ (c.in-Ok.ensures.harts n seed)) in
+    subst (λ (a : Answer). Delivers a c.run_image.result (state g.K.Sink c.args.out.now) (state g.K.Sink c.run_image.new.out)) due c.run_image.ensures.delivers

@@ -3,9 +3,10 @@ use Rattle.std.proofs.lemmas.Option.{same_Some}
 use Rattle.tp_io.specs.Sink.{state}
 use Rattle.tp_words.specs.declared.Command.TheVariants.{Gen, Demo}
 use Rattle.tp_words.specs.Words.{Reads, IsInRange, command, words_of}
+use Rattle.hart_run.specs.declared.choice.Choice.TheVariants.{LeastClock, Drawn}
 use Rattle.tp_run.specs.TopCall.{MayBeUsage}
 use Rattle.tp_run.proofs.Answers.{none_taken, bytes_due, usage_sent, usage_delivers, ends_usage, completes, completes_surely}
-use Rattle.tp_run.proofs.Commands.{answering, as_command, told_delivers, done_reads, refused_reads, too_long_reads, may_be_usage, refuses, accepts, bounds, ran, is_isolated, is_padded, lacks_domain, writes_section, is_same_section, writes_off, generates, summarizes}
+use Rattle.tp_run.proofs.Commands.{answering, as_command, told_delivers, done_reads, refused_reads, too_long_reads, may_be_usage, refuses, accepts, bounds, ran, harts_ran, is_isolated, is_padded, lacks_domain, writes_section, is_same_section, writes_off, has_many_harts, generates, summarizes}
 use Rattle.tp_run.proofs.call.tp_main.Goals as goal
 
 -- ---- words that are no command
@@ -208,7 +209,7 @@ returns-clause-isolation g c slots is done =
     answering c.in-Ok-Some.command c.in-Ok.bytes.items (g.S.Source.left c.read_for.new.src)
     c.in-Ok.ensures.taken c.in-Ok.ensures.whole delivers in
     let r = ran slots _ h (same_Some _ _ (sym asked ∙ is)) done in
-    is_isolated slots _ _ _ _ r.0 r.1
+    is_isolated LeastClock slots _ _ _ _ r.0 r.1
 
 pub returns-clause-pad : goal.returns-clause-pad
 returns-clause-pad g c slots is done =
@@ -219,7 +220,29 @@ returns-clause-pad g c slots is done =
     answering c.in-Ok-Some.command c.in-Ok.bytes.items (g.S.Source.left c.read_for.new.src)
     c.in-Ok.ensures.taken c.in-Ok.ensures.whole delivers in
     let r = ran slots _ h (same_Some _ _ (sym asked ∙ is)) done in
-    is_padded slots _ _ r.0
+    is_padded LeastClock slots _ _ r.0
+
+pub returns-clause-harts_isolation : goal.returns-clause-harts_isolation
+returns-clause-harts_isolation g c slots seed is done =
+    let asked : command (words_of c.args.words.now) ≡ Some c.in-Ok-Some.command =
+    sym (rw c.in-Ok-Some.field-0-is at c.in-Ok-Some.ensures.value) in
+    let delivers = rw c.as_slice.ensures.value at c.answer_bytes.ensures.delivers in
+    let h =
+    answering c.in-Ok-Some.command c.in-Ok.bytes.items (g.S.Source.left c.read_for.new.src)
+    c.in-Ok.ensures.taken c.in-Ok.ensures.whole delivers in
+    let r = harts_ran slots seed _ h (same_Some _ _ (sym asked ∙ is)) done in
+    is_isolated (Drawn seed) slots _ _ _ _ r.0 r.1
+
+pub returns-clause-harts_pad : goal.returns-clause-harts_pad
+returns-clause-harts_pad g c slots seed is done =
+    let asked : command (words_of c.args.words.now) ≡ Some c.in-Ok-Some.command =
+    sym (rw c.in-Ok-Some.field-0-is at c.in-Ok-Some.ensures.value) in
+    let delivers = rw c.as_slice.ensures.value at c.answer_bytes.ensures.delivers in
+    let h =
+    answering c.in-Ok-Some.command c.in-Ok.bytes.items (g.S.Source.left c.read_for.new.src)
+    c.in-Ok.ensures.taken c.in-Ok.ensures.whole delivers in
+    let r = harts_ran slots seed _ h (same_Some _ _ (sym asked ∙ is)) done in
+    is_padded (Drawn seed) slots _ _ r.0
 
 pub returns-clause-no_domain : goal.returns-clause-no_domain
 returns-clause-no_domain g c d slots is usage =
@@ -253,6 +276,16 @@ returns-clause-same_section g c d slots is done =
     (writes_section d slots _ h (same_Some _ _ (sym asked ∙ is)) done)
 
 -- ---- a run with a guard off
+
+pub returns-clause-many_harts : goal.returns-clause-many_harts
+returns-clause-many_harts g c off slots is usage =
+    let asked : command (words_of c.args.words.now) ≡ Some c.in-Ok-Some.command =
+    sym (rw c.in-Ok-Some.field-0-is at c.in-Ok-Some.ensures.value) in
+    let delivers = rw c.as_slice.ensures.value at c.answer_bytes.ensures.delivers in
+    let h =
+    answering c.in-Ok-Some.command c.in-Ok.bytes.items (g.S.Source.left c.read_for.new.src)
+    c.in-Ok.ensures.taken c.in-Ok.ensures.whole delivers in
+    has_many_harts off slots _ h (same_Some _ _ (sym asked ∙ is)) usage
 
 pub returns-clause-unprotected : goal.returns-clause-unprotected
 returns-clause-unprotected g c off slots is done =

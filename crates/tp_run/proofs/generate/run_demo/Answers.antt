@@ -1,4 +1,6 @@
-use Rattle.std.proofs.Common.{subst}
+use Rattle.std.proofs.Common.{◌∙◌, ap, subst}
+use Rattle.sched_table.specs.Schedule.{harts_in}
+use Rattle.image_gen.proofs.OneHart.{one_hart}
 use Rattle.image_check.specs.Image.{Image}
 use Rattle.tp_io.specs.Sink.{state}
 use Rattle.tp_report.specs.Demo.{demo_text}
@@ -13,4 +15,9 @@ returns-in-Err g c = record { delivers = nothing_held _ _ }
 pub returns-in-Ok : goal.returns-in-Ok
 returns-in-Ok g c = record {
   delivers = subst (λ (i : Image). Delivers (Done, demo_text i c.args.seed) c.run_image_of.result (state g.K.Sink c.args.out.now) (state g.K.Sink c.run_image_of.new.out)) c.in-Ok.ensures.made c.run_image_of.ensures.delivers;
+}
+
+pub run_image_of-requires : goal.run_image_of-requires
+run_image_of-requires g c = record {
+  one = ap (λ (i : Image). harts_in i.all.schedule) c.in-Ok.ensures.made ∙ one_hart c.args.seed;
 }

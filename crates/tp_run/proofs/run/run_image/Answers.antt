@@ -1,23 +1,54 @@
-use Rattle.std.proofs.Common.{subst₂, ℕ}
+use Rattle.std.proofs.Common.{◌≡◌, ◌≢◌, ◌∙◌, ℕ, List, true≢false, eq-eqb, eqb-true, sym, ap, ap₂, subst, refl}
 use Rattle.image_record.specs.Record as text
+use Rattle.sched_table.specs.Schedule.{harts_in}
 use Rattle.image_check.specs.Image.{image_from}
+use Rattle.world_view.specs.Machine.{World}
+use Rattle.hart_run.specs.Order.{ran}
+use Rattle.hart_run.specs.declared.choice.Choice.{Choice}
 use Rattle.tp_io.specs.Sink.{state}
-use Rattle.tp_report.specs.Report.{report}
+use Rattle.tp_report.specs.Report as machine
+use Rattle.tp_report.specs.Report.{report_of}
+use Rattle.tp_run.specs.Runs.{report}
 use Rattle.tp_run.specs.declared.status.Status.TheVariants.{Done}
 use Rattle.tp_run.specs.TopCall.{Delivers}
 use Rattle.tp_run.proofs.Answers.{delivered, nothing_held}
+use Rattle.tp_run.proofs.Runs.{after_one, after_many}
 use Rattle.tp_run.proofs.run.run_image.Goals as goal
+
+pub returns-then-has_one_hart : goal.returns-then-has_one_hart
+unfolding report machine.report
+returns-then-has_one_hart g c =
+    let i = image_from c.args.image.now in
+    let one = eqb-true (harts_in i.all.schedule) 1 (sym c.has_one_hart.ensures.value ∙ c.if-has_one_hart.true) in
+    let same : machine.report i c.args.slots ≡ report i c.args.choice c.args.slots =
+    ap (λ (w : World). report_of i w) (sym (after_one i c.args.choice c.args.slots one)) in
+    record {
+      delivers = subst (λ (t : List ℕ). Delivers (Done, t) c.run_machine.result (state g.K.Sink c.args.out.now) (state g.K.Sink c.run_machine.new.out))
+          same c.run_machine.ensures.delivers;
+    }
 
 pub returns-in-Err : goal.returns-in-Err
 returns-in-Err g c = record { delivers = nothing_held _ _ }
 
+-- the text of a run by these parts
+abbrev of_parts : text.Raw → Choice → ℕ → List ℕ
+of_parts t c n = report_of (image_from t) (ran (image_from t) c n)
+
 pub returns-in-Ok : goal.returns-in-Ok
 unfolding report
 returns-in-Ok g c =
-    let m = c.in-Ok.machine in
+    let i = image_from c.args.image.now in
+    let r = c.in-Ok.run' in
+    let is = sym c.has_one_hart.ensures.value ∙ c.if-has_one_hart.false in
+    let many : harts_in i.all.schedule ≢ 1 = λ e. true≢false (sym (eq-eqb (harts_in i.all.schedule) 1 e) ∙ is) in
+    let own : of_parts r.record_of r.choice r.slots ≡ of_parts c.args.image.now c.args.choice c.args.slots =
+    ap (λ (t : text.Raw). of_parts t r.choice r.slots) c.in-Ok.ensures.image
+    ∙ ap₂ (λ (x : Choice) (n : ℕ). of_parts c.args.image.now x n) c.in-Ok.ensures.choice c.in-Ok.ensures.slots in
+    let same : of_parts r.record_of r.choice r.slots ≡ report i c.args.choice c.args.slots =
+    own ∙ ap (λ (w : World). report_of i w) (sym (after_many i c.args.choice c.args.slots many)) in
     let old = state g.K.Sink c.args.out.now in
     let new = state g.K.Sink c.write_report.new.out in
     record {
-      delivers = subst₂ (λ (x : text.Raw) (n : ℕ). Delivers (Done, report (image_from x) n) c.status_unless_failed.result old new) c.in-Ok.ensures.image c.in-Ok.ensures.slots
-          (delivered Done c.status_unless_failed.result (report (image_from m.image.now) m.slots) old new c.write_report.result tt c.write_report.ensures.sends c.status_unless_failed.ensures.ok c.status_unless_failed.ensures.err);
+      delivers = subst (λ (t : List ℕ). Delivers (Done, t) c.status_unless_failed.result old new) same
+          (delivered Done c.status_unless_failed.result (of_parts r.record_of r.choice r.slots) old new c.write_report.result tt c.write_report.ensures.sends c.status_unless_failed.ensures.ok c.status_unless_failed.ensures.err);
     }

@@ -17,12 +17,14 @@ returns c =
     let generate = ap (λ (a : App). a.top) c.in_ok-generate.ensures.app in
     let demo = ap (λ (a : App). a.top) c.in_ok-demo.ensures.app in
     let ablate = ap (λ (a : App). a.top) c.in_ok-ablate.ensures.app in
+    let harts = ap (λ (a : App). a.top) c.in_ok-harts.ensures.app in
     let one = c.in_ok-one.ensures.shape c.new-2.ensures.local ∙ ap₂ with_subcommand top check in
     let two = c.in_ok-two.ensures.shape c.new-3.ensures.local ∙ ap₂ with_subcommand one bound in
     let three = c.in_ok-three.ensures.shape c.in_ok-run.ensures.local ∙ ap₂ with_subcommand two run in
     let four = c.in_ok-four.ensures.shape c.in_ok-alone.ensures.local ∙ ap₂ with_subcommand three alone in
     let five = c.in_ok-five.ensures.shape c.in_ok-generate.ensures.local ∙ ap₂ with_subcommand four generate in
     let six = c.in_ok-six.ensures.shape c.in_ok-demo.ensures.local ∙ ap₂ with_subcommand five demo in
+    let seven = c.in_ok-seven.ensures.shape c.in_ok-ablate.ensures.local ∙ ap₂ with_subcommand six ablate in
     record {
-      app = IfOk-weaker c.subcommand-7.result _ _ (λ made adds. adds.shape c.in_ok-ablate.ensures.local ∙ ap₂ with_subcommand six ablate) c.subcommand-7.ensures;
+      app = IfOk-weaker c.subcommand-8.result _ _ (λ made adds. adds.shape c.in_ok-harts.ensures.local ∙ ap₂ with_subcommand seven harts) c.subcommand-8.ensures;
     }

@@ -1,0 +1,24 @@
+-- What a run comes to, and what is written of it.
+use Rattle.std.specs.Prelude.{ℕ, nat_eq, if◌then◌else◌, List}
+use Rattle.sched_table.specs.Schedule.{harts_in}
+use Rattle.image_check.specs.Image.{Image}
+use Rattle.world_view.specs.Machine.{World, whole}
+use Rattle.world_view.specs.Harts.{view_alone_on}
+use Rattle.hart_run.specs.Order.{ran}
+use Rattle.hart_run.specs.declared.choice.Choice.{Choice}
+use Rattle.tp_report.specs.Report.{section_of, report_of, report_with}
+
+-- the machine after n slots of each hart, where the next event's hart is chosen so; one hart has nobody beside it
+unfoldable pub world_after : Image → Choice → ℕ → World
+world_after i c n = if nat_eq (harts_in i.all.schedule) 1 then whole i n else ran i c n
+
+unfoldable pub report : Image → Choice → ℕ → List ℕ
+report i c n = report_of i (world_after i c n)
+
+-- the report in which each section is that of its domain alone, by the entries of its hart
+unfoldable pub report_apart : Image → Choice → ℕ → List ℕ
+report_apart i c n = report_with i (λ d. view_alone_on i d n) (world_after i c n).used
+
+-- the section of domain d, alone after n slots of its hart
+unfoldable pub section_alone : Image → ℕ → ℕ → List ℕ
+section_alone i d n = section_of i (λ e. view_alone_on i e n) d
