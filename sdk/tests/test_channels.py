@@ -21,6 +21,7 @@ SECRETS = [f"secret-{number}" for number in range(8)]
 OFF = {it.name: it for it in sorted(CHANNELS.glob("*/*/")) if it.name != "run"}
 NAMES = sorted({it.parent.name for it in OFF.values()})
 LINES = CHANNELS / "lines"
+HARTS = CHANNELS / "harts"
 CHANNELS_MD = (REPOSITORY / "docs" / "CHANNELS.md").read_text()
 
 
@@ -77,7 +78,8 @@ def test_the_images_are_what_the_tools_make(program: Program, compiler: str, tmp
     ignore = shutil.ignore_patterns("out", "secret-*", "__pycache__")
     shutil.copytree(SDK, tmp_path / "sdk", ignore=ignore)
     shutil.copytree(CHANNELS, made, ignore=ignore)
-    images = [f"{channel}/secret-{number}.toml" for channel in [*NAMES, "back"] for number in (0, 5)]
+    channels = [*NAMES, "back", "harts"]
+    images = [f"{channel}/secret-{number}.toml" for channel in channels for number in (0, 5)]
     subprocess.run(["make", "-C", made, f"TP={program.path}", *images], check=True, capture_output=True)
     for image in images:
         assert (made / image).read_text() == (CHANNELS / image).read_text()
@@ -101,15 +103,37 @@ def test_its_images_are_those_of_the_dirty_lines() -> None:
         assert (CHANNELS / "back" / f"{name}.toml").read_text() == back.replace("pad = 6150", "pad = 7080")
 
 
+def test_a_sender_on_another_hart_tells_nothing_in_any_order(program: Program) -> None:
+    images = [(HARTS / f"{name}.toml").read_text() for name in SECRETS]
+    of_senders = []
+    for words in (["run"], *(["harts", "--seed", str(seed)] for seed in range(16))):
+        reports = [parse_report(program.run([*words, "--slots", "10"], it).text, "harts") for it in images]
+        assert len({it.section("spy").text for it in reports}) == 1
+        assert reports[0].section("spy").readings_count == 16
+        of_senders.append([it.section("sender").text for it in reports])
+    assert all(it == of_senders[0] for it in of_senders)
+
+
+def test_its_images_are_those_of_the_lines_on_two_harts() -> None:
+    for name in SECRETS:
+        plain = (LINES / f"{name}.toml").read_text()
+        assert (HARTS / f"{name}.toml").read_text() == f"{plain}hart = 1\n"
+
+
 # ---- the tables of docs/CHANNELS.md
 
 
 def test_the_table_of_channels() -> None:
-    rows = table_with("guard off", "channel", "a secret is", "bits, off", "bits, on", text=CHANNELS_MD)
+    *rows, on_harts = table_with(
+        "guard off", "channel", "a secret is", "bits, off", "bits, on", text=CHANNELS_MD
+    )
     assert [guard for guard, *_ in rows] == [f"`{guard}`" for guard in GUARDS]
     for (_, channel, _, *bits), guard in zip(rows, GUARDS):
         assert channel == f"`{OFF[guard].parent.name}`"
         assert bits == [f"{bits_of(folder):.2f}" for folder in (OFF[guard], OFF[guard].parent / "run")]
+    assert [name for name, _ in reports_in(HARTS / "run")] == SECRETS
+    bits_on = f"{bits_of(HARTS / 'run'):.2f}"
+    assert on_harts == ["none", "`harts`", "which line it loads at the same time", "", bits_on]
 
 
 def test_the_table_of_all_channels_and_guards(program: Program) -> None:

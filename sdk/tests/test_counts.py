@@ -157,6 +157,14 @@ def test_an_image_that_is_refused(program: Program, name: str) -> None:
     assert f"{name}.toml: the program ended with 1: refused K{number} at" in ended.stderr
 
 
+def test_a_domain_of_another_hart_is_counted_by_that_harts_slots(program: Program) -> None:
+    image = example("two-domains")
+    first, second = image["schedule"]
+    alone = count_events(program, image | {"schedule": [second]}, "a", 1, 2)
+    on_harts = image | {"schedule": [first, second | {"hart": 1}, first]}
+    assert count_events(program, on_harts, "a", 1, 2) == alone and [it.slot for it in alone] == [0, 1]
+
+
 def test_more_slots_than_a_schedule_can_be_written_out_for(program: Program) -> None:
     with pytest.raises(Fault, match="two: of the first 64 slots alone can events be counted"):
         count_events(program, example("two-domains"), "two", 0, 65)

@@ -203,12 +203,19 @@ def test_the_refused_examples_are_explained(image: Path) -> None:
 
 
 def test_a_line_of_another_image_is_a_fault() -> None:
-    for line in ("K9 at 1 found 3 wanted 0", "K13 at 0 found 7 wanted 3", "K6 at 12 found 0 wanted 1"):
+    for line in (
+        "K9 at 1 found 3 wanted 0",
+        "K13 at 0 found 7 wanted 3",
+        "K6 at 12 found 0 wanted 1",
+        "K19 at 0 found 0 wanted 1",
+        "K19 at 1 found 0 wanted 2",
+        "K19 at 1 found 1 wanted 3",
+    ):
         with pytest.raises(Fault, match="another image"):
             explain(IMAGE.encode(), "mine.toml", Refusal.parse(f"refused {line}"))
     for line in (
         "accepted!",
-        "refused K2 at 31 found 0 wanted 0",
+        "refused K2 at 32 found 0 wanted 0",
         "refused K99 at 0 found 0 wanted 0",
         f"refused K9 at {'9' * 5000} found 0 wanted 0",
     ):
@@ -237,6 +244,7 @@ def test_what_is_broken_in_the_examples(image: Path) -> None:
     assert line == str(first[0]) if first is not None else not is_refused(image)
 
 
+ON_ONE = "domain = 0\nhart = 1\nlength = 1000\npad = 6150\n[[schedule]]"
 CLASHES = [
     ("K7 at 1 found 0 wanted 0", 'name = "blue"', 'name = "red"', "`name` of domain 0 (red)", '`"red"`'),
     ("K8 at 1 found 2 wanted 4", "[2]", "[2, 3, 2]", "`colours[0]` of domain 1 (blue)", "`2`"),
@@ -264,6 +272,14 @@ CLASHES = [
         "`[9, 3]`",
     ),
     ("K18 at 1 found 2 wanted 14", "[2]", "[2]\ncalls = [0, 4, 1]", "`calls[1]` of domain 1 (blue)", "`4`"),
+    ("K19 at 1 found 0 wanted 3", "domain = 1", f"{ON_ONE}\ndomain = 1", "`domain` of entry 0 (red)", "`0`"),
+    (
+        "K19 at 2 found 1 wanted 3",
+        "domain = 1",
+        "domain = 1\nhart = 1\nlength = 1000\npad = 6150\n[[schedule]]\ndomain = 1",
+        "`hart` of entry 1 (blue)",
+        "`1`",
+    ),
 ]
 
 
@@ -325,6 +341,45 @@ def test_fewer_calls_make_a_pad_enough() -> None:
         "`pad = 2433` or more, or fewer `calls` of domain 0 (red)",
         "`pad = 2374` or more",
     ]
+
+
+def test_harts_in_words() -> None:
+    for new, line, reason in (
+        (
+            "domain = 1\nhart = 4",
+            "1 found 4 wanted 1",
+            "case 1: `hart` of entry 1 (blue) is `4`: an entry's `hart` is not 0 to 3; wanted: 0 to 3",
+        ),
+        (
+            "domain = 1\nhart = 2",
+            "1 found 0 wanted 2",
+            "case 2: `hart` of entry 1 (blue) is `2`: a hart below the greatest has no entry; "
+            "wanted: an entry on hart 1, too, or lesser harts",
+        ),
+        (
+            f"{ON_ONE}\ndomain = 1",
+            "1 found 0 wanted 3",
+            "case 3: `hart` of entry 1 (red) is `1`: an earlier entry gives the domain to another hart; "
+            "wanted: one hart for all entries of domain 0 (red)",
+        ),
+    ):
+        text = IMAGE.replace("domain = 1", new)
+        told = explain_all(text.encode(), "mine.toml", Refusal.parse(f"refused K19 at {line}"))
+        assert [it.reason() for it in told] == [f"K19, {reason}"]
+
+
+def test_every_entry_whose_hart_is_broken() -> None:
+    entries = "".join(
+        f"[[schedule]]\ndomain = {domain}\nlength = 1000\npad = 6150\nhart = {hart}\n"
+        for domain, hart in ((0, 0), (0, 2), (1, 2), (0, 0), (1, 2))
+    )
+    text = IMAGE[: IMAGE.index("[[schedule]]")] + entries
+    lines = ["19 at 1 found 0 wanted 2", "19 at 1 found 0 wanted 3", "19 at 3 found 0 wanted 3"]
+    assert [str(it) for it, _ in Rules(tomllib.loads(text)).broken()] == [f"refused K{it}" for it in lines]
+    # (where an entry's hart is none, the others may have all that are wanted)
+    text = text.replace("hart = 2", "hart = -1", 1)
+    lines = ["19 at 1 found -1 wanted 1"]
+    assert [str(it) for it, _ in Rules(tomllib.loads(text)).broken()] == [f"refused K{it}" for it in lines]
 
 
 def test_a_key_that_is_none() -> None:

@@ -95,6 +95,24 @@ def test_the_rest_is_the_description(folder: Folder) -> None:
     assert {key: image[key] for key in machine} == machine
 
 
+def test_an_entry_may_be_on_another_hart(folder: Folder) -> None:
+    entry = {"domain": 0, "length": 10000, "pad": 6150}
+    for hart, written in ((3, entry | {"hart": 3}), (0, entry)):
+        folder.write(f"{DESCRIPTION}hart = {hart}\n")
+        assert folder.image()["schedule"] == [written]
+    for hart in ('"1"', "true", "1.0"):
+        folder.write(f"{DESCRIPTION}hart = {hart}\n")
+        assert folder.fault().startswith("red.toml:10:8: 'hart' must be an integer: the number of the hart")
+
+
+def test_an_entry_on_a_hart_beside_none_is_explained(folder: Folder, program: Program) -> None:
+    folder.write(f"{DESCRIPTION}hart = 1\n")
+    assert folder.fault(program=program) == (
+        "red.toml:10:8: the image is refused: K19, case 2: `hart` of entry 0 (red) is `1`: a hart below the "
+        "greatest has no entry; wanted: an entry on hart 0, too, or lesser harts"
+    )
+
+
 def test_the_machine_may_have_more_keys(folder: Folder) -> None:
     machine = folder.path / "machine.toml"
     text = machine.read_text() + "history = 8\nmuldiv = { mul = 4, div = 2 }\ntargets = 16\n"

@@ -61,7 +61,7 @@ def test_the_measurements_that_readings_make() -> None:
 
 def test_where_a_slot_ended() -> None:
     # slots end at 16150 and 32300, and the next begin at 22300 and 38450
-    scheduled = by_schedule([Entry(0, 10000, 6150), Entry(1, 10000, 6150)], 4)
+    scheduled = by_schedule([Entry(0, 10000, 6150), Entry(1, 10000, 6150)], 4, 1)
     padded = by_pads([6150, 6150])
     for before, after, is_over in (
         (6150, 16149, False),
@@ -73,6 +73,14 @@ def test_where_a_slot_ended() -> None:
         # (what takes a pad's time may have been within a slot: the pads alone don't tell)
         assert padded(before, after) == (after - before >= 6150)
     assert not by_pads([])(0, 1_000_000)
+
+
+def test_where_a_slot_of_the_domains_own_hart_ended() -> None:
+    # on hart 0 slots end at 7150 and 14300, on hart 1 at 16150 and 32300
+    entries = [Entry(0, 1000, 6150), Entry(1, 10000, 6150, hart=1)]
+    for domain, ends in ((0, (7150, 14300)), (1, (16150, 32300)), (2, (7150, 14300))):
+        scheduled = by_schedule(entries, 2, domain)
+        assert [end for end in range(40000) if scheduled(end - 1, end)] == list(ends)
 
 
 def test_equal_reports_are_one_row() -> None:

@@ -11,7 +11,7 @@ from tp_sdk.faults import Fault
 from tp_sdk.information import measure
 from tp_sdk.refusals import Image
 from tp_sdk.report import parse_report
-from tp_sdk.schedule import Entry, entries_of, slots_of
+from tp_sdk.schedule import Entry, entries_of, slots_of, slots_of_each
 
 EXAMPLES = REPOSITORY / "examples"
 LOUD = (EXAMPLES / "spy-loud.report").read_text()
@@ -68,6 +68,12 @@ def test_a_report_that_is_none() -> None:
         {"domain": [{"name": "x"}], "schedule": [{"domain": 1, "length": 1000, "pad": 0}]},
         {"domain": [{"name": "x"}], "schedule": [{"domain": "x", "length": 1000, "pad": 0}]},
         {"domain": [{"name": "x"}], "schedule": [{"domain": 0, "length": -1, "pad": 0}]},
+        {"domain": [{"name": "x"}], "schedule": [{"domain": 0, "length": 1000, "pad": 0, "hart": 1}]},
+        {"domain": [{"name": "x"}], "schedule": [{"domain": 0, "length": 1000, "pad": 0, "hart": "x"}]},
+        {
+            "domain": [{"name": "x"}],
+            "schedule": [{"domain": 0, "length": 1000, "pad": 0, "hart": hart} for hart in (0, 1)],
+        },
     ),
 )
 def test_a_schedule_that_is_none(image: Image) -> None:
@@ -81,6 +87,39 @@ def test_slots_are_those_of_the_clock() -> None:
     assert [slot.start for slot in slots] == [6150, 22300, 38450, 54600]
     assert [slot.domain for slot in slots] == [0, 1, 0, 1]
     assert all(slot.end == slot.start + 10000 and slot.pad_end == slot.end + 6150 for slot in slots)
+
+
+# docs/IMAGE.md: red's first slot, on hart 1, starts at 6,500, green's at 23,500, blue's at 6,150 and 17,300.
+ON_HARTS = [Entry(0, 10000, 7000, hart=1), Entry(1, 5000, 6150), Entry(2, 10000, 6500, hart=1)]
+
+
+def test_slots_of_a_hart_are_those_of_its_own_entries() -> None:
+    of_zero, of_one = (list(slots_of(ON_HARTS, 4, hart)) for hart in (0, 1))
+    assert [slot.start for slot in of_zero] == [6150, 17300, 28450, 39600]
+    assert [slot.start for slot in of_one] == [6500, 23500, 40000, 57000]
+    assert [(slot.entry, slot.domain) for slot in of_zero] == [(1, 1)] * 4
+    assert [(slot.entry, slot.domain) for slot in of_one] == [(0, 0), (2, 2)] * 2
+    assert all(slot.pad_end - slot.end == ON_HARTS[slot.entry].pad for slot in (*of_zero, *of_one))
+
+
+def test_each_hart_has_as_many_slots() -> None:
+    report = parse_report(LOUD, "loud")
+    entries = [Entry(0, 10000, 6150), Entry(1, 10000, 6150)]
+    assert slots_of_each(entries, report) == 16
+    assert slots_of_each([entries[0], Entry(1, 10000, 6150, hart=1)], report) == 8
+
+
+def test_a_hart_has_a_lane() -> None:
+    pytest.importorskip("matplotlib")
+    from tp_sdk.plot_timeline import lanes_of
+
+    # (of four domains one has no entry, and counts as hart 0's)
+    zero, one = lanes_of(ON_HARTS, 4)
+    assert (zero.hart, list(zero.rows), zero.last_entry) == (0, [1, 3], 1)
+    assert (one.hart, list(one.rows), one.last_entry) == (1, [0, 2], 2)
+    assert list(zero.rows.values()) == [0, 1] and min(one.rows.values()) > 2
+    (alone,) = lanes_of([Entry(1, 10000, 6150), Entry(0, 10000, 6150)], 3)
+    assert alone.rows == {0: 0, 1: 1, 2: 2} and alone.last_entry == 1
 
 
 def test_information_in_bits() -> None:
@@ -164,6 +203,25 @@ def test_a_timeline_of_the_second_version(tmp_path: Path, monkeypatch: pytest.Mo
     image.write_text(text.replace("line = 64\n", ""))
     ended = run_tool("tp-plot", "timeline", image, report, "-o", picture)
     assert ended.returncode == 1 and "mine.toml: no bound can be told of it" in ended.stderr
+
+
+def test_a_timeline_of_several_harts(tmp_path: Path, monkeypatch: pytest.MonkeyPatch) -> None:
+    pytest.importorskip("matplotlib")
+    monkeypatch.setenv("TP", str(tmp_path / "none"))
+    # (of the same names and pads as that of two-harts.toml)
+    report = EXAMPLES / "two-domains.report"
+    texts = {}
+    for name in ("two-domains", "two-harts"):
+        picture = tmp_path / f"{name}.svg"
+        ended = run_tool("tp-plot", "timeline", EXAMPLES / f"{name}.toml", report, "-o", picture)
+        assert ended.returncode == 0
+        texts[name] = picture.read_text()
+    for told in (">hart 0: red<", ">hart 1: blue<", "own clock"):
+        assert told in texts["two-harts"] and told not in texts["two-domains"]
+    # each switch used so much: with one hart a boot and three switches, with two a boot and a switch of each
+    switches = parse_report(report.read_text(), "two").switches
+    told = [texts[name].count(f"> {switch.used}<") for name in texts for switch in switches]
+    assert told == [2, 2, 2, 2]
 
 
 def test_a_timeline_of_no_slots(tmp_path: Path) -> None:

@@ -114,6 +114,21 @@ def test_each_way_to_be_stopped() -> None:
         assert line in told
 
 
+def test_harts() -> None:
+    # (of the same names and pads as that of two-harts.toml)
+    report = EXAMPLES / "two-domains.report"
+    told = {}
+    for name in ("two-domains", "two-harts"):
+        ended = run_tool("tp-report", report, "--image", EXAMPLES / f"{name}.toml")
+        assert ended.returncode == 0
+        first, *_, last = ended.stdout.splitlines()
+        told[name] = (first.split(" of ")[0], last.split(": ")[0])
+    assert told == {
+        "two-domains": (f"{report}: 4 slots", "entry 1 (blue)"),
+        "two-harts": (f"{report}: 4 slots (2 on each", "entry 1 (blue, hart 1)"),
+    }
+
+
 def test_calls_and_readings() -> None:
     told = sentences("memory")
     assert "6 replies to calls; refused: 2" in told

@@ -67,6 +67,12 @@ ENTRY = "[[schedule]]\ndomain = 0\nlength = 1000\npad = 6150\n"
         ("[[schedule]]", ENTRY * 63 + "[[schedule]]", (2,)),
         ("[[schedule]]", ENTRY * 255 + "[[schedule]]", ()),
         ("domain = 1", "domain = 31", (2,)),
+        ("domain = 1", "domain = 1\nhart = 0", (1, 2)),
+        ("domain = 1", "domain = 1\nhart = 3", (1, 2)),
+        ("domain = 1", "domain = 1\nhart = 4", ()),
+        ("domain = 1", "domain = 1\nhart = -1", ()),
+        ("domain = 1", 'domain = 1\nhart = "1"', ()),
+        ("colours = [1] ", "hart = 1\ncolours = [1] ", ()),
         ("l2 = {", "l2 = { back = true,", (1, 2)),
         ("l2 = {", "l2 = { back = false,", (1, 2)),
         ("l2 = {", "l2 = { back = 1,", ()),
@@ -128,6 +134,7 @@ def test_an_image_is_a_description(image: Path) -> None:
         ("colours", "colors"),
         ('"hello"', "1"),
         ("length = 10000", "length = 10"),
+        ("length = 10000", "length = 10000\nhart = 4"),
         ("colours = [1]", 'colours = [1]\nwords = { "a+" = 1 }'),
         ("colours = [1]", "colours = [1]\nwords = { a = -1 }"),
         ("colours = [1]", 'colours = [1]\ncalls = ["exit"]'),
@@ -139,6 +146,7 @@ def test_it_refuses_a_description_that_one_key_breaks(old: str, new: str) -> Non
     assert old in text and faults_of_description(text.replace(old, new)) != []
     good = 'colours = [1]\nwords = { a = 1, "b+4" = [1, 2], c = "text", d = "@file" }'
     assert faults_of_description(text.replace("colours = [1]", good)) == []
+    assert faults_of_description(text.replace("length = 10000", "length = 10000\nhart = 3")) == []
     second = "version = 2\n" + text.replace("colours = [1]", 'colours = [1]\ncalls = ["put", "exit", 2]')
     assert faults_of_description(second) == []
     assert faults_of_description(second.replace('"put"', '"puts"')) != []

@@ -91,7 +91,7 @@ def test_the_parts_of_the_machine() -> None:
     assert rows == [[str(it.number), f"`{it.key}`", f"{it.low:,} to {it.high:,}"] for it in keys.PARTS]
 
 
-@pytest.mark.parametrize("rule", (3, 11, 12, 13, 15, 22))
+@pytest.mark.parametrize("rule", (3, 11, 12, 13, 15, 19, 22))
 def test_the_cases_of_a_rule(rule: int) -> None:
     told = [
         (int(row[0]), row[1])
@@ -130,6 +130,8 @@ def test_the_cases_of_the_schedule() -> None:
             "{1.entries.low} to {1.entries.high} entries, in version 2 {2.entries.low} to {2.entries.high}, ",
         ),
         (18, "each item of `calls` is {0.CALL.low} to {0.CALL.high}, and above the one before."),
+        (19, "each entry is on one of harts {0.HART.low} to {0.HART.high}, "),
+        (19, "an entry's `hart` is not {0.HART.low} to {0.HART.high} "),
         (22, "cost {0.COST.low} to {0.COST.high:,} cycles"),
         (22, "`targets` is no power of two from {0.TARGETS.low} to {0.TARGETS.high}"),
         (16, "of {0.LENGTH.low:,} to {0.LENGTH.high:,} cycles, with a pad of {0.PAD.low} to {0.PAD.high:,}."),

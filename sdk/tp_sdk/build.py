@@ -105,7 +105,7 @@ def _accepted(description: Description, text: str, ended: Ended) -> None:
 
 def _entry(entry: EntryDescription, numbers: dict[str, int], pad: int) -> ImageEntry:
     domain = entry.domain if isinstance(entry.domain, int) else numbers[entry.domain]
-    return ImageEntry(domain, entry.length, pad if entry.pad is None else entry.pad)
+    return ImageEntry(domain, entry.length, pad if entry.pad is None else entry.pad, entry.hart)
 
 
 def _load(it: DomainDescription, arch: str) -> Loaded:

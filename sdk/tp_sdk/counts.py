@@ -17,6 +17,7 @@ from tp_sdk.program import Program
 from tp_sdk.refusals import Image
 from tp_sdk.replay import has_ended, number, written
 from tp_sdk.report import Section, parse_report
+from tp_sdk.schedule import entries_of, hart_for, places_on
 
 # Switches alone flush.
 COUNTED = tuple(cost for cost in COSTS if cost != "flush")
@@ -38,7 +39,7 @@ class Counted:
 
 
 def count_events(program: Program, image: Image, file: str, domain: int, slots: int) -> list[Counted]:
-    """The events of the domain's slots among the first so many."""
+    """The events of the domain's slots among the first so many of its hart."""
     written(program, ["check"], image, file)
     if image["domain"][domain].get("moments"):
         raise Fault(f"{file}: interrupts come to domain {domain} by the clock, so costs change what it does")
@@ -93,8 +94,8 @@ class _Runs:
     def __init__(self, program: Program, image: Image, file: str, domain: int) -> None:
         self._program, self._image, self._file, self._domain = program, image, file, domain
         self._costly = [key for key in ("costs", "muldiv") if key in image]
-        most_entries = limits_of(image).entries.high
-        self.schedule: list[dict[str, Any]] = image["schedule"] * (most_entries // len(image["schedule"]))
+        own = _entries_of_its_hart(image, file, domain)
+        self.schedule = own * (limits_of(image).entries.high // len(own))
 
     def section(self, costs: dict[str, int], lengths: dict[int, int], slots: int) -> Section:
         """What the domain sees after so many slots."""
@@ -141,6 +142,13 @@ class _Runs:
         return Fault(
             f"{self._file}: what domain {self._domain} does in slot {slot} depends on the time: no counts"
         )
+
+
+def _entries_of_its_hart(image: Image, file: str, domain: int) -> list[dict[str, Any]]:
+    """The entries by which a domain runs alone, as those of an image of one hart."""
+    entries = entries_of(image, file)
+    own = [image["schedule"][place] for place in places_on(entries, hart_for(entries, domain))]
+    return [{key: value for key, value in it.items() if key != "hart"} for it in own]
 
 
 def _state(section: Section) -> Sequence[str]:

@@ -83,6 +83,7 @@ ENTRY_KEYS = {
     "domain": Key(Either((Text(), Integer())), "the name of a domain, or its place"),
     "length": Key(Integer(), "an integer: cycles"),
     "pad": Key(Integer(), "an integer: cycles", needed=False),
+    "hart": Key(Integer(), "an integer: the number of the hart that runs it", needed=False),
 }
 
 
@@ -106,12 +107,13 @@ class DomainDescription:
 
 @dataclass(frozen=True)
 class EntryDescription:
-    """An entry of the schedule: with no pad, the bound on a switch is its pad."""
+    """An entry of the schedule: with no pad, the bound on a switch is its pad; with no hart, it is 0."""
 
     place: str
     domain: str | int
     length: int
     pad: int | None
+    hart: int
 
 
 class _Text:
@@ -315,4 +317,5 @@ def _written(text: _Text, path: toml_places.Path, table: dict[str, Any]) -> Load
 def _entry(text: _Text, number: int, table: dict[str, Any]) -> EntryDescription:
     path: toml_places.Path = ("schedule", number)
     text.check(ENTRY_KEYS, table, path)
-    return EntryDescription(text.place(path), table["domain"], table["length"], table.get("pad"))
+    pad, hart = table.get("pad"), table.get("hart", 0)
+    return EntryDescription(text.place(path), table["domain"], table["length"], pad, hart)

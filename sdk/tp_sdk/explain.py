@@ -116,6 +116,7 @@ class _OfImage:
         span = self.places.keys[path] if case.is_of_key else self.places.nearest(path)
         start, end = self.places.position(span.start), self.places.position(span.end)
         words = {
+            "at": refusal.at,
             "found": refusal.found,
             "wanted": refusal.wanted,
             "last": refusal.wanted - 1,

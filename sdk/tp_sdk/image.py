@@ -45,10 +45,12 @@ class ImageEntry:
     domain: int
     length: int
     pad: int
+    hart: int
 
     def to_toml(self) -> str:
-        """Its table."""
-        return f"[[schedule]]\ndomain = {self.domain}\nlength = {self.length}\npad = {self.pad}\n"
+        """Its table; that of hart 0 names none."""
+        hart = f"hart = {self.hart}\n" if self.hart else ""
+        return f"[[schedule]]\ndomain = {self.domain}\nlength = {self.length}\npad = {self.pad}\n{hart}"
 
 
 @dataclass

@@ -183,6 +183,14 @@ KEY_ROWS = (
         needed=False,
     ),
     KeyRow(
+        31,
+        Place.ENTRY,
+        "hart",
+        Integer(),
+        "integer: the number of the hart that runs it; it may be missing",
+        needed=False,
+    ),
+    KeyRow(
         37,
         Place.TOP,
         "muldiv",
@@ -243,6 +251,7 @@ MOMENT = Within(0, 1_000_000_000_000)
 LENGTH = Within(1_000, 1_000_000)
 PAD = Within(0, 1_000_000)
 CALL = Within(0, 14)
+HART = Within(0, 3)
 
 
 @dataclass(frozen=True)
@@ -267,6 +276,11 @@ def version_of(image: dict[str, Any]) -> int:
     all keys."""
     version = image.get("version", VERSION.low)
     return VERSION.low if _is_integer(version) and version == VERSION.low else VERSION.high
+
+
+def hart_of(entry: dict[str, Any]) -> Any:
+    """The hart of an entry of the schedule."""
+    return entry["hart"] if "hart" in entry else 0
 
 
 def limits_of(image: dict[str, Any]) -> Limits:

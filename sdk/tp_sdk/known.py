@@ -20,6 +20,7 @@ class KnownEntry:
 
     domain: int
     pad: int | None
+    hart: int = 0
 
 
 @dataclass
@@ -31,6 +32,11 @@ class Known:
     programs: list[Loaded] = field(default_factory=list)
     entries: list[KnownEntry] = field(default_factory=list)
     calls: list[frozenset[int]] = field(default_factory=list)
+
+    @property
+    def harts(self) -> int:
+        """How many harts there are, as far as is known."""
+        return 1 + max((0, *(entry.hart for entry in self.entries)))
 
     def calls_of(self, domain: int) -> frozenset[int]:
         """The calls that a domain may make, as far as is known."""
@@ -55,7 +61,7 @@ def known_of(description: Description, programs: list[Loaded]) -> Known:
     names = [it.name for it in description.domains]
     numbers = {name: number for number, name in enumerate(names)}
     entries = [
-        KnownEntry(it.domain if isinstance(it.domain, int) else numbers.get(it.domain, -1), it.pad)
+        KnownEntry(it.domain if isinstance(it.domain, int) else numbers.get(it.domain, -1), it.pad, it.hart)
         for it in description.schedule
     ]
     calls = [EVERY_CALL if it.calls is None else frozenset(it.calls) for it in description.domains]

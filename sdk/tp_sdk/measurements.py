@@ -7,7 +7,7 @@ from collections.abc import Callable, Iterable, Sequence
 from dataclasses import dataclass
 
 from tp_sdk.report import Section
-from tp_sdk.schedule import Entry, slots_of
+from tp_sdk.schedule import Entry, hart_for, slots_of
 
 MEASURES = {
     "pairs": "each second reading less the one before it: a clock before and after",
@@ -41,9 +41,9 @@ class Row:
     measurements: Measurements
 
 
-def by_schedule(entries: Sequence[Entry], slots: int) -> SlotEnded:
-    """What the schedule tells of so many slots."""
-    ends = [slot.end for slot in slots_of(list(entries), slots)]
+def by_schedule(entries: Sequence[Entry], slots: int, domain: int) -> SlotEnded:
+    """What the schedule of the domain's hart tells of so many slots."""
+    ends = [slot.end for slot in slots_of(entries, slots, hart_for(entries, domain))]
     return lambda before, after: bisect_right(ends, before) < bisect_right(ends, after)
 
 

@@ -12,7 +12,7 @@ from tp_sdk.keys import LENGTH
 from tp_sdk.plots import SMALL, colour_of, pyplot, save
 from tp_sdk.replay import Did, Replay, number
 from tp_sdk.report import Report, Section
-from tp_sdk.schedule import Entry, Slot, slots_of
+from tp_sdk.schedule import Entry, Slot, hart_for, harts_in, places_on, slots_of, slots_of_each
 
 # (after that one, which tells where the library is missing)
 from matplotlib.lines import Line2D
@@ -23,15 +23,43 @@ if TYPE_CHECKING:
 
 _PAD, _USED, _IDLE = "0.88", "0.35", "0.97"
 _SAVED = "////"
+_ABOVE, _BELOW = 0.6, 0.8  # from a lane's first row to its top, and from its last one to its end
+_BETWEEN = 0.2  # lanes
 
 
 @dataclass(frozen=True)
 class Strip:
-    """A report, and what running its image again told, if it did."""
+    """A report, and what running its image again told of each hart, if it did."""
 
     title: str
     report: Report
-    replay: Replay | None
+    replays: Sequence[Replay] | None
+
+
+@dataclass(frozen=True)
+class Lane:
+    """A hart's part of a strip: the rows of its domains, and of its last entry the place among all."""
+
+    hart: int
+    rows: dict[int, float]
+    last_entry: int
+
+    @property
+    def last_row(self) -> float:
+        """The lowest one."""
+        return max(self.rows.values())
+
+
+def lanes_of(entries: Sequence[Entry], domains: int) -> list[Lane]:
+    """A lane for each hart that has domains, from the top down; that of one hart alone has a row for each."""
+    lanes: list[Lane] = []
+    row = 0.0
+    for hart in range(harts_in(entries)):
+        own = [domain for domain in range(domains) if hart_for(entries, domain) == hart]
+        rows = {domain: row + place for place, domain in enumerate(own)}
+        lanes.append(Lane(hart, rows, places_on(entries, hart)[-1]))
+        row = lanes[-1].last_row + _BELOW + _BETWEEN + _ABOVE
+    return lanes
 
 
 def draw_timeline(
@@ -42,10 +70,12 @@ def draw_timeline(
     most: int,
     bounds: Sequence[EntryBound] = (),
 ) -> None:
-    """The first slots, what was done in them, their pads and what switches used, a strip for each report;
-    and, where bounds are given, those of each domain beside the bound with every call."""
+    """The first slots, what was done in them, their pads and what switches used, a strip for each report,
+    in which each hart has a lane; and, where bounds are given, those of each domain beside the bound with
+    every call."""
     of_domains = list({it.domain: it for it in bounds}.values())
-    heights = [0.7 + 0.5 * len(names)] * len(strips)
+    lanes = lanes_of(entries, len(names))
+    heights = [0.7 + 0.5 * (lanes[-1].last_row + 1)] * len(strips)
     heights += [0.7 + 0.25 * len(of_domains)] if of_domains else []
     figure, places = pyplot.subplots(
         len(heights),
@@ -57,10 +87,10 @@ def draw_timeline(
     )
     of_strips = places[: len(strips), 0]
     for axes, strip in zip(of_strips, strips):
-        _draw_strip(axes, names, list(slots_of(list(entries), min(strip.report.slots, most))), entries, strip)
+        _draw_strip(axes, names, lanes, entries, strip, most)
         axes.sharex(of_strips[-1])
         axes.tick_params(labelbottom=axes is of_strips[-1])
-    of_strips[-1].set_xlabel("cycles")
+    of_strips[-1].set_xlabel("cycles" if len(lanes) == 1 else "cycles, by each hart's own clock")
     if of_domains:
         _draw_bounds(places[-1, 0], names, of_domains)
     figure.legend(
@@ -70,30 +100,48 @@ def draw_timeline(
 
 
 def _draw_strip(
-    axes: Axes, names: Sequence[str], slots: Sequence[Slot], entries: Sequence[Entry], strip: Strip
+    axes: Axes,
+    names: Sequence[str],
+    lanes: Sequence[Lane],
+    entries: Sequence[Entry],
+    strip: Strip,
+    most: int,
 ) -> None:
+    of_each = slots_of_each(entries, strip.report)
+    count = min(of_each, most)
+    for lane in lanes:
+        _draw_lane(axes, lane, list(slots_of(entries, count, lane.hart)), of_each, entries, strip)
+    rows = {row: domain for lane in lanes for domain, row in lane.rows.items()}
+    of_hart = "" if len(lanes) == 1 else "hart {}: "
+    axes.set_yticks(
+        list(rows), [of_hart.format(hart_for(entries, it)) + names[it] for it in rows.values()]
+    )
+    axes.set_ylim(lanes[-1].last_row + _BELOW, -_ABOVE)
+    axes.set_title(strip.title + _untold(strip, count), loc="left", fontsize=SMALL)
+
+
+def _draw_lane(
+    axes: Axes, lane: Lane, slots: Sequence[Slot], of_each: int, entries: Sequence[Entry], strip: Strip
+) -> None:
+    """A hart's first slots, of so many that each hart had."""
     most = [switch.used for switch in strip.report.switches]
-    _draw_pad(axes, names, (0, entries[-1].pad), most[-1] if strip.replay is None else strip.replay.boot)
+    told = None if strip.replays is None else strip.replays[lane.hart]
+    _draw_pad(axes, lane, (0, entries[lane.last_entry].pad), told.boot if told else most[lane.last_entry])
     for place, slot in enumerate(slots):
-        replay = strip.replay if strip.replay and place < len(strip.replay.slots) else None
-        _draw_slot(axes, slot, replay.slots[place] if replay else None)
+        replay = told if told and place < len(told.slots) else None
+        _draw_slot(axes, slot, lane.rows[slot.domain], replay.slots[place] if replay else None)
         # (a run ends with its last slot, whose switch it doesn't have)
-        if place < strip.report.slots - 1:
+        if place < of_each - 1:
             used = replay.used[place] if replay and place < len(replay.used) else most[slot.entry]
-            _draw_pad(axes, names, (slot.end, slot.pad_end), used)
+            _draw_pad(axes, lane, (slot.end, slot.pad_end), used)
     for section in strip.report.sections:
-        _draw_readings(axes, section, slots)
+        if section.number not in lane.rows:
+            continue
+        row = lane.rows[section.number]
+        _draw_readings(axes, section, row, slots)
         axes.text(
-            1.005,
-            section.number,
-            _summary(section),
-            transform=axes.get_yaxis_transform(),
-            fontsize=SMALL,
-            va="center",
+            1.005, row, _summary(section), transform=axes.get_yaxis_transform(), fontsize=SMALL, va="center"
         )
-    axes.set_yticks(range(len(names)), names)
-    axes.set_ylim(len(names) - 0.2, -0.6)
-    axes.set_title(strip.title + _untold(strip, len(slots)), loc="left", fontsize=SMALL)
 
 
 def _draw_bounds(axes: Axes, names: Sequence[str], bounds: Sequence[EntryBound]) -> None:
@@ -112,14 +160,14 @@ def _draw_bounds(axes: Axes, names: Sequence[str], bounds: Sequence[EntryBound])
 
 def _untold(strip: Strip, slots: int) -> str:
     """From which slot on a strip has no more than the report itself tells."""
-    told = 0 if strip.replay is None else len(strip.replay.slots)
+    told = 0 if strip.replays is None else len(strip.replays[0].slots)
     if told == slots:
         return ""
     since = f"from slot {told} on " if told else ""
     return f" ({since}of each switch the most that its entry's used)"
 
 
-def _draw_slot(axes: Axes, slot: Slot, did: Did | None) -> None:
+def _draw_slot(axes: Axes, slot: Slot, row: float, did: Did | None) -> None:
     """The time in which the domain ran, and what it did; pale, where it had ended."""
     whole = slot.end - slot.start
     ran = whole
@@ -127,15 +175,13 @@ def _draw_slot(axes: Axes, slot: Slot, did: Did | None) -> None:
         ran = 0
     elif did is not None and did.status != "running":
         ran = did.ended_at or LENGTH.low
-    height = (slot.domain - 0.4, 0.8)
+    height = (row - 0.4, 0.8)
     axes.broken_barh(
         [(slot.start, whole)], height, facecolor=_IDLE, edgecolor=colour_of(slot.domain), linewidth=0.6
     )
     axes.broken_barh([(slot.start, ran)], height, facecolor=colour_of(slot.domain), alpha=0.55)
     if did is not None and not did.had_ended:
-        axes.text(
-            slot.start + whole / 2, slot.domain, _told(did), ha="center", va="center", fontsize=SMALL - 1
-        )
+        axes.text(slot.start + whole / 2, row, _told(did), ha="center", va="center", fontsize=SMALL - 1)
 
 
 def _told(did: Did) -> str:
@@ -148,19 +194,20 @@ def _told(did: Did) -> str:
     return words
 
 
-def _draw_pad(axes: Axes, names: Sequence[str], pad: tuple[int, int], used: int) -> None:
+def _draw_pad(axes: Axes, lane: Lane, pad: tuple[int, int], used: int) -> None:
     start, end = pad
-    whole = (-0.6, len(names) + 0.4)
+    top = min(lane.rows.values()) - _ABOVE
+    whole = (top, lane.last_row + _BELOW - top)
     axes.broken_barh([(start, end - start)], whole, facecolor=_PAD)
     axes.broken_barh([(start, used)], whole, facecolor=_USED)
-    axes.text(start + used, len(names) - 0.35, f" {used:,}", fontsize=SMALL - 1, va="center")
+    axes.text(start + used, lane.last_row + 0.65, f" {used:,}", fontsize=SMALL - 1, va="center")
 
 
-def _draw_readings(axes: Axes, section: Section, slots: Sequence[Slot]) -> None:
+def _draw_readings(axes: Axes, section: Section, row: float, slots: Sequence[Slot]) -> None:
     """The clocks that it read, at their cycles in its own slots."""
     own = [slot for slot in slots if slot.domain == section.number]
     clocks = [it for it in section.readings if any(slot.start <= it < slot.end for slot in own)]
-    axes.vlines(clocks, section.number + 0.28, section.number + 0.4, color="black", linewidth=0.5)
+    axes.vlines(clocks, row + 0.28, row + 0.4, color="black", linewidth=0.5)
 
 
 def _summary(section: Section) -> str:
@@ -174,7 +221,7 @@ def _many(number: int, what: str) -> str:
 
 
 def _legend(strips: Sequence[Strip], has_bounds: bool) -> list[Patch | Line2D]:
-    is_replayed = any(strip.replay is not None for strip in strips)
+    is_replayed = any(strip.replays is not None for strip in strips)
     saved = Patch(facecolor="none", edgecolor=colour_of(0), hatch=_SAVED, label="saved by calls left out")
     return [
         Patch(

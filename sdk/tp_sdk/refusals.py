@@ -13,7 +13,7 @@ from tp_sdk.toml_places import Path
 
 Image = dict[str, Any]
 
-_RULES_OF_CASES = (3, 11, 12, 13, 15, 16, 22)
+_RULES_OF_CASES = (3, 11, 12, 13, 15, 16, 19, 22)
 
 _LINE = re.compile(r"refused K(\d{1,9}) at (-?\d{1,20}) found (-?\d{1,20}) wanted (-?\d{1,20})")
 
@@ -109,6 +109,33 @@ def _of_segment(key: str) -> Callable[[Refusal, Image], Path | None]:
 
 def _of_entry(key: str) -> Callable[[Refusal, Image], Path | None]:
     return lambda refusal, image: ("schedule", refusal.at, key)
+
+
+def _of_greatest_hart(refusal: Refusal, image: Image) -> Path | None:
+    """The hart of the first entry that is on the greatest one."""
+    harts = [keys.hart_of(entry) for entry in image["schedule"]]
+    return ("schedule", harts.index(max(harts)), "hart") if harts else None
+
+
+def _of_later_hart(refusal: Refusal, image: Image) -> Path | None:
+    """The hart of the entry told, where an earlier one gives the domain to another hart."""
+    is_other = _of_earlier_hart(refusal, image) is not None
+    return _hart_in(refusal.at, image) if is_other else None
+
+
+def _of_earlier_hart(refusal: Refusal, image: Image) -> Path | None:
+    """The hart of the first entry that gives the domain found to another one."""
+    schedule = image["schedule"]
+    own = keys.hart_of(schedule[refusal.at])
+    for number, entry in enumerate(schedule[: refusal.at]):
+        if entry["domain"] == refusal.found and keys.hart_of(entry) != own:
+            return _hart_in(number, image)
+    return None
+
+
+def _hart_in(number: int, image: Image) -> Path:
+    """Where an entry tells its hart: where it tells none, its domain stands for it."""
+    return ("schedule", number, "hart" if "hart" in image["schedule"][number] else "domain")
 
 
 def _in_list(key: str, again: bool) -> Callable[[Refusal, Image], Path | None]:
@@ -207,7 +234,7 @@ _K2 = Columns(
     2,
     "a key is missing, of another kind, or one too many",
     "the row of the table of keys",
-    "the domain (rows 11 to 21, and 29), the entry (rows 23 to 25), else 0",
+    "the domain (rows 11 to 21, and 29), the entry (rows 23 to 25, and 31), else 0",
     "0",
 )
 _K3 = Columns(
@@ -251,6 +278,9 @@ _K16_MANY = Columns(16, "there are too few entries, or too many", "0", "how many
 _K16_ONE = Columns(16, "an entry", "the entry", "the value", "the case, 2 to 4")
 _K17 = Columns(17, "a pad is below the bound on its switch", "the entry", "the pad", "the bound")
 _K18 = Columns(18, "a domain's list of calls", "the domain", "the place in the list", "14")
+_K19_NONE = Columns(19, "an entry's hart is not 0 to 3", "the entry", "the hart", "1")
+_K19_LACKS = Columns(19, "a hart below the greatest has no entry", "the hart", "0", "2")
+_K19_TWO = Columns(19, "an earlier entry gives the domain to another hart", "the entry", "the domain", "3")
 _K22_COST = Columns(22, "a cost of products is out of its range", "the case, 1 or 2", "the cost", "1000")
 _K22_TARGETS = Columns(22, "the target buffer has no size that there is", "3", "its places", "256")
 
@@ -626,6 +656,31 @@ CASES: tuple[Case, ...] = (
         f"calls that ascend, {_from_to(keys.CALL)}",
         _of_item("calls"),
         other=_call_before,
+    ),
+    Case(
+        _K19_NONE,
+        1,
+        "an entry's `hart` is not 0 to 3",
+        _from_to(keys.HART),
+        _of_entry("hart"),
+        _wanted_is(1),
+    ),
+    Case(
+        _K19_LACKS,
+        2,
+        _K19_LACKS.broken,
+        "an entry on hart {at}, too, or lesser harts",
+        _of_greatest_hart,
+        _wanted_is(2),
+    ),
+    Case(
+        _K19_TWO,
+        3,
+        _K19_TWO.broken,
+        "one hart for all entries of {other:found}",
+        _of_later_hart,
+        _wanted_is(3),
+        other=_of_earlier_hart,
     ),
     *(
         Case(

@@ -4,7 +4,8 @@ what each switch used, and when a domain ended.
 A run is determined by its image, and what happened before a slot's end doesn't depend on where the
 end is. So runs of fewer slots tell what each slot did; a schedule written out several times runs as
 it does once, and tells each switch by itself; and a slot that is cut short tells whether its domain
-had ended by then."""
+had ended by then. Of several harts each is told by itself: what switches used depends on the order of
+their events, so a report of another order than that of `run` is not told."""
 
 from __future__ import annotations
 
@@ -18,6 +19,7 @@ from tp_sdk.keys import LENGTH, limits_of
 from tp_sdk.program import Program
 from tp_sdk.refusals import Image
 from tp_sdk.report import Report, Section, parse_report
+from tp_sdk.schedule import entries_of, harts_in, places_on, slots_of_each
 
 
 @dataclass(frozen=True)
@@ -33,7 +35,7 @@ class Did:
 
 @dataclass(frozen=True)
 class Replay:
-    """What each of the first slots did, what the boot used, and what the switch after each slot did,
+    """What each of a hart's first slots did, what its boot used, and what the switch after each slot did,
     where there was one: a run ends with its last slot."""
 
     slots: tuple[Did, ...]
@@ -41,30 +43,43 @@ class Replay:
     used: tuple[int, ...]
 
 
-def replay(program: Program, image: Image, file: str, report: Report, count: int) -> Replay | None:
-    """The first slots of a report, where it is one of this image; else nothing."""
-    if _sections(_run(program, image, file, report.slots)) != _sections(report):
+def replay(
+    program: Program, image: Image, file: str, report: Report, count: int
+) -> tuple[Replay, ...] | None:
+    """Each hart's first slots by a report, where it is one that `run` writes of this image; else nothing."""
+    slots = slots_of_each(entries_of(image, file), report)
+    again = _run(program, image, file, slots)
+    if _sections(again) != _sections(report) or _used(again) != _used(report):
         return None
     most_entries = limits_of(image).entries.high
     written_out = image | {"schedule": image["schedule"] * (most_entries // len(image["schedule"]))}
-    count = min(count, report.slots, len(written_out["schedule"]))
+    entries = entries_of(written_out, file)
+    harts = [places_on(entries, hart) for hart in range(harts_in(entries))]
+    slots = min(slots, *map(len, harts))
+    count = min(count, slots)
     if count == 0:
         return None
     # (one slot more has the last one's switch)
-    most = min(count + 1, report.slots, len(written_out["schedule"]))
-    runs = [_run(program, written_out, file, slots) for slots in range(most + 1)]
+    most = min(count + 1, slots)
+    runs = [_run(program, written_out, file, number) for number in range(most + 1)]
     if _sections(runs[-1]) != _sections(_run(program, image, file, most)):
         return None
-    done = [
-        _did(program, written_out, file, slot, before, after)
-        for slot, (before, after) in enumerate(zip(runs[: count + 1], runs[1 : count + 1]))
-    ]
-    *after, boot = (it.used for it in runs[-1].switches)
-    return Replay(tuple(done), boot, tuple(after[: most - 1]))
+    return tuple(_of_hart(program, written_out, file, places, runs, count) for places in harts)
 
 
-def _did(program: Program, image: Image, file: str, slot: int, before: Report, after: Report) -> Did:
-    domain = image["schedule"][slot]["domain"]
+def _of_hart(
+    program: Program, image: Image, file: str, places: Sequence[int], runs: Sequence[Report], count: int
+) -> Replay:
+    """A hart's first slots, its entries having these places, by runs of 0 slots, of 1 and so on."""
+    done = [_did(program, image, file, places, slot, *runs[slot : slot + 2]) for slot in range(count)]
+    *after, boot = (runs[-1].switches[place].used for place in places)
+    return Replay(tuple(done), boot, tuple(after[: len(runs) - 2]))
+
+
+def _did(
+    program: Program, image: Image, file: str, places: Sequence[int], slot: int, before: Report, after: Report
+) -> Did:
+    domain = image["schedule"][places[slot]]["domain"]
     one, two = before.sections[domain], after.sections[domain]
     ends_here = has_ended(two) and not has_ended(one)
     return Did(
@@ -72,21 +87,21 @@ def _did(program: Program, image: Image, file: str, slot: int, before: Report, a
         number(two, "replies") - number(one, "replies"),
         has_ended(one),
         two.status,
-        _ended_at(program, image, file, slot) if ends_here else None,
+        _ended_at(program, image, file, places[slot], slot) if ends_here else None,
     )
 
 
-def _ended_at(program: Program, image: Image, file: str, slot: int) -> int | None:
-    """How long the slot must be, at least, for its domain to end in it; nothing, where the shortest
-    slot that there may be is enough."""
+def _ended_at(program: Program, image: Image, file: str, place: int, slot: int) -> int | None:
+    """How long the slot, of the entry in this place, must be, at least, for its domain to end in it;
+    nothing, where the shortest slot that there may be is enough."""
     schedule: list[dict[str, Any]] = image["schedule"]
-    domain = schedule[slot]["domain"]
+    domain = schedule[place]["domain"]
 
     def is_enough(length: int) -> bool:
-        cut = [*schedule[:slot], schedule[slot] | {"length": length}, *schedule[slot + 1 :]]
+        cut = [*schedule[:place], schedule[place] | {"length": length}, *schedule[place + 1 :]]
         return has_ended(_run(program, image | {"schedule": cut}, file, slot + 1).sections[domain])
 
-    low, high = LENGTH.low, schedule[slot]["length"]
+    low, high = LENGTH.low, schedule[place]["length"]
     if is_enough(low):
         return None
     while high - low > 1:
@@ -107,6 +122,10 @@ def number(section: Section, word: str) -> int:
 
 def _sections(report: Report) -> Sequence[str]:
     return [section.text for section in report.sections]
+
+
+def _used(report: Report) -> Sequence[tuple[int, int]]:
+    return [(switch.used, switch.count) for switch in report.switches]
 
 
 def _run(program: Program, image: Image, file: str, slots: int) -> Report:

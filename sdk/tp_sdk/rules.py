@@ -58,7 +58,7 @@ class Rules:
         yield from sorted(rows, key=lambda it: it[0].at)
         values = [*self._machine(), *self._names(), *self._colours(), *self._shared()]
         values += [*self._segments(), *self._caps(), *self._lines(), *self._moments()]
-        values += [*self._schedule(), *self._pads(), *self._calls(), *self._extensions()]
+        values += [*self._schedule(), *self._pads(), *self._calls(), *self._harts(), *self._extensions()]
         yield from ((it, None) for it in sorted(values, key=lambda it: it.rule))
 
     # ---- the machine
@@ -266,6 +266,21 @@ class Rules:
             for place, call in enumerate(calls):
                 if not _is_within(call, keys.CALL) or (place and call <= calls[place - 1]):
                     yield Refusal(18, it.number, place, keys.CALL.high)
+
+    # ---- harts
+
+    def _harts(self) -> Iterator[Refusal]:
+        harts = [(number, it["domain"], keys.hart_of(it)) for number, it in self.entries]
+        for number, _, hart in harts:
+            if not _is_within(hart, keys.HART):
+                yield Refusal(19, number, hart, 1)
+        good = [it for it in harts if _is_within(it[2], keys.HART)]
+        if len(good) == len(_tables(self.image, "schedule")):
+            there = {hart for _, _, hart in good}
+            yield from (Refusal(19, hart, 0, 2) for hart in range(max(there, default=0)) if hart not in there)
+        for place, (number, domain, hart) in enumerate(good):
+            if any(of == domain and other != hart for _, of, other in good[:place]):
+                yield Refusal(19, number, domain, 3)
 
     # ---- products and the target buffer
 

@@ -168,4 +168,5 @@ _VALUES: dict[tuple[Place, str], Schema] = {
     (Place.ENTRY, "domain"): _entry_of(_MOST)["domain"],
     (Place.ENTRY, "length"): of_kind(keys.LENGTH),
     (Place.ENTRY, "pad"): of_kind(keys.PAD),
+    (Place.ENTRY, "hart"): of_kind(keys.HART),
 }

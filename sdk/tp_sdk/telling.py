@@ -33,7 +33,7 @@ class Telling:
         image = self.known.file
         of = f" of {image}" if image is not None and str(image) != self.file else ""
         off = "" if self.report.off is None else f", unprotected: the guard {self.report.off} was off"
-        lines = [f"{self.file}: {_count(self.report.slots, 'slot')}{of}{off}"]
+        lines = [f"{self.file}: {_count(self.report.slots, 'slot')}{self._on_harts()}{of}{off}"]
         for section in self.report.sections:
             lines.extend(self.domain(section).sentences())
         lines.extend(self._switch(switch) for switch in self.report.switches)
@@ -55,6 +55,11 @@ class Telling:
         number = section.number
         return DomainTold(section, self.known.program(number), self.known.calls_of(number))
 
+    def _on_harts(self) -> str:
+        """How many slots each hart had, where there are several."""
+        harts = self.known.harts
+        return "" if harts == 1 else f" ({self.report.slots // harts:,} on each of {harts} harts)"
+
     def _switch(self, switch: Switch) -> str:
         of = self._name_of_entry(switch)
         if not switch.count:
@@ -70,7 +75,10 @@ class Telling:
 
     def _name_of_entry(self, switch: Switch) -> str:
         name = self._name(switch)
-        return f" ({name})" if name is not None else ""
+        if name is None:
+            return ""
+        on = "" if self.known.harts == 1 else f", hart {self.known.entries[switch.entry].hart}"
+        return f" ({name}{on})"
 
     def _name(self, switch: Switch) -> str | None:
         if switch.entry >= len(self.known.entries):

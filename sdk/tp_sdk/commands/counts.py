@@ -55,7 +55,7 @@ def main(words: list[str]) -> int:
     parser.add_argument("image", type=Path, help="the image")
     parser.add_argument("--domain", required=True, help="its name")
     parser.add_argument(
-        "--slots", type=slot_count, default=4, help="of the first so many slots (%(default)s)"
+        "--slots", type=slot_count, default=4, help="of its hart's first so many slots (%(default)s)"
     )
     parser.add_argument("--json", action="store_true", help="writes an array with an object for each slot")
     asked = parser.parse_args(words)

@@ -36,6 +36,7 @@ _HELP = """Makes an image from a short description in TOML:
   domain = "driver"             by name, or by its place as in an image
   length = 10000
   pad = 6150                    left out: what `tp bound` says, in version 2 of this entry
+  hart = 1                      which hart runs it; left out: 0
 
 An image's own keys may stand in it, too: the machine's in the place of `machine`, `entry` and
 `segment` in that of `program`. So every image is a description.

@@ -25,15 +25,16 @@ from tp_sdk.program import Program
 from tp_sdk.refusals import Image
 from tp_sdk.replay import Replay, replay
 from tp_sdk.report import Report, Section, parse_report
-from tp_sdk.schedule import Entry, domain_names, entries_of, slot_count
+from tp_sdk.schedule import Entry, domain_names, entries_of, slot_count, slots_of_each
 from tp_sdk.toml_places import read_with_places
 
-_HELP = """Draws reports of `tp run` and `tp ablate`, as NAME.svg or NAME.png:
+_HELP = """Draws reports of `tp run`, `tp harts` and `tp ablate`, as NAME.svg or NAME.png:
 
   tp-plot timeline mine.toml mine.report -o mine.svg
       what was done in each slot, and what each switch used of its pad, as running the image
-      again tells; with no program, what the report alone does; of an image of version 2 also each
-      domain's bound on a switch, beside the one with every call
+      again tells; with no program, what the report alone does; of several harts a lane for each, by
+      its own clock; of an image of version 2 also each domain's bound on a switch, beside the one
+      with every call
   tp-plot readings FOLDER --domain spy -o spy.svg
       what one domain measured in each FOLDER/*.report: a spy beside many neighbours, say
   tp-plot matrix FOLDER OTHER --domain spy -o spy.svg
@@ -56,7 +57,7 @@ def main(words: list[str]) -> int:
         "--slots",
         type=slot_count,
         default=12,
-        help="how many slots are drawn, from the first on (%(default)s)",
+        help="how many slots of each hart are drawn, from the first on (%(default)s)",
     )
     timeline.set_defaults(draw=_timeline)
     readings = commands.add_parser("readings", help="what a domain measured in many reports")
@@ -158,7 +159,9 @@ def _bounds(image: _Scheduled) -> list[EntryBound]:
         raise Fault(f"{image.file}: no bound can be told of it: does 'tp check' accept it?") from None
 
 
-def _replay(program: Program | None, image: _Scheduled, report: Report, slots: int) -> Replay | None:
+def _replay(
+    program: Program | None, image: _Scheduled, report: Report, slots: int
+) -> tuple[Replay, ...] | None:
     return None if program is None else replay(program, image.image, str(image.file), report, slots)
 
 
@@ -242,7 +245,7 @@ def _panel(
         if image is None:
             slot_ended = by_pads(switch.pad for switch in report.switches)
         else:
-            slot_ended = by_schedule(image.entries, report.slots)
+            slot_ended = by_schedule(image.entries, slots_of_each(image.entries, report), section.number)
         sections.append(section.text)
         series.append((file.stem, measurements_of(section, asked.measure, slot_ended)))
     measured = measure(sections, [it.cycles for _, it in series])

@@ -37,7 +37,7 @@ def main(words: list[str]) -> int:
         "tp-run", description=_HELP, epilog=EXIT_CODES, formatter_class=RawDescriptionHelpFormatter
     )
     parser.add_argument("program", type=Path, help="a program, or a description (.toml)")
-    parser.add_argument("--slots", type=int, required=True, help="how many slots are run")
+    parser.add_argument("--slots", type=int, required=True, help="how many slots each hart runs")
     parser.add_argument(
         "--beside", type=Path, action="append", default=[], metavar="PROGRAM", help="a domain beside it"
     )
