@@ -17,9 +17,8 @@ use Rattle.call_table.specs.declared.Reply.{Reply}
 use Rattle.call_table.proofs.ClaimLawsSlots.{long_set}
 use Rattle.kernel_call.specs.declared.domain.Domain.{Domain}
 use Rattle.kernel_call.specs.declared.error.CallError.{CallError}
-use Rattle.kernel_call.specs.declared.outcome.Done.{Done}
 use Rattle.kernel_call.specs.Models.{dom_model}
-use Rattle.kernel_call.specs.Facts.{HasFacts, Ends, code_of, reads, end_of}
+use Rattle.kernel_call.specs.Facts.{Done, HasFacts, Ends, code_of, reads, end_of}
 use Rattle.kernel_call.specs.Entries.{clear_at, CanClear, Leaves, given_back}
 use Rattle.kernel_call.proofs.Paths.{ends_there, filled_then, check_ends}
 use Rattle.kernel_call.proofs.Frees.{free_of, page_frame, table_frame, own_frame, out_frame, page_back, table_back, none_back}

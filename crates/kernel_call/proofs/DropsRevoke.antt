@@ -16,9 +16,8 @@ use Rattle.call_table.specs.Calls.{Note, filled, emptied_at, unmap_all, revoke}
 use Rattle.call_table.specs.declared.Reply.{Reply}
 use Rattle.kernel_call.specs.declared.domain.Domain.{Domain}
 use Rattle.kernel_call.specs.declared.error.CallError.{CallError}
-use Rattle.kernel_call.specs.declared.outcome.Done.{Done}
 use Rattle.kernel_call.specs.Models.{dom_model}
-use Rattle.kernel_call.specs.Facts.{HasFacts, Ends, reads, end_of}
+use Rattle.kernel_call.specs.Facts.{Done, HasFacts, Ends, reads, end_of}
 use Rattle.kernel_call.specs.Entries.{Leaves, CanUnmapAll}
 use Rattle.kernel_call.proofs.Frees.{free_of}
 use Rattle.kernel_call.proofs.FreesAlloc.{kept, DoneWith}

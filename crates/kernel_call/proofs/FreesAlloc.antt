@@ -23,9 +23,8 @@ use Rattle.call_table.proofs.ClaimLawsSlots.{claims_at, long_set, least_is_free,
 use Rattle.call_table.proofs.TablesSlots.{claim_within}
 use Rattle.kernel_call.specs.declared.domain.Domain.{Domain}
 use Rattle.kernel_call.specs.declared.error.CallError.{CallError}
-use Rattle.kernel_call.specs.declared.outcome.Done.{Done}
 use Rattle.kernel_call.specs.Models.{dom_model}
-use Rattle.kernel_call.specs.Facts.{Has, HasFacts, Ends, code_of, reads}
+use Rattle.kernel_call.specs.Facts.{Done, Has, HasFacts, Ends, code_of, reads}
 use Rattle.kernel_call.proofs.Paths.{slot_then, slot_ends, check_then, check_ends, some_then, some_ends, runs}
 use Rattle.kernel_call.proofs.Frees.{free_of, put_free, page_frame, table_frame}
 

@@ -14,6 +14,7 @@ use Rattle.page_map.specs.Tables.{IsPageMap, IsBlank, StandsWith, has_table, has
 use Rattle.page_map.specs.Reached.{IsApart}
 use Rattle.frame_colours.specs.Colours.{pool}
 use Rattle.kernel_clone.specs.Models.{work_model}
+use Rattle.kernel_clone.specs.declared.Work.{Work}
 use Rattle.cap_table.specs.declared.Cap.{Cap}
 use Rattle.cap_table.specs.declared.Cap.TheVariants as cap
 use Rattle.cap_table.specs.Slots.{Slots, cap_at, with_cap}
@@ -30,9 +31,8 @@ use Rattle.call_table.proofs.TablesMeaning.{mine_is_own, page_frame, page_tables
 use Rattle.call_table.proofs.CallLaws.{table_at}
 use Rattle.kernel_call.specs.declared.domain.Domain.{Domain}
 use Rattle.kernel_call.specs.declared.error.CallError.{CallError}
-use Rattle.kernel_call.specs.declared.outcome.Done.{Done}
 use Rattle.kernel_call.specs.Models.{dom_model}
-use Rattle.kernel_call.specs.Facts.{Has, HasFacts, Valid, code_of, end_of, reads, Ends}
+use Rattle.kernel_call.specs.Facts.{Done, with_work, Has, HasFacts, Valid, code_of, end_of, reads, Ends}
 
 pub kept_facts : (e : Estate) (memory : Contents) (m : Mem) (d : Domain) (readings : List ℕ) (replies : List Reply)
     → HasFacts e memory m d → Kept e (dom_model d readings replies) m
@@ -66,6 +66,10 @@ pub ends_error : (number : ℕ) (e : Estate) (d : Domain) (memory : Contents) (m
 ends_error number e d memory m readings replies x result r h is exit =
     subst (λ (t : Result Done CallError). Ends number e d d memory readings replies t r) (sym is)
     (ends_same number e d memory m readings replies x r h exit)
+
+-- by `?`, whatever the work
+pub exits : (result : Result ℕ CallError) (x : CallError) (work : Work) → result ≡ Err x → with_work result work ≡ Err x
+exits result x work is = ap (λ (t : Result ℕ CallError). with_work t work) is
 
 -- the slot's number is bad, or the slot is empty
 pub ends_unfilled : (number : ℕ) (e : Estate) (d : Domain) (memory : Contents) (m : Mem) (readings : List ℕ) (replies : List Reply)

@@ -27,10 +27,9 @@ use Rattle.call_table.proofs.TablesMeaning.{mine_is_own}
 use Rattle.call_table.specs.declared.Reply.{Reply}
 use Rattle.kernel_call.specs.declared.domain.Domain.{Domain}
 use Rattle.kernel_call.specs.declared.error.CallError.{CallError}
-use Rattle.kernel_call.specs.declared.outcome.Done.{Done}
 use Rattle.kernel_call.specs.declared.outcome.Outcome.{Outcome}
 use Rattle.kernel_call.specs.Models.{dom_model, Stands}
-use Rattle.kernel_call.specs.Facts.{HasFacts, code_of, Ends}
+use Rattle.kernel_call.specs.Facts.{Done, HasFacts, code_of, Ends}
 use Rattle.kernel_call.specs.Calls.{IsCalled}
 use Rattle.kernel_call.specs.Threads.{IsAnswered}
 use Rattle.kernel_call.proofs.Ties.{kept_facts, has_still}

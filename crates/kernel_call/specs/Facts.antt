@@ -1,12 +1,14 @@
 -- What the code's domain and memory have to be for its kernel calls, and how these end.
-use Rattle.std.specs.Prelude.{◌≡◌, ℕ, List, [], length, Result, Ok, Err, ◌⊎◌}
+use Rattle.std.specs.Prelude.{◌≡◌, ℕ, List, [], length, None, Result, Ok, Err, ◌⊎◌}
 use Rattle.std.proofs.Common.{inl, inr}
 use Rattle.tp_base.specs.Act as act
 use Rattle.phys_mem.specs.Contents.{Contents}
 use Rattle.phys_mem.specs.Holds.{Holds}
 use Rattle.phys_mem.specs.Mem.{Mem}
 use Rattle.frame_colours.specs.FreeList.{FreeList}
+use Rattle.kernel_clone.specs.Footprints.{WorkDone}
 use Rattle.kernel_clone.specs.Models.{work_model}
+use Rattle.kernel_clone.specs.declared.Work.{Work}
 use Rattle.call_table.specs.Domain.{Dom, done, refused}
 use Rattle.call_table.specs.Claims.{Estate, is_mine, claims, free_frames, Facts, IsEstate}
 use Rattle.call_table.specs.Calls.{Note, Act, work_of}
@@ -14,7 +16,6 @@ use Rattle.call_table.specs.declared.Reply.{Reply}
 use Rattle.kernel_call.specs.declared.domain.Domain.{Domain}
 use Rattle.kernel_call.specs.declared.error.CallError.{CallError}
 use Rattle.kernel_call.specs.declared.error.CallError.TheVariants as error
-use Rattle.kernel_call.specs.declared.outcome.Done.{Done}
 use Rattle.kernel_call.specs.Models.{dom_model}
 
 -- ---- the facts
@@ -89,6 +90,20 @@ reads m v = record { notes = []; state = m; value = v }
 abbrev pub Finds : {A : Type 0} → (Dom → Act A) → Result A CallError → Domain → Type 0
 Finds f result d = (readings : List ℕ) (replies : List Reply) (m : Mem)
     → f (dom_model d readings replies) m ≡ reads m (end_of (dom_model d readings replies) result)
+
+-- what a call that was done gives, and the work that the code tells of it
+pub record Done : Type 0 where
+  pub value : ℕ
+  pub work : Work
+
+-- how a call ends, with that work
+abbrev pub with_work : Result ℕ CallError → Work → Result Done CallError
+with_work (Ok x) work = Ok (record { value = x; work = work })
+with_work (Err x) work = Err x
+
+-- the work of an operation that zeroed no frame and wrote no entry
+abbrev pub nothing : ℕ → WorkDone
+nothing op = record { op = op; zeroed = None; entries = [] }
 
 -- the value of a call, of the domain as the code leaves it before the reply
 abbrev pub call_end : Dom → Dom → Result Done CallError → Dom ⊎ Dom

@@ -6,25 +6,26 @@ ghost use Rattle.kernel_clone.specs.Permissions.{may_make, permitted as spec_per
 ghost use Rattle.pad_bound.specs.Worst.{IsCallWork, IsPermitted};
 ghost use Rattle.thread_set.specs.Threads.{is_ready};
 ghost use Rattle.call_table.specs.Calls as spec;
-ghost use Rattle.kernel_call.specs.Facts.{Valid, Does, KeepsRest};
+ghost use Rattle.kernel_call.specs.Facts.{Valid, Does, KeepsRest, nothing, with_work};
 ghost use Rattle.kernel_call.specs.Calls.{Calls, KeepsParts, IsRefused};
 
 use crate::error::CallError;
 use crate::frames::{alloc, delete, revoke};
-use crate::outcome::{Done, Outcome, no_work, plain};
+use crate::outcome::{Outcome, has_places, no_work, plain};
 use crate::reply::reply_to;
 use crate::slots::copy;
 use crate::tables::{install, map_page, unmap};
 use crate::threads::call_without_memory;
 use crate::{Domain, PRINTED};
 use call_table::Reply;
-use kernel_clone::{BAD_CALL, Call};
+use kernel_clone::{BAD_CALL, Call, Work};
 use phys_mem::PhysMem;
 
 // PUT: prints the low byte of `a`.
-fn put_byte(domain: &mut Domain, memory: &PhysMem, a: u32) -> Result<Done, CallError>
+fn put_byte(domain: &mut Domain, memory: &PhysMem, a: u32) -> Result<u32, CallError>
     requires valid { Valid memory.now domain.old }
-    ensures does { Does 1 (λ e d. spec.put_byte d a) result memory.now domain.old memory.now domain.new }
+    ensures does { (work : Work) → work_model work ≡ nothing 1
+        → Does 1 (λ e d. spec.put_byte d a) (with_work result work) memory.now domain.old memory.now domain.new }
     ensures rest { KeepsRest domain.old domain.new }
     ensures unchanged { IfErr result (λ error. domain.new ≡ domain.old) }
 {
@@ -32,10 +33,7 @@ fn put_byte(domain: &mut Domain, memory: &PhysMem, a: u32) -> Result<Done, CallE
         return Err(CallError::OutputFull);
     }
     domain.printed.push((a & 0xff) as u8).unwrap();
-    Ok(Done {
-        value: 0,
-        work: no_work(Call::Put),
-    })
+    Ok(0)
 }
 
 // Whether a call leaves memory, frames and slots alone: one that ends the
@@ -56,35 +54,39 @@ fn leaves_memory(call: Call) -> bool
     )
 }
 
-// A call on memory, frames or slots.
+// A call on memory, frames or slots: its value. It tells its work where that stands
+// in the end, since a work is large, and a copy of it costs.
 fn perform(
     domain: &mut Domain,
     memory: &mut PhysMem,
+    work: &mut Work,
     call: Call,
     args: [u32; 3],
-) -> Result<Done, CallError>
+) -> Result<u32, CallError>
     requires valid { Valid memory.old domain.old }
     requires first { 0 < call_number call }
     requires last { call_number call ≤ 8 }
+    requires fresh { work_model work.old ≡ nothing (call_number call) }
     ensures does { Does (call_number call)
         (λ e d. spec.call_of e d (call_number call)
         (slice_index args 0) (slice_index args 1) (slice_index args 2))
-        result memory.old domain.old memory.new domain.new }
+        (with_work result work.new) memory.old domain.old memory.new domain.new }
     ensures rest { KeepsRest domain.old domain.new }
     ensures unchanged { IfErr result (λ error. domain.new ≡ domain.old) }
     ensures memory { IfErr result (λ error. memory.new ≡ memory.old) }
+    ensures unwritten { IfErr result (λ error. work.new ≡ work.old) }
     ensures frames { memory.new.frames ≡ memory.old.frames }
 {
     let [a, b, c] = args;
     match call {
         Call::Put => put_byte(domain, memory, a),
-        Call::Alloc => alloc(domain, memory, a, b),
-        Call::Table => install(domain, memory, a, b),
-        Call::Map => map_page(domain, memory, a, b, c),
-        Call::Unmap => unmap(domain, memory, a),
+        Call::Alloc => alloc(domain, memory, work, a, b),
+        Call::Table => install(domain, memory, work, a, b),
+        Call::Map => map_page(domain, memory, work, a, b, c),
+        Call::Unmap => unmap(domain, memory, work, a),
         Call::Copy => copy(domain, memory, a, b, c),
-        Call::Delete => delete(domain, memory, a),
-        _ => revoke(domain, memory, a),
+        Call::Delete => delete(domain, memory, work, a),
+        _ => revoke(domain, memory, work, a),
     }
 }
 
@@ -103,26 +105,24 @@ fn make(domain: &mut Domain, memory: &mut PhysMem, call: Call, args: [u32; 3]) -
     ensures work { IsCallWork (work_model result.work) }
     ensures in_memory { memory.old.frames ≤ 2 ^ 15 → IsWork result.work }
 {
+    let mut work = no_work(call);
     if leaves_memory(call) {
         return Outcome {
             reply: call_without_memory(domain, call, args),
-            work: no_work(call),
+            work,
         };
     }
-    match perform(domain, memory, call, args) {
-        Ok(done) => {
-            let reply = Reply {
-                code: 0,
-                value: done.value,
-            };
+    match perform(domain, memory, &mut work, call, args) {
+        Ok(value) => {
+            has_places(&work);
             Outcome {
-                reply: Some(reply_to(domain, reply)),
-                work: done.work,
+                reply: Some(reply_to(domain, Reply { code: 0, value })),
+                work,
             }
         }
         Err(error) => Outcome {
             reply: Some(reply_to(domain, error.reply())),
-            work: no_work(call),
+            work,
         },
     }
 }

@@ -8,11 +8,12 @@ ghost use Rattle.page_map.specs.Tables.{StandsWith};
 ghost use Rattle.cap_table.specs.Slots.{Slots};
 ghost use Rattle.cap_table.specs.Owning.{IsUnnamed, IsNew, given_cap};
 ghost use Rattle.call_table.specs.Calls as spec;
-ghost use Rattle.kernel_call.specs.Facts.{Valid, Does, KeepsRest};
+ghost use Rattle.kernel_clone.specs.Models.{work_model};
+ghost use Rattle.kernel_call.specs.Facts.{Valid, Does, KeepsRest, nothing, with_work};
 ghost use Rattle.kernel_call.specs.Entries.{clear_at, CanClear, Leaves, CanUnmapAll, given_back};
 
 use crate::error::CallError;
-use crate::outcome::{Done, no_work, writing, zeroing};
+use crate::outcome::{no_work, tell_entry, tell_zeroed};
 use crate::slots::filled;
 use crate::{Domain, SLOTS};
 use cap_table::{Given, Gone, Revoked};
@@ -24,11 +25,20 @@ use tp_base::Rights;
 
 /// ALLOC: slot `a` names the least free frame, zeroed: a page where `b` is 0, a
 /// table where it is 1.
-pub fn alloc(domain: &mut Domain, memory: &mut PhysMem, a: u32, b: u32) -> Result<Done, CallError>
+pub fn alloc(
+    domain: &mut Domain,
+    memory: &mut PhysMem,
+    work: &mut Work,
+    a: u32,
+    b: u32,
+) -> Result<u32, CallError>
     requires valid { Valid memory.old domain.old }
-    ensures does { Does 2 (λ e d. spec.alloc e d a b) result memory.old domain.old memory.new domain.new }
+    requires fresh { work_model work.old ≡ nothing 2 }
+    ensures does { Does 2 (λ e d. spec.alloc e d a b) (with_work result work.new)
+        memory.old domain.old memory.new domain.new }
     ensures unchanged { IfErr result (λ error. domain.new ≡ domain.old) }
     ensures memory { IfErr result (λ error. memory.new ≡ memory.old) }
+    ensures unwritten { IfErr result (λ error. work.new ≡ work.old) }
     ensures rest { KeepsRest domain.old domain.new }
     ensures frames { memory.new.frames ≡ memory.old.frames }
 {
@@ -47,10 +57,8 @@ pub fn alloc(domain: &mut Domain, memory: &mut PhysMem, a: u32, b: u32) -> Resul
     let number = frame.number().number();
     let given = given_of(frame, memory, b);
     domain.caps.put(a, given);
-    Ok(Done {
-        value: 0,
-        work: zeroing(Call::Alloc, number),
-    })
+    tell_zeroed(work, number);
+    Ok(0)
 }
 
 // A frame that was free as what a slot is given: a page where `b` is 0, else a
@@ -71,11 +79,19 @@ fn given_of(frame: Frame<Free>, memory: &mut PhysMem, b: u32) -> Given
 
 /// DELETE: empties slot `a`, and clears the entry for which it accounted. A
 /// frame that no slot names then is free.
-pub fn delete(domain: &mut Domain, memory: &mut PhysMem, a: u32) -> Result<Done, CallError>
+pub fn delete(
+    domain: &mut Domain,
+    memory: &mut PhysMem,
+    work: &mut Work,
+    a: u32,
+) -> Result<u32, CallError>
     requires valid { Valid memory.old domain.old }
-    ensures does { Does 7 (λ e d. spec.delete e d a) result memory.old domain.old memory.new domain.new }
+    requires fresh { work_model work.old ≡ nothing 7 }
+    ensures does { Does 7 (λ e d. spec.delete e d a) (with_work result work.new)
+        memory.old domain.old memory.new domain.new }
     ensures unchanged { IfErr result (λ error. domain.new ≡ domain.old) }
     ensures memory { IfErr result (λ error. memory.new ≡ memory.old) }
+    ensures unwritten { IfErr result (λ error. work.new ≡ work.old) }
     ensures rest { KeepsRest domain.old domain.new }
     ensures frames { memory.new.frames ≡ memory.old.frames }
 {
@@ -84,10 +100,16 @@ pub fn delete(domain: &mut Domain, memory: &mut PhysMem, a: u32) -> Result<Done,
         return Err(CallError::InUse);
     }
     let gone = domain.caps.delete(a);
-    let work = clear_entry(&mut domain.map, memory, gone.unmapped, gone.uninstalled);
+    clear_entry(
+        &mut domain.map,
+        memory,
+        work,
+        gone.unmapped,
+        gone.uninstalled,
+    );
     let Gone { held, table, .. } = gone;
     give_back(&mut domain.pool, held, table);
-    Ok(Done { value: 0, work })
+    Ok(0)
 }
 
 // Clears the entry for which a capability accounted, where it did: the leaf of
@@ -95,22 +117,25 @@ pub fn delete(domain: &mut Domain, memory: &mut PhysMem, a: u32) -> Result<Done,
 fn clear_entry(
     map: &mut PageMap,
     memory: &mut PhysMem,
+    work: &mut Work,
     unmapped: Option<u32>,
     uninstalled: Option<u32>,
-) -> Work
+)
     requires there { StandsWith memory.old (λ m. CanClear m map.old memory.old.frames unmapped uninstalled) }
+    requires fresh { work_model work.old ≡ nothing 7 }
     ensures clears { (m : Mem) → Holds memory.old m
-        → Leaves 7 memory.new result (clear_at map.old unmapped uninstalled m) }
+        → Leaves 7 memory.new work.new (clear_at map.old unmapped uninstalled m) }
     ensures map { map.new ≡ map.old }
     ensures frames { memory.new.frames ≡ memory.old.frames }
 {
     if let Some(va) = unmapped {
-        return writing(Call::Delete, map.unmap(memory, va));
+        tell_entry(work, map.unmap(memory, va));
+        return;
     }
-    if let Some(va) = uninstalled {
-        return writing(Call::Delete, map.uninstall_table(memory, va));
-    }
-    no_work(Call::Delete)
+    let Some(va) = uninstalled else {
+        return;
+    };
+    tell_entry(work, map.uninstall_table(memory, va));
 }
 
 // Frees the frames that no slot names any more.
@@ -132,23 +157,29 @@ fn give_back(pool: &mut Pool, held: Option<Frame<Held>>, table: Option<Frame<Tab
 
 /// REVOKE: deletes every other slot that names the same page or line as slot
 /// `a`, and gives their number.
-pub fn revoke(domain: &mut Domain, memory: &mut PhysMem, a: u32) -> Result<Done, CallError>
+pub fn revoke(
+    domain: &mut Domain,
+    memory: &mut PhysMem,
+    work: &mut Work,
+    a: u32,
+) -> Result<u32, CallError>
     requires valid { Valid memory.old domain.old }
-    ensures does { Does 8 (λ e d. spec.revoke e d a) result memory.old domain.old memory.new domain.new }
+    ensures does { Does 8 (λ e d. spec.revoke e d a) (with_work result work.new)
+        memory.old domain.old memory.new domain.new }
     ensures unchanged { IfErr result (λ error. domain.new ≡ domain.old) }
     ensures memory { IfErr result (λ error. memory.new ≡ memory.old) }
+    ensures unwritten { IfErr result (λ error. work.new ≡ work.old) }
     ensures rest { KeepsRest domain.old domain.new }
     ensures frames { memory.new.frames ≡ memory.old.frames }
 {
     filled(domain, a)?;
     let revoked = domain.caps.revoke(a);
-    Ok(Done {
-        value: revoked.count,
-        work: clear_all(&mut domain.map, memory, &revoked),
-    })
+    *work = clear_all(&mut domain.map, memory, &revoked);
+    Ok(revoked.count)
 }
 
-// Clears the leaves of the pages that were revoked.
+// Clears the leaves of the pages that were revoked. Its work is one of its own: LLVM
+// would keep the work of every call in memory, if a place of it were found by a number.
 fn clear_all(map: &mut PageMap, memory: &mut PhysMem, revoked: &Revoked) -> Work
     requires few { revoked.now.written ≤ 64 }
     requires there { StandsWith memory.old (λ m.

@@ -1,8 +1,9 @@
 // What a kernel call comes to.
-ghost use Rattle.std.specs.Prelude.{◌≡◌, [], ◌∷◌, Some, None};
+ghost use Rattle.std.specs.Prelude.{◌≡◌, ℕ, [], ◌∷◌, length, Some, None};
 ghost use Rattle.kernel_clone.specs.Models.{work_model};
 ghost use Rattle.kernel_clone.specs.Footprints.{call_number};
 ghost use Rattle.call_table.specs.Calls.{clears_entries};
+ghost use Rattle.kernel_call.specs.Facts.{nothing};
 
 use call_table::Reply;
 use kernel_clone::{Call, Work};
@@ -38,17 +39,10 @@ fn clears_entries(op: u8) -> bool
     op == Call::Unmap.number() || op == Call::Delete.number() || op == Call::Revoke.number()
 }
 
-/// What a call that was done gives, and did.
-#[derive(Clone, Copy)]
-pub struct Done {
-    pub value: u32,
-    pub work: Work,
-}
-
 /// The work of an operation, by its number, that zeroed no frame and wrote no
 /// entry.
 pub fn plain(op: u8) -> Work
-    ensures work { work_model result ≡ record { op = op; zeroed = None; entries = [] } }
+    ensures work { work_model result ≡ nothing op }
 {
     Work {
         op,
@@ -58,33 +52,34 @@ pub fn plain(op: u8) -> Work
     }
 }
 
-/// The work of such a call.
+/// The work of a call, of nothing yet.
 pub fn no_work(call: Call) -> Work
-    ensures work { work_model result ≡ record { op = call_number call; zeroed = None; entries = [] } }
+    ensures work { work_model result ≡ nothing (call_number call) }
 {
     plain(call.number())
 }
 
-/// Of one that zeroed a frame.
-pub fn zeroing(call: Call, frame: u32) -> Work
-    ensures work { work_model result ≡ record { op = call_number call; zeroed = Some frame; entries = [] } }
+/// For the prover: a work that was lent has still the 64 places of its entries.
+pub fn has_places(work: &Work)
+    ensures places { length work.now.entries ≡ 64 }
 {
-    Work {
-        zeroed: Some(frame),
-        ..no_work(call)
-    }
+    let _ = work.entries[0];
 }
 
-/// Of one that wrote an entry, at a physical address in bytes.
-pub fn writing(call: Call, entry: u32) -> Work
-    ensures work { work_model result ≡ record { op = call_number call; zeroed = None; entries = entry ∷ [] } }
+/// Tells in a work, of nothing yet, of a frame that was zeroed.
+pub fn tell_zeroed(work: &mut Work, frame: u32)
+    ensures zeroed { (op : ℕ) → work_model work.old ≡ nothing op
+        → work_model work.new ≡ record { op = op; zeroed = Some frame; entries = [] } }
 {
-    let mut entries = [0; 64];
-    entries[0] = entry;
-    Work {
-        op: call.number(),
-        zeroed: None,
-        count: 1,
-        entries,
-    }
+    work.zeroed = Some(frame);
+}
+
+/// Tells in a work, of nothing yet, of an entry that was written, at a physical
+/// address in bytes.
+pub fn tell_entry(work: &mut Work, entry: u32)
+    ensures written { (op : ℕ) → work_model work.old ≡ nothing op
+        → work_model work.new ≡ record { op = op; zeroed = None; entries = entry ∷ [] } }
+{
+    work.entries[0] = entry;
+    work.count = 1;
 }

@@ -2,13 +2,13 @@
 ghost use Rattle.std.specs.Prelude.{◌≡◌, ℕ, ◌<◌, true, false, Some, None, IfOk, IfErr, IfSome, IfNone};
 ghost use Rattle.cap_table.specs.Slots.{cap_at, line_of, copied};
 ghost use Rattle.call_table.specs.Calls as spec;
-ghost use Rattle.kernel_call.specs.Facts.{Valid, Finds, Does, KeepsRest, code_of};
+ghost use Rattle.kernel_clone.specs.Models.{work_model};
+ghost use Rattle.kernel_clone.specs.declared.Work.{Work};
+ghost use Rattle.kernel_call.specs.Facts.{Valid, Finds, Does, KeepsRest, code_of, nothing, with_work};
 
 use crate::error::CallError;
-use crate::outcome::{Done, no_work};
 use crate::{Domain, SLOTS};
 use cap_table::Cap;
-use kernel_clone::Call;
 use phys_mem::PhysMem;
 use tp_base::Rights;
 
@@ -80,15 +80,10 @@ fn copied_rights(cap: Cap, number: u32) -> Result<Rights, CallError>
 
 /// COPY: slot `b` names what slot `a` does: the same page with rights `c`, not
 /// mapped, or the same line.
-pub fn copy(
-    domain: &mut Domain,
-    memory: &PhysMem,
-    a: u32,
-    b: u32,
-    c: u32,
-) -> Result<Done, CallError>
+pub fn copy(domain: &mut Domain, memory: &PhysMem, a: u32, b: u32, c: u32) -> Result<u32, CallError>
     requires valid { Valid memory.now domain.old }
-    ensures does { Does 6 (λ e d. spec.copy d a b c) result memory.now domain.old memory.now domain.new }
+    ensures does { (work : Work) → work_model work ≡ nothing 6
+        → Does 6 (λ e d. spec.copy d a b c) (with_work result work) memory.now domain.old memory.now domain.new }
     ensures rest { KeepsRest domain.old domain.new }
     ensures unchanged { IfErr result (λ error. domain.new ≡ domain.old) }
 {
@@ -101,8 +96,5 @@ pub fn copy(
     }
     let rights = copied_rights(cap, c)?;
     domain.caps.copy(a, b, rights);
-    Ok(Done {
-        value: 0,
-        work: no_work(Call::Copy),
-    })
+    Ok(0)
 }

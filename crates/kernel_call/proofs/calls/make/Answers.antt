@@ -1,6 +1,8 @@
-use Rattle.std.proofs.Common.{rules, arith, ◌≡◌, ◌≤◌, ◌^◌, ℕ, [], length, None, ap, sym, ◌∙◌}
+use Rattle.std.proofs.Common.{arith, ◌≡◌, ◌≤◌, ◌^◌, ℕ, [], length, None, ap, sym, ◌∙◌}
 use Rattle.std.specs.Prelude.{slice_index}
-use Rattle.kernel_clone.specs.Footprints.{call_number}
+use Rattle.kernel_clone.specs.Footprints.{WorkDone, call_number}
+use Rattle.kernel_clone.specs.Models.{work_model}
+use Rattle.kernel_clone.specs.declared.Work.{Work}
 use Rattle.call_table.specs.Calls.{call_of}
 use Rattle.call_table.proofs.BoundedWork.{call_of_empties, call_of_own}
 use Rattle.kernel_call.specs.LogModel.{log_model}
@@ -12,11 +14,11 @@ use Rattle.kernel_call.proofs.calls.make.Goals as goal
 
 pub returns-then-leaves_memory-clause-calls : goal.returns-then-leaves_memory-clause-calls
 returns-then-leaves_memory-clause-calls c e readings replies m h logged kept =
-    called_answered (call_number c.args.call) e c.call_without_memory.new.domain c.args.memory.now m (length replies) c.call_without_memory.result c.no_work.result _
+    called_answered (call_number c.args.call) e c.call_without_memory.new.domain c.args.memory.now m (length replies) c.call_without_memory.result c.no_work-work.result _
     (c.call_without_memory.ensures.answers e readings replies m logged kept)
     (facts_still e c.args.memory.now m c.args.domain.now c.call_without_memory.new.domain h
     c.call_without_memory.ensures.keeps.map c.call_without_memory.ensures.keeps.calls c.call_without_memory.ensures.pool c.call_without_memory.ensures.caps)
-    (c.no_work.ensures.work ∙ ap (λ (op : ℕ). record { op = op; zeroed = None; entries = [] }) (sym (own_op c.args.call)))
+    (c.no_work-work.ensures.work ∙ ap (λ (op : ℕ). record { op = op; zeroed = None; entries = [] }) (sym (own_op c.args.call)))
     (call_of_empties e (dom_model c.args.domain.now readings replies) m (call_number c.args.call)
     (slice_index c.args.args 0) (slice_index c.args.args 1) (slice_index c.args.args 2))
 
@@ -24,10 +26,10 @@ pub returns-in-Ok-clause-calls : goal.returns-in-Ok-clause-calls
 returns-in-Ok-clause-calls c e readings replies m h logged kept =
     let ends = c.in-Ok.ensures.does e readings replies m h in
     called_done (call_number c.args.call) e c.args.domain.now c.perform.new.domain c.reply_to.new.domain c.perform.new.memory readings replies
-    c.in-Ok.done c.reply_to.result _ ends
+    (record { value = c.in-Ok.value; work = c.perform.new.work }) c.reply_to.result _ ends
     (facts_still e c.perform.new.memory _ c.perform.new.domain c.reply_to.new.domain
     (facts_done (call_number c.args.call) e c.args.domain.now c.perform.new.domain c.args.memory.now c.perform.new.memory readings replies m
-    (slice_index c.args.args 0) (slice_index c.args.args 1) (slice_index c.args.args 2) h c.in-Ok.ensures.frames c.in-Ok.done ends)
+    (slice_index c.args.args 0) (slice_index c.args.args 1) (slice_index c.args.args 2) h c.in-Ok.ensures.frames (record { value = c.in-Ok.value; work = c.perform.new.work }) ends)
     c.reply_to.ensures.keeps.map c.reply_to.ensures.keeps.calls c.reply_to.ensures.pool c.reply_to.ensures.caps)
     (c.reply_to.ensures.becomes readings replies
     (ap log_model c.in-Ok.ensures.rest.readings ∙ logged) (ap log_model c.in-Ok.ensures.rest.replies ∙ kept))
@@ -44,7 +46,7 @@ returns-in-Ok-clause-valid c =
           (slice_index c.args.args 0) (slice_index c.args.args 1) (slice_index c.args.args 2) v.mem).state;
       facts = facts_still v.estate c.perform.new.memory _ c.perform.new.domain c.reply_to.new.domain
           (facts_done (call_number c.args.call) v.estate c.args.domain.now c.perform.new.domain c.args.memory.now c.perform.new.memory [] [] v.mem
-          (slice_index c.args.args 0) (slice_index c.args.args 1) (slice_index c.args.args 2) v.facts c.in-Ok.ensures.frames c.in-Ok.done
+          (slice_index c.args.args 0) (slice_index c.args.args 1) (slice_index c.args.args 2) v.facts c.in-Ok.ensures.frames (record { value = c.in-Ok.value; work = c.perform.new.work })
           (c.in-Ok.ensures.does v.estate [] [] v.mem v.facts))
           c.reply_to.ensures.keeps.map c.reply_to.ensures.keeps.calls c.reply_to.ensures.pool c.reply_to.ensures.caps;
     }
@@ -53,7 +55,7 @@ pub returns-in-Err-clause-calls : goal.returns-in-Err-clause-calls
 returns-in-Err-clause-calls c e readings replies m h logged kept =
     let ends = c.in-Err.ensures.does e readings replies m h in
     called_refused (call_number c.args.call) e c.args.domain.now c.perform.new.domain c.reply_to-in-Err.new.domain c.perform.new.memory readings replies
-    c.in-Err.error c.reply.result c.reply_to-in-Err.result c.no_work-in-Err.result _ ends
+    c.in-Err.error c.reply.result c.reply_to-in-Err.result c.perform.new.work _ ends
     (facts_still e c.perform.new.memory _ c.perform.new.domain c.reply_to-in-Err.new.domain
     (facts_refused (call_number c.args.call) e c.args.domain.now c.perform.new.domain c.args.memory.now c.perform.new.memory readings replies m
     (slice_index c.args.args 0) (slice_index c.args.args 1) (slice_index c.args.args 2) h c.in-Err.ensures.frames c.in-Err.error ends
@@ -62,14 +64,14 @@ returns-in-Err-clause-calls c e readings replies m h logged kept =
     c.reply.ensures.value c.reply_to-in-Err.ensures.reply c.in-Err.ensures.unchanged
     (c.reply_to-in-Err.ensures.becomes readings replies
     (ap log_model c.in-Err.ensures.rest.readings ∙ logged) (ap log_model c.in-Err.ensures.rest.replies ∙ kept))
-    (c.no_work-in-Err.ensures.work ∙ ap (λ (op : ℕ). record { op = op; zeroed = None; entries = [] }) (sym (own_op c.args.call)))
+    (ap (λ (w : Work). work_model w) c.in-Err.ensures.unwritten ∙ c.no_work-work.ensures.work ∙ ap (λ (op : ℕ). record { op = op; zeroed = None; entries = [] }) (sym (own_op c.args.call)))
     (call_of_empties e (dom_model c.args.domain.now readings replies) m (call_number c.args.call)
     (slice_index c.args.args 0) (slice_index c.args.args 1) (slice_index c.args.args 2))
 
 pub returns-in-Ok-clause-operation : goal.returns-in-Ok-clause-operation
 returns-in-Ok-clause-operation c =
     let v = c.requires.valid in
-    (told_work (call_number c.args.call) v.estate c.args.domain.now c.perform.new.domain c.perform.new.memory [] [] v.mem c.in-Ok.done
+    (told_work (call_number c.args.call) v.estate c.args.domain.now c.perform.new.domain c.perform.new.memory [] [] v.mem (record { value = c.in-Ok.value; work = c.perform.new.work })
     (slice_index c.args.args 0) (slice_index c.args.args 1) (slice_index c.args.args 2)
     (c.in-Ok.ensures.does v.estate [] [] v.mem v.facts)).0
     ∙ own_op c.args.call
@@ -77,7 +79,7 @@ returns-in-Ok-clause-operation c =
 pub returns-in-Ok-clause-work : goal.returns-in-Ok-clause-work
 returns-in-Ok-clause-work c =
     let v = c.requires.valid in
-    (told_work (call_number c.args.call) v.estate c.args.domain.now c.perform.new.domain c.perform.new.memory [] [] v.mem c.in-Ok.done
+    (told_work (call_number c.args.call) v.estate c.args.domain.now c.perform.new.domain c.perform.new.memory [] [] v.mem (record { value = c.in-Ok.value; work = c.perform.new.work })
     (slice_index c.args.args 0) (slice_index c.args.args 1) (slice_index c.args.args 2)
     (c.in-Ok.ensures.does v.estate [] [] v.mem v.facts)).1
 
@@ -85,11 +87,15 @@ pub returns-in-Ok-clause-in_memory : goal.returns-in-Ok-clause-in_memory
 returns-in-Ok-clause-in_memory c = λ few.
     let v = c.requires.valid in
     let ends = c.in-Ok.ensures.does v.estate [] [] v.mem v.facts in
-    let long : length c.in-Ok.done.work.entries ≡ 64 = search rules in
+    let long : length c.perform.new.work.entries ≡ 64 = c.has_places.ensures.places in
     let in_share : v.estate.share.frames ≤ 2 ^ 15 = omega (arith, few, v.facts.frames) in
-    let bounded = (told_work (call_number c.args.call) v.estate c.args.domain.now c.perform.new.domain c.perform.new.memory [] [] v.mem c.in-Ok.done
+    let bounded = (told_work (call_number c.args.call) v.estate c.args.domain.now c.perform.new.domain c.perform.new.memory [] [] v.mem (record { value = c.in-Ok.value; work = c.perform.new.work })
     (slice_index c.args.args 0) (slice_index c.args.args 1) (slice_index c.args.args 2) ends).1 in
-    work_in_memory v.estate in_share (call_number c.args.call) _ c.in-Ok.done.work long ends.work bounded
+    work_in_memory v.estate in_share (call_number c.args.call) _ c.perform.new.work long ends.work bounded
     (call_of_own v.estate (dom_model c.args.domain.now [] []) v.mem (call_number c.args.call)
     (slice_index c.args.args 0) (slice_index c.args.args 1) (slice_index c.args.args 2)
     (kept_facts v.estate c.args.memory.now v.mem c.args.domain.now [] [] v.facts))
+
+pub returns-in-Err-clause-operation : goal.returns-in-Err-clause-operation
+returns-in-Err-clause-operation c =
+    ap (λ (w : Work). w.op) c.in-Err.ensures.unwritten ∙ ap (λ (w : WorkDone). w.op) c.no_work-work.ensures.work

@@ -50,9 +50,9 @@ returns-clause-does c = λ e readings replies m h.
     let number : c.number-number.result ≡ c.in-Some.frame = search rules in
     let t = ends_taken e c.args.domain.now c.args.domain.now c.args.memory.now readings replies m c.args.a c.args.b h c.if-a-ge-SLOTS.false
     (empty (cap_at c.args.domain.now.caps c.args.a) unused) c.if-b-gt1.false c.in-Some.frame c.given_of-given.new.memory c.put.new.self c.take.new.self
-    (record { value = 0; work = c.zeroing.result })
+    (record { value = 0; work = c.tell_zeroed.new.work })
     (sym c.take.ensures.value ∙ c.in-Some.is)
     (c.put.ensures.becomes ∙ ap (λ (x : Cap). with_cap c.args.domain.now.caps c.args.a (Some x)) c.given_of-given.ensures.given)
     c.take.ensures.becomes (c.given_of-given.ensures.zeroed m h.holds) refl
-    (c.zeroing.ensures.work ∙ ap (λ (n : ℕ). record { op = 2; zeroed = Some n; entries = [] }) number) in
+    (c.tell_zeroed.ensures.zeroed 2 c.requires.fresh ∙ ap (λ (n : ℕ). record { op = 2; zeroed = Some n; entries = [] }) number) in
     record { value = t.value; holds = t.holds; work = t.told; has = record { root = t.root; pool = t.free; slots = t.slots; calls = h.has.calls } }

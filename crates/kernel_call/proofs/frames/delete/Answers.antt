@@ -4,13 +4,15 @@ use Rattle.std.proofs.lemmas.Result.{err_from_is_err_and}
 use Rattle.cap_table.specs.Slots.{in_use}
 use Rattle.kernel_call.specs.declared.error.CallError.TheVariants as error
 use Rattle.kernel_call.proofs.DropsDelete.{delete_unfilled, delete_used, can_clear_at, page_own, page_out, table_own, table_out, delete_ends}
+use Rattle.kernel_call.specs.Facts.{with_work}
+use Rattle.kernel_call.proofs.Ties.{exits}
 use Rattle.kernel_call.proofs.frames.delete.Goals as goal
 
 pub returns-in_err-filled-clause-does : goal.returns-in_err-filled-clause-does
 returns-in_err-filled-clause-does c = λ e readings replies m h.
     let p = err_from_is_err_and c.from_residual.result c.from_residual.ensures.1 in
-    delete_unfilled e c.args.domain.now c.args.memory.now readings replies m c.args.a h c.filled.result p.0 c.in_err-filled.field-0.0 c.from_residual.result
-    (c.filled.ensures.finds readings replies m) c.in_err-filled.was p.1 p.2
+    delete_unfilled e c.args.domain.now c.args.memory.now readings replies m c.args.a h c.filled.result p.0 c.in_err-filled.field-0.0 (with_work c.from_residual.result c.args.work.now)
+    (c.filled.ensures.finds readings replies m) c.in_err-filled.was (exits _ _ c.args.work.now p.1) p.2
 
 pub returns-then-in_use-clause-does : goal.returns-then-in_use-clause-does
 returns-then-in_use-clause-does c = λ e readings replies m h.
@@ -18,8 +20,8 @@ returns-then-in_use-clause-does c = λ e readings replies m h.
     delete_used e c.args.domain.now c.args.memory.now readings replies m c.args.a h c.in_ok-filled.field-0 error.InUse refl
     c.in_ok-filled.ensures.below c.in_ok-filled.ensures.there used
 
-pub clear_entry-work-requires : goal.clear_entry-work-requires
-clear_entry-work-requires c =
+pub clear_entry-requires : goal.clear_entry-requires
+clear_entry-requires c =
     let v = c.requires.valid in
     record {
       there = record {
@@ -28,6 +30,7 @@ clear_entry-work-requires c =
         so = can_clear_at v.estate c.args.domain.now c.args.memory.now [] [] v.mem c.args.a v.facts c.delete-gone.result.unmapped c.delete-gone.result.uninstalled
             c.delete-gone.ensures.unmapped c.delete-gone.ensures.uninstalled;
       };
+      fresh = c.requires.fresh;
     }
 
 pub give_back-requires-clause-own_page : goal.give_back-requires-clause-own_page
@@ -54,10 +57,10 @@ pub returns-clause-does : goal.returns-clause-does
 returns-clause-does c = λ e readings replies m h.
     let unused : in_use c.args.domain.now.caps c.args.a ≡ false = search rules in
     let t = delete_ends e c.args.domain.now c.args.memory.now readings replies m c.args.a h c.in_ok-filled.ensures.below c.in_ok-filled.field-0
-    c.delete-gone.new.self c.give_back.new.pool c.clear_entry-work.new.map c.clear_entry-work.new.memory
+    c.delete-gone.new.self c.give_back.new.pool c.clear_entry.new.map c.clear_entry.new.memory
     c.delete-gone.result.unmapped c.delete-gone.result.uninstalled c.delete-gone.result.held c.delete-gone.result.table
-    (record { value = 0; work = c.clear_entry-work.result })
+    (record { value = 0; work = c.clear_entry.new.work })
     c.in_ok-filled.ensures.there unused c.delete-gone.ensures.becomes c.delete-gone.ensures.unmapped c.delete-gone.ensures.uninstalled
-    c.delete-gone.ensures.held c.delete-gone.ensures.table c.give_back.ensures.becomes c.clear_entry-work.ensures.map refl
-    (c.clear_entry-work.ensures.clears m h.holds) in
+    c.delete-gone.ensures.held c.delete-gone.ensures.table c.give_back.ensures.becomes c.clear_entry.ensures.map refl
+    (c.clear_entry.ensures.clears m h.holds) in
     record { value = t.value; holds = t.holds; work = t.told; has = record { root = t.root; pool = t.free; slots = t.slots; calls = h.has.calls } }

@@ -2,13 +2,15 @@
 use Rattle.std.proofs.Common.{refl, ℕ, List, [], take}
 use Rattle.std.proofs.lemmas.Result.{err_from_is_err_and}
 use Rattle.kernel_call.proofs.DropsRevoke.{revoke_unfilled, can_revoke, revoke_ends}
+use Rattle.kernel_call.specs.Facts.{with_work}
+use Rattle.kernel_call.proofs.Ties.{exits}
 use Rattle.kernel_call.proofs.frames.revoke.Goals as goal
 
 pub returns-in_err-filled-clause-does : goal.returns-in_err-filled-clause-does
 returns-in_err-filled-clause-does c = λ e readings replies m h.
     let p = err_from_is_err_and c.from_residual.result c.from_residual.ensures.1 in
-    revoke_unfilled e c.args.domain.now c.args.memory.now readings replies m c.args.a h c.filled.result p.0 c.in_err-filled.field-0.0 c.from_residual.result
-    (c.filled.ensures.finds readings replies m) c.in_err-filled.was p.1 p.2
+    revoke_unfilled e c.args.domain.now c.args.memory.now readings replies m c.args.a h c.filled.result p.0 c.in_err-filled.field-0.0 (with_work c.from_residual.result c.args.work.now)
+    (c.filled.ensures.finds readings replies m) c.in_err-filled.was (exits _ _ c.args.work.now p.1) p.2
 
 pub clear_all-requires-clause-there : goal.clear_all-requires-clause-there
 clear_all-requires-clause-there c =

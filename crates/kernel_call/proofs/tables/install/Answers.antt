@@ -12,16 +12,16 @@ use Rattle.call_table.specs.Calls.{Note, with_slot}
 use Rattle.kernel_clone.specs.Models.{work_model}
 use Rattle.kernel_call.specs.declared.error.CallError.TheVariants as error
 use Rattle.kernel_call.specs.Models.{dom_model}
-use Rattle.kernel_call.specs.Facts.{reads}
-use Rattle.kernel_call.proofs.Ties.{ends_same, ends_refused, ends_unfilled, ends_done, has_set, has_still, tables_stand, table_below, table_apart, table_blank}
+use Rattle.kernel_call.specs.Facts.{reads, with_work}
+use Rattle.kernel_call.proofs.Ties.{exits, ends_same, ends_refused, ends_unfilled, ends_done, has_set, has_still, tables_stand, table_below, table_apart, table_blank}
 use Rattle.kernel_call.proofs.TiesTables.{not_table, tells_entry, free_table, install_unfilled, install_no_table, install_unaligned, install_twice, install_refused, install_done}
 use Rattle.kernel_call.proofs.tables.install.Goals as goal
 
 pub returns-in_err-frame-clause-does : goal.returns-in_err-frame-clause-does
 returns-in_err-frame-clause-does c e readings replies m h =
     let p = err_from_is_err_and c.from_residual.result c.from_residual.ensures.1 in
-    ends_unfilled 3 e c.args.domain.now c.args.memory.now m readings replies c.args.a c.filled.result p.0 c.in_err-frame.field-0.0 c.from_residual.result _ h
-    (c.filled.ensures.finds readings replies m) c.in_err-frame.was p.2 p.1
+    ends_unfilled 3 e c.args.domain.now c.args.memory.now m readings replies c.args.a c.filled.result p.0 c.in_err-frame.field-0.0 (with_work c.from_residual.result c.args.work.now) _ h
+    (c.filled.ensures.finds readings replies m) c.in_err-frame.was p.2 (exits _ _ c.args.work.now p.1)
     (install_unfilled e (dom_model c.args.domain.now readings replies) m c.args.a c.args.b)
 
 pub returns-in_default : goal.returns-in_default
@@ -33,6 +33,7 @@ returns-in_default c = record {
   rest = search rules;
   unchanged = refl;
   memory = refl;
+  unwritten = refl;
   frames = refl;
 }
 
@@ -114,6 +115,6 @@ returns-clause-does c e readings replies m h =
     below there aligned none allowed)
     (ap (λ (caps : Slots). with_caps caps (dom_model c.args.domain.now readings replies)) caps)
     holds
-    (tells_entry 3 c.in-Ok.entry (table_entry e.root c.args.b) (work_model c.writing.result) refl c.writing.ensures.work entry)
+    (tells_entry 3 c.in-Ok.entry (table_entry e.root c.args.b) (work_model c.tell_entry.new.work) refl (c.tell_entry.ensures.written 3 c.requires.fresh) entry)
     (has_set e c.args.domain.now _ c.args.a _ h.has c.install_table.ensures.root refl refl caps
     (free_table e c.args.domain.now.caps c.args.a c.in-Table.frame c.in-Table.installed (Some c.args.b) h.has.slots below there))

@@ -12,16 +12,16 @@ use Rattle.call_table.specs.Calls.{may_give, Note, with_slot}
 use Rattle.kernel_clone.specs.Models.{work_model}
 use Rattle.kernel_call.specs.declared.error.CallError.TheVariants as error
 use Rattle.kernel_call.specs.Models.{dom_model}
-use Rattle.kernel_call.specs.Facts.{reads}
-use Rattle.kernel_call.proofs.Ties.{ends_same, ends_refused, ends_unfilled, ends_done, has_set, tables_stand, page_below, page_apart, has_still}
+use Rattle.kernel_call.specs.Facts.{reads, with_work}
+use Rattle.kernel_call.proofs.Ties.{exits, ends_same, ends_refused, ends_unfilled, ends_done, has_set, tables_stand, page_below, page_apart, has_still}
 use Rattle.kernel_call.proofs.TiesTables.{not_page, tells_entry, free_page, map_unfilled, map_no_page, map_no_rights, map_unaligned, map_mapped, map_refused, map_done}
 use Rattle.kernel_call.proofs.tables.map_page.Goals as goal
 
 pub returns-in_err-frame-clause-does : goal.returns-in_err-frame-clause-does
 returns-in_err-frame-clause-does c e readings replies m h =
     let p = err_from_is_err_and c.from_residual.result c.from_residual.ensures.1 in
-    ends_unfilled 4 e c.args.domain.now c.args.memory.now m readings replies c.args.a c.filled.result p.0 c.in_err-frame.field-0.0 c.from_residual.result _ h
-    (c.filled.ensures.finds readings replies m) c.in_err-frame.was p.2 p.1
+    ends_unfilled 4 e c.args.domain.now c.args.memory.now m readings replies c.args.a c.filled.result p.0 c.in_err-frame.field-0.0 (with_work c.from_residual.result c.args.work.now) _ h
+    (c.filled.ensures.finds readings replies m) c.in_err-frame.was p.2 (exits _ _ c.args.work.now p.1)
     (map_unfilled e (dom_model c.args.domain.now readings replies) m c.args.a c.args.b c.args.c)
 
 pub returns-in_default : goal.returns-in_default
@@ -33,6 +33,7 @@ returns-in_default c = record {
   rest = search rules;
   unchanged = refl;
   memory = refl;
+  unwritten = refl;
   frames = refl;
 }
 
@@ -121,6 +122,6 @@ returns-clause-does c e readings replies m h =
     c.in-Frame.frame c.in-Frame.rights c.in-Frame.mapped below there may aligned none allowed)
     (ap (λ (caps : Slots). with_caps caps (dom_model c.args.domain.now readings replies)) caps)
     holds
-    (tells_entry 4 c.in-Ok.entry (page_entry m e.root c.args.b) (work_model c.writing.result) refl c.writing.ensures.work entry)
+    (tells_entry 4 c.in-Ok.entry (page_entry m e.root c.args.b) (work_model c.tell_entry.new.work) refl (c.tell_entry.ensures.written 4 c.requires.fresh) entry)
     (has_set e c.args.domain.now _ c.args.a _ h.has c.map.ensures.root refl refl caps
     (free_page e c.args.domain.now.caps c.args.a c.in-Frame.frame c.in-Frame.rights c.in-Frame.mapped (Some c.args.b) h.has.slots below there))

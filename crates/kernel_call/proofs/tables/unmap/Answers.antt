@@ -10,15 +10,16 @@ use Rattle.call_table.specs.Calls.{Note, with_slot}
 use Rattle.kernel_clone.specs.Models.{work_model}
 use Rattle.kernel_call.specs.declared.error.CallError.TheVariants as error
 use Rattle.kernel_call.specs.Models.{dom_model}
-use Rattle.kernel_call.proofs.Ties.{ends_same, ends_error, ends_unfilled, ends_done, has_set, tables_stand, page_mapped}
+use Rattle.kernel_call.specs.Facts.{with_work}
+use Rattle.kernel_call.proofs.Ties.{exits, ends_same, ends_error, ends_unfilled, ends_done, has_set, tables_stand, page_mapped}
 use Rattle.kernel_call.proofs.TiesTables.{not_page, none_or, some_or_other, tells_entry_emptied, free_page, unmap_unfilled, unmap_no_page, unmap_nowhere, unmap_done}
 use Rattle.kernel_call.proofs.tables.unmap.Goals as goal
 
 pub returns-in_err-mapped-clause-does : goal.returns-in_err-mapped-clause-does
 returns-in_err-mapped-clause-does c e readings replies m h =
     let p = err_from_is_err_and c.from_residual.result c.from_residual.ensures.1 in
-    ends_unfilled 5 e c.args.domain.now c.args.memory.now m readings replies c.args.a c.filled.result p.0 c.in_err-mapped.field-0.0 c.from_residual.result _ h
-    (c.filled.ensures.finds readings replies m) c.in_err-mapped.was p.2 p.1
+    ends_unfilled 5 e c.args.domain.now c.args.memory.now m readings replies c.args.a c.filled.result p.0 c.in_err-mapped.field-0.0 (with_work c.from_residual.result c.args.work.now) _ h
+    (c.filled.ensures.finds readings replies m) c.in_err-mapped.was p.2 (exits _ _ c.args.work.now p.1)
     (unmap_unfilled e (dom_model c.args.domain.now readings replies) m c.args.a)
 
 pub returns-in_default : goal.returns-in_default
@@ -30,6 +31,7 @@ returns-in_default c = record {
   rest = search rules;
   unchanged = refl;
   memory = refl;
+  unwritten = refl;
   frames = refl;
 }
 
@@ -40,7 +42,7 @@ returns-in_err-va-clause-does c e readings replies m h =
     let p = err_from_is_err_and c.from_residual-in_err-va.result c.from_residual-in_err-va.ensures.1 in
     let none = none_or c.in-Frame.mapped error.BadAddress c.in_err-va.field-0.0 (sym c.ok_or.ensures.value ∙ c.in_err-va.was) in
     let exit : c.from_residual-in_err-va.result ≡ Err error.BadAddress = p.1 ∙ ap Err (p.2 ∙ sym none.1) in
-    ends_error 5 e c.args.domain.now c.args.memory.now m readings replies error.BadAddress c.from_residual-in_err-va.result _ h exit
+    ends_error 5 e c.args.domain.now c.args.memory.now m readings replies error.BadAddress (with_work c.from_residual-in_err-va.result c.args.work.now) _ h (exits _ _ c.args.work.now exit)
     (unmap_nowhere e (dom_model c.args.domain.now readings replies) m c.args.a
     c.in-Frame.frame c.in-Frame.rights c.in-Frame.mapped below there none.0)
 
@@ -74,6 +76,6 @@ returns-clause-does c e readings replies m h =
     c.in-Frame.frame c.in-Frame.rights c.in-Frame.mapped below there c.in_ok-va.va at)
     (ap (λ (caps : Slots). with_caps caps (dom_model c.args.domain.now readings replies)) caps)
     holds
-    (tells_entry_emptied 5 c.unmap-entry.result (page_entry m e.root c.in_ok-va.va) (work_model c.writing.result) refl c.writing.ensures.work entry)
+    (tells_entry_emptied 5 c.unmap-entry.result (page_entry m e.root c.in_ok-va.va) (work_model c.tell_entry.new.work) refl (c.tell_entry.ensures.written 5 c.requires.fresh) entry)
     (has_set e c.args.domain.now _ c.args.a _ h.has c.unmap-entry.ensures.root refl refl caps
     (free_page e c.args.domain.now.caps c.args.a c.in-Frame.frame c.in-Frame.rights c.in-Frame.mapped None h.has.slots below there))
