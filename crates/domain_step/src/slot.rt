@@ -45,8 +45,18 @@ use tp_base::FrameNo;
 
 // ---- an instruction. The cycles that it charges are added to those spent.
 
-// What the instruction needs from outside the registers, at a clock: what a
-// load finds at its address, or a counter's value.
+// An instruction that has begun.
+#[derive(Clone, Copy)]
+struct Begun {
+    instr: Instr,
+    /// The root of the page tables that it runs by.
+    root: FrameNo,
+    /// The clock at which it began, in cycles.
+    clock: u64,
+}
+
+// What the instruction needs from outside the registers: what a load finds at
+// its address, or a counter's value.
 #[inline(always)]
 fn loaded<P: Policy>(
     memory: &PhysMem,
@@ -54,30 +64,29 @@ fn loaded<P: Policy>(
     l2: &mut L2<P>,
     domain: &Domain,
     spent: &mut u32,
-    root: FrameNo,
-    now: u64,
-    instr: Instr,
+    begun: &Begun,
     at: u32,
 ) -> Result<u32, Trap>
-    requires address { at ≡ address_of domain.now.threads.active.regs instr }
-    requires aligned { misalignment_of instr at ≡ None }
+    requires address { at ≡ address_of domain.now.threads.active.regs begun.now.instr }
+    requires aligned { misalignment_of begun.now.instr at ≡ None }
     requires frames { memory.now.frames ≤ 2 ^ 15 }
     requires leaves { StandsWith memory.now
-        (λ m. KeepsLeaves m memory.now.frames root core.old.tlb) }
+        (λ m. KeepsLeaves m memory.now.frames begun.now.root core.old.tlb) }
     requires spent { spent.old < 2 ^ 31 }
     ensures finds { (w : Setting) (caps : Slots) (s : event.Storage) (r : Touched)
         (readings : List ℕ) (replies : List Reply)
-        → Kept P.rule P.stands_for w caps root memory.now (system core.old l2.old) spent.old s r
-        → Yields w (event.loaded w.machine root now (dom_model domain.now readings replies) instr) s r
+        → Kept P.rule P.stands_for w caps begun.now.root memory.now (system core.old l2.old) spent.old s r
+        → Yields w (event.loaded w.machine begun.now.root begun.now.clock
+        (dom_model domain.now readings replies) begun.now.instr) s r
         (Answered (dom_model domain.now readings replies) result
-        (Kept P.rule P.stands_for w caps root memory.now (system core.new l2.new) spent.new)) }
+        (Kept P.rule P.stands_for w caps begun.now.root memory.now (system core.new l2.new) spent.new)) }
     ensures leaves { StandsWith memory.now
-        (λ m. KeepsLeaves m memory.now.frames root core.new.tlb) }
+        (λ m. KeepsLeaves m memory.now.frames begun.now.root core.new.tlb) }
     ensures few { spent.new ≤ spent.old + most_data }
 {
-    match instr {
-        Instr::Load { width, .. } => load(memory, core, l2, spent, root, width, at),
-        Instr::ReadCounter { counter, .. } => Ok(counter_value(counter, now, domain)),
+    match begun.instr {
+        Instr::Load { width, .. } => load(memory, core, l2, spent, begun.root, width, at),
+        Instr::ReadCounter { counter, .. } => Ok(counter_value(counter, begun.clock, domain)),
         _ => Ok(0),
     }
 }
@@ -110,21 +119,22 @@ fn settle<P: Policy>(
     l2: &mut L2<P>,
     domain: &mut Domain,
     spent: &mut u32,
-    root: FrameNo,
-    instr: Instr,
+    begun: &Begun,
     value: u32,
 ) -> bool
-    requires registers { HasRegisters instr }
+    requires registers { HasRegisters begun.now.instr }
     requires room { HasRoom domain.old }
     requires frames { memory.old.frames ≤ 2 ^ 15 }
     requires leaves { StandsWith memory.old
-        (λ m. KeepsLeaves m memory.old.frames root core.old.tlb) }
+        (λ m. KeepsLeaves m memory.old.frames begun.now.root core.old.tlb) }
     requires spent { spent.old < 2 ^ 30 }
     ensures leaves { (w : Setting) → Leaves w
-        (λ d. event.settle w.machine root d instr value
-        (effect_of d.threads.current.regs d.threads.current.pc instr value))
-        domain.old (Kept P.rule P.stands_for w domain.old.caps root memory.old (system core.old l2.old) spent.old)
-        domain.new (Kept P.rule P.stands_for w domain.old.caps root memory.new (system core.new l2.new) spent.new) }
+        (λ d. event.settle w.machine begun.now.root d begun.now.instr value
+        (effect_of d.threads.current.regs d.threads.current.pc begun.now.instr value))
+        domain.old (Kept P.rule P.stands_for w domain.old.caps begun.now.root
+        memory.old (system core.old l2.old) spent.old)
+        domain.new (Kept P.rule P.stands_for w domain.old.caps begun.now.root
+        memory.new (system core.new l2.new) spent.new) }
     ensures frames { memory.new.frames ≡ memory.old.frames }
     ensures grows { Grows 1 1 0 domain.old domain.new }
     ensures keeps { KeepsFrames domain.old domain.new }
@@ -132,15 +142,15 @@ fn settle<P: Policy>(
     ensures few { spent.new ≤ spent.old + most_outcome }
 {
     let pc = domain.threads.active.pc;
-    let effect = rv_core::execute(&mut domain.threads.active.regs, pc, instr, value);
+    let effect = rv_core::execute(&mut domain.threads.active.regs, pc, begun.instr, value);
     if let Some(trap) = effect.trap {
         stop(domain, trap);
         return false;
     }
-    guess(core, spent, instr, pc, effect);
-    match store(memory, core, l2, spent, root, effect.store) {
+    guess(core, spent, begun.instr, pc, effect);
+    match store(memory, core, l2, spent, begun.root, effect.store) {
         Ok(()) => {
-            finish(domain, instr, value, effect.next);
+            finish(domain, begun.instr, value, effect.next);
             true
         }
         Err(trap) => {
@@ -159,32 +169,33 @@ fn execute<P: Policy>(
     l2: &mut L2<P>,
     domain: &mut Domain,
     spent: &mut u32,
-    root: FrameNo,
-    now: u64,
-    instr: Instr,
+    begun: &Begun,
 ) -> bool
-    requires registers { HasRegisters instr }
+    requires registers { HasRegisters begun.now.instr }
     requires room { HasRoom domain.old }
     requires frames { memory.old.frames ≤ 2 ^ 15 }
     requires leaves { StandsWith memory.old
-        (λ m. KeepsLeaves m memory.old.frames root core.old.tlb) }
+        (λ m. KeepsLeaves m memory.old.frames begun.now.root core.old.tlb) }
     requires spent { spent.old < 2 ^ 29 }
-    ensures leaves { (w : Setting) → Leaves w (λ d. event.execute w.machine root now d instr)
-        domain.old (Kept P.rule P.stands_for w domain.old.caps root memory.old (system core.old l2.old) spent.old)
-        domain.new (Kept P.rule P.stands_for w domain.old.caps root memory.new (system core.new l2.new) spent.new) }
+    ensures leaves { (w : Setting) → Leaves w
+        (λ d. event.execute w.machine begun.now.root begun.now.clock d begun.now.instr)
+        domain.old (Kept P.rule P.stands_for w domain.old.caps begun.now.root
+        memory.old (system core.old l2.old) spent.old)
+        domain.new (Kept P.rule P.stands_for w domain.old.caps begun.now.root
+        memory.new (system core.new l2.new) spent.new) }
     ensures frames { memory.new.frames ≡ memory.old.frames }
     ensures grows { Grows 1 1 0 domain.old domain.new }
     ensures keeps { KeepsFrames domain.old domain.new }
     ensures goes_on { result ≡ true → GoesOn domain.old domain.new }
     ensures few { spent.new ≤ spent.old + most_plain }
 {
-    let at = address(&domain.threads.active.regs, instr);
-    if let Some(trap) = misalignment(instr, at) {
+    let at = address(&domain.threads.active.regs, begun.instr);
+    if let Some(trap) = misalignment(begun.instr, at) {
         stop(domain, trap);
         return false;
     }
-    match loaded(memory, core, l2, domain, spent, root, now, instr, at) {
-        Ok(value) => settle(memory, core, l2, domain, spent, root, instr, value),
+    match loaded(memory, core, l2, domain, spent, begun, at) {
+        Ok(value) => settle(memory, core, l2, domain, spent, begun, value),
         Err(trap) => {
             stop(domain, trap);
             false
@@ -263,7 +274,18 @@ fn run_instruction<P: Policy>(
             *spent = divide(core, domain, *spent, division, rd, rs1, rs2);
             true
         }
-        _ => execute(memory, core, l2, domain, spent, root, now, instr),
+        _ => execute(
+            memory,
+            core,
+            l2,
+            domain,
+            spent,
+            &Begun {
+                instr,
+                root,
+                clock: now,
+            },
+        ),
     }
 }
 
@@ -394,11 +416,12 @@ fn wait_or_deliver<P: Policy>(
     let DomainStatus::Running = domain.status else {
         return end;
     };
-    if let Some(_line) = domain.interrupts.due(now) {
+    let next = idle_until(end, domain.interrupts.next_moment());
+    if next <= now {
+        // The end is later, so a moment is due.
         return now + u64::from(deliver_due(core, l2, domain));
     }
-    let next = domain.interrupts.next_moment();
-    idle_until(end, next)
+    next
 }
 
 /// One event of the domain in a slot that ends then. Answers the new clock, in
@@ -433,9 +456,7 @@ pub fn step<P: Policy>(
     ensures soon { result < end + most_event }
 {
     if now < plain_until(domain, end) {
-        // One instruction, as it takes a cycle or more. So the code of an instruction
-        // stands in one place, and is no call there.
-        stretch(memory, core, l2, domain, now, now + 1)
+        run(memory, core, l2, domain, now).clock
     } else {
         wait_or_deliver(memory, core, l2, domain, now, end)
     }

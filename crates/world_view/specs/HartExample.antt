@@ -1,10 +1,10 @@
 -- Two harts, computed from the definitions alone: red on hart 0, blue on hart 1, each of which reads the clock before and
 -- after it prints.
-use Rattle.std.specs.Prelude.{◌≡◌, ℕ, zero, suc, true, false, List, [], ◌∷◌, ◌++◌, refl}
-use Rattle.image_check.specs.Image.{Image, own_of}
+use Rattle.std.specs.Prelude.{◌≡◌, ℕ, zero, suc, List, [], ◌∷◌, ◌++◌, refl}
+use Rattle.image_check.specs.Image.{Image}
 use Rattle.sched_table.specs.Schedule.{entries_on, harts_in, hart_for}
-use Rattle.world_view.specs.Machine.{dom_of, clock_of, whole}
-use Rattle.world_view.specs.Harts.{Harts, public_on, start_on, progress_of, slots_of, proceeds, begins, runs, goes_on, next, after, all_cold, harts, view_on, view_alone_on}
+use Rattle.world_view.specs.Machine.{dom_of, whole}
+use Rattle.world_view.specs.Harts.{start_on, slots_of, proceeds, begins, runs, goes_on, next, after, all_cold, harts, view_on, view_alone_on}
 use Rattle.world_view.specs.Example.{timed_prints, everything}
 
 abbrev pub on_two_harts : Image

@@ -1,11 +1,10 @@
 -- Several harts over one memory and one second level, in any order of their events.
-use Rattle.std.specs.Prelude.{◌≡◌, ℕ, zero, suc, ◌+◌, ◌<◌, Bool, true, false, nat_lt, if◌then◌else◌, List, [], ◌∷◌}
+use Rattle.std.specs.Prelude.{◌≡◌, ℕ, zero, suc, ◌+◌, Bool, true, false, nat_lt, if◌then◌else◌, List, [], ◌∷◌}
 use Rattle.tp_base.specs.Table.{Table, empty, at, put}
 use Rattle.image_check.specs.Public.{Public}
-use Rattle.image_check.specs.Own.{Own}
 use Rattle.image_check.specs.Image.{Image, own_of}
 use Rattle.sched_table.specs.Schedule.{entry_of_slot, switch_entry, start, slot_end, on_hart, place_on, harts_in, hart_for}
-use Rattle.world_view.specs.Machine.{Local, World, setting, step, clock_of, part_of, with_part, guarded, switch_on, cycles_on, noted, no_harts, with_cold}
+use Rattle.world_view.specs.Machine.{World, setting, step, clock_of, part_of, with_part, guarded, switch_on, cycles_on, noted, no_harts, with_cold}
 use Rattle.world_view.specs.View.{View, view_in, view_alone}
 
 -- ---- a hart's own entries

@@ -1,5 +1,5 @@
 -- Actions of a domain from memories that are beside: one law of `>>=`, one of each primitive, and one line for each definition.
-use Rattle.std.proofs.Common.{◌≡◌, ℕ, cond, eqb, ◌/◌, ◌⊎◌, List, [], ◌∷◌, ◌++◌, Option, Bool, All, length, Some, None, Result, Ok, Err, ap, ap₂, refl, sym, ◌∙◌, subst, inl, inr, true≢false, mod-lt, lit<}
+use Rattle.std.proofs.Common.{◌≡◌, ℕ, cond, eqb, ◌/◌, ◌⊎◌, List, [], ◌∷◌, ◌++◌, Option, All, length, Some, None, Result, Ok, Err, ap, ap₂, refl, sym, ◌∙◌, subst, inl, inr, true≢false, mod-lt, lit<}
 use Rattle.std.proofs.lemmas.List.Elements.{All-nil, All-cons, All-head, All-tail}
 use Rattle.std.proofs.Math.Arith.{digits_div}
 use Rattle.tp_base.specs.Table.{empty, at, put, at-put}

@@ -1,6 +1,6 @@
 -- What an instruction leaves of a domain and its memory: what holds where it stops, where it retires and after its call holds
 -- whichever of them it does, if its store keeps what is held.
-use Rattle.std.proofs.Common.{◌≡◌, ℕ, Bool, List, Option, Some, None, ◌⊎◌, inl, inr, refl, subst}
+use Rattle.std.proofs.Common.{◌≡◌, ℕ, List, Option, Some, None, ◌⊎◌, inl, inr, refl, subst}
 use Rattle.std.specs.Prelude.{Result, Ok, Err}
 use Rattle.tp_base.specs.Act.{Done, go_on, ◌>>=◌, ◌>>◌, give, stop, note, either}
 use Rattle.phys_mem.specs.Mem.{Mem, written}

@@ -1,7 +1,7 @@
 -- What holds of an image with the entries of one hart alone.
 use Rattle.std.proofs.Common.{◌≡◌, ◌≢◌, ℕ, zero, suc, ◌%◌, ◌<◌, ◌≤◌, length, ap, sym, ◌∙◌, subst, arith, mod-lt}
 use Rattle.sched_table.specs.declared.schedule.Entry.{Entry}
-use Rattle.sched_table.specs.Schedule.{entry_in, entry_of_slot, switch_entry, pad_of, on_hart, place_on, harts_in, hart_for}
+use Rattle.sched_table.specs.Schedule.{entry_of_slot, switch_entry, pad_of, on_hart, place_on, harts_in, hart_for}
 use Rattle.sched_table.specs.Laws.{IsPlaced}
 use Rattle.sched_table.proofs.Harts.{placed_law, domain_hart_law}
 use Rattle.image_check.specs.Image.{Image, own_of}

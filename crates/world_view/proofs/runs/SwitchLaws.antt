@@ -1,6 +1,5 @@
 -- What a switch does to a domain: out of it, into it, and between others.
 use Rattle.std.proofs.Common.{◌≡◌, ◌≢◌, ℕ, zero, suc, Bool, true, false, [], Option, Some, ap, sym, ◌∙◌, refl, subst}
-use Rattle.tp_base.specs.Table.{at, put}
 use Rattle.set_cache.specs.Cache.{set_at}
 use Rattle.set_cache.proofs.Dirty.{EachDirty-empty}
 use Rattle.hardware_check.specs.Hardware.{Hardware, IsHardware}

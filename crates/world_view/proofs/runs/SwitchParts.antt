@@ -1,7 +1,7 @@
 -- A switch's work is the touches of its parts, one after the other.
 use Rattle.std.proofs.Common.{◌≡◌, ◌∙◌, ℕ, Bool, true, false, List, [], ◌∷◌, ◌++◌, Option, Some, None, ap, ap₂, refl, arith}
 use Rattle.std.specs.Prelude.{if◌then◌else◌}
-use Rattle.tp_base.specs.Table.{at, put, at-put_same}
+use Rattle.tp_base.specs.Table.{at-put_same}
 use Rattle.mem_system.specs.Cost.{Touch, EmptyTlb, Flush, Caches, at_no_cost, and_then, touched, touched_all}
 use Rattle.kernel_clone.specs.Footprints.{Layout}
 use Rattle.mem_system.proofs.Touches.{touched_all-append}

@@ -12,7 +12,7 @@ use Rattle.world_view.specs.Opening.{frame_words}
 use Rattle.call_table.specs.Domain.{Dom}
 use Rattle.world_view.specs.Kernel.{no_dom}
 use Rattle.world_view.specs.Event.{Storage}
-use Rattle.world_view.specs.Machine.{with_hart, setting, Local, steps, stretch, dom_of, part_of, with_part, switch, opening, whole, alone_opening, alone_enter, alone_in, alone_out, alone_if, alone, guarded, own_slot, run_slot_by, switch_by, whole_by, with_end}
+use Rattle.world_view.specs.Machine.{with_hart, setting, Local, steps, stretch, part_of, with_part, switch, opening, whole, alone_opening, alone_enter, alone_in, alone, guarded, own_slot, run_slot_by, switch_by, whole_by, with_end}
 use Rattle.world_view.specs.View.{view, view_whole, view_alone}
 use Rattle.world_view.specs.Relations.{IsDomain, SameFrames, IsKernel, HasFacts, OwnDirty, Resident, Beside, Within, Apiece, Agree}
 use Rattle.world_view.proofs.opening.PoolLaws.{own_at_place}

@@ -1,5 +1,5 @@
 -- What code that runs the machine wants to know of its definitions.
-use Rattle.std.proofs.Common.{◌≡◌, ◌≢◌, ℕ, suc, ◌+◌, ◌-◌, ◌*◌, ◌/◌, ◌%◌, ◌^◌, ◌≤◌, max, Bool, true, false, cond, eqb, List, [], ◌∷◌, ◌++◌, length, Some, None, Result, inl, inr, refl, sym, ap, ◌∙◌, arith, add-zero, eq-eqb, ne_eqb}
+use Rattle.std.proofs.Common.{◌≡◌, ◌≢◌, ℕ, suc, ◌+◌, ◌-◌, ◌*◌, ◌/◌, ◌%◌, ◌^◌, ◌≤◌, max, true, false, cond, eqb, List, [], ◌∷◌, ◌++◌, length, Some, None, Result, inl, inr, refl, sym, ap, ◌∙◌, arith, add-zero, eq-eqb, ne_eqb}
 use Rattle.std.specs.List.{sum_by}
 use Rattle.std.proofs.lemmas.Bool.{cases_Bool, cases_lt}
 use Rattle.std.proofs.lemmas.List.{get_or_past}
@@ -19,7 +19,6 @@ use Rattle.sv32_walk.specs.declared.access.Access.{Access}
 use Rattle.sv32_walk.specs.declared.access.WalkFault.{WalkFault}
 use Rattle.sv32_walk.specs.Walk.{walk}
 use Rattle.hardware_check.specs.Hardware.{Hardware}
-use Rattle.image_check.specs.Own.{Own}
 use Rattle.image_check.specs.Image.{Image, own_of}
 use Rattle.sched_table.specs.Schedule.{entry_of_slot, switch_entry, start, slot_end, last_end, outgoing}
 use Rattle.world_view.specs.Opening.{word_of, page_words}
@@ -28,7 +27,7 @@ use Rattle.thread_set.specs.Threads.{is_ready}
 use Rattle.call_table.specs.Domain.{Dom, is_running}
 use Rattle.call_table.specs.Claims.{Estate}
 use Rattle.kernel_clone.specs.Footprints.{Layout}
-use Rattle.world_view.specs.Kernel.{opening_dom, estate, layout, no_dom}
+use Rattle.world_view.specs.Kernel.{opening_dom, estate, no_dom}
 use Rattle.mem_system.specs.Cost.{Touched}
 use Rattle.world_view.specs.Event.{Storage, Act, frame_or_stop, translate, unless, store, settle, computed, loaded, noted, guessed, execute, timed, perform, instruction, interrupts_of, idle_until, event}
 use Rattle.world_view.specs.Machine.{with_hart, caches_of, clock_of, Setting, setting, Local, paid, delivered, happened, step, stretch, World, dom_of, part_of, with_part, switch_work, switch, run_slot, whole, guarded, own_slot, run_slot_by, switch_by, switch_on, whole_by, with_end}

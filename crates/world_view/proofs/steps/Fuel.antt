@@ -10,8 +10,6 @@ use Rattle.thread_set.specs.Threads.{is_ready}
 use Rattle.cache_sharing.specs.Operations.{operation}
 use Rattle.mem_system.specs.Cost.{Caches, touched_all, and_then, touched, pass_on, on_core}
 use Rattle.call_table.specs.Domain.{Dom, is_running}
-use Rattle.world_view.specs.Cost.{hierarchy}
-use Rattle.world_view.specs.Kernel.{layout}
 use Rattle.world_view.specs.Event.{Event, idle_until, thread_event, unless_due, event, interrupts_of, delivery_touches}
 use Rattle.world_view.specs.Event.Event.{Jump, Deliver, Run}
 use Rattle.world_view.specs.Machine.{Setting, Local, paid, delivered, happened, step, steps, stretch}

@@ -13,7 +13,7 @@ use Rattle.rv_core.specs.declared.Effect.{Effect}
 use Rattle.rv_core.specs.Registers.{register}
 use Rattle.rv_core.specs.Products.{digits_of, dividend_of}
 use Rattle.rv_core.proofs.Digits.{least_power-few}
-use Rattle.cycle_cost.specs.Costs.{ProductCosts, division_cost, most_added}
+use Rattle.cycle_cost.specs.Costs.{ProductCosts, most_added}
 use Rattle.rv_core.specs.Effect as effect
 use Rattle.rv_core.specs.Effect.{Outcome, continuation, effect_of}
 use Rattle.rv_core.specs.declared.Store.{Store as StoreMade}

@@ -11,9 +11,9 @@ pub returns-in-Some-clause-leaves : goal.returns-in-Some-clause-leaves
 returns-in-Some-clause-leaves g c w s r readings replies k h q =
     let d = dom_model c.args.domain.now readings replies in
     let p : Point =
-    record { setting = w; clock = c.args.now; root = c.args.root; dom = d; storage = s; reached = r } in
+    record { setting = w; clock = c.args.begun.now.clock; root = c.args.begun.now.root; dom = d; storage = s; reached = r } in
     let K = Kept g.P.Policy.rule g.P.Policy.stands_for w c.args.domain.now.caps p.root in
-    let i = c.args.instr in
+    let i = c.args.begun.now.instr in
     let misaligned =
     ap (misalignment_of i) (sym c.address-at.ensures.address) ∙ sym c.in-Some.ensures.trap in
     execute_misaligned p (K c.args.memory.now (system c.args.core.now c.args.l2.now) c.args.spent.now) i
@@ -25,9 +25,9 @@ returns-in-Ok-clause-leaves g c w s r readings replies k h q =
     let caps = c.args.domain.now.caps in
     let d = dom_model c.args.domain.now readings replies in
     let p : Point =
-    record { setting = w; clock = c.args.now; root = c.args.root; dom = d; storage = s; reached = r } in
+    record { setting = w; clock = c.args.begun.now.clock; root = c.args.begun.now.root; dom = d; storage = s; reached = r } in
     let K = Kept g.P.Policy.rule g.P.Policy.stands_for w caps p.root in
-    let i = c.args.instr in
+    let i = c.args.begun.now.instr in
     let aligned =
     ap (misalignment_of i) (sym c.address-at.ensures.address) ∙ sym c.in_default.ensures.trap in
     execute_settled p (K c.args.memory.now (system c.args.core.now c.args.l2.now) c.args.spent.now) i c.settle.new.domain
@@ -42,9 +42,9 @@ returns-in-Err-clause-leaves g c w s r readings replies k h q =
     let caps = c.args.domain.now.caps in
     let d = dom_model c.args.domain.now readings replies in
     let p : Point =
-    record { setting = w; clock = c.args.now; root = c.args.root; dom = d; storage = s; reached = r } in
+    record { setting = w; clock = c.args.begun.now.clock; root = c.args.begun.now.root; dom = d; storage = s; reached = r } in
     let K = Kept g.P.Policy.rule g.P.Policy.stands_for w caps p.root in
-    let i = c.args.instr in
+    let i = c.args.begun.now.instr in
     let aligned =
     ap (misalignment_of i) (sym c.address-at.ensures.address) ∙ sym c.in_default.ensures.trap in
     execute_faulted p (K c.args.memory.now (system c.args.core.now c.args.l2.now) c.args.spent.now) i
