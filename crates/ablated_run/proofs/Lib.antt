@@ -1,6 +1,1 @@
-mod Moments
-mod Among
-mod Opens
-mod Offs
-mod OpeningsOff
-mod SlotsOff
+mod Runs

@@ -1,3 +1,1 @@
-pub mod Ablations
-pub mod Propositions
 pub mod Models

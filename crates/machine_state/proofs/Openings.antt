@@ -26,8 +26,7 @@ use Rattle.world_view.proofs.opening.Separate.{separated}
 use Rattle.world_view.proofs.steps.CodeLaws.{whole_first-dom}
 use Rattle.domain_step.specs.Standing.{DomainStands}
 use Rattle.machine_state.specs.Usage.{IsUsed}
-use Rattle.machine_state.specs.Worlds.{kept}
-use Rattle.machine_state.proofs.Whole.{StandsBy}
+use Rattle.machine_state.specs.Worlds.{StandsBy, kept}
 
 -- ---- domains at their entries, each with the kernel clone that works for it
 

@@ -30,7 +30,7 @@ use Rattle.world_view.proofs.runs.GuardLaws.{are_guards}
 use Rattle.world_view.proofs.runs.SwitchParts.{work_by_is}
 use Rattle.domain_step.specs.Standing.{MachineStands}
 use Rattle.machine_state.specs.Usage.{IsUsed}
-use Rattle.machine_state.specs.Worlds.{Kept, StandsOn}
+use Rattle.machine_state.specs.Worlds.{Kept, StandsOn, StandsBy}
 use Rattle.machine_state.specs.InSlot.{StandsIn}
 
 -- ---- a slot leaves what switches took
@@ -188,10 +188,6 @@ module _ (off : Option Guard) (i : Image) (k : ℕ) where
   abbrev pub end_of : ℕ
   end_of = ends_by g i k (clock_of 0 begun)
 
-  -- the code's machine stands for that of the definitions after so many slots
-  abbrev pub StandsBy : Kept → Type 0
-  StandsBy s = StandsOn i g.levels (setting_by g i) w s
-
   -- the code's switch is given what the definition's is
   pub record AreGiven (t : SwitchGiven) : Type 0 where
     pub loads : t.loads ≡ g.prefetch
@@ -209,7 +205,7 @@ module _ (off : Option Guard) (i : Image) (k : ℕ) where
     pub leaves : (m : Mem) (frames root : ℕ) → KeepsLeaves m frames root b.system.core.tlb
     pub used_is : begun.used ≡ w.used ++ (switch_entry i.all.schedule k, b.used) ∷ []
 
-  module _ (r : Runnable i) (s : Kept) (is : StandsBy s) where
+  module _ (r : Runnable i) (s : Kept) (is : StandsBy off i k s) where
     -- a domain's kernel clone is one of the code's hierarchy
     pub clone_is : (e : ℕ) (x : Domain) → IsDomain i e → slice_get s.domains e ≡ Some x
         → IsLayout (layout_model x.layout)

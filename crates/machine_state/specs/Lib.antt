@@ -1,3 +1,4 @@
 pub mod Usage
 pub mod Worlds
 pub mod InSlot
+pub mod OpenSlot

@@ -1,13 +1,14 @@
 -- What the code's machine keeps between two slots, and what that stands for, with all guards on or with one off.
-use Rattle.std.specs.Prelude.{◌≡◌, ℕ, false, List, length, slice_get, Some}
+use Rattle.std.specs.Prelude.{◌≡◌, ℕ, false, List, length, slice_get, Option, Some}
 use Rattle.phys_mem.specs.Contents.{Contents}
 use Rattle.repl_policy.specs.declared.AnyPolicy.{AnyPolicy}
+use Rattle.guards.specs.declared.Guard.{Guard}
 use Rattle.mem_system.specs.Hierarchy.{Hierarchy}
 use Rattle.mem_system.specs.Contents.{SystemContents}
 use Rattle.image_check.specs.Image.{Image}
 use Rattle.kernel_call.specs.declared.domain.Domain.{Domain}
 use Rattle.world_view.specs.declared.view.Used.{Used}
-use Rattle.world_view.specs.Machine.{World, caches_of, clock_of, Setting, dom_of}
+use Rattle.world_view.specs.Machine.{World, caches_of, clock_of, Setting, setting_by, dom_of, guards_of, whole_by}
 use Rattle.domain_step.specs.Standing.{MachineStands, DomainStands}
 use Rattle.machine_state.specs.Usage.{IsUsed}
 
@@ -30,3 +31,8 @@ pub record StandsOn (i : Image) (h : Hierarchy) (settings : ℕ → Setting) (w 
   pub each_domain : (d : ℕ) (x : Domain) → slice_get k.domains d ≡ Some x → DomainStands (settings d) x (dom_of w d)
   pub all_entries : length k.used ≡ length i.all.schedule
   pub each_entry : IsUsed k.used w.used
+
+-- it stands for the machine after so many slots
+abbrev pub StandsBy : Option Guard → Image → ℕ → Kept → Type 0
+StandsBy off i slots k =
+    StandsOn i (guards_of off i).levels (setting_by (guards_of off i) i) (whole_by (guards_of off i) i slots) k

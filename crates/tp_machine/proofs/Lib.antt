@@ -1,3 +1,4 @@
+mod Offs
 mod Openings
-mod Switches
 mod Slots
+mod AllOn

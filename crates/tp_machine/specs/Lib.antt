@@ -1,3 +1,4 @@
-pub mod Worlds
+pub mod Guarded
 pub mod Propositions
 pub mod Models
+pub mod Worlds

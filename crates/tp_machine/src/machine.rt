@@ -1,44 +1,115 @@
-// The whole machine: all domains, one slot after another.
-ghost use Rattle.std.specs.Prelude.{◌≡◌, ◌≤◌};
-ghost use Rattle.mem_system.specs.Contents.{system};
-ghost use Rattle.image_check.specs.Image.{image_from};
-ghost use Rattle.image_check.specs.Laws.{Runnable};
-ghost use Rattle.machine_state.specs.Worlds.{kept};
-ghost use Rattle.tp_machine.specs.Propositions.{stands_prop};
-ghost use Rattle.tp_machine.specs.Worlds.{StandsFor, HaveFacts, StaysResident, IsInBounds};
-
-mod run;
-
+// The machine with all guards on: what the laws say of it holds of what it shows.
+use crate::guarded::GuardedMachine;
 use image_check::Checked;
-use kernel_call::Domain;
-use l2_colour::L2;
-use mem_system::OnCore;
-use phys_mem::PhysMem;
-use repl_policy::AnyPolicy;
-use world_view::Used;
+use std::alloc::Global;
+use std::marker::Model;
+use tp_base::Memory;
+use world_view::{Used, View};
 
-/// The whole machine between two slots. Its data stand for the definition of
-/// the machine after so many slots.
+/// The whole machine between two slots, with all guards on. Its data stand for the
+/// definition of the machine after so many slots.
 #[derive(Drop)]
 pub struct Machine<'a> {
+    guarded: GuardedMachine<'a>,
+}
+
+impl<'a> Model for Machine<'a> {
+    ghost use Rattle.tp_machine.specs.Models.{Ran, ran};
+    ghost use Rattle.tp_machine.specs.Worlds.{HasAllOn};
+
+    ghost Value = { Ran };
+
+    ghost view = { λ m. ran m.guarded };
+
+    ghost invariant = { λ m. HasAllOn m.guarded };
+}
+
+impl<'a> Machine<'a> {
+    ghost use Rattle.std.specs.Prelude.{◌≡◌, ◌+◌, ◌<◌, ◌≤◌, length, IfOk};
+    ghost use Rattle.sched_table.specs.Schedule as schedule;
+    ghost use Rattle.sched_table.specs.Schedule.{entry_in};
+    ghost use Rattle.image_check.specs.Image.{image_from, own_of};
+    ghost use Rattle.world_view.specs.Machine as spec;
+    ghost use Rattle.world_view.specs.View.{view_whole, view_alone};
+    ghost use Rattle.world_view.specs.Harts.{IsOnOneHart};
+    ghost use Rattle.world_view.specs.Models.{view_model};
+    ghost use Rattle.world_view.specs.Used.{largest_of, count_of};
+    ghost use Rattle.machine_state.specs.Usage.{IsUsed};
+    ghost use Rattle.tp_machine.specs.Models.{image_of, world_of};
+
+    /// The machine of an image of one hart, before its first slot. All that it will need is
+    /// allocated here.
+    ///
+    /// # Errors
+    /// `Memory` where no memory is left for it.
+    pub fn load(alloc: Global, image: &'a Checked) -> Result<Self, Memory>
+        requires one { IsOnOneHart (image_from image.now) }
+        ensures slots { IfOk result (λ m. m.slots ≡ 0) }
+        ensures image { IfOk result (λ m. m.image.now ≡ image.now) }
+    {
+        let guarded = GuardedMachine::load(alloc, image, None)?;
+        Ok(Machine { guarded })
+    }
+
+    /// The machine of an image of one hart after so many slots, 65,536 at most.
+    ///
+    /// # Errors
+    /// `Memory` where no memory is left for it.
+    pub fn after(alloc: Global, image: &'a Checked, slots: u32) -> Result<Self, Memory>
+        requires few { slots ≤ 65536 }
+        requires one { IsOnOneHart (image_from image.now) }
+        ensures slots { IfOk result (λ m. m.slots ≡ slots) }
+        ensures image { IfOk result (λ m. m.image.now ≡ image.now) }
+    {
+        let guarded = GuardedMachine::after(alloc, image, None, slots)?;
+        Ok(Machine { guarded })
+    }
+
     /// The image that it runs.
-    pub image: &'a Checked,
-    /// How many slots have run.
-    pub slots: u32,
-    memory: PhysMem,
-    core: OnCore<AnyPolicy>,
-    l2: L2<AnyPolicy>,
-    domains: Vec<Domain>,
-    /// By entry of the schedule.
-    used: Vec<Used>,
-    /// In cycles.
-    clock: u64,
-    ghost accepted: { Runnable (image_from image.now) },
-    ghost stands: { StandsFor (image_from image.now) slots
-        (kept memory (system core l2) domains.items used.items clock) } by { stands_prop (image_from image.now) slots
-            (kept memory (system core l2) domains.items used.items clock) },
-    ghost facts: { ∥ HaveFacts (image_from image.now) slots
-        (kept memory (system core l2) domains.items used.items clock) ∥₁ },
-    ghost resident: { StaysResident (image_from image.now) slots },
-    ghost in_bounds: { IsInBounds slots (kept memory (system core l2) domains.items used.items clock) },
+    pub fn image(&self) -> &Checked
+        ensures image { result.now ≡ self.now.image.now }
+    {
+        self.guarded.image
+    }
+
+    /// Switches to the domain of the next slot, waits for its start, and runs it.
+    /// The slot begins at exactly its start. Never allocates.
+    pub fn run_slot(&mut self)
+        requires slots { self.old.slots < 65536 }
+        ensures slots { self.new.slots ≡ self.old.slots + 1 }
+        ensures image { self.new.image.now ≡ self.old.image.now }
+        ensures begins { spec.clock_of 0 (spec.switch (image_of self.old) self.old.slots (world_of self.old))
+            ≡ schedule.start (image_of self.old).all.schedule self.old.slots }
+    {
+        self.guarded.run_slot();
+    }
+
+    /// What is seen of a domain after the slots that have run: what is seen of it
+    /// alone after them.
+    pub fn view(&self, d: u8) -> View<'_>
+        requires domain { d < length (image_of self.now).owns }
+        ensures view { view_model result ≡ view_whole (image_of self.now) d self.now.slots }
+        ensures alone { view_model result
+            ≡ view_alone (image_of self.now).all (own_of (image_of self.now) d) d self.now.slots }
+    {
+        self.guarded.view(d)
+    }
+
+    /// What the switches of an entry took: none more than the entry's pad.
+    pub fn used(&self, entry: u32) -> Used
+        requires entry { entry < length (image_of self.now).all.schedule }
+        ensures largest { result.largest ≡ largest_of entry (world_of self.now).used }
+        ensures count { result.count ≡ count_of entry (world_of self.now).used }
+        ensures within { result.largest ≤ (entry_in (image_of self.now).all.schedule entry).pad }
+    {
+        self.guarded.used(entry)
+    }
+
+    /// What the switches of each entry took.
+    pub fn all_used(&self) -> &[Used]
+        ensures all { length result.now ≡ length (image_of self.now).all.schedule }
+        ensures each { IsUsed result.now (world_of self.now).used }
+    {
+        self.guarded.all_used()
+    }
 }

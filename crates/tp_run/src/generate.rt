@@ -11,7 +11,7 @@ ghost use Rattle.tp_run.specs.TopCall.{Delivers, ReadsBack};
 
 use crate::Status;
 use crate::call::{accepted, status_unless_failed};
-use crate::run::{domains_of, machine_after, write_ending};
+use crate::run::{domains_of, write_ending};
 use image_check::{CheckRefusal, Checked};
 use image_gen::generate;
 use std::alloc::Global;
@@ -50,7 +50,7 @@ fn run_image_of<K: Sink>(alloc: Global, image: &Checked, seed: u32, out: &mut K)
     ensures delivers { Delivers (Status.Done, report_spec.demo_text (image_from image.now) seed)
         result (state K.Sink out.old) (state K.Sink out.new) }
 {
-    match machine_after(alloc, image, DEMO_SLOTS) {
+    match Machine::after(alloc, image, DEMO_SLOTS) {
         Ok(machine) => status_unless_failed(Status::Done, write_summary(out, seed, &machine)),
         Err(Memory) => Status::Memory,
     }
@@ -82,7 +82,7 @@ fn write_lines<K: Sink>(out: &mut K, machine: &Machine<'_>) -> Result<(), Failed
     ensures sends { Sends (state K.Sink out.old) (state K.Sink out.new)
         result (report_spec.demo_lines (image_from machine.now.image.now) machine.now.slots) }
 {
-    for d in 0..domains_of(machine.image) {
+    for d in 0..domains_of(machine.image()) {
         write_demo(out, DemoPart::Domain(d, &machine.view(d)))?;
     }
     Ok(())

@@ -42,7 +42,7 @@ impl<'a> Reported for Machine<'a> {
     ghost world = { λ m. whole (image_from m.image.now) m.slots };
 
     fn checked(&self) -> &Checked {
-        self.image
+        self.image()
     }
 
     fn seen(&self, d: u8) -> View<'_> {
@@ -60,7 +60,7 @@ impl<'a> Reported for Ablated<'a> {
     ghost world = { λ m. whole_off m.off (image_from m.image.now) m.slots };
 
     fn checked(&self) -> &Checked {
-        self.image
+        self.image()
     }
 
     fn seen(&self, d: u8) -> View<'_> {

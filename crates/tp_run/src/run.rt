@@ -53,7 +53,7 @@ fn run_machine<K: Sink>(alloc: Global, image: &Checked, slots: u32, out: &mut K)
     ensures delivers { Delivers (Status.Done, spec.report (image_from image.now) slots)
         result (state K.Sink out.old) (state K.Sink out.new) }
 {
-    match machine_after(alloc, image, slots) {
+    match Machine::after(alloc, image, slots) {
         Ok(machine) => status_unless_failed(Status::Done, write_report(out, &machine)),
         Err(Memory) => Status::Memory,
     }
@@ -72,54 +72,10 @@ pub fn run_off<K: Sink>(
     ensures delivers { Delivers (Status.Done, spec.report_off off (image_from image.now) slots)
         result (state K.Sink out.old) (state K.Sink out.new) }
 {
-    match ablated_after(alloc, image, off, slots) {
+    match Ablated::after(alloc, image, off, slots) {
         Ok(machine) => status_unless_failed(Status::Done, write_report_off(out, &machine)),
         Err(Memory) => Status::Memory,
     }
-}
-
-/// The machine of the image of one hart after so many slots.
-pub fn machine_after<'a>(
-    alloc: Global,
-    image: &'a Checked,
-    slots: u32,
-) -> Result<Machine<'a>, Memory>
-    requires few { slots ≤ 65536 }
-    requires one { IsOnOneHart (image_from image.now) }
-    ensures slots { IfOk result (λ m. m.slots ≡ slots) }
-    ensures image { IfOk result (λ m. m.image.now ≡ image.now) }
-{
-    let mut machine = match Machine::load(alloc, image) {
-        Ok(machine) => machine,
-        Err(Memory) => return Err(Memory),
-    };
-    for slot in 0..slots {
-        machine.run_slot();
-    }
-    Ok(machine)
-}
-
-// The machine of the image with a guard off, after so many slots.
-fn ablated_after<'a>(
-    alloc: Global,
-    image: &'a Checked,
-    off: Guard,
-    slots: u32,
-) -> Result<Ablated<'a>, Memory>
-    requires few { slots ≤ 65536 }
-    requires one { IsOnOneHart (image_from image.now) }
-    ensures slots { IfOk result (λ m. m.slots ≡ slots) }
-    ensures image { IfOk result (λ m. m.image.now ≡ image.now) }
-    ensures off { IfOk result (λ m. m.off ≡ off) }
-{
-    let mut machine = match Ablated::load(alloc, image, off) {
-        Ok(machine) => machine,
-        Err(Memory) => return Err(Memory),
-    };
-    for slot in 0..slots {
-        machine.run_slot();
-    }
-    Ok(machine)
 }
 
 // Which guard is off, and the report after the slots that have run.
@@ -128,7 +84,7 @@ fn write_report_off<K: Sink>(out: &mut K, machine: &Ablated<'_>) -> Result<(), F
     ensures sends { Sends (state K.Sink out.old) (state K.Sink out.new)
         result (spec.report_off machine.now.off (image_from machine.now.image.now) machine.now.slots) }
 {
-    write_unprotected(out, machine.off)?;
+    write_unprotected(out, machine.off())?;
     write_report(out, machine)
 }
 

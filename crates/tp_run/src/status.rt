@@ -10,7 +10,8 @@ pub enum Status {
     Done,
     /// The image breaks a rule.
     Refused,
-    /// The words are no command, or name a domain that the image lacks.
+    /// The words are no command, or name a domain that the image lacks, or a guard where
+    /// the image has several harts.
     Usage,
     /// The source failed.
     ReadFault,

@@ -1,4 +1,4 @@
-use Rattle.std.proofs.Common.{◌≡◌, ◌∙◌, ap, List, ℕ, nat_eq, arith}
+use Rattle.std.proofs.Common.{◌≡◌, ◌∙◌, ap, ℕ, nat_eq, arith}
 use Rattle.sched_table.specs.Schedule.{harts_in, hart_schedules}
 use Rattle.image_check.specs.Public.{Public}
 use Rattle.image_check.specs.Image.{image_from}

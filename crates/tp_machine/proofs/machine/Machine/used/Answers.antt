@@ -1,17 +1,35 @@
-use Rattle.std.proofs.Common.{◌<◌, length, refl, arith}
-use Rattle.std.proofs.lemmas.Option.{slice_get_read}
-use Rattle.image_check.specs.Image.{image_from}
-use Rattle.world_view.specs.Machine.{whole}
+use Rattle.std.proofs.Common.{◌≡◌, ◌≤◌, ◌∙◌, ap, subst, arith}
+use Rattle.sched_table.specs.Schedule.{entry_in}
+use Rattle.world_view.specs.Machine.{World}
+use Rattle.world_view.specs.Used.{largest_of, count_of}
 use Rattle.world_view.proofs.opening.Separate.{separated}
-use Rattle.world_view.proofs.time.TimeLaws.{largest_within}
-use Rattle.world_view.proofs.time.TimeLaws.{used_within}
+use Rattle.world_view.proofs.time.TimeLaws.{largest_within, used_within}
+use Rattle.tp_machine.specs.Models.{Ran, ran, image_by, image_of, world_of}
+use Rattle.tp_machine.proofs.AllOn.{world_is}
 use Rattle.tp_machine.proofs.machine.Machine.used.Goals as goal
+
+pub returns-clause-largest : goal.returns-clause-largest
+returns-clause-largest c =
+    let e = c.args.entry in
+    subst (λ (v : Ran). c.used.result.largest ≡ largest_of e (world_of v).used) c.self.view_is
+    (c.used.ensures.largest
+    ∙ ap (λ (w : World). largest_of e w.used) (world_is c.self.inside.guarded c.self.invariant.all_on))
+
+pub returns-clause-count : goal.returns-clause-count
+returns-clause-count c =
+    let e = c.args.entry in
+    subst (λ (v : Ran). c.used.result.count ≡ count_of e (world_of v).used) c.self.view_is
+    (c.used.ensures.count
+    ∙ ap (λ (w : World). count_of e w.used) (world_is c.self.inside.guarded c.self.invariant.all_on))
 
 pub returns-clause-within : goal.returns-clause-within
 returns-clause-within c =
-    let m = c.args.self.now in
-    let i = image_from m.image.now in
-    let most = largest_within i.all.schedule c.args.entry (whole i m.slots).used (used_within i m.slots (separated i m.accepted)) in
-    let within : c.args.entry < length m.used.items = omega (arith, c.requires.entry, m.stands.all_entries) in
-    let is = m.stands.each_entry.largest c.args.entry c.index.result.now (slice_get_read m.used.items (length m.used.items) c.args.entry c.index.result.now refl within c.index.ensures) in
-    omega (arith, most, is)
+    let m = c.self.inside.guarded in
+    let i = image_by m in
+    let e = c.args.entry in
+    let most : largest_of e (world_of c.args.self.now).used
+    ≤ (entry_in (image_of c.args.self.now).all.schedule e).pad =
+    subst (λ (v : Ran). largest_of e (world_of v).used ≤ (entry_in (image_of v).all.schedule e).pad)
+    c.self.view_is
+    (largest_within i.all.schedule e (world_of (ran m)).used (used_within i m.slots (separated i m.accepted))) in
+    omega (arith, most, returns-clause-largest c)

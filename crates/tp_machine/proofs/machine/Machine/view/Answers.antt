@@ -1,44 +1,30 @@
-use Rattle.std.proofs.Common.{◌∙◌, ◌<◌, length, refl, arith}
-use Rattle.std.proofs.lemmas.Option.{slice_get_read}
-use Rattle.image_check.specs.Image.{image_from, own_of}
-use Rattle.world_view.specs.Machine.{whole, dom_of}
-use Rattle.world_view.specs.View.{view_whole}
-use Rattle.kernel_call.proofs.Logs.{kept_of}
+use Rattle.std.proofs.Common.{◌≡◌, ◌<◌, ◌∙◌, length, ap, sym, subst}
+use Rattle.image_check.specs.Image.{own_of}
+use Rattle.world_view.specs.Machine.{World}
+use Rattle.world_view.specs.View.{view_in, view_whole, view_alone}
+use Rattle.world_view.specs.Models.{view_model}
 use Rattle.world_view.proofs.opening.Separate.{separated}
 use Rattle.world_view.proofs.runs.WholeLaws.{isolated}
-use Rattle.domain_open.proofs.Seen.{view_is, pool_in_memory}
+use Rattle.tp_machine.specs.Models.{Ran, image_by, image_of, world_of}
+use Rattle.tp_machine.proofs.AllOn.{world_is}
 use Rattle.tp_machine.proofs.machine.Machine.view.Goals as goal
-
-pub new-requires : goal.new-requires
-new-requires c =
-    let m = c.args.self.now in
-    let i = image_from m.image.now in
-    let d = c.args.d in
-    let x = c.index.result.now in
-    let within : d < length m.domains.items = omega (arith, c.requires.domain, m.stands.all_domains) in
-    let got = slice_get_read m.domains.items (length m.domains.items) d x refl within (rw c.from.ensures at c.index.ensures) in
-    let stands = m.stands.each_domain d x got in
-    record {
-      in_memory = pool_in_memory i.all.hardware (own_of i d) x stands.has m.memory m.stands.machine.frames;
-      readings = rw stands.dom.readings (kept_of (dom_of (whole i m.slots) d).readings);
-      replies = rw stands.dom.replies (kept_of (dom_of (whole i m.slots) d).replies);
-    }
 
 pub returns-clause-view : goal.returns-clause-view
 unfolding view_whole
 returns-clause-view c =
-    let m = c.args.self.now in
-    let i = image_from m.image.now in
-    let d = c.args.d in
-    let w = whole i m.slots in
-    let x = c.index.result.now in
-    let within : d < length m.domains.items = omega (arith, c.requires.domain, m.stands.all_domains) in
-    let got = slice_get_read m.domains.items (length m.domains.items) d x refl within (rw c.from.ensures at c.index.ensures) in
-    let is = m.stands.each_domain d x got in
-    c.new.ensures.view ∙ view_is i.all.hardware (own_of i d) x is.has m.memory m.stands.machine.frames (dom_of w d) w.storage is.dom m.stands.machine.holds
+    let m = c.self.inside.guarded in
+    subst (λ (v : Ran). view_model c.view.result ≡ view_in (image_of v) c.args.d (world_of v))
+    c.self.view_is
+    (c.view.ensures.view
+    ∙ ap (λ (w : World). view_in (image_by m) c.args.d w) (world_is m c.self.invariant.all_on))
 
 pub returns-clause-alone : goal.returns-clause-alone
 returns-clause-alone c =
-    let m = c.args.self.now in
-    let i = image_from m.image.now in
-    returns-clause-view c ∙ isolated i c.args.d m.slots (separated i m.accepted) c.requires.domain
+    let m = c.self.inside.guarded in
+    let i = image_by m in
+    let named = subst (λ (v : Ran). c.args.d < length (image_of v).owns) (sym c.self.view_is) c.requires.domain in
+    returns-clause-view c
+    ∙ subst
+    (λ (v : Ran). view_whole (image_of v) c.args.d v.slots
+    ≡ view_alone (image_of v).all (own_of (image_of v) c.args.d) c.args.d v.slots)
+    c.self.view_is (isolated i c.args.d m.slots (separated i m.accepted) named)

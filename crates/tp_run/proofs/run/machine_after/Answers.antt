@@ -1,7 +1,0 @@
-use Rattle.std.proofs.Common.{◌≡◌, ◌∙◌, arith}
-use Rattle.tp_run.proofs.run.machine_after.Goals as goal
-
-pub returns : goal.returns
-returns c =
-    let over : c.loop-slot.slot ≡ c.args.slots = omega arith in
-    record { slots = c.loop-slot.invariant.slots ∙ over; image = c.loop-slot.invariant.image }
