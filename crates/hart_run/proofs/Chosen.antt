@@ -1,5 +1,5 @@
 -- Who is chosen of the harts that have slots left.
-use Rattle.std.proofs.Common.{◌≡◌, ◌≢◌, ℕ, zero, suc, ◌+◌, ◌%◌, ◌<◌, ◌≤◌, Bool, true, false, ltb, ltb-true, refl, sym, ap, ◌∙◌, subst, arith, mod-lt, List, [], ◌∷◌, ◌++◌, length, fold, slice_get, Some, None, Option, IfSome, ◌⊎◌, inl, inr}
+use Rattle.std.proofs.Common.{◌≡◌, ◌≢◌, ℕ, zero, suc, ◌%◌, ◌<◌, ◌≤◌, Bool, true, false, ltb, ltb-true, refl, sym, ap, ◌∙◌, subst, arith, mod-lt, List, [], ◌∷◌, ◌++◌, length, fold, slice_get, Some, None, Option, IfSome, ◌⊎◌, inl, inr}
 use Rattle.std.specs.Prelude.{if◌then◌else◌}
 use Rattle.std.specs.List.{All}
 use Rattle.std.proofs.lemmas.Bool.{ltb-false, cases_lt, cases_eq}

@@ -1,11 +1,10 @@
 -- The harts that have slots left, one hart after the other.
-use Rattle.std.proofs.Common.{◌≡◌, ◌∙◌, ℕ, zero, suc, ◌+◌, ◌-◌, ◌<◌, ◌≤◌, Bool, true, false, ltb, lt-ltb, le-ltb, length, List, [], ◌∷◌, ◌++◌, Some, None, refl, sym, ap, subst, arith, inl, inr}
+use Rattle.std.proofs.Common.{◌≡◌, ◌∙◌, ℕ, zero, suc, ◌+◌, ◌-◌, ◌<◌, ◌≤◌, Bool, lt-ltb, le-ltb, length, List, [], ◌∷◌, ◌++◌, Some, refl, sym, ap, subst, arith, inl, inr}
 use Rattle.std.specs.Prelude.{slice_get, if◌then◌else◌}
 use Rattle.std.proofs.lemmas.Bool.{cases_lt}
 use Rattle.std.proofs.lemmas.List.{length-append}
-use Rattle.std.proofs.lemmas.List.Sums.{fold-append}
 use Rattle.world_view.specs.Harts.{Harts, slots_of}
-use Rattle.hart_run.specs.Order.{left, earlier, least}
+use Rattle.hart_run.specs.Order.{left}
 
 front : (xs ys : List ℕ) (k : ℕ) → k < length xs → slice_get (xs ++ ys) k ≡ slice_get xs k
 front [] ys k l = absurd (omega (arith, l))
@@ -73,10 +72,3 @@ module _ (n : ℕ) (s : Harts) where
       ∙ all_stay (m + 1) (many - (m + 1)) (length (left n s m)) (omega (arith, here))
       ∙ ap (λ (xs : List ℕ). slice_get xs (length (left n s m))) (one_more m few)
       ∙ last (left n s m) m
-
-  pub least_more : (m : ℕ) → slots_of m s < n → least s (left n s (m + 1)) ≡ earlier s (least s (left n s m)) m
-  unfolding least
-  least_more m few = ap (λ (xs : List ℕ). least s xs) (one_more m few) ∙ fold-append (earlier s) None (left n s m) (m ∷ [])
-
-  pub least_same : (m : ℕ) → n ≤ slots_of m s → least s (left n s (m + 1)) ≡ least s (left n s m)
-  least_same m past = ap (λ (xs : List ℕ). least s xs) (no_more m past)

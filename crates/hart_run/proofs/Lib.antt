@@ -4,3 +4,4 @@ pub mod Through
 pub mod Seen
 pub mod Standing
 pub mod Running
+pub mod LeastKey

@@ -1,7 +1,6 @@
 -- What is seen after a run, whatever the choice.
-use Rattle.std.proofs.Common.{◌≡◌, ◌<◌, ℕ, subst, ap, ◌∙◌}
-use Rattle.image_check.specs.Image.{Image}
-use Rattle.world_view.specs.Harts.{view_on, view_alone_on, hart_of_domain, harts}
+use Rattle.std.proofs.Common.{ap, ◌∙◌}
+use Rattle.world_view.specs.Harts.{view_on, view_alone_on, hart_of_domain}
 use Rattle.world_view.proofs.harts.Runs.{home}
 use Rattle.world_view.proofs.harts.Isolation.{hart_isolation, hart_pads, hart_largest}
 use Rattle.hart_run.specs.Order.{order_of, ran}

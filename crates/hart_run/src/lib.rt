@@ -3,6 +3,7 @@
 #![tactic(auto)]
 
 mod choice;
+mod keys;
 pub mod laws;
 mod run;
 

@@ -5,9 +5,11 @@ ghost use Rattle.sched_table.specs.Schedule.{harts_in};
 ghost use Rattle.hart_set.specs.Models.{image_of as image_of_set, StandsAfter};
 ghost use Rattle.hart_run.specs.Order as spec;
 
-use crate::choice::{Choice, Chooser};
+use crate::choice::{Choice, drawn};
+use crate::keys::Keys;
 use hart_set::HartSet;
 use image_check::Checked;
+use seed_words::{draw, seeded};
 use std::alloc::Global;
 use std::marker::Model;
 use tp_base::Memory;
@@ -45,7 +47,45 @@ fn cycles_before(image: &Checked, slot: u32) -> u64
     cycles
 }
 
-// Runs harts before their first event, for so many slots of each.
+// Runs harts before their first event, that of the least clock first, until each has had
+// so many slots.
+fn run_by_clock(harts: &mut HartSet<'_>, slots: u32, most: u64)
+    requires few { slots ≤ 65536 }
+    requires first { StandsAfter harts.old [] }
+    requires most { most ≡ spec.cycles_before (image_of_set harts.old) slots
+        (harts_in (image_of_set harts.old).all.schedule) }
+    ensures image { harts.new.0 ≡ harts.old.0 }
+    ensures stands { StandsAfter harts.new (spec.order_of (image_of_set harts.old) Choice.LeastClock slots) }
+{
+    let mut keys = Keys::new(harts, slots);
+    for _ in 0..most {
+        let Some(h) = keys.least() else {
+            return;
+        };
+        harts.step(h);
+        keys.renew(harts, h, slots);
+    }
+}
+
+// Runs them in the order that a seed draws.
+fn run_drawn(harts: &mut HartSet<'_>, seed: u32, slots: u32, most: u64)
+    requires few { slots ≤ 65536 }
+    requires first { StandsAfter harts.old [] }
+    requires most { most ≡ spec.cycles_before (image_of_set harts.old) slots
+        (harts_in (image_of_set harts.old).all.schedule) }
+    ensures image { harts.new.0 ≡ harts.old.0 }
+    ensures stands { StandsAfter harts.new (spec.order_of (image_of_set harts.old) (Choice.Drawn seed) slots) }
+{
+    let mut words = seeded(u64::from(seed));
+    for _ in 0..most {
+        let Some(h) = drawn(harts, slots, draw(&mut words)) else {
+            return;
+        };
+        harts.step(h);
+    }
+}
+
+// Runs them in the order of a choice.
 fn run_all(harts: &mut HartSet<'_>, choice: Choice, slots: u32, most: u64)
     requires few { slots ≤ 65536 }
     requires first { StandsAfter harts.old [] }
@@ -54,12 +94,9 @@ fn run_all(harts: &mut HartSet<'_>, choice: Choice, slots: u32, most: u64)
     ensures image { harts.new.0 ≡ harts.old.0 }
     ensures stands { StandsAfter harts.new (spec.order_of (image_of_set harts.old) choice slots) }
 {
-    let mut chooser = Chooser::new(choice);
-    for _ in 0..most {
-        let Some(h) = chooser.next(harts, slots) else {
-            return;
-        };
-        harts.step(h);
+    match choice {
+        Choice::LeastClock => run_by_clock(harts, slots, most),
+        Choice::Drawn(seed) => run_drawn(harts, seed, slots, most),
     }
 }
 

@@ -43,7 +43,7 @@ module _ (i : Image) (r : Runnable i) (h : ℕ) (below : h < harts_in i.all.sche
   last_end_soon zero = omega arith
   last_end_soon (suc k) = let before = end_soon k in omega (arith, before)
 
-  clock_if : (b : Bool) (k : ℕ) (w : World) → k ≤ 65536 → IsHart i b h k w → clock_of h w < 2 ^ 62
+  clock_if : (b : Bool) (k : ℕ) (w : World) → k ≤ 65536 → IsHart i b h k w → clock_of h w < 2 ^ 61
   clock_if true k w few is = let soon = is.soon in let ends = end_soon k in omega (arith, few, soon, ends)
   clock_if false k w few is =
       let soon = is.soon in
@@ -51,7 +51,7 @@ module _ (i : Image) (r : Runnable i) (h : ℕ) (below : h < harts_in i.all.sche
       let largest = step_small i.all.hardware r.hardware (ended_own (image_on i h) k) in
       omega (arith, few, soon, ended, largest)
 
-  pub clock_fits : (s : Harts) → Running i r s → slots_of h s ≤ 65536 → clock_of h s.world < 2 ^ 62
+  pub clock_fits : (s : Harts) → Running i r s → slots_of h s ≤ 65536 → clock_of h s.world < 2 ^ 61
   clock_fits s run few = clock_if (progress_of h s).inside (slots_of h s) s.world few (run.hart h below)
 
 -- ---- switches

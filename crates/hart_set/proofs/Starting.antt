@@ -36,12 +36,16 @@ use Rattle.hart_set.proofs.Bounds.{clock_fits, counted, in_bounds_next}
 use Rattle.hart_set.proofs.Called.{Called, NextStands, s, run, its, few, pushed, reached_next}
 use Rattle.hart_set.proofs.Beginning.{clone_on, leaves_on, ended, Switching, stands_begun}
 
-module _ (i : Image) (t : State) (h : ℕ) (x : CodeHart) (c : Called i t h x) (between : x.slot ≡ None) where
-  pub clock_early : x.clock < 2 ^ 62
-  clock_early =
+module _ (i : Image) (t : State) (h : ℕ) (x : CodeHart) (c : Called i t h x) where
+  pub clock_soon : x.clock < 2 ^ 61
+  clock_soon =
       let fits = clock_fits i c.reached.accepted h c.below (s i t h x c) (run i t h x c) (few i t h x c) in
       let same = (its i t h x c).machine.time in
       omega (arith, fits, same)
+
+module _ (i : Image) (t : State) (h : ℕ) (x : CodeHart) (c : Called i t h x) (between : x.slot ≡ None) where
+  pub clock_early : x.clock < 2 ^ 62
+  clock_early = let soon = clock_soon i t h x c in omega (arith, soon)
 
   pub out_on : (out : Option CloneLayout) → option_map layout_model out ≡ clone_of (image_on i h) (outgoing (on_hart i.all.schedule h) x.slots)
       → IfSome out (IsCloneOn (hierarchy_of any_rule (system x.core t.l2)))

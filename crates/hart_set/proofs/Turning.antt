@@ -1,5 +1,5 @@
 -- What a hart's next switch goes by, as the code finds it.
-use Rattle.std.proofs.Common.{◌≡◌, ◌∙◌, ℕ, zero, suc, ◌<◌, List, Some, length, zero-add, refl, sym, ap, subst, arith}
+use Rattle.std.proofs.Common.{◌≡◌, ◌∙◌, ℕ, zero, suc, ◌<◌, List, Some, length, refl, sym, ap, subst, arith}
 use Rattle.std.specs.Prelude.{slice_get, slice_index_or}
 use Rattle.kernel_clone.specs.Models.{layout_model}
 use Rattle.sched_table.specs.declared.schedule.Entry.{Entry}

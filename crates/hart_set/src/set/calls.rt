@@ -71,14 +71,16 @@ impl<'a> HartSet<'a> {
     /// How many harts there are, 1 to 4.
     pub fn harts(&self) -> u8
         ensures value { result ≡ harts_in (image_of self.now).all.schedule }
+        ensures few { result ≤ 4 }
     {
         self.state.harts.len() as u8
     }
 
-    /// A hart's clock, in cycles.
+    /// A hart's clock, in cycles: far below what 64 bits hold.
     pub fn clock(&self, h: u8) -> u64
         requires hart { h < harts_in (image_of self.now).all.schedule }
         ensures value { AtHart self.now.1 h (λ x. result ≡ x.clock) }
+        ensures soon { result < 2 ^ 61 }
     {
         self.state.harts[usize::from(h)].clock
     }
@@ -108,7 +110,9 @@ impl<'a> HartSet<'a> {
         }
     }
 
-    // The switch into a hart's next slot.
+    // The switch into a hart's next slot. It stands apart, since a step would pay at each
+    // event for the room of its work.
+    #[inline(never)]
     fn begin(&mut self, h: usize)
         requires hart { h < harts_in (image_of self.old).all.schedule }
         requires between { AtHart self.old.1 h (λ x. x.slot ≡ None) }

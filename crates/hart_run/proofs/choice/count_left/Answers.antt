@@ -1,4 +1,4 @@
-use Rattle.std.proofs.Common.{◌≡◌, ◌∙◌, sym, ◌<◌, ◌≤◌, ◌+◌, arith, ap, length, List, ℕ}
+use Rattle.std.proofs.Common.{◌∙◌, sym, arith, ap, length, List, ℕ}
 use Rattle.hart_set.specs.Models.{harts_after}
 use Rattle.hart_run.specs.Order.{left}
 use Rattle.hart_run.proofs.Left.{count_more, no_more}

@@ -9,3 +9,9 @@ overflow_cast-result c =
     let is = c.self.invariant in
     let few = few_harts (image_from c.self.inside.image.now).all.schedule is.accepted.harts.few in
     omega (arith, few, c.len.ensures, is.stands.all_harts)
+
+pub returns-clause-few : goal.returns-clause-few
+returns-clause-few c =
+    let is = c.self.invariant in
+    let few = few_harts (image_from c.self.inside.image.now).all.schedule is.accepted.harts.few in
+    omega (arith, few, c.len.ensures, is.stands.all_harts)
