@@ -20,10 +20,10 @@ Joined i d zero x = Apiece i.all.hardware (own_of i d) x (alone i.all (own_of i 
 Joined i d (suc k) x = JoinedIf i d k (eqb (entry_of_slot i.all.schedule k).domain d) x
 
 module _ (i : Image) (r : Separated i) (d : ℕ) (is : IsDomain i d) where
-  leaves_as : (k : ℕ) → eqb (entry_of_slot i.all.schedule k).domain d ≡ true → outgoing i.all.schedule (suc k) ≡ Some d
+  pub leaves_as : (k : ℕ) → eqb (entry_of_slot i.all.schedule k).domain d ≡ true → outgoing i.all.schedule (suc k) ≡ Some d
   leaves_as k t = ap Some (eqb-true (entry_of_slot i.all.schedule k).domain d t)
 
-  leaves_not : (k : ℕ) → eqb (entry_of_slot i.all.schedule k).domain d ≡ false → outgoing i.all.schedule (suc k) ≢ Some d
+  pub leaves_not : (k : ℕ) → eqb (entry_of_slot i.all.schedule k).domain d ≡ false → outgoing i.all.schedule (suc k) ≢ Some d
   leaves_not k t q = true≢false (sym (eq-eqb (entry_of_slot i.all.schedule k).domain d (same_Some _ _ q)) ∙ t)
 
   module _ (h : ℕ) (w : World) where

@@ -34,7 +34,7 @@ unfolding switch_work_by leave_by prefetch_by flush_by guarded
 boot_parts i e c = refl
 
 -- prefetch and flush
-prepared : Hardware → Caches → Caches
+unfoldable pub prepared : Hardware → Caches → Caches
 prepared p c = (flush_part (hierarchy p) false (prefetch_part (hierarchy p) (region p) c).caches).caches
 
 -- nothing is dirty after the flush
@@ -71,7 +71,7 @@ module _ (p : Hardware) (o : Own) (kernel : IsKernel p o) where
       settled p o (leave_part (hierarchy p) false p.costs (layout p o) c).caches is kernel s own ∙ flush_beside p o kernel c.l2 _ _ left.caches s own
 
   -- where it enters
-  entered : (c k : Caches) → SameSets p o (prepared p c) k
+  pub entered : (c k : Caches) → SameSets p o (prepared p c) k
       → BesideTouched (hierarchy p) (own_colour o) [] (prepared p c).l2 (enter_part (hierarchy p) false (layout p o) (prepared p c))
       (enter_part (hierarchy p) true (layout p o) (record k { core = fresh_core (hierarchy p) }))
   unfolding enter_part prepared touched on_core flushed pass_on
@@ -85,11 +85,11 @@ module _ (i : Image) (r : Separated i) (d : ℕ) (is : IsDomain i d) where
   LeftDirty out c = sharing.OwnDirty (hierarchy i.all.hardware) (left_colours i out) c.core
 
   -- the caches after the leave of who was running, prefetch and flush
-  left : Option ℕ → Caches → Caches
+  unfoldable pub left : Option ℕ → Caches → Caches
   left out c = prepared i.all.hardware (leave_by (guarded i) i out c).caches
 
   -- another leaves, or nobody
-  others_left : (k : ℕ) (c : Caches) → outgoing i.all.schedule k ≢ Some d → LeftDirty (outgoing i.all.schedule k) c
+  pub others_left : (k : ℕ) (c : Caches) → outgoing i.all.schedule k ≢ Some d → LeftDirty (outgoing i.all.schedule k) c
       → SameSets i.all.hardware (own_of i d) (left (outgoing i.all.schedule k) c) c
   unfolding left leave_by guarded
   others_left zero c other dirty = prepared_others i.all.hardware (own_of i d) (kernel_of i r d is) (λ _. false) (λ colour mine. refl) c dirty
@@ -99,7 +99,7 @@ module _ (i : Image) (r : Separated i) (d : ℕ) (is : IsDomain i d) where
       (parties_of i r d e is (r.named k) (λ q. other (ap Some (sym q)))) dirty
 
   -- the domain itself
-  own_left : (k : ℕ) (c : Caches) (a : Local) → outgoing i.all.schedule k ≡ Some d → c.core ≡ a.caches.core → LeftDirty (outgoing i.all.schedule k) c
+  pub own_left : (k : ℕ) (c : Caches) (a : Local) → outgoing i.all.schedule k ≡ Some d → c.core ≡ a.caches.core → LeftDirty (outgoing i.all.schedule k) c
       → SameSets i.all.hardware (own_of i d) c a.caches
       → SameSets i.all.hardware (own_of i d) (left (outgoing i.all.schedule k) c) (alone_out i.all.hardware (own_of i d) a).caches
   unfolding left leave_by guarded

@@ -1,0 +1,2 @@
+pub mod SwitchCosts
+pub mod Uses
