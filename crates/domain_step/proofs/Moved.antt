@@ -1,7 +1,8 @@
 -- A domain in its slot, of the code and of the definitions.
-use Rattle.std.proofs.Common.{◌≡◌, ◌≢◌, ℕ, zero, suc, ◌+◌, ◌<◌, ◌≤◌, Bool, List, [], ◌∷◌, length, Option, Some, None, leb, true, false, inl, inr, refl, sym, ap, subst, ◌∙◌, arith}
+use Rattle.std.proofs.Common.{◌≡◌, ◌≢◌, ℕ, zero, suc, ◌+◌, ◌<◌, ◌≤◌, Bool, List, [], ◌∷◌, length, Option, Some, None, leb, true, false, inl, inr, refl, sym, ap, subst, ◌∙◌, arith, ltb, ◌-◌}
 use Rattle.std.specs.Prelude.{option_map, slice_get}
 use Rattle.std.proofs.lemmas.Bool.{cases_Bool, cases_lt, lt-leb}
+use Rattle.std.proofs.lemmas.Bool.Decides.{nat_tests}
 use Rattle.std.proofs.lemmas.Option.{none-some}
 use Rattle.phys_mem.specs.Contents.{Contents}
 use Rattle.irq_partition.specs.declared.Moment.{Moment}
@@ -26,7 +27,7 @@ use Rattle.kernel_call.specs.declared.domain.Domain.{Domain}
 use Rattle.kernel_call.specs.Models.{Becomes, Stands}
 use Rattle.world_view.specs.Kernel.{estate}
 use Rattle.world_view.specs.Event.{Act, instruction, interrupts_of, idle_until, delivery_touches}
-use Rattle.world_view.specs.Machine.{Setting, Local, paid, delivered, step, stretch}
+use Rattle.world_view.specs.Machine.{Setting, Local, paid, delivered, step, steps, stretch}
 use Rattle.world_view.proofs.steps.Fuel.{IsTimed, idle_past, stretch_step, stretch_done}
 use Rattle.world_view.proofs.steps.CodeLaws.{step-running, step-due, step-idle, step-still}
 use Rattle.domain_step.specs.Kept.{Fits, KeptOf}
@@ -231,6 +232,33 @@ module _ {P : Type 0} (rule : P → ℕ → Rule) (stands : P → ℕ → ℕ �
           moments = moments ∙ i.moments;
           time = omega (arith, is, i.time, base_is, kept.cost);
         })
+
+    -- a stretch of one cycle is a step
+    one_more : (w : Setting) (end : ℕ) (s : Local) → ltb s.clock end ≡ true → steps w end 1 s ≡ step w end s
+    unfolding steps
+    one_more w end s before = ap (λ (b : Bool). elim b as (λ _. Local) [ true ↦ step w end s | false ↦ s ]) before
+
+    once : (w : Setting) (s : Local) → stretch w (s.clock + 1) s ≡ step w (s.clock + 1) s
+    once w s =
+        let end : ℕ = s.clock + 1 in
+        let left : end - s.clock ≡ 1 = omega arith in
+        let test : ltb s.clock end ≡ true = grind (arith, nat_tests) in
+        ap (λ (n : ℕ). steps w end n s) left ∙ one_more w end s test
+
+    -- of a domain whose next event is an instruction, whenever its slot ends
+    pub moves_once : (now later : ℕ) → IsPlain old now
+        → Moves rule stands (λ w. stretch w (now + 1)) memory old system now memory' new system' later
+        → Moves rule stands (step_to end) memory old system now memory' new system' later
+    moves_once now later plain moves w s i =
+        let runs = running_there w memory old system now s i plain.running in
+        let none = none_there w memory old system now s i plain.none in
+        let ready = ready_there w memory old system now s i true plain.ready in
+        let same : stretch w (now + 1) s ≡ step w end s =
+        ap (λ (t : ℕ). stretch w (t + 1) s) i.time
+        ∙ once w s
+        ∙ step-running w (s.clock + 1) s runs none ready
+        ∙ sym (step-running w end s runs none ready) in
+        subst (StandsIn rule stands w memory' new system' later) same (moves w s i)
 
     -- what they stand for after some change of it
     module _ (f : Setting → Local → Local) (now later : ℕ)

@@ -456,7 +456,9 @@ pub fn step<P: Policy>(
     ensures soon { result < end + most_event }
 {
     if now < plain_until(domain, end) {
-        run(memory, core, l2, domain, now).clock
+        // One instruction, as it takes a cycle or more. So the code of an instruction
+        // stands in one place, also where slots are run whole besides.
+        stretch(memory, core, l2, domain, now, now + 1)
     } else {
         wait_or_deliver(memory, core, l2, domain, now, end)
     }

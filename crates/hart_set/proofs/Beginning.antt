@@ -34,7 +34,7 @@ use Rattle.world_view.proofs.opening.OpeningFacts.{kernel_of}
 use Rattle.world_view.proofs.runs.SwitchParts.{switch_is, caches-with, clock-with}
 use Rattle.world_view.proofs.harts.OnHart.{separated_on}
 use Rattle.world_view.proofs.harts.Events.{IsHart}
-use Rattle.world_view.proofs.harts.Runs.{Running, Next, next_so}
+use Rattle.world_view.proofs.harts.Runs.{Running, Next, next_so, progress-same}
 use Rattle.domain_step.specs.Standing.{MachineStands}
 use Rattle.machine_state.specs.Usage.{IsUsed}
 use Rattle.hart_set.specs.declared.hart.Slot.{Slot}
@@ -190,9 +190,13 @@ module _ (i : Image) (r : Runnable i) (s : Harts) (t : State) (run : Running i r
           (subst₂ (λ (z : Contents) (n : ℕ). MachineStands p (hierarchy p) false z (system core' l2') n begun.storage (caches_of h begun) (clock_of h begun))
           (sym b.memory) (sym b.clock) machine_after)
 
-      after_begin : After i r s t run is h below x got begun k true t' x'
-      unfolding switch_on with_hart
+      abbrev later : Harts
+      later = proceeds h s begun k true
+
+      after_begin : After i r s t run is h below x got later k true t' x'
+      unfolding switch_on with_hart proceeds
       after_begin = record {
+        progress = progress-same h s begun k true;
         machine = machine_there;
         slots = b.slots ∙ was.slots;
         slot = b.slot ∙ ap₂ (λ (n m : ℕ). Some (record { domain = n; end = m })) b.domain b.end;
@@ -208,11 +212,11 @@ module _ (i : Image) (r : Runnable i) (s : Harts) (t : State) (run : Running i r
         each_entry = subst (λ (n : ℕ). IsUsed t'.used.items (s.world.used ++ (place, n) ∷ [])) (sym cycles_are) (b.noted s.world.used is.each_entry);
       }
 
-      next_is : next i h s ≡ proceeds h s begun k true
+      next_is : next i h s ≡ later
       unfolding next begins
       next_is = ap (λ (c : Bool). if c then goes_on i h s else begins i h s) outside
 
       pub stands_begun : StandsFor i (next i h s) t'
       stands_begun =
           subst (λ (z : Harts). StandsFor i z t') (sym next_is)
-          (stands_next i r s t run is h below x got begun k true t' x' after_begin (subst (Next i r h s) next_is (next_so i r h below s run)))
+          (stands_next i r s t run is h below x got later k true t' x' after_begin (subst (Next i r h s) next_is (next_so i r h below s run)))

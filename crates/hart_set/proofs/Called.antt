@@ -1,8 +1,8 @@
 -- What a call finds of the hart that it names.
-use Rattle.std.proofs.Common.{◌≡◌, ◌∙◌, ℕ, ◌<◌, ◌≤◌, List, Some, [], ◌∷◌, ◌++◌, length, refl, sym, subst, arith}
+use Rattle.std.proofs.Common.{◌≡◌, ◌∙◌, ℕ, ◌<◌, ◌≤◌, List, Some, [], ◌∷◌, ◌++◌, replicate, length, refl, sym, subst, arith}
 use Rattle.std.specs.Prelude.{slice_get, slice_index_or}
 use Rattle.std.proofs.lemmas.Option.{slice_get_read, same_Some}
-use Rattle.std.proofs.lemmas.List.Elements.{All-push}
+use Rattle.std.proofs.lemmas.List.Elements.{All-append, All-replicate}
 use Rattle.image_record.specs.Record.{Raw}
 use Rattle.sched_table.specs.Schedule.{harts_in}
 use Rattle.image_check.specs.Image.{Image, image_from}
@@ -16,6 +16,7 @@ use Rattle.hart_set.specs.declared.hart.Hart.{Hart as CodeHart}
 use Rattle.hart_set.specs.declared.set.State.{State}
 use Rattle.hart_set.specs.Standing.{StandsFor, HartStands, AtHart, IsInBounds}
 use Rattle.hart_set.specs.Reached.{IsReached}
+use Rattle.hart_set.specs.Slots.{EndsSlot}
 use Rattle.hart_set.specs.Models.{image_of}
 
 pub record Called (i : Image) (t : State) (h : ℕ) (x : CodeHart) : Type 0 where
@@ -26,6 +27,10 @@ pub record Called (i : Image) (t : State) (h : ℕ) (x : CodeHart) : Type 0 wher
 -- whatever the order before, it stands for the harts after one event more
 abbrev pub NextStands : Image → ℕ → State → State → Type 0
 NextStands i h t t' = (order : List ℕ) → AreHartsOf i order → StandsFor i (harts i order) t → StandsFor i (harts i (order ++ h ∷ [])) t'
+
+-- and after as many more as end a slot
+abbrev pub SlotEnds : Image → ℕ → State → State → Type 0
+SlotEnds i h t t' = (order : List ℕ) → AreHartsOf i order → StandsFor i (harts i order) t → EndsSlot i order h t'
 
 module _ (image : Raw) (t : State) (v : Raw × State) (view : (image, t) ≡ v) where
   -- what the value says is so of what stands inside, and back
@@ -59,9 +64,9 @@ module _ (image : Raw) (t : State) (v : Raw × State) (view : (image, t) ≡ v) 
   for_hart h x Q got is =
       subst (λ (u : Raw × State). AtHart u.1 h (Q (image_of u))) view (λ y at. subst (Q (image_from image)) (same_Some x y (sym got ∙ at)) is)
 
-  -- what an event of it leaves
-  pub value_next : (h : ℕ) (t' : State) → NextStands (image_from image) h t t' → NextStands (image_of v) h v.1 t'
-  value_next h t' next_stands = subst (λ (u : Raw × State). NextStands (image_of u) h u.1 t') view next_stands
+  -- and what holds of the state too
+  pub to_value : (P : Image → State → Type 0) → P (image_from image) t → P (image_of v) v.1
+  to_value P is = subst (λ (u : Raw × State). P (image_of u) u.1) view is
 
 -- the code's domain of this number
 pub domain_read : (i : Image) (t : State) → IsReached i t → (d : ℕ) → IsDomain i d → (n : ℕ) (y : Domain) → n ≡ d → y ≡ slice_index_or t.domains.items n y
@@ -83,16 +88,25 @@ module _ (i : Image) (t : State) (h : ℕ) (x : CodeHart) (c : Called i t h x) w
   pub few : slots_of h s ≤ 65536
   few = let most = c.reached.in_bounds.few_slots h x c.got in let same = its.slots in omega (arith, most, same)
 
+  -- after events of it
+  pub own_more : (order : List ℕ) (n : ℕ) → AreHartsOf i order → AreHartsOf i (order ++ replicate n h)
+  own_more order n of_harts =
+      let IsHartOf : ℕ → Type 0 = λ g. g < harts_in i.all.schedule in
+      All-append IsHartOf order (replicate n h) of_harts (All-replicate IsHartOf n h c.below)
+
+  pub reached_after : (t' : State) (n : ℕ) → StandsFor i (harts i (c.reached.order ++ replicate n h)) t' → IsInBounds i t' → IsReached i t'
+  reached_after t' n stands bounds = record {
+    accepted = c.reached.accepted;
+    order = c.reached.order ++ replicate n h;
+    of_harts = own_more c.reached.order n c.reached.of_harts;
+    stands = stands;
+    in_bounds = bounds;
+  }
+
   -- after an event of it, whatever the order before
   module _ (t' : State) (next_stands : (order : List ℕ) → AreHartsOf i order → StandsFor i (harts i order) t → StandsFor i (next i h (harts i order)) t') where
     pub pushed : NextStands i h t t'
     pushed order of_harts stands = subst (λ (z : Harts). StandsFor i z t') (sym (next_law i order h)) (next_stands order of_harts stands)
 
     pub reached_next : IsInBounds i t' → IsReached i t'
-    reached_next bounds = record {
-      accepted = c.reached.accepted;
-      order = c.reached.order ++ h ∷ [];
-      of_harts = All-push (λ (g : ℕ). g < harts_in i.all.schedule) c.reached.order h c.reached.of_harts c.below;
-      stands = pushed c.reached.order c.reached.of_harts c.reached.stands;
-      in_bounds = bounds;
-    }
+    reached_next bounds = reached_after t' 1 (pushed c.reached.order c.reached.of_harts c.reached.stands) bounds

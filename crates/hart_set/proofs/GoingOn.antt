@@ -1,16 +1,18 @@
--- One event of the domain whose slot a hart is in, as the code finds and leaves it.
-use Rattle.std.proofs.Common.{false, ◌≡◌, ◌∙◌, ℕ, ◌^◌, ◌<◌, ◌≤◌, List, Option, Some, length, ◌⊎◌, inl, inr, sym, ap, subst, arith}
+-- Events of the domain whose slot a hart is in, as the code finds and leaves it.
+use Rattle.std.proofs.Common.{true, false, ◌≡◌, ◌∙◌, ℕ, ◌^◌, ◌<◌, ◌≤◌, List, ◌++◌, replicate, Option, Some, length, ◌⊎◌, inl, inr, sym, ap, subst, arith}
 use Rattle.std.specs.Prelude.{slice_get, slice_index_or}
 use Rattle.repl_policy.specs.Members.{any_rule, any_stands_for}
 use Rattle.mem_system.specs.Contents.{system}
 use Rattle.image_check.specs.Image.{Image, own_of}
 use Rattle.kernel_call.specs.declared.domain.Domain.{Domain}
 use Rattle.kernel_call.specs.Models.{CountsUpTo}
-use Rattle.world_view.specs.Machine.{setting, step, part_of}
-use Rattle.world_view.specs.Harts.{harts, next, domain_in, slots_of, hart_of_domain}
+use Rattle.world_view.specs.Machine.{Local, Setting, setting, step, stretch, part_of}
+use Rattle.world_view.specs.Harts.{Harts, Progress, harts, next, after, domain_in, progress_of, slots_of, hart_of_domain}
 use Rattle.world_view.specs.HartLaws.{AreHartsOf}
 use Rattle.world_view.proofs.harts.OnHart.{hart_is}
+use Rattle.world_view.proofs.harts.Runs.{Running}
 use Rattle.world_view.proofs.harts.Isolation.{running}
+use Rattle.world_view.proofs.harts.Clocks.{hart_between}
 use Rattle.domain_step.specs.Moves.{Moves, Runs}
 use Rattle.machine_state.proofs.Elements.{each_set_kept}
 use Rattle.hart_set.specs.declared.hart.Slot.{Slot}
@@ -19,8 +21,9 @@ use Rattle.hart_set.specs.declared.set.State.{State}
 use Rattle.hart_set.specs.Standing.{StandsFor, IsInBounds}
 use Rattle.hart_set.specs.Reached.{IsReached}
 use Rattle.hart_set.proofs.Bounds.{IsCounted, end_soon, in_bounds_next}
-use Rattle.hart_set.proofs.Called.{Called, NextStands, domain_read, s, run, its, few, pushed, reached_next}
-use Rattle.hart_set.proofs.Running.{StepEnd, Stepped, GoesOn, IsOver, at, slot_domain, early, begun, stands_stepped}
+use Rattle.hart_set.proofs.Called.{Called, NextStands, SlotEnds, domain_read, s, run, its, few, pushed, own_more, reached_after, reached_next}
+use Rattle.hart_set.proofs.Through.{Ran, one_event, whole, harts_appended}
+use Rattle.hart_set.proofs.Running.{StepEnd, Stepped, GoesOn, IsOver, at, far, slot_domain, early, begun, stands_stepped}
 
 module _ (i : Image) (t : State) (h : ℕ) (x : CodeHart) (c : Called i t h x) (slot : Slot) (inside : x.slot ≡ Some slot) where
   pub domain_there : slot.domain < length t.domains.items
@@ -35,6 +38,10 @@ module _ (i : Image) (t : State) (h : ℕ) (x : CodeHart) (c : Called i t h x) (
       let r = c.reached.accepted in
       let named = slot_domain i r (s i t h x c) t (run i t h x c) c.reached.stands h c.below x c.got slot inside in
       domain_read i t c.reached slot.domain named n y same read
+
+  -- any harts that it stands for are in that slot of the hart
+  far_in : (u : Harts) → Running i c.reached.accepted u → StandsFor i u t → progress_of h u ≡ record { slots = slots_of h u; inside = true }
+  far_in u running_u stands = far i c.reached.accepted u t running_u stands h c.below x c.got slot inside
 
   pub before : x.clock < slot.end
   before = early i c.reached.accepted (s i t h x c) t (run i t h x c) c.reached.stands h c.below x c.got slot inside
@@ -71,17 +78,9 @@ module _ (i : Image) (t : State) (h : ℕ) (x : CodeHart) (c : Called i t h x) (
     pub counted_here : CountsUpTo x.clock y
     counted_here = c.reached.in_bounds.few_calls slot.domain y got_y x (subst (λ (g : ℕ). slice_get t.harts.items g ≡ Some x) (sym home) c.got)
 
-    module _ (z : StepEnd) (moved : Moves any_rule any_stands_for (λ w. step w slot.end) t.memory y (system x.core t.l2) x.clock
-        z.memory z.domain (system z.core z.l2) z.clock) (t' : State) (x' : CodeHart) (which : GoesOn t h x slot z t' x' ⊎ IsOver t h x slot z t' x') where
-      stands_next : (order : List ℕ) → AreHartsOf i order → StandsFor i (harts i order) t → StandsFor i (next i h (harts i order)) t'
-      stands_next order of_harts stands =
-          let r = c.reached.accepted in
-          stands_stepped i r (harts i order) t (running i r order of_harts) stands h c.below x c.got slot inside y got_y
-          z.memory z.core z.l2 z.domain z.clock moved t' x' which
+    -- ---- what it leaves: one event, or all up to the slot's end
 
-      pub gone_on : NextStands i h t t'
-      gone_on = pushed i t h x c t' stands_next
-
+    module _ (z : StepEnd) (t' : State) (x' : CodeHart) (which : GoesOn t h x slot z t' x' ⊎ IsOver t h x slot z t' x') where
       module _ (not_last : x.slots < 65536) (counted : CountsUpTo z.clock z.domain) (later : x.clock < z.clock) where
         bounds_if : {m : ℕ} {o : Option Slot} → m ≤ 65536 → Stepped t h slot.domain z m o t' x' → IsInBounds i t'
         bounds_if most kept =
@@ -98,5 +97,56 @@ module _ (i : Image) (t : State) (h : ℕ) (x : CodeHart) (c : Called i t h x) (
         bounds_of (inl on) = bounds_if (omega (arith, not_last)) on.kept
         bounds_of (inr over) = bounds_if (omega (arith, not_last)) over.kept
 
-        pub reached_on : IsReached i t'
-        reached_on = reached_next i t h x c t' stands_next (bounds_of which)
+        bounds : IsInBounds i t'
+        bounds = bounds_of which
+
+      -- any harts that it stood for: it stands for what f makes of them
+      now_stands : (f : Setting → ℕ → Local → Local)
+          → Moves any_rule any_stands_for (λ w. f w slot.end) t.memory y (system x.core t.l2) x.clock z.memory z.domain (system z.core z.l2) z.clock
+          → (u later : Harts) (running_u : Running i c.reached.accepted u) → StandsFor i u t
+          → Ran i c.reached.accepted h (slots_of h u) f u later → StandsFor i later t'
+      now_stands f moved u later running_u stands ran =
+          stands_stepped i c.reached.accepted u t running_u stands h c.below x c.got slot inside y got_y f z moved later ran t' x' which
+
+      -- ---- one event
+
+      module _ (moved : Moves any_rule any_stands_for (λ w. step w slot.end) t.memory y (system x.core t.l2) x.clock
+          z.memory z.domain (system z.core z.l2) z.clock) where
+        stands_next : (order : List ℕ) → AreHartsOf i order → StandsFor i (harts i order) t → StandsFor i (next i h (harts i order)) t'
+        stands_next order of_harts stands =
+            let r = c.reached.accepted in
+            let u = harts i order in
+            let so = running i r order of_harts in
+            now_stands step moved u (next i h u) so stands (one_event i r h c.below (slots_of h u) u so (far_in u so stands))
+
+        pub gone_on : NextStands i h t t'
+        gone_on = pushed i t h x c t' stands_next
+
+        pub reached_on : x.slots < 65536 → CountsUpTo z.clock z.domain → x.clock < z.clock → IsReached i t'
+        reached_on not_last counted later = reached_next i t h x c t' stands_next (bounds not_last counted later)
+
+      -- ---- all up to the slot's end
+
+      module _ (moved : Moves any_rule any_stands_for (λ w. stretch w slot.end) t.memory y (system x.core t.l2) x.clock
+          z.memory z.domain (system z.core z.l2) z.clock) where
+        pub gone_through : SlotEnds i h t t'
+        gone_through order of_harts stands =
+            let r = c.reached.accepted in
+            let u = harts i order in
+            let so = running i r order of_harts in
+            let all = whole i r h c.below (slots_of h u) u so (far_in u so stands) in
+            let more = replicate all.events h in
+            let same : harts i (order ++ more) ≡ after i more u = harts_appended i order more in
+            let ended = ap (progress_of h) same ∙ all.ran.over all.past in
+            record {
+              events = all.events;
+              stands = subst (λ (v : Harts). StandsFor i v t') (sym same) (now_stands stretch moved u (after i more u) so stands all.ran);
+              slots = ap (λ (q : Progress). q.slots) ended;
+              between =
+                  hart_between i h (order ++ more) r (own_more i t h x c order all.events of_harts) c.below (ap (λ (q : Progress). q.inside) ended);
+            }
+
+        pub reached_through : x.slots < 65536 → CountsUpTo z.clock z.domain → x.clock < z.clock → IsReached i t'
+        reached_through not_last counted later =
+            let ends = gone_through c.reached.order c.reached.of_harts c.reached.stands in
+            reached_after i t h x c t' ends.events ends.stands (bounds not_last counted later)

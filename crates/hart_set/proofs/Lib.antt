@@ -1,4 +1,5 @@
 pub mod Others
+pub mod Through
 pub mod Running
 pub mod Beginning
 pub mod Bounds

@@ -1,7 +1,8 @@
 -- The switch into a hart's next slot, as the code finds and leaves it.
-use Rattle.std.proofs.Common.{◌≡◌, ◌∙◌, ℕ, ◌+◌, ◌^◌, ◌<◌, ◌≤◌, max, List, [], ◌∷◌, ◌++◌, Option, Some, None, option_map, length, inr, ap, ap₂, subst, arith}
+use Rattle.std.proofs.Common.{◌≡◌, ◌∙◌, ℕ, suc, ◌+◌, ◌^◌, ◌<◌, ◌≤◌, max, List, [], ◌∷◌, ◌++◌, replicate, append_assoc, Option, Some, None, option_map, length, inr, sym, ap, ap₂, subst, arith}
 use Rattle.std.specs.Prelude.{slice_get, IfSome}
 use Rattle.std.proofs.Math.ListN.{set}
+use Rattle.std.proofs.lemmas.List.Elements.{All-push}
 use Rattle.phys_mem.specs.Mem.{Mem}
 use Rattle.repl_policy.specs.declared.AnyPolicy.{AnyPolicy}
 use Rattle.repl_policy.specs.Members.{any_rule, any_stands_for}
@@ -15,15 +16,15 @@ use Rattle.cache_sharing.specs.Operations as operations
 use Rattle.domain_switch.specs.Switch.{IsSwitched, IsCloneOn, layout_if}
 use Rattle.sched_table.specs.declared.schedule.Entry.{Entry}
 use Rattle.sched_table.specs.declared.schedule.Turn.{Turn}
-use Rattle.sched_table.specs.Schedule.{switch_entry, last_end, outgoing, on_hart, place_on}
+use Rattle.sched_table.specs.Schedule.{harts_in, switch_entry, last_end, outgoing, on_hart, place_on}
 use Rattle.image_check.specs.Image.{Image, own_of}
 use Rattle.kernel_call.specs.declared.domain.Domain.{Domain}
 use Rattle.world_view.specs.Kernel.{layout}
 use Rattle.world_view.specs.Machine.{clone_of}
 use Rattle.world_view.specs.Relations.{IsDomain}
-use Rattle.world_view.specs.Harts.{image_on, harts, next, slots_of}
-use Rattle.world_view.specs.HartLaws.{AreHartsOf}
-use Rattle.world_view.proofs.harts.Isolation.{running}
+use Rattle.world_view.specs.Harts.{image_on, harts, next, progress_of, slots_of}
+use Rattle.world_view.specs.HartLaws.{AreHartsOf, IsBetween}
+use Rattle.world_view.proofs.harts.Isolation.{running, next_law}
 use Rattle.world_view.proofs.harts.Runs.{Running}
 use Rattle.machine_state.specs.Usage.{IsUsed, CountedUpTo}
 use Rattle.hart_set.specs.declared.hart.Slot.{Slot}
@@ -33,7 +34,9 @@ use Rattle.hart_set.specs.Standing.{StandsFor}
 use Rattle.hart_set.specs.Reached.{IsReached}
 use Rattle.hart_set.specs.Turns.{IsTurn}
 use Rattle.hart_set.proofs.Bounds.{clock_fits, counted, in_bounds_next}
-use Rattle.hart_set.proofs.Called.{Called, NextStands, s, run, its, few, pushed, reached_next}
+use Rattle.hart_set.proofs.Others.{in_none}
+use Rattle.hart_set.proofs.Through.{slots_begun}
+use Rattle.hart_set.proofs.Called.{Called, NextStands, SlotEnds, s, run, its, few, pushed, reached_next}
 use Rattle.hart_set.proofs.Beginning.{clone_on, leaves_on, ended, Switching, stands_begun}
 
 module _ (i : Image) (t : State) (h : ℕ) (x : CodeHart) (c : Called i t h x) where
@@ -157,3 +160,22 @@ module _ (i : Image) (t : State) (h : ℕ) (x : CodeHart) (c : Called i t h x) (
           reached_next i t h x c t' stands_entered
           (in_bounds_next i t t' h x x' c.got c.reached.in_bounds (omega (arith, not_last, slots)) (omega (arith, later, clock, wait)) left.harts
           (λ d v got_d. inr (subst (λ (ys : List Domain). slice_get ys d ≡ Some v) left.domains got_d)))
+
+-- ---- and then the slot, to its end
+
+pub through_begun : (i : Image) (t t' later : State) (h : ℕ) (x : CodeHart) → h < harts_in i.all.schedule
+    → slice_get t.harts.items h ≡ Some x → x.slot ≡ None
+    → NextStands i h t t' → SlotEnds i h t' later → SlotEnds i h t later
+through_begun i t t' later h x below got between begins ends order of_harts stands =
+    let s = harts i order in
+    let begun = order ++ h ∷ [] in
+    let outside = in_none (progress_of h s).inside _ _ (sym between ∙ (stands.each_hart h x got).slot) in
+    let slots : slots_of h (harts i begun) ≡ slots_of h s = ap (slots_of h) (next_law i order h) ∙ slots_begun i h s outside in
+    let rest = ends begun (All-push (λ (g : ℕ). g < harts_in i.all.schedule) order h of_harts below) (begins order of_harts stands) in
+    let all : begun ++ replicate rest.events h ≡ order ++ replicate (suc rest.events) h = append_assoc order (h ∷ []) (replicate rest.events h) in
+    record {
+      events = suc rest.events;
+      stands = subst (λ (o : List ℕ). StandsFor i (harts i o) later) all rest.stands;
+      slots = ap (λ (o : List ℕ). slots_of h (harts i o)) (sym all) ∙ rest.slots ∙ ap suc slots;
+      between = subst (λ (o : List ℕ). IsBetween i h (harts i o)) all rest.between;
+    }

@@ -1,5 +1,6 @@
 pub mod Turns
 pub mod Standing
 pub mod Reached
+pub mod Slots
 pub mod Models
 pub mod Cold

@@ -25,6 +25,15 @@ pub enum Order {
     Drawn(Lcg64Xsh32),
 }
 
+/// How far a hart goes at a time.
+#[derive(Clone, Copy)]
+pub enum Stride {
+    /// One event.
+    Event,
+    /// To the end of a slot.
+    Slot,
+}
+
 impl Order {
     /// The order that a seed draws.
     pub fn drawn(seed: u64) -> Self {
@@ -56,7 +65,7 @@ impl Order {
 }
 
 /// Runs the harts in this order until each has had so many slots, 65,536 at most.
-pub fn run(rt: &impl Abort, harts: &mut HartSet<'_>, slots: u32, mut order: Order)
+pub fn run(rt: &impl Abort, harts: &mut HartSet<'_>, slots: u32, mut order: Order, stride: Stride)
     ensures image { harts.new.0 ≡ harts.old.0 }
 {
     for _ in 0..EVENTS {
@@ -64,7 +73,10 @@ pub fn run(rt: &impl Abort, harts: &mut HartSet<'_>, slots: u32, mut order: Orde
             return;
         };
         assert!(rt; h < harts.harts() && harts.slots(h) < 65536);
-        harts.step(h);
+        match stride {
+            Stride::Event => harts.step(h),
+            Stride::Slot => harts.run_slot(h),
+        }
     }
     assert_eq!(rt; order.next(harts, slots), None);
 }
@@ -77,6 +89,6 @@ pub fn sections_after(
     order: Order,
 ) -> Result<String, Fail> {
     let mut harts = HartSet::load(alloc, image)?;
-    run(rt, &mut harts, 2, order);
+    run(rt, &mut harts, 2, order, Stride::Event);
     sections(alloc, image, &harts)
 }

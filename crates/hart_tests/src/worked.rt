@@ -1,7 +1,7 @@
 // Two domains, each on a hart of its own and counted by hand: each reads the clock
 // before and after it prints.
 use crate::images::{on_harts, sections, sections_alone, without_last};
-use crate::orders::{Order, run, sections_after};
+use crate::orders::{Order, Stride, run, sections_after};
 use hart_set::HartSet;
 use image_check::Checked;
 use std::alloc::Global;
@@ -93,9 +93,10 @@ fn ran(
     image: &Checked,
     slots: u32,
     order: Order,
+    stride: Stride,
 ) -> Result<(String, (Used, Used)), Fail> {
     let mut harts = HartSet::load(alloc, image)?;
-    run(rt, &mut harts, slots, order);
+    run(rt, &mut harts, slots, order, stride);
     assert_eq!(rt; harts.all_used().len(), 2);
     let used = (harts.used(0), harts.used(1));
     Ok((sections(alloc, image, &harts)?, used))
@@ -106,7 +107,7 @@ fn ran(
 fn the_least_clock_goes_first(rt: HostRuntime) -> Result<(), Fail> {
     let alloc = rt.alloc();
     let image = on_harts(alloc, IMAGE, 2)?;
-    let (text, used) = ran(&rt, alloc, &image, 2, Order::LeastClock)?;
+    let (text, used) = ran(&rt, alloc, &image, 2, Order::LeastClock, Stride::Event)?;
     assert_eq!(rt; text.as_str(), SECTIONS);
     assert_eq!(rt; used, (took(755, 2), took(580, 2)));
     Ok(())
@@ -132,11 +133,24 @@ fn the_first_boot_takes_longest(rt: HostRuntime) -> Result<(), Fail> {
     let image = on_harts(alloc, IMAGE, 2)?;
     let (cold, warm) = (took(755, 1), took(435, 1));
     for (first, boots) in [(0, (cold, warm)), (1, (warm, cold))] {
-        let (_, used) = ran(&rt, alloc, &image, 1, Order::OneByOne(first))?;
+        let order = Order::OneByOne(first);
+        let (_, used) = ran(&rt, alloc, &image, 1, order, Stride::Event)?;
         assert_eq!(rt; used, boots, "hart {first} first");
         let found = sections_after(&rt, alloc, &image, Order::OneByOne(first))?;
         assert_eq!(rt; found.as_str(), SECTIONS, "hart {first} first");
     }
+    Ok(())
+}
+
+// A slot at a time, with hart 0 first, they come to what they do by the least clock.
+#[test]
+fn whole_slots_come_to_the_same(rt: HostRuntime) -> Result<(), Fail> {
+    let alloc = rt.alloc();
+    let image = on_harts(alloc, IMAGE, 2)?;
+    let order = Order::OneByOne(0);
+    let (text, used) = ran(&rt, alloc, &image, 2, order, Stride::Slot)?;
+    assert_eq!(rt; text.as_str(), SECTIONS);
+    assert_eq!(rt; used, (took(755, 2), took(580, 2)));
     Ok(())
 }
 

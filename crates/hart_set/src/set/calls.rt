@@ -3,7 +3,7 @@ use super::{HartSet, State};
 use crate::cold::{cold_harts, cold_l2};
 use crate::hart::Slot;
 use domain_open::{load_pages, open_all};
-use domain_step::step;
+use domain_step::{step, stretch};
 use domain_switch::switch;
 use image_check::Checked;
 use kernel_clone::CloneLayout;
@@ -29,6 +29,7 @@ impl<'a> HartSet<'a> {
     ghost use Rattle.world_view.specs.Harts.{image_on};
     ghost use Rattle.world_view.specs.HartLaws.{AreHartsOf};
     ghost use Rattle.hart_set.specs.Standing.{StandsFor, AtHart};
+    ghost use Rattle.hart_set.specs.Slots.{EndsSlot};
     ghost use Rattle.hart_set.specs.Models.{image_of, entries_of, harts_after, StandsAfter};
 
     /// An image's harts before their first event. All that they will need is allocated
@@ -106,14 +107,34 @@ impl<'a> HartSet<'a> {
         let at = usize::from(h);
         match self.state.harts[at].slot {
             Some(slot) => self.go_on(at, slot),
-            None => self.begin(at),
+            None => {
+                self.begin(at);
+            }
         }
     }
 
-    // The switch into a hart's next slot. It stands apart, since a step would pay at each
-    // event for the room of its work.
+    /// Runs a hart to the end of the slot that it is in, or of its next one where it is in
+    /// none: events of it, none of another's between them. Never allocates.
+    pub fn run_slot(&mut self, h: u8)
+        requires hart { h < harts_in (image_of self.old).all.schedule }
+        requires slots { AtHart self.old.1 h (λ x. x.slots < 65536) }
+        ensures image { self.new.0 ≡ self.old.0 }
+        ensures ends { (order : List ℕ) → AreHartsOf (image_of self.old) order
+            → StandsFor (image_of self.old) (spec.harts (image_of self.old) order) self.old.1
+            → EndsSlot (image_of self.old) order h self.new.1 }
+    {
+        let at = usize::from(h);
+        let slot = match self.state.harts[at].slot {
+            Some(slot) => slot,
+            None => self.begin(at),
+        };
+        self.go_through(at, slot);
+    }
+
+    // The switch into a hart's next slot, which it answers. It stands apart, since a step
+    // would pay at each event for the room of its work.
     #[inline(never)]
-    fn begin(&mut self, h: usize)
+    fn begin(&mut self, h: usize) -> Slot
         requires hart { h < harts_in (image_of self.old).all.schedule }
         requires between { AtHart self.old.1 h (λ x. x.slot ≡ None) }
         requires slots { AtHart self.old.1 h (λ x. x.slots < 65536) }
@@ -121,6 +142,8 @@ impl<'a> HartSet<'a> {
         ensures next { (order : List ℕ) → AreHartsOf (image_of self.old) order
             → StandsFor (image_of self.old) (spec.harts (image_of self.old) order) self.old.1
             → StandsFor (image_of self.old) (spec.harts (image_of self.old) (order ++ h ∷ [])) self.new.1 }
+        ensures inside { AtHart self.new.1 h (λ x. x.slot ≡ Some result) }
+        ensures slots { AtHart self.new.1 h (λ x. x.slots < 65536) }
     {
         let turn = self.next_turn(h);
         let out = self.outgoing(h, turn.ended);
@@ -137,16 +160,18 @@ impl<'a> HartSet<'a> {
             turn.start,
             calls,
         );
-        hart.clock = switched.now;
-        hart.slot = Some(Slot {
+        let slot = Slot {
             domain: turn.entry.domain,
             end: turn.start + u64::from(turn.entry.length),
-        });
+        };
+        hart.clock = switched.now;
+        hart.slot = Some(slot);
         note_switch(
             self.state.used.as_mut_slice(),
             turn.place as usize,
             switched.used,
         );
+        slot
     }
 
     // One event of the domain whose slot a hart is in.
@@ -172,6 +197,29 @@ impl<'a> HartSet<'a> {
             hart.slots += 1;
             hart.slot = None;
         }
+    }
+
+    // What is left of the slot that a hart is in.
+    fn go_through(&mut self, h: usize, slot: Slot)
+        requires hart { h < harts_in (image_of self.old).all.schedule }
+        requires inside { AtHart self.old.1 h (λ x. x.slot ≡ Some slot) }
+        requires slots { AtHart self.old.1 h (λ x. x.slots < 65536) }
+        ensures image { self.new.0 ≡ self.old.0 }
+        ensures ends { (order : List ℕ) → AreHartsOf (image_of self.old) order
+            → StandsFor (image_of self.old) (spec.harts (image_of self.old) order) self.old.1
+            → EndsSlot (image_of self.old) order h self.new.1 }
+    {
+        let hart = &mut self.state.harts[h];
+        hart.clock = stretch(
+            &mut self.state.memory,
+            &mut hart.core,
+            &mut self.state.l2,
+            &mut self.state.domains[usize::from(slot.domain)],
+            hart.clock,
+            slot.end,
+        );
+        hart.slots += 1;
+        hart.slot = None;
     }
 
     // What a hart's next switch goes by, and its next slot.

@@ -14,7 +14,7 @@ use Rattle.machine_state.proofs.SwitchCounts.{noted_back, length_back}
 use Rattle.hart_set.specs.declared.hart.Hart.{Hart}
 use Rattle.hart_set.specs.declared.set.State.{State}
 use Rattle.hart_set.specs.Turns.{IsTurn}
-use Rattle.hart_set.proofs.Called.{Called, called, at_hart, value_at, of_image, value_next, domain_read}
+use Rattle.hart_set.proofs.Called.{Called, NextStands, called, at_hart, value_at, of_image, to_value, domain_read}
 use Rattle.hart_set.proofs.Starting.{clock_early, out_on, into_on, counted_few, late, Switched, Entered, entered, reached_entered}
 use Rattle.hart_set.proofs.set.HartSet.begin.Goals as goal
 
@@ -115,23 +115,27 @@ note_switch-requires-clause-few c =
 
 -- ---- what it leaves
 
-here : (c : goal.After-self-2-1) → Called (image_from c.self.inside.image.now) c.self.inside.state c.args.h c.index_mut-hart.result.now
+-- where the call ends
+abbrev AtEnd : Type 0
+AtEnd = goal.After-self-2-1
+
+here : (c : AtEnd) → Called (image_from c.self.inside.image.now) c.self.inside.state c.args.h c.index_mut-hart.result.now
 here c =
     called c.self.inside.image.now c.self.inside.state c.args.self.now c.self.view_is c.args.h c.requires.hart c.self.invariant
     c.index_mut-hart.result.now c.index_mut-hart.ensures.value
 
-outside : (c : goal.After-self-2-1) → c.index_mut-hart.result.now.slot ≡ None
+outside : (c : AtEnd) → c.index_mut-hart.result.now.slot ≡ None
 outside c =
     at_hart c.self.inside.image.now c.self.inside.state c.args.self.now c.self.view_is c.args.h c.index_mut-hart.result.now
     (λ x. x.slot ≡ None) (here c).got c.requires.between
 
-turn_here : (c : goal.After-self-2-1)
+turn_here : (c : AtEnd)
     → IsTurn (on_hart (image_from c.self.inside.image.now).all.schedule c.args.h) c.index_mut-hart.result.now.slots c.next_turn-turn.result
 turn_here c =
     value_at c.self.inside.image.now c.self.inside.state c.args.self.now c.self.view_is c.args.h c.index_mut-hart.result.now
     (λ (i : Image) (x : Hart). IsTurn (on_hart i.all.schedule c.args.h) x.slots c.next_turn-turn.result) (here c).got c.next_turn-turn.ensures.turn
 
-leaves_here : (c : goal.After-self-2-1) → option_map layout_model (option_copied c.as_ref.result)
+leaves_here : (c : AtEnd) → option_map layout_model (option_copied c.as_ref.result)
     ≡ clone_of (image_on (image_from c.self.inside.image.now) c.args.h)
     (outgoing (on_hart (image_from c.self.inside.image.now).all.schedule c.args.h) c.index_mut-hart.result.now.slots)
 leaves_here c =
@@ -140,17 +144,17 @@ leaves_here c =
     (λ (i : Image) (x : Hart). option_map layout_model c.outgoing-out.result ≡ clone_of (image_on i c.args.h) (outgoing (on_hart i.all.schedule c.args.h) x.slots))
     (here c).got c.outgoing-out.ensures.clone
 
-named_here : (c : goal.After-self-2-1) → IsDomain (image_from c.self.inside.image.now) c.next_turn-turn.result.entry.domain
+named_here : (c : AtEnd) → IsDomain (image_from c.self.inside.image.now) c.next_turn-turn.result.entry.domain
 named_here c =
     of_image c.self.inside.image.now c.self.inside.state c.args.self.now c.self.view_is
     (λ (i : Image). IsDomain i c.next_turn-turn.result.entry.domain) c.next_turn-turn.ensures.domain
 
-got_here : (c : goal.After-self-2-1) → slice_get c.self.inside.state.domains.items c.next_turn-turn.result.entry.domain ≡ Some c.index.result.now
+got_here : (c : AtEnd) → slice_get c.self.inside.state.domains.items c.next_turn-turn.result.entry.domain ≡ Some c.index.result.now
 got_here c =
     domain_read (image_from c.self.inside.image.now) c.self.inside.state c.self.invariant c.next_turn-turn.result.entry.domain (named_here c)
     c.from-d.result c.index.result.now c.from-d.ensures c.index.ensures
 
-abbrev hart_after : (c : goal.After-self-2-1) → Hart
+abbrev hart_after : (c : AtEnd) → Hart
 hart_after c = record {
   core = c.switch-switched.new.core;
   clock = c.switch-switched.result.now;
@@ -158,7 +162,7 @@ hart_after c = record {
   slot = Some (record { domain = c.next_turn-turn.result.entry.domain; end = c.next_turn-turn.result.start + c.from-2.result });
 }
 
-abbrev after : (c : goal.After-self-2-1) → State
+abbrev after : (c : AtEnd) → State
 after c = record {
   memory = c.self.inside.state.memory;
   l2 = c.switch-switched.new.l2;
@@ -167,7 +171,7 @@ after c = record {
   used = with_items c.self.inside.state.used c.note_switch.new.used;
 }
 
-switched : (c : goal.After-self-2-1)
+switched : (c : AtEnd)
     → Switched (image_from c.self.inside.image.now) c.self.inside.state c.args.h c.index_mut-hart.result.now
     (here c) (outside c) c.next_turn-turn.result (turn_here c) (option_copied c.as_ref.result) c.index.result.now.layout
     c.switch-switched.new.core c.switch-switched.new.l2 c.switch-switched.result.used c.switch-switched.result.now
@@ -179,7 +183,7 @@ switched c = record {
   kept = c.switch-switched.ensures.kept;
 }
 
-kept : (c : goal.After-self-2-1)
+kept : (c : AtEnd)
     → Entered (image_from c.self.inside.image.now) c.self.inside.state c.args.h c.index_mut-hart.result.now
     (here c) (outside c) c.next_turn-turn.result (turn_here c)
     c.switch-switched.new.core c.switch-switched.new.l2 c.switch-switched.result.used c.switch-switched.result.now (after c) (hart_after c)
@@ -223,7 +227,7 @@ invariant_of-self c =
 
 pub returns-clause-next : goal.returns-clause-next
 returns-clause-next c =
-    value_next c.self.inside.image.now c.self.inside.state c.args.self.now c.self.view_is c.args.h (after c)
+    to_value c.self.inside.image.now c.self.inside.state c.args.self.now c.self.view_is (λ (i : Image) (u : State). NextStands i c.args.h u (after c))
     (entered (image_from c.self.inside.image.now) c.self.inside.state c.args.h c.index_mut-hart.result.now
     (here c) (outside c) c.next_turn-turn.result (turn_here c) (option_copied c.as_ref.result) c.index.result.now (got_here c) (leaves_here c)
     c.switch-switched.new.core c.switch-switched.new.l2 c.switch-switched.result.used c.switch-switched.result.now (switched c) (after c) (hart_after c) (kept c))

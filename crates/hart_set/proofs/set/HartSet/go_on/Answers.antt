@@ -5,13 +5,12 @@ use Rattle.hart_set.specs.declared.hart.Hart.{Hart}
 use Rattle.hart_set.specs.declared.set.State.{State}
 use Rattle.hart_set.specs.Reached.{IsReached}
 use Rattle.hart_set.specs.Models.{image_of}
-use Rattle.hart_set.proofs.Called.{Called, NextStands, called, at_hart, value_next}
+use Rattle.hart_set.proofs.Called.{Called, NextStands, called, at_hart, to_value}
 use Rattle.hart_set.proofs.Running.{StepEnd, GoesOn, IsOver}
 use Rattle.hart_set.proofs.GoingOn.{domain_there, slot_read, before, end_fits, frames_few, runs_here, counted_here, gone_on, reached_on}
 use Rattle.hart_set.proofs.set.HartSet.go_on.Goals.{then-slot-hart, else-slot-hart}
 use Rattle.hart_set.proofs.set.HartSet.go_on.Goals as goal
 
--- src/set/calls.rt:125:18
 pub index_mut-requires : goal.index_mut-requires
 index_mut-requires c =
     let t = c.self.inside.state in
@@ -148,12 +147,12 @@ invariant_of-self c =
     at_hart c.self.inside.image.now t c.args.self.now c.self.view_is c.args.h x (λ y. y.slots < 65536) (here c).got c.requires.slots in
     either c IsReached (λ t' x' which.
     reached_on (image_from c.self.inside.image.now) t c.args.h x (here c) c.args.slot (in_slot c) c.index_mut.result.now (got_after c) (left c)
-    c.step-hart.ensures.becomes t' x' which few c.step-hart.ensures.few c.step-hart.ensures.later)
+    t' x' which c.step-hart.ensures.becomes few c.step-hart.ensures.few c.step-hart.ensures.later)
 
 pub returns-clause-next : goal.returns-clause-next
 returns-clause-next c =
     let t = c.self.inside.state in
     either c (λ i t'. NextStands (image_of c.args.self.now) c.args.h c.args.self.now.1 t') (λ t' x' which.
-    value_next c.self.inside.image.now t c.args.self.now c.self.view_is c.args.h t'
+    to_value c.self.inside.image.now t c.args.self.now c.self.view_is (λ (i : Image) (u : State). NextStands i c.args.h u t')
     (gone_on (image_from c.self.inside.image.now) t c.args.h c.index_mut-hart.result.now (here c) c.args.slot (in_slot c) c.index_mut.result.now
-    (got_after c) (left c) c.step-hart.ensures.becomes t' x' which))
+    (got_after c) (left c) t' x' which c.step-hart.ensures.becomes))
