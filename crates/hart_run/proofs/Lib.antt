@@ -4,4 +4,5 @@ pub mod Through
 pub mod Seen
 pub mod Standing
 pub mod Running
-pub mod LeastKey
+pub mod FirstEvent
+pub mod InTurn

@@ -254,7 +254,7 @@ pub harts_law : HartsLaw
 unfolding order_of
 harts_law i c n = harts_from i c n (cycles_before i n (harts_in i.all.schedule)) 0 (harts i [])
 
-outside_if : (b : Bool) → (b ≡ true → ⊥) → b ≡ false
+pub outside_if : (b : Bool) → (b ≡ true → ⊥) → b ≡ false
 outside_if true not = absurd (not refl)
 outside_if false not = refl
 

@@ -1,4 +1,5 @@
 pub mod Order
 pub mod Choosers
 pub mod Models
+pub mod InTurn
 pub mod Laws

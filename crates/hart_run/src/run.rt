@@ -1,12 +1,13 @@
 // A run of an image's harts.
-ghost use Rattle.std.specs.Prelude.{◌≡◌, ◌≤◌, [], List};
+ghost use Rattle.std.specs.Prelude.{◌≡◌, ◌<◌, ◌≤◌, [], List};
 ghost use Rattle.image_check.specs.Image.{image_from};
 ghost use Rattle.sched_table.specs.Schedule.{harts_in};
 ghost use Rattle.hart_set.specs.Models.{image_of as image_of_set, StandsAfter};
 ghost use Rattle.hart_run.specs.Order as spec;
+ghost use Rattle.hart_run.specs.Models.{HasRun};
+ghost use Rattle.hart_run.specs.InTurn.{RunInTurn};
 
 use crate::choice::{Choice, drawn};
-use crate::keys::Keys;
 use hart_set::HartSet;
 use image_check::Checked;
 use seed_words::{draw, seeded};
@@ -47,35 +48,41 @@ fn cycles_before(image: &Checked, slot: u32) -> u64
     cycles
 }
 
-// Runs harts before their first event, that of the least clock first, until each has had
-// so many slots.
-fn run_by_clock(harts: &mut HartSet<'_>, slots: u32, most: u64)
+// Runs a hart for so many slots, those before it having had theirs.
+fn run_hart(harts: &mut HartSet<'_>, h: u8, slots: u32)
+    requires few { slots ≤ 65536 }
+    requires hart { h < harts_in (image_of_set harts.old).all.schedule }
+    requires before { RunInTurn harts.old slots h 0 }
+    ensures image { harts.new.0 ≡ harts.old.0 }
+    ensures run { RunInTurn harts.new slots h slots }
+{
+    for _ in 0..slots {
+        harts.run_slot(h);
+    }
+}
+
+// Runs harts before their first event, one after the other, until each has had so many
+// slots: what is seen of them then is what the order of their clocks leads to.
+fn run_by_slots(harts: &mut HartSet<'_>, slots: u32)
     requires few { slots ≤ 65536 }
     requires first { StandsAfter harts.old [] }
-    requires most { most ≡ spec.cycles_before (image_of_set harts.old) slots
-        (harts_in (image_of_set harts.old).all.schedule) }
     ensures image { harts.new.0 ≡ harts.old.0 }
-    ensures stands { StandsAfter harts.new (spec.order_of (image_of_set harts.old) Choice.LeastClock slots) }
+    ensures run { HasRun harts.new Choice.LeastClock slots }
 {
-    let mut keys = Keys::new(harts, slots);
-    for _ in 0..most {
-        let Some(h) = keys.least() else {
-            return;
-        };
-        harts.step(h);
-        keys.renew(harts, h, slots);
+    harts.image().runnable();
+    for h in 0..harts.harts() {
+        run_hart(harts, h, slots);
     }
 }
 
 // Runs them in the order that a seed draws.
-fn run_drawn(harts: &mut HartSet<'_>, seed: u32, slots: u32, most: u64)
+fn run_drawn(harts: &mut HartSet<'_>, seed: u32, slots: u32)
     requires few { slots ≤ 65536 }
     requires first { StandsAfter harts.old [] }
-    requires most { most ≡ spec.cycles_before (image_of_set harts.old) slots
-        (harts_in (image_of_set harts.old).all.schedule) }
     ensures image { harts.new.0 ≡ harts.old.0 }
     ensures stands { StandsAfter harts.new (spec.order_of (image_of_set harts.old) (Choice.Drawn seed) slots) }
 {
+    let most = cycles_before(harts.image(), slots);
     let mut words = seeded(u64::from(seed));
     for _ in 0..most {
         let Some(h) = drawn(harts, slots, draw(&mut words)) else {
@@ -85,18 +92,18 @@ fn run_drawn(harts: &mut HartSet<'_>, seed: u32, slots: u32, most: u64)
     }
 }
 
-// Runs them in the order of a choice.
-fn run_all(harts: &mut HartSet<'_>, choice: Choice, slots: u32, most: u64)
+// Runs them until each has had so many slots: what is seen of them then is what the order
+// of a choice leads to.
+fn run_all(harts: &mut HartSet<'_>, choice: Choice, slots: u32)
     requires few { slots ≤ 65536 }
     requires first { StandsAfter harts.old [] }
-    requires most { most ≡ spec.cycles_before (image_of_set harts.old) slots
-        (harts_in (image_of_set harts.old).all.schedule) }
     ensures image { harts.new.0 ≡ harts.old.0 }
-    ensures stands { StandsAfter harts.new (spec.order_of (image_of_set harts.old) choice slots) }
+    ensures run { HasRun harts.new choice slots }
 {
+    harts.image().runnable();
     match choice {
-        Choice::LeastClock => run_by_clock(harts, slots, most),
-        Choice::Drawn(seed) => run_drawn(harts, seed, slots, most),
+        Choice::LeastClock => run_by_slots(harts, slots),
+        Choice::Drawn(seed) => run_drawn(harts, seed, slots),
     }
 }
 
@@ -125,7 +132,7 @@ impl<'a> HartRun<'a> {
     {
         image.runnable();
         let mut harts = HartSet::load(alloc, image)?;
-        run_all(&mut harts, choice, slots, cycles_before(image, slots));
+        run_all(&mut harts, choice, slots);
         Ok(HartRun {
             harts,
             choice,

@@ -4,11 +4,12 @@ use Rattle.seed_words.specs.Words.{seeded, after, word}
 use Rattle.seed_words.proofs.Draws.{after_none, word_here, after_next}
 use Rattle.image_record.specs.Record.{Raw}
 use Rattle.image_check.specs.Image.{image_from}
+use Rattle.sched_table.specs.Schedule.{harts_in}
 use Rattle.world_view.specs.Harts.{Harts}
 use Rattle.hart_set.specs.declared.set.State.{State}
 use Rattle.hart_set.specs.Models.{StandsAfter, image_of, harts_after}
 use Rattle.hart_run.specs.declared.choice.Choice.TheVariants.{Drawn}
-use Rattle.hart_run.specs.Order.{drawn, chosen, order_of, next_hart}
+use Rattle.hart_run.specs.Order.{drawn, chosen, cycles_before, order_of, next_hart}
 use Rattle.hart_run.specs.Choosers.{left_in}
 use Rattle.hart_run.proofs.Running.{SoFar, at_first, at_last, one_fewer, one_more, over}
 use Rattle.hart_run.proofs.run.run_drawn.Goals as goal
@@ -20,12 +21,15 @@ HasDrawn seed words j s = words ≡ after j (seeded seed)
 pub loop-init : goal.loop-init
 loop-init c =
     let v = c.args.harts.now in
+    let n = c.args.slots in
+    let most = c.cycles_before-most.ensures.value
+    ∙ ap (λ (x : Raw). cycles_before (image_from x) n (harts_in (image_from x).all.schedule)) c.image.ensures.value in
     let first = rw c.from.ensures at c.seeded-words.ensures.value in
     record {
       image = refl;
       so_far =
-          at_first v (Drawn c.args.seed) c.args.slots (c.args.most - 0) (HasDrawn c.args.seed c.seeded-words.result) (omega (arith, c.requires.most)) c.requires.first
-          (first ∙ sym (after_none _));
+          at_first v (Drawn c.args.seed) n (c.cycles_before-most.result - 0) (HasDrawn c.args.seed c.seeded-words.result) (omega (arith, most))
+          c.requires.first (first ∙ sym (after_none _));
     }
 
 -- the word's hart is that of the definition
@@ -40,25 +44,25 @@ returns-in_default-clause-stands c =
     let v = c.loop.harts in
     let n = c.args.slots in
     let At = HasDrawn c.args.seed c.loop.words in
-    let was = one_fewer v (Drawn c.args.seed) n c.args.most c.loop.counter At c.loop-test.true c.loop.invariant.so_far in
+    let was = one_fewer v (Drawn c.args.seed) n c.cycles_before-most.result c.loop.counter At c.loop-test.true c.loop.invariant.so_far in
     let is =
-    named v c.args.seed n c.args.most c.loop.counter c.loop.words was c.draw.result c.drawn.result c.draw.ensures.value
+    named v c.args.seed n c.cycles_before-most.result c.loop.counter c.loop.words was c.draw.result c.drawn.result c.draw.ensures.value
     (c.drawn.ensures.drawn was.order was.stands)
     ∙ c.in_default.is in
     subst (λ (x : Raw). StandsAfter v (order_of (image_from x) (Drawn c.args.seed) n)) c.loop.invariant.image
-    (over v (Drawn c.args.seed) n At (c.args.most - (c.loop.counter + 1)) was is)
+    (over v (Drawn c.args.seed) n At (c.cycles_before-most.result - (c.loop.counter + 1)) was is)
 
 pub loop-preserved : goal.loop-preserved
 loop-preserved c =
     let v = c.loop.harts in
     let n = c.args.slots in
     let At = HasDrawn c.args.seed c.loop.words in
-    let was = one_fewer v (Drawn c.args.seed) n c.args.most c.loop.counter At c.loop-test.true c.loop.invariant.so_far in
+    let was = one_fewer v (Drawn c.args.seed) n c.cycles_before-most.result c.loop.counter At c.loop-test.true c.loop.invariant.so_far in
     let is =
-    named v c.args.seed n c.args.most c.loop.counter c.loop.words was c.draw.result c.drawn.result c.draw.ensures.value
+    named v c.args.seed n c.cycles_before-most.result c.loop.counter c.loop.words was c.draw.result c.drawn.result c.draw.ensures.value
     (c.drawn.ensures.drawn was.order was.stands)
     ∙ c.in-Some.is in
-    let f = c.args.most - (c.loop.counter + 1) in
+    let f = c.cycles_before-most.result - (c.loop.counter + 1) in
     let t = c.step.new.self.1 in
     let Later = HasDrawn c.args.seed c.draw.new.words in
     let stands = c.step.ensures.next was.order was.of_harts was.stands in
@@ -73,6 +77,6 @@ pub returns-clause-stands : goal.returns-clause-stands
 returns-clause-stands c =
     let v = c.loop.harts in
     let At = HasDrawn c.args.seed c.loop.words in
-    let none : c.args.most - c.loop.counter ≡ 0 = omega arith in
+    let none : c.cycles_before-most.result - c.loop.counter ≡ 0 = omega arith in
     subst (λ (x : Raw). StandsAfter v (order_of (image_from x) (Drawn c.args.seed) c.args.slots)) c.loop.invariant.image
     (at_last v (Drawn c.args.seed) c.args.slots At (subst (λ (f : ℕ). SoFar v (Drawn c.args.seed) c.args.slots f At) none c.loop.invariant.so_far))
