@@ -1,6 +1,8 @@
 // The state of one domain.
 ghost use Rattle.std.specs.Prelude.{◌≡◌, ◌≤◌, [], IfOk, vec_capacity};
 ghost use Rattle.call_table.specs.Domain.{Dom};
+ghost use Rattle.kernel_call.specs.Logs.{log_of};
+ghost use Rattle.kernel_call.specs.LogModel.{log_model};
 
 use crate::Log;
 use call_table::{DomainStatus, Reply};
@@ -80,6 +82,7 @@ impl Domain {
         ensures layout { IfOk result (λ d. d.layout ≡ begin.layout) }
         ensures calls { IfOk result (λ d. d.calls ≡ begin.calls) }
     {
+        let (readings, replies, printed) = logs(alloc)?;
         Ok(Domain {
             status: DomainStatus::Running,
             threads: begin.threads,
@@ -92,9 +95,23 @@ impl Domain {
             layout: begin.layout,
             calls: begin.calls,
             retired: 0,
-            readings: Log::new(alloc)?,
-            replies: Log::new(alloc)?,
-            printed: Vec::with_capacity(alloc, PRINTED)?,
+            readings,
+            replies,
+            printed,
         })
     }
+}
+
+// What a domain keeps of its readings, its replies and what it prints: nothing yet.
+fn logs(alloc: Global) -> Result<(Log<u64>, Log<Reply>, Vec<u8>), Memory>
+    ensures readings { IfOk result (λ made. log_model made.0 ≡ log_of []) }
+    ensures replies { IfOk result (λ made. log_model made.1 ≡ log_of []) }
+    ensures printed { IfOk result (λ made. made.2.items ≡ []) }
+    ensures room { IfOk result (λ made. PRINTED ≤ vec_capacity made.2) }
+{
+    Ok((
+        Log::new(alloc)?,
+        Log::new(alloc)?,
+        Vec::with_capacity(alloc, PRINTED)?,
+    ))
 }

@@ -157,10 +157,10 @@ impl<P: Policy> OnCore<P> {
             costs,
             products,
             pinned,
+            predictor: Predictor::new(alloc, predictor)?,
             l1i: L1I::new(alloc, l1i.policy, l1i.sets, l1i.ways)?,
             l1d: L1D::new(alloc, l1d.policy, l1d.sets, l1d.ways)?,
             tlb: Tlb::new(alloc, tlb.policy, tlb.sets, tlb.ways)?,
-            predictor: Predictor::new(alloc, predictor)?,
         })
     }
 

@@ -222,7 +222,8 @@ pub fn new_parts<P: Policy>(
         tlb,
     } = geometry;
     let CacheGeometry { policy, sets, ways } = l2;
-    let core = OnCore::new(alloc, predictor, l1i, l1d, tlb, costs, products, pinned)?;
+    // The core comes last: it has the most to drop where memory runs out.
     let l2 = L2::new(alloc, line_size, policy, sets, ways, back)?;
+    let core = OnCore::new(alloc, predictor, l1i, l1d, tlb, costs, products, pinned)?;
     Ok((core, l2))
 }

@@ -35,12 +35,14 @@ impl<'a> Alone<'a> {
     {
         let schedule = schedule_for(public, d);
         let hardware = &public.hardware;
-        let geometry = geometry_of(hardware);
-        let (core, l2) = new_parts(alloc, geometry, hardware.costs, hardware.muldiv, true)?;
         let mut memory = PhysMem::new(alloc, hardware.frames)?;
         let share = share_of(alloc, hardware, own)?;
         let domain = open_domain(alloc, hardware, own, share, &mut memory)?;
         load_domain(hardware, own, &domain, &mut memory);
+        // The caches come last: they have the most to drop where memory runs out, and a check
+        // takes minutes where that can be in several places.
+        let geometry = geometry_of(hardware);
+        let (core, l2) = new_parts(alloc, geometry, hardware.costs, hardware.muldiv, true)?;
         Ok(Alone {
             public,
             own,

@@ -44,12 +44,13 @@ impl<'a> HartSet<'a> {
     {
         image.runnable();
         let public = image.public();
-        let l2 = cold_l2(alloc, &public.hardware)?;
-        let harts = cold_harts(alloc, &public.hardware, &l2, public.harts.len())?;
+        let used = unused(alloc, public.schedule.len())?;
         let mut memory = PhysMem::new(alloc, public.hardware.frames)?;
         let domains = open_all(alloc, image, &mut memory)?;
         load_pages(image, domains.as_slice(), &mut memory);
-        let used = unused(alloc, public.schedule.len())?;
+        // The caches come last, as in the machine of one hart.
+        let l2 = cold_l2(alloc, &public.hardware)?;
+        let harts = cold_harts(alloc, &public.hardware, &l2, public.harts.len())?;
         Ok(HartSet {
             image,
             state: State {

@@ -41,6 +41,13 @@ impl<'a> GuardedMachine<'a> {
     {
         image.runnable();
         let public = image.public();
+        let used = unused(alloc, public.schedule.len())?;
+        let mut memory = PhysMem::new(alloc, public.hardware.frames)?;
+        let mut domains = open_all(alloc, image, &mut memory)?;
+        load_pages(image, domains.as_slice(), &mut memory);
+        share_clone(off, domains.as_mut_slice());
+        // The caches come last: they have the most to drop where memory runs out, and a check
+        // takes minutes where that can be in several places.
         let geometry = geometry_off(off, &public.hardware);
         let (core, l2) = new_parts(
             alloc,
@@ -49,11 +56,6 @@ impl<'a> GuardedMachine<'a> {
             public.hardware.muldiv,
             false,
         )?;
-        let mut memory = PhysMem::new(alloc, public.hardware.frames)?;
-        let mut domains = open_all(alloc, image, &mut memory)?;
-        load_pages(image, domains.as_slice(), &mut memory);
-        share_clone(off, domains.as_mut_slice());
-        let used = unused(alloc, public.schedule.len())?;
         Ok(GuardedMachine {
             image,
             off,

@@ -29,7 +29,7 @@ open_domain-requires-clause-apart c = record { once = (runs_of (public_model c.a
 pub load_domain-requires-clause-has_pool : goal.load_domain-requires-clause-has_pool
 load_domain-requires-clause-has_pool c = (runs_of (public_model c.args.public.now) (own_model c.args.own.now) c.args.d c.requires.image).pool
 
-stood : (c : goal.After-load_domain) → Stand (public_model c.args.public.now).hardware (own_model c.args.own.now)
+stood : (c : goal.In_ok-core) → Stand (public_model c.args.public.now).hardware (own_model c.args.own.now)
     (kept c.load_domain.new.memory (system c.in_ok-core.core c.in_ok-core.l2) c.in_ok-domain.domain 0) (alone_after (public_model c.args.public.now) (own_model c.args.own.now) c.args.d 0)
 stood c =
     let levels = c.geometry_of-geometry.ensures.hierarchy in

@@ -10,7 +10,7 @@ use Rattle.hart_set.proofs.Turning.{one_each}
 use Rattle.hart_set.proofs.Loaded.{IsLoaded, stands_first, reached_first}
 use Rattle.hart_set.proofs.set.HartSet.load.Goals as goal
 
-abbrev state : (c : goal.In_ok-used) → State
+abbrev state : (c : goal.In_ok-harts) → State
 state c = record {
   memory = c.load_pages.new.memory;
   l2 = c.in_ok-l2.l2;
@@ -19,7 +19,7 @@ state c = record {
   used = c.in_ok-used.used;
 }
 
-loaded : (c : goal.In_ok-used) → IsLoaded (image_from c.args.image.now) (state c)
+loaded : (c : goal.In_ok-harts) → IsLoaded (image_from c.args.image.now) (state c)
 loaded c =
     let i = image_from c.args.image.now in
     let public = c.public-public.ensures.value in
@@ -30,13 +30,13 @@ loaded c =
           ∙ ap (λ (x : Contents). x.frames) c.in_ok-memory.ensures.zero
           ∙ ap (λ (p : Public). p.hardware.frames) public;
       holds = c.load_pages.ensures.holds;
-      all_harts = omega (arith, c.in_ok-harts.ensures.all, c.len.ensures, one);
+      all_harts = omega (arith, c.in_ok-harts.ensures.all, c.len-2.ensures, one);
       cold =
           subst (λ (h : Hierarchy). All (IsColdHart h c.in_ok-l2.l2) c.in_ok-harts.harts.items) (ap (λ (p : Public). hierarchy p.hardware) public)
           c.in_ok-harts.ensures.each;
       opened = c.in_ok-domains.ensures.opened;
       all_entries =
-          c.in_ok-used.ensures.all ∙ c.len-2.ensures.value ∙ ap (λ (p : Public). length p.schedule) public;
+          c.in_ok-used.ensures.all ∙ c.len.ensures.value ∙ ap (λ (p : Public). length p.schedule) public;
       unused = c.in_ok-used.ensures.unused;
     }
 

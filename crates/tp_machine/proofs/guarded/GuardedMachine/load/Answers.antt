@@ -24,7 +24,7 @@ geometry_off-geometry-requires c =
     record { hardware = subst IsHardware (sym same) c.runnable.ensures.runnable.hardware }
 
 -- the domains, each with its clone
-domains_are : (c : goal.In_ok-used) → AreEntered c.args.off (image_from c.args.image.now)
+domains_are : (c : goal.In_ok-core) → AreEntered c.args.off (image_from c.args.image.now)
     (take c.in_ok-domains.domains.len
     (c.share_clone.new.domains ++ drop (length c.share_clone.new.domains) c.in_ok-domains.domains.items))
 domains_are c =
