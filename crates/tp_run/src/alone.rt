@@ -31,5 +31,7 @@ pub fn run_domain<K: Sink>(alloc: Global, image: &Checked, d: u8, slots: u32, ou
         alone.run_slot();
     }
     let name = alone.own.name.as_str();
-    status_unless_failed(Status::Done, write_section(out, d, name, &alone.view()))
+    let status = status_unless_failed(Status::Done, write_section(out, d, name, &alone.view()));
+    drop(alone);
+    status
 }

@@ -208,7 +208,10 @@ fn answer_check<K: Sink>(alloc: Global, bytes: &[u8], out: &mut K) -> Status
         result (state K.Sink out.old) (state K.Sink out.new) }
 {
     match accepted(alloc, bytes) {
-        Ok(_image) => status_unless_failed(Status::Done, write_accepted(out)),
+        Ok(image) => {
+            drop(image);
+            status_unless_failed(Status::Done, write_accepted(out))
+        }
         Err(refusal) => refuse(&refusal, out),
     }
 }
@@ -220,7 +223,11 @@ fn answer_bound<K: Sink>(alloc: Global, bytes: &[u8], out: &mut K) -> Status
         result (state K.Sink out.old) (state K.Sink out.new) }
 {
     match accepted_but_pads(alloc, bytes) {
-        Ok(image) => write_bounds(alloc, &image, out),
+        Ok(image) => {
+            let status = write_bounds(alloc, &image, out);
+            drop(image);
+            status
+        }
         Err(refusal) => refuse(&refusal, out),
     }
 }
@@ -242,7 +249,11 @@ fn answer_run<K: Sink>(
         result (state K.Sink out.old) (state K.Sink out.new) }
 {
     match accepted(alloc, bytes) {
-        Ok(image) => run_image(alloc, &image, choice, slots, out),
+        Ok(image) => {
+            let status = run_image(alloc, &image, choice, slots, out);
+            drop(image);
+            status
+        }
         Err(refusal) => refuse(&refusal, out),
     }
 }
@@ -255,8 +266,15 @@ fn answer_alone<K: Sink>(alloc: Global, bytes: &[u8], domain: u8, slots: u32, ou
         result (state K.Sink out.old) (state K.Sink out.new) }
 {
     match accepted(alloc, bytes) {
-        Ok(image) if domain < domains_of(&image) => run_domain(alloc, &image, domain, slots, out),
-        Ok(_image) => status_unless_failed(Status::Usage, write_usage(out)),
+        Ok(image) if domain < domains_of(&image) => {
+            let status = run_domain(alloc, &image, domain, slots, out);
+            drop(image);
+            status
+        }
+        Ok(image) => {
+            drop(image);
+            status_unless_failed(Status::Usage, write_usage(out))
+        }
         Err(refusal) => refuse(&refusal, out),
     }
 }
@@ -271,8 +289,11 @@ fn answer_off<K: Sink>(alloc: Global, bytes: &[u8], off: Guard, slots: u32, out:
     match accepted(alloc, bytes) {
         Ok(image) => {
             if has_one_hart(&image) {
-                run_off(alloc, &image, off, slots, out)
+                let status = run_off(alloc, &image, off, slots, out);
+                drop(image);
+                status
             } else {
+                drop(image);
                 status_unless_failed(Status::Usage, write_usage(out))
             }
         }

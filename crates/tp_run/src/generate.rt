@@ -39,7 +39,11 @@ pub fn run_demo<K: Sink>(alloc: Global, seed: u32, out: &mut K) -> Status
     ensures delivers { Delivers (spec.answer_demo seed) result (state K.Sink out.old) (state K.Sink out.new) }
 {
     match generated_image(alloc, seed) {
-        Ok(image) => run_image_of(alloc, &image, seed, out),
+        Ok(image) => {
+            let status = run_image_of(alloc, &image, seed, out);
+            drop(image);
+            status
+        }
         Err(_) => Status::Memory,
     }
 }
@@ -51,7 +55,11 @@ fn run_image_of<K: Sink>(alloc: Global, image: &Checked, seed: u32, out: &mut K)
         result (state K.Sink out.old) (state K.Sink out.new) }
 {
     match Machine::after(alloc, image, DEMO_SLOTS) {
-        Ok(machine) => status_unless_failed(Status::Done, write_summary(out, seed, &machine)),
+        Ok(machine) => {
+            let status = status_unless_failed(Status::Done, write_summary(out, seed, &machine));
+            drop(machine);
+            status
+        }
         Err(Memory) => Status::Memory,
     }
 }

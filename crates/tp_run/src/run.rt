@@ -46,7 +46,8 @@ pub fn run_image<K: Sink>(
     }
 }
 
-// Runs the image of one hart for so many slots and writes the report.
+// Runs the image of one hart for so many slots and writes the report. A machine is dropped by
+// name, here and below, since a check takes ten times as long where a scope's end drops it.
 fn run_machine<K: Sink>(alloc: Global, image: &Checked, slots: u32, out: &mut K) -> Status
     requires few { slots ≤ 65536 }
     requires one { IsOnOneHart (image_from image.now) }
@@ -54,7 +55,11 @@ fn run_machine<K: Sink>(alloc: Global, image: &Checked, slots: u32, out: &mut K)
         result (state K.Sink out.old) (state K.Sink out.new) }
 {
     match Machine::after(alloc, image, slots) {
-        Ok(machine) => status_unless_failed(Status::Done, write_report(out, &machine)),
+        Ok(machine) => {
+            let status = status_unless_failed(Status::Done, write_report(out, &machine));
+            drop(machine);
+            status
+        }
         Err(Memory) => Status::Memory,
     }
 }
@@ -73,7 +78,11 @@ pub fn run_off<K: Sink>(
         result (state K.Sink out.old) (state K.Sink out.new) }
 {
     match Ablated::after(alloc, image, off, slots) {
-        Ok(machine) => status_unless_failed(Status::Done, write_report_off(out, &machine)),
+        Ok(machine) => {
+            let status = status_unless_failed(Status::Done, write_report_off(out, &machine));
+            drop(machine);
+            status
+        }
         Err(Memory) => Status::Memory,
     }
 }

@@ -35,5 +35,5 @@ returns g c =
     let new = state g.K.Sink c.write_section.new.out in
     let sends = subst (λ (text : List ℕ). Sends old new c.write_section.result text) (section_alone_is i c.args.d c.args.slots _ _ name seen) c.write_section.ensures.sends in
     record {
-      delivers = delivered Done c.status_unless_failed.result (section_alone i c.args.d c.args.slots) old new c.write_section.result tt sends c.status_unless_failed.ensures.ok c.status_unless_failed.ensures.err;
+      delivers = delivered Done c.status_unless_failed-status.result (section_alone i c.args.d c.args.slots) old new c.write_section.result tt sends c.status_unless_failed-status.ensures.ok c.status_unless_failed-status.ensures.err;
     }

@@ -16,7 +16,7 @@ returns-in-Ok g c =
     let asked = Alone c.args.domain c.args.slots in
     let has : c.args.domain < length (owns_of c.in-Ok.image) = omega arith in
     let due = found_due asked (image_for asked c.args.bytes.now) _ (c.in-Ok.ensures.alone c.args.domain c.args.slots) ∙ alone_due c.args.domain c.args.slots (image_from c.in-Ok.image) has in
-    record { delivers = subst (λ (a : Answer). Delivers a c.run_domain.result (state g.K.Sink c.args.out.now) (state g.K.Sink c.run_domain.new.out)) (sym due) c.run_domain.ensures.delivers }
+    record { delivers = subst (λ (a : Answer). Delivers a c.run_domain-status.result (state g.K.Sink c.args.out.now) (state g.K.Sink c.run_domain-status.new.out)) (sym due) c.run_domain-status.ensures.delivers }
 
 pub returns-in-Ok-2 : goal.returns-in-Ok-2
 returns-in-Ok-2 g c =

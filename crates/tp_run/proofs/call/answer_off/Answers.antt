@@ -1,4 +1,4 @@
-use Rattle.std.proofs.Common.{◌≡◌, ◌≢◌, ◌∙◌, true≢false, eq-eqb, eqb-true, sym, subst}
+use Rattle.std.proofs.Common.{◌≢◌, ◌∙◌, true≢false, eq-eqb, eqb-true, sym, subst}
 use Rattle.tp_io.specs.Sink.{state}
 use Rattle.sched_table.specs.Schedule.{harts_in}
 use Rattle.image_check.specs.Image.{image_from}
@@ -18,12 +18,12 @@ returns-then-has_one_hart g c =
     let one = eqb-true (harts_in i.all.schedule) 1 (sym c.has_one_hart.ensures.value ∙ c.if-has_one_hart.true) in
     let due = found_due asked (image_for asked c.args.bytes.now) _ (c.in-Ok.ensures.ablate c.args.off c.args.slots) ∙ off_due c.args.off c.args.slots i one in
     record {
-      delivers = subst (λ (a : Answer). Delivers a c.run_off.result (state g.K.Sink c.args.out.now) (state g.K.Sink c.run_off.new.out))
-          (sym due) c.run_off.ensures.delivers;
+      delivers = subst (λ (a : Answer). Delivers a c.run_off-status.result (state g.K.Sink c.args.out.now) (state g.K.Sink c.run_off-status.new.out))
+          (sym due) c.run_off-status.ensures.delivers;
     }
 
-pub returns-in-Ok : goal.returns-in-Ok
-returns-in-Ok g c =
+pub returns-else-has_one_hart : goal.returns-else-has_one_hart
+returns-else-has_one_hart g c =
     let i = image_from c.in-Ok.image in
     let asked = Ablate c.args.off c.args.slots in
     let is = sym c.has_one_hart.ensures.value ∙ c.if-has_one_hart.false in

@@ -14,10 +14,10 @@ returns-in-Err g c = record { delivers = nothing_held _ _ }
 
 pub returns-in-Ok : goal.returns-in-Ok
 returns-in-Ok g c = record {
-  delivers = subst (λ (i : Image). Delivers (Done, demo_text i c.args.seed) c.run_image_of.result (state g.K.Sink c.args.out.now) (state g.K.Sink c.run_image_of.new.out)) c.in-Ok.ensures.made c.run_image_of.ensures.delivers;
+  delivers = subst (λ (i : Image). Delivers (Done, demo_text i c.args.seed) c.run_image_of-status.result (state g.K.Sink c.args.out.now) (state g.K.Sink c.run_image_of-status.new.out)) c.in-Ok.ensures.made c.run_image_of-status.ensures.delivers;
 }
 
-pub run_image_of-requires : goal.run_image_of-requires
-run_image_of-requires g c = record {
+pub run_image_of-status-requires : goal.run_image_of-status-requires
+run_image_of-status-requires g c = record {
   one = ap (λ (i : Image). harts_in i.all.schedule) c.in-Ok.ensures.made ∙ one_hart c.args.seed;
 }

@@ -17,9 +17,9 @@ returns-in-Ok g c =
     let m = c.in-Ok.machine in
     let old = state g.K.Sink c.args.out.now in
     let new = state g.K.Sink c.write_report_off.new.out in
-    let result = c.status_unless_failed.result in
+    let result = c.status_unless_failed-status.result in
     let done = delivered Done result (report_off m.off (image_from m.image.now) m.slots) old new c.write_report_off.result tt
-    c.write_report_off.ensures.sends c.status_unless_failed.ensures.ok c.status_unless_failed.ensures.err in
+    c.write_report_off.ensures.sends c.status_unless_failed-status.ensures.ok c.status_unless_failed-status.ensures.err in
     let its = subst (λ (off : Guard). Delivers (Done, report_off off (image_from m.image.now) m.slots) result old new)
     c.in-Ok.ensures.off done in
     record {
