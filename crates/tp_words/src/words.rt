@@ -1,6 +1,6 @@
 // The words of the command line.
 ghost use Rattle.std.specs.Prelude.{◌≡◌, ◌≤◌, IfOk, IfSome, false, pos};
-ghost use Rattle.clap.specs.Words.{app_of, found_of, rows_of, rule_of, subcommand_rows_of};
+ghost use Rattle.clap.specs.Words.{App, app_of, found_of, rows_of, rule_of, subcommand_rows_of, with_subcommand};
 ghost use Rattle.clap.specs.declared.builder.command.Command.TheViews.{out-Command};
 ghost use Rattle.tp_words.specs.Words as spec;
 ghost use Rattle.tp_words.specs.Words.{IsInRange};
@@ -43,21 +43,28 @@ pub fn parse(alloc: Global, words: &[String]) -> Result<Option<Command>, Memory>
 fn tp_command<'a>(alloc: Global) -> Result<clap::Command<'a>, AllocError>
     ensures app { IfOk result (λ c. app_of c ≡ spec.tp_app) }
 {
-    let run = run_command(alloc)?;
-    let alone = alone_command(alloc)?;
-    let generate = seed_command(alloc, "gen")?;
-    let demo = seed_command(alloc, "demo")?;
-    let ablate = ablate_command(alloc)?;
-    let harts = harts_command(alloc)?;
     let top = clap::Command::new(alloc, "tp").subcommand_required(true);
     let one = top.subcommand(clap::Command::new(alloc, "check"))?;
     let two = one.subcommand(clap::Command::new(alloc, "bound"))?;
-    let three = two.subcommand(run)?;
-    let four = three.subcommand(alone)?;
-    let five = four.subcommand(generate)?;
-    let six = five.subcommand(demo)?;
-    let seven = six.subcommand(ablate)?;
-    seven.subcommand(harts)
+    let three = with(two, run_command(alloc))?;
+    let four = with(three, alone_command(alloc))?;
+    let five = with(four, seed_command(alloc, "gen"))?;
+    let six = with(five, seed_command(alloc, "demo"))?;
+    let seven = with(six, ablate_command(alloc))?;
+    with(seven, harts_command(alloc))
+}
+
+// A command with one subcommand more, where that could be made.
+fn with<'a>(
+    command: clap::Command<'a>,
+    made: Result<clap::Command<'a>, AllocError>,
+) -> Result<clap::Command<'a>, AllocError>
+    ensures app { (sub : App) → IfOk made.entry (λ c. app_of c ≡ sub)
+        → IfOk made.entry (λ c. (out-Command c).has_globals ≡ false)
+        → IfOk result (λ c. app_of c ≡ with_subcommand (app_of command.entry) sub.top) }
+{
+    let sub = made?;
+    command.subcommand(sub)
 }
 
 fn run_command<'a>(alloc: Global) -> Result<clap::Command<'a>, AllocError>
@@ -141,25 +148,25 @@ fn asked(matches: &ArgMatches<'_>) -> Option<Command>
         Some(("check", _)) => Command::Check,
         Some(("bound", _)) => Command::Bound,
         Some(("run", found)) => Command::Run {
-            slots: number_in(found, "slots", MOST_SLOTS).unwrap_or(0),
+            slots: number_or_zero(found, "slots", MOST_SLOTS),
         },
         Some(("alone", found)) => Command::Alone {
-            domain: number_in(found, "domain", LAST_DOMAIN).unwrap_or(0) as u8,
-            slots: number_in(found, "slots", MOST_SLOTS).unwrap_or(0),
+            domain: number_or_zero(found, "domain", LAST_DOMAIN) as u8,
+            slots: number_or_zero(found, "slots", MOST_SLOTS),
         },
         Some(("gen", found)) => Command::Gen {
-            seed: number_in(found, "seed", LAST_SEED).unwrap_or(0),
+            seed: number_or_zero(found, "seed", LAST_SEED),
         },
         Some(("demo", found)) => Command::Demo {
-            seed: number_in(found, "seed", LAST_SEED).unwrap_or(0),
+            seed: number_or_zero(found, "seed", LAST_SEED),
         },
         Some(("ablate", found)) => Command::Ablate {
             off: guard_in(found)?,
-            slots: number_in(found, "slots", MOST_SLOTS).unwrap_or(0),
+            slots: number_or_zero(found, "slots", MOST_SLOTS),
         },
         Some(("harts", found)) => Command::Harts {
-            slots: number_in(found, "slots", MOST_SLOTS).unwrap_or(0),
-            seed: number_in(found, "seed", LAST_SEED).unwrap_or(0),
+            slots: number_or_zero(found, "slots", MOST_SLOTS),
+            seed: number_or_zero(found, "seed", LAST_SEED),
         },
         _ => Command::Run { slots: 0 },
     };
@@ -172,6 +179,14 @@ fn guard_in(found: &ArgMatches<'_>) -> Option<Guard>
     ensures value { result ≡ spec.guard_in (rows_of (found_of found.now)) }
 {
     Guard::named(found.get_str("off")?)
+}
+
+// The value of `--name`, which clap gives no matches without.
+fn number_or_zero(found: &ArgMatches<'_>, name: &str, greatest: u32) -> u32
+    ensures value { result ≡ spec.or_zero (spec.number_in name.now greatest (rows_of (found_of found.now))) }
+    ensures range { result ≤ greatest }
+{
+    number_in(found, name, greatest).unwrap_or(0)
 }
 
 // The number, where it is 0 to the greatest.
