@@ -8,7 +8,7 @@ use Rattle.image_text.specs.Record.{image_of}
 use Rattle.image_record.specs.declared.refusal.ReadRefusal.{ReadRefusal}
 use Rattle.image_record.specs.declared.refusal.ReadRefusal.TheVariants.{Broken, Memory}
 use Rattle.image_check.specs.Outcomes.{IsFirst}
-use Rattle.world_view.specs.Reading.{unless_broken}
+use Rattle.image_reading.specs.Reading.{unless_broken}
 use Rattle.tp_words.specs.declared.Command.{Command}
 use Rattle.tp_words.specs.declared.Command.TheVariants.{Check}
 use Rattle.image_check.specs.Image.{Image, image_from}

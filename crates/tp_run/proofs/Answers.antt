@@ -10,7 +10,7 @@ use Rattle.tp_io.specs.Sends.{SinkState, Sent, CutShort, Sends}
 use Rattle.tp_io.specs.Sure.{Exceeds}
 use Rattle.image_record.specs.declared.refusal.Refusal.{Refusal}
 use Rattle.image_check.specs.Image.{Image}
-use Rattle.world_view.specs.Reading.{most_bytes}
+use Rattle.image_reading.specs.Reading.{most_bytes}
 use Rattle.world_view.specs.Relations.{IsDomain}
 use Rattle.guards.specs.declared.Guard.{Guard}
 use Rattle.sched_table.specs.Schedule.{harts_in}

@@ -10,10 +10,10 @@ use Rattle.image_record.specs.Record as text
 use Rattle.image_text.specs.Record.{image_of}
 use Rattle.sched_table.specs.Schedule.{harts_in}
 use Rattle.image_check.specs.Image.{Image, image_from}
-use Rattle.world_view.specs.Reading.{image, checked, unless_broken, most_bytes}
+use Rattle.image_reading.specs.Reading.{image, checked, unless_broken, most_bytes}
 use Rattle.image_check.specs.Laws.{Runnable}
 use Rattle.world_view.proofs.opening.Separate.{separated}
-use Rattle.world_view.proofs.ReadingLaws.{read_runs}
+use Rattle.image_reading.proofs.ReadingLaws.{read_runs}
 use Rattle.world_view.proofs.time.TimeLaws.{on_time}
 use Rattle.world_view.proofs.harts.Clocks.{hart_starts}
 use Rattle.hart_run.specs.declared.choice.Choice.{Choice}

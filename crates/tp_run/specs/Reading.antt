@@ -5,7 +5,7 @@ use Rattle.image_record.specs.Record as text
 use Rattle.image_text.specs.Record.{image_of}
 use Rattle.image_check.specs.Checking.{broken, broken_but_pads}
 use Rattle.image_check.specs.Image.{Image}
-use Rattle.world_view.specs.Reading.{unless_broken}
+use Rattle.image_reading.specs.Reading.{unless_broken}
 use Rattle.tp_words.specs.declared.Command.{Command}
 use Rattle.tp_words.specs.declared.Command.TheVariants.{Check, Bound, Run, Alone, Gen, Demo, Ablate, Harts}
 

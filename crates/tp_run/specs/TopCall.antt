@@ -12,7 +12,7 @@ use Rattle.image_gen.specs.Generated.{generated}
 use Rattle.image_gen.specs.Text.{text as generated_text}
 use Rattle.image_check.specs.Checking.{broken, broken_but_pads}
 use Rattle.image_check.specs.Image.{Image, image_from}
-use Rattle.world_view.specs.Reading.{most_bytes, image}
+use Rattle.image_reading.specs.Reading.{most_bytes, image}
 use Rattle.sched_table.specs.Schedule.{entry_in, start, harts_in}
 use Rattle.world_view.specs.Machine.{clock_of, switch, whole}
 use Rattle.world_view.specs.View.{view_in}

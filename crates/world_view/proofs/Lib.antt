@@ -7,4 +7,3 @@ pub mod opening
 pub mod runs
 pub mod harts
 pub mod interrupts
-pub mod ReadingLaws

@@ -13,7 +13,6 @@ use Rattle.phys_mem.specs.Mem.{word}
 use Rattle.image_check.specs.Pages.{frames_in}
 use Rattle.world_view.specs.Frames.{own_frame, pool, pool_frame, root_of, page_frame, clone_frames, first_tables, page_frames, free_frames}
 use Rattle.world_view.specs.Opening.{rights_in}
-use Rattle.world_view.specs.Reading.{image}
 use Rattle.sched_table.specs.Schedule.{entry_of_slot, start, slot_end, outgoing}
 use Rattle.mem_system.specs.Cost.{Touch, Caches, at_no_cost, and_then, touched_all}
 use Rattle.cache_sharing.specs.Operations as operations
@@ -187,10 +186,6 @@ abbrev pub ForGoodLaw : Type 0
 ForGoodLaw = (i : Image) (k n d : ℕ) → Runnable i → IsDomain i d →
     let p = i.all.hardware in
     All (IsForGood p (own_of i d) (dom_of (world_in i k n) d)) (frames_for_good p (own_of i d))
-
--- every image that breaks no rule may be run
-abbrev pub ReadingLaw : Type 0
-ReadingLaw = (bytes : List ℕ) (i : Image) → image bytes ≡ Ok i → Runnable i
 
 -- ---- parties: who has frames and sets of its own, as each domain of an image has
 

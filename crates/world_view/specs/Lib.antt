@@ -1,5 +1,4 @@
 pub mod Frames
-pub mod Reading
 pub mod Opening
 pub mod Kernel
 pub mod Instruction

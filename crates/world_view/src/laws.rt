@@ -3,12 +3,7 @@
 ghost use Rattle.world_view.specs.EventLaws.{StepTouchesLaw, OwnTouchesLaw, SlotTouchesLaw, StepCostLaw, PlainCostLaw, SlotCostLaw};
 ghost use Rattle.world_view.specs.HartLaws.{HartIsolationLaw, TwoOrdersLaw, HartPadLaw, HartLargestLaw, HartCountLaw, OtherHartsLaw, NextLaw, HartBetweenLaw, HartBegunLaw, HartStartLaw, HartRiseLaw, HartSlotsLaw, HartStaysLaw, OneHartLaw, EventsLaw, SameEventsLaw};
 ghost use Rattle.world_view.specs.Interrupts.{DueLaw, PromptLaw, FewLaw, AscendLaw, OwnSlotsLaw, TurnLaw, WakeLaw};
-ghost use Rattle.world_view.specs.Laws.{ReadingLaw, IsolationLaw, TwoRunLaw, PadLaw, LargestLaw, StartLaw, InTimeLaw, ClockLaw, OpeningPageLaw, OpeningRightsLaw, OpeningNoPageLaw, OpeningFramesLaw, OpeningZeroLaw, OpeningElsewhereLaw, PoolsApartLaw, KernelColourLaw, PoolPartsLaw, FactsLaw, ReachLaw, NoAccessFaultLaw, RightsLaw, PermittedLaw, KernelLaw, PartiesLaw, PartiesSwapLaw, PartyFramesLaw, OthersStepLaw, OthersLeaveLaw, OthersEnterLaw, PrefetchLaw, FlushLaw, OthersEventLaw, OtherHartLaw, OwnHartLaw, OwnStepLaw, SwitchWorkLaw, BootWorkLaw, SwitchOutLaw, SwitchInLaw, SwitchBothLaw, SwitchPastLaw, ResidencyLaw, ForGoodLaw, EmptyLaw, AfterSwitchLaw, SwitchAloneLaw, SlotAloneLaw, SettledLaw, SwitchCleanLaw, SlotCleanLaw, SlotDirtyLaw};
-
-/// Every image of the form that is read may be run, and its numbers are within the limits.
-pub fn reading()
-    ensures accepted { ReadingLaw }
-{}
+ghost use Rattle.world_view.specs.Laws.{IsolationLaw, TwoRunLaw, PadLaw, LargestLaw, StartLaw, InTimeLaw, ClockLaw, OpeningPageLaw, OpeningRightsLaw, OpeningNoPageLaw, OpeningFramesLaw, OpeningZeroLaw, OpeningElsewhereLaw, PoolsApartLaw, KernelColourLaw, PoolPartsLaw, FactsLaw, ReachLaw, NoAccessFaultLaw, RightsLaw, PermittedLaw, KernelLaw, PartiesLaw, PartiesSwapLaw, PartyFramesLaw, OthersStepLaw, OthersLeaveLaw, OthersEnterLaw, PrefetchLaw, FlushLaw, OthersEventLaw, OtherHartLaw, OwnHartLaw, OwnStepLaw, SwitchWorkLaw, BootWorkLaw, SwitchOutLaw, SwitchInLaw, SwitchBothLaw, SwitchPastLaw, ResidencyLaw, ForGoodLaw, EmptyLaw, AfterSwitchLaw, SwitchAloneLaw, SlotAloneLaw, SettledLaw, SwitchCleanLaw, SlotCleanLaw, SlotDirtyLaw};
 
 /// What is seen of a domain is what is seen of it alone, whatever the others are.
 pub fn isolation()

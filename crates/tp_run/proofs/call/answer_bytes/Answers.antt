@@ -1,5 +1,5 @@
 use Rattle.std.proofs.Common.{◌≤◌, ◌<◌, length, refl, sym, ap, ◌∙◌, subst, rules}
-use Rattle.world_view.specs.Reading.{most_bytes}
+use Rattle.image_reading.specs.Reading.{most_bytes}
 use Rattle.tp_io.specs.Sink.{state}
 use Rattle.tp_words.specs.declared.Command.{Command}
 use Rattle.tp_words.specs.declared.Command.TheVariants.{Check, Bound, Run, Alone, Ablate, Harts}

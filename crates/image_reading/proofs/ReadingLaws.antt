@@ -8,7 +8,7 @@ use Rattle.image_text.proofs.Ranges.{ranges_law}
 use Rattle.image_check.specs.Checking.{broken}
 use Rattle.image_check.proofs.Running.{runnable_law}
 use Rattle.image_check.specs.Image.{Image}
-use Rattle.world_view.specs.Reading.{unless_broken, checked, image}
+use Rattle.image_reading.specs.Reading.{unless_broken, checked, image}
 use Rattle.image_check.specs.Laws.{Runnable}
 
 abbrev value_or : Image → Result Image Refusal → Image

@@ -1,0 +1,4 @@
+//! The image that bytes are, where they break no rule.
+#![tactic(auto)]
+
+pub mod laws;
