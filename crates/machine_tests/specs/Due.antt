@@ -8,7 +8,7 @@ use Rattle.mem_system.specs.Cost.{Caches}
 use Rattle.world_view.specs.Event.{interrupts_of}
 use Rattle.world_view.specs.Kernel.{no_dom}
 use Rattle.world_view.specs.Machine.{World, Guards, Owned, with_hart, with_part, part_of, dom_of, clock_of, setting_by, step, first_due, delivered_or_step, step_among}
-use Rattle.world_view.specs.Example.{two_domains}
+use Rattle.machine_tests.specs.Example.{two_domains}
 
 abbrev pub moment : ℕ → ℕ → Moment
 moment cycle line = record { at = cycle; line = line }

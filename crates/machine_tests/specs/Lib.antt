@@ -1,1 +1,3 @@
 mod Due
+mod Example
+mod HartExample

@@ -15,5 +15,3 @@ pub mod Relations
 pub mod Laws
 pub mod Interrupts
 pub mod EventLaws
-pub mod Example
-pub mod HartExample

@@ -5,7 +5,7 @@ use Rattle.image_check.specs.Image.{Image}
 use Rattle.sched_table.specs.Schedule.{entries_on, harts_in, hart_for}
 use Rattle.world_view.specs.Machine.{dom_of, whole}
 use Rattle.world_view.specs.Harts.{start_on, slots_of, proceeds, begins, runs, goes_on, next, after, all_cold, harts, view_on, view_alone_on}
-use Rattle.world_view.specs.Example.{timed_prints, everything}
+use Rattle.machine_tests.specs.Example.{timed_prints, everything}
 
 abbrev pub on_two_harts : Image
 on_two_harts = record timed_prints {
