@@ -259,6 +259,3 @@ pub fn targets_are_kept()
         → spec.target_place guesses.targets jump.pc ≢ spec.target_place guesses.targets other.pc
         → spec.is_known (spec.gone guesses other) jump ≡ spec.is_known guesses jump }
 {}
-
-#[cfg(test)]
-mod tests;

@@ -93,6 +93,3 @@ pub fn charges_fit(clock: u64)
 {
     let _ = clock;
 }
-
-#[cfg(test)]
-mod tests;

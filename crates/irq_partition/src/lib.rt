@@ -139,6 +139,3 @@ impl IrqPart {
         was_set
     }
 }
-
-#[cfg(test)]
-mod tests;

@@ -66,6 +66,3 @@ pub fn touches<'a>(op: u8, layout: &'a CloneLayout, work: &'a Work) -> Touches<'
 {
     Touches::new(op, layout, work)
 }
-
-#[cfg(test)]
-mod tests;

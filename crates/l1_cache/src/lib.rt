@@ -6,6 +6,3 @@ mod instructions;
 
 pub use data::L1D;
 pub use instructions::L1I;
-
-#[cfg(test)]
-mod tests;

@@ -15,6 +15,3 @@ pub fn lines_keep_to_their_colour(line_size: u32, sets: u32, line: u32)
 {
     let _ = (line_size, sets, line);
 }
-
-#[cfg(test)]
-mod tests;

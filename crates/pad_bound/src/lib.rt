@@ -67,6 +67,3 @@ pub fn bound_from(shape: &Shape, calls: u32) -> Bound
         ..*shape
     })
 }
-
-#[cfg(test)]
-mod tests;

@@ -366,6 +366,3 @@ fn with_byte_of(word: u32, place: u32, byte: u8) -> u32
     bytes[place as usize] = byte;
     LittleEndian::read_u32(&bytes)
 }
-
-#[cfg(test)]
-mod tests;

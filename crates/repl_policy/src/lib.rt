@@ -242,6 +242,3 @@ pub fn touched_way_stays(ways: u32, way: u32)
 {
     let _ = (ways, way);
 }
-
-#[cfg(test)]
-mod tests;

@@ -53,6 +53,3 @@ pub struct Effect {
     pub taken: bool,
     pub trap: Option<Trap>,
 }
-
-#[cfg(test)]
-mod tests;

@@ -181,6 +181,3 @@ pub enum Instr {
         rd: u8,
     },
 }
-
-#[cfg(test)]
-mod tests;

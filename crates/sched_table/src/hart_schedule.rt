@@ -127,6 +127,3 @@ pub fn hart_schedules(alloc: Global, entries: &[Entry]) -> Result<Vec<HartSchedu
     }
     Ok(schedules)
 }
-
-#[cfg(test)]
-mod tests;

@@ -154,6 +154,3 @@ impl Schedule {
         u64::from(last.pad) + u64::from(k) / entries as u64 * self.round
     }
 }
-
-#[cfg(test)]
-mod tests;

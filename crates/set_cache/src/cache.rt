@@ -375,6 +375,3 @@ impl<P: Policy> SetCache<P> {
         dirty
     }
 }
-
-#[cfg(test)]
-mod tests;

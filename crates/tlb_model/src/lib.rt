@@ -121,6 +121,3 @@ impl<P: Policy> Tlb<P> {
         0
     }
 }
-
-#[cfg(test)]
-mod tests;

@@ -22,6 +22,3 @@ pub trait Zero {
         ensures others { (f i : ℕ) → f ≢ frame → word self.new f i ≡ word self.old f i }
         ensures frames { (f : ℕ) → has_frame self.old f → has_frame self.new f };
 }
-
-#[cfg(test)]
-mod tests;

@@ -40,6 +40,3 @@ use thiserror::Error;
 #[derive(Clone, Copy, Debug, PartialEq, Eq, Error)]
 #[error("a read or a write failed")]
 pub struct Failed;
-
-#[cfg(test)]
-mod tests;

@@ -111,6 +111,3 @@ fn write_and_flush<W: Write>(writer: &mut W, piece: &[u8]) -> io::Result<usize>
     writer.flush()?;
     Ok(count)
 }
-
-#[cfg(test)]
-mod tests;

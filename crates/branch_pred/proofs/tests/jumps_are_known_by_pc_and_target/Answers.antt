@@ -1,5 +1,0 @@
-use Rattle.std.proofs.Common.{refl, inr}
-use Rattle.branch_pred.proofs.tests.jumps_are_known_by_pc_and_target.Goals as goal
-
-pub made-requires-clause-targets : goal.made-requires-clause-targets
-made-requires-clause-targets g c = inr (2, refl)

@@ -1,5 +1,0 @@
-use Rattle.std.proofs.Common.{refl, rules}
-use Rattle.l2_colour.proofs.tests.given_up.Goals as goal
-
-pub new-requires-clause-geometry : goal.new-requires-clause-geometry
-new-requires-clause-geometry c = record { taken = search rules; power = (6, refl); small = search rules }
