@@ -43,16 +43,38 @@ fn domains_of(image: &Checked) -> u8
     image.public().domains as u8
 }
 
+// For the prover a sink and a domain are lent to functions that need not drop them.
+
+fn text_of(alloc: Global, sink: &MemSink) -> Result<String, Fail> {
+    Ok(String::from_str(alloc, str::from_utf8(sink.bytes())?)?)
+}
+
+fn write_all(image: &Checked, harts: &HartSet<'_>, sink: &mut MemSink) -> Result<(), Fail>
+    requires image { harts.now.0 ≡ image.now }
+{
+    for d in 0..domains_of(image) {
+        let name = image.own(usize::from(d)).name.as_str();
+        write_section(sink, d, name, &harts.view(d))?;
+    }
+    Ok(())
+}
+
 /// The sections of all domains, as a report has them.
 pub fn sections(alloc: Global, image: &Checked, harts: &HartSet<'_>) -> Result<String, Fail>
     requires image { harts.now.0 ≡ image.now }
 {
     let mut sink = MemSink::new(alloc, ROOM, ROOM, &[])?;
-    for d in 0..domains_of(image) {
-        let name = image.own(usize::from(d)).name.as_str();
-        write_section(&mut sink, d, name, &harts.view(d))?;
-    }
-    Ok(String::from_str(alloc, str::from_utf8(sink.bytes())?)?)
+    write_all(image, harts, &mut sink)?;
+    text_of(alloc, &sink)
+}
+
+fn write_slots(alone: &mut Alone<'_>, d: u8, name: &str, sink: &mut MemSink) -> Result<(), Fail>
+    requires slots { alone.old.slots ≡ 0 }
+{
+    alone.run_slot();
+    alone.run_slot();
+    write_section(sink, d, name, &alone.view())?;
+    Ok(())
 }
 
 // A domain's section after two slots of its hart, as it is alone.
@@ -62,17 +84,19 @@ fn write_alone(alloc: Global, image: &Checked, d: u8, sink: &mut MemSink) -> Res
     image.runnable();
     let own = image.own(usize::from(d));
     let mut alone = Alone::load(alloc, image.public(), own, d)?;
-    alone.run_slot();
-    alone.run_slot();
-    write_section(sink, d, own.name.as_str(), &alone.view())?;
+    write_slots(&mut alone, d, own.name.as_str(), sink)
+}
+
+fn write_all_alone(alloc: Global, image: &Checked, sink: &mut MemSink) -> Result<(), Fail> {
+    for d in 0..domains_of(image) {
+        write_alone(alloc, image, d, sink)?;
+    }
     Ok(())
 }
 
 /// The sections of all domains after two slots of each hart, each as it is alone.
 pub fn sections_alone(alloc: Global, image: &Checked) -> Result<String, Fail> {
     let mut sink = MemSink::new(alloc, ROOM, ROOM, &[])?;
-    for d in 0..domains_of(image) {
-        write_alone(alloc, image, d, &mut sink)?;
-    }
-    Ok(String::from_str(alloc, str::from_utf8(sink.bytes())?)?)
+    write_all_alone(alloc, image, &mut sink)?;
+    text_of(alloc, &sink)
 }

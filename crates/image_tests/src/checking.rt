@@ -1,13 +1,14 @@
 // An image whose places are changed, and the first rule that it breaks; and an
 // image that is accepted, with what it says.
+use crate::equal::is_equal;
 use cycle_cost::Costs;
 use image_check::{
-    CacheShape, CheckRefusal, Checked, Entry, Hardware, InitialCap, Moment, Own, Policy, check,
-    check_but_pads,
+    CacheShape, CheckRefusal, Checked, Entry, Hardware, InitialCap, Moment, Own, Policy, Public,
+    Segment, Unpadded, check, check_but_pads,
 };
 use image_record::{Raw, RawEntry, Refusal};
 use image_text::read_image;
-use pad_bound::bound;
+use pad_bound::{Bound, bound};
 use std::alloc::Global;
 use std::process::Abort;
 use tp_base::Rights;
@@ -75,20 +76,43 @@ length = 10000
 pad = 6150
 "#;
 
+// The image with each second text in the place of the first of its first text.
+fn image_with(alloc: Global, changes: &[(&str, &str)]) -> Result<String, CheckRefusal> {
+    let mut text = String::from_str(alloc, IMAGE)?;
+    for (old, new) in changes {
+        text = text.replacen(alloc, old, new, 1)?;
+    }
+    Ok(text)
+}
+
 fn checked(alloc: Global, text: &str) -> Result<Checked, CheckRefusal> {
     check(alloc, read_image(alloc, text.as_bytes())?)
 }
 
-fn broken_by(alloc: Global, raw: Raw) -> Result<Option<Refusal>, CheckRefusal> {
-    match check(alloc, raw) {
-        Ok(_) => Ok(None),
-        Err(CheckRefusal::Broken(refusal)) => Ok(Some(refusal)),
-        Err(CheckRefusal::Memory) => Err(CheckRefusal::Memory),
-    }
+fn checked_with(alloc: Global, changes: &[(&str, &str)]) -> Result<Checked, CheckRefusal> {
+    checked(alloc, image_with(alloc, changes)?.as_str())
 }
 
-fn broken_but_pads(alloc: Global, raw: Raw) -> Result<Option<Refusal>, CheckRefusal> {
-    match check_but_pads(alloc, raw) {
+fn checked_but_pads(alloc: Global, text: &str) -> Result<Unpadded, CheckRefusal> {
+    check_but_pads(alloc, read_image(alloc, text.as_bytes())?)
+}
+
+fn unpadded_with(alloc: Global, changes: &[(&str, &str)]) -> Result<Unpadded, CheckRefusal> {
+    checked_but_pads(alloc, image_with(alloc, changes)?.as_str())
+}
+
+// The bound of the image with these changes, whose pads may be too short.
+fn bound_with(alloc: Global, changes: &[(&str, &str)]) -> Result<Bound, CheckRefusal> {
+    let image = unpadded_with(alloc, changes)?;
+    image.kept();
+    let bound = bound(&image.shape());
+    drop(image);
+    Ok(bound)
+}
+
+// What is named where an image is refused.
+fn named<T: Drop>(answer: Result<T, CheckRefusal>) -> Result<Option<Refusal>, CheckRefusal> {
+    match answer {
         Ok(_) => Ok(None),
         Err(CheckRefusal::Broken(refusal)) => Ok(Some(refusal)),
         Err(CheckRefusal::Memory) => Err(CheckRefusal::Memory),
@@ -122,23 +146,64 @@ fn first_pad(entries: &[RawEntry]) -> i64 {
 // with the pad of the text's first.
 fn record_on(alloc: Global, text: &str, places: &[Place]) -> Result<Raw, CheckRefusal> {
     let mut raw = read_image(alloc, text.as_bytes())?;
-    if places.is_empty() {
-        return Ok(raw);
+    match place(alloc, &mut raw.schedule, places) {
+        Ok(()) => Ok(raw),
+        Err(refusal) => {
+            drop(raw);
+            Err(refusal)
+        }
     }
-    let pad = first_pad(raw.schedule.as_slice());
-    raw.schedule = entries_at(alloc, pad, places)?;
-    Ok(raw)
+}
+
+fn first_broken(
+    alloc: Global,
+    image: &str,
+    places: &[Place],
+) -> Result<Option<Refusal>, CheckRefusal> {
+    named(check(alloc, record_on(alloc, image, places)?))
+}
+
+fn first_but_pads(
+    alloc: Global,
+    image: &str,
+    places: &[Place],
+) -> Result<Option<Refusal>, CheckRefusal> {
+    named(check_but_pads(alloc, record_on(alloc, image, places)?))
+}
+
+fn place(
+    alloc: Global,
+    schedule: &mut Vec<RawEntry>,
+    places: &[Place],
+) -> Result<(), CheckRefusal> {
+    if !places.is_empty() {
+        let pad = first_pad(schedule.as_slice());
+        *schedule = entries_at(alloc, pad, places)?;
+    }
+    Ok(())
+}
+
+// The image with the new text, so many times, in the place of the first old one.
+fn replaced(
+    alloc: Global,
+    image: &str,
+    old: &str,
+    new: &str,
+    times: usize,
+) -> Result<String, CheckRefusal> {
+    let old = old.replace(alloc, "~", "\n")?;
+    let new = new.replace(alloc, "~", "\n")?.repeat(alloc, times)?;
+    Ok(image.replacen(alloc, old.as_str(), new.as_str(), 1)?)
 }
 
 // What a line changes in the image, if anything.
 fn changed(alloc: Global, image: &str, line: &str) -> Result<Option<String>, CheckRefusal> {
-    let line = line.replace(alloc, "~", "\n")?;
     let Some((old, new)) = line.split_once(" => ") else {
         return Ok(None);
     };
     let (new, times) = new.split_once(" * ").unwrap_or((new, "1"));
-    let new = new.repeat(alloc, times.parse::<usize>().unwrap_or(1))?;
-    Ok(Some(image.replacen(alloc, old, new.as_str(), 1)?))
+    let times = times.parse::<usize>().unwrap_or(1);
+    Ok(Some(replaced(alloc, image, old, new, times)?))
 }
 
 fn text_of(alloc: Global, named: Option<Refusal>) -> Result<String, CheckRefusal> {
@@ -153,6 +218,17 @@ fn text_of(alloc: Global, named: Option<Refusal>) -> Result<String, CheckRefusal
             },
         ) => Ok(format!(in alloc; "K{rule} at {at} found {found} wanted {wanted}")?),
     }
+}
+
+fn is_told(
+    rt: &impl Abort,
+    alloc: Global,
+    found: Option<Refusal>,
+    due: &str,
+) -> Result<(), CheckRefusal> {
+    let text = text_of(alloc, found)?;
+    is_equal(rt, "what is named", text.as_str(), due);
+    Ok(())
 }
 
 // With the rule of pads, and without it: `K17 .., else ..` says what is named then, where it isn't
@@ -170,24 +246,28 @@ fn is_named(
         line
     };
     let (due, others_due) = line.split_once(", else ").unwrap_or((line, alone));
-    let first = text_of(alloc, broken_by(alloc, record_on(alloc, image, places)?)?)?;
-    assert_eq!(rt; first.as_str(), due);
-    let others = text_of(
-        alloc,
-        broken_but_pads(alloc, record_on(alloc, image, places)?)?,
-    )?;
-    assert_eq!(rt; others.as_str(), others_due);
-    Ok(())
+    let first = first_broken(alloc, image, places)?;
+    is_told(rt, alloc, first, due)?;
+    let others = first_but_pads(alloc, image, places)?;
+    is_told(rt, alloc, others, others_due)
 }
 
 // A line `OLD => NEW` changes the first OLD of the image, and `OLD => NEW * TIMES` repeats the new
 // text; ~ is a new line. A line that changes nothing tells what is named then, and the next begins
 // from the image again. A line `# ..` says what comes.
-fn are_named(rt: &impl Abort, alloc: Global, image: &str, lines: &str) -> Result<(), CheckRefusal> {
-    are_named_on(rt, alloc, image, &[], lines)
+fn are_named(
+    rt: &impl Abort,
+    alloc: Global,
+    image: &str,
+    tables: &[&str],
+) -> Result<(), CheckRefusal> {
+    for lines in tables {
+        are_named_on(rt, alloc, image, &[], lines)?;
+    }
+    Ok(())
 }
 
-// The same, with these entries.
+// The same of one table, with these entries.
 fn are_named_on(
     rt: &impl Abort,
     alloc: Global,
@@ -197,15 +277,27 @@ fn are_named_on(
 ) -> Result<(), CheckRefusal> {
     let mut text = String::from_str(alloc, image)?;
     for line in lines.split('\n') {
-        if line.starts_with('#') {
-            continue;
+        if !line.starts_with('#') {
+            follow(rt, alloc, image, places, &mut text, line)?;
         }
-        match changed(alloc, text.as_str(), line)? {
-            Some(other) => text = other,
-            None => {
-                is_named(rt, alloc, text.as_str(), places, line)?;
-                text = String::from_str(alloc, image)?;
-            }
+    }
+    Ok(())
+}
+
+// Changes the text by a line, or begins from the image again.
+fn follow(
+    rt: &impl Abort,
+    alloc: Global,
+    image: &str,
+    places: &[Place],
+    text: &mut String,
+    line: &str,
+) -> Result<(), CheckRefusal> {
+    match changed(alloc, text.as_str(), line)? {
+        Some(other) => *text = other,
+        None => {
+            is_named(rt, alloc, text.as_str(), places, line)?;
+            *text = String::from_str(alloc, image)?;
         }
     }
     Ok(())
@@ -214,58 +306,52 @@ fn are_named_on(
 // Of an image whose pads are too short, too.
 #[test]
 fn the_bound_is_that_of_the_machine(rt: HostRuntime) -> Result<(), CheckRefusal> {
-    let alloc = rt.alloc();
-    let text = IMAGE.replacen(alloc, "pad = 6150", "pad = 6149", 1)?;
-    let image = check_but_pads(alloc, read_image(alloc, text.as_bytes())?)?;
-    image.kept();
-    let bound = bound(&image.shape());
-    let parts = (bound.instruction, bound.operation, bound.leave);
-    assert_eq!(rt; parts, (306, 4277, 383));
-    let parts = (bound.prefetch, bound.flush, bound.enter);
-    assert_eq!(rt; parts, (472, 340, 373));
-    assert_eq!(rt; bound.total, 6150);
+    let found = bound_with(rt.alloc(), &[("pad = 6150", "pad = 6149")])?;
+    let wanted = Bound {
+        instruction: 306,
+        operation: 4277,
+        leave: 383,
+        prefetch: 472,
+        flush: 340,
+        enter: 373,
+        total: 6150,
+    };
+    is_equal(&rt, "the bound", found, wanted);
     Ok(())
 }
 
 // Blue has code, three pages of data that are zero, capabilities in slots 0 and
 // 2, two lines, and a moment of each.
 fn is_blue(rt: &impl Abort, own: &Own) {
-    assert_eq!(rt;
-        (
-            own.name.as_str(),
-            own.colours.as_slice(),
-            own.entry,
-            own.segments.len()
-        ),
-        ("blue", [2].as_slice(), 65540, 2)
-    );
-    for (segment, (page, pages, write)) in own
-        .segments
-        .iter()
-        .zip([(16, 1, false), (32, 3, true)])
-    {
-        let rights = Rights::with(true, write, !write);
-        assert_eq!(rt;
-            (segment.page, segment.pages, segment.rights),
-            (page, pages, rights)
-        );
-    }
-    assert_eq!(rt;
-        own.segments[0].bytes.as_slice(),
-        [0x6f, 0, 0, 0].as_slice()
-    );
-    assert_eq!(rt; own.segments[1].bytes.as_slice(), [].as_slice());
+    is_equal(rt, "name", own.name.as_str(), "blue");
+    is_equal(rt, "colours", own.colours.as_slice(), [2].as_slice());
+    is_equal(rt, "entry", own.entry, 65540);
+    are_segments(rt, own.segments.as_slice());
     let caps = [
         InitialCap::Page(16),
         InitialCap::None,
         InitialCap::Irq(3),
         InitialCap::None,
     ];
-    assert_eq!(rt; own.caps.as_slice(), caps.as_slice());
-    assert_eq!(rt; own.lines.as_slice(), [7, 3].as_slice());
+    is_equal(rt, "caps", own.caps.as_slice(), caps.as_slice());
+    is_equal(rt, "lines", own.lines.as_slice(), [7, 3].as_slice());
     let moments = [Moment { at: 9000, line: 3 }, Moment { at: 9000, line: 7 }];
-    assert_eq!(rt; own.moments.as_slice(), moments.as_slice());
-    assert_eq!(rt; own.calls, 0x7fff);
+    is_equal(rt, "moments", own.moments.as_slice(), moments.as_slice());
+    is_equal(rt, "calls", own.calls, 0x7fff);
+}
+
+fn are_segments(rt: &impl Abort, segments: &[Segment]) {
+    assert_eq!(rt; segments.len(), 2);
+    is_segment(rt, &segments[0], (16, 1), false, &[0x6f, 0, 0, 0]);
+    is_segment(rt, &segments[1], (32, 3), true, &[]);
+}
+
+// Of this page and so many pages, which may be written or executed.
+fn is_segment(rt: &impl Abort, segment: &Segment, pages: (u32, u32), write: bool, bytes: &[u8]) {
+    is_equal(rt, "pages", (segment.page, segment.pages), pages);
+    let rights = Rights::with(true, write, !write);
+    is_equal(rt, "rights", segment.rights, rights);
+    is_equal(rt, "bytes", segment.bytes.as_slice(), bytes);
 }
 
 fn shape(sets: u32, ways: u32) -> CacheShape {
@@ -308,26 +394,30 @@ fn hardware() -> Hardware {
     }
 }
 
-#[test]
-fn an_image_is_accepted(rt: HostRuntime) -> Result<(), CheckRefusal> {
-    let checked = checked(rt.alloc(), IMAGE)?;
-    checked.runnable();
-
-    let public = checked.public();
-    let hardware = hardware();
+fn is_public(rt: &impl Abort, public: &Public) {
     let last = Entry {
         domain: 1,
         length: 1000,
         pad: 1_000_000,
         hart: 0,
     };
-    assert_eq!(rt;
-        (public.version, public.domains, public.hardware),
-        (1, 2, hardware)
-    );
-    assert_eq!(rt; public.schedule.len(), 2);
-    assert_eq!(rt; public.schedule.entry(1), last);
-    assert_eq!(rt; public.domains, 2);
-    is_blue(&rt, checked.own(1));
+    is_equal(rt, "version", public.version, 1);
+    is_equal(rt, "hardware", public.hardware, hardware());
+    is_equal(rt, "entries", public.schedule.len(), 2);
+    is_equal(rt, "the last entry", public.schedule.entry(1), last);
+}
+
+fn has_blue(rt: &impl Abort, checked: &Checked) {
+    checked.runnable();
+    assert_eq!(rt; checked.public().domains, 2);
+    is_blue(rt, checked.own(1));
+}
+
+#[test]
+fn an_image_is_accepted(rt: HostRuntime) -> Result<(), CheckRefusal> {
+    let checked = checked(rt.alloc(), IMAGE)?;
+    is_public(&rt, checked.public());
+    has_blue(&rt, &checked);
+    drop(checked);
     Ok(())
 }

@@ -5,6 +5,8 @@
 #[cfg(test)]
 mod checking;
 #[cfg(test)]
+mod equal;
+#[cfg(test)]
 mod generating;
 #[cfg(test)]
 mod reading;

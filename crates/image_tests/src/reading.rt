@@ -1,4 +1,5 @@
 // What no clause says: that the key table is the format's, row by row, and that an image is read.
+use crate::equal::is_equal;
 use image_record::{
     Raw, RawCache, RawCosts, RawDomain, RawEntry, RawMoment, RawMuldiv, RawSegment, ReadRefusal,
     Refusal,
@@ -177,10 +178,19 @@ const NUMBERS: [(&str, i64); 6] = [
 
 fn answer(alloc: Global, bytes: &[u8]) -> Result<Option<Refusal>, ReadRefusal> {
     match read_image(alloc, bytes) {
-        Ok(_) => Ok(None),
+        Ok(raw) => {
+            drop(raw);
+            Ok(None)
+        }
         Err(ReadRefusal::Broken(refusal)) => Ok(Some(refusal)),
         Err(ReadRefusal::Memory) => Err(ReadRefusal::Memory),
     }
+}
+
+// What is read of an image with one text in the place of another.
+fn read_with(alloc: Global, image: &str, old: &str, new: &str) -> Result<Raw, ReadRefusal> {
+    let text = image.replace(alloc, old, new)?;
+    read_image(alloc, text.as_bytes())
 }
 
 // The answer to an image with one text in the place of another.
@@ -212,7 +222,11 @@ fn by(rule: u8, at: i64, found: i64) -> Option<Refusal> {
 
 // No `?` stands in the tests, where each would be proved with all that is live.
 fn expect(rt: &impl Abort, found: Result<Option<Refusal>, ReadRefusal>, wanted: Option<Refusal>) {
-    assert_eq!(rt; found, Ok(wanted));
+    is_equal(rt, "the answer", found, Ok(wanted));
+}
+
+fn has(rt: &impl Abort, image: &str, old: &str) {
+    assert!(rt; image.contains(old), "{old} is none of the image");
 }
 
 fn expect_of(
@@ -223,7 +237,7 @@ fn expect_of(
     new: &str,
     wanted: Option<Refusal>,
 ) {
-    assert!(rt; image.contains(old), "{old} is none of the image");
+    has(rt, image, old);
     assert_eq!(rt;
         answer_to(alloc, image, old, new),
         Ok(wanted),
@@ -246,6 +260,11 @@ fn a_broken_row_is_named(rt: HostRuntime) {
     all_break(&rt, alloc, IMAGE, &OF_OTHER_KEYS);
     all_break(&rt, alloc, IMAGE, &OF_LATER_KEYS);
     expect(&rt, with_segments(alloc, 16), by(2, 14, 1));
+}
+
+#[test]
+fn a_text_that_is_no_image_is_refused(rt: HostRuntime) {
+    let alloc = rt.alloc();
     expect(&rt, answer(alloc, b""), by(2, 1, 0));
     expect(&rt, answer(alloc, b"frames = "), by(1, 0, 0));
     expect(&rt, answer(alloc, b"frames = 64 # \xff"), by(1, 0, 0));
@@ -265,7 +284,7 @@ fn is_read(rt: &impl Abort, alloc: Global, old: &str, new: &str) {
 
 #[test]
 fn what_breaks_no_row_is_read(rt: HostRuntime) {
-    for (old, new) in READ {
+    for &(old, new) in &READ {
         is_read(&rt, rt.alloc(), old, new);
     }
     expect(&rt, with_segments(rt.alloc(), 15), None);
@@ -273,18 +292,16 @@ fn what_breaks_no_row_is_read(rt: HostRuntime) {
 
 // The frames that are read where this is written.
 fn frames_of(alloc: Global, written: &str) -> Result<i64, ReadRefusal> {
-    let text = IMAGE.replace(alloc, "frames = 64", written)?;
-    Ok(read_image(alloc, text.as_bytes())?.frames)
-}
-
-fn has_frames(rt: &impl Abort, alloc: Global, written: &str, number: i64) {
-    assert_eq!(rt; frames_of(alloc, written), Ok(number), "{written}");
+    let raw = read_with(alloc, IMAGE, "frames = 64", written)?;
+    let frames = raw.frames;
+    drop(raw);
+    Ok(frames)
 }
 
 #[test]
 fn numbers_are_read_as_they_are_written(rt: HostRuntime) {
-    for (written, number) in NUMBERS {
-        has_frames(&rt, rt.alloc(), written, number);
+    for &(written, number) in &NUMBERS {
+        is_equal(&rt, written, frames_of(rt.alloc(), written), Ok(number));
     }
 }
 
@@ -307,20 +324,24 @@ const FULL: [(&str, &str); 5] = [
     ("wb = 10, tlb = 1", "wb = 9, tlb = 7"),
 ];
 
-fn full_image(alloc: Global) -> Result<Raw, ReadRefusal> {
+fn full_image(alloc: Global) -> Result<String, ReadRefusal> {
     let mut text = String::from_str(alloc, IMAGE)?;
-    for (old, new) in FULL {
+    for (old, new) in &FULL {
         text = text.replace(alloc, old, new)?;
     }
-    read_image(alloc, text.as_bytes())
+    Ok(text)
+}
+
+fn full_record(alloc: Global) -> Result<Raw, ReadRefusal> {
+    read_image(alloc, full_image(alloc)?.as_bytes())
 }
 
 fn are_numbers(rt: &impl Abort, found: &[i64], wanted: &[i64]) {
-    assert_eq!(rt; found, wanted);
+    is_equal(rt, "numbers", found, wanted);
 }
 
 fn is_text(rt: &impl Abort, found: &str, wanted: &str) {
-    assert_eq!(rt; found, wanted);
+    is_equal(rt, "text", found, wanted);
 }
 
 fn is_cache(rt: &impl Abort, cache: &RawCache, sets: i64, ways: i64, policy: &str) {
@@ -345,7 +366,7 @@ fn is_machine(rt: &impl Abort, raw: &Raw) {
         &[raw.frames, raw.shared, raw.line, raw.predictor],
         &[64, 512, 64, 16],
     );
-    assert_eq!(rt; raw.costs, costs);
+    is_equal(rt, "costs", raw.costs, costs);
     has_later(rt, raw, -3, Some(RawMuldiv { mul: 0, div: 1001 }), Some(3));
     is_cache(rt, &raw.l1i, 32, 1, "fifo");
     is_cache(rt, &raw.l1d, 16, 2, "lru");
@@ -360,10 +381,9 @@ fn has_later(
     muldiv: Option<RawMuldiv>,
     targets: Option<i64>,
 ) {
-    assert_eq!(rt;
-        (raw.history, raw.muldiv, raw.targets),
-        (history, muldiv, targets)
-    );
+    is_equal(rt, "history", raw.history, history);
+    is_equal(rt, "muldiv", raw.muldiv, muldiv);
+    is_equal(rt, "targets", raw.targets, targets);
 }
 
 fn is_code(rt: &impl Abort, segment: &RawSegment, hex: &str) {
@@ -387,7 +407,7 @@ fn is_red(rt: &impl Abort, domain: &RawDomain) {
     are_numbers(rt, domain.colours.as_slice(), &[1]);
     are_numbers(rt, domain.lines.as_slice(), &[]);
     are_moments(rt, domain.moments.as_slice(), &[]);
-    assert_eq!(rt; domain.caps.len(), 0);
+    is_equal(rt, "caps", domain.caps.len(), 0);
     has_code(rt, domain.segments.as_slice(), RED_HEX);
 }
 
@@ -410,7 +430,7 @@ const BLUE_MOMENTS: [RawMoment; 2] = [
 ];
 
 fn are_moments(rt: &impl Abort, found: &[RawMoment], wanted: &[RawMoment]) {
-    assert_eq!(rt; found, wanted);
+    is_equal(rt, "moments", found, wanted);
 }
 
 fn are_caps(rt: &impl Abort, caps: &[String], first: &str, second: &str) {
@@ -419,28 +439,34 @@ fn are_caps(rt: &impl Abort, caps: &[String], first: &str, second: &str) {
     is_text(rt, caps[1].as_str(), second);
 }
 
+const ENTRIES: [RawEntry; 2] = [
+    RawEntry {
+        domain: 0,
+        length: 10000,
+        pad: 6150,
+        hart: 0,
+    },
+    RawEntry {
+        domain: 1,
+        length: 10000,
+        pad: 6150,
+        hart: 0,
+    },
+];
+
+fn are_both(rt: &impl Abort, domains: &[RawDomain]) {
+    assert_eq!(rt; domains.len(), 2);
+    is_red(rt, &domains[0]);
+    is_blue(rt, &domains[1]);
+}
+
 #[test]
 fn an_image_gives_its_record(rt: HostRuntime) -> Result<(), Fail> {
-    let raw = full_image(rt.alloc())?;
-    let schedule = [
-        RawEntry {
-            domain: 0,
-            length: 10000,
-            pad: 6150,
-            hart: 0,
-        },
-        RawEntry {
-            domain: 1,
-            length: 10000,
-            pad: 6150,
-            hart: 0,
-        },
-    ];
+    let raw = full_record(rt.alloc())?;
     is_machine(&rt, &raw);
-    assert_eq!(rt; raw.schedule.as_slice(), schedule.as_slice());
-    assert_eq!(rt; raw.domains.len(), 2);
-    is_red(&rt, &raw.domains[0]);
-    is_blue(&rt, &raw.domains[1]);
+    is_equal(&rt, "entries", raw.schedule.as_slice(), ENTRIES.as_slice());
+    are_both(&rt, raw.domains.as_slice());
+    drop(raw);
     Ok(())
 }
 
@@ -448,5 +474,6 @@ fn an_image_gives_its_record(rt: HostRuntime) -> Result<(), Fail> {
 fn what_is_missing_is_none(rt: HostRuntime) -> Result<(), Fail> {
     let raw = read_image(rt.alloc(), IMAGE.as_bytes())?;
     has_later(&rt, &raw, 0, None, None);
+    drop(raw);
     Ok(())
 }

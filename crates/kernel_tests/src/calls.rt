@@ -1,5 +1,7 @@
 // Calls that leave memory alone, and deliveries, step by step.
 ghost use Rattle.std.specs.Prelude.{◌≡◌, ◌∷◌, [], Some, None, IfOk, IfSome};
+ghost use Rattle.tp_base.specs.Table.{empty};
+ghost use Rattle.phys_mem.specs.Holds.{Holds};
 ghost use Rattle.frame_colours.specs.Colours.{whole_of, share_of};
 ghost use Rattle.frame_colours.specs.FreeList.{all_free};
 ghost use Rattle.cap_table.specs.declared.Cap.TheVariants as cap;
@@ -62,28 +64,38 @@ fn slots(alloc: Global, table: Frame<Table>) -> Result<CapTable, Memory>
     Ok(caps)
 }
 
-// With those slots, and a moment for each line, in a memory that reads zero.
-// Thread 0 begins at 0x10000.
-pub fn opened(alloc: Global) -> Result<(Domain, PhysMem), Memory>
-    ensures valid { IfOk result (λ made. Valid made.1 made.0) }
+// With those slots, and a moment for each line, in a memory that reads zero, which is
+// lent for the prover. Thread 0 begins at 0x10000.
+fn opened_in(alloc: Global, memory: &mut PhysMem) -> Result<Domain, Memory>
+    requires size { memory.old.frames ≡ 64 }
+    requires zero { Holds memory.old empty }
+    ensures valid { IfOk result (λ domain. Valid memory.new domain) }
 {
-    let mut memory = PhysMem::new(alloc, 64)?;
-    let mut pool = frames(alloc)?;
-    let root = pool.take().ok_or(Memory)?.table(&mut memory);
-    let table = pool.take().ok_or(Memory)?.table(&mut memory);
     let moments = [Moment { at: 100, line: 3 }, Moment { at: 100, line: 5 }];
+    let interrupts = IrqPart::new(alloc, &moments)?;
+    let mut pool = frames(alloc)?;
+    let root = pool.take().ok_or(Memory)?.table(memory);
+    let table = pool.take().ok_or(Memory)?.table(memory);
     let begin = Beginning {
+        caps: slots(alloc, table)?,
         pool,
         tables: Vec::new(alloc),
         kept: Vec::new(alloc),
-        caps: slots(alloc, table)?,
         map: PageMap::new(root),
-        interrupts: IrqPart::new(alloc, &moments)?,
+        interrupts,
         threads: ThreadSet::new(0x10000),
         layout: layout(),
         calls: EVERY_CALL,
     };
     let domain = Domain::new(alloc, begin)?;
+    Ok(domain)
+}
+
+pub fn opened(alloc: Global) -> Result<(Domain, PhysMem), Memory>
+    ensures valid { IfOk result (λ made. Valid made.1 made.0) }
+{
+    let mut memory = PhysMem::new(alloc, 64)?;
+    let domain = opened_in(alloc, &mut memory)?;
     Ok((domain, memory))
 }
 
@@ -190,15 +202,6 @@ const YIELD: Step = Step::Call(13, 0, 0);
 
 const END: Step = Step::Call(14, 0, 0);
 
-fn on(number: u32, slot: u32) -> Step {
-    Step::Call(number, slot, 0)
-}
-
-// Where the one thread goes on.
-fn alone(step: Step, code: u32, value: u32) -> Row {
-    (step, Some((code, value)), Some(0), *b"rnnn")
-}
-
 // A thread's pc, x10 and x11.
 fn place(domain: &Domain, t: u8) -> [u32; 3] {
     if t > 7 {
@@ -233,97 +236,131 @@ fn has_told(domain: &Domain, values: &[u32]) -> bool {
     true
 }
 
+// What rows come to in an opened domain. For the prover no assert stands where one is
+// held.
+#[derive(Clone, Copy)]
+struct Found {
+    // The first row that doesn't come out.
+    wrong: Option<usize>,
+    status: DomainStatus,
+    // Of threads 0 to 2.
+    places: [[u32; 3]; 3],
+    // Whether thread 2 has started with 9.
+    has_started: bool,
+}
+
+fn after(alloc: Global, rows: &[Row]) -> Result<Found, Memory> {
+    let (mut domain, mut memory) = opened(alloc)?;
+    let wrong = first_wrong(&mut domain, &mut memory, rows);
+    Ok(Found {
+        wrong,
+        status: domain.status,
+        places: [place(&domain, 0), place(&domain, 1), place(&domain, 2)],
+        has_started: has_started(&domain, 2, 9),
+    })
+}
+
+// The one thread goes on.
+#[rattlefmt::skip]
+const ON_LINES: [Row; 25] = [
+    (Step::Call(POLL, 64, 0), Some((2, 0)), Some(0), *b"rnnn"),
+    (Step::Call(POLL, 9, 0), Some((3, 0)), Some(0), *b"rnnn"),
+    (Step::Call(POLL, 1, 0), Some((5, 0)), Some(0), *b"rnnn"),
+    (Step::Call(WAIT, 64, 0), Some((2, 0)), Some(0), *b"rnnn"),
+    (Step::Call(WAIT, 9, 0), Some((3, 0)), Some(0), *b"rnnn"),
+    (Step::Call(WAIT, 1, 0), Some((5, 0)), Some(0), *b"rnnn"),
+    (Step::Call(SIGNAL, 64, 0), Some((2, 0)), Some(0), *b"rnnn"),
+    (Step::Call(SIGNAL, 9, 0), Some((3, 0)), Some(0), *b"rnnn"),
+    (Step::Call(SIGNAL, 1, 0), Some((5, 0)), Some(0), *b"rnnn"),
+    (Step::Call(POLL, 0, 0), Some((0, 0)), Some(0), *b"rnnn"),
+    (Step::Call(SIGNAL, 0, 0), Some((0, 0)), Some(0), *b"rnnn"),
+    (Step::Call(POLL, 2, 0), Some((0, 0)), Some(0), *b"rnnn"),
+    (Step::Call(POLL, 0, 0), Some((0, 1)), Some(0), *b"rnnn"),
+    (Step::Call(POLL, 0, 0), Some((0, 0)), Some(0), *b"rnnn"),
+    (Step::Call(SIGNAL, 0, 0), Some((0, 0)), Some(0), *b"rnnn"),
+    (Step::Call(WAIT, 0, 0), Some((0, 1)), Some(0), *b"rnnn"),
+    (Step::Call(POLL, 0, 0), Some((0, 0)), Some(0), *b"rnnn"),
+    // A line's copy, with no rights, names the same line, and is revoked.
+    (Step::Call(COPY, 0, 7), Some((0, 0)), Some(0), *b"rnnn"),
+    (Step::Call(SIGNAL, 7, 0), Some((0, 0)), Some(0), *b"rnnn"),
+    (Step::Call(POLL, 0, 0), Some((0, 1)), Some(0), *b"rnnn"),
+    (Step::Call(POLL, 7, 0), Some((0, 0)), Some(0), *b"rnnn"),
+    (Step::Call(REVOKE, 0, 0), Some((0, 1)), Some(0), *b"rnnn"),
+    (Step::Call(POLL, 7, 0), Some((3, 0)), Some(0), *b"rnnn"),
+    (Step::Call(POLL, 2, 0), Some((0, 0)), Some(0), *b"rnnn"),
+    (Step::Call(15, 0, 0), Some((1, 0)), Some(0), *b"rnnn"),
+];
+
 #[test]
 fn calls_on_lines(rt: HostRuntime) -> Result<(), Fail> {
-    let (mut domain, mut memory) = opened(rt.alloc())?;
-    let rows = [
-        alone(on(POLL, 64), 2, 0),
-        alone(on(POLL, 9), 3, 0),
-        alone(on(POLL, 1), 5, 0),
-        alone(on(WAIT, 64), 2, 0),
-        alone(on(WAIT, 9), 3, 0),
-        alone(on(WAIT, 1), 5, 0),
-        alone(on(SIGNAL, 64), 2, 0),
-        alone(on(SIGNAL, 9), 3, 0),
-        alone(on(SIGNAL, 1), 5, 0),
-        alone(on(POLL, 0), 0, 0),
-        alone(on(SIGNAL, 0), 0, 0),
-        alone(on(POLL, 2), 0, 0),
-        alone(on(POLL, 0), 0, 1),
-        alone(on(POLL, 0), 0, 0),
-        alone(on(SIGNAL, 0), 0, 0),
-        alone(on(WAIT, 0), 0, 1),
-        alone(on(POLL, 0), 0, 0),
-        // A line's copy, with no rights, names the same line, and is revoked.
-        alone(Step::Call(COPY, 0, 7), 0, 0),
-        alone(on(SIGNAL, 7), 0, 0),
-        alone(on(POLL, 0), 0, 1),
-        alone(on(POLL, 7), 0, 0),
-        alone(on(REVOKE, 0), 0, 1),
-        alone(on(POLL, 7), 3, 0),
-        alone(on(POLL, 2), 0, 0),
-        alone(on(15, 0), 1, 0),
-    ];
-    assert_eq!(rt; first_wrong(&mut domain, &mut memory, &rows), None);
-    assert_eq!(rt; place(&domain, 0), [0x10064, 1, 0]);
+    let found = after(rt.alloc(), &ON_LINES)?;
+    assert_eq!(rt; (found.wrong, found.places[0]), (None, [0x10064, 1, 0]));
     Ok(())
 }
 
+const START: Step = Step::Call(SPAWN, 0x20004, 9);
+
+#[rattlefmt::skip]
+const TURNS: [Row; 18] = [
+    (Step::Call(SPAWN, 0x20002, 9), Some((7, 0)), Some(0), *b"rnnn"),
+    (START, Some((0, 1)), Some(0), *b"rrnn"),
+    (YIELD, Some((0, 0)), Some(1), *b"rrnn"),
+    (START, Some((0, 2)), Some(1), *b"rrrn"),
+    (START, Some((0, 3)), Some(1), *b"rrrr"),
+    (START, Some((0, 4)), Some(1), *b"rrrr"),
+    (START, Some((0, 5)), Some(1), *b"rrrr"),
+    (START, Some((0, 6)), Some(1), *b"rrrr"),
+    (START, Some((0, 7)), Some(1), *b"rrrr"),
+    (START, Some((13, 0)), Some(1), *b"rrrr"),
+    (Step::Call(WAIT, 0, 0), None, Some(2), *b"rwrr"),
+    (START, Some((13, 0)), Some(2), *b"rwrr"),
+    // Thread 2 ends with 1 in x11; 3, which starts it anew, has that too.
+    (Step::Call(SIGNAL, 2, 0), Some((0, 0)), Some(2), *b"rwrr"),
+    (Step::Call(POLL, 2, 0), Some((0, 1)), Some(2), *b"rwrr"),
+    (END, None, Some(3), *b"rwer"),
+    (Step::Call(SIGNAL, 2, 0), Some((0, 0)), Some(3), *b"rwer"),
+    (Step::Call(POLL, 2, 0), Some((0, 1)), Some(3), *b"rwer"),
+    (START, Some((0, 2)), Some(3), *b"rwrr"),
+];
+
 #[test]
 fn threads_start_and_take_turns(rt: HostRuntime) -> Result<(), Fail> {
-    let (mut domain, mut memory) = opened(rt.alloc())?;
-    let start = Step::Call(SPAWN, 0x20004, 9);
-    let rows = [
-        alone(Step::Call(SPAWN, 0x20002, 9), 7, 0),
-        (start, Some((0, 1)), Some(0), *b"rrnn"),
-        (YIELD, Some((0, 0)), Some(1), *b"rrnn"),
-        (start, Some((0, 2)), Some(1), *b"rrrn"),
-        (start, Some((0, 3)), Some(1), *b"rrrr"),
-        (start, Some((0, 4)), Some(1), *b"rrrr"),
-        (start, Some((0, 5)), Some(1), *b"rrrr"),
-        (start, Some((0, 6)), Some(1), *b"rrrr"),
-        (start, Some((0, 7)), Some(1), *b"rrrr"),
-        (start, Some((13, 0)), Some(1), *b"rrrr"),
-        (on(WAIT, 0), None, Some(2), *b"rwrr"),
-        (start, Some((13, 0)), Some(2), *b"rwrr"),
-        // Thread 2 ends with 1 in x11; 3, which starts it anew, has that too.
-        (on(SIGNAL, 2), Some((0, 0)), Some(2), *b"rwrr"),
-        (on(POLL, 2), Some((0, 1)), Some(2), *b"rwrr"),
-        (END, None, Some(3), *b"rwer"),
-        (on(SIGNAL, 2), Some((0, 0)), Some(3), *b"rwer"),
-        (on(POLL, 2), Some((0, 1)), Some(3), *b"rwer"),
-        (start, Some((0, 2)), Some(3), *b"rwrr"),
-    ];
-    assert_eq!(rt; first_wrong(&mut domain, &mut memory, &rows), None);
-    let places = [place(&domain, 1), place(&domain, 2)];
-    assert_eq!(rt; places, [[0x20024, 13, 0], [0x20004, 9, 0]]);
-    assert!(rt; has_started(&domain, 2, 9));
+    let found = after(rt.alloc(), &TURNS)?;
+    let [_, first, second] = found.places;
+    assert_eq!(rt; (found.wrong, found.has_started), (None, true));
+    assert_eq!(rt; [first, second], [[0x20024, 13, 0], [0x20004, 9, 0]]);
     Ok(())
+}
+
+#[rattlefmt::skip]
+const WAKES: [Row; 12] = [
+    (Step::Call(SPAWN, 0x20000, 0), Some((0, 1)), Some(0), *b"rrnn"),
+    (Step::Call(SPAWN, 0x20000, 0), Some((0, 2)), Some(0), *b"rrrn"),
+    (Step::Call(WAIT, 0, 0), None, Some(1), *b"wrrn"),
+    (Step::Call(WAIT, 0, 0), None, Some(2), *b"wwrn"),
+    (Step::Call(SIGNAL, 2, 0), Some((0, 0)), Some(2), *b"wwrn"),
+    (Step::Call(SIGNAL, 0, 0), Some((0, 0)), Some(2), *b"rwrn"),
+    (Step::Deliver, None, Some(2), *b"rrrn"),
+    (Step::Call(POLL, 2, 0), Some((0, 1)), Some(2), *b"rrrn"),
+    (Step::Deliver, None, Some(2), *b"rrrn"),
+    (Step::Deliver, Some((99, 99)), Some(2), *b"rrrn"),
+    (Step::Call(POLL, 2, 0), Some((0, 1)), Some(2), *b"rrrn"),
+    (Step::Call(POLL, 0, 0), Some((0, 0)), Some(2), *b"rrrn"),
+];
+
+// The first of those rows that doesn't come out, whether the values are told, and the
+// place of thread 0 then.
+fn woken(alloc: Global, values: &[u32]) -> Result<(Option<usize>, bool, [u32; 3]), Memory> {
+    let (mut domain, mut memory) = opened(alloc)?;
+    let wrong = first_wrong(&mut domain, &mut memory, &WAKES);
+    Ok((wrong, has_told(&domain, values), place(&domain, 0)))
 }
 
 // Who is woken has its reply before the caller.
 #[test]
 fn a_line_wakes_the_least_that_waits(rt: HostRuntime) -> Result<(), Fail> {
-    let (mut domain, mut memory) = opened(rt.alloc())?;
-    let start = Step::Call(SPAWN, 0x20000, 0);
-    let rows = [
-        (start, Some((0, 1)), Some(0), *b"rrnn"),
-        (start, Some((0, 2)), Some(0), *b"rrrn"),
-        (on(WAIT, 0), None, Some(1), *b"wrrn"),
-        (on(WAIT, 0), None, Some(2), *b"wwrn"),
-        (on(SIGNAL, 2), Some((0, 0)), Some(2), *b"wwrn"),
-        (on(SIGNAL, 0), Some((0, 0)), Some(2), *b"rwrn"),
-        (Step::Deliver, None, Some(2), *b"rrrn"),
-        (on(POLL, 2), Some((0, 1)), Some(2), *b"rrrn"),
-        (Step::Deliver, None, Some(2), *b"rrrn"),
-        (Step::Deliver, Some((99, 99)), Some(2), *b"rrrn"),
-        (on(POLL, 2), Some((0, 1)), Some(2), *b"rrrn"),
-        (on(POLL, 0), Some((0, 0)), Some(2), *b"rrrn"),
-    ];
-    assert_eq!(rt; first_wrong(&mut domain, &mut memory, &rows), None);
     let values = [1, 2, 0, 1, 0, 1, 1, 1, 0];
-    let told = has_told(&domain, &values);
-    assert_eq!(rt; (told, place(&domain, 0)), (true, [0x1000c, 0, 1]));
+    assert_eq!(rt; woken(rt.alloc(), &values)?, (None, true, [0x1000c, 0, 1]));
     Ok(())
 }
 
@@ -352,17 +389,11 @@ const ENDS: [(&[Row], DomainStatus); 4] = [
     ], DomainStatus::Exited(5)),
 ];
 
-// The first of such rows that doesn't come out, and the domain's status then.
-fn ended(alloc: Global, rows: &[Row]) -> Result<(Option<usize>, DomainStatus), Memory> {
-    let (mut domain, mut memory) = opened(alloc)?;
-    let wrong = first_wrong(&mut domain, &mut memory, rows);
-    Ok((wrong, domain.status))
-}
-
 #[test]
 fn the_last_thread_ends_its_domain(rt: HostRuntime) -> Result<(), Fail> {
-    for (rows, status) in ENDS {
-        assert_eq!(rt; ended(rt.alloc(), rows)?, (None, status));
+    for &(rows, status) in &ENDS {
+        let found = after(rt.alloc(), rows)?;
+        assert_eq!(rt; (found.wrong, found.status), (None, status));
     }
     Ok(())
 }

@@ -4,6 +4,7 @@ ghost use Rattle.std.specs.Prelude.{⊤};
 use cap_table::{Cap, CapTable, Given, Gone};
 use frame_colours::{AllColours, Pool};
 use std::alloc::Global;
+use std::process::Abort;
 use std::test::Fail;
 use tp_base::{FrameNo, Memory, Rights, Zero};
 
@@ -97,9 +98,9 @@ fn revoked(caps: &mut CapTable, slot: u32) -> Option<(u32, u32, u32, u32)> {
     }
 }
 
-#[test]
-fn frames_come_back_with_their_last_capability(rt: HostRuntime) -> Result<(), Fail> {
-    let mut caps = filled(rt.alloc())?;
+// For the prover the slots are lent to functions with few asserts each.
+
+fn fill_more(caps: &mut CapTable) {
     // Page 1 has slots 0, 63, 9 and 10, of which 9 isn't mapped; line 3 has 2 and 11.
     for (from, to, rights) in [
         (0, 63, Rights::new(1)),
@@ -108,7 +109,7 @@ fn frames_come_back_with_their_last_capability(rt: HostRuntime) -> Result<(), Fa
         (2, 11, Rights::new(0)),
         (1, 12, Rights::new(7)),
     ] {
-        copy(&mut caps, from, to, rights);
+        copy(caps, from, to, rights);
     }
     for (slot, at) in [
         (1, 0x0040_0000),
@@ -117,8 +118,11 @@ fn frames_come_back_with_their_last_capability(rt: HostRuntime) -> Result<(), Fa
         (10, 0x007f_f000),
         (2, 0x0040_0000),
     ] {
-        note(&mut caps, slot, Some(at));
+        note(caps, slot, Some(at));
     }
+}
+
+fn slots_are_filled(rt: &impl Abort, caps: &CapTable) {
     let in_use = [caps.in_use(0), caps.in_use(1), caps.in_use(2)];
     assert_eq!(rt; in_use, [false, true, false]);
     assert_eq!(rt; caps.get(12), None);
@@ -131,27 +135,44 @@ fn frames_come_back_with_their_last_capability(rt: HostRuntime) -> Result<(), Fa
             mapped: Some(0x007f_f000),
         })
     );
+}
+
+// A slot, and what comes back when it is deleted.
+type Deleted = (u32, Option<[Option<u32>; 4]>);
+
+fn slots_are_deleted(rt: &impl Abort, caps: &mut CapTable, rows: &[Deleted]) {
+    for &(slot, gone) in rows {
+        assert_eq!(rt; deleted(caps, slot), gone, "slot {slot}");
+    }
+}
+
+fn slots_are_emptied(rt: &impl Abort, caps: &mut CapTable) {
     // A table is deleted when no page is mapped through it.
-    for (slot, gone) in [
-        (1, None),
-        (0, Some([Some(0x0040_1000), None, None, None])),
-        (1, None),
-    ] {
-        assert_eq!(rt; deleted(&mut caps, slot), gone, "slot {slot}");
-    }
-    assert_eq!(rt;
-        revoked(&mut caps, 9),
-        Some((2, 2, 0x007f_f000, 0x0080_0000))
-    );
-    assert_eq!(rt; revoked(&mut caps, 2), Some((1, 0, 0, 0)));
-    for (slot, gone) in [
-        (1, Some([None, Some(0x0040_0000), None, Some(5)])),
-        (63, None),
-        (9, Some([None, None, Some(1), None])),
-        (2, Some([None; 4])),
-        (11, None),
-    ] {
-        assert_eq!(rt; deleted(&mut caps, slot), gone, "slot {slot}");
-    }
+    slots_are_deleted(rt, caps, &TABLE_IN_USE);
+    assert_eq!(rt; revoked(caps, 9), Some((2, 2, 0x007f_f000, 0x0080_0000)));
+    assert_eq!(rt; revoked(caps, 2), Some((1, 0, 0, 0)));
+    slots_are_deleted(rt, caps, &LAST);
+}
+
+const TABLE_IN_USE: [Deleted; 3] = [
+    (1, None),
+    (0, Some([Some(0x0040_1000), None, None, None])),
+    (1, None),
+];
+
+const LAST: [Deleted; 5] = [
+    (1, Some([None, Some(0x0040_0000), None, Some(5)])),
+    (63, None),
+    (9, Some([None, None, Some(1), None])),
+    (2, Some([None; 4])),
+    (11, None),
+];
+
+#[test]
+fn frames_come_back_with_their_last_capability(rt: HostRuntime) -> Result<(), Fail> {
+    let mut caps = filled(rt.alloc())?;
+    fill_more(&mut caps);
+    slots_are_filled(&rt, &caps);
+    slots_are_emptied(&rt, &mut caps);
     Ok(())
 }

@@ -10,6 +10,7 @@ use frame_colours::{AllColours, Frame, Pool, Table};
 use page_map::{MapRefusal, PageMap};
 use phys_mem::PhysMem;
 use std::alloc::Global;
+use std::process::Abort;
 use sv32_walk::{Access, WalkFault, walk};
 use tp_base::{FrameNo, Memory, Rights};
 
@@ -107,97 +108,131 @@ fn page_with(
     Ok((at, walks(&mem, &map, 0x0040_5fff)))
 }
 
+fn page_is(
+    rt: &impl Abort,
+    alloc: Global,
+    rights: Rights,
+    walks: [Result<u32, WalkFault>; 3],
+) -> Result<(), Memory>
+    requires rights { are_good rights ≡ true }
+{
+    assert_eq!(rt; page_with(alloc, rights)?, (Ok(0x3014), walks));
+    Ok(())
+}
+
 #[test]
 fn rights(rt: HostRuntime) -> Result<(), Memory> {
-    let at = Ok(0x3014);
+    let alloc = rt.alloc();
     let page = Err(WalkFault::Page);
-    assert_eq!(rt;
-        page_with(rt.alloc(), Rights::new(1))?,
-        (at, [page, Ok(0x1453), page])
-    );
-    assert_eq!(rt;
-        page_with(rt.alloc(), Rights::new(3))?,
-        (at, [page, Ok(0x14d7), Ok(0x14d7)])
-    );
-    assert_eq!(rt;
-        page_with(rt.alloc(), Rights::new(4))?,
-        (at, [Ok(0x1459), page, page])
-    );
-    assert_eq!(rt;
-        page_with(rt.alloc(), Rights::new(5))?,
-        (at, [Ok(0x145b), Ok(0x145b), page])
-    );
-    assert_eq!(rt;
-        page_with(rt.alloc(), Rights::new(7))?,
-        (at, [Ok(0x14df), Ok(0x14df), Ok(0x14df)])
-    );
-    Ok(())
+    page_is(&rt, alloc, Rights::new(1), [page, Ok(0x1453), page])?;
+    page_is(&rt, alloc, Rights::new(3), [page, Ok(0x14d7), Ok(0x14d7)])?;
+    page_is(&rt, alloc, Rights::new(4), [Ok(0x1459), page, page])?;
+    page_is(&rt, alloc, Rights::new(5), [Ok(0x145b), Ok(0x145b), page])?;
+    page_is(
+        &rt,
+        alloc,
+        Rights::new(7),
+        [Ok(0x14df), Ok(0x14df), Ok(0x14df)],
+    )
+}
+
+// For the prover no assert stands where a memory is held, below.
+
+// Answers before a table is installed, at it, and after it; and the walks between and then.
+type Answers = (
+    [Result<u32, MapRefusal>; 3],
+    [Result<u32, MapRefusal>; 3],
+    [Result<u32, MapRefusal>; 4],
+    [[Result<u32, WalkFault>; 3]; 3],
+);
+
+fn refused(alloc: Global) -> Result<Answers, Memory> {
+    let (mut mem, mut map) = open(alloc)?;
+    let before = [
+        map_page(&mut mem, &mut map, 0x0040_5000, 3, Rights::new(1)),
+        map_page(&mut mem, &mut map, 0x0040_5004, 3, Rights::new(1)),
+        install(&mut mem, &mut map, 0x0040_1000, 3),
+    ];
+    let at = [
+        install(&mut mem, &mut map, 0x0040_0000, 4),
+        install(&mut mem, &mut map, 0x0040_0000, 5),
+        install(&mut mem, &mut map, 0x0040_1000, 6),
+    ];
+    let between = walks(&mem, &map, 0x0040_5000);
+    let after = [
+        map_page(&mut mem, &mut map, 0x0040_5000, 7, Rights::new(7)),
+        map_page(&mut mem, &mut map, 0x0040_5000, 7, Rights::new(1)),
+        map_page(&mut mem, &mut map, 0x0040_5800, 7, Rights::new(1)),
+        map_page(&mut mem, &mut map, 0x0080_5000, 7, Rights::new(1)),
+    ];
+    let walks = [
+        between,
+        walks(&mem, &map, 0x0040_5000),
+        walks(&mem, &map, 0x0040_6000),
+    ];
+    Ok((before, at, after, walks))
 }
 
 #[test]
 fn refusals(rt: HostRuntime) -> Result<(), Memory> {
-    let (mut mem, mut map) = open(rt.alloc())?;
-    assert_eq!(rt;
-        map_page(&mut mem, &mut map, 0x0040_5000, 3, Rights::new(1)),
-        Err(MapRefusal::NoTable)
-    );
-    assert_eq!(rt;
-        map_page(&mut mem, &mut map, 0x0040_5004, 3, Rights::new(1)),
-        Err(MapRefusal::BadAddress)
-    );
-    assert_eq!(rt;
-        install(&mut mem, &mut map, 0x0040_1000, 3),
-        Err(MapRefusal::BadAddress)
-    );
-    assert_eq!(rt; install(&mut mem, &mut map, 0x0040_0000, 4), Ok(0x2004));
-    assert_eq!(rt;
-        install(&mut mem, &mut map, 0x0040_0000, 5),
-        Err(MapRefusal::Mapped)
-    );
-    assert_eq!(rt;
-        install(&mut mem, &mut map, 0x0040_1000, 6),
-        Err(MapRefusal::BadAddress)
-    );
-    assert_eq!(rt; walks(&mem, &map, 0x0040_5000), [Err(WalkFault::Page); 3]);
-    assert_eq!(rt;
-        map_page(&mut mem, &mut map, 0x0040_5000, 7, Rights::new(7)),
-        Ok(0x4014)
-    );
-    assert_eq!(rt;
-        map_page(&mut mem, &mut map, 0x0040_5000, 7, Rights::new(1)),
-        Err(MapRefusal::Mapped)
-    );
-    assert_eq!(rt;
-        map_page(&mut mem, &mut map, 0x0040_5800, 7, Rights::new(1)),
-        Err(MapRefusal::BadAddress)
-    );
-    assert_eq!(rt;
-        map_page(&mut mem, &mut map, 0x0080_5000, 7, Rights::new(1)),
-        Err(MapRefusal::NoTable)
-    );
-    assert_eq!(rt; walks(&mem, &map, 0x0040_5000), [Ok(0x1cdf); 3]);
-    assert_eq!(rt; walks(&mem, &map, 0x0040_6000), [Err(WalkFault::Page); 3]);
+    let no_table = Err(MapRefusal::NoTable);
+    let bad_address = Err(MapRefusal::BadAddress);
+    let mapped = Err(MapRefusal::Mapped);
+    let (before, at, after, walks) = refused(rt.alloc())?;
+    assert_eq!(rt; before, [no_table, bad_address, bad_address]);
+    assert_eq!(rt; at, [Ok(0x2004), mapped, bad_address]);
+    assert_eq!(rt; after, [Ok(0x4014), mapped, bad_address, no_table]);
+    let page = [Err(WalkFault::Page); 3];
+    assert_eq!(rt; walks, [page, [Ok(0x1cdf); 3], page]);
     Ok(())
+}
+
+// The entries of a table that is installed and taken away, and the word that is left.
+fn table_cleared(alloc: Global) -> Result<(Result<u32, MapRefusal>, Option<u32>, u32), Memory> {
+    let (mut mem, mut map) = open(alloc)?;
+    let installed = install(&mut mem, &mut map, 0x0040_0000, 3);
+    let uninstalled = match installed {
+        Ok(_) => Some(map.uninstall_table(&mut mem, 0x0040_0000)),
+        Err(_) => None,
+    };
+    Ok((installed, uninstalled, mem.read_word(0x2004)))
+}
+
+// The entries of a page that is mapped and taken away, and the walks in it and in the one
+// before it then.
+fn page_cleared(
+    alloc: Global,
+) -> Result<
+    (
+        Result<u32, MapRefusal>,
+        Option<u32>,
+        [[Result<u32, WalkFault>; 3]; 2],
+    ),
+    Memory,
+> {
+    let (mut mem, mut map) = open(alloc)?;
+    let _ = install(&mut mem, &mut map, 0x0040_0000, 3);
+    let _ = map_page(&mut mem, &mut map, 0x0040_4000, 4, Rights::new(3));
+    let mapped = map_page(&mut mem, &mut map, 0x0040_5000, 4, Rights::new(3));
+    let unmapped = match mapped {
+        Ok(_) => Some(map.unmap(&mut mem, 0x0040_5000)),
+        Err(_) => None,
+    };
+    let walks = [
+        walks(&mem, &map, 0x0040_5000),
+        walks(&mem, &map, 0x0040_4000),
+    ];
+    Ok((mapped, unmapped, walks))
 }
 
 #[test]
 fn clearing(rt: HostRuntime) -> Result<(), Memory> {
+    assert_eq!(rt; table_cleared(rt.alloc())?, (Ok(0x2004), Some(0x2004), 0));
     let page = Err(WalkFault::Page);
-    let (mut mem, mut map) = open(rt.alloc())?;
-    let installed = install(&mut mem, &mut map, 0x0040_0000, 3);
-    assert_eq!(rt; installed, Ok(0x2004));
-    assert_eq!(rt; map.uninstall_table(&mut mem, 0x0040_0000), 0x2004);
-    assert_eq!(rt; mem.read_word(0x2004), 0);
-    let (mut mem, mut map) = open(rt.alloc())?;
-    let _ = install(&mut mem, &mut map, 0x0040_0000, 3);
-    let _ = map_page(&mut mem, &mut map, 0x0040_4000, 4, Rights::new(3));
-    let mapped = map_page(&mut mem, &mut map, 0x0040_5000, 4, Rights::new(3));
-    assert_eq!(rt; mapped, Ok(0x3014));
-    assert_eq!(rt; map.unmap(&mut mem, 0x0040_5000), 0x3014);
-    assert_eq!(rt; walks(&mem, &map, 0x0040_5000), [page; 3]);
+    let walks = [[page; 3], [page, Ok(0x10d7), Ok(0x10d7)]];
     assert_eq!(rt;
-        walks(&mem, &map, 0x0040_4000),
-        [page, Ok(0x10d7), Ok(0x10d7)]
+        page_cleared(rt.alloc())?,
+        (Ok(0x3014), Some(0x3014), walks)
     );
     Ok(())
 }

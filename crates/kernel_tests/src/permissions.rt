@@ -43,14 +43,24 @@ fn is_bad(outcome: &Option<Outcome>) -> bool {
     }
 }
 
+fn is_refused(alloc: Global, calls: u32, number: u32, args: [u32; 3]) -> Result<bool, Memory> {
+    Ok(is_bad(&made_among(alloc, calls, number, args)?))
+}
+
+// The reply and the operation of a call on slots 0 and 1.
+fn told(alloc: Global, calls: u32, number: u32) -> Result<Option<(Option<Reply>, u32)>, Memory> {
+    let made = made_among(alloc, calls, number, [0, 1, 7])?;
+    Ok(made.map(|outcome| (outcome.reply, u32::from(outcome.work.op))))
+}
+
 #[test]
 fn a_call_that_is_left_out_is_a_bad_call(rt: HostRuntime) -> Result<(), Fail> {
     for number in 0..15 {
         let others = EVERY_CALL & !(1 << number);
         // Whatever else it would be refused by: no slot, an empty one, a used one.
         for args in [[64, 64, 64], [40, 0, 0], [0, 1, 7], [2, 0x1000, 9]] {
-            assert!(rt; is_bad(&made_among(rt.alloc(), others, number, args)?));
-            assert!(rt; is_bad(&made_among(rt.alloc(), 0, number, args)?));
+            assert!(rt; is_refused(rt.alloc(), others, number, args)?);
+            assert!(rt; is_refused(rt.alloc(), 0, number, args)?);
         }
     }
     Ok(())
@@ -59,20 +69,20 @@ fn a_call_that_is_left_out_is_a_bad_call(rt: HostRuntime) -> Result<(), Fail> {
 #[test]
 fn a_call_that_is_listed_is_made(rt: HostRuntime) -> Result<(), Fail> {
     for number in 0..15 {
-        let alone = made_among(rt.alloc(), 1 << number, number, [0, 1, 7])?;
-        let among_all = made_among(rt.alloc(), EVERY_CALL, number, [0, 1, 7])?;
-        assert!(rt; !is_bad(&alone));
-        match (alone, among_all) {
-            (Some(alone), Some(among_all)) => {
-                assert_eq!(rt; alone.reply, among_all.reply);
-                assert_eq!(rt; u32::from(alone.work.op), number);
-            }
-            _ => assert!(rt; false),
-        }
+        assert!(rt; !is_refused(rt.alloc(), 1 << number, number, [0, 1, 7])?);
+        let alone = told(rt.alloc(), 1 << number, number)?;
+        let among_all = told(rt.alloc(), EVERY_CALL, number)?;
+        assert_eq!(rt; alone, among_all);
+        assert!(rt; alone.is_some_and(|(_, operation)| operation == number));
     }
-    // A bit above the calls' allows none.
-    assert!(rt; is_bad(&made_among(rt.alloc(), 0xffff_ffff, 15, [0, 0, 0])?));
-    assert!(rt; is_bad(&made_among(rt.alloc(), 0xffff_ffff, 31, [0, 0, 0])?));
-    assert!(rt; is_bad(&made_among(rt.alloc(), 0xffff_ffff, 32, [0, 0, 0])?));
+    Ok(())
+}
+
+// A bit above the calls' allows none.
+#[test]
+fn no_bit_allows_another_call(rt: HostRuntime) -> Result<(), Fail> {
+    for number in [15, 31, 32] {
+        assert!(rt; is_refused(rt.alloc(), 0xffff_ffff, number, [0, 0, 0])?);
+    }
     Ok(())
 }

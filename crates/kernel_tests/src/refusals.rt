@@ -9,8 +9,9 @@ use cap_table::Cap;
 use kernel_call::{Domain, Outcome};
 use kernel_clone::{BAD_CALL, Kind, Work, touches};
 use phys_mem::PhysMem;
+use std::alloc::Global;
 use std::test::Fail;
-use tp_base::{FrameNo, Rights};
+use tp_base::{FrameNo, Memory, Rights};
 
 const PUT: u32 = 1;
 
@@ -226,16 +227,21 @@ const WITH_NO_FRAME: [Refused; 6] = [
     (SPAWN, [0x20000, 0, 0], 13),
 ];
 
-#[test]
-fn errors_are_tested_in_the_order_of_their_numbers(rt: HostRuntime) -> Result<(), Fail> {
-    let (mut domain, mut memory) = opened(rt.alloc())?;
-    let wrong = [
+// The first call of each table that does not come out so. For the prover no assert
+// stands where a domain is held.
+fn wrong_ones(alloc: Global) -> Result<[Option<usize>; 4], Memory> {
+    let (mut domain, mut memory) = opened(alloc)?;
+    Ok([
         not_done(&mut domain, &mut memory, &FIRST),
         not_refused(&mut domain, &mut memory, &PAIRS),
         not_done(&mut domain, &mut memory, &LAST),
         not_refused(&mut domain, &mut memory, &WITH_NO_FRAME),
-    ];
-    assert_eq!(rt; wrong, [None; 4]);
+    ])
+}
+
+#[test]
+fn errors_are_tested_in_the_order_of_their_numbers(rt: HostRuntime) -> Result<(), Fail> {
+    assert_eq!(rt; wrong_ones(rt.alloc())?, [None; 4]);
     Ok(())
 }
 
@@ -248,12 +254,17 @@ fn word_at(memory: &PhysMem, at: u32) -> Option<u32> {
     Some(memory.read_word(at))
 }
 
+// The first of the calls that is not done so, and the leaf that they write.
+fn leaf_written(alloc: Global) -> Result<(Option<usize>, Option<u32>), Memory> {
+    let (mut domain, mut memory) = opened(alloc)?;
+    let wrong = not_done(&mut domain, &mut memory, &FIRST);
+    Ok((wrong, word_at(&memory, 0x5000)))
+}
+
 // A page of all rights is mapped to be read and written: frame 9, and D, A, U, W, R and V.
 #[test]
 fn a_leaf_has_the_rights_that_are_asked_for(rt: HostRuntime) -> Result<(), Fail> {
-    let (mut domain, mut memory) = opened(rt.alloc())?;
-    assert_eq!(rt; not_done(&mut domain, &mut memory, &FIRST), None);
-    assert_eq!(rt; word_at(&memory, 0x5000), Some(0x24d7));
+    assert_eq!(rt; leaf_written(rt.alloc())?, (None, Some(0x24d7)));
     Ok(())
 }
 
@@ -298,16 +309,24 @@ const WRITES: [Done; 33] = [
     (ALLOC, [63, 1, 0], 0, Stored::Frame(9)),
 ];
 
+// The first of those calls that is not done so, whether this is printed, and what
+// slot 0 has then.
+fn written(alloc: Global, printed: &[u8]) -> Result<(Option<usize>, bool, Option<Cap>), Memory> {
+    let (mut domain, mut memory) = opened(alloc)?;
+    let wrong = not_done(&mut domain, &mut memory, &WRITES);
+    let is_printed = domain.printed.as_slice() == printed;
+    Ok((wrong, is_printed, domain.caps.get(0)))
+}
+
 #[test]
 fn a_call_stores_what_it_writes(rt: HostRuntime) -> Result<(), Fail> {
-    let (mut domain, mut memory) = opened(rt.alloc())?;
-    assert_eq!(rt; not_done(&mut domain, &mut memory, &WRITES), None);
-    assert_eq!(rt; domain.printed.as_slice(), [0x7f, 0x80, 0xff].as_slice());
     let page = Cap::Frame {
         frame: FrameNo::new(5),
         rights: Rights::new(7),
         mapped: None,
     };
-    assert_eq!(rt; domain.caps.get(0), Some(page));
+    let (wrong, is_printed, slot) = written(rt.alloc(), &[0x7f, 0x80, 0xff])?;
+    assert_eq!(rt; (wrong, is_printed), (None, true));
+    assert_eq!(rt; slot, Some(page));
     Ok(())
 }

@@ -1,8 +1,11 @@
 // Red of two domains, slot by slot.
+ghost use Rattle.std.specs.Prelude.{◌≡◌};
+
 use crate::images::{MACHINE, RED_AND_BLUE, accepted};
 use crate::seen::{Seen, told};
 use alone_run::Alone;
 use call_table::{DomainStatus, Reply};
+use image_check::Checked;
 use std::alloc::Global;
 use std::test::Fail;
 use tp_base::Memory;
@@ -17,18 +20,33 @@ length = 1000
 pad = 7000
 ";
 
-// How many instructions of red retired in the first slot, and red after three.
-fn ran(alloc: Global) -> Result<Option<(u64, Seen)>, Memory> {
-    let Some(image) = accepted(alloc, &[MACHINE, RED_AND_BLUE, SCHEDULE])? else {
-        return Ok(None);
-    };
-    image.runnable();
-    let mut red = Alone::load(alloc, image.public(), image.own(0), 0)?;
+// For the prover an image and a domain are lent to functions that need not drop them.
+
+fn run_slots(red: &mut Alone<'_>) -> Option<(u64, Seen)>
+    requires slots { red.old.slots ≡ 0 }
+{
     red.run_slot();
     let retired = red.view().retired();
     red.run_slot();
     red.run_slot();
-    Ok(told(&red.view()).map(|seen| (retired, seen)))
+    told(&red.view()).map(|seen| (retired, seen))
+}
+
+fn run(alloc: Global, image: &Checked) -> Result<Option<(u64, Seen)>, Memory> {
+    image.runnable();
+    // For the prover no `?`, which would move the domain once more.
+    match Alone::load(alloc, image.public(), image.own(0), 0) {
+        Ok(mut red) => Ok(run_slots(&mut red)),
+        Err(error) => Err(error),
+    }
+}
+
+// How many instructions of red retired in the first slot, and red after three.
+fn ran(alloc: Global) -> Result<Option<(u64, Seen)>, Memory> {
+    match accepted(alloc, &[MACHINE, RED_AND_BLUE, SCHEDULE])? {
+        Some(image) => run(alloc, &image),
+        None => Ok(None),
+    }
 }
 
 // The first slot is blue's, after the last entry's pad; red's begins 7000 + 2000 +

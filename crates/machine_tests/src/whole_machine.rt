@@ -1,10 +1,13 @@
 // A run of two domains, slot by slot.
+ghost use Rattle.std.specs.Prelude.{◌≡◌};
+
 mod calls;
 mod timed_calls;
 
 use crate::images::{MACHINE, RED_AND_BLUE, accepted};
 use crate::seen::{Seen, told};
 use call_table::{DomainStatus, Reply};
+use image_check::Checked;
 use machine_state::has_one_hart;
 use std::alloc::Global;
 use std::test::Fail;
@@ -22,21 +25,36 @@ length = 2000
 pad = 6150
 ";
 
-// Red after three slots, and what the switches of the first entry took.
-fn ran(alloc: Global) -> Result<Option<(Seen, Used)>, Memory> {
-    let Some(image) = accepted(alloc, &[MACHINE, RED_AND_BLUE, SCHEDULE])? else {
-        return Ok(None);
-    };
-    image.runnable();
-    if !has_one_hart(&image) {
-        return Ok(None);
-    }
-    let mut machine = Machine::load(alloc, &image)?;
+// For the prover an image and a machine are lent to functions that need not drop them.
+
+fn run_slots(machine: &mut Machine<'_>) -> Option<(Seen, Used)>
+    requires slots { machine.old.slots ≡ 0 }
+{
+    machine.image().runnable();
     machine.run_slot();
     machine.run_slot();
     machine.run_slot();
     let used = machine.used(0);
-    Ok(told(&machine.view(0)).map(|seen| (seen, used)))
+    told(&machine.view(0)).map(|seen| (seen, used))
+}
+
+fn run(alloc: Global, image: &Checked) -> Result<Option<(Seen, Used)>, Memory> {
+    if !has_one_hart(image) {
+        return Ok(None);
+    }
+    // For the prover no `?`, which would move the machine once more.
+    match Machine::load(alloc, image) {
+        Ok(mut machine) => Ok(run_slots(&mut machine)),
+        Err(error) => Err(error),
+    }
+}
+
+// Red after three slots, and what the switches of the first entry took.
+fn ran(alloc: Global) -> Result<Option<(Seen, Used)>, Memory> {
+    match accepted(alloc, &[MACHINE, RED_AND_BLUE, SCHEDULE])? {
+        Some(image) => run(alloc, &image),
+        None => Ok(None),
+    }
 }
 
 // The first slot begins after the last entry's pad, at 6150.

@@ -7,6 +7,8 @@ ghost use Rattle.kernel_clone.specs.Models.{layout_model};
 use crate::hierarchies::small_parts;
 use domain_switch::{Switched, charge, switch};
 use kernel_clone::{BAD_CALL, CloneLayout, EVERY_CALL, Work};
+use l2_colour::L2;
+use mem_system::OnCore;
 use repl_policy::AnyPolicy;
 use std::alloc::Global;
 use std::process::Abort;
@@ -29,14 +31,17 @@ fn red() -> CloneLayout
     }
 }
 
+// For the prover the parts are lent to functions that need not drop them.
+
 // The boot, and a switch from the clone to itself at once.
-fn two_switches(alloc: Global, policy: AnyPolicy) -> Result<(Switched, Switched), Memory> {
-    let (mut core, mut l2) = small_parts(alloc, policy)?;
+fn switch_twice(core: &mut OnCore<AnyPolicy>, l2: &mut L2<AnyPolicy>) -> (Switched, Switched)
+    requires line { l2.old.line_size ≡ 64 }
+{
     let clone = red();
-    let boot = switch(&mut core, &mut l2, None, &clone, 0, 0, 6150, EVERY_CALL);
+    let boot = switch(core, l2, None, &clone, 0, 0, 6150, EVERY_CALL);
     let again = switch(
-        &mut core,
-        &mut l2,
+        core,
+        l2,
         Some(&clone),
         &clone,
         6150,
@@ -44,7 +49,12 @@ fn two_switches(alloc: Global, policy: AnyPolicy) -> Result<(Switched, Switched)
         12300,
         EVERY_CALL,
     );
-    Ok((boot, again))
+    (boot, again)
+}
+
+fn two_switches(alloc: Global, policy: AnyPolicy) -> Result<(Switched, Switched), Memory> {
+    let (mut core, mut l2) = small_parts(alloc, policy)?;
+    Ok(switch_twice(&mut core, &mut l2))
 }
 
 // A boot that begins late and is done past the next start.
@@ -54,8 +64,7 @@ fn late_boot(alloc: Global) -> Result<Switched, Memory> {
 }
 
 // A call that is none, twice.
-fn two_charges(alloc: Global) -> Result<(u32, u32), Memory> {
-    let (mut core, mut l2) = small_parts(alloc, AnyPolicy::Lru)?;
+fn charge_twice(core: &mut OnCore<AnyPolicy>, l2: &mut L2<AnyPolicy>) -> (u32, u32) {
     let clone = red();
     let work = Work {
         op: BAD_CALL,
@@ -63,8 +72,13 @@ fn two_charges(alloc: Global) -> Result<(u32, u32), Memory> {
         count: 0,
         entries: [0; 64],
     };
-    let first = charge(&mut core, &mut l2, &clone, &work);
-    Ok((first, charge(&mut core, &mut l2, &clone, &work)))
+    let first = charge(core, l2, &clone, &work);
+    (first, charge(core, l2, &clone, &work))
+}
+
+fn two_charges(alloc: Global) -> Result<(u32, u32), Memory> {
+    let (mut core, mut l2) = small_parts(alloc, AnyPolicy::Lru)?;
+    Ok(charge_twice(&mut core, &mut l2))
 }
 
 fn took(rt: &impl Abort, switched: Switched, used: u64, now: u64) {

@@ -49,6 +49,19 @@ fn costs_are(rt: &impl Abort, system: &mut MemSystem<AnyPolicy>, rows: &[(Touch,
     }
 }
 
+// So they do in a small hierarchy. For the prover it is held here alone.
+fn small_costs_are(
+    rt: &impl Abort,
+    alloc: Global,
+    pinned: bool,
+    back: bool,
+    rows: &[(Touch, u32)],
+) -> Result<(), Fail> {
+    let mut system = small(alloc, AnyPolicy::Lru, pinned, back)?;
+    costs_are(rt, &mut system, rows);
+    Ok(())
+}
+
 static OF_A_DIRTY_VICTIM: [(Touch, u32); 7] = [
     (Touch::Store(100), 49),
     (Touch::Store(116), 49),
@@ -61,9 +74,7 @@ static OF_A_DIRTY_VICTIM: [(Touch, u32); 7] = [
 
 #[test]
 fn a_dirty_victim_is_charged(rt: HostRuntime) -> Result<(), Fail> {
-    let mut system = small(rt.alloc(), AnyPolicy::Lru, false, false)?;
-    costs_are(&rt, &mut system, &OF_A_DIRTY_VICTIM);
-    Ok(())
+    small_costs_are(&rt, rt.alloc(), false, false, &OF_A_DIRTY_VICTIM)
 }
 
 // Lines 100, 356 and so on to 1124 meet in one set of the second level, and 100, 116,
@@ -81,18 +92,23 @@ static OF_A_MARKED_VICTIM: [(Touch, u32); 7] = [
 
 #[test]
 fn a_marked_victim_is_charged(rt: HostRuntime) -> Result<(), Fail> {
-    let mut system = small(rt.alloc(), AnyPolicy::Lru, false, true)?;
-    costs_are(&rt, &mut system, &OF_A_MARKED_VICTIM);
-    Ok(())
+    small_costs_are(&rt, rt.alloc(), false, true, &OF_A_MARKED_VICTIM)
 }
 
 // Without the mark the last read costs a miss.
+static OF_WHAT_PASSES: [(Touch, u32); 7] = [
+    (Touch::Store(100), 49),
+    (Touch::Store(116), 49),
+    (Touch::Load(132), 59),
+    (Touch::WalkRead(356), 48),
+    (Touch::WalkRead(612), 48),
+    (Touch::WalkRead(868), 48),
+    (Touch::WalkRead(1124), 48),
+];
+
 #[test]
 fn what_passes_is_charged_once(rt: HostRuntime) -> Result<(), Fail> {
-    let mut system = small(rt.alloc(), AnyPolicy::Lru, false, false)?;
-    costs_are(&rt, &mut system, &OF_A_MARKED_VICTIM[..6]);
-    costs_are(&rt, &mut system, &[(Touch::WalkRead(1124), 48)]);
-    Ok(())
+    small_costs_are(&rt, rt.alloc(), false, false, &OF_WHAT_PASSES)
 }
 
 // Line 1124 gives up line 100 at both levels: first it is written back.
@@ -107,9 +123,7 @@ static OF_ONE_LOAD: [(Touch, u32); 6] = [
 
 #[test]
 fn a_victim_is_written_back_before_the_line_is_read(rt: HostRuntime) -> Result<(), Fail> {
-    let mut system = small(rt.alloc(), AnyPolicy::Lru, false, true)?;
-    costs_are(&rt, &mut system, &OF_ONE_LOAD);
-    Ok(())
+    small_costs_are(&rt, rt.alloc(), false, true, &OF_ONE_LOAD)
 }
 
 // Of two dirty lines the second level holds one, line 100, when they are flushed.
@@ -130,9 +144,7 @@ static OF_A_FLUSH: [(Touch, u32); 12] = [
 
 #[test]
 fn a_flush_writes_back(rt: HostRuntime) -> Result<(), Fail> {
-    let mut system = small(rt.alloc(), AnyPolicy::Lru, false, true)?;
-    costs_are(&rt, &mut system, &OF_A_FLUSH);
-    Ok(())
+    small_costs_are(&rt, rt.alloc(), false, true, &OF_A_FLUSH)
 }
 
 // Lines of the frames 4, 1, 32,767, and 4 again.
@@ -145,9 +157,7 @@ static OF_PINNED_LINES: [(Touch, u32); 4] = [
 
 #[test]
 fn pinned_lines_are_always_there(rt: HostRuntime) -> Result<(), Fail> {
-    let mut system = small(rt.alloc(), AnyPolicy::Lru, true, false)?;
-    costs_are(&rt, &mut system, &OF_PINNED_LINES);
-    Ok(())
+    small_costs_are(&rt, rt.alloc(), true, false, &OF_PINNED_LINES)
 }
 
 // 64 frames with these words, at places that count words.
@@ -186,32 +196,31 @@ fn is_translated(
     assert_eq!(rt; looked_up(system, mem, access), (wanted, cycles));
 }
 
+fn leaf_is_asked(rt: &impl Abort, system: &mut MemSystem<AnyPolicy>, mem: &PhysMem)
+    requires frames { mem.now.frames ≤ 2 ^ 15 }
+{
+    let page = Err(WalkFault::Page);
+    is_translated(rt, system, mem, Access::Store, page, 97);
+    is_translated(rt, system, mem, Access::Load, Ok(0x5008), 17);
+    is_translated(rt, system, mem, Access::Load, Ok(0x5008), 1);
+    is_translated(rt, system, mem, Access::Store, page, 1);
+    system.empty_tlb();
+    is_translated(rt, system, mem, Access::Load, Ok(0x5008), 17);
+}
+
+fn small_leaf_is_asked(rt: &impl Abort, alloc: Global, mem: &PhysMem) -> Result<(), Fail>
+    requires frames { mem.now.frames ≤ 2 ^ 15 }
+{
+    let mut system = small(alloc, AnyPolicy::Lru, false, false)?;
+    leaf_is_asked(rt, &mut system, mem);
+    Ok(())
+}
+
 // A page of 4 KiB in frame 5 that is only read.
 #[test]
 fn a_kept_leaf_is_asked_for_its_rights(rt: HostRuntime) -> Result<(), Fail> {
-    let mut system = small(rt.alloc(), AnyPolicy::Lru, false, false)?;
     let mem = memory_with(rt.alloc(), &[(0x801, 0xc01), (0xc05, 0x1453)])?;
-    is_translated(
-        &rt,
-        &mut system,
-        &mem,
-        Access::Store,
-        Err(WalkFault::Page),
-        97,
-    );
-    is_translated(&rt, &mut system, &mem, Access::Load, Ok(0x5008), 17);
-    is_translated(&rt, &mut system, &mem, Access::Load, Ok(0x5008), 1);
-    is_translated(
-        &rt,
-        &mut system,
-        &mem,
-        Access::Store,
-        Err(WalkFault::Page),
-        1,
-    );
-    system.empty_tlb();
-    is_translated(&rt, &mut system, &mem, Access::Load, Ok(0x5008), 17);
-    Ok(())
+    small_leaf_is_asked(&rt, rt.alloc(), &mem)
 }
 
 // The last line of memory, and a branch that is learnt at once.
@@ -222,12 +231,16 @@ static OF_THE_LARGEST: [(Touch, u32); 4] = [
     (Touch::Branch(0x10000, true), 0),
 ];
 
+fn is_made(rt: &impl Abort, system: &mut MemSystem<AnyPolicy>) {
+    assert_eq!(rt; system.line_of(0x07ff_ffff).number(), 0x007f_ffff);
+    costs_are(rt, system, &OF_THE_LARGEST);
+    assert_eq!(rt; system.costs().trap, 10);
+}
+
 #[test]
 fn the_largest_hierarchy_is_made_at_once(rt: HostRuntime) -> Result<(), Fail> {
     let mut system = largest(rt.alloc())?;
-    assert_eq!(rt; system.line_of(0x07ff_ffff).number(), 0x007f_ffff);
-    costs_are(&rt, &mut system, &OF_THE_LARGEST);
-    assert_eq!(rt; system.costs().trap, 10);
+    is_made(&rt, &mut system);
     Ok(())
 }
 
@@ -257,7 +270,37 @@ fn access_of(number: u32) -> Access {
     }
 }
 
-// Whether both do the same at the touch that a word names.
+// Whether both do the same at the touch of a line that a word names.
+fn agree_at_line(
+    system: &mut MemSystem<AnyPolicy>,
+    plain: &mut PlainSystem,
+    word: u32,
+) -> Result<bool, Fail> {
+    let line = (word >> 8) & 0x741;
+    let odd = word >> 31 == 1;
+    Ok(match (word >> 27) & 15 {
+        0..=2 => system.fetch(Line::new(line)) == plain.fetch(line)?,
+        3..=6 => system.access(Line::new(line), odd) == plain.access(line, odd)?,
+        _ => system.walk_read(Line::new(line)) == u32::from(plain.below(line)?),
+    })
+}
+
+// The same of a translation.
+fn agree_at_address(
+    system: &mut MemSystem<AnyPolicy>,
+    plain: &mut PlainSystem,
+    mem: &PhysMem,
+    word: u32,
+) -> Result<bool, Fail>
+    requires frames { mem.now.frames ≤ 2 ^ 15 }
+{
+    let va = ((word >> 9) & 0x00c1_3fff) | 0x8;
+    let access = access_of(word >> 6);
+    let translated = system.translate(mem, 2, va, access);
+    Ok((translated.result.ok(), translated.cycles) == plain.translate(va, access)?)
+}
+
+// The same of any touch.
 fn agree_at(
     system: &mut MemSystem<AnyPolicy>,
     plain: &mut PlainSystem,
@@ -266,21 +309,13 @@ fn agree_at(
 ) -> Result<bool, Fail>
     requires frames { mem.now.frames ≤ 2 ^ 15 }
 {
-    let line = (word >> 8) & 0x741;
     let pc = (word >> 8) & 0x3c;
     let odd = word >> 31 == 1;
-    Ok(match (word >> 27) & 15 {
-        0..=2 => system.fetch(Line::new(line)) == plain.fetch(line)?,
-        3..=6 => system.access(Line::new(line), odd) == plain.access(line, odd)?,
-        7 => system.walk_read(Line::new(line)) == u32::from(plain.below(line)?),
-        8 | 9 => system.branch(pc, odd, line) == plain.branch(pc, odd),
-        _ => {
-            let va = ((word >> 9) & 0x00c1_3fff) | 0x8;
-            let access = access_of(word >> 6);
-            let translated = system.translate(mem, 2, va, access);
-            (translated.result.ok(), translated.cycles) == plain.translate(va, access)?
-        }
-    })
+    match (word >> 27) & 15 {
+        0..=7 => agree_at_line(system, plain, word),
+        8 | 9 => Ok(system.branch(pc, odd, (word >> 8) & 0x741) == plain.branch(pc, odd)),
+        _ => agree_at_address(system, plain, mem, word),
+    }
 }
 
 // The first of 3,000 words at which they differ. A word in a thousand flushes
@@ -326,6 +361,19 @@ fn first_wrong_line(
 }
 
 // The first step and the first line at which the two differ.
+fn first_differences(
+    system: &mut MemSystem<AnyPolicy>,
+    plain: &mut PlainSystem,
+    mem: &PhysMem,
+) -> Result<(Option<u32>, Option<u32>), Fail>
+    requires frames { mem.now.frames ≤ 2 ^ 15 }
+{
+    let step = first_wrong_step(system, plain, mem)?;
+    let line = first_wrong_line(system, plain)?;
+    Ok((step, line))
+}
+
+// The same of a new hierarchy and its plain lists.
 fn first_wrong(
     alloc: Global,
     mem: &PhysMem,
@@ -337,13 +385,7 @@ fn first_wrong(
 {
     let mut system = small(alloc, policy, pinned, back)?;
     let mut plain = PlainSystem::new(alloc, policy, pinned, back);
-    let step = first_wrong_step(&mut system, &mut plain, mem)?;
-    let line = first_wrong_line(&mut system, &mut plain)?;
-    Ok((step, line))
-}
-
-fn is_right(rt: &impl Abort, found: (Option<u32>, Option<u32>)) {
-    assert_eq!(rt; found, (None, None));
+    first_differences(&mut system, &mut plain, mem)
 }
 
 // Not pinned and pinned, with lines that pass the second level and such as are written
@@ -356,18 +398,24 @@ fn does_as_plain_lists(
 ) -> Result<(), Fail>
     requires frames { mem.now.frames ≤ 2 ^ 15 }
 {
-    is_right(rt, first_wrong(alloc, mem, policy, false, false)?);
-    is_right(rt, first_wrong(alloc, mem, policy, true, false)?);
-    is_right(rt, first_wrong(alloc, mem, policy, false, true)?);
-    is_right(rt, first_wrong(alloc, mem, policy, true, true)?);
+    for (pinned, back) in [(false, false), (true, false), (false, true), (true, true)] {
+        let found = first_wrong(alloc, mem, policy, pinned, back)?;
+        assert_eq!(rt; found, (None, None));
+    }
     Ok(())
+}
+
+fn all_do(rt: &impl Abort, alloc: Global, mem: &PhysMem) -> Result<(), Fail>
+    requires frames { mem.now.frames ≤ 2 ^ 15 }
+{
+    does_as_plain_lists(rt, alloc, mem, AnyPolicy::Lru)?;
+    does_as_plain_lists(rt, alloc, mem, AnyPolicy::Fifo)?;
+    does_as_plain_lists(rt, alloc, mem, AnyPolicy::TreePlru)?;
+    does_as_plain_lists(rt, alloc, mem, AnyPolicy::Nmru)
 }
 
 #[test]
 fn it_does_as_plain_lists_do(rt: HostRuntime) -> Result<(), Fail> {
     let mem = memory_with(rt.alloc(), words_of_tables())?;
-    does_as_plain_lists(&rt, rt.alloc(), &mem, AnyPolicy::Lru)?;
-    does_as_plain_lists(&rt, rt.alloc(), &mem, AnyPolicy::Fifo)?;
-    does_as_plain_lists(&rt, rt.alloc(), &mem, AnyPolicy::TreePlru)?;
-    does_as_plain_lists(&rt, rt.alloc(), &mem, AnyPolicy::Nmru)
+    all_do(&rt, rt.alloc(), &mem)
 }

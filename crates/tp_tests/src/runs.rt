@@ -158,9 +158,30 @@ fn answer(
     requires some { 0 < most }
 {
     let words = words_in(alloc, line)?;
+    answer_to(
+        alloc,
+        words.as_slice(),
+        bytes,
+        most,
+        source_fails,
+        sink_fails,
+    )
+}
+
+fn answer_to(
+    alloc: Global,
+    words: &[String],
+    bytes: &[u8],
+    most: usize,
+    source_fails: &[u64],
+    sink_fails: &[u64],
+) -> Result<(Status, Vec<u8>), Fail>
+    requires some { 0 < most }
+{
     let mut source = MemSource::new(alloc, bytes, most, source_fails)?;
     let mut sink = MemSink::new(alloc, 16384, most, sink_fails)?;
-    let status = tp_main(alloc, words.as_slice(), &mut source, &mut sink);
+    let status = tp_main(alloc, words, &mut source, &mut sink);
+    drop(source);
     let text = Vec::from_slice(alloc, sink.bytes())?;
     Ok((status, text))
 }
@@ -176,6 +197,17 @@ fn expect(
 ) -> Result<(), Fail> {
     let found = answer(alloc, line, image.as_bytes(), 64, &[], &[])?;
     is_answered(rt, line, &found, status, text);
+    Ok(())
+}
+
+/// A line of words, and the status and the text that are due.
+type Due = (&'static str, Status, &'static str);
+
+// What is answered to this image, line by line.
+fn expect_each(rt: &impl Abort, alloc: Global, image: &str, rows: &[Due]) -> Result<(), Fail> {
+    for &(line, status, text) in rows {
+        expect(rt, alloc, line, image, status, text)?;
+    }
     Ok(())
 }
 
@@ -263,6 +295,19 @@ fn expect_red(
     requires few { rounds ≤ 32768 }
 {
     let image = image(alloc, program, PRINTS_B)?;
+    expect_rounds(rt, alloc, rounds, image.as_str(), used, section)
+}
+
+fn expect_rounds(
+    rt: &impl Abort,
+    alloc: Global,
+    rounds: u32,
+    image: &str,
+    used: &str,
+    section: &str,
+) -> Result<(), Fail>
+    requires few { rounds ≤ 32768 }
+{
     let slots = 2 * rounds;
     let line = format!(in alloc; "tp run --slots {slots}")?;
     let report = format!(in alloc;
@@ -272,7 +317,7 @@ fn expect_red(
         rt,
         alloc,
         line.as_str(),
-        image.as_str(),
+        image,
         Status::Done,
         report.as_str(),
     )
@@ -305,16 +350,17 @@ const ENDS: &str =
 83220000|732|status stopped 13 pc 00010000 value 00000000~retired 0~thread 0 ready pc 00010000~readings 0~replies 0~out 0~mem 0000dadf
 b702010023a40200|732|status stopped 15 pc 00010004 value 00010008~retired 1~thread 0 ready pc 00010004 x5=00010000~readings 0~replies 0~out 0~mem 00045f36";
 
+fn ends_so(rt: &impl Abort, alloc: Global, row: &str) -> Result<(), Fail> {
+    let (program, rest) = row.split_once('|').unwrap_or((row, ""));
+    let (used, section) = rest.split_once('|').unwrap_or((rest, ""));
+    let section = section.replace(alloc, "~", "\n")?;
+    expect_red(rt, alloc, 2, program, used, section.as_str())
+}
+
 #[test]
 fn a_domain_ends_by_an_exit_or_an_exception(rt: HostRuntime) -> Result<(), Fail> {
-    let alloc = rt.alloc();
     for row in ENDS.split('\n') {
-        let row = row.replace(alloc, "~", "\n")?;
-        let mut fields = row.split('|');
-        let program = fields.next().unwrap_or("");
-        let used = fields.next().unwrap_or("");
-        let section = fields.next().unwrap_or("");
-        expect_red(&rt, alloc, 2, program, used, section)?;
+        ends_so(&rt, rt.alloc(), row)?;
     }
     Ok(())
 }
@@ -331,27 +377,41 @@ fn a_domain_prints_at_most_4096_bytes(rt: HostRuntime) -> Result<(), Fail> {
 }
 
 // Red's slots are short and blue's are long: in its 51st slot the clock is past 2^32.
-#[test]
-fn counters_have_two_halves(rt: HostRuntime) -> Result<(), Fail> {
-    let alloc = rt.alloc();
+fn image_that_waits(alloc: Global) -> Result<String, Fail> {
     let two = domains(alloc, WAITS, PRINTS_B)?;
     let others = "[[schedule]]\ndomain = 1\nlength = 1000000\npad = 1000000\n".repeat(alloc, 63)?;
-    let image = format!(in alloc;
+    Ok(format!(in alloc;
         "{MACHINE}{two}[[schedule]]\ndomain = 0\nlength = 1000\npad = 1000000\n{others}"
-    )?;
+    )?)
+}
+
+fn push_switch(alloc: Global, report: &mut String, entry: u32) -> Result<(), Fail> {
+    let used = match entry {
+        0 => 734,
+        1 => 580,
+        _ => 252,
+    };
+    let line = format!(in alloc; "switch {entry} used {used} pad 1000000 count 50\n")?;
+    report.push_str(line.as_str())?;
+    Ok(())
+}
+
+fn report_of_waiting(alloc: Global) -> Result<String, Fail> {
     let mut report = format!(in alloc;
         "domain 0 red\nstatus exited 0\nretired 16392\nthread 0 ended pc 00010028 x6=7a8d573b x7=00000001 x8=7a8d5741 x9=00000001 x12=00004005\nreadings 6 last 0 list 2056083259 1 2056083265 1 16389 0\nreplies 0\nout 0\nmem 9656e041\n{BLUE}"
     )?;
     for entry in 0..63 {
-        let used = match entry {
-            0 => 734,
-            1 => 580,
-            _ => 252,
-        };
-        let line = format!(in alloc; "switch {entry} used {used} pad 1000000 count 50\n")?;
-        report.push_str(line.as_str())?;
+        push_switch(alloc, &mut report, entry)?;
     }
     report.push_str("switch 63 used 755 pad 1000000 count 51\nend\n")?;
+    Ok(report)
+}
+
+#[test]
+fn counters_have_two_halves(rt: HostRuntime) -> Result<(), Fail> {
+    let alloc = rt.alloc();
+    let image = image_that_waits(alloc)?;
+    let report = report_of_waiting(alloc)?;
     expect(
         &rt,
         alloc,
@@ -362,37 +422,34 @@ fn counters_have_two_halves(rt: HostRuntime) -> Result<(), Fail> {
     )
 }
 
-#[test]
-fn other_words_have_the_usage_line(rt: HostRuntime) -> Result<(), Fail> {
-    let alloc = rt.alloc();
-    let image = image(alloc, PRINTS_A, PRINTS_B)?;
-    for line in "tp|tp run|tp run --slots 65537|tp fly|tp help|tp run --help|tp check x|tp bound --slots 4|tp alone|tp alone --domain 32 --slots 4".split(
-        '|',
-    ) {
-        expect(&rt, alloc, line, image.as_str(), Status::Usage, USAGE)?;
+fn have_usage(rt: &impl Abort, alloc: Global, image: &str, lines: &str) -> Result<(), Fail> {
+    for line in lines.split('|') {
+        expect(rt, alloc, line, image, Status::Usage, USAGE)?;
     }
     Ok(())
 }
 
 #[test]
-fn every_read_that_fails_is_told(rt: HostRuntime) -> Result<(), Fail> {
-    let alloc = rt.alloc();
-    let image = image(alloc, PRINTS_A, PRINTS_B)?;
+fn other_words_have_the_usage_line(rt: HostRuntime) -> Result<(), Fail> {
+    let image = image(rt.alloc(), PRINTS_A, PRINTS_B)?;
+    let lines =
+        "tp|tp run|tp run --slots 65537|tp fly|tp help|tp run --help|tp check x|tp bound --slots 4|tp alone|tp alone --domain 32 --slots 4";
+    have_usage(&rt, rt.alloc(), image.as_str(), lines)
+}
 
-    // Each read of the sure run, the one that finds the end included, and one more.
+// Each read of the sure run, the one that finds the end included, and one more.
+fn each_read_fails(rt: &impl Abort, alloc: Global, image: &str) -> Result<(), Fail> {
     let reads = (image.len() as u64).div_ceil(64) + 1;
     for k in 1..=reads {
-        expect_failing(&rt, alloc, image.as_str(), &[k], &[], Status::ReadFault, "")?;
+        expect_failing(rt, alloc, image, &[k], &[], Status::ReadFault, "")?;
     }
-    expect_failing(
-        &rt,
-        alloc,
-        image.as_str(),
-        &[reads + 1],
-        &[],
-        Status::Done,
-        REPORT,
-    )
+    expect_failing(rt, alloc, image, &[reads + 1], &[], Status::Done, REPORT)
+}
+
+#[test]
+fn every_read_that_fails_is_told(rt: HostRuntime) -> Result<(), Fail> {
+    let image = image(rt.alloc(), PRINTS_A, PRINTS_B)?;
+    each_read_fails(&rt, rt.alloc(), image.as_str())
 }
 
 // The status where the second read fails, and what a further read gives.
@@ -409,24 +466,25 @@ fn read_after_a_failure(
     Ok((status, count))
 }
 
+fn is_not_read_on(rt: &impl Abort, alloc: Global, image: &str) -> Result<(), Fail> {
+    let mut next = [0u8; 64];
+    let found = read_after_a_failure(alloc, image, &mut next)?;
+    assert_eq!(rt; found, (Status::ReadFault, 64));
+    are_bytes(rt, next.as_slice(), image.as_bytes().get(64..128));
+    Ok(())
+}
+
 #[test]
 fn nothing_is_read_after_a_read_that_failed(rt: HostRuntime) -> Result<(), Fail> {
     let image = image(rt.alloc(), PRINTS_A, PRINTS_B)?;
-    let mut next = [0u8; 64];
-    let found = read_after_a_failure(rt.alloc(), image.as_str(), &mut next)?;
-    assert_eq!(rt; found, (Status::ReadFault, 64));
-    are_bytes(&rt, next.as_slice(), image.as_bytes().get(64..128));
-    Ok(())
+    is_not_read_on(&rt, rt.alloc(), image.as_str())
 }
 
 fn are_bytes(rt: &impl Abort, found: &[u8], wanted: Option<&[u8]>) {
     assert_eq!(rt; Some(found), wanted);
 }
 
-#[test]
-fn every_write_that_fails_is_told(rt: HostRuntime) -> Result<(), Fail> {
-    let alloc = rt.alloc();
-    let image = image(alloc, PRINTS_A, PRINTS_B)?;
+fn each_write_fails(rt: &impl Abort, alloc: Global, image: &str) -> Result<(), Fail> {
     let mut text = String::new(alloc);
     let mut k = 0u64;
     for piece in PIECES.split('|') {
@@ -436,11 +494,17 @@ fn every_write_that_fails_is_told(rt: HostRuntime) -> Result<(), Fail> {
         } else {
             Status::WriteFault
         };
-        expect_failing(&rt, alloc, image.as_str(), &[], &[k], due, text.as_str())?;
+        expect_failing(rt, alloc, image, &[], &[k], due, text.as_str())?;
         text.push_str(piece)?;
     }
-    is_report(&rt, text.as_str());
+    is_report(rt, text.as_str());
     Ok(())
+}
+
+#[test]
+fn every_write_that_fails_is_told(rt: HostRuntime) -> Result<(), Fail> {
+    let image = image(rt.alloc(), PRINTS_A, PRINTS_B)?;
+    each_write_fails(&rt, rt.alloc(), image.as_str())
 }
 
 fn is_report(rt: &impl Abort, text: &str) {
@@ -463,20 +527,50 @@ fn a_long_section_goes_out_by_pieces_of_256_bytes(rt: HostRuntime) -> Result<(),
     Ok(())
 }
 
+// The status of a run with as much room as this.
+fn status_with_room(
+    alloc: Global,
+    words: &[String],
+    image: &str,
+    room: usize,
+) -> Result<Status, Fail> {
+    let bytes = Vec::from_slice(alloc, image.as_bytes())?;
+    Ok(run_surely(alloc, words, bytes, room)?)
+}
+
+// All the room that the text wants, and one byte less.
+fn has_room_for(
+    rt: &impl Abort,
+    alloc: Global,
+    words: &[String],
+    image: &str,
+    text: &str,
+) -> Result<(), Fail> {
+    let done = status_with_room(alloc, words, image, text.len())?;
+    let less = status_with_room(alloc, words, image, text.len().saturating_sub(1))?;
+    assert_eq!(rt;
+        (done, less),
+        (Status::Done, Status::WriteFault),
+        "for {text}"
+    );
+    Ok(())
+}
+
+fn has_room(
+    rt: &impl Abort,
+    alloc: Global,
+    line: &str,
+    image: &str,
+    text: &str,
+) -> Result<(), Fail> {
+    let words = words_in(alloc, line)?;
+    has_room_for(rt, alloc, words.as_slice(), image, text)
+}
+
 #[test]
 fn a_run_with_room_is_done(rt: HostRuntime) -> Result<(), Fail> {
-    let alloc = rt.alloc();
-    let image = image(alloc, PRINTS_A, PRINTS_B)?;
-    let words = words_in(alloc, RUN)?;
-
-    // All the room that the report wants, and one byte less.
-    for (less, due) in [(0, Status::Done), (1, Status::WriteFault)] {
-        let bytes = Vec::from_slice(alloc, image.as_bytes())?;
-        let room = REPORT.len().saturating_sub(less);
-        let status = run_surely(alloc, words.as_slice(), bytes, room)?;
-        assert_eq!(rt; status, due);
-    }
-    Ok(())
+    let image = image(rt.alloc(), PRINTS_A, PRINTS_B)?;
+    has_room(&rt, rt.alloc(), RUN, image.as_str(), REPORT)
 }
 
 // The answer to the image with new lines after it up to this size.
@@ -487,14 +581,21 @@ fn answer_to_size(alloc: Global, size: usize) -> Result<(Status, Vec<u8>), Fail>
     answer(alloc, RUN, bytes.as_slice(), usize::MAX, &[], &[])
 }
 
+fn is_run_of_size(
+    rt: &impl Abort,
+    alloc: Global,
+    size: usize,
+    due: Status,
+    text: &str,
+) -> Result<(), Fail> {
+    let found = answer_to_size(alloc, size)?;
+    is_answered(rt, text, &found, due, text);
+    Ok(())
+}
+
 #[test]
 fn an_image_has_a_greatest_size(rt: HostRuntime) -> Result<(), Fail> {
-    for (size, due, text) in [
-        (1_048_576, Status::Done, REPORT),
-        (1_048_577, Status::TooLong, "too long\n"),
-    ] {
-        let found = answer_to_size(rt.alloc(), size)?;
-        is_answered(&rt, text, &found, due, text);
-    }
-    Ok(())
+    let alloc = rt.alloc();
+    is_run_of_size(&rt, alloc, 1_048_576, Status::Done, REPORT)?;
+    is_run_of_size(&rt, alloc, 1_048_577, Status::TooLong, "too long\n")
 }

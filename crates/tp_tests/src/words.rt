@@ -209,13 +209,16 @@ fn is_asked(rt: &impl Abort, line: &str, asked: Option<Command>, due: Option<Com
     assert_eq!(rt; asked, due, "at {line}");
 }
 
+fn asks(rt: &impl Abort, alloc: Global, row: &str) -> Result<(), Fail> {
+    let (line, due) = row.split_once('|').unwrap_or((row, ""));
+    is_asked(rt, line, asked_in(alloc, line)?, wanted(due));
+    Ok(())
+}
+
 #[test]
 fn words_ask_for_a_command_or_for_nothing(rt: HostRuntime) -> Result<(), Fail> {
     for row in LINES.split('\n') {
-        let mut fields = row.split('|');
-        let line = fields.next().unwrap_or("");
-        let due = wanted(fields.next().unwrap_or(""));
-        is_asked(&rt, line, asked_in(rt.alloc(), line)?, due);
+        asks(&rt, rt.alloc(), row)?;
     }
     Ok(())
 }

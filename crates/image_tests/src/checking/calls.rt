@@ -1,10 +1,10 @@
 // The calls that domains may make: the first broken case of their rule, and the bound that each
 // entry's pad is held against.
-use super::{IMAGE, are_named};
-use image_check::{CheckRefusal, Unpadded, check_but_pads};
-use image_text::read_image;
+use super::{IMAGE, are_named, unpadded_with};
+use crate::equal::is_equal;
+use image_check::{CheckRefusal, Unpadded};
 use pad_bound::{Bound, bound, bound_from};
-use std::alloc::Global;
+use std::process::Abort;
 
 // K18: the ends of the range and far from it, equal and descending numbers, the second domain; what
 // is no call counts for nothing in the bound.
@@ -201,36 +201,50 @@ K17 at 0 found 6149 wanted 6150, else K18 at 0 found 1 wanted 14";
 
 #[test]
 fn the_first_broken_case_is_named(rt: HostRuntime) -> Result<(), CheckRefusal> {
-    for lines in [OF_CALLS, OF_PADS] {
-        are_named(&rt, rt.alloc(), IMAGE, lines)?;
-    }
-    Ok(())
+    are_named(&rt, rt.alloc(), IMAGE, &[OF_CALLS, OF_PADS])
 }
 
 // Red may make two calls and blue every one; red's pad is too short.
-fn image_of_few_calls(alloc: Global) -> Result<Unpadded, CheckRefusal> {
-    let text = IMAGE.replacen(alloc, "frames = 64", "version = 2\nframes = 64", 1)?;
-    let text = text.replacen(alloc, "colours = [1]", "colours = [1]\ncalls = [0, 1]", 1)?;
-    let text = text.replacen(alloc, "pad = 6150", "pad = 2373", 1)?;
-    check_but_pads(alloc, read_image(alloc, text.as_bytes())?)
+const FEW_CALLS: [(&str, &str); 3] = [
+    ("frames = 64", "version = 2\nframes = 64"),
+    ("colours = [1]", "colours = [1]\ncalls = [0, 1]"),
+    ("pad = 6150", "pad = 2373"),
+];
+
+fn has_few_calls(rt: &impl Abort, image: &Unpadded) {
+    image.kept();
+    is_equal(rt, "version", image.public().version, 2);
+    assert_eq!(rt; image.public().domains, 2);
+    let (red, blue) = (image.own(0).calls, image.own(1).calls);
+    is_equal(rt, "calls", (red, blue), (3, 0x7fff));
+    are_bounds(
+        rt,
+        bound(&image.shape()),
+        bound_from(&image.shape(), red),
+        bound_from(&image.shape(), blue),
+    );
 }
 
-#[test]
-fn the_bound_is_by_the_calls_of_a_domain(rt: HostRuntime) -> Result<(), CheckRefusal> {
-    let image = image_of_few_calls(rt.alloc())?;
-    image.kept();
-    assert_eq!(rt; (image.public().version, image.public().domains), (2, 2));
-    let (red, blue) = (image.own(0).calls, image.own(1).calls);
-    assert_eq!(rt; (red, blue), (3, 0x7fff));
-
-    let every = bound(&image.shape());
+fn are_bounds(rt: &impl Abort, every: Bound, of_red: Bound, of_blue: Bound) {
     let few = Bound {
         operation: 501,
         total: 2374,
         ..every
     };
-    assert_eq!(rt; (every.operation, every.total), (4277, 6150));
-    assert_eq!(rt; bound_from(&image.shape(), red), few);
-    assert_eq!(rt; bound_from(&image.shape(), blue), every);
+    is_equal(
+        rt,
+        "the bound",
+        (every.operation, every.total),
+        (4277, 6150),
+    );
+    is_equal(rt, "red's", of_red, few);
+    is_equal(rt, "blue's", of_blue, every);
+}
+
+#[test]
+fn the_bound_is_by_the_calls_of_a_domain(rt: HostRuntime) -> Result<(), CheckRefusal> {
+    let image = unpadded_with(rt.alloc(), &FEW_CALLS)?;
+    has_few_calls(&rt, &image);
+    drop(image);
     Ok(())
 }

@@ -428,18 +428,17 @@ hex = "" }]~lines = [7, 3] => hex = "1" }]~lines = [7]
 moments = [[9000, 3], [9000, 7]]~[[schedule]]~domain = 0 => [[schedule]]~domain = 2
 K12 at 1 found 1 wanted 3"#;
 
+const ALL: [&str; 7] = [
+    OF_PARTS,
+    OF_NAMES_AND_COLOURS,
+    OF_FRAMES,
+    OF_SEGMENTS,
+    OF_SLOTS,
+    OF_INTERRUPTS,
+    OF_ENTRIES,
+];
+
 #[test]
 fn the_first_broken_case_is_named(rt: HostRuntime) -> Result<(), CheckRefusal> {
-    for lines in [
-        OF_PARTS,
-        OF_NAMES_AND_COLOURS,
-        OF_FRAMES,
-        OF_SEGMENTS,
-        OF_SLOTS,
-        OF_INTERRUPTS,
-        OF_ENTRIES,
-    ] {
-        are_named(&rt, rt.alloc(), IMAGE, lines)?;
-    }
-    Ok(())
+    are_named(&rt, rt.alloc(), IMAGE, &ALL)
 }

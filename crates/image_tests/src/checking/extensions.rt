@@ -1,10 +1,10 @@
 // The predictor's history, products and the target buffer: the first rule that is broken, and what
 // an image that is accepted says of them.
-use super::{IMAGE, are_named, checked};
+use super::{IMAGE, are_named, bound_with, checked_with};
+use crate::equal::is_equal;
 use cycle_cost::ProductCosts;
-use image_check::{CheckRefusal, check_but_pads};
-use image_text::read_image;
-use pad_bound::bound;
+use image_check::{CheckRefusal, Hardware};
+use std::process::Abort;
 
 // K3, part 6, case 2, after the size of the predictor and before K4.
 const OF_HISTORY: &str = "predictor = 16 => predictor = 16~history = -1
@@ -91,31 +91,44 @@ K17 at 0 found 6149 wanted 6150, else K22 at 3 found 3 wanted 256";
 
 #[test]
 fn the_first_broken_case_is_named(rt: HostRuntime) -> Result<(), CheckRefusal> {
-    for lines in [OF_HISTORY, OF_PRODUCTS, OF_TARGETS] {
-        are_named(&rt, rt.alloc(), IMAGE, lines)?;
-    }
-    Ok(())
+    are_named(
+        &rt,
+        rt.alloc(),
+        IMAGE,
+        &[OF_HISTORY, OF_PRODUCTS, OF_TARGETS],
+    )
 }
 
-const SAID: &str = "predictor = 16
+const SAID: [(&str, &str); 2] = [
+    (
+        "predictor = 16",
+        "predictor = 16
 history = 8
 muldiv = { mul = 4, div = 2 }
-targets = 16";
+targets = 16",
+    ),
+    ("pad = 6150", "pad = 6216"),
+];
+
+fn has_extensions(rt: &impl Abort, hardware: &Hardware) {
+    let costs = ProductCosts { mul: 4, div: 2 };
+    is_equal(rt, "history", hardware.history, 8);
+    is_equal(rt, "muldiv", hardware.muldiv, Some(costs));
+    is_equal(rt, "targets", hardware.targets, 16);
+}
 
 #[test]
 fn what_is_said_is_read(rt: HostRuntime) -> Result<(), CheckRefusal> {
-    let alloc = rt.alloc();
-    let text = IMAGE.replacen(alloc, "predictor = 16", SAID, 1)?;
-    let text = text.replacen(alloc, "pad = 6150", "pad = 6216", 1)?;
-    let checked = checked(alloc, text.as_str())?;
+    let checked = checked_with(rt.alloc(), &SAID)?;
     let hardware = checked.public().hardware;
-    let costs = ProductCosts { mul: 4, div: 2 };
-    assert_eq!(rt;
-        (hardware.history, hardware.muldiv, hardware.targets),
-        (8, Some(costs), 16)
-    );
-    let image = check_but_pads(alloc, read_image(alloc, text.as_bytes())?)?;
-    let bound = bound(&image.shape());
-    assert_eq!(rt; (bound.instruction, bound.total), (372, 6216));
+    drop(checked);
+    has_extensions(&rt, &hardware);
+    Ok(())
+}
+
+#[test]
+fn what_is_said_is_in_the_bound(rt: HostRuntime) -> Result<(), CheckRefusal> {
+    let bound = bound_with(rt.alloc(), &SAID)?;
+    is_equal(&rt, "bound", (bound.instruction, bound.total), (372, 6216));
     Ok(())
 }

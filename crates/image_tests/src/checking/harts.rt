@@ -1,6 +1,8 @@
 // Entries on harts: the first broken case, and what is accepted.
 use super::{IMAGE, Place, are_named, are_named_on, record_on};
-use image_check::{CheckRefusal, Entry, HartSchedule, check};
+use crate::equal::is_equal;
+use image_check::{CheckRefusal, Entry, HartSchedule, Public, check};
+use std::alloc::Global;
 use std::process::Abort;
 
 type Row = (&'static [Place], &'static str);
@@ -83,12 +85,21 @@ K18 at 1 found 1 wanted 14
 predictor = 16 => predictor = 16~targets = 3
 K19 at 1 found 4 wanted 1";
 
+fn rows_are_named(rt: &impl Abort, alloc: Global, rows: &[Row]) -> Result<(), CheckRefusal> {
+    for &(places, due) in rows {
+        are_named_on(rt, alloc, IMAGE, places, due)?;
+    }
+    Ok(())
+}
+
+#[test]
+fn the_first_broken_case_of_entries_is_named(rt: HostRuntime) -> Result<(), CheckRefusal> {
+    rows_are_named(&rt, rt.alloc(), &OF_HARTS)
+}
+
 #[test]
 fn the_first_broken_case_is_named(rt: HostRuntime) -> Result<(), CheckRefusal> {
-    for (places, due) in OF_HARTS {
-        are_named_on(&rt, rt.alloc(), IMAGE, places, due)?;
-    }
-    are_named(&rt, rt.alloc(), IMAGE, OF_TEXTS)?;
+    are_named(&rt, rt.alloc(), IMAGE, &[OF_TEXTS])?;
     are_named_on(&rt, rt.alloc(), IMAGE, &[(0, 0), (1, 4)], OF_OTHERS)
 }
 
@@ -105,21 +116,26 @@ fn are_those_of_both(rt: &impl Abort, of_blue: &HartSchedule, of_red: &HartSched
         hart: 0,
         ..red
     };
-    assert_eq!(rt; (of_blue.len(), of_red.len()), (1, 2));
-    assert_eq!(rt; (of_blue.entry(0), of_red.entry(1)), (blue, red));
+    is_equal(rt, "entries", (of_blue.len(), of_red.len()), (1, 2));
+    is_equal(rt, "blue's", of_blue.entry(0), blue);
+    is_equal(rt, "red's last", of_red.entry(1), red);
     let boot = of_red.turn(0);
-    assert_eq!(rt; (boot.place, boot.start), (2, 6150));
+    is_equal(rt, "boot", (boot.place, boot.start), (2, 6150));
     let next = of_red.turn(1);
-    assert_eq!(rt; (next.place, next.start), (0, 22_300));
+    is_equal(rt, "next", (next.place, next.start), (0, 22_300));
+}
+
+fn has_both(rt: &impl Abort, public: &Public) {
+    is_equal(rt, "entries", public.schedule.len(), 3);
+    assert_eq!(rt; public.harts.len(), 2);
+    are_those_of_both(rt, &public.harts[0], &public.harts[1]);
 }
 
 #[test]
 fn each_hart_has_its_entries(rt: HostRuntime) -> Result<(), CheckRefusal> {
     let raw = record_on(rt.alloc(), IMAGE, &[(0, 1), (1, 0), (0, 1)])?;
     let checked = check(rt.alloc(), raw)?;
-    let public = checked.public();
-    assert_eq!(rt; public.schedule.len(), 3);
-    assert_eq!(rt; public.harts.len(), 2);
-    are_those_of_both(&rt, &public.harts[0], &public.harts[1]);
+    has_both(&rt, checked.public());
+    drop(checked);
     Ok(())
 }

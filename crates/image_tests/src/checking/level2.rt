@@ -1,8 +1,8 @@
 // Write-back into the second level: the bound that pads are held against, and what an image that is
 // accepted says of it.
-use super::{IMAGE, are_named, checked};
-use image_check::{CheckRefusal, Unpadded, check_but_pads};
-use image_text::read_image;
+use super::{IMAGE, are_named, checked_with, unpadded_with};
+use crate::equal::is_equal;
+use image_check::CheckRefusal;
 use pad_bound::{Bound, bound};
 use std::alloc::Global;
 
@@ -83,65 +83,64 @@ K16 at 1 found 2 wanted 2";
 
 #[test]
 fn the_first_broken_case_is_named(rt: HostRuntime) -> Result<(), CheckRefusal> {
-    are_named(&rt, rt.alloc(), IMAGE, OF_PADS)
+    are_named(&rt, rt.alloc(), IMAGE, &[OF_PADS])
 }
 
-// The image, where this stands after the second level's policy.
-fn image_with(alloc: Global, said: &str) -> Result<Unpadded, CheckRefusal> {
-    let mut new = String::from_str(alloc, "4, policy = \"lru\"")?;
-    new.push_str(said)?;
-    let text = IMAGE.replacen(alloc, "4, policy = \"lru\"", new.as_str(), 1)?;
-    check_but_pads(alloc, read_image(alloc, text.as_bytes())?)
+// The bound of the image and what its hardware says, where this stands after the second level's
+// policy.
+fn bound_and_back(alloc: Global, said: &str) -> Result<(Bound, bool), CheckRefusal> {
+    let new = format!(in alloc; "4, policy = \"lru\"{said}")?;
+    let image = unpadded_with(alloc, &[("4, policy = \"lru\"", new.as_str())])?;
+    let found = (bound(&image.shape()), image.public().hardware.back);
+    drop(image);
+    Ok(found)
 }
+
+const PAST: Bound = Bound {
+    instruction: 306,
+    operation: 4277,
+    leave: 383,
+    prefetch: 472,
+    flush: 340,
+    enter: 373,
+    total: 6150,
+};
+
+const BACK: Bound = Bound {
+    instruction: 366,
+    operation: 5007,
+    leave: 453,
+    enter: 443,
+    total: 7080,
+    ..PAST
+};
+
+/// What is said, and the bound, and whether lines are written back.
+const BOUNDS: [(&str, (Bound, bool)); 3] = [
+    ("", (PAST, false)),
+    (", back = false", (PAST, false)),
+    (", back = true", (BACK, true)),
+];
 
 #[test]
 fn four_parts_of_the_bound_have_more(rt: HostRuntime) -> Result<(), CheckRefusal> {
-    let alloc = rt.alloc();
-    let past = Bound {
-        instruction: 306,
-        operation: 4277,
-        leave: 383,
-        prefetch: 472,
-        flush: 340,
-        enter: 373,
-        total: 6150,
-    };
-    let back = Bound {
-        instruction: 366,
-        operation: 5007,
-        leave: 453,
-        enter: 443,
-        total: 7080,
-        ..past
-    };
-    for (said, wanted) in [
-        ("", past),
-        (", back = false", past),
-        (", back = true", back),
-    ] {
-        let image = image_with(alloc, said)?;
-        assert_eq!(rt; bound(&image.shape()), wanted, "{said}");
-        assert_eq!(rt;
-            image.public().hardware.back,
-            said == ", back = true",
-            "{said}"
-        );
+    for &(said, wanted) in &BOUNDS {
+        is_equal(&rt, said, bound_and_back(rt.alloc(), said)?, wanted);
     }
     Ok(())
 }
 
+const SAID: [(&str, &str); 2] = [
+    ("4, policy = \"lru\"", "4, policy = \"lru\", back = true"),
+    ("pad = 6150", "pad = 7080"),
+];
+
 #[test]
 fn what_is_said_is_accepted(rt: HostRuntime) -> Result<(), CheckRefusal> {
-    let alloc = rt.alloc();
-    let text = IMAGE.replacen(
-        alloc,
-        "4, policy = \"lru\"",
-        "4, policy = \"lru\", back = true",
-        1,
-    )?;
-    let text = text.replacen(alloc, "pad = 6150", "pad = 7080", 1)?;
-    let checked = checked(alloc, text.as_str())?;
+    let checked = checked_with(rt.alloc(), &SAID)?;
     checked.runnable();
-    assert!(rt; checked.public().hardware.back);
+    let back = checked.public().hardware.back;
+    drop(checked);
+    assert!(rt; back);
     Ok(())
 }

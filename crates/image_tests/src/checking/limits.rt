@@ -1,6 +1,7 @@
 // What an image may have at most, by its version.
 use super::{IMAGE, are_named, checked};
-use image_check::CheckRefusal;
+use crate::equal::is_equal;
+use image_check::{CheckRefusal, Checked};
 use std::alloc::Global;
 
 // K4, K7 and K16 of the second version: past the first's limits, at their own and past it. Of more
@@ -65,10 +66,7 @@ K16 at 0 found 65 wanted 1"#;
 
 #[test]
 fn the_first_broken_case_is_named(rt: HostRuntime) -> Result<(), CheckRefusal> {
-    for lines in [OF_THE_SECOND, OF_THE_FIRST] {
-        are_named(&rt, rt.alloc(), IMAGE, lines)?;
-    }
-    Ok(())
+    are_named(&rt, rt.alloc(), IMAGE, &[OF_THE_SECOND, OF_THE_FIRST])
 }
 
 const LARGE_MACHINE: &str = r#"version = 2
@@ -83,38 +81,48 @@ predictor = 16
 costs = { base = 1, l1 = 1, l2 = 8, mem = 40, wb = 10, tlb = 1, mispredict = 3, trap = 10, flush = 20 }
 "#;
 
+fn push_domain(alloc: Global, text: &mut String, d: u32, colour: u32) -> Result<(), CheckRefusal> {
+    let domain = format!(in alloc;
+        "[[domain]]\nname = \"d{d}\"\ncolours = [{colour}]\nentry = 0\ncalls = [0]\nsegment = [{{ page = 0, pages = 1, rights = \"x\", hex = \"\" }}]\n"
+    )?;
+    text.push_str(domain.as_str())?;
+    Ok(())
+}
+
+fn push_entry(alloc: Global, text: &mut String, d: u32) -> Result<(), CheckRefusal> {
+    let slot = format!(in alloc; "[[schedule]]\ndomain = {d}\nlength = 1000\npad = 2374\n")?;
+    text.push_str(slot.as_str())?;
+    Ok(())
+}
+
 // 32 domains of a colour each, and 256 entries, eight for each of them.
 fn large_image(alloc: Global) -> Result<String, CheckRefusal> {
     let mut text = String::from_str(alloc, LARGE_MACHINE)?;
     for d in 0..32_u32 {
-        let colour = d + 1;
-        let domain = format!(in alloc; "[[domain]]\nname = \"d{d}\"\ncolours = [{colour}]\n")?;
-        text.push_str(domain.as_str())?;
-        text.push_str("entry = 0\ncalls = [0]\n")?;
-        text.push_str("segment = [{ page = 0, pages = 1, rights = \"x\", hex = \"\" }]\n")?;
+        push_domain(alloc, &mut text, d, d + 1)?;
     }
     for entry in 0..256_u32 {
-        let d = entry % 32;
-        let slot = format!(in alloc; "[[schedule]]\ndomain = {d}\nlength = 1000\npad = 2374\n")?;
-        text.push_str(slot.as_str())?;
+        push_entry(alloc, &mut text, entry % 32)?;
     }
     Ok(text)
 }
 
+fn large(alloc: Global) -> Result<Checked, CheckRefusal> {
+    checked(alloc, large_image(alloc)?.as_str())
+}
+
 #[test]
 fn an_image_may_have_as_much_as_the_second_allows(rt: HostRuntime) -> Result<(), CheckRefusal> {
-    let alloc = rt.alloc();
-    let text = large_image(alloc)?;
-    let checked = checked(alloc, text.as_str())?;
+    let checked = large(rt.alloc())?;
     let public = checked.public();
-    assert_eq!(rt;
-        (
-            public.hardware.frames,
-            public.domains,
-            public.schedule.len()
-        ),
-        (16384, 32, 256)
+    let found = (
+        public.hardware.frames,
+        public.domains,
+        public.schedule.len(),
     );
-    assert_eq!(rt; public.schedule.entry(255).domain, 31);
+    let last = public.schedule.entry(255).domain;
+    drop(checked);
+    is_equal(&rt, "frames, domains, entries", found, (16384, 32, 256));
+    is_equal(&rt, "the last entry's", last, 31);
     Ok(())
 }

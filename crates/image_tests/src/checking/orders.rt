@@ -113,19 +113,17 @@ frames = 64~shared = 512~line = 64 => frames = 128~shared = 512~line = 128
 pad = 6150 => pad = 5855
 accepted";
 
+const OF_THE_IMAGE: [&str; 6] = [
+    OF_THE_MACHINE,
+    OF_DOMAINS,
+    OF_SEGMENTS,
+    OF_SLOTS,
+    OF_INTERRUPTS,
+    OF_ENTRIES,
+];
+
 #[test]
 fn the_first_broken_place_is_named(rt: HostRuntime) -> Result<(), CheckRefusal> {
-    let alloc = rt.alloc();
-    are_named(&rt, alloc, NARROW, OF_THE_REGION)?;
-    for lines in [
-        OF_THE_MACHINE,
-        OF_DOMAINS,
-        OF_SEGMENTS,
-        OF_SLOTS,
-        OF_INTERRUPTS,
-        OF_ENTRIES,
-    ] {
-        are_named(&rt, alloc, IMAGE, lines)?;
-    }
-    Ok(())
+    are_named(&rt, rt.alloc(), NARROW, &[OF_THE_REGION])?;
+    are_named(&rt, rt.alloc(), IMAGE, &OF_THE_IMAGE)
 }

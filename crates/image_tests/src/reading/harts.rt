@@ -1,8 +1,8 @@
 // The key that an entry of the schedule alone may have: where it may stand, what must stand there,
 // when its row is told, and which hart is read.
-use super::{Change, IMAGE, all_break, by, expect_of};
-use image_record::{Raw, RawEntry, ReadRefusal};
-use image_text::read_image;
+use super::{Change, IMAGE, all_break, by, expect_of, read_with};
+use crate::equal::is_equal;
+use image_record::{RawEntry, ReadRefusal};
 use std::alloc::Global;
 use std::process::Abort;
 use std::test::Fail;
@@ -69,7 +69,7 @@ const SAID: [(&str, i64); 9] = [
 const VERSIONS: [&str; 3] = ["frames", "version = 1\nframes", "version = 2\nframes"];
 
 fn values_break(rt: &impl Abort, alloc: Global, image: &str) -> Result<(), ReadRefusal> {
-    for (value, row, found) in VALUES {
+    for &(value, row, found) in &VALUES {
         let entry = format!(in alloc; "domain = 1\nhart = {value}\n")?;
         let wanted = by(2, row, found);
         expect_of(rt, alloc, image, "domain = 1\n", entry.as_str(), wanted);
@@ -77,41 +77,62 @@ fn values_break(rt: &impl Abort, alloc: Global, image: &str) -> Result<(), ReadR
     Ok(())
 }
 
+fn rows_break(rt: &impl Abort, alloc: Global, version: &str) -> Result<(), ReadRefusal> {
+    let image = IMAGE.replace(alloc, "frames", version)?;
+    values_break(rt, alloc, image.as_str())?;
+    all_break(rt, alloc, image.as_str(), &PLACES);
+    Ok(())
+}
+
 #[test]
 fn a_broken_row_is_named(rt: HostRuntime) -> Result<(), Fail> {
     let alloc = rt.alloc();
-    for version in VERSIONS {
-        let image = IMAGE.replace(alloc, "frames", version)?;
-        values_break(&rt, alloc, image.as_str())?;
-        all_break(&rt, alloc, image.as_str(), &PLACES);
+    for version in &VERSIONS {
+        rows_break(&rt, alloc, version)?;
     }
     let broken = IMAGE.replace(alloc, "domain = 1\n", "domain = 1\nhart = true\n")?;
     all_break(&rt, alloc, broken.as_str(), &BESIDE);
     Ok(())
 }
 
-fn read_with(alloc: Global, image: &str, old: &str, said: &str) -> Result<Raw, ReadRefusal> {
-    let new = format!(in alloc; "{old}{said}")?;
-    let text = image.replace(alloc, old, new.as_str())?;
-    read_image(alloc, text.as_bytes())
-}
-
 fn are_on(rt: &impl Abort, entries: &[RawEntry], first: i64, second: i64) {
     assert_eq!(rt; entries.len(), 2);
-    assert_eq!(rt; (entries[0].hart, entries[1].hart), (first, second));
+    is_equal(
+        rt,
+        "harts",
+        (entries[0].hart, entries[1].hart),
+        (first, second),
+    );
+}
+
+// With this said of one entry each entry has its hart.
+fn is_read(
+    rt: &impl Abort,
+    alloc: Global,
+    image: &str,
+    entry: &str,
+    said: &str,
+    (first, second): (i64, i64),
+) -> Result<(), ReadRefusal> {
+    let new = format!(in alloc; "{entry}{said}")?;
+    let raw = read_with(alloc, image, entry, new.as_str())?;
+    are_on(rt, raw.schedule.as_slice(), first, second);
+    drop(raw);
+    Ok(())
+}
+
+fn all_are_read(rt: &impl Abort, alloc: Global, version: &str) -> Result<(), ReadRefusal> {
+    let image = IMAGE.replace(alloc, "frames", version)?;
+    for &(said, hart) in &SAID {
+        is_read(rt, alloc, image.as_str(), "domain = 1\n", said, (0, hart))?;
+    }
+    Ok(())
 }
 
 #[test]
-fn what_is_said_is_read(rt: HostRuntime) -> Result<(), Fail> {
-    let alloc = rt.alloc();
-    for version in VERSIONS {
-        let image = IMAGE.replace(alloc, "frames", version)?;
-        for (said, hart) in SAID {
-            let raw = read_with(alloc, image.as_str(), "domain = 1\n", said)?;
-            are_on(&rt, raw.schedule.as_slice(), 0, hart);
-        }
+fn what_is_said_is_read(rt: HostRuntime) -> Result<(), ReadRefusal> {
+    for version in &VERSIONS {
+        all_are_read(&rt, rt.alloc(), version)?;
     }
-    let raw = read_with(alloc, IMAGE, "domain = 0\n", "hart = 1\n")?;
-    are_on(&rt, raw.schedule.as_slice(), 1, 0);
-    Ok(())
+    is_read(&rt, rt.alloc(), IMAGE, "domain = 0\n", "hart = 1\n", (1, 0))
 }

@@ -1,8 +1,8 @@
 // The key that the second level's table alone may have: where it may stand, what must stand there,
 // and when its row is told.
-use super::{Change, IMAGE, all_break, by, expect_of};
+use super::{Change, IMAGE, all_break, by, expect_of, read_with};
+use crate::equal::is_equal;
 use image_record::ReadRefusal;
-use image_text::read_image;
 use std::alloc::Global;
 use std::process::Abort;
 use std::test::Fail;
@@ -100,24 +100,38 @@ fn of_version(alloc: Global, version: &str) -> Result<String, ReadRefusal> {
 }
 
 fn values_break(rt: &impl Abort, alloc: Global, image: &str) -> Result<(), ReadRefusal> {
-    for (value, row) in VALUES {
+    for &(value, row) in &VALUES {
         let table = format!(in alloc; "l2 = {{ back = {value},")?;
         expect_of(rt, alloc, image, "l2 = {", table.as_str(), by(2, row, 0));
     }
     Ok(())
 }
 
+fn rows_break(rt: &impl Abort, alloc: Global, version: &str) -> Result<(), ReadRefusal> {
+    let image = of_version(alloc, version)?;
+    values_break(rt, alloc, image.as_str())?;
+    all_break(rt, alloc, image.as_str(), &PLACES);
+    Ok(())
+}
+
 #[test]
-fn a_broken_row_is_named(rt: HostRuntime) -> Result<(), Fail> {
+fn a_broken_row_is_named(rt: HostRuntime) -> Result<(), ReadRefusal> {
     let alloc = rt.alloc();
-    for version in ["", "version = 1\n", "version = 2\n"] {
-        let image = of_version(alloc, version)?;
-        values_break(&rt, alloc, image.as_str())?;
-        all_break(&rt, alloc, image.as_str(), &PLACES);
+    rows_break(&rt, alloc, "")?;
+    rows_break(&rt, alloc, "version = 1\n")?;
+    rows_break(&rt, alloc, "version = 2\n")
+}
+
+fn tables_break(rt: &impl Abort, alloc: Global, rows: &[(&str, i64)]) {
+    for &(tables, row) in rows {
+        expect_of(rt, alloc, IMAGE, "l2 = {", tables, by(2, row, 0));
     }
-    for (tables, row) in BESIDE {
-        expect_of(&rt, alloc, IMAGE, "l2 = {", tables, by(2, row, 0));
-    }
+}
+
+#[test]
+fn the_row_comes_in_its_place(rt: HostRuntime) -> Result<(), Fail> {
+    let alloc = rt.alloc();
+    tables_break(&rt, alloc, &BESIDE);
     let numbered = IMAGE.replace(alloc, "l2 = {", "l2 = { back = 1,")?;
     all_break(&rt, alloc, numbered.as_str(), &PLACES);
     Ok(())
@@ -125,23 +139,27 @@ fn a_broken_row_is_named(rt: HostRuntime) -> Result<(), Fail> {
 
 // What is read where this stands for the second level.
 fn back_of(alloc: Global, image: &str, said: &str) -> Result<bool, ReadRefusal> {
-    let text = image.replace(alloc, PLAIN, said)?;
-    Ok(read_image(alloc, text.as_bytes())?.back)
+    let raw = read_with(alloc, image, PLAIN, said)?;
+    let back = raw.back;
+    drop(raw);
+    Ok(back)
 }
 
 fn says_back(rt: &impl Abort, alloc: Global, image: &str, said: &str, back: bool) {
     expect_of(rt, alloc, image, PLAIN, said, None);
-    assert_eq!(rt; back_of(alloc, image, said), Ok(back), "{said}");
+    is_equal(rt, said, back_of(alloc, image, said), Ok(back));
+}
+
+fn all_say_back(rt: &impl Abort, alloc: Global, version: &str) -> Result<(), ReadRefusal> {
+    let image = of_version(alloc, version)?;
+    for &(said, back) in &SAID {
+        says_back(rt, alloc, image.as_str(), said, back);
+    }
+    Ok(())
 }
 
 #[test]
-fn what_is_said_is_read(rt: HostRuntime) -> Result<(), Fail> {
-    let alloc = rt.alloc();
-    for version in ["", "version = 2\n"] {
-        let image = of_version(alloc, version)?;
-        for (said, back) in SAID {
-            says_back(&rt, alloc, image.as_str(), said, back);
-        }
-    }
-    Ok(())
+fn what_is_said_is_read(rt: HostRuntime) -> Result<(), ReadRefusal> {
+    all_say_back(&rt, rt.alloc(), "")?;
+    all_say_back(&rt, rt.alloc(), "version = 2\n")
 }

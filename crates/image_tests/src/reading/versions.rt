@@ -1,5 +1,6 @@
 // The version of the format, and what the second has beside the first: the calls of a domain.
 use super::{Change, IMAGE, all_break, expect_of};
+use crate::equal::is_equal;
 use image_record::{Raw, RawDomain, ReadRefusal};
 use image_text::read_image;
 use std::alloc::Global;
@@ -81,7 +82,7 @@ fn a_broken_row_is_named(rt: HostRuntime) -> Result<(), Fail> {
 fn what_breaks_no_row_is_read(rt: HostRuntime) -> Result<(), Fail> {
     let alloc = rt.alloc();
     let second = second(alloc)?;
-    for (old, new) in READ {
+    for &(old, new) in &READ {
         expect_of(&rt, alloc, second.as_str(), old, new, None);
     }
     Ok(())
@@ -92,32 +93,44 @@ fn are_calls(rt: &impl Abort, domain: &RawDomain, wanted: Option<&[i64]>) {
         Some(calls) => Some(calls.as_slice()),
         None => None,
     };
-    assert_eq!(rt; calls, wanted);
+    is_equal(rt, "calls", calls, wanted);
 }
 
 fn says(rt: &impl Abort, raw: &Raw, version: u8, red: Option<&[i64]>, blue: Option<&[i64]>) {
-    assert_eq!(rt; raw.version, version);
+    is_equal(rt, "version", raw.version, version);
     assert_eq!(rt; raw.domains.len(), 2);
     are_calls(rt, &raw.domains[0], red);
     are_calls(rt, &raw.domains[1], blue);
 }
 
-#[test]
-fn an_image_gives_its_version_and_calls(rt: HostRuntime) -> Result<(), Fail> {
-    let alloc = rt.alloc();
-    let raw = read_image(alloc, IMAGE.as_bytes())?;
-    says(&rt, &raw, 1, None, None);
-
-    let text = IMAGE.replace(alloc, "frames", "version = 1\nframes")?;
+// Red says no calls.
+fn is_read(
+    rt: &impl Abort,
+    alloc: Global,
+    text: &str,
+    version: u8,
+    blue: Option<&[i64]>,
+) -> Result<(), ReadRefusal> {
     let raw = read_image(alloc, text.as_bytes())?;
-    says(&rt, &raw, 1, None, None);
-
-    let text = second(alloc)?;
-    let raw = read_image(alloc, text.as_bytes())?;
-    says(&rt, &raw, 2, None, Some(&[0, 1]));
-
-    let text = text.replace(alloc, "[0, 1]", "[15, -1, 1, 1]")?;
-    let raw = read_image(alloc, text.as_bytes())?;
-    says(&rt, &raw, 2, None, Some(&[15, -1, 1, 1]));
+    says(rt, &raw, version, None, blue);
+    drop(raw);
     Ok(())
+}
+
+fn first(alloc: Global) -> Result<String, ReadRefusal> {
+    Ok(IMAGE.replace(alloc, "frames", "version = 1\nframes")?)
+}
+
+fn with_more_calls(alloc: Global) -> Result<String, ReadRefusal> {
+    Ok(second(alloc)?.replace(alloc, "[0, 1]", "[15, -1, 1, 1]")?)
+}
+
+#[test]
+fn an_image_gives_its_version_and_calls(rt: HostRuntime) -> Result<(), ReadRefusal> {
+    let alloc = rt.alloc();
+    is_read(&rt, alloc, IMAGE, 1, None)?;
+    is_read(&rt, alloc, first(alloc)?.as_str(), 1, None)?;
+    is_read(&rt, alloc, second(alloc)?.as_str(), 2, Some(&[0, 1]))?;
+    let calls = &[15, -1, 1, 1];
+    is_read(&rt, alloc, with_more_calls(alloc)?.as_str(), 2, Some(calls))
 }

@@ -622,16 +622,32 @@ fn opened(alloc: Global, image: &Checked) -> Result<(Domain, PhysMem), Memory>
 
 // The call after which something is not so, and what; and whether each code,
 // 0 to 13, came.
-fn called(alloc: Global) -> Result<Option<(Option<(u32, u32)>, bool)>, Memory> {
-    let Some(image) = accepted(alloc, &[MACHINE, DOMAINS])? else {
-        return Ok(None);
-    };
-    let (mut red, mut memory) = opened(alloc, &image)?;
-    if !kernel_is_blank(&memory) {
-        return Ok(Some((Some((0, 10)), false)));
+type Answer = (Option<(u32, u32)>, bool);
+
+// For the prover an image, a domain and a memory are lent to functions that need not
+// drop them.
+
+fn call_all(domain: &mut Domain, memory: &mut PhysMem) -> Answer
+    requires valid { Valid memory.old domain.old }
+    requires replies { domain.old.replies.count ≤ 2 ^ 62 }
+{
+    if !kernel_is_blank(memory) {
+        return (Some((0, 10)), false);
     }
-    let (wrong, codes) = first_wrong(&mut red, &mut memory);
-    Ok(Some((wrong, codes.iter().all(|times| *times > 0))))
+    let (wrong, codes) = first_wrong(domain, memory);
+    (wrong, codes.iter().all(|times| *times > 0))
+}
+
+fn called_in(alloc: Global, image: &Checked) -> Result<Option<Answer>, Memory> {
+    let (mut red, mut memory) = opened(alloc, image)?;
+    Ok(Some(call_all(&mut red, &mut memory)))
+}
+
+fn called(alloc: Global) -> Result<Option<Answer>, Memory> {
+    match accepted(alloc, &[MACHINE, DOMAINS])? {
+        Some(image) => called_in(alloc, &image),
+        None => Ok(None),
+    }
 }
 
 #[test]

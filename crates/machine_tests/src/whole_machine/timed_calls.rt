@@ -1,8 +1,11 @@
 // What kernel calls cost in a slot, counted by hand, on a machine in which no line
 // ever gives way: the first touch of one is a miss, 49, a store of one that only a
 // walk has read 9, and any other 1.
+ghost use Rattle.std.specs.Prelude.{◌≡◌};
+
 use crate::images::{accepted, hex_of};
 use call_table::Reply;
+use image_check::Checked;
 use machine_state::has_one_hart;
 use std::alloc::Global;
 use std::test::Fail;
@@ -71,7 +74,7 @@ fn code_of(call: Call) -> [u32; 16] {
 
 fn program(alloc: Global) -> Result<String, Memory> {
     let mut code = String::new(alloc);
-    for call in CALLS {
+    for &call in &CALLS {
         let line = hex_of(alloc, &code_of(call))?;
         code.push_str(line.as_str())?;
     }
@@ -113,7 +116,7 @@ const COUNT: u32 = 27;
 // shared line, 9 or, where an operation of the same remainder by 8 came before, 1;
 // and 19 later. A refused one is charged no more.
 #[rattlefmt::skip]
-const CALLS: [Call; COUNT as usize] = [
+static CALLS: [Call; COUNT as usize] = [
     (TABLE, [9, 0, 0], (3, 0), 315),
     // 64 cold lines of the frame, 3136.
     (ALLOC, [1, 1, 0], DONE, 3451),
@@ -171,19 +174,38 @@ fn first_wrong(view: &View<'_>) -> Option<u32> {
     None
 }
 
+// For the prover an image and a machine are lent to functions that need not drop them.
+
 // Past the last call no code stands, and the domain is stopped.
-fn ran(alloc: Global) -> Result<Option<Option<u32>>, Memory> {
-    let code = program(alloc)?;
-    let Some(image) = accepted(alloc, &[FIRST, code.as_str(), LAST])? else {
-        return Ok(None);
-    };
-    image.runnable();
-    if !has_one_hart(&image) {
+fn run_slot(machine: &mut Machine<'_>) -> Option<u32>
+    requires slots { machine.old.slots ≡ 0 }
+{
+    machine.image().runnable();
+    machine.run_slot();
+    first_wrong(&machine.view(0))
+}
+
+fn run(alloc: Global, image: &Checked) -> Result<Option<Option<u32>>, Memory> {
+    if !has_one_hart(image) {
         return Ok(None);
     }
-    let mut machine = Machine::load(alloc, &image)?;
-    machine.run_slot();
-    Ok(Some(first_wrong(&machine.view(0))))
+    // For the prover no `?`, which would move the machine once more.
+    match Machine::load(alloc, image) {
+        Ok(mut machine) => Ok(Some(run_slot(&mut machine))),
+        Err(error) => Err(error),
+    }
+}
+
+fn timed(alloc: Global) -> Result<Option<Checked>, Memory> {
+    let code = program(alloc)?;
+    accepted(alloc, &[FIRST, code.as_str(), LAST])
+}
+
+fn ran(alloc: Global) -> Result<Option<Option<u32>>, Memory> {
+    match timed(alloc)? {
+        Some(image) => run(alloc, &image),
+        None => Ok(None),
+    }
 }
 
 #[test]

@@ -47,26 +47,24 @@ impl PlainCache {
         self.kept.iter().any(|kept| kept.number == number)
     }
 
-    fn touch(&mut self, number: u32, store: bool) -> Result<Found, Fail> {
+    // The least way of a set that nothing is in, or that of its victim.
+    fn way_for(&self, set: u32) -> usize {
         let mask = self.mask;
-        let set = number & mask;
-        if let Some(place) = self.kept.iter().position(|kept| kept.number == number) {
-            self.touch_again(place, store)?;
-            return Ok(Found {
-                hit: true,
-                dirty_victim: None,
-            });
-        }
         let filled = self
             .kept
             .iter()
             .filter(|kept| kept.number & mask == set)
             .count();
-        let way = if filled < self.ways {
+        if filled < self.ways {
             filled
         } else {
             self.victim(set)
-        };
+        }
+    }
+
+    // Empties a way of a set; answers the line that was in it if that is dirty.
+    fn give_up(&mut self, set: u32, way: usize) -> Option<u32> {
+        let mask = self.mask;
         let dirty_victim = self
             .kept
             .iter()
@@ -74,6 +72,20 @@ impl PlainCache {
             .map(|kept| kept.number);
         self.kept
             .retain(|kept| kept.number & mask != set || kept.way != way);
+        dirty_victim
+    }
+
+    fn touch(&mut self, number: u32, store: bool) -> Result<Found, Fail> {
+        if let Some(place) = self.kept.iter().position(|kept| kept.number == number) {
+            self.touch_again(place, store)?;
+            return Ok(Found {
+                hit: true,
+                dirty_victim: None,
+            });
+        }
+        let set = number & self.mask;
+        let way = self.way_for(set);
+        let dirty_victim = self.give_up(set, way);
         let line = Kept {
             number,
             way,

@@ -23,14 +23,30 @@ pub fn refused(rt: &impl Abort, alloc: Global, text: &str, line: &str) -> Result
 // new line.
 fn refuses(rt: &impl Abort, alloc: Global, front: &str, table: &str) -> Result<(), Fail> {
     for row in table.split('\n') {
-        let row = row.replace(alloc, "~", "\n")?;
-        let mut fields = row.split('|');
-        let old = fields.next().unwrap_or("");
-        let new = fields.next().unwrap_or("");
-        let line = fields.next().unwrap_or("");
-        let broken = image(alloc, PRINTS_A, PRINTS_B)?.replace(alloc, old, new)?;
-        let text = format!(in alloc; "{front}{broken}")?;
-        refused(rt, alloc, text.as_str(), line)?;
+        refuses_row(rt, alloc, front, row)?;
+    }
+    Ok(())
+}
+
+fn refuses_row(rt: &impl Abort, alloc: Global, front: &str, row: &str) -> Result<(), Fail> {
+    let (old, rest) = row.split_once('|').unwrap_or((row, ""));
+    let (new, line) = rest.split_once('|').unwrap_or((rest, ""));
+    let text = with_change(alloc, front, old, new)?;
+    refused(rt, alloc, text.as_str(), line)
+}
+
+// The image of two domains, after this line, with one text in the place of another, which both have ~
+// for a new line.
+fn with_change(alloc: Global, front: &str, old: &str, new: &str) -> Result<String, Fail> {
+    let old = old.replace(alloc, "~", "\n")?;
+    let new = new.replace(alloc, "~", "\n")?;
+    let broken = image(alloc, PRINTS_A, PRINTS_B)?.replace(alloc, old.as_str(), new.as_str())?;
+    Ok(format!(in alloc; "{front}{broken}")?)
+}
+
+fn refuses_all(rt: &impl Abort, alloc: Global, front: &str, tables: &[&str]) -> Result<(), Fail> {
+    for table in tables {
+        refuses(rt, alloc, front, table)?;
     }
     Ok(())
 }
@@ -137,21 +153,22 @@ const CALLS_BEFORE_HISTORY: &str = "colours = [2]|colours = [2]~calls = 3|K2 at 
 colours = [2]|colours = [2]~calls = [1, 0]|K2 at 30 found 0 wanted 0
 colours = [2]|colours = 2~calls = 3|K2 at 12 found 1 wanted 0";
 
+const OF_NO_VERSION: [&str; 6] = [KEYS, KEYS_OF_ITEMS, VALUES, GEOMETRY, SEGMENTS, CAPS];
+
+const OF_THE_SECOND: [&str; 5] = [KEYS, KEYS_OF_ITEMS, SEGMENTS, CAPS, CALLS];
+
 #[test]
 fn images_that_break_a_rule_are_refused(rt: HostRuntime) -> Result<(), Fail> {
-    for table in [KEYS, KEYS_OF_ITEMS, VALUES, GEOMETRY, SEGMENTS, CAPS] {
-        refuses(&rt, rt.alloc(), "", table)?;
-    }
-    for table in [KEYS, KEYS_OF_ITEMS, SEGMENTS, CAPS, CALLS] {
-        refuses(&rt, rt.alloc(), "version = 2\n", table)?;
-    }
+    let alloc = rt.alloc();
+    refuses_all(&rt, alloc, "", &OF_NO_VERSION)?;
+    refuses_all(&rt, alloc, "version = 2\n", &OF_THE_SECOND)?;
     let front = "version = 2\nhistory = true\n";
-    refuses(&rt, rt.alloc(), front, CALLS_BEFORE_HISTORY)?;
-    for front in ["", "version = 1\n"] {
-        refuses(&rt, rt.alloc(), front, CALLS_OF_THE_FIRST)?;
+    refuses(&rt, alloc, front, CALLS_BEFORE_HISTORY)?;
+    for front in &["", "version = 1\n"] {
+        refuses(&rt, alloc, front, CALLS_OF_THE_FIRST)?;
     }
-    for front in ["version = 0\n", "version = 3\n", "version = true\n"] {
-        refuses(&rt, rt.alloc(), front, VERSION)?;
+    for front in &["version = 0\n", "version = 3\n", "version = true\n"] {
+        refuses(&rt, alloc, front, VERSION)?;
     }
     Ok(())
 }

@@ -4,12 +4,10 @@ use Rattle.std.specs.Prelude.{slice_get}
 use Rattle.std.proofs.lemmas.Option.{same_Some}
 use Rattle.frame_colours.specs.Colours.{whole_of, share_of}
 use Rattle.frame_colours.specs.FreeList.{FreeList, all_free, without_least}
-use Rattle.tp_base.specs.Table.{empty}
 use Rattle.phys_mem.specs.Contents.{zeroed}
-use Rattle.phys_mem.specs.Holds.{Holds}
 use Rattle.kernel_clone.specs.Permissions.{every_call}
 use Rattle.kernel_tests.proofs.Opening.{slots_of, first_of, second_of, is_valid}
-use Rattle.kernel_tests.proofs.calls.opened.Goals as goal
+use Rattle.kernel_tests.proofs.calls.opened_in.Goals as goal
 
 pub returns : goal.returns
 returns c =
@@ -22,9 +20,7 @@ returns c =
     let five : c.in_ok-ok_or-2.field-0 ≡ 5 =
     same_Some c.in_ok-ok_or-2.field-0 5 (sym table_is ∙ (c.take-2.ensures.value
     ∙ (ap (λ (l : FreeList). slice_get l.free 0) left_is ∙ second_of c.in_ok-pool.pool pool_is))) in
-    let size : c.in_ok-memory.memory.frames ≡ 64 = search rules in
-    let holds : Holds c.in_ok-memory.memory empty = search rules in
-    let then : c.table-root.new.memory ≡ zeroed c.in_ok-memory.memory c.in_ok-ok_or.field-0 = search rules in
+    let then : c.table-root.new.memory ≡ zeroed c.args.memory.now c.in_ok-ok_or.field-0 = search rules in
     let after : c.table-table.new.memory ≡ zeroed c.table-root.new.memory c.in_ok-ok_or-2.field-0 = search rules in
     let at : c.in_ok-domain.domain.map ≡ c.in_ok-ok_or.field-0 = search rules in
     let free : c.in_ok-domain.domain.pool ≡ without_least (without_least c.in_ok-pool.pool) = search rules in
@@ -32,7 +28,7 @@ returns c =
     let calls : c.in_ok-domain.domain.calls ≡ every_call = search rules in
     record {
       valid =
-          is_valid c.in_ok-memory.memory c.table-root.new.memory c.table-table.new.memory c.in_ok-ok_or.field-0 c.in_ok-ok_or-2.field-0
-          c.in_ok-domain.domain size holds one five then after at
+          is_valid c.args.memory.now c.table-root.new.memory c.table-table.new.memory c.in_ok-ok_or.field-0 c.in_ok-ok_or-2.field-0
+          c.in_ok-domain.domain c.requires.size c.requires.zero one five then after at
           (free ∙ ap (λ (l : FreeList). without_least (without_least l)) pool_is) caps calls;
     }
