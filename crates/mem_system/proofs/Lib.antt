@@ -1,3 +1,4 @@
+pub mod Accesses
 pub mod Leaves
 pub mod Touches
 pub mod WriteBacks

@@ -1,6 +1,11 @@
 // What a core has of its own. Each call sees the core first, and hands on to
 // the second level what the core doesn't hold.
-ghost use Rattle.std.specs.Prelude.{◌≡◌, ◌<◌, ◌^◌};
+ghost use Rattle.std.specs.Prelude.{◌≡◌, ◌<◌, ◌^◌, ℕ, Some, None, IfOk};
+ghost use Rattle.tp_base.specs.Ranges.{IsLine};
+ghost use Rattle.branch_pred.specs.Guesses.{AreSizes, fresh_guesses};
+ghost use Rattle.set_cache.specs.Calls.{IsNew, IsTouch};
+ghost use Rattle.tlb_model.specs.Buffer.{leaf_of};
+ghost use Rattle.mem_system.specs.Geometry.{IsCache};
 ghost use Rattle.sv32_walk.specs.PageTableEntry.{ppn};
 ghost use Rattle.sv32_walk.specs.KeptLeaf.{end_at};
 ghost use Rattle.mem_system.specs.Translation.{address_in, translated};
@@ -153,14 +158,16 @@ impl<P: Policy> OnCore<P> {
         ensures kept { IfOk result (λ core. (mem : Mem) (frames root : ℕ)
             → KeepsLeaves mem frames root core.tlb) }
     {
+        let (predictor, tlb) = new_guides(alloc, predictor, tlb)?;
+        let (l1i, l1d) = new_first_level(alloc, l1i, l1d)?;
         Ok(OnCore {
             costs,
             products,
             pinned,
-            predictor: Predictor::new(alloc, predictor)?,
-            l1i: L1I::new(alloc, l1i.policy, l1i.sets, l1i.ways)?,
-            l1d: L1D::new(alloc, l1d.policy, l1d.sets, l1d.ways)?,
-            tlb: Tlb::new(alloc, tlb.policy, tlb.sets, tlb.ways)?,
+            l1i,
+            l1d,
+            tlb,
+            predictor,
         })
     }
 
@@ -303,11 +310,7 @@ impl<P: Policy> OnCore<P> {
             (system self.old l2.old) (system self.new l2.new) }
         ensures buffer { self.new.tlb ≡ self.old.tlb }
     {
-        let found = if store {
-            self.l1d.store(line)
-        } else {
-            self.l1d.load(line)
-        };
+        let found = touch_data(&mut self.l1d, line, store);
         if found.hit {
             return self.costs.l1;
         }
@@ -543,6 +546,55 @@ impl<P: Policy> OnCore<P> {
             },
             None => self.missed(l2, mem, root, va, access),
         }
+    }
+}
+
+// A predictor and a translation buffer that hold nothing. They are made apart from
+// the caches, so that what is made first is given back at few places.
+fn new_guides<P: Policy>(
+    alloc: Global,
+    predictor: Sizes,
+    tlb: CacheGeometry<P>,
+) -> Result<(Predictor, Tlb<P>), Memory>
+    requires predictor { AreSizes predictor }
+    requires tlb { IsCache P.takes tlb }
+    ensures predictor { IfOk result (λ made. made.0 ≡ fresh_guesses predictor) }
+    ensures tlb { IfOk result (λ made. IsNew P.takes P.stands_for tlb.policy tlb.sets tlb.ways made.1.pages) }
+    ensures none { IfOk result (λ made. (page : ℕ) → leaf_of made.1 page ≡ None) }
+{
+    Ok((
+        Predictor::new(alloc, predictor)?,
+        Tlb::new(alloc, tlb.policy, tlb.sets, tlb.ways)?,
+    ))
+}
+
+// The caches of the first level, which hold nothing.
+fn new_first_level<P: Policy>(
+    alloc: Global,
+    l1i: CacheGeometry<P>,
+    l1d: CacheGeometry<P>,
+) -> Result<(L1I<P>, L1D<P>), Memory>
+    requires l1i { IsCache P.takes l1i }
+    requires l1d { IsCache P.takes l1d }
+    ensures l1i { IfOk result (λ made. IsNew P.takes P.stands_for l1i.policy l1i.sets l1i.ways made.0) }
+    ensures l1d { IfOk result (λ made. IsNew P.takes P.stands_for l1d.policy l1d.sets l1d.ways made.1) }
+{
+    Ok((
+        L1I::new(alloc, l1i.policy, l1i.sets, l1i.ways)?,
+        L1D::new(alloc, l1d.policy, l1d.sets, l1d.ways)?,
+    ))
+}
+
+// A load from a line, or a store to it, and the line that was given up for it.
+#[inline(always)]
+fn touch_data<P: Policy>(l1d: &mut L1D<P>, line: Line, store: bool) -> Touch
+    ensures touch { IsTouch P.takes P.rule P.stands_for result line store l1d.old l1d.new }
+    ensures victim { (victim : ℕ) → result.victim ≡ Some victim → IsLine victim }
+{
+    if store {
+        l1d.store(line)
+    } else {
+        l1d.load(line)
     }
 }
 

@@ -2,3 +2,4 @@ pub mod Words
 pub mod ProductLaws
 pub mod DivisionLaws
 pub mod Digits
+pub mod Effects

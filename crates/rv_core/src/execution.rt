@@ -91,25 +91,13 @@ fn branch(pc: u32, target: u32, taken: bool) -> Effect
     }
 }
 
-/// Runs one instruction at the address `pc`, and answers its effect.
-///
-/// `loaded` is what a load found, with zeros above it, or the value of a counter
-/// that is read; for every other instruction it doesn't count. The numbers of
-/// the instruction's registers are below 32.
-///
-/// A jump or a taken branch to an address that is no multiple of 4 traps, as do
-/// a misaligned load or store, EBREAK and ECALL; where there is a trap, nothing
-/// else changes (RISC-V unprivileged specification, "RV32I Base Integer
-/// Instruction Set"). A caller that makes an ECALL's call itself takes the ECALL
-/// before it runs it. FENCE changes nothing. No division traps ("M" Extension for
-/// Integer Multiplication and Division).
+// Runs one instruction. What the effects of all instructions have in common is
+// proved of the table, in `execute`, and not of each arm here.
 #[inline(always)]
-pub fn execute(regs: &mut Regs, pc: u32, instr: Instr, loaded: u32) -> Effect
+fn run(regs: &mut Regs, pc: u32, instr: Instr, loaded: u32) -> Effect
     requires registers { HasRegisters instr }
     ensures regs { regs.new ≡ (effect_of regs.old pc instr loaded).regs }
     ensures effect { result ≡ (effect_of regs.old pc instr loaded).effect }
-    ensures trap { IfSome result.trap (λ _. NothingElse regs.old regs.new pc result) }
-    ensures aligned { pc % 4 ≡ 0 → result.next % 4 ≡ 0 }
     ensures store { IfSome result.store IsStore }
 {
     match instr {
@@ -181,4 +169,28 @@ pub fn execute(regs: &mut Regs, pc: u32, instr: Instr, loaded: u32) -> Effect
         Instr::Ebreak => raise(pc, Exception::Breakpoint.with(pc)),
         Instr::ReadCounter { rd, .. } => write_register(regs, pc, rd, loaded),
     }
+}
+
+/// Runs one instruction at the address `pc`, and answers its effect.
+///
+/// `loaded` is what a load found, with zeros above it, or the value of a counter
+/// that is read; for every other instruction it doesn't count. The numbers of
+/// the instruction's registers are below 32.
+///
+/// A jump or a taken branch to an address that is no multiple of 4 traps, as do
+/// a misaligned load or store, EBREAK and ECALL; where there is a trap, nothing
+/// else changes (RISC-V unprivileged specification, "RV32I Base Integer
+/// Instruction Set"). A caller that makes an ECALL's call itself takes the ECALL
+/// before it runs it. FENCE changes nothing. No division traps ("M" Extension for
+/// Integer Multiplication and Division).
+#[inline(always)]
+pub fn execute(regs: &mut Regs, pc: u32, instr: Instr, loaded: u32) -> Effect
+    requires registers { HasRegisters instr }
+    ensures regs { regs.new ≡ (effect_of regs.old pc instr loaded).regs }
+    ensures effect { result ≡ (effect_of regs.old pc instr loaded).effect }
+    ensures trap { IfSome result.trap (λ _. NothingElse regs.old regs.new pc result) }
+    ensures aligned { pc % 4 ≡ 0 → result.next % 4 ≡ 0 }
+    ensures store { IfSome result.store IsStore }
+{
+    run(regs, pc, instr, loaded)
 }

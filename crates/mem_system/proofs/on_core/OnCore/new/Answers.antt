@@ -3,4 +3,4 @@ use Rattle.mem_system.proofs.Leaves.{keeps_none}
 use Rattle.mem_system.proofs.on_core.OnCore.new.Goals as goal
 
 pub returns-clause-kept : goal.returns-clause-kept
-returns-clause-kept g c = λ mem frames root. keeps_none mem frames root c.in_ok-new-4.field-0 c.in_ok-new-4.ensures.none
+returns-clause-kept g c = λ mem frames root. keeps_none mem frames root _ c.in_ok-predictor.ensures.none
