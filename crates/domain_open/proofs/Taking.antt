@@ -1,18 +1,18 @@
 -- Frames that are taken from a pool, and zeroed.
-use Rattle.std.proofs.Common.{◌≡◌, ◌≢◌, ℕ, zero, suc, ◌<◌, ◌∙◌, Bool, true, false, true≢false, ◌||◌, List, [], ◌∷◌, ◌++◌, get_or, map, take, drop, ap, ap₂, sym, refl, inl, inr, subst, arith, ◌+◌}
+use Rattle.std.proofs.Common.{◌≡◌, ◌≢◌, ℕ, zero, suc, ◌<◌, ◌∙◌, Bool, true, false, true≢false, ◌||◌, List, [], ◌∷◌, ◌++◌, Vec, Global, length, get_or, map, take, drop, ap, ap₂, sym, refl, inl, inr, subst, arith, ◌+◌}
 use Rattle.std.proofs.lemmas.Bool.{cases_eq, cases_Bool, lt-ltb}
-use Rattle.std.proofs.lemmas.List.{append_assoc, take-append-drop, take-take, drop-take}
+use Rattle.std.proofs.lemmas.List.{append_assoc, take-append-drop, take-take, drop-take, map_push, map_more}
 use Rattle.tp_base.specs.Table.{empty}
 use Rattle.phys_mem.specs.Contents.{Contents, word_of, zeroed}
 use Rattle.phys_mem.specs.Mem.{Mem, word, zeroed_frame, word-empty, word-zeroed_same, word-zeroed_other}
 use Rattle.phys_mem.specs.Holds.{Holds}
 use Rattle.phys_mem.proofs.HoldsLemmas.{holds-zeroed}
 use Rattle.frame_colours.specs.Colours as colours
-use Rattle.frame_colours.specs.Colours.{Whole, whole_of, has}
+use Rattle.frame_colours.specs.Colours.{Whole, whole_of, has, colours_in}
 use Rattle.frame_colours.proofs.Ascending.{has_head}
 use Rattle.frame_colours.proofs.Pools.{IsOwn-pool}
 use Rattle.hardware_check.specs.Hardware.{Hardware, colours_of}
-use Rattle.image_check.specs.Own.{Own}
+use Rattle.image_check.specs.Own.{Own, own_at, no_own}
 use Rattle.image_check.specs.Pages.{share_of}
 use Rattle.world_view.specs.Frames.{own_frame, pool}
 use Rattle.world_view.proofs.opening.OpeningClaims.{has_append}
@@ -130,6 +130,15 @@ taken_on k xs old now next x more before e =
     e ∙ ap (λ ys. ys ++ x ∷ []) before ∙ append_assoc old (take k xs) (x ∷ []) ∙ ap (λ ys. old ++ ys) (sym more)
 
 -- ---- shares
+
+-- the colours of one more domain
+pub named_more : (lists : List (Vec ℕ Global)) (v : Vec ℕ Global) (owns : List Own) (d : ℕ) → d < length owns
+    → colours_in lists ≡ map (λ (o : Own). o.colours) (take d owns) → v.items ≡ (own_at owns d).colours
+    → colours_in (lists ++ v ∷ []) ≡ map (λ (o : Own). o.colours) (take (d + 1) owns)
+named_more lists v owns d below before named =
+    map_push (λ (w : Vec ℕ Global). w.items) lists v
+    ∙ ap₂ (λ (ns : List (List ℕ)) (n : List ℕ). ns ++ n ∷ []) before named
+    ∙ sym (map_more (λ (o : Own). o.colours) owns d no_own below)
 
 same_shares : (p : Hardware) (owns : List Own) → map (colours.share_of (whole_of p.frames (colours_of p))) (map (λ o. o.colours) owns) ≡ map (share_of p) owns
 same_shares p [] = refl

@@ -1,21 +1,26 @@
 // The domains at their entries.
-ghost use Rattle.std.specs.Prelude.{◌≡◌, ◌<◌, length, IfOk};
+ghost use Rattle.std.specs.Prelude.{◌≡◌, ◌<◌, ◌≤◌, [], length, IfOk};
+ghost use Rattle.std.specs.Vec.{vec_capacity};
 ghost use Rattle.tp_base.specs.Table.{empty};
 ghost use Rattle.phys_mem.specs.Holds.{Holds};
 ghost use Rattle.hardware_check.specs.Models.{hardware_model};
 ghost use Rattle.image_check.specs.Models.{own_model};
+ghost use Rattle.image_check.specs.Laws.{IsOwn};
 ghost use Rattle.image_check.specs.Pages.{share_of};
 ghost use Rattle.image_check.specs.Image.{image_from, own_of};
 ghost use Rattle.image_check.specs.Own as own_spec;
+ghost use Rattle.irq_partition.specs.Interrupts.{none_delivered};
 ghost use Rattle.kernel_clone.specs.Models.{layout_model};
 ghost use Rattle.world_view.specs.Frames.{clone_frames};
 ghost use Rattle.world_view.specs.Kernel.{layout};
+ghost use Rattle.domain_open.specs.Giving.{line_slots};
 ghost use Rattle.domain_open.specs.Placing.{HasPool, AreApart, AreZeroed, SameElsewhere, used_frames, IsOpened, AllOpened};
 
 use crate::frames::{discard_all, shares_of, take_into, take_one};
 use crate::giving::{give_pages, lines_of};
 use crate::segments::{REGIONS, pages_in, regions_below};
-use frame_colours::{ColourShare, Frame, Held, Pool};
+use cap_table::CapTable;
+use frame_colours::{ColourShare, Frame, Held, Pool, Table};
 use image_check::{Checked, Hardware, Own};
 use irq_partition::IrqPart;
 use kernel_call::{Beginning, Domain};
@@ -66,11 +71,13 @@ pub fn open_domain(
     let segments = own.segments.as_slice();
     let regions = regions_below(segments, REGIONS);
     let pages = pages_in(segments);
-    let mut kept = Vec::with_capacity(alloc, (CLONE_FRAMES + pages) as usize)?;
-    let mut tables = Vec::with_capacity(alloc, regions as usize)?;
-    let mut caps = lines_of(alloc, own)?;
-    let moments = own.moments.as_slice();
-    let interrupts = IrqPart::new(alloc, moments)?;
+    let frames = CLONE_FRAMES + pages;
+    let Room {
+        mut kept,
+        mut tables,
+        mut caps,
+        interrupts,
+    } = room_of(alloc, own, frames, regions)?;
     take_into(&mut kept, &mut pool, memory, CLONE_FRAMES);
     let layout = layout_of(hardware, kept.as_slice());
     let root = take_one(&mut pool, memory);
@@ -88,6 +95,38 @@ pub fn open_domain(
         calls: own.calls,
     };
     Domain::new(alloc, begin)
+}
+
+// What a domain keeps, before its frames are taken: room for them, the slots that
+// name its lines, and its moments.
+struct Room {
+    kept: Vec<Frame<Held>>,
+    tables: Vec<Frame<Table>>,
+    caps: CapTable,
+    interrupts: IrqPart,
+}
+
+// Room for so many frames and page tables. It is made by itself, as each step that
+// may fail drops what was made before it.
+fn room_of(alloc: Global, own: &Own, frames: u32, tables: u32) -> Result<Room, Memory>
+    requires sound { IsOwn (own_model own.now) }
+    ensures kept { IfOk result (λ room. room.kept.items ≡ []) }
+    ensures frames { IfOk result (λ room. frames ≤ vec_capacity room.kept) }
+    ensures no_tables { IfOk result (λ room. room.tables.items ≡ []) }
+    ensures tables { IfOk result (λ room. tables ≤ vec_capacity room.tables) }
+    ensures caps { IfOk result (λ room. room.caps ≡ line_slots (own_model own.now)) }
+    ensures opening { IfOk result (λ room. room.interrupts ≡ none_delivered (own_model own.now).moments) }
+{
+    let kept = Vec::with_capacity(alloc, frames as usize)?;
+    let tables = Vec::with_capacity(alloc, tables as usize)?;
+    let interrupts = IrqPart::new(alloc, own.moments.as_slice())?;
+    let caps = lines_of(alloc, own)?;
+    Ok(Room {
+        kept,
+        tables,
+        caps,
+        interrupts,
+    })
 }
 
 // Where the kernel clone of a domain lies, whose frames these are.

@@ -210,6 +210,12 @@ first_before_pads : (i : Raw) (r : Refusal) (later : List Refusal) → slice_get
 unfolding broken_before_pads
 first_before_pads i r later first = first_stays rules_before_pads i r later first
 
+-- where nothing is due, memory alone is refused for
+pub first_of_none : {A : Type 0} → (due : List Refusal) (result : Result A ReadRefusal) → IfErr result (IsFirst []) → IfErr result (IsFirst due)
+first_of_none due (Ok x) memory = tt
+first_of_none due (Err Memory) memory = tt
+first_of_none due (Err (Broken r)) memory = absurd cc
+
 -- the first of those before the rule of pads is the first of all
 pub first_of_all : {A : Type 0} → (i : Raw) (result : Result A ReadRefusal) → IfErr result (IsFirst (broken_before_pads i)) → IfErr result (IsFirst (broken i))
 unfolding broken

@@ -5,7 +5,7 @@ use Rattle.hardware_check.specs.Hardware.{Hardware, colours_of}
 use Rattle.image_check.specs.Own.{Own}
 use Rattle.image_check.specs.Public.{Public}
 use Rattle.image_check.specs.Image.{image_from}
-use Rattle.domain_open.proofs.Taking.{shares_are}
+use Rattle.domain_open.proofs.Taking.{named_more, shares_are}
 use Rattle.domain_open.proofs.frames.shares_of.Goals as goal
 
 pub returns : goal.returns
@@ -23,3 +23,16 @@ returns c =
       shares = subst (λ (due : List Share). IfOk c.split.result (λ shares. shares.items ≡ due))
           (shares_are p c.new.result (colours_in c.deref.result.now) i.owns whole named) c.split.ensures.shares;
     }
+
+pub own-requires : goal.own-requires
+own-requires c =
+    let all : c.public-public.result.now.domains ≡ length (image_from c.args.image.now).owns = ap (λ (q : Public). q.domains) c.public-public.ensures.value ∙ c.runnable.ensures.runnable.counted in
+    record { domain = omega (arith, all) }
+
+pub loop-d-preserved : goal.loop-d-preserved
+loop-d-preserved c =
+    let owns = (image_from c.args.image.now).owns in
+    let all : c.public-public.result.now.domains ≡ length owns = ap (λ (q : Public). q.domains) c.public-public.ensures.value ∙ c.runnable.ensures.runnable.counted in
+    let named = c.in_ok-from_slice.ensures.items ∙ c.as_slice.ensures.value ∙ ap (λ (o : Own). o.colours) c.own.ensures.value in
+    ap colours_in c.in_ok-push.ensures.items
+    ∙ named_more c.loop-d.lists.items c.in_ok-from_slice.field-0 owns c.loop-d.d (omega (arith, all)) c.loop-d.invariant named

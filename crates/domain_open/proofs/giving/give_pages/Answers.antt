@@ -1,5 +1,6 @@
-use Rattle.std.proofs.Common.{ℕ, ◌++◌, ◌∷◌, [], List, take, refl, ap, sym, subst, ◌∙◌, arith}
+use Rattle.std.proofs.Common.{◌≡◌, ℕ, ◌++◌, ◌∷◌, [], List, take, drop, refl, ap, ap₂, sym, subst, ◌∙◌, arith}
 use Rattle.std.proofs.lemmas.List.{append_assoc, append-nil}
+use Rattle.cap_table.specs.Slots.{Slots}
 use Rattle.image_check.specs.Models.{own_model}
 use Rattle.image_check.specs.Pages.{pages_in}
 use Rattle.domain_open.specs.Placing.{AreZeroed}
@@ -49,4 +50,41 @@ loop-place-preserved c =
       zeroed = subst (λ (fs : List ℕ). AreZeroed fs c.args.memory.now c.take_one-frame.new.memory) (sym more.so_far)
           (zeroed_then (take k frames) (x ∷ []) c.args.memory.now c.loop-place.memory c.take_one-frame.new.memory inv.zeroed c.take_one-frame.ensures.zeroed);
       size = c.take_one-frame.ensures.size ∙ inv.size;
+    }
+
+pub place_page-requires : goal.place_page-requires
+place_page-requires c =
+    let o = own_model c.args.own.now in
+    let frames = c.args.pool.now.free in
+    let k = c.loop-place.place in
+    let x = c.take_one-frame.result in
+    let inv = c.loop-place.invariant in
+    let many : c.pages_in-place-end.result ≡ pages_in o.segments = rw c.as_slice.ensures.value at c.pages_in-place-end.ensures.value in
+    let more = taken k frames x c.take_one-frame.new.pool.free (sym inv.free ∙ c.take_one-frame.ensures.frame) in
+    let giving : IsGiving o frames k x c.loop-place.caps = record { ascend = c.requires.ascend; enough = c.requires.enough; at = more.at; given = inv.caps } in
+    let long = inv.long in
+    let room = inv.room in
+    record {
+      sound = c.requires.sound;
+      few = c.requires.few;
+      there = omega (arith, many);
+      giving = (frames, giving);
+      room = omega (arith, many, long, room);
+    }
+
+pub returns : goal.returns
+returns c =
+    let o = own_model c.args.own.now in
+    let frames = c.args.pool.now.free in
+    let inv = c.loop-place.invariant in
+    let many : c.pages_in-place-end.result ≡ pages_in o.segments = rw c.as_slice.ensures.value at c.pages_in-place-end.ensures.value in
+    let all : c.loop-place.place ≡ pages_in o.segments = omega (arith, many) in
+    let caps = inv.caps ∙ ap (slots_after o frames) all in
+    record {
+      caps = caps;
+      kept = inv.kept ∙ ap₂ (λ (s : Slots) (n : ℕ). c.args.kept.now.items ++ unnamed s (take n frames)) (sym caps) all;
+      free = inv.free ∙ ap (λ (n : ℕ). drop n frames) all;
+      share = inv.share;
+      zeroed = subst (λ (n : ℕ). AreZeroed (take n frames) c.args.memory.now c.loop-place.memory) all inv.zeroed;
+      size = inv.size;
     }

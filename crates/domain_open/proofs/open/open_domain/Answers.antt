@@ -7,7 +7,6 @@ use Rattle.frame_colours.specs.FreeList.{FreeList}
 use Rattle.hardware_check.specs.Models.{hardware_model}
 use Rattle.image_check.specs.Models.{own_model}
 use Rattle.image_check.specs.Pages.{regions_in, pages_in, frames_in}
-use Rattle.irq_partition.specs.Interrupts as irq
 use Rattle.thread_set.specs.Models.{threads_model}
 use Rattle.kernel_clone.specs.Models.{layout_model}
 use Rattle.kernel_call.specs.declared.domain.Domain.{Domain}
@@ -26,8 +25,8 @@ pages_in-pages-requires-clause-few c =
     let few = frames_few (hardware_model c.args.hardware.now) (own_model c.args.own.now) c.requires.has_pool in
     rw c.as_slice-segments.ensures.value (omega (arith, few))
 
-pub overflow_add-pages : goal.overflow_add-pages
-overflow_add-pages c =
+pub overflow_add-frames : goal.overflow_add-frames
+overflow_add-frames c =
     let few = frames_few (hardware_model c.args.hardware.now) (own_model c.args.own.now) c.requires.has_pool in
     let pages = rw c.as_slice-segments.ensures.value at c.pages_in-pages.ensures.value in
     omega (arith, few, pages)
@@ -39,7 +38,7 @@ layout_of-layout-requires c =
     let all : List ℕ = pool p o in
     let free : c.in-Ok.pool.free ≡ all = ap (λ (f : FreeList). f.free) c.in-Ok.ensures.free ∙ ap (λ (s : Share). colours.pool s) c.requires.share in
     let clone : c.as_slice.result.now ≡ take 4 all =
-    c.as_slice.ensures.value ∙ c.take_into.ensures.frames ∙ ap₂ (λ (ys zs : List ℕ). ys ++ zs) c.in_ok-kept.ensures.items (ap (take 4) free) in
+    c.as_slice.ensures.value ∙ c.take_into.ensures.frames ∙ ap₂ (λ (ys zs : List ℕ). ys ++ zs) c.in_ok-kept.ensures.kept (ap (take 4) free) in
     let enough = c.requires.has_pool.enough in
     let long = length-take 4 all in
     record { four = ap (λ (ys : List ℕ). length ys) clone ∙ omega (arith, long, enough) }
@@ -110,12 +109,12 @@ give_pages-requires-clause-room c =
     let all : List ℕ = pool p o in
     let free : c.in-Ok.pool.free ≡ all = ap (λ (f : FreeList). f.free) c.in-Ok.ensures.free ∙ ap (λ (s : Share). colours.pool s) c.requires.share in
     let clone : c.take_into.new.frames.items ≡ take 4 all =
-    c.take_into.ensures.frames ∙ ap₂ (λ (ys zs : List ℕ). ys ++ zs) c.in_ok-kept.ensures.items (ap (take 4) free) in
+    c.take_into.ensures.frames ∙ ap₂ (λ (ys zs : List ℕ). ys ++ zs) c.in_ok-kept.ensures.kept (ap (take 4) free) in
     let many = ap (λ (ys : List ℕ). length ys) clone in
     let four = length-take 4 all in
     let pages : c.pages_in-pages.result ≡ pages_in o.segments = rw c.as_slice-segments.ensures.value at c.pages_in-pages.ensures.value in
     let room = c.take_into.ensures.room in
-    let capacity = c.in_ok-kept.ensures.capacity in
+    let capacity = c.in_ok-kept.ensures.frames in
     omega (arith, many, four, pages, room, capacity)
 
 pub returns : goal.returns
@@ -129,14 +128,14 @@ returns c =
     let fresh = c.in-Ok.ensures.free in
     let free : c.in-Ok.pool.free ≡ all = ap (λ (f : FreeList). f.free) fresh ∙ ap (λ (s : Share). colours.pool s) c.requires.share in
     let clone : c.take_into.new.frames.items ≡ clone_frames p o =
-    c.take_into.ensures.frames ∙ ap₂ (λ (ys zs : List ℕ). ys ++ zs) c.in_ok-kept.ensures.items (ap (take 4) free) in
+    c.take_into.ensures.frames ∙ ap₂ (λ (ys zs : List ℕ). ys ++ zs) c.in_ok-kept.ensures.kept (ap (take 4) free) in
     let cloned : c.take_into.new.pool.free ≡ drop 4 all = c.take_into.ensures.free ∙ ap (drop 4) free in
     let root = taken 4 all c.take_one-root.result c.take_one-root.new.pool.free (sym cloned ∙ c.take_one-root.ensures.frame) in
     let tabled : c.take_into-2.new.pool.free ≡ drop (5 + regions_in o.segments) all =
     c.take_into-2.ensures.free ∙ ap₂ drop regions root.left ∙ drop_twice 5 (regions_in o.segments) all in
     let caps = c.give_pages.ensures.caps ∙ ap (λ (fs : List ℕ). slots_after o fs many) tabled ∙ slots_are p o c.requires.has_pool.enough c.requires.has_pool.sound in
-    let made = c.new-5.ensures in
-    let r = c.new-5.result in
+    let made = c.new-4.ensures in
+    let r = c.new-4.result in
     let before = c.args.memory.now in
     let after = c.give_pages.new.memory in
     let used : AreZeroed (used_frames p o) before after =
@@ -148,16 +147,16 @@ returns c =
       opened = if_ok (IsOpened p o) r (λ d e.
           is_opened p o c.requires.has_pool c.requires.apart d
           (at_ok IsNew r d e made.made)
-          (at_ok (λ (x : Domain). x.map ≡ c.new-3.result) r d e made.map ∙ c.new-3.ensures.value ∙ sym root.at)
+          (at_ok (λ (x : Domain). x.map ≡ c.new-2.result) r d e made.map ∙ c.new-2.ensures.value ∙ sym root.at)
           (at_ok (λ (x : Domain). x.pool ≡ c.give_pages.new.pool) r d e made.pool
           ∙ ap₂ (λ (s : Share) (fs : List ℕ). record { share = s; free = fs })
           (c.give_pages.ensures.share ∙ c.take_into-2.ensures.share ∙ c.take_one-root.ensures.share ∙ c.take_into.ensures.share ∙ ap (λ (f : FreeList). f.share) fresh ∙ c.requires.share)
           (c.give_pages.ensures.free ∙ ap (drop many) tabled ∙ drop_twice (5 + regions_in o.segments) many all))
           (at_ok (λ (x : Domain). x.caps ≡ c.give_pages.new.caps) r d e made.caps ∙ caps)
-          (at_ok (λ (x : Domain). x.interrupts ≡ c.in_ok-interrupts.interrupts) r d e made.interrupts ∙ c.in_ok-interrupts.ensures.opening ∙ ap irq.none_delivered c.as_slice-moments.ensures.value)
-          (ap threads_model (at_ok (λ (x : Domain). x.threads ≡ c.new-4.result) r d e made.threads) ∙ c.new-4.ensures.opening)
+          (at_ok (λ (x : Domain). x.interrupts ≡ c.in_ok-kept.field-0.interrupts) r d e made.interrupts ∙ c.in_ok-kept.ensures.opening)
+          (ap threads_model (at_ok (λ (x : Domain). x.threads ≡ c.new-3.result) r d e made.threads) ∙ c.new-3.ensures.opening)
           (ap (λ v. v.items) (at_ok (λ (x : Domain). x.tables ≡ c.take_into-2.new.frames) r d e made.tables)
-          ∙ c.take_into-2.ensures.frames ∙ ap₂ (λ (ys zs : List ℕ). ys ++ zs) c.in_ok-tables.ensures.items (ap₂ take regions root.left))
+          ∙ c.take_into-2.ensures.frames ∙ ap₂ (λ (ys zs : List ℕ). ys ++ zs) c.in_ok-kept.ensures.no_tables (ap₂ take regions root.left))
           (ap (λ v. v.items) (at_ok (λ (x : Domain). x.kept ≡ c.give_pages.new.kept) r d e made.kept)
           ∙ c.give_pages.ensures.kept ∙ ap₂ (λ (ys zs : List ℕ). ys ++ zs) clone (ap₂ unnamed caps (ap (take many) tabled)))
           (ap layout_model (at_ok (λ (x : Domain). x.layout ≡ c.layout_of-layout.result) r d e made.layout)
