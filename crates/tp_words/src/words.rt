@@ -44,27 +44,28 @@ fn tp_command<'a>(alloc: Global) -> Result<clap::Command<'a>, AllocError>
     ensures app { IfOk result (λ c. app_of c ≡ spec.tp_app) }
 {
     let top = clap::Command::new(alloc, "tp").subcommand_required(true);
-    let one = top.subcommand(clap::Command::new(alloc, "check"))?;
-    let two = one.subcommand(clap::Command::new(alloc, "bound"))?;
-    let three = with(two, run_command(alloc))?;
-    let four = with(three, alone_command(alloc))?;
-    let five = with(four, seed_command(alloc, "gen"))?;
-    let six = with(five, seed_command(alloc, "demo"))?;
-    let seven = with(six, ablate_command(alloc))?;
+    let one = with(Ok(top), Ok(clap::Command::new(alloc, "check")));
+    let two = with(one, Ok(clap::Command::new(alloc, "bound")));
+    let three = with(two, run_command(alloc));
+    let four = with(three, alone_command(alloc));
+    let five = with(four, seed_command(alloc, "gen"));
+    let six = with(five, seed_command(alloc, "demo"));
+    let seven = with(six, ablate_command(alloc));
     with(seven, harts_command(alloc))
 }
 
-// A command with one subcommand more, where that could be made.
+// A command with one subcommand more, where both could be made. (Handed on as it is, a
+// `Result` is nothing that `tp_command` would have to drop.)
 fn with<'a>(
-    command: clap::Command<'a>,
+    command: Result<clap::Command<'a>, AllocError>,
     made: Result<clap::Command<'a>, AllocError>,
 ) -> Result<clap::Command<'a>, AllocError>
-    ensures app { (sub : App) → IfOk made.entry (λ c. app_of c ≡ sub)
+    ensures app { (top sub : App) → IfOk command.entry (λ c. app_of c ≡ top) → IfOk made.entry (λ c. app_of c ≡ sub)
         → IfOk made.entry (λ c. (out-Command c).has_globals ≡ false)
-        → IfOk result (λ c. app_of c ≡ with_subcommand (app_of command.entry) sub.top) }
+        → IfOk result (λ c. app_of c ≡ with_subcommand top sub.top) }
 {
     let sub = made?;
-    command.subcommand(sub)
+    command?.subcommand(sub)
 }
 
 fn run_command<'a>(alloc: Global) -> Result<clap::Command<'a>, AllocError>
@@ -137,34 +138,44 @@ fn number_parser<'a>(greatest: u32) -> ValueParser<'a>
     clap::value_parser!(i64).range(0..=i64::from(greatest))
 }
 
-// What the matches ask for, by the subcommand's name; nothing where `--off` names no
-// guard. clap gives no matches without one of the names above and its options, so the
-// rest is never asked for.
+// What the matches ask for. clap gives no matches without one of the names below and its
+// options, so the rest is never asked for.
 fn asked(matches: &ArgMatches<'_>) -> Option<Command>
     ensures value { result ≡ spec.asked_for (subcommand_rows_of matches.now) }
     ensures range { IfSome result IsInRange }
 {
-    let command = match matches.subcommand() {
-        Some(("check", _)) => Command::Check,
-        Some(("bound", _)) => Command::Bound,
-        Some(("run", found)) => Command::Run {
+    match matches.subcommand() {
+        Some((name, found)) => asked_by(name, found),
+        None => Some(Command::Run { slots: 0 }),
+    }
+}
+
+// What a subcommand asks for, by its name; nothing where `--off` names no guard.
+fn asked_by(name: &str, found: &ArgMatches<'_>) -> Option<Command>
+    ensures value { result ≡ spec.asked_by name.now (rows_of (found_of found.now)) }
+    ensures range { IfSome result IsInRange }
+{
+    let command = match name {
+        "check" => Command::Check,
+        "bound" => Command::Bound,
+        "run" => Command::Run {
             slots: number_or_zero(found, "slots", MOST_SLOTS),
         },
-        Some(("alone", found)) => Command::Alone {
+        "alone" => Command::Alone {
             domain: number_or_zero(found, "domain", LAST_DOMAIN) as u8,
             slots: number_or_zero(found, "slots", MOST_SLOTS),
         },
-        Some(("gen", found)) => Command::Gen {
+        "gen" => Command::Gen {
             seed: number_or_zero(found, "seed", LAST_SEED),
         },
-        Some(("demo", found)) => Command::Demo {
+        "demo" => Command::Demo {
             seed: number_or_zero(found, "seed", LAST_SEED),
         },
-        Some(("ablate", found)) => Command::Ablate {
+        "ablate" => Command::Ablate {
             off: guard_in(found)?,
             slots: number_or_zero(found, "slots", MOST_SLOTS),
         },
-        Some(("harts", found)) => Command::Harts {
+        "harts" => Command::Harts {
             slots: number_or_zero(found, "slots", MOST_SLOTS),
             seed: number_or_zero(found, "seed", LAST_SEED),
         },
