@@ -8,3 +8,10 @@ mod Calls
 pub mod Moved
 pub mod Counts
 pub mod Standing
+pub mod Elements
+pub mod InSlot
+pub mod SwitchCounts
+pub mod Whole
+mod Moments
+mod Among
+mod Opens

@@ -3,3 +3,7 @@ pub mod Kept
 pub mod Standing
 pub mod Moves
 pub mod Propositions
+pub mod Usage
+pub mod Worlds
+pub mod InSlot
+pub mod OpenSlot

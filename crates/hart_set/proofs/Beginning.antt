@@ -36,7 +36,7 @@ use Rattle.world_view.proofs.harts.OnHart.{separated_on}
 use Rattle.world_view.proofs.harts.Events.{IsHart}
 use Rattle.world_view.proofs.harts.Runs.{Running, Next, next_so, progress-same}
 use Rattle.domain_step.specs.Standing.{MachineStands}
-use Rattle.machine_state.specs.Usage.{IsUsed}
+use Rattle.domain_step.specs.Usage.{IsUsed}
 use Rattle.hart_set.specs.declared.hart.Slot.{Slot}
 use Rattle.hart_set.specs.declared.hart.Hart.{Hart as CodeHart}
 use Rattle.hart_set.specs.declared.set.State.{State}

@@ -14,7 +14,7 @@ use Rattle.world_view.proofs.harts.Runs.{Running}
 use Rattle.world_view.proofs.harts.Isolation.{running}
 use Rattle.world_view.proofs.harts.Clocks.{hart_between}
 use Rattle.domain_step.specs.Moves.{Moves, Runs}
-use Rattle.machine_state.proofs.Elements.{each_set_kept}
+use Rattle.domain_step.proofs.Elements.{each_set_kept}
 use Rattle.hart_set.specs.declared.hart.Slot.{Slot}
 use Rattle.hart_set.specs.declared.hart.Hart.{Hart as CodeHart}
 use Rattle.hart_set.specs.declared.set.State.{State}

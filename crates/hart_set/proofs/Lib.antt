@@ -10,3 +10,13 @@ pub mod Starting
 pub mod ColdCores
 pub mod Seen
 pub mod Loaded
+pub mod Chosen
+pub mod Left
+pub mod RunThrough
+pub mod RunSeen
+pub mod Standing
+pub mod RunOn
+pub mod FirstEvent
+pub mod InTurn
+pub mod SwitchCosts
+pub mod Uses

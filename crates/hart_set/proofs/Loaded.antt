@@ -26,7 +26,7 @@ use Rattle.world_view.specs.Harts.{Progress, progress_of, domain_in, end_on, har
 use Rattle.world_view.proofs.opening.OpeningLaws.{opening_dom_is}
 use Rattle.world_view.proofs.opening.Separate.{separated}
 use Rattle.world_view.proofs.harts.Runs.{doms_cold, storage_cold, used_cold, all_cold_are}
-use Rattle.machine_state.specs.Usage.{IsUsed}
+use Rattle.domain_step.specs.Usage.{IsUsed}
 use Rattle.hart_set.specs.declared.hart.Slot.{Slot}
 use Rattle.hart_set.specs.declared.hart.Hart.{Hart as CodeHart}
 use Rattle.hart_set.specs.declared.set.State.{State}

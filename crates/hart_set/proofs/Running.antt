@@ -33,8 +33,8 @@ use Rattle.world_view.proofs.harts.Runs.{Running, Next}
 use Rattle.domain_step.specs.Moves.{StandsIn, Moves}
 use Rattle.domain_step.specs.Standing.{MachineStands, DomainStands}
 use Rattle.domain_step.proofs.Standing.{is_setting, stands_in, machine_of, domain_of}
-use Rattle.machine_state.specs.Usage.{IsUsed}
-use Rattle.machine_state.proofs.Elements.{each_set_kept}
+use Rattle.domain_step.specs.Usage.{IsUsed}
+use Rattle.domain_step.proofs.Elements.{each_set_kept}
 use Rattle.hart_set.specs.declared.hart.Slot.{Slot}
 use Rattle.hart_set.specs.declared.hart.Hart.{Hart as CodeHart}
 use Rattle.hart_set.specs.declared.set.State.{State}

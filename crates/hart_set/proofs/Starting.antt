@@ -26,7 +26,7 @@ use Rattle.world_view.specs.Harts.{image_on, harts, next, progress_of, slots_of}
 use Rattle.world_view.specs.HartLaws.{AreHartsOf, IsBetween}
 use Rattle.world_view.proofs.harts.Isolation.{running, next_law}
 use Rattle.world_view.proofs.harts.Runs.{Running}
-use Rattle.machine_state.specs.Usage.{IsUsed, CountedUpTo}
+use Rattle.domain_step.specs.Usage.{IsUsed, CountedUpTo}
 use Rattle.hart_set.specs.declared.hart.Slot.{Slot}
 use Rattle.hart_set.specs.declared.hart.Hart.{Hart as CodeHart}
 use Rattle.hart_set.specs.declared.set.State.{State}

@@ -11,7 +11,7 @@ use Rattle.world_view.specs.Cost.{hierarchy}
 use Rattle.world_view.specs.Machine.{caches_of, clock_of, dom_of, setting}
 use Rattle.world_view.specs.Harts.{Harts, progress_of, slots_of, domain_in, end_on, hart_of_domain}
 use Rattle.domain_step.specs.Standing.{MachineStands, DomainStands}
-use Rattle.machine_state.specs.Usage.{IsUsed}
+use Rattle.domain_step.specs.Usage.{IsUsed}
 use Rattle.hart_set.specs.declared.hart.Slot.{Slot}
 use Rattle.hart_set.specs.declared.hart.Hart.{Hart}
 use Rattle.hart_set.specs.declared.set.State.{State}

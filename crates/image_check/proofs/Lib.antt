@@ -7,3 +7,4 @@ pub mod Owns
 pub mod Shares
 pub mod Running
 pub mod FirstParts
+pub mod OwnInterrupts

@@ -16,10 +16,10 @@ use Rattle.image_check.specs.Pages.{has_page}
 use Rattle.domain_check.specs.Capabilities.{cap_of}
 use Rattle.image_check.specs.Own.{Own, Segment, segment_of, own_from, owns_of, no_own, own_at, no_segment, has_line}
 use Rattle.image_check.specs.Laws.{KeepsBeforePads, IsSegment, IsOwn}
-use Rattle.interrupt_check.specs.Interrupts.{k14, moment_of}
+use Rattle.image_check.specs.Interrupts.{k14, moment_of}
 use Rattle.irq_partition.specs.declared.Moment.{Moment}
 use Rattle.set_cache.proofs.Ways.{not_true}
-use Rattle.interrupt_check.proofs.OwnInterrupts.{interrupts, line_below, early, own_line, moments_sound, two_apart}
+use Rattle.image_check.proofs.OwnInterrupts.{interrupts, line_below, early, own_line, moments_sound, two_apart}
 use Rattle.domain_check.proofs.Slots.{any_false, slots}
 use Rattle.image_check.proofs.OwnSlots.{few_lines, has_its_page, named_once}
 use Rattle.image_record.proofs.FirstCases.{or_first, if_first, if_rest, first_in_none}

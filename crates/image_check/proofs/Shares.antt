@@ -20,7 +20,7 @@ use Rattle.set_cache.proofs.Ways.{not_true}
 use Rattle.domain_check.specs.Colours.{k9, k10, k10_domain, k10_case, need_case, need_of}
 use Rattle.image_record.proofs.Listed.{found}
 use Rattle.domain_check.proofs.Slots.{slots, small_caps}
-use Rattle.interrupt_check.proofs.OwnInterrupts.{interrupts, named_line}
+use Rattle.image_check.proofs.OwnInterrupts.{interrupts, named_line}
 use Rattle.domain_check.proofs.Shares.{named, two_apart}
 use Rattle.image_check.specs.Own.{Own, Segment, IsSmallOwn, no_own, own_at, own_from, owns_of, segment_of}
 use Rattle.image_check.specs.Pages.{regions_below, frames_in, share_of}

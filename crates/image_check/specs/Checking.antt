@@ -11,7 +11,7 @@ use Rattle.image_check.specs.Schedule.{k16}
 use Rattle.domain_check.specs.Colours.{k8, k9, k10}
 use Rattle.domain_check.specs.Segments.{k12}
 use Rattle.domain_check.specs.Capabilities.{k13}
-use Rattle.interrupt_check.specs.Interrupts.{k14, k15}
+use Rattle.image_check.specs.Interrupts.{k14, k15}
 use Rattle.domain_check.specs.Calls.{k18}
 use Rattle.image_check.specs.Pads.{k17}
 use Rattle.image_check.specs.Harts.{k19}

@@ -16,7 +16,7 @@ use Rattle.image_check.specs.Schedule.{k16}
 use Rattle.domain_check.specs.Colours.{k9}
 use Rattle.domain_check.specs.Segments.{k12}
 use Rattle.domain_check.specs.Capabilities.{k13}
-use Rattle.interrupt_check.specs.Interrupts.{k14, k15}
+use Rattle.image_check.specs.Interrupts.{k14, k15}
 use Rattle.domain_check.specs.Calls.{k18}
 use Rattle.image_record.specs.declared.refusal.Refusal.{Refusal}
 use Rattle.sched_table.specs.Schedule.{entry_in, entries_on, IsSchedule, AreHarts}

@@ -11,3 +11,4 @@ pub mod Models
 pub mod Standing
 pub mod Outcomes
 pub mod Parts
+pub mod Interrupts

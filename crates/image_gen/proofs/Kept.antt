@@ -27,7 +27,7 @@ use Rattle.domain_check.specs.Colours.{k8, k8_colour, k9, k10, k10_case}
 use Rattle.domain_check.specs.Segments.{bytes_in, k12, k12_domain, segment_case, entry_case}
 use Rattle.domain_check.specs.CapTexts.{cap_in, number_after}
 use Rattle.domain_check.specs.Capabilities.{k13, k13_case, k13_domain}
-use Rattle.interrupt_check.specs.Interrupts.{k14, k14_line, k15, k15_moment, k15_domain}
+use Rattle.image_check.specs.Interrupts.{k14, k14_line, k15, k15_moment, k15_domain}
 use Rattle.domain_check.specs.Calls.{calls_in, k18, k18_domain}
 use Rattle.kernel_clone.specs.Permissions.{may_make, every_call}
 use Rattle.image_check.specs.Own.{own_from, owns_of, own_at}

@@ -6,7 +6,7 @@ use Rattle.image_check.specs.Laws.{Runnable}
 use Rattle.world_view.specs.Machine.{guarded, guards_of, whole_by}
 use Rattle.world_view.proofs.opening.Separate.{separated}
 use Rattle.world_view.proofs.facts.ResidencyLaws.{begun_resident}
-use Rattle.machine_state.specs.Worlds.{Kept, StandsBy}
+use Rattle.domain_step.specs.Worlds.{Kept, StandsBy}
 use Rattle.tp_machine.specs.Guarded.{HaveFacts}
 use Rattle.tp_machine.specs.Models.{image_by, world_by, kept_of, ran, world_of}
 use Rattle.tp_machine.specs.Worlds.{StandsFor, StaysResident, HasAllOn}

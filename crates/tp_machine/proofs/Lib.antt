@@ -2,3 +2,5 @@ mod Offs
 mod Openings
 mod Slots
 mod AllOn
+mod Entered
+mod Runs

@@ -26,11 +26,11 @@ use Rattle.world_view.specs.Machine.{Guards, guarded, guards_of, with_hart, open
 use Rattle.world_view.specs.declared.view.Used.{Used}
 use Rattle.domain_step.specs.Standing.{DomainStands}
 use Rattle.domain_step.proofs.Events.{has_still}
-use Rattle.machine_state.specs.Usage.{CountedUpTo}
-use Rattle.machine_state.specs.Worlds.{kept}
+use Rattle.domain_step.specs.Usage.{CountedUpTo}
+use Rattle.domain_step.specs.Worlds.{kept}
 use Rattle.tp_machine.specs.Guarded.{levels_by, HasClone, HaveClone, IsInBounds}
-use Rattle.machine_state.proofs.SwitchCounts.{written_back}
-use Rattle.machine_state.proofs.Openings.{AreEntered, entered_own}
+use Rattle.domain_step.proofs.SwitchCounts.{written_back}
+use Rattle.tp_machine.proofs.Entered.{AreEntered, entered_own}
 
 -- ---- domains at their entries, each with the kernel clone that works for it
 

@@ -20,11 +20,11 @@ use Rattle.world_view.specs.Relations.{IsDomain}
 use Rattle.world_view.proofs.opening.Separate.{separated}
 use Rattle.world_view.proofs.opening.OpeningFacts.{kernel_of}
 use Rattle.world_view.proofs.facts.FactsLaws.{at_slot}
-use Rattle.machine_state.specs.Usage.{CountedUpTo}
-use Rattle.machine_state.specs.Worlds.{Kept, StandsBy}
-use Rattle.machine_state.specs.InSlot.{StandsIn}
-use Rattle.machine_state.specs.OpenSlot.{CountUpTo}
-use Rattle.machine_state.proofs.Whole.{end_of}
+use Rattle.domain_step.specs.Usage.{CountedUpTo}
+use Rattle.domain_step.specs.Worlds.{Kept, StandsBy}
+use Rattle.domain_step.specs.InSlot.{StandsIn}
+use Rattle.domain_step.specs.OpenSlot.{CountUpTo}
+use Rattle.domain_step.proofs.Whole.{end_of}
 use Rattle.tp_machine.specs.Guarded.{KeepsBuffer, HaveFacts, IsInBounds}
 
 module _ (off : Option Guard) (i : Image) (k : ℕ) where

@@ -17,10 +17,10 @@ use Rattle.world_view.specs.Cost.{hierarchy}
 use Rattle.world_view.specs.Frames.{root_of}
 use Rattle.world_view.specs.Kernel.{estate}
 use Rattle.world_view.specs.Machine.{World, Guards, guards_of, uncoloured, whole_by}
-use Rattle.machine_state.specs.Usage.{CountedUpTo}
-use Rattle.machine_state.specs.Worlds.{Kept}
-use Rattle.machine_state.specs.InSlot.{StandsIn}
-use Rattle.machine_state.specs.OpenSlot.{CountUpTo}
+use Rattle.domain_step.specs.Usage.{CountedUpTo}
+use Rattle.domain_step.specs.Worlds.{Kept}
+use Rattle.domain_step.specs.InSlot.{StandsIn}
+use Rattle.domain_step.specs.OpenSlot.{CountUpTo}
 
 -- the leaves that the buffer keeps after a slot are walks of its domain's page tables, in memory as it is
 abbrev pub KeepsBuffer : Option Guard → Image → ℕ → Kept → Type 0

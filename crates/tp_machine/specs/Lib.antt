@@ -2,3 +2,4 @@ pub mod Guarded
 pub mod Propositions
 pub mod Models
 pub mod Worlds
+pub mod Ablated

@@ -5,7 +5,7 @@ use Rattle.image_record.specs.Record.{Raw}
 use Rattle.image_check.specs.Image.{Image, image_from}
 use Rattle.world_view.specs.Machine.{World, guards_of, whole, whole_by}
 use Rattle.mem_system.specs.Contents.{system}
-use Rattle.machine_state.specs.Worlds.{Kept, kept}
+use Rattle.domain_step.specs.Worlds.{Kept, kept}
 use Rattle.tp_machine.specs.declared.guarded.GuardedMachine.{GuardedMachine}
 
 -- ---- with all guards on or with one off

@@ -4,7 +4,7 @@ use denote.Struct.Props.{props}
 use Rattle.guards.specs.declared.Guard.{Guard}
 use Rattle.domain_step.specs.Propositions.{system_prop}
 use Rattle.image_check.specs.Image.{Image}
-use Rattle.machine_state.specs.Worlds.{Kept, StandsBy}
+use Rattle.domain_step.specs.Worlds.{Kept, StandsBy}
 
 pub stands_prop : (off : Option Guard) (i : Image) (slots : ℕ) (k : Kept) → IsProp (StandsBy off i slots k)
 stands_prop off i slots k = hlevel (props, system_prop)

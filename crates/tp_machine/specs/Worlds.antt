@@ -4,7 +4,7 @@ use Rattle.image_check.specs.Image.{Image, own_of}
 use Rattle.world_view.specs.Cost.{hierarchy}
 use Rattle.world_view.specs.Machine.{caches_of, Setting, setting, switch, whole}
 use Rattle.world_view.specs.Relations.{Resident}
-use Rattle.machine_state.specs.Worlds.{Kept, StandsOn}
+use Rattle.domain_step.specs.Worlds.{Kept, StandsOn}
 use Rattle.tp_machine.specs.Guarded.{HaveFacts}
 use Rattle.tp_machine.specs.Models.{image_by, kept_of}
 use Rattle.tp_machine.specs.declared.guarded.GuardedMachine.{GuardedMachine}

@@ -4,7 +4,7 @@ ghost use Rattle.mem_system.specs.Contents.{system};
 ghost use Rattle.image_check.specs.Image.{image_from};
 ghost use Rattle.image_check.specs.Laws.{Runnable};
 ghost use Rattle.world_view.specs.Machine.{ended_of, guards_of, whole_by};
-ghost use Rattle.machine_state.specs.Worlds.{StandsBy, kept};
+ghost use Rattle.domain_step.specs.Worlds.{StandsBy, kept};
 ghost use Rattle.tp_machine.specs.Propositions.{stands_prop};
 ghost use Rattle.tp_machine.specs.Guarded.{HaveFacts, IsInBounds};
 

@@ -34,7 +34,7 @@ impl<'a> Machine<'a> {
     ghost use Rattle.world_view.specs.Harts.{IsOnOneHart};
     ghost use Rattle.world_view.specs.Models.{view_model};
     ghost use Rattle.world_view.specs.Used.{largest_of, count_of};
-    ghost use Rattle.machine_state.specs.Usage.{IsUsed};
+    ghost use Rattle.domain_step.specs.Usage.{IsUsed};
     ghost use Rattle.tp_machine.specs.Models.{image_of, world_of};
 
     /// The machine of an image of one hart, before its first slot. All that it will need is

@@ -9,7 +9,7 @@ use Rattle.world_view.specs.Machine.{World}
 use Rattle.world_view.specs.View.{View, view_in}
 use Rattle.world_view.specs.Harts.{view_alone_on}
 use Rattle.world_view.specs.declared.view.Used.{Used}
-use Rattle.machine_state.specs.Usage.{IsUsed}
+use Rattle.domain_step.specs.Usage.{IsUsed}
 use Rattle.tp_report.specs.Texts.{section}
 use Rattle.tp_report.specs.Report.{section_of, sections, switch_lines, end_text, report_with, report_of, ending_of}
 use Rattle.tp_report.specs.Switches.{no_used, used_in, switches_text, ending_text}

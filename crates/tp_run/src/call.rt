@@ -22,11 +22,11 @@ use crate::alone::run_domain;
 use crate::bounds::write_bounds;
 use crate::generate::{run_demo, write_generated};
 use crate::run::{domains_of, run_image, run_off};
+use domain_step::has_one_hart;
 use guards::Guard;
-use hart_run::Choice;
+use hart_set::Choice;
 use image_check::{CheckRefusal, Checked, Unpadded, check, check_but_pads};
 use image_text::read_image;
-use machine_state::has_one_hart;
 use std::alloc::Global;
 use tp_base::Memory;
 use tp_io::{Failed, ReadError, Sink, Source, read_within};
@@ -266,14 +266,15 @@ fn answer_alone<K: Sink>(alloc: Global, bytes: &[u8], domain: u8, slots: u32, ou
         result (state K.Sink out.old) (state K.Sink out.new) }
 {
     match accepted(alloc, bytes) {
-        Ok(image) if domain < domains_of(&image) => {
-            let status = run_domain(alloc, &image, domain, slots, out);
-            drop(image);
-            status
-        }
         Ok(image) => {
-            drop(image);
-            status_unless_failed(Status::Usage, write_usage(out))
+            if domain < domains_of(&image) {
+                let status = run_domain(alloc, &image, domain, slots, out);
+                drop(image);
+                status
+            } else {
+                drop(image);
+                status_unless_failed(Status::Usage, write_usage(out))
+            }
         }
         Err(refusal) => refuse(&refusal, out),
     }

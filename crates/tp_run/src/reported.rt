@@ -4,13 +4,12 @@ ghost use Rattle.image_check.specs.Image.{Image, image_from};
 ghost use Rattle.world_view.specs.Machine.{World, whole, whole_off};
 ghost use Rattle.world_view.specs.View.{view_in};
 ghost use Rattle.world_view.specs.Models.{view_model};
-ghost use Rattle.machine_state.specs.Usage.{IsUsed};
-ghost use Rattle.hart_run.specs.Models.{image_of, world_of};
+ghost use Rattle.domain_step.specs.Usage.{IsUsed};
+ghost use Rattle.hart_set.specs.Run.{image_of, world_of};
 
-use ablated_run::Ablated;
-use hart_run::HartRun;
+use hart_set::HartRun;
 use image_check::Checked;
-use tp_machine::Machine;
+use tp_machine::{Ablated, Machine};
 use world_view::{Used, View};
 
 /// A machine after its slots.

@@ -13,15 +13,14 @@ ghost use Rattle.tp_run.specs.TopCall.{Delivers};
 use crate::Status;
 use crate::call::status_unless_failed;
 use crate::reported::Reported;
-use ablated_run::Ablated;
+use domain_step::has_one_hart;
 use guards::Guard;
-use hart_run::{Choice, HartRun};
+use hart_set::{Choice, HartRun};
 use image_check::Checked;
-use machine_state::has_one_hart;
 use std::alloc::Global;
 use tp_base::Memory;
 use tp_io::{Failed, Sink};
-use tp_machine::Machine;
+use tp_machine::{Ablated, Machine};
 use tp_report::{write_section, write_switches, write_unprotected};
 
 /// Runs the image for so many slots of each hart, and writes the report. Of several harts

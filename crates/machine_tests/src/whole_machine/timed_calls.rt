@@ -5,8 +5,8 @@ ghost use Rattle.std.specs.Prelude.{◌≡◌};
 
 use crate::images::{accepted, hex_of};
 use call_table::Reply;
+use domain_step::has_one_hart;
 use image_check::Checked;
-use machine_state::has_one_hart;
 use std::alloc::Global;
 use std::test::Fail;
 use tp_base::Memory;

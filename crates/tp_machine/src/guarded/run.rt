@@ -2,11 +2,11 @@
 use super::GuardedMachine;
 use crate::off::{begins_by, geometry_off, parts_off, share_clone, slot_off, until_off};
 use domain_open::{load_pages, open_all};
+use domain_step::{note_switch, unused};
 use domain_switch::switch_off;
 use guards::Guard;
 use image_check::Checked;
 use kernel_clone::CloneLayout;
-use machine_state::{note_switch, unused};
 use mem_system::new_parts;
 use phys_mem::PhysMem;
 use sched_table::Entry;
@@ -25,7 +25,7 @@ impl<'a> GuardedMachine<'a> {
     ghost use Rattle.world_view.specs.Harts.{IsOnOneHart};
     ghost use Rattle.world_view.specs.Models.{view_model};
     ghost use Rattle.world_view.specs.Used.{largest_of, count_of};
-    ghost use Rattle.machine_state.specs.Usage.{IsUsed};
+    ghost use Rattle.domain_step.specs.Usage.{IsUsed};
     ghost use Rattle.tp_machine.specs.Models.{image_by, world_by};
 
     /// The machine of an image of one hart, before its first slot. All that it will need is

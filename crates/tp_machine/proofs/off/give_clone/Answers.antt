@@ -6,7 +6,7 @@ use Rattle.std.proofs.lemmas.Option.{slice_get-get_or, slice_get_within}
 use Rattle.kernel_clone.specs.declared.CloneLayout.{CloneLayout}
 use Rattle.kernel_call.specs.declared.domain.Domain.{Domain}
 use Rattle.tp_machine.specs.Guarded.{HasClone}
-use Rattle.machine_state.proofs.Elements.{each_set}
+use Rattle.domain_step.proofs.Elements.{each_set}
 use Rattle.tp_machine.proofs.off.give_clone.Goals as goal
 
 pub loop-d-preserved : goal.loop-d-preserved

@@ -11,9 +11,9 @@ use Rattle.kernel_call.specs.Models.{CountsUpTo}
 use Rattle.world_view.specs.Machine.{guards_of, setting_by, part_of, slot_if}
 use Rattle.world_view.proofs.opening.Separate.{separated}
 use Rattle.domain_step.proofs.Counts.{counts_later}
-use Rattle.machine_state.specs.InSlot.{StandsIn}
-use Rattle.machine_state.proofs.Elements.{each_set}
-use Rattle.machine_state.proofs.InSlot.{in_slot, slot_stands}
+use Rattle.domain_step.specs.InSlot.{StandsIn}
+use Rattle.domain_step.proofs.Elements.{each_set}
+use Rattle.domain_step.proofs.InSlot.{in_slot, slot_stands}
 use Rattle.tp_machine.proofs.Offs.{own_moments, own_moments_not}
 use Rattle.mem_system.specs.Contents.{system}
 use Rattle.tp_machine.proofs.off.slot_off.Goals as goal

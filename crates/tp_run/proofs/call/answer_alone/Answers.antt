@@ -11,15 +11,15 @@ use Rattle.tp_run.specs.declared.status.Status.TheVariants.{Usage}
 use Rattle.tp_run.proofs.Answers.{delivered, found_due, alone_due, lacks_due}
 use Rattle.tp_run.proofs.call.answer_alone.Goals as goal
 
-pub returns-in-Ok : goal.returns-in-Ok
-returns-in-Ok g c =
+pub returns-then-domain-domains_of : goal.returns-then-domain-domains_of
+returns-then-domain-domains_of g c =
     let asked = Alone c.args.domain c.args.slots in
     let has : c.args.domain < length (owns_of c.in-Ok.image) = omega arith in
     let due = found_due asked (image_for asked c.args.bytes.now) _ (c.in-Ok.ensures.alone c.args.domain c.args.slots) ∙ alone_due c.args.domain c.args.slots (image_from c.in-Ok.image) has in
     record { delivers = subst (λ (a : Answer). Delivers a c.run_domain-status.result (state g.K.Sink c.args.out.now) (state g.K.Sink c.run_domain-status.new.out)) (sym due) c.run_domain-status.ensures.delivers }
 
-pub returns-in-Ok-2 : goal.returns-in-Ok-2
-returns-in-Ok-2 g c =
+pub returns-else-domain-domains_of : goal.returns-else-domain-domains_of
+returns-else-domain-domains_of g c =
     let asked = Alone c.args.domain c.args.slots in
     let lacks : length (owns_of c.in-Ok.image) ≤ c.args.domain = omega arith in
     let due = found_due asked (image_for asked c.args.bytes.now) _ (c.in-Ok.ensures.alone c.args.domain c.args.slots) ∙ lacks_due c.args.domain c.args.slots (image_from c.in-Ok.image) lacks in

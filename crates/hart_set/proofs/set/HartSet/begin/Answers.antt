@@ -9,8 +9,8 @@ use Rattle.world_view.specs.declared.view.Used.{Used}
 use Rattle.world_view.specs.Machine.{clone_of}
 use Rattle.world_view.specs.Relations.{IsDomain}
 use Rattle.world_view.specs.Harts.{image_on}
-use Rattle.machine_state.specs.Usage.{IsUsed, CountedUpTo}
-use Rattle.machine_state.proofs.SwitchCounts.{noted_back, length_back}
+use Rattle.domain_step.specs.Usage.{IsUsed, CountedUpTo}
+use Rattle.domain_step.proofs.SwitchCounts.{noted_back, length_back}
 use Rattle.hart_set.specs.declared.hart.Hart.{Hart}
 use Rattle.hart_set.specs.declared.set.State.{State}
 use Rattle.hart_set.specs.Turns.{IsTurn}

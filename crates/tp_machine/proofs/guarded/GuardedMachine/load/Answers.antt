@@ -13,7 +13,7 @@ use Rattle.image_check.specs.Public.{Public}
 use Rattle.image_check.specs.Image.{image_from}
 use Rattle.world_view.specs.Machine.{guards_of}
 use Rattle.tp_machine.specs.Guarded.{levels_by, HaveClone}
-use Rattle.machine_state.proofs.Openings.{AreEntered, stands_first}
+use Rattle.tp_machine.proofs.Entered.{AreEntered, stands_first}
 use Rattle.tp_machine.proofs.Openings.{entered_back, levels_are, in_bounds_first, ended_first}
 use Rattle.tp_machine.proofs.Slots.{all_at}
 use Rattle.tp_machine.proofs.guarded.GuardedMachine.load.Goals as goal

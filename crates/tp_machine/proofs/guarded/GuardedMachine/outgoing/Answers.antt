@@ -1,8 +1,8 @@
 use Rattle.std.proofs.Common.{◌≡◌, ℕ, suc, ◌-◌, ◌<◌, length, refl, arith}
 use Rattle.std.proofs.lemmas.Option.{slice_get_read}
 use Rattle.image_check.specs.Image.{image_from}
-use Rattle.machine_state.specs.Worlds.{kept}
-use Rattle.machine_state.proofs.Whole.{has_ended, clone_is, clone_before}
+use Rattle.domain_step.specs.Worlds.{kept}
+use Rattle.domain_step.proofs.Whole.{has_ended, clone_is, clone_before}
 use Rattle.mem_system.specs.Contents.{system}
 use Rattle.tp_machine.proofs.guarded.GuardedMachine.outgoing.Goals as goal
 

@@ -10,12 +10,12 @@ use Rattle.domain_switch.specs.Switch.{layout_if}
 use Rattle.image_check.specs.Public.{Public}
 use Rattle.image_check.specs.Image.{image_from}
 use Rattle.world_view.specs.Machine.{guards_of, ended_of, whole_by, switch_by, slot_if}
-use Rattle.machine_state.specs.Usage.{IsUsed, CountedUpTo}
-use Rattle.machine_state.specs.Worlds.{Kept, StandsBy, kept}
-use Rattle.machine_state.specs.InSlot.{StandsIn}
-use Rattle.machine_state.specs.OpenSlot.{CountUpTo}
-use Rattle.machine_state.proofs.SwitchCounts.{noted_back, counted_back, length_back, written_back}
-use Rattle.machine_state.proofs.Whole.{SwitchGiven, Begins, Enters, domain_is, clone_is, begins, ended_so, ends_so, begun_in, end_of, stands_after, ended_after}
+use Rattle.domain_step.specs.Usage.{IsUsed, CountedUpTo}
+use Rattle.domain_step.specs.Worlds.{Kept, StandsBy, kept}
+use Rattle.domain_step.specs.InSlot.{StandsIn}
+use Rattle.domain_step.specs.OpenSlot.{CountUpTo}
+use Rattle.domain_step.proofs.SwitchCounts.{noted_back, counted_back, length_back, written_back}
+use Rattle.domain_step.proofs.Whole.{SwitchGiven, Begins, Enters, domain_is, clone_is, begins, ended_so, ends_so, begun_in, end_of, stands_after, ended_after}
 use Rattle.tp_machine.specs.Guarded.{HaveFacts}
 use Rattle.tp_machine.proofs.Slots.{all_at, buffer_after, SlotTimes, AreTimes, in_bounds_next}
 use Rattle.mem_system.specs.Contents.{system}

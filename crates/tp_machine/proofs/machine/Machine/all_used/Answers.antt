@@ -1,6 +1,6 @@
 use Rattle.std.proofs.Common.{subst}
 use Rattle.world_view.specs.Machine.{World}
-use Rattle.machine_state.specs.Usage.{IsUsed}
+use Rattle.domain_step.specs.Usage.{IsUsed}
 use Rattle.tp_machine.specs.Models.{Ran, world_of}
 use Rattle.tp_machine.proofs.AllOn.{world_is}
 use Rattle.tp_machine.proofs.machine.Machine.all_used.Goals as goal

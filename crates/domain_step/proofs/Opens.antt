@@ -1,0 +1,66 @@
+-- A slot in which moments of all domains come, of the code and of the definitions.
+use Rattle.std.proofs.Common.{◌≡◌, ℕ, ◌<◌, ◌≤◌, List, Option, refl, sym, subst, ◌∙◌}
+use Rattle.phys_mem.specs.Contents.{Contents}
+use Rattle.repl_policy.specs.declared.AnyPolicy.{AnyPolicy}
+use Rattle.guards.specs.declared.Guard.{Guard}
+use Rattle.mem_system.specs.Contents.{SystemContents}
+use Rattle.image_check.specs.Image.{Image}
+use Rattle.kernel_call.specs.declared.domain.Domain.{Domain}
+use Rattle.world_view.specs.Machine.{World, clock_of, guards_of, step_among, open_slot}
+use Rattle.world_view.proofs.opening.Separate.{separated}
+use Rattle.world_view.proofs.runs.GuardLaws.{open_step, open_done}
+use Rattle.domain_step.specs.InSlot.{StandsIn}
+use Rattle.domain_step.specs.OpenSlot.{Stands, Becomes}
+
+-- whatever the old ones stand for, the new ones stand for a world from which as much of the slot is left
+abbrev pub OpensAlong : ℕ → ℕ → Contents → SystemContents AnyPolicy → List Domain → ℕ
+    → Contents → SystemContents AnyPolicy → List Domain → ℕ → Type 0
+OpensAlong d end memory system domains now memory' system' domains' later = (off : Option Guard)
+    (i : Image) (w : World)
+    → StandsIn off i d w memory system domains now
+    → (x : World) × StandsIn off i d x memory' system' domains' later
+    × (open_slot (guards_of off i) i d end x ≡ open_slot (guards_of off i) i d end w)
+
+pub along_none : (d end : ℕ) (memory : Contents) (system : SystemContents AnyPolicy)
+    (domains : List Domain) (now : ℕ)
+    → OpensAlong d end memory system domains now memory system domains now
+along_none d end memory system domains now off i w is = (w, is, refl)
+
+module _ (d end : ℕ) (memory between memory' : Contents) (system middle system' : SystemContents AnyPolicy)
+    (old now new : List Domain) (first clock later : ℕ) where
+  -- one event more
+  pub along_more : clock < end
+      → OpensAlong d end memory system old first between middle now clock
+      → Becomes (λ g i w. step_among g i d end w) d between middle now clock memory' system' new later
+      → OpensAlong d end memory system old first memory' system' new later
+  along_more below so_far becomes off i w is =
+      let (x, at, same) = so_far off i w is in
+      let early : clock_of 0 x < end = subst (λ (n : ℕ). n < end) at.machine.time below in (
+        step_among (guards_of off i) i d end x,
+        becomes off i x at,
+        sym (open_step i (separated i at.runnable) (guards_of off i) d end x early) ∙ same,
+      )
+
+module _ (d end : ℕ) (memory memory' : Contents) (system system' : SystemContents AnyPolicy)
+    (old new : List Domain)
+    (first clock : ℕ) where
+  -- all of them
+  pub along_over : OpensAlong d end memory system old first memory' system' new clock → end ≤ clock
+      → Becomes (λ g i w. open_slot g i d end w) d memory system old first memory' system' new clock
+  along_over so_far past off i w is =
+      let (x, at, same) = so_far off i w is in
+      let over : end ≤ clock_of 0 x = subst (λ (n : ℕ). end ≤ n) at.machine.time past in
+      subst (λ (v : World). StandsIn off i d v memory' system' new clock)
+      (sym (open_done i (separated i at.runnable) (guards_of off i) d end x over) ∙ same) at
+
+-- they stand for some world still
+pub stands_on : (d : ℕ) (memory memory' : Contents) (system system' : SystemContents AnyPolicy)
+    (old new : List Domain) (now later end : ℕ)
+    → Becomes (λ g i w. step_among g i d end w) d memory system old now memory' system' new later
+    → Stands d memory system old now → Stands d memory' system' new later
+stands_on d memory memory' system system' old new now later end becomes s = record {
+  off = s.off;
+  image = s.image;
+  world = step_among (guards_of s.off s.image) s.image d end s.world;
+  stands = becomes s.off s.image s.world s.stands;
+}

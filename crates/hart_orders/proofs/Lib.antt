@@ -1,2 +1,0 @@
-pub mod SwitchCosts
-pub mod Uses

@@ -1,4 +1,0 @@
-//! What is the same whatever the order in which several harts have their events.
-#![tactic(auto)]
-
-pub mod laws;

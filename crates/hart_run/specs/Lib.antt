@@ -1,5 +1,0 @@
-pub mod Order
-pub mod Choosers
-pub mod Models
-pub mod InTurn
-pub mod Laws

@@ -1,0 +1,70 @@
+// Which hart's event is next.
+ghost use Rattle.std.specs.Prelude.{◌≡◌, ℕ, ◌<◌, ◌≤◌, List, length, slice_get, IfSome};
+ghost use Rattle.sched_table.specs.Schedule.{harts_in};
+ghost use Rattle.hart_set.specs.Models.{image_of, StandsAfter};
+ghost use Rattle.hart_set.specs.Standing.{AtHart};
+ghost use Rattle.hart_set.specs.Order as spec;
+ghost use Rattle.hart_set.specs.Choosers.{left_in};
+
+use crate::set::HartSet;
+
+/// How the hart whose event is next is chosen, of those that have slots left.
+#[derive(Clone, Copy, Debug, PartialEq, Eq)]
+pub enum Choice {
+    /// It is the one with the least clock; of such, with the least number.
+    LeastClock,
+    /// A word that this seed draws for each event, modulo how many there are, is its
+    /// place among them.
+    Drawn(u32),
+}
+
+// How many harts have had fewer slots.
+fn count_left(harts: &HartSet<'_>, slots: u32) -> u32
+    ensures count { (order : List ℕ) → StandsAfter harts.now order
+        → result ≡ length (left_in harts.now order slots) }
+{
+    let mut count = 0;
+    for h in 0..harts.harts() {
+        if harts.slots(h) < slots {
+            count += 1;
+        }
+    }
+    count
+}
+
+// Of the harts that have had fewer slots, the one at this place, from 0.
+fn left_at(harts: &HartSet<'_>, slots: u32, place: u32) -> Option<u8>
+    requires few { slots ≤ 65536 }
+    ensures at { (order : List ℕ) → StandsAfter harts.now order
+        → result ≡ slice_get (left_in harts.now order slots) place }
+    ensures hart { IfSome result (λ h. h < harts_in (image_of harts.now).all.schedule) }
+    ensures slots { IfSome result (λ h. AtHart harts.now.1 h (λ x. x.slots < 65536)) }
+{
+    let mut before = 0;
+    for h in 0..harts.harts() {
+        if harts.slots(h) < slots {
+            if before == place {
+                return Some(h);
+            }
+            before += 1;
+        }
+    }
+    None
+}
+
+/// Of the harts that have had fewer slots, the one that a word names: none, where each
+/// has had so many.
+#[tactic(auto, unfolding(crate::specs::Order::drawn))]
+pub fn drawn(harts: &HartSet<'_>, slots: u32, word: u32) -> Option<u8>
+    requires few { slots ≤ 65536 }
+    ensures drawn { (order : List ℕ) → StandsAfter harts.now order
+        → result ≡ spec.drawn word (left_in harts.now order slots) }
+    ensures hart { IfSome result (λ h. h < harts_in (image_of harts.now).all.schedule) }
+    ensures slots { IfSome result (λ h. AtHart harts.now.1 h (λ x. x.slots < 65536)) }
+{
+    let many = count_left(harts, slots);
+    if many == 0 {
+        return None;
+    }
+    left_at(harts, slots, word % many)
+}

@@ -1,0 +1,34 @@
+//! Laws of the orders in which harts have their events, each the contract of a function
+//! that does nothing: a caller that calls it may rely on the law.
+ghost use Rattle.hart_set.specs.Laws.{EachChosenLaw, HasLeftLaw, SomebodyLaw, LeastLaw, HartsLaw, ThroughLaw, ChoiceLaw, ChoicePadLaw, ChoiceLargestLaw};
+ghost use Rattle.hart_set.specs.SameUse.{SameUseLaw};
+
+/// Each event is of the hart that is chosen then: one that has slots left, while there
+/// is one; by clocks, none of the others has a lower clock, nor the same and a lower
+/// number.
+pub fn order()
+    ensures each { EachChosenLaw }
+    ensures has_left { HasLeftLaw }
+    ensures somebody { SomebodyLaw }
+    ensures least { LeastLaw }
+{}
+
+/// The order ends where each hart has had all of its slots.
+pub fn ends()
+    ensures harts { HartsLaw }
+    ensures through { ThroughLaw }
+{}
+
+/// Whatever the choice, what is seen of each domain then is what is seen of it alone, by
+/// the entries of its hart; and no switch overran its pad.
+pub fn sections()
+    ensures isolated { ChoiceLaw }
+    ensures used { ChoicePadLaw }
+    ensures largest { ChoiceLargestLaw }
+{}
+
+/// What an entry's switches took goes by how many switches its hart has had, and by whose
+/// boot was the first of all.
+pub fn switches()
+    ensures same_use { SameUseLaw }
+{}

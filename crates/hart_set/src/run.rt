@@ -1,0 +1,166 @@
+// A run of an image's harts.
+ghost use Rattle.std.specs.Prelude.{◌≡◌, ◌<◌, ◌≤◌, [], List};
+ghost use Rattle.image_check.specs.Image.{image_from};
+ghost use Rattle.sched_table.specs.Schedule.{harts_in};
+ghost use Rattle.hart_set.specs.Models.{image_of as image_of_set, StandsAfter};
+ghost use Rattle.hart_set.specs.Order as spec;
+ghost use Rattle.hart_set.specs.Run.{HasRun};
+ghost use Rattle.hart_set.specs.InTurn.{RunInTurn};
+
+use crate::choice::{Choice, drawn};
+use crate::set::HartSet;
+use image_check::Checked;
+use seed_words::{draw, seeded};
+use std::alloc::Global;
+use std::marker::Model;
+use tp_base::Memory;
+use world_view::{Used, View};
+
+/// An image's harts after so many slots of each.
+#[derive(Drop)]
+pub struct HartRun<'a> {
+    harts: HartSet<'a>,
+    choice: Choice,
+    slots: u32,
+}
+
+impl<'a> Model for HartRun<'a> {
+    ghost use Rattle.hart_set.specs.Run.{Run, HasRun};
+
+    ghost Value = { Run };
+
+    ghost view = { λ r. record { record_of = r.harts.0; choice = r.choice; slots = r.slots } };
+
+    ghost invariant = { λ r. HasRun r.harts r.choice r.slots };
+}
+
+// The cycles before this slot of each hart, in sum.
+fn cycles_before(image: &Checked, slot: u32) -> u64
+    requires few { slot ≤ 65536 }
+    ensures value { result ≡ spec.cycles_before (image_from image.now) slot
+        (harts_in (image_from image.now).all.schedule) }
+{
+    image.runnable();
+    let mut cycles = 0;
+    for schedule in &image.public().harts {
+        cycles += schedule.start(slot);
+    }
+    cycles
+}
+
+// Runs a hart for so many slots, those before it having had theirs.
+fn run_hart(harts: &mut HartSet<'_>, h: u8, slots: u32)
+    requires few { slots ≤ 65536 }
+    requires hart { h < harts_in (image_of_set harts.old).all.schedule }
+    requires before { RunInTurn harts.old slots h 0 }
+    ensures image { harts.new.0 ≡ harts.old.0 }
+    ensures run { RunInTurn harts.new slots h slots }
+{
+    for _ in 0..slots {
+        harts.run_slot(h);
+    }
+}
+
+// Runs harts before their first event, one after the other, until each has had so many
+// slots: what is seen of them then is what the order of their clocks leads to.
+fn run_by_slots(harts: &mut HartSet<'_>, slots: u32)
+    requires few { slots ≤ 65536 }
+    requires first { StandsAfter harts.old [] }
+    ensures image { harts.new.0 ≡ harts.old.0 }
+    ensures run { HasRun harts.new Choice.LeastClock slots }
+{
+    harts.image().runnable();
+    for h in 0..harts.harts() {
+        run_hart(harts, h, slots);
+    }
+}
+
+// Runs them in the order that a seed draws.
+fn run_drawn(harts: &mut HartSet<'_>, seed: u32, slots: u32)
+    requires few { slots ≤ 65536 }
+    requires first { StandsAfter harts.old [] }
+    ensures image { harts.new.0 ≡ harts.old.0 }
+    ensures stands { StandsAfter harts.new (spec.order_of (image_of_set harts.old) (Choice.Drawn seed) slots) }
+{
+    let most = cycles_before(harts.image(), slots);
+    let mut words = seeded(u64::from(seed));
+    for _ in 0..most {
+        let Some(h) = drawn(harts, slots, draw(&mut words)) else {
+            return;
+        };
+        harts.step(h);
+    }
+}
+
+// Runs them until each has had so many slots: what is seen of them then is what the order
+// of a choice leads to.
+fn run_all(harts: &mut HartSet<'_>, choice: Choice, slots: u32)
+    requires few { slots ≤ 65536 }
+    requires first { StandsAfter harts.old [] }
+    ensures image { harts.new.0 ≡ harts.old.0 }
+    ensures run { HasRun harts.new choice slots }
+{
+    harts.image().runnable();
+    match choice {
+        Choice::LeastClock => run_by_slots(harts, slots),
+        Choice::Drawn(seed) => run_drawn(harts, seed, slots),
+    }
+}
+
+impl<'a> HartRun<'a> {
+    ghost use Rattle.std.specs.Prelude.{◌≡◌, ◌<◌, ◌≤◌, length, IfOk};
+    ghost use Rattle.world_view.specs.Harts.{view_alone_on};
+    ghost use Rattle.world_view.specs.View.{view_in};
+    ghost use Rattle.world_view.specs.Models.{view_model};
+    ghost use Rattle.domain_step.specs.Usage.{IsUsed};
+    ghost use Rattle.hart_set.specs.Run.{image_of, world_of};
+
+    /// Runs an image's harts for so many slots of each, 65,536 at most.
+    ///
+    /// # Errors
+    /// `Memory` where no memory is left for them.
+    pub fn new(
+        alloc: Global,
+        image: &'a Checked,
+        choice: Choice,
+        slots: u32,
+    ) -> Result<Self, Memory>
+        requires few { slots ≤ 65536 }
+        ensures image { IfOk result (λ r. r.record_of ≡ image.now) }
+        ensures choice { IfOk result (λ r. r.choice ≡ choice) }
+        ensures slots { IfOk result (λ r. r.slots ≡ slots) }
+    {
+        image.runnable();
+        let mut harts = HartSet::load(alloc, image)?;
+        run_all(&mut harts, choice, slots);
+        Ok(HartRun {
+            harts,
+            choice,
+            slots,
+        })
+    }
+
+    /// The image whose harts they are.
+    pub fn image(&self) -> &Checked
+        ensures value { result.now ≡ self.now.record_of }
+    {
+        self.harts.image()
+    }
+
+    /// What is seen of a domain: that is what is seen of it alone, whatever the choice.
+    pub fn view(&self, d: u8) -> View<'_>
+        requires domain { d < length (image_of self.now).owns }
+        ensures view { view_model result ≡ view_in (image_of self.now) d (world_of self.now) }
+        ensures alone { view_model result ≡ view_alone_on (image_of self.now) d self.now.slots }
+    {
+        self.harts.view(d)
+    }
+
+    /// What the switches of each entry took.
+    pub fn all_used(&self) -> &[Used]
+        ensures all { length result.now ≡ length (image_of self.now).all.schedule }
+        ensures each { IsUsed result.now (world_of self.now).used }
+    {
+        self.harts.all_used()
+    }
+}

@@ -1,4 +1,0 @@
-pub mod Usage
-pub mod Worlds
-pub mod InSlot
-pub mod OpenSlot
