@@ -134,7 +134,7 @@ none_named : frame_of (claim_of None) ≡ None
 unfolding frame_of claim_of
 none_named = refl
 
-none_stays : (l : FreeList) → slice_get l.free 0 ≡ None → without_least l ≡ l
+pub none_stays : (l : FreeList) → slice_get l.free 0 ≡ None → without_least l ≡ l
 none_stays l none = ap (λ (xs : List ℕ). record l { free = xs }) (by_list l.free none)
   where
     by_list : (xs : List ℕ) → slice_get xs 0 ≡ None → drop 1 xs ≡ xs

@@ -1,5 +1,7 @@
 pub mod Logs
 pub mod Paths
+pub mod Keeps
+pub mod Replied
 pub mod Ties
 pub mod TiesTables
 pub mod TiesSlots

@@ -1,4 +1,4 @@
--- Accesses that the first level doesn't hold: what is given up is written back, and then the line is read.
+-- Accesses that the first level holds, and those that it doesn't: what is given up is written back, and then the line is read.
 use Rattle.std.proofs.Common.{arith, ◌≡◌, ◌∙◌, sym, refl, ap, subst, subst₂, ℕ, ◌+◌, Bool, true, false, List, [], ◌∷◌, ◌++◌, Option, Some, None}
 use Rattle.std.specs.Prelude.{if◌then◌else◌}
 use Rattle.set_cache.specs.Rule.{Rule}
@@ -9,7 +9,7 @@ use Rattle.set_cache.specs.Calls.{IsTouch}
 use Rattle.l2_colour.specs.Contents.{L2Contents}
 use Rattle.mem_system.specs.Hierarchy.{Hierarchy}
 use Rattle.mem_system.specs.Cost.{Core, PassedOn, Passed, Load, Store, Read, given_up, unless_hit, on_core, accessed, below, below_all, pass_on, touched}
-use Rattle.mem_system.specs.Contents.{CoreContents, BelowSteps, SystemStands, SystemSteps, MakesTouch, hierarchy_of, system}
+use Rattle.mem_system.specs.Contents.{CoreContents, BelowSteps, SystemSteps, MakesTouch, hierarchy_of, system}
 
 -- loads and stores are one access, by its mark
 access_of : (h : Hierarchy) (core : Core) (line : ℕ) (store : Bool)
@@ -37,9 +37,47 @@ module _ (h : Hierarchy) (pinned : Bool) (sets : Sets) (line : ℕ) where
   read_next (Some victim) false = refl
   read_next None dirty = refl
 
-same_shape : {P : Type 0} (rule : P → ℕ → Rule) (old new : Contents P) → SameShape old new
+pub same_shape : {P : Type 0} (rule : P → ℕ → Rule) (old new : Contents P) → SameShape old new
     → shape_of rule new ≡ shape_of rule old
 same_shape rule old new same = rw (same.same_policy, same.same_ways, same.same_sets) refl
+
+-- an access whose line is held
+pub access_held : {P : Type 0} (takes : P → ℕ → Type 0) (rule : P → ℕ → Rule) (stands : P → ℕ → ℕ → List ℕ → Type 0)
+    (line : ℕ) (store : Bool) (old : CoreContents P) (l1d : Contents P) (l2 : L2Contents P) (found : Touch)
+    → IsTouch takes rule stands found line store old.l1d l1d
+    → found.hit ≡ true
+    → MakesTouch rule stands (if store then Store line else Load line) old.costs.l1 (system old l2) (system (record old { l1d = l1d }) l2)
+unfolding touched pass_on accessed below_all
+access_held takes rule stands line store old l1d l2 found touch here =
+    let h : Hierarchy = hierarchy_of rule (system old l2) in
+    let spared : found.victim ≡ None = touch.moves.spares here in
+    let clean : found.dirty_victim ≡ false = touch.marks.clean spared in
+    record {
+      same = ap (λ (s : Shape). record h { l1d = s }) (same_shape rule old.l1d l1d touch.shape);
+      pinned = refl;
+      steps = λ caches for.
+          let step : CacheStep = touch_of h.l1d caches.core.l1d line store in
+          let told = touch.step caches.core.l1d for.core.l1d in
+          let done : Option ℕ → Bool → Bool → PassedOn = λ victim dirty hit. record {
+            cost = h.costs.l1 + (if dirty then h.costs.wb else 0);
+            core = record caches.core { l1d = step.next };
+            passed = given_up victim dirty ++ unless_hit hit line;
+          } in
+          let held : done None false true ≡ accessed h caches.core line step =
+          ap (λ (hit : Bool). done None false hit) (sym here)
+          ∙ ap (λ (dirty : Bool). done None dirty found.hit) (sym clean)
+          ∙ ap (λ (victim : Option ℕ). done victim found.dirty_victim found.hit) (sym spared)
+          ∙ ap (λ (t : Touch). done t.victim t.dirty_victim t.hit) told.answered in
+          subst (λ (p : PassedOn). SystemSteps stands old.costs.l1 (system (record old { l1d = l1d }) l2) (pass_on h old.pinned caches.l2 p))
+          (held ∙ sym (access_of h caches.core line store))
+          (record {
+            cost = omega arith;
+            next = record {
+              core = record { l1i = for.core.l1i; l1d = told.next; tlb = for.core.tlb; guesses = for.core.guesses };
+              l2 = for.l2;
+            };
+          });
+    }
 
 -- an access whose line isn't held, of which `found` is told
 pub access_missed : {P : Type 0} (takes : P → ℕ → Type 0) (rule : P → ℕ → Rule) (stands : P → ℕ → ℕ → List ℕ → Type 0)

@@ -1,5 +1,10 @@
 pub mod Accesses
+pub mod Belows
+pub mod Fetches
 pub mod Leaves
+pub mod Looks
+pub mod Made
+pub mod WalkReads
 pub mod Touches
 pub mod WriteBacks
 pub mod TouchLaws

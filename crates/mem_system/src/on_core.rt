@@ -196,7 +196,6 @@ impl<P: Policy> OnCore<P> {
     }
 
     /// The cost of a read of a line at the second level.
-    #[tactic(auto, unfolding(crate::specs::Cost::below, crate::specs::Cost::below_if, crate::specs::Cost::below_by, crate::specs::Cost::missed_cost))]
     fn below(&self, l2: &mut L2<P>, line: Line) -> u32
         ensures same { hierarchy_of P.rule (system self.now l2.new)
             ≡ hierarchy_of P.rule (system self.now l2.old) }
@@ -213,7 +212,6 @@ impl<P: Policy> OnCore<P> {
 
     /// The cost of a read of a line that the second level doesn't hold. It is worked
     /// apart, so that a read of one that it holds saves no registers for it.
-    #[tactic(auto, unfolding(crate::specs::Cost::below, crate::specs::Cost::below_if, crate::specs::Cost::below_by, crate::specs::Cost::missed_cost))]
     #[inline(never)]
     fn below_absent(&self, l2: &mut L2<P>, line: Line) -> u32
         requires absent { place_in l2.old.cache line ≡ None }
@@ -287,7 +285,6 @@ impl<P: Policy> OnCore<P> {
     }
 
     /// The cost of a fetch from a line.
-    #[tactic(auto, unfolding(crate::specs::Cost::touched, crate::specs::Cost::on_core, crate::specs::Cost::fetched, crate::specs::Cost::pass_on, crate::specs::Cost::below_all))]
     #[inline(always)]
     pub fn fetch(&mut self, l2: &mut L2<P>, line: Line) -> u32
         ensures few { result ≤ most_fetch }
@@ -302,7 +299,6 @@ impl<P: Policy> OnCore<P> {
     }
 
     /// The cost of a load from a line, or of a store to it.
-    #[tactic(auto, unfolding(crate::specs::Cost::touched, crate::specs::Cost::on_core, crate::specs::Cost::accessed, crate::specs::Cost::pass_on, crate::specs::Cost::below_all))]
     #[inline(always)]
     pub fn access(&mut self, l2: &mut L2<P>, line: Line, store: bool) -> u32
         ensures few { result ≤ most_access }
@@ -415,7 +411,6 @@ impl<P: Policy> OnCore<P> {
     }
 
     /// The cost of the reads that a walk made.
-    #[tactic(auto, unfolding(crate::specs::Cost::below_all, crate::specs::Translation::lines_of))]
     fn read_entries(&self, l2: &mut L2<P>, walked: &Walked) -> u32
         requires two { walked.now.count ≤ 2 }
         requires small { (i : ℕ) → i < walked.now.count → slice_index walked.now.reads i < 2 ^ 27 }
@@ -439,7 +434,6 @@ impl<P: Policy> OnCore<P> {
 
     /// The translation of an address whose page the buffer doesn't hold: by a
     /// walk, whose leaf is kept where it finds one.
-    #[tactic(auto, unfolding(crate::specs::Cost::touched, crate::specs::Cost::on_core, crate::specs::Cost::looked, crate::specs::Cost::pass_on, crate::specs::Translation::look_of), using(crate::proofs::Leaves::reads_of))]
     #[inline(never)]
     fn walk_and_fill(
         &mut self,
@@ -516,7 +510,6 @@ impl<P: Policy> OnCore<P> {
     /// root: what every clause but the cost's bound asks, and what is so again
     /// after the call. What changes memory or the root has to keep that or to
     /// empty the buffer.
-    #[tactic(auto, unfolding(crate::specs::Cost::touched, crate::specs::Cost::on_core, crate::specs::Cost::looked, crate::specs::Cost::pass_on, crate::specs::Cost::below_all, crate::specs::Translation::look_of))]
     #[inline(always)]
     pub fn translate(
         &mut self,

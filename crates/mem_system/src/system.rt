@@ -195,7 +195,6 @@ impl<P: Policy> MemSystem<P> {
 /// # Errors
 ///
 /// `Memory`, where memory ran out.
-#[tactic(auto, unfolding(crate::specs::Cost::cold, crate::specs::Cost::fresh_core))]
 pub fn new_parts<P: Policy>(
     alloc: Global,
     geometry: Geometry<P>,

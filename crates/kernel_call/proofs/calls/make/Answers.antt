@@ -1,4 +1,4 @@
-use Rattle.std.proofs.Common.{arith, ◌≡◌, ◌≤◌, ◌^◌, ℕ, [], length, None, ap, sym, ◌∙◌}
+use Rattle.std.proofs.Common.{arith, ◌≡◌, ◌≤◌, ◌^◌, ℕ, [], length, None, refl, ap, sym, subst₂, ◌∙◌}
 use Rattle.std.specs.Prelude.{slice_index}
 use Rattle.kernel_clone.specs.Footprints.{WorkDone, call_number}
 use Rattle.kernel_clone.specs.Models.{work_model}
@@ -6,10 +6,14 @@ use Rattle.kernel_clone.specs.declared.Work.{Work}
 use Rattle.call_table.specs.Calls.{call_of}
 use Rattle.call_table.proofs.BoundedWork.{call_of_empties, call_of_own}
 use Rattle.kernel_call.specs.LogModel.{log_model}
+use Rattle.call_table.specs.declared.Reply.{Reply}
+use Rattle.phys_mem.specs.Contents.{Contents}
 use Rattle.kernel_call.specs.Models.{dom_model}
+use Rattle.kernel_call.specs.Facts.{HasFacts}
 use Rattle.kernel_call.specs.declared.domain.Domain.{Domain}
 use Rattle.kernel_call.proofs.TiesCalls.{facts_still, facts_done, facts_refused, called_answered, called_done, called_refused, told_work, own_op, work_in_memory}
 use Rattle.kernel_call.proofs.Ties.{kept_facts}
+use Rattle.kernel_call.proofs.Replied.{if_refused, keeps_replied, refused_replied, no_work_bounded}
 use Rattle.kernel_call.proofs.calls.make.Goals as goal
 
 pub returns-then-leaves_memory-clause-calls : goal.returns-then-leaves_memory-clause-calls
@@ -99,3 +103,72 @@ returns-in-Ok-clause-in_memory c = λ few.
 pub returns-in-Err-clause-operation : goal.returns-in-Err-clause-operation
 returns-in-Err-clause-operation c =
     ap (λ (w : Work). w.op) c.in-Err.ensures.unwritten ∙ ap (λ (w : WorkDone). w.op) c.no_work-work.ensures.work
+
+pub returns-then-leaves_memory-clause-valid : goal.returns-then-leaves_memory-clause-valid
+returns-then-leaves_memory-clause-valid c =
+    let v = c.requires.valid in
+    record {
+      estate = v.estate;
+      mem = v.mem;
+      facts = facts_still v.estate c.args.memory.now v.mem c.args.domain.now c.call_without_memory.new.domain v.facts
+          c.call_without_memory.ensures.keeps.map c.call_without_memory.ensures.keeps.calls c.call_without_memory.ensures.pool c.call_without_memory.ensures.caps;
+    }
+
+pub returns-then-leaves_memory-clause-keeps : goal.returns-then-leaves_memory-clause-keeps
+returns-then-leaves_memory-clause-keeps c = c.call_without_memory.ensures.keeps
+
+pub returns-then-leaves_memory-clause-frames : goal.returns-then-leaves_memory-clause-frames
+returns-then-leaves_memory-clause-frames c = refl
+
+pub returns-then-leaves_memory-clause-refused : goal.returns-then-leaves_memory-clause-refused
+returns-then-leaves_memory-clause-refused c = c.call_without_memory.ensures.refused
+
+pub returns-then-leaves_memory-clause-memory : goal.returns-then-leaves_memory-clause-memory
+returns-then-leaves_memory-clause-memory c = if_refused c.call_without_memory.result refl
+
+pub returns-then-leaves_memory-clause-operation : goal.returns-then-leaves_memory-clause-operation
+returns-then-leaves_memory-clause-operation c = ap (λ (w : WorkDone). w.op) c.no_work-work.ensures.work
+
+pub returns-then-leaves_memory-clause-work : goal.returns-then-leaves_memory-clause-work
+returns-then-leaves_memory-clause-work c = no_work_bounded c.args.call _ c.no_work-work.ensures.work
+
+pub returns-in-Ok-clause-keeps : goal.returns-in-Ok-clause-keeps
+returns-in-Ok-clause-keeps c = keeps_replied c.args.domain.now c.perform.new.domain c.reply_to.new.domain c.in-Ok.ensures.rest c.reply_to.ensures.keeps
+
+pub returns-in-Ok-clause-frames : goal.returns-in-Ok-clause-frames
+returns-in-Ok-clause-frames c = c.in-Ok.ensures.frames
+
+pub returns-in-Ok-clause-refused : goal.returns-in-Ok-clause-refused
+returns-in-Ok-clause-refused c = λ failed. absurd (failed (ap (λ (r : Reply). r.code) c.reply_to.ensures.reply))
+
+pub returns-in-Ok-clause-memory : goal.returns-in-Ok-clause-memory
+returns-in-Ok-clause-memory c = λ failed. absurd (failed (ap (λ (r : Reply). r.code) c.reply_to.ensures.reply))
+
+pub returns-in-Err-clause-valid : goal.returns-in-Err-clause-valid
+returns-in-Err-clause-valid c =
+    let v = c.requires.valid in
+    record {
+      estate = v.estate;
+      mem = v.mem;
+      facts = facts_still v.estate c.perform.new.memory v.mem c.perform.new.domain c.reply_to-in-Err.new.domain
+          (subst₂ (λ (memory : Contents) (d : Domain). HasFacts v.estate memory v.mem d) (sym c.in-Err.ensures.memory) (sym c.in-Err.ensures.unchanged) v.facts)
+          c.reply_to-in-Err.ensures.keeps.map c.reply_to-in-Err.ensures.keeps.calls c.reply_to-in-Err.ensures.pool c.reply_to-in-Err.ensures.caps;
+    }
+
+pub returns-in-Err-clause-keeps : goal.returns-in-Err-clause-keeps
+returns-in-Err-clause-keeps c = keeps_replied c.args.domain.now c.perform.new.domain c.reply_to-in-Err.new.domain c.in-Err.ensures.rest c.reply_to-in-Err.ensures.keeps
+
+pub returns-in-Err-clause-frames : goal.returns-in-Err-clause-frames
+returns-in-Err-clause-frames c = c.in-Err.ensures.frames
+
+pub returns-in-Err-clause-refused : goal.returns-in-Err-clause-refused
+returns-in-Err-clause-refused c = λ _.
+    let told = c.reply_to-in-Err.ensures in
+    refused_replied c.args.domain.now c.perform.new.domain c.reply_to-in-Err.new.domain c.in-Err.ensures.unchanged _ c.reply.result c.reply_to-in-Err.result
+    c.reply.ensures.value told.reply told.status told.threads told.interrupts told.caps told.pool told.printed
+
+pub returns-in-Err-clause-memory : goal.returns-in-Err-clause-memory
+returns-in-Err-clause-memory c = λ _. c.in-Err.ensures.memory
+
+pub returns-in-Err-clause-work : goal.returns-in-Err-clause-work
+returns-in-Err-clause-work c = no_work_bounded c.args.call _ (ap (λ (w : Work). work_model w) c.in-Err.ensures.unwritten ∙ c.no_work-work.ensures.work)

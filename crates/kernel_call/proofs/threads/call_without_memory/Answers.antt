@@ -18,41 +18,65 @@ returns-in-Exit-clause-answers c e readings replies m logged kept =
     (ap call_number c.in-Exit.is) refl (answered_not m (length replies) c.exit.new.domain _ (exited (slice_index c.args.args 0) d) c.exit.result
     refl (omega arith) c.exit.ensures.reply (c.exit.ensures.becomes readings replies logged kept))
 
-pub returns-in-Poll-clause-answers : goal.returns-in-Poll-clause-answers
+pub returns-in-Poll : goal.returns-in-Poll
 unfolding call_of
-returns-in-Poll-clause-answers c e readings replies m logged kept =
-    let d : Dom = dom_model c.args.domain.now readings replies in
-    answered_by (call_number c.args.call) 9 e d (slice_index c.args.args 0) (slice_index c.args.args 1) (slice_index c.args.args 2) m
-    (length replies) c.poll.result c.poll.new.domain
-    (poll d (slice_index c.args.args 0) m)
-    (ap call_number c.in-Poll.is) refl (c.poll.ensures.answers e readings replies m logged kept)
+returns-in-Poll c = record {
+  answers = λ e readings replies m logged kept.
+      let d : Dom = dom_model c.args.domain.now readings replies in
+      answered_by (call_number c.args.call) 9 e d (slice_index c.args.args 0) (slice_index c.args.args 1) (slice_index c.args.args 2) m
+      (length replies) c.poll.result c.poll.new.domain
+      (poll d (slice_index c.args.args 0) m)
+      (ap call_number c.in-Poll.is) refl (c.poll.ensures.answers e readings replies m logged kept);
+  keeps = c.poll.ensures.keeps;
+  caps = c.poll.ensures.caps;
+  pool = c.poll.ensures.pool;
+  refused = c.poll.ensures.refused;
+}
 
-pub returns-in-Wait-clause-answers : goal.returns-in-Wait-clause-answers
+pub returns-in-Wait : goal.returns-in-Wait
 unfolding call_of
-returns-in-Wait-clause-answers c e readings replies m logged kept =
-    let d : Dom = dom_model c.args.domain.now readings replies in
-    answered_by (call_number c.args.call) 10 e d (slice_index c.args.args 0) (slice_index c.args.args 1) (slice_index c.args.args 2) m
-    (length replies) c.wait.result c.wait.new.domain
-    (wait d (slice_index c.args.args 0) m)
-    (ap call_number c.in-Wait.is) refl (c.wait.ensures.answers e readings replies m logged kept)
+returns-in-Wait c = record {
+  answers = λ e readings replies m logged kept.
+      let d : Dom = dom_model c.args.domain.now readings replies in
+      answered_by (call_number c.args.call) 10 e d (slice_index c.args.args 0) (slice_index c.args.args 1) (slice_index c.args.args 2) m
+      (length replies) c.wait.result c.wait.new.domain
+      (wait d (slice_index c.args.args 0) m)
+      (ap call_number c.in-Wait.is) refl (c.wait.ensures.answers e readings replies m logged kept);
+  keeps = c.wait.ensures.keeps;
+  caps = c.wait.ensures.caps;
+  pool = c.wait.ensures.pool;
+  refused = c.wait.ensures.refused;
+}
 
-pub returns-in-Signal-clause-answers : goal.returns-in-Signal-clause-answers
+pub returns-in-Signal : goal.returns-in-Signal
 unfolding call_of
-returns-in-Signal-clause-answers c e readings replies m logged kept =
-    let d : Dom = dom_model c.args.domain.now readings replies in
-    answered_by (call_number c.args.call) 11 e d (slice_index c.args.args 0) (slice_index c.args.args 1) (slice_index c.args.args 2) m
-    (length replies) c.signal.result c.signal.new.domain
-    (signal d (slice_index c.args.args 0) m)
-    (ap call_number c.in-Signal.is) refl (c.signal.ensures.answers e readings replies m logged kept)
+returns-in-Signal c = record {
+  answers = λ e readings replies m logged kept.
+      let d : Dom = dom_model c.args.domain.now readings replies in
+      answered_by (call_number c.args.call) 11 e d (slice_index c.args.args 0) (slice_index c.args.args 1) (slice_index c.args.args 2) m
+      (length replies) c.signal.result c.signal.new.domain
+      (signal d (slice_index c.args.args 0) m)
+      (ap call_number c.in-Signal.is) refl (c.signal.ensures.answers e readings replies m logged kept);
+  keeps = c.signal.ensures.keeps;
+  caps = c.signal.ensures.caps;
+  pool = c.signal.ensures.pool;
+  refused = c.signal.ensures.refused;
+}
 
-pub returns-in-Spawn-clause-answers : goal.returns-in-Spawn-clause-answers
+pub returns-in-Spawn : goal.returns-in-Spawn
 unfolding call_of
-returns-in-Spawn-clause-answers c e readings replies m logged kept =
-    let d : Dom = dom_model c.args.domain.now readings replies in
-    answered_by (call_number c.args.call) 12 e d (slice_index c.args.args 0) (slice_index c.args.args 1) (slice_index c.args.args 2) m
-    (length replies) c.spawn.result c.spawn.new.domain
-    (spawn d (slice_index c.args.args 0) (slice_index c.args.args 1) m)
-    (ap call_number c.in-Spawn.is) refl (c.spawn.ensures.answers e readings replies m logged kept)
+returns-in-Spawn c = record {
+  answers = λ e readings replies m logged kept.
+      let d : Dom = dom_model c.args.domain.now readings replies in
+      answered_by (call_number c.args.call) 12 e d (slice_index c.args.args 0) (slice_index c.args.args 1) (slice_index c.args.args 2) m
+      (length replies) c.spawn.result c.spawn.new.domain
+      (spawn d (slice_index c.args.args 0) (slice_index c.args.args 1) m)
+      (ap call_number c.in-Spawn.is) refl (c.spawn.ensures.answers e readings replies m logged kept);
+  keeps = c.spawn.ensures.keeps;
+  caps = c.spawn.ensures.caps;
+  pool = c.spawn.ensures.pool;
+  refused = c.spawn.ensures.refused;
+}
 
 pub returns-in-Yield-clause-answers : goal.returns-in-Yield-clause-answers
 unfolding call_of give
@@ -74,3 +98,30 @@ returns-in_default-clause-answers c e readings replies m logged kept =
     (last_without_memory c.args.call c.requires.others c.in_default.not-Exit c.in_default.not-Poll c.in_default.not-Wait
     c.in_default.not-Signal c.in_default.not-Spawn c.in_default.not-Yield) refl (answered_not m (length replies) c.end_thread.new.domain _ (thread_ended d) c.end_thread.result
     refl (omega arith) c.end_thread.ensures.reply (c.end_thread.ensures.becomes readings replies logged kept))
+
+pub returns-in-Exit-clause-keeps : goal.returns-in-Exit-clause-keeps
+returns-in-Exit-clause-keeps c = c.exit.ensures.keeps
+
+pub returns-in-Exit-clause-caps : goal.returns-in-Exit-clause-caps
+returns-in-Exit-clause-caps c = c.exit.ensures.caps
+
+pub returns-in-Exit-clause-pool : goal.returns-in-Exit-clause-pool
+returns-in-Exit-clause-pool c = c.exit.ensures.pool
+
+pub returns-in-Yield-clause-keeps : goal.returns-in-Yield-clause-keeps
+returns-in-Yield-clause-keeps c = c.yield_turn.ensures.keeps
+
+pub returns-in-Yield-clause-caps : goal.returns-in-Yield-clause-caps
+returns-in-Yield-clause-caps c = c.yield_turn.ensures.caps
+
+pub returns-in-Yield-clause-pool : goal.returns-in-Yield-clause-pool
+returns-in-Yield-clause-pool c = c.yield_turn.ensures.pool
+
+pub returns-in_default-clause-keeps : goal.returns-in_default-clause-keeps
+returns-in_default-clause-keeps c = c.end_thread.ensures.keeps
+
+pub returns-in_default-clause-caps : goal.returns-in_default-clause-caps
+returns-in_default-clause-caps c = c.end_thread.ensures.caps
+
+pub returns-in_default-clause-pool : goal.returns-in_default-clause-pool
+returns-in_default-clause-pool c = c.end_thread.ensures.pool

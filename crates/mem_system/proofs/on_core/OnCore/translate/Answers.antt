@@ -1,5 +1,7 @@
 -- At a hit the kept leaf answers as the walk does; at a miss the walk itself.
 use Rattle.std.proofs.Common.{sym, ◌/◌}
+use Rattle.sv32_walk.specs.Walk.{walk}
+use Rattle.mem_system.proofs.Looks.{look_held}
 use Rattle.mem_system.proofs.Leaves.{answered, translated_within, missed_still}
 use Rattle.mem_system.proofs.on_core.OnCore.translate.Goals as goal
 
@@ -11,6 +13,11 @@ returns-in-Some-clause-result g c = λ m holds.
 pub returns-in-Some-clause-within : goal.returns-in-Some-clause-within
 returns-in-Some-clause-within g c = λ m holds keeps.
     translated_within m c.args.mem.now.frames c.args.root c.args.va c.args.access c.at_leaf.result c.ranges.va.fits (returns-in-Some-clause-result g c m holds keeps)
+
+pub returns-in-Some-clause-makes : goal.returns-in-Some-clause-makes
+returns-in-Some-clause-makes g c = λ m holds keeps.
+    rw (← c.self.view_is) (look_held g.P.Policy.rule g.P.Policy.stands_for c.args.va (walk m c.args.mem.now.frames c.args.root c.args.va c.args.access)
+    _ c.args.l2.now c.find.new.self c.in-Some.ensures.shape c.in-Some.ensures.found c.in-Some.ensures.step)
 
 pub returns-in-None-clause-within : goal.returns-in-None-clause-within
 returns-in-None-clause-within g c = λ m holds keeps.

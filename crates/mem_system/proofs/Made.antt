@@ -1,0 +1,42 @@
+-- A core and a second level that were just made.
+use Rattle.std.proofs.Common.{◌≡◌, ℕ, List, Option, None, refl, ap, ◌∙◌}
+use Rattle.std.specs.Prelude.{option_map}
+use Rattle.std.proofs.lemmas.List.{length-replicate}
+use Rattle.tp_base.specs.Table.{empty}
+use Rattle.cycle_cost.specs.declared.Costs.{Costs}
+use Rattle.cycle_cost.specs.declared.ProductCosts.{ProductCosts}
+use Rattle.set_cache.specs.Rule.{Rule}
+use Rattle.set_cache.specs.Contents.{Contents, shape_of}
+use Rattle.set_cache.specs.Calls.{IsNew}
+use Rattle.branch_pred.specs.declared.Sizes.{Sizes}
+use Rattle.branch_pred.specs.Guesses.{fresh_guesses, sizes_of}
+use Rattle.branch_pred.specs.declared.Jump.{Jump}
+use Rattle.l2_colour.specs.Contents.{L2Contents}
+use Rattle.mem_system.specs.declared.geometry.Geometry.{Geometry}
+use Rattle.mem_system.specs.Cost.{cold, fresh_core}
+use Rattle.mem_system.specs.Contents.{CoreContents, CoreStands, SystemStands, hierarchy_of, system}
+use Rattle.mem_system.specs.Geometry.{hierarchy_by, shape_by, costs_of, product_costs_of}
+
+-- a new cache has the shape that it was made with
+pub shape_made : {P : Type 0} (takes : P → ℕ → Type 0) (rule : P → ℕ → Rule) (stands : P → ℕ → ℕ → List ℕ → Type 0)
+    (policy : P) (sets ways : ℕ) (cache : Contents P) → IsNew takes stands policy sets ways cache
+    → shape_of rule cache ≡ record { rule = rule policy ways; ways = ways; count = sets }
+shape_made takes rule stands policy sets ways cache made = rw (made.same_policy, made.same_ways, made.same_sets) refl
+
+sizes_made : (s : Sizes) → sizes_of (fresh_guesses s) ≡ s
+sizes_made s = rw (length-replicate {A = ℕ} s.counters 1, length-replicate {A = Option Jump} s.targets None) refl
+
+module _ {P : Type 0} (takes : P → ℕ → Type 0) (rule : P → ℕ → Rule) (stands : P → ℕ → ℕ → List ℕ → Type 0)
+    (g : Geometry P) (costs : Costs) (products : Option ProductCosts) (core : CoreContents P) (l2 : L2Contents P)
+    (made : IsNew takes stands g.l2.policy g.l2.sets g.l2.ways l2.cache)
+    (fresh : CoreStands stands core (record { l1i = empty; l1d = empty; tlb = empty; guesses = fresh_guesses g.predictor })) where
+  pub hierarchy_made : core.costs ≡ costs_of costs → core.products ≡ option_map product_costs_of products
+      → shape_of rule core.l1i ≡ shape_by rule g.l1i → shape_of rule core.l1d ≡ shape_by rule g.l1d
+      → shape_of rule core.tlb.pages ≡ shape_by rule g.tlb → l2.line_size ≡ g.line_size → l2.back ≡ g.back
+      → hierarchy_of rule (system core l2) ≡ hierarchy_by rule g costs products
+  hierarchy_made cost product l1i l1d tlb size back =
+      cc (shape_made takes rule stands g.l2.policy g.l2.sets g.l2.ways l2.cache made, ap sizes_of fresh.guesses ∙ sizes_made g.predictor)
+
+  pub stands_cold : SystemStands stands (system core l2) (cold (hierarchy_by rule g costs products))
+  unfolding cold fresh_core
+  stands_cold = record { core = fresh; l2 = made.fresh }
