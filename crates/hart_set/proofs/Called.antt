@@ -1,5 +1,5 @@
 -- What a call finds of the hart that it names.
-use Rattle.std.proofs.Common.{◌≡◌, ◌∙◌, ℕ, ◌<◌, ◌≤◌, List, Some, [], ◌∷◌, ◌++◌, replicate, length, refl, sym, subst, arith}
+use Rattle.std.proofs.Common.{◌≡◌, ◌∙◌, ℕ, ◌<◌, ◌≤◌, List, Option, Some, [], ◌∷◌, ◌++◌, replicate, length, refl, sym, subst, arith}
 use Rattle.std.specs.Prelude.{slice_get, slice_index_or}
 use Rattle.std.proofs.lemmas.Option.{slice_get_read, same_Some}
 use Rattle.std.proofs.lemmas.List.Elements.{All-append, All-replicate}
@@ -12,6 +12,7 @@ use Rattle.world_view.specs.Harts.{Harts, harts, slots_of, next}
 use Rattle.world_view.specs.HartLaws.{AreHartsOf}
 use Rattle.world_view.proofs.harts.Runs.{Running}
 use Rattle.world_view.proofs.harts.Isolation.{running, next_law}
+use Rattle.hart_set.specs.declared.hart.Slot.{Slot}
 use Rattle.hart_set.specs.declared.hart.Hart.{Hart as CodeHart}
 use Rattle.hart_set.specs.declared.set.State.{State}
 use Rattle.hart_set.specs.Standing.{StandsFor, HartStands, AtHart, IsInBounds}
@@ -27,6 +28,12 @@ pub record Called (i : Image) (t : State) (h : ℕ) (x : CodeHart) : Type 0 wher
 -- whatever the order before, it stands for the harts after one event more
 abbrev pub NextStands : Image → ℕ → State → State → Type 0
 NextStands i h t t' = (order : List ℕ) → AreHartsOf i order → StandsFor i (harts i order) t → StandsFor i (harts i (order ++ h ∷ [])) t'
+
+-- the hart of this number has slots to come, and is in this one or in none
+pub record GoesFrom (v : Raw × State) (h : ℕ) (where_it_is : Option Slot) : Type 0 where
+  pub hart : h < harts_in (image_of v).all.schedule
+  pub slot : AtHart v.1 h (λ x. x.slot ≡ where_it_is)
+  pub slots : AtHart v.1 h (λ x. x.slots < 65536)
 
 -- and after as many more as end a slot
 abbrev pub SlotEnds : Image → ℕ → State → State → Type 0
@@ -63,6 +70,33 @@ module _ (image : Raw) (t : State) (v : Raw × State) (view : (image, t) ≡ v) 
       → AtHart v.1 h (Q (image_of v))
   for_hart h x Q got is =
       subst (λ (u : Raw × State). AtHart u.1 h (Q (image_of u))) view (λ y at. subst (Q (image_from image)) (same_Some x y (sym got ∙ at)) is)
+
+  -- what a hart has that was read at an index
+  at_index : (h n : ℕ) → n ≡ h → h < harts_in (image_of v).all.schedule → IsReached (image_from image) t
+      → (x : CodeHart)
+      → x ≡ slice_index_or t.harts.items n x → (Q : CodeHart → Type 0) → Q x → AtHart v.1 n Q
+  at_index h n same below reached x read Q is =
+      let here = subst (λ (m : ℕ). m < harts_in (image_of v).all.schedule) (sym same) below in
+      let k = called n here reached x read in
+      for_hart n x (λ (i : Image). Q) k.got is
+
+  -- that it may go on from where it was read
+  pub found_in : (h n : ℕ) → n ≡ h → h < harts_in (image_of v).all.schedule
+      → AtHart v.1 h (λ x. x.slots < 65536)
+      → IsReached (image_from image) t → (x : CodeHart) → x ≡ slice_index_or t.harts.items n x
+      → (slot : Option Slot) → x.slot ≡ slot → GoesFrom v n slot
+  found_in h n same below few reached x read slot is = record {
+    hart = subst (λ (m : ℕ). m < harts_in (image_of v).all.schedule) (sym same) below;
+    slot = at_index h n same below reached x read (λ y. y.slot ≡ slot) is;
+    slots = subst (λ (m : ℕ). AtHart v.1 m (λ y. y.slots < 65536)) (sym same) few;
+  }
+
+  -- the index of a hart is one of the code's harts
+  pub within : (h n : ℕ) → n ≡ h → h < harts_in (image_of v).all.schedule → IsReached (image_from image) t
+      → n < length t.harts.items
+  within h n same below reached =
+      let here = hart_below h below in
+      omega (arith, here, same, reached.stands.all_harts)
 
   -- and what holds of the state too
   pub to_value : (P : Image → State → Type 0) → P (image_from image) t → P (image_of v) v.1

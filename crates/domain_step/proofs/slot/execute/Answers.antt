@@ -1,4 +1,4 @@
-use Rattle.std.proofs.Common.{sym, ap, ◌∙◌}
+use Rattle.std.proofs.Common.{sym, ap, ◌∙◌, arith}
 use Rattle.rv_core.specs.Memory.{misalignment_of}
 use Rattle.kernel_call.specs.Models.{dom_model}
 use Rattle.domain_step.specs.Kept.{Kept}
@@ -6,6 +6,24 @@ use Rattle.domain_step.proofs.Points.{Point}
 use Rattle.domain_step.proofs.Instructions.{execute_misaligned, execute_faulted, execute_settled}
 use Rattle.mem_system.specs.Contents.{system}
 use Rattle.domain_step.proofs.slot.execute.Goals as goal
+
+pub loaded-requires : goal.loaded-requires
+loaded-requires g c = record {
+  address = c.address-at.ensures.address;
+  aligned = sym c.in_default.ensures.trap;
+  frames = c.requires.frames;
+  leaves = c.requires.leaves;
+  spent = omega (arith, c.requires.spent);
+}
+
+pub settle-requires : goal.settle-requires
+settle-requires g c = record {
+  registers = c.requires.registers;
+  room = c.requires.room;
+  frames = c.requires.frames;
+  leaves = c.in-Ok.ensures.leaves;
+  spent = omega (arith, c.requires.spent, c.in-Ok.ensures.few);
+}
 
 pub returns-in-Some-clause-leaves : goal.returns-in-Some-clause-leaves
 returns-in-Some-clause-leaves g c w s r readings replies k h q =

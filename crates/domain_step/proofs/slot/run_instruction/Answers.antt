@@ -1,7 +1,10 @@
-use Rattle.std.proofs.Common.{◌+◌, Some, sym, ap, refl, ◌∙◌, arith}
+use Rattle.std.proofs.Common.{ℕ, ◌+◌, Some, sym, ap, subst, refl, ◌∙◌, arith}
 use Rattle.rv_core.specs.declared.exception.Exception.TheVariants as exception
 use Rattle.cycle_cost.specs.Models.{product_costs_of}
 use Rattle.kernel_call.specs.Models.{dom_model}
+use Rattle.kernel_clone.specs.Footprints.{IsLayout}
+use Rattle.mem_system.specs.Translation.{KeepsLeaves}
+use Rattle.rv_decode.specs.Ranges.{HasRegisters}
 use Rattle.world_view.specs.Kernel.{estate}
 use Rattle.world_view.specs.Event.{instruction}
 use Rattle.domain_step.specs.Kept.{KeptOf}
@@ -314,3 +317,166 @@ returns-in_default-instr g c = record {
   goes_on = c.execute.ensures.goes_on;
   few = omega (arith, c.execute.ensures.few, c.in-Ok.ensures.few, c.fetch.ensures.few);
 }
+
+pub returns-in-Err-clause-grows : goal.returns-in-Err-clause-grows
+returns-in-Err-clause-grows g c =
+    let grows = c.stop.ensures.grows in
+    record {
+      retired = omega (arith, grows.retired);
+      readings = omega (arith, grows.readings);
+      replies = omega (arith, grows.replies);
+    }
+
+pub returns-in-Err-clause-moments : goal.returns-in-Err-clause-moments
+returns-in-Err-clause-moments g c = c.stop.ensures.keeps.moments
+
+pub returns-in-Err-clause-few : goal.returns-in-Err-clause-few
+returns-in-Err-clause-few g c = omega (arith, c.in-Err.ensures.few)
+
+pub returns-in_default-clause-grows : goal.returns-in_default-clause-grows
+returns-in_default-clause-grows g c =
+    let grows = c.stop-in_default.ensures.grows in
+    record {
+      retired = omega (arith, grows.retired);
+      readings = omega (arith, grows.readings);
+      replies = omega (arith, grows.replies);
+    }
+
+pub returns-in_default-clause-moments : goal.returns-in_default-clause-moments
+returns-in_default-clause-moments g c = c.stop-in_default.ensures.keeps.moments
+
+pub returns-in_default-clause-few : goal.returns-in_default-clause-few
+returns-in_default-clause-few g c = omega (arith, c.in-Ok.ensures.few, c.fetch.ensures.few)
+
+pub returns-in-Ecall-clause-frames : goal.returns-in-Ecall-clause-frames
+returns-in-Ecall-clause-frames g c = c.call.ensures.frames
+
+pub returns-in-Ecall-clause-grows : goal.returns-in-Ecall-clause-grows
+returns-in-Ecall-clause-grows g c =
+    let grows = c.call.ensures.grows in
+    record {
+      retired = omega (arith, grows.retired);
+      readings = omega (arith, grows.readings);
+      replies = grows.replies;
+    }
+
+pub returns-in-Ecall-clause-moments : goal.returns-in-Ecall-clause-moments
+returns-in-Ecall-clause-moments g c = c.call.ensures.moments
+
+pub returns-in-Ecall-clause-few : goal.returns-in-Ecall-clause-few
+returns-in-Ecall-clause-few g c = omega (arith, c.call.ensures.few, c.in-Ok.ensures.few, c.fetch.ensures.few)
+
+pub returns-in-Multiply-clause-grows : goal.returns-in-Multiply-clause-grows
+returns-in-Multiply-clause-grows g c =
+    let grows = c.multiply.ensures.grows in
+    record {
+      retired = grows.retired;
+      readings = omega (arith, grows.readings);
+      replies = omega (arith, grows.replies);
+    }
+
+pub returns-in-Multiply-clause-moments : goal.returns-in-Multiply-clause-moments
+returns-in-Multiply-clause-moments g c = c.multiply.ensures.keeps.moments
+
+pub returns-in-Multiply-clause-goes_on : goal.returns-in-Multiply-clause-goes_on
+returns-in-Multiply-clause-goes_on g c = λ same. c.multiply.ensures.goes_on
+
+pub returns-in-Multiply-clause-few : goal.returns-in-Multiply-clause-few
+returns-in-Multiply-clause-few g c =
+    omega (arith, c.multiply.ensures.few, c.in-Ok.ensures.few, c.fetch.ensures.few)
+
+pub returns-in-Divide-clause-grows : goal.returns-in-Divide-clause-grows
+returns-in-Divide-clause-grows g c =
+    let grows = c.divide.ensures.grows in
+    record {
+      retired = grows.retired;
+      readings = omega (arith, grows.readings);
+      replies = omega (arith, grows.replies);
+    }
+
+pub returns-in-Divide-clause-moments : goal.returns-in-Divide-clause-moments
+returns-in-Divide-clause-moments g c = c.divide.ensures.keeps.moments
+
+pub returns-in-Divide-clause-goes_on : goal.returns-in-Divide-clause-goes_on
+returns-in-Divide-clause-goes_on g c = λ same. c.divide.ensures.goes_on
+
+pub returns-in-Divide-clause-few : goal.returns-in-Divide-clause-few
+returns-in-Divide-clause-few g c =
+    omega (arith, c.divide.ensures.few, c.in-Ok.ensures.few, c.fetch.ensures.few)
+
+pub translate-requires-clause-leaves : goal.translate-requires-clause-leaves
+translate-requires-clause-leaves g c =
+    let is = c.requires.runs.stands_in in
+    let mem = c.requires.runs.state.storage.mem in
+    record {
+      mem = mem;
+      holds = is.facts.holds;
+      so =
+          subst (λ (n : ℕ). KeepsLeaves mem c.args.memory.now.frames n c.args.core.now.tlb)
+          (sym c.root-root.ensures.value) is.leaves;
+    }
+
+pub call-requires-clause-valid : goal.call-requires-clause-valid
+call-requires-clause-valid g c = record {
+  estate = estate c.requires.runs.setting.machine c.requires.runs.setting.own;
+  mem = c.requires.runs.state.storage.mem;
+  facts = c.requires.runs.stands_in.facts;
+}
+
+pub call-requires-clause-clone : goal.call-requires-clause-clone
+call-requires-clause-clone g c =
+    let is = c.requires.runs.stands_in in
+    subst IsLayout (sym is.layout) is.fits.sound.clone
+
+pub call-requires-clause-spent : goal.call-requires-clause-spent
+call-requires-clause-spent g c =
+    omega (arith, c.requires.spent, c.in-Ok.ensures.few, c.fetch.ensures.few)
+
+pub multiply-requires-clause-rd : goal.multiply-requires-clause-rd
+multiply-requires-clause-rd g c = (subst HasRegisters c.in-Multiply.is c.in-Some.ensures.registers).0
+
+pub multiply-requires-clause-rs1 : goal.multiply-requires-clause-rs1
+multiply-requires-clause-rs1 g c = (subst HasRegisters c.in-Multiply.is c.in-Some.ensures.registers).1
+
+pub multiply-requires-clause-rs2 : goal.multiply-requires-clause-rs2
+multiply-requires-clause-rs2 g c = (subst HasRegisters c.in-Multiply.is c.in-Some.ensures.registers).2
+
+pub multiply-requires-clause-room : goal.multiply-requires-clause-room
+multiply-requires-clause-room g c = c.requires.room
+
+pub multiply-requires-clause-spent : goal.multiply-requires-clause-spent
+multiply-requires-clause-spent g c =
+    omega (arith, c.requires.spent, c.in-Ok.ensures.few, c.fetch.ensures.few)
+
+pub divide-requires-clause-rd : goal.divide-requires-clause-rd
+divide-requires-clause-rd g c = (subst HasRegisters c.in-Divide.is c.in-Some.ensures.registers).0
+
+pub divide-requires-clause-rs1 : goal.divide-requires-clause-rs1
+divide-requires-clause-rs1 g c = (subst HasRegisters c.in-Divide.is c.in-Some.ensures.registers).1
+
+pub divide-requires-clause-rs2 : goal.divide-requires-clause-rs2
+divide-requires-clause-rs2 g c = (subst HasRegisters c.in-Divide.is c.in-Some.ensures.registers).2
+
+pub divide-requires-clause-room : goal.divide-requires-clause-room
+divide-requires-clause-room g c = c.requires.room
+
+pub divide-requires-clause-spent : goal.divide-requires-clause-spent
+divide-requires-clause-spent g c =
+    omega (arith, c.requires.spent, c.in-Ok.ensures.few, c.fetch.ensures.few)
+
+pub execute-requires : goal.execute-requires
+execute-requires g c =
+    let is = c.requires.runs.stands_in in
+    record {
+      registers = c.in-Some.ensures.registers;
+      room = c.requires.room;
+      frames = c.requires.frames;
+      leaves = record {
+        mem = c.in-Ok.ensures.leaves.mem;
+        holds = c.in-Ok.ensures.leaves.holds;
+        so =
+            subst (λ b. KeepsLeaves c.in-Ok.ensures.leaves.mem c.args.memory.now.frames c.root-root.result b)
+            (sym c.fetch.ensures.buffer) c.in-Ok.ensures.leaves.so;
+      };
+      spent = omega (arith, c.requires.spent, c.in-Ok.ensures.few, c.fetch.ensures.few);
+    }

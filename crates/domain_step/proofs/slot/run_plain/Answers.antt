@@ -1,14 +1,40 @@
 -- One instruction more, and as much of the slot is left.
-use Rattle.std.proofs.Common.{◌<◌, ℕ, ap, sym, subst, ◌∙◌, arith}
+use Rattle.std.proofs.Common.{◌<◌, ◌≤◌, ◌^◌, ℕ, refl, ap, sym, subst, ◌∙◌, arith}
 use Rattle.cycle_cost.specs.Costs.{CostTable}
 use Rattle.mem_system.specs.Hierarchy.{Hierarchy}
-use Rattle.domain_step.proofs.Moved.{plain_on, along_then, along_step}
+use Rattle.domain_step.proofs.Moved.{plain_on, along_none, along_then, along_step}
 use Rattle.mem_system.specs.Contents.{system}
 use Rattle.domain_step.proofs.slot.run_plain.Goals as goal
 
-pub run-ran-requires-clause-plain : goal.run-ran-requires-clause-plain
-run-ran-requires-clause-plain g c =
-    c.loop-goes_on.invariant.plain c.loop-goes_on-test.true c.loop-goes_on.clock c.if-clock-until.true
+pub loop-goes_on-init : goal.loop-goes_on-init
+loop-goes_on-init g c = record {
+  few = c.requires.few;
+  soon = omega (arith, c.requires.before);
+  begun = omega arith;
+  some = λ same. refl;
+  plain = λ goes. c.requires.plain;
+  frames = refl;
+  hierarchy = refl;
+  pinned = refl;
+  runs = c.requires.runs;
+  along = λ end within.
+      along_none g.P.Policy.rule g.P.Policy.stands_for end c.args.memory.now c.args.domain.now
+      (system c.args.core.now c.args.l2.now) c.args.now;
+}
+
+pub run-ran-requires : goal.run-ran-requires
+run-ran-requires g c =
+    let inv = c.loop-goes_on.invariant in
+    record {
+      frames = subst (λ (n : ℕ). n ≤ 2 ^ 15) (sym inv.frames) c.requires.frames;
+      runs = inv.runs;
+      plain = inv.plain c.loop-goes_on-test.true c.loop-goes_on.clock c.if-clock-until.true;
+      early = omega (arith, c.if-clock-until.true, c.requires.until);
+      few = inv.few;
+    }
+
+pub loop-goes_on-smaller : goal.loop-goes_on-smaller
+loop-goes_on-smaller g c = omega (arith, c.run-ran.ensures.later, c.if-clock-until.true)
 
 pub loop-goes_on-preserved : goal.loop-goes_on-preserved
 loop-goes_on-preserved g c =

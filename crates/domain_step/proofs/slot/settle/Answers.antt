@@ -1,8 +1,9 @@
-use Rattle.std.proofs.Common.{◌≡◌, Some, None, Ok, Err, sym, ap, subst, ◌∙◌}
+use Rattle.std.proofs.Common.{◌≡◌, Some, None, Ok, Err, sym, ap, subst, ◌∙◌, arith}
 use Rattle.rv_core.specs.Effect.{effect_of}
 use Rattle.rv_core.specs.declared.Effect.{Effect}
 use Rattle.kernel_call.specs.Models.{dom_model}
 use Rattle.world_view.specs.Event.{Storage, store, guessed}
+use Rattle.mem_system.specs.Translation.{KeepsLeaves}
 use Rattle.mem_system.specs.Cost.{Touched}
 use Rattle.domain_step.specs.Kept.{Kept}
 use Rattle.domain_step.specs.Moves.{Yields, Answered}
@@ -10,6 +11,20 @@ use Rattle.domain_step.proofs.Points.{Point}
 use Rattle.domain_step.proofs.Instructions.{settle_trapped, settle_faulted, settle_finished, trapped_same, finished_same, faulted_keeps}
 use Rattle.mem_system.specs.Contents.{system}
 use Rattle.domain_step.proofs.slot.settle.Goals as goal
+
+pub store-requires-clause-leaves : goal.store-requires-clause-leaves
+store-requires-clause-leaves g c =
+    let kept = c.requires.leaves in
+    record {
+      mem = kept.mem;
+      holds = kept.holds;
+      so =
+          subst (λ b. KeepsLeaves kept.mem c.args.memory.now.frames c.args.begun.now.root b)
+          (sym c.guess.ensures.buffer) kept.so;
+    }
+
+pub store-requires-clause-spent : goal.store-requires-clause-spent
+store-requires-clause-spent g c = omega (arith, c.requires.spent, c.guess.ensures.few)
 
 pub returns-in-Some-clause-leaves : goal.returns-in-Some-clause-leaves
 returns-in-Some-clause-leaves g c w s r readings replies k h q =

@@ -1,6 +1,7 @@
-use Rattle.std.proofs.Common.{◌≡◌, ◌∙◌, ℕ, ◌+◌, ◌^◌, ◌<◌, ◌++◌, ◌∷◌, [], List, length, option_map, Some, None, refl, sym, ap, subst, rules, arith}
+use Rattle.std.proofs.Common.{◌≡◌, ◌∙◌, ℕ, ◌+◌, ◌^◌, ◌<◌, ◌++◌, ◌∷◌, [], List, length, set, option_map, Some, None, refl, sym, ap, subst, rules, arith}
 use Rattle.std.specs.Prelude.{slice_get}
 use Rattle.std.specs.Option.{option_copied}
+use Rattle.image_record.specs.Record.{Raw}
 use Rattle.std.specs.Vec.{with_item, with_items}
 use Rattle.kernel_clone.specs.Models.{layout_model}
 use Rattle.sched_table.specs.Schedule.{on_hart, place_on, switch_entry, outgoing}
@@ -10,13 +11,23 @@ use Rattle.world_view.specs.Machine.{clone_of}
 use Rattle.world_view.specs.Relations.{IsDomain}
 use Rattle.world_view.specs.Harts.{image_on}
 use Rattle.domain_step.specs.Usage.{IsUsed, CountedUpTo}
+use Rattle.domain_step.proofs.Elements.{each_set_kept}
 use Rattle.domain_step.proofs.SwitchCounts.{noted_back, length_back}
 use Rattle.hart_set.specs.declared.hart.Hart.{Hart}
 use Rattle.hart_set.specs.declared.set.State.{State}
 use Rattle.hart_set.specs.Turns.{IsTurn}
-use Rattle.hart_set.proofs.Called.{Called, NextStands, called, at_hart, value_at, of_image, to_value, domain_read}
+use Rattle.hart_set.proofs.Called.{Called, NextStands, called, at_hart, value_at, of_image, to_value, domain_read, within}
 use Rattle.hart_set.proofs.Starting.{clock_early, out_on, into_on, counted_few, late, Switched, Entered, entered, reached_entered}
 use Rattle.hart_set.proofs.set.HartSet.begin.Goals as goal
+
+pub next_turn-turn-requires : goal.next_turn-turn-requires
+next_turn-turn-requires c = record { hart = c.requires.hart }
+
+pub outgoing-out-requires : goal.outgoing-out-requires
+outgoing-out-requires c = record {
+  hart = c.requires.hart;
+  ended = λ x got. (c.next_turn-turn.ensures.turn x got).ended;
+}
 
 pub own-requires : goal.own-requires
 own-requires c =
@@ -32,6 +43,13 @@ index-requires c =
     c.next_turn-turn.ensures.domain in
     omega (arith, named, c.from-d.ensures, c.self.invariant.stands.all_domains)
 
+pub index_mut-hart-requires : goal.index_mut-hart-requires
+index_mut-hart-requires c =
+    let there =
+    within c.self.inside.image.now c.self.inside.state c.args.self.now c.self.view_is c.args.h c.args.h
+    refl c.requires.hart c.self.invariant in
+    omega (arith, there)
+
 -- ---- what the switch is called with
 
 call : (c : goal.After-index) → Called (image_from c.self.inside.image.now) c.self.inside.state c.args.h c.index_mut-hart.result.now
@@ -41,7 +59,8 @@ call c =
 
 between : (c : goal.After-index) → c.index_mut-hart.result.now.slot ≡ None
 between c =
-    at_hart c.self.inside.image.now c.self.inside.state c.args.self.now c.self.view_is c.args.h c.index_mut-hart.result.now
+    at_hart c.self.inside.image.now c.self.inside.state c.args.self.now c.self.view_is c.args.h
+    c.index_mut-hart.result.now
     (λ x. x.slot ≡ None) (call c).got c.requires.between
 
 turn : (c : goal.After-index)
@@ -90,6 +109,10 @@ switch-switched-requires-clause-early c =
 
 -- ---- what its count is called with
 
+pub overflow_add-slot : goal.overflow_add-slot
+overflow_add-slot c =
+    omega (arith, c.next_turn-turn.ensures.soon, c.next_turn-turn.ensures.length, c.from-2.ensures)
+
 called_then : (c : goal.After-struct_known-2-1) → Called (image_from c.self.inside.image.now) c.self.inside.state c.args.h c.index_mut-hart.result.now
 called_then c =
     called c.self.inside.image.now c.self.inside.state c.args.self.now c.self.view_is c.args.h c.requires.hart c.self.invariant
@@ -97,7 +120,8 @@ called_then c =
 
 between_then : (c : goal.After-struct_known-2-1) → c.index_mut-hart.result.now.slot ≡ None
 between_then c =
-    at_hart c.self.inside.image.now c.self.inside.state c.args.self.now c.self.view_is c.args.h c.index_mut-hart.result.now
+    at_hart c.self.inside.image.now c.self.inside.state c.args.self.now c.self.view_is c.args.h
+    c.index_mut-hart.result.now
     (λ x. x.slot ≡ None) (called_then c).got c.requires.between
 
 pub note_switch-requires-clause-entry : goal.note_switch-requires-clause-entry
@@ -126,7 +150,8 @@ here c =
 
 outside : (c : AtEnd) → c.index_mut-hart.result.now.slot ≡ None
 outside c =
-    at_hart c.self.inside.image.now c.self.inside.state c.args.self.now c.self.view_is c.args.h c.index_mut-hart.result.now
+    at_hart c.self.inside.image.now c.self.inside.state c.args.self.now c.self.view_is c.args.h
+    c.index_mut-hart.result.now
     (λ x. x.slot ≡ None) (here c).got c.requires.between
 
 turn_here : (c : AtEnd)
@@ -231,3 +256,30 @@ returns-clause-next c =
     (entered (image_from c.self.inside.image.now) c.self.inside.state c.args.h c.index_mut-hart.result.now
     (here c) (outside c) c.next_turn-turn.result (turn_here c) (option_copied c.as_ref.result) c.index.result.now (got_here c) (leaves_here c)
     c.switch-switched.new.core c.switch-switched.new.l2 c.switch-switched.result.used c.switch-switched.result.now (switched c) (after c) (hart_after c) (kept c))
+
+pub returns-clause-image : goal.returns-clause-image
+returns-clause-image c = ap (λ (u : Raw × State). u.0) c.self.view_is
+
+-- the hart is the one that it leaves there
+placed : (c : AtEnd) (x : Hart)
+    → slice_get (set c.self.inside.state.harts.items c.args.h (hart_after c)) c.args.h ≡ Some x
+    → hart_after c ≡ x
+placed c x got =
+    let h = c.args.h in
+    let there =
+    within c.self.inside.image.now c.self.inside.state c.args.self.now c.self.view_is h h refl
+    c.requires.hart c.self.invariant in
+    each_set_kept (λ (j : ℕ) (y : Hart). j ≡ h → hart_after c ≡ y) c.self.inside.state.harts.items h
+    (hart_after c) there
+    (λ same. refl) (λ j y apart was same. absurd (apart same)) h x got refl
+
+pub returns-clause-inside : goal.returns-clause-inside
+returns-clause-inside c = λ x got. subst (λ (z : Hart). z.slot ≡ (hart_after c).slot) (placed c x got) refl
+
+pub returns-clause-slots : goal.returns-clause-slots
+returns-clause-slots c =
+    let few =
+    at_hart c.self.inside.image.now c.self.inside.state c.args.self.now c.self.view_is c.args.h
+    c.index_mut-hart.result.now
+    (λ x. x.slots < 65536) (here c).got c.requires.slots in
+    λ x got. subst (λ (z : Hart). z.slots < 65536) (placed c x got) few

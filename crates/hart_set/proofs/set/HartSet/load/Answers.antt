@@ -1,6 +1,7 @@
-use Rattle.std.proofs.Common.{◌∙◌, All, length, ap, subst, arith}
+use Rattle.std.proofs.Common.{◌∙◌, All, length, refl, sym, ap, subst, arith}
 use Rattle.phys_mem.specs.Contents.{Contents}
 use Rattle.mem_system.specs.Hierarchy.{Hierarchy}
+use Rattle.hardware_check.specs.Hardware.{IsHardware}
 use Rattle.image_check.specs.Public.{Public}
 use Rattle.image_check.specs.Image.{image_from}
 use Rattle.world_view.specs.Cost.{hierarchy}
@@ -45,3 +46,39 @@ invariant_of-result c = reached_first (image_from c.args.image.now) c.runnable.e
 
 pub returns-clause-stands : goal.returns-clause-stands
 returns-clause-stands c = stands_first (image_from c.args.image.now) c.runnable.ensures.runnable (state c) (loaded c)
+
+pub open_all-requires : goal.open_all-requires
+open_all-requires c = record {
+  size =
+      ap (λ (x : Contents). x.frames) c.in_ok-memory.ensures.zero
+      ∙ ap (λ (p : Public). p.hardware.frames) c.public-public.ensures.value;
+}
+
+pub load_pages-requires-clause-size : goal.load_pages-requires-clause-size
+load_pages-requires-clause-size c =
+    c.in_ok-domains.ensures.size ∙ ap (λ (x : Contents). x.frames) c.in_ok-memory.ensures.zero
+    ∙ ap (λ (p : Public). p.hardware.frames) c.public-public.ensures.value
+
+pub load_pages-requires-clause-blank : goal.load_pages-requires-clause-blank
+load_pages-requires-clause-blank c = c.in_ok-domains.ensures.blank c.in_ok-memory.ensures.holds
+
+pub returns-clause-image : goal.returns-clause-image
+returns-clause-image c = refl
+
+pub load_pages-requires-clause-opened : goal.load_pages-requires-clause-opened
+load_pages-requires-clause-opened c = rw c.as_slice.ensures.value c.in_ok-domains.ensures.opened
+
+pub cold_l2-requires : goal.cold_l2-requires
+cold_l2-requires c = record {
+  hardware =
+      subst (λ (p : Public). IsHardware p.hardware) (sym c.public-public.ensures.value)
+      c.runnable.ensures.runnable.hardware;
+}
+
+pub cold_harts-requires : goal.cold_harts-requires
+cold_harts-requires c = record {
+  hardware =
+      subst (λ (p : Public). IsHardware p.hardware) (sym c.public-public.ensures.value)
+      c.runnable.ensures.runnable.hardware;
+  l2 = c.in_ok-l2.ensures.cold;
+}

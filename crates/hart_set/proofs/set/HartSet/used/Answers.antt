@@ -1,19 +1,53 @@
-use Rattle.std.proofs.Common.{◌≤◌, ◌<◌, length, refl, arith}
+use Rattle.std.proofs.Common.{◌≡◌, ℕ, ◌≤◌, ◌<◌, List, Some, length, refl, arith}
+use Rattle.std.specs.Prelude.{slice_get}
 use Rattle.std.proofs.lemmas.Option.{slice_get_read}
 use Rattle.sched_table.specs.Schedule.{entry_in}
 use Rattle.image_check.specs.Image.{Image, image_from}
-use Rattle.hart_set.proofs.Called.{of_image, to_image}
+use Rattle.world_view.specs.Harts.{harts}
+use Rattle.world_view.specs.Used.{largest_of, count_of}
+use Rattle.hart_set.specs.declared.set.State.{State}
+use Rattle.hart_set.specs.Standing.{StandsFor}
+use Rattle.hart_set.proofs.Called.{of_image, to_image, to_value}
 use Rattle.hart_set.proofs.Seen.{used_within}
 use Rattle.hart_set.proofs.set.HartSet.used.Goals as goal
+
+pub index-requires : goal.index-requires
+index-requires c =
+    let below =
+    of_image c.self.inside.image.now c.self.inside.state c.args.self.now c.self.view_is
+    (λ (j : Image). c.args.entry < length j.all.schedule) c.requires.entry in
+    omega (arith, below, c.self.invariant.stands.all_entries)
+
+-- the entry's, as it was found
+got : (c : goal.After-result-1)
+    → slice_get c.self.inside.state.used.items c.args.entry ≡ Some c.index.result.now
+got c =
+    let t = c.self.inside.state in
+    let e = c.args.entry in
+    let below = of_image c.self.inside.image.now t c.args.self.now c.self.view_is (λ (j : Image). e < length j.all.schedule) c.requires.entry in
+    let within : e < length t.used.items = omega (arith, below, c.self.invariant.stands.all_entries) in
+    slice_get_read t.used.items (length t.used.items) e c.index.result.now refl within c.index.ensures
+
+pub returns-clause-largest : goal.returns-clause-largest
+returns-clause-largest c =
+    let u = c.index.result.now in
+    to_value c.self.inside.image.now c.self.inside.state c.args.self.now c.self.view_is
+    (λ (i : Image) (t : State). (order : List ℕ) → StandsFor i (harts i order) t
+    → u.largest ≡ largest_of c.args.entry (harts i order).world.used)
+    (λ order stands. stands.each_entry.largest c.args.entry u (got c))
+
+pub returns-clause-count : goal.returns-clause-count
+returns-clause-count c =
+    let u = c.index.result.now in
+    to_value c.self.inside.image.now c.self.inside.state c.args.self.now c.self.view_is
+    (λ (i : Image) (t : State). (order : List ℕ) → StandsFor i (harts i order) t
+    → u.count ≡ count_of c.args.entry (harts i order).world.used)
+    (λ order stands. stands.each_entry.count c.args.entry u (got c))
 
 pub returns-clause-within : goal.returns-clause-within
 returns-clause-within c =
     let t = c.self.inside.state in
-    let i = image_from c.self.inside.image.now in
-    let e = c.args.entry in
     let u = c.index.result.now in
-    let below = of_image c.self.inside.image.now t c.args.self.now c.self.view_is (λ (j : Image). e < length j.all.schedule) c.requires.entry in
-    let within : e < length t.used.items = omega (arith, below, c.self.invariant.stands.all_entries) in
-    let got = slice_get_read t.used.items (length t.used.items) e u refl within c.index.ensures in
-    to_image c.self.inside.image.now t c.args.self.now c.self.view_is (λ (j : Image). u.largest ≤ (entry_in j.all.schedule e).pad)
-    (used_within i t c.self.invariant e u got)
+    to_image c.self.inside.image.now t c.args.self.now c.self.view_is
+    (λ (j : Image). u.largest ≤ (entry_in j.all.schedule c.args.entry).pad)
+    (used_within (image_from c.self.inside.image.now) t c.self.invariant c.args.entry u (got c))
