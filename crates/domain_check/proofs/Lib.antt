@@ -3,3 +3,5 @@ pub mod Parts
 pub mod Slots
 pub mod Shares
 pub mod CallBits
+pub mod Loops
+pub mod SegmentCases

@@ -1,20 +1,22 @@
 -- What the capability slots of a domain name, in an image that breaks no rule.
-use Rattle.std.proofs.Common.{◌≡◌, ◌≢◌, ℕ, zero, suc, ◌+◌, ◌<◌, ◌≤◌, ◌^◌, Bool, true, false, ◌||◌, List, [], ◌∷◌, length, map, take, get_or, length-take, Option, None, Some, refl, sym, subst, ◌∙◌, arith, ◌⊎◌, inl, inr, true≢false}
+use Rattle.std.proofs.Common.{◌≡◌, ◌≢◌, ℕ, zero, suc, ◌+◌, ◌<◌, ◌≤◌, ◌^◌, Bool, true, false, ◌||◌, List, [], ◌∷◌, length, map, take, get_or, length-take, Option, None, Some, refl, sym, ap, subst, ◌∙◌, arith, ◌⊎◌, inl, inr, true≢false}
 use Rattle.std.specs.Prelude.{nat_le, nat_lt, pos, if◌then◌else◌}
 use Rattle.std.specs.List.{list_any, All}
 use Rattle.std.specs.Str.{bytes_eq}
-use Rattle.std.proofs.lemmas.Bool.{or_parts, or_cases, or_left, or_right, and_parts, ltb-true, ltb-false}
+use Rattle.std.proofs.lemmas.Bool.{or_parts, or_cases, or_left, or_right, and_parts, ltb-true, ltb-false, le-ltb}
 use Rattle.std.proofs.lemmas.List.{length-map, get_or-map, get_or-take}
 use Rattle.std.proofs.lemmas.Slice.Eq.{bytes_eq-Decides}
-use Rattle.image_record.specs.declared.refusal.Refusal.{Refusal}
 use Rattle.image_record.specs.Record.{Raw, RawDomain, RawSegment, IsRawSegment, raw_domain, no_raw_domain, no_raw_segment}
 use Rattle.image_record.specs.Cases.{first_in, refusal}
 use Rattle.image_record.proofs.FirstCases.{if_first, if_rest, first_in_none, passed}
 use Rattle.domain_check.specs.declared.capabilities.InitialCap.{InitialCap}
 use Rattle.domain_check.specs.declared.capabilities.InitialCap.TheVariants.{None as NoCap, Page, Irq}
+use Rattle.domain_check.specs.declared.capabilities.Named.{Named}
+use Rattle.domain_check.specs.declared.capabilities.Named.TheVariants as the
+use Rattle.domain_check.specs.Models.{named_model}
 use Rattle.image_record.specs.Numbers.{names}
 use Rattle.domain_check.specs.CapTexts.{cap_in}
-use Rattle.domain_check.specs.Capabilities.{lies_in, again_case, named_case, k13_case, k13_domain, k13, own_cap, cap_of, IsSmallCap}
+use Rattle.domain_check.specs.Capabilities.{k13_refusal, lies_in, again_case, named_case, k13_case, k13_domain, k13, own_cap, cap_of, IsSmallCap}
 use Rattle.domain_check.specs.Segments.{segment_of}
 use Rattle.domain_check.specs.Pages.{has_page_in}
 
@@ -43,6 +45,30 @@ first_named o d earlier s (Irq n) some e =
 
 pub all_of_map : {A B : Type 0} (P : B → Type 0) (f : A → B) (xs : List A) → All P (map f xs) → All (λ x. P (f x)) xs
 all_of_map P f xs all = λ k d l. subst P (get_or-map f xs k d (f d) l) (all k (f d) (omega (arith, length-map xs f, l)))
+
+-- what a page's case is, by whether it lies in a segment, and a line's
+pub of_page : (o : RawDomain) (d : ℕ) (earlier : List (List ℕ)) (s : List ℕ) (named : Named) (n : ℕ) (b : Bool) → named ≡ the.Page n → list_any (lies_in n) o.segments ≡ b
+    → named_case o d earlier s (Some (named_model named)) ≡ (if b then again_case d earlier s else k13_refusal d (length earlier) 3)
+of_page o d earlier s named n b is h =
+    ap (λ (x : Named). named_case o d earlier s (Some (named_model x))) is
+    ∙ ap (λ (b : Bool). if b then again_case d earlier s else k13_refusal d (length earlier) 3) h
+
+pub of_line : (o : RawDomain) (d : ℕ) (earlier : List (List ℕ)) (s : List ℕ) (named : Named) (n : ℕ) (b : Bool) → named ≡ the.Irq n → names o.lines (pos n) ≡ b
+    → named_case o d earlier s (Some (named_model named)) ≡ (if b then again_case d earlier s else k13_refusal d (length earlier) 4)
+of_line o d earlier s named n b is h =
+    ap (λ (x : Named). named_case o d earlier s (Some (named_model x))) is
+    ∙ ap (λ (b : Bool). if b then again_case d earlier s else k13_refusal d (length earlier) 4) h
+
+-- where there are not too many slots, each is looked at
+pub few_slots : (earlier : List RawDomain) (o : RawDomain) (d : ℕ) (caps : List (List ℕ)) → length earlier ≡ d → o.caps ≡ caps → length caps ≤ 64
+    → k13_domain earlier o ≡ first_in (k13_case o d) caps
+unfolding k13_domain
+few_slots earlier o d caps many same few =
+    let many_slots = refusal 13 (pos (length earlier)) (pos (length o.caps)) (pos 1) in
+    let fits : nat_lt 64 (length o.caps) ≡ false = le-ltb 64 (length o.caps) (subst (λ (cs : List (List ℕ)). length cs ≤ 64) (sym same) few) in
+    ap (λ (b : Bool). if b then Some many_slots else first_in (k13_case o (length earlier)) o.caps) fits
+    ∙ ap (λ (n : ℕ). first_in (k13_case o n) o.caps) many
+    ∙ ap (λ (cs : List (List ℕ)). first_in (k13_case o d) cs) same
 
 -- ---- the slots of a domain
 

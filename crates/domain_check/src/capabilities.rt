@@ -1,5 +1,5 @@
 // K13, the rule of initial capabilities: what the text of each slot names.
-ghost use Rattle.std.specs.Prelude.{◌≡◌, ◌<◌, ◌≤◌, ◌^◌, true, map, length, string_bytes, option_map, IfSome, IfOk};
+ghost use Rattle.std.specs.Prelude.{◌≡◌, ◌<◌, ◌≤◌, ◌^◌, true, map, length, string_bytes, option_map, Some, IfSome, IfOk};
 ghost use Rattle.std.specs.Char.{is_ascii_digit};
 ghost use Rattle.std.specs.List.{All, list_any, list_all};
 ghost use Rattle.std.specs.Str.{bytes_eq};
@@ -148,6 +148,38 @@ fn again_case(d: usize, earlier: &[String], text: &str) -> Result<(), Refusal>
     Ok(())
 }
 
+/// The cases of what a text names: a page in no segment or a line of none of the
+/// domain's; then those of an earlier slot.
+fn named_case(
+    domain: &RawDomain,
+    d: usize,
+    earlier: &[String],
+    text: &str,
+    named: Named,
+) -> Result<(), Refusal>
+    requires domain { d < 2 ^ 63 }
+    requires place { length earlier.now < 2 ^ 63 }
+    requires short { texts.IsShort (named_model named) }
+    ensures verdict { IsVerdict result (spec.named_case (domain_model domain.now) d
+        (map (λ s. string_bytes s) earlier.now) text.now (Some (named_model named))) }
+{
+    match named {
+        Named::Nothing => Ok(()),
+        Named::Page(page) => {
+            if !lies_in_any(page, domain.segments.as_slice()) {
+                return Err(k13_refusal(d, earlier.len(), 3));
+            }
+            again_case(d, earlier, text)
+        }
+        Named::Irq(line) => {
+            if !names(domain.lines.as_slice(), line as i64) {
+                return Err(k13_refusal(d, earlier.len(), 4));
+            }
+            again_case(d, earlier, text)
+        }
+    }
+}
+
 #[tactic(auto, unfolding(crate::specs::Capabilities::k13_case, crate::specs::Capabilities::cap_of))]
 fn named_in(domain: &RawDomain, d: usize, earlier: &[String], text: &str) -> Result<Named, Refusal>
     requires domain { d < 2 ^ 63 }
@@ -159,21 +191,7 @@ fn named_in(domain: &RawDomain, d: usize, earlier: &[String], text: &str) -> Res
     let Some(named) = cap_in(text) else {
         return Err(k13_refusal(d, earlier.len(), 2));
     };
-    match named {
-        Named::Nothing => {}
-        Named::Page(page) => {
-            if !lies_in_any(page, domain.segments.as_slice()) {
-                return Err(k13_refusal(d, earlier.len(), 3));
-            }
-            again_case(d, earlier, text)?;
-        }
-        Named::Irq(line) => {
-            if !names(domain.lines.as_slice(), line as i64) {
-                return Err(k13_refusal(d, earlier.len(), 4));
-            }
-            again_case(d, earlier, text)?;
-        }
-    }
+    named_case(domain, d, earlier, text, named)?;
     Ok(named)
 }
 

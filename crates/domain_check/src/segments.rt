@@ -45,13 +45,13 @@ fn k12_refusal(d: usize, found: usize, case: u8) -> Refusal
 fn has_execute(rights: &str) -> bool
     ensures value { result ≡ spec.has_execute rights.now }
 {
-    rights == "x" || (rights == "rx" || rights == "rwx")
+    matches!(rights, "x" | "rx" | "rwx")
 }
 
 fn is_rights(rights: &str) -> bool
     ensures value { result ≡ spec.is_rights rights.now }
 {
-    rights == "r" || (rights == "rw" || has_execute(rights))
+    matches!(rights, "r" | "rw") || has_execute(rights)
 }
 
 /// Whether the page is one of the segment's.
@@ -95,12 +95,24 @@ fn bytes_in(alloc: Global, hex: &str) -> Result<Option<Vec<u8>>, ReadRefusal>
     }
 }
 
+/// The rights to read, and perhaps others.
+fn has_read(rights: &str) -> bool
+    ensures value { result ≡ spec.has_read rights.now }
+{
+    matches!(rights, "r" | "rw" | "rx" | "rwx")
+}
+
+/// The rights to write, and perhaps others.
+fn has_write(rights: &str) -> bool
+    ensures value { result ≡ spec.has_write rights.now }
+{
+    matches!(rights, "rw" | "rwx")
+}
+
 fn rights_of(text: &str) -> Rights
     ensures value { result ≡ spec.rights_of text.now }
 {
-    let read = text == "r" || (text == "rw" || (text == "rx" || text == "rwx"));
-    let write = text == "rw" || text == "rwx";
-    Rights::with(read, write, has_execute(text))
+    Rights::with(has_read(text), has_write(text), has_execute(text))
 }
 
 /// The cases of the bytes: more than the pages hold; then pages of another segment.

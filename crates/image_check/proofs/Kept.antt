@@ -1,6 +1,7 @@
 -- The rules one by one, and the counts that they bound.
-use Rattle.std.proofs.Common.{◌≡◌, ℕ, ◌≤◌, Bool, true, false, ◌||◌, List, [], ◌∷◌, length, Option, Some, None, Result, Ok, Err, refl, sym, ap, ◌∙◌, ◌⊎◌, inl, inr, arith}
+use Rattle.std.proofs.Common.{◌≡◌, ℕ, ◌≤◌, Bool, true, false, ◌||◌, List, [], ◌∷◌, length, Option, Some, None, Result, Ok, Err, refl, sym, ap, subst, ◌∙◌, ◌⊎◌, inl, inr, arith}
 use Rattle.std.specs.Prelude.{nat_eq, nat_lt, pos, slice_get, if◌then◌else◌, IfErr}
+use Rattle.std.specs.Result.{IsErrAnd}
 use Rattle.std.proofs.lemmas.Bool.Decides.{nat_tests}
 use Rattle.image_record.specs.declared.refusal.Refusal.{Refusal}
 use Rattle.image_record.specs.declared.refusal.ReadRefusal.{ReadRefusal}
@@ -130,9 +131,6 @@ unbroken_but_pads i k = later_alone i (broken_of rules_after_pads i []) k.before
 pub but_pads_law : ButPadsLaw
 but_pads_law i = (kept_but_pads i, unbroken_but_pads i)
 
-pub others_kept : (i : Raw) → broken_before_pads i ≡ [] → k18 i ≡ None → k19 i ≡ None → k22 i ≡ None → broken_but_pads i ≡ []
-others_kept i before calls harts last = unbroken_but_pads i (record { before = kept_before_pads i before; calls = calls; harts = harts; extensions = last })
-
 -- ---- the rule of pads comes between the others
 
 -- with the rule of pads besides
@@ -210,12 +208,6 @@ first_before_pads : (i : Raw) (r : Refusal) (later : List Refusal) → slice_get
 unfolding broken_before_pads
 first_before_pads i r later first = first_stays rules_before_pads i r later first
 
--- where nothing is due, memory alone is refused for
-pub first_of_none : {A : Type 0} → (due : List Refusal) (result : Result A ReadRefusal) → IfErr result (IsFirst []) → IfErr result (IsFirst due)
-first_of_none due (Ok x) memory = tt
-first_of_none due (Err Memory) memory = tt
-first_of_none due (Err (Broken r)) memory = absurd cc
-
 -- the first of those before the rule of pads is the first of all
 pub first_of_all : {A : Type 0} → (i : Raw) (result : Result A ReadRefusal) → IfErr result (IsFirst (broken_before_pads i)) → IfErr result (IsFirst (broken i))
 unfolding broken
@@ -236,66 +228,6 @@ unfolding broken_but_pads
 first_of_others i (Ok x) first = first
 first_of_others i (Err Memory) first = first
 first_of_others i (Err (Broken r)) first = first_before_pads i r (broken_of rules_after_pads i []) first
-
--- where the first of those after it is this one
-calls_after_pads : (i : Raw) (r : Refusal) → k18 i ≡ Some r → broken_of rules_after_pads i [] ≡ r ∷ []
-calls_after_pads i r e = after_pads i (Some r) (k19 i) (k22 i) e refl refl
-
-harts_after_pads : (i : Raw) (r : Refusal) → k18 i ≡ None → k19 i ≡ Some r → broken_of rules_after_pads i [] ≡ r ∷ []
-harts_after_pads i r calls e = after_pads i None (Some r) (k22 i) calls e refl
-
-last_after_pads : (i : Raw) (r : Refusal) → k18 i ≡ None → k19 i ≡ None → k22 i ≡ Some r → broken_of rules_after_pads i [] ≡ r ∷ []
-last_after_pads i r calls harts e = after_pads i None None (Some r) calls harts e
-
-after_of_others : (i : Raw) (r : Refusal) → broken_before_pads i ≡ [] → broken_of rules_after_pads i [] ≡ r ∷ [] → IsFirst (broken_but_pads i) (Broken r)
-unfolding broken_but_pads
-after_of_others i r before due =
-    let all = later_alone i (broken_of rules_after_pads i []) (kept_before_pads i before) ∙ due in
-    ap (λ (rs : List Refusal). slice_get rs 0) all
-
-after_of_all : (i : Raw) (r : Refusal) → broken_before_pads i ≡ [] → k17 i ≡ None → broken_of rules_after_pads i [] ≡ r ∷ [] → IsFirst (broken i) (Broken r)
-after_of_all i r before pads due =
-    let all = from_pads i None (kept_before_pads i before) pads ∙ due in
-    ap (λ (rs : List Refusal). slice_get rs 0) all
-
-pub calls_of_others : {A : Type 0} → (i : Raw) (result : Result A ReadRefusal) → broken_before_pads i ≡ []
-    → IsVerdictOrMemory result (k18 i) → IfErr result (IsFirst (broken_but_pads i))
-calls_of_others i (Ok x) before verdict = tt
-calls_of_others i (Err Memory) before verdict = tt
-calls_of_others i (Err (Broken r)) before verdict = after_of_others i r before (calls_after_pads i r verdict)
-
-pub harts_of_others : {A : Type 0} → (i : Raw) (result : Result A ReadRefusal) → broken_before_pads i ≡ []
-    → k18 i ≡ None → IsVerdictOrMemory result (k19 i) → IfErr result (IsFirst (broken_but_pads i))
-harts_of_others i (Ok x) before calls verdict = tt
-harts_of_others i (Err Memory) before calls verdict = tt
-harts_of_others i (Err (Broken r)) before calls verdict = after_of_others i r before (harts_after_pads i r calls verdict)
-
-pub last_of_others : {A : Type 0} → (i : Raw) (result : Result A ReadRefusal) → broken_before_pads i ≡ []
-    → k18 i ≡ None → k19 i ≡ None → IsVerdictOrMemory result (k22 i) → IfErr result (IsFirst (broken_but_pads i))
-last_of_others i (Ok x) before calls harts verdict = tt
-last_of_others i (Err Memory) before calls harts verdict = tt
-last_of_others i (Err (Broken r)) before calls harts verdict = after_of_others i r before (last_after_pads i r calls harts verdict)
-
-pub calls_of_all : {A : Type 0} → (i : Raw) (result : Result A ReadRefusal) → broken_before_pads i ≡ []
-    → k17 i ≡ None → IsVerdictOrMemory result (k18 i) → IfErr result (IsFirst (broken i))
-calls_of_all i (Ok x) before pads verdict = tt
-calls_of_all i (Err Memory) before pads verdict = tt
-calls_of_all i (Err (Broken r)) before pads verdict = after_of_all i r before pads (calls_after_pads i r verdict)
-
-pub harts_of_all : {A : Type 0} → (i : Raw) (result : Result A ReadRefusal) → broken_before_pads i ≡ []
-    → k17 i ≡ None → k18 i ≡ None → IsVerdictOrMemory result (k19 i) → IfErr result (IsFirst (broken i))
-harts_of_all i (Ok x) before pads calls verdict = tt
-harts_of_all i (Err Memory) before pads calls verdict = tt
-harts_of_all i (Err (Broken r)) before pads calls verdict = after_of_all i r before pads (harts_after_pads i r calls verdict)
-
-pub last_of_all : {A : Type 0} → (i : Raw) (result : Result A ReadRefusal) → broken_before_pads i ≡ []
-    → k17 i ≡ None → k18 i ≡ None → k19 i ≡ None → IsVerdictOrMemory result (k22 i) → IfErr result (IsFirst (broken i))
-last_of_all i (Ok x) before pads calls harts verdict = tt
-last_of_all i (Err Memory) before pads calls harts verdict = tt
-last_of_all i (Err (Broken r)) before pads calls harts verdict = after_of_all i r before pads (last_after_pads i r calls harts verdict)
-
-pub none_broken : (i : Raw) → broken_but_pads i ≡ [] → k17 i ≡ None → broken i ≡ []
-none_broken i others pads = unbroken i (record { others = kept_but_pads i others; pads = pads })
 
 -- ---- the machine
 
@@ -347,3 +279,24 @@ entries_pass i n = or_rest (entry_count i) (first_in (k16_entry (length i.domain
 
 pub few_domains : (i : Raw) → broken_but_pads i ≡ [] → length i.domains ≤ 32
 few_domains i e = (domains_within i (kept_but_pads i e).before.domains).most
+
+-- ---- what a `?` hands on
+
+pub first_handed : {A : Type 0} (result : Result A ReadRefusal) (e : ReadRefusal) (due : List Refusal) → IsErrAnd result (λ r. r ≡ e) → IsFirst due e → IfErr result (IsFirst due)
+first_handed (Ok x) e due h first = tt
+first_handed (Err q) e due h first = subst (IsFirst due) (sym h) first
+
+pub verdict_handed : {A : Type 0} (result : Result A ReadRefusal) (case : Option Refusal) (r : Refusal) → IsErrAnd result (λ e. e ≡ Broken r) → case ≡ Some r → IsVerdictOrMemory result case
+verdict_handed (Ok x) case r h is = absurd h
+verdict_handed (Err Memory) case r h is = tt
+verdict_handed (Err (Broken q)) case r h is = let same : q ≡ r = cc in is ∙ ap Some (sym same)
+
+-- ---- what is left of the rules
+
+-- where none before that of pads is broken, those after it
+pub others_left : (i : Raw) → broken_before_pads i ≡ [] → broken_but_pads i ≡ broken_of rules_after_pads i []
+unfolding broken_but_pads
+others_left i before = later_alone i (broken_of rules_after_pads i []) (kept_before_pads i before)
+
+pub all_left : (i : Raw) → broken_before_pads i ≡ [] → k17 i ≡ None → broken i ≡ broken_of rules_after_pads i []
+all_left i before pads = from_pads i None (kept_before_pads i before) pads

@@ -7,15 +7,12 @@ ghost use Rattle.image_check.specs.Laws.{Runnable};
 ghost use Rattle.image_check.specs.Image.{image_from, own_of};
 ghost use Rattle.image_check.specs.Models.{public_model, own_model};
 
-use crate::harts::k19;
 use crate::own::Own;
 use crate::pads::k17;
 use crate::parts::parts_of;
 use crate::public::Public;
-use crate::unpadded::{Unpadded, image_of};
+use crate::unpadded::{Unpadded, image_with};
 use crate::{CheckRefusal, laws};
-use domain_check::k18;
-use hardware_check::k22;
 use image_record::Raw;
 use std::alloc::Global;
 use std::marker::Model;
@@ -69,7 +66,6 @@ impl Checked {
 ///
 /// `Broken` with the first item of that list: the first broken rule, and the
 /// three numbers of its first broken case. `Memory` where memory runs out.
-#[tactic(auto, using(crate::proofs::Kept::none_broken, crate::proofs::Kept::others_kept))]
 pub fn check(alloc: Global, raw: Raw) -> Result<Checked, CheckRefusal>
     ensures refused { IfErr result (IsFirst (broken (raw_model raw))) }
     ensures accepted { IfOk result (λ c. broken c ≡ []) }
@@ -77,9 +73,6 @@ pub fn check(alloc: Global, raw: Raw) -> Result<Checked, CheckRefusal>
 {
     let parts = parts_of(alloc, &raw)?;
     k17(&parts.hardware, parts.domains.calls.as_slice(), &raw)?;
-    k18(&raw)?;
-    let entries = k19(alloc, &raw)?;
-    k22(&raw)?;
-    let image = image_of(alloc, raw, parts, entries.as_slice())?;
+    let image = image_with(alloc, raw, parts)?;
     Ok(Checked { image })
 }

@@ -1,12 +1,13 @@
 // An image that breaks no rule but that of pads.
-ghost use Rattle.std.specs.Prelude.{◌≡◌, ◌<◌, [], map, length, IfOk, IfErr};
+ghost use Rattle.std.specs.Prelude.{◌≡◌, ◌<◌, [], map, length, IfOk, IfErr, OnOk};
 ghost use Rattle.image_record.specs.Record.{InKeyRanges};
 ghost use Rattle.image_record.specs.Models.{raw_model};
 ghost use Rattle.pad_bound.specs.Bound.{IsShape};
 ghost use Rattle.pad_bound.specs.Models.{shape_model};
 ghost use Rattle.image_record.specs.Outcomes.{Makes};
 ghost use Rattle.image_check.specs.Outcomes.{IsFirst};
-ghost use Rattle.image_check.specs.Checking.{broken_but_pads};
+ghost use Rattle.image_check.specs.Checking.{rules_after_pads, broken_of};
+ghost use Rattle.image_check.specs.Checking.{broken_before_pads, broken_but_pads};
 ghost use Rattle.image_check.specs.Public.{entry_of};
 ghost use Rattle.image_check.specs.Image.{image_from, own_of};
 ghost use Rattle.image_check.specs.Laws.{NamesDomains};
@@ -90,12 +91,32 @@ impl Unpadded {
     }
 }
 
+/// The entries of the schedule, where none of the rules after that of pads is
+/// broken.
+///
+/// # Errors
+///
+/// `Broken` with the first of those rules that is broken; `Memory` where memory
+/// runs out.
+#[tactic(auto, unfolding(crate::specs::Checking::rules_after_pads))]
+fn entries_of(alloc: Global, raw: &Raw) -> Result<Vec<Entry>, CheckRefusal>
+    requires before { broken_before_pads (raw_model raw.now) ≡ [] }
+    ensures refused { IfErr result (IsFirst (broken_of rules_after_pads (raw_model raw.now) [])) }
+    ensures accepted { OnOk result (broken_of rules_after_pads (raw_model raw.now) [] ≡ []) }
+    ensures entries { IfOk result (λ v. v.items ≡ map entry_of (raw_model raw.now).schedule) }
+{
+    k18(raw)?;
+    let entries = k19(alloc, raw)?;
+    k22(raw)?;
+    Ok(entries)
+}
+
 /// The image of these parts and entries.
 ///
 /// # Errors
 ///
 /// `Memory` alone.
-pub(crate) fn image_of(
+fn image_of(
     alloc: Global,
     raw: Raw,
     parts: Parts,
@@ -112,6 +133,24 @@ pub(crate) fn image_of(
     Ok(Unpadded { raw, public, owns })
 }
 
+/// The image of these parts, where none of the rules after that of pads is broken.
+///
+/// # Errors
+///
+/// `Broken` with the first of those rules that is broken; `Memory` where memory
+/// runs out.
+pub(crate) fn image_with(alloc: Global, raw: Raw, parts: Parts) -> Result<Unpadded, CheckRefusal>
+    requires before { broken_before_pads (raw_model raw) ≡ [] }
+    requires hardware { hardware_model parts.hardware ≡ hardware_of (raw_model raw) }
+    requires domains { ArePartsOf parts.domains (raw_model raw).domains }
+    ensures refused { IfErr result (IsFirst (broken_of rules_after_pads (raw_model raw) [])) }
+    ensures accepted { IfOk result (λ u. broken_of rules_after_pads u [] ≡ []) }
+    ensures same { IfOk result (λ u. u ≡ raw_model raw) }
+{
+    let entries = entries_of(alloc, &raw)?;
+    image_of(alloc, raw, parts, entries.as_slice())
+}
+
 /// The image, where the list of the rules that it breaks is empty but for that
 /// of pads.
 ///
@@ -119,15 +158,11 @@ pub(crate) fn image_of(
 ///
 /// `Broken` with the first item of that list without the rule of pads. `Memory`
 /// where memory runs out.
-#[tactic(auto, using(crate::proofs::Kept::others_kept))]
 pub fn check_but_pads(alloc: Global, raw: Raw) -> Result<Unpadded, CheckRefusal>
     ensures refused { IfErr result (IsFirst (broken_but_pads (raw_model raw))) }
     ensures accepted { IfOk result (λ u. broken_but_pads u ≡ []) }
     ensures same { IfOk result (λ u. u ≡ raw_model raw) }
 {
     let parts = parts_of(alloc, &raw)?;
-    k18(&raw)?;
-    let entries = k19(alloc, &raw)?;
-    k22(&raw)?;
-    image_of(alloc, raw, parts, entries.as_slice())
+    image_with(alloc, raw, parts)
 }
