@@ -1,11 +1,11 @@
 -- No line of the kernel's colour is ever dirty.
 use Rattle.std.proofs.Common.{◌≡◌, ◌≢◌, ◌∙◌, sym, refl, ap, true≢false, eq-eqb, ne_eqb, ℕ, ◌%◌, Bool, true, false, List, [], ◌∷◌, Option, Some, None, get_or}
 use Rattle.std.specs.Prelude.{◌==◌, ◌&&◌, not, All}
+use Rattle.std.proofs.lemmas.Bool.{false_from_ne_true}
 use Rattle.std.proofs.lemmas.List.Elements.{All-head, All-tail}
 use Rattle.tp_base.specs.Table.{at-put_by}
 use Rattle.set_cache.specs.declared.KeptLine.{KeptLine}
 use Rattle.set_cache.specs.Cache.{CacheSet, Sets, fresh_set, set_at, way_of, step_of, touch_of}
-use Rattle.set_cache.proofs.Ways.{not_true}
 use Rattle.set_cache.proofs.Dirty.{EachOf, step_fits, EachDirty-empty, EachDirty-weaker, empty_kept, set_at-marked_other}
 use Rattle.l2_colour.specs.Colours.{IsColoured, colour_of_set}
 use Rattle.mem_system.specs.Hierarchy.{Hierarchy, colour_of_line}
@@ -33,7 +33,7 @@ module _ (h : Hierarchy) (coloured : IsColoured h.line_size h.l2.count) where
       at-put_by (fresh_set h.l2.ways) sets home (step_of h.l2.rule its line false).next
       (λ k (one : CacheSet). (w : ℕ) (l : KeptLine) → colour_of_set h.line_size k ≡ 0 → get_or one.places w None ≡ Some l → l.dirty ≡ false)
       (λ w l here is.
-      not_true l.dirty
+      false_from_ne_true l.dirty
       (step_fits (λ _. ⊥) h.l2.rule its line false (way_of line its.places) (λ e. true≢false (sym e)) (none_of sets clean home here) w l is))
       (λ k other w l here is. clean k w l here is) s way kept kernel at
 

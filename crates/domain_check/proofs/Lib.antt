@@ -3,5 +3,4 @@ pub mod Parts
 pub mod Slots
 pub mod Shares
 pub mod CallBits
-pub mod Loops
 pub mod SegmentCases

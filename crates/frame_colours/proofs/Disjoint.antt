@@ -2,7 +2,7 @@
 use Rattle.std.proofs.Common.{arith, ◌≡◌, ◌≢◌, ◌∙◌, sym, ap, subst, refl, ℕ, zero, suc, ◌<◌, ⊎_elim, inl, inr, Bool, true, false, true≢false, not, ◌&&◌, List, [], ◌∷◌, length, map}
 use Rattle.std.specs.Prelude.{nat_lt}
 use Rattle.std.specs.List.{list_all}
-use Rattle.std.proofs.lemmas.Bool.{cases_lt, cases_eq, ltb-true}
+use Rattle.std.proofs.lemmas.Bool.{cases_lt, cases_eq, ltb-true, false_from_ne_true}
 use Rattle.std.proofs.lemmas.List.{get_or-map, get_or_past, length-map}
 use Rattle.frame_colours.specs.Colours.{Whole, Share, IsOwn, AreDisjoint, AreApart, are_disjoint, has, colour_of, share_of, share_at, list_at}
 use Rattle.frame_colours.specs.FreeList.{FreeList, is_free, all_free}
@@ -34,10 +34,6 @@ none_of : (a : Bool) → not a ≡ true → a ≡ false
 none_of true h = absurd (true≢false (sym h))
 none_of false h = refl
 
-not_true : (a : Bool) → (a ≡ true → ⊥) → a ≡ false
-not_true true h = absurd (h refl)
-not_true false h = refl
-
 -- one more list before those that are disjoint
 with_list : (colours : ℕ) (own : List ℕ) (lists : List (List ℕ)) → list_all (λ c. nat_lt 0 c && nat_lt c colours) own ≡ true
     → list_all (λ other. list_all (λ c. not (has other c)) own) lists ≡ true → AreDisjoint colours lists → AreDisjoint colours (own ∷ lists)
@@ -51,7 +47,7 @@ with_list colours own lists good later rest = record { in_range = in_range; no_z
     in_range (suc i) c there = rest.in_range i c there
 
     no_zero : (i : ℕ) → has (list_at (own ∷ lists) i) 0 ≡ false
-    no_zero zero = not_true (has own 0) (λ there. let some : 0 < 0 = ltb-true 0 0 (ranges 0 there).0 in absurd (omega arith))
+    no_zero zero = false_from_ne_true (has own 0) (λ there. let some : 0 < 0 = ltb-true 0 0 (ranges 0 there).0 in absurd (omega arith))
     no_zero (suc i) = rest.no_zero i
 
     of_later : (j c : ℕ) → has own c ≡ true → has (list_at lists j) c ≡ true → ⊥
@@ -61,8 +57,8 @@ with_list colours own lists good later rest = record { in_range = in_range; no_z
 
     apart : (i j c : ℕ) → i ≢ j → has (list_at (own ∷ lists) i) c ≡ true → has (list_at (own ∷ lists) j) c ≡ false
     apart zero zero c other there = absurd (other refl)
-    apart zero (suc j) c other there = not_true (has (list_at lists j) c) (of_later j c there)
-    apart (suc i) zero c other there = not_true (has own c) (λ mine. of_later i c mine there)
+    apart zero (suc j) c other there = false_from_ne_true (has (list_at lists j) c) (of_later j c there)
+    apart (suc i) zero c other there = false_from_ne_true (has own c) (λ mine. of_later i c mine there)
     apart (suc i) (suc j) c other there = rest.apart i j c (λ same. other (ap suc same)) there
 
 pub disjoint_by_test : (colours : ℕ) (lists : List (List ℕ)) → are_disjoint colours lists ≡ true → AreDisjoint colours lists
@@ -103,7 +99,7 @@ apart_by_lists w lists disjoint = record {
 -- no frame is free in the pools of two lists that are disjoint
 pub pools_apart : (w : Whole) (xs ys : List ℕ) (first second : FreeList) → AreDisjoint w.colours (xs ∷ ys ∷ [])
     → first ≡ all_free (share_of w xs) → second ≡ all_free (share_of w ys) → (f : ℕ) → is_free first f ≡ true → is_free second f ≡ false
-pools_apart w xs ys first second disjoint all_first all_second f here = not_true (is_free second f) (λ there.
+pools_apart w xs ys first second disjoint all_first all_second f here = false_from_ne_true (is_free second f) (λ there.
     let of_first = IsOwn-pool (share_of w xs) f (sym (ap (λ (list : FreeList). is_free list f) all_first) ∙ here) in
     let of_second = IsOwn-pool (share_of w ys) f (sym (ap (λ (list : FreeList). is_free list f) all_second) ∙ there) in
     true≢false (sym of_second.coloured ∙ disjoint.apart 0 1 (colour_of w.colours f) (λ e. absurd (omega arith)) of_first.coloured))

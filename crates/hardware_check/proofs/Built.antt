@@ -2,7 +2,7 @@
 use Rattle.std.proofs.Common.{◌≡◌, ◌<◌, ◌≤◌, Bool, true, false, Option, None, Some, refl, arith, ltb-false}
 use Rattle.std.specs.Prelude.{pos, if◌then◌else◌, nat_lt, nat_le}
 use Rattle.std.proofs.lemmas.Bool.Decides.{nat_tests}
-use Rattle.set_cache.proofs.Powers.{power_is}
+use Rattle.hardware_check.proofs.Powers.{power_is}
 use Rattle.image_record.specs.declared.refusal.Refusal.{Refusal}
 use Rattle.image_record.specs.Record.{Raw}
 use Rattle.image_record.specs.Cases.{refusal}

@@ -1,3 +1,4 @@
+pub mod Powers
 pub mod Parts
 pub mod Products
 pub mod Built

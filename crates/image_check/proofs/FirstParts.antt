@@ -3,7 +3,6 @@ use Rattle.std.proofs.Common.{◌≡◌, ◌<◌, ℕ, List, [], ◌∷◌, ◌+
 use Rattle.std.proofs.lemmas.List.{append_assoc, map_push, length-map}
 use Rattle.std.specs.Prelude.{remove}
 use Rattle.image_record.specs.Record.{RawDomain}
-use Rattle.domain_check.specs.Models.{segment_model, named_model}
 use Rattle.image_check.specs.declared.own.DomainPart.{DomainPart}
 use Rattle.image_check.specs.declared.own.DomainParts.{DomainParts}
 use Rattle.image_check.specs.Parts.{HasFirst, BeginsWith, IsPartOf, ArePartsOf}

@@ -1,25 +1,28 @@
 -- The rules one by one, and the counts that they bound.
-use Rattle.std.proofs.Common.{◌≡◌, ℕ, ◌≤◌, Bool, true, false, ◌||◌, List, [], ◌∷◌, length, Option, Some, None, Result, Ok, Err, refl, sym, ap, subst, ◌∙◌, ◌⊎◌, inl, inr, arith}
-use Rattle.std.specs.Prelude.{nat_eq, nat_lt, pos, slice_get, if◌then◌else◌, IfErr}
+use Rattle.std.proofs.Common.{◌≡◌, ◌≤◌, List, [], ◌∷◌, length, Option, Some, None, Result, Ok, Err, refl, sym, ap, subst, ◌∙◌, ◌⊎◌, inl, inr, arith}
+use Rattle.std.specs.Prelude.{nat_eq, slice_get, IfErr}
 use Rattle.std.specs.Result.{IsErrAnd}
-use Rattle.std.proofs.lemmas.Bool.Decides.{nat_tests}
+use Rattle.std.proofs.lemmas.List.{length-map}
 use Rattle.image_record.specs.declared.refusal.Refusal.{Refusal}
 use Rattle.image_record.specs.declared.refusal.ReadRefusal.{ReadRefusal}
 use Rattle.image_record.specs.declared.refusal.ReadRefusal.TheVariants.{Broken, Memory}
 use Rattle.image_record.specs.Outcomes.{IsVerdictOrMemory}
 use Rattle.image_check.specs.Outcomes.{IsFirst}
+use Rattle.image_record.specs.declared.raw.Raw as declared
+use Rattle.image_record.specs.Models.{raw_model}
+use Rattle.image_record.specs.Parts.{domain_model}
 use Rattle.image_record.specs.Record.{Raw}
-use Rattle.image_record.specs.Cases.{first_in, refusal, count_case}
+use Rattle.image_record.specs.Cases.{first_in, count_case}
 use Rattle.hardware_check.specs.Extensions.{k22}
 use Rattle.hardware_check.specs.Laws.{KeepsParts, KeepsHardware}
 use Rattle.domain_check.specs.Names.{most_domains, k7, k7_domain}
 use Rattle.domain_check.specs.Calls.{k18}
-use Rattle.image_check.specs.Schedule.{most_entries, k16, k16_entry}
 use Rattle.image_check.specs.Pads.{k17}
-use Rattle.image_check.specs.Harts.{k19}
+use Rattle.schedule_check.specs.Harts.{k19}
+use Rattle.schedule_check.proofs.Counts.{Within, counted, at_most}
 use Rattle.image_check.specs.Checking.{rules_before_pads, rules_after_pads, ended_by, followed_by, broken_of, broken, broken_but_pads, broken_before_pads}
 use Rattle.image_check.specs.Laws.{Keeps, KeepsButPads, KeepsBeforePads, HasPadsItem, AcceptanceLaw, ButPadsLaw, PadsLaw, ExtensionsLaw}
-use Rattle.image_record.proofs.FirstCases.{or_first, or_rest, if_first}
+use Rattle.image_record.proofs.FirstCases.{or_first}
 use Rattle.hardware_check.proofs.Products.{extensions_said}
 
 -- ---- the list is empty exactly where no rule has a broken case
@@ -239,20 +242,6 @@ keeps_hardware i k = record { parts = keeps_parts i k; shared = k.shared }
 
 -- ---- counts
 
-pub record Within (low high n : ℕ) : Type 0 where
-  pub least : low ≤ n
-  pub most : n ≤ high
-
-counted : (rule at wanted most many : ℕ) → count_case rule at wanted most many ≡ None → Within 1 most many
-counted rule at wanted most many n =
-    let o = if_first (nat_lt many 1 || nat_lt most many) (refusal rule (pos at) (pos many) (pos wanted)) None n in
-    record { least = grind (arith, nat_tests, o); most = grind (arith, nat_tests, o) }
-
--- a number that depends on the version is at most the greater of both
-at_most : (first : Bool) (low high : ℕ) → low ≤ high → (if first then low else high) ≤ high
-at_most true low high l = l
-at_most false low high l = omega arith
-
 pub domains_within : (i : Raw) → k7 i ≡ None → Within 1 32 (length i.domains)
 unfolding k7
 domains_within i n =
@@ -262,23 +251,11 @@ domains_within i n =
     let few = at_most (nat_eq i.version 1) 16 32 (omega arith) in
     record { least = range.least; most = omega (arith, range.most, few) }
 
-entry_count : Raw → Option Refusal
-entry_count i = count_case 16 0 1 (most_entries i.version) (length i.schedule)
-
-pub entries_within : (i : Raw) → k16 i ≡ None → Within 1 256 (length i.schedule)
-unfolding k16 entry_count
-entries_within i n =
-    let case = or_first (entry_count i) (first_in (k16_entry (length i.domains)) i.schedule) n in
-    let range = counted 16 0 1 (most_entries i.version) (length i.schedule) case in
-    let few = at_most (nat_eq i.version 1) 64 256 (omega arith) in
-    record { least = range.least; most = omega (arith, range.most, few) }
-
-pub entries_pass : (i : Raw) → k16 i ≡ None → first_in (k16_entry (length i.domains)) i.schedule ≡ None
-unfolding k16 entry_count
-entries_pass i n = or_rest (entry_count i) (first_in (k16_entry (length i.domains)) i.schedule) n
-
 pub few_domains : (i : Raw) → broken_but_pads i ≡ [] → length i.domains ≤ 32
 few_domains i e = (domains_within i (kept_but_pads i e).before.domains).most
+
+pub few_raw_domains : (raw : declared.Raw) → broken_but_pads (raw_model raw) ≡ [] → length raw.domains.items ≤ 32
+few_raw_domains raw e = omega (arith, length-map raw.domains.items domain_model, few_domains (raw_model raw) e)
 
 -- ---- what a `?` hands on
 

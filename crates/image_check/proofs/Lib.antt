@@ -1,10 +1,7 @@
 pub mod Kept
-pub mod Entries
-pub mod HartLaws
 pub mod Padded
 pub mod OwnSlots
 pub mod Owns
 pub mod Shares
 pub mod Running
 pub mod FirstParts
-pub mod OwnInterrupts

@@ -10,7 +10,7 @@ use Rattle.domain_check.specs.Capabilities.{own_cap, cap_of}
 use Rattle.domain_check.specs.Pages.{has_page_in}
 use Rattle.domain_check.proofs.CapTexts.{cap_is}
 use Rattle.domain_check.proofs.Slots.{HasSlots, has_in}
-use Rattle.image_check.proofs.OwnInterrupts.{HasInterrupts, named_line}
+use Rattle.schedule_check.proofs.OwnInterrupts.{HasInterrupts, named_line}
 use Rattle.image_check.specs.Own.{own_from, cap_at}
 
 own_cap_is : (x : Option InitialCap) (c : InitialCap) → c ≢ NoCap → own_cap x ≡ c → x ≡ Some c

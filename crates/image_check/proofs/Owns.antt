@@ -5,7 +5,7 @@ use Rattle.std.specs.Str.{bytes_eq}
 use Rattle.std.specs.List.{list_any}
 use Rattle.std.proofs.lemmas.List.{length-map, get_or-map, get_or-take, get_or_past}
 use Rattle.std.proofs.lemmas.Option.{slice_get_within}
-use Rattle.std.proofs.lemmas.Bool.{cases_Bool, cases_lt, ltb-false, ltb-true, lt-ltb, leb-true, and_parts}
+use Rattle.std.proofs.lemmas.Bool.{cases_Bool, cases_lt, ltb-false, ltb-true, lt-ltb, leb-true, and_parts, false_from_ne_true}
 use Rattle.tp_base.specs.Rights.{rights_with, are_good}
 use Rattle.image_record.specs.Record.{Raw, RawSegment, IsRawSegment, InKeyRanges, raw_domain, no_raw_domain, no_raw_segment}
 use Rattle.image_record.specs.declared.refusal.Refusal.{Refusal}
@@ -16,10 +16,9 @@ use Rattle.image_check.specs.Pages.{has_page}
 use Rattle.domain_check.specs.Capabilities.{cap_of}
 use Rattle.image_check.specs.Own.{Own, Segment, segment_of, own_from, owns_of, no_own, own_at, no_segment, has_line}
 use Rattle.image_check.specs.Laws.{KeepsBeforePads, IsSegment, IsOwn}
-use Rattle.image_check.specs.Interrupts.{k14, moment_of}
+use Rattle.schedule_check.specs.Interrupts.{k14, moment_of}
 use Rattle.irq_partition.specs.declared.Moment.{Moment}
-use Rattle.set_cache.proofs.Ways.{not_true}
-use Rattle.image_check.proofs.OwnInterrupts.{interrupts, line_below, early, own_line, moments_sound, two_apart}
+use Rattle.schedule_check.proofs.OwnInterrupts.{interrupts, line_below, early, own_line, moments_sound, two_apart}
 use Rattle.domain_check.proofs.Slots.{any_false, slots}
 use Rattle.image_check.proofs.OwnSlots.{few_lines, has_its_page, named_once}
 use Rattle.image_record.proofs.FirstCases.{or_first, if_first, if_rest, first_in_none}
@@ -217,7 +216,7 @@ owns_sound i ranges rules d = either (cases_lt d (length i.domains))
 pub lines_owned : (i : Raw) → k14 i ≡ None → (d e n : ℕ) → d < length i.domains → e < length i.domains → d ≢ e
     → has_line (own_at (owns_of i) d) n ≡ true → has_line (own_at (owns_of i) e) n ≡ false
 unfolding own_from
-lines_owned i k d e n l m other mine = not_true (has_line (own_at (owns_of i) e) n) (λ theirs. either theirs (cases_lt e d))
+lines_owned i k d e n l m other mine = false_from_ne_true (has_line (own_at (owns_of i) e) n) (λ theirs. either theirs (cases_lt e d))
   where
     raw : (c : ℕ) → c < length i.domains → has_line (own_at (owns_of i) c) n ≡ true → has_line (own_from (raw_domain i.domains c)) n ≡ true
     raw c below h = subst (λ (o : Own). has_line o n ≡ true) (owns_at i c below) h

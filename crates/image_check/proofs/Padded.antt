@@ -8,7 +8,7 @@ use Rattle.std.proofs.lemmas.Nat.{pow-add}
 use Rattle.std.proofs.lemmas.List.{get_or-map}
 use Rattle.std.proofs.Math.Nat.{mul-mod_left}
 use Rattle.std.proofs.Math.Pow.{pow_mono}
-use Rattle.set_cache.proofs.Powers.{power_is}
+use Rattle.hardware_check.proofs.Powers.{power_is}
 use Rattle.image_record.specs.Record.{Raw, RawDomain, RawEntry}
 use Rattle.cycle_cost.specs.Costs.{ProductCosts}
 use Rattle.cycle_cost.specs.Ranges.{most_again, most_product}
@@ -25,10 +25,10 @@ use Rattle.image_record.proofs.FirstCases.{if_first, first_in_none}
 use Rattle.domain_check.specs.Calls.{own_calls}
 use Rattle.image_check.specs.Own.{own_from, owns_of, own_at}
 use Rattle.image_check.specs.Pads.{most_added, shape_for, shape_for_every_call, bound_out_of, k17, k17_case, k17_entry, k17_by}
-use Rattle.image_check.specs.Public.{entry_of}
+use Rattle.schedule_check.specs.Schedule.{entry_of}
 use Rattle.image_check.specs.Laws.{Keeps, KeepsBeforePads, ShapeLaw}
 use Rattle.image_check.proofs.Kept.{kept_but_pads, keeps_hardware}
-use Rattle.image_check.proofs.Entries.{no_text_entry}
+use Rattle.schedule_check.proofs.Entries.{no_text_entry}
 
 -- ---- the machine
 

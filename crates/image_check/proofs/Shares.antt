@@ -3,7 +3,7 @@ use Rattle.std.proofs.Common.{◌≡◌, ◌≢◌, ℕ, suc, ◌-◌, ◌<◌, 
 use Rattle.std.specs.Prelude.{pos, nat_lt}
 use Rattle.std.specs.List.{All}
 use Rattle.std.proofs.lemmas.List.{length-map, get_or-map, get_or_past}
-use Rattle.std.proofs.lemmas.Bool.{cases_lt}
+use Rattle.std.proofs.lemmas.Bool.{cases_lt, false_from_ne_true}
 use Rattle.frame_colours.specs.Colours.{AreDisjoint, whole_of, pool, has, list_at}
 use Rattle.image_record.specs.declared.raw.Raw.{Raw}
 use Rattle.image_record.specs.Models.{raw_model}
@@ -16,11 +16,10 @@ use Rattle.hardware_check.specs.Hardware.{colours_of, hardware_of}
 use Rattle.image_record.proofs.FirstCases.{if_first, first_in_none}
 use Rattle.image_record.proofs.Ranges.{Within}
 use Rattle.hardware_check.proofs.Parts.{colours_sound}
-use Rattle.set_cache.proofs.Ways.{not_true}
 use Rattle.domain_check.specs.Colours.{k9, k10, k10_domain, k10_case, need_case, need_of}
 use Rattle.image_record.proofs.Listed.{found}
 use Rattle.domain_check.proofs.Slots.{slots, small_caps}
-use Rattle.image_check.proofs.OwnInterrupts.{interrupts, named_line}
+use Rattle.schedule_check.proofs.OwnInterrupts.{interrupts, named_line}
 use Rattle.domain_check.proofs.Shares.{named, two_apart}
 use Rattle.image_check.specs.Own.{Own, Segment, IsSmallOwn, no_own, own_at, own_from, owns_of, segment_of}
 use Rattle.image_check.specs.Pages.{regions_below, frames_in, share_of}
@@ -85,8 +84,8 @@ pub disjoint_colours : (i : text.Raw) → KeepsBeforePads i → AreDisjoint (col
 unfolding lists
 disjoint_colours i k = record {
   in_range = λ d c h. let w = (of_range i k.named d).within c h in let some = (colours_sound i k.colours).least in omega (arith, w.least, w.most, some);
-  no_zero = λ d. not_true (has (list_at (lists i) d) 0) (λ h. let w = (of_range i k.named d).within 0 h in absurd (omega (arith, w.least)));
-  apart = λ d e c other h. not_true (has (list_at (lists i) e) c) (λ g. either d e c other h g (cases_lt d e));
+  no_zero = λ d. false_from_ne_true (has (list_at (lists i) d) 0) (λ h. let w = (of_range i k.named d).within 0 h in absurd (omega (arith, w.least)));
+  apart = λ d e c other h. false_from_ne_true (has (list_at (lists i) e) c) (λ g. either d e c other h g (cases_lt d e));
 }
   where
     either : (d e c : ℕ) → d ≢ e → has (list_at (lists i) d) c ≡ true → has (list_at (lists i) e) c ≡ true → (d < e) ⊎ (e ≤ d) → ⊥

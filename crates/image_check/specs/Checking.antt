@@ -7,14 +7,14 @@ use Rattle.hardware_check.specs.Hardware.{colours_of, hardware_of}
 use Rattle.hardware_check.specs.Rules.{k3, k4, k5, k6, k11}
 use Rattle.hardware_check.specs.Extensions.{k22}
 use Rattle.domain_check.specs.Names.{k7}
-use Rattle.image_check.specs.Schedule.{k16}
+use Rattle.schedule_check.specs.Schedule.{k16}
 use Rattle.domain_check.specs.Colours.{k8, k9, k10}
 use Rattle.domain_check.specs.Segments.{k12}
 use Rattle.domain_check.specs.Capabilities.{k13}
-use Rattle.image_check.specs.Interrupts.{k14, k15}
+use Rattle.schedule_check.specs.Interrupts.{k14, k15}
 use Rattle.domain_check.specs.Calls.{k18}
 use Rattle.image_check.specs.Pads.{k17}
-use Rattle.image_check.specs.Harts.{k19}
+use Rattle.schedule_check.specs.Harts.{k19}
 
 -- the rules of colours and frames, where there are as many as the machine has
 abbrev pub k8_in_machine : Raw → Option Refusal

@@ -12,17 +12,17 @@ use Rattle.hardware_check.specs.Hardware.{IsHardware, colours_of, hardware_of}
 use Rattle.hardware_check.specs.Rules.{k3, k4, k5, k6, k11}
 use Rattle.hardware_check.specs.Extensions.{k22, HasExtensions}
 use Rattle.domain_check.specs.Names.{k7}
-use Rattle.image_check.specs.Schedule.{k16}
+use Rattle.schedule_check.specs.Schedule.{k16}
 use Rattle.domain_check.specs.Colours.{k9}
 use Rattle.domain_check.specs.Segments.{k12}
 use Rattle.domain_check.specs.Capabilities.{k13}
-use Rattle.image_check.specs.Interrupts.{k14, k15}
+use Rattle.schedule_check.specs.Interrupts.{k14, k15}
 use Rattle.domain_check.specs.Calls.{k18}
 use Rattle.image_record.specs.declared.refusal.Refusal.{Refusal}
 use Rattle.sched_table.specs.Schedule.{entry_in, entries_on, IsSchedule, AreHarts}
 use Rattle.pad_bound.specs.Bound.{IsShape, bound_of}
 use Rattle.image_check.specs.Pads.{shape_for, k17}
-use Rattle.image_check.specs.Harts.{k19}
+use Rattle.schedule_check.specs.Harts.{k19}
 use Rattle.image_check.specs.Checking.{k8_in_machine, k10_in_machine, broken, broken_but_pads}
 use Rattle.image_check.specs.Own.{Segment, Own, segment_at, cap_at, has_line}
 use Rattle.image_check.specs.Pages.{has_page, has_page_in, frames_in, share_of}

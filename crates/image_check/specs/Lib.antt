@@ -1,14 +1,11 @@
-pub mod Schedule
 pub mod Own
 pub mod Pages
 pub mod Pads
 pub mod Checking
 pub mod Public
-pub mod Harts
 pub mod Image
 pub mod Laws
 pub mod Models
 pub mod Standing
 pub mod Outcomes
 pub mod Parts
-pub mod Interrupts

@@ -10,7 +10,7 @@ use Rattle.domain_check.specs.declared.capabilities.InitialCap.TheVariants.{None
 pub use Rattle.domain_check.specs.Segments.{Segment}
 unfoldable pub use Rattle.domain_check.specs.Segments.{segment_of}
 use Rattle.domain_check.specs.Capabilities.{cap_of, IsSmallCap}
-use Rattle.image_check.specs.Interrupts.{moment_of}
+use Rattle.schedule_check.specs.Interrupts.{moment_of}
 use Rattle.domain_check.specs.Calls.{calls_in}
 use Rattle.kernel_clone.specs.Permissions.{every_call}
 

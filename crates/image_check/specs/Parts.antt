@@ -4,7 +4,7 @@ use Rattle.image_record.specs.Record.{RawDomain}
 use Rattle.domain_check.specs.Colours.{own_colours}
 use Rattle.domain_check.specs.Segments.{segments_of}
 use Rattle.domain_check.specs.Capabilities.{caps_of}
-use Rattle.image_check.specs.Interrupts.{own_lines, own_moments}
+use Rattle.schedule_check.specs.Interrupts.{own_lines, own_moments}
 use Rattle.domain_check.specs.Calls.{own_calls}
 use Rattle.domain_check.specs.Models.{segment_model, named_model}
 use Rattle.image_check.specs.declared.own.DomainPart.{DomainPart}

@@ -6,14 +6,11 @@
 #![tactic(auto)]
 
 mod checked;
-mod harts;
-mod interrupts;
 pub mod laws;
 mod own;
 mod pads;
 mod parts;
 mod public;
-mod schedule;
 mod unpadded;
 
 pub use checked::{Checked, check};

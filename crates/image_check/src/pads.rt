@@ -14,7 +14,7 @@ ghost use Rattle.hardware_check.specs.Models.{hardware_model};
 ghost use Rattle.image_record.specs.Outcomes.{IsVerdict};
 ghost use Rattle.domain_check.specs.Calls.{own_calls};
 ghost use Rattle.image_check.specs.Checking.{broken_before_pads};
-ghost use Rattle.image_check.specs.Schedule.{is_number};
+ghost use Rattle.schedule_check.specs.Schedule.{is_number};
 ghost use Rattle.image_check.specs.Pads as spec;
 
 use cycle_cost::ProductCosts;
@@ -81,7 +81,7 @@ fn k17_case(bound: u64, place: usize, entry: &RawEntry) -> Result<(), Refusal>
 }
 
 /// The calls of the domain that leaves at an entry's end: its own.
-#[tactic(auto, using(crate::proofs::Entries::number_below, crate::proofs::Entries::number_natural))]
+#[tactic(auto, using(schedule_check::proofs::Entries::number_below, schedule_check::proofs::Entries::number_natural))]
 fn leaving_calls(calls: &[u32], entry: &RawEntry) -> u32
     requires domain { not (is_number (length calls.now) entry.now.domain) ≡ false }
     ensures value { result ≡ slice_index_or calls.now (spec_natural_of entry.now.domain) every_call }

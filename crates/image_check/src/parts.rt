@@ -8,12 +8,11 @@ ghost use Rattle.image_check.specs.Parts.{ArePartsOf};
 ghost use Rattle.image_check.specs.Models.{hardware_model};
 
 use crate::CheckRefusal;
-use crate::interrupts::{k14, k15};
 use crate::own::DomainParts;
-use crate::schedule::k16;
 use domain_check::{calls_in, k7, k8, k9, k10, k12, k13};
 use hardware_check::{Hardware, k3, k4, k5, k6, k11};
 use image_record::Raw;
+use schedule_check::{k14, k15, k16};
 use std::alloc::Global;
 
 /// What the rules before that of pads let through of an image, and the calls of

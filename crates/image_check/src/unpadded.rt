@@ -8,7 +8,7 @@ ghost use Rattle.image_record.specs.Outcomes.{Makes};
 ghost use Rattle.image_check.specs.Outcomes.{IsFirst};
 ghost use Rattle.image_check.specs.Checking.{rules_after_pads, broken_of};
 ghost use Rattle.image_check.specs.Checking.{broken_before_pads, broken_but_pads};
-ghost use Rattle.image_check.specs.Public.{entry_of};
+ghost use Rattle.schedule_check.specs.Schedule.{entry_of};
 ghost use Rattle.image_check.specs.Image.{image_from, own_of};
 ghost use Rattle.image_check.specs.Laws.{NamesDomains};
 ghost use Rattle.hardware_check.specs.Hardware.{hardware_of};
@@ -16,7 +16,6 @@ ghost use Rattle.image_check.specs.Parts.{ArePartsOf};
 ghost use Rattle.image_check.specs.Models.{hardware_model, public_model, own_model};
 ghost use Rattle.image_check.specs.Pads as spec;
 
-use crate::harts::k19;
 use crate::own::{Own, owns_of};
 use crate::pads::shape_for_every_call;
 use crate::parts::{Parts, parts_of};
@@ -27,6 +26,7 @@ use hardware_check::k22;
 use image_record::Raw;
 use pad_bound::Shape;
 use sched_table::Entry;
+use schedule_check::k19;
 use std::alloc::Global;
 use std::marker::Model;
 

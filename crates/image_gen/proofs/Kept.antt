@@ -22,20 +22,19 @@ use Rattle.image_check.specs.Own.{segment_of}
 use Rattle.image_check.specs.Pages.{has_region, regions_below, pages_in}
 use Rattle.image_check.specs.Checking.{k8_in_machine, k10_in_machine}
 use Rattle.domain_check.specs.Names.{k7, k7_domain}
-use Rattle.image_check.specs.Schedule.{is_number, k16, k16_case, k16_entry}
+use Rattle.schedule_check.specs.Schedule.{is_number, k16, k16_case, k16_entry, entry_of}
 use Rattle.domain_check.specs.Colours.{k8, k8_colour, k9, k10, k10_case}
 use Rattle.domain_check.specs.Segments.{bytes_in, k12, k12_domain, segment_case, entry_case}
 use Rattle.domain_check.specs.CapTexts.{cap_in, number_after}
 use Rattle.domain_check.specs.Capabilities.{k13, k13_case, k13_domain}
-use Rattle.image_check.specs.Interrupts.{k14, k14_line, k15, k15_moment, k15_domain}
+use Rattle.schedule_check.specs.Interrupts.{k14, k14_line, k15, k15_moment, k15_domain}
 use Rattle.domain_check.specs.Calls.{calls_in, k18, k18_domain}
 use Rattle.kernel_clone.specs.Permissions.{may_make, every_call}
 use Rattle.image_check.specs.Own.{own_from, owns_of, own_at}
 use Rattle.image_check.specs.Pads.{shape_for, bound_out_of, k17, k17_case, k17_entry}
 use Rattle.pad_bound.specs.Bound.{most_written, bound_of, worst_instruction, worst_operation, worst_leave, worst_prefetch, worst_flush, worst_enter}
 use Rattle.sched_table.specs.Schedule.{harts_in}
-use Rattle.image_check.specs.Public.{entry_of}
-use Rattle.image_check.specs.Harts.{k19, hart_case, k19_hart}
+use Rattle.schedule_check.specs.Harts.{k19, hart_case, k19_hart}
 use Rattle.image_check.specs.Laws.{Keeps}
 use Rattle.image_check.proofs.Kept.{acceptance_law}
 use Rattle.seed_words.specs.Words.{after, word}

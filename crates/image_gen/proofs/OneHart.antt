@@ -6,7 +6,8 @@ use Rattle.std.proofs.lemmas.List.FromFn.{length-range_with_len}
 use Rattle.seed_words.specs.Words.{word}
 use Rattle.sched_table.specs.declared.schedule.Entry.{Entry}
 use Rattle.sched_table.specs.Schedule.{harts_in}
-use Rattle.image_check.specs.Public.{entry_of, public_of}
+use Rattle.image_check.specs.Public.{public_of}
+use Rattle.schedule_check.specs.Schedule.{entry_of}
 use Rattle.image_gen.specs.Generated.{entry, at_domain, count, schedule_of, generated, image_with}
 use Rattle.image_gen.specs.Laws.{OneHartLaw}
 

@@ -2,3 +2,4 @@
 pub mod FirstCases
 pub mod Ranges
 pub mod Listed
+pub mod Loops

@@ -1,7 +1,7 @@
 -- Which frames are free after a slot was set, emptied or kept: the pool of an estate by what its slots name.
 use Rattle.std.proofs.Common.{arith, ◌≡◌, ◌≢◌, ◌∙◌, ap, sym, subst, refl, inl, inr, ℕ, suc, ◌+◌, ◌-◌, ◌<◌, ◌≤◌, Bool, true, false, true≢false, not, cond, eqb-true, ◌&&◌, List, [], ◌∷◌, length, drop, Option, Some, None}
 use Rattle.std.specs.Prelude.{filter, nat_eq, slice_get}
-use Rattle.std.proofs.lemmas.Bool.{cases_eq, cases_lt}
+use Rattle.std.proofs.lemmas.Bool.{cases_eq, cases_lt, false_from_ne_true}
 use Rattle.std.proofs.lemmas.List.{get_or_past}
 use Rattle.std.proofs.lemmas.Map.Views.{any-filter_same}
 use Rattle.phys_mem.specs.Mem.{Mem}
@@ -106,10 +106,6 @@ same_bool true b to from = sym (to refl)
 same_bool false true to from = from refl
 same_bool false false to from = refl
 
-not_true : (a : Bool) → (a ≡ true → ⊥) → a ≡ false
-not_true true h = absurd (h refl)
-not_true false h = refl
-
 -- some slot names it there where one does here
 abbrev pub Names : Estate → Slots → ℕ → Type 0
 Names e caps f = (i : ℕ) × (frame_of (claims e caps i) ≡ Some f)
@@ -184,7 +180,7 @@ module _ (e : Estate) (caps : Slots) (long : length caps ≡ 64) (a : ℕ) (belo
         → with_frame (free_of e caps) f ≡ free_of e (with_cap caps a None)
     freed mine alone =
         frame_back e caps (with_cap caps a None) f (mine_is_own e f mine) (names e caps f a was)
-        (not_true (is_named e (with_cap caps a None) f) (λ h.
+        (false_from_ne_true (is_named e (with_cap caps a None) f) (λ h.
         let n : Names e (with_cap caps a None) f = named_by e (with_cap caps a None) f h in
         elim (cases_eq n.0 a) [
           | inl same ↦ nothing_named f (ap frame_of (sym (claim_here None)) ∙ ap (λ i. frame_of (claims e (with_cap caps a None) i)) (sym same) ∙ n.1)

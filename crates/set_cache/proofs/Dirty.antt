@@ -2,11 +2,11 @@
 use Rattle.std.proofs.Common.{◌≡◌, ◌≢◌, ◌∙◌, sym, refl, ap, ap₂, subst, true≢false, eq-eqb, eqb-true, ne_eqb, ℕ, zero, suc, ◌+◌, ◌-◌, ◌*◌, ◌%◌, ◌<◌, ◌≤◌, Bool, true, false, List, [], ◌∷◌, ◌++◌, Option, Some, None, option_map, get_or, set, replicate, cond, ltb, length, arith}
 use Rattle.std.specs.Prelude.{◌==◌, ◌||◌, ◌&&◌, not, All, map, is_some, position, if◌then◌else◌, nat_lt, nat_eq}
 use Rattle.std.specs.List.{position_or_len}
+use Rattle.std.proofs.lemmas.Bool.{false_from_ne_true}
 use Rattle.std.proofs.lemmas.List.{length-map}
 use Rattle.std.proofs.lemmas.List.Elements.{All-nil, All-cons, All-append}
 use Rattle.tp_base.specs.Table.{empty, at-put_by, at-empty}
 use Rattle.set_cache.specs.Rule.{Rule}
-use Rattle.set_cache.proofs.Ways.{not_true}
 use Rattle.set_cache.specs.declared.KeptLine.{KeptLine}
 use Rattle.set_cache.specs.Cache.{Shape, CacheSet, Sets, fresh_set, set_at, is_line, is_dirty, way_of, way_for, step_by, step_of, touch_of, place_of, marked_if, marked_in, marked_of, dirty_number, with_number, dirty_numbers, places_below, dirty_lines, EachDirty}
 
@@ -107,7 +107,7 @@ EachDirty-weaker Fits Others shape sets weaker all s way line at dirty = weaker 
 module _ (places : List (Option KeptLine)) (none : EachOf (λ _. ⊥) places) where
   clean_kept : (way : ℕ) (old : Option KeptLine) → get_or places way None ≡ old → is_dirty old ≡ false
   clean_kept way None at = refl
-  clean_kept way (Some line) at = not_true line.dirty (none way line at)
+  clean_kept way (Some line) at = false_from_ne_true line.dirty (none way line at)
 
 pub clean_victim : (rule : Rule) (its : CacheSet) (number : ℕ) (store : Bool) (found : Option ℕ) → EachOf (λ _. ⊥) its.places
     → (step_by rule its number store found).answer.dirty_victim ≡ false

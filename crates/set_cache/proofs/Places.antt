@@ -2,7 +2,7 @@
 use Rattle.std.proofs.Common.{◌≡◌, ◌≢◌, ℕ, suc, ◌+◌, ◌*◌, ◌<◌, ◌≤◌, ◌%◌, ◌/◌, true, false, ◌∷◌, List, [], length, get_or, Option, Some, None, option_map, is_some, refl, ap, sym, subst, ◌∙◌, arith, inl, inr}
 use Rattle.std.proofs.lemmas.List.Quantifiers.{position-Some}
 use Rattle.std.proofs.lemmas.Nat.{div-mul-add, mod-mul-add}
-use Rattle.std.proofs.lemmas.Bool.{cases_eq, false≢true}
+use Rattle.std.proofs.lemmas.Bool.{cases_eq, false≢true, false_from_ne_true}
 use Rattle.std.proofs.lemmas.Bool.Decides.{nat_tests}
 use Rattle.std.proofs.lemmas.List.{get_or_default}
 use Rattle.std.proofs.lemmas.List.Sums.{sum_by-le}
@@ -13,7 +13,7 @@ use Rattle.set_cache.specs.Cache.{is_line, is_dirty, dirty_in, way_of}
 use Rattle.set_cache.specs.Contents.{KeptSet, Contents, IsSound, kept_at}
 use Rattle.set_cache.specs.Lines.{MovesLines, AllKept, IsClean, place_in, mark_of, dirty_kept}
 use Rattle.set_cache.proofs.Powers.{positive}
-use Rattle.set_cache.proofs.Ways.{one_line, not_true, way_at, kept_before}
+use Rattle.set_cache.proofs.Ways.{one_line, way_at, kept_before}
 
 -- a place that is an option of a way is that way's
 pub mapped : (f : ℕ → ℕ) (o : Option ℕ) (place : ℕ) → option_map f o ≡ Some place
@@ -119,7 +119,7 @@ dirty-clean takes stands contents sound clean =
     let kept : KeptSet = get_or table s d in
     let here : kept ≡ kept_at table s = get_or_default table s d _ lt in
     let none : dirty_in kept.places
-    ≡ 0 = none_dirty kept.places (λ way. not_true (is_dirty (get_or kept.places way None)) (λ t.
+    ≡ 0 = none_dirty kept.places (λ way. false_from_ne_true (is_dirty (get_or kept.places way None)) (λ t.
     let line = dirty_line (get_or kept.places way None) t in
     let home : line.0 % length table ≡ s =
     sound.home s line.0 way

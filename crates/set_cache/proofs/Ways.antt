@@ -5,7 +5,7 @@ use Rattle.std.proofs.lemmas.List.{get_or_past}
 use Rattle.std.proofs.lemmas.List.Quantifiers.{position-Some}
 use Rattle.std.proofs.lemmas.List.Folds.{position_or_len-set}
 use Rattle.std.proofs.lemmas.List.Sums.{position_or_len_is, fails_before_first}
-use Rattle.std.proofs.lemmas.Bool.{cases_eq, cases_lt, false≢true}
+use Rattle.std.proofs.lemmas.Bool.{cases_eq, cases_lt, false≢true, false_from_ne_true}
 use Rattle.std.proofs.lemmas.Bool.Decides.{nat_tests}
 use Rattle.std.specs.Prelude.{◌||◌}
 use Rattle.std.specs.List.{position_or_len}
@@ -19,23 +19,19 @@ use Rattle.set_cache.specs.Lines.{MovesLines, MovesMarks, mark_of}
 abbrev pub line_of : ℕ → Bool → Option KeptLine
 line_of number dirty = Some (record { number = number; dirty = dirty })
 
-pub not_true : (b : Bool) → (b ≡ true → ⊥) → b ≡ false
-not_true true n = absurd (n refl)
-not_true false n = refl
-
 -- a way keeps one line
 pub one_line : (a b : ℕ) (h : Option KeptLine) → is_line a h ≡ true → is_line b h ≡ true → a ≡ b
 one_line a b None x y = absurd (false≢true x)
 one_line a b (Some line) x y = grind (arith, nat_tests)
 
 other_line : (a b : ℕ) (h : Option KeptLine) → is_line a h ≡ true → b ≢ a → is_line b h ≡ false
-other_line a b h x n = not_true (is_line b h) (λ y. n (one_line b a h y x))
+other_line a b h x n = false_from_ne_true (is_line b h) (λ y. n (one_line b a h y x))
 
 not_victim : (n : ℕ) (h : Option KeptLine) → option_map (λ (line : KeptLine). line.number) h ≢ Some n
     → is_line n h ≡ false
 not_victim n None other = refl
 not_victim n (Some line) other =
-    not_true (eqb line.number n)
+    false_from_ne_true (eqb line.number n)
     (λ t. let e : line.number ≡ n = grind (arith, nat_tests) in other (ap Some e))
 
 victim_is_line : (n : ℕ) (h : Option KeptLine) → option_map (λ (line : KeptLine). line.number) h ≡ Some n
@@ -86,7 +82,7 @@ none_of_way n ps missing k =
 pub others_of_way : (n way : ℕ) (ps : List (Option KeptLine)) → IsOnce ps
     → is_line n (get_or ps way None) ≡ true
     → (k : ℕ) → k ≢ way → is_line n (get_or ps k None) ≡ false
-others_of_way n way ps once here k other = not_true (is_line n (get_or ps k None))
+others_of_way n way ps once here k other = false_from_ne_true (is_line n (get_or ps k None))
     (λ t. other (once n k way t here))
 
 -- what another line stands at after the write, it stood at before
@@ -267,7 +263,7 @@ gone_filled ps way number v dirty lt once missing was =
     λ same. false≢true
     (sym (none way) ∙ subst (λ (m : ℕ). is_line m (get_or ps way None) ≡ true) same was) in
     let left : (k : ℕ) → is_line v (get_or (set ps way new) k None) ≡ false =
-    λ k. not_true (is_line v (get_or (set ps way new) k None)) (λ t.
+    λ k. false_from_ne_true (is_line v (get_or (set ps way new) k None)) (λ t.
     let at : k ≡ way = once v k way (came_put ps way number dirty lt v k n t) was in
     let u : is_line v (get_or (set ps way new) way None) ≡ true =
     subst (λ (j : ℕ). is_line v (get_or (set ps way new) j None) ≡ true) at t in
@@ -406,4 +402,4 @@ no_dirty_victim answer number store before after marks clean = of answer.victim 
   where
     of : (victim : Option ℕ) → answer.victim ≡ victim → answer.dirty_victim ≡ false
     of None e = marks.clean e
-    of (Some v) e = not_true answer.dirty_victim (λ dirty. clean v ((marks.given_up v e).0 ∙ ap Some dirty))
+    of (Some v) e = false_from_ne_true answer.dirty_victim (λ dirty. clean v ((marks.given_up v e).0 ∙ ap Some dirty))

@@ -6,6 +6,7 @@ ghost use Rattle.image_record.specs.Models.{raw_model};
 ghost use Rattle.image_record.specs.Outcomes.{Makes};
 ghost use Rattle.image_check.specs.Checking.{broken_but_pads};
 ghost use Rattle.image_check.specs.Public as spec;
+ghost use Rattle.schedule_check.specs.Schedule.{entry_of};
 ghost use Rattle.hardware_check.specs.Hardware.{hardware_of as spec_hardware_of};
 ghost use Rattle.image_check.specs.Models.{hardware_model, public_model};
 
@@ -44,7 +45,7 @@ fn harts_of(alloc: Global, entries: &[Entry]) -> Result<Vec<HartSchedule>, Check
 /// # Errors
 ///
 /// `Memory` alone.
-#[tactic(auto, unfolding(crate::specs::Public::public_of), using(crate::proofs::Entries::few_raw_domains))]
+#[tactic(auto, unfolding(crate::specs::Public::public_of), using(crate::proofs::Kept::few_raw_domains))]
 pub fn public_of(
     alloc: Global,
     raw: &Raw,
@@ -53,7 +54,7 @@ pub fn public_of(
 ) -> Result<Public, CheckRefusal>
     requires accepted { broken_but_pads (raw_model raw.now) ≡ [] }
     requires hardware { hardware_model hardware ≡ spec_hardware_of (raw_model raw.now) }
-    requires entries { entries.now ≡ map spec.entry_of (raw_model raw.now).schedule }
+    requires entries { entries.now ≡ map entry_of (raw_model raw.now).schedule }
     ensures value { Makes public_model result (spec.public_of (raw_model raw.now)) }
 {
     let schedule = schedule_of(alloc, entries)?;

@@ -6,7 +6,7 @@ use Rattle.std.proofs.lemmas.Bool.{cases_Bool}
 use Rattle.std.proofs.lemmas.Bool.Decides.{nat_tests}
 use Rattle.std.proofs.lemmas.Nat.{mul-le}
 use Rattle.std.proofs.Math.Nat.{pow-le-pow_right}
-use Rattle.set_cache.proofs.Powers.{power_is}
+use Rattle.hardware_check.proofs.Powers.{power_is}
 use Rattle.set_cache.specs.Calls as cache
 use Rattle.repl_policy.specs.Members.{any_takes, any_rule}
 use Rattle.repl_policy.specs.Halves.{depth_of}

@@ -2,7 +2,7 @@
 use Rattle.std.proofs.Common.{◌≡◌, ℕ, ◌/◌, ◌<◌, false, refl, arith, ◌∙◌}
 use Rattle.std.proofs.Math.Nat.{mul_comm}
 use Rattle.tp_base.specs.Ranges.{IsFrameNo}
-use Rattle.set_cache.proofs.Powers.{power_is}
+use Rattle.hardware_check.proofs.Powers.{power_is}
 use Rattle.kernel_clone.specs.Footprints.{IsLayout}
 use Rattle.kernel_clone.proofs.LineLaws.{whole_lines}
 use Rattle.l2_colour.specs.Colours.{IsColoured}

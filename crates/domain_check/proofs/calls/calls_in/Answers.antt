@@ -1,7 +1,7 @@
 use Rattle.std.proofs.Common.{sym, ap, map, ◌∙◌}
 use Rattle.image_record.specs.Parts.{domain_model}
 use Rattle.domain_check.specs.Calls.{own_calls}
-use Rattle.domain_check.proofs.Loops.{unmade, made_from, all_made_of}
+use Rattle.image_record.proofs.Loops.{unmade, made_from, all_made_of}
 use Rattle.domain_check.proofs.calls.calls_in.Goals as goal
 
 pub returns-in_err-push : goal.returns-in_err-push

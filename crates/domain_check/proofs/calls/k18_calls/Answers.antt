@@ -1,7 +1,7 @@
 use Rattle.std.proofs.Common.{◌≡◌, rules, pos, get_or, to_z, of_z, w64, sym, ◌∙◌, arith}
 use Rattle.image_record.specs.Cases.{first_in}
 use Rattle.domain_check.specs.Calls.{k18_call}
-use Rattle.domain_check.proofs.Loops.{refused, passed, found, ended}
+use Rattle.image_record.proofs.Loops.{refused, passed, found, ended}
 use Rattle.domain_check.proofs.calls.k18_calls.Goals as goal
 
 pub returns-in_err-k18_call : goal.returns-in_err-k18_call

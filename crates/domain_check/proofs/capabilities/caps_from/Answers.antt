@@ -1,6 +1,6 @@
 use Rattle.std.proofs.Common.{refl, sym, ◌∙◌}
 use Rattle.domain_check.specs.Models.{named_model}
-use Rattle.domain_check.proofs.Loops.{unmade, made, all_made}
+use Rattle.image_record.proofs.Loops.{unmade, made, all_made}
 use Rattle.domain_check.proofs.capabilities.caps_from.Goals as goal
 
 pub returns-in_err-push : goal.returns-in_err-push

@@ -3,7 +3,7 @@ use Rattle.image_record.specs.Parts.{domain_model}
 use Rattle.image_record.specs.Cases.{first_in}
 use Rattle.domain_check.specs.Models.{named_model}
 use Rattle.domain_check.specs.Capabilities.{k13, k13_domain, caps_of}
-use Rattle.domain_check.proofs.Loops.{handed_on, no_memory, no_value, passed_of, found_of, ended_of, made_of, all_made_of}
+use Rattle.image_record.proofs.Loops.{handed_on, no_memory, no_value, passed_of, found_of, ended_of, made_of, all_made_of}
 use Rattle.domain_check.proofs.capabilities.k13.Goals as goal
 
 pub returns-in_err-k13_domain-clause-verdict : goal.returns-in_err-k13_domain-clause-verdict

@@ -4,7 +4,7 @@ use Rattle.std.proofs.lemmas.List.{length-map}
 use Rattle.image_record.specs.Parts.{domain_model}
 use Rattle.domain_check.specs.Models.{named_model}
 use Rattle.domain_check.specs.Capabilities.{k13_case, cap_of}
-use Rattle.domain_check.proofs.Loops.{broken, no_memory, no_value, passed_of, found_of, ended_of, made_of, all_made_of}
+use Rattle.image_record.proofs.Loops.{broken, no_memory, no_value, passed_of, found_of, ended_of, made_of, all_made_of}
 use Rattle.domain_check.proofs.Slots.{few_slots}
 use Rattle.domain_check.proofs.capabilities.k13_domain.Goals as goal
 

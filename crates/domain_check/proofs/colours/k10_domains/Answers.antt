@@ -2,7 +2,7 @@ use Rattle.std.proofs.Common.{sym, ap, ◌∙◌}
 use Rattle.frame_colours.specs.Colours.{whole_of}
 use Rattle.image_record.specs.Parts.{domain_model}
 use Rattle.domain_check.specs.Colours.{own_colours, k10_case, k10_domain}
-use Rattle.domain_check.proofs.Loops.{refused, passed_of, found_of, ended_of, count_of}
+use Rattle.image_record.proofs.Loops.{refused, passed_of, found_of, ended_of, count_of}
 use Rattle.domain_check.proofs.Parts.{part_at}
 use Rattle.domain_check.proofs.colours.k10_domains.Goals as goal
 

@@ -1,7 +1,7 @@
 use Rattle.std.proofs.Common.{◌≡◌, rules, pos, get_or, to_z, of_z, w64, sym, ◌∙◌}
 use Rattle.image_record.specs.Numbers.{natural_of}
 use Rattle.domain_check.specs.Colours.{k8_colour}
-use Rattle.domain_check.proofs.Loops.{broken, no_memory, no_value, passed, found, ended, made, all_made}
+use Rattle.image_record.proofs.Loops.{broken, no_memory, no_value, passed, found, ended, made, all_made}
 use Rattle.domain_check.proofs.colours.k8_colours.Goals as goal
 
 pub returns-in_err-k8_colour-clause-verdict : goal.returns-in_err-k8_colour-clause-verdict

@@ -3,7 +3,7 @@ use Rattle.image_record.specs.Parts.{domain_model}
 use Rattle.image_record.specs.Cases.{first_in}
 use Rattle.image_record.specs.Numbers.{natural_of}
 use Rattle.domain_check.specs.Colours.{k8_colour, k8_domain, own_colours}
-use Rattle.domain_check.proofs.Loops.{handed_on, no_memory, no_value, passed_of, found_of, ended_of, count_of, made_of, all_made_of}
+use Rattle.image_record.proofs.Loops.{handed_on, no_memory, no_value, passed_of, found_of, ended_of, count_of, made_of, all_made_of}
 use Rattle.domain_check.proofs.colours.k8_domains.Goals as goal
 
 pub returns-in_err-k8_colours-clause-verdict : goal.returns-in_err-k8_colours-clause-verdict

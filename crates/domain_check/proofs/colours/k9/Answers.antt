@@ -2,7 +2,7 @@ use Rattle.std.proofs.Common.{map, take, sym, ap, ◌∙◌}
 use Rattle.image_record.specs.Parts.{domain_model}
 use Rattle.image_record.specs.Cases.{first_in}
 use Rattle.domain_check.specs.Colours.{k9, k9_domain, k9_colour}
-use Rattle.domain_check.proofs.Loops.{refused, passed_of, found_of, ended_of}
+use Rattle.image_record.proofs.Loops.{refused, passed_of, found_of, ended_of}
 use Rattle.domain_check.proofs.colours.k9.Goals as goal
 
 pub returns-in_err-k9_colours : goal.returns-in_err-k9_colours

@@ -3,7 +3,7 @@ use Rattle.std.proofs.lemmas.List.{length-map}
 use Rattle.image_record.specs.Parts.{domain_model}
 use Rattle.image_record.specs.Cases.{refusal}
 use Rattle.domain_check.specs.Colours.{same_colour, k9_colour}
-use Rattle.domain_check.proofs.Loops.{passed, found, ended}
+use Rattle.image_record.proofs.Loops.{passed, found, ended}
 use Rattle.domain_check.proofs.colours.k9_colours.Goals as goal
 
 pub returns-in-Some : goal.returns-in-Some

@@ -1,7 +1,7 @@
 use Rattle.std.proofs.Common.{sym, ◌∙◌}
 use Rattle.image_record.specs.Parts.{domain_model}
 use Rattle.domain_check.specs.Names.{k7_domain}
-use Rattle.domain_check.proofs.Loops.{refused, passed_of, found_of, ended_of}
+use Rattle.image_record.proofs.Loops.{refused, passed_of, found_of, ended_of}
 use Rattle.domain_check.proofs.names.k7_domains.Goals as goal
 
 pub returns-in_err-k7_domain : goal.returns-in_err-k7_domain

@@ -3,7 +3,7 @@ use Rattle.std.specs.Str.{bytes_eq}
 use Rattle.std.specs.Prelude.{if◌then◌else◌, string_bytes}
 use Rattle.image_record.specs.Parts.{domain_model}
 use Rattle.domain_check.specs.Names.{named_so}
-use Rattle.domain_check.proofs.Loops.{passed_of, found_of, ended_of, count_of}
+use Rattle.image_record.proofs.Loops.{passed_of, found_of, ended_of, count_of}
 use Rattle.domain_check.proofs.names.named_so.Goals as goal
 
 pub returns-then-eq-clause-value : goal.returns-then-eq-clause-value

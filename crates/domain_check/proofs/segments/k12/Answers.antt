@@ -3,7 +3,7 @@ use Rattle.image_record.specs.Parts.{domain_model}
 use Rattle.image_record.specs.Cases.{first_in}
 use Rattle.domain_check.specs.Models.{segment_model as part_model}
 use Rattle.domain_check.specs.Segments.{k12, k12_domain, segments_of}
-use Rattle.domain_check.proofs.Loops.{handed_on, no_memory, no_value, passed_of, found_of, ended_of, made_of, all_made_of}
+use Rattle.image_record.proofs.Loops.{handed_on, no_memory, no_value, passed_of, found_of, ended_of, made_of, all_made_of}
 use Rattle.domain_check.proofs.segments.k12.Goals as goal
 
 pub returns-in_err-k12_domain-clause-verdict : goal.returns-in_err-k12_domain-clause-verdict

@@ -3,7 +3,7 @@ use Rattle.std.proofs.lemmas.List.{length-map}
 use Rattle.image_record.specs.Parts.{domain_model, segment_model}
 use Rattle.image_record.specs.Cases.{or_else, first_in}
 use Rattle.domain_check.specs.Segments.{segment_case, entry_case, k12_domain, segment_of}
-use Rattle.domain_check.proofs.Loops.{handed_on, broken, no_value}
+use Rattle.image_record.proofs.Loops.{handed_on, broken, no_value}
 use Rattle.domain_check.proofs.segments.k12_domain.Goals as goal
 
 pub returns-in_err-segments-clause-verdict : goal.returns-in_err-segments-clause-verdict

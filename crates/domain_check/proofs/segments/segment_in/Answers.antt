@@ -2,7 +2,7 @@ use Rattle.std.proofs.Common.{◌≡◌, ◌<◌, ◌≤◌, ◌+◌, true, fals
 use Rattle.std.proofs.lemmas.List.{length-map}
 use Rattle.image_record.specs.Parts.{segment_model}
 use Rattle.domain_check.specs.Segments.{k12_refusal, is_rights, rights_of, bytes_in, bytes_case}
-use Rattle.domain_check.proofs.Loops.{broken}
+use Rattle.image_record.proofs.Loops.{broken}
 use Rattle.domain_check.proofs.SegmentCases.{past_case, rights_case, rest_case, segment_is}
 use Rattle.domain_check.proofs.segments.segment_in.Goals as goal
 

@@ -2,7 +2,7 @@ use Rattle.std.proofs.Common.{map, sym, ◌∙◌}
 use Rattle.image_record.specs.Parts.{segment_model}
 use Rattle.domain_check.specs.Models.{segment_model as part_model}
 use Rattle.domain_check.specs.Segments.{segment_case, segment_of}
-use Rattle.domain_check.proofs.Loops.{handed_on, no_memory, no_value, passed_of, found_of, ended_of, made_of, all_made_of}
+use Rattle.image_record.proofs.Loops.{handed_on, no_memory, no_value, passed_of, found_of, ended_of, made_of, all_made_of}
 use Rattle.domain_check.proofs.segments.segments_in.Goals as goal
 
 pub returns-in_err-segment_in-clause-verdict : goal.returns-in_err-segment_in-clause-verdict

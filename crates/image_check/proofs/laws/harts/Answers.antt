@@ -1,4 +1,4 @@
-use Rattle.image_check.proofs.HartLaws.{harts_law}
+use Rattle.image_check.proofs.Running.{harts_law}
 use Rattle.image_check.proofs.laws.harts.Goals as goal
 
 pub returns : goal.returns

@@ -11,10 +11,10 @@ use Rattle.image_record.specs.Cases.{first_in}
 use Rattle.hardware_check.specs.Hardware.{Hardware, hardware_of}
 use Rattle.image_record.specs.Outcomes.{IsVerdict}
 use Rattle.domain_check.specs.Calls.{own_calls}
-use Rattle.image_check.specs.Schedule.{is_number}
+use Rattle.schedule_check.specs.Schedule.{is_number}
 use Rattle.image_check.specs.Pads.{shape_for_every_call, k17, k17_by}
 use Rattle.image_check.proofs.Kept.{kept_before_pads}
-use Rattle.image_check.proofs.Entries.{all_numbered}
+use Rattle.schedule_check.proofs.Entries.{all_numbered}
 use Rattle.image_check.proofs.Padded.{shape_before_pads, k17_by_calls}
 use Rattle.image_check.proofs.pads.k17.Goals as goal
 

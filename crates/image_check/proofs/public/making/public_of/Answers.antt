@@ -2,8 +2,8 @@ use Rattle.std.proofs.Common.{sym, subst}
 use Rattle.image_record.specs.Models.{raw_model}
 use Rattle.sched_table.specs.Schedule.{IsSchedule, AreHarts}
 use Rattle.image_check.proofs.Kept.{kept_but_pads}
-use Rattle.image_check.proofs.Entries.{schedule_sound}
-use Rattle.image_check.proofs.HartLaws.{harts_kept}
+use Rattle.schedule_check.proofs.Entries.{schedule_sound}
+use Rattle.schedule_check.proofs.HartsKept.{harts_kept}
 use Rattle.image_check.proofs.public.making.public_of.Goals as goal
 
 pub harts_of-requires : goal.harts_of-requires
