@@ -1,6 +1,5 @@
 -- The rules of colours and frames, each with its first broken case.
-use Rattle.std.specs.Prelude.{ℕ, ◌+◌, ◌-◌, ◌≤◌, ◌||◌, not, nat_lt, ℤ, pos, int_lt, Bool, if◌then◌else◌, List, length, map, Option, Some, None}
-use Rattle.std.specs.List.{list_any}
+use Rattle.std.specs.Prelude.{ℕ, ◌+◌, ◌-◌, ◌≤◌, ◌||◌, nat_lt, ℤ, pos, if◌then◌else◌, List, length, map, Option, Some, None}
 use Rattle.frame_colours.specs.Colours.{Whole, share_of, pool}
 use Rattle.image_record.specs.declared.refusal.Refusal.{Refusal}
 use Rattle.image_record.specs.Record.{Raw, RawDomain}

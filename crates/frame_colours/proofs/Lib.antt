@@ -3,3 +3,4 @@ pub mod Pools
 pub mod Placed
 pub mod Rounds
 pub mod Disjoint
+pub mod Splits

@@ -1,11 +1,10 @@
 -- Frames round by round: each round of all colours has as many frames of a pool.
-use Rattle.std.proofs.Common.{arith, ◌≡◌, ◌∙◌, sym, ap, subst, refl, add-zero, ℕ, Bool, true, false, zero, suc, ◌+◌, ◌-◌, ◌*◌, ◌/◌, ◌%◌, ◌<◌, ◌≤◌, List, length, cond, ◌⊎◌, inl, inr}
-use Rattle.std.specs.Prelude.{filter, nat_eq}
+use Rattle.std.proofs.Common.{arith, ◌≡◌, ◌∙◌, sym, ap, subst, refl, add-zero, ℕ, Bool, true, false, zero, suc, ◌+◌, ◌-◌, ◌*◌, ◌/◌, ◌%◌, ◌<◌, ◌≤◌, List, length, cond}
+use Rattle.std.specs.Prelude.{filter}
 use Rattle.std.specs.List.{range_with_len}
-use Rattle.std.proofs.lemmas.Bool.{cases_lt}
 use Rattle.std.proofs.lemmas.Nat.{mod-mul-add, div-add-mod', mod_below}
 use Rattle.std.proofs.Math.Nat.{mod-eq_of_lt, suc-mul, zero-mul}
-use Rattle.frame_colours.specs.Colours.{Share, has, has_colour, colour_of, pool, share_of, whole_of}
+use Rattle.frame_colours.specs.Colours.{has, has_colour, colour_of, pool, share_of, whole_of}
 use Rattle.frame_colours.proofs.Pools.{length_more}
 
 at_most : (t : Bool) → cond t 1 0 ≤ 1

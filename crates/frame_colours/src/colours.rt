@@ -41,7 +41,6 @@ impl AllColours {
     ///
     /// # Errors
     /// `Memory` where no memory is left for them; no share is left then.
-    #[tactic(auto, using(crate::proofs::Disjoint::apart_by_lists))]
     pub fn split(self, alloc: Global, lists: &[Vec<u8>]) -> Result<Vec<ColourShare>, Memory>
         requires disjoint { AreDisjoint self.colours (colours_in lists.now) }
         ensures shares { IfOk result (λ shares.

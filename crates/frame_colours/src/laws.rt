@@ -3,7 +3,7 @@ ghost use Rattle.std.specs.Prelude.{◌≡◌, ◌≢◌, ℕ, ◌^◌, ◌<◌,
 ghost use Rattle.frame_colours.specs.Colours.{Whole, Share, IsOwn, pool, frame_at, whole_of, share_of, AreDisjoint, are_disjoint, AreApart};
 ghost use Rattle.frame_colours.specs.FreeList.{FreeList, IsFreeList, is_free, all_free, without_least, with_frame};
 
-use crate::{AllColours, Pool};
+use crate::{AllColours, ColourShare, Pool};
 use std::alloc::Global;
 use tp_base::Memory;
 
@@ -54,7 +54,6 @@ pub fn take_and_give(pool: &mut Pool)
 ///
 /// # Errors
 /// `Memory` where no memory is left for them.
-#[tactic(auto, using(crate::proofs::Disjoint::disjoint_by_test))]
 pub fn two_pools(
     alloc: Global,
     frames: u32,
@@ -73,6 +72,26 @@ pub fn two_pools(
     ensures apart { IfOk result (λ pools. (f : ℕ)
         → is_free pools.0 f ≡ true → is_free pools.1 f ≡ false) }
 {
+    let (first, second) = two_shares(alloc, frames, colours, first, second)?;
+    pools_of(alloc, first, second)
+}
+
+// The two shares.
+#[tactic(auto, using(crate::proofs::Disjoint::disjoint_by_test))]
+fn two_shares(
+    alloc: Global,
+    frames: u32,
+    colours: u32,
+    first: &[u8],
+    second: &[u8],
+) -> Result<(ColourShare, ColourShare), Memory>
+    requires frames { frames ≤ 2 ^ 15 }
+    requires some { 0 < colours }
+    requires few { colours ≤ 64 }
+    requires disjoint { are_disjoint colours (first.now ∷ second.now ∷ []) ≡ true }
+    ensures first { IfOk result (λ shares. shares.0 ≡ share_of (whole_of frames colours) first.now) }
+    ensures second { IfOk result (λ shares. shares.1 ≡ share_of (whole_of frames colours) second.now) }
+{
     let first = Vec::from_slice(alloc, first)?;
     let second = Vec::from_slice(alloc, second)?;
     let lists = vec![in alloc; first, second]?;
@@ -80,6 +99,14 @@ pub fn two_pools(
     let first = shares.remove(0);
     let second = shares.remove(0);
     shares.destroy_empty();
+    Ok((first, second))
+}
+
+// A pool of each of two shares.
+fn pools_of(alloc: Global, first: ColourShare, second: ColourShare) -> Result<(Pool, Pool), Memory>
+    ensures first { IfOk result (λ pools. pools.0 ≡ all_free first) }
+    ensures second { IfOk result (λ pools. pools.1 ≡ all_free second) }
+{
     let first = match Pool::new(alloc, first) {
         Ok(pool) => pool,
         Err((share, error)) => {

@@ -1,5 +1,5 @@
 -- What a hart's next switch goes by, as the code finds it.
-use Rattle.std.proofs.Common.{◌≡◌, ◌∙◌, ℕ, zero, suc, ◌<◌, List, Some, length, refl, sym, ap, subst, arith}
+use Rattle.std.proofs.Common.{◌≡◌, ◌∙◌, ℕ, zero, suc, ◌<◌, List, Some, None, length, refl, sym, ap, subst, arith}
 use Rattle.std.specs.Prelude.{slice_get, slice_index_or}
 use Rattle.kernel_clone.specs.Models.{layout_model}
 use Rattle.sched_table.specs.declared.schedule.Entry.{Entry}
@@ -41,6 +41,10 @@ turn_on es own h k t same entry begins ended last =
     subst (λ (xs : List Entry). IsTurn xs k t) same (record { entry = entry; start = begins; ended = ended; last_end = last })
 
 -- ---- the domain whose slot was last
+
+-- nobody's before its first slot
+pub clone_first : (i : Image) (es : List Entry) (k : ℕ) → k ≡ 0 → None ≡ clone_of i (outgoing es k)
+clone_first i es k none = ap (λ (n : ℕ). clone_of i (outgoing es n)) (sym none)
 
 module _ (i : Image) (t : State) (h : ℕ) (x : CodeHart) (c : Called i t h x) (ended : Entry)
     (is : ended ≡ entry_in (on_hart i.all.schedule h) (switch_entry (on_hart i.all.schedule h) x.slots)) where

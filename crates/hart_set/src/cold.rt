@@ -14,11 +14,8 @@ use std::alloc::Global;
 use tp_base::Memory;
 use world_view::geometry_of;
 
-/// A second level with nothing in it.
-///
-/// # Errors
-/// `Memory` where no memory is left for it.
-pub fn cold_l2(alloc: Global, hardware: &Hardware) -> Result<L2<AnyPolicy>, Memory>
+// A second level with nothing in it.
+fn cold_l2(alloc: Global, hardware: &Hardware) -> Result<L2<AnyPolicy>, Memory>
     requires hardware { IsHardware (hardware_model hardware.now) }
     ensures cold { IfOk result (IsColdL2 (hierarchy (hardware_model hardware.now))) }
 {
@@ -62,11 +59,8 @@ fn cold_hart(alloc: Global, hardware: &Hardware, l2: &L2<AnyPolicy>) -> Result<H
     })
 }
 
-/// So many harts before their boots, over one second level with nothing in it.
-///
-/// # Errors
-/// `Memory` where no memory is left for them.
-pub fn cold_harts(
+// So many harts before their boots, over one second level with nothing in it.
+fn cold_harts(
     alloc: Global,
     hardware: &Hardware,
     l2: &L2<AnyPolicy>,
@@ -83,4 +77,23 @@ pub fn cold_harts(
         harts.push_reserved(cold_hart(alloc, hardware, l2)?);
     }
     Ok(harts)
+}
+
+/// A second level with nothing in it, and so many harts before their boots over it.
+///
+/// # Errors
+/// `Memory` where no memory is left for them.
+pub fn cold_caches(
+    alloc: Global,
+    hardware: &Hardware,
+    many: usize,
+) -> Result<(L2<AnyPolicy>, Vec<Hart>), Memory>
+    requires hardware { IsHardware (hardware_model hardware.now) }
+    ensures all { IfOk result (λ cold. length cold.1.items ≡ many) }
+    ensures each { IfOk result (λ cold.
+        All (IsColdHart (hierarchy (hardware_model hardware.now)) cold.0) cold.1.items) }
+{
+    let l2 = cold_l2(alloc, hardware)?;
+    let harts = cold_harts(alloc, hardware, &l2, many)?;
+    Ok((l2, harts))
 }

@@ -13,6 +13,7 @@ mod choice;
 mod cold;
 mod hart;
 pub mod laws;
+mod placed;
 mod run;
 mod set;
 

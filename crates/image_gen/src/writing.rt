@@ -1,6 +1,8 @@
 // The parts of a generated image's text.
 ghost use Rattle.std.specs.Prelude.{◌≡◌, ◌++◌, ◌<◌, ◌^◌, string_bytes, IfOk, OnOk};
+ghost use Rattle.hex.specs.Hex.{encode_lower};
 ghost use Rattle.seed_words.specs.Words.{after};
+ghost use Rattle.image_gen.specs.Program.{program_bytes};
 ghost use Rattle.image_gen.specs.Text as spec;
 
 use crate::Memory;
@@ -126,6 +128,26 @@ fn write_segments(text: &mut String, hex: &str) -> Result<(), AllocError>
     )
 }
 
+/// The program that the next 64 words choose, in hexadecimal.
+fn program_hex(alloc: Global, words: &mut Lcg64Xsh32) -> Result<String, Memory>
+    ensures text { IfOk result (λ s. string_bytes s ≡ encode_lower (program_bytes words.old)) }
+    ensures drawn { OnOk result (words.new ≡ after 64 words.old) }
+{
+    let program = program(alloc, words)?;
+    Ok(hex::encode(alloc, program.as_slice())?)
+}
+
+/// Domain `number`, with these interrupts and this program.
+fn write_with(text: &mut String, number: u32, moments: &str, hex: &str) -> Result<(), AllocError>
+    requires number { number < 2 ^ 8 }
+    ensures added { OnOk result (string_bytes text.new
+        ≡ string_bytes text.old ++ spec.domain_text_with number moments.now hex.now) }
+{
+    write_name(text, number)?;
+    write_interrupts(text, number, moments)?;
+    write_segments(text, hex)
+}
+
 /// Domain `number`, made by the next 72 words.
 #[tactic(auto, using(seed_words::proofs::Draws::after_next))]
 pub fn write_domain(
@@ -139,12 +161,9 @@ pub fn write_domain(
         ≡ string_bytes text.old ++ spec.domain_text number words.old) }
     ensures drawn { OnOk result (words.new ≡ after 72 words.old) }
 {
-    let program = program(alloc, words)?;
-    let hex = hex::encode(alloc, program.as_slice())?;
+    let hex = program_hex(alloc, words)?;
     let moments = moments(alloc, number, words)?;
-    write_name(text, number)?;
-    write_interrupts(text, number, moments.as_str())?;
-    write_segments(text, hex.as_str())?;
+    write_with(text, number, moments.as_str(), hex.as_str())?;
     Ok(())
 }
 

@@ -1,6 +1,7 @@
 -- Loops that go through a list up to its first broken case, and gather what each item makes.
-use Rattle.std.proofs.Common.{◌≡◌, ℕ, ◌+◌, ◌<◌, ◌≤◌, List, [], ◌∷◌, ◌++◌, length, map, take, drop, get_or, Option, Some, None, Result, Ok, Err, sym, ap, subst, ◌∙◌, length-take, arith}
-use Rattle.std.specs.Prelude.{IfOk}
+use Rattle.std.proofs.Common.{◌≡◌, Bool, true, false, ℕ, ◌+◌, ◌<◌, ◌≤◌, List, [], ◌∷◌, ◌++◌, length, map, take, drop, get_or, Option, Some, None, Result, Ok, Err, sym, ap, subst, ◌∙◌, length-take, arith}
+use Rattle.std.specs.Prelude.{IfOk, ◌||◌}
+use Rattle.std.specs.List.{list_any}
 use Rattle.std.specs.Result.{IsErr, IsErrAnd}
 use Rattle.std.proofs.lemmas.List.{append_assoc, append-nil, length-map, drop_all, drop_more, take_more, map_push, map_more}
 use Rattle.image_record.specs.declared.refusal.Refusal.{Refusal}
@@ -120,3 +121,23 @@ made_of m h g old new xs k x d v below is pushed same = made_from h g (map m old
 
 pub all_made_of : {A B C : Type 0} (h : B → C) (g : A → B) (vs : List C) (xs : List A) (k : ℕ) → length xs ≤ k → vs ++ map h (map g (drop k xs)) ≡ vs
 all_made_of h g vs xs k past = ap (λ ys. vs ++ map h (map g ys)) (drop_all k xs past) ∙ append-nil vs
+
+-- ---- whether any of the items from here on passes a test
+
+-- this item doesn't
+pub any_more : {A B : Type 0} (p : B → Bool) (g : A → B) (xs : List A) (k : ℕ) (x d : A) → k < length xs → x ≡ get_or xs k d → p (g x) ≡ false
+    → list_any p (map g (drop (k + 1) xs)) ≡ list_any p (map g (drop k xs))
+any_more p g xs k x d below is none =
+    let rest = drop (k + 1) xs in
+    sym (ap (λ ys. list_any p (map g ys)) (drop_more xs k d below ∙ ap (λ y. y ∷ rest) (sym is)) ∙ ap (λ b. b || list_any p (map g rest)) none)
+
+-- this item does
+pub any_found : {A B : Type 0} (p : B → Bool) (g : A → B) (xs : List A) (k : ℕ) (x d : A) → k < length xs → x ≡ get_or xs k d → p (g x) ≡ true
+    → list_any p (map g (drop k xs)) ≡ true
+any_found p g xs k x d below is passes =
+    let rest = drop (k + 1) xs in
+    ap (λ ys. list_any p (map g ys)) (drop_more xs k d below ∙ ap (λ y. y ∷ rest) (sym is)) ∙ ap (λ b. b || list_any p (map g rest)) passes
+
+-- no item is left
+pub any_ended : {A B : Type 0} (p : B → Bool) (g : A → B) (xs : List A) (k : ℕ) → length xs ≤ k → list_any p (map g (drop k xs)) ≡ false
+any_ended p g xs k past = ap (λ ys. list_any p (map g ys)) (drop_all k xs past)

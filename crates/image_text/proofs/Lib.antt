@@ -1,5 +1,6 @@
 -- The lemmas of the crate.
 pub mod Counts
+pub mod Loops
 pub mod KeyRows
 pub mod WholeRows
 pub mod Ranges

@@ -1,6 +1,6 @@
 -- A core and a second level that were just made.
-use Rattle.std.proofs.Common.{◌≡◌, ℕ, List, Option, None, refl, ap, ◌∙◌}
-use Rattle.std.specs.Prelude.{option_map}
+use Rattle.std.proofs.Common.{◌≡◌, ℕ, List, Option, None, Result, Ok, Err, refl, ap, subst, ◌∙◌}
+use Rattle.std.specs.Prelude.{option_map, IfOk}
 use Rattle.std.proofs.lemmas.List.{length-replicate}
 use Rattle.tp_base.specs.Table.{empty}
 use Rattle.cycle_cost.specs.declared.Costs.{Costs}
@@ -16,6 +16,17 @@ use Rattle.mem_system.specs.declared.geometry.Geometry.{Geometry}
 use Rattle.mem_system.specs.Cost.{cold, fresh_core}
 use Rattle.mem_system.specs.Contents.{CoreContents, CoreStands, SystemStands, hierarchy_of, system}
 use Rattle.mem_system.specs.Geometry.{hierarchy_by, shape_by, costs_of, product_costs_of}
+
+-- what is true of each of two parts, where both could be made
+pub of_first : {A B E : Type 0} (P : A → Type 0) (first : Result A E) (both : Result (A × B) E)
+    → IfOk both (λ made. first ≡ Ok made.0) → IfOk first P → IfOk both (λ made. P made.0)
+of_first P first (Ok made) is true_of = subst (λ o. IfOk o P) is true_of
+of_first P first (Err e) is true_of = tt
+
+pub of_second : {A B E : Type 0} (P : B → Type 0) (second : Result B E) (both : Result (A × B) E)
+    → IfOk both (λ made. second ≡ Ok made.1) → IfOk second P → IfOk both (λ made. P made.1)
+of_second P second (Ok made) is true_of = subst (λ o. IfOk o P) is true_of
+of_second P second (Err e) is true_of = tt
 
 -- a new cache has the shape that it was made with
 pub shape_made : {P : Type 0} (takes : P → ℕ → Type 0) (rule : P → ℕ → Rule) (stands : P → ℕ → ℕ → List ℕ → Type 0)

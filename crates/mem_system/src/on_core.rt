@@ -1,6 +1,6 @@
 // What a core has of its own. Each call sees the core first, and hands on to
 // the second level what the core doesn't hold.
-ghost use Rattle.std.specs.Prelude.{◌≡◌, ◌<◌, ◌^◌, ℕ, Some, None, IfOk};
+ghost use Rattle.std.specs.Prelude.{◌≡◌, ◌<◌, ◌^◌, ℕ, Some, None, Ok, IfOk};
 ghost use Rattle.tp_base.specs.Ranges.{IsLine};
 ghost use Rattle.branch_pred.specs.Guesses.{AreSizes, fresh_guesses};
 ghost use Rattle.set_cache.specs.Calls.{IsNew, IsTouch};
@@ -158,8 +158,8 @@ impl<P: Policy> OnCore<P> {
         ensures kept { IfOk result (λ core. (mem : Mem) (frames root : ℕ)
             → KeepsLeaves mem frames root core.tlb) }
     {
-        let (predictor, tlb) = new_guides(alloc, predictor, tlb)?;
-        let (l1i, l1d) = new_first_level(alloc, l1i, l1d)?;
+        let guides = new_guides(alloc, predictor, tlb);
+        let ((predictor, tlb), (l1i, l1d)) = both(guides, new_first_level(alloc, l1i, l1d))?;
         Ok(OnCore {
             costs,
             products,
@@ -542,6 +542,19 @@ impl<P: Policy> OnCore<P> {
     }
 }
 
+// Two parts, where both could be made. (Handed on as it is, a `Result` is nothing
+// that a caller would have to drop.)
+fn both<A: Drop, B: Drop>(
+    first: Result<A, Memory>,
+    second: Result<B, Memory>,
+) -> Result<(A, B), Memory>
+    ensures first { IfOk result (λ made. first ≡ Ok made.0) }
+    ensures second { IfOk result (λ made. second ≡ Ok made.1) }
+{
+    let first = first?;
+    Ok((first, second?))
+}
+
 // A predictor and a translation buffer that hold nothing. They are made apart from
 // the caches, so that what is made first is given back at few places.
 fn new_guides<P: Policy>(
@@ -555,10 +568,10 @@ fn new_guides<P: Policy>(
     ensures tlb { IfOk result (λ made. IsNew P.takes P.stands_for tlb.policy tlb.sets tlb.ways made.1.pages) }
     ensures none { IfOk result (λ made. (page : ℕ) → leaf_of made.1 page ≡ None) }
 {
-    Ok((
-        Predictor::new(alloc, predictor)?,
-        Tlb::new(alloc, tlb.policy, tlb.sets, tlb.ways)?,
-    ))
+    both(
+        Predictor::new(alloc, predictor),
+        Tlb::new(alloc, tlb.policy, tlb.sets, tlb.ways),
+    )
 }
 
 // The caches of the first level, which hold nothing.
@@ -572,10 +585,10 @@ fn new_first_level<P: Policy>(
     ensures l1i { IfOk result (λ made. IsNew P.takes P.stands_for l1i.policy l1i.sets l1i.ways made.0) }
     ensures l1d { IfOk result (λ made. IsNew P.takes P.stands_for l1d.policy l1d.sets l1d.ways made.1) }
 {
-    Ok((
-        L1I::new(alloc, l1i.policy, l1i.sets, l1i.ways)?,
-        L1D::new(alloc, l1d.policy, l1d.sets, l1d.ways)?,
-    ))
+    both(
+        L1I::new(alloc, l1i.policy, l1i.sets, l1i.ways),
+        L1D::new(alloc, l1d.policy, l1d.sets, l1d.ways),
+    )
 }
 
 // A load from a line, or a store to it, and the line that was given up for it.

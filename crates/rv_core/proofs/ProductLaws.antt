@@ -1,7 +1,7 @@
 -- The two words of a product are the product.
 use Rattle.std.proofs.Common.{◌≡◌, ℕ, zero, suc, ◌+◌, ◌-◌, ◌*◌, ◌/◌, ◌%◌, ◌^◌, ◌<◌}
 use Rattle.std.proofs.Common.{ℤ, pos, negsuc, ◌+ℤ◌, ◌*ℤ◌, neg_ℤ, unsigned_abs, FitsSigned}
-use Rattle.std.proofs.Common.{ap, ◌∙◌, inl, inr, lit<, arith}
+use Rattle.std.proofs.Common.{ap, sym, subst, ◌∙◌, inl, inr, lit<, arith}
 use Rattle.std.specs.Int.{w64, cast_signed, cast_unsigned}
 use Rattle.std.proofs.lemmas.Int.{ints, to_z_pos, to_z-of_z, fits_signed_mul}
 use Rattle.std.proofs.lemmas.Nat.{shr_split}
@@ -104,3 +104,26 @@ upper-signed a b f g =
     let y = to_z-of_z w64 (signed b) (wide b g) in
     let product = to_z-of_z w64 (signed a *ℤ signed b) (fits-high a b f g) in
     (λ i. upper_word (handed (x i *ℤ y i))) ∙ ap upper_word product
+
+pub upper-mixed : (a b : ℕ) → a < 2 ^ 32 → b < 2 ^ 32
+    → upper_word (handed (handed (signed a) *ℤ handed (pos b))) ≡ product_of HighSignedUnsigned a b
+upper-mixed a b f g =
+    let second : FitsSigned w64 (pos b) = record { sfits = omega arith } in
+    let x = to_z-of_z w64 (signed a) (wide a f) in
+    let y = to_z-of_z w64 (pos b) second in
+    let product = to_z-of_z w64 (signed a *ℤ pos b) (fits-mixed a b f g) in
+    (λ i. upper_word (handed (x i *ℤ y i))) ∙ ap upper_word product
+
+-- no product overflows
+fits-handed : (x y z w : ℤ) → x ≡ z → y ≡ w → FitsSigned w64 z → FitsSigned w64 w → FitsSigned w64 (z *ℤ w)
+    → FitsSigned w64 (handed x *ℤ handed y)
+fits-handed x y z w p q f g fits =
+    let a = ap handed p ∙ to_z-of_z w64 z f in
+    let b = ap handed q ∙ to_z-of_z w64 w g in
+    subst (FitsSigned w64) (sym (λ i. a i *ℤ b i)) fits
+
+pub fits-signed : (a b : ℕ) (x y : ℤ) → a < 2 ^ 32 → b < 2 ^ 32 → x ≡ signed a → y ≡ signed b → FitsSigned w64 (handed x *ℤ handed y)
+fits-signed a b x y f g p q = fits-handed x y (signed a) (signed b) p q (wide a f) (wide b g) (fits-high a b f g)
+
+pub fits-half_signed : (a b : ℕ) (x y : ℤ) → a < 2 ^ 32 → b < 2 ^ 32 → x ≡ signed a → y ≡ pos b → FitsSigned w64 (handed x *ℤ handed y)
+fits-half_signed a b x y f g p q = fits-handed x y (signed a) (pos b) p q (wide a f) (record { sfits = omega arith }) (fits-mixed a b f g)

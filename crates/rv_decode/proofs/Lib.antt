@@ -1,3 +1,4 @@
 pub mod Immediates
 pub mod WordLaws
 pub mod WithoutMuldiv
+pub mod Decoded

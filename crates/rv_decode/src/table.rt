@@ -1,6 +1,6 @@
 // Which instruction a word is.
 ghost use Rattle.std.specs.Prelude.{◌≡◌, true, false, IfSome};
-ghost use Rattle.rv_decode.specs.Fields.{opcode_of, funct3_of};
+ghost use Rattle.rv_decode.specs.Fields.{funct3_of};
 ghost use Rattle.rv_decode.specs.Table.{comparison_of, load_width_of, store_width_of};
 ghost use Rattle.rv_decode.specs.Table.{immediate_operation_of, register_operation_of, operand_of};
 ghost use Rattle.rv_decode.specs.Table.{product_of, division_of, muldiv_of, register_form_of, without_muldiv};
@@ -132,9 +132,6 @@ fn muldiv_of(word: u32) -> Option<Instr>
 #[inline(always)]
 fn register_form_of(word: u32, muldiv: bool) -> Option<Instr>
     ensures value { result ≡ register_form_of muldiv word }
-    ensures word { opcode_of word ≡ 0b0110011 → IfSome result (λ instr. IsWordOf muldiv instr word) }
-    ensures registers { IfSome result HasRegisters }
-    ensures immediates { IfSome result HasImmediates }
 {
     match funct7(word) {
         0b000_0001 if muldiv => muldiv_of(word),
@@ -189,16 +186,11 @@ fn system_of(word: u32) -> Option<Instr>
     }
 }
 
-/// The instruction that a word is, `None` where it is none of RV32I's 40
-/// instructions and no read of a counter, nor, where `muldiv` says that the
-/// machine has products and divisions, one of the M extension's 8. A FENCE
-/// counts by its opcode and funct3 alone.
+// What `decode` promises beside the table's instruction is proved of the table,
+// there, and not of each arm here.
 #[inline(always)]
-pub fn decode(word: u32, muldiv: bool) -> Option<Instr>
+fn instruction_of(word: u32, muldiv: bool) -> Option<Instr>
     ensures value { result ≡ decode_of muldiv word }
-    ensures word { IfSome result (λ instr. IsWordOf muldiv instr word) }
-    ensures registers { IfSome result HasRegisters }
-    ensures immediates { IfSome result HasImmediates }
 {
     match opcode(word) {
         0b011_0111 => Some(Instr::Lui {
@@ -253,6 +245,20 @@ pub fn decode(word: u32, muldiv: bool) -> Option<Instr>
         0b111_0011 => system_of(word),
         _ => None,
     }
+}
+
+/// The instruction that a word is, `None` where it is none of RV32I's 40
+/// instructions and no read of a counter, nor, where `muldiv` says that the
+/// machine has products and divisions, one of the M extension's 8. A FENCE
+/// counts by its opcode and funct3 alone.
+#[inline(always)]
+pub fn decode(word: u32, muldiv: bool) -> Option<Instr>
+    ensures value { result ≡ decode_of muldiv word }
+    ensures word { IfSome result (λ instr. IsWordOf muldiv instr word) }
+    ensures registers { IfSome result HasRegisters }
+    ensures immediates { IfSome result HasImmediates }
+{
+    instruction_of(word, muldiv)
 }
 
 /// The other direction of `decode`: each word that the manual's table gives an

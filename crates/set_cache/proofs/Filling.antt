@@ -1,7 +1,7 @@
 -- Sets fill in the order of their ways, and none of these is emptied by itself.
 use Rattle.std.proofs.Common.{◌≡◌, ◌≢◌, ℕ, zero, suc, ◌+◌, ◌<◌, ◌≤◌, Bool, true, false, cond, ltb, List, [], map, length, get_or, set, Option, Some, None, is_some, replicate, refl, ap, sym, subst, ◌∙◌, arith, inl, inr, unwrap_or, get_or-set_same, get_or-set_other}
 use Rattle.std.proofs.Math.ListN.{length-map}
-use Rattle.std.proofs.lemmas.List.{get_or_past, get_or-map}
+use Rattle.std.proofs.lemmas.List.{get_or_default, get_or_past, get_or-map}
 use Rattle.std.proofs.lemmas.List.Quantifiers.{position-Some}
 use Rattle.std.proofs.lemmas.List.Sums.{position_or_len_is, fails_before_first}
 use Rattle.std.proofs.lemmas.Bool.{cases_eq, cases_lt, false≢true}
@@ -53,6 +53,16 @@ passes_first p xs d i within here before =
     position_or_len_is p xs i d (omega (arith, within)) (λ k below. before k below) (λ _. here) in
     let t : ltb i (length xs) ≡ true = grind (arith, nat_tests) in
     rw (at, t)
+
+-- one more element fails
+pub fails_more : {A : Type 0} (p : A → Bool) (xs : List A) (n : ℕ) (e : A) → n < length xs → p (get_or xs n e) ≡ false
+    → ((k : ℕ) (d : A) → k < n → p (get_or xs k d) ≡ false) → (k : ℕ) (d : A) → k < n + 1 → p (get_or xs k d) ≡ false
+fails_more p xs n e within here before k d below =
+    elim (cases_lt k n) [
+      | inl lt ↦ before k d lt
+      | inr ge ↦ let same : k ≡ n = omega (arith, below, ge) in
+          ap (λ i. p (get_or xs i d)) same ∙ ap p (get_or_default xs n d e within) ∙ here
+    ]
 
 -- nothing stands in a fresh set
 abbrev nothing : Option KeptLine

@@ -1,5 +1,6 @@
 -- The line that was touched last: that it is so after a touch, and that a second touch of it changes nothing.
-use Rattle.std.proofs.Common.{◌≡◌, ℕ, ◌+◌, ◌*◌, ◌<◌, ◌%◌, Bool, true, false, List, [], length, get_or, set, Option, Some, None, option_map, refl, ap, sym, subst, ◌∙◌, arith}
+use Rattle.std.specs.Prelude.{IfSome}
+use Rattle.std.proofs.Common.{◌≡◌, ℕ, ◌+◌, ◌*◌, ◌<◌, ◌≤◌, ◌%◌, ◌^◌, Bool, true, false, List, [], length, get_or, set, Option, Some, None, option_map, refl, ap, sym, subst, ◌∙◌, arith}
 use Rattle.std.proofs.Math.ListN.{length-set}
 use Rattle.std.proofs.lemmas.List.{get_or_default, set-get_or}
 use Rattle.std.proofs.lemmas.List.Quantifiers.{position-Some}
@@ -10,13 +11,14 @@ use Rattle.set_cache.specs.Rule.{Rule}
 use Rattle.set_cache.specs.declared.KeptLine.{KeptLine}
 use Rattle.set_cache.specs.declared.cache.LastTouch.{LastTouch}
 use Rattle.set_cache.specs.Cache.{Sets, is_line, is_dirty, way_of, place_of}
-use Rattle.set_cache.specs.Contents.{KeptSet, Contents, StandsFor, IsSound, kept_at, shape_of}
+use Rattle.set_cache.specs.Contents.{KeptSet, Contents, StandsFor, IsSound, AreFirst, kept_at, shape_of}
 use Rattle.set_cache.specs.Lines.{place_in}
 use Rattle.set_cache.specs.Last.{IsLast, IsCache, set_in}
-use Rattle.set_cache.specs.Calls.{IsTouch}
+use Rattle.set_cache.specs.Calls.{IsTouch, IsGeometry}
+use Rattle.set_cache.specs.Packed.{fresh_sets}
 use Rattle.set_cache.proofs.Powers.{positive}
 use Rattle.set_cache.proofs.Ways.{hit_answer, at_filled}
-use Rattle.set_cache.proofs.Sets.{OneTouch, IsOfTable, with_set, of_new, OneHit, HitsWay, hit_places, found_hit, touch_of_hit, table_hit, OneFill, FillsWay, touch_of_fill, table_fill, once_at}
+use Rattle.set_cache.proofs.Sets.{OneTouch, IsOfTable, with_set, of_new, OneHit, HitsWay, hit_places, fresh_cache, fresh_is_new, found_hit, touch_of_hit, table_hit, OneFill, FillsWay, touch_of_fill, table_fill, once_at}
 
 -- the way at which the touched line stands then, and that the policy's state lets it be hit again
 pub record LeavesLast (rule : Rule) (stands : ℕ → List ℕ → Type 0) (t : OneTouch) (way : ℕ) : Type 0 where
@@ -127,6 +129,15 @@ set_below takes stands cache set number sound home =
     let below = mod_below number (length cache.table) (positive (length cache.table) sound.power) in
     omega (arith, below, home)
 
+-- and a place in it is a number of 32 bits
+pub place_fits : {P : Type 0} (takes : P → ℕ → Type 0) (stands : P → ℕ → ℕ → List ℕ → Type 0)
+    (cache : Contents P) (set number ways way : ℕ) → IsSound takes stands cache → set ≡ number % length cache.table
+    → ways ≡ cache.ways → way < cache.ways → set * ways + way < 2 ^ 32
+place_fits takes stands cache set number ways way sound home same within =
+    let below = set_below takes stands cache set number sound home in
+    let row = row_fits set cache.ways (length cache.table) cache.ways below (omega arith) in
+    subst (λ (w : ℕ). set * w + way < 2 ^ 32) (sym same) (omega (arith, row, within, sound.small))
+
 -- its way is one of the cache's
 pub way_below : {P : Type 0} (takes : P → ℕ → Type 0) (rule : P → ℕ → Rule)
     (stands : P → ℕ → ℕ → List ℕ → Type 0) (cache : Contents P) (last : LastTouch)
@@ -149,6 +160,80 @@ last_below takes rule stands cache last sound is =
     let way = way_below takes rule stands cache last sound is in
     let row = row_fits s cache.ways (length cache.table) cache.ways below (omega arith) in
     omega (arith, row, is.place, way)
+
+-- ---- what a look-up tells
+
+-- where a cache keeps a line
+pub record IsPlaced {P : Type 0} (takes : P → ℕ → Type 0) (rule : P → ℕ → Rule) (stands : P → ℕ → ℕ → List ℕ → Type 0)
+    (contents : Contents P) (number : ℕ) (place : Option ℕ) : Type 0 where
+  pub here : place ≡ place_in contents number
+  pub listed : (sets : Sets) → StandsFor stands contents sets → place ≡ place_of (shape_of rule contents) sets number
+  pub below : IfSome place (λ p. p < length contents.table * contents.ways)
+  pub sound : IsSound takes stands contents
+
+-- the line that was touched last is at its place
+pub last_placed : {P : Type 0} (takes : P → ℕ → Type 0) (rule : P → ℕ → Rule)
+    (stands : P → ℕ → ℕ → List ℕ → Type 0) (cache : Contents P) (last : LastTouch)
+    → IsSound takes stands cache → IsLast rule stands cache last
+    → IsPlaced takes rule stands cache last.number (Some last.place)
+last_placed takes rule stands cache last sound is =
+    let here = sym (last_place rule stands cache last is) in
+    record {
+      here = here;
+      listed = λ sets for. here ∙ place_stands takes rule stands cache sound sets for last.number;
+      below = last_below takes rule stands cache last sound is;
+      sound = sound;
+    }
+
+place_below : {P : Type 0} (takes : P → ℕ → Type 0) (stands : P → ℕ → ℕ → List ℕ → Type 0)
+    (cache : Contents P) (number set : ℕ) (way : Option ℕ) → IsSound takes stands cache
+    → set ≡ number % length cache.table → way ≡ way_of number (kept_at cache.table set).places
+    → IfSome (option_map (λ w. set * cache.ways + w) way) (λ p. p < length cache.table * cache.ways)
+place_below takes stands cache number set None sound home found = tt
+place_below takes stands cache number set (Some way) sound home found =
+    let below = set_below takes stands cache set number sound home in
+    let full : length (kept_at cache.table set).places ≡ cache.ways = sound.full set _ below in
+    let at = position-Some (is_line number) (kept_at cache.table set).places way None (sym found) in
+    let row = row_fits set cache.ways (length cache.table) cache.ways below (omega arith) in
+    omega (arith, row, at.0, full)
+
+-- a line is where its set keeps it
+pub set_placed : {P : Type 0} (takes : P → ℕ → Type 0) (rule : P → ℕ → Rule)
+    (stands : P → ℕ → ℕ → List ℕ → Type 0) (cache : Contents P) (number set : ℕ) (way : Option ℕ)
+    → IsSound takes stands cache → set ≡ number % length cache.table
+    → way ≡ way_of number (kept_at cache.table set).places
+    → IsPlaced takes rule stands cache number (option_map (λ w. set * cache.ways + w) way)
+set_placed takes rule stands cache number set way sound home found =
+    let here : option_map (λ w. set * cache.ways + w) way ≡ place_in cache number =
+    ap (option_map (λ w. set * cache.ways + w)) found
+    ∙ ap (λ (s : ℕ). option_map (λ w. s * cache.ways + w) (way_of number (kept_at cache.table s).places)) home in
+    record {
+      here = here;
+      listed = λ sets for. here ∙ place_stands takes rule stands cache sound sets for number;
+      below = place_below takes stands cache number set way sound home found;
+      sound = sound;
+    }
+
+-- the set of a line is in the table, and fills in order
+pub set_first : {P : Type 0} (takes : P → ℕ → Type 0) (stands : P → ℕ → ℕ → List ℕ → Type 0)
+    (cache : Contents P) (set number : ℕ) → IsSound takes stands cache → set ≡ number % length cache.table
+    → (set < length cache.table) × AreFirst (kept_at cache.table set).places
+set_first takes stands cache set number sound home =
+    let below = set_below takes stands cache set number sound home in (below, sound.first set _ below)
+
+-- a cache of fresh sets is lawful, where no line was touched last
+pub new_lawful : {P : Type 0} (takes : P → ℕ → Type 0) (rule : P → ℕ → Rule)
+    (stands : P → ℕ → ℕ → List ℕ → Type 0) (policy : P) (count ways epoch fresh : ℕ) (last : LastTouch)
+    → IsGeometry (takes policy) count ways → stands policy ways fresh [] → count < 2 ^ 32 → 2 ^ 32 ≤ last.number
+    → IsCache takes rule stands (fresh_cache policy (fresh_sets count ways epoch fresh)) fresh last
+new_lawful takes rule stands policy count ways epoch fresh last geometry is_fresh few none =
+    let new = fresh_is_new takes stands policy count ways epoch fresh geometry is_fresh in
+    record {
+      sound = new.sound;
+      few = rw (new.same_sets) few;
+      fresh_stands = is_fresh;
+      last_stands = λ small. absurd (omega (arith, small, none));
+    }
 
 -- ---- hits and fills of the whole cache
 

@@ -1,5 +1,5 @@
 -- A slot of the machine: what its domains and its buffer are after it, and how far its clock is from the end of its range.
-use Rattle.std.proofs.Common.{◌≡◌, ℕ, suc, ◌+◌, ◌^◌, ◌<◌, ◌≤◌, max, Option, Some, sym, ap, subst, subst₂, arith}
+use Rattle.std.proofs.Common.{◌≡◌, ℕ, suc, ◌+◌, ◌^◌, ◌<◌, ◌≤◌, max, List, Option, Some, sym, ap, subst, subst₂, arith}
 use Rattle.std.specs.Prelude.{slice_get}
 use Rattle.std.proofs.lemmas.Option.{slice_get_within}
 use Rattle.guards.specs.declared.Guard.{Guard}
@@ -20,6 +20,7 @@ use Rattle.world_view.specs.Relations.{IsDomain}
 use Rattle.world_view.proofs.opening.Separate.{separated}
 use Rattle.world_view.proofs.opening.OpeningFacts.{kernel_of}
 use Rattle.world_view.proofs.facts.FactsLaws.{at_slot}
+use Rattle.world_view.specs.declared.view.Used.{Used}
 use Rattle.domain_step.specs.Usage.{CountedUpTo}
 use Rattle.domain_step.specs.Worlds.{Kept, StandsBy}
 use Rattle.domain_step.specs.InSlot.{StandsIn}
@@ -85,6 +86,9 @@ pub record SlotTimes : Type 0 where
   pub begun : ℕ
   pub begins : ℕ  -- from when the length counts
   pub length : ℕ
+
+pub counted_still : (used : List Used) (n most : ℕ) → n ≤ most → CountedUpTo n used → CountedUpTo most used
+counted_still used n most below few = record { few = λ e u got. omega (arith, below, few.few e u got) }
 
 -- of a switch from this clock on
 pub record AreTimes (clock : ℕ) (t : SlotTimes) : Type 0 where

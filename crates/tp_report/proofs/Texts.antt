@@ -8,6 +8,8 @@ use Rattle.hex.specs.Hex.{encode_lower}
 use Rattle.kernel_call.specs.Logs.{Log}
 use Rattle.tp_report.specs.Texts.{spaced, last_text, items_text, log_text, bytes_text}
 use Rattle.tp_report.specs.Pieces.{after}
+use Rattle.tp_report.specs.Batches.{Holding, CutIn}
+use Rattle.tp_report.proofs.Batches.{cut_in_first}
 
 pub last_text-Some : {A : Type 0} (item : A → List ℕ) (x : A) → last_text item (Some x) ≡ after (codes " last ") item x ++ codes " list"
 unfolding last_text spaced
@@ -24,3 +26,8 @@ log_text-some item l some = rw (ne_eqb l.count 0 some)
 pub bytes_text-some : (bytes : List ℕ) → length bytes ≢ 0 → bytes_text bytes ≡ codes " " ++ encode_lower bytes
 unfolding bytes_text
 bytes_text-some bytes some = rw (ne_eqb (length bytes) 0 some)
+
+-- the sink was cut short in the count of a log
+pub cut_in_count : {A : Type 0} (item : A → List ℕ) (l : Log A) (a b : Holding) → CutIn a b (decimal l.count) → CutIn a b (log_text item l)
+unfolding log_text
+cut_in_count item l a b cut = cut_in_first a b (decimal l.count) (if l.count == 0 then [] else items_text item l) cut

@@ -40,13 +40,17 @@ pub fn run_image<K: Sink>(
         return run_machine(alloc, image, slots, out);
     }
     match HartRun::new(alloc, image, choice, slots) {
-        Ok(run) => status_unless_failed(Status::Done, write_report(out, &run)),
+        Ok(run) => {
+            let status = status_unless_failed(Status::Done, write_report(out, &run));
+            drop(run);
+            status
+        }
         Err(Memory) => Status::Memory,
     }
 }
 
 // Runs the image of one hart for so many slots and writes the report. A machine is dropped by
-// name, here and below, since a check takes ten times as long where a scope's end drops it.
+// name, here and above, since a check takes ten times as long where a scope's end drops it.
 fn run_machine<K: Sink>(alloc: Global, image: &Checked, slots: u32, out: &mut K) -> Status
     requires few { slots ≤ 65536 }
     requires one { IsOnOneHart (image_from image.now) }

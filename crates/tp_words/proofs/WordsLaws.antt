@@ -1,13 +1,17 @@
 -- What clap's definitions say of the program's command.
-use Rattle.std.proofs.Common.{◌≡◌, ℕ, ℤ, pos, negsuc, Bool, true, false, List, [], ◌∷◌, Option, Some, None, Result, Ok, Err, refl, sym, ap, subst, ◌∙◌, arith}
+use Rattle.std.proofs.Common.{◌≡◌, ℕ, ℤ, pos, negsuc, Bool, true, false, List, [], ◌∷◌, Option, Some, None, Result, Ok, Err, refl, sym, ap, ap₂, subst, ◌∙◌, arith}
 use Rattle.std.proofs.lemmas.Bool.{le-leb}
-use Rattle.std.specs.Prelude.{nat_le, int_le, unsigned_abs, FitsSigned, ◌≤ℤ◌, T}
+use Rattle.std.specs.Prelude.{IfOk, ◌||◌, nat_le, int_le, unsigned_abs, FitsSigned, ◌≤ℤ◌, T}
 use Rattle.std.specs.Int.{w64}
 use Rattle.std.specs.Int.Signed.{le_z_yes}
 use Rattle.std.specs.Str.Parse.{ParsesSigned, ExplainsSignedError, HasSignedDigitsIfOk, signed_digits_value}
 use Rattle.std.specs.declared.num.ParseIntError.{ParseIntError}
 use Rattle.clap.specs.Words.{Kinds, IsAmong, Row, Text, is_simple, is_simple_and_free, subcommand_of, fault_of}
 use Rattle.clap.specs.ValueTests.{is_signed_in}
+use Rattle.clap.specs.Words.{App, Rule, AddsArg, app_of, rule_of, with_rule}
+use Rattle.clap.specs.declared.builder.arg.Arg.{Arg}
+use Rattle.clap.specs.declared.builder.command.Command.{Command as ClapCommand}
+use Rattle.clap.specs.declared.builder.command.Command.TheViews.{out-Command}
 use Rattle.clap.specs.Matches.{ReadsOne}
 use Rattle.clap.specs.declared.builder.value_parser.ValueParser.TheVariants as vp
 use Rattle.clap.proofs.ValueTestLemmas.{accepts-Accepts, Accepts-accepts}
@@ -26,6 +30,18 @@ tp_is_simple = refl
 pub tp_is_free : is_simple_and_free tp_app ≡ true
 unfolding clap_on_literals tp_app
 tp_is_free = refl
+
+-- a command with one option more
+module _ {E : Type 0} (old : ClapCommand) (a : Arg) (own : a.global ≡ false) where
+  pub has_option : (r : Result ClapCommand E) (top : App) (rule : Rule) → app_of old ≡ top → rule_of a ≡ rule
+      → IfOk r (λ c. AddsArg old a c) → IfOk r (λ c. app_of c ≡ with_rule top rule)
+  has_option (Ok c) top rule app same added = added.shape own ∙ ap₂ with_rule app same
+  has_option (Err e) top rule app same added = tt
+
+  pub has_own : (r : Result ClapCommand E) → (out-Command old).has_globals ≡ false
+      → IfOk r (λ c. AddsArg old a c) → IfOk r (λ c. (out-Command c).has_globals ≡ false)
+  has_own (Ok c) none added = added.globals ∙ ap₂ (λ x y. x || y) none own
+  has_own (Err e) none added = tt
 
 -- no fault: what the matches ask for
 pub taken : (words : List Text) (sub : Option (Text × List Row)) → fault_of tp_app words ≡ [] → sub ≡ subcommand_of tp_app words → asked_for sub ≡ command words

@@ -1,6 +1,8 @@
 // The words of the command line.
-ghost use Rattle.std.specs.Prelude.{◌≡◌, ◌≤◌, IfOk, IfSome, false, pos};
+ghost use Rattle.std.specs.Prelude.{◌≡◌, ◌≤◌, IfOk, IfSome, Some, true, false, pos};
 ghost use Rattle.clap.specs.Words.{App, app_of, found_of, rows_of, rule_of, subcommand_rows_of, with_subcommand};
+ghost use Rattle.clap.specs.Words.{new_app, new_rule, with_rule};
+ghost use Rattle.clap.specs.declared.builder.action.ArgAction.TheVariants.{Set};
 ghost use Rattle.clap.specs.declared.builder.command.Command.TheViews.{out-Command};
 ghost use Rattle.tp_words.specs.Words as spec;
 ghost use Rattle.tp_words.specs.Words.{IsInRange};
@@ -31,7 +33,11 @@ pub fn parse(alloc: Global, words: &[String]) -> Result<Option<Command>, Memory>
 {
     let command = tp_command(alloc)?;
     match command.try_get_matches_from(words) {
-        Ok(matches) => Ok(asked(&matches)),
+        Ok(matches) => {
+            let command = asked(&matches);
+            drop(matches);
+            Ok(command)
+        }
         Err(error) => match error.kind() {
             ErrorKind::OutOfMemory => Err(Memory),
             _ => Ok(None),
@@ -46,16 +52,17 @@ fn tp_command<'a>(alloc: Global) -> Result<clap::Command<'a>, AllocError>
     let top = clap::Command::new(alloc, "tp").subcommand_required(true);
     let one = with(Ok(top), Ok(clap::Command::new(alloc, "check")));
     let two = with(one, Ok(clap::Command::new(alloc, "bound")));
-    let three = with(two, run_command(alloc));
+    let three = with(two, number_command(alloc, "run", "slots", MOST_SLOTS));
     let four = with(three, alone_command(alloc));
-    let five = with(four, seed_command(alloc, "gen"));
-    let six = with(five, seed_command(alloc, "demo"));
+    let five = with(four, number_command(alloc, "gen", "seed", LAST_SEED));
+    let six = with(five, number_command(alloc, "demo", "seed", LAST_SEED));
     let seven = with(six, ablate_command(alloc));
     with(seven, harts_command(alloc))
 }
 
 // A command with one subcommand more, where both could be made. (Handed on as it is, a
-// `Result` is nothing that `tp_command` would have to drop.)
+// `Result` is nothing that `tp_command` would have to drop; by its name a command is dropped
+// in one step.)
 fn with<'a>(
     command: Result<clap::Command<'a>, AllocError>,
     made: Result<clap::Command<'a>, AllocError>,
@@ -64,57 +71,83 @@ fn with<'a>(
         → IfOk made.entry (λ c. (out-Command c).has_globals ≡ false)
         → IfOk result (λ c. app_of c ≡ with_subcommand top sub.top) }
 {
-    let sub = made?;
-    command?.subcommand(sub)
+    let sub = match made {
+        Ok(sub) => sub,
+        Err(error) => {
+            drop(command);
+            return Err(error);
+        }
+    };
+    match command {
+        Ok(command) => command.subcommand(sub),
+        Err(error) => {
+            drop(sub);
+            Err(error)
+        }
+    }
 }
 
-fn run_command<'a>(alloc: Global) -> Result<clap::Command<'a>, AllocError>
-    ensures app { IfOk result (λ c. app_of c ≡ spec.run_app) }
+// A subcommand with one number.
+fn number_command<'a>(
+    alloc: Global,
+    name: &'a str,
+    option: &'a str,
+    greatest: u32,
+) -> Result<clap::Command<'a>, AllocError>
+    ensures app { IfOk result (λ c. app_of c ≡ with_rule (new_app name.now) (spec.number_rule option.now greatest)) }
     ensures local { IfOk result (λ c. (out-Command c).has_globals ≡ false) }
 {
-    clap::Command::new(alloc, "run").arg(number_arg(alloc, "slots", MOST_SLOTS))
+    clap::Command::new(alloc, name).arg(number_arg(alloc, option, greatest))
+}
+
+// A command with one number more, where it could be made.
+fn with_number<'a>(
+    alloc: Global,
+    command: Result<clap::Command<'a>, AllocError>,
+    option: &'a str,
+    greatest: u32,
+) -> Result<clap::Command<'a>, AllocError>
+    ensures app { (top : App) → IfOk command.entry (λ c. app_of c ≡ top)
+        → IfOk result (λ c. app_of c ≡ with_rule top (spec.number_rule option.now greatest)) }
+    ensures local { IfOk command.entry (λ c. (out-Command c).has_globals ≡ false)
+        → IfOk result (λ c. (out-Command c).has_globals ≡ false) }
+{
+    command?.arg(number_arg(alloc, option, greatest))
 }
 
 fn alone_command<'a>(alloc: Global) -> Result<clap::Command<'a>, AllocError>
     ensures app { IfOk result (λ c. app_of c ≡ spec.alone_app) }
     ensures local { IfOk result (λ c. (out-Command c).has_globals ≡ false) }
 {
-    let alone = clap::Command::new(alloc, "alone").arg(number_arg(alloc, "domain", LAST_DOMAIN))?;
-    alone.arg(number_arg(alloc, "slots", MOST_SLOTS))
+    let alone = number_command(alloc, "alone", "domain", LAST_DOMAIN);
+    with_number(alloc, alone, "slots", MOST_SLOTS)
 }
 
 fn ablate_command<'a>(alloc: Global) -> Result<clap::Command<'a>, AllocError>
     ensures app { IfOk result (λ c. app_of c ≡ spec.ablate_app) }
     ensures local { IfOk result (λ c. (out-Command c).has_globals ≡ false) }
 {
-    let ablate = clap::Command::new(alloc, "ablate").arg(off_arg(alloc))?;
-    ablate.arg(number_arg(alloc, "slots", MOST_SLOTS))
+    let ablate = clap::Command::new(alloc, "ablate").arg(text_arg(alloc, "off"));
+    with_number(alloc, ablate, "slots", MOST_SLOTS)
 }
 
 fn harts_command<'a>(alloc: Global) -> Result<clap::Command<'a>, AllocError>
     ensures app { IfOk result (λ c. app_of c ≡ spec.harts_app) }
     ensures local { IfOk result (λ c. (out-Command c).has_globals ≡ false) }
 {
-    let harts = clap::Command::new(alloc, "harts").arg(number_arg(alloc, "slots", MOST_SLOTS))?;
-    harts.arg(number_arg(alloc, "seed", LAST_SEED))
+    let harts = number_command(alloc, "harts", "slots", MOST_SLOTS);
+    with_number(alloc, harts, "seed", LAST_SEED)
 }
 
-// A subcommand that makes its image of a seed.
-fn seed_command<'a>(alloc: Global, name: &'a str) -> Result<clap::Command<'a>, AllocError>
-    ensures app { IfOk result (λ c. app_of c ≡ spec.seed_app name.now) }
-    ensures local { IfOk result (λ c. (out-Command c).has_globals ≡ false) }
-{
-    clap::Command::new(alloc, name).arg(number_arg(alloc, "seed", LAST_SEED))
-}
-
-// The option `--off`, which must be given. (Which texts name a guard clap isn't
-// told: its list of names is of references, of which no definition can speak.)
-fn off_arg<'a>(alloc: Global) -> Arg<'a>
-    ensures rule { rule_of result ≡ spec.off_rule }
+// The option `--name`, which must be given. (Which texts name a guard clap isn't told: its
+// list of names is of references, of which no definition can speak.)
+fn text_arg<'a>(alloc: Global, name: &'a str) -> Arg<'a>
+    ensures rule { rule_of result
+        ≡ record (new_rule name.now) { long = Some name.now; action = Some Set; required = true } }
     ensures local { result.global ≡ false }
 {
-    Arg::new(alloc, "off")
-        .long("off")
+    Arg::new(alloc, name)
+        .long(name)
         .action(ArgAction::Set)
         .required(true)
 }
@@ -124,11 +157,7 @@ fn number_arg<'a>(alloc: Global, name: &'a str, greatest: u32) -> Arg<'a>
     ensures rule { rule_of result ≡ spec.number_rule name.now greatest }
     ensures local { result.global ≡ false }
 {
-    Arg::new(alloc, name)
-        .long(name)
-        .action(ArgAction::Set)
-        .required(true)
-        .value_parser(number_parser(greatest))
+    text_arg(alloc, name).value_parser(number_parser(greatest))
 }
 
 // What reads a whole number 0 to the greatest.

@@ -1,13 +1,12 @@
 // The calls of an image's harts.
 use super::{HartSet, State};
-use crate::cold::{cold_harts, cold_l2};
+use crate::cold::cold_caches;
 use crate::hart::Slot;
-use domain_open::{load_pages, open_all};
+use crate::placed::placed;
 use domain_step::{note_switch, step, stretch, unused};
 use domain_switch::switch;
 use image_check::Checked;
 use kernel_clone::CloneLayout;
-use phys_mem::PhysMem;
 use sched_table::{Entry, Turn};
 use std::alloc::Global;
 use tp_base::Memory;
@@ -44,12 +43,9 @@ impl<'a> HartSet<'a> {
         image.runnable();
         let public = image.public();
         let used = unused(alloc, public.schedule.len())?;
-        let mut memory = PhysMem::new(alloc, public.hardware.frames)?;
-        let domains = open_all(alloc, image, &mut memory)?;
-        load_pages(image, domains.as_slice(), &mut memory);
-        // The caches come last, as in the machine of one hart.
-        let l2 = cold_l2(alloc, &public.hardware)?;
-        let harts = cold_harts(alloc, &public.hardware, &l2, public.harts.len())?;
+        let (l2, harts) = cold_caches(alloc, &public.hardware, public.harts.len())?;
+        // What has the most parts comes last, since all before it is dropped where it fails.
+        let (memory, domains) = placed(alloc, image)?;
         Ok(HartSet {
             image,
             state: State {

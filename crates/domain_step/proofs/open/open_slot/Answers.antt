@@ -25,9 +25,32 @@ loop-clock-preserved c =
           c.loop-clock-test.true inv.so_far next.ensures.becomes;
     }
 
-pub returns-clause-becomes : goal.returns-clause-becomes
-returns-clause-becomes c =
+pub step_among-clock-requires : goal.step_among-clock-requires
+step_among-clock-requires c =
+    let inv = c.loop-clock.invariant in
+    record {
+      domain = omega (arith, c.requires.domain, inv.same);
+      stands = inv.stands;
+      before = c.loop-clock-test.true;
+      end = c.requires.end;
+      few = inv.few;
+    }
+
+pub loop-clock-smaller : goal.loop-clock-smaller
+loop-clock-smaller c = omega (arith, c.loop-clock-test.true, c.step_among-clock.ensures.later)
+
+pub returns : goal.returns
+returns c =
     let here = c.loop-clock in
-    along_over c.args.d c.args.end c.args.memory.now here.memory (system c.args.core.now c.args.l2.now) (system here.core here.l2)
-    c.args.domains.now here.domains
-    c.args.now here.clock here.invariant.so_far c.loop-clock-test.false
+    record {
+      becomes =
+          along_over c.args.d c.args.end c.args.memory.now here.memory (system c.args.core.now c.args.l2.now) (system here.core here.l2)
+          c.args.domains.now here.domains
+          c.args.now here.clock here.invariant.so_far c.loop-clock-test.false;
+      few = here.invariant.few;
+      same = here.invariant.same;
+      over = here.invariant.over;
+      past = omega (arith, c.loop-clock-test.false);
+      soon = here.invariant.soon;
+      done = here.invariant.still;
+    }

@@ -5,7 +5,7 @@ use Rattle.irq_partition.specs.declared.Moment.{Moment}
 use Rattle.irq_partition.specs.Interrupts.{next_of}
 use Rattle.call_table.specs.declared.DomainStatus.TheVariants.{Running}
 use Rattle.std.proofs.lemmas.Bool.{false≢true}
-use Rattle.std.proofs.lemmas.List.{get_or_default}
+use Rattle.std.proofs.lemmas.List.{get_or_default, length-set}
 use Rattle.std.proofs.lemmas.Option.{slice_get-get_or, slice_get_within, same_Some}
 use Rattle.kernel_clone.specs.Footprints.{IsLayout}
 use Rattle.kernel_call.specs.declared.domain.Domain.{Domain}
@@ -167,3 +167,39 @@ returns-clause-becomes c off i w is =
     c.step.new.memory (system c.step.new.core c.step.new.l2) c.step.result got none
     (c.step.ensures.becomes (setting_by (guards_of off i) i c.args.d) (part_of 0 c.args.d w)
     (in_slot off i c.args.d w c.args.memory.now (system c.args.core.now c.args.l2.now) domains c.args.now is x got))
+
+pub charge-requires-clause-work : goal.charge-requires-clause-work
+charge-requires-clause-work c = c.deliver-work.ensures.is_work
+
+pub overflow_add-result : goal.overflow_add-result
+overflow_add-result c = omega (arith, c.requires.before, c.requires.end, c.charge.ensures.few, c.from.ensures)
+
+pub returns-in-Some-clause-same : goal.returns-in-Some-clause-same
+returns-in-Some-clause-same c = length-set c.args.domains.now c.in-Some.due.owner c.deliver-work.new.domain
+
+pub returns-in-Some-clause-later : goal.returns-in-Some-clause-later
+returns-in-Some-clause-later c = omega (arith, c.charge.ensures.some, c.from.ensures)
+
+pub returns-in-Some-clause-soon : goal.returns-in-Some-clause-soon
+returns-in-Some-clause-soon c = omega (arith, c.requires.before, c.charge.ensures.few, c.from.ensures)
+
+pub step-requires-clause-frames : goal.step-requires-clause-frames
+step-requires-clause-frames c =
+    let s = c.requires.stands in
+    let most = (separated s.image s.stands.runnable).hardware.most_frames in
+    omega (arith, most, s.stands.machine.frames)
+
+pub step-requires-clause-before : goal.step-requires-clause-before
+step-requires-clause-before c = c.requires.before
+
+pub step-requires-clause-end : goal.step-requires-clause-end
+step-requires-clause-end c = c.requires.end
+
+pub returns-clause-same : goal.returns-clause-same
+returns-clause-same c = length-set c.args.domains.now c.args.d c.step.new.domain
+
+pub returns-clause-later : goal.returns-clause-later
+returns-clause-later c = c.step.ensures.later
+
+pub returns-clause-soon : goal.returns-clause-soon
+returns-clause-soon c = c.step.ensures.soon

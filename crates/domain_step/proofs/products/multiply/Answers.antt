@@ -1,4 +1,4 @@
-use Rattle.std.proofs.Common.{◌≡◌, ℕ, ◌+◌, ◌%◌, ◌^◌, Option, refl, sym, ap, ◌∙◌}
+use Rattle.std.proofs.Common.{◌≡◌, ℕ, ◌+◌, ◌%◌, ◌^◌, Option, refl, sym, ap, ◌∙◌, arith}
 use Rattle.std.specs.Prelude.{option_map}
 use Rattle.cycle_cost.specs.Costs.{ProductCosts}
 use Rattle.cycle_cost.specs.Models.{product_costs_of}
@@ -41,3 +41,21 @@ returns-clause-leaves g c w l2 memory root now s r readings replies k h q =
     (retired_at ((old.threads.active.pc + 4) % 2 ^ 32) (with_register regs c.args.rd word) d)
     (ap (λ (n : ℕ). touch (Charge n)) time)
     (executed-product w.machine root now d c.args.product c.args.rd c.args.rs1 c.args.rs2) retired k
+
+pub overflow_add-after : goal.overflow_add-after
+overflow_add-after g c = omega (arith, c.requires.spent, c.product_time.ensures.few)
+
+pub multiply-requires : goal.multiply-requires
+multiply-requires g c = record { rd = c.requires.rd; rs1 = c.requires.rs1; rs2 = c.requires.rs2 }
+
+pub returns-clause-grows : goal.returns-clause-grows
+returns-clause-grows g c =
+    let grows = c.retire.ensures.grows in
+    record {
+      retired = grows.retired;
+      readings = omega (arith, grows.readings);
+      replies = omega (arith, grows.replies);
+    }
+
+pub returns-clause-few : goal.returns-clause-few
+returns-clause-few g c = omega (arith, c.product_time.ensures.few)

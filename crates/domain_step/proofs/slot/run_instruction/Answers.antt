@@ -480,3 +480,33 @@ execute-requires g c =
       };
       spent = omega (arith, c.requires.spent, c.in-Ok.ensures.few, c.fetch.ensures.few);
     }
+
+pub translate-requires-clause-frames : goal.translate-requires-clause-frames
+translate-requires-clause-frames g c = c.requires.frames
+
+pub translate-requires-clause-spent : goal.translate-requires-clause-spent
+translate-requires-clause-spent g c = omega (arith, c.requires.spent)
+
+pub overflow_add-spent : goal.overflow_add-spent
+overflow_add-spent g c = omega (arith, c.requires.spent, c.in-Ok.ensures.few, c.fetch.ensures.few)
+
+pub returns-in-Err-clause-frames : goal.returns-in-Err-clause-frames
+returns-in-Err-clause-frames g c = refl
+
+pub returns-in_default-clause-frames : goal.returns-in_default-clause-frames
+returns-in_default-clause-frames g c = refl
+
+pub returns-in-Multiply-clause-frames : goal.returns-in-Multiply-clause-frames
+returns-in-Multiply-clause-frames g c = refl
+
+pub returns-in-Divide-clause-frames : goal.returns-in-Divide-clause-frames
+returns-in-Divide-clause-frames g c = refl
+
+pub call-requires-clause-frames : goal.call-requires-clause-frames
+call-requires-clause-frames g c = c.requires.frames
+
+pub call-requires-clause-ready : goal.call-requires-clause-ready
+call-requires-clause-ready g c = c.requires.ready
+
+pub call-requires-clause-replies : goal.call-requires-clause-replies
+call-requires-clause-replies g c = c.requires.room.replies

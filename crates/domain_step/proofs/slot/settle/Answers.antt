@@ -105,3 +105,15 @@ returns-in-Err-clause-leaves g c w s r readings replies k h q =
     subst (Guesses t z) same (c.guess.ensures.finds w c.args.l2.now old.caps c.args.begun.now.root c.args.memory.now d t z n))
     trap (λ t z n. subst (Stores t z) same (c.in-Err.ensures.finds w old.caps d t z n))
     (trapped_same c.stop-in-Err.new.domain trap d c.execute-effect.new.regs unwritten stopped)
+
+pub guess-requires : goal.guess-requires
+guess-requires g c = record { spent = omega (arith, c.requires.spent) }
+
+pub store-requires-clause-frames : goal.store-requires-clause-frames
+store-requires-clause-frames g c = c.requires.frames
+
+pub returns-in-Ok-clause-few : goal.returns-in-Ok-clause-few
+returns-in-Ok-clause-few g c = omega (arith, c.guess.ensures.few, c.in-Ok.ensures.few)
+
+pub returns-in-Err-clause-few : goal.returns-in-Err-clause-few
+returns-in-Err-clause-few g c = omega (arith, c.guess.ensures.few, c.in-Err.ensures.few)

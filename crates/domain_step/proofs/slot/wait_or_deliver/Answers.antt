@@ -77,3 +77,24 @@ returns-clause-runs g c =
 pub returns-clause-few : goal.returns-clause-few
 returns-clause-few g c =
     counts_later c.args.now c.idle_until-next.result c.args.domain.now (omega (arith, c.if-next-now.false)) c.requires.few
+
+pub returns-then-next-now-clause-later : goal.returns-then-next-now-clause-later
+returns-then-next-now-clause-later g c = omega (arith, c.deliver_due.ensures.some, c.from.ensures)
+
+pub returns-then-next-now-clause-soon : goal.returns-then-next-now-clause-soon
+returns-then-next-now-clause-soon g c = omega (arith, c.requires.before, c.deliver_due.ensures.few, c.from.ensures)
+
+pub overflow_add-result : goal.overflow_add-result
+overflow_add-result g c = omega (arith, c.requires.before, c.requires.end, c.deliver_due.ensures.few, c.from.ensures)
+
+pub deliver_due-requires-clause-replies : goal.deliver_due-requires-clause-replies
+deliver_due-requires-clause-replies g c = omega (arith, c.requires.few.replies, c.requires.before, c.requires.end)
+
+pub returns-clause-hierarchy : goal.returns-clause-hierarchy
+returns-clause-hierarchy g c = refl
+
+pub returns-clause-pinned : goal.returns-clause-pinned
+returns-clause-pinned g c = refl
+
+pub returns-clause-later : goal.returns-clause-later
+returns-clause-later g c = omega (arith, c.if-next-now.false)

@@ -1,5 +1,5 @@
 -- A pool's length, from one round and the last frames.
-use Rattle.std.proofs.Common.{arith, rules, ◌≡◌, ◌∙◌, refl, ◌<◌, ◌≤◌, ◌^◌, ◌+◌, ◌*◌, ◌/◌, ◌%◌, ℕ, List, length}
+use Rattle.std.proofs.Common.{arith, ◌≡◌, refl, ◌<◌, ◌+◌, ◌*◌, ◌/◌, ◌%◌, ℕ, List, length}
 use Rattle.frame_colours.specs.Colours.{pool, share_of, whole_of}
 use Rattle.frame_colours.proofs.Rounds.{pool_rounds, pool_most}
 use Rattle.frame_colours.proofs.share.pool_length.Goals as goal

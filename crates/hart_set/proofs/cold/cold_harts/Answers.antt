@@ -20,3 +20,6 @@ loop-preserved c =
           (All-push (IsColdHart (hierarchy (hardware_model c.args.hardware.now)) c.args.l2.now) harts more c.loop.invariant.cold
           c.in_ok-cold_hart.ensures.cold);
     }
+
+pub cold_hart-requires : goal.cold_hart-requires
+cold_hart-requires c = record { hardware = c.requires.hardware; l2 = c.requires.l2 }

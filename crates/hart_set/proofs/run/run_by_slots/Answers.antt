@@ -17,8 +17,15 @@ loop-h-preserved c =
     let there = there_still c.args.harts.now c.run_hart.new.harts c.loop-h.h image (omega arith) in
     record { image = image; turn = one_hart c.run_hart.new.harts c.args.slots c.loop-h.h c.args.slots c.run_hart.ensures.run there refl }
 
-pub returns-clause-run : goal.returns-clause-run
-returns-clause-run c =
+pub run_hart-requires : goal.run_hart-requires
+run_hart-requires c = record {
+  few = c.requires.few;
+  hart = there_still c.args.harts.now c.loop-h.harts c.loop-h.h c.loop-h.invariant.image (omega arith);
+  before = c.loop-h.invariant.turn;
+}
+
+pub returns : goal.returns
+returns c =
     let v = c.loop-h.harts in
     let past = subst (λ (x : Raw). harts_in (image_from x).all.schedule ≤ c.loop-h.h) (sym c.loop-h.invariant.image) (omega arith) in
-    all_run v c.args.slots c.loop-h.h 0 c.loop-h.invariant.turn past
+    record { image = c.loop-h.invariant.image; run = all_run v c.args.slots c.loop-h.h 0 c.loop-h.invariant.turn past }

@@ -1,8 +1,13 @@
 use Rattle.std.proofs.Common.{◌≢◌, rules}
 use Rattle.std.proofs.lemmas.Result.{err_from_is_err_and}
 use Rattle.tp_report.proofs.Batches.{then_adds, cut_between}
-use Rattle.tp_report.proofs.Texts.{log_text-some}
+use Rattle.tp_report.proofs.Texts.{log_text-some, cut_in_count}
 use Rattle.tp_report.proofs.pieces.write_log.Goals as goal
+
+pub returns-in_err-write_number : goal.returns-in_err-write_number
+returns-in_err-write_number g c =
+    let p = err_from_is_err_and c.from_residual.result c.from_residual.ensures.1 in
+    rw p.1 (record { adds = cut_in_count g.T.WriteText.text (g.L.Items.log c.args.log.now) _ _ (rw c.count-count.ensures.value at c.in_err-write_number.ensures.adds) })
 
 pub returns-in_err-write_last : goal.returns-in_err-write_last
 returns-in_err-write_last g c =

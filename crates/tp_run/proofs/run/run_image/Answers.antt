@@ -49,6 +49,6 @@ returns-in-Ok g c =
     let old = state g.K.Sink c.args.out.now in
     let new = state g.K.Sink c.write_report.new.out in
     record {
-      delivers = subst (λ (t : List ℕ). Delivers (Done, t) c.status_unless_failed.result old new) same
-          (delivered Done c.status_unless_failed.result (of_parts r.record_of r.choice r.slots) old new c.write_report.result tt c.write_report.ensures.sends c.status_unless_failed.ensures.ok c.status_unless_failed.ensures.err);
+      delivers = subst (λ (t : List ℕ). Delivers (Done, t) c.status_unless_failed-status.result old new) same
+          (delivered Done c.status_unless_failed-status.result (of_parts r.record_of r.choice r.slots) old new c.write_report.result tt c.write_report.ensures.sends c.status_unless_failed-status.ensures.ok c.status_unless_failed-status.ensures.err);
     }

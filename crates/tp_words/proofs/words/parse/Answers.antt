@@ -11,7 +11,7 @@ returns-in-Ok-clause-value c =
     let app = c.in_ok-command.ensures.app in
     let none = sym (ap (λ (a : App). fault_of a words) app) ∙ c.in-Ok.ensures.kinds (ap is_simple_and_free app ∙ tp_is_free) in
     let sub = (c.in-Ok.ensures.matches (ap is_simple app ∙ tp_is_simple)).1 ∙ ap (λ (a : App). subcommand_of a words) app in
-    c.asked.ensures.value ∙ taken words _ none sub
+    c.asked-command.ensures.value ∙ taken words _ none sub
 
 pub returns : goal.returns
 returns c =

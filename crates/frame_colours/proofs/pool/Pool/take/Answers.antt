@@ -1,9 +1,9 @@
 use Rattle.std.proofs.Common.{arith, ◌≡◌, ◌∙◌, sym, subst, ap, ◌∷◌, []}
-use Rattle.std.specs.Prelude.{reverse}
+use Rattle.std.specs.Prelude.{reverse, drop, slice_get, Some}
 use Rattle.std.proofs.lemmas.List.{reverse-append}
 use Rattle.frame_colours.specs.Colours.{IsOwn, has}
-use Rattle.frame_colours.specs.FreeList.{FreeList, IsFreeList, is_free, placed}
-use Rattle.frame_colours.proofs.Ascending.{has_head}
+use Rattle.frame_colours.specs.FreeList.{FreeList, IsFreeList, is_free, placed, without_least}
+use Rattle.frame_colours.proofs.Ascending.{has_head, has_other}
 use Rattle.frame_colours.proofs.Placed.{of, rest_is_free_list, least_is_gone, least_is_least, placed_first}
 use Rattle.frame_colours.proofs.pool.Pool.take.Goals as goal
 
@@ -39,3 +39,24 @@ returns-clause-again c =
     ap (λ n. of c.self.inside.part (placed (reverse c.pop.new.self.items) n)) c.of.ensures.number
     ∙ ap (of c.self.inside.part) (placed_first c.self.inside.part c.in_ok-number.number (reverse c.pop.new.self.items) (sound c) ∙ sym (split c))
     ∙ c.self.view_is
+
+pub returns-clause-value : goal.returns-clause-value
+returns-clause-value c =
+    ap Some c.of.ensures.number ∙ ap (λ xs. slice_get xs 0) (sym (split c)) ∙ ap (λ (list : FreeList). slice_get list.free 0) c.self.view_is
+
+pub returns-clause-becomes : goal.returns-clause-becomes
+returns-clause-becomes c = ap (λ xs. of c.self.inside.part (drop 1 xs)) (sym (split c)) ∙ ap without_least c.self.view_is
+
+pub returns-clause-was_free : goal.returns-clause-was_free
+returns-clause-was_free c =
+    let number = c.in_ok-number.number in
+    let rest = reverse c.pop.new.self.items in
+    ap (λ (list : FreeList). is_free list c.of.result) (sym c.self.view_is)
+    ∙ ap (λ xs. has xs c.of.result) (split c) ∙ ap (has (number ∷ rest)) c.of.ensures.number ∙ has_head number rest
+
+pub returns-clause-others : goal.returns-clause-others
+returns-clause-others c = λ f other.
+    let number = c.in_ok-number.number in
+    let rest = reverse c.pop.new.self.items in
+    sym (ap (λ (list : FreeList). is_free list f) (sym c.self.view_is) ∙ ap (λ xs. has xs f) (split c)
+    ∙ has_other number f rest (λ same. other (sym same ∙ sym c.of.ensures.number)))

@@ -17,7 +17,8 @@ pub push_reserved-requires : goal.push_reserved-requires
 push_reserved-requires c =
     let colour : colour_of c.args.self.now.colours (c.loop-frame.frame - 1) ≡ c.colour_below-colour.result =
     below_is c.self.inside.colours c.args.self.now.colours c.loop-frame.frame c.colour_below-colour.result (ap (λ (s : Share). s.colours) c.self.view_is)
-    (c.colour_below-colour.ensures.value c.loop-frame.frame (omega (arith, c.loop-frame-test.true)) (search rules))
+    (c.colour_below-colour.ensures.value c.loop-frame.frame (omega (arith, c.loop-frame-test.true))
+    (sym (c.loop-frame.invariant.3 ∙ ap (λ (s : Share). colour_of s.colours c.loop-frame.frame) (sym c.self.view_is))))
     in
     let mine : has_colour c.args.self.now (c.loop-frame.frame - 1) ≡ true =
     looked_up c.args.self.now c.deref-2.result.now (c.loop-frame.frame - 1) c.colour_below-colour.result _
@@ -27,13 +28,14 @@ push_reserved-requires c =
     let room : length c.loop-frame.frames.items < length (pool c.args.self.now) =
     room_for c.args.self.now c.loop-frame.frames.items (c.loop-frame.frame - 1) c.loop-frame.frame mine
     (omega (arith, c.loop-frame-test.true)) c.loop-frame.invariant.1 c.loop-frame.invariant.0 in
-    search rules
+    omega (arith, room, c.loop-frame.invariant.2)
 
 pub loop-frame-preserved-then-named-colour : goal.loop-frame-preserved-then-named-colour
 loop-frame-preserved-then-named-colour c =
     let colour : colour_of c.args.self.now.colours (c.loop-frame.frame - 1) ≡ c.colour_below-colour.result =
     below_is c.self.inside.colours c.args.self.now.colours c.loop-frame.frame c.colour_below-colour.result (ap (λ (s : Share). s.colours) c.self.view_is)
-    (c.colour_below-colour.ensures.value c.loop-frame.frame (omega (arith, c.loop-frame-test.true)) (search rules))
+    (c.colour_below-colour.ensures.value c.loop-frame.frame (omega (arith, c.loop-frame-test.true))
+    (sym (c.loop-frame.invariant.3 ∙ ap (λ (s : Share). colour_of s.colours c.loop-frame.frame) (sym c.self.view_is))))
     in
     let mine : has_colour c.args.self.now (c.loop-frame.frame - 1) ≡ true =
     looked_up c.args.self.now c.deref-2.result.now (c.loop-frame.frame - 1) c.colour_below-colour.result _
@@ -44,7 +46,7 @@ loop-frame-preserved-then-named-colour c =
       listed_own c.args.self.now c.loop-frame.frames.items c.push_reserved.new.self.items (c.loop-frame.frame - 1) c.loop-frame.frame mine
           (omega (arith, c.loop-frame-test.true)) c.loop-frame.invariant.1 pushed c.loop-frame.invariant.0,
       omega (arith, c.loop-frame.invariant.1),
-      search rules,
+      omega (arith, c.loop-frame.invariant.2, c.push_reserved.ensures.capacity),
       sym colour,
     )
 
@@ -52,7 +54,8 @@ pub loop-frame-preserved : goal.loop-frame-preserved
 loop-frame-preserved c =
     let colour : colour_of c.args.self.now.colours (c.loop-frame.frame - 1) ≡ c.colour_below-colour.result =
     below_is c.self.inside.colours c.args.self.now.colours c.loop-frame.frame c.colour_below-colour.result (ap (λ (s : Share). s.colours) c.self.view_is)
-    (c.colour_below-colour.ensures.value c.loop-frame.frame (omega (arith, c.loop-frame-test.true)) (search rules))
+    (c.colour_below-colour.ensures.value c.loop-frame.frame (omega (arith, c.loop-frame-test.true))
+    (sym (c.loop-frame.invariant.3 ∙ ap (λ (s : Share). colour_of s.colours c.loop-frame.frame) (sym c.self.view_is))))
     in
     let other : has_colour c.args.self.now (c.loop-frame.frame - 1) ≡ false =
     looked_up c.args.self.now c.deref-2.result.now (c.loop-frame.frame - 1) c.colour_below-colour.result _
@@ -62,7 +65,7 @@ loop-frame-preserved c =
       listed_other c.args.self.now c.loop-frame.frames.items (c.loop-frame.frame - 1) c.loop-frame.frame other
           (omega (arith, c.loop-frame-test.true)) c.loop-frame.invariant.1 c.loop-frame.invariant.0,
       omega (arith, c.loop-frame.invariant.1),
-      search rules,
+      c.loop-frame.invariant.2,
       sym colour,
     )
 

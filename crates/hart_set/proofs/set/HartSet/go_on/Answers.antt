@@ -1,15 +1,23 @@
-use Rattle.std.proofs.Common.{◌≡◌, ℕ, ◌+◌, ◌<◌, Some, None, ◌⊎◌, ap, add-one, slice_get, inl, inr, refl, sym, subst, arith}
+use Rattle.std.proofs.Common.{◌≡◌, ◌∙◌, ℕ, ◌+◌, ◌<◌, Some, None, ◌⊎◌, ap, add-one, slice_get, inl, inr, refl, sym, subst, arith}
 use Rattle.std.proofs.Math.ListN.{set}
+use Rattle.image_record.specs.Record.{Raw}
 use Rattle.image_check.specs.Image.{Image, image_from}
 use Rattle.hart_set.specs.declared.hart.Hart.{Hart}
 use Rattle.hart_set.specs.declared.set.State.{State}
 use Rattle.hart_set.specs.Reached.{IsReached}
 use Rattle.hart_set.specs.Models.{image_of}
-use Rattle.hart_set.proofs.Called.{Called, NextStands, called, at_hart, to_value}
+use Rattle.hart_set.proofs.Called.{Called, NextStands, called, within, at_hart, to_value}
 use Rattle.hart_set.proofs.Running.{StepEnd, GoesOn, IsOver}
 use Rattle.hart_set.proofs.GoingOn.{domain_there, slot_read, before, end_fits, frames_few, runs_here, counted_here, gone_on, reached_on}
 use Rattle.hart_set.proofs.set.HartSet.go_on.Goals.{then-slot-hart, else-slot-hart}
 use Rattle.hart_set.proofs.set.HartSet.go_on.Goals as goal
+
+pub index_mut-hart-requires : goal.index_mut-hart-requires
+index_mut-hart-requires c =
+    let there =
+    within c.self.inside.image.now c.self.inside.state c.args.self.now c.self.view_is c.args.h c.args.h
+    refl c.requires.hart c.self.invariant in
+    omega (arith, there)
 
 pub index_mut-requires : goal.index_mut-requires
 index_mut-requires c =
@@ -148,6 +156,14 @@ invariant_of-self c =
     either c IsReached (λ t' x' which.
     reached_on (image_from c.self.inside.image.now) t c.args.h x (here c) c.args.slot (in_slot c) c.index_mut.result.now (got_after c) (left c)
     t' x' which c.step-hart.ensures.becomes few c.step-hart.ensures.few c.step-hart.ensures.later)
+
+pub returns-clause-image : goal.returns-clause-image
+returns-clause-image c =
+    let same = ap (λ (v : Raw × State). v.0) c.self.view_is in
+    elim c.if-slot-hart.branch [
+      | then-slot-hart w ↦ ap (λ q. q.image.now) w.self-inside-is ∙ same
+      | else-slot-hart w ↦ ap (λ q. q.image.now) w.self-inside-is ∙ same
+    ]
 
 pub returns-clause-next : goal.returns-clause-next
 returns-clause-next c =

@@ -4,10 +4,17 @@ use Rattle.std.specs.Vec.{with_item}
 use Rattle.image_check.specs.Image.{Image, image_from}
 use Rattle.hart_set.specs.declared.hart.Hart.{Hart}
 use Rattle.hart_set.specs.declared.set.State.{State}
-use Rattle.hart_set.proofs.Called.{Called, SlotEnds, called, at_hart, to_value}
+use Rattle.hart_set.proofs.Called.{Called, SlotEnds, called, within, at_hart, to_value}
 use Rattle.hart_set.proofs.Running.{StepEnd, IsOver}
 use Rattle.hart_set.proofs.GoingOn.{domain_there, slot_read, before, end_fits, frames_few, runs_here, counted_here, gone_through, reached_through}
 use Rattle.hart_set.proofs.set.HartSet.go_through.Goals as goal
+
+pub index_mut-hart-requires : goal.index_mut-hart-requires
+index_mut-hart-requires c =
+    let there =
+    within c.self.inside.image.now c.self.inside.state c.args.self.now c.self.view_is c.args.h c.args.h
+    refl c.requires.hart c.self.invariant in
+    omega (arith, there)
 
 pub index_mut-requires : goal.index_mut-requires
 index_mut-requires c =

@@ -1,4 +1,4 @@
-use Rattle.std.proofs.Common.{◌≡◌, ◌∙◌, ℕ, ◌<◌, List, length, ap, sym, subst, arith}
+use Rattle.std.proofs.Common.{◌≡◌, ◌∙◌, ℕ, ◌<◌, List, length, refl, ap, sym, subst, arith}
 use Rattle.image_record.specs.Record.{Raw}
 use Rattle.sched_table.specs.declared.schedule.Entry.{Entry}
 use Rattle.sched_table.specs.Schedule.{entry_in, entry_of_slot, entries_alone, entries_on, on_hart, place_in, place_on, switch_entry}
@@ -9,7 +9,7 @@ use Rattle.hart_set.specs.declared.hart.Hart.{Hart}
 use Rattle.hart_set.specs.declared.set.State.{State}
 use Rattle.hart_set.specs.Models.{image_of}
 use Rattle.hart_set.specs.Turns.{IsTurn}
-use Rattle.hart_set.proofs.Called.{Called, hart_below, called, for_hart}
+use Rattle.hart_set.proofs.Called.{Called, hart_below, called, within, for_hart}
 use Rattle.hart_set.proofs.Turning.{one_each, own_entries, turn_on, ended_named}
 use Rattle.hart_set.proofs.set.HartSet.next_turn.Goals as goal
 
@@ -19,6 +19,13 @@ index-requires c =
     let below = hart_below c.self.inside.image.now c.self.inside.state c.args.self.now c.self.view_is c.args.h c.requires.hart in
     let all = one_each c.public.result.now i.all c.public.ensures.value in
     omega (arith, below, all)
+
+pub index-requires-2 : goal.index-requires-2
+index-requires-2 c =
+    let there =
+    within c.self.inside.image.now c.self.inside.state c.args.self.now c.self.view_is c.args.h c.args.h
+    refl c.requires.hart c.self.invariant in
+    omega (arith, there)
 
 pub turn-requires : goal.turn-requires
 turn-requires c =

@@ -1,13 +1,33 @@
-use Rattle.std.proofs.Common.{◌≡◌, Some, arith}
+use Rattle.std.proofs.Common.{◌≡◌, Some, None, refl, arith}
 use Rattle.kernel_clone.specs.Models.{layout_model}
 use Rattle.sched_table.specs.Schedule.{entry_in, on_hart, switch_entry, outgoing}
 use Rattle.image_check.specs.Image.{Image, image_from}
 use Rattle.world_view.specs.Machine.{clone_of}
 use Rattle.world_view.specs.Harts.{image_on}
 use Rattle.hart_set.specs.declared.hart.Hart.{Hart}
-use Rattle.hart_set.proofs.Called.{called, value_at, for_hart, domain_read}
-use Rattle.hart_set.proofs.Turning.{ended_there, ended_named, clone_before}
+use Rattle.hart_set.proofs.Called.{called, within, value_at, for_hart, domain_read}
+use Rattle.hart_set.proofs.Turning.{ended_there, ended_named, clone_before, clone_first}
 use Rattle.hart_set.proofs.set.HartSet.outgoing.Goals as goal
+
+pub index-requires : goal.index-requires
+index-requires c =
+    let there =
+    within c.self.inside.image.now c.self.inside.state c.args.self.now c.self.view_is c.args.h c.args.h
+    refl c.requires.hart c.self.invariant in
+    omega (arith, there)
+
+pub returns-then-index-eq0 : goal.returns-then-index-eq0
+returns-then-index-eq0 c =
+    let t = c.self.inside.state in
+    let x = c.index.result.now in
+    let i = image_from c.self.inside.image.now in
+    let k = called c.self.inside.image.now t c.args.self.now c.self.view_is c.args.h c.requires.hart c.self.invariant x c.index.ensures in
+    record {
+      clone =
+          for_hart c.self.inside.image.now t c.args.self.now c.self.view_is c.args.h x
+          (λ (j : Image) (y : Hart). None ≡ clone_of (image_on j c.args.h) (outgoing (on_hart j.all.schedule c.args.h) y.slots))
+          k.got (clone_first (image_on i c.args.h) (on_hart i.all.schedule c.args.h) x.slots c.if-index-eq0.true);
+    }
 
 pub index-requires-2 : goal.index-requires-2
 index-requires-2 c =

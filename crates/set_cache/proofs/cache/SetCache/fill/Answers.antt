@@ -7,7 +7,7 @@ use Rattle.set_cache.specs.Packed.{KeptSets}
 use Rattle.set_cache.specs.Last.{IsCache}
 use Rattle.set_cache.specs.Calls.{IsTouch}
 use Rattle.set_cache.proofs.Sets.{OneFill, fill_answer, fresh_cache}
-use Rattle.set_cache.proofs.Last.{cache_fill, set_below}
+use Rattle.set_cache.proofs.Last.{place_fits, cache_fill, set_below}
 use Rattle.set_cache.proofs.cache.SetCache.fill.Goals as goal
 
 pub way_for-way-requires-clause-valid : goal.way_for-way-requires-clause-valid
@@ -163,3 +163,39 @@ returns-clause-touch g c =
     IsTouch g.P.Policy.takes g.P.Policy.rule g.P.Policy.stands_for t.0 c.args.number c.args.store t.1
     (fresh_cache s.policy t.2))
     (λ j. (answer j, c.self.view_is j, sym c.write-old.ensures.written j)) of.touch
+
+pub overflow_mul-self : goal.overflow_mul-self
+overflow_mul-self g c =
+    let s = c.self.inside in
+    let cache : Contents _ =
+    record { policy = s.policy; ways = s.packed.ways; epoch = s.packed.epoch; table = s.packed.table } in
+    let home : c.args.set ≡ c.args.number % length s.packed.table =
+    subst (λ (v : Contents _). c.args.set ≡ c.args.number % length v.table) (sym c.self.view_is) c.requires.home in
+    let fits =
+    place_fits g.P.Policy.takes g.P.Policy.stands_for cache c.args.set c.args.number c.ways-ways.result c.way_for-way.result
+    c.self.invariant.sound home c.ways-ways.ensures.value c.way_for-way.ensures.within in
+    omega (arith, fits)
+
+pub overflow_add-self : goal.overflow_add-self
+overflow_add-self g c =
+    let s = c.self.inside in
+    let cache : Contents _ =
+    record { policy = s.policy; ways = s.packed.ways; epoch = s.packed.epoch; table = s.packed.table } in
+    let home : c.args.set ≡ c.args.number % length s.packed.table =
+    subst (λ (v : Contents _). c.args.set ≡ c.args.number % length v.table) (sym c.self.view_is) c.requires.home in
+    let fits =
+    place_fits g.P.Policy.takes g.P.Policy.stands_for cache c.args.set c.args.number c.ways-ways.result c.way_for-way.result
+    c.self.invariant.sound home c.ways-ways.ensures.value c.way_for-way.ensures.within in
+    omega (arith, fits)
+
+pub overflow_cast-self-2 : goal.overflow_cast-self-2
+overflow_cast-self-2 g c =
+    let s = c.self.inside in
+    let cache : Contents _ =
+    record { policy = s.policy; ways = s.packed.ways; epoch = s.packed.epoch; table = s.packed.table } in
+    let home : c.args.set ≡ c.args.number % length s.packed.table =
+    subst (λ (v : Contents _). c.args.set ≡ c.args.number % length v.table) (sym c.self.view_is) c.requires.home in
+    let fits =
+    place_fits g.P.Policy.takes g.P.Policy.stands_for cache c.args.set c.args.number c.ways-ways.result c.way_for-way.result
+    c.self.invariant.sound home c.ways-ways.ensures.value c.way_for-way.ensures.within in
+    omega (arith, fits)

@@ -1,4 +1,4 @@
-use Rattle.std.proofs.Common.{◌≡◌, ◌%◌, ◌*◌, ◌+◌, ℕ, List, length, Some, refl, sym, subst, rules}
+use Rattle.std.proofs.Common.{arith, ◌<◌, ◌≡◌, ◌%◌, ◌*◌, ◌+◌, ℕ, List, length, Some, refl, sym, subst, rules}
 use Rattle.set_cache.specs.Cache.{way_of}
 use Rattle.set_cache.specs.Contents.{KeptSet, Contents, kept_at}
 use Rattle.set_cache.specs.Packed.{KeptSets}
@@ -6,7 +6,7 @@ use Rattle.set_cache.specs.Last.{IsCache}
 use Rattle.set_cache.specs.Calls.{IsTouch}
 use Rattle.set_cache.proofs.Ways.{hit_answer}
 use Rattle.set_cache.proofs.Sets.{OneHit, hit_places, fresh_cache}
-use Rattle.set_cache.proofs.Last.{cache_hit, set_below}
+use Rattle.set_cache.proofs.Last.{cache_hit, set_below, place_fits}
 use Rattle.set_cache.proofs.cache.SetCache.hit.Goals as goal
 
 pub touch-state-requires-clause-valid : goal.touch-state-requires-clause-valid
@@ -125,3 +125,45 @@ returns-clause-touch g c =
     IsTouch g.P.Policy.takes g.P.Policy.rule g.P.Policy.stands_for hit_answer c.args.number c.args.store t.0
     (fresh_cache s.policy t.1))
     (λ j. (c.self.view_is j, sym c.write_hit.ensures.written j)) of.touch
+
+pub overflow_mul-place : goal.overflow_mul-place
+overflow_mul-place g c =
+    let s = c.self.inside in
+    let cache : Contents _ =
+    record { policy = s.policy; ways = s.packed.ways; epoch = s.packed.epoch; table = s.packed.table } in
+    let home : c.args.set ≡ c.args.number % length s.packed.table =
+    subst (λ (v : Contents _). c.args.set ≡ c.args.number % length v.table) (sym c.self.view_is) c.requires.home in
+    let within : c.args.way < s.packed.ways =
+    subst (λ (v : Contents _). c.args.way < v.ways) (sym c.self.view_is) c.requires.within in
+    let fits =
+    place_fits g.P.Policy.takes g.P.Policy.stands_for cache c.args.set c.args.number c.ways-ways.result c.args.way
+    c.self.invariant.sound home c.ways-ways.ensures.value within in
+    omega (arith, fits)
+
+pub overflow_add-place : goal.overflow_add-place
+overflow_add-place g c =
+    let s = c.self.inside in
+    let cache : Contents _ =
+    record { policy = s.policy; ways = s.packed.ways; epoch = s.packed.epoch; table = s.packed.table } in
+    let home : c.args.set ≡ c.args.number % length s.packed.table =
+    subst (λ (v : Contents _). c.args.set ≡ c.args.number % length v.table) (sym c.self.view_is) c.requires.home in
+    let within : c.args.way < s.packed.ways =
+    subst (λ (v : Contents _). c.args.way < v.ways) (sym c.self.view_is) c.requires.within in
+    let fits =
+    place_fits g.P.Policy.takes g.P.Policy.stands_for cache c.args.set c.args.number c.ways-ways.result c.args.way
+    c.self.invariant.sound home c.ways-ways.ensures.value within in
+    omega (arith, fits)
+
+pub overflow_cast-place-2 : goal.overflow_cast-place-2
+overflow_cast-place-2 g c =
+    let s = c.self.inside in
+    let cache : Contents _ =
+    record { policy = s.policy; ways = s.packed.ways; epoch = s.packed.epoch; table = s.packed.table } in
+    let home : c.args.set ≡ c.args.number % length s.packed.table =
+    subst (λ (v : Contents _). c.args.set ≡ c.args.number % length v.table) (sym c.self.view_is) c.requires.home in
+    let within : c.args.way < s.packed.ways =
+    subst (λ (v : Contents _). c.args.way < v.ways) (sym c.self.view_is) c.requires.within in
+    let fits =
+    place_fits g.P.Policy.takes g.P.Policy.stands_for cache c.args.set c.args.number c.ways-ways.result c.args.way
+    c.self.invariant.sound home c.ways-ways.ensures.value within in
+    omega (arith, fits)

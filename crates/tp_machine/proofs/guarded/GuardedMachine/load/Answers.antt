@@ -1,4 +1,4 @@
-use Rattle.std.proofs.Common.{◌≡◌, ◌≢◌, ◌∙◌, ◌++◌, length, take, drop, List, Some, ap, sym, subst, rules}
+use Rattle.std.proofs.Common.{◌≡◌, ◌≢◌, ◌∙◌, ◌++◌, length, take, drop, List, Some, refl, ap, sym, subst, rules}
 use Rattle.std.specs.Prelude.{slice_get}
 use Rattle.guards.specs.declared.Guard.TheVariants as guard
 use Rattle.kernel_call.specs.declared.domain.Domain.{Domain}
@@ -23,6 +23,28 @@ geometry_off-geometry-requires c =
     let same = ap (λ (p : Public). p.hardware) c.public-public.ensures.value in
     record { hardware = subst IsHardware (sym same) c.runnable.ensures.runnable.hardware }
 
+pub open_all-requires : goal.open_all-requires
+open_all-requires c = record {
+  size =
+      ap (λ (x : Contents). x.frames) c.in_ok-memory.ensures.zero
+      ∙ ap (λ (p : Public). p.hardware.frames) c.public-public.ensures.value;
+}
+
+pub load_pages-requires : goal.load_pages-requires
+load_pages-requires c = record {
+  opened = rw c.as_slice.ensures.value c.in_ok-domains.ensures.opened;
+  size =
+      c.in_ok-domains.ensures.size ∙ ap (λ (x : Contents). x.frames) c.in_ok-memory.ensures.zero
+      ∙ ap (λ (p : Public). p.hardware.frames) c.public-public.ensures.value;
+  blank = c.in_ok-domains.ensures.blank c.in_ok-memory.ensures.holds;
+}
+
+pub new_parts-requires : goal.new_parts-requires
+new_parts-requires c = record { geometry = c.geometry_off-geometry.ensures.sound }
+
+pub returns : goal.returns
+returns c = record { slots = refl; image = refl; off = refl }
+
 -- the domains, each with its clone
 domains_are : (c : goal.In_ok-core) → AreEntered c.args.off (image_from c.args.image.now)
     (take c.in_ok-domains.domains.len
@@ -39,6 +61,9 @@ domains_are c =
     entered_back (image_from c.args.image.now) c.runnable.ensures.runnable old new
     c.in_ok-domains.ensures.opened c.args.off kept shared
     c.in_ok-domains.domains.len was
+
+pub invariant_of-result-clause-accepted : goal.invariant_of-result-clause-accepted
+invariant_of-result-clause-accepted c = c.runnable.ensures.runnable
 
 pub invariant_of-result-clause-stands : goal.invariant_of-result-clause-stands
 invariant_of-result-clause-stands c =

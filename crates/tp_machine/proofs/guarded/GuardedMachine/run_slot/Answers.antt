@@ -1,27 +1,59 @@
-use Rattle.std.proofs.Common.{◌≡◌, ◌∙◌, ℕ, suc, ◌+◌, [], ◌∷◌, ◌++◌, length, List, refl, sym, ap, subst, rules, arith, add-one}
-use Rattle.std.specs.Prelude.{take, drop}
+use Rattle.std.proofs.Common.{◌≡◌, ◌∙◌, ℕ, suc, ◌+◌, ◌^◌, ◌<◌, [], ◌∷◌, ◌++◌, length, List, Option, refl, sym, ap, subst, rules, arith, add-one}
+use Rattle.std.specs.Prelude.{take, drop, IfSome}
 use Rattle.std.specs.Option.{option_copied}
 use Rattle.std.proofs.lemmas.Option.{slice_get_read}
+use Rattle.kernel_clone.specs.declared.CloneLayout.{CloneLayout}
+use Rattle.kernel_clone.specs.Footprints.{IsLayout}
 use Rattle.kernel_clone.specs.Models.{layout_model}
 use Rattle.kernel_call.specs.declared.domain.Domain.{Domain}
 use Rattle.sched_table.specs.declared.schedule.Entry.{Entry}
-use Rattle.sched_table.specs.Schedule.{entry_of_slot, switch_entry, start}
+use Rattle.sched_table.specs.Schedule.{entry_in, entry_of_slot, switch_entry, start}
 use Rattle.domain_switch.specs.Switch.{layout_if}
 use Rattle.image_check.specs.Public.{Public}
 use Rattle.image_check.specs.Image.{image_from}
 use Rattle.world_view.specs.Machine.{guards_of, ended_of, whole_by, switch_by, slot_if}
+use Rattle.world_view.specs.declared.view.Used.{Used}
 use Rattle.domain_step.specs.Usage.{IsUsed, CountedUpTo}
 use Rattle.domain_step.specs.Worlds.{Kept, StandsBy, kept}
 use Rattle.domain_step.specs.InSlot.{StandsIn}
 use Rattle.domain_step.specs.OpenSlot.{CountUpTo}
+use Rattle.domain_step.proofs.Counts.{counts_later}
 use Rattle.domain_step.proofs.SwitchCounts.{noted_back, counted_back, length_back, written_back}
 use Rattle.domain_step.proofs.Whole.{SwitchGiven, Begins, Enters, domain_is, clone_is, begins, ended_so, ends_so, begun_in, end_of, stands_after, ended_after}
 use Rattle.tp_machine.specs.Guarded.{HaveFacts}
-use Rattle.tp_machine.proofs.Slots.{all_at, buffer_after, SlotTimes, AreTimes, in_bounds_next}
+use Rattle.tp_machine.proofs.Slots.{all_at, buffer_after, counted_still, SlotTimes, AreTimes, in_bounds_next}
 use Rattle.mem_system.specs.Contents.{system}
 use Rattle.tp_machine.proofs.guarded.GuardedMachine.run_slot.Goals as goal
 
 -- ---- the switch
+
+pub turn-turn-requires : goal.turn-turn-requires
+turn-turn-requires c = record { few = omega (arith, c.requires.slots) }
+
+pub outgoing-out-requires : goal.outgoing-out-requires
+outgoing-out-requires c = record {
+  ended = c.turn-turn.ensures.ended ∙ ap (λ (p : Public). entry_in p.schedule (switch_entry p.schedule c.args.self.now.slots)) c.public.ensures.value;
+}
+
+pub index-requires : goal.index-requires
+index-requires c =
+    let m = c.args.self.now in
+    let enters =
+    domain_is (image_from m.image.now) m.accepted m.slots _ c.public.ensures.value c.turn-turn.result.entry
+    c.turn-turn.ensures.entry c.from-d.result c.from-d.ensures in
+    omega (arith, enters.named, m.stands.all_domains)
+
+pub switch_off-switched-requires-clause-out : goal.switch_off-switched-requires-clause-out
+switch_off-switched-requires-clause-out c =
+    subst (λ (out : Option CloneLayout). IfSome out (λ clone. IsLayout (layout_model clone))) (sym c.as_ref.ensures.value)
+    c.outgoing-out.ensures.layout
+
+pub switch_off-switched-requires-clause-early : goal.switch_off-switched-requires-clause-early
+switch_off-switched-requires-clause-early c = omega (arith, c.args.self.now.in_bounds.early, c.requires.slots)
+
+pub switch_off-switched-requires-clause-near : goal.switch_off-switched-requires-clause-near
+switch_off-switched-requires-clause-near c =
+    omega (arith, c.until_off.ensures.soon, c.turn-turn.ensures.soon, c.requires.slots)
 
 pub switch_off-switched-requires-clause-into : goal.switch_off-switched-requires-clause-into
 switch_off-switched-requires-clause-into c =
@@ -37,7 +69,72 @@ switch_off-switched-requires-clause-into c =
     (omega (arith, enters.named, m.stands.all_domains)) c.index.ensures in
     clone_is m.off i m.slots m.accepted s m.stands d y enters.named got
 
+-- ---- what it took
+
+pub note_switch-requires-clause-entry : goal.note_switch-requires-clause-entry
+note_switch-requires-clause-entry c =
+    let place = c.turn-turn.result.place in
+    let within = subst (λ (p : Public). place < length p.schedule) c.public.ensures.value c.turn-turn.ensures.within in
+    let long = ap (λ (us : List Used). length us) c.as_mut_slice.ensures.value in
+    omega (arith, within, long, c.args.self.now.stands.all_entries)
+
+pub note_switch-requires-clause-few : goal.note_switch-requires-clause-few
+note_switch-requires-clause-few c =
+    subst (CountedUpTo (2 ^ 31)) (sym c.as_mut_slice.ensures.value)
+    (counted_still c.args.self.now.used.items c.args.self.now.slots (2 ^ 31) (omega (arith, c.requires.slots))
+    c.args.self.now.in_bounds.few_switches)
+
 -- ---- the slot begins
+
+pub overflow_add-self : goal.overflow_add-self
+overflow_add-self c =
+    let few = c.switch_off-switched.ensures.few in
+    omega (
+      arith,
+      c.begins_by.ensures.soon,
+      few,
+      c.until_off.ensures.soon,
+      c.turn-turn.ensures.soon,
+      c.from.ensures,
+      c.turn-turn.ensures.length,
+      c.args.self.now.in_bounds.early,
+      c.requires.slots,
+    )
+
+pub slot_off-self-requires-clause-domain : goal.slot_off-self-requires-clause-domain
+slot_off-self-requires-clause-domain c =
+    let m = c.args.self.now in
+    let enters =
+    domain_is (image_from m.image.now) m.accepted m.slots _ c.public.ensures.value c.turn-turn.result.entry
+    c.turn-turn.ensures.entry c.from-d.result c.from-d.ensures in
+    let long = ap (λ (ds : List Domain). length ds) c.as_mut_slice-2.ensures.value in
+    omega (arith, enters.named, long, m.stands.all_domains)
+
+pub slot_off-self-requires-clause-before : goal.slot_off-self-requires-clause-before
+slot_off-self-requires-clause-before c =
+    omega (arith, c.switch_off-switched.ensures.few, c.until_off.ensures.soon, c.turn-turn.ensures.soon, c.args.self.now.in_bounds.early, c.requires.slots)
+
+pub slot_off-self-requires-clause-end : goal.slot_off-self-requires-clause-end
+slot_off-self-requires-clause-end c =
+    let few = c.switch_off-switched.ensures.few in
+    omega (
+      arith,
+      c.begins_by.ensures.soon,
+      few,
+      c.until_off.ensures.soon,
+      c.turn-turn.ensures.soon,
+      c.from.ensures,
+      c.turn-turn.ensures.length,
+      c.args.self.now.in_bounds.early,
+      c.requires.slots,
+    )
+
+pub slot_off-self-requires-clause-few : goal.slot_off-self-requires-clause-few
+slot_off-self-requires-clause-few c =
+    let m = c.args.self.now in
+    let now = c.switch_off-switched.result.now in
+    subst (CountUpTo now) (sym c.as_mut_slice-2.ensures.value)
+    (λ d x got. counts_later m.clock now x c.switch_off-switched.ensures.later (m.in_bounds.few_calls d x got))
 
 starts : (c : goal.After-as_mut_slice-2)
     → Begins c.args.self.now.off (image_from c.args.self.now.image.now) c.args.self.now.slots
@@ -253,6 +350,15 @@ next c =
     stands_after m.off i m.slots m.accepted s m.stands _ (starts_so c) c.from-d.result (entered c).is
     (c.begins_by.result + c.from.result) (ends c) (after c) (over c)
     (length_back m.used.items c.note_switch.new.used m.used.len long was) each
+
+pub overflow_add-self-2 : goal.overflow_add-self-2
+overflow_add-self-2 c = omega (arith, c.requires.slots)
+
+pub returns : goal.returns
+returns c = record { slots = refl; image = refl; off = refl }
+
+pub invariant_of-self-clause-accepted : goal.invariant_of-self-clause-accepted
+invariant_of-self-clause-accepted c = c.args.self.now.accepted
 
 pub invariant_of-self-clause-stands : goal.invariant_of-self-clause-stands
 invariant_of-self-clause-stands c =
