@@ -13,7 +13,7 @@ use Rattle.mem_system.specs.Cost.{Touch, Core, Caches, EmptyTlb, Flush, fresh_co
 use Rattle.set_cache.specs.Cache.{Sets}
 use Rattle.mem_system.specs.Contents.{SystemContents, SystemStands, MakesTouch, MakesTouches, hierarchy_of}
 use Rattle.mem_system.specs.Translation.{KeepsLeaves}
-use Rattle.cache_sharing.specs.Operations.{enter, leave}
+use Rattle.mem_system.specs.Operations.{enter, leave}
 use Rattle.sched_table.specs.Schedule.{start}
 use Rattle.cap_table.specs.Slots.{Slots}
 use Rattle.call_table.specs.Domain.{Dom}

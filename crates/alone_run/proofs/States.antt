@@ -7,9 +7,9 @@ use Rattle.pad_bound.specs.Bound.{bound_of}
 use Rattle.image_check.specs.Public.{Public}
 use Rattle.image_check.specs.Own.{Own}
 use Rattle.mem_system.specs.Cost.{fresh_core, cold, on_core, flushed, pass_on, touched}
-use Rattle.cache_sharing.specs.Operations.{enter}
-use Rattle.cache_sharing.specs.Worst.{HasWays}
-use Rattle.cache_sharing.proofs.Worst.{worst_law}
+use Rattle.mem_system.specs.Operations.{enter}
+use Rattle.mem_system.specs.Worst.{HasWays}
+use Rattle.mem_system.proofs.Worst.{worst_law}
 use Rattle.world_view.specs.Kernel.{layout}
 use Rattle.world_view.specs.Cost.{hierarchy}
 use Rattle.world_view.specs.Machine.{Local, enter_part, alone_opening, alone_enter, alone_in, alone_out, alone_if, alone}

@@ -4,10 +4,12 @@
 
 mod frames;
 mod giving;
+mod image;
 mod memory;
 mod open;
 mod placement;
 mod segments;
 
+pub use image::open_image;
 pub use memory::{load_domain, load_pages};
 pub use open::{open_all, open_domain};

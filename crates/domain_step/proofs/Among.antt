@@ -19,7 +19,7 @@ use Rattle.mem_system.specs.Hierarchy.{Hierarchy}
 use Rattle.mem_system.specs.Cost.{Touch, touched_all}
 use Rattle.mem_system.specs.Contents.{SystemContents, SystemSteps, MakesTouches, hierarchy_of}
 use Rattle.mem_system.specs.Translation.{KeepsLeaves}
-use Rattle.cache_sharing.specs.Operations.{operation, plain}
+use Rattle.mem_system.specs.Operations.{operation, plain}
 use Rattle.call_table.specs.Domain.{Dom, is_running, delivered_on}
 use Rattle.call_table.specs.declared.DomainStatus.TheVariants.{Running}
 use Rattle.image_check.specs.Image.{Image, own_of}

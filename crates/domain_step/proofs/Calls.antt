@@ -16,7 +16,7 @@ use Rattle.mem_system.specs.Contents.{SystemContents, MakesTouch, MakesTouches}
 use Rattle.mem_system.specs.Translation.{KeepsLeaves}
 use Rattle.mem_system.proofs.Leaves.{keeps_by}
 use Rattle.mem_system.proofs.Touches.{makes_one, makes_then}
-use Rattle.cache_sharing.specs.Operations.{operation}
+use Rattle.mem_system.specs.Operations.{operation}
 use Rattle.call_table.specs.declared.Reply.{Reply}
 use Rattle.call_table.specs.Domain.{Dom}
 use Rattle.call_table.specs.Calls.{Note, empties, work_of, call, number_made}

@@ -18,7 +18,7 @@ use Rattle.set_cache.specs.Rule.{Rule}
 use Rattle.mem_system.specs.Cost.{Touch, Touched, at_no_cost, touched_all}
 use Rattle.mem_system.specs.Contents.{SystemContents, MakesTouches, hierarchy_of}
 use Rattle.mem_system.specs.Translation.{KeepsLeaves}
-use Rattle.cache_sharing.specs.Operations.{operation, plain}
+use Rattle.mem_system.specs.Operations.{operation, plain}
 use Rattle.call_table.specs.declared.DomainStatus.{DomainStatus}
 use Rattle.call_table.specs.declared.DomainStatus.TheVariants.{Running, Exited, Stopped}
 use Rattle.call_table.specs.Domain.{Dom, is_running, delivered_on}

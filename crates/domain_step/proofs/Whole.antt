@@ -13,7 +13,7 @@ use Rattle.mem_system.specs.Hierarchy.{Hierarchy}
 use Rattle.mem_system.specs.Cost.{Caches, Touched, touched_all}
 use Rattle.mem_system.specs.Contents.{SystemContents, SystemStands, hierarchy_of}
 use Rattle.mem_system.specs.Translation.{KeepsLeaves}
-use Rattle.cache_sharing.specs.Operations as operations
+use Rattle.mem_system.specs.Operations as operations
 use Rattle.domain_switch.specs.Switch.{IsSwitched}
 use Rattle.sched_table.specs.declared.schedule.Entry.{Entry}
 use Rattle.sched_table.specs.Schedule.{entry_in, entry_of_slot, switch_entry, start, slot_end, last_end, outgoing}

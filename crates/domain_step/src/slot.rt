@@ -19,7 +19,7 @@ ghost use Rattle.mem_system.specs.Cost.{Touched};
 ghost use Rattle.l2_colour.specs.Contents.{L2Contents};
 ghost use Rattle.mem_system.specs.Contents.{system, MakesTouches, hierarchy_of};
 ghost use Rattle.mem_system.specs.Translation.{KeepsLeaves};
-ghost use Rattle.cache_sharing.specs.Operations.{operation, plain};
+ghost use Rattle.mem_system.specs.Operations.{operation, plain};
 ghost use Rattle.world_view.specs.Event as event;
 ghost use Rattle.world_view.specs.Machine as spec;
 ghost use Rattle.world_view.specs.Kernel.{estate};

@@ -17,7 +17,7 @@ use Rattle.kernel_clone.proofs.Runs.{zeroed_run, loaded_run, shared_next}
 use Rattle.mem_system.specs.Cost.{Touch, Load, EmptyTlb, Flush, Charge, touched, on_core, pass_on, below_all}
 use Rattle.mem_system.specs.Contents.{SystemContents, MakesTouch, MakesTouches}
 use Rattle.mem_system.proofs.Touches.{makes_none, makes_one, makes_then}
-use Rattle.cache_sharing.specs.Operations.{touch_by, touch_of_line, footprint, operation, shared_region, prefetch, leave, leave_if, enter, switch_by, plain}
+use Rattle.mem_system.specs.Operations.{touch_by, touch_of_line, footprint, operation, shared_region, prefetch, leave, leave_if, enter, switch_by, plain}
 
 -- ---- how many lines
 

@@ -5,9 +5,9 @@ use Rattle.pad_bound.specs.Bound.{bound_of}
 use Rattle.pad_bound.specs.Worst.{IsCloneOf}
 use Rattle.mem_system.specs.Hierarchy.{Hierarchy}
 use Rattle.mem_system.specs.Cost.{Caches, touched_all}
-use Rattle.cache_sharing.specs.Operations.{switch}
-use Rattle.cache_sharing.specs.Worst.{machine_shape}
-use Rattle.cache_sharing.proofs.Worst.{switch_law}
+use Rattle.mem_system.specs.Operations.{switch}
+use Rattle.mem_system.specs.Worst.{machine_shape}
+use Rattle.mem_system.proofs.Worst.{switch_law}
 use Rattle.domain_switch.specs.Switch.{IsInTime}
 
 pub done_by : (h : Hierarchy) (pinned : Bool) (caches : Caches) (out : Option Layout) (into : Layout) (shared calls old_end now until used : ℕ)

@@ -7,9 +7,9 @@ use Rattle.pad_bound.specs.Bound.{worst_instruction, worst_operation, bound_of}
 use Rattle.mem_system.specs.Hierarchy.{Hierarchy}
 use Rattle.mem_system.specs.Cost.{Caches, Touched}
 use Rattle.mem_system.specs.Contents.{SystemContents, SystemStands}
-use Rattle.cache_sharing.specs.Operations.{shared_region, leave_if}
-use Rattle.cache_sharing.specs.Sharing.{IsSharing, MayTouchAll, KernelIsClean}
-use Rattle.cache_sharing.specs.Worst.{machine_shape, HasWays}
+use Rattle.mem_system.specs.Operations.{shared_region, leave_if}
+use Rattle.mem_system.specs.Sharing.{IsSharing, MayTouchAll, KernelIsClean}
+use Rattle.mem_system.specs.Worst.{machine_shape, HasWays}
 
 -- the clone of who was running, if anybody was
 abbrev pub layout_if : Option CloneLayout → Option Layout

@@ -6,7 +6,7 @@ ghost use Rattle.kernel_clone.specs.Footprints.{IsLayout, run_of, shared_touches
 ghost use Rattle.kernel_clone.specs.declared.Kind.TheVariants.{Fetch, Load, Store};
 ghost use Rattle.kernel_clone.specs.Models.{layout_model, work_model, IsWork};
 ghost use Rattle.mem_system.specs.Contents.{system, MakesTouches};
-ghost use Rattle.cache_sharing.specs.Operations.{touch_of_line, footprint, operation};
+ghost use Rattle.mem_system.specs.Operations.{touch_of_line, footprint, operation};
 
 use kernel_clone::{
     CloneLayout, STACK_LINES, TEXT_LINES, Work, data_count, data_start, entry_line, loaded_line,

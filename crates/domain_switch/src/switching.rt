@@ -8,8 +8,8 @@ ghost use Rattle.kernel_clone.specs.Models.{layout_model};
 ghost use Rattle.mem_system.specs.Cost.{Caches, EmptyTlb, Flush, touched_all};
 ghost use Rattle.mem_system.specs.Contents.{system, SystemStands, MakesTouch, MakesTouches, hierarchy_of};
 ghost use Rattle.mem_system.specs.Translation.{KeepsLeaves};
-ghost use Rattle.cache_sharing.specs.Operations.{shared_region, prefetch};
-ghost use Rattle.cache_sharing.specs.Operations as spec;
+ghost use Rattle.mem_system.specs.Operations.{shared_region, prefetch};
+ghost use Rattle.mem_system.specs.Operations as spec;
 ghost use Rattle.domain_switch.specs.Switch.{IsCloneOn, IsInTime, IsSwitched, layout_if};
 
 use crate::charging::{charge_own, load_run};

@@ -16,7 +16,7 @@ use Rattle.mem_system.specs.Cost.{Caches, Touched, touched_all}
 use Rattle.mem_system.specs.Contents.{CoreContents, SystemStands, system, hierarchy_of}
 use Rattle.mem_system.specs.Translation.{KeepsLeaves}
 use Rattle.l2_colour.specs.Contents.{L2Contents}
-use Rattle.cache_sharing.specs.Operations as operations
+use Rattle.mem_system.specs.Operations as operations
 use Rattle.domain_switch.specs.Switch.{IsSwitched, IsCloneOn}
 use Rattle.hardware_check.specs.Hardware.{Hardware}
 use Rattle.sched_table.specs.Schedule.{harts_in, switch_entry, last_end, outgoing, on_hart, place_on}

@@ -12,7 +12,7 @@ use Rattle.mem_system.specs.Cost.{Caches, touched_all}
 use Rattle.mem_system.specs.Contents.{CoreContents, SystemStands, system, hierarchy_of}
 use Rattle.mem_system.specs.Translation.{KeepsLeaves}
 use Rattle.l2_colour.specs.Contents.{L2Contents}
-use Rattle.cache_sharing.specs.Operations as operations
+use Rattle.mem_system.specs.Operations as operations
 use Rattle.domain_switch.specs.Switch.{IsSwitched, IsCloneOn, layout_if}
 use Rattle.sched_table.specs.declared.schedule.Entry.{Entry}
 use Rattle.sched_table.specs.declared.schedule.Turn.{Turn}

@@ -3,10 +3,10 @@ use Rattle.std.proofs.Common.{◌≡◌, ℕ, zero, suc, ◌+◌, ◌-◌, ◌<�
 use Rattle.set_cache.specs.Cache.{Sets}
 use Rattle.mem_system.specs.Hierarchy.{Hierarchy}
 use Rattle.mem_system.specs.Cost.{Touch, Flush, Caches, Touched, fresh_core, cold, at_no_cost, and_then, touched, touched_all}
-use Rattle.cache_sharing.specs.Operations.{leave, prefetch}
-use Rattle.cache_sharing.specs.Sharing as sharing
-use Rattle.cache_sharing.specs.Sharing.{IsSharing}
-use Rattle.cache_sharing.proofs.OwnTouches.{beside_law, prefetch_may}
+use Rattle.mem_system.specs.Operations.{leave, prefetch}
+use Rattle.mem_system.specs.Sharing as sharing
+use Rattle.mem_system.specs.Sharing.{IsSharing}
+use Rattle.mem_system.proofs.OwnTouches.{beside_law, prefetch_may}
 use Rattle.hardware_check.specs.Hardware.{Hardware}
 use Rattle.sched_table.specs.Schedule.{entry_of_slot, outgoing, last_end, harts_in}
 use Rattle.image_check.specs.Own.{Own}

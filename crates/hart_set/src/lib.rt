@@ -13,7 +13,6 @@ mod choice;
 mod cold;
 mod hart;
 pub mod laws;
-mod placed;
 mod run;
 mod set;
 

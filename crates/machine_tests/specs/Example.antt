@@ -42,7 +42,7 @@ use Rattle.mem_system.specs.Hierarchy.{Hierarchy, colour_of_line}
 use Rattle.mem_system.specs.Cost as cost
 use Rattle.mem_system.specs.Cost.{Touch, Load, Store, WalkRead, Flush, Caches, cold, touched}
 use Rattle.mem_system.specs.Translation.{lines_of, look_of}
-use Rattle.cache_sharing.specs.Operations.{footprint, operation, leave, enter, shared_region, prefetch}
+use Rattle.mem_system.specs.Operations.{footprint, operation, leave, enter, shared_region, prefetch}
 use Rattle.world_view.specs.Cost.{hierarchy, region}
 use Rattle.world_view.specs.Event.{touch, frame_or_stop, translate, address_in, line_in, read, write, unless, load, store, computed, loaded, noted, guessed, settle, execute, timed, call_touches, make_call, perform, instruction, delivery_touches, interrupts_of, event}
 use Rattle.world_view.specs.Machine.{clock_of, with_hart, paid, delivered, happened, step, steps, enter_part, with_part, opening_doms, opening, whole, alone_opening, alone_enter, alone_in, alone_out, alone_if, alone, flush_by, guarded, leave_by, own_slot, prefetch_by, run_slot_by, switch_by, switch_on, switch_work_by, whole_by, with_end, dom_of, part_of, whole_off, World, Guards, setting_by, Owned, if_due, first_of, first_due, step_among, steps_among}

@@ -8,3 +8,11 @@ pub mod WalkReads
 pub mod Touches
 pub mod WriteBacks
 pub mod TouchLaws
+pub mod OwnTouches
+pub mod ResidencyWays
+pub mod Residency
+pub mod KernelSets
+pub mod Region
+pub mod Worst
+pub mod Settling
+pub mod Clean

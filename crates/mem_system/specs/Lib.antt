@@ -4,3 +4,7 @@ pub mod Contents
 pub mod Geometry
 pub mod Translation
 pub mod TouchLaws
+pub mod Operations
+pub mod Sharing
+pub mod Worst
+pub mod SharingLaws

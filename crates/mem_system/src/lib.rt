@@ -3,12 +3,15 @@
 //! the branch predictor.
 //!
 //! specs/Cost.antt has the costs and the next caches as functions of touches;
-//! each call here is one touch.
+//! each call here is one touch. specs/Operations.antt, Sharing.antt and Worst.antt
+//! have what kernel clones and a switch of domains touch, how domains share the
+//! caches, and what touches cost at worst.
 #![tactic(auto)]
 
 mod geometry;
 mod laws;
 mod on_core;
+pub mod sharing;
 mod system;
 
 pub use geometry::{CacheGeometry, Geometry};

@@ -9,7 +9,7 @@ use Rattle.repl_policy.specs.Marks.{nmru_rule}
 use Rattle.kernel_clone.specs.Footprints.{Layout}
 use Rattle.branch_pred.specs.declared.Sizes.{Sizes}
 use Rattle.mem_system.specs.Hierarchy.{Hierarchy}
-use Rattle.cache_sharing.specs.Operations.{shared_region}
+use Rattle.mem_system.specs.Operations.{shared_region}
 use Rattle.hardware_check.specs.declared.hardware.Policy.{Policy}
 use Rattle.hardware_check.specs.declared.hardware.Policy.TheVariants.{Lru, Fifo, Plru, Nmru}
 use Rattle.hardware_check.specs.Hardware.{Hardware, CacheShape, colours_of}

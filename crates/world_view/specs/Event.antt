@@ -38,7 +38,7 @@ use Rattle.call_table.specs.Calls.{Note, empties, work_of, call, number_made}
 use Rattle.world_view.specs.Instruction.{stopped, trapped, retired_at, counter_value, read_out}
 use Rattle.mem_system.specs.Cost.{Touch, Fetch, Load, Store as StoreTouch, Branch, Jump as JumpTouch, EmptyTlb, Charge}
 use Rattle.mem_system.specs.Translation.{look_of}
-use Rattle.cache_sharing.specs.Operations.{operation, plain}
+use Rattle.mem_system.specs.Operations.{operation, plain}
 
 -- all that domains may change beside their own state
 pub record Storage : Type 0 where

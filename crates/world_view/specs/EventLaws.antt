@@ -10,7 +10,7 @@ use Rattle.sv32_walk.specs.PageTableEntry.{ppn}
 use Rattle.sv32_walk.specs.Walk.{walk}
 use Rattle.pad_bound.specs.Bound.{worst_instruction, worst_operation}
 use Rattle.mem_system.specs.Cost.{Touch, touched_all}
-use Rattle.cache_sharing.specs.Worst.{HasWays}
+use Rattle.mem_system.specs.Worst.{HasWays}
 use Rattle.sched_table.specs.Schedule.{slot_end}
 use Rattle.call_table.specs.Domain.{Dom}
 use Rattle.hardware_check.specs.Hardware.{Hardware}

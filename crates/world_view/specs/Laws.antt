@@ -15,8 +15,8 @@ use Rattle.world_view.specs.Frames.{own_frame, pool, pool_frame, root_of, page_f
 use Rattle.world_view.specs.Opening.{rights_in}
 use Rattle.sched_table.specs.Schedule.{entry_of_slot, start, slot_end, outgoing}
 use Rattle.mem_system.specs.Cost.{Touch, Caches, at_no_cost, and_then, touched_all}
-use Rattle.cache_sharing.specs.Operations as operations
-use Rattle.cache_sharing.specs.Sharing.{kept_at}
+use Rattle.mem_system.specs.Operations as operations
+use Rattle.mem_system.specs.Sharing.{kept_at}
 use Rattle.world_view.specs.Cost.{hierarchy, region}
 use Rattle.call_table.specs.Laws.{found_at}
 use Rattle.call_table.specs.Rights.{MayReach}

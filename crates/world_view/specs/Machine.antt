@@ -20,7 +20,7 @@ use Rattle.mem_system.specs.Hierarchy.{Hierarchy}
 use Rattle.branch_pred.specs.Guesses.{fresh_guesses}
 use Rattle.set_cache.specs.Cache.{Sets}
 use Rattle.mem_system.specs.Cost.{Touch, EmptyTlb, Flush, Core, Caches, fresh_core, cold, Touched, at_no_cost, and_then, touched, touched_all}
-use Rattle.cache_sharing.specs.Operations.{leave, enter, prefetch}
+use Rattle.mem_system.specs.Operations.{leave, enter, prefetch}
 use Rattle.world_view.specs.Cost.{hierarchy, region}
 use Rattle.world_view.specs.Event.{Storage, instruction, delivery_touches, Event, event, interrupts_of}
 use Rattle.world_view.specs.Event.Event.{Jump, Deliver, Run}

@@ -4,8 +4,8 @@ use Rattle.phys_mem.specs.Mem.{Mem, frame_at}
 use Rattle.kernel_clone.specs.Footprints.{IsLayout}
 use Rattle.pad_bound.specs.Bound.{MachineShape, worst_instruction, worst_operation, bound_of}
 use Rattle.mem_system.specs.Cost.{Touch, Caches}
-use Rattle.cache_sharing.specs.Sharing as sharing
-use Rattle.cache_sharing.specs.Worst.{HasWays}
+use Rattle.mem_system.specs.Sharing as sharing
+use Rattle.mem_system.specs.Worst.{HasWays}
 use Rattle.call_table.specs.Domain.{Dom}
 use Rattle.cap_table.specs.Owning.{IsUnnamed}
 use Rattle.call_table.specs.Claims.{IsEstate, free_frames}

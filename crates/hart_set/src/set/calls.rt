@@ -2,7 +2,7 @@
 use super::{HartSet, State};
 use crate::cold::cold_caches;
 use crate::hart::Slot;
-use crate::placed::placed;
+use domain_open::open_image;
 use domain_step::{note_switch, step, stretch, unused};
 use domain_switch::switch;
 use image_check::Checked;
@@ -45,7 +45,7 @@ impl<'a> HartSet<'a> {
         let used = unused(alloc, public.schedule.len())?;
         let (l2, harts) = cold_caches(alloc, &public.hardware, public.harts.len())?;
         // What has the most parts comes last, since all before it is dropped where it fails.
-        let (memory, domains) = placed(alloc, image)?;
+        let (memory, domains) = open_image(alloc, image)?;
         Ok(HartSet {
             image,
             state: State {

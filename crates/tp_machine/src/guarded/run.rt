@@ -1,14 +1,13 @@
 // The machine's calls.
 use super::GuardedMachine;
 use crate::off::{begins_by, geometry_off, parts_off, share_clone, slot_off, until_off};
-use domain_open::{load_pages, open_all};
+use domain_open::open_image;
 use domain_step::{note_switch, unused};
 use domain_switch::switch_off;
 use guards::Guard;
 use image_check::Checked;
 use kernel_clone::CloneLayout;
 use mem_system::new_parts;
-use phys_mem::PhysMem;
 use sched_table::Entry;
 use std::alloc::Global;
 use tp_base::Memory;
@@ -42,9 +41,7 @@ impl<'a> GuardedMachine<'a> {
         image.runnable();
         let public = image.public();
         let used = unused(alloc, public.schedule.len())?;
-        let mut memory = PhysMem::new(alloc, public.hardware.frames)?;
-        let mut domains = open_all(alloc, image, &mut memory)?;
-        load_pages(image, domains.as_slice(), &mut memory);
+        let (memory, mut domains) = open_image(alloc, image)?;
         share_clone(off, domains.as_mut_slice());
         // The caches come last: they have the most to drop where memory runs out, and a check
         // takes minutes where that can be in several places.

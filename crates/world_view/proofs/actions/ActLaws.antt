@@ -31,8 +31,8 @@ use Rattle.world_view.specs.Kernel.{estate, layout}
 use Rattle.world_view.specs.Instruction.{stopped, trapped}
 use Rattle.mem_system.specs.Cost.{Touch, Fetch, Load, Store as StoreTouch, Branch, Jump, Charge}
 use Rattle.mem_system.specs.Translation.{lines_of, look_of}
-use Rattle.cache_sharing.specs.Sharing.{IsOwnLine, MayTouch}
-use Rattle.cache_sharing.proofs.OwnTouches.{may_append}
+use Rattle.mem_system.specs.Sharing.{IsOwnLine, MayTouch}
+use Rattle.mem_system.proofs.OwnTouches.{may_append}
 use Rattle.world_view.specs.Cost.{hierarchy, region, own_colour}
 use Rattle.world_view.specs.Event.{Storage, Act, touch, fault_of, frame_or_stop, translate, address_in, line_in, read, write, unless, load, store, computed, loaded, guessed, settle, execute, timed, call_touches, make_call, perform, instruction}
 use Rattle.world_view.specs.Relations.{IsOwnFrame, MayAll, IsKernel, HasFacts, BesideStorage}

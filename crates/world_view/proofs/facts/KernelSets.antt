@@ -5,13 +5,13 @@ use Rattle.std.proofs.lemmas.List.{take_all}
 use Rattle.std.proofs.lemmas.Option.{same_Some}
 use Rattle.set_cache.proofs.Dirty.{EachDirty-empty}
 use Rattle.mem_system.specs.Cost.{Touch, Flush, Caches, Touched, cold, fresh_core, flushed, on_core, pass_on, touched, touched_all, and_then}
-use Rattle.cache_sharing.specs.Operations as operations
-use Rattle.cache_sharing.specs.Operations.{leave, leave_if, enter, prefetch}
-use Rattle.cache_sharing.specs.Sharing as sharing
-use Rattle.cache_sharing.specs.Sharing.{IsOwnLine, IsSharing, MayTouchAll}
-use Rattle.cache_sharing.proofs.Clean.{cold_clean_law, stays_clean_law}
-use Rattle.cache_sharing.proofs.OwnTouches.{may_append, prefetch_may}
-use Rattle.cache_sharing.proofs.KernelSets.{empty_law, shared_alone_law, any_colour, any_may, take_may}
+use Rattle.mem_system.specs.Operations as operations
+use Rattle.mem_system.specs.Operations.{leave, leave_if, enter, prefetch}
+use Rattle.mem_system.specs.Sharing as sharing
+use Rattle.mem_system.specs.Sharing.{IsOwnLine, IsSharing, MayTouchAll}
+use Rattle.mem_system.proofs.Clean.{cold_clean_law, stays_clean_law}
+use Rattle.mem_system.proofs.OwnTouches.{may_append, prefetch_may}
+use Rattle.mem_system.proofs.KernelSets.{empty_law, shared_alone_law, any_colour, any_may, take_may}
 use Rattle.hardware_check.specs.Hardware.{Hardware}
 use Rattle.image_check.specs.Image.{Image, own_of}
 use Rattle.sched_table.specs.Schedule.{entry_of_slot, slot_end, outgoing}

@@ -2,8 +2,8 @@
 use Rattle.std.proofs.Common.{◌≡◌, ℕ, zero, suc, ◌-◌, false, ◌∷◌, refl, sym, subst}
 use Rattle.tp_base.specs.Table.{at, put}
 use Rattle.mem_system.specs.Cost.{Flush, Caches, cold, and_then, touched_all}
-use Rattle.cache_sharing.specs.Operations.{leave, enter}
-use Rattle.cache_sharing.proofs.Residency.{resident}
+use Rattle.mem_system.specs.Operations.{leave, enter}
+use Rattle.mem_system.proofs.Residency.{resident}
 use Rattle.image_check.specs.Image.{Image, own_of}
 use Rattle.sched_table.specs.Schedule.{entry_of_slot, slot_end, outgoing}
 use Rattle.world_view.specs.Kernel.{layout}

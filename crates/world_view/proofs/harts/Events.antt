@@ -4,9 +4,9 @@ use Rattle.std.proofs.lemmas.Option.{same_Some}
 use Rattle.tp_base.specs.Table.{at-put_same, at-put_other}
 use Rattle.set_cache.specs.Cache.{EachDirty}
 use Rattle.mem_system.specs.Hierarchy.{colour_of_line}
-use Rattle.cache_sharing.specs.Sharing as sharing
-use Rattle.cache_sharing.specs.Worst.{HasWays}
-use Rattle.cache_sharing.proofs.Clean.{stays_clean_law}
+use Rattle.mem_system.specs.Sharing as sharing
+use Rattle.mem_system.specs.Worst.{HasWays}
+use Rattle.mem_system.proofs.Clean.{stays_clean_law}
 use Rattle.sched_table.specs.Schedule.{last_end, outgoing, harts_in}
 use Rattle.image_check.specs.Own.{Own}
 use Rattle.image_check.specs.Image.{Image, own_of}

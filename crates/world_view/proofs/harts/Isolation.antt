@@ -5,10 +5,10 @@ use Rattle.set_cache.specs.Cache.{set_at}
 use Rattle.set_cache.proofs.Dirty.{EachDirty-empty}
 use Rattle.phys_mem.specs.Mem.{frame_at}
 use Rattle.mem_system.specs.Cost.{Caches, cold, fresh_core}
-use Rattle.cache_sharing.specs.Sharing as sharing
-use Rattle.cache_sharing.specs.Sharing.{IsOwnLine}
-use Rattle.cache_sharing.specs.Worst.{HasWays}
-use Rattle.cache_sharing.proofs.Clean.{cold_clean_law}
+use Rattle.mem_system.specs.Sharing as sharing
+use Rattle.mem_system.specs.Sharing.{IsOwnLine}
+use Rattle.mem_system.specs.Worst.{HasWays}
+use Rattle.mem_system.proofs.Clean.{cold_clean_law}
 use Rattle.hardware_check.specs.Hardware.{Hardware}
 use Rattle.call_table.specs.Domain.{Dom}
 use Rattle.image_check.specs.Image.{Image, own_of}

@@ -4,7 +4,7 @@ use Rattle.std.proofs.lemmas.Bool.{and_parts}
 use Rattle.std.proofs.lemmas.List.{get_or-map}
 use Rattle.std.proofs.Math.Bool.{and-false}
 use Rattle.frame_colours.specs.Colours.{has, list_at}
-use Rattle.cache_sharing.specs.Sharing.{AreApart}
+use Rattle.mem_system.specs.Sharing.{AreApart}
 use Rattle.hardware_check.specs.Hardware.{Hardware, IsHardware, colours_of}
 use Rattle.image_check.specs.Own.{Own, no_own}
 use Rattle.image_check.specs.Pages.{frames_in}

@@ -4,7 +4,7 @@ use Rattle.tp_base.specs.Table.{at, put}
 use Rattle.guards.specs.declared.Guard.{Guard}
 use Rattle.guards.specs.declared.Guard.TheVariants as guard
 use Rattle.kernel_clone.specs.Footprints.{IsLayout}
-use Rattle.cache_sharing.specs.Operations.{shared_region}
+use Rattle.mem_system.specs.Operations.{shared_region}
 use Rattle.call_table.specs.Domain.{is_running}
 use Rattle.image_check.specs.Image.{Image, own_of}
 use Rattle.std.specs.Prelude.{length, if◌then◌else◌}

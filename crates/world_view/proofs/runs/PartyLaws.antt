@@ -3,7 +3,7 @@ use Rattle.std.proofs.Common.{◌≡◌, ◌≢◌, ℕ, Bool, true, false, IsTr
 use Rattle.tp_base.specs.Table.{at, put, at-put_other}
 use Rattle.phys_mem.specs.Mem.{Mem, frame_at}
 use Rattle.mem_system.specs.Cost.{Caches}
-use Rattle.cache_sharing.specs.Operations.{leave, enter}
+use Rattle.mem_system.specs.Operations.{leave, enter}
 use Rattle.hardware_check.specs.Hardware.{Hardware}
 use Rattle.image_check.specs.Own.{Own}
 use Rattle.image_check.specs.Image.{Image, own_of}

@@ -6,9 +6,9 @@ use Rattle.hardware_check.specs.Hardware.{Hardware, IsHardware}
 use Rattle.image_check.specs.Own.{Own}
 use Rattle.image_check.specs.Image.{Image, own_of}
 use Rattle.mem_system.specs.Cost.{Caches, fresh_core, and_then, touched, on_core, flushed, pass_on}
-use Rattle.cache_sharing.specs.Operations.{leave, enter}
-use Rattle.cache_sharing.specs.Sharing as sharing
-use Rattle.cache_sharing.specs.Sharing.{IsOwnLine, AreApart, BesideTouched}
+use Rattle.mem_system.specs.Operations.{leave, enter}
+use Rattle.mem_system.specs.Sharing as sharing
+use Rattle.mem_system.specs.Sharing.{IsOwnLine, AreApart, BesideTouched}
 use Rattle.sched_table.specs.Schedule.{entry_of_slot, outgoing}
 use Rattle.world_view.specs.Kernel.{layout}
 use Rattle.world_view.specs.Cost.{hierarchy, region, own_colour}

@@ -5,8 +5,8 @@ use Rattle.tp_base.specs.Table.{at-put_same}
 use Rattle.mem_system.specs.Cost.{Touch, EmptyTlb, Flush, Caches, at_no_cost, and_then, touched, touched_all}
 use Rattle.kernel_clone.specs.Footprints.{Layout}
 use Rattle.mem_system.proofs.Touches.{touched_all-append}
-use Rattle.cache_sharing.specs.Operations as operations
-use Rattle.cache_sharing.specs.Operations.{enter, prefetch, shared_region}
+use Rattle.mem_system.specs.Operations as operations
+use Rattle.mem_system.specs.Operations.{enter, prefetch, shared_region}
 use Rattle.hardware_check.specs.Hardware.{Hardware}
 use Rattle.image_check.specs.Own.{Own}
 use Rattle.image_check.specs.Image.{Image, own_of}

@@ -7,7 +7,7 @@ use Rattle.image_check.specs.Own.{Own}
 use Rattle.irq_partition.specs.declared.Moment.{Moment}
 use Rattle.irq_partition.specs.Interrupts.{next_of, cycle_of, line_by, next_cycle, due}
 use Rattle.thread_set.specs.Threads.{is_ready}
-use Rattle.cache_sharing.specs.Operations.{operation}
+use Rattle.mem_system.specs.Operations.{operation}
 use Rattle.mem_system.specs.Cost.{Caches, touched_all, and_then, touched, pass_on, on_core}
 use Rattle.call_table.specs.Domain.{Dom, is_running}
 use Rattle.world_view.specs.Event.{Event, idle_until, thread_event, unless_due, event, interrupts_of, delivery_touches}

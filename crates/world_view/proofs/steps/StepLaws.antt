@@ -11,7 +11,7 @@ use Rattle.call_table.specs.Claims.{is_mine, claims, Facts}
 use Rattle.world_view.specs.Frames.{own_frame}
 use Rattle.world_view.specs.Kernel.{estate, layout}
 use Rattle.mem_system.specs.Cost.{Touch, Caches, touched_all}
-use Rattle.cache_sharing.specs.Sharing.{BesideTouched}
+use Rattle.mem_system.specs.Sharing.{BesideTouched}
 use Rattle.world_view.specs.Cost.{hierarchy, region, own_colour}
 use Rattle.world_view.specs.Event.{Storage, instruction, delivery_touches, Event, event}
 use Rattle.world_view.specs.Event.Event.{Jump, Deliver, Run}

@@ -28,9 +28,9 @@ use Rattle.pad_bound.specs.Bound.{worst_look, worst_read, worst_fetch, worst_acc
 use Rattle.pad_bound.proofs.Parts.{operation_covers, few_written}
 use Rattle.mem_system.specs.Cost.{Touch, Fetch, Load, Store as StoreTouch, Branch, Jump, EmptyTlb, Charge}
 use Rattle.mem_system.specs.Translation.{lines_of, look_of}
-use Rattle.cache_sharing.specs.Operations.{footprint, operation, plain}
-use Rattle.cache_sharing.specs.Worst.{worst_touch, worst_touches}
-use Rattle.cache_sharing.proofs.Worst.{worst-append, worst_lines}
+use Rattle.mem_system.specs.Operations.{footprint, operation, plain}
+use Rattle.mem_system.specs.Worst.{worst_touch, worst_touches}
+use Rattle.mem_system.proofs.Worst.{worst-append, worst_lines}
 use Rattle.call_table.specs.Domain.{Dom}
 use Rattle.call_table.specs.Calls.{empties, work_of, call, number_made}
 use Rattle.call_table.proofs.BoundedWork.{calls_bounded, calls_permitted}

@@ -8,10 +8,10 @@ use Rattle.pad_bound.specs.Bound.{worst_instruction}
 use Rattle.tp_base.specs.Table.{at, put, at-empty}
 use Rattle.set_cache.specs.Cache.{CacheSet, fresh_set}
 use Rattle.mem_system.specs.Cost.{Touched, cold, fresh_core}
-use Rattle.cache_sharing.specs.Worst.{HasWays}
-use Rattle.cache_sharing.specs.Operations.{shared_region}
-use Rattle.cache_sharing.proofs.KernelSets.{any_colour}
-use Rattle.cache_sharing.proofs.Worst.{worst_law, on_time_law}
+use Rattle.mem_system.specs.Worst.{HasWays}
+use Rattle.mem_system.specs.Operations.{shared_region}
+use Rattle.mem_system.proofs.KernelSets.{any_colour}
+use Rattle.mem_system.proofs.Worst.{worst_law, on_time_law}
 use Rattle.hardware_check.specs.Hardware.{Hardware}
 use Rattle.sched_table.specs.declared.schedule.Entry.{Entry}
 use Rattle.sched_table.specs.Schedule.{entry_in}

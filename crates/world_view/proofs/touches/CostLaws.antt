@@ -1,12 +1,12 @@
 -- What touches of a domain, of another and of the prefetch do to caches.
 use Rattle.std.proofs.Common.{◌≡◌, ℕ, ◌<◌, Bool, true, false, List, [], ◌∷◌, refl, arith}
 use Rattle.mem_system.specs.Cost.{Touch, Flush, Caches, touched, touched_all, and_then}
-use Rattle.cache_sharing.specs.Sharing as sharing
+use Rattle.mem_system.specs.Sharing as sharing
 use Rattle.set_cache.specs.Cache.{Sets}
-use Rattle.cache_sharing.specs.Sharing.{IsSharing, AreApart, MayTouchAll, BesideTouched}
-use Rattle.cache_sharing.specs.Operations.{prefetch}
-use Rattle.cache_sharing.proofs.OwnTouches.{beside_law, others_law, own_dirty_law, stays_law, prefetch_law, prefetch_stays_law, prefetch_may}
-use Rattle.cache_sharing.proofs.Settling.{settled_law}
+use Rattle.mem_system.specs.Sharing.{IsSharing, AreApart, MayTouchAll, BesideTouched}
+use Rattle.mem_system.specs.Operations.{prefetch}
+use Rattle.mem_system.proofs.OwnTouches.{beside_law, others_law, own_dirty_law, stays_law, prefetch_law, prefetch_stays_law, prefetch_may}
+use Rattle.mem_system.proofs.Settling.{settled_law}
 use Rattle.hardware_check.specs.Hardware.{Hardware}
 use Rattle.image_check.specs.Own.{Own}
 use Rattle.world_view.specs.Cost.{hierarchy, region, own_colour}

@@ -6,8 +6,8 @@ use Rattle.hardware_check.proofs.Powers.{power_is}
 use Rattle.kernel_clone.specs.Footprints.{IsLayout}
 use Rattle.kernel_clone.proofs.LineLaws.{whole_lines}
 use Rattle.l2_colour.specs.Colours.{IsColoured}
-use Rattle.cache_sharing.specs.Sharing.{IsRegion, IsSharing, HasRoom}
-use Rattle.cache_sharing.proofs.Region.{region_is, has_room}
+use Rattle.mem_system.specs.Sharing.{IsRegion, IsSharing, HasRoom}
+use Rattle.mem_system.proofs.Region.{region_is, has_room}
 use Rattle.hardware_check.specs.Hardware.{Hardware, IsHardware}
 use Rattle.image_check.specs.Own.{Own}
 use Rattle.world_view.specs.Cost.{hierarchy, region, bare_layout, own_colour}

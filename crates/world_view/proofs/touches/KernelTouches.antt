@@ -13,12 +13,12 @@ use Rattle.hardware_check.specs.Hardware.{Hardware}
 use Rattle.image_check.specs.Own.{Own}
 use Rattle.world_view.specs.Kernel.{estate, layout}
 use Rattle.mem_system.specs.Cost.{EmptyTlb}
-use Rattle.cache_sharing.specs.Operations.{touch_by, touch_of_line, footprint, operation, plain, leave, enter}
-use Rattle.cache_sharing.specs.Sharing.{IsShared, MayTouch, MayTouchAll}
+use Rattle.mem_system.specs.Operations.{touch_by, touch_of_line, footprint, operation, plain, leave, enter}
+use Rattle.mem_system.specs.Sharing.{IsShared, MayTouch, MayTouchAll}
 use Rattle.world_view.specs.Cost.{hierarchy, region, own_colour}
 use Rattle.world_view.specs.Event.{call_touches, delivery_touches}
 use Rattle.world_view.specs.Relations.{IsOwnFrame, IsKernel, MayAll}
-use Rattle.cache_sharing.proofs.OwnTouches.{may_append}
+use Rattle.mem_system.proofs.OwnTouches.{may_append}
 use Rattle.world_view.proofs.actions.TableLaws.{mine_own}
 use Rattle.world_view.proofs.touches.Lines.{own_line, is_shared}
 

@@ -6,8 +6,8 @@ use Rattle.std.proofs.lemmas.List.FromFn.{length-map-range_with_len, get_or-map-
 use Rattle.kernel_clone.specs.Footprints.{shared_line, shared_lines}
 use Rattle.kernel_clone.proofs.LineLaws.{entry_frame}
 use Rattle.mem_system.specs.Hierarchy.{colour_of_line}
-use Rattle.cache_sharing.specs.Operations.{shared_region}
-use Rattle.cache_sharing.specs.Sharing.{IsOwnLine, IsShared}
+use Rattle.mem_system.specs.Operations.{shared_region}
+use Rattle.mem_system.specs.Sharing.{IsOwnLine, IsShared}
 use Rattle.hardware_check.specs.Hardware.{Hardware}
 use Rattle.image_check.specs.Own.{Own}
 use Rattle.world_view.specs.Kernel.{layout}

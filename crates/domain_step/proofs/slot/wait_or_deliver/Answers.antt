@@ -2,7 +2,7 @@ use Rattle.std.proofs.Common.{◌≡◌, ◌+◌, None, false, refl, ap, ◌∙�
 use Rattle.irq_partition.specs.Interrupts.{due, next_cycle}
 use Rattle.thread_set.specs.Threads.{is_ready}
 use Rattle.kernel_clone.specs.Footprints.{delivery_op}
-use Rattle.cache_sharing.specs.Operations.{plain}
+use Rattle.mem_system.specs.Operations.{plain}
 use Rattle.world_view.specs.Event.{idle_until}
 use Rattle.world_view.specs.Machine.{step}
 use Rattle.domain_step.proofs.Counts.{counts_later}

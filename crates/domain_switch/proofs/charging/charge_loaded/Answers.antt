@@ -4,7 +4,7 @@ use Rattle.kernel_clone.specs.Footprints.{LineTouch, run_of}
 use Rattle.kernel_clone.specs.Models.{layout_model}
 use Rattle.kernel_clone.specs.declared.Kind.TheVariants.{Load}
 use Rattle.mem_system.specs.Contents.{system, MakesTouches}
-use Rattle.cache_sharing.specs.Operations.{touch_of_line}
+use Rattle.mem_system.specs.Operations.{touch_of_line}
 use Rattle.domain_switch.proofs.Charges.{loaded_none}
 use Rattle.domain_switch.proofs.charging.charge_loaded.Goals as goal
 

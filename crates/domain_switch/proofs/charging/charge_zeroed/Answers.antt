@@ -4,7 +4,7 @@ use Rattle.kernel_clone.specs.Footprints.{Layout, run_of, line_of}
 use Rattle.kernel_clone.specs.Models.{layout_model}
 use Rattle.kernel_clone.specs.declared.Kind.TheVariants.{Store}
 use Rattle.mem_system.specs.Contents.{system, MakesTouches}
-use Rattle.cache_sharing.specs.Operations.{touch_of_line}
+use Rattle.mem_system.specs.Operations.{touch_of_line}
 use Rattle.domain_switch.proofs.Charges.{zeroed_none, zeroed_some}
 use Rattle.domain_switch.proofs.charging.charge_zeroed.Goals as goal
 

@@ -5,7 +5,7 @@ use Rattle.kernel_clone.specs.Footprints.{shared_line, lines_in_frame}
 use Rattle.kernel_clone.specs.Models.{layout_model}
 use Rattle.cycle_cost.specs.Ranges.{most_access}
 use Rattle.mem_system.specs.Contents.{system, MakesTouches}
-use Rattle.cache_sharing.specs.Operations.{prefetch}
+use Rattle.mem_system.specs.Operations.{prefetch}
 use Rattle.domain_switch.proofs.switching.prefetch.Given as goal
 
 abbrev pub invariant-loop-place : goal.invariant-loop-place

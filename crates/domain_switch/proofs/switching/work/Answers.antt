@@ -3,7 +3,7 @@ use Rattle.std.proofs.Common.{◌≡◌, ◌+◌, ℕ, subst, arith}
 use Rattle.std.specs.Option.{option_copied}
 use Rattle.kernel_clone.specs.Models.{layout_model}
 use Rattle.mem_system.specs.Contents.{system, MakesTouches}
-use Rattle.cache_sharing.specs.Operations.{switch_by}
+use Rattle.mem_system.specs.Operations.{switch_by}
 use Rattle.domain_switch.specs.Switch.{layout_if}
 use Rattle.domain_switch.proofs.Charges.{switch_made}
 use Rattle.domain_switch.proofs.switching.work.Goals as goal

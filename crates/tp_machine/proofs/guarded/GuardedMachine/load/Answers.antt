@@ -2,7 +2,6 @@ use Rattle.std.proofs.Common.{◌≡◌, ◌≢◌, ◌∙◌, ◌++◌, length,
 use Rattle.std.specs.Prelude.{slice_get}
 use Rattle.guards.specs.declared.Guard.TheVariants as guard
 use Rattle.kernel_call.specs.declared.domain.Domain.{Domain}
-use Rattle.phys_mem.specs.Contents.{Contents}
 use Rattle.repl_policy.specs.Members.{any_rule, any_stands_for}
 use Rattle.mem_system.specs.Hierarchy.{Hierarchy}
 use Rattle.mem_system.specs.Cost.{cold}
@@ -23,22 +22,6 @@ geometry_off-geometry-requires c =
     let same = ap (λ (p : Public). p.hardware) c.public-public.ensures.value in
     record { hardware = subst IsHardware (sym same) c.runnable.ensures.runnable.hardware }
 
-pub open_all-requires : goal.open_all-requires
-open_all-requires c = record {
-  size =
-      ap (λ (x : Contents). x.frames) c.in_ok-memory.ensures.zero
-      ∙ ap (λ (p : Public). p.hardware.frames) c.public-public.ensures.value;
-}
-
-pub load_pages-requires : goal.load_pages-requires
-load_pages-requires c = record {
-  opened = rw c.as_slice.ensures.value c.in_ok-domains.ensures.opened;
-  size =
-      c.in_ok-domains.ensures.size ∙ ap (λ (x : Contents). x.frames) c.in_ok-memory.ensures.zero
-      ∙ ap (λ (p : Public). p.hardware.frames) c.public-public.ensures.value;
-  blank = c.in_ok-domains.ensures.blank c.in_ok-memory.ensures.holds;
-}
-
 pub new_parts-requires : goal.new_parts-requires
 new_parts-requires c = record { geometry = c.geometry_off-geometry.ensures.sound }
 
@@ -47,20 +30,20 @@ returns c = record { slots = refl; image = refl; off = refl }
 
 -- the domains, each with its clone
 domains_are : (c : goal.In_ok-core) → AreEntered c.args.off (image_from c.args.image.now)
-    (take c.in_ok-domains.domains.len
-    (c.share_clone.new.domains ++ drop (length c.share_clone.new.domains) c.in_ok-domains.domains.items))
+    (take c.in_ok-memory.domains.len
+    (c.share_clone.new.domains ++ drop (length c.share_clone.new.domains) c.in_ok-memory.domains.items))
 domains_are c =
-    let old : List Domain = c.in_ok-domains.domains.items in
+    let old : List Domain = c.in_ok-memory.domains.items in
     let new : List Domain = c.share_clone.new.domains in
     let kept : c.args.off ≢ Some guard.Clone
     → new ≡ old = rw c.as_mut_slice.ensures.value at c.share_clone.ensures.kept in
     let shared : (x : Domain) → c.args.off ≡ Some guard.Clone → slice_get old 0 ≡ Some x
     → HaveClone x.layout old new =
     rw c.as_mut_slice.ensures.value at c.share_clone.ensures.shared in
-    let was : length old ≡ c.in_ok-domains.domains.len = search rules in
+    let was : length old ≡ c.in_ok-memory.domains.len = search rules in
     entered_back (image_from c.args.image.now) c.runnable.ensures.runnable old new
-    c.in_ok-domains.ensures.opened c.args.off kept shared
-    c.in_ok-domains.domains.len was
+    c.in_ok-memory.ensures.opened c.args.off kept shared
+    c.in_ok-memory.domains.len was
 
 pub invariant_of-result-clause-accepted : goal.invariant_of-result-clause-accepted
 invariant_of-result-clause-accepted c = c.runnable.ensures.runnable
@@ -76,13 +59,10 @@ invariant_of-result-clause-stands c =
     c.public-public.result.now.hardware.muldiv ≡ (guards_of off i).levels =
     c.geometry_off-geometry.ensures.hierarchy ∙ ap (λ (p : Public). levels_by off p.hardware) public
     ∙ levels_are off i in
-    stands_first off i r c.load_pages.new.memory (system c.in_ok-core.core c.in_ok-core.l2) _ c.in_ok-used.used.items
+    stands_first off i r c.in_ok-memory.memory (system c.in_ok-core.core c.in_ok-core.l2) _ c.in_ok-used.used.items
     (record {
-      frames =
-          c.load_pages.ensures.size ∙ c.in_ok-domains.ensures.size
-          ∙ ap (λ (x : Contents). x.frames) c.in_ok-memory.ensures.zero
-          ∙ ap (λ (p : Public). p.hardware.frames) public;
-      holds = c.load_pages.ensures.holds;
+      frames = c.in_ok-memory.ensures.size;
+      holds = c.in_ok-memory.ensures.holds;
       levels = sym (c.in_ok-core.ensures.hierarchy ∙ levels);
       pinned = c.in_ok-core.ensures.pinned;
       cold_is =
@@ -105,6 +85,6 @@ invariant_of-result-clause-ends c =
 
 pub invariant_of-result-clause-in_bounds : goal.invariant_of-result-clause-in_bounds
 invariant_of-result-clause-in_bounds c =
-    in_bounds_first c.args.off (image_from c.args.image.now) c.load_pages.new.memory
+    in_bounds_first c.args.off (image_from c.args.image.now) c.in_ok-memory.memory
     (system c.in_ok-core.core c.in_ok-core.l2) _ c.in_ok-used.used.items
     (domains_are c) c.in_ok-used.ensures.few

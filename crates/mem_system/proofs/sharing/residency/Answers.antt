@@ -1,7 +1,7 @@
 -- The shared lines stand in the second level from the first prefetch on.
-use Rattle.cache_sharing.proofs.Residency.{resident}
-use Rattle.cache_sharing.proofs.Region.{region_is, has_room}
-use Rattle.cache_sharing.proofs.laws.residency.Goals as goal
+use Rattle.mem_system.proofs.Residency.{resident}
+use Rattle.mem_system.proofs.Region.{region_is, has_room}
+use Rattle.mem_system.proofs.sharing.residency.Goals as goal
 
 pub returns-clause-resident : goal.returns-clause-resident
 returns-clause-resident c = resident

@@ -11,9 +11,9 @@ use Rattle.set_cache.proofs.Dirty.{line_marked, marked_at, marked_by, is_here, s
 use Rattle.std.proofs.lemmas.List.{length-map}
 use Rattle.mem_system.specs.Hierarchy.{Hierarchy}
 use Rattle.mem_system.specs.Cost.{Load, Caches, Passed, WriteBack, given_up, marked_where, fresh_core, cold, accessed, unless_hit, on_core, below_by, below_if, below, below_all, pass_on, touched, and_then, touched_all}
-use Rattle.cache_sharing.specs.Operations.{prefetch}
-use Rattle.cache_sharing.specs.Sharing.{HasRoom, Resident}
-use Rattle.cache_sharing.proofs.ResidencyWays.{Stands, filled, Grows, only_touched, hit_stands, grows}
+use Rattle.mem_system.specs.Operations.{prefetch}
+use Rattle.mem_system.specs.Sharing.{HasRoom, Resident}
+use Rattle.mem_system.proofs.ResidencyWays.{Stands, filled, Grows, only_touched, hit_stands, grows}
 
 -- the line is one of the list
 abbrev In : ℕ → List ℕ → Type 0

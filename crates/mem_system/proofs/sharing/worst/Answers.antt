@@ -1,6 +1,6 @@
 -- What touches and a switch cost at worst.
-use Rattle.cache_sharing.proofs.Worst.{worst_law, switch_law, on_time_law}
-use Rattle.cache_sharing.proofs.laws.worst.Goals as goal
+use Rattle.mem_system.proofs.Worst.{worst_law, switch_law, on_time_law}
+use Rattle.mem_system.proofs.sharing.worst.Goals as goal
 
 pub returns-clause-touches : goal.returns-clause-touches
 returns-clause-touches c = worst_law

@@ -1,6 +1,6 @@
 -- The sets of colour 0 keep shared lines alone.
-use Rattle.cache_sharing.proofs.KernelSets.{empty_law, shared_alone_law, prefetch_alone_law}
-use Rattle.cache_sharing.proofs.laws.kernel_sets.Goals as goal
+use Rattle.mem_system.proofs.KernelSets.{empty_law, shared_alone_law, prefetch_alone_law}
+use Rattle.mem_system.proofs.sharing.kernel_sets.Goals as goal
 
 pub returns : goal.returns
 returns c = record { empty = empty_law; touches = shared_alone_law; prefetch = prefetch_alone_law }

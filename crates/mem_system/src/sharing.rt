@@ -1,8 +1,8 @@
 //! Laws of shared caches over their definitions, each the contract of a function
 //! that does nothing: a caller that calls it may rely on the law.
-ghost use Rattle.cache_sharing.specs.Laws.{AppendLaw, BesideLaw, OthersLaw, OwnDirtyLaw, StaysResidentLaw};
-ghost use Rattle.cache_sharing.specs.Laws.{EmptyLaw, SharedAloneLaw, PrefetchAloneLaw, ColdIsCleanLaw, StaysCleanLaw};
-ghost use Rattle.cache_sharing.specs.Laws.{PrefetchLaw, PrefetchStaysLaw, SettledLaw, ResidentLaw, RegionLaw, WorstLaw, SwitchLaw, OnTimeLaw};
+ghost use Rattle.mem_system.specs.SharingLaws.{AppendLaw, BesideLaw, OthersLaw, OwnDirtyLaw, StaysResidentLaw};
+ghost use Rattle.mem_system.specs.SharingLaws.{EmptyLaw, SharedAloneLaw, PrefetchAloneLaw, ColdIsCleanLaw, StaysCleanLaw};
+ghost use Rattle.mem_system.specs.SharingLaws.{PrefetchLaw, PrefetchStaysLaw, SettledLaw, ResidentLaw, RegionLaw, WorstLaw, SwitchLaw, OnTimeLaw};
 
 /// Touches one after the other are a touch of all of them in order.
 pub fn in_order()

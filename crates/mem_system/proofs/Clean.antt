@@ -12,10 +12,10 @@ use Rattle.mem_system.specs.Hierarchy.{Hierarchy, colour_of_line}
 use Rattle.mem_system.specs.Cost.{Touch, Caches, cold, fresh_core, Passed, Read, WriteBack, marked_where, is_pinned, below, below_if, below_by, below_all, on_core, pass_on, touched, touched_all, and_then}
 use Rattle.mem_system.specs.TouchLaws.{lines_in_l2}
 use Rattle.mem_system.proofs.TouchLaws.{line_elsewhere, handed_on}
-use Rattle.cache_sharing.specs.Sharing.{IsOwnLine, IsSharing, MayTouch, MayTouchAll, kept_at, KernelIsClean}
-use Rattle.cache_sharing.specs.Laws.{ColdIsCleanLaw, StaysCleanLaw}
-use Rattle.cache_sharing.proofs.OwnTouches.{own_dirty}
-use Rattle.cache_sharing.proofs.KernelSets.{any_colour, any_touch}
+use Rattle.mem_system.specs.Sharing.{IsOwnLine, IsSharing, MayTouch, MayTouchAll, kept_at, KernelIsClean}
+use Rattle.mem_system.specs.SharingLaws.{ColdIsCleanLaw, StaysCleanLaw}
+use Rattle.mem_system.proofs.OwnTouches.{own_dirty}
+use Rattle.mem_system.proofs.KernelSets.{any_colour, any_touch}
 
 module _ (h : Hierarchy) (coloured : IsColoured h.line_size h.l2.count) where
   -- no way of a set of colour 0 has a mark

@@ -1,7 +1,7 @@
 use Rattle.std.proofs.Common.{◌∙◌, ap}
 use Rattle.phys_mem.specs.Contents.{Contents}
 use Rattle.image_check.specs.Public.{Public}
-use Rattle.hart_set.proofs.placed.placed.Goals as goal
+use Rattle.domain_open.proofs.image.open_image.Goals as goal
 
 pub open_all-requires : goal.open_all-requires
 open_all-requires c = record {

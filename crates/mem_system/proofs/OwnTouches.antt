@@ -14,9 +14,9 @@ use Rattle.mem_system.specs.Hierarchy.{Hierarchy, colour_of_line}
 use Rattle.mem_system.specs.Cost.{Touch, Fetch, Load, Store, WalkRead, Look, Branch, Jump, EmptyTlb, Flush, Charge, Core, Caches, Passed, Read, WriteBack, Below, missed_cost, marked_where, is_pinned, below, below_if, below_by, below_all, fresh_core, fetched, accessed, guessed, branched, jumped, flushed, on_core, pass_on, touched, touched_all, and_then}
 use Rattle.mem_system.specs.TouchLaws.{lines_in_l2, holds}
 use Rattle.mem_system.proofs.TouchLaws.{set_colour, line_elsewhere, Spares, touch_spares, handed_on, below_if_held, looked_l1d}
-use Rattle.cache_sharing.specs.Operations.{prefetch}
-use Rattle.cache_sharing.specs.Sharing.{IsOwnLine, IsOwnSet, IsShared, IsSharing, AreApart, OwnDirty, MayTouch, MayTouchAll, SameSets, Resident, BesideL2, BesideCaches, BesideTouched}
-use Rattle.cache_sharing.specs.Laws.{PrefetchStaysLaw, BesideLaw, OthersLaw, OwnDirtyLaw, StaysResidentLaw, PrefetchLaw}
+use Rattle.mem_system.specs.Operations.{prefetch}
+use Rattle.mem_system.specs.Sharing.{IsOwnLine, IsOwnSet, IsShared, IsSharing, AreApart, OwnDirty, MayTouch, MayTouchAll, SameSets, Resident, BesideL2, BesideCaches, BesideTouched}
+use Rattle.mem_system.specs.SharingLaws.{PrefetchStaysLaw, BesideLaw, OthersLaw, OwnDirtyLaw, StaysResidentLaw, PrefetchLaw}
 
 -- ---- one cache
 

@@ -1,7 +1,7 @@
 -- What a domain touches.
-use Rattle.cache_sharing.proofs.OwnTouches.{beside_law, others_law, own_dirty_law, stays_law, prefetch_law, prefetch_stays_law}
-use Rattle.cache_sharing.proofs.Settling.{settled_law}
-use Rattle.cache_sharing.proofs.laws.own_touches.Goals as goal
+use Rattle.mem_system.proofs.OwnTouches.{beside_law, others_law, own_dirty_law, stays_law, prefetch_law, prefetch_stays_law}
+use Rattle.mem_system.proofs.Settling.{settled_law}
+use Rattle.mem_system.proofs.sharing.own_touches.Goals as goal
 
 pub returns-clause-beside : goal.returns-clause-beside
 returns-clause-beside c = beside_law

@@ -20,12 +20,12 @@ use Rattle.mem_system.specs.Cost.{Touch, Fetch, Load, Store, WalkRead, Look, Bra
 use Rattle.mem_system.specs.TouchLaws.{IsCostBelow, IsCostOfData, IsCostOfWalk, IsCost}
 use Rattle.mem_system.proofs.TouchLaws.{cost_is, looked_l1d, set_colour}
 use Rattle.mem_system.proofs.Touches.{touched_all-append}
-use Rattle.cache_sharing.specs.Operations.{touch_of_line, touch_by, footprint, operation, plain, leave, enter, shared_region, prefetch, leave_if, switch, switch_by}
-use Rattle.cache_sharing.specs.Sharing.{IsShared, IsSharing, KernelIsClean}
-use Rattle.cache_sharing.specs.Worst.{again, machine_shape, worst_touch, worst_touches, HasWays, IsWithin}
-use Rattle.cache_sharing.proofs.OwnTouches.{shared_colour, region_shared}
-use Rattle.cache_sharing.proofs.Clean.{IsCleanBelow, none_of, marked_clean, touch_clean, stays_clean_law}
-use Rattle.cache_sharing.specs.Laws.{WorstLaw, SwitchLaw, OnTimeLaw}
+use Rattle.mem_system.specs.Operations.{touch_of_line, touch_by, footprint, operation, plain, leave, enter, shared_region, prefetch, leave_if, switch, switch_by}
+use Rattle.mem_system.specs.Sharing.{IsShared, IsSharing, KernelIsClean}
+use Rattle.mem_system.specs.Worst.{again, machine_shape, worst_touch, worst_touches, HasWays, IsWithin}
+use Rattle.mem_system.proofs.OwnTouches.{shared_colour, region_shared}
+use Rattle.mem_system.proofs.Clean.{IsCleanBelow, none_of, marked_clean, touch_clean, stays_clean_law}
+use Rattle.mem_system.specs.SharingLaws.{WorstLaw, SwitchLaw, OnTimeLaw}
 
 -- ---- the first-level data cache keeps its ways
 

@@ -11,11 +11,11 @@ use Rattle.mem_system.specs.Hierarchy.{Hierarchy, colour_of_line}
 use Rattle.mem_system.specs.Cost.{Touch, Fetch, Load, Store, WalkRead, Look, Branch, Jump, EmptyTlb, Flush, Charge, Caches, cold, Passed, Read, WriteBack, marked_where, is_pinned, below, below_if, below_by, below_all, on_core, pass_on, touched, touched_all, and_then}
 use Rattle.mem_system.specs.TouchLaws.{lines_in_l2}
 use Rattle.mem_system.proofs.TouchLaws.{set_colour, handed_on}
-use Rattle.cache_sharing.specs.Operations.{prefetch}
-use Rattle.cache_sharing.specs.Sharing.{IsOwnLine, IsShared, MayTouch, MayTouchAll, KeepsSharedAlone}
-use Rattle.cache_sharing.specs.Laws.{EmptyLaw, SharedAloneLaw, PrefetchAloneLaw}
-use Rattle.cache_sharing.proofs.ResidencyWays.{only_touched}
-use Rattle.cache_sharing.proofs.OwnTouches.{MayReach, may_reach, prefetch_may}
+use Rattle.mem_system.specs.Operations.{prefetch}
+use Rattle.mem_system.specs.Sharing.{IsOwnLine, IsShared, MayTouch, MayTouchAll, KeepsSharedAlone}
+use Rattle.mem_system.specs.SharingLaws.{EmptyLaw, SharedAloneLaw, PrefetchAloneLaw}
+use Rattle.mem_system.proofs.ResidencyWays.{only_touched}
+use Rattle.mem_system.proofs.OwnTouches.{MayReach, may_reach, prefetch_may}
 
 pub empty_law : EmptyLaw
 unfolding cold

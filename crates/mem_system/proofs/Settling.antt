@@ -8,10 +8,10 @@ use Rattle.set_cache.proofs.Steps.{set_at-touch_other}
 use Rattle.set_cache.proofs.Dirty.{is_among, is_among-append, given_up_dirty, among-load, marked_by, marked_by-same, marked_by-none, marked_by-twice, is_here, is_here_of, here_among, set_at-marked}
 use Rattle.mem_system.specs.Hierarchy.{Hierarchy}
 use Rattle.mem_system.specs.Cost.{Load, Flush, Caches, Passed, Read, WriteBack, given_up, unless_hit, marked_where, below, below_if, below_by, below_all, fresh_core, flushed, accessed, on_core, pass_on, touched, touched_all, and_then}
-use Rattle.cache_sharing.specs.Operations.{prefetch}
-use Rattle.cache_sharing.specs.Sharing.{IsOwnSet, IsShared, IsSharing, SameSets, settled}
-use Rattle.cache_sharing.specs.Laws.{SettledLaw}
-use Rattle.cache_sharing.proofs.OwnTouches.{shared_elsewhere, region_shared}
+use Rattle.mem_system.specs.Operations.{prefetch}
+use Rattle.mem_system.specs.Sharing.{IsOwnSet, IsShared, IsSharing, SameSets, settled}
+use Rattle.mem_system.specs.SharingLaws.{SettledLaw}
+use Rattle.mem_system.proofs.OwnTouches.{shared_elsewhere, region_shared}
 
 module _ (h : Hierarchy) where
   -- ---- what is written back, one line after the other

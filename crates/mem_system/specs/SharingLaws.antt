@@ -7,9 +7,9 @@ use Rattle.pad_bound.specs.Bound.{worst_instruction, worst_operation, worst_leav
 use Rattle.pad_bound.specs.Worst.{IsCloneOf}
 use Rattle.mem_system.specs.Hierarchy.{Hierarchy}
 use Rattle.mem_system.specs.Cost.{Touch, Caches, cold, and_then, touched_all}
-use Rattle.cache_sharing.specs.Operations.{shared_region, prefetch, leave_if, switch}
-use Rattle.cache_sharing.specs.Sharing.{IsRegion, IsSharing, HasRoom, AreApart, MayTouchAll, SameSets, Resident, kept_at, KeepsSharedAlone, KernelIsClean, OwnDirty, settled, BesideCaches, BesideTouched}
-use Rattle.cache_sharing.specs.Worst.{machine_shape, worst_touches, HasWays, IsWithin}
+use Rattle.mem_system.specs.Operations.{shared_region, prefetch, leave_if, switch}
+use Rattle.mem_system.specs.Sharing.{IsRegion, IsSharing, HasRoom, AreApart, MayTouchAll, SameSets, Resident, kept_at, KeepsSharedAlone, KernelIsClean, OwnDirty, settled, BesideCaches, BesideTouched}
+use Rattle.mem_system.specs.Worst.{machine_shape, worst_touches, HasWays, IsWithin}
 
 -- touches after touches
 abbrev pub AppendLaw : Type 0

@@ -11,8 +11,8 @@ use Rattle.l2_colour.proofs.Rows.{sets_are}
 use Rattle.kernel_clone.specs.Footprints.{Layout, IsLayout, lines_in_frame, shared_line, shared_lines}
 use Rattle.kernel_clone.proofs.LineLaws.{some_lines, whole_lines, shared_frame}
 use Rattle.mem_system.specs.Hierarchy.{Hierarchy, colour_of_line}
-use Rattle.cache_sharing.specs.Operations.{shared_region}
-use Rattle.cache_sharing.specs.Sharing.{IsRegion, HasRoom}
+use Rattle.mem_system.specs.Operations.{shared_region}
+use Rattle.mem_system.specs.Sharing.{IsRegion, HasRoom}
 
 module _ (h : Hierarchy) (l : Layout) (is : IsLayout l) (coloured : IsColoured h.line_size h.l2.count) (same_line : l.line ≡ h.line_size)
     (same_colours : l.colours ≡ colours_of h.line_size h.l2.count) where

@@ -4,7 +4,8 @@ ghost use Rattle.phys_mem.specs.Holds.{Holds};
 ghost use Rattle.image_check.specs.Image.{image_from};
 ghost use Rattle.domain_open.specs.Placing.{AllOpened, placed_all};
 
-use domain_open::{load_pages, open_all};
+use crate::memory::load_pages;
+use crate::open::open_all;
 use image_check::Checked;
 use kernel_call::Domain;
 use phys_mem::PhysMem;
@@ -16,7 +17,7 @@ use tp_base::Memory;
 ///
 /// # Errors
 /// `Memory` where no memory is left for them.
-pub fn placed(alloc: Global, image: &Checked) -> Result<(PhysMem, Vec<Domain>), Memory>
+pub fn open_image(alloc: Global, image: &Checked) -> Result<(PhysMem, Vec<Domain>), Memory>
     ensures size { IfOk result (λ p. p.0.frames ≡ (image_from image.now).all.hardware.frames) }
     ensures holds { IfOk result (λ p. Holds p.0 (placed_all (image_from image.now))) }
     ensures opened { IfOk result (λ p. AllOpened (image_from image.now) p.1.items) }
