@@ -1,4 +1,5 @@
 mod Elements
+mod Errors
 mod Loading
 mod Openings
 mod Pages

@@ -1,5 +1,5 @@
 -- Frames that are taken from a pool, and zeroed.
-use Rattle.std.proofs.Common.{◌≡◌, ◌≢◌, ℕ, zero, suc, ◌<◌, ◌∙◌, Bool, true, false, true≢false, ◌||◌, List, [], ◌∷◌, ◌++◌, Vec, Global, length, get_or, map, take, drop, ap, ap₂, sym, refl, inl, inr, subst, arith, ◌+◌}
+use Rattle.std.proofs.Common.{◌≡◌, ◌≢◌, ℕ, zero, suc, ◌<◌, ◌∙◌, Bool, true, false, true≢false, ◌||◌, List, [], ◌∷◌, ◌++◌, Vec, Global, length, get_or, slice_get, Option, Some, IsSome, map, take, drop, ap, ap₂, sym, refl, inl, inr, subst, arith, ◌+◌}
 use Rattle.std.proofs.lemmas.Bool.{cases_eq, cases_Bool, lt-ltb}
 use Rattle.std.proofs.lemmas.List.{append_assoc, take-append-drop, take-take, drop-take, map_push, map_more}
 use Rattle.tp_base.specs.Table.{empty}
@@ -103,6 +103,16 @@ still_elsewhere p o n old new h f i in_memory in_frame other =
     let rest = drop n (pool p o) in
     let out = neither (has all f) (has rest f) (sym (has_append all rest f) ∙ ap (λ (fs : List ℕ). has fs f) (take-append-drop n (pool p o)) ∙ not_pool p o f other) in
     h.others f i out.0
+
+-- ---- the first of a list
+
+pub first_is : (xs : List ℕ) (first : Option ℕ) → 0 < length xs → first ≡ slice_get xs 0 → IsSome first
+first_is [] first some is = absurd (omega (arith, some))
+first_is (x ∷ xs) first some is = subst (λ (r : Option ℕ). IsSome r) (sym is) refl
+
+pub is_first : (xs : List ℕ) (x : ℕ) → slice_get xs 0 ≡ Some x → xs ≡ x ∷ drop 1 xs
+is_first [] x is = absurd cc
+is_first (y ∷ ys) x is = cc
 
 -- ---- a list of which one more is taken
 

@@ -1,6 +1,8 @@
 // The frames of a domain, taken from the pool of its share.
-ghost use Rattle.std.specs.Prelude.{◌≡◌, ◌+◌, ◌<◌, ◌≤◌, ◌∷◌, [], ◌++◌, length, take, drop, IfOk};
+ghost use Rattle.std.specs.Prelude.{◌≡◌, ◌+◌, ◌<◌, ◌≤◌, ◌∷◌, [], ◌++◌, length, take, drop, map, IfOk};
 ghost use Rattle.std.specs.Vec.{vec_len, vec_capacity};
+ghost use Rattle.frame_colours.specs.Colours.{colours_in};
+ghost use Rattle.image_check.specs.Own.{Own};
 ghost use Rattle.image_check.specs.Image.{image_from};
 ghost use Rattle.domain_open.specs.Placing.{AreZeroed, all_shares};
 
@@ -77,14 +79,23 @@ pub fn shares_of(alloc: Global, image: &Checked) -> Result<Vec<ColourShare>, Mem
     ensures shares { IfOk result (λ shares. shares.items ≡ all_shares (image_from image.now)) }
 {
     image.runnable();
-    let public = image.public();
-    let many = public.domains as usize;
+    let hardware = &image.public().hardware;
+    let lists = colours_of(alloc, image)?;
+    AllColours::new(hardware.frames, hardware.colours()).split(alloc, &lists)
+}
+
+// The colours that each domain names.
+fn colours_of(alloc: Global, image: &Checked) -> Result<Vec<Vec<u8>>, Memory>
+    ensures colours { IfOk result (λ lists.
+        colours_in lists.items ≡ map (λ (o : Own). o.colours) (image_from image.now).owns) }
+{
+    image.runnable();
+    let many = image.public().domains as usize;
     let mut lists = Vec::with_capacity(alloc, many)?;
     for d in 0..many {
-        lists.push(Vec::from_slice(alloc, image.own(d).colours.as_slice())?)?;
+        lists.push_reserved(Vec::from_slice(alloc, image.own(d).colours.as_slice())?);
     }
-    let hardware = &public.hardware;
-    AllColours::new(hardware.frames, hardware.colours()).split(alloc, &lists)
+    Ok(lists)
 }
 
 /// Spends shares on nothing.

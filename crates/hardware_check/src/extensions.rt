@@ -16,7 +16,6 @@ use cycle_cost::ProductCosts;
 use image_record::cases::{outside, refusal};
 use image_record::{Raw, RawMuldiv, Refusal, natural_of};
 
-#[tactic(auto, using(image_record::proofs::Ranges::natural_inside, image_record::proofs::Ranges::most_inside))]
 fn cost_or_none(cost: i64) -> u32
     ensures value { result ≡ spec_cost_or_none cost }
     ensures few { result ≤ 1000 }
@@ -49,7 +48,6 @@ pub fn muldiv_of(said: Option<RawMuldiv>) -> Option<ProductCosts>
     }
 }
 
-#[tactic(auto, using(crate::proofs::Parts::size_natural, crate::proofs::Parts::size_most))]
 fn places_of(said: i64) -> u32
     ensures value { result ≡ spec_places_of said }
 {

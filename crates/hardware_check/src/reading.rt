@@ -1,7 +1,8 @@
 // The machine, as an image says it.
 ghost use Rattle.std.specs.Prelude.{◌≡◌, true};
-ghost use Rattle.cycle_cost.specs.Costs.{AreCosts};
+ghost use Rattle.cycle_cost.specs.Costs.{IsCost, AreCosts};
 ghost use Rattle.cycle_cost.specs.Models.{costs_of as cost_table_of};
+ghost use Rattle.image_record.specs.Numbers.{natural_of as natural_number};
 ghost use Rattle.image_record.specs.Parts.{costs_model};
 ghost use Rattle.image_record.specs.Models.{raw_model};
 ghost use Rattle.hardware_check.specs.Hardware as spec;
@@ -14,27 +15,35 @@ use crate::hardware::{Caches, Hardware};
 use cycle_cost::Costs;
 use image_record::{Raw, RawCosts, natural_of};
 
-#[tactic(auto, unfolding(crate::specs::Hardware::costs_of), using(crate::proofs::Parts::natural_cost))]
+fn cost_of(cost: i64) -> u32
+    requires range { IsCost (natural_number cost) }
+    ensures value { result ≡ natural_number cost }
+    ensures range { IsCost result }
+{
+    natural_of(cost) as u32
+}
+
+#[tactic(auto, unfolding(crate::specs::Hardware::costs_of))]
 fn costs_of(costs: &RawCosts) -> Costs
     requires ranges { AreCosts (spec.costs_of (costs_model costs.now)) }
     ensures value { cost_table_of result ≡ spec.costs_of (costs_model costs.now) }
 {
     Costs {
-        base: natural_of(costs.base) as u32,
-        l1: natural_of(costs.l1) as u32,
-        l2: natural_of(costs.l2) as u32,
-        mem: natural_of(costs.mem) as u32,
-        wb: natural_of(costs.wb) as u32,
-        tlb: natural_of(costs.tlb) as u32,
-        mispredict: natural_of(costs.mispredict) as u32,
-        trap: natural_of(costs.trap) as u32,
-        flush: natural_of(costs.flush) as u32,
+        base: cost_of(costs.base),
+        l1: cost_of(costs.l1),
+        l2: cost_of(costs.l2),
+        mem: cost_of(costs.mem),
+        wb: cost_of(costs.wb),
+        tlb: cost_of(costs.tlb),
+        mispredict: cost_of(costs.mispredict),
+        trap: cost_of(costs.trap),
+        flush: cost_of(costs.flush),
     }
 }
 
 /// The machine of an image whose parts and shared region break no rule, of the
 /// caches that K3 hands out.
-#[tactic(auto, unfolding(crate::specs::Hardware::hardware_of), using(crate::proofs::Parts::region_fits))]
+#[tactic(auto, unfolding(crate::specs::Hardware::hardware_of))]
 pub fn hardware_of(raw: &Raw, caches: Caches) -> Hardware
     requires parts { KeepsParts (raw_model raw.now) }
     requires caches { AreCaches caches (raw_model raw.now) }

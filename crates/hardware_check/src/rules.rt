@@ -17,7 +17,6 @@ use crate::reading::hardware_of;
 use image_record::cases::{outside, range_case, refusal};
 use image_record::{Raw, RawCache, Refusal, natural_of};
 
-#[tactic(auto, using(crate::proofs::Parts::size_natural, crate::proofs::Parts::size_most))]
 fn size_case(part: u8, low: u32, high: u32, number: i64) -> Result<u32, Refusal>
     ensures verdict { IsVerdict result (spec.size_case part low high number) }
     ensures value { IfOk result (λ n. n ≡ spec_natural_of number) }
@@ -33,16 +32,12 @@ fn policy_in(name: &str) -> Option<Policy>
     ensures known { is_some result ≡ spec.is_policy name.now }
     ensures value { IfSome result (λ p. p ≡ policy_of name.now) }
 {
-    if name == "fifo" {
-        Some(Policy::Fifo)
-    } else if name == "plru" {
-        Some(Policy::Plru)
-    } else if name == "nmru" {
-        Some(Policy::Nmru)
-    } else if name == "lru" {
-        Some(Policy::Lru)
-    } else {
-        None
+    match name {
+        "fifo" => Some(Policy::Fifo),
+        "plru" => Some(Policy::Plru),
+        "nmru" => Some(Policy::Nmru),
+        "lru" => Some(Policy::Lru),
+        _ => None,
     }
 }
 
@@ -53,7 +48,6 @@ fn is_uneven_tree(cache: &RawCache) -> bool
     cache.policy.as_str() == "plru" && !is_power_of_two(cache.ways)
 }
 
-#[tactic(auto, unfolding(crate::specs::Rules::ways_case, crate::specs::Hardware::cache_shape_of), using(image_record::proofs::Ranges::natural_inside, image_record::proofs::Ranges::most_inside))]
 fn ways_case(part: u8, sets: u32, cache: &RawCache) -> Result<CacheShape, Refusal>
     requires sets { sets ≡ spec_natural_of cache.now.sets }
     ensures verdict { IsVerdict result (spec.ways_case part (cache_model cache.now)) }
@@ -75,7 +69,6 @@ fn ways_case(part: u8, sets: u32, cache: &RawCache) -> Result<CacheShape, Refusa
     })
 }
 
-#[tactic(auto, unfolding(crate::specs::Rules::cache_case))]
 fn cache_case(part: u8, most_sets: u32, cache: &RawCache) -> Result<CacheShape, Refusal>
     ensures verdict { IsVerdict result (spec.cache_case part most_sets (cache_model cache.now)) }
     ensures value { IfOk result (λ s. shape_model s ≡ cache_shape_of (cache_model cache.now)) }
@@ -93,7 +86,6 @@ fn history_case(history: i64) -> Result<(), Refusal>
     Ok(())
 }
 
-#[tactic(auto, unfolding(crate::specs::Rules::predictor_case))]
 fn predictor_case(size: i64, history: i64) -> Result<(), Refusal>
     ensures verdict { IsVerdict result (spec.predictor_case size history) }
 {
@@ -104,7 +96,6 @@ fn predictor_case(size: i64, history: i64) -> Result<(), Refusal>
 /// K3: the line, the caches, the translation buffer and the predictor have
 /// sizes, ways and policies that there are, and the predictor's history is not too
 /// long; so these caches.
-#[tactic(auto, unfolding(crate::specs::Rules::k3))]
 pub fn k3(raw: &Raw) -> Result<Caches, Refusal>
     ensures verdict { IsVerdict result (spec.k3 (raw_model raw.now)) }
     ensures value { IfOk result (λ c. AreCaches c (raw_model raw.now)) }
@@ -133,7 +124,6 @@ fn frames_in(raw: &Raw) -> u32
 }
 
 /// K4: 64 to 4,096 frames, in the second version 16,384; so their number.
-#[tactic(auto, unfolding(crate::specs::Rules::k4))]
 pub fn k4(raw: &Raw) -> Result<u32, Refusal>
     ensures verdict { IsVerdict result (spec.k4 (raw_model raw.now)) }
     ensures value { IfOk result (λ f. f ≡ (spec_hardware_of (raw_model raw.now)).frames) }
@@ -152,7 +142,6 @@ fn colours_in(raw: &Raw) -> u32
 }
 
 /// K5: 2 to 64 colours; so their number.
-#[tactic(auto, unfolding(crate::specs::Rules::k5))]
 pub fn k5(raw: &Raw) -> Result<u32, Refusal>
     requires parts { spec.k3 (raw_model raw.now) ≡ None }
     ensures verdict { IsVerdict result (spec.k5 (raw_model raw.now)) }
@@ -169,7 +158,7 @@ fn first_dear(costs: &[i64]) -> Result<(), Refusal>
     ensures verdict { IsVerdict result (first_in spec.k6_cost costs.now) }
 {
     for (place, cost) in costs.iter().enumerate() {
-        range_case(6, place as i64 + 1, 1, 1000, *cost)?;
+        range_case(6, (place + 1) as i64, 1, 1000, *cost)?;
     }
     Ok(())
 }
@@ -193,7 +182,6 @@ pub fn k6(raw: &Raw) -> Result<(), Refusal>
     ])
 }
 
-#[tactic(auto, unfolding(crate::specs::Rules::is_region), using(crate::proofs::Parts::natural_positive, crate::proofs::Parts::natural_above))]
 fn is_region(line: i64, shared: i64) -> bool
     requires line { 0 < spec_natural_of line }
     ensures value { result ≡ spec.is_region line shared }
@@ -222,7 +210,6 @@ fn room_case(hardware: &Hardware) -> Result<(), Refusal>
 /// K11: the shared region is whole lines up to 65,536 bytes, and its frames
 /// have their ways in the second level and their places in memory. Then the
 /// machine is whole, with the caches that K3 hands out.
-#[tactic(auto, unfolding(crate::specs::Rules::k11))]
 pub fn k11(raw: &Raw, caches: Caches) -> Result<Hardware, Refusal>
     requires parts { KeepsParts (raw_model raw.now) }
     requires caches { AreCaches caches (raw_model raw.now) }

@@ -1,8 +1,13 @@
 // What the rules before that of pads let through, tested in their order; and the calls of each domain.
-ghost use Rattle.std.specs.Prelude.{◌≡◌, [], IfOk, IfErr, OnOk};
+ghost use Rattle.std.specs.Prelude.{◌≡◌, [], ◌∷◌, map, IfOk, IfErr, OnOk};
 ghost use Rattle.image_record.specs.Models.{raw_model};
 ghost use Rattle.image_check.specs.Outcomes.{IsFirst};
-ghost use Rattle.image_check.specs.Checking.{broken_before_pads};
+ghost use Rattle.domain_check.specs.Colours.{own_colours};
+ghost use Rattle.domain_check.specs.Segments.{k12 as spec_k12};
+ghost use Rattle.domain_check.specs.Capabilities.{k13 as spec_k13};
+ghost use Rattle.schedule_check.specs.Interrupts.{k14 as spec_k14, k15 as spec_k15};
+ghost use Rattle.schedule_check.specs.Schedule.{k16 as spec_k16};
+ghost use Rattle.image_check.specs.Checking.{broken_of, broken_before_pads};
 ghost use Rattle.hardware_check.specs.Hardware.{hardware_of};
 ghost use Rattle.image_check.specs.Parts.{ArePartsOf};
 ghost use Rattle.image_check.specs.Models.{hardware_model};
@@ -21,6 +26,32 @@ use std::alloc::Global;
 pub struct Parts {
     pub hardware: Hardware,
     pub domains: DomainParts,
+}
+
+/// What the rules from K12 on let through of the domains, whose colours are these,
+/// and their calls.
+fn own_parts(alloc: Global, colours: Vec<Vec<u8>>, raw: &Raw) -> Result<DomainParts, CheckRefusal>
+    requires colours { map (λ v. v.items) colours.items ≡ map own_colours (raw_model raw.now).domains }
+    ensures refused { let rules = spec_k12 ∷ spec_k13 ∷ spec_k14 ∷ spec_k15 ∷ spec_k16 ∷ [] in
+        IfErr result (IsFirst (broken_of rules (raw_model raw.now) [])) }
+    ensures accepted { let rules = spec_k12 ∷ spec_k13 ∷ spec_k14 ∷ spec_k15 ∷ spec_k16 ∷ [] in
+        OnOk result (broken_of rules (raw_model raw.now) [] ≡ []) }
+    ensures parts { IfOk result (λ p. ArePartsOf p (raw_model raw.now).domains) }
+{
+    let segments = k12(alloc, raw)?;
+    let caps = k13(alloc, raw)?;
+    let lines = k14(alloc, raw)?;
+    let moments = k15(alloc, raw)?;
+    k16(raw)?;
+    let calls = calls_in(alloc, raw)?;
+    Ok(DomainParts {
+        colours,
+        segments,
+        caps,
+        lines,
+        moments,
+        calls,
+    })
 }
 
 /// The parts, where no rule before that of pads is broken.
@@ -45,21 +76,6 @@ pub fn parts_of(alloc: Global, raw: &Raw) -> Result<Parts, CheckRefusal>
     k9(raw)?;
     k10(frames, colours, owns.as_slice(), raw)?;
     let hardware = k11(raw, caches)?;
-    let segments = k12(alloc, raw)?;
-    let caps = k13(alloc, raw)?;
-    let lines = k14(alloc, raw)?;
-    let moments = k15(alloc, raw)?;
-    k16(raw)?;
-    let calls = calls_in(alloc, raw)?;
-    Ok(Parts {
-        hardware,
-        domains: DomainParts {
-            colours: owns,
-            segments,
-            caps,
-            lines,
-            moments,
-            calls,
-        },
-    })
+    let domains = own_parts(alloc, owns, raw)?;
+    Ok(Parts { hardware, domains })
 }

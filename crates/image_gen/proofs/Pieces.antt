@@ -1,6 +1,9 @@
 -- Lists that a loop makes piece by piece.
-use Rattle.std.proofs.Common.{◌≡◌, ℕ, zero, suc, ◌+◌, List, [], ◌∷◌, ◌++◌, map, flat_map, ap, sym, ◌∙◌, arith, append_assoc, append-nil}
+use Rattle.std.proofs.Common.{◌≡◌, ℕ, zero, suc, ◌+◌, ◌<◌, List, [], ◌∷◌, ◌++◌, length, map, take, get_or, flat_map, Result, Ok, Err, ap, sym, ◌∙◌, arith, append_assoc, append-nil}
+use Rattle.std.specs.Prelude.{IfOk, OnOk, is_ok, if◌then◌else◌}
 use Rattle.std.specs.List.{range_with_len}
+use Rattle.std.proofs.lemmas.List.{take_more}
+use Rattle.std.proofs.lemmas.List.Concat.{flat_map-append}
 use Rattle.std.proofs.lemmas.List.FromFn.{map-range_with_len_more}
 use Rattle.image_gen.specs.Generated.{count, at_domain}
 use Rattle.image_gen.specs.Program.{first_words}
@@ -12,6 +15,24 @@ flat_map_more f a zero b e =
     append-nil (f a) ∙ ap f same
 flat_map_more f a (suc n) b e =
     ap (λ (xs : List ℕ). f a ++ xs) (flat_map_more f (a + 1) n b (omega arith)) ∙ sym (append_assoc (f a) (flat_map f (range_with_len (a + 1) n)) (f b))
+
+-- the items before place k, and the one there
+pub mapped_more : (f : ℕ → List ℕ) (xs : List ℕ) (k d : ℕ) (old new : List ℕ) → k < length xs → old ≡ flat_map f (take k xs) → new ≡ old ++ f (get_or xs k d)
+    → new ≡ flat_map f (take (k + 1) xs)
+mapped_more f xs k d old new below so_far more =
+    let x = get_or xs k d in
+    let all = ap (flat_map f) (take_more xs k d below) ∙ flat_map-append f (take k xs) (x ∷ []) ∙ ap (λ ys. flat_map f (take k xs) ++ ys) (append-nil (f x)) in
+    more ∙ ap (λ ys. ys ++ f x) so_far ∙ sym all
+
+-- what holds in any case holds of a value
+pub whatever_comes : {X E : Type 0} (result : Result X E) (P : Type 0) → P → IfOk result (λ x. P)
+whatever_comes (Ok x) P holds = holds
+whatever_comes (Err e) P holds = tt
+
+-- text is written, or what was there stays
+pub when_written : {X E : Type 0} (result : Result X E) (s whole old : List ℕ) → s ≡ (if is_ok result then whole else old) → OnOk result (s ≡ whole)
+when_written (Ok x) s whole old is = is
+when_written (Err e) s whole old is = tt
 
 -- the piece of place k is written after those of the places before it
 pub written_more : (f : ℕ → List ℕ) (k : ℕ) (start old new piece : List ℕ) → old ≡ start ++ flat_map f (range_with_len 0 k) → piece ≡ f k → new ≡ old ++ piece

@@ -30,7 +30,6 @@ fn policy_of(seed: u64) -> &'static str
 /// # Errors
 ///
 /// `Memory` where memory runs out.
-#[tactic(auto, unfolding(crate::specs::Text::text, crate::specs::Text::domains_text, crate::specs::Text::slots_text, crate::specs::Generated::count))]
 pub fn generate(alloc: Global, seed: u64) -> Result<String, Memory>
     ensures text { IfOk result (λ s. string_bytes s ≡ spec_text seed) }
     ensures reads { IfOk result (λ s. image_of (string_bytes s) ≡ Ok (generated seed)) }

@@ -83,7 +83,6 @@ fn bytes_of(alloc: Global, program: &[u32]) -> Result<Vec<u8>, Memory>
 }
 
 /// The bytes of the program that the next 64 words choose.
-#[tactic(auto, using(seed_words::proofs::Draws::after_none, seed_words::proofs::Draws::after_next, seed_words::proofs::Draws::word_here), unfolding(crate::specs::Program::program, crate::specs::Program::program_bytes))]
 pub fn program(alloc: Global, words: &mut Lcg64Xsh32) -> Result<Vec<u8>, Memory>
     ensures bytes { IfOk result (λ b. b.items ≡ spec.program_bytes words.old) }
     ensures drawn { OnOk result (words.new ≡ after 64 words.old) }

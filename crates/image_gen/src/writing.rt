@@ -48,7 +48,6 @@ costs = {{ base = 1, l1 = 1, l2 = 8, mem = 40, wb = 10, tlb = 1, mispredict = 3,
 }
 
 /// The title of the schedule.
-#[tactic(auto, unfolding(crate::specs::Text::schedule_title))]
 pub fn write_schedule_title(text: &mut String) -> Result<(), AllocError>
     ensures added { OnOk result (string_bytes text.new ≡ string_bytes text.old ++ spec.schedule_title) }
 {
@@ -64,7 +63,6 @@ fn separator(place: u32) -> &'static str
 
 /// The items of the list of domain `number`'s interrupts, at the moments that the
 /// next 8 words choose.
-#[tactic(auto, using(seed_words::proofs::Draws::after_none, seed_words::proofs::Draws::after_next, seed_words::proofs::Draws::word_here), unfolding(crate::specs::Text::moments_text))]
 fn moments(alloc: Global, number: u32, words: &mut Lcg64Xsh32) -> Result<String, Memory>
     ensures text { IfOk result (λ s. string_bytes s ≡ spec.moments_text number words.old) }
     ensures drawn { OnOk result (words.new ≡ after 8 words.old) }
@@ -149,7 +147,6 @@ fn write_with(text: &mut String, number: u32, moments: &str, hex: &str) -> Resul
 }
 
 /// Domain `number`, made by the next 72 words.
-#[tactic(auto, using(seed_words::proofs::Draws::after_next))]
 pub fn write_domain(
     alloc: Global,
     text: &mut String,

@@ -4,6 +4,7 @@ pub mod Fetches
 pub mod Leaves
 pub mod Looks
 pub mod Made
+pub mod Emptied
 pub mod WalkReads
 pub mod Touches
 pub mod WriteBacks

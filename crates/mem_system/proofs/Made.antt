@@ -34,7 +34,7 @@ pub shape_made : {P : Type 0} (takes : P → ℕ → Type 0) (rule : P → ℕ �
     → shape_of rule cache ≡ record { rule = rule policy ways; ways = ways; count = sets }
 shape_made takes rule stands policy sets ways cache made = rw (made.same_policy, made.same_ways, made.same_sets) refl
 
-sizes_made : (s : Sizes) → sizes_of (fresh_guesses s) ≡ s
+pub sizes_made : (s : Sizes) → sizes_of (fresh_guesses s) ≡ s
 sizes_made s = rw (length-replicate {A = ℕ} s.counters 1, length-replicate {A = Option Jump} s.targets None) refl
 
 module _ {P : Type 0} (takes : P → ℕ → Type 0) (rule : P → ℕ → Rule) (stands : P → ℕ → ℕ → List ℕ → Type 0)
@@ -51,3 +51,25 @@ module _ {P : Type 0} (takes : P → ℕ → Type 0) (rule : P → ℕ → Rule)
   pub stands_cold : SystemStands stands (system core l2) (cold (hierarchy_by rule g costs products))
   unfolding cold fresh_core
   stands_cold = record { core = fresh; l2 = made.fresh }
+
+-- what is true of a core and of a second level is true of both
+module _ {P E : Type 0} (takes : P → ℕ → Type 0) (rule : P → ℕ → Rule) (stands : P → ℕ → ℕ → List ℕ → Type 0)
+    (g : Geometry P) (costs : Costs) (products : Option ProductCosts) where
+  pub both_cold : (made : Result (CoreContents P × L2Contents P) E)
+      → IfOk made (λ m. CoreStands stands m.0 (record { l1i = empty; l1d = empty; tlb = empty; guesses = fresh_guesses g.predictor }))
+      → IfOk made (λ m. IsNew takes stands g.l2.policy g.l2.sets g.l2.ways m.1.cache)
+      → IfOk made (λ m. SystemStands stands (system m.0 m.1) (cold (hierarchy_by rule g costs products)))
+  both_cold (Ok m) fresh new = stands_cold takes rule stands g costs products m.0 m.1 new fresh
+  both_cold (Err e) fresh new = tt
+
+  pub both_hierarchy : (made : Result (CoreContents P × L2Contents P) E)
+      → IfOk made (λ m. CoreStands stands m.0 (record { l1i = empty; l1d = empty; tlb = empty; guesses = fresh_guesses g.predictor }))
+      → IfOk made (λ m. IsNew takes stands g.l2.policy g.l2.sets g.l2.ways m.1.cache)
+      → IfOk made (λ m. m.0.costs ≡ costs_of costs) → IfOk made (λ m. m.0.products ≡ option_map product_costs_of products)
+      → IfOk made (λ m. shape_of rule m.0.l1i ≡ shape_by rule g.l1i) → IfOk made (λ m. shape_of rule m.0.l1d ≡ shape_by rule g.l1d)
+      → IfOk made (λ m. shape_of rule m.0.tlb.pages ≡ shape_by rule g.tlb)
+      → IfOk made (λ m. m.1.line_size ≡ g.line_size) → IfOk made (λ m. m.1.back ≡ g.back)
+      → IfOk made (λ m. hierarchy_of rule (system m.0 m.1) ≡ hierarchy_by rule g costs products)
+  both_hierarchy (Ok m) fresh new cost product l1i l1d tlb size back =
+      hierarchy_made takes rule stands g costs products m.0 m.1 new fresh cost product l1i l1d tlb size back
+  both_hierarchy (Err e) fresh new cost product l1i l1d tlb size back = tt

@@ -372,7 +372,6 @@ impl<P: Policy> OnCore<P> {
 
     /// Makes everything on the core fresh, after the dirty lines are written
     /// back; the cost of it.
-    #[tactic(auto, unfolding(crate::specs::Cost::touched, crate::specs::Cost::on_core, crate::specs::Cost::flushed, crate::specs::Cost::fresh_core, crate::specs::Cost::pass_on))]
     pub fn flush(&mut self, l2: &mut L2<P>) -> u32
         ensures kept { (mem : Mem) (frames root : ℕ) → KeepsLeaves mem frames root self.new.tlb }
         ensures makes { MakesTouch P.rule P.stands_for Flush result
@@ -542,9 +541,9 @@ impl<P: Policy> OnCore<P> {
     }
 }
 
-// Two parts, where both could be made. (Handed on as it is, a `Result` is nothing
-// that a caller would have to drop.)
-fn both<A: Drop, B: Drop>(
+/// Two parts, where both could be made. (Handed on as it is, a `Result` is nothing
+/// that a caller would have to drop.)
+pub fn both<A: Drop, B: Drop>(
     first: Result<A, Memory>,
     second: Result<B, Memory>,
 ) -> Result<(A, B), Memory>

@@ -6,6 +6,7 @@ ghost use Rattle.mem_system.specs.Contents.{system, SystemStands, hierarchy_of};
 ghost use Rattle.mem_system.specs.Geometry.{IsGeometry, hierarchy_by};
 ghost use Rattle.mem_system.specs.Translation.{KeepsLeaves};
 
+use crate::on_core::both;
 use crate::{CacheGeometry, Geometry, OnCore, Translated};
 use cycle_cost::{Costs, ProductCosts};
 use l2_colour::L2;
@@ -221,8 +222,7 @@ pub fn new_parts<P: Policy>(
         tlb,
     } = geometry;
     let CacheGeometry { policy, sets, ways } = l2;
-    // The core comes last: it has the most to drop where memory runs out.
-    let l2 = L2::new(alloc, line_size, policy, sets, ways, back)?;
-    let core = OnCore::new(alloc, predictor, l1i, l1d, tlb, costs, products, pinned)?;
-    Ok((core, l2))
+    let l2 = L2::new(alloc, line_size, policy, sets, ways, back);
+    let core = OnCore::new(alloc, predictor, l1i, l1d, tlb, costs, products, pinned);
+    both(core, l2)
 }

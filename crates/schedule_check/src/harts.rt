@@ -33,7 +33,6 @@ fn hart_cases(texts: &[RawEntry]) -> Result<(), Refusal>
     Ok(())
 }
 
-#[tactic(auto, unfolding(crate::specs::Schedule::entry_of), using(image_record::proofs::Ranges::most_inside, image_record::proofs::Ranges::natural_inside))]
 fn entry_from(text: &RawEntry) -> Entry
     requires small { IsSmallEntry (entry_model text.now) }
     ensures value { result ≡ entry_of (entry_model text.now) }

@@ -46,7 +46,6 @@ fn named_before(domains: &[RawDomain], earlier: &[i64], line: i64) -> Option<usi
     None
 }
 
-#[tactic(auto, unfolding(crate::specs::Interrupts::k14_line), using(crate::proofs::OwnInterrupts::line_most, crate::proofs::OwnInterrupts::line_natural))]
 fn k14_line(domains: &[RawDomain], earlier: &[i64], line: i64) -> Result<u8, Refusal>
     requires domain { length domains.now < 2 ^ 63 }
     ensures verdict { IsVerdict result (spec.k14_line (map domain_model domains.now) earlier.now line) }
@@ -81,7 +80,6 @@ fn k14_lines(alloc: Global, domains: &[RawDomain], lines: &[i64]) -> Result<Vec<
 /// # Errors
 ///
 /// `Broken` with the first broken case; `Memory` where memory runs out.
-#[tactic(auto, unfolding(crate::specs::Interrupts::k14))]
 pub fn k14(alloc: Global, raw: &Raw) -> Result<Vec<Vec<u8>>, ReadRefusal>
     ensures verdict { IsVerdictOrMemory result (spec.k14 (raw_model raw.now)) }
     ensures value { IfOk result (λ v. map (λ l. l.items) v.items
@@ -131,7 +129,6 @@ fn moment_of(moment: &RawMoment) -> Moment
     }
 }
 
-#[tactic(auto, unfolding(crate::specs::Interrupts::k15_moment), using(crate::proofs::OwnInterrupts::named_small, crate::proofs::OwnInterrupts::named_natural, crate::proofs::OwnInterrupts::cycle_natural))]
 fn k15_moment(
     lines: &[i64],
     d: usize,
@@ -156,7 +153,6 @@ fn k15_moment(
     Ok(moment_of(moment))
 }
 
-#[tactic(auto, unfolding(crate::specs::Interrupts::k15_domain))]
 fn k15_domain(
     alloc: Global,
     earlier: &[RawDomain],
@@ -186,7 +182,6 @@ fn k15_domain(
 /// # Errors
 ///
 /// `Broken` with the first broken case; `Memory` where memory runs out.
-#[tactic(auto, unfolding(crate::specs::Interrupts::k15))]
 pub fn k15(alloc: Global, raw: &Raw) -> Result<Vec<Vec<Moment>>, ReadRefusal>
     requires lines { spec.k14 (raw_model raw.now) ≡ None }
     ensures verdict { IsVerdictOrMemory result (spec.k15 (raw_model raw.now)) }

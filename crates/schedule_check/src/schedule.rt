@@ -16,7 +16,6 @@ fn is_number(many: usize, number: i64) -> bool
     0 <= number && number < many as i64
 }
 
-#[tactic(auto, unfolding(crate::specs::Schedule::k16_case))]
 fn entry_case(domains: usize, place: usize, text: &RawEntry) -> Result<(), Refusal>
     requires domains { domains < 2 ^ 63 }
     requires place { place < 2 ^ 63 }
@@ -57,7 +56,6 @@ fn most_entries(version: u8) -> usize
 /// # Errors
 ///
 /// The first broken case.
-#[tactic(auto, unfolding(crate::specs::Schedule::k16))]
 pub fn k16(raw: &Raw) -> Result<(), Refusal>
     ensures verdict { IsVerdict result (spec.k16 (raw_model raw.now)) }
 {

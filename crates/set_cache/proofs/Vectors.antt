@@ -578,6 +578,13 @@ module _ (v : Vectors) (sets : KeptSets) (set way : ℕ) (names : NamesWay v set
   pub way_within : way < v.ways
   way_within = omega (arith, names.within, ap (λ (k : KeptSets). k.ways) names.packs.view)
 
+  -- where it stands among all
+  pub place_within : set * v.ways + way < length v.entries
+  place_within =
+      let row : set * v.ways + v.ways ≤ length v.states * v.ways =
+      row_fits set v.ways (length v.states) v.ways set_below (omega arith) in
+      omega (arith, row, way_within, names.packs.lawful.full)
+
   -- what its entry, as it was read, keeps
   pub line_read : (entry : Entry) → entry ≡ get_or v.entries (set * v.ways + way) entry
       → line_in v.epoch entry ≡ get_or (kept_at (table_of v) set).places way None

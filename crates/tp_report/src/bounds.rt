@@ -79,7 +79,6 @@ fn add_bounds<K: Sink>(
 }
 
 // Writes the line of each part that is the same whoever leaves.
-#[tactic(auto, unfolding(crate::specs::Report::shared_parts_text))]
 fn write_shared_parts<K: Sink>(out: &mut K, held: &mut Batch, shape: &Shape) -> Result<(), Failed>
     requires shape { IsShape (shape_model shape.now) }
     ensures adds { Adds (holding K.Sink out.old held.old) (holding K.Sink out.new held.new)
@@ -127,7 +126,6 @@ fn write_entries<K: Sink>(
 }
 
 // Writes the line of a schedule entry whose domain may make these calls.
-#[tactic(auto, unfolding(crate::specs::Report::entry_line))]
 fn write_entry<K: Sink>(
     out: &mut K,
     held: &mut Batch,

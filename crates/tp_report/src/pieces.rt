@@ -362,7 +362,6 @@ impl<'a> Items<Reply> for Replies<'a> {
 }
 
 // The count, and where it isn't 0 the last and the kept ones.
-#[tactic(auto, unfolding(crate::specs::Texts::log_text))]
 fn write_log<K: Sink, T: WriteText + Copy, L: Items<T>>(
     out: &mut K,
     held: &mut Batch,

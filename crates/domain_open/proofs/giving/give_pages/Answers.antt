@@ -1,5 +1,6 @@
-use Rattle.std.proofs.Common.{◌≡◌, ℕ, ◌++◌, ◌∷◌, [], List, take, drop, refl, ap, ap₂, sym, subst, ◌∙◌, arith}
-use Rattle.std.proofs.lemmas.List.{append_assoc, append-nil}
+use Rattle.std.proofs.Common.{◌≡◌, ℕ, ◌++◌, ◌∷◌, [], List, length, take, drop, refl, ap, ap₂, sym, subst, ◌∙◌, arith}
+use Rattle.std.proofs.lemmas.List.{append_assoc, append-nil, length-drop}
+use Rattle.frame_colours.specs.Colours.{Share}
 use Rattle.cap_table.specs.Slots.{Slots}
 use Rattle.image_check.specs.Models.{own_model}
 use Rattle.image_check.specs.Pages.{pages_in}
@@ -88,3 +89,23 @@ returns c =
       zeroed = subst (λ (n : ℕ). AreZeroed (take n frames) c.args.memory.now c.loop-place.memory) all inv.zeroed;
       size = inv.size;
     }
+
+pub take_one-frame-requires : goal.take_one-frame-requires
+take_one-frame-requires c =
+    let o = own_model c.args.own.now in
+    let inv = c.loop-place.invariant in
+    let many : c.pages_in-place-end.result ≡ pages_in o.segments = rw c.as_slice.ensures.value at c.pages_in-place-end.ensures.value in
+    let left = ap (λ (fs : List ℕ). length fs) inv.free in
+    record {
+      some = omega (arith, many, left, length-drop c.loop-place.place c.args.pool.now.free, c.requires.enough, c.loop-place-test.true);
+      size = omega (arith, ap (λ (s : Share). s.frames) inv.share, inv.size, c.requires.size);
+    }
+
+pub pages_in-place-end-requires : goal.pages_in-place-end-requires
+pages_in-place-end-requires c = record {
+  few = rw c.as_slice.ensures.value c.requires.few;
+  sound = rw c.as_slice.ensures.value c.requires.sound.segments;
+}
+
+pub loop-place-smaller : goal.loop-place-smaller
+loop-place-smaller c = omega (arith, c.loop-place-test.true)

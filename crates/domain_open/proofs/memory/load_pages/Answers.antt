@@ -1,4 +1,4 @@
-use Rattle.std.proofs.Common.{◌≡◌, ℕ, ◌<◌, ◌+◌, ◌-◌, length, get_or, drop, Some, sym, subst, subst₂, ◌∙◌, ap, arith, rules}
+use Rattle.std.proofs.Common.{◌≡◌, ℕ, ◌<◌, ◌+◌, ◌-◌, length, get_or, drop, Some, sym, subst, subst₂, ◌∙◌, ap, arith}
 use Rattle.std.proofs.lemmas.Option.{slice_get-get_or}
 use Rattle.phys_mem.specs.Holds.{Holds}
 use Rattle.kernel_call.specs.Facts.{Has}
@@ -37,7 +37,7 @@ load_domain-requires-clause-has c =
     let domains = c.args.domains.now in
     let below : k < length domains = omega (arith, c.loop-left.invariant.within, c.requires.opened.all) in
     let x = c.index-domains-left.result in
-    let is : x ≡ get_or domains k x = search rules in
+    let is : x ≡ get_or domains k x = c.index-domains-left.is in
     let opened = c.requires.opened.each k x (slice_get-get_or domains k x below ∙ ap Some (sym is)) in
     subst₂ (λ (h : Hardware) (o : Own). Has (estate h o) x) (sym (ap (λ (p : Public). p.hardware) c.public-public.ensures.value)) (sym c.own.ensures.value) opened.has
 
@@ -55,4 +55,19 @@ loop-left-preserved c =
       holds = subst (Holds c.load_domain.new.memory) (owns_more i.all.hardware owns k below)
           (subst₂ (λ (h : Hardware) (o : Own). Holds c.load_domain.new.memory (placed h o (all_placed i.all.hardware (drop (k + 1) owns)))) (ap (λ (p : Public). p.hardware) c.public-public.ensures.value) c.own.ensures.value
           (c.load_domain.ensures.placed (all_placed i.all.hardware (drop (k + 1) owns)) before));
+    }
+
+pub own-requires : goal.own-requires
+own-requires c = record { domain = omega (arith, c.loop-left.invariant.within) }
+
+pub load_domain-requires-clause-size : goal.load_domain-requires-clause-size
+load_domain-requires-clause-size c = c.loop-left.invariant.frames ∙ sym (ap (λ (p : Public). p.hardware.frames) c.public-public.ensures.value)
+
+pub returns : goal.returns
+returns c =
+    let i = image_from c.args.image.now in
+    let end : c.loop-left.left ≡ 0 = omega arith in
+    record {
+      size = c.loop-left.invariant.frames ∙ sym c.requires.size;
+      holds = subst (λ (k : ℕ). Holds c.loop-left.memory (all_placed i.all.hardware (drop k (owns_of c.args.image.now)))) end c.loop-left.invariant.holds;
     }

@@ -1,5 +1,5 @@
 -- A word that stands there already.
-use Rattle.std.proofs.Common.{◌≡◌, ◌∙◌, sym}
+use Rattle.std.proofs.Common.{◌∙◌, sym}
 use Rattle.phys_mem.specs.Address.{frame_of, word_place}
 use Rattle.domain_open.proofs.Loading.{holds_kept}
 use Rattle.domain_open.proofs.memory.place_word.Goals as goal

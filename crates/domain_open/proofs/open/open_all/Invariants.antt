@@ -1,4 +1,4 @@
-use Rattle.std.proofs.Common.{◌≡◌, drop}
+use Rattle.std.proofs.Common.{◌≡◌, ◌≤◌, length, drop}
 use Rattle.phys_mem.specs.Holds.{Holds}
 use Rattle.tp_base.specs.Table.{empty}
 use Rattle.image_check.specs.Image.{image_from}
@@ -12,5 +12,6 @@ invariant-loop-d l =
       opened : AreOpened i.all.hardware i.owns l.d l.domains.items;
       shares : l.shares.items ≡ drop l.d (all_shares i);
       blank : Holds l.fn.memory empty → Holds l.memory empty;
+      room : length i.owns ≤ l.domains.cap;
       size : l.memory.frames ≡ l.fn.memory.frames;
     }

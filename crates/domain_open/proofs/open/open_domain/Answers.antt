@@ -1,4 +1,4 @@
-use Rattle.std.proofs.Common.{◌≡◌, ℕ, ◌+◌, ◌++◌, List, length, take, drop, ap, ap₂, sym, subst, subst₂, ◌∙◌, arith}
+use Rattle.std.proofs.Common.{◌≡◌, ℕ, ◌+◌, ◌++◌, List, length, take, drop, ap, ap₂, refl, sym, subst, subst₂, ◌∙◌, arith}
 use Rattle.std.specs.List.Sorted.{IsStrictlyIncreasing}
 use Rattle.std.proofs.lemmas.List.{length-take, length-drop}
 use Rattle.frame_colours.specs.Colours as colours
@@ -16,6 +16,7 @@ use Rattle.world_view.proofs.opening.Parts.{drop_twice}
 use Rattle.domain_open.specs.Giving.{slots_after, unnamed}
 use Rattle.domain_open.specs.Placing.{AreZeroed, used_frames, IsOpened}
 use Rattle.domain_open.proofs.PoolReads.{frames_few}
+use Rattle.domain_open.proofs.Errors.{no_value}
 use Rattle.domain_open.proofs.Taking.{taken, used_zeroed, still_elsewhere, still_blank}
 use Rattle.domain_open.proofs.Opened.{increasing_drop, pool_ascends, slots_are, is_opened, at_ok, if_ok}
 use Rattle.domain_open.proofs.open.open_domain.Goals as goal
@@ -167,3 +168,62 @@ returns c =
       blank = still_blank (used_frames p o) before after used;
       size = c.give_pages.ensures.size ∙ c.take_into-2.ensures.size ∙ c.take_one-root.ensures.size ∙ c.take_into.ensures.size;
     }
+
+pub returns-in-Err : goal.returns-in-Err
+returns-in-Err c = record {
+  opened = tt;
+  zeroed = tt;
+  elsewhere = λ f i in_memory in_frame other. refl;
+  blank = λ h. h;
+  size = refl;
+}
+
+pub returns-in_err-kept : goal.returns-in_err-kept
+returns-in_err-kept c = record {
+  opened = no_value _ c.from_residual.result _ c.from_residual.ensures.1;
+  zeroed = no_value _ c.from_residual.result _ c.from_residual.ensures.1;
+  elsewhere = λ f i in_memory in_frame other. refl;
+  blank = λ h. h;
+  size = refl;
+}
+
+pub pages_in-pages-requires-clause-sound : goal.pages_in-pages-requires-clause-sound
+pages_in-pages-requires-clause-sound c = rw c.as_slice-segments.ensures.value c.requires.has_pool.sound.segments
+
+pub room_of-requires : goal.room_of-requires
+room_of-requires c = record { sound = c.requires.has_pool.sound }
+
+pub take_into-requires : goal.take_into-requires
+take_into-requires c =
+    let all : List ℕ = pool (hardware_model c.args.hardware.now) (own_model c.args.own.now) in
+    let free : c.in-Ok.pool.free ≡ all = ap (λ (f : FreeList). f.free) c.in-Ok.ensures.free ∙ ap (λ (s : Share). colours.pool s) c.requires.share in
+    let share = ap (λ (f : FreeList). f.share.frames) c.in-Ok.ensures.free ∙ ap (λ (s : Share). s.frames) c.requires.share in
+    record {
+      room = omega (arith, ap (λ (fs : List ℕ). length fs) c.in_ok-kept.ensures.kept, c.in_ok-kept.ensures.frames);
+      enough = omega (arith, ap (λ (fs : List ℕ). length fs) free, c.requires.has_pool.enough);
+      size = omega (arith, share, c.requires.size);
+    }
+
+pub take_one-root-requires-clause-size : goal.take_one-root-requires-clause-size
+take_one-root-requires-clause-size c =
+    let share = ap (λ (s : Share). s.frames) c.take_into.ensures.share ∙ ap (λ (f : FreeList). f.share.frames) c.in-Ok.ensures.free ∙ ap (λ (s : Share). s.frames) c.requires.share in
+    omega (arith, share, c.take_into.ensures.size, c.requires.size)
+
+pub take_into-requires-2-clause-room : goal.take_into-requires-2-clause-room
+take_into-requires-2-clause-room c = omega (arith, ap (λ (fs : List ℕ). length fs) c.in_ok-kept.ensures.no_tables, c.in_ok-kept.ensures.tables)
+
+pub take_into-requires-2-clause-size : goal.take_into-requires-2-clause-size
+take_into-requires-2-clause-size c =
+    let before = c.take_one-root.ensures.share ∙ c.take_into.ensures.share ∙ ap (λ (f : FreeList). f.share) c.in-Ok.ensures.free ∙ c.requires.share in
+    omega (arith, ap (λ (s : Share). s.frames) before, c.take_one-root.ensures.size, c.take_into.ensures.size, c.requires.size)
+
+pub give_pages-requires-clause-sound : goal.give_pages-requires-clause-sound
+give_pages-requires-clause-sound c = c.requires.has_pool.sound
+
+pub give_pages-requires-clause-size : goal.give_pages-requires-clause-size
+give_pages-requires-clause-size c =
+    let before = c.take_into-2.ensures.share ∙ c.take_one-root.ensures.share ∙ c.take_into.ensures.share ∙ ap (λ (f : FreeList). f.share) c.in-Ok.ensures.free ∙ c.requires.share in
+    omega (arith, ap (λ (s : Share). s.frames) before, c.take_into-2.ensures.size, c.take_one-root.ensures.size, c.take_into.ensures.size, c.requires.size)
+
+pub give_pages-requires-clause-lines : goal.give_pages-requires-clause-lines
+give_pages-requires-clause-lines c = c.in_ok-kept.ensures.caps

@@ -1,6 +1,6 @@
 use Rattle.std.proofs.Common.{rules}
 use Rattle.image_record.specs.Models.{raw_model}
-use Rattle.hardware_check.proofs.Parts.{fits, frames_natural, line_natural, predictor_natural, history_natural, some_line, natural_region}
+use Rattle.hardware_check.proofs.Parts.{fits, frames_natural, line_natural, predictor_natural, history_natural, some_line, natural_region, region_fits}
 use Rattle.hardware_check.proofs.reading.hardware_of.Goals as goal
 
 pub overflow_cast-result : goal.overflow_cast-result
@@ -37,3 +37,9 @@ natural_of-requires-4 c = let natural = predictor_natural (raw_model c.args.raw.
 
 pub natural_of-requires-5 : goal.natural_of-requires-5
 natural_of-requires-5 c = let natural = history_natural (raw_model c.args.raw.now) c.requires.parts.parts in record { natural = search (rules, natural) }
+
+pub overflow_cast-result-2 : goal.overflow_cast-result-2
+overflow_cast-result-2 c =
+    let i = raw_model c.args.raw.now in
+    let small = region_fits i.line i.shared c.requires.region in
+    search (rules, small)

@@ -1,11 +1,13 @@
 -- The leaves that are cleared, one after another.
-use Rattle.std.proofs.Common.{arith, rules, ◌≡◌, ◌∙◌, ap, sym, subst, ℕ, ◌<◌, ◌≤◌, List, length, take, get_or}
+use Rattle.std.proofs.Common.{arith, rules, ◌≡◌, ◌∙◌, refl, true, ap, sym, subst, ℕ, ◌<◌, ◌≤◌, List, length, take, get_or}
 use Rattle.std.specs.Prelude.{slice_index}
 use Rattle.std.proofs.lemmas.List.{get_or-take, length-take-le, length-set}
 use Rattle.phys_mem.specs.Mem.{Mem}
 use Rattle.phys_mem.specs.Holds.{Holds}
+use Rattle.page_map.specs.Tables.{StandsWith, IsPageMap, has_page}
 use Rattle.page_map.specs.Changes.{page_entry, unmapped}
-use Rattle.kernel_call.proofs.DropsAll.{can_go_on, clearing_goes_on, clearing_ends}
+use Rattle.kernel_clone.specs.Footprints.{WorkDone}
+use Rattle.kernel_call.proofs.DropsAll.{next_tables, can_go_on, clearing_starts, clearing_goes_on, clearing_ends}
 use Rattle.kernel_call.proofs.frames.clear_all.Goals as goal
 
 pub loop-i-preserved : goal.loop-i-preserved
@@ -42,3 +44,39 @@ returns-clause-unmaps c = λ m h.
     omega (arith, length-take-le c.args.revoked.now.written c.args.revoked.now.entries (omega (arith, long, c.requires.few)), end) in
     clearing_ends c.args.map.now vas c.loop-i.i m c.loop-i.memory c.loop-i.work.entries
     (record c.loop-i.work { count = c.args.revoked.now.written }) past (search rules) (c.loop-i.invariant.7 m h)
+
+pub loop-i-init : goal.loop-i-init
+loop-i-init c =
+    let entries : List ℕ = c.args.revoked.now.entries in
+    let vas : List ℕ = take c.args.revoked.now.written entries in (
+      omega arith,
+      refl,
+      refl,
+      ap (λ (w : WorkDone). w.op) c.no_work-work.ensures.work,
+      ap (λ (w : WorkDone). w.zeroed) c.no_work-work.ensures.work,
+      search rules,
+      c.requires.there,
+      λ m h. clearing_starts c.args.map.now vas m c.args.memory.now c.no_work-work.result.entries h,
+    )
+
+pub unmap-requires : goal.unmap-requires
+unmap-requires c =
+    let vas : List ℕ = take c.args.revoked.now.written c.args.revoked.now.entries in
+    let va : ℕ = slice_index c.args.revoked.now.entries c.loop-i.i in
+    let long : length c.args.revoked.now.entries ≡ 64 = search rules in
+    let below : c.loop-i.i < length vas =
+    omega (arith, length-take-le c.args.revoked.now.written c.args.revoked.now.entries (omega (arith, long, c.requires.few)), c.loop-i-test.true) in
+    let is : va ≡ get_or vas c.loop-i.i 0 = sym (get_or-take c.args.revoked.now.written c.args.revoked.now.entries c.loop-i.i 0 c.loop-i-test.true) in
+    let at = next_tables c.args.map.now vas c.loop-i.i below c.loop-i.memory va is c.loop-i.invariant.6 in
+    record {
+      tables = subst (λ (root : ℕ). StandsWith c.loop-i.memory (λ m. IsPageMap m root c.loop-i.memory.frames)) (sym c.loop-i.invariant.1)
+          (record { mem = at.mem; holds = at.holds; so = at.so.tables });
+      page = subst (λ (root : ℕ). StandsWith c.loop-i.memory (λ m. has_page m root va ≡ true)) (sym c.loop-i.invariant.1)
+          (record { mem = at.mem; holds = at.holds; so = at.so.page });
+    }
+
+pub returns-clause-map : goal.returns-clause-map
+returns-clause-map c = c.loop-i.invariant.1
+
+pub returns-clause-frames : goal.returns-clause-frames
+returns-clause-frames c = c.loop-i.invariant.2

@@ -1,8 +1,8 @@
-use Rattle.std.proofs.Common.{length, map, refl, sym, ap, ◌∙◌}
+use Rattle.std.proofs.Common.{◌<◌, ◌^◌, rules, length, map, refl, sym, ap, ◌∙◌}
 use Rattle.image_record.specs.Parts.{moment_model}
 use Rattle.image_record.proofs.Loops.{broken, no_memory, no_value, passed_of, found_of, ended_of, made_from, all_made_of}
 use Rattle.schedule_check.specs.Interrupts.{k15_moment, moment_of}
-use Rattle.schedule_check.proofs.MomentCases.{moments_left, of_lines}
+use Rattle.schedule_check.proofs.MomentCases.{moments_left, many_case, of_lines}
 use Rattle.schedule_check.proofs.interrupts.k15_domain.Goals as goal
 
 pub returns-in_err-k15_moment-clause-verdict : goal.returns-in_err-k15_moment-clause-verdict
@@ -46,3 +46,9 @@ pub returns-clause-value : goal.returns-clause-value
 returns-clause-value c =
     sym (all_made_of moment_of moment_model c.loop-place.found.items c.as_slice-moments.result.now c.loop-place.place c.loop-place-test.false)
     ∙ c.loop-place.invariant.1 ∙ ap (λ ms. map moment_of (map moment_model ms)) c.as_slice-moments.ensures.value
+
+pub returns-then-moments-gt-MOST_MOMENTS-clause-verdict : goal.returns-then-moments-gt-MOST_MOMENTS-clause-verdict
+returns-then-moments-gt-MOST_MOMENTS-clause-verdict c =
+    let moments = c.as_slice-moments.result.now in
+    let small : length moments < 2 ^ 63 = search rules in
+    many_case c.args.earlier.now c.args.domain.now moments c.refusal.result c.as_slice-moments.ensures.value c.if-moments-gt-MOST_MOMENTS.true c.requires.domain small c.refusal.ensures.value

@@ -1,6 +1,6 @@
 use Rattle.std.proofs.Common.{arith, rules}
 use Rattle.std.proofs.lemmas.Result.{err_from_is_err_and}
-use Rattle.tp_report.proofs.Digits.{digits_none, digits_fail, digits_more}
+use Rattle.tp_report.proofs.Digits.{digits_none, digits_fail, digits_more, digits_added}
 use Rattle.tp_report.proofs.pieces.write_digits.Goals as goal
 
 pub loop-sent-init : goal.loop-sent-init
@@ -16,3 +16,12 @@ loop-sent-preserved g c = record {
   within = search rules;
   so_far = digits_more c.args.bytes.now c.loop-sent.sent _ _ _ _ _ (omega (arith, c.min-next.ensures)) c.loop-sent.invariant.so_far c.in_ok-write_chunk.ensures.adds;
 }
+
+pub slice_bounds-write_chunk-count : goal.slice_bounds-write_chunk-count
+slice_bounds-write_chunk-count g c = omega (arith, c.min-next.ensures, c.loop-sent-test.true)
+
+pub loop-sent-smaller : goal.loop-sent-smaller
+loop-sent-smaller g c = omega (arith, c.min-next.ensures, c.loop-sent-test.true)
+
+pub returns : goal.returns
+returns g c = record { adds = digits_added c.args.bytes.now c.loop-sent.sent _ _ c.loop-sent-test.false c.loop-sent.invariant.so_far }

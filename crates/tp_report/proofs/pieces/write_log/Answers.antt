@@ -1,7 +1,7 @@
-use Rattle.std.proofs.Common.{◌≢◌, rules}
+use Rattle.std.proofs.Common.{◌≡◌, ◌≢◌, arith, rules}
 use Rattle.std.proofs.lemmas.Result.{err_from_is_err_and}
 use Rattle.tp_report.proofs.Batches.{then_adds, cut_between}
-use Rattle.tp_report.proofs.Texts.{log_text-some, cut_in_count}
+use Rattle.tp_report.proofs.Texts.{log_text-none, log_text-some, cut_in_count}
 use Rattle.tp_report.proofs.pieces.write_log.Goals as goal
 
 pub returns-in_err-write_number : goal.returns-in_err-write_number
@@ -24,3 +24,18 @@ returns g c =
       adds = then_adds _ _ _ c.write_kept.result _ _ (rw c.count-count.ensures.value at c.in_ok-write_number.ensures.adds)
           (then_adds _ _ _ c.write_kept.result _ _ c.in_ok-write_last.ensures.adds c.write_kept.ensures.adds);
     })
+
+pub returns-then-count-eq0 : goal.returns-then-count-eq0
+returns-then-count-eq0 g c =
+    let l = g.L.Items.log c.args.log.now in
+    let none : l.count ≡ 0 = search rules in
+    rw (log_text-none g.T.WriteText.text l none) (record { adds = rw c.count-count.ensures.value at c.in_ok-write_number.ensures.adds })
+
+pub overflow_cast-min : goal.overflow_cast-min
+overflow_cast-min g c = omega (arith, c.min.ensures)
+
+pub write_kept-requires-clause-kept : goal.write_kept-requires-clause-kept
+write_kept-requires-clause-kept g c = c.count-count.ensures.kept
+
+pub write_kept-requires-clause-all : goal.write_kept-requires-clause-all
+write_kept-requires-clause-all g c = omega (arith, c.min.ensures, c.count-count.ensures.value)

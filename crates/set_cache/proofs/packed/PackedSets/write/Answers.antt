@@ -4,7 +4,7 @@ use Rattle.set_cache.specs.declared.KeptLine.{KeptLine}
 use Rattle.set_cache.specs.Cache.{is_dirty}
 use Rattle.set_cache.specs.Contents.{KeptSet}
 use Rattle.set_cache.specs.Packed.{KeptSets}
-use Rattle.set_cache.proofs.Vectors.{Vectors, NamesWay, OneEntry, line_read, mark_count, write_way, set_below, way_within, table-entry}
+use Rattle.set_cache.proofs.Vectors.{Vectors, NamesWay, OneEntry, line_read, mark_count, write_way, set_below, way_within, place_within, table-entry}
 use Rattle.set_cache.proofs.packed.PackedSets.write.Goals as goal
 
 pub overflow_sub-self : goal.overflow_sub-self
@@ -141,3 +141,93 @@ returns-clause-written c =
     let of : List KeptSet → KeptSets =
     λ sets. record { ways = s.ways; epoch = s.epoch; fresh = s.fresh; table = sets } in
     rw (← c.self.view_is) (ap of is)
+
+pub overflow_mul-place : goal.overflow_mul-place
+overflow_mul-place c =
+    let s = c.self.inside in
+    let v : Vectors = record {
+      ways = s.ways;
+      epoch = s.epoch;
+      fresh = s.fresh;
+      dirty = s.dirty;
+      entries = s.entries.items;
+      states = s.states.items;
+    } in
+    let names : NamesWay v c.args.self.now c.args.set c.args.way = record {
+      packs = record { view = c.self.view_is; lawful = c.self.invariant };
+      below = c.requires.below;
+      within = c.requires.within;
+    } in
+    let at = place_within v c.args.self.now c.args.set c.args.way names in omega (arith, at, c.self.invariant.full, c.self.invariant.small)
+
+pub overflow_add-place : goal.overflow_add-place
+overflow_add-place c =
+    let s = c.self.inside in
+    let v : Vectors = record {
+      ways = s.ways;
+      epoch = s.epoch;
+      fresh = s.fresh;
+      dirty = s.dirty;
+      entries = s.entries.items;
+      states = s.states.items;
+    } in
+    let names : NamesWay v c.args.self.now c.args.set c.args.way = record {
+      packs = record { view = c.self.view_is; lawful = c.self.invariant };
+      below = c.requires.below;
+      within = c.requires.within;
+    } in
+    let at = place_within v c.args.self.now c.args.set c.args.way names in omega (arith, at, c.self.invariant.full, c.self.invariant.small)
+
+pub index-was-requires : goal.index-was-requires
+index-was-requires c =
+    let s = c.self.inside in
+    let v : Vectors = record {
+      ways = s.ways;
+      epoch = s.epoch;
+      fresh = s.fresh;
+      dirty = s.dirty;
+      entries = s.entries.items;
+      states = s.states.items;
+    } in
+    let names : NamesWay v c.args.self.now c.args.set c.args.way = record {
+      packs = record { view = c.self.view_is; lawful = c.self.invariant };
+      below = c.requires.below;
+      within = c.requires.within;
+    } in
+    let at = place_within v c.args.self.now c.args.set c.args.way names in omega (arith, at)
+
+pub index_mut-entry-requires : goal.index_mut-entry-requires
+index_mut-entry-requires c =
+    let s = c.self.inside in
+    let v : Vectors = record {
+      ways = s.ways;
+      epoch = s.epoch;
+      fresh = s.fresh;
+      dirty = s.dirty;
+      entries = s.entries.items;
+      states = s.states.items;
+    } in
+    let names : NamesWay v c.args.self.now c.args.set c.args.way = record {
+      packs = record { view = c.self.view_is; lawful = c.self.invariant };
+      below = c.requires.below;
+      within = c.requires.within;
+    } in
+    let at = place_within v c.args.self.now c.args.set c.args.way names in omega (arith, at)
+
+pub index_mut-written-requires : goal.index_mut-written-requires
+index_mut-written-requires c =
+    let s = c.self.inside in
+    let v : Vectors = record {
+      ways = s.ways;
+      epoch = s.epoch;
+      fresh = s.fresh;
+      dirty = s.dirty;
+      entries = s.entries.items;
+      states = s.states.items;
+    } in
+    let names : NamesWay v c.args.self.now c.args.set c.args.way = record {
+      packs = record { view = c.self.view_is; lawful = c.self.invariant };
+      below = c.requires.below;
+      within = c.requires.within;
+    } in
+    let at = set_below v c.args.self.now c.args.set c.args.way names in omega (arith, at)
