@@ -37,8 +37,8 @@ use Rattle.world_view.proofs.harts.Events.{IsHart}
 use Rattle.world_view.proofs.harts.Runs.{Running, Next, next_so, progress-same}
 use Rattle.domain_step.specs.Standing.{MachineStands}
 use Rattle.domain_step.specs.Usage.{IsUsed}
-use Rattle.hart_set.specs.declared.hart.Slot.{Slot}
-use Rattle.hart_set.specs.declared.hart.Hart.{Hart as CodeHart}
+use Rattle.hart_orders.specs.declared.hart.Slot.{Slot}
+use Rattle.hart_orders.specs.declared.hart.Hart.{Hart as CodeHart}
 use Rattle.hart_set.specs.declared.set.State.{State}
 use Rattle.hart_set.specs.Standing.{StandsFor, HartStands}
 use Rattle.hart_set.proofs.Others.{in_none}

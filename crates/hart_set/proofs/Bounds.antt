@@ -20,7 +20,7 @@ use Rattle.world_view.proofs.harts.Runs.{Running}
 use Rattle.domain_step.proofs.Counts.{counts_later}
 use Rattle.domain_step.specs.Usage.{CountedUpTo}
 use Rattle.domain_step.proofs.Elements.{each_set_kept}
-use Rattle.hart_set.specs.declared.hart.Hart.{Hart as CodeHart}
+use Rattle.hart_orders.specs.declared.hart.Hart.{Hart as CodeHart}
 use Rattle.hart_set.specs.declared.set.State.{State}
 use Rattle.hart_set.specs.Standing.{StandsFor, AtHart, IsInBounds}
 

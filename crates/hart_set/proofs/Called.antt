@@ -12,8 +12,8 @@ use Rattle.world_view.specs.Harts.{Harts, harts, slots_of, next}
 use Rattle.world_view.specs.HartLaws.{AreHartsOf}
 use Rattle.world_view.proofs.harts.Runs.{Running}
 use Rattle.world_view.proofs.harts.Isolation.{running, next_law}
-use Rattle.hart_set.specs.declared.hart.Slot.{Slot}
-use Rattle.hart_set.specs.declared.hart.Hart.{Hart as CodeHart}
+use Rattle.hart_orders.specs.declared.hart.Slot.{Slot}
+use Rattle.hart_orders.specs.declared.hart.Hart.{Hart as CodeHart}
 use Rattle.hart_set.specs.declared.set.State.{State}
 use Rattle.hart_set.specs.Standing.{StandsFor, HartStands, AtHart, IsInBounds}
 use Rattle.hart_set.specs.Reached.{IsReached}

@@ -10,11 +10,11 @@ use Rattle.world_view.specs.Harts.{Harts, Progress, slots_of, after, harts}
 use Rattle.world_view.proofs.harts.Runs.{all_cold_are, home}
 use Rattle.world_view.proofs.harts.Clocks.{hart_between}
 use Rattle.world_view.proofs.harts.Isolation.{at_first}
-use Rattle.hart_set.specs.declared.choice.Choice.TheVariants.{LeastClock}
-use Rattle.hart_set.specs.Order.{order_of}
+use Rattle.hart_orders.specs.declared.choice.Choice.TheVariants.{LeastClock}
+use Rattle.hart_orders.specs.Order.{order_of}
 use Rattle.hart_set.specs.Run.{HasHad}
-use Rattle.hart_set.proofs.Chosen.{has_left, least_law}
-use Rattle.hart_set.proofs.RunThrough.{each_chosen, through}
+use Rattle.hart_orders.proofs.Chosen.{has_left, least_law}
+use Rattle.hart_orders.proofs.RunThrough.{each_chosen, through}
 
 module _ (i : Image) (r : Runnable i) where
   abbrev start : Harts

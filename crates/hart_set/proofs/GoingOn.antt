@@ -15,14 +15,14 @@ use Rattle.world_view.proofs.harts.Isolation.{running}
 use Rattle.world_view.proofs.harts.Clocks.{hart_between}
 use Rattle.domain_step.specs.Moves.{Moves, Runs}
 use Rattle.domain_step.proofs.Elements.{each_set_kept}
-use Rattle.hart_set.specs.declared.hart.Slot.{Slot}
-use Rattle.hart_set.specs.declared.hart.Hart.{Hart as CodeHart}
+use Rattle.hart_orders.specs.declared.hart.Slot.{Slot}
+use Rattle.hart_orders.specs.declared.hart.Hart.{Hart as CodeHart}
 use Rattle.hart_set.specs.declared.set.State.{State}
 use Rattle.hart_set.specs.Standing.{StandsFor, IsInBounds}
 use Rattle.hart_set.specs.Reached.{IsReached}
 use Rattle.hart_set.proofs.Bounds.{IsCounted, end_soon, in_bounds_next}
 use Rattle.hart_set.proofs.Called.{Called, NextStands, SlotEnds, domain_read, s, run, its, few, pushed, own_more, reached_after, reached_next}
-use Rattle.hart_set.proofs.Through.{Ran, one_event, whole, harts_appended}
+use Rattle.hart_orders.proofs.Through.{Ran, one_event, whole, harts_appended}
 use Rattle.hart_set.proofs.Running.{StepEnd, Stepped, GoesOn, IsOver, at, far, slot_domain, early, begun, stands_stepped}
 
 module _ (i : Image) (t : State) (h : ℕ) (x : CodeHart) (c : Called i t h x) (slot : Slot) (inside : x.slot ≡ Some slot) where

@@ -15,9 +15,9 @@ use Rattle.hart_set.specs.declared.set.State.{State}
 use Rattle.hart_set.specs.Standing.{AtHart}
 use Rattle.hart_set.specs.Slots.{EndsSlot}
 use Rattle.hart_set.specs.Models.{image_of, harts_after, StandsAfter}
-use Rattle.hart_set.proofs.Through.{harts_appended}
-use Rattle.hart_set.specs.declared.choice.Choice.TheVariants.{LeastClock}
-use Rattle.hart_set.specs.Order.{order_of}
+use Rattle.hart_orders.proofs.Through.{harts_appended}
+use Rattle.hart_orders.specs.declared.choice.Choice.TheVariants.{LeastClock}
+use Rattle.hart_orders.specs.Order.{order_of}
 use Rattle.hart_set.specs.Run.{HasHad, HasRun}
 use Rattle.hart_set.specs.InTurn.{RunInTurn}
 use Rattle.hart_set.proofs.FirstEvent.{none_had, had_none, some, no_event, first_event}

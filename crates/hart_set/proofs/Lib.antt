@@ -1,5 +1,4 @@
 pub mod Others
-pub mod Through
 pub mod Running
 pub mod Beginning
 pub mod Bounds
@@ -7,16 +6,10 @@ pub mod Called
 pub mod GoingOn
 pub mod Turning
 pub mod Starting
-pub mod ColdCores
 pub mod Seen
 pub mod Loaded
-pub mod Chosen
-pub mod Left
-pub mod RunThrough
 pub mod RunSeen
 pub mod Standing
 pub mod RunOn
 pub mod FirstEvent
 pub mod InTurn
-pub mod SwitchCosts
-pub mod Uses

@@ -27,10 +27,10 @@ use Rattle.world_view.proofs.opening.OpeningLaws.{opening_dom_is}
 use Rattle.world_view.proofs.opening.Separate.{separated}
 use Rattle.world_view.proofs.harts.Runs.{doms_cold, storage_cold, used_cold, all_cold_are}
 use Rattle.domain_step.specs.Usage.{IsUsed}
-use Rattle.hart_set.specs.declared.hart.Slot.{Slot}
-use Rattle.hart_set.specs.declared.hart.Hart.{Hart as CodeHart}
+use Rattle.hart_orders.specs.declared.hart.Slot.{Slot}
+use Rattle.hart_orders.specs.declared.hart.Hart.{Hart as CodeHart}
 use Rattle.hart_set.specs.declared.set.State.{State}
-use Rattle.hart_set.specs.Cold.{IsColdHart}
+use Rattle.hart_orders.specs.Cold.{IsColdHart}
 use Rattle.hart_set.specs.Standing.{StandsFor, HartStands, AtHart, IsInBounds, slot_if}
 use Rattle.hart_set.specs.Reached.{IsReached}
 

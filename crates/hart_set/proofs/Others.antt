@@ -22,8 +22,8 @@ use Rattle.world_view.specs.Machine.{Hart, hart_of, dom_of}
 use Rattle.world_view.specs.Relations.{SameFrames, HasFacts}
 use Rattle.world_view.specs.Harts.{Harts, Progress, progress_of, slots_of, domain_in, end_on}
 use Rattle.world_view.proofs.actions.TableLaws.{IsPage, Walkable, walkable, walk_alike, root_is}
-use Rattle.hart_set.specs.declared.hart.Slot.{Slot}
-use Rattle.hart_set.specs.declared.hart.Hart.{Hart as CodeHart}
+use Rattle.hart_orders.specs.declared.hart.Slot.{Slot}
+use Rattle.hart_orders.specs.declared.hart.Hart.{Hart as CodeHart}
 use Rattle.hart_set.specs.declared.set.State.{State}
 use Rattle.hart_set.specs.Standing.{HartStands, slot_of, slot_if}
 

@@ -11,10 +11,10 @@ use Rattle.world_view.proofs.harts.Isolation.{next_law}
 use Rattle.hart_set.specs.declared.set.State.{State}
 use Rattle.hart_set.specs.Standing.{AtHart, StandsFor}
 use Rattle.hart_set.specs.Models.{image_of, harts_after, StandsAfter}
-use Rattle.hart_set.specs.declared.choice.Choice.{Choice}
-use Rattle.hart_set.specs.Order.{next_hart, events_from, cycles_before, order_of}
-use Rattle.hart_set.proofs.Chosen.{has_left}
-use Rattle.hart_set.proofs.RunThrough.{event_if}
+use Rattle.hart_orders.specs.declared.choice.Choice.{Choice}
+use Rattle.hart_orders.specs.Order.{next_hart, events_from, cycles_before, order_of}
+use Rattle.hart_orders.proofs.Chosen.{has_left}
+use Rattle.hart_orders.proofs.RunThrough.{event_if}
 
 -- after some of the events, of which there are f more at most; the next is chosen by what is so after so many, of these harts
 pub record SoFar (v : Raw × State) (c : Choice) (n f : ℕ) (At : ℕ → Harts → Type 0) : Type 0 where

@@ -10,36 +10,20 @@ use Rattle.sched_table.proofs.Harts.{domain_hart_law}
 use Rattle.world_view.specs.declared.view.Used.{Used}
 use Rattle.world_view.specs.Relations.{IsDomain}
 use Rattle.world_view.specs.View.{View, view_in}
-use Rattle.world_view.specs.Harts.{progress_of, slots_of, switches_of, harts, view_on, view_alone_on, hart_of_domain}
+use Rattle.world_view.specs.Harts.{progress_of, slots_of, switches_of, harts, view_on, hart_of_domain}
 use Rattle.world_view.specs.HartLaws.{AreHartsOf}
 use Rattle.world_view.proofs.harts.Runs.{home}
 use Rattle.world_view.proofs.harts.Clocks.{hart_begun}
-use Rattle.world_view.proofs.harts.Isolation.{hart_isolation, two_orders, hart_pads, hart_largest}
-use Rattle.hart_set.specs.SameUse.{SameUse}
-use Rattle.hart_set.proofs.Uses.{same_use_law}
+use Rattle.world_view.proofs.harts.Isolation.{two_orders}
+use Rattle.hart_orders.specs.SameUse.{SameUse}
+use Rattle.hart_orders.proofs.Uses.{same_use_law}
 use Rattle.domain_step.specs.Usage.{IsUsed}
 use Rattle.hart_set.specs.declared.set.State.{State}
 use Rattle.hart_set.specs.Models.{image_of, harts_after, StandsAfter}
-use Rattle.hart_set.specs.declared.choice.Choice.{Choice}
-use Rattle.hart_set.specs.Order.{order_of, ran}
-use Rattle.hart_set.specs.Laws.{ChoiceLaw, ChoicePadLaw, ChoiceLargestLaw}
+use Rattle.hart_orders.specs.declared.choice.Choice.{Choice}
+use Rattle.hart_orders.specs.Order.{order_of, ran}
 use Rattle.hart_set.specs.Run.{HasHad, EndsSlots, HasRun}
-use Rattle.hart_set.proofs.RunThrough.{harts_law, through, outside_if}
-
-pub choice_law : ChoiceLaw
-unfolding ran view_on
-choice_law i c n d r id =
-    let h = hart_of_domain i d in
-    let there = through i c n h r (home i r d) in
-    hart_isolation i d (order_of i c n) r id (harts_law i c n) there.1 ∙ ap (view_alone_on i d) there.0
-
-pub choice_pad : ChoicePadLaw
-unfolding ran
-choice_pad i c n r = hart_pads i (order_of i c n) r (harts_law i c n)
-
-pub choice_largest : ChoiceLargestLaw
-unfolding ran
-choice_largest i c n e r = hart_largest i (order_of i c n) e r (harts_law i c n)
+use Rattle.hart_orders.proofs.RunThrough.{harts_law, through, outside_if}
 
 -- ---- after another order that ends as many slots
 

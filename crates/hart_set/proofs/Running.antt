@@ -35,12 +35,12 @@ use Rattle.domain_step.specs.Standing.{MachineStands, DomainStands}
 use Rattle.domain_step.proofs.Standing.{is_setting, stands_in, machine_of, domain_of}
 use Rattle.domain_step.specs.Usage.{IsUsed}
 use Rattle.domain_step.proofs.Elements.{each_set_kept}
-use Rattle.hart_set.specs.declared.hart.Slot.{Slot}
-use Rattle.hart_set.specs.declared.hart.Hart.{Hart as CodeHart}
+use Rattle.hart_orders.specs.declared.hart.Slot.{Slot}
+use Rattle.hart_orders.specs.declared.hart.Hart.{Hart as CodeHart}
 use Rattle.hart_set.specs.declared.set.State.{State}
 use Rattle.hart_set.specs.Standing.{StandsFor, HartStands, slot_if}
 use Rattle.hart_set.proofs.Others.{Besides, hart_stands, IsIn, in_slot}
-use Rattle.hart_set.proofs.Through.{Ran, in_it}
+use Rattle.hart_orders.proofs.Through.{Ran, in_it}
 
 -- what the code's step leaves, or all that it does up to a slot's end
 pub record StepEnd : Type 0 where

@@ -13,7 +13,7 @@ use Rattle.world_view.specs.Machine.{dom_of}
 use Rattle.world_view.specs.Relations.{IsDomain}
 use Rattle.world_view.specs.Harts.{harts, start_on, hart_of_domain, view_on, view_alone_on}
 use Rattle.world_view.proofs.harts.Isolation.{hart_isolation, hart_largest}
-use Rattle.hart_set.specs.declared.hart.Hart.{Hart as CodeHart}
+use Rattle.hart_orders.specs.declared.hart.Hart.{Hart as CodeHart}
 use Rattle.hart_set.specs.declared.set.State.{State}
 use Rattle.hart_set.specs.Standing.{StandsFor, AtHart}
 use Rattle.hart_set.specs.Reached.{IsReached}

@@ -5,7 +5,7 @@ use Rattle.std.proofs.lemmas.Option.{slice_get_cases}
 use Rattle.image_record.specs.Record.{Raw}
 use Rattle.sched_table.specs.Schedule.{harts_in}
 use Rattle.world_view.specs.Harts.{slots_of}
-use Rattle.hart_set.specs.declared.hart.Hart.{Hart}
+use Rattle.hart_orders.specs.declared.hart.Hart.{Hart}
 use Rattle.hart_set.specs.declared.set.State.{State}
 use Rattle.hart_set.specs.Standing.{AtHart}
 use Rattle.hart_set.specs.Models.{image_of, harts_after, StandsAfter}

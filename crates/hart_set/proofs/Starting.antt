@@ -27,15 +27,15 @@ use Rattle.world_view.specs.HartLaws.{AreHartsOf, IsBetween}
 use Rattle.world_view.proofs.harts.Isolation.{running, next_law}
 use Rattle.world_view.proofs.harts.Runs.{Running}
 use Rattle.domain_step.specs.Usage.{IsUsed, CountedUpTo}
-use Rattle.hart_set.specs.declared.hart.Slot.{Slot}
-use Rattle.hart_set.specs.declared.hart.Hart.{Hart as CodeHart}
+use Rattle.hart_orders.specs.declared.hart.Slot.{Slot}
+use Rattle.hart_orders.specs.declared.hart.Hart.{Hart as CodeHart}
 use Rattle.hart_set.specs.declared.set.State.{State}
 use Rattle.hart_set.specs.Standing.{StandsFor}
 use Rattle.hart_set.specs.Reached.{IsReached}
 use Rattle.hart_set.specs.Turns.{IsTurn}
 use Rattle.hart_set.proofs.Bounds.{clock_fits, counted, in_bounds_next}
 use Rattle.hart_set.proofs.Others.{in_none}
-use Rattle.hart_set.proofs.Through.{slots_begun}
+use Rattle.hart_orders.proofs.Through.{slots_begun}
 use Rattle.hart_set.proofs.Called.{Called, NextStands, SlotEnds, s, run, its, few, pushed, reached_next}
 use Rattle.hart_set.proofs.Beginning.{clone_on, leaves_on, ended, Switching, stands_begun}
 

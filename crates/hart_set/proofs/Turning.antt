@@ -16,7 +16,7 @@ use Rattle.world_view.specs.Relations.{IsDomain}
 use Rattle.world_view.specs.Harts.{image_on}
 use Rattle.world_view.proofs.harts.OnHart.{placed_switch}
 use Rattle.world_view.proofs.harts.Schedules.{one_each as every_hart, own_entries as entries_at}
-use Rattle.hart_set.specs.declared.hart.Hart.{Hart as CodeHart}
+use Rattle.hart_orders.specs.declared.hart.Hart.{Hart as CodeHart}
 use Rattle.hart_set.specs.declared.set.State.{State}
 use Rattle.hart_set.specs.Turns.{IsTurn}
 use Rattle.hart_set.proofs.Called.{Called}

@@ -6,8 +6,8 @@ use Rattle.sched_table.specs.Schedule.{harts_in}
 use Rattle.world_view.specs.HartLaws.{AreHartsOf}
 use Rattle.hart_set.specs.declared.set.State.{State}
 use Rattle.hart_set.specs.Models.{image_of, harts_after, StandsAfter}
-use Rattle.hart_set.specs.declared.choice.Choice.TheVariants.{LeastClock}
-use Rattle.hart_set.specs.Order.{order_of}
+use Rattle.hart_orders.specs.declared.choice.Choice.TheVariants.{LeastClock}
+use Rattle.hart_orders.specs.Order.{order_of}
 use Rattle.hart_set.specs.Run.{HasHad}
 
 -- the harts before h have had n slots each, this one k, and those after it none. The first event of all, where there has been

@@ -3,10 +3,6 @@ pub mod Standing
 pub mod Reached
 pub mod Slots
 pub mod Models
-pub mod Cold
-pub mod Order
 pub mod Choosers
 pub mod Run
 pub mod InTurn
-pub mod Laws
-pub mod SameUse

@@ -7,11 +7,11 @@ use Rattle.sched_table.specs.Schedule.{harts_in}
 use Rattle.world_view.specs.Machine.{World}
 use Rattle.world_view.specs.Harts.{Harts, slots_of, harts}
 use Rattle.world_view.specs.HartLaws.{AreHartsOf, IsBetween}
-use Rattle.hart_set.specs.declared.choice.Choice.{Choice}
+use Rattle.hart_orders.specs.declared.choice.Choice.{Choice}
 use Rattle.hart_set.specs.declared.set.State.{State}
 use Rattle.hart_set.specs.Models as set
 use Rattle.hart_set.specs.Models.{StandsAfter}
-use Rattle.hart_set.specs.Order.{order_of, ran}
+use Rattle.hart_orders.specs.Order.{order_of, ran}
 
 pub record Run : Type 0 where
   pub record_of : Raw

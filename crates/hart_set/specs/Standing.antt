@@ -12,8 +12,8 @@ use Rattle.world_view.specs.Machine.{caches_of, clock_of, dom_of, setting}
 use Rattle.world_view.specs.Harts.{Harts, progress_of, slots_of, domain_in, end_on, hart_of_domain}
 use Rattle.domain_step.specs.Standing.{MachineStands, DomainStands}
 use Rattle.domain_step.specs.Usage.{IsUsed}
-use Rattle.hart_set.specs.declared.hart.Slot.{Slot}
-use Rattle.hart_set.specs.declared.hart.Hart.{Hart}
+use Rattle.hart_orders.specs.declared.hart.Slot.{Slot}
+use Rattle.hart_orders.specs.declared.hart.Hart.{Hart}
 use Rattle.hart_set.specs.declared.set.State.{State}
 
 -- what holds of the code's hart of this number

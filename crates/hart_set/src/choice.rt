@@ -1,22 +1,12 @@
-// Which hart's event is next.
+// Which hart a word names.
 ghost use Rattle.std.specs.Prelude.{◌≡◌, ℕ, ◌<◌, ◌≤◌, List, length, slice_get, IfSome};
 ghost use Rattle.sched_table.specs.Schedule.{harts_in};
 ghost use Rattle.hart_set.specs.Models.{image_of, StandsAfter};
 ghost use Rattle.hart_set.specs.Standing.{AtHart};
-ghost use Rattle.hart_set.specs.Order as spec;
+ghost use Rattle.hart_orders.specs.Order as spec;
 ghost use Rattle.hart_set.specs.Choosers.{left_in};
 
 use crate::set::HartSet;
-
-/// How the hart whose event is next is chosen, of those that have slots left.
-#[derive(Clone, Copy, Debug, PartialEq, Eq)]
-pub enum Choice {
-    /// It is the one with the least clock; of such, with the least number.
-    LeastClock,
-    /// A word that this seed draws for each event, modulo how many there are, is its
-    /// place among them.
-    Drawn(u32),
-}
 
 // How many harts have had fewer slots.
 fn count_left(harts: &HartSet<'_>, slots: u32) -> u32
@@ -54,7 +44,7 @@ fn left_at(harts: &HartSet<'_>, slots: u32, place: u32) -> Option<u8>
 
 /// Of the harts that have had fewer slots, the one that a word names: none, where each
 /// has had so many.
-#[tactic(auto, unfolding(crate::specs::Order::drawn))]
+#[tactic(auto, unfolding(hart_orders::specs::Order::drawn))]
 pub fn drawn(harts: &HartSet<'_>, slots: u32, word: u32) -> Option<u8>
     requires few { slots ≤ 65536 }
     ensures drawn { (order : List ℕ) → StandsAfter harts.now order

@@ -10,12 +10,8 @@
 #![tactic(auto)]
 
 mod choice;
-mod cold;
-mod hart;
-pub mod laws;
 mod run;
 mod set;
 
-pub use choice::Choice;
 pub use run::HartRun;
 pub use set::HartSet;

@@ -3,12 +3,13 @@ ghost use Rattle.std.specs.Prelude.{◌≡◌, ◌<◌, ◌≤◌, [], List};
 ghost use Rattle.image_check.specs.Image.{image_from};
 ghost use Rattle.sched_table.specs.Schedule.{harts_in};
 ghost use Rattle.hart_set.specs.Models.{image_of as image_of_set, StandsAfter};
-ghost use Rattle.hart_set.specs.Order as spec;
+ghost use Rattle.hart_orders.specs.Order as spec;
 ghost use Rattle.hart_set.specs.Run.{HasRun};
 ghost use Rattle.hart_set.specs.InTurn.{RunInTurn};
 
-use crate::choice::{Choice, drawn};
+use crate::choice::drawn;
 use crate::set::HartSet;
+use hart_orders::Choice;
 use image_check::Checked;
 use seed_words::{draw, seeded};
 use std::alloc::Global;

@@ -1,5 +1,5 @@
 // An image's harts, one event after another.
-use crate::hart::Hart;
+use hart_orders::Hart;
 use image_check::Checked;
 use kernel_call::Domain;
 use l2_colour::L2;

@@ -16,8 +16,8 @@ use Rattle.world_view.proofs.opening.Separate.{separated}
 use Rattle.image_reading.proofs.ReadingLaws.{read_runs}
 use Rattle.world_view.proofs.time.TimeLaws.{on_time}
 use Rattle.world_view.proofs.harts.Clocks.{hart_starts}
-use Rattle.hart_set.specs.declared.choice.Choice.{Choice}
-use Rattle.hart_set.specs.declared.choice.Choice.TheVariants.{LeastClock, Drawn}
+use Rattle.hart_orders.specs.declared.choice.Choice.{Choice}
+use Rattle.hart_orders.specs.declared.choice.Choice.TheVariants.{LeastClock, Drawn}
 use Rattle.image_gen.specs.Text.{text as generated_text}
 use Rattle.image_gen.proofs.Kept.{accepted_law}
 use Rattle.tp_report.specs.Report.{report_off, bounds_of, usage_text, refusal_text}

@@ -14,9 +14,9 @@ use Rattle.world_view.proofs.opening.Separate.{separated}
 use Rattle.world_view.proofs.runs.WholeLaws.{isolated}
 use Rattle.world_view.proofs.time.TimeLaws.{used_within, largest_within}
 use Rattle.world_view.proofs.harts.OneHart.{one_hart}
-use Rattle.hart_set.specs.declared.choice.Choice.{Choice}
-use Rattle.hart_set.specs.Order.{ran}
-use Rattle.hart_set.proofs.RunSeen.{choice_law, choice_pad}
+use Rattle.hart_orders.specs.declared.choice.Choice.{Choice}
+use Rattle.hart_orders.specs.Order.{ran}
+use Rattle.hart_orders.proofs.ChoiceLaws.{choice_law, choice_pad}
 use Rattle.tp_report.specs.Report.{section_of, report_of}
 use Rattle.tp_report.specs.Texts.{section}
 use Rattle.tp_report.proofs.ReportLaws.{same_report}

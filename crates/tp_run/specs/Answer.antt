@@ -7,7 +7,7 @@ use Rattle.image_check.specs.Image.{Image, image_from}
 use Rattle.image_gen.specs.Generated.{generated}
 use Rattle.image_gen.specs.Text.{text as generated_text}
 use Rattle.image_reading.specs.Reading.{most_bytes}
-use Rattle.hart_set.specs.declared.choice.Choice.TheVariants.{LeastClock, Drawn}
+use Rattle.hart_orders.specs.declared.choice.Choice.TheVariants.{LeastClock, Drawn}
 use Rattle.tp_report.specs.Report.{report_off, bounds_of, accepted_text, usage_text, refusal_text, too_long_text}
 use Rattle.tp_report.specs.Demo.{demo_text}
 use Rattle.tp_words.specs.declared.Command.{Command}

@@ -4,8 +4,8 @@ use Rattle.sched_table.specs.Schedule.{harts_in}
 use Rattle.image_check.specs.Image.{Image}
 use Rattle.world_view.specs.Machine.{World, whole}
 use Rattle.world_view.specs.Harts.{view_alone_on}
-use Rattle.hart_set.specs.Order.{ran}
-use Rattle.hart_set.specs.declared.choice.Choice.{Choice}
+use Rattle.hart_orders.specs.Order.{ran}
+use Rattle.hart_orders.specs.declared.choice.Choice.{Choice}
 use Rattle.tp_report.specs.Report.{section_of, report_of, report_with}
 
 -- the machine after n slots of each hart, where the next event's hart is chosen so; one hart has nobody beside it

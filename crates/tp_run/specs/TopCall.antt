@@ -20,7 +20,7 @@ use Rattle.world_view.specs.Harts.{progress_of, slots_of, start_on, next, harts,
 use Rattle.world_view.specs.HartLaws.{AreHartsOf}
 use Rattle.world_view.specs.Relations.{IsDomain, AllWithinPads}
 use Rattle.world_view.specs.Used.{largest_of}
-use Rattle.hart_set.specs.declared.choice.Choice.{Choice}
+use Rattle.hart_orders.specs.declared.choice.Choice.{Choice}
 use Rattle.tp_report.specs.Report.{report_off, section_of, bounds_of, accepted_text, usage_text, refusal_text}
 use Rattle.tp_report.specs.Demo.{demo_text}
 use Rattle.tp_words.specs.declared.Command.{Command}

@@ -24,7 +24,7 @@ use crate::generate::{run_demo, write_generated};
 use crate::run::{domains_of, run_image, run_off};
 use domain_step::has_one_hart;
 use guards::Guard;
-use hart_set::Choice;
+use hart_orders::Choice;
 use image_check::{CheckRefusal, Checked, Unpadded, check, check_but_pads};
 use image_text::read_image;
 use std::alloc::Global;

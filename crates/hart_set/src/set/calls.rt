@@ -1,10 +1,9 @@
 // The calls of an image's harts.
 use super::{HartSet, State};
-use crate::cold::cold_caches;
-use crate::hart::Slot;
 use domain_open::open_image;
 use domain_step::{note_switch, step, stretch, unused};
 use domain_switch::switch;
+use hart_orders::{Slot, cold_caches};
 use image_check::Checked;
 use kernel_clone::CloneLayout;
 use sched_table::{Entry, Turn};

@@ -1,7 +1,7 @@
 use Rattle.std.proofs.Common.{◌∙◌, sym, arith, ap, length, List, ℕ}
 use Rattle.hart_set.specs.Models.{harts_after}
-use Rattle.hart_set.specs.Order.{left}
-use Rattle.hart_set.proofs.Left.{count_more, no_more}
+use Rattle.hart_orders.specs.Order.{left}
+use Rattle.hart_orders.proofs.Left.{count_more, no_more}
 use Rattle.hart_set.proofs.Standing.{its_slots}
 use Rattle.hart_set.proofs.choice.count_left.Goals.{then-slots, else-slots}
 use Rattle.hart_set.proofs.choice.count_left.Goals as goal

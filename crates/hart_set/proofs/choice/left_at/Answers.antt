@@ -3,8 +3,8 @@ use Rattle.std.specs.Prelude.{slice_get}
 use Rattle.std.proofs.lemmas.Option.{slice_get_past}
 use Rattle.sched_table.specs.Schedule.{harts_in}
 use Rattle.hart_set.specs.Models.{image_of, harts_after}
-use Rattle.hart_set.specs.Order.{left}
-use Rattle.hart_set.proofs.Left.{count_more, no_more, placed}
+use Rattle.hart_orders.specs.Order.{left}
+use Rattle.hart_orders.proofs.Left.{count_more, no_more, placed}
 use Rattle.hart_set.proofs.Standing.{its_slots}
 use Rattle.hart_set.proofs.choice.left_at.Goals.{then-slots+else-before-place, else-slots}
 use Rattle.hart_set.proofs.choice.left_at.Goals as goal

@@ -1,6 +1,6 @@
 use Rattle.std.proofs.Common.{◌≡◌, ◌≤◌, ℕ, List, length}
 use Rattle.hart_set.specs.Models.{harts_after, StandsAfter}
-use Rattle.hart_set.specs.Order.{left}
+use Rattle.hart_orders.specs.Order.{left}
 use Rattle.hart_set.proofs.choice.left_at.Given as goal
 
 abbrev pub invariant-loop-h : goal.invariant-loop-h

@@ -5,7 +5,7 @@ use Rattle.sched_table.proofs.HartSchedules.{few_harts}
 use Rattle.image_check.specs.Image.{image_from}
 use Rattle.world_view.specs.Harts.{start_on}
 use Rattle.hart_set.proofs.Turning.{one_each, own_entries}
-use Rattle.hart_set.specs.Order.{cycles_before}
+use Rattle.hart_orders.specs.Order.{cycles_before}
 use Rattle.hart_set.proofs.run.cycles_before.Goals as goal
 
 pub loop-schedule-init : goal.loop-schedule-init

@@ -1,6 +1,6 @@
 use Rattle.std.proofs.Common.{◌≡◌, ◌≤◌, ◌*◌}
 use Rattle.image_check.specs.Image.{image_from}
-use Rattle.hart_set.specs.Order.{cycles_before}
+use Rattle.hart_orders.specs.Order.{cycles_before}
 use Rattle.hart_set.proofs.run.cycles_before.Given as goal
 
 abbrev pub invariant-loop-schedule : goal.invariant-loop-schedule

@@ -3,9 +3,9 @@ use Rattle.image_record.specs.Record.{Raw}
 use Rattle.image_check.specs.Image.{image_from}
 use Rattle.image_check.specs.Laws.{Runnable}
 use Rattle.hart_set.specs.Models.{StandsAfter}
-use Rattle.hart_set.specs.declared.choice.Choice.{Choice}
-use Rattle.hart_set.specs.declared.choice.Choice.TheVariants.{Drawn}
-use Rattle.hart_set.specs.Order.{order_of}
+use Rattle.hart_orders.specs.declared.choice.Choice.{Choice}
+use Rattle.hart_orders.specs.declared.choice.Choice.TheVariants.{Drawn}
+use Rattle.hart_orders.specs.Order.{order_of}
 use Rattle.hart_set.specs.Run.{HasRun}
 use Rattle.hart_set.proofs.RunSeen.{run_so}
 use Rattle.hart_set.proofs.run.run_all.Goals as goal

@@ -8,8 +8,8 @@ use Rattle.sched_table.specs.Schedule.{harts_in}
 use Rattle.world_view.specs.Harts.{Harts}
 use Rattle.hart_set.specs.declared.set.State.{State}
 use Rattle.hart_set.specs.Models.{StandsAfter, image_of, harts_after}
-use Rattle.hart_set.specs.declared.choice.Choice.TheVariants.{Drawn}
-use Rattle.hart_set.specs.Order.{drawn, chosen, cycles_before, order_of, next_hart}
+use Rattle.hart_orders.specs.declared.choice.Choice.TheVariants.{Drawn}
+use Rattle.hart_orders.specs.Order.{drawn, chosen, cycles_before, order_of, next_hart}
 use Rattle.hart_set.specs.Choosers.{left_in}
 use Rattle.hart_set.proofs.RunOn.{SoFar, at_first, at_last, one_fewer, one_more, over}
 use Rattle.hart_set.proofs.run.run_drawn.Goals as goal

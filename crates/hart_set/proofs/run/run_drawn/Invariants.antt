@@ -1,6 +1,6 @@
 use Rattle.std.proofs.Common.{◌≡◌, ◌-◌}
 use Rattle.seed_words.specs.Words.{seeded, after}
-use Rattle.hart_set.specs.declared.choice.Choice.TheVariants as choice
+use Rattle.hart_orders.specs.declared.choice.Choice.TheVariants as choice
 use Rattle.hart_set.proofs.RunOn.{SoFar}
 use Rattle.hart_set.proofs.run.run_drawn.Given as goal
 

@@ -1,8 +1,8 @@
 use Rattle.std.proofs.Common.{◌∙◌, sym, ap, subst, ℕ}
 use Rattle.tp_io.specs.Sink.{state}
 use Rattle.image_check.specs.Image.{image_from}
-use Rattle.hart_set.specs.declared.choice.Choice.{Choice}
-use Rattle.hart_set.specs.declared.choice.Choice.TheVariants.{LeastClock, Drawn}
+use Rattle.hart_orders.specs.declared.choice.Choice.{Choice}
+use Rattle.hart_orders.specs.declared.choice.Choice.TheVariants.{LeastClock, Drawn}
 use Rattle.tp_run.specs.Answer.{Answer, answer_of_image}
 use Rattle.tp_run.specs.Reading.{image_for}
 use Rattle.tp_run.specs.Runs.{report}

@@ -3,7 +3,7 @@ use Rattle.std.proofs.lemmas.Option.{same_Some}
 use Rattle.tp_io.specs.Sink.{state}
 use Rattle.tp_words.specs.declared.Command.TheVariants.{Gen, Demo}
 use Rattle.tp_words.specs.Words.{Reads, IsInRange, command, words_of}
-use Rattle.hart_set.specs.declared.choice.Choice.TheVariants.{LeastClock, Drawn}
+use Rattle.hart_orders.specs.declared.choice.Choice.TheVariants.{LeastClock, Drawn}
 use Rattle.tp_run.specs.TopCall.{MayBeUsage}
 use Rattle.tp_run.proofs.Answers.{none_taken, bytes_due, usage_sent, usage_delivers, ends_usage, completes, completes_surely}
 use Rattle.tp_run.proofs.Commands.{answering, as_command, told_delivers, done_reads, refused_reads, too_long_reads, may_be_usage, refuses, accepts, bounds, ran, harts_ran, is_isolated, is_padded, lacks_domain, writes_section, is_same_section, writes_off, has_many_harts, generates, summarizes}

@@ -3,8 +3,8 @@ use Rattle.image_record.specs.Record as text
 use Rattle.sched_table.specs.Schedule.{harts_in}
 use Rattle.image_check.specs.Image.{image_from}
 use Rattle.world_view.specs.Machine.{World}
-use Rattle.hart_set.specs.Order.{ran}
-use Rattle.hart_set.specs.declared.choice.Choice.{Choice}
+use Rattle.hart_orders.specs.Order.{ran}
+use Rattle.hart_orders.specs.declared.choice.Choice.{Choice}
 use Rattle.tp_io.specs.Sink.{state}
 use Rattle.tp_report.specs.Report as machine
 use Rattle.tp_report.specs.Report.{report_of}

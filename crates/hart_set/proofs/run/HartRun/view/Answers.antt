@@ -4,7 +4,8 @@ use Rattle.world_view.specs.View.{view_in}
 use Rattle.world_view.specs.Models.{view_model}
 use Rattle.hart_set.specs.Run.{Run, image_of, world_of}
 use Rattle.hart_set.specs.Models as set
-use Rattle.hart_set.proofs.RunSeen.{choice_law, seen_of_run}
+use Rattle.hart_orders.proofs.ChoiceLaws.{choice_law}
+use Rattle.hart_set.proofs.RunSeen.{seen_of_run}
 use Rattle.hart_set.proofs.run.HartRun.view.Goals as goal
 
 named : (c : goal.After-view) → c.args.d < length (set.image_of c.self.inside.harts).owns

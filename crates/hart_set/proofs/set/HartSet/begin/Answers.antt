@@ -13,7 +13,7 @@ use Rattle.world_view.specs.Harts.{image_on}
 use Rattle.domain_step.specs.Usage.{IsUsed, CountedUpTo}
 use Rattle.domain_step.proofs.Elements.{each_set_kept}
 use Rattle.domain_step.proofs.SwitchCounts.{noted_back, length_back}
-use Rattle.hart_set.specs.declared.hart.Hart.{Hart}
+use Rattle.hart_orders.specs.declared.hart.Hart.{Hart}
 use Rattle.hart_set.specs.declared.set.State.{State}
 use Rattle.hart_set.specs.Turns.{IsTurn}
 use Rattle.hart_set.proofs.Called.{Called, NextStands, called, at_hart, value_at, of_image, to_value, domain_read, within}

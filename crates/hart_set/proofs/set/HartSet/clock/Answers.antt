@@ -1,7 +1,7 @@
 use Rattle.std.proofs.Common.{◌≡◌, ℕ, refl, subst, arith}
 use Rattle.std.specs.Prelude.{slice_index_or}
 use Rattle.image_check.specs.Image.{Image, image_from}
-use Rattle.hart_set.specs.declared.hart.Hart.{Hart}
+use Rattle.hart_orders.specs.declared.hart.Hart.{Hart}
 use Rattle.hart_set.proofs.Called.{Called, called, for_hart, within}
 use Rattle.hart_set.proofs.Starting.{clock_soon}
 use Rattle.hart_set.proofs.set.HartSet.clock.Goals as goal

@@ -5,7 +5,7 @@ use Rattle.image_check.specs.Public.{Public}
 use Rattle.image_check.specs.Image.{image_from}
 use Rattle.world_view.specs.Cost.{hierarchy}
 use Rattle.hart_set.specs.declared.set.State.{State}
-use Rattle.hart_set.specs.Cold.{IsColdHart}
+use Rattle.hart_orders.specs.Cold.{IsColdHart}
 use Rattle.hart_set.proofs.Turning.{one_each}
 use Rattle.hart_set.proofs.Loaded.{IsLoaded, stands_first, reached_first}
 use Rattle.hart_set.proofs.set.HartSet.load.Goals as goal

@@ -5,7 +5,7 @@ use Rattle.sched_table.specs.Schedule.{entry_in, entry_of_slot, entries_alone, e
 use Rattle.image_check.specs.Image.{Image, image_from}
 use Rattle.world_view.specs.Relations.{IsDomain}
 use Rattle.world_view.proofs.harts.OnHart.{separated_on, placed_switch}
-use Rattle.hart_set.specs.declared.hart.Hart.{Hart}
+use Rattle.hart_orders.specs.declared.hart.Hart.{Hart}
 use Rattle.hart_set.specs.declared.set.State.{State}
 use Rattle.hart_set.specs.Models.{image_of}
 use Rattle.hart_set.specs.Turns.{IsTurn}

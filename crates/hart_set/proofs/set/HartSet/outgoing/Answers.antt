@@ -4,7 +4,7 @@ use Rattle.sched_table.specs.Schedule.{entry_in, on_hart, switch_entry, outgoing
 use Rattle.image_check.specs.Image.{Image, image_from}
 use Rattle.world_view.specs.Machine.{clone_of}
 use Rattle.world_view.specs.Harts.{image_on}
-use Rattle.hart_set.specs.declared.hart.Hart.{Hart}
+use Rattle.hart_orders.specs.declared.hart.Hart.{Hart}
 use Rattle.hart_set.proofs.Called.{called, within, value_at, for_hart, domain_read}
 use Rattle.hart_set.proofs.Turning.{ended_there, ended_named, clone_before, clone_first}
 use Rattle.hart_set.proofs.set.HartSet.outgoing.Goals as goal

@@ -3,7 +3,7 @@ use Rattle.std.specs.Prelude.{slice_get, slice_index_or}
 use Rattle.image_record.specs.Record.{Raw}
 use Rattle.sched_table.specs.Schedule.{harts_in}
 use Rattle.image_check.specs.Image.{image_from}
-use Rattle.hart_set.specs.declared.hart.Slot.{Slot}
+use Rattle.hart_orders.specs.declared.hart.Slot.{Slot}
 use Rattle.hart_set.specs.declared.set.State.{State}
 use Rattle.hart_set.specs.Models.{image_of}
 use Rattle.hart_set.proofs.Called.{NextStands, SlotEnds, GoesFrom, called, found_in, within}

@@ -11,10 +11,10 @@ use Rattle.image_check.specs.Image.{Image}
 use Rattle.sched_table.specs.Schedule.{harts_in}
 use Rattle.world_view.specs.Machine.{clock_of}
 use Rattle.world_view.specs.Harts.{Harts, slots_of}
-use Rattle.hart_set.specs.declared.choice.Choice.{Choice}
-use Rattle.hart_set.specs.declared.choice.Choice.TheVariants.{LeastClock, Drawn}
-use Rattle.hart_set.specs.Order.{left, earlier, least, drawn, chosen, next_hart}
-use Rattle.hart_set.specs.Laws.{HasLeftLaw, SomebodyLaw, LeastLaw}
+use Rattle.hart_orders.specs.declared.choice.Choice.{Choice}
+use Rattle.hart_orders.specs.declared.choice.Choice.TheVariants.{LeastClock, Drawn}
+use Rattle.hart_orders.specs.Order.{left, earlier, least, drawn, chosen, next_hart}
+use Rattle.hart_orders.specs.Laws.{HasLeftLaw, SomebodyLaw, LeastLaw}
 
 -- ---- who is chosen is one of those
 

@@ -9,9 +9,9 @@ use Rattle.world_view.specs.View.{view_in}
 use Rattle.world_view.specs.Relations.{IsDomain, AllWithinPads}
 use Rattle.world_view.specs.Harts.{Harts, slots_of, harts, view_alone_on}
 use Rattle.world_view.specs.HartLaws.{AreHartsOf, IsBetween}
-use Rattle.hart_set.specs.Order.{next_hart, order_of, ran}
-use Rattle.hart_set.specs.declared.choice.Choice.{Choice}
-use Rattle.hart_set.specs.declared.choice.Choice.TheVariants.{LeastClock}
+use Rattle.hart_orders.specs.Order.{next_hart, order_of, ran}
+use Rattle.hart_orders.specs.declared.choice.Choice.{Choice}
+use Rattle.hart_orders.specs.declared.choice.Choice.TheVariants.{LeastClock}
 
 -- ---- the order is the choice's
 

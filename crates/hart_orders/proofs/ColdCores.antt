@@ -17,7 +17,7 @@ use Rattle.mem_system.specs.declared.geometry.Geometry.{Geometry}
 use Rattle.mem_system.specs.Geometry.{costs_of, product_costs_of, shape_by, hierarchy_by}
 use Rattle.mem_system.specs.Cost.{cold, fresh_core}
 use Rattle.mem_system.specs.Contents.{CoreContents, CoreStands, system, hierarchy_of}
-use Rattle.hart_set.specs.Cold.{IsColdL2, IsColdHart}
+use Rattle.hart_orders.specs.Cold.{IsColdL2, IsColdHart}
 
 fresh_sizes : (s : Sizes) → sizes_of (fresh_guesses s) ≡ s
 fresh_sizes s =

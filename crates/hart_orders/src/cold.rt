@@ -3,7 +3,7 @@ ghost use Rattle.std.specs.Prelude.{◌≡◌, All, length, IfOk};
 ghost use Rattle.hardware_check.specs.Hardware.{IsHardware};
 ghost use Rattle.hardware_check.specs.Models.{hardware_model};
 ghost use Rattle.world_view.specs.Cost.{hierarchy};
-ghost use Rattle.hart_set.specs.Cold.{IsColdL2, IsColdHart};
+ghost use Rattle.hart_orders.specs.Cold.{IsColdL2, IsColdHart};
 
 use crate::hart::Hart;
 use image_check::Hardware;

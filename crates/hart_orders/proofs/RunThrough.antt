@@ -15,10 +15,10 @@ use Rattle.world_view.proofs.harts.Events.{IsInside, IsHart}
 use Rattle.world_view.proofs.harts.Runs.{Running, progress-same}
 use Rattle.world_view.proofs.harts.Clocks.{begun_world, hart_between, hart_rises, hart_stays}
 use Rattle.world_view.proofs.harts.Isolation.{running, next_law}
-use Rattle.hart_set.specs.declared.choice.Choice.{Choice}
-use Rattle.hart_set.specs.Order.{next_hart, events_from, cycles_before, order_of}
-use Rattle.hart_set.specs.Laws.{EachChosenLaw, HartsLaw, ThroughLaw}
-use Rattle.hart_set.proofs.Chosen.{has_left, nobody}
+use Rattle.hart_orders.specs.declared.choice.Choice.{Choice}
+use Rattle.hart_orders.specs.Order.{next_hart, events_from, cycles_before, order_of}
+use Rattle.hart_orders.specs.Laws.{EachChosenLaw, HartsLaw, ThroughLaw}
+use Rattle.hart_orders.proofs.Chosen.{has_left, nobody}
 
 -- ---- the order, event by event
 

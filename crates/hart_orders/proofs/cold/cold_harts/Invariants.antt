@@ -1,8 +1,8 @@
 use Rattle.std.proofs.Common.{◌≡◌, All, length}
 use Rattle.hardware_check.specs.Models.{hardware_model}
 use Rattle.world_view.specs.Cost.{hierarchy}
-use Rattle.hart_set.specs.Cold.{IsColdHart}
-use Rattle.hart_set.proofs.cold.cold_harts.Given as goal
+use Rattle.hart_orders.specs.Cold.{IsColdHart}
+use Rattle.hart_orders.proofs.cold.cold_harts.Given as goal
 
 abbrev pub invariant-loop : goal.invariant-loop
 invariant-loop l = record {

@@ -4,7 +4,7 @@ use Rattle.std.specs.Prelude.{slice_get, if◌then◌else◌}
 use Rattle.std.proofs.lemmas.Bool.{cases_lt}
 use Rattle.std.proofs.lemmas.List.{length-append}
 use Rattle.world_view.specs.Harts.{Harts, slots_of}
-use Rattle.hart_set.specs.Order.{left}
+use Rattle.hart_orders.specs.Order.{left}
 
 front : (xs ys : List ℕ) (k : ℕ) → k < length xs → slice_get (xs ++ ys) k ≡ slice_get xs k
 front [] ys k l = absurd (omega (arith, l))

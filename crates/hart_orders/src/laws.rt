@@ -1,7 +1,7 @@
 //! Laws of the orders in which harts have their events, each the contract of a function
 //! that does nothing: a caller that calls it may rely on the law.
-ghost use Rattle.hart_set.specs.Laws.{EachChosenLaw, HasLeftLaw, SomebodyLaw, LeastLaw, HartsLaw, ThroughLaw, ChoiceLaw, ChoicePadLaw, ChoiceLargestLaw};
-ghost use Rattle.hart_set.specs.SameUse.{SameUseLaw};
+ghost use Rattle.hart_orders.specs.Laws.{EachChosenLaw, HasLeftLaw, SomebodyLaw, LeastLaw, HartsLaw, ThroughLaw, ChoiceLaw, ChoicePadLaw, ChoiceLargestLaw};
+ghost use Rattle.hart_orders.specs.SameUse.{SameUseLaw};
 
 /// Each event is of the hart that is chosen then: one that has slots left, while there
 /// is one; by clocks, none of the others has a lower clock, nor the same and a lower

@@ -8,7 +8,7 @@ use Rattle.l2_colour.specs.Contents.{L2Contents}
 use Rattle.mem_system.specs.Hierarchy.{Hierarchy}
 use Rattle.mem_system.specs.Cost.{cold}
 use Rattle.mem_system.specs.Contents.{SystemStands, system, hierarchy_of}
-use Rattle.hart_set.specs.declared.hart.Hart.{Hart}
+use Rattle.hart_orders.specs.declared.hart.Hart.{Hart}
 
 -- of this hierarchy
 pub record IsColdL2 (h : Hierarchy) (l2 : L2Contents AnyPolicy) : Type 0 where

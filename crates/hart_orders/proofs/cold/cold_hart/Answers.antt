@@ -1,7 +1,7 @@
 use Rattle.hardware_check.specs.Models.{hardware_model}
 use Rattle.world_view.specs.Cost.{hierarchy}
-use Rattle.hart_set.proofs.ColdCores.{cold_hart}
-use Rattle.hart_set.proofs.cold.cold_hart.Goals as goal
+use Rattle.hart_orders.proofs.ColdCores.{cold_hart}
+use Rattle.hart_orders.proofs.cold.cold_hart.Goals as goal
 
 pub returns : goal.returns
 returns c = record {

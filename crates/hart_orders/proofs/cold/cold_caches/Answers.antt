@@ -1,4 +1,4 @@
-use Rattle.hart_set.proofs.cold.cold_caches.Goals as goal
+use Rattle.hart_orders.proofs.cold.cold_caches.Goals as goal
 
 pub cold_l2-requires : goal.cold_l2-requires
 cold_l2-requires c = record { hardware = c.requires.hardware }

@@ -3,9 +3,9 @@ use Rattle.std.proofs.lemmas.List.{length_push}
 use Rattle.std.proofs.lemmas.List.Elements.{All-push}
 use Rattle.hardware_check.specs.Models.{hardware_model}
 use Rattle.world_view.specs.Cost.{hierarchy}
-use Rattle.hart_set.specs.declared.hart.Hart.{Hart}
-use Rattle.hart_set.specs.Cold.{IsColdHart}
-use Rattle.hart_set.proofs.cold.cold_harts.Goals as goal
+use Rattle.hart_orders.specs.declared.hart.Hart.{Hart}
+use Rattle.hart_orders.specs.Cold.{IsColdHart}
+use Rattle.hart_orders.proofs.cold.cold_harts.Goals as goal
 
 pub loop-preserved : goal.loop-preserved
 loop-preserved c =

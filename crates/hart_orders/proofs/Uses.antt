@@ -23,8 +23,8 @@ use Rattle.world_view.proofs.harts.Meets.{Meets}
 use Rattle.world_view.proofs.harts.Runs.{used_cold, all_cold_are, Running, here, next_so, progress-same, progress-other}
 use Rattle.world_view.proofs.harts.Clocks.{begun_world, hart_stays}
 use Rattle.world_view.proofs.harts.Isolation.{at_first, running}
-use Rattle.hart_set.specs.SameUse.{SameUse, SameUseLaw}
-use Rattle.hart_set.proofs.SwitchCosts.{Before, clock_before, took, cycles_is}
+use Rattle.hart_orders.specs.SameUse.{SameUse, SameUseLaw}
+use Rattle.hart_orders.proofs.SwitchCosts.{Before, clock_before, took, cycles_is}
 
 -- ---- one switch more
 

@@ -5,8 +5,8 @@ use Rattle.image_check.specs.Image.{Image}
 use Rattle.sched_table.specs.Schedule.{harts_in}
 use Rattle.world_view.specs.Machine.{World, clock_of}
 use Rattle.world_view.specs.Harts.{Harts, slots_of, start_on, next, harts}
-use Rattle.hart_set.specs.declared.choice.Choice.{Choice}
-use Rattle.hart_set.specs.declared.choice.Choice.TheVariants.{LeastClock, Drawn}
+use Rattle.hart_orders.specs.declared.choice.Choice.{Choice}
+use Rattle.hart_orders.specs.declared.choice.Choice.TheVariants.{LeastClock, Drawn}
 
 -- ---- whose event is next
 

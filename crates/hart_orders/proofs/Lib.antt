@@ -1,0 +1,8 @@
+pub mod Through
+pub mod ColdCores
+pub mod Chosen
+pub mod Left
+pub mod RunThrough
+pub mod SwitchCosts
+pub mod Uses
+pub mod ChoiceLaws

@@ -1,0 +1,4 @@
+pub mod Cold
+pub mod Order
+pub mod Laws
+pub mod SameUse

@@ -1,5 +1,0 @@
-use Rattle.hart_set.proofs.RunSeen.{choice_law, choice_pad, choice_largest}
-use Rattle.hart_set.proofs.laws.sections.Goals as goal
-
-pub returns : goal.returns
-returns c = record { isolated = choice_law; used = choice_pad; largest = choice_largest }
