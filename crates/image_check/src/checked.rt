@@ -58,6 +58,12 @@ impl Checked {
     {
         self.image.own(d)
     }
+
+    /// Frees it. The drops of its parts are checked by this, and not again in each crate
+    /// that would drop it.
+    pub fn discard(self) {
+        drop(self);
+    }
 }
 
 /// The image, where the list of the rules that it breaks is empty.

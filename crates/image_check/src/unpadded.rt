@@ -89,6 +89,12 @@ impl Unpadded {
     {
         &self.owns[d]
     }
+
+    /// Frees it. The drops of its parts are checked by this, and not again in each crate
+    /// that would drop it.
+    pub fn discard(self) {
+        drop(self);
+    }
 }
 
 /// The entries of the schedule, where none of the rules after that of pads is

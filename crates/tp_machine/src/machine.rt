@@ -112,4 +112,10 @@ impl<'a> Machine<'a> {
     {
         self.guarded.all_used()
     }
+
+    /// Frees it. The drops of its parts are checked by this, and not again in each crate
+    /// that would drop it.
+    pub fn discard(self) {
+        drop(self);
+    }
 }

@@ -32,6 +32,6 @@ pub fn run_domain<K: Sink>(alloc: Global, image: &Checked, d: u8, slots: u32, ou
     }
     let name = alone.own.name.as_str();
     let status = status_unless_failed(Status::Done, write_section(out, d, name, &alone.view()));
-    drop(alone);
+    alone.discard();
     status
 }

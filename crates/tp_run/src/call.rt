@@ -209,7 +209,7 @@ fn answer_check<K: Sink>(alloc: Global, bytes: &[u8], out: &mut K) -> Status
 {
     match accepted(alloc, bytes) {
         Ok(image) => {
-            drop(image);
+            image.discard();
             status_unless_failed(Status::Done, write_accepted(out))
         }
         Err(refusal) => refuse(&refusal, out),
@@ -225,7 +225,7 @@ fn answer_bound<K: Sink>(alloc: Global, bytes: &[u8], out: &mut K) -> Status
     match accepted_but_pads(alloc, bytes) {
         Ok(image) => {
             let status = write_bounds(alloc, &image, out);
-            drop(image);
+            image.discard();
             status
         }
         Err(refusal) => refuse(&refusal, out),
@@ -251,7 +251,7 @@ fn answer_run<K: Sink>(
     match accepted(alloc, bytes) {
         Ok(image) => {
             let status = run_image(alloc, &image, choice, slots, out);
-            drop(image);
+            image.discard();
             status
         }
         Err(refusal) => refuse(&refusal, out),
@@ -269,10 +269,10 @@ fn answer_alone<K: Sink>(alloc: Global, bytes: &[u8], domain: u8, slots: u32, ou
         Ok(image) => {
             if domain < domains_of(&image) {
                 let status = run_domain(alloc, &image, domain, slots, out);
-                drop(image);
+                image.discard();
                 status
             } else {
-                drop(image);
+                image.discard();
                 status_unless_failed(Status::Usage, write_usage(out))
             }
         }
@@ -291,10 +291,10 @@ fn answer_off<K: Sink>(alloc: Global, bytes: &[u8], off: Guard, slots: u32, out:
         Ok(image) => {
             if has_one_hart(&image) {
                 let status = run_off(alloc, &image, off, slots, out);
-                drop(image);
+                image.discard();
                 status
             } else {
-                drop(image);
+                image.discard();
                 status_unless_failed(Status::Usage, write_usage(out))
             }
         }

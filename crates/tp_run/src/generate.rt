@@ -41,7 +41,7 @@ pub fn run_demo<K: Sink>(alloc: Global, seed: u32, out: &mut K) -> Status
     match generated_image(alloc, seed) {
         Ok(image) => {
             let status = run_image_of(alloc, &image, seed, out);
-            drop(image);
+            image.discard();
             status
         }
         Err(_) => Status::Memory,
@@ -57,7 +57,7 @@ fn run_image_of<K: Sink>(alloc: Global, image: &Checked, seed: u32, out: &mut K)
     match Machine::after(alloc, image, DEMO_SLOTS) {
         Ok(machine) => {
             let status = status_unless_failed(Status::Done, write_summary(out, seed, &machine));
-            drop(machine);
+            machine.discard();
             status
         }
         Err(Memory) => Status::Memory,

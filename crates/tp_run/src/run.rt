@@ -43,15 +43,14 @@ pub fn run_image<K: Sink>(
     match HartRun::new(alloc, image, choice, slots) {
         Ok(run) => {
             let status = status_unless_failed(Status::Done, write_report(out, &run));
-            drop(run);
+            run.discard();
             status
         }
         Err(Memory) => Status::Memory,
     }
 }
 
-// Runs the image of one hart for so many slots and writes the report. A machine is dropped by
-// name, here and above, since a check takes ten times as long where a scope's end drops it.
+// Runs the image of one hart for so many slots and writes the report.
 fn run_machine<K: Sink>(alloc: Global, image: &Checked, slots: u32, out: &mut K) -> Status
     requires few { slots ≤ 65536 }
     requires one { IsOnOneHart (image_from image.now) }
@@ -61,7 +60,7 @@ fn run_machine<K: Sink>(alloc: Global, image: &Checked, slots: u32, out: &mut K)
     match Machine::after(alloc, image, slots) {
         Ok(machine) => {
             let status = status_unless_failed(Status::Done, write_report(out, &machine));
-            drop(machine);
+            machine.discard();
             status
         }
         Err(Memory) => Status::Memory,
@@ -84,7 +83,7 @@ pub fn run_off<K: Sink>(
     match Ablated::after(alloc, image, off, slots) {
         Ok(machine) => {
             let status = status_unless_failed(Status::Done, write_report_off(out, &machine));
-            drop(machine);
+            machine.discard();
             status
         }
         Err(Memory) => Status::Memory,

@@ -103,4 +103,10 @@ impl<'a> Alone<'a> {
     {
         View::new(&self.domain, &self.memory)
     }
+
+    /// Frees it. The drops of its parts are checked by this, and not again in each crate
+    /// that would drop it.
+    pub fn discard(self) {
+        drop(self);
+    }
 }
