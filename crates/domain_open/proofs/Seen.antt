@@ -23,7 +23,7 @@ use Rattle.image_check.specs.Pages.{share_of}
 use Rattle.world_view.specs.Event.{Storage}
 use Rattle.world_view.specs.Frames.{pool}
 use Rattle.world_view.specs.Kernel.{estate}
-use Rattle.world_view.specs.Models.{seen_of}
+use Rattle.world_view.specs.Seen.{seen_of}
 use Rattle.world_view.specs.Opening.{frame_words}
 use Rattle.world_view.specs.View.{View, view}
 use Rattle.world_view.proofs.opening.PoolLaws.{in_pool}

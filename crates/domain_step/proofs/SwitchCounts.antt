@@ -5,7 +5,7 @@ use Rattle.std.proofs.lemmas.List.{drop_all, take_all}
 use Rattle.std.proofs.lemmas.Option.{slice_get-get_or}
 use Rattle.world_view.specs.Used.{largest_of, count_of}
 use Rattle.world_view.proofs.steps.CodeLaws.{count_of-push_same, count_of-push_other, largest_of-push_same, largest_of-push_other}
-use Rattle.world_view.specs.declared.view.Used.{Used}
+use Rattle.world_view.specs.declared.used.Used.{Used}
 use Rattle.domain_step.specs.Usage.{IsUsed, CountedUpTo}
 use Rattle.domain_step.proofs.Elements.{each_set, each_replicate}
 

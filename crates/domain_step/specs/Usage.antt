@@ -1,7 +1,7 @@
 -- What the code keeps of the switches, by entry.
 use Rattle.std.specs.Prelude.{◌≡◌, ℕ, ◌≤◌, List, slice_get, Some}
 use Rattle.world_view.specs.Used.{largest_of, count_of}
-use Rattle.world_view.specs.declared.view.Used.{Used}
+use Rattle.world_view.specs.declared.used.Used.{Used}
 
 pub record IsUsed (used : List Used) (us : List (ℕ × ℕ)) : Type 0 where
   pub largest : (e : ℕ) (u : Used) → slice_get used e ≡ Some u → u.largest ≡ largest_of e us

@@ -7,7 +7,7 @@ use Rattle.mem_system.specs.Hierarchy.{Hierarchy}
 use Rattle.mem_system.specs.Contents.{SystemContents}
 use Rattle.image_check.specs.Image.{Image}
 use Rattle.kernel_call.specs.declared.domain.Domain.{Domain}
-use Rattle.world_view.specs.declared.view.Used.{Used}
+use Rattle.world_view.specs.declared.used.Used.{Used}
 use Rattle.world_view.specs.Machine.{World, caches_of, clock_of, Setting, setting_by, dom_of, guards_of, whole_by}
 use Rattle.domain_step.specs.Standing.{MachineStands, DomainStands}
 use Rattle.domain_step.specs.Usage.{IsUsed}

@@ -7,7 +7,7 @@ use Rattle.image_check.specs.Image.{Image}
 use Rattle.image_check.specs.Laws.{Runnable}
 use Rattle.sched_table.specs.Schedule.{entry_in, harts_in}
 use Rattle.sched_table.proofs.Harts.{domain_hart_law}
-use Rattle.world_view.specs.declared.view.Used.{Used}
+use Rattle.world_view.specs.declared.used.Used.{Used}
 use Rattle.world_view.specs.Relations.{IsDomain}
 use Rattle.world_view.specs.View.{View, view_in}
 use Rattle.world_view.specs.Harts.{progress_of, slots_of, switches_of, harts, view_on, hart_of_domain}

@@ -7,8 +7,8 @@ use Rattle.sched_table.specs.Schedule.{entry_in}
 use Rattle.sched_table.proofs.Harts.{hart_there_law}
 use Rattle.kernel_call.specs.declared.domain.Domain.{Domain}
 use Rattle.domain_open.proofs.Seen.{view_is}
-use Rattle.world_view.specs.declared.view.Used.{Used}
-use Rattle.world_view.specs.Models.{seen_of}
+use Rattle.world_view.specs.declared.used.Used.{Used}
+use Rattle.world_view.specs.Seen.{seen_of}
 use Rattle.world_view.specs.Machine.{dom_of}
 use Rattle.world_view.specs.Relations.{IsDomain}
 use Rattle.world_view.specs.Harts.{harts, start_on, hart_of_domain, view_on, view_alone_on}

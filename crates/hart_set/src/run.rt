@@ -9,13 +9,14 @@ ghost use Rattle.hart_set.specs.InTurn.{RunInTurn};
 
 use crate::choice::drawn;
 use crate::set::HartSet;
+use domain_view::View;
 use hart_orders::Choice;
 use image_check::Checked;
 use seed_words::{draw, seeded};
 use std::alloc::Global;
 use std::marker::Model;
 use tp_base::Memory;
-use world_view::{Used, View};
+use world_view::Used;
 
 /// An image's harts after so many slots of each.
 #[derive(Drop)]
@@ -112,7 +113,7 @@ impl<'a> HartRun<'a> {
     ghost use Rattle.std.specs.Prelude.{◌≡◌, ◌<◌, ◌≤◌, length, IfOk};
     ghost use Rattle.world_view.specs.Harts.{view_alone_on};
     ghost use Rattle.world_view.specs.View.{view_in};
-    ghost use Rattle.world_view.specs.Models.{view_model};
+    ghost use Rattle.domain_view.specs.Models.{view_model};
     ghost use Rattle.domain_step.specs.Usage.{IsUsed};
     ghost use Rattle.hart_set.specs.Run.{image_of, world_of};
 

@@ -1,6 +1,6 @@
 // What the tests compare of a domain's view.
 use call_table::{DomainStatus, Reply};
-use world_view::View;
+use domain_view::View;
 
 #[derive(Clone, Copy, Debug, PartialEq, Eq)]
 pub struct Seen {

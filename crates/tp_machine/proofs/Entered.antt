@@ -21,7 +21,7 @@ use Rattle.world_view.specs.Kernel.{layout, opening_dom}
 use Rattle.world_view.specs.Opening.{all_placed}
 use Rattle.world_view.specs.Machine.{guarded, guards_of, setting_by, with_hart, opening, whole_by}
 use Rattle.world_view.specs.Relations.{IsDomain}
-use Rattle.world_view.specs.declared.view.Used.{Used}
+use Rattle.world_view.specs.declared.used.Used.{Used}
 use Rattle.world_view.proofs.opening.Separate.{separated}
 use Rattle.world_view.proofs.steps.CodeLaws.{whole_first-dom}
 use Rattle.domain_step.specs.Standing.{DomainStands}

@@ -23,7 +23,7 @@ use Rattle.domain_open.specs.Placing.{IsOpened, AreOpened}
 use Rattle.world_view.specs.Cost.{hierarchy}
 use Rattle.world_view.specs.Kernel.{layout, opening_dom, estate}
 use Rattle.world_view.specs.Machine.{Guards, guarded, guards_of, with_hart, opening, whole_by, ended_of}
-use Rattle.world_view.specs.declared.view.Used.{Used}
+use Rattle.world_view.specs.declared.used.Used.{Used}
 use Rattle.domain_step.specs.Standing.{DomainStands}
 use Rattle.domain_step.proofs.Events.{has_still}
 use Rattle.domain_step.specs.Usage.{CountedUpTo}

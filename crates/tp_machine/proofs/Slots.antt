@@ -20,7 +20,7 @@ use Rattle.world_view.specs.Relations.{IsDomain}
 use Rattle.world_view.proofs.opening.Separate.{separated}
 use Rattle.world_view.proofs.opening.OpeningFacts.{kernel_of}
 use Rattle.world_view.proofs.facts.FactsLaws.{at_slot}
-use Rattle.world_view.specs.declared.view.Used.{Used}
+use Rattle.world_view.specs.declared.used.Used.{Used}
 use Rattle.domain_step.specs.Usage.{CountedUpTo}
 use Rattle.domain_step.specs.Worlds.{Kept, StandsBy}
 use Rattle.domain_step.specs.InSlot.{StandsIn}

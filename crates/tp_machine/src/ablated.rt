@@ -1,11 +1,12 @@
 // The whole machine with one guard off.
 use crate::guarded::GuardedMachine;
+use domain_view::View;
 use guards::Guard;
 use image_check::Checked;
 use std::alloc::Global;
 use std::marker::Model;
 use tp_base::Memory;
-use world_view::{Used, View};
+use world_view::Used;
 
 /// The whole machine with one guard off, between two slots. Its data stand for the
 /// definition of that machine after so many slots; no isolation and no pad is
@@ -32,7 +33,7 @@ impl<'a> Ablated<'a> {
     ghost use Rattle.image_check.specs.Image.{image_from};
     ghost use Rattle.world_view.specs.View.{view_off};
     ghost use Rattle.world_view.specs.Harts.{IsOnOneHart};
-    ghost use Rattle.world_view.specs.Models.{view_model};
+    ghost use Rattle.domain_view.specs.Models.{view_model};
     ghost use Rattle.world_view.specs.Used.{largest_of, count_of};
     ghost use Rattle.domain_step.specs.Usage.{IsUsed};
     ghost use Rattle.tp_machine.specs.Ablated.{image_off, world_off};

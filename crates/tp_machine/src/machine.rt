@@ -1,10 +1,11 @@
 // The machine with all guards on: what the laws say of it holds of what it shows.
 use crate::guarded::GuardedMachine;
+use domain_view::View;
 use image_check::Checked;
 use std::alloc::Global;
 use std::marker::Model;
 use tp_base::Memory;
-use world_view::{Used, View};
+use world_view::Used;
 
 /// The whole machine between two slots, with all guards on. Its data stand for the
 /// definition of the machine after so many slots.
@@ -32,7 +33,7 @@ impl<'a> Machine<'a> {
     ghost use Rattle.world_view.specs.Machine as spec;
     ghost use Rattle.world_view.specs.View.{view_whole, view_alone};
     ghost use Rattle.world_view.specs.Harts.{IsOnOneHart};
-    ghost use Rattle.world_view.specs.Models.{view_model};
+    ghost use Rattle.domain_view.specs.Models.{view_model};
     ghost use Rattle.world_view.specs.Used.{largest_of, count_of};
     ghost use Rattle.domain_step.specs.Usage.{IsUsed};
     ghost use Rattle.tp_machine.specs.Models.{image_of, world_of};

@@ -5,7 +5,7 @@ use Rattle.std.specs.List.{flat_map, range_with_len}
 use Rattle.world_view.specs.Used.{count_of, largest_of}
 use Rattle.tp_report.specs.Report.{switch_text, switch_lines}
 use Rattle.sched_table.specs.declared.schedule.Entry.{Entry}
-use Rattle.world_view.specs.declared.view.Used.{Used}
+use Rattle.world_view.specs.declared.used.Used.{Used}
 use Rattle.tp_report.specs.Switches.{used_in, switch_at, switches_text}
 
 -- what agrees at each number writes the same texts

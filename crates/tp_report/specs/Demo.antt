@@ -2,7 +2,7 @@
 use Rattle.std.specs.Prelude.{ℕ, List, [], ◌∷◌, ◌++◌, length, codes, decimal}
 use Rattle.std.specs.List.{concat, flat_map, range_with_len}
 use Rattle.image_check.specs.Image.{Image}
-use Rattle.world_view.specs.Models.{view_model}
+use Rattle.domain_view.specs.Models.{view_model}
 use Rattle.world_view.specs.View.{View, view_whole, memory_sum}
 use Rattle.tp_report.specs.declared.demo.DemoPart.{DemoPart}
 use Rattle.tp_report.specs.declared.demo.DemoPart.TheVariants.{Head, Domain}

@@ -6,7 +6,7 @@ use Rattle.tp_report.specs.declared.pieces.Part.{Part}
 use Rattle.tp_report.specs.declared.pieces.Part.TheVariants as part
 use Rattle.tp_report.specs.declared.pieces.Piece.{Piece}
 use Rattle.tp_report.specs.declared.pieces.Piece.TheVariants.{Text, Number, Signed, Hex, Status, State, Registers, Readings, Replies, Bytes}
-use Rattle.world_view.specs.Models.{view_model}
+use Rattle.domain_view.specs.Models.{view_model}
 
 abbrev pub part_text : Part → List ℕ
 part_text (part.Text text) = text.now

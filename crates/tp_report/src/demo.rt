@@ -2,13 +2,13 @@
 ghost use Rattle.std.specs.Prelude.{◌≡◌};
 ghost use Rattle.tp_io.specs.Sends.{Sends};
 ghost use Rattle.tp_io.specs.Sink.{state};
-ghost use Rattle.world_view.specs.Models.{view_model};
+ghost use Rattle.domain_view.specs.Models.{view_model};
 ghost use Rattle.tp_report.specs.Demo as spec;
 
 use crate::pieces::{Piece, write_pieces};
 use crate::report::memory_sum;
+use domain_view::View;
 use tp_io::{Failed, Sink};
-use world_view::View;
 
 /// A part of the summary of a run.
 #[derive(Clone, Copy)]

@@ -9,14 +9,14 @@ ghost use Rattle.tp_io.specs.Sink.{state};
 ghost use Rattle.tp_report.specs.Batches.{Adds, holding};
 ghost use Rattle.tp_report.specs.Pieces.{after, part_text, piece_text};
 ghost use Rattle.kernel_call.specs.Logs.{Log, IsKept};
-ghost use Rattle.world_view.specs.Models.{view_model};
+ghost use Rattle.domain_view.specs.Models.{view_model};
 
 use crate::batch::Batch;
 use call_table::{DomainStatus, Reply};
+use domain_view::View;
 use itoa::Buffer;
 use thread_set::ThreadState;
 use tp_io::{Failed, Sink};
-use world_view::View;
 
 // How many bytes are written in hexadecimal at once.
 const CHUNK: usize = 32;

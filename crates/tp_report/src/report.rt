@@ -6,16 +6,17 @@ ghost use Rattle.tp_io.specs.Sends.{Sends};
 ghost use Rattle.tp_io.specs.Sink.{state};
 ghost use Rattle.tp_report.specs.Batches.{Adds, holding};
 ghost use Rattle.world_view.specs.View as view_spec;
-ghost use Rattle.world_view.specs.Models.{view_model};
+ghost use Rattle.domain_view.specs.Models.{view_model};
 ghost use Rattle.tp_report.specs.Switches.{ending_text, switches_text};
 
 use crate::batch::Batch;
 use crate::pieces::{Piece, add_pieces, write_pieces};
+use domain_view::View;
 use guards::Guard;
 use image_check::{Refusal, Schedule};
 use thread_set::{Thread, ThreadState};
 use tp_io::{Failed, Sink, write_all_of};
-use world_view::{Used, View};
+use world_view::Used;
 
 // How many threads a domain has.
 const THREADS: u8 = 8;

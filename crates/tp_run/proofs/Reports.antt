@@ -8,7 +8,7 @@ use Rattle.image_check.specs.Image.{Image, own_of}
 use Rattle.world_view.specs.Machine.{World}
 use Rattle.world_view.specs.View.{View, view_in}
 use Rattle.world_view.specs.Harts.{view_alone_on}
-use Rattle.world_view.specs.declared.view.Used.{Used}
+use Rattle.world_view.specs.declared.used.Used.{Used}
 use Rattle.domain_step.specs.Usage.{IsUsed}
 use Rattle.tp_report.specs.Texts.{section}
 use Rattle.tp_report.specs.Report.{section_of, sections, switch_lines, end_text, report_with, report_of, ending_of}

@@ -3,14 +3,15 @@ ghost use Rattle.std.specs.Prelude.{◌≡◌, ◌<◌, length};
 ghost use Rattle.image_check.specs.Image.{Image, image_from};
 ghost use Rattle.world_view.specs.Machine.{World, whole, whole_off};
 ghost use Rattle.world_view.specs.View.{view_in};
-ghost use Rattle.world_view.specs.Models.{view_model};
+ghost use Rattle.domain_view.specs.Models.{view_model};
 ghost use Rattle.domain_step.specs.Usage.{IsUsed};
 ghost use Rattle.hart_set.specs.Run.{image_of, world_of};
 
+use domain_view::View;
 use hart_set::HartRun;
 use image_check::Checked;
 use tp_machine::{Ablated, Machine};
-use world_view::{Used, View};
+use world_view::Used;
 
 /// A machine after its slots.
 pub trait Reported {

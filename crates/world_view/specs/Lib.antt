@@ -10,7 +10,7 @@ pub mod Harts
 pub mod HartLaws
 pub mod Used
 pub mod View
-pub mod Models
+pub mod Seen
 pub mod Relations
 pub mod Laws
 pub mod Interrupts

@@ -6,7 +6,7 @@
 
 mod hierarchy;
 pub mod laws;
-mod view;
+mod used;
 
 pub use hierarchy::geometry_of;
-pub use view::{Used, View};
+pub use used::Used;

@@ -4,12 +4,13 @@ use crate::hart::schedule_for;
 use domain_open::{load_domain, open_domain};
 use domain_step::stretch;
 use domain_switch::{enter, leave};
+use domain_view::View;
 use image_check::{Own, Public};
 use mem_system::new_parts;
 use phys_mem::PhysMem;
 use std::alloc::Global;
 use tp_base::Memory;
-use world_view::{View, geometry_of};
+use world_view::geometry_of;
 
 impl<'a> Alone<'a> {
     ghost use Rattle.std.specs.Prelude.{◌≡◌, ◌+◌, ◌<◌, IfOk};
@@ -17,7 +18,7 @@ impl<'a> Alone<'a> {
     ghost use Rattle.image_check.specs.Image.{Image, own_of};
     ghost use Rattle.world_view.specs.View.{view_alone};
     ghost use Rattle.world_view.specs.Harts.{view_alone_on};
-    ghost use Rattle.world_view.specs.Models.{view_model};
+    ghost use Rattle.domain_view.specs.Models.{view_model};
     ghost use Rattle.alone_run.specs.Runs.{public_for, IsOf};
 
     /// A domain before its first slot. All that it will need is allocated here.

@@ -3,13 +3,14 @@ use super::{HartSet, State};
 use domain_open::open_image;
 use domain_step::{note_switch, step, stretch, unused};
 use domain_switch::switch;
+use domain_view::View;
 use hart_orders::{Slot, cold_caches};
 use image_check::Checked;
 use kernel_clone::CloneLayout;
 use sched_table::{Entry, Turn};
 use std::alloc::Global;
 use tp_base::Memory;
-use world_view::{Used, View};
+use world_view::Used;
 
 impl<'a> HartSet<'a> {
     ghost use Rattle.std.specs.Prelude.{◌≡◌, ℕ, ◌^◌, ◌<◌, ◌≤◌, length};
@@ -19,7 +20,7 @@ impl<'a> HartSet<'a> {
     ghost use Rattle.world_view.specs.Machine.{clone_of};
     ghost use Rattle.hart_set.specs.Turns.{IsTurn};
     ghost use Rattle.image_check.specs.Image.{image_from};
-    ghost use Rattle.world_view.specs.Models.{view_model};
+    ghost use Rattle.domain_view.specs.Models.{view_model};
     ghost use Rattle.world_view.specs.Used.{largest_of, count_of};
     ghost use Rattle.domain_step.specs.Usage.{IsUsed};
     ghost use Rattle.world_view.specs.Harts as spec;

@@ -6,12 +6,12 @@ ghost use Rattle.std.specs.Prelude.{◌≡◌};
 use crate::images::{accepted, hex_of};
 use call_table::Reply;
 use domain_step::has_one_hart;
+use domain_view::View;
 use image_check::Checked;
 use std::alloc::Global;
 use std::test::Fail;
 use tp_base::Memory;
 use tp_machine::Machine;
-use world_view::View;
 
 // The root is frame 17, the table of page 32 frame 21; free are 33, 37, .. to 61.
 // Page 32 is in slot 0. The code is written between the parts.

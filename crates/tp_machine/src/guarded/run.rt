@@ -4,6 +4,7 @@ use crate::off::{begins_by, geometry_off, parts_off, share_clone, slot_off, unti
 use domain_open::open_image;
 use domain_step::{note_switch, unused};
 use domain_switch::switch_off;
+use domain_view::View;
 use guards::Guard;
 use image_check::Checked;
 use kernel_clone::CloneLayout;
@@ -11,7 +12,7 @@ use mem_system::new_parts;
 use sched_table::Entry;
 use std::alloc::Global;
 use tp_base::Memory;
-use world_view::{Used, View};
+use world_view::Used;
 
 impl<'a> GuardedMachine<'a> {
     ghost use Rattle.std.specs.Prelude.{◌≡◌, ◌+◌, ◌<◌, ◌≤◌, length, option_map, IfOk, IfSome};
@@ -22,7 +23,7 @@ impl<'a> GuardedMachine<'a> {
     ghost use Rattle.world_view.specs.Machine as spec;
     ghost use Rattle.world_view.specs.View.{view_in};
     ghost use Rattle.world_view.specs.Harts.{IsOnOneHart};
-    ghost use Rattle.world_view.specs.Models.{view_model};
+    ghost use Rattle.domain_view.specs.Models.{view_model};
     ghost use Rattle.world_view.specs.Used.{largest_of, count_of};
     ghost use Rattle.domain_step.specs.Usage.{IsUsed};
     ghost use Rattle.tp_machine.specs.Models.{image_by, world_by};

@@ -1,6 +1,6 @@
 use Rattle.std.proofs.Common.{[]}
 use Rattle.std.specs.Prelude.{slice_index_or}
-use Rattle.world_view.specs.Models.{view_model}
+use Rattle.domain_view.specs.Models.{view_model}
 use Rattle.tp_report.proofs.Sums.{frame_sum_blank}
 use Rattle.tp_report.proofs.report.frame_sum.Goals as goal
 

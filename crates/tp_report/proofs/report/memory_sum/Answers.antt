@@ -1,7 +1,7 @@
 use Rattle.std.proofs.Common.{refl, arith}
 use Rattle.std.proofs.lemmas.List.{length-map}
 use Rattle.phys_mem.specs.Contents.{frame_words}
-use Rattle.world_view.specs.Models.{view_model}
+use Rattle.domain_view.specs.Models.{view_model}
 use Rattle.world_view.specs.View.{memory_sum}
 use Rattle.tp_report.proofs.Sums.{memory_sum_more, memory_sum_all}
 use Rattle.tp_report.proofs.report.memory_sum.Goals as goal

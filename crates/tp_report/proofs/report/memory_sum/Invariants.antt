@@ -1,5 +1,5 @@
 use Rattle.std.proofs.Common.{◌≡◌, take}
-use Rattle.world_view.specs.Models.{view_model}
+use Rattle.domain_view.specs.Models.{view_model}
 use Rattle.world_view.specs.View as spec
 use Rattle.tp_report.proofs.report.memory_sum.Given as goal
 

@@ -4,7 +4,7 @@ use Rattle.std.proofs.lemmas.List.FromFn.{length-enumerate_from}
 use Rattle.std.proofs.lemmas.Option.{slice_get_within}
 use Rattle.std.proofs.lemmas.Result.{err_from_is_err_and}
 use Rattle.thread_set.proofs.Parts.{eight-model}
-use Rattle.world_view.specs.Models.{view_model}
+use Rattle.domain_view.specs.Models.{view_model}
 use Rattle.tp_report.specs.Texts.{thread_text, threads_text}
 use Rattle.tp_report.proofs.Each.{added_each, cut_in_each, added_all}
 use Rattle.tp_report.proofs.Places.{place_of}

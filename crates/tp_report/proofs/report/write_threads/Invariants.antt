@@ -1,7 +1,7 @@
 use Rattle.std.proofs.Common.{take}
 use Rattle.std.specs.List.{flat_map, enumerate_from}
 use Rattle.tp_report.specs.Batches.{Added, holding}
-use Rattle.world_view.specs.Models.{view_model}
+use Rattle.domain_view.specs.Models.{view_model}
 use Rattle.tp_report.specs.Texts.{thread_text}
 use Rattle.tp_report.proofs.report.write_threads.Given as goal
 

@@ -6,7 +6,7 @@ use Rattle.image_check.specs.Own.{Own}
 use Rattle.image_check.specs.Models.{public_model, own_model}
 use Rattle.world_view.specs.View.{view_alone}
 use Rattle.world_view.specs.Harts.{view_alone_on}
-use Rattle.world_view.specs.Models.{view_model}
+use Rattle.domain_view.specs.Models.{view_model}
 use Rattle.domain_open.proofs.Seen.{pool_in_memory, view_is}
 use Rattle.alone_run.specs.Runs.{public_for, alone_after}
 use Rattle.alone_run.proofs.alone.Alone.view.Goals as goal

@@ -1,7 +1,7 @@
 use Rattle.std.proofs.Common.{◌≡◌, ◌∙◌, ◌<◌, length, sym, subst}
 use Rattle.world_view.specs.Harts.{view_alone_on}
 use Rattle.world_view.specs.View.{view_in}
-use Rattle.world_view.specs.Models.{view_model}
+use Rattle.domain_view.specs.Models.{view_model}
 use Rattle.hart_set.specs.Run.{Run, image_of, world_of}
 use Rattle.hart_set.specs.Models as set
 use Rattle.hart_orders.proofs.ChoiceLaws.{choice_law}

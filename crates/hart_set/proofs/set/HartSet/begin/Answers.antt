@@ -6,7 +6,7 @@ use Rattle.std.specs.Vec.{with_item, with_items}
 use Rattle.kernel_clone.specs.Models.{layout_model}
 use Rattle.sched_table.specs.Schedule.{on_hart, place_on, switch_entry, outgoing}
 use Rattle.image_check.specs.Image.{Image, image_from}
-use Rattle.world_view.specs.declared.view.Used.{Used}
+use Rattle.world_view.specs.declared.used.Used.{Used}
 use Rattle.world_view.specs.Machine.{clone_of}
 use Rattle.world_view.specs.Relations.{IsDomain}
 use Rattle.world_view.specs.Harts.{image_on}

@@ -5,7 +5,7 @@ use Rattle.image_check.specs.Image.{Image, image_from, own_of}
 use Rattle.kernel_call.proofs.Logs.{kept_of}
 use Rattle.domain_open.proofs.Seen.{pool_in_memory}
 use Rattle.world_view.specs.Machine.{dom_of}
-use Rattle.world_view.specs.Models.{view_model}
+use Rattle.domain_view.specs.Models.{view_model}
 use Rattle.world_view.specs.Relations.{IsDomain}
 use Rattle.world_view.specs.Harts.{harts, start_on, hart_of_domain, view_on, view_alone_on}
 use Rattle.hart_set.specs.declared.set.State.{State}

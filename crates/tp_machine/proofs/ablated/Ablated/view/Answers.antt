@@ -1,7 +1,7 @@
 use Rattle.std.proofs.Common.{◌≡◌, ◌∙◌, ap, subst}
 use Rattle.world_view.specs.Machine.{World}
 use Rattle.world_view.specs.View.{view_in, view_off}
-use Rattle.world_view.specs.Models.{view_model}
+use Rattle.domain_view.specs.Models.{view_model}
 use Rattle.tp_machine.specs.Models.{image_by}
 use Rattle.tp_machine.specs.Ablated.{Ablation, image_off, world_off}
 use Rattle.tp_machine.proofs.Runs.{world_is}

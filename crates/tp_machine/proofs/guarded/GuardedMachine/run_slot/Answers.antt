@@ -12,7 +12,7 @@ use Rattle.domain_switch.specs.Switch.{layout_if}
 use Rattle.image_check.specs.Public.{Public}
 use Rattle.image_check.specs.Image.{image_from}
 use Rattle.world_view.specs.Machine.{guards_of, ended_of, whole_by, switch_by, slot_if}
-use Rattle.world_view.specs.declared.view.Used.{Used}
+use Rattle.world_view.specs.declared.used.Used.{Used}
 use Rattle.domain_step.specs.Usage.{IsUsed, CountedUpTo}
 use Rattle.domain_step.specs.Worlds.{Kept, StandsBy, kept}
 use Rattle.domain_step.specs.InSlot.{StandsIn}

@@ -2,7 +2,7 @@ use Rattle.std.proofs.Common.{◌≡◌, ◌<◌, ◌∙◌, length, ap, sym, su
 use Rattle.image_check.specs.Image.{own_of}
 use Rattle.world_view.specs.Machine.{World}
 use Rattle.world_view.specs.View.{view_in, view_whole, view_alone}
-use Rattle.world_view.specs.Models.{view_model}
+use Rattle.domain_view.specs.Models.{view_model}
 use Rattle.world_view.proofs.opening.Separate.{separated}
 use Rattle.world_view.proofs.runs.WholeLaws.{isolated}
 use Rattle.tp_machine.specs.Models.{Ran, image_by, image_of, world_of}

@@ -1,4 +1,4 @@
--- How contracts see the code's views.
+-- What is seen of a domain of the code.
 use Rattle.std.specs.Prelude.{map}
 use Rattle.phys_mem.specs.Contents.{Contents, frame_words}
 use Rattle.frame_colours.specs.Colours.{pool}
@@ -7,9 +7,8 @@ use Rattle.thread_set.specs.Threads.{all_of}
 use Rattle.kernel_call.specs.LogModel.{log_model}
 use Rattle.kernel_call.specs.declared.domain.Domain.{Domain}
 use Rattle.world_view.specs.View as view
-use Rattle.world_view.specs.declared.view.View.{View}
 
--- what is seen of a domain of the code, in its memory
+-- in its memory
 abbrev pub seen_of : Domain → Contents → view.View
 seen_of d memory = record {
   status = d.status;
@@ -21,6 +20,3 @@ seen_of d memory = record {
   pool = pool d.pool.share;
   frames = map (frame_words memory) (pool d.pool.share);
 }
-
-abbrev pub view_model : View → view.View
-view_model v = seen_of v.domain.now v.memory.now

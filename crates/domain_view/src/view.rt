@@ -1,4 +1,4 @@
-// What can be seen of a domain, and of switches.
+// What can be seen of a domain.
 ghost use Rattle.std.specs.Prelude.{◌<◌};
 ghost use Rattle.std.specs.List.{All};
 ghost use Rattle.frame_colours.specs.Colours.{pool};
@@ -9,14 +9,6 @@ mod seen;
 
 use kernel_call::Domain;
 use phys_mem::PhysMem;
-
-/// The most cycles that a switch of an entry took, 0 where there was none, and
-/// how many there were.
-#[derive(Clone, Copy, Debug, PartialEq, Eq)]
-pub struct Used {
-    pub largest: u64,
-    pub count: u32,
-}
 
 /// What can be seen of a domain: its state, and the words of its pool's frames.
 /// It lends, and owns nothing.

@@ -13,7 +13,8 @@ impl<'a> View<'a> {
     ghost use Rattle.frame_colours.specs.Colours.{pool};
     ghost use Rattle.kernel_call.specs.LogModel.{log_model};
     ghost use Rattle.kernel_call.specs.Logs.{IsKept};
-    ghost use Rattle.world_view.specs.Models.{view_model, seen_of};
+    ghost use Rattle.world_view.specs.Seen.{seen_of};
+    ghost use Rattle.domain_view.specs.Models.{view_model};
 
     /// What can be seen of a domain whose frames are in this memory.
     pub fn new(domain: &'a Domain, memory: &'a PhysMem) -> Self
