@@ -28,3 +28,10 @@ pub fn open_image(alloc: Global, image: &Checked) -> Result<(PhysMem, Vec<Domain
     load_pages(image, domains.as_slice(), &mut memory);
     Ok((memory, domains))
 }
+
+/// Frees what was opened. The drops of its parts are checked by this, and not again in each
+/// crate that would drop it.
+pub fn discard(memory: PhysMem, domains: Vec<Domain>) {
+    drop(memory);
+    drop(domains);
+}

@@ -10,6 +10,6 @@ mod open;
 mod placement;
 mod segments;
 
-pub use image::open_image;
+pub use image::{discard, open_image};
 pub use memory::{load_domain, load_pages};
 pub use open::{open_all, open_domain};

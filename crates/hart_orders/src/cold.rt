@@ -97,3 +97,10 @@ pub fn cold_caches(
     let harts = cold_harts(alloc, hardware, &l2, many)?;
     Ok((l2, harts))
 }
+
+/// Frees what was made. The drops of its parts are checked by this, and not again in each
+/// crate that would drop it.
+pub fn discard(l2: L2<AnyPolicy>, harts: Vec<Hart>) {
+    drop(l2);
+    drop(harts);
+}

@@ -9,5 +9,5 @@ mod hart;
 pub mod laws;
 
 pub use choice::Choice;
-pub use cold::cold_caches;
+pub use cold::{cold_caches, discard};
 pub use hart::{Hart, Slot};

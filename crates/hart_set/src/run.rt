@@ -169,6 +169,6 @@ impl<'a> HartRun<'a> {
     /// Frees it. The drops of its parts are checked by this, and not again in each crate
     /// that would drop it.
     pub fn discard(self) {
-        drop(self);
+        self.harts.discard();
     }
 }

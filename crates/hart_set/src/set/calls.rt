@@ -1,10 +1,10 @@
 // The calls of an image's harts.
 use super::{HartSet, State};
-use domain_open::open_image;
+use domain_open::{discard as discard_opened, open_image};
 use domain_step::{note_switch, step, stretch, unused};
 use domain_switch::switch;
 use domain_view::View;
-use hart_orders::{Slot, cold_caches};
+use hart_orders::{Slot, cold_caches, discard as discard_cold};
 use image_check::Checked;
 use kernel_clone::CloneLayout;
 use sched_table::{Entry, Turn};
@@ -45,7 +45,13 @@ impl<'a> HartSet<'a> {
         let used = unused(alloc, public.schedule.len())?;
         let (l2, harts) = cold_caches(alloc, &public.hardware, public.harts.len())?;
         // What has the most parts comes last, since all before it is dropped where it fails.
-        let (memory, domains) = open_image(alloc, image)?;
+        let (memory, domains) = match open_image(alloc, image) {
+            Ok(opened) => opened,
+            Err(Memory) => {
+                discard_cold(l2, harts);
+                return Err(Memory);
+            }
+        };
         Ok(HartSet {
             image,
             state: State {
@@ -281,5 +287,19 @@ impl<'a> HartSet<'a> {
             → IsUsed result.now (harts_after self.now order).world.used }
     {
         self.state.used.as_slice()
+    }
+
+    /// Frees it.
+    pub(crate) fn discard(self) {
+        let State {
+            memory,
+            l2,
+            harts,
+            domains,
+            used,
+        } = self.state;
+        discard_cold(l2, harts);
+        discard_opened(memory, domains);
+        drop(used);
     }
 }

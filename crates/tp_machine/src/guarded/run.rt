@@ -1,7 +1,7 @@
 // The machine's calls.
 use super::GuardedMachine;
 use crate::off::{begins_by, geometry_off, parts_off, share_clone, slot_off, until_off};
-use domain_open::open_image;
+use domain_open::{discard as discard_opened, open_image};
 use domain_step::{note_switch, unused};
 use domain_switch::switch_off;
 use domain_view::View;
@@ -47,13 +47,20 @@ impl<'a> GuardedMachine<'a> {
         // The caches come last: they have the most to drop where memory runs out, and a check
         // takes minutes where that can be in several places.
         let geometry = geometry_off(off, &public.hardware);
-        let (core, l2) = new_parts(
+        let parts = new_parts(
             alloc,
             geometry,
             public.hardware.costs,
             public.hardware.muldiv,
             false,
-        )?;
+        );
+        let (core, l2) = match parts {
+            Ok(parts) => parts,
+            Err(Memory) => {
+                discard_opened(memory, domains);
+                return Err(Memory);
+            }
+        };
         Ok(GuardedMachine {
             image,
             off,
@@ -171,5 +178,21 @@ impl<'a> GuardedMachine<'a> {
         ensures each { IsUsed result.now (world_by self.now).used }
     {
         self.used.as_slice()
+    }
+
+    /// Frees it. The drops of its parts are checked by this alone.
+    pub(crate) fn discard(self) {
+        let GuardedMachine {
+            memory,
+            core,
+            l2,
+            domains,
+            used,
+            ..
+        } = self;
+        discard_opened(memory, domains);
+        drop(core);
+        drop(l2);
+        drop(used);
     }
 }

@@ -55,3 +55,10 @@ returns-clause-at c order stands =
     let most = c.loop-h.invariant.few in
     let all = ap (λ (k : ℕ). length (left c.args.slots s k)) over in
     sym (slice_get_past (left c.args.slots s (harts_in (image_of v).all.schedule)) c.args.place (omega (arith, so_far, most, all)))
+
+pub returns-then-before-place-clause-hart : goal.returns-then-before-place-clause-hart
+returns-then-before-place-clause-hart c = omega (arith, c.loop-h-test.true, c.harts-h-end.ensures.value)
+
+pub returns-then-before-place-clause-slots : goal.returns-then-before-place-clause-slots
+returns-then-before-place-clause-slots c x got =
+    omega (arith, c.slots.ensures.value x got, c.if-slots.true, c.requires.few)

@@ -1,4 +1,5 @@
 use Rattle.std.proofs.Common.{◌∙◌, [], refl, sym, subst}
+use Rattle.std.proofs.lemmas.Result.{IfOk-from_err}
 use Rattle.image_record.specs.Record.{Raw}
 use Rattle.image_check.specs.Image.{image_from}
 use Rattle.world_view.specs.Harts.{harts}
@@ -21,4 +22,13 @@ returns c = record {
   image = c.run_all.ensures.image ∙ c.in_ok-harts.ensures.image;
   choice = refl;
   slots = refl;
+}
+
+-- where memory ran out
+
+pub returns-in_err-harts : goal.returns-in_err-harts
+returns-in_err-harts c = record {
+  image = IfOk-from_err c.from_residual.result _ c.from_residual.ensures.0;
+  choice = IfOk-from_err c.from_residual.result _ c.from_residual.ensures.0;
+  slots = IfOk-from_err c.from_residual.result _ c.from_residual.ensures.0;
 }

@@ -1,6 +1,7 @@
 use Rattle.std.proofs.Common.{◌≡◌, ℕ, ◌+◌, ◌<◌, Some, None, add-one, slice_get, inr, refl, ap, arith}
 use Rattle.std.proofs.Math.ListN.{set}
 use Rattle.std.specs.Vec.{with_item}
+use Rattle.image_record.specs.Record.{Raw}
 use Rattle.image_check.specs.Image.{Image, image_from}
 use Rattle.hart_orders.specs.declared.hart.Hart.{Hart}
 use Rattle.hart_set.specs.declared.set.State.{State}
@@ -151,3 +152,6 @@ returns-clause-ends c =
     to_value c.self.inside.image.now t c.args.self.now c.self.view_is (λ (i : Image) (u : State). SlotEnds i c.args.h u (after c))
     (gone_through (image_from c.self.inside.image.now) t c.args.h c.index_mut-hart.result.now (here c) c.args.slot (in_slot c) c.index_mut.result.now
     (got_after c) (left c) (after c) (hart_after c) (inr (ended c)) c.stretch-hart.ensures.becomes)
+
+pub returns-clause-image : goal.returns-clause-image
+returns-clause-image c = ap (λ (v : Raw × State). v.0) c.self.view_is

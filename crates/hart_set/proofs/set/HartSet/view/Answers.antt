@@ -1,4 +1,4 @@
-use Rattle.std.proofs.Common.{◌≡◌, ◌∙◌, ℕ, ◌<◌, List, Some, subst}
+use Rattle.std.proofs.Common.{◌≡◌, ◌∙◌, ℕ, ◌<◌, List, Some, subst, arith}
 use Rattle.std.specs.Prelude.{slice_get}
 use Rattle.image_record.specs.Record.{Raw}
 use Rattle.image_check.specs.Image.{Image, image_from, own_of}
@@ -64,3 +64,8 @@ returns-clause-alone c =
     c.self.view_is
     (λ x at early. c.new.ensures.view
     ∙ seen_alone (image_from c.self.inside.image.now) c.self.inside.state c.self.invariant c.args.d c.index.result.now (got_after c) named x at early)
+
+pub index-requires : goal.index-requires
+index-requires c =
+    let named = of_image c.self.inside.image.now c.self.inside.state c.args.self.now c.self.view_is (λ (i : Image). IsDomain i c.args.d) c.requires.domain in
+    omega (arith, named, c.from.ensures, c.self.invariant.stands.all_domains)

@@ -1,5 +1,6 @@
 use Rattle.std.proofs.Common.{◌≡◌, ◌≢◌, ◌∙◌, ◌++◌, length, take, drop, List, Some, refl, ap, sym, subst, rules}
 use Rattle.std.specs.Prelude.{slice_get}
+use Rattle.std.proofs.lemmas.Result.{IfOk-from_err}
 use Rattle.guards.specs.declared.Guard.TheVariants as guard
 use Rattle.kernel_call.specs.declared.domain.Domain.{Domain}
 use Rattle.repl_policy.specs.Members.{any_rule, any_stands_for}
@@ -22,14 +23,14 @@ geometry_off-geometry-requires c =
     let same = ap (λ (p : Public). p.hardware) c.public-public.ensures.value in
     record { hardware = subst IsHardware (sym same) c.runnable.ensures.runnable.hardware }
 
-pub new_parts-requires : goal.new_parts-requires
-new_parts-requires c = record { geometry = c.geometry_off-geometry.ensures.sound }
+pub new_parts-parts-requires : goal.new_parts-parts-requires
+new_parts-parts-requires c = record { geometry = c.geometry_off-geometry.ensures.sound }
 
 pub returns : goal.returns
 returns c = record { slots = refl; image = refl; off = refl }
 
 -- the domains, each with its clone
-domains_are : (c : goal.In_ok-core) → AreEntered c.args.off (image_from c.args.image.now)
+domains_are : (c : goal.In-Ok) → AreEntered c.args.off (image_from c.args.image.now)
     (take c.in_ok-memory.domains.len
     (c.share_clone.new.domains ++ drop (length c.share_clone.new.domains) c.in_ok-memory.domains.items))
 domains_are c =
@@ -59,15 +60,15 @@ invariant_of-result-clause-stands c =
     c.public-public.result.now.hardware.muldiv ≡ (guards_of off i).levels =
     c.geometry_off-geometry.ensures.hierarchy ∙ ap (λ (p : Public). levels_by off p.hardware) public
     ∙ levels_are off i in
-    stands_first off i r c.in_ok-memory.memory (system c.in_ok-core.core c.in_ok-core.l2) _ c.in_ok-used.used.items
+    stands_first off i r c.in_ok-memory.memory (system c.in-Ok.parts.0 c.in-Ok.parts.1) _ c.in_ok-used.used.items
     (record {
       frames = c.in_ok-memory.ensures.size;
       holds = c.in_ok-memory.ensures.holds;
-      levels = sym (c.in_ok-core.ensures.hierarchy ∙ levels);
-      pinned = c.in_ok-core.ensures.pinned;
+      levels = sym (c.in-Ok.ensures.hierarchy ∙ levels);
+      pinned = c.in-Ok.ensures.pinned;
       cold_is =
-          subst (λ (h : Hierarchy). SystemStands any_stands_for (system c.in_ok-core.core c.in_ok-core.l2) (cold h)) levels
-          c.in_ok-core.ensures.cold;
+          subst (λ (h : Hierarchy). SystemStands any_stands_for (system c.in-Ok.parts.0 c.in-Ok.parts.1) (cold h)) levels
+          c.in-Ok.ensures.cold;
       opened = domains_are c;
       all_entries =
           c.in_ok-used.ensures.all ∙ c.len.ensures.value ∙ ap (λ (p : Public). length p.schedule) public;
@@ -86,5 +87,24 @@ invariant_of-result-clause-ends c =
 pub invariant_of-result-clause-in_bounds : goal.invariant_of-result-clause-in_bounds
 invariant_of-result-clause-in_bounds c =
     in_bounds_first c.args.off (image_from c.args.image.now) c.in_ok-memory.memory
-    (system c.in_ok-core.core c.in_ok-core.l2) _ c.in_ok-used.used.items
+    (system c.in-Ok.parts.0 c.in-Ok.parts.1) _ c.in_ok-used.used.items
     (domains_are c) c.in_ok-used.ensures.few
+
+-- where memory ran out
+
+pub returns-in_err-used : goal.returns-in_err-used
+returns-in_err-used c = record {
+  slots = IfOk-from_err c.from_residual.result _ c.from_residual.ensures.0;
+  image = IfOk-from_err c.from_residual.result _ c.from_residual.ensures.0;
+  off = IfOk-from_err c.from_residual.result _ c.from_residual.ensures.0;
+}
+
+pub returns-in_err-memory : goal.returns-in_err-memory
+returns-in_err-memory c = record {
+  slots = IfOk-from_err c.from_residual-in_err-memory.result _ c.from_residual-in_err-memory.ensures.0;
+  image = IfOk-from_err c.from_residual-in_err-memory.result _ c.from_residual-in_err-memory.ensures.0;
+  off = IfOk-from_err c.from_residual-in_err-memory.result _ c.from_residual-in_err-memory.ensures.0;
+}
+
+pub returns-in-Err : goal.returns-in-Err
+returns-in-Err c = record { slots = tt; image = tt; off = tt }
