@@ -3,14 +3,13 @@ ghost use Rattle.std.specs.Prelude.{◌≡◌, ◌<◌, ◌≤◌, length};
 ghost use Rattle.tp_io.specs.Sink.{state};
 ghost use Rattle.image_check.specs.Own.{owns_of};
 ghost use Rattle.image_check.specs.Image.{image_from};
-ghost use Rattle.tp_run.specs.Runs as spec;
-ghost use Rattle.tp_run.specs.TopCall.{Delivers};
+ghost use Rattle.tp_answer.specs.Runs as spec;
+ghost use Rattle.tp_answer.specs.TopCall.{Delivers};
 
-use crate::Status;
-use crate::call::status_unless_failed;
 use alone_run::Alone;
 use image_check::Checked;
 use std::alloc::Global;
+use tp_answer::{Status, status_unless_failed};
 use tp_io::Sink;
 use tp_report::write_section;
 

@@ -1,36 +1,33 @@
 // The top call.
 ghost use Rattle.std.specs.Prelude.{◌≡◌, ◌≢◌, ◌<◌, ◌≤◌, ◌+◌, ◌-◌, ◌^◌, ◌⊎◌};
-ghost use Rattle.std.specs.Prelude.{List, [], ℕ, Some, None, Result, Err, length, IfOk, OnOk, OnErr};
+ghost use Rattle.std.specs.Prelude.{List, [], ℕ, Some, None, Err, length, IfOk};
 ghost use Rattle.tp_io.specs.Bytes.{before_known, AtEnd};
 ghost use Rattle.tp_io.specs.Causes.{TellsFault};
 ghost use Rattle.tp_io.specs.Sink.{state};
 ghost use Rattle.guards.specs.declared.Guard.{Guard};
-ghost use Rattle.image_record.specs.declared.refusal.Refusal.{Refusal};
-ghost use Rattle.image_check.specs.Image.{Image};
-ghost use Rattle.tp_run.specs.Answer as spec;
-ghost use Rattle.tp_run.specs.TopCall.{Writes, EndsUsage, Delivers, ComesTo, Answered, IsOver};
-ghost use Rattle.tp_run.specs.TopCall.{Isolated, Padded, MayBeUsage};
-ghost use Rattle.tp_run.specs.TopCall.{Refuses, Accepts, Bounds};
-ghost use Rattle.tp_run.specs.TopCall.{LacksDomain, HasManyHarts, WritesSection, SameSection, WritesOff};
-ghost use Rattle.tp_run.specs.TopCall.{ReadsBack, Generates, Summarizes};
-ghost use Rattle.tp_run.specs.Accepting.{Accepting, IsRefused};
-ghost use Rattle.tp_run.specs.Reading.{image_for};
+ghost use Rattle.tp_answer.specs.Answer as spec;
+ghost use Rattle.tp_answer.specs.TopCall.{Writes, EndsUsage, Delivers, ComesTo, Answered, IsOver};
+ghost use Rattle.tp_answer.specs.TopCall.{Isolated, Padded, MayBeUsage};
+ghost use Rattle.tp_answer.specs.TopCall.{Refuses, Accepts, Bounds};
+ghost use Rattle.tp_answer.specs.TopCall.{LacksDomain, HasManyHarts, WritesSection, SameSection, WritesOff};
+ghost use Rattle.tp_answer.specs.TopCall.{ReadsBack, Generates, Summarizes};
+ghost use Rattle.tp_answer.specs.Reading.{image_for};
 ghost use Rattle.tp_words.specs.Words.{IsInRange, Reads, command, words_of};
 
-use crate::Status;
 use crate::alone::run_domain;
-use crate::bounds::write_bounds;
-use crate::generate::{run_demo, write_generated};
-use crate::run::{domains_of, run_image, run_off};
+use crate::generate::run_demo;
+use crate::run::{run_image, run_off};
 use domain_step::has_one_hart;
 use guards::Guard;
 use hart_orders::Choice;
-use image_check::{CheckRefusal, Checked, Unpadded, check, check_but_pads};
-use image_text::read_image;
 use std::alloc::Global;
+use tp_answer::{
+    Status, accepted, answer_bound, answer_check, domains_of, refuse, status_unless_failed,
+    write_generated,
+};
 use tp_base::Memory;
-use tp_io::{Failed, ReadError, Sink, Source, read_within};
-use tp_report::{write_accepted, write_refusal, write_too_long, write_usage};
+use tp_io::{ReadError, Sink, Source, read_within};
+use tp_report::{write_too_long, write_usage};
 use tp_words::{Command, parse};
 
 /// The most bytes of an image.
@@ -201,37 +198,6 @@ fn answer_bytes<K: Sink>(alloc: Global, command: Command, bytes: &[u8], out: &mu
     }
 }
 
-// Whether the image that bytes are breaks no rule.
-fn answer_check<K: Sink>(alloc: Global, bytes: &[u8], out: &mut K) -> Status
-    ensures delivers { Delivers
-        (spec.answer_unless_broken Command.Check (image_for Command.Check bytes.now))
-        result (state K.Sink out.old) (state K.Sink out.new) }
-{
-    match accepted(alloc, bytes) {
-        Ok(image) => {
-            image.discard();
-            status_unless_failed(Status::Done, write_accepted(out))
-        }
-        Err(refusal) => refuse(&refusal, out),
-    }
-}
-
-// The bound of the image that bytes are, where it breaks no rule but that of pads.
-fn answer_bound<K: Sink>(alloc: Global, bytes: &[u8], out: &mut K) -> Status
-    ensures delivers { Delivers
-        (spec.answer_unless_broken Command.Bound (image_for Command.Bound bytes.now))
-        result (state K.Sink out.old) (state K.Sink out.new) }
-{
-    match accepted_but_pads(alloc, bytes) {
-        Ok(image) => {
-            let status = write_bounds(alloc, &image, out);
-            image.discard();
-            status
-        }
-        Err(refusal) => refuse(&refusal, out),
-    }
-}
-
 // A run of the image that bytes are, where it breaks no rule.
 fn answer_run<K: Sink>(
     alloc: Global,
@@ -299,56 +265,5 @@ fn answer_off<K: Sink>(alloc: Global, bytes: &[u8], off: Guard, slots: u32, out:
             }
         }
         Err(refusal) => refuse(&refusal, out),
-    }
-}
-
-// Names the rule that is broken, unless memory ran out.
-fn refuse<K: Sink>(refusal: &CheckRefusal, out: &mut K) -> Status
-    ensures delivers { (c : Command) (found : Result Image Refusal) → IsRefused refusal.now found
-        → Delivers (spec.answer_unless_broken c found) result (state K.Sink out.old) (state K.Sink out.new) }
-{
-    match refusal {
-        CheckRefusal::Memory => Status::Memory,
-        CheckRefusal::Broken(refusal) => {
-            status_unless_failed(Status::Refused, write_refusal(out, refusal))
-        }
-    }
-}
-
-// The image that bytes are, where it breaks no rule.
-#[tactic(auto, unfolding(crate::specs::Reading::image_for, crate::specs::Reading::checked_for))]
-pub fn accepted(alloc: Global, bytes: &[u8]) -> Result<Checked, CheckRefusal>
-    ensures check { Accepting result (image_for Command.Check bytes.now) }
-    ensures run { (slots : ℕ) → Accepting result (image_for (Command.Run slots) bytes.now) }
-    ensures alone { (d slots : ℕ) → Accepting result (image_for (Command.Alone d slots) bytes.now) }
-    ensures ablate { (off : Guard) (slots : ℕ)
-        → Accepting result (image_for (Command.Ablate off slots) bytes.now) }
-    ensures harts { (slots seed : ℕ) → Accepting result (image_for (Command.Harts slots seed) bytes.now) }
-{
-    match read_image(alloc, bytes) {
-        Ok(raw) => check(alloc, raw),
-        Err(refusal) => Err(refusal),
-    }
-}
-
-// The image that bytes are, where it breaks no rule but that of pads.
-#[tactic(auto, unfolding(crate::specs::Reading::image_for, crate::specs::Reading::checked_for))]
-fn accepted_but_pads(alloc: Global, bytes: &[u8]) -> Result<Unpadded, CheckRefusal>
-    ensures accepts { Accepting result (image_for Command.Bound bytes.now) }
-{
-    match read_image(alloc, bytes) {
-        Ok(raw) => check_but_pads(alloc, raw),
-        Err(refusal) => Err(refusal),
-    }
-}
-
-// The status, unless its text could not be written.
-pub fn status_unless_failed(status: Status, written: Result<(), Failed>) -> Status
-    ensures ok { OnOk written (result ≡ status) }
-    ensures err { OnErr written (result ≡ Status.WriteFault) }
-{
-    match written {
-        Ok(()) => status,
-        Err(Failed) => Status::WriteFault,
     }
 }

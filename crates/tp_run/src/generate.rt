@@ -1,38 +1,23 @@
-// The image that a seed makes: written, or run.
-ghost use Rattle.std.specs.Prelude.{◌≡◌, IfOk, IfErr};
+// The run of the image that a seed makes.
 ghost use Rattle.tp_io.specs.Sends.{Sends};
 ghost use Rattle.tp_io.specs.Sink.{state};
 ghost use Rattle.image_check.specs.Image.{image_from};
 ghost use Rattle.world_view.specs.Harts.{IsOnOneHart};
-ghost use Rattle.image_gen.specs.Generated.{generated};
 ghost use Rattle.tp_report.specs.Demo as report_spec;
-ghost use Rattle.tp_run.specs.Answer as spec;
-ghost use Rattle.tp_run.specs.TopCall.{Delivers, ReadsBack};
+ghost use Rattle.tp_answer.specs.Answer as spec;
+ghost use Rattle.tp_answer.specs.TopCall.{Delivers};
 
-use crate::Status;
-use crate::call::{accepted, status_unless_failed};
-use crate::run::{domains_of, write_ending};
-use image_check::{CheckRefusal, Checked};
-use image_gen::generate;
+use crate::run::write_ending;
+use image_check::Checked;
 use std::alloc::Global;
+use tp_answer::{Status, domains_of, generated_image, status_unless_failed};
 use tp_base::Memory;
-use tp_io::{Failed, Sink, write_all_of};
+use tp_io::{Failed, Sink};
 use tp_machine::Machine;
 use tp_report::{DemoPart, write_demo};
 
 /// How many slots a seed's image is run for.
 const DEMO_SLOTS: u32 = 64;
-
-/// Writes the image that a seed makes.
-pub fn write_generated<K: Sink>(alloc: Global, seed: u32, out: &mut K) -> Status
-    ensures delivers { Delivers (spec.answer_gen seed) result (state K.Sink out.old) (state K.Sink out.new) }
-    ensures reads_back { result ≡ Status.Done → ReadsBack seed }
-{
-    match generate(alloc, u64::from(seed)) {
-        Ok(text) => status_unless_failed(Status::Done, write_all_of(out, text.as_bytes())),
-        Err(Memory) => Status::Memory,
-    }
-}
 
 /// Runs the image that a seed makes and writes the summary.
 pub fn run_demo<K: Sink>(alloc: Global, seed: u32, out: &mut K) -> Status
@@ -61,17 +46,6 @@ fn run_image_of<K: Sink>(alloc: Global, image: &Checked, seed: u32, out: &mut K)
             status
         }
         Err(Memory) => Status::Memory,
-    }
-}
-
-// The image that a seed makes. It is never refused but for want of memory.
-fn generated_image(alloc: Global, seed: u32) -> Result<Checked, CheckRefusal>
-    ensures made { IfOk result (λ image. image_from image ≡ image_from (generated seed)) }
-    ensures never_broken { IfErr result (λ refusal. refusal ≡ CheckRefusal.Memory) }
-{
-    match generate(alloc, u64::from(seed)) {
-        Ok(text) => accepted(alloc, text.as_bytes()),
-        Err(Memory) => Err(CheckRefusal::Memory),
     }
 }
 

@@ -2,12 +2,10 @@
 #![tactic(auto)]
 
 mod alone;
-mod bounds;
 mod call;
 mod generate;
 mod reported;
 mod run;
-mod status;
 
 pub use call::tp_main;
-pub use status::Status;
+pub use tp_answer::Status;

@@ -1,17 +1,14 @@
 // A run of an image: so many slots, and then the report.
-ghost use Rattle.std.specs.Prelude.{◌≡◌, ◌<◌, ◌≤◌, length, IfOk};
+ghost use Rattle.std.specs.Prelude.{◌<◌, ◌≤◌, length};
 ghost use Rattle.tp_io.specs.Sends.{Sends};
 ghost use Rattle.tp_io.specs.Sink.{state};
-ghost use Rattle.image_check.specs.Own.{owns_of};
 ghost use Rattle.image_check.specs.Image.{image_from};
 ghost use Rattle.world_view.specs.View.{view_in};
 ghost use Rattle.world_view.specs.Harts.{IsOnOneHart};
 ghost use Rattle.tp_report.specs.Report as spec;
-ghost use Rattle.tp_run.specs.Runs as runs;
-ghost use Rattle.tp_run.specs.TopCall.{Delivers};
+ghost use Rattle.tp_answer.specs.Runs as runs;
+ghost use Rattle.tp_answer.specs.TopCall.{Delivers};
 
-use crate::Status;
-use crate::call::status_unless_failed;
 use crate::reported::Reported;
 use domain_step::has_one_hart;
 use guards::Guard;
@@ -19,6 +16,7 @@ use hart_orders::Choice;
 use hart_set::HartRun;
 use image_check::Checked;
 use std::alloc::Global;
+use tp_answer::{Status, domains_of, status_unless_failed};
 use tp_base::Memory;
 use tp_io::{Failed, Sink};
 use tp_machine::{Ablated, Machine};
@@ -128,14 +126,6 @@ fn write_sections<K: Sink, M: Reported>(out: &mut K, machine: &M) -> Result<(), 
         write_domain(out, machine, d)?;
     }
     Ok(())
-}
-
-/// How many domains the image has.
-pub fn domains_of(image: &Checked) -> u8
-    ensures value { result ≡ length (owns_of image.now) }
-{
-    image.runnable();
-    image.public().domains as u8
 }
 
 #[tactic(auto, unfolding(tp_report::specs::Report::section_of))]

@@ -1,7 +1,7 @@
 // Whole runs, through sources and sinks in memory.
 ghost use Rattle.std.specs.Prelude.{◌≤◌, ◌<◌, IfOk, length};
-ghost use Rattle.tp_run.specs.Answer as spec;
-ghost use Rattle.tp_run.specs.TopCall.{ComesTo};
+ghost use Rattle.tp_answer.specs.Answer as spec;
+ghost use Rattle.tp_answer.specs.TopCall.{ComesTo};
 ghost use Rattle.tp_words.specs.Words.{words_of};
 
 use std::alloc::Global;

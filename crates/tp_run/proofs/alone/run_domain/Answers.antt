@@ -4,10 +4,10 @@ use Rattle.world_view.specs.Harts.{view_alone_on}
 use Rattle.image_check.specs.Own.{Own}
 use Rattle.tp_io.specs.Sink.{state}
 use Rattle.tp_io.specs.Sends.{Sends}
-use Rattle.tp_run.specs.Runs.{section_alone}
-use Rattle.tp_run.specs.declared.status.Status.TheVariants.{Done}
-use Rattle.tp_run.proofs.Answers.{delivered, nothing_held}
-use Rattle.tp_run.proofs.Reports.{section_alone_is}
+use Rattle.tp_answer.specs.Runs.{section_alone}
+use Rattle.tp_answer.specs.declared.status.Status.TheVariants.{Done}
+use Rattle.tp_answer.proofs.Answers.{delivered, nothing_held}
+use Rattle.tp_answer.proofs.Reports.{section_alone_is}
 use Rattle.tp_run.proofs.alone.run_domain.Goals as goal
 
 pub load-requires : goal.load-requires

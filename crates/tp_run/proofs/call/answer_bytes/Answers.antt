@@ -3,10 +3,10 @@ use Rattle.image_reading.specs.Reading.{most_bytes}
 use Rattle.tp_io.specs.Sink.{state}
 use Rattle.tp_words.specs.declared.Command.{Command}
 use Rattle.tp_words.specs.declared.Command.TheVariants.{Check, Bound, Run, Alone, Ablate, Harts}
-use Rattle.tp_run.specs.Answer.{Answer, answer_of_bytes}
-use Rattle.tp_run.specs.TopCall.{Delivers}
-use Rattle.tp_run.specs.declared.status.Status.TheVariants.{TooLong}
-use Rattle.tp_run.proofs.Answers.{delivered, longer_reads, too_long_due, image_due, gen_due, demo_due}
+use Rattle.tp_answer.specs.Answer.{Answer, answer_of_bytes}
+use Rattle.tp_answer.specs.TopCall.{Delivers}
+use Rattle.tp_answer.specs.declared.status.Status.TheVariants.{TooLong}
+use Rattle.tp_answer.proofs.Answers.{delivered, longer_reads, too_long_due, image_due, gen_due, demo_due}
 use Rattle.tp_run.proofs.call.answer_bytes.Goals as goal
 
 pub returns-then-bytes-gt-MOST_BYTES-clause-delivers : goal.returns-then-bytes-gt-MOST_BYTES-clause-delivers

@@ -3,12 +3,12 @@ use Rattle.tp_io.specs.Sink.{state}
 use Rattle.sched_table.specs.Schedule.{harts_in}
 use Rattle.image_check.specs.Image.{image_from}
 use Rattle.tp_report.specs.Report.{usage_text}
-use Rattle.tp_run.specs.Answer.{Answer}
-use Rattle.tp_run.specs.Reading.{image_for}
-use Rattle.tp_run.specs.TopCall.{Delivers}
+use Rattle.tp_answer.specs.Answer.{Answer}
+use Rattle.tp_answer.specs.Reading.{image_for}
+use Rattle.tp_answer.specs.TopCall.{Delivers}
 use Rattle.tp_words.specs.declared.Command.TheVariants.{Ablate}
-use Rattle.tp_run.specs.declared.status.Status.TheVariants.{Usage}
-use Rattle.tp_run.proofs.Answers.{delivered, found_due, off_due, many_due}
+use Rattle.tp_answer.specs.declared.status.Status.TheVariants.{Usage}
+use Rattle.tp_answer.proofs.Answers.{delivered, found_due, off_due, many_due}
 use Rattle.tp_run.proofs.call.answer_off.Goals as goal
 
 pub returns-then-has_one_hart : goal.returns-then-has_one_hart

@@ -3,13 +3,13 @@ use Rattle.tp_io.specs.Sink.{state}
 use Rattle.image_check.specs.Image.{image_from}
 use Rattle.hart_orders.specs.declared.choice.Choice.{Choice}
 use Rattle.hart_orders.specs.declared.choice.Choice.TheVariants.{LeastClock, Drawn}
-use Rattle.tp_run.specs.Answer.{Answer, answer_of_image}
-use Rattle.tp_run.specs.Reading.{image_for}
-use Rattle.tp_run.specs.Runs.{report}
-use Rattle.tp_run.specs.TopCall.{Delivers}
-use Rattle.tp_run.specs.declared.status.Status.TheVariants.{Done}
+use Rattle.tp_answer.specs.Answer.{Answer, answer_of_image}
+use Rattle.tp_answer.specs.Reading.{image_for}
+use Rattle.tp_answer.specs.Runs.{report}
+use Rattle.tp_answer.specs.TopCall.{Delivers}
+use Rattle.tp_answer.specs.declared.status.Status.TheVariants.{Done}
 use Rattle.tp_words.specs.declared.Command.TheVariants.{Run, Harts}
-use Rattle.tp_run.proofs.Answers.{found_due}
+use Rattle.tp_answer.proofs.Answers.{found_due}
 use Rattle.tp_run.proofs.call.answer_run.Goals as goal
 
 pub returns-in-Ok-clause-run : goal.returns-in-Ok-clause-run

@@ -1,334 +1,250 @@
-use Rattle.std.proofs.Common.{◌≡◌, ◌∙◌, sym, None, Some, [], subst, arith}
+use Rattle.std.proofs.Common.{◌≡◌, ◌∙◌, ℕ, sym, ap, None, Some, Option, Err, List, [], inl, inr, refl, subst, arith}
+use Rattle.std.specs.Prelude.{IfSome}
 use Rattle.std.proofs.lemmas.Option.{same_Some}
 use Rattle.tp_io.specs.Sink.{state}
-use Rattle.tp_words.specs.declared.Command.TheVariants.{Gen, Demo}
+use Rattle.tp_words.specs.declared.Command.{Command}
 use Rattle.tp_words.specs.Words.{Reads, IsInRange, command, words_of}
-use Rattle.hart_orders.specs.declared.choice.Choice.TheVariants.{LeastClock, Drawn}
-use Rattle.tp_run.specs.TopCall.{MayBeUsage}
-use Rattle.tp_run.proofs.Answers.{none_taken, bytes_due, usage_sent, usage_delivers, ends_usage, completes, completes_surely}
-use Rattle.tp_run.proofs.Commands.{answering, as_command, told_delivers, done_reads, refused_reads, too_long_reads, may_be_usage, refuses, accepts, bounds, ran, harts_ran, is_isolated, is_padded, lacks_domain, writes_section, is_same_section, writes_off, has_many_harts, generates, summarizes}
+use Rattle.tp_answer.specs.declared.status.Status.TheVariants.{Refused, TooLong, Memory}
+use Rattle.tp_answer.specs.Answer.{answer_of_bytes}
+use Rattle.tp_answer.specs.TopCall.{Delivers}
+use Rattle.tp_answer.proofs.Answers.{none_failed, neither_failed, wrote_of, want_is_no_read, want_is_no_fault, read_is_no_fault, none_taken, bytes_due, usage_sent, usage_delivers, ends_usage, completes, completes_surely}
+use Rattle.tp_answer.proofs.Commands.{answering, told_delivers}
+use Rattle.tp_answer.proofs.Told.{memory_tells, read_fault_tells, usage_tells, answered_tells, held_none, unasked}
 use Rattle.tp_run.proofs.call.tp_main.Goals as goal
 
 -- ---- words that are no command
 
-pub returns-in-Ok-None-clause-told : goal.returns-in-Ok-None-clause-told
-returns-in-Ok-None-clause-told g c bytes told =
-    let none : command (words_of c.args.words.now) ≡ None =
-    sym (rw c.in-Ok-None.field-0-is at c.in-Ok-None.ensures.value) in
-    let usage =
-    usage_sent c.status_unless_failed.result (state g.K.Sink c.args.out.now)
-    (state g.K.Sink c.write_usage.new.out)
-    c.write_usage.result c.write_usage.ensures.sends c.status_unless_failed.ensures.ok
-    c.status_unless_failed.ensures.err in
-    let due =
-    usage_delivers (words_of c.args.words.now) bytes c.status_unless_failed.result _ _ none usage in
-    due.wrote
-
-pub returns-in-Ok-None-clause-answered : goal.returns-in-Ok-None-clause-answered
-returns-in-Ok-None-clause-answered g c read held =
-    let none : command (words_of c.args.words.now) ≡ None =
-    sym (rw c.in-Ok-None.field-0-is at c.in-Ok-None.ensures.value) in
-    let usage =
-    usage_sent c.status_unless_failed.result (state g.K.Sink c.args.out.now)
-    (state g.K.Sink c.write_usage.new.out)
-    c.write_usage.result c.write_usage.ensures.sends c.status_unless_failed.ensures.ok
-    c.status_unless_failed.ensures.err in
-    let due =
-    usage_delivers (words_of c.args.words.now) [] c.status_unless_failed.result _ _ none usage in
+pub returns-in-Ok-None : goal.returns-in-Ok-None
+returns-in-Ok-None g c =
+    let words = words_of c.args.words.now in
+    let none : command words ≡ None = sym c.in-Ok-None.ensures.value ∙ c.in-Ok-None.field-0-is in
+    let result = c.status_unless_failed.result in
+    let left = g.S.Source.left c.args.src.now in
+    let old = state g.K.Sink c.args.out.now in
+    let new = state g.K.Sink c.write_usage.new.out in
+    let usage = usage_sent result old new c.write_usage.result c.write_usage.ensures.sends
+    c.status_unless_failed.ensures.ok c.status_unless_failed.ensures.err in
+    let t = usage_tells words result left left old.written new.written none
+    (λ e. cc (wrote_of Refused usage e).0) (λ e. cc (wrote_of TooLong usage e).0) in
     record {
-      bytes = [];
-      took = none_taken _;
-      whole = λ k asked reads few. absurd (cc (none, asked));
-      few = omega arith;
-      wrote = due.wrote;
+      told = λ bytes told. (usage_delivers words bytes result old new none usage).wrote;
+      answered = λ read held. record {
+        bytes = [];
+        took = none_taken left;
+        whole = λ k asked reads few. absurd (unasked words k none asked);
+        few = omega arith;
+        wrote = (usage_delivers words [] result old new none usage).wrote;
+      };
+      no_command = λ _. ends_usage result old new usage;
+      untouched = λ _. refl;
+      makes_untouched = λ k is makes. refl;
+      read_fault = none_failed _ usage.no_read;
+      write_fault = usage.fault;
+      nothing_read = λ e. absurd (usage.no_read e);
+      nothing_held = λ e. wrote_of Memory usage e;
+      complete = λ bytes told source sink.
+          completes _ result old new (usage_delivers words bytes result old new none usage) sink c.requires.sink;
+      complete_sure = λ bytes room told sure fits.
+          completes_surely _ result old new room (usage_delivers words bytes result old new none usage) sure fits;
+      usage = t.usage;
+      no_domain = t.no_domain;
+      many_harts = t.many_harts;
+      done_reads = t.done_reads;
+      refused_reads = t.refused_reads;
+      too_long_reads = t.too_long_reads;
+      refused = t.refused;
+      accepted = t.accepted;
+      bound = t.bound;
+      isolation = t.isolation;
+      pad = t.pad;
+      harts_isolation = t.harts_isolation;
+      harts_pad = t.harts_pad;
+      alone = t.alone;
+      same_section = t.same_section;
+      unprotected = t.unprotected;
+      generated = t.generated;
+      demo = t.demo;
     }
 
-pub returns-in-Ok-None-clause-no_command : goal.returns-in-Ok-None-clause-no_command
-returns-in-Ok-None-clause-no_command g c none =
-    let usage =
-    usage_sent c.status_unless_failed.result (state g.K.Sink c.args.out.now)
-    (state g.K.Sink c.write_usage.new.out)
-    c.write_usage.result c.write_usage.ensures.sends c.status_unless_failed.ensures.ok
-    c.status_unless_failed.ensures.err in
-    ends_usage c.status_unless_failed.result _ _ usage
+-- ---- memory ran out, or a read failed
 
-pub returns-in-Ok-None-clause-complete : goal.returns-in-Ok-None-clause-complete
-returns-in-Ok-None-clause-complete g c bytes told source sink =
-    let none : command (words_of c.args.words.now) ≡ None =
-    sym (rw c.in-Ok-None.field-0-is at c.in-Ok-None.ensures.value) in
-    let usage =
-    usage_sent c.status_unless_failed.result (state g.K.Sink c.args.out.now)
-    (state g.K.Sink c.write_usage.new.out)
-    c.write_usage.result c.write_usage.ensures.sends c.status_unless_failed.ensures.ok
-    c.status_unless_failed.ensures.err in
-    let due =
-    usage_delivers (words_of c.args.words.now) bytes c.status_unless_failed.result _ _ none usage in
-    completes _ c.status_unless_failed.result _ _ due sink c.requires.sink
+pub returns-in-Err : goal.returns-in-Err
+returns-in-Err g c =
+    let left = g.S.Source.left c.args.src.now in
+    let written = g.K.Sink.written c.args.out.now in
+    let t = memory_tells (words_of c.args.words.now) left left written written in
+    record {
+      told = λ bytes told. refl;
+      answered = λ read held. absurd (held refl);
+      no_command = λ none. refl;
+      untouched = λ none. refl;
+      makes_untouched = λ k is makes. refl;
+      read_fault = none_failed _ want_is_no_read;
+      write_fault = none_failed _ want_is_no_fault;
+      nothing_read = λ e. refl;
+      nothing_held = λ e. refl;
+      complete = λ bytes told source sink. inr refl;
+      complete_sure = λ bytes room told sure fits. inl (inr refl);
+      usage = t.usage;
+      no_domain = t.no_domain;
+      many_harts = t.many_harts;
+      done_reads = t.done_reads;
+      refused_reads = t.refused_reads;
+      too_long_reads = t.too_long_reads;
+      refused = t.refused;
+      accepted = t.accepted;
+      bound = t.bound;
+      isolation = t.isolation;
+      pad = t.pad;
+      harts_isolation = t.harts_isolation;
+      harts_pad = t.harts_pad;
+      alone = t.alone;
+      same_section = t.same_section;
+      unprotected = t.unprotected;
+      generated = t.generated;
+      demo = t.demo;
+    }
 
-pub returns-in-Ok-None-clause-complete_sure : goal.returns-in-Ok-None-clause-complete_sure
-returns-in-Ok-None-clause-complete_sure g c bytes room told sure fits =
-    let none : command (words_of c.args.words.now) ≡ None =
-    sym (rw c.in-Ok-None.field-0-is at c.in-Ok-None.ensures.value) in
-    let usage =
-    usage_sent c.status_unless_failed.result (state g.K.Sink c.args.out.now)
-    (state g.K.Sink c.write_usage.new.out)
-    c.write_usage.result c.write_usage.ensures.sends c.status_unless_failed.ensures.ok
-    c.status_unless_failed.ensures.err in
-    let due =
-    usage_delivers (words_of c.args.words.now) bytes c.status_unless_failed.result _ _ none usage in
-    completes_surely _ c.status_unless_failed.result _ _ room due sure fits
+pub returns-in-Err-Failed : goal.returns-in-Err-Failed
+returns-in-Err-Failed g c =
+    let words = words_of c.args.words.now in
+    let its = c.in-Ok-Some.command in
+    let asked : command words ≡ Some its = sym c.in-Ok-Some.ensures.value ∙ c.in-Ok-Some.field-0-is in
+    let left = g.S.Source.left c.args.src.now in
+    let left' = g.S.Source.left c.read_for.new.src in
+    let written = g.K.Sink.written c.args.out.now in
+    let cause = c.read_for.ensures.cause in
+    let rose = cause.rose (c.in-Err-Failed.is ∙ ap Err c.in-Err-Failed.field-0-is) in
+    let t = read_fault_tells words left left' written written in
+    record {
+      told = λ bytes told. refl;
+      answered = λ read held. absurd (read refl);
+      no_command = λ none. absurd (unasked words its none asked);
+      untouched = λ none. absurd (unasked words its none asked);
+      makes_untouched = λ k is makes.
+          c.read_for.ensures.untouched (λ reads. makes (subst Reads (same_Some its k (sym asked ∙ is)) reads));
+      read_fault = record { rose = λ _. rose; steady = λ other. absurd (other refl); never_falls = cause.never_falls };
+      write_fault = none_failed _ read_is_no_fault;
+      nothing_read = λ e. refl;
+      nothing_held = λ e. refl;
+      complete = λ bytes told source sink. absurd (omega (arith, rose, source, c.requires.source));
+      complete_sure = λ bytes room told sure fits. inr refl;
+      usage = t.usage;
+      no_domain = t.no_domain;
+      many_harts = t.many_harts;
+      done_reads = t.done_reads;
+      refused_reads = t.refused_reads;
+      too_long_reads = t.too_long_reads;
+      refused = t.refused;
+      accepted = t.accepted;
+      bound = t.bound;
+      isolation = t.isolation;
+      pad = t.pad;
+      harts_isolation = t.harts_isolation;
+      harts_pad = t.harts_pad;
+      alone = t.alone;
+      same_section = t.same_section;
+      unprotected = t.unprotected;
+      generated = t.generated;
+      demo = t.demo;
+    }
+
+pub returns-in-Err-Memory : goal.returns-in-Err-Memory
+returns-in-Err-Memory g c =
+    let words = words_of c.args.words.now in
+    let its = c.in-Ok-Some.command in
+    let asked : command words ≡ Some its = sym c.in-Ok-Some.ensures.value ∙ c.in-Ok-Some.field-0-is in
+    let left = g.S.Source.left c.args.src.now in
+    let left' = g.S.Source.left c.read_for.new.src in
+    let written = g.K.Sink.written c.args.out.now in
+    let t = memory_tells words left left' written written in
+    record {
+      told = λ bytes told. refl;
+      answered = λ read held. absurd (held refl);
+      no_command = λ none. refl;
+      untouched = λ none. absurd (unasked words its none asked);
+      makes_untouched = λ k is makes.
+          c.read_for.ensures.untouched (λ reads. makes (subst Reads (same_Some its k (sym asked ∙ is)) reads));
+      read_fault = neither_failed _ _ (held_none _ _ c.in-Err-Memory.is c.in-Err-Memory.field-0-is) want_is_no_read c.read_for.ensures.cause;
+      write_fault = none_failed _ want_is_no_fault;
+      nothing_read = λ e. refl;
+      nothing_held = λ e. refl;
+      complete = λ bytes told source sink. inr refl;
+      complete_sure = λ bytes room told sure fits. inl (inr refl);
+      usage = t.usage;
+      no_domain = t.no_domain;
+      many_harts = t.many_harts;
+      done_reads = t.done_reads;
+      refused_reads = t.refused_reads;
+      too_long_reads = t.too_long_reads;
+      refused = t.refused;
+      accepted = t.accepted;
+      bound = t.bound;
+      isolation = t.isolation;
+      pad = t.pad;
+      harts_isolation = t.harts_isolation;
+      harts_pad = t.harts_pad;
+      alone = t.alone;
+      same_section = t.same_section;
+      unprotected = t.unprotected;
+      generated = t.generated;
+      demo = t.demo;
+    }
 
 -- ---- all bytes of the source, or one more than an image may have
 
-pub returns-clause-told : goal.returns-clause-told
-returns-clause-told g c bytes told =
-    let asked : command (words_of c.args.words.now) ≡ Some c.in-Ok-Some.command =
-    sym (rw c.in-Ok-Some.field-0-is at c.in-Ok-Some.ensures.value) in
-    let delivers = rw c.as_slice.ensures.value at c.answer_bytes.ensures.delivers in
-    let h =
-    answering c.in-Ok-Some.command c.in-Ok.bytes.items (g.S.Source.left c.read_for.new.src)
-    c.in-Ok.ensures.taken c.in-Ok.ensures.whole delivers in
-    (told_delivers _ h (words_of c.args.words.now) bytes asked told).wrote
-
-pub returns-clause-answered : goal.returns-clause-answered
-returns-clause-answered g c read held =
-    let asked : command (words_of c.args.words.now) ≡ Some c.in-Ok-Some.command =
-    sym (rw c.in-Ok-Some.field-0-is at c.in-Ok-Some.ensures.value) in
-    let delivers = rw c.as_slice.ensures.value at c.answer_bytes.ensures.delivers in
-    let h =
-    answering c.in-Ok-Some.command c.in-Ok.bytes.items (g.S.Source.left c.read_for.new.src)
-    c.in-Ok.ensures.taken c.in-Ok.ensures.whole delivers in
+pub returns : goal.returns
+returns g c =
+    let words = words_of c.args.words.now in
+    let its = c.in-Ok-Some.command in
+    let asked : command words ≡ Some its = sym c.in-Ok-Some.ensures.value ∙ c.in-Ok-Some.field-0-is in
+    let left = g.S.Source.left c.args.src.now in
+    let left' = g.S.Source.left c.read_for.new.src in
+    let items = c.in-Ok.bytes.items in
+    let result = c.answer_bytes.result in
+    let old = state g.K.Sink c.args.out.now in
+    let new = state g.K.Sink c.answer_bytes.new.out in
+    let delivers = subst (λ (xs : List ℕ). Delivers (answer_of_bytes its xs) result old new) c.as_slice.ensures.value c.answer_bytes.ensures.delivers in
+    let h = answering its items left' c.in-Ok.ensures.taken c.in-Ok.ensures.whole delivers in
+    let range : IsInRange its = subst (λ (o : Option Command). IfSome o IsInRange) c.in-Ok-Some.field-0-is c.in-Ok-Some.ensures.range in
+    let t = answered_tells words _ h asked c.in-Ok.ensures.most range c.answer_bytes.ensures.reads_back in
     record {
-      bytes = c.in-Ok.bytes.items;
-      took = h.took;
-      whole = λ k is reads few. h.whole (subst Reads (same_Some _ _ (sym is ∙ asked)) reads) few;
-      few = c.in-Ok.ensures.most;
-      wrote =
-          rw (bytes_due (words_of c.args.words.now) c.in-Ok.bytes.items c.in-Ok-Some.command asked)
-          h.delivers.wrote;
+      told = λ bytes told. (told_delivers _ h words bytes asked told).wrote;
+      answered = λ read held. record {
+        bytes = items;
+        took = h.took;
+        whole = λ k is reads few. h.whole (subst Reads (sym (same_Some its k (sym asked ∙ is))) reads) few;
+        few = c.in-Ok.ensures.most;
+        wrote = rw (bytes_due words items its asked) h.delivers.wrote;
+      };
+      no_command = λ none. absurd (unasked words its none asked);
+      untouched = λ none. absurd (unasked words its none asked);
+      makes_untouched = λ k is makes.
+          c.read_for.ensures.untouched (λ reads. makes (subst Reads (same_Some its k (sym asked ∙ is)) reads));
+      read_fault = neither_failed _ _ (λ e. cc e) delivers.no_read c.in-Ok.ensures.cause;
+      write_fault = delivers.fault;
+      nothing_read = λ e. absurd (delivers.no_read e);
+      nothing_held = λ e. wrote_of Memory delivers e;
+      complete = λ bytes told source sink.
+          completes _ result old new (told_delivers _ h words bytes asked told) sink c.requires.sink;
+      complete_sure = λ bytes room told sure fits.
+          completes_surely _ result old new room (told_delivers _ h words bytes asked told) sure fits;
+      usage = t.usage;
+      no_domain = t.no_domain;
+      many_harts = t.many_harts;
+      done_reads = t.done_reads;
+      refused_reads = t.refused_reads;
+      too_long_reads = t.too_long_reads;
+      refused = t.refused;
+      accepted = t.accepted;
+      bound = t.bound;
+      isolation = t.isolation;
+      pad = t.pad;
+      harts_isolation = t.harts_isolation;
+      harts_pad = t.harts_pad;
+      alone = t.alone;
+      same_section = t.same_section;
+      unprotected = t.unprotected;
+      generated = t.generated;
+      demo = t.demo;
     }
-
-pub returns-clause-usage : goal.returns-clause-usage
-returns-clause-usage g c usage =
-    let asked : command (words_of c.args.words.now) ≡ Some c.in-Ok-Some.command =
-    sym (rw c.in-Ok-Some.field-0-is at c.in-Ok-Some.ensures.value) in
-    let delivers = rw c.as_slice.ensures.value at c.answer_bytes.ensures.delivers in
-    let h =
-    answering c.in-Ok-Some.command c.in-Ok.bytes.items (g.S.Source.left c.read_for.new.src)
-    c.in-Ok.ensures.taken c.in-Ok.ensures.whole delivers in
-    subst MayBeUsage (sym asked) (may_be_usage _ h usage)
-
-pub returns-clause-done_reads : goal.returns-clause-done_reads
-returns-clause-done_reads g c k is reads done =
-    let asked : command (words_of c.args.words.now) ≡ Some c.in-Ok-Some.command =
-    sym (rw c.in-Ok-Some.field-0-is at c.in-Ok-Some.ensures.value) in
-    let delivers = rw c.as_slice.ensures.value at c.answer_bytes.ensures.delivers in
-    let h =
-    answering c.in-Ok-Some.command c.in-Ok.bytes.items (g.S.Source.left c.read_for.new.src)
-    c.in-Ok.ensures.taken c.in-Ok.ensures.whole delivers in
-    let its : Reads c.in-Ok-Some.command = subst Reads (same_Some _ _ (sym is ∙ asked)) reads in
-    h.whole its (done_reads _ h its done)
-
-pub returns-clause-refused_reads : goal.returns-clause-refused_reads
-returns-clause-refused_reads g c refused =
-    let delivers = rw c.as_slice.ensures.value at c.answer_bytes.ensures.delivers in
-    let h =
-    answering c.in-Ok-Some.command c.in-Ok.bytes.items (g.S.Source.left c.read_for.new.src)
-    c.in-Ok.ensures.taken c.in-Ok.ensures.whole delivers in
-    let (reads, few) = refused_reads _ h refused in
-    h.whole reads few
-
-pub returns-clause-too_long_reads : goal.returns-clause-too_long_reads
-returns-clause-too_long_reads g c over =
-    let delivers = rw c.as_slice.ensures.value at c.answer_bytes.ensures.delivers in
-    let h =
-    answering c.in-Ok-Some.command c.in-Ok.bytes.items (g.S.Source.left c.read_for.new.src)
-    c.in-Ok.ensures.taken c.in-Ok.ensures.whole delivers in
-    let many = too_long_reads _ h over in
-    record { bytes = c.in-Ok.bytes.items; took = h.took; many = omega (arith, many, c.in-Ok.ensures.most) }
-
-pub returns-clause-complete : goal.returns-clause-complete
-returns-clause-complete g c bytes told source sink =
-    let asked : command (words_of c.args.words.now) ≡ Some c.in-Ok-Some.command =
-    sym (rw c.in-Ok-Some.field-0-is at c.in-Ok-Some.ensures.value) in
-    let delivers = rw c.as_slice.ensures.value at c.answer_bytes.ensures.delivers in
-    let h =
-    answering c.in-Ok-Some.command c.in-Ok.bytes.items (g.S.Source.left c.read_for.new.src)
-    c.in-Ok.ensures.taken c.in-Ok.ensures.whole delivers in
-    let due = told_delivers _ h (words_of c.args.words.now) bytes asked told in
-    completes _ c.answer_bytes.result _ _ due sink c.requires.sink
-
-pub returns-clause-complete_sure : goal.returns-clause-complete_sure
-returns-clause-complete_sure g c bytes room told sure fits =
-    let asked : command (words_of c.args.words.now) ≡ Some c.in-Ok-Some.command =
-    sym (rw c.in-Ok-Some.field-0-is at c.in-Ok-Some.ensures.value) in
-    let delivers = rw c.as_slice.ensures.value at c.answer_bytes.ensures.delivers in
-    let h =
-    answering c.in-Ok-Some.command c.in-Ok.bytes.items (g.S.Source.left c.read_for.new.src)
-    c.in-Ok.ensures.taken c.in-Ok.ensures.whole delivers in
-    let due = told_delivers _ h (words_of c.args.words.now) bytes asked told in
-    completes_surely _ c.answer_bytes.result _ _ room due sure fits
-
-pub returns-clause-refused : goal.returns-clause-refused
-returns-clause-refused g c k is refused =
-    let asked : command (words_of c.args.words.now) ≡ Some c.in-Ok-Some.command =
-    sym (rw c.in-Ok-Some.field-0-is at c.in-Ok-Some.ensures.value) in
-    let delivers = rw c.as_slice.ensures.value at c.answer_bytes.ensures.delivers in
-    let h =
-    answering c.in-Ok-Some.command c.in-Ok.bytes.items (g.S.Source.left c.read_for.new.src)
-    c.in-Ok.ensures.taken c.in-Ok.ensures.whole delivers in
-    let same : c.in-Ok-Some.command ≡ k = same_Some _ _ (sym asked ∙ is) in
-    refuses _ (as_command _ k same h) refused
-
-pub returns-clause-accepted : goal.returns-clause-accepted
-returns-clause-accepted g c is done =
-    let asked : command (words_of c.args.words.now) ≡ Some c.in-Ok-Some.command =
-    sym (rw c.in-Ok-Some.field-0-is at c.in-Ok-Some.ensures.value) in
-    let delivers = rw c.as_slice.ensures.value at c.answer_bytes.ensures.delivers in
-    let h =
-    answering c.in-Ok-Some.command c.in-Ok.bytes.items (g.S.Source.left c.read_for.new.src)
-    c.in-Ok.ensures.taken c.in-Ok.ensures.whole delivers in
-    accepts _ h (same_Some _ _ (sym asked ∙ is)) done
-
-pub returns-clause-bound : goal.returns-clause-bound
-returns-clause-bound g c is done =
-    let asked : command (words_of c.args.words.now) ≡ Some c.in-Ok-Some.command =
-    sym (rw c.in-Ok-Some.field-0-is at c.in-Ok-Some.ensures.value) in
-    let delivers = rw c.as_slice.ensures.value at c.answer_bytes.ensures.delivers in
-    let h =
-    answering c.in-Ok-Some.command c.in-Ok.bytes.items (g.S.Source.left c.read_for.new.src)
-    c.in-Ok.ensures.taken c.in-Ok.ensures.whole delivers in
-    bounds _ h (same_Some _ _ (sym asked ∙ is)) done
-
-pub returns-clause-isolation : goal.returns-clause-isolation
-returns-clause-isolation g c slots is done =
-    let asked : command (words_of c.args.words.now) ≡ Some c.in-Ok-Some.command =
-    sym (rw c.in-Ok-Some.field-0-is at c.in-Ok-Some.ensures.value) in
-    let delivers = rw c.as_slice.ensures.value at c.answer_bytes.ensures.delivers in
-    let h =
-    answering c.in-Ok-Some.command c.in-Ok.bytes.items (g.S.Source.left c.read_for.new.src)
-    c.in-Ok.ensures.taken c.in-Ok.ensures.whole delivers in
-    let r = ran slots _ h (same_Some _ _ (sym asked ∙ is)) done in
-    is_isolated LeastClock slots _ _ _ _ r.0 r.1
-
-pub returns-clause-pad : goal.returns-clause-pad
-returns-clause-pad g c slots is done =
-    let asked : command (words_of c.args.words.now) ≡ Some c.in-Ok-Some.command =
-    sym (rw c.in-Ok-Some.field-0-is at c.in-Ok-Some.ensures.value) in
-    let delivers = rw c.as_slice.ensures.value at c.answer_bytes.ensures.delivers in
-    let h =
-    answering c.in-Ok-Some.command c.in-Ok.bytes.items (g.S.Source.left c.read_for.new.src)
-    c.in-Ok.ensures.taken c.in-Ok.ensures.whole delivers in
-    let r = ran slots _ h (same_Some _ _ (sym asked ∙ is)) done in
-    is_padded LeastClock slots _ _ r.0
-
-pub returns-clause-harts_isolation : goal.returns-clause-harts_isolation
-returns-clause-harts_isolation g c slots seed is done =
-    let asked : command (words_of c.args.words.now) ≡ Some c.in-Ok-Some.command =
-    sym (rw c.in-Ok-Some.field-0-is at c.in-Ok-Some.ensures.value) in
-    let delivers = rw c.as_slice.ensures.value at c.answer_bytes.ensures.delivers in
-    let h =
-    answering c.in-Ok-Some.command c.in-Ok.bytes.items (g.S.Source.left c.read_for.new.src)
-    c.in-Ok.ensures.taken c.in-Ok.ensures.whole delivers in
-    let r = harts_ran slots seed _ h (same_Some _ _ (sym asked ∙ is)) done in
-    is_isolated (Drawn seed) slots _ _ _ _ r.0 r.1
-
-pub returns-clause-harts_pad : goal.returns-clause-harts_pad
-returns-clause-harts_pad g c slots seed is done =
-    let asked : command (words_of c.args.words.now) ≡ Some c.in-Ok-Some.command =
-    sym (rw c.in-Ok-Some.field-0-is at c.in-Ok-Some.ensures.value) in
-    let delivers = rw c.as_slice.ensures.value at c.answer_bytes.ensures.delivers in
-    let h =
-    answering c.in-Ok-Some.command c.in-Ok.bytes.items (g.S.Source.left c.read_for.new.src)
-    c.in-Ok.ensures.taken c.in-Ok.ensures.whole delivers in
-    let r = harts_ran slots seed _ h (same_Some _ _ (sym asked ∙ is)) done in
-    is_padded (Drawn seed) slots _ _ r.0
-
-pub returns-clause-no_domain : goal.returns-clause-no_domain
-returns-clause-no_domain g c d slots is usage =
-    let asked : command (words_of c.args.words.now) ≡ Some c.in-Ok-Some.command =
-    sym (rw c.in-Ok-Some.field-0-is at c.in-Ok-Some.ensures.value) in
-    let delivers = rw c.as_slice.ensures.value at c.answer_bytes.ensures.delivers in
-    let h =
-    answering c.in-Ok-Some.command c.in-Ok.bytes.items (g.S.Source.left c.read_for.new.src)
-    c.in-Ok.ensures.taken c.in-Ok.ensures.whole delivers in
-    lacks_domain d slots _ h (same_Some _ _ (sym asked ∙ is)) usage
-
-pub returns-clause-alone : goal.returns-clause-alone
-returns-clause-alone g c d slots is done =
-    let asked : command (words_of c.args.words.now) ≡ Some c.in-Ok-Some.command =
-    sym (rw c.in-Ok-Some.field-0-is at c.in-Ok-Some.ensures.value) in
-    let delivers = rw c.as_slice.ensures.value at c.answer_bytes.ensures.delivers in
-    let h =
-    answering c.in-Ok-Some.command c.in-Ok.bytes.items (g.S.Source.left c.read_for.new.src)
-    c.in-Ok.ensures.taken c.in-Ok.ensures.whole delivers in
-    writes_section d slots _ h (same_Some _ _ (sym asked ∙ is)) done
-
-pub returns-clause-same_section : goal.returns-clause-same_section
-returns-clause-same_section g c d slots is done =
-    let asked : command (words_of c.args.words.now) ≡ Some c.in-Ok-Some.command =
-    sym (rw c.in-Ok-Some.field-0-is at c.in-Ok-Some.ensures.value) in
-    let delivers = rw c.as_slice.ensures.value at c.answer_bytes.ensures.delivers in
-    let h =
-    answering c.in-Ok-Some.command c.in-Ok.bytes.items (g.S.Source.left c.read_for.new.src)
-    c.in-Ok.ensures.taken c.in-Ok.ensures.whole delivers in
-    is_same_section d slots _ _ _ _
-    (writes_section d slots _ h (same_Some _ _ (sym asked ∙ is)) done)
-
--- ---- a run with a guard off
-
-pub returns-clause-many_harts : goal.returns-clause-many_harts
-returns-clause-many_harts g c off slots is usage =
-    let asked : command (words_of c.args.words.now) ≡ Some c.in-Ok-Some.command =
-    sym (rw c.in-Ok-Some.field-0-is at c.in-Ok-Some.ensures.value) in
-    let delivers = rw c.as_slice.ensures.value at c.answer_bytes.ensures.delivers in
-    let h =
-    answering c.in-Ok-Some.command c.in-Ok.bytes.items (g.S.Source.left c.read_for.new.src)
-    c.in-Ok.ensures.taken c.in-Ok.ensures.whole delivers in
-    has_many_harts off slots _ h (same_Some _ _ (sym asked ∙ is)) usage
-
-pub returns-clause-unprotected : goal.returns-clause-unprotected
-returns-clause-unprotected g c off slots is done =
-    let asked : command (words_of c.args.words.now) ≡ Some c.in-Ok-Some.command =
-    sym (rw c.in-Ok-Some.field-0-is at c.in-Ok-Some.ensures.value) in
-    let delivers = rw c.as_slice.ensures.value at c.answer_bytes.ensures.delivers in
-    let h =
-    answering c.in-Ok-Some.command c.in-Ok.bytes.items (g.S.Source.left c.read_for.new.src)
-    c.in-Ok.ensures.taken c.in-Ok.ensures.whole delivers in
-    writes_off off slots _ h (same_Some _ _ (sym asked ∙ is)) done
-
--- ---- the image that a seed makes
-
-pub returns-clause-makes_untouched : goal.returns-clause-makes_untouched
-returns-clause-makes_untouched g c k is makes =
-    let asked : command (words_of c.args.words.now) ≡ Some c.in-Ok-Some.command =
-    sym (rw c.in-Ok-Some.field-0-is at c.in-Ok-Some.ensures.value) in
-    let same : c.in-Ok-Some.command ≡ k = same_Some _ _ (sym asked ∙ is) in
-    c.read_for.ensures.untouched (λ reads. makes (subst Reads same reads))
-
-pub returns-clause-generated : goal.returns-clause-generated
-returns-clause-generated g c seed is done =
-    let asked : command (words_of c.args.words.now) ≡ Some c.in-Ok-Some.command =
-    sym (rw c.in-Ok-Some.field-0-is at c.in-Ok-Some.ensures.value) in
-    let delivers = rw c.as_slice.ensures.value at c.answer_bytes.ensures.delivers in
-    let h =
-    answering c.in-Ok-Some.command c.in-Ok.bytes.items (g.S.Source.left c.read_for.new.src)
-    c.in-Ok.ensures.taken c.in-Ok.ensures.whole delivers in
-    let same : c.in-Ok-Some.command ≡ Gen seed = same_Some _ _ (sym asked ∙ is) in
-    let small : IsInRange (Gen seed) =
-    subst IsInRange same (rw c.in-Ok-Some.field-0-is at c.in-Ok-Some.ensures.range) in
-    generates seed _ h same done (omega (arith, small))
-    (c.answer_bytes.ensures.reads_back seed same done)
-
-pub returns-clause-demo : goal.returns-clause-demo
-returns-clause-demo g c seed is done =
-    let asked : command (words_of c.args.words.now) ≡ Some c.in-Ok-Some.command =
-    sym (rw c.in-Ok-Some.field-0-is at c.in-Ok-Some.ensures.value) in
-    let delivers = rw c.as_slice.ensures.value at c.answer_bytes.ensures.delivers in
-    let h =
-    answering c.in-Ok-Some.command c.in-Ok.bytes.items (g.S.Source.left c.read_for.new.src)
-    c.in-Ok.ensures.taken c.in-Ok.ensures.whole delivers in
-    let same : c.in-Ok-Some.command ≡ Demo seed = same_Some _ _ (sym asked ∙ is) in
-    let small : IsInRange (Demo seed) =
-    subst IsInRange same (rw c.in-Ok-Some.field-0-is at c.in-Ok-Some.ensures.range) in
-    summarizes seed _ h same done (omega (arith, small))

@@ -4,9 +4,9 @@ use Rattle.image_gen.proofs.OneHart.{one_hart}
 use Rattle.image_check.specs.Image.{Image}
 use Rattle.tp_io.specs.Sink.{state}
 use Rattle.tp_report.specs.Demo.{demo_text}
-use Rattle.tp_run.specs.declared.status.Status.TheVariants.{Done}
-use Rattle.tp_run.specs.TopCall.{Delivers}
-use Rattle.tp_run.proofs.Answers.{nothing_held}
+use Rattle.tp_answer.specs.declared.status.Status.TheVariants.{Done}
+use Rattle.tp_answer.specs.TopCall.{Delivers}
+use Rattle.tp_answer.proofs.Answers.{nothing_held}
 use Rattle.tp_run.proofs.generate.run_demo.Goals as goal
 
 pub returns-in-Err : goal.returns-in-Err

@@ -3,9 +3,9 @@ use Rattle.image_record.specs.Record as text
 use Rattle.image_check.specs.Image.{image_from}
 use Rattle.tp_io.specs.Sink.{state}
 use Rattle.tp_report.specs.Demo.{demo_after, demo_text}
-use Rattle.tp_run.specs.declared.status.Status.TheVariants.{Done}
-use Rattle.tp_run.specs.TopCall.{Delivers}
-use Rattle.tp_run.proofs.Answers.{delivered, nothing_held}
+use Rattle.tp_answer.specs.declared.status.Status.TheVariants.{Done}
+use Rattle.tp_answer.specs.TopCall.{Delivers}
+use Rattle.tp_answer.proofs.Answers.{delivered, nothing_held}
 use Rattle.tp_run.proofs.generate.run_image_of.Goals as goal
 
 pub returns-in-Err : goal.returns-in-Err

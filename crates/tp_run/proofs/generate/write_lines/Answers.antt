@@ -2,7 +2,7 @@ use Rattle.std.proofs.Common.{length, rules}
 use Rattle.std.proofs.lemmas.Result.{err_from_is_err_and}
 use Rattle.image_check.specs.Image.{image_from}
 use Rattle.tp_report.specs.Demo.{demo_line, demo_lines}
-use Rattle.tp_run.proofs.Numbers.{number_sent, cut_in_number, numbers_sent}
+use Rattle.tp_answer.proofs.Numbers.{number_sent, cut_in_number, numbers_sent}
 use Rattle.tp_run.proofs.generate.write_lines.Goals as goal
 
 pub returns-in_err-write_demo : goal.returns-in_err-write_demo

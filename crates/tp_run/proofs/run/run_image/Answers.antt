@@ -8,11 +8,11 @@ use Rattle.hart_orders.specs.declared.choice.Choice.{Choice}
 use Rattle.tp_io.specs.Sink.{state}
 use Rattle.tp_report.specs.Report as machine
 use Rattle.tp_report.specs.Report.{report_of}
-use Rattle.tp_run.specs.Runs.{report}
-use Rattle.tp_run.specs.declared.status.Status.TheVariants.{Done}
-use Rattle.tp_run.specs.TopCall.{Delivers}
-use Rattle.tp_run.proofs.Answers.{delivered, nothing_held}
-use Rattle.tp_run.proofs.Runs.{after_one, after_many}
+use Rattle.tp_answer.specs.Runs.{report}
+use Rattle.tp_answer.specs.declared.status.Status.TheVariants.{Done}
+use Rattle.tp_answer.specs.TopCall.{Delivers}
+use Rattle.tp_answer.proofs.Answers.{delivered, nothing_held}
+use Rattle.tp_answer.proofs.Runs.{after_one, after_many}
 use Rattle.tp_run.proofs.run.run_image.Goals as goal
 
 pub returns-then-has_one_hart : goal.returns-then-has_one_hart

@@ -4,7 +4,7 @@ use Rattle.image_check.specs.Image.{Image, own_of}
 use Rattle.world_view.specs.View.{view_in}
 use Rattle.tp_io.specs.Sends.{Sends}
 use Rattle.tp_io.specs.Sink.{state}
-use Rattle.tp_run.proofs.Reports.{section_of_is}
+use Rattle.tp_answer.proofs.Reports.{section_of_is}
 use Rattle.tp_run.proofs.run.write_domain.Goals as goal
 
 pub returns : goal.returns

@@ -1,7 +1,7 @@
 use Rattle.std.proofs.Common.{length, ap, ◌∙◌, sym}
 use Rattle.image_check.specs.Public.{Public}
 use Rattle.image_check.specs.Image.{Image}
-use Rattle.tp_run.proofs.Reports.{kept_ending}
+use Rattle.tp_answer.proofs.Reports.{kept_ending}
 use Rattle.tp_run.proofs.run.write_ending.Goals as goal
 
 pub write_switches-requires : goal.write_switches-requires

@@ -1,6 +1,6 @@
 use Rattle.std.proofs.lemmas.Result.{err_from_is_err_and}
 use Rattle.tp_io.proofs.InTurn.{then_sends, cut_in_first}
-use Rattle.tp_run.proofs.Reports.{report_parts}
+use Rattle.tp_answer.proofs.Reports.{report_parts}
 use Rattle.tp_run.proofs.run.write_report.Goals as goal
 
 pub returns-in_err-write_sections : goal.returns-in_err-write_sections

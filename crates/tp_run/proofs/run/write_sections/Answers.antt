@@ -2,7 +2,7 @@ use Rattle.std.proofs.Common.{length, rules}
 use Rattle.std.proofs.lemmas.Result.{err_from_is_err_and}
 use Rattle.world_view.specs.View.{view_in}
 use Rattle.tp_report.specs.Report.{section_of, sections}
-use Rattle.tp_run.proofs.Numbers.{number_sent, cut_in_number, numbers_sent}
+use Rattle.tp_answer.proofs.Numbers.{number_sent, cut_in_number, numbers_sent}
 use Rattle.tp_run.proofs.run.write_sections.Goals as goal
 
 pub returns-in_err-write_domain : goal.returns-in_err-write_domain

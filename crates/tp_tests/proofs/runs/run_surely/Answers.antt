@@ -1,7 +1,7 @@
 use Rattle.std.proofs.Common.{◌≡◌, ◌-◌, ◌≤◌, length, Some, inl, inr, ap, arith}
 use Rattle.tp_io.specs.Causes.{Rose}
 use Rattle.tp_io.specs.Objects.{surely_taken}
-use Rattle.tp_run.specs.Answer.{answer}
+use Rattle.tp_answer.specs.Answer.{answer}
 use Rattle.tp_tests.proofs.runs.run_surely.Goals as goal
 use Rattle.tp_words.specs.Words.{words_of}
 

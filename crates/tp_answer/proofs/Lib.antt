@@ -1,0 +1,7 @@
+pub mod Accepting
+pub mod Answers
+pub mod Commands
+pub mod Reports
+pub mod Numbers
+pub mod Runs
+pub mod Told

@@ -1,0 +1,198 @@
+-- What the top call answers, and what it does to its source and its sink.
+use Rattle.std.specs.Prelude.{◌≡◌, ◌≢◌, ℕ, ◌+◌, ◌<◌, ◌≤◌, ◌⊎◌, ⊤, false, List, [], length, slice_get, Option, Some, None, Ok}
+use Rattle.tp_io.specs.Bytes.{before_known, after_known, AtEnd, PutsFront}
+use Rattle.tp_io.specs.Causes.{TellsFault}
+use Rattle.tp_io.specs.Sends.{SinkState}
+use Rattle.tp_io.specs.Sure.{Exceeds}
+use Rattle.guards.specs.declared.Guard.{Guard}
+use Rattle.image_record.specs.declared.refusal.Refusal.{Refusal}
+use Rattle.image_record.specs.Record as text
+use Rattle.image_text.specs.Record.{image_of}
+use Rattle.image_gen.specs.Generated.{generated}
+use Rattle.image_gen.specs.Text.{text as generated_text}
+use Rattle.image_check.specs.Checking.{broken, broken_but_pads}
+use Rattle.image_check.specs.Image.{Image, image_from}
+use Rattle.image_reading.specs.Reading.{most_bytes, image}
+use Rattle.sched_table.specs.Schedule.{entry_in, start, harts_in}
+use Rattle.world_view.specs.Machine.{clock_of, switch, whole}
+use Rattle.world_view.specs.View.{view_in}
+use Rattle.world_view.specs.Harts.{progress_of, slots_of, start_on, next, harts, view_alone_on}
+use Rattle.world_view.specs.HartLaws.{AreHartsOf}
+use Rattle.world_view.specs.Relations.{IsDomain, AllWithinPads}
+use Rattle.world_view.specs.Used.{largest_of}
+use Rattle.hart_orders.specs.declared.choice.Choice.{Choice}
+use Rattle.tp_report.specs.Report.{report_off, section_of, bounds_of, accepted_text, usage_text, refusal_text}
+use Rattle.tp_report.specs.Demo.{demo_text}
+use Rattle.tp_words.specs.declared.Command.{Command}
+use Rattle.tp_words.specs.declared.Command.TheVariants.{Alone, Ablate}
+use Rattle.tp_answer.specs.declared.status.Status.{Status}
+use Rattle.tp_answer.specs.declared.status.Status.TheVariants.{Usage, ReadFault, WriteFault, Memory}
+use Rattle.tp_answer.specs.Reading.{broken_in}
+use Rattle.tp_words.specs.Words.{Reads, command}
+use Rattle.tp_answer.specs.Runs.{world_after, report_apart, section_alone}
+use Rattle.tp_answer.specs.Answer.{Answer, answer}
+
+-- ---- what is written
+
+-- what stands in the sink after a status, where this answer is due
+abbrev pub Writes : Status → Answer → Option (List ℕ) → Option (List ℕ) → Type 0
+Writes ReadFault due old new = new ≡ old
+Writes Memory due old new = new ≡ old
+Writes WriteFault due old new = PutsFront old new due.1
+Writes status due old new = (status ≡ due.0) × (new ≡ after_known old due.1)
+
+-- how words that are no command end: the usage line was written, or a front of it where the sink failed, or nothing
+abbrev pub EndsUsage : Status → Option (List ℕ) → Option (List ℕ) → Type 0
+EndsUsage Usage old new = new ≡ after_known old usage_text
+EndsUsage WriteFault old new = PutsFront old new usage_text
+EndsUsage Memory old new = new ≡ old
+EndsUsage _ old new = ⊥
+
+-- words that may have the usage line: they are no command, or name a domain, which the image may lack, or a guard, which
+-- an image of several harts can't do without
+abbrev pub MayBeUsage : Option Command → Type 0
+MayBeUsage None = ⊤
+MayBeUsage (Some (Alone d n)) = ⊤
+MayBeUsage (Some (Ablate off n)) = ⊤
+MayBeUsage (Some _) = ⊥
+
+-- no read failed: the answer that is due was written, unless memory ran out or the sink failed,
+-- which it does only where the text is longer than what it surely takes
+pub record Delivers (due : Answer) (status : Status) (old new : SinkState) : Type 0 where
+  pub wrote : Writes status due old.written new.written
+  pub no_read : status ≢ ReadFault
+  pub fault : TellsFault (status ≡ WriteFault) old.faults new.faults
+  pub short : status ≡ WriteFault → Exceeds old.sure due.1
+
+-- the status that is due, or want of memory
+abbrev pub ComesTo : Answer → Status → Type 0
+ComesTo due status = (status ≡ due.0) ⊎ (status ≡ Memory)
+
+-- ---- what is read
+
+-- one byte more was taken than an image may have
+pub record IsOver (left left' : Option (List ℕ)) : Type 0 where
+  pub bytes : List ℕ
+  pub took : left ≡ before_known bytes left'
+  pub many : length bytes ≡ most_bytes + 1
+
+-- neither a read failed nor memory ran out: the source had these bytes, and the answer to them was due
+pub record Answered (words : List (List ℕ)) (status : Status) (left left' written written' : Option (List ℕ)) : Type 0 where
+  pub bytes : List ℕ
+  pub took : left ≡ before_known bytes left'
+  pub whole : (c : Command) → command words ≡ Some c → Reads c → length bytes ≤ most_bytes → AtEnd left'
+  pub few : length bytes ≤ most_bytes + 1
+  pub wrote : Writes status (answer words bytes) written written'
+
+-- all that the source gave
+pub record ReadsAll (left left' : Option (List ℕ)) : Type 0 where
+  pub bytes : List ℕ
+  pub took : left ≡ before_known bytes left'
+  pub whole : AtEnd left'
+  pub few : length bytes ≤ most_bytes
+
+-- ---- rules
+
+-- it breaks a rule, and the first one is what was written; where the bound is asked for, that of pads is left out
+pub record Refuses (c : Command) (left left' written written' : Option (List ℕ)) : Type 0 where
+  pub all : ReadsAll left left'
+  pub item : Refusal
+  pub first : slice_get (broken_in c (image_of all.bytes)) 0 ≡ Some item
+  pub wrote : written' ≡ after_known written (refusal_text item)
+
+-- it breaks no rule, and that is what was written
+pub record Accepts (left left' written written' : Option (List ℕ)) : Type 0 where
+  pub all : ReadsAll left left'
+  pub record_of : text.Raw
+  pub read : image_of all.bytes ≡ Ok record_of
+  pub unbroken : broken record_of ≡ []
+  pub wrote : written' ≡ after_known written accepted_text
+
+-- it breaks no rule but that of pads, and the bounds on its switches are what was written
+pub record Bounds (left left' written written' : Option (List ℕ)) : Type 0 where
+  pub all : ReadsAll left left'
+  pub record_of : text.Raw
+  pub read : image_of all.bytes ≡ Ok record_of
+  pub unbroken : broken_but_pads record_of ≡ []
+  pub wrote : written' ≡ after_known written (bounds_of (image_from record_of))
+
+-- ---- a run that was done
+
+-- all that the source gave, and the image that it is
+pub record ReadsImage (left left' : Option (List ℕ)) : Type 0 where
+  pub bytes : List ℕ
+  pub found : Image
+  pub took : left ≡ before_known bytes left'
+  pub whole : AtEnd left'
+  pub few : length bytes ≤ most_bytes
+  pub read : image bytes ≡ Ok found
+
+-- each section that was written is that of its domain alone, by the entries of its hart
+pub record Isolated (c : Choice) (slots : ℕ) (left left' written written' : Option (List ℕ)) : Type 0 where
+  pub ran : ReadsImage left left'
+  pub wrote : written' ≡ after_known written (report_apart ran.found c slots)
+  pub views : (d : ℕ) → IsDomain ran.found d → view_in ran.found d (world_after ran.found c slots) ≡ view_alone_on ran.found d slots
+
+-- no switch overran its pad, no switch line says more than its pad, and each slot began at exactly its start: of one hart
+-- slot k, and of several the next of each, whatever the order before
+pub record Padded (c : Choice) (slots : ℕ) (left left' : Option (List ℕ)) : Type 0 where
+  pub ran : ReadsImage left left'
+  pub used : AllWithinPads ran.found.all.schedule (world_after ran.found c slots).used
+  pub lines : (e : ℕ) → largest_of e (world_after ran.found c slots).used ≤ (entry_in ran.found.all.schedule e).pad
+  pub starts : (k : ℕ) → clock_of 0 (switch ran.found k (whole ran.found k)) ≡ start ran.found.all.schedule k
+  pub harts_start : (h : ℕ) (order : List ℕ) → AreHartsOf ran.found order → h < harts_in ran.found.all.schedule →
+      let s = harts ran.found order in
+      (progress_of h s).inside ≡ false → clock_of h (next ran.found h s).world ≡ start_on ran.found h (slots_of h s)
+
+-- ---- a domain alone
+
+-- the image lacks the domain that is named, and the usage line was written
+pub record LacksDomain (d : ℕ) (left left' written written' : Option (List ℕ)) : Type 0 where
+  pub ran : ReadsImage left left'
+  pub lacks : length ran.found.owns ≤ d
+  pub wrote : written' ≡ after_known written usage_text
+
+-- what is seen of the domain alone was written
+pub record WritesSection (d slots : ℕ) (left left' written written' : Option (List ℕ)) : Type 0 where
+  pub ran : ReadsImage left left'
+  pub domain : IsDomain ran.found d
+  pub wrote : written' ≡ after_known written (section_alone ran.found d slots)
+
+-- its section in the report of the whole machine was written, however the harts of that are chosen
+pub record SameSection (d slots : ℕ) (left left' written written' : Option (List ℕ)) : Type 0 where
+  pub ran : ReadsImage left left'
+  pub domain : IsDomain ran.found d
+  pub wrote : (c : Choice) → written' ≡ after_known written
+      (section_of ran.found (λ e. view_in ran.found e (world_after ran.found c slots)) d)
+
+-- ---- a run with a guard off
+
+-- the image has several harts, and the usage line was written
+pub record HasManyHarts (left left' written written' : Option (List ℕ)) : Type 0 where
+  pub ran : ReadsImage left left'
+  pub many : harts_in ran.found.all.schedule ≢ 1
+  pub wrote : written' ≡ after_known written usage_text
+
+-- it has one; which guard is off, and the report of the machine without it, were written
+pub record WritesOff (off : Guard) (slots : ℕ) (left left' written written' : Option (List ℕ)) : Type 0 where
+  pub ran : ReadsImage left left'
+  pub one : harts_in ran.found.all.schedule ≡ 1
+  pub wrote : written' ≡ after_known written (report_off off ran.found slots)
+
+-- ---- the image that a seed makes
+
+-- its text reads as its record
+abbrev pub ReadsBack : ℕ → Type 0
+ReadsBack seed = image_of (generated_text seed) ≡ Ok (generated seed)
+
+-- a text that reads as the seed's record was written, and that record breaks no rule
+pub record Generates (seed : ℕ) (written written' : Option (List ℕ)) : Type 0 where
+  pub bytes : List ℕ
+  pub wrote : written' ≡ after_known written bytes
+  pub read : image_of bytes ≡ Ok (generated seed)
+  pub unbroken : broken (generated seed) ≡ []
+
+-- the seed's record breaks no rule, and the summary of its run was written
+pub record Summarizes (seed : ℕ) (written written' : Option (List ℕ)) : Type 0 where
+  pub unbroken : broken (generated seed) ≡ []
+  pub wrote : written' ≡ after_known written (demo_text (image_from (generated seed)) seed)
