@@ -1,12 +1,12 @@
 -- The rules one by one, and the counts that they bound.
-use Rattle.std.proofs.Common.{◌≡◌, ◌≤◌, List, [], ◌∷◌, length, Option, Some, None, Result, Ok, Err, refl, sym, ap, subst, ◌∙◌, ◌⊎◌, inl, inr, arith}
+use Rattle.std.proofs.Common.{◌≡◌, ◌≤◌, ℕ, map, List, [], ◌∷◌, length, Option, Some, None, Result, Ok, Err, refl, sym, ap, subst, ◌∙◌, ◌⊎◌, inl, inr, arith}
 use Rattle.std.specs.Prelude.{nat_eq, slice_get, IfErr}
 use Rattle.std.specs.Result.{IsErrAnd}
 use Rattle.std.proofs.lemmas.List.{length-map}
 use Rattle.image_record.specs.declared.refusal.Refusal.{Refusal}
 use Rattle.image_record.specs.declared.refusal.ReadRefusal.{ReadRefusal}
 use Rattle.image_record.specs.declared.refusal.ReadRefusal.TheVariants.{Broken, Memory}
-use Rattle.image_record.specs.Outcomes.{IsVerdictOrMemory}
+use Rattle.image_record.specs.Outcomes.{IsVerdictOrMemory, Makes}
 use Rattle.image_check.specs.Outcomes.{IsFirst}
 use Rattle.image_record.specs.declared.raw.Raw as declared
 use Rattle.image_record.specs.Models.{raw_model}
@@ -20,6 +20,10 @@ use Rattle.domain_check.specs.Calls.{k18}
 use Rattle.image_check.specs.Pads.{k17}
 use Rattle.schedule_check.specs.Harts.{k19}
 use Rattle.schedule_check.proofs.Counts.{Within, counted, at_most}
+use Rattle.hardware_check.specs.Hardware.{Hardware, hardware_of}
+use Rattle.sched_table.specs.declared.schedule.Entry.{Entry}
+use Rattle.schedule_check.specs.Schedule.{entry_of}
+use Rattle.image_check.specs.Public.{Public, public_of}
 use Rattle.image_check.specs.Checking.{rules_before_pads, rules_after_pads, ended_by, followed_by, broken_of, broken, broken_but_pads, broken_before_pads}
 use Rattle.image_check.specs.Laws.{Keeps, KeepsButPads, KeepsBeforePads, HasPadsItem, AcceptanceLaw, ButPadsLaw, PadsLaw, ExtensionsLaw}
 use Rattle.image_record.proofs.FirstCases.{or_first}
@@ -27,11 +31,11 @@ use Rattle.hardware_check.proofs.Products.{extensions_said}
 
 -- ---- the list is empty exactly where no rule has a broken case
 
-none_here : (o : Option Refusal) (later : List Refusal) → ended_by o later ≡ [] → o ≡ None
+pub none_here : (o : Option Refusal) (later : List Refusal) → ended_by o later ≡ [] → o ≡ None
 none_here None later e = refl
 none_here (Some r) later e = cc
 
-none_later : (o : Option Refusal) (later : List Refusal) → ended_by o later ≡ [] → later ≡ []
+pub none_later : (o : Option Refusal) (later : List Refusal) → ended_by o later ≡ [] → later ≡ []
 none_later None later e = e
 none_later (Some r) later e = cc
 
@@ -202,7 +206,7 @@ first_ended : (o : Option Refusal) (r : Refusal) (rest later : List Refusal) →
 first_ended None r rest later more e = more e
 first_ended (Some q) r rest later more e = e
 
-first_stays : (ks : List (Raw → Option Refusal)) (i : Raw) (r : Refusal) (later : List Refusal)
+pub first_stays : (ks : List (Raw → Option Refusal)) (i : Raw) (r : Refusal) (later : List Refusal)
     → slice_get (broken_of ks i []) 0 ≡ Some r → slice_get (broken_of ks i later) 0 ≡ Some r
 first_stays [] i r later e = cc
 first_stays (k ∷ ks) i r later e = first_ended (k i) r (broken_of ks i []) (broken_of ks i later) (first_stays ks i r later) e
@@ -257,6 +261,16 @@ few_domains i e = (domains_within i (kept_but_pads i e).before.domains).most
 pub few_raw_domains : (raw : declared.Raw) → broken_but_pads (raw_model raw) ≡ [] → length raw.domains.items ≤ 32
 few_raw_domains raw e = omega (arith, length-map raw.domains.items domain_model, few_domains (raw_model raw) e)
 
+-- ---- what all domains may know
+
+pub public_made : (i : Raw) (h : Hardware) (entries : List Entry) (domains : ℕ) → h ≡ hardware_of i → entries ≡ map entry_of i.schedule
+    → domains ≡ length i.domains → record { version = i.version; hardware = h; schedule = entries; domains = domains } ≡ public_of i
+unfolding public_of
+public_made i h entries domains machine said many =
+    ap (λ (p : Hardware). record { version = i.version; hardware = p; schedule = entries; domains = domains }) machine
+    ∙ ap (λ (es : List Entry). record { version = i.version; hardware = hardware_of i; schedule = es; domains = domains }) said
+    ∙ ap (λ (n : ℕ). record { version = i.version; hardware = hardware_of i; schedule = map entry_of i.schedule; domains = n }) many
+
 -- ---- what a `?` hands on
 
 pub first_handed : {A : Type 0} (result : Result A ReadRefusal) (e : ReadRefusal) (due : List Refusal) → IsErrAnd result (λ r. r ≡ e) → IsFirst due e → IfErr result (IsFirst due)
@@ -267,6 +281,13 @@ pub verdict_handed : {A : Type 0} (result : Result A ReadRefusal) (case : Option
 verdict_handed (Ok x) case r h is = absurd h
 verdict_handed (Err Memory) case r h is = tt
 verdict_handed (Err (Broken q)) case r h is = let same : q ≡ r = cc in is ∙ ap Some (sym same)
+
+-- where memory ran out before, or nothing was made
+pub made_handed : {A B X Y : Type 0} (before : A → B) (model : X → Y) (result : Result X ReadRefusal) (e : ReadRefusal) (b : B) (y : Y)
+    → IsErrAnd result (λ r. r ≡ e) → Makes before (Err e) b → Makes model result y
+made_handed before model (Ok x) e b y h made = absurd h
+made_handed before model (Err q) Memory b y h made = subst (λ (r : ReadRefusal). Makes model (Err r) y) (sym h) tt
+made_handed before model (Err q) (Broken r) b y h made = absurd made
 
 -- ---- what is left of the rules
 

@@ -1,4 +1,5 @@
 pub mod Kept
+pub mod Tested
 pub mod Padded
 pub mod OwnSlots
 pub mod Owns

@@ -13,7 +13,7 @@ use Rattle.image_record.specs.Record.{Raw, RawDomain, RawEntry}
 use Rattle.cycle_cost.specs.Costs.{ProductCosts}
 use Rattle.cycle_cost.specs.Ranges.{most_again, most_product}
 use Rattle.kernel_clone.specs.Permissions.{every_call}
-use Rattle.pad_bound.specs.Bound.{IsShape, bound_of}
+use Rattle.pad_bound.specs.Bound.{MachineShape, IsShape, bound_of, with_calls}
 use Rattle.pad_bound.proofs.Written.{few_most}
 use Rattle.sched_table.specs.declared.schedule.Entry.{Entry}
 use Rattle.sched_table.specs.Schedule.{entry_in, no_entry}
@@ -127,3 +127,12 @@ by_calls i earlier e =
 pub k17_by_calls : (i : Raw) → first_in (k17_by (shape_for_every_call (hardware_of i)) (map own_calls i.domains)) i.schedule ≡ k17 i
 unfolding k17
 k17_by_calls i = same_cases (k17_by (shape_for_every_call (hardware_of i)) (map own_calls i.domains)) (k17_entry i) (by_calls i) [] i.schedule
+
+-- an entry's case, of the calls and the bound that the code has of it
+pub k17_by_case : (s : MachineShape) (calls : List ℕ) (earlier : List RawEntry) (e : RawEntry) (leaving total place : ℕ)
+    → leaving ≡ slice_index_or calls (natural_of e.domain) every_call → total ≡ bound_of (with_calls s leaving) → length earlier ≡ place
+    → k17_by s calls earlier e ≡ k17_case total place e
+k17_by_case s calls earlier e leaving total place may bound here =
+    ap (λ (n : ℕ). k17_case (bound_of (with_calls s n)) (length earlier) e) (sym may)
+    ∙ ap (λ (n : ℕ). k17_case n (length earlier) e) (sym bound)
+    ∙ ap (λ (n : ℕ). k17_case total n e) here

@@ -103,10 +103,10 @@ fn own_from(alloc: Global, domain: &RawDomain, part: DomainPart) -> Result<Own, 
 fn owns_in(
     alloc: Global,
     domains: &[RawDomain],
-    mut parts: DomainParts,
+    parts: &mut DomainParts,
 ) -> Result<Vec<Own>, CheckRefusal>
     requires small { All (λ o. spec.IsSmallOwn (domain_model o)) domains.now }
-    requires parts { ArePartsOf parts (map domain_model domains.now) }
+    requires parts { ArePartsOf parts.old (map domain_model domains.now) }
     ensures value { Makes (λ v. map own_model v.items) result
         (map spec.own_from (map domain_model domains.now)) }
 {
@@ -124,10 +124,10 @@ fn owns_in(
 ///
 /// `Memory` alone.
 #[tactic(auto, unfolding(crate::specs::Own::owns_of))]
-pub fn owns_of(alloc: Global, raw: &Raw, parts: DomainParts) -> Result<Vec<Own>, CheckRefusal>
+pub fn owns_of(alloc: Global, raw: &Raw, mut parts: DomainParts) -> Result<Vec<Own>, CheckRefusal>
     requires accepted { broken_but_pads (raw_model raw.now) ≡ [] }
     requires parts { ArePartsOf parts (raw_model raw.now).domains }
     ensures value { Makes (λ v. map own_model v.items) result (spec.owns_of (raw_model raw.now)) }
 {
-    owns_in(alloc, raw.domains.as_slice(), parts)
+    owns_in(alloc, raw.domains.as_slice(), &mut parts)
 }

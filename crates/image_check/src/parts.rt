@@ -1,14 +1,15 @@
 // What the rules before that of pads let through, tested in their order; and the calls of each domain.
-ghost use Rattle.std.specs.Prelude.{◌≡◌, [], ◌∷◌, map, IfOk, IfErr, OnOk};
+ghost use Rattle.std.specs.Prelude.{◌≡◌, ◌≤◌, [], ◌∷◌, map, IfOk, IfErr, OnOk};
 ghost use Rattle.image_record.specs.Models.{raw_model};
 ghost use Rattle.image_check.specs.Outcomes.{IsFirst};
-ghost use Rattle.domain_check.specs.Colours.{own_colours};
+ghost use Rattle.domain_check.specs.Names.{k7 as spec_k7};
+ghost use Rattle.domain_check.specs.Colours.{own_colours, k9 as spec_k9};
 ghost use Rattle.domain_check.specs.Segments.{k12 as spec_k12};
 ghost use Rattle.domain_check.specs.Capabilities.{k13 as spec_k13};
 ghost use Rattle.schedule_check.specs.Interrupts.{k14 as spec_k14, k15 as spec_k15};
 ghost use Rattle.schedule_check.specs.Schedule.{k16 as spec_k16};
-ghost use Rattle.image_check.specs.Checking.{broken_of, broken_before_pads};
-ghost use Rattle.hardware_check.specs.Hardware.{hardware_of};
+ghost use Rattle.image_check.specs.Checking.{k8_in_machine, k10_in_machine, broken_of, broken_before_pads};
+ghost use Rattle.hardware_check.specs.Hardware.{colours_of, hardware_of};
 ghost use Rattle.image_check.specs.Parts.{ArePartsOf};
 ghost use Rattle.image_check.specs.Models.{hardware_model};
 
@@ -54,6 +55,31 @@ fn own_parts(alloc: Global, colours: Vec<Vec<u8>>, raw: &Raw) -> Result<DomainPa
     })
 }
 
+// The colours of each domain, in a machine of so many frames and colours, where no
+// rule of the domains' names, colours and frames is broken.
+fn colours_in(
+    alloc: Global,
+    frames: u32,
+    colours: u32,
+    raw: &Raw,
+) -> Result<Vec<Vec<u8>>, CheckRefusal>
+    requires frames { frames ≡ (hardware_of (raw_model raw.now)).frames }
+    requires colours { colours ≡ colours_of (hardware_of (raw_model raw.now)) }
+    requires some { 2 ≤ colours }
+    requires few { colours ≤ 64 }
+    ensures refused { let rules = spec_k7 ∷ k8_in_machine ∷ spec_k9 ∷ k10_in_machine ∷ [] in
+        IfErr result (IsFirst (broken_of rules (raw_model raw.now) [])) }
+    ensures accepted { let rules = spec_k7 ∷ k8_in_machine ∷ spec_k9 ∷ k10_in_machine ∷ [] in
+        OnOk result (broken_of rules (raw_model raw.now) [] ≡ []) }
+    ensures value { IfOk result (λ c. map (λ v. v.items) c.items ≡ map own_colours (raw_model raw.now).domains) }
+{
+    k7(raw)?;
+    let owns = k8(alloc, colours, raw)?;
+    k9(raw)?;
+    k10(frames, colours, owns.as_slice(), raw)?;
+    Ok(owns)
+}
+
 /// The parts, where no rule before that of pads is broken.
 ///
 /// # Errors
@@ -71,10 +97,7 @@ pub fn parts_of(alloc: Global, raw: &Raw) -> Result<Parts, CheckRefusal>
     let frames = k4(raw)?;
     let colours = k5(raw)?;
     k6(raw)?;
-    k7(raw)?;
-    let owns = k8(alloc, colours, raw)?;
-    k9(raw)?;
-    k10(frames, colours, owns.as_slice(), raw)?;
+    let owns = colours_in(alloc, frames, colours, raw)?;
     let hardware = k11(raw, caches)?;
     let domains = own_parts(alloc, owns, raw)?;
     Ok(Parts { hardware, domains })

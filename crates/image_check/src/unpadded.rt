@@ -134,8 +134,8 @@ fn image_of(
     requires entries { entries.now ≡ map entry_of (raw_model raw).schedule }
     ensures value { Makes (λ u. u) result (raw_model raw) }
 {
-    let public = public_of(alloc, &raw, parts.hardware, entries)?;
     let owns = owns_of(alloc, &raw, parts.domains)?;
+    let public = public_of(alloc, &raw, parts.hardware, entries)?;
     Ok(Unpadded { raw, public, owns })
 }
 

@@ -45,7 +45,6 @@ fn harts_of(alloc: Global, entries: &[Entry]) -> Result<Vec<HartSchedule>, Check
 /// # Errors
 ///
 /// `Memory` alone.
-#[tactic(auto, unfolding(crate::specs::Public::public_of), using(crate::proofs::Kept::few_raw_domains))]
 pub fn public_of(
     alloc: Global,
     raw: &Raw,

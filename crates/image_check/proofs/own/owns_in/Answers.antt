@@ -6,6 +6,9 @@ use Rattle.image_check.specs.Own.{IsSmallOwn, own_from}
 use Rattle.image_check.specs.Parts.{ArePartsOf}
 use Rattle.image_check.specs.Models.{own_model}
 use Rattle.image_check.proofs.FirstParts.{has_first, is_first, are_left, made_more}
+use Rattle.image_check.specs.declared.own.Own.{Own}
+use Rattle.image_record.proofs.Loops.{unmade}
+use Rattle.image_check.proofs.Kept.{made_handed}
 use Rattle.image_check.proofs.own.owns_in.Goals as goal
 
 pub own_from-requires-clause-small : goal.own_from-requires-clause-small
@@ -53,3 +56,18 @@ returns c =
     record {
       value = sym (append-nil made) ∙ ap (λ (os : List RawDomain). made ++ map own_from (map domain_model os)) (sym none) ∙ c.loop-domain.invariant.0;
     }
+
+pub loop-domain-init : goal.loop-domain-init
+loop-domain-init c =
+    let all = map own_from (map domain_model c.args.domains.now) in
+    (ap (λ (owns : List Own). map own_model owns ++ all) c.new-owns.ensures.items, c.requires.parts)
+
+pub bounds-domains-domain-index : goal.bounds-domains-domain-index
+bounds-domains-domain-index c = c.loop-domain-test.true
+
+pub returns-in_err-own_from : goal.returns-in_err-own_from
+returns-in_err-own_from c =
+    record { value = made_handed own_model _ c.from_residual.result c.in_err-own_from.field-0.0 _ _ c.from_residual.ensures.1 c.in_err-own_from.ensures.value }
+
+pub returns-in_err-push : goal.returns-in_err-push
+returns-in_err-push c = record { value = unmade _ c.from_residual-in_err-push.result _ c.from_residual-in_err-push.ensures.1 }
