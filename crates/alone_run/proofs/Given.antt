@@ -17,7 +17,8 @@ use Rattle.world_view.proofs.opening.Separate.{list_is}
 use Rattle.alone_run.specs.Runs.{IsOf, public_for, RunsAlone}
 
 -- one list of colours is apart from all others
-alone_disjoint : (colours : ℕ) (cs : List ℕ) → ((c : ℕ) → has cs c ≡ true → c < colours) → has cs 0 ≡ false → AreDisjoint colours (cs ∷ [])
+alone_disjoint : (colours : ℕ) (cs : List ℕ) → ((c : ℕ) → has cs c ≡ true → c < colours) → has cs 0 ≡ false
+    → AreDisjoint colours (cs ∷ [])
 alone_disjoint colours cs low no_zero = record { in_range = in_range; no_zero = none; apart = apart }
   where
     in_range : (j c : ℕ) → has (list_at (cs ∷ []) j) c ≡ true → c < colours
@@ -49,9 +50,12 @@ runs_alone i r d is =
           (subst (λ (x : Entry). bound_of (shape_for i.all.hardware (own_of i x.domain).calls) ≤ x.pad) (sym placed.same)
           (r.padded (place_on es h e) placed.there));
       colours = alone_disjoint (colours_of i.all.hardware) (own_of i d).colours
-          (λ c h. r.disjoint.in_range d c (ap (λ (cs : List ℕ). has cs c) own ∙ h)) (ap (λ (cs : List ℕ). has cs 0) (sym own) ∙ r.disjoint.no_zero d);
+          (λ c h. r.disjoint.in_range d c (ap (λ (cs : List ℕ). has cs c) own ∙ h))
+          (ap (λ (cs : List ℕ). has cs 0) (sym own) ∙ r.disjoint.no_zero d);
       pool = record { few = omega (arith, most); enough = r.pools d is; sound = r.sound d };
     }
 
 pub runs_of : (p : Public) (o : Own) (d : ℕ) → IsOf p o d → RunsAlone (public_for p d) o d
-runs_of p o d is = subst₂ (λ (q : Public) (x : Own). RunsAlone (public_for q d) x d) (sym is.public) (sym is.own) (runs_alone is.image is.runnable d is.domain)
+runs_of p o d is =
+    subst₂ (λ (q : Public) (x : Own). RunsAlone (public_for q d) x d) (sym is.public) (sym is.own)
+    (runs_alone is.image is.runnable d is.domain)

@@ -53,26 +53,35 @@ facts_of p o k s is = record { buffer = is.leaves; facts = is.facts }
 
 -- ---- touches without charge
 
-makes_all : (h : Hierarchy) (b : Bool) (ts : List Touch) (n : ℕ) (old new : SystemContents AnyPolicy) (c : Caches) → hierarchy_of any_rule old ≡ h → old.core.pinned ≡ b
-    → MakesTouches any_rule any_stands_for ts n old new → SystemStands any_stands_for old c → SystemStands any_stands_for new (touched_all h b c ts).caches
+makes_all : (h : Hierarchy) (b : Bool) (ts : List Touch) (n : ℕ) (old new : SystemContents AnyPolicy)
+    (c : Caches) → hierarchy_of any_rule old ≡ h → old.core.pinned ≡ b
+    → MakesTouches any_rule any_stands_for ts n old new → SystemStands any_stands_for old c
+    → SystemStands any_stands_for new (touched_all h b c ts).caches
 makes_all h b ts n old new c levels pinned made is =
-    subst₂ (λ (l : Hierarchy) (q : Bool). SystemStands any_stands_for new (touched_all l q c ts).caches) levels pinned (made.steps c is).next
+    subst₂ (λ (l : Hierarchy) (q : Bool). SystemStands any_stands_for new (touched_all l q c ts).caches)
+    levels pinned (made.steps c is).next
 
-makes_one : (h : Hierarchy) (b : Bool) (t : Touch) (n : ℕ) (old new : SystemContents AnyPolicy) (c : Caches) → hierarchy_of any_rule old ≡ h → old.core.pinned ≡ b
-    → MakesTouch any_rule any_stands_for t n old new → SystemStands any_stands_for old c → SystemStands any_stands_for new (touched h b c t).caches
+makes_one : (h : Hierarchy) (b : Bool) (t : Touch) (n : ℕ) (old new : SystemContents AnyPolicy) (c : Caches)
+    → hierarchy_of any_rule old ≡ h → old.core.pinned ≡ b
+    → MakesTouch any_rule any_stands_for t n old new → SystemStands any_stands_for old c
+    → SystemStands any_stands_for new (touched h b c t).caches
 makes_one h b t n old new c levels pinned made is =
     subst₂ (λ (l : Hierarchy) (q : Bool). SystemStands any_stands_for new (touched l q c t).caches) levels pinned (made.steps c is).next
 
 -- a fresh core has nothing in its buffer
-empty_is : (h : Hierarchy) (b : Bool) (l2 : Sets) → (touched h b (record { core = fresh_core h; l2 = l2 }) EmptyTlb).caches ≡ record { core = fresh_core h; l2 = l2 }
+empty_is : (h : Hierarchy) (b : Bool) (l2 : Sets)
+    → (touched h b (record { core = fresh_core h; l2 = l2 }) EmptyTlb).caches
+    ≡ record { core = fresh_core h; l2 = l2 }
 unfolding touched on_core fresh_core pass_on below_all
 empty_is h b l2 = refl
 
 -- ---- a slot
 
 module _ (p : Public) (o : Own) {number : ℕ} (runs : RunsAlone p o number) where
-  has_facts : (d k : ℕ) (memory : Contents) (x : Domain) → memory.frames ≡ p.hardware.frames → Holds memory (alone p o d k).storage.mem
-      → Stands x (alone p o d k).dom → Has (estate p.hardware o) x → call.HasFacts (estate p.hardware o) memory (alone p o d k).storage.mem x
+  has_facts : (d k : ℕ) (memory : Contents) (x : Domain) → memory.frames ≡ p.hardware.frames
+      → Holds memory (alone p o d k).storage.mem
+      → Stands x (alone p o d k).dom → Has (estate p.hardware o) x
+      → call.HasFacts (estate p.hardware o) memory (alone p o d k).storage.mem x
   unfolding estate
   has_facts d k memory x frames holds stands has =
       let h = p.hardware in
@@ -83,17 +92,28 @@ module _ (p : Public) (o : Own) {number : ℕ} (runs : RunsAlone p o number) whe
         frames = sym frames;
         has = has;
         holds = holds;
-        facts = subst (λ (slots : Slots). Facts (estate h o).root (is_mine (estate h o)) (claims (estate h o) slots) s.storage.mem) caps (alone_facts p o runs d k).facts;
+        facts =
+            subst (λ (slots : Slots).
+            Facts (estate h o).root (is_mine (estate h o)) (claims (estate h o) slots) s.storage.mem) caps
+            (alone_facts p o runs d k).facts;
       }
 
   -- before the first slot
-  pub opened : (d : ℕ) (memory : Contents) (system : SystemContents AnyPolicy) (x : Domain) → memory.frames ≡ p.hardware.frames → Holds memory (placed p.hardware o empty)
-      → hierarchy_of any_rule system ≡ hierarchy p.hardware → system.core.pinned ≡ true → SystemStands any_stands_for system (cold (hierarchy p.hardware))
+  pub opened : (d : ℕ) (memory : Contents) (system : SystemContents AnyPolicy) (x : Domain)
+      → memory.frames ≡ p.hardware.frames → Holds memory (placed p.hardware o empty)
+      → hierarchy_of any_rule system ≡ hierarchy p.hardware → system.core.pinned ≡ true
+      → SystemStands any_stands_for system (cold (hierarchy p.hardware))
       → ((mem : Mem) (frames root : ℕ) → KeepsLeaves mem frames root system.core.tlb) → IsOpened p.hardware o x
       → Stand p.hardware o (kept memory system x 0) (alone p o d 0)
   unfolding alone alone_opening
   opened d memory system x frames holds levels pinned caches no_leaves is = record {
-    fits = record { kernel = kernel p o runs; sound = is_setting p.hardware o true (kernel p o runs); frames = sym frames; levels = sym levels; pinned = pinned };
+    fits = record {
+      kernel = kernel p o runs;
+      sound = is_setting p.hardware o true (kernel p o runs);
+      frames = sym frames;
+      levels = sym levels;
+      pinned = pinned;
+    };
     dom = is.stands;
     facts = has_facts d 0 memory x frames holds is.stands is.has;
     layout = is.layout;
@@ -104,7 +124,8 @@ module _ (p : Public) (o : Own) {number : ℕ} (runs : RunsAlone p o number) whe
   }
 
   -- the domain has entered: its core is fresh from the end of its last slot on
-  pub begun : (d k : ℕ) (c : Kept) (l : Layout) (empty entered : SystemContents AnyPolicy) (e now : ℕ) → StandsFor p.hardware o (alone p o d k) c
+  pub begun : (d k : ℕ) (c : Kept) (l : Layout) (empty entered : SystemContents AnyPolicy) (e now : ℕ)
+      → StandsFor p.hardware o (alone p o d k) c
       → l ≡ layout p.hardware o
       → MakesTouch any_rule any_stands_for EmptyTlb 0 c.system empty
       → ((mem : Mem) (frames root : ℕ) → KeepsLeaves mem frames root empty.core.tlb)
@@ -136,14 +157,19 @@ module _ (p : Public) (o : Own) {number : ℕ} (runs : RunsAlone p o number) whe
         dom = is.domain.dom;
         facts = has_facts d k c.memory c.domain m.frames m.holds is.domain.dom is.domain.has;
         layout = is.domain.layout;
-        leaves = subst (KeepsLeaves s.storage.mem c.memory.frames c.domain.map) (sym buffer) (no_leaves s.storage.mem c.memory.frames c.domain.map);
-        caches = makes_all h true (enter (layout p.hardware o)) e empty entered (record s.caches { core = fresh_core h }) levels pinned into fresh;
+        leaves =
+            subst (KeepsLeaves s.storage.mem c.memory.frames c.domain.map) (sym buffer)
+            (no_leaves s.storage.mem c.memory.frames c.domain.map);
+        caches =
+            makes_all h true (enter (layout p.hardware o)) e empty entered
+            (record s.caches { core = fresh_core h }) levels pinned into fresh;
         moments = is.domain.moments;
         time = time;
       }
 
 -- the domain has left, and its dirty lines are written back
-pub left : (p : Hardware) (o : Own) (c : Kept) (l : Layout) (gone new : SystemContents AnyPolicy) (n f : ℕ) (s : Local) → Stand p o c s
+pub left : (p : Hardware) (o : Own) (c : Kept) (l : Layout) (gone new : SystemContents AnyPolicy) (n f : ℕ)
+    (s : Local) → Stand p o c s
     → l ≡ layout p o → MakesTouches any_rule any_stands_for (leave c.system.core.costs l) n c.system gone
     → MakesTouch any_rule any_stands_for Flush f gone new
     → ((mem : Mem) (frames root : ℕ) → KeepsLeaves mem frames root new.core.tlb)
@@ -152,7 +178,8 @@ unfolding alone_out hierarchy
 left p o c l gone new n f s is clone leaves flushes no_leaves =
     let h = hierarchy p in
     let out : MakesTouches any_rule any_stands_for (leave p.costs (layout p o)) n c.system gone =
-    subst₂ (λ (t : CostTable) (x : Layout). MakesTouches any_rule any_stands_for (leave t x) n c.system gone) (costs_are p c.system is.fits.levels) clone leaves in
+    subst₂ (λ (t : CostTable) (x : Layout). MakesTouches any_rule any_stands_for (leave t x) n c.system gone)
+    (costs_are p c.system is.fits.levels) clone leaves in
     let caches = makes_all h true (leave p.costs (layout p o)) n c.system gone s.caches (sym is.fits.levels) is.fits.pinned out is.caches in
     record {
       fits = record {
@@ -173,5 +200,6 @@ left p o c l gone new n f s is clone leaves flushes no_leaves =
       time = is.time;
     }
   where
-    costs_are : (p : Hardware) (system : SystemContents AnyPolicy) → hierarchy p ≡ hierarchy_of any_rule system → system.core.costs ≡ p.costs
+    costs_are : (p : Hardware) (system : SystemContents AnyPolicy)
+        → hierarchy p ≡ hierarchy_of any_rule system → system.core.costs ≡ p.costs
     costs_are p system levels = ap (λ (h : Hierarchy). h.costs) (sym levels)

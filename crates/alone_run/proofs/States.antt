@@ -26,11 +26,14 @@ module _ (p : Public) (o : Own) {number : ℕ} (runs : RunsAlone p o number) whe
   kernel = kernel_is p.hardware o runs.pool.enough runs.pool.sound runs.hardware (runs.colours.no_zero 0)
 
   timed : IsTimed p.hardware
-  timed = let base = runs.hardware.costs.base in let trap = runs.hardware.costs.trap in record { base = omega (arith, base); trap = omega (arith, trap) }
+  timed =
+      let base = runs.hardware.costs.base in
+      let trap = runs.hardware.costs.trap in record { base = omega (arith, base); trap = omega (arith, trap) }
 
   -- ---- facts
 
-  facts_if : (k : ℕ) (s : Local) (b : Bool) → HasFacts p.hardware o s.dom s.storage → HasFacts p.hardware o (alone_if p o k s b).dom (alone_if p o k s b).storage
+  facts_if : (k : ℕ) (s : Local) (b : Bool) → HasFacts p.hardware o s.dom s.storage
+      → HasFacts p.hardware o (alone_if p o k s b).dom (alone_if p o k s b).storage
   unfolding alone_if alone_out alone_in alone_enter
   facts_if k s true h = (steps_keep p.hardware o kernel true (slot_end p.schedule k) _ s.storage (alone_enter p o k s) (record { facts = h; outside = λ f out. refl })).facts
   facts_if k s false h = h
@@ -52,12 +55,15 @@ module _ (p : Public) (o : Own) {number : ℕ} (runs : RunsAlone p o number) whe
   slot_soon k s =
       let within = instruction_within p.hardware o 0 s.dom s.storage in
       let base = timed.base in
-      stretch_soon p.hardware timed o true (slot_end p.schedule k) (alone_enter p o k s) (record { clock = omega (arith, within, base); ways = entered_ways k s })
+      stretch_soon p.hardware timed o true (slot_end p.schedule k) (alone_enter p o k s)
+      (record { clock = omega (arith, within, base); ways = entered_ways k s })
 
-  pad_enough : (k : ℕ) → (entry_of_slot p.schedule k).domain ≡ number → bound p.hardware o ≤ pad_of p.schedule (suc k)
+  pad_enough : (k : ℕ) → (entry_of_slot p.schedule k).domain ≡ number
+      → bound p.hardware o ≤ pad_of p.schedule (suc k)
   pad_enough k own = runs.padded (k % length p.schedule) (mod-lt k runs.schedule.some) own
 
-  early_if : (k : ℕ) (s : Local) (b : Bool) → (entry_of_slot p.schedule k).domain == number ≡ b → s.clock ≤ start p.schedule k → (alone_if p o k s b).clock ≤ start p.schedule (suc k)
+  early_if : (k : ℕ) (s : Local) (b : Bool) → (entry_of_slot p.schedule k).domain == number ≡ b
+      → s.clock ≤ start p.schedule k → (alone_if p o k s b).clock ≤ start p.schedule (suc k)
   unfolding alone_if alone_out start bound_of
   early_if k s true own h =
       let soon = (slot_soon k s).clock in
@@ -73,23 +79,27 @@ module _ (p : Public) (o : Own) {number : ℕ} (runs : RunsAlone p o number) whe
 
 -- ---- its core is fresh between its slots
 
-fresh_if : (p : Public) (o : Own) (k : ℕ) (s : Local) (b : Bool) → s.caches.core ≡ fresh_core (hierarchy p.hardware)
+fresh_if : (p : Public) (o : Own) (k : ℕ) (s : Local) (b : Bool)
+    → s.caches.core ≡ fresh_core (hierarchy p.hardware)
     → (alone_if p o k s b).caches.core ≡ fresh_core (hierarchy p.hardware)
 unfolding alone_if alone_out touched on_core flushed pass_on
 fresh_if p o k s true fresh = refl
 fresh_if p o k s false fresh = fresh
 
-pub alone_fresh : (p : Public) (o : Own) (d k : ℕ) → (alone p o d k).caches.core ≡ fresh_core (hierarchy p.hardware)
+pub alone_fresh : (p : Public) (o : Own) (d k : ℕ)
+    → (alone p o d k).caches.core ≡ fresh_core (hierarchy p.hardware)
 unfolding alone alone_opening cold
 alone_fresh p o d zero = refl
 alone_fresh p o d (suc k) = fresh_if p o k (alone p o d k) ((entry_of_slot p.schedule k).domain == d) (alone_fresh p o d k)
 
 -- ---- a slot by whose it is
 
-pub others_slot : (p : Public) (o : Own) (d k : ℕ) → (entry_of_slot p.schedule k).domain ≢ d → alone p o d (suc k) ≡ alone p o d k
+pub others_slot : (p : Public) (o : Own) (d k : ℕ) → (entry_of_slot p.schedule k).domain ≢ d
+    → alone p o d (suc k) ≡ alone p o d k
 unfolding alone alone_if
 others_slot p o d k other = ap (alone_if p o k (alone p o d k)) (ne_eqb (entry_of_slot p.schedule k).domain d other)
 
-pub own_slot : (p : Public) (o : Own) (d k : ℕ) → (entry_of_slot p.schedule k).domain ≡ d → alone p o d (suc k) ≡ alone_out p.hardware o (alone_in p o k (alone p o d k))
+pub own_slot : (p : Public) (o : Own) (d k : ℕ) → (entry_of_slot p.schedule k).domain ≡ d
+    → alone p o d (suc k) ≡ alone_out p.hardware o (alone_in p o k (alone p o d k))
 unfolding alone alone_if
 own_slot p o d k own = ap (alone_if p o k (alone p o d k)) (eq-eqb (entry_of_slot p.schedule k).domain d own)

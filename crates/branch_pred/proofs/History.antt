@@ -47,7 +47,8 @@ shifts (suc n) outcomes taken =
     let whole : 2 * binary_number (take (suc n) outcomes) + digit taken ≡ more.0 * 2 ^ suc n + low = omega (arith, more.1, product) in
     ap (λ (k : ℕ). k % 2 ^ suc n) whole ∙ mod_low more.0 (suc n) low (omega (arith, double, small, one))
 
-pub last_outcomes : (n : ℕ) (outcomes : List Bool) → history_after n outcomes ≡ binary_number (take n outcomes)
+pub last_outcomes : (n : ℕ) (outcomes : List Bool)
+    → history_after n outcomes ≡ binary_number (take n outcomes)
 last_outcomes zero [] = refl
 last_outcomes (suc n) [] = refl
 last_outcomes n (taken ∷ outcomes) =

@@ -53,7 +53,8 @@ shifted outcomes history taken = (2 * history + (if taken then 1 else 0)) % 2 ^ 
 abbrev pub learned : Guesses → ℕ → Bool → Guesses
 learned guesses pc taken =
     record guesses {
-      counters = slice_set guesses.counters (counter_place guesses pc) (next_counter taken (counter_of guesses pc));
+      counters =
+          slice_set guesses.counters (counter_place guesses pc) (next_counter taken (counter_of guesses pc));
       history = shifted guesses.outcomes guesses.history taken;
     }
 

@@ -72,11 +72,13 @@ revoke_works : (e : Estate) (d : Dom) (a : ℕ) → Works d 8 (revoke e d a)
 unfolding revoke with_caps
 revoke_works e d a =
     filled_works d 8 a _ (λ c below.
-    unmap_all_works d 8 refl e.root (emptied_at d.caps a) (with_caps (revoked d.caps a) d) (revoked_count d.caps a) (few_emptied d a below) refl)
+    unmap_all_works d 8 refl e.root (emptied_at d.caps a) (with_caps (revoked d.caps a) d)
+    (revoked_count d.caps a) (few_emptied d a below) refl)
 
 -- ---- a call by its number
 
-by_number : (d : Dom) (number k : ℕ) (x y : Act Dom) → Works d k x → Works d number y → Works d number (if nat_eq number k then x else y)
+by_number : (d : Dom) (number k : ℕ) (x y : Act Dom) → Works d k x → Works d number y
+    → Works d number (if nat_eq number k then x else y)
 by_number d number k x y h g = by_test (nat_eq number k) refl
   where
     by_test : (b : Bool) → nat_eq number k ≡ b → Works d number (if b then x else y)
@@ -125,7 +127,8 @@ no_entries number large =
       ne_eqb number 7 (λ e. absurd (omega (arith, above, e))),
     ) refl
 
-call_work : (d : Dom) (number : ℕ) (v : Dom ⊎ Dom) (ns : List Note) → IsWork d number v ns → IsCallWork (work_of number ns)
+call_work : (d : Dom) (number : ℕ) (v : Dom ⊎ Dom) (ns : List Note) → IsWork d number v ns
+    → IsCallWork (work_of number ns)
 unfolding work_of
 call_work d number v ns w = by_test (nat_le number 14) refl
   where
@@ -146,7 +149,8 @@ call_work d number v ns w = by_test (nat_le number 14) refl
           few = let few = w.few in omega (arith, few, none);
         }
 
-pub call_of_bounded : (e : Estate) (d : Dom) (m : Mem) (number a b c : ℕ) → IsCallWork (work_of number (call_of e d number a b c m).notes)
+pub call_of_bounded : (e : Estate) (d : Dom) (m : Mem) (number a b c : ℕ)
+    → IsCallWork (work_of number (call_of e d number a b c m).notes)
 call_of_bounded e d m number a b c =
     call_work d number (call_of e d number a b c m).value (call_of e d number a b c m).notes ((call_of_works e d number a b c).each m)
 
@@ -175,7 +179,8 @@ calls_bounded e d m =
     call_of_bounded e d m (number_made e d) (register regs 10) (register regs 11) (register regs 12)
 
 -- an operation below those of the kernel's own is that of a call which the domain may make
-made_permitted : (calls number : ℕ) → op_of (permitted calls number) < delivery_op → may_make calls (op_of (permitted calls number)) ≡ true
+made_permitted : (calls number : ℕ) → op_of (permitted calls number) < delivery_op
+    → may_make calls (op_of (permitted calls number)) ≡ true
 made_permitted calls number = by_test (may_make calls number) refl
   where
     by_test : (b : Bool) → may_make calls number ≡ b → let n = if b then number else bad_call_op in
@@ -215,6 +220,7 @@ own_work e (Note.Emptied ∷ ns) all =
     let later = own_work e ns (All-tail (IsOwnWork e) Note.Emptied ns all) in
     record { zeroed = later.zeroed; entries = later.entries }
 
-pub call_of_own : (e : Estate) (d : Dom) (m : Mem) (number a b c : ℕ) → Kept e d m → LiesInOwn e (call_of e d number a b c m).notes
+pub call_of_own : (e : Estate) (d : Dom) (m : Mem) (number a b c : ℕ) → Kept e d m
+    → LiesInOwn e (call_of e d number a b c m).notes
 call_of_own e d m number a b c h =
     own_work e _ (any_call e m d m m (record { same = λ f own. refl; outside = λ f out. refl }) (ready e d m h) number a b c).work

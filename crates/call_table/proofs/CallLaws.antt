@@ -30,7 +30,8 @@ unfolding claim_of
 empty_claim None h = refl
 empty_claim (Some c) h = absurd (cc h)
 
-pub page_claim : (x : Cap) (page : Page) → page_in x ≡ Some page → claim_of (Some x) ≡ Leaf true page.frame (entry_places page.mapped)
+pub page_claim : (x : Cap) (page : Page) → page_in x ≡ Some page
+    → claim_of (Some x) ≡ Leaf true page.frame (entry_places page.mapped)
 unfolding claim_of
 page_claim (cap.Frame f rights w) page h =
     let same : record { frame = f; rights = rights; mapped = w } ≡ page = cc h in
@@ -47,7 +48,8 @@ page_noted (cap.Frame f rights w) page at h =
 page_noted (cap.Table f w) page at h = absurd (cc h)
 page_noted (cap.Irq line) page at h = absurd (cc h)
 
-pub table_claim : (x : Cap) (t : TableCap) → table_in x ≡ Some t → claim_of (Some x) ≡ Directory t.frame (region_of t.installed)
+pub table_claim : (x : Cap) (t : TableCap) → table_in x ≡ Some t
+    → claim_of (Some x) ≡ Directory t.frame (region_of t.installed)
 unfolding claim_of
 table_claim (cap.Frame f rights w) t h = absurd (cc h)
 table_claim (cap.Table f w) t h =
@@ -78,13 +80,15 @@ no_region w h = ap region_of (none_there w h)
 
 -- ---- ALLOC
 
-fresh_is : (t : Bool) (f : ℕ) → (claim_of (Some (if t then cap.Frame f 7 None else cap.Table f None)) ≡ Leaf true f None)
+fresh_is : (t : Bool) (f : ℕ)
+    → (claim_of (Some (if t then cap.Frame f 7 None else cap.Table f None)) ≡ Leaf true f None)
     ⊎ (claim_of (Some (if t then cap.Frame f 7 None else cap.Table f None)) ≡ Directory f None)
 unfolding claim_of entry_places region_of
 fresh_is true f = inl refl
 fresh_is false f = inr refl
 
-pub alloc_facts : (e : Estate) (d : Dom) (m : Mem) (a b f : ℕ) → Kept e d m → a < 64 → not (is_filled (cap_at d.caps a)) ≡ true
+pub alloc_facts : (e : Estate) (d : Dom) (m : Mem) (a b f : ℕ) → Kept e d m → a < 64
+    → not (is_filled (cap_at d.caps a)) ≡ true
     → least_free e d.caps ≡ Some f
     → FactsWith e d a (claim_of (Some (fresh_cap b f))) (zeroed_frame m f)
 alloc_facts e d m a b f h below empty least =
@@ -104,12 +108,14 @@ alloc_ends e d m a b h =
     (give_ends e _ _ (kept_with e d m (zeroed_frame m f) a (Some (fresh_cap b f)) 0 h below
     (alloc_facts e d m a b f h below empty least)))))))
 
-pub alloc_keeps : (e : Estate) (d : Dom) (m : Mem) (a b : ℕ) → IsEstate e → Kept e d m → LeavesKept e (alloc e d a b m)
+pub alloc_keeps : (e : Estate) (d : Dom) (m : Mem) (a b : ℕ) → IsEstate e → Kept e d m
+    → LeavesKept e (alloc e d a b m)
 alloc_keeps e d m a b s h = (alloc_ends e d m a b h).kept
 
 -- ---- TABLE
 
-install_tests : (a t : Bool) (x y : MapRefusal) → (if not a then Some x else (if t then Some y else None)) ≡ None → t ≡ false
+install_tests : (a t : Bool) (x y : MapRefusal)
+    → (if not a then Some x else (if t then Some y else None)) ≡ None → t ≡ false
 install_tests true true x y h = absurd (cc h)
 install_tests true false x y h = refl
 install_tests false t x y h = absurd (cc h)
@@ -118,7 +124,8 @@ pub install_allowed : (m : Mem) (root va : ℕ) → install_refusal m root va �
 unfolding install_refusal
 install_allowed m root va h = install_tests (nat_eq (va % 4194304) 0) (has_table m root va) _ _ h
 
-pub install_facts : (e : Estate) (d : Dom) (m : Mem) (a b : ℕ) (c : Cap) (t : TableCap) → Kept e d m → a < 64 → cap_at d.caps a ≡ Some c
+pub install_facts : (e : Estate) (d : Dom) (m : Mem) (a b : ℕ) (c : Cap) (t : TableCap) → Kept e d m → a < 64
+    → cap_at d.caps a ≡ Some c
     → table_in c ≡ Some t → not (is_some t.installed) ≡ true → install_refusal m e.root b ≡ None
     → FactsWith e d a (claim_of (noted (Some c) (Some b))) (installed m e.root b t.frame)
 unfolding region_of
@@ -144,7 +151,8 @@ install_ends e d m a b h =
     (give_ends e _ _ (kept_with e d m (installed m e.root b t.frame) a (noted (Some c) (Some b)) 0 h below
     (install_facts e d m a b c t h below there is loose_one ok)))))))))
 
-pub install_keeps : (e : Estate) (d : Dom) (m : Mem) (a b : ℕ) → IsEstate e → Kept e d m → LeavesKept e (install e d a b m)
+pub install_keeps : (e : Estate) (d : Dom) (m : Mem) (a b : ℕ) → IsEstate e → Kept e d m
+    → LeavesKept e (install e d a b m)
 install_keeps e d m a b s h = (install_ends e d m a b h).kept
 
 -- ---- MAP
@@ -166,7 +174,8 @@ map_allowed m root va h =
     let p = map_tests (nat_eq (va % 4096) 0) (has_table m root va) (valid (second_entry m root va)) _ _ _ h in
     record { table = p.0; no_page = p.1 }
 
-pub map_facts : (e : Estate) (d : Dom) (m : Mem) (a b c : ℕ) (x : Cap) (page : Page) → Kept e d m → a < 64 → cap_at d.caps a ≡ Some x
+pub map_facts : (e : Estate) (d : Dom) (m : Mem) (a b c : ℕ) (x : Cap) (page : Page) → Kept e d m → a < 64
+    → cap_at d.caps a ≡ Some x
     → page_in x ≡ Some page → are_good c ≡ true → not (is_some page.mapped) ≡ true → map_refusal m e.root b ≡ None
     → FactsWith e d a (claim_of (noted (Some x) (Some b))) (mapped m e.root b page.frame c)
 unfolding entry_places
@@ -201,17 +210,20 @@ map_page_ends e d m a b c h =
     (give_ends e _ _ (kept_with e d m (mapped m e.root b page.frame c) a (noted (Some x) (Some b)) 0 h below
     (map_facts e d m a b c x page h below there is (first_of_both (are_good c) (is_within c page.rights) may) loose_one ok))))))))))
 
-pub map_page_keeps : (e : Estate) (d : Dom) (m : Mem) (a b c : ℕ) → IsEstate e → Kept e d m → LeavesKept e (map_page e d a b c m)
+pub map_page_keeps : (e : Estate) (d : Dom) (m : Mem) (a b c : ℕ) → IsEstate e → Kept e d m
+    → LeavesKept e (map_page e d a b c m)
 map_page_keeps e d m a b c s h = (map_page_ends e d m a b c h).kept
 
 -- ---- UNMAP
 
 -- the table that an address's first entry names is the one that a claim says is installed there
-pub table_at : (e : Estate) (d : Dom) (m : Mem) (va i f : ℕ) → Kept e d m → claims e d.caps i ≡ Directory f (Some (vpn_1 va))
+pub table_at : (e : Estate) (d : Dom) (m : Mem) (va i f : ℕ) → Kept e d m
+    → claims e d.caps i ≡ Directory f (Some (vpn_1 va))
     → tables.table_of m e.root va ≡ f
 table_at e d m va i f h claim = ap ppn (h.facts.installed i f (vpn_1 va) claim) ∙ ppn-table f
 
-pub unmap_facts : (e : Estate) (d : Dom) (m : Mem) (a va : ℕ) (c : Cap) (page : Page) → Kept e d m → a < 64 → cap_at d.caps a ≡ Some c
+pub unmap_facts : (e : Estate) (d : Dom) (m : Mem) (a va : ℕ) (c : Cap) (page : Page) → Kept e d m → a < 64
+    → cap_at d.caps a ≡ Some c
     → page_in c ≡ Some page → page.mapped ≡ Some va
     → FactsWith e d a (claim_of (noted (Some c) None)) (unmapped m e.root va)
 unfolding entry_places
@@ -239,12 +251,14 @@ unmap_ends e d m a h =
     (give_ends e _ _ (kept_with e d m (unmapped m e.root va) a (noted (Some c) None) 0 h below
     (unmap_facts e d m a va c page h below there is at)))))))
 
-pub unmap_keeps : (e : Estate) (d : Dom) (m : Mem) (a : ℕ) → IsEstate e → Kept e d m → LeavesKept e (unmap e d a m)
+pub unmap_keeps : (e : Estate) (d : Dom) (m : Mem) (a : ℕ) → IsEstate e → Kept e d m
+    → LeavesKept e (unmap e d a m)
 unmap_keeps e d m a s h = (unmap_ends e d m a h).kept
 
 -- ---- COPY
 
-pub copy_facts : (e : Estate) (d : Dom) (m : Mem) (a b c : ℕ) (x : Cap) → Kept e d m → a < 64 → b < 64 → cap_at d.caps a ≡ Some x
+pub copy_facts : (e : Estate) (d : Dom) (m : Mem) (a b c : ℕ) (x : Cap) → Kept e d m → a < 64 → b < 64
+    → cap_at d.caps a ≡ Some x
     → not (is_filled (cap_at d.caps b)) ≡ true → copy_refusal x c ≡ None
     → FactsWith e d b (claim_of (copied (Some x) c)) m
 unfolding claim_of entry_places
@@ -272,5 +286,6 @@ copy_ends e d m a b c h =
     give_ends e _ _ (kept_with e d m m b (copied (Some x) c) 0 h in_range
     (copy_facts e d m a b c x h below in_range there empty ok)))))))
 
-pub copy_keeps : (e : Estate) (d : Dom) (m : Mem) (a b c : ℕ) → IsEstate e → Kept e d m → LeavesKept e (copy d a b c m)
+pub copy_keeps : (e : Estate) (d : Dom) (m : Mem) (a b c : ℕ) → IsEstate e → Kept e d m
+    → LeavesKept e (copy d a b c m)
 copy_keeps e d m a b c s h = (copy_ends e d m a b c h).kept

@@ -30,7 +30,8 @@ use Rattle.call_table.proofs.CallLaws.{table_at, alloc_keeps, install_keeps, map
 -- ---- a table that is not in use has no page
 
 -- a page's capability is in the region of its claim
-page_maps : (x : Option Cap) (b : Bool) (g r u : ℕ) → claim_of x ≡ Leaf b g (Some (r, u)) → is_in_region r (mapped_at x) ≡ true
+page_maps : (x : Option Cap) (b : Bool) (g r u : ℕ) → claim_of x ≡ Leaf b g (Some (r, u))
+    → is_in_region r (mapped_at x) ≡ true
 unfolding claim_of entry_places vpn_1
 page_maps None b g r u e = absurd (cc e)
 page_maps (Some (cap.Frame f c None)) b g r u e = absurd (cc e)
@@ -115,7 +116,8 @@ drop_facts e d m a (Some (cap.Table f (Some va))) s h below is unused =
 drop_facts e d m a (Some (cap.Irq line)) s h below is unused =
     drop_loose e d m a 0 Nothing h (claims_at e d.caps h.slots a below ∙ ap claim_of is) (inl refl)
 
-drop_ends : (e : Estate) (d : Dom) (m : Mem) (a : ℕ) → IsEstate e → Kept e d m → a < 64 → in_use d.caps a ≡ false
+drop_ends : (e : Estate) (d : Dom) (m : Mem) (a : ℕ) → IsEstate e → Kept e d m → a < 64
+    → in_use d.caps a ≡ false
     → Ends e (drop_slot e a d m)
 unfolding drop_slot in_use claim_of
 drop_ends e d m a s h below unused =
@@ -139,7 +141,8 @@ delete_ends e d m a s h =
     buffer_ends e n _
     (give_ends e _ n (kept_replied e x n 0 0 k)))))
 
-pub delete_keeps : (e : Estate) (d : Dom) (m : Mem) (a : ℕ) → IsEstate e → Kept e d m → LeavesKept e (delete e d a m)
+pub delete_keeps : (e : Estate) (d : Dom) (m : Mem) (a : ℕ) → IsEstate e → Kept e d m
+    → LeavesKept e (delete e d a m)
 delete_keeps e d m a s h = (delete_ends e d m a s h).kept
 
 -- ---- REVOKE
@@ -148,7 +151,8 @@ pub revoked_loose : (caps : Slots) (a i : ℕ) → is_revoked caps a i ≡ true 
 revoked_loose caps a i h = alike_unused caps (cap_at caps a) i (second_of_both (not (nat_eq i a)) (alike (cap_at caps a) (cap_at caps i)) h)
 
 -- the facts stay as each slot is emptied
-pub slot_keeps : (e : Estate) (d : Dom) (m : Mem) (a i : ℕ) → IsEstate e → Kept e d m → i < 64 → is_revoked d.caps a i ≡ true
+pub slot_keeps : (e : Estate) (d : Dom) (m : Mem) (a i : ℕ) → IsEstate e → Kept e d m → i < 64
+    → is_revoked d.caps a i ≡ true
     → Kept e (with_slot d i None) (unmapped_if m e.root (mapped_at (cap_at d.caps i)))
 unfolding in_use claim_of
 slot_keeps e d m a i s h below hit =
@@ -159,7 +163,8 @@ slot_keeps e d m a i s h below hit =
 
 -- and so in the end, where a leaf that is cleared meets C by the facts
 pub revoked_keeps : (e : Estate) (d : Dom) (m : Mem) (a : ℕ) (C : Mem → ℕ → Type 0) → IsEstate e → Kept e d m
-    → ((i f rights va : ℕ) (caps : Slots) (n : Mem) → cap_at caps i ≡ Some (cap.Frame f rights (Some va)) → Kept e (with_caps caps d) n → C n va)
+    → ((i f rights va : ℕ) (caps : Slots) (n : Mem) → cap_at caps i ≡ Some (cap.Frame f rights (Some va))
+    → Kept e (with_caps caps d) n → C n va)
     → Revokes e.root a C (λ caps n. Kept e (with_caps caps d) n) d.caps m (emptied_at d.caps a)
 unfolding with_caps
 revoked_keeps e d m a C s h there =
@@ -179,16 +184,19 @@ revoke_ends e d m a s h =
     (give_ends e _ _ (kept_replied e (with_caps (revoked d.caps a) d) _ 0 (revoked_count d.caps a)
     (revoked_keeps e d m a (λ _ _. Unit {0}) s h (λ i f rights va caps n is k. tt)).end))))
 
-pub revoke_keeps : (e : Estate) (d : Dom) (m : Mem) (a : ℕ) → IsEstate e → Kept e d m → LeavesKept e (revoke e d a m)
+pub revoke_keeps : (e : Estate) (d : Dom) (m : Mem) (a : ℕ) → IsEstate e → Kept e d m
+    → LeavesKept e (revoke e d a m)
 revoke_keeps e d m a s h = (revoke_ends e d m a s h).kept
 
 -- ---- EXIT, PUT, and all calls
 
-pub put_keeps : (e : Estate) (d : Dom) (m : Mem) (a : ℕ) → IsEstate e → Kept e d m → LeavesKept e (put_byte d a m)
+pub put_keeps : (e : Estate) (d : Dom) (m : Mem) (a : ℕ) → IsEstate e → Kept e d m
+    → LeavesKept e (put_byte d a m)
 unfolding put_byte
 put_keeps e d m a s h = (check_ends e d m 11 _ _ h (λ _. give_ends e _ m (kept_replied e _ m 0 0 (kept_printed e d m _ h)))).kept
 
-pub exit_keeps : (e : Estate) (d : Dom) (m : Mem) (a : ℕ) → IsEstate e → Kept e d m → LeavesKept e (give (exited a d) m)
+pub exit_keeps : (e : Estate) (d : Dom) (m : Mem) (a : ℕ) → IsEstate e → Kept e d m
+    → LeavesKept e (give (exited a d) m)
 exit_keeps e d m a s h = (give_ends e _ m (kept_exited e d m a h)).kept
 
 pub call_of_keeps : (e : Estate) (d : Dom) (m : Mem) (number a b c : ℕ) → IsEstate e → Kept e d m

@@ -33,7 +33,8 @@ module _ (e : Estate) where
   unfolding exited
   kept_exited d m code h = record { slots = h.slots; facts = h.facts }
 
-  pub kept_printed : (d : Dom) (m : Mem) (bytes : List ℕ) → Kept e d m → Kept e (record d { printed = bytes }) m
+  pub kept_printed : (d : Dom) (m : Mem) (bytes : List ℕ) → Kept e d m
+      → Kept e (record d { printed = bytes }) m
   kept_printed d m bytes h = record { slots = h.slots; facts = h.facts }
 
   kept_end : (d : Dom) (m : Mem) (v : Dom ⊎ Dom) → Kept e d m → QuietEnd d v → Kept e (either v) m
@@ -80,7 +81,8 @@ module _ (e : Estate) where
   if_ends true x y m a b = a
   if_ends false x y m a b = b
 
-  pub check_ends : (d : Dom) (m : Mem) (code : ℕ) (b : Bool) (y : Act Dom) → Kept e d m → (b ≡ true → Ends (y m))
+  pub check_ends : (d : Dom) (m : Mem) (code : ℕ) (b : Bool) (y : Act Dom) → Kept e d m
+      → (b ≡ true → Ends (y m))
       → Ends ((check (refused code d) b >> y) m)
   unfolding check ◌>>◌ ◌>>=◌ go_on give stop either
   check_ends d m code true y h g = record { kept = (g refl).kept }
@@ -92,7 +94,8 @@ module _ (e : Estate) where
   some_ends d m code None f h g = record { kept = kept_replied d m code 0 h }
   some_ends d m code (Some a) f h g = record { kept = (g a refl).kept }
 
-  pub slot_ends : (d : Dom) (m : Mem) (a : ℕ) (y : Act Dom) → Kept e d m → (a < 64 → Ends (y m)) → Ends ((is_slot d a >> y) m)
+  pub slot_ends : (d : Dom) (m : Mem) (a : ℕ) (y : Act Dom) → Kept e d m → (a < 64 → Ends (y m))
+      → Ends ((is_slot d a >> y) m)
   unfolding is_slot
   slot_ends d m a y h g = check_ends d m 2 (nat_lt a 64) y h (λ is. g (ltb-true a 64 is))
 
@@ -109,17 +112,20 @@ module _ (e : Estate) where
   unfolding filled is_slot
   filled_ends d m a f h g = filled_by d m (nat_lt a 64) (cap_at d.caps a) f h (λ c is. g c (ltb-true a 64 is))
 
-  pub page_refusal_ends : (m : Mem) (root va : ℕ) (f : Option MapRefusal → Act Dom) → Ends (f (map_refusal m root va) m)
+  pub page_refusal_ends : (m : Mem) (root va : ℕ) (f : Option MapRefusal → Act Dom)
+      → Ends (f (map_refusal m root va) m)
       → Ends ((page_refusal root va >>= f) m)
   unfolding page_refusal ◌>>=◌ go_on either
   page_refusal_ends m root va f h = record { kept = h.kept }
 
-  pub table_refusal_ends : (m : Mem) (root va : ℕ) (f : Option MapRefusal → Act Dom) → Ends (f (install_refusal m root va) m)
+  pub table_refusal_ends : (m : Mem) (root va : ℕ) (f : Option MapRefusal → Act Dom)
+      → Ends (f (install_refusal m root va) m)
       → Ends ((table_refusal root va >>= f) m)
   unfolding table_refusal ◌>>=◌ go_on either
   table_refusal_ends m root va f h = record { kept = h.kept }
 
-  pub allowed_ends : (d : Dom) (m : Mem) (x : Option MapRefusal) (y : Act Dom) → Kept e d m → (x ≡ None → Ends (y m))
+  pub allowed_ends : (d : Dom) (m : Mem) (x : Option MapRefusal) (y : Act Dom) → Kept e d m
+      → (x ≡ None → Ends (y m))
       → Ends ((allowed d x >> y) m)
   unfolding allowed ◌>>◌ ◌>>=◌ go_on give stop either
   allowed_ends d m None y h g = record { kept = (g refl).kept }
@@ -142,7 +148,8 @@ module _ (e : Estate) where
   unfolding map_at ◌>>◌ ◌>>=◌ go_on either
   map_at_ends m root va f rights y h = record { kept = h.kept }
 
-  pub unmap_at_ends : (m : Mem) (root va : ℕ) (y : Act Dom) → Ends (y (unmapped m root va)) → Ends ((unmap_at root va >> y) m)
+  pub unmap_at_ends : (m : Mem) (root va : ℕ) (y : Act Dom) → Ends (y (unmapped m root va))
+      → Ends ((unmap_at root va >> y) m)
   unfolding unmap_at ◌>>◌ ◌>>=◌ go_on either
   unmap_at_ends m root va y h = record { kept = h.kept }
 
@@ -151,7 +158,8 @@ module _ (e : Estate) where
   unfolding install_at ◌>>◌ ◌>>=◌ go_on either
   install_at_ends m root va f y h = record { kept = h.kept }
 
-  pub unmap_all_ends : (m : Mem) (root : ℕ) (vas : List ℕ) (y : Act Dom) → Ends (y (unmap_all root vas m).state)
+  pub unmap_all_ends : (m : Mem) (root : ℕ) (vas : List ℕ) (y : Act Dom)
+      → Ends (y (unmap_all root vas m).state)
       → Ends ((unmap_all root vas >> y) m)
   unmap_all_ends m root vas y h = record { kept = subst (LeavesKept e) (sym (after_all root vas y m)) h.kept }
 
@@ -177,7 +185,8 @@ module _ (e : Estate) where
   on_ends r f (inl d) h g = record { kept = h }
   on_ends r f (inr d) h g = record { kept = (g d r.state h).kept }
 
-  pub bind_ends : (x : Act Dom) (f : Dom → Act Dom) (m : Mem) → Ends (x m) → ((d : Dom) (m : Mem) → Kept e d m → Ends (f d m))
+  pub bind_ends : (x : Act Dom) (f : Dom → Act Dom) (m : Mem) → Ends (x m)
+      → ((d : Dom) (m : Mem) → Kept e d m → Ends (f d m))
       → Ends ((x >>= f) m)
   unfolding ◌>>=◌
   bind_ends x f m h g = on_ends (x m) f (x m).value h.kept g

@@ -33,7 +33,8 @@ unfolding with_claim
 claim_other k s y i h = rw (ne_eqb _ _ h) refl
 
 -- a claim is the new one at its slot, or an old one elsewhere
-pub claim_by : (k : Claims) (s : ℕ) (y : Claim) (P : ℕ → Claim → Type 0) → P s y → ((i : ℕ) → i ≢ s → P i (k i))
+pub claim_by : (k : Claims) (s : ℕ) (y : Claim) (P : ℕ → Claim → Type 0) → P s y
+    → ((i : ℕ) → i ≢ s → P i (k i))
     → (i : ℕ) → P i (with_claim k s y i)
 claim_by k s y P h g i = elim (cases_eq i s) [
   | inl e ↦ subst (λ (j : ℕ). P j (with_claim k s y j)) (sym e) (subst (P s) (sym (claim_same k s y)) h)
@@ -45,11 +46,13 @@ pub at_slot : (k : Claims) (s : ℕ) (y : Claim) (i : ℕ) (c : Claim) → i ≡
 at_slot k s y i c e z = sym (claim_same k s y) ∙ ap (with_claim k s y) (sym e) ∙ z
 
 -- an old claim stays
-pub still : (k : Claims) (s : ℕ) (y : Claim) (j : ℕ) (c : Claim) → k j ≡ c → (k s ≡ c → ⊥) → with_claim k s y j ≡ c
+pub still : (k : Claims) (s : ℕ) (y : Claim) (j : ℕ) (c : Claim) → k j ≡ c → (k s ≡ c → ⊥)
+    → with_claim k s y j ≡ c
 still k s y j c e n = claim_other k s y j (λ q. n (subst (λ (i : ℕ). k i ≡ c) q e)) ∙ e
 
 -- a claim comes from before
-pub older : (k : Claims) (s : ℕ) (y : Claim) (i : ℕ) (c : Claim) → with_claim k s y i ≡ c → (y ≡ c → ⊥) → (i ≢ s) × (k i ≡ c)
+pub older : (k : Claims) (s : ℕ) (y : Claim) (i : ℕ) (c : Claim) → with_claim k s y i ≡ c → (y ≡ c → ⊥)
+    → (i ≢ s) × (k i ≡ c)
 older k s y i c e n = elim (cases_eq i s) [
   | inl q ↦ absurd (n (at_slot k s y i c q e))
   | inr q ↦ (q, sym (claim_other k s y i q) ∙ e)
@@ -88,7 +91,8 @@ module _ (root : ℕ) (own : ℕ → Bool) where
         absurd (cc no)
   ]
 
-  pub not_root : (k : Claims) (m : Mem) → Facts root own k m → (i f : ℕ) (a : Option ℕ) → k i ≡ Directory f a → f ≢ root
+  pub not_root : (k : Claims) (m : Mem) → Facts root own k m → (i f : ℕ) (a : Option ℕ) → k i ≡ Directory f a
+      → f ≢ root
   unfolding frame_of is_shared
   not_root k m h i f a x e = elim (cases_eq i h.root_slot) [
     | inl s ↦ let z : Directory f a ≡ Fixed root = sym x ∙ ap k s ∙ h.root_is in cc
@@ -111,7 +115,8 @@ module _ (root : ℕ) (own : ℕ → Bool) where
   -- ---- what a new claim must meet for the facts that name claims alone
   pub record Joins (k : Claims) (s : ℕ) (y : Claim) : Type 0 where
     pub owned : (f : ℕ) → frame_of y ≡ Some f → own f ≡ true
-    pub apart : (j f : ℕ) → j ≢ s → frame_of y ≡ Some f → frame_of (k j) ≡ Some f → (is_shared y ≡ true) × (is_shared (k j) ≡ true)
+    pub apart : (j f : ℕ) → j ≢ s → frame_of y ≡ Some f → frame_of (k j) ≡ Some f
+        → (is_shared y ≡ true) × (is_shared (k j) ≡ true)
     pub once : (j r t : ℕ) → j ≢ s → leaf_at y ≡ Some (r, t) → leaf_at (k j) ≡ Some (r, t) → ⊥
 
   -- two claims of one frame are both shared
@@ -136,7 +141,8 @@ module _ (root : ℕ) (own : ℕ → Bool) where
         (λ f _ a b. let p = z.apart i f n b a in (p.1, p.0))
         (λ j _ f e. h.apart i j f e))
 
-    new_once : (i j r t : ℕ) → i ≢ j → leaf_at (with_claim k s y i) ≡ Some (r, t) → leaf_at (with_claim k s y j) ≡ Some (r, t) → ⊥
+    new_once : (i j r t : ℕ) → i ≢ j → leaf_at (with_claim k s y i) ≡ Some (r, t)
+        → leaf_at (with_claim k s y j) ≡ Some (r, t) → ⊥
     new_once i j r t n = pairs i j n r t
       where
         pairs : (i j : ℕ) → i ≢ j → AreApart (with_claim k s y i) (with_claim k s y j)
@@ -236,7 +242,8 @@ module _ (root : ℕ) (own : ℕ → Bool) where
         }))
 
     -- the leaf of another claim is not written
-    write_other : (i : ℕ) (b : Bool) (g q u e x : ℕ) → i ≢ s → k i ≡ Leaf b g (Some (q, u)) → k e ≡ Directory x (Some q)
+    write_other : (i : ℕ) (b : Bool) (g q u e x : ℕ) → i ≢ s → k i ≡ Leaf b g (Some (q, u))
+        → k e ≡ Directory x (Some q)
         → word after x u ≡ word m x u
     write_other i b g q u e x n z y = elim (cases_eq x f) [
       | inr a ↦ word-written_frame m f t v x u a
@@ -249,7 +256,8 @@ module _ (root : ℕ) (own : ℕ → Bool) where
       ])
     ]
 
-    write_mapped : (i : ℕ) (b : Bool) (g q u : ℕ) → next i ≡ Leaf b g (Some (q, u)) → IsMapped next after g q u
+    write_mapped : (i : ℕ) (b : Bool) (g q u : ℕ) → next i ≡ Leaf b g (Some (q, u))
+        → IsMapped next after g q u
     write_mapped i b g q u z = elim (cases_eq i s) [
       | inl e ↦ write_new_mapped b g q u (at_slot k s y i (Leaf b g (Some (q, u))) e z)
       | inr n ↦
@@ -291,9 +299,11 @@ module _ (root : ℕ) (own : ℕ → Bool) where
   pub record Roots (k : Claims) (m : Mem) (s : ℕ) (y : Claim) (r v : ℕ) : Type 0 where
     pub new : valid v ≡ true → IsTable (with_claim k s y) v r
     pub was : (f q : ℕ) → k s ≡ Directory f (Some q) → q ≡ r
-    pub will : (f q : ℕ) → y ≡ Directory f (Some q) → (q ≡ r) × (v ≡ table_word f) × (f ≢ root) × ((u : ℕ) → word m f u ≡ 0)
+    pub will : (f q : ℕ) → y ≡ Directory f (Some q)
+        → (q ≡ r) × (v ≡ table_word f) × (f ≢ root) × ((u : ℕ) → word m f u ≡ 0)
     pub free : (i f : ℕ) → i ≢ s → k i ≡ Directory f (Some r) → ⊥
-    pub unused : (i : ℕ) (b : Bool) (g q u f : ℕ) → k i ≡ Leaf b g (Some (q, u)) → k s ≡ Directory f (Some q) → ⊥
+    pub unused : (i : ℕ) (b : Bool) (g q u f : ℕ) → k i ≡ Leaf b g (Some (q, u)) → k s ≡ Directory f (Some q)
+        → ⊥
     pub table : (b : Bool) (f : ℕ) (a : Option (ℕ × ℕ)) → k s ≡ Leaf b f a → ⊥
     pub stays : (b : Bool) (f : ℕ) (a : Option (ℕ × ℕ)) → y ≡ Leaf b f a → ⊥
     pub named : (f : ℕ) → y ≡ Directory f None → ⊥
@@ -356,7 +366,8 @@ module _ (root : ℕ) (own : ℕ → Bool) where
           word-written_place m root r v q other ∙ h.installed i f q x
     ]
 
-    root_mapped : (i : ℕ) (b : Bool) (g q u : ℕ) → rooted i ≡ Leaf b g (Some (q, u)) → IsMapped rooted root_after g q u
+    root_mapped : (i : ℕ) (b : Bool) (g q u : ℕ) → rooted i ≡ Leaf b g (Some (q, u))
+        → IsMapped rooted root_after g q u
     root_mapped i b g q u z =
         let x : k i ≡ Leaf b g (Some (q, u)) = (older k s y i (Leaf b g (Some (q, u))) z (w.stays b g (Some (q, u)))).1 in
         let l : IsMapped k m g q u = h.mapped i b g q u x in
@@ -411,7 +422,8 @@ module _ (root : ℕ) (own : ℕ → Bool) where
           entry_is = l.entry_is;
         }
 
-    loose_leaves : (i f q u : ℕ) → loosened i ≡ Directory f (Some q) → valid (word m f u) ≡ true → IsLeaf loosened (word m f u) q u
+    loose_leaves : (i f q u : ℕ) → loosened i ≡ Directory f (Some q) → valid (word m f u) ≡ true
+        → IsLeaf loosened (word m f u) q u
     loose_leaves i f q u z ok =
         let l : IsLeaf k (word m f u) q u = h.leaves i f q u (older k s y i (Directory f (Some q)) z (w.is_table f q)).1 ok in
         record {
@@ -424,7 +436,8 @@ module _ (root : ℕ) (own : ℕ → Bool) where
           entry_is = l.entry_is;
         }
 
-    loose_mapped : (i : ℕ) (b : Bool) (g q u : ℕ) → loosened i ≡ Leaf b g (Some (q, u)) → IsMapped loosened m g q u
+    loose_mapped : (i : ℕ) (b : Bool) (g q u : ℕ) → loosened i ≡ Leaf b g (Some (q, u))
+        → IsMapped loosened m g q u
     loose_mapped i b g q u z =
         let l : IsMapped k m g q u = h.mapped i b g q u (older k s y i (Leaf b g (Some (q, u))) z (w.is_leaf b g q u)).1 in
         record {

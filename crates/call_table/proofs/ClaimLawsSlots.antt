@@ -69,7 +69,8 @@ pushed (Some g) fs f h = elim (cases_eq g f) [
   | inr other ↦ has_other g f fs other ∙ h
 ]
 
-listed : (ks : List Claim) (f i : ℕ) → frame_of (slice_index_or ks i Claim.Nothing) ≡ Some f → has (frames_in ks) f ≡ true
+listed : (ks : List Claim) (f i : ℕ) → frame_of (slice_index_or ks i Claim.Nothing) ≡ Some f
+    → has (frames_in ks) f ≡ true
 unfolding frames_in frame_of
 listed [] f i e = absurd (cc e)
 listed (k ∷ ks) f zero e = subst (λ (w : Option ℕ). has (push_frame w (frames_in ks)) f ≡ true) (sym e) (has_head f (frames_in ks))
@@ -79,7 +80,8 @@ listed (k ∷ ks) f (suc i) e = pushed (frame_of k) (frames_in ks) f (listed ks 
 abbrev IsNamedIn : List Claim → ℕ → Type 0
 IsNamedIn ks f = (i : ℕ) × (frame_of (slice_index_or ks i Claim.Nothing) ≡ Some f)
 
-named_first : (k : Claim) (ks : List Claim) (f : ℕ) (w : Option ℕ) → frame_of k ≡ w → (has (frames_in ks) f ≡ true → IsNamedIn ks f)
+named_first : (k : Claim) (ks : List Claim) (f : ℕ) (w : Option ℕ) → frame_of k ≡ w
+    → (has (frames_in ks) f ≡ true → IsNamedIn ks f)
     → has (push_frame w (frames_in ks)) f ≡ true → IsNamedIn (k ∷ ks) f
 named_first k ks f None e again h = let r = again h in (suc r.0, r.1)
 named_first k ks f (Some g) e again h = elim (cases_eq g f) [
@@ -92,15 +94,18 @@ unfolding frames_in
 named_in [] f h = absurd (true≢false (sym h))
 named_in (k ∷ ks) f h = named_first k ks f (frame_of k) refl (named_in ks f) h
 
-pub named_by : (e : Estate) (caps : Slots) (f : ℕ) → is_named e caps f ≡ true → (i : ℕ) × (frame_of (claims e caps i) ≡ Some f)
+pub named_by : (e : Estate) (caps : Slots) (f : ℕ) → is_named e caps f ≡ true
+    → (i : ℕ) × (frame_of (claims e caps i) ≡ Some f)
 unfolding is_named claims
 named_by e caps f h = named_in (all_claims e caps) f h
 
-pub names : (e : Estate) (caps : Slots) (f i : ℕ) → frame_of (claims e caps i) ≡ Some f → is_named e caps f ≡ true
+pub names : (e : Estate) (caps : Slots) (f i : ℕ) → frame_of (claims e caps i) ≡ Some f
+    → is_named e caps f ≡ true
 unfolding is_named claims
 names e caps f i h = listed (all_claims e caps) f i h
 
-pub unnamed : (e : Estate) (caps : Slots) (f : ℕ) → is_named e caps f ≡ false → (i : ℕ) → frame_of (claims e caps i) ≡ Some f → ⊥
+pub unnamed : (e : Estate) (caps : Slots) (f : ℕ) → is_named e caps f ≡ false → (i : ℕ)
+    → frame_of (claims e caps i) ≡ Some f → ⊥
 unnamed e caps f h i x = true≢false (sym (names e caps f i x) ∙ h)
 
 -- ---- what is free

@@ -30,10 +30,12 @@ use Rattle.call_table.proofs.ConfinedTables.{OwnTables, same_tables, zero_alike,
 -- the tables are the domain's own, and where a page is mapped through a slot, there is one
 pub record Ready (e : Estate) (d : Dom) (m : Mem) : Type 0 where
   pub tables : OwnTables e m
-  pub mapped : (i f rights va : ℕ) → cap_at d.caps i ≡ Some (cap.Frame f rights (Some va)) → has_table m e.root va ≡ true
+  pub mapped : (i f rights va : ℕ) → cap_at d.caps i ≡ Some (cap.Frame f rights (Some va))
+      → has_table m e.root va ≡ true
 
 module _ (e : Estate) (d : Dom) (m : Mem) (h : Kept e d m) where
-  mapped_claim : (i f rights va : ℕ) → cap_at d.caps i ≡ Some (cap.Frame f rights (Some va)) → has_table m e.root va ≡ true
+  mapped_claim : (i f rights va : ℕ) → cap_at d.caps i ≡ Some (cap.Frame f rights (Some va))
+      → has_table m e.root va ≡ true
   unfolding claim_of entry_places
   mapped_claim i f rights va is =
       let l = h.facts.mapped i true f _ _ (claim_at e d.caps i (cap.Frame f rights (Some va)) is) in
@@ -50,7 +52,8 @@ module _ (e : Estate) (d : Dom) (m : Mem) (h : Kept e d m) where
   }
 
 -- where the root is as it was, a slot less leaves all ready
-pub still_ready : (e : Estate) (d : Dom) (m : Mem) → Ready e d m → (i : ℕ) (n : Mem) → ((q : ℕ) → word n e.root q ≡ word m e.root q)
+pub still_ready : (e : Estate) (d : Dom) (m : Mem) → Ready e d m → (i : ℕ) (n : Mem)
+    → ((q : ℕ) → word n e.root q ≡ word m e.root q)
     → Ready e (with_slot d i None) n
 unfolding with_caps
 still_ready e d m r i n same = record {
@@ -63,7 +66,8 @@ still_ready e d m r i n same = record {
 
 -- ---- the least free frame
 
-pub first_kept : (p : ℕ → Bool) (xs : List ℕ) (f : ℕ) → slice_get (filter p xs) 0 ≡ Some f → (p f ≡ true) × (has xs f ≡ true)
+pub first_kept : (p : ℕ → Bool) (xs : List ℕ) (f : ℕ) → slice_get (filter p xs) 0 ≡ Some f
+    → (p f ≡ true) × (has xs f ≡ true)
 first_kept p [] f e = absurd (cc e)
 first_kept p (x ∷ xs) f e = by_test (p x) refl e (first_kept p xs f)
   where
@@ -78,7 +82,8 @@ first_kept p (x ∷ xs) f e = by_test (p x) refl e (first_kept p xs f)
         (subst (λ (g : ℕ). p g ≡ true) same t, subst (λ (g : ℕ). has (x ∷ xs) g ≡ true) same (has_head x xs))
     by_test false t e g = let rest = g e in (rest.0, in_rest (nat_eq x f) rest.1)
 
-pub free_parts : (e : Estate) (caps : Slots) (f : ℕ) → least_free e caps ≡ Some f → (not (is_named e caps f) ≡ true) × (has (pool e.share) f ≡ true)
+pub free_parts : (e : Estate) (caps : Slots) (f : ℕ) → least_free e caps ≡ Some f
+    → (not (is_named e caps f) ≡ true) × (has (pool e.share) f ≡ true)
 unfolding least_free free_frames
 free_parts e caps f is = first_kept (λ f. not (is_named e caps f)) (pool e.share) f is
 
@@ -90,7 +95,8 @@ free_mine e caps f is = own_is_mine e f (IsOwn-pool e.share f (free_parts e caps
 
 -- ---- each call
 
-pub page_in_is : (c : Cap) (page : Page) → page_in c ≡ Some page → c ≡ cap.Frame page.frame page.rights page.mapped
+pub page_in_is : (c : Cap) (page : Page) → page_in c ≡ Some page
+    → c ≡ cap.Frame page.frame page.rights page.mapped
 page_in_is (cap.Frame g s v) page e = ap (λ (p : Page). cap.Frame p.frame p.rights p.mapped) (some_same e)
 page_in_is (cap.Table g v) page e = absurd (cc e)
 page_in_is (cap.Irq line) page e = absurd (cc e)
@@ -102,16 +108,19 @@ abbrev pub HaveTables : Mem → ℕ → List ℕ → Type 0
 HaveTables m root [] = Unit {0}
 HaveTables m root (va ∷ vas) = (has_table m root va ≡ true) × HaveTables m root vas
 
-pub still_have : (m n : Mem) (root : ℕ) (vas : List ℕ) → ((q : ℕ) → word n root q ≡ word m root q) → HaveTables m root vas → HaveTables n root vas
+pub still_have : (m n : Mem) (root : ℕ) (vas : List ℕ) → ((q : ℕ) → word n root q ≡ word m root q)
+    → HaveTables m root vas → HaveTables n root vas
 still_have m n root [] same h = tt
 still_have m n root (va ∷ vas) same h = (ap valid (same (vpn_1 va)) ∙ h.0, still_have m n root vas same h.1)
 
-pub have_tables : (e : Estate) (d : Dom) (m : Mem) → Ready e d m → (a : ℕ) (is : List ℕ) → HaveTables m e.root (slots.entries_in d.caps a is)
+pub have_tables : (e : Estate) (d : Dom) (m : Mem) → Ready e d m → (a : ℕ) (is : List ℕ)
+    → HaveTables m e.root (slots.entries_in d.caps a is)
 unfolding slots.entries_in
 have_tables e d m r a [] = tt
 have_tables e d m r a (i ∷ is) = by_slot (is_revoked d.caps a i) (cap_at d.caps i) refl (have_tables e d m r a is)
   where
-    by_slot : (t : Bool) (c : Option Cap) → cap_at d.caps i ≡ c → HaveTables m e.root (slots.entries_in d.caps a is)
+    by_slot : (t : Bool) (c : Option Cap) → cap_at d.caps i ≡ c
+        → HaveTables m e.root (slots.entries_in d.caps a is)
         → HaveTables m e.root (push_some (if t then mapped_at c else None) (slots.entries_in d.caps a is))
     by_slot false c there h = h
     by_slot true None there h = h
@@ -143,7 +152,9 @@ module _ (e : Estate) (first : Mem) where
     unless_alike : (x : Dom) (r : Option ℕ) (y : Act Dom) → Same y m k → Same (unless_refused x r >> y) m k
     unfolding unless_refused ◌>>◌ ◌>>=◌ go_on give stop
     unless_alike x None y h = record { value = h.value; notes = h.notes; beside = h.beside; work = h.work; known = h.known }
-    unless_alike x (Some code) y h = let n = stop_alike e first Any m k b (refused code x) in record { value = n.value; notes = n.notes; beside = n.beside; work = n.work; known = n.known }
+    unless_alike x (Some code) y h =
+        let n = stop_alike e first Any m k b (refused code x) in
+        record { value = n.value; notes = n.notes; beside = n.beside; work = n.work; known = n.known }
 
     copy_alike : (a to c : ℕ) → Same (copy d a to c) m k
     unfolding copy is_slot
@@ -195,7 +206,9 @@ module _ (e : Estate) (first : Mem) where
 
       -- a slot that is dropped
       drop_call : (P : Dom → Mem → Type 0) (i : ℕ)
-          → ((n : Mem) → (((f : ℕ) (w : Option ℕ) → cap_at d.caps i ≢ Some (cap.Table f w)) → (q : ℕ) → word n e.root q ≡ word m e.root q) → P (with_slot d i None) n)
+          → ((n : Mem)
+          → (((f : ℕ) (w : Option ℕ) → cap_at d.caps i ≢ Some (cap.Table f w)) → (q : ℕ)
+          → word n e.root q ≡ word m e.root q) → P (with_slot d i None) n)
           → Alike e first P (drop_slot e i d m) (drop_slot e i d k)
       unfolding drop_slot
       drop_call P i known =
@@ -234,7 +247,8 @@ module _ (e : Estate) (first : Mem) where
   either_call true x y m k h g = h
   either_call false x y m k h g = g
 
-  pub any_call : (d : Dom) (m k : Mem) → Beside e first m k → Ready e d m → (number a b c : ℕ) → Same (call_of e d number a b c) m k
+  pub any_call : (d : Dom) (m k : Mem) → Beside e first m k → Ready e d m → (number a b c : ℕ)
+      → Same (call_of e d number a b c) m k
   unfolding call_of
   any_call d m k z r number a b c =
       either_call (nat_eq number 0) _ _ m k (give_alike e first Any m k z (exited a d) tt)
@@ -248,9 +262,12 @@ module _ (e : Estate) (first : Mem) where
       (either_call (nat_eq number 8) _ _ m k (revoke_call d m k z r a)
       (quiet_alike e first d _ m k z (later_quiet d number a b))))))))))
 
-pub calls_are_confined : (e : Estate) (d : Dom) (m k : Mem) → Kept e d m → SameMine e m k → IsConfined e m (call e d m) (call e d k)
+pub calls_are_confined : (e : Estate) (d : Dom) (m k : Mem) → Kept e d m → SameMine e m k
+    → IsConfined e m (call e d m) (call e d k)
 unfolding call
 calls_are_confined e d m k h same =
     let regs = d.threads.current.regs in
-    let r = any_call e m d m k (record { same = same; outside = λ f _. refl }) (ready e d m h) (number_made e d) (register regs 10) (register regs 11) (register regs 12) in
+    let r =
+    any_call e m d m k (record { same = same; outside = λ f _. refl }) (ready e d m h)
+    (number_made e d) (register regs 10) (register regs 11) (register regs 12) in
     record { value = r.value; notes = r.notes; same = r.beside.same; outside = r.beside.outside; work = r.work }

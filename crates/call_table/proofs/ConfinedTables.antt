@@ -25,7 +25,8 @@ pub record OwnTables (e : Estate) (m : Mem) : Type 0 where
   pub apart : (r : ℕ) → valid (word m e.root r) ≡ true → ppn (word m e.root r) ≢ e.root
 
 -- where the root is as it was, so are the tables
-pub same_tables : (e : Estate) (m n : Mem) → ((q : ℕ) → word n e.root q ≡ word m e.root q) → OwnTables e m → OwnTables e n
+pub same_tables : (e : Estate) (m n : Mem) → ((q : ℕ) → word n e.root q ≡ word m e.root q) → OwnTables e m
+    → OwnTables e n
 same_tables e m n same t = record {
   root = t.root;
   own = λ q. subst (λ (w : ℕ). valid w ≡ true → IsMine e (ppn w)) (sym (same q)) (t.own q);
@@ -64,7 +65,8 @@ module _ (e : Estate) (m k : Mem) (same : SameMine e m k) (t : OwnTables e m) wh
   pub refusal_same : (va : ℕ) → map_refusal m e.root va ≡ map_refusal k e.root va
   unfolding map_refusal
   refusal_same va =
-      ap₂ (λ (p h : Bool). cond (not (eqb (va % 4096) 0)) (Some refusal.BadAddress) (cond p (Some refusal.Mapped) (cond h None (Some refusal.NoTable))))
+      ap₂ (λ (p h : Bool). cond (not (eqb (va % 4096) 0)) (Some refusal.BadAddress)
+      (cond p (Some refusal.Mapped) (cond h None (Some refusal.NoTable))))
       (page_same va) (has_same va)
 
   pub install_same : (va : ℕ) → install_refusal m e.root va ≡ install_refusal k e.root va
@@ -76,18 +78,42 @@ module _ (e : Estate) (first m k : Mem) (b : Beside e first m k) {A : Type 0} (P
   -- an entry of a frame of the domain's own is written
   entry_alike : (f g i v : ℕ) (y : Act A) → f ≡ g → IsMine e f → i < 1024
       → (Beside e first (written m f i v) (written k f i v) → Alike e first P (y (written m f i v)) (y (written k f i v)))
-      → Alike e first P (go_on (record { notes = Note.Entry (entry_address f i) ∷ []; state = written m f i v; value = inr tt }) (λ (u : Unit {0}). y) (inr tt))
-      (go_on (record { notes = Note.Entry (entry_address g i) ∷ []; state = written k g i v; value = inr tt }) (λ (u : Unit {0}). y) (inr tt))
+      → Alike e first P
+      (go_on (record {
+        notes = Note.Entry (entry_address f i) ∷ [];
+        state = written m f i v;
+        value = inr tt;
+      })
+      (λ (u : Unit {0}). y) (inr tt))
+      (go_on (record {
+        notes = Note.Entry (entry_address g i) ∷ [];
+        state = written k g i v;
+        value = inr tt;
+      })
+      (λ (u : Unit {0}). y) (inr tt))
   unfolding go_on
   entry_alike f g i v y e_same own below h =
-      subst (λ (g : ℕ). Alike e first P (go_on (record { notes = Note.Entry (entry_address f i) ∷ []; state = written m f i v; value = inr tt }) (λ (u : Unit {0}). y) (inr tt))
-      (go_on (record { notes = Note.Entry (entry_address g i) ∷ []; state = written k g i v; value = inr tt }) (λ (u : Unit {0}). y) (inr tt))) e_same
+      subst (λ (g : ℕ). Alike e first P
+      (go_on (record {
+        notes = Note.Entry (entry_address f i) ∷ [];
+        state = written m f i v;
+        value = inr tt;
+      })
+      (λ (u : Unit {0}). y) (inr tt))
+      (go_on (record {
+        notes = Note.Entry (entry_address g i) ∷ [];
+        state = written k g i v;
+        value = inr tt;
+      })
+      (λ (u : Unit {0}). y) (inr tt))) e_same
       (let n = h (beside_written e first m k f i v own b) in
       record {
         value = n.value;
         notes = ap (λ ns. Note.Entry (entry_address f i) ∷ ns) n.notes;
         beside = n.beside;
-        work = All-cons (IsOwnWork e) (Note.Entry (entry_address f i)) (y (written m f i v)).notes (ap (is_mine e) (entry_frame f i below) ∙ own) n.work;
+        work =
+            All-cons (IsOwnWork e) (Note.Entry (entry_address f i)) (y (written m f i v)).notes
+            (ap (is_mine e) (entry_frame f i below) ∙ own) n.work;
         known = n.known;
       })
 
@@ -110,13 +136,17 @@ module _ (e : Estate) (first m k : Mem) (b : Beside e first m k) {A : Type 0} (P
         → Alike e first P (f (map_refusal m e.root va) m) (f (map_refusal m e.root va) k)
         → Alike e first P ((page_refusal e.root va >>= f) m) ((page_refusal e.root va >>= f) k)
     unfolding page_refusal ◌>>=◌
-    page_refusal_alike va f h = read_alike e first P m k b (map_refusal m e.root va) (map_refusal k e.root va) f (refusal_same e m k b.same t va) h
+    page_refusal_alike va f h =
+        read_alike e first P m k b (map_refusal m e.root va) (map_refusal k e.root va) f
+        (refusal_same e m k b.same t va) h
 
     pub table_refusal_alike : (va : ℕ) (f : Option MapRefusal → Act A)
         → Alike e first P (f (install_refusal m e.root va) m) (f (install_refusal m e.root va) k)
         → Alike e first P ((table_refusal e.root va >>= f) m) ((table_refusal e.root va >>= f) k)
     unfolding table_refusal ◌>>=◌
-    table_refusal_alike va f h = read_alike e first P m k b (install_refusal m e.root va) (install_refusal k e.root va) f (install_same e m k b.same t va) h
+    table_refusal_alike va f h =
+        read_alike e first P m k b (install_refusal m e.root va) (install_refusal k e.root va) f
+        (install_same e m k b.same t va) h
 
     pub map_alike : (va f rights : ℕ) (y : Act A) → has_table m e.root va ≡ true
         → ((n l : Mem) → Beside e first n l → Alike e first P (y n) (y l))
@@ -136,17 +166,20 @@ module _ (e : Estate) (first m k : Mem) (b : Beside e first m k) {A : Type 0} (P
         (t.own (vpn_1 va) ok) (vpn_0-below va)
         (h _ _ (root_stays e m va t ok))
 
-    pub install_alike : (va f : ℕ) (y : Act A) → ((n l : Mem) → Beside e first n l → Alike e first P (y n) (y l))
+    pub install_alike : (va f : ℕ) (y : Act A)
+        → ((n l : Mem) → Beside e first n l → Alike e first P (y n) (y l))
         → Alike e first P ((install_at e.root va f >> y) m) ((install_at e.root va f >> y) k)
     unfolding install_at ◌>>◌ ◌>>=◌
     install_alike va f y h = entry_alike e.root e.root (vpn_1 va) (table_word f) y refl t.root (vpn_1-below va) (h _ _)
 
-    pub uninstall_alike : (va : ℕ) (y : Act A) → ((n l : Mem) → Beside e first n l → Alike e first P (y n) (y l))
+    pub uninstall_alike : (va : ℕ) (y : Act A)
+        → ((n l : Mem) → Beside e first n l → Alike e first P (y n) (y l))
         → Alike e first P ((uninstall_at e.root va >> y) m) ((uninstall_at e.root va >> y) k)
     unfolding uninstall_at ◌>>◌ ◌>>=◌
     uninstall_alike va y h = entry_alike e.root e.root (vpn_1 va) 0 y refl t.root (vpn_1-below va) (h _ _)
 
-    nothing_alike : (y : Act A) → Alike e first P (y m) (y k) → Alike e first P ((give {A = Unit {0}} tt >> y) m) ((give {A = Unit {0}} tt >> y) k)
+    nothing_alike : (y : Act A) → Alike e first P (y m) (y k)
+        → Alike e first P ((give {A = Unit {0}} tt >> y) m) ((give {A = Unit {0}} tt >> y) k)
     unfolding give ◌>>◌ ◌>>=◌ go_on
     nothing_alike y h = record { value = h.value; notes = h.notes; beside = h.beside; work = h.work; known = h.known }
 
@@ -157,8 +190,10 @@ module _ (e : Estate) (first m k : Mem) (b : Beside e first m k) {A : Type 0} (P
         → Beside e first n l → Alike e first P (y n) (y l))
         → Alike e first P ((clear_entry e.root c >> y) m) ((clear_entry e.root c >> y) k)
     unfolding clear_entry
-    clear_alike (Some (cap.Frame f rights (Some va))) y ok h = unmap_alike va y (ok f rights va refl) (λ n l same beside. h n l (λ _. same) beside)
-    clear_alike (Some (cap.Table f (Some va))) y ok h = uninstall_alike va y (λ n l beside. h n l (λ no. absurd (no f (Some va) refl)) beside)
+    clear_alike (Some (cap.Frame f rights (Some va))) y ok h =
+        unmap_alike va y (ok f rights va refl) (λ n l same beside. h n l (λ _. same) beside)
+    clear_alike (Some (cap.Table f (Some va))) y ok h =
+        uninstall_alike va y (λ n l beside. h n l (λ no. absurd (no f (Some va) refl)) beside)
     clear_alike (Some (cap.Frame f rights None)) y ok h = nothing_alike y (h m k (λ _ r. refl) b)
     clear_alike (Some (cap.Table f None)) y ok h = nothing_alike y (h m k (λ _ r. refl) b)
     clear_alike (Some (cap.Irq line)) y ok h = nothing_alike y (h m k (λ _ r. refl) b)

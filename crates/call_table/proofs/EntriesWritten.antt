@@ -33,7 +33,8 @@ use Rattle.call_table.proofs.WorkSteps.{entries-append}
 
 -- ---- a call that sets one slot
 
-set_is : (d : Dom) (slot : ℕ) (c : Option Cap) → slot < length d.caps → SetsSlot slot c d (done 0 (with_slot d slot c))
+set_is : (d : Dom) (slot : ℕ) (c : Option Cap) → slot < length d.caps
+    → SetsSlot slot c d (done 0 (with_slot d slot c))
 unfolding replied placed with_caps with_current
 set_is d slot c below = record {
   done = record { threads = refl; reply = refl };
@@ -100,7 +101,8 @@ module _ (e : Estate) (d : Dom) (m : Mem) (long : length d.caps ≡ 64) (a b c :
       (ap (λ (o : Option Cap). done 0 (with_slot d b (copied o c))) (sym there), slot_below b below))))))
 
 -- a call that sets a slot, where it is known what that held
-sets_by : (d x : Dom) (slot : ℕ) (o z : Option Cap) → x ≡ done 0 (with_slot d slot o) → slot < length d.caps → o ≡ z → SetsSlot slot z d x
+sets_by : (d x : Dom) (slot : ℕ) (o z : Option Cap) → x ≡ done 0 (with_slot d slot o) → slot < length d.caps
+    → o ≡ z → SetsSlot slot z d x
 sets_by d x slot o z is below same =
     subst (SetsSlot slot z d) (sym (is ∙ ap (λ (c : Option Cap). done 0 (with_slot d slot c)) same)) (set_is d slot z below)
 
@@ -114,8 +116,12 @@ allocated_slot e d x m h is does =
     record {
       frame = r.0;
       least = r.1;
-      page = λ kind. sets_by d x a (Some (fresh_cap b r.0)) (Some (cap.Frame r.0 7 None)) r.2 r.3 (ap (λ (k : ℕ). Some (fresh_cap k r.0)) kind);
-      table = λ kind. sets_by d x a (Some (fresh_cap b r.0)) (Some (cap.Table r.0 None)) r.2 r.3 (ap (λ (k : ℕ). Some (fresh_cap k r.0)) kind);
+      page =
+          λ kind. sets_by d x a (Some (fresh_cap b r.0)) (Some (cap.Frame r.0 7 None)) r.2 r.3
+          (ap (λ (k : ℕ). Some (fresh_cap k r.0)) kind);
+      table =
+          λ kind. sets_by d x a (Some (fresh_cap b r.0)) (Some (cap.Table r.0 None)) r.2 r.3
+          (ap (λ (k : ℕ). Some (fresh_cap k r.0)) kind);
     }
 
 pub mapped_slot : MappedSlotLaw
@@ -123,18 +129,23 @@ unfolding call_of
 mapped_slot e d x m frame rights at h is does there =
     let a = argument_a d in
     let b = argument_b d in
-    let r = given Whatever (Maps e d m h.slots a b (argument_c d)) (map_page e d a b (argument_c d) m) (map_sets e d m h.slots a b (argument_c d)) x
+    let r =
+    given Whatever (Maps e d m h.slots a b (argument_c d)) (map_page e d a b (argument_c d) m)
+    (map_sets e d m h.slots a b (argument_c d)) x
     (value_of e d x m 4 is does) in
     sets_by d x a (noted (cap_at d.caps a) (Some b)) (Some (cap.Frame frame rights (Some b))) r.0 r.1
     (ap (λ (o : Option Cap). noted o (Some b)) there)
 
-copied_as : (e : Estate) (d x : Dom) (m : Mem) (c z : Option Cap) → Kept e d m → Makes e d 6 → (call e d m).value ≡ inr x
+copied_as : (e : Estate) (d x : Dom) (m : Mem) (c z : Option Cap) → Kept e d m → Makes e d 6
+    → (call e d m).value ≡ inr x
     → cap_at d.caps (argument_a d) ≡ c → copied c (argument_c d) ≡ z → SetsSlot (argument_b d) z d x
 unfolding call_of
 copied_as e d x m c z h is does there same =
     let a = argument_a d in
     let b = argument_b d in
-    let r = given Whatever (Copies e d m h.slots a b (argument_c d)) (copy d a b (argument_c d) m) (copy_sets e d m h.slots a b (argument_c d)) x
+    let r =
+    given Whatever (Copies e d m h.slots a b (argument_c d)) (copy d a b (argument_c d) m)
+    (copy_sets e d m h.slots a b (argument_c d)) x
     (value_of e d x m 6 is does) in
     sets_by d x b (copied (cap_at d.caps a) (argument_c d)) z r.0 r.1 (ap (λ (o : Option Cap). copied o (argument_c d)) there ∙ same)
 
@@ -210,19 +221,22 @@ module _ (P : List ℕ → Dom → Type 0) (m : Mem) where
   check_notes d true y h = record { when = λ x is. h.when x is }
   check_notes d false y h = record { when = λ x is. absurd (cc is) }
 
-  some_notes : {A : Type 0} (d : Dom) (o : Option A) (f : A → Act Dom) → ((a : A) → o ≡ Some a → Ends (f a m)) → Ends ((some_or d o >>= f) m)
+  some_notes : {A : Type 0} (d : Dom) (o : Option A) (f : A → Act Dom) → ((a : A) → o ≡ Some a → Ends (f a m))
+      → Ends ((some_or d o >>= f) m)
   unfolding some_or ◌>>=◌ go_on give stop
   some_notes d (Some a) f h = record { when = λ x is. (h a refl).when x is }
   some_notes d None f h = record { when = λ x is. absurd (cc is) }
 
-  filled_by : (d : Dom) (t : Bool) (o : Option Cap) (f : Cap → Act Dom) → ((c : Cap) → o ≡ Some c → Ends (f c m))
+  filled_by : (d : Dom) (t : Bool) (o : Option Cap) (f : Cap → Act Dom)
+      → ((c : Cap) → o ≡ Some c → Ends (f c m))
       → Ends (((check (refused 2 d) t >> some_or (refused 3 d) o) >>= f) m)
   unfolding check some_or ◌>>◌ ◌>>=◌ go_on give stop
   filled_by d false o f h = record { when = λ x is. absurd (cc is) }
   filled_by d true None f h = record { when = λ x is. absurd (cc is) }
   filled_by d true (Some c) f h = record { when = λ x is. (h c refl).when x is }
 
-  filled_notes : (d : Dom) (a : ℕ) (f : Cap → Act Dom) → ((c : Cap) → cap_at d.caps a ≡ Some c → Ends (f c m)) → Ends ((filled d a >>= f) m)
+  filled_notes : (d : Dom) (a : ℕ) (f : Cap → Act Dom) → ((c : Cap) → cap_at d.caps a ≡ Some c → Ends (f c m))
+      → Ends ((filled d a >>= f) m)
   unfolding filled is_slot
   filled_notes d a f h = filled_by d (nat_lt a 64) (cap_at d.caps a) f h
 
@@ -236,11 +250,13 @@ module _ (P : List ℕ → Dom → Type 0) (m : Mem) where
   unless_notes d None y h = record { when = λ x is. h.when x is }
   unless_notes d (Some code) y h = record { when = λ x is. absurd (cc is) }
 
-  page_refusal_notes : (root va : ℕ) (f : Option MapRefusal → Act Dom) → Ends (f (map_refusal m root va) m) → Ends ((page_refusal root va >>= f) m)
+  page_refusal_notes : (root va : ℕ) (f : Option MapRefusal → Act Dom) → Ends (f (map_refusal m root va) m)
+      → Ends ((page_refusal root va >>= f) m)
   unfolding page_refusal ◌>>=◌ go_on
   page_refusal_notes root va f h = record { when = λ x is. h.when x is }
 
-  table_refusal_notes : (root va : ℕ) (f : Option MapRefusal → Act Dom) → Ends (f (install_refusal m root va) m) → Ends ((table_refusal root va >>= f) m)
+  table_refusal_notes : (root va : ℕ) (f : Option MapRefusal → Act Dom)
+      → Ends (f (install_refusal m root va) m) → Ends ((table_refusal root va >>= f) m)
   unfolding table_refusal ◌>>=◌ go_on
   table_refusal_notes root va f h = record { when = λ x is. h.when x is }
 
@@ -250,15 +266,18 @@ module _ (P : List ℕ → Dom → Type 0) (m : Mem) where
   unfolding zero_out give ◌>>◌ ◌>>=◌ go_on entries_in
   zero_notes f x h = record { when = λ y is. given_end [] x y h is }
 
-  map_notes : (root va f rights : ℕ) (x : Dom) → P (page_entry m root va ∷ []) x → Ends ((map_at root va f rights >> give x) m)
+  map_notes : (root va f rights : ℕ) (x : Dom) → P (page_entry m root va ∷ []) x
+      → Ends ((map_at root va f rights >> give x) m)
   unfolding map_at give ◌>>◌ ◌>>=◌ go_on entries_in
   map_notes root va f rights x h = record { when = λ y is. given_end (page_entry m root va ∷ []) x y h is }
 
-  install_notes : (root va f : ℕ) (x : Dom) → P (table_entry root va ∷ []) x → Ends ((install_at root va f >> give x) m)
+  install_notes : (root va f : ℕ) (x : Dom) → P (table_entry root va ∷ []) x
+      → Ends ((install_at root va f >> give x) m)
   unfolding install_at give ◌>>◌ ◌>>=◌ go_on entries_in
   install_notes root va f x h = record { when = λ y is. given_end (table_entry root va ∷ []) x y h is }
 
-  unmap_notes : (root va : ℕ) (x : Dom) → P (page_entry m root va ∷ []) x → Ends ((unmap_at root va >> (empty_buffer >> give x)) m)
+  unmap_notes : (root va : ℕ) (x : Dom) → P (page_entry m root va ∷ []) x
+      → Ends ((unmap_at root va >> (empty_buffer >> give x)) m)
   unfolding unmap_at empty_buffer give ◌>>◌ ◌>>=◌ go_on entries_in
   unmap_notes root va x h = record { when = λ y is. given_end (page_entry m root va ∷ []) x y h is }
 
@@ -295,7 +314,9 @@ module _ (e : Estate) (d : Dom) (m : Mem) (a : ℕ) where
       (buffer_gives Whatever Revoked _ _
       (give_gives Whatever Revoked _ _ refl)))
 
-revoked_is : (d : Dom) → IsRevokedAll d (done (revoked_count d.caps (argument_a d)) (with_caps (revoked d.caps (argument_a d)) d))
+revoked_is : (d : Dom)
+    → IsRevokedAll d
+    (done (revoked_count d.caps (argument_a d)) (with_caps (revoked d.caps (argument_a d)) d))
 unfolding replied placed with_current with_caps
 revoked_is d = record { done = record { threads = refl; reply = refl }; slots = λ i. at_revoked d.caps (argument_a d) i; rest = refl }
 
@@ -385,7 +406,8 @@ module _ (e : Estate) (d : Dom) (m : Mem) (h : Kept e d m) (a b c : ℕ) where
       (all_entries e m (emptied_at d.caps a) m r.tables (have_tables e d m r a (range_with_len 0 64)) (λ q. refl)
       ∙ ap (λ (n : ℕ). map (page_entry m e.root) (slots.entries_in d.caps a (range_with_len 0 n))) (sym h.slots)))
 
-  numbered : (number k : ℕ) (x y : Act Dom) → Right k (x m) → Right number (y m) → Right number ((if nat_eq number k then x else y) m)
+  numbered : (number k : ℕ) (x y : Act Dom) → Right k (x m) → Right number (y m)
+      → Right number ((if nat_eq number k then x else y) m)
   numbered number k x y g f = by_test (nat_eq number k) refl
     where
       by_test : (t : Bool) → nat_eq number k ≡ t → Right number ((if t then x else y) m)

@@ -30,7 +30,8 @@ record EndsAs (d : Dom) (xs : List Error) (r : Done Mem Note Dom Dom) : Type 0 w
   done : first_so xs ≡ None → Goes r.value
 
 -- refused by the first that is so
-now : {d : Dom} {xs : List Error} {r : Done Mem Note Dom Dom} (code : ℕ) → first_so xs ≡ Some code → r.value ≡ inl (refused code d)
+now : {d : Dom} {xs : List Error} {r : Done Mem Note Dom Dom} (code : ℕ) → first_so xs ≡ Some code
+    → r.value ≡ inl (refused code d)
     → EndsAs d xs r
 now {d} code first is = record {
   refused = λ c e. let same : Some code ≡ Some c = sym first ∙ e in
@@ -49,7 +50,8 @@ module _ (d : Dom) (m : Mem) where
     check_ends true true y e h = absurd (cc e)
     check_ends false false y e h = absurd (cc e)
 
-    some_ends : {A : Type 0} (so : Bool) (o : Option A) (f : A → Act Dom) → so ≡ is_none o → ((a : A) → o ≡ Some a → EndsAs d xs (f a m))
+    some_ends : {A : Type 0} (so : Bool) (o : Option A) (f : A → Act Dom) → so ≡ is_none o
+        → ((a : A) → o ≡ Some a → EndsAs d xs (f a m))
         → EndsAs d (record { code = code; is_so = so } ∷ xs) ((some_or (refused code d) o >>= f) m)
     unfolding some_or ◌>>=◌ go_on give stop first_so
     some_ends false (Some a) f e h = let r = h a refl in record { refused = r.refused; done = r.done }
@@ -93,7 +95,8 @@ module _ (d : Dom) (m : Mem) where
   not_filled (Some c) = refl
 
   module _ (xs : List Error) where
-    filled_by : (t : Bool) (o : Option Cap) (f : Cap → Act Dom) → ((c : Cap) → o ≡ Some c → EndsAs d xs (f c m))
+    filled_by : (t : Bool) (o : Option Cap) (f : Cap → Act Dom)
+        → ((c : Cap) → o ≡ Some c → EndsAs d xs (f c m))
         → EndsAs d (bad_slot (not t) ∷ empty (is_none o) ∷ xs) (((check (refused 2 d) t >> some_or (refused 3 d) o) >>= f) m)
     unfolding check some_or ◌>>◌ ◌>>=◌ go_on give stop first_so
     filled_by false o f h = now 2 refl refl
@@ -120,19 +123,24 @@ module _ (d : Dom) (m : Mem) where
   no_line (cap.Table f w) = refl
   no_line (cap.Irq line) = refl
 
-  placed : (c : Cap) (t : TableCap) → table_in c ≡ Some t → is_some (installed_at (Some c)) ≡ not (not (is_some t.installed))
+  placed : (c : Cap) (t : TableCap) → table_in c ≡ Some t
+      → is_some (installed_at (Some c)) ≡ not (not (is_some t.installed))
   placed (cap.Table f w) t is = let same : record { frame = f; installed = w } ≡ t = cc is in
       ap (λ (u : TableCap). is_some u.installed) same ∙ not_not (is_some t.installed)
   placed (cap.Frame f r w) t is = absurd (cc is)
   placed (cap.Irq line) t is = absurd (cc is)
 
   page_place : (c : Cap) (page : Page) → page_in c ≡ Some page → mapped_at (Some c) ≡ page.mapped
-  page_place (cap.Frame f r w) page is = let same : record { frame = f; rights = r; mapped = w } ≡ page = cc is in ap (λ (u : Page). u.mapped) same
+  page_place (cap.Frame f r w) page is =
+      let same : record { frame = f; rights = r; mapped = w } ≡ page = cc is in
+      ap (λ (u : Page). u.mapped) same
   page_place (cap.Table f w) page is = absurd (cc is)
   page_place (cap.Irq line) page is = absurd (cc is)
 
   page_rights : (c : Cap) (page : Page) → page_in c ≡ Some page → rights_of (Some c) ≡ page.rights
-  page_rights (cap.Frame f r w) page is = let same : record { frame = f; rights = r; mapped = w } ≡ page = cc is in ap (λ (u : Page). u.rights) same
+  page_rights (cap.Frame f r w) page is =
+      let same : record { frame = f; rights = r; mapped = w } ≡ page = cc is in
+      ap (λ (u : Page). u.rights) same
   page_rights (cap.Table f w) page is = absurd (cc is)
   page_rights (cap.Irq line) page is = absurd (cc is)
 
@@ -151,7 +159,9 @@ module _ (d : Dom) (m : Mem) where
   module _ (xs : List Error) (y : Act Dom) (h : EndsAs d xs (y m)) where
     map_by : (a t p : Bool) → a ≡ true
         → EndsAs d (mapped (t && p) ∷ no_table (not t) ∷ xs)
-        ((allowed d (if not a then Some refusal.BadAddress else (if t && p then Some refusal.Mapped else (if t then None else Some refusal.NoTable))) >> y) m)
+        ((allowed d (if not a then Some refusal.BadAddress
+        else (if t && p then Some refusal.Mapped else (if t then None else Some refusal.NoTable)))
+        >> y) m)
     unfolding allowed ◌>>◌ ◌>>=◌ go_on give stop first_so
     map_by true true true is = now 8 refl refl
     map_by true true false is = record { refused = h.refused; done = h.done }
@@ -159,14 +169,16 @@ module _ (d : Dom) (m : Mem) where
     map_by false t p is = absurd (cc is)
 
     page_refusal_ends : (root va : ℕ) → nat_eq (va % 4096) 0 ≡ true
-        → EndsAs d (mapped (has_page m root va) ∷ no_table (not (has_table m root va)) ∷ xs) ((page_refusal root va >>= λ r. allowed d r >> y) m)
+        → EndsAs d (mapped (has_page m root va) ∷ no_table (not (has_table m root va)) ∷ xs)
+        ((page_refusal root va >>= λ r. allowed d r >> y) m)
     unfolding page_refusal map_refusal ◌>>=◌ go_on
     page_refusal_ends root va aligned =
         let r = map_by (nat_eq (va % 4096) 0) (has_table m root va) (valid (second_entry m root va)) aligned in
         record { refused = r.refused; done = r.done }
 
     install_by : (a t : Bool) → a ≡ true
-        → EndsAs d (mapped t ∷ xs) ((allowed d (if not a then Some refusal.BadAddress else (if t then Some refusal.Mapped else None)) >> y) m)
+        → EndsAs d (mapped t ∷ xs) ((allowed d
+        (if not a then Some refusal.BadAddress else (if t then Some refusal.Mapped else None)) >> y) m)
     unfolding allowed ◌>>◌ ◌>>=◌ go_on give stop first_so
     install_by true true is = now 8 refl refl
     install_by true false is = record { refused = h.refused; done = h.done }
@@ -216,15 +228,20 @@ module _ (d : Dom) (m : Mem) where
   map_ends : (e : Estate) (a b c : ℕ)
       → EndsAs d (bad_slot (not (nat_lt a 64)) ∷ empty (is_none (in_slot d a)) ∷ wrong_kind (is_none (page_of (in_slot d a)))
       ∷ bad_rights (is_beyond (in_slot d a) c) ∷ bad_address (not (is_multiple 4096 b))
-      ∷ mapped (is_some (mapped_at (in_slot d a)) || has_page m e.root b) ∷ no_table (not (has_table m e.root b)) ∷ []) (map_page e d a b c m)
+      ∷ mapped (is_some (mapped_at (in_slot d a)) || has_page m e.root b)
+      ∷ no_table (not (has_table m e.root b)) ∷ []) (map_page e d a b c m)
   unfolding map_page
   map_ends e a b c =
       filled_ends _ a _ (λ x there.
       some_ends 5 _ _ (page_in x) _ (ap (λ o. is_none (page_of o)) there ∙ no_page x) (λ page is.
-      check_ends 6 _ _ _ _ (ap (λ o. not (may_give (rights_of o) c)) there ∙ ap (λ (r : ℕ). not (may_give r c)) (page_rights x page is)) (λ _.
+      check_ends 6 _ _ _ _
+      (ap (λ o. not (may_give (rights_of o) c)) there
+      ∙ ap (λ (r : ℕ). not (may_give r c)) (page_rights x page is)) (λ _.
       check_ends 7 _ _ _ _ refl (λ aligned.
       either_ends 8 _ (is_some (mapped_at (in_slot d a))) (has_page m e.root b) _
-      (check_ends 8 _ _ _ _ (ap (λ o. is_some (mapped_at o)) there ∙ ap is_some (page_place x page is) ∙ not_not (is_some page.mapped)) (λ _.
+      (check_ends 8 _ _ _ _
+      (ap (λ o. is_some (mapped_at o)) there ∙ ap is_some (page_place x page is)
+      ∙ not_not (is_some page.mapped)) (λ _.
       page_refusal_ends [] _ (sure_ends _ (map_at_sure e.root b page.frame c _ (give_sure _))) e.root b aligned))))))
 
   unmap_ends : (e : Estate) (a : ℕ)
@@ -278,37 +295,49 @@ module _ (d : Dom) (m : Mem) where
       check_ends 12 _ _ _ _ (not_not (in_use d.caps a)) (λ _.
       sure_ends _ (bind_sure (drop_slot e a d) _ (drop_sure e a d) (λ z. buffer_sure _ (give_sure _)))))
 
-  revoke_ends : (e : Estate) (a : ℕ) → EndsAs d (bad_slot (not (nat_lt a 64)) ∷ empty (is_none (in_slot d a)) ∷ []) (revoke e d a m)
+  revoke_ends : (e : Estate) (a : ℕ)
+      → EndsAs d (bad_slot (not (nat_lt a 64)) ∷ empty (is_none (in_slot d a)) ∷ []) (revoke e d a m)
   unfolding revoke
   revoke_ends e a =
       filled_ends _ a _ (λ x _.
       sure_ends _ (unmap_all_sure e.root _ _ (buffer_sure _ (give_sure _))))
 
   line_ends : (a : ℕ) (f : ℕ → Act Dom) → ((line : ℕ) → EndsAs d [] (f line m))
-      → EndsAs d (bad_slot (not (nat_lt a 64)) ∷ empty (is_none (in_slot d a)) ∷ wrong_kind (is_none (line_of (in_slot d a))) ∷ []) ((line_at d a >>= f) m)
+      → EndsAs d
+      (bad_slot (not (nat_lt a 64)) ∷ empty (is_none (in_slot d a))
+      ∷ wrong_kind (is_none (line_of (in_slot d a))) ∷ []) ((line_at d a >>= f) m)
   unfolding line_at filled is_slot
   line_ends a f h = line_by f h (nat_lt a 64) (cap_at d.caps a)
 
   poll_ends : (a : ℕ)
-      → EndsAs d (bad_slot (not (nat_lt a 64)) ∷ empty (is_none (in_slot d a)) ∷ wrong_kind (is_none (line_of (in_slot d a))) ∷ []) (poll d a m)
+      → EndsAs d
+      (bad_slot (not (nat_lt a 64)) ∷ empty (is_none (in_slot d a))
+      ∷ wrong_kind (is_none (line_of (in_slot d a))) ∷ []) (poll d a m)
   unfolding poll
   poll_ends a = line_ends a _ (λ line. sure_ends _ (give_sure _))
 
   wait_ends : (a : ℕ)
-      → EndsAs d (bad_slot (not (nat_lt a 64)) ∷ empty (is_none (in_slot d a)) ∷ wrong_kind (is_none (line_of (in_slot d a))) ∷ []) (wait d a m)
+      → EndsAs d
+      (bad_slot (not (nat_lt a 64)) ∷ empty (is_none (in_slot d a))
+      ∷ wrong_kind (is_none (line_of (in_slot d a))) ∷ []) (wait d a m)
   unfolding wait
   wait_ends a = line_ends a _ (λ line. sure_ends _ (give_sure _))
 
   signal_ends : (a : ℕ)
-      → EndsAs d (bad_slot (not (nat_lt a 64)) ∷ empty (is_none (in_slot d a)) ∷ wrong_kind (is_none (line_of (in_slot d a))) ∷ []) (signal d a m)
+      → EndsAs d
+      (bad_slot (not (nat_lt a 64)) ∷ empty (is_none (in_slot d a))
+      ∷ wrong_kind (is_none (line_of (in_slot d a))) ∷ []) (signal d a m)
   unfolding signal
   signal_ends a = line_ends a _ (λ line. sure_ends _ (give_sure _))
 
-  spawn_ends : (a b : ℕ) → EndsAs d (bad_address (not (is_multiple 4 a)) ∷ no_thread (is_none (vacant d.threads)) ∷ []) (spawn d a b m)
+  spawn_ends : (a b : ℕ)
+      → EndsAs d (bad_address (not (is_multiple 4 a)) ∷ no_thread (is_none (vacant d.threads)) ∷ [])
+      (spawn d a b m)
   unfolding spawn
   spawn_ends a b = check_ends 7 _ _ _ _ refl (λ _. some_ends 13 _ _ (vacant d.threads) _ refl (λ t _. sure_ends _ (give_sure _)))
 
-  call_ends : (e : Estate) (number a b c : ℕ) → EndsAs d (errors_of e d m number a b c) (call_of e d number a b c m)
+  call_ends : (e : Estate) (number a b c : ℕ)
+      → EndsAs d (errors_of e d m number a b c) (call_of e d number a b c m)
   unfolding call_of errors_of
   call_ends e number a b c =
       if_ends (nat_eq number 0) _ _ _ _ (sure_ends _ (give_sure _))
@@ -341,18 +370,23 @@ no_error e d m = (call_ends d m e (number_made e d) (argument_a d) (argument_b d
 codes : List Error → List ℕ
 codes xs = map (λ x. x.code) xs
 
-if_ascends : (t : Bool) (xs ys : List Error) → Ascends 0 (codes xs) → Ascends 0 (codes ys) → Ascends 0 (codes (if t then xs else ys))
+if_ascends : (t : Bool) (xs ys : List Error) → Ascends 0 (codes xs) → Ascends 0 (codes ys)
+    → Ascends 0 (codes (if t then xs else ys))
 if_ascends true xs ys h g = h
 if_ascends false xs ys h g = g
 
-all_ascend : (e : Estate) (d : Dom) (m : Mem) (number a b c : ℕ) → Ascends 0 (codes (errors_of e d m number a b c))
+all_ascend : (e : Estate) (d : Dom) (m : Mem) (number a b c : ℕ)
+    → Ascends 0 (codes (errors_of e d m number a b c))
 unfolding errors_of codes Ascends
 all_ascend e d m number a b c =
     if_ascends (nat_eq number 0) _ _ tt
     (if_ascends (nat_eq number 1) _ _ (omega arith, tt)
     (if_ascends (nat_eq number 2) _ _ (omega arith, (omega arith, (omega arith, (omega arith, tt))))
     (if_ascends (nat_eq number 3) _ _ (omega arith, (omega arith, (omega arith, (omega arith, (omega arith, tt)))))
-    (if_ascends (nat_eq number 4) _ _ (omega arith, (omega arith, (omega arith, (omega arith, (omega arith, (omega arith, (omega arith, tt)))))))
+    (if_ascends (nat_eq number 4) _ _ (
+      omega arith,
+      (omega arith, (omega arith, (omega arith, (omega arith, (omega arith, (omega arith, tt)))))),
+    )
     (if_ascends (nat_eq number 5) _ _ (omega arith, (omega arith, (omega arith, (omega arith, tt))))
     (if_ascends (nat_eq number 6) _ _ (omega arith, (omega arith, (omega arith, (omega arith, (omega arith, tt)))))
     (if_ascends (nat_eq number 7) _ _ (omega arith, (omega arith, (omega arith, tt)))

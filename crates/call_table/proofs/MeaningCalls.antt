@@ -34,11 +34,13 @@ use Rattle.call_table.proofs.MeaningRights.{not_named}
 
 -- ---- claims after a slot was set
 
-pub claim_past : (e : Estate) (caps : Slots) (i : ℕ) → length caps ≤ i → claims e caps i ≡ get_or e.fixed (i - length caps) Claim.Nothing
+pub claim_past : (e : Estate) (caps : Slots) (i : ℕ) → length caps ≤ i
+    → claims e caps i ≡ get_or e.fixed (i - length caps) Claim.Nothing
 unfolding claims all_claims
 claim_past e caps i past = get_or-append_right (map claim_of caps) e.fixed (length caps) i Claim.Nothing (length-map caps claim_of) past
 
-pub claim_other : (e : Estate) (caps : Slots) (a i : ℕ) (c : Option Cap) → i ≢ a → claims e (with_cap caps a c) i ≡ claims e caps i
+pub claim_other : (e : Estate) (caps : Slots) (a i : ℕ) (c : Option Cap) → i ≢ a
+    → claims e (with_cap caps a c) i ≡ claims e caps i
 claim_other e caps a i c apart = elim (cases_lt i (length caps)) [
   | inl below ↦
       claim_within e (with_cap caps a c) i (omega (arith, below, length-set caps a c))
@@ -52,7 +54,9 @@ claim_other e caps a i c apart = elim (cases_lt i (length caps)) [
 
 -- ---- ALLOC
 
-fresh_frame : (t : Bool) (g f : ℕ) → (page_of (Some (cond t (cap.Frame g 7 None) (cap.Table g None))) ≡ Some f) ⊎ (table_of (Some (cond t (cap.Frame g 7 None) (cap.Table g None))) ≡ Some f) → g ≡ f
+fresh_frame : (t : Bool) (g f : ℕ)
+    → (page_of (Some (cond t (cap.Frame g 7 None) (cap.Table g None))) ≡ Some f)
+    ⊎ (table_of (Some (cond t (cap.Frame g 7 None) (cap.Table g None))) ≡ Some f) → g ≡ f
 fresh_frame true g f (inl e) = cc e
 fresh_frame true g f (inr e) = absurd (cc e)
 fresh_frame false g f (inl e) = absurd (cc e)
@@ -62,17 +66,20 @@ module _ (e : Estate) (d : Dom) (m : Mem) (h : Kept e d m) where
   abbrev Fresh : ℕ → Dom → Mem → Type 0
   Fresh a x n = (f : ℕ) → (page_of (cap_at x.caps a) ≡ Some f) ⊎ (table_of (cap_at x.caps a) ≡ Some f) → IsFresh e d x n a f
 
-  alone : (a f : ℕ) (c : Option Cap) → is_named e d.caps f ≡ false → (i : ℕ) → frame_of (claims e (with_cap d.caps a c) i) ≡ Some f → i ≡ a
+  alone : (a f : ℕ) (c : Option Cap) → is_named e d.caps f ≡ false → (i : ℕ)
+      → frame_of (claims e (with_cap d.caps a c) i) ≡ Some f → i ≡ a
   alone a f c free i is = elim (cases_eq i a) [
     | inl same ↦ same
     | inr other ↦
         absurd (true≢false (sym (names e d.caps f i (ap frame_of (sym (claim_other e d.caps a i c other)) ∙ is)) ∙ free))
   ]
 
-  taken : (a b g : ℕ) → a < length d.caps → least_free e d.caps ≡ Some g → Fresh a (done 0 (with_slot d a (Some (fresh_cap b g)))) (zeroed_frame m g)
+  taken : (a b g : ℕ) → a < length d.caps → least_free e d.caps ≡ Some g
+      → Fresh a (done 0 (with_slot d a (Some (fresh_cap b g)))) (zeroed_frame m g)
   unfolding replied placed with_caps
   taken a b g below is f named =
-      let at : cap_at (with_cap d.caps a (Some (fresh_cap b g))) a ≡ Some (fresh_cap b g) = cap_same d.caps a (Some (fresh_cap b g)) below in
+      let at : cap_at (with_cap d.caps a (Some (fresh_cap b g))) a ≡ Some (fresh_cap b g) =
+      cap_same d.caps a (Some (fresh_cap b g)) below in
       let same : g ≡ f = fresh_frame (nat_eq b 0) g f (subst (λ (c : Option Cap). (page_of c ≡ Some f) ⊎ (table_of c ≡ Some f)) at named) in
       let free : is_named e d.caps g ≡ false = not_named _ (free_parts e d.caps g is).0 in
       record {
@@ -105,11 +112,14 @@ module _ (e : Estate) (d : Dom) (m : Mem) (h : Kept e d m) where
     abbrev Found : Dom → Mem → Type 0
     Found x n = (f : ℕ) → page_of (cap_at d.caps a) ≡ Some f → (walk n e.share.frames e.root b access).result ≡ Ok (leaf_word f c)
 
-    found : (page : Page) → cap_at d.caps a ≡ Some (cap.Frame page.frame page.rights page.mapped) → may_give page.rights c ≡ true
+    found : (page : Page) → cap_at d.caps a ≡ Some (cap.Frame page.frame page.rights page.mapped)
+        → may_give page.rights c ≡ true
         → map_refusal m e.root b ≡ None → (x : Dom) → Found x (mapped m e.root b page.frame c)
     unfolding claim_of
     found page is good none x f named =
-        let frame = page_frame e d m h a page.frame true (entry_places page.mapped) (claim_at e d.caps a (cap.Frame page.frame page.rights page.mapped) is) in
+        let frame =
+        page_frame e d m h a page.frame true (entry_places page.mapped)
+        (claim_at e d.caps a (cap.Frame page.frame page.rights page.mapped) is) in
         let can : CanMap m e.root e.share.frames b page.frame c = record {
           tables = (page_tables e d m h).map;
           allowed = none;
@@ -135,7 +145,8 @@ module _ (e : Estate) (d : Dom) (m : Mem) (h : Kept e d m) where
         (give_gives Whatever Found (mapped m e.root b page.frame c) _
         (found page (is ∙ ap Some (page_in_is x page in_x)) good none (done 0 (with_slot d a (noted (Some x) (Some b)))))))))))))
 
-    pub map_means : (x : Dom) (f : ℕ) → (map_page e d a b c m).value ≡ inr x → page_of (cap_at d.caps a) ≡ Some f
+    pub map_means : (x : Dom) (f : ℕ) → (map_page e d a b c m).value ≡ inr x
+        → page_of (cap_at d.caps a) ≡ Some f
         → (walk (map_page e d a b c m).state e.share.frames e.root b access).result ≡ Ok (leaf_word f c)
     map_means x f is named = given Whatever Found (map_page e d a b c m) map_found x is f named
 
@@ -153,7 +164,8 @@ module _ (e : Estate) (d : Dom) (m : Mem) (h : Kept e d m) where
     | inr other ↦ in_all fs f (All-tail (IsReached e m) x fs all) (sym (has_other x f fs other) ∙ there)
   ]
 
-  pub no_more_than_pool : (fs : List ℕ) → IsStrictlyIncreasing fs → All (IsReached e m) fs → length fs ≤ length (pool e.share)
+  pub no_more_than_pool : (fs : List ℕ) → IsStrictlyIncreasing fs → All (IsReached e m) fs
+      → length fs ≤ length (pool e.share)
   no_more_than_pool fs up all =
       length_within (pool e.share) fs 0 0 (Ascends-pool e.share) (Ascends-from_increasing fs 0 up (λ _. omega arith))
       (λ f there. pool_has e.share f (mine_is_own e f (reached_mine f (in_all fs f all there))))

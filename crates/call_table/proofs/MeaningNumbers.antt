@@ -27,12 +27,14 @@ module _ (d : Dom) (m : Mem) (code : ℕ) where
   fails false y is = refl
   fails true y is = absurd (cc is)
 
-  finds : {A : Type 0} (o : Option A) (f : A → Act Dom) (x : A) → o ≡ Some x → (some_or (refused code d) o >>= f) m ≡ f x m
+  finds : {A : Type 0} (o : Option A) (f : A → Act Dom) (x : A) → o ≡ Some x
+      → (some_or (refused code d) o >>= f) m ≡ f x m
   unfolding some_or ◌>>=◌ go_on give
   finds (Some y) f x is = let same : y ≡ x = cc is in ap (λ z. f z m) same
   finds None f x is = absurd (cc is)
 
-  lacks : {A : Type 0} (o : Option A) (f : A → Act Dom) → o ≡ None → (some_or (refused code d) o >>= f) m ≡ stop (refused code d) m
+  lacks : {A : Type 0} (o : Option A) (f : A → Act Dom) → o ≡ None
+      → (some_or (refused code d) o >>= f) m ≡ stop (refused code d) m
   unfolding some_or ◌>>=◌ go_on stop
   lacks None f is = refl
   lacks (Some y) f is = absurd (cc is)
@@ -102,7 +104,8 @@ module _ (e : Estate) (d : Dom) (m : Mem) where
     signal_is is = ap Left (by_number e d m 11 is) ∙ ap Left (line_found d m _ line names)
 
   module _ (is : Makes e d 12) (aligned : argument_a d % 4 ≡ 0) where
-    pub spawn_is : (t : ℕ) → vacant d.threads ≡ Some t → after_call e d m ≡ done t (with_spawned (argument_a d) (argument_b d) d)
+    pub spawn_is : (t : ℕ) → vacant d.threads ≡ Some t
+        → after_call e d m ≡ done t (with_spawned (argument_a d) (argument_b d) d)
     unfolding call_of spawn give either
     spawn_is t there =
         ap Left (by_number e d m 12 is)
@@ -135,7 +138,8 @@ module _ (e : Estate) (d : Dom) (m : Mem) (frame rights va : ℕ) where
       some_or (refused 7 d) page.mapped >>= (λ at.
       unmap_at e.root at >> (empty_buffer >> give (done 0 (with_slot d (argument_a d) (noted (Some c) None)))))))) m
 
-  pub unmap_is : Makes e d 5 → argument_a d < 64 → cap_at d.caps (argument_a d) ≡ Some (cap.Frame frame rights (Some va))
+  pub unmap_is : Makes e d 5 → argument_a d < 64
+      → cap_at d.caps (argument_a d) ≡ Some (cap.Frame frame rights (Some va))
       → call e d m ≡ cleared
   unfolding call_of unmap filled is_slot check some_or unmap_at empty_buffer give stop ◌>>◌ ◌>>=◌ go_on
   unmap_is is below there = by_number e d m 5 is ∙ ap₂ from_slot (lt-ltb (argument_a d) 64 below) there

@@ -122,7 +122,8 @@ module _ (e : Estate) (d : Dom) (m : Mem) (frame rights va : ℕ) (h : Kept e d 
   within : argument_a d < length d.caps
   within = filled_within d.caps (argument_a d) (cap.Frame frame rights (Some va)) there
 
-  cleared_means : IsUnmapped e d (either (cleared e d m frame rights va).value) m (cleared e d m frame rights va).state frame rights va
+  cleared_means : IsUnmapped e d (either (cleared e d m frame rights va).value) m
+      (cleared e d m frame rights va).state frame rights va
   unfolding replied placed with_caps either with_current
   cleared_means =
       let tables = page_tables e d m h in
@@ -163,17 +164,20 @@ module _ (m : Mem) where
   check_still x true y h = record { memory = h.memory; no_work = h.no_work }
   check_still x false y h = record { memory = refl; no_work = refl }
 
-  some_still : {A : Type 0} (x : Dom) (o : Option A) (f : A → Act Dom) → ((a : A) → IsStill m (f a m)) → IsStill m ((some_or x o >>= f) m)
+  some_still : {A : Type 0} (x : Dom) (o : Option A) (f : A → Act Dom) → ((a : A) → IsStill m (f a m))
+      → IsStill m ((some_or x o >>= f) m)
   unfolding some_or ◌>>=◌ go_on give stop
   some_still x (Some a) f h = record { memory = (h a).memory; no_work = (h a).no_work }
   some_still x None f h = record { memory = refl; no_work = refl }
 
-  unless_still : (d : Dom) (o : Option ℕ) (y : Act Dom) → IsStill m (y m) → IsStill m ((unless_refused d o >> y) m)
+  unless_still : (d : Dom) (o : Option ℕ) (y : Act Dom) → IsStill m (y m)
+      → IsStill m ((unless_refused d o >> y) m)
   unfolding unless_refused ◌>>◌ ◌>>=◌ go_on give stop
   unless_still d None y h = record { memory = h.memory; no_work = h.no_work }
   unless_still d (Some code) y h = record { memory = refl; no_work = refl }
 
-  if_still : (t : Bool) (x y : Act Dom) → (t ≡ true → IsStill m (x m)) → IsStill m (y m) → IsStill m ((if t then x else y) m)
+  if_still : (t : Bool) (x y : Act Dom) → (t ≡ true → IsStill m (x m)) → IsStill m (y m)
+      → IsStill m ((if t then x else y) m)
   if_still true x y h g = h refl
   if_still false x y h g = g
 
@@ -188,7 +192,8 @@ module _ (m : Mem) where
       check_still _ _ _ (unless_still d (copy_refusal x c) _ (give_still _)))))
 
   module _ (e : Estate) (d : Dom) (number : ℕ) (none : touches_memory number ≡ false) where
-    touching : (k : ℕ) {r : Done Mem Note Dom Dom} → touches_memory k ≡ true → nat_eq number k ≡ true → IsStill m r
+    touching : (k : ℕ) {r : Done Mem Note Dom Dom} → touches_memory k ≡ true → nat_eq number k ≡ true
+        → IsStill m r
     touching k is same =
         absurd (true≢false (sym is ∙ ap touches_memory (sym (eqb-true number k same)) ∙ none))
 

@@ -39,7 +39,8 @@ pub record Leaves (e : Estate) (first : Mem) (x : Dom) (n : Mem) : Type 0 where
   pub leaf : (r t : ℕ) → valid (word n e.root r) ≡ true → valid (entry_at n e.root r t) ≡ true
       → Claimed e x.caps (ppn (entry_at n e.root r t)) r t
 
-claimed_frame : (e : Estate) (caps : Slots) (f g r t : ℕ) → f ≡ g → Claimed e caps f r t → Claimed e caps g r t
+claimed_frame : (e : Estate) (caps : Slots) (f g r t : ℕ) → f ≡ g → Claimed e caps f r t
+    → Claimed e caps g r t
 claimed_frame e caps f g r t same c = subst (λ (n : ℕ). Claimed e caps n r t) same c
 
 first_leaves : (e : Estate) (d : Dom) (m : Mem) → Kept e d m → Leaves e m d m
@@ -52,7 +53,8 @@ first_leaves e d m h = record {
       (record { slot = l.slot; by_cap = l.by_cap; claim = l.claim });
 }
 
-pub same_place : (b b' : Bool) (f g r t q u : ℕ) → Claim.Leaf b f (Some (r, t)) ≡ Claim.Leaf b' g (Some (q, u)) → (r ≡ q) × (t ≡ u)
+pub same_place : (b b' : Bool) (f g r t q u : ℕ)
+    → Claim.Leaf b f (Some (r, t)) ≡ Claim.Leaf b' g (Some (q, u)) → (r ≡ q) × (t ≡ u)
 unfolding leaf_at
 same_place b b' f g r t q u e =
     let pair : (r, t) ≡ (q, u) = some_same (ap leaf_at e) in
@@ -62,12 +64,14 @@ same_place b b' f g r t q u e =
 
 module _ (e : Estate) (first : Mem) (x : Dom) (n : Mem) (l : Leaves e first x n) (i : ℕ) (below : i < length x.caps) where
   -- a claim of another slot stays
-  other_claim : (g r t : ℕ) (c : Claimed e x.caps g r t) → c.slot ≢ i → Claimed e (with_slot x i None).caps g r t
+  other_claim : (g r t : ℕ) (c : Claimed e x.caps g r t) → c.slot ≢ i
+      → Claimed e (with_slot x i None).caps g r t
   unfolding with_caps
   other_claim g r t c other = record { slot = c.slot; by_cap = c.by_cap; claim = claim_other e x.caps i c.slot None other ∙ c.claim }
 
   -- the slot stands for no entry: nothing is cleared
-  loose_leaves : (k : Claim) → claim_of (cap_at x.caps i) ≡ k → leaf_at k ≡ None → Leaves e first (with_slot x i None) n
+  loose_leaves : (k : Claim) → claim_of (cap_at x.caps i) ≡ k → leaf_at k ≡ None
+      → Leaves e first (with_slot x i None) n
   unfolding leaf_at
   loose_leaves k is none = record {
     ready = still_ready e x n l.ready i n (λ q. refl);
@@ -89,7 +93,9 @@ module _ (e : Estate) (first : Mem) (x : Dom) (n : Mem) (l : Leaves e first x n)
     root_same = root_stays e n va l.ready.tables mapped_there
 
     -- each entry is as it was, or cleared
-    entry_by : (r t : ℕ) → (entry_at (unmapped n e.root va) e.root r t ≡ 0) ⊎ (entry_at (unmapped n e.root va) e.root r t ≡ entry_at n e.root r t)
+    entry_by : (r t : ℕ)
+        → (entry_at (unmapped n e.root va) e.root r t ≡ 0)
+        ⊎ (entry_at (unmapped n e.root va) e.root r t ≡ entry_at n e.root r t)
     entry_by r t =
         let table : entry_at (unmapped n e.root va) e.root r t ≡ word (unmapped n e.root va) (ppn (word n e.root r)) t =
         ap (λ (w : ℕ). word (unmapped n e.root va) (ppn w) t) (root_same r) in
@@ -105,14 +111,16 @@ module _ (e : Estate) (first : Mem) (x : Dom) (n : Mem) (l : Leaves e first x n)
         ∙ ap (λ (u : ℕ). word (unmapped n e.root va) (table_of n e.root va) u) at_table
         ∙ word-written_same n (table_of n e.root va) (vpn_0 va) 0
 
-    unmapped_leaf : (r t : ℕ) → valid (word (unmapped n e.root va) e.root r) ≡ true → valid (entry_at (unmapped n e.root va) e.root r t) ≡ true
+    unmapped_leaf : (r t : ℕ) → valid (word (unmapped n e.root va) e.root r) ≡ true
+        → valid (entry_at (unmapped n e.root va) e.root r t) ≡ true
         → Claimed e (with_slot x i None).caps (ppn (entry_at (unmapped n e.root va) e.root r t)) r t
     unfolding claim_of entry_places
     unmapped_leaf r t r_ok ok = elim (entry_by r t) [
       | inl gone ↦ never (ap valid (sym gone) ∙ ok)
       | inr same ↦
           let c = l.leaf r t (ap valid (sym (root_same r)) ∙ r_ok) (ap valid (sym same) ∙ ok) in
-          claimed_frame e (with_slot x i None).caps (ppn (entry_at n e.root r t)) (ppn (entry_at (unmapped n e.root va) e.root r t)) r t (ap ppn (sym same))
+          claimed_frame e (with_slot x i None).caps (ppn (entry_at n e.root r t))
+          (ppn (entry_at (unmapped n e.root va) e.root r t)) r t (ap ppn (sym same))
           (other_claim (ppn (entry_at n e.root r t)) r t c (λ (at : c.slot ≡ i).
           let place = same_place c.by_cap true (ppn (entry_at n e.root r t)) f r t (vpn_1 va) (vpn_0 va)
           (sym c.claim ∙ ap (claims e x.caps) at ∙ claim_at e x.caps i (cap.Frame f rights (Some va)) is) in
@@ -143,7 +151,8 @@ module _ (e : Estate) (first : Mem) (x : Dom) (n : Mem) (l : Leaves e first x n)
 
 -- ---- a frame that no slot maps is not reached
 
-leaf_cap : (c : Option Cap) (b : Bool) (f : ℕ) (p : ℕ × ℕ) → claim_of c ≡ Claim.Leaf b f (Some p) → (page_of c ≡ Some f) × (mapped_at c ≢ None)
+leaf_cap : (c : Option Cap) (b : Bool) (f : ℕ) (p : ℕ × ℕ) → claim_of c ≡ Claim.Leaf b f (Some p)
+    → (page_of c ≡ Some f) × (mapped_at c ≢ None)
 unfolding claim_of entry_places
 leaf_cap None b f p e = absurd (cc e)
 leaf_cap (Some (cap.Irq line)) b f p e = absurd (cc e)
@@ -151,21 +160,25 @@ leaf_cap (Some (cap.Table g w)) b f p e = absurd (cc e)
 leaf_cap (Some (cap.Frame g rights None)) b f p e = absurd (cc e)
 leaf_cap (Some (cap.Frame g rights (Some va))) b f p e = (cc e, λ none. cc none)
 
-page_claim : (c : Option Cap) (f : ℕ) → page_of c ≡ Some f → (frame_of (claim_of c) ≡ Some f) × (is_shared (claim_of c) ≡ true)
+page_claim : (c : Option Cap) (f : ℕ) → page_of c ≡ Some f
+    → (frame_of (claim_of c) ≡ Some f) × (is_shared (claim_of c) ≡ true)
 unfolding claim_of frame_of is_shared
 page_claim None f e = absurd (cc e)
 page_claim (Some (cap.Irq line)) f e = absurd (cc e)
 page_claim (Some (cap.Table g w)) f e = absurd (cc e)
 page_claim (Some (cap.Frame g rights w)) f e = (e, refl)
 
-module _ (e : Estate) (d : Dom) (m : Mem) (w : IsEstate e) (h : Kept e d m) (a f : ℕ) (below : a < length d.caps) (named : page_of (cap_at d.caps a) ≡ Some f) where
+module _ (e : Estate) (d : Dom) (m : Mem) (w : IsEstate e) (h : Kept e d m) (a f : ℕ)
+    (below : a < length d.caps) (named : page_of (cap_at d.caps a) ≡ Some f) where
   module _ (x : Dom) (n : Mem) (l : Leaves e m x n) (long : length x.caps ≡ length d.caps)
       (unmapped_all : (i : ℕ) → page_of (cap_at x.caps i) ≡ Some f → mapped_at (cap_at x.caps i) ≡ None) where
     not_for_good : (s : ℕ) → length d.caps ≤ s → frame_of (claims e x.caps s) ≢ Some f
     not_for_good s past is =
         let was : claims e x.caps s ≡ claims e d.caps s =
-        claim_past e x.caps s (omega (arith, past, long)) ∙ ap (λ (k : ℕ). get_or e.fixed (s - k) Claim.Nothing) long ∙ sym (claim_past e d.caps s past) in
-        let own : frame_of (claims e d.caps a) ≡ Some f = ap frame_of (claim_within e d.caps a below) ∙ (page_claim (cap_at d.caps a) f named).0 in
+        claim_past e x.caps s (omega (arith, past, long))
+        ∙ ap (λ (k : ℕ). get_or e.fixed (s - k) Claim.Nothing) long ∙ sym (claim_past e d.caps s past) in
+        let own : frame_of (claims e d.caps a) ≡ Some f =
+        ap frame_of (claim_within e d.caps a below) ∙ (page_claim (cap_at d.caps a) f named).0 in
         let shared : is_shared (claims e d.caps s) ≡ true = (h.facts.apart a s f (λ q. absurd (omega (arith, below, past, q))) own (ap frame_of (sym was) ∙ is)).1 in
         true≢false (sym shared ∙ ap is_shared (claim_past e d.caps s past) ∙ w.alone (s - length d.caps))
 
@@ -173,7 +186,9 @@ module _ (e : Estate) (d : Dom) (m : Mem) (w : IsEstate e) (h : Kept e d m) (a f
     unfolding frame_of
     not_claimed r t c = elim (cases_lt c.slot (length d.caps)) [
       | inl within ↦
-          let parts = leaf_cap (cap_at x.caps c.slot) c.by_cap f (r, t) (sym (claim_within e x.caps c.slot (omega (arith, within, long))) ∙ c.claim) in
+          let parts =
+          leaf_cap (cap_at x.caps c.slot) c.by_cap f (r, t)
+          (sym (claim_within e x.caps c.slot (omega (arith, within, long))) ∙ c.claim) in
           parts.1 (unmapped_all c.slot parts.0)
       | inr past ↦ not_for_good c.slot past (ap frame_of c.claim)
     ]
@@ -204,7 +219,8 @@ module _ (e : Estate) (d : Dom) (m : Mem) (w : IsEstate e) (h : Kept e d m) (a f
     unnamed : (i : ℕ) → page_of (cap_at (with_cap d.caps a None) i) ≢ Some f
     unnamed i is = elim (cases_eq i a) [
       | inl same ↦
-          let none : cap_at (with_cap d.caps a None) i ≡ None = ap (λ (j : ℕ). cap_at (with_cap d.caps a None) j) same ∙ cap_same d.caps a None below in
+          let none : cap_at (with_cap d.caps a None) i ≡ None =
+          ap (λ (j : ℕ). cap_at (with_cap d.caps a None) j) same ∙ cap_same d.caps a None below in
           let no : None ≡ Some f = ap page_of (sym none) ∙ is in
           cc no
       | inr other ↦ others i other (ap page_of (sym (cap_other d.caps a i None other)) ∙ is)
@@ -242,7 +258,8 @@ module _ (e : Estate) (d : Dom) (m : Mem) (w : IsEstate e) (h : Kept e d m) (a f
   revoked_leaves = (by_slots e.root a (λ _ _. Unit {0}) (λ caps n. Leaves e m (with_caps caps d) n)
       (record {
         emptied = λ i caps n i_below long hit l.
-            slot_leaves e m (with_caps caps d) n l i (omega (arith, i_below, long)) (cap_at caps i) refl (λ g w. revoked_no_table caps a i g w hit);
+            slot_leaves e m (with_caps caps d) n l i (omega (arith, i_below, long)) (cap_at caps i) refl
+            (λ g w. revoked_no_table caps a i g w hit);
         there = λ i g rights va caps n is l. tt;
       })
       d.caps h.slots m (first_leaves e d m h)).end
@@ -294,7 +311,8 @@ page_within caps a f named = elim (cases_lt a (length caps)) [
 ]
 
 module _ (e : Estate) (d x : Dom) (m : Mem) (a f : ℕ) (w : IsEstate e) (h : Kept e d m) (named : page_of (cap_at d.caps a) ≡ Some f) where
-  pub delete_means : (delete e d a m).value ≡ inr x → ((i : ℕ) → i ≢ a → page_of (cap_at d.caps i) ≢ Some f) → IsUnreached e (delete e d a m).state f
+  pub delete_means : (delete e d a m).value ≡ inr x → ((i : ℕ) → i ≢ a → page_of (cap_at d.caps i) ≢ Some f)
+      → IsUnreached e (delete e d a m).state f
   delete_means is others =
       given Whatever (λ (y : Dom) (n : Mem). IsUnreached e n f) (delete e d a m)
       (delete_unreached e d m w h a f (page_within d.caps a f named) named others) x is

@@ -24,7 +24,12 @@ use Rattle.call_table.proofs.MeaningSteps.{Gives, either_gives, bind_gives, give
 -- ---- rights
 
 within_same : (r : ℕ) → is_within r r ≡ true
-within_same r = rw (le-leb (r % 2) (r % 2) (le_refl (r % 2)), le-leb (r / 2 % 2) (r / 2 % 2) (le_refl (r / 2 % 2)), le-leb (r / 4 % 2) (r / 4 % 2) (le_refl (r / 4 % 2))) refl
+within_same r =
+    rw (
+      le-leb (r % 2) (r % 2) (le_refl (r % 2)),
+      le-leb (r / 2 % 2) (r / 2 % 2) (le_refl (r / 2 % 2)),
+      le-leb (r / 4 % 2) (r / 4 % 2) (le_refl (r / 4 % 2)),
+    ) refl
 
 le_through : (a b c : ℕ) → nat_le a b ≡ true → nat_le b c ≡ true → nat_le a c ≡ true
 le_through a b c x y = let x' = leb-true a b x in let y' = leb-true b c y in le-leb a c (omega (arith, x', y'))
@@ -35,7 +40,11 @@ within_through a b c x y =
     let q = and_parts _ _ y in
     let p' = and_parts _ _ p.1 in
     let q' = and_parts _ _ q.1 in
-    rw (le_through (a % 2) (b % 2) (c % 2) p.0 q.0, le_through (a / 2 % 2) (b / 2 % 2) (c / 2 % 2) p'.0 q'.0, le_through (a / 4 % 2) (b / 4 % 2) (c / 4 % 2) p'.1 q'.1) refl
+    rw (
+      le_through (a % 2) (b % 2) (c % 2) p.0 q.0,
+      le_through (a / 2 % 2) (b / 2 % 2) (c / 2 % 2) p'.0 q'.0,
+      le_through (a / 4 % 2) (b / 4 % 2) (c / 4 % 2) p'.1 q'.1,
+    ) refl
 
 -- ---- slots of which each page was named before
 
@@ -83,12 +92,21 @@ module _ (New : ℕ → Type 0) (old : Slots) where
   may_copy true code e = refl
   may_copy false code e = absurd (cc e)
 
-  copied_old : (x : Cap) (a c : ℕ) → cap_at old a ≡ Some x → copy_refusal x c ≡ None → IsOld (copied (Some x) c)
+  copied_old : (x : Cap) (a c : ℕ) → cap_at old a ≡ Some x → copy_refusal x c ≡ None
+      → IsOld (copied (Some x) c)
   copied_old (cap.Frame g s v) a c is ok = record {
     page = λ f r w e.
         let rights : c ≡ r = cc e in
         let same : Some (cap.Frame g s v) ≡ Some (cap.Frame f s v) = cc e in
-        inr (a, s, v, is ∙ same, subst (λ (q : ℕ). is_within q s ≡ true) rights (and_parts (are_good c) (is_within c s) (may_copy (may_give s c) 6 ok)).1);
+        inr (
+          a,
+          s,
+          v,
+          is
+              ∙ same,
+          subst (λ (q : ℕ). is_within q s ≡ true) rights
+              (and_parts (are_good c) (is_within c s) (may_copy (may_give s c) 6 ok)).1,
+        );
   }
   copied_old (cap.Table g v) a c is ok = absurd (cc ok)
   copied_old (cap.Irq line) a c is ok = record { page = λ f r w e. absurd (cc e) }
@@ -122,7 +140,8 @@ module _ (New : ℕ → Type 0) (old : Slots) where
     unfolding replied placed with_caps
     slot_old a n c o = old_set d.caps a c h o
 
-    alloc_old : (e : Estate) (a b : ℕ) → ((f : ℕ) → least_free e d.caps ≡ Some f → New f) → Step Stays (alloc e d a b m)
+    alloc_old : (e : Estate) (a b : ℕ) → ((f : ℕ) → least_free e d.caps ≡ Some f → New f)
+        → Step Stays (alloc e d a b m)
     unfolding alloc is_slot
     alloc_old e a b new =
         check_gives Old Stays m d old_refused 2 _ _ (λ _.
@@ -132,7 +151,9 @@ module _ (New : ℕ → Type 0) (old : Slots) where
         zero_gives Old Stays m f _
         (give_gives Old Stays (zeroed_frame m f) _ (slot_old a 0 (Some (fresh_cap b f)) (fresh_by (nat_eq b 0) f (new f is))))))))
 
-    pub copy_from : (a to c : ℕ) → ((x : Cap) → cap_at d.caps a ≡ Some x → copy_refusal x c ≡ None → IsOld (copied (Some x) c)) → Step Stays (copy d a to c m)
+    pub copy_from : (a to c : ℕ)
+        → ((x : Cap) → cap_at d.caps a ≡ Some x → copy_refusal x c ≡ None → IsOld (copied (Some x) c))
+        → Step Stays (copy d a to c m)
     unfolding copy is_slot
     copy_from a to c from =
         check_gives Old Stays m d old_refused 2 _ _ (λ _.
@@ -142,7 +163,9 @@ module _ (New : ℕ → Type 0) (old : Slots) where
         unless_gives Old Stays m d old_refused (copy_refusal x c) _ (λ ok.
         give_gives Old Stays m _ (slot_old to 0 (copied (Some x) c) (from x is ok)))))))
 
-    install_from : (e : Estate) (a va : ℕ) → ((x : Cap) (at : Option ℕ) → cap_at d.caps a ≡ Some x → IsOld (noted (Some x) at)) → Step Stays (install e d a va m)
+    install_from : (e : Estate) (a va : ℕ)
+        → ((x : Cap) (at : Option ℕ) → cap_at d.caps a ≡ Some x → IsOld (noted (Some x) at))
+        → Step Stays (install e d a va m)
     unfolding install
     install_from e a va from =
         filled_gives Old Stays m d old_refused a _ (λ _ x is.
@@ -154,7 +177,9 @@ module _ (New : ℕ → Type 0) (old : Slots) where
         install_gives Old Stays m e.root va t.frame _
         (give_gives Old Stays (installed m e.root va t.frame) _ (slot_old a 0 (noted (Some x) (Some va)) (from x (Some va) is)))))))))
 
-    map_from : (e : Estate) (a va c : ℕ) → ((x : Cap) (at : Option ℕ) → cap_at d.caps a ≡ Some x → IsOld (noted (Some x) at)) → Step Stays (map_page e d a va c m)
+    map_from : (e : Estate) (a va c : ℕ)
+        → ((x : Cap) (at : Option ℕ) → cap_at d.caps a ≡ Some x → IsOld (noted (Some x) at))
+        → Step Stays (map_page e d a va c m)
     unfolding map_page
     map_from e a va c from =
         filled_gives Old Stays m d old_refused a _ (λ _ x is.
@@ -167,7 +192,9 @@ module _ (New : ℕ → Type 0) (old : Slots) where
         map_gives Old Stays m e.root va page.frame c _
         (give_gives Old Stays (mapped m e.root va page.frame c) _ (slot_old a 0 (noted (Some x) (Some va)) (from x (Some va) is))))))))))
 
-    unmap_from : (e : Estate) (a : ℕ) → ((x : Cap) (at : Option ℕ) → cap_at d.caps a ≡ Some x → IsOld (noted (Some x) at)) → Step Stays (unmap e d a m)
+    unmap_from : (e : Estate) (a : ℕ)
+        → ((x : Cap) (at : Option ℕ) → cap_at d.caps a ≡ Some x → IsOld (noted (Some x) at))
+        → Step Stays (unmap e d a m)
     unfolding unmap
     unmap_from e a from =
         filled_gives Old Stays m d old_refused a _ (λ _ x is.
@@ -225,20 +252,25 @@ module _ (New : ℕ → Type 0) (d : Dom) (m : Mem) where
   unfolding call_of
   any_old e new number a b c =
       let h : AreOld New d.caps d.caps = old_same New d.caps in
-      let from : (i : ℕ) (x : Cap) (at : Option ℕ) → cap_at d.caps i ≡ Some x → IsOld New d.caps (noted (Some x) at) = λ i x at is. noted_old New d.caps x i at is in
-      if_gives (Old New d.caps) (Stays New d.caps) m (nat_eq number 0) _ _ (λ _. give_gives (Old New d.caps) (Stays New d.caps) m (exited a d) (exited_old New d.caps d h m a))
+      let from : (i : ℕ) (x : Cap) (at : Option ℕ) → cap_at d.caps i ≡ Some x
+      → IsOld New d.caps (noted (Some x) at) =
+      λ i x at is. noted_old New d.caps x i at is in
+      if_gives (Old New d.caps) (Stays New d.caps) m (nat_eq number 0) _ _
+      (λ _. give_gives (Old New d.caps) (Stays New d.caps) m (exited a d) (exited_old New d.caps d h m a))
       (if_gives (Old New d.caps) (Stays New d.caps) m (nat_eq number 1) _ _ (λ _. put_old New d.caps d h m a)
       (if_gives (Old New d.caps) (Stays New d.caps) m (nat_eq number 2) _ _ (λ _. alloc_old New d.caps d h m e a b new)
       (if_gives (Old New d.caps) (Stays New d.caps) m (nat_eq number 3) _ _ (λ _. install_from New d.caps d h m e a b (from a))
       (if_gives (Old New d.caps) (Stays New d.caps) m (nat_eq number 4) _ _ (λ _. map_from New d.caps d h m e a b c (from a))
       (if_gives (Old New d.caps) (Stays New d.caps) m (nat_eq number 5) _ _ (λ _. unmap_from New d.caps d h m e a (from a))
-      (if_gives (Old New d.caps) (Stays New d.caps) m (nat_eq number 6) _ _ (λ _. copy_from New d.caps d h m a b c (λ x is ok. copied_old New d.caps x a c is ok))
+      (if_gives (Old New d.caps) (Stays New d.caps) m (nat_eq number 6) _ _
+      (λ _. copy_from New d.caps d h m a b c (λ x is ok. copied_old New d.caps x a c is ok))
       (if_gives (Old New d.caps) (Stays New d.caps) m (nat_eq number 7) _ _ (λ _. delete_old New d.caps d h m e a)
       (if_gives (Old New d.caps) (Stays New d.caps) m (nat_eq number 8) _ _ (λ _. revoke_old New d.caps d h m e a)
       (quiet_gives (Old New d.caps) (Stays New d.caps) d (old_refused New d.caps d h m) m _ (later_quiet d number a b)
       (λ x same. subst (AreOld New d.caps) (sym same) h))))))))))
 
-  call_old : (e : Estate) → ((f : ℕ) → least_free e d.caps ≡ Some f → New f) → AreOld New d.caps (either (call e d m).value).caps
+  call_old : (e : Estate) → ((f : ℕ) → least_free e d.caps ≡ Some f → New f)
+      → AreOld New d.caps (either (call e d m).value).caps
   unfolding call
   call_old e new =
       let regs = d.threads.current.regs in

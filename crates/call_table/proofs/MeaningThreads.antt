@@ -72,7 +72,8 @@ module _ (d : Dom) (sound : AreThreads d.threads) where
             ap (λ (x : Thread). is_live x.state) (finished-others d.threads k sound other) ∙ last k below other
       ])
 
-  one_left : (t : ℕ) → t < 8 → t ≢ caller d → is_live (thread_at d.threads t).state ≡ true → has_live (after_end d) ≡ true
+  one_left : (t : ℕ) → t < 8 → t ≢ caller d → is_live (thread_at d.threads t).state ≡ true
+      → has_live (after_end d) ≡ true
   one_left t below other live =
       list_any_at (λ x. is_live x.state) (all_of (after_end d)) t never
       (subst (λ (n : ℕ). t < n) (sym (finished_eight d.threads sound).eight) below)
@@ -93,7 +94,8 @@ end_means e d m sound is = subst (IsThreadEnded d) (sym (end_is e d m is)) (ende
 
 -- ---- PUT
 
-printed_means : (d : Dom) (byte : ℕ) → IsPrinted byte d (done 0 (record d { printed = d.printed ++ byte ∷ [] }))
+printed_means : (d : Dom) (byte : ℕ)
+    → IsPrinted byte d (done 0 (record d { printed = d.printed ++ byte ∷ [] }))
 unfolding replied placed with_current
 printed_means d byte = record { done = record { threads = refl; reply = refl }; last = refl; rest = refl }
 
@@ -221,7 +223,8 @@ vacant_is d t sound v =
       before = λ s less. ap not (v.least s less);
     })
 
-none_vacant : (d : Dom) → AreThreads d.threads → ((t : ℕ) → t < 8 → is_live (thread_at d.threads t).state ≡ true) → vacant d.threads ≡ None
+none_vacant : (d : Dom) → AreThreads d.threads
+    → ((t : ℕ) → t < 8 → is_live (thread_at d.threads t).state ≡ true) → vacant d.threads ≡ None
 unfolding vacant
 none_vacant d sound live =
     position-nowhere (λ x. not (is_live x.state)) (all_of d.threads) never
@@ -262,10 +265,12 @@ module _ (d : Dom) (entry argument t : ℕ) (sound : AreThreads d.threads) (run 
   current = ap (λ (ts : Threads). ts.current) is_put ∙ current_stays d.threads sound t (started entry argument) not_caller
 
   -- the caller's reply leaves every other thread
-  others_stay : (x : Thread) (s : ℕ) → s ≢ caller d → thread_at (with_current Spawned x) s ≡ thread_at Spawned s
+  others_stay : (x : Thread) (s : ℕ) → s ≢ caller d
+      → thread_at (with_current Spawned x) s ≡ thread_at Spawned s
   others_stay x s other = current_others Spawned eight x s (λ same. other (same ∙ turn))
 
-  spawned_means : argument_a d ≡ entry → argument_b d ≡ argument → IsSpawned t d (done t (with_spawned entry argument d))
+  spawned_means : argument_a d ≡ entry → argument_b d ≡ argument
+      → IsSpawned t d (done t (with_spawned entry argument d))
   unfolding replied placed with_spawned with_current
   spawned_means a b =
       let x : Thread = answered 0 t Spawned.current in
@@ -311,7 +316,8 @@ module _ (d : Dom) (sound : AreThreads d.threads) (run : MayRun d) where
   all_stay : (t : ℕ) → thread_at (yielded Past) t ≡ thread_at Past t
   all_stay t = ap (λ (xs : List Thread). get_or xs t never) (yielded-all Past past_eight)
 
-  ready_past : (t : ℕ) → is_ready (thread_at d.threads t).state ≡ true → is_ready (thread_at Past t).state ≡ true
+  ready_past : (t : ℕ) → is_ready (thread_at d.threads t).state ≡ true
+      → is_ready (thread_at Past t).state ≡ true
   ready_past t is = elim (cases_eq t (caller d)) [
     | inl same ↦
         ap (λ (n : ℕ). is_ready (thread_at Past n).state) same ∙ ap (λ (x : Thread). is_ready x.state) (current_at Past) ∙ run

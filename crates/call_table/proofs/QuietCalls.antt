@@ -45,26 +45,52 @@ module _ (d : Dom) where
   stop_quiet : (code : ℕ) → IsCode code → Quiet d (stop (refused code d))
   unfolding stop
   stop_quiet code error =
-      record { value = inl (refused code d); ends = record { code = code; error = error; reply = refl }; is = λ m. refl; memory = λ m. refl; no_work = λ m. refl }
+      record {
+        value = inl (refused code d);
+        ends = record { code = code; error = error; reply = refl };
+        is = λ m. refl;
+        memory = λ m. refl;
+        no_work = λ m. refl;
+      }
 
   if_quiet : (t : Bool) (x y : Act Dom) → Quiet d x → Quiet d y → Quiet d (if t then x else y)
   if_quiet true x y h g = h
   if_quiet false x y h g = g
 
-  check_quiet : (code : ℕ) (t : Bool) (y : Act Dom) → IsCode code → Quiet d y → Quiet d (check (refused code d) t >> y)
+  check_quiet : (code : ℕ) (t : Bool) (y : Act Dom) → IsCode code → Quiet d y
+      → Quiet d (check (refused code d) t >> y)
   unfolding check ◌>>◌ ◌>>=◌ go_on give stop
-  check_quiet code true y error h = record { value = h.value; ends = h.ends; is = λ m. h.is m; memory = λ m. h.memory m; no_work = λ m. h.no_work m }
+  check_quiet code true y error h = record {
+    value = h.value;
+    ends = h.ends;
+    is = λ m. h.is m;
+    memory = λ m. h.memory m;
+    no_work = λ m. h.no_work m;
+  }
   check_quiet code false y error h =
-      record { value = inl (refused code d); ends = record { code = code; error = error; reply = refl }; is = λ m. refl; memory = λ m. refl; no_work = λ m. refl }
+      record {
+        value = inl (refused code d);
+        ends = record { code = code; error = error; reply = refl };
+        is = λ m. refl;
+        memory = λ m. refl;
+        no_work = λ m. refl;
+      }
 
-  some_quiet : {A : Type 0} (code : ℕ) (o : Option A) (f : A → Act Dom) → IsCode code → ((a : A) → Quiet d (f a))
+  some_quiet : {A : Type 0} (code : ℕ) (o : Option A) (f : A → Act Dom) → IsCode code
+      → ((a : A) → Quiet d (f a))
       → Quiet d (some_or (refused code d) o >>= f)
   unfolding some_or ◌>>=◌ go_on give stop
   some_quiet code (Some a) f error h =
       let q = h a in
       record { value = q.value; ends = q.ends; is = λ m. q.is m; memory = λ m. q.memory m; no_work = λ m. q.no_work m }
   some_quiet code None f error h =
-      record { value = inl (refused code d); ends = record { code = code; error = error; reply = refl }; is = λ m. refl; memory = λ m. refl; no_work = λ m. refl }
+      record {
+        value = inl (refused code d);
+        ends = record { code = code; error = error; reply = refl };
+        is = λ m. refl;
+        memory = λ m. refl;
+        no_work = λ m. refl;
+      }
 
   line_by : (t : Bool) (o : Option Cap) (f : ℕ → Act Dom) → ((line : ℕ) → Quiet d (f line))
       → Quiet d (((check (refused 2 d) t >> some_or (refused 3 d) o) >>= (λ c. some_or (refused 5 d) (line_in c))) >>= f)
@@ -73,13 +99,37 @@ module _ (d : Dom) where
       let q = h line in
       record { value = q.value; ends = q.ends; is = λ m. q.is m; memory = λ m. q.memory m; no_work = λ m. q.no_work m }
   line_by true (Some (cap.Frame g rights w)) f h =
-      record { value = inl (refused 5 d); ends = record { code = 5; error = is_code 5 refl; reply = refl }; is = λ m. refl; memory = λ m. refl; no_work = λ m. refl }
+      record {
+        value = inl (refused 5 d);
+        ends = record { code = 5; error = is_code 5 refl; reply = refl };
+        is = λ m. refl;
+        memory = λ m. refl;
+        no_work = λ m. refl;
+      }
   line_by true (Some (cap.Table g w)) f h =
-      record { value = inl (refused 5 d); ends = record { code = 5; error = is_code 5 refl; reply = refl }; is = λ m. refl; memory = λ m. refl; no_work = λ m. refl }
+      record {
+        value = inl (refused 5 d);
+        ends = record { code = 5; error = is_code 5 refl; reply = refl };
+        is = λ m. refl;
+        memory = λ m. refl;
+        no_work = λ m. refl;
+      }
   line_by true None f h =
-      record { value = inl (refused 3 d); ends = record { code = 3; error = is_code 3 refl; reply = refl }; is = λ m. refl; memory = λ m. refl; no_work = λ m. refl }
+      record {
+        value = inl (refused 3 d);
+        ends = record { code = 3; error = is_code 3 refl; reply = refl };
+        is = λ m. refl;
+        memory = λ m. refl;
+        no_work = λ m. refl;
+      }
   line_by false o f h =
-      record { value = inl (refused 2 d); ends = record { code = 2; error = is_code 2 refl; reply = refl }; is = λ m. refl; memory = λ m. refl; no_work = λ m. refl }
+      record {
+        value = inl (refused 2 d);
+        ends = record { code = 2; error = is_code 2 refl; reply = refl };
+        is = λ m. refl;
+        memory = λ m. refl;
+        no_work = λ m. refl;
+      }
 
   line_quiet : (a : ℕ) (f : ℕ → Act Dom) → ((line : ℕ) → Quiet d (f line)) → Quiet d (line_at d a >>= f)
   unfolding line_at filled is_slot

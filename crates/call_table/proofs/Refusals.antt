@@ -94,7 +94,8 @@ module _ (d : Dom) where
   if_tidy true x y a b = a
   if_tidy false x y a b = b
 
-  check_tidy : (code : ℕ) (b : Bool) (y : Act Dom) → IsCode code → Tidy d y → Tidy d (check (refused code d) b >> y)
+  check_tidy : (code : ℕ) (b : Bool) (y : Act Dom) → IsCode code → Tidy d y
+      → Tidy d (check (refused code d) b >> y)
   unfolding check ◌>>◌ ◌>>=◌ go_on give stop
   check_tidy code true y c h = record {
     ends = λ m x e. let r = h.ends m x e in
@@ -102,7 +103,8 @@ module _ (d : Dom) where
   }
   check_tidy code false y c h = record { ends = λ m x e. stopped d x m code c e }
 
-  some_tidy : {A : Type 0} (code : ℕ) (o : Option A) (f : A → Act Dom) → IsCode code → ((a : A) → Tidy d (f a))
+  some_tidy : {A : Type 0} (code : ℕ) (o : Option A) (f : A → Act Dom) → IsCode code
+      → ((a : A) → Tidy d (f a))
       → Tidy d (some_or (refused code d) o >>= f)
   unfolding some_or ◌>>=◌ go_on give stop
   some_tidy code None f c h = record { ends = λ m x e. stopped d x m code c e }
@@ -129,7 +131,8 @@ module _ (d : Dom) where
   unfolding is_slot
   slot_tidy a y h = check_tidy 2 (nat_lt a 64) y two h
 
-  page_refusal_tidy : (root va : ℕ) (f : Option MapRefusal → Act Dom) → ((r : Option MapRefusal) → Tidy d (f r))
+  page_refusal_tidy : (root va : ℕ) (f : Option MapRefusal → Act Dom)
+      → ((r : Option MapRefusal) → Tidy d (f r))
       → Tidy d (page_refusal root va >>= f)
   unfolding page_refusal ◌>>=◌ go_on
   page_refusal_tidy root va f h = record {
@@ -137,7 +140,8 @@ module _ (d : Dom) where
         record { code = r.code; some = r.some; few = r.few; reply = r.reply; memory = r.memory; no_work = r.no_work };
   }
 
-  table_refusal_tidy : (root va : ℕ) (f : Option MapRefusal → Act Dom) → ((r : Option MapRefusal) → Tidy d (f r))
+  table_refusal_tidy : (root va : ℕ) (f : Option MapRefusal → Act Dom)
+      → ((r : Option MapRefusal) → Tidy d (f r))
       → Tidy d (table_refusal root va >>= f)
   unfolding table_refusal ◌>>=◌ go_on
   table_refusal_tidy root va f h = record {
@@ -196,7 +200,8 @@ clear_sure root (Some (cap.Table f None)) y h = record { goes = λ m x e. h.goes
 clear_sure root (Some (cap.Table f (Some va))) y h = record { goes = λ m x e. h.goes _ x e }
 clear_sure root (Some (cap.Irq line)) y h = record { goes = λ m x e. h.goes _ x e }
 
-on_sure : (r : Done Mem Note Dom Dom) (f : Dom → Act Dom) (v : Dom ⊎ Dom) → ((x : Dom) → v ≡ inl x → ⊥) → ((d : Dom) → Sure (f d))
+on_sure : (r : Done Mem Note Dom Dom) (f : Dom → Act Dom) (v : Dom ⊎ Dom) → ((x : Dom) → v ≡ inl x → ⊥)
+    → ((d : Dom) → Sure (f d))
     → (x : Dom) → (go_on r f v).value ≡ inl x → ⊥
 unfolding go_on
 on_sure r f (inl d) g h x e = g d refl
@@ -287,4 +292,5 @@ pub left_out : LeftOutLaw
 unfolding call call_of stop
 left_out e d m out =
     let regs = d.threads.current.regs in
-    ap (λ (b : Bool). call_of e d (if b then register regs 17 else bad_call_op) (register regs 10) (register regs 11) (register regs 12) m) out
+    ap (λ (b : Bool). call_of e d (if b then register regs 17 else bad_call_op) (register regs 10)
+    (register regs 11) (register regs 12) m) out

@@ -29,16 +29,19 @@ no_table_alike (Some (cap.Irq line)) f w e = true≢false (sym e)
 no_table_alike (Some (cap.Frame g rights v)) f w e = true≢false (sym e)
 no_table_alike (Some (cap.Table g v)) f w e = true≢false (sym e)
 
-pub revoked_no_table : (caps : Slots) (a i f : ℕ) (w : Option ℕ) → is_revoked caps a i ≡ true → cap_at caps i ≢ Some (cap.Table f w)
+pub revoked_no_table : (caps : Slots) (a i f : ℕ) (w : Option ℕ) → is_revoked caps a i ≡ true
+    → cap_at caps i ≢ Some (cap.Table f w)
 revoked_no_table caps a i f w r is =
     no_table_alike (cap_at caps a) f w (subst (λ (c : Option Cap). alike (cap_at caps a) c ≡ true) is (and_parts _ _ r).1)
 
 module _ (root a : ℕ) (C : Mem → ℕ → Type 0) (P : Slots → Mem → Type 0) where
   -- P stays where a slot that is revoked is emptied, and gives C of the leaf that is cleared then
   pub record Stays : Type 0 where
-    pub emptied : (i : ℕ) (now : Slots) (m : Mem) → i < 64 → length now ≡ 64 → is_revoked now a i ≡ true → P now m
+    pub emptied : (i : ℕ) (now : Slots) (m : Mem) → i < 64 → length now ≡ 64 → is_revoked now a i ≡ true
+        → P now m
         → P (with_cap now i None) (unmapped_if m root (mapped_at (cap_at now i)))
-    pub there : (i f rights va : ℕ) (now : Slots) (m : Mem) → cap_at now i ≡ Some (cap.Frame f rights (Some va)) → P now m → C m va
+    pub there : (i f rights va : ℕ) (now : Slots) (m : Mem)
+        → cap_at now i ≡ Some (cap.Frame f rights (Some va)) → P now m → C m va
 
   -- P in the end, and C on the way
   pub record Revokes (caps : Slots) (m : Mem) (vas : List ℕ) : Type 0 where
@@ -46,7 +49,8 @@ module _ (root a : ℕ) (C : Mem → ℕ → Type 0) (P : Slots → Mem → Type
     pub end : P (revoked caps a) (unmap_all root vas m).state
 
   module _ (s : Stays) (caps : Slots) (long : length caps ≡ 64) where
-    frame_there : (c : Option Cap) (va : ℕ) → mapped_at c ≡ Some va → (f : ℕ) × (rights : ℕ) × (c ≡ Some (cap.Frame f rights (Some va)))
+    frame_there : (c : Option Cap) (va : ℕ) → mapped_at c ≡ Some va
+        → (f : ℕ) × (rights : ℕ) × (c ≡ Some (cap.Frame f rights (Some va)))
     frame_there None va is = absurd (cc is)
     frame_there (Some (cap.Table f w)) va is = absurd (cc is)
     frame_there (Some (cap.Irq line)) va is = absurd (cc is)
@@ -60,7 +64,8 @@ module _ (root a : ℕ) (C : Mem → ℕ → Type 0) (P : Slots → Mem → Type
       same_test = ap₂ (λ (c z : Option Cap). not (nat_eq i a) && alike c z) (still_there caps a i now r) here
 
       -- the slot, emptied, and those after it
-      emptied_first : is_revoked caps a i ≡ true → (vas : List ℕ) (at : Option ℕ) → mapped_at (cap_at caps i) ≡ at
+      emptied_first : is_revoked caps a i ≡ true → (vas : List ℕ) (at : Option ℕ)
+          → mapped_at (cap_at caps i) ≡ at
           → ((next : Slots) (k : Mem) → RevokedTo caps a (i + 1) next → P next k → Revokes caps k vas) → Revokes caps m (push_some at vas)
       unfolding unmap_all unmap_at ◌>>◌ ◌>>=◌ go_on
       emptied_first hit vas None at go =

@@ -50,7 +50,8 @@ record IsLoose (c : Option Cap) : Type 0 where
 
 -- each page that is mapped was mapped through the same slot
 record OldMaps (d x : Dom) : Type 0 where
-  each : (i f r va : ℕ) → cap_at x.caps i ≡ Some (cap.Frame f r (Some va)) → cap_at d.caps i ≡ Some (cap.Frame f r (Some va))
+  each : (i f r va : ℕ) → cap_at x.caps i ≡ Some (cap.Frame f r (Some va))
+      → cap_at d.caps i ≡ Some (cap.Frame f r (Some va))
 
 same_maps : (d : Dom) → OldMaps d d
 same_maps d = record { each = λ i f r va is. is }
@@ -95,7 +96,8 @@ same_leaves : (m : Mem) (root : ℕ) → NoNewLeaf m m root
 same_leaves m root = record { was = λ r t r_ok ok. refl }
 
 -- a word that is valid after a zero was written is as it was
-still_valid : (n : Mem) (f p g i : ℕ) → valid (word (written n f p 0) g i) ≡ true → word (written n f p 0) g i ≡ word n g i
+still_valid : (n : Mem) (f p g i : ℕ) → valid (word (written n f p 0) g i) ≡ true
+    → word (written n f p 0) g i ≡ word n g i
 still_valid n f p g i ok = elim (at_write n f p 0 g i) [
   | inl here ↦ never (ap valid (sym here.2) ∙ ok)
   | inr there ↦ there
@@ -144,31 +146,43 @@ module _ (e : Estate) (d : Dom) (m : Mem) where
         leaves = less_leaves m n e.root _ _ h.leaves;
       }))
   clear_less x n (Some (cap.Frame f rights None)) i h =
-      nothing_gives Whatever Less n _ (give_gives Whatever Less n _ (record { maps = slot_maps d x i None h.maps no_cap; leaves = h.leaves }))
+      nothing_gives Whatever Less n _
+      (give_gives Whatever Less n _
+      (record { maps = slot_maps d x i None h.maps no_cap; leaves = h.leaves }))
   clear_less x n (Some (cap.Table f None)) i h =
-      nothing_gives Whatever Less n _ (give_gives Whatever Less n _ (record { maps = slot_maps d x i None h.maps no_cap; leaves = h.leaves }))
+      nothing_gives Whatever Less n _
+      (give_gives Whatever Less n _
+      (record { maps = slot_maps d x i None h.maps no_cap; leaves = h.leaves }))
   clear_less x n (Some (cap.Irq line)) i h =
-      nothing_gives Whatever Less n _ (give_gives Whatever Less n _ (record { maps = slot_maps d x i None h.maps no_cap; leaves = h.leaves }))
+      nothing_gives Whatever Less n _
+      (give_gives Whatever Less n _
+      (record { maps = slot_maps d x i None h.maps no_cap; leaves = h.leaves }))
   clear_less x n None i h =
-      nothing_gives Whatever Less n _ (give_gives Whatever Less n _ (record { maps = slot_maps d x i None h.maps no_cap; leaves = h.leaves }))
+      nothing_gives Whatever Less n _
+      (give_gives Whatever Less n _
+      (record { maps = slot_maps d x i None h.maps no_cap; leaves = h.leaves }))
 
   drop_less : (i : ℕ) (x : Dom) (n : Mem) → IsLess x n → Gives Whatever Less (drop_slot e i x n)
   unfolding drop_slot
   drop_less i x n h = clear_less x n (cap_at x.caps i) i h
 
-  all_less : (vas : List ℕ) (n : Mem) → NoNewLeaf m n e.root → NoNewLeaf m (unmap_all e.root vas n).state e.root
+  all_less : (vas : List ℕ) (n : Mem) → NoNewLeaf m n e.root
+      → NoNewLeaf m (unmap_all e.root vas n).state e.root
   unfolding unmap_all unmap_at give ◌>>◌ ◌>>=◌ go_on
   all_less [] n h = h
   all_less (va ∷ vas) n h = all_less vas (unmapped n e.root va) (less_leaves m n e.root _ _ h)
 
-  revoked_less : (a : ℕ) (vas : List ℕ) → IsLess (with_caps (revoked d.caps a) d) (unmap_all e.root vas m).state
+  revoked_less : (a : ℕ) (vas : List ℕ)
+      → IsLess (with_caps (revoked d.caps a) d) (unmap_all e.root vas m).state
   unfolding with_caps
   revoked_less a vas = record {
     maps = record { each = λ i f r va is. by_test i f r va (is_revoked d.caps a i) (sym (at_revoked d.caps a i) ∙ is) };
     leaves = all_less vas m (same_leaves m e.root);
   }
     where
-      by_test : (i f r va : ℕ) (t : Bool) → (if t then None else cap_at d.caps i) ≡ Some (cap.Frame f r (Some va)) → cap_at d.caps i ≡ Some (cap.Frame f r (Some va))
+      by_test : (i f r va : ℕ) (t : Bool)
+          → (if t then None else cap_at d.caps i) ≡ Some (cap.Frame f r (Some va))
+          → cap_at d.caps i ≡ Some (cap.Frame f r (Some va))
       by_test i f r va true is = absurd (cc is)
       by_test i f r va false is = is
 
@@ -217,7 +231,8 @@ module _ (e : Estate) (d : Dom) (m : Mem) (h : Kept e d m) where
   abbrev More : Dom → Mem → Type 0
   More x n = IsMore x n
 
-  slot_more : (a value : ℕ) (c : Option Cap) (n : Mem) → IsLoose c → KeepsEntries m n e.root → IsMore (done value (with_slot d a c)) n
+  slot_more : (a value : ℕ) (c : Option Cap) (n : Mem) → IsLoose c → KeepsEntries m n e.root
+      → IsMore (done value (with_slot d a c)) n
   slot_more a value c n l k =
       record { maps = done_maps d (with_slot d a c) value (slot_maps d d a c (same_maps d) l); entries = k }
 
@@ -293,7 +308,8 @@ module _ (e : Estate) (d : Dom) (m : Mem) (w : AreWithin e d m) where
         let there : has_table n e.root va ≡ true = (ready e x n h).mapped i f r va is in
         let claim : claims e x.caps i ≡ Claim.Leaf true f (Some (vpn_1 va, vpn_0 va)) = claim_at e x.caps i (cap.Frame f r (Some va)) is in
         let at : IsMapped (claims e x.caps) n f (vpn_1 va) (vpn_0 va) = h.facts.mapped i true f (vpn_1 va) (vpn_0 va) claim in
-        let frame : table_of n e.root va ≡ at.frame = ap ppn (h.facts.installed at.slot at.frame (vpn_1 va) at.claim) ∙ ppn-table at.frame in
+        let frame : table_of n e.root va ≡ at.frame =
+        ap ppn (h.facts.installed at.slot at.frame (vpn_1 va) at.claim) ∙ ppn-table at.frame in
         let entry : second_entry n e.root va ≡ leaf_word f at.rights =
         ap (λ (g : ℕ). word n g (vpn_0 va)) frame ∙ at.entry_is in
         leaf_same n f r va old there
@@ -306,16 +322,21 @@ module _ (e : Estate) (d : Dom) (m : Mem) (w : AreWithin e d m) where
     abbrev Within : Dom → Mem → Type 0
     Within x n = AreWithin e x n
 
-    map_slot : (page : Page) → cap_at d.caps a ≡ Some (cap.Frame page.frame page.rights page.mapped) → may_give page.rights c ≡ true
+    map_slot : (page : Page) → cap_at d.caps a ≡ Some (cap.Frame page.frame page.rights page.mapped)
+        → may_give page.rights c ≡ true
         → map_refusal m e.root b ≡ None
-        → Within (done 0 (with_slot d a (noted (Some (cap.Frame page.frame page.rights page.mapped)) (Some b)))) (mapped m e.root b page.frame c)
+        → Within (done 0
+        (with_slot d a (noted (Some (cap.Frame page.frame page.rights page.mapped)) (Some b))))
+        (mapped m e.root b page.frame c)
     unfolding replied placed with_caps
     map_slot page there may none =
         let can : CanTake m e.root b = map_allowed m e.root b none in
         let n : Mem = mapped m e.root b page.frame c in
         let keeps : KeepsEntries m n e.root = page_mapped e d m h b page.frame c can in
         let new : IsWithin e n page.frame page.rights b = record {
-          table = ap valid (first_in m e.root e.share.frames b (leaf_word page.frame c) (page_tables e d m h).map can.table b refl) ∙ can.table;
+          table =
+              ap valid (first_in m e.root e.share.frames b (leaf_word page.frame c)
+              (page_tables e d m h).map can.table b refl) ∙ can.table;
           given = c;
           good = (and_parts (are_good c) (is_within c page.rights) may).0;
           within = (and_parts (are_good c) (is_within c page.rights) may).1;
@@ -345,7 +366,9 @@ module _ (e : Estate) (d : Dom) (m : Mem) (w : AreWithin e d m) where
         (allowed_gives Whatever Within m d (λ _. tt) (map_refusal m e.root b) _ (λ none.
         map_gives Whatever Within m e.root b page.frame c _
         (give_gives Whatever Within (mapped m e.root b page.frame c) _
-        (subst (λ (y : Cap). Within (done 0 (with_slot d a (noted (Some y) (Some b)))) (mapped m e.root b page.frame c)) (sym (page_in_is x page is))
+        (subst (λ (y : Cap).
+        Within (done 0 (with_slot d a (noted (Some y) (Some b)))) (mapped m e.root b page.frame c))
+        (sym (page_in_is x page is))
         (map_slot page (there ∙ ap Some (page_in_is x page is)) may none))))))))))
 
   -- ---- all of them
@@ -355,7 +378,8 @@ module _ (e : Estate) (d : Dom) (m : Mem) (w : AreWithin e d m) where
     abbrev Then : Dom → Mem → Type 0
     Then x n = Kept e x n → AreWithin e x n
 
-    weaker : (P : Dom → Mem → Type 0) (r : Done Mem Note Dom Dom) → Gives Whatever P r → ((x : Dom) (n : Mem) → P x n → Then x n)
+    weaker : (P : Dom → Mem → Type 0) (r : Done Mem Note Dom Dom) → Gives Whatever P r
+        → ((x : Dom) (n : Mem) → P x n → Then x n)
         → Gives Whatever Then r
     weaker P r g f = record { ends = by_value r.value g.ends }
       where
@@ -396,7 +420,8 @@ module _ (e : Estate) (d : Dom) (m : Mem) (w : AreWithin e d m) where
     refused_within code = record { each = w.each }
 
     module _ (number a b c : ℕ) (k : LeavesKept e (call_of e d number a b c m)) where
-      by_end : (v : Dom ⊎ Dom) → (call_of e d number a b c m).value ≡ v → Kept e (either v) (call_of e d number a b c m).state
+      by_end : (v : Dom ⊎ Dom) → (call_of e d number a b c m).value ≡ v
+          → Kept e (either v) (call_of e d number a b c m).state
           → AreWithin e (either v) (call_of e d number a b c m).state
       unfolding either
       by_end (inl x) is after =
@@ -437,7 +462,8 @@ stores_within e d m f i v h w page = record {
 -- ---- walks
 
 -- the rights that a leaf was given permit no access that the capability's do not
-permits_more : (access : Access) (c r : ℕ) → is_within c r ≡ true → rights_permit c access ≡ true → rights_permit r access ≡ true
+permits_more : (access : Access) (c r : ℕ) → is_within c r ≡ true → rights_permit c access ≡ true
+    → rights_permit r access ≡ true
 unfolding rights_permit
 permits_more access c r within permits = by_access access permits
   where
@@ -460,7 +486,8 @@ record MappedAt (c : Option Cap) (f r t : ℕ) : Type 0 where
   root : vpn_1 at ≡ r
   table : vpn_0 at ≡ t
 
-mapped_claim : (c : Option Cap) (b : Bool) (f r t : ℕ) → claim_of c ≡ Claim.Leaf b f (Some (r, t)) → MappedAt c f r t
+mapped_claim : (c : Option Cap) (b : Bool) (f r t : ℕ) → claim_of c ≡ Claim.Leaf b f (Some (r, t))
+    → MappedAt c f r t
 unfolding claim_of entry_places
 mapped_claim None b f r t is = absurd (cc is)
 mapped_claim (Some (cap.Irq line)) b f r t is = absurd (cc is)
@@ -490,7 +517,8 @@ module _ (e : Estate) (d : Dom) (m : Mem) (va leaf : ℕ) (access : Access) (h :
       (elim (cases_lt l.slot (length d.caps)) [
         | inl below ↦
             let c : MappedAt (cap_at d.caps l.slot) l.frame (vpn_1 va) (vpn_0 va) =
-            mapped_claim (cap_at d.caps l.slot) l.by_cap l.frame (vpn_1 va) (vpn_0 va) (sym (claim_within e d.caps l.slot below) ∙ l.claim) in
+            mapped_claim (cap_at d.caps l.slot) l.by_cap l.frame (vpn_1 va) (vpn_0 va)
+            (sym (claim_within e d.caps l.slot below) ∙ l.claim) in
             let i : IsWithin e m l.frame c.rights c.at = w.each l.slot l.frame c.rights c.at c.is in
             let same : second_entry m e.root c.at ≡ second_entry m e.root va =
             ap₂ (λ (r t : ℕ). word m (ppn (word m e.root r)) t) c.root c.table in

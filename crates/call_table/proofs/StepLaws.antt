@@ -29,7 +29,8 @@ in_table : Option (ℕ × ℕ) → ℕ
 in_table None = 0
 in_table (Some p) = p.1
 
-pub leaf_same : {b a : Bool} {f x r t q u : ℕ} → Leaf b f (Some (r, t)) ≡ Leaf a x (Some (q, u)) → (q ≡ r) × (u ≡ t)
+pub leaf_same : {b a : Bool} {f x r t q u : ℕ} → Leaf b f (Some (r, t)) ≡ Leaf a x (Some (q, u))
+    → (q ≡ r) × (u ≡ t)
 unfolding leaf_at in_root in_table
 leaf_same e = (sym (ap (λ c. in_root (leaf_at c)) e), sym (ap (λ c. in_table (leaf_at c)) e))
 
@@ -55,7 +56,8 @@ module _ (root : ℕ) (own : ℕ → Bool) (k : Claims) (m : Mem) (h : Facts roo
   }
 
   -- the word of a mapped page is valid
-  pub mapped_valid : (i : ℕ) (b : Bool) (g r t d f : ℕ) → k i ≡ Leaf b g (Some (r, t)) → k d ≡ Directory f (Some r)
+  pub mapped_valid : (i : ℕ) (b : Bool) (g r t d f : ℕ) → k i ≡ Leaf b g (Some (r, t))
+      → k d ≡ Directory f (Some r)
       → valid (word m f t) ≡ true
   mapped_valid i b g r t d f x z =
       let l : IsMapped k m g r t = h.mapped i b g r t x in
@@ -63,7 +65,8 @@ module _ (root : ℕ) (own : ℕ → Bool) (k : Claims) (m : Mem) (h : Facts roo
       subst (λ (f : ℕ). valid (word m f t) ≡ true) e
       (subst (λ (x : ℕ). valid x ≡ true) (sym l.entry_is) (valid-leaf g l.rights l.good))
 
-  pub mapping : (b : Bool) (f : ℕ) → k s ≡ Leaf b f None → (d g r t c : ℕ) → are_good c ≡ true → k d ≡ Directory g (Some r)
+  pub mapping : (b : Bool) (f : ℕ) → k s ≡ Leaf b f None → (d g r t c : ℕ) → are_good c ≡ true
+      → k d ≡ Directory g (Some r)
       → valid (word m g t) ≡ false → Facts root own (with_claim k s (Leaf b f (Some (r, t)))) (written m g t (leaf_word f c))
   unfolding leaf_at
   mapping b f e d g r t c good z bad =
@@ -130,7 +133,8 @@ module _ (root : ℕ) (own : ℕ → Bool) (k : Claims) (m : Mem) (h : Facts roo
       })
       (joins_page b f (Some (r, t)) None e (λ j q u n p x. absurd (cc p)))
 
-  pub uninstalling : (f r : ℕ) → k s ≡ Directory f (Some r) → ((i : ℕ) (b : Bool) (g u : ℕ) → k i ≡ Leaf b g (Some (r, u)) → ⊥)
+  pub uninstalling : (f r : ℕ) → k s ≡ Directory f (Some r)
+      → ((i : ℕ) (b : Bool) (g u : ℕ) → k i ≡ Leaf b g (Some (r, u)) → ⊥)
       → Facts root own (with_claim k s Nothing) (written m root r 0)
   uninstalling f r e none =
       root_write root own k m h s Nothing r 0
@@ -188,7 +192,8 @@ module _ (root : ℕ) (own : ℕ → Bool) (k : Claims) (m : Mem) (h : Facts roo
       })
 
   -- a claim that stands for no entry goes
-  pub dropping : ((f q : ℕ) → k s ≡ Directory f (Some q) → ⊥) → ((b : Bool) (g q u : ℕ) → k s ≡ Leaf b g (Some (q, u)) → ⊥)
+  pub dropping : ((f q : ℕ) → k s ≡ Directory f (Some q) → ⊥)
+      → ((b : Bool) (g q u : ℕ) → k s ≡ Leaf b g (Some (q, u)) → ⊥)
       → ((f : ℕ) → k s ≡ Fixed f → ⊥) → Facts root own (with_claim k s Nothing) m
   dropping t l x = loose root own k m h s Nothing
       (record {
@@ -209,7 +214,8 @@ module _ (root : ℕ) (own : ℕ → Bool) (k : Claims) (m : Mem) (h : Facts roo
       (λ f p. let w : Nothing ≡ Fixed f = sym e ∙ p in absurd (cc w))
 
   -- a frame that no claim names, cleared, is named by one
-  pub claiming : k s ≡ Nothing → (g : ℕ) → own g ≡ true → ((i : ℕ) → frame_of (k i) ≡ Some g → ⊥) → (b : Bool) → (y : Claim)
+  pub claiming : k s ≡ Nothing → (g : ℕ) → own g ≡ true → ((i : ℕ) → frame_of (k i) ≡ Some g → ⊥) → (b : Bool)
+      → (y : Claim)
       → (y ≡ Leaf b g None) ⊎ (y ≡ Directory g None) → Facts root own (with_claim k s y) (zeroed_frame m g)
   unfolding frame_of is_shared leaf_at
   claiming e g mine free b y is =

@@ -42,20 +42,23 @@ module _ (root : ℕ) (own : ℕ → Bool) (k : Claims) (m : Mem) (h : Facts roo
   unfolding frame_of
   own_table i f a x = h.owned i f (ap frame_of x)
 
-  pub same_region : (i j f r q : ℕ) → k i ≡ Claim.Directory f (Some r) → k j ≡ Claim.Directory f (Some q) → r ≡ q
+  pub same_region : (i j f r q : ℕ) → k i ≡ Claim.Directory f (Some r) → k j ≡ Claim.Directory f (Some q)
+      → r ≡ q
   unfolding region_in
   same_region i j f r q x y =
       some_same (ap region_in (sym x ∙ ap k (one_slot root own k m h i j f (Some r) (Some q) x y) ∙ y))
 
   -- a page's frame is no table and not one that stays
-  pub leaf_no_table : (i j g : ℕ) (b : Bool) (w : Option (ℕ × ℕ)) (a : Option ℕ) → k i ≡ Claim.Leaf b g w → k j ≢ Claim.Directory g a
+  pub leaf_no_table : (i j g : ℕ) (b : Bool) (w : Option (ℕ × ℕ)) (a : Option ℕ) → k i ≡ Claim.Leaf b g w
+      → k j ≢ Claim.Directory g a
   unfolding frame_of is_shared
   leaf_no_table i j g b w a x y =
       let same : i ≡ j = only i j g (ap frame_of x) (ap frame_of y) (ap is_shared y) in
       let no : Claim.Leaf b g w ≡ Claim.Directory g a = sym x ∙ ap k same ∙ y in
       cc no
 
-  pub leaf_not_fixed : (i j g : ℕ) (b : Bool) (w : Option (ℕ × ℕ)) → k i ≡ Claim.Leaf b g w → k j ≢ Claim.Fixed g
+  pub leaf_not_fixed : (i j g : ℕ) (b : Bool) (w : Option (ℕ × ℕ)) → k i ≡ Claim.Leaf b g w
+      → k j ≢ Claim.Fixed g
   unfolding frame_of is_shared
   leaf_not_fixed i j g b w x y =
       let same : i ≡ j = only i j g (ap frame_of x) (ap frame_of y) (ap is_shared y) in
@@ -90,14 +93,16 @@ module _ (root : ℕ) (own : ℕ → Bool) (k : Claims) (m : Mem) (h : Facts roo
       same_region t.slot u.slot t.frame r q t.claim (subst (λ (f : ℕ). k u.slot ≡ Claim.Directory f (Some q)) same u.claim)
 
   -- a valid entry of such a table is a page's leaf
-  pub leaf_entry : (r t : ℕ) → valid (word m root r) ≡ true → valid (entry_at m root r t) ≡ true → IsLeaf k (entry_at m root r t) r t
+  pub leaf_entry : (r t : ℕ) → valid (word m root r) ≡ true → valid (entry_at m root r t) ≡ true
+      → IsLeaf k (entry_at m root r t) r t
   leaf_entry r t r_ok ok =
       let d = h.tables r r_ok in
       let same : entry_at m root r t ≡ word m d.frame t = ap (λ (f : ℕ). word m f t) (table_frame r r_ok) in
       subst (λ (w : ℕ). IsLeaf k w r t) (sym same) (h.leaves d.slot d.frame r t d.claim (ap valid (sym same) ∙ ok))
 
   -- the frame of a page is none that the root's entries name
-  pub leaf_unnamed : (i g r : ℕ) (b : Bool) (w : Option (ℕ × ℕ)) → k i ≡ Claim.Leaf b g w → valid (word m root r) ≡ true
+  pub leaf_unnamed : (i g r : ℕ) (b : Bool) (w : Option (ℕ × ℕ)) → k i ≡ Claim.Leaf b g w
+      → valid (word m root r) ≡ true
       → ppn (word m root r) ≢ g
   leaf_unnamed i g r b w x ok e =
       let t = h.tables r ok in

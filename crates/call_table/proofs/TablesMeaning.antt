@@ -21,7 +21,8 @@ mine_is_own e f own = let parts = and_parts _ _ own in record { below = ltb-true
 
 module _ (e : Estate) (d : Dom) (m : Mem) (h : Kept e d m) where
   -- the frame of a claimed page
-  pub page_frame : (i f : ℕ) (b : Bool) (w : Option (ℕ × ℕ)) → claims e d.caps i ≡ Claim.Leaf b f w → IsPageFrame e d m f
+  pub page_frame : (i f : ℕ) (b : Bool) (w : Option (ℕ × ℕ)) → claims e d.caps i ≡ Claim.Leaf b f w
+      → IsPageFrame e d m f
   page_frame i f b w x = record {
     own = own_leaf e.root (is_mine e) (claims e d.caps) m h.facts i f b w x;
     apart = record {
@@ -32,15 +33,18 @@ module _ (e : Estate) (d : Dom) (m : Mem) (h : Kept e d m) where
     not_fixed = λ j. leaf_not_fixed e.root (is_mine e) (claims e d.caps) m h.facts i j f b w x;
   }
 
-  entry_page : (r t : ℕ) → valid (word m e.root r) ≡ true → valid (entry_at m e.root r t) ≡ true → IsPageFrame e d m (ppn (entry_at m e.root r t))
+  entry_page : (r t : ℕ) → valid (word m e.root r) ≡ true → valid (entry_at m e.root r t) ≡ true
+      → IsPageFrame e d m (ppn (entry_at m e.root r t))
   entry_page r t r_ok ok =
       let l = leaf_entry e.root (is_mine e) (claims e d.caps) m h.facts r t r_ok ok in
-      subst (IsPageFrame e d m) (sym (leaf_frame (claims e d.caps) (entry_at m e.root r t) r t l)) (page_frame l.slot l.frame l.by_cap (Some (r, t)) l.claim)
+      subst (IsPageFrame e d m) (sym (leaf_frame (claims e d.caps) (entry_at m e.root r t) r t l))
+      (page_frame l.slot l.frame l.by_cap (Some (r, t)) l.claim)
 
   pages : PagesIn (IsPageFrame e d m) m e.root
   pages = record { each = λ r t r_below t_below r_ok ok. entry_page r t r_ok ok }
 
-  entry_leaf : (r t : ℕ) → valid (word m e.root r) ≡ true → valid (entry_at m e.root r t) ≡ true → is_leaf (entry_at m e.root r t) ≡ true
+  entry_leaf : (r t : ℕ) → valid (word m e.root r) ≡ true → valid (entry_at m e.root r t) ≡ true
+      → is_leaf (entry_at m e.root r t) ≡ true
   entry_leaf r t r_ok ok =
       let l = leaf_entry e.root (is_mine e) (claims e d.caps) m h.facts r t r_ok ok in
       ap is_leaf l.entry_is ∙ leaf-good l.frame l.rights l.good

@@ -14,19 +14,22 @@ filled_within caps i c e = elim (cases_lt i (length caps)) [
   | inr past ↦ let no : None ≡ Some c = sym (get_or_past caps i None past) ∙ e in absurd (cc no)
 ]
 
-pub claim_within : (e : Estate) (caps : Slots) (i : ℕ) → i < length caps → claims e caps i ≡ claim_of (cap_at caps i)
+pub claim_within : (e : Estate) (caps : Slots) (i : ℕ) → i < length caps
+    → claims e caps i ≡ claim_of (cap_at caps i)
 unfolding claims all_claims
 claim_within e caps i below =
     get_or_append_left (map claim_of caps) e.fixed Claim.Nothing i (omega (arith, below, length-map caps claim_of))
     ∙ get_or-map claim_of caps i None Claim.Nothing below
 
-pub claim_at : (e : Estate) (caps : Slots) (i : ℕ) (c : Cap) → cap_at caps i ≡ Some c → claims e caps i ≡ claim_of (Some c)
+pub claim_at : (e : Estate) (caps : Slots) (i : ℕ) (c : Cap) → cap_at caps i ≡ Some c
+    → claims e caps i ≡ claim_of (Some c)
 claim_at e caps i c is = claim_within e caps i (filled_within caps i c is) ∙ ap claim_of is
 
 pub cap_same : (caps : Slots) (a : ℕ) (c : Option Cap) → a < length caps → cap_at (with_cap caps a c) a ≡ c
 cap_same caps a c below = get_or-set_same caps a c None below
 
-pub cap_other : (caps : Slots) (a i : ℕ) (c : Option Cap) → i ≢ a → cap_at (with_cap caps a c) i ≡ cap_at caps i
+pub cap_other : (caps : Slots) (a i : ℕ) (c : Option Cap) → i ≢ a
+    → cap_at (with_cap caps a c) i ≡ cap_at caps i
 cap_other caps a i c apart = get_or-set_other caps a i c None apart
 
 -- a slot that is filled after one was set was that one, or was filled before

@@ -24,7 +24,8 @@ use Rattle.call_table.proofs.ThreadLawsTurns.{waits_apart, current_eight, curren
 
 -- ---- a signal
 
-waits_for_one : (line other : ℕ) (s : ThreadState) → waits_for line s ≡ true → waits_for other s ≡ true → other ≡ line
+waits_for_one : (line other : ℕ) (s : ThreadState) → waits_for line s ≡ true → waits_for other s ≡ true
+    → other ≡ line
 waits_for_one line other (Waiting l) is was = sym (eqb-true l other was) ∙ eqb-true l line is
 waits_for_one line other Never is was = absurd (cc is)
 waits_for_one line other Ready is was = absurd (cc is)
@@ -67,7 +68,8 @@ module _ (line : ℕ) (d : Dom) where
   unfolding signalled
   signalled_ready h run = ready_by (waiter line d.threads) refl h run
 
-  pub signalled_others : AreThreads d.threads → (other t : ℕ) → other ≢ line → waits_for other (thread_at d.threads t).state ≡ true
+  pub signalled_others : AreThreads d.threads → (other t : ℕ) → other ≢ line
+      → waits_for other (thread_at d.threads t).state ≡ true
       → thread_at (signalled line d).threads t ≡ thread_at d.threads t
   unfolding signalled
   signalled_others sound other t apart waits = others_by (waiter line d.threads) refl sound other t apart waits
@@ -193,7 +195,8 @@ module _ (Excuse : ℕ → Type 0) (d : Dom) where
         ];
       }
 
-  spawn_fair : (entry argument v : ℕ) → vacant d.threads ≡ Some v → Fair (done v (with_spawned entry argument d))
+  spawn_fair : (entry argument v : ℕ) → vacant d.threads ≡ Some v
+      → Fair (done v (with_spawned entry argument d))
   unfolding replied placed with_spawned
   spawn_fair entry argument v is =
       let ts : Threads = spawned d.threads entry argument in
@@ -249,7 +252,9 @@ module _ (Excuse : ℕ → Type 0) (d : Dom) where
     unfolding put_byte
     put_call a =
         check_gives Fair FairIn m d refused_fair 11 _ _ (λ _.
-        give_gives Fair FairIn m _ (done_fair 0 0 (record d { printed = d.printed ++ a % 256 ∷ [] }) (record { threads = refl; count = refl })))
+        give_gives Fair FairIn m _
+        (done_fair 0 0 (record d { printed = d.printed ++ a % 256 ∷ [] })
+        (record { threads = refl; count = refl })))
 
     alloc_call : (a b : ℕ) → Gives Fair FairIn (alloc e d a b m)
     unfolding alloc is_slot
@@ -340,7 +345,8 @@ module _ (Excuse : ℕ → Type 0) (d : Dom) where
         line_gives Fair FairIn m d refused_fair a _ (λ line _.
         give_gives Fair FairIn m _ (wait_fair (is_set d line) line))
 
-    signal_call : (a : ℕ) → ((line : ℕ) → line_of (cap_at d.caps a) ≡ Some line → Excuse line) → Gives Fair FairIn (signal d a m)
+    signal_call : (a : ℕ) → ((line : ℕ) → line_of (cap_at d.caps a) ≡ Some line → Excuse line)
+        → Gives Fair FairIn (signal d a m)
     unfolding signal
     signal_call a excused =
         line_gives Fair FairIn m d refused_fair a _ (λ line names.
@@ -377,7 +383,8 @@ module _ (Excuse : ℕ → Type 0) (d : Dom) where
 
 -- ---- the laws of calls
 
-call_fair : (e : Estate) (d : Dom) (m : Mem) → IsFair (λ line. Signals e d line ⊎ (number_made e d ≡ 0)) d (after_call e d m)
+call_fair : (e : Estate) (d : Dom) (m : Mem)
+    → IsFair (λ line. Signals e d line ⊎ (number_made e d ≡ 0)) d (after_call e d m)
 unfolding call
 call_fair e d m =
     let regs = d.threads.current.regs in

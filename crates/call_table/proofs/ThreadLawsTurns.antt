@@ -50,7 +50,8 @@ module _ (ts : Threads) where
   current_at = get_or-append_seam ts.before ts.current ts.after never
 
   -- a thread that waits isn't the current one, where that is ready
-  pub waits_apart : (line t : ℕ) → is_ready ts.current.state ≡ true → waits_for line (thread_at ts t).state ≡ true → t ≢ current_number ts
+  pub waits_apart : (line t : ℕ) → is_ready ts.current.state ≡ true
+      → waits_for line (thread_at ts t).state ≡ true → t ≢ current_number ts
   waits_apart line t run waits same =
       let here : thread_at ts t ≡ ts.current = ap (λ (k : ℕ). thread_at ts k) same ∙ current_at in
       not_both line ts.current.state run (sym (ap (λ (x : Thread). waits_for line x.state) here) ∙ waits)
@@ -65,11 +66,13 @@ module _ (ts : Threads) where
     pub current_eight : (x : Thread) → AreThreads (with_current ts x)
     current_eight x = subst AreThreads (sym (current_put x)) (thread-eight ts (current_number ts) x sound)
 
-    pub current_others : (x : Thread) (t : ℕ) → t ≢ current_number ts → thread_at (with_current ts x) t ≡ thread_at ts t
+    pub current_others : (x : Thread) (t : ℕ) → t ≢ current_number ts
+        → thread_at (with_current ts x) t ≡ thread_at ts t
     current_others x t other = ap (λ (s : Threads). thread_at s t) (current_put x) ∙ put-others ts (current_number ts) t x sound other
 
     -- one that is put elsewhere leaves the current one
-    pub current_stays : (t : ℕ) (x : Thread) → t ≢ current_number ts → (with_thread ts t x).current ≡ ts.current
+    pub current_stays : (t : ℕ) (x : Thread) → t ≢ current_number ts
+        → (with_thread ts t x).current ≡ ts.current
     current_stays t x other =
         sym (get_or-append_seam (with_thread ts t x).before (with_thread ts t x).current (with_thread ts t x).after never)
         ∙ ap (λ (k : ℕ). thread_at (with_thread ts t x) k) (put-turn ts t x sound)
@@ -100,13 +103,15 @@ module _ (ts : Threads) where
     }
 
 -- the current thread goes on
-pub moved_turn : (ts : Threads) (x : Thread) → x.state ≡ ts.current.state → HasTurn ts → HasTurn (with_current ts x)
+pub moved_turn : (ts : Threads) (x : Thread) → x.state ≡ ts.current.state → HasTurn ts
+    → HasTurn (with_current ts x)
 unfolding with_current
 moved_turn ts x same h = record {
   eight = current_eight ts h.eight x;
   ready = λ t below is. elim (cases_eq t (current_number ts)) [
     | inl here ↦
-        sym (ap (λ (y : Thread). is_ready y.state) (ap (λ (k : ℕ). thread_at (with_current ts x) k) here ∙ current_at (with_current ts x))) ∙ is
+        sym (ap (λ (y : Thread). is_ready y.state)
+        (ap (λ (k : ℕ). thread_at (with_current ts x) k) here ∙ current_at (with_current ts x))) ∙ is
     | inr other ↦
         ap is_ready same
         ∙ h.ready t below (ap (λ (y : Thread). is_ready y.state) (sym (current_others ts h.eight x t other)) ∙ is)
@@ -115,7 +120,9 @@ moved_turn ts x same h = record {
 
 pub blocked_turn : (ts : Threads) (line : ℕ) → AreThreads ts → HasTurn (blocked line ts)
 unfolding blocked
-blocked_turn ts line sound = given_turn (with_current ts (in_state (Waiting line) ts.current)) (current_eight ts sound (in_state (Waiting line) ts.current))
+blocked_turn ts line sound =
+    given_turn (with_current ts (in_state (Waiting line) ts.current))
+    (current_eight ts sound (in_state (Waiting line) ts.current))
 
 pub finished_turn : (ts : Threads) → AreThreads ts → HasTurn (finished ts)
 unfolding finished
@@ -131,11 +138,13 @@ woken_turn ts line h = by_waiter (waiter line ts)
     by_waiter None = h
     by_waiter (Some w) = given_turn (with_thread ts w (resumed (thread_at ts w))) (thread-eight ts w (resumed (thread_at ts w)) h.eight)
 
-pub waiter_waits : (ts : Threads) (line w : ℕ) → waiter line ts ≡ Some w → waits_for line (thread_at ts w).state ≡ true
+pub waiter_waits : (ts : Threads) (line w : ℕ) → waiter line ts ≡ Some w
+    → waits_for line (thread_at ts w).state ≡ true
 waiter_waits ts line w is = (waiter-first ts line w is).passes
 
 -- a current thread that is ready stays ready
-pub woken_ready : (ts : Threads) (line w : ℕ) → HasTurn ts → is_ready ts.current.state ≡ true → waiter line ts ≡ Some w
+pub woken_ready : (ts : Threads) (line w : ℕ) → HasTurn ts → is_ready ts.current.state ≡ true
+    → waiter line ts ≡ Some w
     → is_ready (woken line ts).current.state ≡ true
 woken_ready ts line w h run is =
     let apart : w ≢ current_number ts = waits_apart ts line w run (waiter_waits ts line w is) in
@@ -145,7 +154,8 @@ woken_ready ts line w h run is =
 
 -- ---- the one that is started
 
-module _ (ts : Threads) (entry argument v : ℕ) (sound : AreThreads ts) (run : is_ready ts.current.state ≡ true) (is : vacant ts ≡ Some v) where
+module _ (ts : Threads) (entry argument v : ℕ) (sound : AreThreads ts)
+    (run : is_ready ts.current.state ≡ true) (is : vacant ts ≡ Some v) where
   pub spawned_ready : is_ready (spawned ts entry argument).current.state ≡ true
   unfolding spawned
   spawned_ready =

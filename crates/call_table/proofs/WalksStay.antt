@@ -33,7 +33,8 @@ use Rattle.call_table.proofs.BoundedWork.{call_of_works}
 -- each valid entry of the root, and of the tables that it points to, is as it was
 pub record KeepsEntries (m k : Mem) (root : ℕ) : Type 0 where
   pub pointer : (r : ℕ) → valid (word m root r) ≡ true → word k root r ≡ word m root r
-  pub leaf : (r t : ℕ) → valid (word m root r) ≡ true → valid (entry_at m root r t) ≡ true → entry_at k root r t ≡ entry_at m root r t
+  pub leaf : (r t : ℕ) → valid (word m root r) ≡ true → valid (entry_at m root r t) ≡ true
+      → entry_at k root r t ≡ entry_at m root r t
 
 module _ (m k : Mem) (frames root va : ℕ) (access : Access) (leaf : ℕ) (s : KeepsEntries m k root) where
   leaf_stays : HasLeaf m frames root va access leaf → HasLeaf k frames root va access leaf
@@ -57,7 +58,8 @@ module _ (m k : Mem) (frames root va : ℕ) (access : Access) (leaf : ℕ) (s : 
       (subst (λ (w : ℕ). ppn w < frames) (sym second) within)
       (is ∙ sym second)
 
-  walk_stays : (walk m frames root va access).result ≡ Ok leaf → (walk k frames root va access).result ≡ Ok leaf
+  walk_stays : (walk m frames root va access).result ≡ Ok leaf
+      → (walk k frames root va access).result ≡ Ok leaf
   walk_stays e = (leaf_in_words k frames root va access leaf).1 (leaf_stays ((leaf_in_words m frames root va access leaf).0 e))
 
 walks_by_entries : (e : Estate) (m k : Mem) → KeepsEntries m k e.root → KeepsWalks e m k
@@ -86,7 +88,8 @@ module _ (e : Estate) (d : Dom) (m : Mem) (h : Kept e d m) where
   zeroed f is =
       let free : IsFree e d.caps f = least_is_free e d.caps f is in
       let no_root : e.root ≢ f =
-      λ same. unnamed e d.caps f free.not_named h.facts.root_slot (root_frame e.root (is_mine e) (claims e d.caps) m h.facts ∙ ap Some same) in
+      λ same. unnamed e d.caps f free.not_named h.facts.root_slot
+      (root_frame e.root (is_mine e) (claims e d.caps) m h.facts ∙ ap Some same) in
       let no_table : (r : ℕ) → valid (word m e.root r) ≡ true → ppn (word m e.root r) ≢ f =
       λ r ok same. unnamed e d.caps f free.not_named (h.facts.tables r ok).slot
       (ap frame_of (h.facts.tables r ok).claim ∙ ap Some (sym (table_frame e.root (is_mine e) (claims e d.caps) m h.facts r ok) ∙ same)) in
@@ -98,7 +101,8 @@ module _ (e : Estate) (d : Dom) (m : Mem) (h : Kept e d m) where
       }
 
   -- where a table is installed, nothing was valid
-  pub table_installed : (b f : ℕ) → has_table m e.root b ≡ false → KeepsEntries m (installed m e.root b f) e.root
+  pub table_installed : (b f : ℕ) → has_table m e.root b ≡ false
+      → KeepsEntries m (installed m e.root b f) e.root
   table_installed b f none =
       let other : (r : ℕ) → valid (word m e.root r) ≡ true → r ≢ vpn_1 b =
       λ r ok same. true≢false (sym ok ∙ ap (λ (i : ℕ). valid (word m e.root i)) same ∙ none) in
@@ -209,7 +213,8 @@ module _ (e : Estate) (d : Dom) (m : Mem) (h : Kept e d m) where
 
   module _ (number a b c : ℕ) (quiet : empties (call_of e d number a b c m).notes ≡ false) where
     -- refused, so memory is as it was; or done, and no call that clears entries
-    walks_by : (v : Dom ⊎ Dom) → (call_of e d number a b c m).value ≡ v → KeepsWalks e m (call_of e d number a b c m).state
+    walks_by : (v : Dom ⊎ Dom) → (call_of e d number a b c m).value ≡ v
+        → KeepsWalks e m (call_of e d number a b c m).state
     walks_by (inl x) is = same_walks e m _ ((call_of_tidy e d number a b c).ends m x is).memory
     walks_by (inr x) is =
         let w : IsWork d number (call_of e d number a b c m).value (call_of e d number a b c m).notes =

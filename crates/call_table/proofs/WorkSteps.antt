@@ -74,11 +74,13 @@ fewer d n k (inr x) ns below h = (h.0, record { zeroed = h.1.zeroed; few = omega
 pub drops_fewer : (d : Dom) (n k : ℕ) (y : Act Dom) → n ≤ k → Drops d n y → Drops d k y
 drops_fewer d n k y below h = record { each = λ m. fewer d n k (y m).value (y m).notes below (h.each m) }
 
-cleared : (root i : ℕ) (d : Dom) (c : Option Cap) → Drops d 1 (clear_entry root c >> give (with_slot d i None))
+cleared : (root i : ℕ) (d : Dom) (c : Option Cap)
+    → Drops d 1 (clear_entry root c >> give (with_slot d i None))
 unfolding clear_entry unmap_at uninstall_at give ◌>>◌ ◌>>=◌ go_on with_caps zeroed_in entries_in empties
 cleared root i d None = record { each = λ m. (refl, record { zeroed = refl; few = omega arith; quiet = refl }) }
 cleared root i d (Some (cap.Frame f rights None)) = record { each = λ m. (refl, record { zeroed = refl; few = omega arith; quiet = refl }) }
-cleared root i d (Some (cap.Frame f rights (Some va))) = record { each = λ m. (refl, record { zeroed = refl; few = omega arith; quiet = refl }) }
+cleared root i d (Some (cap.Frame f rights (Some va))) =
+    record { each = λ m. (refl, record { zeroed = refl; few = omega arith; quiet = refl }) }
 cleared root i d (Some (cap.Table f None)) = record { each = λ m. (refl, record { zeroed = refl; few = omega arith; quiet = refl }) }
 cleared root i d (Some (cap.Table f (Some va))) = record { each = λ m. (refl, record { zeroed = refl; few = omega arith; quiet = refl }) }
 cleared root i d (Some (cap.Irq line)) = record { each = λ m. (refl, record { zeroed = refl; few = omega arith; quiet = refl }) }
@@ -115,7 +117,8 @@ emptied_by t (inr x) = t
 -- the work of the call of this number
 pub record IsWork (d : Dom) (number : ℕ) (v : Dom ⊎ Dom) (ns : List Note) : Type 0 where
   pub buffer : empties ns ≡ emptied_by (clears_entries number) v
-  pub reply : emptied_by (clears_entries number) v ≡ (clears_entries number && is_done (reply_past (length d.replies) (either v)))
+  pub reply : emptied_by (clears_entries number) v
+      ≡ (clears_entries number && is_done (reply_past (length d.replies) (either v)))
   pub few : length (entries_in ns) ≤ most_entries_of number
   pub zeroes : (frame : ℕ) → zeroed_in ns ≡ Some frame → number ≡ 2
 
@@ -126,13 +129,15 @@ never_both : (t b : Bool) → b ≡ false → false ≡ (t && b)
 never_both true b e = sym e
 never_both false b e = refl
 
-never_empties : (t b : Bool) (v : Dom ⊎ Dom) → t ≡ false → (false ≡ emptied_by t v) × (emptied_by t v ≡ (t && b))
+never_empties : (t b : Bool) (v : Dom ⊎ Dom) → t ≡ false
+    → (false ≡ emptied_by t v) × (emptied_by t v ≡ (t && b))
 never_empties true b v e = absurd (cc e)
 never_empties false b (inl x) e = (refl, refl)
 never_empties false b (inr x) e = (refl, refl)
 
 -- where nothing is zeroed
-none_zeroed : (number : ℕ) (ns : List Note) → zeroed_in ns ≡ None → (frame : ℕ) → zeroed_in ns ≡ Some frame → number ≡ 2
+none_zeroed : (number : ℕ) (ns : List Note) → zeroed_in ns ≡ None → (frame : ℕ) → zeroed_in ns ≡ Some frame
+    → number ≡ 2
 none_zeroed number ns none frame e = absurd (cc (sym none ∙ e))
 
 module _ (d : Dom) (number : ℕ) where
@@ -149,12 +154,14 @@ module _ (d : Dom) (number : ℕ) where
   unfolding stop
   stop_works code bad = record { each = λ m. stopped code bad }
 
-  pub check_works : (code : ℕ) (b : Bool) (y : Act Dom) → nat_eq code 0 ≡ false → Works d number y → Works d number (check (refused code d) b >> y)
+  pub check_works : (code : ℕ) (b : Bool) (y : Act Dom) → nat_eq code 0 ≡ false → Works d number y
+      → Works d number (check (refused code d) b >> y)
   unfolding check ◌>>◌ ◌>>=◌ go_on give stop
   check_works code true y bad h = record { each = λ m. h.each m }
   check_works code false y bad h = record { each = λ m. stopped code bad }
 
-  pub some_works : {A : Type 0} (code : ℕ) (o : Option A) (f : A → Act Dom) → nat_eq code 0 ≡ false → ((a : A) → Works d number (f a))
+  pub some_works : {A : Type 0} (code : ℕ) (o : Option A) (f : A → Act Dom) → nat_eq code 0 ≡ false
+      → ((a : A) → Works d number (f a))
       → Works d number (some_or (refused code d) o >>= f)
   unfolding some_or ◌>>=◌ go_on give stop
   some_works code None f bad h = record { each = λ m. stopped code bad }
@@ -167,7 +174,8 @@ module _ (d : Dom) (number : ℕ) where
   filled_by true None f h = record { each = λ m. stopped 3 refl }
   filled_by true (Some c) f h = record { each = λ m. (h c refl).each m }
 
-  pub filled_works : (a : ℕ) (f : Cap → Act Dom) → ((c : Cap) → a < 64 → Works d number (f c)) → Works d number (filled d a >>= f)
+  pub filled_works : (a : ℕ) (f : Cap → Act Dom) → ((c : Cap) → a < 64 → Works d number (f c))
+      → Works d number (filled d a >>= f)
   unfolding filled is_slot
   filled_works a f h = filled_by (nat_lt a 64) (cap_at d.caps a) f (λ c is. h c (ltb-true a 64 is))
 
@@ -175,24 +183,28 @@ module _ (d : Dom) (number : ℕ) where
   unfolding is_slot
   slot_works a y h = check_works 2 (nat_lt a 64) y refl h
 
-  pub page_refusal_works : (root va : ℕ) (f : Option MapRefusal → Act Dom) → ((r : Option MapRefusal) → Works d number (f r))
+  pub page_refusal_works : (root va : ℕ) (f : Option MapRefusal → Act Dom)
+      → ((r : Option MapRefusal) → Works d number (f r))
       → Works d number (page_refusal root va >>= f)
   unfolding page_refusal ◌>>=◌ go_on
   page_refusal_works root va f h = record { each = λ m. (h (map_refusal m root va)).each m }
 
-  pub table_refusal_works : (root va : ℕ) (f : Option MapRefusal → Act Dom) → ((r : Option MapRefusal) → Works d number (f r))
+  pub table_refusal_works : (root va : ℕ) (f : Option MapRefusal → Act Dom)
+      → ((r : Option MapRefusal) → Works d number (f r))
       → Works d number (table_refusal root va >>= f)
   unfolding table_refusal ◌>>=◌ go_on
   table_refusal_works root va f h = record { each = λ m. (h (install_refusal m root va)).each m }
 
-  pub allowed_works : (o : Option MapRefusal) (y : Act Dom) → Works d number y → Works d number (allowed d o >> y)
+  pub allowed_works : (o : Option MapRefusal) (y : Act Dom) → Works d number y
+      → Works d number (allowed d o >> y)
   unfolding allowed ◌>>◌ ◌>>=◌ go_on give stop
   allowed_works None y h = record { each = λ m. h.each m }
   allowed_works (Some refusal.BadAddress) y h = record { each = λ m. stopped 7 refl }
   allowed_works (Some refusal.Mapped) y h = record { each = λ m. stopped 8 refl }
   allowed_works (Some refusal.NoTable) y h = record { each = λ m. stopped 9 refl }
 
-  pub unless_works : (o : Option ℕ) (y : Act Dom) → ((code : ℕ) → o ≡ Some code → nat_eq code 0 ≡ false) → Works d number y
+  pub unless_works : (o : Option ℕ) (y : Act Dom) → ((code : ℕ) → o ≡ Some code → nat_eq code 0 ≡ false)
+      → Works d number y
       → Works d number (unless_refused d o >> y)
   unfolding unless_refused ◌>>◌ ◌>>=◌ go_on give stop
   unless_works None y bad h = record { each = λ m. h.each m }
@@ -235,12 +247,14 @@ module _ (d : Dom) where
 
 -- ---- and where it empties it
 
-always_empties : (t b : Bool) (x : Dom) → t ≡ true → b ≡ true → (true ≡ emptied_by t (inr x)) × (emptied_by t (inr x) ≡ (t && b))
+always_empties : (t b : Bool) (x : Dom) → t ≡ true → b ≡ true
+    → (true ≡ emptied_by t (inr x)) × (emptied_by t (inr x) ≡ (t && b))
 always_empties true b x e done = (refl, sym done)
 always_empties false b x e done = absurd (cc e)
 
 module _ (d : Dom) (number : ℕ) (clears : clears_entries number ≡ true) where
-  emptied : (x : Dom) (value : ℕ) (ns : List Note) → x.replies ≡ d.replies → Writes (most_entries_of number) ns
+  emptied : (x : Dom) (value : ℕ) (ns : List Note) → x.replies ≡ d.replies
+      → Writes (most_entries_of number) ns
       → IsWork d number (inr (done value x)) (ns ++ Note.Emptied ∷ [])
   unfolding either zeroed_in entries_in empties
   emptied x value ns same h =
@@ -252,8 +266,10 @@ module _ (d : Dom) (number : ℕ) (clears : clears_entries number ≡ true) wher
         zeroes = none_zeroed number (ns ++ Note.Emptied ∷ []) (zeroed-append ns (Note.Emptied ∷ []) h.zeroed);
       }
 
-  emptied_on : (r : Done Mem Note Dom Dom) (v : Dom ⊎ Dom) (value : ℕ) → Dropped d (most_entries_of number) v r.notes
-      → IsWork d number (go_on r (λ x. empty_buffer >> give (done value x)) v).value (go_on r (λ x. empty_buffer >> give (done value x)) v).notes
+  emptied_on : (r : Done Mem Note Dom Dom) (v : Dom ⊎ Dom) (value : ℕ)
+      → Dropped d (most_entries_of number) v r.notes
+      → IsWork d number (go_on r (λ x. empty_buffer >> give (done value x)) v).value
+      (go_on r (λ x. empty_buffer >> give (done value x)) v).notes
   unfolding go_on ◌>>◌ ◌>>=◌ empty_buffer give
   emptied_on r (inl x) value h = absurd h
   emptied_on r (inr x) value h = emptied x value r.notes h.0 h.1
@@ -263,18 +279,22 @@ module _ (d : Dom) (number : ℕ) (clears : clears_entries number ≡ true) wher
   unfolding ◌>>=◌
   drops_works y value h = record { each = λ m. emptied_on (y m) (y m).value value (h.each m) }
 
-  pub unmap_all_works : (root : ℕ) (vas : List ℕ) (x : Dom) (value : ℕ) → length vas ≤ most_entries_of number → x.replies ≡ d.replies
+  pub unmap_all_works : (root : ℕ) (vas : List ℕ) (x : Dom) (value : ℕ) → length vas ≤ most_entries_of number
+      → x.replies ≡ d.replies
       → Works d number (unmap_all root vas >> (empty_buffer >> give (done value x)))
   unfolding empty_buffer give ◌>>◌ ◌>>=◌ go_on
   unmap_all_works root vas x value few same = record {
     each = λ m.
         let w = all_written root vas m in
-        subst (λ (r : Done Mem Note Dom Dom). IsWork d number r.value r.notes) (sym (after_all root vas (empty_buffer >> give (done value x)) m))
-        (emptied x value (unmap_all root vas m).notes same (record { zeroed = w.zeroed; few = omega (arith, w.few, few); quiet = w.quiet }));
+        subst (λ (r : Done Mem Note Dom Dom). IsWork d number r.value r.notes)
+        (sym (after_all root vas (empty_buffer >> give (done value x)) m))
+        (emptied x value (unmap_all root vas m).notes same
+        (record { zeroed = w.zeroed; few = omega (arith, w.few, few); quiet = w.quiet }));
   }
 
 module _ (d : Dom) where
-  pub unmap_at_works : (root va a : ℕ) (c : Option Cap) → Works d 5 (unmap_at root va >> (empty_buffer >> give (done 0 (with_slot d a c))))
+  pub unmap_at_works : (root va a : ℕ) (c : Option Cap)
+      → Works d 5 (unmap_at root va >> (empty_buffer >> give (done 0 (with_slot d a c))))
   unfolding unmap_at empty_buffer give ◌>>◌ ◌>>=◌ go_on with_caps zeroed_in entries_in empties either
   unmap_at_works root va a c = record {
     each = λ m. record {

@@ -72,16 +72,26 @@ unfoldable pub table_refusal : ℕ → ℕ → Act (Option MapRefusal)
 table_refusal root va = λ m. record { notes = []; state = m; value = inr (install_refusal m root va) }
 
 unfoldable pub map_at : ℕ → ℕ → ℕ → ℕ → Act (Unit {0})
-map_at root va f rights = λ m. record { notes = Note.Entry (page_entry m root va) ∷ []; state = mapped m root va f rights; value = inr tt }
+map_at root va f rights =
+    λ m. record {
+      notes = Note.Entry (page_entry m root va) ∷ [];
+      state = mapped m root va f rights;
+      value = inr tt;
+    }
 
 unfoldable pub unmap_at : ℕ → ℕ → Act (Unit {0})
-unmap_at root va = λ m. record { notes = Note.Entry (page_entry m root va) ∷ []; state = unmapped m root va; value = inr tt }
+unmap_at root va =
+    λ m. record { notes = Note.Entry (page_entry m root va) ∷ []; state = unmapped m root va; value = inr tt }
 
 unfoldable pub install_at : ℕ → ℕ → ℕ → Act (Unit {0})
-install_at root va f = λ m. record { notes = Note.Entry (table_entry root va) ∷ []; state = installed m root va f; value = inr tt }
+install_at root va f =
+    λ m.
+    record { notes = Note.Entry (table_entry root va) ∷ []; state = installed m root va f; value = inr tt }
 
 unfoldable pub uninstall_at : ℕ → ℕ → Act (Unit {0})
-uninstall_at root va = λ m. record { notes = Note.Entry (table_entry root va) ∷ []; state = uninstalled m root va; value = inr tt }
+uninstall_at root va =
+    λ m.
+    record { notes = Note.Entry (table_entry root va) ∷ []; state = uninstalled m root va; value = inr tt }
 
 unfoldable pub empty_buffer : Act (Unit {0})
 empty_buffer = λ m. record { notes = Note.Emptied ∷ []; state = m; value = inr tt }

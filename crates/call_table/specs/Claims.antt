@@ -128,7 +128,8 @@ pub record Facts (root : ℕ) (own : ℕ → Bool) (k : Claims) (m : Mem) : Type
       → (is_shared (k i) ≡ true) × (is_shared (k j) ≡ true)
   pub once : (i j r t : ℕ) → i ≢ j → leaf_at (k i) ≡ Some (r, t) → leaf_at (k j) ≡ Some (r, t) → ⊥
   pub tables : (r : ℕ) → valid (word m root r) ≡ true → IsTable k (word m root r) r
-  pub leaves : (i f r t : ℕ) → k i ≡ Claim.Directory f (Some r) → valid (word m f t) ≡ true → IsLeaf k (word m f t) r t
+  pub leaves : (i f r t : ℕ) → k i ≡ Claim.Directory f (Some r) → valid (word m f t) ≡ true
+      → IsLeaf k (word m f t) r t
   pub installed : (i f r : ℕ) → k i ≡ Claim.Directory f (Some r) → word m root r ≡ table_word f
   pub mapped : (i : ℕ) (b : Bool) (g r t : ℕ) → k i ≡ Claim.Leaf b g (Some (r, t)) → IsMapped k m g r t
   pub blank : (i f : ℕ) → k i ≡ Claim.Directory f None → (t : ℕ) → word m f t ≡ 0
@@ -137,5 +138,6 @@ pub record Facts (root : ℕ) (own : ℕ → Bool) (k : Claims) (m : Mem) : Type
 -- that stays
 pub record IsEstate (e : Estate) : Type 0 where
   pub alone : (n : ℕ) → is_shared (slice_index_or e.fixed n Claim.Nothing) ≡ false
-  pub stays : (n : ℕ) (b : Bool) (g r t : ℕ) → slice_index_or e.fixed n Claim.Nothing ≡ Claim.Leaf b g (Some (r, t))
+  pub stays : (n : ℕ) (b : Bool) (g r t : ℕ)
+      → slice_index_or e.fixed n Claim.Nothing ≡ Claim.Leaf b g (Some (r, t))
       → (j : ℕ) × (f : ℕ) × (slice_index_or e.fixed j Claim.Nothing ≡ Claim.Directory f (Some r))

@@ -46,11 +46,13 @@ thread_of d = d.threads.current
 
 -- it goes on there with these registers
 unfoldable pub placed : ℕ → List ℕ → Dom → Dom
-placed pc regs d = record d { threads = with_current d.threads (record d.threads.current { pc = pc; regs = regs }) }
+placed pc regs d =
+    record d { threads = with_current d.threads (record d.threads.current { pc = pc; regs = regs }) }
 
 -- the last reply, where one was recorded past so many
 abbrev pub reply_past : ℕ → Dom → Option Reply
-reply_past before d = if nat_lt before (length d.replies) then slice_get d.replies (length d.replies - 1) else None
+reply_past before d =
+    if nat_lt before (length d.replies) then slice_get d.replies (length d.replies - 1) else None
 
 unfoldable pub recorded : ℕ → ℕ → Dom → Dom
 recorded code value d = record d { replies = d.replies ++ record { code = code; value = value } ∷ [] }

@@ -34,19 +34,22 @@ AllocatedSlotLaw = (e : Estate) (d x : Dom) (m : Mem) → Kept e d m → Makes e
 
 -- MAP notes where the page is mapped
 abbrev pub MappedSlotLaw : Type 0
-MappedSlotLaw = (e : Estate) (d x : Dom) (m : Mem) (frame rights : ℕ) (at : Option ℕ) → Kept e d m → Makes e d 4
+MappedSlotLaw =
+    (e : Estate) (d x : Dom) (m : Mem) (frame rights : ℕ) (at : Option ℕ) → Kept e d m → Makes e d 4
     → (call e d m).value ≡ inr x → cap_at d.caps (argument_a d) ≡ Some (cap.Frame frame rights at)
     → SetsSlot (argument_a d) (Some (cap.Frame frame rights (Some (argument_b d)))) d x
 
 -- COPY names the same page, with the rights that are asked for and mapped nowhere
 abbrev pub CopiedPageLaw : Type 0
-CopiedPageLaw = (e : Estate) (d x : Dom) (m : Mem) (frame rights : ℕ) (at : Option ℕ) → Kept e d m → Makes e d 6
+CopiedPageLaw =
+    (e : Estate) (d x : Dom) (m : Mem) (frame rights : ℕ) (at : Option ℕ) → Kept e d m → Makes e d 6
     → (call e d m).value ≡ inr x → cap_at d.caps (argument_a d) ≡ Some (cap.Frame frame rights at)
     → SetsSlot (argument_b d) (Some (cap.Frame frame (argument_c d) None)) d x
 
 -- or the same line
 abbrev pub CopiedLineLaw : Type 0
-CopiedLineLaw = (e : Estate) (d x : Dom) (m : Mem) (line : ℕ) → Kept e d m → Makes e d 6 → (call e d m).value ≡ inr x
+CopiedLineLaw =
+    (e : Estate) (d x : Dom) (m : Mem) (line : ℕ) → Kept e d m → Makes e d 6 → (call e d m).value ≡ inr x
     → cap_at d.caps (argument_a d) ≡ Some (cap.Irq line) → SetsSlot (argument_b d) (Some (cap.Irq line)) d x
 
 -- DELETE empties it

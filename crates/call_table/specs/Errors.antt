@@ -100,16 +100,19 @@ table_errors e d m a b =
 abbrev pub map_errors : Estate → Dom → Mem → ℕ → ℕ → ℕ → List Error
 map_errors e d m a b c =
     on_slot d a (wrong_kind (is_none (page_of (in_slot d a))) ∷ bad_rights (is_beyond (in_slot d a) c)
-    ∷ bad_address (not (is_multiple 4096 b)) ∷ mapped (is_some (mapped_at (in_slot d a)) || has_page m e.root b)
+    ∷ bad_address (not (is_multiple 4096 b))
+    ∷ mapped (is_some (mapped_at (in_slot d a)) || has_page m e.root b)
     ∷ no_table (not (has_table m e.root b)) ∷ [])
 
 abbrev pub unmap_errors : Dom → ℕ → List Error
 unmap_errors d a =
-    on_slot d a (wrong_kind (is_none (page_of (in_slot d a))) ∷ bad_address (is_none (mapped_at (in_slot d a))) ∷ [])
+    on_slot d a
+    (wrong_kind (is_none (page_of (in_slot d a))) ∷ bad_address (is_none (mapped_at (in_slot d a))) ∷ [])
 
 abbrev pub copy_errors : Dom → ℕ → ℕ → ℕ → List Error
 copy_errors d a b c =
-    bad_slot (not (is_slot a) || not (is_slot b)) ∷ empty (is_none (in_slot d a)) ∷ used (is_some (in_slot d b))
+    bad_slot (not (is_slot a) || not (is_slot b)) ∷ empty (is_none (in_slot d a))
+    ∷ used (is_some (in_slot d b))
     ∷ wrong_kind (is_some (table_of (in_slot d a)))
     ∷ bad_rights (is_some (page_of (in_slot d a)) && is_beyond (in_slot d a) c) ∷ []
 

@@ -93,9 +93,11 @@ pub record IsPageFrame (e : Estate) (d : Dom) (m : Mem) (f : ℕ) : Type 0 where
 
 -- each valid entry of a table is a leaf of a page
 pub record AreLeaves (e : Estate) (d : Dom) (m : Mem) : Type 0 where
-  pub leaf : (i j : ℕ) → i < 1024 → j < 1024 → valid (word m e.root i) ≡ true → valid (leaf_at m e.root i j) ≡ true
+  pub leaf : (i j : ℕ) → i < 1024 → j < 1024 → valid (word m e.root i) ≡ true
+      → valid (leaf_at m e.root i j) ≡ true
       → is_leaf (leaf_at m e.root i j) ≡ true
-  pub page : (i j : ℕ) → i < 1024 → j < 1024 → valid (word m e.root i) ≡ true → valid (leaf_at m e.root i j) ≡ true
+  pub page : (i j : ℕ) → i < 1024 → j < 1024 → valid (word m e.root i) ≡ true
+      → valid (leaf_at m e.root i j) ≡ true
       → IsPageFrame e d m (ppn (leaf_at m e.root i j))
 
 -- the page tables reach the domain's own frames alone, each table once, and no page lies on the tables
@@ -112,7 +114,8 @@ PageTablesLaw = (e : Estate) (d : Dom) (m : Mem) → Kept e d m → HasPageTable
 
 -- a store into a page changes no fact
 abbrev pub StoreLaw : Type 0
-StoreLaw = (e : Estate) (d : Dom) (m : Mem) (f i v : ℕ) → Kept e d m → IsPageFrame e d m f → Kept e d (written m f i v)
+StoreLaw = (e : Estate) (d : Dom) (m : Mem) (f i v : ℕ) → Kept e d m → IsPageFrame e d m f
+    → Kept e d (written m f i v)
 
 -- ---- calls in the user's words
 
@@ -123,7 +126,8 @@ found_at e m va a = (walk m e.share.frames e.root va a).result
 -- after MAP a walk finds exactly that frame with those rights
 abbrev pub MapLaw : Type 0
 MapLaw = (e : Estate) (d x : Dom) (m : Mem) (a b c f : ℕ) (access : Access) → Kept e d m
-    → (map_page e d a b c m).value ≡ inr x → page_of (cap_at d.caps a) ≡ Some f → rights_permit c access ≡ true
+    → (map_page e d a b c m).value ≡ inr x → page_of (cap_at d.caps a) ≡ Some f
+    → rights_permit c access ≡ true
     → found_at e (map_page e d a b c m).state b access ≡ Ok (leaf_word f c)
 
 -- no address reaches a frame
@@ -143,7 +147,8 @@ pub record IsRevoked (e : Estate) (x : Dom) (m : Mem) (a f : ℕ) : Type 0 where
 
 abbrev pub RevokeLaw : Type 0
 RevokeLaw = (e : Estate) (d x : Dom) (m : Mem) (a f : ℕ) → IsEstate e → Kept e d m
-    → (revoke e d a m).value ≡ inr x → page_of (cap_at d.caps a) ≡ Some f → IsRevoked e x (revoke e d a m).state a f
+    → (revoke e d a m).value ≡ inr x → page_of (cap_at d.caps a) ≡ Some f
+    → IsRevoked e x (revoke e d a m).state a f
 
 -- a frame that ALLOC took reads zero, was nobody's, and is named by the new capability alone
 pub record IsFresh (e : Estate) (d x : Dom) (m : Mem) (a f : ℕ) : Type 0 where
@@ -163,7 +168,9 @@ AllocLaw = (e : Estate) (d x : Dom) (m : Mem) (a b f : ℕ) → Kept e d m
 -- rights never widen: a page that is named after calls is one that was free, or was named with at least these rights
 pub record IsNoWider (e : Estate) (old new : Slots) : Type 0 where
   pub from : (i f r : ℕ) (w : Option ℕ) → cap_at new i ≡ Some (cap.Frame f r w)
-      → (is_named e old f ≡ false) ⊎ ((j : ℕ) × (s : ℕ) × (u : Option ℕ) × (cap_at old j ≡ Some (cap.Frame f s u)) × (is_within r s ≡ true))
+      → (is_named e old f ≡ false)
+      ⊎ ((j : ℕ) × (s : ℕ) × (u : Option ℕ) × (cap_at old j ≡ Some (cap.Frame f s u))
+      × (is_within r s ≡ true))
 
 abbrev pub NoWiderLaw : Type 0
 NoWiderLaw = (e : Estate) (d : Dom) (m : Mem) → IsNoWider e d.caps (either (call e d m).value).caps
@@ -181,7 +188,8 @@ CopiesLaw = (d : Dom) (m : Mem) (xs : List (ℕ × ℕ × ℕ)) (i f r : ℕ) (w
 
 -- some address reaches the frame
 abbrev pub IsReached : Estate → Mem → ℕ → Type 0
-IsReached e m f = (va : ℕ) × (leaf : ℕ) × (access : Access) × (found_at e m va access ≡ Ok leaf) × (ppn leaf ≡ f)
+IsReached e m f =
+    (va : ℕ) × (leaf : ℕ) × (access : Access) × (found_at e m va access ≡ Ok leaf) × (ppn leaf ≡ f)
 
 -- the frames that a domain's page tables reach are of its pool, so they are never more
 abbrev pub PoolLaw : Type 0
@@ -222,4 +230,5 @@ WorkLaw = (e : Estate) (d : Dom) (m : Mem) → IsCallWork (work_of (number_made 
 
 -- and of an operation that the domain may make
 abbrev pub PermittedLaw : Type 0
-PermittedLaw = (e : Estate) (d : Dom) (m : Mem) → IsPermitted e.calls (work_of (number_made e d) (call e d m).notes)
+PermittedLaw =
+    (e : Estate) (d : Dom) (m : Mem) → IsPermitted e.calls (work_of (number_made e d) (call e d m).notes)

@@ -145,7 +145,8 @@ PollSetLaw = (e : Estate) (d : Dom) (m : Mem) (line : ℕ) → Makes e d 9 → N
     → IsPolled 1 line d (after_call e d m)
 
 abbrev pub PollClearLaw : Type 0
-PollClearLaw = (e : Estate) (d : Dom) (m : Mem) (line : ℕ) → Makes e d 9 → Names d line → is_set d line ≡ false
+PollClearLaw =
+    (e : Estate) (d : Dom) (m : Mem) (line : ℕ) → Makes e d 9 → Names d line → is_set d line ≡ false
     → IsPolled 0 line d (after_call e d m)
 
 abbrev pub WaitSetLaw : Type 0
@@ -153,7 +154,8 @@ WaitSetLaw = (e : Estate) (d : Dom) (m : Mem) (line : ℕ) → Makes e d 10 → 
     → IsPolled 1 line d (after_call e d m)
 
 abbrev pub WaitClearLaw : Type 0
-WaitClearLaw = (e : Estate) (d : Dom) (m : Mem) (line : ℕ) → AreThreads d.threads → Makes e d 10 → Names d line
+WaitClearLaw =
+    (e : Estate) (d : Dom) (m : Mem) (line : ℕ) → AreThreads d.threads → Makes e d 10 → Names d line
     → is_set d line ≡ false → IsWaiting line d (after_call e d m)
 
 -- all that a delivery of the line does to threads and bits, but that no moment is counted; and the caller goes on
@@ -164,7 +166,8 @@ pub record IsSignalled (line : ℕ) (d x : Dom) : Type 0 where
   pub rest : x ≡ record d { threads = x.threads; replies = x.replies; bits = x.bits }
 
 abbrev pub SignalLaw : Type 0
-SignalLaw = (e : Estate) (d : Dom) (m : Mem) (line : ℕ) → AreThreads d.threads → MayRun d → Makes e d 11 → Names d line
+SignalLaw = (e : Estate) (d : Dom) (m : Mem) (line : ℕ) → AreThreads d.threads → MayRun d → Makes e d 11
+    → Names d line
     → IsSignalled line d (after_call e d m)
 
 -- ---- SPAWN
@@ -239,7 +242,8 @@ pub record IsTableCall (e : Estate) (d x : Dom) (m n : Mem) (frame : ℕ) : Type
   pub rest : x ≡ record d { threads = x.threads; replies = x.replies; caps = x.caps }
 
 abbrev pub TableLaw : Type 0
-TableLaw = (e : Estate) (d x : Dom) (m : Mem) (frame : ℕ) → Kept e d m → Makes e d 3 → (call e d m).value ≡ inr x
+TableLaw =
+    (e : Estate) (d x : Dom) (m : Mem) (frame : ℕ) → Kept e d m → Makes e d 3 → (call e d m).value ≡ inr x
     → table_of (cap_at d.caps (argument_a d)) ≡ Some frame → IsTableCall e d x m (memory_after e d m) frame
 
 -- no access of the page succeeds any more, walks elsewhere are as before, and the slot is mapped nowhere

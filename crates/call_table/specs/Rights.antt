@@ -30,7 +30,8 @@ pub record AreWithin (e : Estate) (d : Dom) (m : Mem) : Type 0 where
 
 -- it is so where nothing is mapped through a capability
 abbrev pub NothingMappedLaw : Type 0
-NothingMappedLaw = (e : Estate) (d : Dom) (m : Mem) → ((i : ℕ) → mapped_at (cap_at d.caps i) ≡ None) → AreWithin e d m
+NothingMappedLaw =
+    (e : Estate) (d : Dom) (m : Mem) → ((i : ℕ) → mapped_at (cap_at d.caps i) ≡ None) → AreWithin e d m
 
 -- each call, refused or not, keeps it
 abbrev pub CallsWithinLaw : Type 0
@@ -39,18 +40,21 @@ CallsWithinLaw = (e : Estate) (d : Dom) (m : Mem) → IsEstate e → Kept e d m 
 
 -- and so does a store into a page
 abbrev pub StoresWithinLaw : Type 0
-StoresWithinLaw = (e : Estate) (d : Dom) (m : Mem) (f i v : ℕ) → Kept e d m → AreWithin e d m → IsPageFrame e d m f
+StoresWithinLaw =
+    (e : Estate) (d : Dom) (m : Mem) (f i v : ℕ) → Kept e d m → AreWithin e d m → IsPageFrame e d m f
     → AreWithin e d (written m f i v)
 
 -- why an access reaches a frame at an address: a capability of the frame is mapped in this page, and its rights permit the
 -- access; or the page is one that stays for good, which no capability names
 pub data MayReach (e : Estate) (d : Dom) (va frame : ℕ) (access : Access) : Type 0 where
   by_cap : (i rights at : ℕ) → cap_at d.caps i ≡ Some (cap.Frame frame rights (Some at))
-      → vpn_1 at ≡ vpn_1 va → vpn_0 at ≡ vpn_0 va → rights_permit rights access ≡ true → MayReach e d va frame access
+      → vpn_1 at ≡ vpn_1 va → vpn_0 at ≡ vpn_0 va → rights_permit rights access ≡ true
+      → MayReach e d va frame access
   for_good : (n : ℕ) (shared : Bool)
       → slice_index_or e.fixed n Claim.Nothing ≡ Claim.Leaf shared frame (Some (vpn_1 va, vpn_0 va))
       → MayReach e d va frame access
 
 abbrev pub WalksWithinLaw : Type 0
-WalksWithinLaw = (e : Estate) (d : Dom) (m : Mem) (va leaf : ℕ) (access : Access) → Kept e d m → AreWithin e d m
+WalksWithinLaw =
+    (e : Estate) (d : Dom) (m : Mem) (va leaf : ℕ) (access : Access) → Kept e d m → AreWithin e d m
     → found_at e m va access ≡ Ok leaf → MayReach e d va (ppn leaf) access

@@ -26,7 +26,8 @@ abbrev pub after_call : Estate → Dom → Mem → Dom
 after_call e d m = either (call e d m).value
 
 abbrev pub CallTurnLaw : Type 0
-CallTurnLaw = (e : Estate) (d : Dom) (m : Mem) → HasTurn d.threads → MayRun d → HasTurn (after_call e d m).threads
+CallTurnLaw =
+    (e : Estate) (d : Dom) (m : Mem) → HasTurn d.threads → MayRun d → HasTurn (after_call e d m).threads
 
 abbrev pub DeliveryTurnLaw : Type 0
 DeliveryTurnLaw = (d : Dom) (line : ℕ) → HasTurn d.threads → HasTurn (delivered_on line d).threads
@@ -42,7 +43,8 @@ pub record Signals (e : Estate) (d : Dom) (line : ℕ) : Type 0 where
 abbrev pub CallWakesLaw : Type 0
 CallWakesLaw = (e : Estate) (d : Dom) (m : Mem) (t line : ℕ) → HasTurn d.threads → MayRun d → t < 8
     → waits_for line (thread_at d.threads t).state ≡ true
-    → (thread_at (after_call e d m).threads t ≡ thread_at d.threads t) ⊎ (Signals e d line ⊎ (number_made e d ≡ 0))
+    → (thread_at (after_call e d m).threads t ≡ thread_at d.threads t)
+    ⊎ (Signals e d line ⊎ (number_made e d ≡ 0))
 
 -- and a delivery of another line leaves it
 abbrev pub DeliveryWakesLaw : Type 0
@@ -55,7 +57,8 @@ DeliveryWakesLaw = (d : Dom) (line other t : ℕ) → AreThreads d.threads → o
 -- where a thread waits for it, the one with the least number goes on with reply (0, 1), and all bits stay
 abbrev pub SignalWakesLaw : Type 0
 SignalWakesLaw = (d : Dom) (line t : ℕ) → AreThreads d.threads → waiter line d.threads ≡ Some t
-    → (thread_at (signalled line d).threads t ≡ resumed (thread_at d.threads t)) × ((signalled line d).bits ≡ d.bits)
+    → (thread_at (signalled line d).threads t ≡ resumed (thread_at d.threads t))
+    × ((signalled line d).bits ≡ d.bits)
 
 -- where none does, its bit is set, and all threads stay
 abbrev pub SignalSetsLaw : Type 0

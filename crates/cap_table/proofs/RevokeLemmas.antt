@@ -36,7 +36,8 @@ alike_installed c (Some (cap.Frame f r m)) x = refl
 alike_installed c (Some (cap.Irq l)) x = refl
 alike_installed c (Some (cap.Table f m)) x = let p : false ≡ true = sym (alike_table c f m) ∙ x in absurd (cc p)
 
-pub alike_unused : (slots : Slots) (c : Option Cap) (i : ℕ) → alike c (cap_at slots i) ≡ true → in_use slots i ≡ false
+pub alike_unused : (slots : Slots) (c : Option Cap) (i : ℕ) → alike c (cap_at slots i) ≡ true
+    → in_use slots i ≡ false
 unfolding in_use
 alike_unused slots c i x = ap (in_use_at slots) (alike_installed c (cap_at slots i) x)
 
@@ -53,9 +54,11 @@ alike_page (Some (cap.Irq l)) (Some (cap.Irq k)) f x y = absurd (cc y)
 alike_page (Some (cap.Frame g r m)) d f x y = ap Some (eqb-true g f (ap (same_number (Some g)) (sym y) ∙ x))
 
 -- where a slot that is alike is emptied, no page comes back
-pub none_back : (slots : Slots) (slot i : ℕ) (back : Option ℕ) → i ≢ slot → alike (cap_at slots slot) (cap_at slots i) ≡ true → Back slots i back → back ≡ None
+pub none_back : (slots : Slots) (slot i : ℕ) (back : Option ℕ) → i ≢ slot
+    → alike (cap_at slots slot) (cap_at slots i) ≡ true → Back slots i back → back ≡ None
 none_back slots slot i None n x back = refl
-none_back slots slot i (Some f) n x back = absurd (back.1.none slot (λ e. n (sym e)) (alike_page (cap_at slots slot) (cap_at slots i) f x back.0))
+none_back slots slot i (Some f) n x back =
+    absurd (back.1.none slot (λ e. n (sym e)) (alike_page (cap_at slots slot) (cap_at slots i) f x back.0))
 
 and_false : (a : Bool) → (a && false) ≡ false
 and_false true = refl
@@ -99,14 +102,17 @@ module _ (slots : Slots) (slot : ℕ) where
   pub after_itself : cap_at (revoked slots slot) slot ≡ cap_at slots slot
   after_itself = at_revoked slot ∙ stays slot itself
 
-  pub after_unlike : (i : ℕ) → alike (cap_at slots slot) (cap_at slots i) ≡ false → cap_at (revoked slots slot) i ≡ cap_at slots i
+  pub after_unlike : (i : ℕ) → alike (cap_at slots slot) (cap_at slots i) ≡ false
+      → cap_at (revoked slots slot) i ≡ cap_at slots i
   after_unlike i x = at_revoked i ∙ stays i (unlike i x)
 
-  pub none_left : (i : ℕ) → i ≢ slot → alike (cap_at (revoked slots slot) slot) (cap_at (revoked slots slot) i) ≡ false
+  pub none_left : (i : ℕ) → i ≢ slot
+      → alike (cap_at (revoked slots slot) slot) (cap_at (revoked slots slot) i) ≡ false
   none_left i n = ap (λ c. alike c (cap_at (revoked slots slot) i)) after_itself ∙ ap (alike (cap_at slots slot)) (at_revoked i)
       ∙ by_test (is_revoked slots slot i) refl
     where
-      by_test : (b : Bool) → is_revoked slots slot i ≡ b → alike (cap_at slots slot) (slot_after slots slot i) ≡ false
+      by_test : (b : Bool) → is_revoked slots slot i ≡ b
+          → alike (cap_at slots slot) (slot_after slots slot i) ≡ false
       by_test true x = ap (alike (cap_at slots slot)) (emptied i x) ∙ alike_none (cap_at slots slot)
       by_test false x = ap (alike (cap_at slots slot)) (stays i x) ∙ (sym (another i n) ∙ x)
 
@@ -128,7 +134,8 @@ pub none_done : (slots : Slots) (slot : ℕ) → length slots ≡ 64 → Revoked
 none_done slots slot places = record { places = places; done = λ k lt. absurd (omega (arith, lt)); left = λ k _. refl }
 
 module _ (slots : Slots) (slot n : ℕ) (now : Slots) (h : RevokedTo slots slot n now) where
-  pub one_emptied : n < 64 → is_revoked slots slot n ≡ true → RevokedTo slots slot (n + 1) (slice_set now n None)
+  pub one_emptied : n < 64 → is_revoked slots slot n ≡ true
+      → RevokedTo slots slot (n + 1) (slice_set now n None)
   one_emptied lt x =
       let below : n < length now = omega (arith, h.places, lt) in
       record {
@@ -150,19 +157,22 @@ module _ (slots : Slots) (slot n : ℕ) (now : Slots) (h : RevokedTo slots slot 
   }
 
 -- the slot that the others are compared with
-pub still_there : (slots : Slots) (slot n : ℕ) (now : Slots) → RevokedTo slots slot n now → cap_at now slot ≡ cap_at slots slot
+pub still_there : (slots : Slots) (slot n : ℕ) (now : Slots) → RevokedTo slots slot n now
+    → cap_at now slot ≡ cap_at slots slot
 still_there slots slot n now h = elim (cases_lt slot n) [
   | inl lt ↦ h.done slot lt ∙ stays slots slot slot (itself slots slot)
   | inr ge ↦ h.left slot ge
 ]
 
-pub all_done : (slots : Slots) (slot : ℕ) (now : Slots) → length slots ≡ 64 → RevokedTo slots slot 64 now → now ≡ revoked slots slot
+pub all_done : (slots : Slots) (slot : ℕ) (now : Slots) → length slots ≡ 64 → RevokedTo slots slot 64 now
+    → now ≡ revoked slots slot
 all_done slots slot now places h = ext_get_or None now (revoked slots slot) (h.places ∙ sym (length_revoked slots slot ∙ places))
     (λ i lt. h.done i (omega (arith, lt, h.places)) ∙ sym (at_revoked slots slot i))
 
 -- ---- how many, and where they were mapped
 
-more_numbers : (from n : ℕ) → range_with_len from (suc n) ≡ range_with_len from n ++ range_with_len (from + n) 1
+more_numbers : (from n : ℕ)
+    → range_with_len from (suc n) ≡ range_with_len from n ++ range_with_len (from + n) 1
 more_numbers from zero = let e : from + 0 ≡ from = omega arith in rw e refl
 more_numbers from (suc n) = let e : from + 1 + n ≡ from + suc n = omega arith in ap (λ l. from ∷ l) (more_numbers (from + 1) n ∙ rw e refl)
 
@@ -173,7 +183,8 @@ one_more n =
     ap (range_with_len 0) e ∙ (more_numbers 0 n ∙ ap (λ k. range_with_len 0 n ++ k ∷ []) z)
 
 module _ (slots : Slots) (slot : ℕ) where
-  count_append : (is js : List ℕ) → count_in slots slot (is ++ js) ≡ count_in slots slot is + count_in slots slot js
+  count_append : (is js : List ℕ)
+      → count_in slots slot (is ++ js) ≡ count_in slots slot is + count_in slots slot js
   unfolding count_in
   count_append [] js = omega arith
   count_append (i ∷ is) js = let h = count_append is js in omega (arith, h)
@@ -182,14 +193,17 @@ module _ (slots : Slots) (slot : ℕ) where
   pushed None xs ys = refl
   pushed (Some n) xs ys = refl
 
-  entries_append : (is js : List ℕ) → entries_in slots slot (is ++ js) ≡ entries_in slots slot is ++ entries_in slots slot js
+  entries_append : (is js : List ℕ)
+      → entries_in slots slot (is ++ js) ≡ entries_in slots slot is ++ entries_in slots slot js
   unfolding entries_in
   entries_append [] js = refl
   entries_append (i ∷ is) js =
       let o : Option ℕ = if is_revoked slots slot i then mapped_at (cap_at slots i) else None in
       ap (push_some o) (entries_append is js) ∙ pushed o (entries_in slots slot is) (entries_in slots slot js)
 
-  pub count_more : (n : ℕ) → count_in slots slot (range_with_len 0 (n + 1)) ≡ count_in slots slot (range_with_len 0 n) + one_if (is_revoked slots slot n)
+  pub count_more : (n : ℕ)
+      → count_in slots slot (range_with_len 0 (n + 1))
+      ≡ count_in slots slot (range_with_len 0 n) + one_if (is_revoked slots slot n)
   unfolding count_in
   count_more n =
       let last : count_in slots slot (n ∷ []) ≡ one_if (is_revoked slots slot n) = omega arith in
@@ -206,7 +220,8 @@ module _ (slots : Slots) (slot : ℕ) where
   count_few [] = omega arith
   count_few (i ∷ is) = by_test (is_revoked slots slot i) (count_few is)
     where
-      by_test : (b : Bool) → count_in slots slot is ≤ length is → one_if b + count_in slots slot is ≤ suc (length is)
+      by_test : (b : Bool) → count_in slots slot is ≤ length is
+          → one_if b + count_in slots slot is ≤ suc (length is)
       by_test true h = omega (arith, h)
       by_test false h = omega (arith, h)
 
@@ -228,22 +243,29 @@ module _ (slots : Slots) (slot : ℕ) where
   few_at a (suc n) le lt = elim (cases_eq a slot) [
     | inl e ↦
         let none : one_if (is_revoked slots slot a) ≡ 0 = ap one_if (itself_at slots slot a e) in
-        let rest : count_in slots slot (range_with_len (a + 1) n) ≤ length (range_with_len (a + 1) n) = count_few (range_with_len (a + 1) n) in
+        let rest : count_in slots slot (range_with_len (a + 1) n) ≤ length (range_with_len (a + 1) n) =
+        count_few (range_with_len (a + 1) n) in
         omega (arith, none, rest, length-range_with_len (a + 1) n)
     | inr ne ↦
         let rest : count_in slots slot (range_with_len (a + 1) n) < n = few_at (a + 1) n (omega (arith, le, ne)) (omega (arith, lt)) in
         at_most (is_revoked slots slot a) rest
   ]
     where
-      at_most : (b : Bool) → count_in slots slot (range_with_len (a + 1) n) < n → one_if b + count_in slots slot (range_with_len (a + 1) n) < suc n
+      at_most : (b : Bool) → count_in slots slot (range_with_len (a + 1) n) < n
+          → one_if b + count_in slots slot (range_with_len (a + 1) n) < suc n
       at_most true h = omega (arith, h)
       at_most false h = omega (arith, h)
 
   pub count_below : slot < 64 → count_in slots slot (range_with_len 0 64) ≤ 63
-  count_below lt = let h : count_in slots slot (range_with_len 0 64) < 64 = few_at 0 64 (omega arith) (omega (arith, lt)) in omega (arith, h)
+  count_below lt =
+      let h : count_in slots slot (range_with_len 0 64) < 64 =
+      few_at 0 64 (omega arith) (omega (arith, lt)) in
+      omega (arith, h)
 
   -- what is emptied and what is left are all that was filled
-  counted_in : (is : List ℕ) → filled_count (map (slot_after slots slot) is) + count_in slots slot is ≡ filled_count (map (cap_at slots) is)
+  counted_in : (is : List ℕ)
+      → filled_count (map (slot_after slots slot) is) + count_in slots slot is
+      ≡ filled_count (map (cap_at slots) is)
   unfolding count_in filled_count
   counted_in [] = refl
   counted_in (i ∷ is) = by_test (is_revoked slots slot i) refl (counted_in is)
@@ -254,7 +276,8 @@ module _ (slots : Slots) (slot : ℕ) where
 
       by_test : (b : Bool) → is_revoked slots slot i ≡ b
           → filled_count (map (slot_after slots slot) is) + count_in slots slot is ≡ filled_count (map (cap_at slots) is)
-          → (one_if_filled (slot_after slots slot i) + filled_count (map (slot_after slots slot) is)) + (one_if (is_revoked slots slot i) + count_in slots slot is)
+          → (one_if_filled (slot_after slots slot i) + filled_count (map (slot_after slots slot) is))
+          + (one_if (is_revoked slots slot i) + count_in slots slot is)
           ≡ one_if_filled (cap_at slots i) + filled_count (map (cap_at slots) is)
       by_test true x h =
           let none : one_if_filled (slot_after slots slot i) ≡ 0 = ap one_if_filled (emptied slots slot i x) in
@@ -267,10 +290,14 @@ module _ (slots : Slots) (slot : ℕ) where
           omega (arith, same, number, h)
 
 all_slots : (slots : Slots) → map (cap_at slots) (range_with_len 0 (length slots)) ≡ slots
-all_slots slots = ext_get_or None (map (cap_at slots) (range_with_len 0 (length slots))) slots (length-map-range_with_len (cap_at slots) 0 (length slots))
-    (λ i lt. get_or-map-range_with_len (cap_at slots) 0 (length slots) i i None (omega (arith, lt, length-map-range_with_len (cap_at slots) 0 (length slots))) (omega arith))
+all_slots slots =
+    ext_get_or None (map (cap_at slots) (range_with_len 0 (length slots))) slots
+    (length-map-range_with_len (cap_at slots) 0 (length slots))
+    (λ i lt. get_or-map-range_with_len (cap_at slots) 0 (length slots) i i None
+    (omega (arith, lt, length-map-range_with_len (cap_at slots) 0 (length slots))) (omega arith))
 
-pub counted : (slots : Slots) (slot : ℕ) → filled_count (revoked slots slot) + revoked_count slots slot ≡ filled_count slots
+pub counted : (slots : Slots) (slot : ℕ)
+    → filled_count (revoked slots slot) + revoked_count slots slot ≡ filled_count slots
 unfolding revoked
 counted slots slot = counted_in slots slot (range_with_len 0 (length slots)) ∙ ap filled_count (all_slots slots)
 
@@ -280,27 +307,36 @@ pub record CountedTo (slots : Slots) (slot n count written : ℕ) (entries : Lis
   pub written_to : written ≡ length (entries_in slots slot (range_with_len 0 n))
   pub entries_to : take written entries ≡ entries_in slots slot (range_with_len 0 n)
 
-pub none_counted : (slots : Slots) (slot count written : ℕ) (entries : List ℕ) → count ≡ 0 → written ≡ 0 → CountedTo slots slot 0 count written entries
+pub none_counted : (slots : Slots) (slot count written : ℕ) (entries : List ℕ) → count ≡ 0 → written ≡ 0
+    → CountedTo slots slot 0 count written entries
 unfolding count_in entries_in
 none_counted slots slot count written entries c w = record { counted_to = c; written_to = w; entries_to = ap (λ n. take n entries) w }
 
 module _ (slots : Slots) (slot n count written : ℕ) (entries : List ℕ) (h : CountedTo slots slot n count written entries) where
   pub few_counted : count ≤ n
-  few_counted = let c : count_in slots slot (range_with_len 0 n) ≤ length (range_with_len 0 n) = count_few slots slot (range_with_len 0 n) in
+  few_counted =
+      let c : count_in slots slot (range_with_len 0 n) ≤ length (range_with_len 0 n) =
+      count_few slots slot (range_with_len 0 n) in
       omega (arith, c, h.counted_to, length-range_with_len 0 n)
 
   pub few_written : written ≤ count
   few_written = omega (arith, h.counted_to, h.written_to, entries_few slots slot (range_with_len 0 n))
 
-  pub one_counted : is_revoked slots slot n ≡ true → (count' written' : ℕ) (entries' : List ℕ) → count' ≡ count + 1
+  pub one_counted : is_revoked slots slot n ≡ true → (count' written' : ℕ) (entries' : List ℕ)
+      → count' ≡ count + 1
       → written' ≡ written + length (push_some (mapped_at (cap_at slots n)) [])
       → take written' entries' ≡ take written entries ++ push_some (mapped_at (cap_at slots n)) []
       → CountedTo slots slot (n + 1) count' written' entries'
   one_counted x count' written' entries' more longer written_as =
       let one : one_if (is_revoked slots slot n) ≡ 1 = ap one_if x in
-      let entry : entries_in slots slot (range_with_len 0 (n + 1)) ≡ entries_in slots slot (range_with_len 0 n) ++ push_some (mapped_at (cap_at slots n)) [] =
-      entries_more slots slot n ∙ ap (λ b. entries_in slots slot (range_with_len 0 n) ++ push_some (if b then mapped_at (cap_at slots n) else None) []) x in
-      let long : length (entries_in slots slot (range_with_len 0 (n + 1))) ≡ length (entries_in slots slot (range_with_len 0 n)) + length (push_some (mapped_at (cap_at slots n)) []) =
+      let entry : entries_in slots slot (range_with_len 0 (n + 1))
+      ≡ entries_in slots slot (range_with_len 0 n) ++ push_some (mapped_at (cap_at slots n)) [] =
+      entries_more slots slot n
+      ∙ ap (λ b. entries_in slots slot (range_with_len 0 n)
+      ++ push_some (if b then mapped_at (cap_at slots n) else None) []) x in
+      let long : length (entries_in slots slot (range_with_len 0 (n + 1)))
+      ≡ length (entries_in slots slot (range_with_len 0 n))
+      + length (push_some (mapped_at (cap_at slots n)) []) =
       ap length entry ∙ length-append (entries_in slots slot (range_with_len 0 n)) (push_some (mapped_at (cap_at slots n)) []) in
       record {
         counted_to = omega (arith, more, one, h.counted_to, count_more slots slot n);
@@ -312,7 +348,9 @@ module _ (slots : Slots) (slot n count written : ℕ) (entries : List ℕ) (h : 
   none_more x =
       let one : one_if (is_revoked slots slot n) ≡ 0 = ap one_if x in
       let entry : entries_in slots slot (range_with_len 0 (n + 1)) ≡ entries_in slots slot (range_with_len 0 n) =
-      entries_more slots slot n ∙ (ap (λ b. entries_in slots slot (range_with_len 0 n) ++ push_some (if b then mapped_at (cap_at slots n) else None) []) x
+      entries_more slots slot n
+      ∙ (ap (λ b. entries_in slots slot (range_with_len 0 n)
+      ++ push_some (if b then mapped_at (cap_at slots n) else None) []) x
       ∙ append-nil (entries_in slots slot (range_with_len 0 n))) in
       record {
         counted_to = omega (arith, one, h.counted_to, count_more slots slot n);
@@ -328,12 +366,15 @@ module _ (slots : Slots) (slot : ℕ) where
   count_is [] = refl
   count_is (i ∷ is) = by_test (is_revoked slots slot i) refl (count_is is)
     where
-      by_test : (b : Bool) → is_revoked slots slot i ≡ b → count_in slots slot is ≡ length (filter (is_revoked slots slot) is)
+      by_test : (b : Bool) → is_revoked slots slot i ≡ b
+          → count_in slots slot is ≡ length (filter (is_revoked slots slot) is)
           → one_if (is_revoked slots slot i) + count_in slots slot is ≡ length (filter (is_revoked slots slot) (i ∷ is))
       by_test true x h = rw x (omega (arith, h))
       by_test false x h = rw x (omega (arith, h))
 
-  entries_are : (is : List ℕ) → entries_in slots slot is ≡ filter_map (λ i. mapped_at (cap_at slots i)) (filter (is_revoked slots slot) is)
+  entries_are : (is : List ℕ)
+      → entries_in slots slot is
+      ≡ filter_map (λ i. mapped_at (cap_at slots i)) (filter (is_revoked slots slot) is)
   unfolding entries_in
   entries_are [] = refl
   entries_are (i ∷ is) = by_test (is_revoked slots slot i) refl (mapped_at (cap_at slots i)) refl (entries_are is)
@@ -346,8 +387,11 @@ module _ (slots : Slots) (slot : ℕ) where
       by_test true x None y h = rw (x, y) h
       by_test true x (Some va) y h = rw (x, y) (ap (λ xs. va ∷ xs) h)
 
-  pub all_counted : revoked_count slots slot ≡ length (filter (is_revoked slots slot) (range_with_len 0 (length slots)))
+  pub all_counted : revoked_count slots slot
+      ≡ length (filter (is_revoked slots slot) (range_with_len 0 (length slots)))
   all_counted = count_is (range_with_len 0 (length slots))
 
-  pub all_written : revoked_entries slots slot ≡ filter_map (λ i. mapped_at (cap_at slots i)) (filter (is_revoked slots slot) (range_with_len 0 (length slots)))
+  pub all_written : revoked_entries slots slot
+      ≡ filter_map (λ i. mapped_at (cap_at slots i))
+      (filter (is_revoked slots slot) (range_with_len 0 (length slots)))
   all_written = entries_are (range_with_len 0 (length slots))

@@ -49,7 +49,8 @@ line_noted (Some (cap.Irq l)) at = refl
 
 -- ---- a table's frame has one slot, which owns it
 
-pub table_is : (slots : Slots) (tables : List (Option ℕ)) → IsOwned table_of slots tables → IsSingle slots → (s : ℕ) → owner_at tables s ≡ table_of (cap_at slots s)
+pub table_is : (slots : Slots) (tables : List (Option ℕ)) → IsOwned table_of slots tables → IsSingle slots
+    → (s : ℕ) → owner_at tables s ≡ table_of (cap_at slots s)
 table_is slots tables h single s = sides (owner_at tables s) (table_of (cap_at slots s)) refl refl
   where
     sides : (o t : Option ℕ) → owner_at tables s ≡ o → table_of (cap_at slots s) ≡ t → o ≡ t
@@ -57,18 +58,26 @@ table_is slots tables h single s = sides (owner_at tables s) (table_of (cap_at s
     sides (Some f) t x e = sym (h.named s f x) ∙ e
     sides None (Some f) x e =
         let own : (j : ℕ) × (owner_at tables j ≡ Some f) = h.owner s f e in
-        let here : owner_at tables s ≡ Some f = subst (λ (j : ℕ). owner_at tables j ≡ Some f) (single.once own.0 s f (h.named own.0 f own.1) e) own.1 in
+        let here : owner_at tables s ≡ Some f =
+        subst (λ (j : ℕ). owner_at tables j ≡ Some f) (single.once own.0 s f (h.named own.0 f own.1) e)
+        own.1 in
         sym x ∙ here
 
 module _ (slots : Slots) (pages tables : List (Option ℕ)) (h : IsSound slots pages tables) (s : ℕ) (below : s < 64) where
   below_slots : s < length slots
   below_slots = omega (arith, h.places, below)
 
-  single_set : (c : Option Cap) → ((f i : ℕ) → table_of c ≡ Some f → i ≢ s → table_of (cap_at slots i) ≢ Some f) → IsSingle (slice_set slots s c)
+  single_set : (c : Option Cap)
+      → ((f i : ℕ) → table_of c ≡ Some f → i ≢ s → table_of (cap_at slots i) ≢ Some f)
+      → IsSingle (slice_set slots s c)
   single_set c only = record {
-    once = λ i j f. set_by slots s c None (λ i x. table_of x ≡ Some f → table_of (cap_at (slice_set slots s c) j) ≡ Some f → i ≡ j) below_slots
+    once =
+        λ i j f. set_by slots s c None
+        (λ i x. table_of x ≡ Some f → table_of (cap_at (slice_set slots s c) j) ≡ Some f → i ≡ j)
+        below_slots
         (λ x. set_by slots s c None (λ j y. table_of y ≡ Some f → s ≡ j) below_slots (λ _. refl) (λ j n y. absurd (only f j x n y)) j)
-        (λ i n x. set_by slots s c None (λ j y. table_of y ≡ Some f → i ≡ j) below_slots (λ y. absurd (only f i y n x)) (λ j _ y. h.single.once i j f x y) j) i;
+        (λ i n x. set_by slots s c None (λ j y. table_of y ≡ Some f → i ≡ j) below_slots
+        (λ y. absurd (only f i y n x)) (λ j _ y. h.single.once i j f x y) j) i;
   }
 
   lines_set : (c : Option Cap) → ((l : ℕ) → line_of c ≡ Some l → l < 32) → HasLines (slice_set slots s c)
@@ -76,15 +85,20 @@ module _ (slots : Slots) (pages tables : List (Option ℕ)) (h : IsSound slots p
     few = λ i l. set_by slots s c None (λ i x. line_of x ≡ Some l → l < 32) below_slots (few l) (λ i _ x. h.lines.few i l x) i;
   }
 
-  blank : (names : Option Cap → Option ℕ) → names None ≡ None → cap_at slots s ≡ None → names (cap_at slots s) ≡ None
+  blank : (names : Option Cap → Option ℕ) → names None ≡ None → cap_at slots s ≡ None
+      → names (cap_at slots s) ≡ None
   blank names none empty = ap names empty ∙ none
 
   pub put_page : (f r : ℕ) → cap_at slots s ≡ None → IsUnnamed slots f
       → IsSound (slice_set slots s (Some (cap.Frame f r None))) (slice_set pages s (Some f)) tables
   put_page f r empty new = record {
     places = length-set slots s (Some (cap.Frame f r None)) ∙ h.places;
-    pages_owned = put_owned page_of slots pages h.places h.pages_owned s below (Some (cap.Frame f r None)) f refl (blank page_of refl empty) new.no_page;
-    tables_owned = shared_owned table_of slots tables h.places h.tables_owned s below (Some (cap.Frame f r None)) (blank table_of refl empty) (λ g x. absurd (cc x));
+    pages_owned =
+        put_owned page_of slots pages h.places h.pages_owned s below (Some (cap.Frame f r None)) f refl
+        (blank page_of refl empty) new.no_page;
+    tables_owned =
+        shared_owned table_of slots tables h.places h.tables_owned s below (Some (cap.Frame f r None))
+        (blank table_of refl empty) (λ g x. absurd (cc x));
     single = single_set (Some (cap.Frame f r None)) (λ g i x. absurd (cc x));
     lines = lines_set (Some (cap.Frame f r None)) (λ l x. absurd (cc x));
   }
@@ -93,17 +107,26 @@ module _ (slots : Slots) (pages tables : List (Option ℕ)) (h : IsSound slots p
       → IsSound (slice_set slots s (Some (cap.Table f None))) pages (slice_set tables s (Some f))
   put_table f empty new = record {
     places = length-set slots s (Some (cap.Table f None)) ∙ h.places;
-    pages_owned = shared_owned page_of slots pages h.places h.pages_owned s below (Some (cap.Table f None)) (blank page_of refl empty) (λ g x. absurd (cc x));
-    tables_owned = put_owned table_of slots tables h.places h.tables_owned s below (Some (cap.Table f None)) f refl (blank table_of refl empty) new.no_table;
+    pages_owned =
+        shared_owned page_of slots pages h.places h.pages_owned s below (Some (cap.Table f None))
+        (blank page_of refl empty) (λ g x. absurd (cc x));
+    tables_owned =
+        put_owned table_of slots tables h.places h.tables_owned s below (Some (cap.Table f None)) f refl
+        (blank table_of refl empty) new.no_table;
     single = single_set (Some (cap.Table f None)) (λ g i x _ y. new.no_table i (y ∙ sym x));
     lines = lines_set (Some (cap.Table f None)) (λ l x. absurd (cc x));
   }
 
-  pub put_line : (l : ℕ) → cap_at slots s ≡ None → l < 32 → IsSound (slice_set slots s (Some (cap.Irq l))) pages tables
+  pub put_line : (l : ℕ) → cap_at slots s ≡ None → l < 32
+      → IsSound (slice_set slots s (Some (cap.Irq l))) pages tables
   put_line l empty few = record {
     places = length-set slots s (Some (cap.Irq l)) ∙ h.places;
-    pages_owned = shared_owned page_of slots pages h.places h.pages_owned s below (Some (cap.Irq l)) (blank page_of refl empty) (λ g x. absurd (cc x));
-    tables_owned = shared_owned table_of slots tables h.places h.tables_owned s below (Some (cap.Irq l)) (blank table_of refl empty) (λ g x. absurd (cc x));
+    pages_owned =
+        shared_owned page_of slots pages h.places h.pages_owned s below (Some (cap.Irq l))
+        (blank page_of refl empty) (λ g x. absurd (cc x));
+    tables_owned =
+        shared_owned table_of slots tables h.places h.tables_owned s below (Some (cap.Irq l))
+        (blank table_of refl empty) (λ g x. absurd (cc x));
     single = single_set (Some (cap.Irq l)) (λ g i x. absurd (cc x));
     lines = lines_set (Some (cap.Irq l)) (λ k x. let e : l ≡ k = cc x in subst (λ n. n < 32) e few);
   }
@@ -153,7 +176,8 @@ at_empty {A} i = elim (cases_lt i 64) [
   | inr ge ↦ get_or_past (replicate 64 None) i None (omega (arith, ge, length-replicate {A = Option A} 64 None))
 ]
 
-no_owners : (names : Option Cap → Option ℕ) → names None ≡ None → IsOwned names (replicate 64 None) (replicate 64 None)
+no_owners : (names : Option Cap → Option ℕ) → names None ≡ None
+    → IsOwned names (replicate 64 None) (replicate 64 None)
 no_owners names blank = record {
   places = length-replicate {A = Option ℕ} 64 None;
   named = λ i f x. let p : None ≡ Some f = sym (at_empty i) ∙ x in absurd (cc p);

@@ -62,7 +62,8 @@ pub record NoOther (slots : Slots) (slot frame : ℕ) : Type 0 where
 -- where none comes back, another slot names what it does
 abbrev pub Back : Slots → ℕ → Option ℕ → Type 0
 Back slots slot None =
-    (f : ℕ) → page_of (cap_at slots slot) ≡ Some f → (i : ℕ) × (i ≢ slot) × (page_of (cap_at slots i) ≡ Some f)
+    (f : ℕ) → page_of (cap_at slots slot) ≡ Some f
+    → (i : ℕ) × (i ≢ slot) × (page_of (cap_at slots i) ≡ Some f)
 Back slots slot (Some f) = (page_of (cap_at slots slot) ≡ Some f) × NoOther slots slot f
 
 -- another slot that names a page, if there is one

@@ -119,7 +119,8 @@ push_some (Some n) ns = n ∷ ns
 unfoldable pub entries_in : Slots → ℕ → List ℕ → List ℕ
 entries_in slots slot [] = []
 entries_in slots slot (i ∷ is) =
-    push_some (if is_revoked slots slot i then mapped_at (cap_at slots i) else None) (entries_in slots slot is)
+    push_some (if is_revoked slots slot i then mapped_at (cap_at slots i) else None)
+    (entries_in slots slot is)
 
 abbrev pub revoked_entries : Slots → ℕ → List ℕ
 revoked_entries slots slot = entries_in slots slot (range_with_len 0 (length slots))

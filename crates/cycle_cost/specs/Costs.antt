@@ -49,4 +49,5 @@ most_added (Some c) = most_cost c
 
 -- from a clock below 2 ^ 62, up to 2 ^ 30 charges of any 32-bit number end within 63 bits
 abbrev pub ChargesFit : ℕ → Type 0
-ChargesFit clock = (charges : List ℕ) → All (λ charge. charge < 2 ^ 32) charges → length charges ≤ 2 ^ 30 → IsCycles (clock + sum charges)
+ChargesFit clock = (charges : List ℕ) → All (λ charge. charge < 2 ^ 32) charges → length charges ≤ 2 ^ 30
+    → IsCycles (clock + sum charges)

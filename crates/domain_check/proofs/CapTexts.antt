@@ -46,14 +46,16 @@ numeral_text s h =
       digits = sym (all_digits s) ∙ r.1;
     }
   where
-    alone : 1 ≤ length s → get_or s 0 0 ≡ 48 → (nat_lt 1 (length s) ≡ false) ⊎ ((slice_index s 0 == 48) ≡ false) → length s ≡ 1
+    alone : 1 ≤ length s → get_or s 0 0 ≡ 48
+        → (nat_lt 1 (length s) ≡ false) ⊎ ((slice_index s 0 == 48) ≡ false) → length s ≡ 1
     alone some z (inl e) = omega (arith, some, ltb-false 1 (length s) e)
     alone some z (inr e) = absurd (eqb-false (slice_index s 0) 48 e z)
 
 number_is : (s : List ℕ) (n : ℕ) → number_in s ≡ Some n → (s ≡ decimal n) × (n < 10 ^ 10)
 number_is s n e = by_case (is_numeral s) refl e
   where
-    by_case : (b : Bool) → is_numeral s ≡ b → (if b then Some (digits_value 10 s) else None) ≡ Some n → (s ≡ decimal n) × (n < 10 ^ 10)
+    by_case : (b : Bool) → is_numeral s ≡ b → (if b then Some (digits_value 10 s) else None) ≡ Some n
+        → (s ≡ decimal n) × (n < 10 ^ 10)
     by_case true h e =
         let t = numeral_text s h in
         let small = digits_value_short numerals s 10 t.digits t.few in
@@ -68,7 +70,8 @@ no_zeros n small = either (cases_lt 0 n)
     either : (0 < n) ⊎ (n ≤ 0) → (nat_lt 1 (length (decimal n)) && slice_index (decimal n) 0 == 48) ≡ false
     either (inl l) =
         let first = first_decimal n l (omega (arith, small)) in
-        and_right (nat_lt 1 (length (decimal n))) (slice_index (decimal n) 0 == 48) (ne_eqb (slice_index (decimal n) 0) 48 (λ e. omega (arith, first, e)))
+        and_right (nat_lt 1 (length (decimal n))) (slice_index (decimal n) 0 == 48)
+        (ne_eqb (slice_index (decimal n) 0) 48 (λ e. omega (arith, first, e)))
     either (inr m) =
         let one = length-decimal-le 1 n (omega arith) (omega (arith, m)) (omega (arith, m)) in
         and_left (nat_lt 1 (length (decimal n))) (slice_index (decimal n) 0 == 48) (le-ltb 1 (length (decimal n)) one)
@@ -80,8 +83,12 @@ number_of_decimal n small =
     let few = length-decimal-le 10 n (omega arith) small (omega (arith, small)) in
     let zeros = nat_lt 1 (length s) && slice_index s 0 == 48 in
     let size = and_from (nat_le 1 (length s)) (nat_le (length s) 10) (le-leb 1 (length s) k.0.0) (le-leb (length s) 10 few) in
-    let rest = and_from (not zeros) (list_all is_ascii_digit s) (not_from_false zeros (no_zeros n small)) (all_digits s ∙ numerals.from s k.0.1) in
-    let is : is_numeral s ≡ true = and_from (nat_le 1 (length s) && nat_le (length s) 10) (not zeros && list_all is_ascii_digit s) size rest in
+    let rest =
+    and_from (not zeros) (list_all is_ascii_digit s) (not_from_false zeros (no_zeros n small))
+    (all_digits s ∙ numerals.from s k.0.1) in
+    let is : is_numeral s ≡ true =
+    and_from (nat_le 1 (length s) && nat_le (length s) 10) (not zeros && list_all is_ascii_digit s)
+    size rest in
     let chosen : Bool → Option ℕ = λ b. if b then Some (digits_value 10 s) else None in
     ap chosen is ∙ ap Some k.1
 
@@ -90,18 +97,21 @@ number_of_decimal n small =
 after_is : (word s r : List ℕ) → after word s ≡ Some r → s ≡ word ++ r
 after_is word s r e = by_case (bytes_eq (take (length word) s) word) refl e
   where
-    by_case : (b : Bool) → bytes_eq (take (length word) s) word ≡ b → (if b then Some (drop (length word) s) else None) ≡ Some r → s ≡ word ++ r
+    by_case : (b : Bool) → bytes_eq (take (length word) s) word ≡ b
+        → (if b then Some (drop (length word) s) else None) ≡ Some r → s ≡ word ++ r
     by_case true h e =
         let front : take (length word) s ≡ word = (bytes_eq-Decides (take (length word) s) word).0 h in
         let rest : drop (length word) s ≡ r = cc in
         sym (take-append-drop (length word) s) ∙ ap (λ t. t ++ drop (length word) s) front ∙ ap (λ t. word ++ t) rest
     by_case false h e = cc
 
-number_after_is : (word s : List ℕ) (n : ℕ) → number_after word s ≡ Some n → (s ≡ word ++ decimal n) × (n < 10 ^ 10)
+number_after_is : (word s : List ℕ) (n : ℕ) → number_after word s ≡ Some n
+    → (s ≡ word ++ decimal n) × (n < 10 ^ 10)
 unfolding number_after
 number_after_is word s n e = by_case (after word s) refl e
   where
-    by_case : (o : Option (List ℕ)) → after word s ≡ o → number_if o ≡ Some n → (s ≡ word ++ decimal n) × (n < 10 ^ 10)
+    by_case : (o : Option (List ℕ)) → after word s ≡ o → number_if o ≡ Some n
+        → (s ≡ word ++ decimal n) × (n < 10 ^ 10)
     by_case None h e = cc
     by_case (Some r) h e = let w = number_is r n e in (after_is word s r h ∙ ap (λ t. word ++ t) w.0, w.1)
 
@@ -122,11 +132,13 @@ cap_is s c e = by_none (bytes_eq s (codes "none")) refl e
     by_line None h e = cc
     by_line (Some n) h e = let same : Irq n ≡ c = cc in subst (Is s) same (number_after_is (codes "irq ") s n h)
 
-    by_page : (o : Option ℕ) → pages ≡ o → or_else (option_map Page o) (option_map Irq lines) ≡ Some c → Is s c
+    by_page : (o : Option ℕ) → pages ≡ o → or_else (option_map Page o) (option_map Irq lines) ≡ Some c
+        → Is s c
     by_page None h e = by_line lines refl e
     by_page (Some n) h e = let same : Page n ≡ c = cc in subst (Is s) same (number_after_is (codes "page ") s n h)
 
-    by_none : (b : Bool) → bytes_eq s (codes "none") ≡ b → (if b then Some NoCap else or_else (option_map Page pages) (option_map Irq lines)) ≡ Some c → Is s c
+    by_none : (b : Bool) → bytes_eq s (codes "none") ≡ b
+        → (if b then Some NoCap else or_else (option_map Page pages) (option_map Irq lines)) ≡ Some c → Is s c
     by_none true h e = let same : NoCap ≡ c = cc in subst (Is s) same ((bytes_eq-Decides s (codes "none")).0 h, tt)
     by_none false h e = by_page pages refl e
 

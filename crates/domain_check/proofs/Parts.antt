@@ -2,7 +2,8 @@
 use Rattle.std.proofs.Common.{◌≡◌, ℕ, ◌<◌, List, length, map, get_or, sym, ap, ◌∙◌, arith}
 use Rattle.std.proofs.lemmas.List.{length-map, get_or-map}
 
-pub part_at : {A B C D : Type 0} (xs : List A) (ds : List D) (h : D → B) (f : A → C) (g : B → C) → map f xs ≡ map g (map h ds)
+pub part_at : {A B C D : Type 0} (xs : List A) (ds : List D) (h : D → B) (f : A → C) (g : B → C)
+    → map f xs ≡ map g (map h ds)
     → (k : ℕ) → k < length ds → (x : A) (d : D) → x ≡ get_or xs k x → d ≡ get_or ds k d → f x ≡ g (h d)
 part_at xs ds h f g same k below x d x_is d_is =
     let long : k < length xs = omega (arith, length-map xs f, length-map ds h, length-map (map h ds) g, ap length same, below) in

@@ -13,21 +13,25 @@ case_by d earlier s past sound =
     else if not sound then k12_refusal d (length earlier) 2
     else bytes_case d earlier s (bytes_in s.hex)
 
-pub past_case : (d : ℕ) (earlier : List RawSegment) (s : RawSegment) → 1048576 < s.page + s.pages → segment_case d earlier s ≡ k12_refusal d (length earlier) 1
+pub past_case : (d : ℕ) (earlier : List RawSegment) (s : RawSegment) → 1048576 < s.page + s.pages
+    → segment_case d earlier s ≡ k12_refusal d (length earlier) 1
 unfolding segment_case case_by
 past_case d earlier s past = ap (λ b. case_by d earlier s b (is_rights s.rights)) (lt-ltb 1048576 (s.page + s.pages) past)
 
-pub rights_case : (d : ℕ) (earlier : List RawSegment) (s : RawSegment) → s.page + s.pages ≤ 1048576 → is_rights s.rights ≡ false
+pub rights_case : (d : ℕ) (earlier : List RawSegment) (s : RawSegment) → s.page + s.pages ≤ 1048576
+    → is_rights s.rights ≡ false
     → segment_case d earlier s ≡ k12_refusal d (length earlier) 2
 unfolding segment_case case_by
 rights_case d earlier s within none = ap₂ (case_by d earlier s) (le-ltb 1048576 (s.page + s.pages) within) none
 
-pub rest_case : (d : ℕ) (earlier : List RawSegment) (s : RawSegment) → s.page + s.pages ≤ 1048576 → is_rights s.rights ≡ true
+pub rest_case : (d : ℕ) (earlier : List RawSegment) (s : RawSegment) → s.page + s.pages ≤ 1048576
+    → is_rights s.rights ≡ true
     → segment_case d earlier s ≡ bytes_case d earlier s (bytes_in s.hex)
 unfolding segment_case case_by
 rest_case d earlier s within some = ap₂ (case_by d earlier s) (le-ltb 1048576 (s.page + s.pages) within) some
 
-pub segment_is : (s : RawSegment) (rights : ℕ) (bytes : List ℕ) → rights ≡ rights_of s.rights → bytes_in s.hex ≡ Some bytes
+pub segment_is : (s : RawSegment) (rights : ℕ) (bytes : List ℕ) → rights ≡ rights_of s.rights
+    → bytes_in s.hex ≡ Some bytes
     → record { page = s.page; pages = s.pages; rights = rights; bytes = bytes } ≡ segment_of s
 unfolding segment_of
 segment_is s rights bytes same made =

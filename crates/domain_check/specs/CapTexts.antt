@@ -33,7 +33,8 @@ number_after word s = number_if (after word s)
 unfoldable pub cap_in : List ℕ → Option InitialCap
 cap_in s =
     if bytes_eq s (codes "none") then Some NoCap
-    else or_else (option_map Page (number_after (codes "page ") s)) (option_map Irq (number_after (codes "irq ") s))
+    else or_else (option_map Page (number_after (codes "page ") s))
+    (option_map Irq (number_after (codes "irq ") s))
 
 -- its number has at most ten digits
 abbrev pub IsShort : InitialCap → Type 0

@@ -12,7 +12,8 @@ use Rattle.domain_check.specs.Pages.{regions_below, pages_in}
 
 unfoldable pub k8_colour : ℕ → ℕ → List ℤ → ℤ → Option Refusal
 k8_colour colours d earlier x =
-    if outside (pos 1) (pos (colours - 1)) x || names earlier x then Some (refusal 8 (pos d) x (pos colours)) else None
+    if outside (pos 1) (pos (colours - 1)) x || names earlier x then Some (refusal 8 (pos d) x (pos colours))
+    else None
 
 abbrev pub k8_domain : ℕ → List RawDomain → RawDomain → Option Refusal
 k8_domain colours earlier o = first_in (k8_colour colours (length earlier)) o.colours
@@ -52,14 +53,16 @@ abbrev pub need_of : List Segment → ℕ
 need_of ss = 5 + regions_below ss 1025 + pages_in ss
 
 abbrev pub need_case : ℕ → ℕ → ℕ → Option Refusal
-need_case d frames need = if nat_lt frames need then Some (refusal 10 (pos d) (pos frames) (pos need)) else None
+need_case d frames need =
+    if nat_lt frames need then Some (refusal 10 (pos d) (pos frames) (pos need)) else None
 
 -- its lists fit those of the code
 pub record IsSmallDomain (o : RawDomain) : Type 0 where
   pub segments : length o.segments ≤ 16
 
 unfoldable pub k10_case : Whole → ℕ → RawDomain → Option Refusal
-k10_case whole d o = need_case d (length (pool (share_of whole (own_colours o)))) (need_of (map segment_of o.segments))
+k10_case whole d o =
+    need_case d (length (pool (share_of whole (own_colours o)))) (need_of (map segment_of o.segments))
 
 abbrev pub k10_domain : Whole → List RawDomain → RawDomain → Option Refusal
 k10_domain whole earlier o = k10_case whole (length earlier) o

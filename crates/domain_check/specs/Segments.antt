@@ -53,10 +53,12 @@ executes page s = has_execute s.rights && has_page s page
 -- 6: the entry is no place of an instruction
 unfoldable pub entry_case : ℕ → RawDomain → Option Refusal
 entry_case d o =
-    if o.entry % 4 == 0 && list_any (executes (o.entry / 4096)) o.segments then None else k12_refusal d o.entry 6
+    if o.entry % 4 == 0 && list_any (executes (o.entry / 4096)) o.segments then None
+    else k12_refusal d o.entry 6
 
 unfoldable pub k12_domain : List RawDomain → RawDomain → Option Refusal
-k12_domain earlier o = or_else (first_in (segment_case (length earlier)) o.segments) (entry_case (length earlier) o)
+k12_domain earlier o =
+    or_else (first_in (segment_case (length earlier)) o.segments) (entry_case (length earlier) o)
 
 unfoldable pub k12 : Raw → Option Refusal
 k12 i = first_in k12_domain i.domains
@@ -71,7 +73,9 @@ pub record Segment : Type 0 where
   pub bytes : List ℕ  -- the first bytes; zeros follow to the end of the pages
 
 abbrev pub has_read : List ℕ → Bool
-has_read s = bytes_eq s (codes "r") || (bytes_eq s (codes "rw") || (bytes_eq s (codes "rx") || bytes_eq s (codes "rwx")))
+has_read s =
+    bytes_eq s (codes "r")
+    || (bytes_eq s (codes "rw") || (bytes_eq s (codes "rx") || bytes_eq s (codes "rwx")))
 
 abbrev pub has_write : List ℕ → Bool
 has_write s = bytes_eq s (codes "rw") || bytes_eq s (codes "rwx")

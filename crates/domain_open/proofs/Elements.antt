@@ -8,7 +8,8 @@ slice_get-push_same : {A : Type 0} (xs : List A) (y : A) → slice_get (xs ++ y 
 slice_get-push_same [] y = refl
 slice_get-push_same (x ∷ xs) y = slice_get-push_same xs y
 
-slice_get-push_other : {A : Type 0} (xs : List A) (j : ℕ) (y : A) → j ≢ length xs → slice_get (xs ++ y ∷ []) j ≡ slice_get xs j
+slice_get-push_other : {A : Type 0} (xs : List A) (j : ℕ) (y : A) → j ≢ length xs
+    → slice_get (xs ++ y ∷ []) j ≡ slice_get xs j
 slice_get-push_other [] zero y h = absurd (h refl)
 slice_get-push_other [] (suc j) y h = refl
 slice_get-push_other (x ∷ xs) zero y h = refl

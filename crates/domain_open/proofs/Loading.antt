@@ -44,7 +44,8 @@ module _ (m : Mem) (f : ℕ) (words : ℕ → ℕ) where
   unfolding filled
   filled-suc n = refl
 
-  pub filled-more : (n at w : ℕ) → at ≡ 4096 * f + 4 * n → n < 1024 → w ≡ words n → written (filled m f words n) (at / 4096) (at % 4096 / 4) w ≡ filled m f words (n + 1)
+  pub filled-more : (n at w : ℕ) → at ≡ 4096 * f + 4 * n → n < 1024 → w ≡ words n
+      → written (filled m f words n) (at / 4096) (at % 4096 / 4) w ≡ filled m f words (n + 1)
   filled-more n at w is h same =
       let frame : at / 4096 ≡ f = omega arith in
       let place : at % 4096 / 4 ≡ n = omega arith in
@@ -52,7 +53,8 @@ module _ (m : Mem) (f : ℕ) (words : ℕ → ℕ) where
 
 -- a frame that was filled may be put at once
 -- a word that stands there already
-pub holds_kept : (memory : Contents) (m : Mem) (f p value : ℕ) → Holds memory m → value ≡ word m f p → Holds memory (written m f p value)
+pub holds_kept : (memory : Contents) (m : Mem) (f p value : ℕ) → Holds memory m → value ≡ word m f p
+    → Holds memory (written m f p value)
 holds_kept memory m f p value holds is = record {
   size = holds.size;
   same = λ frame place in_memory in_frame. holds.same frame place in_memory in_frame ∙ elim (cases_eq frame f) [
@@ -73,7 +75,9 @@ holds_kept memory m f p value holds is = record {
   ];
 }
 
-pub holds_put : (memory : Contents) (m : Mem) (f : ℕ) (words : ℕ → ℕ) (x : Frame) → ((i : ℕ) → i < 1024 → at 0 x i ≡ words i) → Holds memory (filled m f words 1024) → Holds memory (put m f x)
+pub holds_put : (memory : Contents) (m : Mem) (f : ℕ) (words : ℕ → ℕ) (x : Frame)
+    → ((i : ℕ) → i < 1024 → at 0 x i ≡ words i) → Holds memory (filled m f words 1024)
+    → Holds memory (put m f x)
 holds_put memory m f words x is holds = record {
   size = holds.size;
   same = λ g i in_memory in_frame.
@@ -91,11 +95,14 @@ module _ (p : Hardware) (o : spec.Own) (m : Mem) where
   unfolding tables_placed
   tables_none = refl
 
-  pub tables_more : (r : ℕ) → has_region o.segments r ≡ true → tables_placed p o (r + 1) m ≡ put (tables_placed p o r m) (table_frame p o r) (tabled (λ i. leaf_entry p o (1024 * r + i)) 1024)
+  pub tables_more : (r : ℕ) → has_region o.segments r ≡ true
+      → tables_placed p o (r + 1) m
+      ≡ put (tables_placed p o r m) (table_frame p o r) (tabled (λ i. leaf_entry p o (1024 * r + i)) 1024)
   unfolding tables_placed table_placed
   tables_more r some = rw (add-one r, some) refl
 
-  pub tables_same : (r : ℕ) → has_region o.segments r ≡ false → tables_placed p o (r + 1) m ≡ tables_placed p o r m
+  pub tables_same : (r : ℕ) → has_region o.segments r ≡ false
+      → tables_placed p o (r + 1) m ≡ tables_placed p o r m
   unfolding tables_placed
   tables_same r none = rw (add-one r, none) refl
 
@@ -104,7 +111,9 @@ module _ (p : Hardware) (o : spec.Own) (m : Mem) where
 pub take_front : {A : Type 0} (n : ℕ) (xs : List A) → take (min (length xs) n) xs ≡ take n xs
 take_front zero xs = let none : min (length xs) 0 ≡ 0 = omega arith in rw none refl
 take_front (suc n) [] = let none : min 0 (suc n) ≡ 0 = omega arith in rw none refl
-take_front (suc n) (x ∷ xs) = let more : min (suc (length xs)) (suc n) ≡ suc (min (length xs) n) = omega arith in rw more (ap (λ ys. x ∷ ys) (take_front n xs))
+take_front (suc n) (x ∷ xs) =
+    let more : min (suc (length xs)) (suc n) ≡ suc (min (length xs) n) = omega arith in
+    rw more (ap (λ ys. x ∷ ys) (take_front n xs))
 
 pub drop_front : {A : Type 0} (n : ℕ) (xs : List A) → drop (min (length xs) n) xs ≡ drop n xs
 drop_front zero xs = let none : min (length xs) 0 ≡ 0 = omega arith in rw none refl
@@ -120,18 +129,26 @@ pub record Placing (memory : Contents) (left : Mem → Mem) (due : Mem) : Type 0
 pub begun : (memory : Contents) (m : Mem) (left : Mem → Mem) → Holds memory m → Placing memory left (left m)
 begun memory m left h = record { done = m; holds = h; same = refl }
 
-pub finished : (memory : Contents) (left : Mem → Mem) (due : Mem) → ((m : Mem) → left m ≡ m) → Placing memory left due → Holds memory due
+pub finished : (memory : Contents) (left : Mem → Mem) (due : Mem) → ((m : Mem) → left m ≡ m)
+    → Placing memory left due → Holds memory due
 finished memory left due none p = subst (Holds memory) (sym (none p.done) ∙ p.same) p.holds
 
-pub went_on : (memory memory' : Contents) (left left' step : Mem → Mem) (due : Mem) → ((m : Mem) → left m ≡ left' (step m)) → ((m : Mem) → Holds memory m → Holds memory' (step m))
+pub went_on : (memory memory' : Contents) (left left' step : Mem → Mem) (due : Mem)
+    → ((m : Mem) → left m ≡ left' (step m)) → ((m : Mem) → Holds memory m → Holds memory' (step m))
     → Placing memory left due → Placing memory' left' due
-went_on memory memory' left left' step due more moved p = record { done = step p.done; holds = moved p.done p.holds; same = sym (more p.done) ∙ p.same }
+went_on memory memory' left left' step due more moved p =
+    record { done = step p.done; holds = moved p.done p.holds; same = sym (more p.done) ∙ p.same }
 
-pub no_page : (p : Hardware) (o : spec.Own) (n many : ℕ) (bytes : List ℕ) → many ≡ 0 → (m : Mem) → pages_placed p o n many bytes m ≡ m
+pub no_page : (p : Hardware) (o : spec.Own) (n many : ℕ) (bytes : List ℕ) → many ≡ 0 → (m : Mem)
+    → pages_placed p o n many bytes m ≡ m
 unfolding pages_placed
 no_page p o n many bytes none m = rw none refl
 
-pub one_page : (p : Hardware) (o : spec.Own) (n many many' : ℕ) (bytes : List ℕ) → many ≡ suc many' → (m : Mem) → pages_placed p o n many bytes m ≡ pages_placed p o (n + 1) many' (drop 4096 bytes) (put m (page_frame p o n) (page_words (take 4096 bytes)))
+pub one_page : (p : Hardware) (o : spec.Own) (n many many' : ℕ) (bytes : List ℕ) → many ≡ suc many'
+    → (m : Mem)
+    → pages_placed p o n many bytes m
+    ≡ pages_placed p o (n + 1) many' (drop 4096 bytes)
+    (put m (page_frame p o n) (page_words (take 4096 bytes)))
 unfolding pages_placed
 one_page p o n many many' bytes some m = rw (some, add-one n) refl
 
@@ -141,23 +158,27 @@ pub no_segment : (p : Hardware) (o : spec.Own) (m : Mem) → segments_placed p o
 unfolding segments_placed
 no_segment p o m = refl
 
-pub one_segment : (p : Hardware) (o : spec.Own) (s : spec.Segment) (ss : List spec.Segment) (m : Mem) → segments_placed p o (s ∷ ss) m ≡ segments_placed p o ss (pages_placed p o s.page s.pages s.bytes m)
+pub one_segment : (p : Hardware) (o : spec.Own) (s : spec.Segment) (ss : List spec.Segment) (m : Mem)
+    → segments_placed p o (s ∷ ss) m ≡ segments_placed p o ss (pages_placed p o s.page s.pages s.bytes m)
 unfolding segments_placed
 one_segment p o s ss m = refl
 
 -- ---- domains, from the last to the first
 
-pub owns_none : (p : Hardware) (owns : List spec.Own) (k : ℕ) → length owns ≤ k → all_placed p (drop k owns) ≡ empty
+pub owns_none : (p : Hardware) (owns : List spec.Own) (k : ℕ) → length owns ≤ k
+    → all_placed p (drop k owns) ≡ empty
 unfolding all_placed
 owns_none p owns k h = rw (drop_all k owns h) refl
 
-pub owns_more : (p : Hardware) (owns : List spec.Own) (k : ℕ) → k < length owns → placed p (spec.own_at owns k) (all_placed p (drop (k + 1) owns)) ≡ all_placed p (drop k owns)
+pub owns_more : (p : Hardware) (owns : List spec.Own) (k : ℕ) → k < length owns
+    → placed p (spec.own_at owns k) (all_placed p (drop (k + 1) owns)) ≡ all_placed p (drop k owns)
 unfolding all_placed
 owns_more p owns k h = ap (all_placed p) (sym (drop_more owns k spec.no_own h))
 
 -- ---- what is outside the domain's pool
 
-pub placed_elsewhere : (p : Hardware) (o : spec.Own) (old new : Contents) (m : Mem) → HasPool p o → old.frames ≡ p.frames → new.frames ≡ old.frames
+pub placed_elsewhere : (p : Hardware) (o : spec.Own) (old new : Contents) (m : Mem) → HasPool p o
+    → old.frames ≡ p.frames → new.frames ≡ old.frames
     → Holds old m → Holds new (placed p o m) → SameElsewhere p o new old
 unfolding word
 placed_elsewhere p o old new m has size same before after f i in_memory in_frame other =

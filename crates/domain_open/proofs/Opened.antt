@@ -37,7 +37,8 @@ use Rattle.domain_open.proofs.SlotLaws.{none_set, is_page_in}
 
 -- ---- a region, and a page, at each place
 
-region_there : (ss : List Segment) (n j : ℕ) → j < regions_below ss n → (r : ℕ) × (r < n) × (has_region ss r ≡ true) × (regions_below ss r ≡ j)
+region_there : (ss : List Segment) (n j : ℕ) → j < regions_below ss n
+    → (r : ℕ) × (r < n) × (has_region ss r ≡ true) × (regions_below ss r ≡ j)
 unfolding regions_below
 region_there ss zero j h = absurd (omega (arith, h))
 region_there ss (suc n) j h =
@@ -55,7 +56,8 @@ none_below_zero [] = refl
 none_below_zero (s ∷ ss) = let rest = none_below_zero ss in omega (arith, rest)
 
 -- a page is counted once
-one_more : (s : Segment) (n : ℕ) → min s.pages (suc n - s.page) ≡ min s.pages (n - s.page) + cond (has_page s n) 1 0
+one_more : (s : Segment) (n : ℕ)
+    → min s.pages (suc n - s.page) ≡ min s.pages (n - s.page) + cond (has_page s n) 1 0
 one_more s n =
     elim (cases_Bool (has_page s n)) [
       | inl here ↦
@@ -69,31 +71,37 @@ one_more s n =
       ])
     ]
 
-either_more : (a b : Bool) (x x' y y' : ℕ) → (a ≡ true → b ≡ false) → x' ≡ x + cond a 1 0 → y' ≡ y + cond b 1 0 → x' + y' ≡ x + y + cond (a || b) 1 0
+either_more : (a b : Bool) (x x' y y' : ℕ) → (a ≡ true → b ≡ false) → x' ≡ x + cond a 1 0
+    → y' ≡ y + cond b 1 0 → x' + y' ≡ x + y + cond (a || b) 1 0
 either_more true true x x' y y' apart e f = absurd (true≢false (apart refl))
 either_more true false x x' y y' apart e f = omega (arith, e, f)
 either_more false true x x' y y' apart e f = omega (arith, e, f)
 either_more false false x x' y y' apart e f = omega (arith, e, f)
 
-of_none : (ss : List Segment) (n : ℕ) → ((k : ℕ) → k < length ss → has_page (get_or ss k no_segment) n ≡ false) → is_page ss n ≡ false
+of_none : (ss : List Segment) (n : ℕ)
+    → ((k : ℕ) → k < length ss → has_page (get_or ss k no_segment) n ≡ false) → is_page ss n ≡ false
 unfolding is_page
 of_none [] n none = refl
 of_none (s ∷ ss) n none = rw (none 0 (omega arith), of_none ss n (λ k h. none (suc k) (omega (arith, h)))) refl
 
-first_apart : (s : Segment) (ss : List Segment) (n : ℕ) → AreApart (s ∷ ss) → has_page s n ≡ true → is_page ss n ≡ false
+first_apart : (s : Segment) (ss : List Segment) (n : ℕ) → AreApart (s ∷ ss) → has_page s n ≡ true
+    → is_page ss n ≡ false
 first_apart s ss n apart here = of_none ss n (λ k h. apart.once 0 (suc k) n (omega arith) (omega (arith, h)) here)
 
 rest_apart : (s : Segment) (ss : List Segment) → AreApart (s ∷ ss) → AreApart ss
 rest_apart s ss apart = record { once = λ j k n less below. apart.once (suc j) (suc k) n (omega (arith, less)) (omega (arith, below)) }
 
-page_counted : (ss : List Segment) (n : ℕ) → AreApart ss → pages_below ss (suc n) ≡ pages_below ss n + cond (is_page ss n) 1 0
+page_counted : (ss : List Segment) (n : ℕ) → AreApart ss
+    → pages_below ss (suc n) ≡ pages_below ss n + cond (is_page ss n) 1 0
 unfolding pages_below is_page
 page_counted [] n apart = refl
 page_counted (s ∷ ss) n apart =
-    either_more (has_page s n) (is_page ss n) (min s.pages (n - s.page)) (min s.pages (suc n - s.page)) (pages_below ss n) (pages_below ss (suc n))
+    either_more (has_page s n) (is_page ss n) (min s.pages (n - s.page)) (min s.pages (suc n - s.page))
+    (pages_below ss n) (pages_below ss (suc n))
     (first_apart s ss n apart) (one_more s n) (page_counted ss n (rest_apart s ss apart))
 
-page_there : (ss : List Segment) (n j : ℕ) → AreApart ss → j < pages_below ss n → (m : ℕ) × (m < n) × (is_page ss m ≡ true) × (pages_below ss m ≡ j)
+page_there : (ss : List Segment) (n j : ℕ) → AreApart ss → j < pages_below ss n
+    → (m : ℕ) × (m < n) × (is_page ss m ≡ true) × (pages_below ss m ≡ j)
 page_there ss zero j apart h = let none = none_below_zero ss in absurd (omega (arith, h, none))
 page_there ss (suc n) j apart h =
     elim (cases_lt j (pages_below ss n)) [
@@ -101,21 +109,29 @@ page_there ss (suc n) j apart h =
       | inr more ↦ by_case (is_page ss n) refl more
     ]
   where
-    by_case : (t : Bool) → is_page ss n ≡ t → pages_below ss n ≤ j → (m : ℕ) × (m < suc n) × (is_page ss m ≡ true) × (pages_below ss m ≡ j)
-    by_case true e more = let step = page_counted ss n apart ∙ ap (λ b. pages_below ss n + cond b 1 0) e in (n, omega arith, e, omega (arith, h, more, step))
-    by_case false e more = let step = page_counted ss n apart ∙ ap (λ b. pages_below ss n + cond b 1 0) e in absurd (omega (arith, h, more, step))
+    by_case : (t : Bool) → is_page ss n ≡ t → pages_below ss n ≤ j
+        → (m : ℕ) × (m < suc n) × (is_page ss m ≡ true) × (pages_below ss m ≡ j)
+    by_case true e more =
+        let step = page_counted ss n apart ∙ ap (λ b. pages_below ss n + cond b 1 0) e in
+        (n, omega arith, e, omega (arith, h, more, step))
+    by_case false e more =
+        let step = page_counted ss n apart ∙ ap (λ b. pages_below ss n + cond b 1 0) e in
+        absurd (omega (arith, h, more, step))
 
 -- ---- a list of which the first do not pass, and the others do
 
-filter_rest : (q : ℕ → Bool) (n : ℕ) (xs : List ℕ) → ((k : ℕ) → k < n → k < length xs → q (get_or xs k 0) ≡ false)
+filter_rest : (q : ℕ → Bool) (n : ℕ) (xs : List ℕ)
+    → ((k : ℕ) → k < n → k < length xs → q (get_or xs k 0) ≡ false)
     → ((k : ℕ) → n ≤ k → k < length xs → q (get_or xs k 0) ≡ true) → filter q xs ≡ drop n xs
 filter_rest q zero [] fail pass = refl
 filter_rest q (suc n) [] fail pass = refl
 filter_rest q zero (x ∷ xs) fail pass =
-    rw (pass 0 (omega arith) (omega arith)) (ap (λ ys. x ∷ ys) (filter_rest q zero xs (λ k low h. absurd (omega (arith, low))) (λ k past h. pass (suc k) (omega arith) (omega (arith, h)))))
+    rw (pass 0 (omega arith) (omega arith)) (ap (λ ys. x ∷ ys) (filter_rest q zero xs
+    (λ k low h. absurd (omega (arith, low))) (λ k past h. pass (suc k) (omega arith) (omega (arith, h)))))
 filter_rest q (suc n) (x ∷ xs) fail pass =
     rw (fail 0 (omega arith) (omega arith))
-    (filter_rest q n xs (λ k low h. fail (suc k) (omega (arith, low)) (omega (arith, h))) (λ k past h. pass (suc k) (omega (arith, past)) (omega (arith, h))))
+    (filter_rest q n xs (λ k low h. fail (suc k) (omega (arith, low)) (omega (arith, h)))
+    (λ k past h. pass (suc k) (omega (arith, past)) (omega (arith, h))))
 
 pub increasing_drop : (n : ℕ) (xs : List ℕ) → IsStrictlyIncreasing xs → IsStrictlyIncreasing (drop n xs)
 increasing_drop n xs up k h =
@@ -131,24 +147,31 @@ module _ (p : Hardware) (o : Own) where
 
   module _ (enough : frames_in o.segments ≤ length (pool p o)) (sound : IsOwn o) where
     -- the slots when all pages have been given out
-    pub slots_are : slots_after o (drop (5 + regions_in o.segments) (pool p o)) (pages_in o.segments) ≡ first_slots p o
+    pub slots_are : slots_after o (drop (5 + regions_in o.segments) (pool p o)) (pages_in o.segments)
+        ≡ first_slots p o
     unfolding slots_after first_slots first_cap colours.frame_at
-    slots_are = none_set (λ i. cap_after o frames (pages_in o.segments) (cap_at o i)) (λ i. first_cap p o (cap_at o i)) (λ i below. by_cap i (cap_at o i) refl)
+    slots_are =
+        none_set (λ i. cap_after o frames (pages_in o.segments) (cap_at o i))
+        (λ i. first_cap p o (cap_at o i)) (λ i below. by_cap i (cap_at o i) refl)
       where
         frames : List ℕ
         frames = drop (5 + regions_in o.segments) (pool p o)
 
-        by_cap : (i : ℕ) (c : InitialCap) → cap_at o i ≡ c → cap_after o (drop (5 + regions_in o.segments) (pool p o)) (pages_in o.segments) c ≡ first_cap p o c
+        by_cap : (i : ℕ) (c : InitialCap) → cap_at o i ≡ c
+            → cap_after o (drop (5 + regions_in o.segments) (pool p o)) (pages_in o.segments) c
+            ≡ first_cap p o c
         by_cap i initial.None e = refl
         by_cap i (initial.Page n) e =
-            rw (lt-ltb (pages_below o.segments n) (pages_in o.segments) (pages_low o.segments n (is_page_in o.segments n (sound.pages i n e))))
+            rw (lt-ltb (pages_below o.segments n) (pages_in o.segments)
+            (pages_low o.segments n (is_page_in o.segments n (sound.pages i n e))))
             (ap (λ (f : ℕ). Some (page_cap o f n)) (get_or-drop (5 + regions_in o.segments) (pool p o) (pages_below o.segments n) 0))
         by_cap i (initial.Irq line) e = refl
 
     -- ---- a frame of the pool is named exactly where its place is one of the first
 
     -- a claim's frame stands at one of the first places
-    first_place : (i : ℕ) (c : Claim) (f : ℕ) → Case p o i c → frame_of c ≡ Some f → (k : ℕ) × (k < frames_in o.segments) × (pool_frame p o k ≡ f)
+    first_place : (i : ℕ) (c : Claim) (f : ℕ) → Case p o i c → frame_of c ≡ Some f
+        → (k : ℕ) × (k < frames_in o.segments) × (pool_frame p o k ≡ f)
     unfolding frame_of
     first_place i c f (Case.nothing e) h = absurd (none-some f (sym (ap frame_of e) ∙ h))
     first_place i c f (Case.fixed n a b e) h = (n, omega (arith, b), same_Some _ f (sym (ap frame_of e) ∙ h))
@@ -160,7 +183,8 @@ module _ (p : Hardware) (o : Own) where
         let low = pages_low o.segments n there in
         (5 + regions_in o.segments + pages_below o.segments n, omega (arith, low), same_Some _ f (sym (ap frame_of e) ∙ h))
 
-    named_low : (n : ℕ) → n < length (pool p o) → is_named (estate p o) (first_slots p o) (pool_frame p o n) ≡ true → n < frames_in o.segments
+    named_low : (n : ℕ) → n < length (pool p o)
+        → is_named (estate p o) (first_slots p o) (pool_frame p o n) ≡ true → n < frames_in o.segments
     named_low n within named =
         let by = named_by (estate p o) (first_slots p o) (pool_frame p o n) named in
         let at = first_place by.0 (claims (estate p o) (first_slots p o) by.0) (pool_frame p o n) (case p o enough sound by.0) by.1 in
@@ -169,7 +193,8 @@ module _ (p : Hardware) (o : Own) where
         omega (arith, same, low)
 
     module _ (apart : AreApart o.segments) where
-      claim_at : (n : ℕ) → n < frames_in o.segments → (i : ℕ) × (frame_of (claims (estate p o) (first_slots p o) i) ≡ Some (pool_frame p o n))
+      claim_at : (n : ℕ) → n < frames_in o.segments
+          → (i : ℕ) × (frame_of (claims (estate p o) (first_slots p o) i) ≡ Some (pool_frame p o n))
       unfolding estate frame_of
       claim_at n below =
           elim (cases_lt n 5) [
@@ -191,44 +216,60 @@ module _ (p : Hardware) (o : Own) where
             ]
           ]
         where
-          fixed_at : n < 5 → frame_of (claims (estate p o) (first_slots p o) (64 + n)) ≡ Some (pool_frame p o n)
-          fixed_at low = ap frame_of (claims_fixed (estate p o) (first_slots p o) (slots_long p o enough sound) n ∙ fix_frame p o enough n low)
+          fixed_at : n < 5
+              → frame_of (claims (estate p o) (first_slots p o) (64 + n)) ≡ Some (pool_frame p o n)
+          fixed_at low =
+              ap frame_of (claims_fixed (estate p o) (first_slots p o) (slots_long p o enough sound) n
+              ∙ fix_frame p o enough n low)
 
-          table_at : (r : ℕ) → 5 + regions_below o.segments r ≡ n → frame_of (Claim.Directory (table_frame p o r) (Some r)) ≡ Some (pool_frame p o n)
+          table_at : (r : ℕ) → 5 + regions_below o.segments r ≡ n
+              → frame_of (Claim.Directory (table_frame p o r) (Some r)) ≡ Some (pool_frame p o n)
           table_at r at = ap (λ (k : ℕ). Some (pool_frame p o k)) at
 
-          page_at : (m : ℕ) (c : Claim) (b : Bool) (w : Option (ℕ × ℕ)) → c ≡ Claim.Leaf b (page_frame p o m) w → 5 + regions_in o.segments + pages_below o.segments m ≡ n
+          page_at : (m : ℕ) (c : Claim) (b : Bool) (w : Option (ℕ × ℕ))
+              → c ≡ Claim.Leaf b (page_frame p o m) w
+              → 5 + regions_in o.segments + pages_below o.segments m ≡ n
               → frame_of c ≡ Some (pool_frame p o n)
           page_at m c b w e at = ap frame_of e ∙ ap (λ (k : ℕ). Some (pool_frame p o k)) at
 
       -- what is left of the pool is free
       pub free_left : drop (frames_in o.segments) (pool p o) ≡ free_frames (estate p o) (first_slots p o)
       unfolding free_frames estate colours.frame_at
-      free_left = sym (filter_rest (λ f. not (is_named (estate p o) (first_slots p o) f)) (frames_in o.segments) (pool p o) (λ k low h. named k low) unnamed_past)
+      free_left =
+          sym (filter_rest (λ f. not (is_named (estate p o) (first_slots p o) f)) (frames_in o.segments)
+          (pool p o) (λ k low h. named k low) unnamed_past)
         where
-          named : (k : ℕ) → k < frames_in o.segments → not (is_named (estate p o) (first_slots p o) (pool_frame p o k)) ≡ false
+          named : (k : ℕ) → k < frames_in o.segments
+              → not (is_named (estate p o) (first_slots p o) (pool_frame p o k)) ≡ false
           named k low = let at = claim_at k low in ap not (names (estate p o) (first_slots p o) (pool_frame p o k) at.0 at.1)
 
-          unnamed_past : (k : ℕ) → frames_in o.segments ≤ k → k < length (pool p o) → not (is_named (estate p o) (first_slots p o) (pool_frame p o k)) ≡ true
+          unnamed_past : (k : ℕ) → frames_in o.segments ≤ k → k < length (pool p o)
+              → not (is_named (estate p o) (first_slots p o) (pool_frame p o k)) ≡ true
           unnamed_past k past h = by_case (is_named (estate p o) (first_slots p o) (pool_frame p o k)) refl
             where
-              by_case : (t : Bool) → is_named (estate p o) (first_slots p o) (pool_frame p o k) ≡ t → not t ≡ true
+              by_case : (t : Bool) → is_named (estate p o) (first_slots p o) (pool_frame p o k) ≡ t
+                  → not t ≡ true
               by_case true e = let low = named_low k h e in absurd (omega (arith, low, past))
               by_case false e = refl
 
-      pub has_estate : (d : Domain) → d.map ≡ root_of p o → d.pool ≡ record { share = share_of p o; free = drop (frames_in o.segments) (pool p o) }
+      pub has_estate : (d : Domain) → d.map ≡ root_of p o
+          → d.pool ≡ record { share = share_of p o; free = drop (frames_in o.segments) (pool p o) }
           → d.caps ≡ first_slots p o → d.calls ≡ o.calls → Has (estate p o) d
       unfolding estate
       has_estate d root free caps calls = record {
         root = root;
         calls = calls;
-        pool = free ∙ ap (λ (fs : List ℕ). record { share = share_of p o; free = fs }) (free_left ∙ ap (λ (s : Slots). free_frames (estate p o) s) (sym caps));
+        pool =
+            free
+            ∙ ap (λ (fs : List ℕ). record { share = share_of p o; free = fs })
+            (free_left ∙ ap (λ (s : Slots). free_frames (estate p o) s) (sym caps));
         slots = ap (λ (s : Slots). length s) caps ∙ slots_long p o enough sound;
       }
 
   -- ---- at its entry
 
-  pub at_entry : (d : Domain) → IsNew d → threads_model d.threads ≡ threads.threads_at_entry o.entry → d.caps ≡ first_slots p o → d.interrupts ≡ irq.none_delivered o.moments → Stands d (opening_dom p o)
+  pub at_entry : (d : Domain) → IsNew d → threads_model d.threads ≡ threads.threads_at_entry o.entry
+      → d.caps ≡ first_slots p o → d.interrupts ≡ irq.none_delivered o.moments → Stands d (opening_dom p o)
   unfolding opening_dom domain.dom_at_entry irq.none_delivered
   at_entry d new at caps irqs = record {
     same = λ i. record {
@@ -261,8 +302,10 @@ new_counts d new =
 module _ (p : Hardware) (o : Own) (has : HasPool p o) (apart : AreApart o.segments) where
   pub is_opened : (d : Domain) → IsNew d → d.map ≡ root_of p o
       → d.pool ≡ record { share = share_of p o; free = drop (frames_in o.segments) (pool p o) } → d.caps ≡ first_slots p o
-      → d.interrupts ≡ irq.none_delivered o.moments → threads_model d.threads ≡ threads.threads_at_entry o.entry → d.tables.items ≡ first_tables p o
-      → d.kept.items ≡ clone_frames p o ++ unnamed (first_slots p o) (page_frames p o) → layout_model d.layout ≡ layout p o → d.calls ≡ o.calls → IsOpened p o d
+      → d.interrupts ≡ irq.none_delivered o.moments
+      → threads_model d.threads ≡ threads.threads_at_entry o.entry → d.tables.items ≡ first_tables p o
+      → d.kept.items ≡ clone_frames p o ++ unnamed (first_slots p o) (page_frames p o)
+      → layout_model d.layout ≡ layout p o → d.calls ≡ o.calls → IsOpened p o d
   unfolding irq.none_delivered
   is_opened d new root free caps irqs at tables kept clone calls = record {
     stands = at_entry p o d new at caps irqs;

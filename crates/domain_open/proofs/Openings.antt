@@ -13,7 +13,8 @@ use Rattle.domain_open.proofs.Elements.{each_push}
 pub opened_none : (p : Hardware) (owns : List Own) → AreOpened p owns 0 []
 opened_none p owns = record { all = refl; each = λ d x got. cc }
 
-pub opened_more : (p : Hardware) (domains : List Domain) (owns : List Own) (n : ℕ) (x : Domain) → AreOpened p owns n domains
+pub opened_more : (p : Hardware) (domains : List Domain) (owns : List Own) (n : ℕ) (x : Domain)
+    → AreOpened p owns n domains
     → IsOpened p (own_at owns n) x → AreOpened p owns (n + 1) (domains ++ x ∷ [])
 opened_more p domains owns n x old new =
     record {
@@ -26,7 +27,8 @@ the_same : (d : ℕ) → d + 0 ≡ d
 the_same d = omega arith
 
 -- the first of the shares that are left is the next domain's
-pub first_share : (i : Image) (d : ℕ) (left : List Share) (s : Share) → d < length i.owns → left ≡ drop d (all_shares i) → s ≡ get_or left 0 s
+pub first_share : (i : Image) (d : ℕ) (left : List Share) (s : Share) → d < length i.owns
+    → left ≡ drop d (all_shares i) → s ≡ get_or left 0 s
     → s ≡ share_of i.all.hardware (own_of i d)
 first_share i d left s below is first =
     first ∙ ap (λ (ss : List Share). get_or ss 0 s) is ∙ get_or-drop d (all_shares i) 0 s

@@ -33,15 +33,18 @@ module _ (p : Hardware) (o : Own) (frames : List ℕ) (is : frames ≡ pool p o)
       let inside = pool_inside p o n (omega (arith, h, ap (λ (xs : List ℕ). length xs) is)) in
       subst (λ (f : ℕ). f < p.frames) (sym (pool_read n x h)) inside
 
-  pub table_place : (r : ℕ) → r < 1024 → has_region o.segments r ≡ true → 5 + regions_below o.segments r < length frames
+  pub table_place : (r : ℕ) → r < 1024 → has_region o.segments r ≡ true
+      → 5 + regions_below o.segments r < length frames
   table_place r below some =
       let before = region_before o.segments r 1024 some below in
       omega (arith, long, before)
 
-  pub page_place : (n : ℕ) → pages_below o.segments n < pages_in o.segments → 5 + regions_in o.segments + pages_below o.segments n < length frames
+  pub page_place : (n : ℕ) → pages_below o.segments n < pages_in o.segments
+      → 5 + regions_in o.segments + pages_below o.segments n < length frames
   page_place n there = omega (arith, long, there)
 
 -- the first four are those of the kernel clone
-pub clone_read : (p : Hardware) (o : Own) (clone : List ℕ) → clone ≡ clone_frames p o → (n x : ℕ) → n < 4 → n < length clone → get_or clone n x ≡ pool_frame p o n
+pub clone_read : (p : Hardware) (o : Own) (clone : List ℕ) → clone ≡ clone_frames p o → (n x : ℕ) → n < 4
+    → n < length clone → get_or clone n x ≡ pool_frame p o n
 unfolding frame_at
 clone_read p o clone is n x low h = either_default clone n x 0 h ∙ ap (λ (xs : List ℕ). get_or xs n 0) is ∙ get_or-take 4 (pool p o) n 0 low

@@ -31,17 +31,21 @@ use Rattle.domain_open.proofs.PoolReads.{either_default}
 
 -- ---- words
 
-frame_is : (memory : Contents) (m : Mem) (f : ℕ) → Holds memory m → f < memory.frames → contents.frame_words memory f ≡ frame_words (frame_at m f)
+frame_is : (memory : Contents) (m : Mem) (f : ℕ) → Holds memory m → f < memory.frames
+    → contents.frame_words memory f ≡ frame_words (frame_at m f)
 unfolding frame_words word
 frame_is memory m f holds within =
-    let all : length (contents.frame_words memory f) ≡ 1024 = omega (arith, holds.size, length-between memory.words (1024 * f) (1024 * f + 1024)) in
+    let all : length (contents.frame_words memory f) ≡ 1024 =
+    omega (arith, holds.size, length-between memory.words (1024 * f) (1024 * f + 1024)) in
     fill_by_all (at 0 (frame_at m f)) (contents.frame_words memory f) 1024 0 all (λ k h. holds.same f k within h)
 
-frames_are : (memory : Contents) (m : Mem) (fs : List ℕ) → Holds memory m → ((n : ℕ) → n < length fs → get_or fs n 0 < memory.frames)
+frames_are : (memory : Contents) (m : Mem) (fs : List ℕ) → Holds memory m
+    → ((n : ℕ) → n < length fs → get_or fs n 0 < memory.frames)
     → map (contents.frame_words memory) fs ≡ map (λ g. frame_words (frame_at m g)) fs
 frames_are memory m [] holds within = refl
 frames_are memory m (f ∷ fs) holds within =
-    ap₂ (λ x xs. x ∷ xs) (frame_is memory m f holds (within 0 (omega arith))) (frames_are memory m fs holds (λ n h. within (suc n) (omega arith)))
+    ap₂ (λ x xs. x ∷ xs) (frame_is memory m f holds (within 0 (omega arith)))
+    (frames_are memory m fs holds (λ n h. within (suc n) (omega arith)))
 
 -- ---- a domain with its estate
 
@@ -64,8 +68,19 @@ module _ (p : Hardware) (o : Own) (x : Domain) (has : Has (estate p o) x) where
     unfolding view
     view_is m s stands holds =
         let fs = map (λ f. frame_words (frame_at s.mem f)) (pool p o) in
-        let seen : Dom → View = λ d. record { status = d.status; retired = d.retired; threads = all_of d.threads; readings = log_of m.readings; replies = log_of m.replies; printed = d.printed; pool = pool p o; frames = fs } in
+        let seen : Dom → View =
+        λ d. record {
+          status = d.status;
+          retired = d.retired;
+          threads = all_of d.threads;
+          readings = log_of m.readings;
+          replies = log_of m.replies;
+          printed = d.printed;
+          pool = pool p o;
+          frames = fs;
+        } in
         let same : seen (dom_model x m.readings m.replies) ≡ seen m = ap seen stands.same in
         let words : map (contents.frame_words memory) (pool p o) ≡ fs =
-        frames_are memory s.mem (pool p o) holds (λ n h. subst (λ (size : ℕ). get_or (pool p o) n 0 < size) (sym frames) (in_pool p o n h)) in
+        frames_are memory s.mem (pool p o) holds
+        (λ n h. subst (λ (size : ℕ). get_or (pool p o) n 0 < size) (sym frames) (in_pool p o n h)) in
         rw (share_is, stands.readings, stands.replies, words) same

@@ -37,7 +37,8 @@ pub slot_at : (f : ℕ → Option Cap) (i : ℕ) → i < 64 → get_or (by_slot 
 slot_at f i below = get_or-map-range_with_len f 0 64 i i None below (zero-add i)
 
 -- one is set
-one_set : (f g : ℕ → Option Cap) (a : ℕ) (x : Option Cap) → a < 64 → g a ≡ x → ((i : ℕ) → i ≢ a → f i ≡ g i) → set (by_slot f) a x ≡ by_slot g
+one_set : (f g : ℕ → Option Cap) (a : ℕ) (x : Option Cap) → a < 64 → g a ≡ x → ((i : ℕ) → i ≢ a → f i ≡ g i)
+    → set (by_slot f) a x ≡ by_slot g
 one_set f g a x below here other =
     fill_by_all g (set (by_slot f) a x) 64 None (length-set (by_slot f) a x ∙ slots_long f)
     (λ k h. elim (cases_eq k a) [
@@ -52,13 +53,19 @@ pub none_set : (f g : ℕ → Option Cap) → ((i : ℕ) → i < 64 → f i ≡ 
 none_set f g same = fill_by_all g (by_slot f) 64 None (slots_long f) (λ k h. slot_at f k h ∙ same k h)
 
 -- a page is put in a slot and noted there
-pub put_noted : (o : Own) (s t u : Slots) (a f r n at : ℕ) → length s ≡ 64 → a < 64 → r ≡ rights_or_none (rights_in o.segments n) → at ≡ n * 4096
+pub put_noted : (o : Own) (s t u : Slots) (a f r n at : ℕ) → length s ≡ 64 → a < 64
+    → r ≡ rights_or_none (rights_in o.segments n) → at ≡ n * 4096
     → t ≡ set s a (Some (cap.Frame f r None)) → u ≡ set t a (noted (get_or t a None) (Some at)) → u ≡ set s a (Some (page_cap o f n))
 put_noted o s t u a f r n at long below rights address put note =
-    let there : get_or t a None ≡ Some (cap.Frame f r None) = ap (λ (v : Slots). get_or v a None) put ∙ get_or-set_same s a (Some (cap.Frame f r None)) None (omega (arith, long, below)) in
+    let there : get_or t a None ≡ Some (cap.Frame f r None) =
+    ap (λ (v : Slots). get_or v a None) put
+    ∙ get_or-set_same s a (Some (cap.Frame f r None)) None (omega (arith, long, below)) in
     note ∙ ap (λ (x : Option Cap). set t a (noted x (Some at))) there
-    ∙ ap (λ (v : Slots). set v a (Some (cap.Frame f r (Some at)))) put ∙ set-set s a (Some (cap.Frame f r None)) (Some (cap.Frame f r (Some at)))
-    ∙ ap (λ (q : ℕ). set s a (Some (cap.Frame f q (Some at)))) rights ∙ ap (λ (q : ℕ). set s a (Some (cap.Frame f (rights_or_none (rights_in o.segments n)) (Some q)))) address
+    ∙ ap (λ (v : Slots). set v a (Some (cap.Frame f r (Some at)))) put
+    ∙ set-set s a (Some (cap.Frame f r None)) (Some (cap.Frame f r (Some at)))
+    ∙ ap (λ (q : ℕ). set s a (Some (cap.Frame f q (Some at)))) rights
+    ∙ ap (λ (q : ℕ). set s a (Some (cap.Frame f (rights_or_none (rights_in o.segments n)) (Some q))))
+    address
 
 -- ---- lines
 
@@ -82,7 +89,8 @@ module _ (o : Own) where
   unfolding lines_before
   lines_empty n below = slot_at (line_before o n) n below ∙ rw (le-ltb n n (omega arith)) refl
 
-  pub lines_more : (n : ℕ) → n < 64 → set (lines_before o n) n (line_cap (cap_at o n)) ≡ lines_before o (n + 1)
+  pub lines_more : (n : ℕ) → n < 64
+      → set (lines_before o n) n (line_cap (cap_at o n)) ≡ lines_before o (n + 1)
   unfolding lines_before
   lines_more n below =
       one_set (line_before o n) (line_before o (n + 1)) n (line_cap (cap_at o n)) below (rw (lt-ltb n (n + 1) (omega arith)) refl)
@@ -103,7 +111,8 @@ module _ (o : Own) where
 -- ---- the page at a place
 
 -- what is named there
-at_place : (ss : List Segment) (place n : ℕ) (c : InitialCap) → page_at ss place c ≡ Some n → (c ≡ initial.Page n) × (pages_below ss n ≡ place)
+at_place : (ss : List Segment) (place n : ℕ) (c : InitialCap) → page_at ss place c ≡ Some n
+    → (c ≡ initial.Page n) × (pages_below ss n ≡ place)
 at_place ss place n initial.None e = absurd (none-some n e)
 at_place ss place n (initial.Page m) e =
     elim (cases_eq (pages_below ss m) place) [
@@ -114,7 +123,8 @@ at_place ss place n (initial.Page m) e =
     ]
 at_place ss place n (initial.Irq line) e = absurd (none-some n e)
 
-off_place : (ss : List Segment) (place n : ℕ) → page_at ss place (initial.Page n) ≡ None → pages_below ss n ≢ place
+off_place : (ss : List Segment) (place n : ℕ) → page_at ss place (initial.Page n) ≡ None
+    → pages_below ss n ≢ place
 off_place ss place n e same = absurd (none-some n (sym e ∙ rw (eq-eqb (pages_below ss n) place same) refl))
 
 pub is_page_in : (ss : List Segment) (n : ℕ) → has_page_in ss n ≡ true → is_page ss n ≡ true
@@ -126,7 +136,8 @@ is_page_in (s ∷ ss) n e =
       | inr elsewhere ↦ rw elsewhere (is_page_in ss n (rw elsewhere at e))
     ]
 
-page_small : (ss : List Segment) (n : ℕ) → ((k : ℕ) → IsSegment (get_or ss k no_segment)) → is_page ss n ≡ true → n < 2 ^ 20
+page_small : (ss : List Segment) (n : ℕ) → ((k : ℕ) → IsSegment (get_or ss k no_segment))
+    → is_page ss n ≡ true → n < 2 ^ 20
 unfolding is_page
 page_small [] n each there = absurd (true≢false (sym there))
 page_small (s ∷ ss) n each there =
@@ -139,7 +150,8 @@ page_small (s ∷ ss) n each there =
     ]
 
 -- the number of a page that is named has 20 bits
-pub named_small : (o : Own) (place i n : ℕ) → IsOwn o → page_at o.segments place (cap_at o i) ≡ Some n → n < 2 ^ 20
+pub named_small : (o : Own) (place i n : ℕ) → IsOwn o → page_at o.segments place (cap_at o i) ≡ Some n
+    → n < 2 ^ 20
 named_small o place i n sound named =
     page_small o.segments n sound.segments (is_page_in o.segments n (sound.pages i n (at_place o.segments place n (cap_at o i) named).0))
 
@@ -155,14 +167,17 @@ after_none o frames initial.None = refl
 after_none o frames (initial.Page n) = rw (le-ltb (pages_below o.segments n) 0 (omega arith)) refl
 after_none o frames (initial.Irq line) = refl
 
-after_same : (o : Own) (frames : List ℕ) (place : ℕ) (c : InitialCap) → page_at o.segments place c ≡ None → cap_after o frames place c ≡ cap_after o frames (place + 1) c
+after_same : (o : Own) (frames : List ℕ) (place : ℕ) (c : InitialCap) → page_at o.segments place c ≡ None
+    → cap_after o frames place c ≡ cap_after o frames (place + 1) c
 after_same o frames place initial.None e = refl
 after_same o frames place (initial.Page n) e =
-    ap (λ b. cond b (Some (page_cap o (get_or frames (pages_below o.segments n) 0) n)) None) (below_more (pages_below o.segments n) place (off_place o.segments place n e))
+    ap (λ b. cond b (Some (page_cap o (get_or frames (pages_below o.segments n) 0) n)) None)
+    (below_more (pages_below o.segments n) place (off_place o.segments place n e))
 after_same o frames place (initial.Irq line) e = refl
 
 -- no capability is of a page whose frame stands past these places, and none of a table
-pages_before : (o : Own) (frames : List ℕ) (places f : ℕ) (c : InitialCap) → page_of (cap_after o frames places c) ≡ Some f
+pages_before : (o : Own) (frames : List ℕ) (places f : ℕ) (c : InitialCap)
+    → page_of (cap_after o frames places c) ≡ Some f
     → (n : ℕ) × (c ≡ initial.Page n) × (pages_below o.segments n < places) × (get_or frames (pages_below o.segments n) 0 ≡ f)
 pages_before o frames places f initial.None e = absurd (none-some f e)
 pages_before o frames places f (initial.Page n) e =
@@ -172,11 +187,13 @@ pages_before o frames places f (initial.Page n) e =
     ]
 pages_before o frames places f (initial.Irq line) e = absurd (none-some f e)
 
-no_tables : (o : Own) (frames : List ℕ) (places : ℕ) (c : InitialCap) → table_of (cap_after o frames places c) ≡ None
+no_tables : (o : Own) (frames : List ℕ) (places : ℕ) (c : InitialCap)
+    → table_of (cap_after o frames places c) ≡ None
 no_tables o frames places initial.None = refl
 no_tables o frames places (initial.Page n) = by_case (nat_lt (pages_below o.segments n) places)
   where
-    by_case : (t : Bool) → table_of (cond t (Some (page_cap o (get_or frames (pages_below o.segments n) 0) n)) None) ≡ None
+    by_case : (t : Bool)
+        → table_of (cond t (Some (page_cap o (get_or frames (pages_below o.segments n) 0) n)) None) ≡ None
     by_case true = refl
     by_case false = refl
 no_tables o frames places (initial.Irq line) = refl
@@ -192,12 +209,14 @@ module _ (o : Own) (frames : List ℕ) where
   unfolding slots_after line_slots
   slots_begin = none_set (λ i. cap_after o frames 0 (cap_at o i)) (λ i. line_cap (cap_at o i)) (λ i below. after_none o frames (cap_at o i))
 
-  after_at : (places i : ℕ) → i < 64 → get_or (slots_after o frames places) i None ≡ cap_after o frames places (cap_at o i)
+  after_at : (places i : ℕ) → i < 64
+      → get_or (slots_after o frames places) i None ≡ cap_after o frames places (cap_at o i)
   unfolding slots_after
   after_at places i below = slot_at (λ j. cap_after o frames places (cap_at o j)) i below
 
   -- no slot names the page at this place
-  pub slots_same : (place : ℕ) → ((i : ℕ) → page_at o.segments place (cap_at o i) ≡ None) → slots_after o frames place ≡ slots_after o frames (place + 1)
+  pub slots_same : (place : ℕ) → ((i : ℕ) → page_at o.segments place (cap_at o i) ≡ None)
+      → slots_after o frames place ≡ slots_after o frames (place + 1)
   unfolding slots_after
   slots_same place none =
       none_set (λ i. cap_after o frames place (cap_at o i)) (λ i. cap_after o frames (place + 1) (cap_at o i))
@@ -207,40 +226,50 @@ module _ (o : Own) (frames : List ℕ) where
     pub slot_empty : get_or (slots_after o frames place) i None ≡ None
     slot_empty =
         let at = at_place o.segments place n (cap_at o i) named in
-        after_at place i below ∙ ap (cap_after o frames place) at.0 ∙ rw (le-ltb (pages_below o.segments n) place (omega (arith, at.1))) refl
+        after_at place i below ∙ ap (cap_after o frames place) at.0
+        ∙ rw (le-ltb (pages_below o.segments n) place (omega (arith, at.1))) refl
 
     given_here : cap_after o frames (place + 1) (cap_at o i) ≡ Some (page_cap o (get_or frames place 0) n)
     given_here =
         let at = at_place o.segments place n (cap_at o i) named in
         ap (cap_after o frames (place + 1)) at.0
-        ∙ rw (lt-ltb (pages_below o.segments n) (place + 1) (omega (arith, at.1))) (ap (λ (k : ℕ). Some (page_cap o (get_or frames k 0) n)) at.1)
+        ∙ rw (lt-ltb (pages_below o.segments n) (place + 1) (omega (arith, at.1)))
+        (ap (λ (k : ℕ). Some (page_cap o (get_or frames k 0) n)) at.1)
 
     module _ (sound : IsOwn o) where
       -- no other slot does
       only : (j : ℕ) → j ≢ i → page_at o.segments place (cap_at o j) ≡ None
       only j other = by_case (page_at o.segments place (cap_at o j)) refl
         where
-          by_case : (t : Option ℕ) → page_at o.segments place (cap_at o j) ≡ t → page_at o.segments place (cap_at o j) ≡ None
+          by_case : (t : Option ℕ) → page_at o.segments place (cap_at o j) ≡ t
+              → page_at o.segments place (cap_at o j) ≡ None
           by_case None e = e
           by_case (Some m) e =
               let here = at_place o.segments place n (cap_at o i) named in
               let there = at_place o.segments place m (cap_at o j) e in
-              let same = page_once o.segments n m (is_page_in o.segments n (sound.pages i n here.0)) (is_page_in o.segments m (sound.pages j m there.0)) (here.1 ∙ sym there.1) in
+              let same =
+              page_once o.segments n m (is_page_in o.segments n (sound.pages i n here.0))
+              (is_page_in o.segments m (sound.pages j m there.0)) (here.1 ∙ sym there.1) in
               absurd (sound.page_once j i m other there.0 (here.0 ∙ ap initial.Page same))
 
-      pub slot_given : (f : ℕ) → get_or frames place 0 ≡ f → set (slots_after o frames place) i (Some (page_cap o f n)) ≡ slots_after o frames (place + 1)
+      pub slot_given : (f : ℕ) → get_or frames place 0 ≡ f
+          → set (slots_after o frames place) i (Some (page_cap o f n)) ≡ slots_after o frames (place + 1)
       unfolding slots_after
       slot_given f at =
-          one_set (λ j. cap_after o frames place (cap_at o j)) (λ j. cap_after o frames (place + 1) (cap_at o j)) i (Some (page_cap o f n)) below
+          one_set (λ j. cap_after o frames place (cap_at o j))
+          (λ j. cap_after o frames (place + 1) (cap_at o j)) i (Some (page_cap o f n)) below
           (given_here ∙ ap (λ (g : ℕ). Some (page_cap o g n)) at) (λ j other. after_same o frames place (cap_at o j) (only j other))
 
     -- its frame is named at last
-    pub frame_named : (places f : ℕ) → place < places → get_or frames place 0 ≡ f → list_any (λ c. same_number (Some f) (page_of c)) (slots_after o frames places) ≡ true
+    pub frame_named : (places f : ℕ) → place < places → get_or frames place 0 ≡ f
+        → list_any (λ c. same_number (Some f) (page_of c)) (slots_after o frames places) ≡ true
     frame_named places f less at =
         let is = at_place o.segments place n (cap_at o i) named in
         let here : get_or (slots_after o frames places) i None ≡ Some (page_cap o f n) =
         after_at places i below ∙ ap (cap_after o frames places) is.0
-        ∙ rw (lt-ltb (pages_below o.segments n) places (omega (arith, is.1, less))) (ap (λ (k : ℕ). Some (page_cap o (get_or frames k 0) n)) is.1 ∙ ap (λ (g : ℕ). Some (page_cap o g n)) at) in
+        ∙ rw (lt-ltb (pages_below o.segments n) places (omega (arith, is.1, less)))
+        (ap (λ (k : ℕ). Some (page_cap o (get_or frames k 0) n)) is.1
+        ∙ ap (λ (g : ℕ). Some (page_cap o g n)) at) in
         list_any_at (λ c. same_number (Some f) (page_of c)) (slots_after o frames places) i None (omega (arith, below, after_long places))
         (ap (λ c. same_number (Some f) (page_of c)) here ∙ eq-eqb f f refl)
 
@@ -253,11 +282,14 @@ module _ (o : Own) (frames : List ℕ) where
           | inl less ↦ let apart = AllPairs-from_increasing frames up j k 0 less b in absurd (omega (arith, apart, same))
           | inr more ↦ elim (cases_eq j k) [
             | inl e ↦ e
-            | inr other ↦ let apart = AllPairs-from_increasing frames up k j 0 (omega (arith, more, other)) a in absurd (omega (arith, apart, same))
+            | inr other ↦
+                let apart = AllPairs-from_increasing frames up k j 0 (omega (arith, more, other)) a in
+                absurd (omega (arith, apart, same))
           ]
         ]
 
-    not_named : (place f i : ℕ) → place < length frames → get_or frames place 0 ≡ f → i < 64 → page_of (get_or (slots_after o frames place) i None) ≢ Some f
+    not_named : (place f i : ℕ) → place < length frames → get_or frames place 0 ≡ f → i < 64
+        → page_of (get_or (slots_after o frames place) i None) ≢ Some f
     not_named place f i within at below e =
         let is = pages_before o frames place f (cap_at o i) (sym (ap page_of (after_at place i below)) ∙ e) in
         let low = is.2 in
@@ -265,15 +297,22 @@ module _ (o : Own) (frames : List ℕ) where
         absurd (omega (arith, low, same))
 
     -- the frame of the place is named by no slot yet
-    pub frame_new : (place f : ℕ) → place < length frames → get_or frames place 0 ≡ f → IsUnnamed (slots_after o frames place) f
+    pub frame_new : (place f : ℕ) → place < length frames → get_or frames place 0 ≡ f
+        → IsUnnamed (slots_after o frames place) f
     frame_new place f within at = record {
       no_page = λ i e. elim (cases_lt i 64) [
         | inl below ↦ not_named place f i within at below e
-        | inr past ↦ none-some f (sym (ap page_of (get_or_past (slots_after o frames place) i None (omega (arith, past, after_long place)))) ∙ e)
+        | inr past ↦ none-some f
+            (sym (ap page_of
+            (get_or_past (slots_after o frames place) i None (omega (arith, past, after_long place))))
+            ∙ e)
       ];
       no_table = λ i e. elim (cases_lt i 64) [
         | inl below ↦ none-some f (sym (ap table_of (after_at place i below) ∙ no_tables o frames place (cap_at o i)) ∙ e)
-        | inr past ↦ none-some f (sym (ap table_of (get_or_past (slots_after o frames place) i None (omega (arith, past, after_long place)))) ∙ e)
+        | inr past ↦ none-some f
+            (sym (ap table_of
+            (get_or_past (slots_after o frames place) i None (omega (arith, past, after_long place))))
+            ∙ e)
       ];
     }
 
@@ -282,8 +321,10 @@ module _ (o : Own) (frames : List ℕ) where
     differs f (Some g) other = ne_eqb f g (λ same. other (ap Some (sym same)))
 
     -- nor at last, where no slot names its page
-    pub frame_unnamed : (place places f : ℕ) → place < length frames → places ≤ length frames → get_or frames place 0 ≡ f
-        → ((i : ℕ) → page_at o.segments place (cap_at o i) ≡ None) → list_any (λ c. same_number (Some f) (page_of c)) (slots_after o frames places) ≡ false
+    pub frame_unnamed : (place places f : ℕ) → place < length frames → places ≤ length frames
+        → get_or frames place 0 ≡ f
+        → ((i : ℕ) → page_at o.segments place (cap_at o i) ≡ None)
+        → list_any (λ c. same_number (Some f) (page_of c)) (slots_after o frames places) ≡ false
     frame_unnamed place places f within few at none =
         list_any_none (λ c. same_number (Some f) (page_of c)) (slots_after o frames places)
         (All-from_get_or (λ c. same_number (Some f) (page_of c) ≡ false) (slots_after o frames places) None
@@ -304,10 +345,12 @@ pub unnamed_none : (s : Slots) → unnamed s [] ≡ []
 unfolding unnamed
 unnamed_none s = refl
 
-pub not_kept : (s : Slots) (f : ℕ) → list_any (λ c. same_number (Some f) (page_of c)) s ≡ true → unnamed s (f ∷ []) ≡ []
+pub not_kept : (s : Slots) (f : ℕ) → list_any (λ c. same_number (Some f) (page_of c)) s ≡ true
+    → unnamed s (f ∷ []) ≡ []
 unfolding unnamed
 not_kept s f e = rw e refl
 
-pub is_kept : (s : Slots) (f : ℕ) → list_any (λ c. same_number (Some f) (page_of c)) s ≡ false → unnamed s (f ∷ []) ≡ f ∷ []
+pub is_kept : (s : Slots) (f : ℕ) → list_any (λ c. same_number (Some f) (page_of c)) s ≡ false
+    → unnamed s (f ∷ []) ≡ f ∷ []
 unfolding unnamed
 is_kept s f e = rw e refl

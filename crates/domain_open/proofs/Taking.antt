@@ -25,7 +25,8 @@ unfolding frames_zeroed
 none_zeroed m = record { holds = λ k h. h; others = λ f i out. refl }
 
 -- one frame
-pub one_zeroed : (old new : Contents) (f : ℕ) → f < old.frames → new ≡ zeroed old f → ((g i : ℕ) → g ≢ f → word_of new g i ≡ word_of old g i)
+pub one_zeroed : (old new : Contents) (f : ℕ) → f < old.frames → new ≡ zeroed old f
+    → ((g i : ℕ) → g ≢ f → word_of new g i ≡ word_of old g i)
     → AreZeroed (f ∷ []) old new
 unfolding frames_zeroed
 one_zeroed old new f below is others = record {
@@ -33,7 +34,8 @@ one_zeroed old new f below is others = record {
   others = λ g i out. others g i (λ same. true≢false (sym (subst (λ (x : ℕ). has (f ∷ []) x ≡ true) (sym same) (has_head f [])) ∙ out));
 }
 
-zeroed_append : (xs ys : List ℕ) (m : Mem) → frames_zeroed (xs ++ ys) m ≡ frames_zeroed ys (frames_zeroed xs m)
+zeroed_append : (xs ys : List ℕ) (m : Mem)
+    → frames_zeroed (xs ++ ys) m ≡ frames_zeroed ys (frames_zeroed xs m)
 unfolding frames_zeroed
 zeroed_append [] ys m = refl
 zeroed_append (x ∷ xs) ys m = zeroed_append xs ys (zeroed_frame m x)
@@ -43,7 +45,8 @@ neither true b e = absurd (true≢false e)
 neither false b e = (refl, e)
 
 -- some frames, and then others
-pub zeroed_then : (xs ys : List ℕ) (first second third : Contents) → AreZeroed xs first second → AreZeroed ys second third → AreZeroed (xs ++ ys) first third
+pub zeroed_then : (xs ys : List ℕ) (first second third : Contents) → AreZeroed xs first second
+    → AreZeroed ys second third → AreZeroed (xs ++ ys) first third
 zeroed_then xs ys first second third h k = record {
   holds = λ m is. subst (Holds third) (sym (zeroed_append xs ys m)) (k.holds (frames_zeroed xs m) (h.holds m is));
   others = λ f i out.
@@ -62,7 +65,8 @@ zeroed_empty (g ∷ fs) m f i is =
       | inr other ↦ word-zeroed_other m g f i other ∙ is
     ])
 
-pub still_blank : (fs : List ℕ) (old new : Contents) → AreZeroed fs old new → Holds old empty → Holds new empty
+pub still_blank : (fs : List ℕ) (old new : Contents) → AreZeroed fs old new → Holds old empty
+    → Holds new empty
 still_blank fs old new h blank =
     let now = h.holds empty blank in
     record {
@@ -78,7 +82,8 @@ take_split a b xs =
     ∙ ap₂ (λ (ys zs : List ℕ). ys ++ zs) (take-take a (a + b) xs (omega arith)) (drop-take a b xs)
 
 -- the clone's frames, the root, the tables and the pages are the first of the pool
-pub used_zeroed : (all : List ℕ) (root tables pages : ℕ) (a b c d e : Contents) → take 5 all ≡ take 4 all ++ root ∷ []
+pub used_zeroed : (all : List ℕ) (root tables pages : ℕ) (a b c d e : Contents)
+    → take 5 all ≡ take 4 all ++ root ∷ []
     → AreZeroed (take 4 all) a b → AreZeroed (root ∷ []) b c → AreZeroed (take tables (drop 5 all)) c d
     → AreZeroed (take pages (drop (5 + tables) all)) d e → AreZeroed (take (5 + tables + pages) all) a e
 used_zeroed all root tables pages a b c d e fifth clone one some more =
@@ -97,11 +102,14 @@ not_pool p o f other = elim (cases_Bool (has (pool p o) f)) [
   | inr none ↦ none
 ]
 
-pub still_elsewhere : (p : Hardware) (o : Own) (n : ℕ) (old new : Contents) → AreZeroed (take n (pool p o)) old new → SameElsewhere p o new old
+pub still_elsewhere : (p : Hardware) (o : Own) (n : ℕ) (old new : Contents)
+    → AreZeroed (take n (pool p o)) old new → SameElsewhere p o new old
 still_elsewhere p o n old new h f i in_memory in_frame other =
     let all = take n (pool p o) in
     let rest = drop n (pool p o) in
-    let out = neither (has all f) (has rest f) (sym (has_append all rest f) ∙ ap (λ (fs : List ℕ). has fs f) (take-append-drop n (pool p o)) ∙ not_pool p o f other) in
+    let out =
+    neither (has all f) (has rest f) (sym (has_append all rest f)
+    ∙ ap (λ (fs : List ℕ). has fs f) (take-append-drop n (pool p o)) ∙ not_pool p o f other) in
     h.others f i out.0
 
 -- ---- the first of a list
@@ -135,7 +143,8 @@ taken k xs x rest e =
     record { at = more.0; so_far = rw next at more.1; left = rw next at more.2 }
 
 -- the one that is taken next to those before it
-pub taken_on : (k : ℕ) (xs old now next : List ℕ) (x : ℕ) → take (k + 1) xs ≡ take k xs ++ x ∷ [] → now ≡ old ++ take k xs → next ≡ now ++ x ∷ [] → next ≡ old ++ take (k + 1) xs
+pub taken_on : (k : ℕ) (xs old now next : List ℕ) (x : ℕ) → take (k + 1) xs ≡ take k xs ++ x ∷ []
+    → now ≡ old ++ take k xs → next ≡ now ++ x ∷ [] → next ≡ old ++ take (k + 1) xs
 taken_on k xs old now next x more before e =
     e ∙ ap (λ ys. ys ++ x ∷ []) before ∙ append_assoc old (take k xs) (x ∷ []) ∙ ap (λ ys. old ++ ys) (sym more)
 
@@ -150,10 +159,13 @@ named_more lists v owns d below before named =
     ∙ ap₂ (λ (ns : List (List ℕ)) (n : List ℕ). ns ++ n ∷ []) before named
     ∙ sym (map_more (λ (o : Own). o.colours) owns d no_own below)
 
-same_shares : (p : Hardware) (owns : List Own) → map (colours.share_of (whole_of p.frames (colours_of p))) (map (λ o. o.colours) owns) ≡ map (share_of p) owns
+same_shares : (p : Hardware) (owns : List Own)
+    → map (colours.share_of (whole_of p.frames (colours_of p))) (map (λ o. o.colours) owns)
+    ≡ map (share_of p) owns
 same_shares p [] = refl
 same_shares p (o ∷ os) = ap (λ ss. share_of p o ∷ ss) (same_shares p os)
 
-pub shares_are : (p : Hardware) (w : Whole) (lists : List (List ℕ)) (owns : List Own) → w ≡ whole_of p.frames (colours_of p) → lists ≡ map (λ o. o.colours) owns
+pub shares_are : (p : Hardware) (w : Whole) (lists : List (List ℕ)) (owns : List Own)
+    → w ≡ whole_of p.frames (colours_of p) → lists ≡ map (λ o. o.colours) owns
     → map (colours.share_of w) lists ≡ map (share_of p) owns
 shares_are p w lists owns whole named = rw (whole, named) (same_shares p owns)

@@ -34,7 +34,8 @@ page_cap o f n = cap.Frame f (rights_or_none (rights_in o.segments n)) (Some (n 
 abbrev pub cap_after : Own → List ℕ → ℕ → InitialCap → Option Cap
 cap_after o frames places initial.None = None
 cap_after o frames places (initial.Page n) =
-    if nat_lt (pages_below o.segments n) places then Some (page_cap o (slice_index frames (pages_below o.segments n)) n) else None
+    if nat_lt (pages_below o.segments n) places
+    then Some (page_cap o (slice_index frames (pages_below o.segments n)) n) else None
 cap_after o frames places (initial.Irq line) = Some (cap.Irq line)
 
 -- ---- what the slots name

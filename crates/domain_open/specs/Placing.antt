@@ -32,7 +32,8 @@ AreSegments ss = (k : ℕ) → IsSegment (slice_index_or ss k no_segment)
 -- no page is of two segments
 pub record AreApart (ss : List Segment) : Type 0 where
   pub once : (j k n : ℕ) → j < k → k < length ss
-      → has_page (slice_index_or ss j no_segment) n ≡ true → has_page (slice_index_or ss k no_segment) n ≡ false
+      → has_page (slice_index_or ss j no_segment) n ≡ true
+      → has_page (slice_index_or ss k no_segment) n ≡ false
 
 -- so many pages, from one on, are the domain's
 pub record HasPages (o : Own) (page pages : ℕ) : Type 0 where

@@ -37,9 +37,13 @@ append_none : (ts : List Touch) → ts ++ [] ≡ ts
 append_none [] = refl
 append_none (t ∷ ts) = ap (λ (us : List Touch). t ∷ us) (append_none ts)
 
-module _ {P : Type 0} (rule : P → ℕ → Rule) (stands : P → ℕ → ℕ → List ℕ → Type 0) (w : Setting) (old new : Domain) (memory memory' : Contents) (system : SystemContents P) (spent : ℕ)
-    (readings : List ℕ) (replies : List Reply) (outcome : Outcome) (s : Storage) (r : Touched) (k : KeptOf rule stands w old memory system spent s r)
-    (called : IsCalled (estate w.machine w.own) memory' new (number_made (estate w.machine w.own) (dom_model old readings replies)) (length replies) outcome (call (estate w.machine w.own) (dom_model old readings replies) s.mem))
+module _ {P : Type 0} (rule : P → ℕ → Rule) (stands : P → ℕ → ℕ → List ℕ → Type 0) (w : Setting)
+    (old new : Domain) (memory memory' : Contents) (system : SystemContents P) (spent : ℕ)
+    (readings : List ℕ) (replies : List Reply) (outcome : Outcome) (s : Storage) (r : Touched)
+    (k : KeptOf rule stands w old memory system spent s r)
+    (called : IsCalled (estate w.machine w.own) memory' new
+    (number_made (estate w.machine w.own) (dom_model old readings replies)) (length replies) outcome
+    (call (estate w.machine w.own) (dom_model old readings replies) s.mem))
     (keeps : KeepsParts old new) (frames : memory'.frames ≡ memory.frames) where
   abbrev done : act.Done Mem Note Dom Dom
   done = call (estate w.machine w.own) (dom_model old readings replies) s.mem
@@ -64,18 +68,28 @@ module _ {P : Type 0} (rule : P → ℕ → Rule) (stands : P → ℕ → ℕ �
       ∙ ap (λ (x : WorkDone). operation w.machine.costs w.clone x) called.work
 
   -- what the code keeps after all its touches
-  called_kept : (last : SystemContents P) (spent' cycles : ℕ) → MakesTouches rule stands touches cycles system last → spent' ≡ spent + cycles
+  called_kept : (last : SystemContents P) (spent' cycles : ℕ)
+      → MakesTouches rule stands touches cycles system last → spent' ≡ spent + cycles
       → KeepsLeaves done.state memory'.frames new.map last.core.tlb
-      → Yields w (make_call w.machine (estate w.machine w.own) w.clone (dom_model old readings replies)) s r (Left new (KeptOf rule stands w new memory' last spent'))
+      → Yields w (make_call w.machine (estate w.machine w.own) w.clone (dom_model old readings replies)) s r
+      (Left new (KeptOf rule stands w new memory' last spent'))
   unfolding make_call either
   called_kept last spent' cycles makes more leaves =
-      let paid = touches_paid rule stands w memory system last touches spent spent' cycles r makes k.fits (record { cost = k.cost; next = k.caches }) more in
+      let paid =
+      touches_paid rule stands w memory system last touches spent spent' cycles r makes k.fits
+      (record { cost = k.cost; next = k.caches }) more in
       let fits = fits_still rule stands w memory system last touches cycles makes k.fits in
       record {
         met = record {
           dom = called.dom;
           kept = record {
-            fits = record { kernel = fits.kernel; sound = fits.sound; frames = fits.frames ∙ sym frames; levels = fits.levels; pinned = fits.pinned };
+            fits = record {
+              kernel = fits.kernel;
+              sound = fits.sound;
+              frames = fits.frames ∙ sym frames;
+              levels = fits.levels;
+              pinned = fits.pinned;
+            };
             facts = called.facts;
             layout = same_layout;
             leaves = leaves;
@@ -94,29 +108,37 @@ module _ {P : Type 0} (rule : P → ℕ → Rule) (stands : P → ℕ → ℕ �
       let top : old.map ≡ e.root = k.facts.has.root in
       let all : memory.frames ≡ e.share.frames = sym k.facts.frames in
       let before : KeepsLeaves s.mem e.share.frames e.root system.core.tlb =
-      subst (λ (n : ℕ). KeepsLeaves s.mem e.share.frames n system.core.tlb) top (subst (λ (n : ℕ). KeepsLeaves s.mem n old.map system.core.tlb) all k.leaves) in
+      subst (λ (n : ℕ). KeepsLeaves s.mem e.share.frames n system.core.tlb) top
+      (subst (λ (n : ℕ). KeepsLeaves s.mem n old.map system.core.tlb) all k.leaves) in
       let after : KeepsLeaves done.state e.share.frames e.root system.core.tlb =
       keeps_by s.mem done.state e.share.frames e.root system.core.tlb (λ at leaf a small is. stays.each at leaf a is) before in
       subst (λ (n : ℕ). KeepsLeaves done.state memory'.frames n system.core.tlb) (sym called.facts.has.root)
       (subst (λ (n : ℕ). KeepsLeaves done.state n e.root system.core.tlb) called.facts.frames after)
 
-  module _ (mid : SystemContents P) (spent' cycles : ℕ) (makes : MakesTouches rule stands ours cycles system mid) (more : spent' ≡ spent + cycles) where
+  module _ (mid : SystemContents P) (spent' cycles : ℕ)
+      (makes : MakesTouches rule stands ours cycles system mid) (more : spent' ≡ spent + cycles) where
     pub called_still : mid.core.tlb ≡ system.core.tlb → empties done.notes ≡ false
-        → Yields w (make_call w.machine (estate w.machine w.own) w.clone (dom_model old readings replies)) s r (Left new (KeptOf rule stands w new memory' mid spent'))
+        → Yields w (make_call w.machine (estate w.machine w.own) w.clone (dom_model old readings replies)) s r
+        (Left new (KeptOf rule stands w new memory' mid spent'))
     unfolding call_touches
     called_still buffer still =
         let all : touches ≡ theirs = ap (λ (b : Bool). theirs ++ (if b then EmptyTlb ∷ [] else [])) still ∙ append_none theirs in
         let leaves : KeepsLeaves done.state memory'.frames new.map mid.core.tlb =
         subst (λ (b : Buffer P). KeepsLeaves done.state memory'.frames new.map b) (sym buffer) (leaves_still still) in
-        called_kept mid spent' cycles (subst (λ (ts : List Touch). MakesTouches rule stands ts cycles system mid) (same_operation ∙ sym all) makes) more leaves
+        called_kept mid spent' cycles
+        (subst (λ (ts : List Touch). MakesTouches rule stands ts cycles system mid)
+        (same_operation ∙ sym all) makes) more leaves
 
-    pub called_emptied : (last : SystemContents P) → MakesTouch rule stands EmptyTlb 0 mid last → ((m : Mem) (n root : ℕ) → KeepsLeaves m n root last.core.tlb) → empties done.notes ≡ true
-        → Yields w (make_call w.machine (estate w.machine w.own) w.clone (dom_model old readings replies)) s r (Left new (KeptOf rule stands w new memory' last spent'))
+    pub called_emptied : (last : SystemContents P) → MakesTouch rule stands EmptyTlb 0 mid last
+        → ((m : Mem) (n root : ℕ) → KeepsLeaves m n root last.core.tlb) → empties done.notes ≡ true
+        → Yields w (make_call w.machine (estate w.machine w.own) w.clone (dom_model old readings replies)) s r
+        (Left new (KeptOf rule stands w new memory' last spent'))
     unfolding call_touches
     called_emptied last empty none emptied =
         let all : touches ≡ theirs ++ (EmptyTlb ∷ []) = ap (λ (b : Bool). theirs ++ (if b then EmptyTlb ∷ [] else [])) emptied in
         let both : MakesTouches rule stands (ours ++ (EmptyTlb ∷ [])) (cycles + 0) system last =
         makes_then rule stands ours (EmptyTlb ∷ []) cycles 0 system mid last makes (makes_one rule stands EmptyTlb 0 mid last empty) in
         called_kept last spent' (cycles + 0)
-        (subst (λ (ts : List Touch). MakesTouches rule stands ts (cycles + 0) system last) (ap (λ (ts : List Touch). ts ++ (EmptyTlb ∷ [])) same_operation ∙ sym all) both)
+        (subst (λ (ts : List Touch). MakesTouches rule stands ts (cycles + 0) system last)
+        (ap (λ (ts : List Touch). ts ++ (EmptyTlb ∷ [])) same_operation ∙ sym all) both)
         (omega (arith, more)) (none done.state memory'.frames new.map)

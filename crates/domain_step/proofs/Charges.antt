@@ -25,7 +25,8 @@ module _ (w : Setting) where
   nothing_more n = omega arith
 
   -- the sum that is paid in the end
-  pub after-all : (r : Touched) (ts : List Touch) → after w r ts ≡ and_then r (λ c. touched_all w.levels w.pinned c ts)
+  pub after-all : (r : Touched) (ts : List Touch)
+      → after w r ts ≡ and_then r (λ c. touched_all w.levels w.pinned c ts)
   unfolding after charged touched_all and_then
   after-all r [] = ap (λ n. record { cost = n; caches = r.caches }) (nothing_more r.cost)
   after-all r (t ∷ ts) =
@@ -42,13 +43,16 @@ module _ (w : Setting) where
       after-all (at_no_cost c) ts ∙ ap (λ n. record { cost = n; caches = q.caches }) all
 
 -- what the machine costs is what the code's hierarchy costs
-pub same_costs : {P : Type 0} (rule : P → ℕ → Rule) (w : Setting) (memory : Contents) (system : SystemContents P) → Fits rule w memory system
+pub same_costs : {P : Type 0} (rule : P → ℕ → Rule) (w : Setting) (memory : Contents)
+    (system : SystemContents P) → Fits rule w memory system
     → w.machine.costs ≡ system.core.costs
 same_costs rule w memory system fits = fits.sound.costs ∙ ap (λ (h : Hierarchy). h.costs) fits.levels
 
-module _ {P : Type 0} (rule : P → ℕ → Rule) (stands : P → ℕ → ℕ → List ℕ → Type 0) (w : Setting) (memory : Contents) (old new : SystemContents P) where
+module _ {P : Type 0} (rule : P → ℕ → Rule) (stands : P → ℕ → ℕ → List ℕ → Type 0) (w : Setting)
+    (memory : Contents) (old new : SystemContents P) where
   -- touches leave the hierarchy that of the machine
-  pub fits_still : (ts : List Touch) (cycles : ℕ) → MakesTouches rule stands ts cycles old new → Fits rule w memory old → Fits rule w memory new
+  pub fits_still : (ts : List Touch) (cycles : ℕ) → MakesTouches rule stands ts cycles old new
+      → Fits rule w memory old → Fits rule w memory new
   fits_still ts cycles makes fits = record {
     kernel = fits.kernel;
     sound = fits.sound;
@@ -58,7 +62,8 @@ module _ {P : Type 0} (rule : P → ℕ → Rule) (stands : P → ℕ → ℕ �
   }
 
   -- what they cost in the machine, and the caches that they leave there
-  pub steps_there : (ts : List Touch) (cycles : ℕ) (caches : Caches) → MakesTouches rule stands ts cycles old new → Fits rule w memory old
+  pub steps_there : (ts : List Touch) (cycles : ℕ) (caches : Caches)
+      → MakesTouches rule stands ts cycles old new → Fits rule w memory old
       → SystemSteps stands cycles new (touched_all (hierarchy_of rule old) old.core.pinned caches ts)
       → SystemSteps stands cycles new (touched_all w.levels w.pinned caches ts)
   steps_there ts cycles caches makes fits steps =
@@ -66,15 +71,18 @@ module _ {P : Type 0} (rule : P → ℕ → Rule) (stands : P → ℕ → ℕ �
       (subst (λ (b : Bool). SystemSteps stands cycles new (touched_all (hierarchy_of rule old) b caches ts)) fits.pinned steps)
 
   -- with the cycles spent before them, they are the cost so far
-  pub touches_paid : (ts : List Touch) (spent spent' cycles : ℕ) (r : Touched) → MakesTouches rule stands ts cycles old new → Fits rule w memory old
+  pub touches_paid : (ts : List Touch) (spent spent' cycles : ℕ) (r : Touched)
+      → MakesTouches rule stands ts cycles old new → Fits rule w memory old
       → SystemSteps stands spent old r → spent' ≡ spent + cycles → SystemSteps stands spent' new (after w r ts)
   unfolding and_then
   touches_paid ts spent spent' cycles r makes fits before more =
       let steps = steps_there ts cycles r.caches makes fits (makes.steps r.caches before.next) in
-      subst (SystemSteps stands spent' new) (sym (after-all w r ts)) (record { cost = omega (arith, more, before.cost, steps.cost); next = steps.next })
+      subst (SystemSteps stands spent' new) (sym (after-all w r ts))
+      (record { cost = omega (arith, more, before.cost, steps.cost); next = steps.next })
 
   -- and the code keeps what it kept
-  pub touch_kept : (t : Touch) (caps : Slots) (root spent spent' cycles : ℕ) (s : Storage) (r : Touched) → MakesTouch rule stands t cycles old new
+  pub touch_kept : (t : Touch) (caps : Slots) (root spent spent' cycles : ℕ) (s : Storage) (r : Touched)
+      → MakesTouch rule stands t cycles old new
       → spent' ≡ spent + cycles → KeepsLeaves s.mem memory.frames root new.core.tlb
       → Kept rule stands w caps root memory old spent s r → Kept rule stands w caps root memory new spent' s (charged w r t)
   unfolding after

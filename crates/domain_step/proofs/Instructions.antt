@@ -427,7 +427,8 @@ AfterFetch rule stands p f =
 -- it is the domain's next instruction
 pub record IsFetched {P : Type 0} (rule : P → ℕ → Rule) (stands : P → ℕ → ℕ → List ℕ → Type 0)
     (p : Point) (f : Fetched P) : Type 0 where
-  pub page : LooksUp p p.root (Ok (f.at / 4096)) (Kept rule stands p.setting f.caps p.root f.memory f.before f.spent)
+  pub page : LooksUp p p.root (Ok (f.at / 4096))
+      (Kept rule stands p.setting f.caps p.root f.memory f.before f.spent)
   pub placed_at : f.at % 4096 ≡ p.dom.threads.current.pc % 4096
   pub line : f.line ≡ f.at / f.before.l2.line_size
   pub makes : MakesTouch rule stands (Fetch f.line) f.cycles f.before f.later
@@ -491,7 +492,8 @@ module _ (p : Point) (new : Domain)
         subst (Does u q) (is.found u.mem k.holds) (subst (Performed u q) flag (rest u q k)) in
         search (yields_rules, y_found, there, fetches, goes) depth 40
 
-    pub instruction_undefined : (trap : Trap) → trap ≡ record { exception = exception.IllegalInstruction; value = f.word }
+    pub instruction_undefined : (trap : Trap)
+        → trap ≡ record { exception = exception.IllegalInstruction; value = f.word }
         → decode_of f.muldiv f.word ≡ None
         → Stands new (trapped trap p.dom) → Runs (AfterFetch rule stands p f)
     unfolding perform trapped either

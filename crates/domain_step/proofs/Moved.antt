@@ -86,7 +86,8 @@ pub due_by : (s : Interrupts) (now end : ℕ) → now < end → idle_until end (
     → (line : ℕ) × (due now s ≡ Some line)
 due_by s now end before early = is_due s now end before early (due now s) refl
 
-not_yet : (now end : ℕ) (next : Option Moment) → now < idle_until end (cycle_of next) → line_by now next ≡ None
+not_yet : (now end : ℕ) (next : Option Moment) → now < idle_until end (cycle_of next)
+    → line_by now next ≡ None
 not_yet now end None early = refl
 not_yet now end (Some x) early =
     let later : now < x.at = omega (arith, early) in
@@ -117,7 +118,8 @@ not_ready d now end early running none other =
     (λ ready. other (record { running = running; ready = ready; none = none }))
 
 -- from then on no instruction comes next before the end
-pub other_from : (d : Domain) (now end : ℕ) → idle_until end (next_cycle d.interrupts) ≤ now → IsOther d now end
+pub other_from : (d : Domain) (now end : ℕ) → idle_until end (next_cycle d.interrupts) ≤ now
+    → IsOther d now end
 other_from d now end late plain =
     elim (cases_lt now end) [
       | inl early ↦ absurd (omega (arith, late, idle_later d.interrupts now end early plain.none))
@@ -377,10 +379,12 @@ module _ {P : Type 0} (rule : P → ℕ → Rule) (stands : P → ℕ → ℕ �
     abbrev pub Along : Contents → Domain → SystemContents P → ℕ → Contents → Domain → SystemContents P → ℕ → Type 0
     Along = MovesAlong rule stands end
 
-    pub along_none : (memory : Contents) (d : Domain) (system : SystemContents P) (now : ℕ) → Along memory d system now memory d system now
+    pub along_none : (memory : Contents) (d : Domain) (system : SystemContents P) (now : ℕ)
+        → Along memory d system now memory d system now
     along_none memory d system now w s i = (s, i, refl)
 
-    pub along_then : (memory between memory' : Contents) (old now new : Domain) (system middle system' : SystemContents P) (first clock later : ℕ)
+    pub along_then : (memory between memory' : Contents) (old now new : Domain)
+        (system middle system' : SystemContents P) (first clock later : ℕ)
         → Along memory old system first between now middle clock → Along between now middle clock memory' new system' later
         → Along memory old system first memory' new system' later
     along_then memory between memory' old now new system middle system' first clock later so_far more w s i =
@@ -390,13 +394,15 @@ module _ {P : Type 0} (rule : P → ℕ → Rule) (stands : P → ℕ → ℕ �
 
     module _ (memory : Contents) (old : Domain) (system : SystemContents P) (first : ℕ) (base : 0 < system.core.costs.base)
         (trap : 0 < system.core.costs.trap) where
-      timed_there : (w : Setting) (s : Local) → StandsIn rule stands w memory old system first s → IsTimed w.machine
+      timed_there : (w : Setting) (s : Local) → StandsIn rule stands w memory old system first s
+          → IsTimed w.machine
       timed_there w s i = record {
         base = subst (λ (n : ℕ). 0 < n) (sym (same_base w memory system i.fits)) base;
         trap = subst (λ (n : ℕ). 0 < n) (sym (ap (λ (c : CostTable). c.trap) (same_costs rule w memory system i.fits))) trap;
       }
 
-      pub along_step : (memory' : Contents) (new : Domain) (system' : SystemContents P) (later : ℕ) → first < end
+      pub along_step : (memory' : Contents) (new : Domain) (system' : SystemContents P) (later : ℕ)
+          → first < end
           → Moves rule stands (λ w. step w end) memory old system first memory' new system' later
           → Along memory old system first memory' new system' later
       along_step memory' new system' later below moves w s i =

@@ -85,7 +85,8 @@ module _ (g : Guards) (i : Image) where
       (λ (b : Bool).
       if b then slot_end i.all.schedule k else clock_of 0 w + (entry_of_slot i.all.schedule k).length) pads
 
-  pub ended_so : (k ended : ℕ) → ended ≡ ended_of 0 (whole_by g i k) → ended ≡ ended_by g i 0 k (whole_by g i k)
+  pub ended_so : (k ended : ℕ) → ended ≡ ended_of 0 (whole_by g i k)
+      → ended ≡ ended_by g i 0 k (whole_by g i k)
   ended_so k ended is =
       is ∙ ended_is g.pad (ended_of 0 (whole_by g i k)) (last_end i.all.schedule k) (last_ended k)
 
@@ -119,7 +120,8 @@ switch_within : (es : List Entry) → 0 < length es → (k : ℕ) → switch_ent
 switch_within es some zero = omega (arith, some)
 switch_within es some (suc k) = mod-lt k some
 
-pub ended_named : (i : Image) → Runnable i → (k : ℕ) → IsDomain i (entry_in i.all.schedule (switch_entry i.all.schedule k)).domain
+pub ended_named : (i : Image) → Runnable i → (k : ℕ)
+    → IsDomain i (entry_in i.all.schedule (switch_entry i.all.schedule k)).domain
 ended_named i r k = r.named (switch_entry i.all.schedule k) (switch_within i.all.schedule r.schedule.some k)
 
 -- the domain whose slot ended before switch k; at the boot the last entry's
@@ -214,7 +216,8 @@ module _ (off : Option Guard) (i : Image) (k : ℕ) where
         ((are_guards i (separated i r) off).layout e domain)
 
     -- that of the domain whose slot was last
-    pub clone_before : (last e : ℕ) (x : Domain) → suc last ≡ k → e ≡ (entry_of_slot i.all.schedule last).domain
+    pub clone_before : (last e : ℕ) (x : Domain) → suc last ≡ k
+        → e ≡ (entry_of_slot i.all.schedule last).domain
         → slice_get s.domains e ≡ Some x → Some (layout_model x.layout) ≡ clone_by g (outgoing i.all.schedule k)
     clone_before last e x more named got =
         subst (λ (n : ℕ). Some (layout_model x.layout) ≡ clone_by g (outgoing i.all.schedule n)) more

@@ -26,11 +26,13 @@ points_prop (suc depth) low state list = hlevel (props, points_prop depth)
 marks_prop : (ways state : ℕ) (list : List ℕ) → IsProp (Marks ways state list)
 marks_prop ways state list = hlevel props
 
-any_prop : (policy : AnyPolicy) (ways state : ℕ) (list : List ℕ) → IsProp (any_stands_for policy ways state list)
+any_prop : (policy : AnyPolicy) (ways state : ℕ) (list : List ℕ)
+    → IsProp (any_stands_for policy ways state list)
 any_prop Lru ways state list = packs_prop ways state list
 any_prop Fifo ways state list = packs_prop ways state list
 any_prop TreePlru ways state list = points_prop (depth_of ways) 0 state list
 any_prop Nmru ways state list = marks_prop ways state list
 
-pub system_prop : (kept : SystemContents AnyPolicy) (caches : Caches) → IsProp (SystemStands any_stands_for kept caches)
+pub system_prop : (kept : SystemContents AnyPolicy) (caches : Caches)
+    → IsProp (SystemStands any_stands_for kept caches)
 system_prop kept caches = hlevel (props, any_prop)

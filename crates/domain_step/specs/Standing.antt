@@ -19,7 +19,8 @@ use Rattle.world_view.specs.Machine.{Setting}
 
 -- what is kept for all domains of a machine: memory stands for this storage, each set of each cache and of the buffer and the
 -- predictor's counters for these caches, and the clock is the same
-pub record MachineStands (p : Hardware) (h : Hierarchy) (b : Bool) (memory : Contents) (system : SystemContents AnyPolicy) (now : ℕ)
+pub record MachineStands (p : Hardware) (h : Hierarchy) (b : Bool) (memory : Contents)
+    (system : SystemContents AnyPolicy) (now : ℕ)
     (s : Storage) (c : Caches) (t : ℕ) : Type 0 where
   pub frames : memory.frames ≡ p.frames
   pub holds : Holds memory s.mem

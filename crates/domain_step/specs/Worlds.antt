@@ -21,18 +21,22 @@ pub record Kept : Type 0 where
   pub clock : ℕ
 
 abbrev pub kept : Contents → SystemContents AnyPolicy → List Domain → List Used → ℕ → Kept
-kept memory system domains used clock = record { memory = memory; system = system; domains = domains; used = used; clock = clock }
+kept memory system domains used clock =
+    record { memory = memory; system = system; domains = domains; used = used; clock = clock }
 
 -- it stands for a world with this hierarchy and these settings of its domains: memory, each set of each cache and of the
 -- buffer, the predictor's counters, each domain, what switches took, and the clock
 pub record StandsOn (i : Image) (h : Hierarchy) (settings : ℕ → Setting) (w : World) (k : Kept) : Type 0 where
-  pub machine : MachineStands i.all.hardware h false k.memory k.system k.clock w.storage (caches_of 0 w) (clock_of 0 w)
+  pub machine : MachineStands i.all.hardware h false k.memory k.system k.clock w.storage (caches_of 0 w)
+      (clock_of 0 w)
   pub all_domains : length k.domains ≡ length i.owns
-  pub each_domain : (d : ℕ) (x : Domain) → slice_get k.domains d ≡ Some x → DomainStands (settings d) x (dom_of w d)
+  pub each_domain : (d : ℕ) (x : Domain) → slice_get k.domains d ≡ Some x
+      → DomainStands (settings d) x (dom_of w d)
   pub all_entries : length k.used ≡ length i.all.schedule
   pub each_entry : IsUsed k.used w.used
 
 -- it stands for the machine after so many slots
 abbrev pub StandsBy : Option Guard → Image → ℕ → Kept → Type 0
 StandsBy off i slots k =
-    StandsOn i (guards_of off i).levels (setting_by (guards_of off i) i) (whole_by (guards_of off i) i slots) k
+    StandsOn i (guards_of off i).levels (setting_by (guards_of off i) i) (whole_by (guards_of off i) i slots)
+    k

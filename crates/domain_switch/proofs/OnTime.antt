@@ -10,7 +10,8 @@ use Rattle.mem_system.specs.Worst.{machine_shape}
 use Rattle.mem_system.proofs.Worst.{switch_law}
 use Rattle.domain_switch.specs.Switch.{IsInTime}
 
-pub done_by : (h : Hierarchy) (pinned : Bool) (caches : Caches) (out : Option Layout) (into : Layout) (shared calls old_end now until used : ℕ)
+pub done_by : (h : Hierarchy) (pinned : Bool) (caches : Caches) (out : Option Layout) (into : Layout)
+    (shared calls old_end now until used : ℕ)
     → IsCloneOf (machine_shape h shared calls) into → old_end ≤ now → IsInTime h caches out into shared calls old_end now until
     → used ≡ now + (touched_all h pinned caches (switch h.costs out into)).cost - old_end → old_end + used ≤ until
 unfolding bound_of

@@ -23,14 +23,17 @@ pub record IsCloneOn (h : Hierarchy) (clone : CloneLayout) : Type 0 where
 -- it begins past the slot's end by less than the largest step of a domain that may make these calls, and the next
 -- start is that domain's bound past the end or later; no line of the kernel's colour is dirty, and who leaves stores to
 -- lines of its own colours alone
-pub record IsInTime (h : Hierarchy) (caches : Caches) (out : Option Layout) (into : Layout) (shared calls old_end now until : ℕ)
+pub record IsInTime (h : Hierarchy) (caches : Caches) (out : Option Layout) (into : Layout)
+    (shared calls old_end now until : ℕ)
     : Type 0 where
   pub ways : HasWays h caches
   pub clean : KernelIsClean h caches
   pub own : ℕ → Bool
   pub shares : IsSharing h own (shared_region into)
   pub leaves : MayTouchAll h own (shared_region into) (leave_if h.costs out)
-  pub late : now < old_end + (worst_instruction (machine_shape h shared calls) + worst_operation (machine_shape h shared calls))
+  pub late : now
+      < old_end
+      + (worst_instruction (machine_shape h shared calls) + worst_operation (machine_shape h shared calls))
   pub pad : old_end + bound_of (machine_shape h shared calls) ≤ until
 
 -- its work was begun at a clock: used is the clock after the work less the ended slot's end,

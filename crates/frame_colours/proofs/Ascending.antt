@@ -10,7 +10,8 @@ unfoldable pub Ascends : ℕ → List ℕ → Type 0
 Ascends b [] = ⊤
 Ascends b (x ∷ xs) = (b ≤ x) × Ascends (suc x) xs
 
-pub Ascends-from_increasing : (xs : List ℕ) (b : ℕ) → IsStrictlyIncreasing xs → (0 < length xs → b ≤ get_or xs 0 0) → Ascends b xs
+pub Ascends-from_increasing : (xs : List ℕ) (b : ℕ) → IsStrictlyIncreasing xs
+    → (0 < length xs → b ≤ get_or xs 0 0) → Ascends b xs
 unfolding Ascends
 Ascends-from_increasing [] b up first = tt
 Ascends-from_increasing (x ∷ xs) b up first =
@@ -76,9 +77,13 @@ length_within [] (x ∷ xs) a b above up within = absurd (true≢false (sym (wit
 length_within (y ∷ ys) (x ∷ xs) a b above up within =
     ⊎_elim
     (λ (same : y ≡ x).
-    let fewer : length xs ≤ length ys = length_within ys xs (suc y) (suc x) above.1 up.1 (λ f there. after_head f same there) in omega arith)
+    let fewer : length xs ≤ length ys =
+    length_within ys xs (suc y) (suc x) above.1 up.1 (λ f there. after_head f same there) in
+    omega arith)
     (λ (apart : y ≢ x).
-    let fewer : length (x ∷ xs) ≤ length ys = length_within ys (x ∷ xs) (suc y) b above.1 up (λ f there. not_head f apart there) in omega arith)
+    let fewer : length (x ∷ xs) ≤ length ys =
+    length_within ys (x ∷ xs) (suc y) b above.1 up (λ f there. not_head f apart there) in
+    omega arith)
     (cases_eq y x)
   where
     after_head : (f : ℕ) → y ≡ x → has xs f ≡ true → has ys f ≡ true

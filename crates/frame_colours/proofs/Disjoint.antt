@@ -25,7 +25,8 @@ passes p (x ∷ xs) n all there =
     (cases_eq x n)
 
 -- and so for lists
-passes_at : (p : List ℕ → Bool) (lists : List (List ℕ)) (i n : ℕ) → list_all p lists ≡ true → has (list_at lists i) n ≡ true → p (list_at lists i) ≡ true
+passes_at : (p : List ℕ → Bool) (lists : List (List ℕ)) (i n : ℕ) → list_all p lists ≡ true
+    → has (list_at lists i) n ≡ true → p (list_at lists i) ≡ true
 passes_at p [] i n all there = absurd (true≢false (sym there))
 passes_at p (own ∷ lists) zero n all there = (both (p own) (list_all p lists) all).0
 passes_at p (own ∷ lists) (suc i) n all there = passes_at p lists i n (both (p own) (list_all p lists) all).1 there
@@ -35,7 +36,8 @@ none_of true h = absurd (true≢false (sym h))
 none_of false h = refl
 
 -- one more list before those that are disjoint
-with_list : (colours : ℕ) (own : List ℕ) (lists : List (List ℕ)) → list_all (λ c. nat_lt 0 c && nat_lt c colours) own ≡ true
+with_list : (colours : ℕ) (own : List ℕ) (lists : List (List ℕ))
+    → list_all (λ c. nat_lt 0 c && nat_lt c colours) own ≡ true
     → list_all (λ other. list_all (λ c. not (has other c)) own) lists ≡ true → AreDisjoint colours lists → AreDisjoint colours (own ∷ lists)
 with_list colours own lists good later rest = record { in_range = in_range; no_zero = no_zero; apart = apart }
   where
@@ -52,17 +54,25 @@ with_list colours own lists good later rest = record { in_range = in_range; no_z
 
     of_later : (j c : ℕ) → has own c ≡ true → has (list_at lists j) c ≡ true → ⊥
     of_later j c mine there =
-        let none : not (has (list_at lists j) c) ≡ true = passes (λ c. not (has (list_at lists j) c)) own c (passes_at (λ other. list_all (λ c. not (has other c)) own) lists j c later there) mine in
+        let none : not (has (list_at lists j) c) ≡ true =
+        passes (λ c. not (has (list_at lists j) c)) own c
+        (passes_at (λ other. list_all (λ c. not (has other c)) own) lists j c later there) mine in
         true≢false (sym there ∙ none_of (has (list_at lists j) c) none)
 
-    apart : (i j c : ℕ) → i ≢ j → has (list_at (own ∷ lists) i) c ≡ true → has (list_at (own ∷ lists) j) c ≡ false
+    apart : (i j c : ℕ) → i ≢ j → has (list_at (own ∷ lists) i) c ≡ true
+        → has (list_at (own ∷ lists) j) c ≡ false
     apart zero zero c other there = absurd (other refl)
     apart zero (suc j) c other there = false_from_ne_true (has (list_at lists j) c) (of_later j c there)
     apart (suc i) zero c other there = false_from_ne_true (has own c) (λ mine. of_later i c mine there)
     apart (suc i) (suc j) c other there = rest.apart i j c (λ same. other (ap suc same)) there
 
-pub disjoint_by_test : (colours : ℕ) (lists : List (List ℕ)) → are_disjoint colours lists ≡ true → AreDisjoint colours lists
-disjoint_by_test colours [] test = record { in_range = λ i c there. absurd (true≢false (sym there)); no_zero = λ i. refl; apart = λ i j c other there. refl }
+pub disjoint_by_test : (colours : ℕ) (lists : List (List ℕ)) → are_disjoint colours lists ≡ true
+    → AreDisjoint colours lists
+disjoint_by_test colours [] test = record {
+  in_range = λ i c there. absurd (true≢false (sym there));
+  no_zero = λ i. refl;
+  apart = λ i j c other there. refl;
+}
 disjoint_by_test colours (own ∷ lists) test =
     let first = both (list_all (λ c. nat_lt 0 c && nat_lt c colours) own) _ test in
     let second = both (list_all (λ other. list_all (λ c. not (has other c)) own) lists) (are_disjoint colours lists) first.1 in
@@ -71,24 +81,35 @@ disjoint_by_test colours (own ∷ lists) test =
 -- ---- the shares
 
 -- a frame of share i has one of the colours of list i
-coloured : (w : Whole) (lists : List (List ℕ)) (i f : ℕ) → IsOwn (share_at (map (share_of w) lists) i) f → has (list_at lists i) (colour_of w.colours f) ≡ true
+coloured : (w : Whole) (lists : List (List ℕ)) (i f : ℕ) → IsOwn (share_at (map (share_of w) lists) i) f
+    → has (list_at lists i) (colour_of w.colours f) ≡ true
 coloured w lists i f own = elim (cases_lt i (length lists)) [
-  | inl within ↦ let same : share_at (map (share_of w) lists) i ≡ share_of w (list_at lists i) = get_or-map (share_of w) lists i [] (record { frames = 0; colours = 0; own = [] }) within in
+  | inl within ↦
+      let same : share_at (map (share_of w) lists) i ≡ share_of w (list_at lists i) =
+      get_or-map (share_of w) lists i [] (record { frames = 0; colours = 0; own = [] }) within in
       (subst (λ (s : Share). IsOwn s f) same own).coloured
-  | inr past ↦ let none : share_at (map (share_of w) lists) i ≡ record { frames = 0; colours = 0; own = [] } = get_or_past (map (share_of w) lists) i _ (omega (arith, length-map lists (share_of w))) in
+  | inr past ↦
+      let none : share_at (map (share_of w) lists) i ≡ record { frames = 0; colours = 0; own = [] } =
+      get_or_past (map (share_of w) lists) i _ (omega (arith, length-map lists (share_of w))) in
       let below : f < 0 = (subst (λ (s : Share). IsOwn s f) none own).below in absurd (omega arith)
 ]
 
-colours_of : (w : Whole) (lists : List (List ℕ)) (i f : ℕ) → IsOwn (share_at (map (share_of w) lists) i) f → (share_at (map (share_of w) lists) i).colours ≡ w.colours
+colours_of : (w : Whole) (lists : List (List ℕ)) (i f : ℕ) → IsOwn (share_at (map (share_of w) lists) i) f
+    → (share_at (map (share_of w) lists) i).colours ≡ w.colours
 colours_of w lists i f own = elim (cases_lt i (length lists)) [
   | inl within ↦ ap (λ (s : Share). s.colours) (get_or-map (share_of w) lists i [] (record { frames = 0; colours = 0; own = [] }) within)
-  | inr past ↦ let none : share_at (map (share_of w) lists) i ≡ record { frames = 0; colours = 0; own = [] } = get_or_past (map (share_of w) lists) i _ (omega (arith, length-map lists (share_of w))) in
+  | inr past ↦
+      let none : share_at (map (share_of w) lists) i ≡ record { frames = 0; colours = 0; own = [] } =
+      get_or_past (map (share_of w) lists) i _ (omega (arith, length-map lists (share_of w))) in
       let below : f < 0 = (subst (λ (s : Share). IsOwn s f) none own).below in absurd (omega arith)
 ]
 
-pub apart_by_lists : (w : Whole) (lists : List (List ℕ)) → AreDisjoint w.colours lists → AreApart (map (share_of w) lists)
+pub apart_by_lists : (w : Whole) (lists : List (List ℕ)) → AreDisjoint w.colours lists
+    → AreApart (map (share_of w) lists)
 apart_by_lists w lists disjoint = record {
-  once = λ i j f other own too. true≢false (sym (coloured w lists j f too) ∙ disjoint.apart i j (colour_of w.colours f) other (coloured w lists i f own));
+  once =
+      λ i j f other own too. true≢false (sym (coloured w lists j f too)
+      ∙ disjoint.apart i j (colour_of w.colours f) other (coloured w lists i f own));
   no_zero = λ i f own is_zero. let zero_too : colour_of w.colours f ≡ 0 = ap (colour_of_f f) (sym (colours_of w lists i f own)) ∙ is_zero in
       true≢false (sym (coloured w lists i f own) ∙ ap (has (list_at lists i)) zero_too ∙ disjoint.no_zero i);
 }
@@ -97,7 +118,8 @@ apart_by_lists w lists disjoint = record {
     colour_of_f f colours = colour_of colours f
 
 -- no frame is free in the pools of two lists that are disjoint
-pub pools_apart : (w : Whole) (xs ys : List ℕ) (first second : FreeList) → AreDisjoint w.colours (xs ∷ ys ∷ [])
+pub pools_apart : (w : Whole) (xs ys : List ℕ) (first second : FreeList)
+    → AreDisjoint w.colours (xs ∷ ys ∷ [])
     → first ≡ all_free (share_of w xs) → second ≡ all_free (share_of w ys) → (f : ℕ) → is_free first f ≡ true → is_free second f ≡ false
 pools_apart w xs ys first second disjoint all_first all_second f here = false_from_ne_true (is_free second f) (λ there.
     let of_first = IsOwn-pool (share_of w xs) f (sym (ap (λ (list : FreeList). is_free list f) all_first) ∙ here) in

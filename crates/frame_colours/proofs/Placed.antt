@@ -36,7 +36,8 @@ pub least_is_gone : (s : Share) (n : ℕ) (xs : List ℕ) → IsFreeList (of s (
 unfolding Ascends
 least_is_gone s n xs sound = has_below xs (suc n) n (Ascends-free s (n ∷ xs) sound).1 (omega arith)
 
-pub least_is_least : (s : Share) (n : ℕ) (xs : List ℕ) → IsFreeList (of s (n ∷ xs)) → (f : ℕ) → has (n ∷ xs) f ≡ true → n ≤ f
+pub least_is_least : (s : Share) (n : ℕ) (xs : List ℕ) → IsFreeList (of s (n ∷ xs)) → (f : ℕ)
+    → has (n ∷ xs) f ≡ true → n ≤ f
 unfolding Ascends
 least_is_least s n xs sound f there = head_is_least (n ∷ xs) n f (omega arith, (Ascends-free s (n ∷ xs) sound).1) there
 
@@ -85,9 +86,12 @@ Ascends-placed (x ∷ xs) b n above out up = elim (cases_lt n x) [
     rest : x ≤ n → has xs n ≡ false
     rest past = sym (has_other x n xs (apart past)) ∙ out
 
-pub with_frame_is_free_list : (l : FreeList) (f : ℕ) → IsFreeList l → IsOwn l.share f → is_free l f ≡ false → IsFreeList (with_frame l f)
+pub with_frame_is_free_list : (l : FreeList) (f : ℕ) → IsFreeList l → IsOwn l.share f → is_free l f ≡ false
+    → IsFreeList (with_frame l f)
 with_frame_is_free_list l f sound mine out = record {
-  increasing = increasing_from_Ascends (placed l.free f) 0 (Ascends-placed l.free 0 f (omega arith) out (Ascends-free l.share l.free sound));
+  increasing =
+      increasing_from_Ascends (placed l.free f) 0
+      (Ascends-placed l.free 0 f (omega arith) out (Ascends-free l.share l.free sound));
   own = λ g there. elim (cases_eq f g) [
     | inl same ↦ subst (λ (h : ℕ). IsOwn l.share h) same mine
     | inr other ↦ sound.own g (sym (placed_has_other l.free f g (λ e. other (sym e))) ∙ there)
@@ -102,7 +106,8 @@ placed_first s n xs sound = by_list xs (Ascends-free s (n ∷ xs) sound).1
     by_list [] up = refl
     by_list (y ∷ ys) up = let first : suc n ≤ y = up.0 in rw (lt-ltb n y (omega arith)) refl
 
-pub given_again : (l : FreeList) (f : ℕ) → IsFreeList l → slice_get l.free 0 ≡ Some f → with_frame (without_least l) f ≡ l
+pub given_again : (l : FreeList) (f : ℕ) → IsFreeList l → slice_get l.free 0 ≡ Some f
+    → with_frame (without_least l) f ≡ l
 given_again l f sound first = ap (λ (xs : List ℕ). of l.share xs) (by_list l.free sound first)
   where
     by_list : (xs : List ℕ) → IsFreeList (of l.share xs) → slice_get xs 0 ≡ Some f → placed (drop 1 xs) f ≡ xs
@@ -112,7 +117,8 @@ given_again l f sound first = ap (λ (xs : List ℕ). of l.share xs) (by_list l.
 
 -- ---- lists with the same frames
 
-Ascends-same : (xs ys : List ℕ) (a b : ℕ) → Ascends a xs → Ascends b ys → ((f : ℕ) → has xs f ≡ has ys f) → xs ≡ ys
+Ascends-same : (xs ys : List ℕ) (a b : ℕ) → Ascends a xs → Ascends b ys → ((f : ℕ) → has xs f ≡ has ys f)
+    → xs ≡ ys
 unfolding Ascends
 Ascends-same [] [] a b up above same = refl
 Ascends-same [] (y ∷ ys) a b up above same = absurd (true≢false (sym (has_head y ys) ∙ sym (same y)))
@@ -132,9 +138,12 @@ Ascends-same (x ∷ xs) (y ∷ ys) a b up above same =
       | inr other ↦ sym (has_other x f xs other) ∙ same f ∙ has_other y f ys (λ e. other (heads ∙ e))
     ]
 
-pub free_list_determined : (l m : FreeList) → l.share ≡ m.share → IsFreeList l → IsFreeList m → ((f : ℕ) → is_free l f ≡ is_free m f) → l ≡ m
+pub free_list_determined : (l m : FreeList) → l.share ≡ m.share → IsFreeList l → IsFreeList m
+    → ((f : ℕ) → is_free l f ≡ is_free m f) → l ≡ m
 free_list_determined l m shares sound other same =
-    let lists : l.free ≡ m.free = Ascends-same l.free m.free 0 0 (Ascends-free l.share l.free sound) (Ascends-free m.share m.free other) same in
+    let lists : l.free ≡ m.free =
+    Ascends-same l.free m.free 0 0 (Ascends-free l.share l.free sound)
+    (Ascends-free m.share m.free other) same in
     ap (λ (s : Share). of s l.free) shares ∙ ap (λ (xs : List ℕ). of m.share xs) lists
 
 -- ---- room, and the place in a list that descends
@@ -144,19 +153,24 @@ unfolding placed
 length-placed [] n = refl
 length-placed (x ∷ xs) n = by_case (nat_lt n x) (length-placed xs n)
   where
-    by_case : (t : Bool) → length (placed xs n) ≡ suc (length xs) → length (cond t (n ∷ x ∷ xs) (x ∷ placed xs n)) ≡ suc (suc (length xs))
+    by_case : (t : Bool) → length (placed xs n) ≡ suc (length xs)
+        → length (cond t (n ∷ x ∷ xs) (x ∷ placed xs n)) ≡ suc (suc (length xs))
     by_case true rest = refl
     by_case false rest = ap suc rest
 
 -- a share's frame that isn't free leaves room for it
-pub has_room : (s : Share) (xs : List ℕ) (f : ℕ) → IsFreeList (of s xs) → IsOwn s f → has xs f ≡ false → length xs < length (pool s)
+pub has_room : (s : Share) (xs : List ℕ) (f : ℕ) → IsFreeList (of s xs) → IsOwn s f → has xs f ≡ false
+    → length xs < length (pool s)
 has_room s xs f sound mine out =
     let sound' = with_frame_is_free_list (of s xs) f sound mine out in
-    let within : length (placed xs f) ≤ length (pool s) = length_within (pool s) (placed xs f) 0 0 (Ascends-pool s) (Ascends-free s (placed xs f) sound') (λ g there. pool_has s g (sound'.own g there)) in
+    let within : length (placed xs f) ≤ length (pool s) =
+    length_within (pool s) (placed xs f) 0 0 (Ascends-pool s) (Ascends-free s (placed xs f) sound')
+    (λ g there. pool_has s g (sound'.own g there)) in
     omega (arith, length-placed xs f)
 
 -- what is placed comes after the numbers that are less, and before the first that isn't
-pub placed_between : (xs ys : List ℕ) (n : ℕ) → All (λ x. x < n) xs → (0 < length ys → n < get_or ys 0 0) → placed (xs ++ ys) n ≡ xs ++ n ∷ ys
+pub placed_between : (xs ys : List ℕ) (n : ℕ) → All (λ x. x < n) xs → (0 < length ys → n < get_or ys 0 0)
+    → placed (xs ++ ys) n ≡ xs ++ n ∷ ys
 unfolding placed
 placed_between [] [] n less more = refl
 placed_between [] (y ∷ ys) n less more = rw (lt-ltb n y (more (omega arith))) refl
@@ -176,16 +190,23 @@ reverse-insert xs n at within after before out =
     let highs : length high ≡ at = length-reverse (take at xs) ∙ length-take-le at xs within in
     let whole : reverse xs ≡ low ++ high = ap reverse (sym (take-append-drop at xs)) ∙ reverse-append (take at xs) (drop at xs) in
     let put : reverse (insert xs at n) ≡ low ++ n ∷ high =
-    reverse-append (take at xs) (n ∷ drop at xs) ∙ ap (λ ys. ys ++ high) (reverse-append (n ∷ []) (drop at xs)) ∙ append_assoc low (n ∷ []) high in
+    reverse-append (take at xs) (n ∷ drop at xs)
+    ∙ ap (λ ys. ys ++ high) (reverse-append (n ∷ []) (drop at xs)) ∙ append_assoc low (n ∷ []) high in
     put ∙ sym (placed_between low high n (less lows) (more highs)) ∙ ap (λ ys. placed ys n) (sym whole)
   where
     less : length (reverse (drop at xs)) ≡ length xs - at → All (λ x. x < n) (reverse (drop at xs))
     less lows k d inside =
         let long : length (drop at xs) ≡ length xs - at = length-drop at xs in
-        let there : get_or (reverse (drop at xs)) k d ≡ get_or (drop at xs) (length (drop at xs) - 1 - k) d = get_or-reverse (drop at xs) k d (omega arith) in
-        let here : get_or (drop at xs) (length (drop at xs) - 1 - k) d ≡ get_or xs (at + (length (drop at xs) - 1 - k)) d = get_or-drop at xs (length (drop at xs) - 1 - k) d in
-        let same : get_or xs (at + (length (drop at xs) - 1 - k)) d ≡ get_or xs (at + (length (drop at xs) - 1 - k)) 0 = get_or_default xs (at + (length (drop at xs) - 1 - k)) d 0 (omega arith) in
-        let below : get_or xs (at + (length (drop at xs) - 1 - k)) 0 < n = after (at + (length (drop at xs) - 1 - k)) (omega arith) (omega arith) in
+        let there : get_or (reverse (drop at xs)) k d ≡ get_or (drop at xs) (length (drop at xs) - 1 - k) d =
+        get_or-reverse (drop at xs) k d (omega arith) in
+        let here : get_or (drop at xs) (length (drop at xs) - 1 - k) d
+        ≡ get_or xs (at + (length (drop at xs) - 1 - k)) d =
+        get_or-drop at xs (length (drop at xs) - 1 - k) d in
+        let same : get_or xs (at + (length (drop at xs) - 1 - k)) d
+        ≡ get_or xs (at + (length (drop at xs) - 1 - k)) 0 =
+        get_or_default xs (at + (length (drop at xs) - 1 - k)) d 0 (omega arith) in
+        let below : get_or xs (at + (length (drop at xs) - 1 - k)) 0 < n =
+        after (at + (length (drop at xs) - 1 - k)) (omega arith) (omega arith) in
         omega arith
 
     apart : 0 < at → get_or xs (at - 1) 0 ≢ n
@@ -196,10 +217,12 @@ reverse-insert xs n at within after before out =
         let it : get_or (reverse xs) place 0 ≡ n = there ∙ ap (λ k. get_or xs k 0) at_it ∙ same in
         true≢false (sym (has_at (reverse xs) place (omega (arith, length-reverse xs))) ∙ ap (has (reverse xs)) it ∙ out)
 
-    more : length (reverse (take at xs)) ≡ at → 0 < length (reverse (take at xs)) → n < get_or (reverse (take at xs)) 0 0
+    more : length (reverse (take at xs)) ≡ at → 0 < length (reverse (take at xs))
+        → n < get_or (reverse (take at xs)) 0 0
     more highs some =
         let long : length (take at xs) ≡ at = length-take-le at xs within in
-        let there : get_or (reverse (take at xs)) 0 0 ≡ get_or (take at xs) (length (take at xs) - 1 - 0) 0 = get_or-reverse (take at xs) 0 0 (omega arith) in
+        let there : get_or (reverse (take at xs)) 0 0 ≡ get_or (take at xs) (length (take at xs) - 1 - 0) 0 =
+        get_or-reverse (take at xs) 0 0 (omega arith) in
         let last : length (take at xs) - 1 - 0 ≡ at - 1 = omega arith in
         let here : get_or (take at xs) (at - 1) 0 ≡ get_or xs (at - 1) 0 = get_or-take at xs (at - 1) 0 (omega arith) in
         let is : get_or (reverse (take at xs)) 0 0 ≡ get_or xs (at - 1) 0 = there ∙ ap (λ k. get_or (take at xs) k 0) last ∙ here in

@@ -15,7 +15,9 @@ use Rattle.frame_colours.proofs.Ascending.{Ascends, Ascends-less, increasing_fro
 
 pub range_split : (a m n : ℕ) → range_with_len a (m + n) ≡ range_with_len a m ++ range_with_len (a + m) n
 range_split a zero n = rw (zero-add n, add-zero a) refl
-range_split a (suc m) n = rw (suc-add m n) (ap (λ rest. a ∷ rest) (range_split (a + 1) m n ∙ ap (λ b. range_with_len (a + 1) m ++ range_with_len b n) (omega arith)))
+range_split a (suc m) n =
+    rw (suc-add m n) (ap (λ rest. a ∷ rest)
+    (range_split (a + 1) m n ∙ ap (λ b. range_with_len (a + 1) m ++ range_with_len b n) (omega arith)))
 
 Ascends-range : (a n : ℕ) → Ascends a (range_with_len a n)
 unfolding Ascends
@@ -58,7 +60,9 @@ Ascends-pool s = Ascends-filter (has_colour s) (range_with_len 0 s.frames) 0 (As
 
 pub pool_has : (s : Share) (f : ℕ) → IsOwn s f → has (pool s) f ≡ true
 unfolding pool
-pool_has s f own = has_filter (has_colour s) (range_with_len 0 s.frames) f ∙ rw (own.coloured, has_range 0 s.frames f (omega arith) (omega (arith, own.below))) refl
+pool_has s f own =
+    has_filter (has_colour s) (range_with_len 0 s.frames) f
+    ∙ rw (own.coloured, has_range 0 s.frames f (omega arith) (omega (arith, own.below))) refl
 
 pub IsOwn-pool : (s : Share) (f : ℕ) → has (pool s) f ≡ true → IsOwn s f
 unfolding pool
@@ -83,7 +87,9 @@ frame_at_own s n within = IsOwn-pool s (slice_index (pool s) n) (has_at (pool s)
 
 pub frame_at_increasing : (s : Share) (m n : ℕ) → m < n → n < length (pool s) → frame_at s m < frame_at s n
 unfolding frame_at
-frame_at_increasing s m n before within = AllPairs-from_increasing (pool s) (increasing_from_Ascends (pool s) 0 (Ascends-pool s)) m n 0 before within
+frame_at_increasing s m n before within =
+    AllPairs-from_increasing (pool s) (increasing_from_Ascends (pool s) 0 (Ascends-pool s)) m n 0 before
+    within
 
 pub own_is_frame_at : (s : Share) (f : ℕ) → IsOwn s f → (n : ℕ) × (n < length (pool s)) × (frame_at s n ≡ f)
 unfolding frame_at
@@ -100,11 +106,18 @@ own_is_frame_at s f own = place_of (pool s) (pool_has s f own)
 -- ---- a pool frame by frame
 
 -- frames counted up to n, and one more
-pub length_more : (s : Share) (n : ℕ) → length (filter (has_colour s) (range_with_len 0 (n + 1))) ≡ length (filter (has_colour s) (range_with_len 0 n)) + cond (has_colour s n) 1 0
+pub length_more : (s : Share) (n : ℕ)
+    → length (filter (has_colour s) (range_with_len 0 (n + 1)))
+    ≡ length (filter (has_colour s) (range_with_len 0 n)) + cond (has_colour s n) 1 0
 length_more s n =
-    let split : filter (has_colour s) (range_with_len 0 (n + 1)) ≡ filter (has_colour s) (range_with_len 0 n) ++ filter (has_colour s) (n ∷ []) =
-    ap (filter (has_colour s)) (range_split 0 n 1 ∙ ap (λ b. range_with_len 0 n ++ range_with_len b 1) (zero-add n)) ∙ filter-append (has_colour s) (range_with_len 0 n) (n ∷ []) in
-    ap length split ∙ length-append (filter (has_colour s) (range_with_len 0 n)) (filter (has_colour s) (n ∷ [])) ∙ ap (λ k. length (filter (has_colour s) (range_with_len 0 n)) + k) (by_case (has_colour s n))
+    let split : filter (has_colour s) (range_with_len 0 (n + 1))
+    ≡ filter (has_colour s) (range_with_len 0 n) ++ filter (has_colour s) (n ∷ []) =
+    ap (filter (has_colour s))
+    (range_split 0 n 1 ∙ ap (λ b. range_with_len 0 n ++ range_with_len b 1) (zero-add n))
+    ∙ filter-append (has_colour s) (range_with_len 0 n) (n ∷ []) in
+    ap length split
+    ∙ length-append (filter (has_colour s) (range_with_len 0 n)) (filter (has_colour s) (n ∷ []))
+    ∙ ap (λ k. length (filter (has_colour s) (range_with_len 0 n)) + k) (by_case (has_colour s n))
   where
     by_case : (t : Bool) → length (cond t (n ∷ []) []) ≡ cond t 1 0
     by_case true = refl
@@ -116,43 +129,61 @@ pub room_for : (s : Share) (xs : List ℕ) (f next : ℕ) → has_colour s f ≡
 unfolding pool
 room_for s xs f next mine is within listed_next =
     let above = s.frames - next in
-    let listed : reverse xs ≡ filter (has_colour s) (range_with_len (f + 1) above) = listed_next ∙ ap (λ b. filter (has_colour s) (range_with_len b above)) is in
+    let listed : reverse xs ≡ filter (has_colour s) (range_with_len (f + 1) above) =
+    listed_next ∙ ap (λ b. filter (has_colour s) (range_with_len b above)) is in
     let counts : s.frames ≡ f + suc above = omega arith in
     let split : range_with_len 0 s.frames ≡ range_with_len 0 f ++ range_with_len f (suc above) =
-    ap (range_with_len 0) counts ∙ range_split 0 f (suc above) ∙ ap (λ b. range_with_len 0 f ++ range_with_len b (suc above)) (zero-add f) in
-    let parts : filter (has_colour s) (range_with_len 0 s.frames) ≡ filter (has_colour s) (range_with_len 0 f) ++ filter (has_colour s) (range_with_len f (suc above)) =
+    ap (range_with_len 0) counts ∙ range_split 0 f (suc above)
+    ∙ ap (λ b. range_with_len 0 f ++ range_with_len b (suc above)) (zero-add f) in
+    let parts : filter (has_colour s) (range_with_len 0 s.frames)
+    ≡ filter (has_colour s) (range_with_len 0 f)
+    ++ filter (has_colour s) (range_with_len f (suc above)) =
     ap (filter (has_colour s)) split ∙ filter-append (has_colour s) (range_with_len 0 f) (range_with_len f (suc above)) in
     let first : filter (has_colour s) (range_with_len f (suc above)) ≡ f ∷ filter (has_colour s) (range_with_len (f + 1) above) =
-    ap (λ t. cond t (f ∷ filter (has_colour s) (range_with_len (f + 1) above)) (filter (has_colour s) (range_with_len (f + 1) above))) mine in
+    ap (λ t. cond t (f ∷ filter (has_colour s) (range_with_len (f + 1) above))
+    (filter (has_colour s) (range_with_len (f + 1) above))) mine in
     let as_many : length xs ≡ length (filter (has_colour s) (range_with_len (f + 1) above)) = sym (length-reverse xs) ∙ ap length listed in
-    let whole : length (filter (has_colour s) (range_with_len 0 s.frames)) ≡ length (filter (has_colour s) (range_with_len 0 f)) + suc (length (filter (has_colour s) (range_with_len (f + 1) above))) =
-    ap length parts ∙ length-append (filter (has_colour s) (range_with_len 0 f)) (filter (has_colour s) (range_with_len f (suc above))) ∙ ap (λ ys. length (filter (has_colour s) (range_with_len 0 f)) + length ys) first in
+    let whole : length (filter (has_colour s) (range_with_len 0 s.frames))
+    ≡ length (filter (has_colour s) (range_with_len 0 f))
+    + suc (length (filter (has_colour s) (range_with_len (f + 1) above))) =
+    ap length parts
+    ∙ length-append (filter (has_colour s) (range_with_len 0 f))
+    (filter (has_colour s) (range_with_len f (suc above)))
+    ∙ ap (λ ys. length (filter (has_colour s) (range_with_len 0 f)) + length ys) first in
     omega arith
 
 -- the frames above, once the next one below was looked at
 listed_next : (s : Share) (f next : ℕ) (t : Bool) → has_colour s f ≡ t → next ≡ f + 1 → next ≤ s.frames
     → filter (has_colour s) (range_with_len f (s.frames - f))
-    ≡ cond t (f ∷ filter (has_colour s) (range_with_len next (s.frames - next))) (filter (has_colour s) (range_with_len next (s.frames - next)))
+    ≡ cond t (f ∷ filter (has_colour s) (range_with_len next (s.frames - next)))
+    (filter (has_colour s) (range_with_len next (s.frames - next)))
 listed_next s f next t mine is within =
     let above = s.frames - next in
     let counts : s.frames - f ≡ suc above = omega arith in
     ap (λ n. filter (has_colour s) (range_with_len f n)) counts
-    ∙ ap (λ u. cond u (f ∷ filter (has_colour s) (range_with_len (f + 1) above)) (filter (has_colour s) (range_with_len (f + 1) above))) mine
+    ∙ ap (λ u. cond u (f ∷ filter (has_colour s) (range_with_len (f + 1) above))
+    (filter (has_colour s) (range_with_len (f + 1) above))) mine
     ∙ ap (λ b. cond t (f ∷ filter (has_colour s) (range_with_len b above)) (filter (has_colour s) (range_with_len b above))) (sym is)
 
-pub listed_other : (s : Share) (xs : List ℕ) (f next : ℕ) → has_colour s f ≡ false → next ≡ f + 1 → next ≤ s.frames
-    → reverse xs ≡ filter (has_colour s) (range_with_len next (s.frames - next)) → reverse xs ≡ filter (has_colour s) (range_with_len f (s.frames - f))
+pub listed_other : (s : Share) (xs : List ℕ) (f next : ℕ) → has_colour s f ≡ false → next ≡ f + 1
+    → next ≤ s.frames
+    → reverse xs ≡ filter (has_colour s) (range_with_len next (s.frames - next))
+    → reverse xs ≡ filter (has_colour s) (range_with_len f (s.frames - f))
 listed_other s xs f next other is within listed = listed ∙ sym (listed_next s f next false other is within)
 
-pub listed_own : (s : Share) (xs ys : List ℕ) (f next : ℕ) → has_colour s f ≡ true → next ≡ f + 1 → next ≤ s.frames → ys ≡ xs ++ f ∷ []
-    → reverse xs ≡ filter (has_colour s) (range_with_len next (s.frames - next)) → reverse ys ≡ filter (has_colour s) (range_with_len f (s.frames - f))
+pub listed_own : (s : Share) (xs ys : List ℕ) (f next : ℕ) → has_colour s f ≡ true → next ≡ f + 1
+    → next ≤ s.frames → ys ≡ xs ++ f ∷ []
+    → reverse xs ≡ filter (has_colour s) (range_with_len next (s.frames - next))
+    → reverse ys ≡ filter (has_colour s) (range_with_len f (s.frames - f))
 listed_own s xs ys f next mine is within pushed listed =
     ap reverse pushed ∙ reverse-append xs (f ∷ []) ∙ ap (λ zs. f ∷ zs) listed ∙ sym (listed_next s f next true mine is within)
 
-pub listed_whole : (s : Share) (xs : List ℕ) (f : ℕ) → f ≡ 0 → xs ≡ filter (has_colour s) (range_with_len f (s.frames - f)) → xs ≡ pool s
+pub listed_whole : (s : Share) (xs : List ℕ) (f : ℕ) → f ≡ 0
+    → xs ≡ filter (has_colour s) (range_with_len f (s.frames - f)) → xs ≡ pool s
 unfolding pool
 listed_whole s xs f start listed = let all : s.frames - f ≡ s.frames = omega arith in listed ∙ rw all (rw start refl)
 
-pub counted_whole : (s : Share) (count f : ℕ) → f ≡ s.frames → count ≡ length (filter (has_colour s) (range_with_len 0 f)) → count ≡ length (pool s)
+pub counted_whole : (s : Share) (count f : ℕ) → f ≡ s.frames
+    → count ≡ length (filter (has_colour s) (range_with_len 0 f)) → count ≡ length (pool s)
 unfolding pool
 counted_whole s count f end counted = counted ∙ rw end refl

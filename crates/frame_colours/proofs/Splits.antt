@@ -7,7 +7,8 @@ use Rattle.frame_colours.specs.FreeList.{FreeList, is_free, all_free}
 use Rattle.frame_colours.proofs.Disjoint.{pools_apart}
 
 -- one more item is made
-pub made_more : {A B C : Type 0} (h : B → C) (g : A → B) (old new : List C) (xs : List A) (k : ℕ) (x d : A) (v : C)
+pub made_more : {A B C : Type 0} (h : B → C) (g : A → B) (old new : List C) (xs : List A) (k : ℕ) (x d : A)
+    (v : C)
     → k < length xs → x ≡ get_or xs k d → old ≡ map h (map g (take k xs)) → new ≡ old ++ v ∷ [] → v ≡ h (g x)
     → new ≡ map h (map g (take (k + 1) xs))
 made_more h g old new xs k x d v below is so_far pushed same =
@@ -25,7 +26,8 @@ all_yielded yielded [] none = sym (append-nil yielded)
 all_yielded yielded (x ∷ xs) none = absurd (omega (arith, none))
 
 -- no frame is free in both of the pools that two disjoint lists make
-pub made_apart : {E : Type 0} (w : Whole) (xs ys : List ℕ) (pools : Result (FreeList × FreeList) E) → AreDisjoint w.colours (xs ∷ ys ∷ [])
+pub made_apart : {E : Type 0} (w : Whole) (xs ys : List ℕ) (pools : Result (FreeList × FreeList) E)
+    → AreDisjoint w.colours (xs ∷ ys ∷ [])
     → IfOk pools (λ p. p.0 ≡ all_free (share_of w xs)) → IfOk pools (λ p. p.1 ≡ all_free (share_of w ys))
     → IfOk pools (λ p. (f : ℕ) → is_free p.0 f ≡ true → is_free p.1 f ≡ false)
 made_apart w xs ys (Ok p) disjoint first second = pools_apart w xs ys p.0 p.1 disjoint first second

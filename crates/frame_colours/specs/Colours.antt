@@ -76,7 +76,8 @@ has_none_of own other = list_all (λ c. not (has other c)) own
 -- `AreDisjoint` as a test: of each list its colours, and that none of them stands in a later list
 abbrev pub are_disjoint : ℕ → List (List ℕ) → Bool
 are_disjoint colours [] = true
-are_disjoint colours (own ∷ lists) = list_all (is_shareable colours) own && (list_all (has_none_of own) lists && are_disjoint colours lists)
+are_disjoint colours (own ∷ lists) =
+    list_all (is_shareable colours) own && (list_all (has_none_of own) lists && are_disjoint colours lists)
 
 -- share i; past the last one it has no frame
 abbrev pub share_at : List Share → ℕ → Share

@@ -16,12 +16,14 @@ use Rattle.hardware_check.proofs.Products.{few_mul, few_div, few_targets, buffer
 
 -- ---- the shared region
 
-region_if : (b : Bool) (o : Option Refusal) (r : Refusal) → (if b then o else Some r) ≡ None → (b ≡ true) × (o ≡ None)
+region_if : (b : Bool) (o : Option Refusal) (r : Refusal) → (if b then o else Some r) ≡ None
+    → (b ≡ true) × (o ≡ None)
 region_if true o r n = (refl, n)
 region_if false o r n = cc
 
 -- its two cases
-pub shared_cases : (i : Raw) → k11 i ≡ None → (is_region i.line i.shared ≡ true) × (room_case (hardware_of i) ≡ None)
+pub shared_cases : (i : Raw) → k11 i ≡ None
+    → (is_region i.line i.shared ≡ true) × (room_case (hardware_of i) ≡ None)
 unfolding k11
 shared_cases i n = region_if (is_region i.line i.shared) (room_case (hardware_of i)) (refusal 11 (pos 1) i.shared (pos 65536)) n
 
@@ -69,7 +71,10 @@ hardware_law i k =
       targets = buffer_sound i.targets;
       some_colours = colours.least;
       few_colours = colours.most;
-      whole_colours = whole_frames (cache_shape_of i.l2).sets (natural_of i.line) (power_is (cache_shape_of i.l2).sets parts.l2.sets.power) (power_is (natural_of i.line) parts.line.power) (omega (arith, colours.least));
+      whole_colours =
+          whole_frames (cache_shape_of i.l2).sets (natural_of i.line)
+          (power_is (cache_shape_of i.l2).sets parts.l2.sets.power)
+          (power_is (natural_of i.line) parts.line.power) (omega (arith, colours.least));
       some_shared = region.some;
       few_shared = region.few;
       whole_lines = region.whole;

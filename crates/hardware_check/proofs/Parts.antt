@@ -25,18 +25,22 @@ pub natural_positive : (x : ℤ) → 0 < natural_of x → IsNatural x
 natural_positive (pos n) some = tt
 natural_positive (negsuc n) some = absurd (omega (arith, some))
 
-pub natural_above : (line shared : ℤ) → 0 < natural_of line → outside line (pos 65536) shared ≡ false → IsNatural shared
+pub natural_above : (line shared : ℤ) → 0 < natural_of line → outside line (pos 65536) shared ≡ false
+    → IsNatural shared
 natural_above (pos low) shared some h = natural_inside low 65536 shared h
 natural_above (negsuc low) shared some h = absurd (omega (arith, some))
 
 pub natural_cost : (x : ℤ) → IsCost (natural_of x) → IsNatural x
 natural_cost x cost = natural_positive x cost.some
 
-pub in_range : (rule : ℕ) (at : ℤ) (low high : ℕ) (x : ℤ) → range_case rule at low high x ≡ None → Within low high (natural_of x)
+pub in_range : (rule : ℕ) (at : ℤ) (low high : ℕ) (x : ℤ) → range_case rule at low high x ≡ None
+    → Within low high (natural_of x)
 in_range rule at low high x n =
     let later : Option Refusal = if int_lt (pos high) x then Some (refusal rule at x (pos high)) else None in
     let first = if_first (int_lt x (pos low)) (refusal rule at x (pos low)) later n in
-    let second = if_first (int_lt (pos high) x) (refusal rule at x (pos high)) None (if_rest (int_lt x (pos low)) (refusal rule at x (pos low)) later n) in
+    let second =
+    if_first (int_lt (pos high) x) (refusal rule at x (pos high)) None
+    (if_rest (int_lt x (pos low)) (refusal rule at x (pos low)) later n) in
     inside low high x (rw (first, second) refl)
 
 both : (a b : Bool) → (a && b) ≡ true → (a ≡ true) × (b ≡ true)
@@ -65,10 +69,16 @@ size_sound : (part low high : ℕ) (x : ℤ) → size_case part low high x ≡ N
 size_sound part low high x n = size_is low high x (none_if (is_size low high x) (refusal 3 (pos part) x (pos 1)) n)
 
 pub size_natural : (low high : ℕ) (x : ℤ) → is_size low high x ≡ true → IsNatural x
-size_natural low high x h = natural_inside low high x (no (outside (pos low) (pos high) x) (both (not (outside (pos low) (pos high) x)) (is_power_of_two (natural_of x)) h).0)
+size_natural low high x h =
+    natural_inside low high x
+    (no (outside (pos low) (pos high) x)
+    (both (not (outside (pos low) (pos high) x)) (is_power_of_two (natural_of x)) h).0)
 
 pub size_most : (low high : ℕ) (x : ℤ) → is_size low high x ≡ true → natural_of x ≤ high
-size_most low high x h = most_inside low high x (no (outside (pos low) (pos high) x) (both (not (outside (pos low) (pos high) x)) (is_power_of_two (natural_of x)) h).0)
+size_most low high x h =
+    most_inside low high x
+    (no (outside (pos low) (pos high) x)
+    (both (not (outside (pos low) (pos high) x)) (is_power_of_two (natural_of x)) h).0)
 
 record IsPredictor (counters outcomes : ℤ) : Type 0 where
   pub size : IsSize 1 4096 (natural_of counters)
@@ -86,7 +96,8 @@ predictor_sound size history n = record {
 
 -- ---- caches
 
-named_tree : (a b c : Bool) → (if a then Fifo else if b then Plru else if c then Nmru else Lru) ≡ Plru → b ≡ true
+named_tree : (a b c : Bool) → (if a then Fifo else if b then Plru else if c then Nmru else Lru) ≡ Plru
+    → b ≡ true
 named_tree true b c e = cc
 named_tree false true c e = refl
 named_tree false false true e = cc
@@ -107,11 +118,16 @@ ways_sound part c n =
     let at = λ (case : ℕ). refusal 3 (pos part) c.ways (pos case) in
     let last : Option Refusal = if is_uneven_tree c then Some (at 4) else None in
     let later : Option Refusal = if not (is_policy c.policy) then Some (at 3) else last in
-    let uneven = if_first (is_uneven_tree c) (at 4) None (if_rest (not (is_policy c.policy)) (at 3) last (if_rest (outside (pos 1) (pos 16) c.ways) (at 2) later n)) in
+    let uneven =
+    if_first (is_uneven_tree c) (at 4) None
+    (if_rest (not (is_policy c.policy)) (at 3) last
+    (if_rest (outside (pos 1) (pos 16) c.ways) (at 2) later n)) in
     let tree = bytes_eq c.policy (codes "plru") in
     record {
       range = inside 1 16 c.ways (if_first (outside (pos 1) (pos 16) c.ways) (at 2) later n);
-      tree = λ e. even tree (is_power_of_two (natural_of c.ways)) uneven (named_tree (bytes_eq c.policy (codes "fifo")) tree (bytes_eq c.policy (codes "nmru")) e);
+      tree =
+          λ e. even tree (is_power_of_two (natural_of c.ways)) uneven
+          (named_tree (bytes_eq c.policy (codes "fifo")) tree (bytes_eq c.policy (codes "nmru")) e);
     }
 
 cache_sound : (part most : ℕ) (c : RawCache) → cache_case part most c ≡ None → IsCache most (cache_shape_of c)
@@ -217,13 +233,15 @@ whole_power k some =
           omega (arith, whole)
     ]
 
-pub whole_frames : (sets line : ℕ) → IsPowerOfTwo sets → IsPowerOfTwo line → 1 ≤ sets * line / 4096 → sets * line / 4096 * 4096 ≡ sets * line
+pub whole_frames : (sets line : ℕ) → IsPowerOfTwo sets → IsPowerOfTwo line → 1 ≤ sets * line / 4096
+    → sets * line / 4096 * 4096 ≡ sets * line
 whole_frames sets line a b some =
     let product : sets * line ≡ 2 ^ (a.0 + b.0) = rw (a.1, b.1) (sym (pow-add 2 a.0 b.0)) in
     let P : ℕ → Type 0 = λ n. 1 ≤ n / 4096 → n / 4096 * 4096 ≡ n in
     subst P (sym product) (whole_power (a.0 + b.0)) some
 
-cost_sound : (costs : List ℤ) → first_in k6_cost costs ≡ None → (k : ℕ) → k < length costs → IsCost (natural_of (get_or costs k (pos 0)))
+cost_sound : (costs : List ℤ) → first_in k6_cost costs ≡ None → (k : ℕ) → k < length costs
+    → IsCost (natural_of (get_or costs k (pos 0)))
 cost_sound costs n k l =
     let range = in_range 6 (pos (length (take k costs) + 1)) 1 1000 (get_or costs k (pos 0)) (first_in_none k6_cost costs n k l (pos 0)) in
     record { some = range.least; few = range.most }
@@ -246,7 +264,8 @@ costs_sound i n =
 
 -- ---- the numbers fit those of the code
 
-small_shape : (most : ℕ) (c : RawCache) → most ≤ 16384 → IsCache most (cache_shape_of c) → IsSmallShape (cache_shape_of c)
+small_shape : (most : ℕ) (c : RawCache) → most ≤ 16384 → IsCache most (cache_shape_of c)
+    → IsSmallShape (cache_shape_of c)
 small_shape most c few cache = record { sets = omega (arith, few, cache.sets.most); ways = omega (arith, cache.few_ways) }
 
 pub record FitsCode (i : Raw) : Type 0 where
@@ -285,18 +304,21 @@ pub record IsRegion (line shared : ℕ) : Type 0 where
   pub few : shared ≤ 65536
   pub whole : shared % line ≡ 0
 
-region_parts : (line shared : ℤ) → is_region line shared ≡ true → (outside line (pos 65536) shared ≡ false) × ((natural_of shared % natural_of line == 0) ≡ true)
+region_parts : (line shared : ℤ) → is_region line shared ≡ true
+    → (outside line (pos 65536) shared ≡ false) × ((natural_of shared % natural_of line == 0) ≡ true)
 unfolding is_region
 region_parts line shared h =
     let parts = both (not (outside line (pos 65536) shared)) (natural_of shared % natural_of line == 0) h in
     (no (outside line (pos 65536) shared) parts.0, parts.1)
 
 -- a number that isn't below one from 1 on
-not_below : (line shared : ℤ) → 0 < natural_of line → outside line (pos 65536) shared ≡ false → Within (natural_of line) 65536 (natural_of shared)
+not_below : (line shared : ℤ) → 0 < natural_of line → outside line (pos 65536) shared ≡ false
+    → Within (natural_of line) 65536 (natural_of shared)
 not_below (pos low) shared some h = inside low 65536 shared h
 not_below (negsuc low) shared some h = absurd (omega (arith, some))
 
-pub region_sound : (line shared : ℤ) → 0 < natural_of line → is_region line shared ≡ true → IsRegion (natural_of line) (natural_of shared)
+pub region_sound : (line shared : ℤ) → 0 < natural_of line → is_region line shared ≡ true
+    → IsRegion (natural_of line) (natural_of shared)
 region_sound line shared some h =
     let parts = region_parts line shared h in
     let range = not_below line shared some parts.0 in

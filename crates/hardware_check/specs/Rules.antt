@@ -15,7 +15,9 @@ abbrev pub size_case : ℕ → ℕ → ℕ → ℤ → Option Refusal
 size_case part low high x = if is_size low high x then None else Some (refusal 3 (pos part) x (pos 1))
 
 abbrev pub is_policy : List ℕ → Bool
-is_policy s = bytes_eq s (codes "lru") || (bytes_eq s (codes "fifo") || (bytes_eq s (codes "plru") || bytes_eq s (codes "nmru")))
+is_policy s =
+    bytes_eq s (codes "lru")
+    || (bytes_eq s (codes "fifo") || (bytes_eq s (codes "plru") || bytes_eq s (codes "nmru")))
 
 -- the tree policy halves the ways of a set
 abbrev pub is_uneven_tree : RawCache → Bool
@@ -83,9 +85,13 @@ is_region line shared =
 -- 2: more frames than ways of the second level; 3: its last frame past the memory's
 unfoldable pub room_case : Hardware → Option Refusal
 room_case h =
-    if nat_lt h.l2.ways (shared_frames h) then Some (refusal 11 (pos 2) (pos (shared_frames h)) (pos h.l2.ways))
-    else if nat_le h.frames (last_shared_frame h) then Some (refusal 11 (pos 3) (pos (last_shared_frame h)) (pos h.frames))
+    if nat_lt h.l2.ways (shared_frames h)
+    then Some (refusal 11 (pos 2) (pos (shared_frames h)) (pos h.l2.ways))
+    else if nat_le h.frames (last_shared_frame h)
+    then Some (refusal 11 (pos 3) (pos (last_shared_frame h)) (pos h.frames))
     else None
 
 unfoldable pub k11 : Raw → Option Refusal
-k11 i = if is_region i.line i.shared then room_case (hardware_of i) else Some (refusal 11 (pos 1) i.shared (pos 65536))
+k11 i =
+    if is_region i.line i.shared then room_case (hardware_of i)
+    else Some (refusal 11 (pos 1) i.shared (pos 65536))

@@ -27,7 +27,8 @@ module _ (P : ℕ → Type 0) where
   earlier_holds s None h was is = is
   earlier_holds s (Some g) h was is = either_holds (ltb (clock_of h s.world) (clock_of g s.world)) g h was is
 
-  fold_holds : (s : Harts) (hs : List ℕ) (o : Option ℕ) → IfSome o P → All P hs → IfSome (fold (earlier s) o hs) P
+  fold_holds : (s : Harts) (hs : List ℕ) (o : Option ℕ) → IfSome o P → All P hs
+      → IfSome (fold (earlier s) o hs) P
   fold_holds s [] o was all = was
   fold_holds s (h ∷ hs) o was all = fold_holds s hs (earlier s o h) (earlier_holds s o h was (All-head P h hs all)) (All-tail P h hs all)
 
@@ -41,7 +42,8 @@ module _ (P : ℕ → Type 0) where
   chosen_holds LeastClock j s hs all = fold_holds s hs None tt all
   chosen_holds (Drawn seed) j s hs all = get_holds hs (word (seeded seed) j % length hs) all
 
-  pub holds_of : (c : Choice) (j : ℕ) (s : Harts) (hs : List ℕ) (h : ℕ) → All P hs → chosen c j s hs ≡ Some h → P h
+  pub holds_of : (c : Choice) (j : ℕ) (s : Harts) (hs : List ℕ) (h : ℕ) → All P hs → chosen c j s hs ≡ Some h
+      → P h
   holds_of c j s hs h all e = subst (λ (o : Option ℕ). IfSome o P) e (chosen_holds c j s hs all)
 
 abbrev pub IsLeft : ℕ → Harts → ℕ → ℕ → Type 0
@@ -97,7 +99,8 @@ not_pushed [] h e = cc e
 not_pushed (g ∷ gs) h e = cc e
 
 module _ (n : ℕ) (s : Harts) where
-  none_if : (b : Bool) (m : ℕ) → ltb (slots_of m s) n ≡ b → (left n s m ≡ [] → (h : ℕ) → h < m → n ≤ slots_of h s)
+  none_if : (b : Bool) (m : ℕ) → ltb (slots_of m s) n ≡ b
+      → (left n s m ≡ [] → (h : ℕ) → h < m → n ≤ slots_of h s)
       → (if b then left n s m ++ m ∷ [] else left n s m) ≡ [] → (h : ℕ) → h < suc m → n ≤ slots_of h s
   none_if true m t before e h l = absurd (not_pushed (left n s m) m e)
   none_if false m t before e h l = elim (cases_eq h m) [
@@ -111,7 +114,8 @@ module _ (n : ℕ) (s : Harts) where
   none_left (suc m) e h l = none_if (ltb (slots_of m s) n) m refl (none_left m) e h l
 
 -- where nobody is, each hart has had its slots
-pub nobody : (i : Image) (c : Choice) (n j : ℕ) (s : Harts) → next_hart i c n j s ≡ None → (h : ℕ) → h < harts_in i.all.schedule → n ≤ slots_of h s
+pub nobody : (i : Image) (c : Choice) (n j : ℕ) (s : Harts) → next_hart i c n j s ≡ None → (h : ℕ)
+    → h < harts_in i.all.schedule → n ≤ slots_of h s
 nobody i c n j s e h l = none_left n s (harts_in i.all.schedule) (none_chosen c j s (left n s (harts_in i.all.schedule)) e) h l
 
 pub somebody : SomebodyLaw
@@ -142,7 +146,8 @@ module _ (n : ℕ) (s : Harts) where
     | inr past ↦ inr (omega (arith, le, past), omega (arith, below))
   ]
 
-  first_of_two : (b : Bool) (m h : ℕ) → ltb (clock m) (clock h) ≡ b → IsFirst m (Some h) → IsFirst (suc m) (if b then Some m else Some h)
+  first_of_two : (b : Bool) (m h : ℕ) → ltb (clock m) (clock h) ≡ b → IsFirst m (Some h)
+      → IsFirst (suc m) (if b then Some m else Some h)
   first_of_two true m h t is = (
     omega arith,
     λ g l few. elim (cases_eq g m) [
@@ -185,7 +190,8 @@ module _ (n : ℕ) (s : Harts) where
       → IsFirst (suc m) (least s (if b then left n s m ++ m ∷ [] else left n s m))
   unfolding least
   first_if true m t is =
-      subst (IsFirst (suc m)) (sym (fold-append (earlier s) None (left n s m) (m ∷ []))) (first_pushed m (least s (left n s m)) (ltb-true _ _ t) is)
+      subst (IsFirst (suc m)) (sym (fold-append (earlier s) None (left n s m) (m ∷ [])))
+      (first_pushed m (least s (left n s m)) (ltb-true _ _ t) is)
   first_if false m t is = first_passed m (least s (left n s m)) (ltb-false _ _ t) is
 
   pub first_left : (m : ℕ) → IsFirst m (least s (left n s m))

@@ -21,9 +21,11 @@ use Rattle.hart_orders.specs.Cold.{IsColdL2, IsColdHart}
 
 fresh_sizes : (s : Sizes) → sizes_of (fresh_guesses s) ≡ s
 fresh_sizes s =
-    ap₂ (λ (n m : ℕ). record { counters = n; history = s.history; targets = m }) (length-replicate s.counters 1) (length-replicate s.targets None)
+    ap₂ (λ (n m : ℕ). record { counters = n; history = s.history; targets = m })
+    (length-replicate s.counters 1) (length-replicate s.targets None)
 
-module _ (g : Geometry AnyPolicy) (costs : Costs) (products : Option ProductCosts) (h : Hierarchy) (is : hierarchy_by any_rule g costs products ≡ h)
+module _ (g : Geometry AnyPolicy) (costs : Costs) (products : Option ProductCosts) (h : Hierarchy)
+    (is : hierarchy_by any_rule g costs products ≡ h)
     (l2 : L2Contents AnyPolicy) (below : IsColdL2 h l2) where
   -- what a new core of these sizes is
   pub record IsNewCore (core : CoreContents AnyPolicy) : Type 0 where
@@ -33,7 +35,8 @@ module _ (g : Geometry AnyPolicy) (costs : Costs) (products : Option ProductCost
     pub l1i : shape_of any_rule core.l1i ≡ shape_by any_rule g.l1i
     pub l1d : shape_of any_rule core.l1d ≡ shape_by any_rule g.l1d
     pub tlb : shape_of any_rule core.tlb.pages ≡ shape_by any_rule g.tlb
-    pub fresh : CoreStands any_stands_for core (record { l1i = empty; l1d = empty; tlb = empty; guesses = fresh_guesses g.predictor })
+    pub fresh : CoreStands any_stands_for core
+        (record { l1i = empty; l1d = empty; tlb = empty; guesses = fresh_guesses g.predictor })
 
   module _ (core : CoreContents AnyPolicy) (new : IsNewCore core) where
     abbrev sizes : Sizes
@@ -76,7 +79,8 @@ module _ (g : Geometry AnyPolicy) (costs : Costs) (products : Option ProductCost
       pinned = new.pinned;
       caches = record {
         core =
-            subst (λ (s : Sizes). CoreStands any_stands_for core (record { l1i = empty; l1d = empty; tlb = empty; guesses = fresh_guesses s }))
+            subst (λ (s : Sizes). CoreStands any_stands_for core
+            (record { l1i = empty; l1d = empty; tlb = empty; guesses = fresh_guesses s }))
             (ap (λ (q : Hierarchy). q.predictor) is) new.fresh;
         l2 = below.fresh;
       };

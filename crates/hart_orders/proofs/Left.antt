@@ -51,7 +51,9 @@ module _ (n : ℕ) (s : Harts) where
   past m d = omega arith
 
   no_fewer_later : (m d : ℕ) → length (left n s m) ≤ length (left n s (m + d))
-  no_fewer_later m zero = let none : m ≡ m + 0 = omega arith in subst (λ (k : ℕ). length (left n s m) ≤ length (left n s k)) none (omega arith)
+  no_fewer_later m zero =
+      let none : m ≡ m + 0 = omega arith in
+      subst (λ (k : ℕ). length (left n s m) ≤ length (left n s k)) none (omega arith)
   no_fewer_later m (suc d) =
       let before = no_fewer_later m d in
       let now = no_fewer (m + d) in
@@ -64,7 +66,8 @@ module _ (n : ℕ) (s : Harts) where
       ap (λ (x : ℕ). slice_get (left n s x) k) (past m d) ∙ stays (m + d) k (omega (arith, l, before)) ∙ all_stay m d k l
 
   -- the place of one that has slots left
-  pub placed : (m many : ℕ) → m < many → slots_of m s < n → slice_get (left n s many) (length (left n s m)) ≡ Some m
+  pub placed : (m many : ℕ) → m < many → slots_of m s < n
+      → slice_get (left n s many) (length (left n s m)) ≡ Some m
   placed m many l few =
       let all : many ≡ (m + 1) + (many - (m + 1)) = omega (arith, l) in
       let here = count_more m few in

@@ -41,7 +41,8 @@ module _ (i : Image) (c : Choice) (n : ℕ) where
   AreChosen j s order = (before later : List ℕ) (h : ℕ) → order ≡ before ++ h ∷ later
       → next_hart i c n (j + length before) (after i before s) ≡ Some h
 
-  chosen_if : (f j : ℕ) (s : Harts) → ((t : Harts) → AreChosen (suc j) t (events_from i c n f (suc j) t)) → (o : Option ℕ)
+  chosen_if : (f j : ℕ) (s : Harts) → ((t : Harts) → AreChosen (suc j) t (events_from i c n f (suc j) t))
+      → (o : Option ℕ)
       → next_hart i c n j s ≡ o → AreChosen j s (event_if i c n f j s o)
   unfolding after
   chosen_if f j s rest None is before later h e = absurd (not_nil before later h e)
@@ -73,7 +74,9 @@ module _ (i : Image) (h : ℕ) (s : Harts) where
   abbrev GoesOn : Progress → Type 0
   GoesOn x = (x ≡ record { slots = slots_of h s; inside = true }) ⊎ (x ≡ record { slots = suc (slots_of h s); inside = false })
 
-  goes_if : (b : Bool) (w : World) → GoesOn (progress_of h (if b then proceeds h s w (slots_of h s) true else proceeds h s w (suc (slots_of h s)) false))
+  goes_if : (b : Bool) (w : World)
+      → GoesOn (progress_of h
+      (if b then proceeds h s w (slots_of h s) true else proceeds h s w (suc (slots_of h s)) false))
   goes_if true w = inl (progress-same h s w (slots_of h s) true)
   goes_if false w = inr (progress-same h s w (suc (slots_of h s)) false)
 
@@ -141,7 +144,8 @@ module _ (i : Image) (r : Runnable i) (n : ℕ) where
     run : Running i r s
     run = subst (Running i r) (sym going.is) (running i r going.order going.of_harts)
 
-    early_if : (b : Bool) (h : ℕ) → (progress_of h s).inside ≡ b → h < many → slots_of h s < n → clock_of h s.world < start_on i h n
+    early_if : (b : Bool) (h : ℕ) → (progress_of h s).inside ≡ b → h < many → slots_of h s < n
+        → clock_of h s.world < start_on i h n
     unfolding start
     early_if true h t l few =
         let inside : IsInside i h (slots_of h s) s.world = subst (λ (b : Bool). IsHart i b h (slots_of h s) s.world) t (run.hart h l) in
@@ -159,7 +163,9 @@ module _ (i : Image) (r : Runnable i) (n : ℕ) where
     early h l few = early_if (progress_of h s).inside h refl l few
 
     rises : (h : ℕ) → h < many → clock_of h s.world < clock_of h (next i h s).world
-    rises h l = subst (λ (x : Harts). clock_of h x.world < clock_of h (next i h x).world) (sym going.is) (hart_rises i h going.order r going.of_harts l)
+    rises h l =
+        subst (λ (x : Harts). clock_of h x.world < clock_of h (next i h x).world) (sym going.is)
+        (hart_rises i h going.order r going.of_harts l)
 
     module _ (h : ℕ) (l : h < many) (few : slots_of h s < n) where
       falls : remaining (next i h s) many < remaining s many
@@ -171,10 +177,13 @@ module _ (i : Image) (r : Runnable i) (n : ℕ) where
       few_if p (inr e) = let same = ap (λ (x : Progress). x.slots) e in
           (omega (arith, same, few), λ t. absurd (true≢false (sym t ∙ ap (λ (x : Progress). x.inside) e)))
 
-      few_next : (g : ℕ) → g < many → (slots_of g (next i h s) ≤ n) × ((progress_of g (next i h s)).inside ≡ true → slots_of g (next i h s) < n)
+      few_next : (g : ℕ) → g < many
+          → (slots_of g (next i h s) ≤ n)
+          × ((progress_of g (next i h s)).inside ≡ true → slots_of g (next i h s) < n)
       few_next g there = elim (cases_eq g h) [
         | inl same ↦
-            subst (λ (x : ℕ). (slots_of x (next i h s) ≤ n) × ((progress_of x (next i h s)).inside ≡ true → slots_of x (next i h s) < n)) (sym same)
+            subst (λ (x : ℕ). (slots_of x (next i h s) ≤ n)
+            × ((progress_of x (next i h s)).inside ≡ true → slots_of x (next i h s) < n)) (sym same)
             (few_if (progress_of h (next i h s)) (goes i h s))
         | inr other ↦
             subst (λ (p : Progress). (p.slots ≤ n) × (p.inside ≡ true → p.slots < n)) (sym (hart_stays i g h s other).progress)
@@ -197,7 +206,8 @@ module _ (i : Image) (r : Runnable i) (n : ℕ) where
       pub going : Going s
       pub all : (h : ℕ) → h < many → n ≤ slots_of h s
 
-    at_last : (j : ℕ) (s : Harts) → Going s → remaining s many ≤ 0 → (o : Option ℕ) → next_hart i c n j s ≡ o → Through s
+    at_last : (j : ℕ) (s : Harts) → Going s → remaining s many ≤ 0 → (o : Option ℕ) → next_hart i c n j s ≡ o
+        → Through s
     at_last j s going none None e = record { going = going; all = nobody i c n j s e }
     at_last j s going none (Some h) e =
         let is = has_left i c n j h s e in
@@ -214,7 +224,8 @@ module _ (i : Image) (r : Runnable i) (n : ℕ) where
         let fell = falls s going h is.0 is.1 in
         rest (next i h s) (still s going h is.0 is.1) (omega (arith, most, fell))
 
-    through_from : (f j : ℕ) (s : Harts) → Going s → remaining s many ≤ f → Through (after i (events_from i c n f j s) s)
+    through_from : (f j : ℕ) (s : Harts) → Going s → remaining s many ≤ f
+        → Through (after i (events_from i c n f j s) s)
     unfolding events_from after
     through_from zero j s going most = at_last j s going most (next_hart i c n j s) refl
     through_from (suc f) j s going most = through_if f j s going most (through_from f (suc j)) (next_hart i c n j s) refl
@@ -239,7 +250,8 @@ module _ (i : Image) (r : Runnable i) (n : ℕ) where
 -- ---- the laws
 
 module _ (i : Image) (c : Choice) (n : ℕ) where
-  harts_if : (f j : ℕ) (s : Harts) → ((t : Harts) → AreHartsOf i (events_from i c n f (suc j) t)) → (o : Option ℕ) → next_hart i c n j s ≡ o
+  harts_if : (f j : ℕ) (s : Harts) → ((t : Harts) → AreHartsOf i (events_from i c n f (suc j) t))
+      → (o : Option ℕ) → next_hart i c n j s ≡ o
       → AreHartsOf i (event_if i c n f j s o)
   harts_if f j s rest None e = All-nil (λ (g : ℕ). g < harts_in i.all.schedule)
   harts_if f j s rest (Some h) e =
@@ -263,5 +275,7 @@ through i c n h r l =
     let there = ends i r n c in
     let few = there.going.few h l in
     let all = there.all h l in
-    let outside = outside_if (progress_of h (harts i (order_of i c n))).inside (λ t. let less = there.going.inside h l t in omega (arith, all, less)) in
+    let outside =
+    outside_if (progress_of h (harts i (order_of i c n))).inside
+    (λ t. let less = there.going.inside h l t in omega (arith, all, less)) in
     (omega (arith, few, all), hart_between i h (order_of i c n) r (harts_law i c n) l outside)

@@ -27,7 +27,8 @@ use Rattle.world_view.proofs.harts.OnHart.{separated_on}
 
 -- ---- prefetch and flush, beside caches in which the kernel's lines are pinned
 
-one_touch : (h : Hierarchy) (pinned : Bool) (c : Caches) (t : Touch) → (touched_all h pinned c (t ∷ [])).cost ≡ (touched h pinned c t).cost
+one_touch : (h : Hierarchy) (pinned : Bool) (c : Caches) (t : Touch)
+    → (touched_all h pinned c (t ∷ [])).cost ≡ (touched h pinned c t).cost
 unfolding touched_all and_then
 one_touch h pinned c t = omega arith
 
@@ -119,7 +120,8 @@ module _ (i : Image) (h : ℕ) where
 
     record Leaves (k : ℕ) (c : Caches) : Type 0 where
       cost : (away k c).cost ≡ (leaving k).cost
-      beside : sharing.BesideCaches (hierarchy p) (left_colours on (outgoing on.all.schedule k)) (region p) c.l2 (away k c).caches (leaving k).caches
+      beside : sharing.BesideCaches (hierarchy p) (left_colours on (outgoing on.all.schedule k)) (region p)
+          c.l2 (away k c).caches (leaving k).caches
 
     leaves_at : (k : ℕ) (w : World) → Before k w → Leaves k (caches_of h w)
     unfolding leave_by guarded leaving cold
@@ -134,7 +136,9 @@ module _ (i : Image) (h : ℕ) where
     leaves_at (suc k) w b =
         let c = caches_of h w in
         let near = b.leaves in
-        let did = own_touches p (its k) (kernel k) c (leave p.costs (layout p (its k))) c (ended k).caches (leave_may p (its k) (kernel k) (region p))
+        let did =
+        own_touches p (its k) (kernel k) c (leave p.costs (layout p (its k))) c (ended k).caches
+        (leave_may p (its k) (kernel k) (region p))
         (record {
           core = near.core;
           dirty = b.time.dirty;
@@ -147,7 +151,8 @@ module _ (i : Image) (h : ℕ) where
     abbrev settled : ℕ → Caches → Caches
     settled k c = left on r_on (domain_in i h k) (r_on.named k) (outgoing on.all.schedule k) c
 
-    sets_if : (k : ℕ) (w : World) (b : Bool) → eqb (entry_of_slot on.all.schedule k).domain (domain_in i h (suc k)) ≡ b → InTime on h (suc k) w
+    sets_if : (k : ℕ) (w : World) (b : Bool)
+        → eqb (entry_of_slot on.all.schedule k).domain (domain_in i h (suc k)) ≡ b → InTime on h (suc k) w
         → JoinedIf on (domain_in i h (suc k)) k b (part_of h (domain_in i h (suc k)) w)
         → SameSets p (its (suc k)) (settled (suc k) (caches_of h w))
         (alone_if on.all (its (suc k)) k (alone on.all (its (suc k)) (domain_in i h (suc k)) k) b).caches
@@ -165,7 +170,8 @@ module _ (i : Image) (h : ℕ) where
         → SameSets p (its k) (settled k (caches_of h w)) (alone on.all (its k) (domain_in i h k) k).caches
     unfolding alone
     sets_at zero w b s own =
-        others_left on r_on (domain_in i h 0) (r_on.named 0) 0 (caches_of h w) (λ q. absurd (cc q)) b.time.dirty s own ∙ b.enters.part.sets s own
+        others_left on r_on (domain_in i h 0) (r_on.named 0) 0 (caches_of h w) (λ q. absurd (cc q))
+        b.time.dirty s own ∙ b.enters.part.sets s own
     sets_at (suc k) w b s own = sets_if k w _ refl b.time b.enters s own
 
     -- ---- all of it
@@ -176,7 +182,9 @@ module _ (i : Image) (h : ℕ) where
     work_is k w b =
         let c = caches_of h w in
         let gone = leaves_at k w b in
-        let ready = prepares p (left_colours on (outgoing on.all.schedule k)) (shares k) c.l2 (away k c).caches (leaving k).caches gone.beside in
+        let ready =
+        prepares p (left_colours on (outgoing on.all.schedule k)) (shares k) c.l2 (away k c).caches
+        (leaving k).caches gone.beside in
         let into = (entered p (its k) (kernel k) (away k c).caches (alone on.all (its k) (domain_in i h k) k).caches (sets_at k w b)).cost in
         let left_cost = gone.cost in
         omega (arith, left_cost, ready, into)

@@ -21,17 +21,20 @@ use Rattle.world_view.proofs.harts.Runs.{Running, Next, next_so, progress-same}
 
 -- ---- after more events
 
-appended : (i : Image) (order more : List ℕ) (s : Harts) → after i (order ++ more) s ≡ after i more (after i order s)
+appended : (i : Image) (order more : List ℕ) (s : Harts)
+    → after i (order ++ more) s ≡ after i more (after i order s)
 unfolding after
 appended i [] more s = refl
 appended i (g ∷ order) more s = appended i order more (next i g s)
 
-pub harts_appended : (i : Image) (order more : List ℕ) → harts i (order ++ more) ≡ after i more (harts i order)
+pub harts_appended : (i : Image) (order more : List ℕ)
+    → harts i (order ++ more) ≡ after i more (harts i order)
 unfolding harts
 harts_appended i order more = appended i order more _
 
 -- a switch ends no slot
-pub slots_begun : (i : Image) (h : ℕ) (s : Harts) → (progress_of h s).inside ≡ false → slots_of h (next i h s) ≡ slots_of h s
+pub slots_begun : (i : Image) (h : ℕ) (s : Harts) → (progress_of h s).inside ≡ false
+    → slots_of h (next i h s) ≡ slots_of h s
 unfolding next begins
 slots_begun i h s outside =
     ap (λ (b : Bool). slots_of h (if b then goes_on i h s else begins i h s)) outside
@@ -49,8 +52,10 @@ module _ (i : Image) (r : Runnable i) (h : ℕ) where
         part_of h d later.world ≡ f (setting i.all.hardware (own_of i d) false) (end_on i h k) (part_of h d s.world)
     pub doms : (e : ℕ) → e ≢ domain_in i h k → dom_of later.world e ≡ dom_of s.world e
     pub used : later.world.used ≡ s.world.used
-    pub soon : clock_of h later.world < end_on i h k → progress_of h later ≡ record { slots = k; inside = true }
-    pub over : end_on i h k ≤ clock_of h later.world → progress_of h later ≡ record { slots = suc k; inside = false }
+    pub soon : clock_of h later.world < end_on i h k
+        → progress_of h later ≡ record { slots = k; inside = true }
+    pub over : end_on i h k ≤ clock_of h later.world
+        → progress_of h later ≡ record { slots = suc k; inside = false }
     pub others : Next i r h s later
 
   -- what one event after the other leaves of another hart's domain
@@ -157,7 +162,8 @@ module _ (i : Image) (r : Runnable i) (h : ℕ) where
       pub ran : Ran k stretch s (after i (replicate events h) s)
       pub past : end ≤ clock_of h (after i (replicate events h) s).world
 
-    none_left : (s : Harts) → Running i r s → progress_of h s ≡ record { slots = suc k; inside = false } → end ≤ clock_of h s.world
+    none_left : (s : Harts) → Running i r s → progress_of h s ≡ record { slots = suc k; inside = false }
+        → end ≤ clock_of h s.world
         → Whole s
     unfolding after
     none_left s run ended past = record {
@@ -173,7 +179,8 @@ module _ (i : Image) (r : Runnable i) (h : ℕ) where
       past = past;
     }
 
-    one_more : (s : Harts) (run : Running i r s) → progress_of h s ≡ record { slots = k; inside = true } → Whole (next i h s) → Whole s
+    one_more : (s : Harts) (run : Running i r s) → progress_of h s ≡ record { slots = k; inside = true }
+        → Whole (next i h s) → Whole s
     unfolding after
     one_more s run far rest =
         let one = one_event s run far in

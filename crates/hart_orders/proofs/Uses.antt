@@ -28,7 +28,8 @@ use Rattle.hart_orders.proofs.SwitchCosts.{Before, clock_before, took, cycles_is
 
 -- ---- one switch more
 
-push_if : (e j c : ℕ) (us vs : List (ℕ × ℕ)) → SameUse e us vs → (j ≡ e) ⊎ (j ≢ e) → SameUse e (us ++ (j, c) ∷ []) (vs ++ (j, c) ∷ [])
+push_if : (e j c : ℕ) (us vs : List (ℕ × ℕ)) → SameUse e us vs → (j ≡ e) ⊎ (j ≢ e)
+    → SameUse e (us ++ (j, c) ∷ []) (vs ++ (j, c) ∷ [])
 push_if e j c us vs same (inl is) = subst (λ (n : ℕ). SameUse e (us ++ (n, c) ∷ []) (vs ++ (n, c) ∷ [])) (sym is) (record {
   largest = largest_of-push_same e c us ∙ ap (λ (n : ℕ). max n c) same.largest ∙ sym (largest_of-push_same e c vs);
   count = count_of-push_same e c us ∙ ap (λ (n : ℕ). n + 1) same.count ∙ sym (count_of-push_same e c vs);
@@ -39,7 +40,8 @@ push_if e j c us vs same (inr other) = record {
 }
 
 -- of its entry or another
-pub pushed : (e j c : ℕ) (us vs : List (ℕ × ℕ)) → SameUse e us vs → SameUse e (us ++ (j, c) ∷ []) (vs ++ (j, c) ∷ [])
+pub pushed : (e j c : ℕ) (us vs : List (ℕ × ℕ)) → SameUse e us vs
+    → SameUse e (us ++ (j, c) ∷ []) (vs ++ (j, c) ∷ [])
 pushed e j c us vs same = push_if e j c us vs same (cases_eq j e)
 
 -- of another
@@ -109,7 +111,8 @@ module _ (i : Image) (r : Runnable i) (g : ℕ) (first_is : g < harts_in i.all.s
         → SameUse e begun.used (uses h (switches (progress_of h (proceeds h s begun k true))))
     unfolding uses
     own_begun e took_is told =
-        let before : SameUse e s.world.used (uses h k) = subst (λ (b : Bool). SameUse e s.world.used (uses h (if b then k + 1 else k))) outside told in
+        let before : SameUse e s.world.used (uses h k) =
+        subst (λ (b : Bool). SameUse e s.world.used (uses h (if b then k + 1 else k))) outside told in
         let after : SameUse e (s.world.used ++ (place h k, cycles h k s.world) ∷ []) (uses h (suc k)) =
         subst (λ (c : ℕ). SameUse e (s.world.used ++ (place h k, cycles h k s.world) ∷ []) (uses h k ++ (place h k, c) ∷ [])) took_is
         (pushed e (place h k) (cycles h k s.world) s.world.used (uses h k) before) in
@@ -118,21 +121,26 @@ module _ (i : Image) (r : Runnable i) (g : ℕ) (first_is : g < harts_in i.all.s
         (sym (progress-same h s begun k true))
         (subst (λ (n : ℕ). SameUse e (s.world.used ++ (place h k, cycles h k s.world) ∷ []) (uses h n)) (sym (add-one k)) after))
 
-    begun_if : (e f : ℕ) → (entry_in i.all.schedule e).hart ≡ f → cycles h k s.world ≡ took_by h k → (f ≡ h) ⊎ (f ≢ h)
+    begun_if : (e f : ℕ) → (entry_in i.all.schedule e).hart ≡ f → cycles h k s.world ≡ took_by h k
+        → (f ≡ h) ⊎ (f ≢ h)
         → SameUse e s.world.used (uses f (switches (progress_of f s)))
         → SameUse e begun.used (uses f (switches (progress_of f (proceeds h s begun k true))))
     begun_if e f home took_is (inl same) told =
         subst (λ (n : ℕ). SameUse e begun.used (uses n (switches (progress_of n (proceeds h s begun k true))))) (sym same)
         (own_begun e took_is (subst (λ (n : ℕ). SameUse e s.world.used (uses n (switches (progress_of n s)))) same told))
     begun_if e f home took_is (inr other) told =
-        let apart : place h k ≢ e = λ q. other (sym home ∙ ap (λ (n : ℕ). (entry_in i.all.schedule n).hart) (sym q) ∙ (placed_switch i r h is k).hart) in
+        let apart : place h k ≢ e =
+        λ q. other (sym home ∙ ap (λ (n : ℕ). (entry_in i.all.schedule n).hart) (sym q)
+        ∙ (placed_switch i r h is k).hart) in
         subst (λ (x : Progress). SameUse e begun.used (uses f (switches x))) (sym (progress-other f h s begun k true other))
         (subst (λ (us : List (ℕ × ℕ)). SameUse e us (uses f (switches (progress_of f s)))) (sym noted_same)
         (pushed_apart e (place h k) (cycles h k s.world) s.world.used _ told apart))
 
     begun_told : cycles h k s.world ≡ took_by h k → AreTold (begins i h s)
     unfolding begins proceeds
-    begun_told took_is e l = begun_if e (entry_in i.all.schedule e).hart refl took_is (cases_eq (entry_in i.all.schedule e).hart h) (used e l)
+    begun_told took_is e l =
+        begun_if e (entry_in i.all.schedule e).hart refl took_is (cases_eq (entry_in i.all.schedule e).hart h)
+        (used e l)
 
   -- ---- one event in a slot
 
@@ -162,7 +170,8 @@ module _ (i : Image) (r : Runnable i) (g : ℕ) (first_is : g < harts_in i.all.s
         subst (λ (us : List (ℕ × ℕ)). SameUse e us (uses f (switches (progress_of f (proceeds h s ran m b))))) (sym ran_used)
         (subst (λ (n : ℕ). SameUse e s.world.used (uses f n)) (sym (as_many m b still f (cases_eq f h))) (used e l))
 
-    goes_if : (b : Bool) → AreTold (if b then proceeds h s ran slot true else proceeds h s ran (suc slot) false)
+    goes_if : (b : Bool)
+        → AreTold (if b then proceeds h s ran slot true else proceeds h s ran (suc slot) false)
     goes_if true = went_told slot true refl
     goes_if false = went_told (suc slot) false (sym (add-one slot))
 
@@ -173,8 +182,11 @@ module _ (i : Image) (r : Runnable i) (g : ℕ) (first_is : g < harts_in i.all.s
   -- ---- after an event of it a hart isn't as at first
 
   module _ (h : ℕ) (s : Harts) where
-    went_if : (b : Bool) (w : World) (k : ℕ) → progress_of h (if b then proceeds h s w k true else proceeds h s w (suc k) false) ≢ never
-    went_if true w k q = absurd (true≢false (sym (ap (λ (x : Progress). x.inside) (progress-same h s w k true)) ∙ ap (λ (x : Progress). x.inside) q))
+    went_if : (b : Bool) (w : World) (k : ℕ)
+        → progress_of h (if b then proceeds h s w k true else proceeds h s w (suc k) false) ≢ never
+    went_if true w k q =
+        absurd (true≢false (sym (ap (λ (x : Progress). x.inside) (progress-same h s w k true))
+        ∙ ap (λ (x : Progress). x.inside) q))
     went_if false w k q =
         let some = ap (λ (x : Progress). x.slots) (progress-same h s w (suc k) false) in
         let none = ap (λ (x : Progress). x.slots) q in
@@ -182,7 +194,9 @@ module _ (i : Image) (r : Runnable i) (g : ℕ) (first_is : g < harts_in i.all.s
 
     moved_if : (b : Bool) → progress_of h (if b then goes_on i h s else begins i h s) ≢ never
     unfolding goes_on begins
-    moved_if true = went_if (ltb (clock_of h (runs i h (slots_of h s) s.world)) (end_on i h (slots_of h s))) (runs i h (slots_of h s) s.world) (slots_of h s)
+    moved_if true =
+        went_if (ltb (clock_of h (runs i h (slots_of h s) s.world)) (end_on i h (slots_of h s)))
+        (runs i h (slots_of h s) s.world) (slots_of h s)
     moved_if false = went_if true (begun_world i h s) (slots_of h s)
 
     moved : progress_of h (next i h s) ≢ never
@@ -190,25 +204,29 @@ module _ (i : Image) (r : Runnable i) (g : ℕ) (first_is : g < harts_in i.all.s
     moved = moved_if (progress_of h s).inside
 
   -- whose boot has been, of it and of the others
-  booted_if : (h : ℕ) (s : Harts) → (g ≡ h) ⊎ (g ≢ h) → progress_of g s ≢ never → progress_of g (next i h s) ≢ never
+  booted_if : (h : ℕ) (s : Harts) → (g ≡ h) ⊎ (g ≢ h) → progress_of g s ≢ never
+      → progress_of g (next i h s) ≢ never
   booted_if h s (inl same) was = subst (λ (n : ℕ). progress_of n (next i h s) ≢ never) (sym same) (moved h s)
   booted_if h s (inr other) was = λ q. was (sym (hart_stays i g h s other).progress ∙ q)
 
-  fresh_if : (h f : ℕ) (s : Harts) → (f ≡ h) ⊎ (f ≢ h) → (progress_of f s ≡ never → hart_of f s.world ≡ hart_of f (harts i []).world)
+  fresh_if : (h f : ℕ) (s : Harts) → (f ≡ h) ⊎ (f ≢ h)
+      → (progress_of f s ≡ never → hart_of f s.world ≡ hart_of f (harts i []).world)
       → progress_of f (next i h s) ≡ never → hart_of f (next i h s).world ≡ hart_of f (harts i []).world
   fresh_if h f s (inl same) was now = absurd (moved h s (subst (λ (n : ℕ). progress_of n (next i h s) ≡ never) same now))
   fresh_if h f s (inr other) was now =
       let stays = hart_stays i f h s other in stays.hart ∙ was (sym stays.progress ∙ now)
 
   -- then all shared lines are there
-  there_if : (s : Harts) → progress_of g s ≢ never → (s ≡ harts i []) ⊎ Resident p (caches_of 0 s.world) → Resident p (caches_of 0 s.world)
+  there_if : (s : Harts) → progress_of g s ≢ never → (s ≡ harts i []) ⊎ Resident p (caches_of 0 s.world)
+      → Resident p (caches_of 0 s.world)
   there_if s booted (inl first) = absurd (booted (ap (progress_of g) first ∙ at_first i r g))
   there_if s booted (inr there) = there
 
   -- ---- a switch that isn't the first of all
 
   module _ (h : ℕ) (is : h < many) (s : Harts) (t : Told s) (outside : (progress_of h s).inside ≡ false) where
-    met : (n k : ℕ) → slots_of h s ≡ k → Joined (image_on i h) (domain_in i h n) k (part_of h (domain_in i h n) s.world)
+    met : (n k : ℕ) → slots_of h s ≡ k
+        → Joined (image_on i h) (domain_in i h n) k (part_of h (domain_in i h n) s.world)
     met n k same =
         let d = domain_in i h n in
         subst (λ (m : ℕ). Joined (image_on i h) d m (part_of h d s.world)) same
@@ -233,13 +251,20 @@ module _ (i : Image) (r : Runnable i) (g : ℕ) (first_is : g < harts_in i.all.s
 
     before : (k : ℕ) → slots_of h s ≡ k → Before i h k s.world
     unfolding clock_before
-    before zero same = record { time = in_time 0 same; there = t.there; clock = cold_clock same; leaves = cold_core same; enters = met 0 0 same }
+    before zero same = record {
+      time = in_time 0 same;
+      there = t.there;
+      clock = cold_clock same;
+      leaves = cold_core same;
+      enters = met 0 0 same;
+    }
     before (suc k) same =
         let d = domain_in i h k in
         let left = subst (λ (b : Bool). JoinedIf (image_on i h) d k b (part_of h d s.world)) (eq-eqb d d refl) (met k (suc k) same) in
         record { time = in_time (suc k) same; there = t.there; clock = left.clock; leaves = left; enters = met (suc k) (suc k) same }
 
-    not_first : (b : Bool) → eqb h g ≡ b → slots_of h s ≡ 0 → cond b (cycles g 0 (harts i []).world) (took i h 0) ≡ took i h 0
+    not_first : (b : Bool) → eqb h g ≡ b → slots_of h s ≡ 0
+        → cond b (cycles g 0 (harts i []).world) (took i h 0) ≡ took i h 0
     not_first true same none =
         let at : progress_of h s ≡ never = ap₂ (λ (n : ℕ) (b : Bool). record { slots = n; inside = b }) none outside in
         absurd (t.booted (subst (λ (n : ℕ). progress_of n s ≡ never) (eqb-true h g same) at))
@@ -311,7 +336,8 @@ module _ (i : Image) (r : Runnable i) (g : ℕ) (first_is : g < harts_in i.all.s
   unfolding next
   first_used =
       subst (λ (b : Bool). AreTold (if b then goes_on i g start else begins i g start)) (sym outside_first)
-      (begun_told g first_is start outside_first start_used (first_took (slots_of g start) (ap (λ (x : Progress). x.slots) (at_first i r g))))
+      (begun_told g first_is start outside_first start_used
+      (first_took (slots_of g start) (ap (λ (x : Progress). x.slots) (at_first i r g))))
 
   first_told : Told (next i g start)
   first_told =

@@ -17,7 +17,8 @@ use Rattle.hart_orders.specs.declared.choice.Choice.TheVariants.{LeastClock}
 
 -- each event is of the hart that is chosen after those before it
 abbrev pub EachChosenLaw : Type 0
-EachChosenLaw = (i : Image) (c : Choice) (n h : ℕ) (before later : List ℕ) → order_of i c n ≡ before ++ h ∷ later
+EachChosenLaw =
+    (i : Image) (c : Choice) (n h : ℕ) (before later : List ℕ) → order_of i c n ≡ before ++ h ∷ later
     → next_hart i c n (length before) (harts i before) ≡ Some h
 
 -- who is chosen is one of the image's harts, and has slots left
@@ -27,7 +28,8 @@ HasLeftLaw = (i : Image) (c : Choice) (n j h : ℕ) (s : Harts) → next_hart i 
 
 -- somebody is, while a hart has slots left
 abbrev pub SomebodyLaw : Type 0
-SomebodyLaw = (i : Image) (c : Choice) (n j h : ℕ) (s : Harts) → h < harts_in i.all.schedule → slots_of h s < n
+SomebodyLaw =
+    (i : Image) (c : Choice) (n j h : ℕ) (s : Harts) → h < harts_in i.all.schedule → slots_of h s < n
     → next_hart i c n j s ≢ None
 
 -- by clocks: no other that has slots left has a lower clock, nor the same and a lower number
@@ -51,7 +53,8 @@ ThroughLaw = (i : Image) (c : Choice) (n h : ℕ) → Runnable i → h < harts_i
 
 -- whatever the choice, of each domain what is seen of it alone, by the entries of its hart
 abbrev pub ChoiceLaw : Type 0
-ChoiceLaw = (i : Image) (c : Choice) (n d : ℕ) → Runnable i → IsDomain i d → view_in i d (ran i c n) ≡ view_alone_on i d n
+ChoiceLaw = (i : Image) (c : Choice) (n d : ℕ) → Runnable i → IsDomain i d
+    → view_in i d (ran i c n) ≡ view_alone_on i d n
 
 -- and no switch overran its pad
 abbrev pub ChoicePadLaw : Type 0

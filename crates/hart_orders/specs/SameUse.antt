@@ -15,7 +15,8 @@ pub record SameUse (e : ℕ) (us vs : List (ℕ × ℕ)) : Type 0 where
 -- what an entry's switches took is the same after two orders that begin with the same hart's event, where the entry's hart has
 -- had as many switches: whatever the other harts did, and when. The first event of all loads the lines that domains share
 abbrev pub SameUseLaw : Type 0
-SameUseLaw = (i : Image) (e : ℕ) (one two : List ℕ) → Runnable i → e < length i.all.schedule → AreHartsOf i one → AreHartsOf i two
+SameUseLaw = (i : Image) (e : ℕ) (one two : List ℕ) → Runnable i → e < length i.all.schedule
+    → AreHartsOf i one → AreHartsOf i two
     → slice_get one 0 ≡ slice_get two 0 →
     let h = (entry_in i.all.schedule e).hart in
     switches_of h (harts i one) ≡ switches_of h (harts i two)

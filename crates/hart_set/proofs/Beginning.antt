@@ -72,7 +72,8 @@ module _ (i : Image) (r : Runnable i) (s : Harts) (t : State) (run : Running i r
   ended = let over = time.over in omega (arith, over, was.machine.time)
 
   -- a domain's kernel clone is one of the code's hierarchy
-  clone_like : (e : ℕ) (l : CloneLayout) → IsDomain i e → layout_model l ≡ layout p (own_of i e) → IsCloneOn (hierarchy_of any_rule (system x.core t.l2)) l
+  clone_like : (e : ℕ) (l : CloneLayout) → IsDomain i e → layout_model l ≡ layout p (own_of i e)
+      → IsCloneOn (hierarchy_of any_rule (system x.core t.l2)) l
   unfolding hierarchy layout
   clone_like e l ie same = record {
     layout = subst IsLayout (sym same) (kernel_of i (separated i r) e ie).has_layout;
@@ -84,7 +85,8 @@ module _ (i : Image) (r : Runnable i) (s : Harts) (t : State) (run : Running i r
   clone_on e y ie got_e = clone_like e y.layout ie (is.each_domain e y got_e).layout
 
   -- so is that of who leaves
-  clone_if : (o : Option ℕ) → ((e : ℕ) → o ≡ Some e → IsDomain i e) → (out : Option CloneLayout) → option_map layout_model out ≡ clone_of on o
+  clone_if : (o : Option ℕ) → ((e : ℕ) → o ≡ Some e → IsDomain i e) → (out : Option CloneLayout)
+      → option_map layout_model out ≡ clone_of on o
       → IfSome out (IsCloneOn (hierarchy_of any_rule (system x.core t.l2)))
   clone_if o named None same = tt
   clone_if None named (Some l) same = absurd (cc same)
@@ -94,12 +96,14 @@ module _ (i : Image) (r : Runnable i) (s : Harts) (t : State) (run : Running i r
   leaves_named zero e same = absurd (cc same)
   leaves_named (suc n) e same = subst (IsDomain i) (same_Some _ _ same) ((separated_on i r h below).named n)
 
-  pub leaves_on : (n : ℕ) (out : Option CloneLayout) → option_map layout_model out ≡ clone_of on (outgoing (on_hart i.all.schedule h) n)
+  pub leaves_on : (n : ℕ) (out : Option CloneLayout)
+      → option_map layout_model out ≡ clone_of on (outgoing (on_hart i.all.schedule h) n)
       → IfSome out (IsCloneOn (hierarchy_of any_rule (system x.core t.l2)))
   leaves_on n out same = clone_if (outgoing (on_hart i.all.schedule h) n) (leaves_named n) out same
 
   -- what the code's switch is given and gives
-  pub record Switching (out : Option Layout) (into : Layout) (core' : CoreContents AnyPolicy) (l2' : L2Contents AnyPolicy) (used now : ℕ) : Type 0 where
+  pub record Switching (out : Option Layout) (into : Layout) (core' : CoreContents AnyPolicy)
+      (l2' : L2Contents AnyPolicy) (used now : ℕ) : Type 0 where
     pub out_is : out ≡ clone_of on (outgoing (on_hart i.all.schedule h) k)
     pub into_is : into ≡ layout p (own_of i d)
     pub levels : hierarchy_of any_rule (system core' l2') ≡ hierarchy_of any_rule (system x.core t.l2)
@@ -129,12 +133,14 @@ module _ (i : Image) (r : Runnable i) (s : Harts) (t : State) (run : Running i r
     work_is : given ≡ work
     unfolding given
     work_is =
-        ap₂ (λ (q : Hierarchy) (b : Bool). touched_all q b c (operations.switch x.core.costs out into)) (sym was.machine.levels) was.machine.pinned
+        ap₂ (λ (q : Hierarchy) (b : Bool). touched_all q b c (operations.switch x.core.costs out into))
+        (sym was.machine.levels) was.machine.pinned
         ∙ ap (λ (q : CostTable). touched_all (hierarchy p) false c (operations.switch q out into)) costs_are
         ∙ ap₂ (λ (o : Option Layout) (l : Layout). touched_all (hierarchy p) false c (operations.switch p.costs o l)) did.out_is did.into_is
         ∙ sym (switch_is on (outgoing (on_hart i.all.schedule h) k) d c)
 
-    switched : IsSwitched any_stands_for (last_end (on_hart i.all.schedule h) k) x.clock used (system core' l2') work
+    switched : IsSwitched any_stands_for (last_end (on_hart i.all.schedule h) k) x.clock used
+        (system core' l2') work
     unfolding given
     switched =
         subst (IsSwitched any_stands_for (last_end (on_hart i.all.schedule h) k) x.clock used (system core' l2')) work_is
@@ -146,7 +152,8 @@ module _ (i : Image) (r : Runnable i) (s : Harts) (t : State) (run : Running i r
     abbrev begun : World
     begun = noted place (cycles_on (guarded on) on h k s.world) (switch_on (guarded on) on h k s.world)
 
-    machine_after : MachineStands p (hierarchy p) false t.memory (system core' l2') now begun.storage (caches_of h begun) (clock_of h begun)
+    machine_after : MachineStands p (hierarchy p) false t.memory (system core' l2') now begun.storage
+        (caches_of h begun) (clock_of h begun)
     unfolding switch_on guarded with_hart
     machine_after =
         let used_is = switched.time in
@@ -180,14 +187,18 @@ module _ (i : Image) (r : Runnable i) (s : Harts) (t : State) (run : Running i r
       pub harts : t'.harts.items ≡ set t.harts.items h x'
       pub domains : t'.domains.items ≡ t.domains.items
       pub long : length t'.used.items ≡ length t.used.items
-      pub noted : (us : List (ℕ × ℕ)) → IsUsed t.used.items us → IsUsed t'.used.items (us ++ (place, used) ∷ [])
+      pub noted : (us : List (ℕ × ℕ)) → IsUsed t.used.items us
+          → IsUsed t'.used.items (us ++ (place, used) ∷ [])
 
     module _ (slot : Slot) (t' : State) (x' : CodeHart) (b : Begun slot t' x') where
-      machine_there : MachineStands p (hierarchy p) false t'.memory (system x'.core t'.l2) x'.clock begun.storage (caches_of h begun) (clock_of h begun)
+      machine_there : MachineStands p (hierarchy p) false t'.memory (system x'.core t'.l2) x'.clock
+          begun.storage (caches_of h begun) (clock_of h begun)
       machine_there =
-          subst₂ (λ (c : CoreContents AnyPolicy) (l : L2Contents AnyPolicy). MachineStands p (hierarchy p) false t'.memory (system c l) x'.clock begun.storage (caches_of h begun) (clock_of h begun))
+          subst₂ (λ (c : CoreContents AnyPolicy) (l : L2Contents AnyPolicy). MachineStands p (hierarchy p)
+          false t'.memory (system c l) x'.clock begun.storage (caches_of h begun) (clock_of h begun))
           (sym b.core) (sym b.l2)
-          (subst₂ (λ (z : Contents) (n : ℕ). MachineStands p (hierarchy p) false z (system core' l2') n begun.storage (caches_of h begun) (clock_of h begun))
+          (subst₂ (λ (z : Contents) (n : ℕ). MachineStands p (hierarchy p) false z (system core' l2') n
+          begun.storage (caches_of h begun) (clock_of h begun))
           (sym b.memory) (sym b.clock) machine_after)
 
       abbrev later : Harts
@@ -201,15 +212,20 @@ module _ (i : Image) (r : Runnable i) (s : Harts) (t : State) (run : Running i r
         slots = b.slots ∙ was.slots;
         slot = b.slot ∙ ap₂ (λ (n m : ℕ). Some (record { domain = n; end = m })) b.domain b.end;
         leaves =
-            subst (λ (o : Option Slot). IfSome o (λ y. KeepsLeaves begun.storage.mem t'.memory.frames (root_of p (own_of i y.domain)) x'.core.tlb))
+            subst (λ (o : Option Slot). IfSome o (λ y.
+            KeepsLeaves begun.storage.mem t'.memory.frames (root_of p (own_of i y.domain)) x'.core.tlb))
             (sym b.slot)
-            (subst (λ (q : CoreContents AnyPolicy). KeepsLeaves begun.storage.mem t'.memory.frames (root_of p (own_of i slot.domain)) q.tlb) (sym b.core)
+            (subst (λ (q : CoreContents AnyPolicy).
+            KeepsLeaves begun.storage.mem t'.memory.frames (root_of p (own_of i slot.domain)) q.tlb)
+            (sym b.core)
             (did.kept begun.storage.mem t'.memory.frames (root_of p (own_of i slot.domain))));
         harts = b.harts;
         all_domains = ap length b.domains ∙ is.all_domains;
         each_domain = λ e z got_e. is.each_domain e z (subst (λ (ys : List Domain). slice_get ys e ≡ Some z) b.domains got_e);
         all_entries = b.long ∙ is.all_entries;
-        each_entry = subst (λ (n : ℕ). IsUsed t'.used.items (s.world.used ++ (place, n) ∷ [])) (sym cycles_are) (b.noted s.world.used is.each_entry);
+        each_entry =
+            subst (λ (n : ℕ). IsUsed t'.used.items (s.world.used ++ (place, n) ∷ [])) (sym cycles_are)
+            (b.noted s.world.used is.each_entry);
       }
 
       next_is : next i h s ≡ later
@@ -219,4 +235,5 @@ module _ (i : Image) (r : Runnable i) (s : Harts) (t : State) (run : Running i r
       pub stands_begun : StandsFor i (next i h s) t'
       stands_begun =
           subst (λ (z : Harts). StandsFor i z t') (sym next_is)
-          (stands_next i r s t run is h below x got later k true t' x' after_begin (subst (Next i r h s) next_is (next_so i r h below s run)))
+          (stands_next i r s t run is h below x got later k true t' x' after_begin
+          (subst (Next i r h s) next_is (next_so i r h below s run)))

@@ -60,7 +60,8 @@ switches_few : (b : Bool) (k : ℕ) → k ≤ 65536 → (if b then k + 1 else k)
 switches_few true k few = omega (arith, few)
 switches_few false k few = omega (arith, few)
 
-module _ (i : Image) (r : Runnable i) (s : Harts) (t : State) (run : Running i r s) (is : StandsFor i s t) (bounds : IsInBounds i t) (x : CodeHart) where
+module _ (i : Image) (r : Runnable i) (s : Harts) (t : State) (run : Running i r s) (is : StandsFor i s t)
+    (bounds : IsInBounds i t) (x : CodeHart) where
   slots_few : (h : ℕ) → h < harts_in i.all.schedule → slots_of h s ≤ 65536
   slots_few h below =
       let within : h < length t.harts.items = omega (arith, below, is.all_harts) in
@@ -70,7 +71,8 @@ module _ (i : Image) (r : Runnable i) (s : Harts) (t : State) (run : Running i r
       omega (arith, few, same)
 
   -- the hart of an entry is there
-  hart_there : (e : ℕ) → e < length i.all.schedule → (entry_in i.all.schedule e).hart < harts_in i.all.schedule
+  hart_there : (e : ℕ) → e < length i.all.schedule
+      → (entry_in i.all.schedule e).hart < harts_in i.all.schedule
   hart_there e there =
       subst (λ (n : ℕ). n < harts_in i.all.schedule) (domain_hart_law i.all.schedule e r.harts there)
       (hart_there_law i.all.schedule (entry_in i.all.schedule e).domain r.schedule.some)
@@ -95,12 +97,14 @@ pub record IsCounted (i : Image) (h : ℕ) (now d : ℕ) (y : Domain) : Type 0 w
 
 module _ (i : Image) (t t' : State) (h : ℕ) (x x' : CodeHart) (got : slice_get t.harts.items h ≡ Some x) (bounds : IsInBounds i t)
     (few : x'.slots ≤ 65536) (later : x.clock ≤ x'.clock) (harts : t'.harts.items ≡ set t.harts.items h x')
-    (domains : (d : ℕ) (y : Domain) → slice_get t'.domains.items d ≡ Some y → IsCounted i h x'.clock d y ⊎ (slice_get t.domains.items d ≡ Some y)) where
+    (domains : (d : ℕ) (y : Domain) → slice_get t'.domains.items d ≡ Some y
+    → IsCounted i h x'.clock d y ⊎ (slice_get t.domains.items d ≡ Some y)) where
   within : h < length t.harts.items
   within = slice_get_within t.harts.items h x got
 
   -- each hart is as it was, or it is this one
-  each_now : (Q : ℕ → CodeHart → Type 0) → Q h x' → ((g : ℕ) (z : CodeHart) → g ≢ h → slice_get t.harts.items g ≡ Some z → Q g z)
+  each_now : (Q : ℕ → CodeHart → Type 0) → Q h x'
+      → ((g : ℕ) (z : CodeHart) → g ≢ h → slice_get t.harts.items g ≡ Some z → Q g z)
       → (g : ℕ) → AtHart t' g (Q g)
   each_now Q own others g z at =
       each_set_kept Q t.harts.items h x' within own others g z (subst (λ (hs : List CodeHart). slice_get hs g ≡ Some z) harts at)

@@ -47,10 +47,12 @@ module _ (image : Raw) (t : State) (v : Raw × State) (view : (image, t) ≡ v) 
   pub to_image : (P : Image → Type 0) → P (image_from image) → P (image_of v)
   to_image P is = subst (λ (u : Raw × State). P (image_of u)) view is
 
-  pub hart_below : (h : ℕ) → h < harts_in (image_of v).all.schedule → h < harts_in (image_from image).all.schedule
+  pub hart_below : (h : ℕ) → h < harts_in (image_of v).all.schedule
+      → h < harts_in (image_from image).all.schedule
   hart_below h below = of_image (λ (i : Image). h < harts_in i.all.schedule) below
 
-  pub called : (h : ℕ) → h < harts_in (image_of v).all.schedule → IsReached (image_from image) t → (x : CodeHart)
+  pub called : (h : ℕ) → h < harts_in (image_of v).all.schedule → IsReached (image_from image) t
+      → (x : CodeHart)
       → x ≡ slice_index_or t.harts.items h x → Called (image_from image) t h x
   called h below reached x read =
       let here = hart_below h below in
@@ -62,14 +64,17 @@ module _ (image : Raw) (t : State) (v : Raw × State) (view : (image, t) ≡ v) 
       → AtHart v.1 h (Q (image_of v)) → Q (image_from image) x
   value_at h x Q got is = subst (λ (u : Raw × State). AtHart u.1 h (Q (image_of u))) (sym view) is x got
 
-  pub at_hart : (h : ℕ) (x : CodeHart) (Q : CodeHart → Type 0) → slice_get t.harts.items h ≡ Some x → AtHart v.1 h Q → Q x
+  pub at_hart : (h : ℕ) (x : CodeHart) (Q : CodeHart → Type 0) → slice_get t.harts.items h ≡ Some x
+      → AtHart v.1 h Q → Q x
   at_hart h x Q got is = value_at h x (λ (i : Image). Q) got is
 
   -- and back
-  pub for_hart : (h : ℕ) (x : CodeHart) (Q : Image → CodeHart → Type 0) → slice_get t.harts.items h ≡ Some x → Q (image_from image) x
+  pub for_hart : (h : ℕ) (x : CodeHart) (Q : Image → CodeHart → Type 0) → slice_get t.harts.items h ≡ Some x
+      → Q (image_from image) x
       → AtHart v.1 h (Q (image_of v))
   for_hart h x Q got is =
-      subst (λ (u : Raw × State). AtHart u.1 h (Q (image_of u))) view (λ y at. subst (Q (image_from image)) (same_Some x y (sym got ∙ at)) is)
+      subst (λ (u : Raw × State). AtHart u.1 h (Q (image_of u))) view
+      (λ y at. subst (Q (image_from image)) (same_Some x y (sym got ∙ at)) is)
 
   -- what a hart has that was read at an index
   at_index : (h n : ℕ) → n ≡ h → h < harts_in (image_of v).all.schedule → IsReached (image_from image) t
@@ -103,11 +108,13 @@ module _ (image : Raw) (t : State) (v : Raw × State) (view : (image, t) ≡ v) 
   to_value P is = subst (λ (u : Raw × State). P (image_of u) u.1) view is
 
 -- the code's domain of this number
-pub domain_read : (i : Image) (t : State) → IsReached i t → (d : ℕ) → IsDomain i d → (n : ℕ) (y : Domain) → n ≡ d → y ≡ slice_index_or t.domains.items n y
+pub domain_read : (i : Image) (t : State) → IsReached i t → (d : ℕ) → IsDomain i d → (n : ℕ) (y : Domain)
+    → n ≡ d → y ≡ slice_index_or t.domains.items n y
     → slice_get t.domains.items d ≡ Some y
 domain_read i t reached d named n y same read =
     let within : d < length t.domains.items = omega (arith, named, reached.stands.all_domains) in
-    slice_get_read t.domains.items (length t.domains.items) d y refl within (subst (λ (e : ℕ). y ≡ slice_index_or t.domains.items e y) same read)
+    slice_get_read t.domains.items (length t.domains.items) d y refl within
+    (subst (λ (e : ℕ). y ≡ slice_index_or t.domains.items e y) same read)
 
 module _ (i : Image) (t : State) (h : ℕ) (x : CodeHart) (c : Called i t h x) where
   abbrev pub s : Harts
@@ -128,7 +135,8 @@ module _ (i : Image) (t : State) (h : ℕ) (x : CodeHart) (c : Called i t h x) w
       let IsHartOf : ℕ → Type 0 = λ g. g < harts_in i.all.schedule in
       All-append IsHartOf order (replicate n h) of_harts (All-replicate IsHartOf n h c.below)
 
-  pub reached_after : (t' : State) (n : ℕ) → StandsFor i (harts i (c.reached.order ++ replicate n h)) t' → IsInBounds i t' → IsReached i t'
+  pub reached_after : (t' : State) (n : ℕ) → StandsFor i (harts i (c.reached.order ++ replicate n h)) t'
+      → IsInBounds i t' → IsReached i t'
   reached_after t' n stands bounds = record {
     accepted = c.reached.accepted;
     order = c.reached.order ++ replicate n h;
@@ -138,7 +146,9 @@ module _ (i : Image) (t : State) (h : ℕ) (x : CodeHart) (c : Called i t h x) w
   }
 
   -- after an event of it, whatever the order before
-  module _ (t' : State) (next_stands : (order : List ℕ) → AreHartsOf i order → StandsFor i (harts i order) t → StandsFor i (next i h (harts i order)) t') where
+  module _ (t' : State)
+      (next_stands : (order : List ℕ) → AreHartsOf i order → StandsFor i (harts i order) t
+      → StandsFor i (next i h (harts i order)) t') where
     pub pushed : NextStands i h t t'
     pushed order of_harts stands = subst (λ (z : Harts). StandsFor i z t') (sym (next_law i order h)) (next_stands order of_harts stands)
 

@@ -33,14 +33,16 @@ module _ (i : Image) (t : State) (h : ℕ) (x : CodeHart) (c : Called i t h x) (
       let all = c.reached.stands.all_domains in
       omega (arith, there, all)
 
-  pub slot_read : (n : ℕ) (y : Domain) → n ≡ slot.domain → y ≡ slice_index_or t.domains.items n y → slice_get t.domains.items slot.domain ≡ Some y
+  pub slot_read : (n : ℕ) (y : Domain) → n ≡ slot.domain → y ≡ slice_index_or t.domains.items n y
+      → slice_get t.domains.items slot.domain ≡ Some y
   slot_read n y same read =
       let r = c.reached.accepted in
       let named = slot_domain i r (s i t h x c) t (run i t h x c) c.reached.stands h c.below x c.got slot inside in
       domain_read i t c.reached slot.domain named n y same read
 
   -- any harts that it stands for are in that slot of the hart
-  far_in : (u : Harts) → Running i c.reached.accepted u → StandsFor i u t → progress_of h u ≡ record { slots = slots_of h u; inside = true }
+  far_in : (u : Harts) → Running i c.reached.accepted u → StandsFor i u t
+      → progress_of h u ≡ record { slots = slots_of h u; inside = true }
   far_in u running_u stands = far i c.reached.accepted u t running_u stands h c.below x c.got slot inside
 
   pub before : x.clock < slot.end
@@ -76,20 +78,24 @@ module _ (i : Image) (t : State) (h : ℕ) (x : CodeHart) (c : Called i t h x) (
         }
 
     pub counted_here : CountsUpTo x.clock y
-    counted_here = c.reached.in_bounds.few_calls slot.domain y got_y x (subst (λ (g : ℕ). slice_get t.harts.items g ≡ Some x) (sym home) c.got)
+    counted_here =
+        c.reached.in_bounds.few_calls slot.domain y got_y x
+        (subst (λ (g : ℕ). slice_get t.harts.items g ≡ Some x) (sym home) c.got)
 
     -- ---- what it leaves: one event, or all up to the slot's end
 
     module _ (z : StepEnd) (t' : State) (x' : CodeHart) (which : GoesOn t h x slot z t' x' ⊎ IsOver t h x slot z t' x') where
       module _ (not_last : x.slots < 65536) (counted : CountsUpTo z.clock z.domain) (later : x.clock < z.clock) where
-        bounds_if : {m : ℕ} {o : Option Slot} → m ≤ 65536 → Stepped t h slot.domain z m o t' x' → IsInBounds i t'
+        bounds_if : {m : ℕ} {o : Option Slot} → m ≤ 65536 → Stepped t h slot.domain z m o t' x'
+            → IsInBounds i t'
         bounds_if most kept =
             let slots = kept.slots in
             let clock = kept.clock in
             let counts : CountsUpTo x'.clock z.domain = subst (λ (n : ℕ). CountsUpTo n z.domain) (sym clock) counted in
             in_bounds_next i t t' h x x' c.got c.reached.in_bounds (omega (arith, most, slots)) (omega (arith, later, clock)) kept.harts
             (λ d v got_d.
-            each_set_kept (λ e u. IsCounted i h x'.clock e u ⊎ (slice_get t.domains.items e ≡ Some u)) t.domains.items slot.domain z.domain domain_there
+            each_set_kept (λ e u. IsCounted i h x'.clock e u ⊎ (slice_get t.domains.items e ≡ Some u))
+            t.domains.items slot.domain z.domain domain_there
             (inl (record { home = home; few = counts })) (λ e u other got_e. inr got_e) d v
             (subst (λ (ys : List Domain). slice_get ys d ≡ Some v) kept.domains got_d))
 
@@ -102,7 +108,8 @@ module _ (i : Image) (t : State) (h : ℕ) (x : CodeHart) (c : Called i t h x) (
 
       -- any harts that it stood for: it stands for what f makes of them
       now_stands : (f : Setting → ℕ → Local → Local)
-          → Moves any_rule any_stands_for (λ w. f w slot.end) t.memory y (system x.core t.l2) x.clock z.memory z.domain (system z.core z.l2) z.clock
+          → Moves any_rule any_stands_for (λ w. f w slot.end) t.memory y (system x.core t.l2) x.clock z.memory
+          z.domain (system z.core z.l2) z.clock
           → (u later : Harts) (running_u : Running i c.reached.accepted u) → StandsFor i u t
           → Ran i c.reached.accepted h (slots_of h u) f u later → StandsFor i later t'
       now_stands f moved u later running_u stands ran =
@@ -112,7 +119,8 @@ module _ (i : Image) (t : State) (h : ℕ) (x : CodeHart) (c : Called i t h x) (
 
       module _ (moved : Moves any_rule any_stands_for (λ w. step w slot.end) t.memory y (system x.core t.l2) x.clock
           z.memory z.domain (system z.core z.l2) z.clock) where
-        stands_next : (order : List ℕ) → AreHartsOf i order → StandsFor i (harts i order) t → StandsFor i (next i h (harts i order)) t'
+        stands_next : (order : List ℕ) → AreHartsOf i order → StandsFor i (harts i order) t
+            → StandsFor i (next i h (harts i order)) t'
         stands_next order of_harts stands =
             let r = c.reached.accepted in
             let u = harts i order in
@@ -143,10 +151,12 @@ module _ (i : Image) (t : State) (h : ℕ) (x : CodeHart) (c : Called i t h x) (
               stands = subst (λ (v : Harts). StandsFor i v t') (sym same) (now_stands stretch moved u (after i more u) so stands all.ran);
               slots = ap (λ (q : Progress). q.slots) ended;
               between =
-                  hart_between i h (order ++ more) r (own_more i t h x c order all.events of_harts) c.below (ap (λ (q : Progress). q.inside) ended);
+                  hart_between i h (order ++ more) r (own_more i t h x c order all.events of_harts) c.below
+                  (ap (λ (q : Progress). q.inside) ended);
             }
 
-        pub reached_through : x.slots < 65536 → CountsUpTo z.clock z.domain → x.clock < z.clock → IsReached i t'
+        pub reached_through : x.slots < 65536 → CountsUpTo z.clock z.domain → x.clock < z.clock
+            → IsReached i t'
         reached_through not_last counted later =
             let ends = gone_through c.reached.order c.reached.of_harts c.reached.stands in
             reached_after i t h x c t' ends.events ends.stands (bounds not_last counted later)

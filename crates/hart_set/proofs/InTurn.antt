@@ -40,7 +40,8 @@ module _ (i : Image) (g h : ℕ) (other : g ≢ h) where
     between = subst₂ (λ (x : Hart) (p : Progress). x.clock < start_on i g p.slots) (sym same.hart) (sym same.progress) had.between;
   }
 
-  still_had : (k events : ℕ) (order : List ℕ) → HasHad i g k (harts i order) → HasHad i g k (harts i (order ++ replicate events h))
+  still_had : (k events : ℕ) (order : List ℕ) → HasHad i g k (harts i order)
+      → HasHad i g k (harts i (order ++ replicate events h))
   still_had k events order had =
       subst (HasHad i g k) (sym (harts_appended i order (replicate events h)))
       (has_still k (harts i order) _ (stays events (harts i order)) had)
@@ -68,7 +69,8 @@ module _ (i : Image) (r : Runnable i) (n : ℕ) where
   first_next (e ∷ order) h events few before more (inl none) = absurd (cc none)
   first_next (e ∷ order) h events few before more (inr first) = first
 
-  first_last : (order : List ℕ) → slots_of 0 (harts i order) ≡ n → (order ≡ []) ⊎ (slice_get order 0 ≡ first_of)
+  first_last : (order : List ℕ) → slots_of 0 (harts i order) ≡ n
+      → (order ≡ []) ⊎ (slice_get order 0 ≡ first_of)
       → slice_get order 0 ≡ first_of
   first_last [] all was = let none = none_had i r 0 in sym (no_event i r n (omega (arith, all, none)))
   first_last (e ∷ order) all (inl none) = absurd (cc none)
@@ -77,7 +79,8 @@ module _ (i : Image) (r : Runnable i) (n : ℕ) where
 -- ---- one hart after the other
 
 -- a hart of the image is one whatever their state
-pub there_still : (v w : Raw × State) (h : ℕ) → w.0 ≡ v.0 → h < harts_in (image_of v).all.schedule → h < harts_in (image_of w).all.schedule
+pub there_still : (v w : Raw × State) (h : ℕ) → w.0 ≡ v.0 → h < harts_in (image_of v).all.schedule
+    → h < harts_in (image_of w).all.schedule
 there_still v w h same there = subst (λ (x : Raw). h < harts_in (image_from x).all.schedule) (sym same) there
 
 pub none_run : (v : Raw × State) (n : ℕ) → Runnable (image_of v) → StandsAfter v [] → RunInTurn v n 0 0

@@ -51,7 +51,8 @@ module _ (i : Image) (r : Runnable i) (t : State) (is : IsLoaded i t) where
   abbrev first : World
   first = all_cold i many
 
-  cold_at : (h : ℕ) (x : CodeHart) → slice_get t.harts.items h ≡ Some x → IsColdHart (hierarchy i.all.hardware) t.l2 x
+  cold_at : (h : ℕ) (x : CodeHart) → slice_get t.harts.items h ≡ Some x
+      → IsColdHart (hierarchy i.all.hardware) t.l2 x
   cold_at h x got =
       subst (IsColdHart (hierarchy i.all.hardware) t.l2) (get_or_from_slice_get t.harts.items h x x got)
       (is.cold h x (slice_get_within t.harts.items h x got))
@@ -79,7 +80,8 @@ module _ (i : Image) (r : Runnable i) (t : State) (is : IsLoaded i t) where
         slot = cold.slot ∙ sym (ap (λ (q : Progress). slot_if q.inside (domain_in i h q.slots) (end_on i h q.slots)) (at_first h));
         leaves =
             subst
-            (λ (o : Option Slot). IfSome o (λ y. KeepsLeaves first.storage.mem t.memory.frames (root_of i.all.hardware (own_of i y.domain)) x.core.tlb))
+            (λ (o : Option Slot). IfSome o (λ y. KeepsLeaves first.storage.mem t.memory.frames
+            (root_of i.all.hardware (own_of i y.domain)) x.core.tlb))
             (sym cold.slot) tt;
       }
 
@@ -106,7 +108,9 @@ module _ (i : Image) (r : Runnable i) (t : State) (is : IsLoaded i t) where
   bounds_first : IsInBounds i t
   bounds_first = record {
     few_slots = λ h x got. let none = (cold_at h x got).slots in omega (arith, none);
-    few_calls = λ d x got y at_d. subst (λ (n : ℕ). CountsUpTo n x) (sym (cold_at (hart_of_domain i d) y at_d).clock) (is.opened.each d x got).few;
+    few_calls =
+        λ d x got y at_d. subst (λ (n : ℕ). CountsUpTo n x) (sym (cold_at (hart_of_domain i d) y at_d).clock)
+        (is.opened.each d x got).few;
   }
 
   pub reached_first : IsReached i t

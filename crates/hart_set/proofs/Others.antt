@@ -32,14 +32,16 @@ use Rattle.hart_set.specs.Standing.{HartStands, slot_of, slot_if}
 parts_of : Hierarchy → Hierarchy → Hierarchy
 parts_of a b = record a { line_size = b.line_size; back = b.back; l2 = b.l2 }
 
-pub levels_over : (h : Hierarchy) (c c' : CoreContents AnyPolicy) (l l' : L2Contents AnyPolicy) → h ≡ hierarchy_of any_rule (system c l)
+pub levels_over : (h : Hierarchy) (c c' : CoreContents AnyPolicy) (l l' : L2Contents AnyPolicy)
+    → h ≡ hierarchy_of any_rule (system c l)
     → h ≡ hierarchy_of any_rule (system c' l') → h ≡ hierarchy_of any_rule (system c l')
 unfolding parts_of
 levels_over h c c' l l' own other = ap₂ parts_of own other
 
 -- ---- leaves that a buffer keeps, where the domain's frames are as they were
 
-pub leaves_still : (p : Hardware) (o : Own) (d : Dom) (s : Storage) (m : Mem) (tlb : Buffer AnyPolicy) → HasFacts p o d s
+pub leaves_still : (p : Hardware) (o : Own) (d : Dom) (s : Storage) (m : Mem) (tlb : Buffer AnyPolicy)
+    → HasFacts p o d s
     → SameFrames p o m s.mem → KeepsLeaves s.mem p.frames (root_of p o) tlb → KeepsLeaves m p.frames (root_of p o) tlb
 leaves_still p o d s m tlb facts same kept = record {
   each = λ page leaf found.
@@ -80,8 +82,10 @@ in_none false d end is = refl
 pub record Besides (i : Image) (h g : ℕ) (s s' : Harts) (t t' : State) : Type 0 where
   pub hart : hart_of g s'.world ≡ hart_of g s.world
   pub progress : progress_of g s' ≡ progress_of g s
-  pub frames : SameFrames i.all.hardware (own_of i (domain_in i g (slots_of g s))) s'.world.storage.mem s.world.storage.mem
-  pub facts : HasFacts i.all.hardware (own_of i (domain_in i g (slots_of g s))) (dom_of s.world (domain_in i g (slots_of g s))) s.world.storage
+  pub frames : SameFrames i.all.hardware (own_of i (domain_in i g (slots_of g s))) s'.world.storage.mem
+      s.world.storage.mem
+  pub facts : HasFacts i.all.hardware (own_of i (domain_in i g (slots_of g s)))
+      (dom_of s.world (domain_in i g (slots_of g s))) s.world.storage
 
 module _ (i : Image) (h g : ℕ) (s s' : Harts) (t t' : State) (z x' : CodeHart) (b : Besides i h g s s' t t')
     (was : HartStands i s t g z) (did : HartStands i s' t' h x') where
@@ -99,7 +103,8 @@ module _ (i : Image) (h g : ℕ) (s s' : Harts) (t t' : State) (z x' : CodeHart)
       let here : KeepsLeaves s.world.storage.mem p.frames (root_of p (own_of i d)) z.core.tlb =
       subst₂ (λ (n e : ℕ). KeepsLeaves s.world.storage.mem n (root_of p (own_of i e)) z.core.tlb) was.machine.frames whose kept in
       let there = leaves_still p (own_of i d) (dom_of s.world d) s.world.storage s'.world.storage.mem z.core.tlb b.facts b.frames here in
-      subst₂ (λ (n e : ℕ). KeepsLeaves s'.world.storage.mem n (root_of p (own_of i e)) z.core.tlb) (sym did.machine.frames) (sym whose) there
+      subst₂ (λ (n e : ℕ). KeepsLeaves s'.world.storage.mem n (root_of p (own_of i e)) z.core.tlb)
+      (sym did.machine.frames) (sym whose) there
 
   pub hart_stands : HartStands i s' t' g z
   hart_stands = record {

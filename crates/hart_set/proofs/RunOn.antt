@@ -25,7 +25,8 @@ pub record SoFar (v : Raw × State) (c : Choice) (n f : ℕ) (At : ℕ → Harts
   pub at : At events (harts_after v order)
   pub rest : order ++ events_from (image_of v) c n f events (harts_after v order) ≡ order_of (image_of v) c n
 
-pub at_first : (v : Raw × State) (c : Choice) (n most : ℕ) (At : ℕ → Harts → Type 0) → most ≡ cycles_before (image_of v) n (harts_in (image_of v).all.schedule)
+pub at_first : (v : Raw × State) (c : Choice) (n most : ℕ) (At : ℕ → Harts → Type 0)
+    → most ≡ cycles_before (image_of v) n (harts_in (image_of v).all.schedule)
     → StandsAfter v [] → At 0 (harts_after v []) → SoFar v c n most At
 unfolding order_of
 at_first v c n most At same stands at = record {
@@ -38,7 +39,8 @@ at_first v c n most At same stands at = record {
 }
 
 -- one event is fewer
-pub one_fewer : (v : Raw × State) (c : Choice) (n most counter : ℕ) (At : ℕ → Harts → Type 0) → counter < most → SoFar v c n (most - counter) At
+pub one_fewer : (v : Raw × State) (c : Choice) (n most counter : ℕ) (At : ℕ → Harts → Type 0) → counter < most
+    → SoFar v c n (most - counter) At
     → SoFar v c n (suc (most - (counter + 1))) At
 one_fewer v c n most counter At l so_far =
     let one : most - counter ≡ suc (most - (counter + 1)) = omega (arith, l) in
@@ -49,7 +51,8 @@ module _ (v : Raw × State) (c : Choice) (n : ℕ) (At : ℕ → Harts → Type 
   i = image_of v
 
   -- the event of the hart that is chosen
-  event_is : (f j : ℕ) (s : Harts) (o : Option ℕ) → next_hart i c n j s ≡ o → events_from i c n (suc f) j s ≡ event_if i c n f j s o
+  event_is : (f j : ℕ) (s : Harts) (o : Option ℕ) → next_hart i c n j s ≡ o
+      → events_from i c n (suc f) j s ≡ event_if i c n f j s o
   unfolding events_from
   event_is f j s o is = ap (λ (q : Option ℕ). event_if i c n f j s q) is
 
@@ -67,7 +70,8 @@ module _ (v : Raw × State) (c : Choice) (n : ℕ) (At : ℕ → Harts → Type 
     pub there : (h : ℕ) → next_hart i c n so_far.events s ≡ Some h → h < harts_in i.all.schedule
     there h is = (has_left i c n so_far.events h s is).0
 
-    pub few : (h : ℕ) → n ≤ 65536 → next_hart i c n so_far.events s ≡ Some h → AtHart v.1 h (λ x. x.slots < 65536)
+    pub few : (h : ℕ) → n ≤ 65536 → next_hart i c n so_far.events s ≡ Some h
+        → AtHart v.1 h (λ x. x.slots < 65536)
     few h most is x at =
         let left = (has_left i c n so_far.events h s is).1 in
         let same = (so_far.stands.each_hart h x at).slots in
@@ -75,7 +79,8 @@ module _ (v : Raw × State) (c : Choice) (n : ℕ) (At : ℕ → Harts → Type 
 
     -- and it has its event
     pub one_more : (h : ℕ) (t : State) (Later : ℕ → Harts → Type 0) → next_hart i c n so_far.events s ≡ Some h
-        → StandsFor i (harts i (so_far.order ++ h ∷ [])) t → Later (so_far.events + 1) (harts i (so_far.order ++ h ∷ [])) → SoFar (v.0, t) c n f Later
+        → StandsFor i (harts i (so_far.order ++ h ∷ [])) t
+        → Later (so_far.events + 1) (harts i (so_far.order ++ h ∷ [])) → SoFar (v.0, t) c n f Later
     one_more h t Later is stands at =
         let later : so_far.events + 1 ≡ suc so_far.events = omega arith in
         let own = events_from i c n f (suc so_far.events) (next i h s) in
@@ -83,7 +88,9 @@ module _ (v : Raw × State) (c : Choice) (n : ℕ) (At : ℕ → Harts → Type 
         record {
           order = so_far.order ++ h ∷ [];
           events = suc so_far.events;
-          of_harts = All-push (λ (g : ℕ). g < harts_in i.all.schedule) so_far.order h so_far.of_harts (has_left i c n so_far.events h s is).0;
+          of_harts =
+              All-push (λ (g : ℕ). g < harts_in i.all.schedule) so_far.order h so_far.of_harts
+              (has_left i c n so_far.events h s is).0;
           stands = stands;
           at = subst (λ (j : ℕ). Later j (harts i (so_far.order ++ h ∷ []))) later at;
           rest =
@@ -92,6 +99,7 @@ module _ (v : Raw × State) (c : Choice) (n : ℕ) (At : ℕ → Harts → Type 
         }
 
 -- all that there may be have been
-pub at_last : (v : Raw × State) (c : Choice) (n : ℕ) (At : ℕ → Harts → Type 0) → SoFar v c n 0 At → StandsAfter v (order_of (image_of v) c n)
+pub at_last : (v : Raw × State) (c : Choice) (n : ℕ) (At : ℕ → Harts → Type 0) → SoFar v c n 0 At
+    → StandsAfter v (order_of (image_of v) c n)
 unfolding events_from
 at_last v c n At so_far = subst (StandsAfter v) (sym (append-nil so_far.order) ∙ so_far.rest) so_far.stands

@@ -34,7 +34,8 @@ choice_ends i c n r = record {
 }
 
 -- harts that have run in the choice's own order
-pub run_so : (v : Raw × State) (c : Choice) (n : ℕ) → Runnable (image_of v) → StandsAfter v (order_of (image_of v) c n) → HasRun v c n
+pub run_so : (v : Raw × State) (c : Choice) (n : ℕ) → Runnable (image_of v)
+    → StandsAfter v (order_of (image_of v) c n) → HasRun v c n
 run_so v c n r stands = record {
   accepted = r;
   order = order_of (image_of v) c n;
@@ -45,12 +46,15 @@ run_so v c n r stands = record {
 
 module _ (i : Image) (r : Runnable i) (n : ℕ) where
   -- a hart that is between two slots has had a switch for each that ended
-  switches_are : (order : List ℕ) → AreHartsOf i order → (h : ℕ) → h < harts_in i.all.schedule → HasHad i h n (harts i order)
+  switches_are : (order : List ℕ) → AreHartsOf i order → (h : ℕ) → h < harts_in i.all.schedule
+      → HasHad i h n (harts i order)
       → switches_of h (harts i order) ≡ n
   switches_are order below h l had =
       let s = harts i order in
       let early = had.between in
-      let outside = outside_if (progress_of h s).inside (λ t. let begun = hart_begun i h order r below l t in omega (arith, begun, early)) in
+      let outside =
+      outside_if (progress_of h s).inside
+      (λ t. let begun = hart_begun i h order r below l t in omega (arith, begun, early)) in
       ap (λ (b : Bool). if b then slots_of h s + 1 else slots_of h s) outside ∙ had.slots
 
   module _ (c : Choice) (order : List ℕ) (ends : EndsSlots i order n) where
@@ -77,7 +81,8 @@ module _ (i : Image) (r : Runnable i) (n : ℕ) where
           let two = switches_are (order_of i c n) of_choice.of_harts h there (of_choice.each h there) in
           same_use_law i e order (order_of i c n) r l ends.of_harts of_choice.of_harts first (one ∙ sym two)
 
-      used_same : (used : List Used) → length used ≡ length i.all.schedule → IsUsed used (harts i order).world.used
+      used_same : (used : List Used) → length used ≡ length i.all.schedule
+          → IsUsed used (harts i order).world.used
           → IsUsed used (ran i c n).used
       used_same used all is = record {
         largest = λ e u got.
@@ -92,7 +97,8 @@ module _ (v : Raw × State) (c : Choice) (n : ℕ) (has : HasRun v c n) where
   abbrev i : Image
   i = image_of v
 
-  pub seen_of_run : (d : ℕ) (seen : View) → IsDomain i d → ((order : List ℕ) → StandsAfter v order → seen ≡ view_on i d (harts_after v order))
+  pub seen_of_run : (d : ℕ) (seen : View) → IsDomain i d
+      → ((order : List ℕ) → StandsAfter v order → seen ≡ view_on i d (harts_after v order))
       → seen ≡ view_in i d (ran i c n)
   seen_of_run d seen id is = is has.order has.stands ∙ seen_same i has.accepted n c has.order has.ends d id
 

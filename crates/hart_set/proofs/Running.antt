@@ -108,7 +108,8 @@ module _ (i : Image) (r : Runnable i) (s : Harts) (t : State) (run : Running i r
 
   -- ---- what events of it leave of another hart
 
-  besides : (s' : Harts) (t' : State) → Next i r h s s' → (g : ℕ) → g < harts_in i.all.schedule → g ≢ h → Besides i h g s s' t t'
+  besides : (s' : Harts) (t' : State) → Next i r h s s' → (g : ℕ) → g < harts_in i.all.schedule → g ≢ h
+      → Besides i h g s s' t t'
   besides s' t' did g g_below other =
       let e = domain_in i g (slots_of g s) in
       let home = hart_is i r g g_below (slots_of g s) in
@@ -128,7 +129,8 @@ module _ (i : Image) (r : Runnable i) (s : Harts) (t : State) (run : Running i r
         s'.world.storage (caches_of h s'.world) (clock_of h s'.world)
     pub slots : x'.slots ≡ m
     pub slot : x'.slot ≡ slot_if b (domain_in i h m) (end_on i h m)
-    pub leaves : IfSome x'.slot (λ y. KeepsLeaves s'.world.storage.mem t'.memory.frames (root_of p (own_of i y.domain)) x'.core.tlb)
+    pub leaves : IfSome x'.slot
+        (λ y. KeepsLeaves s'.world.storage.mem t'.memory.frames (root_of p (own_of i y.domain)) x'.core.tlb)
     pub harts : t'.harts.items ≡ set t.harts.items h x'
     pub all_domains : length t'.domains.items ≡ length i.owns
     pub each_domain : (e : ℕ) (y : Domain) → slice_get t'.domains.items e ≡ Some y
@@ -145,7 +147,8 @@ module _ (i : Image) (r : Runnable i) (s : Harts) (t : State) (run : Running i r
       leaves = a.leaves;
     }
 
-    others_stand : (g : ℕ) (z : CodeHart) → g ≢ h → slice_get t.harts.items g ≡ Some z → HartStands i s' t' g z
+    others_stand : (g : ℕ) (z : CodeHart) → g ≢ h → slice_get t.harts.items g ≡ Some z
+        → HartStands i s' t' g z
     others_stand g z other got_g =
         let g_below : g < harts_in i.all.schedule = omega (arith, slice_get_within t.harts.items g z got_g, is.all_harts) in
         hart_stands i h g s s' t t' z x' (besides s' t' did g g_below other) (is.each_hart g z got_g) own_stands
@@ -185,11 +188,14 @@ module _ (i : Image) (r : Runnable i) (s : Harts) (t : State) (run : Running i r
 
       leaves_y : KeepsLeaves s.world.storage.mem t.memory.frames y.map x.core.tlb
       leaves_y =
-          let kept = subst (λ (o : Option Slot). IfSome o (λ (z : Slot). KeepsLeaves s.world.storage.mem t.memory.frames (root_of p (own_of i z.domain)) x.core.tlb)) inside its.leaves in
+          let kept =
+          subst (λ (o : Option Slot). IfSome o (λ (z : Slot). KeepsLeaves s.world.storage.mem
+          t.memory.frames (root_of p (own_of i z.domain)) x.core.tlb)) inside its.leaves in
           subst (λ (root : ℕ). KeepsLeaves s.world.storage.mem t.memory.frames root x.core.tlb)
           (ap (λ (e : ℕ). root_of p (own_of i e)) at.whose ∙ sym ((is.each_domain d y got_d).has.root ∙ root_is p (own_of i d))) kept
 
-      pub begun : StandsIn any_rule any_stands_for (setting p (own_of i d) false) t.memory y (system x.core t.l2) x.clock (part_of h d s.world)
+      pub begun : StandsIn any_rule any_stands_for (setting p (own_of i d) false) t.memory y
+          (system x.core t.l2) x.clock (part_of h d s.world)
       begun =
           let kernel = kernel_of i (separated i r) d d_is in
           stands_in (setting p (own_of i d) false) t.memory y (system x.core t.l2) x.clock (part_of h d s.world) kernel
@@ -268,6 +274,7 @@ module _ (i : Image) (r : Runnable i) (s : Harts) (t : State) (run : Running i r
             let progress = ran.over (omega (arith, ends.past, now, at.until)) in
             stands_next s' (suc k) false t' x' (after (suc k) false None progress refl tt t' x' kept) ran.others
 
-        pub stands_stepped : (t' : State) (x' : CodeHart) → GoesOn t h x slot z t' x' ⊎ IsOver t h x slot z t' x' → StandsFor i s' t'
+        pub stands_stepped : (t' : State) (x' : CodeHart)
+            → GoesOn t h x slot z t' x' ⊎ IsOver t h x slot z t' x' → StandsFor i s' t'
         stands_stepped t' x' (inl on) = stands_on t' x' on
         stands_stepped t' x' (inr ends) = stands_over t' x' ends

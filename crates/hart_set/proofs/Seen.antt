@@ -40,7 +40,8 @@ module _ (i : Image) (t : State) (c : IsReached i t) where
   frames_are = let there = home_there 0 in (c.stands.each_hart (hart_of_domain i 0) there.hart there.got).machine.frames
 
   module _ (d : ℕ) (x : Domain) (got : slice_get t.domains.items d ≡ Some x) where
-    pub seen : (order : List ℕ) → StandsFor i (harts i order) t → seen_of x t.memory ≡ view_on i d (harts i order)
+    pub seen : (order : List ℕ) → StandsFor i (harts i order) t
+        → seen_of x t.memory ≡ view_on i d (harts i order)
     unfolding view_on
     seen order stands =
         let there = home_there d in
@@ -56,7 +57,8 @@ module _ (i : Image) (t : State) (c : IsReached i t) where
         let between = subst₂ (λ (n k : ℕ). n < start_on i (hart_of_domain i d) k) is.machine.time is.slots early in
         seen c.order c.stands ∙ hart_isolation i d c.order c.accepted id c.of_harts between ∙ ap (view_alone_on i d) (sym is.slots)
 
-  pub used_within : (e : ℕ) (u : Used) → slice_get t.used.items e ≡ Some u → u.largest ≤ (entry_in i.all.schedule e).pad
+  pub used_within : (e : ℕ) (u : Used) → slice_get t.used.items e ≡ Some u
+      → u.largest ≤ (entry_in i.all.schedule e).pad
   used_within e u got =
       let most = hart_largest i c.order e c.accepted c.of_harts in
       let is = c.stands.each_entry.largest e u got in

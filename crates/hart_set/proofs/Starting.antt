@@ -50,12 +50,18 @@ module _ (i : Image) (t : State) (h : ℕ) (x : CodeHart) (c : Called i t h x) (
   pub clock_early : x.clock < 2 ^ 62
   clock_early = let soon = clock_soon i t h x c in omega (arith, soon)
 
-  pub out_on : (out : Option CloneLayout) → option_map layout_model out ≡ clone_of (image_on i h) (outgoing (on_hart i.all.schedule h) x.slots)
+  pub out_on : (out : Option CloneLayout)
+      → option_map layout_model out ≡ clone_of (image_on i h) (outgoing (on_hart i.all.schedule h) x.slots)
       → IfSome out (IsCloneOn (hierarchy_of any_rule (system x.core t.l2)))
-  out_on out same = leaves_on i c.reached.accepted (s i t h x c) t (run i t h x c) c.reached.stands h c.below x c.got between x.slots out same
+  out_on out same =
+      leaves_on i c.reached.accepted (s i t h x c) t (run i t h x c) c.reached.stands h c.below x c.got
+      between x.slots out same
 
-  pub into_on : (d : ℕ) (y : Domain) → IsDomain i d → slice_get t.domains.items d ≡ Some y → IsCloneOn (hierarchy_of any_rule (system x.core t.l2)) y.layout
-  into_on d y id got_y = clone_on i c.reached.accepted (s i t h x c) t (run i t h x c) c.reached.stands h c.below x c.got between d y id got_y
+  pub into_on : (d : ℕ) (y : Domain) → IsDomain i d → slice_get t.domains.items d ≡ Some y
+      → IsCloneOn (hierarchy_of any_rule (system x.core t.l2)) y.layout
+  into_on d y id got_y =
+      clone_on i c.reached.accepted (s i t h x c) t (run i t h x c) c.reached.stands h c.below x c.got between
+      d y id got_y
 
   pub counted_few : CountedUpTo (2 ^ 31) t.used.items
   counted_few = counted i c.reached.accepted (s i t h x c) t (run i t h x c) c.reached.stands c.reached.in_bounds x
@@ -69,17 +75,20 @@ module _ (i : Image) (t : State) (h : ℕ) (x : CodeHart) (c : Called i t h x) (
         omega (arith, over, same)
 
     -- what the code's switch gives
-    pub record Switched (out : Option CloneLayout) (into : CloneLayout) (core' : CoreContents AnyPolicy) (l2' : L2Contents AnyPolicy) (used now : ℕ) : Type 0 where
+    pub record Switched (out : Option CloneLayout) (into : CloneLayout) (core' : CoreContents AnyPolicy)
+        (l2' : L2Contents AnyPolicy) (used now : ℕ) : Type 0 where
       pub levels : hierarchy_of any_rule (system core' l2') ≡ hierarchy_of any_rule (system x.core t.l2)
       pub pinned : core'.pinned ≡ x.core.pinned
       pub work : (caches : Caches) → SystemStands any_stands_for (system x.core t.l2) caches
           → IsSwitched any_stands_for turn.last_end x.clock used (system core' l2')
-          (touched_all (hierarchy_of any_rule (system x.core t.l2)) x.core.pinned caches (operations.switch x.core.costs (layout_if out) (layout_model into)))
+          (touched_all (hierarchy_of any_rule (system x.core t.l2)) x.core.pinned caches
+          (operations.switch x.core.costs (layout_if out) (layout_model into)))
       pub clock : now ≡ max (turn.last_end + used) turn.start
       pub kept : (m : Mem) (frames root : ℕ) → KeepsLeaves m frames root core'.tlb
 
     -- what the code keeps of it
-    pub record Entered (core' : CoreContents AnyPolicy) (l2' : L2Contents AnyPolicy) (used now : ℕ) (t' : State) (x' : CodeHart) : Type 0 where
+    pub record Entered (core' : CoreContents AnyPolicy) (l2' : L2Contents AnyPolicy) (used now : ℕ)
+        (t' : State) (x' : CodeHart) : Type 0 where
       pub memory : t'.memory ≡ t.memory
       pub l2 : t'.l2 ≡ l2'
       pub core : x'.core ≡ core'
@@ -109,9 +118,12 @@ module _ (i : Image) (t : State) (h : ℕ) (x : CodeHart) (c : Called i t h x) (
         run_now : Running i c.reached.accepted (harts i order)
         run_now = running i c.reached.accepted order of_harts
 
-        switching : Switching i c.reached.accepted (harts i order) t run_now stands h c.below x c.got between (layout_if out) (layout_model y.layout) core' l2' used now
+        switching : Switching i c.reached.accepted (harts i order) t run_now stands h c.below x c.got between
+            (layout_if out) (layout_model y.layout) core' l2' used now
         switching = record {
-          out_is = subst (λ (n : ℕ). option_map layout_model out ≡ clone_of (image_on i h) (outgoing (on_hart i.all.schedule h) n)) k_is out_is;
+          out_is =
+              subst (λ (n : ℕ). option_map layout_model out
+              ≡ clone_of (image_on i h) (outgoing (on_hart i.all.schedule h) n)) k_is out_is;
           into_is =
               (stands.each_domain turn.entry.domain y got_y).layout
               ∙ ap (λ (e : Entry). layout i.all.hardware (own_of i e.domain)) now_turn.entry;
@@ -120,7 +132,8 @@ module _ (i : Image) (t : State) (h : ℕ) (x : CodeHart) (c : Called i t h x) (
           work = λ caches stand.
               subst
               (λ (n : ℕ). IsSwitched any_stands_for n x.clock used (system core' l2')
-              (touched_all (hierarchy_of any_rule (system x.core t.l2)) x.core.pinned caches (operations.switch x.core.costs (layout_if out) (layout_model y.layout))))
+              (touched_all (hierarchy_of any_rule (system x.core t.l2)) x.core.pinned caches
+              (operations.switch x.core.costs (layout_if out) (layout_model y.layout))))
               now_turn.last_end (did.work caches stand);
           clock = did.clock ∙ ap₂ (λ (n m : ℕ). max (n + used) m) now_turn.last_end now_turn.start;
           kept = did.kept;
@@ -129,7 +142,8 @@ module _ (i : Image) (t : State) (h : ℕ) (x : CodeHart) (c : Called i t h x) (
         stands_entered : StandsFor i (next i h (harts i order)) t'
         stands_entered =
             let slot : Slot = record { domain = turn.entry.domain; end = turn.start + turn.entry.length } in
-            stands_begun i c.reached.accepted (harts i order) t run_now stands h c.below x c.got between (layout_if out) (layout_model y.layout) core' l2' used now
+            stands_begun i c.reached.accepted (harts i order) t run_now stands h c.below x c.got between
+            (layout_if out) (layout_model y.layout) core' l2' used now
             switching slot t' x'
             (record {
               memory = left.memory;
@@ -158,7 +172,8 @@ module _ (i : Image) (t : State) (h : ℕ) (x : CodeHart) (c : Called i t h x) (
           let clock = left.clock in
           let wait = did.clock in
           reached_next i t h x c t' stands_entered
-          (in_bounds_next i t t' h x x' c.got c.reached.in_bounds (omega (arith, not_last, slots)) (omega (arith, later, clock, wait)) left.harts
+          (in_bounds_next i t t' h x x' c.got c.reached.in_bounds (omega (arith, not_last, slots))
+          (omega (arith, later, clock, wait)) left.harts
           (λ d v got_d. inr (subst (λ (ys : List Domain). slice_get ys d ≡ Some v) left.domains got_d)))
 
 -- ---- and then the slot, to its end
@@ -172,7 +187,8 @@ through_begun i t t' later h x below got between begins ends order of_harts stan
     let outside = in_none (progress_of h s).inside _ _ (sym between ∙ (stands.each_hart h x got).slot) in
     let slots : slots_of h (harts i begun) ≡ slots_of h s = ap (slots_of h) (next_law i order h) ∙ slots_begun i h s outside in
     let rest = ends begun (All-push (λ (g : ℕ). g < harts_in i.all.schedule) order h of_harts below) (begins order of_harts stands) in
-    let all : begun ++ replicate rest.events h ≡ order ++ replicate (suc rest.events) h = append_assoc order (h ∷ []) (replicate rest.events h) in
+    let all : begun ++ replicate rest.events h ≡ order ++ replicate (suc rest.events) h =
+    append_assoc order (h ∷ []) (replicate rest.events h) in
     record {
       events = suc rest.events;
       stands = subst (λ (o : List ℕ). StandsFor i (harts i o) later) all rest.stands;

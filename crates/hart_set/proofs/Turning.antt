@@ -30,12 +30,14 @@ module _ (public : CodePublic) (p : Public) (same : public_model public ≡ p) w
   pub one_each : length public.harts.items ≡ harts_in p.schedule
   one_each = every_hart p.schedule public.harts.items schedules
 
-  pub own_entries : (h : ℕ) (placed : List (ℕ × Entry)) → h < harts_in p.schedule → placed ≡ slice_index_or public.harts.items h placed
+  pub own_entries : (h : ℕ) (placed : List (ℕ × Entry)) → h < harts_in p.schedule
+      → placed ≡ slice_index_or public.harts.items h placed
       → placed ≡ entries_on p.schedule h
   own_entries = entries_at p.schedule public.harts.items schedules
 
 -- what a hart's schedule tells is told of its entries
-pub turn_on : (es own : List Entry) (h k : ℕ) (t : Turn) → own ≡ on_hart es h → t.entry ≡ entry_of_slot own k → t.start ≡ start own k
+pub turn_on : (es own : List Entry) (h k : ℕ) (t : Turn) → own ≡ on_hart es h → t.entry ≡ entry_of_slot own k
+    → t.start ≡ start own k
     → t.ended ≡ entry_in own (switch_entry own k) → t.last_end ≡ last_end own k → IsTurn (on_hart es h) k t
 turn_on es own h k t same entry begins ended last =
     subst (λ (xs : List Entry). IsTurn xs k t) same (record { entry = entry; start = begins; ended = ended; last_end = last })
@@ -57,7 +59,8 @@ module _ (i : Image) (t : State) (h : ℕ) (x : CodeHart) (c : Called i t h x) (
   pub ended_there : ended.domain < length t.domains.items
   ended_there = let named = ended_named in let all = c.reached.stands.all_domains in omega (arith, named, all)
 
-  own_clone : (k : ℕ) → (k ≡ 0 → ⊥) → ended ≡ entry_in (on_hart i.all.schedule h) (switch_entry (on_hart i.all.schedule h) k)
+  own_clone : (k : ℕ) → (k ≡ 0 → ⊥)
+      → ended ≡ entry_in (on_hart i.all.schedule h) (switch_entry (on_hart i.all.schedule h) k)
       → Some (layout i.all.hardware (own_of i ended.domain)) ≡ clone_of (image_on i h) (outgoing (on_hart i.all.schedule h) k)
   own_clone zero some was = absurd (some refl)
   own_clone (suc last) some was = ap (λ (e : Entry). Some (layout i.all.hardware (own_of i e.domain))) was

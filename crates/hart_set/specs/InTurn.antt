@@ -18,6 +18,7 @@ pub record RunInTurn (s : Raw × State) (n h k : ℕ) : Type 0 where
   pub of_harts : AreHartsOf (image_of s) order
   pub before : (g : ℕ) → g < h → HasHad (image_of s) g n (harts_after s order)
   pub own : h < harts_in (image_of s).all.schedule → HasHad (image_of s) h k (harts_after s order)
-  pub later : (g : ℕ) → h < g → g < harts_in (image_of s).all.schedule → HasHad (image_of s) g 0 (harts_after s order)
+  pub later : (g : ℕ) → h < g → g < harts_in (image_of s).all.schedule
+      → HasHad (image_of s) g 0 (harts_after s order)
   pub first : (order ≡ []) ⊎ (slice_get order 0 ≡ slice_get (order_of (image_of s) LeastClock n) 0)
   pub stands : StandsAfter s order

@@ -31,7 +31,8 @@ slot_of i h s = slot_if (progress_of h s).inside (domain_in i h (slots_of h s)) 
 -- over the one memory and second level: each set of each of its caches and of its buffer, the predictor's counters, and its
 -- clock; how far it is; and in a slot its buffer keeps what walks of that domain's page tables find
 pub record HartStands (i : Image) (s : Harts) (t : State) (h : ℕ) (x : Hart) : Type 0 where
-  pub machine : MachineStands i.all.hardware (hierarchy i.all.hardware) false t.memory (system x.core t.l2) x.clock
+  pub machine : MachineStands i.all.hardware (hierarchy i.all.hardware) false t.memory (system x.core t.l2)
+      x.clock
       s.world.storage (caches_of h s.world) (clock_of h s.world)
   pub slots : x.slots ≡ slots_of h s
   pub slot : x.slot ≡ slot_of i h s

@@ -7,7 +7,8 @@ use Rattle.image_check.specs.declared.own.DomainPart.{DomainPart}
 use Rattle.image_check.specs.declared.own.DomainParts.{DomainParts}
 use Rattle.image_check.specs.Parts.{HasFirst, BeginsWith, IsPartOf, ArePartsOf}
 
-pub first_and_rest : {A : Type 0} (xs ys : List A) (x : A) → 0 < length xs → x ≡ get_or xs 0 x → ys ≡ remove xs 0 → xs ≡ x ∷ ys
+pub first_and_rest : {A : Type 0} (xs ys : List A) (x : A) → 0 < length xs → x ≡ get_or xs 0 x
+    → ys ≡ remove xs 0 → xs ≡ x ∷ ys
 first_and_rest [] ys x some first rest = absurd (omega (arith, some))
 first_and_rest (z ∷ zs) ys x some first rest = cc
 
@@ -31,7 +32,8 @@ record Both {A B : Type 0} (f : A → B) (x : A) (xs : List A) (y : B) (ys : Lis
   pub first : f x ≡ y
   pub rest : map f xs ≡ ys
 
-both : {A B : Type 0} (f : A → B) (x : A) (xs all : List A) (y : B) (ys : List B) → map f all ≡ y ∷ ys → all ≡ x ∷ xs → Both f x xs y ys
+both : {A B : Type 0} (f : A → B) (x : A) (xs all : List A) (y : B) (ys : List B) → map f all ≡ y ∷ ys
+    → all ≡ x ∷ xs → Both f x xs y ys
 both f x xs all y ys e is = let same : f x ∷ map f xs ≡ y ∷ ys = ap (map f) (sym is) ∙ e in record { first = cc; rest = cc }
 
 first_number : (x y : ℕ) (xs ys : List ℕ) → x ∷ xs ≡ y ∷ ys → x ≡ y
@@ -41,7 +43,8 @@ other_numbers : (x y : ℕ) (xs ys : List ℕ) → x ∷ xs ≡ y ∷ ys → xs 
 other_numbers x y xs ys e = cc
 
 -- the first parts are the first domain's
-pub is_first : (p left : DomainParts) (first : DomainPart) (o : RawDomain) (os : List RawDomain) → ArePartsOf p (o ∷ os) → BeginsWith first left p → IsPartOf first o
+pub is_first : (p left : DomainParts) (first : DomainPart) (o : RawDomain) (os : List RawDomain)
+    → ArePartsOf p (o ∷ os) → BeginsWith first left p → IsPartOf first o
 is_first p left first o os parts begins = record {
   colours = (both _ _ _ _ _ _ parts.colours begins.colours).first;
   segments = (both _ _ _ _ _ _ parts.segments begins.segments).first;
@@ -52,7 +55,8 @@ is_first p left first o os parts begins = record {
 }
 
 -- those that are left are the others'
-pub are_left : (p left : DomainParts) (first : DomainPart) (o : RawDomain) (os : List RawDomain) → ArePartsOf p (o ∷ os) → BeginsWith first left p → ArePartsOf left os
+pub are_left : (p left : DomainParts) (first : DomainPart) (o : RawDomain) (os : List RawDomain)
+    → ArePartsOf p (o ∷ os) → BeginsWith first left p → ArePartsOf left os
 are_left p left first o os parts begins = record {
   colours = (both _ _ _ _ _ _ parts.colours begins.colours).rest;
   segments = (both _ _ _ _ _ _ parts.segments begins.segments).rest;
@@ -63,7 +67,8 @@ are_left p left first o os parts begins = record {
 }
 
 -- one more is made, and one less is left
-pub made_more : {A B : Type 0} (f : A → B) (made now : List A) (x : A) (left rest all : List B) (y : B) → left ≡ y ∷ rest → map f made ++ left ≡ all
+pub made_more : {A B : Type 0} (f : A → B) (made now : List A) (x : A) (left rest all : List B) (y : B)
+    → left ≡ y ∷ rest → map f made ++ left ≡ all
     → now ≡ made ++ x ∷ [] → f x ≡ y → map f now ++ rest ≡ all
 made_more {A = A} {B = B} f made now x left rest all y is before more same =
     ap (λ (xs : List A). map f xs ++ rest) more

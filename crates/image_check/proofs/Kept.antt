@@ -44,16 +44,19 @@ KeepsAll : List (Raw → Option Refusal) → Raw → Type 0
 KeepsAll [] i = Unit {0}
 KeepsAll (k ∷ ks) i = (k i ≡ None) × KeepsAll ks i
 
-keeps_all : (ks : List (Raw → Option Refusal)) (i : Raw) (later : List Refusal) → broken_of ks i later ≡ [] → KeepsAll ks i
+keeps_all : (ks : List (Raw → Option Refusal)) (i : Raw) (later : List Refusal) → broken_of ks i later ≡ []
+    → KeepsAll ks i
 unfolding KeepsAll
 keeps_all [] i later e = tt
 keeps_all (k ∷ ks) i later e = (none_here (k i) (broken_of ks i later) e, keeps_all ks i later (none_later (k i) (broken_of ks i later) e))
 
-later_empty : (ks : List (Raw → Option Refusal)) (i : Raw) (later : List Refusal) → broken_of ks i later ≡ [] → later ≡ []
+later_empty : (ks : List (Raw → Option Refusal)) (i : Raw) (later : List Refusal) → broken_of ks i later ≡ []
+    → later ≡ []
 later_empty [] i later e = e
 later_empty (k ∷ ks) i later e = later_empty ks i later (none_later (k i) (broken_of ks i later) e)
 
-kept_before_those : (i : Raw) (later : List Refusal) → broken_of rules_before_pads i later ≡ [] → KeepsBeforePads i
+kept_before_those : (i : Raw) (later : List Refusal) → broken_of rules_before_pads i later ≡ []
+    → KeepsBeforePads i
 unfolding rules_before_pads KeepsAll
 kept_before_those i later e =
     let from3 = keeps_all rules_before_pads i later e in
@@ -119,12 +122,30 @@ pub extensions_law : ExtensionsLaw
 extensions_law i e = extensions_said i (kept_but_pads i e).extensions
 
 -- what is broken is what those after them leave
-later_alone : (i : Raw) (later : List Refusal) → KeepsBeforePads i → broken_of rules_before_pads i later ≡ later
+later_alone : (i : Raw) (later : List Refusal) → KeepsBeforePads i
+    → broken_of rules_before_pads i later ≡ later
 unfolding rules_before_pads
-later_alone i later k = rw (k.parts, k.frames, k.colours, k.costs, k.domains, k.named, k.apart, k.pools, k.shared, k.segments, k.capabilities, k.lines, k.moments, k.schedule) refl
+later_alone i later k =
+    rw (
+      k.parts,
+      k.frames,
+      k.colours,
+      k.costs,
+      k.domains,
+      k.named,
+      k.apart,
+      k.pools,
+      k.shared,
+      k.segments,
+      k.capabilities,
+      k.lines,
+      k.moments,
+      k.schedule,
+    ) refl
 
 -- three rules come after that of pads
-after_pads : (i : Raw) (o p q : Option Refusal) → k18 i ≡ o → k19 i ≡ p → k22 i ≡ q → broken_of rules_after_pads i [] ≡ ended_by o (ended_by p (ended_by q []))
+after_pads : (i : Raw) (o p q : Option Refusal) → k18 i ≡ o → k19 i ≡ p → k22 i ≡ q
+    → broken_of rules_after_pads i [] ≡ ended_by o (ended_by p (ended_by q []))
 unfolding rules_after_pads
 after_pads i o p q e f g = rw (e, f, g) refl
 
@@ -144,17 +165,20 @@ but_pads_law i = (kept_but_pads i, unbroken_but_pads i)
 Besides : Raw → List Refusal → List Refusal → Type 0
 Besides i others all = (all ≡ others) ⊎ HasPadsItem i others all
 
-pads_besides : (i : Raw) (o : Option Refusal) (later : List Refusal) → k17 i ≡ o → Besides i later (followed_by o later)
+pads_besides : (i : Raw) (o : Option Refusal) (later : List Refusal) → k17 i ≡ o
+    → Besides i later (followed_by o later)
 unfolding Besides
 pads_besides i None later e = inl refl
 pads_besides i (Some r) later e = inr (record { item = r; of_pads = e; besides = refl })
 
-ended_besides : (i : Raw) (o : Option Refusal) (others all : List Refusal) → Besides i others all → Besides i (ended_by o others) (ended_by o all)
+ended_besides : (i : Raw) (o : Option Refusal) (others all : List Refusal) → Besides i others all
+    → Besides i (ended_by o others) (ended_by o all)
 unfolding Besides
 ended_besides i None others all h = h
 ended_besides i (Some r) others all h = inl refl
 
-besides_in : (i : Raw) (ks : List (Raw → Option Refusal)) (others all : List Refusal) → Besides i others all → Besides i (broken_of ks i others) (broken_of ks i all)
+besides_in : (i : Raw) (ks : List (Raw → Option Refusal)) (others all : List Refusal) → Besides i others all
+    → Besides i (broken_of ks i others) (broken_of ks i all)
 besides_in i [] others all h = h
 besides_in i (k ∷ ks) others all h = ended_besides i (k i) (broken_of ks i others) (broken_of ks i all) (besides_in i ks others all h)
 
@@ -187,7 +211,8 @@ kept i e =
     }
 
 -- where no rule before that of pads is broken
-from_pads : (i : Raw) (o : Option Refusal) → KeepsBeforePads i → k17 i ≡ o → broken i ≡ followed_by o (broken_of rules_after_pads i [])
+from_pads : (i : Raw) (o : Option Refusal) → KeepsBeforePads i → k17 i ≡ o
+    → broken i ≡ followed_by o (broken_of rules_after_pads i [])
 unfolding broken
 from_pads i o k e =
     let later = broken_of rules_after_pads i [] in
@@ -201,7 +226,8 @@ acceptance_law i = (kept i, unbroken i)
 
 -- ---- the first item, of one list and of the other
 
-first_ended : (o : Option Refusal) (r : Refusal) (rest later : List Refusal) → (slice_get rest 0 ≡ Some r → slice_get later 0 ≡ Some r)
+first_ended : (o : Option Refusal) (r : Refusal) (rest later : List Refusal)
+    → (slice_get rest 0 ≡ Some r → slice_get later 0 ≡ Some r)
     → slice_get (ended_by o rest) 0 ≡ Some r → slice_get (ended_by o later) 0 ≡ Some r
 first_ended None r rest later more e = more e
 first_ended (Some q) r rest later more e = e
@@ -211,22 +237,26 @@ pub first_stays : (ks : List (Raw → Option Refusal)) (i : Raw) (r : Refusal) (
 first_stays [] i r later e = cc
 first_stays (k ∷ ks) i r later e = first_ended (k i) r (broken_of ks i []) (broken_of ks i later) (first_stays ks i r later) e
 
-first_before_pads : (i : Raw) (r : Refusal) (later : List Refusal) → slice_get (broken_before_pads i) 0 ≡ Some r → slice_get (broken_of rules_before_pads i later) 0 ≡ Some r
+first_before_pads : (i : Raw) (r : Refusal) (later : List Refusal)
+    → slice_get (broken_before_pads i) 0 ≡ Some r → slice_get (broken_of rules_before_pads i later) 0 ≡ Some r
 unfolding broken_before_pads
 first_before_pads i r later first = first_stays rules_before_pads i r later first
 
 -- the first of those before the rule of pads is the first of all
-pub first_of_all : {A : Type 0} → (i : Raw) (result : Result A ReadRefusal) → IfErr result (IsFirst (broken_before_pads i)) → IfErr result (IsFirst (broken i))
+pub first_of_all : {A : Type 0} → (i : Raw) (result : Result A ReadRefusal)
+    → IfErr result (IsFirst (broken_before_pads i)) → IfErr result (IsFirst (broken i))
 unfolding broken
 first_of_all i (Ok x) first = first
 first_of_all i (Err Memory) first = first
 first_of_all i (Err (Broken r)) first = first_before_pads i r (followed_by (k17 i) (broken_of rules_after_pads i [])) first
 
 -- and where none of those is broken, so is the refusal of the rule of pads
-pub first_of_pads : {A : Type 0} → (i : Raw) (result : Result A ReadRefusal) → broken_before_pads i ≡ [] → IsVerdictOrMemory result (k17 i) → IfErr result (IsFirst (broken i))
+pub first_of_pads : {A : Type 0} → (i : Raw) (result : Result A ReadRefusal) → broken_before_pads i ≡ []
+    → IsVerdictOrMemory result (k17 i) → IfErr result (IsFirst (broken i))
 first_of_pads i (Ok x) before verdict = tt
 first_of_pads i (Err Memory) before verdict = tt
-first_of_pads i (Err (Broken r)) before verdict = ap (λ (rs : List Refusal). slice_get rs 0) (from_pads i (Some r) (kept_before_pads i before) verdict)
+first_of_pads i (Err (Broken r)) before verdict =
+    ap (λ (rs : List Refusal). slice_get rs 0) (from_pads i (Some r) (kept_before_pads i before) verdict)
 
 -- the first of those before the rule of pads is the first without it, too
 pub first_of_others : {A : Type 0} → (i : Raw) (result : Result A ReadRefusal)
@@ -258,12 +288,14 @@ domains_within i n =
 pub few_domains : (i : Raw) → broken_but_pads i ≡ [] → length i.domains ≤ 32
 few_domains i e = (domains_within i (kept_but_pads i e).before.domains).most
 
-pub few_raw_domains : (raw : declared.Raw) → broken_but_pads (raw_model raw) ≡ [] → length raw.domains.items ≤ 32
+pub few_raw_domains : (raw : declared.Raw) → broken_but_pads (raw_model raw) ≡ []
+    → length raw.domains.items ≤ 32
 few_raw_domains raw e = omega (arith, length-map raw.domains.items domain_model, few_domains (raw_model raw) e)
 
 -- ---- what all domains may know
 
-pub public_made : (i : Raw) (h : Hardware) (entries : List Entry) (domains : ℕ) → h ≡ hardware_of i → entries ≡ map entry_of i.schedule
+pub public_made : (i : Raw) (h : Hardware) (entries : List Entry) (domains : ℕ) → h ≡ hardware_of i
+    → entries ≡ map entry_of i.schedule
     → domains ≡ length i.domains → record { version = i.version; hardware = h; schedule = entries; domains = domains } ≡ public_of i
 unfolding public_of
 public_made i h entries domains machine said many =
@@ -273,17 +305,20 @@ public_made i h entries domains machine said many =
 
 -- ---- what a `?` hands on
 
-pub first_handed : {A : Type 0} (result : Result A ReadRefusal) (e : ReadRefusal) (due : List Refusal) → IsErrAnd result (λ r. r ≡ e) → IsFirst due e → IfErr result (IsFirst due)
+pub first_handed : {A : Type 0} (result : Result A ReadRefusal) (e : ReadRefusal) (due : List Refusal)
+    → IsErrAnd result (λ r. r ≡ e) → IsFirst due e → IfErr result (IsFirst due)
 first_handed (Ok x) e due h first = tt
 first_handed (Err q) e due h first = subst (IsFirst due) (sym h) first
 
-pub verdict_handed : {A : Type 0} (result : Result A ReadRefusal) (case : Option Refusal) (r : Refusal) → IsErrAnd result (λ e. e ≡ Broken r) → case ≡ Some r → IsVerdictOrMemory result case
+pub verdict_handed : {A : Type 0} (result : Result A ReadRefusal) (case : Option Refusal) (r : Refusal)
+    → IsErrAnd result (λ e. e ≡ Broken r) → case ≡ Some r → IsVerdictOrMemory result case
 verdict_handed (Ok x) case r h is = absurd h
 verdict_handed (Err Memory) case r h is = tt
 verdict_handed (Err (Broken q)) case r h is = let same : q ≡ r = cc in is ∙ ap Some (sym same)
 
 -- where memory ran out before, or nothing was made
-pub made_handed : {A B X Y : Type 0} (before : A → B) (model : X → Y) (result : Result X ReadRefusal) (e : ReadRefusal) (b : B) (y : Y)
+pub made_handed : {A B X Y : Type 0} (before : A → B) (model : X → Y) (result : Result X ReadRefusal)
+    (e : ReadRefusal) (b : B) (y : Y)
     → IsErrAnd result (λ r. r ≡ e) → Makes before (Err e) b → Makes model result y
 made_handed before model (Ok x) e b y h made = absurd h
 made_handed before model (Err q) Memory b y h made = subst (λ (r : ReadRefusal). Makes model (Err r) y) (sym h) tt
@@ -296,5 +331,6 @@ pub others_left : (i : Raw) → broken_before_pads i ≡ [] → broken_but_pads 
 unfolding broken_but_pads
 others_left i before = later_alone i (broken_of rules_after_pads i []) (kept_before_pads i before)
 
-pub all_left : (i : Raw) → broken_before_pads i ≡ [] → k17 i ≡ None → broken i ≡ broken_of rules_after_pads i []
+pub all_left : (i : Raw) → broken_before_pads i ≡ [] → k17 i ≡ None
+    → broken i ≡ broken_of rules_after_pads i []
 all_left i before pads = from_pads i None (kept_before_pads i before) pads

@@ -26,22 +26,29 @@ unfolding own_from cap_of
 named_at o k c some e = either (cases_lt k (length o.caps))
   where
     either : (k < length o.caps) ⊎ (length o.caps ≤ k) → Names o k c
-    either (inl l) = record { within = l; cap = own_cap_is (cap_in (get_or o.caps k [])) c some (sym (get_or-map cap_of o.caps k [] NoCap l) ∙ e) }
+    either (inl l) = record {
+      within = l;
+      cap =
+          own_cap_is (cap_in (get_or o.caps k [])) c some (sym (get_or-map cap_of o.caps k [] NoCap l) ∙ e);
+    }
     either (inr m) = absurd (some (sym e ∙ get_or_past (map cap_of o.caps) k NoCap (omega (arith, length-map o.caps cap_of, m))))
 
 -- a line that a slot names is one of 32
-pub few_lines : (o : RawDomain) → HasSlots o → HasInterrupts o → (k n : ℕ) → cap_at (own_from o) k ≡ Irq n → n < 32
+pub few_lines : (o : RawDomain) → HasSlots o → HasInterrupts o → (k n : ℕ) → cap_at (own_from o) k ≡ Irq n
+    → n < 32
 few_lines o has irqs k n e =
     let at = named_at o k (Irq n) (λ (z : Irq n ≡ NoCap). cc) e in
     named_line o irqs n (has.lines k n [] at.within at.cap)
 
-pub has_its_page : (o : RawDomain) → HasSlots o → (k n : ℕ) → cap_at (own_from o) k ≡ Page n → has_page_in (own_from o).segments n ≡ true
+pub has_its_page : (o : RawDomain) → HasSlots o → (k n : ℕ) → cap_at (own_from o) k ≡ Page n
+    → has_page_in (own_from o).segments n ≡ true
 unfolding own_from
 has_its_page o has k n e =
     let at = named_at o k (Page n) (λ (z : Page n ≡ NoCap). cc) e in
     has_in n o.segments (has.pages k n [] at.within at.cap)
 
-pub named_once : (o : RawDomain) → HasSlots o → (c : InitialCap) → c ≢ NoCap → (j k : ℕ) → j ≢ k → cap_at (own_from o) j ≡ c → cap_at (own_from o) k ≢ c
+pub named_once : (o : RawDomain) → HasSlots o → (c : InitialCap) → c ≢ NoCap → (j k : ℕ) → j ≢ k
+    → cap_at (own_from o) j ≡ c → cap_at (own_from o) k ≢ c
 named_once o has c some j k other mine theirs = either (cases_lt j k)
   where
     here : Names o j c

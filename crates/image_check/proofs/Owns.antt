@@ -29,20 +29,24 @@ pub owns_length : (i : Raw) → length (owns_of i) ≡ length i.domains
 unfolding owns_of
 owns_length i = length-map i.domains own_from
 
-pub owns_at : (i : Raw) (d : ℕ) → d < length i.domains → own_at (owns_of i) d ≡ own_from (raw_domain i.domains d)
+pub owns_at : (i : Raw) (d : ℕ) → d < length i.domains
+    → own_at (owns_of i) d ≡ own_from (raw_domain i.domains d)
 unfolding owns_of
 owns_at i d l = get_or-map own_from i.domains d no_raw_domain no_own l
 
 -- ---- segments
 
-bytes_few : (d : ℕ) (earlier : List RawSegment) (s : RawSegment) (bytes : Option (List ℕ)) → bytes_case d earlier s bytes ≡ None → length (bytes_or_none bytes) ≤ s.pages * 4096
+bytes_few : (d : ℕ) (earlier : List RawSegment) (s : RawSegment) (bytes : Option (List ℕ))
+    → bytes_case d earlier s bytes ≡ None → length (bytes_or_none bytes) ≤ s.pages * 4096
 bytes_few d earlier s None n = cc
 bytes_few d earlier s (Some bytes) n =
     let more : Option Refusal = if list_any (share_page s) earlier then k12_refusal d (length earlier) 5 else None in
-    ltb-false (s.pages * 4096) (length bytes) (if_first (nat_lt (s.pages * 4096) (length bytes)) (refusal 12 (pos d) (pos (length earlier)) (pos 4)) more n)
+    ltb-false (s.pages * 4096) (length bytes) (if_first (nat_lt (s.pages * 4096) (length bytes))
+    (refusal 12 (pos d) (pos (length earlier)) (pos 4)) more n)
 
 -- by the five texts of rights: r, rw, x, rx, rwx
-rights_some : (r rw x rx rwx : Bool) → not (r || (rw || (x || (rx || rwx)))) ≡ false → (r || (rw || (rx || rwx))) || (x || (rx || rwx)) ≡ true
+rights_some : (r rw x rx rwx : Bool) → not (r || (rw || (x || (rx || rwx)))) ≡ false
+    → (r || (rw || (rx || rwx))) || (x || (rx || rwx)) ≡ true
 rights_some true rw x rx rwx e = refl
 rights_some false true x rx rwx e = refl
 rights_some false false x true rwx e = refl
@@ -57,7 +61,8 @@ rights_read false false true rwx e = refl
 rights_read false false false true e = refl
 rights_read false false false false e = absurd (cc)
 
-good_with : (read write execute : Bool) → read || execute ≡ true → (write ≡ true → read ≡ true) → are_good (rights_with read write execute) ≡ true
+good_with : (read write execute : Bool) → read || execute ≡ true → (write ≡ true → read ≡ true)
+    → are_good (rights_with read write execute) ≡ true
 good_with true true true some reads = refl
 good_with true true false some reads = refl
 good_with true false true some reads = refl
@@ -73,7 +78,8 @@ rights_sound s e =
     (rights_some (is (codes "r")) (is (codes "rw")) (is (codes "x")) (is (codes "rx")) (is (codes "rwx")) e)
     (rights_read (is (codes "r")) (is (codes "rw")) (is (codes "rx")) (is (codes "rwx")))
 
-segment_sound : (d : ℕ) (earlier : List RawSegment) (s : RawSegment) → segment_case d earlier s ≡ None → IsRawSegment s → IsSegment (segment_of s)
+segment_sound : (d : ℕ) (earlier : List RawSegment) (s : RawSegment) → segment_case d earlier s ≡ None
+    → IsRawSegment s → IsSegment (segment_of s)
 unfolding segment_case segment_of
 segment_sound d earlier s n ranges =
     let bytes = bytes_case d earlier s (bytes_in s.hex) in
@@ -84,8 +90,13 @@ segment_sound d earlier s n ranges =
       page = ltb-false 1048576 (s.page + s.pages) (if_first (nat_lt 1048576 (s.page + s.pages)) first later n);
       some = ranges.some;
       few = ranges.few;
-      rights = rights_sound s (if_first (not (is_rights s.rights)) second bytes (if_rest (nat_lt 1048576 (s.page + s.pages)) first later n));
-      bytes = bytes_few d earlier s (bytes_in s.hex) (if_rest (not (is_rights s.rights)) second bytes (if_rest (nat_lt 1048576 (s.page + s.pages)) first later n));
+      rights =
+          rights_sound s (if_first (not (is_rights s.rights)) second bytes
+          (if_rest (nat_lt 1048576 (s.page + s.pages)) first later n));
+      bytes =
+          bytes_few d earlier s (bytes_in s.hex)
+          (if_rest (not (is_rights s.rights)) second bytes
+          (if_rest (nat_lt 1048576 (s.page + s.pages)) first later n));
     }
 
 no_segment_sound : IsSegment no_segment
@@ -97,46 +108,72 @@ no_segment_sound = record {
   bytes = omega arith;
 }
 
-segments_sound : (d : ℕ) (ss : List RawSegment) → first_in (segment_case d) ss ≡ None → ((k : ℕ) → IsRawSegment (get_or ss k no_raw_segment)) → (k : ℕ) → IsSegment (get_or (map segment_of ss) k no_segment)
+segments_sound : (d : ℕ) (ss : List RawSegment) → first_in (segment_case d) ss ≡ None
+    → ((k : ℕ) → IsRawSegment (get_or ss k no_raw_segment)) → (k : ℕ)
+    → IsSegment (get_or (map segment_of ss) k no_segment)
 segments_sound d ss n ranges k = either (cases_lt k (length ss))
   where
     either : (k < length ss) ⊎ (length ss ≤ k) → IsSegment (get_or (map segment_of ss) k no_segment)
     either (inl l) =
-        let here = segment_sound d (take k ss) (get_or ss k no_raw_segment) (first_in_none (segment_case d) ss n k l no_raw_segment) (ranges k) in
+        let here =
+        segment_sound d (take k ss) (get_or ss k no_raw_segment)
+        (first_in_none (segment_case d) ss n k l no_raw_segment) (ranges k) in
         subst IsSegment (sym (get_or-map segment_of ss k no_raw_segment no_segment l)) here
-    either (inr m) = subst IsSegment (sym (get_or_past (map segment_of ss) k no_segment (omega (arith, length-map ss segment_of, m)))) no_segment_sound
+    either (inr m) =
+        subst IsSegment
+        (sym (get_or_past (map segment_of ss) k no_segment (omega (arith, length-map ss segment_of, m))))
+        no_segment_sound
 
 -- the segment shares no page with an earlier one
-none_shared : (d : ℕ) (earlier : List RawSegment) (s : RawSegment) (bytes : Option (List ℕ)) → bytes_case d earlier s bytes ≡ None → list_any (share_page s) earlier ≡ false
+none_shared : (d : ℕ) (earlier : List RawSegment) (s : RawSegment) (bytes : Option (List ℕ))
+    → bytes_case d earlier s bytes ≡ None → list_any (share_page s) earlier ≡ false
 none_shared d earlier s None n = absurd (cc n)
 none_shared d earlier s (Some bytes) n =
     let shared : Option Refusal = if list_any (share_page s) earlier then k12_refusal d (length earlier) 5 else None in
     if_first (list_any (share_page s) earlier) (refusal 12 (pos d) (pos (length earlier)) (pos 5)) None
     (if_rest (nat_lt (s.pages * 4096) (length bytes)) (refusal 12 (pos d) (pos (length earlier)) (pos 4)) shared n)
 
-shares_none : (d : ℕ) (earlier : List RawSegment) (s : RawSegment) → segment_case d earlier s ≡ None → list_any (share_page s) earlier ≡ false
+shares_none : (d : ℕ) (earlier : List RawSegment) (s : RawSegment) → segment_case d earlier s ≡ None
+    → list_any (share_page s) earlier ≡ false
 unfolding segment_case
 shares_none d earlier s n =
     let bytes = bytes_case d earlier s (bytes_in s.hex) in
     let later : Option Refusal = if not (is_rights s.rights) then k12_refusal d (length earlier) 2 else bytes in
     let first = refusal 12 (pos d) (pos (length earlier)) (pos 1) in
     let second = refusal 12 (pos d) (pos (length earlier)) (pos 2) in
-    none_shared d earlier s (bytes_in s.hex) (if_rest (not (is_rights s.rights)) second bytes (if_rest (nat_lt 1048576 (s.page + s.pages)) first later n))
+    none_shared d earlier s (bytes_in s.hex)
+    (if_rest (not (is_rights s.rights)) second bytes
+    (if_rest (nat_lt 1048576 (s.page + s.pages)) first later n))
 
 -- a page of both is shared
-both_share : (s e : RawSegment) (n : ℕ) → share_page s e ≡ false → has_page (segment_of e) n ≡ true → has_page (segment_of s) n ≡ false
+both_share : (s e : RawSegment) (n : ℕ) → share_page s e ≡ false → has_page (segment_of e) n ≡ true
+    → has_page (segment_of s) n ≡ false
 unfolding segment_of
 both_share s e n none here = by_case (cases_Bool (has_page (segment_of s) n))
   where
-    by_case : (has_page (segment_of s) n ≡ true) ⊎ (has_page (segment_of s) n ≡ false) → has_page (segment_of s) n ≡ false
+    by_case : (has_page (segment_of s) n ≡ true) ⊎ (has_page (segment_of s) n ≡ false)
+        → has_page (segment_of s) n ≡ false
     by_case (inr no_page) = no_page
     by_case (inl there) =
-        let low : e.page < s.page + s.pages = omega (arith, leb-true e.page n (and_parts _ _ here).0, ltb-true n (s.page + s.pages) (and_parts _ _ there).1) in
-        let high : s.page < e.page + e.pages = omega (arith, leb-true s.page n (and_parts _ _ there).0, ltb-true n (e.page + e.pages) (and_parts _ _ here).1) in
+        let low : e.page < s.page + s.pages =
+        omega (
+          arith,
+          leb-true e.page n (and_parts _ _ here).0,
+          ltb-true n (s.page + s.pages)
+              (and_parts _ _ there).1,
+        ) in
+        let high : s.page < e.page + e.pages =
+        omega (
+          arith,
+          leb-true s.page n (and_parts _ _ there).0,
+          ltb-true n (e.page + e.pages)
+              (and_parts _ _ here).1,
+        ) in
         let both : share_page s e ≡ true = rw (lt-ltb e.page (s.page + s.pages) low, lt-ltb s.page (e.page + e.pages) high) refl in
         absurd (true≢false (sym both ∙ none))
 
-segments_apart : (d : ℕ) (ss : List RawSegment) → first_in (segment_case d) ss ≡ None → (j k n : ℕ) → j < k → k < length (map segment_of ss)
+segments_apart : (d : ℕ) (ss : List RawSegment) → first_in (segment_case d) ss ≡ None → (j k n : ℕ) → j < k
+    → k < length (map segment_of ss)
     → has_page (get_or (map segment_of ss) j no_segment) n ≡ true → has_page (get_or (map segment_of ss) k no_segment) n ≡ false
 segments_apart d ss none j k n less below here =
     let within : k < length ss = omega (arith, length-map ss segment_of, below) in
@@ -144,23 +181,29 @@ segments_apart d ss none j k n less below here =
     let s = get_or ss k no_raw_segment in
     let e = get_or (take k ss) j no_raw_segment in
     let case = first_in_none (segment_case d) ss none k within no_raw_segment in
-    let apart = any_false (share_page s) (take k ss) (shares_none d (take k ss) s case) j (omega (arith, length-take k ss, less, within)) no_raw_segment in
+    let apart =
+    any_false (share_page s) (take k ss) (shares_none d (take k ss) s case) j
+    (omega (arith, length-take k ss, less, within)) no_raw_segment in
     let same : e ≡ get_or ss j no_raw_segment = get_or-take k ss j no_raw_segment less in
     let at_j : has_page (segment_of e) n ≡ true =
     subst (λ (x : RawSegment). has_page (segment_of x) n ≡ true) (sym same)
     (subst (λ (x : Segment). has_page x n ≡ true) (get_or-map segment_of ss j no_raw_segment no_segment before) here) in
-    subst (λ (x : Segment). has_page x n ≡ false) (sym (get_or-map segment_of ss k no_raw_segment no_segment within)) (both_share s e n apart at_j)
+    subst (λ (x : Segment). has_page x n ≡ false)
+    (sym (get_or-map segment_of ss k no_raw_segment no_segment within)) (both_share s e n apart at_j)
 
 -- ---- owns
 
-own_sound : (i : Raw) (d : ℕ) → InKeyRanges i → KeepsBeforePads i → d < length i.domains → IsOwn (own_from (raw_domain i.domains d))
+own_sound : (i : Raw) (d : ℕ) → InKeyRanges i → KeepsBeforePads i → d < length i.domains
+    → IsOwn (own_from (raw_domain i.domains d))
 unfolding k12 k12_domain own_from
 own_sound i d ranges rules l =
     let o = raw_domain i.domains d in
     let place = length (take d i.domains) in
     let has = slots i rules.capabilities d l in
     let irqs = interrupts i rules.lines rules.moments d l in
-    let here = or_first (first_in (segment_case place) o.segments) (entry_case place o) (first_in_none k12_domain i.domains rules.segments d l no_raw_domain) in
+    let here =
+    or_first (first_in (segment_case place) o.segments) (entry_case place o)
+    (first_in_none k12_domain i.domains rules.segments d l no_raw_domain) in
     record {
       entry = ranges.entry d;
       few = omega (arith, length-map o.segments segment_of, ranges.few_segments d);
@@ -218,7 +261,8 @@ pub lines_owned : (i : Raw) → k14 i ≡ None → (d e n : ℕ) → d < length 
 unfolding own_from
 lines_owned i k d e n l m other mine = false_from_ne_true (has_line (own_at (owns_of i) e) n) (λ theirs. either theirs (cases_lt e d))
   where
-    raw : (c : ℕ) → c < length i.domains → has_line (own_at (owns_of i) c) n ≡ true → has_line (own_from (raw_domain i.domains c)) n ≡ true
+    raw : (c : ℕ) → c < length i.domains → has_line (own_at (owns_of i) c) n ≡ true
+        → has_line (own_from (raw_domain i.domains c)) n ≡ true
     raw c below h = subst (λ (o : Own). has_line o n ≡ true) (owns_at i c below) h
 
     either : has_line (own_at (owns_of i) e) n ≡ true → (e < d) ⊎ (d ≤ e) → ⊥

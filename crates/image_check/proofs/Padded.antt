@@ -93,7 +93,8 @@ long_pad bound place e n = not_short bound e.pad (if_first (int_lt e.pad (pos bo
 IsEnough : Raw → Entry → Type 0
 IsEnough i x = bound_of (shape_for (hardware_of i) (own_at (owns_of i) x.domain).calls) ≤ x.pad
 
-entry_enough : (i : Raw) (place : ℕ) (e : RawEntry) → k17_case (bound_out_of i e.domain) place e ≡ None → IsEnough i (entry_of e)
+entry_enough : (i : Raw) (place : ℕ) (e : RawEntry) → k17_case (bound_out_of i e.domain) place e ≡ None
+    → IsEnough i (entry_of e)
 unfolding entry_of bound_out_of IsEnough
 entry_enough i place e n = long_pad (bound_out_of i e.domain) place e n
 
@@ -108,28 +109,38 @@ pads_enough i k e l =
 
 -- ---- the calls of each domain, as the code has them
 
-calls_at : (ds : List RawDomain) (n : ℕ) → (own_at (map own_from ds) n).calls ≡ slice_index_or (map own_calls ds) n every_call
+calls_at : (ds : List RawDomain) (n : ℕ)
+    → (own_at (map own_from ds) n).calls ≡ slice_index_or (map own_calls ds) n every_call
 unfolding own_from
 calls_at [] n = refl
 calls_at (o ∷ ds) zero = refl
 calls_at (o ∷ ds) (suc n) = calls_at ds n
 
-same_cases : {A R : Type 0} (f g : List A → A → Option R) → ((earlier : List A) (x : A) → f earlier x ≡ g earlier x)
+same_cases : {A R : Type 0} (f g : List A → A → Option R)
+    → ((earlier : List A) (x : A) → f earlier x ≡ g earlier x)
     → (earlier xs : List A) → first_case f earlier xs ≡ first_case g earlier xs
 same_cases f g same earlier [] = refl
-same_cases f g same earlier (x ∷ xs) = ap₂ (λ (o rest : Option _). or_else o rest) (same earlier x) (same_cases f g same (earlier ++ x ∷ []) xs)
+same_cases f g same earlier (x ∷ xs) =
+    ap₂ (λ (o rest : Option _). or_else o rest) (same earlier x) (same_cases f g same (earlier ++ x ∷ []) xs)
 
-by_calls : (i : Raw) (earlier : List RawEntry) (e : RawEntry) → k17_by (shape_for_every_call (hardware_of i)) (map own_calls i.domains) earlier e ≡ k17_entry i earlier e
+by_calls : (i : Raw) (earlier : List RawEntry) (e : RawEntry)
+    → k17_by (shape_for_every_call (hardware_of i)) (map own_calls i.domains) earlier e
+    ≡ k17_entry i earlier e
 unfolding bound_out_of owns_of
 by_calls i earlier e =
-    ap (λ (calls : ℕ). k17_case (bound_of (shape_for (hardware_of i) calls)) (length earlier) e) (sym (calls_at i.domains (natural_of e.domain)))
+    ap (λ (calls : ℕ). k17_case (bound_of (shape_for (hardware_of i) calls)) (length earlier) e)
+    (sym (calls_at i.domains (natural_of e.domain)))
 
-pub k17_by_calls : (i : Raw) → first_in (k17_by (shape_for_every_call (hardware_of i)) (map own_calls i.domains)) i.schedule ≡ k17 i
+pub k17_by_calls : (i : Raw)
+    → first_in (k17_by (shape_for_every_call (hardware_of i)) (map own_calls i.domains)) i.schedule ≡ k17 i
 unfolding k17
-k17_by_calls i = same_cases (k17_by (shape_for_every_call (hardware_of i)) (map own_calls i.domains)) (k17_entry i) (by_calls i) [] i.schedule
+k17_by_calls i =
+    same_cases (k17_by (shape_for_every_call (hardware_of i)) (map own_calls i.domains)) (k17_entry i)
+    (by_calls i) [] i.schedule
 
 -- an entry's case, of the calls and the bound that the code has of it
-pub k17_by_case : (s : MachineShape) (calls : List ℕ) (earlier : List RawEntry) (e : RawEntry) (leaving total place : ℕ)
+pub k17_by_case : (s : MachineShape) (calls : List ℕ) (earlier : List RawEntry) (e : RawEntry)
+    (leaving total place : ℕ)
     → leaving ≡ slice_index_or calls (natural_of e.domain) every_call → total ≡ bound_of (with_calls s leaving) → length earlier ≡ place
     → k17_by s calls earlier e ≡ k17_case total place e
 k17_by_case s calls earlier e leaving total place may bound here =

@@ -30,12 +30,16 @@ use Rattle.image_check.proofs.Owns.{owns_at, owns_length}
 
 -- ---- the numbers fit those of the code
 
-small_own : (i : text.Raw) → KeepsBeforePads i → text.InKeyRanges i → (d : ℕ) → d < length i.domains → IsSmallOwn (raw_domain i.domains d)
+small_own : (i : text.Raw) → KeepsBeforePads i → text.InKeyRanges i → (d : ℕ) → d < length i.domains
+    → IsSmallOwn (raw_domain i.domains d)
 small_own i rules ranges d l = record {
-  caps = small_caps (raw_domain i.domains d) (slots i rules.capabilities d l) (ranges.segments d) (named_line (raw_domain i.domains d) (interrupts i rules.lines rules.moments d l));
+  caps =
+      small_caps (raw_domain i.domains d) (slots i rules.capabilities d l) (ranges.segments d)
+      (named_line (raw_domain i.domains d) (interrupts i rules.lines rules.moments d l));
 }
 
-pub small_owns : (raw : Raw) → broken_but_pads (raw_model raw) ≡ [] → All (λ o. IsSmallOwn (domain_model o)) raw.domains.items
+pub small_owns : (raw : Raw) → broken_but_pads (raw_model raw) ≡ []
+    → All (λ o. IsSmallOwn (domain_model o)) raw.domains.items
 small_owns raw n = λ d o l.
     let i = raw_model raw in
     let m = small_own i (kept_but_pads i n).before raw.in_ranges d (omega (arith, length-map raw.domains.items domain_model, l)) in
@@ -47,32 +51,42 @@ lists : text.Raw → List (List ℕ)
 lists i = map (λ o. o.colours) (owns_of i)
 
 -- what holds of each domain's colours, and of none, holds of each list
-at_each : (i : text.Raw) (P : List ℕ → Type 0) (d : ℕ) → (d < length i.domains → P (map natural_of (raw_domain i.domains d).colours)) → P [] → P (list_at (lists i) d)
+at_each : (i : text.Raw) (P : List ℕ → Type 0) (d : ℕ)
+    → (d < length i.domains → P (map natural_of (raw_domain i.domains d).colours)) → P []
+    → P (list_at (lists i) d)
 unfolding own_from lists
 at_each i P d inside none = either (cases_lt d (length i.domains))
   where
     either : (d < length i.domains) ⊎ (length i.domains ≤ d) → P (list_at (lists i) d)
     either (inl l) =
-        let at : list_at (lists i) d ≡ (own_at (owns_of i) d).colours = get_or-map (λ o. o.colours) (owns_of i) d no_own [] (omega (arith, owns_length i, l)) in
-        let own : (own_at (owns_of i) d).colours ≡ map natural_of (raw_domain i.domains d).colours = ap (λ (o : Own). o.colours) (owns_at i d l) in
+        let at : list_at (lists i) d ≡ (own_at (owns_of i) d).colours =
+        get_or-map (λ o. o.colours) (owns_of i) d no_own [] (omega (arith, owns_length i, l)) in
+        let own : (own_at (owns_of i) d).colours ≡ map natural_of (raw_domain i.domains d).colours =
+        ap (λ (o : Own). o.colours) (owns_at i d l) in
         subst P (sym (at ∙ own)) (inside l)
-    either (inr m) = subst P (sym (get_or_past (lists i) d [] (omega (arith, length-map (owns_of i) (λ o. o.colours), owns_length i, m)))) none
+    either (inr m) =
+        subst P
+        (sym (get_or_past (lists i) d []
+        (omega (arith, length-map (owns_of i) (λ o. o.colours), owns_length i, m)))) none
 
 record IsOfRange (colours : ℕ) (own : List ℕ) : Type 0 where
   pub within : (c : ℕ) → has own c ≡ true → Within 1 (colours - 1) c
 
-of_range : (i : text.Raw) → k8_in_machine i ≡ None → (d : ℕ) → IsOfRange (colours_of (hardware_of i)) (list_at (lists i) d)
+of_range : (i : text.Raw) → k8_in_machine i ≡ None → (d : ℕ)
+    → IsOfRange (colours_of (hardware_of i)) (list_at (lists i) d)
 of_range i n d = at_each i (IsOfRange (colours_of (hardware_of i))) d
     (λ l. record {
       within = λ c h. let f = found (raw_domain i.domains d).colours c h in
-          subst (λ (k : ℕ). Within 1 (colours_of (hardware_of i) - 1) k) f.same (named (colours_of (hardware_of i)) i n d l f.place f.within (pos 0));
+          subst (λ (k : ℕ). Within 1 (colours_of (hardware_of i) - 1) k) f.same
+          (named (colours_of (hardware_of i)) i n d l f.place f.within (pos 0));
     })
     (record { within = λ c h. absurd (true≢false (sym h)) })
 
 record IsApart (own other : List ℕ) : Type 0 where
   pub none : (c : ℕ) → has own c ≡ true → has other c ≡ true → ⊥
 
-later_apart : (i : text.Raw) → k8_in_machine i ≡ None → k9 i ≡ None → (d e : ℕ) → e < d → IsApart (list_at (lists i) d) (list_at (lists i) e)
+later_apart : (i : text.Raw) → k8_in_machine i ≡ None → k9 i ≡ None → (d e : ℕ) → e < d
+    → IsApart (list_at (lists i) d) (list_at (lists i) e)
 later_apart i n m d e before =
     at_each i (λ own. IsApart own (list_at (lists i) e)) d
     (λ l. at_each i (IsApart (map natural_of (raw_domain i.domains d).colours)) e
@@ -80,15 +94,21 @@ later_apart i n m d e before =
     (record { none = λ c mine theirs. true≢false (sym theirs) }))
     (record { none = λ c mine theirs. true≢false (sym mine) })
 
-pub disjoint_colours : (i : text.Raw) → KeepsBeforePads i → AreDisjoint (colours_of (hardware_of i)) (map (λ o. o.colours) (owns_of i))
+pub disjoint_colours : (i : text.Raw) → KeepsBeforePads i
+    → AreDisjoint (colours_of (hardware_of i)) (map (λ o. o.colours) (owns_of i))
 unfolding lists
 disjoint_colours i k = record {
-  in_range = λ d c h. let w = (of_range i k.named d).within c h in let some = (colours_sound i k.colours).least in omega (arith, w.least, w.most, some);
-  no_zero = λ d. false_from_ne_true (has (list_at (lists i) d) 0) (λ h. let w = (of_range i k.named d).within 0 h in absurd (omega (arith, w.least)));
+  in_range =
+      λ d c h. let w = (of_range i k.named d).within c h in
+      let some = (colours_sound i k.colours).least in omega (arith, w.least, w.most, some);
+  no_zero =
+      λ d. false_from_ne_true (has (list_at (lists i) d) 0)
+      (λ h. let w = (of_range i k.named d).within 0 h in absurd (omega (arith, w.least)));
   apart = λ d e c other h. false_from_ne_true (has (list_at (lists i) e) c) (λ g. either d e c other h g (cases_lt d e));
 }
   where
-    either : (d e c : ℕ) → d ≢ e → has (list_at (lists i) d) c ≡ true → has (list_at (lists i) e) c ≡ true → (d < e) ⊎ (e ≤ d) → ⊥
+    either : (d e c : ℕ) → d ≢ e → has (list_at (lists i) d) c ≡ true → has (list_at (lists i) e) c ≡ true
+        → (d < e) ⊎ (e ≤ d) → ⊥
     either d e c other h g (inl less) = (later_apart i k.named k.apart e d less).none c g h
     either d e c other h g (inr more) = (later_apart i k.named k.apart d e (omega (arith, more, other))).none c h g
 

@@ -25,7 +25,8 @@ k10_in_machine i = let p = hardware_of i in k10 (whole_of p.frames (colours_of p
 
 -- the rules before that of pads
 unfoldable pub rules_before_pads : List (Raw → Option Refusal)
-rules_before_pads = k3 ∷ k4 ∷ k5 ∷ k6 ∷ k7 ∷ k8_in_machine ∷ k9 ∷ k10_in_machine ∷ k11 ∷ k12 ∷ k13 ∷ k14 ∷ k15 ∷ k16 ∷ []
+rules_before_pads =
+    k3 ∷ k4 ∷ k5 ∷ k6 ∷ k7 ∷ k8_in_machine ∷ k9 ∷ k10_in_machine ∷ k11 ∷ k12 ∷ k13 ∷ k14 ∷ k15 ∷ k16 ∷ []
 
 -- those after it
 unfoldable pub rules_after_pads : List (Raw → Option Refusal)

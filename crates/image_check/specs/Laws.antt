@@ -98,7 +98,9 @@ HartsLaw = (i : text.Raw) → broken_but_pads i ≡ [] → AreHarts (image_from 
 
 -- where all entries are on hart 0, these are all of them, each at its place
 abbrev pub OneHartLaw : Type 0
-OneHartLaw = (i : text.Raw) → All (λ e. e.hart ≡ pos 0) i.schedule → let es = (image_from i).all.schedule in entries_on es 0 ≡ enumerate_from 0 es
+OneHartLaw = (i : text.Raw) → All (λ e. e.hart ≡ pos 0) i.schedule →
+    let es = (image_from i).all.schedule in
+    entries_on es 0 ≡ enumerate_from 0 es
 
 pub record IsSegment (s : Segment) : Type 0 where
   pub page : s.page + s.pages ≤ 2 ^ 20
@@ -134,7 +136,8 @@ pub record Runnable (i : Image) : Type 0 where
   pub few_domains : length i.owns ≤ 32
   pub hardware : IsHardware i.all.hardware
   pub disjoint : AreDisjoint (colours_of i.all.hardware) (map (λ o. o.colours) i.owns)
-  pub pools : (d : ℕ) → d < length i.owns → frames_in (own_of i d).segments ≤ length (pool (share_of i.all.hardware (own_of i d)))
+  pub pools : (d : ℕ) → d < length i.owns
+      → frames_in (own_of i d).segments ≤ length (pool (share_of i.all.hardware (own_of i d)))
   pub schedule : IsSchedule i.all.schedule
   pub named : (e : ℕ) → e < length i.all.schedule → (entry_in i.all.schedule e).domain < length i.owns
   pub lasting : (e : ℕ) → e < length i.all.schedule → 1000 ≤ (entry_in i.all.schedule e).length

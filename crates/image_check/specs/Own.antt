@@ -44,7 +44,16 @@ unfoldable pub owns_of : Raw → List Own
 owns_of i = map own_from i.domains
 
 abbrev pub no_own : Own
-no_own = record { name = []; colours = []; entry = 0; segments = []; caps = []; lines = []; moments = []; calls = every_call }
+no_own = record {
+  name = [];
+  colours = [];
+  entry = 0;
+  segments = [];
+  caps = [];
+  lines = [];
+  moments = [];
+  calls = every_call;
+}
 
 abbrev pub own_at : List Own → ℕ → Own
 own_at owns d = slice_index_or owns d no_own

@@ -38,7 +38,8 @@ bound_out_of i d = bound_of (shape_for (hardware_of i) (own_at (owns_of i) (natu
 -- ---- K17: each pad is at least the bound
 
 unfoldable pub k17_case : ℕ → ℕ → RawEntry → Option Refusal
-k17_case bound place e = if int_lt e.pad (pos bound) then Some (refusal 17 (pos place) e.pad (pos bound)) else None
+k17_case bound place e =
+    if int_lt e.pad (pos bound) then Some (refusal 17 (pos place) e.pad (pos bound)) else None
 
 abbrev pub k17_entry : Raw → List RawEntry → RawEntry → Option Refusal
 k17_entry i earlier e = k17_case (bound_out_of i e.domain) (length earlier) e
@@ -46,7 +47,8 @@ k17_entry i earlier e = k17_case (bound_out_of i e.domain) (length earlier) e
 -- the same of a machine, and of the calls that each domain may make
 abbrev pub k17_by : MachineShape → List ℕ → List RawEntry → RawEntry → Option Refusal
 k17_by s calls earlier e =
-    k17_case (bound_of (with_calls s (slice_index_or calls (natural_of e.domain) every_call))) (length earlier) e
+    k17_case (bound_of (with_calls s (slice_index_or calls (natural_of e.domain) every_call)))
+    (length earlier) e
 
 unfoldable pub k17 : Raw → Option Refusal
 k17 i = first_in (k17_entry i) i.schedule

@@ -33,12 +33,14 @@ pub record IsLine (e : Expression) (text : List ℕ) : Type 0 where
 abbrev pub IsBlank : List ℕ → Type 0
 IsBlank blank = (rest : List ℕ) → skip_blank (blank ++ rest) ≡ skip_blank rest
 
-pub blank_line : (blank text : List ℕ) (e : Expression) → IsBlank blank → IsLine e text → IsLine e (blank ++ text)
+pub blank_line : (blank text : List ℕ) (e : Expression) → IsBlank blank → IsLine e text
+    → IsLine e (blank ++ text)
 blank_line blank text e none l = record {
   takes = λ rest x skip. l.takes rest x (skip ∙ ap skip_blank (append_assoc blank text rest) ∙ none (text ++ rest));
 }
 
-taken : (e : Expression) (x s rest : List ℕ) → skip_blank x ≡ s → line s ≡ Some (e, 10 ∷ rest) → suc (length rest) < length s → Takes e x rest
+taken : (e : Expression) (x s rest : List ℕ) → skip_blank x ≡ s → line s ≡ Some (e, 10 ∷ rest)
+    → suc (length rest) < length s → Takes e x rest
 taken e x s rest at_start reads shorter =
     let size : length (skip_blank x) ≡ length s = ap length at_start in
     record { some = grind (arith, nat_tests); reads = ap line at_start ∙ reads; shorter = omega arith }
@@ -46,18 +48,22 @@ taken e x s rest at_start reads shorter =
 ends_at_newline : (rest : List ℕ) → ends_line (skip_ws (10 ∷ rest)) ≡ true
 ends_at_newline rest = rw (skip_ws_none (10 ∷ rest) refl) (grind (arith, nat_tests))
 
-read_pair : (k v rest : List ℕ) (d : Data) → IsText 80 d v → line (key_text k ++ (codes " = " ++ (v ++ 10 ∷ rest))) ≡ Some ((([], k), key_value d), 10 ∷ rest)
+read_pair : (k v rest : List ℕ) (d : Data) → IsText 80 d v
+    → line (key_text k ++ (codes " = " ++ (v ++ 10 ∷ rest))) ≡ Some ((([], k), key_value d), 10 ∷ rest)
 unfolding line expression
 read_pair k v rest d is =
     let value_at = v ++ 10 ∷ rest in
     let s = key_text k ++ (codes " = " ++ value_at) in
     let ends : EndsValue (10 ∷ rest) = ((refl, refl), (refl, refl)) in
-    let pair = keyval_ok (val 80) s value_at (10 ∷ rest) ([], k) d (key_equals-pair k value_at (is.starts (10 ∷ rest))) (is.reads (10 ∷ rest) ends) in
+    let pair =
+    keyval_ok (val 80) s value_at (10 ∷ rest) ([], k) d
+    (key_equals-pair k value_at (is.starts (10 ∷ rest))) (is.reads (10 ∷ rest) ends) in
     let key_first = is_key_start-key_text k (codes " = " ++ value_at) in
     let other : (first s == 91) ≡ false = grind (arith, nat_tests) in
     rw (other, pair, ends_at_newline rest)
 
-pub pair_line : (k v : List ℕ) (d : Data) → key_text k ≡ k → IsText 80 d v → IsLine (([], k), key_value d) (k ++ (codes " = " ++ (v ++ codes "\n")))
+pub pair_line : (k v : List ℕ) (d : Data) → key_text k ≡ k → IsText 80 d v
+    → IsLine (([], k), key_value d) (k ++ (codes " = " ++ (v ++ codes "\n")))
 pair_line k v d plain is = record {
   takes = λ rest x skip. (
       let s = key_text k ++ (codes " = " ++ (v ++ 10 ∷ rest)) in
@@ -68,7 +74,8 @@ pair_line k v d plain is = record {
       taken _ x s rest (skip ∙ ap skip_blank same ∙ skip_start s start) (read_pair k v rest d is) (omega (arith, key_size, value_size)));
 }
 
-pub header_line : (k : List ℕ) → key_text k ≡ k → IsLine (([], k), array_table) (codes "[[" ++ (k ++ codes "]]\n"))
+pub header_line : (k : List ℕ) → key_text k ≡ k
+    → IsLine (([], k), array_table) (codes "[[" ++ (k ++ codes "]]\n"))
 header_line k plain = record {
   takes = λ rest x skip. (
       let text = codes "[[" ++ (key_text k ++ codes "]]\n") in
@@ -79,7 +86,8 @@ header_line k plain = record {
 
 -- ---- comments
 
-pub inside_comment : (s rest : List ℕ) → list_all is_simple s ≡ true → skip_from true true (s ++ rest) ≡ skip_from true true rest
+pub inside_comment : (s rest : List ℕ) → list_all is_simple s ≡ true
+    → skip_from true true (s ++ rest) ≡ skip_from true true rest
 unfolding skip_from
 inside_comment [] rest all = refl
 inside_comment (c ∷ cs) rest all =
@@ -102,7 +110,8 @@ pub record Goes (m : ℕ) (doc : Document) (x : List ℕ) (next : Document) (res
   pub same : lines m doc x ≡ lines fuel next left
 
 pub record Leads (doc next : Document) (text : List ℕ) : Type 0 where
-  pub goes : (rest x : List ℕ) (m : ℕ) → skip_blank x ≡ skip_blank (text ++ rest) → length x < m → Goes m doc x next rest
+  pub goes : (rest x : List ℕ) (m : ℕ) → skip_blank x ≡ skip_blank (text ++ rest) → length x < m
+      → Goes m doc x next rest
 
 pub leads_blank : (doc : Document) (blank : List ℕ) → IsBlank blank → Leads doc doc blank
 leads_blank doc blank none = record {
@@ -117,7 +126,8 @@ leads_both a b c t u one two = record {
       record { left = h.left; fuel = h.fuel; skips = h.skips; room = h.room; same = g.same ∙ h.same });
 }
 
-pub leads_line : (doc next : Document) (e : Expression) (text : List ℕ) → IsLine e text → define doc e ≡ Some next → Leads doc next text
+pub leads_line : (doc next : Document) (e : Expression) (text : List ℕ) → IsLine e text
+    → define doc e ≡ Some next → Leads doc next text
 leads_line doc next e text l defined = record {
   goes = λ rest x m skip room. (
       let t = l.takes rest x skip in
@@ -145,11 +155,14 @@ abbrev pub expressions_of : List TextLine → List Expression
 expressions_of [] = []
 expressions_of (l ∷ ls) = l.expression ∷ expressions_of ls
 
-run_step : (o : Option Document) (es : List Expression) (last : Document) → option_and_then (λ next. run next es) o ≡ Some last → (next : Document) × (o ≡ Some next) × (run next es ≡ Some last)
+run_step : (o : Option Document) (es : List Expression) (last : Document)
+    → option_and_then (λ next. run next es) o ≡ Some last
+    → (next : Document) × (o ≡ Some next) × (run next es ≡ Some last)
 run_step None es last e = absurd (none-some last e)
 run_step (Some next) es last e = (next, refl, e)
 
-pub leads_lines : (ls : List TextLine) (doc last : Document) → run doc (expressions_of ls) ≡ Some last → Leads doc last (lines_text ls)
+pub leads_lines : (ls : List TextLine) (doc last : Document) → run doc (expressions_of ls) ≡ Some last
+    → Leads doc last (lines_text ls)
 leads_lines [] doc last e =
     let P : Document → Type 0 = λ d. Leads doc d [] in
     subst P (same_Some doc last e) (leads_blank doc [] (λ rest. refl))
@@ -163,12 +176,14 @@ no_mark : (text : List ℕ) → (first text == 239) ≡ false → skip_bom text 
 unfolding skip_bom
 no_mark text h = rw h
 
-pub leads_whole : (text : List ℕ) (doc : Document) → (first text == 239) ≡ false → Leads (no_nodes, []) doc text → parse_document text ≡ Some (close doc.0)
+pub leads_whole : (text : List ℕ) (doc : Document) → (first text == 239) ≡ false
+    → Leads (no_nodes, []) doc text → parse_document text ≡ Some (close doc.0)
 leads_whole text doc unmarked leads =
     let g = leads.goes [] text (suc (length text)) (ap skip_blank (sym (append-nil text))) (omega arith) in
     let at_end : length (skip_blank g.left) ≡ 0 = rw (g.skips, skip_from-nil true false) refl in
     let room = g.room in
-    document_some text doc (ap (lines (suc (length text)) (no_nodes, [])) (no_mark text unmarked) ∙ g.same ∙ lines_end g.fuel doc g.left (omega (arith, room)) at_end)
+    document_some text doc (ap (lines (suc (length text)) (no_nodes, [])) (no_mark text unmarked) ∙ g.same
+    ∙ lines_end g.fuel doc g.left (omega (arith, room)) at_end)
 
 -- ---- tables of an array, one after the other
 
@@ -183,7 +198,8 @@ each_below a (suc n) b l = (omega arith, each_below (a + 1) n b (omega arith))
 
 -- where each text adds a table to the array
 module _ (P : ℕ → Type 0) (at : Items → Nodes → Document) (made : ℕ → Nodes) (text : ℕ → List ℕ)
-    (step : (k : ℕ) → P k → (done : Items) (last : Nodes) → Leads (at done last) (at (push_item done (table (close last))) (made k)) (text k)) where
+    (step : (k : ℕ) → P k → (done : Items) (last : Nodes)
+    → Leads (at done last) (at (push_item done (table (close last))) (made k)) (text k)) where
   abbrev pub made_table : ℕ → Data
   made_table k = table (close (made k))
 
@@ -191,7 +207,8 @@ module _ (P : ℕ → Type 0) (at : Items → Nodes → Document) (made : ℕ �
     pub done_then : Items
     pub last_then : Nodes
     pub leads : Leads (at done last) (at done_then last_then) (flat_map text ks)
-    pub all : push_item done_then (table (close last_then)) ≡ item_join (push_item done (table (close last))) (items_of (map made_table ks))
+    pub all : push_item done_then (table (close last_then))
+        ≡ item_join (push_item done (table (close last))) (items_of (map made_table ks))
 
   pub tables_added : (ks : List ℕ) → Each P ks → (done : Items) (last : Nodes) → Added done last ks
   tables_added [] each done last = record {
@@ -217,7 +234,8 @@ module _ (P : ℕ → Type 0) (at : Items → Nodes → Document) (made : ℕ �
     pub leads : Leads start (at done last) (flat_map text ks)
     pub all : push_item done (table (close last)) ≡ items_of (map made_table ks)
 
-  pub tables_read : (start : Document) → ((k : ℕ) → P k → Leads start (at no_items (made k)) (text k)) → (a n : ℕ) → 0 < n → Each P (range_with_len a n) → ReadAll start (range_with_len a n)
+  pub tables_read : (start : Document) → ((k : ℕ) → P k → Leads start (at no_items (made k)) (text k))
+      → (a n : ℕ) → 0 < n → Each P (range_with_len a n) → ReadAll start (range_with_len a n)
   tables_read start begin a zero some each = absurd (omega arith)
   tables_read start begin a (suc n) some each =
       let r = tables_added (range_with_len (a + 1) n) each.1 no_items (made a) in

@@ -63,15 +63,18 @@ abbrev Passes : {A R : Type 0} → (List A → A → Option R) → List A → Ty
 Passes f [] = Unit {0}
 Passes f (x ∷ xs) = ((earlier : List _) → f earlier x ≡ None) × Passes f xs
 
-no_case : {A R : Type 0} (f : List A → A → Option R) (earlier xs : List A) → Passes f xs → first_case f earlier xs ≡ None
+no_case : {A R : Type 0} (f : List A → A → Option R) (earlier xs : List A) → Passes f xs
+    → first_case f earlier xs ≡ None
 no_case f earlier [] p = refl
 no_case f earlier (x ∷ xs) p = rw (p.0 earlier, no_case f (earlier ++ x ∷ []) xs p.1)
 
-passes_map : {A R : Type 0} (f : List A → A → Option R) (make : ℕ → A) → ((k : ℕ) (earlier : List A) → f earlier (make k) ≡ None) → (ks : List ℕ) → Passes f (map make ks)
+passes_map : {A R : Type 0} (f : List A → A → Option R) (make : ℕ → A)
+    → ((k : ℕ) (earlier : List A) → f earlier (make k) ≡ None) → (ks : List ℕ) → Passes f (map make ks)
 passes_map f make p [] = tt
 passes_map f make p (k ∷ ks) = (p k, passes_map f make p ks)
 
-passes_below : {A R : Type 0} (f : List A → A → Option R) (make : ℕ → A) (n : ℕ) → ((k : ℕ) (earlier : List A) → k < n → f earlier (make k) ≡ None)
+passes_below : {A R : Type 0} (f : List A → A → Option R) (make : ℕ → A) (n : ℕ)
+    → ((k : ℕ) (earlier : List A) → k < n → f earlier (make k) ≡ None)
     → (a m : ℕ) → a + m ≡ n → Passes f (map make (range_with_len a m))
 passes_below f make n p a zero e = tt
 passes_below f make n p a (suc m) e = ((λ earlier. p a earlier (omega arith)), passes_below f make n p (a + 1) m (omega arith))
@@ -119,7 +122,8 @@ first_kept : (d place w : ℕ) → k15_moment (pos d ∷ []) place [] (moment d 
 unfolding k15_moment
 first_kept d place w = rw (early 0 w (omega arith), own_line d)
 
-later_kept : (d place j v w : ℕ) (earlier : List RawMoment) → suc j < 8 → slice_get earlier (length earlier - 1) ≡ Some (moment d j v)
+later_kept : (d place j v w : ℕ) (earlier : List RawMoment) → suc j < 8
+    → slice_get earlier (length earlier - 1) ≡ Some (moment d j v)
     → k15_moment (pos d ∷ []) place earlier (moment d (suc j) w) ≡ None
 unfolding k15_moment
 later_kept d place j v w earlier l before =
@@ -127,7 +131,8 @@ later_kept d place j v w earlier l before =
     let ascends : int_lt (pos (moment_at j v)) (pos (moment_at (suc j) w)) ≡ true = grind (arith, nat_tests) in
     rw (early (suc j) w l, own_line d, before, ascends)
 
-moments_kept : (d : ℕ) (hex : List ℕ) (g : Lcg) (before : List RawDomain) → k15_domain before (domain_with d hex (moments_of d g)) ≡ None
+moments_kept : (d : ℕ) (hex : List ℕ) (g : Lcg) (before : List RawDomain)
+    → k15_domain before (domain_with d hex (moments_of d g)) ≡ None
 unfolding k15_domain domain_with moments_of
 moments_kept d hex g before =
     let w : ℕ → ℕ = word (after 64 g) in
@@ -159,7 +164,8 @@ pub policy_is : (seed : ℕ) → IsPolicy (policy_of seed)
 unfolding policy_of
 policy_is seed = policy_by_is (seed % 3)
 
-parts_kept : (p : List ℕ) (ds : List RawDomain) (es : List RawEntry) → IsPolicy p → k3 (image_with p ds es) ≡ None
+parts_kept : (p : List ℕ) (ds : List RawDomain) (es : List RawEntry) → IsPolicy p
+    → k3 (image_with p ds es) ≡ None
 unfolding k3 cache_case ways_case predictor_case image_with ones
 parts_kept p ds es (inl lru) = rw lru refl
 parts_kept p ds es (inr (inl fifo)) = rw fifo refl
@@ -186,26 +192,31 @@ unfolding k22 image_with
 extensions_kept p ds es = refl
 
 -- where a domain leaves that may make every call
-bound_is : (p : List ℕ) (ds : List RawDomain) (es : List RawEntry) → bound_of (shape_for (hardware_of (image_with p ds es)) every_call) ≡ 6150
-unfolding image_with hardware_of cache_shape_of costs_of bound_of worst_instruction worst_operation worst_leave worst_prefetch worst_flush worst_enter most_written may_make
+bound_is : (p : List ℕ) (ds : List RawDomain) (es : List RawEntry)
+    → bound_of (shape_for (hardware_of (image_with p ds es)) every_call) ≡ 6150
+unfolding image_with hardware_of cache_shape_of costs_of bound_of worst_instruction worst_operation
+    worst_leave worst_prefetch worst_flush worst_enter most_written may_make
 bound_is p ds es = refl
 
 -- ---- calls
 
 module _ (h : ℕ → List ℕ) (m : ℕ → List RawMoment) where
-  every_one : (ks : List ℕ) (n : ℕ) → (own_at (map own_from (map (λ d. domain_with d (h d) (m d)) ks)) n).calls ≡ every_call
+  every_one : (ks : List ℕ) (n : ℕ)
+      → (own_at (map own_from (map (λ d. domain_with d (h d) (m d)) ks)) n).calls ≡ every_call
   unfolding own_from domain_with calls_in
   every_one [] n = refl
   every_one (k ∷ ks) zero = refl
   every_one (k ∷ ks) (suc n) = every_one ks n
 
-  bound_out : (p : List ℕ) (ks : List ℕ) (es : List RawEntry) (d : ℤ) → bound_out_of (image_with p (map (λ d. domain_with d (h d) (m d)) ks) es) d ≡ 6150
+  bound_out : (p : List ℕ) (ks : List ℕ) (es : List RawEntry) (d : ℤ)
+      → bound_out_of (image_with p (map (λ d. domain_with d (h d) (m d)) ks) es) d ≡ 6150
   unfolding bound_out_of owns_of image_with
   bound_out p ks es d =
       let ds = map (λ d. domain_with d (h d) (m d)) ks in
       ap (λ (calls : ℕ). bound_of (shape_for (hardware_of (image_with p ds es)) calls)) (every_one ks (natural_of d)) ∙ bound_is p ds es
 
-none_listed : (d : ℕ) (hex : List ℕ) (m : List RawMoment) (before : List RawDomain) → k18_domain before (domain_with d hex m) ≡ None
+none_listed : (d : ℕ) (hex : List ℕ) (m : List RawMoment) (before : List RawDomain)
+    → k18_domain before (domain_with d hex m) ≡ None
 unfolding domain_with
 none_listed d hex m before = refl
 
@@ -231,7 +242,8 @@ module _ (p : List ℕ) (h : ℕ → List ℕ) (m : ℕ → List RawMoment) (es 
   apart_kept = by_count (λ n. k9 (image n) ≡ None) refl refl refl refl seed
 
   pools_kept : k10_in_machine (image (count seed)) ≡ None
-  unfolding k10 k10_case image_with domain_with hardware_of cache_shape_of costs_of pool segment_of regions_below has_region pages_in
+  unfolding k10 k10_case image_with domain_with hardware_of cache_shape_of costs_of pool segment_of
+      regions_below has_region pages_in
   pools_kept = by_count (λ n. k10_in_machine (image n) ≡ None) refl refl refl refl seed
 
   capabilities_kept : k13 (image (count seed)) ≡ None
@@ -256,24 +268,31 @@ abbrev entries_by : (ℕ → ℕ) → ℕ → List RawEntry
 entries_by w n = map (λ d. entry d (w d)) (range_with_len 0 n)
 
 entries_kept : (w : ℕ → ℕ) (n : ℕ) → first_in (k16_entry n) (entries_by w n) ≡ None
-entries_kept w n = no_case (k16_entry n) [] (entries_by w n) (passes_below (k16_entry n) (λ d. entry d (w d)) n (λ d e l. slot_kept n d (w d) (length e) l) 0 n (omega arith))
+entries_kept w n =
+    no_case (k16_entry n) [] (entries_by w n)
+    (passes_below (k16_entry n) (λ d. entry d (w d)) n (λ d e l. slot_kept n d (w d) (length e) l) 0 n
+    (omega arith))
 
 schedule_kept : (p : List ℕ) (h : ℕ → List ℕ) (m : ℕ → List RawMoment) (w : ℕ → ℕ) (seed : ℕ)
     → k16 (image_with p (domains_by h m (count seed)) (entries_by w (count seed))) ≡ None
 unfolding k16 image_with
 schedule_kept p h m w seed =
-    by_count (λ n. k16 (image_with p (domains_by h m n) (entries_by w n)) ≡ None) (entries_kept w 2) (entries_kept w 3) (entries_kept w 4) (entries_kept w 5) seed
+    by_count (λ n. k16 (image_with p (domains_by h m n) (entries_by w n)) ≡ None) (entries_kept w 2)
+    (entries_kept w 3) (entries_kept w 4) (entries_kept w 5) seed
 
 pad_kept : (k w place : ℕ) → k17_case 6150 place (entry k w) ≡ None
 unfolding k17_case
 pad_kept k w place = refl
 
-pads_kept : (p : List ℕ) (h : ℕ → List ℕ) (m : ℕ → List RawMoment) (w : ℕ → ℕ) (n : ℕ) → k17 (image_with p (domains_by h m n) (entries_by w n)) ≡ None
+pads_kept : (p : List ℕ) (h : ℕ → List ℕ) (m : ℕ → List RawMoment) (w : ℕ → ℕ) (n : ℕ)
+    → k17 (image_with p (domains_by h m n) (entries_by w n)) ≡ None
 unfolding k17 image_with
 pads_kept p h m w n =
     let i = image_with p (domains_by h m n) (entries_by w n) in
     let kept : (k : ℕ) (earlier : List RawEntry) → k17_entry i earlier (entry k (w k)) ≡ None =
-    λ k earlier. subst (λ b. k17_case b (length earlier) (entry k (w k)) ≡ None) (sym (bound_out h m p (range_with_len 0 n) (entries_by w n) (pos k))) (pad_kept k (w k) (length earlier)) in
+    λ k earlier. subst (λ b. k17_case b (length earlier) (entry k (w k)) ≡ None)
+    (sym (bound_out h m p (range_with_len 0 n) (entries_by w n) (pos k)))
+    (pad_kept k (w k) (length earlier)) in
     no_case (k17_entry i) [] (entries_by w n) (passes_map (k17_entry i) _ kept (range_with_len 0 n))
 
 harts_kept : (p : List ℕ) (h : ℕ → List ℕ) (m : ℕ → List RawMoment) (w : ℕ → ℕ) (seed : ℕ)
@@ -306,7 +325,11 @@ keeps seed =
           apart = apart_kept p h m es seed;
           pools = pools_kept p h m es seed;
           shared = shared_kept p ds es;
-          segments = no_case k12_domain [] ds (passes_map k12_domain _ (λ d e. code_kept d (h d) (program_bytes (at d)) (m d) (program_read (at d)) (program_long (at d)) e) ns);
+          segments =
+              no_case k12_domain [] ds
+              (passes_map k12_domain _
+              (λ d e. code_kept d (h d) (program_bytes (at d)) (m d) (program_read (at d))
+              (program_long (at d)) e) ns);
           capabilities = capabilities_kept p h m es seed;
           lines = lines_kept p h m es seed;
           moments = no_case k15_domain [] ds (passes_map k15_domain _ (λ d e. moments_kept d (h d) (at d) e) ns);

@@ -32,12 +32,14 @@ decimal_simple = decimal_by_steps (λ n ds. list_all is_simple ds ≡ true) one 
     one : (n : ℕ) → n < 10 → list_all is_simple ((48 + n) ∷ []) ≡ true
     one n l = rw (digit n l)
 
-    more : (n : ℕ) (ds : List ℕ) → 10 ≤ n → list_all is_simple ds ≡ true → list_all is_simple (ds ++ ((48 + n % 10) ∷ [])) ≡ true
+    more : (n : ℕ) (ds : List ℕ) → 10 ≤ n → list_all is_simple ds ≡ true
+        → list_all is_simple (ds ++ ((48 + n % 10) ∷ [])) ≡ true
     more n ds l all =
         let last = digit (n % 10) (mod-lt n (omega arith)) in
         rw (list_all-append is_simple ds ((48 + n % 10) ∷ []), all, last)
 
-in_comment : (n : ℕ) (rest : List ℕ) → n < 2 ^ 64 → skip_from true true (decimal n ++ rest) ≡ skip_from true true rest
+in_comment : (n : ℕ) (rest : List ℕ) → n < 2 ^ 64
+    → skip_from true true (decimal n ++ rest) ≡ skip_from true true rest
 in_comment n rest small = inside_comment (decimal n) rest (decimal_simple n small)
 
 pub heading_blank : (seed : ℕ) → seed < 2 ^ 64 → IsBlank (heading seed)
@@ -66,7 +68,11 @@ number_as : (n k : ℕ) (t : List ℕ) → decimal k ≡ t → k < 2 ^ 63 → Is
 number_as n k t is small = subst (IsText n (number k)) is (number_is n k small)
 
 abbrev value_line : (k t : List ℕ) (d : Data) → key_text k ≡ k → IsText 80 d t → TextLine
-value_line k t d plain is = record { expression = (([], k), key_value d); text = k ++ (codes " = " ++ (t ++ codes "\n")); is = pair_line k t d plain is }
+value_line k t d plain is = record {
+  expression = (([], k), key_value d);
+  text = k ++ (codes " = " ++ (t ++ codes "\n"));
+  is = pair_line k t d plain is;
+}
 
 abbrev number_line : (k t : List ℕ) (n : ℕ) → key_text k ≡ k → decimal n ≡ t → n < 2 ^ 63 → TextLine
 number_line k t n plain is small = value_line k t (number n) plain (number_as 80 n t is small)
@@ -102,10 +108,13 @@ closed before number a b = ap (λ (t : List ℕ). before ++ t) (append_assoc num
 
 -- ---- the machine
 
-unfoldable cache_pairs : (s w p : List ℕ) (sets ways : ℕ) → decimal sets ≡ s → decimal ways ≡ w → sets < 2 ^ 63 → ways < 2 ^ 63 → list_all is_simple p ≡ true → List (Pair 79)
+unfoldable cache_pairs : (s w p : List ℕ) (sets ways : ℕ) → decimal sets ≡ s → decimal ways ≡ w
+    → sets < 2 ^ 63 → ways < 2 ^ 63 → list_all is_simple p ≡ true → List (Pair 79)
 unfolding key_text
 cache_pairs s w p sets ways sets_is ways_is few_sets few_ways all =
-    number_pair (codes "sets") s sets refl sets_is few_sets ∷ number_pair (codes "ways") w ways refl ways_is few_ways ∷ string_pair (codes "policy") p refl all ∷ []
+    number_pair (codes "sets") s sets refl sets_is few_sets
+    ∷ number_pair (codes "ways") w ways refl ways_is few_ways ∷ string_pair (codes "policy") p refl all
+    ∷ []
 
 unfoldable cost_pairs : List (Pair 79)
 unfolding key_text digits
@@ -113,7 +122,8 @@ cost_pairs =
     number_pair (codes "base") (codes "1") 1 refl refl (omega arith) ∷ number_pair (codes "l1") (codes "1") 1 refl refl (omega arith)
     ∷ number_pair (codes "l2") (codes "8") 8 refl refl (omega arith) ∷ number_pair (codes "mem") (codes "40") 40 refl refl (omega arith)
     ∷ number_pair (codes "wb") (codes "10") 10 refl refl (omega arith) ∷ number_pair (codes "tlb") (codes "1") 1 refl refl (omega arith)
-    ∷ number_pair (codes "mispredict") (codes "3") 3 refl refl (omega arith) ∷ number_pair (codes "trap") (codes "10") 10 refl refl (omega arith)
+    ∷ number_pair (codes "mispredict") (codes "3") 3 refl refl (omega arith)
+    ∷ number_pair (codes "trap") (codes "10") 10 refl refl (omega arith)
     ∷ number_pair (codes "flush") (codes "20") 20 refl refl (omega arith) ∷ []
 
 abbrev table_line : (k : List ℕ) → key_text k ≡ k → (ps : List (Pair 79)) (last : Nodes) → put_all ps no_nodes ≡ Some last → TextLine
@@ -125,15 +135,24 @@ machine_lines p all =
     titled_line (codes "\n# ---- the machine\n\n") (λ rest. refl) (number_line (codes "frames") (codes "128") 128 refl refl (omega arith))
     ∷ number_line (codes "shared") (codes "512") 512 refl refl (omega arith)
     ∷ number_line (codes "line") (codes "64") 64 refl refl (omega arith)
-    ∷ table_line (codes "l1i") refl (cache_pairs (codes "16") (codes "2") (codes "lru") 16 2 refl refl (omega arith) (omega arith) refl) (cache_nodes 16 2 (codes "lru")) refl
-    ∷ table_line (codes "l1d") refl (cache_pairs (codes "16") (codes "2") (codes "lru") 16 2 refl refl (omega arith) (omega arith) refl) (cache_nodes 16 2 (codes "lru")) refl
-    ∷ table_line (codes "l2") refl (cache_pairs (codes "512") (codes "4") p 512 4 refl refl (omega arith) (omega arith) all) (cache_nodes 512 4 p) refl
-    ∷ table_line (codes "tlb") refl (cache_pairs (codes "4") (codes "2") (codes "lru") 4 2 refl refl (omega arith) (omega arith) refl) (cache_nodes 4 2 (codes "lru")) refl
+    ∷ table_line (codes "l1i") refl
+    (cache_pairs (codes "16") (codes "2") (codes "lru") 16 2 refl refl (omega arith) (omega arith) refl)
+    (cache_nodes 16 2 (codes "lru")) refl
+    ∷ table_line (codes "l1d") refl
+    (cache_pairs (codes "16") (codes "2") (codes "lru") 16 2 refl refl (omega arith) (omega arith) refl)
+    (cache_nodes 16 2 (codes "lru")) refl
+    ∷ table_line (codes "l2") refl
+    (cache_pairs (codes "512") (codes "4") p 512 4 refl refl (omega arith) (omega arith) all)
+    (cache_nodes 512 4 p) refl
+    ∷ table_line (codes "tlb") refl
+    (cache_pairs (codes "4") (codes "2") (codes "lru") 4 2 refl refl (omega arith) (omega arith) refl)
+    (cache_nodes 4 2 (codes "lru")) refl
     ∷ number_line (codes "predictor") (codes "16") 16 refl refl (omega arith)
     ∷ table_line (codes "costs") refl cost_pairs costs_nodes refl
     ∷ []
 
-pub machine_leads : (p : List ℕ) → list_all is_simple p ≡ true → Leads (no_nodes, []) (at_machine p) (machine_text p)
+pub machine_leads : (p : List ℕ) → list_all is_simple p ≡ true
+    → Leads (no_nodes, []) (at_machine p) (machine_text p)
 unfolding machine_lines machine_text cache_pairs cost_pairs define along_header at_key along_dots
 machine_leads p all =
     let same : lines_text (machine_lines p all) ≡ machine_text p = simp append_assoc refl in
@@ -150,13 +169,19 @@ abbrev moment_pair : (d k w : ℕ) → d < 2 ^ 63 → k < 8 → List (Item 78)
 moment_pair d k w small l = number_item (moment_at k w) (moment_small k w l) ∷ number_item d small ∷ []
 
 abbrev moment_item : (d k w : ℕ) → d < 2 ^ 63 → k < 8 → Item 79
-moment_item d k w small l = record { value = moment_data d k w; text = 91 ∷ items_text false true (moment_pair d k w small l); is = array_is false (moment_pair d k w small l) }
+moment_item d k w small l = record {
+  value = moment_data d k w;
+  text = 91 ∷ items_text false true (moment_pair d k w small l);
+  is = array_is false (moment_pair d k w small l);
+}
 
 moment_items : (d : ℕ) (w : ℕ → ℕ) → d < 2 ^ 63 → (a n : ℕ) → a + n ≤ 8 → List (Item 79)
 moment_items d w small a zero l = []
 moment_items d w small a (suc n) l = moment_item d a (w a) small (omega arith) ∷ moment_items d w small (a + 1) n (omega arith)
 
-moment_items_data : (d : ℕ) (w : ℕ → ℕ) (small : d < 2 ^ 63) (a n : ℕ) (l : a + n ≤ 8) → item_data (moment_items d w small a n l) ≡ items_of (map (λ k. moment_data d k (w k)) (range_with_len a n))
+moment_items_data : (d : ℕ) (w : ℕ → ℕ) (small : d < 2 ^ 63) (a n : ℕ) (l : a + n ≤ 8)
+    → item_data (moment_items d w small a n l)
+    ≡ items_of (map (λ k. moment_data d k (w k)) (range_with_len a n))
 unfolding moment_items
 moment_items_data d w small a zero l = refl
 moment_items_data d w small a (suc n) l = ap (item (moment_data d a (w a))) (moment_items_data d w small (a + 1) n (omega arith))
@@ -179,13 +204,15 @@ entry_word : IsWord (codes "0x10000") (Integer (pos 65536))
 unfolding toml_parser_on_literals
 entry_word = record { some = omega arith; all = refl; value = refl }
 
-unfoldable segment_pairs : (page : ℕ) (t rights hex : List ℕ) → decimal page ≡ t → page < 2 ^ 63 → list_all is_simple rights ≡ true → list_all is_simple hex ≡ true → List (Pair 78)
+unfoldable segment_pairs : (page : ℕ) (t rights hex : List ℕ) → decimal page ≡ t → page < 2 ^ 63
+    → list_all is_simple rights ≡ true → list_all is_simple hex ≡ true → List (Pair 78)
 unfolding key_text digits
 segment_pairs page t rights hex is small all_rights all_hex =
     number_pair (codes "page") t page refl is small ∷ number_pair (codes "pages") (codes "1") 1 refl refl (omega arith)
     ∷ string_pair (codes "rights") rights refl all_rights ∷ string_pair (codes "hex") hex refl all_hex ∷ []
 
-unfoldable segment_item : (page : ℕ) (t rights hex : List ℕ) → decimal page ≡ t → page < 2 ^ 63 → list_all is_simple rights ≡ true → list_all is_simple hex ≡ true → Item 79
+unfoldable segment_item : (page : ℕ) (t rights hex : List ℕ) → decimal page ≡ t → page < 2 ^ 63
+    → list_all is_simple rights ≡ true → list_all is_simple hex ≡ true → Item 79
 unfolding segment_pairs at_key along_dots
 segment_item page t rights hex is small all_rights all_hex =
     let ps = segment_pairs page t rights hex is small all_rights all_hex in
@@ -193,7 +220,9 @@ segment_item page t rights hex is small all_rights all_hex =
 
 unfoldable segment_items : (hex : List ℕ) → list_all is_simple hex ≡ true → List (Item 79)
 unfolding digits
-segment_items hex all = segment_item 16 (codes "16") (codes "rx") hex refl (omega arith) refl all ∷ segment_item 32 (codes "32") (codes "rw") [] refl (omega arith) refl refl ∷ []
+segment_items hex all =
+    segment_item 16 (codes "16") (codes "rx") hex refl (omega arith) refl all
+    ∷ segment_item 32 (codes "32") (codes "rw") [] refl (omega arith) refl refl ∷ []
 
 unfoldable name_lines : (d : ℕ) → d < 256 → List TextLine
 unfolding key_text
@@ -203,7 +232,8 @@ name_lines d small =
     let colours = array_line (codes "colours") refl false (number_item (d + 1) (omega arith) ∷ []) in
     titled_line (domain_title d) (domain_blank d (omega arith)) (array_header (codes "domain") refl)
     ∷ line_as name (codes "name = \"g" ++ (decimal d ++ codes "\"\n")) (closed (codes "name = \"g") (decimal d) (codes "\"") (codes "\n"))
-    ∷ line_as colours (codes "colours = [" ++ (decimal (d + 1) ++ codes "]\n")) (closed (codes "colours = [") (decimal (d + 1)) (codes "]") (codes "\n"))
+    ∷ line_as colours (codes "colours = [" ++ (decimal (d + 1) ++ codes "]\n"))
+    (closed (codes "colours = [") (decimal (d + 1)) (codes "]") (codes "\n"))
     ∷ value_line (codes "entry") (codes "0x10000") (number 65536) refl (word_is 80 (codes "0x10000") (Integer (pos 65536)) entry_word)
     ∷ []
 
@@ -211,20 +241,26 @@ name_same : (d : ℕ) (small : d < 256) → lines_text (name_lines d small) ≡ 
 unfolding name_lines domain_title name_text
 name_same d small = simp append_assoc refl
 
-unfoldable interrupt_lines : (d : ℕ) → d < 256 → (is : List (Item 79)) (moments : List ℕ) → items_text false true is ≡ moments ++ codes "]" → List TextLine
+unfoldable interrupt_lines : (d : ℕ) → d < 256 → (is : List (Item 79)) (moments : List ℕ)
+    → items_text false true is ≡ moments ++ codes "]" → List TextLine
 unfolding key_text
 interrupt_lines d small is moments e =
     let named = string_item (codes "irq " ++ decimal d) (decimal_simple d (omega arith)) in
     let caps = array_line (codes "caps") refl false (named ∷ []) in
     let lines = array_line (codes "lines") refl false (number_item d (omega arith) ∷ []) in
-    let first_closed = ap (λ (t : List ℕ). codes "caps = [\"irq " ++ (t ++ codes "\n")) (append_assoc (decimal d) (codes "\"") (codes "]")) in
+    let first_closed =
+    ap (λ (t : List ℕ). codes "caps = [\"irq " ++ (t ++ codes "\n"))
+    (append_assoc (decimal d) (codes "\"") (codes "]")) in
     let written = ap (λ (t : List ℕ). codes "moments = [" ++ (t ++ codes "\n")) e in
-    line_as caps (codes "caps = [\"irq " ++ (decimal d ++ codes "\"]\n")) (first_closed ∙ closed (codes "caps = [\"irq ") (decimal d) (codes "\"]") (codes "\n"))
+    line_as caps (codes "caps = [\"irq " ++ (decimal d ++ codes "\"]\n"))
+    (first_closed ∙ closed (codes "caps = [\"irq ") (decimal d) (codes "\"]") (codes "\n"))
     ∷ line_as lines (codes "lines = [" ++ (decimal d ++ codes "]\n")) (closed (codes "lines = [") (decimal d) (codes "]") (codes "\n"))
-    ∷ line_as (array_line (codes "moments") refl false is) (codes "moments = [" ++ (moments ++ codes "]\n")) (written ∙ closed (codes "moments = [") moments (codes "]") (codes "\n"))
+    ∷ line_as (array_line (codes "moments") refl false is) (codes "moments = [" ++ (moments ++ codes "]\n"))
+    (written ∙ closed (codes "moments = [") moments (codes "]") (codes "\n"))
     ∷ []
 
-interrupts_same : (d : ℕ) (small : d < 256) (is : List (Item 79)) (moments : List ℕ) (e : items_text false true is ≡ moments ++ codes "]")
+interrupts_same : (d : ℕ) (small : d < 256) (is : List (Item 79)) (moments : List ℕ)
+    (e : items_text false true is ≡ moments ++ codes "]")
     → lines_text (interrupt_lines d small is moments e) ≡ interrupts_text d moments
 unfolding interrupt_lines interrupts_text
 interrupts_same d small is moments e = simp append_assoc refl
@@ -233,13 +269,16 @@ unfoldable segment_lines : (hex : List ℕ) → list_all is_simple hex ≡ true 
 unfolding key_text
 segment_lines hex all = array_line (codes "segment") refl true (segment_items hex all) ∷ []
 
-segments_same : (hex : List ℕ) (all : list_all is_simple hex ≡ true) → lines_text (segment_lines hex all) ≡ segments_text hex
+segments_same : (hex : List ℕ) (all : list_all is_simple hex ≡ true)
+    → lines_text (segment_lines hex all) ≡ segments_text hex
 unfolding segment_lines segment_items segment_item segment_pairs segments_text
 segments_same hex all = simp append_assoc refl
 
 lines_text-append : (xs ys : List TextLine) → lines_text (xs ++ ys) ≡ lines_text xs ++ lines_text ys
 lines_text-append [] ys = refl
-lines_text-append (x ∷ xs) ys = ap (λ (t : List ℕ). x.text ++ t) (lines_text-append xs ys) ∙ sym (append_assoc x.text (lines_text xs) (lines_text ys))
+lines_text-append (x ∷ xs) ys =
+    ap (λ (t : List ℕ). x.text ++ t) (lines_text-append xs ys)
+    ∙ sym (append_assoc x.text (lines_text xs) (lines_text ys))
 
 module _ (p : List ℕ) (d : ℕ) (small : d < 256) (hex : List ℕ) (all : list_all is_simple hex ≡ true) (g : Lcg) where
   abbrev moments : List ℕ
@@ -270,13 +309,17 @@ module _ (p : List ℕ) (d : ℕ) (small : d < 256) (hex : List ℕ) (all : list
   made_is = ap (domain_nodes d hex) (moment_items_data d (word g) (omega arith) 0 8 (omega arith))
 
   pub domain_begins : Leads (at_machine p) (at_domains p no_items made) (domain_text_with d moments hex)
-  unfolding name_lines interrupt_lines segment_lines segment_items segment_item define along_header at_key along_dots
+  unfolding name_lines interrupt_lines segment_lines segment_items segment_item define along_header at_key
+      along_dots
   domain_begins =
       subst₂ (λ ns t. Leads (at_machine p) (at_domains p no_items ns) t) made_is same
       (leads_lines domain_lines (at_machine p) (at_domains p no_items (domain_nodes d hex (item_data is))) refl)
 
-  pub domain_follows : (done : Items) (last : Nodes) → Leads (at_domains p done last) (at_domains p (push_item done (table (close last))) made) (domain_text_with d moments hex)
-  unfolding name_lines interrupt_lines segment_lines segment_items segment_item define along_header at_key along_dots
+  pub domain_follows : (done : Items) (last : Nodes)
+      → Leads (at_domains p done last) (at_domains p (push_item done (table (close last))) made)
+      (domain_text_with d moments hex)
+  unfolding name_lines interrupt_lines segment_lines segment_items segment_item define along_header at_key
+      along_dots
   domain_follows done last =
       let more = push_item done (table (close last)) in
       subst₂ (λ ns t. Leads (at_domains p done last) (at_domains p more ns) t) made_is same
@@ -290,7 +333,8 @@ slot_lines d w small =
     let within : w % 5000 < 5000 = mod-lt w (omega arith) in
     titled_line (codes "\n") (λ rest. refl) (array_header (codes "schedule") refl)
     ∷ value_line (codes "domain") (decimal d) (number d) refl (number_is 80 d (omega arith))
-    ∷ value_line (codes "length") (decimal (slot_length w)) (number (slot_length w)) refl (number_is 80 (slot_length w) (omega (arith, within)))
+    ∷ value_line (codes "length") (decimal (slot_length w)) (number (slot_length w)) refl
+    (number_is 80 (slot_length w) (omega (arith, within)))
     ∷ number_line (codes "pad") (codes "6150") 6150 refl refl (omega arith)
     ∷ []
 
@@ -298,15 +342,19 @@ slot_same : (d w : ℕ) (small : d < 256) → lines_text (slot_lines d w small) 
 unfolding slot_lines slot_text
 slot_same d w small = simp append_assoc refl
 
-pub slot_begins : (p : List ℕ) (ds : Items) (domain : Nodes) (d w : ℕ) → d < 256 → Leads (at_domains p ds domain) (at_schedule p ds domain no_items (slot_nodes d w)) (slot_text d w)
+pub slot_begins : (p : List ℕ) (ds : Items) (domain : Nodes) (d w : ℕ) → d < 256
+    → Leads (at_domains p ds domain) (at_schedule p ds domain no_items (slot_nodes d w)) (slot_text d w)
 unfolding slot_lines define along_header at_key along_dots
 slot_begins p ds domain d w small =
     subst (Leads (at_domains p ds domain) (at_schedule p ds domain no_items (slot_nodes d w))) (slot_same d w small)
     (leads_lines (slot_lines d w small) (at_domains p ds domain) (at_schedule p ds domain no_items (slot_nodes d w)) refl)
 
-pub slot_follows : (p : List ℕ) (ds : Items) (domain : Nodes) (d w : ℕ) → d < 256 → (done : Items) (last : Nodes)
-    → Leads (at_schedule p ds domain done last) (at_schedule p ds domain (push_item done (table (close last))) (slot_nodes d w)) (slot_text d w)
+pub slot_follows : (p : List ℕ) (ds : Items) (domain : Nodes) (d w : ℕ) → d < 256
+    → (done : Items) (last : Nodes)
+    → Leads (at_schedule p ds domain done last)
+    (at_schedule p ds domain (push_item done (table (close last))) (slot_nodes d w)) (slot_text d w)
 unfolding slot_lines define along_header at_key along_dots
 slot_follows p ds domain d w small done last =
     let next = at_schedule p ds domain (push_item done (table (close last))) (slot_nodes d w) in
-    subst (Leads (at_schedule p ds domain done last) next) (slot_same d w small) (leads_lines (slot_lines d w small) (at_schedule p ds domain done last) next refl)
+    subst (Leads (at_schedule p ds domain done last) next) (slot_same d w small)
+    (leads_lines (slot_lines d w small) (at_schedule p ds domain done last) next refl)

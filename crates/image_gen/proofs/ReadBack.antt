@@ -29,7 +29,8 @@ use Rattle.image_gen.proofs.Recorded.{members, recorded, whole}
 digit_simple : (c : ℕ) → is_hex_digit c ≡ true → is_simple c ≡ true
 digit_simple c h = grind (arith, nat_tests)
 
-all_simple : (p : ℕ → Bool) → ((c : ℕ) → p c ≡ true → is_simple c ≡ true) → (s : List ℕ) → list_all p s ≡ true → list_all is_simple s ≡ true
+all_simple : (p : ℕ → Bool) → ((c : ℕ) → p c ≡ true → is_simple c ≡ true) → (s : List ℕ) → list_all p s ≡ true
+    → list_all is_simple s ≡ true
 all_simple p from [] h = refl
 all_simple p from (c ∷ cs) h =
     let (here, more) = and_parts (p c) (list_all p cs) h in
@@ -42,7 +43,8 @@ hex_simple g =
     let (even, digits, sizes, back) = decode_of-ok (encode_lower bytes) bytes (decode_of-encode_lower bytes (le_bytes (program g))) in
     all_simple is_hex_digit digit_simple (encode_lower bytes) (list_all-from_AllPass is_hex_digit (encode_lower bytes) digits)
 
-policy_simple : (p : List ℕ) → (p ≡ codes "lru") ⊎ ((p ≡ codes "fifo") ⊎ (p ≡ codes "plru")) → list_all is_simple p ≡ true
+policy_simple : (p : List ℕ) → (p ≡ codes "lru") ⊎ ((p ≡ codes "fifo") ⊎ (p ≡ codes "plru"))
+    → list_all is_simple p ≡ true
 policy_simple p (inl e) = rw e refl
 policy_simple p (inr (inl e)) = rw e refl
 policy_simple p (inr (inr e)) = rw e refl
@@ -50,7 +52,9 @@ policy_simple p (inr (inr e)) = rw e refl
 -- ---- the text line after line
 
 few : (seed : ℕ) → (0 < count seed) × (0 + count seed ≤ 256)
-few seed = by_count (λ n. (0 < n) × (0 + n ≤ 256)) (omega arith, omega arith) (omega arith, omega arith) (omega arith, omega arith) (omega arith, omega arith) seed
+few seed =
+    by_count (λ n. (0 < n) × (0 + n ≤ 256)) (omega arith, omega arith) (omega arith, omega arith)
+    (omega arith, omega arith) (omega arith, omega arith) seed
 
 module _ (seed : ℕ) (small : seed < 2 ^ 64) where
   abbrev p : List ℕ
@@ -80,15 +84,21 @@ module _ (seed : ℕ) (small : seed < 2 ^ 64) where
   all_below : Each (λ k. k < 256) ks
   all_below = each_below 0 n 256 (few seed).1
 
-  domains_read : ReadAll (λ k. k < 256) (at_domains p) domain_made_nodes (λ d. domain_text d (at d)) (λ d l done last. domain_follows p d l (hex d) (hex_simple (at d)) (after 64 (at d)) done last) (at_machine p) ks
+  domains_read : ReadAll (λ k. k < 256) (at_domains p) domain_made_nodes (λ d. domain_text d (at d))
+      (λ d l done last. domain_follows p d l (hex d) (hex_simple (at d)) (after 64 (at d)) done last)
+      (at_machine p) ks
   domains_read =
-      tables_read (λ k. k < 256) (at_domains p) domain_made_nodes (λ d. domain_text d (at d)) (λ d l done last. domain_follows p d l (hex d) (hex_simple (at d)) (after 64 (at d)) done last) (at_machine p)
+      tables_read (λ k. k < 256) (at_domains p) domain_made_nodes (λ d. domain_text d (at d))
+      (λ d l done last. domain_follows p d l (hex d) (hex_simple (at d)) (after 64 (at d)) done last)
+      (at_machine p)
       (λ d l. domain_begins p d l (hex d) (hex_simple (at d)) (after 64 (at d))) 0 n (few seed).0 all_below
 
   slots_read : (ds : Items) (domain : Nodes)
-      → ReadAll (λ k. k < 256) (at_schedule p ds domain) slot_made_nodes (λ d. slot_text d (word (at n) d)) (λ d l done last. slot_follows p ds domain d (word (at n) d) l done last) (at_domains p ds domain) ks
+      → ReadAll (λ k. k < 256) (at_schedule p ds domain) slot_made_nodes (λ d. slot_text d (word (at n) d))
+      (λ d l done last. slot_follows p ds domain d (word (at n) d) l done last) (at_domains p ds domain) ks
   slots_read ds domain =
-      tables_read (λ k. k < 256) (at_schedule p ds domain) slot_made_nodes (λ d. slot_text d (word (at n) d)) (λ d l done last. slot_follows p ds domain d (word (at n) d) l done last) (at_domains p ds domain)
+      tables_read (λ k. k < 256) (at_schedule p ds domain) slot_made_nodes (λ d. slot_text d (word (at n) d))
+      (λ d l done last. slot_follows p ds domain d (word (at n) d) l done last) (at_domains p ds domain)
       (λ d l. slot_begins p ds domain d (word (at n) d) l) 0 n (few seed).0 all_below
 
   abbrev members_then : Members
@@ -103,8 +113,13 @@ module _ (seed : ℕ) (small : seed < 2 ^ 64) where
   parsed =
       let d = domains_read in
       let s = slots_read d.done d.last in
-      let start = leads_both (no_nodes, []) (no_nodes, []) (at_machine p) (heading seed) (machine_text p) (leads_blank _ (heading seed) (heading_blank seed small)) (machine_leads p (policy_simple p (policy_is seed))) in
-      let end = leads_both _ _ _ schedule_title (slots_text (at n) n) (leads_blank (at_domains p d.done d.last) schedule_title schedule_blank) s.leads in
+      let start =
+      leads_both (no_nodes, []) (no_nodes, []) (at_machine p) (heading seed) (machine_text p)
+      (leads_blank _ (heading seed) (heading_blank seed small))
+      (machine_leads p (policy_simple p (policy_is seed))) in
+      let end =
+      leads_both _ _ _ schedule_title (slots_text (at n) n)
+      (leads_blank (at_domains p d.done d.last) schedule_title schedule_blank) s.leads in
       let all = leads_both _ _ _ (front seed) _ start (leads_both _ _ _ (domains_text seed n) _ d.leads end) in
       leads_whole (text seed) (at_schedule p d.done d.last s.done s.last) unmarked all
       ∙ ap₂ (λ (x y : Items). Some (image_members p x y)) d.all s.all

@@ -13,15 +13,19 @@ use Rattle.image_gen.proofs.Tables.{image_members, domain_nodes, moments_data, s
 
 -- ---- items made from numbers
 
-mapped : {A : Type 0} (read : Data → A) (made : ℕ → Data) (value : ℕ → A) → ((k : ℕ) → read (made k) ≡ value k) → (ks : List ℕ) → map_items read (items_of (map made ks)) ≡ map value ks
+mapped : {A : Type 0} (read : Data → A) (made : ℕ → Data) (value : ℕ → A)
+    → ((k : ℕ) → read (made k) ≡ value k) → (ks : List ℕ)
+    → map_items read (items_of (map made ks)) ≡ map value ks
 mapped read made value same [] = refl
 mapped read made value same (k ∷ ks) = rw (same k, mapped read made value same ks)
 
-all_made : (p : Data → Bool) (made : ℕ → Data) → ((k : ℕ) → p (made k) ≡ true) → (ks : List ℕ) → all_items p (items_of (map made ks)) ≡ true
+all_made : (p : Data → Bool) (made : ℕ → Data) → ((k : ℕ) → p (made k) ≡ true) → (ks : List ℕ)
+    → all_items p (items_of (map made ks)) ≡ true
 all_made p made pass [] = refl
 all_made p made pass (k ∷ ks) = rw (pass k, all_made p made pass ks)
 
-none_failing : (p : Data → Bool) (made : ℕ → Data) → ((k : ℕ) → p (made k) ≡ true) → (n : ℕ) (ks : List ℕ) → first_failing p n (items_of (map made ks)) ≡ None
+none_failing : (p : Data → Bool) (made : ℕ → Data) → ((k : ℕ) → p (made k) ≡ true) → (n : ℕ) (ks : List ℕ)
+    → first_failing p n (items_of (map made ks)) ≡ None
 none_failing p made pass n [] = refl
 none_failing p made pass n (k ∷ ks) = rw (pass k) (none_failing p made pass (n + 1) ks)
 
@@ -48,7 +52,8 @@ module _ (p : List ℕ) (h : ℕ → List ℕ) (w : ℕ → ℕ → ℕ) (v : �
   abbrev pub members : Members
   members = image_members p (items_of (map domain_made ds)) (items_of (map slot_made es))
 
-  domain_recorded : (d : ℕ) → domain_in (domain_made d) ≡ domain_with d (h d) (map (λ k. moment d k (w d k)) (range_with_len 0 8))
+  domain_recorded : (d : ℕ)
+      → domain_in (domain_made d) ≡ domain_with d (h d) (map (λ k. moment d k (w d k)) (range_with_len 0 8))
   unfolding domain_of segment_of domain_with
   domain_recorded d = refl
 
@@ -56,15 +61,19 @@ module _ (p : List ℕ) (h : ℕ → List ℕ) (w : ℕ → ℕ → ℕ) (v : �
   unfolding entry_of
   slot_recorded d = refl
 
-  pub recorded : record_of members ≡ image_with p (map (λ d. domain_with d (h d) (map (λ k. moment d k (w d k)) (range_with_len 0 8))) ds) (map (λ d. entry d (v d)) es)
+  pub recorded : record_of members
+      ≡ image_with p (map (λ d. domain_with d (h d) (map (λ k. moment d k (w d k)) (range_with_len 0 8))) ds)
+      (map (λ d. entry d (v d)) es)
   unfolding record_of cache_of costs_of image_with
   recorded = rw (mapped domain_in domain_made _ domain_recorded ds, mapped entry_in slot_made _ slot_recorded es)
 
-  in_slots : (test : Data → Bool) → ((k : ℕ) → test (slot_made k) ≡ true) → first_failing test 0 (items_of (map slot_made es)) ≡ None
+  in_slots : (test : Data → Bool) → ((k : ℕ) → test (slot_made k) ≡ true)
+      → first_failing test 0 (items_of (map slot_made es)) ≡ None
   in_slots test pass = none_failing test slot_made pass 0 es
 
   unbroken : Unbroken members (take 25 key_rows)
-  unfolding Unbroken key_rows cache_fields level2_fields cost_fields broken_in whole_in whole_item whole_segments fits
+  unfolding Unbroken key_rows cache_fields level2_fields cost_fields broken_in whole_in whole_item
+      whole_segments fits
   unbroken =
       let top = all_made (λ x. is_some (as_table x)) domain_made (λ k. refl) ds in
       let slots = all_made (λ x. is_some (as_table x)) slot_made (λ k. refl) es in (
@@ -135,11 +144,13 @@ module _ (p : List ℕ) (h : ℕ → List ℕ) (w : ℕ → ℕ → ℕ) (v : �
         ),
       )
     where
-      in_domains : (test : Data → Bool) → ((k : ℕ) → test (domain_made k) ≡ true) → first_failing test 0 (items_of (map domain_made ds)) ≡ None
+      in_domains : (test : Data → Bool) → ((k : ℕ) → test (domain_made k) ≡ true)
+          → first_failing test 0 (items_of (map domain_made ds)) ≡ None
       in_domains test pass = none_failing test domain_made pass 0 ds
 
   known : all_known 1 key_rows members ≡ true
-  unfolding all_known known_table known_item known_domain key_rows cache_fields level2_fields cost_fields muldiv_fields
+  unfolding all_known known_table known_item known_domain key_rows cache_fields level2_fields cost_fields
+      muldiv_fields
   known =
       rw (
         all_made (λ d. is_some (as_table d) || no_key d) domain_made (λ k. refl) ds,

@@ -57,7 +57,8 @@ number_is n k small = word_is n (decimal k) (Integer (pos k)) (IsWord-pos k smal
 abbrev pub is_simple : ℕ → Bool
 is_simple c = is_word c || c == 32
 
-pub none_of : (p : ℕ → Bool) → ((c : ℕ) → is_simple c ≡ true → p c ≡ false) → (s : List ℕ) → list_all is_simple s ≡ true → list_any p s ≡ false
+pub none_of : (p : ℕ → Bool) → ((c : ℕ) → is_simple c ≡ true → p c ≡ false) → (s : List ℕ)
+    → list_all is_simple s ≡ true → list_any p s ≡ false
 none_of p none [] all = refl
 none_of p none (c ∷ cs) all =
     let (here, more) = and_parts (is_simple c) (list_all is_simple cs) all in
@@ -100,7 +101,8 @@ after_comma : (closing : ℕ) (t : List ℕ) → after_element closing (44 ∷ t
 unfolding after_element
 after_comma closing t = rw (skip_none (44 ∷ t) 44 refl refl)
 
-after_at : (closing : ℕ) (text t : List ℕ) → skip_blank text ≡ closing ∷ t → (closing == 44) ≡ false → after_element closing text ≡ Some (closing ∷ t)
+after_at : (closing : ℕ) (text t : List ℕ) → skip_blank text ≡ closing ∷ t → (closing == 44) ≡ false
+    → after_element closing text ≡ Some (closing ∷ t)
 unfolding after_element
 after_at closing text t at_closing other = rw (at_closing, other, eq-eqb closing closing refl)
 
@@ -120,13 +122,23 @@ abbrev pub items_text : {n : ℕ} → Bool → Bool → List (Item n) → List �
 items_text lines is_first [] = array_end lines
 items_text lines is_first (i ∷ is) = before_item lines is_first ++ (i.text ++ (after_item lines ++ items_text lines false is))
 
-after_items : {n : ℕ} (lines : Bool) (is : List (Item n)) (rest : List ℕ) → AfterElement 93 (after_item lines ++ (items_text lines false is ++ rest)) (items_text lines false is ++ rest)
+after_items : {n : ℕ} (lines : Bool) (is : List (Item n)) (rest : List ℕ)
+    → AfterElement 93 (after_item lines ++ (items_text lines false is ++ rest))
+    (items_text lines false is ++ rest)
 after_items true [] rest = (10 ∷ 93 ∷ rest, after_comma 93 _, refl, omega arith, ((refl, refl), (refl, refl)))
-after_items false [] rest = (93 ∷ rest, after_at 93 (93 ∷ rest) rest (skip_none (93 ∷ rest) 93 refl refl) refl, refl, omega arith, ((refl, refl), (refl, refl)))
+after_items false [] rest = (
+  93
+      ∷ rest,
+  after_at 93 (93 ∷ rest) rest (skip_none (93 ∷ rest) 93 refl refl) refl,
+  refl,
+  omega arith,
+  ((refl, refl), (refl, refl)),
+)
 after_items true (i ∷ is) rest = (_, after_comma 93 _, refl, omega arith, ((refl, refl), (refl, refl)))
 after_items false (i ∷ is) rest = (_, after_comma 93 _, refl, omega arith, ((refl, refl), (refl, refl)))
 
-read_items : {n : ℕ} (lines is_first : Bool) (is : List (Item n)) (rest x : List ℕ) (found : Items) (m : ℕ) → skip_blank x ≡ skip_blank (strip_if is_first (items_text lines is_first is ++ rest)) → length x < m
+read_items : {n : ℕ} (lines is_first : Bool) (is : List (Item n)) (rest x : List ℕ) (found : Items) (m : ℕ)
+    → skip_blank x ≡ skip_blank (strip_if is_first (items_text lines is_first is ++ rest)) → length x < m
     → items (val n) m found x ≡ Some (item_join found (item_data is), rest)
 read_items {n = n} lines is_first [] rest x found m skip room =
     let closing : skip_blank x ≡ 93 ∷ rest = skip ∙ blanks_end lines is_first rest in
@@ -147,7 +159,8 @@ read_items {n = n} lines is_first (i ∷ is) rest x found m skip room =
     items_more (val n) m found x i.value r2 next (omega arith) other (rw at_start (i.is.reads r2 ends)) element ∙ tail
     ∙ ap (λ t. Some (t, rest)) (item_join-push found i.value (item_data is))
 
-pub array_is : {n : ℕ} (lines : Bool) (is : List (Item n)) → IsText (suc n) (array (item_data is)) (91 ∷ items_text lines true is)
+pub array_is : {n : ℕ} (lines : Bool) (is : List (Item n))
+    → IsText (suc n) (array (item_data is)) (91 ∷ items_text lines true is)
 array_is {n = n} lines is = record {
   some = omega arith;
   starts = λ rest. refl;
@@ -178,10 +191,18 @@ some_step : (o : Option Nodes) (then : Nodes → Option Nodes) (last : Nodes) �
 some_step None then last e = absurd (none-some last e)
 some_step (Some more) then last e = (more, refl, e)
 
-after_pairs : {n : ℕ} (ps : List (Pair n)) (rest : List ℕ) → AfterElement 125 (pairs_text false ps ++ rest) (pairs_text false ps ++ rest)
+after_pairs : {n : ℕ} (ps : List (Pair n)) (rest : List ℕ)
+    → AfterElement 125 (pairs_text false ps ++ rest) (pairs_text false ps ++ rest)
 after_pairs [] rest =
-    let closing : skip_blank (32 ∷ 125 ∷ rest) ≡ 125 ∷ rest = skip_space (125 ∷ rest) ∙ skip_none (125 ∷ rest) 125 refl refl in
-    (125 ∷ rest, after_at 125 (32 ∷ 125 ∷ rest) rest closing refl, skip_none (125 ∷ rest) 125 refl refl ∙ sym closing, omega arith, ((refl, refl), (refl, refl)))
+    let closing : skip_blank (32 ∷ 125 ∷ rest) ≡ 125 ∷ rest = skip_space (125 ∷ rest) ∙ skip_none (125 ∷ rest) 125 refl refl in (
+      125
+          ∷ rest,
+      after_at 125 (32 ∷ 125 ∷ rest) rest closing refl,
+      skip_none (125 ∷ rest) 125 refl refl
+          ∙ sym closing,
+      omega arith,
+      ((refl, refl), (refl, refl)),
+    )
 after_pairs (p ∷ ps) rest = (_, after_comma 125 _, refl, omega arith, ((refl, refl), (refl, refl)))
 
 pub key_starts : (k rest : List ℕ) → starts_value (first (key_text k ++ rest)) ≡ true
@@ -189,8 +210,10 @@ key_starts k rest =
     let start = is_key_start-key_text k rest in
     grind (arith, nat_tests)
 
-read_pairs : {n : ℕ} (is_first : Bool) (ps : List (Pair n)) (rest x : List ℕ) (found last : Nodes) (m : ℕ) → put_all ps found ≡ Some last
-    → skip_blank x ≡ skip_blank (strip_if is_first (pairs_text is_first ps ++ rest)) → length x < m → members (val n) m found x ≡ Some (close last, rest)
+read_pairs : {n : ℕ} (is_first : Bool) (ps : List (Pair n)) (rest x : List ℕ) (found last : Nodes) (m : ℕ)
+    → put_all ps found ≡ Some last
+    → skip_blank x ≡ skip_blank (strip_if is_first (pairs_text is_first ps ++ rest)) → length x < m
+    → members (val n) m found x ≡ Some (close last, rest)
 read_pairs {n = n} is_first [] rest x found last m all skip room =
     let closing : skip_blank x ≡ 125 ∷ rest = skip ∙ blanks_table_end is_first rest in
     members_end (val n) m found x (omega arith) (rw closing refl) ∙ rw (closing, same_Some found last all)
@@ -211,7 +234,8 @@ read_pairs {n = n} is_first (p ∷ ps) rest x found last m all skip room =
     let tail = read_pairs false ps rest next more last (m - 1) others next_skip (omega arith) in
     members_more (val n) m found more x ([], p.key) p.value r2 next (omega arith) other (rw at_start pair) edit element ∙ tail
 
-pub table_is : {n : ℕ} (ps : List (Pair n)) (last : Nodes) → put_all ps no_nodes ≡ Some last → IsText (suc n) (table (close last)) (123 ∷ pairs_text true ps)
+pub table_is : {n : ℕ} (ps : List (Pair n)) (last : Nodes) → put_all ps no_nodes ≡ Some last
+    → IsText (suc n) (table (close last)) (123 ∷ pairs_text true ps)
 table_is {n = n} ps last all = record {
   some = omega arith;
   starts = λ rest. refl;

@@ -18,7 +18,8 @@ unfolding count word state_after
 four_domains = refl
 
 -- LUI x5, 0x20; ADDI x17, x0, 1; BEQ x9, x13, +8; ADDI x10, x6, 218; ECALL
-pub first_instructions : take 5 (program (at_domain 7 0)) ≡ 0x000202B7 ∷ 0x00100893 ∷ 0x00D48463 ∷ 0x0DA30513 ∷ 0x00000073 ∷ []
+pub first_instructions : take 5 (program (at_domain 7 0))
+    ≡ 0x000202B7 ∷ 0x00100893 ∷ 0x00D48463 ∷ 0x0DA30513 ∷ 0x00000073 ∷ []
 unfolding program instruction word state_after
 first_instructions = refl
 

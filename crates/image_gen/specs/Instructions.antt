@@ -37,4 +37,5 @@ abbrev pub last_instructions : List Instr
 last_instructions = Immediate Add 0 0 0 ∷ Immediate Add 0 0 0 ∷ Jal 0 (2 ^ 32 - 264) ∷ []
 
 unfoldable pub instructions : Lcg → List Instr
-instructions g = first_instructions ++ (map (λ k. chosen (word g k)) (range_with_len 0 64) ++ last_instructions)
+instructions g =
+    first_instructions ++ (map (λ k. chosen (word g k)) (range_with_len 0 64) ++ last_instructions)

@@ -9,7 +9,9 @@ use Rattle.image_gen.specs.Generated.{moment_at, slot_length, policy_of, count, 
 
 -- where the text comes from
 unfoldable pub heading : ℕ → List ℕ
-heading seed = concat (codes "# Generated from seed " ∷ decimal seed ∷ codes ", by: ./tp gen --seed " ∷ decimal seed ∷ codes "\n" ∷ [])
+heading seed =
+    concat (codes "# Generated from seed " ∷ decimal seed ∷ codes ", by: ./tp gen --seed " ∷ decimal seed
+    ∷ codes "\n" ∷ [])
 
 -- the machine, whose second level has this policy
 unfoldable pub machine_text : List ℕ → List ℕ
@@ -32,7 +34,8 @@ abbrev pub separator : ℕ → List ℕ
 separator k = if k == 0 then [] else codes ", "
 
 abbrev pub moment_text : ℕ → ℕ → ℕ → List ℕ
-moment_text d k w = concat (separator k ∷ codes "[" ∷ decimal (moment_at k w) ∷ codes ", " ∷ decimal d ∷ codes "]" ∷ [])
+moment_text d k w =
+    concat (separator k ∷ codes "[" ∷ decimal (moment_at k w) ∷ codes ", " ∷ decimal d ∷ codes "]" ∷ [])
 
 unfoldable pub moments_text : ℕ → Lcg → List ℕ
 moments_text d g = flat_map (λ k. moment_text d k (word g k)) (range_with_len 0 8)
@@ -45,7 +48,8 @@ name_text d = concat (
 
 unfoldable pub interrupts_text : ℕ → List ℕ → List ℕ
 interrupts_text d moments = concat (
-    codes "caps = [\"irq " ∷ decimal d ∷ codes "\"]\nlines = [" ∷ decimal d ∷ codes "]\nmoments = [" ∷ moments ∷ codes "]\n"
+    codes "caps = [\"irq " ∷ decimal d ∷ codes "\"]\nlines = [" ∷ decimal d ∷ codes "]\nmoments = [" ∷ moments
+    ∷ codes "]\n"
     ∷ [])
 
 unfoldable pub segments_text : List ℕ → List ℕ
@@ -65,7 +69,8 @@ domain_text d g = domain_text_with d (moments_text d (after 64 g)) (encode_lower
 
 unfoldable pub slot_text : ℕ → ℕ → List ℕ
 slot_text d w = concat (
-    codes "\n[[schedule]]\ndomain = " ∷ decimal d ∷ codes "\nlength = " ∷ decimal (slot_length w) ∷ codes "\npad = 6150\n"
+    codes "\n[[schedule]]\ndomain = " ∷ decimal d ∷ codes "\nlength = " ∷ decimal (slot_length w)
+    ∷ codes "\npad = 6150\n"
     ∷ [])
 
 unfoldable pub schedule_title : List ℕ
@@ -82,4 +87,5 @@ slots_text g n = flat_map (λ d. slot_text d (word g d)) (range_with_len 0 n)
 unfoldable pub text : ℕ → List ℕ
 text seed =
     front seed
-    ++ (domains_text seed (count seed) ++ (schedule_title ++ slots_text (at_domain seed (count seed)) (count seed)))
+    ++ (domains_text seed (count seed)
+    ++ (schedule_title ++ slots_text (at_domain seed (count seed)) (count seed)))

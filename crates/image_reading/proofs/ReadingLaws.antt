@@ -15,11 +15,13 @@ abbrev value_or : Image → Result Image Refusal → Image
 value_or i (Ok j) = j
 value_or i (Err r) = i
 
-unbroken_runs : (t : text.Raw) (i : Image) (rs : List Refusal) → InKeyRanges t → broken t ≡ rs → unless_broken t rs ≡ Ok i → Runnable i
+unbroken_runs : (t : text.Raw) (i : Image) (rs : List Refusal) → InKeyRanges t → broken t ≡ rs
+    → unless_broken t rs ≡ Ok i → Runnable i
 unbroken_runs t i [] ranges whole e = subst Runnable (ap (value_or i) e) (runnable_law t ranges whole)
 unbroken_runs t i (r ∷ rs) ranges whole e = absurd (cc)
 
-checked_runs : (found : Result text.Raw Refusal) (i : Image) → ((t : text.Raw) → found ≡ Ok t → InKeyRanges t) → checked found ≡ Ok i → Runnable i
+checked_runs : (found : Result text.Raw Refusal) (i : Image) → ((t : text.Raw) → found ≡ Ok t → InKeyRanges t)
+    → checked found ≡ Ok i → Runnable i
 unfolding checked
 checked_runs (Err r) i ranges e = absurd (cc)
 checked_runs (Ok t) i ranges e = unbroken_runs t i (broken t) (ranges t refl) refl e

@@ -42,7 +42,8 @@ pub found : (xs : List ℤ) (n : ℕ) → has (map natural_of xs) n ≡ true →
 found [] n h = absurd (true≢false (sym h))
 found (x ∷ xs) n h = by_case (found xs n) (nat_eq (natural_of x) n) refl
   where
-    by_case : (has (map natural_of xs) n ≡ true → Found xs n) → (b : Bool) → nat_eq (natural_of x) n ≡ b → Found (x ∷ xs) n
+    by_case : (has (map natural_of xs) n ≡ true → Found xs n) → (b : Bool) → nat_eq (natural_of x) n ≡ b
+        → Found (x ∷ xs) n
     by_case later true e = record { place = 0; within = omega arith; same = eqb-true (natural_of x) n e }
     by_case later false e =
         let rest = later (sym (ap (λ b. b || has (map natural_of xs) n) e) ∙ h) in
@@ -58,9 +59,12 @@ pub stands : (xs : List ℤ) (x : ℤ) → names xs x ≡ true → Stands xs x
 stands [] x h = absurd (true≢false (sym h))
 stands (y ∷ ys) x h = by_case (stands ys x) (or_cases (is_same y x) (names ys x) h)
   where
-    by_case : (names ys x ≡ true → Stands ys x) → (is_same y x ≡ true) ⊎ (names ys x ≡ true) → Stands (y ∷ ys) x
+    by_case : (names ys x ≡ true → Stands ys x) → (is_same y x ≡ true) ⊎ (names ys x ≡ true)
+        → Stands (y ∷ ys) x
     by_case later (inl here) = record { place = 0; within = omega arith; same = same_is y x here }
-    by_case later (inr there) = let rest = later there in record { place = suc rest.place; within = omega (arith, rest.within); same = rest.same }
+    by_case later (inr there) =
+        let rest = later there in
+        record { place = suc rest.place; within = omega (arith, rest.within); same = rest.same }
 
 pub names_at : (xs : List ℤ) (k : ℕ) → k < length xs → (d : ℤ) → names xs (get_or xs k d) ≡ true
 names_at xs k l d = list_any_at (λ y. is_same y (get_or xs k d)) xs k d l (same_itself (get_or xs k d))
@@ -69,6 +73,7 @@ names_at xs k l d = list_any_at (λ y. is_same y (get_or xs k d)) xs k d l (same
 pub has_natural : (xs : List ℤ) (x : ℤ) → names xs x ≡ true → has (map natural_of xs) (natural_of x) ≡ true
 has_natural xs x h =
     let s = stands xs x h in
-    let same : get_or (map natural_of xs) s.place 0 ≡ natural_of x = get_or-map natural_of xs s.place (pos 0) 0 s.within ∙ ap natural_of s.same in
+    let same : get_or (map natural_of xs) s.place 0 ≡ natural_of x =
+    get_or-map natural_of xs s.place (pos 0) 0 s.within ∙ ap natural_of s.same in
     let equal : nat_eq (get_or (map natural_of xs) s.place 0) (natural_of x) ≡ true = grind (arith, nat_tests, same) in
     list_any_at (λ m. nat_eq m (natural_of x)) (map natural_of xs) s.place 0 (omega (arith, length-map xs natural_of, s.within)) equal

@@ -29,7 +29,8 @@ abbrev pub muldiv_model : RawMuldiv → spec.RawMuldiv
 muldiv_model c = record { mul = c.mul; div = c.div }
 
 abbrev pub segment_model : RawSegment → spec.RawSegment
-segment_model s = record { page = s.page; pages = s.pages; rights = string_bytes s.rights; hex = string_bytes s.hex }
+segment_model s =
+    record { page = s.page; pages = s.pages; rights = string_bytes s.rights; hex = string_bytes s.hex }
 
 abbrev pub moment_model : RawMoment → spec.RawMoment
 moment_model m = record { at = m.at; line = m.line }

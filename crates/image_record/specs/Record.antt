@@ -80,7 +80,16 @@ abbrev pub no_raw_segment : RawSegment
 no_raw_segment = record { page = 0; pages = 1; rights = []; hex = [] }
 
 abbrev pub no_raw_domain : RawDomain
-no_raw_domain = record { name = []; colours = []; entry = 0; segments = []; caps = []; lines = []; moments = []; calls = None }
+no_raw_domain = record {
+  name = [];
+  colours = [];
+  entry = 0;
+  segments = [];
+  caps = [];
+  lines = [];
+  moments = [];
+  calls = None;
+}
 
 abbrev pub raw_domain : List RawDomain → ℕ → RawDomain
 raw_domain domains d = slice_index_or domains d no_raw_domain

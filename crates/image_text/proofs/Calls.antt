@@ -18,13 +18,15 @@ use Rattle.image_text.proofs.Ranges.{passing_at}
 -- ---- a key that isn't known
 
 module _ (p : List ℕ → Bool) (key l : List ℕ) (x : Data) (ms : Members) where
-  not_here : (o : Ordering) → slice_cmp nat_cmp key l ≡ o → p key ≡ false → p l ≡ true → get_member key ms ≡ None
+  not_here : (o : Ordering) → slice_cmp nat_cmp key l ≡ o → p key ≡ false → p l ≡ true
+      → get_member key ms ≡ None
       → match_ordering o (get_member key ms) (Some x) (get_member key ms) ≡ None
   not_here Less e unknown here rest = rest
   not_here Equal e unknown here rest = absurd (true≢false (sym here ∙ ap p (sym (exact_bytes key l e)) ∙ unknown))
   not_here Greater e unknown here rest = rest
 
-missing : (p : List ℕ → Bool) (key : List ℕ) (t : Members) → p key ≡ false → all_keys p t ≡ true → get_member key t ≡ None
+missing : (p : List ℕ → Bool) (key : List ℕ) (t : Members) → p key ≡ false → all_keys p t ≡ true
+    → get_member key t ≡ None
 missing p key no_members unknown h = refl
 missing p key (member l x ms) unknown h =
     let both = and_parts (p l) (all_keys p ms) h in
@@ -39,7 +41,8 @@ unknown_calls : is_known 1 DomainPlace key_rows (codes "calls") ≡ false
 unfolding key_rows
 unknown_calls = refl
 
-no_calls_in : (t : Members) → known_table 1 DomainPlace key_rows t ≡ true → get_member (codes "calls") t ≡ None
+no_calls_in : (t : Members) → known_table 1 DomainPlace key_rows t ≡ true
+    → get_member (codes "calls") t ≡ None
 unfolding known_table
 no_calls_in t h = missing (is_known 1 DomainPlace key_rows) (codes "calls") t unknown_calls (and_parts _ _ h).0
 
@@ -63,22 +66,26 @@ none_here (Data.float x) h = refl
 none_here (Data.boolean b) h = refl
 none_here (Data.datetime t) h = refl
 
-all_known_here : (t : Members) → all_known 1 key_rows t ≡ true → all_items (known_domain 1 key_rows) (items_at (codes "domain") t) ≡ true
+all_known_here : (t : Members) → all_known 1 key_rows t ≡ true
+    → all_items (known_domain 1 key_rows) (items_at (codes "domain") t) ≡ true
 unfolding all_known
 all_known_here t h = (and_parts _ _ (and_parts _ _ h).0).1
 
-known_first : (t : Members) → broken_key t ≡ None → version_of t ≡ 1 → all_items (known_domain 1 key_rows) (items_at (codes "domain") t) ≡ true
+known_first : (t : Members) → broken_key t ≡ None → version_of t ≡ 1
+    → all_items (known_domain 1 key_rows) (items_at (codes "domain") t) ≡ true
 known_first t h first = all_known_here t (subst (λ v. all_known v key_rows t ≡ true) first (keys_known t h))
 
 -- ---- the row of calls is whole, in each version
 
-items_too : (p q : Data → Bool) → ((d : Data) → p d ≡ true → q d ≡ true) → (ds : Items) → all_items p ds ≡ true → all_items q ds ≡ true
+items_too : (p q : Data → Bool) → ((d : Data) → p d ≡ true → q d ≡ true) → (ds : Items)
+    → all_items p ds ≡ true → all_items q ds ≡ true
 items_too p q from no_items h = refl
 items_too p q from (item d ds) h =
     let both = and_parts (p d) (all_items p ds) h in
     rw (from d both.0) (items_too p q from ds both.1)
 
-whole_second : (t : Members) → broken_in 2 calls_row t ≡ None → all_items (whole_item calls_row) (items_at (codes "domain") t) ≡ true
+whole_second : (t : Members) → broken_in 2 calls_row t ≡ None
+    → all_items (whole_item calls_row) (items_at (codes "domain") t) ≡ true
 unfolding broken_in
 whole_second t h = all_pass _ 0 (items_at (codes "domain") t) h
 
@@ -86,7 +93,8 @@ row_second : (t : Members) → first_broken 2 (drop 25 key_rows) t ≡ None → 
 unfolding key_rows
 row_second t h = first_whole 2 calls_row _ t (whole_from 2 2 _ t h)
 
-pub calls_whole : (t : Members) → broken_key t ≡ None → all_items (whole_item calls_row) (items_at (codes "domain") t) ≡ true
+pub calls_whole : (t : Members) → broken_key t ≡ None
+    → all_items (whole_item calls_row) (items_at (codes "domain") t) ≡ true
 calls_whole t h = elim (versions t) [
   | inl first ↦ items_too (known_domain 1 key_rows) (whole_item calls_row) whole_here (items_at (codes "domain") t) (known_first t h first)
   | inr second ↦ whole_second t (row_second t (subst (λ v. first_broken v (drop 25 key_rows) t ≡ None) second (later_whole t h)))
@@ -100,7 +108,8 @@ NoCalls i = i.version ≡ 1 → (d : ℕ) → (raw_domain i.domains d).calls ≡
 of_record : (t : Members) → broken_key t ≡ None → NoCalls (record_of t)
 unfolding record_of
 of_record t h first d =
-    passing_at (known_domain 1 key_rows) domain_in (λ o. o.calls ≡ None) no_raw_domain refl none_here (items_at (codes "domain") t) (known_first t h first) d
+    passing_at (known_domain 1 key_rows) domain_in (λ o. o.calls ≡ None) no_raw_domain refl none_here
+    (items_at (codes "domain") t) (known_first t h first) d
 
 of_whole : (t : Members) (b : Option Broken) → broken_key t ≡ b → IfOk (read_whole t b) NoCalls
 of_whole t None h = of_record t h

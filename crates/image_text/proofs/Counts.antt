@@ -29,7 +29,8 @@ same_integers [] = refl
 same_integers (z ∷ zs) = ap (λ rest. z ∷ rest) (same_integers zs)
 
 -- integers are read as themselves
-pub plain_integers : (result : Result (Vec ℤ Global) ReadRefusal) (ys : List ℤ) → Makes (λ found. map (λ z. z) found.items) result ys → Makes (λ found. found.items) result ys
+pub plain_integers : (result : Result (Vec ℤ Global) ReadRefusal) (ys : List ℤ)
+    → Makes (λ found. map (λ z. z) found.items) result ys → Makes (λ found. found.items) result ys
 plain_integers (Ok found) ys h = sym (same_integers found.items) ∙ h
 plain_integers (Err Memory) ys h = tt
 plain_integers (Err (Broken r)) ys h = h

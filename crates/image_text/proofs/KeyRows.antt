@@ -13,11 +13,13 @@ pub at_least_25 : (rows : List Row) → map row_model rows ≡ key_rows → 25 �
 unfolding key_rows
 at_least_25 rows h = let count = row_count rows h in search (arith, count)
 
-pub first_part : (n : ℕ) (rows : List Row) → map row_model rows ≡ key_rows → map row_model (take n rows) ≡ take n key_rows
+pub first_part : (n : ℕ) (rows : List Row) → map row_model rows ≡ key_rows
+    → map row_model (take n rows) ≡ take n key_rows
 first_part n rows h = sym (take-map row_model n rows) ∙ ap (take n) h
 
 whole_rest : (n : ℕ) (rows : List Row) → take (length rows - n) (drop n rows) ≡ drop n rows
 whole_rest n rows = rw (sym (length-drop n rows)) (take-length (drop n rows))
 
-pub last_part : (n : ℕ) (rows : List Row) → map row_model rows ≡ key_rows → map row_model (take (length rows - n) (drop n rows)) ≡ drop n key_rows
+pub last_part : (n : ℕ) (rows : List Row) → map row_model rows ≡ key_rows
+    → map row_model (take (length rows - n) (drop n rows)) ≡ drop n key_rows
 last_part n rows h = ap (map row_model) (whole_rest n rows) ∙ sym (drop-map row_model n rows) ∙ ap (drop n) h

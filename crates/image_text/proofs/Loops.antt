@@ -8,10 +8,12 @@ use Rattle.toml.specs.View.{view, items_view}
 use Rattle.image_text.specs.Rows.{first_failing}
 use Rattle.image_text.specs.Record.{map_items}
 
-from_here : {A : Type 0} (xs : List A) (k : ℕ) (x d : A) → k < length xs → x ≡ get_or xs k d → drop k xs ≡ x ∷ drop (k + 1) xs
+from_here : {A : Type 0} (xs : List A) (k : ℕ) (x d : A) → k < length xs → x ≡ get_or xs k d
+    → drop k xs ≡ x ∷ drop (k + 1) xs
 from_here xs k x d below is = drop_more xs k d below ∙ ap (λ y. y ∷ drop (k + 1) xs) (sym is)
 
-module _ {A : Type 0} (f : List A → Bool) (q : A → Bool) (xs : List A) (k : ℕ) (x d : A) (below : k < length xs) (is : x ≡ get_or xs k d) where
+module _ {A : Type 0} (f : List A → Bool) (q : A → Bool) (xs : List A) (k : ℕ) (x d : A)
+    (below : k < length xs) (is : x ≡ get_or xs k d) where
   here : drop k xs ≡ x ∷ drop (k + 1) xs
   here = from_here xs k x d below is
 
@@ -38,21 +40,26 @@ module _ {A : Type 0} (f : List A → Bool) (q : A → Bool) (xs : List A) (k : 
     found so left = sym (either ∙ ap (λ b. b || f (drop (k + 1) xs)) (sym so)) ∙ left
 
 -- no item is left
-pub ended : {A : Type 0} (f : List A → Bool) (b : Bool) (xs : List A) (k : ℕ) → length xs ≤ k → f [] ≡ b → f (drop k xs) ≡ f xs → b ≡ f xs
+pub ended : {A : Type 0} (f : List A → Bool) (b : Bool) (xs : List A) (k : ℕ) → length xs ≤ k → f [] ≡ b
+    → f (drop k xs) ≡ f xs → b ≡ f xs
 ended f b xs k past none left = sym (ap f (drop_all k xs past) ∙ none) ∙ left
 
 -- ---- the first value that fails
 
 module _ (p : Data → Bool) (vs : List Value) (k : ℕ) (whole : Option ℕ) (left : first_failing p k (items_view (drop k vs)) ≡ whole) where
   module _ (v d : Value) (below : k < length vs) (is : v ≡ get_or vs k d) where
-    at : first_failing p k (items_view (drop k vs)) ≡ (if p (view v) then first_failing p (k + 1) (items_view (drop (k + 1) vs)) else Some k)
+    at : first_failing p k (items_view (drop k vs))
+        ≡ (if p (view v) then first_failing p (k + 1) (items_view (drop (k + 1) vs)) else Some k)
     at = ap (λ ws. first_failing p k (items_view ws)) (from_here vs k v d below is)
 
     pub passed : true ≡ p (view v) → first_failing p (k + 1) (items_view (drop (k + 1) vs)) ≡ whole
     passed so = sym (at ∙ ap (λ (b : Bool). if b then first_failing p (k + 1) (items_view (drop (k + 1) vs)) else Some k) (sym so)) ∙ left
 
     pub failed : false ≡ p (view v) → Some k ≡ whole
-    failed not_so = sym (at ∙ ap (λ (b : Bool). if b then first_failing p (k + 1) (items_view (drop (k + 1) vs)) else Some k) (sym not_so)) ∙ left
+    failed not_so =
+        sym (at
+        ∙ ap (λ (b : Bool). if b then first_failing p (k + 1) (items_view (drop (k + 1) vs)) else Some k)
+        (sym not_so)) ∙ left
 
   pub none_failed : length vs ≤ k → None ≡ whole
   none_failed past = sym (ap (λ ws. first_failing p k (items_view ws)) (drop_all k vs past)) ∙ left
@@ -61,7 +68,8 @@ module _ (p : Data → Bool) (vs : List Value) (k : ℕ) (whole : Option ℕ) (l
 
 module _ {A P : Type 0} (model : A → P) (part : Data → P) (old : List A) (vs : List Value) (k : ℕ) (all : List P)
     (left : map model old ++ map_items part (items_view (drop k vs)) ≡ all) where
-  pub one_read : (new : List A) (x : A) (v d : Value) → k < length vs → v ≡ get_or vs k d → new ≡ old ++ x ∷ [] → model x ≡ part (view v)
+  pub one_read : (new : List A) (x : A) (v d : Value) → k < length vs → v ≡ get_or vs k d
+      → new ≡ old ++ x ∷ [] → model x ≡ part (view v)
       → map model new ++ map_items part (items_view (drop (k + 1) vs)) ≡ all
   one_read new x v d below is pushed same =
       let rest = map_items part (items_view (drop (k + 1) vs)) in

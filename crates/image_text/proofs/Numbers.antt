@@ -29,7 +29,8 @@ integer_here (Data.table t) h = no h
 in_range : (low high n : ℕ) → nat_le low n && nat_le n high ≡ true → pos n ≡ pos (ranged low high (pos n))
 in_range low high n h = rw h refl
 
-ranged_here : (low high : ℕ) (d : Data) → fits_one (Within low high) d ≡ true → IsInteger d (pos (ranged low high (integer_of (Some d))))
+ranged_here : (low high : ℕ) (d : Data) → fits_one (Within low high) d ≡ true
+    → IsInteger d (pos (ranged low high (integer_of (Some d))))
 ranged_here low high (Data.integer (pos n)) h = ap (λ z. Data.integer z) (in_range low high n h)
 ranged_here low high (Data.integer (negsuc n)) h = no h
 ranged_here low high (Data.string s) h = no h
@@ -67,7 +68,8 @@ record IsTable (p : Members → Bool) (d : Data) : Type 0 where
   is : d ≡ Data.table table
   holds : p table ≡ true
 
-fields_here : (fields : List Field) (d : Data) → in_fields fields (as_table d) ≡ true → IsTable (has_all fields) d
+fields_here : (fields : List Field) (d : Data) → in_fields fields (as_table d) ≡ true
+    → IsTable (has_all fields) d
 fields_here fields (Data.table t) h = record { table = t; is = refl; holds = h }
 fields_here fields (Data.array ds) h = no h
 fields_here fields (Data.string s) h = no h
@@ -77,7 +79,9 @@ fields_here fields (Data.boolean b) h = no h
 fields_here fields (Data.datetime t) h = no h
 
 both_integers : (x y : Data) → fits_one Integer x && fits_one Integer y ≡ true
-    → Data.array (item x (item y no_items)) ≡ Data.array (item (Data.integer (integer_of (Some x))) (item (Data.integer (integer_of (Some y))) no_items))
+    → Data.array (item x (item y no_items))
+    ≡ Data.array (item (Data.integer (integer_of (Some x)))
+    (item (Data.integer (integer_of (Some y))) no_items))
 both_integers x y h =
     let both = and_parts (fits_one Integer x) (fits_one Integer y) h in
     rw (← integer_here x both.0, ← integer_here y both.1) refl
@@ -118,7 +122,8 @@ version_here (Data.datetime t) h = no h
 version_here (Data.array ds) h = no h
 version_here (Data.table t) h = no h
 
-version_found : (t : Members) (o : Option Data) → get_member (codes "version") t ≡ o → (version_of t ≡ 1) ⊎ (version_of t ≡ 2)
+version_found : (t : Members) (o : Option Data) → get_member (codes "version") t ≡ o
+    → (version_of t ≡ 1) ⊎ (version_of t ≡ 2)
     → fits_if false (One (Within 1 2)) o ≡ true → VersionAt t (version_of t)
 unfolding fits
 version_found t None e is h = inl (e, ap version_from e)
@@ -143,7 +148,8 @@ and_of : (P Q : Data → Type 0) (ds : Items) → AllOf P ds → AllOf Q ds → 
 and_of P Q no_items p q = tt
 and_of P Q (item d ds) p q = ((p.0, q.0), and_of P Q ds p.1 q.1)
 
-each_of : {A : Type 0} (P : Data → Type 0) (f : Data → A) (Is : Data → A → Type 0) → ((d : Data) → P d → Is d (f d)) → (ds : Items) → AllOf P ds → Each Is ds (map_items f ds)
+each_of : {A : Type 0} (P : Data → Type 0) (f : Data → A) (Is : Data → A → Type 0)
+    → ((d : Data) → P d → Is d (f d)) → (ds : Items) → AllOf P ds → Each Is ds (map_items f ds)
 each_of P f Is one no_items all = tt
 each_of P f Is one (item d ds) all = (one d all.0, each_of P f Is one ds all.1)
 
@@ -163,7 +169,8 @@ unfolding fits
 integer_in None h = no h
 integer_in (Some d) h = ap (λ e. Some e) (integer_here d h)
 
-ranged_in : (low high : ℕ) (o : Option Data) → fits_if true (One (Within low high)) o ≡ true → o ≡ Some (Data.integer (pos (ranged low high (integer_of o))))
+ranged_in : (low high : ℕ) (o : Option Data) → fits_if true (One (Within low high)) o ≡ true
+    → o ≡ Some (Data.integer (pos (ranged low high (integer_of o))))
 unfolding fits
 ranged_in low high None h = no h
 ranged_in low high (Some d) h = ap (λ e. Some e) (ranged_here low high d h)
@@ -184,7 +191,9 @@ fields_at fields key t P one h =
     record { table = f.table; stands = full; holds = subst (λ o. P (table_of o) f.table) (sym full) here }
 
 integers_each : (ds : Items) → all_items (fits_one Integer) ds ≡ true → Each IsInteger ds (integers_in ds)
-integers_each ds h = each_of (λ d. fits_one Integer d ≡ true) (λ d. integer_of (Some d)) IsInteger integer_here ds (all_of (fits_one Integer) ds h)
+integers_each ds h =
+    each_of (λ d. fits_one Integer d ≡ true) (λ d. integer_of (Some d)) IsInteger integer_here ds
+    (all_of (fits_one Integer) ds h)
 
 -- ---- at a key that may be missing
 
@@ -221,7 +230,8 @@ module _ (key : List ℕ) (t : Members) where
   integer_if_found None e h = e
   integer_if_found (Some d) e h = integer_if_here d e h
 
-  array_or_none_here : (d : Data) → get_member key t ≡ Some d → in_array (all_items (fits_one Integer)) (as_array d) ≡ true
+  array_or_none_here : (d : Data) → get_member key t ≡ Some d
+      → in_array (all_items (fits_one Integer)) (as_array d) ≡ true
       → ArrayOrNoneAt key t IsInteger (option_map integers_in (as_array d))
   array_or_none_here (Data.array ds) e h = record { items = ds; stands = e; each = integers_each ds h }
   array_or_none_here (Data.integer z) e h = no h
@@ -268,7 +278,8 @@ module _ {A : Type 0} (key : List ℕ) (t : Members) (kind : Kind) (p : Items �
       let same : items_at key t ≡ a.items = ap items_or_none full in
       record { items = a.items; stands = full; each = subst (λ ds. Each Is a.items (map_items f ds)) (sym same) (one a.items same a.holds) }
 
-  array_if : (o : Option Data) → get_member key t ≡ o → fits_if false kind o ≡ true → ArrayIfAt key t Is (map_items f (items_at key t))
+  array_if : (o : Option Data) → get_member key t ≡ o → fits_if false kind o ≡ true
+      → ArrayIfAt key t Is (map_items f (items_at key t))
   array_if None e h = inl (e, ap (λ o. map_items f (items_or_none o)) e)
   array_if (Some d) e h = inr (array_at (subst (λ o. fits_if true kind o ≡ true) (sym e) h))
 
@@ -335,11 +346,17 @@ page_row = needs 15 SegmentPlace (codes "page") (One (Within 0 1048575))
 abbrev pages_row : Row
 pages_row = needs 16 SegmentPlace (codes "pages") (One (Within 1 64))
 
-segment_numbers : (u : Members) → whole_in page_row u ≡ true → whole_in pages_row u ≡ true → SegmentNumbers u (segment_of u)
+segment_numbers : (u : Members) → whole_in page_row u ≡ true → whole_in pages_row u ≡ true
+    → SegmentNumbers u (segment_of u)
 unfolding whole_in segment_of
-segment_numbers u page pages = record { page = ranged_in 0 1048575 (get_member (codes "page") u) page; pages = ranged_in 1 64 (get_member (codes "pages") u) pages }
+segment_numbers u page pages = record {
+  page = ranged_in 0 1048575 (get_member (codes "page") u) page;
+  pages = ranged_in 1 64 (get_member (codes "pages") u) pages;
+}
 
-segment_here : (d : Data) → (fits_one Table d ≡ true) × ((whole_item page_row d ≡ true) × (whole_item pages_row d ≡ true)) → IsTableOf SegmentNumbers d (segment_in d)
+segment_here : (d : Data)
+    → (fits_one Table d ≡ true) × ((whole_item page_row d ≡ true) × (whole_item pages_row d ≡ true))
+    → IsTableOf SegmentNumbers d (segment_in d)
 unfolding whole_item
 segment_here (Data.table u) w = segment_numbers u w.1.0 w.1.1
 segment_here (Data.array ds) w = no w.0
@@ -349,14 +366,17 @@ segment_here (Data.float x) w = no w.0
 segment_here (Data.boolean b) w = no w.0
 segment_here (Data.datetime t) w = no w.0
 
-segments_each : (ds : Items) → some_tables 16 ds ≡ true → all_items (whole_item page_row) ds ≡ true → all_items (whole_item pages_row) ds ≡ true → Each (IsTableOf SegmentNumbers) ds (map_items segment_in ds)
+segments_each : (ds : Items) → some_tables 16 ds ≡ true → all_items (whole_item page_row) ds ≡ true
+    → all_items (whole_item pages_row) ds ≡ true
+    → Each (IsTableOf SegmentNumbers) ds (map_items segment_in ds)
 segments_each ds tables page pages =
     let each_table = and_parts (nat_le 1 (count_items ds) && nat_le (count_items ds) 16) (all_items (fits_one Table) ds) tables in
     let P : Data → Type 0 = λ d. whole_item page_row d ≡ true in
     let Q : Data → Type 0 = λ d. whole_item pages_row d ≡ true in
     let T : Data → Type 0 = λ d. fits_one Table d ≡ true in
     let both = and_of P Q ds (all_of (whole_item page_row) ds page) (all_of (whole_item pages_row) ds pages) in
-    each_of (λ d. T d × (P d × Q d)) segment_in (IsTableOf SegmentNumbers) segment_here ds (and_of T (λ d. P d × Q d) ds (all_of (fits_one Table) ds each_table.1) both)
+    each_of (λ d. T d × (P d × Q d)) segment_in (IsTableOf SegmentNumbers) segment_here ds
+    (and_of T (λ d. P d × Q d) ds (all_of (fits_one Table) ds each_table.1) both)
 
 -- ---- domains
 
@@ -389,12 +409,19 @@ record Whole (t : Members) : Type 0 where
 domain_numbers : (u : Members) → Whole u → DomainNumbers u (domain_of u)
 unfolding whole_in fits domain_of
 domain_numbers u w = record {
-  colours = array_at (codes "colours") u (Array Integer) (all_items (fits_one Integer)) (λ d. integer_of (Some d)) IsInteger (λ d h. h) (λ ds same h. integers_each ds h) w.colours;
+  colours =
+      array_at (codes "colours") u (Array Integer) (all_items (fits_one Integer)) (λ d. integer_of (Some d))
+      IsInteger (λ d h. h) (λ ds same h. integers_each ds h) w.colours;
   entry = ranged_in 0 4294967295 (get_member (codes "entry") u) w.entry;
   segments = array_at (codes "segment") u (SomeTables 16) (some_tables 16) segment_in (IsTableOf SegmentNumbers) (λ d h. h)
-      (λ ds same h. segments_each ds h (subst (λ x. all_items (whole_item page_row) x ≡ true) same w.page) (subst (λ x. all_items (whole_item pages_row) x ≡ true) same w.pages)) w.segment;
-  lines = array_if (codes "lines") u (Array Integer) (all_items (fits_one Integer)) (λ d. integer_of (Some d)) IsInteger (λ d h. h) (λ ds same h. integers_each ds h) (get_member (codes "lines") u) refl w.lines;
-  moments = array_if (codes "moments") u Pairs (all_items is_pair_value) moment_in IsMoment (λ d h. h) (λ ds same h. moments_each ds h) (get_member (codes "moments") u) refl w.moments;
+      (λ ds same h. segments_each ds h (subst (λ x. all_items (whole_item page_row) x ≡ true) same w.page)
+      (subst (λ x. all_items (whole_item pages_row) x ≡ true) same w.pages)) w.segment;
+  lines =
+      array_if (codes "lines") u (Array Integer) (all_items (fits_one Integer)) (λ d. integer_of (Some d))
+      IsInteger (λ d h. h) (λ ds same h. integers_each ds h) (get_member (codes "lines") u) refl w.lines;
+  moments =
+      array_if (codes "moments") u Pairs (all_items is_pair_value) moment_in IsMoment (λ d h. h)
+      (λ ds same h. moments_each ds h) (get_member (codes "moments") u) refl w.moments;
   calls = array_or_none (codes "calls") u (get_member (codes "calls") u) refl w.calls;
 }
 
@@ -412,7 +439,16 @@ record WholeItem (d : Data) : Type 0 where
 domain_here : (d : Data) → (fits_one Table d ≡ true) × WholeItem d → IsTableOf DomainNumbers d (domain_in d)
 unfolding whole_item whole_segments
 domain_here (Data.table u) w =
-    domain_numbers u (record { colours = w.1.colours; entry = w.1.entry; segment = w.1.segment; page = w.1.page; pages = w.1.pages; lines = w.1.lines; moments = w.1.moments; calls = w.1.calls })
+    domain_numbers u (record {
+      colours = w.1.colours;
+      entry = w.1.entry;
+      segment = w.1.segment;
+      page = w.1.page;
+      pages = w.1.pages;
+      lines = w.1.lines;
+      moments = w.1.moments;
+      calls = w.1.calls;
+    })
 domain_here (Data.array ds) w = no w.0
 domain_here (Data.string s) w = no w.0
 domain_here (Data.integer z) w = no w.0
@@ -445,10 +481,12 @@ whole_items (item d ds) w =
       whole_items ds (record { colours = colours.1; entry = entry.1; segment = segment.1; page = page.1; pages = pages.1; lines = lines.1; moments = moments.1; calls = calls.1 }),
     )
 
-domains_each : (ds : Items) → all_items (fits_one Table) ds ≡ true → WholeItems ds → Each (IsTableOf DomainNumbers) ds (map_items domain_in ds)
+domains_each : (ds : Items) → all_items (fits_one Table) ds ≡ true → WholeItems ds
+    → Each (IsTableOf DomainNumbers) ds (map_items domain_in ds)
 domains_each ds tables w =
     let T : Data → Type 0 = λ d. fits_one Table d ≡ true in
-    each_of (λ d. T d × WholeItem d) domain_in (IsTableOf DomainNumbers) domain_here ds (and_of T WholeItem ds (all_of (fits_one Table) ds tables) (whole_items ds w))
+    each_of (λ d. T d × WholeItem d) domain_in (IsTableOf DomainNumbers) domain_here ds
+    (and_of T WholeItem ds (all_of (fits_one Table) ds tables) (whole_items ds w))
 
 -- ---- entries
 
@@ -529,7 +567,8 @@ module _ (t : Members) (whole : first_broken 1 (take 25 key_rows) t ≡ None)
       let from = subst (λ rows. first_broken 1 rows t ≡ None) e (whole_from 1 n (drop 25 key_rows) t later) in
       first_whole 1 r rest t from
 
-  version : broken_in 1 (may_have 28 TopPlace (codes "version") (One (Within 1 2))) t ≡ None → VersionAt t (version_of t)
+  version : broken_in 1 (may_have 28 TopPlace (codes "version") (One (Within 1 2))) t ≡ None
+      → VersionAt t (version_of t)
   unfolding broken_in whole_in
   version h = version_found t (get_member (codes "version") t) refl (versions t) (holds_if _ h)
 
@@ -550,18 +589,21 @@ module _ (t : Members) (whole : first_broken 1 (take 25 key_rows) t ≡ None)
   unfolding broken_in whole_in
   targets h = integer_if_found (codes "targets") t (get_member (codes "targets") t) refl (holds_if _ h)
 
-  number : (key : List ℕ) (n : ℕ) → broken_in 1 (needs n TopPlace key (One Integer)) t ≡ None → IntegerAt key t (integer_at key t)
+  number : (key : List ℕ) (n : ℕ) → broken_in 1 (needs n TopPlace key (One Integer)) t ≡ None
+      → IntegerAt key t (integer_at key t)
   unfolding broken_in whole_in
   number key n h = integer_in (get_member key t) (holds_if _ h)
 
-  cache : (key : List ℕ) (n : ℕ) → broken_in 1 (needs n TopPlace key (Fields cache_fields)) t ≡ None → TableAt key t (CacheNumbers (cache_of (table_of (get_member key t))))
+  cache : (key : List ℕ) (n : ℕ) → broken_in 1 (needs n TopPlace key (Fields cache_fields)) t ≡ None
+      → TableAt key t (CacheNumbers (cache_of (table_of (get_member key t))))
   unfolding broken_in whole_in cache_fields
   cache key n h =
       fields_at cache_fields key t (λ v. CacheNumbers (cache_of v))
       (λ u at all. cache_numbers (text (codes "policy") ∷ []) u all)
       (holds_if _ h)
 
-  level2 : broken_in 1 (needs 6 TopPlace (codes "l2") (Fields level2_fields)) t ≡ None → broken_in 1 back_row t ≡ None
+  level2 : broken_in 1 (needs 6 TopPlace (codes "l2") (Fields level2_fields)) t ≡ None
+      → broken_in 1 back_row t ≡ None
       → TableAt (codes "l2") t (Level2Numbers (cache_of (table_of (get_member (codes "l2") t))) (back_at t))
   unfolding broken_in whole_in level2_fields
   level2 h b =
@@ -571,26 +613,58 @@ module _ (t : Members) (whole : first_broken 1 (take 25 key_rows) t ≡ None)
       (λ u at all. record { cache = cache_numbers others u all; back = back_found u found at (holds_if _ b) })
       (holds_if _ h)
 
-  costs : broken_in 1 (needs 9 TopPlace (codes "costs") (Fields cost_fields)) t ≡ None → TableAt (codes "costs") t (CostNumbers (costs_of (table_of (get_member (codes "costs") t))))
+  costs : broken_in 1 (needs 9 TopPlace (codes "costs") (Fields cost_fields)) t ≡ None
+      → TableAt (codes "costs") t (CostNumbers (costs_of (table_of (get_member (codes "costs") t))))
   unfolding broken_in whole_in
   costs h =
       fields_at cost_fields (codes "costs") t (λ v. CostNumbers (costs_of v)) (λ u at all. cost_numbers u all) (holds_if _ h)
 
-  top_array : (key : List ℕ) (n : ℕ) → broken_in 1 (needs n TopPlace key (Array Table)) t ≡ None → fits_if true (Array Table) (get_member key t) ≡ true
+  top_array : (key : List ℕ) (n : ℕ) → broken_in 1 (needs n TopPlace key (Array Table)) t ≡ None
+      → fits_if true (Array Table) (get_member key t) ≡ true
   unfolding broken_in whole_in
   top_array key n h = holds_if _ h
 
-  of_domains : (n : ℕ) (key : List ℕ) (needed : Bool) (kind : Kind) → broken_in 1 (record { number = n; since = 1; place = DomainPlace; needed = needed; key = key; kind = kind }) t ≡ None
-      → all_items (whole_item (record { number = n; since = 1; place = DomainPlace; needed = needed; key = key; kind = kind })) (items_at (codes "domain") t) ≡ true
+  of_domains : (n : ℕ) (key : List ℕ) (needed : Bool) (kind : Kind)
+      → broken_in 1
+      (record { number = n; since = 1; place = DomainPlace; needed = needed; key = key; kind = kind }) t
+      ≡ None
+      → all_items (whole_item (record {
+        number = n;
+        since = 1;
+        place = DomainPlace;
+        needed = needed;
+        key = key;
+        kind = kind;
+      }))
+      (items_at (codes "domain") t) ≡ true
   unfolding broken_in
   of_domains n key needed kind h = all_pass _ 0 (items_at (codes "domain") t) h
 
-  of_segments : (n : ℕ) (key : List ℕ) (kind : Kind) → broken_in 1 (needs n SegmentPlace key kind) t ≡ None → all_items (whole_segments (needs n SegmentPlace key kind)) (items_at (codes "domain") t) ≡ true
+  of_segments : (n : ℕ) (key : List ℕ) (kind : Kind) → broken_in 1 (needs n SegmentPlace key kind) t ≡ None
+      → all_items (whole_segments (needs n SegmentPlace key kind)) (items_at (codes "domain") t) ≡ true
   unfolding broken_in
   of_segments n key kind h = all_pass _ 0 (items_at (codes "domain") t) h
 
-  of_entries : (n : ℕ) (key : List ℕ) (needed : Bool) → broken_in 1 (record { number = n; since = 1; place = EntryPlace; needed = needed; key = key; kind = One Integer }) t ≡ None
-      → all_items (whole_item (record { number = n; since = 1; place = EntryPlace; needed = needed; key = key; kind = One Integer })) (items_at (codes "schedule") t) ≡ true
+  of_entries : (n : ℕ) (key : List ℕ) (needed : Bool)
+      → broken_in 1
+      (record {
+        number = n;
+        since = 1;
+        place = EntryPlace;
+        needed = needed;
+        key = key;
+        kind = One Integer;
+      }) t
+      ≡ None
+      → all_items (whole_item (record {
+        number = n;
+        since = 1;
+        place = EntryPlace;
+        needed = needed;
+        key = key;
+        kind = One Integer;
+      }))
+      (items_at (codes "schedule") t) ≡ true
   unfolding broken_in
   of_entries n key needed h = all_pass _ 0 (items_at (codes "schedule") t) h
 
@@ -616,15 +690,19 @@ module _ (t : Members) (whole : first_broken 1 (take 25 key_rows) t ≡ None)
     hart = of_entries 31 (codes "hart") false (later_row 4 hart_row _ refl);
   }
 
-  domains : ArrayAt (codes "domain") t (IsTableOf DomainNumbers) (map_items domain_in (items_at (codes "domain") t))
+  domains : ArrayAt (codes "domain") t (IsTableOf DomainNumbers)
+      (map_items domain_in (items_at (codes "domain") t))
   unfolding key_rows fits
   domains = array_at (codes "domain") t (Array Table) (all_items (fits_one Table)) domain_in (IsTableOf DomainNumbers) (λ d h. h)
-      (λ ds same h. domains_each ds h (subst WholeItems same whole_domains)) (top_array (codes "domain") 10 (row 9 (needs 10 TopPlace (codes "domain") (Array Table)) _ refl))
+      (λ ds same h. domains_each ds h (subst WholeItems same whole_domains))
+      (top_array (codes "domain") 10 (row 9 (needs 10 TopPlace (codes "domain") (Array Table)) _ refl))
 
-  schedule : ArrayAt (codes "schedule") t (IsTableOf EntryNumbers) (map_items entry_in (items_at (codes "schedule") t))
+  schedule : ArrayAt (codes "schedule") t (IsTableOf EntryNumbers)
+      (map_items entry_in (items_at (codes "schedule") t))
   unfolding key_rows fits
   schedule = array_at (codes "schedule") t (Array Table) (all_items (fits_one Table)) entry_in (IsTableOf EntryNumbers) (λ d h. h)
-      (λ ds same h. entries_each ds h (subst WholeEntries same whole_schedule)) (top_array (codes "schedule") 22 (row 21 (needs 22 TopPlace (codes "schedule") (Array Table)) _ refl))
+      (λ ds same h. entries_each ds h (subst WholeEntries same whole_schedule))
+      (top_array (codes "schedule") 22 (row 21 (needs 22 TopPlace (codes "schedule") (Array Table)) _ refl))
 
   numbers : Numbers t (record_of t)
   unfolding key_rows record_of

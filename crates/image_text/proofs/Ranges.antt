@@ -17,7 +17,8 @@ record Between (low high n : ℕ) : Type 0 where
   least : low ≤ n
   most : n ≤ high
 
-between_if : (low high n : ℕ) (inside : Bool) → nat_le low n && nat_le n high ≡ inside → low ≤ high → Between low high (if inside then n else low)
+between_if : (low high n : ℕ) (inside : Bool) → nat_le low n && nat_le n high ≡ inside → low ≤ high
+    → Between low high (if inside then n else low)
 between_if low high n true is ordered =
     let both = and_parts _ _ is in
     record { least = leb-true low n both.0; most = leb-true n high both.1 }
@@ -30,13 +31,15 @@ ranged_between low high (negsuc n) ordered = record { least = omega arith; most 
 -- ---- items
 
 -- what holds of each item's value, and of none, holds at each place
-each_at : {A : Type 0} (f : Data → A) (P : A → Type 0) (none : A) → P none → ((d : Data) → P (f d)) → (ds : Items) (k : ℕ) → P (slice_index_or (map_items f ds) k none)
+each_at : {A : Type 0} (f : Data → A) (P : A → Type 0) (none : A) → P none → ((d : Data) → P (f d))
+    → (ds : Items) (k : ℕ) → P (slice_index_or (map_items f ds) k none)
 each_at f P none q each no_items k = q
 each_at f P none q each (item d ds) zero = each d
 each_at f P none q each (item d ds) (suc k) = each_at f P none q each ds k
 
 -- and what holds of each value whose item passes, where all pass
-pub passing_at : {A : Type 0} (test : Data → Bool) (f : Data → A) (P : A → Type 0) (none : A) → P none → ((d : Data) → test d ≡ true → P (f d))
+pub passing_at : {A : Type 0} (test : Data → Bool) (f : Data → A) (P : A → Type 0) (none : A) → P none
+    → ((d : Data) → test d ≡ true → P (f d))
     → (ds : Items) → all_items test ds ≡ true → (k : ℕ) → P (slice_index_or (map_items f ds) k none)
 passing_at test f P none q each no_items h k = q
 passing_at test f P none q each (item d ds) h zero = each d (and_parts (test d) (all_items test ds) h).0
@@ -62,7 +65,8 @@ few_items ds h =
     let same = length-map_items segment_in ds in
     omega (arith, count, same)
 
-few_found : (o : Option Data) → fits_if true (SomeTables 16) o ≡ true → length (map_items segment_in (items_or_none o)) ≤ 16
+few_found : (o : Option Data) → fits_if true (SomeTables 16) o ≡ true
+    → length (map_items segment_in (items_or_none o)) ≤ 16
 unfolding fits
 few_found None h = absurd (true≢false (sym h))
 few_found (Some (Data.array ds)) h = few_items ds h
@@ -91,9 +95,12 @@ few_item (Data.boolean b) h = none_in
 few_item (Data.datetime t) h = none_in
 few_item (Data.array ds) h = none_in
 
-segments_whole : (t : Members) → broken_key t ≡ None → all_items (whole_item segment_row) (items_at (codes "domain") t) ≡ true
+segments_whole : (t : Members) → broken_key t ≡ None
+    → all_items (whole_item segment_row) (items_at (codes "domain") t) ≡ true
 unfolding key_rows broken_in
-segments_whole t h = all_pass (whole_item segment_row) 0 (items_at (codes "domain") t) (first_whole 1 segment_row _ t (whole_from 1 13 _ t (rows_whole t h)))
+segments_whole t h =
+    all_pass (whole_item segment_row) 0 (items_at (codes "domain") t)
+    (first_whole 1 segment_row _ t (whole_from 1 13 _ t (rows_whole t h)))
 
 -- ---- the record
 
@@ -118,19 +125,28 @@ in_range t =
     let entry = (ranged_between 0 4294967295 (integer_at (codes "entry") t) (lit≤ tt)).most in
     record {
       entry = omega (arith, entry);
-      segments = each_at segment_in IsRawSegment no_raw_segment no_segment_is (λ d. is_segment (table_of (Some d))) (items_at (codes "segment") t);
+      segments =
+          each_at segment_in IsRawSegment no_raw_segment no_segment_is (λ d. is_segment (table_of (Some d)))
+          (items_at (codes "segment") t);
     }
 
 no_domain_in_range : InRange no_raw_domain
 no_domain_in_range = record { entry = lit< tt; segments = λ k. no_segment_is }
 
-domains_in_range : (t : Members) (d : ℕ) → InRange (raw_domain (map_items domain_in (items_at (codes "domain") t)) d)
-domains_in_range t = each_at domain_in InRange no_raw_domain no_domain_in_range (λ d. in_range (table_of (Some d))) (items_at (codes "domain") t)
+domains_in_range : (t : Members) (d : ℕ)
+    → InRange (raw_domain (map_items domain_in (items_at (codes "domain") t)) d)
+domains_in_range t =
+    each_at domain_in InRange no_raw_domain no_domain_in_range (λ d. in_range (table_of (Some d)))
+    (items_at (codes "domain") t)
 
-domains_few : (t : Members) → broken_key t ≡ None → (d : ℕ) → Few (raw_domain (map_items domain_in (items_at (codes "domain") t)) d)
-domains_few t h = passing_at (whole_item segment_row) domain_in Few no_raw_domain (lit≤ tt) few_item (items_at (codes "domain") t) (segments_whole t h)
+domains_few : (t : Members) → broken_key t ≡ None → (d : ℕ)
+    → Few (raw_domain (map_items domain_in (items_at (codes "domain") t)) d)
+domains_few t h =
+    passing_at (whole_item segment_row) domain_in Few no_raw_domain (lit≤ tt) few_item
+    (items_at (codes "domain") t) (segments_whole t h)
 
-pub in_key_ranges : (t : Members) → broken_key t ≡ None → AreInKeyRanges (map_items domain_in (items_at (codes "domain") t))
+pub in_key_ranges : (t : Members) → broken_key t ≡ None
+    → AreInKeyRanges (map_items domain_in (items_at (codes "domain") t))
 in_key_ranges t h = record {
   entry = λ d. (domains_in_range t d).entry;
   few_segments = domains_few t h;

@@ -17,7 +17,8 @@ passed : (test : Bool) (n : ℕ) (rest : Option ℕ) → (if test then rest else
 passed true n rest h = record { holds = refl; later = h }
 passed false n rest h = absurd (none-some n (sym h))
 
-pub all_pass : (test : Data → Bool) (n : ℕ) (ds : Items) → first_failing test n ds ≡ None → all_items test ds ≡ true
+pub all_pass : (test : Data → Bool) (n : ℕ) (ds : Items) → first_failing test n ds ≡ None
+    → all_items test ds ≡ true
 all_pass test n no_items h = refl
 all_pass test n (item d ds) h =
     let here = passed (test d) n _ h in
@@ -37,13 +38,15 @@ none_broken : (row : ℕ) (o : Option ℕ) (rest : Option Broken) → first_or r
 none_broken row None rest h = record { first = refl; later = h }
 none_broken row (Some found) rest h = absurd (none-some _ (sym h))
 
-pub whole_from : (version : ℕ) (n : ℕ) (rows : List Row) (t : Members) → first_broken version rows t ≡ None → first_broken version (drop n rows) t ≡ None
+pub whole_from : (version : ℕ) (n : ℕ) (rows : List Row) (t : Members) → first_broken version rows t ≡ None
+    → first_broken version (drop n rows) t ≡ None
 unfolding first_broken
 whole_from version zero rows t h = h
 whole_from version (suc n) [] t h = h
 whole_from version (suc n) (r ∷ rows) t h = whole_from version n rows t (none_broken r.number _ _ h).later
 
-pub first_whole : (version : ℕ) (r : Row) (rows : List Row) (t : Members) → first_broken version (r ∷ rows) t ≡ None → broken_in version r t ≡ None
+pub first_whole : (version : ℕ) (r : Row) (rows : List Row) (t : Members)
+    → first_broken version (r ∷ rows) t ≡ None → broken_in version r t ≡ None
 unfolding first_broken
 first_whole version r rows t h = (none_broken r.number _ _ h).first
 
@@ -77,7 +80,8 @@ version_some t = elim (versions t) [
 ]
 
 -- a row that is whole in a version is whole in the first, which may not have it
-whole_first : (version : ℕ) (r : Row) (t : Members) → 1 ≤ version → broken_in version r t ≡ None → broken_in 1 r t ≡ None
+whole_first : (version : ℕ) (r : Row) (t : Members) → 1 ≤ version → broken_in version r t ≡ None
+    → broken_in 1 r t ≡ None
 unfolding broken_in
 whole_first version r t some h = elim (cases_Bool (nat_le r.since 1)) [
   | inl early ↦
@@ -87,7 +91,8 @@ whole_first version r t some h = elim (cases_Bool (nat_le r.since 1)) [
   | inr later ↦ rw later refl
 ]
 
-rows_first : (version : ℕ) (rows : List Row) (t : Members) → 1 ≤ version → first_broken version rows t ≡ None → first_broken 1 rows t ≡ None
+rows_first : (version : ℕ) (rows : List Row) (t : Members) → 1 ≤ version → first_broken version rows t ≡ None
+    → first_broken 1 rows t ≡ None
 unfolding first_broken
 rows_first version [] t some h = refl
 rows_first version (r ∷ rows) t some h =
@@ -113,7 +118,8 @@ known_then true rest h = refl
 known_then false rest h = absurd (none-some _ (sym h))
 
 -- in the version of the table
-pub later_whole : (t : Members) → broken_key t ≡ None → first_broken (version_of t) (drop 25 key_rows) t ≡ None
+pub later_whole : (t : Members) → broken_key t ≡ None
+    → first_broken (version_of t) (drop 25 key_rows) t ≡ None
 unfolding broken_key
 later_whole t h = all_known_then _ _ (no_later _ _ h)
 

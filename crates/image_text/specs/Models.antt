@@ -18,7 +18,14 @@ kind_model Pairs = spec.Pairs
 kind_model (Fields fields) = spec.Fields (map field_model fields.now)
 
 abbrev pub row_model : Row → spec.Row
-row_model r = record { number = r.number; since = r.since; place = r.place; needed = r.needed; key = r.key.now; kind = kind_model r.kind }
+row_model r = record {
+  number = r.number;
+  since = r.since;
+  place = r.place;
+  needed = r.needed;
+  key = r.key.now;
+  kind = kind_model r.kind;
+}
 
 abbrev pub broken_model : Broken → spec.Broken
 broken_model b = record { row = b.row; found = b.found }

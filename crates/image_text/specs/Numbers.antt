@@ -25,11 +25,13 @@ IntegerOrZeroAt key t z = ((get_member key t ≡ None) × (z ≡ pos 0)) ⊎ Int
 
 -- where it is missing, the value is false
 abbrev pub TruthOrFalseAt : List ℕ → Members → Bool → Type 0
-TruthOrFalseAt key t b = ((get_member key t ≡ None) × (b ≡ false)) ⊎ (get_member key t ≡ Some (Data.boolean b))
+TruthOrFalseAt key t b =
+    ((get_member key t ≡ None) × (b ≡ false)) ⊎ (get_member key t ≡ Some (Data.boolean b))
 
 -- one of the two versions; where it is missing, the first
 abbrev pub VersionAt : Members → ℕ → Type 0
-VersionAt t v = ((get_member (codes "version") t ≡ None) × (v ≡ 1)) ⊎ (IntegerAt (codes "version") t (pos v) × ((v ≡ 1) ⊎ (v ≡ 2)))
+VersionAt t v = ((get_member (codes "version") t ≡ None) × (v ≡ 1))
+    ⊎ (IntegerAt (codes "version") t (pos v) × ((v ≡ 1) ⊎ (v ≡ 2)))
 
 -- where it is missing, there is no number, and no part
 abbrev pub IntegerIfAt : List ℕ → Members → Option ℤ → Type 0
@@ -46,7 +48,8 @@ Each Is no_items [] = Unit {0}
 Each Is (item d ds) (x ∷ xs) = Is d x × Each Is ds xs
 Each Is ds xs = ⊥
 
-pub record ArrayAt {A : Type 0} (key : List ℕ) (t : Members) (Is : Data → A → Type 0) (xs : List A) : Type 0 where
+pub record ArrayAt {A : Type 0} (key : List ℕ) (t : Members) (Is : Data → A → Type 0) (xs : List A)
+    : Type 0 where
   pub items : Items
   pub stands : get_member key t ≡ Some (Data.array items)
   pub each : Each Is items xs
@@ -131,4 +134,5 @@ pub record Numbers (t : Members) (i : Raw) : Type 0 where
 
 -- of every image that bytes are
 abbrev pub NumbersLaw : Type 0
-NumbersLaw = (bytes : List ℕ) (t : Members) (i : Raw) → document bytes ≡ Some t → image_of bytes ≡ Ok i → Numbers t i
+NumbersLaw =
+    (bytes : List ℕ) (t : Members) (i : Raw) → document bytes ≡ Some t → image_of bytes ≡ Ok i → Numbers t i

@@ -78,7 +78,11 @@ texts_at key t = map_items (λ d. text_of (Some d)) (items_at key t)
 -- ---- the parts
 
 unfoldable pub cache_of : Members → RawCache
-cache_of t = record { sets = integer_at (codes "sets") t; ways = integer_at (codes "ways") t; policy = text_at (codes "policy") t }
+cache_of t = record {
+  sets = integer_at (codes "sets") t;
+  ways = integer_at (codes "ways") t;
+  policy = text_at (codes "policy") t;
+}
 
 abbrev pub cache_at : List ℕ → Members → RawCache
 cache_at key t = cache_of (table_of (get_member key t))
@@ -211,7 +215,8 @@ image_of bytes = read_table (document bytes)
 
 -- in the first version no domain says which calls it may make
 abbrev pub FirstVersionLaw : Type 0
-FirstVersionLaw = (bytes : List ℕ) (i : Raw) → image_of bytes ≡ Ok i → i.version ≡ 1 → (d : ℕ) → (raw_domain i.domains d).calls ≡ None
+FirstVersionLaw = (bytes : List ℕ) (i : Raw) → image_of bytes ≡ Ok i → i.version ≡ 1 → (d : ℕ)
+    → (raw_domain i.domains d).calls ≡ None
 
 -- of every image that bytes are
 abbrev pub RangesLaw : Type 0

@@ -99,14 +99,17 @@ pub record Row : Type 0 where
   pub kind : Kind
 
 abbrev pub needs : ℕ → Place → List ℕ → Kind → Row
-needs number place key kind = record { number = number; since = 1; place = place; needed = true; key = key; kind = kind }
+needs number place key kind =
+    record { number = number; since = 1; place = place; needed = true; key = key; kind = kind }
 
 abbrev pub may_have : ℕ → Place → List ℕ → Kind → Row
-may_have number place key kind = record { number = number; since = 1; place = place; needed = false; key = key; kind = kind }
+may_have number place key kind =
+    record { number = number; since = 1; place = place; needed = false; key = key; kind = kind }
 
 -- a key of the second version alone
 abbrev pub may_have_2 : ℕ → Place → List ℕ → Kind → Row
-may_have_2 number place key kind = record { number = number; since = 2; place = place; needed = false; key = key; kind = kind }
+may_have_2 number place key kind =
+    record { number = number; since = 2; place = place; needed = false; key = key; kind = kind }
 
 abbrev pub integer : List ℕ → Field
 integer key = record { key = key; simple = Some Integer }
@@ -122,10 +125,14 @@ unfoldable pub cache_fields : List Field
 cache_fields = integer (codes "sets") ∷ integer (codes "ways") ∷ text (codes "policy") ∷ []
 
 unfoldable pub level2_fields : List Field
-level2_fields = integer (codes "sets") ∷ integer (codes "ways") ∷ text (codes "policy") ∷ of_own_row (codes "back") ∷ []
+level2_fields =
+    integer (codes "sets") ∷ integer (codes "ways") ∷ text (codes "policy") ∷ of_own_row (codes "back") ∷ []
 
 unfoldable pub cost_fields : List Field
-cost_fields = integer (codes "base") ∷ integer (codes "l1") ∷ integer (codes "l2") ∷ integer (codes "mem") ∷ integer (codes "wb") ∷ integer (codes "tlb") ∷ integer (codes "mispredict") ∷ integer (codes "trap") ∷ integer (codes "flush") ∷ []
+cost_fields =
+    integer (codes "base") ∷ integer (codes "l1") ∷ integer (codes "l2") ∷ integer (codes "mem")
+    ∷ integer (codes "wb") ∷ integer (codes "tlb") ∷ integer (codes "mispredict") ∷ integer (codes "trap")
+    ∷ integer (codes "flush") ∷ []
 
 unfoldable pub muldiv_fields : List Field
 muldiv_fields = integer (codes "mul") ∷ integer (codes "div") ∷ []

@@ -98,7 +98,8 @@ no_more_if false r t = true
 -- so it is at each key of a table of the place
 abbrev pub no_more_in : ℕ → Place → List Row → Members → Bool
 no_more_in version place [] t = true
-no_more_in version place (r ∷ rows) t = no_more_if (is_of version place r) r t && no_more_in version place rows t
+no_more_in version place (r ∷ rows) t =
+    no_more_if (is_of version place r) r t && no_more_in version place rows t
 
 unfoldable pub known_table : ℕ → Place → List Row → Members → Bool
 known_table version place rows t = all_keys_known version place rows t && no_more_in version place rows t
@@ -110,7 +111,8 @@ abbrev pub known_items : ℕ → Place → List Row → Items → Bool
 known_items version place rows ds = all_items (known_item version place rows) ds
 
 abbrev pub known_segments : ℕ → List Row → Data → Bool
-known_segments version rows d = if_table (λ t. known_items version Segment rows (items_at (codes "segment") t)) (as_table d)
+known_segments version rows d =
+    if_table (λ t. known_items version Segment rows (items_at (codes "segment") t)) (as_table d)
 
 unfoldable pub known_domain : ℕ → List Row → Data → Bool
 known_domain version rows d = known_item version Domain rows d && known_segments version rows d
@@ -120,7 +122,9 @@ known_domains version rows ds = all_items (known_domain version rows) ds
 
 -- no key but those of the rows
 unfoldable pub all_known : ℕ → List Row → Members → Bool
-all_known version rows t = known_table version Top rows t && known_domains version rows (items_at (codes "domain") t) && known_items version Entry rows (items_at (codes "schedule") t)
+all_known version rows t =
+    known_table version Top rows t && known_domains version rows (items_at (codes "domain") t)
+    && known_items version Entry rows (items_at (codes "schedule") t)
 
 -- ---- the least broken row
 

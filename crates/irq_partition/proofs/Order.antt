@@ -11,12 +11,14 @@ use Rattle.irq_partition.specs.Interrupts.{Interrupts, AreInterrupts, IsBefore, 
 abbrev with_delivered : List Moment → ℕ → Interrupts
 with_delivered moments n = record { moments = moments; delivered = n; bits = replicate 32 false }
 
-after-n : (moments : List Moment) (n : ℕ) → after_deliveries n (none_delivered moments) ≡ with_delivered moments n
+after-n : (moments : List Moment) (n : ℕ)
+    → after_deliveries n (none_delivered moments) ≡ with_delivered moments n
 unfolding after_deliveries none_delivered delivered
 after-n moments zero = refl
 after-n moments (suc n) = ap delivered (after-n moments n) ∙ ap (with_delivered moments) (add-one n)
 
-pub next-after : (moments : List Moment) (n : ℕ) → next_of (after_deliveries n (none_delivered moments)) ≡ slice_get moments n
+pub next-after : (moments : List Moment) (n : ℕ)
+    → next_of (after_deliveries n (none_delivered moments)) ≡ slice_get moments n
 next-after moments n = ap (λ (s : Interrupts). next_of s) (after-n moments n)
 
 pub later : (moments : List Moment) → AreMoments moments → (m n : ℕ) (x y : Moment) → m < n
@@ -25,7 +27,8 @@ pub later : (moments : List Moment) → AreMoments moments → (m n : ℕ) (x y 
 later moments sound m n x y below first second =
     sound.ascend m n x y below (sym (next-after moments m) ∙ first) (sym (next-after moments n) ∙ second)
 
-pub delivered-sound : (s : Interrupts) (x : Moment) → AreInterrupts s → next_of s ≡ Some x → AreInterrupts (delivered s)
+pub delivered-sound : (s : Interrupts) (x : Moment) → AreInterrupts s → next_of s ≡ Some x
+    → AreInterrupts (delivered s)
 unfolding delivered
 delivered-sound s x sound next =
     let within : s.delivered < length s.moments = slice_get_within s.moments s.delivered x next in
@@ -50,7 +53,8 @@ pub opening-sound : (moments : List Moment) → AreMoments moments → AreInterr
 unfolding none_delivered
 opening-sound moments sound = record { moments = sound; delivered = omega arith; lines = refl }
 
-pub with_bit-sound : (s : Interrupts) (line : ℕ) (bit : Bool) → AreInterrupts s → AreInterrupts (with_bit s line bit)
+pub with_bit-sound : (s : Interrupts) (line : ℕ) (bit : Bool) → AreInterrupts s
+    → AreInterrupts (with_bit s line bit)
 unfolding with_bit
 with_bit-sound s line bit sound =
     record { moments = sound.moments; delivered = sound.delivered; lines = length-set s.bits line bit ∙ sound.lines }

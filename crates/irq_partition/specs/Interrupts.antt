@@ -15,7 +15,8 @@ pub record IsBefore (x y : Moment) : Type 0 where
 -- the moments ascend strictly, each of a line below 32
 pub record AreMoments (moments : List Moment) : Type 0 where
   pub lines : (k : ℕ) (x : Moment) → slice_get moments k ≡ Some x → x.line < 32
-  pub ascend : (j k : ℕ) (x y : Moment) → j < k → slice_get moments j ≡ Some x → slice_get moments k ≡ Some y → IsBefore x y
+  pub ascend : (j k : ℕ) (x y : Moment) → j < k → slice_get moments j ≡ Some x → slice_get moments k ≡ Some y
+      → IsBefore x y
 
 pub record AreInterrupts (s : Interrupts) : Type 0 where
   pub moments : AreMoments s.moments

@@ -19,13 +19,15 @@ pub record Clearing (root : ℕ) (vas : List ℕ) (i : ℕ) (m : Mem) (now : Con
   pub mem : Mem
   pub holds : Holds now mem
   pub left : (unmap_all root (drop i vas) mem).state ≡ (unmap_all root vas m).state
-  pub told : take i entries ++ entries_in (unmap_all root (drop i vas) mem).notes ≡ entries_in (unmap_all root vas m).notes
+  pub told : take i entries ++ entries_in (unmap_all root (drop i vas) mem).notes
+      ≡ entries_in (unmap_all root vas m).notes
 
 -- the others can be
 abbrev pub CanClearLeft : ℕ → List ℕ → ℕ → Contents → Type 0
 CanClearLeft root vas i now = StandsWith now (λ m. CanUnmapAll m root now.frames (drop i vas))
 
-pub clearing_starts : (root : ℕ) (vas : List ℕ) (m : Mem) (now : Contents) (entries : List ℕ) → Holds now m → Clearing root vas 0 m now entries
+pub clearing_starts : (root : ℕ) (vas : List ℕ) (m : Mem) (now : Contents) (entries : List ℕ) → Holds now m
+    → Clearing root vas 0 m now entries
 clearing_starts root vas m now entries holds = record { mem = m; holds = holds; left = refl; told = refl }
 
 append_nil : (xs : List ℕ) → xs ++ [] ≡ xs
@@ -43,14 +45,16 @@ module _ (root : ℕ) (vas : List ℕ) (i : ℕ) where
   written m vs = entries_in (unmap_all root vs m).notes
 
   module _ (below : i < length vas) where
-    next_can : (now : Contents) → CanClearLeft root vas i now → StandsWith now (λ m. CanUnmap m root now.frames (get_or vas i 0))
+    next_can : (now : Contents) → CanClearLeft root vas i now
+        → StandsWith now (λ m. CanUnmap m root now.frames (get_or vas i 0))
     next_can now can = record {
       mem = can.mem;
       holds = can.holds;
       so = (subst (λ (vs : List ℕ). CanUnmapAll can.mem root now.frames vs) (drop_more vas i 0 below) can.so).0;
     }
 
-    pub next_tables : (now : Contents) (va : ℕ) → va ≡ get_or vas i 0 → CanClearLeft root vas i now → StandsWith now (λ m. CanUnmap m root now.frames va)
+    pub next_tables : (now : Contents) (va : ℕ) → va ≡ get_or vas i 0 → CanClearLeft root vas i now
+        → StandsWith now (λ m. CanUnmap m root now.frames va)
     next_tables now va is can = subst (λ (va : ℕ). StandsWith now (λ m. CanUnmap m root now.frames va)) (sym is) (next_can now can)
 
     pub can_go_on : (now next : Contents) (va : ℕ) → va ≡ get_or vas i 0 → next.frames ≡ now.frames
@@ -63,7 +67,8 @@ module _ (root : ℕ) (vas : List ℕ) (i : ℕ) where
           (subst (λ (vs : List ℕ). CanUnmapAll can.mem root now.frames vs) (drop_more vas i 0 below) can.so).1);
     }
 
-    pub clearing_goes_on : (m : Mem) (now next : Contents) (entries : List ℕ) (va at : ℕ) → va ≡ get_or vas i 0 → i < length entries
+    pub clearing_goes_on : (m : Mem) (now next : Contents) (entries : List ℕ) (va at : ℕ)
+        → va ≡ get_or vas i 0 → i < length entries
         → ((m : Mem) → Holds now m → at ≡ page_entry m root va) → ((m : Mem) → Holds now m → Holds next (unmapped m root va))
         → Clearing root vas i m now entries → Clearing root vas (i + 1) m next (slice_set entries i at)
     unfolding unmap_all unmap_at entries_in ◌>>◌ ◌>>=◌ go_on

@@ -25,7 +25,8 @@ use Rattle.kernel_call.proofs.FreesRevoked.{revoked_free}
 use Rattle.kernel_call.proofs.Drops.{can_unmap, revoke_runs, buffer_work}
 use Rattle.kernel_call.proofs.DropsDelete.{unfilled}
 
-module _ (e : Estate) (d : Domain) (memory : Contents) (readings : List ℕ) (replies : List Reply) (m : Mem) (a : ℕ) (h : HasFacts e memory m d) where
+module _ (e : Estate) (d : Domain) (memory : Contents) (readings : List ℕ) (replies : List Reply) (m : Mem)
+    (a : ℕ) (h : HasFacts e memory m d) where
   abbrev model : Dom
   model = dom_model d readings replies
 
@@ -47,7 +48,8 @@ module _ (e : Estate) (d : Domain) (memory : Contents) (readings : List ℕ) (re
       (subst (λ (n : ℕ). CanUnmapAll m e.root n (emptied_at d.caps a)) h.frames
       (can_unmap e model m a h.estate (kept e memory m d readings replies h))))
 
-  pub revoke_ends : (c : Cap) (caps : Slots) (pool : FreeList) (root : ℕ) (memory' : Contents) (vas : List ℕ) (x : Done)
+  pub revoke_ends : (c : Cap) (caps : Slots) (pool : FreeList) (root : ℕ) (memory' : Contents) (vas : List ℕ)
+      (x : Done)
       → a < 64 → cap_at d.caps a ≡ Some c → caps ≡ revoked d.caps a → vas ≡ revoked_entries d.caps a → pool ≡ d.pool → root ≡ d.map
       → x.value ≡ revoked_count d.caps a → Leaves 8 memory' x.work (unmap_all d.map vas m)
       → DoneWith 8 e model caps pool root memory' x (revoke e model a m)

@@ -35,7 +35,8 @@ Ascends-filter p (x ∷ xs) b up = by_case (p x) (Ascends-filter p xs (suc x) up
     by_case true rest = (up.0, rest)
     by_case false rest = let first : b ≤ x = up.0 in Ascends-less (filter p xs) (suc x) b (omega arith) rest
 
-pub free_has : (e : Estate) (caps : Slots) (f : ℕ) → is_free (free_of e caps) f ≡ (not (is_named e caps f) && has (pool e.share) f)
+pub free_has : (e : Estate) (caps : Slots) (f : ℕ)
+    → is_free (free_of e caps) f ≡ (not (is_named e caps f) && has (pool e.share) f)
 unfolding free_frames
 free_has e caps f =
     any-filter_same (λ m. nat_eq m f) (λ n. not (is_named e caps n)) (not (is_named e caps f))
@@ -48,34 +49,44 @@ second false b h = absurd (true≢false (sym h))
 pub free_sound : (e : Estate) (caps : Slots) → IsFreeList (free_of e caps)
 unfolding free_frames
 free_sound e caps = record {
-  increasing = increasing_from_Ascends (free_frames e caps) 0 (Ascends-filter (λ n. not (is_named e caps n)) (pool e.share) 0 (Ascends-pool e.share));
+  increasing =
+      increasing_from_Ascends (free_frames e caps) 0
+      (Ascends-filter (λ n. not (is_named e caps n)) (pool e.share) 0 (Ascends-pool e.share));
   own = λ f there. IsOwn-pool e.share f (second (not (is_named e caps f)) (has (pool e.share) f) (sym (free_has e caps f) ∙ there));
 }
 
 -- a frame that is named isn't free
-pub named_out : (e : Estate) (caps : Slots) (f : ℕ) → is_named e caps f ≡ true → is_free (free_of e caps) f ≡ false
+pub named_out : (e : Estate) (caps : Slots) (f : ℕ) → is_named e caps f ≡ true
+    → is_free (free_of e caps) f ≡ false
 named_out e caps f named = free_has e caps f ∙ ap (λ b. not b && has (pool e.share) f) named
 
 -- frames that are named alike are free alike
-pub free_alike : (e : Estate) (caps new : Slots) (f : ℕ) → is_named e caps f ≡ is_named e new f → is_free (free_of e caps) f ≡ is_free (free_of e new) f
+pub free_alike : (e : Estate) (caps new : Slots) (f : ℕ) → is_named e caps f ≡ is_named e new f
+    → is_free (free_of e caps) f ≡ is_free (free_of e new) f
 free_alike e caps new f same = free_has e caps f ∙ ap (λ b. not b && has (pool e.share) f) same ∙ sym (free_has e new f)
 
 -- slots that name the same frames leave the same free
-pub same_free : (e : Estate) (caps new : Slots) → ((f : ℕ) → is_named e caps f ≡ is_named e new f) → free_of e caps ≡ free_of e new
+pub same_free : (e : Estate) (caps new : Slots) → ((f : ℕ) → is_named e caps f ≡ is_named e new f)
+    → free_of e caps ≡ free_of e new
 same_free e caps new same =
-    free_list_determined (free_of e caps) (free_of e new) refl (free_sound e caps) (free_sound e new) (λ f. free_alike e caps new f (same f))
+    free_list_determined (free_of e caps) (free_of e new) refl (free_sound e caps) (free_sound e new)
+    (λ f. free_alike e caps new f (same f))
 
 -- the least frame is named too
-pub least_taken : (e : Estate) (caps new : Slots) (f : ℕ) → slice_get (free_frames e caps) 0 ≡ Some f → is_named e new f ≡ true
+pub least_taken : (e : Estate) (caps new : Slots) (f : ℕ) → slice_get (free_frames e caps) 0 ≡ Some f
+    → is_named e new f ≡ true
     → ((g : ℕ) → g ≢ f → is_named e caps g ≡ is_named e new g) → without_least (free_of e caps) ≡ free_of e new
 least_taken e caps new f least named others =
-    free_list_determined (without_least (free_of e caps)) (free_of e new) refl (without_least_is_free_list (free_of e caps) (free_sound e caps)) (free_sound e new) (λ g. elim (cases_eq g f) [
+    free_list_determined (without_least (free_of e caps)) (free_of e new) refl
+    (without_least_is_free_list (free_of e caps) (free_sound e caps)) (free_sound e new) (λ g. elim
+    (cases_eq g f) [
       | inl same ↦ subst (λ (g : ℕ). has (drop 1 (free_frames e caps)) g ≡ is_free (free_of e new) g) (sym same)
           (gone (free_frames e caps) least (free_sound e caps) ∙ sym (named_out e new f named))
       | inr other ↦ there g other (free_frames e caps) least ∙ free_alike e caps new g (others g other)
     ])
   where
-    gone : (xs : List ℕ) → slice_get xs 0 ≡ Some f → IsFreeList (record { share = e.share; free = xs }) → has (drop 1 xs) f ≡ false
+    gone : (xs : List ℕ) → slice_get xs 0 ≡ Some f → IsFreeList (record { share = e.share; free = xs })
+        → has (drop 1 xs) f ≡ false
     gone [] first sound = absurd (cc first)
     gone (x ∷ xs) first sound = let same : x ≡ f = cc first in
         subst (λ (g : ℕ). has xs g ≡ false) same (least_is_gone e.share x xs sound)
@@ -86,11 +97,13 @@ least_taken e caps new f least named others =
         sym (has_other x g xs (λ q. other (sym q ∙ same)))
 
 -- one frame is named no more
-pub frame_back : (e : Estate) (caps new : Slots) (f : ℕ) → IsOwn e.share f → is_named e caps f ≡ true → is_named e new f ≡ false
+pub frame_back : (e : Estate) (caps new : Slots) (f : ℕ) → IsOwn e.share f → is_named e caps f ≡ true
+    → is_named e new f ≡ false
     → ((g : ℕ) → g ≢ f → is_named e caps g ≡ is_named e new g) → with_frame (free_of e caps) f ≡ free_of e new
 frame_back e caps new f own named unnamed others =
     free_list_determined (with_frame (free_of e caps) f) (free_of e new) refl
-    (with_frame_is_free_list (free_of e caps) f (free_sound e caps) own (named_out e caps f named)) (free_sound e new) (λ g. elim (cases_eq g f) [
+    (with_frame_is_free_list (free_of e caps) f (free_sound e caps) own (named_out e caps f named))
+    (free_sound e new) (λ g. elim (cases_eq g f) [
       | inl same ↦ subst (λ (g : ℕ). is_free (with_frame (free_of e caps) f) g ≡ is_free (free_of e new) g) (sym same)
           (placed_has_it (free_frames e caps) f ∙ sym back)
       | inr other ↦ placed_has_other (free_frames e caps) f g other ∙ free_alike e caps new g (others g other)
@@ -110,7 +123,8 @@ same_bool false false to from = refl
 abbrev pub Names : Estate → Slots → ℕ → Type 0
 Names e caps f = (i : ℕ) × (frame_of (claims e caps i) ≡ Some f)
 
-pub named_alike : (e : Estate) (caps new : Slots) (f : ℕ) → (Names e caps f → Names e new f) → (Names e new f → Names e caps f)
+pub named_alike : (e : Estate) (caps new : Slots) (f : ℕ) → (Names e caps f → Names e new f)
+    → (Names e new f → Names e caps f)
     → is_named e caps f ≡ is_named e new f
 named_alike e caps new f to from =
     same_bool (is_named e caps f) (is_named e new f)
@@ -129,7 +143,8 @@ module _ (e : Estate) (caps : Slots) (long : length caps ≡ 64) (a : ℕ) (belo
     claim_there i other = ap (λ k. k i) (claims_set e caps long a x below) ∙ claim_other (claims e caps) a (claim_of x) i other
 
     -- another frame than the old and the new one of the slot
-    pub named_other : (g : ℕ) → frame_of (claims e caps a) ≢ Some g → frame_of (claim_of x) ≢ Some g → is_named e caps g ≡ is_named e set g
+    pub named_other : (g : ℕ) → frame_of (claims e caps a) ≢ Some g → frame_of (claim_of x) ≢ Some g
+        → is_named e caps g ≡ is_named e set g
     named_other g old new =
         named_alike e caps set g
         (λ (n : Names e caps g). elim (cases_eq n.0 a) [
@@ -149,7 +164,8 @@ module _ (e : Estate) (caps : Slots) (long : length caps ≡ 64) (a : ℕ) (belo
       → slice_get (free_frames e caps) 0 ≡ Some f → without_least (free_of e caps) ≡ free_of e (with_cap caps a x)
   put_free x f was is least =
       least_taken e caps (with_cap caps a x) f least (named_here x f is)
-      (λ g other. named_other x g (λ old. let no : None ≡ Some g = sym was ∙ old in absurd (cc no)) (λ new. other (let same : Some g ≡ Some f = sym new ∙ is in cc same)))
+      (λ g other. named_other x g (λ old. let no : None ≡ Some g = sym was ∙ old in absurd (cc no))
+      (λ new. other (let same : Some g ≡ Some f = sym new ∙ is in cc same)))
 
   nothing_named : (g : ℕ) → frame_of (claim_of None) ≢ Some g
   unfolding frame_of claim_of
@@ -166,7 +182,8 @@ module _ (e : Estate) (caps : Slots) (long : length caps ≡ 64) (a : ℕ) (belo
     others_stay g other = named_other None g (λ old. other (let same : Some g ≡ Some f = sym old ∙ was in cc same)) (nothing_named g)
 
     -- its frame is named by another
-    pub shared_free : (i : ℕ) → i ≢ a → frame_of (claims e caps i) ≡ Some f → free_of e caps ≡ free_of e (with_cap caps a None)
+    pub shared_free : (i : ℕ) → i ≢ a → frame_of (claims e caps i) ≡ Some f
+        → free_of e caps ≡ free_of e (with_cap caps a None)
     shared_free i apart is =
         same_free e caps (with_cap caps a None)
         (λ g. elim (cases_eq g f) [
@@ -183,7 +200,9 @@ module _ (e : Estate) (caps : Slots) (long : length caps ≡ 64) (a : ℕ) (belo
         (false_from_ne_true (is_named e (with_cap caps a None) f) (λ h.
         let n : Names e (with_cap caps a None) f = named_by e (with_cap caps a None) f h in
         elim (cases_eq n.0 a) [
-          | inl same ↦ nothing_named f (ap frame_of (sym (claim_here None)) ∙ ap (λ i. frame_of (claims e (with_cap caps a None) i)) (sym same) ∙ n.1)
+          | inl same ↦ nothing_named f
+              (ap frame_of (sym (claim_here None))
+              ∙ ap (λ i. frame_of (claims e (with_cap caps a None) i)) (sym same) ∙ n.1)
           | inr other ↦ alone n.0 other (ap frame_of (sym (claim_there None n.0 other)) ∙ n.1)
         ]))
         others_stay
@@ -212,7 +231,8 @@ table_unshared (Some (cap.Table g w)) f e = refl
 table_unshared (Some (cap.Irq line)) f e = absurd (cc e)
 
 -- a shared claim of a slot is a page's
-shared_page : (c : Option Cap) (f : ℕ) → is_shared (claim_of c) ≡ true → frame_of (claim_of c) ≡ Some f → page_of c ≡ Some f
+shared_page : (c : Option Cap) (f : ℕ) → is_shared (claim_of c) ≡ true → frame_of (claim_of c) ≡ Some f
+    → page_of c ≡ Some f
 unfolding frame_of is_shared claim_of
 shared_page None f s e = absurd (cc e)
 shared_page (Some (cap.Frame g r w)) f s e = e
@@ -221,7 +241,8 @@ shared_page (Some (cap.Irq line)) f s e = absurd (cc e)
 
 -- ---- a slot that is emptied
 
-module _ (e : Estate) (caps : Slots) (m : Mem) (long : length caps ≡ 64) (estate : IsEstate e) (facts : Facts e.root (is_mine e) (claims e caps) m)
+module _ (e : Estate) (caps : Slots) (m : Mem) (long : length caps ≡ 64) (estate : IsEstate e)
+    (facts : Facts e.root (is_mine e) (claims e caps) m)
     (a : ℕ) (below : a < 64) where
   at_slot : (f : ℕ) → frame_of (claim_of (cap_at caps a)) ≡ Some f → frame_of (claims e caps a) ≡ Some f
   at_slot f is = ap frame_of (claims_at e caps long a below) ∙ is
@@ -234,38 +255,51 @@ module _ (e : Estate) (caps : Slots) (m : Mem) (long : length caps ≡ 64) (esta
   out_frame f is = named_out e caps f (names e caps f a (at_slot f is))
 
   -- no other slot, and none that stays, names a page that no other slot names
-  page_alone : (f : ℕ) → page_of (cap_at caps a) ≡ Some f → NoOther caps a f → (i : ℕ) → i ≢ a → frame_of (claims e caps i) ≢ Some f
+  page_alone : (f : ℕ) → page_of (cap_at caps a) ≡ Some f → NoOther caps a f → (i : ℕ) → i ≢ a
+      → frame_of (claims e caps i) ≢ Some f
   page_alone f is alone i other there =
       let shared : is_shared (claims e caps i) ≡ true = (facts.apart i a f other there (at_slot f (page_frame (cap_at caps a) f is))).0 in
       elim (cases_lt i 64) [
-        | inl slot ↦ alone.none i other (shared_page (cap_at caps i) f (ap is_shared (sym (claims_at e caps long i slot)) ∙ shared) (ap frame_of (sym (claims_at e caps long i slot)) ∙ there))
+        | inl slot ↦ alone.none i other
+            (shared_page (cap_at caps i) f (ap is_shared (sym (claims_at e caps long i slot)) ∙ shared)
+            (ap frame_of (sym (claims_at e caps long i slot)) ∙ there))
         | inr past ↦
             let place : 64 + (i - 64) ≡ i = omega (arith, past) in
-            true≢false (sym shared ∙ ap (λ j. is_shared (claims e caps j)) (sym place) ∙ ap is_shared (claims_fixed e caps long (i - 64)) ∙ estate.alone (i - 64))
+            true≢false (sym shared ∙ ap (λ j. is_shared (claims e caps j)) (sym place)
+            ∙ ap is_shared (claims_fixed e caps long (i - 64)) ∙ estate.alone (i - 64))
       ]
 
-  table_alone : (f : ℕ) → table_of (cap_at caps a) ≡ Some f → (i : ℕ) → i ≢ a → frame_of (claims e caps i) ≢ Some f
+  table_alone : (f : ℕ) → table_of (cap_at caps a) ≡ Some f → (i : ℕ) → i ≢ a
+      → frame_of (claims e caps i) ≢ Some f
   table_alone f is i other there =
       let shared : is_shared (claims e caps a) ≡ true = (facts.apart i a f other there (at_slot f (table_frame (cap_at caps a) f is))).1 in
       true≢false (sym shared ∙ ap is_shared (claims_at e caps long a below) ∙ table_unshared (cap_at caps a) f is)
 
   -- the frame that comes back is free
-  pub page_back : (f : ℕ) → page_of (cap_at caps a) ≡ Some f → NoOther caps a f → with_frame (free_of e caps) f ≡ free_of e (with_cap caps a None)
+  pub page_back : (f : ℕ) → page_of (cap_at caps a) ≡ Some f → NoOther caps a f
+      → with_frame (free_of e caps) f ≡ free_of e (with_cap caps a None)
   page_back f is alone =
       let here = page_frame (cap_at caps a) f is in
       freed e caps long a below f (at_slot f here) (facts.owned a f (at_slot f here)) (page_alone f is alone)
 
-  pub table_back : (f : ℕ) → table_of (cap_at caps a) ≡ Some f → with_frame (free_of e caps) f ≡ free_of e (with_cap caps a None)
+  pub table_back : (f : ℕ) → table_of (cap_at caps a) ≡ Some f
+      → with_frame (free_of e caps) f ≡ free_of e (with_cap caps a None)
   table_back f is =
       let here = table_frame (cap_at caps a) f is in
       freed e caps long a below f (at_slot f here) (facts.owned a f (at_slot f here)) (table_alone f is)
 
   -- none comes back
-  pub none_back : (c : Option Cap) → cap_at caps a ≡ c → ((f : ℕ) → page_of c ≡ Some f → (i : ℕ) × (i ≢ a) × (page_of (cap_at caps i) ≡ Some f)) → table_of c ≡ None
+  pub none_back : (c : Option Cap) → cap_at caps a ≡ c
+      → ((f : ℕ) → page_of c ≡ Some f → (i : ℕ) × (i ≢ a) × (page_of (cap_at caps i) ≡ Some f))
+      → table_of c ≡ None
       → free_of e caps ≡ free_of e (with_cap caps a None)
   unfolding frame_of claim_of
-  none_back None is page table = no_frame_free e caps long a below (ap frame_of (claims_at e caps long a below) ∙ ap (λ c. frame_of (claim_of c)) is)
-  none_back (Some (cap.Irq line)) is page table = no_frame_free e caps long a below (ap frame_of (claims_at e caps long a below) ∙ ap (λ c. frame_of (claim_of c)) is)
+  none_back None is page table =
+      no_frame_free e caps long a below
+      (ap frame_of (claims_at e caps long a below) ∙ ap (λ c. frame_of (claim_of c)) is)
+  none_back (Some (cap.Irq line)) is page table =
+      no_frame_free e caps long a below
+      (ap frame_of (claims_at e caps long a below) ∙ ap (λ c. frame_of (claim_of c)) is)
   none_back (Some (cap.Table f w)) is page table = absurd (cc table)
   none_back (Some (cap.Frame f r w)) is page table =
       let other = page f refl in

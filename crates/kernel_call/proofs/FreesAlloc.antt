@@ -28,18 +28,22 @@ use Rattle.kernel_call.specs.Facts.{Done, Has, HasFacts, Ends, code_of, reads}
 use Rattle.kernel_call.proofs.Paths.{slot_then, slot_ends, check_then, check_ends, some_then, some_ends, runs}
 use Rattle.kernel_call.proofs.Frees.{free_of, put_free, page_frame, table_frame}
 
-pub kept : (e : Estate) (memory : Contents) (m : Mem) (d : Domain) (readings : List ℕ) (replies : List Reply) → HasFacts e memory m d → Kept e (dom_model d readings replies) m
+pub kept : (e : Estate) (memory : Contents) (m : Mem) (d : Domain) (readings : List ℕ) (replies : List Reply)
+    → HasFacts e memory m d → Kept e (dom_model d readings replies) m
 kept e memory m d readings replies h = record { slots = h.has.slots; facts = h.facts }
 
 -- a call that is refused
-pub refusal : (number : ℕ) (e : Estate) (d : Domain) (memory : Contents) (readings : List ℕ) (replies : List Reply) (x : CallError) (m : Mem) (r : act.Done Mem Note Dom Dom)
-    → HasFacts e memory m d → r ≡ reads m (inl (refused (code_of x) (dom_model d readings replies))) → Ends number e d d memory readings replies (Err x) r
+pub refusal : (number : ℕ) (e : Estate) (d : Domain) (memory : Contents) (readings : List ℕ)
+    (replies : List Reply) (x : CallError) (m : Mem) (r : act.Done Mem Note Dom Dom)
+    → HasFacts e memory m d → r ≡ reads m (inl (refused (code_of x) (dom_model d readings replies)))
+    → Ends number e d d memory readings replies (Err x) r
 refusal number e d memory readings replies x m r h is =
     subst (λ (r : act.Done Mem Note Dom Dom). Ends number e d d memory readings replies (Err x) r) (sym is)
     (record { value = refl; holds = h.holds; work = refl; has = h.has })
 
 -- a domain with other slots and another pool
-pub has_slots : (e : Estate) (old new : Domain) (caps : Slots) → Has e old → new.map ≡ old.map → new.calls ≡ old.calls → new.caps ≡ caps
+pub has_slots : (e : Estate) (old new : Domain) (caps : Slots) → Has e old → new.map ≡ old.map
+    → new.calls ≡ old.calls → new.caps ≡ caps
     → length caps ≡ 64 → new.pool ≡ free_of e caps → Has e new
 has_slots e old new caps h map calls is long pool = record {
   root = map ∙ h.root;
@@ -49,7 +53,8 @@ has_slots e old new caps h map calls is long pool = record {
 }
 
 -- a call that is done, and leaves these slots and this pool
-pub record DoneWith (number : ℕ) (e : Estate) (model : Dom) (caps : Slots) (pool : FreeList) (map : ℕ) (memory : Contents) (x : Done) (r : act.Done Mem Note Dom Dom) : Type 0 where
+pub record DoneWith (number : ℕ) (e : Estate) (model : Dom) (caps : Slots) (pool : FreeList) (map : ℕ)
+    (memory : Contents) (x : Done) (r : act.Done Mem Note Dom Dom) : Type 0 where
   pub value : r.value ≡ inr (done x.value (record model { caps = caps }))
   pub holds : Holds memory r.state
   pub told : work_model x.work ≡ work_of number r.notes
@@ -115,17 +120,24 @@ module _ (e : Estate) (memory : Contents) (m : Mem) (old : Domain) (h : HasFacts
   -- no slot names the least free frame
   pub least_unnamed : (f : ℕ) → slice_get old.pool.free 0 ≡ Some f → IsUnnamed old.caps f
   least_unnamed f least = record {
-    no_page = λ i is. not_named i (page_frame (cap_at old.caps i) f is) (λ none. let no : None ≡ Some f = sym (ap page_of none) ∙ is in cc no);
-    no_table = λ i is. not_named i (table_frame (cap_at old.caps i) f is) (λ none. let no : None ≡ Some f = sym (ap table_of none) ∙ is in cc no);
+    no_page =
+        λ i is. not_named i (page_frame (cap_at old.caps i) f is)
+        (λ none. let no : None ≡ Some f = sym (ap page_of none) ∙ is in cc no);
+    no_table =
+        λ i is. not_named i (table_frame (cap_at old.caps i) f is)
+        (λ none. let no : None ≡ Some f = sym (ap table_of none) ∙ is in cc no);
   }
     where
-      not_named : (i : ℕ) → frame_of (claim_of (cap_at old.caps i)) ≡ Some f → (cap_at old.caps i ≡ None → ⊥) → ⊥
+      not_named : (i : ℕ) → frame_of (claim_of (cap_at old.caps i)) ≡ Some f → (cap_at old.caps i ≡ None → ⊥)
+          → ⊥
       not_named i names there = elim (cases_lt i (length old.caps)) [
-        | inl within ↦ unnamed e old.caps f (least_is_free e old.caps f (sym pool_least ∙ least)).not_named i (ap frame_of (claim_within e old.caps i within) ∙ names)
+        | inl within ↦ unnamed e old.caps f (least_is_free e old.caps f (sym pool_least ∙ least)).not_named i
+            (ap frame_of (claim_within e old.caps i within) ∙ names)
         | inr past ↦ there (get_or_past old.caps i None past)
       ]
 
-fresh_frame : (t : Bool) (f : ℕ) → frame_of (claim_of (Some (if t then cap.Frame f 7 None else cap.Table f None))) ≡ Some f
+fresh_frame : (t : Bool) (f : ℕ)
+    → frame_of (claim_of (Some (if t then cap.Frame f 7 None else cap.Table f None))) ≡ Some f
 unfolding frame_of claim_of
 fresh_frame true f = refl
 fresh_frame false f = refl
@@ -146,7 +158,8 @@ module _ (e : Estate) (old new : Domain) (memory : Contents) (readings : List �
   abbrev model : Dom
   model = dom_model old readings replies
 
-  pub ends_slot : (x : CallError) → code_of x ≡ 4 → is_filled (cap_at old.caps a) ≡ true → Ends 2 e old old memory readings replies (Err x) (alloc e model a b m)
+  pub ends_slot : (x : CallError) → code_of x ≡ 4 → is_filled (cap_at old.caps a) ≡ true
+      → Ends 2 e old old memory readings replies (Err x) (alloc e model a b m)
   ends_slot x is used = refusal 2 e old memory readings replies x m (alloc e model a b m) h
       (alloc_used e model a b m below used ∙ ap (λ (n : ℕ). reads m (inl (refused n model))) (sym is))
 
@@ -154,17 +167,20 @@ module _ (e : Estate) (old new : Domain) (memory : Contents) (readings : List �
     not_filled : is_filled (cap_at old.caps a) ≡ false
     not_filled = ap is_filled empty
 
-    pub ends_kind : (x : CallError) → code_of x ≡ 5 → 1 < b → Ends 2 e old old memory readings replies (Err x) (alloc e model a b m)
+    pub ends_kind : (x : CallError) → code_of x ≡ 5 → 1 < b
+        → Ends 2 e old old memory readings replies (Err x) (alloc e model a b m)
     ends_kind x is other = refusal 2 e old memory readings replies x m (alloc e model a b m) h
         (alloc_kind e model a b m below not_filled other ∙ ap (λ (n : ℕ). reads m (inl (refused n model))) (sym is))
 
     module _ (kind : b ≤ 1) where
       -- the pool is taken of, and nothing came
-      pub ends_none : (x : CallError) → code_of x ≡ 10 → slice_get old.pool.free 0 ≡ None → new.map ≡ old.map → new.calls ≡ old.calls → new.caps ≡ old.caps → new.pool ≡ without_least old.pool
+      pub ends_none : (x : CallError) → code_of x ≡ 10 → slice_get old.pool.free 0 ≡ None → new.map ≡ old.map
+          → new.calls ≡ old.calls → new.caps ≡ old.caps → new.pool ≡ without_least old.pool
           → Ends 2 e old new memory readings replies (Err x) (alloc e model a b m)
       ends_none x is none map calls caps pool =
           let run : alloc e model a b m ≡ reads m (inl (refused (code_of x) model)) =
-          alloc_none e model a b m below not_filled kind (sym (pool_least e memory m old h) ∙ none) ∙ ap (λ (n : ℕ). reads m (inl (refused n model))) (sym is) in
+          alloc_none e model a b m below not_filled kind (sym (pool_least e memory m old h) ∙ none)
+          ∙ ap (λ (n : ℕ). reads m (inl (refused n model))) (sym is) in
           subst (λ (r : act.Done Mem Note Dom Dom). Ends 2 e old new memory readings replies (Err x) r) (sym run)
           (record {
             value = refl;
@@ -173,7 +189,8 @@ module _ (e : Estate) (old new : Domain) (memory : Contents) (readings : List �
             has = has_slots e old new old.caps h.has map calls caps h.has.slots (pool ∙ none_stays old.pool none ∙ h.has.pool);
           })
 
-      pub ends_taken : (f : ℕ) (memory' : Contents) (caps : Slots) (pool : FreeList) (x : Done) → slice_get old.pool.free 0 ≡ Some f
+      pub ends_taken : (f : ℕ) (memory' : Contents) (caps : Slots) (pool : FreeList) (x : Done)
+          → slice_get old.pool.free 0 ≡ Some f
           → caps ≡ with_cap old.caps a (Some (fresh_cap b f)) → pool ≡ without_least old.pool
           → Holds memory' (zeroed_frame m f) → x.value ≡ 0 → work_model x.work ≡ record { op = 2; zeroed = Some f; entries = [] }
           → DoneWith 2 e model caps pool old.map memory' x (alloc e model a b m)
@@ -197,8 +214,11 @@ module _ (e : Estate) (old new : Domain) (memory : Contents) (readings : List �
             slots = ap length is ∙ long_set old.caps h.has.slots a (Some (fresh_cap b f));
           })
 
-pub ends_past : (e : Estate) (old : Domain) (memory : Contents) (readings : List ℕ) (replies : List Reply) (m : Mem) (a b : ℕ) (x : CallError)
-    → HasFacts e memory m old → 64 ≤ a → code_of x ≡ 2 → Ends 2 e old old memory readings replies (Err x) (alloc e (dom_model old readings replies) a b m)
+pub ends_past : (e : Estate) (old : Domain) (memory : Contents) (readings : List ℕ) (replies : List Reply)
+    (m : Mem) (a b : ℕ) (x : CallError)
+    → HasFacts e memory m old → 64 ≤ a → code_of x ≡ 2
+    → Ends 2 e old old memory readings replies (Err x) (alloc e (dom_model old readings replies) a b m)
 ends_past e old memory readings replies m a b x h above is =
     refusal 2 e old memory readings replies x m (alloc e (dom_model old readings replies) a b m) h
-    (alloc_slot e (dom_model old readings replies) a b m above ∙ ap (λ (n : ℕ). reads m (inl (refused n (dom_model old readings replies)))) (sym is))
+    (alloc_slot e (dom_model old readings replies) a b m above
+    ∙ ap (λ (n : ℕ). reads m (inl (refused n (dom_model old readings replies)))) (sym is))

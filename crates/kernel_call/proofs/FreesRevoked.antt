@@ -15,7 +15,8 @@ number_same None n e = absurd (cc e)
 number_same (Some k) n e = ap Some (sym (eqb-true n k e))
 
 -- what is alike names the same frame
-alike_frame : (c d : Option Cap) (f : ℕ) → alike c d ≡ true → frame_of (claim_of d) ≡ Some f → frame_of (claim_of c) ≡ Some f
+alike_frame : (c d : Option Cap) (f : ℕ) → alike c d ≡ true → frame_of (claim_of d) ≡ Some f
+    → frame_of (claim_of c) ≡ Some f
 unfolding frame_of claim_of
 alike_frame None d f same is = absurd (true≢false (sym same))
 alike_frame (Some (cap.Table g w)) d f same is = absurd (true≢false (sym same))
@@ -52,14 +53,16 @@ module _ (e : Estate) (caps : Slots) (long : length caps ≡ 64) (a : ℕ) (belo
       ap (claims e after) (sym place) ∙ claims_fixed e after (length_revoked caps a ∙ long) (i - 64)
       ∙ sym (claims_fixed e caps long (i - 64)) ∙ ap (claims e caps) place
 
-  to_after : (i f : ℕ) → i < 64 → frame_of (claims e caps i) ≡ Some f → (t : Bool) → is_revoked caps a i ≡ t → Names e after f
+  to_after : (i f : ℕ) → i < 64 → frame_of (claims e caps i) ≡ Some f → (t : Bool) → is_revoked caps a i ≡ t
+      → Names e after f
   to_after i f within is false stays = (i, ap frame_of (kept_at i within stays) ∙ is)
   to_after i f within is true goes =
       let here : frame_of (claim_of (cap_at caps i)) ≡ Some f = ap frame_of (sym (claims_at e caps long i within)) ∙ is in
       let self : frame_of (claim_of (cap_at caps a)) ≡ Some f = alike_frame (cap_at caps a) (cap_at caps i) f (and_parts _ _ goes).1 here in
       (a, ap frame_of (kept_at a below (itself caps a) ∙ claims_at e caps long a below) ∙ self)
 
-  from_after : (i f : ℕ) → i < 64 → frame_of (claims e after i) ≡ Some f → (t : Bool) → is_revoked caps a i ≡ t → Names e caps f
+  from_after : (i f : ℕ) → i < 64 → frame_of (claims e after i) ≡ Some f → (t : Bool)
+      → is_revoked caps a i ≡ t → Names e caps f
   from_after i f within is false stays = (i, ap frame_of (sym (kept_at i within stays)) ∙ is)
   from_after i f within is true goes = absurd (gone_at i f within goes is)
 

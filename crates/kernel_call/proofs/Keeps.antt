@@ -12,7 +12,8 @@ pub if_err : {T E : Type 0} (r : Result T E) {A : Type 0} → A → IfErr r (λ 
 if_err (Ok x) a = tt
 if_err (Err x) a = a
 
-pub rest_of : (d : Domain) (caps : Slots) (map : ℕ) (pool : FreeList) (room : 4096 ≤ vec_capacity d.printed) → map ≡ d.map
+pub rest_of : (d : Domain) (caps : Slots) (map : ℕ) (pool : FreeList) (room : 4096 ≤ vec_capacity d.printed)
+    → map ≡ d.map
     → KeepsRest d (record d { caps = caps; map = map; pool = pool; room = room })
 rest_of d caps map pool room same = record {
   status = refl;
@@ -32,7 +33,8 @@ pub rest_same : (d : Domain) → KeepsRest d d
 rest_same d = rest_of d d.caps d.map d.pool d.room refl
 
 -- where the page map and the pool are as they were, so is the domain
-pub same_parts : (d : Domain) (map : ℕ) (pool : FreeList) (room : 4096 ≤ vec_capacity d.printed) → map ≡ d.map → pool ≡ d.pool
+pub same_parts : (d : Domain) (map : ℕ) (pool : FreeList) (room : 4096 ≤ vec_capacity d.printed) → map ≡ d.map
+    → pool ≡ d.pool
     → record d { map = map; pool = pool; room = room } ≡ d
 same_parts d map pool room same_map same_pool =
     ap₂ (λ (m : ℕ) (p : FreeList). record d { map = m; pool = p; room = room }) same_map same_pool

@@ -34,7 +34,8 @@ keeps_replied old mid new rest keeps = record {
 
 -- a refusal leaves the domain as it was but for its reply
 module _ (old mid new : Domain) (same : mid ≡ old) where
-  pub refused_replied : (code : ℕ) (given reply : Reply) → given ≡ record { code = code; value = 0 } → reply ≡ given
+  pub refused_replied : (code : ℕ) (given reply : Reply) → given ≡ record { code = code; value = 0 }
+      → reply ≡ given
       → new.status ≡ mid.status
       → threads_model new.threads ≡ record (threads_model mid.threads) { current = answered mid.threads.active given }
       → new.interrupts ≡ mid.interrupts → new.caps ≡ mid.caps → new.pool ≡ mid.pool → new.printed ≡ mid.printed

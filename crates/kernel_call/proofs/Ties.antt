@@ -34,13 +34,15 @@ use Rattle.kernel_call.specs.declared.error.CallError.{CallError}
 use Rattle.kernel_call.specs.Models.{dom_model}
 use Rattle.kernel_call.specs.Facts.{Done, with_work, Has, HasFacts, Valid, code_of, end_of, reads, Ends}
 
-pub kept_facts : (e : Estate) (memory : Contents) (m : Mem) (d : Domain) (readings : List ℕ) (replies : List Reply)
+pub kept_facts : (e : Estate) (memory : Contents) (m : Mem) (d : Domain) (readings : List ℕ)
+    (replies : List Reply)
     → HasFacts e memory m d → Kept e (dom_model d readings replies) m
 kept_facts e memory m d readings replies h = record { slots = h.has.slots; facts = h.facts }
 
 -- ---- how calls end
 
-pub ends_refused : (number : ℕ) (e : Estate) (old new : Domain) (memory : Contents) (m : Mem) (readings : List ℕ) (replies : List Reply)
+pub ends_refused : (number : ℕ) (e : Estate) (old new : Domain) (memory : Contents) (m : Mem)
+    (readings : List ℕ) (replies : List Reply)
     (x : CallError) (r : act.Done Mem Note Dom Dom) → Holds memory m → Has e new
     → r ≡ reads m (inl (refused (code_of x) (dom_model old readings replies)))
     → Ends number e old new memory readings replies (Err x) r
@@ -52,14 +54,16 @@ ends_refused number e old new memory m readings replies x r holds has is = recor
 }
 
 -- nothing is changed
-pub ends_same : (number : ℕ) (e : Estate) (d : Domain) (memory : Contents) (m : Mem) (readings : List ℕ) (replies : List Reply)
+pub ends_same : (number : ℕ) (e : Estate) (d : Domain) (memory : Contents) (m : Mem) (readings : List ℕ)
+    (replies : List Reply)
     (x : CallError) (r : act.Done Mem Note Dom Dom) → HasFacts e memory m d
     → r ≡ reads m (inl (refused (code_of x) (dom_model d readings replies)))
     → Ends number e d d memory readings replies (Err x) r
 ends_same number e d memory m readings replies x r h is =
     ends_refused number e d d memory m readings replies x r h.holds h.has is
 
-pub ends_error : (number : ℕ) (e : Estate) (d : Domain) (memory : Contents) (m : Mem) (readings : List ℕ) (replies : List Reply)
+pub ends_error : (number : ℕ) (e : Estate) (d : Domain) (memory : Contents) (m : Mem) (readings : List ℕ)
+    (replies : List Reply)
     (x : CallError) (result : Result Done CallError) (r : act.Done Mem Note Dom Dom) → HasFacts e memory m d → result ≡ Err x
     → r ≡ reads m (inl (refused (code_of x) (dom_model d readings replies)))
     → Ends number e d d memory readings replies result r
@@ -68,11 +72,13 @@ ends_error number e d memory m readings replies x result r h is exit =
     (ends_same number e d memory m readings replies x r h exit)
 
 -- by `?`, whatever the work
-pub exits : (result : Result ℕ CallError) (x : CallError) (work : Work) → result ≡ Err x → with_work result work ≡ Err x
+pub exits : (result : Result ℕ CallError) (x : CallError) (work : Work) → result ≡ Err x
+    → with_work result work ≡ Err x
 exits result x work is = ap (λ (t : Result ℕ CallError). with_work t work) is
 
 -- the slot's number is bad, or the slot is empty
-pub ends_unfilled : (number : ℕ) (e : Estate) (d : Domain) (memory : Contents) (m : Mem) (readings : List ℕ) (replies : List Reply)
+pub ends_unfilled : (number : ℕ) (e : Estate) (d : Domain) (memory : Contents) (m : Mem) (readings : List ℕ)
+    (replies : List Reply)
     (slot : ℕ) (found : Result Cap CallError) (x y : CallError) (result : Result Done CallError) (r : act.Done Mem Note Dom Dom)
     → HasFacts e memory m d
     → filled (dom_model d readings replies) slot m ≡ reads m (end_of (dom_model d readings replies) found)
@@ -84,7 +90,8 @@ ends_unfilled number e d memory m readings replies slot found x y result r h fin
     (finds ∙ ap (λ (t : Result Cap CallError). reads m (end_of (dom_model d readings replies) t)) (was ∙ ap Err (sym same))))
 
 -- the call was done, and leaves this domain
-pub ends_done : (number : ℕ) (e : Estate) (old new : Domain) (memory : Contents) (readings : List ℕ) (replies : List Reply)
+pub ends_done : (number : ℕ) (e : Estate) (old new : Domain) (memory : Contents) (readings : List ℕ)
+    (replies : List Reply)
     (x : Done) (notes : List Note) (n : Mem) (after : Dom) (r : act.Done Mem Note Dom Dom)
     → r ≡ record { notes = notes; state = n; value = inr (done x.value after) }
     → dom_model new readings replies ≡ after → Holds memory n → work_model x.work ≡ work_of number notes → Has e new
@@ -107,13 +114,15 @@ same_bool true b f g = sym (f refl)
 same_bool false true f g = g refl
 same_bool false false f g = refl
 
-named_over : (e : Estate) (old new : Slots) (f : ℕ) → NamesAll (claims e old) (claims e new) → is_named e old f ≡ true → is_named e new f ≡ true
+named_over : (e : Estate) (old new : Slots) (f : ℕ) → NamesAll (claims e old) (claims e new)
+    → is_named e old f ≡ true → is_named e new f ≡ true
 named_over e old new f over is =
     let r = named_by e old f is in
     let s = over r.0 f r.1 in
     names e new f s.0 s.1
 
-pub same_free : (e : Estate) (old new : Slots) → NamesAll (claims e old) (claims e new) → NamesAll (claims e new) (claims e old)
+pub same_free : (e : Estate) (old new : Slots) → NamesAll (claims e old) (claims e new)
+    → NamesAll (claims e new) (claims e old)
     → free_frames e new ≡ free_frames e old
 unfolding free_frames
 same_free e old new over back =
@@ -122,7 +131,8 @@ same_free e old new over back =
 
 module _ (e : Estate) (caps : Slots) (long : length caps ≡ 64) (a : ℕ) (x : Option Cap) (below : a < 64) where
   -- what the slot named is named still, and what it names was
-  pub free_set : ((f : ℕ) → frame_of (claims e caps a) ≡ Some f → (j : ℕ) × (frame_of (with_claim (claims e caps) a (claim_of x) j) ≡ Some f))
+  pub free_set : ((f : ℕ) → frame_of (claims e caps a) ≡ Some f
+      → (j : ℕ) × (frame_of (with_claim (claims e caps) a (claim_of x) j) ≡ Some f))
       → ((f : ℕ) → frame_of (claim_of x) ≡ Some f → (j : ℕ) × (frame_of (claims e caps j) ≡ Some f))
       → free_frames e (with_cap caps a x) ≡ free_frames e caps
   free_set was is = same_free e caps (with_cap caps a x)
@@ -138,14 +148,16 @@ module _ (e : Estate) (caps : Slots) (long : length caps ≡ 64) (a : ℕ) (x : 
       ]))
 
   -- the slot names the frame that it named
-  pub free_noted : frame_of (claim_of x) ≡ frame_of (claim_of (cap_at caps a)) → free_frames e (with_cap caps a x) ≡ free_frames e caps
+  pub free_noted : frame_of (claim_of x) ≡ frame_of (claim_of (cap_at caps a))
+      → free_frames e (with_cap caps a x) ≡ free_frames e caps
   free_noted same =
       let here : frame_of (claims e caps a) ≡ frame_of (claim_of x) = ap frame_of (claims_at e caps long a below) ∙ sym same in
       free_set
       (λ f named. (a, ap frame_of (claim_same (claims e caps) a (claim_of x)) ∙ (sym here ∙ named)))
       (λ f named. (a, here ∙ named))
 
-pub has_set : (e : Estate) (old new : Domain) (a : ℕ) (x : Option Cap) → Has e old → new.map ≡ old.map → new.calls ≡ old.calls
+pub has_set : (e : Estate) (old new : Domain) (a : ℕ) (x : Option Cap) → Has e old → new.map ≡ old.map
+    → new.calls ≡ old.calls
     → new.pool ≡ old.pool → new.caps ≡ with_cap old.caps a x → free_frames e (with_cap old.caps a x) ≡ free_frames e old.caps → Has e new
 has_set e old new a x h map calls same_pool caps free = record {
   root = map ∙ h.root;
@@ -155,7 +167,8 @@ has_set e old new a x h map calls same_pool caps free = record {
 }
 
 -- the parts that hold the facts are as they were
-pub has_still : (e : Estate) (old new : Domain) → Has e old → new.map ≡ old.map → new.calls ≡ old.calls → new.pool ≡ old.pool
+pub has_still : (e : Estate) (old new : Domain) → Has e old → new.map ≡ old.map → new.calls ≡ old.calls
+    → new.pool ≡ old.pool
     → new.caps ≡ old.caps → Has e new
 has_still e old new h map calls same_pool caps = record {
   root = map ∙ h.root;
@@ -178,7 +191,8 @@ module _ (memory : Contents) (d : Domain) (v : Valid memory d) where
   unfolding dom
   kept = kept_facts v.estate memory v.mem d [] [] v.facts
 
-  claim_there : (a : ℕ) (c : Option Cap) → a < 64 → cap_at d.caps a ≡ c → claims v.estate d.caps a ≡ claim_of c
+  claim_there : (a : ℕ) (c : Option Cap) → a < 64 → cap_at d.caps a ≡ c
+      → claims v.estate d.caps a ≡ claim_of c
   claim_there a c below there = claims_at v.estate d.caps v.facts.has.slots a below ∙ ap claim_of there
 
   -- what is so of the estate's root and memory is so of the domain's
@@ -193,12 +207,14 @@ module _ (memory : Contents) (d : Domain) (v : Valid memory d) where
   tables_stand = stands (λ m root. IsPageMap m root memory.frames)
       (subst (λ (n : ℕ). IsPageMap v.mem v.estate.root n) v.facts.frames (page_tables v.estate dom v.mem kept).map)
 
-  page_there : (a f rights : ℕ) (w : Option ℕ) → a < 64 → cap_at d.caps a ≡ Some (cap.Frame f rights w) → IsPageFrame v.estate dom v.mem f
+  page_there : (a f rights : ℕ) (w : Option ℕ) → a < 64 → cap_at d.caps a ≡ Some (cap.Frame f rights w)
+      → IsPageFrame v.estate dom v.mem f
   unfolding dom claim_of
   page_there a f rights w below there =
       page_frame v.estate dom v.mem kept a f true (entry_places w) (claim_there a (Some (cap.Frame f rights w)) below there)
 
-  pub page_below : (a f rights : ℕ) (w : Option ℕ) → a < 64 → cap_at d.caps a ≡ Some (cap.Frame f rights w) → f < memory.frames
+  pub page_below : (a f rights : ℕ) (w : Option ℕ) → a < 64 → cap_at d.caps a ≡ Some (cap.Frame f rights w)
+      → f < memory.frames
   page_below a f rights w below there = in_memory f (page_there a f rights w below there).own
 
   pub page_apart : (a f rights : ℕ) (w : Option ℕ) → a < 64 → cap_at d.caps a ≡ Some (cap.Frame f rights w)
@@ -218,7 +234,8 @@ module _ (memory : Contents) (d : Domain) (v : Valid memory d) where
       let entry : second_entry v.mem v.estate.root va ≡ leaf_word f l.rights =
       ap (λ (g : ℕ). word v.mem g (vpn_0 va)) (table_at v.estate dom v.mem va l.slot l.frame kept l.claim) ∙ l.entry_is in
       stands (λ m root. has_page m root va ≡ true)
-      (and_from (has_table v.mem v.estate.root va) (valid (second_entry v.mem v.estate.root va)) table (ap valid entry ∙ valid-leaf f l.rights l.good))
+      (and_from (has_table v.mem v.estate.root va) (valid (second_entry v.mem v.estate.root va)) table
+      (ap valid entry ∙ valid-leaf f l.rights l.good))
 
   -- a table that is installed nowhere
   loose : (a f : ℕ) (w : Option ℕ) → a < 64 → cap_at d.caps a ≡ Some (cap.Table f w) → is_some w ≡ false
@@ -227,22 +244,30 @@ module _ (memory : Contents) (d : Domain) (v : Valid memory d) where
   loose a f w below there none =
       claim_there a (Some (cap.Table f w)) below there ∙ ap (λ w. Claim.Directory f (region_of w)) (no_some w none)
 
-  pub table_below : (a f : ℕ) (w : Option ℕ) → a < 64 → cap_at d.caps a ≡ Some (cap.Table f w) → is_some w ≡ false → f < memory.frames
+  pub table_below : (a f : ℕ) (w : Option ℕ) → a < 64 → cap_at d.caps a ≡ Some (cap.Table f w)
+      → is_some w ≡ false → f < memory.frames
   table_below a f w below there none =
-      in_memory f (own_table v.estate.root (is_mine v.estate) (claims v.estate d.caps) v.mem v.facts.facts a f None (loose a f w below there none))
+      in_memory f (own_table v.estate.root (is_mine v.estate) (claims v.estate d.caps) v.mem v.facts.facts a
+      f None (loose a f w below there none))
 
-  not_installed : (a f place : ℕ) → claims v.estate d.caps a ≡ Claim.Directory f None → valid (word v.mem v.estate.root place) ≡ true
+  not_installed : (a f place : ℕ) → claims v.estate d.caps a ≡ Claim.Directory f None
+      → valid (word v.mem v.estate.root place) ≡ true
       → ppn (word v.mem v.estate.root place) ≢ f
   not_installed a f place claim ok same =
       let t = v.facts.facts.tables place ok in
-      let frame : t.frame ≡ f = sym (table_frame v.estate.root (is_mine v.estate) (claims v.estate d.caps) v.mem v.facts.facts place ok) ∙ same in
+      let frame : t.frame ≡ f =
+      sym (table_frame v.estate.root (is_mine v.estate) (claims v.estate d.caps) v.mem v.facts.facts
+      place ok) ∙ same in
       let claim_too : claims v.estate d.caps t.slot ≡ Claim.Directory f (Some place) =
       subst (λ (g : ℕ). claims v.estate d.caps t.slot ≡ Claim.Directory g (Some place)) frame t.claim in
-      let slot : a ≡ t.slot = one_slot v.estate.root (is_mine v.estate) (claims v.estate d.caps) v.mem v.facts.facts a t.slot f None (Some place) claim claim_too in
+      let slot : a ≡ t.slot =
+      one_slot v.estate.root (is_mine v.estate) (claims v.estate d.caps) v.mem v.facts.facts a t.slot f
+      None (Some place) claim claim_too in
       let no : Claim.Directory f None ≡ Claim.Directory f (Some place) = sym claim ∙ ap (claims v.estate d.caps) slot ∙ claim_too in
       cc no
 
-  pub table_apart : (a f : ℕ) (w : Option ℕ) → a < 64 → cap_at d.caps a ≡ Some (cap.Table f w) → is_some w ≡ false
+  pub table_apart : (a f : ℕ) (w : Option ℕ) → a < 64 → cap_at d.caps a ≡ Some (cap.Table f w)
+      → is_some w ≡ false
       → StandsWith memory (λ m. IsApart m d.map f)
   table_apart a f w below there none =
       let claim = loose a f w below there none in
@@ -251,7 +276,8 @@ module _ (memory : Contents) (d : Domain) (v : Valid memory d) where
         no_table = record { unnamed = λ place within ok. not_installed a f place claim ok };
       })
 
-  pub table_blank : (a f : ℕ) (w : Option ℕ) → a < 64 → cap_at d.caps a ≡ Some (cap.Table f w) → is_some w ≡ false
+  pub table_blank : (a f : ℕ) (w : Option ℕ) → a < 64 → cap_at d.caps a ≡ Some (cap.Table f w)
+      → is_some w ≡ false
       → StandsWith memory (λ m. IsBlank m f)
   table_blank a f w below there none =
       stands (λ m root. IsBlank m f) (record { zero = λ place within. v.facts.facts.blank a f (loose a f w below there none) place })

@@ -35,7 +35,8 @@ use Rattle.kernel_call.specs.Threads.{IsAnswered}
 use Rattle.kernel_call.proofs.Ties.{kept_facts, has_still}
 
 -- the call of this number is that action
-pub performed : (number k : ℕ) (e : Estate) (old new : Domain) (memory : Contents) (readings : List ℕ) (replies : List Reply) (m : Mem)
+pub performed : (number k : ℕ) (e : Estate) (old new : Domain) (memory : Contents) (readings : List ℕ)
+    (replies : List Reply) (m : Mem)
     (result : Result Done CallError) (a b c : ℕ) (r : act.Done Mem Note Dom Dom)
     → number ≡ k → call_of e (dom_model old readings replies) k a b c m ≡ r → Ends k e old new memory readings replies result r
     → Ends number e old new memory readings replies result (call_of e (dom_model old readings replies) number a b c m)
@@ -44,7 +45,8 @@ performed number k e old new memory readings replies m result a b c r is same en
     (subst (λ (r : act.Done Mem Note Dom Dom). Ends k e old new memory readings replies result r) (sym same) ends)
 
 -- the last call on memory, where it is none of the others
-pub last_on_memory : (c : Call) → 0 < call_number c → call_number c ≤ 8 → c ≢ call.Put → c ≢ call.Alloc → c ≢ call.Table → c ≢ call.Map
+pub last_on_memory : (c : Call) → 0 < call_number c → call_number c ≤ 8 → c ≢ call.Put → c ≢ call.Alloc
+    → c ≢ call.Table → c ≢ call.Map
     → c ≢ call.Unmap → c ≢ call.Copy → c ≢ call.Delete → call_number c ≡ 8
 last_on_memory call.Exit some few p a t m u k d = absurd (omega (arith, some))
 last_on_memory call.Put some few p a t m u k d = absurd (p refl)
@@ -138,7 +140,8 @@ module _ (number : ℕ) (e : Estate) (old new : Domain) (memory next : Contents)
 clears_op : (number : ℕ) → clears_entries (op_of number) ≡ clears_entries number
 clears_op number = by_test (nat_le number 14) refl
   where
-    by_test : (b : Bool) → nat_le number 14 ≡ b → clears_entries (if b then number else bad_call_op) ≡ clears_entries number
+    by_test : (b : Bool) → nat_le number 14 ≡ b
+        → clears_entries (if b then number else bad_call_op) ≡ clears_entries number
     by_test true small = refl
     by_test false large =
         let above : 14 < number = leb-false number 14 large in
@@ -148,11 +151,13 @@ clears_op number = by_test (nat_le number 14) refl
           ne_eqb number 8 (λ e. absurd (omega (arith, above, e))),
         ) refl
 
-pub same_buffer : (number op : ℕ) (reply : Option Reply) → op ≡ op_of number → empties_buffer op reply ≡ empties_buffer number reply
+pub same_buffer : (number op : ℕ) (reply : Option Reply) → op ≡ op_of number
+    → empties_buffer op reply ≡ empties_buffer number reply
 same_buffer number op reply is = ap (λ (t : Bool). t && is_done reply) (ap clears_entries is ∙ clears_op number)
 
 -- what the outcome says of the buffer
-tells_buffer : (number before : ℕ) (outcome : Outcome) (r : act.Done Mem Note Dom Dom) → work_model outcome.work ≡ work_of number r.notes
+tells_buffer : (number before : ℕ) (outcome : Outcome) (r : act.Done Mem Note Dom Dom)
+    → work_model outcome.work ≡ work_of number r.notes
     → outcome.reply ≡ reply_past before (either r.value)
     → empties r.notes ≡ empties_buffer number (reply_past before (either r.value))
     → empties_buffer outcome.work.op outcome.reply ≡ empties r.notes
@@ -163,7 +168,8 @@ tells_buffer number before outcome r did answers emptied =
     ∙ sym emptied
 
 -- a call that leaves memory alone
-pub called_answered : (number : ℕ) (e : Estate) (new : Domain) (memory : Contents) (m : Mem) (before : ℕ) (reply : Option Reply) (work : Work)
+pub called_answered : (number : ℕ) (e : Estate) (new : Domain) (memory : Contents) (m : Mem) (before : ℕ)
+    (reply : Option Reply) (work : Work)
     (r : act.Done Mem Note Dom Dom) → IsAnswered m before reply new r → HasFacts e memory m new
     → work_model work ≡ record { op = op_of number; zeroed = None; entries = [] }
     → empties r.notes ≡ empties_buffer number (reply_past before (either r.value))
@@ -179,7 +185,8 @@ called_answered number e new memory m before reply work r h facts did emptied =
       buffer = tells_buffer number before (record { reply = reply; work = work }) r works h.reply_is emptied;
     }
 
-pub called_done : (number : ℕ) (e : Estate) (old new last : Domain) (memory : Contents) (readings : List ℕ) (replies : List Reply)
+pub called_done : (number : ℕ) (e : Estate) (old new last : Domain) (memory : Contents) (readings : List ℕ)
+    (replies : List Reply)
     (x : Done) (reply : Reply) (r : act.Done Mem Note Dom Dom)
     → Ends number e old new memory readings replies (Ok x) r → HasFacts e memory r.state last
     → Stands last (replied 0 x.value (dom_model new readings replies))
@@ -201,7 +208,8 @@ called_done number e old new last memory readings replies x reply r ends h stand
       buffer = tells_buffer number (length replies) outcome r ends.work answers emptied;
     }
 
-pub called_refused : (number : ℕ) (e : Estate) (old new last : Domain) (memory : Contents) (readings : List ℕ) (replies : List Reply)
+pub called_refused : (number : ℕ) (e : Estate) (old new last : Domain) (memory : Contents) (readings : List ℕ)
+    (replies : List Reply)
     (x : CallError) (given reply : Reply) (work : Work) (r : act.Done Mem Note Dom Dom)
     → Ends number e old new memory readings replies (Err x) r → HasFacts e memory r.state last
     → given ≡ record { code = code_of x; value = 0 } → reply ≡ given → new ≡ old
@@ -230,7 +238,8 @@ called_refused number e old new last memory readings replies x given reply work 
 -- ---- what the code tells of its work
 
 -- it is the definition's, so its operation is that of the number, and it is bounded
-pub told_work : (number : ℕ) (e : Estate) (old new : Domain) (memory : Contents) (readings : List ℕ) (replies : List Reply) (m : Mem)
+pub told_work : (number : ℕ) (e : Estate) (old new : Domain) (memory : Contents) (readings : List ℕ)
+    (replies : List Reply) (m : Mem)
     (x : Done) (a b c : ℕ)
     → Ends number e old new memory readings replies (Ok x) (call_of e (dom_model old readings replies) number a b c m)
     → (x.work.op ≡ op_of number) × IsCallWork (work_model x.work)
@@ -261,7 +270,8 @@ module _ (e : Estate) (few : e.share.frames ≤ 2 ^ 15) where
   entry_below : (at : ℕ) → IsMine e (at / 4096) → at < 2 ^ 27
   entry_below at own = let within = own_frame (at / 4096) own in omega (arith, within)
 
-  pub work_in_memory : (number : ℕ) (notes : List Note) (w : Work) → length w.entries ≡ 64 → work_model w ≡ work_of number notes
+  pub work_in_memory : (number : ℕ) (notes : List Note) (w : Work) → length w.entries ≡ 64
+      → work_model w ≡ work_of number notes
       → IsCallWork (work_model w) → LiesInOwn e notes → IsWork w
   unfolding work_of
   work_in_memory number notes w long is bounded own = record {

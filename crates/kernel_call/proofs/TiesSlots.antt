@@ -76,12 +76,14 @@ frame_copied (cap.Frame f rights w) c = refl
 frame_copied (cap.Table f w) c = refl
 frame_copied (cap.Irq line) c = refl
 
-nothing_there : (e : Estate) (caps : Slots) (b : ℕ) → length caps ≡ 64 → b < 64 → is_some (cap_at caps b) ≡ false → frame_of (claims e caps b) ≡ None
+nothing_there : (e : Estate) (caps : Slots) (b : ℕ) → length caps ≡ 64 → b < 64
+    → is_some (cap_at caps b) ≡ false → frame_of (claims e caps b) ≡ None
 unfolding frame_of claim_of
 nothing_there e caps b long below empty =
     ap frame_of (claims_at e caps long b below) ∙ ap (λ (c : Option Cap). frame_of (claim_of c)) (empty_none (cap_at caps b) empty)
 
-pub free_copied : (e : Estate) (caps : Slots) (a b c : ℕ) (x : Cap) → length caps ≡ 64 → a < 64 → b < 64 → cap_at caps a ≡ Some x
+pub free_copied : (e : Estate) (caps : Slots) (a b c : ℕ) (x : Cap) → length caps ≡ 64 → a < 64 → b < 64
+    → cap_at caps a ≡ Some x
     → is_some (cap_at caps b) ≡ false → free_frames e (with_cap caps b (copied (Some x) c)) ≡ free_frames e caps
 free_copied e caps a b c x long below in_range there empty =
     free_set e caps long b (copied (Some x) c) in_range
@@ -101,6 +103,7 @@ module _ (d : Dom) (m : Mem) (a : ℕ) where
   unfolding put_byte
   put_full above = check_ends (refused 11 d) (nat_lt (length d.printed) 4096) _ m (le-ltb (length d.printed) 4096 above)
 
-  pub put_done : length d.printed < 4096 → put_byte d a m ≡ does [] m (done 0 (record d { printed = d.printed ++ a % 256 ∷ [] }))
+  pub put_done : length d.printed < 4096
+      → put_byte d a m ≡ does [] m (done 0 (record d { printed = d.printed ++ a % 256 ∷ [] }))
   unfolding put_byte give
   put_done below = check_then (refused 11 d) (nat_lt (length d.printed) 4096) _ m (lt-ltb (length d.printed) 4096 below)

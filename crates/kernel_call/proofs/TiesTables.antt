@@ -48,13 +48,15 @@ some_or_other (Some b) x a e = ap Some (cc e)
 op_small : (number : ℕ) → nat_le number 14 ≡ true → op_of number ≡ number
 op_small number small = ap (λ (b : Bool). if b then number else bad_call_op) small
 
-pub tells_nothing : (number : ℕ) (w : WorkDone) → nat_le number 14 ≡ true → w ≡ record { op = number; zeroed = None; entries = [] }
+pub tells_nothing : (number : ℕ) (w : WorkDone) → nat_le number 14 ≡ true
+    → w ≡ record { op = number; zeroed = None; entries = [] }
     → w ≡ work_of number []
 unfolding work_of zeroed_in entries_in
 tells_nothing number w small is =
     is ∙ ap (λ (op : ℕ). record { op = op; zeroed = None; entries = [] }) (sym (op_small number small))
 
-pub tells_entry : (number entry at : ℕ) (w : WorkDone) → nat_le number 14 ≡ true → w ≡ record { op = number; zeroed = None; entries = entry ∷ [] }
+pub tells_entry : (number entry at : ℕ) (w : WorkDone) → nat_le number 14 ≡ true
+    → w ≡ record { op = number; zeroed = None; entries = entry ∷ [] }
     → entry ≡ at → w ≡ work_of number (Note.Entry at ∷ [])
 unfolding work_of zeroed_in entries_in
 tells_entry number entry at w small is same =
@@ -88,7 +90,8 @@ module _ (e : Estate) (d : Dom) (m : Mem) (a b c : ℕ) where
   unfolding map_page
   map_unfilled x is = ends_there (filled d a) _ m x is
 
-  pub map_no_page : (x : Cap) → a < 64 → cap_at d.caps a ≡ Some x → page_in x ≡ None → map_page e d a b c m ≡ reads m (inl (refused 5 d))
+  pub map_no_page : (x : Cap) → a < 64 → cap_at d.caps a ≡ Some x → page_in x ≡ None
+      → map_page e d a b c m ≡ reads m (inl (refused 5 d))
   unfolding map_page
   map_no_page x below there none = filled_then d a _ x m below there ∙ some_ends (refused 5 d) (page_in x) _ m none
 
@@ -100,7 +103,8 @@ module _ (e : Estate) (d : Dom) (m : Mem) (a b c : ℕ) where
         ∙ some_then (refused 5 d) (page_in (cap.Frame f rights w)) _ (record { frame = f; rights = rights; mapped = w }) m refl
         ∙ check_ends (refused 6 d) (may_give rights c) _ m bad
 
-    pub map_unaligned : may_give rights c ≡ true → nat_eq (b % 4096) 0 ≡ false → map_page e d a b c m ≡ reads m (inl (refused 7 d))
+    pub map_unaligned : may_give rights c ≡ true → nat_eq (b % 4096) 0 ≡ false
+        → map_page e d a b c m ≡ reads m (inl (refused 7 d))
     unfolding map_page
     map_unaligned may bad =
         filled_then d a _ (cap.Frame f rights w) m below there
@@ -108,7 +112,8 @@ module _ (e : Estate) (d : Dom) (m : Mem) (a b c : ℕ) where
         ∙ check_then (refused 6 d) (may_give rights c) _ m may
         ∙ check_ends (refused 7 d) (nat_eq (b % 4096) 0) _ m bad
 
-    pub map_mapped : may_give rights c ≡ true → nat_eq (b % 4096) 0 ≡ true → is_some w ≡ true → map_page e d a b c m ≡ reads m (inl (refused 8 d))
+    pub map_mapped : may_give rights c ≡ true → nat_eq (b % 4096) 0 ≡ true → is_some w ≡ true
+        → map_page e d a b c m ≡ reads m (inl (refused 8 d))
     unfolding map_page
     map_mapped may aligned some =
         filled_then d a _ (cap.Frame f rights w) m below there
@@ -117,7 +122,8 @@ module _ (e : Estate) (d : Dom) (m : Mem) (a b c : ℕ) where
         ∙ check_then (refused 7 d) (nat_eq (b % 4096) 0) _ m aligned
         ∙ check_ends (refused 8 d) (not (is_some w)) _ m (ap not some)
 
-    pub map_refused : (r : MapRefusal) → may_give rights c ≡ true → nat_eq (b % 4096) 0 ≡ true → is_some w ≡ false → map_refusal m e.root b ≡ Some r
+    pub map_refused : (r : MapRefusal) → may_give rights c ≡ true → nat_eq (b % 4096) 0 ≡ true
+        → is_some w ≡ false → map_refusal m e.root b ≡ Some r
         → map_page e d a b c m ≡ reads m (inl (refused (error_of r) d))
     unfolding map_page
     map_refused r may aligned none is =
@@ -129,7 +135,8 @@ module _ (e : Estate) (d : Dom) (m : Mem) (a b c : ℕ) where
         ∙ goes_on _ _ m (map_refusal m e.root b) (page_refusal_passes e.root b m)
         ∙ then_ends _ _ m (refused (error_of r) d) (allowed_stops d (map_refusal m e.root b) r m is)
 
-    pub map_done : may_give rights c ≡ true → nat_eq (b % 4096) 0 ≡ true → is_some w ≡ false → map_refusal m e.root b ≡ None
+    pub map_done : may_give rights c ≡ true → nat_eq (b % 4096) 0 ≡ true → is_some w ≡ false
+        → map_refusal m e.root b ≡ None
         → map_page e d a b c m ≡ does (Note.Entry (page_entry m e.root b) ∷ []) (mapped m e.root b f c)
         (done 0 (with_slot d a (Some (cap.Frame f rights (Some b)))))
     unfolding map_page map_at give
@@ -150,7 +157,8 @@ module _ (e : Estate) (d : Dom) (m : Mem) (a b : ℕ) where
   unfolding install
   install_unfilled x is = ends_there (filled d a) _ m x is
 
-  pub install_no_table : (x : Cap) → a < 64 → cap_at d.caps a ≡ Some x → table_in x ≡ None → install e d a b m ≡ reads m (inl (refused 5 d))
+  pub install_no_table : (x : Cap) → a < 64 → cap_at d.caps a ≡ Some x → table_in x ≡ None
+      → install e d a b m ≡ reads m (inl (refused 5 d))
   unfolding install
   install_no_table x below there none = filled_then d a _ x m below there ∙ some_ends (refused 5 d) (table_in x) _ m none
 
@@ -162,7 +170,8 @@ module _ (e : Estate) (d : Dom) (m : Mem) (a b : ℕ) where
         ∙ some_then (refused 5 d) (table_in (cap.Table f w)) _ (record { frame = f; installed = w }) m refl
         ∙ check_ends (refused 7 d) (nat_eq (b % 4194304) 0) _ m bad
 
-    pub install_twice : nat_eq (b % 4194304) 0 ≡ true → is_some w ≡ true → install e d a b m ≡ reads m (inl (refused 8 d))
+    pub install_twice : nat_eq (b % 4194304) 0 ≡ true → is_some w ≡ true
+        → install e d a b m ≡ reads m (inl (refused 8 d))
     unfolding install
     install_twice aligned some =
         filled_then d a _ (cap.Table f w) m below there
@@ -170,7 +179,8 @@ module _ (e : Estate) (d : Dom) (m : Mem) (a b : ℕ) where
         ∙ check_then (refused 7 d) (nat_eq (b % 4194304) 0) _ m aligned
         ∙ check_ends (refused 8 d) (not (is_some w)) _ m (ap not some)
 
-    pub install_refused : (r : MapRefusal) → nat_eq (b % 4194304) 0 ≡ true → is_some w ≡ false → install_refusal m e.root b ≡ Some r
+    pub install_refused : (r : MapRefusal) → nat_eq (b % 4194304) 0 ≡ true → is_some w ≡ false
+        → install_refusal m e.root b ≡ Some r
         → install e d a b m ≡ reads m (inl (refused (error_of r) d))
     unfolding install
     install_refused r aligned none is =
@@ -201,7 +211,8 @@ module _ (e : Estate) (d : Dom) (m : Mem) (a : ℕ) where
   unfolding unmap
   unmap_unfilled x is = ends_there (filled d a) _ m x is
 
-  pub unmap_no_page : (x : Cap) → a < 64 → cap_at d.caps a ≡ Some x → page_in x ≡ None → unmap e d a m ≡ reads m (inl (refused 5 d))
+  pub unmap_no_page : (x : Cap) → a < 64 → cap_at d.caps a ≡ Some x → page_in x ≡ None
+      → unmap e d a m ≡ reads m (inl (refused 5 d))
   unfolding unmap
   unmap_no_page x below there none = filled_then d a _ x m below there ∙ some_ends (refused 5 d) (page_in x) _ m none
 

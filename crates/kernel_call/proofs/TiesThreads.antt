@@ -35,18 +35,21 @@ not_line (cap.Table f w) other = refl
 not_line (cap.Irq line) other = absurd (other line refl)
 
 module _ (d : Dom) (a : ℕ) (m : Mem) where
-  pub line_unfilled : (found : Result Cap CallError) (x y : CallError) (result : Result ℕ CallError) → filled d a m ≡ reads m (end_of d found)
+  pub line_unfilled : (found : Result Cap CallError) (x y : CallError) (result : Result ℕ CallError)
+      → filled d a m ≡ reads m (end_of d found)
       → found ≡ Err y → x ≡ y → result ≡ Err x → line_at d a m ≡ reads m (end_of d result)
   unfolding line_at
   line_unfilled found x y result finds was same is =
       ends_there (filled d a) _ m (refused (code_of y) d) (finds ∙ ap (λ (t : Result Cap CallError). reads m (end_of d t)) was)
       ∙ ap (λ (t : Result ℕ CallError). reads m (end_of d t)) (ap Err (sym same) ∙ sym is)
 
-  pub line_other : (c : Cap) → a < 64 → cap_at d.caps a ≡ Some c → line_in c ≡ None → line_at d a m ≡ reads m (inl (refused 5 d))
+  pub line_other : (c : Cap) → a < 64 → cap_at d.caps a ≡ Some c → line_in c ≡ None
+      → line_at d a m ≡ reads m (inl (refused 5 d))
   unfolding line_at
   line_other c below there none = filled_then d a _ c m below there ∙ some_stops (refused 5 d) (line_in c) m none
 
-  pub line_found : (line : ℕ) → a < 64 → cap_at d.caps a ≡ Some (cap.Irq line) → line_at d a m ≡ reads m (inr line)
+  pub line_found : (line : ℕ) → a < 64 → cap_at d.caps a ≡ Some (cap.Irq line)
+      → line_at d a m ≡ reads m (inr line)
   unfolding line_at
   line_found line below there = filled_then d a _ (cap.Irq line) m below there ∙ some_passes (refused 5 d) (Some line) line m refl
 
@@ -54,8 +57,11 @@ module _ (d : Dom) (a : ℕ) (m : Mem) where
     line_then : {B : Type 0} (f : ℕ → Act B) (line : ℕ) → found ≡ Ok line → (line_at d a >>= f) m ≡ f line m
     line_then f line is = goes_on (line_at d a) f m line (finds ∙ ap (λ (t : Result ℕ CallError). reads m (end_of d t)) is)
 
-    line_ends : {B : Type 0} (f : ℕ → Act B) (x : CallError) → found ≡ Err x → (line_at d a >>= f) m ≡ reads m (inl (refused (code_of x) d))
-    line_ends f x is = ends_there (line_at d a) f m (refused (code_of x) d) (finds ∙ ap (λ (t : Result ℕ CallError). reads m (end_of d t)) is)
+    line_ends : {B : Type 0} (f : ℕ → Act B) (x : CallError) → found ≡ Err x
+        → (line_at d a >>= f) m ≡ reads m (inl (refused (code_of x) d))
+    line_ends f x is =
+        ends_there (line_at d a) f m (refused (code_of x) d)
+        (finds ∙ ap (λ (t : Result ℕ CallError). reads m (end_of d t)) is)
 
     -- ---- POLL, WAIT and SIGNAL
 
@@ -63,7 +69,8 @@ module _ (d : Dom) (a : ℕ) (m : Mem) where
     unfolding poll
     poll_refused x is = line_ends _ x is
 
-    pub poll_done : (line : ℕ) → found ≡ Ok line → poll d a m ≡ reads m (inr (done (bit_value (is_set d line)) (with_bit line false d)))
+    pub poll_done : (line : ℕ) → found ≡ Ok line
+        → poll d a m ≡ reads m (inr (done (bit_value (is_set d line)) (with_bit line false d)))
     unfolding poll give
     poll_done line is = line_then _ line is
 
@@ -71,19 +78,23 @@ module _ (d : Dom) (a : ℕ) (m : Mem) where
     unfolding wait
     wait_refused x is = line_ends _ x is
 
-    wait_then : (line : ℕ) (bit : Bool) → found ≡ Ok line → is_set d line ≡ bit → wait d a m ≡ reads m (inr (waited bit line d))
+    wait_then : (line : ℕ) (bit : Bool) → found ≡ Ok line → is_set d line ≡ bit
+        → wait d a m ≡ reads m (inr (waited bit line d))
     unfolding wait give
     wait_then line bit is there = line_then _ line is ∙ ap (λ (b : Bool). reads m (◌⊎◌.inr (waited b line d))) there
 
-    pub wait_done : (line : ℕ) → found ≡ Ok line → is_set d line ≡ true → wait d a m ≡ reads m (inr (done 1 (with_bit line false d)))
+    pub wait_done : (line : ℕ) → found ≡ Ok line → is_set d line ≡ true
+        → wait d a m ≡ reads m (inr (done 1 (with_bit line false d)))
     unfolding waited
     wait_done line is there = wait_then line true is there
 
-    pub wait_blocked : (line : ℕ) → found ≡ Ok line → is_set d line ≡ false → wait d a m ≡ reads m (inr (waiting line d))
+    pub wait_blocked : (line : ℕ) → found ≡ Ok line → is_set d line ≡ false
+        → wait d a m ≡ reads m (inr (waiting line d))
     unfolding waited
     wait_blocked line is there = wait_then line false is there
 
-    pub signal_refused : (x : CallError) → found ≡ Err x → signal d a m ≡ reads m (inl (refused (code_of x) d))
+    pub signal_refused : (x : CallError) → found ≡ Err x
+        → signal d a m ≡ reads m (inl (refused (code_of x) d))
     unfolding signal
     signal_refused x is = line_ends _ x is
 
@@ -98,12 +109,14 @@ module _ (d : Dom) (a b : ℕ) (m : Mem) where
   unfolding spawn
   spawn_unaligned bad = check_ends (refused 7 d) (nat_eq (a % 4) 0) _ m bad
 
-  pub spawn_full : nat_eq (a % 4) 0 ≡ true → vacant d.threads ≡ None → spawn d a b m ≡ reads m (inl (refused 13 d))
+  pub spawn_full : nat_eq (a % 4) 0 ≡ true → vacant d.threads ≡ None
+      → spawn d a b m ≡ reads m (inl (refused 13 d))
   unfolding spawn
   spawn_full aligned none =
       check_then (refused 7 d) (nat_eq (a % 4) 0) _ m aligned ∙ some_ends (refused 13 d) (vacant d.threads) _ m none
 
-  pub spawn_done : (t : ℕ) → nat_eq (a % 4) 0 ≡ true → vacant d.threads ≡ Some t → spawn d a b m ≡ reads m (inr (done t (with_spawned a b d)))
+  pub spawn_done : (t : ℕ) → nat_eq (a % 4) 0 ≡ true → vacant d.threads ≡ Some t
+      → spawn d a b m ≡ reads m (inr (done t (with_spawned a b d)))
   unfolding spawn give
   spawn_done t aligned free =
       check_then (refused 7 d) (nat_eq (a % 4) 0) _ m aligned ∙ some_then (refused 13 d) (vacant d.threads) _ t m free
@@ -116,7 +129,8 @@ unfolding signalled_by
 signals_some line d (Some t) some = refl
 signals_some line d None some = absurd (cc some)
 
-signals_none : (line : ℕ) (d : Dom) (o : Option ℕ) → (is_some o ≡ true → ⊥) → signalled_by line o d ≡ with_bit line true d
+signals_none : (line : ℕ) (d : Dom) (o : Option ℕ) → (is_some o ≡ true → ⊥)
+    → signalled_by line o d ≡ with_bit line true d
 unfolding signalled_by
 signals_none line d None none = refl
 signals_none line d (Some t) none = absurd (none refl)
@@ -126,7 +140,8 @@ pub signal_wakes : (line : ℕ) (d : Dom) → is_some (waiter line d.threads) �
 unfolding signalled
 signal_wakes line d some = signals_some line d (waiter line d.threads) some
 
-pub signal_sets : (line : ℕ) (d : Dom) → (is_some (waiter line d.threads) ≡ true → ⊥) → signalled line d ≡ with_bit line true d
+pub signal_sets : (line : ℕ) (d : Dom) → (is_some (waiter line d.threads) ≡ true → ⊥)
+    → signalled line d ≡ with_bit line true d
 unfolding signalled
 signal_sets line d none = signals_none line d (waiter line d.threads) none
 
@@ -163,11 +178,15 @@ clear_already d line clear =
 pub stands_as : (new : Domain) (x y : Dom) → x ≡ y → Stands new x → Stands new y
 stands_as new x y is h = subst (Stands new) is h
 
-pub then_becomes : (mid new : Domain) (x : Dom) (f : Dom → Dom) → Stands mid x → Becomes f mid new → Stands new (f x)
-then_becomes mid new x f h next = stands_as new (f (dom_model mid x.readings x.replies)) (f x) (ap f h.same) (next x.readings x.replies h.readings h.replies)
+pub then_becomes : (mid new : Domain) (x : Dom) (f : Dom → Dom) → Stands mid x → Becomes f mid new
+    → Stands new (f x)
+then_becomes mid new x f h next =
+    stands_as new (f (dom_model mid x.readings x.replies)) (f x) (ap f h.same)
+    (next x.readings x.replies h.readings h.replies)
 
 module _ (m : Mem) (before : ℕ) (new : Domain) (r : act.Done Mem Note Dom Dom) where
-  pub answered : (x : Dom) (v : Dom ⊎ Dom) (reply : Option Reply) → r ≡ reads m v → either v ≡ x → Stands new x → reply ≡ reply_past before x
+  pub answered : (x : Dom) (v : Dom ⊎ Dom) (reply : Option Reply) → r ≡ reads m v → either v ≡ x
+      → Stands new x → reply ≡ reply_past before x
       → IsAnswered m before reply new r
   answered x v reply is ends stands last =
       let there : x ≡ either r.value = sym (ap (λ (r : act.Done Mem Note Dom Dom). either r.value) is ∙ ends) in
@@ -179,7 +198,8 @@ module _ (m : Mem) (before : ℕ) (new : Domain) (r : act.Done Mem Note Dom Dom)
       }
 
   -- the call was refused, and its reply is this
-  pub answered_refused : (d : Dom) (x : CallError) (given reply : Reply) → r ≡ reads m (inl (refused (code_of x) d)) → before ≤ length d.replies
+  pub answered_refused : (d : Dom) (x : CallError) (given reply : Reply)
+      → r ≡ reads m (inl (refused (code_of x) d)) → before ≤ length d.replies
       → given ≡ record { code = code_of x; value = 0 } → reply ≡ given → Stands new (replied given.code given.value d)
       → IsAnswered m before (Some reply) new r
   unfolding either
@@ -189,7 +209,8 @@ module _ (m : Mem) (before : ℕ) (new : Domain) (r : act.Done Mem Note Dom Dom)
       (ap Some (same ∙ told) ∙ sym (last_reply d before (code_of x) 0 had))
 
   -- the call was done, and its reply is this
-  pub answered_done : (d : Dom) (value : ℕ) (reply : Reply) → r ≡ reads m (inr (done value d)) → before ≤ length d.replies
+  pub answered_done : (d : Dom) (value : ℕ) (reply : Reply) → r ≡ reads m (inr (done value d))
+      → before ≤ length d.replies
       → reply ≡ record { code = 0; value = value } → Stands new (done value d) → IsAnswered m before (Some reply) new r
   unfolding either
   answered_done d value reply is had same stands =
@@ -200,13 +221,15 @@ module _ (m : Mem) (before : ℕ) (new : Domain) (r : act.Done Mem Note Dom Dom)
       sym (ap (λ (b : Bool). if b then slice_get x.replies (length x.replies - 1) else None) (le-ltb before (length x.replies) few))
 
   -- it has none
-  pub answered_not : (x : Dom) (reply : Option Reply) → r ≡ reads m (inr x) → length x.replies ≤ before → reply ≡ None → Stands new x
+  pub answered_not : (x : Dom) (reply : Option Reply) → r ≡ reads m (inr x) → length x.replies ≤ before
+      → reply ≡ None → Stands new x
       → IsAnswered m before reply new r
   unfolding either
   answered_not x reply is few none stands = answered x (inr x) reply is refl stands (none ∙ no_reply x few)
 
   -- it was done, and then another thread had its turn
-  pub answered_turned : (d : Dom) (reply : Option Reply) → r ≡ reads m (inr (turned (done 0 d))) → before ≤ length d.replies
+  pub answered_turned : (d : Dom) (reply : Option Reply) → r ≡ reads m (inr (turned (done 0 d)))
+      → before ≤ length d.replies
       → reply ≡ Some (record { code = 0; value = 0 }) → Stands new (turned (done 0 d)) → IsAnswered m before reply new r
   unfolding either turned
   answered_turned d reply is had same stands =
@@ -215,7 +238,8 @@ module _ (m : Mem) (before : ℕ) (new : Domain) (r : act.Done Mem Note Dom Dom)
 -- ---- the call of a number
 
 -- the call of this number is that action
-pub answered_by : (number k : ℕ) (e : Estate) (d : Dom) (a b c : ℕ) (m : Mem) (before : ℕ) (reply : Option Reply) (new : Domain)
+pub answered_by : (number k : ℕ) (e : Estate) (d : Dom) (a b c : ℕ) (m : Mem) (before : ℕ)
+    (reply : Option Reply) (new : Domain)
     (r : act.Done Mem Note Dom Dom) → number ≡ k → call_of e d k a b c m ≡ r → IsAnswered m before reply new r
     → IsAnswered m before reply new (call_of e d number a b c m)
 answered_by number k e d a b c m before reply new r is same h =
@@ -223,7 +247,8 @@ answered_by number k e d a b c m before reply new r is same h =
     (subst (IsAnswered m before reply new) (sym same) h)
 
 -- the last call that leaves memory alone, where it is none of the others
-pub last_without_memory : (c : Call) → (0 < call_number c → 8 < call_number c) → c ≢ call.Exit → c ≢ call.Poll → c ≢ call.Wait → c ≢ call.Signal
+pub last_without_memory : (c : Call) → (0 < call_number c → 8 < call_number c) → c ≢ call.Exit → c ≢ call.Poll
+    → c ≢ call.Wait → c ≢ call.Signal
     → c ≢ call.Spawn → c ≢ call.Yield → call_number c ≡ 14
 last_without_memory call.Exit later x p w s n y = absurd (x refl)
 last_without_memory call.Put later x p w s n y = let above = later (omega arith) in absurd (omega (arith, above))
@@ -241,7 +266,8 @@ last_without_memory call.Spawn later x p w s n y = absurd (n refl)
 last_without_memory call.Yield later x p w s n y = absurd (y refl)
 last_without_memory call.EndThread later x p w s n y = refl
 
-pub bad_call : (e : Estate) (d : Dom) (m : Mem) (number a b c : ℕ) → 14 < number → call_of e d number a b c m ≡ reads m (inl (refused 1 d))
+pub bad_call : (e : Estate) (d : Dom) (m : Mem) (number a b c : ℕ) → 14 < number
+    → call_of e d number a b c m ≡ reads m (inl (refused 1 d))
 unfolding call_of stop
 bad_call e d m number a b c above =
     rw (

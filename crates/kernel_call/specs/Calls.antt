@@ -20,7 +20,8 @@ use Rattle.kernel_call.specs.Models.{dom_model, Stands}
 use Rattle.kernel_call.specs.Facts.{HasFacts}
 
 -- what a call with this number leaves, of a domain that had so many replies
-pub record IsCalled (e : Estate) (memory : Contents) (d : Domain) (number before : ℕ) (outcome : Outcome) (r : act.Done Mem Note Dom Dom) : Type 0 where
+pub record IsCalled (e : Estate) (memory : Contents) (d : Domain) (number before : ℕ) (outcome : Outcome)
+    (r : act.Done Mem Note Dom Dom) : Type 0 where
   pub dom : Stands d (either r.value)
   pub facts : HasFacts e memory r.state d
   pub work : work_model outcome.work ≡ work_of number r.notes
@@ -29,10 +30,13 @@ pub record IsCalled (e : Estate) (memory : Contents) (d : Domain) (number before
 
 -- whatever estate, logs and memory the old ones stand for, the new ones stand for what the call leaves
 abbrev pub Calls : ℕ → List ℕ → Outcome → Contents → Domain → Contents → Domain → Type 0
-Calls number args outcome memory old memory' new = (e : Estate) (readings : List ℕ) (replies : List Reply) (m : Mem)
-    → HasFacts e memory m old → log_model old.readings ≡ log_of readings → log_model old.replies ≡ log_of replies
+Calls number args outcome memory old memory' new =
+    (e : Estate) (readings : List ℕ) (replies : List Reply) (m : Mem)
+    → HasFacts e memory m old → log_model old.readings ≡ log_of readings
+    → log_model old.replies ≡ log_of replies
     → IsCalled e memory' new number (length replies) outcome
-    (call_of e (dom_model old readings replies) number (slice_index args 0) (slice_index args 1) (slice_index args 2) m)
+    (call_of e (dom_model old readings replies) number (slice_index args 0) (slice_index args 1)
+    (slice_index args 2) m)
 
 -- ---- what no call changes, and what a refused one leaves
 
@@ -50,12 +54,14 @@ pub record KeepsParts (old new : Domain) : Type 0 where
 
 -- the thread moves on, with its reply in x10 and x11
 abbrev pub answered : Thread → Reply → Thread
-answered x r = record x { pc = (x.pc + 4) % 2 ^ 32; regs = with_register (with_register x.regs 10 r.code) 11 r.value }
+answered x r =
+    record x { pc = (x.pc + 4) % 2 ^ 32; regs = with_register (with_register x.regs 10 r.code) 11 r.value }
 
 pub record IsRefused (old new : Domain) (reply : Reply) : Type 0 where
   pub value : reply.value ≡ 0
   pub status : new.status ≡ old.status
-  pub threads : threads_model new.threads ≡ record (threads_model old.threads) { current = answered old.threads.active reply }
+  pub threads : threads_model new.threads
+      ≡ record (threads_model old.threads) { current = answered old.threads.active reply }
   pub interrupts : new.interrupts ≡ old.interrupts
   pub caps : new.caps ≡ old.caps
   pub pool : new.pool ≡ old.pool

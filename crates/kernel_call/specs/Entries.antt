@@ -27,7 +27,8 @@ CanClear m root frames None (Some va) = CanUninstall m root frames va
 CanClear m root frames None None = Unit {0}
 
 -- a memory and the work that is told are those of an action, of a call with this number
-pub record Leaves (number : ℕ) (memory : Contents) (work : Work) (r : act.Done Mem Note Dom (Unit {0})) : Type 0 where
+pub record Leaves (number : ℕ) (memory : Contents) (work : Work) (r : act.Done Mem Note Dom (Unit {0}))
+    : Type 0 where
   pub holds : Holds memory r.state
   pub told : work_model work ≡ work_of number r.notes
 
@@ -36,7 +37,8 @@ pub record Leaves (number : ℕ) (memory : Contents) (work : Work) (r : act.Done
 -- each is there when it is cleared
 abbrev pub CanUnmapAll : Mem → ℕ → ℕ → List ℕ → Type 0
 CanUnmapAll m root frames [] = Unit {0}
-CanUnmapAll m root frames (va ∷ vas) = CanUnmap m root frames va × CanUnmapAll (unmapped m root va) root frames vas
+CanUnmapAll m root frames (va ∷ vas) =
+    CanUnmap m root frames va × CanUnmapAll (unmapped m root va) root frames vas
 
 -- ---- frames
 

@@ -116,7 +116,8 @@ TellsWork number (Ok x) notes = work_model x.work ≡ work_of number notes
 TellsWork number (Err x) notes = notes ≡ []
 
 -- a call of the code does what this action does
-pub record Ends (number : ℕ) (e : Estate) (old new : Domain) (memory : Contents) (readings : List ℕ) (replies : List Reply)
+pub record Ends (number : ℕ) (e : Estate) (old new : Domain) (memory : Contents) (readings : List ℕ)
+    (replies : List Reply)
     (result : Result Done CallError) (r : act.Done Mem Note Dom Dom) : Type 0 where
   pub value : r.value ≡ call_end (dom_model old readings replies) (dom_model new readings replies) result
   pub holds : Holds memory r.state
@@ -124,7 +125,9 @@ pub record Ends (number : ℕ) (e : Estate) (old new : Domain) (memory : Content
   pub has : Has e new
 
 -- whatever logs, estate and memory the old domain and memory stand for
-abbrev pub Does : ℕ → (Estate → Dom → Act Dom) → Result Done CallError → Contents → Domain → Contents → Domain → Type 0
-Does number f result memory old memory' new = (e : Estate) (readings : List ℕ) (replies : List Reply) (m : Mem)
+abbrev pub Does : ℕ → (Estate → Dom → Act Dom) → Result Done CallError → Contents → Domain → Contents → Domain
+    → Type 0
+Does number f result memory old memory' new =
+    (e : Estate) (readings : List ℕ) (replies : List Reply) (m : Mem)
     → HasFacts e memory m old
     → Ends number e old new memory' readings replies result (f e (dom_model old readings replies) m)

@@ -13,7 +13,8 @@ use Rattle.kernel_call.specs.declared.domain.Domain.{Domain}
 use Rattle.kernel_call.specs.Models.{dom_model, Stands}
 
 -- nothing is done besides, and the domain stands for what the call leaves of one that had so many replies
-pub record IsAnswered (m : Mem) (before : ℕ) (reply : Option Reply) (d : Domain) (r : act.Done Mem Note Dom Dom) : Type 0 where
+pub record IsAnswered (m : Mem) (before : ℕ) (reply : Option Reply) (d : Domain)
+    (r : act.Done Mem Note Dom Dom) : Type 0 where
   pub notes : r.notes ≡ []
   pub state : r.state ≡ m
   pub dom : Stands d (either r.value)

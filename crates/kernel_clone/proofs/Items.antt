@@ -11,7 +11,8 @@ use Rattle.kernel_clone.specs.declared.Kind.TheVariants.{Fetch, Load, Store}
 
 -- ---- lists
 
-pub get_left : {X : Type 0} → (xs ys : List X) (i : ℕ) (x : X) → slice_get xs i ≡ Some x → slice_get (xs ++ ys) i ≡ Some x
+pub get_left : {X : Type 0} → (xs ys : List X) (i : ℕ) (x : X) → slice_get xs i ≡ Some x
+    → slice_get (xs ++ ys) i ≡ Some x
 get_left [] ys i x h = cc
 get_left (y ∷ xs) ys zero x h = h
 get_left (y ∷ xs) ys (suc i) x h = get_left xs ys i x h
@@ -20,12 +21,14 @@ get_more : {X : Type 0} → (xs ys : List X) (i : ℕ) → slice_get (xs ++ ys) 
 get_more [] ys i = rw (zero-add i) refl
 get_more (y ∷ xs) ys i = rw (suc-add (length xs) i) (get_more xs ys i)
 
-pub get_right : {X : Type 0} → (xs ys : List X) (n i : ℕ) → length xs ≡ n → n ≤ i → slice_get (xs ++ ys) i ≡ slice_get ys (i - n)
+pub get_right : {X : Type 0} → (xs ys : List X) (n i : ℕ) → length xs ≡ n → n ≤ i
+    → slice_get (xs ++ ys) i ≡ slice_get ys (i - n)
 get_right xs ys n i len le =
     let whole : i ≡ length xs + (i - n) = omega (arith, len, le) in
     ap (slice_get (xs ++ ys)) whole ∙ get_more xs ys (i - n)
 
-pub get_range : {X : Type 0} → (f : ℕ → X) (n i : ℕ) → i < n → slice_get (map f (range_with_len 0 n)) i ≡ Some (f i)
+pub get_range : {X : Type 0} → (f : ℕ → X) (n i : ℕ) → i < n
+    → slice_get (map f (range_with_len 0 n)) i ≡ Some (f i)
 get_range f n i lt =
     slice_get-get_or (map f (range_with_len 0 n)) i (f i) (subst (λ (m : ℕ). i < m) (sym (length-map-range_with_len f 0 n)) lt)
     ∙ ap Some (get_or-map-range_with_len f 0 n i i (f i) lt (zero-add i))
@@ -47,10 +50,12 @@ length-data l op = length-map-range_with_len _ 0 (data_count op)
 pub length-shared : (l : Layout) (op : ℕ) → length (shared_touches l op) ≡ shared_count op
 unfolding shared_touches
 length-shared l op =
-    elim (is_of_switch op) as (λ b. length {A = LineTouch} (if b then [] else touch_of Load (shared_line l (op % shared_lines l)) ∷ []) ≡ (if b then 0 else 1))
+    elim (is_of_switch op) as (λ b. length {A = LineTouch}
+    (if b then [] else touch_of Load (shared_line l (op % shared_lines l)) ∷ []) ≡ (if b then 0 else 1))
     [ true ↦ refl | false ↦ refl ]
 
-pub length-zeroed : (l : Layout) (zeroed : Option ℕ) → length (zeroed_touches l zeroed) ≡ zeroed_count l zeroed
+pub length-zeroed : (l : Layout) (zeroed : Option ℕ)
+    → length (zeroed_touches l zeroed) ≡ zeroed_count l zeroed
 unfolding zeroed_touches
 length-zeroed l None = refl
 length-zeroed l (Some frame) = length-map-range_with_len _ 0 (lines_in_frame l)
@@ -59,10 +64,17 @@ pub length-entries : (l : Layout) (entries : List ℕ) → length (entry_touches
 unfolding entry_touches
 length-entries l entries = length-map entries _
 
-pub length-written : (l : Layout) (w : WorkDone) → length (written_touches l w) ≡ zeroed_count l w.zeroed + length w.entries
-length-written l w = rw (length-append (zeroed_touches l w.zeroed) (entry_touches l w.entries), length-zeroed l w.zeroed, length-entries l w.entries) refl
+pub length-written : (l : Layout) (w : WorkDone)
+    → length (written_touches l w) ≡ zeroed_count l w.zeroed + length w.entries
+length-written l w =
+    rw (
+      length-append (zeroed_touches l w.zeroed) (entry_touches l w.entries),
+      length-zeroed l w.zeroed,
+      length-entries l w.entries,
+    ) refl
 
-pub length-parts : (l : Layout) (w : WorkDone) → length (touches l w) ≡ 6 + data_count w.op + shared_count w.op + length (written_touches l w)
+pub length-parts : (l : Layout) (w : WorkDone)
+    → length (touches l w) ≡ 6 + data_count w.op + shared_count w.op + length (written_touches l w)
 unfolding touches
 length-parts l w =
     let whole : length (text_touches l w.op ++ (stack_touches l ++ (data_touches l w.op ++ (shared_touches l w.op ++ written_touches l w))))
@@ -86,7 +98,8 @@ length-touches l w =
     omega (arith, parts, written)
 
 -- of entries in an array, of which some are taken
-pub length-taken : (l : Layout) (w : WorkDone) (entries : List ℕ) (count z : ℕ) → w.entries ≡ take count entries → count ≤ length entries
+pub length-taken : (l : Layout) (w : WorkDone) (entries : List ℕ) (count z : ℕ)
+    → w.entries ≡ take count entries → count ≤ length entries
     → zeroed_count l w.zeroed ≡ z → z + count ≡ length (written_touches l w)
 length-taken l w entries count z is few zeroed =
     let written = length-written l w in
@@ -117,10 +130,12 @@ frame_item l frame i lt = get_range (λ k. touch_of Store (line_of l frame k)) (
 pub zeroed_item : (l : Layout) (w : WorkDone) (frame i : ℕ) → w.zeroed ≡ Some frame → i < lines_in_frame l
     → slice_get (written_touches l w) i ≡ Some (touch_of Store (line_of l frame i))
 zeroed_item l w frame i is lt =
-    subst (λ (z : Option ℕ). slice_get (zeroed_touches l z ++ entry_touches l w.entries) i ≡ Some (touch_of Store (line_of l frame i))) (sym is)
+    subst (λ (z : Option ℕ). slice_get (zeroed_touches l z ++ entry_touches l w.entries) i
+    ≡ Some (touch_of Store (line_of l frame i))) (sym is)
     (get_left (zeroed_touches l (Some frame)) (entry_touches l w.entries) i (touch_of Store (line_of l frame i)) (frame_item l frame i lt))
 
-pub plain_written : (l : Layout) (w : WorkDone) (i : ℕ) → w.zeroed ≡ None → slice_get (written_touches l w) i ≡ slice_get (entry_touches l w.entries) i
+pub plain_written : (l : Layout) (w : WorkDone) (i : ℕ) → w.zeroed ≡ None
+    → slice_get (written_touches l w) i ≡ slice_get (entry_touches l w.entries) i
 unfolding zeroed_touches
 plain_written l w i is = ap (λ (z : Option ℕ). slice_get (zeroed_touches l z ++ entry_touches l w.entries) i) is
 
@@ -130,7 +145,8 @@ past_zeroed l w i n is le = get_right (zeroed_touches l w.zeroed) (entry_touches
 
 -- ---- the items of the operation itself
 
-pub text_item : (l : Layout) (op i : ℕ) (t : LineTouch) → slice_get (text_touches l op) i ≡ Some t → slice_get (own_touches l op) i ≡ Some t
+pub text_item : (l : Layout) (op i : ℕ) (t : LineTouch) → slice_get (text_touches l op) i ≡ Some t
+    → slice_get (own_touches l op) i ≡ Some t
 unfolding own_touches
 text_item l op i t is = get_left (text_touches l op) _ i t is
 
@@ -139,14 +155,16 @@ past_text : (l : Layout) (op i : ℕ) → 4 ≤ i
 unfolding own_touches
 past_text l op i le = get_right (text_touches l op) _ 4 i (length-text l op) le
 
-pub stack_item : (l : Layout) (op i : ℕ) (t : LineTouch) → 4 ≤ i → slice_get (stack_touches l) (i - 4) ≡ Some t → slice_get (own_touches l op) i ≡ Some t
+pub stack_item : (l : Layout) (op i : ℕ) (t : LineTouch) → 4 ≤ i
+    → slice_get (stack_touches l) (i - 4) ≡ Some t → slice_get (own_touches l op) i ≡ Some t
 stack_item l op i t le is = past_text l op i le ∙ get_left (stack_touches l) _ (i - 4) t is
 
 past_stack : (l : Layout) (op i : ℕ) → 4 ≤ i → 2 ≤ i - 4
     → slice_get (own_touches l op) i ≡ slice_get (data_touches l op ++ shared_touches l op) (i - 4 - 2)
 past_stack l op i le two = past_text l op i le ∙ get_right (stack_touches l) _ 2 (i - 4) (length-stack l) two
 
-pub data_item : (l : Layout) (op i : ℕ) (t : LineTouch) → 4 ≤ i → 2 ≤ i - 4 → slice_get (data_touches l op) (i - 4 - 2) ≡ Some t
+pub data_item : (l : Layout) (op i : ℕ) (t : LineTouch) → 4 ≤ i → 2 ≤ i - 4
+    → slice_get (data_touches l op) (i - 4 - 2) ≡ Some t
     → slice_get (own_touches l op) i ≡ Some t
 data_item l op i t le two is = past_stack l op i le two ∙ get_left (data_touches l op) _ (i - 4 - 2) t is
 
@@ -155,7 +173,8 @@ past_data : (l : Layout) (op i d : ℕ) → d ≡ data_count op → 4 ≤ i → 
 past_data l op i d is le two more =
     past_stack l op i le two ∙ get_right (data_touches l op) _ d (i - 4 - 2) (length-data l op ∙ sym is) more
 
-pub shared_item : (l : Layout) (op i d : ℕ) (t : LineTouch) → d ≡ data_count op → 4 ≤ i → 2 ≤ i - 4 → d ≤ i - 4 - 2
+pub shared_item : (l : Layout) (op i d : ℕ) (t : LineTouch) → d ≡ data_count op → 4 ≤ i → 2 ≤ i - 4
+    → d ≤ i - 4 - 2
     → slice_get (shared_touches l op) (i - 4 - 2 - d) ≡ Some t → slice_get (own_touches l op) i ≡ Some t
 shared_item l op i d t is le two more at = past_data l op i d is le two more ∙ at
 
@@ -184,7 +203,8 @@ length-own l op =
       length-shared l op,
     ) (omega arith)
 
-pub own_item : (l : Layout) (w : WorkDone) (op i : ℕ) (t : LineTouch) → op ≡ w.op → slice_get (own_touches l op) i ≡ Some t
+pub own_item : (l : Layout) (w : WorkDone) (op i : ℕ) (t : LineTouch) → op ≡ w.op
+    → slice_get (own_touches l op) i ≡ Some t
     → slice_get (touches l w) i ≡ Some t
 own_item l w op i t same is =
     ap (λ ts. slice_get ts i) (touches_parts l w)
@@ -196,7 +216,8 @@ past_own l w op i n same is le =
     ap (λ ts. slice_get ts i) (touches_parts l w)
     ∙ get_right (own_touches l w.op) (written_touches l w) n i (length-own l w.op ∙ sym (is ∙ ap own_count same)) le
 
-pub written_below : (l : Layout) (w : WorkDone) (op i n : ℕ) → op ≡ w.op → n ≡ own_count op → n ≤ i → i < length (touches l w)
+pub written_below : (l : Layout) (w : WorkDone) (op i n : ℕ) → op ≡ w.op → n ≡ own_count op → n ≤ i
+    → i < length (touches l w)
     → i - n < length (written_touches l w)
 written_below l w op i n same is le lt =
     let whole = length-parts l w in

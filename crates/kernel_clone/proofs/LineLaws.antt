@@ -12,7 +12,8 @@ use Rattle.kernel_clone.proofs.Items.{get_left, get_right, get_range}
 -- ---- the lines of a frame
 
 -- a power of two from 16 to 128 is one of four
-pub line_cases : (l : Layout) → IsLayout l → (l.line ≡ 16) ⊎ ((l.line ≡ 32) ⊎ ((l.line ≡ 64) ⊎ (l.line ≡ 128)))
+pub line_cases : (l : Layout) → IsLayout l
+    → (l.line ≡ 16) ⊎ ((l.line ≡ 32) ⊎ ((l.line ≡ 64) ⊎ (l.line ≡ 128)))
 line_cases l is =
     let k : ℕ = is.power.0 in
     let power : l.line ≡ 2 ^ k = is.power.1 in
@@ -31,7 +32,8 @@ line_cases l is =
           ]
     ]
   where
-    four_cases : (k line : ℕ) → line ≡ 2 ^ k → 4 ≤ k → k < 8 → (line ≡ 16) ⊎ ((line ≡ 32) ⊎ ((line ≡ 64) ⊎ (line ≡ 128)))
+    four_cases : (k line : ℕ) → line ≡ 2 ^ k → 4 ≤ k → k < 8
+        → (line ≡ 16) ⊎ ((line ≡ 32) ⊎ ((line ≡ 64) ⊎ (line ≡ 128)))
     four_cases k line power four few =
         elim (cases_eq k 4) [
           | inl e ↦ inl (power ∙ ap (λ (n : ℕ). 2 ^ n) e)
@@ -67,7 +69,8 @@ many_lines l is = elim (line_cases l is) [
 pub some_lines : (l : Layout) → IsLayout l → 0 < lines_in_frame l
 some_lines l is = let many = many_lines l is in omega (arith, many)
 
-pub frame_of-line_of : (l : Layout) (frame i : ℕ) → i < lines_in_frame l → frame_of l (line_of l frame i) ≡ frame
+pub frame_of-line_of : (l : Layout) (frame i : ℕ) → i < lines_in_frame l
+    → frame_of l (line_of l frame i) ≡ frame
 frame_of-line_of l frame i lt = div-mul-add frame (lines_in_frame l) i lt
 
 pub entry_frame : (l : Layout) (address : ℕ) → IsLayout l → frame_of l (address / l.line) ≡ frame_at address
@@ -79,11 +82,13 @@ pub text_line-below : (l : Layout) (j : ℕ) → j < lines_in_frame l → text_l
 text_line-below l j lt =
     ap (λ (b : Bool). if b then line_of l l.text j else line_of l l.more_text (j % lines_in_frame l)) (lt-ltb j (lines_in_frame l) lt)
 
-pub text_line-past : (l : Layout) (j : ℕ) → lines_in_frame l ≤ j → text_line l j ≡ line_of l l.more_text (j % lines_in_frame l)
+pub text_line-past : (l : Layout) (j : ℕ) → lines_in_frame l ≤ j
+    → text_line l j ≡ line_of l l.more_text (j % lines_in_frame l)
 text_line-past l j le =
     ap (λ (b : Bool). if b then line_of l l.text j else line_of l l.more_text (j % lines_in_frame l)) (le-ltb j (lines_in_frame l) le)
 
-pub text_frame : (l : Layout) (j : ℕ) → IsLayout l → (frame_of l (text_line l j) ≡ l.text) ⊎ (frame_of l (text_line l j) ≡ l.more_text)
+pub text_frame : (l : Layout) (j : ℕ) → IsLayout l
+    → (frame_of l (text_line l j) ≡ l.text) ⊎ (frame_of l (text_line l j) ≡ l.more_text)
 text_frame l j is = elim (cases_lt j (lines_in_frame l)) [
   | inl below ↦ inl (ap (frame_of l) (text_line-below l j below) ∙ frame_of-line_of l l.text j below)
   | inr past ↦ inr (ap (frame_of l) (text_line-past l j past)
@@ -94,7 +99,8 @@ length-lines_of : (l : Layout) (frame : ℕ) → length (lines_of l frame) ≡ l
 unfolding lines_of
 length-lines_of l frame = length-map-range_with_len (line_of l frame) 0 (lines_in_frame l)
 
-get-lines_of : (l : Layout) (frame i : ℕ) → i < lines_in_frame l → slice_get (lines_of l frame) i ≡ Some (line_of l frame i)
+get-lines_of : (l : Layout) (frame i : ℕ) → i < lines_in_frame l
+    → slice_get (lines_of l frame) i ≡ Some (line_of l frame i)
 unfolding lines_of
 get-lines_of l frame i lt = get_range (line_of l frame) (lines_in_frame l) i lt
 
@@ -105,7 +111,8 @@ mod_past j n le lt =
     let whole : j ≡ 1 * n + (j - n) = omega (arith, le) in
     ap (λ (m : ℕ). m % n) whole ∙ mod-mul-add 1 n (j - n) rest
 
-pub text_lines_are : (l : Layout) (j : ℕ) → j < 2 * lines_in_frame l → slice_get (text_lines l) j ≡ Some (text_line l j)
+pub text_lines_are : (l : Layout) (j : ℕ) → j < 2 * lines_in_frame l
+    → slice_get (text_lines l) j ≡ Some (text_line l j)
 unfolding text_lines
 text_lines_are l j lt = elim (cases_lt j (lines_in_frame l)) [
   | inl below ↦
@@ -120,7 +127,8 @@ text_lines_are l j lt = elim (cases_lt j (lines_in_frame l)) [
 
 -- ---- the shared region
 
-pub shared_frame : (l : Layout) (j : ℕ) → IsLayout l → frame_of l (shared_line l j) ≡ j / lines_in_frame l * l.colours
+pub shared_frame : (l : Layout) (j : ℕ) → IsLayout l
+    → frame_of l (shared_line l j) ≡ j / lines_in_frame l * l.colours
 shared_frame l j is =
     frame_of-line_of l (j / lines_in_frame l * l.colours) (j % lines_in_frame l) (mod_below j (lines_in_frame l) (some_lines l is))
 

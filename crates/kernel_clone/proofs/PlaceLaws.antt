@@ -13,7 +13,8 @@ use Rattle.kernel_clone.specs.Laws.{IsPlaced, MayStore, StoresIn}
 use Rattle.kernel_clone.specs.declared.Kind.TheVariants.{Fetch, Load, Store}
 use Rattle.kernel_clone.proofs.LineLaws.{some_lines, many_lines, frame_of-line_of, text_frame, shared_frame, entry_frame}
 
-all_range : {X : Type 0} (P : X → Type 0) (f : ℕ → X) (n : ℕ) → ((i : ℕ) → i < n → P (f i)) → All P (map f (range_with_len 0 n))
+all_range : {X : Type 0} (P : X → Type 0) (f : ℕ → X) (n : ℕ) → ((i : ℕ) → i < n → P (f i))
+    → All P (map f (range_with_len 0 n))
 all_range P f n each = λ k d lt.
     let below : k < n = subst (λ (m : ℕ). k < m) (length-map-range_with_len f 0 n) lt in
     subst P (sym (get_or-map-range_with_len f 0 n k k d below (zero-add k))) (each k below)
@@ -24,7 +25,8 @@ pub record OfEach (P : LineTouch → Type 0) (l : Layout) (w : WorkDone) : Type 
   pub stack : (i : ℕ) → i < 2 → P (touch_of Store (line_of l l.stack i))
   pub data_frame : (j : ℕ) → P (touch_of Store (line_of l l.data_frame (j % lines_in_frame l)))
   pub shared : is_of_switch w.op ≡ false → P (touch_of Load (shared_line l (w.op % shared_lines l)))
-  pub zeroed : (frame i : ℕ) → w.zeroed ≡ Some frame → i < lines_in_frame l → P (touch_of Store (line_of l frame i))
+  pub zeroed : (frame i : ℕ) → w.zeroed ≡ Some frame → i < lines_in_frame l
+      → P (touch_of Store (line_of l frame i))
   pub entries : (k : ℕ) → k < length w.entries → P (touch_of Store (slice_index w.entries k / l.line))
 
 all_text : (P : LineTouch → Type 0) (l : Layout) (w : WorkDone) → OfEach P l w → All P (text_touches l w.op)
@@ -46,21 +48,26 @@ all_data P l w each =
 all_one : (P : LineTouch → Type 0) (t : LineTouch) → P t → All P (t ∷ [])
 all_one P t p = λ k d lt. let first : k ≡ 0 = omega (arith, lt) in rw first p
 
-all_shared : (P : LineTouch → Type 0) (l : Layout) (w : WorkDone) → OfEach P l w → All P (shared_touches l w.op)
+all_shared : (P : LineTouch → Type 0) (l : Layout) (w : WorkDone) → OfEach P l w
+    → All P (shared_touches l w.op)
 unfolding shared_touches
 all_shared P l w each =
-    elim (is_of_switch w.op) as (λ b. is_of_switch w.op ≡ b → All P (if b then [] else touch_of Load (shared_line l (w.op % shared_lines l)) ∷ [])) [
+    elim (is_of_switch w.op) as
+    (λ b. is_of_switch w.op ≡ b
+    → All P (if b then [] else touch_of Load (shared_line l (w.op % shared_lines l)) ∷ [])) [
       | true ↦ λ _. λ k d lt. absurd (omega (arith, lt))
       | false ↦ λ call. all_one P (touch_of Load (shared_line l (w.op % shared_lines l))) (each.shared call)
     ] refl
 
-all_zeroed : (P : LineTouch → Type 0) (l : Layout) (w : WorkDone) → OfEach P l w → (zeroed : Option ℕ) → w.zeroed ≡ zeroed → All P (zeroed_touches l zeroed)
+all_zeroed : (P : LineTouch → Type 0) (l : Layout) (w : WorkDone) → OfEach P l w → (zeroed : Option ℕ)
+    → w.zeroed ≡ zeroed → All P (zeroed_touches l zeroed)
 unfolding zeroed_touches
 all_zeroed P l w each None is = λ k d lt. absurd (omega (arith, lt))
 all_zeroed P l w each (Some frame) is =
     all_range P (λ i. touch_of Store (line_of l frame i)) (lines_in_frame l) (λ i lt. each.zeroed frame i is lt)
 
-all_entries : (P : LineTouch → Type 0) (l : Layout) (w : WorkDone) → OfEach P l w → All P (entry_touches l w.entries)
+all_entries : (P : LineTouch → Type 0) (l : Layout) (w : WorkDone) → OfEach P l w
+    → All P (entry_touches l w.entries)
 unfolding entry_touches
 all_entries P l w each = λ k d lt.
     let below : k < length w.entries = subst (λ (m : ℕ). k < m) (length-map w.entries (λ at. touch_of Store (at / l.line))) lt in
@@ -95,18 +102,23 @@ placed l w is = all_touches (λ t. IsPlaced l w t.kind t.line) l w (record {
   data_frame = λ j. inr (inl (frame_of-line_of l l.data_frame (j % lines_in_frame l) (mod_below j (lines_in_frame l) (some_lines l is))));
   shared = λ call. record {
     shared = (w.op % shared_lines l, mod_below w.op (shared_lines l) (some_shared_lines l is), refl);
-    colour = ap (λ (f : ℕ). f % l.colours) (shared_frame l (w.op % shared_lines l) is) ∙ mul-mod_left (w.op % shared_lines l / lines_in_frame l) l.colours;
+    colour =
+        ap (λ (f : ℕ). f % l.colours) (shared_frame l (w.op % shared_lines l) is)
+        ∙ mul-mod_left (w.op % shared_lines l / lines_in_frame l) l.colours;
     call = call;
   };
   zeroed = λ frame i z lt. inr (inr (inl (z ∙ ap Some (sym (frame_of-line_of l frame i lt)))));
   entries = λ k lt. inr (inr (inr (k, lt, refl)));
 })
 
-pub stored : (own : ℕ → Bool) (l : Layout) (w : WorkDone) → IsLayout l → MayStore own l w → All (StoresIn own l) (touches l w)
+pub stored : (own : ℕ → Bool) (l : Layout) (w : WorkDone) → IsLayout l → MayStore own l w
+    → All (StoresIn own l) (touches l w)
 stored own l w is may = all_touches (StoresIn own l) l w (record {
   text = λ j e. cc;
   stack = λ i lt _. ap own (frame_of-line_of l l.stack i (few_lines l is i lt)) ∙ may.stack;
-  data_frame = λ j _. ap own (frame_of-line_of l l.data_frame (j % lines_in_frame l) (mod_below j (lines_in_frame l) (some_lines l is))) ∙ may.data_frame;
+  data_frame =
+      λ j _. ap own (frame_of-line_of l l.data_frame (j % lines_in_frame l)
+      (mod_below j (lines_in_frame l) (some_lines l is))) ∙ may.data_frame;
   shared = λ call e. cc;
   zeroed = λ frame i z lt _. ap own (frame_of-line_of l frame i lt) ∙ may.zeroed frame z;
   entries = λ k lt _. ap own (entry_frame l (slice_index w.entries k) is) ∙ may.entries k lt;

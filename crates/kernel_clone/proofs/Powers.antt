@@ -53,7 +53,8 @@ pub frame_mask : (l : Layout) (n : ℕ) → IsLayout l → bit_and n (lines_in_f
 frame_mask l n is = low_bits n (lines_in_frame l) (frame_is l is)
 
 -- in the text's two frames
-pub text_mask : (l : Layout) (n : ℕ) → IsLayout l → bit_and n (2 * lines_in_frame l - 1) ≡ n % (2 * lines_in_frame l)
+pub text_mask : (l : Layout) (n : ℕ) → IsLayout l
+    → bit_and n (2 * lines_in_frame l - 1) ≡ n % (2 * lines_in_frame l)
 text_mask l n is =
     let one : IsPowerOfTwo (lines_in_frame l) = frame_is l is in
     let double : 2 ^ suc one.0 ≡ 2 ^ one.0 * 2 = pow-suc 2 one.0 in

@@ -14,18 +14,21 @@ use Rattle.kernel_clone.proofs.Items.{get_range}
 use Rattle.kernel_clone.proofs.LineLaws.{text_line-below, text_line-past, many_lines}
 use Rattle.kernel_clone.proofs.Powers.{each_line}
 
-pub get_run : (kind : Kind) (first count i : ℕ) → i < count → slice_get (run_of kind first count) i ≡ Some (touch_of kind (first + i))
+pub get_run : (kind : Kind) (first count i : ℕ) → i < count
+    → slice_get (run_of kind first count) i ≡ Some (touch_of kind (first + i))
 unfolding run_of
 get_run kind first count i lt = get_range (λ k. touch_of kind (first + k)) count i lt
 
-pub run_item : (ts : List LineTouch) (kind : Kind) (first count i : ℕ) → ts ≡ run_of kind first count → i < count → slice_get ts i ≡ Some (touch_of kind (first + i))
+pub run_item : (ts : List LineTouch) (kind : Kind) (first count i : ℕ) → ts ≡ run_of kind first count
+    → i < count → slice_get ts i ≡ Some (touch_of kind (first + i))
 run_item ts kind first count i is lt = ap (λ (us : List LineTouch). slice_get us i) is ∙ get_run kind first count i lt
 
 pub length-run : (kind : Kind) (first count : ℕ) → length (run_of kind first count) ≡ count
 unfolding run_of
 length-run kind first count = length-map-range_with_len (λ i. touch_of kind (first + i)) 0 count
 
-map_same : {X : Type 0} → (f g : ℕ → X) (n : ℕ) → ((i : ℕ) → i < n → f i ≡ g i) → map f (range_with_len 0 n) ≡ map g (range_with_len 0 n)
+map_same : {X : Type 0} → (f g : ℕ → X) (n : ℕ) → ((i : ℕ) → i < n → f i ≡ g i)
+    → map f (range_with_len 0 n) ≡ map g (range_with_len 0 n)
 map_same f g zero same = refl
 map_same {X} f g (suc n) same =
     let more : suc n ≡ n + 1 = omega arith in
@@ -38,29 +41,34 @@ map_same {X} f g (suc n) same =
 -- ---- a frame
 
 -- all its lines are ones that there are
-pub frame_room : (l : Layout) → IsLayout l → (frame : ℕ) → IsFrameNo frame → frame * lines_in_frame l + lines_in_frame l ≤ 2 ^ 23
+pub frame_room : (l : Layout) → IsLayout l → (frame : ℕ) → IsFrameNo frame
+    → frame * lines_in_frame l + lines_in_frame l ≤ 2 ^ 23
 frame_room l is frame few =
     each_line (λ n. frame * (4096 / n) + 4096 / n ≤ 2 ^ 23)
     (omega (arith, few)) (omega (arith, few)) (omega (arith, few)) (omega (arith, few)) l is
 
-pub line_room : (l : Layout) → IsLayout l → (frame i n : ℕ) → IsFrameNo frame → i + n ≤ lines_in_frame l → line_of l frame i + n ≤ 2 ^ 23
+pub line_room : (l : Layout) → IsLayout l → (frame i n : ℕ) → IsFrameNo frame → i + n ≤ lines_in_frame l
+    → line_of l frame i + n ≤ 2 ^ 23
 line_room l is frame i n few le = let room = frame_room l is frame few in omega (arith, room, le)
 
-frame_run : (l : Layout) (frame n : ℕ) → map (λ i. touch_of Store (line_of l frame i)) (range_with_len 0 n) ≡ run_of Store (line_of l frame 0) n
+frame_run : (l : Layout) (frame n : ℕ)
+    → map (λ i. touch_of Store (line_of l frame i)) (range_with_len 0 n) ≡ run_of Store (line_of l frame 0) n
 unfolding run_of
 frame_run l frame n =
     map_same (λ i. touch_of Store (line_of l frame i)) (λ i. touch_of Store (line_of l frame 0 + i)) n
     (λ i lt. let sum : line_of l frame i ≡ line_of l frame 0 + i = omega arith in ap (touch_of Store) sum)
 
 -- that was zeroed
-pub zeroed_run : (l : Layout) (frame : ℕ) → zeroed_touches l (Some frame) ≡ run_of Store (line_of l frame 0) (lines_in_frame l)
+pub zeroed_run : (l : Layout) (frame : ℕ)
+    → zeroed_touches l (Some frame) ≡ run_of Store (line_of l frame 0) (lines_in_frame l)
 unfolding zeroed_touches
 zeroed_run l frame = frame_run l frame (lines_in_frame l)
 
 -- ---- the text
 
 -- its places go round two frames, whose lines are a multiple of 4
-text_place : (l : Layout) → IsLayout l → (op i : ℕ) → i < 4 → (4 * op + i) % (2 * lines_in_frame l) ≡ 4 * op % (2 * lines_in_frame l) + i
+text_place : (l : Layout) → IsLayout l → (op i : ℕ) → i < 4
+    → (4 * op + i) % (2 * lines_in_frame l) ≡ 4 * op % (2 * lines_in_frame l) + i
 text_place l is op i lt =
     each_line (λ n. (4 * op + i) % (2 * (4096 / n)) ≡ 4 * op % (2 * (4096 / n)) + i)
     (omega (arith, lt)) (omega (arith, lt)) (omega (arith, lt)) (omega (arith, lt)) l is
@@ -77,7 +85,8 @@ text_past l is op i lt =
     each_line (λ n. (4 * op % (2 * (4096 / n)) + i) % (4096 / n) ≡ 4 * op % (2 * (4096 / n)) % (4096 / n) + i)
     (omega (arith, lt)) (omega (arith, lt)) (omega (arith, lt)) (omega (arith, lt)) l is
 
-text_past_room : (l : Layout) → IsLayout l → (op : ℕ) → 4 * op % (2 * lines_in_frame l) % lines_in_frame l + 4 ≤ lines_in_frame l
+text_past_room : (l : Layout) → IsLayout l → (op : ℕ)
+    → 4 * op % (2 * lines_in_frame l) % lines_in_frame l + 4 ≤ lines_in_frame l
 text_past_room l is op =
     each_line (λ n. 4 * op % (2 * (4096 / n)) % (4096 / n) + 4 ≤ 4096 / n) (omega arith) (omega arith) (omega arith) (omega arith) l is
 
@@ -98,13 +107,15 @@ text_next l is op i lt =
           text_line-past l (j + i) (omega (arith, past)) ∙ (sum ∙ ap (λ (m : ℕ). m + i) (sym (text_line-past l j past)))
     ]
 
-pub text_run : (l : Layout) → IsLayout l → (op : ℕ) → text_touches l op ≡ run_of Fetch (text_line l (4 * op % (2 * lines_in_frame l))) 4
+pub text_run : (l : Layout) → IsLayout l → (op : ℕ)
+    → text_touches l op ≡ run_of Fetch (text_line l (4 * op % (2 * lines_in_frame l))) 4
 unfolding text_touches run_of
 text_run l is op =
     map_same (λ i. touch_of Fetch (text_line l ((4 * op + i) % (2 * lines_in_frame l))))
     (λ i. touch_of Fetch (text_line l (4 * op % (2 * lines_in_frame l)) + i)) 4 (λ i lt. ap (touch_of Fetch) (text_next l is op i lt))
 
-pub text_room : (l : Layout) → IsLayout l → (op : ℕ) → text_line l (4 * op % (2 * lines_in_frame l)) + 4 ≤ 2 ^ 23
+pub text_room : (l : Layout) → IsLayout l → (op : ℕ)
+    → text_line l (4 * op % (2 * lines_in_frame l)) + 4 ≤ 2 ^ 23
 text_room l is op =
     let n : ℕ = lines_in_frame l in
     let j : ℕ = 4 * op % (2 * n) in
@@ -124,7 +135,8 @@ stack_room l is = let many = many_lines l is in line_room l is l.stack 0 2 is.st
 
 -- ---- the data
 
-data_place : (l : Layout) → IsLayout l → (op i : ℕ) → i < 2 → (2 * op + i) % lines_in_frame l ≡ 2 * op % lines_in_frame l + i
+data_place : (l : Layout) → IsLayout l → (op i : ℕ) → i < 2
+    → (2 * op + i) % lines_in_frame l ≡ 2 * op % lines_in_frame l + i
 data_place l is op i lt =
     each_line (λ n. (2 * op + i) % (4096 / n) ≡ 2 * op % (4096 / n) + i)
     (omega (arith, lt)) (omega (arith, lt)) (omega (arith, lt)) (omega (arith, lt)) l is
@@ -136,7 +148,8 @@ data_within l is op =
 few_data : (op : ℕ) → data_count op ≤ 2
 few_data op = elim (is_of_switch op) as (λ b. (if b then 1 else 2) ≤ 2) [ true ↦ omega arith | false ↦ omega arith ]
 
-pub data_run : (l : Layout) → IsLayout l → (op : ℕ) → data_touches l op ≡ run_of Store (line_of l l.data_frame (2 * op % lines_in_frame l)) (data_count op)
+pub data_run : (l : Layout) → IsLayout l → (op : ℕ)
+    → data_touches l op ≡ run_of Store (line_of l l.data_frame (2 * op % lines_in_frame l)) (data_count op)
 unfolding data_touches run_of
 data_run l is op =
     map_same (λ i. touch_of Store (line_of l l.data_frame ((2 * op + i) % lines_in_frame l)))
@@ -144,31 +157,40 @@ data_run l is op =
     (λ i lt.
     let few = few_data op in
     let place = data_place l is op i (omega (arith, lt, few)) in
-    let sum : line_of l l.data_frame ((2 * op + i) % lines_in_frame l) ≡ line_of l l.data_frame (2 * op % lines_in_frame l) + i = omega (arith, place) in
+    let sum : line_of l l.data_frame ((2 * op + i) % lines_in_frame l)
+    ≡ line_of l l.data_frame (2 * op % lines_in_frame l) + i =
+    omega (arith, place) in
     ap (touch_of Store) sum)
 
-pub data_room : (l : Layout) → IsLayout l → (op : ℕ) → line_of l l.data_frame (2 * op % lines_in_frame l) + 2 ≤ 2 ^ 23
+pub data_room : (l : Layout) → IsLayout l → (op : ℕ)
+    → line_of l l.data_frame (2 * op % lines_in_frame l) + 2 ≤ 2 ^ 23
 data_room l is op = line_room l is l.data_frame (2 * op % lines_in_frame l) 2 is.data_frame (data_within l is op)
 
 -- ---- the shared region
 
-pub loaded_run : (l : Layout) (op : ℕ) → shared_touches l op ≡ run_of Load (shared_line l (op % shared_lines l)) (shared_count op)
+pub loaded_run : (l : Layout) (op : ℕ)
+    → shared_touches l op ≡ run_of Load (shared_line l (op % shared_lines l)) (shared_count op)
 unfolding shared_touches run_of
 loaded_run l op =
     let line : ℕ = shared_line l (op % shared_lines l) in
-    elim (is_of_switch op) as (λ b. (if b then [] else touch_of Load line ∷ []) ≡ map (λ i. touch_of Load (line + i)) (range_with_len 0 (if b then 0 else 1)))
+    elim (is_of_switch op) as (λ b. (if b then [] else touch_of Load line ∷ [])
+    ≡ map (λ i. touch_of Load (line + i)) (range_with_len 0 (if b then 0 else 1)))
     [ true ↦ refl | false ↦ let same : line + 0 ≡ line = omega arith in ap (λ (n : ℕ). touch_of Load n ∷ []) (sym same) ]
 
 -- the one shared line, where there is one
-pub loaded_item : (l : Layout) (op line k : ℕ) → shared_touches l op ≡ run_of Load line (shared_count op) → k < shared_count op
+pub loaded_item : (l : Layout) (op line k : ℕ) → shared_touches l op ≡ run_of Load line (shared_count op)
+    → k < shared_count op
     → slice_get (shared_touches l op) k ≡ Some (touch_of Load line)
 loaded_item l op line k is lt =
-    let few : shared_count op ≤ 1 = elim (is_of_switch op) as (λ b. (if b then 0 else 1) ≤ 1) [ true ↦ omega arith | false ↦ omega arith ] in
+    let few : shared_count op ≤ 1 =
+    elim (is_of_switch op) as (λ b. (if b then 0 else 1) ≤ 1)
+    [ true ↦ omega arith | false ↦ omega arith ] in
     let same : line + k ≡ line = omega (arith, lt, few) in
     run_item (shared_touches l op) Load line (shared_count op) k is lt ∙ ap (λ (n : ℕ). Some (touch_of Load n)) same
 
 -- in a frame of it, which begins at a whole number of frames, one line follows the other
-pub shared_next : (l : Layout) (place i : ℕ) → place % lines_in_frame l ≡ 0 → i < lines_in_frame l → shared_line l (place + i) ≡ shared_line l place + i
+pub shared_next : (l : Layout) (place i : ℕ) → place % lines_in_frame l ≡ 0 → i < lines_in_frame l
+    → shared_line l (place + i) ≡ shared_line l place + i
 shared_next l place i starts lt =
     let n : ℕ = lines_in_frame l in
     let q : ℕ = place / n in

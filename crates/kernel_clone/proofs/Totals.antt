@@ -5,7 +5,8 @@ use Rattle.kernel_clone.specs.Footprints.{Layout, WorkDone, touches, data_count,
 use Rattle.kernel_clone.specs.Laws.{shared_count, zeroed_count, IsPlain}
 use Rattle.kernel_clone.proofs.Items.{length-touches}
 
-pub plain_count : (l : Layout) (w : WorkDone) → IsPlain w → is_of_switch w.op ≡ false → length (touches l w) ≡ 9
+pub plain_count : (l : Layout) (w : WorkDone) → IsPlain w → is_of_switch w.op ≡ false
+    → length (touches l w) ≡ 9
 plain_count l w plain call =
     let whole = length-touches l w in
     let stored : data_count w.op ≡ 2 = ap (λ (b : Bool). if b then 1 else 2) call in
@@ -14,7 +15,8 @@ plain_count l w plain call =
     let entries : length w.entries ≡ 0 = ap length plain.entries in
     omega (arith, whole, stored, loaded, zeroed, entries)
 
-pub switch_count : (l : Layout) (w : WorkDone) → IsPlain w → is_of_switch w.op ≡ true → length (touches l w) ≡ 7
+pub switch_count : (l : Layout) (w : WorkDone) → IsPlain w → is_of_switch w.op ≡ true
+    → length (touches l w) ≡ 7
 switch_count l w plain switch =
     let whole = length-touches l w in
     let stored : data_count w.op ≡ 1 = ap (λ (b : Bool). if b then 1 else 2) switch in

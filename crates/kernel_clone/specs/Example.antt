@@ -6,7 +6,8 @@ use Rattle.kernel_clone.specs.declared.Kind.TheVariants.{Fetch, Load, Store}
 
 -- text in frames 1 and 3, stack in 5, data in 7; two colours
 abbrev layout : ℕ → ℕ → Layout
-layout line shared = record { text = 1; more_text = 3; stack = 5; data_frame = 7; line = line; shared = shared; colours = 2 }
+layout line shared =
+    record { text = 1; more_text = 3; stack = 5; data_frame = 7; line = line; shared = shared; colours = 2 }
 
 abbrev done : ℕ → Option ℕ → List ℕ → WorkDone
 done op zeroed entries = record { op = op; zeroed = zeroed; entries = entries }
@@ -49,7 +50,8 @@ revoke = refl
 
 -- 32 lines a frame: the text's last four lines, and the data's last two
 delivery : touches (layout 128 8192) (done 15 None []) ≡
-    fetch 124 ∷ fetch 125 ∷ fetch 126 ∷ fetch 127 ∷ store 160 ∷ store 161 ∷ store 254 ∷ store 255 ∷ load 15 ∷ []
+    fetch 124 ∷ fetch 125 ∷ fetch 126 ∷ fetch 127 ∷ store 160 ∷ store 161 ∷ store 254 ∷ store 255 ∷ load 15
+    ∷ []
 unfolding touches text_touches stack_touches data_touches shared_touches zeroed_touches entry_touches
 delivery = refl
 

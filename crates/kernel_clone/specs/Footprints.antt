@@ -93,7 +93,8 @@ run_of kind first count = map (λ i. touch_of kind (first + i)) (range_with_len 
 -- ---- the footprint, in its order
 
 unfoldable pub text_touches : Layout → ℕ → List LineTouch
-text_touches l op = map (λ i. touch_of Fetch (text_line l ((4 * op + i) % (2 * lines_in_frame l)))) (range_with_len 0 4)
+text_touches l op =
+    map (λ i. touch_of Fetch (text_line l ((4 * op + i) % (2 * lines_in_frame l)))) (range_with_len 0 4)
 
 unfoldable pub stack_touches : Layout → List LineTouch
 stack_touches l = map (λ i. touch_of Store (line_of l l.stack i)) (range_with_len 0 2)
@@ -104,7 +105,8 @@ data_count op = if is_of_switch op then 1 else 2
 
 unfoldable pub data_touches : Layout → ℕ → List LineTouch
 data_touches l op =
-    map (λ i. touch_of Store (line_of l l.data_frame ((2 * op + i) % lines_in_frame l))) (range_with_len 0 (data_count op))
+    map (λ i. touch_of Store (line_of l l.data_frame ((2 * op + i) % lines_in_frame l)))
+    (range_with_len 0 (data_count op))
 
 unfoldable pub shared_touches : Layout → ℕ → List LineTouch
 shared_touches l op = if is_of_switch op then [] else touch_of Load (shared_line l (op % shared_lines l)) ∷ []
@@ -116,7 +118,8 @@ own_touches l op = text_touches l op ++ (stack_touches l ++ (data_touches l op +
 -- each line of a frame that was zeroed
 unfoldable pub zeroed_touches : Layout → Option ℕ → List LineTouch
 zeroed_touches l None = []
-zeroed_touches l (Some frame) = map (λ i. touch_of Store (line_of l frame i)) (range_with_len 0 (lines_in_frame l))
+zeroed_touches l (Some frame) =
+    map (λ i. touch_of Store (line_of l frame i)) (range_with_len 0 (lines_in_frame l))
 
 -- the line of each entry that was written
 unfoldable pub entry_touches : Layout → List ℕ → List LineTouch
@@ -128,7 +131,8 @@ written_touches l w = zeroed_touches l w.zeroed ++ entry_touches l w.entries
 
 unfoldable pub touches : Layout → WorkDone → List LineTouch
 touches l w =
-    text_touches l w.op ++ (stack_touches l ++ (data_touches l w.op ++ (shared_touches l w.op ++ written_touches l w)))
+    text_touches l w.op
+    ++ (stack_touches l ++ (data_touches l w.op ++ (shared_touches l w.op ++ written_touches l w)))
 
 -- ---- what is a layout
 

@@ -30,7 +30,8 @@ abbrev pub IsPlaced : Layout → WorkDone → Kind → ℕ → Type 0
 IsPlaced l w Fetch line = (frame_of l line ≡ l.text) ⊎ (frame_of l line ≡ l.more_text)
 IsPlaced l w Load line = IsLoaded l w.op line
 IsPlaced l w Store line =
-    (frame_of l line ≡ l.stack) ⊎ ((frame_of l line ≡ l.data_frame) ⊎ ((w.zeroed ≡ Some (frame_of l line)) ⊎ IsOfEntry l w line))
+    (frame_of l line ≡ l.stack)
+    ⊎ ((frame_of l line ≡ l.data_frame) ⊎ ((w.zeroed ≡ Some (frame_of l line)) ⊎ IsOfEntry l w line))
 
 -- a domain's frames, by a test: those in which its operations may store
 pub record MayStore (own : ℕ → Bool) (l : Layout) (w : WorkDone) : Type 0 where

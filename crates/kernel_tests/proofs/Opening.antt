@@ -43,7 +43,8 @@ last_of (suc n) (suc i) = elim (last_of n i) [
   | inr q ↦ inr q
 ]
 
-by_claim : (P : ℕ → Claim → Type 0) → P 1 (Directory 5 None) → P 64 (Fixed 1) → ((i : ℕ) → P i Nothing) → (i : ℕ) → P i (claims estate slots i)
+by_claim : (P : ℕ → Claim → Type 0) → P 1 (Directory 5 None) → P 64 (Fixed 1) → ((i : ℕ) → P i Nothing)
+    → (i : ℕ) → P i (claims estate slots i)
 unfolding estate slots claims all_claims claim_of region_of empty_slots
 by_claim P table root none zero = none 0
 by_claim P table root none (suc zero) = table
@@ -76,7 +77,8 @@ unfolding estate slots claims all_claims claim_of region_of empty_slots
 root_is = refl
 
 -- two claims name no frame
-alone : (i j f : ℕ) → i ≢ j → frame_of (claims estate slots i) ≡ Some f → frame_of (claims estate slots j) ≡ Some f → ⊥
+alone : (i j f : ℕ) → i ≢ j → frame_of (claims estate slots i) ≡ Some f
+    → frame_of (claims estate slots j) ≡ Some f → ⊥
 unfolding frame_of
 alone =
     by_claim (λ i c. (j f : ℕ) → i ≢ j → frame_of c ≡ Some f → frame_of (claims estate slots j) ≡ Some f → ⊥)
@@ -148,11 +150,13 @@ is_estate = record { alone = fixed_alone; stays = λ n b g r t e. absurd (no_pag
 
 -- ---- what the pool gave out, and what is left
 
-pub first_of : (list : FreeList) → list ≡ all_free (share_of (whole_of 64 4) (1 ∷ [])) → slice_get list.free 0 ≡ Some 1
+pub first_of : (list : FreeList) → list ≡ all_free (share_of (whole_of 64 4) (1 ∷ []))
+    → slice_get list.free 0 ≡ Some 1
 unfolding pool
 first_of list is = ap (λ (l : FreeList). slice_get l.free 0) is
 
-pub second_of : (list : FreeList) → list ≡ all_free (share_of (whole_of 64 4) (1 ∷ [])) → slice_get (without_least list).free 0 ≡ Some 5
+pub second_of : (list : FreeList) → list ≡ all_free (share_of (whole_of 64 4) (1 ∷ []))
+    → slice_get (without_least list).free 0 ≡ Some 5
 unfolding pool
 second_of list is = ap (λ (l : FreeList). slice_get (without_least l).free 0) is
 
@@ -189,12 +193,15 @@ of_these first d size holds root free caps calls = record {
   };
 }
 
-pub is_valid : (first second last : Contents) (root table : ℕ) (d : Domain) → first.frames ≡ 64 → Holds first empty
+pub is_valid : (first second last : Contents) (root table : ℕ) (d : Domain) → first.frames ≡ 64
+    → Holds first empty
     → root ≡ 1 → table ≡ 5 → second ≡ zeroed first root → last ≡ zeroed second table → d.map ≡ root
     → d.pool ≡ without_least (without_least (all_free (share_of (whole_of 64 4) (1 ∷ [])))) → d.caps ≡ slots_of table
     → d.calls ≡ every_call → Valid last d
 unfolding slots
 is_valid first second last root table d size holds one five then after at free caps calls =
     let memory : last ≡ zeroed (zeroed first 1) 5 =
-    after ∙ ap (λ (m : Contents). zeroed m table) (then ∙ ap (λ (f : ℕ). zeroed first f) one) ∙ ap (λ (f : ℕ). zeroed (zeroed first 1) f) five in
-    subst (λ (m : Contents). Valid m d) (sym memory) (of_these first d size holds (at ∙ one) free (caps ∙ ap (λ (f : ℕ). slots_of f) five) calls)
+    after ∙ ap (λ (m : Contents). zeroed m table) (then ∙ ap (λ (f : ℕ). zeroed first f) one)
+    ∙ ap (λ (f : ℕ). zeroed (zeroed first 1) f) five in
+    subst (λ (m : Contents). Valid m d) (sym memory)
+    (of_these first d size holds (at ∙ one) free (caps ∙ ap (λ (f : ℕ). slots_of f) five) calls)

@@ -28,7 +28,8 @@ Ready root frames next m =
     IsPageMap m root frames × (TablesIn (λ table. table < next) m root × ((f : ℕ) → next ≤ f → IsBlank m f))
 
 -- of 64 frames in four colours, the least of the third colour
-pub least_of : (list : FreeList) → list ≡ all_free (share_of (whole_of 64 4) (2 ∷ [])) → slice_get list.free 0 ≡ Some 2
+pub least_of : (list : FreeList) → list ≡ all_free (share_of (whole_of 64 4) (2 ∷ []))
+    → slice_get list.free 0 ≡ Some 2
 unfolding pool
 least_of list is = ap (λ (l : FreeList). slice_get l.free 0) is
 
@@ -77,7 +78,8 @@ module _ (memory : Contents) (root next : ℕ) (size : memory.frames ≡ 64) (ro
   ready_apart = record { mem = b.mem; holds = b.holds; so = apart }
 
   module _ (new : Contents) (va : ℕ) (frames : new.frames ≡ memory.frames) where
-    ready_installed : Holds new (installed b.mem root va next) → StandsWith new (Ready root new.frames (next + 1))
+    ready_installed : Holds new (installed b.mem root va next)
+        → StandsWith new (Ready root new.frames (next + 1))
     ready_installed holds = record {
       mem = installed b.mem root va next;
       holds = holds;
@@ -96,7 +98,8 @@ module _ (memory : Contents) (root next : ℕ) (size : memory.frames ≡ 64) (ro
       );
     }
 
-    ready_mapped : (rights : ℕ) → map_refusal b.mem root va ≡ None → Holds new (mapped b.mem root va next rights)
+    ready_mapped : (rights : ℕ) → map_refusal b.mem root va ≡ None
+        → Holds new (mapped b.mem root va next rights)
         → StandsWith new (Ready root new.frames next)
     ready_mapped rights allowed holds =
         let table : has_table b.mem root va ≡ true = unrefused_table b.mem root va allowed in
@@ -126,7 +129,8 @@ module _ (memory : Contents) (root next : ℕ) (size : memory.frames ≡ 64) (ro
     after_install (Err e) unchanged holds =
         subst (λ (m : Contents). StandsWith m (Ready root m.frames (next + 1))) (sym unchanged) ready_later
 
-    pub there_after_install : (result : Result ℕ MapRefusal) → IfOk result (λ _. Holds new (installed b.mem root va next))
+    pub there_after_install : (result : Result ℕ MapRefusal)
+        → IfOk result (λ _. Holds new (installed b.mem root va next))
         → IfOk result (λ _. StandsWith new (λ m. has_table m root va ≡ true))
     there_after_install (Ok at) holds = record {
       mem = installed b.mem root va next;

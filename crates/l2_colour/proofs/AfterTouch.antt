@@ -25,7 +25,8 @@ module _ {P : Type 0} (takes : P → ℕ → Type 0) (rule : P → ℕ → Rule)
         clean = λ past. marks_clean answer line (mark_in l2.cache) (mark_in new) touch.marks (is.clean past);
       }
 
-  pub others_stay : (s : ℕ) → colour_of_set l2.line_size s ≢ colour_of_line l2.line_size (length l2.cache.table) line
+  pub others_stay : (s : ℕ)
+      → colour_of_set l2.line_size s ≢ colour_of_line l2.line_size (length l2.cache.table) line
       → kept_at new.table s ≡ kept_at l2.cache.table s
   others_stay s apart =
       touch.other_sets s (λ e.

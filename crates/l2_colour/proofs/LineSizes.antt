@@ -67,7 +67,9 @@ exponent k n is small =
       | inl same ↦ same
       | inr other ↦
           let set : bit_at n (trailing_zeros w32 n) ≡ 1 = lowest.1 in
-          let clear : bit_at n (trailing_zeros w32 n) ≡ 0 = ap (λ (m : ℕ). bit_at m (trailing_zeros w32 n)) is ∙ bit_at-pow_other k (trailing_zeros w32 n) other in
+          let clear : bit_at n (trailing_zeros w32 n) ≡ 0 =
+          ap (λ (m : ℕ). bit_at m (trailing_zeros w32 n)) is
+          ∙ bit_at-pow_other k (trailing_zeros w32 n) other in
           absurd (let none : 0 ≡ 1 = sym clear ∙ set in omega (arith, none))
     ]
 

@@ -20,17 +20,21 @@ row_of-mod n rows row some_rows some_row =
     let below : r / row < rows = div_below r row rows some_row r_lt in
     let column : r % row < row = mod_below r row some_row in
     let n_is : (q * rows + r / row) * row + r % row ≡ n = omega (arith, whole, part) in
-    let row_is : n / row ≡ q * rows + r / row = ap (λ (m : ℕ). m / row) (sym n_is) ∙ div-mul-add (q * rows + r / row) row (r % row) column in
+    let row_is : n / row ≡ q * rows + r / row =
+    ap (λ (m : ℕ). m / row) (sym n_is) ∙ div-mul-add (q * rows + r / row) row (r % row) column in
     sym (ap (λ (m : ℕ). m % rows) row_is ∙ mod-mul-add q rows (r / row) below)
 
 pub line_pos : (line_size sets : ℕ) → IsColoured line_size sets → 0 < line_size
-line_pos line_size sets coloured = factor_pos line_size (lines_of line_size) 4096 (mul_comm line_size (lines_of line_size) ∙ coloured.whole_lines) (omega arith)
+line_pos line_size sets coloured =
+    factor_pos line_size (lines_of line_size) 4096
+    (mul_comm line_size (lines_of line_size) ∙ coloured.whole_lines) (omega arith)
 
 pub lines_pos : (line_size sets : ℕ) → IsColoured line_size sets → 0 < lines_of line_size
 lines_pos line_size sets coloured = factor_pos (lines_of line_size) line_size 4096 coloured.whole_lines (omega arith)
 
 -- the sets are a row of a frame's lines for each colour
-pub sets_are : (line_size sets : ℕ) → IsColoured line_size sets → colours_of line_size sets * lines_of line_size ≡ sets
+pub sets_are : (line_size sets : ℕ) → IsColoured line_size sets
+    → colours_of line_size sets * lines_of line_size ≡ sets
 sets_are line_size sets coloured =
     let rows : ℕ = colours_of line_size sets in
     let row : ℕ = lines_of line_size in
@@ -39,7 +43,8 @@ sets_are line_size sets coloured =
     eq_of_mul-eq-mul_right line_size (line_pos line_size sets coloured) (rows * row) sets total
 
 -- the set of a line has the colour of the line's frame
-pub line_in_colour : (line_size sets line : ℕ) → IsColoured line_size sets → colour_of_set line_size (line % sets) ≡ colour_of_line line_size sets line
+pub line_in_colour : (line_size sets line : ℕ) → IsColoured line_size sets
+    → colour_of_set line_size (line % sets) ≡ colour_of_line line_size sets line
 line_in_colour line_size sets line coloured =
     ap (λ (n : ℕ). line % n / lines_of line_size) (sym (sets_are line_size sets coloured))
     ∙ row_of-mod line (colours_of line_size sets) (lines_of line_size) coloured.some (lines_pos line_size sets coloured)

@@ -36,21 +36,37 @@ module _ (i : Image) (r : Runnable i) (memory : Contents) (x : Domain) (opened :
         frames = sym frames;
         has = opened.has;
         holds = holds;
-        facts = subst (λ (slots : Slots). Facts e.root (is_mine e) (claims e slots) (placed_all i)) caps (opening_facts i (separated i r) 0 r.some_domain).facts;
+        facts =
+            subst (λ (slots : Slots). Facts e.root (is_mine e) (claims e slots) (placed_all i)) caps
+            (opening_facts i (separated i r) 0 r.some_domain).facts;
       }
 
   -- the first domain runs at clock 0
-  pub opened_runs : {P : Type 0} (rule : P → ℕ → Rule) (stands : P → ℕ → ℕ → List ℕ → Type 0) (system : SystemContents P)
-      → hierarchy i.all.hardware ≡ hierarchy_of rule system → system.core.pinned ≡ false → SystemStands stands system (cold (hierarchy i.all.hardware))
+  pub opened_runs : {P : Type 0} (rule : P → ℕ → Rule) (stands : P → ℕ → ℕ → List ℕ → Type 0)
+      (system : SystemContents P)
+      → hierarchy i.all.hardware ≡ hierarchy_of rule system → system.core.pinned ≡ false
+      → SystemStands stands system (cold (hierarchy i.all.hardware))
       → ((m : Mem) (n root : ℕ) → KeepsLeaves m n root system.core.tlb) → Runs rule stands memory x system 0
   opened_runs rule stands system levels pinned caches leaves =
       let w = setting i.all.hardware (own_of i 0) false in
-      let s : Local = record { dom = opening_dom i.all.hardware (own_of i 0); storage = (opening i).storage; caches = cold (hierarchy i.all.hardware); clock = 0 } in
+      let s : Local = record {
+        dom = opening_dom i.all.hardware (own_of i 0);
+        storage = (opening i).storage;
+        caches = cold (hierarchy i.all.hardware);
+        clock = 0;
+      } in
       record {
         setting = w;
         state = s;
         stands_in = record {
-          fits = record { kernel = kernel_of i (separated i r) 0 r.some_domain; sound = is_setting i.all.hardware (own_of i 0) false (kernel_of i (separated i r) 0 r.some_domain); frames = sym frames; levels = levels; pinned = pinned };
+          fits = record {
+            kernel = kernel_of i (separated i r) 0 r.some_domain;
+            sound =
+                is_setting i.all.hardware (own_of i 0) false (kernel_of i (separated i r) 0 r.some_domain);
+            frames = sym frames;
+            levels = levels;
+            pinned = pinned;
+          };
           dom = opened.stands;
           facts = facts_at_first;
           layout = opened.layout;

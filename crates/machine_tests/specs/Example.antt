@@ -89,7 +89,8 @@ small_machine = record {
   history = 0;
   muldiv = None;
   targets = 0;
-  costs = record { base = 1; l1 = 1; l2 = 8; mem = 40; wb = 10; tlb = 1; mispredict = 3; trap = 10; flush = 20 };
+  costs =
+      record { base = 1; l1 = 1; l2 = 8; mem = 40; wb = 10; tlb = 1; mispredict = 3; trap = 10; flush = 20 };
 }
 
 -- red and blue, in slots of 10,000 cycles in turn
@@ -98,12 +99,32 @@ two_domains red blue = record {
   all = record {
     version = 1;
     hardware = small_machine;
-    schedule = record { domain = 0; length = 10000; pad = 6150; hart = 0 } ∷ record { domain = 1; length = 10000; pad = 6150; hart = 0 } ∷ [];
+    schedule =
+        record { domain = 0; length = 10000; pad = 6150; hart = 0 }
+        ∷ record { domain = 1; length = 10000; pad = 6150; hart = 0 } ∷ [];
     domains = 2;
   };
   owns =
-      record { name = codes "red"; colours = 1 ∷ []; entry = 65536; segments = code_at_16 red ∷ []; caps = []; lines = []; moments = []; calls = every_call }
-      ∷ record { name = codes "blue"; colours = 2 ∷ []; entry = 65536; segments = code_at_16 blue ∷ []; caps = []; lines = []; moments = []; calls = every_call } ∷ [];
+      record {
+        name = codes "red";
+        colours = 1 ∷ [];
+        entry = 65536;
+        segments = code_at_16 red ∷ [];
+        caps = [];
+        lines = [];
+        moments = [];
+        calls = every_call;
+      }
+      ∷ record {
+        name = codes "blue";
+        colours = 2 ∷ [];
+        entry = 65536;
+        segments = code_at_16 blue ∷ [];
+        caps = [];
+        lines = [];
+        moments = [];
+        calls = every_call;
+      } ∷ [];
 }
 
 -- one that prints A beside one that prints B
@@ -173,7 +194,9 @@ interrupted =
 unfoldable pub beside_moment : ℕ → Image
 beside_moment cycle =
     let i = interrupted in
-    record i { owns = record (own_of i 0) { moments = record { at = cycle; line = 3 } ∷ [] } ∷ own_of i 1 ∷ [] }
+    record i {
+      owns = record (own_of i 0) { moments = record { at = cycle; line = 3 } ∷ [] } ∷ own_of i 1 ∷ [];
+    }
 
 -- what is seen of a domain that waited for line 5 and then polled line 3, by the clock at its next instruction
 abbrev pub waited_and_polled : ℕ → View
@@ -190,7 +213,34 @@ waited_and_polled clock = record {
 
 -- all that a run computes with
 unfoldable pub everything : ℕ
-unfolding interrupts.next_cycle interrupts.due threads.waiter threads.woken threads.blocked threads.finished threads.vacant threads.spawned threads.with_thread domain.recorded domain.with_bit domain.signalled_by domain.signalled domain.delivered_on domain.turned domain.waiting domain.thread_ended domain.with_spawned calls.line_at calls.poll calls.waited calls.wait calls.signal calls.spawn empty at put go_on ◌>>=◌ ◌>>◌ give stop note either start frame_at word written frame_words put_word tabled root_entry rights_in leaf_with leaf_entry root_placed table_placed tables_placed page_words pages_placed segments_placed placed all_placed has_region regions_below pages_below pages_in table_word leaf_word leaf_bits bit ppn ppn_0 ppn_1 with_ppn vpn_0 vpn_1 leaf superpage first_level last_level entry_address from_table from_entry walk first_cap first_slots opening_dom page_numbers kept_pages first_regions fixed_claims estate layout no_dom threads.threads_at_entry never turned_to yielded given_way with_current all_ended domain.dom_at_entry domain.placed domain.replied domain.exited domain.with_caps calls.zeroed_in calls.entries_in calls.work_of calls.zero_out calls.page_refusal calls.table_refusal calls.map_at calls.unmap_at calls.install_at calls.uninstall_at calls.empty_buffer calls.some_or calls.is_slot calls.filled calls.allowed calls.put_byte calls.alloc calls.install calls.map_page calls.unmap calls.unless_refused calls.copy calls.clear_entry calls.drop_slot calls.delete calls.unmap_all calls.revoke calls.call_of calls.call slots.maps_in slots.in_use slots.count_in frame_of is_shared leaf_at entry_places region_of claim_of all_claims claims frames_in is_named free_frames least_free text_touches stack_touches data_touches shared_touches zeroed_touches entry_touches touches check stopped trapped retired_at read_out colour_of_line cost.fresh_core cost.cold cost.fetched cost.accessed cost.looked cost.guessed cost.branched cost.jumped cost.flushed cost.on_core cost.missed_cost cost.below_by cost.below_if cost.below cost.below_all cost.pass_on cost.touched cost.and_then cost.touched_all lines_of look_of footprint operation leave enter shared_region prefetch hierarchy region touch frame_or_stop translate address_in line_in read write unless load store computed loaded noted guessed settle execute timed calls.empties call_touches make_call perform instruction delivery_touches interrupts_of event paid delivered happened step steps leave_by guarded prefetch_by flush_by enter_part switch_work_by with_part switch_by switch_on run_slot_by own_slot with_end opening_doms opening whole_by alone_opening alone_enter alone_in alone_out alone_if alone log_of colours.pool colours.frame_at view view_whole view_alone memory_sum count_of largest_of two_domains interrupted with_hart beside_moment first_due step_among steps_among may_make
+unfolding interrupts.next_cycle interrupts.due threads.waiter threads.woken threads.blocked threads.finished
+    threads.vacant threads.spawned threads.with_thread domain.recorded domain.with_bit domain.signalled_by
+    domain.signalled domain.delivered_on domain.turned domain.waiting domain.thread_ended domain.with_spawned
+    calls.line_at calls.poll calls.waited calls.wait calls.signal calls.spawn empty at put go_on ◌>>=◌ ◌>>◌
+    give stop note either start frame_at word written frame_words put_word tabled root_entry rights_in
+    leaf_with leaf_entry root_placed table_placed tables_placed page_words pages_placed segments_placed placed
+    all_placed has_region regions_below pages_below pages_in table_word leaf_word leaf_bits bit ppn ppn_0
+    ppn_1 with_ppn vpn_0 vpn_1 leaf superpage first_level last_level entry_address from_table from_entry walk
+    first_cap first_slots opening_dom page_numbers kept_pages first_regions fixed_claims estate layout no_dom
+    threads.threads_at_entry never turned_to yielded given_way with_current all_ended domain.dom_at_entry
+    domain.placed domain.replied domain.exited domain.with_caps calls.zeroed_in calls.entries_in calls.work_of
+    calls.zero_out calls.page_refusal calls.table_refusal calls.map_at calls.unmap_at calls.install_at
+    calls.uninstall_at calls.empty_buffer calls.some_or calls.is_slot calls.filled calls.allowed
+    calls.put_byte calls.alloc calls.install calls.map_page calls.unmap calls.unless_refused calls.copy
+    calls.clear_entry calls.drop_slot calls.delete calls.unmap_all calls.revoke calls.call_of calls.call
+    slots.maps_in slots.in_use slots.count_in frame_of is_shared leaf_at entry_places region_of claim_of
+    all_claims claims frames_in is_named free_frames least_free text_touches stack_touches data_touches
+    shared_touches zeroed_touches entry_touches touches check stopped trapped retired_at read_out
+    colour_of_line cost.fresh_core cost.cold cost.fetched cost.accessed cost.looked cost.guessed cost.branched
+    cost.jumped cost.flushed cost.on_core cost.missed_cost cost.below_by cost.below_if cost.below
+    cost.below_all cost.pass_on cost.touched cost.and_then cost.touched_all lines_of look_of footprint
+    operation leave enter shared_region prefetch hierarchy region touch frame_or_stop translate address_in
+    line_in read write unless load store computed loaded noted guessed settle execute timed calls.empties
+    call_touches make_call perform instruction delivery_touches interrupts_of event paid delivered happened
+    step steps leave_by guarded prefetch_by flush_by enter_part switch_work_by with_part switch_by switch_on
+    run_slot_by own_slot with_end opening_doms opening whole_by alone_opening alone_enter alone_in alone_out
+    alone_if alone log_of colours.pool colours.frame_at view view_whole view_alone memory_sum count_of
+    largest_of two_domains interrupted with_hart beside_moment first_due step_among steps_among may_make
 everything = 0
 
 -- ---- the memory that it opens with
@@ -209,7 +259,8 @@ unfolding everything
 blue_code = refl
 
 -- so it fetches from its page and loads, and doesn't store
-pub blue_fetches : (walk (whole prints 0).storage.mem 64 18 0x10004 access.Fetch).result ≡ Ok (26 * 1024 + 0x5b)
+pub blue_fetches : (walk (whole prints 0).storage.mem 64 18 0x10004 access.Fetch).result
+    ≡ Ok (26 * 1024 + 0x5b)
 unfolding everything
 blue_fetches = refl
 
@@ -262,7 +313,8 @@ pub timed_red_alone : view_whole timed_prints 0 4 ≡ view_alone timed_prints.al
 unfolding everything
 timed_red_alone = refl
 
-pub first_switch : (count_of 0 (whole timed_prints 4).used ≡ 2) × (largest_of 0 (whole timed_prints 4).used ≡ 820)
+pub first_switch : (count_of 0 (whole timed_prints 4).used ≡ 2)
+    × (largest_of 0 (whole timed_prints 4).used ≡ 820)
 unfolding everything
 first_switch = (refl, refl)
 
@@ -289,7 +341,8 @@ clock = refl
 -- ---- interrupts
 
 -- no thread is ready, so the clock goes to 9,000; line 3 is delivered in 315 cycles, and line 5, which wakes the thread, in 19
-pub interrupted_red : record (view_whole interrupted 0 1) { pool = []; frames = [] } ≡ waited_and_polled (9000 + 315 + 19)
+pub interrupted_red : record (view_whole interrupted 0 1) { pool = []; frames = [] }
+    ≡ waited_and_polled (9000 + 315 + 19)
 unfolding everything
 interrupted_red = refl
 
@@ -372,15 +425,18 @@ unfolding first_due
 owner_may_have_ended i w = refl
 
 -- in the slot of one that has ended none comes
-pub none_where_nobody_runs : (g : Guards) (i : Image) (d end : ℕ) (w : World) → is_running (dom_of w d).status ≡ false
+pub none_where_nobody_runs : (g : Guards) (i : Image) (d end : ℕ) (w : World)
+    → is_running (dom_of w d).status ≡ false
     → step_among g i d end w ≡ with_part 0 d w (step (setting_by g i d) end (part_of 0 d w))
 unfolding step_among
 none_where_nobody_runs g i d end w ended = rw ended refl
 
 -- while one runs that is idle, another's moment comes, too, and is charged by the clone of the one that runs
-pub comes_to_its_owner : (g : Guards) (i : Image) (d end : ℕ) (w : World) (x : Owned) → is_running (dom_of w d).status ≡ true
+pub comes_to_its_owner : (g : Guards) (i : Image) (d end : ℕ) (w : World) (x : Owned)
+    → is_running (dom_of w d).status ≡ true
     → first_due i w (length i.owns) ≡ Some x
-    → step_among g i d end w ≡ with_part 0 x.owner w (delivered (setting_by g i d) x.moment.line (part_of 0 x.owner w))
+    → step_among g i d end w
+    ≡ with_part 0 x.owner w (delivered (setting_by g i d) x.moment.line (part_of 0 x.owner w))
 unfolding step_among
 comes_to_its_owner g i d end w x runs due = rw (runs, due) refl
 
@@ -388,7 +444,8 @@ comes_to_its_owner g i d end w x runs due = rw (runs, due) refl
 abbrev pub idle_loop : List ℕ
 idle_loop = 0x6f ∷ 0 ∷ 0 ∷ 0 ∷ []
 
-pub unflushed_beside_a_loop : blue_reads guard.Flush (two_domains idle_loop (timed_print 0x20)) ≡ 22300 ∷ 22763 ∷ []
+pub unflushed_beside_a_loop : blue_reads guard.Flush (two_domains idle_loop (timed_print 0x20))
+    ≡ 22300 ∷ 22763 ∷ []
 unfolding everything
 unflushed_beside_a_loop = refl
 
@@ -420,19 +477,22 @@ evicts_unmarked = refl
 
 -- the first level's victim is written back before the second level is touched for the new line, which then gives it up;
 -- a mark doesn't move it
-pub victim_first : from_cold writing_back (Store 100 ∷ WalkRead 356 ∷ WalkRead 612 ∷ WalkRead 868 ∷ Load 116 ∷ Load 1124 ∷ [])
+pub victim_first : from_cold writing_back
+    (Store 100 ∷ WalkRead 356 ∷ WalkRead 612 ∷ WalkRead 868 ∷ Load 116 ∷ Load 1124 ∷ [])
     ≡ 49 ∷ 48 ∷ 48 ∷ 48 ∷ 49 ∷ 69 ∷ []
 unfolding everything
 victim_first = refl
 
 -- a flush writes back, too; a line that the second level has lost passes through
-pub flush_marks : from_cold writing_back (Store 100 ∷ Flush ∷ WalkRead 356 ∷ WalkRead 612 ∷ WalkRead 868 ∷ WalkRead 1124 ∷ [])
+pub flush_marks : from_cold writing_back
+    (Store 100 ∷ Flush ∷ WalkRead 356 ∷ WalkRead 612 ∷ WalkRead 868 ∷ WalkRead 1124 ∷ [])
     ≡ 49 ∷ 30 ∷ 48 ∷ 48 ∷ 48 ∷ 58 ∷ []
 unfolding everything
 flush_marks = refl
 
 pub passes_through : from_cold writing_back
-    (Store 100 ∷ WalkRead 356 ∷ WalkRead 612 ∷ WalkRead 868 ∷ WalkRead 1124 ∷ Flush ∷ WalkRead 100 ∷ WalkRead 356 ∷ [])
+    (Store 100 ∷ WalkRead 356 ∷ WalkRead 612 ∷ WalkRead 868 ∷ WalkRead 1124 ∷ Flush ∷ WalkRead 100
+    ∷ WalkRead 356 ∷ [])
     ≡ 49 ∷ 48 ∷ 48 ∷ 48 ∷ 48 ∷ 30 ∷ 48 ∷ 48 ∷ []
 unfolding everything
 passes_through = refl

@@ -10,7 +10,9 @@ use Rattle.machine_tests.specs.Example.{timed_prints, everything}
 abbrev pub on_two_harts : Image
 on_two_harts = record timed_prints {
   all = record timed_prints.all {
-    schedule = record { domain = 0; length = 10000; pad = 6150; hart = 0 } ∷ record { domain = 1; length = 10000; pad = 6150; hart = 1 } ∷ [];
+    schedule =
+        record { domain = 0; length = 10000; pad = 6150; hart = 0 }
+        ∷ record { domain = 1; length = 10000; pad = 6150; hart = 1 } ∷ [];
   };
 }
 
@@ -29,7 +31,8 @@ one_by_one n = all_of 1 n ++ all_of 0 n
 
 -- all that a run computes with
 all_harts : ℕ
-unfolding everything entries_on harts_in hart_for proceeds begins runs goes_on next after all_cold harts view_on view_alone_on
+unfolding everything entries_on harts_in hart_for proceeds begins runs goes_on next after all_cold harts
+    view_on view_alone_on
 all_harts = 0
 
 -- the boot that comes first finds nothing in the second level, and the other the shared lines
@@ -51,7 +54,8 @@ pub two_slots : slots_of 1 (harts on_two_harts (by_turns 11)) ≡ 2
 unfolding all_harts
 two_slots = refl
 
-pub used_by_turns : (harts on_two_harts (by_turns 11)).world.used ≡ (0, 755) ∷ (1, 435) ∷ (0, 580) ∷ (1, 580) ∷ []
+pub used_by_turns : (harts on_two_harts (by_turns 11)).world.used
+    ≡ (0, 755) ∷ (1, 435) ∷ (0, 580) ∷ (1, 580) ∷ []
 unfolding all_harts
 used_by_turns = refl
 

@@ -42,7 +42,8 @@ pub same_shape : {P : Type 0} (rule : P → ℕ → Rule) (old new : Contents P)
 same_shape rule old new same = rw (same.same_policy, same.same_ways, same.same_sets) refl
 
 -- an access whose line is held
-pub access_held : {P : Type 0} (takes : P → ℕ → Type 0) (rule : P → ℕ → Rule) (stands : P → ℕ → ℕ → List ℕ → Type 0)
+pub access_held : {P : Type 0} (takes : P → ℕ → Type 0) (rule : P → ℕ → Rule)
+    (stands : P → ℕ → ℕ → List ℕ → Type 0)
     (line : ℕ) (store : Bool) (old : CoreContents P) (l1d : Contents P) (l2 : L2Contents P) (found : Touch)
     → IsTouch takes rule stands found line store old.l1d l1d
     → found.hit ≡ true
@@ -68,7 +69,8 @@ access_held takes rule stands line store old l1d l2 found touch here =
           ∙ ap (λ (dirty : Bool). done None dirty found.hit) (sym clean)
           ∙ ap (λ (victim : Option ℕ). done victim found.dirty_victim found.hit) (sym spared)
           ∙ ap (λ (t : Touch). done t.victim t.dirty_victim t.hit) told.answered in
-          subst (λ (p : PassedOn). SystemSteps stands old.costs.l1 (system (record old { l1d = l1d }) l2) (pass_on h old.pinned caches.l2 p))
+          subst (λ (p : PassedOn). SystemSteps stands old.costs.l1 (system (record old { l1d = l1d }) l2)
+          (pass_on h old.pinned caches.l2 p))
           (held ∙ sym (access_of h caches.core line store))
           (record {
             cost = omega arith;
@@ -80,7 +82,8 @@ access_held takes rule stands line store old l1d l2 found touch here =
     }
 
 -- an access whose line isn't held, of which `found` is told
-pub access_missed : {P : Type 0} (takes : P → ℕ → Type 0) (rule : P → ℕ → Rule) (stands : P → ℕ → ℕ → List ℕ → Type 0)
+pub access_missed : {P : Type 0} (takes : P → ℕ → Type 0) (rule : P → ℕ → Rule)
+    (stands : P → ℕ → ℕ → List ℕ → Type 0)
     (line : ℕ) (store : Bool) (old : CoreContents P) (l1d : Contents P) (l2 middle last : L2Contents P) (found : Touch) (given read : ℕ)
     → IsTouch takes rule stands found line store old.l1d l1d
     → found.hit ≡ false
@@ -107,7 +110,8 @@ access_missed takes rule stands line store old l1d l2 middle last found given re
           let told = touch.step caches.core.l1d for.core.l1d in
           let first = below_all h old.pinned caches.l2 (given_up step.answer.victim step.answer.dirty_victim) in
           let gave : BelowSteps stands 0 middle first =
-          subst₂ (λ (k : Hierarchy) (t : Touch). BelowSteps stands 0 middle (below_all k old.pinned caches.l2 (given_up t.victim t.dirty_victim)))
+          subst₂ (λ (k : Hierarchy) (t : Touch). BelowSteps stands 0 middle
+          (below_all k old.pinned caches.l2 (given_up t.victim t.dirty_victim)))
           same told.answered (gives caches.l2 for.l2) in
           let was_read : BelowSteps stands read last (below h old.pinned first.l2 (Read line)) =
           subst (λ (k : Hierarchy). BelowSteps stands read last (below k old.pinned first.l2 (Read line)))

@@ -41,7 +41,8 @@ module _ {P : Type 0} (takes : P → ℕ → Type 0) (rule : P → ℕ → Rule)
       (record { cost = omega (arith, cost); next = told.next })
 
 -- what keeps the second level's shape keeps the hierarchy
-pub same_hierarchy : {P : Type 0} (rule : P → ℕ → Rule) (core : CoreContents P) (old new : L2Contents P) → new.line_size ≡ old.line_size
+pub same_hierarchy : {P : Type 0} (rule : P → ℕ → Rule) (core : CoreContents P) (old new : L2Contents P)
+    → new.line_size ≡ old.line_size
     → new.back ≡ old.back → SameShape old.cache new.cache → hierarchy_of rule (system core new) ≡ hierarchy_of rule (system core old)
 same_hierarchy rule core old new size back shape =
     ap₂ (λ (n : ℕ) (b : Bool). record (hierarchy_of rule (system core new)) { line_size = n; back = b }) size back
@@ -52,13 +53,15 @@ no_place None e = refl
 no_place (Some place) e = absurd (cc e)
 
 -- what a look-up missed isn't there afterwards
-pub still_absent : {P : Type 0} (old new : L2Contents P) (line : ℕ) (found : Bool) → found ≡ is_some (place_in old.cache line)
+pub still_absent : {P : Type 0} (old new : L2Contents P) (line : ℕ) (found : Bool)
+    → found ≡ is_some (place_in old.cache line)
     → found ≡ false → new ≡ old → place_in new.cache line ≡ None
 still_absent old new line found told missed same =
     ap (λ (k : L2Contents _). place_in k.cache line) same ∙ no_place (place_in old.cache line) (sym told ∙ missed)
 
 -- and the line counts as always there as little as before
-pub still_counts : {P : Type 0} (rule : P → ℕ → Rule) (core : CoreContents P) (old new : L2Contents P) (line : ℕ) (pinned : Bool)
+pub still_counts : {P : Type 0} (rule : P → ℕ → Rule) (core : CoreContents P) (old new : L2Contents P)
+    (line : ℕ) (pinned : Bool)
     → pinned ≡ is_pinned (hierarchy_of rule (system core old)) core.pinned line → pinned ≡ false → new ≡ old
     → is_pinned (hierarchy_of rule (system core new)) core.pinned line ≡ false
 still_counts rule core old new line pinned told counts same =

@@ -22,11 +22,13 @@ module _ (h : Hierarchy) (coloured : IsColoured h.line_size h.l2.count) where
   abbrev pub IsCleanBelow : Sets → Type 0
   IsCleanBelow l2 = (s way : ℕ) (line : KeptLine) → colour_of_set h.line_size s ≡ 0 → kept_at h l2 s way ≡ Some line → line.dirty ≡ false
 
-  pub none_of : (l2 : Sets) → IsCleanBelow l2 → (s : ℕ) → colour_of_set h.line_size s ≡ 0 → EachOf (λ _. ⊥) (set_at h.l2.ways l2 s).places
+  pub none_of : (l2 : Sets) → IsCleanBelow l2 → (s : ℕ) → colour_of_set h.line_size s ≡ 0
+      → EachOf (λ _. ⊥) (set_at h.l2.ways l2 s).places
   none_of l2 clean s kernel way line at dirty = true≢false (sym dirty ∙ clean s way line kernel at)
 
   -- a read brings a line without one
-  read_clean : (sets : Sets) (line : ℕ) → IsCleanBelow sets → IsCleanBelow (touch_of h.l2 sets line false).next
+  read_clean : (sets : Sets) (line : ℕ) → IsCleanBelow sets
+      → IsCleanBelow (touch_of h.l2 sets line false).next
   read_clean sets line clean s way kept kernel at =
       let home : ℕ = line % h.l2.count in
       let its : CacheSet = set_at h.l2.ways sets home in
@@ -34,7 +36,8 @@ module _ (h : Hierarchy) (coloured : IsColoured h.line_size h.l2.count) where
       (λ k (one : CacheSet). (w : ℕ) (l : KeptLine) → colour_of_set h.line_size k ≡ 0 → get_or one.places w None ≡ Some l → l.dirty ≡ false)
       (λ w l here is.
       false_from_ne_true l.dirty
-      (step_fits (λ _. ⊥) h.l2.rule its line false (way_of line its.places) (λ e. true≢false (sym e)) (none_of sets clean home here) w l is))
+      (step_fits (λ _. ⊥) h.l2.rule its line false (way_of line its.places) (λ e. true≢false (sym e))
+      (none_of sets clean home here) w l is))
       (λ k other w l here is. clean k w l here is) s way kept kernel at
 
   -- a mark comes to a line of another colour
@@ -51,12 +54,14 @@ module _ (h : Hierarchy) (coloured : IsColoured h.line_size h.l2.count) where
   MayCome (Read line) = Unit {0}
   MayCome (WriteBack line) = colour_of_line h line ≢ 0
 
-  read_if_clean : (test : Bool) (sets : Sets) (line : ℕ) → IsCleanBelow sets → IsCleanBelow (below_if test h sets line).l2
+  read_if_clean : (test : Bool) (sets : Sets) (line : ℕ) → IsCleanBelow sets
+      → IsCleanBelow (below_if test h sets line).l2
   unfolding below_if below_by
   read_if_clean true sets line clean = clean
   read_if_clean false sets line clean = read_clean sets line clean
 
-  below_clean : (pinned : Bool) (one : Passed) (sets : Sets) → MayCome one → IsCleanBelow sets → IsCleanBelow (below h pinned sets one).l2
+  below_clean : (pinned : Bool) (one : Passed) (sets : Sets) → MayCome one → IsCleanBelow sets
+      → IsCleanBelow (below h pinned sets one).l2
   unfolding below
   below_clean pinned (Read line) sets may clean = read_if_clean (is_pinned h pinned line) sets line clean
   below_clean pinned (WriteBack line) sets may clean = marked_clean (h.back && not (is_pinned h pinned line)) sets line may clean
@@ -78,12 +83,14 @@ module _ (h : Hierarchy) (coloured : IsColoured h.line_size h.l2.count) where
   any_apart : (line : ℕ) → IsOwnLine h any_colour line → colour_of_line h line ≢ 0
   any_apart line its = λ same. true≢false (sym its ∙ ap not (eq-eqb (colour_of_line h line) 0 same))
 
-  pub touch_clean : (own : ℕ → Bool) (region : List ℕ) → own 0 ≡ false → (pinned : Bool) (c : Caches) (touch : Touch) → MayTouch h own region touch
+  pub touch_clean : (own : ℕ → Bool) (region : List ℕ) → own 0 ≡ false
+      → (pinned : Bool) (c : Caches) (touch : Touch) → MayTouch h own region touch
       → KernelIsClean h c → KernelIsClean h (touched h pinned c touch).caches
   unfolding touched pass_on
   touch_clean own region not_kernel pinned c touch may clean = record {
     core =
-        EachDirty-weaker (IsOwnLine h any_colour) (λ line. colour_of_line h line ≢ 0) h.l1d (touched h pinned c touch).caches.core.l1d any_apart
+        EachDirty-weaker (IsOwnLine h any_colour) (λ line. colour_of_line h line ≢ 0) h.l1d
+        (touched h pinned c touch).caches.core.l1d any_apart
         (own_dirty h any_colour region pinned c touch (any_touch h own region not_kernel touch may)
         (EachDirty-weaker (λ line. colour_of_line h line ≢ 0) (IsOwnLine h any_colour) h.l1d c.core.l1d is_any clean.core));
     l2 =
@@ -91,7 +98,8 @@ module _ (h : Hierarchy) (coloured : IsColoured h.line_size h.l2.count) where
         (handed_on MayCome h c.core touch (λ k d lt. tt) clean.core) clean.l2;
   }
 
-  touches_clean : (own : ℕ → Bool) (region : List ℕ) → own 0 ≡ false → (pinned : Bool) (ts : List Touch) (c : Caches) → MayTouchAll h own region ts
+  touches_clean : (own : ℕ → Bool) (region : List ℕ) → own 0 ≡ false
+      → (pinned : Bool) (ts : List Touch) (c : Caches) → MayTouchAll h own region ts
       → KernelIsClean h c → KernelIsClean h (touched_all h pinned c ts).caches
   unfolding touched_all and_then
   touches_clean own region not_kernel pinned [] c may clean = clean

@@ -17,7 +17,9 @@ module _ {P : Type 0} (takes : P → ℕ → Type 0) (rule : P → ℕ → Rule)
   same_after : hierarchy_of rule (system (record old { l1i = l1i }) l2) ≡ hierarchy_of rule (system old l2)
   same_after = ap (λ (s : Shape). record (hierarchy_of rule (system old l2)) { l1i = s }) (same_shape rule old.l1i l1i tells.touch.shape)
 
-  pub fetch_held : hit ≡ true → MakesTouch rule stands (Fetch line) old.costs.l1 (system old l2) (system (record old { l1i = l1i }) l2)
+  pub fetch_held : hit ≡ true
+      → MakesTouch rule stands (Fetch line) old.costs.l1 (system old l2)
+      (system (record old { l1i = l1i }) l2)
   unfolding touched pass_on on_core fetched below_all
   fetch_held here = record {
     same = same_after;
@@ -28,7 +30,12 @@ module _ {P : Type 0} (takes : P → ℕ → Type 0) (rule : P → ℕ → Rule)
         let told = tells.touch.step caches.core.l1i for.core.l1i in
         let hits : step.answer.hit ≡ true = ap (λ (t : Touch). t.hit) (sym told.answered) ∙ (sym tells.told ∙ here) in
         subst (λ (b : Bool). SystemSteps stands old.costs.l1 (system (record old { l1i = l1i }) l2)
-        (pass_on h old.pinned caches.l2 (record { cost = h.costs.l1; core = record caches.core { l1i = step.next }; passed = unless_hit b line })))
+        (pass_on h old.pinned caches.l2
+        (record {
+          cost = h.costs.l1;
+          core = record caches.core { l1i = step.next };
+          passed = unless_hit b line;
+        })))
         (sym hits)
         (record {
           cost = omega arith;
@@ -57,7 +64,12 @@ module _ {P : Type 0} (takes : P → ℕ → Type 0) (rule : P → ℕ → Rule)
         subst (λ (k : Hierarchy). BelowSteps stands read last (below k old.pinned caches.l2 (Read line))) same_after
         (reads caches.l2 for.l2) in
         subst (λ (b : Bool). SystemSteps stands (old.costs.l1 + read) (system (record old { l1i = l1i }) last)
-        (pass_on h old.pinned caches.l2 (record { cost = h.costs.l1; core = record caches.core { l1i = step.next }; passed = unless_hit b line })))
+        (pass_on h old.pinned caches.l2
+        (record {
+          cost = h.costs.l1;
+          core = record caches.core { l1i = step.next };
+          passed = unless_hit b line;
+        })))
         (sym misses)
         (record {
           cost = omega (arith, was_read.cost);

@@ -22,7 +22,8 @@ unfolding cold
 empty_law h s way = empty_kept h.l2.ways s way
 
 -- what a way keeps where it keeps this line
-kept_is : (number : ℕ) (kept : Option KeptLine) → is_line number kept ≡ true → (line : KeptLine) × (kept ≡ Some line) × (line.number ≡ number)
+kept_is : (number : ℕ) (kept : Option KeptLine) → is_line number kept ≡ true
+    → (line : KeptLine) × (kept ≡ Some line) × (line.number ≡ number)
 kept_is number None is = absurd (true≢false (sym is))
 kept_is number (Some line) is = (line, refl, eqb-true line.number number is)
 
@@ -40,7 +41,8 @@ module _ (h : Hierarchy) (region : List ℕ) (coloured : IsColoured h.line_size 
       let home : ℕ = line % h.l2.count in
       let set : CacheSet = set_at h.l2.ways sets home in
       at-put_by (fresh_set h.l2.ways) sets home (step_of h.l2.rule set line false).next
-      (λ k (one : CacheSet). (way : ℕ) (kept : KeptLine) → colour_of_set h.line_size k ≡ 0 → get_or one.places way None ≡ Some kept → IsShared region kept.number)
+      (λ k (one : CacheSet). (way : ℕ) (kept : KeptLine) → colour_of_set h.line_size k ≡ 0
+      → get_or one.places way None ≡ Some kept → IsShared region kept.number)
       (λ way kept kernel is.
       let stands = ap (is_line kept.number) is ∙ eq-eqb kept.number kept.number refl in
       elim (only_touched h.l2.rule set line kept.number (way, stands)) [
@@ -82,7 +84,8 @@ module _ (h : Hierarchy) (region : List ℕ) (coloured : IsColoured h.line_size 
   one_alone pinned (Read line) sets may alone = line_alone (is_pinned h pinned line) sets line may alone
   one_alone pinned (WriteBack line) sets may alone = marked_alone (h.back && not (is_pinned h pinned line)) sets line alone
 
-  lines_alone : (pinned : Bool) (passed : List Passed) (sets : Sets) → All MayCome passed → KeepsSharedAlone h region sets
+  lines_alone : (pinned : Bool) (passed : List Passed) (sets : Sets) → All MayCome passed
+      → KeepsSharedAlone h region sets
       → KeepsSharedAlone h region (below_all h pinned sets passed).l2
   unfolding below_all
   lines_alone pinned [] sets may alone = alone
@@ -90,7 +93,8 @@ module _ (h : Hierarchy) (region : List ℕ) (coloured : IsColoured h.line_size 
       lines_alone pinned passed (below h pinned sets one).l2 (All-tail MayCome one passed may)
       (one_alone pinned one sets (All-head MayCome one passed may) alone)
 
-  touch_alone : (pinned : Bool) (c : Caches) (touch : Touch) → All MayStand (lines_in_l2 touch) → KeepsSharedAlone h region c.l2
+  touch_alone : (pinned : Bool) (c : Caches) (touch : Touch) → All MayStand (lines_in_l2 touch)
+      → KeepsSharedAlone h region c.l2
       → KeepsSharedAlone h region (touched h pinned c touch).caches.l2
   unfolding touched pass_on
   touch_alone pinned c touch may alone =
@@ -102,12 +106,15 @@ module _ (h : Hierarchy) (region : List ℕ) (coloured : IsColoured h.line_size 
   reached_stand own not_kernel line (inl mine) = λ kernel. absurd (true≢false (sym mine ∙ ap own kernel ∙ not_kernel))
   reached_stand own not_kernel line (inr shared) = λ kernel. shared
 
-  touches_alone : (own : ℕ → Bool) → own 0 ≡ false → (pinned : Bool) (ts : List Touch) (c : Caches) → MayTouchAll h own region ts
+  touches_alone : (own : ℕ → Bool) → own 0 ≡ false → (pinned : Bool) (ts : List Touch) (c : Caches)
+      → MayTouchAll h own region ts
       → KeepsSharedAlone h region c.l2 → KeepsSharedAlone h region (touched_all h pinned c ts).caches.l2
   unfolding touched_all and_then
   touches_alone own not_kernel pinned [] c may alone = alone
   touches_alone own not_kernel pinned (t ∷ ts) c may alone =
-      let stand = All-weaker (MayReach h own region) MayStand (reached_stand own not_kernel) (lines_in_l2 t) (may_reach h own region t may.0) in
+      let stand =
+      All-weaker (MayReach h own region) MayStand (reached_stand own not_kernel) (lines_in_l2 t)
+      (may_reach h own region t may.0) in
       touches_alone own not_kernel pinned ts (touched h pinned c t).caches may.1 (touch_alone pinned c t stand alone)
 
 pub shared_alone_law : SharedAloneLaw
@@ -125,16 +132,19 @@ prefetch_alone_law h own region pinned c sharing alone =
 abbrev pub any_colour : ℕ → Bool
 any_colour colour = not (colour == 0)
 
-any_own : (h : Hierarchy) (own : ℕ → Bool) → own 0 ≡ false → (line : ℕ) → IsOwnLine h own line → IsOwnLine h any_colour line
+any_own : (h : Hierarchy) (own : ℕ → Bool) → own 0 ≡ false → (line : ℕ) → IsOwnLine h own line
+    → IsOwnLine h any_colour line
 any_own h own not_kernel line mine = ap not (ne_eqb (colour_of_line h line) 0 (λ is. true≢false (sym mine ∙ ap own is ∙ not_kernel)))
 
-pub any_touch : (h : Hierarchy) (own : ℕ → Bool) (region : List ℕ) → own 0 ≡ false → (t : Touch) → MayTouch h own region t → MayTouch h any_colour region t
+pub any_touch : (h : Hierarchy) (own : ℕ → Bool) (region : List ℕ) → own 0 ≡ false → (t : Touch)
+    → MayTouch h own region t → MayTouch h any_colour region t
 any_touch h own region not_kernel (Fetch line) may = any_own h own not_kernel line may
 any_touch h own region not_kernel (Load line) (inl may) = inl (any_own h own not_kernel line may)
 any_touch h own region not_kernel (Load line) (inr may) = inr may
 any_touch h own region not_kernel (Store line) may = any_own h own not_kernel line may
 any_touch h own region not_kernel (WalkRead line) may = any_own h own not_kernel line may
-any_touch h own region not_kernel (Look page reads found) may = All-weaker (IsOwnLine h own) (IsOwnLine h any_colour) (any_own h own not_kernel) reads may
+any_touch h own region not_kernel (Look page reads found) may =
+    All-weaker (IsOwnLine h own) (IsOwnLine h any_colour) (any_own h own not_kernel) reads may
 any_touch h own region not_kernel (Branch pc taken target) may = tt
 any_touch h own region not_kernel (Jump pc target) may = tt
 any_touch h own region not_kernel EmptyTlb may = tt
@@ -142,13 +152,15 @@ any_touch h own region not_kernel Flush may = tt
 any_touch h own region not_kernel (Charge cycles) may = tt
 
 -- what one domain may touch is what some domain may
-pub any_may : (h : Hierarchy) (own : ℕ → Bool) (region : List ℕ) → own 0 ≡ false → (ts : List Touch) → MayTouchAll h own region ts
+pub any_may : (h : Hierarchy) (own : ℕ → Bool) (region : List ℕ) → own 0 ≡ false → (ts : List Touch)
+    → MayTouchAll h own region ts
     → MayTouchAll h any_colour region ts
 any_may h own region not_kernel [] may = tt
 any_may h own region not_kernel (t ∷ ts) may = (any_touch h own region not_kernel t may.0, any_may h own region not_kernel ts may.1)
 
 -- and so are the first so many
-pub take_may : (h : Hierarchy) (own : ℕ → Bool) (region : List ℕ) (n : ℕ) (ts : List Touch) → MayTouchAll h own region ts
+pub take_may : (h : Hierarchy) (own : ℕ → Bool) (region : List ℕ) (n : ℕ) (ts : List Touch)
+    → MayTouchAll h own region ts
     → MayTouchAll h own region (take n ts)
 take_may h own region zero ts may = tt
 take_may h own region (suc n) [] may = tt

@@ -16,7 +16,8 @@ use Rattle.tlb_model.specs.Buffer.{Buffer, leaf_of}
 use Rattle.mem_system.specs.Translation.{KeepsLeaves, address_in, translated}
 
 -- the first places of the padded array are the walk's reads
-pub reads_of : (count : ℕ) (array reads : List ℕ) → array ≡ padded reads → count ≡ length reads → count ≤ 2 → take count array ≡ reads
+pub reads_of : (count : ℕ) (array reads : List ℕ) → array ≡ padded reads → count ≡ length reads → count ≤ 2
+    → take count array ≡ reads
 reads_of count array [] padding counted few = rw (padding, counted) refl
 reads_of count array (first ∷ []) padding counted few = rw (padding, counted) refl
 reads_of count array (first ∷ second ∷ []) padding counted few = rw (padding, counted) refl
@@ -46,7 +47,8 @@ leaf_of_walk mem frames root va leaf access result small same ended =
     record { at = va; access = access; small = small; in_page = refl; walked = sym same ∙ ended }
 
 -- a kept leaf answers as the walk does
-pub answered : {P : Type 0} (mem : Mem) (frames root va leaf : ℕ) (access : Access) (result : Result ℕ WalkFault) (buffer : Buffer P)
+pub answered : {P : Type 0} (mem : Mem) (frames root va leaf : ℕ) (access : Access)
+    (result : Result ℕ WalkFault) (buffer : Buffer P)
     → (ppn leaf < 2 ^ 20 → result ≡ translated va (end_at access leaf)) → frames ≤ 2 ^ 15 → leaf_of buffer (va / 4096) ≡ Some leaf
     → KeepsLeaves mem frames root buffer → result ≡ translated va (walk mem frames root va access).result
 answered mem frames root va leaf access result buffer ends few kept keeps =
@@ -57,30 +59,42 @@ answered mem frames root va leaf access result buffer ends few kept keeps =
 address_below : (frames va leaf : ℕ) → ppn leaf < frames → address_in leaf va / 4096 < frames
 address_below frames va leaf within = omega (arith, within)
 
-end_within : (mem : Mem) (frames root va : ℕ) (access : Access) (end : Result ℕ WalkFault) → va < 2 ^ 32 → (walk mem frames root va access).result ≡ end
+end_within : (mem : Mem) (frames root va : ℕ) (access : Access) (end : Result ℕ WalkFault) → va < 2 ^ 32
+    → (walk mem frames root va access).result ≡ end
     → IfOk (translated va end) (λ at. at / 4096 < frames)
 end_within mem frames root va access (Ok leaf) small e =
-    address_below frames va leaf (leaf_within mem frames root (va / 4096) leaf (record { at = va; access = access; small = small; in_page = refl; walked = e }))
+    address_below frames va leaf
+    (leaf_within mem frames root (va / 4096) leaf
+    (record { at = va; access = access; small = small; in_page = refl; walked = e }))
 end_within mem frames root va access (Err fault) small e = tt
 
 -- a translated address lies in memory
 pub translated_within : (mem : Mem) (frames root va : ℕ) (access : Access) (result : Result ℕ WalkFault)
     → va < 2 ^ 32 → result ≡ translated va (walk mem frames root va access).result → IfOk result (λ at. at / 4096 < frames)
 translated_within mem frames root va access result small e =
-    subst (λ (r : Result ℕ WalkFault). IfOk r (λ at. at / 4096 < frames)) (sym e) (end_within mem frames root va access (walk mem frames root va access).result small refl)
+    subst (λ (r : Result ℕ WalkFault). IfOk r (λ at. at / 4096 < frames)) (sym e)
+    (end_within mem frames root va access (walk mem frames root va access).result small refl)
 
 -- kept leaves stay their walks' in another memory, where each walk that found a leaf finds it there too
 pub keeps_by : {P : Type 0} (old new : Mem) (frames root : ℕ) (buffer : Buffer P)
-    → ((at leaf : ℕ) (access : Access) → at < 2 ^ 32 → (walk old frames root at access).result ≡ Ok leaf → (walk new frames root at access).result ≡ Ok leaf)
+    → ((at leaf : ℕ) (access : Access) → at < 2 ^ 32 → (walk old frames root at access).result ≡ Ok leaf
+    → (walk new frames root at access).result ≡ Ok leaf)
     → KeepsLeaves old frames root buffer → KeepsLeaves new frames root buffer
 keeps_by old new frames root buffer stays keeps = record {
   each = λ page leaf kept.
       let is : IsLeafOf old frames root page leaf = keeps.each page leaf kept in
-      record { at = is.at; access = is.access; small = is.small; in_page = is.in_page; walked = stays is.at leaf is.access is.small is.walked };
+      record {
+        at = is.at;
+        access = is.access;
+        small = is.small;
+        in_page = is.in_page;
+        walked = stays is.at leaf is.access is.small is.walked;
+      };
 }
 
 -- what a look-up missed isn't held afterwards
-pub missed_still : {P : Type 0} (rule : P → ℕ → Rule) (stands : P → ℕ → ℕ → List ℕ → Type 0) (old new : Buffer P) (page : ℕ)
+pub missed_still : {P : Type 0} (rule : P → ℕ → Rule) (stands : P → ℕ → ℕ → List ℕ → Type 0)
+    (old new : Buffer P) (page : ℕ)
     → new ≡ old
     → ((sets : Sets) → StandsFor stands old.pages sets → false ≡ is_some (place_of (shape_of rule old.pages) sets page))
     → (sets : Sets) → StandsFor stands new.pages sets → is_some (place_of (shape_of rule new.pages) sets page) ≡ false
@@ -88,6 +102,7 @@ missed_still {P} rule stands old new page same found sets stand =
     rw same (sym (found sets (subst (λ (b : Buffer P). StandsFor stands b.pages sets) same stand)))
 
 -- nothing is kept where no page has a leaf
-pub keeps_none : {P : Type 0} (mem : Mem) (frames root : ℕ) (buffer : Buffer P) → ((page : ℕ) → leaf_of buffer page ≡ None)
+pub keeps_none : {P : Type 0} (mem : Mem) (frames root : ℕ) (buffer : Buffer P)
+    → ((page : ℕ) → leaf_of buffer page ≡ None)
     → KeepsLeaves mem frames root buffer
 keeps_none mem frames root buffer none = record { each = λ page leaf is. absurd (cc (sym (none page) ∙ is)) }

@@ -68,7 +68,8 @@ module _ {P : Type 0} (rule : P → ℕ → Rule) (stands : P → ℕ → ℕ �
         → (tlb : Buffer P) → SameShape old.tlb.pages tlb.pages
         → ((sets : Sets) → StandsFor stands old.tlb.pages sets
         → StandsFor stands tlb.pages (filled_of (shape_of rule old.tlb.pages) sets (va / 4096)))
-        → MakesTouch rule stands (look_of l2.line_size va w) (old.costs.tlb + cycles) (system old l2) (system (record old { tlb = tlb }) last)
+        → MakesTouch rule stands (look_of l2.line_size va w) (old.costs.tlb + cycles) (system old l2)
+        (system (record old { tlb = tlb }) last)
     unfolding touched pass_on on_core looked look_of
     look_filled leaf result walked found tlb shape step = record {
       same = ap (λ (k : Hierarchy). record k { tlb = shape_of rule tlb.pages }) same_read ∙ same_after tlb shape;
@@ -89,7 +90,8 @@ module _ {P : Type 0} (rule : P → ℕ → Rule) (stands : P → ℕ → ℕ �
     }
 
     -- it finds none, and the buffer stays
-    pub look_failed : (fault : WalkFault) (result : Result ℕ WalkFault) → result ≡ w.result → result ≡ Err fault
+    pub look_failed : (fault : WalkFault) (result : Result ℕ WalkFault) → result ≡ w.result
+        → result ≡ Err fault
         → MakesTouch rule stands (look_of l2.line_size va w) (old.costs.tlb + cycles) (system old l2) (system old last)
     unfolding touched pass_on on_core looked look_of
     look_failed fault result walked failed = record {

@@ -29,7 +29,8 @@ of_second P second (Ok made) is true_of = subst (λ o. IfOk o P) is true_of
 of_second P second (Err e) is true_of = tt
 
 -- a new cache has the shape that it was made with
-pub shape_made : {P : Type 0} (takes : P → ℕ → Type 0) (rule : P → ℕ → Rule) (stands : P → ℕ → ℕ → List ℕ → Type 0)
+pub shape_made : {P : Type 0} (takes : P → ℕ → Type 0) (rule : P → ℕ → Rule)
+    (stands : P → ℕ → ℕ → List ℕ → Type 0)
     (policy : P) (sets ways : ℕ) (cache : Contents P) → IsNew takes stands policy sets ways cache
     → shape_of rule cache ≡ record { rule = rule policy ways; ways = ways; count = sets }
 shape_made takes rule stands policy sets ways cache made = rw (made.same_policy, made.same_ways, made.same_sets) refl

@@ -38,7 +38,8 @@ module _ (shape : Shape) (sets others : Sets) (line : ℕ)
         at-put (fresh_set shape.ways) others home s (step_of shape.rule other line false).next,
       ) (cc)
 
-step_places : (rule : Rule) (set : CacheSet) (line : ℕ) (f : ℕ → ℕ) (way : Option ℕ) → is_some (option_map f way) ≡ true
+step_places : (rule : Rule) (set : CacheSet) (line : ℕ) (f : ℕ → ℕ) (way : Option ℕ)
+    → is_some (option_map f way) ≡ true
     → (step_by rule set line false way).next.places ≡ set.places
 step_places rule set line f (Some way) held = refl
 step_places rule set line f None held = absurd (true≢false (sym held))
@@ -61,7 +62,8 @@ same_held shape sets others line =
     ap (λ (places : List (Option KeptLine)). is_some (option_map (λ way. line % shape.count * shape.ways + way) (way_of line places)))
 
 -- equal sets are marked alike
-same_marked : (shape : Shape) (sets others : Sets) (line s : ℕ) → set_at shape.ways sets s ≡ set_at shape.ways others s
+same_marked : (shape : Shape) (sets others : Sets) (line s : ℕ)
+    → set_at shape.ways sets s ≡ set_at shape.ways others s
     → set_at shape.ways (marked_of shape sets line) s ≡ set_at shape.ways (marked_of shape others line) s
 same_marked shape sets others line s same =
     set_at-marked shape sets line s ∙ ap (marked_by (is_here shape s line)) same ∙ sym (set_at-marked shape others line s)
@@ -71,7 +73,8 @@ same_marked shape sets others line s same =
 abbrev pub MayReach : Hierarchy → (ℕ → Bool) → List ℕ → ℕ → Type 0
 MayReach h own region line = IsOwnLine h own line ⊎ IsShared region line
 
-pub may_reach : (h : Hierarchy) (own : ℕ → Bool) (region : List ℕ) (touch : Touch) → MayTouch h own region touch
+pub may_reach : (h : Hierarchy) (own : ℕ → Bool) (region : List ℕ) (touch : Touch)
+    → MayTouch h own region touch
     → All (MayReach h own region) (lines_in_l2 touch)
 may_reach h own region (Fetch line) may = All-cons (MayReach h own region) line [] (inl may) (All-nil (MayReach h own region))
 may_reach h own region (Load line) may = All-cons (MayReach h own region) line [] may (All-nil (MayReach h own region))
@@ -91,7 +94,8 @@ MayPass h own region (Read line) = MayReach h own region line
 MayPass h own region (WriteBack line) = IsOwnLine h own line
 
 -- a domain stores to its own lines alone, so that no other is dirty
-pub own_dirty : (h : Hierarchy) (own : ℕ → Bool) (region : List ℕ) (pinned : Bool) (c : Caches) (touch : Touch) → MayTouch h own region touch
+pub own_dirty : (h : Hierarchy) (own : ℕ → Bool) (region : List ℕ) (pinned : Bool) (c : Caches)
+    (touch : Touch) → MayTouch h own region touch
     → OwnDirty h own c.core → OwnDirty h own (touched h pinned c touch).caches.core
 unfolding touched on_core fetched accessed guessed branched jumped flushed fresh_core pass_on
 own_dirty h own region pinned c (Fetch line) may dirty = dirty
@@ -115,7 +119,8 @@ own_dirty_law h own region pinned [] c may dirty = dirty
 own_dirty_law h own region pinned (t ∷ ts) c may dirty =
     own_dirty_law h own region pinned ts (touched h pinned c t).caches may.1 (own_dirty h own region pinned c t may.0 dirty)
 
-pub may_append : (h : Hierarchy) (own : ℕ → Bool) (region : List ℕ) (ts us : List Touch) → MayTouchAll h own region ts → MayTouchAll h own region us
+pub may_append : (h : Hierarchy) (own : ℕ → Bool) (region : List ℕ) (ts us : List Touch)
+    → MayTouchAll h own region ts → MayTouchAll h own region us
     → MayTouchAll h own region (ts ++ us)
 may_append h own region [] us may rest = rest
 may_append h own region (t ∷ ts) us may rest = (may.0, may_append h own region ts us may.1 rest)
@@ -147,7 +152,8 @@ module _ (h : Hierarchy) (own : ℕ → Bool) (region : List ℕ) (sharing : IsS
       elsewhere s line (own_differs (colour_of_set h.line_size s) (colour_of_line h line) mine not_mine)
 
   -- nor an own line in the set of a shared one
-  own_elsewhere : (line i : ℕ) → i < length region → IsOwnLine h own line → slice_index region i % h.l2.count ≢ line % h.l2.count
+  own_elsewhere : (line i : ℕ) → i < length region → IsOwnLine h own line
+      → slice_index region i % h.l2.count ≢ line % h.l2.count
   own_elsewhere line i lt mine same =
       shared_elsewhere (line % h.l2.count) (slice_index region i) (own_set line mine) (i, lt, refl) (sym same)
 
@@ -159,7 +165,8 @@ module _ (h : Hierarchy) (own : ℕ → Bool) (region : List ℕ) (sharing : IsS
 
   -- ---- one line at both second levels
 
-  own_below : (first sets alone : Sets) (line : ℕ) → BesideL2 h own region first sets alone → IsOwnLine h own line
+  own_below : (first sets alone : Sets) (line : ℕ) → BesideL2 h own region first sets alone
+      → IsOwnLine h own line
       → BesideBelow h own region first (below_if false h sets line) (below_if false h alone line)
   unfolding below_if below_by missed_cost
   own_below first sets alone line beside mine =
@@ -183,7 +190,8 @@ module _ (h : Hierarchy) (own : ℕ → Bool) (region : List ℕ) (sharing : IsS
       }
 
   -- a shared line is held beside others, and pinned alone
-  shared_below : (first sets alone : Sets) (line : ℕ) → BesideL2 h own region first sets alone → IsShared region line
+  shared_below : (first sets alone : Sets) (line : ℕ) → BesideL2 h own region first sets alone
+      → IsShared region line
       → BesideBelow h own region first (below_if false h sets line) (below_if true h alone line)
   unfolding below_if below_by
   shared_below first sets alone line beside (i, lt, same) =
@@ -203,7 +211,8 @@ module _ (h : Hierarchy) (own : ℕ → Bool) (region : List ℕ) (sharing : IsS
       }
 
   -- an own line is marked in both, if in any
-  own_marked : (test : Bool) (first sets alone : Sets) (line : ℕ) → BesideL2 h own region first sets alone → IsOwnLine h own line
+  own_marked : (test : Bool) (first sets alone : Sets) (line : ℕ) → BesideL2 h own region first sets alone
+      → IsOwnLine h own line
       → BesideL2 h own region first (marked_where test h sets line) (marked_where test h alone line)
   own_marked false first sets alone line beside mine = beside
   own_marked true first sets alone line beside mine = record {
@@ -215,7 +224,8 @@ module _ (h : Hierarchy) (own : ℕ → Bool) (region : List ℕ) (sharing : IsS
         ∙ beside.outside s not_own not_kernel;
   }
 
-  below_beside : (first sets alone : Sets) (one : Passed) → BesideL2 h own region first sets alone → MayPass h own region one
+  below_beside : (first sets alone : Sets) (one : Passed) → BesideL2 h own region first sets alone
+      → MayPass h own region one
       → BesideBelow h own region first (below h false sets one) (below h true alone one)
   unfolding below
   below_beside first sets alone (Read line) beside (inl mine) =
@@ -233,7 +243,8 @@ module _ (h : Hierarchy) (own : ℕ → Bool) (region : List ℕ) (sharing : IsS
   }
 
   -- one after the other
-  all_beside : (first : Sets) (passed : List Passed) (sets alone : Sets) → BesideL2 h own region first sets alone
+  all_beside : (first : Sets) (passed : List Passed) (sets alone : Sets)
+      → BesideL2 h own region first sets alone
       → All (MayPass h own region) passed → BesideBelow h own region first (below_all h false sets passed) (below_all h true alone passed)
   unfolding below_all
   all_beside first [] sets alone beside may = record { cost = refl; l2 = beside }
@@ -245,7 +256,8 @@ module _ (h : Hierarchy) (own : ℕ → Bool) (region : List ℕ) (sharing : IsS
 
   -- ---- touches
 
-  touch_beside : (first : Sets) (c alone : Caches) (touch : Touch) → BesideCaches h own region first c alone → MayTouch h own region touch
+  touch_beside : (first : Sets) (c alone : Caches) (touch : Touch) → BesideCaches h own region first c alone
+      → MayTouch h own region touch
       → BesideTouched h own region first (touched h false c touch) (touched h true alone touch)
   unfolding touched pass_on
   touch_beside first c alone touch beside may =
@@ -260,7 +272,8 @@ module _ (h : Hierarchy) (own : ℕ → Bool) (region : List ℕ) (sharing : IsS
         caches = record { core = refl; dirty = own_dirty h own region false c touch may beside.dirty; l2 = b.l2 };
       })
 
-  pub touches_beside : (first : Sets) (ts : List Touch) (c alone : Caches) → BesideCaches h own region first c alone
+  pub touches_beside : (first : Sets) (ts : List Touch) (c alone : Caches)
+      → BesideCaches h own region first c alone
       → MayTouchAll h own region ts → BesideTouched h own region first (touched_all h false c ts) (touched_all h true alone ts)
   unfolding touched_all and_then
   touches_beside first [] c alone beside may = record { cost = refl; caches = beside }
@@ -271,13 +284,15 @@ module _ (h : Hierarchy) (own : ℕ → Bool) (region : List ℕ) (sharing : IsS
 
   -- ---- another's touches
 
-  others_spare : (others : ℕ → Bool) → AreApart own others → (s : ℕ) → IsOwnSet h own s → (line : ℕ) → MayReach h others region line
+  others_spare : (others : ℕ → Bool) → AreApart own others → (s : ℕ) → IsOwnSet h own s → (line : ℕ)
+      → MayReach h others region line
       → Spares h false s line
   others_spare others apart s mine line (inl theirs) = λ _.
       elsewhere s line (λ same. true≢false (sym theirs ∙ ap others (sym same) ∙ apart (colour_of_set h.line_size s) mine))
   others_spare others apart s mine line (inr shared) = λ _. shared_elsewhere s line mine shared
 
-  pub others_leave : (others : ℕ → Bool) → AreApart own others → (ts : List Touch) (c : Caches) → MayTouchAll h others region ts
+  pub others_leave : (others : ℕ → Bool) → AreApart own others → (ts : List Touch) (c : Caches)
+      → MayTouchAll h others region ts
       → OwnDirty h others c.core → SameSets h own (touched_all h false c ts).caches.l2 c.l2
   unfolding touched_all and_then
   others_leave others apart [] c may dirty = λ s mine. refl
@@ -285,7 +300,8 @@ module _ (h : Hierarchy) (own : ℕ → Bool) (region : List ℕ) (sharing : IsS
       let reached = may_reach h others region t may.0 in
       let spared = All-weaker (MayReach h others region) (Spares h false s) (others_spare others apart s mine) (lines_in_l2 t) reached in
       let theirs =
-      EachDirty-weaker (IsOwnLine h others) (Spares h false s) h.l1d c.core.l1d (λ line its. others_spare others apart s mine line (inl its)) dirty in
+      EachDirty-weaker (IsOwnLine h others) (Spares h false s) h.l1d c.core.l1d
+      (λ line its. others_spare others apart s mine line (inl its)) dirty in
       others_leave others apart ts (touched h false c t).caches may.1 (own_dirty h others region false c t may.0 dirty) s mine
       ∙ touch_spares h false c t s spared theirs
 
@@ -296,7 +312,8 @@ module _ (h : Hierarchy) (own : ℕ → Bool) (region : List ℕ) (sharing : IsS
   MayRead (Read line) = MayReach h own region line
   MayRead (WriteBack line) = Unit {0}
 
-  marked_stays : (test : Bool) (sets : Sets) (line : ℕ) → Resident h region sets → Resident h region (marked_where test h sets line)
+  marked_stays : (test : Bool) (sets : Sets) (line : ℕ) → Resident h region sets
+      → Resident h region (marked_where test h sets line)
   marked_stays true sets line resident = λ i lt. held_marked h.l2 sets line (slice_index region i) ∙ resident i lt
   marked_stays false sets line resident = resident
 
@@ -312,12 +329,14 @@ module _ (h : Hierarchy) (own : ℕ → Bool) (region : List ℕ) (sharing : IsS
       (held_places h.l2 sets line held (slice_index region i % h.l2.count))
       ∙ resident i lt
 
-  below_stays : (one : Passed) (sets : Sets) → MayRead one → Resident h region sets → Resident h region (below h false sets one).l2
+  below_stays : (one : Passed) (sets : Sets) → MayRead one → Resident h region sets
+      → Resident h region (below h false sets one).l2
   unfolding below below_if below_by
   below_stays (Read line) sets may resident = read_stays sets line may resident
   below_stays (WriteBack line) sets may resident = marked_stays (h.back && true) sets line resident
 
-  all_stay : (passed : List Passed) (sets : Sets) → All MayRead passed → Resident h region sets → Resident h region (below_all h false sets passed).l2
+  all_stay : (passed : List Passed) (sets : Sets) → All MayRead passed → Resident h region sets
+      → Resident h region (below_all h false sets passed).l2
   unfolding below_all
   all_stay [] sets may resident = resident
   all_stay (one ∷ passed) sets may resident =
@@ -336,7 +355,8 @@ module _ (h : Hierarchy) (own : ℕ → Bool) (region : List ℕ) (sharing : IsS
 -- ---- the prefetch
 
 -- every domain may load shared lines
-loads_may : (h : Hierarchy) (own : ℕ → Bool) (region lines : List ℕ) → All (IsShared region) lines → MayTouchAll h own region (prefetch lines)
+loads_may : (h : Hierarchy) (own : ℕ → Bool) (region lines : List ℕ) → All (IsShared region) lines
+    → MayTouchAll h own region (prefetch lines)
 unfolding prefetch
 loads_may h own region [] shared = tt
 loads_may h own region (line ∷ lines) shared =
@@ -356,7 +376,8 @@ others_law h own others region ts c sharing apart may dirty = others_leave h own
 pub stays_law : StaysResidentLaw
 stays_law h own region ts c sharing may resident = touches_stay h own region sharing ts c may resident
 
-pub prefetch_may : (h : Hierarchy) (own : ℕ → Bool) (region : List ℕ) → MayTouchAll h own region (prefetch region)
+pub prefetch_may : (h : Hierarchy) (own : ℕ → Bool) (region : List ℕ)
+    → MayTouchAll h own region (prefetch region)
 prefetch_may h own region = loads_may h own region region (region_shared region)
 
 pub prefetch_law : PrefetchLaw

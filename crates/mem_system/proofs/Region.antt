@@ -74,15 +74,20 @@ module _ (h : Hierarchy) (l : Layout) (is : IsLayout l) (coloured : IsColoured h
   counted s (suc n) lt = elim (cases_eq (n % lines) s) [
     | inl here ↦
         let before : at_set s n * lines + s < n + lines = counted s n lt in
-        let more : at_set s (suc n) ≡ at_set s n + 1 = at_set-suc s n ∙ ap (λ (b : Bool). at_set s n + cond b 1 0) (eq-eqb (n % lines) s here) in
+        let more : at_set s (suc n) ≡ at_set s n + 1 =
+        at_set-suc s n ∙ ap (λ (b : Bool). at_set s n + cond b 1 0) (eq-eqb (n % lines) s here) in
         let place : n / lines * lines + n % lines ≡ n = div-add-mod' n lines in
-        let less : at_set s n < suc (n / lines) = lt_of_mul-lt-mul_right lines (omega (arith, before, here, place, suc-mul (n / lines) lines)) in
-        let most : at_set s n * lines ≤ n / lines * lines = mul-le (at_set s n) lines (n / lines) lines (omega (arith, less)) (omega arith) in
+        let less : at_set s n < suc (n / lines) =
+        lt_of_mul-lt-mul_right lines (omega (arith, before, here, place, suc-mul (n / lines) lines)) in
+        let most : at_set s n * lines ≤ n / lines * lines =
+        mul-le (at_set s n) lines (n / lines) lines (omega (arith, less)) (omega arith) in
         let whole : at_set s (suc n) * lines ≡ at_set s n * lines + lines = ap (λ (k : ℕ). k * lines) more ∙ grind arith in
         omega (arith, most, whole, place, here)
     | inr apart ↦
         let before : at_set s n * lines + s < n + lines = counted s n lt in
-        let same : at_set s (suc n) ≡ at_set s n = at_set-suc s n ∙ ap (λ (b : Bool). at_set s n + cond b 1 0) (ne_eqb (n % lines) s apart) ∙ omega arith in
+        let same : at_set s (suc n) ≡ at_set s n =
+        at_set-suc s n ∙ ap (λ (b : Bool). at_set s n + cond b 1 0) (ne_eqb (n % lines) s apart)
+        ∙ omega arith in
         let whole : at_set s (suc n) * lines ≡ at_set s n * lines = ap (λ (k : ℕ). k * lines) same in
         omega (arith, before, whole)
   ]
@@ -113,7 +118,8 @@ module _ (h : Hierarchy) (l : Layout) (is : IsLayout l) (coloured : IsColoured h
         | inl lt ↦
             let frames : ℕ = (l.shared + 4095) / 4096 in
             let count : at_set s (shared_lines l) * lines + s < shared_lines l + lines = counted s (shared_lines l) lt in
-            let less : at_set s (shared_lines l) < suc frames = lt_of_mul-lt-mul_right lines (omega (arith, count, frames_begun, suc-mul frames lines)) in
+            let less : at_set s (shared_lines l) < suc frames =
+            lt_of_mul-lt-mul_right lines (omega (arith, count, frames_begun, suc-mul frames lines)) in
             omega (arith, less, fits)
         | inr past ↦ omega (arith, none_past s (shared_lines l) past)
       ] in

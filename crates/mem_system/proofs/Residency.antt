@@ -65,7 +65,8 @@ holds_none shape = record {
 }
 
 -- a touch of a line whose set has room for one more
-holds_next : (shape : Shape) (seen : List ℕ) (sets : Sets) (line : ℕ) → lines_at shape (line % shape.count) seen < shape.ways
+holds_next : (shape : Shape) (seen : List ℕ) (sets : Sets) (line : ℕ)
+    → lines_at shape (line % shape.count) seen < shape.ways
     → Holds shape seen sets → Holds shape (line ∷ seen) (touch_of shape sets line false).next
 holds_next shape seen sets line enough holds =
     let s : ℕ = line % shape.count in
@@ -102,7 +103,8 @@ from_next : (shape : Shape) (seen : List ℕ) (sets : Sets) (line : ℕ)
 from_next shape seen sets line from s other =
     let k : ℕ = line % shape.count in
     let set : CacheSet = set_at shape.ways sets k in
-    at-put_by (fresh_set shape.ways) sets k (step_of shape.rule set line false).next (λ _ (one : CacheSet). Stands other one.places → In other (line ∷ seen))
+    at-put_by (fresh_set shape.ways) sets k (step_of shape.rule set line false).next
+    (λ _ (one : CacheSet). Stands other one.places → In other (line ∷ seen))
     (λ stands. elim (only_touched shape.rule set line other stands) [
       | inl before ↦ inr (from k other before)
       | inr same ↦ inl same
@@ -110,7 +112,8 @@ from_next shape seen sets line from s other =
     (λ j _ stands. inr (from j other stands)) s
 
 -- a line of the list that is loaded again changes nothing below
-again : (shape : Shape) (seen : List ℕ) (sets : Sets) (line : ℕ) → In line seen → Holds shape seen sets → Holds shape (line ∷ seen) sets
+again : (shape : Shape) (seen : List ℕ) (sets : Sets) (line : ℕ) → In line seen → Holds shape seen sets
+    → Holds shape (line ∷ seen) sets
 again shape seen sets line is holds = record {
   held = λ other at. elim at [
     | inl same ↦ subst (StandsIn shape sets) (sym same) (holds.held line is)
@@ -122,28 +125,36 @@ again shape seen sets line is holds = record {
 
 -- ---- what is given up is marked, if at all, and moves nothing
 
-stands_marked : (line : ℕ) (test : ℕ → Bool) (places : List (Option KeptLine)) → Stands line places → Stands line (map (marked_if test) places)
+stands_marked : (line : ℕ) (test : ℕ → Bool) (places : List (Option KeptLine)) → Stands line places
+    → Stands line (map (marked_if test) places)
 stands_marked line test places (way, at) =
     (way, ap (is_line line) (marked_at test places way) ∙ line_marked line test (get_or places way None) ∙ at)
 
-filled_marked : (test : ℕ → Bool) (places : List (Option KeptLine)) → filled (map (marked_if test) places) ≡ filled places
+filled_marked : (test : ℕ → Bool) (places : List (Option KeptLine))
+    → filled (map (marked_if test) places) ≡ filled places
 filled_marked test [] = refl
 filled_marked test (None ∷ places) = filled_marked test places
 filled_marked test (Some line ∷ places) =
     let rest = filled_marked test places in
-    let new = sum_by-cons (λ (kept : Option KeptLine). cond (is_some kept) 1 0) (marked_if test (Some line)) (map (marked_if test) places) in
+    let new =
+    sum_by-cons (λ (kept : Option KeptLine). cond (is_some kept) 1 0) (marked_if test (Some line))
+    (map (marked_if test) places) in
     let old = sum_by-cons (λ (kept : Option KeptLine). cond (is_some kept) 1 0) (Some line) places in
     omega (arith, rest, new, old)
 
-holds_marked : (shape : Shape) (seen : List ℕ) (sets : Sets) (line : ℕ) → Holds shape seen sets → Holds shape seen (marked_of shape sets line)
+holds_marked : (shape : Shape) (seen : List ℕ) (sets : Sets) (line : ℕ) → Holds shape seen sets
+    → Holds shape seen (marked_of shape sets line)
 holds_marked shape seen sets line holds =
     let By : (ℕ → CacheSet → Type 0) → Type 0
-    = λ P. (s : ℕ) → P s (marked_by (is_here shape s line) (set_at shape.ways sets s)) → P s (set_at shape.ways (marked_of shape sets line) s) in
+    =
+    λ P. (s : ℕ) → P s (marked_by (is_here shape s line) (set_at shape.ways sets s))
+    → P s (set_at shape.ways (marked_of shape sets line) s) in
     let by : (P : ℕ → CacheSet → Type 0) → By P = λ P s its. subst (P s) (sym (set_at-marked shape sets line s)) its in
     record {
       held = λ other is.
           by (λ _ one. Stands other one.places) (other % shape.count)
-          (stands_marked other (is_here shape (other % shape.count) line) (set_at shape.ways sets (other % shape.count)).places (holds.held other is));
+          (stands_marked other (is_here shape (other % shape.count) line)
+          (set_at shape.ways sets (other % shape.count)).places (holds.held other is));
       room = λ s.
           by (λ k one. filled one.places ≤ lines_at shape k seen) s
           (omega (arith, filled_marked (is_here shape s line) (set_at shape.ways sets s).places, holds.room s));
@@ -154,19 +165,23 @@ holds_marked shape seen sets line holds =
       };
     }
 
-holds_where : (h : Hierarchy) (seen : List ℕ) (test : Bool) (sets : Sets) (line : ℕ) → Holds h.l2 seen sets → Holds h.l2 seen (marked_where test h sets line)
+holds_where : (h : Hierarchy) (seen : List ℕ) (test : Bool) (sets : Sets) (line : ℕ) → Holds h.l2 seen sets
+    → Holds h.l2 seen (marked_where test h sets line)
 holds_where h seen true sets line holds = holds_marked h.l2 seen sets line holds
 holds_where h seen false sets line holds = holds
 
-given_holds : (h : Hierarchy) (seen : List ℕ) (sets : Sets) (victim : Option ℕ) (dirty : Bool) (passed : List Passed) → Holds h.l2 seen sets
-    → (kept : Sets) × Holds h.l2 seen kept × ((below_all h false sets (given_up victim dirty ++ passed)).l2 ≡ (below_all h false kept passed).l2)
+given_holds : (h : Hierarchy) (seen : List ℕ) (sets : Sets) (victim : Option ℕ) (dirty : Bool)
+    (passed : List Passed) → Holds h.l2 seen sets
+    → (kept : Sets) × Holds h.l2 seen kept
+    × ((below_all h false sets (given_up victim dirty ++ passed)).l2 ≡ (below_all h false kept passed).l2)
 unfolding below_all below
 given_holds h seen sets (Some line) true passed holds =
     (marked_where (h.back && true) h sets line, holds_where h seen (h.back && true) sets line holds, refl)
 given_holds h seen sets (Some line) false passed holds = (sets, holds, refl)
 given_holds h seen sets None dirty passed holds = (sets, holds, refl)
 
-loaded_if : (h : Hierarchy) (seen : List ℕ) (c : Caches) (kept : Sets) (line : ℕ) (hit : Bool) → (touch_of h.l1d c.core.l1d line false).answer.hit ≡ hit
+loaded_if : (h : Hierarchy) (seen : List ℕ) (c : Caches) (kept : Sets) (line : ℕ) (hit : Bool)
+    → (touch_of h.l1d c.core.l1d line false).answer.hit ≡ hit
     → lines_at h.l2 (line % h.l2.count) seen < h.l2.ways → Loaded h seen c → Holds h.l2 seen kept
     → Holds h.l2 (line ∷ seen) (below_all h false kept (unless_hit hit line)).l2
 unfolding below_all below below_if below_by
@@ -175,7 +190,8 @@ loaded_if h seen c kept line true hit enough loaded holds =
     again h.l2 seen kept line (loaded.from s line (hit_stands h.l1d.rule (set_at h.l1d.ways c.core.l1d s) line hit)) holds
 loaded_if h seen c kept line false miss enough loaded holds = holds_next h.l2 seen kept line enough holds
 
-loaded_next : (h : Hierarchy) (seen : List ℕ) (c : Caches) (line : ℕ) → lines_at h.l2 (line % h.l2.count) seen < h.l2.ways
+loaded_next : (h : Hierarchy) (seen : List ℕ) (c : Caches) (line : ℕ)
+    → lines_at h.l2 (line % h.l2.count) seen < h.l2.ways
     → Loaded h seen c → Loaded h (line ∷ seen) (touched h false c (Load line)).caches
 unfolding touched pass_on on_core accessed
 loaded_next h seen c line enough loaded =
@@ -208,11 +224,14 @@ all_loaded h (first ∷ lines) seen c room loaded line is =
 loaded_none : (h : Hierarchy) → Loaded h [] (cold h)
 unfolding cold fresh_core
 loaded_none h = record {
-  from = λ s line stands. none_stands h.l1d.ways line (subst (λ (set : CacheSet). Stands line set.places) (at-empty (fresh_set h.l1d.ways) s) stands);
+  from =
+      λ s line stands. none_stands h.l1d.ways line
+      (subst (λ (set : CacheSet). Stands line set.places) (at-empty (fresh_set h.l1d.ways) s) stands);
   l2 = holds_none h.l2;
 }
 
-pub resident : (h : Hierarchy) (region : List ℕ) → HasRoom h region → Resident h region (touched_all h false (cold h) (prefetch region)).caches.l2
+pub resident : (h : Hierarchy) (region : List ℕ) → HasRoom h region
+    → Resident h region (touched_all h false (cold h) (prefetch region)).caches.l2
 resident h region room i lt =
     let line : ℕ = slice_index region i in
     let l2 : Sets = (touched_all h false (cold h) (prefetch region)).caches.l2 in
@@ -220,6 +239,7 @@ resident h region room i lt =
     let places : List (Option KeptLine) = (set_at h.l2.ways l2 (line % h.l2.count)).places in
     some_mapped (λ way. (line % h.l2.count) * h.l2.ways + way) (way_of line places) (some_at line places stands.0 stands.1)
   where
-    some_mapped : (place : ℕ → ℕ) (found : Option ℕ) → is_some found ≡ true → is_some (option_map place found) ≡ true
+    some_mapped : (place : ℕ → ℕ) (found : Option ℕ) → is_some found ≡ true
+        → is_some (option_map place found) ≡ true
     some_mapped place None t = t
     some_mapped place (Some way) t = t

@@ -36,17 +36,26 @@ no_line number None is none = true≢false (sym is)
 no_line number (Some line) is none = true≢false (sym none)
 
 -- what stands after the write stood before it, or is the line itself
-only_written : (places : List (Option KeptLine)) (way number other : ℕ) → Stands other (set places way (clean number))
+only_written : (places : List (Option KeptLine)) (way number other : ℕ)
+    → Stands other (set places way (clean number))
     → Stands other places ⊎ (other ≡ number)
 only_written places way number other (k, at) =
     elim (cases_lt way (length places)) [
-      | inr past ↦ inl (k, subst (λ (ps : List (Option KeptLine)). is_line other (get_or ps k None) ≡ true) (set_past places way (clean number) past) at)
+      | inr past ↦ inl (
+        k,
+        subst (λ (ps : List (Option KeptLine)). is_line other (get_or ps k None) ≡ true)
+            (set_past places way (clean number) past) at,
+      )
       | inl lt ↦ elim (cases_eq k way) [
         | inl same ↦
             let here : get_or (set places way (clean number)) k None ≡ clean number =
             ap (λ (j : ℕ). get_or (set places way (clean number)) j None) same ∙ get_or-set_same places way (clean number) None lt in
             inr (only_clean number other (subst (λ (kept : Option KeptLine). is_line other kept ≡ true) here at))
-        | inr apart ↦ inl (k, subst (λ (kept : Option KeptLine). is_line other kept ≡ true) (get_or-set_other places way k (clean number) None apart) at)
+        | inr apart ↦ inl (
+          k,
+          subst (λ (kept : Option KeptLine). is_line other kept ≡ true)
+              (get_or-set_other places way k (clean number) None apart) at,
+        )
       ]
     ]
 
@@ -56,14 +65,17 @@ pub record Grows (number : ℕ) (places next : List (Option KeptLine)) : Type 0 
   pub keeps : (other : ℕ) → Stands other places → Stands other next
   pub room : filled next ≤ filled places + 1
 
-written : (places : List (Option KeptLine)) (way number : ℕ) → position is_none places ≡ Some way → Grows number places (set places way (clean number))
+written : (places : List (Option KeptLine)) (way number : ℕ) → position is_none places ≡ Some way
+    → Grows number places (set places way (clean number))
 written places way number found =
     let (lt, empty, _) = position-Some is_none places way None found in
     let same : get_or (set places way (clean number)) way None ≡ clean number = get_or-set_same places way (clean number) None lt in
     record {
       here = (way, ap (is_line number) same ∙ is_clean number);
       keeps = λ other (k, at).
-          let apart : k ≢ way = λ e. no_line other (get_or places way None) (subst (λ (j : ℕ). is_line other (get_or places j None) ≡ true) e at) empty in
+          let apart : k ≢ way =
+          λ e. no_line other (get_or places way None)
+          (subst (λ (j : ℕ). is_line other (get_or places j None) ≡ true) e at) empty in
           (k, ap (is_line other) (get_or-set_other places way k (clean number) None apart) ∙ at);
       room =
           let sum = sum_by-set (λ (kept : Option KeptLine). cond (is_some kept) 1 0) places way (clean number) None lt in
@@ -71,7 +83,8 @@ written places way number found =
     }
 
 -- where no way is empty, all are filled
-all_filled : (places : List (Option KeptLine)) → ((way : ℕ) → way < length places → is_none (get_or places way None) ≡ false)
+all_filled : (places : List (Option KeptLine))
+    → ((way : ℕ) → way < length places → is_none (get_or places way None) ≡ false)
     → length places ≤ filled places
 all_filled [] none = omega arith
 all_filled (None ∷ places) none = absurd (true≢false (none 0 (omega arith)))
@@ -79,7 +92,8 @@ all_filled (Some line ∷ places) none =
     let rest = all_filled places (λ way lt. none (suc way) (omega arith)) in
     omega (arith, rest, sum_by-cons (λ (kept : Option KeptLine). cond (is_some kept) 1 0) (Some line) places)
 
-none_empty : (places : List (Option KeptLine)) → position is_none places ≡ None → length places ≤ filled places
+none_empty : (places : List (Option KeptLine)) → position is_none places ≡ None
+    → length places ≤ filled places
 none_empty places missing =
     let first : ℕ = position_or_len is_none places in
     elim (cases_lt first (length places)) [
@@ -91,14 +105,16 @@ none_empty places missing =
     ]
 
 -- a way that is empty is taken, whatever the policy would give up
-fills : (places : List (Option KeptLine)) (number victim : ℕ) (empty : Option ℕ) → position is_none places ≡ empty → filled places < length places
+fills : (places : List (Option KeptLine)) (number victim : ℕ) (empty : Option ℕ)
+    → position is_none places ≡ empty → filled places < length places
     → Grows number places (set places (unwrap_or empty victim) (clean number))
 fills places number victim None missing room = absurd (omega (arith, none_empty places missing))
 fills places number victim (Some way) found room = written places way number found
 
 -- ---- a touch, by whether its line is found
 
-step_only : (rule : Rule) (set : CacheSet) (number other : ℕ) (found : Option ℕ) → Stands other (step_by rule set number false found).next.places
+step_only : (rule : Rule) (set : CacheSet) (number other : ℕ) (found : Option ℕ)
+    → Stands other (step_by rule set number false found).next.places
     → Stands other set.places ⊎ (other ≡ number)
 step_only rule set number other (Some way) stands = inl stands
 step_only rule set number other None stands = only_written set.places (way_for rule set) number other stands
@@ -118,12 +134,14 @@ step_grows rule set number (Some way) is room = record {
 step_grows rule set number None is room = fills set.places number (rule.victim set.order) (position is_none set.places) refl room
 
 -- what stands after a touch stood before it, or is the touched line
-pub only_touched : (rule : Rule) (set : CacheSet) (number other : ℕ) → Stands other (step_of rule set number false).next.places
+pub only_touched : (rule : Rule) (set : CacheSet) (number other : ℕ)
+    → Stands other (step_of rule set number false).next.places
     → Stands other set.places ⊎ (other ≡ number)
 only_touched rule set number other stands = step_only rule set number other (way_of number set.places) stands
 
 -- a hit says that the line stood there
-pub hit_stands : (rule : Rule) (set : CacheSet) (number : ℕ) → (step_of rule set number false).answer.hit ≡ true → Stands number set.places
+pub hit_stands : (rule : Rule) (set : CacheSet) (number : ℕ)
+    → (step_of rule set number false).answer.hit ≡ true → Stands number set.places
 hit_stands rule set number hit = step_hit rule set number (way_of number set.places) refl hit
 
 -- where a way is empty the line stands after the touch, and all stay

@@ -56,11 +56,13 @@ module _ (h : Hierarchy) where
         ∙ marked_by-same (λ n. (h.back && is_here h.l2 s line n) || is_marked lines n) (is_marked (line ∷ lines)) (set sets)
         (λ n. and_or h.back (is_here h.l2 s line n) (is_here_of h.l2 s lines n))
 
-    settled_is : (c : Caches) → set (settled h c) ≡ marked_by (is_marked (dirty_lines h.l1d c.core.l1d)) (set c.l2)
+    settled_is : (c : Caches)
+        → set (settled h c) ≡ marked_by (is_marked (dirty_lines h.l1d c.core.l1d)) (set c.l2)
     unfolding touched on_core flushed pass_on
     settled_is c = written (dirty_lines h.l1d c.core.l1d) c.l2
 
-  given_is : (victim : Option ℕ) (dirty : Bool) → given_up victim dirty ≡ map WriteBack (with_number (if dirty then victim else None) [])
+  given_is : (victim : Option ℕ) (dirty : Bool)
+      → given_up victim dirty ≡ map WriteBack (with_number (if dirty then victim else None) [])
   given_is (Some line) true = refl
   given_is (Some line) false = refl
   given_is None true = refl

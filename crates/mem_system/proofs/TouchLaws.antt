@@ -87,7 +87,8 @@ module _ (P : Passed → Type 0) where
   unless_all true line its = All-nil P
   unless_all false line its = All-cons P (Read line) [] its (All-nil P)
 
-  given_all : (victim : Option ℕ) (dirty : Bool) → ((line : ℕ) → victim ≡ Some line → dirty ≡ true → P (WriteBack line))
+  given_all : (victim : Option ℕ) (dirty : Bool)
+      → ((line : ℕ) → victim ≡ Some line → dirty ≡ true → P (WriteBack line))
       → All P (given_up victim dirty)
   given_all (Some line) true its = All-cons P (WriteBack line) [] (its line refl refl) (All-nil P)
   given_all (Some line) false its = All-nil P
@@ -411,7 +412,8 @@ module _ (h : Hierarchy) where
     nothing_below sets line false held = absurd (true≢false (sym held))
 
     -- what is held gives nothing up, so that nothing goes on
-    nothing_passed : (sets : Sets) (victim : Option ℕ) (dirty : Bool) (line : ℕ) (hit : Bool) → hit ≡ true → victim ≡ None
+    nothing_passed : (sets : Sets) (victim : Option ℕ) (dirty : Bool) (line : ℕ) (hit : Bool) → hit ≡ true
+        → victim ≡ None
         → cost_of h pinned sets (given_up victim dirty ++ unless_hit hit line) ≡ 0
     nothing_passed sets victim dirty line hit held spared = rw spared (nothing_below sets line hit held)
 
@@ -602,7 +604,8 @@ module _ (h : Hierarchy) (pinned : Bool) (caches : Caches) where
   tlb_stays (Charge cycles) s kept apart = refl
 
 -- an element beside one that is set
-beside : {A : Type 0} (xs : List A) (i j : ℕ) (v d : A) → i ≢ j → slice_index_or (set xs i v) j d ≡ slice_index_or xs j d
+beside : {A : Type 0} (xs : List A) (i j : ℕ) (v d : A) → i ≢ j
+    → slice_index_or (set xs i v) j d ≡ slice_index_or xs j d
 beside xs i j v d apart = get_or-set_other xs i j v d (λ e. apart (sym e))
 
 module _ (h : Hierarchy) (pinned : Bool) (caches : Caches) where

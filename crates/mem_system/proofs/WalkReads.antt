@@ -14,7 +14,8 @@ one_of : (count : ℕ) (xs : List ℕ) → length xs ≡ 2 → count ≡ 1 → s
 one_of count [] long is = absurd (omega (arith, long))
 one_of count (a ∷ xs) long is = ap (λ (n : ℕ). take n (a ∷ xs)) (sym is)
 
-both_of : (count : ℕ) (xs : List ℕ) → length xs ≡ 2 → count ≡ 2 → slice_index xs 0 ∷ slice_index xs 1 ∷ [] ≡ take count xs
+both_of : (count : ℕ) (xs : List ℕ) → length xs ≡ 2 → count ≡ 2
+    → slice_index xs 0 ∷ slice_index xs 1 ∷ [] ≡ take count xs
 both_of count [] long is = absurd (omega (arith, long))
 both_of count (a ∷ []) long is = absurd (omega (arith, long))
 both_of count (a ∷ b ∷ xs) long is = ap (λ (n : ℕ). take n (a ∷ b ∷ xs)) (sym is)
@@ -37,11 +38,14 @@ module _ {P : Type 0} (rule : P → ℕ → Rule) (stands : P → ℕ → ℕ �
       pub reads_one : count ≡ 1 → Come first middle (take count array)
       unfolding below_all lines_of
       reads_one is = subst (Come first middle) (one_of count array long is) (λ sets for.
-          let steps = subst (λ (l : ℕ). BelowSteps stands first middle (below (hierarchy_of rule (system core old)) core.pinned sets (Read l)))
+          let steps =
+          subst (λ (l : ℕ). BelowSteps stands first middle
+          (below (hierarchy_of rule (system core old)) core.pinned sets (Read l)))
           at (reads sets for) in
           record { cost = omega (arith, steps.cost); next = steps.next })
 
-      pub reads_both : (second cycles : ℕ) (last : L2Contents P) → count ≡ 2 → second ≡ slice_index array 1 / middle.line_size
+      pub reads_both : (second cycles : ℕ) (last : L2Contents P) → count ≡ 2
+          → second ≡ slice_index array 1 / middle.line_size
           → hierarchy_of rule (system core middle) ≡ hierarchy_of rule (system core old)
           → ((sets : Sets) → StandsFor stands middle.cache sets
           → BelowSteps stands cycles last (below (hierarchy_of rule (system core middle)) core.pinned sets (Read second)))

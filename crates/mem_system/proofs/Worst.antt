@@ -59,7 +59,8 @@ ways_touch shape sets line store ways =
     (λ below. ways_step shape set line store (ways home below)) (λ s other. ways s)
 
 -- no touch changes how many ways the sets have
-ways_kept : (h : Hierarchy) (pinned : Bool) (c : Caches) (touch : Touch) → HasWays h c → HasWays h (touched h pinned c touch).caches
+ways_kept : (h : Hierarchy) (pinned : Bool) (c : Caches) (touch : Touch) → HasWays h c
+    → HasWays h (touched h pinned c touch).caches
 unfolding touched on_core fetched accessed guessed branched jumped flushed fresh_core pass_on
 ways_kept h pinned c (Fetch line) ways = ways
 ways_kept h pinned c (Load line) ways = ways_touch h.l1d c.core.l1d line false ways
@@ -91,7 +92,8 @@ module _ (h : Hierarchy) where
   again_is on = ap (λ (b : Bool). if b then h.costs.wb else 0) on
 
   -- what misses the second level, and gives up a line with a mark there, costs most
-  below_most : (first cost : ℕ) → IsCostBelow h first cost → cost ≤ first + (h.costs.l2 + (h.costs.mem + again h))
+  below_most : (first cost : ℕ) → IsCostBelow h first cost
+      → cost ≤ first + (h.costs.l2 + (h.costs.mem + again h))
   below_most first cost (inl hit) = omega (arith, hit)
   below_most first cost (inr (inl miss)) = omega (arith, miss)
   below_most first cost (inr (inr (on, miss))) = let more = again_is on in omega (arith, miss, more)
@@ -103,12 +105,14 @@ module _ (h : Hierarchy) where
   data_most cost (inr (inr dirty)) = let most = below_most (h.costs.l1 + h.costs.wb) cost dirty in omega (arith, most)
 
   -- each read misses, and so gives up a line
-  written_most : (reads written : ℕ) → written ≤ reads → (h.back ≡ false → written ≡ 0) → (back : Bool) → h.back ≡ back
+  written_most : (reads written : ℕ) → written ≤ reads → (h.back ≡ false → written ≡ 0) → (back : Bool)
+      → h.back ≡ back
       → written * h.costs.wb ≤ reads * (if back then h.costs.wb else 0)
   written_most reads written few none true on = mul-le-mul_right h.costs.wb few
   written_most reads written few none false off = rw (none off) (omega arith)
 
-  walk_most : (reads cost : ℕ) → IsCostOfWalk h reads cost → cost ≤ h.costs.tlb + reads * worst_read h.costs (again h)
+  walk_most : (reads cost : ℕ) → IsCostOfWalk h reads cost
+      → cost ≤ h.costs.tlb + reads * worst_read h.costs (again h)
   walk_most reads cost walk =
       let few = walk.few in
       let sum = walk.sum in
@@ -138,7 +142,8 @@ module _ (h : Hierarchy) where
   touch_most core (Charge cycles) cost few is = omega (arith, is)
 
   -- so one touch is within its worst
-  touch_within : (pinned : Bool) (c : Caches) (touch : Touch) → HasWays h c → IsWithin h (worst_touch h touch) (touched h pinned c touch)
+  touch_within : (pinned : Bool) (c : Caches) (touch : Touch) → HasWays h c
+      → IsWithin h (worst_touch h touch) (touched h pinned c touch)
   touch_within pinned c touch ways =
       let few = dirty_within h.l1d c.core.l1d ways h.l1d.count (omega arith) in
       record {
@@ -160,7 +165,8 @@ module _ (h : Hierarchy) where
 
   -- ---- a switch at worst
 
-  pub worst-append : (ts us : List Touch) → worst_touches h (ts ++ us) ≡ worst_touches h ts + worst_touches h us
+  pub worst-append : (ts us : List Touch)
+      → worst_touches h (ts ++ us) ≡ worst_touches h ts + worst_touches h us
   unfolding worst_touches
   worst-append [] us = omega arith
   worst-append (t ∷ ts) us = let rest = worst-append ts us in omega (arith, rest)
@@ -172,7 +178,8 @@ module _ (h : Hierarchy) where
   worst_by_kind kind.Store line = refl
 
   -- a footprint costs at worst what the bound says of its lines
-  pub worst_lines : (lines : List LineTouch) → worst_touches h (map touch_of_line lines) ≡ worst_of h.costs (again h) lines
+  pub worst_lines : (lines : List LineTouch)
+      → worst_touches h (map touch_of_line lines) ≡ worst_of h.costs (again h) lines
   unfolding worst_touches worst_of
   worst_lines [] = refl
   worst_lines (t ∷ ts) =
@@ -183,7 +190,8 @@ module _ (h : Hierarchy) where
 
   module _ (shared calls : ℕ) where
     -- whoever leaves, and at the boot nobody
-    leave_most : (out : Option Layout) → worst_touches h (leave_if h.costs out) ≤ worst_leave (machine_shape h shared calls)
+    leave_most : (out : Option Layout)
+        → worst_touches h (leave_if h.costs out) ≤ worst_leave (machine_shape h shared calls)
     unfolding leave_if leave operation footprint worst_touches
     leave_most None = omega arith
     leave_most (Some l) =
@@ -198,7 +206,9 @@ module _ (h : Hierarchy) where
         ∙ enter_costs (machine_shape h shared calls) into (plain enter_op) (record { zeroed = refl; entries = refl }) refl
 
     -- after the prefetch
-    later_most : (into : Layout) → worst_touches h (Flush ∷ enter into) ≡ worst_flush (machine_shape h shared calls) + worst_enter (machine_shape h shared calls)
+    later_most : (into : Layout)
+        → worst_touches h (Flush ∷ enter into)
+        ≡ worst_flush (machine_shape h shared calls) + worst_enter (machine_shape h shared calls)
     unfolding worst_touches worst_flush
     later_most into = let entered = enter_is into in omega (arith, entered)
 
@@ -214,7 +224,8 @@ loads_are : (line : ℕ → ℕ) (places : List ℕ)
 loads_are line [] = refl
 loads_are line (i ∷ places) = ap (λ (ts : List Touch). Load (line i) ∷ ts) (loads_are line places)
 
-prefetch_is : (h : Hierarchy) (shared calls : ℕ) (into : Layout) → IsCloneOf (machine_shape h shared calls) into
+prefetch_is : (h : Hierarchy) (shared calls : ℕ) (into : Layout)
+    → IsCloneOf (machine_shape h shared calls) into
     → worst_touches (bare h) (prefetch (shared_region into)) ≡ worst_prefetch (machine_shape h shared calls)
 unfolding prefetch shared_region prefetch_touches
 prefetch_is h shared calls into clone =
@@ -223,13 +234,15 @@ prefetch_is h shared calls into clone =
 
 module _ (h : Hierarchy) (own : ℕ → Bool) (region : List ℕ) (sharing : IsSharing h own region) (pinned : Bool) where
   -- what a line costs that gives up none with a mark
-  read_most : (hit back marked : Bool) (l2 mem wb : ℕ) → marked ≡ false → l2 + (if hit then 0 else mem + (if back && marked then wb else 0)) ≤ l2 + mem
+  read_most : (hit back marked : Bool) (l2 mem wb : ℕ) → marked ≡ false
+      → l2 + (if hit then 0 else mem + (if back && marked then wb else 0)) ≤ l2 + mem
   read_most true back marked l2 mem wb clean = omega arith
   read_most false true true l2 mem wb clean = absurd (true≢false clean)
   read_most false true false l2 mem wb clean = omega arith
   read_most false false marked l2 mem wb clean = omega arith
 
-  clean_if : (test : Bool) (sets : Sets) (line : ℕ) → colour_of_line h line ≡ 0 → IsCleanBelow h sharing.coloured sets
+  clean_if : (test : Bool) (sets : Sets) (line : ℕ) → colour_of_line h line ≡ 0
+      → IsCleanBelow h sharing.coloured sets
       → (below_if test h sets line).cost ≤ h.costs.l2 + h.costs.mem
   unfolding below_if below_by missed_cost
   clean_if true sets line kernel clean = omega arith
@@ -242,7 +255,8 @@ module _ (h : Hierarchy) (own : ℕ → Bool) (region : List ℕ) (sharing : IsS
       = clean_victim h.l2.rule its line false (way_of line its.places) (none_of h sharing.coloured sets clean home here) in
       read_most answer.hit h.back answer.dirty_victim h.costs.l2 h.costs.mem h.costs.wb unmarked
 
-  read_clean : (sets : Sets) (line : ℕ) → colour_of_line h line ≡ 0 → IsCleanBelow h sharing.coloured sets → (hit : Bool)
+  read_clean : (sets : Sets) (line : ℕ) → colour_of_line h line ≡ 0 → IsCleanBelow h sharing.coloured sets
+      → (hit : Bool)
       → (below_all h pinned sets (unless_hit hit line)).cost ≤ h.costs.l2 + h.costs.mem
   unfolding below_all below
   read_clean sets line kernel clean true = omega arith
@@ -271,7 +285,8 @@ module _ (h : Hierarchy) (own : ℕ → Bool) (region : List ℕ) (sharing : IsS
       let answer = (touch_of h.l1d c.core.l1d line false).answer in
       let given =
       given_clean c.l2 answer.victim answer.dirty_victim (unless_hit answer.hit line)
-      (λ victim is dirty. dirty_victim_fits (λ n. colour_of_line h n ≢ 0) h.l1d c.core.l1d line false victim is dirty clean.core) clean.l2 in
+      (λ victim is dirty. dirty_victim_fits (λ n. colour_of_line h n ≢ 0) h.l1d c.core.l1d line false victim
+      is dirty clean.core) clean.l2 in
       let read = read_clean given.0 line kernel given.1 answer.hit in
       let same = given.2 in
       let most = victim_most answer.dirty_victim h.costs.wb in

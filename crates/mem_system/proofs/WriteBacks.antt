@@ -31,7 +31,8 @@ module _ (h : Hierarchy) (pinned : Bool) where
   written-append sets [] ys = refl
   written-append sets (x ∷ xs) ys = written-append (below h pinned sets (WriteBack x)).l2 xs ys
 
-  written-one : (sets : Sets) (number : ℕ) → written sets (number ∷ []) ≡ (below h pinned sets (WriteBack number)).l2
+  written-one : (sets : Sets) (number : ℕ)
+      → written sets (number ∷ []) ≡ (below h pinned sets (WriteBack number)).l2
   unfolding below_all
   written-one sets number = refl
 
@@ -139,7 +140,8 @@ module _ {P : Type 0} (rule : P → ℕ → Rule) (stands : P → ℕ → ℕ �
       }
 
   -- or where lines go past it
-  pub none_written : (l2 : L2Contents P) → l2.back ≡ false → (caches : Caches) → SystemStands stands (system core l2) caches
+  pub none_written : (l2 : L2Contents P) → l2.back ≡ false → (caches : Caches)
+      → SystemStands stands (system core l2) caches
       → BelowSteps stands 0 l2
       (below_all (hierarchy_over l2) core.pinned caches.l2 (map WriteBack (dirty_of_core caches.core)))
   none_written l2 past caches for =

@@ -32,7 +32,8 @@ system core l2 = record { core = core; l2 = l2 }
 abbrev pub coded_costs : Coded CostTable
 coded_costs =
     code_by (ℕ × (ℕ × (ℕ × (ℕ × (ℕ × (ℕ × (ℕ × (ℕ × ℕ))))))))
-    (coded× coded_ℕ (coded× coded_ℕ (coded× coded_ℕ (coded× coded_ℕ (coded× coded_ℕ (coded× coded_ℕ (coded× coded_ℕ (coded× coded_ℕ coded_ℕ))))))))
+    (coded× coded_ℕ (coded× coded_ℕ (coded× coded_ℕ
+    (coded× coded_ℕ (coded× coded_ℕ (coded× coded_ℕ (coded× coded_ℕ (coded× coded_ℕ coded_ℕ))))))))
     (λ c. (c.base, (c.l1, (c.l2, (c.mem, (c.wb, (c.tlb, (c.mispredict, (c.trap, c.flush)))))))))
     (λ t. record {
       base = t.0;
@@ -49,11 +50,13 @@ coded_costs =
 
 abbrev pub coded_products : Coded ProductCosts
 coded_products =
-    code_by (ℕ × ℕ) (coded× coded_ℕ coded_ℕ) (λ c. (c.mul, c.div)) (λ t. record { mul = t.0; div = t.1 }) (λ _. refl)
+    code_by (ℕ × ℕ) (coded× coded_ℕ coded_ℕ) (λ c. (c.mul, c.div)) (λ t. record { mul = t.0; div = t.1 })
+    (λ _. refl)
 
 abbrev pub coded_jump : Coded Jump
 coded_jump =
-    code_by (ℕ × ℕ) (coded× coded_ℕ coded_ℕ) (λ j. (j.pc, j.target)) (λ t. record { pc = t.0; target = t.1 }) (λ _. refl)
+    code_by (ℕ × ℕ) (coded× coded_ℕ coded_ℕ) (λ j. (j.pc, j.target)) (λ t. record { pc = t.0; target = t.1 })
+    (λ _. refl)
 
 abbrev pub coded_guesses : Coded Guesses
 coded_guesses =
@@ -82,7 +85,8 @@ coded_core {P} p =
 
 abbrev pub coded_system : {P : Type 0} → Coded P → Coded (SystemContents P)
 coded_system {P} p =
-    code_by (CoreContents P × L2Contents P) (coded× (coded_core p) (coded_l2 p)) (λ s. (s.core, s.l2)) (λ t. record { core = t.0; l2 = t.1 }) (λ _. refl)
+    code_by (CoreContents P × L2Contents P) (coded× (coded_core p) (coded_l2 p)) (λ s. (s.core, s.l2))
+    (λ t. record { core = t.0; l2 = t.1 }) (λ _. refl)
 
 -- the hierarchy that it is, by the policies' rules
 abbrev pub hierarchy_of : {P : Type 0} → (P → ℕ → Rule) → SystemContents P → Hierarchy
@@ -101,31 +105,36 @@ hierarchy_of rule s = record {
 -- ---- the caches that it stands for
 
 -- on-core state, set by set; the buffer by its pages alone
-pub record CoreStands {P : Type 0} (stands : P → ℕ → ℕ → List ℕ → Type 0) (kept : CoreContents P) (core : Core) : Type 0 where
+pub record CoreStands {P : Type 0} (stands : P → ℕ → ℕ → List ℕ → Type 0) (kept : CoreContents P)
+    (core : Core) : Type 0 where
   pub l1i : StandsFor stands kept.l1i core.l1i
   pub l1d : StandsFor stands kept.l1d core.l1d
   pub tlb : StandsFor stands kept.tlb.pages core.tlb
   pub guesses : kept.guesses ≡ core.guesses
 
-pub record SystemStands {P : Type 0} (stands : P → ℕ → ℕ → List ℕ → Type 0) (kept : SystemContents P) (caches : Caches) : Type 0 where
+pub record SystemStands {P : Type 0} (stands : P → ℕ → ℕ → List ℕ → Type 0) (kept : SystemContents P)
+    (caches : Caches) : Type 0 where
   pub core : CoreStands stands kept.core caches.core
   pub l2 : StandsFor stands kept.l2.cache caches.l2
 
 -- ---- what calls promise
 
 -- the cycles are the definition's, and what is kept stands for the second level that it leaves
-pub record BelowSteps {P : Type 0} (stands : P → ℕ → ℕ → List ℕ → Type 0) (cycles : ℕ) (kept : L2Contents P) (below : Below) : Type 0 where
+pub record BelowSteps {P : Type 0} (stands : P → ℕ → ℕ → List ℕ → Type 0) (cycles : ℕ) (kept : L2Contents P)
+    (below : Below) : Type 0 where
   pub cost : cycles ≡ below.cost
   pub next : StandsFor stands kept.cache below.l2
 
 -- the same of all caches
-pub record SystemSteps {P : Type 0} (stands : P → ℕ → ℕ → List ℕ → Type 0) (cycles : ℕ) (kept : SystemContents P) (touched : Touched) : Type 0 where
+pub record SystemSteps {P : Type 0} (stands : P → ℕ → ℕ → List ℕ → Type 0) (cycles : ℕ)
+    (kept : SystemContents P) (touched : Touched) : Type 0 where
   pub cost : cycles ≡ touched.cost
   pub next : SystemStands stands kept touched.caches
 
 -- a call made a touch: the hierarchy stays, and for all caches that the old system stands for the cycles are the touch's,
 -- and the new system stands for the caches that it leaves
-pub record MakesTouch {P : Type 0} (rule : P → ℕ → Rule) (stands : P → ℕ → ℕ → List ℕ → Type 0) (touch : Touch) (cycles : ℕ)
+pub record MakesTouch {P : Type 0} (rule : P → ℕ → Rule) (stands : P → ℕ → ℕ → List ℕ → Type 0)
+    (touch : Touch) (cycles : ℕ)
     (old new : SystemContents P) : Type 0 where
   pub same : hierarchy_of rule new ≡ hierarchy_of rule old
   pub pinned : new.core.pinned ≡ old.core.pinned
@@ -133,7 +142,8 @@ pub record MakesTouch {P : Type 0} (rule : P → ℕ → Rule) (stands : P → �
       → SystemSteps stands cycles new (touched (hierarchy_of rule old) old.core.pinned caches touch)
 
 -- the same of touches one after the other
-pub record MakesTouches {P : Type 0} (rule : P → ℕ → Rule) (stands : P → ℕ → ℕ → List ℕ → Type 0) (touches : List Touch) (cycles : ℕ)
+pub record MakesTouches {P : Type 0} (rule : P → ℕ → Rule) (stands : P → ℕ → ℕ → List ℕ → Type 0)
+    (touches : List Touch) (cycles : ℕ)
     (old new : SystemContents P) : Type 0 where
   pub same : hierarchy_of rule new ≡ hierarchy_of rule old
   pub pinned : new.core.pinned ≡ old.core.pinned

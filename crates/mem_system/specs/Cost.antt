@@ -100,7 +100,8 @@ guessed h core wrong next = record {
 
 unfoldable pub branched : Hierarchy → Core → ℕ → Bool → ℕ → PassedOn
 branched h core pc taken target =
-    guessed h core (is_wrong_branch core.guesses pc taken target) (guesses.branched core.guesses pc taken target)
+    guessed h core (is_wrong_branch core.guesses pc taken target)
+    (guesses.branched core.guesses pc taken target)
 
 unfoldable pub jumped : Hierarchy → Core → ℕ → ℕ → PassedOn
 jumped h core pc target =
@@ -119,7 +120,8 @@ on_core h core (Fetch line) = fetched h core line (touch_of h.l1i core.l1i line 
 on_core h core (Load line) = accessed h core line (touch_of h.l1d core.l1d line false)
 on_core h core (Store line) = accessed h core line (touch_of h.l1d core.l1d line true)
 on_core h core (WalkRead line) = record { cost = 0; core = core; passed = Read line ∷ [] }
-on_core h core (Look page reads found) = looked h core page reads found (is_some (place_of h.tlb core.tlb page))
+on_core h core (Look page reads found) =
+    looked h core page reads found (is_some (place_of h.tlb core.tlb page))
 on_core h core (Branch pc taken target) = branched h core pc taken target
 on_core h core (Jump pc target) = jumped h core pc target
 on_core h core EmptyTlb = record { cost = 0; core = record core { tlb = empty }; passed = [] }

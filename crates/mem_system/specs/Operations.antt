@@ -55,7 +55,8 @@ leave_if c (Some l) = leave c l
 unfoldable pub switch_by : Bool → Bool → CostTable → Option Layout → Layout → List Touch
 switch_by loads flushes c out into =
     leave_if c out
-    ++ ((if loads then prefetch (shared_region into) else []) ++ ((if flushes then Flush else EmptyTlb) ∷ enter into))
+    ++ ((if loads then prefetch (shared_region into) else [])
+    ++ ((if flushes then Flush else EmptyTlb) ∷ enter into))
 
 abbrev pub switch : CostTable → Option Layout → Layout → List Touch
 switch = switch_by true true

@@ -98,7 +98,8 @@ KeepsSharedAlone h region l2 = (s way : ℕ) (line : KeptLine) → colour_of_set
 -- no line of the kernel's colour is dirty: none in the first level, and none that the sets of that colour keep in the second
 pub record KernelIsClean (h : Hierarchy) (c : Caches) : Type 0 where
   pub core : EachDirty (λ line. colour_of_line h line ≢ 0) h.l1d c.core.l1d
-  pub l2 : (s way : ℕ) (line : KeptLine) → colour_of_set h.line_size s ≡ 0 → kept_at h c.l2 s way ≡ Some line → line.dirty ≡ false
+  pub l2 : (s way : ℕ) (line : KeptLine) → colour_of_set h.line_size s ≡ 0 → kept_at h c.l2 s way ≡ Some line
+      → line.dirty ≡ false
 
 -- ---- the whole machine's caches beside those of the domain alone
 
@@ -107,12 +108,14 @@ pub record BesideL2 (h : Hierarchy) (own : ℕ → Bool) (region : List ℕ) (fi
   pub resident : Resident h region l2
   pub outside : SameOutside h own l2 first
 
-pub record BesideCaches (h : Hierarchy) (own : ℕ → Bool) (region : List ℕ) (first : Sets) (c alone : Caches) : Type 0 where
+pub record BesideCaches (h : Hierarchy) (own : ℕ → Bool) (region : List ℕ) (first : Sets) (c alone : Caches)
+    : Type 0 where
   pub core : c.core ≡ alone.core
   pub dirty : OwnDirty h own c.core
   pub l2 : BesideL2 h own region first c.l2 alone.l2
 
 -- at equal cost
-pub record BesideTouched (h : Hierarchy) (own : ℕ → Bool) (region : List ℕ) (first : Sets) (r alone : Touched) : Type 0 where
+pub record BesideTouched (h : Hierarchy) (own : ℕ → Bool) (region : List ℕ) (first : Sets) (r alone : Touched)
+    : Type 0 where
   pub cost : r.cost ≡ alone.cost
   pub caches : BesideCaches h own region first r.caches alone.caches

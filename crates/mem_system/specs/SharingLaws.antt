@@ -14,13 +14,15 @@ use Rattle.mem_system.specs.Worst.{machine_shape, worst_touches, HasWays, IsWith
 -- touches after touches
 abbrev pub AppendLaw : Type 0
 AppendLaw = (h : Hierarchy) (pinned : Bool) (c : Caches) (ts us : List Touch)
-    → touched_all h pinned c (ts ++ us) ≡ and_then (touched_all h pinned c ts) (λ k. touched_all h pinned k us)
+    → touched_all h pinned c (ts ++ us)
+    ≡ and_then (touched_all h pinned c ts) (λ k. touched_all h pinned k us)
 
 -- ---- a domain's touches
 
 -- cost the same among others as alone, where the kernel's lines are always there
 abbrev pub BesideLaw : Type 0
-BesideLaw = (h : Hierarchy) (own : ℕ → Bool) (region : List ℕ) (first : Sets) (ts : List Touch) (c alone : Caches)
+BesideLaw =
+    (h : Hierarchy) (own : ℕ → Bool) (region : List ℕ) (first : Sets) (ts : List Touch) (c alone : Caches)
     → IsSharing h own region → MayTouchAll h own region ts → BesideCaches h own region first c alone
     → BesideTouched h own region first (touched_all h false c ts) (touched_all h true alone ts)
 
@@ -32,8 +34,10 @@ OthersLaw = (h : Hierarchy) (own others : ℕ → Bool) (region : List ℕ) (ts 
 
 -- so they stay, since it stores to its own lines alone
 abbrev pub OwnDirtyLaw : Type 0
-OwnDirtyLaw = (h : Hierarchy) (own : ℕ → Bool) (region : List ℕ) (pinned : Bool) (ts : List Touch) (c : Caches)
-    → MayTouchAll h own region ts → OwnDirty h own c.core → OwnDirty h own (touched_all h pinned c ts).caches.core
+OwnDirtyLaw =
+    (h : Hierarchy) (own : ℕ → Bool) (region : List ℕ) (pinned : Bool) (ts : List Touch) (c : Caches)
+    → MayTouchAll h own region ts → OwnDirty h own c.core
+    → OwnDirty h own (touched_all h pinned c ts).caches.core
 
 -- and the shared lines in place
 abbrev pub StaysResidentLaw : Type 0
@@ -51,12 +55,14 @@ PrefetchLaw = (h : Hierarchy) (own others : ℕ → Bool) (region : List ℕ) (c
 
 -- whose sets are after the flush as if there had been none
 abbrev pub SettledLaw : Type 0
-SettledLaw = (h : Hierarchy) (own : ℕ → Bool) (region : List ℕ) (c : Caches) → IsSharing h own region → 0 < h.l1d.count
+SettledLaw =
+    (h : Hierarchy) (own : ℕ → Bool) (region : List ℕ) (c : Caches) → IsSharing h own region → 0 < h.l1d.count
     → SameSets h own (settled h (touched_all h false c (prefetch region)).caches) (settled h c)
 
 -- and the shared lines in place
 abbrev pub PrefetchStaysLaw : Type 0
-PrefetchStaysLaw = (h : Hierarchy) (own : ℕ → Bool) (region : List ℕ) (c : Caches) → IsSharing h own region → Resident h region c.l2
+PrefetchStaysLaw = (h : Hierarchy) (own : ℕ → Bool) (region : List ℕ) (c : Caches) → IsSharing h own region
+    → Resident h region c.l2
     → Resident h region (touched_all h false c (prefetch region)).caches.l2
 
 -- from caches that hold nothing it brings every shared line into the second level, under any policy: a set has a way for
@@ -67,7 +73,8 @@ ResidentLaw = (h : Hierarchy) (region : List ℕ) → HasRoom h region
 
 -- the shared region of a clone has colour 0, and no set has more of its lines than the frames that it has begun
 abbrev pub RegionLaw : Type 0
-RegionLaw = (h : Hierarchy) (l : Layout) → IsLayout l → IsColoured h.line_size h.l2.count → l.line ≡ h.line_size
+RegionLaw =
+    (h : Hierarchy) (l : Layout) → IsLayout l → IsColoured h.line_size h.l2.count → l.line ≡ h.line_size
     → l.colours ≡ colours_of h.line_size h.l2.count → (l.shared + 4095) / 4096 ≤ h.l2.ways
     → IsRegion h (shared_region l) × HasRoom h (shared_region l)
 
@@ -97,8 +104,10 @@ ColdIsCleanLaw = (h : Hierarchy) → KernelIsClean h (cold h)
 
 -- and a domain's touches make none so: so the kernel's shared lines cost the same whatever domains wrote
 abbrev pub StaysCleanLaw : Type 0
-StaysCleanLaw = (h : Hierarchy) (own : ℕ → Bool) (region : List ℕ) (pinned : Bool) (ts : List Touch) (c : Caches)
-    → IsSharing h own region → MayTouchAll h own region ts → KernelIsClean h c → KernelIsClean h (touched_all h pinned c ts).caches
+StaysCleanLaw =
+    (h : Hierarchy) (own : ℕ → Bool) (region : List ℕ) (pinned : Bool) (ts : List Touch) (c : Caches)
+    → IsSharing h own region → MayTouchAll h own region ts → KernelIsClean h c
+    → KernelIsClean h (touched_all h pinned c ts).caches
 
 -- ---- what it costs at worst
 
@@ -108,15 +117,21 @@ WorstLaw = (h : Hierarchy) (pinned : Bool) (ts : List Touch) (c : Caches) → Ha
 
 -- a switch, part by part, where no line of the kernel's colour is dirty, and who leaves makes none so
 abbrev pub SwitchLaw : Type 0
-SwitchLaw = (h : Hierarchy) (own : ℕ → Bool) (pinned : Bool) (shared calls : ℕ) (out : Option Layout) (into : Layout) (c : Caches)
-    → HasWays h c → KernelIsClean h c → IsSharing h own (shared_region into) → MayTouchAll h own (shared_region into) (leave_if h.costs out)
+SwitchLaw =
+    (h : Hierarchy) (own : ℕ → Bool) (pinned : Bool) (shared calls : ℕ) (out : Option Layout) (into : Layout)
+    (c : Caches)
+    → HasWays h c → KernelIsClean h c → IsSharing h own (shared_region into)
+    → MayTouchAll h own (shared_region into) (leave_if h.costs out)
     → IsCloneOf (machine_shape h shared calls) into
     → let s = machine_shape h shared calls in
-    IsWithin h (worst_leave s + worst_prefetch s + worst_flush s + worst_enter s) (touched_all h pinned c (switch h.costs out into))
+    IsWithin h (worst_leave s + worst_prefetch s + worst_flush s + worst_enter s)
+    (touched_all h pinned c (switch h.costs out into))
 
 -- begun past a slot's end by less than the largest step of the domain that leaves, it is done by that domain's bound
 abbrev pub OnTimeLaw : Type 0
-OnTimeLaw = (h : Hierarchy) (own : ℕ → Bool) (pinned : Bool) (shared calls old_end now : ℕ) (out : Option Layout) (into : Layout) (c : Caches)
+OnTimeLaw =
+    (h : Hierarchy) (own : ℕ → Bool) (pinned : Bool) (shared calls old_end now : ℕ) (out : Option Layout)
+    (into : Layout) (c : Caches)
     → HasWays h c → KernelIsClean h c → IsSharing h own (shared_region into)
     → MayTouchAll h own (shared_region into) (leave_if h.costs out)
     → let s = machine_shape h shared calls in

@@ -61,7 +61,8 @@ IsCostBelow h first cost =
 
 -- what a load or store costs
 abbrev pub IsCostOfData : Hierarchy → ℕ → Type 0
-IsCostOfData h cost = (cost ≡ h.costs.l1) ⊎ (IsCostBelow h h.costs.l1 cost ⊎ IsCostBelow h (h.costs.l1 + h.costs.wb) cost)
+IsCostOfData h cost =
+    (cost ≡ h.costs.l1) ⊎ (IsCostBelow h h.costs.l1 cost ⊎ IsCostBelow h (h.costs.l1 + h.costs.wb) cost)
 
 -- what a look-up that makes reads costs: each is an access to the second level, some of them miss it, and some of these
 -- write a line back, if lines are written back into it

@@ -19,7 +19,8 @@ takes_four TreePlru = (omega arith, omega arith, refl)
 takes_four Nmru = (omega arith, omega arith)
 
 -- a cache of 2 ^ k sets
-pub is_cache : (g : CacheGeometry AnyPolicy) (policy : AnyPolicy) (sets ways k : ℕ) → g.policy ≡ policy → g.sets ≡ sets → g.ways ≡ ways
+pub is_cache : (g : CacheGeometry AnyPolicy) (policy : AnyPolicy) (sets ways k : ℕ) → g.policy ≡ policy
+    → g.sets ≡ sets → g.ways ≡ ways
     → any_takes policy ways → sets ≡ 2 ^ k → sets * ways < 2 ^ 32 → IsCache any_takes g
 is_cache g policy sets ways k p s w takes power small = record {
   taken = rw (p, w) takes;

@@ -14,7 +14,8 @@ use Rattle.pad_bound.proofs.Written.{work_within, every_written, more_written}
 
 -- ---- operations
 
-pub few_written : (calls : ℕ) (l : Layout) (w : WorkDone) → IsCallWork w → IsPermitted calls w → lines_written l w ≤ most_written calls l.line
+pub few_written : (calls : ℕ) (l : Layout) (w : WorkDone) → IsCallWork w → IsPermitted calls w
+    → lines_written l w ≤ most_written calls l.line
 few_written calls l w is = work_within calls l w.op w.zeroed (length w.entries) is.zeroes is.few
 
 -- a call that writes so many lines
@@ -27,7 +28,8 @@ call_costs c again l w call =
     let count : 2 + data_count w.op + shared_count w.op + lines_written l w ≡ 5 + lines_written l w = omega (arith, stored, loaded) in
     whole ∙ ap (λ (n : ℕ). 4 * worst_fetch c again + n * worst_access c again) count
 
-pub operation_covers : (s : MachineShape) (l : Layout) (w : WorkDone) → is_of_switch w.op ≡ false → lines_written l w ≤ s.written
+pub operation_covers : (s : MachineShape) (l : Layout) (w : WorkDone) → is_of_switch w.op ≡ false
+    → lines_written l w ≤ s.written
     → s.costs.trap + worst_of s.costs s.again (touches l w) ≤ worst_operation s
 unfolding worst_operation
 operation_covers s l w call few =
@@ -38,12 +40,15 @@ operation_covers s l w call few =
     omega (arith, costs, written)
 
 -- where the work writes as many as there can be
-pub operation_reached : (s : MachineShape) (l : Layout) (w : WorkDone) → is_of_switch w.op ≡ false → lines_written l w ≡ s.written
+pub operation_reached : (s : MachineShape) (l : Layout) (w : WorkDone) → is_of_switch w.op ≡ false
+    → lines_written l w ≡ s.written
     → s.costs.trap + worst_of s.costs s.again (touches l w) ≡ worst_operation s
 unfolding worst_operation
 operation_reached s l w call most =
     let costs = call_costs s.costs s.again l w call in
-    let written : lines_written l w * worst_access s.costs s.again ≡ s.written * worst_access s.costs s.again = ap (λ (n : ℕ). n * worst_access s.costs s.again) most in
+    let written : lines_written l w * worst_access s.costs s.again
+    ≡ s.written * worst_access s.costs s.again =
+    ap (λ (n : ℕ). n * worst_access s.costs s.again) most in
     omega (arith, costs, written)
 
 pub alloc_is_call : (frame : ℕ) → IsCallWork (alloc_work frame)
@@ -52,13 +57,15 @@ alloc_is_call frame = record { call = refl; zeroes = λ other is. refl; few = li
 pub revoke_is_call : (entries : List ℕ) → length entries ≡ most_entries → IsCallWork (revoke_work entries)
 revoke_is_call entries most = record { call = refl; zeroes = λ frame is. absurd (cc is); few = omega (arith, most) }
 
-pub alloc_writes : (l : Layout) (frame : ℕ) → most_entries ≤ lines_in_frame l.line → lines_written l (alloc_work frame) ≡ most_written every_call l.line
+pub alloc_writes : (l : Layout) (frame : ℕ) → most_entries ≤ lines_in_frame l.line
+    → lines_written l (alloc_work frame) ≡ most_written every_call l.line
 alloc_writes l frame many =
     let every = every_written l.line in
     let lines : max (lines_in_frame l.line) most_entries ≡ lines_in_frame l.line = max-eq_left many in
     omega (arith, every, lines)
 
-pub revoke_writes : (l : Layout) (entries : List ℕ) → lines_in_frame l.line ≤ most_entries → length entries ≡ most_entries
+pub revoke_writes : (l : Layout) (entries : List ℕ) → lines_in_frame l.line ≤ most_entries
+    → length entries ≡ most_entries
     → lines_written l (revoke_work entries) ≡ most_written every_call l.line
 revoke_writes l entries few most =
     let every = every_written l.line in
@@ -91,13 +98,15 @@ enter_costs s l w plain enter = switch_costs s.costs s.again l w plain (rw enter
 
 -- ---- the switch's own parts
 
-pub prefetch_costs : (s : MachineShape) (l : Layout) → IsCloneOf s l → worst_of s.costs 0 (prefetch_touches l) ≡ worst_prefetch s
+pub prefetch_costs : (s : MachineShape) (l : Layout) → IsCloneOf s l
+    → worst_of s.costs 0 (prefetch_touches l) ≡ worst_prefetch s
 unfolding worst_prefetch
 prefetch_costs s l of =
     let lines : shared_lines l ≡ lines_of_shared s = rw (of.line, of.shared) refl in
     worst_of-prefetch s.costs 0 l ∙ ap (λ (n : ℕ). n * worst_access s.costs 0) lines
 
-pub flush_covers : (s : MachineShape) (dirty : ℕ) → dirty ≤ most_dirty s → s.costs.flush + s.costs.wb * dirty ≤ worst_flush s
+pub flush_covers : (s : MachineShape) (dirty : ℕ) → dirty ≤ most_dirty s
+    → s.costs.flush + s.costs.wb * dirty ≤ worst_flush s
 unfolding worst_flush
 flush_covers s dirty few =
     let same : s.costs.wb ≤ s.costs.wb = omega arith in
@@ -174,7 +183,8 @@ same_costs c = record {
 
 -- ---- a domain that may make more calls
 
-pub more_calls : (s : MachineShape) (calls others : ℕ) → AreWithin calls others → bound_of (with_calls s calls) ≤ bound_of (with_calls s others)
+pub more_calls : (s : MachineShape) (calls others : ℕ) → AreWithin calls others
+    → bound_of (with_calls s calls) ≤ bound_of (with_calls s others)
 more_calls s calls others within =
     no_smaller (with_calls s calls) (with_calls s others) (record {
       costs = same_costs s.costs;

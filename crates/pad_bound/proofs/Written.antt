@@ -17,13 +17,15 @@ few_if : (calls : ℕ) (call : Call) (lines : ℕ) → if_may calls call lines �
 few_if calls call lines =
     elim (may_make calls (call_number call)) as (λ b. (if b then lines else 0) ≤ lines) [ true ↦ omega arith | false ↦ omega arith ]
 
-all_if : (calls : ℕ) (call : Call) (lines : ℕ) → may_make calls (call_number call) ≡ true → lines ≤ if_may calls call lines
+all_if : (calls : ℕ) (call : Call) (lines : ℕ) → may_make calls (call_number call) ≡ true
+    → lines ≤ if_may calls call lines
 all_if calls call lines may =
     let all : if_may calls call lines ≡ lines = ap (λ (b : Bool). if b then lines else 0) may in
     omega (arith, all)
 
 -- of a domain that may make more
-more_if : (calls others : ℕ) (call : Call) (lines : ℕ) → AreWithin calls others → if_may calls call lines ≤ if_may others call lines
+more_if : (calls others : ℕ) (call : Call) (lines : ℕ) → AreWithin calls others
+    → if_may calls call lines ≤ if_may others call lines
 more_if calls others call lines within = elim (cases_Bool (may_make calls (call_number call))) [
   | inl may ↦
       let few = few_if calls call lines in
@@ -91,7 +93,8 @@ pub none_written : (line : ℕ) → most_written 0 line ≡ 0
 unfolding most_written may_make
 none_written line = refl
 
-pub more_written : (calls others line : ℕ) → AreWithin calls others → most_written calls line ≤ most_written others line
+pub more_written : (calls others line : ℕ) → AreWithin calls others
+    → most_written calls line ≤ most_written others line
 unfolding most_written
 more_written calls others line within =
     let alloc = more_if calls others Alloc (lines_in_frame line) within in
@@ -105,7 +108,8 @@ more_written calls others line within =
 -- ---- the work of an operation
 
 -- the calls that write one entry
-one_entry : (calls line op : ℕ) → (op < delivery_op → may_make calls op ≡ true) → writes_entry op ≡ true → 1 ≤ most_written calls line
+one_entry : (calls line op : ℕ) → (op < delivery_op → may_make calls op ≡ true) → writes_entry op ≡ true
+    → 1 ≤ most_written calls line
 one_entry calls line op permitted writes =
     let is : (call : Call) → nat_eq op (call_number call) ≡ true → op ≡ call_number call = λ call. eqb-true op (call_number call) in
     elim (or_cases (nat_eq op (call_number Table)) _ writes) [
@@ -133,7 +137,8 @@ one_entry calls line op permitted writes =
           ]
     ]
 
-entries_within : (calls line op : ℕ) → (op < delivery_op → may_make calls op ≡ true) → most_entries_of op ≤ most_written calls line
+entries_within : (calls line op : ℕ) → (op < delivery_op → may_make calls op ≡ true)
+    → most_entries_of op ≤ most_written calls line
 entries_within calls line op permitted =
     let within : ℕ → Type 0 = λ n. n ≤ most_written calls line in
     cond_both (nat_eq op (call_number Revoke)) most_entries (if writes_entry op then 1 else 0) within

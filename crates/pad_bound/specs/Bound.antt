@@ -102,7 +102,8 @@ worst_flush s = s.costs.flush + s.costs.wb * most_dirty s
 -- an instruction, and the operation that it calls, begin a cycle before the slot's end at the latest
 unfoldable pub bound_of : MachineShape → ℕ
 bound_of s =
-    worst_instruction s + worst_operation s + worst_leave s + worst_prefetch s + worst_flush s + worst_enter s - 1
+    worst_instruction s + worst_operation s + worst_leave s + worst_prefetch s + worst_flush s + worst_enter s
+    - 1
 
 -- ---- what is a shape
 

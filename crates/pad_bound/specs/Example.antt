@@ -6,7 +6,8 @@ use Rattle.pad_bound.specs.Bound.{MachineShape, most_written, with_calls, worst_
 -- 8 shared lines, 64 lines in a frame, 32 lines in the cache
 abbrev pub small : MachineShape
 small = record {
-  costs = record { base = 1; l1 = 1; l2 = 8; mem = 40; wb = 10; tlb = 1; mispredict = 3; trap = 10; flush = 20 };
+  costs =
+      record { base = 1; l1 = 1; l2 = 8; mem = 40; wb = 10; tlb = 1; mispredict = 3; trap = 10; flush = 20 };
   line = 64;
   shared = 512;
   sets = 16;
@@ -41,7 +42,8 @@ unfolding worst_enter
 enter = refl
 
 pub total : bound_of small ≡ 6150
-unfolding bound_of worst_instruction worst_operation worst_leave worst_prefetch worst_flush worst_enter most_written may_make
+unfolding bound_of worst_instruction worst_operation worst_leave worst_prefetch worst_flush worst_enter
+    most_written may_make
 total = refl
 
 -- ---- where the domain that leaves may make some calls alone
@@ -51,7 +53,8 @@ unfolding worst_operation most_written may_make
 few = refl
 
 few_total : bound_of (with_calls small (2 ^ 0 + 2 ^ 1)) ≡ 2374
-unfolding bound_of worst_instruction worst_operation worst_leave worst_prefetch worst_flush worst_enter most_written may_make
+unfolding bound_of worst_instruction worst_operation worst_leave worst_prefetch worst_flush worst_enter
+    most_written may_make
 few_total = refl
 
 tables : worst_operation (with_calls small (2 ^ 3)) ≡ 560
@@ -101,12 +104,22 @@ unfolding worst_enter
 back_enter = refl
 
 pub back_total : bound_of written_back ≡ 7080
-unfolding bound_of worst_instruction worst_operation worst_leave worst_prefetch worst_flush worst_enter most_written may_make
+unfolding bound_of worst_instruction worst_operation worst_leave worst_prefetch worst_flush worst_enter
+    most_written may_make
 back_total = refl
 
 -- where a second-level miss writes back again, and a division may take 2 cycles a digit and one more
 abbrev pub larger : MachineShape
-larger = record { costs = small.costs; line = 64; shared = 512; sets = 16; ways = 2; written = 64; again = 10; product = 66 }
+larger = record {
+  costs = small.costs;
+  line = 64;
+  shared = 512;
+  sets = 16;
+  ways = 2;
+  written = 64;
+  again = 10;
+  product = 66;
+}
 
 pub larger_instruction : worst_instruction larger ≡ 366 + 66
 unfolding worst_instruction

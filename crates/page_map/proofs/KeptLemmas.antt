@@ -45,7 +45,8 @@ table_of_three true false false e = absurd (cc)
 table_of_three true true table e = absurd (cc)
 table_of_three false page table e = absurd (cc)
 
-pub unrefused_table : (mem : Mem) (root va : ℕ) → map_refusal mem root va ≡ None → has_table mem root va ≡ true
+pub unrefused_table : (mem : Mem) (root va : ℕ) → map_refusal mem root va ≡ None
+    → has_table mem root va ≡ true
 unfolding map_refusal
 unrefused_table mem root va e = table_of_three _ _ _ e
 
@@ -55,7 +56,8 @@ table_of_two true true e = absurd (cc)
 table_of_two true false e = refl
 table_of_two false table e = absurd (cc)
 
-pub uninstalled_yet : (mem : Mem) (root va : ℕ) → install_refusal mem root va ≡ None → has_table mem root va ≡ false
+pub uninstalled_yet : (mem : Mem) (root va : ℕ) → install_refusal mem root va ≡ None
+    → has_table mem root va ≡ false
 unfolding install_refusal
 uninstalled_yet mem root va e = table_of_two _ _ e
 
@@ -64,7 +66,8 @@ page_table mem root va e = first_of_both _ _ e
 
 -- ---- pointers
 
-pub pointer-table : (frame root frames : ℕ) → frame < frames → frame ≢ root → IsPointer (table_word frame) root frames
+pub pointer-table : (frame root frames : ℕ) → frame < frames → frame ≢ root
+    → IsPointer (table_word frame) root frames
 pointer-table frame root frames within apart =
     let is : ppn (table_word frame) ≡ frame = ppn-table frame in
     record {
@@ -82,7 +85,8 @@ module _ (mem : Mem) (root frames va : ℕ) (k : IsPageMap mem root frames) (tab
   pointer_at = k.tables (vpn_1 va) (vpn_1-below va) table
 
   -- a write to the table of an address leaves the root as it is
-  pub root_stays : (place value i : ℕ) → word (written mem (table_of mem root va) place value) root i ≡ word mem root i
+  pub root_stays : (place value i : ℕ)
+      → word (written mem (table_of mem root va) place value) root i ≡ word mem root i
   root_stays place value i =
       let p : IsPointer (first_entry mem root va) root frames = pointer_at in
       word-written_frame mem (table_of mem root va) place value root i (λ e. p.apart (sym e))
@@ -125,7 +129,8 @@ module _ (mem : Mem) (root frames va value place : ℕ) (k : IsPageMap mem root 
 -- the entries of the root after one was written
 pub data RootAt (mem : Mem) (root place value i : ℕ) : Type 0 where
   here : i ≡ place → word (written mem root place value) root i ≡ value → RootAt mem root place value i
-  there : i ≢ place → word (written mem root place value) root i ≡ word mem root i → RootAt mem root place value i
+  there : i ≢ place → word (written mem root place value) root i ≡ word mem root i
+      → RootAt mem root place value i
 
 pub root_at : (mem : Mem) (root place value i : ℕ) → RootAt mem root place value i
 root_at mem root place value i = elim (cases_eq i place) [
@@ -149,7 +154,8 @@ module _ (mem : Mem) (root place value : ℕ) where
       subst (λ (e : ℕ). IsPointer e root frames) (sym is) (k.tables i below (ap valid (sym is) ∙ is_valid))
 
   -- a valid word points to a table
-  pub root_kept : (frames : ℕ) → (valid value ≡ true → IsPointer value root frames) → IsPageMap mem root frames
+  pub root_kept : (frames : ℕ) → (valid value ≡ true → IsPointer value root frames)
+      → IsPageMap mem root frames
       → IsPageMap (written mem root place value) root frames
   root_kept frames given k = record {
     in_memory = k.in_memory;
@@ -164,7 +170,8 @@ module _ (mem : Mem) (root place value : ℕ) where
         let no : IsNoTable mem root (ppn value) = given (ap valid (sym i_is) ∙ i_valid) in
         no.unnamed j j_below (ap valid (sym j_is) ∙ j_valid) (ap ppn (sym j_is) ∙ sym e ∙ ap ppn i_is)
 
-    one_place : (i j : ℕ) → i < 1024 → j < 1024 → RootAt mem root place value i → RootAt mem root place value j
+    one_place : (i j : ℕ) → i < 1024 → j < 1024 → RootAt mem root place value i
+        → RootAt mem root place value j
         → valid (new i) ≡ true → valid (new j) ≡ true → ppn (new i) ≡ ppn (new j) → i ≡ j
     one_place i j i_below j_below (here i_at i_is) (here j_at j_is) i_valid j_valid e = i_at ∙ sym j_at
     one_place i j i_below j_below (here i_at i_is) (there j_at j_is) i_valid j_valid e =

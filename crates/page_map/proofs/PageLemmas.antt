@@ -49,12 +49,15 @@ module _ (mem : Mem) (root frames va value : ℕ) (k : IsPageMap mem root frames
   pub ends_at : (at : ℕ) (access : Access) → at / 4096 ≡ va / 4096
       → (walk (written mem (table_of mem root va) (vpn_0 va) value) frames root at access).result ≡ last_level frames access value
   ends_at at access same =
-      by_table (written mem (table_of mem root va) (vpn_0 va) value) frames root at access k.in_memory (points_in at same) (table_in at same)
+      by_table (written mem (table_of mem root va) (vpn_0 va) value) frames root at access k.in_memory
+      (points_in at same) (table_in at same)
       ∙ ap (last_level frames access) (second_in at same)
 
   -- an address of another page has another entry
-  other_entry : (at : ℕ) → TablesOnce mem root → at < 2 ^ 32 → va < 2 ^ 32 → at / 4096 ≢ va / 4096 → has_table mem root at ≡ true
-      → word (written mem (table_of mem root va) (vpn_0 va) value) (table_of mem root at) (vpn_0 at) ≡ word mem (table_of mem root at) (vpn_0 at)
+  other_entry : (at : ℕ) → TablesOnce mem root → at < 2 ^ 32 → va < 2 ^ 32 → at / 4096 ≢ va / 4096
+      → has_table mem root at ≡ true
+      → word (written mem (table_of mem root va) (vpn_0 va) value) (table_of mem root at) (vpn_0 at)
+      ≡ word mem (table_of mem root at) (vpn_0 at)
   other_entry at o at_fits fits apart at_table = elim (cases_eq (vpn_1 at) (vpn_1 va)) [
     | inl region ↦
         let same_table : table_of mem root at ≡ table_of mem root va = ap (λ (i : ℕ). ppn (word mem root i)) region in
@@ -66,7 +69,8 @@ module _ (mem : Mem) (root frames va value : ℕ) (k : IsPageMap mem root frames
         (λ e. region (o.once (vpn_1 at) (vpn_1 va) (vpn_1-below at) (vpn_1-below va) at_table table e))
   ]
 
-  pub page_elsewhere : TablesOnce mem root → SameElsewhere 4096 va mem (written mem (table_of mem root va) (vpn_0 va) value) frames root
+  pub page_elsewhere : TablesOnce mem root
+      → SameElsewhere 4096 va mem (written mem (table_of mem root va) (vpn_0 va) value) frames root
   page_elsewhere o = record {
     each = λ at access at_fits fits apart.
         let new : Mem = written mem (table_of mem root va) (vpn_0 va) value in
@@ -80,7 +84,8 @@ module _ (mem : Mem) (root frames va value : ℕ) (k : IsPageMap mem root frames
         ];
   }
 
-  pub cleared_fault : value ≡ 0 → FaultsIn 4096 va (written mem (table_of mem root va) (vpn_0 va) value) frames root
+  pub cleared_fault : value ≡ 0
+      → FaultsIn 4096 va (written mem (table_of mem root va) (vpn_0 va) value) frames root
   cleared_fault zero = record {
     each = λ at access same. ends_at at access same ∙ last_invalid frames access value (ap valid zero ∙ valid-zero);
   }
@@ -115,6 +120,7 @@ module _ (mem : Mem) (root frames va frame rights at : ℕ) (access : Access) (c
         in_table = table_in mem root frames va (leaf_word frame rights) can.tables has at same;
         allowed = subst (Allows access) (sym second) (allows-leaf frame rights access can.rights_are_good given);
       } in
-      let named : ppn (second_entry (mapped mem root va frame rights) root at) ≡ frame = ap ppn second ∙ ppn-leaf frame rights can.rights_are_good in
+      let named : ppn (second_entry (mapped mem root va frame rights) root at) ≡ frame =
+      ap ppn second ∙ ppn-leaf frame rights can.rights_are_good in
       (leaf_in_words (mapped mem root va frame rights) frames root at access (leaf_word frame rights)).1
       (small in_page (subst (λ (f : ℕ). f < frames) (sym named) can.in_memory) (sym second))

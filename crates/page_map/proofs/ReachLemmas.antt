@@ -7,7 +7,8 @@ use Rattle.page_map.specs.Tables.{IsPointer, IsPageMap, IsBlank, has_table, tabl
 use Rattle.page_map.specs.Reached.{leaf_at, TablesIn, PagesIn, ReachesIn, IsApart, IsSealed, SameTables}
 use Rattle.page_map.proofs.KeptLemmas.{at_write, root_stays, RootAt, here, there, root_at, new_root, not_valid, none_valid}
 
-pub weaker : (P Q : ℕ → Type 0) → ((f : ℕ) → P f → Q f) → (mem : Mem) (root : ℕ) → PagesIn P mem root → PagesIn Q mem root
+pub weaker : (P Q : ℕ → Type 0) → ((f : ℕ) → P f → Q f) → (mem : Mem) (root : ℕ) → PagesIn P mem root
+    → PagesIn Q mem root
 weaker P Q f mem root p = record { each = λ i j i_below j_below i_valid j_valid. f _ (p.each i j i_below j_below i_valid j_valid) }
 
 -- pages stay apart from the tables, where each frame that was no table is none
@@ -89,7 +90,8 @@ module _ (mem : Mem) (root frames place value : ℕ) (k : IsPageMap mem root fra
         ∙ word-written_frame mem root place value (ppn (word mem root i)) j old.apart in
         subst (λ (w : ℕ). pool (ppn w)) (sym same) (p.each i j i_below j_below old_valid (ap valid (sym same) ∙ j_valid))
 
-    pub root_pages : (pool : ℕ → Type 0) → PagesIn pool mem root → PagesIn pool (written mem root place value) root
+    pub root_pages : (pool : ℕ → Type 0) → PagesIn pool mem root
+        → PagesIn pool (written mem root place value) root
     root_pages pool p = record {
       each = λ i j i_below j_below. root_page pool p i j i_below j_below (root_at mem root place value i);
     }

@@ -23,7 +23,8 @@ module _ (m : Mem) (root frames : ℕ) (k : IsPageMap m root frames) (va : ℕ) 
   points : has_table m root va ≡ true → Points (first_entry m root va)
   points table = pointer-points (first_entry m root va) root frames (pointer_at m root frames va k table)
 
-  read_in : (pool : ℕ → Type 0) (table index : ℕ) → index < 1024 → pool table → pool (entry_address table index / 4096)
+  read_in : (pool : ℕ → Type 0) (table index : ℕ) → index < 1024 → pool table
+      → pool (entry_address table index / 4096)
   read_in pool table index below in_pool = subst pool (sym (entry_frame table index below)) in_pool
 
   -- it reads the root and the tables alone
@@ -49,7 +50,8 @@ module _ (m : Mem) (root frames : ℕ) (k : IsPageMap m root frames) (va : ℕ) 
   no_big_page : {A : Type 0} → InBigPage m frames root va access → A
   no_big_page b = absurd (true≢false (sym b.allowed.is_user ∙ (points b.allowed.is_valid).no_user))
 
-  page_of_leaf : (pool : ℕ → Type 0) → PagesIn pool m root → (leaf : ℕ) → HasLeaf m frames root va access leaf → pool (ppn leaf)
+  page_of_leaf : (pool : ℕ → Type 0) → PagesIn pool m root → (leaf : ℕ) → HasLeaf m frames root va access leaf
+      → pool (ppn leaf)
   page_of_leaf pool p leaf (big b within is) = no_big_page b
   page_of_leaf pool p leaf (small q within is) =
       subst (λ (w : ℕ). pool (ppn w)) (sym is)
@@ -72,5 +74,6 @@ module _ (m : Mem) (root frames : ℕ) (k : IsPageMap m root frames) (va : ℕ) 
       absurd (omega arith)
 
   -- within memory
-  pub walk_inside : PagesIn (λ page. page < frames) m root → (walk m frames root va access).result ≢ Err fault.Access
+  pub walk_inside : PagesIn (λ page. page < frames) m root
+      → (walk m frames root va access).result ≢ Err fault.Access
   walk_inside p e = leaves_not p ((outside_in_words m frames root va access).0 e)

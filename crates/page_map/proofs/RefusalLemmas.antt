@@ -12,16 +12,19 @@ module _ (mem : Mem) (root va : ℕ) where
   unfolding map_refusal
   map_unaligned apart = rw (ne_eqb (va % 4096) 0 apart)
 
-  pub map_taken : va % 4096 ≡ 0 → valid (first_entry mem root va) ≡ true → valid (second_entry mem root va) ≡ true
+  pub map_taken : va % 4096 ≡ 0 → valid (first_entry mem root va) ≡ true
+      → valid (second_entry mem root va) ≡ true
       → map_refusal mem root va ≡ Some refusal.Mapped
   unfolding map_refusal
   map_taken aligned table page = rw (eq-eqb (va % 4096) 0 aligned, table, page)
 
-  pub map_no_table : va % 4096 ≡ 0 → valid (first_entry mem root va) ≡ false → map_refusal mem root va ≡ Some refusal.NoTable
+  pub map_no_table : va % 4096 ≡ 0 → valid (first_entry mem root va) ≡ false
+      → map_refusal mem root va ≡ Some refusal.NoTable
   unfolding map_refusal
   map_no_table aligned table = rw (eq-eqb (va % 4096) 0 aligned, table)
 
-  pub map_free : va % 4096 ≡ 0 → valid (first_entry mem root va) ≡ true → valid (second_entry mem root va) ≡ false
+  pub map_free : va % 4096 ≡ 0 → valid (first_entry mem root va) ≡ true
+      → valid (second_entry mem root va) ≡ false
       → map_refusal mem root va ≡ None
   unfolding map_refusal
   map_free aligned table page = rw (eq-eqb (va % 4096) 0 aligned, table, page)
@@ -30,10 +33,12 @@ module _ (mem : Mem) (root va : ℕ) where
   unfolding install_refusal
   install_unaligned apart = rw (ne_eqb (va % 4194304) 0 apart)
 
-  pub install_taken : va % 4194304 ≡ 0 → valid (first_entry mem root va) ≡ true → install_refusal mem root va ≡ Some refusal.Mapped
+  pub install_taken : va % 4194304 ≡ 0 → valid (first_entry mem root va) ≡ true
+      → install_refusal mem root va ≡ Some refusal.Mapped
   unfolding install_refusal
   install_taken aligned table = rw (eq-eqb (va % 4194304) 0 aligned, table)
 
-  pub install_free : va % 4194304 ≡ 0 → valid (first_entry mem root va) ≡ false → install_refusal mem root va ≡ None
+  pub install_free : va % 4194304 ≡ 0 → valid (first_entry mem root va) ≡ false
+      → install_refusal mem root va ≡ None
   unfolding install_refusal
   install_free aligned table = rw (eq-eqb (va % 4194304) 0 aligned, table)

@@ -45,12 +45,14 @@ module _ (mem : Mem) (root frames va value : ℕ) (k : IsPageMap mem root frames
     each = λ at access at_fits fits apart. elsewhere at access (other_region at va at_fits fits apart);
   }
 
-  pub first_is : (at : ℕ) → vpn_1 at ≡ vpn_1 va → first_entry (written mem root (vpn_1 va) value) root at ≡ value
+  pub first_is : (at : ℕ) → vpn_1 at ≡ vpn_1 va
+      → first_entry (written mem root (vpn_1 va) value) root at ≡ value
   first_is at same =
       ap (λ (i : ℕ). word (written mem root (vpn_1 va) value) root i) same ∙ word-written_same mem root (vpn_1 va) value
 
 module _ (mem : Mem) (root frames va : ℕ) where
-  pub table_there : (frame : ℕ) → IsPageMap mem root frames → has_table (installed mem root va frame) root va ≡ true
+  pub table_there : (frame : ℕ) → IsPageMap mem root frames
+      → has_table (installed mem root va frame) root va ≡ true
   table_there frame k =
       let p : Points (table_word frame) = points-table frame in
       ap valid (first_is mem root frames va (table_word frame) k va refl) ∙ p.is_valid
@@ -58,14 +60,16 @@ module _ (mem : Mem) (root frames va : ℕ) where
   pub table_gone : IsPageMap mem root frames → has_table (uninstalled mem root va) root va ≡ false
   table_gone k = not_valid _ (first_is mem root frames va 0 k va refl)
 
-  pub uninstalled_fault : IsPageMap mem root frames → FaultsIn 4194304 va (uninstalled mem root va) frames root
+  pub uninstalled_fault : IsPageMap mem root frames
+      → FaultsIn 4194304 va (uninstalled mem root va) frames root
   uninstalled_fault k = record {
     each = λ at access same.
         ap (λ (w : Walk). w.result) (no_entry (uninstalled mem root va) frames root at access k.in_memory
         (not_valid _ (first_is mem root frames va 0 k at (region_is at va same))));
   }
 
-  blank_fault : (frame : ℕ) → CanInstall mem root frames va frame → (at : ℕ) (access : Access) → vpn_1 at ≡ vpn_1 va
+  blank_fault : (frame : ℕ) → CanInstall mem root frames va frame → (at : ℕ) (access : Access)
+      → vpn_1 at ≡ vpn_1 va
       → (walk (installed mem root va frame) frames root at access).result ≡ Err fault.Page
   blank_fault frame can at access same =
       let new : Mem = installed mem root va frame in
@@ -79,7 +83,8 @@ module _ (mem : Mem) (root frames va : ℕ) where
       (subst (λ (f : ℕ). f < frames) (sym named) can.in_memory)
       ∙ last_invalid frames access (second_entry new root at) (not_valid _ second)
 
-  pub installed_fault : (frame : ℕ) → CanInstall mem root frames va frame → FaultsIn 4194304 va (installed mem root va frame) frames root
+  pub installed_fault : (frame : ℕ) → CanInstall mem root frames va frame
+      → FaultsIn 4194304 va (installed mem root va frame) frames root
   installed_fault frame can = record { each = λ at access same. blank_fault frame can at access (region_is at va same) }
 
   pub installed_same : (frame : ℕ) → CanInstall mem root frames va frame → (at : ℕ) (access : Access)

@@ -21,7 +21,8 @@ reserved-invalid true r w e = absurd (cc)
 invalid : (entry : ℕ) → valid entry ≡ false → is_reserved entry ≡ true
 invalid entry e = reserved-invalid (valid entry) (readable entry) (writable entry) e
 
-pub last_invalid : (frames : ℕ) (access : Access) (entry : ℕ) → valid entry ≡ false → last_level frames access entry ≡ Err fault.Page
+pub last_invalid : (frames : ℕ) (access : Access) (entry : ℕ) → valid entry ≡ false
+    → last_level frames access entry ≡ Err fault.Page
 unfolding last_level
 last_invalid frames access entry e = rw (invalid entry e)
 
@@ -43,7 +44,14 @@ module _ (mem : Mem) (frames root va : ℕ) (access : Access) where
       → (walk mem frames root va access).result ≡ last_level frames access (second_entry mem root va)
   unfolding walk from_entry from_table first_level
   by_table in_root p in_table =
-      rw (lt-ltb root frames in_root, pointer-reserved _ p, pointer-leaf _ p, pointer-clean _ p, lt-ltb (ppn (first_entry mem root va)) frames in_table)
+      rw (
+        lt-ltb root frames in_root,
+        pointer-reserved _ p,
+        pointer-leaf _ p,
+        pointer-clean _ p,
+        lt-ltb
+            (ppn (first_entry mem root va)) frames in_table,
+      )
 
   -- a walk at an entry of the root that isn't valid
   pub no_entry : root < frames → valid (first_entry mem root va) ≡ false
@@ -52,7 +60,8 @@ module _ (mem : Mem) (frames root va : ℕ) (access : Access) where
   no_entry in_root e = rw (lt-ltb root frames in_root, invalid (first_entry mem root va) e)
 
 -- from equal entries on
-table_same : (m n : Mem) (frames va : ℕ) (access : Access) (at table : ℕ) → word n table (vpn_0 va) ≡ word m table (vpn_0 va)
+table_same : (m n : Mem) (frames va : ℕ) (access : Access) (at table : ℕ)
+    → word n table (vpn_0 va) ≡ word m table (vpn_0 va)
     → from_table n frames va access at table ≡ from_table m frames va access at table
 unfolding from_table
 table_same m n frames va access at table same = rw (same)
@@ -96,13 +105,15 @@ pub vpn_0-below : (va : ℕ) → vpn_0 va < 1024
 unfolding vpn_0
 vpn_0-below va = omega arith
 
-pub other_place : (at va : ℕ) → at < 2 ^ 32 → va < 2 ^ 32 → at / 4096 ≢ va / 4096 → vpn_1 at ≡ vpn_1 va → vpn_0 at ≢ vpn_0 va
+pub other_place : (at va : ℕ) → at < 2 ^ 32 → va < 2 ^ 32 → at / 4096 ≢ va / 4096 → vpn_1 at ≡ vpn_1 va
+    → vpn_0 at ≢ vpn_0 va
 unfolding vpn_0 vpn_1
 other_place at va at_fits fits apart region place = apart (omega arith)
 
 -- ---- page tables as they were
 
-pub walk_by_tables : (old new : Mem) (frames root va : ℕ) (access : Access) → root < frames → SameTables old new root
+pub walk_by_tables : (old new : Mem) (frames root va : ℕ) (access : Access) → root < frames
+    → SameTables old new root
     → walk new frames root va access ≡ walk old frames root va access
 walk_by_tables old new frames root va access in_root same =
     let first : first_entry new root va ≡ first_entry old root va = same.in_root (vpn_1 va) (vpn_1-below va) in

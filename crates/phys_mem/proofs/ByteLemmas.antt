@@ -17,10 +17,12 @@ unfolding with_byte_in
 bytes-with_byte_in word zero byte within fits = bytes_of_number _ _ _ _ (omega arith) (omega arith) (omega arith) (omega arith)
 bytes-with_byte_in word (suc zero) byte within fits = bytes_of_number _ _ _ _ (omega arith) (omega arith) (omega arith) (omega arith)
 bytes-with_byte_in word (suc (suc zero)) byte within fits = bytes_of_number _ _ _ _ (omega arith) (omega arith) (omega arith) (omega arith)
-bytes-with_byte_in word (suc (suc (suc zero))) byte within fits = bytes_of_number _ _ _ _ (omega arith) (omega arith) (omega arith) (omega arith)
+bytes-with_byte_in word (suc (suc (suc zero))) byte within fits =
+    bytes_of_number _ _ _ _ (omega arith) (omega arith) (omega arith) (omega arith)
 bytes-with_byte_in word (suc (suc (suc (suc place)))) byte within fits = absurd (omega arith)
 
-pub byte_in-with_same : (word place byte : ℕ) → place < 4 → byte < 256 → byte_in (with_byte_in word place byte) place ≡ byte
+pub byte_in-with_same : (word place byte : ℕ) → place < 4 → byte < 256
+    → byte_in (with_byte_in word place byte) place ≡ byte
 unfolding byte_in
 byte_in-with_same word place byte within fits =
     ap (λ (bytes : List ℕ). slice_index bytes place) (bytes-with_byte_in word place byte within fits)
@@ -53,14 +55,17 @@ half_in-with_same word place half (inr high) fits =
     subst (λ (p : ℕ). little_number 2 (drop p (little_bytes 4 (with_half_in word p half))) ≡ half) (sym high)
     (ap (λ (bytes : List ℕ). little_number 2 (drop 2 bytes)) (high_half word half fits) ∙ omega arith)
 
-pub byte_in-with_half : (word place half other : ℕ) → (place ≡ 0) ⊎ (place ≡ 2) → half < 2 ^ 16 → other < 4 → other / 2 ≢ place / 2
+pub byte_in-with_half : (word place half other : ℕ) → (place ≡ 0) ⊎ (place ≡ 2) → half < 2 ^ 16 → other < 4
+    → other / 2 ≢ place / 2
     → byte_in (with_half_in word place half) other ≡ byte_in word other
 unfolding byte_in
 byte_in-with_half word place half other (inl low) fits within apart =
     subst (λ (p : ℕ). slice_index (little_bytes 4 (with_half_in word p half)) other ≡ slice_index (little_bytes 4 word) other) (sym low)
     (ap (λ (bytes : List ℕ). slice_index bytes other) (low_half word half fits) ∙ same other (omega (arith, low)) within)
   where
-    same : (k : ℕ) → 2 ≤ k → k < 4 → slice_index (little_bytes 2 half ++ drop 2 (little_bytes 4 word)) k ≡ slice_index (little_bytes 4 word) k
+    same : (k : ℕ) → 2 ≤ k → k < 4
+        → slice_index (little_bytes 2 half ++ drop 2 (little_bytes 4 word)) k
+        ≡ slice_index (little_bytes 4 word) k
     same zero above below = absurd (omega arith)
     same (suc zero) above below = absurd (omega arith)
     same (suc (suc zero)) above below = refl
@@ -70,7 +75,9 @@ byte_in-with_half word place half other (inr high) fits within apart =
     subst (λ (p : ℕ). slice_index (little_bytes 4 (with_half_in word p half)) other ≡ slice_index (little_bytes 4 word) other) (sym high)
     (ap (λ (bytes : List ℕ). slice_index bytes other) (high_half word half fits) ∙ same other (omega (arith, high)))
   where
-    same : (k : ℕ) → k < 2 → slice_index (take 2 (little_bytes 4 word) ++ little_bytes 2 half) k ≡ slice_index (little_bytes 4 word) k
+    same : (k : ℕ) → k < 2
+        → slice_index (take 2 (little_bytes 4 word) ++ little_bytes 2 half) k
+        ≡ slice_index (little_bytes 4 word) k
     same zero below = refl
     same (suc zero) below = refl
     same (suc (suc k)) below = absurd (omega arith)
@@ -88,7 +95,8 @@ pub other_bytes : (old new : Contents) (at byte : ℕ) → byte < 256
 other_bytes old new at byte fits stored words address apart = elim (cases_eq (address / 4) (at / 4)) [
   | inl same ↦
       let place : address % 4 ≢ at % 4 = λ e. apart (omega (arith, e, same)) in
-      let there : word_at new address ≡ with_byte_in (word_at old at) (at % 4) byte = ap (λ (k : ℕ). slice_index new.words k) same ∙ stored in
+      let there : word_at new address ≡ with_byte_in (word_at old at) (at % 4) byte =
+      ap (λ (k : ℕ). slice_index new.words k) same ∙ stored in
       let here : word_at old address ≡ word_at old at = ap (λ (k : ℕ). slice_index old.words k) same in
       ap (λ (word : ℕ). byte_in word (address % 4)) there
       ∙ byte_in-with_other (word_at old at) (at % 4) byte (address % 4) (omega arith) fits place
@@ -103,7 +111,8 @@ pub other_halves : (old new : Contents) (at half : ℕ) → at % 2 ≡ 0 → hal
 other_halves old new at half aligned fits stored words address apart = elim (cases_eq (address / 4) (at / 4)) [
   | inl same ↦
       let place : address % 4 / 2 ≢ at % 4 / 2 = λ e. apart (omega (arith, e, same)) in
-      let there : word_at new address ≡ with_half_in (word_at old at) (at % 4) half = ap (λ (k : ℕ). slice_index new.words k) same ∙ stored in
+      let there : word_at new address ≡ with_half_in (word_at old at) (at % 4) half =
+      ap (λ (k : ℕ). slice_index new.words k) same ∙ stored in
       let here : word_at old address ≡ word_at old at = ap (λ (k : ℕ). slice_index old.words k) same in
       ap (λ (word : ℕ). byte_in word (address % 4)) there
       ∙ byte_in-with_half (word_at old at) (at % 4) half (address % 4) (half_place at aligned) fits (omega arith) place

@@ -27,12 +27,14 @@ pub index-zeros : (frames i : ℕ) → slice_index (zeros frames) i ≡ 0
 unfolding zeros
 index-zeros frames i = index-replicate (1024 * frames) i
 
-zeroed_words-is : (words : List ℕ) (frame : ℕ) → zeroed_words words frame ≡ put_mid (1024 * frame) 1024 words (zeros 1)
+zeroed_words-is : (words : List ℕ) (frame : ℕ)
+    → zeroed_words words frame ≡ put_mid (1024 * frame) 1024 words (zeros 1)
 unfolding zeroed_words
 zeroed_words-is words frame =
     ap (λ (rest : List ℕ). take (1024 * frame) words ++ (zeros 1 ++ rest)) (sym (drop-drop 1024 (1024 * frame) words))
 
-pub length-zeroed_words : (words : List ℕ) (frame : ℕ) → 1024 * frame + 1024 ≤ length words → length (zeroed_words words frame) ≡ length words
+pub length-zeroed_words : (words : List ℕ) (frame : ℕ) → 1024 * frame + 1024 ≤ length words
+    → length (zeroed_words words frame) ≡ length words
 unfolding zeroed_words
 length-zeroed_words words frame within =
     simp (length-append, length-take, length-drop) (omega (arith, length-zeros 1))
@@ -45,7 +47,8 @@ frame_words-zeroed_same memory frame within =
     ∙ between-put_mid (1024 * frame) 1024 memory.words (zeros 1) (1024 * frame + 1024) (omega arith) (omega (arith, length-zeros 1))
 
 -- any other
-pub frame_words-zeroed_other : (memory : Contents) (frame other : ℕ) → 1024 * frame + 1024 ≤ length memory.words → other ≢ frame
+pub frame_words-zeroed_other : (memory : Contents) (frame other : ℕ)
+    → 1024 * frame + 1024 ≤ length memory.words → other ≢ frame
     → frame_words (zeroed memory frame) other ≡ frame_words memory other
 frame_words-zeroed_other memory frame other within apart =
     let all = memory.words in
@@ -61,11 +64,13 @@ frame_words-zeroed_other memory frame other within apart =
           ap (take (first + 1024 - first)) (drop-put_mid start 1024 all (zeros 1) first (omega arith) (omega arith) (length-zeros 1))
     ]
 
-pub word_of-zeroed_same : (memory : Contents) (frame i : ℕ) → 1024 * frame + 1024 ≤ length memory.words → word_of (zeroed memory frame) frame i ≡ 0
+pub word_of-zeroed_same : (memory : Contents) (frame i : ℕ) → 1024 * frame + 1024 ≤ length memory.words
+    → word_of (zeroed memory frame) frame i ≡ 0
 word_of-zeroed_same memory frame i within =
     ap (λ (words : List ℕ). slice_index words i) (frame_words-zeroed_same memory frame within) ∙ index-zeros 1 i
 
-pub word_of-zeroed_other : (memory : Contents) (frame other i : ℕ) → 1024 * frame + 1024 ≤ length memory.words → other ≢ frame
+pub word_of-zeroed_other : (memory : Contents) (frame other i : ℕ) → 1024 * frame + 1024 ≤ length memory.words
+    → other ≢ frame
     → word_of (zeroed memory frame) other i ≡ word_of memory other i
 word_of-zeroed_other memory frame other i within apart =
     ap (λ (words : List ℕ). slice_index words i) (frame_words-zeroed_other memory frame other within apart)

@@ -11,8 +11,10 @@ use Rattle.phys_mem.proofs.TimesLemmas.{one, one-same, one-other, times-set, tim
 use Rattle.phys_mem.proofs.SlotLemmas.{marked_slot, length-words_in, index-words_in, index-zeroed_same, index-zeroed_other, by_place}
 
 -- memories of as many frames are one if their words and their marks are
-pub same_contents : (frames frames' : ℕ) (words words' : List ℕ) (marked marked' : List Bool) → frames ≡ frames' → words ≡ words' → marked ≡ marked'
-    → ◌≡◌ {A = Contents} (record { frames = frames; words = words; marked = marked }) (record { frames = frames'; words = words'; marked = marked' })
+pub same_contents : (frames frames' : ℕ) (words words' : List ℕ) (marked marked' : List Bool)
+    → frames ≡ frames' → words ≡ words' → marked ≡ marked'
+    → ◌≡◌ {A = Contents} (record { frames = frames; words = words; marked = marked })
+    (record { frames = frames'; words = words'; marked = marked' })
 same_contents frames frames' words words' marked marked' same same_words same_marks = rw (same, same_words, same_marks)
 
 module _ (slots unused words : List ℕ) (are : AreSlots slots unused words) (frame : ℕ) (within : frame < length slots) where
@@ -23,7 +25,8 @@ module _ (slots unused words : List ℕ) (are : AreSlots slots unused words) (fr
   frame_within : 1024 * frame + 1024 ≤ length (words_in slots words)
   frame_within = omega (arith, within, length-words_in slots words)
 
-  zeroed_at : (i : ℕ) → i < 1024 * length slots → word_in given words i ≡ slice_index (zeroed_words (words_in slots words) frame) i
+  zeroed_at : (i : ℕ) → i < 1024 * length slots
+      → word_in given words i ≡ slice_index (zeroed_words (words_in slots words) frame) i
   zeroed_at i below = elim (cases_eq (i / 1024) frame) [
     | inl same ↦
         let zero : slice_index given (i / 1024) ≡ 0 =
@@ -45,7 +48,14 @@ module _ (slots unused words : List ℕ) (are : AreSlots slots unused words) (fr
   words_in-given =
       let size : length given ≡ length slots = length-set slots frame 0 in
       same_number_lists (words_in given words) (zeroed_words (words_in slots words) frame)
-      (omega (arith, size, length-words_in given words, length-words_in slots words, length-zeroed_words (words_in slots words) frame frame_within))
+      (omega (
+        arith,
+        size,
+        length-words_in given words,
+        length-words_in slots words,
+        length-zeroed_words
+            (words_in slots words) frame frame_within,
+      ))
       (λ i below.
       let below' : i < 1024 * length given = omega (arith, below, length-words_in given words) in
       index-words_in given words i below' ∙ zeroed_at i (omega (arith, below', size)))
@@ -80,7 +90,17 @@ module _ (slots unused words : List ℕ) (are : AreSlots slots unused words) (fr
 
     -- there is room for it among the unused ones
     pub unused_few : length unused < length slots
-    unused_few = omega (arith, apart, times-given 0, one-same 0 0 refl, are.made, are.enough, times-le-length 0 given, length-set slots frame 0)
+    unused_few =
+        omega (
+          arith,
+          apart,
+          times-given 0,
+          one-same 0 0 refl,
+          are.made,
+          are.enough,
+          times-le-length 0 given,
+          length-set slots frame 0,
+        )
 
     pub given_slots : AreSlots given (unused ++ slot ∷ []) words
     given_slots =
@@ -97,7 +117,8 @@ module _ (slots unused words : List ℕ) (are : AreSlots slots unused words) (fr
         }
 
 -- each frame that has the mark reads zero
-pub marked_words : (slots unused words : List ℕ) (memory : Contents) (frame : ℕ) → AreSlots slots unused words → held slots words ≡ memory
+pub marked_words : (slots unused words : List ℕ) (memory : Contents) (frame : ℕ) → AreSlots slots unused words
+    → held slots words ≡ memory
     → is_marked memory frame ≡ true → frame_words memory frame ≡ zeros 1
 marked_words slots unused words memory frame are is marked = elim (cases_lt frame (length slots)) [
   | inl within ↦

@@ -25,9 +25,13 @@ marked-zeros zero = refl
 marked-zeros (suc count) = ap (λ (marks : List Bool). true ∷ marks) (marked-zeros count)
 
 -- words that grow from none to those of a slot
-pub first_slot : (none words : List ℕ) (size : ℕ) → none ≡ [] → size ≡ 0 → words ≡ take 1024 none ++ replicate (1024 - size) 0 → words ≡ replicate 1024 0
+pub first_slot : (none words : List ℕ) (size : ℕ) → none ≡ [] → size ≡ 0
+    → words ≡ take 1024 none ++ replicate (1024 - size) 0 → words ≡ replicate 1024 0
 first_slot none words size is_none is_zero is =
-    let front : take 1024 none ≡ [] = take_all 1024 none (let empty : length none ≡ 0 = ap (λ (xs : List ℕ). length xs) is_none in omega (arith, empty)) ∙ is_none in
+    let front : take 1024 none ≡ [] =
+    take_all 1024 none
+    (let empty : length none ≡ 0 = ap (λ (xs : List ℕ). length xs) is_none in omega (arith, empty))
+    ∙ is_none in
     is ∙ ap (λ (xs : List ℕ). xs ++ replicate (1024 - size) 0) front ∙ ap (λ (n : ℕ). replicate (1024 - n) 0) is_zero
 
 none_made : (slot : ℕ) → 0 < slot → once_made 1 slot ≡ 0

@@ -16,26 +16,32 @@ pub length-words_in : (slots words : List ℕ) → length (words_in slots words)
 unfolding words_in
 length-words_in slots words = length-map-range_with_len (word_in slots words) 0 (1024 * length slots)
 
-pub index-words_in : (slots words : List ℕ) (i : ℕ) → i < 1024 * length slots → slice_index (words_in slots words) i ≡ word_in slots words i
+pub index-words_in : (slots words : List ℕ) (i : ℕ) → i < 1024 * length slots
+    → slice_index (words_in slots words) i ≡ word_in slots words i
 unfolding words_in
 index-words_in slots words i within = get_or-map-range_with_len (word_in slots words) 0 (1024 * length slots) i i 0 within (zero-add i)
 
-pub frames_size : (slots words : List ℕ) (memory : Contents) → held slots words ≡ memory → length memory.words ≡ 1024 * memory.frames
+pub frames_size : (slots words : List ℕ) (memory : Contents) → held slots words ≡ memory
+    → length memory.words ≡ 1024 * memory.frames
 frames_size slots words memory is =
     subst (λ (all : Contents). length all.words ≡ 1024 * all.frames) is (length-words_in slots words)
 
-pub frames_within : (slots words : List ℕ) (memory : Contents) (frame : ℕ) → held slots words ≡ memory → frame < memory.frames → frame < length slots
+pub frames_within : (slots words : List ℕ) (memory : Contents) (frame : ℕ) → held slots words ≡ memory
+    → frame < memory.frames → frame < length slots
 frames_within slots words memory frame is within = subst (λ (all : Contents). frame < all.frames) (sym is) within
 
 -- a read within a list is by no default
-pub read_is : (numbers : List ℕ) (i x : ℕ) → i < length numbers → x ≡ slice_index_or numbers i x → x ≡ slice_index numbers i
+pub read_is : (numbers : List ℕ) (i x : ℕ) → i < length numbers → x ≡ slice_index_or numbers i x
+    → x ≡ slice_index numbers i
 read_is numbers i x within is = is ∙ get_or_default numbers i x 0 within
 
-pub is_marked-slot : (slots words : List ℕ) (frame : ℕ) → frame < length slots → is_marked (held slots words) frame ≡ is_zero_slot (slice_index slots frame)
+pub is_marked-slot : (slots words : List ℕ) (frame : ℕ) → frame < length slots
+    → is_marked (held slots words) frame ≡ is_zero_slot (slice_index slots frame)
 is_marked-slot slots words frame within = get_or-map is_zero_slot slots frame 0 false within
 
 -- a frame has the mark as far as its slot is 0
-pub marked_slot : (slots words : List ℕ) (memory : Contents) (frame : ℕ) → held slots words ≡ memory → frame < length slots
+pub marked_slot : (slots words : List ℕ) (memory : Contents) (frame : ℕ) → held slots words ≡ memory
+    → frame < length slots
     → is_marked memory frame ≡ true → slice_index slots frame ≡ 0
 marked_slot slots words memory frame is within marked =
     let test : is_zero_slot (slice_index slots frame) ≡ true =
@@ -43,7 +49,8 @@ marked_slot slots words memory frame is within marked =
     in
     grind (arith, nat_tests, test)
 
-pub unmarked_slot : (slots words : List ℕ) (memory : Contents) (frame : ℕ) → held slots words ≡ memory → frame < length slots
+pub unmarked_slot : (slots words : List ℕ) (memory : Contents) (frame : ℕ) → held slots words ≡ memory
+    → frame < length slots
     → is_marked memory frame ≡ false → 0 < slice_index slots frame
 unmarked_slot slots words memory frame is within marked =
     let test : is_zero_slot (slice_index slots frame) ≡ false =
@@ -62,7 +69,8 @@ index-zeroed_same words frame place within in_frame =
     sym (word_of-index (only_words (zeroed_words words frame)) frame place in_frame)
     ∙ word_of-zeroed_same (only_words words) frame place within
 
-pub index-zeroed_other : (words : List ℕ) (frame other place : ℕ) → 1024 * frame + 1024 ≤ length words → place < 1024 → other ≢ frame
+pub index-zeroed_other : (words : List ℕ) (frame other place : ℕ) → 1024 * frame + 1024 ≤ length words
+    → place < 1024 → other ≢ frame
     → slice_index (zeroed_words words frame) (1024 * other + place) ≡ slice_index words (1024 * other + place)
 index-zeroed_other words frame other place within in_frame apart =
     sym (word_of-index (only_words (zeroed_words words frame)) other place in_frame)
@@ -70,7 +78,8 @@ index-zeroed_other words frame other place within in_frame apart =
     ∙ word_of-index (only_words words) other place in_frame
 
 -- an index by its frame and its place
-pub by_place : (words : List ℕ) (i : ℕ) → slice_index words i ≡ slice_index words (1024 * (i / 1024) + i % 1024)
+pub by_place : (words : List ℕ) (i : ℕ)
+    → slice_index words i ≡ slice_index words (1024 * (i / 1024) + i % 1024)
 by_place words i = ap (λ (k : ℕ). slice_index words k) (omega arith)
 
 -- ---- slots of a memory
@@ -95,7 +104,8 @@ module _ (slots unused words : List ℕ) (are : AreSlots slots unused words) whe
   ]
 
   -- no other frame has the slot of a frame without the mark
-  pub own_alone : (frame other : ℕ) → frame < length slots → other < length slots → 0 < slice_index slots frame → other ≢ frame
+  pub own_alone : (frame other : ℕ) → frame < length slots → other < length slots
+      → 0 < slice_index slots frame → other ≢ frame
       → slice_index slots other ≢ slice_index slots frame
   own_alone frame other within within' own apart =
       let slot = slice_index slots frame in
@@ -103,7 +113,8 @@ module _ (slots unused words : List ℕ) (are : AreSlots slots unused words) whe
       times-apart slot slots frame other once within within' apart refl
 
   -- a frame with the mark reads zero
-  pub marked_zero : (frame place : ℕ) → slice_index slots frame ≡ 0 → place < 1024 → slice_index words (1024 * slice_index slots frame + place) ≡ 0
+  pub marked_zero : (frame place : ℕ) → slice_index slots frame ≡ 0 → place < 1024
+      → slice_index words (1024 * slice_index slots frame + place) ≡ 0
   marked_zero frame place marked in_frame =
       ap (λ (k : ℕ). slice_index words k) (omega (arith, marked)) ∙ are.zero place in_frame
 
@@ -114,7 +125,9 @@ module _ (slots unused words : List ℕ) (are : AreSlots slots unused words) whe
   slot_words frame within =
       let slot = slice_index slots frame in
       let first = length-between words (1024 * slot) (1024 * slot + 1024) (slot_made frame within) in
-      let second = length-between (words_in slots words) (1024 * frame) (1024 * frame + 1024) (omega (arith, within, length-words_in slots words)) in
+      let second =
+      length-between (words_in slots words) (1024 * frame) (1024 * frame + 1024)
+      (omega (arith, within, length-words_in slots words)) in
       same_number_lists (slice_range words (1024 * slot) (1024 * slot + 1024)) (frame_words (held slots words) frame)
       (omega (arith, first, second))
       (λ place below.
@@ -146,7 +159,8 @@ module _ (slots unused words : List ℕ) (are : AreSlots slots unused words) whe
           let here : 1024 * slice_index slots (i / 1024) + i % 1024 ≡ at = rw (is_frame, is_place) refl in
           ap (λ (k : ℕ). slice_index (slice_set words at word) k) here
           ∙ get_or-set_same words at word 0 at_within
-          ∙ sym (get_or-set_same (words_in slots words) (1024 * frame + place) word 0 (omega (arith, length-words_in slots words, same, below)))
+          ∙ sym (get_or-set_same (words_in slots words) (1024 * frame + place) word 0
+          (omega (arith, length-words_in slots words, same, below)))
           ∙ ap (λ (k : ℕ). slice_index (slice_set (words_in slots words) (1024 * frame + place) word) k) (sym same)
       | inr other ↦
           let apart : 1024 * slice_index slots (i / 1024) + i % 1024 ≢ at = elim (cases_eq (i / 1024) frame) [
@@ -162,7 +176,8 @@ module _ (slots unused words : List ℕ) (are : AreSlots slots unused words) whe
           ∙ sym (get_or-set_other (words_in slots words) (1024 * frame + place) i word 0 other)
     ]
 
-    pub words_in-written : words_in slots (slice_set words at word) ≡ slice_set (words_in slots words) (1024 * frame + place) word
+    pub words_in-written : words_in slots (slice_set words at word)
+        ≡ slice_set (words_in slots words) (1024 * frame + place) word
     words_in-written =
         same_number_lists (words_in slots (slice_set words at word)) (slice_set (words_in slots words) (1024 * frame + place) word)
         (length-words_in slots (slice_set words at word)

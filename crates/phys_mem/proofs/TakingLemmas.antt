@@ -71,12 +71,14 @@ module _ (slots unused words : List ℕ) (are : AreSlots slots unused words) (fr
         index-words_in taken after i (omega (arith, below', size)) ∙ same_at i below' ∙ sym (index-words_in slots words i below'))
 
     -- only the mark goes
-    pub held-taken : held taken after ≡ record (held slots words) { marked = slice_set (held slots words).marked frame false }
+    pub held-taken : held taken after
+        ≡ record (held slots words) { marked = slice_set (held slots words).marked frame false }
     held-taken =
         same_contents (length taken) (length slots) (words_in taken after) (words_in slots words)
         (map is_zero_slot taken) (slice_set (map is_zero_slot slots) frame false)
         (length-set slots frame slot) words_in-taken
-        (map-set is_zero_slot slots frame slot ∙ ap (λ (mark : Bool). slice_set (map is_zero_slot slots) frame mark) (is_zero_slot-own slot own))
+        (map-set is_zero_slot slots frame slot
+        ∙ ap (λ (mark : Bool). slice_set (map is_zero_slot slots) frame mark) (is_zero_slot-own slot own))
 
 -- ---- a slot that was unused
 
@@ -94,7 +96,8 @@ module _ (slots rest words : List ℕ) (slot : ℕ) (are : AreSlots slots (rest 
   pub unused_made : 1024 * slot + 1024 ≤ length words
   unused_made =
       let below : slot < length words / 1024 =
-      once_made-made (length words / 1024) slot (omega (arith, are.once slot unused_own, times-last slot slot rest, one-same slot slot refl))
+      once_made-made (length words / 1024) slot
+      (omega (arith, are.once slot unused_own, times-last slot slot rest, one-same slot slot refl))
       in
       omega (arith, below, are.made)
 

@@ -22,7 +22,8 @@ one-most : (slot other : ℕ) → one slot other ≤ 1
 unfolding one
 one-most slot other = grind (arith, nat_tests)
 
-pub times-first : (slot other : ℕ) (slots : List ℕ) → times slot (other ∷ slots) ≡ one slot other + times slot slots
+pub times-first : (slot other : ℕ) (slots : List ℕ)
+    → times slot (other ∷ slots) ≡ one slot other + times slot slots
 unfolding times one
 times-first slot other slots = grind (arith, nat_tests)
 
@@ -35,27 +36,43 @@ pub times-set : (slot : ℕ) (slots : List ℕ) (i other : ℕ) → i < length s
 times-set slot [] i other within = absurd (omega (arith, within))
 times-set slot (first ∷ slots) zero other within = omega (arith, times-first slot first slots, times-first slot other slots)
 times-set slot (first ∷ slots) (suc i) other within =
-    omega (arith, times-first slot first slots, times-first slot first (slice_set slots i other), times-set slot slots i other (omega arith))
+    omega (
+      arith,
+      times-first slot first slots,
+      times-first slot first (slice_set slots i other),
+      times-set
+          slot slots i other (omega arith),
+    )
 
-pub times-append : (slot : ℕ) (slots others : List ℕ) → times slot (slots ++ others) ≡ times slot slots + times slot others
+pub times-append : (slot : ℕ) (slots others : List ℕ)
+    → times slot (slots ++ others) ≡ times slot slots + times slot others
 times-append slot [] others = omega (arith, times-none_in slot)
 times-append slot (first ∷ slots) others =
     omega (arith, times-first slot first (slots ++ others), times-first slot first slots, times-append slot slots others)
 
-pub times-last : (slot other : ℕ) (slots : List ℕ) → times slot (slots ++ other ∷ []) ≡ times slot slots + one slot other
+pub times-last : (slot other : ℕ) (slots : List ℕ)
+    → times slot (slots ++ other ∷ []) ≡ times slot slots + one slot other
 times-last slot other slots = omega (arith, times-append slot slots (other ∷ []), times-first slot other [], times-none_in slot)
 
-pub times-there : (slot : ℕ) (slots : List ℕ) (i : ℕ) → i < length slots → slice_index slots i ≡ slot → 1 ≤ times slot slots
+pub times-there : (slot : ℕ) (slots : List ℕ) (i : ℕ) → i < length slots → slice_index slots i ≡ slot
+    → 1 ≤ times slot slots
 times-there slot slots i within is =
     omega (arith, times-set slot slots i (suc slot) within, one-same slot (slice_index slots i) is, one-other slot (suc slot) (omega arith))
 
 -- what is there once is at one place
-pub times-apart : (slot : ℕ) (slots : List ℕ) (i j : ℕ) → times slot slots ≤ 1 → i < length slots → j < length slots → j ≢ i
+pub times-apart : (slot : ℕ) (slots : List ℕ) (i j : ℕ) → times slot slots ≤ 1 → i < length slots
+    → j < length slots → j ≢ i
     → slice_index slots i ≡ slot → slice_index slots j ≢ slot
 times-apart slot slots i j once within within' apart is is' =
     let rest : List ℕ = slice_set slots i (suc slot) in
     let left : times slot rest ≡ 0 =
-    omega (arith, once, times-set slot slots i (suc slot) within, one-same slot (slice_index slots i) is, one-other slot (suc slot) (omega arith))
+    omega (
+      arith,
+      once,
+      times-set slot slots i (suc slot) within,
+      one-same slot (slice_index slots i) is,
+      one-other slot (suc slot) (omega arith),
+    )
     in
     let size : length rest ≡ length slots = length-set slots i (suc slot) in
     let there : 1 ≤ times slot rest =
@@ -63,7 +80,8 @@ times-apart slot slots i j once within within' apart is is' =
     in
     omega (arith, left, there)
 
-pub times-none : (slot : ℕ) (slots : List ℕ) (i : ℕ) → times slot slots ≡ 0 → i < length slots → slice_index slots i ≢ slot
+pub times-none : (slot : ℕ) (slots : List ℕ) (i : ℕ) → times slot slots ≡ 0 → i < length slots
+    → slice_index slots i ≢ slot
 times-none slot slots i none within is = omega (arith, none, times-there slot slots i within is)
 
 -- how many marks are set

@@ -37,10 +37,12 @@ with_word memory address word = record memory {
 }
 
 abbrev pub with_byte : Contents → ℕ → ℕ → Contents
-with_byte memory address byte = with_word memory address (with_byte_in (word_at memory address) (address % 4) byte)
+with_byte memory address byte =
+    with_word memory address (with_byte_in (word_at memory address) (address % 4) byte)
 
 abbrev pub with_half : Contents → ℕ → ℕ → Contents
-with_half memory address half = with_word memory address (with_half_in (word_at memory address) (address % 4) half)
+with_half memory address half =
+    with_word memory address (with_half_in (word_at memory address) (address % 4) half)
 
 -- ---- zeros
 

@@ -6,4 +6,5 @@ use Rattle.phys_mem.specs.Mem.{Mem, word}
 -- it has 1,024 words a frame, and in all its frames they are the same
 pub record Holds (memory : Contents) (mem : Mem) : Type 0 where
   pub size : length memory.words ≡ 1024 * memory.frames
-  pub same : (frame place : ℕ) → frame < memory.frames → place < 1024 → word_of memory frame place ≡ word mem frame place
+  pub same : (frame place : ℕ) → frame < memory.frames → place < 1024
+      → word_of memory frame place ≡ word mem frame place

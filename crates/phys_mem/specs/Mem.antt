@@ -41,7 +41,8 @@ pub frame_at-zeroed_same : (mem : Mem) (frame : ℕ) → frame_at (zeroed_frame 
 unfolding frame_at zeroed_frame
 frame_at-zeroed_same mem frame = at-put_same empty mem frame empty
 
-pub frame_at-zeroed_other : (mem : Mem) (frame other : ℕ) → other ≢ frame → frame_at (zeroed_frame mem frame) other ≡ frame_at mem other
+pub frame_at-zeroed_other : (mem : Mem) (frame other : ℕ) → other ≢ frame
+    → frame_at (zeroed_frame mem frame) other ≡ frame_at mem other
 unfolding frame_at zeroed_frame
 frame_at-zeroed_other mem frame other apart = at-put_other empty mem frame other empty apart
 
@@ -49,10 +50,12 @@ pub word-empty : (frame place : ℕ) → word empty frame place ≡ 0
 unfolding word
 word-empty frame place = ap (λ (words : Frame). at 0 words place) (frame_at-empty frame) ∙ at-empty 0 place
 
-pub word-written_same : (mem : Mem) (frame place value : ℕ) → word (written mem frame place value) frame place ≡ value
+pub word-written_same : (mem : Mem) (frame place value : ℕ)
+    → word (written mem frame place value) frame place ≡ value
 unfolding word frame_at written
 word-written_same mem frame place value =
-    ap (λ (words : Frame). at 0 words place) (at-put_same empty mem frame (put (at empty mem frame) place value))
+    ap (λ (words : Frame). at 0 words place)
+    (at-put_same empty mem frame (put (at empty mem frame) place value))
     ∙ at-put_same 0 (at empty mem frame) place value
 
 -- another place of the frame
@@ -60,7 +63,8 @@ pub word-written_place : (mem : Mem) (frame place value other : ℕ) → other �
     → word (written mem frame place value) frame other ≡ word mem frame other
 unfolding word frame_at written
 word-written_place mem frame place value other apart =
-    ap (λ (words : Frame). at 0 words other) (at-put_same empty mem frame (put (at empty mem frame) place value))
+    ap (λ (words : Frame). at 0 words other)
+    (at-put_same empty mem frame (put (at empty mem frame) place value))
     ∙ at-put_other 0 (at empty mem frame) place other value apart
 
 -- another frame
@@ -72,9 +76,11 @@ word-written_frame mem frame place value other i apart =
 
 pub word-zeroed_same : (mem : Mem) (frame i : ℕ) → word (zeroed_frame mem frame) frame i ≡ 0
 unfolding word
-word-zeroed_same mem frame i = ap (λ (words : Frame). at 0 words i) (frame_at-zeroed_same mem frame) ∙ at-empty 0 i
+word-zeroed_same mem frame i =
+    ap (λ (words : Frame). at 0 words i) (frame_at-zeroed_same mem frame) ∙ at-empty 0 i
 
 pub word-zeroed_other : (mem : Mem) (frame other i : ℕ) → other ≢ frame
     → word (zeroed_frame mem frame) other i ≡ word mem other i
 unfolding word
-word-zeroed_other mem frame other i apart = ap (λ (words : Frame). at 0 words i) (frame_at-zeroed_other mem frame other apart)
+word-zeroed_other mem frame other i apart =
+    ap (λ (words : Frame). at 0 words i) (frame_at-zeroed_other mem frame other apart)

@@ -38,7 +38,8 @@ pub record AreSlots (slots unused words : List ℕ) : Type 0 where
   pub few : length slots ≤ 2 ^ 20
   pub zero : (place : ℕ) → place < 1024 → slice_index words place ≡ 0
   pub zero_used : times 0 unused ≡ 0
-  pub once : (slot : ℕ) → 0 < slot → times slot slots + times slot unused ≡ once_made (length words / 1024) slot
+  pub once : (slot : ℕ) → 0 < slot
+      → times slot slots + times slot unused ≡ once_made (length words / 1024) slot
   pub made : length words ≡ 1024 * (1 + (length slots - times 0 slots) + length unused)
   pub enough : length words ≤ 1024 * (1 + length slots)
 

@@ -103,7 +103,8 @@ module _ (ways way : ℕ) (few : ways ≤ 16) (lt : way < ways) where
             | inr other ↦ others v other ∙ marks.each v below ∙ ap one_if (sym (has-to_front_other v way list other))
           ]
 
-  more : (state : ℕ) (list : List ℕ) → Marks ways state list → Marks ways (more_marks state way) (to_front list way)
+  more : (state : ℕ) (list : List ℕ) → Marks ways state list
+      → Marks ways (more_marks state way) (to_front list way)
   more state list marks =
       in_front state (more_marks state way) list (or_lt ways state (own_mark way) marks.small own_small) marks
       (bit_at_set_same w64 state way (omega arith)) (λ v other. bit_at_set_other w64 state way (omega arith) v other)
@@ -158,7 +159,8 @@ module _ (ways way : ℕ) (few : ways ≤ 16) (lt : way < ways) where
   -- ---- a second touch of the way
 
   -- where the way has its mark, a touch adds none
-  again_more : (state : ℕ) (list : List ℕ) → bit_at state way ≡ 1 → Marks ways state list → Marks ways state (to_front list way)
+  again_more : (state : ℕ) (list : List ℕ) → bit_at state way ≡ 1 → Marks ways state list
+      → Marks ways state (to_front list way)
   again_more state list one marks = in_front state state list marks.small marks one (λ v other. refl)
 
   pub again_with : (state : ℕ) (list : List ℕ) → more_marks state way ≢ own_mark ways - 1
@@ -166,7 +168,8 @@ module _ (ways way : ℕ) (few : ways ≤ 16) (lt : way < ways) where
   again_with state list isnt marks =
       kept (more_marks state way) list isnt (again_more (more_marks state way) list (bit_at_set_same w64 state way (omega arith)) marks)
 
-  pub again_alone : (list : List ℕ) → Marks ways (own_mark way) list → Marks ways (own_mark way) (mark ways list way)
+  pub again_alone : (list : List ℕ) → Marks ways (own_mark way) list
+      → Marks ways (own_mark way) (mark ways list way)
   again_alone list marks =
       either (eqb (own_mark way) (2 ^ ways - 1)) (marked_by (own_mark way) list (again_more (own_mark way) list own_bit marks))
     where

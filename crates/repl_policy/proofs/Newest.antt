@@ -19,7 +19,8 @@ last_without way before (next ∷ list) n =
       | inr other ↦ let t : eqb next way ≡ false = grind (arith, nat_tests) in rw t (last_without way next list other)
     ]
 
-last_of_others : (v way before : ℕ) (list : List ℕ) → has (without list way) v ≡ true → last_way before (without list way) ≢ way
+last_of_others : (v way before : ℕ) (list : List ℕ) → has (without list way) v ≡ true
+    → last_way before (without list way) ≢ way
 last_of_others v way before [] listed = absurd (false≢true listed)
 last_of_others v way before (next ∷ list) listed =
     elim (cases_eq next way) [
@@ -30,12 +31,14 @@ last_of_others v way before (next ∷ list) listed =
       | inr other ↦ let t : eqb next way ≡ false = grind (arith, nat_tests) in rw t (last_without way next list other)
     ]
 
-either : (least : Option ℕ) (listed : Bool) (n w : ℕ) → option_or least (cond listed None (Some n)) ≡ Some w → (least ≡ Some w) ⊎ ((listed ≡ false) × (n ≡ w))
+either : (least : Option ℕ) (listed : Bool) (n w : ℕ) → option_or least (cond listed None (Some n)) ≡ Some w
+    → (least ≡ Some w) ⊎ ((listed ≡ false) × (n ≡ w))
 either None true n w e = absurd (let x : None ≡ Some w = e in cc)
 either None false n w e = inr (refl, (let x : Some n ≡ Some w = e in cc))
 either (Some v) listed n w e = inl e
 
-neither : (least : Option ℕ) (listed : Bool) (n : ℕ) → option_or least (cond listed None (Some n)) ≡ None → (least ≡ None) × (listed ≡ true)
+neither : (least : Option ℕ) (listed : Bool) (n : ℕ) → option_or least (cond listed None (Some n)) ≡ None
+    → (least ≡ None) × (listed ≡ true)
 neither None true n e = (refl, refl)
 neither None false n e = absurd (let x : Some n ≡ None = e in cc)
 neither (Some v) listed n e = absurd (let x : Some v ≡ None = e in cc)
@@ -60,7 +63,8 @@ all_listed (suc n) v list e lt =
 pub has_front : (way : ℕ) (list : List ℕ) → has (to_front list way) way ≡ true
 has_front way list = let t : eqb way way ≡ true = grind (arith, nat_tests) in rw t refl
 
-has_behind : (v way : ℕ) (list : List ℕ) → v ≢ way → has (to_front list way) v ≡ true → has (without list way) v ≡ true
+has_behind : (v way : ℕ) (list : List ℕ) → v ≢ way → has (to_front list way) v ≡ true
+    → has (without list way) v ≡ true
 has_behind v way list n listed = let t : eqb way v ≡ false = grind (arith, nat_tests) in rw t at listed
 
 pub another : (ways way : ℕ) → 2 ≤ ways → (v : ℕ) × (v < ways) × (v ≢ way)
@@ -70,12 +74,14 @@ another ways (suc way) two = (0, omega arith, λ e. omega arith)
 pub oldest_is_another : (ways way : ℕ) (list : List ℕ) → 2 ≤ ways → oldest ways (to_front list way) ≢ way
 oldest_is_another ways way list two = of (least_unlisted ways (to_front list way)) refl
   where
-    of : (least : Option ℕ) → least_unlisted ways (to_front list way) ≡ least → unwrap_or least (last_way 0 (to_front list way)) ≢ way
+    of : (least : Option ℕ) → least_unlisted ways (to_front list way) ≡ least
+        → unwrap_or least (last_way 0 (to_front list way)) ≢ way
     of None e =
         let v = another ways way two in
         last_of_others v.0 way way list (has_behind v.0 way list v.2 (all_listed ways v.0 (to_front list way) e v.1))
     of (Some w) e = λ same.
-        false≢true (sym (is_unlisted ways w (to_front list way) e) ∙ subst (λ (v : ℕ). has (to_front list way) v ≡ true) (sym same) (has_front way list))
+        false≢true (sym (is_unlisted ways w (to_front list way) e)
+        ∙ subst (λ (v : ℕ). has (to_front list way) v ≡ true) (sym same) (has_front way list))
 
 -- ---- the tree
 
@@ -87,7 +93,8 @@ le_victim_in (suc depth) low list =
     omega arith
 
 -- the newest listed way of a range is the one in front, where it lies there
-newest_front : (low size way : ℕ) (list : List ℕ) → low ≤ way → way < low + size → newest_in low size (to_front list way) ≡ Some way
+newest_front : (low size way : ℕ) (list : List ℕ) → low ≤ way → way < low + size
+    → newest_in low size (to_front list way) ≡ Some way
 newest_front low size way list le lt =
     let s : leb low way ≡ true = grind (arith, nat_tests) in
     let t : ltb way (low + size) ≡ true = grind (arith, nat_tests) in
@@ -107,7 +114,8 @@ beside half size chosen way above below lt (inl lower) = λ same.
 beside half size chosen way above below lt (inr upper) = λ same.
     let start : half * size ≡ 0 * size = ap (λ (h : ℕ). h * size) upper.1 in omega (arith, below, upper.0, start, same)
 
-pub victim_in_is_another : (depth ways way : ℕ) (list : List ℕ) → ways ≡ 2 ^ depth → 2 ≤ ways → way < ways → victim_in depth 0 (to_front list way) ≢ way
+pub victim_in_is_another : (depth ways way : ℕ) (list : List ℕ) → ways ≡ 2 ^ depth → 2 ≤ ways → way < ways
+    → victim_in depth 0 (to_front list way) ≢ way
 victim_in_is_another zero ways way list is two lt = absurd (omega arith)
 victim_in_is_another (suc depth) ways way list is two lt =
     let all : List ℕ = to_front list way in

@@ -29,7 +29,9 @@ times-without_same way (w ∷ ws) = let ih : times way (without ws way) ≡ 0 = 
 
 pub times-without_other : (v way : ℕ) (order : List ℕ) → v ≢ way → times v (without order way) ≡ times v order
 times-without_other v way [] n = refl
-times-without_other v way (w ∷ ws) n = let ih : times v (without ws way) ≡ times v ws = times-without_other v way ws n in grind (arith, nat_tests)
+times-without_other v way (w ∷ ws) n =
+    let ih : times v (without ws way) ≡ times v ws = times-without_other v way ws n in
+    grind (arith, nat_tests)
 
 pub has-without_other : (v way : ℕ) (order : List ℕ) → v ≢ way → has (without order way) v ≡ has order v
 has-without_other v way [] n = refl
@@ -47,14 +49,17 @@ without-append : (way : ℕ) (xs ys : List ℕ) → without (xs ++ ys) way ≡ w
 without-append way [] ys = refl
 without-append way (w ∷ ws) ys =
     let ih : without (ws ++ ys) way ≡ without ws way ++ without ys way = without-append way ws ys in
-    elim (eqb w way) as (λ b. cond (not b) (w ∷ without (ws ++ ys) way) (without (ws ++ ys) way) ≡ cond (not b) (w ∷ without ws way) (without ws way) ++ without ys way) [
+    elim (eqb w way) as
+    (λ b. cond (not b) (w ∷ without (ws ++ ys) way) (without (ws ++ ys) way)
+    ≡ cond (not b) (w ∷ without ws way) (without ws way) ++ without ys way) [
       | true ↦ ih
       | false ↦ ap (λ zs. w ∷ zs) ih
     ]
 
 -- ---- the unlisted ways
 
-without_listed_same : (listed : Bool) (n way : ℕ) (us : List ℕ) → eqb n way ≡ true → without (cond listed us (n ∷ us)) way ≡ without us way
+without_listed_same : (listed : Bool) (n way : ℕ) (us : List ℕ) → eqb n way ≡ true
+    → without (cond listed us (n ∷ us)) way ≡ without us way
 without_listed_same true n way us e = refl
 without_listed_same false n way us e = rw e refl
 
@@ -63,7 +68,8 @@ without_listed_other : (listed : Bool) (n way : ℕ) (us vs : List ℕ) → eqb 
 without_listed_other true n way us vs e same = same
 without_listed_other false n way us vs e same = rw e (ap (λ ws. n ∷ ws) same)
 
-unlisted-to_front : (way : ℕ) (list : List ℕ) (n : ℕ) → unlisted n (to_front list way) ≡ without (unlisted n list) way
+unlisted-to_front : (way : ℕ) (list : List ℕ) (n : ℕ)
+    → unlisted n (to_front list way) ≡ without (unlisted n list) way
 unlisted-to_front way list zero = refl
 unlisted-to_front way list (suc n) =
     let ih : unlisted n (to_front list way) ≡ without (unlisted n list) way = unlisted-to_front way list n in
@@ -75,11 +81,13 @@ unlisted-to_front way list (suc n) =
       | inr other ↦
           let t : eqb way n ≡ false = grind (arith, nat_tests) in
           let t' : eqb n way ≡ false = grind (arith, nat_tests) in
-          rw (t, has-without_other n way list other) (without_listed_other (has list n) n way (unlisted n list) (unlisted n (to_front list way)) t' ih)
+          rw (t, has-without_other n way list other) (without_listed_other (has list n) n way
+          (unlisted n list) (unlisted n (to_front list way)) t' ih)
     ]
 
 -- a touch of the list is a touch of the whole order
-all_ways-to_front : (n way : ℕ) (list : List ℕ) → all_ways n (to_front list way) ≡ to_front (all_ways n list) way
+all_ways-to_front : (n way : ℕ) (list : List ℕ)
+    → all_ways n (to_front list way) ≡ to_front (all_ways n list) way
 all_ways-to_front n way list =
     ap (λ (us : List ℕ). (way ∷ without list way) ++ us) (unlisted-to_front way list n)
     ∙ ap (λ (us : List ℕ). way ∷ us) (sym (without-append way list (unlisted n list)))
@@ -88,14 +96,16 @@ last_way-append : (way : ℕ) (xs ys : List ℕ) → last_way way (xs ++ ys) ≡
 last_way-append way [] ys = refl
 last_way-append way (x ∷ xs) ys = last_way-append x xs ys
 
-last_listed : (listed : Bool) (least : Option ℕ) (n way : ℕ) (us : List ℕ) → ((w : ℕ) → last_way w us ≡ unwrap_or least w)
+last_listed : (listed : Bool) (least : Option ℕ) (n way : ℕ) (us : List ℕ)
+    → ((w : ℕ) → last_way w us ≡ unwrap_or least w)
     → last_way way (cond listed us (n ∷ us)) ≡ unwrap_or (option_or least (cond listed None (Some n))) way
 last_listed true None n way us ih = ih way
 last_listed true (Some w) n way us ih = ih way
 last_listed false None n way us ih = ih n
 last_listed false (Some w) n way us ih = ih n
 
-last_way-unlisted : (list : List ℕ) (n way : ℕ) → last_way way (unlisted n list) ≡ unwrap_or (least_unlisted n list) way
+last_way-unlisted : (list : List ℕ) (n way : ℕ)
+    → last_way way (unlisted n list) ≡ unwrap_or (least_unlisted n list) way
 last_way-unlisted list zero way = refl
 last_way-unlisted list (suc n) way = last_listed (has list n) (least_unlisted n list) n way (unlisted n list) (last_way-unlisted list n)
 
@@ -136,7 +146,10 @@ times-unlisted (suc n) way lt =
     ]
 
 pub Packs-fresh : (n : ℕ) → Packs n (pack (unlisted n [])) []
-Packs-fresh n = record { packed = refl; order = record { complete = length-unlisted n; below = AllBelow-unlisted n; once = times-unlisted n } }
+Packs-fresh n = record {
+  packed = refl;
+  order = record { complete = length-unlisted n; below = AllBelow-unlisted n; once = times-unlisted n };
+}
 
 -- ---- a way in front
 
@@ -178,13 +191,15 @@ pack-lt (w ∷ ws) below =
     omega (arith, below.0, rest, e)
 
 -- one more way fits in front of at most fifteen
-room : (w : ℕ) (order : List ℕ) → w < 16 → length order ≤ 15 → AllBelow 16 order → w + 16 * pack order < 2 ^ 64
+room : (w : ℕ) (order : List ℕ) → w < 16 → length order ≤ 15 → AllBelow 16 order
+    → w + 16 * pack order < 2 ^ 64
 room w order lt few below =
     let small : pack order < 16 ^ length order = pack-lt order below in
     let bound : 16 ^ length order ≤ 16 ^ 15 = pow-le-pow_right (lit≤ tt) few in
     omega (arith, small, bound)
 
-pub room_in_front : (n way state : ℕ) (list : List ℕ) → Packs n state list → way < n → n ≤ 16 → way + 16 * pack (without (all_ways n list) way) < 2 ^ 64
+pub room_in_front : (n way state : ℕ) (list : List ℕ) → Packs n state list → way < n → n ≤ 16
+    → way + 16 * pack (without (all_ways n list) way) < 2 ^ 64
 room_in_front n way state list packs lt le =
     let all : List ℕ = all_ways n list in
     let below : AllBelow 16 all = AllBelow-weaker n 16 all le packs.order.below in
@@ -204,7 +219,8 @@ last_way_lt : (n way : ℕ) (order : List ℕ) → AllBelow n order → way < n 
 last_way_lt n way [] below lt = lt
 last_way_lt n way (w ∷ ws) below lt = last_way_lt n w ws below.1 below.0
 
-last_way-pack : (w : ℕ) (ws : List ℕ) (n : ℕ) → length ws ≡ n → AllBelow 16 (w ∷ ws) → pack (w ∷ ws) / 2 ^ (4 * n) ≡ last_way w ws
+last_way-pack : (w : ℕ) (ws : List ℕ) (n : ℕ) → length ws ≡ n → AllBelow 16 (w ∷ ws)
+    → pack (w ∷ ws) / 2 ^ (4 * n) ≡ last_way w ws
 last_way-pack w [] n len below = subst (λ (k : ℕ). (w + 16 * 0) / 2 ^ (4 * k) ≡ w) len (omega arith)
 last_way-pack w (v ∷ vs) n len below =
     let first : pack (w ∷ v ∷ vs) / 2 ^ 4 ≡ pack (v ∷ vs) = omega (arith, below.0) in
@@ -214,14 +230,17 @@ last_way-pack w (v ∷ vs) n len below =
     ∙ ap (λ (k : ℕ). k / 2 ^ (4 * length vs)) first ∙ rest
 
 -- the highest four bits are the oldest way
-pub highest : (n state : ℕ) (list : List ℕ) → Packs n state list → 0 < n → n ≤ 16 → (state / 2 ^ (4 * (n - 1)) ≡ oldest n list) × (oldest n list < n)
+pub highest : (n state : ℕ) (list : List ℕ) → Packs n state list → 0 < n → n ≤ 16
+    → (state / 2 ^ (4 * (n - 1)) ≡ oldest n list) × (oldest n list < n)
 highest n state list packs some le = of (all_ways n list) (last_way-all_ways n list) packs.packed packs.order
   where
-    of : (all : List ℕ) → last_way 0 all ≡ oldest n list → state ≡ pack all → IsOrder n all → (state / 2 ^ (4 * (n - 1)) ≡ oldest n list) × (oldest n list < n)
+    of : (all : List ℕ) → last_way 0 all ≡ oldest n list → state ≡ pack all → IsOrder n all
+        → (state / 2 ^ (4 * (n - 1)) ≡ oldest n list) × (oldest n list < n)
     of [] last is order = absurd (omega (arith, order.complete))
     of (w ∷ ws) last is order =
         let len : length ws ≡ n - 1 = omega (arith, order.complete) in
-        let read : pack (w ∷ ws) / 2 ^ (4 * (n - 1)) ≡ last_way w ws = last_way-pack w ws (n - 1) len (AllBelow-weaker n 16 (w ∷ ws) le order.below) in
+        let read : pack (w ∷ ws) / 2 ^ (4 * (n - 1)) ≡ last_way w ws =
+        last_way-pack w ws (n - 1) len (AllBelow-weaker n 16 (w ∷ ws) le order.below) in
         (rw is (read ∙ last), subst (λ (v : ℕ). v < n) last (last_way_lt n w ws order.below.1 order.below.0))
 
 -- ---- a way that is in front already
@@ -237,7 +256,8 @@ none_without way (w ∷ ws) none =
           rw t (ap (λ (zs : List ℕ). w ∷ zs) (none_without way ws rest))
     ]
 
-front_again : (n way state : ℕ) (order : List ℕ) → IsOrder n order → AllBelow 16 order → way < n → state ≡ pack order → state % 16 ≡ way
+front_again : (n way state : ℕ) (order : List ℕ) → IsOrder n order → AllBelow 16 order → way < n
+    → state ≡ pack order → state % 16 ≡ way
     → way + 16 * pack (without order way) ≡ state
 front_again n way state [] is below lt packed first = absurd (omega (arith, is.complete))
 front_again n way state (w ∷ ws) is below lt packed first =
@@ -248,7 +268,8 @@ front_again n way state (w ∷ ws) is below lt packed first =
     rw t (ap (λ (zs : List ℕ). way + 16 * pack zs) (none_without way ws none) ∙ omega arith)
 
 -- where a way is the newest already, the order stays as it is
-pub Packs-newest : (n state way : ℕ) (list : List ℕ) → Packs n state list → n ≤ 16 → way < n → state % 16 ≡ way → Packs n state (to_front list way)
+pub Packs-newest : (n state way : ℕ) (list : List ℕ) → Packs n state list → n ≤ 16 → way < n
+    → state % 16 ≡ way → Packs n state (to_front list way)
 Packs-newest n state way list packs le lt first =
     let all : List ℕ = all_ways n list in
     let same = front_again n way state all packs.order (AllBelow-weaker n 16 all le packs.order.below) lt packs.packed first in

@@ -45,18 +45,22 @@ somewhere (w ∷ ws) state way below is some =
           }
     ]
 
-pub way_stands : (ways state way : ℕ) (list : List ℕ) → Packs ways state list → ways ≤ 16 → way < ways → StandsAt state way ways
+pub way_stands : (ways state way : ℕ) (list : List ℕ) → Packs ways state list → ways ≤ 16 → way < ways
+    → StandsAt state way ways
 way_stands ways state way list packs few lt =
     let all : List ℕ = all_ways ways list in
     let once : times way all ≡ 1 = packs.order.once way lt in
-    let there = somewhere all state way (AllBelow-weaker ways 16 all few packs.order.below) packs.packed (λ none. omega (arith, once, none)) in
+    let there =
+    somewhere all state way (AllBelow-weaker ways 16 all few packs.order.below) packs.packed
+    (λ none. omega (arith, once, none)) in
     record { place = there.place; below = omega (arith, there.below, packs.order.complete); here = there.here }
 
 -- the digits below a place, and those above it, one place lower
 abbrev pub closed_up : ℕ → ℕ → ℕ
 closed_up state place = state % 2 ^ (4 * place) + state / 2 ^ (4 * place) / 16 * 2 ^ (4 * place)
 
-closed_up-suc : (state place : ℕ) → closed_up state (suc place) ≡ state % 16 + 16 * closed_up (state / 16) place
+closed_up-suc : (state place : ℕ)
+    → closed_up state (suc place) ≡ state % 16 + 16 * closed_up (state / 16) place
 closed_up-suc state place =
     let m : ℕ = 2 ^ (4 * place) in
     let pos : 0 < m = pow_pos (4 * place) in
@@ -94,7 +98,8 @@ without_closed_up (w ∷ ws) state way (suc place) below is once at lt =
     rw (t, closed_up-suc state place, low, ih) refl
 
 -- so the way in front of them is the order in which it is the newest
-pub closed_up-without : (ways state way place : ℕ) (list : List ℕ) → Packs ways state list → ways ≤ 16 → way < ways
+pub closed_up-without : (ways state way place : ℕ) (list : List ℕ) → Packs ways state list → ways ≤ 16
+    → way < ways
     → StandsFirst state way place → place < ways
     → pack (without (all_ways ways list) way) ≡ closed_up state place
 closed_up-without ways state way place list packs few lt at within =
@@ -121,7 +126,8 @@ masked state place few fits =
 -- ---- the oldest way, in front of the others
 
 -- a way that stands at a place is in the order
-counted : (order : List ℕ) (state way place : ℕ) → AllBelow 16 order → state ≡ pack order → place < length order
+counted : (order : List ℕ) (state way place : ℕ) → AllBelow 16 order → state ≡ pack order
+    → place < length order
     → way_at state place ≡ way → 0 < times way order
 counted [] state way place below is lt here = absurd (omega (arith, lt))
 counted (w ∷ ws) state way zero below is lt here =
@@ -142,7 +148,8 @@ first_other w way ws once more same =
     omega (arith, more, both)
 
 -- a way that stands once stands at no newer place
-none_newer : (order : List ℕ) (state way place newer : ℕ) → AllBelow 16 order → state ≡ pack order → times way order ≡ 1
+none_newer : (order : List ℕ) (state way place newer : ℕ) → AllBelow 16 order → state ≡ pack order
+    → times way order ≡ 1
     → place < length order → way_at state place ≡ way → newer < place → way_at state newer ≢ way
 none_newer [] state way place newer below is once lt here before = absurd (omega (arith, lt))
 none_newer (w ∷ ws) state way zero newer below is once lt here before = absurd (omega (arith, before))
@@ -173,7 +180,8 @@ oldest_stands ways state way list packs few lt last =
     }
 
 -- taken off, it leaves the others, each at its place
-pub without_oldest : (ways state way newest : ℕ) (list : List ℕ) → Packs ways state list → ways ≤ 16 → way < ways
+pub without_oldest : (ways state way newest : ℕ) (list : List ℕ) → Packs ways state list → ways ≤ 16
+    → way < ways
     → newest ≡ way → state / 2 ^ (4 * (ways - 1)) ≡ newest → state < 2 ^ 64
     → pack (without (all_ways ways list) way) ≡ state - newest * 2 ^ (4 * (ways - 1)) % 18446744073709551616
 without_oldest ways state way newest list packs few lt same last fits =

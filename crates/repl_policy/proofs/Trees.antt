@@ -37,7 +37,8 @@ inside low size way le lt = grind (arith, nat_tests)
 
 -- ---- ranges that a touch does not reach
 
-Points-bits : (d low state next : ℕ) (list : List ℕ) → ((k : ℕ) → low < k → k < low + 2 ^ d → bit_at next k ≡ bit_at state k)
+Points-bits : (d low state next : ℕ) (list : List ℕ)
+    → ((k : ℕ) → low < k → k < low + 2 ^ d → bit_at next k ≡ bit_at state k)
     → Points d low state list → Points d low next list
 Points-bits zero low state next list same points = tt
 Points-bits (suc d) low state next list same points =
@@ -48,24 +49,28 @@ Points-bits (suc d) low state next list same points =
       Points-bits d (low + 2 ^ d) state next list (λ k gt lt. same k (omega arith) (omega arith)) points.2,
     )
 
-Points-below : (d low state way : ℕ) (list : List ℕ) → way < low → Points d low state list → Points d low state (to_front list way)
+Points-below : (d low state way : ℕ) (list : List ℕ) → way < low → Points d low state list
+    → Points d low state (to_front list way)
 Points-below zero low state way list out points = tt
 Points-below (suc d) low state way list out points =
     let pos : 0 < 2 ^ d = pow_pos d in
     let t : (leb low way && ltb way (low + 2 ^ suc d)) ≡ false = outside_below low (2 ^ suc d) way out in
-    let newest : newest_in low (2 ^ suc d) (to_front list way) ≡ newest_in low (2 ^ suc d) list = rw t (newest_in-without low (2 ^ suc d) way list t) in (
+    let newest : newest_in low (2 ^ suc d) (to_front list way) ≡ newest_in low (2 ^ suc d) list =
+    rw t (newest_in-without low (2 ^ suc d) way list t) in (
       points.0 ∙ ap (half_away (low + 2 ^ d)) (sym newest),
       Points-below d low state way list out points.1,
       Points-below d (low + 2 ^ d) state way list (omega arith) points.2,
     )
 
-Points-above : (d low state way : ℕ) (list : List ℕ) → low + 2 ^ d ≤ way → Points d low state list → Points d low state (to_front list way)
+Points-above : (d low state way : ℕ) (list : List ℕ) → low + 2 ^ d ≤ way → Points d low state list
+    → Points d low state (to_front list way)
 Points-above zero low state way list out points = tt
 Points-above (suc d) low state way list out points =
     let pos : 0 < 2 ^ d = pow_pos d in
     let double : 2 ^ suc d ≡ 2 ^ d * 2 = pow-suc 2 d in
     let t : (leb low way && ltb way (low + 2 ^ suc d)) ≡ false = outside_above low (2 ^ suc d) way out in
-    let newest : newest_in low (2 ^ suc d) (to_front list way) ≡ newest_in low (2 ^ suc d) list = rw t (newest_in-without low (2 ^ suc d) way list t) in (
+    let newest : newest_in low (2 ^ suc d) (to_front list way) ≡ newest_in low (2 ^ suc d) list =
+    rw t (newest_in-without low (2 ^ suc d) way list t) in (
       points.0 ∙ ap (half_away (low + 2 ^ d)) (sym newest),
       Points-above d low state way list (omega arith) points.1,
       Points-above d (low + 2 ^ d) state way list (omega arith) points.2,
@@ -73,7 +78,8 @@ Points-above (suc d) low state way list out points =
 
 -- ---- the range that it reaches: the touched way is its newest
 
-other_half-lower : (d low way : ℕ) (list : List ℕ) → low ≤ way → way < low + 2 ^ d → other_half d low (to_front list way) ≡ 1
+other_half-lower : (d low way : ℕ) (list : List ℕ) → low ≤ way → way < low + 2 ^ d
+    → other_half d low (to_front list way) ≡ 1
 other_half-lower d low way list le lt =
     let double : 2 ^ suc d ≡ 2 ^ d * 2 = pow-suc 2 d in
     let pos : 0 < 2 ^ d = pow_pos d in
@@ -81,7 +87,8 @@ other_half-lower d low way list le lt =
     let u : ltb way (low + 2 ^ d) ≡ true = grind (arith, nat_tests) in
     rw (t, u) refl
 
-other_half-upper : (d low way : ℕ) (list : List ℕ) → low + 2 ^ d ≤ way → way < low + 2 ^ suc d → other_half d low (to_front list way) ≡ 0
+other_half-upper : (d low way : ℕ) (list : List ℕ) → low + 2 ^ d ≤ way → way < low + 2 ^ suc d
+    → other_half d low (to_front list way) ≡ 0
 other_half-upper d low way list le lt =
     let pos : 0 < 2 ^ d = pow_pos d in
     let t : (leb low way && ltb way (low + 2 ^ suc d)) ≡ true = inside low (2 ^ suc d) way (omega arith) lt in
@@ -89,7 +96,8 @@ other_half-upper d low way list le lt =
     rw (t, u) refl
 
 -- a touch in the lower half sets the bit of the middle, and then touches that half
-points_lower : (d low state set next way : ℕ) (list : List ℕ) → low ≤ way → way < low + 2 ^ d → low + 2 ^ suc d ≤ 16
+points_lower : (d low state set next way : ℕ) (list : List ℕ) → low ≤ way → way < low + 2 ^ d
+    → low + 2 ^ suc d ≤ 16
     → bit_at set (low + 2 ^ d) ≡ 1 → ((k : ℕ) → k ≢ low + 2 ^ d → k < 64 → bit_at set k ≡ bit_at state k)
     → ((k : ℕ) → low + 2 ^ d ≤ k → k < 64 → bit_at next k ≡ bit_at set k)
     → (Points d low set list → Points d low next (to_front list way))
@@ -104,7 +112,8 @@ points_lower d low state set next way list le lt small bit others above step poi
     )
 
 -- a touch in the upper half clears the bit of the middle, and then touches that half
-points_upper : (d low state set next way : ℕ) (list : List ℕ) → low + 2 ^ d ≤ way → way < low + 2 ^ suc d → low + 2 ^ suc d ≤ 16
+points_upper : (d low state set next way : ℕ) (list : List ℕ) → low + 2 ^ d ≤ way → way < low + 2 ^ suc d
+    → low + 2 ^ suc d ≤ 16
     → bit_at set (low + 2 ^ d) ≡ 0 → ((k : ℕ) → k ≢ low + 2 ^ d → k < 64 → bit_at set k ≡ bit_at state k)
     → ((k : ℕ) → k ≤ low + 2 ^ d → bit_at next k ≡ bit_at set k)
     → (Points d (low + 2 ^ d) set list → Points d (low + 2 ^ d) next (to_front list way))
@@ -120,7 +129,8 @@ points_upper d low state set next way list le lt small bit others below step poi
 
 -- ---- the same with the size that the code halves
 
-pub touch_lower : (d low size state set next way : ℕ) (list : List ℕ) → 2 ≤ size → low ≤ way → way < low + size / 2 → low + size ≤ 16
+pub touch_lower : (d low size state set next way : ℕ) (list : List ℕ) → 2 ≤ size → low ≤ way
+    → way < low + size / 2 → low + size ≤ 16
     → bit_at set (low + size / 2) ≡ 1 → ((k : ℕ) → k ≢ low + size / 2 → k < 64 → bit_at set k ≡ bit_at state k)
     → ((k : ℕ) → low + size / 2 ≤ k → k < 64 → bit_at next k ≡ bit_at set k)
     → ((e : ℕ) → size / 2 ≡ 2 ^ e → Points e low set list → Points e low next (to_front list way))
@@ -133,7 +143,8 @@ touch_lower (suc d) low size state set next way list two le lt small bit others 
     (subst (λ (m : ℕ). bit_at set (low + m) ≡ 1) half bit)
     (λ k ne. others k (λ e. ne (omega arith))) (λ k ge. above k (omega arith)) (step d half) points
 
-pub touch_upper : (d low size state set next way : ℕ) (list : List ℕ) → 2 ≤ size → low + size / 2 ≤ way → way < low + size → low + size ≤ 16
+pub touch_upper : (d low size state set next way : ℕ) (list : List ℕ) → 2 ≤ size → low + size / 2 ≤ way
+    → way < low + size → low + size ≤ 16
     → bit_at set (low + size / 2) ≡ 0 → ((k : ℕ) → k ≢ low + size / 2 → k < 64 → bit_at set k ≡ bit_at state k)
     → ((k : ℕ) → k ≤ low + size / 2 → bit_at next k ≡ bit_at set k)
     → ((e : ℕ) → size - size / 2 ≡ 2 ^ e → Points e (low + size / 2) set list → Points e (low + size / 2) next (to_front list way))
@@ -149,7 +160,8 @@ touch_upper (suc d) low size state set next way list two le lt small bit others 
 
 -- ---- a second touch of the way
 
-pub again_lower : (d low size set next way : ℕ) (list : List ℕ) → 2 ≤ size → low ≤ way → way < low + size / 2 → low + size ≤ 16
+pub again_lower : (d low size set next way : ℕ) (list : List ℕ) → 2 ≤ size → low ≤ way → way < low + size / 2
+    → low + size ≤ 16
     → bit_at set (low + size / 2) ≡ 1
     → ((k : ℕ) → low + size / 2 ≤ k → k < 64 → bit_at next k ≡ bit_at set k)
     → ((e : ℕ) → size / 2 ≡ 2 ^ e → Points e low next list → Points e low next (to_front list way))
@@ -165,7 +177,8 @@ again_lower (suc d) low size set next way list two le lt small bit above step is
       Points-below d (low + 2 ^ d) next way list (omega arith) points.2,
     )
 
-pub again_upper : (d low size set next way : ℕ) (list : List ℕ) → 2 ≤ size → low + size / 2 ≤ way → way < low + size → low + size ≤ 16
+pub again_upper : (d low size set next way : ℕ) (list : List ℕ) → 2 ≤ size → low + size / 2 ≤ way
+    → way < low + size → low + size ≤ 16
     → bit_at set (low + size / 2) ≡ 0
     → ((k : ℕ) → k ≤ low + size / 2 → bit_at next k ≡ bit_at set k)
     → ((e : ℕ) → size - size / 2 ≡ 2 ^ e → Points e (low + size / 2) next list → Points e (low + size / 2) next (to_front list way))
@@ -185,7 +198,8 @@ again_upper (suc d) low size set next way list two le lt small bit below step is
 
 -- ---- the victim
 
-pub victim_upper : (d low size state chosen : ℕ) (list : List ℕ) → 2 ≤ size → bit_at state (low + size / 2) ≡ 1
+pub victim_upper : (d low size state chosen : ℕ) (list : List ℕ) → 2 ≤ size
+    → bit_at state (low + size / 2) ≡ 1
     → ((e : ℕ) → size - size / 2 ≡ 2 ^ e → Points e (low + size / 2) state list → chosen ≡ victim_in e (low + size / 2) list)
     → size ≡ 2 ^ d → Points d low state list → chosen ≡ victim_in d low list
 victim_upper zero low size state chosen list two bit step is points = absurd (omega arith)

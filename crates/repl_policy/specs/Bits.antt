@@ -7,4 +7,5 @@ use Rattle.repl_policy.specs.Halves.{other_half}
 abbrev pub Points : ℕ → ℕ → ℕ → List ℕ → Type 0
 Points zero low state list = Unit {0}
 Points (suc depth) low state list =
-    (bit_at state (low + 2 ^ depth) ≡ other_half depth low list) × Points depth low state list × Points depth (low + 2 ^ depth) state list
+    (bit_at state (low + 2 ^ depth) ≡ other_half depth low list) × Points depth low state list
+    × Points depth (low + 2 ^ depth) state list

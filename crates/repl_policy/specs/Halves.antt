@@ -23,7 +23,9 @@ victim_in (suc depth) low list = victim_in depth (low + other_half depth low lis
 
 -- how often this many ways are halved
 abbrev pub depth_of : ℕ → ℕ
-depth_of ways = if ways == 16 then 4 else (if ways == 8 then 3 else (if ways == 4 then 2 else (if ways == 2 then 1 else 0)))
+depth_of ways =
+    if ways == 16 then 4
+    else (if ways == 8 then 3 else (if ways == 4 then 2 else (if ways == 2 then 1 else 0)))
 
 abbrev pub plru_rule : ℕ → Rule
 plru_rule ways = record { touched = to_front; filled = to_front; victim = victim_in (depth_of ways) 0 }

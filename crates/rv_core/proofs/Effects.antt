@@ -23,13 +23,15 @@ follows pc at = omega (arith, at)
 goes_on : (old new : List ℕ) (pc : ℕ) → IsProper old pc (continuation new pc)
 goes_on old new pc = record { trap = search rules; aligned = follows pc }
 
-writes : (old : List ℕ) (pc : ℕ) (width : StoreWidth) (at word : ℕ) → IsProper old pc (memory_write old pc width at word)
+writes : (old : List ℕ) (pc : ℕ) (width : StoreWidth) (at word : ℕ)
+    → IsProper old pc (memory_write old pc width at word)
 writes old pc width at word = record { trap = search rules; aligned = follows pc }
 
 raises : (old : List ℕ) (pc : ℕ) (trap : Trap) → IsProper old pc (exception old pc trap)
 raises old pc trap = record { trap = record { regs = refl; next = refl; store = refl; taken = refl }; aligned = λ at. at }
 
-accesses : (old : List ℕ) (pc : ℕ) (trap : Option Trap) (done : Outcome) → IsProper old pc done → IsProper old pc (access old pc trap done)
+accesses : (old : List ℕ) (pc : ℕ) (trap : Option Trap) (done : Outcome) → IsProper old pc done
+    → IsProper old pc (access old pc trap done)
 accesses old pc (Some trap) done is = raises old pc trap
 accesses old pc None done is = is
 
@@ -40,14 +42,16 @@ arrives_by old new pc target taken true is =
     rw is (record { trap = search rules; aligned = λ _. zero })
 arrives_by old new pc target taken false is = rw is (raises old pc _)
 
-arrives : (old new : List ℕ) (pc target : ℕ) (taken : Bool) → IsProper old pc (arrival old new pc target taken)
+arrives : (old new : List ℕ) (pc target : ℕ) (taken : Bool)
+    → IsProper old pc (arrival old new pc target taken)
 arrives old new pc target taken = arrives_by old new pc target taken (target % 4 == 0) refl
 
 branches : (old : List ℕ) (pc target : ℕ) (taken : Bool) → IsProper old pc (branch old pc target taken)
 branches old pc target true = arrives old old pc target true
 branches old pc target false = goes_on old old pc
 
-pub each_proper : (old : List ℕ) (pc : ℕ) (instr : Instr) (loaded : ℕ) → IsProper old pc (effect_of old pc instr loaded)
+pub each_proper : (old : List ℕ) (pc : ℕ) (instr : Instr) (loaded : ℕ)
+    → IsProper old pc (effect_of old pc instr loaded)
 each_proper old pc (Lui rd imm) loaded = goes_on old _ pc
 each_proper old pc (Auipc rd imm) loaded = goes_on old _ pc
 each_proper old pc (Jal rd offset) loaded = arrives old _ pc _ false

@@ -122,8 +122,10 @@ fits-handed x y z w p q f g fits =
     let b = ap handed q ∙ to_z-of_z w64 w g in
     subst (FitsSigned w64) (sym (λ i. a i *ℤ b i)) fits
 
-pub fits-signed : (a b : ℕ) (x y : ℤ) → a < 2 ^ 32 → b < 2 ^ 32 → x ≡ signed a → y ≡ signed b → FitsSigned w64 (handed x *ℤ handed y)
+pub fits-signed : (a b : ℕ) (x y : ℤ) → a < 2 ^ 32 → b < 2 ^ 32 → x ≡ signed a → y ≡ signed b
+    → FitsSigned w64 (handed x *ℤ handed y)
 fits-signed a b x y f g p q = fits-handed x y (signed a) (signed b) p q (wide a f) (wide b g) (fits-high a b f g)
 
-pub fits-half_signed : (a b : ℕ) (x y : ℤ) → a < 2 ^ 32 → b < 2 ^ 32 → x ≡ signed a → y ≡ pos b → FitsSigned w64 (handed x *ℤ handed y)
+pub fits-half_signed : (a b : ℕ) (x y : ℤ) → a < 2 ^ 32 → b < 2 ^ 32 → x ≡ signed a → y ≡ pos b
+    → FitsSigned w64 (handed x *ℤ handed y)
 fits-half_signed a b x y f g p q = fits-handed x y (signed a) (pos b) p q (wide a f) (record { sfits = omega arith }) (fits-mixed a b f g)

@@ -19,7 +19,10 @@ pub record Outcome : Type 0 where
 
 -- the next instruction follows
 abbrev pub continuation : List ℕ → ℕ → Outcome
-continuation regs pc = record { regs = regs; effect = record { next = (pc + 4) % 2 ^ 32; store = None; taken = false; trap = None } }
+continuation regs pc = record {
+  regs = regs;
+  effect = record { next = (pc + 4) % 2 ^ 32; store = None; taken = false; trap = None };
+}
 
 -- so it does, and a register has a new word
 abbrev pub register_write : List ℕ → ℕ → ℕ → ℕ → Outcome
@@ -29,11 +32,15 @@ register_write regs pc rd word = continuation (with_register regs rd word) pc
 abbrev pub memory_write : List ℕ → ℕ → StoreWidth → ℕ → ℕ → Outcome
 memory_write regs pc width at word =
     let store = Some (record { at = at; size = store_size width; word = stored_word width word }) in
-    record { regs = regs; effect = record { next = (pc + 4) % 2 ^ 32; store = store; taken = false; trap = None } }
+    record {
+      regs = regs;
+      effect = record { next = (pc + 4) % 2 ^ 32; store = store; taken = false; trap = None };
+    }
 
 -- nothing changes, and the instruction stays the next
 abbrev pub exception : List ℕ → ℕ → Trap → Outcome
-exception regs pc trap = record { regs = regs; effect = record { next = pc; store = None; taken = false; trap = Some trap } }
+exception regs pc trap =
+    record { regs = regs; effect = record { next = pc; store = None; taken = false; trap = Some trap } }
 
 -- an access to memory, unless its address is misaligned
 abbrev pub access : List ℕ → ℕ → Option Trap → Outcome → Outcome
@@ -62,13 +69,22 @@ effect_of regs pc (Lui rd imm) loaded = register_write regs pc rd imm
 effect_of regs pc (Auipc rd imm) loaded = register_write regs pc rd ((pc + imm) % 2 ^ 32)
 effect_of regs pc (Jal rd offset) loaded = jump regs pc rd ((pc + offset) % 2 ^ 32)
 effect_of regs pc (Jalr rd rs1 offset) loaded = jump regs pc rd (sum_of regs rs1 offset / 2 * 2)
-effect_of regs pc (Branch comparison rs1 rs2 offset) loaded = branch regs pc ((pc + offset) % 2 ^ 32) (holds comparison (register regs rs1) (register regs rs2))
-effect_of regs pc (Load width rd rs1 offset) loaded = access regs pc (alignment_trap (load_size width) LoadMisaligned (sum_of regs rs1 offset)) (register_write regs pc rd (loaded_word width loaded))
-effect_of regs pc (Store width rs1 rs2 offset) loaded = access regs pc (alignment_trap (store_size width) StoreMisaligned (sum_of regs rs1 offset)) (memory_write regs pc width (sum_of regs rs1 offset) (register regs rs2))
-effect_of regs pc (Immediate operation rd rs1 imm) loaded = register_write regs pc rd (value_of operation (register regs rs1) imm)
-effect_of regs pc (Register operation rd rs1 rs2) loaded = register_write regs pc rd (value_of operation (register regs rs1) (register regs rs2))
-effect_of regs pc (Multiply product rd rs1 rs2) loaded = register_write regs pc rd (product_of product (register regs rs1) (register regs rs2))
-effect_of regs pc (Divide division rd rs1 rs2) loaded = register_write regs pc rd (division_of division (register regs rs1) (register regs rs2))
+effect_of regs pc (Branch comparison rs1 rs2 offset) loaded =
+    branch regs pc ((pc + offset) % 2 ^ 32) (holds comparison (register regs rs1) (register regs rs2))
+effect_of regs pc (Load width rd rs1 offset) loaded =
+    access regs pc (alignment_trap (load_size width) LoadMisaligned (sum_of regs rs1 offset))
+    (register_write regs pc rd (loaded_word width loaded))
+effect_of regs pc (Store width rs1 rs2 offset) loaded =
+    access regs pc (alignment_trap (store_size width) StoreMisaligned (sum_of regs rs1 offset))
+    (memory_write regs pc width (sum_of regs rs1 offset) (register regs rs2))
+effect_of regs pc (Immediate operation rd rs1 imm) loaded =
+    register_write regs pc rd (value_of operation (register regs rs1) imm)
+effect_of regs pc (Register operation rd rs1 rs2) loaded =
+    register_write regs pc rd (value_of operation (register regs rs1) (register regs rs2))
+effect_of regs pc (Multiply product rd rs1 rs2) loaded =
+    register_write regs pc rd (product_of product (register regs rs1) (register regs rs2))
+effect_of regs pc (Divide division rd rs1 rs2) loaded =
+    register_write regs pc rd (division_of division (register regs rs1) (register regs rs2))
 effect_of regs pc Fence loaded = continuation regs pc
 effect_of regs pc Ecall loaded = exception regs pc (record { exception = UserCall; value = 0 })
 effect_of regs pc Ebreak loaded = exception regs pc (record { exception = Breakpoint; value = pc })

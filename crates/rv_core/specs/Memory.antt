@@ -52,7 +52,8 @@ address_of regs _ = 0
 
 -- a trap where the address is no multiple of the size
 abbrev pub alignment_trap : ℕ → Exception → ℕ → Option Trap
-alignment_trap size exception at = if at % size == 0 then None else Some (record { exception = exception; value = at })
+alignment_trap size exception at =
+    if at % size == 0 then None else Some (record { exception = exception; value = at })
 
 abbrev pub misalignment_of : Instr → ℕ → Option Trap
 misalignment_of (Load width rd rs1 offset) at = alignment_trap (load_size width) LoadMisaligned at

@@ -17,7 +17,8 @@ pub record IsDecoded (muldiv : Bool) (n : ℕ) (instr : Instr) : Type 0 where
 
 -- ---- what is found, by a test or by a part of it
 
-if-some : {X : Type 0} (P : X → Type 0) (t : Bool) (x y : Option X) → (t ≡ true → IfSome x P) → (t ≡ false → IfSome y P)
+if-some : {X : Type 0} (P : X → Type 0) (t : Bool) (x y : Option X) → (t ≡ true → IfSome x P)
+    → (t ≡ false → IfSome y P)
     → IfSome (if t then x else y) P
 if-some P true x y f g = f refl
 if-some P false x y f g = g refl
@@ -43,7 +44,8 @@ rs2-below : (word : ℕ) → rs2_of word < 32
 rs2-below word = omega arith
 
 -- the two cases of a sign extension
-extended : (Q : ℕ → Type 0) (width n : ℕ) → (n < 2 ^ (width - 1) → Q n) → (2 ^ (width - 1) ≤ n → Q (n + (2 ^ 32 - 2 ^ width))) → Q (sign_extended width n)
+extended : (Q : ℕ → Type 0) (width n : ℕ) → (n < 2 ^ (width - 1) → Q n)
+    → (2 ^ (width - 1) ≤ n → Q (n + (2 ^ 32 - 2 ^ width))) → Q (sign_extended width n)
 extended Q width n small large =
     elim (cases_lt n (2 ^ (width - 1))) [
       | inl lt ↦ let t : ltb n (2 ^ (width - 1)) ≡ true = lt-ltb n (2 ^ (width - 1)) lt in rw t (small lt)
@@ -77,7 +79,8 @@ immediate_b-is word fits =
     (λ lt. (record { sign = omega arith; bit_11 = omega arith; high = omega arith; low = omega arith; even = omega arith }, omega arith, omega arith))
     (λ ge. (record { sign = omega arith; bit_11 = omega arith; high = omega arith; low = omega arith; even = omega arith }, omega arith, omega arith))
 
-immediate_u-is : (word : ℕ) → word < 2 ^ 32 → IsImmediateU (immediate_u_of word) word × (immediate_u_of word % 2 ^ 12 ≡ 0)
+immediate_u-is : (word : ℕ) → word < 2 ^ 32
+    → IsImmediateU (immediate_u_of word) word × (immediate_u_of word % 2 ^ 12 ≡ 0)
 immediate_u-is word fits = (record { high = omega arith; low = omega arith }, omega arith)
 
 abbrev IsJ : ℕ → ℕ → Type 0
@@ -93,11 +96,17 @@ immediate_j-is word fits =
 
 comparison-is : (n : ℕ) → IfSome (comparison_of n) (λ comparison. n ≡ comparison_code comparison)
 comparison-is n =
-    where-some _ n _ _ _ (λ e. e) (where-some _ n _ _ _ (λ e. e) (where-some _ n _ _ _ (λ e. e) (where-some _ n _ _ _ (λ e. e) (where-some _ n _ _ _ (λ e. e) (where-some _ n _ _ _ (λ e. e) tt)))))
+    where-some _ n _ _ _ (λ e. e)
+    (where-some _ n _ _ _ (λ e. e)
+    (where-some _ n _ _ _ (λ e. e)
+    (where-some _ n _ _ _ (λ e. e)
+    (where-some _ n _ _ _ (λ e. e) (where-some _ n _ _ _ (λ e. e) tt)))))
 
 load-is : (n : ℕ) → IfSome (load_width_of n) (λ width. n ≡ load_code width)
 load-is n =
-    where-some _ n _ _ _ (λ e. e) (where-some _ n _ _ _ (λ e. e) (where-some _ n _ _ _ (λ e. e) (where-some _ n _ _ _ (λ e. e) (where-some _ n _ _ _ (λ e. e) tt))))
+    where-some _ n _ _ _ (λ e. e)
+    (where-some _ n _ _ _ (λ e. e)
+    (where-some _ n _ _ _ (λ e. e) (where-some _ n _ _ _ (λ e. e) (where-some _ n _ _ _ (λ e. e) tt))))
 
 store-is : (n : ℕ) → IfSome (store_width_of n) (λ width. n ≡ store_code width)
 store-is n =
@@ -113,12 +122,28 @@ division-is n =
 
 counter-is : (n : ℕ) → IfSome (counter_of n) (λ counter. n ≡ counter_number counter)
 counter-is n =
-    where-some _ n _ _ _ (λ e. e) (where-some _ n _ _ _ (λ e. e) (where-some _ n _ _ _ (λ e. e) (where-some _ n _ _ _ (λ e. e) (where-some _ n _ _ _ (λ e. e) (where-some _ n _ _ _ (λ e. e) tt)))))
+    where-some _ n _ _ _ (λ e. e)
+    (where-some _ n _ _ _ (λ e. e)
+    (where-some _ n _ _ _ (λ e. e)
+    (where-some _ n _ _ _ (λ e. e)
+    (where-some _ n _ _ _ (λ e. e) (where-some _ n _ _ _ (λ e. e) tt)))))
 
-operation-is : (word : ℕ) → IfSome (register_operation_of (funct3_of word) (funct7_of word)) (λ operation. IsOperation operation word)
+operation-is : (word : ℕ)
+    → IfSome (register_operation_of (funct3_of word) (funct7_of word))
+    (λ operation. IsOperation operation word)
 operation-is word =
-    where-some _ (funct7_of word) _ _ _ (λ s. where-some _ (funct3_of word) _ _ _ (λ e. (e, s)) (where-some _ (funct3_of word) _ _ _ (λ e. (e, s)) (where-some _ (funct3_of word) _ _ _ (λ e. (e, s)) (where-some _ (funct3_of word) _ _ _ (λ e. (e, s)) (where-some _ (funct3_of word) _ _ _ (λ e. (e, s)) (where-some _ (funct3_of word) _ _ _ (λ e. (e, s)) (where-some _ (funct3_of word) _ _ _ (λ e. (e, s)) (where-some _ (funct3_of word) _ _ _ (λ e. (e, s)) tt))))))))
-    (where-some _ (funct7_of word) _ _ _ (λ s. where-some _ (funct3_of word) _ _ _ (λ e. (e, s)) (where-some _ (funct3_of word) _ _ _ (λ e. (e, s)) tt)) tt)
+    where-some _ (funct7_of word) _ _ _
+    (λ s. where-some _ (funct3_of word) _ _ _ (λ e. (e, s))
+    (where-some _ (funct3_of word) _ _ _ (λ e. (e, s))
+    (where-some _ (funct3_of word) _ _ _ (λ e. (e, s))
+    (where-some _ (funct3_of word) _ _ _ (λ e. (e, s))
+    (where-some _ (funct3_of word) _ _ _ (λ e. (e, s))
+    (where-some _ (funct3_of word) _ _ _ (λ e. (e, s))
+    (where-some _ (funct3_of word) _ _ _ (λ e. (e, s))
+    (where-some _ (funct3_of word) _ _ _ (λ e. (e, s)) tt))))))))
+    (where-some _ (funct7_of word) _ _ _
+    (λ s. where-some _ (funct3_of word) _ _ _ (λ e. (e, s))
+    (where-some _ (funct3_of word) _ _ _ (λ e. (e, s)) tt)) tt)
 
 -- of an operation on a register and an immediate
 module _ (word : ℕ) (fits : word < 2 ^ 32) where
@@ -140,16 +165,20 @@ module _ (word : ℕ) (fits : word < 2 ^ 32) where
   immediate-is : IfSome (immediate_operation_of (funct3_of word) (funct7_of word)) IsFound
   immediate-is =
       where-some IsFound (funct3_of word) 0 _ _ (λ e. let i = signed 0 refl e in ((e, i.0), i.1))
-      (where-some IsFound (funct3_of word) 1 _ _ (λ e. where-some IsFound (funct7_of word) 0 _ _ (λ s. ((e, s, amount 1 refl e), few 1 refl e)) tt)
+      (where-some IsFound (funct3_of word) 1 _ _
+      (λ e. where-some IsFound (funct7_of word) 0 _ _ (λ s. ((e, s, amount 1 refl e), few 1 refl e)) tt)
       (where-some IsFound (funct3_of word) 2 _ _ (λ e. let i = signed 2 refl e in ((e, i.0), i.1))
       (where-some IsFound (funct3_of word) 3 _ _ (λ e. let i = signed 3 refl e in ((e, i.0), i.1))
       (where-some IsFound (funct3_of word) 4 _ _ (λ e. let i = signed 4 refl e in ((e, i.0), i.1))
-      (where-some IsFound (funct3_of word) 5 _ _ (λ e. where-some IsFound (funct7_of word) 0 _ _ (λ s. ((e, s, amount 5 refl e), few 5 refl e))
+      (where-some IsFound (funct3_of word) 5 _ _ (λ e. where-some IsFound (funct7_of word) 0 _ _
+      (λ s. ((e, s, amount 5 refl e), few 5 refl e))
       (where-some IsFound (funct7_of word) 32 _ _ (λ s. ((e, s, amount 5 refl e), few 5 refl e)) tt))
       (where-some IsFound (funct3_of word) 6 _ _ (λ e. let i = signed 6 refl e in ((e, i.0), i.1))
       (where-some IsFound (funct3_of word) 7 _ _ (λ e. let i = signed 7 refl e in ((e, i.0), i.1)) tt)))))))
 
-csr_read-is : (word : ℕ) → ((funct3_of word == 2 || funct3_of word == 3 || funct3_of word == 6 || funct3_of word == 7) && rs1_of word == 0) ≡ true
+csr_read-is : (word : ℕ)
+    → ((funct3_of word == 2 || funct3_of word == 3 || funct3_of word == 6 || funct3_of word == 7)
+    && rs1_of word == 0) ≡ true
     → IsCsrRead word
 csr_read-is word h =
     let f = funct3_of word in
@@ -172,16 +201,19 @@ module _ (muldiv : Bool) (word : ℕ) (fits : word < 2 ^ 32) where
   abbrev Is : Instr → Type 0
   Is = IsDecoded muldiv word
 
-  muldiv-is : muldiv ≡ true → opcode_of word ≡ 0b0110011 → funct7_of word ≡ 0b0000001 → IfSome (muldiv_of word) Is
+  muldiv-is : muldiv ≡ true → opcode_of word ≡ 0b0110011 → funct7_of word ≡ 0b0000001
+      → IfSome (muldiv_of word) Is
   muldiv-is has e s =
       let registers : (rd_of word < 32) × (rs1_of word < 32) × (rs2_of word < 32) = (rd-below word, rs1-below word, rs2-below word) in
       if-some Is (nat_lt (funct3_of word) 4) _ _
-      (λ _. map-some _ Is (λ product. Multiply product (rd_of word) (rs1_of word) (rs2_of word)) _ (product-is (funct3_of word)) (λ product code. record {
+      (λ _. map-some _ Is (λ product. Multiply product (rd_of word) (rs1_of word) (rs2_of word)) _
+      (product-is (funct3_of word)) (λ product code. record {
         word = (record { has = has; opcode = e; funct7 = s; code = code }, refl, refl, refl);
         registers = registers;
         immediates = tt;
       }))
-      (λ _. map-some _ Is (λ division. Divide division (rd_of word) (rs1_of word) (rs2_of word)) _ (division-is (funct3_of word)) (λ division code. record {
+      (λ _. map-some _ Is (λ division. Divide division (rd_of word) (rs1_of word) (rs2_of word)) _
+      (division-is (funct3_of word)) (λ division code. record {
         word = (record { has = has; opcode = e; funct7 = s; code = code }, refl, refl, refl);
         registers = registers;
         immediates = tt;
@@ -191,7 +223,8 @@ module _ (muldiv : Bool) (word : ℕ) (fits : word < 2 ^ 32) where
   register-is e =
       if-some Is (funct7_of word == 1 && muldiv) _ _
       (λ t. let parts = and_parts (funct7_of word == 1) muldiv t in muldiv-is parts.1 e (eqb-true (funct7_of word) 1 parts.0))
-      (λ _. map-some _ Is (λ operation. Register operation (rd_of word) (rs1_of word) (rs2_of word)) _ (operation-is word) (λ operation of. record {
+      (λ _. map-some _ Is (λ operation. Register operation (rd_of word) (rs1_of word) (rs2_of word)) _
+      (operation-is word) (λ operation of. record {
         word = (e, of, refl, refl, refl);
         registers = (rd-below word, rs1-below word, rs2-below word);
         immediates = tt;
@@ -224,23 +257,33 @@ module _ (muldiv : Bool) (word : ℕ) (fits : word < 2 ^ 32) where
       where-some Is n _ _ _ (λ e. record { word = (e, refl, u.0); registers = rd; immediates = u.1 })
       (where-some Is n _ _ _ (λ e. record { word = (e, refl, u.0); registers = rd; immediates = u.1 })
       (where-some Is n _ _ _ (λ e. record { word = (e, refl, j.0); registers = rd; immediates = (j.1, j.2) })
-      (where-some Is n _ _ _ (λ e. where-some Is (funct3_of word) 0 _ _ (λ f. record { word = (e, f, refl, refl, i.0); registers = (rd, rs1); immediates = i.1 }) tt)
-      (where-some Is n _ _ _ (λ e. map-some _ Is (λ comparison. Branch comparison (rs1_of word) (rs2_of word) (immediate_b_of word)) _ (comparison-is (funct3_of word)) (λ comparison f. record {
+      (where-some Is n _ _ _
+      (λ e. where-some Is (funct3_of word) 0 _ _
+      (λ f. record { word = (e, f, refl, refl, i.0); registers = (rd, rs1); immediates = i.1 }) tt)
+      (where-some Is n _ _ _ (λ e. map-some _ Is
+      (λ comparison. Branch comparison (rs1_of word) (rs2_of word) (immediate_b_of word)) _
+      (comparison-is (funct3_of word)) (λ comparison f. record {
         word = (e, f, refl, refl, b.0);
         registers = (rs1, rs2);
         immediates = (b.1, b.2);
       }))
-      (where-some Is n _ _ _ (λ e. map-some _ Is (λ width. Load width (rd_of word) (rs1_of word) (immediate_i_of word)) _ (load-is (funct3_of word)) (λ width f. record {
+      (where-some Is n _ _ _ (λ e. map-some _ Is
+      (λ width. Load width (rd_of word) (rs1_of word) (immediate_i_of word)) _ (load-is (funct3_of word)) (λ
+      width f. record {
         word = (e, f, refl, refl, i.0);
         registers = (rd, rs1);
         immediates = i.1;
       }))
-      (where-some Is n _ _ _ (λ e. map-some _ Is (λ width. Store width (rs1_of word) (rs2_of word) (immediate_s_of word)) _ (store-is (funct3_of word)) (λ width f. record {
+      (where-some Is n _ _ _ (λ e. map-some _ Is
+      (λ width. Store width (rs1_of word) (rs2_of word) (immediate_s_of word)) _ (store-is (funct3_of word))
+      (λ width f. record {
         word = (e, f, refl, refl, s.0);
         registers = (rs1, rs2);
         immediates = s.1;
       }))
-      (where-some Is n _ _ _ (λ e. map-some _ Is (λ operation. Immediate operation (rd_of word) (rs1_of word) (operand_of (funct3_of word) word)) _ (immediate-is word fits) (λ operation f. record {
+      (where-some Is n _ _ _ (λ e. map-some _ Is
+      (λ operation. Immediate operation (rd_of word) (rs1_of word) (operand_of (funct3_of word) word)) _
+      (immediate-is word fits) (λ operation f. record {
         word = (e, f.0, refl, refl);
         registers = (rd, rs1);
         immediates = f.1;

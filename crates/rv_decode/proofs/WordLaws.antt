@@ -82,8 +82,10 @@ division-word Remainder rd rs1 rs2 word f r s t = rw (f, r, s, t)
 division-word RemainderUnsigned rd rs1 rs2 word f r s t = rw (f, r, s, t)
 
 -- of an operation on a register and an immediate
-immediate-word : (operation : Operation) (rd rs1 imm word : ℕ) → word < 2 ^ 32 → IsImmediateOperation operation imm word
-    → option_map (λ o. Immediate o rd rs1 (operand_of (funct3_of word) word)) (immediate_operation_of (funct3_of word) (funct7_of word)) ≡ Some (Immediate operation rd rs1 imm)
+immediate-word : (operation : Operation) (rd rs1 imm word : ℕ) → word < 2 ^ 32
+    → IsImmediateOperation operation imm word
+    → option_map (λ o. Immediate o rd rs1 (operand_of (funct3_of word) word))
+    (immediate_operation_of (funct3_of word) (funct7_of word)) ≡ Some (Immediate operation rd rs1 imm)
 immediate-word Add rd rs1 imm word fits h = rw (h.0, immediate_i_of-word imm word fits h.1)
 immediate-word Subtract rd rs1 imm word fits h = absurd h
 immediate-word ShiftLeft rd rs1 imm word fits h = rw (h.0, h.1, h.2)
@@ -95,7 +97,8 @@ immediate-word ShiftRightArithmetic rd rs1 imm word fits h = rw (h.0, h.1, h.2)
 immediate-word Or rd rs1 imm word fits h = rw (h.0, immediate_i_of-word imm word fits h.1)
 immediate-word And rd rs1 imm word fits h = rw (h.0, immediate_i_of-word imm word fits h.1)
 
-system_of-word : (counter : Counter) (rd word : ℕ) → IsCsrRead word → csr_of word ≡ counter_number counter → rd_of word ≡ rd → system_of word ≡ Some (ReadCounter counter rd)
+system_of-word : (counter : Counter) (rd word : ℕ) → IsCsrRead word → csr_of word ≡ counter_number counter
+    → rd_of word ≡ rd → system_of word ≡ Some (ReadCounter counter rd)
 system_of-word counter rd word (inl f, z) n r = rw (f, z, n, counter_of-number counter, r)
 system_of-word counter rd word (inr (inl f), z) n r = rw (f, z, n, counter_of-number counter, r)
 system_of-word counter rd word (inr (inr (inl f)), z) n r = rw (f, z, n, counter_of-number counter, r)
@@ -107,9 +110,12 @@ decode_of-word muldiv (Lui rd imm) word fits h = rw (h.0, h.1, immediate_u_of-wo
 decode_of-word muldiv (Auipc rd imm) word fits h = rw (h.0, h.1, immediate_u_of-word imm word fits h.2)
 decode_of-word muldiv (Jal rd offset) word fits h = rw (h.0, h.1, immediate_j_of-word offset word fits h.2)
 decode_of-word muldiv (Jalr rd rs1 offset) word fits h = rw (h.0, h.1, h.2, h.3, immediate_i_of-word offset word fits h.4)
-decode_of-word muldiv (Branch comparison rs1 rs2 offset) word fits h = rw (h.0, h.1, comparison_of-code comparison, h.2, h.3, immediate_b_of-word offset word fits h.4)
-decode_of-word muldiv (Load width rd rs1 offset) word fits h = rw (h.0, h.1, load_width_of-code width, h.2, h.3, immediate_i_of-word offset word fits h.4)
-decode_of-word muldiv (Store width rs1 rs2 offset) word fits h = rw (h.0, h.1, store_width_of-code width, h.2, h.3, immediate_s_of-word offset word fits h.4)
+decode_of-word muldiv (Branch comparison rs1 rs2 offset) word fits h =
+    rw (h.0, h.1, comparison_of-code comparison, h.2, h.3, immediate_b_of-word offset word fits h.4)
+decode_of-word muldiv (Load width rd rs1 offset) word fits h =
+    rw (h.0, h.1, load_width_of-code width, h.2, h.3, immediate_i_of-word offset word fits h.4)
+decode_of-word muldiv (Store width rs1 rs2 offset) word fits h =
+    rw (h.0, h.1, store_width_of-code width, h.2, h.3, immediate_s_of-word offset word fits h.4)
 decode_of-word muldiv (Immediate operation rd rs1 imm) word fits h = rw (h.0, h.2, h.3) (immediate-word operation rd rs1 imm word fits h.1)
 decode_of-word muldiv (Register operation rd rs1 rs2) word fits h =
     rw h.0 (register-word muldiv operation rd rs1 rs2 word h.1 h.2 h.3 h.4)

@@ -40,10 +40,14 @@ abbrev pub immediate_s_of : ℕ → ℕ
 immediate_s_of word = sign_extended 12 (field word 25 7 * 2 ^ 5 + field word 7 5)
 
 abbrev pub immediate_b_of : ℕ → ℕ
-immediate_b_of word = sign_extended 13 (field word 31 1 * 2 ^ 12 + field word 7 1 * 2 ^ 11 + field word 25 6 * 2 ^ 5 + field word 8 4 * 2)
+immediate_b_of word =
+    sign_extended 13
+    (field word 31 1 * 2 ^ 12 + field word 7 1 * 2 ^ 11 + field word 25 6 * 2 ^ 5 + field word 8 4 * 2)
 
 abbrev pub immediate_u_of : ℕ → ℕ
 immediate_u_of word = field word 12 20 * 2 ^ 12
 
 abbrev pub immediate_j_of : ℕ → ℕ
-immediate_j_of word = sign_extended 21 (field word 31 1 * 2 ^ 20 + field word 12 8 * 2 ^ 12 + field word 20 1 * 2 ^ 11 + field word 21 10 * 2)
+immediate_j_of word =
+    sign_extended 21
+    (field word 31 1 * 2 ^ 20 + field word 12 8 * 2 ^ 12 + field word 20 1 * 2 ^ 11 + field word 21 10 * 2)

@@ -94,7 +94,8 @@ muldiv_of word =
     let funct3 = funct3_of word in
     if nat_lt funct3 0b100
     then option_map (λ product. Multiply product (rd_of word) (rs1_of word) (rs2_of word)) (product_of funct3)
-    else option_map (λ division. Divide division (rd_of word) (rs1_of word) (rs2_of word)) (division_of funct3)
+    else option_map (λ division. Divide division (rd_of word) (rs1_of word) (rs2_of word))
+    (division_of funct3)
 
 -- an operation on two registers; the first argument says whether the machine has the M extension
 abbrev pub register_form_of : Bool → ℕ → Option Instr
@@ -121,7 +122,9 @@ counter_of csr =
 abbrev pub system_of : ℕ → Option Instr
 system_of word =
     let funct3 = funct3_of word in
-    if funct3 == 0b000 then (if word == 0x00000073 then Some Ecall else (if word == 0x00100073 then Some Ebreak else None)) else
+    if funct3 == 0b000
+    then (if word == 0x00000073 then Some Ecall else (if word == 0x00100073 then Some Ebreak else None))
+    else
     (if (funct3 == 0b010 || funct3 == 0b011 || funct3 == 0b110 || funct3 == 0b111) && rs1_of word == 0
     then option_map (λ counter. ReadCounter counter (rd_of word)) (counter_of (csr_of word)) else None)
 

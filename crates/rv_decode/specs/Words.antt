@@ -111,12 +111,15 @@ pub record IsMuldiv (muldiv : Bool) (funct3 word : ℕ) : Type 0 where
 abbrev pub IsImmediateOperation : Operation → ℕ → ℕ → Type 0
 IsImmediateOperation Add imm word = (funct3_of word ≡ 0b000) × IsImmediateI imm word
 IsImmediateOperation Subtract imm word = ⊥
-IsImmediateOperation ShiftLeft imm word = (funct3_of word ≡ 0b001) × (funct7_of word ≡ 0b0000000) × (rs2_of word ≡ imm)
+IsImmediateOperation ShiftLeft imm word =
+    (funct3_of word ≡ 0b001) × (funct7_of word ≡ 0b0000000) × (rs2_of word ≡ imm)
 IsImmediateOperation SetLess imm word = (funct3_of word ≡ 0b010) × IsImmediateI imm word
 IsImmediateOperation SetLessUnsigned imm word = (funct3_of word ≡ 0b011) × IsImmediateI imm word
 IsImmediateOperation Xor imm word = (funct3_of word ≡ 0b100) × IsImmediateI imm word
-IsImmediateOperation ShiftRight imm word = (funct3_of word ≡ 0b101) × (funct7_of word ≡ 0b0000000) × (rs2_of word ≡ imm)
-IsImmediateOperation ShiftRightArithmetic imm word = (funct3_of word ≡ 0b101) × (funct7_of word ≡ 0b0100000) × (rs2_of word ≡ imm)
+IsImmediateOperation ShiftRight imm word =
+    (funct3_of word ≡ 0b101) × (funct7_of word ≡ 0b0000000) × (rs2_of word ≡ imm)
+IsImmediateOperation ShiftRightArithmetic imm word =
+    (funct3_of word ≡ 0b101) × (funct7_of word ≡ 0b0100000) × (rs2_of word ≡ imm)
 IsImmediateOperation Or imm word = (funct3_of word ≡ 0b110) × IsImmediateI imm word
 IsImmediateOperation And imm word = (funct3_of word ≡ 0b111) × IsImmediateI imm word
 
@@ -131,22 +134,36 @@ counter_number InstretHigh = 0xC82
 
 -- CSRRS, CSRRC, CSRRSI, CSRRCI, which write nothing where their rs1 field is 0
 abbrev pub IsCsrRead : ℕ → Type 0
-IsCsrRead word = ((funct3_of word ≡ 0b010) ⊎ ((funct3_of word ≡ 0b011) ⊎ ((funct3_of word ≡ 0b110) ⊎ (funct3_of word ≡ 0b111)))) × (rs1_of word ≡ 0)
+IsCsrRead word = ((funct3_of word ≡ 0b010)
+    ⊎ ((funct3_of word ≡ 0b011) ⊎ ((funct3_of word ≡ 0b110) ⊎ (funct3_of word ≡ 0b111))))
+    × (rs1_of word ≡ 0)
 
 -- the first argument says whether the machine has the M extension
 abbrev pub IsWordOf : Bool → Instr → ℕ → Type 0
 IsWordOf muldiv (Lui rd imm) word = (opcode_of word ≡ 0b0110111) × (rd_of word ≡ rd) × IsImmediateU imm word
 IsWordOf muldiv (Auipc rd imm) word = (opcode_of word ≡ 0b0010111) × (rd_of word ≡ rd) × IsImmediateU imm word
-IsWordOf muldiv (Jal rd offset) word = (opcode_of word ≡ 0b1101111) × (rd_of word ≡ rd) × IsImmediateJ offset word
-IsWordOf muldiv (Jalr rd rs1 offset) word = (opcode_of word ≡ 0b1100111) × (funct3_of word ≡ 0b000) × (rd_of word ≡ rd) × (rs1_of word ≡ rs1) × IsImmediateI offset word
-IsWordOf muldiv (Branch comparison rs1 rs2 offset) word = (opcode_of word ≡ 0b1100011) × (funct3_of word ≡ comparison_code comparison) × (rs1_of word ≡ rs1) × (rs2_of word ≡ rs2) × IsImmediateB offset word
-IsWordOf muldiv (Load width rd rs1 offset) word = (opcode_of word ≡ 0b0000011) × (funct3_of word ≡ load_code width) × (rd_of word ≡ rd) × (rs1_of word ≡ rs1) × IsImmediateI offset word
-IsWordOf muldiv (Store width rs1 rs2 offset) word = (opcode_of word ≡ 0b0100011) × (funct3_of word ≡ store_code width) × (rs1_of word ≡ rs1) × (rs2_of word ≡ rs2) × IsImmediateS offset word
-IsWordOf muldiv (Immediate operation rd rs1 imm) word = (opcode_of word ≡ 0b0010011) × IsImmediateOperation operation imm word × (rd_of word ≡ rd) × (rs1_of word ≡ rs1)
-IsWordOf muldiv (Register operation rd rs1 rs2) word = (opcode_of word ≡ 0b0110011) × IsOperation operation word × (rd_of word ≡ rd) × (rs1_of word ≡ rs1) × (rs2_of word ≡ rs2)
-IsWordOf muldiv (Multiply product rd rs1 rs2) word = IsMuldiv muldiv (product_code product) word × (rd_of word ≡ rd) × (rs1_of word ≡ rs1) × (rs2_of word ≡ rs2)
-IsWordOf muldiv (Divide division rd rs1 rs2) word = IsMuldiv muldiv (division_code division) word × (rd_of word ≡ rd) × (rs1_of word ≡ rs1) × (rs2_of word ≡ rs2)
+IsWordOf muldiv (Jal rd offset) word =
+    (opcode_of word ≡ 0b1101111) × (rd_of word ≡ rd) × IsImmediateJ offset word
+IsWordOf muldiv (Jalr rd rs1 offset) word = (opcode_of word ≡ 0b1100111) × (funct3_of word ≡ 0b000)
+    × (rd_of word ≡ rd) × (rs1_of word ≡ rs1) × IsImmediateI offset word
+IsWordOf muldiv (Branch comparison rs1 rs2 offset) word = (opcode_of word ≡ 0b1100011)
+    × (funct3_of word ≡ comparison_code comparison) × (rs1_of word ≡ rs1) × (rs2_of word ≡ rs2)
+    × IsImmediateB offset word
+IsWordOf muldiv (Load width rd rs1 offset) word = (opcode_of word ≡ 0b0000011)
+    × (funct3_of word ≡ load_code width) × (rd_of word ≡ rd) × (rs1_of word ≡ rs1) × IsImmediateI offset word
+IsWordOf muldiv (Store width rs1 rs2 offset) word = (opcode_of word ≡ 0b0100011)
+    × (funct3_of word ≡ store_code width) × (rs1_of word ≡ rs1) × (rs2_of word ≡ rs2)
+    × IsImmediateS offset word
+IsWordOf muldiv (Immediate operation rd rs1 imm) word = (opcode_of word ≡ 0b0010011)
+    × IsImmediateOperation operation imm word × (rd_of word ≡ rd) × (rs1_of word ≡ rs1)
+IsWordOf muldiv (Register operation rd rs1 rs2) word = (opcode_of word ≡ 0b0110011)
+    × IsOperation operation word × (rd_of word ≡ rd) × (rs1_of word ≡ rs1) × (rs2_of word ≡ rs2)
+IsWordOf muldiv (Multiply product rd rs1 rs2) word = IsMuldiv muldiv (product_code product) word
+    × (rd_of word ≡ rd) × (rs1_of word ≡ rs1) × (rs2_of word ≡ rs2)
+IsWordOf muldiv (Divide division rd rs1 rs2) word = IsMuldiv muldiv (division_code division) word
+    × (rd_of word ≡ rd) × (rs1_of word ≡ rs1) × (rs2_of word ≡ rs2)
 IsWordOf muldiv Fence word = (opcode_of word ≡ 0b0001111) × (funct3_of word ≡ 0b000)
 IsWordOf muldiv Ecall word = word ≡ 0x00000073
 IsWordOf muldiv Ebreak word = word ≡ 0x00100073
-IsWordOf muldiv (ReadCounter counter rd) word = (opcode_of word ≡ 0b1110011) × IsCsrRead word × (csr_of word ≡ counter_number counter) × (rd_of word ≡ rd)
+IsWordOf muldiv (ReadCounter counter rd) word =
+    (opcode_of word ≡ 0b1110011) × IsCsrRead word × (csr_of word ≡ counter_number counter) × (rd_of word ≡ rd)

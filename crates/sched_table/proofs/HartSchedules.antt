@@ -13,7 +13,8 @@ use Rattle.sched_table.proofs.Harts.{placed_law}
 
 -- ---- entries beside their places
 
-zip_push : (ps : List ℕ) (es : List Entry) (p : ℕ) (e : Entry) → length es ≡ length ps → zip (ps ++ p ∷ []) (es ++ e ∷ []) ≡ zip ps es ++ (p, e) ∷ []
+zip_push : (ps : List ℕ) (es : List Entry) (p : ℕ) (e : Entry) → length es ≡ length ps
+    → zip (ps ++ p ∷ []) (es ++ e ∷ []) ≡ zip ps es ++ (p, e) ∷ []
 zip_push [] [] p e long = refl
 zip_push [] (x ∷ es) p e long = absurd (omega (arith, long))
 zip_push (q ∷ ps) [] p e long = absurd (omega (arith, long))
@@ -25,7 +26,8 @@ alone_of_zip [] (e ∷ es) long = absurd (omega (arith, long))
 alone_of_zip (p ∷ ps) [] long = absurd (omega (arith, long))
 alone_of_zip (p ∷ ps) (e ∷ es) long = ap (λ (xs : List Entry). e ∷ xs) (alone_of_zip ps es (omega (arith, long)))
 
-place_of_zip : (ps : List ℕ) (es : List Entry) (k : ℕ) → length es ≡ length ps → place_in (zip ps es) k ≡ get_or ps k 0
+place_of_zip : (ps : List ℕ) (es : List Entry) (k : ℕ) → length es ≡ length ps
+    → place_in (zip ps es) k ≡ get_or ps k 0
 place_of_zip [] [] k long = refl
 place_of_zip [] (e ∷ es) k long = absurd (omega (arith, long))
 place_of_zip (p ∷ ps) [] k long = absurd (omega (arith, long))
@@ -33,13 +35,16 @@ place_of_zip (p ∷ ps) (e ∷ es) zero long = refl
 place_of_zip (p ∷ ps) (e ∷ es) (suc k) long = place_of_zip ps es k (omega (arith, long))
 
 -- of what stands for them
-pub alone_is : (ps : List ℕ) (es : List Entry) (placed : List (ℕ × Entry)) → length es ≡ length ps → zip ps es ≡ placed → es ≡ entries_alone placed
+pub alone_is : (ps : List ℕ) (es : List Entry) (placed : List (ℕ × Entry)) → length es ≡ length ps
+    → zip ps es ≡ placed → es ≡ entries_alone placed
 alone_is ps es placed long is = sym (alone_of_zip ps es long) ∙ ap entries_alone is
 
-pub place_is : (ps : List ℕ) (es : List Entry) (placed : List (ℕ × Entry)) (k : ℕ) → length es ≡ length ps → zip ps es ≡ placed → get_or ps k 0 ≡ place_in placed k
+pub place_is : (ps : List ℕ) (es : List Entry) (placed : List (ℕ × Entry)) (k : ℕ) → length es ≡ length ps
+    → zip ps es ≡ placed → get_or ps k 0 ≡ place_in placed k
 place_is ps es placed k long is = sym (place_of_zip ps es k long) ∙ ap (λ (xs : List (ℕ × Entry)). place_in xs k) is
 
-pub long_is : (ps : List ℕ) (es : List Entry) (placed : List (ℕ × Entry)) → length es ≡ length ps → zip ps es ≡ placed → length es ≡ length placed
+pub long_is : (ps : List ℕ) (es : List Entry) (placed : List (ℕ × Entry)) → length es ≡ length ps
+    → zip ps es ≡ placed → length es ≡ length placed
 long_is ps es placed long is =
     ap (λ (xs : List Entry). length xs) (alone_is ps es placed long is) ∙ length-map placed (λ (p : ℕ × Entry). p.1)
 
@@ -66,14 +71,16 @@ pub record AreSoFar (es : List Entry) (h k : ℕ) (ps : List ℕ) (own : List En
   pub even : length own ≡ length ps
   pub placed : zip ps own ≡ on_so_far es h k
 
-pub none_so_far : (es : List Entry) (h : ℕ) (ps : List ℕ) (own : List Entry) → ps ≡ [] → own ≡ [] → AreSoFar es h 0 ps own
+pub none_so_far : (es : List Entry) (h : ℕ) (ps : List ℕ) (own : List Entry) → ps ≡ [] → own ≡ []
+    → AreSoFar es h 0 ps own
 unfolding on_so_far
 none_so_far es h ps own no_ps no_own = record {
   even = ap length no_own ∙ sym (ap length no_ps);
   placed = ap₂ {C = List (ℕ × Entry)} (λ (qs : List ℕ) (xs : List Entry). zip qs xs) no_ps no_own;
 }
 
-pub one_more : (es : List Entry) (h k : ℕ) (ps qs : List ℕ) (own more : List Entry) → AreSoFar es h k ps own → k < length es → (entry_in es k).hart ≡ h
+pub one_more : (es : List Entry) (h k : ℕ) (ps qs : List ℕ) (own more : List Entry) → AreSoFar es h k ps own
+    → k < length es → (entry_in es k).hart ≡ h
     → qs ≡ ps ++ k ∷ [] → more ≡ own ++ entry_in es k ∷ [] → AreSoFar es h (k + 1) qs more
 one_more es h k ps qs own more so_far l on to_qs to_more = record {
   even = omega (arith, so_far.even, ap length to_qs, ap length to_more, length-append ps (k ∷ []), length-append own (entry_in es k ∷ []));
@@ -83,7 +90,8 @@ one_more es h k ps qs own more so_far l on to_qs to_more = record {
       ∙ sym (next_on es h k true l (eq-eqb (entry_in es k).hart h on));
 }
 
-pub none_more : (es : List Entry) (h k : ℕ) (ps qs : List ℕ) (own more : List Entry) → AreSoFar es h k ps own → k < length es → ((entry_in es k).hart ≡ h → ⊥)
+pub none_more : (es : List Entry) (h k : ℕ) (ps qs : List ℕ) (own more : List Entry) → AreSoFar es h k ps own
+    → k < length es → ((entry_in es k).hart ≡ h → ⊥)
     → qs ≡ ps → more ≡ own → AreSoFar es h (k + 1) qs more
 none_more es h k ps qs own more so_far l off to_qs to_more = record {
   even = omega (arith, so_far.even, ap length to_qs, ap length to_more);
@@ -94,19 +102,22 @@ none_more es h k ps qs own more so_far l off to_qs to_more = record {
 }
 
 -- at the end these are the hart's
-pub all_so_far : (es : List Entry) (h k : ℕ) (ps : List ℕ) (own : List Entry) → AreSoFar es h k ps own → k ≡ length es → zip ps own ≡ entries_on es h
+pub all_so_far : (es : List Entry) (h k : ℕ) (ps : List ℕ) (own : List Entry) → AreSoFar es h k ps own
+    → k ≡ length es → zip ps own ≡ entries_on es h
 unfolding on_so_far entries_on
 all_so_far es h k ps own so_far all =
     let every : take k (enumerate_from 0 es) ≡ enumerate_from 0 es =
     take_all k (enumerate_from 0 es) (omega (arith, all, length-enumerate_from 0 es)) in
     so_far.placed ∙ ap (filter (λ (placed : ℕ × Entry). placed.1.hart == h)) every
 
-pub own_is : (es : List Entry) (h k : ℕ) (ps : List ℕ) (own : List Entry) → AreSoFar es h k ps own → k ≡ length es → own ≡ on_hart es h
+pub own_is : (es : List Entry) (h k : ℕ) (ps : List ℕ) (own : List Entry) → AreSoFar es h k ps own
+    → k ≡ length es → own ≡ on_hart es h
 own_is es h k ps own so_far all = alone_is ps own (entries_on es h) so_far.even (all_so_far es h k ps own so_far all)
 
 -- ---- they are a schedule
 
-pub hart_schedule_sound : (es : List Entry) (h : ℕ) → IsSchedule es → 0 < length (on_hart es h) → IsSchedule (on_hart es h)
+pub hart_schedule_sound : (es : List Entry) (h : ℕ) → IsSchedule es → 0 < length (on_hart es h)
+    → IsSchedule (on_hart es h)
 unfolding entries_on
 hart_schedule_sound es h s some = record { some = some; few = few; lengths = lengths; pads = pads }
   where
@@ -121,7 +132,8 @@ hart_schedule_sound es h s some = record { some = some; few = few; lengths = len
         let alone = length-map (entries_on es h) (λ (p : ℕ × Entry). p.1) in
         omega (arith, kept, at_most, all, alone, s.few)
 
-    of_one : (Q : Entry → Type 0) → Q no_entry → ((k : ℕ) → Q (entry_in es k)) → (e : ℕ) → Q (entry_in (on_hart es h) e)
+    of_one : (Q : Entry → Type 0) → Q no_entry → ((k : ℕ) → Q (entry_in es k)) → (e : ℕ)
+        → Q (entry_in (on_hart es h) e)
     of_one Q none each e = either (cases_lt e (length (on_hart es h)))
       where
         either : (e < length (on_hart es h)) ⊎ (length (on_hart es h) ≤ e) → Q (entry_in (on_hart es h) e)
@@ -152,7 +164,8 @@ harts_more es harts hart k l read is =
     let left = ap harts_in (drop_more es k no_entry l) in
     omega (arith, is, left, read)
 
-pub harts_all : (es : List Entry) (harts k : ℕ) → length es ≤ k → max harts (harts_in (drop k es)) ≡ harts_in es → harts ≡ harts_in es
+pub harts_all : (es : List Entry) (harts k : ℕ) → length es ≤ k
+    → max harts (harts_in (drop k es)) ≡ harts_in es → harts ≡ harts_in es
 unfolding harts_in
 harts_all es harts k m is =
     let left = ap harts_in (drop_all k es m) in

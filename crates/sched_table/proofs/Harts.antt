@@ -17,7 +17,8 @@ hart_law es h = λ k d l. eqb-true _ h (filter_passes (λ (placed : ℕ × Entry
 kept : {A : Type 0} (b : Bool) (x : A) (xs : List A) → b ≡ true → (if b then x ∷ xs else xs) ≡ x ∷ xs
 kept b x xs e = rw e refl
 
-all_pass : (n : ℕ) (es : List Entry) → All (λ e. e.hart ≡ 0) es → filter (λ (placed : ℕ × Entry). placed.1.hart == 0) (enumerate_from n es) ≡ enumerate_from n es
+all_pass : (n : ℕ) (es : List Entry) → All (λ e. e.hart ≡ 0) es
+    → filter (λ (placed : ℕ × Entry). placed.1.hart == 0) (enumerate_from n es) ≡ enumerate_from n es
 all_pass n [] on = refl
 all_pass n (e ∷ es) on =
     let first : (e.hart == 0) ≡ true = ap (λ (h : ℕ). h == 0) (All-head (λ (x : Entry). x.hart ≡ 0) e es on) in
@@ -67,12 +68,14 @@ some_from h n (x ∷ xs) some = by_case (some_from h (n + 1) xs) (x.hart == h) s
     later : List (ℕ × Entry)
     later = filter (λ (placed : ℕ × Entry). placed.1.hart == h) (enumerate_from (n + 1) xs)
 
-    by_case : (list_any (λ e. e.hart == h) xs ≡ true → 0 < length later) → (b : Bool) → (b || list_any (λ e. e.hart == h) xs) ≡ true
+    by_case : (list_any (λ e. e.hart == h) xs ≡ true → 0 < length later) → (b : Bool)
+        → (b || list_any (λ e. e.hart == h) xs) ≡ true
         → 0 < length (cond b ((n, x) ∷ later) later)
     by_case rest true some = omega arith
     by_case rest false some = rest some
 
-pub named_there : (es : List Entry) (h : ℕ) → list_any (λ e. e.hart == h) es ≡ true → 0 < length (on_hart es h)
+pub named_there : (es : List Entry) (h : ℕ) → list_any (λ e. e.hart == h) es ≡ true
+    → 0 < length (on_hart es h)
 unfolding entries_on
 named_there es h some =
     let long = length-map (entries_on es h) (λ (placed : ℕ × Entry). placed.1) in
@@ -117,7 +120,8 @@ domain_hart_law es e harts l =
     let n = named es (entry_in es e).domain e l refl in
     n.hart ∙ harts.one n.place e n.there l n.names
 
-there_if : (b : Bool) (x : Entry) (xs : List Entry) (d : ℕ) → (x.domain == d) ≡ b → (hart_for xs d < harts_in xs) ⊎ (hart_for xs d ≡ 0)
+there_if : (b : Bool) (x : Entry) (xs : List Entry) (d : ℕ) → (x.domain == d) ≡ b
+    → (hart_for xs d < harts_in xs) ⊎ (hart_for xs d ≡ 0)
     → hart_for (x ∷ xs) d < harts_in (x ∷ xs)
 unfolding hart_for harts_in
 there_if true x xs d e below = rw e (omega arith)

@@ -40,9 +40,12 @@ soon_law es (suc k) s =
 
 -- ---- within a round
 
-pub before_more : (es : List Entry) (j : ℕ) → j < length es → cycles_before es (j + 1) ≡ cycles_before es j + cycles_of (entry_in es j)
+pub before_more : (es : List Entry) (j : ℕ) → j < length es
+    → cycles_before es (j + 1) ≡ cycles_before es j + cycles_of (entry_in es j)
 unfolding cycles_before
-before_more es j l = ap (λ (xs : List Entry). sum_by cycles_of xs) (take_more es j no_entry l) ∙ sum_by_push cycles_of (take j es) (entry_in es j)
+before_more es j l =
+    ap (λ (xs : List Entry). sum_by cycles_of xs) (take_more es j no_entry l)
+    ∙ sum_by_push cycles_of (take j es) (entry_in es j)
 
 pub slot_in_round : (es : List Entry) (j : ℕ) → j < length es → entry_of_slot es j ≡ entry_in es j
 slot_in_round es j l = ap (entry_in es) (mod-eq_of_lt l)
@@ -80,16 +83,19 @@ rounds_later es j (suc q) =
     ap (start es) same ∙ more ∙ omega (arith, before)
 
 -- when slot k's round begins
-pub round_start : (es : List Entry) (k : ℕ) → start es (k / length es * length es) ≡ start es 0 + k / length es * round es
+pub round_start : (es : List Entry) (k : ℕ)
+    → start es (k / length es * length es) ≡ start es 0 + k / length es * round es
 round_start es k =
     let same : k / length es * length es ≡ 0 + k / length es * length es = omega arith in
     ap (start es) same ∙ rounds_later es 0 (k / length es)
 
-pub round_soon : (es : List Entry) (k : ℕ) → IsSchedule es → start es (k / length es * length es) ≤ 2000000 * k + 1000000
+pub round_soon : (es : List Entry) (k : ℕ) → IsSchedule es
+    → start es (k / length es * length es) ≤ 2000000 * k + 1000000
 round_soon es k s = let soon = soon_law es (k / length es * length es) s in omega (arith, soon, div-add-mod' k (length es))
 
 -- the entries before slot k's in its round are still to come
-pub start_in_round : (es : List Entry) (k : ℕ) → 0 < length es → start es k ≡ start es (k / length es * length es) + cycles_before es (k % length es)
+pub start_in_round : (es : List Entry) (k : ℕ) → 0 < length es
+    → start es k ≡ start es (k / length es * length es) + cycles_before es (k % length es)
 start_in_round es k some =
     let n = length es in
     let later = rounds_later es (k % n) (k / n) in

@@ -4,7 +4,9 @@ use Rattle.sched_table.specs.declared.schedule.Entry.{Entry}
 use Rattle.sched_table.specs.Schedule.{start, last_end, switch_entry, entries_on, on_hart, place_on, harts_in, hart_schedules}
 
 abbrev pub two : List Entry
-two = record { domain = 0; length = 1000; pad = 30; hart = 0 } ∷ record { domain = 1; length = 2000; pad = 7; hart = 0 } ∷ []
+two =
+    record { domain = 0; length = 1000; pad = 30; hart = 0 }
+    ∷ record { domain = 1; length = 2000; pad = 7; hart = 0 } ∷ []
 
 -- the boot is a switch of the last entry
 pub first : start two 0 ≡ 7

@@ -31,13 +31,19 @@ entry_count : Raw → Option Refusal
 entry_count i = count_case 16 0 1 (most_entries i.version) (length i.schedule)
 
 -- what the rule has of the entries, as the code goes through them
-pub entries_case : (raw : coded.Raw) (texts : List coded_entry.RawEntry) (most : ℕ) → texts ≡ raw.schedule.items → most ≡ most_entries raw.version
-    → k16 (raw_model raw) ≡ or_else (count_case 16 0 1 most (length texts)) (first_in (k16_entry (length raw.domains.items)) (map entry_model texts))
+pub entries_case : (raw : coded.Raw) (texts : List coded_entry.RawEntry) (most : ℕ)
+    → texts ≡ raw.schedule.items → most ≡ most_entries raw.version
+    → k16 (raw_model raw)
+    ≡ or_else (count_case 16 0 1 most (length texts))
+    (first_in (k16_entry (length raw.domains.items)) (map entry_model texts))
 unfolding k16
 entries_case raw texts most same is =
     let own = raw.schedule.items in
-    ap₂ (λ n m. or_else (count_case 16 0 1 (most_entries raw.version) n) (first_in (k16_entry m) (map entry_model own))) (length-map own entry_model) (length-map raw.domains.items domain_model)
-    ∙ ap₂ (λ m (es : List coded_entry.RawEntry). or_else (count_case 16 0 1 m (length es)) (first_in (k16_entry (length raw.domains.items)) (map entry_model es))) (sym is) (sym same)
+    ap₂ (λ n m. or_else (count_case 16 0 1 (most_entries raw.version) n)
+    (first_in (k16_entry m) (map entry_model own))) (length-map own entry_model)
+    (length-map raw.domains.items domain_model)
+    ∙ ap₂ (λ m (es : List coded_entry.RawEntry). or_else (count_case 16 0 1 m (length es))
+    (first_in (k16_entry (length raw.domains.items)) (map entry_model es))) (sym is) (sym same)
 
 pub entries_within : (i : Raw) → k16 i ≡ None → Within 1 256 (length i.schedule)
 unfolding k16 entry_count

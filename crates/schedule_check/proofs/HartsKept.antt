@@ -29,7 +29,8 @@ named_below es h n below =
     by_case true passed = refl
     by_case false passed = grind (arith, nat_tests, passed, below)
 
-each_named : (es : List Entry) → k19_harts es ≡ None → harts_in es ≤ 4 → (h : ℕ) → h < harts_in es → has_entry es h ≡ true
+each_named : (es : List Entry) → k19_harts es ≡ None → harts_in es ≤ 4 → (h : ℕ) → h < harts_in es
+    → has_entry es h ≡ true
 each_named es n few h l = either (cases_lt (h + 1) (harts_in es))
   where
     rest : or_else (k19_hart es 1) (k19_hart es 2) ≡ None
@@ -81,7 +82,8 @@ one_each es e f n l m same = either (cases_lt e f)
 
 -- ---- the law
 
-below_4 : (es : List RawEntry) → first_in k19_entry es ≡ None → (e : ℕ) → e < length (map entry_of es) → (entry_in (map entry_of es) e).hart < 4
+below_4 : (es : List RawEntry) → first_in k19_entry es ≡ None → (e : ℕ) → e < length (map entry_of es)
+    → (entry_in (map entry_of es) e).hart < 4
 unfolding entry_of
 below_4 es n e l =
     let within : e < length es = let long = length-map es entry_of in omega (arith, long, l) in

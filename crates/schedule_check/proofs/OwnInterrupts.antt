@@ -25,7 +25,8 @@ is_line x = outside (pos 0) (pos 31) x ≡ false
 
 -- ---- K14: each line is one of 32, and named once
 
-line_case : (i : Raw) → k14 i ≡ None → (d : ℕ) → d < length i.domains → (k : ℕ) → k < length (raw_domain i.domains d).lines → (x : ℤ)
+line_case : (i : Raw) → k14 i ≡ None → (d : ℕ) → d < length i.domains → (k : ℕ)
+    → k < length (raw_domain i.domains d).lines → (x : ℤ)
     → k14_line (take d i.domains) (take k (raw_domain i.domains d).lines) (get_or (raw_domain i.domains d).lines k x) ≡ None
 unfolding k14
 line_case i n d l k m x =
@@ -40,7 +41,8 @@ record Line (domains : List RawDomain) (earlier : List ℤ) (x : ℤ) : Type 0 w
   pub within : is_line x
   pub new : named_before domains earlier x ≡ None
 
-line_passed : (domains : List RawDomain) (earlier : List ℤ) (x : ℤ) → k14_line domains earlier x ≡ None → Line domains earlier x
+line_passed : (domains : List RawDomain) (earlier : List ℤ) (x : ℤ) → k14_line domains earlier x ≡ None
+    → Line domains earlier x
 unfolding k14_line
 line_passed domains earlier x n =
     let before = named_before domains earlier x in
@@ -61,7 +63,8 @@ pub cycle_natural : (x : ℤ) → outside (pos 0) (pos 1000000000000) x ≡ fals
 cycle_natural x h = natural_inside 0 1000000000000 x h
 
 -- the lines of a domain fit those of the code
-pub small_lines : (i : Raw) → k14 i ≡ None → (d : ℕ) → d < length i.domains → AreSmall (raw_domain i.domains d).lines
+pub small_lines : (i : Raw) → k14 i ≡ None → (d : ℕ) → d < length i.domains
+    → AreSmall (raw_domain i.domains d).lines
 small_lines i n d l = record {
   natural = λ k x m. line_natural (get_or own k x) (within k x m);
   small = λ k x m. let most = line_most (get_or own k x) (within k x m) in omega (arith, most);
@@ -73,7 +76,8 @@ small_lines i n d l = record {
     within : (k : ℕ) (x : ℤ) → k < length own → is_line (get_or own k x)
     within k x m = (line_passed (take d i.domains) (take k own) (get_or own k x) (line_case i n d l k m x)).within
 
-pub small_lines_in : (raw : declared.Raw) → k14 (raw_model raw) ≡ None → All (λ o. AreSmall (domain_model o).lines) raw.domains.items
+pub small_lines_in : (raw : declared.Raw) → k14 (raw_model raw) ≡ None
+    → All (λ o. AreSmall (domain_model o).lines) raw.domains.items
 small_lines_in raw n = λ d o l.
     let small = small_lines (raw_model raw) n d (omega (arith, length-map raw.domains.items domain_model, l)) in
     subst (λ (p : RawDomain). AreSmall p.lines) (get_or-map domain_model raw.domains.items d o no_raw_domain l) small
@@ -85,7 +89,8 @@ named_small lines x all h = let s = stands lines x h in subst (λ (y : ℤ). nat
 pub named_natural : (lines : List ℤ) (x : ℤ) → AreSmall lines → names lines x ≡ true → IsNatural x
 named_natural lines x all h = let s = stands lines x h in subst (λ (y : ℤ). IsNatural y) s.same (all.natural s.place (pos 0) s.within)
 
-earlier_apart : (i : Raw) → k14 i ≡ None → (d : ℕ) → d < length i.domains → (e : ℕ) → e < d → (k : ℕ) → k < length (raw_domain i.domains d).lines
+earlier_apart : (i : Raw) → k14 i ≡ None → (d : ℕ) → d < length i.domains → (e : ℕ) → e < d → (k : ℕ)
+    → k < length (raw_domain i.domains d).lines
     → names (raw_domain i.domains e).lines (get_or (raw_domain i.domains d).lines k (pos 0)) ≡ false
 earlier_apart i n d l e before k m =
     let own = (raw_domain i.domains d).lines in
@@ -95,7 +100,8 @@ earlier_apart i n d l e before k m =
     let none = or_first (first_in (lined_so x) earlier) again (line_passed earlier (take k own) x (line_case i n d l k m (pos 0))).new in
     let there = first_in_none (lined_so x) earlier none e (omega (arith, length-take d i.domains, before, l)) no_raw_domain in
     let P : RawDomain → Type 0 = λ o. names o.lines x ≡ false in
-    subst P (get_or-take d i.domains e no_raw_domain before) (if_first (names (get_or earlier e no_raw_domain).lines x) (length (take e earlier)) None there)
+    subst P (get_or-take d i.domains e no_raw_domain before)
+    (if_first (names (get_or earlier e no_raw_domain).lines x) (length (take e earlier)) None there)
 
 -- ---- K15: each moment is of a line of the domain, and above the one before
 
@@ -104,7 +110,8 @@ pub record Passed (lines : List ℤ) (earlier : List RawMoment) (x : RawMoment) 
   pub line : names lines x.line ≡ true
   pub above : (y : RawMoment) → slice_get earlier (length earlier - 1) ≡ Some y → is_above x y ≡ true
 
-ordered : (d place : ℕ) (x y : RawMoment) (o : Option RawMoment) → order_case d place x o ≡ None → o ≡ Some y → is_above x y ≡ true
+ordered : (d place : ℕ) (x y : RawMoment) (o : Option RawMoment) → order_case d place x o ≡ None → o ≡ Some y
+    → is_above x y ≡ true
 ordered d place x y None n e = cc
 ordered d place x y (Some z) n e =
     let same : z ≡ y = cc in
@@ -114,7 +121,8 @@ not_false : (b : Bool) → not b ≡ false → b ≡ true
 not_false true h = refl
 not_false false h = cc
 
-moment_passed : (lines : List ℤ) (d : ℕ) (earlier : List RawMoment) (x : RawMoment) → k15_moment lines d earlier x ≡ None → Passed lines earlier x
+moment_passed : (lines : List ℤ) (d : ℕ) (earlier : List RawMoment) (x : RawMoment)
+    → k15_moment lines d earlier x ≡ None → Passed lines earlier x
 unfolding k15_moment
 moment_passed lines d earlier x n =
     let place = length earlier in
@@ -135,9 +143,11 @@ moment_passed lines d earlier x n =
 pub record HasInterrupts (o : RawDomain) : Type 0 where
   pub within : (k : ℕ) → k < length o.lines → (x : ℤ) → is_line (get_or o.lines k x)
   pub few : length o.moments ≤ 1024
-  pub passed : (k : ℕ) → k < length o.moments → (m : RawMoment) → Passed o.lines (take k o.moments) (get_or o.moments k m)
+  pub passed : (k : ℕ) → k < length o.moments → (m : RawMoment)
+      → Passed o.lines (take k o.moments) (get_or o.moments k m)
 
-pub interrupts : (i : Raw) → k14 i ≡ None → k15 i ≡ None → (d : ℕ) → d < length i.domains → HasInterrupts (raw_domain i.domains d)
+pub interrupts : (i : Raw) → k14 i ≡ None → k15 i ≡ None → (d : ℕ) → d < length i.domains
+    → HasInterrupts (raw_domain i.domains d)
 unfolding k15 k15_domain
 interrupts i lines moments d l =
     let o = raw_domain i.domains d in
@@ -149,7 +159,9 @@ interrupts i lines moments d l =
     record {
       within = λ k m x. (line_passed (take d i.domains) (take k o.lines) (get_or o.lines k x) (line_case i lines d l k m x)).within;
       few = ltb-false 1024 (length o.moments) (if_first (nat_lt 1024 (length o.moments)) many each here);
-      passed = λ k m x. moment_passed o.lines place (take k o.moments) (get_or o.moments k x) (first_in_none (k15_moment o.lines place) o.moments rest k m x);
+      passed =
+          λ k m x. moment_passed o.lines place (take k o.moments) (get_or o.moments k x)
+          (first_in_none (k15_moment o.lines place) o.moments rest k m x);
     }
 
 line_within : (o : RawDomain) → HasInterrupts o → (x : ℤ) → names o.lines x ≡ true → is_line x
@@ -186,17 +198,21 @@ moment_at o k x e =
       is = sym (get_or-map moment_of o.moments k no_raw_moment none within) ∙ get_or_from_slice_get (map moment_of o.moments) k x none e;
     }
 
-pub early : (o : RawDomain) → HasInterrupts o → (k : ℕ) (x : Moment) → slice_get (map moment_of o.moments) k ≡ Some x → x.at ≤ 1000000000000
+pub early : (o : RawDomain) → HasInterrupts o → (k : ℕ) (x : Moment)
+    → slice_get (map moment_of o.moments) k ≡ Some x → x.at ≤ 1000000000000
 unfolding moment_of raw_moment
 early o irqs k x e =
     let m = moment_at o k x e in
-    subst (λ (y : Moment). y.at ≤ 1000000000000) m.is (inside 0 1000000000000 (raw_moment o k).at (irqs.passed k m.within no_raw_moment).at).most
+    subst (λ (y : Moment). y.at ≤ 1000000000000) m.is
+    (inside 0 1000000000000 (raw_moment o k).at (irqs.passed k m.within no_raw_moment).at).most
 
-pub own_line : (o : RawDomain) → HasInterrupts o → (k : ℕ) (x : Moment) → slice_get (map moment_of o.moments) k ≡ Some x → has (map natural_of o.lines) x.line ≡ true
+pub own_line : (o : RawDomain) → HasInterrupts o → (k : ℕ) (x : Moment)
+    → slice_get (map moment_of o.moments) k ≡ Some x → has (map natural_of o.lines) x.line ≡ true
 unfolding moment_of raw_moment
 own_line o irqs k x e =
     let m = moment_at o k x e in
-    subst (λ (y : Moment). has (map natural_of o.lines) y.line ≡ true) m.is (has_natural o.lines (raw_moment o k).line (irqs.passed k m.within no_raw_moment).line)
+    subst (λ (y : Moment). has (map natural_of o.lines) y.line ≡ true) m.is
+    (has_natural o.lines (raw_moment o k).line (irqs.passed k m.within no_raw_moment).line)
 
 -- ---- the moments ascend
 
@@ -204,7 +220,8 @@ naturals_before : (a b p q : ℕ) → (nat_lt a b || (not (nat_lt a b || nat_lt 
     → IsBefore (record { at = a; line = p }) (record { at = b; line = q })
 naturals_before a b p q h = record { not_later = grind (arith, nat_tests, h); by_line = λ e. grind (arith, nat_tests, h, e) }
 
-is_before : (x y : RawMoment) → outside (pos 0) (pos 1000000000000) x.at ≡ false → outside (pos 0) (pos 1000000000000) y.at ≡ false
+is_before : (x y : RawMoment) → outside (pos 0) (pos 1000000000000) x.at ≡ false
+    → outside (pos 0) (pos 1000000000000) y.at ≡ false
     → is_line x.line → is_line y.line → is_above y x ≡ true → IsBefore (moment_of x) (moment_of y)
 unfolding moment_of
 is_before x y at_x at_y line_x line_y h = naturals_before (natural_of x.at) (natural_of y.at) (natural_of x.line) (natural_of y.line)
@@ -217,7 +234,8 @@ is_before x y at_x at_y line_x line_y h = naturals_before (natural_of x.at) (nat
     same : (z : RawMoment) → outside (pos 0) (pos 1000000000000) z.at ≡ false → is_line z.line → z ≡ whole z
     same z at_z line_z = rw (sym (the_integer 1000000000000 z.at at_z), sym (the_integer 31 z.line line_z)) refl
 
-before_next : (o : RawDomain) → HasInterrupts o → (k : ℕ) → suc k < length o.moments → IsBefore (moment_of (raw_moment o k)) (moment_of (raw_moment o (suc k)))
+before_next : (o : RawDomain) → HasInterrupts o → (k : ℕ) → suc k < length o.moments
+    → IsBefore (moment_of (raw_moment o k)) (moment_of (raw_moment o (suc k)))
 unfolding raw_moment
 before_next o irqs k l =
     let ms = o.moments in
@@ -228,7 +246,8 @@ before_next o irqs k l =
     let last : slice_get (take (suc k) ms) (length (take (suc k) ms) - 1) ≡ Some (raw_moment o k) =
     ap (λ j. slice_get (take (suc k) ms) j) place ∙ read ∙ ap Some (get_or-take (suc k) ms k no_raw_moment (omega arith)) in
     is_before (raw_moment o k) (raw_moment o (suc k)) this.at next.at
-    (line_within o irqs (raw_moment o k).line this.line) (line_within o irqs (raw_moment o (suc k)).line next.line) (next.above (raw_moment o k) last)
+    (line_within o irqs (raw_moment o k).line this.line)
+    (line_within o irqs (raw_moment o (suc k)).line next.line) (next.above (raw_moment o k) last)
 
 before_trans : (x y z : Moment) → IsBefore x y → IsBefore y z → IsBefore x z
 before_trans x y z a b = record {
@@ -238,11 +257,13 @@ before_trans x y z a b = record {
       omega (arith, first, second);
 }
 
-before_later : (o : RawDomain) → HasInterrupts o → (j k : ℕ) → j < k → k < length o.moments → IsBefore (moment_of (raw_moment o j)) (moment_of (raw_moment o k))
+before_later : (o : RawDomain) → HasInterrupts o → (j k : ℕ) → j < k → k < length o.moments
+    → IsBefore (moment_of (raw_moment o j)) (moment_of (raw_moment o k))
 before_later o irqs j zero less l = absurd (omega (arith, less))
 before_later o irqs j (suc k) less l = either (before_later o irqs j k) (cases_lt j k)
   where
-    either : (j < k → k < length o.moments → IsBefore (moment_of (raw_moment o j)) (moment_of (raw_moment o k))) → (j < k) ⊎ (k ≤ j)
+    either : (j < k → k < length o.moments
+        → IsBefore (moment_of (raw_moment o j)) (moment_of (raw_moment o k))) → (j < k) ⊎ (k ≤ j)
         → IsBefore (moment_of (raw_moment o j)) (moment_of (raw_moment o (suc k)))
     either earlier (inl before) =
         before_trans (moment_of (raw_moment o j)) (moment_of (raw_moment o k)) (moment_of (raw_moment o (suc k)))

@@ -9,7 +9,8 @@ use Rattle.sched_table.specs.Schedule.{harts_in}
 use Rattle.schedule_check.specs.Schedule.{entry_of}
 
 unfoldable pub hart_case : ℕ → RawEntry → Option Refusal
-hart_case place e = if outside (pos 0) (pos 3) e.hart then Some (refusal 19 (pos place) e.hart (pos 1)) else None
+hart_case place e =
+    if outside (pos 0) (pos 3) e.hart then Some (refusal 19 (pos place) e.hart (pos 1)) else None
 
 abbrev pub k19_entry : List RawEntry → RawEntry → Option Refusal
 k19_entry earlier e = hart_case (length earlier) e
@@ -20,7 +21,8 @@ has_entry es h = list_any (λ e. e.hart == h) es
 -- a hart below the greatest
 unfoldable pub k19_hart : List Entry → ℕ → Option Refusal
 k19_hart es h =
-    if nat_lt (h + 1) (harts_in es) && not (has_entry es h) then Some (refusal 19 (pos h) (pos 0) (pos 2)) else None
+    if nat_lt (h + 1) (harts_in es) && not (has_entry es h) then Some (refusal 19 (pos h) (pos 0) (pos 2))
+    else None
 
 abbrev pub k19_harts : List Entry → Option Refusal
 k19_harts es = or_else (k19_hart es 0) (or_else (k19_hart es 1) (k19_hart es 2))
@@ -31,7 +33,8 @@ is_elsewhere e other = other.domain == e.domain && not (other.hart == e.hart)
 
 abbrev pub k19_domain : List Entry → Entry → Option Refusal
 k19_domain earlier e =
-    if list_any (is_elsewhere e) earlier then Some (refusal 19 (pos (length earlier)) (pos e.domain) (pos 3)) else None
+    if list_any (is_elsewhere e) earlier then Some (refusal 19 (pos (length earlier)) (pos e.domain) (pos 3))
+    else None
 
 -- where each is on one of 0 to 3
 abbrev pub k19_entries : List Entry → Option Refusal

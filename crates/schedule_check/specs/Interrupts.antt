@@ -16,7 +16,8 @@ lined_so x earlier o = if names o.lines x then Some (length earlier) else None
 
 -- the domain that named the line before: an earlier one, or the same
 abbrev pub named_before : List RawDomain → List ℤ → ℤ → Option ℕ
-named_before domains earlier x = or_else (first_in (lined_so x) domains) (if names earlier x then Some (length domains) else None)
+named_before domains earlier x =
+    or_else (first_in (lined_so x) domains) (if names earlier x then Some (length domains) else None)
 
 abbrev pub same_line : ℕ → ℤ → Option ℕ → Option Refusal
 same_line d x None = None

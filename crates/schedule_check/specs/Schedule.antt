@@ -24,7 +24,9 @@ abbrev pub most_entries : ℕ → ℕ
 most_entries version = if nat_eq version 1 then 64 else 256
 
 unfoldable pub k16 : Raw → Option Refusal
-k16 i = or_else (count_case 16 0 1 (most_entries i.version) (length i.schedule)) (first_in (k16_entry (length i.domains)) i.schedule)
+k16 i =
+    or_else (count_case 16 0 1 (most_entries i.version) (length i.schedule))
+    (first_in (k16_entry (length i.domains)) i.schedule)
 
 -- ---- what an entry is
 
@@ -36,4 +38,9 @@ pub record IsSmallEntry (e : RawEntry) : Type 0 where
   pub hart : outside (pos 0) (pos 3) e.hart ≡ false
 
 unfoldable pub entry_of : RawEntry → Entry
-entry_of e = record { domain = natural_of e.domain; length = natural_of e.length; pad = natural_of e.pad; hart = natural_of e.hart }
+entry_of e = record {
+  domain = natural_of e.domain;
+  length = natural_of e.length;
+  pad = natural_of e.pad;
+  hart = natural_of e.hart;
+}

@@ -4,7 +4,9 @@ use Rattle.rand_pcg.specs.Lcg.{Lcg, next_state, state_after}
 use Rattle.rand_pcg.specs.Pcg.{multiplier_64}
 use Rattle.seed_words.specs.Words.{after, word}
 
-state_after_add : (i m n s : ℕ) → state_after 64 multiplier_64 i n (state_after 64 multiplier_64 i m s) ≡ state_after 64 multiplier_64 i (m + n) s
+state_after_add : (i m n s : ℕ)
+    → state_after 64 multiplier_64 i n (state_after 64 multiplier_64 i m s)
+    ≡ state_after 64 multiplier_64 i (m + n) s
 unfolding state_after
 state_after_add i zero n s =
     let e : n ≡ 0 + n = omega arith in

@@ -20,7 +20,8 @@ some_same : {A : Type 0} (x y : A) → Some x ≡ Some y → x ≡ y
 some_same x y e = cc
 
 module _ (Fits : ℕ → Type 0) where
-  pub set_fits : (places : List (Option KeptLine)) (i : ℕ) (new : KeptLine) → (new.dirty ≡ true → Fits new.number) → EachOf Fits places
+  pub set_fits : (places : List (Option KeptLine)) (i : ℕ) (new : KeptLine)
+      → (new.dirty ≡ true → Fits new.number) → EachOf Fits places
       → EachOf Fits (set places i (Some new))
   set_fits [] i new fits all way line at dirty = all way line at dirty
   set_fits (kept ∷ places) zero new fits all zero line at dirty =
@@ -31,7 +32,8 @@ module _ (Fits : ℕ → Type 0) where
   set_fits (kept ∷ places) (suc i) new fits all (suc way) line at dirty =
       set_fits places i new fits (λ w. all (suc w)) way line at dirty
 
-  pub step_fits : (rule : Rule) (its : CacheSet) (number : ℕ) (store : Bool) (found : Option ℕ) → (store ≡ true → Fits number)
+  pub step_fits : (rule : Rule) (its : CacheSet) (number : ℕ) (store : Bool) (found : Option ℕ)
+      → (store ≡ true → Fits number)
       → EachOf Fits its.places → EachOf Fits (step_by rule its number store found).next.places
   step_fits rule its number true (Some way) fits all =
       set_fits its.places way (record { number = number; dirty = true }) fits all
@@ -39,7 +41,8 @@ module _ (Fits : ℕ → Type 0) where
   step_fits rule its number store None fits all =
       set_fits its.places (way_for rule its) (record { number = number; dirty = store }) fits all
 
-  victim_of : (places : List (Option KeptLine)) (way : ℕ) (old : Option KeptLine) (victim : ℕ) → get_or places way None ≡ old
+  victim_of : (places : List (Option KeptLine)) (way : ℕ) (old : Option KeptLine) (victim : ℕ)
+      → get_or places way None ≡ old
       → option_map (λ (line : KeptLine). line.number) old ≡ Some victim → is_dirty old ≡ true → EachOf Fits places → Fits victim
   victim_of places way None victim at is dirty all = absurd (true≢false (sym dirty))
   victim_of places way (Some line) victim at is dirty all =
@@ -52,7 +55,8 @@ module _ (Fits : ℕ → Type 0) where
   step_victim rule its number store None victim is dirty all =
       victim_of its.places (way_for rule its) (get_or its.places (way_for rule its) None) victim refl is dirty all
 
-  number_fits : (line : KeptLine) (numbers : List ℕ) (dirty : Bool) → line.dirty ≡ dirty → (line.dirty ≡ true → Fits line.number)
+  number_fits : (line : KeptLine) (numbers : List ℕ) (dirty : Bool) → line.dirty ≡ dirty
+      → (line.dirty ≡ true → Fits line.number)
       → All Fits numbers → All Fits (with_number (if dirty then Some line.number else None) numbers)
   number_fits line numbers true is fits all = All-cons Fits line.number numbers (fits is) all
   number_fits line numbers false is fits all = all
@@ -65,7 +69,8 @@ module _ (Fits : ℕ → Type 0) where
 
   module _ (shape : Shape) where
     -- a store marks its line alone
-    pub EachDirty-touch : (sets : Sets) (number : ℕ) (store : Bool) → (store ≡ true → Fits number) → EachDirty Fits shape sets
+    pub EachDirty-touch : (sets : Sets) (number : ℕ) (store : Bool) → (store ≡ true → Fits number)
+        → EachDirty Fits shape sets
         → EachDirty Fits shape (touch_of shape sets number store).next
     EachDirty-touch sets number store fits all =
         let home : ℕ = number % shape.count in
@@ -99,7 +104,8 @@ EachDirty-empty Fits shape s way line at dirty =
     let some : None ≡ Some line = sym (empty_kept shape.ways s way) ∙ at in
     absurd (cc)
 
-pub EachDirty-weaker : (Fits Others : ℕ → Type 0) (shape : Shape) (sets : Sets) → ((n : ℕ) → Fits n → Others n)
+pub EachDirty-weaker : (Fits Others : ℕ → Type 0) (shape : Shape) (sets : Sets)
+    → ((n : ℕ) → Fits n → Others n)
     → EachDirty Fits shape sets → EachDirty Others shape sets
 EachDirty-weaker Fits Others shape sets weaker all s way line at dirty = weaker line.number (all s way line at dirty)
 
@@ -109,7 +115,8 @@ module _ (places : List (Option KeptLine)) (none : EachOf (λ _. ⊥) places) wh
   clean_kept way None at = refl
   clean_kept way (Some line) at = false_from_ne_true line.dirty (none way line at)
 
-pub clean_victim : (rule : Rule) (its : CacheSet) (number : ℕ) (store : Bool) (found : Option ℕ) → EachOf (λ _. ⊥) its.places
+pub clean_victim : (rule : Rule) (its : CacheSet) (number : ℕ) (store : Bool) (found : Option ℕ)
+    → EachOf (λ _. ⊥) its.places
     → (step_by rule its number store found).answer.dirty_victim ≡ false
 clean_victim rule its number store (Some way) none = refl
 clean_victim rule its number store None none =
@@ -117,11 +124,13 @@ clean_victim rule its number store None none =
 
 -- ---- the list of them
 
-with_number-append : (number : Option ℕ) (xs ys : List ℕ) → with_number number (xs ++ ys) ≡ with_number number xs ++ ys
+with_number-append : (number : Option ℕ) (xs ys : List ℕ)
+    → with_number number (xs ++ ys) ≡ with_number number xs ++ ys
 with_number-append None xs ys = refl
 with_number-append (Some number) xs ys = refl
 
-pub dirty_numbers-append : (xs ys : List (Option KeptLine)) → dirty_numbers (xs ++ ys) ≡ dirty_numbers xs ++ dirty_numbers ys
+pub dirty_numbers-append : (xs ys : List (Option KeptLine))
+    → dirty_numbers (xs ++ ys) ≡ dirty_numbers xs ++ dirty_numbers ys
 dirty_numbers-append [] ys = refl
 dirty_numbers-append (None ∷ xs) ys = dirty_numbers-append xs ys
 dirty_numbers-append (Some line ∷ xs) ys =
@@ -136,7 +145,8 @@ below_fit Fits shape sets (suc count) all =
     (All-append Fits (dirty_numbers (places_below shape.ways sets count)) (dirty_numbers (set_at shape.ways sets count).places)
     (below_fit Fits shape sets count all) (numbers_fit Fits (set_at shape.ways sets count).places (all count)))
 
-pub dirty_lines_fit : (Fits : ℕ → Type 0) (shape : Shape) (sets : Sets) → EachDirty Fits shape sets → All Fits (dirty_lines shape sets)
+pub dirty_lines_fit : (Fits : ℕ → Type 0) (shape : Shape) (sets : Sets) → EachDirty Fits shape sets
+    → All Fits (dirty_lines shape sets)
 dirty_lines_fit Fits shape sets all = below_fit Fits shape sets shape.count all
 
 -- ---- what a list of them tells
@@ -180,7 +190,8 @@ among_first n (Some line) numbers = first line.dirty
 
 -- a line without a mark in place of what a way kept
 set_among : (n : ℕ) (places : List (Option KeptLine)) (way number : ℕ)
-    → (dirty_is n (get_or places way None) || is_among n (dirty_numbers (set places way (Some (record { number = number; dirty = false })))))
+    → (dirty_is n (get_or places way None)
+    || is_among n (dirty_numbers (set places way (Some (record { number = number; dirty = false })))))
     ≡ is_among n (dirty_numbers places)
 set_among n [] way number = refl
 set_among n (kept ∷ places) zero number = sym (among_first n kept (dirty_numbers places))
@@ -201,11 +212,14 @@ given_up_dirty shape sets number =
 -- of one set
 step_among : (n : ℕ) (rule : Rule) (its : CacheSet) (number : ℕ) (found : Option ℕ)
     → let step = step_by rule its number false found in
-    (is_among n (with_number (if step.answer.dirty_victim then step.answer.victim else None) []) || is_among n (dirty_numbers step.next.places))
+    (is_among n (with_number (if step.answer.dirty_victim then step.answer.victim else None) [])
+    || is_among n (dirty_numbers step.next.places))
     ≡ is_among n (dirty_numbers its.places)
 step_among n rule its number (Some way) = refl
 step_among n rule its number None =
-    ap (λ (b : Bool). b || is_among n (dirty_numbers (set its.places (way_for rule its) (Some (record { number = number; dirty = false })))))
+    ap (λ (b : Bool). b
+    || is_among n (dirty_numbers
+    (set its.places (way_for rule its) (Some (record { number = number; dirty = false })))))
     (old_is (get_or its.places (way_for rule its) None))
     ∙ set_among n its.places (way_for rule its) number
   where
@@ -254,7 +268,8 @@ module _ (n : ℕ) (shape : Shape) (sets : Sets) (number : ℕ) where
       let its : CacheSet = set_at shape.ways sets home in
       subst (λ (one : CacheSet). (is_given || is_among n (dirty_numbers one.places)) ≡ among_set sets home)
       (sym (at-put_by (fresh_set shape.ways) sets home (step_of shape.rule its number false).next
-      (λ k (one : CacheSet). k ≡ home → one ≡ (step_of shape.rule its number false).next) (λ _. refl) (λ k apart same. absurd (apart same)) home refl))
+      (λ k (one : CacheSet). k ≡ home → one ≡ (step_of shape.rule its number false).next) (λ _. refl)
+      (λ k apart same. absurd (apart same)) home refl))
       (step_among n shape.rule its number (way_of number its.places))
 
   -- the sets before the line's are as they were
@@ -288,7 +303,8 @@ module _ (n : ℕ) (shape : Shape) (sets : Sets) (number : ℕ) where
       ∙ sym (below_among n shape.ways sets (suc last)))
 
   -- a load takes the mark of the line that is given up alone
-  pub among-load : home < shape.count → (is_given || is_among n (dirty_lines shape after)) ≡ is_among n (dirty_lines shape sets)
+  pub among-load : home < shape.count
+      → (is_given || is_among n (dirty_lines shape after)) ≡ is_among n (dirty_lines shape sets)
   among-load lt =
       let more : ℕ = shape.count - suc home in
       let all : suc (more + home) ≡ shape.count = omega (arith, lt) in
@@ -301,7 +317,8 @@ abbrev pub marked_by : (ℕ → Bool) → CacheSet → CacheSet
 marked_by test its = record its { places = map (marked_if test) its.places }
 
 -- no line comes, goes or moves
-pub line_marked : (number : ℕ) (test : ℕ → Bool) (kept : Option KeptLine) → is_line number (marked_if test kept) ≡ is_line number kept
+pub line_marked : (number : ℕ) (test : ℕ → Bool) (kept : Option KeptLine)
+    → is_line number (marked_if test kept) ≡ is_line number kept
 line_marked number test None = refl
 line_marked number test (Some line) = refl
 
@@ -340,14 +357,16 @@ marked-twice f g (Some line ∷ places) =
     (or_assoc line.dirty (g line.number) (f line.number)) (marked-twice f g places)
 
 -- sets that are marked by equal tests are equal
-pub marked_by-same : (f g : ℕ → Bool) (its : CacheSet) → ((n : ℕ) → f n ≡ g n) → marked_by f its ≡ marked_by g its
+pub marked_by-same : (f g : ℕ → Bool) (its : CacheSet) → ((n : ℕ) → f n ≡ g n)
+    → marked_by f its ≡ marked_by g its
 marked_by-same f g its same =
     ap (λ (ps : List (Option KeptLine)). record its { places = ps }) (marked-same f g same its.places)
 
 pub marked_by-none : (its : CacheSet) → marked_by (λ _. false) its ≡ its
 marked_by-none its = ap (λ (ps : List (Option KeptLine)). record its { places = ps }) (marked-none its.places)
 
-pub marked_by-twice : (f g : ℕ → Bool) (its : CacheSet) → marked_by f (marked_by g its) ≡ marked_by (λ n. g n || f n) its
+pub marked_by-twice : (f g : ℕ → Bool) (its : CacheSet)
+    → marked_by f (marked_by g its) ≡ marked_by (λ n. g n || f n) its
 marked_by-twice f g its = ap (λ (ps : List (Option KeptLine)). record its { places = ps }) (marked-twice f g its.places)
 
 -- what a way keeps after marks has its number, and a mark where it had one
@@ -409,7 +428,8 @@ is_here_of shape s [] n = false
 is_here_of shape s (x ∷ xs) n = is_here shape s x n || is_here_of shape s xs n
 
 -- it is one of them, and here
-pub here_among : (shape : Shape) (s : ℕ) (xs : List ℕ) (n : ℕ) → is_here_of shape s xs n ≡ (is_among n xs && (n % shape.count == s))
+pub here_among : (shape : Shape) (s : ℕ) (xs : List ℕ) (n : ℕ)
+    → is_here_of shape s xs n ≡ (is_among n xs && (n % shape.count == s))
 here_among shape s [] n = refl
 here_among shape s (x ∷ xs) n =
     ap₂ (λ (a b : Bool). a || b) (first (n == x) refl) (here_among shape s xs n)
@@ -427,7 +447,8 @@ here_among shape s (x ∷ xs) n =
     shared false b c = refl
 
 -- lists of the same lines mark alike
-pub same_marks : (shape : Shape) (s : ℕ) (xs ys : List ℕ) (its : CacheSet) → ((n : ℕ) → is_among n xs ≡ is_among n ys)
+pub same_marks : (shape : Shape) (s : ℕ) (xs ys : List ℕ) (its : CacheSet)
+    → ((n : ℕ) → is_among n xs ≡ is_among n ys)
     → marked_by (is_here_of shape s xs) its ≡ marked_by (is_here_of shape s ys) its
 same_marks shape s xs ys its same =
     marked_by-same (is_here_of shape s xs) (is_here_of shape s ys) its

@@ -21,7 +21,8 @@ none_of : {A : Type 0} (o : Option A) → is_some o ≡ true → is_none o ≡ f
 none_of None t = absurd (false≢true t)
 none_of (Some x) t = refl
 
-pub some_where : {A : Type 0} (o : Option A) (empty : Bool) → empty ≡ is_none o → empty ≡ false → is_some o ≡ true
+pub some_where : {A : Type 0} (o : Option A) (empty : Bool) → empty ≡ is_none o → empty ≡ false
+    → is_some o ≡ true
 some_where o empty is not = some_of o (sym is ∙ not)
 
 -- where no element passes
@@ -55,7 +56,8 @@ passes_first p xs d i within here before =
     rw (at, t)
 
 -- one more element fails
-pub fails_more : {A : Type 0} (p : A → Bool) (xs : List A) (n : ℕ) (e : A) → n < length xs → p (get_or xs n e) ≡ false
+pub fails_more : {A : Type 0} (p : A → Bool) (xs : List A) (n : ℕ) (e : A) → n < length xs
+    → p (get_or xs n e) ≡ false
     → ((k : ℕ) (d : A) → k < n → p (get_or xs k d) ≡ false) → (k : ℕ) (d : A) → k < n + 1 → p (get_or xs k d) ≡ false
 fails_more p xs n e within here before k d below =
     elim (cases_lt k n) [

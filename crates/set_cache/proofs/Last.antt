@@ -167,7 +167,8 @@ last_below takes rule stands cache last sound is =
 pub record IsPlaced {P : Type 0} (takes : P → ℕ → Type 0) (rule : P → ℕ → Rule) (stands : P → ℕ → ℕ → List ℕ → Type 0)
     (contents : Contents P) (number : ℕ) (place : Option ℕ) : Type 0 where
   pub here : place ≡ place_in contents number
-  pub listed : (sets : Sets) → StandsFor stands contents sets → place ≡ place_of (shape_of rule contents) sets number
+  pub listed : (sets : Sets) → StandsFor stands contents sets
+      → place ≡ place_of (shape_of rule contents) sets number
   pub below : IfSome place (λ p. p < length contents.table * contents.ways)
   pub sound : IsSound takes stands contents
 

@@ -385,7 +385,8 @@ module _ {P : Type 0} (takes : P → ℕ → Type 0) (rule : P → ℕ → Rule)
     others = λ other n. marks_of_store.others other n (λ e. let x : None ≡ Some other = e in absurd (cc));
   }
 
-  way_stays : (number : ℕ) → way_of number (set_in marked_cache number).places ≡ way_of number (set_in cache number).places
+  way_stays : (number : ℕ)
+      → way_of number (set_in marked_cache number).places ≡ way_of number (set_in cache number).places
   way_stays number =
       let t : OneTouch = store_of_mark m in
       let way : ℕ → KeptSet → Option ℕ = λ _ k. way_of number k.places in

@@ -127,7 +127,9 @@ dirty-clean takes stands contents sound clean =
     let at : way_of line.0 kept.places ≡ Some way =
     way_at line.0 way kept.places (sound.once s d lt) line.1 in
     let mark : mark_of kept.places line.0 ≡ Some true = rw at (ap Some t) in
-    clean line.0 (ap (λ (j : ℕ). mark_of (kept_at table j).places line.0) home ∙ subst (λ (k : KeptSet). mark_of k.places line.0 ≡ Some true) here mark))) in
+    clean line.0
+    (ap (λ (j : ℕ). mark_of (kept_at table j).places line.0) home
+    ∙ subst (λ (k : KeptSet). mark_of k.places line.0 ≡ Some true) here mark))) in
     omega arith in
     let all : sum_by (λ (kept : KeptSet). dirty_in kept.places) table ≤ length table * 0 =
     sum_by-le (λ (kept : KeptSet). dirty_in kept.places) 0 table each in

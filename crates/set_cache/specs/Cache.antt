@@ -55,7 +55,9 @@ abbrev pub hit_at : Rule → CacheSet → ℕ → Bool → ℕ → SetStep
 hit_at rule set number store way = record {
   answer = record { hit = true; victim = None; dirty_victim = false };
   next = record {
-    places = if store then slice_set set.places way (Some (record { number = number; dirty = true })) else set.places;
+    places =
+        if store then slice_set set.places way (Some (record { number = number; dirty = true }))
+        else set.places;
     order = rule.touched set.order way;
   };
 }
@@ -65,7 +67,8 @@ abbrev pub miss_at : Rule → CacheSet → ℕ → Bool → ℕ → SetStep
 miss_at rule set number store way =
     let old = slice_index_or set.places way None in
     record {
-      answer = record { hit = false; victim = option_map (λ line. line.number) old; dirty_victim = is_dirty old };
+      answer =
+          record { hit = false; victim = option_map (λ line. line.number) old; dirty_victim = is_dirty old };
       next = record {
         places = slice_set set.places way (Some (record { number = number; dirty = store }));
         order = rule.filled set.order way;
@@ -154,4 +157,5 @@ dirty_lines shape sets = dirty_numbers (places_below shape.ways sets shape.count
 -- each line of a cache that has a mark is as `Fits` says
 abbrev pub EachDirty : (ℕ → Type 0) → Shape → Sets → Type 0
 EachDirty Fits shape sets = (s way : ℕ) (line : KeptLine)
-    → slice_index_or (set_at shape.ways sets s).places way None ≡ Some line → line.dirty ≡ true → Fits line.number
+    → slice_index_or (set_at shape.ways sets s).places way None ≡ Some line → line.dirty ≡ true
+    → Fits line.number

@@ -26,28 +26,33 @@ pub record IsNew {P : Type 0} (takes : P → ℕ → Type 0) (stands : P → ℕ
   pub none : (number : ℕ) → place_in contents number ≡ None
 
 -- a touch of a line, with what it answers: in the table of sets it is the definition's (`step`)
-pub record IsTouch {P : Type 0} (takes : P → ℕ → Type 0) (rule : P → ℕ → Rule) (stands : P → ℕ → ℕ → List ℕ → Type 0)
+pub record IsTouch {P : Type 0} (takes : P → ℕ → Type 0) (rule : P → ℕ → Rule)
+    (stands : P → ℕ → ℕ → List ℕ → Type 0)
     (answer : Touch) (number : ℕ) (store : Bool) (old new : Contents P) : Type 0 where
   pub shape : SameShape old new
   pub sound : IsSound takes stands new
-  pub step : (sets : Sets) → StandsFor stands old sets → CacheSteps stands answer new (touch_of (shape_of rule old) sets number store)
+  pub step : (sets : Sets) → StandsFor stands old sets
+      → CacheSteps stands answer new (touch_of (shape_of rule old) sets number store)
   pub other_sets : (s : ℕ) → s ≢ number % length old.table → kept_at new.table s ≡ kept_at old.table s
   pub moves : MovesLines answer number (place_in old) (place_in new)
   pub marks : MovesMarks answer number store (mark_in old) (mark_in new)
 
 -- a touch that is no store, of whose answer only the hit is told
-pub record TellsHit {P : Type 0} (takes : P → ℕ → Type 0) (rule : P → ℕ → Rule) (stands : P → ℕ → ℕ → List ℕ → Type 0)
+pub record TellsHit {P : Type 0} (takes : P → ℕ → Type 0) (rule : P → ℕ → Rule)
+    (stands : P → ℕ → ℕ → List ℕ → Type 0)
     (hit : Bool) (number : ℕ) (old new : Contents P) : Type 0 where
   pub answer : Touch
   pub told : hit ≡ answer.hit
   pub touch : IsTouch takes rule stands answer number false old new
 
 -- the mark of a line that is here is set, and nothing else changes: in the table of sets it is the definition's (`step`)
-pub record IsMark {P : Type 0} (takes : P → ℕ → Type 0) (rule : P → ℕ → Rule) (stands : P → ℕ → ℕ → List ℕ → Type 0)
+pub record IsMark {P : Type 0} (takes : P → ℕ → Type 0) (rule : P → ℕ → Rule)
+    (stands : P → ℕ → ℕ → List ℕ → Type 0)
     (number : ℕ) (old new : Contents P) : Type 0 where
   pub shape : SameShape old new
   pub sound : IsSound takes stands new
-  pub step : (sets : Sets) → StandsFor stands old sets → StandsFor stands new (marked_of (shape_of rule old) sets number)
+  pub step : (sets : Sets) → StandsFor stands old sets
+      → StandsFor stands new (marked_of (shape_of rule old) sets number)
   pub other_sets : (s : ℕ) → s ≢ number % length old.table → kept_at new.table s ≡ kept_at old.table s
   pub states : (s : ℕ) → (kept_at new.table s).state ≡ (kept_at old.table s).state
   pub places : (other : ℕ) → place_in new other ≡ place_in old other
@@ -55,7 +60,8 @@ pub record IsMark {P : Type 0} (takes : P → ℕ → Type 0) (rule : P → ℕ 
   pub others : (other : ℕ) → other ≢ number → mark_in new other ≡ mark_in old other
 
 -- a flush, with the number of lines that had a mark
-pub record IsFlush {P : Type 0} (takes : P → ℕ → Type 0) (rule : P → ℕ → Rule) (stands : P → ℕ → ℕ → List ℕ → Type 0)
+pub record IsFlush {P : Type 0} (takes : P → ℕ → Type 0) (rule : P → ℕ → Rule)
+    (stands : P → ℕ → ℕ → List ℕ → Type 0)
     (count : ℕ) (old new : Contents P) : Type 0 where
   pub shape : SameShape old new
   pub was_sound : IsSound takes stands old
@@ -68,4 +74,5 @@ pub record IsFlush {P : Type 0} (takes : P → ℕ → Type 0) (rule : P → ℕ
 
 -- how many entries, policy states and epochs a flush writes: all where the epoch is the greatest, else the epoch alone
 abbrev pub flush_steps : {P : Type 0} → Contents P → ℕ
-flush_steps contents = if contents.epoch == greatest_epoch then 1 + length contents.table * (contents.ways + 1) else 1
+flush_steps contents =
+    if contents.epoch == greatest_epoch then 1 + length contents.table * (contents.ways + 1) else 1

@@ -64,17 +64,21 @@ abbrev pub IsFresh : (ℕ → List ℕ → Type 0) → ℕ → KeptSet → Type 
 IsFresh stands ways kept = SetStands stands kept (fresh_set ways)
 
 -- what is kept stands for a table of sets
-pub record StandsFor {P : Type 0} (stands : P → ℕ → ℕ → List ℕ → Type 0) (contents : Contents P) (sets : Sets) : Type 0 where
+pub record StandsFor {P : Type 0} (stands : P → ℕ → ℕ → List ℕ → Type 0) (contents : Contents P) (sets : Sets)
+    : Type 0 where
   pub each : (s : ℕ) → s < length contents.table
-      → SetStands (stands contents.policy contents.ways) (kept_at contents.table s) (set_at contents.ways sets s)
+      → SetStands (stands contents.policy contents.ways) (kept_at contents.table s)
+      (set_at contents.ways sets s)
 
 -- the answer is the step's, and the set that is kept stands for the one that it leaves
-pub record SetSteps (stands : ℕ → List ℕ → Type 0) (answer : Touch) (kept : KeptSet) (step : SetStep) : Type 0 where
+pub record SetSteps (stands : ℕ → List ℕ → Type 0) (answer : Touch) (kept : KeptSet) (step : SetStep)
+    : Type 0 where
   pub answered : answer ≡ step.answer
   pub next : SetStands stands kept step.next
 
 -- the answer is the step's, and what is kept stands for the sets that it leaves
-pub record CacheSteps {P : Type 0} (stands : P → ℕ → ℕ → List ℕ → Type 0) (answer : Touch) (contents : Contents P) (step : CacheStep)
+pub record CacheSteps {P : Type 0} (stands : P → ℕ → ℕ → List ℕ → Type 0) (answer : Touch)
+    (contents : Contents P) (step : CacheStep)
     : Type 0 where
   pub answered : answer ≡ step.answer
   pub next : StandsFor stands contents step.next
@@ -82,7 +86,8 @@ pub record CacheSteps {P : Type 0} (stands : P → ℕ → ℕ → List ℕ → 
 -- no two ways keep one line
 abbrev pub IsOnce : List (Option KeptLine) → Type 0
 IsOnce places = (number i j : ℕ)
-    → is_line number (slice_index_or places i None) ≡ true → is_line number (slice_index_or places j None) ≡ true → i ≡ j
+    → is_line number (slice_index_or places i None) ≡ true
+    → is_line number (slice_index_or places j None) ≡ true → i ≡ j
 
 -- each line stands in the set of its number
 abbrev pub IsHome : List KeptSet → Type 0
@@ -95,13 +100,15 @@ AreFirst places = (way : ℕ) → is_some (slice_index_or places (way + 1) None)
     → is_some (slice_index_or places way None) ≡ true
 
 -- what is true of every cache
-pub record IsSound {P : Type 0} (takes : P → ℕ → Type 0) (stands : P → ℕ → ℕ → List ℕ → Type 0) (contents : Contents P)
+pub record IsSound {P : Type 0} (takes : P → ℕ → Type 0) (stands : P → ℕ → ℕ → List ℕ → Type 0)
+    (contents : Contents P)
     : Type 0 where
   pub taken : takes contents.policy contents.ways
   pub power : IsPowerOfTwo (length contents.table)
   pub small : length contents.table * contents.ways < 2 ^ 32
   pub full : All (λ kept. length kept.places ≡ contents.ways) contents.table
-  pub valid : All (λ kept. (list : List ℕ) × stands contents.policy contents.ways kept.state list) contents.table
+  pub valid : All (λ kept. (list : List ℕ) × stands contents.policy contents.ways kept.state list)
+      contents.table
   pub once : All (λ kept. IsOnce kept.places) contents.table
   pub first : All (λ kept. AreFirst kept.places) contents.table
   pub home : IsHome contents.table

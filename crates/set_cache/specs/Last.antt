@@ -20,7 +20,8 @@ pub record IsLast {P : Type 0} (rule : P → ℕ → Rule) (stands : P → ℕ �
       ((rule contents.policy contents.ways).touched list way)
 
 -- what is true of a cache, its fresh state and the line that was touched last, if its number is a line's
-pub record IsCache {P : Type 0} (takes : P → ℕ → Type 0) (rule : P → ℕ → Rule) (stands : P → ℕ → ℕ → List ℕ → Type 0)
+pub record IsCache {P : Type 0} (takes : P → ℕ → Type 0) (rule : P → ℕ → Rule)
+    (stands : P → ℕ → ℕ → List ℕ → Type 0)
     (contents : Contents P) (fresh : ℕ) (last : LastTouch) : Type 0 where
   pub sound : IsSound takes stands contents
   pub few : length contents.table < 2 ^ 32

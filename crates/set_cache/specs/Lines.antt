@@ -44,12 +44,15 @@ pub record MovesLines (answer : Touch) (number : ℕ) (before after : ℕ → Op
   pub stays : answer.hit ≡ true → after number ≡ before number
   pub here : is_some (after number) ≡ true
   pub others : (other : ℕ) → other ≢ number → answer.victim ≢ Some other → after other ≡ before other
-  pub given_up : (victim : ℕ) → answer.victim ≡ Some victim → (before victim ≡ after number) × (after victim ≡ None)
+  pub given_up : (victim : ℕ) → answer.victim ≡ Some victim
+      → (before victim ≡ after number) × (after victim ≡ None)
 
 -- the marks of lines before and after a touch: a mark is set by a store to that line alone,
 -- goes with its line, and stays otherwise
-pub record MovesMarks (answer : Touch) (number : ℕ) (store : Bool) (before after : ℕ → Option Bool) : Type 0 where
+pub record MovesMarks (answer : Touch) (number : ℕ) (store : Bool) (before after : ℕ → Option Bool)
+    : Type 0 where
   pub own : after number ≡ Some (store || unwrap_or (before number) false)
   pub others : (other : ℕ) → other ≢ number → answer.victim ≢ Some other → after other ≡ before other
-  pub given_up : (victim : ℕ) → answer.victim ≡ Some victim → (before victim ≡ Some answer.dirty_victim) × (after victim ≡ None)
+  pub given_up : (victim : ℕ) → answer.victim ≡ Some victim
+      → (before victim ≡ Some answer.dirty_victim) × (after victim ≡ None)
   pub clean : answer.victim ≡ None → answer.dirty_victim ≡ false

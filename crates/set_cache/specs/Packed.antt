@@ -25,7 +25,8 @@ pub record KeptSets : Type 0 where
 
 abbrev pub coded_sets : Coded KeptSets
 coded_sets =
-    code_by (ℕ × (ℕ × (ℕ × List KeptSet))) (coded× coded_ℕ (coded× coded_ℕ (coded× coded_ℕ (coded_list coded_set))))
+    code_by (ℕ × (ℕ × (ℕ × List KeptSet)))
+    (coded× coded_ℕ (coded× coded_ℕ (coded× coded_ℕ (coded_list coded_set))))
     (λ s. (s.ways, (s.epoch, (s.fresh, s.table))))
     (λ t. record { ways = t.0; epoch = t.1.0; fresh = t.1.1.0; table = t.1.1.1 })
     (λ _. refl)
@@ -74,7 +75,8 @@ table_in ways epoch fresh entries states =
     map (kept_in ways epoch fresh entries states) (range_with_len 0 (length states))
 
 -- what is true of the vectors: their lengths, no epoch that is to come, and the count of the dirty lines
-pub record IsPacked (ways epoch fresh dirty : ℕ) (entries : List Entry) (states : List WrittenState) : Type 0 where
+pub record IsPacked (ways epoch fresh dirty : ℕ) (entries : List Entry) (states : List WrittenState)
+    : Type 0 where
   pub full : length entries ≡ length states * ways
   pub small : length states * ways < 2 ^ 32
   pub counts : 0 < epoch

@@ -69,9 +69,12 @@ same_place at va e = omega arith
 -- ---- the walk of another access at the same address
 
 module _ (mem : Mem) (frames root va : ℕ) (access other : Access) where
-  again : (l : ℕ) → HasLeaf mem frames root va access l → (walk mem frames root va other).result ≡ end_at other l
+  again : (l : ℕ) → HasLeaf mem frames root va access l
+      → (walk mem frames root va other).result ≡ end_at other l
   again l (big b within is) =
-      big_end mem frames root va access other b ∙ end_again frames other (first_entry mem root va) (big_frame mem root va) within ∙ ap (end_at other) (sym is)
+      big_end mem frames root va access other b
+      ∙ end_again frames other (first_entry mem root va) (big_frame mem root va) within
+      ∙ ap (end_at other) (sym is)
   again l (small p within is) =
       page_end mem frames root va access other p ∙ end_again frames other (second_entry mem root va) (ppn (second_entry mem root va)) within
       ∙ ap (end_at other) (with_ppn-own (second_entry mem root va) ∙ sym is)
@@ -81,7 +84,8 @@ same_first : (frames a b : ℕ) (access : Access) (entry : ℕ) → vpn_0 a ≡ 
 unfolding first_level superpage
 same_first frames a b access entry e = rw e refl
 
-same_rest : (mem : Mem) (frames a b : ℕ) (access : Access) (read entry : ℕ) (end : Option (Result ℕ WalkFault)) → vpn_0 a ≡ vpn_0 b
+same_rest : (mem : Mem) (frames a b : ℕ) (access : Access) (read entry : ℕ)
+    (end : Option (Result ℕ WalkFault)) → vpn_0 a ≡ vpn_0 b
     → from_entry mem frames a access read entry end ≡ from_entry mem frames b access read entry end
 unfolding from_entry from_table
 same_rest mem frames a b access read entry (Some result) e = refl
@@ -100,13 +104,15 @@ same_walk mem frames root a b access e =
     ) refl
 
 -- the walk of any access to the page
-pub walk_again : (mem : Mem) (frames root page l va : ℕ) (access : Access) → IsLeafOf mem frames root page l → va / 4096 ≡ page
+pub walk_again : (mem : Mem) (frames root page l va : ℕ) (access : Access) → IsLeafOf mem frames root page l
+    → va / 4096 ≡ page
     → (walk mem frames root va access).result ≡ end_at access l
 walk_again mem frames root page l va access is in_page =
     ap (λ (w : Walk). w.result) (same_walk mem frames root va is.at access (in_page ∙ sym is.in_page))
     ∙ again mem frames root is.at is.access access l ((leaf_in_words mem frames root is.at is.access l).0 is.walked)
 
-frame_within : (mem : Mem) (frames root va : ℕ) (access : Access) (l : ℕ) → HasLeaf mem frames root va access l → ppn l < frames
+frame_within : (mem : Mem) (frames root va : ℕ) (access : Access) (l : ℕ)
+    → HasLeaf mem frames root va access l → ppn l < frames
 unfolding ppn with_ppn
 frame_within mem frames root va access l (big b within is) = omega (arith, within, is)
 frame_within mem frames root va access l (small p within is) = omega (arith, within, is)

@@ -9,7 +9,8 @@ use Rattle.sv32_walk.specs.PageTableEntry.{ppn, vpn_0, vpn_1}
 use Rattle.sv32_walk.specs.Walk.{walk, from_entry, from_table, first_level, last_level, entry_address}
 
 module _ (mem : Mem) (frames root va : ℕ) (access : Access) where
-  pub no_root : frames ≤ root → walk mem frames root va access ≡ record { result = Err fault.Access; reads = [] }
+  pub no_root : frames ≤ root
+      → walk mem frames root va access ≡ record { result = Err fault.Access; reads = [] }
   unfolding walk
   no_root past = rw (le-ltb root frames past)
 

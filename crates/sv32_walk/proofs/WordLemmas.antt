@@ -74,7 +74,8 @@ reads_too rights (read_execute e) w = omega arith
 reads_too rights (all_three e) w = omega arith
 
 -- the bit of a leaf's word at a place, where the low part of the word has that bit
-leaf_bit : (frame rights place bits : ℕ) → (frame * 1024 + (1 + 16 + 64 + rights * 2 + rights / 2 % 2 * 128)) / 2 ^ place % 2 ≡ bits
+leaf_bit : (frame rights place bits : ℕ)
+    → (frame * 1024 + (1 + 16 + 64 + rights * 2 + rights / 2 % 2 * 128)) / 2 ^ place % 2 ≡ bits
     → bit (leaf_word frame rights) place ≡ eqb bits 1
 unfolding bit leaf_word leaf_bits
 leaf_bit frame rights place bits e = ap (λ (n : ℕ). eqb n 1) e
@@ -149,19 +150,22 @@ permits-leaf frame rights Store is_good =
     permitted_store _ _ _ _ _ (user-leaf frame rights is_good) (writable-leaf frame rights is_good)
     (accessed-leaf frame rights is_good) (dirty-store frame rights is_good)
 
-pub allows-leaf : (frame rights : ℕ) (access : Access) → are_good rights ≡ true → rights_permit rights access ≡ true
+pub allows-leaf : (frame rights : ℕ) (access : Access) → are_good rights ≡ true
+    → rights_permit rights access ≡ true
     → Allows access (leaf_word frame rights)
 allows-leaf frame rights access is_good given =
     allowed access (leaf_word frame rights)
     (not_reserved _ _ _ (valid-leaf frame rights is_good) (reads_with_writes frame rights is_good))
     (permits-leaf frame rights access is_good ∙ given)
 
-pub refuses-leaf : (frame rights : ℕ) (access : Access) → are_good rights ≡ true → rights_permit rights access ≡ false
+pub refuses-leaf : (frame rights : ℕ) (access : Access) → are_good rights ≡ true
+    → rights_permit rights access ≡ false
     → permits access (leaf_word frame rights) ≡ false
 refuses-leaf frame rights access is_good refused = permits-leaf frame rights access is_good ∙ refused
 
 -- a good right is to read, or to execute
-some_right : (rights : ℕ) → Good rights → (rights_permit rights Load ≡ true) ⊎ (rights_permit rights Fetch ≡ true)
+some_right : (rights : ℕ) → Good rights
+    → (rights_permit rights Load ≡ true) ⊎ (rights_permit rights Fetch ≡ true)
 unfolding rights_permit
 some_right rights (read e) = inl (ap (λ (n : ℕ). eqb n 1) (let m : rights % 2 ≡ 1 = omega arith in m))
 some_right rights (read_write e) = inl (ap (λ (n : ℕ). eqb n 1) (let m : rights % 2 ≡ 1 = omega arith in m))

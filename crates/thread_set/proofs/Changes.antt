@@ -25,7 +25,8 @@ unfolding with_current
 current-eight ts x sound =
     record { eight = length-append ts.before (x ∷ ts.after) ∙ sym (length-append ts.before (ts.current ∷ ts.after)) ∙ sound.eight }
 
-pub thread-all : (ts : Threads) (t : ℕ) (x : Thread) → AreThreads ts → all_of (with_thread ts t x) ≡ set (all_of ts) t x
+pub thread-all : (ts : Threads) (t : ℕ) (x : Thread) → AreThreads ts
+    → all_of (with_thread ts t x) ≡ set (all_of ts) t x
 unfolding with_thread
 thread-all ts t x sound =
     all-turned (current_number ts) (set (all_of ts) t x) (omega (arith, length-set (all_of ts) t x, sound.eight, number-below ts sound))
@@ -37,11 +38,13 @@ pub opening-eight : (entry : ℕ) → AreThreads (threads_at_entry entry)
 unfolding threads_at_entry
 opening-eight entry = record { eight = refl }
 
-started-eight : (ts : Threads) (entry argument : ℕ) (o : Option ℕ) → AreThreads ts → AreThreads (started_at ts entry argument o)
+started-eight : (ts : Threads) (entry argument : ℕ) (o : Option ℕ) → AreThreads ts
+    → AreThreads (started_at ts entry argument o)
 started-eight ts entry argument None sound = sound
 started-eight ts entry argument (Some t) sound = thread-eight ts t (started entry argument) sound
 
-pub spawned-eight : (ts : Threads) (entry argument : ℕ) → AreThreads ts → AreThreads (spawned ts entry argument)
+pub spawned-eight : (ts : Threads) (entry argument : ℕ) → AreThreads ts
+    → AreThreads (spawned ts entry argument)
 unfolding spawned
 spawned-eight ts entry argument sound = started-eight ts entry argument (vacant ts) sound
 
@@ -80,11 +83,15 @@ ended-eight ts sound =
 given-same : (ts : Threads) (t : ℕ) → AreThreads ts → thread_at (given_way ts) t ≡ thread_at ts t
 given-same ts t sound = ap (λ (xs : List Thread). get_or xs t never) (given-all ts sound)
 
-current-at : (ts : Threads) (x : Thread) → AreThreads ts → thread_at (given_way (with_current ts x)) (current_number ts) ≡ x
+current-at : (ts : Threads) (x : Thread) → AreThreads ts
+    → thread_at (given_way (with_current ts x)) (current_number ts) ≡ x
 unfolding with_current
-current-at ts x sound = given-same (with_current ts x) (current_number ts) (current-eight ts x sound) ∙ get_or-append_seam ts.before x ts.after never
+current-at ts x sound =
+    given-same (with_current ts x) (current_number ts) (current-eight ts x sound)
+    ∙ get_or-append_seam ts.before x ts.after never
 
-beside : (xs ys : List Thread) (x y : Thread) (t : ℕ) → t ≢ length xs → get_or (xs ++ x ∷ ys) t never ≡ get_or (xs ++ y ∷ ys) t never
+beside : (xs ys : List Thread) (x y : Thread) (t : ℕ) → t ≢ length xs
+    → get_or (xs ++ x ∷ ys) t never ≡ get_or (xs ++ y ∷ ys) t never
 beside xs ys x y t other =
     ⊎_elim
     (λ (below : t < length xs). get_or-append xs (x ∷ ys) never t below ∙ sym (get_or-append xs (y ∷ ys) never t below))
@@ -94,23 +101,30 @@ beside xs ys x y t other =
     ∙ sym (ap (λ (k : ℕ). get_or (xs ++ y ∷ ys) k never) place ∙ get_or-append-add xs (y ∷ ys) (suc (t - length xs - 1)) never))
     (cases_lt t (length xs))
 
-current-others : (ts : Threads) (x : Thread) (t : ℕ) → AreThreads ts → t ≢ current_number ts → thread_at (given_way (with_current ts x)) t ≡ thread_at ts t
+current-others : (ts : Threads) (x : Thread) (t : ℕ) → AreThreads ts → t ≢ current_number ts
+    → thread_at (given_way (with_current ts x)) t ≡ thread_at ts t
 unfolding with_current
-current-others ts x t sound other = given-same (with_current ts x) t (current-eight ts x sound) ∙ beside ts.before ts.after x ts.current t other
+current-others ts x t sound other =
+    given-same (with_current ts x) t (current-eight ts x sound)
+    ∙ beside ts.before ts.after x ts.current t other
 
-pub blocked-at : (ts : Threads) (line : ℕ) → AreThreads ts → thread_at (blocked line ts) (current_number ts) ≡ in_state (Waiting line) ts.current
+pub blocked-at : (ts : Threads) (line : ℕ) → AreThreads ts
+    → thread_at (blocked line ts) (current_number ts) ≡ in_state (Waiting line) ts.current
 unfolding blocked
 blocked-at ts line sound = current-at ts (in_state (Waiting line) ts.current) sound
 
-pub blocked-others : (ts : Threads) (line t : ℕ) → AreThreads ts → t ≢ current_number ts → thread_at (blocked line ts) t ≡ thread_at ts t
+pub blocked-others : (ts : Threads) (line t : ℕ) → AreThreads ts → t ≢ current_number ts
+    → thread_at (blocked line ts) t ≡ thread_at ts t
 unfolding blocked
 blocked-others ts line t sound other = current-others ts (in_state (Waiting line) ts.current) t sound other
 
-pub finished-at : (ts : Threads) → AreThreads ts → thread_at (finished ts) (current_number ts) ≡ in_state Ended ts.current
+pub finished-at : (ts : Threads) → AreThreads ts
+    → thread_at (finished ts) (current_number ts) ≡ in_state Ended ts.current
 unfolding finished
 finished-at ts sound = current-at ts (in_state Ended ts.current) sound
 
-pub finished-others : (ts : Threads) (t : ℕ) → AreThreads ts → t ≢ current_number ts → thread_at (finished ts) t ≡ thread_at ts t
+pub finished-others : (ts : Threads) (t : ℕ) → AreThreads ts → t ≢ current_number ts
+    → thread_at (finished ts) t ≡ thread_at ts t
 unfolding finished
 finished-others ts t sound other = current-others ts (in_state Ended ts.current) t sound other
 
@@ -119,11 +133,13 @@ finished-others ts t sound other = current-others ts (in_state Ended ts.current)
 waits : ℕ → Thread → Bool
 waits line x = waits_for line x.state
 
-pub waiter-first : (ts : Threads) (line w : ℕ) → waiter line ts ≡ Some w → IsFirst (λ x. waits_for line x.state) (all_of ts) never w
+pub waiter-first : (ts : Threads) (line w : ℕ) → waiter line ts ≡ Some w
+    → IsFirst (λ x. waits_for line x.state) (all_of ts) never w
 unfolding waiter
 waiter-first ts line w e = first-Some (λ x. waits_for line x.state) (all_of ts) never w e
 
-pub waiter-least : (ts : Threads) (line w t : ℕ) → waiter line ts ≡ Some w → waits_for line (thread_at ts t).state ≡ true → w ≤ t
+pub waiter-least : (ts : Threads) (line w t : ℕ) → waiter line ts ≡ Some w
+    → waits_for line (thread_at ts t).state ≡ true → w ≤ t
 waiter-least ts line w t e is =
     ⊎_elim
     (λ (less : t < w). absurd (true≢false (sym is ∙ (waiter-first ts line w e).before t less)))
@@ -138,15 +154,18 @@ woken-is ts line w t sound e =
     ∙ given-same (with_thread ts w (resumed (thread_at ts w))) t (thread-eight ts w (resumed (thread_at ts w)) sound)
     ∙ ap (λ (xs : List Thread). get_or xs t never) (thread-all ts w (resumed (thread_at ts w)) sound)
 
-pub woken-at : (ts : Threads) (line w : ℕ) → AreThreads ts → waiter line ts ≡ Some w → thread_at (woken line ts) w ≡ resumed (thread_at ts w)
+pub woken-at : (ts : Threads) (line w : ℕ) → AreThreads ts → waiter line ts ≡ Some w
+    → thread_at (woken line ts) w ≡ resumed (thread_at ts w)
 woken-at ts line w sound e =
     woken-is ts line w w sound e ∙ get_or-set_same (all_of ts) w (resumed (thread_at ts w)) never (waiter-first ts line w e).within
 
-pub woken-others : (ts : Threads) (line w t : ℕ) → AreThreads ts → waiter line ts ≡ Some w → t ≢ w → thread_at (woken line ts) t ≡ thread_at ts t
+pub woken-others : (ts : Threads) (line w t : ℕ) → AreThreads ts → waiter line ts ≡ Some w → t ≢ w
+    → thread_at (woken line ts) t ≡ thread_at ts t
 woken-others ts line w t sound e other =
     woken-is ts line w t sound e ∙ get_or-set_other (all_of ts) w t (resumed (thread_at ts w)) never other
 
-pub woken-none : (ts : Threads) (line : ℕ) → AreThreads ts → ((t : ℕ) → t < 8 → waits_for line (thread_at ts t).state ≡ false) → woken line ts ≡ ts
+pub woken-none : (ts : Threads) (line : ℕ) → AreThreads ts
+    → ((t : ℕ) → t < 8 → waits_for line (thread_at ts t).state ≡ false) → woken line ts ≡ ts
 unfolding woken waiter
 woken-none ts line sound none =
     ap (resumed_at ts) (position-nowhere (λ x. waits_for line x.state) (all_of ts) never
@@ -159,17 +178,21 @@ unfolding vacant
 vacant-below ts t sound e =
     subst (λ (n : ℕ). t < n) sound.eight (first-Some (λ x. not (is_live x.state)) (all_of ts) never t (sym e)).within
 
-pub vacant-Some : (ts : Threads) (t : ℕ) → Some t ≡ vacant ts → All (λ x. is_live x.state ≡ true) (all_of ts) → ⊥
+pub vacant-Some : (ts : Threads) (t : ℕ) → Some t ≡ vacant ts → All (λ x. is_live x.state ≡ true) (all_of ts)
+    → ⊥
 unfolding vacant
 vacant-Some ts t e all =
-    let first : IsFirst (λ x. not (is_live x.state)) (all_of ts) never t = first-Some (λ x. not (is_live x.state)) (all_of ts) never t (sym e) in
+    let first : IsFirst (λ x. not (is_live x.state)) (all_of ts) never t =
+    first-Some (λ x. not (is_live x.state)) (all_of ts) never t (sym e) in
     true≢false (sym first.passes ∙ ap not (all t never first.within))
 
 pub vacant-None : (ts : Threads) → None ≡ vacant ts → All (λ x. is_live x.state ≡ true) (all_of ts)
 unfolding vacant
 vacant-None ts e = λ k d within.
-    let nowhere : IsNowhere (λ x. not (is_live x.state)) (all_of ts) never = nowhere-None (λ x. not (is_live x.state)) (all_of ts) never (sym e) in
-    ap (λ (x : Thread). is_live x.state) (get_or_default (all_of ts) k d never within) ∙ not-false (is_live (get_or (all_of ts) k never).state) (nowhere.fails k within)
+    let nowhere : IsNowhere (λ x. not (is_live x.state)) (all_of ts) never =
+    nowhere-None (λ x. not (is_live x.state)) (all_of ts) never (sym e) in
+    ap (λ (x : Thread). is_live x.state) (get_or_default (all_of ts) k d never within)
+    ∙ not-false (is_live (get_or (all_of ts) k never).state) (nowhere.fails k within)
   where
     not-false : (b : Bool) → not b ≡ false → b ≡ true
     not-false true q = refl
@@ -178,7 +201,8 @@ vacant-None ts e = λ k d within.
 pub waiter-below : (ts : Threads) (line t : ℕ) → AreThreads ts → Some t ≡ waiter line ts → t < 8
 waiter-below ts line t sound e = subst (λ (n : ℕ). t < n) sound.eight (waiter-first ts line t (sym e)).within
 
-vacant-first : (ts : Threads) (v : ℕ) → vacant ts ≡ Some v → IsFirst (λ x. not (is_live x.state)) (all_of ts) never v
+vacant-first : (ts : Threads) (v : ℕ) → vacant ts ≡ Some v
+    → IsFirst (λ x. not (is_live x.state)) (all_of ts) never v
 unfolding vacant
 vacant-first ts v e = first-Some (λ x. not (is_live x.state)) (all_of ts) never v e
 
@@ -189,7 +213,8 @@ not-true true q = absurd (true≢false (sym q))
 pub vacant-ended : (ts : Threads) (v : ℕ) → vacant ts ≡ Some v → is_live (thread_at ts v).state ≡ false
 vacant-ended ts v e = not-true (is_live (thread_at ts v).state) (vacant-first ts v e).passes
 
-pub vacant-least : (ts : Threads) (v t : ℕ) → vacant ts ≡ Some v → is_live (thread_at ts t).state ≡ false → v ≤ t
+pub vacant-least : (ts : Threads) (v t : ℕ) → vacant ts ≡ Some v → is_live (thread_at ts t).state ≡ false
+    → v ≤ t
 vacant-least ts v t e is =
     ⊎_elim
     (λ (less : t < v). absurd (true≢false (ap not (sym is) ∙ (vacant-first ts v e).before t less)))
@@ -215,21 +240,25 @@ spawned-others ts entry argument v t sound e other =
 
 -- ---- one that is put, and all that are ended
 
-pub put-at : (ts : Threads) (t : ℕ) (x : Thread) → AreThreads ts → t < 8 → thread_at (with_thread ts t x) t ≡ x
+pub put-at : (ts : Threads) (t : ℕ) (x : Thread) → AreThreads ts → t < 8
+    → thread_at (with_thread ts t x) t ≡ x
 put-at ts t x sound below =
     ap (λ (xs : List Thread). get_or xs t never) (thread-all ts t x sound)
     ∙ get_or-set_same (all_of ts) t x never (omega (arith, sound.eight))
 
-pub put-others : (ts : Threads) (t other : ℕ) (x : Thread) → AreThreads ts → other ≢ t → thread_at (with_thread ts t x) other ≡ thread_at ts other
+pub put-others : (ts : Threads) (t other : ℕ) (x : Thread) → AreThreads ts → other ≢ t
+    → thread_at (with_thread ts t x) other ≡ thread_at ts other
 put-others ts t other x sound apart =
     ap (λ (xs : List Thread). get_or xs other never) (thread-all ts t x sound) ∙ get_or-set_other (all_of ts) t other x never apart
 
-pub put-turn : (ts : Threads) (t : ℕ) (x : Thread) → AreThreads ts → current_number (with_thread ts t x) ≡ current_number ts
+pub put-turn : (ts : Threads) (t : ℕ) (x : Thread) → AreThreads ts
+    → current_number (with_thread ts t x) ≡ current_number ts
 unfolding with_thread
 put-turn ts t x sound =
     number-turned (current_number ts) (set (all_of ts) t x) (omega (arith, length-set (all_of ts) t x, sound.eight, number-below ts sound))
 
-pub ended-at : (ts : Threads) (t : ℕ) → AreThreads ts → t < 8 → thread_at (all_ended ts) t ≡ end_live (thread_at ts t)
+pub ended-at : (ts : Threads) (t : ℕ) → AreThreads ts → t < 8
+    → thread_at (all_ended ts) t ≡ end_live (thread_at ts t)
 unfolding all_ended
 ended-at ts t sound below =
     ap (λ (xs : List Thread). get_or xs t never) (sym (map-append end_live ts.before (ts.current ∷ ts.after)))

@@ -16,7 +16,8 @@ pub record IsEndedTo (i : ℕ) (xs ys : List Thread) : Type 0 where
 pub none-ended : (xs : List Thread) → IsEndedTo 0 xs xs
 none-ended xs = record { same = refl; done = λ k d below within. absurd (omega arith); left = λ k d above. refl }
 
-pub one-ended : (i : ℕ) (xs ys : List Thread) (x y : Thread) → IsEndedTo i xs ys → i < length xs → x ≡ get_or ys i x → y ≡ end_live x
+pub one-ended : (i : ℕ) (xs ys : List Thread) (x y : Thread) → IsEndedTo i xs ys → i < length xs
+    → x ≡ get_or ys i x → y ≡ end_live x
     → IsEndedTo (i + 1) xs (set ys i y)
 one-ended i xs ys x y so_far within read written =
     record {
@@ -42,7 +43,8 @@ all-ended i xs ys so_far past =
     let inside : k < length xs = subst (λ (n : ℕ). k < n) so_far.same within in
     so_far.done k d (omega arith) inside ∙ ap end_live (get_or_default xs k d d inside) ∙ sym (get_or-map end_live xs k d d inside))
 
-pub seen-ended : (n i : ℕ) (xs ys : List Thread) (x y : Thread) → IsEndedTo i xs ys → length xs ≤ i → y ≡ end_live x
+pub seen-ended : (n i : ℕ) (xs ys : List Thread) (x y : Thread) → IsEndedTo i xs ys → length xs ≤ i
+    → y ≡ end_live x
     → seen n ys y ≡ all_ended (seen n xs x)
 unfolding all_ended
 seen-ended n i xs ys x y so_far past written =

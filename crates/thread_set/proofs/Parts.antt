@@ -13,7 +13,8 @@ abbrev pub seen : ℕ → List Thread → Thread → Threads
 seen n xs x = record { before = take n xs; current = x; after = drop (n + 1) xs }
 
 -- the list with x at n, by its parts
-pub set-parts : (n : ℕ) (xs : List Thread) (x : Thread) → n < length xs → take n xs ++ x ∷ drop (n + 1) xs ≡ set xs n x
+pub set-parts : (n : ℕ) (xs : List Thread) (x : Thread) → n < length xs
+    → take n xs ++ x ∷ drop (n + 1) xs ≡ set xs n x
 set-parts n xs x within =
     ap (λ (ys : List Thread). ys ++ x ∷ drop (n + 1) xs) (sym (take-set xs n x))
     ∙ (ap (λ (ys : List Thread). take n (set xs n x) ++ ys) (sym (drop-set xs n x within))
@@ -39,7 +40,8 @@ pub current-turned : (t : ℕ) (xs : List Thread) → (turned_to t xs).current �
 unfolding turned_to
 current-turned t xs = refl
 
-pub turned-set : (n : ℕ) (xs : List Thread) (x : Thread) → n < length xs → turned_to n (set xs n x) ≡ seen n xs x
+pub turned-set : (n : ℕ) (xs : List Thread) (x : Thread) → n < length xs
+    → turned_to n (set xs n x) ≡ seen n xs x
 unfolding turned_to
 turned-set n xs x within =
     ap (λ (ys : List Thread). parts ys (get_or (set xs n x) n never) (drop (n + 1) (set xs n x))) (take-set xs n x)
@@ -53,8 +55,11 @@ turned-set n xs x within =
 pub turned-self : (ts : Threads) → turned_to (current_number ts) (all_of ts) ≡ ts
 unfolding turned_to
 turned-self ts =
-    ap (λ (ys : List Thread). parts ys (get_or (all_of ts) (current_number ts) never) (drop (current_number ts + 1) (all_of ts))) (take-append_seam ts.before (ts.current ∷ ts.after))
-    ∙ ap (λ (y : Thread). parts ts.before y (drop (current_number ts + 1) (all_of ts))) (get_or-append_seam ts.before ts.current ts.after never)
+    ap (λ (ys : List Thread).
+    parts ys (get_or (all_of ts) (current_number ts) never) (drop (current_number ts + 1) (all_of ts)))
+    (take-append_seam ts.before (ts.current ∷ ts.after))
+    ∙ ap (λ (y : Thread). parts ts.before y (drop (current_number ts + 1) (all_of ts)))
+    (get_or-append_seam ts.before ts.current ts.after never)
     ∙ ap (λ (ys : List Thread). parts ts.before ts.current ys) (drop-append-add ts.before (ts.current ∷ ts.after) 1)
   where
     parts : List Thread → Thread → List Thread → Threads
@@ -74,7 +79,8 @@ seen-with n xs x t y within =
     ap (λ (k : ℕ). turned_to k (set (all_of (seen n xs x)) t y)) (number-seen n xs x within)
     ∙ ap (λ (ys : List Thread). turned_to n (set ys t y)) (all-seen n xs x within)
 
-pub with-current : (n : ℕ) (xs : List Thread) (x : Thread) (y : Thread) → n < length xs → with_thread (seen n xs x) n y ≡ seen n xs y
+pub with-current : (n : ℕ) (xs : List Thread) (x : Thread) (y : Thread) → n < length xs
+    → with_thread (seen n xs x) n y ≡ seen n xs y
 with-current n xs x y within =
     seen-with n xs x n y within ∙ ap (turned_to n) (set_again xs n x y) ∙ turned-set n xs y within
 

@@ -18,28 +18,40 @@ pub record IsFirst {X : Type 0} (p : X → Bool) (xs : List X) (d : X) (i : ℕ)
 pub record IsNowhere {X : Type 0} (p : X → Bool) (xs : List X) (d : X) : Type 0 where
   pub fails : (k : ℕ) → k < length xs → p (get_or xs k d) ≡ false
 
-pub position-first : {X : Type 0} (p : X → Bool) (xs : List X) (d : X) (i : ℕ) → IsFirst p xs d i → position p xs ≡ Some i
+pub position-first : {X : Type 0} (p : X → Bool) (xs : List X) (d : X) (i : ℕ) → IsFirst p xs d i
+    → position p xs ≡ Some i
 position-first {X} p xs d i first =
     let is : position_or_len p xs ≡ i = position_or_len_is p xs i d (omega (arith, first.within)) first.before (λ _. first.passes) in
     let within : i < length xs = first.within in
     grind (arith, nat_tests)
 
-pub position-nowhere : {X : Type 0} (p : X → Bool) (xs : List X) (d : X) → IsNowhere p xs d → position p xs ≡ None
+pub position-nowhere : {X : Type 0} (p : X → Bool) (xs : List X) (d : X) → IsNowhere p xs d
+    → position p xs ≡ None
 position-nowhere {X} p xs d nowhere =
-    let is : position_or_len p xs ≡ length xs = position_or_len_is p xs (length xs) d (omega arith) nowhere.fails (λ less. absurd (omega arith)) in
+    let is : position_or_len p xs ≡ length xs =
+    position_or_len_is p xs (length xs) d (omega arith) nowhere.fails (λ less. absurd (omega arith)) in
     grind (arith, nat_tests)
 
 -- one or the other
-pub places : {X : Type 0} (p : X → Bool) (xs : List X) (d : X) → ((i : ℕ) × IsFirst p xs d i) ⊎ IsNowhere p xs d
+pub places : {X : Type 0} (p : X → Bool) (xs : List X) (d : X)
+    → ((i : ℕ) × IsFirst p xs d i) ⊎ IsNowhere p xs d
 places {X} p xs d =
     ⊎_elim
     (λ (some : position_or_len p xs < length xs).
-    inl (position_or_len p xs, record { within = some; passes = passes_at_first p xs d some; before = λ k below. fails_before_first p xs k d below }))
+    inl (
+      position_or_len p xs,
+      record {
+        within = some;
+        passes = passes_at_first p xs d some;
+        before = λ k below. fails_before_first p xs k d below;
+      },
+    ))
     (λ (none : length xs ≤ position_or_len p xs).
     inr (record { fails = λ k within. fails_before_first p xs k d (omega arith) }))
     (cases_lt (position_or_len p xs) (length xs))
 
-pub first-Some : {X : Type 0} (p : X → Bool) (xs : List X) (d : X) (i : ℕ) → position p xs ≡ Some i → IsFirst p xs d i
+pub first-Some : {X : Type 0} (p : X → Bool) (xs : List X) (d : X) (i : ℕ) → position p xs ≡ Some i
+    → IsFirst p xs d i
 first-Some {X} p xs d i e =
     ⊎_elim
     (λ (some : (k : ℕ) × IsFirst p xs d k).
@@ -65,7 +77,8 @@ nowhere-None {X} p xs d e =
 
 -- ---- one more element at the end
 
-pub first-push : {X : Type 0} (p : X → Bool) (xs : List X) (x d : X) (i : ℕ) → IsFirst p xs d i → IsFirst p (xs ++ x ∷ []) d i
+pub first-push : {X : Type 0} (p : X → Bool) (xs : List X) (x d : X) (i : ℕ) → IsFirst p xs d i
+    → IsFirst p (xs ++ x ∷ []) d i
 first-push {X} p xs x d i first =
     let within : i < length xs = first.within in
     record {

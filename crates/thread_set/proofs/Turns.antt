@@ -19,9 +19,17 @@ turn n k = (n + 1 + k) % 8
 
 length-in_turn : (ts : Threads) → AreThreads ts → length (in_turn ts) ≡ 8
 length-in_turn ts sound =
-    omega (arith, sound.eight, length-append ts.before (ts.current ∷ ts.after), length-append ts.after (ts.before ++ ts.current ∷ []), length-append ts.before (ts.current ∷ []))
+    omega (
+      arith,
+      sound.eight,
+      length-append ts.before (ts.current ∷ ts.after),
+      length-append ts.after
+          (ts.before ++ ts.current ∷ []),
+      length-append ts.before (ts.current ∷ []),
+    )
 
-in_turn-at : (ts : Threads) (k : ℕ) → AreThreads ts → k < 8 → get_or (in_turn ts) k never ≡ thread_at ts (turn (current_number ts) k)
+in_turn-at : (ts : Threads) (k : ℕ) → AreThreads ts → k < 8
+    → get_or (in_turn ts) k never ≡ thread_at ts (turn (current_number ts) k)
 in_turn-at ts k sound below = ⊎_elim after_it up_to_it (cases_lt k (length ts.after))
   where
     all : List Thread
@@ -30,13 +38,16 @@ in_turn-at ts k sound below = ⊎_elim after_it up_to_it (cases_lt k (length ts.
     total : length ts.before + suc (length ts.after) ≡ 8
     total = sym (length-append ts.before (ts.current ∷ ts.after)) ∙ sound.eight
 
-    after_it : k < length ts.after → get_or (in_turn ts) k never ≡ get_or (all_of ts) (turn (current_number ts) k) never
+    after_it : k < length ts.after
+        → get_or (in_turn ts) k never ≡ get_or (all_of ts) (turn (current_number ts) k) never
     after_it less =
         let place : turn (length ts.before) k ≡ length ts.before + suc k = omega (arith, total) in
         get_or-append ts.after (ts.before ++ ts.current ∷ []) never k less
         ∙ sym (ap (λ (i : ℕ). get_or (all_of ts) i never) place ∙ get_or-append-add ts.before (ts.current ∷ ts.after) (suc k) never)
 
-    at_most : (j : ℕ) → k ≡ length ts.after + j → get_or (ts.before ++ ts.current ∷ []) j never ≡ get_or (all_of ts) (turn (current_number ts) k) never
+    at_most : (j : ℕ) → k ≡ length ts.after + j
+        → get_or (ts.before ++ ts.current ∷ []) j never
+        ≡ get_or (all_of ts) (turn (current_number ts) k) never
     at_most j is = ⊎_elim
         (λ (less : j < length ts.before).
         let place : turn (length ts.before) k ≡ j = omega (arith, total) in
@@ -49,7 +60,8 @@ in_turn-at ts k sound below = ⊎_elim after_it up_to_it (cases_lt k (length ts.
         ∙ sym (ap (λ (i : ℕ). get_or (all_of ts) i never) place ∙ get_or-append_seam ts.before ts.current ts.after never))
         (cases_lt j (length ts.before))
 
-    up_to_it : length ts.after ≤ k → get_or (in_turn ts) k never ≡ get_or (all_of ts) (turn (current_number ts) k) never
+    up_to_it : length ts.after ≤ k
+        → get_or (in_turn ts) k never ≡ get_or (all_of ts) (turn (current_number ts) k) never
     up_to_it more =
         let is : k ≡ length ts.after + (k - length ts.after) = omega arith in
         ap (λ (i : ℕ). get_or (in_turn ts) i never) is
@@ -58,7 +70,8 @@ in_turn-at ts k sound below = ⊎_elim after_it up_to_it (cases_lt k (length ts.
 
 -- ---- the next ready one
 
-yields-first : (ts : Threads) (i : ℕ) → IsFirst ready (in_turn ts) never i → yielded ts ≡ turned_to (turn (current_number ts) i) (all_of ts)
+yields-first : (ts : Threads) (i : ℕ) → IsFirst ready (in_turn ts) never i
+    → yielded ts ≡ turned_to (turn (current_number ts) i) (all_of ts)
 unfolding yielded
 yields-first ts i first = ap (turned_by ts) (position-first ready (in_turn ts) never i first)
 
@@ -74,7 +87,8 @@ reached ts t sound below is =
     let place : turn (current_number ts) (between (current_number ts) t) ≡ t = omega arith in
     ap ready (in_turn-at ts (between (current_number ts) t) sound (omega arith) ∙ ap (λ (k : ℕ). thread_at ts k) place) ∙ is
 
-pub yielded-ready : (ts : Threads) (t : ℕ) → AreThreads ts → t < 8 → ready (thread_at ts t) ≡ true → is_ready (yielded ts).current.state ≡ true
+pub yielded-ready : (ts : Threads) (t : ℕ) → AreThreads ts → t < 8 → ready (thread_at ts t) ≡ true
+    → is_ready (yielded ts).current.state ≡ true
 yielded-ready ts t sound below is =
     ⊎_elim
     (λ (some : (i : ℕ) × IsFirst ready (in_turn ts) never i).
@@ -84,7 +98,8 @@ yielded-ready ts t sound below is =
     ∙ ap ready (current-turned (turn (current_number ts) some.0) (all_of ts) ∙ sym (in_turn-at ts some.0 sound inside)) ∙ first.passes)
     (λ (none : IsNowhere ready (in_turn ts) never).
     let n : current_number ts < 8 = number-below ts sound in
-    absurd (true≢false (sym (reached ts t sound below is) ∙ none.fails (between (current_number ts) t) (omega (arith, length-in_turn ts sound)))))
+    absurd (true≢false (sym (reached ts t sound below is)
+    ∙ none.fails (between (current_number ts) t) (omega (arith, length-in_turn ts sound)))))
     (places ready (in_turn ts) never)
 
 pub yielded-soonest : (ts : Threads) (t : ℕ) → AreThreads ts → t < 8 → ready (thread_at ts t) ≡ true
@@ -97,7 +112,8 @@ yielded-soonest ts t sound below is =
     let inside : some.0 < 8 = subst (λ (k : ℕ). some.0 < k) (length-in_turn ts sound) first.within in
     let n : current_number ts < 8 = number-below ts sound in
     let number : current_number (yielded ts) ≡ turn (current_number ts) some.0 =
-    ap (λ (s : Threads). current_number s) (yields-first ts some.0 first) ∙ number-turned (turn (current_number ts) some.0) (all_of ts) (omega (arith, sound.eight)) in
+    ap (λ (s : Threads). current_number s) (yields-first ts some.0 first)
+    ∙ number-turned (turn (current_number ts) some.0) (all_of ts) (omega (arith, sound.eight)) in
     let distance : between (current_number ts) (current_number (yielded ts)) ≡ some.0 = omega (arith, number) in
     ⊎_elim
     (λ (sooner : between (current_number ts) t < some.0).
@@ -107,10 +123,12 @@ yielded-soonest ts t sound below is =
     (cases_lt (between (current_number ts) t) some.0))
     (λ (none : IsNowhere ready (in_turn ts) never).
     let n : current_number ts < 8 = number-below ts sound in
-    absurd (true≢false (sym (reached ts t sound below is) ∙ none.fails (between (current_number ts) t) (omega (arith, length-in_turn ts sound)))))
+    absurd (true≢false (sym (reached ts t sound below is)
+    ∙ none.fails (between (current_number ts) t) (omega (arith, length-in_turn ts sound)))))
     (places ready (in_turn ts) never)
 
-pub yielded-none : (ts : Threads) → AreThreads ts → ((t : ℕ) → t < 8 → ready (thread_at ts t) ≡ false) → yielded ts ≡ ts
+pub yielded-none : (ts : Threads) → AreThreads ts → ((t : ℕ) → t < 8 → ready (thread_at ts t) ≡ false)
+    → yielded ts ≡ ts
 yielded-none ts sound none = yields-nowhere ts (record { fails = fails })
   where
     fails : (k : ℕ) → k < length (in_turn ts) → ready (get_or (in_turn ts) k never) ≡ false
@@ -122,7 +140,8 @@ pub yielded-all : (ts : Threads) → AreThreads ts → all_of (yielded ts) ≡ a
 yielded-all ts sound =
     ⊎_elim
     (λ (some : (i : ℕ) × IsFirst ready (in_turn ts) never i).
-    ap (λ (s : Threads). all_of s) (yields-first ts some.0 some.1) ∙ all-turned (turn (current_number ts) some.0) (all_of ts) (omega (arith, sound.eight)))
+    ap (λ (s : Threads). all_of s) (yields-first ts some.0 some.1)
+    ∙ all-turned (turn (current_number ts) some.0) (all_of ts) (omega (arith, sound.eight)))
     (λ (none : IsNowhere ready (in_turn ts) never). ap (λ (s : Threads). all_of s) (yields-nowhere ts none))
     (places ready (in_turn ts) never)
 
@@ -133,11 +152,13 @@ given-by : (ts : Threads) (b : Bool) → (P : Threads → Type 0) → (is_ready 
 given-by ts true P is kept passed = kept is
 given-by ts false P is kept passed = passed
 
-given-cases : (ts : Threads) (P : Threads → Type 0) → (is_ready ts.current.state ≡ true → P ts) → P (yielded ts) → P (given_way ts)
+given-cases : (ts : Threads) (P : Threads → Type 0) → (is_ready ts.current.state ≡ true → P ts)
+    → P (yielded ts) → P (given_way ts)
 unfolding given_way
 given-cases ts P kept passed = given-by ts (is_ready ts.current.state) P refl kept passed
 
-pub given-ready : (ts : Threads) (t : ℕ) → AreThreads ts → t < 8 → ready (thread_at ts t) ≡ true → is_ready (given_way ts).current.state ≡ true
+pub given-ready : (ts : Threads) (t : ℕ) → AreThreads ts → t < 8 → ready (thread_at ts t) ≡ true
+    → is_ready (given_way ts).current.state ≡ true
 given-ready ts t sound below is =
     given-cases ts (λ (s : Threads). is_ready s.current.state ≡ true) (λ e. e) (yielded-ready ts t sound below is)
 
@@ -149,21 +170,24 @@ given-all ts sound = given-cases ts (λ (s : Threads). all_of s ≡ all_of ts) (
 abbrev found : ℕ → List Thread → Option ℕ
 found n xs = option_map (turn n) (position ready (drop (n + 1) xs ++ take n xs))
 
-apart : (n : ℕ) (xs : List Thread) (x : Thread) → in_turn (seen n xs x) ≡ (drop (n + 1) xs ++ take n xs) ++ x ∷ []
+apart : (n : ℕ) (xs : List Thread) (x : Thread)
+    → in_turn (seen n xs x) ≡ (drop (n + 1) xs ++ take n xs) ++ x ∷ []
 apart n xs x = sym (append_assoc (drop (n + 1) xs) (take n xs) (x ∷ []))
 
 pub turn-Some : (n : ℕ) (xs : List Thread) (x : Thread) (t : ℕ) → n < 8 → length xs ≡ 8
     → Some t ≡ found n xs → (t < 8) × (yielded (seen n xs x) ≡ turned_to t (set xs n x))
 turn-Some n xs x t below eight e = by_place (position ready (drop (n + 1) xs ++ take n xs)) refl e
   where
-    by_place : (o : Option ℕ) → position ready (drop (n + 1) xs ++ take n xs) ≡ o → Some t ≡ option_map (turn n) o
+    by_place : (o : Option ℕ) → position ready (drop (n + 1) xs ++ take n xs) ≡ o
+        → Some t ≡ option_map (turn n) o
         → (t < 8) × (yielded (seen n xs x) ≡ turned_to t (set xs n x))
     by_place None is same = absurd (cc)
     by_place (Some i) is same =
         let number : t ≡ turn n i = cc in
         let first : IsFirst ready (drop (n + 1) xs ++ take n xs) never i = first-Some ready (drop (n + 1) xs ++ take n xs) never i is in
         let whole : IsFirst ready (in_turn (seen n xs x)) never i =
-        subst (λ (ys : List Thread). IsFirst ready ys never i) (sym (apart n xs x)) (first-push ready (drop (n + 1) xs ++ take n xs) x never i first) in
+        subst (λ (ys : List Thread). IsFirst ready ys never i) (sym (apart n xs x))
+        (first-push ready (drop (n + 1) xs ++ take n xs) x never i first) in
         let here : current_number (seen n xs x) ≡ n = number-seen n xs x (omega arith) in (
           omega (arith, number),
           yields-first (seen n xs x) i whole ∙ ap (λ (k : ℕ). turned_to (turn k i) (all_of (seen n xs x))) here
@@ -174,7 +198,8 @@ pub turn-None : (n : ℕ) (xs : List Thread) (x : Thread) → n < 8 → length x
     → None ≡ found n xs → yielded (seen n xs x) ≡ seen n xs x
 turn-None n xs x below eight e = by_place (position ready (drop (n + 1) xs ++ take n xs)) refl e
   where
-    by_place : (o : Option ℕ) → position ready (drop (n + 1) xs ++ take n xs) ≡ o → None ≡ option_map (turn n) o
+    by_place : (o : Option ℕ) → position ready (drop (n + 1) xs ++ take n xs) ≡ o
+        → None ≡ option_map (turn n) o
         → yielded (seen n xs x) ≡ seen n xs x
     by_place (Some i) is same = absurd (cc)
     by_place None is same =
@@ -182,7 +207,9 @@ turn-None n xs x below eight e = by_place (position ready (drop (n + 1) xs ++ ta
         let seven : length (drop (n + 1) xs ++ take n xs) ≡ 7 =
         omega (arith, length-append (drop (n + 1) xs) (take n xs), length-drop (n + 1) xs, length-take n xs) in
         let here : current_number (seen n xs x) ≡ n = number-seen n xs x (omega arith) in
-        let again : turn (current_number (seen n xs x)) (length (drop (n + 1) xs ++ take n xs)) ≡ current_number (seen n xs x) = omega arith in
+        let again : turn (current_number (seen n xs x)) (length (drop (n + 1) xs ++ take n xs))
+        ≡ current_number (seen n xs x) =
+        omega arith in
         ⊎_elim
         (λ (last : IsFirst ready ((drop (n + 1) xs ++ take n xs) ++ x ∷ []) never (length (drop (n + 1) xs ++ take n xs))).
         yields-first (seen n xs x) (length (drop (n + 1) xs ++ take n xs))
@@ -193,6 +220,7 @@ turn-None n xs x below eight e = by_place (position ready (drop (n + 1) xs ++ ta
         (nowhere-push ready (drop (n + 1) xs ++ take n xs) x never nowhere)
 
 -- and what is read there
-pub read-turned : (t : ℕ) (xs : List Thread) (d : Thread) → t < length xs → turned_to t xs ≡ seen t xs (get_or xs t d)
+pub read-turned : (t : ℕ) (xs : List Thread) (d : Thread) → t < length xs
+    → turned_to t xs ≡ seen t xs (get_or xs t d)
 unfolding turned_to
 read-turned t xs d within = ap (λ (y : Thread). seen t xs y) (get_or_default xs t never d within)

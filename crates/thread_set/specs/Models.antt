@@ -5,4 +5,8 @@ use Rattle.thread_set.specs.declared.ThreadSet.{ThreadSet}
 
 -- the current thread stands apart, and its place among the others is stale
 abbrev pub threads_model : ThreadSet → Threads
-threads_model set = record { before = take set.number set.others; current = set.active; after = drop (set.number + 1) set.others }
+threads_model set = record {
+  before = take set.number set.others;
+  current = set.active;
+  after = drop (set.number + 1) set.others;
+}

@@ -52,7 +52,8 @@ in_state state x = record x { state = state }
 
 -- these threads, of which number t is current
 unfoldable pub turned_to : ℕ → List Thread → Threads
-turned_to t all = record { before = take t all; current = slice_index_or all t never; after = drop (t + 1) all }
+turned_to t all =
+    record { before = take t all; current = slice_index_or all t never; after = drop (t + 1) all }
 
 -- from the one after the current on, in cyclic order, and the current one last
 abbrev pub in_turn : Threads → List Thread
@@ -132,4 +133,5 @@ end_live x = if is_live x.state then in_state Ended x else x
 
 -- every live thread is ended
 unfoldable pub all_ended : Threads → Threads
-all_ended ts = record { before = map end_live ts.before; current = end_live ts.current; after = map end_live ts.after }
+all_ended ts =
+    record { before = map end_live ts.before; current = end_live ts.current; after = map end_live ts.after }

@@ -11,7 +11,9 @@ pub record Buffer (P : Type 0) : Type 0 where
   pub leaves : List ℕ
 
 abbrev pub coded_buffer : {P : Type 0} → Coded P → Coded (Buffer P)
-coded_buffer {P} p = code_by (Contents P × List ℕ) (coded× (coded_contents p) (coded_list coded_ℕ)) (λ b. (b.pages, b.leaves)) (λ t. record { pages = t.0; leaves = t.1 }) (λ _. refl)
+coded_buffer {P} p =
+    code_by (Contents P × List ℕ) (coded× (coded_contents p) (coded_list coded_ℕ)) (λ b. (b.pages, b.leaves))
+    (λ t. record { pages = t.0; leaves = t.1 }) (λ _. refl)
 
 -- the leaf word that is kept for a page
 abbrev pub leaf_of : {P : Type 0} → Buffer P → ℕ → Option ℕ
@@ -19,7 +21,8 @@ leaf_of buffer page = option_map (λ place. slice_index buffer.leaves place) (pl
 
 -- a look-up: a touch where the page is here, else nothing
 abbrev pub found_of : Shape → Sets → ℕ → Sets
-found_of shape sets page = if is_some (place_of shape sets page) then (touch_of shape sets page false).next else sets
+found_of shape sets page =
+    if is_some (place_of shape sets page) then (touch_of shape sets page false).next else sets
 
 -- a fill: a touch that gives the page a place
 abbrev pub filled_of : Shape → Sets → ℕ → Sets

@@ -17,12 +17,15 @@ use Rattle.tp_answer.specs.Accepting.{Accepting}
 use Rattle.tp_answer.specs.Reading.{broken_for, checked_for, image_for}
 
 -- the first of some broken rules is what refuses the image
-first_refuses : (t : text.Raw) (due : List Refusal) (r : Refusal) → slice_get due 0 ≡ Some r → unless_broken t due ≡ Err r
+first_refuses : (t : text.Raw) (due : List Refusal) (r : Refusal) → slice_get due 0 ≡ Some r
+    → unless_broken t due ≡ Err r
 first_refuses t [] r e = cc
 first_refuses t (q ∷ qs) r e = ap (λ (x : Refusal). Err x) (same_Some q r e)
 
-pub accepts_checked : (c : Command) (t : text.Raw) (found : Result text.Raw Refusal) (result : Result text.Raw ReadRefusal) → found ≡ Ok t
-    → IfErr result (IsFirst (broken_for c t)) → IfOk result (λ u. broken_for c u ≡ []) → IfOk result (λ u. u ≡ t) → Accepting result (checked_for c found)
+pub accepts_checked : (c : Command) (t : text.Raw) (found : Result text.Raw Refusal)
+    (result : Result text.Raw ReadRefusal) → found ≡ Ok t
+    → IfErr result (IsFirst (broken_for c t)) → IfOk result (λ u. broken_for c u ≡ [])
+    → IfOk result (λ u. u ≡ t) → Accepting result (checked_for c found)
 unfolding checked_for
 accepts_checked c t found (Ok u) is refused accepted same =
     let whole : broken_for c t ≡ [] = ap (broken_for c) (sym same) ∙ accepted in
@@ -31,7 +34,8 @@ accepts_checked c t found (Err (Broken r)) is refused accepted same = rw is (fir
 accepts_checked c t found (Err Memory) is refused accepted same = tt
 
 -- a text that reads as a record that breaks no rule
-pub checks_unbroken : (bytes : List ℕ) (t : text.Raw) → image_of bytes ≡ Ok t → broken t ≡ [] → image_for Check bytes ≡ Ok (image_from t)
+pub checks_unbroken : (bytes : List ℕ) (t : text.Raw) → image_of bytes ≡ Ok t → broken t ≡ []
+    → image_for Check bytes ≡ Ok (image_from t)
 unfolding image_for checked_for broken_for
 checks_unbroken bytes t reads unbroken = rw (reads, unbroken)
 
@@ -40,12 +44,14 @@ value_or i (Ok j) = j
 value_or i (Err r) = i
 
 -- where an image is due, it is that one
-pub accepting_made : (result : Result text.Raw ReadRefusal) (found : Result Image Refusal) (i : Image) → found ≡ Ok i → Accepting result found → IfOk result (λ t. image_from t ≡ i)
+pub accepting_made : (result : Result text.Raw ReadRefusal) (found : Result Image Refusal) (i : Image)
+    → found ≡ Ok i → Accepting result found → IfOk result (λ t. image_from t ≡ i)
 accepting_made (Ok t) found i due accepting = ap (value_or i) (sym accepting ∙ due)
 accepting_made (Err e) found i due accepting = tt
 
 -- and it is never refused but for want of memory
-pub accepting_unbroken : (result : Result text.Raw ReadRefusal) (found : Result Image Refusal) (i : Image) → found ≡ Ok i → Accepting result found → IfErr result (λ e. e ≡ Memory)
+pub accepting_unbroken : (result : Result text.Raw ReadRefusal) (found : Result Image Refusal) (i : Image)
+    → found ≡ Ok i → Accepting result found → IfErr result (λ e. e ≡ Memory)
 accepting_unbroken (Ok t) found i due accepting = tt
 accepting_unbroken (Err Memory) found i due accepting = refl
 accepting_unbroken (Err (Broken r)) found i due accepting = absurd (cc (due, accepting))

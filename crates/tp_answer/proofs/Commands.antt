@@ -457,7 +457,8 @@ writes_off off n a h asked done =
           let same = is ∙ ap (λ (x : Answer). x.0) (many_due off n r.found many) in absurd (cc same)
     ]
 
-pub has_many_harts : (off : Guard) (n : ℕ) (a : Asked) → IsAnswered a → a.command ≡ Ablate off n → a.status ≡ Usage
+pub has_many_harts : (off : Guard) (n : ℕ) (a : Asked) → IsAnswered a → a.command ≡ Ablate off n
+    → a.status ≡ Usage
     → HasManyHarts a.left a.left' a.old.written a.new.written
 has_many_harts off n a h asked usage =
     let b : Asked = record a { command = Ablate off n } in

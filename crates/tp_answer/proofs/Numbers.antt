@@ -13,13 +13,16 @@ module _ (f : ℕ → List ℕ) (n i : ℕ) (old mid : SinkState) where
   within h = omega (arith, length-range_with_len 0 n)
 
   -- the step
-  pub number_sent : (new : SinkState) → i < n → Sent old mid (flat_map f (take i (range_with_len 0 n))) → Sent mid new (f i) → Sent old new (flat_map f (take (i + 1) (range_with_len 0 n)))
+  pub number_sent : (new : SinkState) → i < n → Sent old mid (flat_map f (take i (range_with_len 0 n)))
+      → Sent mid new (f i) → Sent old new (flat_map f (take (i + 1) (range_with_len 0 n)))
   number_sent new h = sent_each f (range_with_len 0 n) i i old mid new (within h) (number_at h)
 
   -- the exit, where the text of i failed
-  pub cut_in_number : (new : SinkState) → i < n → Sent old mid (flat_map f (take i (range_with_len 0 n))) → CutShort mid new (f i) → CutShort old new (flat_map f (range_with_len 0 n))
+  pub cut_in_number : (new : SinkState) → i < n → Sent old mid (flat_map f (take i (range_with_len 0 n)))
+      → CutShort mid new (f i) → CutShort old new (flat_map f (range_with_len 0 n))
   cut_in_number new h = cut_in_each f (range_with_len 0 n) i i old mid new (within h) (number_at h)
 
   -- the end
-  pub numbers_sent : n ≤ i → Sent old mid (flat_map f (take i (range_with_len 0 n))) → Sent old mid (flat_map f (range_with_len 0 n))
+  pub numbers_sent : n ≤ i → Sent old mid (flat_map f (take i (range_with_len 0 n)))
+      → Sent old mid (flat_map f (range_with_len 0 n))
   numbers_sent h = sent_all f (range_with_len 0 n) i old mid (omega (arith, length-range_with_len 0 n))

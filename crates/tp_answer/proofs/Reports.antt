@@ -16,16 +16,19 @@ use Rattle.tp_report.specs.Switches.{no_used, used_in, switches_text, ending_tex
 use Rattle.tp_report.proofs.Switches.{switches_text-lines}
 use Rattle.tp_answer.specs.Runs.{section_alone}
 
-pub section_of_is : (i : Image) (views : ℕ → View) (d : ℕ) (name : List ℕ) (v : View) → name ≡ (own_of i d).name → v ≡ views d → section d name v ≡ section_of i views d
+pub section_of_is : (i : Image) (views : ℕ → View) (d : ℕ) (name : List ℕ) (v : View)
+    → name ≡ (own_of i d).name → v ≡ views d → section d name v ≡ section_of i views d
 unfolding section_of
 section_of_is i views d name v named seen = λ k. section d (named k) (seen k)
 
-pub section_alone_is : (i : Image) (d n : ℕ) (name : List ℕ) (v : View) → name ≡ (own_of i d).name → v ≡ view_alone_on i d n → section d name v ≡ section_alone i d n
+pub section_alone_is : (i : Image) (d n : ℕ) (name : List ℕ) (v : View) → name ≡ (own_of i d).name
+    → v ≡ view_alone_on i d n → section d name v ≡ section_alone i d n
 unfolding section_alone
 section_alone_is i d n name v named seen = section_of_is i (λ e. view_alone_on i e n) d name v named seen
 
 -- the lines of what the code keeps of the switches
-kept_lines : (es : List Entry) (used : List Used) (us : List (ℕ × ℕ)) → length used ≡ length es → IsUsed used us → switches_text es used ≡ switch_lines es us
+kept_lines : (es : List Entry) (used : List Used) (us : List (ℕ × ℕ)) → length used ≡ length es
+    → IsUsed used us → switches_text es used ≡ switch_lines es us
 kept_lines es used us same is =
     switches_text-lines es used us (λ e within.
     let kept : slice_get used e ≡ Some (used_in used e) = slice_get-get_or used e no_used (omega arith) in

@@ -37,7 +37,8 @@ module _ (i : Image) (c : Choice) (n : ℕ) where
   after_many many = after_is false (ne_eqb (harts_in i.all.schedule) 1 many)
 
   module _ (r : Runnable i) where
-    seen_if : (d : ℕ) → IsDomain i d → (b : Bool) → nat_eq (harts_in i.all.schedule) 1 ≡ b → view_in i d (world_if b) ≡ view_alone_on i d n
+    seen_if : (d : ℕ) → IsDomain i d → (b : Bool) → nat_eq (harts_in i.all.schedule) 1 ≡ b
+        → view_in i d (world_if b) ≡ view_alone_on i d n
     unfolding view_whole
     seen_if d is true one =
         isolated i d n (separated i r) is ∙ sym ((one_hart i (eqb-true (harts_in i.all.schedule) 1 one)).alone d n)
@@ -66,6 +67,7 @@ module _ (i : Image) (c : Choice) (n : ℕ) where
     apart = same_report i (world_after i c n) (λ d. view_alone_on i d n) seen_alone
 
     -- the section of a domain alone is that of the report
-    pub same_section : (d : ℕ) → IsDomain i d → section_alone i d n ≡ section_of i (λ e. view_in i e (world_after i c n)) d
+    pub same_section : (d : ℕ) → IsDomain i d
+        → section_alone i d n ≡ section_of i (λ e. view_in i e (world_after i c n)) d
     unfolding section_alone section_of
     same_section d is = ap (section d (own_of i d).name) (sym (seen_alone d is))

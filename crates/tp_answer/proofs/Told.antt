@@ -22,21 +22,29 @@ unasked words c none is = cc (none, is)
 module _ (words : List (List ℕ)) (status : Status) (left left' old new : Option (List ℕ)) where
   pub record Tells : Type 0 where
     pub usage : status ≡ Usage → MayBeUsage (command words)
-    pub no_domain : (d n : ℕ) → command words ≡ Some (Alone d n) → status ≡ Usage → LacksDomain d left left' old new
-    pub many_harts : (off : Guard) (n : ℕ) → command words ≡ Some (Ablate off n) → status ≡ Usage → HasManyHarts left left' old new
+    pub no_domain : (d n : ℕ) → command words ≡ Some (Alone d n) → status ≡ Usage
+        → LacksDomain d left left' old new
+    pub many_harts : (off : Guard) (n : ℕ) → command words ≡ Some (Ablate off n) → status ≡ Usage
+        → HasManyHarts left left' old new
     pub done_reads : (c : Command) → command words ≡ Some c → Reads c → status ≡ Done → AtEnd left'
     pub refused_reads : status ≡ Refused → AtEnd left'
     pub too_long_reads : status ≡ TooLong → IsOver left left'
     pub refused : (c : Command) → command words ≡ Some c → status ≡ Refused → Refuses c left left' old new
     pub accepted : command words ≡ Some Check → status ≡ Done → Accepts left left' old new
     pub bound : command words ≡ Some Bound → status ≡ Done → Bounds left left' old new
-    pub isolation : (n : ℕ) → command words ≡ Some (Run n) → status ≡ Done → Isolated LeastClock n left left' old new
+    pub isolation : (n : ℕ) → command words ≡ Some (Run n) → status ≡ Done
+        → Isolated LeastClock n left left' old new
     pub pad : (n : ℕ) → command words ≡ Some (Run n) → status ≡ Done → Padded LeastClock n left left'
-    pub harts_isolation : (n s : ℕ) → command words ≡ Some (Harts n s) → status ≡ Done → Isolated (Drawn s) n left left' old new
-    pub harts_pad : (n s : ℕ) → command words ≡ Some (Harts n s) → status ≡ Done → Padded (Drawn s) n left left'
-    pub alone : (d n : ℕ) → command words ≡ Some (Alone d n) → status ≡ Done → WritesSection d n left left' old new
-    pub same_section : (d n : ℕ) → command words ≡ Some (Alone d n) → status ≡ Done → SameSection d n left left' old new
-    pub unprotected : (off : Guard) (n : ℕ) → command words ≡ Some (Ablate off n) → status ≡ Done → WritesOff off n left left' old new
+    pub harts_isolation : (n s : ℕ) → command words ≡ Some (Harts n s) → status ≡ Done
+        → Isolated (Drawn s) n left left' old new
+    pub harts_pad : (n s : ℕ) → command words ≡ Some (Harts n s) → status ≡ Done
+        → Padded (Drawn s) n left left'
+    pub alone : (d n : ℕ) → command words ≡ Some (Alone d n) → status ≡ Done
+        → WritesSection d n left left' old new
+    pub same_section : (d n : ℕ) → command words ≡ Some (Alone d n) → status ≡ Done
+        → SameSection d n left left' old new
+    pub unprotected : (off : Guard) (n : ℕ) → command words ≡ Some (Ablate off n) → status ≡ Done
+        → WritesOff off n left left' old new
     pub generated : (s : ℕ) → command words ≡ Some (Gen s) → status ≡ Done → Generates s old new
     pub demo : (s : ℕ) → command words ≡ Some (Demo s) → status ≡ Done → Summarizes s old new
 
@@ -86,16 +94,19 @@ module _ (words : List (List ℕ)) (status : Status) (left left' old new : Optio
     demo = λ s is e. absurd (unasked words (Demo s) none is);
   }
 
-pub memory_tells : (words : List (List ℕ)) (left left' old new : Option (List ℕ)) → Tells words Memory left left' old new
+pub memory_tells : (words : List (List ℕ)) (left left' old new : Option (List ℕ))
+    → Tells words Memory left left' old new
 memory_tells words left left' old new =
     failed_tells words Memory left left' old new (λ e. cc e) (λ e. cc e) (λ e. cc e) (λ e. cc e)
 
-pub read_fault_tells : (words : List (List ℕ)) (left left' old new : Option (List ℕ)) → Tells words ReadFault left left' old new
+pub read_fault_tells : (words : List (List ℕ)) (left left' old new : Option (List ℕ))
+    → Tells words ReadFault left left' old new
 read_fault_tells words left left' old new =
     failed_tells words ReadFault left left' old new (λ e. cc e) (λ e. cc e) (λ e. cc e) (λ e. cc e)
 
 -- no read failed where memory ran out
-pub held_none : {T : Type 0} (result : Result T ReadError) (e : ReadError) → result ≡ Err e → e ≡ HeldNone → result ≢ Err Failed
+pub held_none : {T : Type 0} (result : Result T ReadError) (e : ReadError) → result ≡ Err e → e ≡ HeldNone
+    → result ≢ Err Failed
 held_none result e is held failed = cc (is, held, failed)
 
 -- of a command that was answered, all

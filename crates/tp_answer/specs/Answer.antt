@@ -56,7 +56,9 @@ answer_unless_broken c (Err r) = (Refused, refusal_text r)
 
 -- an image that is too long isn't read
 unfoldable pub answer_to_image : Command → List ℕ → Answer
-answer_to_image c bytes = if nat_le (length bytes) most_bytes then answer_unless_broken c (image_for c bytes) else (TooLong, too_long_text)
+answer_to_image c bytes =
+    if nat_le (length bytes) most_bytes then answer_unless_broken c (image_for c bytes)
+    else (TooLong, too_long_text)
 
 -- where nothing is read, it is the same whatever the bytes are
 unfoldable pub answer_of_bytes : Command → List ℕ → Answer

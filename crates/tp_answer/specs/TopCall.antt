@@ -77,7 +77,8 @@ pub record IsOver (left left' : Option (List ℕ)) : Type 0 where
   pub many : length bytes ≡ most_bytes + 1
 
 -- neither a read failed nor memory ran out: the source had these bytes, and the answer to them was due
-pub record Answered (words : List (List ℕ)) (status : Status) (left left' written written' : Option (List ℕ)) : Type 0 where
+pub record Answered (words : List (List ℕ)) (status : Status) (left left' written written' : Option (List ℕ))
+    : Type 0 where
   pub bytes : List ℕ
   pub took : left ≡ before_known bytes left'
   pub whole : (c : Command) → command words ≡ Some c → Reads c → length bytes ≤ most_bytes → AtEnd left'
@@ -131,18 +132,22 @@ pub record ReadsImage (left left' : Option (List ℕ)) : Type 0 where
 pub record Isolated (c : Choice) (slots : ℕ) (left left' written written' : Option (List ℕ)) : Type 0 where
   pub ran : ReadsImage left left'
   pub wrote : written' ≡ after_known written (report_apart ran.found c slots)
-  pub views : (d : ℕ) → IsDomain ran.found d → view_in ran.found d (world_after ran.found c slots) ≡ view_alone_on ran.found d slots
+  pub views : (d : ℕ) → IsDomain ran.found d
+      → view_in ran.found d (world_after ran.found c slots) ≡ view_alone_on ran.found d slots
 
 -- no switch overran its pad, no switch line says more than its pad, and each slot began at exactly its start: of one hart
 -- slot k, and of several the next of each, whatever the order before
 pub record Padded (c : Choice) (slots : ℕ) (left left' : Option (List ℕ)) : Type 0 where
   pub ran : ReadsImage left left'
   pub used : AllWithinPads ran.found.all.schedule (world_after ran.found c slots).used
-  pub lines : (e : ℕ) → largest_of e (world_after ran.found c slots).used ≤ (entry_in ran.found.all.schedule e).pad
+  pub lines : (e : ℕ)
+      → largest_of e (world_after ran.found c slots).used ≤ (entry_in ran.found.all.schedule e).pad
   pub starts : (k : ℕ) → clock_of 0 (switch ran.found k (whole ran.found k)) ≡ start ran.found.all.schedule k
-  pub harts_start : (h : ℕ) (order : List ℕ) → AreHartsOf ran.found order → h < harts_in ran.found.all.schedule →
+  pub harts_start : (h : ℕ) (order : List ℕ) → AreHartsOf ran.found order
+      → h < harts_in ran.found.all.schedule →
       let s = harts ran.found order in
-      (progress_of h s).inside ≡ false → clock_of h (next ran.found h s).world ≡ start_on ran.found h (slots_of h s)
+      (progress_of h s).inside ≡ false
+      → clock_of h (next ran.found h s).world ≡ start_on ran.found h (slots_of h s)
 
 -- ---- a domain alone
 

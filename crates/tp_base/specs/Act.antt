@@ -14,7 +14,9 @@ Act S N E A = S → Done S N E A
 -- goes on with the value, or keeps the early end
 unfoldable pub go_on : {S N E A B : Type 0} → Done S N E A → (A → Act S N E B) → E ⊎ A → Done S N E B
 go_on r f (inl e) = record { notes = r.notes; state = r.state; value = inl e }
-go_on r f (inr a) = let q = f a r.state in record { notes = r.notes ++ q.notes; state = q.state; value = q.value }
+go_on r f (inr a) =
+    let q = f a r.state in
+    record { notes = r.notes ++ q.notes; state = q.state; value = q.value }
 
 infixl 10 ◌>>=◌
 unfoldable pub ◌>>=◌ : {S N E A B : Type 0} → Act S N E A → (A → Act S N E B) → Act S N E B

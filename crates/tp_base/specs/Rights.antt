@@ -2,7 +2,8 @@
 use Rattle.std.specs.Prelude.{ℕ, ◌+◌, Bool, ◌||◌, nat_eq, if◌then◌else◌}
 
 abbrev pub rights_with : Bool → Bool → Bool → ℕ
-rights_with read write execute = (if read then 1 else 0) + (if write then 2 else 0) + (if execute then 4 else 0)
+rights_with read write execute =
+    (if read then 1 else 0) + (if write then 2 else 0) + (if execute then 4 else 0)
 
 -- the rights that a page may have: some, and one that is written is read too
 abbrev pub are_good : ℕ → Bool

@@ -22,11 +22,13 @@ unfolding at empty
 at-empty fresh k = refl
 
 -- a write splits into its key and all others
-pub at-put : {A : Type 0} (fresh : A) (m : Table A) (k j : ℕ) (v : A) → at fresh (put m k v) j ≡ cond (eqb j k) v (at fresh m j)
+pub at-put : {A : Type 0} (fresh : A) (m : Table A) (k j : ℕ) (v : A)
+    → at fresh (put m k v) j ≡ cond (eqb j k) v (at fresh m j)
 unfolding at put
 at-put fresh m k j v = refl
 
-pub at-put_other : {A : Type 0} (fresh : A) (m : Table A) (k j : ℕ) (v : A) → j ≢ k → at fresh (put m k v) j ≡ at fresh m j
+pub at-put_other : {A : Type 0} (fresh : A) (m : Table A) (k j : ℕ) (v : A) → j ≢ k
+    → at fresh (put m k v) j ≡ at fresh m j
 at-put_other fresh m k j v ne = rw (at-put fresh m k j v, ne_eqb j k ne) refl
 
 pub at-put_same : {A : Type 0} (fresh : A) (m : Table A) (k : ℕ) (v : A) → at fresh (put m k v) k ≡ v
@@ -39,7 +41,8 @@ at-put_by {A} fresh m k v P here there j =
     elim (eqb j k) as (λ b. eqb j k ≡ b → P j (at fresh (put m k v) j)) [
       | true ↦ λ t.
           let same : j ≡ k = eqb-true j k t in
-          subst (λ (i : ℕ). P i (at fresh (put m k v) i)) (sym same) (subst (P k) (sym (at-put_same fresh m k v)) here)
+          subst (λ (i : ℕ). P i (at fresh (put m k v) i)) (sym same)
+          (subst (P k) (sym (at-put_same fresh m k v)) here)
       | false ↦ λ t.
           let other : j ≢ k = λ e. true≢false (sym (eq-eqb j k e) ∙ t) in
           subst (P j) (sym (at-put_other fresh m k j v other)) (there j other)

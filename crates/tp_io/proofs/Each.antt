@@ -6,17 +6,23 @@ use Rattle.std.proofs.lemmas.List.Concat.{flat_map-append}
 use Rattle.tp_io.specs.Sends.{SinkState, Sent, CutShort}
 use Rattle.tp_io.proofs.InTurn.{sent_more, cut_between}
 
-flat_map-at : {A : Type 0} (f : A → List ℕ) (xs : List A) (i : ℕ) (d : A) → i < length xs → flat_map f xs ≡ flat_map f (take i xs) ++ (f (get_or xs i d) ++ flat_map f (drop (i + 1) xs))
+flat_map-at : {A : Type 0} (f : A → List ℕ) (xs : List A) (i : ℕ) (d : A) → i < length xs
+    → flat_map f xs ≡ flat_map f (take i xs) ++ (f (get_or xs i d) ++ flat_map f (drop (i + 1) xs))
 flat_map-at f xs i d h =
-    ap (flat_map f) (sym (take-append-drop i xs)) ∙ flat_map-append f (take i xs) (drop i xs) ∙ ap (λ ys. flat_map f (take i xs) ++ flat_map f ys) (drop_more xs i d h)
+    ap (flat_map f) (sym (take-append-drop i xs)) ∙ flat_map-append f (take i xs) (drop i xs)
+    ∙ ap (λ ys. flat_map f (take i xs) ++ flat_map f ys) (drop_more xs i d h)
 
-flat_map_more : {A : Type 0} (f : A → List ℕ) (xs : List A) (i : ℕ) (x : A) → i < length xs → x ≡ get_or xs i x → flat_map f (take (i + 1) xs) ≡ flat_map f (take i xs) ++ f x
+flat_map_more : {A : Type 0} (f : A → List ℕ) (xs : List A) (i : ℕ) (x : A) → i < length xs
+    → x ≡ get_or xs i x → flat_map f (take (i + 1) xs) ≡ flat_map f (take i xs) ++ f x
 flat_map_more f xs i x h read =
-    ap (flat_map f) (take_more xs i x h) ∙ flat_map-append f (take i xs) (get_or xs i x ∷ []) ∙ ap (λ z. flat_map f (take i xs) ++ (f z ++ [])) (sym read) ∙ ap (λ t. flat_map f (take i xs) ++ t) (append-nil (f x))
+    ap (flat_map f) (take_more xs i x h) ∙ flat_map-append f (take i xs) (get_or xs i x ∷ [])
+    ∙ ap (λ z. flat_map f (take i xs) ++ (f z ++ [])) (sym read)
+    ∙ ap (λ t. flat_map f (take i xs) ++ t) (append-nil (f x))
 
 -- the step of such a loop, where the item at i was read as x
 pub sent_each : {A : Type 0} (f : A → List ℕ) (xs : List A) (i : ℕ) (x : A) (old mid new : SinkState)
-    → i < length xs → x ≡ get_or xs i x → Sent old mid (flat_map f (take i xs)) → Sent mid new (f x) → Sent old new (flat_map f (take (i + 1) xs))
+    → i < length xs → x ≡ get_or xs i x → Sent old mid (flat_map f (take i xs)) → Sent mid new (f x)
+    → Sent old new (flat_map f (take (i + 1) xs))
 sent_each f xs i x old mid new h read so_far more =
     subst (Sent old new) (sym (flat_map_more f xs i x h read)) (sent_more old mid new (flat_map f (take i xs)) (f x) so_far more)
 
@@ -24,9 +30,11 @@ sent_each f xs i x old mid new h read so_far more =
 pub cut_in_each : {A : Type 0} (f : A → List ℕ) (xs : List A) (i : ℕ) (x : A) (old mid new : SinkState)
     → i < length xs → x ≡ get_or xs i x → Sent old mid (flat_map f (take i xs)) → CutShort mid new (f x) → CutShort old new (flat_map f xs)
 cut_in_each f xs i x old mid new h read so_far cut =
-    subst (CutShort old new) (sym (flat_map-at f xs i x h)) (cut_between old mid new (flat_map f (take i xs)) (f (get_or xs i x)) (flat_map f (drop (i + 1) xs)) so_far
+    subst (CutShort old new) (sym (flat_map-at f xs i x h)) (cut_between old mid new (flat_map f (take i xs))
+    (f (get_or xs i x)) (flat_map f (drop (i + 1) xs)) so_far
     (subst (λ y. CutShort mid new (f y)) read cut))
 
 -- the end of such a loop
-pub sent_all : {A : Type 0} (f : A → List ℕ) (xs : List A) (i : ℕ) (old mid : SinkState) → length xs ≤ i → Sent old mid (flat_map f (take i xs)) → Sent old mid (flat_map f xs)
+pub sent_all : {A : Type 0} (f : A → List ℕ) (xs : List A) (i : ℕ) (old mid : SinkState) → length xs ≤ i
+    → Sent old mid (flat_map f (take i xs)) → Sent old mid (flat_map f xs)
 sent_all f xs i old mid h so_far = subst (λ ys. Sent old mid (flat_map f ys)) (take_all i xs h) so_far

@@ -35,10 +35,12 @@ cut_in_first a b xs ys cut = record {
 }
 
 -- one text was sent, and then the sink failed in the second of three
-pub cut_between : (a b c : SinkState) (xs ys zs : List ℕ) → Sent a b xs → CutShort b c ys → CutShort a c (xs ++ (ys ++ zs))
+pub cut_between : (a b c : SinkState) (xs ys zs : List ℕ) → Sent a b xs → CutShort b c ys
+    → CutShort a c (xs ++ (ys ++ zs))
 cut_between a b c xs ys zs first cut = cut_after a b c xs (ys ++ zs) first (cut_in_first b c ys zs cut)
 
 -- one text was sent, and then a call was to send another, whatever its result
-pub then_sends : {T E : Type 0} (a b c : SinkState) (r : Result T E) (xs ys : List ℕ) → Sent a b xs → Sends b c r ys → Sends a c r (xs ++ ys)
+pub then_sends : {T E : Type 0} (a b c : SinkState) (r : Result T E) (xs ys : List ℕ) → Sent a b xs
+    → Sends b c r ys → Sends a c r (xs ++ ys)
 then_sends a b c (Ok x) xs ys first second = sent_more a b c xs ys first second
 then_sends a b c (Err e) xs ys first second = cut_after a b c xs ys first second

@@ -17,7 +17,8 @@ AtEnd known = IfSome known (λ xs. xs ≡ [])
 -- it put none only at the end of the input, or into an empty buffer
 abbrev pub Takes : {E : Type 0} → Option (List ℕ) → Option (List ℕ) → Result ℕ E → List ℕ → Type 0
 Takes old new result buffer = MatchResult result
-    (λ n. (n ≤ length buffer) × (old ≡ before_known (take n buffer) new) × (n ≡ 0 → 0 < length buffer → AtEnd new))
+    (λ n. (n ≤ length buffer) × (old ≡ before_known (take n buffer) new)
+    × (n ≡ 0 → 0 < length buffer → AtEnd new))
     (λ _. new ≡ old)
 
 -- a write appended the front of the piece, some of it unless the piece is empty, or nothing where it failed

@@ -17,4 +17,5 @@ AppendsFront old new piece = (n : ℕ) × (n ≤ length piece) × Appends old ne
 
 -- a write appended as many bytes of the piece as it answers, or at an error a front of it, once
 abbrev pub AppendsOnce : {E : Type 0} → Option (List ℕ) → Option (List ℕ) → Result ℕ E → List ℕ → Type 0
-AppendsOnce old new result piece = MatchResult result (λ n. Appends old new (take n piece)) (λ _. AppendsFront old new piece)
+AppendsOnce old new result piece =
+    MatchResult result (λ n. Appends old new (take n piece)) (λ _. AppendsFront old new piece)

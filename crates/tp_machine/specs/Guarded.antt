@@ -34,7 +34,8 @@ KeepsBuffer off i (suc n) k =
 pub record HaveFacts (off : Option Guard) (i : Image) (slots : ℕ) (k : Kept) : Type 0 where
   pub buffer : KeepsBuffer off i slots k
   pub each : (d : ℕ) (x : Domain) → slice_get k.domains d ≡ Some x
-      → HasFacts (estate i.all.hardware (own_of i d)) k.memory (whole_by (guards_of off i) i slots).storage.mem x
+      → HasFacts (estate i.all.hardware (own_of i d)) k.memory
+      (whole_by (guards_of off i) i slots).storage.mem x
 
 -- so that no number is too large
 pub record IsInBounds (slots ended : ℕ) (k : Kept) : Type 0 where

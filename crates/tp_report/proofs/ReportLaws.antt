@@ -14,7 +14,8 @@ use Rattle.world_view.proofs.time.TimeLaws.{largest_within}
 use Rattle.world_view.proofs.runs.WholeLaws.{isolated}
 
 -- texts of numbers in turn are the same where each is
-same_texts : (f g : ℕ → List ℕ) (a n : ℕ) → ((x : ℕ) → x < a + n → f x ≡ g x) → flat_map f (range_with_len a n) ≡ flat_map g (range_with_len a n)
+same_texts : (f g : ℕ → List ℕ) (a n : ℕ) → ((x : ℕ) → x < a + n → f x ≡ g x)
+    → flat_map f (range_with_len a n) ≡ flat_map g (range_with_len a n)
 same_texts f g a zero same = refl
 same_texts f g a (suc n) same = ap₂ (λ x y. x ++ y) (same a (omega arith)) (same_texts f g (a + 1) n (λ x h. same x (omega arith)))
 

@@ -8,7 +8,8 @@ use Rattle.std.proofs.lemmas.List.Folds.{sum_by-replicate}
 use Rattle.phys_mem.specs.Contents.{zeros}
 use Rattle.world_view.specs.View.{memory_sum}
 
-sum_concat_more : (xss : List (List ℕ)) (ys : List ℕ) → sum (concat (xss ++ ys ∷ [])) ≡ sum (concat xss) + sum ys
+sum_concat_more : (xss : List (List ℕ)) (ys : List ℕ)
+    → sum (concat (xss ++ ys ∷ [])) ≡ sum (concat xss) + sum ys
 sum_concat_more [] ys = let same = ap sum (append-nil ys) in omega (arith, same)
 sum_concat_more (xs ∷ xss) ys =
     let rest = sum_concat_more xss ys in
@@ -25,7 +26,8 @@ frame_sum_blank words blank =
     omega (arith, none, same)
 
 -- the sum of the words of frames in turn, and the next
-pub memory_sum_more : (frames : List (List ℕ)) (i part total : ℕ) → i < length frames → part ≡ sum (slice_index_or frames i []) % 2 ^ 32 → total ≡ memory_sum (take i frames)
+pub memory_sum_more : (frames : List (List ℕ)) (i part total : ℕ) → i < length frames
+    → part ≡ sum (slice_index_or frames i []) % 2 ^ 32 → total ≡ memory_sum (take i frames)
     → (total + part) % 2 ^ 32 ≡ memory_sum (take (i + 1) frames)
 unfolding memory_sum
 memory_sum_more frames i part total within is so_far =
@@ -34,5 +36,6 @@ memory_sum_more frames i part total within is so_far =
     omega (arith, is, all, so_far)
 
 -- all of them
-pub memory_sum_all : (frames : List (List ℕ)) (i total : ℕ) → length frames ≤ i → total ≡ memory_sum (take i frames) → total ≡ memory_sum frames
+pub memory_sum_all : (frames : List (List ℕ)) (i total : ℕ) → length frames ≤ i
+    → total ≡ memory_sum (take i frames) → total ≡ memory_sum frames
 memory_sum_all frames i total h so_far = so_far ∙ ap memory_sum (take_all i frames h)

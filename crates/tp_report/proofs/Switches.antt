@@ -9,12 +9,16 @@ use Rattle.world_view.specs.declared.used.Used.{Used}
 use Rattle.tp_report.specs.Switches.{used_in, switch_at, switches_text}
 
 -- what agrees at each number writes the same texts
-flat_map-range_same : (f g : ℕ → List ℕ) (a n : ℕ) → ((k : ℕ) → a ≤ k → k < a + n → f k ≡ g k) → flat_map f (range_with_len a n) ≡ flat_map g (range_with_len a n)
+flat_map-range_same : (f g : ℕ → List ℕ) (a n : ℕ) → ((k : ℕ) → a ≤ k → k < a + n → f k ≡ g k)
+    → flat_map f (range_with_len a n) ≡ flat_map g (range_with_len a n)
 flat_map-range_same f g a zero same = refl
 flat_map-range_same f g a (suc n) same =
-    rw (same a (omega arith) (omega arith)) (ap (λ text. g a ++ text) (flat_map-range_same f g (a + 1) n (λ k low high. same k (omega arith) (omega arith))))
+    rw (same a (omega arith) (omega arith)) (ap (λ text. g a ++ text)
+    (flat_map-range_same f g (a + 1) n (λ k low high. same k (omega arith) (omega arith))))
 
-switch_at-text : (entries : List Entry) (used : List Used) (us : List (ℕ × ℕ)) (e : ℕ) → (used_in used e).largest ≡ largest_of e us → (used_in used e).count ≡ count_of e us → switch_at entries used e ≡ switch_text entries us e
+switch_at-text : (entries : List Entry) (used : List Used) (us : List (ℕ × ℕ)) (e : ℕ)
+    → (used_in used e).largest ≡ largest_of e us → (used_in used e).count ≡ count_of e us
+    → switch_at entries used e ≡ switch_text entries us e
 unfolding switch_at switch_text
 switch_at-text entries used us e largest count = rw (largest, count)
 

@@ -11,15 +11,18 @@ use Rattle.tp_report.specs.Pieces.{after}
 use Rattle.tp_report.specs.Batches.{Holding, CutIn}
 use Rattle.tp_report.proofs.Batches.{cut_in_first}
 
-pub last_text-Some : {A : Type 0} (item : A → List ℕ) (x : A) → last_text item (Some x) ≡ after (codes " last ") item x ++ codes " list"
+pub last_text-Some : {A : Type 0} (item : A → List ℕ) (x : A)
+    → last_text item (Some x) ≡ after (codes " last ") item x ++ codes " list"
 unfolding last_text spaced
 last_text-Some item x = refl
 
-pub log_text-none : {A : Type 0} (item : A → List ℕ) (l : Log A) → l.count ≡ 0 → log_text item l ≡ decimal l.count
+pub log_text-none : {A : Type 0} (item : A → List ℕ) (l : Log A) → l.count ≡ 0
+    → log_text item l ≡ decimal l.count
 unfolding log_text
 log_text-none item l none = ap (λ n. decimal l.count ++ (if n == 0 then [] else items_text item l)) none ∙ append-nil (decimal l.count)
 
-pub log_text-some : {A : Type 0} (item : A → List ℕ) (l : Log A) → l.count ≢ 0 → log_text item l ≡ decimal l.count ++ (last_text item l.last ++ flat_map (spaced item) l.first)
+pub log_text-some : {A : Type 0} (item : A → List ℕ) (l : Log A) → l.count ≢ 0
+    → log_text item l ≡ decimal l.count ++ (last_text item l.last ++ flat_map (spaced item) l.first)
 unfolding log_text items_text
 log_text-some item l some = rw (ne_eqb l.count 0 some)
 
@@ -28,6 +31,7 @@ unfolding bytes_text
 bytes_text-some bytes some = rw (ne_eqb (length bytes) 0 some)
 
 -- the sink was cut short in the count of a log
-pub cut_in_count : {A : Type 0} (item : A → List ℕ) (l : Log A) (a b : Holding) → CutIn a b (decimal l.count) → CutIn a b (log_text item l)
+pub cut_in_count : {A : Type 0} (item : A → List ℕ) (l : Log A) (a b : Holding) → CutIn a b (decimal l.count)
+    → CutIn a b (log_text item l)
 unfolding log_text
 cut_in_count item l a b cut = cut_in_first a b (decimal l.count) (if l.count == 0 then [] else items_text item l) cut

@@ -15,7 +15,8 @@ ReportLaw = (i : Image) (n : ℕ) → Runnable i → report i n ≡ report_apart
 pub record SaysWithinPad (i : Image) (n e : ℕ) : Type 0 where
   pub cycles : ℕ
   pub within : cycles ≤ (entry_in i.all.schedule e).pad
-  pub line : switch_text i.all.schedule (whole i n).used e ≡ switch_line e cycles (entry_in i.all.schedule e).pad (count_of e (whole i n).used)
+  pub line : switch_text i.all.schedule (whole i n).used e
+      ≡ switch_line e cycles (entry_in i.all.schedule e).pad (count_of e (whole i n).used)
 
 -- no switch line says more than its pad
 abbrev pub LinesLaw : Type 0

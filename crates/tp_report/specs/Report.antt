@@ -19,7 +19,9 @@ use Rattle.tp_report.specs.Texts.{section}
 -- ---- switches
 
 unfoldable pub switch_line : ℕ → ℕ → ℕ → ℕ → List ℕ
-switch_line e largest pad count = concat (codes "switch " ∷ decimal e ∷ codes " used " ∷ decimal largest ∷ codes " pad " ∷ decimal pad ∷ codes " count " ∷ decimal count ∷ codes "\n" ∷ [])
+switch_line e largest pad count =
+    concat (codes "switch " ∷ decimal e ∷ codes " used " ∷ decimal largest ∷ codes " pad " ∷ decimal pad
+    ∷ codes " count " ∷ decimal count ∷ codes "\n" ∷ [])
 
 unfoldable pub switch_text : List Entry → List (ℕ × ℕ) → ℕ → List ℕ
 switch_text es used e = switch_line e (largest_of e used) (entry_in es e).pad (count_of e used)
@@ -113,7 +115,9 @@ shared_parts_text s = concat (
 
 -- the operation and all parts, of a machine for the domain of entry e
 unfoldable pub entry_line : ℕ → MachineShape → List ℕ
-entry_line e s = concat (codes "entry " ∷ decimal e ∷ codes " operation " ∷ decimal (worst_operation s) ∷ codes " bound " ∷ decimal (bound_of s) ∷ codes "\n" ∷ [])
+entry_line e s =
+    concat (codes "entry " ∷ decimal e ∷ codes " operation " ∷ decimal (worst_operation s) ∷ codes " bound "
+    ∷ decimal (bound_of s) ∷ codes "\n" ∷ [])
 
 -- the line of entry e, after which its domain leaves; which calls may be made is listed by domain
 unfoldable pub entry_text : MachineShape → List Entry → List ℕ → ℕ → List ℕ
@@ -143,7 +147,9 @@ usage_text = codes "usage: tp check|bound|run|alone|gen|demo\n"
 
 -- the rule that is broken, and its three numbers
 unfoldable pub refusal_text : Refusal → List ℕ
-refusal_text r = concat (codes "refused K" ∷ decimal r.rule ∷ codes " at " ∷ signed_decimal r.at ∷ codes " found " ∷ signed_decimal r.found ∷ codes " wanted " ∷ signed_decimal r.wanted ∷ codes "\n" ∷ [])
+refusal_text r =
+    concat (codes "refused K" ∷ decimal r.rule ∷ codes " at " ∷ signed_decimal r.at ∷ codes " found "
+    ∷ signed_decimal r.found ∷ codes " wanted " ∷ signed_decimal r.wanted ∷ codes "\n" ∷ [])
 
 unfoldable pub too_long_text : List ℕ
 too_long_text = codes "too long\n"

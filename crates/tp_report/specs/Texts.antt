@@ -22,7 +22,8 @@ unfoldable pub exited_text : ℕ → List ℕ
 exited_text code = concat (codes "exited " ∷ decimal code ∷ [])
 
 unfoldable pub stopped_text : ℕ → ℕ → ℕ → List ℕ
-stopped_text code pc value = concat (codes "stopped " ∷ decimal code ∷ codes " pc " ∷ h8 pc ∷ codes " value " ∷ h8 value ∷ [])
+stopped_text code pc value =
+    concat (codes "stopped " ∷ decimal code ∷ codes " pc " ∷ h8 pc ∷ codes " value " ∷ h8 value ∷ [])
 
 unfoldable pub status_text : DomainStatus → List ℕ
 status_text Running = codes "running"
@@ -47,7 +48,9 @@ registers_text regs = flat_map register_text (enumerate_from 0 regs)
 
 -- a line, begun by its line feed
 unfoldable pub thread_line : ℕ → Thread → List ℕ
-thread_line t x = concat (codes "\nthread " ∷ decimal t ∷ codes " " ∷ state_text x.state ∷ codes " pc " ∷ h8 x.pc ∷ registers_text x.regs ∷ [])
+thread_line t x =
+    concat (codes "\nthread " ∷ decimal t ∷ codes " " ∷ state_text x.state ∷ codes " pc " ∷ h8 x.pc
+    ∷ registers_text x.regs ∷ [])
 
 -- where a thread in this state was ever started
 abbrev pub if_started : ThreadState → List ℕ → List ℕ

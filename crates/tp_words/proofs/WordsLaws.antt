@@ -44,7 +44,8 @@ module _ {E : Type 0} (old : ClapCommand) (a : Arg) (own : a.global ≡ false) w
   has_own (Err e) none added = tt
 
 -- no fault: what the matches ask for
-pub taken : (words : List Text) (sub : Option (Text × List Row)) → fault_of tp_app words ≡ [] → sub ≡ subcommand_of tp_app words → asked_for sub ≡ command words
+pub taken : (words : List Text) (sub : Option (Text × List Row)) → fault_of tp_app words ≡ []
+    → sub ≡ subcommand_of tp_app words → asked_for sub ≡ command words
 unfolding command
 taken words sub none is = ap asked_for is ∙ sym (ap (λ ks. unless_faulty ks (asked_for (subcommand_of tp_app words))) none)
 
@@ -59,37 +60,52 @@ refused words k among = none_if k (fault_of tp_app words) (asked_for (subcommand
 
 -- ---- the value of an option
 
-by_test : (greatest : ℕ) (text : List ℕ) (r : Option ℕ) → (is_signed_in (pos 0) (pos greatest) text ≡ true → r ≡ Some (unsigned_abs (signed_digits_value 10 text))) → (is_signed_in (pos 0) (pos greatest) text ≡ false → r ≡ None) → r ≡ number_written greatest text
+by_test : (greatest : ℕ) (text : List ℕ) (r : Option ℕ)
+    → (is_signed_in (pos 0) (pos greatest) text ≡ true
+    → r ≡ Some (unsigned_abs (signed_digits_value 10 text)))
+    → (is_signed_in (pos 0) (pos greatest) text ≡ false → r ≡ None) → r ≡ number_written greatest text
 by_test greatest text r passed failed = go (is_signed_in (pos 0) (pos greatest) text) refl
   where
     go : (b : Bool) → is_signed_in (pos 0) (pos greatest) text ≡ b → r ≡ number_written greatest text
     go true e = passed e ∙ sym (ap (λ t. when t >> Some (unsigned_abs (signed_digits_value 10 text))) e)
     go false e = failed e ∙ sym (ap (λ t. when t >> Some (unsigned_abs (signed_digits_value 10 text))) e)
 
-in_range : (greatest : ℕ) (z : ℤ) → int_le (pos 0) z ≡ true → int_le z (pos greatest) ≡ true → up_to greatest z ≡ Some (unsigned_abs z)
+in_range : (greatest : ℕ) (z : ℤ) → int_le (pos 0) z ≡ true → int_le z (pos greatest) ≡ true
+    → up_to greatest z ≡ Some (unsigned_abs z)
 in_range greatest (pos n) some few = ap (λ t. when t >> Some n) few
 in_range greatest (negsuc n) some few = absurd (cc)
 
 -- a number that `i64` reads, if it is 0 to the greatest
-read_number : (E : Type 0) (greatest : ℕ) (text : List ℕ) (z : ℤ) → ParsesSigned {E = E} w64 10 text (Ok z) → up_to greatest z ≡ number_written greatest text
+read_number : (E : Type 0) (greatest : ℕ) (text : List ℕ) (z : ℤ) → ParsesSigned {E = E} w64 10 text (Ok z)
+    → up_to greatest z ≡ number_written greatest text
 read_number E greatest text z h = by_test greatest text (up_to greatest z)
-    (λ e. let range = both _ _ (both _ _ (both _ _ e).1).1 in ap (up_to greatest) h.1 ∙ in_range greatest (signed_digits_value 10 text) range.0 range.1)
+    (λ e. let range = both _ _ (both _ _ (both _ _ e).1).1 in
+    ap (up_to greatest) h.1 ∙ in_range greatest (signed_digits_value 10 text) range.0 range.1)
     (λ e. go z h e)
   where
-    accepted : (n : ℕ) → ParsesSigned {E = E} w64 10 text (Ok (pos n)) → nat_le n greatest ≡ true → is_signed_in (pos 0) (pos greatest) text ≡ true
-    accepted n h test = Accepts-accepts false (vp.Signed (pos 0) (pos greatest)) text
-        (h.0.0, h.0.1, subst (λ z. pos 0 ≤ℤ z) h.1 (le_z_yes (subst T (sym (le-leb 0 n (omega arith))) tt)), subst (λ z. z ≤ℤ pos greatest) h.1 (le_z_yes (subst T (sym test) tt)))
+    accepted : (n : ℕ) → ParsesSigned {E = E} w64 10 text (Ok (pos n)) → nat_le n greatest ≡ true
+        → is_signed_in (pos 0) (pos greatest) text ≡ true
+    accepted n h test = Accepts-accepts false (vp.Signed (pos 0) (pos greatest)) text (
+      h.0.0,
+      h.0.1,
+      subst (λ z. pos 0 ≤ℤ z) h.1 (le_z_yes (subst T (sym (le-leb 0 n (omega arith))) tt)),
+      subst (λ z. z ≤ℤ pos greatest) h.1 (le_z_yes (subst T (sym test) tt)),
+    )
 
-    small : (n : ℕ) → ParsesSigned {E = E} w64 10 text (Ok (pos n)) → is_signed_in (pos 0) (pos greatest) text ≡ false → (b : Bool) → nat_le n greatest ≡ b → up_to greatest (pos n) ≡ None
+    small : (n : ℕ) → ParsesSigned {E = E} w64 10 text (Ok (pos n))
+        → is_signed_in (pos 0) (pos greatest) text ≡ false → (b : Bool) → nat_le n greatest ≡ b
+        → up_to greatest (pos n) ≡ None
     small n h e false test = ap (λ t. when t >> Some n) test
     small n h e true test = let yes = accepted n h test in absurd (cc)
 
-    go : (z : ℤ) → ParsesSigned {E = E} w64 10 text (Ok z) → is_signed_in (pos 0) (pos greatest) text ≡ false → up_to greatest z ≡ None
+    go : (z : ℤ) → ParsesSigned {E = E} w64 10 text (Ok z) → is_signed_in (pos 0) (pos greatest) text ≡ false
+        → up_to greatest z ≡ None
     go (pos n) h e = small n h e (nat_le n greatest) refl
     go (negsuc n) h e = refl
 
 -- a text that `i64` doesn't read
-read_none : {E : Type 0} (greatest : ℕ) (text : List ℕ) (e : E) → ParsesSigned w64 10 text (Err e) → None ≡ number_written greatest text
+read_none : {E : Type 0} (greatest : ℕ) (text : List ℕ) (e : E) → ParsesSigned w64 10 text (Err e)
+    → None ≡ number_written greatest text
 read_none greatest text e h = by_test greatest text None
     (λ t. let a = accepts-Accepts false (vp.Signed (pos 0) (pos greatest)) text t in absurd (h (a.0, a.1)))
     (λ t. refl)
@@ -99,13 +115,16 @@ abbrev pub ReadAsI64 : List ℕ → Result ℤ ParseIntError → Type 0
 ReadAsI64 text r = ParsesSigned w64 10 text r × ExplainsSignedError 10 text r × HasSignedDigitsIfOk text r
 
 -- what is read of the value, if it is 0 to the greatest
-pub given : (greatest : ℕ) (t : Option (List ℕ)) (r : Option ℤ) → (t ≡ None → r ≡ None) → ((u : List ℕ) → t ≡ Some u → ReadsOne ReadAsI64 u r) → (r >>= up_to greatest) ≡ (t >>= number_written greatest)
+pub given : (greatest : ℕ) (t : Option (List ℕ)) (r : Option ℤ) → (t ≡ None → r ≡ None)
+    → ((u : List ℕ) → t ≡ Some u → ReadsOne ReadAsI64 u r)
+    → (r >>= up_to greatest) ≡ (t >>= number_written greatest)
 given greatest None r none value = ap (λ o. o >>= up_to greatest) (none refl)
 given greatest (Some u) (Some z) none value = read_number ParseIntError greatest u z (value u refl).0
 given greatest (Some u) None none value = let h = value u refl in read_none greatest u h.0 h.1.0
 
 -- what is read is a number of 64 bits
-pub fits : (t : Option (List ℕ)) (r : Option ℤ) (z : ℤ) → (t ≡ None → r ≡ None) → ((u : List ℕ) → t ≡ Some u → ReadsOne ReadAsI64 u r) → r ≡ Some z → FitsSigned w64 z
+pub fits : (t : Option (List ℕ)) (r : Option ℤ) (z : ℤ) → (t ≡ None → r ≡ None)
+    → ((u : List ℕ) → t ≡ Some u → ReadsOne ReadAsI64 u r) → r ≡ Some z → FitsSigned w64 z
 fits None r z none value is = let no = none refl in absurd (cc)
 fits (Some u) r z none value is =
     let h = (subst (λ o. ReadsOne ReadAsI64 u o) is (value u refl)).0 in

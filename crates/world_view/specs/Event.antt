@@ -100,11 +100,14 @@ unless (Some trap) d = stop (trapped trap d)
 
 -- what a load of so many bytes finds in a word at a place from 0 to 3, with zeros above it
 abbrev pub part_of_word : ℕ → ℕ → ℕ → ℕ
-part_of_word size word place = if size == 1 then byte_in word place else if size == 2 then half_in word place else word
+part_of_word size word place =
+    if size == 1 then byte_in word place else if size == 2 then half_in word place else word
 
 -- a word in which a store put so many bytes
 abbrev pub stored_in : ℕ → ℕ → ℕ → ℕ → ℕ
-stored_in size word place value = if size == 1 then with_byte_in word place value else if size == 2 then with_half_in word place value else value
+stored_in size word place value =
+    if size == 1 then with_byte_in word place value else if size == 2 then with_half_in word place value
+    else value
 
 unfoldable pub load : Hardware → ℕ → Dom → LoadWidth → ℕ → Act ℕ
 load p r d width va = do
@@ -145,7 +148,8 @@ computed p d _ = give tt
 
 -- what the instruction needs from outside the registers: what a load finds, or a counter's value
 unfoldable pub loaded : Hardware → ℕ → ℕ → Dom → Instr → Act ℕ
-loaded p r t d (instr.Load width rd rs1 offset) = load p r d width (address_of d.threads.current.regs (instr.Load width rd rs1 offset))
+loaded p r t d (instr.Load width rd rs1 offset) =
+    load p r d width (address_of d.threads.current.regs (instr.Load width rd rs1 offset))
 loaded p r t d (instr.ReadCounter counter rd) = give (counter_value counter t d)
 loaded p r t d _ = give 0
 
@@ -186,7 +190,8 @@ timed p r t d i = do
 
 -- its operation in the domain's kernel clone, and then the buffer
 unfoldable pub call_touches : Hardware → Layout → ℕ → List Note → List Touch
-call_touches p l number notes = operation p.costs l (work_of number notes) ++ (if empties notes then EmptyTlb ∷ [] else [])
+call_touches p l number notes =
+    operation p.costs l (work_of number notes) ++ (if empties notes then EmptyTlb ∷ [] else [])
 
 -- the call that the current thread makes
 unfoldable pub make_call : Hardware → Estate → Layout → Dom → Act Dom

@@ -92,4 +92,5 @@ abbrev pub SlotCostLaw : Type 0
 SlotCostLaw = (i : Image) (k n : ℕ) → Runnable i → (local_in i k n).clock < slot_end i.all.schedule k →
     let s = local_in i k n in
     let end = slot_end i.all.schedule k in
-    EndsBy i.all.hardware (owner i k) s.clock end (event (owner i k) s.clock end s.dom) (local_in i k (suc n)).clock
+    EndsBy i.all.hardware (owner i k) s.clock end (event (owner i k) s.clock end s.dom)
+    (local_in i k (suc n)).clock

@@ -28,7 +28,8 @@ HartIsolationLaw = (i : Image) (d : ℕ) (order : List ℕ) → Runnable i → I
 
 -- so two orders after which its hart has had as many slots leave it the same
 abbrev pub TwoOrdersLaw : Type 0
-TwoOrdersLaw = (i : Image) (d : ℕ) (one two : List ℕ) → Runnable i → IsDomain i d → AreHartsOf i one → AreHartsOf i two →
+TwoOrdersLaw =
+    (i : Image) (d : ℕ) (one two : List ℕ) → Runnable i → IsDomain i d → AreHartsOf i one → AreHartsOf i two →
     let h = hart_of_domain i d in
     let s = harts i one in
     let t = harts i two in
@@ -45,14 +46,16 @@ HartLargestLaw = (i : Image) (order : List ℕ) (e : ℕ) → Runnable i → Are
 
 -- an entry has no more switches than its hart
 abbrev pub HartCountLaw : Type 0
-HartCountLaw = (i : Image) (order : List ℕ) (e : ℕ) → Runnable i → AreHartsOf i order → e < length i.all.schedule →
+HartCountLaw =
+    (i : Image) (order : List ℕ) (e : ℕ) → Runnable i → AreHartsOf i order → e < length i.all.schedule →
     let s = harts i order in
     count_of e s.world.used ≤ switches_of (entry_in i.all.schedule e).hart s
 
 -- in these states a hart's event leaves a domain of another: its own state, its frames and its sets, and its hart
 pub record LeftAlone (i : Image) (d : ℕ) (later s : Harts) : Type 0 where
   pub dom : dom_of later.world d ≡ dom_of s.world d
-  pub part : SamePart i.all.hardware (own_of i d) (part_of (hart_of_domain i d) d later.world) (part_of (hart_of_domain i d) d s.world)
+  pub part : SamePart i.all.hardware (own_of i d) (part_of (hart_of_domain i d) d later.world)
+      (part_of (hart_of_domain i d) d s.world)
   pub hart : hart_of (hart_of_domain i d) later.world ≡ hart_of (hart_of_domain i d) s.world
   pub progress : progress_of (hart_of_domain i d) later ≡ progress_of (hart_of_domain i d) s
 
@@ -69,19 +72,22 @@ NextLaw = (i : Image) (order : List ℕ) (h : ℕ) → harts i (order ++ h ∷ [
 
 -- a hart that isn't in a slot has not begun its next one
 abbrev pub HartBetweenLaw : Type 0
-HartBetweenLaw = (i : Image) (h : ℕ) (order : List ℕ) → Runnable i → AreHartsOf i order → h < harts_in i.all.schedule →
+HartBetweenLaw =
+    (i : Image) (h : ℕ) (order : List ℕ) → Runnable i → AreHartsOf i order → h < harts_in i.all.schedule →
     let s = harts i order in
     (progress_of h s).inside ≡ false → IsBetween i h s
 
 -- and one that is in a slot has begun it
 abbrev pub HartBegunLaw : Type 0
-HartBegunLaw = (i : Image) (h : ℕ) (order : List ℕ) → Runnable i → AreHartsOf i order → h < harts_in i.all.schedule →
+HartBegunLaw =
+    (i : Image) (h : ℕ) (order : List ℕ) → Runnable i → AreHartsOf i order → h < harts_in i.all.schedule →
     let s = harts i order in
     (progress_of h s).inside ≡ true → start_on i h (slots_of h s) ≤ clock_of h s.world
 
 -- each of its slots begins at exactly its start
 abbrev pub HartStartLaw : Type 0
-HartStartLaw = (i : Image) (h : ℕ) (order : List ℕ) → Runnable i → AreHartsOf i order → h < harts_in i.all.schedule →
+HartStartLaw =
+    (i : Image) (h : ℕ) (order : List ℕ) → Runnable i → AreHartsOf i order → h < harts_in i.all.schedule →
     let s = harts i order in
     (progress_of h s).inside ≡ false → clock_of h (next i h s).world ≡ start_on i h (slots_of h s)
 
@@ -89,7 +95,8 @@ HartStartLaw = (i : Image) (h : ℕ) (order : List ℕ) → Runnable i → AreHa
 
 -- a cycle or more to its clock
 abbrev pub HartRiseLaw : Type 0
-HartRiseLaw = (i : Image) (h : ℕ) (order : List ℕ) → Runnable i → AreHartsOf i order → h < harts_in i.all.schedule →
+HartRiseLaw =
+    (i : Image) (h : ℕ) (order : List ℕ) → Runnable i → AreHartsOf i order → h < harts_in i.all.schedule →
     let s = harts i order in
     clock_of h s.world < clock_of h (next i h s).world
 
@@ -133,11 +140,13 @@ pub record AsFar (h : ℕ) (s t : Harts) : Type 0 where
 
 -- how far a hart is goes by the number of its own events, whatever the others' are and in whatever order they come
 abbrev pub EventsLaw : Type 0
-EventsLaw = (i : Image) (h : ℕ) (one two : List ℕ) → Runnable i → AreHartsOf i one → AreHartsOf i two → h < harts_in i.all.schedule
+EventsLaw = (i : Image) (h : ℕ) (one two : List ℕ) → Runnable i → AreHartsOf i one → AreHartsOf i two
+    → h < harts_in i.all.schedule
     → events_of h one ≡ events_of h two → AsFar h (harts i one) (harts i two)
 
 -- and so does what is seen of a domain, at each event of its hart
 abbrev pub SameEventsLaw : Type 0
-SameEventsLaw = (i : Image) (d : ℕ) (one two : List ℕ) → Runnable i → IsDomain i d → AreHartsOf i one → AreHartsOf i two →
+SameEventsLaw =
+    (i : Image) (d : ℕ) (one two : List ℕ) → Runnable i → IsDomain i d → AreHartsOf i one → AreHartsOf i two →
     let h = hart_of_domain i d in
     events_of h one ≡ events_of h two → view_on i d (harts i one) ≡ view_on i d (harts i two)

@@ -56,7 +56,8 @@ abbrev pub switches_of : ℕ → Harts → ℕ
 switches_of h s = if (progress_of h s).inside then slots_of h s + 1 else slots_of h s
 
 unfoldable pub proceeds : ℕ → Harts → World → ℕ → Bool → Harts
-proceeds h s w slots inside = record { world = w; progress = put s.progress h (record { slots = slots; inside = inside }) }
+proceeds h s w slots inside =
+    record { world = w; progress = put s.progress h (record { slots = slots; inside = inside }) }
 
 -- ---- events
 
@@ -66,7 +67,9 @@ begins i h s =
     let own = image_on i h in
     let k = slots_of h s in
     let place = place_on i.all.schedule h (switch_entry own.all.schedule k) in
-    proceeds h s (noted place (cycles_on (guarded own) own h k s.world) (switch_on (guarded own) own h k s.world)) k true
+    proceeds h s
+    (noted place (cycles_on (guarded own) own h k s.world) (switch_on (guarded own) own h k s.world)) k
+    true
 
 -- one event of the domain whose slot it is
 unfoldable pub runs : Image → ℕ → ℕ → World → World

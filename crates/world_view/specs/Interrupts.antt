@@ -31,7 +31,8 @@ IsDue o j clock = (x : Moment) × (slice_get o.moments j ≡ Some x) × (x.at �
 abbrev pub DueLaw : Type 0
 DueLaw = (i : Image) (k n : ℕ) → Runnable i
     → (delivered_in i k (suc n) ≡ delivered_in i k n)
-    ⊎ ((delivered_in i k (suc n) ≡ delivered_in i k n + 1) × IsDue (owner i k) (delivered_in i k n) (local_in i k n).clock)
+    ⊎ ((delivered_in i k (suc n) ≡ delivered_in i k n + 1)
+    × IsDue (owner i k) (delivered_in i k n) (local_in i k n).clock)
 
 -- none is lost: while a domain runs in its slot, a moment that is due is delivered by the very next step
 abbrev pub PromptLaw : Type 0
@@ -51,7 +52,8 @@ AscendLaw = (i : Image) (d m n : ℕ) (x y : Moment) → Runnable i → IsDomain
 
 -- nothing is delivered to a domain in another's slot
 abbrev pub OwnSlotsLaw : Type 0
-OwnSlotsLaw = (i : Image) (k n d : ℕ) → Runnable i → IsDomain i d → d ≢ (entry_of_slot i.all.schedule k).domain
+OwnSlotsLaw =
+    (i : Image) (k n d : ℕ) → Runnable i → IsDomain i d → d ≢ (entry_of_slot i.all.schedule k).domain
     → (dom_of (world_in i k n) d).delivered ≡ (dom_of (whole i k) d).delivered
 
 -- at each moment, the current thread of each domain is ready wherever one is
@@ -70,4 +72,6 @@ abbrev pub WakeLaw : Type 0
 WakeLaw = (i : Image) (k n t line : ℕ) → Runnable i → t < 8
     → waits_for line (thread_at (local_in i k n).dom.threads t).state ≡ true
     → (thread_at (local_in i k (suc n)).dom.threads t ≡ thread_at (local_in i k n).dom.threads t)
-    ⊎ (Delivers i k n line ⊎ (Signals (estate i.all.hardware (owner i k)) (local_in i k n).dom line ⊎ (is_running (local_in i k (suc n)).dom.status ≢ true)))
+    ⊎ (Delivers i k n line
+    ⊎ (Signals (estate i.all.hardware (owner i k)) (local_in i k n).dom line
+    ⊎ (is_running (local_in i k (suc n)).dom.status ≢ true)))

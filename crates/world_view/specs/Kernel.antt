@@ -77,7 +77,8 @@ page_claim p o n = Claim.Leaf false (page_frame p o n) (entry_places (Some (n * 
 unfoldable pub fixed_claims : Hardware → Own → List Claim
 fixed_claims p o =
     map Claim.Fixed (clone_frames p o)
-    ++ (Claim.Fixed (root_of p o) ∷ (map (table_claim p o) (first_regions o) ++ map (page_claim p o) (kept_pages o)))
+    ++ (Claim.Fixed (root_of p o)
+    ∷ (map (table_claim p o) (first_regions o) ++ map (page_claim p o) (kept_pages o)))
 
 unfoldable pub estate : Hardware → Own → Estate
 estate p o = record { share = share_of p o; root = root_of p o; fixed = fixed_claims p o; calls = o.calls }

@@ -31,7 +31,8 @@ use Rattle.world_view.specs.Relations.{IsDomain, IsOwnFrame, Agree, SameSets, Sa
 
 -- what is seen of a domain is what is seen of it alone
 abbrev pub IsolationLaw : Type 0
-IsolationLaw = (i : Image) (d n : ℕ) → Runnable i → IsDomain i d → view_whole i d n ≡ view_alone i.all (own_of i d) d n
+IsolationLaw =
+    (i : Image) (d n : ℕ) → Runnable i → IsDomain i d → view_whole i d n ≡ view_alone i.all (own_of i d) d n
 
 -- whatever the other domains are
 abbrev pub TwoRunLaw : Type 0
@@ -45,7 +46,8 @@ PadLaw = (i : Image) (n : ℕ) → Runnable i → AllWithinPads i.all.schedule (
 
 -- the largest of an entry's switches is within its pad
 abbrev pub LargestLaw : Type 0
-LargestLaw = (i : Image) (n e : ℕ) → Runnable i → largest_of e (whole i n).used ≤ (entry_in i.all.schedule e).pad
+LargestLaw =
+    (i : Image) (n e : ℕ) → Runnable i → largest_of e (whole i n).used ≤ (entry_in i.all.schedule e).pad
 
 abbrev pub StartLaw : Type 0
 StartLaw = (i : Image) (k : ℕ) → Runnable i → clock_of 0 (switch i k (whole i k)) ≡ start i.all.schedule k
@@ -57,7 +59,8 @@ InTimeLaw = (i : Image) (k : ℕ) → Runnable i → InTime i 0 k (whole i k)
 abbrev pub local_in : Image → ℕ → ℕ → Local
 local_in i k n =
     let d = (entry_of_slot i.all.schedule k).domain in
-    steps (setting i.all.hardware (own_of i d) false) (slot_end i.all.schedule k) n (part_of 0 d (switch i k (whole i k)))
+    steps (setting i.all.hardware (own_of i d) false) (slot_end i.all.schedule k) n
+    (part_of 0 d (switch i k (whole i k)))
 
 -- the clock as the work of switch k is done, before the wait
 abbrev pub clock_after_work : Image → ℕ → ℕ
@@ -175,7 +178,8 @@ RightsLaw = (i : Image) (k n d : ℕ) → Runnable i → IsDomain i d
 abbrev pub PermittedLaw : Type 0
 PermittedLaw = (i : Image) (k n d va leaf : ℕ) (a : Access) → Runnable i → IsDomain i d →
     let e = estate i.all.hardware (own_of i d) in
-    found_at e (world_in i k n).storage.mem va a ≡ Ok leaf → MayReach e (dom_of (world_in i k n) d) va (ppn leaf) a
+    found_at e (world_in i k n).storage.mem va a ≡ Ok leaf
+    → MayReach e (dom_of (world_in i k n) d) va (ppn leaf) a
 
 -- what the kernel has of each domain is as it should be
 abbrev pub KernelLaw : Type 0
@@ -234,7 +238,8 @@ FlushLaw = (p : Hardware) (o other : Own) (c : Caches) → AreParties p o other 
 abbrev pub SettledLaw : Type 0
 SettledLaw = (p : Hardware) (o : Own) (c : Caches) → IsHardware p → IsKernel p o →
     let h = hierarchy p in
-    SameSets p o (flush_part h false (prefetch_part h (region p) c).caches).caches (flush_part h false c).caches
+    SameSets p o (flush_part h false (prefetch_part h (region p) c).caches).caches
+    (flush_part h false c).caches
 
 -- one event of domain e, in a slot that ends then
 unfoldable pub event_of : Image → ℕ → ℕ → World → World
@@ -243,12 +248,14 @@ event_of i e end w = with_part 0 e w (step (setting i.all.hardware (own_of i e) 
 -- so another domain's event leaves domain d, its memory and its part of the caches
 abbrev pub OthersEventLaw : Type 0
 OthersEventLaw = (i : Image) (d e end : ℕ) (w : World) → Runnable i → IsDomain i d → IsDomain i e → d ≢ e
-    → HasFacts i.all.hardware (own_of i e) (dom_of w e) w.storage → OwnDirty i.all.hardware (own_of i e) (caches_of 0 w)
+    → HasFacts i.all.hardware (own_of i e) (dom_of w e) w.storage
+    → OwnDirty i.all.hardware (own_of i e) (caches_of 0 w)
     → Untouched i.all.hardware (own_of i d) d (event_of i e end w) w
 
 -- what is done to a domain on one hart changes nothing of another: its on-core state, its clock, and when its slot ended
 abbrev pub OtherHartLaw : Type 0
-OtherHartLaw = (h other d : ℕ) (w : World) (s : Local) → h ≢ other → hart_of h (with_part other d w s) ≡ hart_of h w
+OtherHartLaw =
+    (h other d : ℕ) (w : World) (s : Local) → h ≢ other → hart_of h (with_part other d w s) ≡ hart_of h w
 
 -- and of its own hart on-core state and clock alone
 abbrev pub OwnHartLaw : Type 0
@@ -284,7 +291,8 @@ abbrev pub SwitchOutLaw : Type 0
 SwitchOutLaw = (i : Image) (k d : ℕ) (w : World) (a : Local) → Runnable i → IsDomain i d → InTime i 0 k w
     → outgoing i.all.schedule k ≡ Some d → (entry_of_slot i.all.schedule k).domain ≢ d
     → Within i.all.hardware (own_of i d) (part_of 0 d w) a
-    → Apiece i.all.hardware (own_of i d) (part_of 0 d (switch i k w)) (alone_out i.all.hardware (own_of i d) a)
+    → Apiece i.all.hardware (own_of i d) (part_of 0 d (switch i k w))
+    (alone_out i.all.hardware (own_of i d) a)
 
 -- a switch from another, or from nobody, to d
 abbrev pub SwitchInLaw : Type 0
@@ -316,7 +324,8 @@ ResidencyLaw = (i : Image) (k n : ℕ) → Runnable i → Resident i.all.hardwar
 
 -- before the boot no set of the second level keeps a line
 abbrev pub EmptyLaw : Type 0
-EmptyLaw = (i : Image) (s way : ℕ) → kept_at (hierarchy i.all.hardware) (caches_of 0 (whole i 0)).l2 s way ≡ None
+EmptyLaw =
+    (i : Image) (s way : ℕ) → kept_at (hierarchy i.all.hardware) (caches_of 0 (whole i 0)).l2 s way ≡ None
 
 -- all that switch k touches, in order
 abbrev pub switch_touches : Image → ℕ → List Touch

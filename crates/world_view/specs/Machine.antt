@@ -45,13 +45,19 @@ pub record Setting : Type 0 where
 
 -- a domain with the clone of its own
 abbrev pub setting : Hardware → Own → Bool → Setting
-setting p o pinned = record { machine = p; own = o; levels = hierarchy p; clone = layout p o; pinned = pinned }
+setting p o pinned =
+    record { machine = p; own = o; levels = hierarchy p; clone = layout p o; pinned = pinned }
 
 -- the work was done at this clock; its touches are paid now
 unfoldable pub paid : Setting → Caches → ℕ → Done Storage Touch Dom Dom → Local
 paid w c t r =
     let q = touched_all w.levels w.pinned c r.notes in
-    record { dom = either r.value; storage = r.state; caches = q.caches; clock = t + (w.machine.costs.base + q.cost) }
+    record {
+      dom = either r.value;
+      storage = r.state;
+      caches = q.caches;
+      clock = t + (w.machine.costs.base + q.cost);
+    }
 
 -- a moment was delivered on this line; its touches are paid, and no base
 unfoldable pub delivered : Setting → ℕ → Local → Local
@@ -121,7 +127,13 @@ guards_of (Some off) i = without off i
 -- domain d on the whole machine
 abbrev pub setting_by : Guards → Image → ℕ → Setting
 setting_by g i d =
-    record { machine = i.all.hardware; own = own_of i d; levels = g.levels; clone = g.clone d; pinned = false }
+    record {
+      machine = i.all.hardware;
+      own = own_of i d;
+      levels = g.levels;
+      clone = g.clone d;
+      pinned = false;
+    }
 
 -- ---- a switch, in its parts: in a hierarchy, where the kernel's lines are pinned or not
 
@@ -166,7 +178,8 @@ flush_by g c = if g.flush then flush_part g.levels false c else touched g.levels
 
 unfoldable pub switch_work_by : Guards → Image → Option ℕ → ℕ → Caches → Touched
 switch_work_by g i out d c =
-    and_then (and_then (and_then (leave_by g i out c) (prefetch_by g i)) (flush_by g)) (enter_part g.levels false (g.clone d))
+    and_then (and_then (and_then (leave_by g i out c) (prefetch_by g i)) (flush_by g))
+    (enter_part g.levels false (g.clone d))
 
 -- with all guards on
 abbrev pub switch_work : Image → Option ℕ → ℕ → Caches → Touched
@@ -183,7 +196,12 @@ pub record Hart : Type 0 where
 -- a hart that no machine has
 abbrev pub no_hart : Hart
 no_hart = record {
-  core = record { l1i = empty; l1d = empty; tlb = empty; guesses = fresh_guesses (record { counters = 0; history = 0; targets = 0 }) };
+  core = record {
+    l1i = empty;
+    l1d = empty;
+    tlb = empty;
+    guesses = fresh_guesses (record { counters = 0; history = 0; targets = 0 });
+  };
   clock = 0;
   ended = 0;
 }
@@ -238,7 +256,8 @@ begins_by g i k now = if g.pad then max now (start i.all.schedule k) else now
 
 -- when slot k ends, which begins at this clock
 abbrev pub ends_by : Guards → Image → ℕ → ℕ → ℕ
-ends_by g i k begun = if g.pad then slot_end i.all.schedule k else begun + (entry_of_slot i.all.schedule k).length
+ends_by g i k begun =
+    if g.pad then slot_end i.all.schedule k else begun + (entry_of_slot i.all.schedule k).length
 
 -- what switch k does on a hart
 abbrev pub work_on : Guards → Image → ℕ → ℕ → World → Touched
@@ -303,7 +322,8 @@ delivered_or_step g i d end w (Some x) =
 -- one event in a slot of domain d: while it runs, the first moment that is due of any domain comes first
 unfoldable pub step_among : Guards → Image → ℕ → ℕ → World → World
 step_among g i d end w =
-    delivered_or_step g i d end w (if is_running (dom_of w d).status then first_due i w (length i.owns) else None)
+    delivered_or_step g i d end w
+    (if is_running (dom_of w d).status then first_due i w (length i.owns) else None)
 
 unfoldable pub steps_among : Guards → Image → ℕ → ℕ → ℕ → World → World
 steps_among g i d end zero w = w

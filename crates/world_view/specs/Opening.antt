@@ -51,13 +51,16 @@ table_placed p o r m = put m (table_frame p o r) (tabled (λ i. leaf_entry p o (
 -- the tables of the regions below r that have a page
 unfoldable pub tables_placed : Hardware → Own → ℕ → Mem → Mem
 tables_placed p o zero m = m
-tables_placed p o (suc r) m = if has_region o.segments r then table_placed p o r (tables_placed p o r m) else tables_placed p o r m
+tables_placed p o (suc r) m =
+    if has_region o.segments r then table_placed p o r (tables_placed p o r m) else tables_placed p o r m
 
 -- ---- pages
 
 -- word i of bytes, least byte first; zeros follow the last
 abbrev pub word_of : List ℕ → ℕ → ℕ
-word_of bytes i = slice_index bytes (4 * i) + 2 ^ 8 * slice_index bytes (4 * i + 1) + 2 ^ 16 * slice_index bytes (4 * i + 2) + 2 ^ 24 * slice_index bytes (4 * i + 3)
+word_of bytes i =
+    slice_index bytes (4 * i) + 2 ^ 8 * slice_index bytes (4 * i + 1) + 2 ^ 16 * slice_index bytes (4 * i + 2)
+    + 2 ^ 24 * slice_index bytes (4 * i + 3)
 
 unfoldable pub page_words : List ℕ → Frame
 page_words bytes = tabled (word_of bytes) ((length bytes + 3) / 4)
@@ -65,7 +68,8 @@ page_words bytes = tabled (word_of bytes) ((length bytes + 3) / 4)
 -- so many pages, from page n on; the bytes fill them in turn, and zeros follow
 unfoldable pub pages_placed : Hardware → Own → ℕ → ℕ → List ℕ → Mem → Mem
 pages_placed p o n zero bytes m = m
-pages_placed p o n (suc many) bytes m = pages_placed p o (suc n) many (drop 4096 bytes) (put m (page_frame p o n) (page_words (take 4096 bytes)))
+pages_placed p o n (suc many) bytes m =
+    pages_placed p o (suc n) many (drop 4096 bytes) (put m (page_frame p o n) (page_words (take 4096 bytes)))
 
 -- the pages of segments, one after the other
 unfoldable pub segments_placed : Hardware → Own → List Segment → Mem → Mem

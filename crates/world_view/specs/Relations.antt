@@ -178,7 +178,8 @@ pub record InTime (i : Image) (h k : ℕ) (w : World) : Type 0 where
   pub over : last_end i.all.schedule k ≤ clock_of h w
   pub soon : clock_of h w < last_end i.all.schedule k + largest_step i.all.hardware (ended_own i k)
   pub ways : HasWays (hierarchy i.all.hardware) (caches_of h w)
-  pub dirty : sharing.OwnDirty (hierarchy i.all.hardware) (left_colours i (outgoing i.all.schedule k)) (caches_of h w).core
+  pub dirty : sharing.OwnDirty (hierarchy i.all.hardware) (left_colours i (outgoing i.all.schedule k))
+      (caches_of h w).core
   pub clean : KernelIsClean i.all.hardware (caches_of h w)
 
 -- each switch's cycles are at most its entry's pad

@@ -7,7 +7,9 @@ pub returns-clause-lru : goal.returns-clause-lru
 returns-clause-lru c = λ list. oldest_is_another c.args.ways c.args.way list c.requires.two
 
 pub returns-clause-plru : goal.returns-clause-plru
-returns-clause-plru c = λ taken list. victim_in_is_another (depth_of c.args.ways) c.args.ways c.args.way list taken.2 c.requires.two c.requires.below
+returns-clause-plru c =
+    λ taken list. victim_in_is_another (depth_of c.args.ways) c.args.ways c.args.way list taken.2
+    c.requires.two c.requires.below
 
 pub returns-clause-nmru : goal.returns-clause-nmru
 returns-clause-nmru c = λ list. unmarked_is_another c.args.ways c.args.way list c.requires.two

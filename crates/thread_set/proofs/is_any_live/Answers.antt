@@ -9,6 +9,7 @@ pub returns : goal.returns
 returns c = record {
   live = any_from_yields_List (λ x. is_live x.state) _ _ _ c.any.ensures.ran
       (YieldsList-from_chain (YieldsList-from_slice c.args.before.now (cc))
-      (YieldsList-from_chain (YieldsList-from_slice (c.args.current.now ∷ []) (cc)) (YieldsList-from_slice c.args.after.now (cc)) (cc) (cc)) (cc) (cc))
+      (YieldsList-from_chain (YieldsList-from_slice (c.args.current.now ∷ []) (cc))
+      (YieldsList-from_slice c.args.after.now (cc)) (cc) (cc)) (cc) (cc))
       (λ x b q k. search (rules, tests));
 }

@@ -9,6 +9,7 @@ pub returns : goal.returns
 returns c = record {
   place = position_from_yields_List (λ x. waits_for c.args.line x.state) _ _ _ c.position.ensures.ran
       (YieldsList-from_chain (YieldsList-from_slice c.args.before.now (cc))
-      (YieldsList-from_chain (YieldsList-from_slice (c.args.current.now ∷ []) (cc)) (YieldsList-from_slice c.args.after.now (cc)) (cc) (cc)) (cc) (cc))
+      (YieldsList-from_chain (YieldsList-from_slice (c.args.current.now ∷ []) (cc))
+      (YieldsList-from_slice c.args.after.now (cc)) (cc) (cc)) (cc) (cc))
       (λ x b q k. search (rules, tests));
 }

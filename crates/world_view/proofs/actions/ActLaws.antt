@@ -47,7 +47,8 @@ Known p o P (inl d) s = HasFacts p o d s
 Known p o P (inr a) s = P a s
 
 -- the facts hold of every domain with the same capabilities
-pub facts_of : (p : Hardware) (o : Own) (d x : Dom) (s : Storage) → x.caps ≡ d.caps → HasFacts p o d s → HasFacts p o x s
+pub facts_of : (p : Hardware) (o : Own) (d x : Dom) (s : Storage) → x.caps ≡ d.caps → HasFacts p o d s
+    → HasFacts p o x s
 facts_of p o d x s e h = record {
   slots = ap length e ∙ h.slots;
   facts = subst (λ (caps : Slots). Facts (estate p o).root (is_mine (estate p o)) (claims (estate p o) caps) s.mem) (sym e) h.facts;
@@ -66,7 +67,8 @@ module _ (p : Hardware) (o : Own) (kernel : IsKernel p o) (d : Dom) (first : Sto
   pub record Near {A : Type 0} (H : Storage → Type 0) (P : A → Storage → Type 0) (x : Act A) : Type 0 where
     pub runs : (s a : Storage) → BesideStorage p o first s a → H s → Alike P (x s) (x a)
 
-  on_near : {A B : Type 0} (P : A → Storage → Type 0) (Q : B → Storage → Type 0) (r q : Done Storage Touch Dom A) (f : A → Act B) (v : Dom ⊎ A)
+  on_near : {A B : Type 0} (P : A → Storage → Type 0) (Q : B → Storage → Type 0)
+      (r q : Done Storage Touch Dom A) (f : A → Act B) (v : Dom ⊎ A)
       → Alike P r q → Known p o P v r.state → ((a : A) → Near (P a) Q (f a)) → Alike Q (go_on r f v) (go_on q f v)
   unfolding go_on
   on_near P Q r q f (inl x) h k g = record { notes = h.notes; may = h.may; state = h.state; value = refl; known = k }
@@ -80,13 +82,15 @@ module _ (p : Hardware) (o : Own) (kernel : IsKernel p o) (d : Dom) (first : Sto
         known = n.known;
       }
 
-  bind_near : {A B : Type 0} (H : Storage → Type 0) (P : A → Storage → Type 0) (Q : B → Storage → Type 0) (x : Act A) (f : A → Act B)
+  bind_near : {A B : Type 0} (H : Storage → Type 0) (P : A → Storage → Type 0) (Q : B → Storage → Type 0)
+      (x : Act A) (f : A → Act B)
       → Near H P x → ((a : A) → Near (P a) Q (f a)) → Near H Q (x >>= f)
   unfolding ◌>>=◌
   bind_near {A} {B} H P Q x f h g = record {
     runs = λ s a b k.
         let n = h.runs s a b k in
-        subst (λ (v : Dom ⊎ A). Alike Q (go_on (x s) f (x s).value) (go_on (x a) f v)) n.value (on_near P Q (x s) (x a) f (x s).value n n.known g);
+        subst (λ (v : Dom ⊎ A). Alike Q (go_on (x s) f (x s).value) (go_on (x a) f v)) n.value
+        (on_near P Q (x s) (x a) f (x s).value n n.known g);
   }
 
   -- the facts still hold of the domain
@@ -110,20 +114,25 @@ module _ (p : Hardware) (o : Own) (kernel : IsKernel p o) (d : Dom) (first : Sto
   abbrev pub Still : {A : Type 0} → (Storage → Type 0) → A → Storage → Type 0
   Still H v s = H s
 
-  bind_page : {B : Type 0} (Q : B → Storage → Type 0) (x : Act ℕ) (f : ℕ → Act B) → Near Held Page x → ((a : ℕ) → Near (Page a) Q (f a)) → Near Held Q (x >>= f)
+  bind_page : {B : Type 0} (Q : B → Storage → Type 0) (x : Act ℕ) (f : ℕ → Act B) → Near Held Page x
+      → ((a : ℕ) → Near (Page a) Q (f a)) → Near Held Q (x >>= f)
   bind_page Q x f h g = bind_near Held Page Q x f h g
 
-  bind_still : {A B : Type 0} (Q : B → Storage → Type 0) (H : Storage → Type 0) (x : Act A) (f : A → Act B) → Near H (Still H) x → ((a : A) → Near H Q (f a)) → Near H Q (x >>= f)
+  bind_still : {A B : Type 0} (Q : B → Storage → Type 0) (H : Storage → Type 0) (x : Act A) (f : A → Act B)
+      → Near H (Still H) x → ((a : A) → Near H Q (f a)) → Near H Q (x >>= f)
   bind_still Q H x f h g = bind_near H (Still H) Q x f h g
 
-  bind_any : {A B : Type 0} (Q : B → Storage → Type 0) (H : Storage → Type 0) (x : Act A) (f : A → Act B) → Near H Any x → ((a : A) → Near Held Q (f a)) → Near H Q (x >>= f)
+  bind_any : {A B : Type 0} (Q : B → Storage → Type 0) (H : Storage → Type 0) (x : Act A) (f : A → Act B)
+      → Near H Any x → ((a : A) → Near Held Q (f a)) → Near H Q (x >>= f)
   bind_any Q H x f h g = bind_near H Any Q x f h g
 
-  then_still : {A B : Type 0} (Q : B → Storage → Type 0) (H : Storage → Type 0) (x : Act A) (y : Act B) → Near H (Still H) x → Near H Q y → Near H Q (x >> y)
+  then_still : {A B : Type 0} (Q : B → Storage → Type 0) (H : Storage → Type 0) (x : Act A) (y : Act B)
+      → Near H (Still H) x → Near H Q y → Near H Q (x >> y)
   unfolding ◌>>◌
   then_still Q H x y h g = bind_near H (Still H) Q x (λ _. y) h (λ a. g)
 
-  then_any : {A B : Type 0} (Q : B → Storage → Type 0) (H : Storage → Type 0) (x : Act A) (y : Act B) → Near H Any x → Near Held Q y → Near H Q (x >> y)
+  then_any : {A B : Type 0} (Q : B → Storage → Type 0) (H : Storage → Type 0) (x : Act A) (y : Act B)
+      → Near H Any x → Near Held Q y → Near H Q (x >> y)
   unfolding ◌>>◌
   then_any Q H x y h g = bind_near H Any Q x (λ _. y) h (λ a. g)
 
@@ -134,27 +143,45 @@ module _ (p : Hardware) (o : Own) (kernel : IsKernel p o) (d : Dom) (first : Sto
   -- the domain that is given has the same capabilities
   give_ends : (x : Dom) → x.caps ≡ d.caps → Near Held Ends (give x)
   unfolding give
-  give_ends x same = record { runs = λ s k b h. record { notes = refl; may = tt; state = b; value = refl; known = facts_of p o d x s same h } }
+  give_ends x same = record {
+    runs =
+        λ s k b h.
+        record { notes = refl; may = tt; state = b; value = refl; known = facts_of p o d x s same h };
+  }
 
-  stop_at : {A : Type 0} (P : A → Storage → Type 0) (H : Storage → Type 0) (x : Dom) → x.caps ≡ d.caps → ((s : Storage) → H s → Held s) → Near H P (stop x)
+  stop_at : {A : Type 0} (P : A → Storage → Type 0) (H : Storage → Type 0) (x : Dom) → x.caps ≡ d.caps
+      → ((s : Storage) → H s → Held s) → Near H P (stop x)
   unfolding stop
-  stop_at P H x same held = record { runs = λ s k b h. record { notes = refl; may = tt; state = b; value = refl; known = facts_of p o d x s same (held s h) } }
+  stop_at P H x same held = record {
+    runs =
+        λ s k b h. record {
+          notes = refl;
+          may = tt;
+          state = b;
+          value = refl;
+          known = facts_of p o d x s same (held s h);
+        };
+  }
 
-  stop_stopped : {A : Type 0} (P : A → Storage → Type 0) (code value : ℕ) → Near Held P (stop {A = A} (stopped code value d))
+  stop_stopped : {A : Type 0} (P : A → Storage → Type 0) (code value : ℕ)
+      → Near Held P (stop {A = A} (stopped code value d))
   unfolding stopped
   stop_stopped P code value = stop_at P Held (stopped code value d) refl (λ s h. h)
 
-  known_frame : (a : Access) (va : ℕ) (s : Storage) (r : Result ℕ WalkFault) → Held s → ((leaf : ℕ) → r ≡ Ok leaf → Page (ppn leaf) s) → Known p o Page (frame_or_stop d a va r) s
+  known_frame : (a : Access) (va : ℕ) (s : Storage) (r : Result ℕ WalkFault) → Held s
+      → ((leaf : ℕ) → r ≡ Ok leaf → Page (ppn leaf) s) → Known p o Page (frame_or_stop d a va r) s
   unfolding frame_or_stop stopped
   known_frame a va s (Ok leaf) held page = page leaf refl
   known_frame a va s (Err f) held page = facts_of p o d (stopped (code_of (fault_of a f)) va d) s refl held
 
   -- lines of addresses in own frames
-  own_lines : (addresses : List ℕ) → All (λ at. IsOwnFrame p o (at / 4096)) addresses → All (IsOwnLine (hierarchy p) (own_colour o)) (lines_of p.line addresses)
+  own_lines : (addresses : List ℕ) → All (λ at. IsOwnFrame p o (at / 4096)) addresses
+      → All (IsOwnLine (hierarchy p) (own_colour o)) (lines_of p.line addresses)
   unfolding lines_of
   own_lines [] all = All-nil (IsOwnLine (hierarchy p) (own_colour o))
   own_lines (at ∷ addresses) all =
-      All-cons (IsOwnLine (hierarchy p) (own_colour o)) (at / p.line) (lines_of p.line addresses) (own_address p o kernel at (All-head (λ (x : ℕ). IsOwnFrame p o (x / 4096)) at addresses all))
+      All-cons (IsOwnLine (hierarchy p) (own_colour o)) (at / p.line) (lines_of p.line addresses)
+      (own_address p o kernel at (All-head (λ (x : ℕ). IsOwnFrame p o (x / 4096)) at addresses all))
       (own_lines addresses (All-tail (λ (x : ℕ). IsOwnFrame p o (x / 4096)) at addresses all))
 
   -- the walk is the same in both memories, and comes to a page of the domain
@@ -164,7 +191,8 @@ module _ (p : Hardware) (o : Own) (kernel : IsKernel p o) (d : Dom) (first : Sto
     runs = λ s k b h.
         let root = (estate p o).root in
         let tables = walkable p o d s.mem h in
-        let same : walk s.mem p.frames root va a ≡ walk k.mem p.frames root va a = sym (walk_alike p o root (IsPage p o d s.mem) s.mem tables va a k.mem b.same) in
+        let same : walk s.mem p.frames root va a ≡ walk k.mem p.frames root va a =
+        sym (walk_alike p o root (IsPage p o d s.mem) s.mem tables va a k.mem b.same) in
         record {
           notes = ap (λ (w : Walk). look_of p.line va w ∷ []) same;
           may = (own_lines (walk s.mem p.frames root va a).reads (own_reads p o root (IsPage p o d s.mem) s.mem tables va a), tt);
@@ -184,7 +212,9 @@ module _ (p : Hardware) (o : Own) (kernel : IsKernel p o) (d : Dom) (first : Sto
   unfolding line_in
   own_in f va own = own_address p o kernel (address_in f va) (ap (own_frame p o) (frame_of_address f va) ∙ own)
 
-  touch_still : (H : Storage → Type 0) (t : Touch) → ((s : Storage) → H s → MayTouch (hierarchy p) (own_colour o) (region p) t) → Near H (Still H) (touch t)
+  touch_still : (H : Storage → Type 0) (t : Touch)
+      → ((s : Storage) → H s → MayTouch (hierarchy p) (own_colour o) (region p) t)
+      → Near H (Still H) (touch t)
   unfolding touch note
   touch_still H t may = record { runs = λ s k b h. record { notes = refl; may = (may s h, tt); state = b; value = refl; known = h } }
 
@@ -200,20 +230,36 @@ module _ (p : Hardware) (o : Own) (kernel : IsKernel p o) (d : Dom) (first : Sto
   read_page : (f i : ℕ) → Near (Page f) (Still (Page f)) (read f i)
   unfolding read word
   read_page f i = record {
-    runs = λ s k b h. record { notes = refl; may = tt; state = b; value = ap (λ (x : Frame). inr (at 0 x i)) (b.same f h.page.own); known = h };
+    runs =
+        λ s k b h. record {
+          notes = refl;
+          may = tt;
+          state = b;
+          value = ap (λ (x : Frame). inr (at 0 x i)) (b.same f h.page.own);
+          known = h;
+        };
   }
 
   -- the last use of the page
   read_last : (f i : ℕ) → Near (Page f) Any (read f i)
   unfolding read word
   read_last f i = record {
-    runs = λ s k b h. record { notes = refl; may = tt; state = b; value = ap (λ (x : Frame). inr (at 0 x i)) (b.same f h.page.own); known = h.held };
+    runs =
+        λ s k b h. record {
+          notes = refl;
+          may = tt;
+          state = b;
+          value = ap (λ (x : Frame). inr (at 0 x i)) (b.same f h.page.own);
+          known = h.held;
+        };
   }
 
-  written_same : (m k : Mem) (f i v g : ℕ) → frame_at m f ≡ frame_at k f → frame_at m g ≡ frame_at k g → frame_at (written m f i v) g ≡ frame_at (written k f i v) g
+  written_same : (m k : Mem) (f i v g : ℕ) → frame_at m f ≡ frame_at k f → frame_at m g ≡ frame_at k g
+      → frame_at (written m f i v) g ≡ frame_at (written k f i v) g
   unfolding frame_at written
   written_same m k f i v g e h =
-      rw (at-put empty m f g (put (at empty m f) i v), at-put empty k f g (put (at empty k f) i v)) (ap₂ (λ (x y : Frame). cond (eqb g f) (put x i v) y) e h)
+      rw (at-put empty m f g (put (at empty m f) i v), at-put empty k f g (put (at empty k f) i v))
+      (ap₂ (λ (x y : Frame). cond (eqb g f) (put x i v) y) e h)
 
   -- a store into a page changes no fact
   write_page : (f i v : ℕ) → Near (Page f) Any (write f i v)
@@ -224,7 +270,9 @@ module _ (p : Hardware) (o : Own) (kernel : IsKernel p o) (d : Dom) (first : Sto
       may = tt;
       state = record {
         same = λ g own. written_same s.mem k.mem f i v g (b.same f h.page.own) (b.same g own);
-        outside = λ g out. frame_at-written_other s.mem f i v g (λ e. true≢false (sym h.page.own ∙ ap (own_frame p o) (sym e) ∙ out)) ∙ b.outside g out;
+        outside =
+            λ g out. frame_at-written_other s.mem f i v g
+            (λ e. true≢false (sym h.page.own ∙ ap (own_frame p o) (sym e) ∙ out)) ∙ b.outside g out;
       };
       value = refl;
       known = stored (estate p o) d s.mem h.held f i v h.page.frame;
@@ -255,31 +303,57 @@ module _ (p : Hardware) (o : Own) (kernel : IsKernel p o) (d : Dom) (first : Sto
         };
   }
 
-ruleset near_rules = (bind_page, bind_still, bind_any, then_still, then_any, give_any, stop_stopped, translate_near, fetch_page, load_page, store_page, read_page, read_last, write_page, unless_still)
+ruleset near_rules = (
+  bind_page,
+  bind_still,
+  bind_any,
+  then_still,
+  then_any,
+  give_any,
+  stop_stopped,
+  translate_near,
+  fetch_page,
+  load_page,
+  store_page,
+  read_page,
+  read_last,
+  write_page,
+  unless_still,
+)
 
 module _ (p : Hardware) (o : Own) (kernel : IsKernel p o) (d : Dom) (first : Storage) where
-  load_near : (width : LoadWidth) (va : ℕ) → Near p o kernel d first (Held p o kernel d first) (Any p o kernel d first) (load p (estate p o).root d width va)
+  load_near : (width : LoadWidth) (va : ℕ)
+      → Near p o kernel d first (Held p o kernel d first) (Any p o kernel d first)
+      (load p (estate p o).root d width va)
   unfolding load
   load_near width va = search near_rules depth 40
 
-  store_near : (s : Option StoreMade) → Near p o kernel d first (Held p o kernel d first) (Any p o kernel d first) (store p (estate p o).root d s)
+  store_near : (s : Option StoreMade)
+      → Near p o kernel d first (Held p o kernel d first) (Any p o kernel d first)
+      (store p (estate p o).root d s)
   unfolding store
   store_near None = search near_rules depth 40
   store_near (Some s) = search near_rules depth 40
 
-  loaded_near : (t : ℕ) (i : Instr) → Near p o kernel d first (Held p o kernel d first) (Any p o kernel d first) (loaded p (estate p o).root t d i)
+  loaded_near : (t : ℕ) (i : Instr)
+      → Near p o kernel d first (Held p o kernel d first) (Any p o kernel d first)
+      (loaded p (estate p o).root t d i)
   unfolding loaded
   loaded_near t (instr.Load width rd rs1 offset) = load_near width _
   loaded_near t (instr.ReadCounter counter rd) = search near_rules depth 40
   loaded_near t _ = search near_rules depth 40
 
-  computed_still : (i : Instr) → Near p o kernel d first (Held p o kernel d first) (Still p o kernel d first (Held p o kernel d first)) (computed p d i)
+  computed_still : (i : Instr)
+      → Near p o kernel d first (Held p o kernel d first) (Still p o kernel d first (Held p o kernel d first))
+      (computed p d i)
   unfolding computed
   computed_still (instr.Multiply product rd rs1 rs2) = touch_still p o kernel d first (Held p o kernel d first) (Charge _) (λ s h. tt)
   computed_still (instr.Divide division rd rs1 rs2) = touch_still p o kernel d first (Held p o kernel d first) (Charge _) (λ s h. tt)
   computed_still _ = record { runs = (give_any p o kernel d first tt).runs }
 
-  guessed_still : (i : Instr) (pc : ℕ) (e : Effect) → Near p o kernel d first (Held p o kernel d first) (Still p o kernel d first (Held p o kernel d first)) (guessed i pc e)
+  guessed_still : (i : Instr) (pc : ℕ) (e : Effect)
+      → Near p o kernel d first (Held p o kernel d first) (Still p o kernel d first (Held p o kernel d first))
+      (guessed i pc e)
   unfolding guessed
   guessed_still (instr.Branch comparison rs1 rs2 offset) pc e =
       touch_still p o kernel d first (Held p o kernel d first) (Branch pc e.taken e.next) (λ s h. tt)
@@ -290,31 +364,43 @@ module _ (p : Hardware) (o : Own) (kernel : IsKernel p o) (d : Dom) (first : Sto
   guessed_still _ pc e = record { runs = (give_any p o kernel d first tt).runs }
 
 module _ (p : Hardware) (o : Own) (kernel : IsKernel p o) (d : Dom) (first : Storage) where
-  settle_near : (i : Instr) (value : ℕ) (out : Outcome) → Near p o kernel d first (Held p o kernel d first) (Ends p o kernel d first) (settle p (estate p o).root d i value out)
+  settle_near : (i : Instr) (value : ℕ) (out : Outcome)
+      → Near p o kernel d first (Held p o kernel d first) (Ends p o kernel d first)
+      (settle p (estate p o).root d i value out)
   unfolding settle
   settle_near i value out =
-      then_still p o kernel d first (Ends p o kernel d first) (Held p o kernel d first) _ _ (unless_still p o kernel d first out.effect.trap)
-      (then_still p o kernel d first (Ends p o kernel d first) (Held p o kernel d first) _ _ (guessed_still p o kernel d first i d.threads.current.pc out.effect)
+      then_still p o kernel d first (Ends p o kernel d first) (Held p o kernel d first) _ _
+      (unless_still p o kernel d first out.effect.trap)
+      (then_still p o kernel d first (Ends p o kernel d first) (Held p o kernel d first) _ _
+      (guessed_still p o kernel d first i d.threads.current.pc out.effect)
       (then_any p o kernel d first (Ends p o kernel d first) (Held p o kernel d first) _ _ (store_near p o kernel d first out.effect.store)
       (give_ends p o kernel d first _ (retired_caps out.effect.next out.regs i value d))))
 
-  execute_near : (t : ℕ) (i : Instr) → Near p o kernel d first (Held p o kernel d first) (Ends p o kernel d first) (execute p (estate p o).root t d i)
+  execute_near : (t : ℕ) (i : Instr)
+      → Near p o kernel d first (Held p o kernel d first) (Ends p o kernel d first)
+      (execute p (estate p o).root t d i)
   unfolding execute
   execute_near t i = search (near_rules, loaded_near, settle_near) depth 40
 
-  timed_near : (t : ℕ) (i : Instr) → Near p o kernel d first (Held p o kernel d first) (Ends p o kernel d first) (timed p (estate p o).root t d i)
+  timed_near : (t : ℕ) (i : Instr)
+      → Near p o kernel d first (Held p o kernel d first) (Ends p o kernel d first)
+      (timed p (estate p o).root t d i)
   unfolding timed
   timed_near t i =
       then_still p o kernel d first (Ends p o kernel d first) (Held p o kernel d first) _ _ (computed_still p o kernel d first i)
       (execute_near t i)
 
 module _ (p : Hardware) (o : Own) (kernel : IsKernel p o) (d : Dom) (first : Storage) where
-  perform_near : (t : ℕ) (w : ℕ) (i : Option Instr) → Near p o kernel d first (Held p o kernel d first) (Ends p o kernel d first) (perform p (estate p o) (layout p o) t d w i)
+  perform_near : (t : ℕ) (w : ℕ) (i : Option Instr)
+      → Near p o kernel d first (Held p o kernel d first) (Ends p o kernel d first)
+      (perform p (estate p o) (layout p o) t d w i)
   unfolding perform
   perform_near t w None = stop_stopped p o kernel d first (Ends p o kernel d first) 2 w
   perform_near t w (Some instr.Ecall) = call_near p o kernel d first
   perform_near t w (Some i) = timed_near p o kernel d first t i
 
-  pub instruction_near : (t : ℕ) → Near p o kernel d first (Held p o kernel d first) (Ends p o kernel d first) (instruction p (estate p o) (layout p o) t d)
+  pub instruction_near : (t : ℕ)
+      → Near p o kernel d first (Held p o kernel d first) (Ends p o kernel d first)
+      (instruction p (estate p o) (layout p o) t d)
   unfolding instruction
   instruction_near t = search (near_rules, perform_near) depth 40

@@ -55,13 +55,15 @@ module _ (p : Hardware) (e : Estate) (l : Layout) (d : Dom) (Held : Storage → 
     is : (walk s.mem p.frames e.root va a).result ≡ Ok leaf
     frame : ppn leaf ≡ f
 
-  on_ends : {A B : Type 0} (R : A → Storage → Type 0) (T : B → Storage → Type 0) (r : Done Storage Touch Dom A) (y : A → Act B) (v : Dom ⊎ A)
+  on_ends : {A B : Type 0} (R : A → Storage → Type 0) (T : B → Storage → Type 0)
+      (r : Done Storage Touch Dom A) (y : A → Act B) (v : Dom ⊎ A)
       → Meets R v r.state → ((a : A) → Ends (R a) T (y a)) → Meets T (go_on r y v).value (go_on r y v).state
   unfolding go_on
   on_ends R T r y (inl x) h rest = h
   on_ends R T r y (inr a) h rest = (rest a).ends r.state h
 
-  bind_ends : {A B : Type 0} (H : Storage → Type 0) (R : A → Storage → Type 0) (T : B → Storage → Type 0) (x : Act A) (y : A → Act B)
+  bind_ends : {A B : Type 0} (H : Storage → Type 0) (R : A → Storage → Type 0) (T : B → Storage → Type 0)
+      (x : Act A) (y : A → Act B)
       → Ends H R x → ((a : A) → Ends (R a) T (y a)) → Ends H T (x >>= y)
   unfolding ◌>>=◌
   bind_ends H R T x y first rest = record { ends = λ s h. on_ends R T (x s) y (x s).value (first.ends s h) rest }
@@ -72,16 +74,19 @@ module _ (p : Hardware) (e : Estate) (l : Layout) (d : Dom) (Held : Storage → 
   then_ends H K T x y first rest = bind_ends H (Still K) T x (λ _. y) first (λ a. rest)
 
   -- where more is known
-  held_ends : {A : Type 0} (H : Storage → Type 0) (R : A → Storage → Type 0) (x : Act A) → ((s : Storage) → H s → Held s) → Ends Held R x → Ends H R x
+  held_ends : {A : Type 0} (H : Storage → Type 0) (R : A → Storage → Type 0) (x : Act A)
+      → ((s : Storage) → H s → Held s) → Ends Held R x → Ends H R x
   held_ends H R x held h = record { ends = λ s more. h.ends s (held s more) }
 
   -- ---- primitives
 
-  give_ends : {A : Type 0} (H : Storage → Type 0) (R : A → Storage → Type 0) (a : A) → ((s : Storage) → H s → R a s) → Ends H R (give a)
+  give_ends : {A : Type 0} (H : Storage → Type 0) (R : A → Storage → Type 0) (a : A)
+      → ((s : Storage) → H s → R a s) → Ends H R (give a)
   unfolding give
   give_ends H R a h = record { ends = h }
 
-  stop_ends : {A : Type 0} (R : A → Storage → Type 0) (x : Dom) → ((s : Storage) → Held s → Q x s) → Ends Held R (stop x)
+  stop_ends : {A : Type 0} (R : A → Storage → Type 0) (x : Dom) → ((s : Storage) → Held s → Q x s)
+      → Ends Held R (stop x)
   unfolding stop
   stop_ends R x h = record { ends = h }
 
@@ -102,9 +107,12 @@ module _ (p : Hardware) (e : Estate) (l : Layout) (d : Dom) (Held : Storage → 
   unless_ends : (trap : Option Trap) → Ends Held (Still Held) (unless trap d)
   unfolding unless trapped
   unless_ends None = give_ends Held (Still Held) tt (λ s h. h)
-  unless_ends (Some trap) = stop_ends (Still Held) (stopped (code_of trap.exception) trap.value d) (stops (code_of trap.exception) trap.value)
+  unless_ends (Some trap) =
+      stop_ends (Still Held) (stopped (code_of trap.exception) trap.value d)
+      (stops (code_of trap.exception) trap.value)
 
-  frame_ends : (a : Access) (va : ℕ) (s : Storage) (r : Result ℕ WalkFault) → Held s → (walk s.mem p.frames e.root va a).result ≡ r
+  frame_ends : (a : Access) (va : ℕ) (s : Storage) (r : Result ℕ WalkFault) → Held s
+      → (walk s.mem p.frames e.root va a).result ≡ r
       → Meets (Found a va) (frame_or_stop d a va r) s
   unfolding frame_or_stop
   frame_ends a va s (Ok leaf) h is = record { held = h; leaf = leaf; is = is; frame = refl }
@@ -122,7 +130,8 @@ module _ (p : Hardware) (e : Estate) (l : Layout) (d : Dom) (Held : Storage → 
       let a = access.Load in
       bind_ends Held (Found a va) Any _ _ (translate_ends a va) (λ f.
       then_ends (Found a va f) (Found a va f) Any _ _ (touch_ends (Found a va f) (Load (line_in p f va)))
-      (bind_ends (Found a va f) (Still (Found a va f)) Any _ _ (read_ends (Found a va f) f _) (λ w. give_ends (Found a va f) Any _ (λ s h. h.held))))
+      (bind_ends (Found a va f) (Still (Found a va f)) Any _ _ (read_ends (Found a va f) f _)
+      (λ w. give_ends (Found a va f) Any _ (λ s h. h.held))))
 
   store_ends : (made : Option StoreMade) → Ends Held (Still Held) (store p e.root d made)
   unfolding store
@@ -164,7 +173,8 @@ module _ (p : Hardware) (e : Estate) (l : Layout) (d : Dom) (Held : Storage → 
   unfolding execute
   execute_ends t i =
       then_ends Held Held Q _ _ (unless_ends _)
-      (bind_ends Held Any Q _ _ (loaded_ends t i) (λ value. settle_ends i value (effect_of d.threads.current.regs d.threads.current.pc i value)))
+      (bind_ends Held Any Q _ _ (loaded_ends t i)
+      (λ value. settle_ends i value (effect_of d.threads.current.regs d.threads.current.pc i value)))
 
   timed_ends : (t : ℕ) (i : Instr) → Ends Held Q (timed p e.root t d i)
   unfolding timed
@@ -187,14 +197,16 @@ module _ (p : Hardware) (e : Estate) (l : Layout) (d : Dom) (Held : Storage → 
       let va = d.threads.current.pc in
       bind_ends Held (Found a va) Q _ _ (translate_ends a va) (λ f.
       then_ends (Found a va f) (Found a va f) Q _ _ (touch_ends (Found a va f) (Fetch (line_in p f va)))
-      (bind_ends (Found a va f) (Still (Found a va f)) Q _ _ (read_ends (Found a va f) f _) (λ w. held_ends (Found a va f) Q _ (λ s h. h.held) (perform_ends t w _))))
+      (bind_ends (Found a va f) (Still (Found a va f)) Q _ _ (read_ends (Found a va f) f _)
+      (λ w. held_ends (Found a va f) Q _ (λ s h. h.held) (perform_ends t w _))))
 
   either_meets : (v : Dom ⊎ Dom) (s : Storage) → Meets Q v s → Q (either v) s
   unfolding either
   either_meets (inl x) s h = h
   either_meets (inr x) s h = h
 
-  pub leaves_all : (t : ℕ) (s : Storage) → Held s → Q (either (instruction p e l t d s).value) (instruction p e l t d s).state
+  pub leaves_all : (t : ℕ) (s : Storage) → Held s
+      → Q (either (instruction p e l t d s).value) (instruction p e l t d s).state
   leaves_all t s h = either_meets (instruction p e l t d s).value (instruction p e l t d s).state ((instruction_ends t).ends s h)
 
 -- of the domain alone, whatever memory is
@@ -225,6 +237,7 @@ noted_caps (instr.ReadCounter counter rd) value d = refl
 noted_caps i value d = refl
 
 -- nor does retiring change the capabilities
-pub retired_caps : (pc : ℕ) (regs : List ℕ) (i : Instr) (value : ℕ) (d : Dom) → (retired_at pc regs (noted i value d)).caps ≡ d.caps
+pub retired_caps : (pc : ℕ) (regs : List ℕ) (i : Instr) (value : ℕ) (d : Dom)
+    → (retired_at pc regs (noted i value d)).caps ≡ d.caps
 unfolding retired_at placed
 retired_caps pc regs i value d = noted_caps i value d

@@ -83,7 +83,8 @@ module _ (p : Hardware) (o : Own) (root : ℕ) (Page : ℕ → Type 0) (m : Mem)
   same_word k f i e = ap (λ (x : Frame). at 0 x i) e
 
   -- where all of the domain's frames are the same, so are its tables
-  pub tables_of_frames : (k : Mem) → ((f : ℕ) → IsOwnFrame p o f → frame_at k f ≡ frame_at m f) → SameTables m k root
+  pub tables_of_frames : (k : Mem) → ((f : ℕ) → IsOwnFrame p o f → frame_at k f ≡ frame_at m f)
+      → SameTables m k root
   tables_of_frames k same =
       let in_root : (i : ℕ) → word k root i ≡ word m root i = λ i. same_word k root i (same root w.own_root) in
       record {
@@ -103,7 +104,8 @@ module _ (p : Hardware) (o : Own) (root : ℕ) (Page : ℕ → Type 0) (m : Mem)
   own_page leaf e = walk_page m root p.frames w.map va a Page w.pages leaf e
 
   -- within memory
-  pub no_access_fault : ((f : ℕ) → Page f → IsOwnFrame p o f) → (walk m p.frames root va a).result ≢ Err fault.Access
+  pub no_access_fault : ((f : ℕ) → Page f → IsOwnFrame p o f)
+      → (walk m p.frames root va a).result ≢ Err fault.Access
   no_access_fault own =
       walk_inside m root p.frames w.map va a (record {
         each = λ i j i_below j_below i_valid j_valid. own_inside p o _ (own _ (w.pages.each i j i_below j_below i_valid j_valid));
@@ -111,4 +113,6 @@ module _ (p : Hardware) (o : Own) (root : ℕ) (Page : ℕ → Type 0) (m : Mem)
 
   -- so it is the same wherever these frames are
   pub walk_alike : (k : Mem) → SameFrames p o m k → walk k p.frames root va a ≡ walk m p.frames root va a
-  walk_alike k same = walk_by_tables m k p.frames root va a w.map.in_memory (tables_of_frames p o root Page m w k (λ f own. sym (same f own)))
+  walk_alike k same =
+      walk_by_tables m k p.frames root va a w.map.in_memory
+      (tables_of_frames p o root Page m w k (λ f own. sym (same f own)))

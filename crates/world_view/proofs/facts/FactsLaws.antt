@@ -39,7 +39,8 @@ due_below : (now d : ℕ) (next : Option Moment) → OwnerBelow (suc d) (if_due 
 due_below now d None = tt
 due_below now d (Some x) = due_if _ (suc d) _ (omega arith)
 
-first_if : (b : Bool) (n : ℕ) (x y : Owned) → x.owner < n → y.owner < n → OwnerBelow n (if b then Some y else Some x)
+first_if : (b : Bool) (n : ℕ) (x y : Owned) → x.owner < n → y.owner < n
+    → OwnerBelow n (if b then Some y else Some x)
 first_if true n x y h k = k
 first_if false n x y h k = h
 
@@ -73,7 +74,8 @@ module _ (i : Image) (r : Separated i) where
   AllBoth w = (d : ℕ) → IsDomain i d → BothOf w d
 
   -- what changes one domain, and memory in its frames alone, keeps it of all
-  changed : (h e : ℕ) → IsDomain i e → (w : World) (s : Local) → HasBoth i.all.hardware (own_of i e) s.dom s.storage
+  changed : (h e : ℕ) → IsDomain i e → (w : World) (s : Local)
+      → HasBoth i.all.hardware (own_of i e) s.dom s.storage
       → ((f : ℕ) → own_frame i.all.hardware (own_of i e) f ≡ false → frame_at s.storage.mem f ≡ frame_at w.storage.mem f)
       → AllBoth w → AllBoth (with_part h e w s)
   unfolding with_part with_hart at put
@@ -135,7 +137,8 @@ module _ (i : Image) (r : Separated i) where
         changed 0 e ie w (delivered (setting_by g i d) line s)
         (same_caps p o (kernel_of i r e ie) s.dom _ s.storage (delivered_caps line s.dom) (before e ie)) (λ f out. refl) before
 
-    pub among_keeps_if : (d end : ℕ) (w : World) (o : Option Owned) → IsDomain i d → OwnerBelow (length i.owns) o → AllBoth w
+    pub among_keeps_if : (d end : ℕ) (w : World) (o : Option Owned) → IsDomain i d
+        → OwnerBelow (length i.owns) o → AllBoth w
         → AllBoth (delivered_or_step g i d end w o)
     among_keeps_if d end w None is below before = step_keeps_all 0 d end w is before
     among_keeps_if d end w (Some x) is below before = delivery_keeps x.owner d x.moment.line w below before
@@ -157,7 +160,8 @@ module _ (i : Image) (r : Separated i) where
     open_keeps d end (suc n) w is before =
         open_if (ltb (clock_of 0 w) end) _ w (open_keeps d end n (step_among g i d end w) is (among_keeps d end w is before)) before
 
-    slot_keeps : (b : Bool) (d end : ℕ) (w : World) → IsDomain i d → AllBoth w → AllBoth (slot_if b g i d end w)
+    slot_keeps : (b : Bool) (d end : ℕ) (w : World) → IsDomain i d → AllBoth w
+        → AllBoth (slot_if b g i d end w)
     unfolding own_slot
     slot_keeps true d end w is before = own_keeps d end (end - clock_of 0 w) w is before
     slot_keeps false d end w is before = open_keeps d end (end - clock_of 0 w) w is before
@@ -183,7 +187,8 @@ module _ (i : Image) (r : Separated i) where
         → HasFacts i.all.hardware (own_of i d) (dom_of (whole_by g i k) d) (whole_by g i k).storage
     all_facts_by k d is = (at_slot k d is).facts
 
-  pub all_facts : (k d : ℕ) → IsDomain i d → HasFacts i.all.hardware (own_of i d) (dom_of (whole i k) d) (whole i k).storage
+  pub all_facts : (k d : ℕ) → IsDomain i d
+      → HasFacts i.all.hardware (own_of i d) (dom_of (whole i k) d) (whole i k).storage
   all_facts = all_facts_by (guarded i)
 
   -- and at each moment of a slot
@@ -193,10 +198,13 @@ module _ (i : Image) (r : Separated i) where
       own_keeps (guarded i) (entry_of_slot i.all.schedule k).domain (slot_end i.all.schedule k) n (switch i k (whole i k)) (r.named k)
       (switch_keeps (guarded i) k (whole i k) (at_slot (guarded i) k)) d is
 
-  pub always_facts : (k n d : ℕ) → IsDomain i d → HasFacts i.all.hardware (own_of i d) (dom_of (world_in i k n) d) (world_in i k n).storage
+  pub always_facts : (k n d : ℕ) → IsDomain i d
+      → HasFacts i.all.hardware (own_of i d) (dom_of (world_in i k n) d) (world_in i k n).storage
   always_facts k n d is = (always_both k n d is).facts
 
-  pub begun_facts : (k d : ℕ) → IsDomain i d → HasFacts i.all.hardware (own_of i d) (dom_of (switch i k (whole i k)) d) (switch i k (whole i k)).storage
+  pub begun_facts : (k d : ℕ) → IsDomain i d
+      → HasFacts i.all.hardware (own_of i d) (dom_of (switch i k (whole i k)) d)
+      (switch i k (whole i k)).storage
   begun_facts k d is = (switch_keeps (guarded i) k (whole i k) (at_slot (guarded i) k) d is).facts
 
   -- so it holds of the domain that runs

@@ -5,7 +5,8 @@ use Rattle.phys_mem.specs.Mem.{Mem, Frame, frame_at, word}
 use Rattle.sv32_walk.specs.PageTableEntry.{valid}
 use Rattle.call_table.specs.Claims.{Claim, Claims, frame_of, IsTable, IsLeaf, IsMapped, Facts}
 
-module _ (root : ℕ) (own : ℕ → Bool) (k : Claims) (m n : Mem) (h : Facts root own k m) (same : (f : ℕ) → own f ≡ true → frame_at n f ≡ frame_at m f) where
+module _ (root : ℕ) (own : ℕ → Bool) (k : Claims) (m n : Mem) (h : Facts root own k m)
+    (same : (f : ℕ) → own f ≡ true → frame_at n f ≡ frame_at m f) where
   same_word : (f i : ℕ) → own f ≡ true → word n f i ≡ word m f i
   unfolding word
   same_word f i is = ap (λ (x : Frame). at 0 x i) (same f is)
@@ -36,7 +37,9 @@ module _ (root : ℕ) (own : ℕ → Bool) (k : Claims) (m n : Mem) (h : Facts r
     apart = h.apart;
     once = h.once;
     tables = λ r. subst (λ (w : ℕ). valid w ≡ true → IsTable k w r) (sym (same_word root r own_root)) (h.tables r);
-    leaves = λ i f r t e. subst (λ (w : ℕ). valid w ≡ true → IsLeaf k w r t) (sym (same_word f t (own_table i f (Some r) e))) (h.leaves i f r t e);
+    leaves =
+        λ i f r t e. subst (λ (w : ℕ). valid w ≡ true → IsLeaf k w r t)
+        (sym (same_word f t (own_table i f (Some r) e))) (h.leaves i f r t e);
     installed = λ i f r e. same_word root r own_root ∙ h.installed i f r e;
     mapped = λ i b g r t e. same_mapped g r t (h.mapped i b g r t e);
     blank = λ i f e t. same_word f t (own_table i f None e) ∙ h.blank i f e t;

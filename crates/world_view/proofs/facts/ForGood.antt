@@ -81,9 +81,13 @@ module _ (e : Estate) (sound : IsEstate e) (d : Dom) (m : Mem) (kept : Kept e d 
   taken = has_filter (λ g. not (is_named e d.caps g)) (pool e.share) f ∙ rw (names e d.caps f slot named) refl
 
 module _ (p : Hardware) (o : Own) where
-  pub good : IsEstate (estate p o) → (d : Dom) (s : Storage) → HasFacts p o d s → (f : ℕ) → IsClaimed (estate p o) f → IsForGood p o d f
+  pub good : IsEstate (estate p o) → (d : Dom) (s : Storage) → HasFacts p o d s → (f : ℕ)
+      → IsClaimed (estate p o) f → IsForGood p o d f
   good sound d s facts f claimed = record {
-    own = mine_own p o f (facts.facts.owned (slot (estate p o) sound d s.mem facts f claimed) f (named (estate p o) sound d s.mem facts f claimed));
+    own =
+        mine_own p o f
+        (facts.facts.owned (slot (estate p o) sound d s.mem facts f claimed) f
+        (named (estate p o) sound d s.mem facts f claimed));
     unnamed = record {
       no_page = λ i is. none (estate p o) sound d s.mem facts f claimed i (page_claimed (cap_at d.caps i) f is);
       no_table = λ i is. none (estate p o) sound d s.mem facts f claimed i (table_claimed (cap_at d.caps i) f is);
@@ -105,13 +109,15 @@ module _ (p : Hardware) (o : Own) where
     unfolding frame_of
     tables_claimed =
         All-map Claimed (table_frame p o) (first_regions o)
-        (All-from_get_or (λ r. Claimed (table_frame p o r)) (first_regions o) 0 (λ j below. (5 + j, ap frame_of (fix_table p o enough j below))))
+        (All-from_get_or (λ r. Claimed (table_frame p o r)) (first_regions o) 0
+        (λ j below. (5 + j, ap frame_of (fix_table p o enough j below))))
 
     pages_claimed : All Claimed (map (page_frame p o) (kept_pages o))
     unfolding frame_of
     pages_claimed =
         All-map Claimed (page_frame p o) (kept_pages o)
-        (All-from_get_or (λ n. Claimed (page_frame p o n)) (kept_pages o) 0 (λ j below. (5 + length (first_regions o) + j, ap frame_of (fix_page p o enough j below))))
+        (All-from_get_or (λ n. Claimed (page_frame p o n)) (kept_pages o) 0
+        (λ j below. (5 + length (first_regions o) + j, ap frame_of (fix_page p o enough j below))))
 
     pub all_claimed : All (IsClaimed (estate p o)) (frames_for_good p o)
     unfolding estate layout
@@ -136,5 +142,6 @@ for_good i k n d r is =
     let s = separated i r in
     let facts = always_facts i s k n d is in
     let sound = (kernel_of i s d is).has_estate in
-    All-weaker (IsClaimed (estate p o)) (IsForGood p o (dom_of (world_in i k n) d)) (good p o sound (dom_of (world_in i k n) d) (world_in i k n).storage facts)
+    All-weaker (IsClaimed (estate p o)) (IsForGood p o (dom_of (world_in i k n) d))
+    (good p o sound (dom_of (world_in i k n) d) (world_in i k n).storage facts)
     (frames_for_good p o) (all_claimed p o (s.enough d is))

@@ -39,7 +39,8 @@ record KernelsSets (p : Hardware) (c : Caches) : Type 0 where
   clean : KernelIsClean p c
 
 -- after touches, too
-touched_sets : (p : Hardware) (own : ℕ → Bool) → IsSharing (hierarchy p) own (region p) → (ts : List Touch) (c : Caches)
+touched_sets : (p : Hardware) (own : ℕ → Bool) → IsSharing (hierarchy p) own (region p)
+    → (ts : List Touch) (c : Caches)
     → MayTouchAll (hierarchy p) own (region p) ts → KernelsSets p c → KernelsSets p (touched_all (hierarchy p) false c ts).caches
 touched_sets p own shares ts c may h = record {
   alone = shared_alone_law (hierarchy p) own (region p) false ts c shares may h.alone;
@@ -55,42 +56,52 @@ module _ (i : Image) (r : Separated i) where
   leave_any (Some e) named =
       let p = i.all.hardware in
       let kernel = kernel_of i r e (named e refl) in
-      any_may (hierarchy p) (own_colour (own_of i e)) (region p) kernel.shares.not_kernel (leave p.costs (layout p (own_of i e))) (leave_may p (own_of i e) kernel (region p))
+      any_may (hierarchy p) (own_colour (own_of i e)) (region p) kernel.shares.not_kernel
+      (leave p.costs (layout p (own_of i e))) (leave_may p (own_of i e) kernel (region p))
 
   pub who_leaves : (k e : ℕ) → outgoing i.all.schedule k ≡ Some e → IsDomain i e
   who_leaves zero e is = absurd (cc is)
   who_leaves (suc k) e is = subst (IsDomain i) (same_Some _ _ is) (r.named k)
 
-  pub switch_any : (k : ℕ) → MayTouchAll (hierarchy i.all.hardware) any_colour (region i.all.hardware) (switch_touches i k)
+  pub switch_any : (k : ℕ)
+      → MayTouchAll (hierarchy i.all.hardware) any_colour (region i.all.hardware) (switch_touches i k)
   unfolding operations.switch_by
   switch_any k =
       let p = i.all.hardware in
       let h = hierarchy p in
       let d = (entry_of_slot i.all.schedule k).domain in
       let kernel = kernel_of i r d (r.named k) in
-      let into = any_may h (own_colour (own_of i d)) (region p) kernel.shares.not_kernel (enter (layout p (own_of i d))) (enter_may p (own_of i d) kernel (region p)) in
+      let into =
+      any_may h (own_colour (own_of i d)) (region p) kernel.shares.not_kernel
+      (enter (layout p (own_of i d))) (enter_may p (own_of i d) kernel (region p)) in
       let loads = any_may h (λ _. false) (region p) refl (prefetch (region p)) (prefetch_may h (λ _. false) (region p)) in
       rw (region_is p (own_of i d))
-      (may_append h any_colour (region p) (leave_if p.costs (clone_of i (outgoing i.all.schedule k))) (prefetch (region p) ++ Flush ∷ enter (layout p (own_of i d)))
-      (leave_any (outgoing i.all.schedule k) (who_leaves k)) (may_append h any_colour (region p) (prefetch (region p)) (Flush ∷ enter (layout p (own_of i d))) loads (tt, into)))
+      (may_append h any_colour (region p) (leave_if p.costs (clone_of i (outgoing i.all.schedule k)))
+      (prefetch (region p) ++ Flush ∷ enter (layout p (own_of i d)))
+      (leave_any (outgoing i.all.schedule k) (who_leaves k)) (may_append h any_colour (region p)
+      (prefetch (region p)) (Flush ∷ enter (layout p (own_of i d))) loads (tt, into)))
 
   pub any_sharing : IsSharing (hierarchy i.all.hardware) any_colour (region i.all.hardware)
   any_sharing =
       let kernel = kernel_of i r (entry_of_slot i.all.schedule 0).domain (r.named 0) in
       record { coloured = kernel.shares.coloured; not_kernel = refl; kernel = kernel.shares.kernel }
 
-  in_switch : (k n : ℕ) → KernelsSets i.all.hardware (caches_of 0 (whole i k)) → KernelsSets i.all.hardware (caches_in_switch i k n)
+  in_switch : (k n : ℕ) → KernelsSets i.all.hardware (caches_of 0 (whole i k))
+      → KernelsSets i.all.hardware (caches_in_switch i k n)
   in_switch k n before =
       let p = i.all.hardware in
       touched_sets p any_colour any_sharing (take n (switch_touches i k)) (caches_of 0 (whole i k))
       (take_may (hierarchy p) any_colour (region p) n (switch_touches i k) (switch_any k)) before
 
-  pub after_switch : (k : ℕ) → caches_in_switch i k (length (switch_touches i k)) ≡ caches_of 0 (switch i k (whole i k))
+  pub after_switch : (k : ℕ)
+      → caches_in_switch i k (length (switch_touches i k)) ≡ caches_of 0 (switch i k (whole i k))
   unfolding switch_by switch_on guarded with_hart at put
   after_switch k =
       let h = hierarchy i.all.hardware in
-      ap (λ (ts : List Touch). (touched_all h false (caches_of 0 (whole i k)) ts).caches) (take_all (length (switch_touches i k)) (switch_touches i k) (le_refl _))
-      ∙ sym (ap (λ (t : Touched). t.caches) (switch_is i (outgoing i.all.schedule k) (entry_of_slot i.all.schedule k).domain (caches_of 0 (whole i k))))
+      ap (λ (ts : List Touch). (touched_all h false (caches_of 0 (whole i k)) ts).caches)
+      (take_all (length (switch_touches i k)) (switch_touches i k) (le_refl _))
+      ∙ sym (ap (λ (t : Touched). t.caches) (switch_is i (outgoing i.all.schedule k)
+      (entry_of_slot i.all.schedule k).domain (caches_of 0 (whole i k))))
 
   -- after a switch of any hart none of the kernel's lines is dirty, if none was before
   pub switched_clean : (h k : ℕ) (w : World) → KernelIsClean i.all.hardware (caches_of h w)
@@ -109,7 +120,9 @@ module _ (i : Image) (r : Separated i) where
     sets : KernelsSets i.all.hardware s.caches
     dirty : OwnDirty i.all.hardware (own_of i (entry_of_slot i.all.schedule k).domain) s.caches
 
-  next : (k : ℕ) (s : Local) → HasFacts i.all.hardware (own_of i (entry_of_slot i.all.schedule k).domain) s.dom s.storage → Keeping k s
+  next : (k : ℕ) (s : Local)
+      → HasFacts i.all.hardware (own_of i (entry_of_slot i.all.schedule k).domain) s.dom s.storage
+      → Keeping k s
       → Keeping k (step (setting i.all.hardware (own_of i (entry_of_slot i.all.schedule k).domain) false) (slot_end i.all.schedule k) s)
   next k s facts h =
       let p = i.all.hardware in
@@ -125,7 +138,8 @@ module _ (i : Image) (r : Separated i) where
   -- as a slot begins, after the flush and the enter of its domain
   pub switched_dirty : (h k : ℕ) (w : World)
       → OwnDirty i.all.hardware (own_of i (entry_of_slot i.all.schedule k).domain) (caches_of h (switch_on (guarded i) i h k w))
-  unfolding switch_on guarded switch_work_by and_then prefetch_by flush_by enter_part touched on_core flushed fresh_core pass_on
+  unfolding switch_on guarded switch_work_by and_then prefetch_by flush_by enter_part touched on_core flushed
+      fresh_core pass_on
   switched_dirty h k w =
       let p = i.all.hardware in
       let d = (entry_of_slot i.all.schedule k).domain in
@@ -162,7 +176,9 @@ module _ (i : Image) (r : Separated i) where
   between_clean k = (between k).clean
 
   -- each dirty line is of who leaves: at the boot there is none
-  pub between_dirty : (k : ℕ) → sharing.OwnDirty (hierarchy i.all.hardware) (left_colours i (outgoing i.all.schedule k)) (caches_of 0 (whole i k)).core
+  pub between_dirty : (k : ℕ)
+      → sharing.OwnDirty (hierarchy i.all.hardware) (left_colours i (outgoing i.all.schedule k))
+      (caches_of 0 (whole i k)).core
   unfolding whole_by opening run_slot_by own_slot with_end guarded with_part with_hart cold fresh_core at put
   between_dirty zero = EachDirty-empty (IsOwnLine (hierarchy i.all.hardware) (λ _. false)) (hierarchy i.all.hardware).l1d
   between_dirty (suc k) = (in_slot k (slot_end i.all.schedule k - (clock_of 0 (switch i k (whole i k)))) (between k)).dirty
@@ -179,5 +195,6 @@ module _ (i : Image) (r : Separated i) where
   pub slots_clean : (k n : ℕ) → KernelIsClean i.all.hardware (local_in i k n).caches
   slots_clean k n = (in_slot k n (between k)).sets.clean
 
-  pub slots_dirty : (k n : ℕ) → OwnDirty i.all.hardware (own_of i (entry_of_slot i.all.schedule k).domain) (local_in i k n).caches
+  pub slots_dirty : (k n : ℕ)
+      → OwnDirty i.all.hardware (own_of i (entry_of_slot i.all.schedule k).domain) (local_in i k n).caches
   slots_dirty k n = (in_slot k n (between k)).dirty

@@ -29,12 +29,14 @@ module _ (i : Image) (r : Separated i) where
   -- the work of a switch keeps what its prefetch left there
   worked : (h k : ℕ) (w : World) → Resident i.all.hardware (prefetched k (caches_of h w))
       → Resident i.all.hardware (caches_of h (switch_on (guarded i) i h k w))
-  unfolding prefetched switch_on guarded switch_work_by and_then prefetch_by flush_by enter_part touched_all with_hart at put
+  unfolding prefetched switch_on guarded switch_work_by and_then prefetch_by flush_by enter_part touched_all
+      with_hart at put
   worked h k w there =
       let p = i.all.hardware in
       let d = (entry_of_slot i.all.schedule k).domain in
       let kernel = kernel_of i r d (r.named k) in
-      own_resident p (own_of i d) kernel (Flush ∷ enter (layout p (own_of i d))) (prefetched k (caches_of h w)) (tt, enter_may p (own_of i d) kernel (region p)) there
+      own_resident p (own_of i d) kernel (Flush ∷ enter (layout p (own_of i d)))
+      (prefetched k (caches_of h w)) (tt, enter_may p (own_of i d) kernel (region p)) there
 
   -- the first switch of a hart whose caches hold nothing brings all lines
   pub boot_resident : (h : ℕ) (w : World) → caches_of h w ≡ cold (hierarchy i.all.hardware)
@@ -49,7 +51,8 @@ module _ (i : Image) (r : Separated i) where
   left_resident : (k : ℕ) (c : Caches) → Resident i.all.hardware c → Resident i.all.hardware (prefetched k c)
   unfolding prefetched leave_by guarded
   left_resident zero c there =
-      prefetch_resident i.all.hardware (own_of i (entry_of_slot i.all.schedule 0).domain) (kernel_of i r (entry_of_slot i.all.schedule 0).domain (r.named 0)) c there
+      prefetch_resident i.all.hardware (own_of i (entry_of_slot i.all.schedule 0).domain)
+      (kernel_of i r (entry_of_slot i.all.schedule 0).domain (r.named 0)) c there
   left_resident (suc k) c there =
       let p = i.all.hardware in
       let o = own_of i (entry_of_slot i.all.schedule k).domain in
@@ -62,13 +65,15 @@ module _ (i : Image) (r : Separated i) where
   switched_resident h k w there = worked h k w (left_resident k (caches_of h w) there)
 
   -- after a slot
-  after : (k : ℕ) → Resident i.all.hardware (caches_of 0 (switch i k (whole i k))) → Resident i.all.hardware (caches_of 0 (whole i (suc k)))
+  after : (k : ℕ) → Resident i.all.hardware (caches_of 0 (switch i k (whole i k)))
+      → Resident i.all.hardware (caches_of 0 (whole i (suc k)))
   unfolding whole_by run_slot_by own_slot with_end guarded with_part with_hart at put
   after k there =
       let e = (entry_of_slot i.all.schedule k).domain in
       let begun = part_of 0 e (switch i k (whole i k)) in
       let end = slot_end i.all.schedule k in
-      steps_resident i.all.hardware (own_of i e) (kernel_of i r e (r.named k)) end (end - begun.clock) begun (begun_facts i r k e (r.named k)) there
+      steps_resident i.all.hardware (own_of i e) (kernel_of i r e (r.named k)) end (end - begun.clock) begun
+      (begun_facts i r k e (r.named k)) there
 
   -- as a slot begins: at the boot the caches hold nothing, and the prefetch brings all lines
   pub begun_resident : (k : ℕ) → Resident i.all.hardware (caches_of 0 (switch i k (whole i k)))
@@ -79,4 +84,5 @@ module _ (i : Image) (r : Separated i) where
   pub always_resident : (k n : ℕ) → Resident i.all.hardware (local_in i k n).caches
   always_resident k n =
       let e = (entry_of_slot i.all.schedule k).domain in
-      steps_resident i.all.hardware (own_of i e) (kernel_of i r e (r.named k)) (slot_end i.all.schedule k) n (part_of 0 e (switch i k (whole i k))) (begun_facts i r k e (r.named k)) (begun_resident k)
+      steps_resident i.all.hardware (own_of i e) (kernel_of i r e (r.named k)) (slot_end i.all.schedule k) n
+      (part_of 0 e (switch i k (whole i k))) (begun_facts i r k e (r.named k)) (begun_resident k)

@@ -41,7 +41,8 @@ module _ (p : Hardware) (o : Own) where
   rights_of d x s same h = record { each = λ i f r va is. h.each i f r va (ap (λ (caps : Slots). cap_at caps i) (sym same) ∙ is) }
 
   -- in every memory in which the domain's frames are the same
-  pub rights_same : (d : Dom) (s t : Storage) → SameFrames p o t.mem s.mem → HasBoth p o d s → HasRights p o d t
+  pub rights_same : (d : Dom) (s t : Storage) → SameFrames p o t.mem s.mem → HasBoth p o d s
+      → HasRights p o d t
   rights_same d s t same h =
       let root = (estate p o).root in
       let tables = tables_of_frames p o root (IsPage p o d s.mem) s.mem (walkable p o d s.mem h.facts) t.mem same in
@@ -58,7 +59,8 @@ module _ (p : Hardware) (o : Own) where
       }
 
   -- both hold of a domain that is the same, in a memory in which its frames are
-  pub both_with : (d e : Dom) (s t : Storage) → e ≡ d → SameFrames p o t.mem s.mem → HasBoth p o d s → HasBoth p o e t
+  pub both_with : (d e : Dom) (s t : Storage) → e ≡ d → SameFrames p o t.mem s.mem → HasBoth p o d s
+      → HasBoth p o e t
   both_with d e s t is same h =
       subst (λ (x : Dom). HasBoth p o x t) (sym is)
       (record {
@@ -96,7 +98,8 @@ module _ (p : Hardware) (o : Own) where
           rights = stores_within e d s.mem (ppn leaf) i v h.facts h.rights found.frame;
         }
 
-    after_stop : (d : Dom) (code value : ℕ) (s : Storage) → HasBoth p o d s → HasBoth p o (stopped code value d) s
+    after_stop : (d : Dom) (code value : ℕ) (s : Storage) → HasBoth p o d s
+        → HasBoth p o (stopped code value d) s
     unfolding stopped
     after_stop d code value s h = same_caps d (stopped code value d) s refl h
 

@@ -54,7 +54,8 @@ module _ (i : Image) (r : Runnable i) (h : ℕ) (is : h < harts_in i.all.schedul
     abbrev ran : World
     ran = runs i h k s.world
 
-    ran_world : (b : Bool) → (if b then proceeds h s ran k true else proceeds h s ran (suc k) false).world ≡ ran
+    ran_world : (b : Bool)
+        → (if b then proceeds h s ran k true else proceeds h s ran (suc k) false).world ≡ ran
     unfolding proceeds
     ran_world true = refl
     ran_world false = refl
@@ -71,7 +72,8 @@ module _ (i : Image) (r : Runnable i) (h : ℕ) (is : h < harts_in i.all.schedul
     begins_later : (progress_of h s).inside ≡ false → clock_of h s.world < clock_of h (begins i h s).world
     begins_later t = let before = between t in let at = begins_at t in omega (arith, before, at)
 
-    rises_if : (b : Bool) → (progress_of h s).inside ≡ b → clock_of h s.world < clock_of h (if b then goes_on i h s else begins i h s).world
+    rises_if : (b : Bool) → (progress_of h s).inside ≡ b
+        → clock_of h s.world < clock_of h (if b then goes_on i h s else begins i h s).world
     rises_if true t = goes_later t
     rises_if false t = begins_later t
 
@@ -102,7 +104,8 @@ module _ (h : ℕ) (s : Harts) (w : World) where
       let now = ap (λ (x : Progress). x.slots) (progress-same h s w k b) in
       record { least = omega (arith, now, least); most = omega (arith, now, most) }
 
-  goes_if : (b : Bool) → OneMoreAtMost h (if b then proceeds h s w slots true else proceeds h s w (suc slots) false) s
+  goes_if : (b : Bool)
+      → OneMoreAtMost h (if b then proceeds h s w slots true else proceeds h s w (suc slots) false) s
   goes_if true = went_on slots true (omega arith) (omega arith)
   goes_if false = went_on (suc slots) false (omega arith) (omega arith)
 
@@ -112,7 +115,8 @@ module _ (h : ℕ) (s : Harts) (w : World) where
     unfolding proceeds
     stayed k b = record { hart = same; progress = progress-other g h s w k b other }
 
-    stays_if : (b : Bool) → HartStays g (if b then proceeds h s w slots true else proceeds h s w (suc slots) false) s
+    stays_if : (b : Bool)
+        → HartStays g (if b then proceeds h s w slots true else proceeds h s w (suc slots) false) s
     stays_if true = stayed slots true
     stays_if false = stayed (suc slots) false
 
@@ -122,7 +126,8 @@ module _ (i : Image) (h : ℕ) (s : Harts) where
   begun_world =
       let on = image_on i h in
       let k = slots_of h s in
-      noted (place_on i.all.schedule h (switch_entry on.all.schedule k)) (cycles_on (guarded on) on h k s.world) (switch_on (guarded on) on h k s.world)
+      noted (place_on i.all.schedule h (switch_entry on.all.schedule k))
+      (cycles_on (guarded on) on h k s.world) (switch_on (guarded on) on h k s.world)
 
   slots_next : (b : Bool) → OneMoreAtMost h (if b then goes_on i h s else begins i h s) s
   unfolding goes_on begins

@@ -18,9 +18,11 @@ use Rattle.world_view.proofs.harts.Isolation.{running}
 use Rattle.world_view.proofs.harts.Position.{Position, onward, first, NearIf, IsAt, clock_at, is_at}
 
 -- after another order with as many of its events
-as_many : (i : Image) (h : ℕ) (r : Runnable i) (is : h < harts_in i.all.schedule) (one two : List ℕ) → AreHartsOf i two
+as_many : (i : Image) (h : ℕ) (r : Runnable i) (is : h < harts_in i.all.schedule) (one two : List ℕ)
+    → AreHartsOf i two
     → events_of h one ≡ events_of h two → IsAt i h (harts i two) (onward i h (events_of h one) (first i h))
-as_many i h r is one two below same = subst (λ (n : ℕ). IsAt i h (harts i two) (onward i h n (first i h))) (sym same) (is_at i h r is two below)
+as_many i h r is one two below same =
+    subst (λ (n : ℕ). IsAt i h (harts i two) (onward i h n (first i h))) (sym same) (is_at i h r is two below)
 
 pub events_law : EventsLaw
 events_law i h one two r below_one below_two is same =
@@ -55,7 +57,8 @@ module _ (i : Image) (r : Runnable i) (d : ℕ) (id : IsDomain i d) where
     dom : dom_of w d ≡ a.dom
     frames : SameFrames p (own_of i d) w.storage.mem a.storage.mem
 
-  shows_in : (b : Bool) (k : ℕ) (w : World) (a : Local) → eqb (domain_in i h k) d ≡ b → MeetsIn i h d b k (part_of h d w) → NearIf i h true k w a
+  shows_in : (b : Bool) (k : ℕ) (w : World) (a : Local) → eqb (domain_in i h k) d ≡ b
+      → MeetsIn i h d b k (part_of h d w) → NearIf i h true k w a
       → Shows w (shown_in b k a)
   unfolding shown_in
   shows_in true k w a t m near =
@@ -63,7 +66,8 @@ module _ (i : Image) (r : Runnable i) (d : ℕ) (id : IsDomain i d) where
       record { dom = mine.dom; frames = mine.part.frames }
   shows_in false k w a t m near = record { dom = m.dom; frames = m.part.frames }
 
-  shows_if : (b : Bool) (k : ℕ) (w : World) (a : Local) → Meets i h d b k (part_of h d w) → NearIf i h b k w a → Shows w (shown_if b k a)
+  shows_if : (b : Bool) (k : ℕ) (w : World) (a : Local) → Meets i h d b k (part_of h d w) → NearIf i h b k w a
+      → Shows w (shown_if b k a)
   unfolding shown_if
   shows_if true k w a m near = shows_in (eqb (domain_in i h k) d) k w a refl m near
   shows_if false k w a m near =
@@ -73,7 +77,8 @@ module _ (i : Image) (r : Runnable i) (d : ℕ) (id : IsDomain i d) where
   shown : Position → Local
   shown x = shown_if x.progress.inside x.progress.slots x.local
 
-  view_at : (s : Harts) (x : Position) → Running i r s → IsAt i h s x → view_on i d s ≡ view p (own_of i d) (shown x).dom (shown x).storage
+  view_at : (s : Harts) (x : Position) → Running i r s → IsAt i h s x
+      → view_on i d s ≡ view p (own_of i d) (shown x).dom (shown x).storage
   unfolding view_on shown
   view_at s x was at =
       let met = subst (λ (y : Progress). Meets i h d y.inside y.slots (part_of h d s.world)) at.progress (was.meets d id) in

@@ -44,14 +44,19 @@ module _ (i : Image) where
 
   -- ---- a hart of which nothing changes, beside one whose caches keep the kernel's lines clean
 
-  module _ (h other : ℕ) (later w : World) (same : hart_of h later ≡ hart_of h w) (clean : KernelIsClean i.all.hardware (caches_of other later)) where
-    still_clean : KernelIsClean i.all.hardware (caches_of h w) → KernelIsClean i.all.hardware (caches_of h later)
+  module _ (h other : ℕ) (later w : World) (same : hart_of h later ≡ hart_of h w)
+      (clean : KernelIsClean i.all.hardware (caches_of other later)) where
+    still_clean : KernelIsClean i.all.hardware (caches_of h w)
+        → KernelIsClean i.all.hardware (caches_of h later)
     still_clean was = record {
-      core = subst (λ (x : Hart). EachDirty (λ line. colour_of_line (hierarchy i.all.hardware) line ≢ 0) (hierarchy i.all.hardware).l1d x.core.l1d) (sym same) was.core;
+      core =
+          subst (λ (x : Hart). EachDirty (λ line. colour_of_line (hierarchy i.all.hardware) line ≢ 0)
+          (hierarchy i.all.hardware).l1d x.core.l1d) (sym same) was.core;
       l2 = clean.l2;
     }
 
-    still_ways : HasWays (hierarchy i.all.hardware) (caches_of h w) → HasWays (hierarchy i.all.hardware) (caches_of h later)
+    still_ways : HasWays (hierarchy i.all.hardware) (caches_of h w)
+        → HasWays (hierarchy i.all.hardware) (caches_of h later)
     still_ways was = subst (λ (x : Hart). HasWays (hierarchy i.all.hardware) (record { core = x.core; l2 = later.l2 })) (sym same) was
 
     still_dirty : (own : ℕ → Bool) → sharing.OwnDirty (hierarchy i.all.hardware) own (hart_of h w).core
@@ -68,7 +73,10 @@ module _ (i : Image) where
     }
     still false k was = record {
       over = subst (λ (x : Hart). last_end (image_on i h).all.schedule k ≤ x.clock) (sym same) was.over;
-      soon = subst (λ (x : Hart). x.clock < last_end (image_on i h).all.schedule k + largest_step i.all.hardware (ended_own (image_on i h) k)) (sym same) was.soon;
+      soon =
+          subst (λ (x : Hart). x.clock
+          < last_end (image_on i h).all.schedule k
+          + largest_step i.all.hardware (ended_own (image_on i h) k)) (sym same) was.soon;
       ways = still_ways was.ways;
       dirty = still_dirty (left_colours (image_on i h) (outgoing (image_on i h).all.schedule k)) was.dirty;
       clean = still_clean was.clean;
@@ -129,7 +137,8 @@ module _ (i : Image) (r : Runnable i) (h : ℕ) (is : h < harts_in i.all.schedul
     abbrev pub stepped : Local
     stepped = step (setting i.all.hardware its false) (end_on i h k) here
 
-    pub ran-hart : hart_of h (runs i h k w) ≡ record (hart_of h w) { core = stepped.caches.core; clock = stepped.clock }
+    pub ran-hart : hart_of h (runs i h k w)
+        ≡ record (hart_of h w) { core = stepped.caches.core; clock = stepped.clock }
     unfolding runs with_part
     ran-hart = hart-with h _ stepped.caches stepped.clock
 
@@ -147,7 +156,8 @@ module _ (i : Image) (r : Runnable i) (h : ℕ) (is : h < harts_in i.all.schedul
     is_soon : IsSoon i.all.hardware r_on.timed its false (end_on i h k) stepped
     is_soon =
         let soon = inside.soon in
-        step_soon i.all.hardware r_on.timed its false (end_on i h k) here inside.soon (record { clock = omega (arith, soon); ways = inside.ways })
+        step_soon i.all.hardware r_on.timed its false (end_on i h k) here inside.soon
+        (record { clock = omega (arith, soon); ways = inside.ways })
 
     ran_dirty : OwnDirty i.all.hardware its stepped.caches
     ran_dirty = step_dirties i.all.hardware its its_kernel false (end_on i h k) here facts inside.dirty
@@ -156,7 +166,8 @@ module _ (i : Image) (r : Runnable i) (h : ℕ) (is : h < harts_in i.all.schedul
     ran_clean =
         let p = i.all.hardware in
         subst (KernelIsClean p) (sym (step_caches p its false (end_on i h k) here))
-        (stays_clean_law (hierarchy p) (own_colour its) (region p) false (step_touches p its (end_on i h k) here) here.caches its_kernel.shares
+        (stays_clean_law (hierarchy p) (own_colour its) (region p) false
+        (step_touches p its (end_on i h k) here) here.caches its_kernel.shares
         (step_may p its its_kernel (end_on i h k) here facts) inside.clean)
 
     pub ran_resident : Resident i.all.hardware (caches_of h w) → Resident i.all.hardware stepped.caches
@@ -194,7 +205,9 @@ module _ (i : Image) (r : Runnable i) (h : ℕ) (is : h < harts_in i.all.schedul
         → (dom_of (runs i h k w) d ≡ dom_of w d) × SamePart i.all.hardware (own_of i d) (part_of h d (runs i h k w)) (part_of h d w)
     unfolding runs with_part with_hart
     step_leaves d id other =
-        let left = others_step i.all.hardware (own_of i d) its (end_on i h k) here (parties_of on r_on d (domain_in i h k) id (r_on.named k) other) facts inside.dirty in
+        let left =
+        others_step i.all.hardware (own_of i d) its (end_on i h k) here
+        (parties_of on r_on d (domain_in i h k) id (r_on.named k) other) facts inside.dirty in
         (at-put_other no_dom w.doms (domain_in i h k) d _ other, record { frames = left.frames; sets = left.sets })
 
     -- and its own domain as the step leaves it

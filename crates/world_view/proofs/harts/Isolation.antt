@@ -101,7 +101,10 @@ module _ (i : Image) (r : Runnable i) where
         subst (λ (x : Progress). Meets i h d x.inside x.slots (part_of h d first)) (sym (at_first h)) (first_meets d id h (home i r d));
     shared = inl refl;
     used = subst (AllWithinPads i.all.schedule) (sym (used_cold i many)) tt;
-    counted = λ e l. subst (λ (us : List (ℕ × ℕ)). count_of e us ≤ switches_of (entry_in i.all.schedule e).hart (harts i [])) (sym (used_cold i many)) (none_counted e (switches_of (entry_in i.all.schedule e).hart (harts i [])));
+    counted =
+        λ e l. subst (λ (us : List (ℕ × ℕ)).
+        count_of e us ≤ switches_of (entry_in i.all.schedule e).hart (harts i [])) (sym (used_cold i many))
+        (none_counted e (switches_of (entry_in i.all.schedule e).hart (harts i [])));
   }
 
   -- after every order
@@ -137,7 +140,8 @@ hart_pads i order r below = (running i r order below).used
 pub hart_largest : HartLargestLaw
 hart_largest i order e r below = largest_within i.all.schedule e (harts i order).world.used (hart_pads i order r below)
 
-after_append : (i : Image) (order : List ℕ) (h : ℕ) (s : Harts) → after i (order ++ h ∷ []) s ≡ next i h (after i order s)
+after_append : (i : Image) (order : List ℕ) (h : ℕ) (s : Harts)
+    → after i (order ++ h ∷ []) s ≡ next i h (after i order s)
 unfolding after
 after_append i [] h s = refl
 after_append i (g ∷ gs) h s = after_append i gs h (next i g s)

@@ -31,7 +31,8 @@ pub apiece_trans : (p : Hardware) (o : Own) (x y a : Local) → Apiece p o x y �
 apiece_trans p o x y a h k = record { dom = h.dom ∙ k.dom; part = part_trans p o x y a h.part k.part }
 
 -- one step of its own
-step_within : (p : Hardware) (o : Own) (end : ℕ) (s a : Local) → IsKernel p o → HasFacts p o s.dom s.storage → OwnDirty p o s.caches
+step_within : (p : Hardware) (o : Own) (end : ℕ) (s a : Local) → IsKernel p o → HasFacts p o s.dom s.storage
+    → OwnDirty p o s.caches
     → Resident p s.caches → Within p o s a → Within p o (step (setting p o false) end s) (step (setting p o true) end a)
 step_within p o end s a kernel facts dirty resident h =
     let b : Beside p o s s a = record {
@@ -39,7 +40,11 @@ step_within p o end s a kernel facts dirty resident h =
       dom = h.dom;
       facts = facts;
       storage = record { same = h.part.frames; outside = λ f x. refl };
-      caches = record { core = h.core; dirty = dirty; l2 = record { same = h.part.sets; resident = resident; outside = λ m out kernels. refl } };
+      caches = record {
+        core = h.core;
+        dirty = dirty;
+        l2 = record { same = h.part.sets; resident = resident; outside = λ m out kernels. refl };
+      };
       clock = h.clock;
     } in
     let n = step_near p o end s s a b in
@@ -92,7 +97,8 @@ module _ (i : Image) (h d : ℕ) where
     abbrev r_on : Separated on
     r_on = separated_on i r h is
 
-    switch_if : (b : Bool) (k : ℕ) (w : World) → eqb (domain_in i h k) d ≡ b → InTime on h k w → Joined on d k (part_of h d w)
+    switch_if : (b : Bool) (k : ℕ) (w : World) → eqb (domain_in i h k) d ≡ b → InTime on h k w
+        → Joined on d k (part_of h d w)
         → MeetsIn b k (part_of h d (switched i r h is k w))
     unfolding alone_in
     switch_if true k w t time j = record {
@@ -104,19 +110,23 @@ module _ (i : Image) (h d : ℕ) where
         another_enters on r_on d id h w k (λ q. true≢false (sym (eq-eqb (domain_in i h k) d q) ∙ t)) time j
 
     -- a switch
-    pub switch_meets : (k : ℕ) (w : World) → InTime on h k w → Meets false k (part_of h d w) → Meets true k (part_of h d (switched i r h is k w))
+    pub switch_meets : (k : ℕ) (w : World) → InTime on h k w → Meets false k (part_of h d w)
+        → Meets true k (part_of h d (switched i r h is k w))
     switch_meets k w time j = switch_if (eqb (domain_in i h k) d) k w refl time j
 
-    module _ (k : ℕ) (w : World) (inside : IsInside i h k w) (facts : HasFacts p (own_of i (domain_in i h k)) (dom_of w (domain_in i h k)) w.storage)
+    module _ (k : ℕ) (w : World) (inside : IsInside i h k w)
+        (facts : HasFacts p (own_of i (domain_in i h k)) (dom_of w (domain_in i h k)) w.storage)
         (there : Resident p (caches_of h w)) where
       abbrev w' : World
       w' = runs i h k w
 
       -- where the step is its own, it is as the step leaves it
-      moved_here : domain_in i h k ≡ d → Within p o (part_of h d w') (step (setting p o false) (end_on i h k) (part_of h d w))
+      moved_here : domain_in i h k ≡ d
+          → Within p o (part_of h d w') (step (setting p o false) (end_on i h k) (part_of h d w))
       unfolding runs with_part with_hart
       moved_here same =
-          subst (λ (e : ℕ). Within p (own_of i e) (part_of h e w') (step (setting p (own_of i e) false) (end_on i h k) (part_of h e w))) same
+          subst (λ (e : ℕ). Within p (own_of i e) (part_of h e w')
+          (step (setting p (own_of i e) false) (end_on i h k) (part_of h e w))) same
           (record {
             dom = step_own i r h is k w inside facts;
             part = record { frames = λ f own. refl; sets = λ s own. refl };
@@ -124,14 +134,17 @@ module _ (i : Image) (h d : ℕ) where
             clock = ran-clock i r h is k w inside facts;
           })
 
-      pub moved : domain_in i h k ≡ d → (a : Local) → Within p o (part_of h d w) a → Within p o (part_of h d w') (step (setting p o true) (end_on i h k) a)
+      pub moved : domain_in i h k ≡ d → (a : Local) → Within p o (part_of h d w) a
+          → Within p o (part_of h d w') (step (setting p o true) (end_on i h k) a)
       moved same a near =
           within_trans p o (part_of h d w') _ _ (moved_here same)
           (step_within p o (end_on i h k) (part_of h d w) a (kernel_of on r_on d id)
           (subst (λ (e : ℕ). HasFacts p (own_of i e) (dom_of w e) w.storage) same facts)
           (subst (λ (e : ℕ). OwnDirty p (own_of i e) (caches_of h w)) same inside.dirty) there near)
 
-      leads : (m : InOwn k (part_of h d w)) → stretch (setting p o true) (end_on i h k) (step (setting p o true) (end_on i h k) m.a) ≡ alone_in on.all o k (alone on.all o d k)
+      leads : (m : InOwn k (part_of h d w))
+          → stretch (setting p o true) (end_on i h k) (step (setting p o true) (end_on i h k) m.a)
+          ≡ alone_in on.all o k (alone on.all o d k)
       leads m =
           let at = m.near.clock in
           let soon = inside.soon in
@@ -145,16 +158,20 @@ module _ (i : Image) (h d : ℕ) where
       differs : eqb (domain_in i h k) d ≡ false → domain_in i h k ≢ d
       differs t q = true≢false (sym (eq-eqb (domain_in i h k) d q) ∙ t)
 
-      on_if : (b : Bool) → eqb (domain_in i h k) d ≡ b → MeetsIn b k (part_of h d w) → MeetsIn b k (part_of h d w')
+      on_if : (b : Bool) → eqb (domain_in i h k) d ≡ b → MeetsIn b k (part_of h d w)
+          → MeetsIn b k (part_of h d w')
       on_if true t m = record { a = _; near = moved (eqb-true (domain_in i h k) d t) m.a m.near; ends = leads m }
       on_if false t m = apiece_trans p o (part_of h d w') (part_of h d w) _ (others_moved (differs t)) m
 
-      over_if : (b : Bool) → eqb (domain_in i h k) d ≡ b → end_on i h k ≤ clock_of h w' → MeetsIn b k (part_of h d w) → JoinedIf on d k b (part_of h d w')
+      over_if : (b : Bool) → eqb (domain_in i h k) d ≡ b → end_on i h k ≤ clock_of h w'
+          → MeetsIn b k (part_of h d w) → JoinedIf on d k b (part_of h d w')
       over_if true t over m =
           let same = eqb-true (domain_in i h k) d t in
           let near = moved same m.a m.near in
           let at = near.clock in
-          subst (Within p o (part_of h d w')) (sym (stretch_done (setting p o true) r_on.timed (end_on i h k) _ (omega (arith, at, over))) ∙ leads m) near
+          subst (Within p o (part_of h d w'))
+          (sym (stretch_done (setting p o true) r_on.timed (end_on i h k) _ (omega (arith, at, over)))
+          ∙ leads m) near
       over_if false t over m = apiece_trans p o (part_of h d w') (part_of h d w) _ (others_moved (differs t)) m
 
       -- an event after which the slot goes on
@@ -162,5 +179,6 @@ module _ (i : Image) (h d : ℕ) where
       on_meets m = on_if (eqb (domain_in i h k) d) refl m
 
       -- one that ends the slot
-      pub over_meets : end_on i h k ≤ clock_of h w' → Meets true k (part_of h d w) → Meets false (suc k) (part_of h d w')
+      pub over_meets : end_on i h k ≤ clock_of h w' → Meets true k (part_of h d w)
+          → Meets false (suc k) (part_of h d w')
       over_meets over m = over_if (eqb (domain_in i h k) d) refl over m

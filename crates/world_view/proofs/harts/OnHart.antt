@@ -25,9 +25,11 @@ module _ (i : Image) (r : Runnable i) (h : ℕ) (is : h < harts_in i.all.schedul
   named_on : (k : ℕ) → IsDomain i (domain_in i h k)
   named_on k =
       let p = placed k in
-      subst (λ (e : Entry). IsDomain i e.domain) (sym p.same) (r.named (place_on i.all.schedule h (k % length (on_hart i.all.schedule h))) p.there)
+      subst (λ (e : Entry). IsDomain i e.domain) (sym p.same)
+      (r.named (place_on i.all.schedule h (k % length (on_hart i.all.schedule h))) p.there)
 
-  pub padded_on : (k : ℕ) → bound i.all.hardware (ended_own (image_on i h) k) ≤ pad_of (on_hart i.all.schedule h) k
+  pub padded_on : (k : ℕ)
+      → bound i.all.hardware (ended_own (image_on i h) k) ≤ pad_of (on_hart i.all.schedule h) k
   padded_on k =
       let p = placed_switch k in
       subst (λ (e : Entry). bound i.all.hardware (own_of i e.domain) ≤ e.pad) (sym p.same)

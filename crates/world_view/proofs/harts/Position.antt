@@ -120,7 +120,9 @@ module _ (i : Image) (h : ℕ) where
       begins_at : (progress_of h s).inside ≡ false
           → IsAt (begins i h s) (record { progress = record { slots = k; inside = true }; local = entered k })
       unfolding begins
-      begins_at t = proceeds_at s (begun_world i h s) k true (entered k) (it_enters on r_on d id h s.world k refl (its_hart false t) (met false t))
+      begins_at t =
+          proceeds_at s (begun_world i h s) k true (entered k)
+          (it_enters on r_on d id h s.world k refl (its_hart false t) (met false t))
 
       ends_at : (b : Bool) (w : World) (a : Local) → Within p (its k) (part_of h d w) a
           → IsAt (if b then proceeds h s w k true else proceeds h s w (suc k) false) (ends_if b k a)
@@ -160,7 +162,9 @@ module _ (i : Image) (h : ℕ) where
         stays : hart_of h (next i g s).world ≡ hart_of h s.world
         stays = (hart_stays i h g s (λ q. other (sym q))).hart
 
-        part_stays : (n : ℕ) → Within p (its n) (part_of h (domain_in i h n) (next i g s).world) (part_of h (domain_in i h n) s.world)
+        part_stays : (n : ℕ)
+            → Within p (its n) (part_of h (domain_in i h n) (next i g s).world)
+            (part_of h (domain_in i h n) s.world)
         part_stays n =
             let left = (next_so i r g below s was).left (domain_in i h n) (r_on.named n) (λ q. other (q ∙ hart_is i r h is n)) in
             record {
@@ -193,7 +197,8 @@ module _ (i : Image) (h : ℕ) where
     counts_if true g gs x = refl
     counts_if false g gs x = refl
 
-    after_at : (order : List ℕ) (s : Harts) (x : Position) → All (λ g. g < harts_in i.all.schedule) order → Running i r s → IsAt s x
+    after_at : (order : List ℕ) (s : Harts) (x : Position) → All (λ g. g < harts_in i.all.schedule) order
+        → Running i r s → IsAt s x
         → IsAt (after i order s) (onward (events_of h order) x)
     unfolding after onward
     after_at [] s x below was at = at
@@ -201,8 +206,10 @@ module _ (i : Image) (h : ℕ) where
         let one = All-head (λ (n : ℕ). n < harts_in i.all.schedule) g gs below in
         let rest = All-tail (λ (n : ℕ). n < harts_in i.all.schedule) g gs below in
         subst (IsAt (after i gs (next i g s))) (sym (counts_if (g == h) g (filter (λ n. n == h) gs) x))
-        (after_at gs (next i g s) (if (g == h) then moves x else x) rest (next_so i r g one s was).running (event_at s was g one x at (g == h) refl))
+        (after_at gs (next i g s) (if (g == h) then moves x else x) rest (next_so i r g one s was).running
+        (event_at s was g one x at (g == h) refl))
 
-    pub is_at : (order : List ℕ) → AreHartsOf i order → IsAt (harts i order) (onward (events_of h order) first)
+    pub is_at : (order : List ℕ) → AreHartsOf i order
+        → IsAt (harts i order) (onward (events_of h order) first)
     unfolding harts after
     is_at order below = after_at order (harts i []) first below (running i r [] (All-nil (λ (n : ℕ). n < harts_in i.all.schedule))) at_start

@@ -51,7 +51,8 @@ module _ (i : Image) where
     pub caches : caches_of h w ≡ cold (hierarchy i.all.hardware)
     pub clock : clock_of h w ≡ 0
 
-  cold_if : (n h : ℕ) → (h ≡ n) ⊎ (h ≢ n) → (h ≢ n → IsCold h (all_cold i n)) → IsCold h (with_cold i n (all_cold i n))
+  cold_if : (n h : ℕ) → (h ≡ n) ⊎ (h ≢ n) → (h ≢ n → IsCold h (all_cold i n))
+      → IsCold h (with_cold i n (all_cold i n))
   unfolding with_hart
   cold_if n h (inl same) before =
       subst (λ (x : ℕ). IsCold x (with_cold i n (all_cold i n))) (sym same)
@@ -72,11 +73,13 @@ module _ (i : Image) where
 
 -- ---- after each event
 
-pub progress-same : (h : ℕ) (s : Harts) (w : World) (k : ℕ) (b : Bool) → progress_of h (proceeds h s w k b) ≡ record { slots = k; inside = b }
+pub progress-same : (h : ℕ) (s : Harts) (w : World) (k : ℕ) (b : Bool)
+    → progress_of h (proceeds h s w k b) ≡ record { slots = k; inside = b }
 unfolding proceeds
 progress-same h s w k b = at-put_same _ s.progress h _
 
-pub progress-other : (g h : ℕ) (s : Harts) (w : World) (k : ℕ) (b : Bool) → g ≢ h → progress_of g (proceeds h s w k b) ≡ progress_of g s
+pub progress-other : (g h : ℕ) (s : Harts) (w : World) (k : ℕ) (b : Bool) → g ≢ h
+    → progress_of g (proceeds h s w k b) ≡ progress_of g s
 unfolding proceeds
 progress-other g h s w k b other = at-put_other _ s.progress h g _ other
 
@@ -102,12 +105,15 @@ module _ (i : Image) (r : Runnable i) where
         Meets i h d (progress_of h s).inside (slots_of h s) (part_of h d s.world)
     pub shared : (s ≡ harts i []) ⊎ Resident p (caches_of 0 s.world)
     pub used : AllWithinPads i.all.schedule s.world.used
-    pub counted : (e : ℕ) → e < length i.all.schedule → count_of e s.world.used ≤ switches_of (entry_in i.all.schedule e).hart s
+    pub counted : (e : ℕ) → e < length i.all.schedule
+        → count_of e s.world.used ≤ switches_of (entry_in i.all.schedule e).hart s
 
   -- a domain on its hart
   pub here : (s : Harts) → Running s → (h d : ℕ) → IsDomain i d → hart_of_domain i d ≡ h
       → Meets i h d (progress_of h s).inside (slots_of h s) (part_of h d s.world)
-  here s was h d id home = subst (λ (x : ℕ). Meets i x d (progress_of x s).inside (slots_of x s) (part_of x d s.world)) home (was.meets d id)
+  here s was h d id home =
+      subst (λ (x : ℕ). Meets i x d (progress_of x s).inside (slots_of x s) (part_of x d s.world)) home
+      (was.meets d id)
 
   -- what an event of hart h comes to
   record Happened (h : ℕ) (s : Harts) (w : World) (k : ℕ) (b : Bool) : Type 0 where
@@ -116,12 +122,14 @@ module _ (i : Image) (r : Runnable i) where
     clean : KernelIsClean p (caches_of h w)
     others : (g : ℕ) → g ≢ h → hart_of g w ≡ hart_of g s.world
     meets : (d : ℕ) → IsDomain i d → hart_of_domain i d ≡ h → Meets i h d b k (part_of h d w)
-    left : (d : ℕ) → IsDomain i d → h ≢ hart_of_domain i d → Apiece p (own_of i d) (part_of h d w) (part_of h d s.world)
+    left : (d : ℕ) → IsDomain i d → h ≢ hart_of_domain i d
+        → Apiece p (own_of i d) (part_of h d w) (part_of h d s.world)
     shared : Resident p (caches_of 0 w)
     used : AllWithinPads i.all.schedule w.used
     counted : (e : ℕ) → e < length i.all.schedule → (entry_in i.all.schedule e).hart ≡ h
         → count_of e w.used ≤ (if b then k + 1 else k)
-    others_counted : (e : ℕ) → (entry_in i.all.schedule e).hart ≢ h → count_of e w.used ≡ count_of e s.world.used
+    others_counted : (e : ℕ) → (entry_in i.all.schedule e).hart ≢ h
+        → count_of e w.used ≡ count_of e s.world.used
 
   -- what holds after it
   pub record Next (h : ℕ) (s later : Harts) : Type 0 where
@@ -142,7 +150,8 @@ module _ (i : Image) (r : Runnable i) where
         (still i g h w s.world (did.others g other) did.clean (progress_of g s).inside (slots_of g s) (was.hart g l))
 
     -- the part of a domain of another hart
-    part_still : (d g : ℕ) → IsDomain i d → hart_of_domain i d ≡ g → g ≢ h → Within p (own_of i d) (part_of g d w) (part_of g d s.world)
+    part_still : (d g : ℕ) → IsDomain i d → hart_of_domain i d ≡ g → g ≢ h
+        → Within p (own_of i d) (part_of g d w) (part_of g d s.world)
     part_still d g id home other =
         let left = did.left d id (λ q. other (sym home ∙ sym q)) in
         record {
@@ -157,18 +166,22 @@ module _ (i : Image) (r : Runnable i) where
         → Meets i g d (progress_of g s').inside (slots_of g s') (part_of g d w)
     meets_if d g id home (inl same) m =
         subst (λ (x : ℕ). Meets i x d (progress_of x s').inside (slots_of x s') (part_of x d w)) (sym same)
-        (subst (λ (x : Progress). Meets i h d x.inside x.slots (part_of h d w)) (sym (progress-same h s w k b)) (did.meets d id (home ∙ same)))
+        (subst (λ (x : Progress). Meets i h d x.inside x.slots (part_of h d w))
+        (sym (progress-same h s w k b)) (did.meets d id (home ∙ same)))
     meets_if d g id home (inr other) m =
         subst (λ (x : Progress). Meets i g d x.inside x.slots (part_of g d w)) (sym (progress-other g h s w k b other))
         (still_meets i g d (progress_of g s).inside (slots_of g s) (part_of g d s.world) (part_of g d w) (part_still d g id home other) m)
 
-    counted_if : (e g : ℕ) → e < length i.all.schedule → (entry_in i.all.schedule e).hart ≡ g → (g ≡ h) ⊎ (g ≢ h)
+    counted_if : (e g : ℕ) → e < length i.all.schedule → (entry_in i.all.schedule e).hart ≡ g
+        → (g ≡ h) ⊎ (g ≢ h)
         → count_of e w.used ≤ switches_of g s'
     counted_if e g l home (inl same) =
         subst (λ (x : ℕ). count_of e w.used ≤ switches_of x s') (sym same)
-        (subst (λ (x : Progress). count_of e w.used ≤ (if x.inside then x.slots + 1 else x.slots)) (sym (progress-same h s w k b)) (did.counted e l (home ∙ same)))
+        (subst (λ (x : Progress). count_of e w.used ≤ (if x.inside then x.slots + 1 else x.slots))
+        (sym (progress-same h s w k b)) (did.counted e l (home ∙ same)))
     counted_if e g l home (inr other) =
-        let before : count_of e s.world.used ≤ switches_of g s = subst (λ (x : ℕ). count_of e s.world.used ≤ switches_of x s) home (was.counted e l) in
+        let before : count_of e s.world.used ≤ switches_of g s =
+        subst (λ (x : ℕ). count_of e s.world.used ≤ switches_of x s) home (was.counted e l) in
         subst (λ (x : Progress). count_of e w.used ≤ (if x.inside then x.slots + 1 else x.slots)) (sym (progress-other g h s w k b other))
         (subst (λ (n : ℕ). n ≤ switches_of g s) (sym (did.others_counted e (λ q. other (sym home ∙ q)))) before)
 
@@ -196,7 +209,8 @@ module _ (i : Image) (r : Runnable i) where
 
   -- ---- a switch
 
-  module _ (h : ℕ) (is : h < many) (s : Harts) (was : Running s) (outside : (progress_of h s).inside ≡ false) (time : InTime (image_on i h) h (slots_of h s) s.world)
+  module _ (h : ℕ) (is : h < many) (s : Harts) (was : Running s) (outside : (progress_of h s).inside ≡ false)
+      (time : InTime (image_on i h) h (slots_of h s) s.world)
       (met : (d : ℕ) → IsDomain i d → hart_of_domain i d ≡ h → Meets i h d false (slots_of h s) (part_of h d s.world)) where
     abbrev on : Image
     on = image_on i h
@@ -218,11 +232,13 @@ module _ (i : Image) (r : Runnable i) where
     unfolding guarded
     in_pad =
         let used = used_in_pad on r_on h k s.world (padded_on i r h is k) time in
-        let pad : pad_of on.all.schedule k ≡ (entry_in i.all.schedule place).pad = ap (λ (e : Entry). e.pad) (placed_switch i r h is k).same in
+        let pad : pad_of on.all.schedule k ≡ (entry_in i.all.schedule place).pad =
+        ap (λ (e : Entry). e.pad) (placed_switch i r h is k).same in
         omega (arith, used, pad)
 
     -- after the first of all the shared lines are there, and later ones leave them
-    begun_resident : (s ≡ harts i []) ⊎ Resident p (caches_of 0 s.world) → Resident p (caches_of h (switched i r h is k s.world))
+    begun_resident : (s ≡ harts i []) ⊎ Resident p (caches_of 0 s.world)
+        → Resident p (caches_of h (switched i r h is k s.world))
     unfolding harts after
     begun_resident (inl first) =
         let start : Harts = harts i [] in
@@ -237,12 +253,14 @@ module _ (i : Image) (r : Runnable i) where
     unfolding switch_on with_hart
     counts_if e (inl same) =
         let one = count_of-push_same e (cycles_on (guarded on) on h k s.world) s.world.used in
-        subst (λ (n : ℕ). count_of e (s.world.used ++ (n, cycles_on (guarded on) on h k s.world) ∷ []) ≤ count_of e s.world.used + 1) (sym same)
+        subst (λ (n : ℕ). count_of e (s.world.used ++ (n, cycles_on (guarded on) on h k s.world) ∷ [])
+        ≤ count_of e s.world.used + 1) (sym same)
         (omega (arith, one))
     counts_if e (inr other) =
         let none = count_of-push_other e place (cycles_on (guarded on) on h k s.world) s.world.used other in omega (arith, none)
 
-    begun_counted : (e : ℕ) → e < length i.all.schedule → (entry_in i.all.schedule e).hart ≡ h → count_of e begun.used ≤ k + 1
+    begun_counted : (e : ℕ) → e < length i.all.schedule → (entry_in i.all.schedule e).hart ≡ h
+        → count_of e begun.used ≤ k + 1
     begun_counted e l home =
         let more = counts_if e (cases_eq place e) in
         let before : count_of e s.world.used ≤ k =
@@ -250,7 +268,8 @@ module _ (i : Image) (r : Runnable i) where
         (subst (λ (x : ℕ). count_of e s.world.used ≤ switches_of x s) home (was.counted e l)) in
         omega (arith, more, before)
 
-    begun_others : (e : ℕ) → (entry_in i.all.schedule e).hart ≢ h → count_of e begun.used ≡ count_of e s.world.used
+    begun_others : (e : ℕ) → (entry_in i.all.schedule e).hart ≢ h
+        → count_of e begun.used ≡ count_of e s.world.used
     unfolding switch_on with_hart
     begun_others e other =
         count_of-push_other e place (cycles_on (guarded on) on h k s.world) s.world.used
@@ -279,7 +298,8 @@ module _ (i : Image) (r : Runnable i) where
 
   -- ---- one event in a slot
 
-  module _ (h : ℕ) (is : h < many) (s : Harts) (was : Running s) (within : (progress_of h s).inside ≡ true) (inside : IsInside i h (slots_of h s) s.world)
+  module _ (h : ℕ) (is : h < many) (s : Harts) (was : Running s) (within : (progress_of h s).inside ≡ true)
+      (inside : IsInside i h (slots_of h s) s.world)
       (met : (d : ℕ) → IsDomain i d → hart_of_domain i d ≡ h → Meets i h d true (slots_of h s) (part_of h d s.world))
       (there : Resident p (caches_of 0 s.world)) where
     abbrev slot : ℕ
@@ -302,28 +322,37 @@ module _ (i : Image) (r : Runnable i) where
     unfolding runs with_part with_hart
     ran_others g other = at-put_other no_hart s.world.harts h g _ other
 
-    ran_left : (d : ℕ) → IsDomain i d → h ≢ hart_of_domain i d → Apiece p (own_of i d) (part_of h d ran) (part_of h d s.world)
-    ran_left d id other = let left = step_leaves i r h is slot s.world inside facts0 d id (not_here i r h is slot d other) in record { dom = left.0; part = left.1 }
+    ran_left : (d : ℕ) → IsDomain i d → h ≢ hart_of_domain i d
+        → Apiece p (own_of i d) (part_of h d ran) (part_of h d s.world)
+    ran_left d id other =
+        let left = step_leaves i r h is slot s.world inside facts0 d id (not_here i r h is slot d other) in
+        record { dom = left.0; part = left.1 }
 
     ran_used : AllWithinPads i.all.schedule ran.used
     unfolding runs with_part with_hart
     ran_used = was.used
 
-    ran_counted : (e : ℕ) → e < length i.all.schedule → (entry_in i.all.schedule e).hart ≡ h → count_of e ran.used ≤ slot + 1
+    ran_counted : (e : ℕ) → e < length i.all.schedule → (entry_in i.all.schedule e).hart ≡ h
+        → count_of e ran.used ≤ slot + 1
     unfolding runs with_part with_hart
     ran_counted e l home =
         subst (λ (b : Bool). count_of e s.world.used ≤ (if b then slot + 1 else slot)) within
         (subst (λ (x : ℕ). count_of e s.world.used ≤ switches_of x s) home (was.counted e l))
 
-    ran_others_counted : (e : ℕ) → (entry_in i.all.schedule e).hart ≢ h → count_of e ran.used ≡ count_of e s.world.used
+    ran_others_counted : (e : ℕ) → (entry_in i.all.schedule e).hart ≢ h
+        → count_of e ran.used ≡ count_of e s.world.used
     unfolding runs with_part with_hart
     ran_others_counted e other = refl
 
     ran_clean_here : KernelIsClean p (caches_of h ran)
-    ran_clean_here = subst (KernelIsClean p) (sym (ran-caches i r h is slot s.world inside facts0)) (ran_clean i r h is slot s.world inside facts0)
+    ran_clean_here =
+        subst (KernelIsClean p) (sym (ran-caches i r h is slot s.world inside facts0))
+        (ran_clean i r h is slot s.world inside facts0)
 
     ran_shared : Resident p (caches_of 0 ran)
-    ran_shared = subst (Resident p) (sym (ran-caches i r h is slot s.world inside facts0)) (ran_resident i r h is slot s.world inside facts0 there)
+    ran_shared =
+        subst (Resident p) (sym (ran-caches i r h is slot s.world inside facts0))
+        (ran_resident i r h is slot s.world inside facts0 there)
 
     goes_if : (b : Bool) → ltb (clock_of h ran) (end_on i h slot) ≡ b
         → Next h s (if b then proceeds h s ran slot true else proceeds h s ran (suc slot) false)
@@ -359,11 +388,13 @@ module _ (i : Image) (r : Runnable i) where
   -- ---- every event
 
   -- a hart in a slot is past its boot
-  pub there_if : (h : ℕ) (s : Harts) → (progress_of h s).inside ≡ true → (s ≡ harts i []) ⊎ Resident p (caches_of 0 s.world) → Resident p (caches_of 0 s.world)
+  pub there_if : (h : ℕ) (s : Harts) → (progress_of h s).inside ≡ true
+      → (s ≡ harts i []) ⊎ Resident p (caches_of 0 s.world) → Resident p (caches_of 0 s.world)
   unfolding harts after
   there_if h s inside (inl first) =
       let none : (progress_of h s).inside ≡ false =
-      ap (λ (t : Harts). (progress_of h t).inside) first ∙ ap (λ (x : Progress). x.inside) (at-empty (record { slots = 0; inside = false }) h) in
+      ap (λ (t : Harts). (progress_of h t).inside) first
+      ∙ ap (λ (x : Progress). x.inside) (at-empty (record { slots = 0; inside = false }) h) in
       absurd (true≢false (sym inside ∙ none))
   there_if h s inside (inr there) = there
 
@@ -381,8 +412,10 @@ module _ (i : Image) (r : Runnable i) where
   unfolding next
   next_so h l s was = next_if h l s was (progress_of h s).inside refl
 
-  pub after_running : (order : List ℕ) (s : Harts) → All (λ h. h < many) order → Running s → Running (after i order s)
+  pub after_running : (order : List ℕ) (s : Harts) → All (λ h. h < many) order → Running s
+      → Running (after i order s)
   unfolding after
   after_running [] s below was = was
   after_running (h ∷ hs) s below was =
-      after_running hs (next i h s) (All-tail (λ (x : ℕ). x < many) h hs below) (next_so h (All-head (λ (x : ℕ). x < many) h hs below) s was).running
+      after_running hs (next i h s) (All-tail (λ (x : ℕ). x < many) h hs below)
+      (next_so h (All-head (λ (x : ℕ). x < many) h hs below) s was).running

@@ -10,7 +10,8 @@ module _ (es : List Entry) (all : List (List (ℕ × Entry))) (are : all ≡ har
   unfolding hart_schedules
   one_each = ap length are ∙ length-map-range_with_len (entries_on es) 0 (harts_in es)
 
-  pub own_entries : (h : ℕ) (placed : List (ℕ × Entry)) → h < harts_in es → placed ≡ slice_index_or all h placed → placed ≡ entries_on es h
+  pub own_entries : (h : ℕ) (placed : List (ℕ × Entry)) → h < harts_in es
+      → placed ≡ slice_index_or all h placed → placed ≡ entries_on es h
   unfolding hart_schedules
   own_entries h placed below read =
       read ∙ ap (λ (xs : List (List (ℕ × Entry))). slice_index_or xs h placed) are

@@ -31,10 +31,12 @@ use Rattle.world_view.proofs.runs.DomainLaws.{always}
 
 module _ (p : Hardware) (o : Own) where
   -- an instruction delivers nothing
-  instruction_delivers : (t : ℕ) (d : Dom) (s : Storage) → (either (instruction p (estate p o) (layout p o) t d s).value).delivered ≡ d.delivered
+  instruction_delivers : (t : ℕ) (d : Dom) (s : Storage)
+      → (either (instruction p (estate p o) (layout p o) t d s).value).delivered ≡ d.delivered
   unfolding stopped retired_at placed
   instruction_delivers t d s =
-      leaves p (estate p o) (layout p o) d (λ (x : Dom). x.delivered ≡ d.delivered) (λ code value. refl) (λ pc value regs i. noted_delivered i value d)
+      leaves p (estate p o) (layout p o) d (λ (x : Dom). x.delivered ≡ d.delivered) (λ code value. refl)
+      (λ pc value regs i. noted_delivered i value d)
       (λ m. call_counts (estate p o) d m) t s
 
   -- no moment is delivered, or the next one, which is due
@@ -43,7 +45,8 @@ module _ (p : Hardware) (o : Own) where
       (t.dom.delivered ≡ s.dom.delivered)
       ⊎ ((t.dom.delivered ≡ s.dom.delivered + 1) × IsDue o s.dom.delivered s.clock)
 
-  happened_delivers : (pinned : Bool) (s : Local) (e : Event) → Fits o s.clock s.dom e → Delivers s (happened (setting p o pinned) s e)
+  happened_delivers : (pinned : Bool) (s : Local) (e : Event) → Fits o s.clock s.dom e
+      → Delivers s (happened (setting p o pinned) s e)
   unfolding happened paid delivered
   happened_delivers pinned s (Jump t) fits = inl refl
   happened_delivers pinned s (Deliver line) fits =
@@ -82,16 +85,19 @@ module _ (i : Image) (r : Separated i) where
   due_in k n =
       let p = i.all.hardware in
       let end = slot_end i.all.schedule k in
-      one_more_by (setting p (owner i k) false) end (Delivers p (owner i k)) (λ s below. step_delivers p (owner i k) end s) (λ s over. inl refl) n
+      one_more_by (setting p (owner i k) false) end (Delivers p (owner i k))
+      (λ s below. step_delivers p (owner i k) end s) (λ s over. inl refl) n
       (part_of 0 (entry_of_slot i.all.schedule k).domain (switch i k (whole i k)))
 
-  pub prompt_in : (k n : ℕ) → is_running (local_in i k n).dom.status ≡ true → (local_in i k n).clock < slot_end i.all.schedule k
+  pub prompt_in : (k n : ℕ) → is_running (local_in i k n).dom.status ≡ true
+      → (local_in i k n).clock < slot_end i.all.schedule k
       → IsDue (owner i k) (delivered_in i k n) (local_in i k n).clock → delivered_in i k (suc n) ≡ delivered_in i k n + 1
   prompt_in k n =
       let p = i.all.hardware in
       let end = slot_end i.all.schedule k in
       one_more_by (setting p (owner i k) false) end
-      (λ (s t : Local). is_running s.dom.status ≡ true → s.clock < end → IsDue (owner i k) s.dom.delivered s.clock → t.dom.delivered ≡ s.dom.delivered + 1)
+      (λ (s t : Local). is_running s.dom.status ≡ true → s.clock < end
+      → IsDue (owner i k) s.dom.delivered s.clock → t.dom.delivered ≡ s.dom.delivered + 1)
       (λ s below runs _ due. step_prompt p (owner i k) end s runs due) (λ s over runs below due. absurd (omega (arith, over, below))) n
       (part_of 0 (entry_of_slot i.all.schedule k).domain (switch i k (whole i k)))
 
@@ -99,11 +105,14 @@ module _ (i : Image) (r : Separated i) where
   unfolding opening_dom domain.dom_at_entry
   none_first o = omega arith
 
-  pub few_in : (k n d : ℕ) → IsDomain i d → (dom_of (world_in i k n) d).delivered ≤ length (own_of i d).moments
+  pub few_in : (k n d : ℕ) → IsDomain i d
+      → (dom_of (world_in i k n) d).delivered ≤ length (own_of i d).moments
   few_in k n d is =
       always i r (λ (o : Own) (x : Dom). x.delivered ≤ length o.moments) none_first
-      (λ o end s few. few_after i.all.hardware o s (step (setting i.all.hardware o false) end s) (step_delivers i.all.hardware o end s) few) k n d is
+      (λ o end s few. few_after i.all.hardware o s (step (setting i.all.hardware o false) end s)
+      (step_delivers i.all.hardware o end s) few) k n d is
 
   -- moments ascend
-  pub ascending : (d m n : ℕ) (x y : Moment) → m < n → slice_get (own_of i d).moments m ≡ Some x → slice_get (own_of i d).moments n ≡ Some y → IsBefore x y
+  pub ascending : (d m n : ℕ) (x y : Moment) → m < n → slice_get (own_of i d).moments m ≡ Some x
+      → slice_get (own_of i d).moments n ≡ Some y → IsBefore x y
   ascending d m n x y less first second = (r.sound d).moments.ascend m n x y less first second

@@ -55,7 +55,8 @@ module _ (e : Estate) (d : Dom) where
     }
 
     -- where the current one goes on
-    current_goes_on : (x : Dom) (y : Thread) → x.threads ≡ with_current d.threads y → y.state ≡ d.threads.current.state → GoesOn x
+    current_goes_on : (x : Dom) (y : Thread) → x.threads ≡ with_current d.threads y
+        → y.state ≡ d.threads.current.state → GoesOn x
     current_goes_on x y is state = record {
       turn = subst HasTurn (sym is) (moved_turn d.threads y state h);
       waits = λ t line below waits.
@@ -66,20 +67,23 @@ module _ (e : Estate) (d : Dom) where
     unfolding stopped
     stopped_goes_on code value = same_goes_on (stopped code value d) refl
 
-    retired_goes_on : (pc value : ℕ) (regs : List ℕ) (i : Instr) → GoesOn (retired_at pc regs (noted i value d))
+    retired_goes_on : (pc value : ℕ) (regs : List ℕ) (i : Instr)
+        → GoesOn (retired_at pc regs (noted i value d))
     unfolding retired_at placed
     retired_goes_on pc value regs i =
         current_goes_on (retired_at pc regs (noted i value d)) (record d.threads.current { pc = pc; regs = regs })
         (ap (λ (ts : Threads). with_current ts (record ts.current { pc = pc; regs = regs })) (noted_threads i value d)) refl
 
 -- an EXIT ends the domain
-exit_is : (e : Estate) (d : Dom) (m : Mem) → number_made e d ≡ 0 → after_call e d m ≡ exited (register d.threads.current.regs 10) d
+exit_is : (e : Estate) (d : Dom) (m : Mem) → number_made e d ≡ 0
+    → after_call e d m ≡ exited (register d.threads.current.regs 10) d
 unfolding call call_of give either
 exit_is e d m number =
     let regs = d.threads.current.regs in
     ap (λ (n : ℕ). either (call_of e d n (register regs 10) (register regs 11) (register regs 12) m).value) number
 
-exit_ends : (e : Estate) (d : Dom) (m : Mem) → number_made e d ≡ 0 → is_running (after_call e d m).status ≢ true
+exit_ends : (e : Estate) (d : Dom) (m : Mem) → number_made e d ≡ 0
+    → is_running (after_call e d m).status ≢ true
 unfolding exited
 exit_ends e d m number runs = true≢false (sym runs ∙ ap (λ (x : Dom). is_running x.status) (exit_is e d m number))
 
@@ -96,17 +100,21 @@ call_goes_on e d m h may = record {
 -- ---- an event
 
 module _ (p : Hardware) (o : Own) where
-  instruction_goes_on : (t : ℕ) (d : Dom) (s : Storage) → HasTurn d.threads → MayRun d → GoesOn (estate p o) d (either (instruction p (estate p o) (layout p o) t d s).value)
+  instruction_goes_on : (t : ℕ) (d : Dom) (s : Storage) → HasTurn d.threads → MayRun d
+      → GoesOn (estate p o) d (either (instruction p (estate p o) (layout p o) t d s).value)
   instruction_goes_on t d s h may =
-      leaves p (estate p o) (layout p o) d (GoesOn (estate p o) d) (stopped_goes_on (estate p o) d h may) (retired_goes_on (estate p o) d h may) (λ m. call_goes_on (estate p o) d m h may) t s
+      leaves p (estate p o) (layout p o) d (GoesOn (estate p o) d) (stopped_goes_on (estate p o) d h may)
+      (retired_goes_on (estate p o) d h may) (λ m. call_goes_on (estate p o) d m h may) t s
 
-  happened_turn : (s : Local) (e : Event) → Fits o s.clock s.dom e → HasTurn s.dom.threads → HasTurn (happened (setting p o false) s e).dom.threads
+  happened_turn : (s : Local) (e : Event) → Fits o s.clock s.dom e → HasTurn s.dom.threads
+      → HasTurn (happened (setting p o false) s e).dom.threads
   unfolding happened paid delivered
   happened_turn s (Jump t) fits h = h
   happened_turn s (Deliver line) fits h = delivery_turn s.dom line h
   happened_turn s Run fits h = (instruction_goes_on s.clock s.dom s.storage h fits).turn
 
-  step_turn : (end : ℕ) (s : Local) → HasTurn s.dom.threads → HasTurn (step (setting p o false) end s).dom.threads
+  step_turn : (end : ℕ) (s : Local) → HasTurn s.dom.threads
+      → HasTurn (step (setting p o false) end s).dom.threads
   unfolding step
   step_turn end s h = happened_turn s (event o s.clock end s.dom) (event_fits o s.clock s.dom end) h
 
@@ -121,7 +129,8 @@ module _ (p : Hardware) (o : Own) where
       → (thread_at t.dom.threads u ≡ thread_at s.dom.threads u)
       ⊎ (Comes line s t ⊎ (Signals (estate p o) s.dom line ⊎ (is_running t.dom.status ≢ true)))
 
-  happened_wakes : (u line : ℕ) (s : Local) (e : Event) → Fits o s.clock s.dom e → Wakes u line s (happened (setting p o false) s e)
+  happened_wakes : (u line : ℕ) (s : Local) (e : Event) → Fits o s.clock s.dom e
+      → Wakes u line s (happened (setting p o false) s e)
   unfolding happened paid delivered
   happened_wakes u line s (Jump t) fits h below waits = inl refl
   happened_wakes u line s (Deliver other) fits h below waits =
@@ -154,11 +163,15 @@ module _ (i : Image) (r : Separated i) where
   running_turn : (k n : ℕ) → HasTurn (local_in i k n).dom.threads
   running_turn k n = always_running i r (λ (o : Own) (x : Dom). HasTurn x.threads) first_turn (step_turn i.all.hardware) k n
 
-  pub wakes_in : (k n t line : ℕ) → t < 8 → waits_for line (thread_at (local_in i k n).dom.threads t).state ≡ true
+  pub wakes_in : (k n t line : ℕ) → t < 8
+      → waits_for line (thread_at (local_in i k n).dom.threads t).state ≡ true
       → (thread_at (local_in i k (suc n)).dom.threads t ≡ thread_at (local_in i k n).dom.threads t)
-      ⊎ (Delivers i k n line ⊎ (Signals (estate i.all.hardware (owner i k)) (local_in i k n).dom line ⊎ (is_running (local_in i k (suc n)).dom.status ≢ true)))
+      ⊎ (Delivers i k n line
+      ⊎ (Signals (estate i.all.hardware (owner i k)) (local_in i k n).dom line
+      ⊎ (is_running (local_in i k (suc n)).dom.status ≢ true)))
   wakes_in k n t line =
       let p = i.all.hardware in
       let end = slot_end i.all.schedule k in
-      one_more_by (setting p (owner i k) false) end (Wakes p (owner i k) t line) (λ s below. step_wakes p (owner i k) end t line s) (λ s over h below waits. inl refl) n
+      one_more_by (setting p (owner i k) false) end (Wakes p (owner i k) t line)
+      (λ s below. step_wakes p (owner i k) end t line s) (λ s over h below waits. inl refl) n
       (part_of 0 (entry_of_slot i.all.schedule k).domain (switch i k (whole i k))) (running_turn k n)

@@ -11,11 +11,13 @@ use Rattle.world_view.specs.Opening.{rights_in}
 
 -- ---- regions
 
-pub region_more : (ss : List Segment) (r : ℕ) → has_region ss r ≡ true → regions_below ss (suc r) ≡ regions_below ss r + 1
+pub region_more : (ss : List Segment) (r : ℕ) → has_region ss r ≡ true
+    → regions_below ss (suc r) ≡ regions_below ss r + 1
 unfolding regions_below
 region_more ss r e = rw e refl
 
-pub region_same : (ss : List Segment) (r : ℕ) → has_region ss r ≡ false → regions_below ss (suc r) ≡ regions_below ss r
+pub region_same : (ss : List Segment) (r : ℕ) → has_region ss r ≡ false
+    → regions_below ss (suc r) ≡ regions_below ss r
 unfolding regions_below
 region_same ss r e = rw e (omega arith)
 
@@ -42,13 +44,15 @@ regions_upto ss r q h =
     subst (λ (n : ℕ). regions_below ss r ≤ regions_below ss n) (omega arith) grow
 
 -- a region that has a page counts for those past it
-pub region_before : (ss : List Segment) (r q : ℕ) → has_region ss r ≡ true → r < q → regions_below ss r < regions_below ss q
+pub region_before : (ss : List Segment) (r q : ℕ) → has_region ss r ≡ true → r < q
+    → regions_below ss r < regions_below ss q
 region_before ss r q some h =
     let more = region_more ss r some in
     let upto = regions_upto ss (suc r) q (omega arith) in
     omega (arith, more, upto)
 
-pub region_once : (ss : List Segment) (r q : ℕ) → has_region ss r ≡ true → has_region ss q ≡ true → regions_below ss r ≡ regions_below ss q → r ≡ q
+pub region_once : (ss : List Segment) (r q : ℕ) → has_region ss r ≡ true → has_region ss q ≡ true
+    → regions_below ss r ≡ regions_below ss q → r ≡ q
 region_once ss r q some other e =
     elim (cases_lt r q) [
       | inl before ↦ let less = region_before ss r q some before in absurd (omega (arith, less, e))
@@ -82,7 +86,8 @@ or_few true b m n h = omega arith
 or_few false true m n h = omega arith
 or_few false false m n h = omega arith
 
-regions_split : (s : Segment) (ss : List Segment) (r : ℕ) → regions_below (s ∷ ss) r ≤ covers s r + regions_below ss r
+regions_split : (s : Segment) (ss : List Segment) (r : ℕ)
+    → regions_below (s ∷ ss) r ≤ covers s r + regions_below ss r
 unfolding regions_below has_region covers
 regions_split s ss zero = omega arith
 regions_split s ss (suc r) =
@@ -94,7 +99,8 @@ unfolding regions_below has_region
 regions_none zero = refl
 regions_none (suc r) = let rest = regions_none r in omega (arith, rest)
 
-pub regions_few : (ss : List Segment) (r : ℕ) → ((k : ℕ) → IsSegment (get_or ss k no_segment)) → regions_below ss r ≤ 2 * length ss
+pub regions_few : (ss : List Segment) (r : ℕ) → ((k : ℕ) → IsSegment (get_or ss k no_segment))
+    → regions_below ss r ≤ 2 * length ss
 regions_few [] r each = let none = regions_none r in omega (arith, none)
 regions_few (s ∷ ss) r each =
     let split = regions_split s ss r in
@@ -134,7 +140,8 @@ pages_grow [] n m h = omega arith
 pages_grow (s ∷ ss) n m h = let rest = pages_grow ss n m h in omega (arith, rest)
 
 -- a page counts for those past it
-page_before : (ss : List Segment) (n m : ℕ) → is_page ss n ≡ true → n < m → pages_below ss n < pages_below ss m
+page_before : (ss : List Segment) (n m : ℕ) → is_page ss n ≡ true → n < m
+    → pages_below ss n < pages_below ss m
 unfolding pages_below is_page
 page_before [] n m there h = absurd (true≢false (sym there))
 page_before (s ∷ ss) n m there h =
@@ -149,7 +156,8 @@ page_before (s ∷ ss) n m there h =
     ]
 
 -- each page has a frame of its own
-pub page_once : (ss : List Segment) (n m : ℕ) → is_page ss n ≡ true → is_page ss m ≡ true → pages_below ss n ≡ pages_below ss m → n ≡ m
+pub page_once : (ss : List Segment) (n m : ℕ) → is_page ss n ≡ true → is_page ss m ≡ true
+    → pages_below ss n ≡ pages_below ss m → n ≡ m
 page_once ss n m there other e =
     elim (cases_lt n m) [
       | inl before ↦ let less = page_before ss n m there before in absurd (omega (arith, less, e))
@@ -170,7 +178,8 @@ rights_there (s ∷ ss) n r e =
     ]
 
 -- and so is its region
-pub rights_region : (ss : List Segment) (n : ℕ) (r : ℕ) → rights_in ss n ≡ Some r → has_region ss (n / 1024) ≡ true
+pub rights_region : (ss : List Segment) (n : ℕ) (r : ℕ) → rights_in ss n ≡ Some r
+    → has_region ss (n / 1024) ≡ true
 unfolding rights_in has_region
 rights_region [] n r e = absurd (none-some r e)
 rights_region (s ∷ ss) n r e =
@@ -179,14 +188,19 @@ rights_region (s ∷ ss) n r e =
           let parts = and_parts _ _ here in
           let low = leb-true s.page n parts.0 in
           let high = ltb-true n (s.page + s.pages) parts.1 in
-          rw (lt-ltb s.page (1024 * (n / 1024) + 1024) (omega (arith, low)), lt-ltb (1024 * (n / 1024)) (s.page + s.pages) (omega (arith, high))) refl
+          rw (
+            lt-ltb s.page (1024 * (n / 1024) + 1024) (omega (arith, low)),
+            lt-ltb (1024 * (n / 1024))
+                (s.page + s.pages) (omega (arith, high)),
+          ) refl
       | inr elsewhere ↦ rw (rights_region ss n r (rw elsewhere at e)) (or-true (meets s (n / 1024)))
     ]
 
 -- ---- rights
 
 -- the rights of a page are good
-good_in : (ss : List Segment) (n r : ℕ) → ((k : ℕ) → IsSegment (get_or ss k no_segment)) → rights_in ss n ≡ Some r → are_good r ≡ true
+good_in : (ss : List Segment) (n r : ℕ) → ((k : ℕ) → IsSegment (get_or ss k no_segment))
+    → rights_in ss n ≡ Some r → are_good r ≡ true
 unfolding rights_in
 good_in [] n r each e = absurd (none-some r e)
 good_in (s ∷ ss) n r each e =

@@ -40,7 +40,8 @@ page_region : (va : ℕ) → va < 2 ^ 32 → va / 4096 / 1024 ≡ vpn_1 va
 unfolding vpn_1
 page_region va fits = omega (arith, fits)
 
-leaf_some : (p : Hardware) (o : Own) (n : ℕ) (r : ℕ) → rights_in o.segments n ≡ Some r → leaf_entry p o n ≡ leaf_word (page_frame p o n) r
+leaf_some : (p : Hardware) (o : Own) (n : ℕ) (r : ℕ) → rights_in o.segments n ≡ Some r
+    → leaf_entry p o n ≡ leaf_word (page_frame p o n) r
 unfolding leaf_entry leaf_with
 leaf_some p o n r e = rw e refl
 
@@ -52,11 +53,14 @@ root_none : (p : Hardware) (o : Own) (r : ℕ) → has_region o.segments r ≡ f
 unfolding root_entry
 root_none p o r e = rw e refl
 
-module _ (p : Hardware) (o : Own) (m : Mem) (sound : IsOwn o) (enough : frames_in o.segments ≤ length (pool p o)) (va : ℕ) (fits : va < 2 ^ 32) (a : Access) where
-  first_is : has_region o.segments (vpn_1 va) ≡ true → first_entry (placed p o m) (root_of p o) va ≡ table_word (table_frame p o (vpn_1 va))
+module _ (p : Hardware) (o : Own) (m : Mem) (sound : IsOwn o)
+    (enough : frames_in o.segments ≤ length (pool p o)) (va : ℕ) (fits : va < 2 ^ 32) (a : Access) where
+  first_is : has_region o.segments (vpn_1 va) ≡ true
+      → first_entry (placed p o m) (root_of p o) va ≡ table_word (table_frame p o (vpn_1 va))
   first_is some = root_words p o enough m (vpn_1 va) (vpn_1-below va) ∙ root_is p o enough (vpn_1 va) some
 
-  second_is : has_region o.segments (vpn_1 va) ≡ true → second_entry (placed p o m) (root_of p o) va ≡ leaf_entry p o (va / 4096)
+  second_is : has_region o.segments (vpn_1 va) ≡ true
+      → second_entry (placed p o m) (root_of p o) va ≡ leaf_entry p o (va / 4096)
   second_is some =
       ap (λ (e : ℕ). word (placed p o m) (ppn e) (vpn_0 va)) (first_is some)
       ∙ ap (λ (f : ℕ). word (placed p o m) f (vpn_0 va)) (ppn-table (table_frame p o (vpn_1 va)))
@@ -66,7 +70,8 @@ module _ (p : Hardware) (o : Own) (m : Mem) (sound : IsOwn o) (enough : frames_i
   points : has_region o.segments (vpn_1 va) ≡ true → Points (first_entry (placed p o m) (root_of p o) va)
   points some = subst Points (sym (first_is some)) (points-table (table_frame p o (vpn_1 va)))
 
-  in_table : has_region o.segments (vpn_1 va) ≡ true → ppn (first_entry (placed p o m) (root_of p o) va) < p.frames
+  in_table : has_region o.segments (vpn_1 va) ≡ true
+      → ppn (first_entry (placed p o m) (root_of p o) va) < p.frames
   in_table some =
       let table = ap ppn (first_is some) ∙ ppn-table (table_frame p o (vpn_1 va)) in
       subst (λ (f : ℕ). f < p.frames) (sym table) (own_inside p o _ (own_table p o enough (vpn_1 va) (vpn_1-below va) some))
@@ -74,8 +79,12 @@ module _ (p : Hardware) (o : Own) (m : Mem) (sound : IsOwn o) (enough : frames_i
   in_root : root_of p o < p.frames
   in_root = own_inside p o (root_of p o) (own_root p o enough)
 
-  ends : has_region o.segments (vpn_1 va) ≡ true → (walk (placed p o m) p.frames (root_of p o) va a).result ≡ last_level p.frames a (leaf_entry p o (va / 4096))
-  ends some = by_table (placed p o m) p.frames (root_of p o) va a in_root (points some) (in_table some) ∙ ap (last_level p.frames a) (second_is some)
+  ends : has_region o.segments (vpn_1 va) ≡ true
+      → (walk (placed p o m) p.frames (root_of p o) va a).result
+      ≡ last_level p.frames a (leaf_entry p o (va / 4096))
+  ends some =
+      by_table (placed p o m) p.frames (root_of p o) va a in_root (points some) (in_table some)
+      ∙ ap (last_level p.frames a) (second_is some)
 
   -- a page is in a region that has one
   region_of : (r : ℕ) → rights_in o.segments (va / 4096) ≡ Some r → has_region o.segments (vpn_1 va) ≡ true
@@ -97,16 +106,19 @@ module _ (p : Hardware) (o : Own) (m : Mem) (sound : IsOwn o) (enough : frames_i
         in_table = in_table some;
         allowed = subst (Allows a) (sym second) (allows-leaf (page_frame p o n) r a are_good given);
       } in
-      (leaf_in_words (placed p o m) p.frames (root_of p o) va a leaf).1 (small in_page (subst (λ (f : ℕ). f < p.frames) (sym named) own) (sym second))
+      (leaf_in_words (placed p o m) p.frames (root_of p o) va a leaf).1
+      (small in_page (subst (λ (f : ℕ). f < p.frames) (sym named) own) (sym second))
 
   placed_refused : (r : ℕ) → rights_in o.segments (va / 4096) ≡ Some r → rights_permit r a ≡ false
       → (walk (placed p o m) p.frames (root_of p o) va a).result ≡ Err fault.Page
   placed_refused r e refused =
       let n = va / 4096 in
       ends (region_of r e) ∙ ap (last_level p.frames a) (leaf_some p o n r e)
-      ∙ last_refused p.frames a (leaf_word (page_frame p o n) r) (refuses-leaf (page_frame p o n) r a (rights_are_good o n r sound e) refused)
+      ∙ last_refused p.frames a (leaf_word (page_frame p o n) r)
+      (refuses-leaf (page_frame p o n) r a (rights_are_good o n r sound e) refused)
 
-  placed_nowhere : rights_in o.segments (va / 4096) ≡ None → (walk (placed p o m) p.frames (root_of p o) va a).result ≡ Err fault.Page
+  placed_nowhere : rights_in o.segments (va / 4096) ≡ None
+      → (walk (placed p o m) p.frames (root_of p o) va a).result ≡ Err fault.Page
   placed_nowhere e =
       elim (cases_Bool (has_region o.segments (vpn_1 va))) [
         | inl some ↦ ends some ∙ last_invalid p.frames a (leaf_entry p o (va / 4096)) (ap valid (leaf_none p o (va / 4096) e) ∙ valid-zero)
@@ -124,25 +136,33 @@ module _ (i : Image) (r : Separated i) (d : ℕ) (is : IsDomain i d) (va : ℕ) 
   abbrev own : Own
   own = own_of i d
 
-  own_walk : opening_walk i d va a ≡ (walk (placed hardware own empty) hardware.frames (root_of hardware own) va a).result
+  own_walk : opening_walk i d va a
+      ≡ (walk (placed hardware own empty) hardware.frames (root_of hardware own) va a).result
   unfolding whole_by alone_opening estate
   own_walk =
       let dom = opening_dom hardware own in
       let m = placed hardware own empty in
-      ap (λ (w : Walk). w.result) (walk_alike hardware own (estate hardware own).root (IsPage hardware own dom m) m (walkable hardware own dom m (placed_facts hardware own (r.enough d is) (r.sound d) empty)) va a (opening i).storage.mem (λ f mine. sym (opening_frames i r d is f mine)))
+      ap (λ (w : Walk). w.result) (walk_alike hardware own (estate hardware own).root
+      (IsPage hardware own dom m) m
+      (walkable hardware own dom m (placed_facts hardware own (r.enough d is) (r.sound d) empty)) va a
+      (opening i).storage.mem (λ f mine. sym (opening_frames i r d is f mine)))
 
-  pub opened_page : (q : ℕ) → va < 2 ^ 32 → rights_in own.segments (va / 4096) ≡ Some q → rights_permit q a ≡ true
+  pub opened_page : (q : ℕ) → va < 2 ^ 32 → rights_in own.segments (va / 4096) ≡ Some q
+      → rights_permit q a ≡ true
       → opening_walk i d va a ≡ Ok (leaf_word (page_frame hardware own (va / 4096)) q)
   opened_page q fits e given = own_walk ∙ placed_page hardware own empty (r.sound d) (r.enough d is) va fits a q e given
 
-  pub opened_refused : (q : ℕ) → va < 2 ^ 32 → rights_in own.segments (va / 4096) ≡ Some q → rights_permit q a ≡ false → opening_walk i d va a ≡ Err fault.Page
+  pub opened_refused : (q : ℕ) → va < 2 ^ 32 → rights_in own.segments (va / 4096) ≡ Some q
+      → rights_permit q a ≡ false → opening_walk i d va a ≡ Err fault.Page
   opened_refused q fits e refused = own_walk ∙ placed_refused hardware own empty (r.sound d) (r.enough d is) va fits a q e refused
 
-  pub opened_nowhere : va < 2 ^ 32 → rights_in own.segments (va / 4096) ≡ None → opening_walk i d va a ≡ Err fault.Page
+  pub opened_nowhere : va < 2 ^ 32 → rights_in own.segments (va / 4096) ≡ None
+      → opening_walk i d va a ≡ Err fault.Page
   opened_nowhere fits e = own_walk ∙ placed_nowhere hardware own empty (r.sound d) (r.enough d is) va fits a e
 
 -- each page has a frame of its own
-pub pages_apart : (i : Image) (d n m : ℕ) (r q : ℕ) → Separated i → IsDomain i d → rights_in (own_of i d).segments n ≡ Some r → rights_in (own_of i d).segments m ≡ Some q
+pub pages_apart : (i : Image) (d n m : ℕ) (r q : ℕ) → Separated i → IsDomain i d
+    → rights_in (own_of i d).segments n ≡ Some r → rights_in (own_of i d).segments m ≡ Some q
     → page_frame i.all.hardware (own_of i d) n ≡ page_frame i.all.hardware (own_of i d) m → n ≡ m
 pages_apart i d n m r q sep is here there same =
     let o = own_of i d in

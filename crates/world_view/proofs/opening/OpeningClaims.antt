@@ -33,7 +33,8 @@ unfoldable pub Once : List ℕ → Type 0
 Once [] = ⊤
 Once (x ∷ xs) = (has xs x ≡ false) × Once xs
 
-pub once_at : (xs : List ℕ) (i j : ℕ) → Once xs → i < length xs → j < length xs → get_or xs i 0 ≡ get_or xs j 0 → i ≡ j
+pub once_at : (xs : List ℕ) (i j : ℕ) → Once xs → i < length xs → j < length xs
+    → get_or xs i 0 ≡ get_or xs j 0 → i ≡ j
 unfolding Once
 once_at [] i j h a b e = absurd (omega arith)
 once_at (x ∷ xs) zero zero h a b e = refl
@@ -73,7 +74,8 @@ once_filter p (x ∷ xs) h = by_case (p x) (once_filter p xs h.1)
     by_case true rest = (has_filter p xs x ∙ and_false (p x) (has xs x) h.0, rest)
     by_case false rest = rest
 
-once_append : (xs ys : List ℕ) → Once xs → Once ys → ((f : ℕ) → has xs f ≡ true → has ys f ≡ false) → Once (xs ++ ys)
+once_append : (xs ys : List ℕ) → Once xs → Once ys → ((f : ℕ) → has xs f ≡ true → has ys f ≡ false)
+    → Once (xs ++ ys)
 unfolding Once
 once_append [] ys h k apart = k
 once_append (x ∷ xs) ys h k apart = (
@@ -130,7 +132,8 @@ pages_have s n =
           elim (cases_Bool (has_page s n)) [
             | inl here ↦
                 let parts = and_parts _ _ here in
-                absurd (true≢false (sym (has_range s.page s.pages n (leb-true s.page n parts.0) (ltb-true n (s.page + s.pages) parts.1)) ∙ none))
+                absurd (true≢false (sym (has_range s.page s.pages n (leb-true s.page n parts.0)
+                (ltb-true n (s.page + s.pages) parts.1)) ∙ none))
             | inr out ↦ none ∙ sym out
           ]
     ]
@@ -146,7 +149,8 @@ unfolding page_numbers has_page_in
 numbers_have [] n = refl
 numbers_have (s ∷ ss) n =
     has_append (filter (λ m. not (has_page_in ss m)) (pages_of s)) (page_numbers ss) n
-    ∙ rw (has_filter (λ m. not (has_page_in ss m)) (pages_of s) n, pages_have s n, numbers_have ss n) (not_and_or (has_page s n) (has_page_in ss n))
+    ∙ rw (has_filter (λ m. not (has_page_in ss m)) (pages_of s) n, pages_have s n, numbers_have ss n)
+    (not_and_or (has_page s n) (has_page_in ss n))
 
 numbers_once : (ss : List Segment) → Once (page_numbers ss)
 unfolding page_numbers Once
@@ -154,7 +158,9 @@ numbers_once [] = tt
 numbers_once (s ∷ ss) =
     once_append (filter (λ m. not (has_page_in ss m)) (pages_of s)) (page_numbers ss)
     (once_filter (λ m. not (has_page_in ss m)) (pages_of s) (once_range s.page s.pages)) (numbers_once ss)
-    (λ f there. numbers_have ss f ∙ not_true (has_page_in ss f) ((and_parts _ _ (sym (has_filter (λ m. not (has_page_in ss m)) (pages_of s) f) ∙ there)).0))
+    (λ f there. numbers_have ss f
+    ∙ not_true (has_page_in ss f)
+    ((and_parts _ _ (sym (has_filter (λ m. not (has_page_in ss m)) (pages_of s) f) ∙ there)).0))
   where
     not_true : (b : Bool) → not b ≡ true → b ≡ false
     not_true true e = absurd (true≢false (sym e))
@@ -167,18 +173,22 @@ module _ (o : Own) where
 
   pub kept_have : (n : ℕ) → has (kept_pages o) n ≡ (stays o n && is_page o.segments n)
   unfolding kept_pages
-  kept_have n = has_filter (stays o) (page_numbers o.segments) n ∙ ap (λ b. stays o n && b) (numbers_have o.segments n ∙ sym (page_same o.segments n))
+  kept_have n =
+      has_filter (stays o) (page_numbers o.segments) n
+      ∙ ap (λ b. stays o n && b) (numbers_have o.segments n ∙ sym (page_same o.segments n))
 
   pub regions_once : Once (first_regions o)
   unfolding first_regions
   regions_once = once_filter (has_region o.segments) (range_with_len 0 1024) (once_range 0 1024)
 
-  pub regions_have : (r : ℕ) → has (first_regions o) r ≡ (has_region o.segments r && has (range_with_len 0 1024) r)
+  pub regions_have : (r : ℕ)
+      → has (first_regions o) r ≡ (has_region o.segments r && has (range_with_len 0 1024) r)
   unfolding first_regions
   regions_have r = has_filter (has_region o.segments) (range_with_len 0 1024) r
 
   -- the region that stands at a place of the list
-  pub region_at : (j : ℕ) → j < length (first_regions o) → (has_region o.segments (get_or (first_regions o) j 0) ≡ true) × (get_or (first_regions o) j 0 < 1024)
+  pub region_at : (j : ℕ) → j < length (first_regions o)
+      → (has_region o.segments (get_or (first_regions o) j 0) ≡ true) × (get_or (first_regions o) j 0 < 1024)
   region_at j below =
       let r = get_or (first_regions o) j 0 in
       let parts = and_parts _ _ (sym (regions_have r) ∙ has_at (first_regions o) j below) in
@@ -186,14 +196,19 @@ module _ (o : Own) where
       let high = range.1 in
       (parts.0, omega (arith, high))
 
-  pub region_place : (r : ℕ) → has_region o.segments r ≡ true → r < 1024 → (j : ℕ) × (j < length (first_regions o)) × (get_or (first_regions o) j 0 ≡ r)
-  region_place r some below = place_in (first_regions o) r (regions_have r ∙ rw (some, has_range 0 1024 r (omega arith) (omega (arith, below))) refl)
+  pub region_place : (r : ℕ) → has_region o.segments r ≡ true → r < 1024
+      → (j : ℕ) × (j < length (first_regions o)) × (get_or (first_regions o) j 0 ≡ r)
+  region_place r some below =
+      place_in (first_regions o) r
+      (regions_have r ∙ rw (some, has_range 0 1024 r (omega arith) (omega (arith, below))) refl)
 
   -- the page that stands at a place of the list
-  pub kept_at : (j : ℕ) → j < length (kept_pages o) → (stays o (get_or (kept_pages o) j 0) ≡ true) × (is_page o.segments (get_or (kept_pages o) j 0) ≡ true)
+  pub kept_at : (j : ℕ) → j < length (kept_pages o)
+      → (stays o (get_or (kept_pages o) j 0) ≡ true) × (is_page o.segments (get_or (kept_pages o) j 0) ≡ true)
   kept_at j below = and_parts _ _ (sym (kept_have (get_or (kept_pages o) j 0)) ∙ has_at (kept_pages o) j below)
 
-  pub kept_place : (n : ℕ) → stays o n ≡ true → is_page o.segments n ≡ true → (j : ℕ) × (j < length (kept_pages o)) × (get_or (kept_pages o) j 0 ≡ n)
+  pub kept_place : (n : ℕ) → stays o n ≡ true → is_page o.segments n ≡ true
+      → (j : ℕ) × (j < length (kept_pages o)) × (get_or (kept_pages o) j 0 ≡ n)
   kept_place n stay there = place_in (kept_pages o) n (kept_have n ∙ rw (stay, there) refl)
 
 -- ---- what is claimed for good
@@ -202,8 +217,10 @@ module _ (o : Own) where
 pub data Fix (p : Hardware) (o : Own) (n : ℕ) (c : Claim) : Type 0 where
   nothing : c ≡ Claim.Nothing → Fix p o n c
   fixed : n < 5 → c ≡ Claim.Fixed (pool_frame p o n) → Fix p o n c
-  table : (j : ℕ) → n ≡ 5 + j → j < length (first_regions o) → c ≡ table_claim p o (get_or (first_regions o) j 0) → Fix p o n c
-  page : (j : ℕ) → n ≡ 5 + length (first_regions o) + j → j < length (kept_pages o) → c ≡ page_claim p o (get_or (kept_pages o) j 0) → Fix p o n c
+  table : (j : ℕ) → n ≡ 5 + j → j < length (first_regions o)
+      → c ≡ table_claim p o (get_or (first_regions o) j 0) → Fix p o n c
+  page : (j : ℕ) → n ≡ 5 + length (first_regions o) + j → j < length (kept_pages o)
+      → c ≡ page_claim p o (get_or (kept_pages o) j 0) → Fix p o n c
 
 module _ (p : Hardware) (o : Own) (enough : frames_in o.segments ≤ length (pool p o)) where
   abbrev tables : List Claim
@@ -221,17 +238,22 @@ module _ (p : Hardware) (o : Own) (enough : frames_in o.segments ≤ length (poo
   fix_low : (n : ℕ) → n < 4 → get_or (fixed_claims p o) n Claim.Nothing ≡ Claim.Fixed (pool_frame p o n)
   unfolding fixed_claims colours.frame_at
   fix_low n below =
-      get_or_append_left (map Claim.Fixed (clone_frames p o)) (Claim.Fixed (root_of p o) ∷ (tables ++ kept)) Claim.Nothing n (omega (arith, below, fixed_long))
+      get_or_append_left (map Claim.Fixed (clone_frames p o)) (Claim.Fixed (root_of p o) ∷ (tables ++ kept))
+      Claim.Nothing n (omega (arith, below, fixed_long))
       ∙ get_or-map Claim.Fixed (clone_frames p o) n 0 Claim.Nothing (omega (arith, below, clone_long))
       ∙ ap Claim.Fixed (get_or-take 4 (pool p o) n 0 below)
 
-  fix_past : (n : ℕ) → get_or (fixed_claims p o) (4 + n) Claim.Nothing ≡ get_or (Claim.Fixed (root_of p o) ∷ (tables ++ kept)) n Claim.Nothing
+  fix_past : (n : ℕ)
+      → get_or (fixed_claims p o) (4 + n) Claim.Nothing
+      ≡ get_or (Claim.Fixed (root_of p o) ∷ (tables ++ kept)) n Claim.Nothing
   unfolding fixed_claims
   fix_past n =
-      ap (λ (l : ℕ). get_or (map Claim.Fixed (clone_frames p o) ++ (Claim.Fixed (root_of p o) ∷ (tables ++ kept))) (l + n) Claim.Nothing) (sym fixed_long)
+      ap (λ (l : ℕ). get_or (map Claim.Fixed (clone_frames p o)
+      ++ (Claim.Fixed (root_of p o) ∷ (tables ++ kept))) (l + n) Claim.Nothing) (sym fixed_long)
       ∙ get_or-append-add (map Claim.Fixed (clone_frames p o)) (Claim.Fixed (root_of p o) ∷ (tables ++ kept)) n Claim.Nothing
 
-  fix_rest : (n : ℕ) → get_or (fixed_claims p o) (5 + n) Claim.Nothing ≡ get_or (tables ++ kept) n Claim.Nothing
+  fix_rest : (n : ℕ)
+      → get_or (fixed_claims p o) (5 + n) Claim.Nothing ≡ get_or (tables ++ kept) n Claim.Nothing
   fix_rest n = ap (λ (m : ℕ). get_or (fixed_claims p o) m Claim.Nothing) (let e : 5 + n ≡ 4 + suc n = omega arith in e) ∙ fix_past (suc n)
 
   pub fix_frame : (n : ℕ) → n < 5 → get_or (fixed_claims p o) n Claim.Nothing ≡ Claim.Fixed (pool_frame p o n)
@@ -240,22 +262,35 @@ module _ (p : Hardware) (o : Own) (enough : frames_in o.segments ≤ length (poo
         | inl low ↦ fix_low n low
         | inr last ↦
             let e : n ≡ 4 = omega arith in
-            ap (λ (m : ℕ). get_or (fixed_claims p o) m Claim.Nothing) (let f : n ≡ 4 + 0 = omega (arith, e) in f) ∙ fix_past 0 ∙ ap (λ (m : ℕ). Claim.Fixed (pool_frame p o m)) (sym e)
+            ap (λ (m : ℕ). get_or (fixed_claims p o) m Claim.Nothing)
+            (let f : n ≡ 4 + 0 = omega (arith, e) in f) ∙ fix_past 0
+            ∙ ap (λ (m : ℕ). Claim.Fixed (pool_frame p o m)) (sym e)
       ]
 
-  pub fix_table : (j : ℕ) → j < length (first_regions o) → get_or (fixed_claims p o) (5 + j) Claim.Nothing ≡ table_claim p o (get_or (first_regions o) j 0)
+  pub fix_table : (j : ℕ) → j < length (first_regions o)
+      → get_or (fixed_claims p o) (5 + j) Claim.Nothing ≡ table_claim p o (get_or (first_regions o) j 0)
   fix_table j below =
       fix_rest j
-      ∙ get_or_append_left tables kept Claim.Nothing j (let long = length-map (first_regions o) (table_claim p o) in omega (arith, below, long))
+      ∙ get_or_append_left tables kept Claim.Nothing j
+      (let long = length-map (first_regions o) (table_claim p o) in omega (arith, below, long))
       ∙ get_or-map (table_claim p o) (first_regions o) j 0 Claim.Nothing below
 
-  pub fix_page : (j : ℕ) → j < length (kept_pages o) → get_or (fixed_claims p o) (5 + length (first_regions o) + j) Claim.Nothing ≡ page_claim p o (get_or (kept_pages o) j 0)
+  pub fix_page : (j : ℕ) → j < length (kept_pages o)
+      → get_or (fixed_claims p o) (5 + length (first_regions o) + j) Claim.Nothing
+      ≡ page_claim p o (get_or (kept_pages o) j 0)
   fix_page j below =
-      ap (λ (m : ℕ). get_or (fixed_claims p o) m Claim.Nothing) (let long = length-map (first_regions o) (table_claim p o) in let e : 5 + length (first_regions o) + j ≡ 5 + (length tables + j) = omega (arith, long) in e)
+      ap (λ (m : ℕ). get_or (fixed_claims p o) m Claim.Nothing) (let long =
+      length-map (first_regions o)
+      (table_claim p o) in
+      let e : 5 + length (first_regions o) + j
+      ≡ 5 + (length tables + j) =
+      omega (arith, long) in
+      e)
       ∙ fix_rest (length tables + j) ∙ get_or-append-add tables kept j Claim.Nothing
       ∙ get_or-map (page_claim p o) (kept_pages o) j 0 Claim.Nothing below
 
-  fix_none : (n : ℕ) → 5 + length (first_regions o) + length (kept_pages o) ≤ n → get_or (fixed_claims p o) n Claim.Nothing ≡ Claim.Nothing
+  fix_none : (n : ℕ) → 5 + length (first_regions o) + length (kept_pages o) ≤ n
+      → get_or (fixed_claims p o) n Claim.Nothing ≡ Claim.Nothing
   fix_none n past =
       let e : n ≡ 5 + (n - 5) = omega (arith, past) in
       let some = length-map (first_regions o) (table_claim p o) in
@@ -271,12 +306,16 @@ module _ (p : Hardware) (o : Own) (enough : frames_in o.segments ≤ length (poo
         | inr above ↦ elim (cases_lt n (5 + length (first_regions o))) [
           | inl in_tables ↦
               let e : n ≡ 5 + (n - 5) = omega (arith, above) in
-              table (n - 5) e (omega (arith, above, in_tables)) (ap (λ (m : ℕ). get_or (fixed_claims p o) m Claim.Nothing) e ∙ fix_table (n - 5) (omega (arith, above, in_tables)))
+              table (n - 5) e (omega (arith, above, in_tables))
+              (ap (λ (m : ℕ). get_or (fixed_claims p o) m Claim.Nothing) e
+              ∙ fix_table (n - 5) (omega (arith, above, in_tables)))
           | inr past ↦ elim (cases_lt n (5 + length (first_regions o) + length (kept_pages o))) [
             | inl in_pages ↦
                 let j = n - (5 + length (first_regions o)) in
                 let e : n ≡ 5 + length (first_regions o) + j = omega (arith, past) in
-                page j e (omega (arith, past, in_pages)) (ap (λ (m : ℕ). get_or (fixed_claims p o) m Claim.Nothing) e ∙ fix_page j (omega (arith, past, in_pages)))
+                page j e (omega (arith, past, in_pages))
+                (ap (λ (m : ℕ). get_or (fixed_claims p o) m Claim.Nothing) e
+                ∙ fix_page j (omega (arith, past, in_pages)))
             | inr beyond ↦ nothing (fix_none n beyond)
           ]
         ]
@@ -287,14 +326,16 @@ module _ (p : Hardware) (o : Own) (enough : frames_in o.segments ≤ length (poo
 -- claim i is that of a page: a capability's that names it, or that of the page for good
 pub data Holds (o : Own) (i n : ℕ) : Type 0 where
   by_cap : i < 64 → cap_at o i ≡ initial.Page n → Holds o i n
-  for_good : (j : ℕ) → i ≡ 69 + length (first_regions o) + j → j < length (kept_pages o) → n ≡ get_or (kept_pages o) j 0 → Holds o i n
+  for_good : (j : ℕ) → i ≡ 69 + length (first_regions o) + j → j < length (kept_pages o)
+      → n ≡ get_or (kept_pages o) j 0 → Holds o i n
 
 names_it : (n : ℕ) (x : InitialCap) → names_page n x ≡ true → x ≡ initial.Page n
 names_it n initial.None e = absurd (cc e)
 names_it n (initial.Page m) e = ap initial.Page (eqb-true m n e)
 names_it n (initial.Irq line) e = absurd (cc e)
 
-namer : (n : ℕ) (xs : List InitialCap) → list_any (names_page n) xs ≡ true → (i : ℕ) × (get_or xs i initial.None ≡ initial.Page n)
+namer : (n : ℕ) (xs : List InitialCap) → list_any (names_page n) xs ≡ true
+    → (i : ℕ) × (get_or xs i initial.None ≡ initial.Page n)
 namer n [] e = absurd (true≢false (sym e))
 namer n (x ∷ xs) e =
     elim (cases_Bool (names_page n x)) [
@@ -338,8 +379,10 @@ module _ (o : Own) (sound : IsOwn o) where
 pub data Case (p : Hardware) (o : Own) (i : ℕ) (c : Claim) : Type 0 where
   nothing : c ≡ Claim.Nothing → Case p o i c
   fixed : (n : ℕ) → i ≡ 64 + n → n < 5 → c ≡ Claim.Fixed (pool_frame p o n) → Case p o i c
-  table : (j : ℕ) → i ≡ 69 + j → j < length (first_regions o) → c ≡ table_claim p o (get_or (first_regions o) j 0) → Case p o i c
-  page : (n : ℕ) (b : Bool) → Holds o i n → is_page o.segments n ≡ true → c ≡ Claim.Leaf b (page_frame p o n) (entry_places (Some (n * 4096))) → Case p o i c
+  table : (j : ℕ) → i ≡ 69 + j → j < length (first_regions o)
+      → c ≡ table_claim p o (get_or (first_regions o) j 0) → Case p o i c
+  page : (n : ℕ) (b : Bool) → Holds o i n → is_page o.segments n ≡ true
+      → c ≡ Claim.Leaf b (page_frame p o n) (entry_places (Some (n * 4096))) → Case p o i c
 
 -- the place in the pool of a claim's frame
 pub place : {p : Hardware} {o : Own} {i : ℕ} {c : Claim} → Case p o i c → ℕ
@@ -390,7 +433,8 @@ module _ (p : Hardware) (o : Own) (enough : frames_in o.segments ≤ length (poo
       ]
 
   -- the frame of a claim stands at its place
-  pub stands : (i : ℕ) (c : Claim) (f : ℕ) (x : Case p o i c) → frame_of c ≡ Some f → (place x < length (pool p o)) × (pool_frame p o (place x) ≡ f)
+  pub stands : (i : ℕ) (c : Claim) (f : ℕ) (x : Case p o i c) → frame_of c ≡ Some f
+      → (place x < length (pool p o)) × (pool_frame p o (place x) ≡ f)
   unfolding place frame_of
   stands i c f (nothing e) h = absurd (none-some f (sym (ap frame_of e) ∙ h))
   stands i c f (fixed n a b e) h = (omega (arith, b, enough), same_Some _ f (sym (ap frame_of e) ∙ h))
@@ -400,7 +444,8 @@ module _ (p : Hardware) (o : Own) (enough : frames_in o.segments ≤ length (poo
   stands i c f (page n b d there e) h = (page_place p o enough n there, same_Some _ f (sym (ap frame_of e) ∙ h))
 
   -- no two claims have one place
-  same_claim : (i j : ℕ) (c d : Claim) (f g : ℕ) (x : Case p o i c) (y : Case p o j d) → frame_of c ≡ Some f → frame_of d ≡ Some g → place x ≡ place y → i ≡ j
+  same_claim : (i j : ℕ) (c d : Claim) (f g : ℕ) (x : Case p o i c) (y : Case p o j d) → frame_of c ≡ Some f
+      → frame_of d ≡ Some g → place x ≡ place y → i ≡ j
   unfolding place frame_of
   same_claim i j c d f g (nothing e) y h l s = absurd (none-some f (sym (ap frame_of e) ∙ h))
   same_claim i j c d f g (fixed n a b e) (nothing q) h l s = absurd (none-some g (sym (ap frame_of q) ∙ l))
@@ -440,19 +485,25 @@ module _ (p : Hardware) (o : Own) (enough : frames_in o.segments ≤ length (poo
   root_slot = k_fixed 4 ∙ fix_frame p o enough 4 (omega arith)
 
   -- each region that has a page has its table's claim
-  pub table_slot : (r : ℕ) → has_region o.segments r ≡ true → r < 1024 → (i : ℕ) × (k i ≡ Claim.Directory (table_frame p o r) (Some r))
+  pub table_slot : (r : ℕ) → has_region o.segments r ≡ true → r < 1024
+      → (i : ℕ) × (k i ≡ Claim.Directory (table_frame p o r) (Some r))
   table_slot r some below =
       let at = region_place o r some below in
       (64 + (5 + at.0), k_fixed (5 + at.0) ∙ fix_table p o enough at.0 at.1 ∙ ap (table_claim p o) at.2)
 
   -- and each page its own
-  pub page_slot : (n : ℕ) → is_page o.segments n ≡ true → (i : ℕ) × (b : Bool) × (k i ≡ Claim.Leaf b (page_frame p o n) (entry_places (Some (n * 4096))))
+  pub page_slot : (n : ℕ) → is_page o.segments n ≡ true
+      → (i : ℕ) × (b : Bool) × (k i ≡ Claim.Leaf b (page_frame p o n) (entry_places (Some (n * 4096))))
   unfolding claim_of first_cap
   page_slot n there =
       elim (cases_Bool (stays o n)) [
         | inl stay ↦
-            let at = kept_place o n stay there in
-            (64 + (5 + length (first_regions o) + at.0), false, k_fixed (5 + length (first_regions o) + at.0) ∙ fix_page p o enough at.0 at.1 ∙ ap (page_claim p o) at.2)
+            let at = kept_place o n stay there in (
+              64 + (5 + length (first_regions o) + at.0),
+              false,
+              k_fixed (5 + length (first_regions o) + at.0)
+                  ∙ fix_page p o enough at.0 at.1 ∙ ap (page_claim p o) at.2,
+            )
         | inr goes ↦
             let by = namer n o.caps (not_false (list_any (names_page n) o.caps) goes) in
             (by.0, true, k_slot by.0 (cap_low o sound by.0 n by.1) ∙ ap (λ (c : InitialCap). claim_of (first_cap p o c)) by.1)

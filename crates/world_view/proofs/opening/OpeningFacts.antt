@@ -33,7 +33,8 @@ use Rattle.world_view.proofs.opening.OpeningClaims.{Fix, fix, fix_table, region_
 -- ---- pages
 
 -- a page of a segment is below the last of the address space, and has rights
-pub page_small : (ss : List Segment) (n : ℕ) → ((k : ℕ) → IsSegment (get_or ss k no_segment)) → is_page ss n ≡ true → n < 2 ^ 20
+pub page_small : (ss : List Segment) (n : ℕ) → ((k : ℕ) → IsSegment (get_or ss k no_segment))
+    → is_page ss n ≡ true → n < 2 ^ 20
 unfolding is_page
 page_small [] n each there = absurd (true≢false (sym there))
 page_small (s ∷ ss) n each there =
@@ -62,12 +63,14 @@ page_at n small =
     let second : n * 4096 / 2 ^ 12 % 2 ^ 10 ≡ n % 1024 = omega (arith, small) in
     rw (first, second) refl
 
-leaf_is : (p : Hardware) (o : Own) (n : ℕ) (r : ℕ) → rights_in o.segments n ≡ Some r → leaf_entry p o n ≡ leaf_word (page_frame p o n) r
+leaf_is : (p : Hardware) (o : Own) (n : ℕ) (r : ℕ) → rights_in o.segments n ≡ Some r
+    → leaf_entry p o n ≡ leaf_word (page_frame p o n) r
 unfolding leaf_entry leaf_with
 leaf_is p o n r e = rw e refl
 
 -- a valid entry for a page is that of one that is there
-leaf_there : (p : Hardware) (o : Own) (n : ℕ) (v : Option ℕ) → rights_in o.segments n ≡ v → valid (leaf_with p o n v) ≡ true → (r : ℕ) × (rights_in o.segments n ≡ Some r)
+leaf_there : (p : Hardware) (o : Own) (n : ℕ) (v : Option ℕ) → rights_in o.segments n ≡ v
+    → valid (leaf_with p o n v) ≡ true → (r : ℕ) × (rights_in o.segments n ≡ Some r)
 unfolding leaf_with
 leaf_there p o n None e is_valid = absurd (true≢false (sym is_valid ∙ valid-zero))
 leaf_there p o n (Some r) e is_valid = (r, e)
@@ -100,8 +103,12 @@ module _ (p : Hardware) (o : Own) (enough : frames_in o.segments ≤ length (poo
       let there = (kept_at o j below).1 in
       let same = same_Some _ _ (sym (page_at m (page_small o.segments m sound.segments there)) ∙ sym (ap leaf_at e) ∙ ap leaf_at is) in
       let region : m / 1024 ≡ r = ap (λ (w : ℕ × ℕ). w.0) same in
-      let at = region_place o (m / 1024) (page_region m there) (region_low m there) in
-      (5 + at.0, table_frame p o (m / 1024), fix_table p o enough at.0 at.1 ∙ ap (table_claim p o) at.2 ∙ ap (λ (q : ℕ). Claim.Directory (table_frame p o (m / 1024)) (Some q)) region)
+      let at = region_place o (m / 1024) (page_region m there) (region_low m there) in (
+        5 + at.0,
+        table_frame p o (m / 1024),
+        fix_table p o enough at.0 at.1 ∙ ap (table_claim p o) at.2
+            ∙ ap (λ (q : ℕ). Claim.Directory (table_frame p o (m / 1024)) (Some q)) region,
+      )
 
   is_estate : IsEstate (estate p o)
   unfolding estate
@@ -169,7 +176,9 @@ module _ (p : Hardware) (o : Own) (enough : frames_in o.segments ≤ length (poo
   page_of i r t c (Case.fixed n a b e) is = absurd (none-some _ (sym (ap leaf_at e) ∙ is))
   page_of i r t c (Case.table j a b e) is = absurd (none-some _ (sym (ap leaf_at e) ∙ is))
   page_of i r t c (Case.page n b h there e) is =
-      let same : (n / 1024, n % 1024) ≡ (r, t) = same_Some _ _ (sym (page_at n (page_small o.segments n sound.segments there)) ∙ sym (ap leaf_at e) ∙ is) in
+      let same : (n / 1024, n % 1024) ≡ (r, t) =
+      same_Some _ _
+      (sym (page_at n (page_small o.segments n sound.segments there)) ∙ sym (ap leaf_at e) ∙ is) in
       record {
         number = n;
         there = there;
@@ -180,13 +189,15 @@ module _ (p : Hardware) (o : Own) (enough : frames_in o.segments ≤ length (poo
       }
 
   module _ (m : Mem) where
-    pub root_entry_is : (r : ℕ) → has_region o.segments r ≡ true → r < 1024 → word (placed p o m) (root_of p o) r ≡ table_word (table_frame p o r)
+    pub root_entry_is : (r : ℕ) → has_region o.segments r ≡ true → r < 1024
+        → word (placed p o m) (root_of p o) r ≡ table_word (table_frame p o r)
     root_entry_is r some low = root_words p o enough m r low ∙ root_is p o enough r some
 
     no_entry : (w : ℕ) → w ≡ 0 → valid w ≡ true → ⊥
     no_entry w e is_valid = true≢false (sym is_valid ∙ ap valid e ∙ valid-zero)
 
-    in_root : (r : ℕ) → valid (word (placed p o m) (root_of p o) r) ≡ true → IsTable k (word (placed p o m) (root_of p o) r) r
+    in_root : (r : ℕ) → valid (word (placed p o m) (root_of p o) r) ≡ true
+        → IsTable k (word (placed p o m) (root_of p o) r) r
     unfolding word
     in_root r is_valid =
         elim (cases_lt r 1024) [
@@ -194,17 +205,22 @@ module _ (p : Hardware) (o : Own) (enough : frames_in o.segments ≤ length (poo
               let some = root_some p o enough r (ap valid (sym (root_words p o enough m r low)) ∙ is_valid) in
               let slot = table_slot p o enough sound r some low in
               record { slot = slot.0; frame = table_frame p o r; claim = slot.1; entry_is = root_entry_is r some low }
-          | inr past ↦ absurd (no_entry _ (ap (λ (x : Frame). at 0 x r) (root_whole p o enough m) ∙ at-tabled_past (root_entry p o) 1024 r past) is_valid)
+          | inr past ↦ absurd
+              (no_entry _
+              (ap (λ (x : Frame). at 0 x r) (root_whole p o enough m)
+              ∙ at-tabled_past (root_entry p o) 1024 r past) is_valid)
         ]
 
     -- the entry of a page in the table of its region
-    pub page_entry : (n : ℕ) (r : ℕ) → rights_in o.segments n ≡ Some r → word (placed p o m) (table_frame p o (n / 1024)) (n % 1024) ≡ leaf_word (page_frame p o n) r
+    pub page_entry : (n : ℕ) (r : ℕ) → rights_in o.segments n ≡ Some r
+        → word (placed p o m) (table_frame p o (n / 1024)) (n % 1024) ≡ leaf_word (page_frame p o n) r
     page_entry n r e =
         let there = rights_there o.segments n r e in
         table_words p o enough m (n / 1024) (n % 1024) (region_low n there) (omega arith) (page_region n there)
         ∙ ap (leaf_entry p o) (let whole : 1024 * (n / 1024) + n % 1024 ≡ n = omega arith in whole) ∙ leaf_is p o n r e
 
-    page_mapped : (n : ℕ) → is_page o.segments n ≡ true → IsMapped k (placed p o m) (page_frame p o n) (n / 1024) (n % 1024)
+    page_mapped : (n : ℕ) → is_page o.segments n ≡ true
+        → IsMapped k (placed p o m) (page_frame p o n) (n / 1024) (n % 1024)
     page_mapped n there =
         let has = page_rights o.segments n there in
         let slot = table_slot p o enough sound (n / 1024) (page_region n there) (region_low n there) in
@@ -217,13 +233,15 @@ module _ (p : Hardware) (o : Own) (enough : frames_in o.segments ≤ length (poo
           entry_is = page_entry n has.0 has.1;
         }
 
-    leaf_at_page : (n r t : ℕ) → n / 1024 ≡ r → n % 1024 ≡ t → (w : ℕ) → w ≡ leaf_entry p o n → valid w ≡ true → IsLeaf k w r t
+    leaf_at_page : (n r t : ℕ) → n / 1024 ≡ r → n % 1024 ≡ t → (w : ℕ) → w ≡ leaf_entry p o n → valid w ≡ true
+        → IsLeaf k w r t
     unfolding leaf_entry
     leaf_at_page n r t region index w e is_valid =
         let has = leaf_there p o n (rights_in o.segments n) refl (ap valid (sym e) ∙ is_valid) in
         let there = rights_there o.segments n has.0 has.1 in
         let slot = page_slot p o enough sound n there in
-        let place : entry_places (Some (n * 4096)) ≡ Some (r, t) = page_at n (page_small o.segments n sound.segments there) ∙ rw (region, index) refl in
+        let place : entry_places (Some (n * 4096)) ≡ Some (r, t) =
+        page_at n (page_small o.segments n sound.segments there) ∙ rw (region, index) refl in
         record {
           slot = slot.0;
           by_cap = slot.1;
@@ -234,14 +252,19 @@ module _ (p : Hardware) (o : Own) (enough : frames_in o.segments ≤ length (poo
           entry_is = e ∙ leaf_is p o n has.0 has.1;
         }
 
-    in_table : (r t : ℕ) → has_region o.segments r ≡ true → r < 1024 → valid (word (placed p o m) (table_frame p o r) t) ≡ true → IsLeaf k (word (placed p o m) (table_frame p o r) t) r t
+    in_table : (r t : ℕ) → has_region o.segments r ≡ true → r < 1024
+        → valid (word (placed p o m) (table_frame p o r) t) ≡ true
+        → IsLeaf k (word (placed p o m) (table_frame p o r) t) r t
     unfolding word
     in_table r t some low is_valid =
         elim (cases_lt t 1024) [
           | inl below ↦
-              leaf_at_page (1024 * r + t) r t (omega (arith, below)) (omega (arith, below)) _ (table_words p o enough m r t low below some) is_valid
+              leaf_at_page (1024 * r + t) r t (omega (arith, below)) (omega (arith, below)) _
+              (table_words p o enough m r t low below some) is_valid
           | inr past ↦
-              absurd (no_entry _ (ap (λ (x : Frame). at 0 x t) (table_whole p o enough m r low some) ∙ at-tabled_past (λ i. leaf_entry p o (1024 * r + i)) 1024 t past) is_valid)
+              absurd (no_entry _
+              (ap (λ (x : Frame). at 0 x t) (table_whole p o enough m r low some)
+              ∙ at-tabled_past (λ i. leaf_entry p o (1024 * r + i)) 1024 t past) is_valid)
         ]
 
     own_claim : (i f : ℕ) → frame_of (k i) ≡ Some f → own_frame p o f ≡ true
@@ -269,16 +292,20 @@ module _ (p : Hardware) (o : Own) (enough : frames_in o.segments ≤ length (poo
           let x = table_of i f (k i) (Some r) (case p o enough sound i) e in
           let region = same_Some x.region r x.installed in
           subst (λ (g : ℕ). valid (word (placed p o m) g t) ≡ true → IsLeaf k (word (placed p o m) g t) r t) x.frame
-          (subst (λ (q : ℕ). valid (word (placed p o m) (table_frame p o x.region) t) ≡ true → IsLeaf k (word (placed p o m) (table_frame p o x.region) t) q t) region (in_table x.region t x.some x.low));
+          (subst (λ (q : ℕ). valid (word (placed p o m) (table_frame p o x.region) t) ≡ true
+          → IsLeaf k (word (placed p o m) (table_frame p o x.region) t) q t) region
+          (in_table x.region t x.some x.low));
       installed = λ i f r e.
           let x = table_of i f (k i) (Some r) (case p o enough sound i) e in
-          ap (word (placed p o m) (root_of p o)) (sym (same_Some x.region r x.installed)) ∙ root_entry_is x.region x.some x.low ∙ ap table_word x.frame;
+          ap (word (placed p o m) (root_of p o)) (sym (same_Some x.region r x.installed))
+          ∙ root_entry_is x.region x.some x.low ∙ ap table_word x.frame;
       mapped = λ i b g r t e.
           let x = page_of i r t (k i) (case p o enough sound i) (ap leaf_at e) in
           let frame : page_frame p o x.number ≡ g = same_Some _ _ (sym x.frame ∙ ap frame_of e) in
           subst (λ (f : ℕ). IsMapped k (placed p o m) f r t) frame
           (subst (λ (q : ℕ). IsMapped k (placed p o m) (page_frame p o x.number) q t) x.region
-          (subst (λ (u : ℕ). IsMapped k (placed p o m) (page_frame p o x.number) (x.number / 1024) u) x.index (page_mapped x.number x.there)));
+          (subst (λ (u : ℕ). IsMapped k (placed p o m) (page_frame p o x.number) (x.number / 1024) u)
+          x.index (page_mapped x.number x.there)));
       blank = λ i f e t. let x = table_of i f (k i) None (case p o enough sound i) e in absurd (none-some x.region (sym x.installed));
     }
 
@@ -289,7 +316,8 @@ module _ (p : Hardware) (o : Own) (enough : frames_in o.segments ≤ length (poo
 -- ---- all domains
 
 module _ (i : Image) (r : Separated i) where
-  pub opening_facts : (d : ℕ) → IsDomain i d → HasFacts i.all.hardware (own_of i d) (opening_dom i.all.hardware (own_of i d)) (opening i).storage
+  pub opening_facts : (d : ℕ) → IsDomain i d
+      → HasFacts i.all.hardware (own_of i d) (opening_dom i.all.hardware (own_of i d)) (opening i).storage
   unfolding estate alone_opening
   opening_facts d is =
       let p = i.all.hardware in
@@ -297,7 +325,9 @@ module _ (i : Image) (r : Separated i) where
       let kept = placed_facts p o (r.enough d is) (r.sound d) empty in
       record {
         slots = kept.slots;
-        facts = facts_same (root_of p o) (own_frame p o) (claims (estate p o) (opening_dom p o).caps) (placed p o empty) (opening i).storage.mem kept.facts (opening_frames i r d is);
+        facts =
+            facts_same (root_of p o) (own_frame p o) (claims (estate p o) (opening_dom p o).caps)
+            (placed p o empty) (opening i).storage.mem kept.facts (opening_frames i r d is);
       }
 
 pub kernel_of : (i : Image) → Separated i → (d : ℕ) → IsDomain i d → IsKernel i.all.hardware (own_of i d)

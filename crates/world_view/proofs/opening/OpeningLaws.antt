@@ -64,7 +64,8 @@ unfolding word frame_at
 word-put_other m f g i x other = ap (λ (y : Frame). at 0 y i) (at-put_other empty m f g x other)
 
 -- equal frames stay equal
-put_alike : (m k : Mem) (g : ℕ) (x : Frame) (f : ℕ) → frame_at m f ≡ frame_at k f → frame_at (put m g x) f ≡ frame_at (put k g x) f
+put_alike : (m k : Mem) (g : ℕ) (x : Frame) (f : ℕ) → frame_at m f ≡ frame_at k f
+    → frame_at (put m g x) f ≡ frame_at (put k g x) f
 put_alike m k g x f same =
     elim (cases_eq f g) [
       | inl here ↦ put_frame_same m f g x (sym here) ∙ sym (put_frame_same k f g x (sym here))
@@ -74,7 +75,8 @@ put_alike m k g x f same =
 -- ---- what is placed
 
 module _ (p : Hardware) (o : Own) (f : ℕ) where
-  tables_alike : (r : ℕ) (m k : Mem) → frame_at m f ≡ frame_at k f → frame_at (tables_placed p o r m) f ≡ frame_at (tables_placed p o r k) f
+  tables_alike : (r : ℕ) (m k : Mem) → frame_at m f ≡ frame_at k f
+      → frame_at (tables_placed p o r m) f ≡ frame_at (tables_placed p o r k) f
   unfolding tables_placed table_placed
   tables_alike zero m k same = same
   tables_alike (suc r) m k same =
@@ -83,44 +85,57 @@ module _ (p : Hardware) (o : Own) (f : ℕ) where
         | inr none ↦ rw none (tables_alike r m k same)
       ]
 
-  pages_alike : (n many : ℕ) (bytes : List ℕ) (m k : Mem) → frame_at m f ≡ frame_at k f → frame_at (pages_placed p o n many bytes m) f ≡ frame_at (pages_placed p o n many bytes k) f
+  pages_alike : (n many : ℕ) (bytes : List ℕ) (m k : Mem) → frame_at m f ≡ frame_at k f
+      → frame_at (pages_placed p o n many bytes m) f ≡ frame_at (pages_placed p o n many bytes k) f
   unfolding pages_placed
   pages_alike n zero bytes m k same = same
   pages_alike n (suc many) bytes m k same =
       let x = page_words (take 4096 bytes) in
-      pages_alike (suc n) many (drop 4096 bytes) (put m (page_frame p o n) x) (put k (page_frame p o n) x) (put_alike m k (page_frame p o n) x f same)
+      pages_alike (suc n) many (drop 4096 bytes) (put m (page_frame p o n) x) (put k (page_frame p o n) x)
+      (put_alike m k (page_frame p o n) x f same)
 
-  segments_alike : (ss : List Segment) (m k : Mem) → frame_at m f ≡ frame_at k f → frame_at (segments_placed p o ss m) f ≡ frame_at (segments_placed p o ss k) f
+  segments_alike : (ss : List Segment) (m k : Mem) → frame_at m f ≡ frame_at k f
+      → frame_at (segments_placed p o ss m) f ≡ frame_at (segments_placed p o ss k) f
   unfolding segments_placed
   segments_alike [] m k same = same
   segments_alike (s ∷ ss) m k same =
-      segments_alike ss (pages_placed p o s.page s.pages s.bytes m) (pages_placed p o s.page s.pages s.bytes k) (pages_alike s.page s.pages s.bytes m k same)
+      segments_alike ss (pages_placed p o s.page s.pages s.bytes m)
+      (pages_placed p o s.page s.pages s.bytes k) (pages_alike s.page s.pages s.bytes m k same)
 
-  pub placed_alike : (m k : Mem) → frame_at m f ≡ frame_at k f → frame_at (placed p o m) f ≡ frame_at (placed p o k) f
+  pub placed_alike : (m k : Mem) → frame_at m f ≡ frame_at k f
+      → frame_at (placed p o m) f ≡ frame_at (placed p o k) f
   unfolding placed root_placed
   placed_alike m k same =
       segments_alike o.segments _ _ (tables_alike 1024 _ _ (put_alike m k (root_of p o) _ f same))
 
   -- tables leave each frame that holds none
-  tables_other : (r : ℕ) (m : Mem) → r ≤ 1024 → ((q : ℕ) → q < 1024 → has_region o.segments q ≡ true → f ≢ table_frame p o q) → frame_at (tables_placed p o r m) f ≡ frame_at m f
+  tables_other : (r : ℕ) (m : Mem) → r ≤ 1024
+      → ((q : ℕ) → q < 1024 → has_region o.segments q ≡ true → f ≢ table_frame p o q)
+      → frame_at (tables_placed p o r m) f ≡ frame_at m f
   unfolding tables_placed table_placed
   tables_other zero m few out = refl
   tables_other (suc r) m few out =
       elim (cases_Bool (has_region o.segments r)) [
-        | inl some ↦ rw some (put_frame_other (tables_placed p o r m) f (table_frame p o r) _ (out r (omega arith) some) ∙ tables_other r m (omega arith) out)
+        | inl some ↦ rw some
+            (put_frame_other (tables_placed p o r m) f (table_frame p o r) _ (out r (omega arith) some)
+            ∙ tables_other r m (omega arith) out)
         | inr none ↦ rw none (tables_other r m (omega arith) out)
       ]
 
   -- pages leave each frame that holds none of them
-  pages_other : (n many : ℕ) (bytes : List ℕ) (m : Mem) → ((q : ℕ) → n ≤ q → q < n + many → f ≢ page_frame p o q) → frame_at (pages_placed p o n many bytes m) f ≡ frame_at m f
+  pages_other : (n many : ℕ) (bytes : List ℕ) (m : Mem)
+      → ((q : ℕ) → n ≤ q → q < n + many → f ≢ page_frame p o q)
+      → frame_at (pages_placed p o n many bytes m) f ≡ frame_at m f
   unfolding pages_placed
   pages_other n zero bytes m out = refl
   pages_other n (suc many) bytes m out =
       let x = page_words (take 4096 bytes) in
-      pages_other (suc n) many (drop 4096 bytes) (put m (page_frame p o n) x) (λ q low high. out q (omega (arith, low)) (omega (arith, high)))
+      pages_other (suc n) many (drop 4096 bytes) (put m (page_frame p o n) x)
+      (λ q low high. out q (omega (arith, low)) (omega (arith, high)))
       ∙ put_frame_other m f (page_frame p o n) x (out n (omega arith) (omega arith))
 
-  segments_other : (ss : List Segment) (m : Mem) → ((q : ℕ) → is_page ss q ≡ true → f ≢ page_frame p o q) → frame_at (segments_placed p o ss m) f ≡ frame_at m f
+  segments_other : (ss : List Segment) (m : Mem) → ((q : ℕ) → is_page ss q ≡ true → f ≢ page_frame p o q)
+      → frame_at (segments_placed p o ss m) f ≡ frame_at m f
   unfolding segments_placed is_page
   segments_other [] m out = refl
   segments_other (s ∷ ss) m out =
@@ -133,13 +148,16 @@ module _ (p : Hardware) (o : Own) (enough : frames_in o.segments ≤ length (poo
   pub root_place : 4 < length (pool p o)
   root_place = omega (arith, enough)
 
-  pub table_place : (r : ℕ) → r < 1024 → has_region o.segments r ≡ true → 5 + regions_below o.segments r < 5 + regions_in o.segments
+  pub table_place : (r : ℕ) → r < 1024 → has_region o.segments r ≡ true
+      → 5 + regions_below o.segments r < 5 + regions_in o.segments
   table_place r below some = let before = region_before o.segments r 1024 some below in omega (arith, before)
 
-  pub page_place : (n : ℕ) → is_page o.segments n ≡ true → 5 + regions_in o.segments + pages_below o.segments n < length (pool p o)
+  pub page_place : (n : ℕ) → is_page o.segments n ≡ true
+      → 5 + regions_in o.segments + pages_below o.segments n < length (pool p o)
   page_place n there = let low = pages_low o.segments n there in omega (arith, low, enough)
 
-  pub table_in : (r : ℕ) → r < 1024 → has_region o.segments r ≡ true → 5 + regions_below o.segments r < length (pool p o)
+  pub table_in : (r : ℕ) → r < 1024 → has_region o.segments r ≡ true
+      → 5 + regions_below o.segments r < length (pool p o)
   table_in r below some = let place = table_place r below some in omega (arith, place, enough)
 
   pub own_root : IsOwnFrame p o (root_of p o)
@@ -161,21 +179,31 @@ module _ (p : Hardware) (o : Own) (enough : frames_in o.segments ≤ length (poo
       let same = pool_once p o (5 + regions_in o.segments + pages_below o.segments n) 4 (page_place n there) root_place e in
       omega (arith, same)
 
-  page_no_table : (n r : ℕ) → is_page o.segments n ≡ true → r < 1024 → has_region o.segments r ≡ true → page_frame p o n ≢ table_frame p o r
+  page_no_table : (n r : ℕ) → is_page o.segments n ≡ true → r < 1024 → has_region o.segments r ≡ true
+      → page_frame p o n ≢ table_frame p o r
   page_no_table n r there below some e =
-      let same = pool_once p o (5 + regions_in o.segments + pages_below o.segments n) (5 + regions_below o.segments r) (page_place n there) (table_in r below some) e in
+      let same =
+      pool_once p o (5 + regions_in o.segments + pages_below o.segments n)
+      (5 + regions_below o.segments r) (page_place n there) (table_in r below some) e in
       let place = table_place r below some in
       omega (arith, same, place)
 
-  tables_once : (r q : ℕ) → r < 1024 → q < 1024 → has_region o.segments r ≡ true → has_region o.segments q ≡ true → table_frame p o r ≡ table_frame p o q → r ≡ q
+  tables_once : (r q : ℕ) → r < 1024 → q < 1024 → has_region o.segments r ≡ true
+      → has_region o.segments q ≡ true → table_frame p o r ≡ table_frame p o q → r ≡ q
   tables_once r q r_below q_below some more e =
-      let same = pool_once p o (5 + regions_below o.segments r) (5 + regions_below o.segments q) (table_in r r_below some) (table_in q q_below more) e in
+      let same =
+      pool_once p o (5 + regions_below o.segments r) (5 + regions_below o.segments q)
+      (table_in r r_below some) (table_in q q_below more) e in
       region_once o.segments r q some more (omega (arith, same))
 
   -- each page has a frame of its own
-  pub pages_once : (n m : ℕ) → is_page o.segments n ≡ true → is_page o.segments m ≡ true → page_frame p o n ≡ page_frame p o m → n ≡ m
+  pub pages_once : (n m : ℕ) → is_page o.segments n ≡ true → is_page o.segments m ≡ true
+      → page_frame p o n ≡ page_frame p o m → n ≡ m
   pages_once n m there other e =
-      let same = pool_once p o (5 + regions_in o.segments + pages_below o.segments n) (5 + regions_in o.segments + pages_below o.segments m) (page_place n there) (page_place m other) e in
+      let same =
+      pool_once p o (5 + regions_in o.segments + pages_below o.segments n)
+      (5 + regions_in o.segments + pages_below o.segments m) (page_place n there)
+      (page_place m other) e in
       page_once o.segments n m there other (omega (arith, same))
 
   -- frames of others are left
@@ -188,7 +216,8 @@ module _ (p : Hardware) (o : Own) (enough : frames_in o.segments ≤ length (poo
       ∙ put_frame_other m f (root_of p o) (tabled (root_entry p o) 1024) (outside (root_of p o) own_root)
 
   -- and so are those that hold neither the root, nor a table, nor a page
-  pub placed_past : (n : ℕ) → n < length (pool p o) → (n < 4) ⊎ (frames_in o.segments ≤ n) → (m : Mem) → frame_at (placed p o m) (pool_frame p o n) ≡ frame_at m (pool_frame p o n)
+  pub placed_past : (n : ℕ) → n < length (pool p o) → (n < 4) ⊎ (frames_in o.segments ≤ n) → (m : Mem)
+      → frame_at (placed p o m) (pool_frame p o n) ≡ frame_at m (pool_frame p o n)
   unfolding placed root_placed
   placed_past n within past m =
       segments_other p o (pool_frame p o n) o.segments _ (λ q there e.
@@ -211,20 +240,27 @@ module _ (p : Hardware) (o : Own) (enough : frames_in o.segments ≤ length (poo
 
   -- the tables below region r, of which one is that of region q
   module _ (q : ℕ) (q_below : q < 1024) (some : has_region o.segments q ≡ true) where
-    table_last : (m : Mem) → frame_at (tables_placed p o (suc q) m) (table_frame p o q) ≡ tabled (λ i. leaf_entry p o (1024 * q + i)) 1024
+    table_last : (m : Mem)
+        → frame_at (tables_placed p o (suc q) m) (table_frame p o q)
+        ≡ tabled (λ i. leaf_entry p o (1024 * q + i)) 1024
     unfolding tables_placed table_placed
     table_last m = rw some (put_frame_same (tables_placed p o q m) (table_frame p o q) (table_frame p o q) _ refl)
 
-    table_at : (r : ℕ) (m : Mem) → q < r → r ≤ 1024 → frame_at (tables_placed p o r m) (table_frame p o q) ≡ tabled (λ i. leaf_entry p o (1024 * q + i)) 1024
+    table_at : (r : ℕ) (m : Mem) → q < r → r ≤ 1024
+        → frame_at (tables_placed p o r m) (table_frame p o q)
+        ≡ tabled (λ i. leaf_entry p o (1024 * q + i)) 1024
     unfolding tables_placed table_placed
     table_at zero m h few = absurd (omega arith)
     table_at (suc r) m h few =
         elim (cases_eq q r) [
-          | inl same ↦ subst (λ (x : ℕ). frame_at (tables_placed p o (suc x) m) (table_frame p o q) ≡ tabled (λ i. leaf_entry p o (1024 * q + i)) 1024) same (table_last m)
+          | inl same ↦ subst
+              (λ (x : ℕ). frame_at (tables_placed p o (suc x) m) (table_frame p o q)
+              ≡ tabled (λ i. leaf_entry p o (1024 * q + i)) 1024) same (table_last m)
           | inr other ↦
               elim (cases_Bool (has_region o.segments r)) [
                 | inl more ↦
-                    rw more (put_frame_other (tables_placed p o r m) (table_frame p o q) (table_frame p o r) _ (λ e. other (tables_once q r q_below (omega (arith, few)) some more e))
+                    rw more (put_frame_other (tables_placed p o r m) (table_frame p o q) (table_frame p o r) _
+                    (λ e. other (tables_once q r q_below (omega (arith, few)) some more e))
                     ∙ table_at r m (omega (arith, h, other)) (omega (arith, few)))
                 | inr none ↦ rw none (table_at r m (omega (arith, h, other)) (omega (arith, few)))
               ]
@@ -250,7 +286,8 @@ module _ (p : Hardware) (o : Own) (enough : frames_in o.segments ≤ length (poo
   unfolding word
   root_words m i below = ap (λ (x : Frame). at 0 x i) (root_whole m) ∙ at-tabled (root_entry p o) 1024 i below
 
-  pub table_words : (m : Mem) (r j : ℕ) → r < 1024 → j < 1024 → has_region o.segments r ≡ true → word (placed p o m) (table_frame p o r) j ≡ leaf_entry p o (1024 * r + j)
+  pub table_words : (m : Mem) (r j : ℕ) → r < 1024 → j < 1024 → has_region o.segments r ≡ true
+      → word (placed p o m) (table_frame p o r) j ≡ leaf_entry p o (1024 * r + j)
   unfolding word
   table_words m r j below j_below some =
       ap (λ (x : Frame). at 0 x j) (table_whole m r below some) ∙ at-tabled (λ i. leaf_entry p o (1024 * r + i)) 1024 j j_below
@@ -275,7 +312,9 @@ abbrev Leaves : Hardware → Own → Type 0
 Leaves p o = (m : Mem) (f : ℕ) → own_frame p o f ≡ false → frame_at (placed p o m) f ≡ frame_at m f
 
 -- frames that no domain has are empty
-pub none_placed : (p : Hardware) (os : List Own) (f : ℕ) → ((e : ℕ) → e < length os → Leaves p (get_or os e no_own)) → ((e : ℕ) → e < length os → own_frame p (get_or os e no_own) f ≡ false)
+pub none_placed : (p : Hardware) (os : List Own) (f : ℕ)
+    → ((e : ℕ) → e < length os → Leaves p (get_or os e no_own))
+    → ((e : ℕ) → e < length os → own_frame p (get_or os e no_own) f ≡ false)
     → frame_at (all_placed p os) f ≡ frame_at empty f
 unfolding all_placed
 none_placed p [] f leaves out = refl
@@ -284,7 +323,8 @@ none_placed p (o ∷ os) f leaves out =
     ∙ none_placed p os f (λ e h. leaves (suc e) (omega (arith, h))) (λ e h. out (suc e) (omega (arith, h)))
 
 -- domain d's frames, where no other domain has them
-pub placed_once : (p : Hardware) (os : List Own) (d f : ℕ) → d < length os → ((e : ℕ) → e < length os → Leaves p (get_or os e no_own))
+pub placed_once : (p : Hardware) (os : List Own) (d f : ℕ) → d < length os
+    → ((e : ℕ) → e < length os → Leaves p (get_or os e no_own))
     → ((e : ℕ) → e < length os → e ≢ d → own_frame p (get_or os e no_own) f ≡ false)
     → frame_at (all_placed p os) f ≡ frame_at (placed p (get_or os d no_own) empty) f
 unfolding all_placed
@@ -294,9 +334,11 @@ placed_once p (o ∷ os) zero f lt leaves apart =
     (none_placed p os f (λ e h. leaves (suc e) (omega (arith, h))) (λ e h. apart (suc e) (omega (arith, h)) (λ z. cc)))
 placed_once p (o ∷ os) (suc d) f lt leaves apart =
     leaves 0 (omega arith) (all_placed p os) f (apart 0 (omega arith) (λ z. cc))
-    ∙ placed_once p os d f (omega arith) (λ e h. leaves (suc e) (omega (arith, h))) (λ e l ne. apart (suc e) (omega (arith, l)) (λ q. ne (omega arith)))
+    ∙ placed_once p os d f (omega arith) (λ e h. leaves (suc e) (omega (arith, h)))
+    (λ e l ne. apart (suc e) (omega (arith, l)) (λ q. ne (omega arith)))
 
-doms_at : (p : Hardware) (os : List Own) (b j : ℕ) → j < length os → at no_dom (opening_doms p os b) (b + j) ≡ opening_dom p (get_or os j no_own)
+doms_at : (p : Hardware) (os : List Own) (b j : ℕ) → j < length os
+    → at no_dom (opening_doms p os b) (b + j) ≡ opening_dom p (get_or os j no_own)
 unfolding opening_doms
 doms_at p [] b j h = absurd (omega arith)
 doms_at p (o ∷ os) b zero h = rw add-zero (at-put_same no_dom (opening_doms p os (suc b)) b (opening_dom p o))
@@ -305,12 +347,16 @@ doms_at p (o ∷ os) b (suc j) h =
     ∙ ap (at no_dom (opening_doms p os (suc b))) (omega arith) ∙ doms_at p os (suc b) j (omega arith)
 
 module _ (i : Image) (r : Separated i) where
-  pub opening_dom_is : (d : ℕ) → IsDomain i d → at no_dom (opening i).doms d ≡ opening_dom i.all.hardware (own_of i d)
+  pub opening_dom_is : (d : ℕ) → IsDomain i d
+      → at no_dom (opening i).doms d ≡ opening_dom i.all.hardware (own_of i d)
   unfolding opening with_hart at put
   opening_dom_is d is = ap (at no_dom (opening_doms i.all.hardware i.owns 0)) (omega arith) ∙ doms_at i.all.hardware i.owns 0 d is
 
-  pub opening_frames : (d : ℕ) → IsDomain i d → SameFrames i.all.hardware (own_of i d) (opening i).storage.mem (alone_opening i.all.hardware (own_of i d)).storage.mem
+  pub opening_frames : (d : ℕ) → IsDomain i d
+      → SameFrames i.all.hardware (own_of i d) (opening i).storage.mem
+      (alone_opening i.all.hardware (own_of i d)).storage.mem
   unfolding opening alone_opening with_hart at put
   opening_frames d is f own =
       let p = i.all.hardware in
-      placed_once p i.owns d f is (λ e ie. placed_other p (own_of i e) (r.enough e ie)) (λ e ie ne. frames_apart p (own_of i d) (own_of i e) f (r.apart d e is ie (λ q. ne (sym q))) own)
+      placed_once p i.owns d f is (λ e ie. placed_other p (own_of i e) (r.enough e ie))
+      (λ e ie ne. frames_apart p (own_of i d) (own_of i e) f (r.apart d e is ie (λ q. ne (sym q))) own)

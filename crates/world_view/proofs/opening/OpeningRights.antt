@@ -34,8 +34,12 @@ use Rattle.world_view.proofs.facts.RightsLaws.{HasBoth, rights_same}
 -- rights are within themselves
 itself : (r : ℕ) → is_within r r ≡ true
 itself r =
-    rw
-    (le-leb (r % 2) (r % 2) (le_refl (r % 2)), le-leb (r / 2 % 2) (r / 2 % 2) (le_refl (r / 2 % 2)), le-leb (r / 4 % 2) (r / 4 % 2) (le_refl (r / 4 % 2))) refl
+    rw (
+      le-leb (r % 2) (r % 2) (le_refl (r % 2)),
+      le-leb (r / 2 % 2) (r / 2 % 2) (le_refl (r / 2 % 2)),
+      le-leb
+          (r / 4 % 2) (r / 4 % 2) (le_refl (r / 4 % 2)),
+    ) refl
 
 -- the indices of a page's address
 first_index : (n : ℕ) → n < 2 ^ 20 → vpn_1 (n * 4096) ≡ n / 1024
@@ -70,7 +74,8 @@ module _ (p : Hardware) (o : Own) (enough : frames_in o.segments ≤ length (poo
             ∙ ap (word memory table) (second_index n small) ∙ page_entry p o enough sound m n has.0 has.1;
       }
 
-  cap_within : (i : ℕ) (v : InitialCap) → cap_at o i ≡ v → (f r va : ℕ) → first_cap p o v ≡ Some (cap.Frame f r (Some va))
+  cap_within : (i : ℕ) (v : InitialCap) → cap_at o i ≡ v → (f r va : ℕ)
+      → first_cap p o v ≡ Some (cap.Frame f r (Some va))
       → IsWithin (estate p o) (placed p o m) f r va
   unfolding first_cap
   cap_within i initial.None e f r va is = absurd (cc is)
@@ -91,7 +96,8 @@ module _ (p : Hardware) (o : Own) (enough : frames_in o.segments ≤ length (poo
       | inl low ↦ cap_within i (cap_at o i) refl f r va (sym (slot_is p o enough sound i low) ∙ is)
       | inr past ↦
           let long = slots_long p o enough sound in
-          let no : ◌≡◌ {A = Option Cap} None (Some (cap.Frame f r (Some va))) = sym (get_or_past (first_slots p o) i None (omega (arith, past, long))) ∙ is in
+          let no : ◌≡◌ {A = Option Cap} None (Some (cap.Frame f r (Some va))) =
+          sym (get_or_past (first_slots p o) i None (omega (arith, past, long))) ∙ is in
           absurd (cc no)
     ];
   }

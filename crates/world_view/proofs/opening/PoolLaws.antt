@@ -35,7 +35,8 @@ module _ (p : Hardware) (o : Own) where
   in_pool n h = pool_inside n h
 
   -- no two places have the same frame
-  pub pool_once : (n m : ℕ) → n < length (pool p o) → m < length (pool p o) → pool_frame p o n ≡ pool_frame p o m → n ≡ m
+  pub pool_once : (n m : ℕ) → n < length (pool p o) → m < length (pool p o)
+      → pool_frame p o n ≡ pool_frame p o m → n ≡ m
   pool_once n m h k same =
       elim (cases_eq n m) [
         | inl e ↦ e
@@ -48,7 +49,10 @@ module _ (p : Hardware) (o : Own) where
   -- it has no more frames than memory
   pub pool_short : length (pool p o) ≤ p.frames
   unfolding colours.pool
-  pool_short = let parts = length-filter_both (has_colour (share_of p o)) (λ f. not (has_colour (share_of p o) f)) (λ f. refl) (range_with_len 0 p.frames) in
+  pool_short =
+      let parts =
+      length-filter_both (has_colour (share_of p o)) (λ f. not (has_colour (share_of p o) f))
+      (λ f. refl) (range_with_len 0 p.frames) in
       omega (arith, parts, length-range_with_len 0 p.frames)
 
   -- a frame of the domain's own is in memory

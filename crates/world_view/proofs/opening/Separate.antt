@@ -17,7 +17,8 @@ use Rattle.world_view.specs.Relations.{IsDomain, IsOwnFrame, bound, ended_own}
 use Rattle.world_view.proofs.steps.Fuel.{IsTimed}
 
 -- a frame has one colour, so where no colour is of both, no frame is
-pub frames_apart : (p : Hardware) (o other : Own) (f : ℕ) → AreApart (own_colour o) (own_colour other) → IsOwnFrame p o f
+pub frames_apart : (p : Hardware) (o other : Own) (f : ℕ) → AreApart (own_colour o) (own_colour other)
+    → IsOwnFrame p o f
     → own_frame p other f ≡ false
 frames_apart p o other f apart own =
     let unnamed : has other.colours (f % colours_of p) ≡ false = apart (f % colours_of p) (and_parts _ _ own).1 in
@@ -27,9 +28,11 @@ pub record Separated (i : Image) : Type 0 where
   pub counted : i.all.domains ≡ length i.owns
   pub timed : IsTimed i.all.hardware
   pub named : (k : ℕ) → IsDomain i (entry_of_slot i.all.schedule k).domain
-  pub enough : (d : ℕ) → IsDomain i d → frames_in (own_of i d).segments ≤ length (pool i.all.hardware (own_of i d))
+  pub enough : (d : ℕ) → IsDomain i d
+      → frames_in (own_of i d).segments ≤ length (pool i.all.hardware (own_of i d))
   pub sound : (d : ℕ) → IsOwn (own_of i d)
-  pub apart : (d e : ℕ) → IsDomain i d → IsDomain i e → d ≢ e → AreApart (own_colour (own_of i d)) (own_colour (own_of i e))
+  pub apart : (d e : ℕ) → IsDomain i d → IsDomain i e → d ≢ e
+      → AreApart (own_colour (own_of i d)) (own_colour (own_of i e))
   pub not_kernel : (d : ℕ) → IsDomain i d → own_colour (own_of i d) 0 ≡ false
   pub padded : (k : ℕ) → bound i.all.hardware (ended_own i k) ≤ pad_of i.all.schedule k
   pub hardware : IsHardware i.all.hardware
@@ -40,9 +43,11 @@ module _ (i : Image) (r : Runnable i) where
   list_is d is = get_or-map (λ (o : Own). o.colours) i.owns d no_own [] is
 
   -- a colour is named by one domain at most
-  separate : (d e : ℕ) → IsDomain i d → IsDomain i e → d ≢ e → AreApart (own_colour (own_of i d)) (own_colour (own_of i e))
+  separate : (d e : ℕ) → IsDomain i d → IsDomain i e → d ≢ e
+      → AreApart (own_colour (own_of i d)) (own_colour (own_of i e))
   separate d e is ie other c own =
-      ap (λ (cs : List ℕ). has cs c) (sym (list_is e ie)) ∙ r.disjoint.apart d e c other (ap (λ (cs : List ℕ). has cs c) (list_is d is) ∙ own)
+      ap (λ (cs : List ℕ). has cs c) (sym (list_is e ie))
+      ∙ r.disjoint.apart d e c other (ap (λ (cs : List ℕ). has cs c) (list_is d is) ∙ own)
 
   not_zero : (d : ℕ) → IsDomain i d → own_colour (own_of i d) 0 ≡ false
   not_zero d is = ap (λ (cs : List ℕ). has cs 0) (sym (list_is d is)) ∙ r.disjoint.no_zero d
@@ -55,7 +60,9 @@ module _ (i : Image) (r : Runnable i) where
   pub separated : Separated i
   separated = record {
     counted = r.counted;
-    timed = let base = r.hardware.costs.base in let trap = r.hardware.costs.trap in record { base = omega (arith, base); trap = omega (arith, trap) };
+    timed =
+        let base = r.hardware.costs.base in
+        let trap = r.hardware.costs.trap in record { base = omega (arith, base); trap = omega (arith, trap) };
     named = λ k. r.named (k % length i.all.schedule) (mod-lt k r.schedule.some);
     enough = r.pools;
     sound = r.sound;

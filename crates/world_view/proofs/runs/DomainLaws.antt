@@ -16,12 +16,14 @@ use Rattle.world_view.proofs.steps.Fuel.{steps_by}
 use Rattle.world_view.proofs.opening.OpeningLaws.{opening_dom_is}
 
 -- another's slot leaves a domain as it was
-pub others_same : (i : Image) (k n d : ℕ) → d ≢ (entry_of_slot i.all.schedule k).domain → dom_of (world_in i k n) d ≡ dom_of (whole i k) d
+pub others_same : (i : Image) (k n d : ℕ) → d ≢ (entry_of_slot i.all.schedule k).domain
+    → dom_of (world_in i k n) d ≡ dom_of (whole i k) d
 unfolding switch_by switch_on guarded with_part with_hart at put
 others_same i k n d other = at-put_other no_dom (whole i k).doms (entry_of_slot i.all.schedule k).domain d (local_in i k n).dom other
 
 -- and in its own slot it is as its steps leave it
-pub own_is : (i : Image) (k n : ℕ) → dom_of (world_in i k n) (entry_of_slot i.all.schedule k).domain ≡ (local_in i k n).dom
+pub own_is : (i : Image) (k n : ℕ)
+    → dom_of (world_in i k n) (entry_of_slot i.all.schedule k).domain ≡ (local_in i k n).dom
 unfolding with_part with_hart at put
 own_is i k n = at-put_same no_dom (switch i k (whole i k)).doms (entry_of_slot i.all.schedule k).domain (local_in i k n).dom
 
@@ -33,7 +35,8 @@ module _ (i : Image) (r : Separated i) (Q : Own → Dom → Type 0)
   AtSlot k = (d : ℕ) → IsDomain i d → Q (own_of i d) (dom_of (whole i k) d)
 
   -- of the domain that runs
-  running_in : (k n : ℕ) → AtSlot k → Q (own_of i (entry_of_slot i.all.schedule k).domain) (local_in i k n).dom
+  running_in : (k n : ℕ) → AtSlot k
+      → Q (own_of i (entry_of_slot i.all.schedule k).domain) (local_in i k n).dom
   unfolding switch_by switch_on guarded with_hart at put
   running_in k n before =
       let d = (entry_of_slot i.all.schedule k).domain in

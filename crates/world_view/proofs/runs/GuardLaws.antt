@@ -68,7 +68,8 @@ both true x z y f = f refl
 both false x z y f = refl
 
 module _ (i : Image) (r : Separated i) (g : Guards) (d end : ℕ) where
-  later_if : (w : World) (o : Option Owned) → clock_of 0 w < end → clock_of 0 w < clock_of 0 (delivered_or_step g i d end w o)
+  later_if : (w : World) (o : Option Owned) → clock_of 0 w < end
+      → clock_of 0 w < clock_of 0 (delivered_or_step g i d end w o)
   unfolding with_part with_hart at put delivered
   later_if w None h = step_later (setting_by g i d) r.timed end (part_of 0 d w) h
   later_if w (Some x) h =
@@ -99,7 +100,8 @@ module _ (i : Image) (r : Separated i) (g : Guards) (d end : ℕ) where
   one_more n w h = goes (ltb (clock_of 0 w) end) _ w (lt-ltb (clock_of 0 w) end h)
 
   -- a slot is one step and then the rest of it
-  pub open_step : (w : World) → clock_of 0 w < end → open_slot g i d end w ≡ open_slot g i d end (step_among g i d end w)
+  pub open_step : (w : World) → clock_of 0 w < end
+      → open_slot g i d end w ≡ open_slot g i d end (step_among g i d end w)
   open_step w h =
       let later = among_later w h in
       enough (end - clock_of 0 w) (suc (end - clock_of 0 w)) w (omega arith) (omega arith)

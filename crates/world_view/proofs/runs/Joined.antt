@@ -20,10 +20,12 @@ Joined i d zero x = Apiece i.all.hardware (own_of i d) x (alone i.all (own_of i 
 Joined i d (suc k) x = JoinedIf i d k (eqb (entry_of_slot i.all.schedule k).domain d) x
 
 module _ (i : Image) (r : Separated i) (d : ℕ) (is : IsDomain i d) where
-  pub leaves_as : (k : ℕ) → eqb (entry_of_slot i.all.schedule k).domain d ≡ true → outgoing i.all.schedule (suc k) ≡ Some d
+  pub leaves_as : (k : ℕ) → eqb (entry_of_slot i.all.schedule k).domain d ≡ true
+      → outgoing i.all.schedule (suc k) ≡ Some d
   leaves_as k t = ap Some (eqb-true (entry_of_slot i.all.schedule k).domain d t)
 
-  pub leaves_not : (k : ℕ) → eqb (entry_of_slot i.all.schedule k).domain d ≡ false → outgoing i.all.schedule (suc k) ≢ Some d
+  pub leaves_not : (k : ℕ) → eqb (entry_of_slot i.all.schedule k).domain d ≡ false
+      → outgoing i.all.schedule (suc k) ≢ Some d
   leaves_not k t q = true≢false (sym (eq-eqb (entry_of_slot i.all.schedule k).domain d (same_Some _ _ q)) ∙ t)
 
   module _ (h : ℕ) (w : World) where
@@ -32,28 +34,37 @@ module _ (i : Image) (r : Separated i) (d : ℕ) (is : IsDomain i d) where
     switched_part k = part_of h d (switch_on (guarded i) i h k w)
 
     -- after the leave, if any, where another enters
-    left_if : (k : ℕ) (b : Bool) → eqb (entry_of_slot i.all.schedule k).domain d ≡ b → (entry_of_slot i.all.schedule (suc k)).domain ≢ d
+    left_if : (k : ℕ) (b : Bool) → eqb (entry_of_slot i.all.schedule k).domain d ≡ b
+        → (entry_of_slot i.all.schedule (suc k)).domain ≢ d
         → InTime i h (suc k) w → JoinedIf i d k b (part_of h d w)
         → Apiece i.all.hardware (own_of i d) (switched_part (suc k)) (alone_if i.all (own_of i d) k (alone i.all (own_of i d) d k) b)
     unfolding alone_if switched_part
-    left_if k true t ne time j = switch_out i r h (suc k) d is w (alone_in i.all (own_of i d) k (alone i.all (own_of i d) d k)) time (leaves_as k t) ne j
+    left_if k true t ne time j =
+        switch_out i r h (suc k) d is w (alone_in i.all (own_of i d) k (alone i.all (own_of i d) d k)) time
+        (leaves_as k t) ne j
     left_if k false t ne time j = switch_past i r h (suc k) d is w (alone i.all (own_of i d) d k) time (leaves_not k t) ne j
 
-    pub another_enters : (k : ℕ) → (entry_of_slot i.all.schedule k).domain ≢ d → InTime i h k w → Joined i d k (part_of h d w)
+    pub another_enters : (k : ℕ) → (entry_of_slot i.all.schedule k).domain ≢ d → InTime i h k w
+        → Joined i d k (part_of h d w)
         → Apiece i.all.hardware (own_of i d) (part_of h d (switch_on (guarded i) i h k w)) (alone i.all (own_of i d) d k)
     unfolding alone switched_part
     another_enters zero ne time j = switch_past i r h 0 d is w (alone i.all (own_of i d) d 0) time (λ q. absurd (cc q)) ne j
     another_enters (suc k) ne time j = left_if k _ refl ne time j
 
-    enter_if : (k : ℕ) (b : Bool) → eqb (entry_of_slot i.all.schedule k).domain d ≡ b → (entry_of_slot i.all.schedule (suc k)).domain ≡ d
+    enter_if : (k : ℕ) (b : Bool) → eqb (entry_of_slot i.all.schedule k).domain d ≡ b
+        → (entry_of_slot i.all.schedule (suc k)).domain ≡ d
         → InTime i h (suc k) w → JoinedIf i d k b (part_of h d w)
-        → Within i.all.hardware (own_of i d) (switched_part (suc k)) (alone_enter i.all (own_of i d) (suc k) (alone_if i.all (own_of i d) k (alone i.all (own_of i d) d k) b))
+        → Within i.all.hardware (own_of i d) (switched_part (suc k))
+        (alone_enter i.all (own_of i d) (suc k)
+        (alone_if i.all (own_of i d) k (alone i.all (own_of i d) d k) b))
     unfolding alone_if switched_part
     enter_if k true t e time j = switch_both i r h (suc k) d is w _ time (leaves_as k t) e j
     enter_if k false t e time j = switch_in i r h (suc k) d is w _ time (leaves_not k t) e j
 
-    pub it_enters : (k : ℕ) → (entry_of_slot i.all.schedule k).domain ≡ d → InTime i h k w → Joined i d k (part_of h d w)
-        → Within i.all.hardware (own_of i d) (part_of h d (switch_on (guarded i) i h k w)) (alone_enter i.all (own_of i d) k (alone i.all (own_of i d) d k))
+    pub it_enters : (k : ℕ) → (entry_of_slot i.all.schedule k).domain ≡ d → InTime i h k w
+        → Joined i d k (part_of h d w)
+        → Within i.all.hardware (own_of i d) (part_of h d (switch_on (guarded i) i h k w))
+        (alone_enter i.all (own_of i d) k (alone i.all (own_of i d) d k))
     unfolding alone switched_part
     it_enters zero e time j = switch_in i r h 0 d is w _ time (λ q. absurd (cc q)) e j
     it_enters (suc k) e time j = enter_if k _ refl e time j
@@ -67,7 +78,8 @@ module _ (i : Image) (r : Separated i) (d : ℕ) (is : IsDomain i d) where
 
   -- its state and its frames are those of the domain alone
   pub seen : (k : ℕ) (x : Local) → Joined i d k x
-      → (x.dom ≡ (alone i.all (own_of i d) d k).dom) × SameFrames i.all.hardware (own_of i d) x.storage.mem (alone i.all (own_of i d) d k).storage.mem
+      → (x.dom ≡ (alone i.all (own_of i d) d k).dom)
+      × SameFrames i.all.hardware (own_of i d) x.storage.mem (alone i.all (own_of i d) d k).storage.mem
   unfolding alone
   seen zero x j = (j.dom, j.part.frames)
   seen (suc k) x j = seen_if k _ x j

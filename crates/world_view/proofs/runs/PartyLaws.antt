@@ -54,7 +54,8 @@ others_step p o other end s parties facts dirty =
     }
 
 -- equal to a state that is equal to a third
-pub part_trans : (p : Hardware) (o : Own) (s t a : Local) → SamePart p o s t → SamePart p o t a → SamePart p o s a
+pub part_trans : (p : Hardware) (o : Own) (s t a : Local) → SamePart p o s t → SamePart p o t a
+    → SamePart p o s a
 part_trans p o s t a h k = record { frames = λ f own. h.frames f own ∙ k.frames f own; sets = λ m own. h.sets m own ∙ k.sets m own }
 
 -- so many steps leave it, too
@@ -68,7 +69,8 @@ others_steps p o other end n s parties facts dirty =
     )) n s facts (dirty, record { frames = λ f own. refl; sets = λ m own. refl })).1
 
 -- so another domain's, in the world of all, leaves a domain
-pub others_event : (i : Image) → Separated i → (d e : ℕ) → IsDomain i d → IsDomain i e → d ≢ e → (end : ℕ) (w : World)
+pub others_event : (i : Image) → Separated i → (d e : ℕ) → IsDomain i d → IsDomain i e → d ≢ e
+    → (end : ℕ) (w : World)
     → HasFacts i.all.hardware (own_of i e) (dom_of w e) w.storage → OwnDirty i.all.hardware (own_of i e) (caches_of 0 w)
     → Untouched i.all.hardware (own_of i d) d (event_of i e end w) w
 unfolding event_of with_part with_hart at put

@@ -38,7 +38,8 @@ unfoldable pub prepared : Hardware → Caches → Caches
 prepared p c = (flush_part (hierarchy p) false (prefetch_part (hierarchy p) (region p) c).caches).caches
 
 -- nothing is dirty after the flush
-prepared_dirty : (p : Hardware) (others : ℕ → Bool) (c : Caches) → sharing.OwnDirty (hierarchy p) others (prepared p c).core
+prepared_dirty : (p : Hardware) (others : ℕ → Bool) (c : Caches)
+    → sharing.OwnDirty (hierarchy p) others (prepared p c).core
 unfolding prepared touched on_core flushed fresh_core pass_on
 prepared_dirty p others c = EachDirty-empty (IsOwnLine (hierarchy p) others) (hierarchy p).l1d
 
@@ -46,11 +47,13 @@ prepared_dirty p others c = EachDirty-empty (IsOwnLine (hierarchy p) others) (hi
 
 module _ (p : Hardware) (o : Own) (kernel : IsKernel p o) where
   -- prefetch and flush leave them where the dirty lines are others', or nobody's
-  prepared_others : (others : ℕ → Bool) → AreApart (own_colour o) others → (c : Caches) → sharing.OwnDirty (hierarchy p) others c.core
+  prepared_others : (others : ℕ → Bool) → AreApart (own_colour o) others → (c : Caches)
+      → sharing.OwnDirty (hierarchy p) others c.core
       → SameSets p o (prepared p c) c
   unfolding prepared
   prepared_others others apart c dirty s own =
-      flush_others p o kernel others apart (prefetch_part (hierarchy p) (region p) c).caches (prefetch_dirties p o kernel others apart c dirty) s own
+      flush_others p o kernel others apart (prefetch_part (hierarchy p) (region p) c).caches
+      (prefetch_dirties p o kernel others apart c dirty) s own
       ∙ prefetch_others p o kernel others apart c dirty s own
 
   -- and so they do after another's leave
@@ -63,12 +66,14 @@ module _ (p : Hardware) (o : Own) (kernel : IsKernel p o) where
       ∙ others_leave p o other c parties dirty s own
 
   -- after its own they are as after that of it alone
-  left_own : IsHardware p → (c : Caches) (a : Local) → c.core ≡ a.caches.core → OwnDirty p o c → SameSets p o c a.caches
+  left_own : IsHardware p → (c : Caches) (a : Local) → c.core ≡ a.caches.core → OwnDirty p o c
+      → SameSets p o c a.caches
       → SameSets p o (prepared p (leave_part (hierarchy p) false p.costs (layout p o) c).caches) (alone_out p o a).caches
   unfolding prepared alone_out
   left_own is c a core dirty same s own =
       let left = own_lines p o kernel (leave p.costs (layout p o)) c a.caches (leave_may p o kernel []) core dirty same in
-      settled p o (leave_part (hierarchy p) false p.costs (layout p o) c).caches is kernel s own ∙ flush_beside p o kernel c.l2 _ _ left.caches s own
+      settled p o (leave_part (hierarchy p) false p.costs (layout p o) c).caches is kernel s own
+      ∙ flush_beside p o kernel c.l2 _ _ left.caches s own
 
   -- where it enters
   pub entered : (c k : Caches) → SameSets p o (prepared p c) k
@@ -89,22 +94,28 @@ module _ (i : Image) (r : Separated i) (d : ℕ) (is : IsDomain i d) where
   left out c = prepared i.all.hardware (leave_by (guarded i) i out c).caches
 
   -- another leaves, or nobody
-  pub others_left : (k : ℕ) (c : Caches) → outgoing i.all.schedule k ≢ Some d → LeftDirty (outgoing i.all.schedule k) c
+  pub others_left : (k : ℕ) (c : Caches) → outgoing i.all.schedule k ≢ Some d
+      → LeftDirty (outgoing i.all.schedule k) c
       → SameSets i.all.hardware (own_of i d) (left (outgoing i.all.schedule k) c) c
   unfolding left leave_by guarded
-  others_left zero c other dirty = prepared_others i.all.hardware (own_of i d) (kernel_of i r d is) (λ _. false) (λ colour mine. refl) c dirty
+  others_left zero c other dirty =
+      prepared_others i.all.hardware (own_of i d) (kernel_of i r d is) (λ _. false) (λ colour mine. refl) c
+      dirty
   others_left (suc k) c other dirty =
       let e = (entry_of_slot i.all.schedule k).domain in
       left_others i.all.hardware (own_of i d) (kernel_of i r d is) (own_of i e) c
       (parties_of i r d e is (r.named k) (λ q. other (ap Some (sym q)))) dirty
 
   -- the domain itself
-  pub own_left : (k : ℕ) (c : Caches) (a : Local) → outgoing i.all.schedule k ≡ Some d → c.core ≡ a.caches.core → LeftDirty (outgoing i.all.schedule k) c
+  pub own_left : (k : ℕ) (c : Caches) (a : Local) → outgoing i.all.schedule k ≡ Some d
+      → c.core ≡ a.caches.core → LeftDirty (outgoing i.all.schedule k) c
       → SameSets i.all.hardware (own_of i d) c a.caches
       → SameSets i.all.hardware (own_of i d) (left (outgoing i.all.schedule k) c) (alone_out i.all.hardware (own_of i d) a).caches
   unfolding left leave_by guarded
   own_left k c a out core dirty same =
-      subst (λ (x : Option ℕ). LeftDirty x c → SameSets i.all.hardware (own_of i d) (left x c) (alone_out i.all.hardware (own_of i d) a).caches) (sym out)
+      subst (λ (x : Option ℕ). LeftDirty x c
+      → SameSets i.all.hardware (own_of i d) (left x c) (alone_out i.all.hardware (own_of i d) a).caches)
+      (sym out)
       (λ its. left_own i.all.hardware (own_of i d) (kernel_of i r d is) r.hardware c a core its same) dirty
 
   work_is : (out : Option ℕ) (n : ℕ) (c : Caches)
@@ -124,7 +135,8 @@ module _ (i : Image) (r : Separated i) (d : ℕ) (is : IsDomain i d) where
 
 module _ (i : Image) (r : Separated i) (h k d : ℕ) (is : IsDomain i d) (w : World) (a : Local) where
   -- into another, after whatever left the caches so
-  switch_away : (entry_of_slot i.all.schedule k).domain ≢ d → (dom_of w d ≡ a.dom) → SameFrames i.all.hardware (own_of i d) w.storage.mem a.storage.mem
+  switch_away : (entry_of_slot i.all.schedule k).domain ≢ d → (dom_of w d ≡ a.dom)
+      → SameFrames i.all.hardware (own_of i d) w.storage.mem a.storage.mem
       → SameSets i.all.hardware (own_of i d) (left i r d is (outgoing i.all.schedule k) (caches_of h w)) a.caches
       → Apiece i.all.hardware (own_of i d) (part_of h d (switch_on (guarded i) i h k w)) a
   unfolding switch_on guarded with_hart
@@ -134,13 +146,17 @@ module _ (i : Image) (r : Separated i) (h k d : ℕ) (is : IsDomain i d) (w : Wo
       record { dom = dom; part = record { frames = frames; sets = λ s own. past s own ∙ same s own } }
 
   -- a switch between others
-  pub switch_past : InTime i h k w → outgoing i.all.schedule k ≢ Some d → (entry_of_slot i.all.schedule k).domain ≢ d
-      → Apiece i.all.hardware (own_of i d) (part_of h d w) a → Apiece i.all.hardware (own_of i d) (part_of h d (switch_on (guarded i) i h k w)) a
+  pub switch_past : InTime i h k w → outgoing i.all.schedule k ≢ Some d
+      → (entry_of_slot i.all.schedule k).domain ≢ d
+      → Apiece i.all.hardware (own_of i d) (part_of h d w) a
+      → Apiece i.all.hardware (own_of i d) (part_of h d (switch_on (guarded i) i h k w)) a
   switch_past time out other near =
-      switch_away other near.dom near.part.frames (λ s own. others_left i r d is k (caches_of h w) out time.dirty s own ∙ near.part.sets s own)
+      switch_away other near.dom near.part.frames
+      (λ s own. others_left i r d is k (caches_of h w) out time.dirty s own ∙ near.part.sets s own)
 
   -- into it, after whatever left the caches so
-  switch_to : InTime i h k w → (entry_of_slot i.all.schedule k).domain ≡ d → (dom_of w d ≡ a.dom) → SameFrames i.all.hardware (own_of i d) w.storage.mem a.storage.mem
+  switch_to : InTime i h k w → (entry_of_slot i.all.schedule k).domain ≡ d → (dom_of w d ≡ a.dom)
+      → SameFrames i.all.hardware (own_of i d) w.storage.mem a.storage.mem
       → SameSets i.all.hardware (own_of i d) (left i r d is (outgoing i.all.schedule k) (caches_of h w)) a.caches
       → Within i.all.hardware (own_of i d) (part_of h d (switch_on (guarded i) i h k w)) (alone_enter i.all (own_of i d) k a)
   unfolding switch_on guarded alone_enter left with_hart
@@ -152,19 +168,26 @@ module _ (i : Image) (r : Separated i) (h k d : ℕ) (is : IsDomain i d) (w : Wo
       ap (λ (x : ℕ). (switch_work i out x (caches_of h w)).caches) e ∙ work_is i r d is out d (caches_of h w) in
       record {
         dom = dom;
-        part = record { frames = frames; sets = λ s own. ap (λ (c : Caches). set_at (hierarchy p).l2.ways c.l2 s) work ∙ n.caches.l2.same s own };
+        part = record {
+          frames = frames;
+          sets =
+              λ s own. ap (λ (c : Caches). set_at (hierarchy p).l2.ways c.l2 s) work ∙ n.caches.l2.same s own;
+        };
         core = ap (λ (c : Caches). c.core) (caches-with h w _ _ ∙ work) ∙ n.caches.core;
         clock = switch_on_start i r h k w (r.padded k) time;
       }
 
-  pub switch_in : InTime i h k w → outgoing i.all.schedule k ≢ Some d → (entry_of_slot i.all.schedule k).domain ≡ d
+  pub switch_in : InTime i h k w → outgoing i.all.schedule k ≢ Some d
+      → (entry_of_slot i.all.schedule k).domain ≡ d
       → Apiece i.all.hardware (own_of i d) (part_of h d w) a
       → Within i.all.hardware (own_of i d) (part_of h d (switch_on (guarded i) i h k w)) (alone_enter i.all (own_of i d) k a)
   switch_in time out e near =
-      switch_to time e near.dom near.part.frames (λ s own. others_left i r d is k (caches_of h w) out time.dirty s own ∙ near.part.sets s own)
+      switch_to time e near.dom near.part.frames
+      (λ s own. others_left i r d is k (caches_of h w) out time.dirty s own ∙ near.part.sets s own)
 
 -- from it to another
-pub switch_out : (i : Image) (r : Separated i) (h k d : ℕ) (is : IsDomain i d) (w : World) (a : Local) → InTime i h k w
+pub switch_out : (i : Image) (r : Separated i) (h k d : ℕ) (is : IsDomain i d) (w : World) (a : Local)
+    → InTime i h k w
     → outgoing i.all.schedule k ≡ Some d → (entry_of_slot i.all.schedule k).domain ≢ d
     → Within i.all.hardware (own_of i d) (part_of h d w) a
     → Apiece i.all.hardware (own_of i d) (part_of h d (switch_on (guarded i) i h k w)) (alone_out i.all.hardware (own_of i d) a)
@@ -174,10 +197,12 @@ switch_out i r h k d is w a time out other near =
     (own_left i r d is k (caches_of h w) a out near.core time.dirty near.part.sets)
 
 -- from it to itself
-pub switch_both : (i : Image) (r : Separated i) (h k d : ℕ) (is : IsDomain i d) (w : World) (a : Local) → InTime i h k w
+pub switch_both : (i : Image) (r : Separated i) (h k d : ℕ) (is : IsDomain i d) (w : World) (a : Local)
+    → InTime i h k w
     → outgoing i.all.schedule k ≡ Some d → (entry_of_slot i.all.schedule k).domain ≡ d
     → Within i.all.hardware (own_of i d) (part_of h d w) a
-    → Within i.all.hardware (own_of i d) (part_of h d (switch_on (guarded i) i h k w)) (alone_enter i.all (own_of i d) k (alone_out i.all.hardware (own_of i d) a))
+    → Within i.all.hardware (own_of i d) (part_of h d (switch_on (guarded i) i h k w))
+    (alone_enter i.all (own_of i d) k (alone_out i.all.hardware (own_of i d) a))
 unfolding alone_out
 switch_both i r h k d is w a time out e near =
     switch_to i r h k d is w (alone_out i.all.hardware (own_of i d) a) time e near.dom near.part.frames

@@ -54,12 +54,23 @@ module _ (g : Guards) (i : Image) where
       let left = operations.leave_if p.costs (clone_by g out) in
       let loads : List Touch = if g.prefetch then prefetch (region p) else [] in
       let emptied : Touch = if g.flush then Flush else EmptyTlb in
-      rw (same, leave_is out c, loads_is g.prefetch (touched_all h false c left).caches, emptied_is g.flush (touched_all h false (touched_all h false c left).caches loads).caches, touched_all-append h false c left (loads ++ emptied ∷ enter l), touched_all-append h false (touched_all h false c left).caches loads (emptied ∷ enter l))
+      rw (
+        same,
+        leave_is out c,
+        loads_is g.prefetch (touched_all h false c left).caches,
+        emptied_is g.flush
+            (touched_all h false (touched_all h false c left).caches loads).caches,
+        touched_all-append h false
+            c left (loads ++ emptied ∷ enter l),
+        touched_all-append h false (touched_all h false c left).caches
+            loads (emptied ∷ enter l),
+      )
       (ap₂ (λ (x : ℕ) (y : Caches). record { cost = x; caches = y }) (omega arith) refl)
 
 -- ---- a hart, after what was done on it
 
-pub hart-with : (h : ℕ) (w : World) (c : Caches) (t : ℕ) → hart_of h (with_hart h w c t) ≡ record (hart_of h w) { core = c.core; clock = t }
+pub hart-with : (h : ℕ) (w : World) (c : Caches) (t : ℕ)
+    → hart_of h (with_hart h w c t) ≡ record (hart_of h w) { core = c.core; clock = t }
 unfolding with_hart
 hart-with h w c t = at-put_same no_hart w.harts h _
 

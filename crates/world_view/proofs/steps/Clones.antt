@@ -31,14 +31,16 @@ pub record Same (x y : Done Storage Touch Dom Dom) : Type 0 where
 abbrev Alike : Act Dom → Act Dom → Type 0
 Alike f g = (s : Storage) → Same (f s) (g s)
 
-then_if : {A : Type 0} (r : Done Storage Touch Dom A) (f g : A → Act Dom) → ((a : A) → Alike (f a) (g a)) → (v : Dom ⊎ A)
+then_if : {A : Type 0} (r : Done Storage Touch Dom A) (f g : A → Act Dom) → ((a : A) → Alike (f a) (g a))
+    → (v : Dom ⊎ A)
     → Same (go_on r f v) (go_on r g v)
 unfolding go_on
 then_if r f g same (inl d) = record { state = refl; value = refl }
 then_if r f g same (inr a) = record { state = (same a r.state).state; value = (same a r.state).value }
 
 -- after the same beginning
-then_same : {A : Type 0} (x : Act A) (f g : A → Act Dom) → ((a : A) → Alike (f a) (g a)) → Alike (x >>= f) (x >>= g)
+then_same : {A : Type 0} (x : Act A) (f g : A → Act Dom) → ((a : A) → Alike (f a) (g a))
+    → Alike (x >>= f) (x >>= g)
 unfolding ◌>>=◌
 then_same x f g same s = then_if (x s) f g same (x s).value
 

@@ -42,7 +42,13 @@ use Rattle.world_view.specs.Used.{largest_of, count_of}
 word_of-past : (bytes : List ℕ) (i : ℕ) → (length bytes + 3) / 4 ≤ i → word_of bytes i ≡ 0
 word_of-past bytes i h =
     let past : length bytes ≤ 4 * i = omega arith in
-    rw (get_or_past bytes (4 * i) 0 past, get_or_past bytes (4 * i + 1) 0 (omega arith), get_or_past bytes (4 * i + 2) 0 (omega arith), get_or_past bytes (4 * i + 3) 0 (omega arith))
+    rw (
+      get_or_past bytes (4 * i) 0 past,
+      get_or_past bytes (4 * i + 1) 0 (omega arith),
+      get_or_past bytes
+          (4 * i + 2) 0 (omega arith),
+      get_or_past bytes (4 * i + 3) 0 (omega arith),
+    )
 
 pub at-page_words : (bytes : List ℕ) (i : ℕ) → at 0 (page_words bytes) i ≡ word_of bytes i
 unfolding page_words
@@ -72,7 +78,8 @@ module _ {A B : Type 0} (x : Act A) (y : A → Act B) (s : Storage) where
   stop_state d e = rw e
 
 module _ (p : Hardware) (root : ℕ) (d : Dom) (a : Access) (va : ℕ) (s : Storage) where
-  pub translate_value : (r : Result ℕ WalkFault) → (walk s.mem p.frames root va a).result ≡ r → (translate p root d a va s).value ≡ frame_or_stop d a va r
+  pub translate_value : (r : Result ℕ WalkFault) → (walk s.mem p.frames root va a).result ≡ r
+      → (translate p root d a va s).value ≡ frame_or_stop d a va r
   unfolding translate
   translate_value r e = ap (frame_or_stop d a va) e
 
@@ -80,7 +87,8 @@ module _ (p : Hardware) (root : ℕ) (d : Dom) (a : Access) (va : ℕ) (s : Stor
   unfolding translate
   translate_state = refl
 
-pub noted-other : (i : Instr) (value : ℕ) (d : Dom) → ((c : Counter) (rd : ℕ) → i ≢ instr.ReadCounter c rd) → noted i value d ≡ d
+pub noted-other : (i : Instr) (value : ℕ) (d : Dom) → ((c : Counter) (rd : ℕ) → i ≢ instr.ReadCounter c rd)
+    → noted i value d ≡ d
 unfolding noted
 noted-other (instr.ReadCounter c rd) value d other = absurd (other c rd refl)
 noted-other (instr.Lui rd imm) value d other = refl
@@ -98,7 +106,9 @@ noted-other instr.Fence value d other = refl
 noted-other instr.Ecall value d other = refl
 noted-other instr.Ebreak value d other = refl
 
-pub loaded-other : (p : Hardware) (root : ℕ) (t : ℕ) (d : Dom) (i : Instr) → ((w : _) (rd rs1 offset : ℕ) → i ≢ instr.Load w rd rs1 offset) → ((c : Counter) (rd : ℕ) → i ≢ instr.ReadCounter c rd)
+pub loaded-other : (p : Hardware) (root : ℕ) (t : ℕ) (d : Dom) (i : Instr)
+    → ((w : _) (rd rs1 offset : ℕ) → i ≢ instr.Load w rd rs1 offset)
+    → ((c : Counter) (rd : ℕ) → i ≢ instr.ReadCounter c rd)
     → loaded p root t d i ≡ give 0
 unfolding loaded
 loaded-other p root t d (instr.ReadCounter c rd) load other = absurd (other c rd refl)
@@ -117,7 +127,8 @@ loaded-other p root t d instr.Fence load other = refl
 loaded-other p root t d instr.Ecall load other = refl
 loaded-other p root t d instr.Ebreak load other = refl
 
-pub perform-other : (p : Hardware) (e : Estate) (l : Layout) (t : ℕ) (d : Dom) (w : ℕ) (i : Instr) → i ≢ instr.Ecall → perform p e l t d w (Some i) ≡ timed p e.root t d i
+pub perform-other : (p : Hardware) (e : Estate) (l : Layout) (t : ℕ) (d : Dom) (w : ℕ) (i : Instr)
+    → i ≢ instr.Ecall → perform p e l t d w (Some i) ≡ timed p e.root t d i
 unfolding perform
 perform-other p e l t d w (instr.ReadCounter c rd) other = refl
 perform-other p e l t d w (instr.Lui rd imm) other = refl
@@ -158,7 +169,8 @@ guessed-other instr.Ecall pc e branch jal jalr = refl
 guessed-other instr.Ebreak pc e branch jal jalr = refl
 
 -- only products and divisions take a time of their own
-pub computed-other : (p : Hardware) (d : Dom) (i : Instr) → ((c : _) (rd rs1 rs2 : ℕ) → i ≢ instr.Multiply c rd rs1 rs2)
+pub computed-other : (p : Hardware) (d : Dom) (i : Instr)
+    → ((c : _) (rd rs1 rs2 : ℕ) → i ≢ instr.Multiply c rd rs1 rs2)
     → ((c : _) (rd rs1 rs2 : ℕ) → i ≢ instr.Divide c rd rs1 rs2) → computed p d i ≡ give tt
 unfolding computed
 computed-other p d (instr.Multiply product rd rs1 rs2) multiply divide = absurd (multiply product rd rs1 rs2 refl)
@@ -194,26 +206,30 @@ pub executed-division : (p : Hardware) (r t : ℕ) (d : Dom) (division : Divisio
 unfolding execute unless loaded settle guessed store noted ◌>>◌ ◌>>=◌ go_on give
 executed-division p r t d division rd rs1 rs2 = refl
 
-pub timed-other : (p : Hardware) (r t : ℕ) (d : Dom) (i : Instr) → ((c : _) (rd rs1 rs2 : ℕ) → i ≢ instr.Multiply c rd rs1 rs2)
+pub timed-other : (p : Hardware) (r t : ℕ) (d : Dom) (i : Instr)
+    → ((c : _) (rd rs1 rs2 : ℕ) → i ≢ instr.Multiply c rd rs1 rs2)
     → ((c : _) (rd rs1 rs2 : ℕ) → i ≢ instr.Divide c rd rs1 rs2) → timed p r t d i ≡ execute p r t d i
 unfolding timed ◌>>◌ ◌>>=◌ go_on give
 timed-other p r t d i multiply divide = rw (computed-other p d i multiply divide) refl
 
 module _ (w : Setting) (end : ℕ) (s : Local) where
   -- no moment is due, and the current thread is ready
-  pub step-running : is_running s.dom.status ≡ true → due s.clock (interrupts_of w.own s.dom) ≡ None → is_ready s.dom.threads.current.state ≡ true
+  pub step-running : is_running s.dom.status ≡ true → due s.clock (interrupts_of w.own s.dom) ≡ None
+      → is_ready s.dom.threads.current.state ≡ true
       → step w end s ≡ paid w s.caches s.clock (instruction w.machine (estate w.machine w.own) w.clone s.clock s.dom s.storage)
   unfolding step event happened
   step-running runs none ready = rw (runs, none, ready)
 
   -- no moment is due, and no thread is ready
-  pub step-idle : is_running s.dom.status ≡ true → due s.clock (interrupts_of w.own s.dom) ≡ None → is_ready s.dom.threads.current.state ≡ false
+  pub step-idle : is_running s.dom.status ≡ true → due s.clock (interrupts_of w.own s.dom) ≡ None
+      → is_ready s.dom.threads.current.state ≡ false
       → step w end s ≡ record s { clock = idle_until end (next_cycle (interrupts_of w.own s.dom)) }
   unfolding step event happened
   step-idle runs none ready = rw (runs, none, ready)
 
   -- a moment is due
-  pub step-due : (line : ℕ) → is_running s.dom.status ≡ true → due s.clock (interrupts_of w.own s.dom) ≡ Some line
+  pub step-due : (line : ℕ) → is_running s.dom.status ≡ true
+      → due s.clock (interrupts_of w.own s.dom) ≡ Some line
       → step w end s ≡ delivered w line s
   unfolding step event happened
   step-due line runs is = rw (runs, is)
@@ -244,7 +260,8 @@ module _ (i : Image) (k : ℕ) (w : World) where
   unfolding switch_by switch_on guarded with_hart at put
   switch-clock = refl
 
-  pub switch-used : (switch i k w).used ≡ w.used ++ (switch_entry i.all.schedule k, (clock_of 0 w + work.cost) - last_end i.all.schedule k) ∷ []
+  pub switch-used : (switch i k w).used
+      ≡ w.used ++ (switch_entry i.all.schedule k, (clock_of 0 w + work.cost) - last_end i.all.schedule k) ∷ []
   unfolding switch_by switch_on guarded with_hart at put
   switch-used = refl
 
@@ -253,13 +270,16 @@ module _ (i : Image) (k : ℕ) (w : World) where
   slot_begun = part_of 0 (entry_of_slot i.all.schedule k).domain (switch i k w)
 
   abbrev pub slot_over : Local
-  slot_over = stretch (setting i.all.hardware (own_of i (entry_of_slot i.all.schedule k).domain) false) (slot_end i.all.schedule k) slot_begun
+  slot_over =
+      stretch (setting i.all.hardware (own_of i (entry_of_slot i.all.schedule k).domain) false)
+      (slot_end i.all.schedule k) slot_begun
 
   pub run_slot-dom_same : dom_of (run_slot i k w) (entry_of_slot i.all.schedule k).domain ≡ slot_over.dom
   unfolding run_slot_by own_slot with_end guarded with_part with_hart at put
   run_slot-dom_same = at-put_same no_dom (switch i k w).doms (entry_of_slot i.all.schedule k).domain slot_over.dom
 
-  pub run_slot-dom_other : (d : ℕ) → d ≢ (entry_of_slot i.all.schedule k).domain → dom_of (run_slot i k w) d ≡ dom_of w d
+  pub run_slot-dom_other : (d : ℕ) → d ≢ (entry_of_slot i.all.schedule k).domain
+      → dom_of (run_slot i k w) d ≡ dom_of w d
   unfolding run_slot_by own_slot with_end guarded with_part with_hart at put
   run_slot-dom_other d other =
       at-put_other no_dom (switch i k w).doms (entry_of_slot i.all.schedule k).domain d slot_over.dom other
@@ -277,7 +297,8 @@ module _ (i : Image) (k : ℕ) (w : World) where
   unfolding run_slot_by own_slot with_end guarded with_part with_hart at put
   run_slot-caches = refl
 
-  pub run_slot-used : (run_slot i k w).used ≡ w.used ++ (switch_entry i.all.schedule k, (clock_of 0 w + work.cost) - last_end i.all.schedule k) ∷ []
+  pub run_slot-used : (run_slot i k w).used
+      ≡ w.used ++ (switch_entry i.all.schedule k, (clock_of 0 w + work.cost) - last_end i.all.schedule k) ∷ []
   unfolding run_slot_by own_slot with_end guarded with_part with_hart at put
   run_slot-used = switch-used
 
@@ -287,7 +308,8 @@ whole-suc i k = refl
 
 -- ---- the opening
 
-pub whole_first-dom : (i : Image) (d : ℕ) → Separated i → IsDomain i d → dom_of (whole i 0) d ≡ opening_dom i.all.hardware (own_of i d)
+pub whole_first-dom : (i : Image) (d : ℕ) → Separated i → IsDomain i d
+    → dom_of (whole i 0) d ≡ opening_dom i.all.hardware (own_of i d)
 unfolding whole_by
 whole_first-dom i d r is = opening_dom_is i r d is
 
@@ -302,13 +324,15 @@ count_of-push_same e v us =
     let one : sum_by (counted e) ((e, v) ∷ []) ≡ 1 = rw (eq-eqb e e refl) in
     sum_by-append (counted e) us ((e, v) ∷ []) ∙ ap (λ n. sum_by (counted e) us + n) one
 
-pub count_of-push_other : (e j v : ℕ) (us : List (ℕ × ℕ)) → j ≢ e → count_of e (us ++ (j, v) ∷ []) ≡ count_of e us
+pub count_of-push_other : (e j v : ℕ) (us : List (ℕ × ℕ)) → j ≢ e
+    → count_of e (us ++ (j, v) ∷ []) ≡ count_of e us
 unfolding count_of
 count_of-push_other e j v us other =
     let none : sum_by (counted e) ((j, v) ∷ []) ≡ 0 = rw (ne_eqb j e other) in
     sum_by-append (counted e) us ((j, v) ∷ []) ∙ ap (λ n. sum_by (counted e) us + n) none ∙ add-zero (sum_by (counted e) us)
 
-pub largest_of-push_same : (e v : ℕ) (us : List (ℕ × ℕ)) → largest_of e (us ++ (e, v) ∷ []) ≡ max (largest_of e us) v
+pub largest_of-push_same : (e v : ℕ) (us : List (ℕ × ℕ))
+    → largest_of e (us ++ (e, v) ∷ []) ≡ max (largest_of e us) v
 unfolding largest_of
 largest_of-push_same e v [] = rw (eq-eqb e e refl) (omega arith)
 largest_of-push_same e v (u ∷ us) =
@@ -317,7 +341,8 @@ largest_of-push_same e v (u ∷ us) =
       | inr other ↦ let rest = largest_of-push_same e v us in rw other rest
     ]
 
-pub largest_of-push_other : (e j v : ℕ) (us : List (ℕ × ℕ)) → j ≢ e → largest_of e (us ++ (j, v) ∷ []) ≡ largest_of e us
+pub largest_of-push_other : (e j v : ℕ) (us : List (ℕ × ℕ)) → j ≢ e
+    → largest_of e (us ++ (j, v) ∷ []) ≡ largest_of e us
 unfolding largest_of
 largest_of-push_other e j v [] other = rw (ne_eqb j e other)
 largest_of-push_other e j v (u ∷ us) other =

@@ -13,11 +13,13 @@ use Rattle.world_view.specs.Event.Event.{Jump, Deliver, Run}
 
 -- ---- a moment that is due
 
-come_if : (b : Bool) (now line : ℕ) (x : Moment) → leb x.at now ≡ b → cond b (Some x.line) None ≡ Some line → (x.at ≤ now) × (x.line ≡ line)
+come_if : (b : Bool) (now line : ℕ) (x : Moment) → leb x.at now ≡ b → cond b (Some x.line) None ≡ Some line
+    → (x.at ≤ now) × (x.line ≡ line)
 come_if true now line x t e = (leb-true x.at now t, same_Some _ _ e)
 come_if false now line x t e = absurd (none-some line e)
 
-come_by : (now line : ℕ) (next : Option Moment) → line_by now next ≡ Some line → (x : Moment) × (next ≡ Some x) × (x.at ≤ now) × (x.line ≡ line)
+come_by : (now line : ℕ) (next : Option Moment) → line_by now next ≡ Some line
+    → (x : Moment) × (next ≡ Some x) × (x.at ≤ now) × (x.line ≡ line)
 come_by now line None e = absurd (none-some line e)
 come_by now line (Some x) e = let h = come_if (leb x.at now) now line x refl e in (x, refl, h.0, h.1)
 
@@ -28,7 +30,8 @@ module _ (o : Own) (now : ℕ) (d : Dom) where
   unfolding due interrupts_of
   due_moment line e = come_by now line (slice_get o.moments d.delivered) e
 
-  pub moment_due : (x : Moment) → slice_get o.moments d.delivered ≡ Some x → x.at ≤ now → due now (interrupts_of o d) ≡ Some x.line
+  pub moment_due : (x : Moment) → slice_get o.moments d.delivered ≡ Some x → x.at ≤ now
+      → due now (interrupts_of o d) ≡ Some x.line
   unfolding due interrupts_of
   moment_due x is come = ap (line_by now) is ∙ (rw (le-leb x.at now come) refl)
 
@@ -39,7 +42,8 @@ module _ (o : Own) (now : ℕ) (d : Dom) where
   Fits (Deliver line) = due now (interrupts_of o d) ≡ Some line
   Fits Run = is_ready d.threads.current.state ≡ true
 
-  due_fits : (end : ℕ) (next : Option ℕ) (ready : Bool) (line : Option ℕ) → is_ready d.threads.current.state ≡ ready
+  due_fits : (end : ℕ) (next : Option ℕ) (ready : Bool) (line : Option ℕ)
+      → is_ready d.threads.current.state ≡ ready
       → due now (interrupts_of o d) ≡ line → Fits (unless_due (thread_event end next ready) line)
   due_fits end next ready (Some line) is e = e
   due_fits end next true None is e = is

@@ -23,7 +23,8 @@ pub goes : (b : Bool) (x y : Local) → b ≡ true → elim b [ true ↦ x | fal
 goes true x y e = refl
 goes false x y e = cc
 
-both : (b : Bool) (x z y : Local) → (b ≡ true → x ≡ z) → ◌≡◌ {A = Local} (elim b [ true ↦ x | false ↦ y ]) (elim b [ true ↦ z | false ↦ y ])
+both : (b : Bool) (x z y : Local) → (b ≡ true → x ≡ z)
+    → ◌≡◌ {A = Local} (elim b [ true ↦ x | false ↦ y ]) (elim b [ true ↦ z | false ↦ y ])
 both true x z y f = f refl
 both false x z y f = refl
 
@@ -33,7 +34,8 @@ is_over clock end h = le-ltb clock end h
 -- what each step before the end keeps, any number of steps keeps
 module _ (w : Setting) (end : ℕ) (P : Local → Type 0)
     (next : (s : Local) → s.clock < end → P s → P (step w end s)) where
-  by_if : (b : Bool) (n : ℕ) (s : Local) → ltb s.clock end ≡ b → P s → ((t : Local) → P t → P (steps w end n t))
+  by_if : (b : Bool) (n : ℕ) (s : Local) → ltb s.clock end ≡ b → P s
+      → ((t : Local) → P t → P (steps w end n t))
       → P (elim b [ true ↦ steps w end n (step w end s) | false ↦ s ])
   by_if true n s t h rest = rest (step w end s) (next s (ltb-true s.clock end t) h)
   by_if false n s t h rest = h
@@ -50,7 +52,8 @@ module _ (w : Setting) (end : ℕ) (P : Local → Local → Type 0)
   first_if true s t = next s (ltb-true s.clock end t)
   first_if false s t = past s (ltb-false s.clock end t)
 
-  later_if : (b : Bool) (x y s : Local) → ltb s.clock end ≡ b → P x y → P (elim b [ true ↦ x | false ↦ s ]) (elim b [ true ↦ y | false ↦ s ])
+  later_if : (b : Bool) (x y s : Local) → ltb s.clock end ≡ b → P x y
+      → P (elim b [ true ↦ x | false ↦ s ]) (elim b [ true ↦ y | false ↦ s ])
   later_if true x y s t h = h
   later_if false x y s t h = past s (ltb-false s.clock end t)
 
@@ -74,7 +77,8 @@ StaysWithin end (Deliver line) = Unit {0}
 StaysWithin end Run = Unit {0}
 
 -- a moment that isn't due is later
-pub idle_past : (now end : ℕ) (next : Option Moment) → now < end → line_by now next ≡ None → now < idle_until end (cycle_of next)
+pub idle_past : (now end : ℕ) (next : Option Moment) → now < end → line_by now next ≡ None
+    → now < idle_until end (cycle_of next)
 idle_past now end None h none = h
 idle_past now end (Some x) h none =
     elim (cases_lt now x.at) [
@@ -86,18 +90,21 @@ pub idle_within : (end : ℕ) (next : Option ℕ) → idle_until end next ≤ en
 idle_within end None = omega arith
 idle_within end (Some t) = omega arith
 
-due_past : (now end : ℕ) (next : Option Moment) (ready : Bool) (due : Option ℕ) → now < end → line_by now next ≡ due
+due_past : (now end : ℕ) (next : Option Moment) (ready : Bool) (due : Option ℕ) → now < end
+    → line_by now next ≡ due
     → JumpsPast now (unless_due (thread_event end (cycle_of next) ready) due)
 due_past now end next ready (Some line) h e = tt
 due_past now end next true None h e = tt
 due_past now end next false None h e = idle_past now end next h e
 
-due_within : (end : ℕ) (next : Option ℕ) (ready : Bool) (due : Option ℕ) → StaysWithin end (unless_due (thread_event end next ready) due)
+due_within : (end : ℕ) (next : Option ℕ) (ready : Bool) (due : Option ℕ)
+    → StaysWithin end (unless_due (thread_event end next ready) due)
 due_within end next ready (Some line) = tt
 due_within end next true None = tt
 due_within end next false None = idle_within end next
 
-past_if : (now end : ℕ) (b : Bool) (e : Event) → now < end → JumpsPast now e → JumpsPast now (cond b e (Jump end))
+past_if : (now end : ℕ) (b : Bool) (e : Event) → now < end → JumpsPast now e
+    → JumpsPast now (cond b e (Jump end))
 past_if now end true e h past = past
 past_if now end false e h past = h
 
@@ -108,12 +115,16 @@ within_if end false e within = omega arith
 pub event_later : (o : Own) (now end : ℕ) (d : Dom) → now < end → JumpsPast now (event o now end d)
 unfolding event due next_cycle
 event_later o now end d h =
-    past_if now end (is_running d.status) _ h (due_past now end (next_of (interrupts_of o d)) (is_ready d.threads.current.state) (due now (interrupts_of o d)) h refl)
+    past_if now end (is_running d.status) _ h
+    (due_past now end (next_of (interrupts_of o d)) (is_ready d.threads.current.state)
+    (due now (interrupts_of o d)) h refl)
 
 pub event_within : (o : Own) (now end : ℕ) (d : Dom) → StaysWithin end (event o now end d)
 unfolding event
 event_within o now end d =
-    within_if end (is_running d.status) _ (due_within end (next_cycle (interrupts_of o d)) (is_ready d.threads.current.state) (due now (interrupts_of o d)))
+    within_if end (is_running d.status) _
+    (due_within end (next_cycle (interrupts_of o d)) (is_ready d.threads.current.state)
+    (due now (interrupts_of o d)))
 
 -- ---- steps take time
 
@@ -146,7 +157,9 @@ module _ (w : Setting) (timed : IsTimed w.machine) (end : ℕ) where
   enough zero (suc m) s h k = sym (stops (ltb s.clock end) _ s (is_over s.clock end (omega arith)))
   enough (suc n) zero s h k = stops (ltb s.clock end) _ s (is_over s.clock end (omega arith))
   enough (suc n) (suc m) s h k =
-      both (ltb s.clock end) _ _ s (λ e. let later = step_later s (ltb-true s.clock end e) in enough n m (step w end s) (omega arith) (omega arith))
+      both (ltb s.clock end) _ _ s
+      (λ e. let later = step_later s (ltb-true s.clock end e) in
+      enough n m (step w end s) (omega arith) (omega arith))
 
   one_more : (n : ℕ) (s : Local) → s.clock < end → steps w end (suc n) s ≡ steps w end n (step w end s)
   unfolding steps

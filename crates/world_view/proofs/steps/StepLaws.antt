@@ -23,14 +23,16 @@ use Rattle.world_view.proofs.touches.CostLaws.{own_touches, own_resident, own_di
 use Rattle.world_view.proofs.actions.ActLaws.{Known, Alike, instruction_near}
 use Rattle.world_view.proofs.touches.KernelTouches.{delivery_may}
 
-both_if : (R : Local → Local → Type 0) (x y : Bool) → x ≡ y → (s t a b : Local) → R s a → R t b → R (elim x [ true ↦ s | false ↦ t ]) (elim y [ true ↦ a | false ↦ b ])
+both_if : (R : Local → Local → Type 0) (x y : Bool) → x ≡ y → (s t a b : Local) → R s a → R t b
+    → R (elim x [ true ↦ s | false ↦ t ]) (elim y [ true ↦ a | false ↦ b ])
 both_if R true true e s t a b h k = h
 both_if R true false e s t a b h k = cc
 both_if R false true e s t a b h k = cc
 both_if R false false e s t a b h k = k
 
 -- the facts hold of the domain that an action gives, whichever way it ends
-either_known : (p : Hardware) (o : Own) (v : Dom ⊎ Dom) (s : Storage) → Known p o (λ x r. HasFacts p o x r) v s → HasFacts p o (either v) s
+either_known : (p : Hardware) (o : Own) (v : Dom ⊎ Dom) (s : Storage)
+    → Known p o (λ x r. HasFacts p o x r) v s → HasFacts p o (either v) s
 unfolding either
 either_known p o (inl x) s h = h
 either_known p o (inr x) s h = h
@@ -45,7 +47,8 @@ pub delivered_caps : (line : ℕ) (d : Dom) → (delivered_on line d).caps ≡ d
 unfolding delivered_on signalled
 delivered_caps line d = signalled_caps line (waiter line d.threads) (record d { delivered = d.delivered + 1 })
 
-pub delivered_facts : (p : Hardware) (o : Own) (line : ℕ) (d : Dom) (s : Storage) → HasFacts p o d s → HasFacts p o (delivered_on line d) s
+pub delivered_facts : (p : Hardware) (o : Own) (line : ℕ) (d : Dom) (s : Storage) → HasFacts p o d s
+    → HasFacts p o (delivered_on line d) s
 delivered_facts p o line d s h =
     let same = sym (delivered_caps line d) in
     record {
@@ -55,10 +58,14 @@ delivered_facts p o line d s h =
 
 module _ (p : Hardware) (o : Own) (end : ℕ) (first : Local) where
   -- the same event, of the same domain at the same clock
-  happened_near : (d : Dom) (t : ℕ) (s a : Storage) (c k : Caches) (e : Event) → IsKernel p o → HasFacts p o d s → BesideStorage p o first.storage s a → BesideCaches p o first.caches c k
-      → Beside p o first (happened (setting p o false) (record { dom = d; storage = s; caches = c; clock = t }) e) (happened (setting p o true) (record { dom = d; storage = a; caches = k; clock = t }) e)
+  happened_near : (d : Dom) (t : ℕ) (s a : Storage) (c k : Caches) (e : Event) → IsKernel p o
+      → HasFacts p o d s → BesideStorage p o first.storage s a → BesideCaches p o first.caches c k
+      → Beside p o first
+      (happened (setting p o false) (record { dom = d; storage = s; caches = c; clock = t }) e)
+      (happened (setting p o true) (record { dom = d; storage = a; caches = k; clock = t }) e)
   unfolding happened paid delivered
-  happened_near d t s a c k (Jump u) kernel facts storage caches = record { kernel = kernel; dom = refl; facts = facts; storage = storage; caches = caches; clock = refl }
+  happened_near d t s a c k (Jump u) kernel facts storage caches =
+      record { kernel = kernel; dom = refl; facts = facts; storage = storage; caches = caches; clock = refl }
   happened_near d t s a c k (Deliver line) kernel facts storage caches =
       let r = own_touches p o kernel first.caches (delivery_touches p (layout p o)) c k (delivery_may p o kernel) caches in
       record {
@@ -72,31 +79,45 @@ module _ (p : Hardware) (o : Own) (end : ℕ) (first : Local) where
   happened_near d t s a c k Run kernel facts storage caches =
       let n = (instruction_near p o kernel d first.storage t).runs s a storage facts in
       let ts = (instruction p (estate p o) (layout p o) t d s).notes in
-      let r = subst (λ (us : List Touch). BesideTouched (hierarchy p) (own_colour o) (region p) first.caches.l2 (touched_all (hierarchy p) false c ts) (touched_all (hierarchy p) true k us)) n.notes (own_touches p o kernel first.caches ts c k n.may caches) in
+      let r =
+      subst (λ (us : List Touch). BesideTouched (hierarchy p) (own_colour o) (region p)
+      first.caches.l2 (touched_all (hierarchy p) false c ts) (touched_all (hierarchy p) true k us))
+      n.notes (own_touches p o kernel first.caches ts c k n.may caches) in
       record {
         kernel = kernel;
         dom = ap either n.value;
-        facts = either_known p o (instruction p (estate p o) (layout p o) t d s).value (instruction p (estate p o) (layout p o) t d s).state n.known;
+        facts =
+            either_known p o (instruction p (estate p o) (layout p o) t d s).value
+            (instruction p (estate p o) (layout p o) t d s).state n.known;
         storage = n.state;
         caches = r.caches;
         clock = ap (λ x. t + (p.costs.base + x)) r.cost;
       }
 
-  pub step_near : (s a : Local) → Beside p o first s a → Beside p o first (step (setting p o false) end s) (step (setting p o true) end a)
+  pub step_near : (s a : Local) → Beside p o first s a
+      → Beside p o first (step (setting p o false) end s) (step (setting p o true) end a)
   unfolding step
   step_near s a b =
-      subst₂ (λ (d : Dom) (t : ℕ). Beside p o first (happened (setting p o false) s (event o s.clock end s.dom)) (happened (setting p o true) (record { dom = d; storage = a.storage; caches = a.caches; clock = t }) (event o t end d))) b.dom b.clock
+      subst₂ (λ (d : Dom) (t : ℕ). Beside p o first
+      (happened (setting p o false) s (event o s.clock end s.dom))
+      (happened (setting p o true)
+      (record { dom = d; storage = a.storage; caches = a.caches; clock = t }) (event o t end d))) b.dom
+      b.clock
       (happened_near s.dom s.clock s.storage a.storage s.caches a.caches (event o s.clock end s.dom) b.kernel b.facts b.storage b.caches)
 
-  pub steps_near : (n : ℕ) (s a : Local) → Beside p o first s a → Beside p o first (steps (setting p o false) end n s) (steps (setting p o true) end n a)
+  pub steps_near : (n : ℕ) (s a : Local) → Beside p o first s a
+      → Beside p o first (steps (setting p o false) end n s) (steps (setting p o true) end n a)
   unfolding steps
   steps_near zero s a b = b
   steps_near (suc n) s a b =
       both_if (Beside p o first) _ _ (ap (λ x. ltb x end) b.clock) _ _ _ _ (steps_near n _ _ (step_near s a b)) b
 
-  pub stretch_near : (s a : Local) → Beside p o first s a → Beside p o first (stretch (setting p o false) end s) (stretch (setting p o true) end a)
+  pub stretch_near : (s a : Local) → Beside p o first s a
+      → Beside p o first (stretch (setting p o false) end s) (stretch (setting p o true) end a)
   stretch_near s a b =
-      subst (λ (t : ℕ). Beside p o first (stretch (setting p o false) end s) (steps (setting p o true) end (end - t) a)) b.clock (steps_near (end - s.clock) s a b)
+      subst (λ (t : ℕ).
+      Beside p o first (stretch (setting p o false) end s) (steps (setting p o true) end (end - t) a))
+      b.clock (steps_near (end - s.clock) s a b)
 
 -- ---- what a step does to the caches
 
@@ -121,11 +142,16 @@ pub record Keeps (p : Hardware) (o : Own) (first : Storage) (s : Local) : Type 0
 module _ (p : Hardware) (o : Own) (kernel : IsKernel p o) where
   -- an instruction beside itself
   ran : (t : ℕ) (first : Storage) (s : Local) → Keeps p o first s
-      → Alike p o kernel s.dom first (λ x r. HasFacts p o x r) (instruction p (estate p o) (layout p o) t s.dom s.storage) (instruction p (estate p o) (layout p o) t s.dom s.storage)
-  ran t first s h = (instruction_near p o kernel s.dom first t).runs s.storage s.storage (record { same = λ f own. refl; outside = h.outside }) h.facts
+      → Alike p o kernel s.dom first (λ x r. HasFacts p o x r)
+      (instruction p (estate p o) (layout p o) t s.dom s.storage)
+      (instruction p (estate p o) (layout p o) t s.dom s.storage)
+  ran t first s h =
+      (instruction_near p o kernel s.dom first t).runs s.storage s.storage
+      (record { same = λ f own. refl; outside = h.outside }) h.facts
 
   -- it touches what it may
-  pub may_run : (t : ℕ) (s : Local) → HasFacts p o s.dom s.storage → MayAll p o (instruction p (estate p o) (layout p o) t s.dom s.storage).notes
+  pub may_run : (t : ℕ) (s : Local) → HasFacts p o s.dom s.storage
+      → MayAll p o (instruction p (estate p o) (layout p o) t s.dom s.storage).notes
   may_run t s facts = (ran t s.storage s (record { facts = facts; outside = λ f out. refl })).may
 
   touches_if : (s : Local) (e : Event) → HasFacts p o s.dom s.storage → MayAll p o (event_touches p o s e)
@@ -137,26 +163,33 @@ module _ (p : Hardware) (o : Own) (kernel : IsKernel p o) where
   pub step_may : (end : ℕ) (s : Local) → HasFacts p o s.dom s.storage → MayAll p o (step_touches p o end s)
   step_may end s facts = touches_if s (event o s.clock end s.dom) facts
 
-  keeps_if : (pinned : Bool) (first : Storage) (s : Local) (e : Event) → Keeps p o first s → Keeps p o first (happened (setting p o pinned) s e)
+  keeps_if : (pinned : Bool) (first : Storage) (s : Local) (e : Event) → Keeps p o first s
+      → Keeps p o first (happened (setting p o pinned) s e)
   unfolding happened paid delivered
   keeps_if pinned first s (Jump t) h = record { facts = h.facts; outside = h.outside }
   keeps_if pinned first s (Deliver line) h = record { facts = delivered_facts p o line s.dom s.storage h.facts; outside = h.outside }
   keeps_if pinned first s Run h =
       let n = ran s.clock first s h in
       record {
-        facts = either_known p o (instruction p (estate p o) (layout p o) s.clock s.dom s.storage).value (instruction p (estate p o) (layout p o) s.clock s.dom s.storage).state n.known;
+        facts =
+            either_known p o (instruction p (estate p o) (layout p o) s.clock s.dom s.storage).value
+            (instruction p (estate p o) (layout p o) s.clock s.dom s.storage).state n.known;
         outside = n.state.outside;
       }
 
-  pub step_keeps : (pinned : Bool) (end : ℕ) (first : Storage) (s : Local) → Keeps p o first s → Keeps p o first (step (setting p o pinned) end s)
+  pub step_keeps : (pinned : Bool) (end : ℕ) (first : Storage) (s : Local) → Keeps p o first s
+      → Keeps p o first (step (setting p o pinned) end s)
   unfolding step
   step_keeps pinned end first s h = keeps_if pinned first s (event o s.clock end s.dom) h
 
-  pub steps_keep : (pinned : Bool) (end n : ℕ) (first : Storage) (s : Local) → Keeps p o first s → Keeps p o first (steps (setting p o pinned) end n s)
-  steps_keep pinned end n first s h = steps_by (setting p o pinned) end (Keeps p o first) (λ t below k. step_keeps pinned end first t k) n s h
+  pub steps_keep : (pinned : Bool) (end n : ℕ) (first : Storage) (s : Local) → Keeps p o first s
+      → Keeps p o first (steps (setting p o pinned) end n s)
+  steps_keep pinned end n first s h =
+      steps_by (setting p o pinned) end (Keeps p o first) (λ t below k. step_keeps pinned end first t k) n s h
 
   -- its own lines stay the only dirty ones
-  pub step_dirties : (pinned : Bool) (end : ℕ) (s : Local) → HasFacts p o s.dom s.storage → OwnDirty p o s.caches
+  pub step_dirties : (pinned : Bool) (end : ℕ) (s : Local) → HasFacts p o s.dom s.storage
+      → OwnDirty p o s.caches
       → OwnDirty p o (step (setting p o pinned) end s).caches
   step_dirties pinned end s facts dirty =
       subst (OwnDirty p o) (sym (step_caches p o pinned end s))
@@ -184,6 +217,7 @@ module _ (p : Hardware) (o : Own) (kernel : IsKernel p o) where
         so = next t h.keeps.facts h.so;
       }) n s (record { keeps = record { facts = facts; outside = λ f out. refl }; so = so })).so
 
-  pub steps_resident : (end n : ℕ) (s : Local) → HasFacts p o s.dom s.storage → Resident p s.caches → Resident p (steps (setting p o false) end n s).caches
+  pub steps_resident : (end n : ℕ) (s : Local) → HasFacts p o s.dom s.storage → Resident p s.caches
+      → Resident p (steps (setting p o false) end n s).caches
   steps_resident end n s facts resident =
       steps_hold (λ t. Resident p t.caches) end (λ t holds there. step_resident end t holds there) n s facts resident

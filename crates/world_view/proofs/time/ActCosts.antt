@@ -72,7 +72,8 @@ module _ (p : Hardware) where
   record Costs {A : Type 0} (most : ℕ) (x : Act A) : Type 0 where
     within : (s : Storage) → worst (x s).notes ≤ most
 
-  on_costs : {A B : Type 0} (a b : ℕ) (r : Done Storage Touch Dom A) (y : A → Act B) (v : Dom ⊎ A) → worst r.notes ≤ a → ((v : A) → Costs b (y v)) → worst (go_on r y v).notes ≤ a + b
+  on_costs : {A B : Type 0} (a b : ℕ) (r : Done Storage Touch Dom A) (y : A → Act B) (v : Dom ⊎ A)
+      → worst r.notes ≤ a → ((v : A) → Costs b (y v)) → worst (go_on r y v).notes ≤ a + b
   unfolding go_on worst
   on_costs a b r y (inl d) first rest = omega (arith, first)
   on_costs a b r y (inr v) first rest =
@@ -80,11 +81,13 @@ module _ (p : Hardware) where
       let both = worst-append (hierarchy p) r.notes (y v r.state).notes in
       omega (arith, first, next, both)
 
-  bind_costs : {A B : Type 0} (a b : ℕ) (x : Act A) (y : A → Act B) → Costs a x → ((v : A) → Costs b (y v)) → Costs (a + b) (x >>= y)
+  bind_costs : {A B : Type 0} (a b : ℕ) (x : Act A) (y : A → Act B) → Costs a x → ((v : A) → Costs b (y v))
+      → Costs (a + b) (x >>= y)
   unfolding ◌>>=◌
   bind_costs a b x y first rest = record { within = λ s. on_costs a b (x s) y (x s).value (first.within s) rest }
 
-  then_costs : {A B : Type 0} (a b : ℕ) (x : Act A) (y : Act B) → Costs a x → Costs b y → Costs (a + b) (x >> y)
+  then_costs : {A B : Type 0} (a b : ℕ) (x : Act A) (y : Act B) → Costs a x → Costs b y
+      → Costs (a + b) (x >> y)
   unfolding ◌>>◌
   then_costs a b x y first rest = bind_costs a b x (λ _. y) first (λ _. rest)
 
@@ -119,13 +122,16 @@ module _ (p : Hardware) where
   touch_costs t = record { within = λ s. omega arith }
 
   -- a look-up makes two reads at most
-  translate_costs : (root : ℕ) (d : Dom) (a : Access) (va : ℕ) → Costs (worst_look p.costs (again_of p)) (translate p root d a va)
+  translate_costs : (root : ℕ) (d : Dom) (a : Access) (va : ℕ)
+      → Costs (worst_look p.costs (again_of p)) (translate p root d a va)
   unfolding translate look_of lines_of worst worst_touches hierarchy
   translate_costs root d a va = record {
     within = λ s.
         let reads = (walk s.mem p.frames root va a).reads in
         let many : length (lines_of p.line reads) * worst_read p.costs (again_of p) ≤ 2 * worst_read p.costs (again_of p) =
-        mul-le-mul_right (worst_read p.costs (again_of p)) (subst (λ (n : ℕ). n ≤ 2) (sym (length-map reads (λ at. at / p.line))) (few_reads s.mem p.frames root va a)) in
+        mul-le-mul_right (worst_read p.costs (again_of p))
+        (subst (λ (n : ℕ). n ≤ 2) (sym (length-map reads (λ at. at / p.line)))
+        (few_reads s.mem p.frames root va a)) in
         omega (arith, many);
   }
 
@@ -139,17 +145,22 @@ module _ (p : Hardware) where
   load_costs root d width va =
       more _ access_worst _ (omega arith)
       (bind_costs (worst_look p.costs (again_of p)) (worst_access p.costs (again_of p) + (0 + 0)) _ _ (translate_costs root d _ va) (λ f.
-      then_costs (worst_access p.costs (again_of p)) (0 + 0) _ _ (touch_costs (Load (line_in p f va))) (bind_costs 0 0 _ _ (read_costs f _) (λ w. give_costs _))))
+      then_costs (worst_access p.costs (again_of p)) (0 + 0) _ _ (touch_costs (Load (line_in p f va)))
+      (bind_costs 0 0 _ _ (read_costs f _) (λ w. give_costs _))))
 
   store_costs : (root : ℕ) (d : Dom) (made : Option StoreMade) → Costs access_worst (store p root d made)
   unfolding store access_worst hierarchy
   store_costs root d None = more 0 access_worst _ (omega arith) (give_costs tt)
   store_costs root d (Some made) =
       more _ access_worst _ (omega arith)
-      (bind_costs (worst_look p.costs (again_of p)) (worst_access p.costs (again_of p) + (0 + 0)) _ _ (translate_costs root d _ made.at) (λ f.
-      then_costs (worst_access p.costs (again_of p)) (0 + 0) _ _ (touch_costs (StoreTouch (line_in p f made.at))) (bind_costs 0 0 _ _ (read_costs f _) (λ w. write_costs f _ _))))
+      (bind_costs (worst_look p.costs (again_of p)) (worst_access p.costs (again_of p) + (0 + 0)) _ _
+      (translate_costs root d _ made.at) (λ f.
+      then_costs (worst_access p.costs (again_of p)) (0 + 0) _ _
+      (touch_costs (StoreTouch (line_in p f made.at)))
+      (bind_costs 0 0 _ _ (read_costs f _) (λ w. write_costs f _ _))))
 
-  no_store_costs : (root : ℕ) (d : Dom) (made : Option StoreMade) → made ≡ None → Costs 0 (store p root d made)
+  no_store_costs : (root : ℕ) (d : Dom) (made : Option StoreMade) → made ≡ None
+      → Costs 0 (store p root d made)
   unfolding store
   no_store_costs root d None is = give_costs tt
   no_store_costs root d (Some made) is = absurd (cc is)
@@ -199,7 +210,9 @@ module _ (p : Hardware) where
   computed_costs d (instr.ReadCounter counter rd) = more 0 (most_added p.muldiv) _ (omega arith) (give_costs tt)
 
   -- by what its store costs
-  settle_costs : (root : ℕ) (d : Dom) (i : Instr) (value most : ℕ) (out : Outcome) → Costs most (store p root d out.effect.store) → Costs (p.costs.mispredict + most) (settle p root d i value out)
+  settle_costs : (root : ℕ) (d : Dom) (i : Instr) (value most : ℕ) (out : Outcome)
+      → Costs most (store p root d out.effect.store)
+      → Costs (p.costs.mispredict + most) (settle p root d i value out)
   unfolding settle
   settle_costs root d i value most out stores =
       more (0 + (p.costs.mispredict + (most + 0))) (p.costs.mispredict + most) _ (omega arith)
@@ -207,7 +220,8 @@ module _ (p : Hardware) where
       (then_costs p.costs.mispredict _ _ _ (guessed_costs i d.threads.current.pc out.effect)
       (then_costs most 0 _ _ stores (give_costs _))))
 
-  loads_alone : (regs : List ℕ) (pc : ℕ) (trap : Option Trap) (new : List ℕ) → (effect.access regs pc trap (continuation new pc)).effect.store ≡ None
+  loads_alone : (regs : List ℕ) (pc : ℕ) (trap : Option Trap) (new : List ℕ)
+      → (effect.access regs pc trap (continuation new pc)).effect.store ≡ None
   loads_alone regs pc None new = refl
   loads_alone regs pc (Some trap) new = refl
 
@@ -224,14 +238,17 @@ module _ (p : Hardware) where
       more (0 + (loads + (p.costs.mispredict + stores))) (p.costs.mispredict + access_worst) _ (omega (arith, few))
       (then_costs 0 _ _ _ (unless_costs _ d) (bind_costs loads _ _ _ load (λ value. settle_costs root d i value stores _ (store value))))
 
-  stores_only : (root t : ℕ) (d : Dom) (i : Instr) → loaded p root t d i ≡ give 0 → Costs (p.costs.mispredict + access_worst) (execute p root t d i)
+  stores_only : (root t : ℕ) (d : Dom) (i : Instr) → loaded p root t d i ≡ give 0
+      → Costs (p.costs.mispredict + access_worst) (execute p root t d i)
   stores_only root t d i none =
       execute_by root t d i 0 access_worst (subst (Costs 0) (sym none) (give_costs 0)) (λ value. store_costs root d _) (omega arith)
 
-  execute_costs : (root t : ℕ) (d : Dom) (i : Instr) → Costs (p.costs.mispredict + access_worst) (execute p root t d i)
+  execute_costs : (root t : ℕ) (d : Dom) (i : Instr)
+      → Costs (p.costs.mispredict + access_worst) (execute p root t d i)
   unfolding loaded
   execute_costs root t d (instr.Load width rd rs1 offset) =
-      execute_by root t d (instr.Load width rd rs1 offset) access_worst 0 (load_costs root d width _) (λ value. no_store_costs root d _ (loads_alone _ _ _ _)) (omega arith)
+      execute_by root t d (instr.Load width rd rs1 offset) access_worst 0 (load_costs root d width _)
+      (λ value. no_store_costs root d _ (loads_alone _ _ _ _)) (omega arith)
   execute_costs root t d (instr.ReadCounter counter rd) =
       execute_by root t d (instr.ReadCounter counter rd) 0 access_worst (give_costs _) (λ value. store_costs root d _) (omega arith)
   execute_costs root t d (instr.Lui rd imm) = stores_only root t d (instr.Lui rd imm) refl
@@ -284,13 +301,16 @@ module _ (p : Hardware) (o : Own) where
   unfolding perform_worst
   executes t d i = more p (plain_worst p) perform_worst _ (omega arith) (timed_costs p (estate p o).root t d i)
 
-  perform_costs : (t : ℕ) (d : Dom) (w : ℕ) (i : Option Instr) → Costs p perform_worst (perform p (estate p o) (layout p o) t d w i)
+  perform_costs : (t : ℕ) (d : Dom) (w : ℕ) (i : Option Instr)
+      → Costs p perform_worst (perform p (estate p o) (layout p o) t d w i)
   unfolding perform perform_worst
   perform_costs t d w None = more p 0 perform_worst _ (omega arith) (stop_costs p _)
   perform_costs t d w (Some instr.Ecall) = more p (worst_operation (own_shape p o)) perform_worst _ (omega arith) (call_costs d)
   perform_costs t d w (Some i) = executes t d i
 
-  instruction_costs : (t : ℕ) (d : Dom) → Costs p (worst_look p.costs (again_of p) + (worst_fetch p.costs (again_of p) + (0 + perform_worst))) (instruction p (estate p o) (layout p o) t d)
+  instruction_costs : (t : ℕ) (d : Dom)
+      → Costs p (worst_look p.costs (again_of p) + (worst_fetch p.costs (again_of p) + (0 + perform_worst)))
+      (instruction p (estate p o) (layout p o) t d)
   unfolding instruction hierarchy
   instruction_costs t d =
       bind_costs p (worst_look p.costs (again_of p)) _ _ _ (translate_costs p _ d _ _) (λ f.
@@ -300,14 +320,16 @@ module _ (p : Hardware) (o : Own) where
   -- ---- an instruction that makes no call
 
   -- where the value is known
-  value_costs : {A B : Type 0} (a b : ℕ) (r : Done Storage Touch Dom A) (y : A → Act B) (v : A) → worst p r.notes ≤ a → worst p (y v r.state).notes ≤ b
+  value_costs : {A B : Type 0} (a b : ℕ) (r : Done Storage Touch Dom A) (y : A → Act B) (v : A)
+      → worst p r.notes ≤ a → worst p (y v r.state).notes ≤ b
       → worst p (go_on r y (inr v)).notes ≤ a + b
   unfolding go_on worst
   value_costs a b r y v first rest =
       let both = worst-append (hierarchy p) r.notes (y v r.state).notes in
       omega (arith, first, rest, both)
 
-  plain_costs : (t : ℕ) (d : Dom) (w : ℕ) (i : Option Instr) → i ≢ Some instr.Ecall → Costs p (plain_worst p) (perform p (estate p o) (layout p o) t d w i)
+  plain_costs : (t : ℕ) (d : Dom) (w : ℕ) (i : Option Instr) → i ≢ Some instr.Ecall
+      → Costs p (plain_worst p) (perform p (estate p o) (layout p o) t d w i)
   unfolding perform
   plain_costs t d w None plain = more p 0 (plain_worst p) _ (omega arith) (stop_costs p _)
   plain_costs t d w (Some instr.Ecall) plain = absurd (plain refl)
@@ -315,26 +337,37 @@ module _ (p : Hardware) (o : Own) where
 
   -- what follows the fetch's look-up
   abbrev rest_of : ℕ → Dom → ℕ → Act Dom
-  rest_of t d f = touch (Fetch (line_in p f d.threads.current.pc)) >> (read f (place d.threads.current.pc) >>= (λ w. perform p (estate p o) (layout p o) t d w (decode_of (is_some p.muldiv) w)))
+  rest_of t d f =
+      touch (Fetch (line_in p f d.threads.current.pc))
+      >> (read f (place d.threads.current.pc)
+      >>= (λ w. perform p (estate p o) (layout p o) t d w (decode_of (is_some p.muldiv) w)))
 
-  rest_costs : (t f : ℕ) (d : Dom) (s : Storage) → decode_of (is_some p.muldiv) (word s.mem f (place d.threads.current.pc)) ≢ Some instr.Ecall
+  rest_costs : (t f : ℕ) (d : Dom) (s : Storage)
+      → decode_of (is_some p.muldiv) (word s.mem f (place d.threads.current.pc)) ≢ Some instr.Ecall
       → worst p (rest_of t d f s).notes ≤ worst_fetch p.costs (again_of p) + (0 + (plain_worst p))
   unfolding ◌>>=◌ ◌>>◌ touch note read hierarchy
   rest_costs t f d s plain =
       let line = line_in p f d.threads.current.pc in
       let w = word s.mem f (place d.threads.current.pc) in
-      value_costs (worst_fetch p.costs (again_of p)) (0 + (plain_worst p)) (touch (Fetch line) s) (λ _. read f (place d.threads.current.pc) >>= (λ x. perform p (estate p o) (layout p o) t d x (decode_of (is_some p.muldiv) x))) tt
+      value_costs (worst_fetch p.costs (again_of p)) (0 + (plain_worst p)) (touch (Fetch line) s)
+      (λ _. read f (place d.threads.current.pc)
+      >>= (λ x. perform p (estate p o) (layout p o) t d x (decode_of (is_some p.muldiv) x))) tt
       ((touch_costs p (Fetch line)).within s)
-      (value_costs 0 (plain_worst p) (read f (place d.threads.current.pc) s) (λ x. perform p (estate p o) (layout p o) t d x (decode_of (is_some p.muldiv) x)) w
+      (value_costs 0 (plain_worst p) (read f (place d.threads.current.pc) s)
+      (λ x. perform p (estate p o) (layout p o) t d x (decode_of (is_some p.muldiv) x)) w
       ((read_costs p f (place d.threads.current.pc)).within s) ((plain_costs t d w (decode_of (is_some p.muldiv) w) plain).within s))
 
-  plain_by : (t : ℕ) (d : Dom) (s : Storage) (r : Result ℕ WalkFault) → instruction_at (is_some p.muldiv) s.mem d.threads.current.pc r ≢ Some instr.Ecall
+  plain_by : (t : ℕ) (d : Dom) (s : Storage) (r : Result ℕ WalkFault)
+      → instruction_at (is_some p.muldiv) s.mem d.threads.current.pc r ≢ Some instr.Ecall
       → worst p (go_on (translate p (estate p o).root d access.Fetch d.threads.current.pc s) (rest_of t d) (frame_or_stop d access.Fetch d.threads.current.pc r)).notes
       ≤ worst_look p.costs (again_of p) + (worst_fetch p.costs (again_of p) + (0 + (plain_worst p)))
   unfolding frame_or_stop go_on translate
-  plain_by t d s (Err f) plain = let looks = (translate_costs p (estate p o).root d access.Fetch d.threads.current.pc).within s in omega (arith, looks)
+  plain_by t d s (Err f) plain =
+      let looks = (translate_costs p (estate p o).root d access.Fetch d.threads.current.pc).within s in
+      omega (arith, looks)
   plain_by t d s (Ok leaf) plain =
-      value_costs (worst_look p.costs (again_of p)) (worst_fetch p.costs (again_of p) + (0 + (plain_worst p))) (translate p (estate p o).root d access.Fetch d.threads.current.pc s) (rest_of t d) (ppn leaf)
+      value_costs (worst_look p.costs (again_of p)) (worst_fetch p.costs (again_of p) + (0 + (plain_worst p)))
+      (translate p (estate p o).root d access.Fetch d.threads.current.pc s) (rest_of t d) (ppn leaf)
       ((translate_costs p (estate p o).root d access.Fetch d.threads.current.pc).within s) (rest_costs t (ppn leaf) d s plain)
 
   -- with its base, it is within the bound's instruction
@@ -354,11 +387,16 @@ module _ (p : Hardware) (o : Own) where
   instruction_within t d s = let within = (instruction_costs t d).within s in omega (arith, within)
 
   -- a delivery is within the operation
-  pub delivery_within : worst_touches (hierarchy p) (delivery_touches p (layout p o)) ≤ worst_operation (own_shape p o)
+  pub delivery_within : worst_touches (hierarchy p) (delivery_touches p (layout p o))
+      ≤ worst_operation (own_shape p o)
   unfolding delivery_touches operation footprint worst_touches hierarchy layout
   delivery_within =
       let l = layout p o in
       let w = plain delivery_op in
-      let covers = operation_covers (own_shape p o) l w refl (few_written o.calls l w (record { call = refl; zeroes = λ frame is. absurd (cc is); few = omega arith }) (λ below. absurd (omega (arith, below)))) in
+      let covers =
+      operation_covers (own_shape p o) l w refl
+      (few_written o.calls l w
+      (record { call = refl; zeroes = λ frame is. absurd (cc is); few = omega arith })
+      (λ below. absurd (omega (arith, below)))) in
       let lines = worst_lines (hierarchy p) (touches l w) in
       omega (arith, covers, lines)

@@ -36,7 +36,8 @@ module _ (p : Hardware) (h : IsHardware p) (o : Own) where
       let wb = h.costs.wb.few in
       omega (arith, l1, l2, mem, wb, few)
 
-  times_access : (n most again : ℕ) → n ≤ most → again ≤ 1000 → n * worst_access p.costs again ≤ most * most_access
+  times_access : (n most again : ℕ) → n ≤ most → again ≤ 1000
+      → n * worst_access p.costs again ≤ most * most_access
   times_access n most again few rare = mul-le n (worst_access p.costs again) most most_access few (access_small again rare)
 
   written_small : most_written o.calls p.line ≤ 256

@@ -37,7 +37,8 @@ use Rattle.world_view.proofs.facts.KernelSets.{leave_any, who_leaves, any_sharin
 -- ---- a step, from any caches
 
 -- what an event costs at most
-costs_if : (p : Hardware) (o : Own) (pinned : Bool) (end : ℕ) (s : Local) (e : Event) → HasWays (hierarchy p) s.caches → StaysWithin end e
+costs_if : (p : Hardware) (o : Own) (pinned : Bool) (end : ℕ) (s : Local) (e : Event)
+    → HasWays (hierarchy p) s.caches → StaysWithin end e
     → EndsBy p o s.clock end e (happened (setting p o pinned) s e).clock
 unfolding happened paid delivered
 costs_if p o pinned end s (Jump t) ways stays = stays
@@ -56,8 +57,10 @@ unfolding step
 step_costs p o pinned end s ways = costs_if p o pinned end s (event o s.clock end s.dom) ways (event_within o s.clock end s.dom)
 
 -- an instruction that makes no call is within the bound's
-plain_if : (p : Hardware) (o : Own) (pinned : Bool) (s : Local) (e : Event) → HasWays (hierarchy p) s.caches → e ≡ Run
-    → next_instruction p o s.dom s.storage.mem ≢ Some Ecall → (happened (setting p o pinned) s e).clock ≤ s.clock + worst_instruction (own_shape p o)
+plain_if : (p : Hardware) (o : Own) (pinned : Bool) (s : Local) (e : Event) → HasWays (hierarchy p) s.caches
+    → e ≡ Run
+    → next_instruction p o s.dom s.storage.mem ≢ Some Ecall
+    → (happened (setting p o pinned) s e).clock ≤ s.clock + worst_instruction (own_shape p o)
 unfolding happened paid
 plain_if p o pinned s (Jump t) ways is plain = absurd (cc is)
 plain_if p o pinned s (Deliver line) ways is plain = absurd (cc is)
@@ -79,7 +82,8 @@ module _ (p : Hardware) (timed : IsTimed p) (o : Own) (pinned : Bool) (end : ℕ
     pub clock : s.clock < end + largest_step p o
     pub ways : HasWays (hierarchy p) s.caches
 
-  soon_if : (s : Local) (e : Event) → s.clock < end → HasWays (hierarchy p) s.caches → StaysWithin end e → IsSoon (happened (setting p o pinned) s e)
+  soon_if : (s : Local) (e : Event) → s.clock < end → HasWays (hierarchy p) s.caches → StaysWithin end e
+      → IsSoon (happened (setting p o pinned) s e)
   unfolding happened paid delivered
   soon_if s (Jump t) below ways stays =
       let within = instruction_within p o s.clock s.dom s.storage in
@@ -87,7 +91,10 @@ module _ (p : Hardware) (timed : IsTimed p) (o : Own) (pinned : Bool) (end : ℕ
       record { clock = omega (arith, base, within, stays); ways = ways }
   soon_if s (Deliver line) below ways stays =
       let costs = costs_if p o pinned end s (Deliver line) ways stays in
-      record { clock = omega (arith, below, costs); ways = (worst_law (hierarchy p) pinned (delivery_touches p (layout p o)) s.caches ways).ways }
+      record {
+        clock = omega (arith, below, costs);
+        ways = (worst_law (hierarchy p) pinned (delivery_touches p (layout p o)) s.caches ways).ways;
+      }
   soon_if s Run below ways stays =
       let ts = (instruction p (estate p o) (layout p o) s.clock s.dom s.storage).notes in
       let costs = costs_if p o pinned end s Run ways stays in
@@ -135,7 +142,8 @@ cold_ways p s below =
     let ways = (hierarchy p).l1d.ways in
     ap (λ (x : CacheSet). length x.places) (at-empty (fresh_set ways) s) ∙ length-replicate ways None
 
-pub switch_ways : (i : Image) (h k : ℕ) (w : World) → HasWays (hierarchy i.all.hardware) (caches_of h w) → HasWays (hierarchy i.all.hardware) (caches_of h (switch_on (guarded i) i h k w))
+pub switch_ways : (i : Image) (h k : ℕ) (w : World) → HasWays (hierarchy i.all.hardware) (caches_of h w)
+    → HasWays (hierarchy i.all.hardware) (caches_of h (switch_on (guarded i) i h k w))
 unfolding switch_on guarded
 switch_ways i h k w ways =
     let p = i.all.hardware in
@@ -152,16 +160,22 @@ used_in_bound i r h k w time =
     let p = i.all.hardware in
     let out = outgoing i.all.schedule k in
     let d = (entry_of_slot i.all.schedule k).domain in
-    subst (λ (r : Touched). (clock_of h w + r.cost) - last_end i.all.schedule k ≤ bound p (ended_own i k)) (sym (switch_is i out d (caches_of h w)))
-    (on_time_law (hierarchy p) any_colour false p.shared (ended_own i k).calls (last_end i.all.schedule k) (clock_of h w) (clone_of i out) (layout p (own_of i d))
-    (caches_of h w) time.ways time.clean (any_sharing i r) (leave_any i r out (who_leaves i r k)) (record { line = refl; shared = refl }) time.over time.soon)
+    subst (λ (r : Touched). (clock_of h w + r.cost) - last_end i.all.schedule k ≤ bound p (ended_own i k))
+    (sym (switch_is i out d (caches_of h w)))
+    (on_time_law (hierarchy p) any_colour false p.shared (ended_own i k).calls (last_end i.all.schedule k)
+    (clock_of h w) (clone_of i out) (layout p (own_of i d))
+    (caches_of h w) time.ways time.clean (any_sharing i r) (leave_any i r out (who_leaves i r k))
+    (record { line = refl; shared = refl }) time.over time.soon)
 
-pub used_in_pad : (i : Image) (r : Separated i) (h k : ℕ) (w : World) → bound i.all.hardware (ended_own i k) ≤ pad_of i.all.schedule k → InTime i h k w
+pub used_in_pad : (i : Image) (r : Separated i) (h k : ℕ) (w : World)
+    → bound i.all.hardware (ended_own i k) ≤ pad_of i.all.schedule k → InTime i h k w
     → (clock_of h w + (switch_work i (outgoing i.all.schedule k) (entry_of_slot i.all.schedule k).domain (caches_of h w)).cost) - last_end i.all.schedule k ≤ pad_of i.all.schedule k
 used_in_pad i r h k w padded time = let used = used_in_bound i r h k w time in omega (arith, padded, used)
 
 -- the next slot begins at its start
-pub switch_on_start : (i : Image) (r : Separated i) (h k : ℕ) (w : World) → bound i.all.hardware (ended_own i k) ≤ pad_of i.all.schedule k → InTime i h k w → clock_of h (switch_on (guarded i) i h k w) ≡ start i.all.schedule k
+pub switch_on_start : (i : Image) (r : Separated i) (h k : ℕ) (w : World)
+    → bound i.all.hardware (ended_own i k) ≤ pad_of i.all.schedule k → InTime i h k w
+    → clock_of h (switch_on (guarded i) i h k w) ≡ start i.all.schedule k
 unfolding switch_on guarded
 switch_on_start i r h k w padded time =
     let used = used_in_pad i r h k w padded time in
@@ -220,45 +234,59 @@ module _ (i : Image) (r : Separated i) where
   on_time k = switch_on_start i r 0 k (whole i k) (r.padded k) (in_time k)
 
   -- at each moment of a slot
-  soon_in : (k n : ℕ) → IsSoon i.all.hardware r.timed (own_of i (entry_of_slot i.all.schedule k).domain) false (slot_end i.all.schedule k) (local_in i k n)
+  soon_in : (k n : ℕ)
+      → IsSoon i.all.hardware r.timed (own_of i (entry_of_slot i.all.schedule k).domain) false
+      (slot_end i.all.schedule k) (local_in i k n)
   soon_in k n =
       let d = (entry_of_slot i.all.schedule k).domain in
-      steps_soon i.all.hardware r.timed (own_of i d) false (slot_end i.all.schedule k) n (part_of 0 d (switch i k (whole i k))) (begins_soon k (in_time k))
+      steps_soon i.all.hardware r.timed (own_of i d) false (slot_end i.all.schedule k) n
+      (part_of 0 d (switch i k (whole i k))) (begins_soon k (in_time k))
 
   Timely : ℕ → Local → Local → Type 0
   Timely k s t =
       let end = slot_end i.all.schedule k in
       s.clock < end → HasWays (hierarchy i.all.hardware) s.caches
-      → EndsBy i.all.hardware (own_of i (entry_of_slot i.all.schedule k).domain) s.clock end (event (own_of i (entry_of_slot i.all.schedule k).domain) s.clock end s.dom) t.clock
+      → EndsBy i.all.hardware (own_of i (entry_of_slot i.all.schedule k).domain) s.clock end
+      (event (own_of i (entry_of_slot i.all.schedule k).domain) s.clock end s.dom) t.clock
 
   pub slot_costs : (k n : ℕ) → (local_in i k n).clock < slot_end i.all.schedule k →
       let s = local_in i k n in
       let end = slot_end i.all.schedule k in
-      EndsBy i.all.hardware (own_of i (entry_of_slot i.all.schedule k).domain) s.clock end (event (own_of i (entry_of_slot i.all.schedule k).domain) s.clock end s.dom) (local_in i k (suc n)).clock
+      EndsBy i.all.hardware (own_of i (entry_of_slot i.all.schedule k).domain) s.clock end
+      (event (own_of i (entry_of_slot i.all.schedule k).domain) s.clock end s.dom)
+      (local_in i k (suc n)).clock
   unfolding Timely
   slot_costs k n below =
       let p = i.all.hardware in
       let o = own_of i (entry_of_slot i.all.schedule k).domain in
       let end = slot_end i.all.schedule k in
-      one_more_by (setting p o false) end (Timely k) (λ s early _ ways. step_costs p o false end s ways) (λ s past early ways. absurd (omega (arith, past, early)))
+      one_more_by (setting p o false) end (Timely k) (λ s early _ ways. step_costs p o false end s ways)
+      (λ s past early ways. absurd (omega (arith, past, early)))
       n (part_of 0 (entry_of_slot i.all.schedule k).domain (switch i k (whole i k))) below (soon_in k n).ways
 
-pub within_append : (es : List Entry) (us vs : List (ℕ × ℕ)) → AllWithinPads es us → AllWithinPads es vs → AllWithinPads es (us ++ vs)
+pub within_append : (es : List Entry) (us vs : List (ℕ × ℕ)) → AllWithinPads es us → AllWithinPads es vs
+    → AllWithinPads es (us ++ vs)
 within_append es [] vs h k = k
 within_append es (u ∷ us) vs h k = (h.0, within_append es us vs h.1 k)
 
 pub used_within : (i : Image) (n : ℕ) → Separated i → AllWithinPads i.all.schedule (whole i n).used
-unfolding whole_by opening run_slot_by own_slot with_end guarded with_part switch_by switch_on with_hart at put
+unfolding whole_by opening run_slot_by own_slot with_end guarded with_part switch_by switch_on with_hart at
+    put
 used_within i zero r = tt
-used_within i (suc k) r = within_append i.all.schedule (whole i k).used _ (used_within i k r) (used_in_pad i r 0 k (whole i k) (r.padded k) (in_time i r k), tt)
+used_within i (suc k) r =
+    within_append i.all.schedule (whole i k).used _ (used_within i k r)
+    (used_in_pad i r 0 k (whole i k) (r.padded k) (in_time i r k), tt)
 
-largest_if : (e largest pad : ℕ) (u : ℕ × ℕ) (b : Bool) → eqb u.0 e ≡ b → largest ≤ pad → (u.0 ≡ e → u.1 ≤ pad) → cond b (max u.1 largest) largest ≤ pad
+largest_if : (e largest pad : ℕ) (u : ℕ × ℕ) (b : Bool) → eqb u.0 e ≡ b → largest ≤ pad
+    → (u.0 ≡ e → u.1 ≤ pad) → cond b (max u.1 largest) largest ≤ pad
 largest_if e largest pad u true t h k = let here = k (eqb-true u.0 e t) in omega arith
 largest_if e largest pad u false t h k = h
 
 -- the largest of an entry's switches is within its pad
-pub largest_within : (es : List Entry) (e : ℕ) (us : List (ℕ × ℕ)) → AllWithinPads es us → largest_of e us ≤ (entry_in es e).pad
+pub largest_within : (es : List Entry) (e : ℕ) (us : List (ℕ × ℕ)) → AllWithinPads es us
+    → largest_of e us ≤ (entry_in es e).pad
 unfolding largest_of
 largest_within es e [] h = omega arith
 largest_within es e (u ∷ us) h =
-    largest_if e (largest_of e us) (entry_in es e).pad u (eqb u.0 e) refl (largest_within es e us h.1) (λ q. subst (λ (x : ℕ). u.1 ≤ (entry_in es x).pad) q h.0)
+    largest_if e (largest_of e us) (entry_in es e).pad u (eqb u.0 e) refl (largest_within es e us h.1)
+    (λ q. subst (λ (x : ℕ). u.1 ≤ (entry_in es x).pad) q h.0)

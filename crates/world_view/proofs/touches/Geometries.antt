@@ -46,7 +46,8 @@ takes c most is = by_policy c.policy refl
         let power = power_is c.ways (is.tree e) in
         (is.some_way, is.few_ways, depth_is power.0 c.ways power.1 is.few_ways)
 
-cache_is : (c : CacheShape) (most : ℕ) → most ≤ 16384 → IsCache most c → cache.IsGeometry (any_takes (any_of c.policy)) c.sets c.ways
+cache_is : (c : CacheShape) (most : ℕ) → most ≤ 16384 → IsCache most c
+    → cache.IsGeometry (any_takes (any_of c.policy)) c.sets c.ways
 cache_is c most few is =
     let product = mul-le c.sets c.ways most 16 is.sets.most is.few_ways in
     record { taken = takes c most is; power = power_is c.sets is.sets.power; small = omega (arith, product, few) }
@@ -64,7 +65,11 @@ geometry_sound p h =
     record {
       least = h.line.least;
       coloured = coloured p h;
-      predictor = record { counters = power_is p.predictor h.predictor.power; history = h.few_history; targets = are_targets p.targets h.targets };
+      predictor = record {
+        counters = power_is p.predictor h.predictor.power;
+        history = h.few_history;
+        targets = are_targets p.targets h.targets;
+      };
       l1i = cache_is p.l1i 1024 (lit≤ tt) h.l1i;
       l1d = cache_is p.l1d 1024 (lit≤ tt) h.l1d;
       l2 = cache_is p.l2 16384 (lit≤ tt) h.l2;
@@ -78,10 +83,13 @@ rule_is Fifo = refl
 rule_is Plru = refl
 rule_is Nmru = refl
 
-geometry_hierarchy : (p : Hardware) (costs : Costs) (products : Option ProductCosts) → costs_of costs ≡ p.costs
+geometry_hierarchy : (p : Hardware) (costs : Costs) (products : Option ProductCosts)
+    → costs_of costs ≡ p.costs
     → option_map product_costs_of products ≡ p.muldiv → hierarchy_by any_rule (geometry p) costs products ≡ hierarchy p
 unfolding hierarchy
-geometry_hierarchy p costs products same made = rw (same, made, rule_is p.l1i.policy, rule_is p.l1d.policy, rule_is p.l2.policy, rule_is p.tlb.policy) refl
+geometry_hierarchy p costs products same made =
+    rw (same, made, rule_is p.l1i.policy, rule_is p.l1d.policy, rule_is p.l2.policy, rule_is p.tlb.policy)
+    refl
 
 -- of these four parts
 module _ (p : Hardware) (l1i l1d l2 tlb : CacheGeometry AnyPolicy) (a : l1i ≡ cache_geometry p.l1i) (b : l1d ≡ cache_geometry p.l1d)
@@ -91,9 +99,14 @@ module _ (p : Hardware) (l1i l1d l2 tlb : CacheGeometry AnyPolicy) (a : l1i ≡ 
 
   parts_are : parts ≡ geometry p
   parts_are =
-      let x : ◌≡◌ {A = Geometry AnyPolicy} (record (geometry p) { l1i = l1i }) (geometry p) = ap (λ (g : CacheGeometry AnyPolicy). record (geometry p) { l1i = g }) a in
-      let y : ◌≡◌ {A = Geometry AnyPolicy} (record (geometry p) { l1i = l1i; l1d = l1d }) (record (geometry p) { l1i = l1i }) = ap (λ (g : CacheGeometry AnyPolicy). record (geometry p) { l1i = l1i; l1d = g }) b in
-      let z : ◌≡◌ {A = Geometry AnyPolicy} (record (geometry p) { l1i = l1i; l1d = l1d; l2 = l2 }) (record (geometry p) { l1i = l1i; l1d = l1d }) = ap (λ (g : CacheGeometry AnyPolicy). record (geometry p) { l1i = l1i; l1d = l1d; l2 = g }) c in
+      let x : ◌≡◌ {A = Geometry AnyPolicy} (record (geometry p) { l1i = l1i }) (geometry p) =
+      ap (λ (g : CacheGeometry AnyPolicy). record (geometry p) { l1i = g }) a in
+      let y : ◌≡◌ {A = Geometry AnyPolicy} (record (geometry p) { l1i = l1i; l1d = l1d })
+      (record (geometry p) { l1i = l1i }) =
+      ap (λ (g : CacheGeometry AnyPolicy). record (geometry p) { l1i = l1i; l1d = g }) b in
+      let z : ◌≡◌ {A = Geometry AnyPolicy} (record (geometry p) { l1i = l1i; l1d = l1d; l2 = l2 })
+      (record (geometry p) { l1i = l1i; l1d = l1d }) =
+      ap (λ (g : CacheGeometry AnyPolicy). record (geometry p) { l1i = l1i; l1d = l1d; l2 = g }) c in
       ap (λ (g : CacheGeometry AnyPolicy). record (geometry p) { l1i = l1i; l1d = l1d; l2 = l2; tlb = g }) d ∙ z ∙ y ∙ x
 
   pub parts_sound : IsHardware p → IsGeometry any_takes parts

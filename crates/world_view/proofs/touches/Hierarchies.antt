@@ -14,7 +14,8 @@ use Rattle.world_view.specs.Cost.{hierarchy, region, bare_layout, own_colour}
 
 module _ (p : Hardware) (h : IsHardware p) where
   -- a kernel clone of these frames
-  pub clone_is : (text more_text stack data_frame : ℕ) → IsFrameNo text → IsFrameNo more_text → IsFrameNo stack → IsFrameNo data_frame
+  pub clone_is : (text more_text stack data_frame : ℕ) → IsFrameNo text → IsFrameNo more_text
+      → IsFrameNo stack → IsFrameNo data_frame
       → IsLayout (record (bare_layout p) { text = text; more_text = more_text; stack = stack; data_frame = data_frame })
   clone_is text more_text stack data_frame in_text in_more in_stack in_data = record {
     power = power_is p.line h.line.power;

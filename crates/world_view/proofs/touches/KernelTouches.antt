@@ -24,10 +24,13 @@ use Rattle.world_view.proofs.touches.Lines.{own_line, is_shared}
 
 module _ (p : Hardware) (o : Own) where
   -- the frame that was zeroed, and those of the entries that were written, are the domain's
-  own_zeroed : (ns : List Note) → All (IsOwnWork (estate p o)) ns → (f : ℕ) → zeroed_in ns ≡ Some f → IsOwnFrame p o f
+  own_zeroed : (ns : List Note) → All (IsOwnWork (estate p o)) ns → (f : ℕ) → zeroed_in ns ≡ Some f
+      → IsOwnFrame p o f
   unfolding zeroed_in
   own_zeroed [] all f is = absurd (cc is)
-  own_zeroed (Note.Zeroed g ∷ ns) all f is = mine_own p o f (subst (IsMine (estate p o)) (cc is) (All-head (IsOwnWork (estate p o)) (Note.Zeroed g) ns all))
+  own_zeroed (Note.Zeroed g ∷ ns) all f is =
+      mine_own p o f
+      (subst (IsMine (estate p o)) (cc is) (All-head (IsOwnWork (estate p o)) (Note.Zeroed g) ns all))
   own_zeroed (Note.Entry at ∷ ns) all f is = own_zeroed ns (All-tail (IsOwnWork (estate p o)) (Note.Entry at) ns all) f is
   own_zeroed (Note.Emptied ∷ ns) all f is = own_zeroed ns (All-tail (IsOwnWork (estate p o)) Note.Emptied ns all) f is
 
@@ -37,7 +40,8 @@ module _ (p : Hardware) (o : Own) where
   own_entries [] all k below = absurd (omega (arith, below))
   own_entries (Note.Zeroed g ∷ ns) all k below = own_entries ns (All-tail (IsOwnWork (estate p o)) (Note.Zeroed g) ns all) k below
   own_entries (Note.Entry at ∷ ns) all zero below = mine_own p o (at / 4096) (All-head (IsOwnWork (estate p o)) (Note.Entry at) ns all)
-  own_entries (Note.Entry at ∷ ns) all (suc k) below = own_entries ns (All-tail (IsOwnWork (estate p o)) (Note.Entry at) ns all) k (omega (arith, below))
+  own_entries (Note.Entry at ∷ ns) all (suc k) below =
+      own_entries ns (All-tail (IsOwnWork (estate p o)) (Note.Entry at) ns all) k (omega (arith, below))
   own_entries (Note.Emptied ∷ ns) all k below = own_entries ns (All-tail (IsOwnWork (estate p o)) Note.Emptied ns all) k below
 
   own_by : (f g : ℕ) → f ≡ g → IsOwnFrame p o g → IsOwnFrame p o f
@@ -46,12 +50,14 @@ module _ (p : Hardware) (o : Own) where
   module _ (kernel : IsKernel p o) (w : WorkDone) (zeroed : (f : ℕ) → w.zeroed ≡ Some f → IsOwnFrame p o f)
       (entries : (k : ℕ) → k < length w.entries → IsOwnFrame p o (slice_index w.entries k / 4096))
       (lines : List ℕ) (loads : (line : ℕ) → IsLoaded (layout p o) w.op line → IsShared lines line) where
-    in_frame : (line f : ℕ) → frame_of (layout p o) line ≡ f → IsOwnFrame p o f → MayTouch (hierarchy p) (own_colour o) lines (touch_by kind.Store line)
+    in_frame : (line f : ℕ) → frame_of (layout p o) line ≡ f → IsOwnFrame p o f
+        → MayTouch (hierarchy p) (own_colour o) lines (touch_by kind.Store line)
     unfolding layout
     in_frame line f e own = own_line p o line (own_by _ f e own)
 
     -- where a touch of the footprint lies, it may be made
-    may_line : (k : Kind) (line : ℕ) → IsPlaced (layout p o) w k line → MayTouch (hierarchy p) (own_colour o) lines (touch_by k line)
+    may_line : (k : Kind) (line : ℕ) → IsPlaced (layout p o) w k line
+        → MayTouch (hierarchy p) (own_colour o) lines (touch_by k line)
     may_line kind.Fetch line (inl e) = in_frame line _ e kernel.text
     may_line kind.Fetch line (inr e) = in_frame line _ e kernel.more_text
     may_line kind.Load line h = inr (loads line h)
@@ -59,11 +65,19 @@ module _ (p : Hardware) (o : Own) where
     may_line kind.Store line (inr (inl e)) = in_frame line _ e kernel.data_frame
     may_line kind.Store line (inr (inr (inl e))) = in_frame line _ refl (zeroed _ e)
     may_line kind.Store line (inr (inr (inr e))) =
-        in_frame line _ (ap (frame_of (layout p o)) e.2 ∙ entry_frame (layout p o) (slice_index w.entries e.0) kernel.has_layout) (entries e.0 e.1)
+        in_frame line _
+        (ap (frame_of (layout p o)) e.2
+        ∙ entry_frame (layout p o) (slice_index w.entries e.0) kernel.has_layout) (entries e.0 e.1)
 
-    may_lines : (ts : List LineTouch) → All (λ t. IsPlaced (layout p o) w t.kind t.line) ts → MayTouchAll (hierarchy p) (own_colour o) lines (map touch_of_line ts)
+    may_lines : (ts : List LineTouch) → All (λ t. IsPlaced (layout p o) w t.kind t.line) ts
+        → MayTouchAll (hierarchy p) (own_colour o) lines (map touch_of_line ts)
     may_lines [] all = tt
-    may_lines (t ∷ ts) all = (may_line t.kind t.line (All-head (λ (x : LineTouch). IsPlaced (layout p o) w x.kind x.line) t ts all), may_lines ts (All-tail (λ (x : LineTouch). IsPlaced (layout p o) w x.kind x.line) t ts all))
+    may_lines (t ∷ ts) all = (
+      may_line t.kind t.line
+          (All-head (λ (x : LineTouch). IsPlaced (layout p o) w x.kind x.line) t ts all),
+      may_lines ts
+          (All-tail (λ (x : LineTouch). IsPlaced (layout p o) w x.kind x.line) t ts all),
+    )
 
     pub footprint_may : MayTouchAll (hierarchy p) (own_colour o) lines (footprint (layout p o) w)
     unfolding footprint
@@ -79,7 +93,11 @@ module _ (p : Hardware) (o : Own) where
 
     pub leave_may : MayTouchAll (hierarchy p) (own_colour o) lines (leave p.costs (layout p o))
     unfolding leave operation
-    leave_may = (tt, footprint_may kernel (plain leave_op) (λ f is. absurd (cc is)) (λ k below. absurd (omega (arith, below))) lines leave_loads)
+    leave_may = (
+      tt,
+      footprint_may kernel (plain leave_op) (λ f is. absurd (cc is))
+          (λ k below. absurd (omega (arith, below))) lines leave_loads,
+    )
 
     pub enter_may : MayTouchAll (hierarchy p) (own_colour o) lines (enter (layout p o))
     unfolding enter
@@ -102,5 +120,10 @@ module _ (p : Hardware) (o : Own) where
       → MayAll p o (call_touches p (layout p o) number ns)
   unfolding call_touches operation work_of
   call_may kernel number ns all =
-      let own : MayAll p o (operation p.costs (layout p o) (work_of number ns)) = (tt, footprint_may kernel (work_of number ns) (own_zeroed ns all) (own_entries ns all) (region p) (λ line h. is_shared p o h.shared.0 line h.shared.1 h.shared.2)) in
-      may_append (hierarchy p) (own_colour o) (region p) (operation p.costs (layout p o) (work_of number ns)) (if empties ns then EmptyTlb ∷ [] else []) own (may_empty (empties ns))
+      let own : MayAll p o (operation p.costs (layout p o) (work_of number ns)) = (
+        tt,
+        footprint_may kernel (work_of number ns) (own_zeroed ns all) (own_entries ns all)
+            (region p) (λ line h. is_shared p o h.shared.0 line h.shared.1 h.shared.2),
+      ) in
+      may_append (hierarchy p) (own_colour o) (region p) (operation p.costs (layout p o) (work_of number ns))
+      (if empties ns then EmptyTlb ∷ [] else []) own (may_empty (empties ns))

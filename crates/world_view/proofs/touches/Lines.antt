@@ -16,12 +16,14 @@ use Rattle.world_view.specs.Relations.{IsOwnFrame, IsKernel}
 
 module _ (p : Hardware) (o : Own) where
   -- a line has the colour of its frame
-  pub own_line : (line : ℕ) → IsOwnFrame p o (line / (4096 / p.line)) → IsOwnLine (hierarchy p) (own_colour o) line
+  pub own_line : (line : ℕ) → IsOwnFrame p o (line / (4096 / p.line))
+      → IsOwnLine (hierarchy p) (own_colour o) line
   unfolding hierarchy colour_of_line
   own_line line own = (and_parts _ _ own).1
 
   -- the line of an address in an own frame
-  pub own_address : IsKernel p o → (at : ℕ) → IsOwnFrame p o (at / 4096) → IsOwnLine (hierarchy p) (own_colour o) (at / p.line)
+  pub own_address : IsKernel p o → (at : ℕ) → IsOwnFrame p o (at / 4096)
+      → IsOwnLine (hierarchy p) (own_colour o) (at / p.line)
   unfolding layout
   own_address kernel at own = own_line (at / p.line) (subst (IsOwnFrame p o) (sym (entry_frame (layout p o) at kernel.has_layout)) own)
 
@@ -30,12 +32,14 @@ module _ (p : Hardware) where
   unfolding region shared_region
   length_region = length-map-range_with_len (shared_line (bare_layout p)) 0 (shared_lines (bare_layout p))
 
-  pub region_line : (k : ℕ) → k < shared_lines (bare_layout p) → slice_index (region p) k ≡ shared_line (bare_layout p) k
+  pub region_line : (k : ℕ) → k < shared_lines (bare_layout p)
+      → slice_index (region p) k ≡ shared_line (bare_layout p) k
   unfolding region shared_region
   region_line k below = get_or-map-range_with_len (shared_line (bare_layout p)) 0 (shared_lines (bare_layout p)) k k 0 below (zero-add k)
 
   -- a shared line of any clone is of the region
-  pub is_shared : (o : Own) (k line : ℕ) → k < shared_lines (layout p o) → line ≡ shared_line (layout p o) k → IsShared (region p) line
+  pub is_shared : (o : Own) (k line : ℕ) → k < shared_lines (layout p o) → line ≡ shared_line (layout p o) k
+      → IsShared (region p) line
   unfolding layout
   is_shared o k line below is =
       (k, subst (λ (n : ℕ). k < n) (sym length_region) below, is ∙ sym (region_line k below))

@@ -14,7 +14,9 @@ pub returns-then-entry-d-clause-there : goal.returns-then-entry-d-clause-there
 returns-then-entry-d-clause-there c =
     let es = c.args.schedule.now in
     let below : c.loop-k.k < length es = omega (arith, c.loop-k-test.true, c.loop-k.auto.k-end, c.len-k-end.ensures.value) in
-    let is = sym (named_here es c.args.d c.loop-k.k c.entry-entry.result below c.entry-entry.ensures.value c.if-entry-d.true) ∙ c.loop-k.invariant in
+    let is =
+    sym (named_here es c.args.d c.loop-k.k c.entry-entry.result below c.entry-entry.ensures.value
+    c.if-entry-d.true) ∙ c.loop-k.invariant in
     let there = hart_there_law es c.args.d c.len-k-end.ensures.schedule.some in
     omega (arith, is, there)
 

@@ -16,5 +16,7 @@ returns c =
     let h = hart_for public.schedule c.args.d in
     let own = own_entries public.schedule public.harts.items public.each_hart h c.index.result.now
     (omega (arith, c.hart_for.ensures.value, c.hart_for.ensures.there))
-    (c.index.ensures ∙ ap (λ (n : ℕ). slice_index_or public.harts.items n c.index.result.now) (c.from.ensures ∙ c.hart_for.ensures.value)) in
+    (c.index.ensures
+    ∙ ap (λ (n : ℕ). slice_index_or public.harts.items n c.index.result.now)
+    (c.from.ensures ∙ c.hart_for.ensures.value)) in
     record { entries = ap entries_alone own }

@@ -8,14 +8,17 @@ use Rattle.std.proofs.lemmas.List.Elements.{All-replicate}
 use Rattle.branch_pred.proofs.Predictor.new.Goals as goal
 
 -- as many as were asked for
-counted : {X : Type 0} (P : ℕ → Type 0) (xs : List X) (n : ℕ) (x : X) → xs ≡ replicate n x → P n → P (length xs)
+counted : {X : Type 0} (P : ℕ → Type 0) (xs : List X) (n : ℕ) (x : X) → xs ≡ replicate n x → P n
+    → P (length xs)
 counted P xs n x same is = subst (λ (ys : List _). P (length ys)) (sym same) (subst P (sym (length-replicate n x)) is)
 
 pub invariant_of-result : goal.invariant_of-result
 invariant_of-result c = record {
   sound = record {
     power = counted IsPowerOfTwo _ _ 1 c.in_ok-new_counters.ensures.items c.requires.sizes.counters;
-    small = subst (All (λ (counter : ℕ). counter < 4)) (sym c.in_ok-new_counters.ensures.items) (All-replicate (λ (counter : ℕ). counter < 4) _ 1 (omega arith));
+    small =
+        subst (All (λ (counter : ℕ). counter < 4)) (sym c.in_ok-new_counters.ensures.items)
+        (All-replicate (λ (counter : ℕ). counter < 4) _ 1 (omega arith));
     few = c.requires.sizes.history;
     history = pow_pos c.args.sizes.history;
     targets = counted (λ (n : ℕ). (n ≡ 0) ⊎ IsPowerOfTwo n) _ _ _ c.in_ok-no_targets.ensures.items c.requires.sizes.targets;

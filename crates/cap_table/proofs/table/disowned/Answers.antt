@@ -10,7 +10,8 @@ pub returns-in_default-clause-back : goal.returns-in_default-clause-back
 returns-in_default-clause-back c =
     let had : c.index-held-slot.result ≡ Some c.in_ok-frame.frame = search rules in
     let owned : owner_at c.args.held.now c.args.slot ≡ Some c.in_ok-frame.frame =
-    get_or_default c.args.held.now c.args.slot None c.index-held-slot.result (omega (arith, c.requires.owned.places, c.requires.below)) ∙ (sym c.index-held-slot.is ∙ had) in
+    get_or_default c.args.held.now c.args.slot None c.index-held-slot.result
+    (omega (arith, c.requires.owned.places, c.requires.below)) ∙ (sym c.index-held-slot.is ∙ had) in
     back_last c.args.slots.now c.args.held.now c.requires.places c.requires.owned c.args.slot c.requires.below c.in_ok-frame.frame owned
     (subst (λ (n : ℕ). NoOther c.args.slots.now c.args.slot n) c.number.ensures.number c.in_default.ensures.other)
 
@@ -18,8 +19,11 @@ pub returns-clause-owned : goal.returns-clause-owned
 returns-clause-owned c =
     let had : c.index-held-slot.result ≡ Some c.in_ok-frame.frame = search rules in
     let owned : owner_at c.args.held.now c.args.slot ≡ Some c.in_ok-frame.frame =
-    get_or_default c.args.held.now c.args.slot None c.index-held-slot.result (omega (arith, c.requires.owned.places, c.requires.below)) ∙ (sym c.index-held-slot.is ∙ had) in
-    subst (λ (o : Option ℕ). IsOwned page_of (slice_set c.args.slots.now c.args.slot None) (slice_set (slice_set c.args.held.now c.args.slot o) c.in-Some.other (Some c.in_ok-frame.frame)))
+    get_or_default c.args.held.now c.args.slot None c.index-held-slot.result
+    (omega (arith, c.requires.owned.places, c.requires.below)) ∙ (sym c.index-held-slot.is ∙ had) in
+    subst (λ (o : Option ℕ). IsOwned page_of (slice_set c.args.slots.now c.args.slot None)
+    (slice_set (slice_set c.args.held.now c.args.slot o) c.in-Some.other (Some c.in_ok-frame.frame)))
     (sym c.take.ensures.after)
-    (owned_moved c.args.slots.now c.args.held.now c.requires.places c.requires.owned c.args.slot c.requires.below c.in_ok-frame.frame c.in-Some.other owned
+    (owned_moved c.args.slots.now c.args.held.now c.requires.places c.requires.owned c.args.slot
+    c.requires.below c.in_ok-frame.frame c.in-Some.other owned
     (subst (λ (n : ℕ). IsOther c.args.slots.now c.args.slot n (Some c.in-Some.other)) c.number.ensures.number c.in-Some.ensures.other))

@@ -10,7 +10,9 @@ loop-call-init c = refl
 
 pub overflow_add-calls : goal.overflow_add-calls
 overflow_add-calls c =
-    let fit = bits_fit (λ n. names c.args.numbers.now (pos n)) c.loop-call.call c.loop-call.calls c.bit_of-calls.result c.loop-call-test.true c.loop-call.invariant c.bit_of-calls.ensures.value in
+    let fit =
+    bits_fit (λ n. names c.args.numbers.now (pos n)) c.loop-call.call c.loop-call.calls
+    c.bit_of-calls.result c.loop-call-test.true c.loop-call.invariant c.bit_of-calls.ensures.value in
     omega (arith, fit)
 
 pub loop-call-preserved : goal.loop-call-preserved

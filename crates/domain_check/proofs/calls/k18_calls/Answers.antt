@@ -9,7 +9,10 @@ returns-in_err-k18_call c =
     let calls = c.args.calls.now in
     let k = c.loop-place.place in
     let same : to_z w64 (of_z w64 (get_or calls k (pos 0))) ≡ get_or calls k (pos 0) = search rules in
-    let is = sym c.loop-place.invariant ∙ found (k18_call c.args.d) calls k _ (pos 0) _ c.loop-place-test.true same c.in_err-k18_call.ensures.verdict in
+    let is =
+    sym c.loop-place.invariant
+    ∙ found (k18_call c.args.d) calls k _ (pos 0) _ c.loop-place-test.true same
+    c.in_err-k18_call.ensures.verdict in
     record { verdict = refused c.from_residual.result (first_in (k18_call c.args.d) calls) _ c.from_residual.ensures.1 is }
 
 pub loop-place-preserved : goal.loop-place-preserved

@@ -13,7 +13,8 @@ returns-then-eq c =
     let same : bytes_eq c.args.text.now (string_bytes x) ≡ true = search rules in
     let any =
     sym c.loop-other.invariant
-    ∙ any_found (bytes_eq c.args.text.now) (λ s. string_bytes s) earlier c.loop-other.other-index x x c.loop-other-test.true c.other-item.is same in
+    ∙ any_found (bytes_eq c.args.text.now) (λ s. string_bytes s) earlier c.loop-other.other-index x x
+    c.loop-other-test.true c.other-item.is same in
     let d = c.args.d in
     record {
       verdict =
@@ -25,11 +26,15 @@ pub loop-other-preserved : goal.loop-other-preserved
 loop-other-preserved c =
     let x = c.other-item.result in
     let other : bytes_eq c.args.text.now (string_bytes x) ≡ false = search rules in
-    any_more (bytes_eq c.args.text.now) (λ s. string_bytes s) c.args.earlier.now c.loop-other.other-index x x c.loop-other-test.true c.other-item.is other
+    any_more (bytes_eq c.args.text.now) (λ s. string_bytes s) c.args.earlier.now c.loop-other.other-index x x
+    c.loop-other-test.true c.other-item.is other
     ∙ c.loop-other.invariant
 
 pub returns : goal.returns
 returns c =
     let earlier = c.args.earlier.now in
-    let none = sym c.loop-other.invariant ∙ any_ended (bytes_eq c.args.text.now) (λ s. string_bytes s) earlier c.loop-other.other-index c.loop-other-test.false in
+    let none =
+    sym c.loop-other.invariant
+    ∙ any_ended (bytes_eq c.args.text.now) (λ s. string_bytes s) earlier c.loop-other.other-index
+    c.loop-other-test.false in
     record { verdict = ap (λ (b : Bool). if b then k13_refusal c.args.d (length (map (λ s. string_bytes s) earlier)) 5 else None) none }

@@ -8,10 +8,15 @@ returns-in_err-push c = record { value = unmade _ c.from_residual.result _ c.fro
 
 pub loop-named-preserved : goal.loop-named-preserved
 loop-named-preserved c =
-    made named_model c.loop-named.caps.items c.push.new.self.items c.args.slots.now c.loop-named.named-index _ _ c.cap_from.result c.loop-named-test.true refl
+    made named_model c.loop-named.caps.items c.push.new.self.items c.args.slots.now c.loop-named.named-index _
+    _ c.cap_from.result c.loop-named-test.true refl
     c.in_ok-push.ensures.items c.cap_from.ensures.value
     ∙ c.loop-named.invariant
 
 pub returns : goal.returns
 returns c =
-    record { value = sym (all_made named_model c.loop-named.caps.items c.args.slots.now c.loop-named.named-index c.loop-named-test.false) ∙ c.loop-named.invariant }
+    record {
+      value =
+          sym (all_made named_model c.loop-named.caps.items c.args.slots.now c.loop-named.named-index
+          c.loop-named-test.false) ∙ c.loop-named.invariant;
+    }

@@ -28,8 +28,10 @@ pub loop-d-preserved : goal.loop-d-preserved
 loop-d-preserved c =
     let domains = c.as_slice-domains.result.now in
     let x = c.index-domains-d.result in (
-      passed_of k13_domain domain_model domains c.loop-d.d x x c.loop-d-test.true c.index-domains-d.is c.in_ok-k13_domain.ensures.verdict ∙ c.loop-d.invariant.0,
-      made_of (λ v. map named_model v.items) caps_of domain_model c.loop-d.caps.items c.push.new.self.items domains c.loop-d.d x x c.in_ok-k13_domain.field-0 c.loop-d-test.true c.index-domains-d.is
+      passed_of k13_domain domain_model domains c.loop-d.d x x c.loop-d-test.true c.index-domains-d.is
+          c.in_ok-k13_domain.ensures.verdict ∙ c.loop-d.invariant.0,
+      made_of (λ v. map named_model v.items) caps_of domain_model c.loop-d.caps.items c.push.new.self.items
+          domains c.loop-d.d x x c.in_ok-k13_domain.field-0 c.loop-d-test.true c.index-domains-d.is
           c.in_ok-push.ensures.items c.in_ok-k13_domain.ensures.value ∙ c.loop-d.invariant.1,
     )
 
@@ -43,5 +45,7 @@ returns-clause-verdict c =
 pub returns-clause-value : goal.returns-clause-value
 returns-clause-value c =
     let domains = c.as_slice-domains.result.now in
-    let all = sym (all_made_of caps_of domain_model (map (λ v. map named_model v.items) c.loop-d.caps.items) domains c.loop-d.d c.loop-d-test.false) ∙ c.loop-d.invariant.1 in
+    let all =
+    sym (all_made_of caps_of domain_model (map (λ v. map named_model v.items) c.loop-d.caps.items)
+    domains c.loop-d.d c.loop-d-test.false) ∙ c.loop-d.invariant.1 in
     all ∙ ap (λ ds. map caps_of (map domain_model ds)) c.as_slice-domains.ensures.value

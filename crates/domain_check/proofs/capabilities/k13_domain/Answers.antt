@@ -16,8 +16,12 @@ returns-in_err-named_in-clause-verdict c =
     let k = c.loop-slot.slot in
     let x = c.index-caps-slot.result in
     let case = k13_case o (length earlier) in
-    let few : length (map (λ s. string_bytes s) caps) ≤ 64 = omega (arith, length-map caps (λ s. string_bytes s), c.if-caps-gt-MOST_SLOTS.false) in
-    let whole = few_slots (map domain_model earlier) o (length earlier) (map (λ s. string_bytes s) caps) (length-map earlier domain_model) (ap (map (λ s. string_bytes s)) (sym c.as_slice-caps.ensures.value)) few in
+    let few : length (map (λ s. string_bytes s) caps) ≤ 64 =
+    omega (arith, length-map caps (λ s. string_bytes s), c.if-caps-gt-MOST_SLOTS.false) in
+    let whole =
+    few_slots (map domain_model earlier) o (length earlier) (map (λ s. string_bytes s) caps)
+    (length-map earlier domain_model)
+    (ap (map (λ s. string_bytes s)) (sym c.as_slice-caps.ensures.value)) few in
     let here = ap (case (map (λ s. string_bytes s) (take k caps))) (sym c.as_str.ensures.value) ∙ c.in_err-named_in.ensures.verdict in
     broken c.from_residual.result _ _ c.from_residual.ensures.1
     (whole ∙ sym c.loop-slot.invariant.0 ∙ found_of case (λ s. string_bytes s) caps k x x _ c.loop-slot-test.true c.index-caps-slot.is here)
@@ -41,7 +45,8 @@ loop-slot-preserved c =
     let here = ap (case (map (λ s. string_bytes s) (take k caps))) (sym c.as_str.ensures.value) ∙ c.in_ok-named_in.ensures.verdict in
     let named = c.in_ok-named_in.ensures.value ∙ ap cap_of c.as_str.ensures.value in (
       passed_of case (λ s. string_bytes s) caps k x x c.loop-slot-test.true c.index-caps-slot.is here ∙ c.loop-slot.invariant.0,
-      made_of named_model cap_of (λ s. string_bytes s) c.loop-slot.found.items c.push.new.self.items caps k x x c.in_ok-named_in.field-0 c.loop-slot-test.true c.index-caps-slot.is
+      made_of named_model cap_of (λ s. string_bytes s) c.loop-slot.found.items c.push.new.self.items caps k x
+          x c.in_ok-named_in.field-0 c.loop-slot-test.true c.index-caps-slot.is
           c.in_ok-push.ensures.items named ∙ c.loop-slot.invariant.1,
     )
 
@@ -50,9 +55,15 @@ returns-clause-verdict c =
     let o = domain_model c.args.domain.now in
     let earlier = c.args.earlier.now in
     let caps = c.as_slice-caps.result.now in
-    let few : length (map (λ s. string_bytes s) caps) ≤ 64 = omega (arith, length-map caps (λ s. string_bytes s), c.if-caps-gt-MOST_SLOTS.false) in
-    let whole = few_slots (map domain_model earlier) o (length earlier) (map (λ s. string_bytes s) caps) (length-map earlier domain_model) (ap (map (λ s. string_bytes s)) (sym c.as_slice-caps.ensures.value)) few in
-    whole ∙ sym c.loop-slot.invariant.0 ∙ ended_of (k13_case o (length earlier)) (λ s. string_bytes s) _ caps c.loop-slot.slot c.loop-slot-test.false
+    let few : length (map (λ s. string_bytes s) caps) ≤ 64 =
+    omega (arith, length-map caps (λ s. string_bytes s), c.if-caps-gt-MOST_SLOTS.false) in
+    let whole =
+    few_slots (map domain_model earlier) o (length earlier) (map (λ s. string_bytes s) caps)
+    (length-map earlier domain_model)
+    (ap (map (λ s. string_bytes s)) (sym c.as_slice-caps.ensures.value)) few in
+    whole ∙ sym c.loop-slot.invariant.0
+    ∙ ended_of (k13_case o (length earlier)) (λ s. string_bytes s) _ caps c.loop-slot.slot
+    c.loop-slot-test.false
 
 pub returns-clause-value : goal.returns-clause-value
 returns-clause-value c =

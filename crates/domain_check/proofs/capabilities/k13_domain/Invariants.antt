@@ -8,7 +8,8 @@ use Rattle.domain_check.proofs.capabilities.k13_domain.Given as goal
 
 abbrev pub invariant-loop-slot : goal.invariant-loop-slot
 invariant-loop-slot l =
-    (first_case (spec.k13_case (domain_model l.domain) l.d) (map (λ s. string_bytes s) (take l.slot l.caps)) (map (λ s. string_bytes s) (drop l.slot l.caps))
+    (first_case (spec.k13_case (domain_model l.domain) l.d) (map (λ s. string_bytes s) (take l.slot l.caps))
+    (map (λ s. string_bytes s) (drop l.slot l.caps))
     ≡ first_in (spec.k13_case (domain_model l.domain) l.d) (map (λ s. string_bytes s) l.caps))
     × (map named_model l.found.items ++ map spec.cap_of (map (λ s. string_bytes s) (drop l.slot l.caps))
     ≡ map spec.cap_of (map (λ s. string_bytes s) l.caps))

@@ -5,4 +5,6 @@ use Rattle.domain_check.specs.Capabilities as spec
 use Rattle.domain_check.proofs.capabilities.lies_in_any.Given as goal
 
 abbrev pub invariant-loop-segment : goal.invariant-loop-segment
-invariant-loop-segment l = list_any (spec.lies_in l.page) (map segment_model (drop l.segment-index l.segments)) ≡ list_any (spec.lies_in l.page) (map segment_model l.segments)
+invariant-loop-segment l =
+    list_any (spec.lies_in l.page) (map segment_model (drop l.segment-index l.segments))
+    ≡ list_any (spec.lies_in l.page) (map segment_model l.segments)

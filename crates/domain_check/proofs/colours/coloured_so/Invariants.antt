@@ -5,4 +5,7 @@ use Rattle.domain_check.specs.Colours as spec
 use Rattle.domain_check.proofs.colours.coloured_so.Given as goal
 
 abbrev pub invariant-loop-e : goal.invariant-loop-e
-invariant-loop-e l = first_case (spec.coloured_so l.colour) (map domain_model (take l.e l.domains)) (map domain_model (drop l.e l.domains)) ≡ first_in (spec.coloured_so l.colour) (map domain_model l.domains)
+invariant-loop-e l =
+    first_case (spec.coloured_so l.colour) (map domain_model (take l.e l.domains))
+    (map domain_model (drop l.e l.domains))
+    ≡ first_in (spec.coloured_so l.colour) (map domain_model l.domains)

@@ -17,7 +17,10 @@ returns-in_err-k10_case c =
     let whole = whole_of c.args.frames c.args.colours in
     let domains = c.args.domains.now in
     let x = c.index-domains-d.result in
-    let here = ap (λ n. k10_case whole n (domain_model x)) (count_of domain_model domains c.loop-d.d c.loop-d-test.true) ∙ c.in_err-k10_case.ensures.verdict in
+    let here =
+    ap (λ n. k10_case whole n (domain_model x))
+    (count_of domain_model domains c.loop-d.d c.loop-d-test.true)
+    ∙ c.in_err-k10_case.ensures.verdict in
     let first = found_of (k10_domain whole) domain_model domains c.loop-d.d x x _ c.loop-d-test.true c.index-domains-d.is here in
     record { verdict = refused c.from_residual.result _ _ c.from_residual.ensures.1 (sym c.loop-d.invariant ∙ first) }
 
@@ -26,10 +29,17 @@ loop-d-preserved c =
     let whole = whole_of c.args.frames c.args.colours in
     let domains = c.args.domains.now in
     let x = c.index-domains-d.result in
-    let here = ap (λ n. k10_case whole n (domain_model x)) (count_of domain_model domains c.loop-d.d c.loop-d-test.true) ∙ c.in_ok-k10_case.ensures.verdict in
+    let here =
+    ap (λ n. k10_case whole n (domain_model x))
+    (count_of domain_model domains c.loop-d.d c.loop-d-test.true)
+    ∙ c.in_ok-k10_case.ensures.verdict in
     passed_of (k10_domain whole) domain_model domains c.loop-d.d x x c.loop-d-test.true c.index-domains-d.is here ∙ c.loop-d.invariant
 
 pub returns : goal.returns
 returns c =
     let whole = whole_of c.args.frames c.args.colours in
-    record { verdict = sym c.loop-d.invariant ∙ ended_of (k10_domain whole) domain_model _ c.args.domains.now c.loop-d.d c.loop-d-test.false }
+    record {
+      verdict =
+          sym c.loop-d.invariant
+          ∙ ended_of (k10_domain whole) domain_model _ c.args.domains.now c.loop-d.d c.loop-d-test.false;
+    }

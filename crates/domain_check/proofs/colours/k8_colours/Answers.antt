@@ -9,7 +9,9 @@ returns-in_err-k8_colour-clause-verdict c =
     let own = c.args.own.now in
     let k = c.loop-place.place in
     let same : to_z w64 (of_z w64 (get_or own k (pos 0))) ≡ get_or own k (pos 0) = search rules in
-    let first = found (k8_colour c.args.colours c.args.d) own k _ (pos 0) _ c.loop-place-test.true same c.in_err-k8_colour.ensures.verdict in
+    let first =
+    found (k8_colour c.args.colours c.args.d) own k _ (pos 0) _ c.loop-place-test.true same
+    c.in_err-k8_colour.ensures.verdict in
     broken c.from_residual.result _ _ c.from_residual.ensures.1 (sym c.loop-place.invariant.0 ∙ first)
 
 pub returns-in_err-k8_colour-clause-value : goal.returns-in_err-k8_colour-clause-value
@@ -26,7 +28,8 @@ loop-place-preserved c =
     let own = c.args.own.now in
     let k = c.loop-place.place in
     let same : to_z w64 (of_z w64 (get_or own k (pos 0))) ≡ get_or own k (pos 0) = search rules in (
-      passed (k8_colour c.args.colours c.args.d) own k _ (pos 0) c.loop-place-test.true same c.in_ok-k8_colour.ensures.verdict ∙ c.loop-place.invariant.0,
+      passed (k8_colour c.args.colours c.args.d) own k _ (pos 0) c.loop-place-test.true same
+          c.in_ok-k8_colour.ensures.verdict ∙ c.loop-place.invariant.0,
       made natural_of c.loop-place.found.items c.push.new.self.items own k _ (pos 0) c.in_ok-k8_colour.field-0 c.loop-place-test.true same
           c.in_ok-push.ensures.items c.in_ok-k8_colour.ensures.value ∙ c.loop-place.invariant.1,
     )

@@ -11,7 +11,9 @@ returns-in_err-k9_colours c =
     let domains = c.as_slice-domains.result.now in
     let d = c.loop-d.d in
     let x = c.index-domains-d.result in
-    let here = ap (first_in (k9_colour (map domain_model (take d domains)))) (sym c.as_slice.ensures.value) ∙ c.in_err-k9_colours.ensures.verdict in
+    let here =
+    ap (first_in (k9_colour (map domain_model (take d domains)))) (sym c.as_slice.ensures.value)
+    ∙ c.in_err-k9_colours.ensures.verdict in
     let first = found_of k9_domain domain_model domains d x x _ c.loop-d-test.true c.index-domains-d.is here in
     let whole = ap (λ ds. first_in k9_domain (map domain_model ds)) (sym c.as_slice-domains.ensures.value) ∙ sym c.loop-d.invariant in
     record { verdict = refused c.from_residual.result _ _ c.from_residual.ensures.1 (whole ∙ first) }
@@ -21,7 +23,9 @@ loop-d-preserved c =
     let domains = c.as_slice-domains.result.now in
     let d = c.loop-d.d in
     let x = c.index-domains-d.result in
-    let here = ap (first_in (k9_colour (map domain_model (take d domains)))) (sym c.as_slice.ensures.value) ∙ c.in_ok-k9_colours.ensures.verdict in
+    let here =
+    ap (first_in (k9_colour (map domain_model (take d domains)))) (sym c.as_slice.ensures.value)
+    ∙ c.in_ok-k9_colours.ensures.verdict in
     passed_of k9_domain domain_model domains d x x c.loop-d-test.true c.index-domains-d.is here ∙ c.loop-d.invariant
 
 pub returns : goal.returns

@@ -5,4 +5,6 @@ use Rattle.domain_check.specs.Colours as spec
 use Rattle.domain_check.proofs.colours.k9.Given as goal
 
 abbrev pub invariant-loop-d : goal.invariant-loop-d
-invariant-loop-d l = first_case spec.k9_domain (map domain_model (take l.d l.domains)) (map domain_model (drop l.d l.domains)) ≡ first_in spec.k9_domain (map domain_model l.domains)
+invariant-loop-d l =
+    first_case spec.k9_domain (map domain_model (take l.d l.domains)) (map domain_model (drop l.d l.domains))
+    ≡ first_in spec.k9_domain (map domain_model l.domains)

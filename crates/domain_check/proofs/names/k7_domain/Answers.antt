@@ -13,7 +13,9 @@ returns-then-not-is_name c =
     let name = string_bytes c.args.domain.now.name in
     let d = length domains in
     let other : is_name name ≡ false = ap is_name (sym c.as_str-name.ensures.value) ∙ sym c.if-not-is_name.ensures.value in
-    let numbers : Some (refusal 7 (pos (length c.args.earlier.now)) (pos (length c.as_str-name.result.now)) (pos 16)) ≡ Some c.refusal.result = search rules in
+    let numbers : Some (refusal 7 (pos (length c.args.earlier.now))
+    (pos (length c.as_str-name.result.now)) (pos 16)) ≡ Some c.refusal.result =
+    search rules in
     let told =
     ap (λ n. Some (refusal 7 (pos n) (pos (length name)) (pos 16))) (length-map c.args.earlier.now domain_model)
     ∙ ap (λ s. Some (refusal 7 (pos (length c.args.earlier.now)) (pos (length s)) (pos 16))) (sym c.as_str-name.ensures.value) ∙ numbers in
@@ -29,7 +31,9 @@ returns-in-Some c =
     let d = length domains in
     let is : is_name name ≡ true = ap is_name (sym c.as_str-name.ensures.value) ∙ sym c.if-not-is_name.ensures.value in
     let at = ap (λ n. first_in (named_so n) domains) (sym c.as_str-name.ensures.value) ∙ sym c.named_so.ensures.value ∙ c.in-Some.is in
-    let numbers : Some (refusal 7 (pos (length c.args.earlier.now)) (pos c.in-Some.e) (pos 0)) ≡ Some c.refusal-in-Some.result = search rules in
+    let numbers : Some (refusal 7 (pos (length c.args.earlier.now)) (pos c.in-Some.e) (pos 0))
+    ≡ Some c.refusal-in-Some.result =
+    search rules in
     let told = ap (λ n. Some (refusal 7 (pos n) (pos c.in-Some.e) (pos 0))) (length-map c.args.earlier.now domain_model) ∙ numbers in
     record {
       verdict =

@@ -12,7 +12,9 @@ returns-then-eq-clause-value c =
     let e = c.loop-e.e in
     let x = c.index-domains-e.result in
     let is : bytes_eq (string_bytes x.name) c.args.name.now ≡ true = search rules in
-    let here = ap (λ (b : Bool). if b then Some (length (map domain_model (take e domains))) else None) is ∙ ap Some (count_of domain_model domains e c.loop-e-test.true) in
+    let here =
+    ap (λ (b : Bool). if b then Some (length (map domain_model (take e domains))) else None) is
+    ∙ ap Some (count_of domain_model domains e c.loop-e-test.true) in
     sym (found_of (named_so c.args.name.now) domain_model domains e x x e c.loop-e-test.true c.index-domains-e.is here) ∙ c.loop-e.invariant
 
 pub loop-e-preserved : goal.loop-e-preserved

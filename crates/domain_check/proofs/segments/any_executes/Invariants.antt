@@ -5,4 +5,6 @@ use Rattle.domain_check.specs.Segments as spec
 use Rattle.domain_check.proofs.segments.any_executes.Given as goal
 
 abbrev pub invariant-loop-segment : goal.invariant-loop-segment
-invariant-loop-segment l = list_any (spec.executes l.page) (map segment_model (drop l.segment-index l.segments)) ≡ list_any (spec.executes l.page) (map segment_model l.segments)
+invariant-loop-segment l =
+    list_any (spec.executes l.page) (map segment_model (drop l.segment-index l.segments))
+    ≡ list_any (spec.executes l.page) (map segment_model l.segments)

@@ -25,7 +25,9 @@ returns-in_err-entry_case-clause-verdict c =
     let earlier = c.args.earlier.now in
     let o = domain_model c.args.domain.now in
     let many = length-map earlier domain_model in
-    let own = ap₂ (λ n ss. first_in (segment_case n) (map segment_model ss)) many (sym c.as_slice.ensures.value) ∙ c.in_ok-segments.ensures.verdict in
+    let own =
+    ap₂ (λ n ss. first_in (segment_case n) (map segment_model ss)) many (sym c.as_slice.ensures.value)
+    ∙ c.in_ok-segments.ensures.verdict in
     let entry = ap (λ n. entry_case n o) many ∙ c.in_err-entry_case.ensures.verdict in
     broken c.from_residual-in_err-entry_case.result _ _ c.from_residual-in_err-entry_case.ensures.1 (ap₂ or_else own entry)
 
@@ -38,7 +40,9 @@ returns-clause-verdict c =
     let earlier = c.args.earlier.now in
     let o = domain_model c.args.domain.now in
     let many = length-map earlier domain_model in
-    let own = ap₂ (λ n ss. first_in (segment_case n) (map segment_model ss)) many (sym c.as_slice.ensures.value) ∙ c.in_ok-segments.ensures.verdict in
+    let own =
+    ap₂ (λ n ss. first_in (segment_case n) (map segment_model ss)) many (sym c.as_slice.ensures.value)
+    ∙ c.in_ok-segments.ensures.verdict in
     ap₂ or_else own (ap (λ n. entry_case n o) many ∙ c.in_ok-entry_case.ensures.verdict)
 
 pub returns-clause-value : goal.returns-clause-value

@@ -27,8 +27,13 @@ split-requires c =
     let i = image_from c.args.image.now in
     let colours : c.new.result.colours ≡ colours_of i.all.hardware =
     ap (λ w. w.colours) c.new.ensures.whole ∙ c.colours.ensures.value ∙ ap (λ (q : Public). colours_of q.hardware) c.public.ensures.value in
-    let named : colours_in c.deref.result.now ≡ map (λ (o : Own). o.colours) i.owns = ap colours_in c.deref.ensures.value ∙ c.in_ok-lists.ensures.colours in
-    record { disjoint = subst₂ (λ (n : ℕ) (lists : List (List ℕ)). AreDisjoint n lists) (sym colours) (sym named) c.runnable.ensures.runnable.disjoint }
+    let named : colours_in c.deref.result.now ≡ map (λ (o : Own). o.colours) i.owns =
+    ap colours_in c.deref.ensures.value ∙ c.in_ok-lists.ensures.colours in
+    record {
+      disjoint =
+          subst₂ (λ (n : ℕ) (lists : List (List ℕ)). AreDisjoint n lists) (sym colours) (sym named)
+          c.runnable.ensures.runnable.disjoint;
+    }
 
 pub returns : goal.returns
 returns c =
@@ -36,8 +41,10 @@ returns c =
     let p : Hardware = i.all.hardware in
     let public = c.public.ensures.value in
     let whole : c.new.result ≡ whole_of p.frames (colours_of p) =
-    c.new.ensures.whole ∙ ap (whole_of c.public.result.now.hardware.frames) c.colours.ensures.value ∙ ap (λ (q : Public). whole_of q.hardware.frames (colours_of q.hardware)) public in
-    let named : colours_in c.deref.result.now ≡ map (λ (o : Own). o.colours) i.owns = ap colours_in c.deref.ensures.value ∙ c.in_ok-lists.ensures.colours in
+    c.new.ensures.whole ∙ ap (whole_of c.public.result.now.hardware.frames) c.colours.ensures.value
+    ∙ ap (λ (q : Public). whole_of q.hardware.frames (colours_of q.hardware)) public in
+    let named : colours_in c.deref.result.now ≡ map (λ (o : Own). o.colours) i.owns =
+    ap colours_in c.deref.ensures.value ∙ c.in_ok-lists.ensures.colours in
     record {
       shares = subst (λ (due : List Share). IfOk c.split.result (λ shares. shares.items ≡ due))
           (shares_are p c.new.result (colours_in c.deref.result.now) i.owns whole named) c.split.ensures.shares;

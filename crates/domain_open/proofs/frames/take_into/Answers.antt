@@ -23,12 +23,15 @@ loop-preserved g c =
     let x = c.take_one.result in
     let more = taken k all x c.take_one.new.pool.free (sym c.loop.invariant.free ∙ c.take_one.ensures.frame) in
     record {
-      frames = taken_on k all old c.loop.frames.items c.push_reserved.new.self.items x more.so_far c.loop.invariant.frames c.push_reserved.ensures.items;
+      frames =
+          taken_on k all old c.loop.frames.items c.push_reserved.new.self.items x more.so_far
+          c.loop.invariant.frames c.push_reserved.ensures.items;
       free = more.left;
       share = c.take_one.ensures.share ∙ c.loop.invariant.share;
       room = c.push_reserved.ensures.capacity ∙ c.loop.invariant.room;
       zeroed = subst (λ (fs : List ℕ). AreZeroed fs c.args.memory.now c.take_one.new.memory) (sym more.so_far)
-          (zeroed_then (take k all) (x ∷ []) c.args.memory.now c.loop.memory c.take_one.new.memory c.loop.invariant.zeroed c.take_one.ensures.zeroed);
+          (zeroed_then (take k all) (x ∷ []) c.args.memory.now c.loop.memory c.take_one.new.memory
+          c.loop.invariant.zeroed c.take_one.ensures.zeroed);
       size = c.take_one.ensures.size ∙ c.loop.invariant.size;
     }
 

@@ -9,8 +9,11 @@ pub returns : goal.returns
 returns c =
     let o = own_model c.args.own.now in
     let n = c.args.at.page in
-    let rights : c.page_rights-rights.result ≡ rights_or_none (rights_in o.segments n) = rw c.as_slice.ensures.value at c.page_rights-rights.ensures.value in
+    let rights : c.page_rights-rights.result ≡ rights_or_none (rights_in o.segments n) =
+    rw c.as_slice.ensures.value at c.page_rights-rights.ensures.value in
     record {
-      becomes = put_noted o c.args.caps.now c.put.new.self c.note.new.self c.args.at.slot c.args.frame c.page_rights-rights.result n (4096 * n)
+      becomes =
+          put_noted o c.args.caps.now c.put.new.self c.note.new.self c.args.at.slot c.args.frame
+          c.page_rights-rights.result n (4096 * n)
           c.requires.places c.requires.slot rights (omega arith) c.put.ensures.becomes c.note.ensures.becomes;
     }

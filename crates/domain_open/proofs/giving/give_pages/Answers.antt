@@ -36,7 +36,8 @@ loop-place-preserved c =
     let s = slots_after o frames (pages_in o.segments) in
     let inv = c.loop-place.invariant in
     let more = taken k frames x c.take_one-frame.new.pool.free (sym inv.free ∙ c.take_one-frame.ensures.frame) in
-    let giving : IsGiving o frames k x c.loop-place.caps = record { ascend = c.requires.ascend; enough = c.requires.enough; at = more.at; given = inv.caps } in
+    let giving : IsGiving o frames k x c.loop-place.caps =
+    record { ascend = c.requires.ascend; enough = c.requires.enough; at = more.at; given = inv.caps } in
     let few = c.place_page.ensures.few in
     let long = inv.long in
     record {
@@ -49,7 +50,8 @@ loop-place-preserved c =
       free = more.left;
       share = c.take_one-frame.ensures.share ∙ inv.share;
       zeroed = subst (λ (fs : List ℕ). AreZeroed fs c.args.memory.now c.take_one-frame.new.memory) (sym more.so_far)
-          (zeroed_then (take k frames) (x ∷ []) c.args.memory.now c.loop-place.memory c.take_one-frame.new.memory inv.zeroed c.take_one-frame.ensures.zeroed);
+          (zeroed_then (take k frames) (x ∷ []) c.args.memory.now c.loop-place.memory
+          c.take_one-frame.new.memory inv.zeroed c.take_one-frame.ensures.zeroed);
       size = c.take_one-frame.ensures.size ∙ inv.size;
     }
 
@@ -62,7 +64,8 @@ place_page-requires c =
     let inv = c.loop-place.invariant in
     let many : c.pages_in-place-end.result ≡ pages_in o.segments = rw c.as_slice.ensures.value at c.pages_in-place-end.ensures.value in
     let more = taken k frames x c.take_one-frame.new.pool.free (sym inv.free ∙ c.take_one-frame.ensures.frame) in
-    let giving : IsGiving o frames k x c.loop-place.caps = record { ascend = c.requires.ascend; enough = c.requires.enough; at = more.at; given = inv.caps } in
+    let giving : IsGiving o frames k x c.loop-place.caps =
+    record { ascend = c.requires.ascend; enough = c.requires.enough; at = more.at; given = inv.caps } in
     let long = inv.long in
     let room = inv.room in
     record {

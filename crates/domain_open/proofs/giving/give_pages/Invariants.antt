@@ -11,7 +11,8 @@ invariant-loop-place l =
     let frames = l.fn.pool.free in
     record {
       caps : l.caps ≡ slots_after o frames l.place;
-      kept : l.kept.items ≡ l.fn.kept.items ++ unnamed (slots_after o frames (pages_in o.segments)) (take l.place frames);
+      kept : l.kept.items
+          ≡ l.fn.kept.items ++ unnamed (slots_after o frames (pages_in o.segments)) (take l.place frames);
       long : length l.kept.items ≤ length l.fn.kept.items + l.place;
       room : l.kept.cap ≡ l.fn.kept.cap;
       free : l.pool.free ≡ drop l.place frames;

@@ -13,7 +13,9 @@ pub loop-slot-init : goal.loop-slot-init
 loop-slot-init c = c.in_ok-caps.ensures.empty ∙ sym (lines_none (own_model c.args.own.now))
 
 pub put_line-requires-clause-places : goal.put_line-requires-clause-places
-put_line-requires-clause-places c = ap (λ (s : Slots). length s) c.loop-slot.invariant ∙ lines_long (own_model c.args.own.now) c.loop-slot.slot
+put_line-requires-clause-places c =
+    ap (λ (s : Slots). length s) c.loop-slot.invariant
+    ∙ lines_long (own_model c.args.own.now) c.loop-slot.slot
 
 pub put_line-requires-clause-empty : goal.put_line-requires-clause-empty
 put_line-requires-clause-empty c =
@@ -42,7 +44,8 @@ loop-slot-preserved c =
     let is : q ≡ get_or items k q = search rules in
     let named : q ≡ cap_at o k = is ∙ get_or_default items k q initial.None within in
     c.put_line.ensures.becomes ∙ ap (λ (s : Slots). with_cap s k (line_cap q)) c.loop-slot.invariant
-    ∙ ap (λ (x : InitialCap). with_cap (Rattle.domain_open.proofs.SlotLaws.lines_before o k) k (line_cap x)) named ∙ lines_more o k (omega (arith, within, few))
+    ∙ ap (λ (x : InitialCap). with_cap (Rattle.domain_open.proofs.SlotLaws.lines_before o k) k (line_cap x))
+    named ∙ lines_more o k (omega (arith, within, few))
 
 pub returns : goal.returns
 returns c =

@@ -15,20 +15,25 @@ give_page-requires-clause-places c =
     ap (λ (s : Slots). length s) g.1.given ∙ after_long (own_model c.args.own.now) g.0 c.args.place
 
 pub give_page-requires-clause-page : goal.give_page-requires-clause-page
-give_page-requires-clause-page c = named_small (own_model c.args.own.now) c.args.place c.in-Some.at.slot c.in-Some.at.page c.requires.sound c.in-Some.ensures.page
+give_page-requires-clause-page c =
+    named_small (own_model c.args.own.now) c.args.place c.in-Some.at.slot c.in-Some.at.page c.requires.sound
+    c.in-Some.ensures.page
 
 pub give_page-requires-clause-empty : goal.give_page-requires-clause-empty
 give_page-requires-clause-empty c =
     let g = c.requires.giving in
     let at = c.in-Some.at in
-    ap (λ (s : Slots). get_or s at.slot None) g.1.given ∙ slot_empty (own_model c.args.own.now) g.0 c.args.place at.slot at.page c.in-Some.ensures.slot c.in-Some.ensures.page
+    ap (λ (s : Slots). get_or s at.slot None) g.1.given
+    ∙ slot_empty (own_model c.args.own.now) g.0 c.args.place at.slot at.page c.in-Some.ensures.slot
+    c.in-Some.ensures.page
 
 pub give_page-requires-clause-new : goal.give_page-requires-clause-new
 give_page-requires-clause-new c =
     let g = c.requires.giving in
     let enough = g.1.enough in
     let within : c.args.place < length g.0 = omega (arith, enough, c.requires.there) in
-    subst (λ (s : Slots). IsUnnamed s c.args.frame) (sym g.1.given) (frame_new (own_model c.args.own.now) g.0 g.1.ascend c.args.place c.args.frame within g.1.at)
+    subst (λ (s : Slots). IsUnnamed s c.args.frame) (sym g.1.given)
+    (frame_new (own_model c.args.own.now) g.0 g.1.ascend c.args.place c.args.frame within g.1.at)
 
 pub returns-in-Some-clause-caps : goal.returns-in-Some-clause-caps
 returns-in-Some-clause-caps c frames g =
@@ -45,7 +50,9 @@ returns-in-Some-clause-kept c frames g =
     let f = c.args.frame in
     let many = pages_in o.segments in
     let none : unnamed (slots_after o frames many) (f ∷ []) ≡ [] =
-    not_kept (slots_after o frames many) f (frame_named o frames c.args.place at.slot at.page c.in-Some.ensures.slot c.in-Some.ensures.page many f c.requires.there g.at) in
+    not_kept (slots_after o frames many) f
+    (frame_named o frames c.args.place at.slot at.page c.in-Some.ensures.slot c.in-Some.ensures.page many
+    f c.requires.there g.at) in
     sym (ap (λ (ys : List ℕ). c.args.kept.now.items ++ ys) none ∙ append-nil c.args.kept.now.items)
 
 pub returns-clause-caps : goal.returns-clause-caps
@@ -59,5 +66,7 @@ returns-clause-kept c frames g =
     let enough = g.enough in
     let within : c.args.place < length frames = omega (arith, enough, c.requires.there) in
     let one : unnamed (slots_after o frames many) (f ∷ []) ≡ f ∷ [] =
-    is_kept (slots_after o frames many) f (frame_unnamed o frames g.ascend c.args.place many f within g.enough g.at c.in_default.ensures.none) in
+    is_kept (slots_after o frames many) f
+    (frame_unnamed o frames g.ascend c.args.place many f within g.enough g.at c.in_default.ensures.none)
+    in
     c.push_reserved.ensures.items ∙ ap (λ (ys : List ℕ). c.args.kept.now.items ++ ys) (sym one)

@@ -15,7 +15,8 @@ new-placement-requires-clause-is_pool c =
 
 pub returns-clause-placed : goal.returns-clause-placed
 returns-clause-placed c m h =
-    subst₂ (λ (p : Hardware) (o : Own). Holds c.place_domain.new.memory (placed p o m)) (ap hardware_model c.new-placement.ensures.hardware) (ap own_model c.new-placement.ensures.own)
+    subst₂ (λ (p : Hardware) (o : Own). Holds c.place_domain.new.memory (placed p o m))
+    (ap hardware_model c.new-placement.ensures.hardware) (ap own_model c.new-placement.ensures.own)
     (c.place_domain.ensures.placed m h)
 
 pub returns-clause-elsewhere : goal.returns-clause-elsewhere
@@ -23,4 +24,5 @@ returns-clause-elsewhere c m h =
     let p = hardware_model c.args.hardware.now in
     let o = own_model c.args.own.now in
     let now = returns-clause-placed c m h in
-    placed_elsewhere p o c.args.memory.now c.place_domain.new.memory m c.requires.has_pool c.requires.size c.place_domain.ensures.frames h now
+    placed_elsewhere p o c.args.memory.now c.place_domain.new.memory m c.requires.has_pool c.requires.size
+    c.place_domain.ensures.frames h now

@@ -6,6 +6,7 @@ use Rattle.domain_open.proofs.memory.place_frame.Given as goal
 
 abbrev pub invariant-loop-i : goal.invariant-loop-i
 invariant-loop-i g l = record {
-  placed : (m : Mem) → Holds l.fn.memory m → Holds l.memory (filled m l.fn.frame (g.W.Words.words l.words) l.i);
+  placed : (m : Mem) → Holds l.fn.memory m
+      → Holds l.memory (filled m l.fn.frame (g.W.Words.words l.words) l.i);
   frames : l.memory.frames ≡ l.fn.memory.frames;
 }

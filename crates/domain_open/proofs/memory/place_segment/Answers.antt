@@ -34,13 +34,21 @@ loop-i-preserved c =
     let back : c.split_at.result.1.now ≡ drop 4096 rest = c.split_at.ensures.back ∙ ap (λ i. drop i rest) size ∙ drop_front 4096 rest in
     let next : s.page + (k + 1) ≡ n + 1 = omega arith in
     let some : s.pages - k ≡ suc (s.pages - (k + 1)) = omega arith in
-    let more : (m : Mem) → pages_placed p o n (s.pages - k) rest m ≡ pages_placed p o (s.page + (k + 1)) (s.pages - (k + 1)) c.split_at.result.1.now (put m (page_frame p o n) (page_words bytes)) =
+    let more : (m : Mem)
+    → pages_placed p o n (s.pages - k) rest m
+    ≡ pages_placed p o (s.page + (k + 1)) (s.pages - (k + 1)) c.split_at.result.1.now
+    (put m (page_frame p o n) (page_words bytes)) =
     λ m. rw (front, back, next) (one_page p o n (s.pages - k) (s.pages - (k + 1)) rest some m) in
     let moved : (m : Mem) → Holds c.loop-i.memory m → Holds c.place_frame.new.memory (put m (page_frame p o n) (page_words bytes)) =
-    λ m h. subst (λ (f : ℕ). Holds c.place_frame.new.memory (put m f (page_words bytes))) c.page_frame.ensures.value (c.place_frame.ensures.placed m (page_words bytes) h (λ i below. at-page_words bytes i)) in
+    λ m h. subst (λ (f : ℕ). Holds c.place_frame.new.memory (put m f (page_words bytes)))
+    c.page_frame.ensures.value
+    (c.place_frame.ensures.placed m (page_words bytes) h (λ i below. at-page_words bytes i)) in
     record {
-      placed = λ m h. went_on c.loop-i.memory c.place_frame.new.memory (pages_placed p o n (s.pages - k) rest) (pages_placed p o (s.page + (k + 1)) (s.pages - (k + 1)) c.split_at.result.1.now)
-          (λ x. put x (page_frame p o n) (page_words bytes)) (pages_placed p o s.page s.pages s.bytes.items m) more moved (c.loop-i.invariant.placed m h);
+      placed =
+          λ m h. went_on c.loop-i.memory c.place_frame.new.memory (pages_placed p o n (s.pages - k) rest)
+          (pages_placed p o (s.page + (k + 1)) (s.pages - (k + 1)) c.split_at.result.1.now)
+          (λ x. put x (page_frame p o n) (page_words bytes))
+          (pages_placed p o s.page s.pages s.bytes.items m) more moved (c.loop-i.invariant.placed m h);
       frames = c.place_frame.ensures.frames ∙ c.loop-i.invariant.frames;
     }
 
@@ -52,4 +60,6 @@ returns-clause-placed c m h =
     let n = s.page + c.loop-i.i in
     let left = s.pages - c.loop-i.i in
     let end : left ≡ 0 = omega arith in
-    finished c.loop-i.memory (pages_placed p o n left c.loop-i.rest.now) (pages_placed p o s.page s.pages s.bytes.items m) (no_page p o n left c.loop-i.rest.now end) (c.loop-i.invariant.placed m h)
+    finished c.loop-i.memory (pages_placed p o n left c.loop-i.rest.now)
+    (pages_placed p o s.page s.pages s.bytes.items m) (no_page p o n left c.loop-i.rest.now end)
+    (c.loop-i.invariant.placed m h)

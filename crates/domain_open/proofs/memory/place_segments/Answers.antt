@@ -44,10 +44,15 @@ loop-segment-preserved c =
     let within : k < length segments = search rules in
     let is : q ≡ get_or segments k q = search rules in
     let rest = map segment_model (drop (k + 1) segments) in
-    let step : (m : Mem) → segments_placed p o (map segment_model (drop k segments)) m ≡ segments_placed p o rest (pages_placed p o q.page q.pages q.bytes.items m) =
+    let step : (m : Mem)
+    → segments_placed p o (map segment_model (drop k segments)) m
+    ≡ segments_placed p o rest (pages_placed p o q.page q.pages q.bytes.items m) =
     λ m. ap (λ ss. segments_placed p o ss m) (more segments k q within is) ∙ one_segment p o (segment_model q) rest m in
     record {
-      placed = λ m h. went_on c.loop-segment.memory c.place_segment.new.memory (segments_placed p o (map segment_model (drop k segments))) (segments_placed p o rest) (pages_placed p o q.page q.pages q.bytes.items) (segments_placed p o o.segments m)
+      placed =
+          λ m h. went_on c.loop-segment.memory c.place_segment.new.memory
+          (segments_placed p o (map segment_model (drop k segments))) (segments_placed p o rest)
+          (pages_placed p o q.page q.pages q.bytes.items) (segments_placed p o o.segments m)
           step c.place_segment.ensures.placed (c.loop-segment.invariant.placed m h);
       frames = c.place_segment.ensures.frames ∙ c.loop-segment.invariant.frames;
     }

@@ -9,6 +9,11 @@ use Rattle.domain_open.proofs.memory.place_segments.Given as goal
 
 abbrev pub invariant-loop-segment : goal.invariant-loop-segment
 invariant-loop-segment l = record {
-  placed : (m : Mem) → Holds l.fn.memory m → Placing l.memory (spec.segments_placed (hardware_model l.at.hardware.now) (own_model l.at.own.now) (map segment_model (drop l.segment-index l.at.own.now.segments.items))) (spec.segments_placed (hardware_model l.at.hardware.now) (own_model l.at.own.now) (map segment_model l.at.own.now.segments.items) m);
+  placed : (m : Mem) → Holds l.fn.memory m
+      → Placing l.memory
+      (spec.segments_placed (hardware_model l.at.hardware.now) (own_model l.at.own.now)
+      (map segment_model (drop l.segment-index l.at.own.now.segments.items)))
+      (spec.segments_placed (hardware_model l.at.hardware.now) (own_model l.at.own.now)
+      (map segment_model l.at.own.now.segments.items) m);
   frames : l.memory.frames ≡ l.fn.memory.frames;
 }

@@ -29,4 +29,6 @@ returns-clause-placed c m h =
     let entries = λ (i : ℕ). leaf_entry p o (1024 * r + i) in
     let old = tables_placed p o r m in
     let new = c.place_frame.ensures.placed old (tabled entries 1024) h (λ i below. at-tabled entries 1024 i below) in
-    subst (Holds c.place_frame.new.memory) (sym (tables_more p o m r some)) (subst (λ (f : ℕ). Holds c.place_frame.new.memory (put old f (tabled entries 1024))) c.table_frame.ensures.value new)
+    subst (Holds c.place_frame.new.memory) (sym (tables_more p o m r some))
+    (subst (λ (f : ℕ). Holds c.place_frame.new.memory (put old f (tabled entries 1024)))
+    c.table_frame.ensures.value new)

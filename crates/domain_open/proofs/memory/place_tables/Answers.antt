@@ -8,7 +8,12 @@ use Rattle.domain_open.proofs.memory.place_tables.Goals as goal
 pub loop-region-init : goal.loop-region-init
 loop-region-init c =
     let at = c.args.at.now in
-    record { placed = λ m h. subst (Holds c.args.memory.now) (sym (tables_none (hardware_model at.hardware.now) (own_model at.own.now) m)) h; frames = refl }
+    record {
+      placed =
+          λ m h. subst (Holds c.args.memory.now)
+          (sym (tables_none (hardware_model at.hardware.now) (own_model at.own.now) m)) h;
+      frames = refl;
+    }
 
 pub place_table-requires-clause-size : goal.place_table-requires-clause-size
 place_table-requires-clause-size c = c.loop-region.invariant.frames ∙ c.requires.size

@@ -14,12 +14,16 @@ pub loop-d-preserved : goal.loop-d-preserved
 loop-d-preserved c =
     let i = image_from c.args.image.now in
     let d : ℕ = c.loop-d.d in
-    let all : c.public.result.now.domains ≡ length i.owns = ap (λ (q : Public). q.domains) c.public.ensures.value ∙ c.runnable.ensures.runnable.counted in
+    let all : c.public.result.now.domains ≡ length i.owns =
+    ap (λ (q : Public). q.domains) c.public.ensures.value ∙ c.runnable.ensures.runnable.counted in
     let below : d < length (all_shares i) = omega (arith, all, length-map i.owns (share_of i.all.hardware)) in
     record {
       opened = subst (AreOpened i.all.hardware i.owns (d + 1)) (sym c.push_reserved.ensures.items)
           (opened_more i.all.hardware c.loop-d.domains.items i.owns d c.in-Ok.domain c.loop-d.invariant.opened c.in-Ok.ensures.opened);
-      shares = c.remove-share.ensures.items ∙ ap (λ ss. remove ss 0) (c.loop-d.invariant.shares ∙ drop_more (all_shares i) d c.remove-share.result below);
+      shares =
+          c.remove-share.ensures.items
+          ∙ ap (λ ss. remove ss 0)
+          (c.loop-d.invariant.shares ∙ drop_more (all_shares i) d c.remove-share.result below);
       blank = λ h. c.in-Ok.ensures.blank (c.loop-d.invariant.blank h);
       room = omega (arith, c.push_reserved.ensures.capacity, c.loop-d.invariant.room);
       size = c.in-Ok.ensures.size ∙ c.loop-d.invariant.size;
@@ -28,27 +32,32 @@ loop-d-preserved c =
 pub remove-share-requires : goal.remove-share-requires
 remove-share-requires c =
     let i = image_from c.args.image.now in
-    let all : c.public.result.now.domains ≡ length i.owns = ap (λ (q : Public). q.domains) c.public.ensures.value ∙ c.runnable.ensures.runnable.counted in
+    let all : c.public.result.now.domains ≡ length i.owns =
+    ap (λ (q : Public). q.domains) c.public.ensures.value ∙ c.runnable.ensures.runnable.counted in
     let left = ap (λ (ss : List Share). length ss) c.loop-d.invariant.shares in
     omega (arith, all, left, length-drop c.loop-d.d (all_shares i), length-map i.owns (share_of i.all.hardware))
 
 pub open_one-requires-clause-share : goal.open_one-requires-clause-share
 open_one-requires-clause-share c =
     let i = image_from c.args.image.now in
-    let all : c.public.result.now.domains ≡ length i.owns = ap (λ (q : Public). q.domains) c.public.ensures.value ∙ c.runnable.ensures.runnable.counted in
-    first_share i c.loop-d.d c.loop-d.shares.items c.remove-share.result (omega (arith, all)) c.loop-d.invariant.shares c.remove-share.ensures.value
+    let all : c.public.result.now.domains ≡ length i.owns =
+    ap (λ (q : Public). q.domains) c.public.ensures.value ∙ c.runnable.ensures.runnable.counted in
+    first_share i c.loop-d.d c.loop-d.shares.items c.remove-share.result (omega (arith, all))
+    c.loop-d.invariant.shares c.remove-share.ensures.value
 
 pub destroy_empty-requires : goal.destroy_empty-requires
 destroy_empty-requires c =
     let i = image_from c.args.image.now in
-    let all : c.public.result.now.domains ≡ length i.owns = ap (λ (q : Public). q.domains) c.public.ensures.value ∙ c.runnable.ensures.runnable.counted in
+    let all : c.public.result.now.domains ≡ length i.owns =
+    ap (λ (q : Public). q.domains) c.public.ensures.value ∙ c.runnable.ensures.runnable.counted in
     let left = ap (λ (ss : List Share). length ss) c.loop-d.invariant.shares in
     omega (arith, all, left, length-drop c.loop-d.d (all_shares i), length-map i.owns (share_of i.all.hardware))
 
 pub returns-clause-opened : goal.returns-clause-opened
 returns-clause-opened c =
     let i = image_from c.args.image.now in
-    let all : c.public.result.now.domains ≡ length i.owns = ap (λ (q : Public). q.domains) c.public.ensures.value ∙ c.runnable.ensures.runnable.counted in
+    let all : c.public.result.now.domains ≡ length i.owns =
+    ap (λ (q : Public). q.domains) c.public.ensures.value ∙ c.runnable.ensures.runnable.counted in
     let past : c.loop-d.d ≡ length i.owns = omega (arith, all) in
     subst (λ (n : ℕ). AreOpened i.all.hardware i.owns n c.loop-d.domains.items) past c.loop-d.invariant.opened
 
@@ -82,7 +91,8 @@ returns-in-Err c = record {
 pub loop-d-init : goal.loop-d-init
 loop-d-init c =
     let i = image_from c.args.image.now in
-    let all : c.public.result.now.domains ≡ length i.owns = ap (λ (q : Public). q.domains) c.public.ensures.value ∙ c.runnable.ensures.runnable.counted in
+    let all : c.public.result.now.domains ≡ length i.owns =
+    ap (λ (q : Public). q.domains) c.public.ensures.value ∙ c.runnable.ensures.runnable.counted in
     record {
       room = omega (arith, all, c.in_ok-domains.ensures.capacity);
       opened = subst (AreOpened i.all.hardware i.owns 0) (sym c.in_ok-domains.ensures.items) (opened_none i.all.hardware i.owns);
@@ -96,7 +106,8 @@ loop-d-smaller c = omega (arith, c.loop-d-test.true)
 
 pub open_one-requires-clause-domain : goal.open_one-requires-clause-domain
 open_one-requires-clause-domain c =
-    let all : c.public.result.now.domains ≡ length (image_from c.args.image.now).owns = ap (λ (q : Public). q.domains) c.public.ensures.value ∙ c.runnable.ensures.runnable.counted in
+    let all : c.public.result.now.domains ≡ length (image_from c.args.image.now).owns =
+    ap (λ (q : Public). q.domains) c.public.ensures.value ∙ c.runnable.ensures.runnable.counted in
     omega (arith, all, c.loop-d-test.true)
 
 pub open_one-requires-clause-size : goal.open_one-requires-clause-size
@@ -104,5 +115,6 @@ open_one-requires-clause-size c = c.loop-d.invariant.size ∙ c.requires.size
 
 pub push_reserved-requires : goal.push_reserved-requires
 push_reserved-requires c =
-    let all : c.public.result.now.domains ≡ length (image_from c.args.image.now).owns = ap (λ (q : Public). q.domains) c.public.ensures.value ∙ c.runnable.ensures.runnable.counted in
+    let all : c.public.result.now.domains ≡ length (image_from c.args.image.now).owns =
+    ap (λ (q : Public). q.domains) c.public.ensures.value ∙ c.runnable.ensures.runnable.counted in
     omega (arith, all, c.loop-d.invariant.opened.all, c.loop-d.invariant.room, c.loop-d-test.true)

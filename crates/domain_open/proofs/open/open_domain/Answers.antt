@@ -37,9 +37,12 @@ layout_of-layout-requires c =
     let p = hardware_model c.args.hardware.now in
     let o = own_model c.args.own.now in
     let all : List ℕ = pool p o in
-    let free : c.in-Ok.pool.free ≡ all = ap (λ (f : FreeList). f.free) c.in-Ok.ensures.free ∙ ap (λ (s : Share). colours.pool s) c.requires.share in
+    let free : c.in-Ok.pool.free ≡ all =
+    ap (λ (f : FreeList). f.free) c.in-Ok.ensures.free
+    ∙ ap (λ (s : Share). colours.pool s) c.requires.share in
     let clone : c.as_slice.result.now ≡ take 4 all =
-    c.as_slice.ensures.value ∙ c.take_into.ensures.frames ∙ ap₂ (λ (ys zs : List ℕ). ys ++ zs) c.in_ok-kept.ensures.kept (ap (take 4) free) in
+    c.as_slice.ensures.value ∙ c.take_into.ensures.frames
+    ∙ ap₂ (λ (ys zs : List ℕ). ys ++ zs) c.in_ok-kept.ensures.kept (ap (take 4) free) in
     let enough = c.requires.has_pool.enough in
     let long = length-take 4 all in
     record { four = ap (λ (ys : List ℕ). length ys) clone ∙ omega (arith, long, enough) }
@@ -49,8 +52,11 @@ take_one-root-requires-clause-some c =
     let p = hardware_model c.args.hardware.now in
     let o = own_model c.args.own.now in
     let all : List ℕ = pool p o in
-    let free : c.in-Ok.pool.free ≡ all = ap (λ (f : FreeList). f.free) c.in-Ok.ensures.free ∙ ap (λ (s : Share). colours.pool s) c.requires.share in
-    let left : length c.take_into.new.pool.free ≡ length (drop 4 all) = ap (λ (ys : List ℕ). length ys) (c.take_into.ensures.free ∙ ap (drop 4) free) in
+    let free : c.in-Ok.pool.free ≡ all =
+    ap (λ (f : FreeList). f.free) c.in-Ok.ensures.free
+    ∙ ap (λ (s : Share). colours.pool s) c.requires.share in
+    let left : length c.take_into.new.pool.free ≡ length (drop 4 all) =
+    ap (λ (ys : List ℕ). length ys) (c.take_into.ensures.free ∙ ap (drop 4) free) in
     let enough = c.requires.has_pool.enough in
     let long = length-drop 4 all in
     omega (arith, left, long, enough)
@@ -60,8 +66,11 @@ take_into-requires-2-clause-enough c =
     let p = hardware_model c.args.hardware.now in
     let o = own_model c.args.own.now in
     let all : List ℕ = pool p o in
-    let regions : c.regions_below-regions.result ≡ regions_in o.segments = rw c.as_slice-segments.ensures.value at c.regions_below-regions.ensures.value in
-    let free : c.in-Ok.pool.free ≡ all = ap (λ (f : FreeList). f.free) c.in-Ok.ensures.free ∙ ap (λ (s : Share). colours.pool s) c.requires.share in
+    let regions : c.regions_below-regions.result ≡ regions_in o.segments =
+    rw c.as_slice-segments.ensures.value at c.regions_below-regions.ensures.value in
+    let free : c.in-Ok.pool.free ≡ all =
+    ap (λ (f : FreeList). f.free) c.in-Ok.ensures.free
+    ∙ ap (λ (s : Share). colours.pool s) c.requires.share in
     let cloned : c.take_into.new.pool.free ≡ drop 4 all = c.take_into.ensures.free ∙ ap (drop 4) free in
     let root = taken 4 all c.take_one-root.result c.take_one-root.new.pool.free (sym cloned ∙ c.take_one-root.ensures.frame) in
     let left : length c.take_one-root.new.pool.free ≡ length (drop 5 all) = ap (λ (ys : List ℕ). length ys) root.left in
@@ -79,8 +88,11 @@ give_pages-requires-clause-enough c =
     let p = hardware_model c.args.hardware.now in
     let o = own_model c.args.own.now in
     let all : List ℕ = pool p o in
-    let regions : c.regions_below-regions.result ≡ regions_in o.segments = rw c.as_slice-segments.ensures.value at c.regions_below-regions.ensures.value in
-    let free : c.in-Ok.pool.free ≡ all = ap (λ (f : FreeList). f.free) c.in-Ok.ensures.free ∙ ap (λ (s : Share). colours.pool s) c.requires.share in
+    let regions : c.regions_below-regions.result ≡ regions_in o.segments =
+    rw c.as_slice-segments.ensures.value at c.regions_below-regions.ensures.value in
+    let free : c.in-Ok.pool.free ≡ all =
+    ap (λ (f : FreeList). f.free) c.in-Ok.ensures.free
+    ∙ ap (λ (s : Share). colours.pool s) c.requires.share in
     let cloned : c.take_into.new.pool.free ≡ drop 4 all = c.take_into.ensures.free ∙ ap (drop 4) free in
     let root = taken 4 all c.take_one-root.result c.take_one-root.new.pool.free (sym cloned ∙ c.take_one-root.ensures.frame) in
     let tabled : c.take_into-2.new.pool.free ≡ drop (5 + regions_in o.segments) all =
@@ -95,8 +107,11 @@ give_pages-requires-clause-ascend c =
     let p = hardware_model c.args.hardware.now in
     let o = own_model c.args.own.now in
     let all : List ℕ = pool p o in
-    let regions : c.regions_below-regions.result ≡ regions_in o.segments = rw c.as_slice-segments.ensures.value at c.regions_below-regions.ensures.value in
-    let free : c.in-Ok.pool.free ≡ all = ap (λ (f : FreeList). f.free) c.in-Ok.ensures.free ∙ ap (λ (s : Share). colours.pool s) c.requires.share in
+    let regions : c.regions_below-regions.result ≡ regions_in o.segments =
+    rw c.as_slice-segments.ensures.value at c.regions_below-regions.ensures.value in
+    let free : c.in-Ok.pool.free ≡ all =
+    ap (λ (f : FreeList). f.free) c.in-Ok.ensures.free
+    ∙ ap (λ (s : Share). colours.pool s) c.requires.share in
     let cloned : c.take_into.new.pool.free ≡ drop 4 all = c.take_into.ensures.free ∙ ap (drop 4) free in
     let root = taken 4 all c.take_one-root.result c.take_one-root.new.pool.free (sym cloned ∙ c.take_one-root.ensures.frame) in
     let tabled : c.take_into-2.new.pool.free ≡ drop (5 + regions_in o.segments) all =
@@ -108,7 +123,9 @@ give_pages-requires-clause-room c =
     let p = hardware_model c.args.hardware.now in
     let o = own_model c.args.own.now in
     let all : List ℕ = pool p o in
-    let free : c.in-Ok.pool.free ≡ all = ap (λ (f : FreeList). f.free) c.in-Ok.ensures.free ∙ ap (λ (s : Share). colours.pool s) c.requires.share in
+    let free : c.in-Ok.pool.free ≡ all =
+    ap (λ (f : FreeList). f.free) c.in-Ok.ensures.free
+    ∙ ap (λ (s : Share). colours.pool s) c.requires.share in
     let clone : c.take_into.new.frames.items ≡ take 4 all =
     c.take_into.ensures.frames ∙ ap₂ (λ (ys zs : List ℕ). ys ++ zs) c.in_ok-kept.ensures.kept (ap (take 4) free) in
     let many = ap (λ (ys : List ℕ). length ys) clone in
@@ -125,7 +142,8 @@ returns c =
     let o = own_model c.args.own.now in
     let all : List ℕ = pool p o in
     let many = pages_in o.segments in
-    let regions : c.regions_below-regions.result ≡ regions_in o.segments = rw c.as_slice-segments.ensures.value at c.regions_below-regions.ensures.value in
+    let regions : c.regions_below-regions.result ≡ regions_in o.segments =
+    rw c.as_slice-segments.ensures.value at c.regions_below-regions.ensures.value in
     let fresh = c.in-Ok.ensures.free in
     let free : c.in-Ok.pool.free ≡ all = ap (λ (f : FreeList). f.free) fresh ∙ ap (λ (s : Share). colours.pool s) c.requires.share in
     let clone : c.take_into.new.frames.items ≡ clone_frames p o =
@@ -134,15 +152,21 @@ returns c =
     let root = taken 4 all c.take_one-root.result c.take_one-root.new.pool.free (sym cloned ∙ c.take_one-root.ensures.frame) in
     let tabled : c.take_into-2.new.pool.free ≡ drop (5 + regions_in o.segments) all =
     c.take_into-2.ensures.free ∙ ap₂ drop regions root.left ∙ drop_twice 5 (regions_in o.segments) all in
-    let caps = c.give_pages.ensures.caps ∙ ap (λ (fs : List ℕ). slots_after o fs many) tabled ∙ slots_are p o c.requires.has_pool.enough c.requires.has_pool.sound in
+    let caps =
+    c.give_pages.ensures.caps ∙ ap (λ (fs : List ℕ). slots_after o fs many) tabled
+    ∙ slots_are p o c.requires.has_pool.enough c.requires.has_pool.sound in
     let made = c.new-4.ensures in
     let r = c.new-4.result in
     let before = c.args.memory.now in
     let after = c.give_pages.new.memory in
     let used : AreZeroed (used_frames p o) before after =
-    used_zeroed all c.take_one-root.result (regions_in o.segments) many before c.take_into.new.memory c.take_one-root.new.memory c.take_into-2.new.memory after root.so_far
-    (subst (λ (fs : List ℕ). AreZeroed (take 4 fs) before c.take_into.new.memory) free c.take_into.ensures.zeroed) c.take_one-root.ensures.zeroed
-    (subst₂ (λ (n : ℕ) (fs : List ℕ). AreZeroed (take n fs) c.take_one-root.new.memory c.take_into-2.new.memory) regions root.left c.take_into-2.ensures.zeroed)
+    used_zeroed all c.take_one-root.result (regions_in o.segments) many before c.take_into.new.memory
+    c.take_one-root.new.memory c.take_into-2.new.memory after root.so_far
+    (subst (λ (fs : List ℕ). AreZeroed (take 4 fs) before c.take_into.new.memory) free
+    c.take_into.ensures.zeroed) c.take_one-root.ensures.zeroed
+    (subst₂ (λ (n : ℕ) (fs : List ℕ).
+    AreZeroed (take n fs) c.take_one-root.new.memory c.take_into-2.new.memory) regions root.left
+    c.take_into-2.ensures.zeroed)
     (subst (λ (fs : List ℕ). AreZeroed (take many fs) c.take_into-2.new.memory after) tabled c.give_pages.ensures.zeroed) in
     record {
       opened = if_ok (IsOpened p o) r (λ d e.
@@ -151,7 +175,8 @@ returns c =
           (at_ok (λ (x : Domain). x.map ≡ c.new-2.result) r d e made.map ∙ c.new-2.ensures.value ∙ sym root.at)
           (at_ok (λ (x : Domain). x.pool ≡ c.give_pages.new.pool) r d e made.pool
           ∙ ap₂ (λ (s : Share) (fs : List ℕ). record { share = s; free = fs })
-          (c.give_pages.ensures.share ∙ c.take_into-2.ensures.share ∙ c.take_one-root.ensures.share ∙ c.take_into.ensures.share ∙ ap (λ (f : FreeList). f.share) fresh ∙ c.requires.share)
+          (c.give_pages.ensures.share ∙ c.take_into-2.ensures.share ∙ c.take_one-root.ensures.share
+          ∙ c.take_into.ensures.share ∙ ap (λ (f : FreeList). f.share) fresh ∙ c.requires.share)
           (c.give_pages.ensures.free ∙ ap (drop many) tabled ∙ drop_twice (5 + regions_in o.segments) many all))
           (at_ok (λ (x : Domain). x.caps ≡ c.give_pages.new.caps) r d e made.caps ∙ caps)
           (at_ok (λ (x : Domain). x.interrupts ≡ c.in_ok-kept.field-0.interrupts) r d e made.interrupts ∙ c.in_ok-kept.ensures.opening)
@@ -196,7 +221,9 @@ room_of-requires c = record { sound = c.requires.has_pool.sound }
 pub take_into-requires : goal.take_into-requires
 take_into-requires c =
     let all : List ℕ = pool (hardware_model c.args.hardware.now) (own_model c.args.own.now) in
-    let free : c.in-Ok.pool.free ≡ all = ap (λ (f : FreeList). f.free) c.in-Ok.ensures.free ∙ ap (λ (s : Share). colours.pool s) c.requires.share in
+    let free : c.in-Ok.pool.free ≡ all =
+    ap (λ (f : FreeList). f.free) c.in-Ok.ensures.free
+    ∙ ap (λ (s : Share). colours.pool s) c.requires.share in
     let share = ap (λ (f : FreeList). f.share.frames) c.in-Ok.ensures.free ∙ ap (λ (s : Share). s.frames) c.requires.share in
     record {
       room = omega (arith, ap (λ (fs : List ℕ). length fs) c.in_ok-kept.ensures.kept, c.in_ok-kept.ensures.frames);
@@ -206,15 +233,21 @@ take_into-requires c =
 
 pub take_one-root-requires-clause-size : goal.take_one-root-requires-clause-size
 take_one-root-requires-clause-size c =
-    let share = ap (λ (s : Share). s.frames) c.take_into.ensures.share ∙ ap (λ (f : FreeList). f.share.frames) c.in-Ok.ensures.free ∙ ap (λ (s : Share). s.frames) c.requires.share in
+    let share =
+    ap (λ (s : Share). s.frames) c.take_into.ensures.share
+    ∙ ap (λ (f : FreeList). f.share.frames) c.in-Ok.ensures.free
+    ∙ ap (λ (s : Share). s.frames) c.requires.share in
     omega (arith, share, c.take_into.ensures.size, c.requires.size)
 
 pub take_into-requires-2-clause-room : goal.take_into-requires-2-clause-room
-take_into-requires-2-clause-room c = omega (arith, ap (λ (fs : List ℕ). length fs) c.in_ok-kept.ensures.no_tables, c.in_ok-kept.ensures.tables)
+take_into-requires-2-clause-room c =
+    omega (arith, ap (λ (fs : List ℕ). length fs) c.in_ok-kept.ensures.no_tables, c.in_ok-kept.ensures.tables)
 
 pub take_into-requires-2-clause-size : goal.take_into-requires-2-clause-size
 take_into-requires-2-clause-size c =
-    let before = c.take_one-root.ensures.share ∙ c.take_into.ensures.share ∙ ap (λ (f : FreeList). f.share) c.in-Ok.ensures.free ∙ c.requires.share in
+    let before =
+    c.take_one-root.ensures.share ∙ c.take_into.ensures.share
+    ∙ ap (λ (f : FreeList). f.share) c.in-Ok.ensures.free ∙ c.requires.share in
     omega (arith, ap (λ (s : Share). s.frames) before, c.take_one-root.ensures.size, c.take_into.ensures.size, c.requires.size)
 
 pub give_pages-requires-clause-sound : goal.give_pages-requires-clause-sound
@@ -222,8 +255,17 @@ give_pages-requires-clause-sound c = c.requires.has_pool.sound
 
 pub give_pages-requires-clause-size : goal.give_pages-requires-clause-size
 give_pages-requires-clause-size c =
-    let before = c.take_into-2.ensures.share ∙ c.take_one-root.ensures.share ∙ c.take_into.ensures.share ∙ ap (λ (f : FreeList). f.share) c.in-Ok.ensures.free ∙ c.requires.share in
-    omega (arith, ap (λ (s : Share). s.frames) before, c.take_into-2.ensures.size, c.take_one-root.ensures.size, c.take_into.ensures.size, c.requires.size)
+    let before =
+    c.take_into-2.ensures.share ∙ c.take_one-root.ensures.share ∙ c.take_into.ensures.share
+    ∙ ap (λ (f : FreeList). f.share) c.in-Ok.ensures.free ∙ c.requires.share in
+    omega (
+      arith,
+      ap (λ (s : Share). s.frames) before,
+      c.take_into-2.ensures.size,
+      c.take_one-root.ensures.size,
+      c.take_into.ensures.size,
+      c.requires.size,
+    )
 
 pub give_pages-requires-clause-lines : goal.give_pages-requires-clause-lines
 give_pages-requires-clause-lines c = c.in_ok-kept.ensures.caps

@@ -12,7 +12,9 @@ use Rattle.domain_open.proofs.open.open_one.Goals as goal
 pub open_domain-requires : goal.open_domain-requires
 open_domain-requires c =
     let hardware = ap (λ (p : Public). p.hardware) c.public.ensures.value in
-    let pool = has_pool (image_from c.args.image.now) c.runnable.ensures.runnable c.args.d c.requires.domain c.own.result.now (hardware_model c.public.result.now.hardware) c.own.ensures.value hardware in
+    let pool =
+    has_pool (image_from c.args.image.now) c.runnable.ensures.runnable c.args.d c.requires.domain
+    c.own.result.now (hardware_model c.public.result.now.hardware) c.own.ensures.value hardware in
     record {
       has_pool = pool;
       apart = record { once = pool.sound.apart };
@@ -22,7 +24,10 @@ open_domain-requires c =
 
 pub returns : goal.returns
 returns c = record {
-  opened = subst₂ (λ (h : Hardware) (o : Own). IfOk c.open_domain.result (IsOpened h o)) (ap (λ (p : Public). p.hardware) c.public.ensures.value) c.own.ensures.value c.open_domain.ensures.opened;
+  opened =
+      subst₂ (λ (h : Hardware) (o : Own). IfOk c.open_domain.result (IsOpened h o))
+      (ap (λ (p : Public). p.hardware) c.public.ensures.value) c.own.ensures.value
+      c.open_domain.ensures.opened;
   blank = c.open_domain.ensures.blank;
   size = c.open_domain.ensures.size;
 }

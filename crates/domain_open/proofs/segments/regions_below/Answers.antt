@@ -11,6 +11,8 @@ loop-r-init c = record { below = refl; few = omega arith }
 pub loop-r-preserved : goal.loop-r-preserved
 loop-r-preserved c =
     let one : c.from-regions.result ≡ cond c.has_region.result 1 0 = grind (arith, c.from-regions.ensures) in
-    let next = region_counted (map segment_model c.args.segments.now) c.loop-r.r c.loop-r.regions c.from-regions.result c.has_region.result (sym c.has_region.ensures.value)
+    let next =
+    region_counted (map segment_model c.args.segments.now) c.loop-r.r c.loop-r.regions
+    c.from-regions.result c.has_region.result (sym c.has_region.ensures.value)
     c.loop-r.invariant.below c.loop-r.invariant.few one in
     record { below = next.0; few = next.1 }

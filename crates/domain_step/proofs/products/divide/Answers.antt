@@ -32,7 +32,11 @@ returns-clause-leaves g c w l2 memory root now s r readings replies k h q =
     c.products.ensures.table in
     let products = option_map product_costs_of c.products.result in
     let time : division_time w.machine.muldiv (digits_in regs c.args.division c.args.rs1) ≡ c.division_time.result =
-    sym (c.division_time.ensures.value ∙ ap (λ (n : ℕ). division_time products (digits_of (dividend_of c.args.division n))) c.get-dividend.ensures.word ∙ ap (λ (o : Option ProductCosts). division_time o (digits_in regs c.args.division c.args.rs1)) costs) in
+    sym (c.division_time.ensures.value
+    ∙ ap (λ (n : ℕ). division_time products (digits_of (dividend_of c.args.division n)))
+    c.get-dividend.ensures.word
+    ∙ ap (λ (o : Option ProductCosts). division_time o (digits_in regs c.args.division c.args.rs1)) costs)
+    in
     let word = division_of c.args.division (register regs c.args.rs1) (register regs c.args.rs2) in
     let retired =
     finished_same c.retire.new.domain (effect_of regs old.threads.active.pc i 0) _ 0 i c.divide.new.regs d refl

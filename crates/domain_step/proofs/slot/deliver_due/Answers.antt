@@ -8,7 +8,9 @@ pub deliver-work-requires : goal.deliver-work-requires
 deliver-work-requires g c = record { left = c.requires.left; replies = c.requires.replies }
 
 pub charge-requires-clause-layout : goal.charge-requires-clause-layout
-charge-requires-clause-layout g c = subst (λ (l : CloneLayout). IsLayout (layout_model l)) (sym c.deliver-work.ensures.keeps.layout) c.requires.clone
+charge-requires-clause-layout g c =
+    subst (λ (l : CloneLayout). IsLayout (layout_model l)) (sym c.deliver-work.ensures.keeps.layout)
+    c.requires.clone
 
 pub charge-requires-clause-work : goal.charge-requires-clause-work
 charge-requires-clause-work g c = c.deliver-work.ensures.is_work

@@ -63,7 +63,8 @@ loop-goes_on-preserved g c =
       runs = ran.ensures.runs;
       along = λ end within.
           along_then g.P.Policy.rule g.P.Policy.stands_for end c.args.memory.now here.memory ran.new.memory
-          c.args.domain.now here.domain ran.new.domain (system c.args.core.now c.args.l2.now) (system here.core here.l2) (system ran.new.core ran.new.l2)
+          c.args.domain.now here.domain ran.new.domain (system c.args.core.now c.args.l2.now)
+          (system here.core here.l2) (system ran.new.core ran.new.l2)
           c.args.now here.clock ran.result.clock (inv.along end within)
           (along_step g.P.Policy.rule g.P.Policy.stands_for end here.memory here.domain (system here.core here.l2) here.clock base trap
           ran.new.memory ran.new.domain (system ran.new.core ran.new.l2) ran.result.clock (omega (arith, c.if-clock-until.true, within))

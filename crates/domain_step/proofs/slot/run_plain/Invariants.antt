@@ -14,7 +14,8 @@ invariant-loop-goes_on g l = record {
   some : l.clock ≡ l.now → l.goes_on ≡ true;
   plain : l.goes_on ≡ true → (t : ℕ) → t < l.until → IsPlain l.domain t;
   frames : l.memory.frames ≡ l.fn.memory.frames;
-  hierarchy : hierarchy_of g.P.Policy.rule (system l.core l.l2) ≡ hierarchy_of g.P.Policy.rule (system l.fn.core l.fn.l2);
+  hierarchy : hierarchy_of g.P.Policy.rule (system l.core l.l2)
+      ≡ hierarchy_of g.P.Policy.rule (system l.fn.core l.fn.l2);
   pinned : l.core.pinned ≡ l.fn.core.pinned;
   runs : Runs g.P.Policy.rule g.P.Policy.stands_for l.memory l.domain (system l.core l.l2) l.clock;
   along : (end : ℕ) → l.until ≤ end → MovesAlong g.P.Policy.rule g.P.Policy.stands_for end

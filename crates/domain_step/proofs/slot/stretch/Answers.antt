@@ -65,7 +65,8 @@ loop-clock-preserved-then-clock-until g c =
       runs = ran.ensures.runs;
       so_far =
           along_then g.P.Policy.rule g.P.Policy.stands_for c.args.end c.args.memory.now here.memory ran.new.memory
-          c.args.domain.now here.domain ran.new.domain (system c.args.core.now c.args.l2.now) (system here.core here.l2) (system ran.new.core ran.new.l2)
+          c.args.domain.now here.domain ran.new.domain (system c.args.core.now c.args.l2.now)
+          (system here.core here.l2) (system ran.new.core ran.new.l2)
           c.args.now here.clock ran.result inv.so_far (ran.ensures.along c.args.end within);
     }
 
@@ -93,9 +94,11 @@ loop-clock-preserved g c =
       runs = next.ensures.runs;
       so_far =
           along_then g.P.Policy.rule g.P.Policy.stands_for c.args.end c.args.memory.now here.memory here.memory
-          c.args.domain.now here.domain next.new.domain (system c.args.core.now c.args.l2.now) (system here.core here.l2) (system next.new.core next.new.l2)
+          c.args.domain.now here.domain next.new.domain (system c.args.core.now c.args.l2.now)
+          (system here.core here.l2) (system next.new.core next.new.l2)
           c.args.now here.clock next.result inv.so_far
-          (along_step g.P.Policy.rule g.P.Policy.stands_for c.args.end here.memory here.domain (system here.core here.l2) here.clock base trap
+          (along_step g.P.Policy.rule g.P.Policy.stands_for c.args.end here.memory here.domain
+          (system here.core here.l2) here.clock base trap
           here.memory next.new.domain (system next.new.core next.new.l2) next.result c.loop-clock-test.true next.ensures.becomes);
     }
 

@@ -11,10 +11,12 @@ invariant-loop-clock g l = record {
   soon : l.now < l.end → l.clock < l.end + most_event;
   still : l.end ≤ l.now → l.clock ≡ l.now;
   frames : l.memory.frames ≡ l.fn.memory.frames;
-  hierarchy : hierarchy_of g.P.Policy.rule (system l.core l.l2) ≡ hierarchy_of g.P.Policy.rule (system l.fn.core l.fn.l2);
+  hierarchy : hierarchy_of g.P.Policy.rule (system l.core l.l2)
+      ≡ hierarchy_of g.P.Policy.rule (system l.fn.core l.fn.l2);
   pinned : l.core.pinned ≡ l.fn.core.pinned;
   runs : Runs g.P.Policy.rule g.P.Policy.stands_for l.memory l.domain (system l.core l.l2) l.clock;
-  so_far : MovesAlong g.P.Policy.rule g.P.Policy.stands_for l.end l.fn.memory l.fn.domain (system l.fn.core l.fn.l2) l.now l.memory l.domain (system l.core l.l2) l.clock;
+  so_far : MovesAlong g.P.Policy.rule g.P.Policy.stands_for l.end l.fn.memory l.fn.domain
+      (system l.fn.core l.fn.l2) l.now l.memory l.domain (system l.core l.l2) l.clock;
 }
 
 abbrev pub decreases-loop-clock : goal.decreases-loop-clock

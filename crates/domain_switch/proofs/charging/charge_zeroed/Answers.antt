@@ -10,7 +10,8 @@ use Rattle.domain_switch.proofs.charging.charge_zeroed.Goals as goal
 
 pub returns-in_default-clause-makes : goal.returns-in_default-clause-makes
 returns-in_default-clause-makes g c =
-    zeroed_none g.P.Policy.rule g.P.Policy.stands_for (layout_model c.args.layout.now) c.args.zeroed (system c.args.core.now c.args.l2.now) c.in_default.is
+    zeroed_none g.P.Policy.rule g.P.Policy.stands_for (layout_model c.args.layout.now) c.args.zeroed
+    (system c.args.core.now c.args.l2.now) c.in_default.is
 
 pub returns-clause-makes : goal.returns-clause-makes
 returns-clause-makes g c =
@@ -19,5 +20,7 @@ returns-clause-makes g c =
     c.line_of-first.ensures.value ∙ ap (λ (f : ℕ). line_of l f 0) c.new.ensures.value in
     zeroed_some g.P.Policy.rule g.P.Policy.stands_for l c.args.zeroed c.in-Some.frame c.line_of-first.result c.store_run.result
     (system c.args.core.now c.args.l2.now) (system c.store_run.new.core c.store_run.new.l2) c.in-Some.is first
-    (subst (λ (n : ℕ). MakesTouches g.P.Policy.rule g.P.Policy.stands_for (map touch_of_line (run_of Store c.line_of-first.result n)) c.store_run.result (system c.args.core.now c.args.l2.now) (system c.store_run.new.core c.store_run.new.l2))
+    (subst (λ (n : ℕ). MakesTouches g.P.Policy.rule g.P.Policy.stands_for
+    (map touch_of_line (run_of Store c.line_of-first.result n)) c.store_run.result
+    (system c.args.core.now c.args.l2.now) (system c.store_run.new.core c.store_run.new.l2))
     c.lines_in_frame.ensures.value c.store_run.ensures.makes)

@@ -10,7 +10,8 @@ use Rattle.domain_switch.proofs.charging.fetch_run.Given as goal
 abbrev pub invariant-loop-place : goal.invariant-loop-place
 invariant-loop-place g l =
     record {
-      made : Front g.P.Policy.rule g.P.Policy.stands_for (run_of Fetch l.first l.count) l.place l.cycles (system l.fn.core l.fn.l2) (system l.core l.l2);
+      made : Front g.P.Policy.rule g.P.Policy.stands_for (run_of Fetch l.first l.count) l.place l.cycles
+          (system l.fn.core l.fn.l2) (system l.core l.l2);
       buffer : l.core.tlb ≡ l.fn.core.tlb;
       few : l.cycles ≤ most_access * l.place;
       within : l.place ≤ l.count;

@@ -25,7 +25,9 @@ loop-place-preserved g c =
     get_run Store c.args.first c.args.count c.loop-place.place c.loop-place-test.true ∙ ap (λ (n : ℕ). Some (touch_of Store n)) line in
     record {
       made = front_more g.P.Policy.rule g.P.Policy.stands_for ts c.loop-place.place c.loop-place.cycles c.access-cycles.result
-          (touch_of Store c.new.result) (system c.args.core.now c.args.l2.now) (system c.loop-place.core c.loop-place.l2) (system c.access-cycles.new.self c.access-cycles.new.l2)
+          (touch_of Store c.new.result) (system c.args.core.now c.args.l2.now)
+          (system c.loop-place.core c.loop-place.l2)
+          (system c.access-cycles.new.self c.access-cycles.new.l2)
           is c.loop-place.invariant.made c.access-cycles.ensures.makes;
       buffer = c.access-cycles.ensures.buffer ∙ c.loop-place.invariant.buffer;
       few = omega (arith, c.loop-place.invariant.few, c.access-cycles.ensures.few);
@@ -38,4 +40,5 @@ returns-clause-makes g c =
     let ts : List LineTouch = run_of Store c.args.first c.args.count in
     let whole : length ts ≡ c.args.count = length-run Store c.args.first c.args.count in
     front_all g.P.Policy.rule g.P.Policy.stands_for ts c.loop-place.place c.loop-place.cycles
-    (system c.args.core.now c.args.l2.now) (system c.loop-place.core c.loop-place.l2) (omega (arith, c.loop-place-test.false, whole)) c.loop-place.invariant.made
+    (system c.args.core.now c.args.l2.now) (system c.loop-place.core c.loop-place.l2)
+    (omega (arith, c.loop-place-test.false, whole)) c.loop-place.invariant.made

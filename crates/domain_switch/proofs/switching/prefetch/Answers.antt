@@ -23,8 +23,12 @@ loop-place-preserved g c =
     let count = c.min-count.ensures in
     let starts = c.loop-place.invariant.starts c.loop-place-test.true in
     record {
-      made = loads_more g.P.Policy.rule g.P.Policy.stands_for l place c.min-count.result c.loop-place.cycles c.load_run-cycles.result c.shared_line.result
-          (system c.args.core.now c.args.l2.now) (system c.loop-place.core c.loop-place.l2) (system c.load_run-cycles.new.core c.load_run-cycles.new.l2) c.shared_line.ensures.value starts (omega (arith, count, lines))
+      made =
+          loads_more g.P.Policy.rule g.P.Policy.stands_for l place c.min-count.result c.loop-place.cycles
+          c.load_run-cycles.result c.shared_line.result
+          (system c.args.core.now c.args.l2.now) (system c.loop-place.core c.loop-place.l2)
+          (system c.load_run-cycles.new.core c.load_run-cycles.new.l2) c.shared_line.ensures.value starts
+          (omega (arith, count, lines))
           c.loop-place.invariant.made c.load_run-cycles.ensures.makes;
       few = omega (arith, c.loop-place.invariant.few, c.load_run-cycles.ensures.few);
       within = omega (arith, count, c.loop-place-test.true);
@@ -35,5 +39,6 @@ loop-place-preserved g c =
 
 pub returns-clause-makes : goal.returns-clause-makes
 returns-clause-makes g c =
-    loads_all g.P.Policy.rule g.P.Policy.stands_for (layout_model c.args.layout.now) c.loop-place.place c.loop-place.cycles (system c.args.core.now c.args.l2.now) (system c.loop-place.core c.loop-place.l2)
+    loads_all g.P.Policy.rule g.P.Policy.stands_for (layout_model c.args.layout.now) c.loop-place.place
+    c.loop-place.cycles (system c.args.core.now c.args.l2.now) (system c.loop-place.core c.loop-place.l2)
     (omega (arith, c.loop-place-test.false, c.loop-place.invariant.within, c.shared_lines-shared.ensures.value)) c.loop-place.invariant.made

@@ -11,7 +11,9 @@ use Rattle.domain_switch.proofs.switching.prefetch.Given as goal
 abbrev pub invariant-loop-place : goal.invariant-loop-place
 invariant-loop-place g l =
     record {
-      made : MakesTouches g.P.Policy.rule g.P.Policy.stands_for (prefetch (map (shared_line (layout_model l.layout)) (range_with_len 0 l.place))) l.cycles (system l.fn.core l.fn.l2) (system l.core l.l2);
+      made : MakesTouches g.P.Policy.rule g.P.Policy.stands_for
+          (prefetch (map (shared_line (layout_model l.layout)) (range_with_len 0 l.place))) l.cycles
+          (system l.fn.core l.fn.l2) (system l.core l.l2);
       few : l.cycles ≤ most_access * l.place;
       within : l.place ≤ l.shared;
       starts : l.place < l.shared → l.place % lines_in_frame (layout_model l.layout) ≡ 0;

@@ -21,7 +21,9 @@ pub returns-clause-within : goal.returns-clause-within
 returns-clause-within g c caches for in_time =
     let h : Hierarchy = hierarchy_of g.P.Policy.rule (system c.args.core.now c.args.l2.now) in
     let done = done_by h c.args.core.now.pinned caches (layout_if (option_copied c.args.out)) (layout_model c.args.into.now)
-    c.args.into.now.shared c.args.calls c.args.old_end c.args.now c.args.until _ (record { line = c.requires.into.line; shared = refl }) c.requires.ended in_time (returns-clause-work g c caches for).time in
+    c.args.into.now.shared c.args.calls c.args.old_end c.args.now c.args.until _
+    (record { line = c.requires.into.line; shared = refl }) c.requires.ended in_time
+    (returns-clause-work g c caches for).time in
     omega (arith, done)
 
 pub returns-clause-on_time : goal.returns-clause-on_time

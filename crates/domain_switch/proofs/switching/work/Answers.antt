@@ -22,7 +22,9 @@ returns-clause-makes g c =
     let entered : ℕ = c.enter-entered.result in
     let made =
     switch_made rule stands c.args.parts.loads c.args.parts.flushes old.core.costs out into left loaded emptied entered
-    old (system c.leave_if-left.new.core c.leave_if-left.new.l2) (system c.prefetch_if-loaded.new.core c.prefetch_if-loaded.new.l2) (system c.flush_if-emptied.new.core c.flush_if-emptied.new.l2) new
+    old (system c.leave_if-left.new.core c.leave_if-left.new.l2)
+    (system c.prefetch_if-loaded.new.core c.prefetch_if-loaded.new.l2)
+    (system c.flush_if-emptied.new.core c.flush_if-emptied.new.l2) new
     c.leave_if-left.ensures.makes c.prefetch_if-loaded.ensures.makes c.flush_if-emptied.ensures.makes
     c.enter-entered.ensures.makes in
     let all : left + loaded + emptied + entered ≡ c.from.result + c.from-2.result + c.from-3.result + c.from-4.result =

@@ -11,4 +11,8 @@ loop-frame-preserved c = elim c.if-is_coloured.branch [
 ]
 
 pub returns : goal.returns
-returns c = record { value = counted_whole (share_of (whole_of c.args.frames c.args.colours) c.args.own.now) c.loop-frame.count c.loop-frame.frame (grind arith) c.loop-frame.invariant.0 }
+returns c = record {
+  value =
+      counted_whole (share_of (whole_of c.args.frames c.args.colours) c.args.own.now) c.loop-frame.count
+      c.loop-frame.frame (grind arith) c.loop-frame.invariant.0;
+}

@@ -4,7 +4,8 @@ use Rattle.frame_colours.specs.Colours.{pool, share_of, whole_of}
 use Rattle.frame_colours.proofs.Rounds.{pool_rounds, pool_most}
 use Rattle.frame_colours.proofs.share.pool_length.Goals as goal
 
-sum_is : (frames colours : ℕ) (own : List ℕ) (round rest : ℕ) → 0 < colours → round ≡ length (pool (share_of (whole_of colours colours) own))
+sum_is : (frames colours : ℕ) (own : List ℕ) (round rest : ℕ) → 0 < colours
+    → round ≡ length (pool (share_of (whole_of colours colours) own))
     → rest ≡ length (pool (share_of (whole_of (frames % colours) colours) own))
     → frames / colours * round + rest ≡ length (pool (share_of (whole_of frames colours) own))
 sum_is frames colours own round rest some is_round is_rest = rw (is_round, is_rest) (pool_rounds colours own some frames)
@@ -13,7 +14,8 @@ pub overflow_mul-result : goal.overflow_mul-result
 overflow_mul-result c =
     let whole =
     sum_is c.args.frames c.args.colours c.args.own.now c.count_each.result
-    (length (pool (share_of (whole_of (c.args.frames % c.args.colours) c.args.colours) c.args.own.now))) c.requires.some c.count_each.ensures.value refl
+    (length (pool (share_of (whole_of (c.args.frames % c.args.colours) c.args.colours) c.args.own.now)))
+    c.requires.some c.count_each.ensures.value refl
     in
     let most = pool_most c.args.colours c.args.own.now c.requires.some c.args.frames in
     omega (arith, whole, most, c.ranges.frames.fits)

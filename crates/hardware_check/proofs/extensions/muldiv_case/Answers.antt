@@ -25,6 +25,12 @@ returns c =
     let y = c.in-Some.costs.div in
     let same_mul : x ≡ to_z w64 (of_z w64 x) = search rules in
     let same_div : y ≡ to_z w64 (of_z w64 y) = search rules in
-    let case = past _ (product_case 2 y) _ (ap (product_case 1) same_mul ∙ c.in_ok-product_case.ensures.verdict) (ap (product_case 2) same_div) in
+    let case =
+    past _ (product_case 2 y) _ (ap (product_case 1) same_mul ∙ c.in_ok-product_case.ensures.verdict)
+    (ap (product_case 2) same_div) in
     let said = ap (λ o. muldiv_case (option_map muldiv_model o)) c.in-Some.is in
-    record { verdict = subst (λ (o : Option Refusal). IsVerdict c.product_case-2.result o) (sym (said ∙ case)) c.product_case-2.ensures.verdict }
+    record {
+      verdict =
+          subst (λ (o : Option Refusal). IsVerdict c.product_case-2.result o) (sym (said ∙ case))
+          c.product_case-2.ensures.verdict;
+    }

@@ -19,24 +19,35 @@ pub costs_of-requires : goal.costs_of-requires
 costs_of-requires c = record { ranges = (fits (raw_model c.args.raw.now) c.requires.parts).costs }
 
 pub invariant_of-result : goal.invariant_of-result
-invariant_of-result c = let few = (fits (raw_model c.args.raw.now) c.requires.parts).few_colours in record { few_colours = search (rules, few) }
+invariant_of-result c =
+    let few = (fits (raw_model c.args.raw.now) c.requires.parts).few_colours in
+    record { few_colours = search (rules, few) }
 
 pub natural_of-requires : goal.natural_of-requires
-natural_of-requires c = let natural = frames_natural (raw_model c.args.raw.now) c.requires.parts.frames in record { natural = search (rules, natural) }
+natural_of-requires c =
+    let natural = frames_natural (raw_model c.args.raw.now) c.requires.parts.frames in
+    record { natural = search (rules, natural) }
 
 pub natural_of-requires-2 : goal.natural_of-requires-2
 natural_of-requires-2 c =
     let i = raw_model c.args.raw.now in
-    let natural = natural_region i.line i.shared (some_line i c.requires.parts) c.requires.region in record { natural = search (rules, natural) }
+    let natural = natural_region i.line i.shared (some_line i c.requires.parts) c.requires.region in
+    record { natural = search (rules, natural) }
 
 pub natural_of-requires-3 : goal.natural_of-requires-3
-natural_of-requires-3 c = let natural = line_natural (raw_model c.args.raw.now) c.requires.parts.parts in record { natural = search (rules, natural) }
+natural_of-requires-3 c =
+    let natural = line_natural (raw_model c.args.raw.now) c.requires.parts.parts in
+    record { natural = search (rules, natural) }
 
 pub natural_of-requires-4 : goal.natural_of-requires-4
-natural_of-requires-4 c = let natural = predictor_natural (raw_model c.args.raw.now) c.requires.parts.parts in record { natural = search (rules, natural) }
+natural_of-requires-4 c =
+    let natural = predictor_natural (raw_model c.args.raw.now) c.requires.parts.parts in
+    record { natural = search (rules, natural) }
 
 pub natural_of-requires-5 : goal.natural_of-requires-5
-natural_of-requires-5 c = let natural = history_natural (raw_model c.args.raw.now) c.requires.parts.parts in record { natural = search (rules, natural) }
+natural_of-requires-5 c =
+    let natural = history_natural (raw_model c.args.raw.now) c.requires.parts.parts in
+    record { natural = search (rules, natural) }
 
 pub overflow_cast-result-2 : goal.overflow_cast-result-2
 overflow_cast-result-2 c =

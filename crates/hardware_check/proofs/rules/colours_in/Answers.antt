@@ -19,4 +19,6 @@ pub natural_of-requires : goal.natural_of-requires
 natural_of-requires c = let natural = l2_natural (raw_model c.args.raw.now) c.requires.parts in record { natural = search (rules, natural) }
 
 pub natural_of-requires-2 : goal.natural_of-requires-2
-natural_of-requires-2 c = let natural = line_natural (raw_model c.args.raw.now) c.requires.parts in record { natural = search (rules, natural) }
+natural_of-requires-2 c =
+    let natural = line_natural (raw_model c.args.raw.now) c.requires.parts in
+    record { natural = search (rules, natural) }

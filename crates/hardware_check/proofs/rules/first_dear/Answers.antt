@@ -13,7 +13,9 @@ returns-in_err-range_case c =
     let same : x ≡ get_or costs k (pos 0) = search rules in
     let many : length (take k costs) ≡ k = omega (arith, length-take k costs, c.loop-place-test.true) in
     let at : to_z w64 (k + 1) ≡ pos (k + 1) = search rules in
-    let here = ap (λ n. range_case 6 (pos (n + 1)) 1 1000 x) many ∙ ap (λ (z : ℤ). range_case 6 z 1 1000 x) (sym at) ∙ c.in_err-range_case.ensures.verdict in
+    let here =
+    ap (λ n. range_case 6 (pos (n + 1)) 1 1000 x) many
+    ∙ ap (λ (z : ℤ). range_case 6 z 1 1000 x) (sym at) ∙ c.in_err-range_case.ensures.verdict in
     let is = sym c.loop-place.invariant ∙ found k6_cost costs k x (pos 0) _ c.loop-place-test.true same here in
     record { verdict = refused c.from_residual.result (first_in k6_cost costs) _ c.from_residual.ensures.1 is }
 

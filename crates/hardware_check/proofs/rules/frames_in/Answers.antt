@@ -11,4 +11,6 @@ overflow_cast-result c =
     search (rules, small)
 
 pub natural_of-requires : goal.natural_of-requires
-natural_of-requires c = let natural = frames_natural (raw_model c.args.raw.now) c.requires.frames in record { natural = search (rules, natural) }
+natural_of-requires c =
+    let natural = frames_natural (raw_model c.args.raw.now) c.requires.frames in
+    record { natural = search (rules, natural) }

@@ -18,7 +18,11 @@ pub natural_of-requires : goal.natural_of-requires
 natural_of-requires c =
     let line : c.args.line ≡ to_z w64 (of_z w64 c.args.line) = search rules in
     let some = subst (λ (l : ℤ). 0 < natural_of l) line c.requires.line in
-    record { natural = natural_above (to_z w64 (of_z w64 c.args.line)) (to_z w64 (of_z w64 c.args.shared)) some (sym c.if-outside.ensures.value) }
+    record {
+      natural =
+          natural_above (to_z w64 (of_z w64 c.args.line)) (to_z w64 (of_z w64 c.args.shared)) some
+          (sym c.if-outside.ensures.value);
+    }
 
 pub natural_of-requires-2 : goal.natural_of-requires-2
 natural_of-requires-2 c =
@@ -37,5 +41,7 @@ returns c =
     let line : c.args.line ≡ to_z w64 (of_z w64 c.args.line) = search rules in
     let shared : c.args.shared ≡ to_z w64 (of_z w64 c.args.shared) = search rules in
     let out = ap₂ (λ l s. outside l (pos 65536) s) line shared ∙ sym c.if-outside.ensures.value in
-    let numbers = ap₂ (λ s l. s % l == 0) (c.natural_of.ensures.value ∙ ap natural_of (sym shared)) (c.natural_of-2.ensures.value ∙ ap natural_of (sym line)) in
+    let numbers =
+    ap₂ (λ s l. s % l == 0) (c.natural_of.ensures.value ∙ ap natural_of (sym shared))
+    (c.natural_of-2.ensures.value ∙ ap natural_of (sym line)) in
     record { value = numbers ∙ sym (ap (λ b. not b && natural_of c.args.shared % natural_of c.args.line == 0) out) }

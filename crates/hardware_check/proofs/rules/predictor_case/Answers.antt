@@ -12,7 +12,9 @@ returns-in_err-size_case c =
     let x = c.args.size in
     let same : x ≡ to_z w64 (of_z w64 x) = search rules in
     record {
-      verdict = refused c.from_residual.result _ _ c.from_residual.ensures.1 (here _ _ _ (ap (size_case 6 1 4096) same ∙ c.in_err-size_case.ensures.verdict));
+      verdict =
+          refused c.from_residual.result _ _ c.from_residual.ensures.1
+          (here _ _ _ (ap (size_case 6 1 4096) same ∙ c.in_err-size_case.ensures.verdict));
     }
 
 pub returns : goal.returns

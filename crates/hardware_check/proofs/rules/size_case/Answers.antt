@@ -15,7 +15,11 @@ returns-then-not-is_size-clause-verdict c =
     unmet _ _ _ _ is told
 
 pub natural_of-requires : goal.natural_of-requires
-natural_of-requires c = record { natural = size_natural c.args.low c.args.high (to_z w64 (of_z w64 c.args.number)) (sym c.if-not-is_size.ensures.value) }
+natural_of-requires c = record {
+  natural =
+      size_natural c.args.low c.args.high (to_z w64 (of_z w64 c.args.number))
+      (sym c.if-not-is_size.ensures.value);
+}
 
 pub overflow_cast-result : goal.overflow_cast-result
 overflow_cast-result c =

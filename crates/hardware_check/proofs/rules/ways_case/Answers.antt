@@ -48,7 +48,9 @@ returns-clause-verdict c =
     unmet _ _ _ _ out (unmet _ _ _ _ known (unmet _ _ _ _ (sym c.if-is_uneven_tree.ensures.value) refl))
 
 pub natural_of-requires : goal.natural_of-requires
-natural_of-requires c = record { natural = natural_inside 1 16 (to_z w64 (of_z w64 c.args.cache.now.ways)) (sym c.if-outside.ensures.value) }
+natural_of-requires c = record {
+  natural = natural_inside 1 16 (to_z w64 (of_z w64 c.args.cache.now.ways)) (sym c.if-outside.ensures.value);
+}
 
 pub overflow_cast-result : goal.overflow_cast-result
 overflow_cast-result c =
@@ -67,4 +69,5 @@ unfolding cache_shape_of shape
 returns-clause-value c =
     let ways = c.args.cache.now.ways in
     let same : to_z w64 (of_z w64 ways) ≡ ways = search rules in
-    same_shape c.requires.sets (c.natural_of.ensures.value ∙ ap natural_of same) (c.in-Some.ensures.value ∙ ap policy_of c.as_str.ensures.value)
+    same_shape c.requires.sets (c.natural_of.ensures.value ∙ ap natural_of same)
+    (c.in-Some.ensures.value ∙ ap policy_of c.as_str.ensures.value)

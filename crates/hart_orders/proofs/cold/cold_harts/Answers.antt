@@ -16,7 +16,8 @@ loop-preserved c =
           omega (arith, ap (λ (xs : List Hart). length xs) c.push_reserved.ensures.items, length_push harts more, c.loop.invariant.counted);
       room = c.push_reserved.ensures.capacity ∙ c.loop.invariant.room;
       cold =
-          subst (All (IsColdHart (hierarchy (hardware_model c.args.hardware.now)) c.args.l2.now)) (sym {A = List Hart} c.push_reserved.ensures.items)
+          subst (All (IsColdHart (hierarchy (hardware_model c.args.hardware.now)) c.args.l2.now))
+          (sym {A = List Hart} c.push_reserved.ensures.items)
           (All-push (IsColdHart (hierarchy (hardware_model c.args.hardware.now)) c.args.l2.now) harts more c.loop.invariant.cold
           c.in_ok-cold_hart.ensures.cold);
     }

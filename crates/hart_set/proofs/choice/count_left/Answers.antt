@@ -26,7 +26,8 @@ loop-h-preserved c =
         count = λ order stands.
             let here = its_slots c.args.harts.now order stands c.loop-h.h (omega arith) c.slots.result c.slots.ensures.value in
             w.count-is ∙ inv.count order stands
-            ∙ ap (λ (xs : List ℕ). length xs) (sym (no_more c.args.slots (harts_after c.args.harts.now order) c.loop-h.h (omega (arith, here, w.if-slots))));
+            ∙ ap (λ (xs : List ℕ). length xs) (sym (no_more c.args.slots
+            (harts_after c.args.harts.now order) c.loop-h.h (omega (arith, here, w.if-slots))));
         few = omega (arith, inv.few, w.count-is);
       }
     ]

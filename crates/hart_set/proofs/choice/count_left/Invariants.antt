@@ -5,6 +5,7 @@ use Rattle.hart_set.proofs.choice.count_left.Given as goal
 
 abbrev pub invariant-loop-h : goal.invariant-loop-h
 invariant-loop-h l = record {
-  count : (order : List ℕ) → StandsAfter l.harts order → l.count ≡ length (left l.slots (harts_after l.harts order) l.h);
+  count : (order : List ℕ) → StandsAfter l.harts order
+      → l.count ≡ length (left l.slots (harts_after l.harts order) l.h);
   few : l.count ≤ l.h;
 }

@@ -42,7 +42,9 @@ returns-then-before-place-clause-at c order stands =
     let h = c.loop-h.h in
     let there : h < harts_in (image_of v).all.schedule = omega arith in
     let here = its_slots v order stands h there c.slots.result c.slots.ensures.value in
-    let place : length (left c.args.slots (harts_after v order) h) ≡ c.args.place = let so_far = c.loop-h.invariant.count order stands in omega (arith, so_far, c.if-before-place.true) in
+    let place : length (left c.args.slots (harts_after v order) h) ≡ c.args.place =
+    let so_far = c.loop-h.invariant.count order stands in
+    omega (arith, so_far, c.if-before-place.true) in
     sym (placed c.args.slots (harts_after v order) h (harts_in (image_of v).all.schedule) there (omega (arith, here, c.if-slots.true)))
     ∙ ap (λ (k : ℕ). slice_get (left c.args.slots (harts_after v order) (harts_in (image_of v).all.schedule)) k) place
 

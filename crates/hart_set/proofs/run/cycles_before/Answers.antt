@@ -32,10 +32,14 @@ loop-schedule-preserved c =
     let h = c.loop-schedule.schedule-index in
     let all = one_each c.public.result.now i.all c.public.ensures.value in
     let below : h < harts_in i.all.schedule = omega (arith, all) in
-    let own = own_entries c.public.result.now i.all c.public.ensures.value h c.schedule-item.result below (rw c.deref-schedule-items.ensures.value at c.schedule-item.is) in
+    let own =
+    own_entries c.public.result.now i.all c.public.ensures.value h c.schedule-item.result below
+    (rw c.deref-schedule-items.ensures.value at c.schedule-item.is) in
     let begins = c.start-cycles.ensures.value ∙ ap (λ (placed : List (ℕ × Entry)). start (entries_alone placed) c.args.slot) own in
     let one : h + 1 ≡ suc h = omega arith in
-    let more : cycles_before i c.args.slot (h + 1) ≡ cycles_before i c.args.slot h + start_on i h c.args.slot = ap (λ (k : ℕ). cycles_before i c.args.slot k) one in
+    let more : cycles_before i c.args.slot (h + 1)
+    ≡ cycles_before i c.args.slot h + start_on i h c.args.slot =
+    ap (λ (k : ℕ). cycles_before i c.args.slot k) one in
     record {
       cycles = omega (arith, begins, more, c.loop-schedule.invariant.cycles);
       few = omega (arith, c.loop-schedule.invariant.few, c.start-cycles.ensures.soon, c.requires.few);

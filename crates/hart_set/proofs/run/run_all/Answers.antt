@@ -19,7 +19,9 @@ run_drawn-requires c = record { few = c.requires.few; first = c.requires.first }
 pub returns-in-LeastClock : goal.returns-in-LeastClock
 returns-in-LeastClock c = record {
   image = c.run_by_slots.ensures.image;
-  run = subst (λ (choice : Choice). HasRun c.run_by_slots.new.harts choice c.args.slots) (sym c.in-LeastClock.is) c.run_by_slots.ensures.run;
+  run =
+      subst (λ (choice : Choice). HasRun c.run_by_slots.new.harts choice c.args.slots)
+      (sym c.in-LeastClock.is) c.run_by_slots.ensures.run;
 }
 
 pub returns-in-Drawn : goal.returns-in-Drawn

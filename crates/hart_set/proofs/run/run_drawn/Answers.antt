@@ -28,13 +28,16 @@ loop-init c =
     record {
       image = refl;
       so_far =
-          at_first v (Drawn c.args.seed) n (c.cycles_before-most.result - 0) (HasDrawn c.args.seed c.seeded-words.result) (omega (arith, most))
+          at_first v (Drawn c.args.seed) n (c.cycles_before-most.result - 0)
+          (HasDrawn c.args.seed c.seeded-words.result) (omega (arith, most))
           c.requires.first (first ∙ sym (after_none _));
     }
 
 -- the word's hart is that of the definition
-named : (v : Raw × State) (seed n most counter : ℕ) (words : Lcg) (was : SoFar v (Drawn seed) n (suc (most - (counter + 1))) (HasDrawn seed words)) (w : ℕ)
-    (o : Option ℕ) → w ≡ word words 0 → o ≡ drawn w (left_in v was.order n) → next_hart (image_of v) (Drawn seed) n was.events (harts_after v was.order) ≡ o
+named : (v : Raw × State) (seed n most counter : ℕ) (words : Lcg)
+    (was : SoFar v (Drawn seed) n (suc (most - (counter + 1))) (HasDrawn seed words)) (w : ℕ)
+    (o : Option ℕ) → w ≡ word words 0 → o ≡ drawn w (left_in v was.order n)
+    → next_hart (image_of v) (Drawn seed) n was.events (harts_after v was.order) ≡ o
 unfolding chosen
 named v seed n most counter words was w o value is =
     sym (is ∙ ap (λ (x : ℕ). drawn x (left_in v was.order n)) (value ∙ word_here was.events (seeded seed) words was.at))
@@ -79,4 +82,5 @@ returns-clause-stands c =
     let At = HasDrawn c.args.seed c.loop.words in
     let none : c.cycles_before-most.result - c.loop.counter ≡ 0 = omega arith in
     subst (λ (x : Raw). StandsAfter v (order_of (image_from x) (Drawn c.args.seed) c.args.slots)) c.loop.invariant.image
-    (at_last v (Drawn c.args.seed) c.args.slots At (subst (λ (f : ℕ). SoFar v (Drawn c.args.seed) c.args.slots f At) none c.loop.invariant.so_far))
+    (at_last v (Drawn c.args.seed) c.args.slots At
+    (subst (λ (f : ℕ). SoFar v (Drawn c.args.seed) c.args.slots f At) none c.loop.invariant.so_far))

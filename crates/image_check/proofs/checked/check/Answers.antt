@@ -10,7 +10,8 @@ use Rattle.image_check.proofs.checked.check.Goals as goal
 
 pub returns-in_err-parts-clause-refused : goal.returns-in_err-parts-clause-refused
 returns-in_err-parts-clause-refused c =
-    first_of_all (raw_model c.args.raw) c.from_residual.result (first_handed c.from_residual.result c.in_err-parts.field-0.0 _ c.from_residual.ensures.1 c.in_err-parts.ensures.refused)
+    first_of_all (raw_model c.args.raw) c.from_residual.result (first_handed c.from_residual.result
+    c.in_err-parts.field-0.0 _ c.from_residual.ensures.1 c.in_err-parts.ensures.refused)
 
 pub returns-in_err-k17-clause-refused : goal.returns-in_err-k17-clause-refused
 returns-in_err-k17-clause-refused c =
@@ -21,7 +22,9 @@ pub returns-in_err-image-clause-refused : goal.returns-in_err-image-clause-refus
 returns-in_err-image-clause-refused c =
     let result = c.from_residual-in_err-image.result in
     let left = all_left (raw_model c.args.raw) c.in_ok-parts.ensures.accepted c.in_ok-k17.ensures.verdict in
-    subst (λ (due : List Refusal). IfErr result (IsFirst due)) (sym left) (first_handed result c.in_err-image.field-0.0 _ c.from_residual-in_err-image.ensures.1 c.in_err-image.ensures.refused)
+    subst (λ (due : List Refusal). IfErr result (IsFirst due)) (sym left)
+    (first_handed result c.in_err-image.field-0.0 _ c.from_residual-in_err-image.ensures.1
+    c.in_err-image.ensures.refused)
 
 pub invariant_of-result : goal.invariant_of-result
 invariant_of-result c =

@@ -21,7 +21,9 @@ take_first-requires c =
     let ds = c.args.domains.now in
     let k = c.loop-domain.domain-index in
     let d = c.domain-item.result in
-    let left : drop k ds ≡ d ∷ drop (k + 1) ds = drop_more ds k d c.loop-domain-test.true ∙ ap (λ (x : RawDomain). x ∷ drop (k + 1) ds) (sym c.domain-item.is) in
+    let left : drop k ds ≡ d ∷ drop (k + 1) ds =
+    drop_more ds k d c.loop-domain-test.true
+    ∙ ap (λ (x : RawDomain). x ∷ drop (k + 1) ds) (sym c.domain-item.is) in
     let parts = subst (λ (os : List RawDomain). ArePartsOf c.loop-domain.parts (map domain_model os)) left c.loop-domain.invariant.1 in
     record { first = has_first c.loop-domain.parts (domain_model d) (map domain_model (drop (k + 1) ds)) parts }
 
@@ -30,9 +32,12 @@ own_from-requires-clause-part c =
     let ds = c.args.domains.now in
     let k = c.loop-domain.domain-index in
     let d = c.domain-item.result in
-    let left : drop k ds ≡ d ∷ drop (k + 1) ds = drop_more ds k d c.loop-domain-test.true ∙ ap (λ (x : RawDomain). x ∷ drop (k + 1) ds) (sym c.domain-item.is) in
+    let left : drop k ds ≡ d ∷ drop (k + 1) ds =
+    drop_more ds k d c.loop-domain-test.true
+    ∙ ap (λ (x : RawDomain). x ∷ drop (k + 1) ds) (sym c.domain-item.is) in
     let parts = subst (λ (os : List RawDomain). ArePartsOf c.loop-domain.parts (map domain_model os)) left c.loop-domain.invariant.1 in
-    is_first c.loop-domain.parts c.take_first.new.self c.take_first.result (domain_model d) (map domain_model (drop (k + 1) ds)) parts c.take_first.ensures.taken
+    is_first c.loop-domain.parts c.take_first.new.self c.take_first.result (domain_model d)
+    (map domain_model (drop (k + 1) ds)) parts c.take_first.ensures.taken
 
 pub loop-domain-preserved : goal.loop-domain-preserved
 loop-domain-preserved c =
@@ -40,12 +45,17 @@ loop-domain-preserved c =
     let k = c.loop-domain.domain-index in
     let d = c.domain-item.result in
     let rest = drop (k + 1) ds in
-    let left : drop k ds ≡ d ∷ drop (k + 1) ds = drop_more ds k d c.loop-domain-test.true ∙ ap (λ (x : RawDomain). x ∷ drop (k + 1) ds) (sym c.domain-item.is) in
+    let left : drop k ds ≡ d ∷ drop (k + 1) ds =
+    drop_more ds k d c.loop-domain-test.true
+    ∙ ap (λ (x : RawDomain). x ∷ drop (k + 1) ds) (sym c.domain-item.is) in
     let parts = subst (λ (os : List RawDomain). ArePartsOf c.loop-domain.parts (map domain_model os)) left c.loop-domain.invariant.1 in (
       made_more own_model c.loop-domain.owns.items c.push.new.self.items c.in_ok-own_from.field-0
-          (map own_from (map domain_model (drop k ds))) (map own_from (map domain_model rest)) (map own_from (map domain_model ds)) (own_from (domain_model d))
-          (ap (λ (os : List RawDomain). map own_from (map domain_model os)) left) c.loop-domain.invariant.0 c.in_ok-push.ensures.items c.in_ok-own_from.ensures.value,
-      are_left c.loop-domain.parts c.take_first.new.self c.take_first.result (domain_model d) (map domain_model rest) parts c.take_first.ensures.taken,
+          (map own_from (map domain_model (drop k ds))) (map own_from (map domain_model rest))
+          (map own_from (map domain_model ds)) (own_from (domain_model d))
+          (ap (λ (os : List RawDomain). map own_from (map domain_model os)) left) c.loop-domain.invariant.0
+          c.in_ok-push.ensures.items c.in_ok-own_from.ensures.value,
+      are_left c.loop-domain.parts c.take_first.new.self c.take_first.result (domain_model d)
+          (map domain_model rest) parts c.take_first.ensures.taken,
     )
 
 pub returns : goal.returns
@@ -54,7 +64,10 @@ returns c =
     let made = map own_model c.loop-domain.owns.items in
     let none : drop c.loop-domain.domain-index ds ≡ [] = drop_all c.loop-domain.domain-index ds c.loop-domain-test.false in
     record {
-      value = sym (append-nil made) ∙ ap (λ (os : List RawDomain). made ++ map own_from (map domain_model os)) (sym none) ∙ c.loop-domain.invariant.0;
+      value =
+          sym (append-nil made)
+          ∙ ap (λ (os : List RawDomain). made ++ map own_from (map domain_model os)) (sym none)
+          ∙ c.loop-domain.invariant.0;
     }
 
 pub loop-domain-init : goal.loop-domain-init
@@ -67,7 +80,11 @@ bounds-domains-domain-index c = c.loop-domain-test.true
 
 pub returns-in_err-own_from : goal.returns-in_err-own_from
 returns-in_err-own_from c =
-    record { value = made_handed own_model _ c.from_residual.result c.in_err-own_from.field-0.0 _ _ c.from_residual.ensures.1 c.in_err-own_from.ensures.value }
+    record {
+      value =
+          made_handed own_model _ c.from_residual.result c.in_err-own_from.field-0.0 _ _
+          c.from_residual.ensures.1 c.in_err-own_from.ensures.value;
+    }
 
 pub returns-in_err-push : goal.returns-in_err-push
 returns-in_err-push c = record { value = unmade _ c.from_residual-in_err-push.result _ c.from_residual-in_err-push.ensures.1 }

@@ -7,5 +7,6 @@ use Rattle.image_check.proofs.own.owns_in.Given as goal
 
 abbrev pub invariant-loop-domain : goal.invariant-loop-domain
 invariant-loop-domain l =
-    (map own_model l.owns.items ++ map own_from (map domain_model (drop l.domain-index l.domains)) ≡ map own_from (map domain_model l.domains))
+    (map own_model l.owns.items ++ map own_from (map domain_model (drop l.domain-index l.domains))
+    ≡ map own_from (map domain_model l.domains))
     × ArePartsOf l.parts (map domain_model (drop l.domain-index l.domains))

@@ -40,11 +40,13 @@ k17_entries-requires-clause-domains c =
 pub returns : goal.returns
 returns c =
     let i = raw_model c.args.raw.now in
-    let machine : shape_model c.shape_for_every_call.result ≡ shape_for_every_call (hardware_of i) = c.shape_for_every_call.ensures.value ∙ ap shape_for_every_call c.requires.hardware in
+    let machine : shape_model c.shape_for_every_call.result ≡ shape_for_every_call (hardware_of i) =
+    c.shape_for_every_call.ensures.value ∙ ap shape_for_every_call c.requires.hardware in
     let of_calls = λ (s : MachineShape) (calls : List ℕ). first_in (k17_by s calls) (map entry_model c.as_slice.result.now) in
     let same : of_calls (shape_model c.shape_for_every_call.result) c.args.calls.now ≡ k17 i =
     ap (λ (s : MachineShape). of_calls s c.args.calls.now) machine
     ∙ ap (λ (calls : List ℕ). of_calls (shape_for_every_call (hardware_of i)) calls) c.requires.calls
-    ∙ ap (λ (entries : List RawEntry). first_in (k17_by (shape_for_every_call (hardware_of i)) (map own_calls i.domains)) (map entry_model entries)) c.as_slice.ensures.value
+    ∙ ap (λ (entries : List RawEntry). first_in (k17_by (shape_for_every_call (hardware_of i))
+    (map own_calls i.domains)) (map entry_model entries)) c.as_slice.ensures.value
     ∙ k17_by_calls i in
     record { verdict = subst (IsVerdict c.k17_entries.result) same c.k17_entries.ensures.verdict }

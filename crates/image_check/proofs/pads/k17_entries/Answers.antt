@@ -12,8 +12,13 @@ returns-in_err-k17_case c =
     let es = c.args.entries.now in
     let k = c.loop-place.place in
     let by = k17_by (shape_model c.args.shape.now) c.args.calls.now in
-    let case = k17_by_case (shape_model c.args.shape.now) c.args.calls.now _ _ _ _ k c.leaving_calls.ensures.value c.bound_from-bound.ensures.total (count_of entry_model es k c.loop-place-test.true) in
-    let is = sym c.loop-place.invariant ∙ found_of by entry_model es k _ _ _ c.loop-place-test.true refl (case ∙ c.in_err-k17_case.ensures.verdict) in
+    let case =
+    k17_by_case (shape_model c.args.shape.now) c.args.calls.now _ _ _ _ k c.leaving_calls.ensures.value
+    c.bound_from-bound.ensures.total (count_of entry_model es k c.loop-place-test.true) in
+    let is =
+    sym c.loop-place.invariant
+    ∙ found_of by entry_model es k _ _ _ c.loop-place-test.true refl
+    (case ∙ c.in_err-k17_case.ensures.verdict) in
     record { verdict = refused c.from_residual.result _ _ c.from_residual.ensures.1 is }
 
 pub loop-place-preserved : goal.loop-place-preserved
@@ -21,10 +26,17 @@ loop-place-preserved c =
     let es = c.args.entries.now in
     let k = c.loop-place.place in
     let by = k17_by (shape_model c.args.shape.now) c.args.calls.now in
-    let case = k17_by_case (shape_model c.args.shape.now) c.args.calls.now _ _ _ _ k c.leaving_calls.ensures.value c.bound_from-bound.ensures.total (count_of entry_model es k c.loop-place-test.true) in
+    let case =
+    k17_by_case (shape_model c.args.shape.now) c.args.calls.now _ _ _ _ k c.leaving_calls.ensures.value
+    c.bound_from-bound.ensures.total (count_of entry_model es k c.loop-place-test.true) in
     passed_of by entry_model es k _ _ c.loop-place-test.true refl (case ∙ c.in_ok-k17_case.ensures.verdict) ∙ c.loop-place.invariant
 
 pub returns : goal.returns
 returns c =
     let by = k17_by (shape_model c.args.shape.now) c.args.calls.now in
-    record { verdict = sym c.loop-place.invariant ∙ ended_of by entry_model _ c.args.entries.now c.loop-place.place (omega (arith, c.loop-place-test.false)) }
+    record {
+      verdict =
+          sym c.loop-place.invariant
+          ∙ ended_of by entry_model _ c.args.entries.now c.loop-place.place
+          (omega (arith, c.loop-place-test.false));
+    }

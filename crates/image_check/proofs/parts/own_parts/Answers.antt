@@ -5,11 +5,23 @@ use Rattle.image_check.proofs.parts.own_parts.Goals as goal
 pub returns-in_err-k16-clause-refused : goal.returns-in_err-k16-clause-refused
 returns-in_err-k16-clause-refused c =
     first_handed c.from_residual-in_err-k16.result _ _ c.from_residual-in_err-k16.ensures.1
-    (rw (c.in_ok-segments.ensures.verdict, c.in_ok-caps.ensures.verdict, c.in_ok-lines.ensures.verdict, c.in_ok-moments.ensures.verdict, c.in_err-k16.ensures.verdict) refl)
+    (rw (
+      c.in_ok-segments.ensures.verdict,
+      c.in_ok-caps.ensures.verdict,
+      c.in_ok-lines.ensures.verdict,
+      c.in_ok-moments.ensures.verdict,
+      c.in_err-k16.ensures.verdict,
+    ) refl)
 
 pub returns-clause-accepted : goal.returns-clause-accepted
 returns-clause-accepted c =
-    rw (c.in_ok-segments.ensures.verdict, c.in_ok-caps.ensures.verdict, c.in_ok-lines.ensures.verdict, c.in_ok-moments.ensures.verdict, c.in_ok-k16.ensures.verdict) refl
+    rw (
+      c.in_ok-segments.ensures.verdict,
+      c.in_ok-caps.ensures.verdict,
+      c.in_ok-lines.ensures.verdict,
+      c.in_ok-moments.ensures.verdict,
+      c.in_ok-k16.ensures.verdict,
+    ) refl
 
 pub returns-clause-parts : goal.returns-clause-parts
 returns-clause-parts c = record {

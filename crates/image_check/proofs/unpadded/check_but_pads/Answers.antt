@@ -8,7 +8,8 @@ use Rattle.image_check.proofs.unpadded.check_but_pads.Goals as goal
 
 pub returns-in_err-parts-clause-refused : goal.returns-in_err-parts-clause-refused
 returns-in_err-parts-clause-refused c =
-    first_of_others (raw_model c.args.raw) c.from_residual.result (first_handed c.from_residual.result c.in_err-parts.field-0.0 _ c.from_residual.ensures.1 c.in_err-parts.ensures.refused)
+    first_of_others (raw_model c.args.raw) c.from_residual.result (first_handed c.from_residual.result
+    c.in_err-parts.field-0.0 _ c.from_residual.ensures.1 c.in_err-parts.ensures.refused)
 
 pub returns-clause-refused : goal.returns-clause-refused
 returns-clause-refused c =

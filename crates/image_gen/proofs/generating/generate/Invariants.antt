@@ -13,5 +13,8 @@ invariant-loop-number l =
 abbrev pub invariant-loop-number-2 : goal.invariant-loop-number-2
 invariant-loop-number-2 l =
     (l.count ≡ count l.seed)
-    × (string_bytes l.text ≡ front l.seed ++ (domains_text l.seed (count l.seed) ++ (schedule_title ++ slots_text (at_domain l.seed (count l.seed)) l.number)))
+    × (string_bytes l.text
+    ≡ front l.seed
+    ++ (domains_text l.seed (count l.seed)
+    ++ (schedule_title ++ slots_text (at_domain l.seed (count l.seed)) l.number)))
     × (l.words ≡ after l.number (at_domain l.seed (count l.seed)))

@@ -13,10 +13,14 @@ returns-in_err-extend_from_slice c = record { bytes = no_value c.from_residual.r
 
 pub loop-word-preserved : goal.loop-word-preserved
 loop-word-preserved c =
-    mapped_more (to_le_bytes w32) c.args.program.now c.loop-word.word-index 0 c.loop-word.bytes.items _ c.loop-word-test.true c.loop-word.invariant
+    mapped_more (to_le_bytes w32) c.args.program.now c.loop-word.word-index 0 c.loop-word.bytes.items _
+    c.loop-word-test.true c.loop-word.invariant
     (c.in_ok-extend_from_slice.ensures.items ∙ ap (λ ys. c.loop-word.bytes.items ++ ys) c.to_le_bytes.ensures)
 
 pub returns : goal.returns
 returns c = record {
-  bytes = c.loop-word.invariant ∙ ap (flat_map (to_le_bytes w32)) (take_all c.loop-word.word-index c.args.program.now c.loop-word-test.false);
+  bytes =
+      c.loop-word.invariant
+      ∙ ap (flat_map (to_le_bytes w32))
+      (take_all c.loop-word.word-index c.args.program.now c.loop-word-test.false);
 }

@@ -84,40 +84,75 @@ pub returns-in-0 : goal.returns-in-0
 unfolding instruction
 returns-in-0 c =
     let w = c.args.word in
-    record { value = c.encoded.ensures.value ∙ sym (ap (λ k. instruction_of k (first_register w) (second_register w) (number w) (offset w)) c.in-0.is) }
+    record {
+      value =
+          c.encoded.ensures.value
+          ∙ sym (ap (λ k. instruction_of k (first_register w) (second_register w) (number w) (offset w))
+          c.in-0.is);
+    }
 
 pub returns-in-1 : goal.returns-in-1
 unfolding instruction
 returns-in-1 c =
     let w = c.args.word in
-    record { value = c.encoded-in-1.ensures.value ∙ sym (ap (λ k. instruction_of k (first_register w) (second_register w) (number w) (offset w)) c.in-1.is) }
+    record {
+      value =
+          c.encoded-in-1.ensures.value
+          ∙ sym (ap (λ k. instruction_of k (first_register w) (second_register w) (number w) (offset w))
+          c.in-1.is);
+    }
 
 pub returns-in-2 : goal.returns-in-2
 unfolding instruction
 returns-in-2 c =
     let w = c.args.word in
-    record { value = c.encoded-in-2.ensures.value ∙ sym (ap (λ k. instruction_of k (first_register w) (second_register w) (number w) (offset w)) c.in-2.is) }
+    record {
+      value =
+          c.encoded-in-2.ensures.value
+          ∙ sym (ap (λ k. instruction_of k (first_register w) (second_register w) (number w) (offset w))
+          c.in-2.is);
+    }
 
 pub returns-in-3 : goal.returns-in-3
 unfolding instruction
 returns-in-3 c =
     let w = c.args.word in
-    record { value = c.encoded-in-3.ensures.value ∙ sym (ap (λ k. instruction_of k (first_register w) (second_register w) (number w) (offset w)) c.in-3.is) }
+    record {
+      value =
+          c.encoded-in-3.ensures.value
+          ∙ sym (ap (λ k. instruction_of k (first_register w) (second_register w) (number w) (offset w))
+          c.in-3.is);
+    }
 
 pub returns-in-4 : goal.returns-in-4
 unfolding instruction
 returns-in-4 c =
     let w = c.args.word in
-    record { value = c.encoded-in-4.ensures.value ∙ sym (ap (λ k. instruction_of k (first_register w) (second_register w) (number w) (offset w)) c.in-4.is) }
+    record {
+      value =
+          c.encoded-in-4.ensures.value
+          ∙ sym (ap (λ k. instruction_of k (first_register w) (second_register w) (number w) (offset w))
+          c.in-4.is);
+    }
 
 pub returns-in-5 : goal.returns-in-5
 unfolding instruction
 returns-in-5 c =
     let w = c.args.word in
-    record { value = c.encoded-in-5.ensures.value ∙ sym (ap (λ k. instruction_of k (first_register w) (second_register w) (number w) (offset w)) c.in-5.is) }
+    record {
+      value =
+          c.encoded-in-5.ensures.value
+          ∙ sym (ap (λ k. instruction_of k (first_register w) (second_register w) (number w) (offset w))
+          c.in-5.is);
+    }
 
 pub returns-in-6 : goal.returns-in-6
 unfolding instruction
 returns-in-6 c =
     let w = c.args.word in
-    record { value = c.encoded-in-6.ensures.value ∙ sym (ap (λ k. instruction_of k (first_register w) (second_register w) (number w) (offset w)) c.in-6.is) }
+    record {
+      value =
+          c.encoded-in-6.ensures.value
+          ∙ sym (ap (λ k. instruction_of k (first_register w) (second_register w) (number w) (offset w))
+          c.in-6.is);
+    }

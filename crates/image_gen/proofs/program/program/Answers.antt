@@ -12,7 +12,9 @@ loop-drawn-preserved c =
     let k = c.loop-drawn.drawn in
     let h = c.loop-drawn.words in
     let drawn = c.draw.ensures.value ∙ word_here k g h c.loop-drawn.invariant.1 in (
-      program_more (λ j. instruction (word g j)) k c.loop-drawn.program.items _ c.instruction.result c.loop-drawn.invariant.0 (c.instruction.ensures.value ∙ ap instruction drawn) c.in_ok-push.ensures.items,
+      program_more (λ j. instruction (word g j)) k c.loop-drawn.program.items _ c.instruction.result
+          c.loop-drawn.invariant.0 (c.instruction.ensures.value ∙ ap instruction drawn)
+          c.in_ok-push.ensures.items,
       c.draw.ensures.drawn ∙ after_next k 1 (k + 1) g h c.loop-drawn.invariant.1 refl,
     )
 
@@ -21,7 +23,9 @@ unfolding program program_bytes
 returns-clause-bytes c =
     let all : c.loop-drawn.drawn ≡ 64 = omega (arith, c.loop-drawn-test.false, c.loop-drawn.auto.drawn-end) in
     let drawn = rw all at c.loop-drawn.invariant.0 in
-    let whole : c.as_slice.result.now ≡ program c.args.words.now = c.as_slice.ensures.value ∙ c.in_ok-extend_from_slice.ensures.items ∙ ap (λ xs. xs ++ last_words) drawn in
+    let whole : c.as_slice.result.now ≡ program c.args.words.now =
+    c.as_slice.ensures.value ∙ c.in_ok-extend_from_slice.ensures.items
+    ∙ ap (λ xs. xs ++ last_words) drawn in
     rw whole at c.bytes_of.ensures.bytes
 
 pub loop-drawn-init : goal.loop-drawn-init
@@ -40,10 +44,14 @@ pub returns-in_err-push-clause-drawn : goal.returns-in_err-push-clause-drawn
 returns-in_err-push-clause-drawn c = no_value c.from_residual-in_err-push.result _ c.from_residual-in_err-push.ensures.0
 
 pub returns-in_err-extend_from_slice-clause-bytes : goal.returns-in_err-extend_from_slice-clause-bytes
-returns-in_err-extend_from_slice-clause-bytes c = no_value c.from_residual-in_err-extend_from_slice.result _ c.from_residual-in_err-extend_from_slice.ensures.0
+returns-in_err-extend_from_slice-clause-bytes c =
+    no_value c.from_residual-in_err-extend_from_slice.result _
+    c.from_residual-in_err-extend_from_slice.ensures.0
 
 pub returns-in_err-extend_from_slice-clause-drawn : goal.returns-in_err-extend_from_slice-clause-drawn
-returns-in_err-extend_from_slice-clause-drawn c = no_value c.from_residual-in_err-extend_from_slice.result _ c.from_residual-in_err-extend_from_slice.ensures.0
+returns-in_err-extend_from_slice-clause-drawn c =
+    no_value c.from_residual-in_err-extend_from_slice.result _
+    c.from_residual-in_err-extend_from_slice.ensures.0
 
 pub returns-clause-drawn : goal.returns-clause-drawn
 returns-clause-drawn c =

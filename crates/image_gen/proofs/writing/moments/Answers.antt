@@ -14,7 +14,8 @@ loop-place-preserved c =
     let drawn = c.draw.ensures.value ∙ word_here k g h c.loop-place.invariant.1 in
     let bytes = rw c.separator-separator.ensures.value at c.in_ok-write.ensures.bytes in
     let piece = moment_text c.args.number k c.draw.result in (
-      written_more (λ j. moment_text c.args.number j (word g j)) k [] (string_bytes c.loop-place.text) _ piece c.loop-place.invariant.0 (ap (moment_text c.args.number k) drawn) bytes,
+      written_more (λ j. moment_text c.args.number j (word g j)) k [] (string_bytes c.loop-place.text) _ piece
+          c.loop-place.invariant.0 (ap (moment_text c.args.number k) drawn) bytes,
       c.draw.ensures.drawn ∙ after_next k 1 (k + 1) g h c.loop-place.invariant.1 refl,
     )
 

@@ -33,4 +33,6 @@ returns-clause-added c =
     c.in_ok-write_with.ensures.added ∙ ap (λ t. string_bytes c.args.text.now ++ t) (ap₂ (domain_text_with d) moments hex)
 
 pub returns-clause-drawn : goal.returns-clause-drawn
-returns-clause-drawn c = c.in_ok-moments.ensures.drawn ∙ after_next 64 8 72 c.args.words.now c.program_hex.new.words c.in_ok-hex.ensures.drawn refl
+returns-clause-drawn c =
+    c.in_ok-moments.ensures.drawn
+    ∙ after_next 64 8 72 c.args.words.now c.program_hex.new.words c.in_ok-hex.ensures.drawn refl

@@ -9,5 +9,7 @@ loop-value-preserved g c =
 
 pub returns : goal.returns
 returns g c = record {
-  read = all_read g.T.Item.model g.T.Item.part_in c.loop-value.found.items c.args.values.now c.loop-value.value-index _ c.loop-value.invariant c.loop-value-test.false;
+  read =
+      all_read g.T.Item.model g.T.Item.part_in c.loop-value.found.items c.args.values.now
+      c.loop-value.value-index _ c.loop-value.invariant c.loop-value-test.false;
 }

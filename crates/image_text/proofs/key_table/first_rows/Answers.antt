@@ -10,4 +10,7 @@ pub slice_bounds-first_broken-end : goal.slice_bounds-first_broken-end
 slice_bounds-first_broken-end c = sym (length-take-le 25 _ (at_least_25 _ c.key_rows.ensures.rows))
 
 pub returns-clause-value : goal.returns-clause-value
-returns-clause-value c = c.first_broken.ensures.value ∙ ap (λ rows. first_broken c.args.version rows (table_view c.args.table.now)) (first_part 25 _ c.key_rows.ensures.rows)
+returns-clause-value c =
+    c.first_broken.ensures.value
+    ∙ ap (λ rows. first_broken c.args.version rows (table_view c.args.table.now))
+    (first_part 25 _ c.key_rows.ensures.rows)

@@ -12,4 +12,7 @@ pub slice_bounds-first_broken-start : goal.slice_bounds-first_broken-start
 slice_bounds-first_broken-start c = at_least_25 _ c.key_rows.ensures.rows
 
 pub returns-clause-value : goal.returns-clause-value
-returns-clause-value c = c.first_broken.ensures.value ∙ ap (λ rows. first_broken c.args.version rows (table_view c.args.table.now)) (last_part 25 _ c.key_rows.ensures.rows)
+returns-clause-value c =
+    c.first_broken.ensures.value
+    ∙ ap (λ rows. first_broken c.args.version rows (table_view c.args.table.now))
+    (last_part 25 _ c.key_rows.ensures.rows)

@@ -5,4 +5,6 @@ use Rattle.image_text.specs.Rows as spec
 use Rattle.image_text.proofs.kinds.all_fit.Given as goal
 
 abbrev pub invariant-loop-value : goal.invariant-loop-value
-invariant-loop-value l = spec.all_items (spec.fits_one l.simple) (items_view (drop l.value-index l.values)) ≡ spec.all_items (spec.fits_one l.simple) (items_view l.values)
+invariant-loop-value l =
+    spec.all_items (spec.fits_one l.simple) (items_view (drop l.value-index l.values))
+    ≡ spec.all_items (spec.fits_one l.simple) (items_view l.values)

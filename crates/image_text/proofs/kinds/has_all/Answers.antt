@@ -7,12 +7,23 @@ use Rattle.image_text.proofs.kinds.has_all.Goals as goal
 
 pub loop-field-preserved : goal.loop-field-preserved
 loop-field-preserved c =
-    holds (λ fs. rows.has_all (map field_model fs) (table_view c.args.table.now)) (λ f. rows.has_field (field_model f) (table_view c.args.table.now)) c.args.fields.now c.loop-field.field-index _ _ c.loop-field-test.true refl (λ y ys. refl) c.if-not-has_field.ensures.value c.loop-field.invariant
+    holds (λ fs. rows.has_all (map field_model fs) (table_view c.args.table.now))
+    (λ f. rows.has_field (field_model f) (table_view c.args.table.now)) c.args.fields.now
+    c.loop-field.field-index _ _ c.loop-field-test.true refl (λ y ys. refl)
+    c.if-not-has_field.ensures.value c.loop-field.invariant
 
 pub returns-then-not-has_field : goal.returns-then-not-has_field
 returns-then-not-has_field c = record {
-  value = fails (λ fs. rows.has_all (map field_model fs) (table_view c.args.table.now)) (λ f. rows.has_field (field_model f) (table_view c.args.table.now)) c.args.fields.now c.loop-field.field-index _ _ c.loop-field-test.true refl (λ y ys. refl) c.if-not-has_field.ensures.value c.loop-field.invariant;
+  value =
+      fails (λ fs. rows.has_all (map field_model fs) (table_view c.args.table.now))
+      (λ f. rows.has_field (field_model f) (table_view c.args.table.now)) c.args.fields.now
+      c.loop-field.field-index _ _ c.loop-field-test.true refl (λ y ys. refl)
+      c.if-not-has_field.ensures.value c.loop-field.invariant;
 }
 
 pub returns : goal.returns
-returns c = record { value = ended (λ fs. rows.has_all (map field_model fs) (table_view c.args.table.now)) true c.args.fields.now c.loop-field.field-index c.loop-field-test.false refl c.loop-field.invariant }
+returns c = record {
+  value =
+      ended (λ fs. rows.has_all (map field_model fs) (table_view c.args.table.now)) true c.args.fields.now
+      c.loop-field.field-index c.loop-field-test.false refl c.loop-field.invariant;
+}

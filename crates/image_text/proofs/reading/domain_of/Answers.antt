@@ -13,5 +13,8 @@ returns c =
     let caps = c.in_ok-caps.ensures.read ∙ ap (map_items (λ (d : Data). text_of (Some d))) c.items_at-2.ensures.value in
     let moments = c.in_ok-moments.ensures.read ∙ ap (map_items moment_in) c.items_at-3.ensures.value in
     record {
-      read = domain_of (table_view c.args.table.now) _ _ _ _ _ _ _ _ c.in_ok-name.ensures.read c.in_ok-colours.ensures.read c.natural_at.ensures.value segments caps c.in_ok-lines.ensures.read moments c.in_ok-calls.ensures.read;
+      read =
+          domain_of (table_view c.args.table.now) _ _ _ _ _ _ _ _ c.in_ok-name.ensures.read
+          c.in_ok-colours.ensures.read c.natural_at.ensures.value segments caps c.in_ok-lines.ensures.read
+          moments c.in_ok-calls.ensures.read;
     }

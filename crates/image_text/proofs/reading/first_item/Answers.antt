@@ -7,7 +7,9 @@ use Rattle.image_text.proofs.reading.first_item.Goals as goal
 pub returns-in-len1-up : goal.returns-in-len1-up
 returns-in-len1-up c = record {
   value = to_z-of_z w64 c.integer_of.result (record { sfits = c.integer_of.type_inv })
-      ∙ c.integer_of.ensures.value ∙ first_is c.args.values.now c.first-item.result c.first-item.result c.in-len1-up.len_at_least c.first-item.is;
+      ∙ c.integer_of.ensures.value
+      ∙ first_is c.args.values.now c.first-item.result c.first-item.result c.in-len1-up.len_at_least
+      c.first-item.is;
 }
 
 pub returns-in-empty : goal.returns-in-empty

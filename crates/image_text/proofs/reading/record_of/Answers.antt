@@ -9,7 +9,9 @@ use Rattle.image_text.proofs.Ranges.{in_key_ranges}
 use Rattle.image_text.proofs.reading.record_of.Goals as goal
 
 pub invariant_of-result : goal.invariant_of-result
-invariant_of-result c = record { in_ranges = rw (c.in_ok-domains.ensures.read, c.items_at.ensures.value) (in_key_ranges _ c.requires.whole) }
+invariant_of-result c = record {
+  in_ranges = rw (c.in_ok-domains.ensures.read, c.items_at.ensures.value) (in_key_ranges _ c.requires.whole);
+}
 
 pub returns : goal.returns
 returns c =
@@ -22,6 +24,7 @@ returns c =
     let schedule = c.in_ok-schedule.ensures.read ∙ ap (map_items entry_in) c.items_at-2.ensures.value in
     record {
       read = record_of (table_view c.args.table.now) _ _ _ _ _ _ _ _ _ _ _ _ _ _ _ _ c.version_of.ensures.value frames shared line
-          c.in_ok-l1i.ensures.read c.in_ok-l1d.ensures.read c.in_ok-l2.ensures.read c.back_at.ensures.value c.in_ok-tlb.ensures.read predictor history
+          c.in_ok-l1i.ensures.read c.in_ok-l1d.ensures.read c.in_ok-l2.ensures.read c.back_at.ensures.value
+          c.in_ok-tlb.ensures.read predictor history
           c.costs_at.ensures.value c.muldiv_at.ensures.value c.integer_if_at.ensures.value domains schedule;
     }

@@ -7,7 +7,10 @@ use Rattle.image_text.proofs.reading.second_item.Goals as goal
 
 pub returns-in-len1-up : goal.returns-in-len1-up
 returns-in-len1-up c = record {
-  value = to_z-of_z w64 c.first_item.result (record { sfits = c.first_item.type_inv }) ∙ c.first_item.ensures.value ∙ second_is c.args.values.now _ (take_rest c.args.values.now 1) c.in-len1-up.len_at_least;
+  value =
+      to_z-of_z w64 c.first_item.result (record { sfits = c.first_item.type_inv })
+      ∙ c.first_item.ensures.value
+      ∙ second_is c.args.values.now _ (take_rest c.args.values.now 1) c.in-len1-up.len_at_least;
 }
 
 pub returns-in-empty : goal.returns-in-empty

@@ -8,12 +8,23 @@ use Rattle.image_text.proofs.rows.all_whole.Goals as goal
 
 pub loop-value-preserved : goal.loop-value-preserved
 loop-value-preserved c =
-    holds (λ vs. all_items (rows.whole_item (row_model c.args.row.now)) (items_view vs)) (λ v. rows.whole_item (row_model c.args.row.now) (view v)) c.args.values.now c.loop-value.value-index c.value-item.result c.value-item.result c.loop-value-test.true c.value-item.is (λ y ys. refl) c.if-not-whole_item.ensures.value c.loop-value.invariant
+    holds (λ vs. all_items (rows.whole_item (row_model c.args.row.now)) (items_view vs))
+    (λ v. rows.whole_item (row_model c.args.row.now) (view v)) c.args.values.now c.loop-value.value-index
+    c.value-item.result c.value-item.result c.loop-value-test.true c.value-item.is (λ y ys. refl)
+    c.if-not-whole_item.ensures.value c.loop-value.invariant
 
 pub returns-then-not-whole_item : goal.returns-then-not-whole_item
 returns-then-not-whole_item c = record {
-  value = fails (λ vs. all_items (rows.whole_item (row_model c.args.row.now)) (items_view vs)) (λ v. rows.whole_item (row_model c.args.row.now) (view v)) c.args.values.now c.loop-value.value-index c.value-item.result c.value-item.result c.loop-value-test.true c.value-item.is (λ y ys. refl) c.if-not-whole_item.ensures.value c.loop-value.invariant;
+  value =
+      fails (λ vs. all_items (rows.whole_item (row_model c.args.row.now)) (items_view vs))
+      (λ v. rows.whole_item (row_model c.args.row.now) (view v)) c.args.values.now c.loop-value.value-index
+      c.value-item.result c.value-item.result c.loop-value-test.true c.value-item.is (λ y ys. refl)
+      c.if-not-whole_item.ensures.value c.loop-value.invariant;
 }
 
 pub returns : goal.returns
-returns c = record { value = ended (λ vs. all_items (rows.whole_item (row_model c.args.row.now)) (items_view vs)) true c.args.values.now c.loop-value.value-index c.loop-value-test.false refl c.loop-value.invariant }
+returns c = record {
+  value =
+      ended (λ vs. all_items (rows.whole_item (row_model c.args.row.now)) (items_view vs)) true
+      c.args.values.now c.loop-value.value-index c.loop-value-test.false refl c.loop-value.invariant;
+}

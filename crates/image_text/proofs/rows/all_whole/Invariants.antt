@@ -6,4 +6,6 @@ use Rattle.image_text.specs.Models.{row_model}
 use Rattle.image_text.proofs.rows.all_whole.Given as goal
 
 abbrev pub invariant-loop-value : goal.invariant-loop-value
-invariant-loop-value l = spec.all_items (spec.whole_item (row_model l.row)) (items_view (drop l.value-index l.values)) ≡ spec.all_items (spec.whole_item (row_model l.row)) (items_view l.values)
+invariant-loop-value l =
+    spec.all_items (spec.whole_item (row_model l.row)) (items_view (drop l.value-index l.values))
+    ≡ spec.all_items (spec.whole_item (row_model l.row)) (items_view l.values)

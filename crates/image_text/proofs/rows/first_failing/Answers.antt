@@ -15,4 +15,5 @@ returns-then-not-passes-clause-value c =
 
 pub returns-clause-value : goal.returns-clause-value
 returns-clause-value c =
-    none_failed (passes c.args.row.now.place (row_model c.args.row.now)) c.args.values.now c.loop-number.number _ c.loop-number.invariant c.loop-number-test.false
+    none_failed (passes c.args.row.now.place (row_model c.args.row.now)) c.args.values.now
+    c.loop-number.number _ c.loop-number.invariant c.loop-number-test.false

@@ -5,4 +5,5 @@ use Rattle.image_text.specs.Unknown as spec
 use Rattle.image_text.proofs.unknown.+no_key.Given as goal
 
 abbrev pub invariant-all_hold_no_key-loop-value : goal.invariant-all_hold_no_key-loop-value
-invariant-all_hold_no_key-loop-value l = spec.no_key_in (items_view (drop l.value-index l.value-items)) ≡ spec.no_key_in (items_view l.value-items)
+invariant-all_hold_no_key-loop-value l =
+    spec.no_key_in (items_view (drop l.value-index l.value-items)) ≡ spec.no_key_in (items_view l.value-items)

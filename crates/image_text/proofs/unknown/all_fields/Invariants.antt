@@ -6,4 +6,6 @@ use Rattle.image_text.specs.Models.{field_model}
 use Rattle.image_text.proofs.unknown.all_fields.Given as goal
 
 abbrev pub invariant-loop-key : goal.invariant-loop-key
-invariant-loop-key l = spec.all_fields (map field_model l.fields) (members_view l.key-iterator) ≡ spec.all_fields (map field_model l.fields) (members_view l.fn.table.entries)
+invariant-loop-key l =
+    spec.all_fields (map field_model l.fields) (members_view l.key-iterator)
+    ≡ spec.all_fields (map field_model l.fields) (members_view l.fn.table.entries)

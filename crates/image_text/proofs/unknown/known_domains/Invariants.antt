@@ -7,4 +7,6 @@ use Rattle.image_text.specs.Models.{row_model}
 use Rattle.image_text.proofs.unknown.known_domains.Given as goal
 
 abbrev pub invariant-loop-value : goal.invariant-loop-value
-invariant-loop-value l = all_items (spec.known_domain l.version (map row_model l.rows)) (items_view (drop l.value-index l.values)) ≡ all_items (spec.known_domain l.version (map row_model l.rows)) (items_view l.values)
+invariant-loop-value l =
+    all_items (spec.known_domain l.version (map row_model l.rows)) (items_view (drop l.value-index l.values))
+    ≡ all_items (spec.known_domain l.version (map row_model l.rows)) (items_view l.values)

@@ -8,12 +8,28 @@ use Rattle.image_text.proofs.unknown.known_items.Goals as goal
 
 pub loop-value-preserved : goal.loop-value-preserved
 loop-value-preserved c =
-    holds (λ vs. all_items (unknown.known_item c.args.version c.args.place (map row_model c.args.rows.now)) (items_view vs)) (λ v. unknown.known_item c.args.version c.args.place (map row_model c.args.rows.now) (view v)) c.args.values.now c.loop-value.value-index c.value-item.result c.value-item.result c.loop-value-test.true c.value-item.is (λ y ys. refl) c.if-not-known_item.ensures.value c.loop-value.invariant
+    holds (λ vs. all_items (unknown.known_item c.args.version c.args.place (map row_model c.args.rows.now))
+    (items_view vs))
+    (λ v. unknown.known_item c.args.version c.args.place (map row_model c.args.rows.now) (view v))
+    c.args.values.now c.loop-value.value-index c.value-item.result c.value-item.result
+    c.loop-value-test.true c.value-item.is (λ y ys. refl) c.if-not-known_item.ensures.value
+    c.loop-value.invariant
 
 pub returns-then-not-known_item : goal.returns-then-not-known_item
 returns-then-not-known_item c = record {
-  value = fails (λ vs. all_items (unknown.known_item c.args.version c.args.place (map row_model c.args.rows.now)) (items_view vs)) (λ v. unknown.known_item c.args.version c.args.place (map row_model c.args.rows.now) (view v)) c.args.values.now c.loop-value.value-index c.value-item.result c.value-item.result c.loop-value-test.true c.value-item.is (λ y ys. refl) c.if-not-known_item.ensures.value c.loop-value.invariant;
+  value =
+      fails (λ vs. all_items (unknown.known_item c.args.version c.args.place
+      (map row_model c.args.rows.now)) (items_view vs))
+      (λ v. unknown.known_item c.args.version c.args.place (map row_model c.args.rows.now) (view v))
+      c.args.values.now c.loop-value.value-index c.value-item.result c.value-item.result
+      c.loop-value-test.true c.value-item.is (λ y ys. refl) c.if-not-known_item.ensures.value
+      c.loop-value.invariant;
 }
 
 pub returns : goal.returns
-returns c = record { value = ended (λ vs. all_items (unknown.known_item c.args.version c.args.place (map row_model c.args.rows.now)) (items_view vs)) true c.args.values.now c.loop-value.value-index c.loop-value-test.false refl c.loop-value.invariant }
+returns c = record {
+  value =
+      ended (λ vs. all_items (unknown.known_item c.args.version c.args.place (map row_model c.args.rows.now))
+      (items_view vs)) true c.args.values.now c.loop-value.value-index c.loop-value-test.false refl
+      c.loop-value.invariant;
+}

@@ -7,4 +7,7 @@ use Rattle.image_text.specs.Models.{row_model}
 use Rattle.image_text.proofs.unknown.known_items.Given as goal
 
 abbrev pub invariant-loop-value : goal.invariant-loop-value
-invariant-loop-value l = all_items (spec.known_item l.version l.place (map row_model l.rows)) (items_view (drop l.value-index l.values)) ≡ all_items (spec.known_item l.version l.place (map row_model l.rows)) (items_view l.values)
+invariant-loop-value l =
+    all_items (spec.known_item l.version l.place (map row_model l.rows))
+    (items_view (drop l.value-index l.values))
+    ≡ all_items (spec.known_item l.version l.place (map row_model l.rows)) (items_view l.values)

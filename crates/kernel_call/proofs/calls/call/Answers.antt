@@ -26,14 +26,19 @@ returns-in-Some-clause-buffer c =
 pub returns-in-None-clause-calls : goal.returns-in-None-clause-calls
 returns-in-None-clause-calls c e readings replies m h logged kept =
     let d = dom_model c.args.domain.now readings replies in
-    called_answered (permitted c.args.domain.now.calls c.args.number) e c.reply_to.new.domain c.args.memory.now m (length replies) (Some c.reply_to.result) c.plain.result _
+    called_answered (permitted c.args.domain.now.calls c.args.number) e c.reply_to.new.domain
+    c.args.memory.now m (length replies) (Some c.reply_to.result) c.plain.result _
     (answered_refused m (length replies) c.reply_to.new.domain _ d error.BadCall c.reply.result c.reply_to.result
-    (bad_call e d m (permitted c.args.domain.now.calls c.args.number) (slice_index c.args.args 0) (slice_index c.args.args 1) (slice_index c.args.args 2) c.in-None.ensures.none)
+    (bad_call e d m (permitted c.args.domain.now.calls c.args.number) (slice_index c.args.args 0)
+    (slice_index c.args.args 1) (slice_index c.args.args 2) c.in-None.ensures.none)
     (omega arith) c.reply.ensures.value c.reply_to.ensures.reply (c.reply_to.ensures.becomes readings replies logged kept))
     (facts_still e c.args.memory.now m c.args.domain.now c.reply_to.new.domain h
     c.reply_to.ensures.keeps.map c.reply_to.ensures.keeps.calls c.reply_to.ensures.pool c.reply_to.ensures.caps)
-    (c.plain.ensures.work ∙ ap (λ (op : ℕ). record { op = op; zeroed = None; entries = [] }) (sym (bad_op (permitted c.args.domain.now.calls c.args.number) c.in-None.ensures.none)))
-    (call_of_empties e d m (permitted c.args.domain.now.calls c.args.number) (slice_index c.args.args 0) (slice_index c.args.args 1) (slice_index c.args.args 2))
+    (c.plain.ensures.work
+    ∙ ap (λ (op : ℕ). record { op = op; zeroed = None; entries = [] })
+    (sym (bad_op (permitted c.args.domain.now.calls c.args.number) c.in-None.ensures.none)))
+    (call_of_empties e d m (permitted c.args.domain.now.calls c.args.number) (slice_index c.args.args 0)
+    (slice_index c.args.args 1) (slice_index c.args.args 2))
 
 pub returns-in-None-clause-operation : goal.returns-in-None-clause-operation
 returns-in-None-clause-operation c =
@@ -42,7 +47,8 @@ returns-in-None-clause-operation c =
 pub returns-in-None-clause-buffer : goal.returns-in-None-clause-buffer
 returns-in-None-clause-buffer c =
     same_buffer (permitted c.args.domain.now.calls c.args.number) c.plain.result.op (Some c.reply_to.result)
-    (ap (λ (w : WorkDone). w.op) c.plain.ensures.work ∙ sym (bad_op (permitted c.args.domain.now.calls c.args.number) c.in-None.ensures.none))
+    (ap (λ (w : WorkDone). w.op) c.plain.ensures.work
+    ∙ sym (bad_op (permitted c.args.domain.now.calls c.args.number) c.in-None.ensures.none))
 
 pub returns-in-Some-clause-permitted : goal.returns-in-Some-clause-permitted
 returns-in-Some-clause-permitted c = λ below.

@@ -17,8 +17,15 @@ loop-i-preserved c =
     let long : length c.args.revoked.now.entries ≡ 64 = search rules in
     let many : length c.loop-i.work.entries ≡ 64 = c.loop-i.invariant.5 in
     let below : c.loop-i.i < length vas =
-    omega (arith, length-take-le c.args.revoked.now.written c.args.revoked.now.entries (omega (arith, long, c.requires.few)), c.loop-i-test.true) in
-    let is : va ≡ get_or vas c.loop-i.i 0 = sym (get_or-take c.args.revoked.now.written c.args.revoked.now.entries c.loop-i.i 0 c.loop-i-test.true) in
+    omega (
+      arith,
+      length-take-le c.args.revoked.now.written c.args.revoked.now.entries
+          (omega (arith, long, c.requires.few)),
+      c.loop-i-test.true,
+    ) in
+    let is : va ≡ get_or vas c.loop-i.i 0 =
+    sym (get_or-take c.args.revoked.now.written c.args.revoked.now.entries c.loop-i.i 0
+    c.loop-i-test.true) in
     let root : c.loop-i.map ≡ c.args.map.now = c.loop-i.invariant.1 in
     let place : (m : Mem) → Holds c.loop-i.memory m → c.unmap.result ≡ page_entry m c.args.map.now va =
     λ m h. c.unmap.ensures.entry m h ∙ ap (λ (r : ℕ). page_entry m r va) root in
@@ -30,8 +37,10 @@ loop-i-preserved c =
       c.loop-i.invariant.3,
       c.loop-i.invariant.4,
       length-set c.loop-i.work.entries c.loop-i.i c.unmap.result ∙ many,
-      can_go_on c.args.map.now vas c.loop-i.i below c.loop-i.memory c.unmap.new.mem va is c.unmap.ensures.frames clears c.loop-i.invariant.6,
-      λ m h. clearing_goes_on c.args.map.now vas c.loop-i.i below m c.loop-i.memory c.unmap.new.mem c.loop-i.work.entries va c.unmap.result is
+      can_go_on c.args.map.now vas c.loop-i.i below c.loop-i.memory c.unmap.new.mem va is
+          c.unmap.ensures.frames clears c.loop-i.invariant.6,
+      λ m h. clearing_goes_on c.args.map.now vas c.loop-i.i below m c.loop-i.memory c.unmap.new.mem
+          c.loop-i.work.entries va c.unmap.result is
           (omega (arith, many, c.loop-i-test.true, c.requires.few)) place clears (c.loop-i.invariant.7 m h),
     )
 
@@ -65,8 +74,15 @@ unmap-requires c =
     let va : ℕ = slice_index c.args.revoked.now.entries c.loop-i.i in
     let long : length c.args.revoked.now.entries ≡ 64 = search rules in
     let below : c.loop-i.i < length vas =
-    omega (arith, length-take-le c.args.revoked.now.written c.args.revoked.now.entries (omega (arith, long, c.requires.few)), c.loop-i-test.true) in
-    let is : va ≡ get_or vas c.loop-i.i 0 = sym (get_or-take c.args.revoked.now.written c.args.revoked.now.entries c.loop-i.i 0 c.loop-i-test.true) in
+    omega (
+      arith,
+      length-take-le c.args.revoked.now.written c.args.revoked.now.entries
+          (omega (arith, long, c.requires.few)),
+      c.loop-i-test.true,
+    ) in
+    let is : va ≡ get_or vas c.loop-i.i 0 =
+    sym (get_or-take c.args.revoked.now.written c.args.revoked.now.entries c.loop-i.i 0
+    c.loop-i-test.true) in
     let at = next_tables c.args.map.now vas c.loop-i.i below c.loop-i.memory va is c.loop-i.invariant.6 in
     record {
       tables = subst (λ (root : ℕ). StandsWith c.loop-i.memory (λ m. IsPageMap m root c.loop-i.memory.frames)) (sym c.loop-i.invariant.1)

@@ -4,12 +4,14 @@ use Rattle.kernel_call.proofs.frames.clear_entry.Goals as goal
 
 pub returns-in-Some-clause-clears : goal.returns-in-Some-clause-clears
 returns-in-Some-clause-clears c = λ m holds.
-    leaf_leaves c.args.map.now c.args.unmapped c.args.uninstalled m c.unmap.new.mem c.tell_entry.new.work c.in-Some.va c.unmap.result c.in-Some.is
+    leaf_leaves c.args.map.now c.args.unmapped c.args.uninstalled m c.unmap.new.mem c.tell_entry.new.work
+    c.in-Some.va c.unmap.result c.in-Some.is
     (c.unmap.ensures.unmapped m holds) (c.unmap.ensures.entry m holds) (c.tell_entry.ensures.written 7 c.requires.fresh)
 
 pub returns-in_default-uninstalled-clause-clears : goal.returns-in_default-uninstalled-clause-clears
 returns-in_default-uninstalled-clause-clears c = λ m holds.
-    nothing_leaves c.args.map.now c.args.unmapped c.args.uninstalled m c.args.memory.now c.args.work.now c.in_default.is c.in_default-uninstalled.is holds c.requires.fresh
+    nothing_leaves c.args.map.now c.args.unmapped c.args.uninstalled m c.args.memory.now c.args.work.now
+    c.in_default.is c.in_default-uninstalled.is holds c.requires.fresh
 
 pub returns-clause-clears : goal.returns-clause-clears
 returns-clause-clears c = λ m holds.

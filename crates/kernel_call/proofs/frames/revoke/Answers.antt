@@ -11,7 +11,8 @@ pub returns-in_err-filled : goal.returns-in_err-filled
 returns-in_err-filled c = record {
   does = λ e readings replies m h.
       let p = err_from_is_err_and c.from_residual.result c.from_residual.ensures.1 in
-      revoke_unfilled e c.args.domain.now c.args.memory.now readings replies m c.args.a h c.filled.result p.0 c.in_err-filled.field-0.0 (with_work c.from_residual.result c.args.work.now)
+      revoke_unfilled e c.args.domain.now c.args.memory.now readings replies m c.args.a h c.filled.result p.0
+      c.in_err-filled.field-0.0 (with_work c.from_residual.result c.args.work.now)
       (c.filled.ensures.finds readings replies m) c.in_err-filled.was (exits _ _ c.args.work.now p.1) p.2;
   rest = rest_same c.args.domain.now;
   unchanged = if_err c.from_residual.result refl;
@@ -39,7 +40,12 @@ returns c = record {
       (record { value = c.revoke-revoked.result.count; work = c.clear_all.result })
       c.in_ok-filled.ensures.below c.in_ok-filled.ensures.there c.revoke-revoked.ensures.becomes c.revoke-revoked.ensures.entries
       refl c.clear_all.ensures.map c.revoke-revoked.ensures.count (c.clear_all.ensures.unmaps m h.holds) in
-      record { value = t.value; holds = t.holds; work = t.told; has = record { root = t.root; pool = t.free; slots = t.slots; calls = h.has.calls } };
+      record {
+        value = t.value;
+        holds = t.holds;
+        work = t.told;
+        has = record { root = t.root; pool = t.free; slots = t.slots; calls = h.has.calls };
+      };
   rest = rest_of c.args.domain.now _ _ _ _ c.clear_all.ensures.map;
   unchanged = tt;
   memory = tt;

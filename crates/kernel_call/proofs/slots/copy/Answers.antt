@@ -41,8 +41,10 @@ returns-in_err-cap c = record {
       let p = err_from_is_err_and c.from_residual.result c.from_residual.ensures.1 in
       let none = none_or c.get.result error.Empty c.in_err-cap.field-0.0 (sym c.ok_or.ensures.value ∙ c.in_err-cap.was) in
       let exit : c.from_residual.result ≡ Err error.Empty = p.1 ∙ ap Err (p.2 ∙ sym none.1) in
-      ends_error 6 e c.args.domain.now c.args.memory.now m readings replies error.Empty (with_work c.from_residual.result work) _ h (exits _ _ work exit)
-      (copy_empty (dom_model c.args.domain.now readings replies) m c.args.a c.args.b c.args.c below in_range (sym c.get.ensures.cap ∙ none.0));
+      ends_error 6 e c.args.domain.now c.args.memory.now m readings replies error.Empty
+      (with_work c.from_residual.result work) _ h (exits _ _ work exit)
+      (copy_empty (dom_model c.args.domain.now readings replies) m c.args.a c.args.b c.args.c below in_range
+      (sym c.get.ensures.cap ∙ none.0));
   rest = rest_same c.args.domain.now;
   unchanged = if_err c.from_residual.result refl;
 }
@@ -52,8 +54,11 @@ returns-then-is_some c = record {
   does = λ work fresh e readings replies m h.
       let below : c.args.a < 64 = search rules in
       let in_range : c.args.b < 64 = search rules in
-      let found : c.get.result ≡ Some c.in_ok-cap.cap = some_or_other c.get.result error.Empty c.in_ok-cap.cap (sym c.ok_or.ensures.value ∙ c.in_ok-cap.was) in
-      let full : is_some (cap_at c.args.domain.now.caps c.args.b) ≡ true = ap is_some (sym c.get-2.ensures.cap) ∙ (sym c.is_some.ensures ∙ c.if-is_some.true) in
+      let found : c.get.result ≡ Some c.in_ok-cap.cap =
+      some_or_other c.get.result error.Empty c.in_ok-cap.cap
+      (sym c.ok_or.ensures.value ∙ c.in_ok-cap.was) in
+      let full : is_some (cap_at c.args.domain.now.caps c.args.b) ≡ true =
+      ap is_some (sym c.get-2.ensures.cap) ∙ (sym c.is_some.ensures ∙ c.if-is_some.true) in
       ends_same 6 e c.args.domain.now c.args.memory.now m readings replies error.Used _ h
       (copy_used (dom_model c.args.domain.now readings replies) m c.args.a c.args.b c.args.c below in_range
       c.in_ok-cap.cap (sym c.get.ensures.cap ∙ found) full);
@@ -66,11 +71,15 @@ returns-in_err-rights c = record {
   does = λ work fresh e readings replies m h.
       let below : c.args.a < 64 = search rules in
       let in_range : c.args.b < 64 = search rules in
-      let found : c.get.result ≡ Some c.in_ok-cap.cap = some_or_other c.get.result error.Empty c.in_ok-cap.cap (sym c.ok_or.ensures.value ∙ c.in_ok-cap.was) in
-      let empty : is_some (cap_at c.args.domain.now.caps c.args.b) ≡ false = ap is_some (sym c.get-2.ensures.cap) ∙ (sym c.is_some.ensures ∙ c.if-is_some.false) in
+      let found : c.get.result ≡ Some c.in_ok-cap.cap =
+      some_or_other c.get.result error.Empty c.in_ok-cap.cap
+      (sym c.ok_or.ensures.value ∙ c.in_ok-cap.was) in
+      let empty : is_some (cap_at c.args.domain.now.caps c.args.b) ≡ false =
+      ap is_some (sym c.get-2.ensures.cap) ∙ (sym c.is_some.ensures ∙ c.if-is_some.false) in
       let p = err_from_is_err_and c.from_residual-in_err-rights.result c.from_residual-in_err-rights.ensures.1 in
       let exit : c.from_residual-in_err-rights.result ≡ Err c.in_err-rights.field-0.0 = p.1 ∙ ap Err p.2 in
-      ends_error 6 e c.args.domain.now c.args.memory.now m readings replies c.in_err-rights.field-0.0 (with_work c.from_residual-in_err-rights.result work) _ h (exits _ _ work exit)
+      ends_error 6 e c.args.domain.now c.args.memory.now m readings replies c.in_err-rights.field-0.0
+      (with_work c.from_residual-in_err-rights.result work) _ h (exits _ _ work exit)
       (copy_refused (dom_model c.args.domain.now readings replies) m c.args.a c.args.b c.args.c below in_range
       c.in_ok-cap.cap (sym c.get.ensures.cap ∙ found) (code_of c.in_err-rights.field-0.0) empty c.in_err-rights.ensures.refused);
   rest = rest_same c.args.domain.now;
@@ -83,9 +92,12 @@ returns c = record {
   does = λ work fresh e readings replies m h.
       let below : c.args.a < 64 = search rules in
       let in_range : c.args.b < 64 = search rules in
-      let found : c.get.result ≡ Some c.in_ok-cap.cap = some_or_other c.get.result error.Empty c.in_ok-cap.cap (sym c.ok_or.ensures.value ∙ c.in_ok-cap.was) in
+      let found : c.get.result ≡ Some c.in_ok-cap.cap =
+      some_or_other c.get.result error.Empty c.in_ok-cap.cap
+      (sym c.ok_or.ensures.value ∙ c.in_ok-cap.was) in
       let there : cap_at c.args.domain.now.caps c.args.a ≡ Some c.in_ok-cap.cap = sym c.get.ensures.cap ∙ found in
-      let empty : is_some (cap_at c.args.domain.now.caps c.args.b) ≡ false = ap is_some (sym c.get-2.ensures.cap) ∙ (sym c.is_some.ensures ∙ c.if-is_some.false) in
+      let empty : is_some (cap_at c.args.domain.now.caps c.args.b) ≡ false =
+      ap is_some (sym c.get-2.ensures.cap) ∙ (sym c.is_some.ensures ∙ c.if-is_some.false) in
       let caps : c.copy.new.self ≡ with_cap c.args.domain.now.caps c.args.b (copied (Some c.in_ok-cap.cap) c.args.c) =
       c.copy.ensures.becomes
       ∙ ap (λ (x : Option Cap). with_cap c.args.domain.now.caps c.args.b (copied x c.in_ok-rights.rights)) there

@@ -23,7 +23,8 @@ pub returns-in_err-frame : goal.returns-in_err-frame
 returns-in_err-frame c = record {
   does = λ e readings replies m h.
       let p = err_from_is_err_and c.from_residual.result c.from_residual.ensures.1 in
-      ends_unfilled 3 e c.args.domain.now c.args.memory.now m readings replies c.args.a c.filled.result p.0 c.in_err-frame.field-0.0 (with_work c.from_residual.result c.args.work.now) _ h
+      ends_unfilled 3 e c.args.domain.now c.args.memory.now m readings replies c.args.a c.filled.result p.0
+      c.in_err-frame.field-0.0 (with_work c.from_residual.result c.args.work.now) _ h
       (c.filled.ensures.finds readings replies m) c.in_err-frame.was p.2 (exits _ _ c.args.work.now p.1)
       (install_unfilled e (dom_model c.args.domain.now readings replies) m c.args.a c.args.b);
   rest = rest_same c.args.domain.now;
@@ -50,10 +51,13 @@ pub returns-then-not-is_multiple_of : goal.returns-then-not-is_multiple_of
 returns-then-not-is_multiple_of c = record {
   does = λ e readings replies m h.
       let below : c.args.a < 64 = c.in_ok-frame.ensures.below in
-      let there : cap_at c.args.domain.now.caps c.args.a ≡ Some (cap.Table c.in-Table.frame c.in-Table.installed) = c.in_ok-frame.ensures.there ∙ ap Some c.in-Table.is in
+      let there : cap_at c.args.domain.now.caps c.args.a
+      ≡ Some (cap.Table c.in-Table.frame c.in-Table.installed) =
+      c.in_ok-frame.ensures.there ∙ ap Some c.in-Table.is in
       let bad : nat_eq (c.args.b % 4194304) 0 ≡ false = search rules in
       ends_same 3 e c.args.domain.now c.args.memory.now m readings replies error.BadAddress _ h
-      (install_unaligned e (dom_model c.args.domain.now readings replies) m c.args.a c.args.b c.in-Table.frame c.in-Table.installed below there bad);
+      (install_unaligned e (dom_model c.args.domain.now readings replies) m c.args.a c.args.b
+      c.in-Table.frame c.in-Table.installed below there bad);
   rest = rest_same c.args.domain.now;
   unchanged = refl;
   memory = refl;
@@ -65,11 +69,14 @@ pub returns-then-is_some : goal.returns-then-is_some
 returns-then-is_some c = record {
   does = λ e readings replies m h.
       let below : c.args.a < 64 = c.in_ok-frame.ensures.below in
-      let there : cap_at c.args.domain.now.caps c.args.a ≡ Some (cap.Table c.in-Table.frame c.in-Table.installed) = c.in_ok-frame.ensures.there ∙ ap Some c.in-Table.is in
+      let there : cap_at c.args.domain.now.caps c.args.a
+      ≡ Some (cap.Table c.in-Table.frame c.in-Table.installed) =
+      c.in_ok-frame.ensures.there ∙ ap Some c.in-Table.is in
       let aligned : nat_eq (c.args.b % 4194304) 0 ≡ true = search rules in
       let some : is_some c.in-Table.installed ≡ true = sym c.is_some.ensures ∙ c.if-is_some.true in
       ends_same 3 e c.args.domain.now c.args.memory.now m readings replies error.Mapped _ h
-      (install_twice e (dom_model c.args.domain.now readings replies) m c.args.a c.args.b c.in-Table.frame c.in-Table.installed below there aligned some);
+      (install_twice e (dom_model c.args.domain.now readings replies) m c.args.a c.args.b c.in-Table.frame
+      c.in-Table.installed below there aligned some);
   rest = rest_same c.args.domain.now;
   unchanged = refl;
   memory = refl;
@@ -83,21 +90,27 @@ install_table-requires-clause-tables c = tables_stand c.args.memory.now c.args.d
 pub install_table-requires-clause-frame : goal.install_table-requires-clause-frame
 install_table-requires-clause-frame c =
     let below : c.args.a < 64 = c.in_ok-frame.ensures.below in
-    let there : cap_at c.args.domain.now.caps c.args.a ≡ Some (cap.Table c.in-Table.frame c.in-Table.installed) = c.in_ok-frame.ensures.there ∙ ap Some c.in-Table.is in
+    let there : cap_at c.args.domain.now.caps c.args.a
+    ≡ Some (cap.Table c.in-Table.frame c.in-Table.installed) =
+    c.in_ok-frame.ensures.there ∙ ap Some c.in-Table.is in
     let none : is_some c.in-Table.installed ≡ false = sym c.is_some.ensures ∙ c.if-is_some.false in
     table_below c.args.memory.now c.args.domain.now c.requires.valid c.args.a c.in-Table.frame c.in-Table.installed below there none
 
 pub install_table-requires-clause-apart : goal.install_table-requires-clause-apart
 install_table-requires-clause-apart c =
     let below : c.args.a < 64 = c.in_ok-frame.ensures.below in
-    let there : cap_at c.args.domain.now.caps c.args.a ≡ Some (cap.Table c.in-Table.frame c.in-Table.installed) = c.in_ok-frame.ensures.there ∙ ap Some c.in-Table.is in
+    let there : cap_at c.args.domain.now.caps c.args.a
+    ≡ Some (cap.Table c.in-Table.frame c.in-Table.installed) =
+    c.in_ok-frame.ensures.there ∙ ap Some c.in-Table.is in
     let none : is_some c.in-Table.installed ≡ false = sym c.is_some.ensures ∙ c.if-is_some.false in
     table_apart c.args.memory.now c.args.domain.now c.requires.valid c.args.a c.in-Table.frame c.in-Table.installed below there none
 
 pub install_table-requires-clause-blank : goal.install_table-requires-clause-blank
 install_table-requires-clause-blank c =
     let below : c.args.a < 64 = c.in_ok-frame.ensures.below in
-    let there : cap_at c.args.domain.now.caps c.args.a ≡ Some (cap.Table c.in-Table.frame c.in-Table.installed) = c.in_ok-frame.ensures.there ∙ ap Some c.in-Table.is in
+    let there : cap_at c.args.domain.now.caps c.args.a
+    ≡ Some (cap.Table c.in-Table.frame c.in-Table.installed) =
+    c.in_ok-frame.ensures.there ∙ ap Some c.in-Table.is in
     let none : is_some c.in-Table.installed ≡ false = sym c.is_some.ensures ∙ c.if-is_some.false in
     table_blank c.args.memory.now c.args.domain.now c.requires.valid c.args.a c.in-Table.frame c.in-Table.installed below there none
 
@@ -105,7 +118,9 @@ pub returns-in-Err : goal.returns-in-Err
 returns-in-Err c = record {
   does = λ e readings replies m h.
       let below : c.args.a < 64 = c.in_ok-frame.ensures.below in
-      let there : cap_at c.args.domain.now.caps c.args.a ≡ Some (cap.Table c.in-Table.frame c.in-Table.installed) = c.in_ok-frame.ensures.there ∙ ap Some c.in-Table.is in
+      let there : cap_at c.args.domain.now.caps c.args.a
+      ≡ Some (cap.Table c.in-Table.frame c.in-Table.installed) =
+      c.in_ok-frame.ensures.there ∙ ap Some c.in-Table.is in
       let aligned : nat_eq (c.args.b % 4194304) 0 ≡ true = search rules in
       let none : is_some c.in-Table.installed ≡ false = sym c.is_some.ensures ∙ c.if-is_some.false in
       let refusal : install_refusal m e.root c.args.b ≡ Some c.in-Err.refusal =
@@ -128,7 +143,9 @@ unfolding with_caps
 returns c = record {
   does = λ e readings replies m h.
       let below : c.args.a < 64 = c.in_ok-frame.ensures.below in
-      let there : cap_at c.args.domain.now.caps c.args.a ≡ Some (cap.Table c.in-Table.frame c.in-Table.installed) = c.in_ok-frame.ensures.there ∙ ap Some c.in-Table.is in
+      let there : cap_at c.args.domain.now.caps c.args.a
+      ≡ Some (cap.Table c.in-Table.frame c.in-Table.installed) =
+      c.in_ok-frame.ensures.there ∙ ap Some c.in-Table.is in
       let aligned : nat_eq (c.args.b % 4194304) 0 ≡ true = search rules in
       let none : is_some c.in-Table.installed ≡ false = sym c.is_some.ensures ∙ c.if-is_some.false in
       let allowed : install_refusal m e.root c.args.b ≡ None =
@@ -136,7 +153,8 @@ returns c = record {
       let entry : c.in-Ok.entry ≡ table_entry e.root c.args.b =
       subst (λ (r : ℕ). c.in-Ok.entry ≡ table_entry r c.args.b) h.has.root c.in-Ok.ensures.entry in
       let holds : Holds c.install_table.new.mem (installed m e.root c.args.b c.in-Table.frame) =
-      subst (λ (r : ℕ). Holds c.install_table.new.mem (installed m r c.args.b c.in-Table.frame)) h.has.root (c.in-Ok.ensures.installed m h.holds) in
+      subst (λ (r : ℕ). Holds c.install_table.new.mem (installed m r c.args.b c.in-Table.frame)) h.has.root
+      (c.in-Ok.ensures.installed m h.holds) in
       let caps : c.note.new.self ≡ with_cap c.args.domain.now.caps c.args.a (Some (cap.Table c.in-Table.frame (Some c.args.b))) =
       c.note.ensures.becomes ∙ ap (λ (x : Option Cap). with_cap c.args.domain.now.caps c.args.a (noted x (Some c.args.b))) there in
       ends_done 3 e c.args.domain.now _ c.install_table.new.mem readings replies _ (Note.Entry (table_entry e.root c.args.b) ∷ [])
@@ -146,7 +164,8 @@ returns c = record {
       below there aligned none allowed)
       (ap (λ (caps : Slots). with_caps caps (dom_model c.args.domain.now readings replies)) caps)
       holds
-      (tells_entry 3 c.in-Ok.entry (table_entry e.root c.args.b) (work_model c.tell_entry.new.work) refl (c.tell_entry.ensures.written 3 c.requires.fresh) entry)
+      (tells_entry 3 c.in-Ok.entry (table_entry e.root c.args.b) (work_model c.tell_entry.new.work) refl
+      (c.tell_entry.ensures.written 3 c.requires.fresh) entry)
       (has_set e c.args.domain.now _ c.args.a _ h.has c.install_table.ensures.root refl refl caps
       (free_table e c.args.domain.now.caps c.args.a c.in-Table.frame c.in-Table.installed (Some c.args.b) h.has.slots below there));
   rest = rest_of c.args.domain.now _ _ _ _ c.install_table.ensures.root;

@@ -22,7 +22,8 @@ pub returns-in_err-frame : goal.returns-in_err-frame
 returns-in_err-frame c = record {
   does = λ e readings replies m h.
       let p = err_from_is_err_and c.from_residual.result c.from_residual.ensures.1 in
-      ends_unfilled 4 e c.args.domain.now c.args.memory.now m readings replies c.args.a c.filled.result p.0 c.in_err-frame.field-0.0 (with_work c.from_residual.result c.args.work.now) _ h
+      ends_unfilled 4 e c.args.domain.now c.args.memory.now m readings replies c.args.a c.filled.result p.0
+      c.in_err-frame.field-0.0 (with_work c.from_residual.result c.args.work.now) _ h
       (c.filled.ensures.finds readings replies m) c.in_err-frame.was p.2 (exits _ _ c.args.work.now p.1)
       (map_unfilled e (dom_model c.args.domain.now readings replies) m c.args.a c.args.b c.args.c);
   rest = rest_same c.args.domain.now;
@@ -49,7 +50,9 @@ pub returns-in_default-given_rights : goal.returns-in_default-given_rights
 returns-in_default-given_rights c = record {
   does = λ e readings replies m h.
       let below : c.args.a < 64 = c.in_ok-frame.ensures.below in
-      let there : cap_at c.args.domain.now.caps c.args.a ≡ Some (cap.Frame c.in-Frame.frame c.in-Frame.rights c.in-Frame.mapped) = c.in_ok-frame.ensures.there ∙ ap Some c.in-Frame.is in
+      let there : cap_at c.args.domain.now.caps c.args.a
+      ≡ Some (cap.Frame c.in-Frame.frame c.in-Frame.rights c.in-Frame.mapped) =
+      c.in_ok-frame.ensures.there ∙ ap Some c.in-Frame.is in
       let bad : may_give c.in-Frame.rights c.args.c ≡ false = c.in_default-given_rights.ensures.refused in
       ends_same 4 e c.args.domain.now c.args.memory.now m readings replies error.BadRights _ h
       (map_no_rights e (dom_model c.args.domain.now readings replies) m c.args.a c.args.b c.args.c
@@ -65,7 +68,9 @@ pub returns-then-not-is_multiple_of : goal.returns-then-not-is_multiple_of
 returns-then-not-is_multiple_of c = record {
   does = λ e readings replies m h.
       let below : c.args.a < 64 = c.in_ok-frame.ensures.below in
-      let there : cap_at c.args.domain.now.caps c.args.a ≡ Some (cap.Frame c.in-Frame.frame c.in-Frame.rights c.in-Frame.mapped) = c.in_ok-frame.ensures.there ∙ ap Some c.in-Frame.is in
+      let there : cap_at c.args.domain.now.caps c.args.a
+      ≡ Some (cap.Frame c.in-Frame.frame c.in-Frame.rights c.in-Frame.mapped) =
+      c.in_ok-frame.ensures.there ∙ ap Some c.in-Frame.is in
       let may : may_give c.in-Frame.rights c.args.c ≡ true = c.in-Some.ensures.given in
       let bad : nat_eq (c.args.b % 4096) 0 ≡ false = search rules in
       ends_same 4 e c.args.domain.now c.args.memory.now m readings replies error.BadAddress _ h
@@ -82,7 +87,9 @@ pub returns-then-is_some : goal.returns-then-is_some
 returns-then-is_some c = record {
   does = λ e readings replies m h.
       let below : c.args.a < 64 = c.in_ok-frame.ensures.below in
-      let there : cap_at c.args.domain.now.caps c.args.a ≡ Some (cap.Frame c.in-Frame.frame c.in-Frame.rights c.in-Frame.mapped) = c.in_ok-frame.ensures.there ∙ ap Some c.in-Frame.is in
+      let there : cap_at c.args.domain.now.caps c.args.a
+      ≡ Some (cap.Frame c.in-Frame.frame c.in-Frame.rights c.in-Frame.mapped) =
+      c.in_ok-frame.ensures.there ∙ ap Some c.in-Frame.is in
       let may : may_give c.in-Frame.rights c.args.c ≡ true = c.in-Some.ensures.given in
       let aligned : nat_eq (c.args.b % 4096) 0 ≡ true = search rules in
       let some : is_some c.in-Frame.mapped ≡ true = sym c.is_some.ensures ∙ c.if-is_some.true in
@@ -102,20 +109,28 @@ map-requires-clause-tables c = tables_stand c.args.memory.now c.args.domain.now 
 pub map-requires-clause-frame : goal.map-requires-clause-frame
 map-requires-clause-frame c =
     let below : c.args.a < 64 = c.in_ok-frame.ensures.below in
-    let there : cap_at c.args.domain.now.caps c.args.a ≡ Some (cap.Frame c.in-Frame.frame c.in-Frame.rights c.in-Frame.mapped) = c.in_ok-frame.ensures.there ∙ ap Some c.in-Frame.is in
-    page_below c.args.memory.now c.args.domain.now c.requires.valid c.args.a c.in-Frame.frame c.in-Frame.rights c.in-Frame.mapped below there
+    let there : cap_at c.args.domain.now.caps c.args.a
+    ≡ Some (cap.Frame c.in-Frame.frame c.in-Frame.rights c.in-Frame.mapped) =
+    c.in_ok-frame.ensures.there ∙ ap Some c.in-Frame.is in
+    page_below c.args.memory.now c.args.domain.now c.requires.valid c.args.a c.in-Frame.frame
+    c.in-Frame.rights c.in-Frame.mapped below there
 
 pub map-requires-clause-apart : goal.map-requires-clause-apart
 map-requires-clause-apart c =
     let below : c.args.a < 64 = c.in_ok-frame.ensures.below in
-    let there : cap_at c.args.domain.now.caps c.args.a ≡ Some (cap.Frame c.in-Frame.frame c.in-Frame.rights c.in-Frame.mapped) = c.in_ok-frame.ensures.there ∙ ap Some c.in-Frame.is in
-    page_apart c.args.memory.now c.args.domain.now c.requires.valid c.args.a c.in-Frame.frame c.in-Frame.rights c.in-Frame.mapped below there
+    let there : cap_at c.args.domain.now.caps c.args.a
+    ≡ Some (cap.Frame c.in-Frame.frame c.in-Frame.rights c.in-Frame.mapped) =
+    c.in_ok-frame.ensures.there ∙ ap Some c.in-Frame.is in
+    page_apart c.args.memory.now c.args.domain.now c.requires.valid c.args.a c.in-Frame.frame
+    c.in-Frame.rights c.in-Frame.mapped below there
 
 pub returns-in-Err : goal.returns-in-Err
 returns-in-Err c = record {
   does = λ e readings replies m h.
       let below : c.args.a < 64 = c.in_ok-frame.ensures.below in
-      let there : cap_at c.args.domain.now.caps c.args.a ≡ Some (cap.Frame c.in-Frame.frame c.in-Frame.rights c.in-Frame.mapped) = c.in_ok-frame.ensures.there ∙ ap Some c.in-Frame.is in
+      let there : cap_at c.args.domain.now.caps c.args.a
+      ≡ Some (cap.Frame c.in-Frame.frame c.in-Frame.rights c.in-Frame.mapped) =
+      c.in_ok-frame.ensures.there ∙ ap Some c.in-Frame.is in
       let may : may_give c.in-Frame.rights c.args.c ≡ true = c.in-Some.ensures.given in
       let aligned : nat_eq (c.args.b % 4096) 0 ≡ true = search rules in
       let none : is_some c.in-Frame.mapped ≡ false = sym c.is_some.ensures ∙ c.if-is_some.false in
@@ -139,7 +154,9 @@ unfolding with_caps
 returns c = record {
   does = λ e readings replies m h.
       let below : c.args.a < 64 = c.in_ok-frame.ensures.below in
-      let there : cap_at c.args.domain.now.caps c.args.a ≡ Some (cap.Frame c.in-Frame.frame c.in-Frame.rights c.in-Frame.mapped) = c.in_ok-frame.ensures.there ∙ ap Some c.in-Frame.is in
+      let there : cap_at c.args.domain.now.caps c.args.a
+      ≡ Some (cap.Frame c.in-Frame.frame c.in-Frame.rights c.in-Frame.mapped) =
+      c.in_ok-frame.ensures.there ∙ ap Some c.in-Frame.is in
       let may : may_give c.in-Frame.rights c.args.c ≡ true = c.in-Some.ensures.given in
       let aligned : nat_eq (c.args.b % 4096) 0 ≡ true = search rules in
       let none : is_some c.in-Frame.mapped ≡ false = sym c.is_some.ensures ∙ c.if-is_some.false in
@@ -149,19 +166,25 @@ returns c = record {
       subst (λ (r : ℕ). c.in-Ok.entry ≡ page_entry m r c.args.b) h.has.root (c.in-Ok.ensures.entry m h.holds) in
       let number : c.in-Some.given ≡ c.args.c = c.in-Some.ensures.number in
       let holds : Holds c.map.new.mem (mapped m e.root c.args.b c.in-Frame.frame c.args.c) =
-      subst₂ (λ (r given : ℕ). Holds c.map.new.mem (mapped m r c.args.b c.in-Frame.frame given)) h.has.root number (c.in-Ok.ensures.mapped m h.holds) in
-      let caps : c.note.new.self ≡ with_cap c.args.domain.now.caps c.args.a (Some (cap.Frame c.in-Frame.frame c.in-Frame.rights (Some c.args.b))) =
+      subst₂ (λ (r given : ℕ). Holds c.map.new.mem (mapped m r c.args.b c.in-Frame.frame given)) h.has.root
+      number (c.in-Ok.ensures.mapped m h.holds) in
+      let caps : c.note.new.self
+      ≡ with_cap c.args.domain.now.caps c.args.a
+      (Some (cap.Frame c.in-Frame.frame c.in-Frame.rights (Some c.args.b))) =
       c.note.ensures.becomes ∙ ap (λ (x : Option Cap). with_cap c.args.domain.now.caps c.args.a (noted x (Some c.args.b))) there in
       ends_done 4 e c.args.domain.now _ c.map.new.mem readings replies _ (Note.Entry (page_entry m e.root c.args.b) ∷ [])
       (mapped m e.root c.args.b c.in-Frame.frame c.args.c)
-      (with_slot (dom_model c.args.domain.now readings replies) c.args.a (Some (cap.Frame c.in-Frame.frame c.in-Frame.rights (Some c.args.b)))) _
+      (with_slot (dom_model c.args.domain.now readings replies) c.args.a
+      (Some (cap.Frame c.in-Frame.frame c.in-Frame.rights (Some c.args.b)))) _
       (map_done e (dom_model c.args.domain.now readings replies) m c.args.a c.args.b c.args.c
       c.in-Frame.frame c.in-Frame.rights c.in-Frame.mapped below there may aligned none allowed)
       (ap (λ (caps : Slots). with_caps caps (dom_model c.args.domain.now readings replies)) caps)
       holds
-      (tells_entry 4 c.in-Ok.entry (page_entry m e.root c.args.b) (work_model c.tell_entry.new.work) refl (c.tell_entry.ensures.written 4 c.requires.fresh) entry)
+      (tells_entry 4 c.in-Ok.entry (page_entry m e.root c.args.b) (work_model c.tell_entry.new.work) refl
+      (c.tell_entry.ensures.written 4 c.requires.fresh) entry)
       (has_set e c.args.domain.now _ c.args.a _ h.has c.map.ensures.root refl refl caps
-      (free_page e c.args.domain.now.caps c.args.a c.in-Frame.frame c.in-Frame.rights c.in-Frame.mapped (Some c.args.b) h.has.slots below there));
+      (free_page e c.args.domain.now.caps c.args.a c.in-Frame.frame c.in-Frame.rights c.in-Frame.mapped
+      (Some c.args.b) h.has.slots below there));
   rest = rest_of c.args.domain.now _ _ _ _ c.map.ensures.root;
   unchanged = tt;
   memory = tt;

@@ -20,7 +20,8 @@ pub returns-in_err-mapped : goal.returns-in_err-mapped
 returns-in_err-mapped c = record {
   does = λ e readings replies m h.
       let p = err_from_is_err_and c.from_residual.result c.from_residual.ensures.1 in
-      ends_unfilled 5 e c.args.domain.now c.args.memory.now m readings replies c.args.a c.filled.result p.0 c.in_err-mapped.field-0.0 (with_work c.from_residual.result c.args.work.now) _ h
+      ends_unfilled 5 e c.args.domain.now c.args.memory.now m readings replies c.args.a c.filled.result p.0
+      c.in_err-mapped.field-0.0 (with_work c.from_residual.result c.args.work.now) _ h
       (c.filled.ensures.finds readings replies m) c.in_err-mapped.was p.2 (exits _ _ c.args.work.now p.1)
       (unmap_unfilled e (dom_model c.args.domain.now readings replies) m c.args.a);
   rest = rest_same c.args.domain.now;
@@ -47,11 +48,14 @@ pub returns-in_err-va : goal.returns-in_err-va
 returns-in_err-va c = record {
   does = λ e readings replies m h.
       let below : c.args.a < 64 = c.in_ok-mapped.ensures.below in
-      let there : cap_at c.args.domain.now.caps c.args.a ≡ Some (cap.Frame c.in-Frame.frame c.in-Frame.rights c.in-Frame.mapped) = c.in_ok-mapped.ensures.there ∙ ap Some c.in-Frame.is in
+      let there : cap_at c.args.domain.now.caps c.args.a
+      ≡ Some (cap.Frame c.in-Frame.frame c.in-Frame.rights c.in-Frame.mapped) =
+      c.in_ok-mapped.ensures.there ∙ ap Some c.in-Frame.is in
       let p = err_from_is_err_and c.from_residual-in_err-va.result c.from_residual-in_err-va.ensures.1 in
       let none = none_or c.in-Frame.mapped error.BadAddress c.in_err-va.field-0.0 (sym c.ok_or.ensures.value ∙ c.in_err-va.was) in
       let exit : c.from_residual-in_err-va.result ≡ Err error.BadAddress = p.1 ∙ ap Err (p.2 ∙ sym none.1) in
-      ends_error 5 e c.args.domain.now c.args.memory.now m readings replies error.BadAddress (with_work c.from_residual-in_err-va.result c.args.work.now) _ h (exits _ _ c.args.work.now exit)
+      ends_error 5 e c.args.domain.now c.args.memory.now m readings replies error.BadAddress
+      (with_work c.from_residual-in_err-va.result c.args.work.now) _ h (exits _ _ c.args.work.now exit)
       (unmap_nowhere e (dom_model c.args.domain.now readings replies) m c.args.a
       c.in-Frame.frame c.in-Frame.rights c.in-Frame.mapped below there none.0);
   rest = rest_same c.args.domain.now;
@@ -67,8 +71,12 @@ unmap-entry-requires-clause-tables c = tables_stand c.args.memory.now c.args.dom
 pub unmap-entry-requires-clause-page : goal.unmap-entry-requires-clause-page
 unmap-entry-requires-clause-page c =
     let below : c.args.a < 64 = c.in_ok-mapped.ensures.below in
-    let there : cap_at c.args.domain.now.caps c.args.a ≡ Some (cap.Frame c.in-Frame.frame c.in-Frame.rights c.in-Frame.mapped) = c.in_ok-mapped.ensures.there ∙ ap Some c.in-Frame.is in
-    let at : c.in-Frame.mapped ≡ Some c.in_ok-va.va = some_or_other c.in-Frame.mapped error.BadAddress c.in_ok-va.va (sym c.ok_or.ensures.value ∙ c.in_ok-va.was) in
+    let there : cap_at c.args.domain.now.caps c.args.a
+    ≡ Some (cap.Frame c.in-Frame.frame c.in-Frame.rights c.in-Frame.mapped) =
+    c.in_ok-mapped.ensures.there ∙ ap Some c.in-Frame.is in
+    let at : c.in-Frame.mapped ≡ Some c.in_ok-va.va =
+    some_or_other c.in-Frame.mapped error.BadAddress c.in_ok-va.va
+    (sym c.ok_or.ensures.value ∙ c.in_ok-va.was) in
     page_mapped c.args.memory.now c.args.domain.now c.requires.valid c.args.a c.in-Frame.frame c.in-Frame.rights c.in_ok-va.va below
     (there ∙ ap (λ (w : Option ℕ). Some (cap.Frame c.in-Frame.frame c.in-Frame.rights w)) at)
 
@@ -77,22 +85,28 @@ unfolding with_caps
 returns c = record {
   does = λ e readings replies m h.
       let below : c.args.a < 64 = c.in_ok-mapped.ensures.below in
-      let there : cap_at c.args.domain.now.caps c.args.a ≡ Some (cap.Frame c.in-Frame.frame c.in-Frame.rights c.in-Frame.mapped) = c.in_ok-mapped.ensures.there ∙ ap Some c.in-Frame.is in
-      let at : c.in-Frame.mapped ≡ Some c.in_ok-va.va = some_or_other c.in-Frame.mapped error.BadAddress c.in_ok-va.va (sym c.ok_or.ensures.value ∙ c.in_ok-va.was) in
+      let there : cap_at c.args.domain.now.caps c.args.a
+      ≡ Some (cap.Frame c.in-Frame.frame c.in-Frame.rights c.in-Frame.mapped) =
+      c.in_ok-mapped.ensures.there ∙ ap Some c.in-Frame.is in
+      let at : c.in-Frame.mapped ≡ Some c.in_ok-va.va =
+      some_or_other c.in-Frame.mapped error.BadAddress c.in_ok-va.va
+      (sym c.ok_or.ensures.value ∙ c.in_ok-va.was) in
       let entry : c.unmap-entry.result ≡ page_entry m e.root c.in_ok-va.va =
       subst (λ (r : ℕ). c.unmap-entry.result ≡ page_entry m r c.in_ok-va.va) h.has.root (c.unmap-entry.ensures.entry m h.holds) in
       let holds : Holds c.unmap-entry.new.mem (unmapped m e.root c.in_ok-va.va) =
       subst (λ (r : ℕ). Holds c.unmap-entry.new.mem (unmapped m r c.in_ok-va.va)) h.has.root (c.unmap-entry.ensures.unmapped m h.holds) in
       let caps : c.note.new.self ≡ with_cap c.args.domain.now.caps c.args.a (Some (cap.Frame c.in-Frame.frame c.in-Frame.rights None)) =
       c.note.ensures.becomes ∙ ap (λ (x : Option Cap). with_cap c.args.domain.now.caps c.args.a (noted x None)) there in
-      ends_done 5 e c.args.domain.now _ c.unmap-entry.new.mem readings replies _ (Note.Entry (page_entry m e.root c.in_ok-va.va) ∷ Note.Emptied ∷ [])
+      ends_done 5 e c.args.domain.now _ c.unmap-entry.new.mem readings replies _
+      (Note.Entry (page_entry m e.root c.in_ok-va.va) ∷ Note.Emptied ∷ [])
       (unmapped m e.root c.in_ok-va.va)
       (with_slot (dom_model c.args.domain.now readings replies) c.args.a (Some (cap.Frame c.in-Frame.frame c.in-Frame.rights None))) _
       (unmap_done e (dom_model c.args.domain.now readings replies) m c.args.a
       c.in-Frame.frame c.in-Frame.rights c.in-Frame.mapped below there c.in_ok-va.va at)
       (ap (λ (caps : Slots). with_caps caps (dom_model c.args.domain.now readings replies)) caps)
       holds
-      (tells_entry_emptied 5 c.unmap-entry.result (page_entry m e.root c.in_ok-va.va) (work_model c.tell_entry.new.work) refl (c.tell_entry.ensures.written 5 c.requires.fresh) entry)
+      (tells_entry_emptied 5 c.unmap-entry.result (page_entry m e.root c.in_ok-va.va)
+      (work_model c.tell_entry.new.work) refl (c.tell_entry.ensures.written 5 c.requires.fresh) entry)
       (has_set e c.args.domain.now _ c.args.a _ h.has c.unmap-entry.ensures.root refl refl caps
       (free_page e c.args.domain.now.caps c.args.a c.in-Frame.frame c.in-Frame.rights c.in-Frame.mapped None h.has.slots below there));
   rest = rest_of c.args.domain.now _ _ _ _ c.unmap-entry.ensures.root;

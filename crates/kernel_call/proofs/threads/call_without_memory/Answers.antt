@@ -15,7 +15,8 @@ returns-in-Exit-clause-answers c e readings replies m logged kept =
     answered_by (call_number c.args.call) 0 e d (slice_index c.args.args 0) (slice_index c.args.args 1) (slice_index c.args.args 2) m
     (length replies) c.exit.result c.exit.new.domain
     (give (exited (slice_index c.args.args 0) d) m)
-    (ap call_number c.in-Exit.is) refl (answered_not m (length replies) c.exit.new.domain _ (exited (slice_index c.args.args 0) d) c.exit.result
+    (ap call_number c.in-Exit.is) refl (answered_not m (length replies) c.exit.new.domain _
+    (exited (slice_index c.args.args 0) d) c.exit.result
     refl (omega arith) c.exit.ensures.reply (c.exit.ensures.becomes readings replies logged kept))
 
 pub returns-in-Poll : goal.returns-in-Poll
@@ -96,7 +97,8 @@ returns-in_default-clause-answers c e readings replies m logged kept =
     (length replies) c.end_thread.result c.end_thread.new.domain
     (give (thread_ended d) m)
     (last_without_memory c.args.call c.requires.others c.in_default.not-Exit c.in_default.not-Poll c.in_default.not-Wait
-    c.in_default.not-Signal c.in_default.not-Spawn c.in_default.not-Yield) refl (answered_not m (length replies) c.end_thread.new.domain _ (thread_ended d) c.end_thread.result
+    c.in_default.not-Signal c.in_default.not-Spawn c.in_default.not-Yield) refl (answered_not m
+    (length replies) c.end_thread.new.domain _ (thread_ended d) c.end_thread.result
     refl (omega arith) c.end_thread.ensures.reply (c.end_thread.ensures.becomes readings replies logged kept))
 
 pub returns-in-Exit-clause-keeps : goal.returns-in-Exit-clause-keeps

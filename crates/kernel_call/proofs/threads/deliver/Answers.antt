@@ -13,5 +13,6 @@ returns-clause-delivers c line is readings replies logged kept =
     let told : Some c.deliver-due.result ≡ Some line = sym c.deliver-due.ensures.line ∙ is in
     let same : c.deliver-due.result ≡ line = cc told in
     stands_as c.signal_line.new.domain _ (delivered_on line d)
-    (ap₂ (λ (n : ℕ) (i : Interrupts). signalled n (record d { delivered = i.delivered; bits = i.bits })) same c.deliver-due.ensures.delivered)
+    (ap₂ (λ (n : ℕ) (i : Interrupts). signalled n (record d { delivered = i.delivered; bits = i.bits })) same
+    c.deliver-due.ensures.delivered)
     (c.signal_line.ensures.becomes readings replies logged kept)

@@ -26,7 +26,10 @@ returns-clause-becomes c readings replies logged kept =
     stands_as _ (with_bit c.args.line true d) (signalled c.args.line d)
     (sym (signal_sets c.args.line d (λ some. true≢false (sym (c.wake.ensures.waited.1 some) ∙ c.if-wake.false))))
     (record {
-      same = ap (λ (ts : Threads). record d { threads = ts; delivered = c.signal.new.self.delivered; bits = c.signal.new.self.bits }) c.if-wake.ensures.unchanged
+      same =
+          ap (λ (ts : Threads).
+          record d { threads = ts; delivered = c.signal.new.self.delivered; bits = c.signal.new.self.bits })
+          c.if-wake.ensures.unchanged
           ∙ bit_given d c.args.domain.now.interrupts c.signal.new.self c.args.line true c.signal.ensures.set refl refl;
       readings = logged;
       replies = kept;

@@ -21,7 +21,8 @@ unfolding with_spawned
 returns-in-Some-clause-answers c e readings replies m logged kept =
     let d : Dom = dom_model c.args.domain.now readings replies in
     let aligned : nat_eq (c.args.a % 4) 0 ≡ true = search rules in
-    answered_done m (length replies) c.reply_to-in-Some.new.domain _ (with_spawned c.args.a c.args.b d) c.in-Some.t c.reply_to-in-Some.result
+    answered_done m (length replies) c.reply_to-in-Some.new.domain _ (with_spawned c.args.a c.args.b d)
+    c.in-Some.t c.reply_to-in-Some.result
     (spawn_done d c.args.a c.args.b m c.in-Some.t aligned (sym c.spawn.ensures.number ∙ c.in-Some.is))
     (omega arith) (c.reply_to-in-Some.ensures.reply ∙ ap (λ (n : ℕ). record { code = 0; value = n }) c.from-value.ensures)
     (stands_as c.reply_to-in-Some.new.domain _ (done c.in-Some.t (with_spawned c.args.a c.args.b d))

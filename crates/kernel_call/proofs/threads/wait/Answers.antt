@@ -36,7 +36,8 @@ returns-clause-answers c e readings replies m logged kept =
     (omega arith) refl
     (record {
       same = ap₂ (λ (x : Dom) (ts : Threads). record x { threads = ts })
-          (bit_given d c.args.domain.now.interrupts c.poll.new.self line false c.poll.ensures.cleared refl refl ∙ clear_already d line clear)
+          (bit_given d c.args.domain.now.interrupts c.poll.new.self line false c.poll.ensures.cleared refl
+          refl ∙ clear_already d line clear)
           c.block.ensures.blocked;
       readings = logged;
       replies = kept;

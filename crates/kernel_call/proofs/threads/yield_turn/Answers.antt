@@ -11,7 +11,9 @@ returns-clause-becomes c readings replies logged kept =
     let y : Dom = done 0 (dom_model c.args.domain.now readings replies) in
     let mid = c.reply_to-reply.new.domain in
     record {
-      same = ap (λ (ts : Threads). record (dom_model mid y.readings y.replies) { threads = ts }) c.yield_now.ensures.yielded ∙ ap turned h.same;
+      same =
+          ap (λ (ts : Threads). record (dom_model mid y.readings y.replies) { threads = ts })
+          c.yield_now.ensures.yielded ∙ ap turned h.same;
       readings = h.readings;
       replies = h.replies;
     }

@@ -4,5 +4,7 @@ use Rattle.kernel_clone.proofs.footprint.loaded_line.Goals as goal
 
 pub returns : goal.returns
 returns c = record {
-  touches = rw (c.shared_line.ensures.value, c.from.ensures, c.shared_lines.ensures.value) (loaded_run (layout_model c.args.layout.now) c.args.op);
+  touches =
+      rw (c.shared_line.ensures.value, c.from.ensures, c.shared_lines.ensures.value)
+      (loaded_run (layout_model c.args.layout.now) c.args.op);
 }

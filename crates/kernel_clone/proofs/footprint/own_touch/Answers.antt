@@ -15,14 +15,16 @@ returns-then-place-lt-TEXT_LINES c = record {
 pub returns-then-place-lt-STACK_LINES : goal.returns-then-place-lt-STACK_LINES
 returns-then-place-lt-STACK_LINES c = record {
   touch = rw (c.new-then-place-lt-STACK_LINES.ensures.value, c.number-then-place-lt-STACK_LINES.ensures.same)
-      (stack_item _ _ _ _ c.if-place-lt-TEXT_LINES.false (run_item _ Store _ 2 _ c.stack_start-first.ensures.touches c.if-place-lt-STACK_LINES.true));
+      (stack_item _ _ _ _ c.if-place-lt-TEXT_LINES.false
+      (run_item _ Store _ 2 _ c.stack_start-first.ensures.touches c.if-place-lt-STACK_LINES.true));
 }
 
 pub returns-then-place-data_count : goal.returns-then-place-data_count
 returns-then-place-data_count c = record {
   touch = rw (c.new-then-place-data_count.ensures.value, c.number-then-place-data_count.ensures.same)
       (data_item _ _ _ _ c.if-place-lt-TEXT_LINES.false c.if-place-lt-STACK_LINES.false
-      (run_item _ Store _ _ _ c.data_start-first.ensures.touches (let few = c.data_count.ensures.value in omega (arith, few, c.if-place-data_count.true))));
+      (run_item _ Store _ _ _ c.data_start-first.ensures.touches
+      (let few = c.data_count.ensures.value in omega (arith, few, c.if-place-data_count.true))));
 }
 
 pub returns : goal.returns

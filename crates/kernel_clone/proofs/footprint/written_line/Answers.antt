@@ -15,7 +15,9 @@ pub entry_line-requires-clause-below : goal.entry_line-requires-clause-below
 entry_line-requires-clause-below c =
     let whole : length c.args.work.now.entries ≡ 64 = search rules in
     let few : c.args.work.now.count ≤ length c.args.work.now.entries = (let most = c.requires.work.few in omega (arith, most, whole)) in
-    let all = length-taken (layout_model c.args.layout.now) (work_model c.args.work.now) c.args.work.now.entries c.args.work.now.count c.lines_in_frame-lines.result refl few
+    let all =
+    length-taken (layout_model c.args.layout.now) (work_model c.args.work.now) c.args.work.now.entries
+    c.args.work.now.count c.lines_in_frame-lines.result refl few
     (ap (zeroed_count (layout_model c.args.layout.now)) c.in-Some.is ∙ sym c.lines_in_frame-lines.ensures.value) in
     let below = c.requires.below in
     let past = c.if-place-lines.false in
@@ -25,7 +27,9 @@ pub entry_line-requires-in-None-clause-below : goal.entry_line-requires-in-None-
 entry_line-requires-in-None-clause-below c =
     let whole : length c.args.work.now.entries ≡ 64 = search rules in
     let few : c.args.work.now.count ≤ length c.args.work.now.entries = (let most = c.requires.work.few in omega (arith, most, whole)) in
-    let all = length-taken (layout_model c.args.layout.now) (work_model c.args.work.now) c.args.work.now.entries c.args.work.now.count 0 refl few
+    let all =
+    length-taken (layout_model c.args.layout.now) (work_model c.args.work.now) c.args.work.now.entries
+    c.args.work.now.count 0 refl few
     (ap (zeroed_count (layout_model c.args.layout.now)) c.in-None.is) in
     let below = c.requires.below in
     omega (arith, all, below)
@@ -35,11 +39,15 @@ returns-else-place-lines c =
     let lines : zeroed_count (layout_model c.args.layout.now) c.args.work.now.zeroed ≡ c.lines_in_frame-lines.result =
     ap (zeroed_count (layout_model c.args.layout.now)) c.in-Some.is ∙ sym c.lines_in_frame-lines.ensures.value in
     record {
-      touch = past_zeroed (layout_model c.args.layout.now) (work_model c.args.work.now) c.args.place c.lines_in_frame-lines.result lines c.if-place-lines.false
+      touch =
+          past_zeroed (layout_model c.args.layout.now) (work_model c.args.work.now) c.args.place
+          c.lines_in_frame-lines.result lines c.if-place-lines.false
           ∙ c.entry_line.ensures.touch;
     }
 
 pub returns-in-None : goal.returns-in-None
 returns-in-None c = record {
-  touch = plain_written (layout_model c.args.layout.now) (work_model c.args.work.now) c.args.place c.in-None.is ∙ c.entry_line-in-None.ensures.touch;
+  touch =
+      plain_written (layout_model c.args.layout.now) (work_model c.args.work.now) c.args.place c.in-None.is
+      ∙ c.entry_line-in-None.ensures.touch;
 }

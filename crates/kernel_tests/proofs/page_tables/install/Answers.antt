@@ -11,7 +11,8 @@ use Rattle.kernel_tests.proofs.page_tables.install.Goals as goal
 pub install_table-requires-clause-apart : goal.install_table-requires-clause-apart
 install_table-requires-clause-apart c =
     subst (λ (f : ℕ). StandsWith c.args.mem.now (λ m. IsApart m c.args.map.now f)) (sym c.new.ensures.value)
-    (ready_apart c.args.mem.now c.args.map.now c.args.frame c.requires.size c.requires.root c.requires.few.0 c.requires.few.1 c.requires.ready)
+    (ready_apart c.args.mem.now c.args.map.now c.args.frame c.requires.size c.requires.root c.requires.few.0
+    c.requires.few.1 c.requires.ready)
 
 installed_frame : (c : goal.After-install_table) → IfOk c.install_table.result
     (λ at. Holds c.install_table.new.mem (installed c.requires.ready.mem c.args.map.now c.args.va c.args.frame))

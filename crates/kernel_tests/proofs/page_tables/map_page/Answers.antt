@@ -11,7 +11,8 @@ use Rattle.kernel_tests.proofs.page_tables.map_page.Goals as goal
 pub map-requires-clause-apart : goal.map-requires-clause-apart
 map-requires-clause-apart c =
     subst (λ (f : ℕ). StandsWith c.args.mem.now (λ m. IsApart m c.args.map.now f)) (sym c.new.ensures.value)
-    (ready_apart c.args.mem.now c.args.map.now c.args.frame c.requires.size c.requires.root c.requires.few.0 c.requires.few.1 c.requires.ready)
+    (ready_apart c.args.mem.now c.args.map.now c.args.frame c.requires.size c.requires.root c.requires.few.0
+    c.requires.few.1 c.requires.ready)
 
 mapped_frame : (c : goal.After-map) → IfOk c.map.result
     (λ at. Holds c.map.new.mem (mapped c.requires.ready.mem c.args.map.now c.args.va c.args.frame c.args.rights))

@@ -20,8 +20,14 @@ returns g c =
     let second = c.both.ensures.second in
     let made = c.both.result in
     let x = c.args.geometry in
-    let fresh = of_first (λ m. CoreStands g.P.Policy.stands_for m (record { l1i = empty; l1d = empty; tlb = empty; guesses = fresh_guesses x.predictor })) c.new-core.result made first core.fresh in
-    let new = of_second (λ m. IsNew g.P.Policy.takes g.P.Policy.stands_for x.l2.policy x.l2.sets x.l2.ways m.cache) c.new-l2.result made second l2.made in
+    let fresh =
+    of_first (λ m. CoreStands g.P.Policy.stands_for m
+    (record { l1i = empty; l1d = empty; tlb = empty; guesses = fresh_guesses x.predictor }))
+    c.new-core.result made first core.fresh in
+    let new =
+    of_second (λ m.
+    IsNew g.P.Policy.takes g.P.Policy.stands_for x.l2.policy x.l2.sets x.l2.ways m.cache)
+    c.new-l2.result made second l2.made in
     record {
       hierarchy = both_hierarchy g.P.Policy.takes g.P.Policy.rule g.P.Policy.stands_for x c.args.costs c.args.products made fresh new
           (of_first (λ m. m.costs ≡ costs_of c.args.costs) c.new-core.result made first core.costs)

@@ -11,9 +11,14 @@ filled : (start count : ℕ) (words part : List ℕ) → count ≡ 1024 → star
 filled start count words part is within filled_part =
     let size : length (take count (drop start words)) ≡ 1024 = simp (length-take, length-drop) (omega arith) in
     let part_is : part ≡ replicate 1024 0 = filled_part ∙ ap (λ (n : ℕ). replicate n 0) size in
-    let rest : drop count (drop start words) ≡ drop (start + 1024) words = drop-drop count start words ∙ ap (λ (n : ℕ). drop (start + n) words) is in
+    let rest : drop count (drop start words) ≡ drop (start + 1024) words =
+    drop-drop count start words ∙ ap (λ (n : ℕ). drop (start + n) words) is in
     rw (part_is, rest)
 
 pub returns : goal.returns
 unfolding zeros zeroed_words
-returns c = record { becomes = filled (1024 * c.args.slot) _ c.args.words.now c.fill.new.self (omega arith) c.requires.within (c.fill.ensures.after (λ y e. e)) }
+returns c = record {
+  becomes =
+      filled (1024 * c.args.slot) _ c.args.words.now c.fill.new.self (omega arith) c.requires.within
+      (c.fill.ensures.after (λ y e. e));
+}

@@ -12,5 +12,6 @@ overflow_add-state c = let room = room_for_fresh c.loop-way.way (omega arith) in
 pub returns : goal.returns
 returns c =
     let end : c.loop-way.way ≡ c.args.ways = omega arith in
-    let state : pack (unlisted c.args.ways []) ≡ c.loop-way.state = ap (λ (n : ℕ). pack (unlisted n [])) (sym end) ∙ sym c.loop-way.invariant in
+    let state : pack (unlisted c.args.ways []) ≡ c.loop-way.state =
+    ap (λ (n : ℕ). pack (unlisted n [])) (sym end) ∙ sym c.loop-way.invariant in
     record { fresh = subst (λ (s : ℕ). Packs c.args.ways s []) state (Packs-fresh c.args.ways) }

@@ -9,12 +9,14 @@ returns-then-way-middle-clause-below t c = λ k le.
 
 pub returns-then-way-middle-clause-above : goal.returns-then-way-middle-clause-above
 returns-then-way-middle-clause-above t c = λ k le lt.
-    c.point_away.ensures.above k (omega arith) lt ∙ bit_at_set_other w64 c.args.state (c.args.low + c.args.size / 2) (omega arith) k (λ e. omega arith)
+    c.point_away.ensures.above k (omega arith) lt
+    ∙ bit_at_set_other w64 c.args.state (c.args.low + c.args.size / 2) (omega arith) k (λ e. omega arith)
 
 pub returns-then-way-middle-clause-points : goal.returns-then-way-middle-clause-points
 returns-then-way-middle-clause-points t c = λ depth list is points.
     let middle = c.args.low + c.args.size / 2 in
-    touch_lower depth c.args.low c.args.size c.args.state _ c.point_away.result c.args.way list c.if-size-lt2.false c.requires.from c.if-way-middle.true c.requires.within
+    touch_lower depth c.args.low c.args.size c.args.state _ c.point_away.result c.args.way list
+    c.if-size-lt2.false c.requires.from c.if-way-middle.true c.requires.within
     (bit_at_set_same w64 c.args.state middle (omega arith)) (λ k ne lt. bit_at_set_other w64 c.args.state middle (omega arith) k ne)
     c.point_away.ensures.above (λ e. c.point_away.ensures.points e list) is points
 
@@ -31,20 +33,23 @@ returns-else-way-middle-clause-above t c = λ k le lt.
 pub returns-else-way-middle-clause-points : goal.returns-else-way-middle-clause-points
 returns-else-way-middle-clause-points t c = λ depth list is points.
     let middle = c.args.low + c.args.size / 2 in
-    touch_upper depth c.args.low c.args.size c.args.state _ c.point_away-else-way-middle.result c.args.way list c.if-size-lt2.false c.if-way-middle.false c.requires.to c.requires.within
+    touch_upper depth c.args.low c.args.size c.args.state _ c.point_away-else-way-middle.result c.args.way
+    list c.if-size-lt2.false c.if-way-middle.false c.requires.to c.requires.within
     (bit_at_clear_same w64 c.args.state middle (omega arith)) (λ k ne lt. bit_at_clear_other w64 c.args.state middle (omega arith) k lt ne)
     c.point_away-else-way-middle.ensures.below (λ e. c.point_away-else-way-middle.ensures.points e list) is points
 
 pub returns-then-way-middle-clause-again : goal.returns-then-way-middle-clause-again
 returns-then-way-middle-clause-again t c = λ depth list is points.
     let middle = c.args.low + c.args.size / 2 in
-    again_lower depth c.args.low c.args.size _ c.point_away.result c.args.way list c.if-size-lt2.false c.requires.from c.if-way-middle.true c.requires.within
+    again_lower depth c.args.low c.args.size _ c.point_away.result c.args.way list c.if-size-lt2.false
+    c.requires.from c.if-way-middle.true c.requires.within
     (bit_at_set_same w64 c.args.state middle (omega arith))
     c.point_away.ensures.above (λ e. c.point_away.ensures.again e list) is points
 
 pub returns-else-way-middle-clause-again : goal.returns-else-way-middle-clause-again
 returns-else-way-middle-clause-again t c = λ depth list is points.
     let middle = c.args.low + c.args.size / 2 in
-    again_upper depth c.args.low c.args.size _ c.point_away-else-way-middle.result c.args.way list c.if-size-lt2.false c.if-way-middle.false c.requires.to c.requires.within
+    again_upper depth c.args.low c.args.size _ c.point_away-else-way-middle.result c.args.way list
+    c.if-size-lt2.false c.if-way-middle.false c.requires.to c.requires.within
     (bit_at_clear_same w64 c.args.state middle (omega arith))
     c.point_away-else-way-middle.ensures.below (λ e. c.point_away-else-way-middle.ensures.again e list) is points

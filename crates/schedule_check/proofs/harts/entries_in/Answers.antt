@@ -12,11 +12,14 @@ returns-in_err-push c = record { value = unmade (λ v. v.items) c.from_residual.
 
 pub loop-text-preserved : goal.loop-text-preserved
 loop-text-preserved c =
-    made_from entry_of entry_model c.loop-text.entries.items c.push.new.self.items c.args.texts.now c.loop-text.text-index _ _ c.entry_from.result c.loop-text-test.true
+    made_from entry_of entry_model c.loop-text.entries.items c.push.new.self.items c.args.texts.now
+    c.loop-text.text-index _ _ c.entry_from.result c.loop-text-test.true
     refl c.in_ok-push.ensures.items c.entry_from.ensures.value ∙ c.loop-text.invariant
 
 pub returns : goal.returns
 returns c =
     record {
-      value = sym (all_made_of entry_of entry_model c.loop-text.entries.items c.args.texts.now c.loop-text.text-index c.loop-text-test.false) ∙ c.loop-text.invariant;
+      value =
+          sym (all_made_of entry_of entry_model c.loop-text.entries.items c.args.texts.now
+          c.loop-text.text-index c.loop-text-test.false) ∙ c.loop-text.invariant;
     }

@@ -24,7 +24,11 @@ pub natural_of-requires-2 : goal.natural_of-requires-2
 natural_of-requires-2 c =
     let x = c.args.text.now.length in
     let same : to_z w64 (of_z w64 x) ≡ x = search rules in
-    record { natural = natural_inside 0 1000000 (to_z w64 (of_z w64 x)) (ap (outside (pos 0) (pos 1000000)) same ∙ c.requires.small.length) }
+    record {
+      natural =
+          natural_inside 0 1000000 (to_z w64 (of_z w64 x))
+          (ap (outside (pos 0) (pos 1000000)) same ∙ c.requires.small.length);
+    }
 
 pub overflow_cast-result-2 : goal.overflow_cast-result-2
 overflow_cast-result-2 c =

@@ -24,4 +24,8 @@ loop-place-preserved c =
     passed_of k19_entry entry_model texts k _ _ c.loop-place-test.true refl here ∙ c.loop-place.invariant
 
 pub returns : goal.returns
-returns c = record { verdict = sym c.loop-place.invariant ∙ ended_of k19_entry entry_model _ c.args.texts.now c.loop-place.place c.loop-place-test.false }
+returns c = record {
+  verdict =
+      sym c.loop-place.invariant
+      ∙ ended_of k19_entry entry_model _ c.args.texts.now c.loop-place.place c.loop-place-test.false;
+}

@@ -10,10 +10,15 @@ loop-place-preserved c =
     let entries = c.args.entries.now in
     let k = c.loop-place.place in
     let x : Entry = get_or entries k (record { domain = 0; length = 0; pad = 0; hart = 0 }) in
-    passed k19_domain entries k x _ c.loop-place-test.true refl (alone (take k entries) x c.if-is_elsewhere.ensures.value) ∙ c.loop-place.invariant
+    passed k19_domain entries k x _ c.loop-place-test.true refl
+    (alone (take k entries) x c.if-is_elsewhere.ensures.value) ∙ c.loop-place.invariant
 
 pub returns : goal.returns
-returns c = record { verdict = sym c.loop-place.invariant ∙ ended k19_domain _ c.args.entries.now c.loop-place.place c.loop-place-test.false }
+returns c = record {
+  verdict =
+      sym c.loop-place.invariant
+      ∙ ended k19_domain _ c.args.entries.now c.loop-place.place c.loop-place-test.false;
+}
 
 pub returns-then-is_elsewhere : goal.returns-then-is_elsewhere
 returns-then-is_elsewhere c =

@@ -31,8 +31,10 @@ loop-d-preserved c =
     let x = c.index-domains-d.result in
     let here = ap (first_in (k14_line (map domain_model (take c.loop-d.d domains)))) (sym c.as_slice.ensures.value) in
     let lines = c.in_ok-k14_lines.ensures.value ∙ ap (map natural_of) c.as_slice.ensures.value in (
-      passed_of k14_domain domain_model domains c.loop-d.d x x c.loop-d-test.true c.index-domains-d.is (here ∙ c.in_ok-k14_lines.ensures.verdict) ∙ c.loop-d.invariant.0,
-      made_of (λ v. v.items) own_lines domain_model c.loop-d.lines.items c.push.new.self.items domains c.loop-d.d x x c.in_ok-k14_lines.field-0 c.loop-d-test.true c.index-domains-d.is
+      passed_of k14_domain domain_model domains c.loop-d.d x x c.loop-d-test.true c.index-domains-d.is
+          (here ∙ c.in_ok-k14_lines.ensures.verdict) ∙ c.loop-d.invariant.0,
+      made_of (λ v. v.items) own_lines domain_model c.loop-d.lines.items c.push.new.self.items domains
+          c.loop-d.d x x c.in_ok-k14_lines.field-0 c.loop-d-test.true c.index-domains-d.is
           c.in_ok-push.ensures.items lines ∙ c.loop-d.invariant.1,
     )
 
@@ -46,5 +48,7 @@ returns-clause-verdict c =
 pub returns-clause-value : goal.returns-clause-value
 returns-clause-value c =
     let domains = c.as_slice-domains.result.now in
-    let all = sym (all_made_of own_lines domain_model (map (λ v. v.items) c.loop-d.lines.items) domains c.loop-d.d c.loop-d-test.false) ∙ c.loop-d.invariant.1 in
+    let all =
+    sym (all_made_of own_lines domain_model (map (λ v. v.items) c.loop-d.lines.items) domains
+    c.loop-d.d c.loop-d-test.false) ∙ c.loop-d.invariant.1 in
     all ∙ ap (λ ds. map own_lines (map domain_model ds)) c.as_slice-domains.ensures.value

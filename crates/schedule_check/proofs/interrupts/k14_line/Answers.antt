@@ -7,7 +7,8 @@ use Rattle.schedule_check.proofs.interrupts.k14_line.Goals as goal
 
 pub returns-then-outside-clause-verdict : goal.returns-then-outside-clause-verdict
 returns-then-outside-clause-verdict c =
-    other_case c.args.domains.now c.args.earlier.now c.args.line _ c.refusal.result c.requires.domain (to_z-of_z w64 c.args.line c.ranges.line)
+    other_case c.args.domains.now c.args.earlier.now c.args.line _ c.refusal.result c.requires.domain
+    (to_z-of_z w64 c.args.line c.ranges.line)
     (sym c.outside.ensures.value ∙ c.if-outside.true) c.refusal.ensures.value
 
 pub natural_of-requires : goal.natural_of-requires
@@ -25,12 +26,14 @@ returns-in-Some-clause-verdict c =
     let x = c.args.line in
     let same = to_z-of_z w64 x c.ranges.line in
     let small : e < 2 ^ 63 = subst (λ o. IfSome o (λ e. e < 2 ^ 63)) c.in-Some.is c.named_before.ensures.small in
-    line_case c.args.domains.now c.args.earlier.now x _ (Some e) same (sym c.outside.ensures.value ∙ c.if-outside.false) (sym c.in-Some.is ∙ c.named_before.ensures.value)
+    line_case c.args.domains.now c.args.earlier.now x _ (Some e) same
+    (sym c.outside.ensures.value ∙ c.if-outside.false) (sym c.in-Some.is ∙ c.named_before.ensures.value)
     ∙ again_case d e x _ c.refusal-in-Some.result c.requires.domain small same c.refusal-in-Some.ensures.value
 
 pub returns-in-None-clause-verdict : goal.returns-in-None-clause-verdict
 returns-in-None-clause-verdict c =
-    line_case c.args.domains.now c.args.earlier.now c.args.line _ None (to_z-of_z w64 c.args.line c.ranges.line) (sym c.outside.ensures.value ∙ c.if-outside.false)
+    line_case c.args.domains.now c.args.earlier.now c.args.line _ None
+    (to_z-of_z w64 c.args.line c.ranges.line) (sym c.outside.ensures.value ∙ c.if-outside.false)
     (sym c.in-None.is ∙ c.named_before.ensures.value)
 
 pub returns-in-None-clause-value : goal.returns-in-None-clause-value

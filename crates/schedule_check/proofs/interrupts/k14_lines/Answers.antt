@@ -10,7 +10,9 @@ returns-in_err-k14_line-clause-verdict c =
     let lines = c.args.lines.now in
     let k = c.loop-place.place in
     let same : to_z w64 (of_z w64 (get_or lines k (pos 0))) ≡ get_or lines k (pos 0) = search rules in
-    let first = found (k14_line (map domain_model c.args.domains.now)) lines k _ (pos 0) _ c.loop-place-test.true same c.in_err-k14_line.ensures.verdict in
+    let first =
+    found (k14_line (map domain_model c.args.domains.now)) lines k _ (pos 0) _ c.loop-place-test.true
+    same c.in_err-k14_line.ensures.verdict in
     broken c.from_residual.result _ _ c.from_residual.ensures.1 (sym c.loop-place.invariant.0 ∙ first)
 
 pub returns-in_err-k14_line-clause-value : goal.returns-in_err-k14_line-clause-value
@@ -27,15 +29,19 @@ loop-place-preserved c =
     let lines = c.args.lines.now in
     let k = c.loop-place.place in
     let same : to_z w64 (of_z w64 (get_or lines k (pos 0))) ≡ get_or lines k (pos 0) = search rules in (
-      passed (k14_line (map domain_model c.args.domains.now)) lines k _ (pos 0) c.loop-place-test.true same c.in_ok-k14_line.ensures.verdict ∙ c.loop-place.invariant.0,
+      passed (k14_line (map domain_model c.args.domains.now)) lines k _ (pos 0) c.loop-place-test.true same
+          c.in_ok-k14_line.ensures.verdict ∙ c.loop-place.invariant.0,
       made natural_of c.loop-place.found.items c.push.new.self.items lines k _ (pos 0) c.in_ok-k14_line.field-0 c.loop-place-test.true same
           c.in_ok-push.ensures.items c.in_ok-k14_line.ensures.value ∙ c.loop-place.invariant.1,
     )
 
 pub returns-clause-verdict : goal.returns-clause-verdict
 returns-clause-verdict c =
-    sym c.loop-place.invariant.0 ∙ ended (k14_line (map domain_model c.args.domains.now)) _ c.args.lines.now c.loop-place.place c.loop-place-test.false
+    sym c.loop-place.invariant.0
+    ∙ ended (k14_line (map domain_model c.args.domains.now)) _ c.args.lines.now c.loop-place.place
+    c.loop-place-test.false
 
 pub returns-clause-value : goal.returns-clause-value
 returns-clause-value c =
-    sym (all_made natural_of c.loop-place.found.items c.args.lines.now c.loop-place.place c.loop-place-test.false) ∙ c.loop-place.invariant.1
+    sym (all_made natural_of c.loop-place.found.items c.args.lines.now c.loop-place.place
+    c.loop-place-test.false) ∙ c.loop-place.invariant.1

@@ -12,15 +12,19 @@ pub returns-then-outside-clause-verdict : goal.returns-then-outside-clause-verdi
 returns-then-outside-clause-verdict c =
     let x = moment_model c.args.moment.now in
     let at : to_z w64 (of_z w64 x.at) ≡ x.at = search rules in
-    let far : outside (pos 0) (pos 1000000000000) x.at ≡ true = ap (outside (pos 0) (pos 1000000000000)) (sym at) ∙ sym c.outside.ensures.value ∙ c.if-outside.true in
-    far_case c.args.lines.now c.args.d c.args.earlier.now x far ∙ told_so c.args.d _ 2 c.refusal.result c.requires.domain c.requires.place c.refusal.ensures.value
+    let far : outside (pos 0) (pos 1000000000000) x.at ≡ true =
+    ap (outside (pos 0) (pos 1000000000000)) (sym at) ∙ sym c.outside.ensures.value ∙ c.if-outside.true in
+    far_case c.args.lines.now c.args.d c.args.earlier.now x far
+    ∙ told_so c.args.d _ 2 c.refusal.result c.requires.domain c.requires.place c.refusal.ensures.value
 
 pub returns-then-not-names-clause-verdict : goal.returns-then-not-names-clause-verdict
 returns-then-not-names-clause-verdict c =
     let x = moment_model c.args.moment.now in
     let at : to_z w64 (of_z w64 x.at) ≡ x.at = search rules in
     let line : to_z w64 (of_z w64 x.line) ≡ x.line = search rules in
-    let near : outside (pos 0) (pos 1000000000000) x.at ≡ false = ap (outside (pos 0) (pos 1000000000000)) (sym at) ∙ sym c.outside.ensures.value ∙ c.if-outside.false in
+    let near : outside (pos 0) (pos 1000000000000) x.at ≡ false =
+    ap (outside (pos 0) (pos 1000000000000)) (sym at) ∙ sym c.outside.ensures.value
+    ∙ c.if-outside.false in
     let foreign : names c.args.lines.now x.line ≡ false = ap (names c.args.lines.now) (sym line) ∙ sym c.if-not-names.ensures.value in
     foreign_case c.args.lines.now c.args.d c.args.earlier.now x near foreign
     ∙ told_so c.args.d _ 3 c.refusal-then-not-names.result c.requires.domain c.requires.place c.refusal-then-not-names.ensures.value
@@ -30,7 +34,9 @@ returns-in_err-order_case-clause-verdict c =
     let x = moment_model c.args.moment.now in
     let at : to_z w64 (of_z w64 x.at) ≡ x.at = search rules in
     let line : to_z w64 (of_z w64 x.line) ≡ x.line = search rules in
-    let near : outside (pos 0) (pos 1000000000000) x.at ≡ false = ap (outside (pos 0) (pos 1000000000000)) (sym at) ∙ sym c.outside.ensures.value ∙ c.if-outside.false in
+    let near : outside (pos 0) (pos 1000000000000) x.at ≡ false =
+    ap (outside (pos 0) (pos 1000000000000)) (sym at) ∙ sym c.outside.ensures.value
+    ∙ c.if-outside.false in
     let own : names c.args.lines.now x.line ≡ true = ap (names c.args.lines.now) (sym line) ∙ sym c.if-not-names.ensures.value in
     refused c.from_residual.result _ _ c.from_residual.ensures.1
     (ordered_case c.args.lines.now c.args.d (map moment_model c.args.earlier.now) x near own ∙ c.in_err-order_case.ensures.verdict)
@@ -58,7 +64,9 @@ returns-clause-verdict c =
     let x = moment_model c.args.moment.now in
     let at : to_z w64 (of_z w64 x.at) ≡ x.at = search rules in
     let line : to_z w64 (of_z w64 x.line) ≡ x.line = search rules in
-    let near : outside (pos 0) (pos 1000000000000) x.at ≡ false = ap (outside (pos 0) (pos 1000000000000)) (sym at) ∙ sym c.outside.ensures.value ∙ c.if-outside.false in
+    let near : outside (pos 0) (pos 1000000000000) x.at ≡ false =
+    ap (outside (pos 0) (pos 1000000000000)) (sym at) ∙ sym c.outside.ensures.value
+    ∙ c.if-outside.false in
     let own : names c.args.lines.now x.line ≡ true = ap (names c.args.lines.now) (sym line) ∙ sym c.if-not-names.ensures.value in
     ordered_case c.args.lines.now c.args.d (map moment_model c.args.earlier.now) x near own ∙ c.in_ok-order_case.ensures.verdict
 

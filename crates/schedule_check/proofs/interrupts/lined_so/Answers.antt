@@ -15,7 +15,9 @@ returns-then-names-clause-value c =
     let x = c.index-domains-e.result in
     let same : z ≡ c.args.line = search rules in
     let is = ap (λ xs. names xs z) (sym c.as_slice.ensures.value) ∙ sym c.names.ensures.value ∙ c.if-names.true in
-    let here = ap (λ (b : Bool). if b then Some (length (map domain_model (take e domains))) else None) is ∙ ap Some (count_of domain_model domains e c.loop-e-test.true) in
+    let here =
+    ap (λ (b : Bool). if b then Some (length (map domain_model (take e domains))) else None) is
+    ∙ ap Some (count_of domain_model domains e c.loop-e-test.true) in
     sym (found_of (lined_so z) domain_model domains e x x e c.loop-e-test.true c.index-domains-e.is here) ∙ c.loop-e.invariant
     ∙ ap (λ y. first_in (lined_so y) (map domain_model domains)) same
 

@@ -21,12 +21,14 @@ returns-then-names-clause-value c =
     let ds = map domain_model c.args.domains.now in
     let earlier = c.args.earlier.now in
     ap Some (sym (length-map c.args.domains.now domain_model))
-    ∙ ap₂ (λ o (b : Bool). or_else o (if b then Some (length ds) else None)) (sym c.in_default.is ∙ c.lined_so.ensures.value) (sym c.if-names.true ∙ c.names.ensures.value)
+    ∙ ap₂ (λ o (b : Bool). or_else o (if b then Some (length ds) else None))
+    (sym c.in_default.is ∙ c.lined_so.ensures.value) (sym c.if-names.true ∙ c.names.ensures.value)
     ∙ ap (named_before ds earlier) (to_z-of_z w64 c.args.line c.ranges.line)
 
 pub returns-clause-value : goal.returns-clause-value
 returns-clause-value c =
     let ds = map domain_model c.args.domains.now in
     let earlier = c.args.earlier.now in
-    ap₂ (λ o (b : Bool). or_else o (if b then Some (length ds) else None)) (sym c.in_default.is ∙ c.lined_so.ensures.value) (sym c.if-names.false ∙ c.names.ensures.value)
+    ap₂ (λ o (b : Bool). or_else o (if b then Some (length ds) else None))
+    (sym c.in_default.is ∙ c.lined_so.ensures.value) (sym c.if-names.false ∙ c.names.ensures.value)
     ∙ ap (named_before ds earlier) (to_z-of_z w64 c.args.line c.ranges.line)

@@ -23,7 +23,11 @@ returns-else-not-is_above c =
     let x = moment_model c.args.moment.now in
     let y = c.in-Some.before.now in
     let last : Some y ≡ slice_get earlier _ = ap option_copied (sym c.in-Some.is) ∙ c.last.ensures.value in
-    record { verdict = last_is earlier d x (Some y) last ∙ above_case d (length earlier) x (moment_model y) true c.if-not-is_above.ensures.value }
+    record {
+      verdict =
+          last_is earlier d x (Some y) last
+          ∙ above_case d (length earlier) x (moment_model y) true c.if-not-is_above.ensures.value;
+    }
 
 pub returns-in_default : goal.returns-in_default
 returns-in_default c =

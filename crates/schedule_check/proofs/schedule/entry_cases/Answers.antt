@@ -25,4 +25,9 @@ loop-place-preserved c =
 
 pub returns : goal.returns
 returns c =
-    record { verdict = sym c.loop-place.invariant ∙ ended_of (k16_entry c.args.domains) entry_model _ c.args.texts.now c.loop-place.place c.loop-place-test.false }
+    record {
+      verdict =
+          sym c.loop-place.invariant
+          ∙ ended_of (k16_entry c.args.domains) entry_model _ c.args.texts.now c.loop-place.place
+          c.loop-place-test.false;
+    }

@@ -16,7 +16,9 @@ returns-in_err-count_case c =
       verdict =
           refused c.from_residual.result _ _ c.from_residual.ensures.1
           (entries_case raw c.as_slice-texts.result.now c.most_entries.result c.as_slice-texts.ensures.value c.most_entries.ensures.value
-          ∙ ap (λ o. or_else o (first_in (k16_entry (length raw.domains.items)) (map entry_model c.as_slice-texts.result.now))) c.in_err-count_case.ensures.verdict);
+          ∙ ap (λ o. or_else o
+          (first_in (k16_entry (length raw.domains.items)) (map entry_model c.as_slice-texts.result.now)))
+          c.in_err-count_case.ensures.verdict);
     }
 
 pub returns : goal.returns
@@ -26,6 +28,7 @@ returns c =
     let len : length raw.domains.items ≡ c.len.result = omega (arith, c.len.ensures) in
     let cases = first_in (k16_entry (length raw.domains.items)) (map entry_model texts) in
     let all =
-    entries_case raw texts c.most_entries.result c.as_slice-texts.ensures.value c.most_entries.ensures.value ∙ ap (λ o. or_else o cases) c.in_ok-count_case.ensures.verdict
+    entries_case raw texts c.most_entries.result c.as_slice-texts.ensures.value c.most_entries.ensures.value
+    ∙ ap (λ o. or_else o cases) c.in_ok-count_case.ensures.verdict
     ∙ ap (λ n. first_in (k16_entry n) (map entry_model texts)) len in
     record { verdict = subst (λ (o : Option Refusal). IsVerdict c.entry_cases.result o) (sym all) c.entry_cases.ensures.verdict }

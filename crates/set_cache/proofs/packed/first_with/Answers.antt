@@ -9,7 +9,9 @@ use Rattle.set_cache.proofs.packed.first_with.Goals as goal
 pub returns-then-is_empty : goal.returns-then-is_empty
 returns-then-is_empty c =
     let entry : Entry = record { number = 0; dirty = false; epoch = 0 } in
-    let before : (k : ℕ) → k < 2 → is_line c.args.number (line_in c.args.epoch (get_or c.args.entries.now k entry)) ≡ false = search rules in
+    let before : (k : ℕ) → k < 2
+    → is_line c.args.number (line_in c.args.epoch (get_or c.args.entries.now k entry)) ≡ false =
+    search rules in
     let empty : is_none (line_in c.args.epoch (get_or c.args.entries.now 2 entry)) ≡ true = search rules in
     record {
       value = sym (none_after (line_in c.args.epoch) c.args.entries.now entry c.args.number 2 c.requires.first (search rules) empty before);

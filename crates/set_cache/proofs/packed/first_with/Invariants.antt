@@ -7,7 +7,8 @@ use Rattle.set_cache.proofs.packed.first_with.Given as goal
 abbrev pub invariant-loop-way : goal.invariant-loop-way
 invariant-loop-way l = record {
   within : l.way ≤ length l.fn.entries;
-  none : (k : ℕ) (d : Entry) → k < l.way → is_line l.fn.number (line_in l.fn.epoch (get_or l.fn.entries k d)) ≡ false;
+  none : (k : ℕ) (d : Entry) → k < l.way
+      → is_line l.fn.number (line_in l.fn.epoch (get_or l.fn.entries k d)) ≡ false;
 }
 
 abbrev pub decreases-loop-way : goal.decreases-loop-way

@@ -8,7 +8,9 @@ pub new_parts-requires : goal.new_parts-requires
 new_parts-requires c = record {
   geometry = record {
     least = omega arith;
-    coloured = subst (IsColoured 64) (sym c.cache-3.ensures.sets) (record { whole_lines = refl; whole_colours = refl; some = omega arith; few = omega arith });
+    coloured =
+        subst (IsColoured 64) (sym c.cache-3.ensures.sets)
+        (record { whole_lines = refl; whole_colours = refl; some = omega arith; few = omega arith });
     predictor = record { counters = (4, refl); history = lit≤ tt; targets = inl refl };
     l1i = is_lru_cache c.cache.result 16 2 4 c.cache.ensures.sets c.cache.ensures.ways (omega arith, omega arith) refl (omega arith);
     l1d = is_lru_cache c.cache-2.result 16 2 4 c.cache-2.ensures.sets c.cache-2.ensures.ways (omega arith, omega arith) refl (omega arith);

@@ -29,8 +29,10 @@ ended : (c : goal.After-after_one_read) (m : Mem) → Holds c.args.mem.now m
     ≡ record { result = c.in-Some.result; reads = entry_address c.args.root c.first_index.result ∷ [] }
 ended c m holds =
     rw (← c.frames-frames.ensures.value)
-    (one_read m c.frames-frames.result c.args.root c.args.va c.args.access (omega arith) c.first_index.result c.read_entry-first_at.result.1.0
-    c.first_index.ensures.value (c.read_entry-first_at.ensures.entry m holds) c.in-Some.result (sym c.first_level.ensures.value ∙ c.in-Some.is))
+    (one_read m c.frames-frames.result c.args.root c.args.va c.args.access (omega arith) c.first_index.result
+    c.read_entry-first_at.result.1.0
+    c.first_index.ensures.value (c.read_entry-first_at.ensures.entry m holds) c.in-Some.result
+    (sym c.first_level.ensures.value ∙ c.in-Some.is))
 
 pub returns-in-Some-clause-result : goal.returns-in-Some-clause-result
 returns-in-Some-clause-result c = λ m holds. c.after_one_read.ensures.end ∙ sym (ap (λ (w : Walk). w.result) (ended c m holds))
@@ -52,7 +54,8 @@ outside : (c : goal.After-after_one_read-then-table-frames) (m : Mem) → Holds 
 outside c m holds =
     let none : c.first_level.result ≡ None = search rules in
     rw (← c.frames-frames.ensures.value)
-    (no_table m c.frames-frames.result c.args.root c.args.va c.args.access (omega arith) c.first_index.result c.read_entry-first_at.result.1.0
+    (no_table m c.frames-frames.result c.args.root c.args.va c.args.access (omega arith) c.first_index.result
+    c.read_entry-first_at.result.1.0
     c.first_index.ensures.value (c.read_entry-first_at.ensures.entry m holds) c.frame-table.result c.frame-table.ensures.value
     (sym c.first_level.ensures.value ∙ none) (omega arith))
 
@@ -80,7 +83,8 @@ whole : (c : goal.After-last_level-result) (m : Mem) → Holds c.args.mem.now m
 whole c m holds =
     let none : c.first_level.result ≡ None = search rules in
     rw (← c.frames-frames.ensures.value)
-    (two_reads m c.frames-frames.result c.args.root c.args.va c.args.access (omega arith) c.first_index.result c.read_entry-first_at.result.1.0
+    (two_reads m c.frames-frames.result c.args.root c.args.va c.args.access (omega arith) c.first_index.result
+    c.read_entry-first_at.result.1.0
     c.first_index.ensures.value (c.read_entry-first_at.ensures.entry m holds) c.frame-table.result c.frame-table.ensures.value
     (sym c.first_level.ensures.value ∙ none) c.second_index.result c.read_entry-second_at.result.1.0 c.second_index.ensures.value
     (c.read_entry-second_at.ensures.entry m holds) (omega arith))

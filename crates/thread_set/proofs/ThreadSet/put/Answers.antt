@@ -9,7 +9,8 @@ returns-then-t-self c =
     let same : c.args.t ≡ c.args.self.now.number = search rules in
     record {
       put = sym (ap (λ t. with_thread (threads_model c.args.self.now) t c.args.thread) same
-          ∙ with-current c.args.self.now.number c.args.self.now.others c.args.self.now.active c.args.thread (omega (arith, c.args.self.now.below, c.args.self.now.eight)));
+          ∙ with-current c.args.self.now.number c.args.self.now.others c.args.self.now.active c.args.thread
+          (omega (arith, c.args.self.now.below, c.args.self.now.eight)));
     }
 
 pub returns-else-t-self : goal.returns-else-t-self

@@ -7,4 +7,9 @@ use Rattle.tp_answer.proofs.accept.accepted_but_pads.Goals as goal
 
 pub returns-in-Ok : goal.returns-in-Ok
 unfolding image_for broken_for
-returns-in-Ok c = record { accepts = accepts_checked Bound (raw_model c.in-Ok.raw) (image_of c.args.bytes.now) c.check_but_pads.result c.in-Ok.ensures.found c.check_but_pads.ensures.refused c.check_but_pads.ensures.accepted c.check_but_pads.ensures.same }
+returns-in-Ok c = record {
+  accepts =
+      accepts_checked Bound (raw_model c.in-Ok.raw) (image_of c.args.bytes.now) c.check_but_pads.result
+      c.in-Ok.ensures.found c.check_but_pads.ensures.refused c.check_but_pads.ensures.accepted
+      c.check_but_pads.ensures.same;
+}

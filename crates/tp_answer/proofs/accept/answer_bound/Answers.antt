@@ -10,6 +10,8 @@ use Rattle.tp_answer.proofs.accept.answer_bound.Goals as goal
 pub returns-in-Ok : goal.returns-in-Ok
 unfolding answer_of_image
 returns-in-Ok g c = record {
-  delivers = subst (λ (due : Answer). Delivers due c.write_bounds-status.result (state g.K.Sink c.args.out.now) (state g.K.Sink c.write_bounds-status.new.out))
+  delivers =
+      subst (λ (due : Answer). Delivers due c.write_bounds-status.result (state g.K.Sink c.args.out.now)
+      (state g.K.Sink c.write_bounds-status.new.out))
       (sym (found_due Bound (image_for Bound c.args.bytes.now) _ c.in-Ok.ensures.accepts)) c.write_bounds-status.ensures.delivers;
 }

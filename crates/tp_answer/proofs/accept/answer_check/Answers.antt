@@ -11,7 +11,10 @@ use Rattle.tp_answer.proofs.accept.answer_check.Goals as goal
 pub returns-in-Ok : goal.returns-in-Ok
 unfolding answer_of_image
 returns-in-Ok g c = record {
-  delivers = subst (λ (due : Answer). Delivers due c.status_unless_failed.result (state g.K.Sink c.args.out.now) (state g.K.Sink c.write_accepted.new.out))
+  delivers =
+      subst (λ (due : Answer). Delivers due c.status_unless_failed.result (state g.K.Sink c.args.out.now)
+      (state g.K.Sink c.write_accepted.new.out))
       (sym (found_due Check (image_for Check c.args.bytes.now) _ c.in-Ok.ensures.check))
-      (delivered Done c.status_unless_failed.result _ _ _ c.write_accepted.result tt c.write_accepted.ensures.sends c.status_unless_failed.ensures.ok c.status_unless_failed.ensures.err);
+      (delivered Done c.status_unless_failed.result _ _ _ c.write_accepted.result tt
+      c.write_accepted.ensures.sends c.status_unless_failed.ensures.ok c.status_unless_failed.ensures.err);
 }

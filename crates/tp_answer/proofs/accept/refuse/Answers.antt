@@ -9,7 +9,9 @@ use Rattle.tp_answer.proofs.accept.refuse.Goals as goal
 pub returns-in-Broken : goal.returns-in-Broken
 returns-in-Broken g c = record {
   delivers = λ asked found broken.
-      subst (λ (due : Answer). Delivers due c.status_unless_failed.result (state g.K.Sink c.args.out.now) (state g.K.Sink c.write_refusal.new.out))
+      subst (λ (due : Answer). Delivers due c.status_unless_failed.result (state g.K.Sink c.args.out.now)
+      (state g.K.Sink c.write_refusal.new.out))
       (sym (refusal_due asked found c.in-Broken.refusal (rw c.in-Broken.is at broken)))
-      (delivered Refused c.status_unless_failed.result _ _ _ c.write_refusal.result tt c.write_refusal.ensures.sends c.status_unless_failed.ensures.ok c.status_unless_failed.ensures.err);
+      (delivered Refused c.status_unless_failed.result _ _ _ c.write_refusal.result tt
+      c.write_refusal.ensures.sends c.status_unless_failed.ensures.ok c.status_unless_failed.ensures.err);
 }

@@ -41,10 +41,15 @@ returns-then-public-eq1 g c =
       enter = b.enter k;
       total = b.total k;
     } in
-    let text = ap bound_text (parts ∙ ap bound_in_parts c.shape-shape.ensures.value) ∙ sym (by_version i true (eq-eqb i.all.version 1 first)) in
+    let text =
+    ap bound_text (parts ∙ ap bound_in_parts c.shape-shape.ensures.value)
+    ∙ sym (by_version i true (eq-eqb i.all.version 1 first)) in
     record {
-      delivers = subst (λ (t : List ℕ). Delivers (Done, t) c.status_unless_failed.result (state g.K.Sink c.args.out.now) (state g.K.Sink c.write_bound.new.out)) text
-          (delivered Done c.status_unless_failed.result _ _ _ c.write_bound.result tt c.write_bound.ensures.sends c.status_unless_failed.ensures.ok c.status_unless_failed.ensures.err);
+      delivers =
+          subst (λ (t : List ℕ). Delivers (Done, t) c.status_unless_failed.result
+          (state g.K.Sink c.args.out.now) (state g.K.Sink c.write_bound.new.out)) text
+          (delivered Done c.status_unless_failed.result _ _ _ c.write_bound.result tt
+          c.write_bound.ensures.sends c.status_unless_failed.ensures.ok c.status_unless_failed.ensures.err);
     }
 
 pub write_bound_2-written-requires-clause-named : goal.write_bound_2-written-requires-clause-named
@@ -66,10 +71,15 @@ returns-in-Ok g c =
     let es = ap (λ (p : Public). p.schedule) c.public-public.ensures.value in
     let text : bound_2_text (shape_model c.shape-shape.result) c.public-public.result.now.schedule c.as_slice.result.now ≡ bounds_of i =
     ap (λ (s : MachineShape). bound_2_text s c.public-public.result.now.schedule c.as_slice.result.now) c.shape-shape.ensures.value
-    ∙ ap₂ (λ (es : List Entry) (calls : List ℕ). bound_2_text (shape_for_every_call i.all.hardware) es calls) es calls ∙ sym (by_version i false other) in
+    ∙ ap₂ (λ (es : List Entry) (calls : List ℕ). bound_2_text (shape_for_every_call i.all.hardware) es calls)
+    es calls ∙ sym (by_version i false other) in
     record {
-      delivers = subst (λ (t : List ℕ). Delivers (Done, t) c.status_unless_failed-in-Ok.result (state g.K.Sink c.args.out.now) (state g.K.Sink c.write_bound_2-written.new.out)) text
-          (delivered Done c.status_unless_failed-in-Ok.result _ _ _ c.write_bound_2-written.result tt c.write_bound_2-written.ensures.sends c.status_unless_failed-in-Ok.ensures.ok c.status_unless_failed-in-Ok.ensures.err);
+      delivers =
+          subst (λ (t : List ℕ). Delivers (Done, t) c.status_unless_failed-in-Ok.result
+          (state g.K.Sink c.args.out.now) (state g.K.Sink c.write_bound_2-written.new.out)) text
+          (delivered Done c.status_unless_failed-in-Ok.result _ _ _ c.write_bound_2-written.result tt
+          c.write_bound_2-written.ensures.sends c.status_unless_failed-in-Ok.ensures.ok
+          c.status_unless_failed-in-Ok.ensures.err);
     }
 
 pub returns-in-Err : goal.returns-in-Err

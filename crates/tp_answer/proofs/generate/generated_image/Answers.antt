@@ -9,7 +9,10 @@ use Rattle.tp_answer.proofs.generate.generated_image.Goals as goal
 pub returns-in-Ok : goal.returns-in-Ok
 returns-in-Ok c =
     let s = c.args.seed in
-    let found = checks_unbroken _ (generated s) (ap image_of c.as_bytes.ensures.value ∙ rw c.from.ensures at c.in-Ok.ensures.reads) (accepted_law s (omega arith)) in
+    let found =
+    checks_unbroken _ (generated s)
+    (ap image_of c.as_bytes.ensures.value ∙ rw c.from.ensures at c.in-Ok.ensures.reads)
+    (accepted_law s (omega arith)) in
     record {
       made = accepting_made c.accepted.result _ (image_from (generated s)) found c.accepted.ensures.check;
       never_broken = accepting_unbroken c.accepted.result _ (image_from (generated s)) found c.accepted.ensures.check;

@@ -19,7 +19,8 @@ use Rattle.mem_system.specs.Contents.{system}
 use Rattle.tp_machine.proofs.off.slot_off.Goals as goal
 
 -- it goes on to its end or is over already
-soon_of : (now end later : ℕ) → (now < end → later < end + most_event) → (end ≤ now → later ≡ now) → later < max now end + most_event
+soon_of : (now end later : ℕ) → (now < end → later < end + most_event) → (end ≤ now → later ≡ now)
+    → later < max now end + most_event
 soon_of now end later soon done = elim (cases_lt now end) [
   | inl early ↦ omega (arith, early, soon early)
   | inr past ↦ omega (arith, past, done past)

@@ -11,4 +11,8 @@ returns-in_err-write_shared_parts g c =
 
 pub returns : goal.returns
 unfolding bound_2_text
-returns g c = record { adds = then_adds _ _ _ c.write_entries.result _ _ c.in_ok-write_shared_parts.ensures.adds c.write_entries.ensures.adds }
+returns g c = record {
+  adds =
+      then_adds _ _ _ c.write_entries.result _ _ c.in_ok-write_shared_parts.ensures.adds
+      c.write_entries.ensures.adds;
+}

@@ -35,7 +35,8 @@ unfolding bound_text digits
 returns-clause-bound c = refl
 
 pub returns-clause-bound_2 : goal.returns-clause-bound_2
-unfolding bound_2_text shared_parts_text entries_text entry_text entry_line worst_instruction worst_operation worst_leave worst_prefetch worst_flush worst_enter bound_of most_written may_make digits
+unfolding bound_2_text shared_parts_text entries_text entry_text entry_line worst_instruction worst_operation
+    worst_leave worst_prefetch worst_flush worst_enter bound_of most_written may_make digits
 returns-clause-bound_2 c = refl
 
 pub returns-clause-accepted : goal.returns-clause-accepted

@@ -8,4 +8,8 @@ returns-in_err-add g c =
     rw p.1 (record { adds = cut_in_first _ _ _ _ (rw c.as_bytes.ensures.value at c.in_err-add.ensures.adds) })
 
 pub returns : goal.returns
-returns g c = record { adds = then_adds _ _ _ c.write_text.result _ _ (rw c.as_bytes.ensures.value at c.in_ok-add.ensures.adds) c.write_text.ensures.adds }
+returns g c = record {
+  adds =
+      then_adds _ _ _ c.write_text.result _ _ (rw c.as_bytes.ensures.value at c.in_ok-add.ensures.adds)
+      c.write_text.ensures.adds;
+}

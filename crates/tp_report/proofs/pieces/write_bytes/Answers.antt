@@ -13,4 +13,6 @@ returns-in_err-add g c =
 pub returns : goal.returns
 returns g c =
     let some : length c.args.bytes.now ≢ 0 = search rules in
-    rw (bytes_text-some c.args.bytes.now some) (record { adds = then_adds _ _ _ c.write_digits.result _ _ c.in_ok-add.ensures.adds c.write_digits.ensures.adds })
+    rw (bytes_text-some c.args.bytes.now some) (record {
+      adds = then_adds _ _ _ c.write_digits.result _ _ c.in_ok-add.ensures.adds c.write_digits.ensures.adds;
+    })

@@ -9,12 +9,18 @@ loop-sent-init g c = record { within = search rules; so_far = digits_none _ }
 pub returns-in_err-write_chunk : goal.returns-in_err-write_chunk
 returns-in_err-write_chunk g c =
     let p = err_from_is_err_and c.from_residual.result c.from_residual.ensures.1 in
-    rw p.1 (record { adds = digits_fail c.args.bytes.now c.loop-sent.sent _ _ _ _ c.loop-sent.invariant.so_far c.in_err-write_chunk.ensures.adds })
+    rw p.1 (record {
+      adds =
+          digits_fail c.args.bytes.now c.loop-sent.sent _ _ _ _ c.loop-sent.invariant.so_far
+          c.in_err-write_chunk.ensures.adds;
+    })
 
 pub loop-sent-preserved : goal.loop-sent-preserved
 loop-sent-preserved g c = record {
   within = search rules;
-  so_far = digits_more c.args.bytes.now c.loop-sent.sent _ _ _ _ _ (omega (arith, c.min-next.ensures)) c.loop-sent.invariant.so_far c.in_ok-write_chunk.ensures.adds;
+  so_far =
+      digits_more c.args.bytes.now c.loop-sent.sent _ _ _ _ _ (omega (arith, c.min-next.ensures))
+      c.loop-sent.invariant.so_far c.in_ok-write_chunk.ensures.adds;
 }
 
 pub slice_bounds-write_chunk-count : goal.slice_bounds-write_chunk-count

@@ -16,7 +16,12 @@ returns-in_err-write_after g c =
     let xs = (g.L.Items.log c.args.log.now).first in
     let i = c.loop-i.i in
     let x = c.item.result in
-    rw p.1 (record { adds = cut_in_each (spaced g.T.WriteText.text) xs i x _ _ _ (slice_get_within xs i x c.item.ensures.value) (sym (get_or_from_slice_get xs i x x c.item.ensures.value)) c.loop-i.invariant c.in_err-write_after.ensures.adds })
+    rw p.1 (record {
+      adds =
+          cut_in_each (spaced g.T.WriteText.text) xs i x _ _ _ (slice_get_within xs i x c.item.ensures.value)
+          (sym (get_or_from_slice_get xs i x x c.item.ensures.value)) c.loop-i.invariant
+          c.in_err-write_after.ensures.adds;
+    })
 
 pub loop-i-preserved : goal.loop-i-preserved
 unfolding spaced
@@ -24,7 +29,9 @@ loop-i-preserved g c =
     let xs = (g.L.Items.log c.args.log.now).first in
     let i = c.loop-i.i in
     let x = c.item.result in
-    added_each (spaced g.T.WriteText.text) xs i x _ _ _ (slice_get_within xs i x c.item.ensures.value) (sym (get_or_from_slice_get xs i x x c.item.ensures.value)) c.loop-i.invariant c.in_ok-write_after.ensures.adds
+    added_each (spaced g.T.WriteText.text) xs i x _ _ _ (slice_get_within xs i x c.item.ensures.value)
+    (sym (get_or_from_slice_get xs i x x c.item.ensures.value)) c.loop-i.invariant
+    c.in_ok-write_after.ensures.adds
 
 pub returns : goal.returns
 returns g c =

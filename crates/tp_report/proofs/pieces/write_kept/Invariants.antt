@@ -5,4 +5,6 @@ use Rattle.tp_report.specs.Texts.{spaced}
 use Rattle.tp_report.proofs.pieces.write_kept.Given as goal
 
 abbrev pub invariant-loop-i : goal.invariant-loop-i
-invariant-loop-i g l = Added (holding g.K.Sink l.fn.out l.fn.held) (holding g.K.Sink l.out l.held) (flat_map (spaced g.T.WriteText.text) (take l.i (g.L.Items.log l.log).first))
+invariant-loop-i g l =
+    Added (holding g.K.Sink l.fn.out l.fn.held) (holding g.K.Sink l.out l.held)
+    (flat_map (spaced g.T.WriteText.text) (take l.i (g.L.Items.log l.log).first))

@@ -9,4 +9,6 @@ returns-in_err-write_after g c =
     rw (p.1, last_text-Some g.T.WriteText.text c.args.item.now) (record { adds = cut_in_first _ _ _ _ c.in_err-write_after.ensures.adds })
 
 pub returns : goal.returns
-returns g c = rw (last_text-Some g.T.WriteText.text c.args.item.now) (record { adds = then_adds _ _ _ c.add.result _ _ c.in_ok-write_after.ensures.adds c.add.ensures.adds })
+returns g c =
+    rw (last_text-Some g.T.WriteText.text c.args.item.now)
+    (record { adds = then_adds _ _ _ c.add.result _ _ c.in_ok-write_after.ensures.adds c.add.ensures.adds })

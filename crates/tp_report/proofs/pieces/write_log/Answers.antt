@@ -7,14 +7,23 @@ use Rattle.tp_report.proofs.pieces.write_log.Goals as goal
 pub returns-in_err-write_number : goal.returns-in_err-write_number
 returns-in_err-write_number g c =
     let p = err_from_is_err_and c.from_residual.result c.from_residual.ensures.1 in
-    rw p.1 (record { adds = cut_in_count g.T.WriteText.text (g.L.Items.log c.args.log.now) _ _ (rw c.count-count.ensures.value at c.in_err-write_number.ensures.adds) })
+    rw p.1 (record {
+      adds =
+          cut_in_count g.T.WriteText.text (g.L.Items.log c.args.log.now) _ _
+          (rw c.count-count.ensures.value at c.in_err-write_number.ensures.adds);
+    })
 
 pub returns-in_err-write_last : goal.returns-in_err-write_last
 returns-in_err-write_last g c =
     let p = err_from_is_err_and c.from_residual-in_err-write_last.result c.from_residual-in_err-write_last.ensures.1 in
     let l = g.L.Items.log c.args.log.now in
     let some : l.count ≢ 0 = search rules in
-    rw (p.1, log_text-some g.T.WriteText.text l some, c.last.ensures.value) (record { adds = cut_between _ _ _ _ _ _ (rw c.count-count.ensures.value at c.in_ok-write_number.ensures.adds) c.in_err-write_last.ensures.adds })
+    rw (p.1, log_text-some g.T.WriteText.text l some, c.last.ensures.value)
+    (record {
+      adds =
+          cut_between _ _ _ _ _ _ (rw c.count-count.ensures.value at c.in_ok-write_number.ensures.adds)
+          c.in_err-write_last.ensures.adds;
+    })
 
 pub returns : goal.returns
 returns g c =

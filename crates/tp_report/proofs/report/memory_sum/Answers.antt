@@ -14,7 +14,8 @@ pub loop-i-preserved : goal.loop-i-preserved
 loop-i-preserved c =
     let v = c.args.view.now in
     let long = length-map (view_model v).pool (frame_words v.memory.now) in
-    memory_sum_more (view_model v).frames c.loop-i.i c.frame_sum-sum.result c.loop-i.sum (omega (arith, long)) c.frame_sum-sum.ensures.value c.loop-i.invariant
+    memory_sum_more (view_model v).frames c.loop-i.i c.frame_sum-sum.result c.loop-i.sum (omega (arith, long))
+    c.frame_sum-sum.ensures.value c.loop-i.invariant
 
 pub returns : goal.returns
 returns c =

@@ -17,16 +17,23 @@ returns-in_err-write_thread g c =
     let xs = (view_model c.args.view.now).threads in
     let t = c.loop-t.t in
     let x = c.thread.result in
-    let within : t < length (enumerate_from 0 xs) = omega (arith, length-enumerate_from 0 xs, slice_get_within xs t x c.thread.ensures.value) in
-    rw p.1 (record { adds = cut_in_each thread_text (enumerate_from 0 xs) t (t, x) _ _ _ within (place_of xs t x c.thread.ensures.value) c.loop-t.invariant c.in_err-write_thread.ensures.adds })
+    let within : t < length (enumerate_from 0 xs) =
+    omega (arith, length-enumerate_from 0 xs, slice_get_within xs t x c.thread.ensures.value) in
+    rw p.1 (record {
+      adds =
+          cut_in_each thread_text (enumerate_from 0 xs) t (t, x) _ _ _ within
+          (place_of xs t x c.thread.ensures.value) c.loop-t.invariant c.in_err-write_thread.ensures.adds;
+    })
 
 pub loop-t-preserved : goal.loop-t-preserved
 loop-t-preserved g c =
     let xs = (view_model c.args.view.now).threads in
     let t = c.loop-t.t in
     let x = c.thread.result in
-    let within : t < length (enumerate_from 0 xs) = omega (arith, length-enumerate_from 0 xs, slice_get_within xs t x c.thread.ensures.value) in
-    added_each thread_text (enumerate_from 0 xs) t (t, x) _ _ _ within (place_of xs t x c.thread.ensures.value) c.loop-t.invariant c.in_ok-write_thread.ensures.adds
+    let within : t < length (enumerate_from 0 xs) =
+    omega (arith, length-enumerate_from 0 xs, slice_get_within xs t x c.thread.ensures.value) in
+    added_each thread_text (enumerate_from 0 xs) t (t, x) _ _ _ within
+    (place_of xs t x c.thread.ensures.value) c.loop-t.invariant c.in_ok-write_thread.ensures.adds
 
 pub returns : goal.returns
 unfolding threads_text

@@ -30,10 +30,17 @@ returns g c =
     let over : c.loop-slot.slot ≡ c.args.slots = omega arith in
     let at = c.loop-slot.invariant in
     let name = c.as_str-name.ensures.value ∙ ap (λ (o : Own). o.name) at.own in
-    let seen = c.view.ensures.image i at.public (at.own ∙ ap (own_of i) (sym at.number)) ∙ ap₂ (λ (d n : ℕ). view_alone_on i d n) at.number (at.slots ∙ over) in
+    let seen =
+    c.view.ensures.image i at.public (at.own ∙ ap (own_of i) (sym at.number))
+    ∙ ap₂ (λ (d n : ℕ). view_alone_on i d n) at.number (at.slots ∙ over) in
     let old = state g.K.Sink c.args.out.now in
     let new = state g.K.Sink c.write_section.new.out in
-    let sends = subst (λ (text : List ℕ). Sends old new c.write_section.result text) (section_alone_is i c.args.d c.args.slots _ _ name seen) c.write_section.ensures.sends in
+    let sends =
+    subst (λ (text : List ℕ). Sends old new c.write_section.result text)
+    (section_alone_is i c.args.d c.args.slots _ _ name seen) c.write_section.ensures.sends in
     record {
-      delivers = delivered Done c.status_unless_failed-status.result (section_alone i c.args.d c.args.slots) old new c.write_section.result tt sends c.status_unless_failed-status.ensures.ok c.status_unless_failed-status.ensures.err;
+      delivers =
+          delivered Done c.status_unless_failed-status.result (section_alone i c.args.d c.args.slots) old new
+          c.write_section.result tt sends c.status_unless_failed-status.ensures.ok
+          c.status_unless_failed-status.ensures.err;
     }

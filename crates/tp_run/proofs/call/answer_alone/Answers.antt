@@ -15,13 +15,30 @@ pub returns-then-domain-domains_of : goal.returns-then-domain-domains_of
 returns-then-domain-domains_of g c =
     let asked = Alone c.args.domain c.args.slots in
     let has : c.args.domain < length (owns_of c.in-Ok.image) = omega arith in
-    let due = found_due asked (image_for asked c.args.bytes.now) _ (c.in-Ok.ensures.alone c.args.domain c.args.slots) ∙ alone_due c.args.domain c.args.slots (image_from c.in-Ok.image) has in
-    record { delivers = subst (λ (a : Answer). Delivers a c.run_domain-status.result (state g.K.Sink c.args.out.now) (state g.K.Sink c.run_domain-status.new.out)) (sym due) c.run_domain-status.ensures.delivers }
+    let due =
+    found_due asked (image_for asked c.args.bytes.now) _
+    (c.in-Ok.ensures.alone c.args.domain c.args.slots)
+    ∙ alone_due c.args.domain c.args.slots (image_from c.in-Ok.image) has in
+    record {
+      delivers =
+          subst (λ (a : Answer). Delivers a c.run_domain-status.result (state g.K.Sink c.args.out.now)
+          (state g.K.Sink c.run_domain-status.new.out)) (sym due) c.run_domain-status.ensures.delivers;
+    }
 
 pub returns-else-domain-domains_of : goal.returns-else-domain-domains_of
 returns-else-domain-domains_of g c =
     let asked = Alone c.args.domain c.args.slots in
     let lacks : length (owns_of c.in-Ok.image) ≤ c.args.domain = omega arith in
-    let due = found_due asked (image_for asked c.args.bytes.now) _ (c.in-Ok.ensures.alone c.args.domain c.args.slots) ∙ lacks_due c.args.domain c.args.slots (image_from c.in-Ok.image) lacks in
-    let usage = delivered Usage c.status_unless_failed.result usage_text (state g.K.Sink c.args.out.now) (state g.K.Sink c.write_usage.new.out) c.write_usage.result tt c.write_usage.ensures.sends c.status_unless_failed.ensures.ok c.status_unless_failed.ensures.err in
-    record { delivers = subst (λ (a : Answer). Delivers a c.status_unless_failed.result (state g.K.Sink c.args.out.now) (state g.K.Sink c.write_usage.new.out)) (sym due) usage }
+    let due =
+    found_due asked (image_for asked c.args.bytes.now) _
+    (c.in-Ok.ensures.alone c.args.domain c.args.slots)
+    ∙ lacks_due c.args.domain c.args.slots (image_from c.in-Ok.image) lacks in
+    let usage =
+    delivered Usage c.status_unless_failed.result usage_text (state g.K.Sink c.args.out.now)
+    (state g.K.Sink c.write_usage.new.out) c.write_usage.result tt c.write_usage.ensures.sends
+    c.status_unless_failed.ensures.ok c.status_unless_failed.ensures.err in
+    record {
+      delivers =
+          subst (λ (a : Answer). Delivers a c.status_unless_failed.result (state g.K.Sink c.args.out.now)
+          (state g.K.Sink c.write_usage.new.out)) (sym due) usage;
+    }

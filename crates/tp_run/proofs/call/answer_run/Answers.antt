@@ -17,13 +17,20 @@ unfolding answer_of_image
 returns-in-Ok-clause-run g c least =
     let n = c.args.slots in
     let i = image_from c.in-Ok.image in
-    let due = ap (λ (x : Choice). (Done, report i x n)) least ∙ sym (found_due (Run n) (image_for (Run n) c.args.bytes.now) _ (c.in-Ok.ensures.run n)) in
-    subst (λ (a : Answer). Delivers a c.run_image-status.result (state g.K.Sink c.args.out.now) (state g.K.Sink c.run_image-status.new.out)) due c.run_image-status.ensures.delivers
+    let due =
+    ap (λ (x : Choice). (Done, report i x n)) least
+    ∙ sym (found_due (Run n) (image_for (Run n) c.args.bytes.now) _ (c.in-Ok.ensures.run n)) in
+    subst (λ (a : Answer). Delivers a c.run_image-status.result (state g.K.Sink c.args.out.now)
+    (state g.K.Sink c.run_image-status.new.out)) due c.run_image-status.ensures.delivers
 
 pub returns-in-Ok-clause-harts : goal.returns-in-Ok-clause-harts
 unfolding answer_of_image
 returns-in-Ok-clause-harts g c seed drawn =
     let n = c.args.slots in
     let i = image_from c.in-Ok.image in
-    let due = ap (λ (x : Choice). (Done, report i x n)) drawn ∙ sym (found_due (Harts n seed) (image_for (Harts n seed) c.args.bytes.now) _ (c.in-Ok.ensures.harts n seed)) in
-    subst (λ (a : Answer). Delivers a c.run_image-status.result (state g.K.Sink c.args.out.now) (state g.K.Sink c.run_image-status.new.out)) due c.run_image-status.ensures.delivers
+    let due =
+    ap (λ (x : Choice). (Done, report i x n)) drawn
+    ∙ sym (found_due (Harts n seed) (image_for (Harts n seed) c.args.bytes.now) _
+    (c.in-Ok.ensures.harts n seed)) in
+    subst (λ (a : Answer). Delivers a c.run_image-status.result (state g.K.Sink c.args.out.now)
+    (state g.K.Sink c.run_image-status.new.out)) due c.run_image-status.ensures.delivers

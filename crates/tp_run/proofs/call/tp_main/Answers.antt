@@ -165,7 +165,9 @@ returns-in-Err-Memory g c =
       untouched = λ none. absurd (unasked words its none asked);
       makes_untouched = λ k is makes.
           c.read_for.ensures.untouched (λ reads. makes (subst Reads (same_Some its k (sym asked ∙ is)) reads));
-      read_fault = neither_failed _ _ (held_none _ _ c.in-Err-Memory.is c.in-Err-Memory.field-0-is) want_is_no_read c.read_for.ensures.cause;
+      read_fault =
+          neither_failed _ _ (held_none _ _ c.in-Err-Memory.is c.in-Err-Memory.field-0-is) want_is_no_read
+          c.read_for.ensures.cause;
       write_fault = none_failed _ want_is_no_fault;
       nothing_read = λ e. refl;
       nothing_held = λ e. refl;
@@ -204,7 +206,9 @@ returns g c =
     let result = c.answer_bytes.result in
     let old = state g.K.Sink c.args.out.now in
     let new = state g.K.Sink c.answer_bytes.new.out in
-    let delivers = subst (λ (xs : List ℕ). Delivers (answer_of_bytes its xs) result old new) c.as_slice.ensures.value c.answer_bytes.ensures.delivers in
+    let delivers =
+    subst (λ (xs : List ℕ). Delivers (answer_of_bytes its xs) result old new) c.as_slice.ensures.value
+    c.answer_bytes.ensures.delivers in
     let h = answering its items left' c.in-Ok.ensures.taken c.in-Ok.ensures.whole delivers in
     let range : IsInRange its = subst (λ (o : Option Command). IfSome o IsInRange) c.in-Ok-Some.field-0-is c.in-Ok-Some.ensures.range in
     let t = answered_tells words _ h asked c.in-Ok.ensures.most range c.answer_bytes.ensures.reads_back in

@@ -14,7 +14,10 @@ returns-in-Err g c = record { delivers = nothing_held _ _ }
 
 pub returns-in-Ok : goal.returns-in-Ok
 returns-in-Ok g c = record {
-  delivers = subst (λ (i : Image). Delivers (Done, demo_text i c.args.seed) c.run_image_of-status.result (state g.K.Sink c.args.out.now) (state g.K.Sink c.run_image_of-status.new.out)) c.in-Ok.ensures.made c.run_image_of-status.ensures.delivers;
+  delivers =
+      subst (λ (i : Image). Delivers (Done, demo_text i c.args.seed) c.run_image_of-status.result
+      (state g.K.Sink c.args.out.now) (state g.K.Sink c.run_image_of-status.new.out)) c.in-Ok.ensures.made
+      c.run_image_of-status.ensures.delivers;
 }
 
 pub run_image_of-status-requires : goal.run_image_of-status-requires

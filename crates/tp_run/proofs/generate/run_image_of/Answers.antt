@@ -19,6 +19,12 @@ returns-in-Ok g c =
     let old = state g.K.Sink c.args.out.now in
     let new = state g.K.Sink c.write_summary.new.out in
     record {
-      delivers = subst₂ (λ (x : text.Raw) (n : ℕ). Delivers (Done, demo_after (image_from x) n s) c.status_unless_failed-status.result old new) c.in-Ok.ensures.image c.in-Ok.ensures.slots
-          (delivered Done c.status_unless_failed-status.result (demo_after (image_from m.image.now) m.slots s) old new c.write_summary.result tt c.write_summary.ensures.sends c.status_unless_failed-status.ensures.ok c.status_unless_failed-status.ensures.err);
+      delivers =
+          subst₂ (λ (x : text.Raw) (n : ℕ).
+          Delivers (Done, demo_after (image_from x) n s) c.status_unless_failed-status.result old new)
+          c.in-Ok.ensures.image c.in-Ok.ensures.slots
+          (delivered Done c.status_unless_failed-status.result
+          (demo_after (image_from m.image.now) m.slots s) old new c.write_summary.result tt
+          c.write_summary.ensures.sends c.status_unless_failed-status.ensures.ok
+          c.status_unless_failed-status.ensures.err);
     }

@@ -10,12 +10,17 @@ unfolding demo_lines
 returns-in_err-write_demo g c =
     let i = image_from c.args.machine.now.image.now in
     let p = err_from_is_err_and c.from_residual.result c.from_residual.ensures.1 in
-    rw p.1 (record { sends = cut_in_number (demo_line i c.args.machine.now.slots) (length i.owns) c.loop-d.d _ _ _ (search rules) c.loop-d.invariant (rw c.view.ensures.view at c.in_err-write_demo.ensures.sends) })
+    rw p.1 (record {
+      sends =
+          cut_in_number (demo_line i c.args.machine.now.slots) (length i.owns) c.loop-d.d _ _ _
+          (search rules) c.loop-d.invariant (rw c.view.ensures.view at c.in_err-write_demo.ensures.sends);
+    })
 
 pub loop-d-preserved : goal.loop-d-preserved
 loop-d-preserved g c =
     let i = image_from c.args.machine.now.image.now in
-    number_sent (demo_line i c.args.machine.now.slots) (length i.owns) c.loop-d.d _ _ _ (search rules) c.loop-d.invariant (rw c.view.ensures.view at c.in_ok-write_demo.ensures.sends)
+    number_sent (demo_line i c.args.machine.now.slots) (length i.owns) c.loop-d.d _ _ _ (search rules)
+    c.loop-d.invariant (rw c.view.ensures.view at c.in_ok-write_demo.ensures.sends)
 
 pub returns : goal.returns
 unfolding demo_lines

@@ -14,7 +14,11 @@ pub returns-in_err-write_lines : goal.returns-in_err-write_lines
 unfolding demo_after ending
 returns-in_err-write_lines g c =
     let p = err_from_is_err_and c.from_residual-in_err-write_lines.result c.from_residual-in_err-write_lines.ensures.1 in
-    rw p.1 (record { sends = cut_between _ _ _ _ _ _ (rw c.from.ensures at c.in_ok-write_demo.ensures.sends) c.in_err-write_lines.ensures.sends })
+    rw p.1 (record {
+      sends =
+          cut_between _ _ _ _ _ _ (rw c.from.ensures at c.in_ok-write_demo.ensures.sends)
+          c.in_err-write_lines.ensures.sends;
+    })
 
 pub returns : goal.returns
 unfolding demo_after ending

@@ -23,7 +23,9 @@ returns-then-has_one_hart g c =
     let same : machine.report i c.args.slots ≡ report i c.args.choice c.args.slots =
     ap (λ (w : World). report_of i w) (sym (after_one i c.args.choice c.args.slots one)) in
     record {
-      delivers = subst (λ (t : List ℕ). Delivers (Done, t) c.run_machine.result (state g.K.Sink c.args.out.now) (state g.K.Sink c.run_machine.new.out))
+      delivers =
+          subst (λ (t : List ℕ). Delivers (Done, t) c.run_machine.result (state g.K.Sink c.args.out.now)
+          (state g.K.Sink c.run_machine.new.out))
           same c.run_machine.ensures.delivers;
     }
 
@@ -50,5 +52,7 @@ returns-in-Ok g c =
     let new = state g.K.Sink c.write_report.new.out in
     record {
       delivers = subst (λ (t : List ℕ). Delivers (Done, t) c.status_unless_failed-status.result old new) same
-          (delivered Done c.status_unless_failed-status.result (of_parts r.record_of r.choice r.slots) old new c.write_report.result tt c.write_report.ensures.sends c.status_unless_failed-status.ensures.ok c.status_unless_failed-status.ensures.err);
+          (delivered Done c.status_unless_failed-status.result (of_parts r.record_of r.choice r.slots) old
+          new c.write_report.result tt c.write_report.ensures.sends
+          c.status_unless_failed-status.ensures.ok c.status_unless_failed-status.ensures.err);
     }

@@ -18,6 +18,11 @@ returns-in-Ok g c =
     let old = state g.K.Sink c.args.out.now in
     let new = state g.K.Sink c.write_report.new.out in
     record {
-      delivers = subst₂ (λ (x : text.Raw) (n : ℕ). Delivers (Done, report (image_from x) n) c.status_unless_failed-status.result old new) c.in-Ok.ensures.image c.in-Ok.ensures.slots
-          (delivered Done c.status_unless_failed-status.result (report (image_from m.image.now) m.slots) old new c.write_report.result tt c.write_report.ensures.sends c.status_unless_failed-status.ensures.ok c.status_unless_failed-status.ensures.err);
+      delivers =
+          subst₂ (λ (x : text.Raw) (n : ℕ).
+          Delivers (Done, report (image_from x) n) c.status_unless_failed-status.result old new)
+          c.in-Ok.ensures.image c.in-Ok.ensures.slots
+          (delivered Done c.status_unless_failed-status.result (report (image_from m.image.now) m.slots) old
+          new c.write_report.result tt c.write_report.ensures.sends
+          c.status_unless_failed-status.ensures.ok c.status_unless_failed-status.ensures.err);
     }

@@ -15,4 +15,9 @@ returns g c =
     let own = rw c.from.ensures at c.own-own.ensures.value in
     let name = c.as_str.ensures.value ∙ ap (λ (o : Own). o.name) (own ∙ ap (λ (j : Image). own_of j d) c.checked.ensures.image) in
     let text = section_of_is i (λ e. view_in i e (g.M.Reported.world m)) d c.as_str.result.now _ name c.seen.ensures.view in
-    record { sends = subst (λ (xs : List ℕ). Sends (state g.K.Sink c.args.out.now) (state g.K.Sink c.write_section.new.out) c.write_section.result xs) text c.write_section.ensures.sends }
+    record {
+      sends =
+          subst (λ (xs : List ℕ). Sends (state g.K.Sink c.args.out.now)
+          (state g.K.Sink c.write_section.new.out) c.write_section.result xs) text
+          c.write_section.ensures.sends;
+    }

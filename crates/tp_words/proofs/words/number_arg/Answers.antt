@@ -9,6 +9,7 @@ returns c =
     let (q, given, same) = c.value_parser.ensures.given in
     record {
       rule = ap rule_of c.value_parser.ensures.others
-          ∙ ap₂ (λ (r : Rule) (p : Option ValueParser). record r { parser = p }) c.text_arg.ensures.rule (given ∙ ap Some (same ∙ c.number_parser.ensures.value));
+          ∙ ap₂ (λ (r : Rule) (p : Option ValueParser). record r { parser = p }) c.text_arg.ensures.rule
+          (given ∙ ap Some (same ∙ c.number_parser.ensures.value));
       local = ap (λ (a : Arg). a.global) c.value_parser.ensures.others ∙ c.text_arg.ensures.local;
     }

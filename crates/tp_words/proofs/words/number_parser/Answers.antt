@@ -11,7 +11,8 @@ use Rattle.tp_words.proofs.words.number_parser.Goals as goal
 abbrev i64 : ValueParser
 i64 = Signed (negsuc 9223372036854775807) (pos 9223372036854775807)
 
-bounded : (greatest : ℕ) → greatest ≤ 4294967295 → int_min (pos 9223372036854775807) (pos greatest) ≡ pos greatest
+bounded : (greatest : ℕ) → greatest ≤ 4294967295
+    → int_min (pos 9223372036854775807) (pos greatest) ≡ pos greatest
 bounded greatest fits = omega (arith, ints, clamps, fits)
 
 pub returns : goal.returns
@@ -19,10 +20,13 @@ returns c =
     let r = c.range.result in
     let start = range_inclusive_start c.new.result in
     let end = range_inclusive_end c.new.result in
-    let last : end ≡ pos c.args.greatest = c.new.ensures.end ∙ to_z-of_z w64 c.from.result (record { sfits = c.from.type_inv }) ∙ c.from.ensures in
+    let last : end ≡ pos c.args.greatest =
+    c.new.ensures.end ∙ to_z-of_z w64 c.from.result (record { sfits = c.from.type_inv })
+    ∙ c.from.ensures in
     let all = subst (λ p. NarrowsTo p (Some start) (Some end) r) c.value_parser.ensures c.range.ensures in
     let from = subst (λ lo. NarrowsTo i64 (Some lo) (Some end) r) c.new.ensures.start all in
-    let narrowed : r ≡ signed_between (pos 0) (int_min (pos 9223372036854775807) (pos c.args.greatest)) = subst (λ hi. NarrowsTo i64 (Some (pos 0)) (Some hi) r) last from in
+    let narrowed : r ≡ signed_between (pos 0) (int_min (pos 9223372036854775807) (pos c.args.greatest)) =
+    subst (λ hi. NarrowsTo i64 (Some (pos 0)) (Some hi) r) last from in
     record { value = narrowed ∙ ap (signed_between (pos 0)) (bounded c.args.greatest (omega arith)) }
 
 pub range-requires-clause-bounds : goal.range-requires-clause-bounds

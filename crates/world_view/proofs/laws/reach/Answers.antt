@@ -13,7 +13,9 @@ pub returns-clause-facts : goal.returns-clause-facts
 returns-clause-facts c = λ i k n d r is. always_facts i (separated i r) k n d is
 
 pub returns-clause-own : goal.returns-clause-own
-returns-clause-own c = λ i k n d r is. page_tables (estate i.all.hardware (own_of i d)) (dom_of (world_in i k n) d) (world_in i k n).storage.mem (always_facts i (separated i r) k n d is)
+returns-clause-own c =
+    λ i k n d r is. page_tables (estate i.all.hardware (own_of i d)) (dom_of (world_in i k n) d)
+    (world_in i k n).storage.mem (always_facts i (separated i r) k n d is)
 
 pub returns-clause-no_access_fault : goal.returns-clause-no_access_fault
 unfolding estate
@@ -22,7 +24,8 @@ returns-clause-no_access_fault c = λ i k n d va a r is.
     let o = own_of i d in
     let m = (world_in i k n).storage.mem in
     let d' = dom_of (world_in i k n) d in
-    no_access_fault p o (estate p o).root (IsPage p o d' m) m (walkable p o d' m (always_facts i (separated i r) k n d is)) va a (λ f page. page.own)
+    no_access_fault p o (estate p o).root (IsPage p o d' m) m
+    (walkable p o d' m (always_facts i (separated i r) k n d is)) va a (λ f page. page.own)
 
 pub returns-clause-rights : goal.returns-clause-rights
 returns-clause-rights c = λ i k n d r is. (always_both i (separated i r) k n d is).rights

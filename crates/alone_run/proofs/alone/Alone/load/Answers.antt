@@ -13,7 +13,10 @@ use Rattle.alone_run.proofs.Slots.{Stand, stands_of, facts_of, opened}
 use Rattle.alone_run.proofs.alone.Alone.load.Goals as goal
 
 pub geometry_of-geometry-requires : goal.geometry_of-geometry-requires
-geometry_of-geometry-requires c = record { hardware = (runs_of (public_model c.args.public.now) (own_model c.args.own.now) c.args.d c.requires.image).hardware }
+geometry_of-geometry-requires c = record {
+  hardware =
+      (runs_of (public_model c.args.public.now) (own_model c.args.own.now) c.args.d c.requires.image).hardware;
+}
 
 pub share_of-requires : goal.share_of-requires
 share_of-requires c =
@@ -21,23 +24,30 @@ share_of-requires c =
     record { hardware = runs.hardware; colours = runs.colours }
 
 pub open_domain-requires-clause-has_pool : goal.open_domain-requires-clause-has_pool
-open_domain-requires-clause-has_pool c = (runs_of (public_model c.args.public.now) (own_model c.args.own.now) c.args.d c.requires.image).pool
+open_domain-requires-clause-has_pool c =
+    (runs_of (public_model c.args.public.now) (own_model c.args.own.now) c.args.d c.requires.image).pool
 
 pub open_domain-requires-clause-apart : goal.open_domain-requires-clause-apart
 open_domain-requires-clause-apart c = record { once = (runs_of (public_model c.args.public.now) (own_model c.args.own.now) c.args.d c.requires.image).pool.sound.apart }
 
 pub load_domain-requires-clause-has_pool : goal.load_domain-requires-clause-has_pool
-load_domain-requires-clause-has_pool c = (runs_of (public_model c.args.public.now) (own_model c.args.own.now) c.args.d c.requires.image).pool
+load_domain-requires-clause-has_pool c =
+    (runs_of (public_model c.args.public.now) (own_model c.args.own.now) c.args.d c.requires.image).pool
 
 stood : (c : goal.In_ok-core) → Stand (public_model c.args.public.now).hardware (own_model c.args.own.now)
-    (kept c.load_domain.new.memory (system c.in_ok-core.core c.in_ok-core.l2) c.in_ok-domain.domain 0) (alone_after (public_model c.args.public.now) (own_model c.args.own.now) c.args.d 0)
+    (kept c.load_domain.new.memory (system c.in_ok-core.core c.in_ok-core.l2) c.in_ok-domain.domain 0)
+    (alone_after (public_model c.args.public.now) (own_model c.args.own.now) c.args.d 0)
 stood c =
     let levels = c.geometry_of-geometry.ensures.hierarchy in
-    opened (public_for (public_model c.args.public.now) c.args.d) (own_model c.args.own.now) (runs_of (public_model c.args.public.now) (own_model c.args.own.now) c.args.d c.requires.image) c.args.d c.load_domain.new.memory (system c.in_ok-core.core c.in_ok-core.l2) c.in_ok-domain.domain
+    opened (public_for (public_model c.args.public.now) c.args.d) (own_model c.args.own.now)
+    (runs_of (public_model c.args.public.now) (own_model c.args.own.now) c.args.d c.requires.image)
+    c.args.d c.load_domain.new.memory (system c.in_ok-core.core c.in_ok-core.l2) c.in_ok-domain.domain
     (c.load_domain.ensures.size ∙ c.in_ok-domain.ensures.size ∙ ap (λ (x : Contents). x.frames) c.in_ok-memory.ensures.zero)
     (c.load_domain.ensures.placed empty (c.in_ok-domain.ensures.blank c.in_ok-memory.ensures.holds))
     (c.in_ok-core.ensures.hierarchy ∙ levels) c.in_ok-core.ensures.pinned
-    (subst (λ (h : Hierarchy). SystemStands any_stands_for (system c.in_ok-core.core c.in_ok-core.l2) (cold h)) levels c.in_ok-core.ensures.cold)
+    (subst (λ (h : Hierarchy).
+    SystemStands any_stands_for (system c.in_ok-core.core c.in_ok-core.l2) (cold h)) levels
+    c.in_ok-core.ensures.cold)
     c.in_ok-core.ensures.kept c.in_ok-domain.ensures.opened
 
 pub invariant_of-result-clause-runs : goal.invariant_of-result-clause-runs
@@ -45,11 +55,15 @@ invariant_of-result-clause-runs c = runs_of (public_model c.args.public.now) (ow
 
 pub invariant_of-result-clause-stands : goal.invariant_of-result-clause-stands
 invariant_of-result-clause-stands c =
-    stands_of (public_model c.args.public.now).hardware (own_model c.args.own.now) (kept c.load_domain.new.memory (system c.in_ok-core.core c.in_ok-core.l2) c.in_ok-domain.domain 0) _ (stood c)
+    stands_of (public_model c.args.public.now).hardware (own_model c.args.own.now)
+    (kept c.load_domain.new.memory (system c.in_ok-core.core c.in_ok-core.l2) c.in_ok-domain.domain 0) _
+    (stood c)
 
 pub invariant_of-result-clause-facts : goal.invariant_of-result-clause-facts
 invariant_of-result-clause-facts c =
-    ∣ facts_of (public_model c.args.public.now).hardware (own_model c.args.own.now) (kept c.load_domain.new.memory (system c.in_ok-core.core c.in_ok-core.l2) c.in_ok-domain.domain 0) _ (stood c) ∣₁
+    ∣ facts_of (public_model c.args.public.now).hardware (own_model c.args.own.now)
+    (kept c.load_domain.new.memory (system c.in_ok-core.core c.in_ok-core.l2) c.in_ok-domain.domain 0) _
+    (stood c) ∣₁
 
 pub invariant_of-result-clause-in_bounds : goal.invariant_of-result-clause-in_bounds
 invariant_of-result-clause-in_bounds c = record { slots_left = omega arith; few_calls = c.in_ok-domain.ensures.opened.few }

@@ -18,7 +18,9 @@ use Rattle.alone_run.proofs.alone.Alone.run_slot.Goals.{After-flush}
 
 -- ---- another's slot
 
-passed : (c : goal.Then-entry-self) → alone_after (public_model c.args.self.now.public.now) (own_model c.args.self.now.own.now) c.args.self.now.number (c.args.self.now.slots + 1)
+passed : (c : goal.Then-entry-self)
+    → alone_after (public_model c.args.self.now.public.now) (own_model c.args.self.now.own.now)
+    c.args.self.now.number (c.args.self.now.slots + 1)
     ≡ alone_after (public_model c.args.self.now.public.now) (own_model c.args.self.now.own.now) c.args.self.now.number c.args.self.now.slots
 passed c =
     let a = c.args.self.now in
@@ -31,12 +33,14 @@ passed c =
 pub invariant_of-self-clause-stands : goal.invariant_of-self-clause-stands
 invariant_of-self-clause-stands c =
     let a = c.args.self.now in
-    subst (λ (s : Local). StandsFor (public_model a.public.now).hardware (own_model a.own.now) s (kept a.memory (system a.core a.l2) a.domain a.clock)) (sym (passed c)) a.stands
+    subst (λ (s : Local). StandsFor (public_model a.public.now).hardware (own_model a.own.now) s
+    (kept a.memory (system a.core a.l2) a.domain a.clock)) (sym (passed c)) a.stands
 
 pub invariant_of-self-clause-facts : goal.invariant_of-self-clause-facts
 invariant_of-self-clause-facts c =
     let a = c.args.self.now in
-    subst (λ (s : Local). ∥ HasFacts (public_model a.public.now).hardware (own_model a.own.now) s (kept a.memory (system a.core a.l2) a.domain a.clock) ∥₁) (sym (passed c)) a.facts
+    subst (λ (s : Local). ∥ HasFacts (public_model a.public.now).hardware (own_model a.own.now) s
+    (kept a.memory (system a.core a.l2) a.domain a.clock) ∥₁) (sym (passed c)) a.facts
 
 -- ---- its own slot
 
@@ -57,7 +61,8 @@ stretch-self-requires-clause-runs c =
       setting = setting p.hardware o true;
       state = alone_enter p o a.slots (alone p o a.number a.slots);
       stands_in = begun p o a.runs a.number a.slots (kept a.memory (system a.core a.l2) a.domain a.clock) (layout_model a.domain.layout)
-          (system c.empty_tlb.new.self a.l2) (system c.enter.new.core c.enter.new.l2) c.enter.result c.start-start.result a.stands a.stands.domain.layout
+          (system c.empty_tlb.new.self a.l2) (system c.enter.new.core c.enter.new.l2) c.enter.result
+          c.start-start.result a.stands a.stands.domain.layout
           (c.empty_tlb.ensures.makes a.l2) c.empty_tlb.ensures.kept c.enter.ensures.makes c.enter.ensures.buffer begins;
     }
 
@@ -77,9 +82,11 @@ leave-requires c =
     record { layout = subst IsLayout (sym a.stands.domain.layout) (kernel p o a.runs).has_layout }
 
 -- after the slot, and when the domain has left
-over : (c : After-flush) → Stand (public_model c.args.self.now.public.now).hardware (own_model c.args.self.now.own.now)
+over : (c : After-flush)
+    → Stand (public_model c.args.self.now.public.now).hardware (own_model c.args.self.now.own.now)
     (kept c.stretch-self.new.memory (system c.flush.new.self c.flush.new.l2) c.stretch-self.new.domain c.stretch-self.result)
-    (alone_after (public_model c.args.self.now.public.now) (own_model c.args.self.now.own.now) c.args.self.now.number (c.args.self.now.slots + 1))
+    (alone_after (public_model c.args.self.now.public.now) (own_model c.args.self.now.own.now)
+    c.args.self.now.number (c.args.self.now.slots + 1))
 unfolding alone_in
 over c =
     let a = c.args.self.now in
@@ -91,16 +98,24 @@ over c =
     let named : (entry_of_slot p.schedule a.slots).domain ≡ a.number = ap (λ (x : Entry). x.domain) (sym entry) ∙ c.if-entry-self.false in
     let until : c.start-start.result + c.from.result ≡ start p.schedule a.slots + (entry_of_slot p.schedule a.slots).length =
     omega (arith, begins, c.from.ensures, ap (λ (x : Entry). x.length) entry) in
-    let runs = subst (λ (n : ℕ). Moves any_rule any_stands_for (λ (w : Setting). stretch w n) a.memory a.domain (system c.enter.new.core c.enter.new.l2) c.start-start.result
-    c.stretch-self.new.memory c.stretch-self.new.domain (system c.stretch-self.new.core c.stretch-self.new.l2) c.stretch-self.result) until c.stretch-self.ensures.becomes in
+    let runs =
+    subst (λ (n : ℕ). Moves any_rule any_stands_for (λ (w : Setting). stretch w n) a.memory a.domain
+    (system c.enter.new.core c.enter.new.l2) c.start-start.result
+    c.stretch-self.new.memory c.stretch-self.new.domain (system c.stretch-self.new.core c.stretch-self.new.l2)
+    c.stretch-self.result) until c.stretch-self.ensures.becomes in
     let entered = begun p o a.runs a.number a.slots (kept a.memory (system a.core a.l2) a.domain a.clock) (layout_model a.domain.layout)
-    (system c.empty_tlb.new.self a.l2) (system c.enter.new.core c.enter.new.l2) c.enter.result c.start-start.result a.stands a.stands.domain.layout
+    (system c.empty_tlb.new.self a.l2) (system c.enter.new.core c.enter.new.l2) c.enter.result
+    c.start-start.result a.stands a.stands.domain.layout
     (c.empty_tlb.ensures.makes a.l2) c.empty_tlb.ensures.kept c.enter.ensures.makes c.enter.ensures.buffer begins in
     let ran = runs (setting p.hardware o true) (alone_enter p o a.slots s) entered in
-    subst (Stand p.hardware o (kept c.stretch-self.new.memory (system c.flush.new.self c.flush.new.l2) c.stretch-self.new.domain c.stretch-self.result))
+    subst (Stand p.hardware o (kept c.stretch-self.new.memory (system c.flush.new.self c.flush.new.l2)
+    c.stretch-self.new.domain c.stretch-self.result))
     (sym (ap (alone p o a.number) (add-one a.slots) ∙ own_slot p o a.number a.slots named))
-    (left p.hardware o (kept c.stretch-self.new.memory (system c.stretch-self.new.core c.stretch-self.new.l2) c.stretch-self.new.domain c.stretch-self.result) (layout_model a.domain.layout)
-    (system c.leave.new.core c.leave.new.l2) (system c.flush.new.self c.flush.new.l2) c.leave.result c.flush.result (alone_in p o a.slots s) ran a.stands.domain.layout c.leave.ensures.makes
+    (left p.hardware o
+    (kept c.stretch-self.new.memory (system c.stretch-self.new.core c.stretch-self.new.l2)
+    c.stretch-self.new.domain c.stretch-self.result) (layout_model a.domain.layout)
+    (system c.leave.new.core c.leave.new.l2) (system c.flush.new.self c.flush.new.l2) c.leave.result
+    c.flush.result (alone_in p o a.slots s) ran a.stands.domain.layout c.leave.ensures.makes
     c.flush.ensures.makes c.flush.ensures.kept)
 
 pub invariant_of-self-2-clause-stands : goal.invariant_of-self-2-clause-stands

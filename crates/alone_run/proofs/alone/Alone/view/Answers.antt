@@ -16,19 +16,23 @@ new-requires c =
     let a = c.args.self.now in
     let s = alone_after (public_model a.public.now) (own_model a.own.now) a.number a.slots in
     record {
-      in_memory = pool_in_memory (hardware_model a.public.now.hardware) (own_model a.own.now) a.domain a.stands.domain.has a.memory a.stands.machine.frames;
+      in_memory =
+          pool_in_memory (hardware_model a.public.now.hardware) (own_model a.own.now) a.domain
+          a.stands.domain.has a.memory a.stands.machine.frames;
       readings = rw a.stands.domain.dom.readings (kept_of s.dom.readings);
       replies = rw a.stands.domain.dom.replies (kept_of s.dom.replies);
     }
 
 seen : (c : goal.After-new) → view_model c.new.result
-    ≡ view_alone (public_for (public_model c.args.self.now.public.now) c.args.self.now.number) (own_model c.args.self.now.own.now) c.args.self.now.number c.args.self.now.slots
+    ≡ view_alone (public_for (public_model c.args.self.now.public.now) c.args.self.now.number)
+    (own_model c.args.self.now.own.now) c.args.self.now.number c.args.self.now.slots
 unfolding view_alone
 seen c =
     let a = c.args.self.now in
     let s = alone_after (public_model a.public.now) (own_model a.own.now) a.number a.slots in
     c.new.ensures.view
-    ∙ view_is (hardware_model a.public.now.hardware) (own_model a.own.now) a.domain a.stands.domain.has a.memory a.stands.machine.frames s.dom s.storage a.stands.domain.dom a.stands.machine.holds
+    ∙ view_is (hardware_model a.public.now.hardware) (own_model a.own.now) a.domain a.stands.domain.has
+    a.memory a.stands.machine.frames s.dom s.storage a.stands.domain.dom a.stands.machine.holds
 
 pub returns-clause-view : goal.returns-clause-view
 returns-clause-view c = seen c

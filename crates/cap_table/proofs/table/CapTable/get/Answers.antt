@@ -7,5 +7,7 @@ use Rattle.cap_table.proofs.table.CapTable.get.Goals as goal
 pub returns-clause-line : goal.returns-clause-line
 returns-clause-line c = λ line is.
     let at : c.index.result.now ≡ cap_at c.self.inside.slots.items c.args.slot =
-    c.index.ensures ∙ get_or_default c.self.inside.slots.items c.args.slot c.index.result.now None (omega (arith, c.self.invariant.places, c.requires.below)) in
+    c.index.ensures
+    ∙ get_or_default c.self.inside.slots.items c.args.slot c.index.result.now None
+    (omega (arith, c.self.invariant.places, c.requires.below)) in
     c.self.invariant.lines.few c.args.slot line (ap line_of (sym at) ∙ is)

@@ -8,7 +8,8 @@ use Rattle.domain_open.proofs.placement.Placement.leaf_entry.Goals as goal
 pub returns-in_default : goal.returns-in_default
 unfolding leaf_with leaf_entry
 returns-in_default c =
-    let none : rights_in (own_model c.args.self.now.own.now).segments c.args.page ≡ None = sym (rw c.as_slice.ensures.value at c.in_default.ensures.value) in
+    let none : rights_in (own_model c.args.self.now.own.now).segments c.args.page ≡ None =
+    sym (rw c.as_slice.ensures.value at c.in_default.ensures.value) in
     record { value = rw none refl }
 
 pub page_frame-requires : goal.page_frame-requires
@@ -26,5 +27,6 @@ leaf_word-requires c =
 pub returns : goal.returns
 unfolding leaf_with leaf_entry
 returns c =
-    let some : rights_in (own_model c.args.self.now.own.now).segments c.args.page ≡ Some c.in-Some.rights = sym (rw c.as_slice.ensures.value at c.in-Some.ensures.value) in
+    let some : rights_in (own_model c.args.self.now.own.now).segments c.args.page ≡ Some c.in-Some.rights =
+    sym (rw c.as_slice.ensures.value at c.in-Some.ensures.value) in
     record { value = rw some (c.leaf_word.ensures.value ∙ ap (λ (f : ℕ). leaf_word f c.in-Some.rights) c.page_frame.ensures.value) }

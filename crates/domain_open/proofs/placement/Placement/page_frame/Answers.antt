@@ -42,7 +42,8 @@ returns-clause-value c =
     let place : at.first_page + c.pages_below.result ≡ 5 + regions_in o.segments + pages_below o.segments c.args.page =
     ap₂ (λ a b. a + b) at.follows (rw c.as_slice.ensures.value at c.pages_below.ensures.value) in
     let within = page_place p o at.pool.now at.is_pool at.has_pool c.args.page c.requires.there in
-    rw place (pool_read p o at.pool.now at.is_pool at.has_pool (5 + regions_in o.segments + pages_below o.segments c.args.page) c.index-self-place.result within)
+    rw place (pool_read p o at.pool.now at.is_pool at.has_pool
+    (5 + regions_in o.segments + pages_below o.segments c.args.page) c.index-self-place.result within)
 
 pub returns-clause-within : goal.returns-clause-within
 returns-clause-within c =
@@ -52,4 +53,5 @@ returns-clause-within c =
     let place : at.first_page + c.pages_below.result ≡ 5 + regions_in o.segments + pages_below o.segments c.args.page =
     ap₂ (λ a b. a + b) at.follows (rw c.as_slice.ensures.value at c.pages_below.ensures.value) in
     let within = page_place p o at.pool.now at.is_pool at.has_pool c.args.page c.requires.there in
-    rw place (read_inside p o at.pool.now at.is_pool at.has_pool (5 + regions_in o.segments + pages_below o.segments c.args.page) c.index-self-place.result within)
+    rw place (read_inside p o at.pool.now at.is_pool at.has_pool
+    (5 + regions_in o.segments + pages_below o.segments c.args.page) c.index-self-place.result within)

@@ -8,22 +8,32 @@ use Rattle.frame_colours.proofs.Placed.{of, rest_is_free_list, least_is_gone, le
 use Rattle.frame_colours.proofs.pool.Pool.take.Goals as goal
 
 -- the least frame, and the rest
-split : (c : goal.After-of) → reverse c.self.inside.free.items ≡ c.in_ok-number.number ∷ reverse c.pop.new.self.items
+split : (c : goal.After-of)
+    → reverse c.self.inside.free.items ≡ c.in_ok-number.number ∷ reverse c.pop.new.self.items
 split c = ap reverse c.in_ok-number.ensures.items ∙ reverse-append c.pop.new.self.items (c.in_ok-number.number ∷ [])
 
-sound : (c : goal.After-of) → IsFreeList (of c.self.inside.part (c.in_ok-number.number ∷ reverse c.pop.new.self.items))
+sound : (c : goal.After-of)
+    → IsFreeList (of c.self.inside.part (c.in_ok-number.number ∷ reverse c.pop.new.self.items))
 sound c = subst (λ xs. IsFreeList (of c.self.inside.part xs)) (split c) c.self.invariant.0
 
 pub invariant_of-self-2 : goal.invariant_of-self-2
-invariant_of-self-2 c = (rest_is_free_list c.self.inside.part c.in_ok-number.number (reverse c.pop.new.self.items) (sound c), omega (arith, c.self.invariant.1, c.in_ok-number.ensures.capacity), c.self.invariant.2)
+invariant_of-self-2 c = (
+  rest_is_free_list c.self.inside.part c.in_ok-number.number (reverse c.pop.new.self.items) (sound c),
+  omega (arith, c.self.invariant.1, c.in_ok-number.ensures.capacity),
+  c.self.invariant.2,
+)
 
 pub returns-clause-own : goal.returns-clause-own
 returns-clause-own c =
-    let own : IsOwn c.self.inside.part c.in_ok-number.number = (sound c).own c.in_ok-number.number (has_head c.in_ok-number.number (reverse c.pop.new.self.items)) in
-    subst (λ (list : FreeList). IsOwn list.share c.of.result) c.self.view_is (subst (λ n. IsOwn c.self.inside.part n) (sym c.of.ensures.number) own)
+    let own : IsOwn c.self.inside.part c.in_ok-number.number =
+    (sound c).own c.in_ok-number.number (has_head c.in_ok-number.number (reverse c.pop.new.self.items)) in
+    subst (λ (list : FreeList). IsOwn list.share c.of.result) c.self.view_is
+    (subst (λ n. IsOwn c.self.inside.part n) (sym c.of.ensures.number) own)
 
 pub returns-clause-gone : goal.returns-clause-gone
-returns-clause-gone c = ap (has (reverse c.pop.new.self.items)) c.of.ensures.number ∙ least_is_gone c.self.inside.part c.in_ok-number.number (reverse c.pop.new.self.items) (sound c)
+returns-clause-gone c =
+    ap (has (reverse c.pop.new.self.items)) c.of.ensures.number
+    ∙ least_is_gone c.self.inside.part c.in_ok-number.number (reverse c.pop.new.self.items) (sound c)
 
 pub returns-clause-least : goal.returns-clause-least
 returns-clause-least c = λ f there.
@@ -37,7 +47,8 @@ returns-clause-sound c = (invariant_of-self-2 c).0
 pub returns-clause-again : goal.returns-clause-again
 returns-clause-again c =
     ap (λ n. of c.self.inside.part (placed (reverse c.pop.new.self.items) n)) c.of.ensures.number
-    ∙ ap (of c.self.inside.part) (placed_first c.self.inside.part c.in_ok-number.number (reverse c.pop.new.self.items) (sound c) ∙ sym (split c))
+    ∙ ap (of c.self.inside.part) (placed_first c.self.inside.part c.in_ok-number.number
+    (reverse c.pop.new.self.items) (sound c) ∙ sym (split c))
     ∙ c.self.view_is
 
 pub returns-clause-value : goal.returns-clause-value

@@ -11,4 +11,8 @@ overflow_mul-result c =
     search (rules, small)
 
 pub returns : goal.returns
-returns c = record { value = ap₂ (λ m n. m * n) (c.saturating_sub.ensures ∙ ap (λ n. n - 1) c.shared_frames.ensures.value) c.colours.ensures.value }
+returns c = record {
+  value =
+      ap₂ (λ m n. m * n) (c.saturating_sub.ensures ∙ ap (λ n. n - 1) c.shared_frames.ensures.value)
+      c.colours.ensures.value;
+}

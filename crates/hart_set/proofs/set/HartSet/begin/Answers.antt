@@ -32,14 +32,16 @@ outgoing-out-requires c = record {
 pub own-requires : goal.own-requires
 own-requires c =
     let named =
-    of_image c.self.inside.image.now c.self.inside.state c.args.self.now c.self.view_is (λ (i : Image). IsDomain i c.next_turn-turn.result.ended.domain)
+    of_image c.self.inside.image.now c.self.inside.state c.args.self.now c.self.view_is
+    (λ (i : Image). IsDomain i c.next_turn-turn.result.ended.domain)
     c.next_turn-turn.ensures.ended in
     record { domain = omega (arith, named, c.from.ensures) }
 
 pub index-requires : goal.index-requires
 index-requires c =
     let named =
-    of_image c.self.inside.image.now c.self.inside.state c.args.self.now c.self.view_is (λ (i : Image). IsDomain i c.next_turn-turn.result.entry.domain)
+    of_image c.self.inside.image.now c.self.inside.state c.args.self.now c.self.view_is
+    (λ (i : Image). IsDomain i c.next_turn-turn.result.entry.domain)
     c.next_turn-turn.ensures.domain in
     omega (arith, named, c.from-d.ensures, c.self.invariant.stands.all_domains)
 
@@ -52,7 +54,8 @@ index_mut-hart-requires c =
 
 -- ---- what the switch is called with
 
-call : (c : goal.After-index) → Called (image_from c.self.inside.image.now) c.self.inside.state c.args.h c.index_mut-hart.result.now
+call : (c : goal.After-index)
+    → Called (image_from c.self.inside.image.now) c.self.inside.state c.args.h c.index_mut-hart.result.now
 call c =
     called c.self.inside.image.now c.self.inside.state c.args.self.now c.self.view_is c.args.h c.requires.hart c.self.invariant
     c.index_mut-hart.result.now c.index_mut-hart.ensures.value
@@ -67,7 +70,8 @@ turn : (c : goal.After-index)
     → IsTurn (on_hart (image_from c.self.inside.image.now).all.schedule c.args.h) c.index_mut-hart.result.now.slots c.next_turn-turn.result
 turn c =
     value_at c.self.inside.image.now c.self.inside.state c.args.self.now c.self.view_is c.args.h c.index_mut-hart.result.now
-    (λ (i : Image) (x : Hart). IsTurn (on_hart i.all.schedule c.args.h) x.slots c.next_turn-turn.result) (call c).got c.next_turn-turn.ensures.turn
+    (λ (i : Image) (x : Hart). IsTurn (on_hart i.all.schedule c.args.h) x.slots c.next_turn-turn.result)
+    (call c).got c.next_turn-turn.ensures.turn
 
 leaves : (c : goal.After-index) → option_map layout_model (option_copied c.as_ref.result)
     ≡ clone_of (image_on (image_from c.self.inside.image.now) c.args.h)
@@ -75,15 +79,19 @@ leaves : (c : goal.After-index) → option_map layout_model (option_copied c.as_
 leaves c =
     ap (option_map layout_model) c.as_ref.ensures.value
     ∙ value_at c.self.inside.image.now c.self.inside.state c.args.self.now c.self.view_is c.args.h c.index_mut-hart.result.now
-    (λ (i : Image) (x : Hart). option_map layout_model c.outgoing-out.result ≡ clone_of (image_on i c.args.h) (outgoing (on_hart i.all.schedule c.args.h) x.slots))
+    (λ (i : Image) (x : Hart). option_map layout_model c.outgoing-out.result
+    ≡ clone_of (image_on i c.args.h) (outgoing (on_hart i.all.schedule c.args.h) x.slots))
     (call c).got c.outgoing-out.ensures.clone
 
-named : (c : goal.After-index) → IsDomain (image_from c.self.inside.image.now) c.next_turn-turn.result.entry.domain
+named : (c : goal.After-index)
+    → IsDomain (image_from c.self.inside.image.now) c.next_turn-turn.result.entry.domain
 named c =
     of_image c.self.inside.image.now c.self.inside.state c.args.self.now c.self.view_is
     (λ (i : Image). IsDomain i c.next_turn-turn.result.entry.domain) c.next_turn-turn.ensures.domain
 
-got : (c : goal.After-index) → slice_get c.self.inside.state.domains.items c.next_turn-turn.result.entry.domain ≡ Some c.index.result.now
+got : (c : goal.After-index)
+    → slice_get c.self.inside.state.domains.items c.next_turn-turn.result.entry.domain
+    ≡ Some c.index.result.now
 got c =
     domain_read (image_from c.self.inside.image.now) c.self.inside.state c.self.invariant c.next_turn-turn.result.entry.domain (named c)
     c.from-d.result c.index.result.now c.from-d.ensures c.index.ensures
@@ -113,7 +121,8 @@ pub overflow_add-slot : goal.overflow_add-slot
 overflow_add-slot c =
     omega (arith, c.next_turn-turn.ensures.soon, c.next_turn-turn.ensures.length, c.from-2.ensures)
 
-called_then : (c : goal.After-struct_known-2-1) → Called (image_from c.self.inside.image.now) c.self.inside.state c.args.h c.index_mut-hart.result.now
+called_then : (c : goal.After-struct_known-2-1)
+    → Called (image_from c.self.inside.image.now) c.self.inside.state c.args.h c.index_mut-hart.result.now
 called_then c =
     called c.self.inside.image.now c.self.inside.state c.args.self.now c.self.view_is c.args.h c.requires.hart c.self.invariant
     c.index_mut-hart.result.now c.index_mut-hart.ensures.value
@@ -127,15 +136,18 @@ between_then c =
 pub note_switch-requires-clause-entry : goal.note_switch-requires-clause-entry
 note_switch-requires-clause-entry c =
     let within =
-    of_image c.self.inside.image.now c.self.inside.state c.args.self.now c.self.view_is (λ (i : Image). c.next_turn-turn.result.place < length i.all.schedule)
+    of_image c.self.inside.image.now c.self.inside.state c.args.self.now c.self.view_is
+    (λ (i : Image). c.next_turn-turn.result.place < length i.all.schedule)
     c.next_turn-turn.ensures.within in
-    let long : length c.as_mut_slice.result.now ≡ length c.self.inside.state.used.items = ap (λ (us : List Used). length us) c.as_mut_slice.ensures.value in
+    let long : length c.as_mut_slice.result.now ≡ length c.self.inside.state.used.items =
+    ap (λ (us : List Used). length us) c.as_mut_slice.ensures.value in
     omega (arith, within, long, c.self.invariant.stands.all_entries)
 
 pub note_switch-requires-clause-few : goal.note_switch-requires-clause-few
 note_switch-requires-clause-few c =
     subst (CountedUpTo (2 ^ 31)) (sym c.as_mut_slice.ensures.value)
-    (counted_few (image_from c.self.inside.image.now) c.self.inside.state c.args.h c.index_mut-hart.result.now (called_then c) (between_then c))
+    (counted_few (image_from c.self.inside.image.now) c.self.inside.state c.args.h
+    c.index_mut-hart.result.now (called_then c) (between_then c))
 
 -- ---- what it leaves
 
@@ -143,7 +155,8 @@ note_switch-requires-clause-few c =
 abbrev AtEnd : Type 0
 AtEnd = goal.After-self-2-1
 
-here : (c : AtEnd) → Called (image_from c.self.inside.image.now) c.self.inside.state c.args.h c.index_mut-hart.result.now
+here : (c : AtEnd)
+    → Called (image_from c.self.inside.image.now) c.self.inside.state c.args.h c.index_mut-hart.result.now
 here c =
     called c.self.inside.image.now c.self.inside.state c.args.self.now c.self.view_is c.args.h c.requires.hart c.self.invariant
     c.index_mut-hart.result.now c.index_mut-hart.ensures.value
@@ -158,7 +171,8 @@ turn_here : (c : AtEnd)
     → IsTurn (on_hart (image_from c.self.inside.image.now).all.schedule c.args.h) c.index_mut-hart.result.now.slots c.next_turn-turn.result
 turn_here c =
     value_at c.self.inside.image.now c.self.inside.state c.args.self.now c.self.view_is c.args.h c.index_mut-hart.result.now
-    (λ (i : Image) (x : Hart). IsTurn (on_hart i.all.schedule c.args.h) x.slots c.next_turn-turn.result) (here c).got c.next_turn-turn.ensures.turn
+    (λ (i : Image) (x : Hart). IsTurn (on_hart i.all.schedule c.args.h) x.slots c.next_turn-turn.result)
+    (here c).got c.next_turn-turn.ensures.turn
 
 leaves_here : (c : AtEnd) → option_map layout_model (option_copied c.as_ref.result)
     ≡ clone_of (image_on (image_from c.self.inside.image.now) c.args.h)
@@ -166,7 +180,8 @@ leaves_here : (c : AtEnd) → option_map layout_model (option_copied c.as_ref.re
 leaves_here c =
     ap (option_map layout_model) c.as_ref.ensures.value
     ∙ value_at c.self.inside.image.now c.self.inside.state c.args.self.now c.self.view_is c.args.h c.index_mut-hart.result.now
-    (λ (i : Image) (x : Hart). option_map layout_model c.outgoing-out.result ≡ clone_of (image_on i c.args.h) (outgoing (on_hart i.all.schedule c.args.h) x.slots))
+    (λ (i : Image) (x : Hart). option_map layout_model c.outgoing-out.result
+    ≡ clone_of (image_on i c.args.h) (outgoing (on_hart i.all.schedule c.args.h) x.slots))
     (here c).got c.outgoing-out.ensures.clone
 
 named_here : (c : AtEnd) → IsDomain (image_from c.self.inside.image.now) c.next_turn-turn.result.entry.domain
@@ -174,9 +189,12 @@ named_here c =
     of_image c.self.inside.image.now c.self.inside.state c.args.self.now c.self.view_is
     (λ (i : Image). IsDomain i c.next_turn-turn.result.entry.domain) c.next_turn-turn.ensures.domain
 
-got_here : (c : AtEnd) → slice_get c.self.inside.state.domains.items c.next_turn-turn.result.entry.domain ≡ Some c.index.result.now
+got_here : (c : AtEnd)
+    → slice_get c.self.inside.state.domains.items c.next_turn-turn.result.entry.domain
+    ≡ Some c.index.result.now
 got_here c =
-    domain_read (image_from c.self.inside.image.now) c.self.inside.state c.self.invariant c.next_turn-turn.result.entry.domain (named_here c)
+    domain_read (image_from c.self.inside.image.now) c.self.inside.state c.self.invariant
+    c.next_turn-turn.result.entry.domain (named_here c)
     c.from-d.result c.index.result.now c.from-d.ensures c.index.ensures
 
 abbrev hart_after : (c : AtEnd) → Hart
@@ -220,7 +238,8 @@ kept c =
     let was : length used.items ≡ used.len = search rules in
     let place =
     value_at c.self.inside.image.now c.self.inside.state c.args.self.now c.self.view_is c.args.h x
-    (λ (j : Image) (y : Hart). c.next_turn-turn.result.place ≡ place_on j.all.schedule c.args.h (switch_entry (on_hart j.all.schedule c.args.h) y.slots))
+    (λ (j : Image) (y : Hart). c.next_turn-turn.result.place
+    ≡ place_on j.all.schedule c.args.h (switch_entry (on_hart j.all.schedule c.args.h) y.slots))
     (here c).got c.next_turn-turn.ensures.place in
     let noted : (us : List (ℕ × ℕ)) → IsUsed used.items us
     → IsUsed c.note_switch.new.used (us ++ (c.next_turn-turn.result.place, c.switch-switched.result.used) ∷ []) =
@@ -231,31 +250,43 @@ kept c =
       core = refl;
       clock = refl;
       slots = refl;
-      slot = ap (λ (n : ℕ). Some (record { domain = c.next_turn-turn.result.entry.domain; end = c.next_turn-turn.result.start + n })) c.from-2.ensures;
+      slot =
+          ap (λ (n : ℕ). Some (record {
+            domain = c.next_turn-turn.result.entry.domain;
+            end = c.next_turn-turn.result.start + n;
+          }))
+          c.from-2.ensures;
       harts = refl;
       domains = refl;
       long = length_back used.items c.note_switch.new.used used.len long was;
       noted = noted_back used.items c.note_switch.new.used used.len long was c.next_turn-turn.result.place
-          (place_on i.all.schedule c.args.h (switch_entry (on_hart i.all.schedule c.args.h) x.slots)) c.switch-switched.result.used c.switch-switched.result.used
+          (place_on i.all.schedule c.args.h (switch_entry (on_hart i.all.schedule c.args.h) x.slots))
+          c.switch-switched.result.used c.switch-switched.result.used
           place refl noted;
     }
 
 pub invariant_of-self : goal.invariant_of-self
 invariant_of-self c =
     let few =
-    at_hart c.self.inside.image.now c.self.inside.state c.args.self.now c.self.view_is c.args.h c.index_mut-hart.result.now (λ x. x.slots < 65536) (here c).got
+    at_hart c.self.inside.image.now c.self.inside.state c.args.self.now c.self.view_is c.args.h
+    c.index_mut-hart.result.now (λ x. x.slots < 65536) (here c).got
     c.requires.slots in
     reached_entered (image_from c.self.inside.image.now) c.self.inside.state c.args.h c.index_mut-hart.result.now
-    (here c) (outside c) c.next_turn-turn.result (turn_here c) (option_copied c.as_ref.result) c.index.result.now (got_here c) (leaves_here c)
-    c.switch-switched.new.core c.switch-switched.new.l2 c.switch-switched.result.used c.switch-switched.result.now (switched c) (after c) (hart_after c) (kept c)
+    (here c) (outside c) c.next_turn-turn.result (turn_here c) (option_copied c.as_ref.result)
+    c.index.result.now (got_here c) (leaves_here c)
+    c.switch-switched.new.core c.switch-switched.new.l2 c.switch-switched.result.used
+    c.switch-switched.result.now (switched c) (after c) (hart_after c) (kept c)
     few c.switch-switched.ensures.later
 
 pub returns-clause-next : goal.returns-clause-next
 returns-clause-next c =
-    to_value c.self.inside.image.now c.self.inside.state c.args.self.now c.self.view_is (λ (i : Image) (u : State). NextStands i c.args.h u (after c))
+    to_value c.self.inside.image.now c.self.inside.state c.args.self.now c.self.view_is
+    (λ (i : Image) (u : State). NextStands i c.args.h u (after c))
     (entered (image_from c.self.inside.image.now) c.self.inside.state c.args.h c.index_mut-hart.result.now
-    (here c) (outside c) c.next_turn-turn.result (turn_here c) (option_copied c.as_ref.result) c.index.result.now (got_here c) (leaves_here c)
-    c.switch-switched.new.core c.switch-switched.new.l2 c.switch-switched.result.used c.switch-switched.result.now (switched c) (after c) (hart_after c) (kept c))
+    (here c) (outside c) c.next_turn-turn.result (turn_here c) (option_copied c.as_ref.result)
+    c.index.result.now (got_here c) (leaves_here c)
+    c.switch-switched.new.core c.switch-switched.new.l2 c.switch-switched.result.used
+    c.switch-switched.result.now (switched c) (after c) (hart_after c) (kept c))
 
 pub returns-clause-image : goal.returns-clause-image
 returns-clause-image c = ap (λ (u : Raw × State). u.0) c.self.view_is

@@ -23,14 +23,17 @@ pub index_mut-requires : goal.index_mut-requires
 index_mut-requires c =
     let t = c.self.inside.state in
     let x = c.index_mut-hart.result.now in
-    let k = called c.self.inside.image.now t c.args.self.now c.self.view_is c.args.h c.requires.hart c.self.invariant x c.index_mut-hart.ensures.value in
+    let k =
+    called c.self.inside.image.now t c.args.self.now c.self.view_is c.args.h c.requires.hart
+    c.self.invariant x c.index_mut-hart.ensures.value in
     let inside = at_hart c.self.inside.image.now t c.args.self.now c.self.view_is c.args.h x _ k.got c.requires.inside in
     let there = domain_there (image_from c.self.inside.image.now) t c.args.h x k c.args.slot inside in
     omega (arith, there, c.from.ensures)
 
 -- ---- what it is called with
 
-call : (c : goal.After-index_mut) → Called (image_from c.self.inside.image.now) c.self.inside.state c.args.h c.index_mut-hart.result.now
+call : (c : goal.After-index_mut)
+    → Called (image_from c.self.inside.image.now) c.self.inside.state c.args.h c.index_mut-hart.result.now
 call c =
     called c.self.inside.image.now c.self.inside.state c.args.self.now c.self.view_is c.args.h c.requires.hart c.self.invariant
     c.index_mut-hart.result.now c.index_mut-hart.ensures.value
@@ -40,7 +43,8 @@ inside c =
     at_hart c.self.inside.image.now c.self.inside.state c.args.self.now c.self.view_is c.args.h c.index_mut-hart.result.now
     (λ x. x.slot ≡ Some c.args.slot) (call c).got c.requires.inside
 
-got : (c : goal.After-index_mut) → slice_get c.self.inside.state.domains.items c.args.slot.domain ≡ Some c.index_mut.result.now
+got : (c : goal.After-index_mut)
+    → slice_get c.self.inside.state.domains.items c.args.slot.domain ≡ Some c.index_mut.result.now
 got c =
     slot_read (image_from c.self.inside.image.now) c.self.inside.state c.args.h c.index_mut-hart.result.now (call c) c.args.slot (inside c)
     c.from.result c.index_mut.result.now c.from.ensures c.index_mut.ensures.value
@@ -64,12 +68,14 @@ step-hart-requires-clause-end c =
 
 pub step-hart-requires-clause-few : goal.step-hart-requires-clause-few
 step-hart-requires-clause-few c =
-    counted_here (image_from c.self.inside.image.now) c.self.inside.state c.args.h c.index_mut-hart.result.now (call c) c.args.slot (inside c)
+    counted_here (image_from c.self.inside.image.now) c.self.inside.state c.args.h c.index_mut-hart.result.now
+    (call c) c.args.slot (inside c)
     c.index_mut.result.now (got c)
 
 -- ---- what it leaves
 
-called_then : (c : goal.Then-slot-hart) → Called (image_from c.self.inside.image.now) c.self.inside.state c.args.h c.index_mut-hart.result.now
+called_then : (c : goal.Then-slot-hart)
+    → Called (image_from c.self.inside.image.now) c.self.inside.state c.args.h c.index_mut-hart.result.now
 called_then c =
     called c.self.inside.image.now c.self.inside.state c.args.self.now c.self.view_is c.args.h c.requires.hart c.self.invariant
     c.index_mut-hart.result.now c.index_mut-hart.ensures.value
@@ -81,7 +87,8 @@ overflow_add-hart c =
     (λ x. x.slots < 65536) (called_then c).got c.requires.slots in
     omega (arith, few)
 
-here : (c : goal.Joined-slot-hart) → Called (image_from c.self.inside.image.now) c.self.inside.state c.args.h c.index_mut-hart.result.now
+here : (c : goal.Joined-slot-hart)
+    → Called (image_from c.self.inside.image.now) c.self.inside.state c.args.h c.index_mut-hart.result.now
 here c =
     called c.self.inside.image.now c.self.inside.state c.args.self.now c.self.view_is c.args.h c.requires.hart c.self.invariant
     c.index_mut-hart.result.now c.index_mut-hart.ensures.value
@@ -91,7 +98,8 @@ in_slot c =
     at_hart c.self.inside.image.now c.self.inside.state c.args.self.now c.self.view_is c.args.h c.index_mut-hart.result.now
     (λ x. x.slot ≡ Some c.args.slot) (here c).got c.requires.inside
 
-got_after : (c : goal.Joined-slot-hart) → slice_get c.self.inside.state.domains.items c.args.slot.domain ≡ Some c.index_mut.result.now
+got_after : (c : goal.Joined-slot-hart)
+    → slice_get c.self.inside.state.domains.items c.args.slot.domain ≡ Some c.index_mut.result.now
 got_after c =
     slot_read (image_from c.self.inside.image.now) c.self.inside.state c.args.h c.index_mut-hart.result.now (here c) c.args.slot (in_slot c)
     c.from.result c.index_mut.result.now c.from.ensures c.index_mut.ensures.value
@@ -108,7 +116,8 @@ left c = record {
 -- both ends
 either : (c : goal.Joined-slot-hart) (P : Image → State → Type 0)
     → ((t' : State) (x' : Hart) → GoesOn c.self.inside.state c.args.h c.index_mut-hart.result.now c.args.slot (left c) t' x'
-    ⊎ IsOver c.self.inside.state c.args.h c.index_mut-hart.result.now c.args.slot (left c) t' x' → P (image_from c.self.inside.image.now) t')
+    ⊎ IsOver c.self.inside.state c.args.h c.index_mut-hart.result.now c.args.slot (left c) t' x'
+    → P (image_from c.self.inside.image.now) t')
     → P (image_from c.if-slot-hart.self-inside.image.now) c.if-slot-hart.self-inside.state
 either c P so = elim c.if-slot-hart.branch [
   | then-slot-hart w ↦
@@ -130,7 +139,12 @@ either c P so = elim c.if-slot-hart.branch [
       })))
   | else-slot-hart w ↦
       subst (λ q. P (image_from q.image.now) q.state) (sym w.self-inside-is)
-      (so _ (record { core = c.step-hart.new.core; clock = c.step-hart.result; slots = c.index_mut-hart.result.now.slots; slot = c.index_mut-hart.result.now.slot })
+      (so _ (record {
+        core = c.step-hart.new.core;
+        clock = c.step-hart.result;
+        slots = c.index_mut-hart.result.now.slots;
+        slot = c.index_mut-hart.result.now.slot;
+      })
       (inl (record {
         soon = omega (arith, w.if-slot-hart.false);
         kept = record {
@@ -154,7 +168,8 @@ invariant_of-self c =
     let few =
     at_hart c.self.inside.image.now t c.args.self.now c.self.view_is c.args.h x (λ y. y.slots < 65536) (here c).got c.requires.slots in
     either c IsReached (λ t' x' which.
-    reached_on (image_from c.self.inside.image.now) t c.args.h x (here c) c.args.slot (in_slot c) c.index_mut.result.now (got_after c) (left c)
+    reached_on (image_from c.self.inside.image.now) t c.args.h x (here c) c.args.slot (in_slot c)
+    c.index_mut.result.now (got_after c) (left c)
     t' x' which c.step-hart.ensures.becomes few c.step-hart.ensures.few c.step-hart.ensures.later)
 
 pub returns-clause-image : goal.returns-clause-image
@@ -170,5 +185,6 @@ returns-clause-next c =
     let t = c.self.inside.state in
     either c (λ i t'. NextStands (image_of c.args.self.now) c.args.h c.args.self.now.1 t') (λ t' x' which.
     to_value c.self.inside.image.now t c.args.self.now c.self.view_is (λ (i : Image) (u : State). NextStands i c.args.h u t')
-    (gone_on (image_from c.self.inside.image.now) t c.args.h c.index_mut-hart.result.now (here c) c.args.slot (in_slot c) c.index_mut.result.now
+    (gone_on (image_from c.self.inside.image.now) t c.args.h c.index_mut-hart.result.now (here c) c.args.slot
+    (in_slot c) c.index_mut.result.now
     (got_after c) (left c) t' x' which c.step-hart.ensures.becomes))

@@ -21,14 +21,17 @@ pub index_mut-requires : goal.index_mut-requires
 index_mut-requires c =
     let t = c.self.inside.state in
     let x = c.index_mut-hart.result.now in
-    let k = called c.self.inside.image.now t c.args.self.now c.self.view_is c.args.h c.requires.hart c.self.invariant x c.index_mut-hart.ensures.value in
+    let k =
+    called c.self.inside.image.now t c.args.self.now c.self.view_is c.args.h c.requires.hart
+    c.self.invariant x c.index_mut-hart.ensures.value in
     let inside = at_hart c.self.inside.image.now t c.args.self.now c.self.view_is c.args.h x _ k.got c.requires.inside in
     let there = domain_there (image_from c.self.inside.image.now) t c.args.h x k c.args.slot inside in
     omega (arith, there, c.from.ensures)
 
 -- ---- what it is called with
 
-call : (c : goal.After-index_mut) → Called (image_from c.self.inside.image.now) c.self.inside.state c.args.h c.index_mut-hart.result.now
+call : (c : goal.After-index_mut)
+    → Called (image_from c.self.inside.image.now) c.self.inside.state c.args.h c.index_mut-hart.result.now
 call c =
     called c.self.inside.image.now c.self.inside.state c.args.self.now c.self.view_is c.args.h c.requires.hart c.self.invariant
     c.index_mut-hart.result.now c.index_mut-hart.ensures.value
@@ -38,7 +41,8 @@ inside c =
     at_hart c.self.inside.image.now c.self.inside.state c.args.self.now c.self.view_is c.args.h c.index_mut-hart.result.now
     (λ x. x.slot ≡ Some c.args.slot) (call c).got c.requires.inside
 
-got : (c : goal.After-index_mut) → slice_get c.self.inside.state.domains.items c.args.slot.domain ≡ Some c.index_mut.result.now
+got : (c : goal.After-index_mut)
+    → slice_get c.self.inside.state.domains.items c.args.slot.domain ≡ Some c.index_mut.result.now
 got c =
     slot_read (image_from c.self.inside.image.now) c.self.inside.state c.args.h c.index_mut-hart.result.now (call c) c.args.slot (inside c)
     c.from.result c.index_mut.result.now c.from.ensures c.index_mut.ensures.value
@@ -54,11 +58,15 @@ stretch-hart-requires-clause-runs c =
 
 -- in the hart's slot, whose end is in bounds
 until : (c : goal.After-index_mut) → c.index_mut-hart.result.now.clock < c.args.slot.end
-until c = before (image_from c.self.inside.image.now) c.self.inside.state c.args.h c.index_mut-hart.result.now (call c) c.args.slot (inside c)
+until c =
+    before (image_from c.self.inside.image.now) c.self.inside.state c.args.h c.index_mut-hart.result.now
+    (call c) c.args.slot (inside c)
 
 pub stretch-hart-requires-clause-before : goal.stretch-hart-requires-clause-before
 stretch-hart-requires-clause-before c =
-    let soon = end_fits (image_from c.self.inside.image.now) c.self.inside.state c.args.h c.index_mut-hart.result.now (call c) c.args.slot (inside c) in
+    let soon =
+    end_fits (image_from c.self.inside.image.now) c.self.inside.state c.args.h
+    c.index_mut-hart.result.now (call c) c.args.slot (inside c) in
     omega (arith, soon, until c)
 
 pub stretch-hart-requires-clause-end : goal.stretch-hart-requires-clause-end
@@ -67,12 +75,14 @@ stretch-hart-requires-clause-end c =
 
 pub stretch-hart-requires-clause-few : goal.stretch-hart-requires-clause-few
 stretch-hart-requires-clause-few c =
-    counted_here (image_from c.self.inside.image.now) c.self.inside.state c.args.h c.index_mut-hart.result.now (call c) c.args.slot (inside c)
+    counted_here (image_from c.self.inside.image.now) c.self.inside.state c.args.h c.index_mut-hart.result.now
+    (call c) c.args.slot (inside c)
     c.index_mut.result.now (got c)
 
 -- ---- what it leaves
 
-called_then : (c : goal.After-hart-1) → Called (image_from c.self.inside.image.now) c.self.inside.state c.args.h c.index_mut-hart.result.now
+called_then : (c : goal.After-hart-1)
+    → Called (image_from c.self.inside.image.now) c.self.inside.state c.args.h c.index_mut-hart.result.now
 called_then c =
     called c.self.inside.image.now c.self.inside.state c.args.self.now c.self.view_is c.args.h c.requires.hart c.self.invariant
     c.index_mut-hart.result.now c.index_mut-hart.ensures.value
@@ -84,7 +94,8 @@ overflow_add-hart c =
     (λ x. x.slots < 65536) (called_then c).got c.requires.slots in
     omega (arith, few)
 
-here : (c : goal.After-self-2-1) → Called (image_from c.self.inside.image.now) c.self.inside.state c.args.h c.index_mut-hart.result.now
+here : (c : goal.After-self-2-1)
+    → Called (image_from c.self.inside.image.now) c.self.inside.state c.args.h c.index_mut-hart.result.now
 here c =
     called c.self.inside.image.now c.self.inside.state c.args.self.now c.self.view_is c.args.h c.requires.hart c.self.invariant
     c.index_mut-hart.result.now c.index_mut-hart.ensures.value
@@ -94,7 +105,8 @@ in_slot c =
     at_hart c.self.inside.image.now c.self.inside.state c.args.self.now c.self.view_is c.args.h c.index_mut-hart.result.now
     (λ x. x.slot ≡ Some c.args.slot) (here c).got c.requires.inside
 
-got_after : (c : goal.After-self-2-1) → slice_get c.self.inside.state.domains.items c.args.slot.domain ≡ Some c.index_mut.result.now
+got_after : (c : goal.After-self-2-1)
+    → slice_get c.self.inside.state.domains.items c.args.slot.domain ≡ Some c.index_mut.result.now
 got_after c =
     slot_read (image_from c.self.inside.image.now) c.self.inside.state c.args.h c.index_mut-hart.result.now (here c) c.args.slot (in_slot c)
     c.from.result c.index_mut.result.now c.from.ensures c.index_mut.ensures.value
@@ -109,7 +121,12 @@ left c = record {
 }
 
 abbrev hart_after : (c : goal.After-self-2-1) → Hart
-hart_after c = record { core = c.stretch-hart.new.core; clock = c.stretch-hart.result; slots = c.index_mut-hart.result.now.slots + 1; slot = None }
+hart_after c = record {
+  core = c.stretch-hart.new.core;
+  clock = c.stretch-hart.result;
+  slots = c.index_mut-hart.result.now.slots + 1;
+  slot = None;
+}
 
 abbrev after : (c : goal.After-self-2-1) → State
 after c = record {
@@ -120,7 +137,9 @@ after c = record {
   used = c.self.inside.state.used;
 }
 
-ended : (c : goal.After-self-2-1) → IsOver c.self.inside.state c.args.h c.index_mut-hart.result.now c.args.slot (left c) (after c) (hart_after c)
+ended : (c : goal.After-self-2-1)
+    → IsOver c.self.inside.state c.args.h c.index_mut-hart.result.now c.args.slot (left c) (after c)
+    (hart_after c)
 ended c = record {
   past = c.stretch-hart.ensures.over;
   kept = record {
@@ -141,16 +160,20 @@ invariant_of-self c =
     let i = image_from c.self.inside.image.now in
     let t = c.self.inside.state in
     let x = c.index_mut-hart.result.now in
-    let few = at_hart c.self.inside.image.now t c.args.self.now c.self.view_is c.args.h x (λ y. y.slots < 65536) (here c).got c.requires.slots in
+    let few =
+    at_hart c.self.inside.image.now t c.args.self.now c.self.view_is c.args.h x (λ y. y.slots < 65536)
+    (here c).got c.requires.slots in
     let soon = before i t c.args.h x (here c) c.args.slot (in_slot c) in
-    reached_through i t c.args.h x (here c) c.args.slot (in_slot c) c.index_mut.result.now (got_after c) (left c) (after c) (hart_after c) (inr (ended c))
+    reached_through i t c.args.h x (here c) c.args.slot (in_slot c) c.index_mut.result.now (got_after c)
+    (left c) (after c) (hart_after c) (inr (ended c))
     c.stretch-hart.ensures.becomes few c.stretch-hart.ensures.few (omega (arith, soon, c.stretch-hart.ensures.over))
 
 pub returns-clause-ends : goal.returns-clause-ends
 returns-clause-ends c =
     let t = c.self.inside.state in
     to_value c.self.inside.image.now t c.args.self.now c.self.view_is (λ (i : Image) (u : State). SlotEnds i c.args.h u (after c))
-    (gone_through (image_from c.self.inside.image.now) t c.args.h c.index_mut-hart.result.now (here c) c.args.slot (in_slot c) c.index_mut.result.now
+    (gone_through (image_from c.self.inside.image.now) t c.args.h c.index_mut-hart.result.now (here c)
+    c.args.slot (in_slot c) c.index_mut.result.now
     (got_after c) (left c) (after c) (hart_after c) (inr (ended c)) c.stretch-hart.ensures.becomes)
 
 pub returns-clause-image : goal.returns-clause-image

@@ -34,13 +34,15 @@ turn-requires c =
     c.index-2.result.now c.index-2.ensures in
     record { few = c.self.invariant.in_bounds.few_slots c.args.h c.index-2.result.now k.got }
 
-here : (c : goal.After-turn) → Called (image_from c.self.inside.image.now) c.self.inside.state c.args.h c.index-2.result.now
+here : (c : goal.After-turn)
+    → Called (image_from c.self.inside.image.now) c.self.inside.state c.args.h c.index-2.result.now
 here c =
     called c.self.inside.image.now c.self.inside.state c.args.self.now c.self.view_is c.args.h c.requires.hart c.self.invariant
     c.index-2.result.now c.index-2.ensures
 
 -- the hart's own entries
-own : (c : goal.After-turn) → c.index.result.now ≡ entries_on (image_from c.self.inside.image.now).all.schedule c.args.h
+own : (c : goal.After-turn)
+    → c.index.result.now ≡ entries_on (image_from c.self.inside.image.now).all.schedule c.args.h
 own c =
     own_entries c.public.result.now (image_from c.self.inside.image.now).all c.public.ensures.value c.args.h c.index.result.now
     (here c).below c.index.ensures
@@ -49,14 +51,19 @@ pub returns-clause-turn : goal.returns-clause-turn
 returns-clause-turn c =
     for_hart c.self.inside.image.now c.self.inside.state c.args.self.now c.self.view_is c.args.h c.index-2.result.now
     (λ (i : Image) (x : Hart). IsTurn (on_hart i.all.schedule c.args.h) x.slots c.turn.result) (here c).got
-    (turn_on (image_from c.self.inside.image.now).all.schedule (entries_alone c.index.result.now) c.args.h c.index-2.result.now.slots c.turn.result
+    (turn_on (image_from c.self.inside.image.now).all.schedule (entries_alone c.index.result.now) c.args.h
+    c.index-2.result.now.slots c.turn.result
     (ap entries_alone (own c)) c.turn.ensures.entry c.turn.ensures.start c.turn.ensures.ended c.turn.ensures.last_end)
 
 pub returns-clause-place : goal.returns-clause-place
 returns-clause-place c =
     for_hart c.self.inside.image.now c.self.inside.state c.args.self.now c.self.view_is c.args.h c.index-2.result.now
-    (λ (i : Image) (x : Hart). c.turn.result.place ≡ place_on i.all.schedule c.args.h (switch_entry (on_hart i.all.schedule c.args.h) x.slots)) (here c).got
-    (c.turn.ensures.place ∙ ap (λ (placed : List (ℕ × Entry)). place_in placed (switch_entry (entries_alone placed) c.index-2.result.now.slots)) (own c))
+    (λ (i : Image) (x : Hart). c.turn.result.place
+    ≡ place_on i.all.schedule c.args.h (switch_entry (on_hart i.all.schedule c.args.h) x.slots))
+    (here c).got
+    (c.turn.ensures.place
+    ∙ ap (λ (placed : List (ℕ × Entry)).
+    place_in placed (switch_entry (entries_alone placed) c.index-2.result.now.slots)) (own c))
 
 -- ---- within the image's own
 
@@ -64,7 +71,10 @@ pub returns-clause-domain : goal.returns-clause-domain
 returns-clause-domain c =
     let i = image_from c.self.inside.image.now in
     let r = c.self.invariant.accepted in
-    let entry = c.turn.ensures.entry ∙ ap (λ (placed : List (ℕ × Entry)). entry_of_slot (entries_alone placed) c.index-2.result.now.slots) (own c) in
+    let entry =
+    c.turn.ensures.entry
+    ∙ ap (λ (placed : List (ℕ × Entry)).
+    entry_of_slot (entries_alone placed) c.index-2.result.now.slots) (own c) in
     subst (λ (v : Raw × State). c.turn.result.entry.domain < length (image_of v).owns) c.self.view_is
     (subst (λ (e : Entry). IsDomain i e.domain) (sym entry) ((separated_on i r c.args.h (here c).below).named c.index-2.result.now.slots))
 
@@ -72,7 +82,9 @@ pub returns-clause-ended : goal.returns-clause-ended
 returns-clause-ended c =
     let i = image_from c.self.inside.image.now in
     let ended = c.turn.ensures.ended
-    ∙ ap (λ (placed : List (ℕ × Entry)). entry_in (entries_alone placed) (switch_entry (entries_alone placed) c.index-2.result.now.slots)) (own c) in
+    ∙ ap (λ (placed : List (ℕ × Entry)).
+    entry_in (entries_alone placed) (switch_entry (entries_alone placed) c.index-2.result.now.slots))
+    (own c) in
     subst (λ (v : Raw × State). c.turn.result.ended.domain < length (image_of v).owns) c.self.view_is
     (ended_named i c.self.inside.state c.args.h c.index-2.result.now (here c) c.turn.result.ended ended)
 
@@ -80,6 +92,9 @@ pub returns-clause-within : goal.returns-clause-within
 returns-clause-within c =
     let i = image_from c.self.inside.image.now in
     let r = c.self.invariant.accepted in
-    let place = c.turn.ensures.place ∙ ap (λ (placed : List (ℕ × Entry)). place_in placed (switch_entry (entries_alone placed) c.index-2.result.now.slots)) (own c) in
+    let place =
+    c.turn.ensures.place
+    ∙ ap (λ (placed : List (ℕ × Entry)).
+    place_in placed (switch_entry (entries_alone placed) c.index-2.result.now.slots)) (own c) in
     subst (λ (v : Raw × State). c.turn.result.place < length (image_of v).all.schedule) c.self.view_is
     (subst (λ (n : ℕ). n < length i.all.schedule) (sym place) (placed_switch i r c.args.h (here c).below c.index-2.result.now.slots).there)

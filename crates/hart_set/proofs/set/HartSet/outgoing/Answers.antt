@@ -36,7 +36,8 @@ index-requires-2 c =
     let k = called c.self.inside.image.now t c.args.self.now c.self.view_is c.args.h c.requires.hart c.self.invariant x c.index.ensures in
     let ended =
     value_at c.self.inside.image.now t c.args.self.now c.self.view_is c.args.h x
-    (λ (i : Image) (y : Hart). c.args.ended ≡ entry_in (on_hart i.all.schedule c.args.h) (switch_entry (on_hart i.all.schedule c.args.h) y.slots))
+    (λ (i : Image) (y : Hart). c.args.ended
+    ≡ entry_in (on_hart i.all.schedule c.args.h) (switch_entry (on_hart i.all.schedule c.args.h) y.slots))
     k.got c.requires.ended in
     let there = ended_there (image_from c.self.inside.image.now) t c.args.h x k c.args.ended ended in
     omega (arith, there, c.from.ensures)
@@ -49,12 +50,16 @@ returns c =
     let k = called c.self.inside.image.now t c.args.self.now c.self.view_is c.args.h c.requires.hart c.self.invariant x c.index.ensures in
     let ended =
     value_at c.self.inside.image.now t c.args.self.now c.self.view_is c.args.h x
-    (λ (j : Image) (y : Hart). c.args.ended ≡ entry_in (on_hart j.all.schedule c.args.h) (switch_entry (on_hart j.all.schedule c.args.h) y.slots))
+    (λ (j : Image) (y : Hart). c.args.ended
+    ≡ entry_in (on_hart j.all.schedule c.args.h) (switch_entry (on_hart j.all.schedule c.args.h) y.slots))
     k.got c.requires.ended in
-    let got = domain_read i t k.reached c.args.ended.domain (ended_named i t c.args.h x k c.args.ended ended) c.from.result c.index-2.result.now c.from.ensures c.index-2.ensures in
+    let got =
+    domain_read i t k.reached c.args.ended.domain (ended_named i t c.args.h x k c.args.ended ended)
+    c.from.result c.index-2.result.now c.from.ensures c.index-2.ensures in
     record {
       clone =
           for_hart c.self.inside.image.now t c.args.self.now c.self.view_is c.args.h x
-          (λ (j : Image) (y : Hart). Some (layout_model c.index-2.result.now.layout) ≡ clone_of (image_on j c.args.h) (outgoing (on_hart j.all.schedule c.args.h) y.slots))
+          (λ (j : Image) (y : Hart). Some (layout_model c.index-2.result.now.layout)
+          ≡ clone_of (image_on j c.args.h) (outgoing (on_hart j.all.schedule c.args.h) y.slots))
           k.got (clone_before i t c.args.h x k c.args.ended ended c.index-2.result.now got c.if-index-eq0.false);
     }

@@ -55,7 +55,8 @@ go_through-requires c =
     record { hart = goes.hart; inside = goes.slot; slots = goes.slots }
 
 -- the hart, as it was found
-found : (c : goal.After-go_through) → slice_get c.args.self.now.1.harts.items c.args.h ≡ Some c.index.result.now
+found : (c : goal.After-go_through)
+    → slice_get c.args.self.now.1.harts.items c.args.h ≡ Some c.index.result.now
 found c =
     let t = c.self.inside.state in
     let x = c.index.result.now in
@@ -75,7 +76,9 @@ returns-clause-ends c =
       | in-Some w ↦ subst Ends w.self-is ends
       | in-None w ↦
           let begun = w.begin-slot.new.self in
-          let rest = subst (λ (image : Raw). SlotEnds (image_from image) h begun.1 last) w.begin-slot.ensures.image (subst Ends w.self-is ends) in
+          let rest =
+          subst (λ (image : Raw). SlotEnds (image_from image) h begun.1 last)
+          w.begin-slot.ensures.image (subst Ends w.self-is ends) in
           let begins = subst (λ (n : ℕ). NextStands (image_of v) n v.1 begun.1) c.from-at.ensures w.begin-slot.ensures.next in
           through_begun (image_of v) v.1 begun.1 last h c.index.result.now c.requires.hart (found c) w.in-None.is begins rest
     ]

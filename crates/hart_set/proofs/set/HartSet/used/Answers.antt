@@ -24,7 +24,9 @@ got : (c : goal.After-result-1)
 got c =
     let t = c.self.inside.state in
     let e = c.args.entry in
-    let below = of_image c.self.inside.image.now t c.args.self.now c.self.view_is (λ (j : Image). e < length j.all.schedule) c.requires.entry in
+    let below =
+    of_image c.self.inside.image.now t c.args.self.now c.self.view_is
+    (λ (j : Image). e < length j.all.schedule) c.requires.entry in
     let within : e < length t.used.items = omega (arith, below, c.self.invariant.stands.all_entries) in
     slice_get_read t.used.items (length t.used.items) e c.index.result.now refl within c.index.ensures
 

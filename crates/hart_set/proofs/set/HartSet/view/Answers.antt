@@ -17,8 +17,11 @@ use Rattle.hart_set.proofs.set.HartSet.view.Goals as goal
 
 got : (c : goal.After-index) → slice_get c.self.inside.state.domains.items c.args.d ≡ Some c.index.result.now
 got c =
-    let named = of_image c.self.inside.image.now c.self.inside.state c.args.self.now c.self.view_is (λ (i : Image). IsDomain i c.args.d) c.requires.domain in
-    domain_read (image_from c.self.inside.image.now) c.self.inside.state c.self.invariant c.args.d named c.from.result c.index.result.now c.from.ensures
+    let named =
+    of_image c.self.inside.image.now c.self.inside.state c.args.self.now c.self.view_is
+    (λ (i : Image). IsDomain i c.args.d) c.requires.domain in
+    domain_read (image_from c.self.inside.image.now) c.self.inside.state c.self.invariant c.args.d named
+    c.from.result c.index.result.now c.from.ensures
     c.index.ensures
 
 pub new-requires-clause-in_memory : goal.new-requires-clause-in_memory
@@ -40,10 +43,14 @@ new-requires-clause-replies c =
     let is = c.self.invariant.stands.each_domain c.args.d c.index.result.now (got c) in
     rw is.dom.replies (kept_of (dom_of (harts i c.self.invariant.order).world c.args.d).replies)
 
-got_after : (c : goal.After-new) → slice_get c.self.inside.state.domains.items c.args.d ≡ Some c.index.result.now
+got_after : (c : goal.After-new)
+    → slice_get c.self.inside.state.domains.items c.args.d ≡ Some c.index.result.now
 got_after c =
-    let named = of_image c.self.inside.image.now c.self.inside.state c.args.self.now c.self.view_is (λ (i : Image). IsDomain i c.args.d) c.requires.domain in
-    domain_read (image_from c.self.inside.image.now) c.self.inside.state c.self.invariant c.args.d named c.from.result c.index.result.now c.from.ensures
+    let named =
+    of_image c.self.inside.image.now c.self.inside.state c.args.self.now c.self.view_is
+    (λ (i : Image). IsDomain i c.args.d) c.requires.domain in
+    domain_read (image_from c.self.inside.image.now) c.self.inside.state c.self.invariant c.args.d named
+    c.from.result c.index.result.now c.from.ensures
     c.index.ensures
 
 pub returns-clause-view : goal.returns-clause-view
@@ -57,15 +64,21 @@ returns-clause-view c =
 
 pub returns-clause-alone : goal.returns-clause-alone
 returns-clause-alone c =
-    let named = of_image c.self.inside.image.now c.self.inside.state c.args.self.now c.self.view_is (λ (i : Image). IsDomain i c.args.d) c.requires.domain in
+    let named =
+    of_image c.self.inside.image.now c.self.inside.state c.args.self.now c.self.view_is
+    (λ (i : Image). IsDomain i c.args.d) c.requires.domain in
     subst
     (λ (v : Raw × State). AtHart v.1 (hart_of_domain (image_of v) c.args.d)
-    (λ x. x.clock < start_on (image_of v) (hart_of_domain (image_of v) c.args.d) x.slots → view_model c.new.result ≡ view_alone_on (image_of v) c.args.d x.slots))
+    (λ x. x.clock < start_on (image_of v) (hart_of_domain (image_of v) c.args.d) x.slots
+    → view_model c.new.result ≡ view_alone_on (image_of v) c.args.d x.slots))
     c.self.view_is
     (λ x at early. c.new.ensures.view
-    ∙ seen_alone (image_from c.self.inside.image.now) c.self.inside.state c.self.invariant c.args.d c.index.result.now (got_after c) named x at early)
+    ∙ seen_alone (image_from c.self.inside.image.now) c.self.inside.state c.self.invariant c.args.d
+    c.index.result.now (got_after c) named x at early)
 
 pub index-requires : goal.index-requires
 index-requires c =
-    let named = of_image c.self.inside.image.now c.self.inside.state c.args.self.now c.self.view_is (λ (i : Image). IsDomain i c.args.d) c.requires.domain in
+    let named =
+    of_image c.self.inside.image.now c.self.inside.state c.args.self.now c.self.view_is
+    (λ (i : Image). IsDomain i c.args.d) c.requires.domain in
     omega (arith, named, c.from.ensures, c.self.invariant.stands.all_domains)

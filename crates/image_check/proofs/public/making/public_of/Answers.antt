@@ -31,5 +31,6 @@ invariant_of-result c = record { each_hart = c.in_ok-harts.ensures.value ∙ ap 
 pub returns : goal.returns
 returns c =
     let i = raw_model c.args.raw.now in
-    let many : c.len-domains.result ≡ length i.domains = omega (arith, c.len-domains.ensures, length-map c.args.raw.now.domains.items domain_model) in
+    let many : c.len-domains.result ≡ length i.domains =
+    omega (arith, c.len-domains.ensures, length-map c.args.raw.now.domains.items domain_model) in
     record { value = public_made i _ _ _ c.requires.hardware (c.in_ok-schedule.ensures.value ∙ c.requires.entries) many }

@@ -20,5 +20,7 @@ pub returns-clause-sound : goal.returns-clause-sound
 unfolding public_of
 returns-clause-sound c =
     let i = raw_model c.self.inside.raw in
-    let same : shape_model c.shape_for_every_call.result ≡ shape_for_every_call (hardware_of i) = c.shape_for_every_call.ensures.value ∙ ap (λ (p : Public). shape_for_every_call p.hardware) c.self.invariant.public_is in
+    let same : shape_model c.shape_for_every_call.result ≡ shape_for_every_call (hardware_of i) =
+    c.shape_for_every_call.ensures.value
+    ∙ ap (λ (p : Public). shape_for_every_call p.hardware) c.self.invariant.public_is in
     subst IsShape (sym same) (shape_law i every_call c.self.invariant.accepted)

@@ -6,4 +6,6 @@ pub returns-clause-touch : goal.returns-clause-touch
 returns-clause-touch g c = rw (← c.number.ensures.same) (rw (← c.self.view_is) c.touch.ensures.touch)
 
 pub returns-clause-victim : goal.returns-clause-victim
-returns-clause-victim g c = victim_fits IsLine c.touch.result c.number.result c.self.inside.cache c.touch.new.self c.touch.ensures.touch.moves c.self.invariant
+returns-clause-victim g c =
+    victim_fits IsLine c.touch.result c.number.result c.self.inside.cache c.touch.new.self
+    c.touch.ensures.touch.moves c.self.invariant

@@ -10,7 +10,8 @@ returns-clause-touch g c =
 
 pub returns-clause-clean : goal.returns-clause-clean
 returns-clause-clean g c =
-    marks_clean c.touch.result c.number.result (mark_in c.self.inside.cache) (mark_in c.touch.new.self) c.touch.ensures.touch.marks c.self.invariant
+    marks_clean c.touch.result c.number.result (mark_in c.self.inside.cache) (mark_in c.touch.new.self)
+    c.touch.ensures.touch.marks c.self.invariant
 
 pub invariant_of-self : goal.invariant_of-self
 invariant_of-self g c = returns-clause-clean g c

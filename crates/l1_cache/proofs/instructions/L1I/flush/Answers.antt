@@ -11,5 +11,7 @@ returns-clause-flush g c =
     let old = c.self.inside.cache in
     let new = c.flush.new.self in
     let flush = c.flush.ensures.flush in
-    let none : c.flush.result ≡ 0 = flush.marked ∙ dirty-clean g.P.Policy.takes g.P.Policy.stands_for old flush.was_sound c.self.invariant in
+    let none : c.flush.result ≡ 0 =
+    flush.marked
+    ∙ dirty-clean g.P.Policy.takes g.P.Policy.stands_for old flush.was_sound c.self.invariant in
     rw (← c.self.view_is) (subst (λ (n : ℕ). IsFlush g.P.Policy.takes g.P.Policy.rule g.P.Policy.stands_for n old new) none flush)

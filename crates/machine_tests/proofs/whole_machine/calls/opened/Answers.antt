@@ -17,7 +17,10 @@ returns-clause-valid c =
     let some : 0 < length items = omega (arith, r.some_domain, c.in_ok-domains.ensures.opened.all) in
     let x = c.remove.result in
     let got = slice_get_read items (length items) 0 x refl some c.remove.ensures.value in
-    let frames = c.load_pages.ensures.size ∙ c.in_ok-domains.ensures.size ∙ ap (λ (x : Contents). x.frames) c.in_ok-memory.ensures.zero ∙ ap (λ (q : spec.Public). q.hardware.frames) c.public.ensures.value in
+    let frames =
+    c.load_pages.ensures.size ∙ c.in_ok-domains.ensures.size
+    ∙ ap (λ (x : Contents). x.frames) c.in_ok-memory.ensures.zero
+    ∙ ap (λ (q : spec.Public). q.hardware.frames) c.public.ensures.value in
     record {
       estate = estate i.all.hardware (own_of i 0);
       mem = (opening i).storage.mem;

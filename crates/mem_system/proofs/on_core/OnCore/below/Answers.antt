@@ -46,12 +46,14 @@ returns-then-is_pinned-clause-same g c =
           ap (λ (k : L2Contents _). hierarchy_of g.P.Policy.rule (system core k)) w.l2-is
       | then-is_pinned-via-else-is_pinned+then-find w ↦
           ap (λ (k : L2Contents _). hierarchy_of g.P.Policy.rule (system core k)) w.l2-is
-          ∙ same_hierarchy g.P.Policy.rule core c.args.l2.now w.find.new.self w.find.ensures.line_size w.find.ensures.back w.find.ensures.shape
+          ∙ same_hierarchy g.P.Policy.rule core c.args.l2.now w.find.new.self w.find.ensures.line_size
+          w.find.ensures.back w.find.ensures.shape
     ]
 
 pub below_absent-requires-clause-absent : goal.below_absent-requires-clause-absent
 below_absent-requires-clause-absent g c =
-    still_absent c.args.l2.now c.find.new.self c.args.line c.find.result c.find.ensures.here c.if-find.false (c.find.ensures.missed c.if-find.false)
+    still_absent c.args.l2.now c.find.new.self c.args.line c.find.result c.find.ensures.here c.if-find.false
+    (c.find.ensures.missed c.if-find.false)
 
 pub below_absent-requires-clause-counts : goal.below_absent-requires-clause-counts
 below_absent-requires-clause-counts g c =

@@ -18,7 +18,8 @@ returns-clause-makes g c =
       tlb = s.tlb;
       guesses = s.predictor;
     } in
-    emptied g.P.Policy.takes g.P.Policy.rule g.P.Policy.stands_for old c.flush-dirty.new.self c.flush.new.self c.flush-2.new.self c.reset.new.self
+    emptied g.P.Policy.takes g.P.Policy.rule g.P.Policy.stands_for old c.flush-dirty.new.self c.flush.new.self
+    c.flush-2.new.self c.reset.new.self
     c.args.l2.now c.write_all_back.new.l2 c.flush-dirty.result c.flush.result c.args.self.now c.self.view_is
     c.write_all_back.ensures.same c.write_all_back.ensures.steps c.flush-dirty.ensures.flush c.flush.ensures.flush
     c.flush-2.ensures.shape c.flush-2.ensures.fresh c.reset.ensures.fresh

@@ -17,7 +17,10 @@ returns g c =
     let guides = c.new_guides-guides.ensures in
     let level = c.new_first_level.ensures in
     let guesses = subst (λ o. IfOk o (λ m. m.0 ≡ fresh_guesses c.args.predictor)) made.first guides.predictor in
-    let tlb = subst (λ o. IfOk o (λ m. IsNew g.P.Policy.takes g.P.Policy.stands_for t.policy t.sets t.ways m.1.pages)) made.first guides.tlb in
+    let tlb =
+    subst (λ o.
+    IfOk o (λ m. IsNew g.P.Policy.takes g.P.Policy.stands_for t.policy t.sets t.ways m.1.pages))
+    made.first guides.tlb in
     let none = subst (λ o. IfOk o (λ m. (page : ℕ) → leaf_of m.1 page ≡ None)) made.first guides.none in
     let l1i = subst (λ o. IfOk o (λ m. IsNew g.P.Policy.takes g.P.Policy.stands_for i.policy i.sets i.ways m.0)) made.second level.l1i in
     let l1d = subst (λ o. IfOk o (λ m. IsNew g.P.Policy.takes g.P.Policy.stands_for d.policy d.sets d.ways m.1)) made.second level.l1d in

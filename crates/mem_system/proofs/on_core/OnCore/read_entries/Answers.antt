@@ -5,7 +5,8 @@ use Rattle.mem_system.proofs.on_core.OnCore.read_entries.Goals as goal
 
 pub returns-then-walked-eq0-clause-steps : goal.returns-then-walked-eq0-clause-steps
 returns-then-walked-eq0-clause-steps g c =
-    reads_none g.P.Policy.rule g.P.Policy.stands_for c.args.self.now c.args.l2.now c.args.walked.now.reads c.args.walked.now.count c.if-walked-eq0.true
+    reads_none g.P.Policy.rule g.P.Policy.stands_for c.args.self.now c.args.l2.now c.args.walked.now.reads
+    c.args.walked.now.count c.if-walked-eq0.true
 
 pub returns-then-walked-eq1-clause-steps : goal.returns-then-walked-eq1-clause-steps
 returns-then-walked-eq1-clause-steps g c =

@@ -11,7 +11,8 @@ returns-clause-zero c = λ blank.
     let slots : List ℕ = c.self.inside.slots.items in
     let within : c.number.result < length slots = search rules in
     let is_zero : c.index.result.now ≡ 0 = search (rules, blank) in
-    let zero : slice_index slots c.number.result ≡ 0 = sym (read_is slots c.number.result c.index.result.now within c.index.ensures) ∙ is_zero in
+    let zero : slice_index slots c.number.result ≡ 0 =
+    sym (read_is slots c.number.result c.index.result.now within c.index.ensures) ∙ is_zero in
     subst (λ (frame : ℕ). frame_words c.args.self.now frame ≡ zeros 1) c.number.ensures.same
     (subst (λ (memory : Contents). frame_words memory c.number.result ≡ zeros 1) c.self.view_is
     (zero_slot_words slots c.self.inside.unused.items c.self.inside.words.items c.self.invariant.0 c.number.result within zero))

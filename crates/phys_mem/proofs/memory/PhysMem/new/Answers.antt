@@ -19,9 +19,11 @@ invariant_of-result c =
     let words : c.resize.new.self.items ≡ replicate 1024 0 =
     first_slot c.in_ok-words.words.items c.resize.new.self.items (vec_len c.in_ok-words.words) (search rules) (search rules) (search rules)
     in
-    let count : length c.in_ok-slots.slots.items ≡ c.args.frames = ap (λ (xs : List ℕ). length xs) slots ∙ length-replicate {A = ℕ} c.args.frames 0 in
+    let count : length c.in_ok-slots.slots.items ≡ c.args.frames =
+    ap (λ (xs : List ℕ). length xs) slots ∙ length-replicate {A = ℕ} c.args.frames 0 in
     let size : length c.resize.new.self.items ≡ 1024 = ap (λ (xs : List ℕ). length xs) words ∙ length-replicate {A = ℕ} 1024 0 in
-    let blank : (place : ℕ) → slice_index c.resize.new.self.items place ≡ 0 = λ place. ap (λ (xs : List ℕ). slice_index xs place) words ∙ index-replicate 1024 place in (
+    let blank : (place : ℕ) → slice_index c.resize.new.self.items place ≡ 0 =
+    λ place. ap (λ (xs : List ℕ). slice_index xs place) words ∙ index-replicate 1024 place in (
       subst (λ (xs : List ℕ). AreSlots xs c.in_ok-unused.unused.items c.resize.new.self.items) (sym slots)
           (subst (λ (xs : List ℕ). AreSlots (replicate c.args.frames 0) xs c.resize.new.self.items) (sym unused)
           (new_slots c.args.frames c.resize.new.self.items size blank c.requires.few)),
@@ -38,7 +40,8 @@ returns-clause-zero c =
     first_slot c.in_ok-words.words.items c.resize.new.self.items (vec_len c.in_ok-words.words) (search rules) (search rules) (search rules)
     in
     let size : length c.resize.new.self.items ≡ 1024 = ap (λ (xs : List ℕ). length xs) words ∙ length-replicate {A = ℕ} 1024 0 in
-    let blank : (place : ℕ) → slice_index c.resize.new.self.items place ≡ 0 = λ place. ap (λ (xs : List ℕ). slice_index xs place) words ∙ index-replicate 1024 place in
+    let blank : (place : ℕ) → slice_index c.resize.new.self.items place ≡ 0 =
+    λ place. ap (λ (xs : List ℕ). slice_index xs place) words ∙ index-replicate 1024 place in
     ap (λ (xs : List ℕ). held xs c.resize.new.self.items) slots
     ∙ held-new c.args.frames c.resize.new.self.items size blank
 

@@ -9,7 +9,8 @@ use Rattle.phys_mem.proofs.SlotLemmas.{frames_size, read_is, slot_made, unmarked
 use Rattle.phys_mem.proofs.GivingLemmas.{same_contents}
 use Rattle.phys_mem.proofs.memory.PhysMem.put.Goals as goal
 
-unmarked : (marked : List Bool) (frame : ℕ) → slice_index_or (slice_set marked frame false) frame false ≡ false
+unmarked : (marked : List Bool) (frame : ℕ)
+    → slice_index_or (slice_set marked frame false) frame false ≡ false
 unmarked marked frame = elim (cases_lt frame (length marked)) [
   | inl within ↦ get_or-set_same marked frame false false within
   | inr past ↦ get_or_past (slice_set marked frame false) frame false (omega (arith, past, length-set marked frame false))
@@ -36,11 +37,13 @@ module _ (slots unused words : List ℕ) (now : Contents) (at slot : ℕ) (w : W
       subst (λ (s : ℕ). AreSlots slots unused (slice_set words (1024 * s + at % 4096 / 4) word)) (sym w.slot_is)
       (written_slots slots unused words w.are (at / 4096) (at % 4096 / 4) word w.within (omega arith) own)
 
-  put_word : (word : ℕ) → held slots (slice_set words (1024 * slot + at % 4096 / 4) word) ≡ with_word now at word
+  put_word : (word : ℕ)
+      → held slots (slice_set words (1024 * slot + at % 4096 / 4) word) ≡ with_word now at word
   put_word word =
       let place : ℕ = at % 4096 / 4 in
       let index : 1024 * (at / 4096) + at % 4096 / 4 ≡ at / 4 = omega arith in
-      same_contents (length slots) now.frames (words_in slots (slice_set words (1024 * slot + place) word)) (slice_set now.words (at / 4) word)
+      same_contents (length slots) now.frames (words_in slots (slice_set words (1024 * slot + place) word))
+      (slice_set now.words (at / 4) word)
       (map is_zero_slot slots) (slice_set now.marked (at / 4096) false)
       (ap (λ (memory : Contents). memory.frames) w.is)
       (ap (λ (s : ℕ). words_in slots (slice_set words (1024 * s + place) word)) w.slot_is
@@ -49,7 +52,8 @@ module _ (slots unused words : List ℕ) (now : Contents) (at slot : ℕ) (w : W
       ∙ ap (λ (memory : Contents). slice_set memory.words (at / 4) word) w.is)
       (ap (λ (memory : Contents). memory.marked) w.is)
 
-writing : (slots unused words : List ℕ) (now after : Contents) (at slot : ℕ) → AreSlots slots unused words → held slots words ≡ after
+writing : (slots unused words : List ℕ) (now after : Contents) (at slot : ℕ) → AreSlots slots unused words
+    → held slots words ≡ after
     → after ≡ record now { marked = slice_set now.marked (at / 4096) false } → at / 4096 < length slots
     → slot ≡ slice_index_or slots (at / 4096) slot → Writing slots unused words now at slot
 writing slots unused words now after at slot are is becomes within read = record {

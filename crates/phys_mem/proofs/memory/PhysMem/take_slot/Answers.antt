@@ -17,7 +17,8 @@ with_slot-is words grown whole is =
     is
     ∙ ap (λ (first : List ℕ). first ++ replicate (1024 * (length words / 1024 + 1) - length words) 0)
     (take_all (1024 * (length words / 1024 + 1)) words (omega (arith, whole)))
-    ∙ (let more : 1024 * (length words / 1024 + 1) - length words ≡ 1024 = omega (arith, whole) in ap (λ (n : ℕ). words ++ replicate n 0) more)
+    ∙ (let more : 1024 * (length words / 1024 + 1) - length words ≡ 1024 = omega (arith, whole) in
+    ap (λ (n : ℕ). words ++ replicate n 0) more)
 
 pub zero_words-requires : goal.zero_words-requires
 zero_words-requires c =
@@ -28,7 +29,13 @@ zero_words-requires c =
     subst (λ (unused : List ℕ). AreSlots slots unused words) popped c.self.invariant.0
     in
     record {
-      within = omega (arith, unused_made slots c.pop.new.self.items words c.in-Some.slot are, ap (λ (xs : List ℕ). length xs) c.deref_mut.ensures.value);
+      within =
+          omega (
+            arith,
+            unused_made slots c.pop.new.self.items words c.in-Some.slot are,
+            ap
+                (λ (xs : List ℕ). length xs) c.deref_mut.ensures.value,
+          );
     }
 
 pub invariant_of-self : goal.invariant_of-self
@@ -38,9 +45,11 @@ invariant_of-self c =
     let rest : List ℕ = c.pop.new.self.items in
     let slot : ℕ = c.in-Some.slot in
     let popped : c.self.inside.unused.items ≡ rest ++ slot ∷ [] = search rules in
-    let are : AreSlots slots (rest ++ slot ∷ []) words = subst (λ (unused : List ℕ). AreSlots slots unused words) popped c.self.invariant.0 in
+    let are : AreSlots slots (rest ++ slot ∷ []) words =
+    subst (λ (unused : List ℕ). AreSlots slots unused words) popped c.self.invariant.0 in
     let within : c.args.frame < length slots = search rules in
-    let zero : slice_index slots c.args.frame ≡ 0 = marked_slot slots words c.args.self.now c.args.frame c.self.view_is within c.requires.marked in
+    let zero : slice_index slots c.args.frame ≡ 0 =
+    marked_slot slots words c.args.self.now c.args.frame c.self.view_is within c.requires.marked in
     let cleared : c.zero_words.new.words ≡ zeroed_words words slot = search rules in
     let same : length c.zero_words.new.words ≡ length words =
     ap (λ (xs : List ℕ). length xs) cleared ∙ length-zeroed_words words slot (unused_made slots rest words slot are)
@@ -62,7 +71,8 @@ unwrap-requires c =
     let none : c.self.inside.unused.items ≡ [] = search rules in
     let are : AreSlots slots [] words = subst (λ (unused : List ℕ). AreSlots slots unused words) none c.self.invariant.0 in
     let within : c.args.frame < length slots = search rules in
-    let zero : slice_index slots c.args.frame ≡ 0 = marked_slot slots words c.args.self.now c.args.frame c.self.view_is within c.requires.marked in
+    let zero : slice_index slots c.args.frame ≡ 0 =
+    marked_slot slots words c.args.self.now c.args.frame c.self.view_is within c.requires.marked in
     let count : c.len-slot.result ≡ length words = search rules in
     c.resize.ensures.succeeds (omega (arith, count, new_enough slots words are c.args.frame within zero, c.self.invariant.1.words))
 
@@ -74,7 +84,8 @@ invariant_of-self-in-None c =
     let rest : c.pop.new.self.items ≡ [] = search rules in
     let are : AreSlots slots [] words = subst (λ (unused : List ℕ). AreSlots slots unused words) none c.self.invariant.0 in
     let within : c.args.frame < length slots = search rules in
-    let zero : slice_index slots c.args.frame ≡ 0 = marked_slot slots words c.args.self.now c.args.frame c.self.view_is within c.requires.marked in
+    let zero : slice_index slots c.args.frame ≡ 0 =
+    marked_slot slots words c.args.self.now c.args.frame c.self.view_is within c.requires.marked in
     let count : c.len-slot.result ≡ length words = search rules in
     let longer : c.resize.new.self.items ≡ with_slot words =
     with_slot-is words c.resize.new.self.items (made_whole slots [] words are) (search rules)
@@ -99,9 +110,11 @@ returns-in-Some c =
     let rest : List ℕ = c.pop.new.self.items in
     let slot : ℕ = c.in-Some.slot in
     let popped : c.self.inside.unused.items ≡ rest ++ slot ∷ [] = search rules in
-    let are : AreSlots slots (rest ++ slot ∷ []) words = subst (λ (unused : List ℕ). AreSlots slots unused words) popped c.self.invariant.0 in
+    let are : AreSlots slots (rest ++ slot ∷ []) words =
+    subst (λ (unused : List ℕ). AreSlots slots unused words) popped c.self.invariant.0 in
     let within : c.args.frame < length slots = search rules in
-    let zero : slice_index slots c.args.frame ≡ 0 = marked_slot slots words c.args.self.now c.args.frame c.self.view_is within c.requires.marked in
+    let zero : slice_index slots c.args.frame ≡ 0 =
+    marked_slot slots words c.args.self.now c.args.frame c.self.view_is within c.requires.marked in
     let cleared : c.zero_words.new.words ≡ zeroed_words words slot = search rules in
     let same : length c.zero_words.new.words ≡ length words =
     ap (λ (xs : List ℕ). length xs) cleared ∙ length-zeroed_words words slot (unused_made slots rest words slot are)
@@ -121,7 +134,8 @@ returns-in-None c =
     let none : c.self.inside.unused.items ≡ [] = search rules in
     let are : AreSlots slots [] words = subst (λ (unused : List ℕ). AreSlots slots unused words) none c.self.invariant.0 in
     let within : c.args.frame < length slots = search rules in
-    let zero : slice_index slots c.args.frame ≡ 0 = marked_slot slots words c.args.self.now c.args.frame c.self.view_is within c.requires.marked in
+    let zero : slice_index slots c.args.frame ≡ 0 =
+    marked_slot slots words c.args.self.now c.args.frame c.self.view_is within c.requires.marked in
     let count : c.len-slot.result ≡ length words = search rules in
     let longer : c.resize.new.self.items ≡ with_slot words =
     with_slot-is words c.resize.new.self.items (made_whole slots [] words are) (search rules)

@@ -8,12 +8,14 @@ use Rattle.phys_mem.proofs.HoldsLemmas.{holds-word_at}
 use Rattle.phys_mem.proofs.memory.PhysMem.word.Goals as goal
 
 -- it is kept
-within_slot : (slots unused words : List ℕ) (at slot : ℕ) → AreSlots slots unused words → at / 4096 < length slots
+within_slot : (slots unused words : List ℕ) (at slot : ℕ) → AreSlots slots unused words
+    → at / 4096 < length slots
     → slot ≡ slice_index slots (at / 4096) → 1024 * slot + at % 4096 / 4 < length words
 within_slot slots unused words at slot are within is = omega (arith, is, slot_made slots unused words are (at / 4096) within)
 
 -- it is the memory's
-word_of_slot : (slots words : List ℕ) (memory : Contents) (at slot : ℕ) → held slots words ≡ memory → at / 4096 < length slots
+word_of_slot : (slots words : List ℕ) (memory : Contents) (at slot : ℕ) → held slots words ≡ memory
+    → at / 4096 < length slots
     → slot ≡ slice_index slots (at / 4096) → slice_index words (1024 * slot + at % 4096 / 4) ≡ word_at memory at
 word_of_slot slots words memory at slot is within is_slot =
     let frame : at / 4 / 1024 ≡ at / 4096 = omega arith in
@@ -27,8 +29,13 @@ pub index-requires-2 : goal.index-requires-2
 index-requires-2 c =
     let slots : List ℕ = c.self.inside.slots.items in
     let within : c.args.at / 4096 < length slots = search rules in
-    let slot : c.index.result.now ≡ slice_index slots (c.args.at / 4096) = read_is slots (c.args.at / 4096) c.index.result.now within c.index.ensures in
-    search (rules, within_slot slots c.self.inside.unused.items c.self.inside.words.items c.args.at c.index.result.now c.self.invariant.0 within slot)
+    let slot : c.index.result.now ≡ slice_index slots (c.args.at / 4096) =
+    read_is slots (c.args.at / 4096) c.index.result.now within c.index.ensures in
+    search (
+      rules,
+      within_slot slots c.self.inside.unused.items c.self.inside.words.items c.args.at
+          c.index.result.now c.self.invariant.0 within slot,
+    )
 
 pub returns-clause-value : goal.returns-clause-value
 returns-clause-value c =
@@ -36,8 +43,11 @@ returns-clause-value c =
     let words : List ℕ = c.self.inside.words.items in
     let place : ℕ = 1024 * c.index.result.now + c.args.at % 4096 / 4 in
     let within : c.args.at / 4096 < length slots = search rules in
-    let slot : c.index.result.now ≡ slice_index slots (c.args.at / 4096) = read_is slots (c.args.at / 4096) c.index.result.now within c.index.ensures in
-    read_is words place c.index-2.result.now (within_slot slots c.self.inside.unused.items words c.args.at c.index.result.now c.self.invariant.0 within slot) c.index-2.ensures
+    let slot : c.index.result.now ≡ slice_index slots (c.args.at / 4096) =
+    read_is slots (c.args.at / 4096) c.index.result.now within c.index.ensures in
+    read_is words place c.index-2.result.now
+    (within_slot slots c.self.inside.unused.items words c.args.at c.index.result.now c.self.invariant.0
+    within slot) c.index-2.ensures
     ∙ word_of_slot slots words c.args.self.now c.args.at c.index.result.now c.self.view_is within slot
 
 pub returns-clause-holds : goal.returns-clause-holds

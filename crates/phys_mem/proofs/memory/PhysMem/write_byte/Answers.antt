@@ -10,13 +10,17 @@ use Rattle.phys_mem.proofs.memory.PhysMem.write_byte.Goals as goal
 
 pub returns-clause-stored : goal.returns-clause-stored
 returns-clause-stored c =
-    let stored : word_at c.set_word.new.self c.args.at ≡ with_byte_in (word_at c.args.self.now c.args.at) (c.args.at % 4) c.args.byte = search rules in
+    let stored : word_at c.set_word.new.self c.args.at
+    ≡ with_byte_in (word_at c.args.self.now c.args.at) (c.args.at % 4) c.args.byte =
+    search rules in
     ap (λ (word : ℕ). byte_in word (c.args.at % 4)) stored
     ∙ byte_in-with_same (word_at c.args.self.now c.args.at) (c.args.at % 4) c.args.byte (omega arith) (omega arith)
 
 pub returns-clause-bytes : goal.returns-clause-bytes
 returns-clause-bytes c =
-    let stored : word_at c.set_word.new.self c.args.at ≡ with_byte_in (word_at c.args.self.now c.args.at) (c.args.at % 4) c.args.byte = search rules in
+    let stored : word_at c.set_word.new.self c.args.at
+    ≡ with_byte_in (word_at c.args.self.now c.args.at) (c.args.at % 4) c.args.byte =
+    search rules in
     other_bytes c.args.self.now c.set_word.new.self c.args.at c.args.byte (omega arith) stored c.set_word.ensures.words
 
 pub returns-clause-holds : goal.returns-clause-holds

@@ -10,13 +10,18 @@ use Rattle.phys_mem.proofs.memory.PhysMem.write_half.Goals as goal
 
 pub returns-clause-stored : goal.returns-clause-stored
 returns-clause-stored c =
-    let stored : word_at c.set_word.new.self c.args.at ≡ with_half_in (word_at c.args.self.now c.args.at) (c.args.at % 4) c.args.half = search rules in
+    let stored : word_at c.set_word.new.self c.args.at
+    ≡ with_half_in (word_at c.args.self.now c.args.at) (c.args.at % 4) c.args.half =
+    search rules in
     ap (λ (word : ℕ). half_in word (c.args.at % 4)) stored
-    ∙ half_in-with_same (word_at c.args.self.now c.args.at) (c.args.at % 4) c.args.half (half_place c.args.at c.requires.aligned) (omega arith)
+    ∙ half_in-with_same (word_at c.args.self.now c.args.at) (c.args.at % 4) c.args.half
+    (half_place c.args.at c.requires.aligned) (omega arith)
 
 pub returns-clause-bytes : goal.returns-clause-bytes
 returns-clause-bytes c =
-    let stored : word_at c.set_word.new.self c.args.at ≡ with_half_in (word_at c.args.self.now c.args.at) (c.args.at % 4) c.args.half = search rules in
+    let stored : word_at c.set_word.new.self c.args.at
+    ≡ with_half_in (word_at c.args.self.now c.args.at) (c.args.at % 4) c.args.half =
+    search rules in
     other_halves c.args.self.now c.set_word.new.self c.args.at c.args.half c.requires.aligned (omega arith) stored c.set_word.ensures.words
 
 pub returns-clause-holds : goal.returns-clause-holds

@@ -6,4 +6,5 @@ use Rattle.sched_table.proofs.hart_schedule.HartSchedule.entry.Goals as goal
 
 pub returns-clause-value : goal.returns-clause-value
 returns-clause-value c = c.entry.ensures.value
-    ∙ ap (λ (es : List Entry). entry_of_slot es c.args.k) (alone_is c.self.inside.places.items c.self.inside.schedule c.args.self.now c.self.invariant c.self.view_is)
+    ∙ ap (λ (es : List Entry). entry_of_slot es c.args.k) (alone_is c.self.inside.places.items
+    c.self.inside.schedule c.args.self.now c.self.invariant c.self.view_is)

@@ -16,11 +16,13 @@ loop-place-preserved c =
       | then-entry-hart+in_ok-push+in_ok-push-2 w ↦
           let places = ap (λ v. v.items) w.places-is ∙ w.in_ok-push-2.ensures.items in
           let own = ap (λ v. v.items) w.own-is ∙ w.in_ok-push.ensures.items in
-          one_more es c.args.hart l.place l.places.items next.places.items l.own.items next.own.items l.invariant c.loop-place-test.true w.if-entry-hart.true places own
+          one_more es c.args.hart l.place l.places.items next.places.items l.own.items next.own.items
+          l.invariant c.loop-place-test.true w.if-entry-hart.true places own
       | else-entry-hart w ↦
           let places = ap (λ v. v.items) w.places-is in
           let own = ap (λ v. v.items) w.own-is in
-          none_more es c.args.hart l.place l.places.items next.places.items l.own.items next.own.items l.invariant c.loop-place-test.true w.if-entry-hart.false places own
+          none_more es c.args.hart l.place l.places.items next.places.items l.own.items next.own.items
+          l.invariant c.loop-place-test.true w.if-entry-hart.false places own
     ]
 
 pub new-requires : goal.new-requires
@@ -28,7 +30,11 @@ new-requires c =
     let es = c.args.entries.now in
     let l = c.loop-place in
     let own : l.own.items ≡ on_hart es c.args.hart = own_is es c.args.hart l.place l.places.items l.own.items l.invariant (search rules) in
-    record { schedule = subst IsSchedule (sym own ∙ sym c.as_slice.ensures.value) (hart_schedule_sound es c.args.hart c.requires.schedule c.requires.some) }
+    record {
+      schedule =
+          subst IsSchedule (sym own ∙ sym c.as_slice.ensures.value)
+          (hart_schedule_sound es c.args.hart c.requires.schedule c.requires.some);
+    }
 
 pub returns : goal.returns
 returns c =

@@ -6,4 +6,5 @@ use Rattle.sched_table.proofs.hart_schedule.HartSchedule.start.Goals as goal
 
 pub returns-clause-value : goal.returns-clause-value
 returns-clause-value c = c.start.ensures.value
-    ∙ ap (λ (es : List Entry). start es c.args.k) (alone_is c.self.inside.places.items c.self.inside.schedule c.args.self.now c.self.invariant c.self.view_is)
+    ∙ ap (λ (es : List Entry). start es c.args.k) (alone_is c.self.inside.places.items c.self.inside.schedule
+    c.args.self.now c.self.invariant c.self.view_is)

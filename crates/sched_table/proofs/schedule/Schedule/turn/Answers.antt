@@ -6,7 +6,8 @@ use Rattle.sched_table.specs.Schedule.{no_entry, entry_in, switch_entry, pad_of}
 use Rattle.sched_table.proofs.Starts.{pad_law}
 use Rattle.sched_table.proofs.schedule.Schedule.turn.Goals as goal
 
-ended_is : (c : goal.After-from) → c.index-ended.result.now ≡ entry_in c.args.self.now (switch_entry c.args.self.now c.args.k)
+ended_is : (c : goal.After-from)
+    → c.index-ended.result.now ≡ entry_in c.args.self.now (switch_entry c.args.self.now c.args.k)
 ended_is c =
     let items = c.self.inside.entries.items in
     let place = c.switch_entry-place in

@@ -97,7 +97,9 @@ returns g c =
     c.self.view_is
     (set_placed g.P.Policy.takes g.P.Policy.rule g.P.Policy.stands_for cache c.args.number set (Some way) c.self.invariant.sound home
     c.in_ok-way.ensures.value) in
-    let of = subst (λ (n : ℕ). IsPlaced g.P.Policy.takes g.P.Policy.rule g.P.Policy.stands_for c.args.self.now c.args.number (Some n)) (sym c.hit.ensures.place) placed in
+    let of =
+    subst (λ (n : ℕ). IsPlaced g.P.Policy.takes g.P.Policy.rule g.P.Policy.stands_for c.args.self.now
+    c.args.number (Some n)) (sym c.hit.ensures.place) placed in
     record {
       here = of.here;
       stands = of.listed;

@@ -30,6 +30,7 @@ invariant_of-self g c =
     subst
     (λ (sets : KeptSets). IsCache g.P.Policy.takes g.P.Policy.rule g.P.Policy.stands_for (fresh_cache s.policy sets) sets.fresh none)
     (sym c.empty.ensures.emptied)
-    (new_lawful g.P.Policy.takes g.P.Policy.rule g.P.Policy.stands_for s.policy (length s.packed.table) s.packed.ways (epoch_after s.packed.epoch) s.packed.fresh none
+    (new_lawful g.P.Policy.takes g.P.Policy.rule g.P.Policy.stands_for s.policy (length s.packed.table)
+    s.packed.ways (epoch_after s.packed.epoch) s.packed.fresh none
     (record { taken = sound.taken; power = sound.power; small = sound.small }) c.self.invariant.fresh_stands
     c.self.invariant.few (omega arith))

@@ -55,7 +55,8 @@ returns g c =
     set_placed g.P.Policy.takes g.P.Policy.rule g.P.Policy.stands_for cache c.args.number set (Some way) c.self.invariant.sound home
     c.in_ok-way.ensures.value in
     let of =
-    subst (λ (t : ℕ × Contents _). IsPlaced g.P.Policy.takes g.P.Policy.rule g.P.Policy.stands_for t.1 c.args.number (Some (set * t.0 + way)))
+    subst (λ (t : ℕ × Contents _). IsPlaced g.P.Policy.takes g.P.Policy.rule g.P.Policy.stands_for t.1
+    c.args.number (Some (set * t.0 + way)))
     (λ j. (sym c.ways.ensures.value j, c.self.view_is j)) placed in
     record { here = of.here; stands = of.listed; below = of.below; sound = of.sound }
 

@@ -32,7 +32,10 @@ turn-turn-requires c = record { few = omega (arith, c.requires.slots) }
 
 pub outgoing-out-requires : goal.outgoing-out-requires
 outgoing-out-requires c = record {
-  ended = c.turn-turn.ensures.ended ∙ ap (λ (p : Public). entry_in p.schedule (switch_entry p.schedule c.args.self.now.slots)) c.public.ensures.value;
+  ended =
+      c.turn-turn.ensures.ended
+      ∙ ap (λ (p : Public). entry_in p.schedule (switch_entry p.schedule c.args.self.now.slots))
+      c.public.ensures.value;
 }
 
 pub index-requires : goal.index-requires
@@ -112,7 +115,14 @@ slot_off-self-requires-clause-domain c =
 
 pub slot_off-self-requires-clause-before : goal.slot_off-self-requires-clause-before
 slot_off-self-requires-clause-before c =
-    omega (arith, c.switch_off-switched.ensures.few, c.until_off.ensures.soon, c.turn-turn.ensures.soon, c.args.self.now.in_bounds.early, c.requires.slots)
+    omega (
+      arith,
+      c.switch_off-switched.ensures.few,
+      c.until_off.ensures.soon,
+      c.turn-turn.ensures.soon,
+      c.args.self.now.in_bounds.early,
+      c.requires.slots,
+    )
 
 pub slot_off-self-requires-clause-end : goal.slot_off-self-requires-clause-end
 slot_off-self-requires-clause-end c =

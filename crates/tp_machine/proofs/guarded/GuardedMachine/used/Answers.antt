@@ -11,6 +11,7 @@ returns c =
     let used = c.args.self.now.used.items in
     let e = c.args.entry in
     let within : e < length used = omega (arith, c.requires.entry, c.args.self.now.stands.all_entries) in
-    let got : slice_get used e ≡ Some c.index.result.now = slice_get_read used (length used) e c.index.result.now refl within c.index.ensures in
+    let got : slice_get used e ≡ Some c.index.result.now =
+    slice_get_read used (length used) e c.index.result.now refl within c.index.ensures in
     let each = c.args.self.now.stands.each_entry in
     record { largest = each.largest e c.index.result.now got; count = each.count e c.index.result.now got }

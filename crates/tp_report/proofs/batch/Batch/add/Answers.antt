@@ -8,12 +8,20 @@ use Rattle.tp_report.proofs.batch.Batch.add.Goals as goal
 pub returns-in_err-hand_on : goal.returns-in_err-hand_on
 returns-in_err-hand_on g c =
     let p = err_from_is_err_and c.from_residual.result c.from_residual.ensures.1 in
-    rw p.1 (record { adds = full_cut c.args.text.now c.loop-self.added _ _ _ _ c.loop-self.self c.hold.new.self c.hand_on.new.self c.loop-self.invariant.so_far c.hold.ensures.value c.in_err-hand_on.ensures.sends })
+    rw p.1 (record {
+      adds =
+          full_cut c.args.text.now c.loop-self.added _ _ _ _ c.loop-self.self c.hold.new.self
+          c.hand_on.new.self c.loop-self.invariant.so_far c.hold.ensures.value
+          c.in_err-hand_on.ensures.sends;
+    })
 
 pub loop-self-preserved : goal.loop-self-preserved
 loop-self-preserved g c = record {
   within = search rules;
-  so_far = full_sent c.args.text.now c.loop-self.added _ _ _ _ c.loop-self.self c.hold.new.self c.hand_on.new.self _ (omega arith) c.loop-self.invariant.so_far c.hold.ensures.value c.in_ok-hand_on.ensures.empty c.in_ok-hand_on.ensures.sends;
+  so_far =
+      full_sent c.args.text.now c.loop-self.added _ _ _ _ c.loop-self.self c.hold.new.self c.hand_on.new.self
+      _ (omega arith) c.loop-self.invariant.so_far c.hold.ensures.value c.in_ok-hand_on.ensures.empty
+      c.in_ok-hand_on.ensures.sends;
 }
 
 pub loop-self-init : goal.loop-self-init
