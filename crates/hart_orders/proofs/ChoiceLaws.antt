@@ -1,10 +1,18 @@
 -- What is seen after the order of a choice, whatever the choice.
-use Rattle.std.proofs.Common.{◌∙◌, ap}
-use Rattle.world_view.specs.Harts.{view_on, view_alone_on, hart_of_domain}
+use Rattle.std.proofs.Common.{◌≡◌, ◌∙◌, ℕ, ◌<◌, ◌≤◌, Bool, true, false, List, ap, refl, subst, arith}
+use Rattle.sched_table.specs.Schedule.{harts_in}
+use Rattle.image_check.specs.Image.{Image}
+use Rattle.image_check.specs.Laws.{Runnable}
+use Rattle.world_view.specs.Machine.{whole}
+use Rattle.world_view.specs.Harts.{progress_of, harts, view_on, view_alone_on, hart_of_domain}
+use Rattle.world_view.specs.HartLaws.{AreHartsOf, IsBetween}
+use Rattle.world_view.specs.Laws.{SameWorld}
 use Rattle.world_view.proofs.harts.Runs.{home}
 use Rattle.world_view.proofs.harts.Isolation.{hart_isolation, hart_pads, hart_largest}
+use Rattle.world_view.proofs.harts.Clocks.{hart_begun}
+use Rattle.world_view.proofs.harts.Whole.{whole_law}
 use Rattle.hart_orders.specs.Order.{order_of, ran}
-use Rattle.hart_orders.specs.Laws.{ChoiceLaw, ChoicePadLaw, ChoiceLargestLaw}
+use Rattle.hart_orders.specs.Laws.{ChoiceLaw, ChoicePadLaw, ChoiceLargestLaw, OneHartLaw}
 use Rattle.hart_orders.proofs.RunThrough.{harts_law, through}
 
 pub choice_law : ChoiceLaw
@@ -21,3 +29,21 @@ choice_pad i c n r = hart_pads i (order_of i c n) r (harts_law i c n)
 pub choice_largest : ChoiceLargestLaw
 unfolding ran
 choice_largest i c n e r = hart_largest i (order_of i c n) e r (harts_law i c n)
+
+-- a hart that has not begun its next slot is in none
+outside_if : (i : Image) (h : ℕ) (order : List ℕ) → Runnable i → AreHartsOf i order → h < harts_in i.all.schedule
+    → IsBetween i h (harts i order) → (b : Bool) → (progress_of h (harts i order)).inside ≡ b → b ≡ false
+outside_if i h order r below is between true t =
+    let begun = hart_begun i h order r below is t in
+    absurd (omega (arith, begun, between))
+outside_if i h order r below is between false t = refl
+
+pub one_hart_run : OneHartLaw
+unfolding ran
+one_hart_run i c n r one =
+    let order = order_of i c n in
+    let below = harts_law i c n in
+    let is : 0 < harts_in i.all.schedule = omega (arith, one) in
+    let there = through i c n 0 r is in
+    let outside = outside_if i 0 order r below is there.1 (progress_of 0 (harts i order)).inside refl in
+    subst (λ (k : ℕ). SameWorld (whole i k) (harts i order).world) there.0 (whole_law i order r one below outside)

@@ -3,12 +3,13 @@ use Rattle.std.specs.Prelude.{◌≡◌, ◌≢◌, ◌⊎◌, ℕ, ◌<◌, ◌
 use Rattle.sched_table.specs.Schedule.{entry_in, harts_in}
 use Rattle.image_check.specs.Image.{Image}
 use Rattle.image_check.specs.Laws.{Runnable}
-use Rattle.world_view.specs.Machine.{clock_of}
+use Rattle.world_view.specs.Machine.{clock_of, whole}
 use Rattle.world_view.specs.Used.{largest_of}
 use Rattle.world_view.specs.View.{view_in}
 use Rattle.world_view.specs.Relations.{IsDomain, AllWithinPads}
-use Rattle.world_view.specs.Harts.{Harts, slots_of, harts, view_alone_on}
+use Rattle.world_view.specs.Harts.{Harts, IsOnOneHart, slots_of, harts, view_alone_on}
 use Rattle.world_view.specs.HartLaws.{AreHartsOf, IsBetween}
+use Rattle.world_view.specs.Laws.{SameWorld}
 use Rattle.hart_orders.specs.Order.{next_hart, order_of, ran}
 use Rattle.hart_orders.specs.declared.choice.Choice.{Choice}
 use Rattle.hart_orders.specs.declared.choice.Choice.TheVariants.{LeastClock}
@@ -63,3 +64,9 @@ ChoicePadLaw = (i : Image) (c : Choice) (n : ℕ) → Runnable i → AllWithinPa
 abbrev pub ChoiceLargestLaw : Type 0
 ChoiceLargestLaw = (i : Image) (c : Choice) (n e : ℕ) → Runnable i
     → largest_of e (ran i c n).used ≤ (entry_in i.all.schedule e).pad
+
+-- ---- one hart
+
+-- whatever the choice, the machine is the one that goes from slot to slot
+abbrev pub OneHartLaw : Type 0
+OneHartLaw = (i : Image) (c : Choice) (n : ℕ) → Runnable i → IsOnOneHart i → SameWorld (whole i n) (ran i c n)

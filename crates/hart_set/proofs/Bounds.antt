@@ -4,17 +4,13 @@ use Rattle.std.specs.Prelude.{slice_get, if◌then◌else◌}
 use Rattle.std.proofs.Math.ListN.{set}
 use Rattle.std.proofs.lemmas.Option.{slice_get_within, slice_get-get_or}
 use Rattle.sched_table.specs.Schedule.{IsSchedule, entry_in, entry_of_slot, last_end, on_hart, harts_in}
-use Rattle.sched_table.proofs.Starts.{soon_law}
 use Rattle.sched_table.proofs.Harts.{hart_there_law, domain_hart_law}
-use Rattle.sched_table.proofs.HartSchedules.{hart_schedule_sound}
 use Rattle.image_check.specs.Image.{Image}
 use Rattle.image_check.specs.Laws.{Runnable}
 use Rattle.kernel_call.specs.declared.domain.Domain.{Domain}
 use Rattle.kernel_call.specs.Models.{CountsUpTo}
 use Rattle.world_view.specs.Machine.{World, clock_of}
-use Rattle.world_view.specs.Relations.{ended_own}
 use Rattle.world_view.specs.Harts.{Harts, image_on, start_on, end_on, hart_of_domain, progress_of, slots_of}
-use Rattle.world_view.proofs.time.ClockLaws.{step_small}
 use Rattle.world_view.proofs.harts.Events.{IsHart}
 use Rattle.world_view.proofs.harts.Runs.{Running}
 use Rattle.domain_step.proofs.Counts.{counts_later}
@@ -23,36 +19,6 @@ use Rattle.domain_step.proofs.Elements.{each_set_kept}
 use Rattle.hart_orders.specs.declared.hart.Hart.{Hart as CodeHart}
 use Rattle.hart_set.specs.declared.set.State.{State}
 use Rattle.hart_set.specs.Standing.{StandsFor, AtHart, IsInBounds}
-
--- ---- clocks
-
-module _ (i : Image) (r : Runnable i) (h : ℕ) (below : h < harts_in i.all.schedule) where
-  own_schedule : IsSchedule (on_hart i.all.schedule h)
-  own_schedule = hart_schedule_sound i.all.schedule h r.schedule (r.harts.each h below)
-
-  start_soon : (k : ℕ) → start_on i h k ≤ 2000000 * k + 1000000
-  start_soon k = soon_law (on_hart i.all.schedule h) k own_schedule
-
-  pub end_soon : (k : ℕ) → end_on i h k ≤ 2000000 * k + 2000000
-  end_soon k =
-      let begins = start_soon k in
-      let lasts : (entry_of_slot (on_hart i.all.schedule h) k).length ≤ 1000000 = own_schedule.lengths _ in
-      omega (arith, begins, lasts)
-
-  last_end_soon : (k : ℕ) → last_end (on_hart i.all.schedule h) k ≤ 2000000 * k + 1000000
-  last_end_soon zero = omega arith
-  last_end_soon (suc k) = let before = end_soon k in omega (arith, before)
-
-  clock_if : (b : Bool) (k : ℕ) (w : World) → k ≤ 65536 → IsHart i b h k w → clock_of h w < 2 ^ 61
-  clock_if true k w few is = let soon = is.soon in let ends = end_soon k in omega (arith, few, soon, ends)
-  clock_if false k w few is =
-      let soon = is.soon in
-      let ended = last_end_soon k in
-      let largest = step_small i.all.hardware r.hardware (ended_own (image_on i h) k) in
-      omega (arith, few, soon, ended, largest)
-
-  pub clock_fits : (s : Harts) → Running i r s → slots_of h s ≤ 65536 → clock_of h s.world < 2 ^ 61
-  clock_fits s run few = clock_if (progress_of h s).inside (slots_of h s) s.world few (run.hart h below)
 
 -- ---- switches
 

@@ -13,6 +13,7 @@ use Rattle.world_view.proofs.harts.OnHart.{hart_is}
 use Rattle.world_view.proofs.harts.Runs.{Running}
 use Rattle.world_view.proofs.harts.Isolation.{running}
 use Rattle.world_view.proofs.harts.Clocks.{hart_between}
+use Rattle.world_view.proofs.time.ClockLaws.{end_soon}
 use Rattle.domain_step.specs.Moves.{Moves, Runs}
 use Rattle.domain_step.proofs.Elements.{each_set_kept}
 use Rattle.hart_orders.specs.declared.hart.Slot.{Slot}
@@ -20,7 +21,7 @@ use Rattle.hart_orders.specs.declared.hart.Hart.{Hart as CodeHart}
 use Rattle.hart_set.specs.declared.set.State.{State}
 use Rattle.hart_set.specs.Standing.{StandsFor, IsInBounds}
 use Rattle.hart_set.specs.Reached.{IsReached}
-use Rattle.hart_set.proofs.Bounds.{IsCounted, end_soon, in_bounds_next}
+use Rattle.hart_set.proofs.Bounds.{IsCounted, in_bounds_next}
 use Rattle.hart_set.proofs.Called.{Called, NextStands, SlotEnds, domain_read, s, run, its, few, pushed, own_more, reached_after, reached_next}
 use Rattle.hart_orders.proofs.Through.{Ran, one_event, whole, harts_appended}
 use Rattle.hart_set.proofs.Running.{StepEnd, Stepped, GoesOn, IsOver, at, far, slot_domain, early, begun, stands_stepped}

@@ -26,6 +26,7 @@ use Rattle.world_view.specs.Harts.{image_on, harts, next, progress_of, slots_of}
 use Rattle.world_view.specs.HartLaws.{AreHartsOf, IsBetween}
 use Rattle.world_view.proofs.harts.Isolation.{running, next_law}
 use Rattle.world_view.proofs.harts.Runs.{Running}
+use Rattle.world_view.proofs.time.ClockLaws.{clock_soon as clocks_soon}
 use Rattle.domain_step.specs.Usage.{IsUsed, CountedUpTo}
 use Rattle.hart_orders.specs.declared.hart.Slot.{Slot}
 use Rattle.hart_orders.specs.declared.hart.Hart.{Hart as CodeHart}
@@ -33,7 +34,7 @@ use Rattle.hart_set.specs.declared.set.State.{State}
 use Rattle.hart_set.specs.Standing.{StandsFor}
 use Rattle.hart_set.specs.Reached.{IsReached}
 use Rattle.hart_set.specs.Turns.{IsTurn}
-use Rattle.hart_set.proofs.Bounds.{clock_fits, counted, in_bounds_next}
+use Rattle.hart_set.proofs.Bounds.{counted, in_bounds_next}
 use Rattle.hart_set.proofs.Others.{in_none}
 use Rattle.hart_orders.proofs.Through.{slots_begun}
 use Rattle.hart_set.proofs.Called.{Called, NextStands, SlotEnds, s, run, its, few, pushed, reached_next}
@@ -42,7 +43,7 @@ use Rattle.hart_set.proofs.Beginning.{clone_on, leaves_on, ended, Switching, sta
 module _ (i : Image) (t : State) (h : ℕ) (x : CodeHart) (c : Called i t h x) where
   pub clock_soon : x.clock < 2 ^ 61
   clock_soon =
-      let fits = clock_fits i c.reached.accepted h c.below (s i t h x c) (run i t h x c) (few i t h x c) in
+      let fits = clocks_soon i c.reached.accepted h c.below (s i t h x c) ((run i t h x c).hart h c.below) (few i t h x c) in
       let same = (its i t h x c).machine.time in
       omega (arith, fits, same)
 

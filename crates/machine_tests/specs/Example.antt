@@ -48,7 +48,7 @@ use Rattle.world_view.specs.Event.{touch, frame_or_stop, translate, address_in, 
 use Rattle.world_view.specs.Machine.{clock_of, with_hart, paid, delivered, happened, step, steps, enter_part, with_part, opening_doms, opening, whole, alone_opening, alone_enter, alone_in, alone_out, alone_if, alone, flush_by, guarded, leave_by, own_slot, prefetch_by, run_slot_by, switch_by, switch_on, switch_work_by, whole_by, with_end, dom_of, part_of, whole_off, World, Guards, setting_by, Owned, if_due, first_of, first_due, step_among, steps_among}
 use Rattle.world_view.specs.View.{View, view, view_whole, view_alone, memory_sum}
 use Rattle.world_view.specs.Used.{count_of, largest_of}
-use Rattle.world_view.specs.Laws.{local_in}
+use Rattle.world_view.proofs.steps.InSlot.{local_in}
 
 -- addi x10, x0, byte; addi x17, x0, 1; ecall; addi x17, x0, 0; ecall
 abbrev pub print : ℕ → List ℕ

@@ -12,9 +12,7 @@ use Rattle.sched_table.specs.Schedule.{harts_in}
 use Rattle.image_check.specs.Image.{Image, image_from}
 use Rattle.image_reading.specs.Reading.{image, checked, unless_broken, most_bytes}
 use Rattle.image_check.specs.Laws.{Runnable}
-use Rattle.world_view.proofs.opening.Separate.{separated}
 use Rattle.image_reading.proofs.ReadingLaws.{read_runs}
-use Rattle.world_view.proofs.time.TimeLaws.{on_time}
 use Rattle.world_view.proofs.harts.Clocks.{hart_starts}
 use Rattle.hart_orders.specs.declared.choice.Choice.{Choice}
 use Rattle.hart_orders.specs.declared.choice.Choice.TheVariants.{LeastClock, Drawn}
@@ -386,8 +384,7 @@ is_padded c n left left' r =
       ran = r;
       used = within_pads r.found c n runs;
       lines = λ e. lines_within r.found c n runs e;
-      starts = λ k. on_time r.found (separated r.found runs) k;
-      harts_start = λ h order below is. hart_starts r.found h order runs below is;
+      starts = λ h order below is. hart_starts r.found h order runs below is;
     }
 
 -- ---- a domain alone

@@ -1,16 +1,15 @@
 -- What a run comes to, and what is written of it.
-use Rattle.std.specs.Prelude.{ℕ, nat_eq, if◌then◌else◌, List}
-use Rattle.sched_table.specs.Schedule.{harts_in}
+use Rattle.std.specs.Prelude.{ℕ, List}
 use Rattle.image_check.specs.Image.{Image}
-use Rattle.world_view.specs.Machine.{World, whole}
+use Rattle.world_view.specs.Machine.{World}
 use Rattle.world_view.specs.Harts.{view_alone_on}
 use Rattle.hart_orders.specs.Order.{ran}
 use Rattle.hart_orders.specs.declared.choice.Choice.{Choice}
 use Rattle.tp_report.specs.Report.{section_of, report_of, report_with}
 
--- the machine after n slots of each hart, where the next event's hart is chosen so; one hart has nobody beside it
-unfoldable pub world_after : Image → Choice → ℕ → World
-world_after i c n = if nat_eq (harts_in i.all.schedule) 1 then whole i n else ran i c n
+-- the machine after n slots of each hart, where the next event's hart is chosen so
+abbrev pub world_after : Image → Choice → ℕ → World
+world_after = ran
 
 unfoldable pub report : Image → Choice → ℕ → List ℕ
 report i c n = report_of i (world_after i c n)

@@ -13,8 +13,8 @@ use Rattle.image_gen.specs.Text.{text as generated_text}
 use Rattle.image_check.specs.Checking.{broken, broken_but_pads}
 use Rattle.image_check.specs.Image.{Image, image_from}
 use Rattle.image_reading.specs.Reading.{most_bytes, image}
-use Rattle.sched_table.specs.Schedule.{entry_in, start, harts_in}
-use Rattle.world_view.specs.Machine.{clock_of, switch, whole}
+use Rattle.sched_table.specs.Schedule.{entry_in, harts_in}
+use Rattle.world_view.specs.Machine.{clock_of}
 use Rattle.world_view.specs.View.{view_in}
 use Rattle.world_view.specs.Harts.{progress_of, slots_of, start_on, next, harts, view_alone_on}
 use Rattle.world_view.specs.HartLaws.{AreHartsOf}
@@ -135,15 +135,14 @@ pub record Isolated (c : Choice) (slots : ℕ) (left left' written written' : Op
   pub views : (d : ℕ) → IsDomain ran.found d
       → view_in ran.found d (world_after ran.found c slots) ≡ view_alone_on ran.found d slots
 
--- no switch overran its pad, no switch line says more than its pad, and each slot began at exactly its start: of one hart
--- slot k, and of several the next of each, whatever the order before
+-- no switch overran its pad, no switch line says more than its pad, and each slot of each hart begins at exactly its start,
+-- whatever the order before
 pub record Padded (c : Choice) (slots : ℕ) (left left' : Option (List ℕ)) : Type 0 where
   pub ran : ReadsImage left left'
   pub used : AllWithinPads ran.found.all.schedule (world_after ran.found c slots).used
   pub lines : (e : ℕ)
       → largest_of e (world_after ran.found c slots).used ≤ (entry_in ran.found.all.schedule e).pad
-  pub starts : (k : ℕ) → clock_of 0 (switch ran.found k (whole ran.found k)) ≡ start ran.found.all.schedule k
-  pub harts_start : (h : ℕ) (order : List ℕ) → AreHartsOf ran.found order
+  pub starts : (h : ℕ) (order : List ℕ) → AreHartsOf ran.found order
       → h < harts_in ran.found.all.schedule →
       let s = harts ran.found order in
       (progress_of h s).inside ≡ false

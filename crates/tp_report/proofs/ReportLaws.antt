@@ -1,17 +1,17 @@
--- The report of the whole machine, and the sections of each domain alone.
+-- The report of a machine, and the sections of each domain alone.
 use Rattle.std.proofs.Common.{◌≡◌, ℕ, zero, suc, ◌+◌, ◌<◌, List, [], ◌∷◌, ◌++◌, length, ap, ap₂, refl, arith}
 use Rattle.std.specs.List.{concat, flat_map, range_with_len}
 use Rattle.image_check.specs.Image.{Image, own_of}
-use Rattle.world_view.specs.Machine.{World, whole}
-use Rattle.world_view.specs.View.{View, view_in, view_whole, view_alone}
+use Rattle.world_view.specs.Machine.{World}
+use Rattle.world_view.specs.View.{View, view_in}
 use Rattle.tp_report.specs.Texts.{section}
 use Rattle.world_view.specs.Used.{largest_of}
-use Rattle.tp_report.specs.Laws.{SaysWithinPad}
-use Rattle.tp_report.specs.Report.{switch_text, section_of, sections, switch_lines, end_text, report_with, report_of, report, report_apart}
-use Rattle.world_view.specs.Relations.{IsDomain, AllWithinPads}
-use Rattle.world_view.proofs.opening.Separate.{Separated}
-use Rattle.world_view.proofs.time.TimeLaws.{largest_within}
-use Rattle.world_view.proofs.runs.WholeLaws.{isolated}
+use Rattle.tp_report.specs.Laws.{ReportLaw, LinesLaw}
+use Rattle.tp_report.specs.Report.{switch_text, section_of, sections, switch_lines, end_text, report_with, report_of}
+use Rattle.world_view.specs.Relations.{IsDomain}
+use Rattle.world_view.specs.Harts.{hart_of_domain, slots_of, harts, view_on, view_alone_on}
+use Rattle.world_view.proofs.harts.Runs.{home}
+use Rattle.world_view.proofs.harts.Isolation.{hart_isolation, hart_largest}
 
 -- texts of numbers in turn are the same where each is
 same_texts : (f g : ℕ → List ℕ) (a n : ℕ) → ((x : ℕ) → x < a + n → f x ≡ g x)
@@ -32,14 +32,17 @@ module _ (i : Image) (w : World) (views : ℕ → View) (same : (d : ℕ) → Is
       ap (λ (xs : List ℕ). concat (xs ∷ switch_lines i.all.schedule w.used ∷ end_text ∷ []))
       (same_texts (section_of i (λ e. view_in i e w)) (section_of i views) 0 (length i.owns) (λ d h. section_same d (omega (arith, h))))
 
-pub reported_apart : (i : Image) (n : ℕ) → Separated i → report i n ≡ report_apart i n
-unfolding report report_apart view_whole
-reported_apart i n r = same_report i (whole i n) (λ d. view_alone i.all (own_of i d) d n) (λ d is. isolated i d n r is)
+pub reported_apart : ReportLaw
+unfolding view_on
+reported_apart i order r below between =
+    let s = harts i order in
+    same_report i s.world (λ d. view_alone_on i d (slots_of (hart_of_domain i d) s))
+    (λ d is. hart_isolation i d order r is below (between (hart_of_domain i d) (home i r d)))
 
-pub says_within : (i : Image) (n e : ℕ) → AllWithinPads i.all.schedule (whole i n).used → SaysWithinPad i n e
+pub says_within : LinesLaw
 unfolding switch_text
-says_within i n e within = record {
-  cycles = largest_of e (whole i n).used;
-  within = largest_within i.all.schedule e (whole i n).used within;
+says_within i order e r below = record {
+  cycles = largest_of e (harts i order).world.used;
+  within = hart_largest i order e r below;
   line = refl;
 }

@@ -1,23 +1,29 @@
--- The laws of the report.
-use Rattle.std.specs.Prelude.{◌≡◌, ℕ, ◌≤◌}
-use Rattle.sched_table.specs.Schedule.{entry_in}
+-- The laws of the report, after every order of the harts' events.
+use Rattle.std.specs.Prelude.{◌≡◌, ℕ, ◌<◌, ◌≤◌, List}
+use Rattle.sched_table.specs.Schedule.{entry_in, harts_in}
 use Rattle.image_check.specs.Image.{Image}
-use Rattle.world_view.specs.Machine.{whole}
 use Rattle.world_view.specs.Used.{count_of}
+use Rattle.world_view.specs.Harts.{hart_of_domain, slots_of, harts, view_alone_on}
+use Rattle.world_view.specs.HartLaws.{AreHartsOf, IsBetween}
 use Rattle.image_check.specs.Laws.{Runnable}
-use Rattle.tp_report.specs.Report.{switch_line, switch_text, report, report_apart}
+use Rattle.tp_report.specs.Report.{switch_line, switch_text, report_of, report_with}
 
--- the report's sections are those of each domain alone
+-- where no hart is in a slot, the report's sections are those of each domain alone, after as many slots of its hart
 abbrev pub ReportLaw : Type 0
-ReportLaw = (i : Image) (n : ℕ) → Runnable i → report i n ≡ report_apart i n
+ReportLaw = (i : Image) (order : List ℕ) → Runnable i → AreHartsOf i order →
+    let s = harts i order in
+    ((h : ℕ) → h < harts_in i.all.schedule → IsBetween i h s)
+    → report_of i s.world
+    ≡ report_with i (λ d. view_alone_on i d (slots_of (hart_of_domain i d) s)) s.world.used
 
 -- the line of entry e says a number of cycles that is within its pad
-pub record SaysWithinPad (i : Image) (n e : ℕ) : Type 0 where
+pub record SaysWithinPad (i : Image) (used : List (ℕ × ℕ)) (e : ℕ) : Type 0 where
   pub cycles : ℕ
   pub within : cycles ≤ (entry_in i.all.schedule e).pad
-  pub line : switch_text i.all.schedule (whole i n).used e
-      ≡ switch_line e cycles (entry_in i.all.schedule e).pad (count_of e (whole i n).used)
+  pub line : switch_text i.all.schedule used e
+      ≡ switch_line e cycles (entry_in i.all.schedule e).pad (count_of e used)
 
 -- no switch line says more than its pad
 abbrev pub LinesLaw : Type 0
-LinesLaw = (i : Image) (n e : ℕ) → Runnable i → SaysWithinPad i n e
+LinesLaw = (i : Image) (order : List ℕ) (e : ℕ) → Runnable i → AreHartsOf i order
+    → SaysWithinPad i (harts i order).world.used e

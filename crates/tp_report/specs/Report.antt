@@ -13,7 +13,7 @@ use Rattle.image_check.specs.Image.{Image, own_of}
 use Rattle.image_check.specs.Pads.{shape_for_every_call}
 use Rattle.world_view.specs.Machine.{World, whole, whole_off}
 use Rattle.world_view.specs.Used.{count_of, largest_of}
-use Rattle.world_view.specs.View.{View, view_in, view_alone}
+use Rattle.world_view.specs.View.{View, view_in}
 use Rattle.tp_report.specs.Texts.{section}
 
 -- ---- switches
@@ -54,16 +54,9 @@ report_of i w = report_with i (λ d. view_in i d w) w.used
 unfoldable pub ending_of : Image → World → List ℕ
 ending_of i w = switch_lines i.all.schedule w.used ++ end_text
 
--- the report of the whole machine after n slots
-unfoldable pub report : Image → ℕ → List ℕ
-report i n = report_of i (whole i n)
-
+-- of an image of one hart after n slots
 unfoldable pub ending : Image → ℕ → List ℕ
 ending i n = ending_of i (whole i n)
-
--- the report in which each section is that of its domain alone
-unfoldable pub report_apart : Image → ℕ → List ℕ
-report_apart i n = report_with i (λ d. view_alone i.all (own_of i d) d n) (whole i n).used
 
 -- ---- with a guard off
 

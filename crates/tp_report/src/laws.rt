@@ -13,12 +13,13 @@ ghost use Rattle.tp_report.specs.Texts.{thread_text, threads_text};
 ghost use Rattle.tp_report.specs.Demo.{demo_head, demo_domain};
 ghost use Rattle.tp_report.specs.Laws.{ReportLaw, LinesLaw};
 
-/// The report's sections are those of each domain alone.
+/// After every order of the harts' events after which none is in a slot, the report's
+/// sections are those of each domain alone.
 pub fn isolation()
     ensures reported { ReportLaw }
 {}
 
-/// No switch line says more than its pad.
+/// No switch line says more than its pad, whatever the order.
 pub fn pads()
     ensures lines { LinesLaw }
 {}

@@ -3,6 +3,7 @@ ghost use Rattle.std.specs.Prelude.{◌<◌, ◌≤◌, length};
 ghost use Rattle.tp_io.specs.Sends.{Sends};
 ghost use Rattle.tp_io.specs.Sink.{state};
 ghost use Rattle.image_check.specs.Image.{image_from};
+ghost use Rattle.world_view.specs.Machine.{whole};
 ghost use Rattle.world_view.specs.View.{view_in};
 ghost use Rattle.world_view.specs.Harts.{IsOnOneHart};
 ghost use Rattle.tp_report.specs.Report as spec;
@@ -35,6 +36,7 @@ pub fn run_image<K: Sink>(
     ensures delivers { Delivers (Status.Done, runs.report (image_from image.now) choice slots)
         result (state K.Sink out.old) (state K.Sink out.new) }
 {
+    image.runnable();
     if has_one_hart(image) {
         return run_machine(alloc, image, slots, out);
     }
@@ -52,7 +54,7 @@ pub fn run_image<K: Sink>(
 fn run_machine<K: Sink>(alloc: Global, image: &Checked, slots: u32, out: &mut K) -> Status
     requires few { slots ≤ 65536 }
     requires one { IsOnOneHart (image_from image.now) }
-    ensures delivers { Delivers (Status.Done, spec.report (image_from image.now) slots)
+    ensures delivers { Delivers (Status.Done, spec.report_of (image_from image.now) (whole (image_from image.now) slots))
         result (state K.Sink out.old) (state K.Sink out.new) }
 {
     match Machine::after(alloc, image, slots) {

@@ -9,3 +9,5 @@ pub mod OneHart
 pub mod Position
 pub mod Counted
 pub mod Schedules
+pub mod Always
+pub mod Whole

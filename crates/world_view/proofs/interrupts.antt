@@ -1,3 +1,3 @@
--- Moments and threads over whole runs.
+-- Moments and threads, in one event.
 pub mod InterruptLaws
 pub mod ThreadLaws

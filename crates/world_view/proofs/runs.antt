@@ -3,6 +3,5 @@ pub mod SwitchParts
 pub mod PartyLaws
 pub mod SwitchLaws
 pub mod Joined
-pub mod DomainLaws
 pub mod WholeLaws
 pub mod GuardLaws

@@ -3,4 +3,5 @@ pub mod Fuel
 pub mod CodeLaws
 pub mod EventLaws
 pub mod StepLaws
+pub mod InSlot
 pub mod Clones

@@ -1,5 +1,5 @@
 -- One event of a domain in its slot, as laws: what it touches, and what it costs at most.
-use Rattle.std.specs.Prelude.{◌≡◌, ◌≢◌, ℕ, suc, ◌+◌, ◌<◌, ◌≤◌, Bool, List, [], Option, Some, None, is_some, Result, Ok, Err}
+use Rattle.std.specs.Prelude.{◌≡◌, ◌≢◌, ℕ, false, ◌+◌, ◌≤◌, Bool, List, [], Option, Some, None, is_some, Result, Ok, Err}
 use Rattle.phys_mem.specs.Mem.{Mem, word}
 use Rattle.rv_decode.specs.Table.{decode_of}
 use Rattle.rv_decode.specs.declared.Instr.{Instr}
@@ -11,7 +11,6 @@ use Rattle.sv32_walk.specs.Walk.{walk}
 use Rattle.pad_bound.specs.Bound.{worst_instruction, worst_operation}
 use Rattle.mem_system.specs.Cost.{Touch, touched_all}
 use Rattle.mem_system.specs.Worst.{HasWays}
-use Rattle.sched_table.specs.Schedule.{slot_end}
 use Rattle.call_table.specs.Domain.{Dom}
 use Rattle.hardware_check.specs.Hardware.{Hardware}
 use Rattle.image_check.specs.Own.{Own}
@@ -22,10 +21,10 @@ use Rattle.world_view.specs.Kernel.{estate, layout}
 use Rattle.world_view.specs.Cost.{hierarchy}
 use Rattle.world_view.specs.Event.{place, instruction, delivery_touches, Event, event}
 use Rattle.world_view.specs.Event.Event.{Jump, Deliver, Run}
-use Rattle.world_view.specs.Machine.{setting, Local, step}
+use Rattle.world_view.specs.Machine.{setting, Local, clock_of, part_of, step}
 use Rattle.world_view.specs.Relations.{IsDomain, own_shape, largest_step, HasFacts, MayAll}
-use Rattle.world_view.specs.Laws.{local_in}
-use Rattle.world_view.specs.Interrupts.{owner}
+use Rattle.world_view.specs.Harts.{IsInSlot, domain_on, owner_on, local_on, slot_end_on, next}
+use Rattle.world_view.specs.Laws.{OnEachHart}
 
 -- ---- what it touches
 
@@ -51,11 +50,11 @@ OwnTouchesLaw = (i : Image) (d end : ℕ) (s : Local) → Runnable i → IsDomai
     → HasFacts i.all.hardware (own_of i d) s.dom s.storage
     → MayAll i.all.hardware (own_of i d) (step_touches i.all.hardware (own_of i d) end s)
 
--- so at each moment of each slot
+-- so in each slot of each hart
 abbrev pub SlotTouchesLaw : Type 0
-SlotTouchesLaw = (i : Image) (k n : ℕ) → Runnable i →
+SlotTouchesLaw = OnEachHart (λ i h s. IsInSlot h s →
     let p = i.all.hardware in
-    MayAll p (owner i k) (step_touches p (owner i k) (slot_end i.all.schedule k) (local_in i k n))
+    MayAll p (owner_on i h s) (step_touches p (owner_on i h s) (slot_end_on i h s) (local_on i h s)))
 
 -- ---- what it costs at most, whatever the caches hold
 
@@ -87,10 +86,18 @@ PlainCostLaw = (p : Hardware) (o : Own) (pinned : Bool) (end : ℕ) (s : Local) 
     → event o s.clock end s.dom ≡ Run → next_instruction p o s.dom s.storage.mem ≢ Some Ecall
     → (step (setting p o pinned) end s).clock ≤ s.clock + worst_instruction (own_shape p o)
 
--- at each moment of each slot the caches have their ways, so each step costs no more
+-- in each slot of each hart the caches have their ways, so each event costs no more
 abbrev pub SlotCostLaw : Type 0
-SlotCostLaw = (i : Image) (k n : ℕ) → Runnable i → (local_in i k n).clock < slot_end i.all.schedule k →
-    let s = local_in i k n in
-    let end = slot_end i.all.schedule k in
-    EndsBy i.all.hardware (owner i k) s.clock end (event (owner i k) s.clock end s.dom)
-    (local_in i k (suc n)).clock
+SlotCostLaw = OnEachHart (λ i h s. IsInSlot h s →
+    let a = local_on i h s in
+    let end = slot_end_on i h s in
+    EndsBy i.all.hardware (owner_on i h s) a.clock end (event (owner_on i h s) a.clock end a.dom)
+    (clock_of h (next i h s).world))
+
+-- ---- what a hart's event is
+
+-- in a slot it is the next step of the domain whose slot it is
+abbrev pub SlotStepLaw : Type 0
+SlotStepLaw = OnEachHart (λ i h s. IsInSlot h s
+    → part_of h (domain_on i h s) (next i h s).world
+    ≡ step (setting i.all.hardware (owner_on i h s) false) (slot_end_on i h s) (local_on i h s))

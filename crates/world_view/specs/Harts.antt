@@ -2,9 +2,10 @@
 use Rattle.std.specs.Prelude.{◌≡◌, ℕ, zero, suc, ◌+◌, Bool, true, false, nat_lt, if◌then◌else◌, List, [], ◌∷◌}
 use Rattle.tp_base.specs.Table.{Table, empty, at, put}
 use Rattle.image_check.specs.Public.{Public}
+use Rattle.image_check.specs.Own.{Own}
 use Rattle.image_check.specs.Image.{Image, own_of}
 use Rattle.sched_table.specs.Schedule.{entry_of_slot, switch_entry, start, slot_end, on_hart, place_on, harts_in, hart_for}
-use Rattle.world_view.specs.Machine.{World, setting, step, clock_of, part_of, with_part, guarded, switch_on, cycles_on, noted, no_harts, with_cold}
+use Rattle.world_view.specs.Machine.{Local, World, setting, step, clock_of, part_of, with_part, guarded, switch_on, cycles_on, noted, no_harts, with_cold}
 use Rattle.world_view.specs.View.{View, view_in, view_alone}
 
 -- ---- a hart's own entries
@@ -101,6 +102,29 @@ all_cold i (suc h) = with_cold i h (all_cold i h)
 -- the image's harts after events in this order
 unfoldable pub harts : Image → List ℕ → Harts
 harts i order = after i order (record { world = all_cold i (harts_in i.all.schedule); progress = empty })
+
+-- ---- in a slot, and between two
+
+abbrev pub IsInSlot : ℕ → Harts → Type 0
+IsInSlot h s = (progress_of h s).inside ≡ true
+
+abbrev pub IsOutside : ℕ → Harts → Type 0
+IsOutside h s = (progress_of h s).inside ≡ false
+
+-- whose slot hart h is in, or else has next
+abbrev pub domain_on : Image → ℕ → Harts → ℕ
+domain_on i h s = domain_in i h (slots_of h s)
+
+abbrev pub owner_on : Image → ℕ → Harts → Own
+owner_on i h s = own_of i (domain_on i h s)
+
+-- what that domain sees and changes there
+abbrev pub local_on : Image → ℕ → Harts → Local
+local_on i h s = part_of h (domain_on i h s) s.world
+
+-- when that slot ends
+abbrev pub slot_end_on : Image → ℕ → Harts → ℕ
+slot_end_on i h s = end_on i h (slots_of h s)
 
 -- ---- what is seen
 

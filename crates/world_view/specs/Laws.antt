@@ -1,7 +1,6 @@
 -- The laws of the machine over its definitions, each as a type; they are the clauses of the functions of `laws`.
-use Rattle.std.specs.Prelude.{◌≡◌, ◌≢◌, ℕ, true, false, ◌+◌, ◌/◌, ◌%◌, ◌<◌, ◌≤◌, ◌^◌, ◌⊎◌, List, ◌∷◌, ◌++◌, length, Some, None, Result, Ok, Err, take, All}
+use Rattle.std.specs.Prelude.{◌≡◌, ◌≢◌, ℕ, true, false, ◌+◌, ◌/◌, ◌%◌, ◌<◌, ◌≤◌, ◌^◌, ◌⊎◌, List, [], ◌∷◌, ◌++◌, length, Option, Some, None, Result, Ok, Err, take, All}
 use Rattle.hardware_check.specs.Hardware.{Hardware, IsHardware, colours_of}
-use Rattle.sched_table.specs.Schedule.{entry_in}
 use Rattle.image_check.specs.Own.{Own}
 use Rattle.sv32_walk.specs.declared.access.Access.{Access}
 use Rattle.sv32_walk.specs.declared.access.WalkFault.{WalkFault}
@@ -9,11 +8,11 @@ use Rattle.sv32_walk.specs.declared.access.WalkFault.TheVariants as fault
 use Rattle.sv32_walk.specs.Walk.{walk}
 use Rattle.sv32_walk.specs.PageTableEntry.{ppn, rights_permit, leaf_word}
 use Rattle.image_check.specs.Image.{Image, own_of}
-use Rattle.phys_mem.specs.Mem.{word}
+use Rattle.phys_mem.specs.Mem.{Mem, word}
 use Rattle.image_check.specs.Pages.{frames_in}
 use Rattle.world_view.specs.Frames.{own_frame, pool, pool_frame, root_of, page_frame, clone_frames, first_tables, page_frames, free_frames}
 use Rattle.world_view.specs.Opening.{rights_in}
-use Rattle.sched_table.specs.Schedule.{entry_of_slot, start, slot_end, outgoing}
+use Rattle.sched_table.specs.Schedule.{outgoing, harts_in}
 use Rattle.mem_system.specs.Cost.{Touch, Caches, at_no_cost, and_then, touched_all}
 use Rattle.mem_system.specs.Operations as operations
 use Rattle.mem_system.specs.Sharing.{kept_at}
@@ -21,73 +20,89 @@ use Rattle.world_view.specs.Cost.{hierarchy, region}
 use Rattle.call_table.specs.Laws.{found_at}
 use Rattle.call_table.specs.Rights.{MayReach}
 use Rattle.world_view.specs.Kernel.{estate, layout, frames_for_good}
-use Rattle.world_view.specs.Machine.{caches_of, clock_of, hart_of, setting, Local, World, step, steps, dom_of, part_of, with_part, clone_of, leave_part, enter_part, prefetch_part, flush_part, switch_work, switch, whole, alone_enter, alone_out}
-use Rattle.world_view.specs.View.{view_whole, view_alone}
-use Rattle.world_view.specs.Used.{largest_of}
+use Rattle.world_view.specs.Machine.{caches_of, clock_of, hart_of, setting, Local, World, step, dom_of, part_of, with_part, clone_of, leave_part, enter_part, prefetch_part, flush_part, switch_work, whole, alone_enter, alone_out}
 use Rattle.image_check.specs.Laws.{Runnable}
-use Rattle.world_view.specs.Relations.{IsDomain, IsOwnFrame, Agree, SameSets, SamePart, Resident, KeepsSharedAlone, OwnDirty, KernelIsClean, IsKernel, AreParties, IsForGood, HasFacts, HasRights, ReachesOwn, Beside, Within, Apiece, Untouched, InTime, AllWithinPads}
+use Rattle.world_view.specs.Relations.{IsDomain, IsOwnFrame, Agree, SameSets, SamePart, Resident, KeepsSharedAlone, OwnDirty, KernelIsClean, IsKernel, AreParties, IsForGood, HasFacts, HasRights, ReachesOwn, Beside, Within, Apiece, Untouched, InTime}
+use Rattle.world_view.specs.Harts.{Harts, IsOnOneHart, IsInSlot, IsOutside, public_on, image_on, domain_in, domain_on, owner_on, start_on, slot_end_on, hart_of_domain, slots_of, switches_of, next, harts, view_on}
+use Rattle.world_view.specs.HartLaws.{AreHartsOf, IsBetween}
 
 -- ---- isolation
 
--- what is seen of a domain is what is seen of it alone
-abbrev pub IsolationLaw : Type 0
-IsolationLaw =
-    (i : Image) (d n : ℕ) → Runnable i → IsDomain i d → view_whole i d n ≡ view_alone i.all (own_of i d) d n
-
--- whatever the other domains are
+-- what is seen of a domain goes by what all may know and by its own part, whatever the other domains are and whatever the order
+-- of events: in two runs after which its hart has had as many slots, and has not begun the next, it is the same
 abbrev pub TwoRunLaw : Type 0
-TwoRunLaw = (i j : Image) (d n : ℕ) → Runnable i → Runnable j → IsDomain i d → Agree i j d
-    → view_whole i d n ≡ view_whole j d n
+TwoRunLaw =
+    (i j : Image) (d : ℕ) (one two : List ℕ) → Runnable i → Runnable j → IsDomain i d → Agree i j d
+    → AreHartsOf i one → AreHartsOf j two →
+    let h = hart_of_domain i d in
+    let s = harts i one in
+    let t = harts j two in
+    slots_of h s ≡ slots_of h t → IsBetween i h s → IsBetween j h t → view_on i d s ≡ view_on j d t
+
+-- ---- one hart
+
+-- equal in each part: each domain's state, memory, the caches and the clock of hart 0, and what switches took, in their order
+pub record SameWorld (w v : World) : Type 0 where
+  pub doms : (d : ℕ) → dom_of w d ≡ dom_of v d
+  pub storage : w.storage ≡ v.storage
+  pub caches : caches_of 0 w ≡ caches_of 0 v
+  pub clock : clock_of 0 w ≡ clock_of 0 v
+  pub used : w.used ≡ v.used
+
+-- where an image has one hart, the machine that goes from slot to slot is the one that goes from event to event
+abbrev pub WholeLaw : Type 0
+WholeLaw = (i : Image) (order : List ℕ) → Runnable i → IsOnOneHart i → AreHartsOf i order →
+    let s = harts i order in
+    IsOutside 0 s → SameWorld (whole i (slots_of 0 s)) s.world
+
+-- ---- at each moment
+
+-- on each hart of each accepted image, after every order of the harts' events
+abbrev pub OnEachHart : (Image → ℕ → Harts → Type 0) → Type 0
+OnEachHart P = (i : Image) (h : ℕ) (order : List ℕ) → Runnable i → AreHartsOf i order → h < harts_in i.all.schedule
+    → P i h (harts i order)
+
+-- of each domain
+abbrev pub OfEachDomain : (Image → ℕ → Harts → Type 0) → Type 0
+OfEachDomain P = (i : Image) (d : ℕ) (order : List ℕ) → Runnable i → IsDomain i d → AreHartsOf i order
+    → P i d (harts i order)
 
 -- ---- time
 
-abbrev pub PadLaw : Type 0
-PadLaw = (i : Image) (n : ℕ) → Runnable i → AllWithinPads i.all.schedule (whole i n).used
-
--- the largest of an entry's switches is within its pad
-abbrev pub LargestLaw : Type 0
-LargestLaw =
-    (i : Image) (n e : ℕ) → Runnable i → largest_of e (whole i n).used ≤ (entry_in i.all.schedule e).pad
-
-abbrev pub StartLaw : Type 0
-StartLaw = (i : Image) (k : ℕ) → Runnable i → clock_of 0 (switch i k (whole i k)) ≡ start i.all.schedule k
-
+-- between two slots of a hart its clock is past the end of the last one by less than the largest step, and its caches are
+-- as a switch wants them
 abbrev pub InTimeLaw : Type 0
-InTimeLaw = (i : Image) (k : ℕ) → Runnable i → InTime i 0 k (whole i k)
+InTimeLaw = OnEachHart (λ i h s. IsOutside h s → InTime (image_on i h) h (slots_of h s) s.world)
 
--- the domain of slot k, after so many of its steps
-abbrev pub local_in : Image → ℕ → ℕ → Local
-local_in i k n =
-    let d = (entry_of_slot i.all.schedule k).domain in
-    steps (setting i.all.hardware (own_of i d) false) (slot_end i.all.schedule k) n
-    (part_of 0 d (switch i k (whole i k)))
+-- a hart's clock as the work of its next switch is done, before the wait
+abbrev pub clock_after_work : Image → ℕ → Harts → ℕ
+clock_after_work i h s =
+    let on = image_on i h in
+    let k = slots_of h s in
+    clock_of h s.world
+    + (switch_work on (outgoing on.all.schedule k) (domain_in i h k) (caches_of h s.world)).cost
 
--- the clock as the work of switch k is done, before the wait
-abbrev pub clock_after_work : Image → ℕ → ℕ
-clock_after_work i k =
-    let w = whole i k in
-    let es = i.all.schedule in
-    clock_of 0 w + (switch_work i (outgoing es k) (entry_of_slot es k).domain (caches_of 0 w)).cost
-
--- every clock of slot k and of the switch into it is far from the end of its range
-pub record ClocksFit (i : Image) (k : ℕ) : Type 0 where
-  pub before : clock_of 0 (whole i k) < 2 ^ 62
-  pub worked : clock_after_work i k < 2 ^ 62
-  pub begins : start i.all.schedule k < 2 ^ 62
-  pub ends : slot_end i.all.schedule k < 2 ^ 62
-  pub within : (n : ℕ) → (local_in i k n).clock < 2 ^ 62
+-- every clock of a hart is far from the end of its range, in each slot and in each switch
+pub record ClocksFit (i : Image) (h : ℕ) (s : Harts) : Type 0 where
+  pub now : clock_of h s.world < 2 ^ 62
+  pub worked : IsOutside h s → clock_after_work i h s < 2 ^ 62
+  pub begins : start_on i h (slots_of h s) < 2 ^ 62
+  pub ends : slot_end_on i h s < 2 ^ 62
 
 -- from the limits of an image and of a run alone
 abbrev pub ClockLaw : Type 0
-ClockLaw = (i : Image) (k : ℕ) → Runnable i → k ≤ 65536 → ClocksFit i k
+ClockLaw = OnEachHart (λ i h s. slots_of h s ≤ 65536 → ClocksFit i h s)
 
 -- ---- the memory that the machine opens with
+
+abbrev pub opening_memory : Image → Mem
+opening_memory i = (harts i []).world.storage.mem
 
 -- a walk of a domain's page tables in it
 abbrev pub opening_walk : Image → ℕ → ℕ → Access → Result ℕ WalkFault
 opening_walk i d va a =
     let p = i.all.hardware in
-    (walk (whole i 0).storage.mem p.frames (root_of p (own_of i d)) va a).result
+    (walk (opening_memory i) p.frames (root_of p (own_of i d)) va a).result
 
 -- the rights that a domain's segments give the page of an address
 abbrev pub rights_at : Image → ℕ → ℕ → ℕ → Type 0
@@ -119,13 +134,13 @@ OpeningFramesLaw = (i : Image) (d n m r q : ℕ) → Runnable i → IsDomain i d
 abbrev pub OpeningZeroLaw : Type 0
 OpeningZeroLaw = (i : Image) (d n j : ℕ) → Runnable i → IsDomain i d
     → n < length (pool i.all.hardware (own_of i d)) → (n < 4) ⊎ (frames_in (own_of i d).segments ≤ n)
-    → word (whole i 0).storage.mem (pool_frame i.all.hardware (own_of i d) n) j ≡ 0
+    → word (opening_memory i) (pool_frame i.all.hardware (own_of i d) n) j ≡ 0
 
 -- and so do frames that are of no domain's pool
 abbrev pub OpeningElsewhereLaw : Type 0
 OpeningElsewhereLaw = (i : Image) (f j : ℕ) → Runnable i
     → ((d : ℕ) → IsDomain i d → own_frame i.all.hardware (own_of i d) f ≡ false)
-    → word (whole i 0).storage.mem f j ≡ 0
+    → word (opening_memory i) f j ≡ 0
 
 -- ---- whose the frames are
 
@@ -148,48 +163,40 @@ PoolPartsLaw = (i : Image) (d : ℕ) → Runnable i → IsDomain i d →
 
 -- ---- frames and page tables while the machine runs
 
--- slot k, after so many of its steps
-abbrev pub world_in : Image → ℕ → ℕ → World
-world_in i k n = with_part 0 (entry_of_slot i.all.schedule k).domain (switch i k (whole i k)) (local_in i k n)
-
--- at each moment of each slot, whoever runs, the facts of each domain hold: each frame of its pool is free, kept for good, or
--- named by its capabilities, and its page tables are what these say
+-- at each moment, whoever runs, the facts of each domain hold: each frame of its pool is free, kept for good, or named by its
+-- capabilities, and its page tables are what these say
 abbrev pub FactsLaw : Type 0
-FactsLaw = (i : Image) (k n d : ℕ) → Runnable i → IsDomain i d
-    → HasFacts i.all.hardware (own_of i d) (dom_of (world_in i k n) d) (world_in i k n).storage
+FactsLaw = OfEachDomain (λ i d s. HasFacts i.all.hardware (own_of i d) (dom_of s.world d) s.world.storage)
 
 -- so each domain reaches its own frames alone
 abbrev pub ReachLaw : Type 0
-ReachLaw = (i : Image) (k n d : ℕ) → Runnable i → IsDomain i d
-    → ReachesOwn i.all.hardware (own_of i d) (dom_of (world_in i k n) d) (world_in i k n).storage
+ReachLaw = OfEachDomain (λ i d s. ReachesOwn i.all.hardware (own_of i d) (dom_of s.world d) s.world.storage)
 
 -- and no walk leaves memory: there are page faults, and no access fault
 abbrev pub NoAccessFaultLaw : Type 0
-NoAccessFaultLaw = (i : Image) (k n d va : ℕ) (a : Access) → Runnable i → IsDomain i d
-    → (walk (world_in i k n).storage.mem i.all.hardware.frames (root_of i.all.hardware (own_of i d)) va a).result
-    ≢ Err fault.Access
+NoAccessFaultLaw = OfEachDomain (λ i d s. (va : ℕ) (a : Access)
+    → (walk s.world.storage.mem i.all.hardware.frames (root_of i.all.hardware (own_of i d)) va a).result
+    ≢ Err fault.Access)
 
 -- no leaf of theirs has wider rights than the capability through which its page is mapped
 abbrev pub RightsLaw : Type 0
-RightsLaw = (i : Image) (k n d : ℕ) → Runnable i → IsDomain i d
-    → HasRights i.all.hardware (own_of i d) (dom_of (world_in i k n) d) (world_in i k n).storage
+RightsLaw = OfEachDomain (λ i d s. HasRights i.all.hardware (own_of i d) (dom_of s.world d) s.world.storage)
 
 -- so what a walk lets through, a capability's rights let through, or the page is one that stays for good
 abbrev pub PermittedLaw : Type 0
-PermittedLaw = (i : Image) (k n d va leaf : ℕ) (a : Access) → Runnable i → IsDomain i d →
+PermittedLaw = OfEachDomain (λ i d s. (va leaf : ℕ) (a : Access) →
     let e = estate i.all.hardware (own_of i d) in
-    found_at e (world_in i k n).storage.mem va a ≡ Ok leaf
-    → MayReach e (dom_of (world_in i k n) d) va (ppn leaf) a
+    found_at e s.world.storage.mem va a ≡ Ok leaf → MayReach e (dom_of s.world d) va (ppn leaf) a)
 
 -- what the kernel has of each domain is as it should be
 abbrev pub KernelLaw : Type 0
 KernelLaw = (i : Image) (d : ℕ) → Runnable i → IsDomain i d → IsKernel i.all.hardware (own_of i d)
 
--- at each moment of each slot, whoever runs, each domain still has its frames for good
+-- at each moment, whoever runs, each domain still has its frames for good
 abbrev pub ForGoodLaw : Type 0
-ForGoodLaw = (i : Image) (k n d : ℕ) → Runnable i → IsDomain i d →
+ForGoodLaw = OfEachDomain (λ i d s.
     let p = i.all.hardware in
-    All (IsForGood p (own_of i d) (dom_of (world_in i k n) d)) (frames_for_good p (own_of i d))
+    All (IsForGood p (own_of i d) (dom_of s.world d)) (frames_for_good p (own_of i d)))
 
 -- ---- parties: who has frames and sets of its own, as each domain of an image has
 
@@ -241,16 +248,10 @@ SettledLaw = (p : Hardware) (o : Own) (c : Caches) → IsHardware p → IsKernel
     SameSets p o (flush_part h false (prefetch_part h (region p) c).caches).caches
     (flush_part h false c).caches
 
--- one event of domain e, in a slot that ends then
-unfoldable pub event_of : Image → ℕ → ℕ → World → World
-event_of i e end w = with_part 0 e w (step (setting i.all.hardware (own_of i e) false) end (part_of 0 e w))
-
--- so another domain's event leaves domain d, its memory and its part of the caches
+-- so an event of a slot leaves every domain whose slot it isn't, its memory and its part of the caches
 abbrev pub OthersEventLaw : Type 0
-OthersEventLaw = (i : Image) (d e end : ℕ) (w : World) → Runnable i → IsDomain i d → IsDomain i e → d ≢ e
-    → HasFacts i.all.hardware (own_of i e) (dom_of w e) w.storage
-    → OwnDirty i.all.hardware (own_of i e) (caches_of 0 w)
-    → Untouched i.all.hardware (own_of i d) d (event_of i e end w) w
+OthersEventLaw = OnEachHart (λ i h s. (d : ℕ) → IsDomain i d → IsInSlot h s → d ≢ domain_on i h s
+    → Untouched i.all.hardware (own_of i d) d (next i h s).world s.world)
 
 -- what is done to a domain on one hart changes nothing of another: its on-core state, its clock, and when its slot ended
 abbrev pub OtherHartLaw : Type 0
@@ -286,85 +287,88 @@ BootWorkLaw = (i : Image) (e : ℕ) (c : Caches) →
     ≡ and_then (and_then (and_then (at_no_cost c) (prefetch_part h (region p))) (flush_part h false))
     (enter_part h false (layout p (own_of i e)))
 
--- a switch from d to another
+-- before hart h's next switch, who leaves and who enters
+abbrev pub leaves_on : Image → ℕ → Harts → Option ℕ
+leaves_on i h s = outgoing (image_on i h).all.schedule (slots_of h s)
+
+-- a hart's switch from d to another
 abbrev pub SwitchOutLaw : Type 0
-SwitchOutLaw = (i : Image) (k d : ℕ) (w : World) (a : Local) → Runnable i → IsDomain i d → InTime i 0 k w
-    → outgoing i.all.schedule k ≡ Some d → (entry_of_slot i.all.schedule k).domain ≢ d
-    → Within i.all.hardware (own_of i d) (part_of 0 d w) a
-    → Apiece i.all.hardware (own_of i d) (part_of 0 d (switch i k w))
-    (alone_out i.all.hardware (own_of i d) a)
+SwitchOutLaw = OnEachHart (λ i h s. (d : ℕ) (a : Local) → IsDomain i d → IsOutside h s
+    → leaves_on i h s ≡ Some d → domain_on i h s ≢ d
+    → Within i.all.hardware (own_of i d) (part_of h d s.world) a
+    → Apiece i.all.hardware (own_of i d) (part_of h d (next i h s).world) (alone_out i.all.hardware (own_of i d) a))
 
--- a switch from another, or from nobody, to d
+-- from another, or from nobody, to d
 abbrev pub SwitchInLaw : Type 0
-SwitchInLaw = (i : Image) (k d : ℕ) (w : World) (a : Local) → Runnable i → IsDomain i d → InTime i 0 k w
-    → outgoing i.all.schedule k ≢ Some d → (entry_of_slot i.all.schedule k).domain ≡ d
-    → Apiece i.all.hardware (own_of i d) (part_of 0 d w) a
-    → Within i.all.hardware (own_of i d) (part_of 0 d (switch i k w)) (alone_enter i.all (own_of i d) k a)
+SwitchInLaw = OnEachHart (λ i h s. (d : ℕ) (a : Local) → IsDomain i d → IsOutside h s
+    → leaves_on i h s ≢ Some d → domain_on i h s ≡ d
+    → Apiece i.all.hardware (own_of i d) (part_of h d s.world) a
+    → Within i.all.hardware (own_of i d) (part_of h d (next i h s).world)
+    (alone_enter (public_on i.all h) (own_of i d) (slots_of h s) a))
 
--- a switch from d to d
+-- from d to d
 abbrev pub SwitchBothLaw : Type 0
-SwitchBothLaw = (i : Image) (k d : ℕ) (w : World) (a : Local) → Runnable i → IsDomain i d → InTime i 0 k w
-    → outgoing i.all.schedule k ≡ Some d → (entry_of_slot i.all.schedule k).domain ≡ d
-    → Within i.all.hardware (own_of i d) (part_of 0 d w) a
-    → Within i.all.hardware (own_of i d) (part_of 0 d (switch i k w))
-    (alone_enter i.all (own_of i d) k (alone_out i.all.hardware (own_of i d) a))
+SwitchBothLaw = OnEachHart (λ i h s. (d : ℕ) (a : Local) → IsDomain i d → IsOutside h s
+    → leaves_on i h s ≡ Some d → domain_on i h s ≡ d
+    → Within i.all.hardware (own_of i d) (part_of h d s.world) a
+    → Within i.all.hardware (own_of i d) (part_of h d (next i h s).world)
+    (alone_enter (public_on i.all h) (own_of i d) (slots_of h s) (alone_out i.all.hardware (own_of i d) a)))
 
--- a switch between others
+-- between others
 abbrev pub SwitchPastLaw : Type 0
-SwitchPastLaw = (i : Image) (k d : ℕ) (w : World) (a : Local) → Runnable i → IsDomain i d → InTime i 0 k w
-    → outgoing i.all.schedule k ≢ Some d → (entry_of_slot i.all.schedule k).domain ≢ d
-    → Apiece i.all.hardware (own_of i d) (part_of 0 d w) a
-    → Apiece i.all.hardware (own_of i d) (part_of 0 d (switch i k w)) a
+SwitchPastLaw = OnEachHart (λ i h s. (d : ℕ) (a : Local) → IsDomain i d → IsOutside h s
+    → leaves_on i h s ≢ Some d → domain_on i h s ≢ d
+    → Apiece i.all.hardware (own_of i d) (part_of h d s.world) a
+    → Apiece i.all.hardware (own_of i d) (part_of h d (next i h s).world) a)
 
--- from the boot on, at each moment of each slot, every shared line is in the second level
+-- from the first switch of any hart on, every shared line is in the second level
 abbrev pub ResidencyLaw : Type 0
-ResidencyLaw = (i : Image) (k n : ℕ) → Runnable i → Resident i.all.hardware (local_in i k n).caches
+ResidencyLaw = OnEachHart (λ i h s. 0 < switches_of h s → Resident i.all.hardware (caches_of h s.world))
 
 -- ---- the sets of colour 0, the kernel's
 
--- before the boot no set of the second level keeps a line
+-- before the first event no set of the second level keeps a line
 abbrev pub EmptyLaw : Type 0
-EmptyLaw =
-    (i : Image) (s way : ℕ) → kept_at (hierarchy i.all.hardware) (caches_of 0 (whole i 0)).l2 s way ≡ None
+EmptyLaw = (i : Image) (s way : ℕ) → kept_at (hierarchy i.all.hardware) (harts i []).world.l2 s way ≡ None
 
--- all that switch k touches, in order
-abbrev pub switch_touches : Image → ℕ → List Touch
-switch_touches i k =
+-- all that hart h's next switch touches, in order
+abbrev pub switch_touches : Image → ℕ → Harts → List Touch
+switch_touches i h s =
     let p = i.all.hardware in
-    let es = i.all.schedule in
-    operations.switch p.costs (clone_of i (outgoing es k)) (layout p (own_of i (entry_of_slot es k).domain))
+    operations.switch p.costs (clone_of (image_on i h) (leaves_on i h s)) (layout p (owner_on i h s))
 
--- the caches in the midst of switch k, after so many of its touches
-abbrev pub caches_in_switch : Image → ℕ → ℕ → Caches
-caches_in_switch i k n =
-    (touched_all (hierarchy i.all.hardware) false (caches_of 0 (whole i k)) (take n (switch_touches i k))).caches
+-- the hart's caches in the midst of it, after so many of its touches
+abbrev pub caches_in_switch : Image → ℕ → Harts → ℕ → Caches
+caches_in_switch i h s n =
+    (touched_all (hierarchy i.all.hardware) false (caches_of h s.world) (take n (switch_touches i h s))).caches
 
 -- after all of them the slot begins
 abbrev pub AfterSwitchLaw : Type 0
-AfterSwitchLaw = (i : Image) (k : ℕ) → Runnable i
-    → caches_in_switch i k (length (switch_touches i k)) ≡ caches_of 0 (switch i k (whole i k))
+AfterSwitchLaw = OnEachHart (λ i h s. IsOutside h s
+    → caches_in_switch i h s (length (switch_touches i h s)) ≡ caches_of h (next i h s).world)
 
--- at each moment of each switch, from the boot on, the sets of colour 0 keep shared lines alone
+-- at each moment of each switch the sets of colour 0 keep shared lines alone
 abbrev pub SwitchAloneLaw : Type 0
-SwitchAloneLaw = (i : Image) (k n : ℕ) → Runnable i → KeepsSharedAlone i.all.hardware (caches_in_switch i k n)
+SwitchAloneLaw = OnEachHart (λ i h s. (n : ℕ) → IsOutside h s
+    → KeepsSharedAlone i.all.hardware (caches_in_switch i h s n))
 
--- and at each moment of each slot
-abbrev pub SlotAloneLaw : Type 0
-SlotAloneLaw = (i : Image) (k n : ℕ) → Runnable i → KeepsSharedAlone i.all.hardware (local_in i k n).caches
+-- and after each event
+abbrev pub AloneLaw : Type 0
+AloneLaw = OnEachHart (λ i h s. KeepsSharedAlone i.all.hardware (caches_of h s.world))
 
 -- ---- dirty lines
 
 -- no line of colour 0 is ever dirty, so the kernel's shared lines cost the same whatever the domains wrote: at each moment of
 -- each switch
 abbrev pub SwitchCleanLaw : Type 0
-SwitchCleanLaw = (i : Image) (k n : ℕ) → Runnable i → KernelIsClean i.all.hardware (caches_in_switch i k n)
+SwitchCleanLaw = OnEachHart (λ i h s. (n : ℕ) → IsOutside h s
+    → KernelIsClean i.all.hardware (caches_in_switch i h s n))
 
--- and of each slot
-abbrev pub SlotCleanLaw : Type 0
-SlotCleanLaw = (i : Image) (k n : ℕ) → Runnable i → KernelIsClean i.all.hardware (local_in i k n).caches
+-- and after each event
+abbrev pub CleanLaw : Type 0
+CleanLaw = OnEachHart (λ i h s. KernelIsClean i.all.hardware (caches_of h s.world))
 
--- a domain's dirty lines lie in its own sets, so what gives way to them costs no one else: at each moment of each slot those
--- of the first level are of the domain whose slot it is
+-- a domain's dirty lines lie in its own sets, so what gives way to them costs no one else: in each slot those of its hart's
+-- first level are of the domain whose slot it is
 abbrev pub SlotDirtyLaw : Type 0
-SlotDirtyLaw = (i : Image) (k n : ℕ) → Runnable i →
-    OwnDirty i.all.hardware (own_of i (entry_of_slot i.all.schedule k).domain) (local_in i k n).caches
+SlotDirtyLaw = OnEachHart (λ i h s. IsInSlot h s → OwnDirty i.all.hardware (owner_on i h s) (caches_of h s.world))

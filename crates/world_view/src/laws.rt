@@ -1,23 +1,27 @@
 //! Laws of the machine over its definitions, each the contract of a function
 //! that does nothing: a caller that calls it may rely on the law.
-ghost use Rattle.world_view.specs.EventLaws.{StepTouchesLaw, OwnTouchesLaw, SlotTouchesLaw, StepCostLaw, PlainCostLaw, SlotCostLaw};
+ghost use Rattle.world_view.specs.EventLaws.{StepTouchesLaw, OwnTouchesLaw, SlotTouchesLaw, StepCostLaw, PlainCostLaw, SlotCostLaw, SlotStepLaw};
 ghost use Rattle.world_view.specs.HartLaws.{HartIsolationLaw, TwoOrdersLaw, HartPadLaw, HartLargestLaw, HartCountLaw, OtherHartsLaw, NextLaw, HartBetweenLaw, HartBegunLaw, HartStartLaw, HartRiseLaw, HartSlotsLaw, HartStaysLaw, OneHartLaw, EventsLaw, SameEventsLaw};
 ghost use Rattle.world_view.specs.Interrupts.{DueLaw, PromptLaw, FewLaw, AscendLaw, OwnSlotsLaw, TurnLaw, WakeLaw};
-ghost use Rattle.world_view.specs.Laws.{IsolationLaw, TwoRunLaw, PadLaw, LargestLaw, StartLaw, InTimeLaw, ClockLaw, OpeningPageLaw, OpeningRightsLaw, OpeningNoPageLaw, OpeningFramesLaw, OpeningZeroLaw, OpeningElsewhereLaw, PoolsApartLaw, KernelColourLaw, PoolPartsLaw, FactsLaw, ReachLaw, NoAccessFaultLaw, RightsLaw, PermittedLaw, KernelLaw, PartiesLaw, PartiesSwapLaw, PartyFramesLaw, OthersStepLaw, OthersLeaveLaw, OthersEnterLaw, PrefetchLaw, FlushLaw, OthersEventLaw, OtherHartLaw, OwnHartLaw, OwnStepLaw, SwitchWorkLaw, BootWorkLaw, SwitchOutLaw, SwitchInLaw, SwitchBothLaw, SwitchPastLaw, ResidencyLaw, ForGoodLaw, EmptyLaw, AfterSwitchLaw, SwitchAloneLaw, SlotAloneLaw, SettledLaw, SwitchCleanLaw, SlotCleanLaw, SlotDirtyLaw};
+ghost use Rattle.world_view.specs.Laws.{TwoRunLaw, WholeLaw, InTimeLaw, ClockLaw, OpeningPageLaw, OpeningRightsLaw, OpeningNoPageLaw, OpeningFramesLaw, OpeningZeroLaw, OpeningElsewhereLaw, PoolsApartLaw, KernelColourLaw, PoolPartsLaw, FactsLaw, ReachLaw, NoAccessFaultLaw, RightsLaw, PermittedLaw, KernelLaw, PartiesLaw, PartiesSwapLaw, PartyFramesLaw, OthersStepLaw, OthersLeaveLaw, OthersEnterLaw, PrefetchLaw, FlushLaw, OthersEventLaw, OtherHartLaw, OwnHartLaw, OwnStepLaw, SwitchWorkLaw, BootWorkLaw, SwitchOutLaw, SwitchInLaw, SwitchBothLaw, SwitchPastLaw, ResidencyLaw, ForGoodLaw, EmptyLaw, AfterSwitchLaw, SwitchAloneLaw, AloneLaw, SettledLaw, SwitchCleanLaw, CleanLaw, SlotDirtyLaw};
 
-/// What is seen of a domain is what is seen of it alone, whatever the others are.
+/// Whatever the order of the harts' events: where a domain's hart has not begun its next
+/// slot, what is seen of the domain is what is seen of it alone, by the entries of that
+/// hart, whatever the other domains are. So two orders after which the hart has had as
+/// many slots show the same, of one image or of two that agree for the domain.
 pub fn isolation()
-    ensures isolated { IsolationLaw }
+    ensures isolated { HartIsolationLaw }
+    ensures two_orders { TwoOrdersLaw }
     ensures two_runs { TwoRunLaw }
 {}
 
-/// No switch overruns its pad, and each slot begins at exactly its start. The
-/// limits of an image and of a run keep every clock far from the end of its
+/// No switch of any hart overruns its pad, and each of its slots begins at exactly its
+/// start. The limits of an image and of a run keep every clock far from the end of its
 /// range.
 pub fn pads()
-    ensures used { PadLaw }
-    ensures largest { LargestLaw }
-    ensures start { StartLaw }
+    ensures used { HartPadLaw }
+    ensures largest { HartLargestLaw }
+    ensures start { HartStartLaw }
     ensures in_time { InTimeLaw }
     ensures fit { ClockLaw }
 {}
@@ -44,8 +48,8 @@ pub fn pools()
     ensures parts { PoolPartsLaw }
 {}
 
-/// The facts of each domain's frames, capabilities and page tables hold at each
-/// moment of each slot, whoever runs, and so each domain's page tables reach its
+/// The facts of each domain's frames, capabilities and page tables hold after every
+/// order of the harts' events, whoever runs, and so each domain's page tables reach its
 /// own frames alone: so much holds of the one memory in which all tables stand.
 /// So no walk of theirs is an access fault. No leaf has wider rights than the
 /// capability through which its page is mapped: what a walk lets through, the rights
@@ -61,7 +65,7 @@ pub fn reach()
 /// What the kernel has of each domain is as it should be: whose frames are
 /// claimed for good, and where its kernel clone lies. What is claimed for good,
 /// the frames of the clone, the root, the first tables and the pages that no
-/// capability names, is so at each moment of each slot: they are the domain's own,
+/// capability names, is so after every order of events: they are the domain's own,
 /// no capability names them, and none is free.
 pub fn kernels()
     ensures kernel { KernelLaw }
@@ -69,7 +73,7 @@ pub fn kernels()
 {}
 
 /// All that an event does to the caches are its touches, and each is of a line of
-/// the domain's own, or a load of a line that all share.
+/// the domain's own, or a load of a line that all share: so in each slot of each hart.
 pub fn touches()
     ensures all { StepTouchesLaw }
     ensures own { OwnTouchesLaw }
@@ -78,7 +82,8 @@ pub fn touches()
 
 /// What an event costs at most, whatever the caches hold: an instruction the
 /// bound's part for one, and with its kernel call that and the part for an
-/// operation; a delivery the part for an operation; a jump ends with the slot.
+/// operation; a delivery the part for an operation; a jump ends with the slot. So in
+/// each slot of each hart.
 pub fn costs()
     ensures step { StepCostLaw }
     ensures plain { PlainCostLaw }
@@ -95,8 +100,8 @@ pub fn parties()
 {}
 
 /// An event of another party leaves a party's memory and its part of the caches as
-/// they were, and each phase of a switch that part; so an event of another domain
-/// leaves a domain. Where it is the party itself that leaves, its dirty lines are
+/// they were, and each phase of a switch that part; so an event of a slot leaves each
+/// domain whose slot it isn't, on its hart or on another. Where it is the party itself that leaves, its dirty lines are
 /// written back, by the prefetch or by the flush: after both it makes no difference
 /// by which.
 pub fn others_events()
@@ -119,31 +124,26 @@ pub fn harts()
     ensures others { OtherHartsLaw }
 {}
 
-/// Several harts, for every order of their events. Where a domain's hart has not
-/// begun its next slot, what is seen of the domain is what is seen of it alone, by the
-/// entries of that hart; so two orders after which the hart has had as many slots show
-/// the same. No switch of any hart overruns its pad, and no entry has more switches than
-/// its hart. A hart that isn't in a slot has not begun its next one, which begins at
-/// exactly its start. Each event of a hart adds a cycle or more to its clock and a slot
-/// at most, and leaves the others as far as they were; so how far a hart is, and what is
-/// seen of its domains, goes by the number of its own events. Where there is one hart,
-/// its entries are all.
+/// The harts of an image, for every order of their events. In a slot a hart's event is
+/// the next step of the domain whose slot it is. No entry has more switches than its
+/// hart. A hart that isn't in a slot has not begun its next one. Each event of a hart adds
+/// a cycle or more to its clock and a slot at most, and leaves the others as far as they
+/// were; so how far a hart is, and what is seen of its domains, goes by the number of its
+/// own events. Where there is one hart, its entries are all, and the machine that goes
+/// from slot to slot is this one.
 pub fn orders()
     ensures next { NextLaw }
-    ensures isolated { HartIsolationLaw }
-    ensures two_orders { TwoOrdersLaw }
-    ensures used { HartPadLaw }
-    ensures largest { HartLargestLaw }
+    ensures step { SlotStepLaw }
     ensures counted { HartCountLaw }
     ensures between { HartBetweenLaw }
     ensures begun { HartBegunLaw }
-    ensures start { HartStartLaw }
     ensures rises { HartRiseLaw }
     ensures slots { HartSlotsLaw }
     ensures stays { HartStaysLaw }
-    ensures one { OneHartLaw }
     ensures events { EventsLaw }
     ensures same_events { SameEventsLaw }
+    ensures one { OneHartLaw }
+    ensures whole { WholeLaw }
 {}
 
 /// A domain's own step does the same among others and alone, at equal cost.
@@ -153,8 +153,8 @@ pub fn own_step()
 
 /// A switch is its parts, one after the other: a domain leaves, shared lines are
 /// prefetched, on-core state is flushed, the next domain enters; at the boot nobody
-/// leaves. What it does out of a domain, into it, from it to itself, and between
-/// others.
+/// leaves. What a hart's switch does out of a domain, into it, from it to itself, and
+/// between others, after every order of events.
 pub fn switches()
     ensures work { SwitchWorkLaw }
     ensures boot { BootWorkLaw }
@@ -164,19 +164,20 @@ pub fn switches()
     ensures past { SwitchPastLaw }
 {}
 
-/// What the domains share stays where every domain finds it.
+/// What the domains share stays where every domain finds it, from the first switch of
+/// any hart on.
 pub fn residency()
     ensures resident { ResidencyLaw }
 {}
 
 /// The second level's sets of colour 0, the kernel's, keep lines that all share
-/// alone, at each moment of each switch and of each slot; before the boot no set
-/// keeps a line.
+/// alone, after every order of events and in the midst of each switch; before the first
+/// event no set keeps a line.
 pub fn kernel_sets()
     ensures empty { EmptyLaw }
     ensures after_switch { AfterSwitchLaw }
     ensures in_switches { SwitchAloneLaw }
-    ensures in_slots { SlotAloneLaw }
+    ensures alone { AloneLaw }
 {}
 
 /// No line of colour 0 is ever dirty, so the kernel's shared lines cost the same
@@ -184,7 +185,7 @@ pub fn kernel_sets()
 /// gives way to them there costs no one else.
 pub fn dirty_lines()
     ensures in_switches { SwitchCleanLaw }
-    ensures in_slots { SlotCleanLaw }
+    ensures clean { CleanLaw }
     ensures own { SlotDirtyLaw }
 {}
 

@@ -1,5 +1,5 @@
--- The facts of every domain hold at each moment of each slot, whoever runs, and their leaves are within rights: with all
--- guards on, and with any of them off.
+-- The facts of every domain hold before and after each slot, whoever runs, and their leaves are within rights: with all guards
+-- on, and with any of them off; and after each event.
 use Rattle.std.proofs.Common.{◌≡◌, ℕ, zero, suc, ◌-◌, ◌<◌, ltb, Bool, true, false, Option, Some, None, sym, refl, subst, subst₂, inl, inr, arith}
 use Rattle.std.specs.Prelude.{IfSome, length, if◌then◌else◌}
 use Rattle.tp_base.specs.Table.{at, put, at-put_other, at-put_same}
@@ -9,20 +9,19 @@ use Rattle.irq_partition.specs.declared.Moment.{Moment}
 use Rattle.irq_partition.specs.Interrupts.{next_of}
 use Rattle.call_table.specs.Domain.{Dom, is_running}
 use Rattle.image_check.specs.Image.{Image, own_of}
-use Rattle.sched_table.specs.Schedule.{entry_of_slot, slot_end}
+use Rattle.sched_table.specs.Schedule.{entry_of_slot}
 use Rattle.world_view.specs.Frames.{own_frame}
 use Rattle.world_view.specs.Kernel.{opening_dom, no_dom}
 use Rattle.world_view.specs.Event.{Storage, interrupts_of}
 use Rattle.world_view.specs.Machine.{with_hart, clock_of, Guards, setting_by, delivered, Local, World, step, steps, dom_of, part_of, with_part, Owned, if_due, first_of, first_due, delivered_or_step, step_among, steps_among, slot_if, switch, opening, whole, guarded, own_slot, ends_by, run_slot_by, switch_by, switch_on, whole_by, with_end}
 use Rattle.world_view.specs.Relations.{IsDomain, HasFacts}
-use Rattle.world_view.specs.Laws.{local_in, world_in}
 use Rattle.world_view.proofs.opening.Separate.{Separated}
 use Rattle.world_view.proofs.facts.RightsLaws.{HasBoth, both_with, same_caps, step_keeps_both}
 use Rattle.world_view.proofs.opening.OpeningFacts.{kernel_of, parties_of}
 use Rattle.world_view.proofs.opening.OpeningRights.{opening_both}
 use Rattle.world_view.proofs.opening.OpeningLaws.{opening_dom_is}
 use Rattle.world_view.proofs.steps.Fuel.{steps_by}
-use Rattle.world_view.proofs.steps.StepLaws.{delivered_caps, steps_keep}
+use Rattle.world_view.proofs.steps.StepLaws.{delivered_caps}
 use Rattle.world_view.proofs.runs.PartyLaws.{others_frames}
 use Rattle.world_view.proofs.steps.Clones.{step_same, step_keeps_so, steps_keep_so}
 
@@ -191,27 +190,7 @@ module _ (i : Image) (r : Separated i) where
       → HasFacts i.all.hardware (own_of i d) (dom_of (whole i k) d) (whole i k).storage
   all_facts = all_facts_by (guarded i)
 
-  -- and at each moment of a slot
-  pub always_both : (k n d : ℕ) → IsDomain i d → BothOf (world_in i k n) d
-  unfolding guarded
-  always_both k n d is =
-      own_keeps (guarded i) (entry_of_slot i.all.schedule k).domain (slot_end i.all.schedule k) n (switch i k (whole i k)) (r.named k)
-      (switch_keeps (guarded i) k (whole i k) (at_slot (guarded i) k)) d is
-
-  pub always_facts : (k n d : ℕ) → IsDomain i d
-      → HasFacts i.all.hardware (own_of i d) (dom_of (world_in i k n) d) (world_in i k n).storage
-  always_facts k n d is = (always_both k n d is).facts
-
   pub begun_facts : (k d : ℕ) → IsDomain i d
       → HasFacts i.all.hardware (own_of i d) (dom_of (switch i k (whole i k)) d)
       (switch i k (whole i k)).storage
   begun_facts k d is = (switch_keeps (guarded i) k (whole i k) (at_slot (guarded i) k) d is).facts
-
-  -- so it holds of the domain that runs
-  pub running_facts : (k n : ℕ) → let s = local_in i k n in
-      HasFacts i.all.hardware (own_of i (entry_of_slot i.all.schedule k).domain) s.dom s.storage
-  running_facts k n =
-      let e = (entry_of_slot i.all.schedule k).domain in
-      let s = part_of 0 e (switch i k (whole i k)) in
-      (steps_keep i.all.hardware (own_of i e) (kernel_of i r e (r.named k)) false (slot_end i.all.schedule k) n s.storage s
-      (record { facts = begun_facts k e (r.named k); outside = λ f out. refl })).facts

@@ -15,20 +15,17 @@ use Rattle.call_table.specs.Laws.{Kept}
 use Rattle.call_table.proofs.ClaimLawsSlots.{claims_at, claims_fixed, names}
 use Rattle.hardware_check.specs.Hardware.{Hardware}
 use Rattle.image_check.specs.Own.{Own}
-use Rattle.image_check.specs.Image.{own_of}
+use Rattle.image_check.specs.Image.{Image, own_of}
 use Rattle.image_check.specs.Pages.{frames_in}
 use Rattle.world_view.specs.Frames as frames
 use Rattle.world_view.specs.Frames.{root_of, table_frame, page_frame}
 use Rattle.world_view.specs.Kernel.{estate, layout, first_regions, kept_pages, fixed_claims, frames_for_good}
-use Rattle.world_view.specs.Machine.{dom_of}
 use Rattle.world_view.specs.Event.{Storage}
-use Rattle.world_view.specs.Relations.{HasFacts, IsForGood}
-use Rattle.world_view.specs.Laws.{world_in, ForGoodLaw}
-use Rattle.world_view.proofs.opening.Separate.{separated}
+use Rattle.world_view.specs.Relations.{IsDomain, HasFacts, IsForGood}
+use Rattle.world_view.proofs.opening.Separate.{Separated}
 use Rattle.world_view.proofs.actions.TableLaws.{mine_own}
 use Rattle.world_view.proofs.opening.OpeningClaims.{fix_frame, fix_table, fix_page, has_filter}
 use Rattle.world_view.proofs.opening.OpeningFacts.{kernel_of}
-use Rattle.world_view.proofs.facts.FactsLaws.{always_facts}
 
 -- ---- what a claim for good means
 
@@ -135,13 +132,12 @@ module _ (p : Hardware) (o : Own) where
         (All-cons Claimed (frames.pool_frame p o 3) from_root (at_place 3 (omega arith))
         (All-cons Claimed (root_of p o) rest (at_place 4 (omega arith)) (All-append Claimed tables pages tables_claimed pages_claimed)))))
 
-pub for_good : ForGoodLaw
-for_good i k n d r is =
-    let p = i.all.hardware in
-    let o = own_of i d in
-    let s = separated i r in
-    let facts = always_facts i s k n d is in
-    let sound = (kernel_of i s d is).has_estate in
-    All-weaker (IsClaimed (estate p o)) (IsForGood p o (dom_of (world_in i k n) d))
-    (good p o sound (dom_of (world_in i k n) d) (world_in i k n).storage facts)
-    (frames_for_good p o) (all_claimed p o (s.enough d is))
+-- of every domain of which the facts hold
+module _ (i : Image) (r : Separated i) (d : ℕ) (is : IsDomain i d) where
+  pub kept_for_good : (x : Dom) (s : Storage) → HasFacts i.all.hardware (own_of i d) x s
+      → All (IsForGood i.all.hardware (own_of i d) x) (frames_for_good i.all.hardware (own_of i d))
+  kept_for_good x s facts =
+      let p = i.all.hardware in
+      let o = own_of i d in
+      let sound = (kernel_of i r d is).has_estate in
+      All-weaker (IsClaimed (estate p o)) (IsForGood p o x) (good p o sound x s facts) (frames_for_good p o) (all_claimed p o (r.enough d is))

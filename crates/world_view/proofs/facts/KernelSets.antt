@@ -1,4 +1,5 @@
--- The second level's sets of colour 0 keep shared lines alone, at each moment of each switch and of each slot.
+-- The second level's sets of colour 0 keep shared lines alone, through each step and in the midst of each switch, and none of
+-- them is dirty.
 use Rattle.std.proofs.Common.{◌≡◌, ℕ, zero, suc, ◌-◌, Bool, false, ap, sym, ◌∙◌, List, ◌∷◌, ◌++◌, length, take, Option, Some, None, refl, subst, le_refl}
 use Rattle.tp_base.specs.Table.{at, put}
 use Rattle.std.proofs.lemmas.List.{take_all}
@@ -21,22 +22,25 @@ use Rattle.world_view.specs.Machine.{with_hart, caches_of, clock_of, setting, Lo
 use Rattle.world_view.specs.Relations.{IsDomain, HasFacts, KeepsSharedAlone, KernelIsClean, OwnDirty, left_colours}
 use Rattle.world_view.proofs.touches.CostLaws.{own_dirties}
 use Rattle.world_view.specs.EventLaws.{step_touches}
-use Rattle.world_view.specs.Laws.{local_in, switch_touches, caches_in_switch, EmptyLaw}
 use Rattle.world_view.proofs.opening.Separate.{Separated}
 use Rattle.world_view.proofs.touches.KernelTouches.{leave_may, enter_may}
 use Rattle.world_view.proofs.opening.OpeningFacts.{kernel_of}
 use Rattle.world_view.proofs.steps.StepLaws.{step_may, step_dirties, step_caches, steps_hold}
+use Rattle.world_view.proofs.steps.InSlot.{local_in}
 use Rattle.world_view.proofs.facts.FactsLaws.{begun_facts}
-use Rattle.world_view.proofs.runs.SwitchParts.{region_is, switch_is, caches-with}
-
-pub empty : EmptyLaw
-unfolding whole_by opening with_hart at put
-empty i s way = empty_law (hierarchy i.all.hardware) s way
+use Rattle.world_view.proofs.runs.SwitchParts.{all_touches, region_is, switch_is, caches-with}
 
 -- the sets of colour 0 keep shared lines alone, and none of them is dirty
-record KernelsSets (p : Hardware) (c : Caches) : Type 0 where
-  alone : KeepsSharedAlone p c
-  clean : KernelIsClean p c
+pub record KernelsSets (p : Hardware) (c : Caches) : Type 0 where
+  pub alone : KeepsSharedAlone p c
+  pub clean : KernelIsClean p c
+
+-- before the first event no line is kept
+pub cold_sets : (p : Hardware) (c : Caches) → c ≡ cold (hierarchy p) → KernelsSets p c
+unfolding cold
+cold_sets p c is =
+    subst (KernelsSets p) (sym is)
+    (record { alone = λ s way line kernel kept. absurd (cc (sym (empty_law (hierarchy p) s way) ∙ kept)); clean = cold_clean_law (hierarchy p) })
 
 -- after touches, too
 touched_sets : (p : Hardware) (own : ℕ → Bool) → IsSharing (hierarchy p) own (region p)
@@ -48,6 +52,10 @@ touched_sets p own shares ts c may h = record {
 }
 
 module _ (i : Image) (r : Separated i) where
+  -- all that switch k touches
+  abbrev pub touches_in : ℕ → List Touch
+  touches_in k = all_touches i (outgoing i.all.schedule k) (entry_of_slot i.all.schedule k).domain
+
   -- what a switch touches, some domain may touch
   pub leave_any : (out : Option ℕ) → ((e : ℕ) → out ≡ Some e → IsDomain i e)
       → MayTouchAll (hierarchy i.all.hardware) any_colour (region i.all.hardware) (leave_if i.all.hardware.costs (clone_of i out))
@@ -64,7 +72,7 @@ module _ (i : Image) (r : Separated i) where
   who_leaves (suc k) e is = subst (IsDomain i) (same_Some _ _ is) (r.named k)
 
   pub switch_any : (k : ℕ)
-      → MayTouchAll (hierarchy i.all.hardware) any_colour (region i.all.hardware) (switch_touches i k)
+      → MayTouchAll (hierarchy i.all.hardware) any_colour (region i.all.hardware) (touches_in k)
   unfolding operations.switch_by
   switch_any k =
       let p = i.all.hardware in
@@ -86,22 +94,29 @@ module _ (i : Image) (r : Separated i) where
       let kernel = kernel_of i r (entry_of_slot i.all.schedule 0).domain (r.named 0) in
       record { coloured = kernel.shares.coloured; not_kernel = refl; kernel = kernel.shares.kernel }
 
-  in_switch : (k n : ℕ) → KernelsSets i.all.hardware (caches_of 0 (whole i k))
-      → KernelsSets i.all.hardware (caches_in_switch i k n)
-  in_switch k n before =
+  -- in the midst of it, after so many of its touches
+  pub in_switch : (k n : ℕ) (c : Caches) → KernelsSets i.all.hardware c
+      → KernelsSets i.all.hardware (touched_all (hierarchy i.all.hardware) false c (take n (touches_in k))).caches
+  in_switch k n c before =
       let p = i.all.hardware in
-      touched_sets p any_colour any_sharing (take n (switch_touches i k)) (caches_of 0 (whole i k))
-      (take_may (hierarchy p) any_colour (region p) n (switch_touches i k) (switch_any k)) before
+      touched_sets p any_colour any_sharing (take n (touches_in k)) c
+      (take_may (hierarchy p) any_colour (region p) n (touches_in k) (switch_any k)) before
 
-  pub after_switch : (k : ℕ)
-      → caches_in_switch i k (length (switch_touches i k)) ≡ caches_of 0 (switch i k (whole i k))
-  unfolding switch_by switch_on guarded with_hart at put
-  after_switch k =
-      let h = hierarchy i.all.hardware in
-      ap (λ (ts : List Touch). (touched_all h false (caches_of 0 (whole i k)) ts).caches)
-      (take_all (length (switch_touches i k)) (switch_touches i k) (le_refl _))
-      ∙ sym (ap (λ (t : Touched). t.caches) (switch_is i (outgoing i.all.schedule k)
-      (entry_of_slot i.all.schedule k).domain (caches_of 0 (whole i k))))
+  -- after all of them
+  pub after_switch : (h k : ℕ) (w : World)
+      → (touched_all (hierarchy i.all.hardware) false (caches_of h w) (take (length (touches_in k)) (touches_in k))).caches
+      ≡ caches_of h (switch_on (guarded i) i h k w)
+  unfolding switch_on guarded
+  after_switch h k w =
+      ap (λ (ts : List Touch). (touched_all (hierarchy i.all.hardware) false (caches_of h w) ts).caches)
+      (take_all (length (touches_in k)) (touches_in k) (le_refl _))
+      ∙ sym (ap (λ (t : Touched). t.caches) (switch_is i (outgoing i.all.schedule k) (entry_of_slot i.all.schedule k).domain (caches_of h w)))
+      ∙ sym (caches-with h w _ _)
+
+  pub switched_sets : (h k : ℕ) (w : World) → KernelsSets i.all.hardware (caches_of h w)
+      → KernelsSets i.all.hardware (caches_of h (switch_on (guarded i) i h k w))
+  switched_sets h k w before =
+      subst (KernelsSets i.all.hardware) (after_switch h k w) (in_switch k (length (touches_in k)) (caches_of h w) before)
 
   -- after a switch of any hart none of the kernel's lines is dirty, if none was before
   pub switched_clean : (h k : ℕ) (w : World) → KernelIsClean i.all.hardware (caches_of h w)
@@ -113,12 +128,23 @@ module _ (i : Image) (r : Separated i) where
       let d = (entry_of_slot i.all.schedule k).domain in
       subst (KernelIsClean p) (sym (caches-with h w _ _))
       (subst (λ (t : Touched). KernelIsClean p t.caches) (sym (switch_is i out d (caches_of h w)))
-      (stays_clean_law (hierarchy p) any_colour (region p) false (switch_touches i k) (caches_of h w) any_sharing (switch_any k) clean))
+      (stays_clean_law (hierarchy p) any_colour (region p) false (touches_in k) (caches_of h w) any_sharing (switch_any k) clean))
 
   -- after so many steps of a slot
   record Keeping (k : ℕ) (s : Local) : Type 0 where
     sets : KernelsSets i.all.hardware s.caches
     dirty : OwnDirty i.all.hardware (own_of i (entry_of_slot i.all.schedule k).domain) s.caches
+
+  -- a step leaves the sets so
+  pub step_sets : (d end : ℕ) (s : Local) → IsDomain i d → HasFacts i.all.hardware (own_of i d) s.dom s.storage
+      → KernelsSets i.all.hardware s.caches
+      → KernelsSets i.all.hardware (step (setting i.all.hardware (own_of i d) false) end s).caches
+  step_sets d end s is facts before =
+      let p = i.all.hardware in
+      let o = own_of i d in
+      let kernel = kernel_of i r d is in
+      subst (KernelsSets p) (sym (step_caches p o false end s))
+      (touched_sets p (own_colour o) kernel.shares (step_touches p o end s) s.caches (step_may p o kernel end s facts) before)
 
   next : (k : ℕ) (s : Local)
       → HasFacts i.all.hardware (own_of i (entry_of_slot i.all.schedule k).domain) s.dom s.storage
@@ -130,8 +156,7 @@ module _ (i : Image) (r : Separated i) where
       let kernel = kernel_of i r (entry_of_slot i.all.schedule k).domain (r.named k) in
       let end = slot_end i.all.schedule k in
       record {
-        sets = subst (KernelsSets p) (sym (step_caches p o false end s))
-            (touched_sets p (own_colour o) kernel.shares (step_touches p o end s) s.caches (step_may p o kernel end s facts) h.sets);
+        sets = step_sets (entry_of_slot i.all.schedule k).domain end s (r.named k) facts h.sets;
         dirty = step_dirties p o kernel false end s facts h.dirty;
       }
 
@@ -158,16 +183,13 @@ module _ (i : Image) (r : Separated i) where
       steps_hold p (own_of i d) (kernel_of i r d (r.named k)) (Keeping k) (slot_end i.all.schedule k) (next k) n
       (part_of 0 d (switch i k (whole i k))) (begun_facts i r k d (r.named k))
       (record {
-        sets = subst (KernelsSets p) (after_switch k) (in_switch k (length (switch_touches i k)) before);
+        sets = switched_sets 0 k (whole i k) before;
         dirty = switched_dirty 0 k (whole i k);
       })
 
   between : (k : ℕ) → KernelsSets i.all.hardware (caches_of 0 (whole i k))
   unfolding whole_by opening run_slot_by own_slot with_end guarded with_part with_hart at put
-  between zero = record {
-    alone = λ s way line kernel kept. absurd (cc (sym (empty i s way) ∙ kept));
-    clean = cold_clean_law (hierarchy i.all.hardware);
-  }
+  between zero = cold_sets i.all.hardware (caches_of 0 (whole i 0)) refl
   between (suc k) =
       let sets = (in_slot k (slot_end i.all.schedule k - (clock_of 0 (switch i k (whole i k)))) (between k)).sets in
       record { alone = sets.alone; clean = sets.clean }
@@ -182,18 +204,6 @@ module _ (i : Image) (r : Separated i) where
   unfolding whole_by opening run_slot_by own_slot with_end guarded with_part with_hart cold fresh_core at put
   between_dirty zero = EachDirty-empty (IsOwnLine (hierarchy i.all.hardware) (λ _. false)) (hierarchy i.all.hardware).l1d
   between_dirty (suc k) = (in_slot k (slot_end i.all.schedule k - (clock_of 0 (switch i k (whole i k)))) (between k)).dirty
-
-  pub switches_alone : (k n : ℕ) → KeepsSharedAlone i.all.hardware (caches_in_switch i k n)
-  switches_alone k n = (in_switch k n (between k)).alone
-
-  pub slots_alone : (k n : ℕ) → KeepsSharedAlone i.all.hardware (local_in i k n).caches
-  slots_alone k n = (in_slot k n (between k)).sets.alone
-
-  pub switches_clean : (k n : ℕ) → KernelIsClean i.all.hardware (caches_in_switch i k n)
-  switches_clean k n = (in_switch k n (between k)).clean
-
-  pub slots_clean : (k n : ℕ) → KernelIsClean i.all.hardware (local_in i k n).caches
-  slots_clean k n = (in_slot k n (between k)).sets.clean
 
   pub slots_dirty : (k n : ℕ)
       → OwnDirty i.all.hardware (own_of i (entry_of_slot i.all.schedule k).domain) (local_in i k n).caches

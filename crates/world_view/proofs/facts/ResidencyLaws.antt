@@ -1,4 +1,4 @@
--- From the boot on every shared line is in the second level, at each moment of each slot.
+-- From the boot on every shared line is in the second level, as each slot begins, and through each switch.
 use Rattle.std.proofs.Common.{◌≡◌, ℕ, zero, suc, ◌-◌, false, ◌∷◌, refl, sym, subst}
 use Rattle.tp_base.specs.Table.{at, put}
 use Rattle.mem_system.specs.Cost.{Flush, Caches, cold, and_then, touched_all}
@@ -9,7 +9,6 @@ use Rattle.sched_table.specs.Schedule.{entry_of_slot, slot_end, outgoing}
 use Rattle.world_view.specs.Kernel.{layout}
 use Rattle.world_view.specs.Cost.{hierarchy, region}
 use Rattle.world_view.specs.Machine.{with_hart, caches_of, World, prefetch_part, leave_part, enter_part, part_of, with_part, switch, opening, whole, flush_by, guarded, leave_by, own_slot, prefetch_by, run_slot_by, switch_by, switch_on, switch_work_by, whole_by, with_end}
-use Rattle.world_view.specs.Laws.{local_in}
 use Rattle.world_view.specs.Relations.{Resident}
 use Rattle.world_view.proofs.opening.Separate.{Separated}
 use Rattle.world_view.proofs.touches.Hierarchies.{region_room}
@@ -80,9 +79,3 @@ module _ (i : Image) (r : Separated i) where
   unfolding whole_by opening switch_by with_hart at put
   begun_resident zero = boot_resident 0 (whole i 0) refl
   begun_resident (suc k) = switched_resident 0 (suc k) (whole i (suc k)) (after k (begun_resident k))
-
-  pub always_resident : (k n : ℕ) → Resident i.all.hardware (local_in i k n).caches
-  always_resident k n =
-      let e = (entry_of_slot i.all.schedule k).domain in
-      steps_resident i.all.hardware (own_of i e) (kernel_of i r e (r.named k)) (slot_end i.all.schedule k) n
-      (part_of 0 e (switch i k (whole i k))) (begun_facts i r k e (r.named k)) (begun_resident k)

@@ -1,5 +1,5 @@
 -- Before the first event, and so after every order of events, each domain is as it is alone.
-use Rattle.std.proofs.Common.{◌≡◌, ℕ, Bool, true, false, ◌<◌, ◌≤◌, ap, sym, ◌∙◌, refl, subst, arith, inl, List, [], ◌∷◌, ◌++◌}
+use Rattle.std.proofs.Common.{◌≡◌, ℕ, Bool, true, false, ◌<◌, ◌≤◌, ap, ap₂, sym, ◌∙◌, refl, subst, arith, inl, List, [], ◌∷◌, ◌++◌}
 use Rattle.tp_base.specs.Table.{Table, at, at-empty}
 use Rattle.set_cache.specs.Cache.{set_at}
 use Rattle.set_cache.proofs.Dirty.{EachDirty-empty}
@@ -11,9 +11,11 @@ use Rattle.mem_system.specs.Worst.{HasWays}
 use Rattle.mem_system.proofs.Clean.{cold_clean_law}
 use Rattle.hardware_check.specs.Hardware.{Hardware}
 use Rattle.call_table.specs.Domain.{Dom}
+use Rattle.image_check.specs.Public.{Public}
+use Rattle.image_check.specs.Own.{Own}
 use Rattle.image_check.specs.Image.{Image, own_of}
 use Rattle.image_check.specs.Laws.{Runnable}
-use Rattle.sched_table.specs.Schedule.{entry_in, harts_in}
+use Rattle.sched_table.specs.Schedule.{entry_in, harts_in, hart_for}
 use Rattle.world_view.specs.Cost.{hierarchy}
 use Rattle.world_view.specs.Kernel.{no_dom}
 use Rattle.world_view.specs.Event.{Storage}
@@ -21,7 +23,8 @@ use Rattle.world_view.specs.Machine.{World, with_hart, clock_of, dom_of, part_of
 use Rattle.world_view.specs.View.{view_alone}
 use Rattle.world_view.specs.Used.{count_of}
 use Rattle.world_view.specs.Relations.{IsDomain, KernelIsClean, InTime, AllWithinPads, ended_own}
-use Rattle.world_view.specs.Harts.{Harts, Progress, image_on, start_on, hart_of_domain, progress_of, slots_of, switches_of, next, after, all_cold, harts, view_on, view_alone_on}
+use Rattle.world_view.specs.Harts.{Harts, Progress, public_on, image_on, start_on, hart_of_domain, progress_of, slots_of, switches_of, next, after, all_cold, harts, view_on, view_alone_on}
+use Rattle.world_view.specs.Laws.{TwoRunLaw}
 use Rattle.world_view.specs.HartLaws.{AreHartsOf, IsBetween, HartIsolationLaw, TwoOrdersLaw, HartPadLaw, HartLargestLaw, HartCountLaw, OtherHartsLaw, NextLaw}
 use Rattle.world_view.proofs.opening.Separate.{Separated, separated}
 use Rattle.world_view.proofs.opening.OpeningLaws.{opening_dom_is, opening_frames}
@@ -133,6 +136,21 @@ hart_isolation i d order r id below early = isolated i r d (harts i order) (runn
 pub two_orders : TwoOrdersLaw
 two_orders i d one two r id below_one below_two same early late =
     hart_isolation i d one r id below_one early ∙ ap (view_alone_on i d) same ∙ sym (hart_isolation i d two r id below_two late)
+
+-- of two images that agree for it
+pub two_runs : TwoRunLaw
+unfolding view_alone_on
+two_runs i j d one two r q id a below_one below_two same early late =
+    let is' : IsDomain j d = omega (arith, r.counted, q.counted, ap (λ (p : Public). p.domains) a.all) in
+    let home : hart_of_domain i d ≡ hart_of_domain j d = ap (λ (p : Public). hart_for p.schedule d) a.all in
+    let here = hart_isolation i d one r id below_one early in
+    let there =
+    hart_isolation j d two q is' below_two (subst (λ (h : ℕ). IsBetween j h (harts j two)) home late) in
+    let slots : slots_of (hart_of_domain i d) (harts i one) ≡ slots_of (hart_of_domain j d) (harts j two) =
+    same ∙ ap (λ (h : ℕ). slots_of h (harts j two)) home in
+    here
+    ∙ ap₂ (λ (p : Public) (o : Own). view_alone (public_on p (hart_for p.schedule d)) o d (slots_of (hart_of_domain i d) (harts i one))) a.all a.own
+    ∙ ap (λ (n : ℕ). view_alone_on j d n) slots ∙ sym there
 
 pub hart_pads : HartPadLaw
 hart_pads i order r below = (running i r order below).used

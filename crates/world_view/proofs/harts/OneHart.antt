@@ -1,9 +1,10 @@
 -- Where an image has one hart, its entries are all.
-use Rattle.std.proofs.Common.{◌≡◌, ℕ, ◌+◌, ◌<◌, ◌≤◌, List, [], ◌∷◌, length, ap, ◌∙◌, refl, arith}
+use Rattle.std.proofs.Common.{◌≡◌, ℕ, ◌+◌, ◌<◌, ◌≤◌, List, [], ◌∷◌, length, get_or, zero-add, ap, ◌∙◌, refl, arith}
 use Rattle.std.specs.List.{All, enumerate_from}
 use Rattle.std.proofs.lemmas.List.Elements.{All-nil, All-cons}
+use Rattle.std.proofs.lemmas.List.FromFn.{get_or-enumerate_from}
 use Rattle.sched_table.specs.declared.schedule.Entry.{Entry}
-use Rattle.sched_table.specs.Schedule.{entries_alone, on_hart, harts_in}
+use Rattle.sched_table.specs.Schedule.{no_entry, entries_alone, on_hart, place_on, harts_in}
 use Rattle.sched_table.proofs.Harts.{one_hart_law, hart_there_law}
 use Rattle.image_check.specs.Public.{Public}
 use Rattle.image_check.specs.Image.{own_of}
@@ -27,6 +28,15 @@ without_places n (e ∷ es) = ap (λ (xs : List Entry). e ∷ xs) (without_place
 
 all_entries : (es : List Entry) → harts_in es ≡ 1 → on_hart es 0 ≡ es
 all_entries es one = ap entries_alone (one_hart_law es (on_first es (omega (arith, one)))) ∙ without_places 0 es
+
+-- and each stands at its own place
+pub all_on_first : (es : List Entry) → harts_in es ≡ 1 → (e : ℕ) → e < length (on_hart es 0) → place_on es 0 e ≡ e
+all_on_first es one e below =
+    let all = one_hart_law es (on_first es (omega (arith, one))) in
+    let few : length (on_hart es 0) ≡ length es = ap length (all_entries es one) in
+    ap (λ (placed : List (ℕ × Entry)). (get_or placed e (0, no_entry)).0) all
+    ∙ ap (λ (x : ℕ × Entry). x.0) (get_or-enumerate_from 0 es e (0, no_entry) (omega (arith, few, below)))
+    ∙ zero-add e
 
 pub one_hart : OneHartLaw
 unfolding view_alone_on

@@ -13,12 +13,14 @@ use Rattle.sched_table.specs.declared.schedule.Entry.{Entry}
 use Rattle.sched_table.specs.Schedule.{entry_in, switch_entry, pad_of, place_on, harts_in}
 use Rattle.sched_table.proofs.Harts.{hart_there_law}
 use Rattle.world_view.specs.Cost.{hierarchy}
-use Rattle.world_view.specs.Machine.{Hart, World, no_hart, hart_of, caches_of, clock_of, dom_of, part_of, with_part, with_hart, guarded, switch_on, cycles_on, noted, no_harts, with_cold}
+use Rattle.world_view.specs.Machine.{Hart, World, no_hart, hart_of, caches_of, clock_of, dom_of, part_of, with_part, with_hart, guarded, switch_on, cycles_on, noted, no_harts, with_cold, opening}
 use Rattle.world_view.specs.Used.{count_of}
 use Rattle.world_view.proofs.steps.CodeLaws.{count_of-push_same, count_of-push_other}
 use Rattle.world_view.specs.Relations.{IsDomain, Resident, KernelIsClean, HasFacts, InTime, Within, Apiece, AllWithinPads}
 use Rattle.world_view.specs.Harts.{Harts, Progress, image_on, domain_in, end_on, hart_of_domain, progress_of, slots_of, switches_of, proceeds, begins, runs, goes_on, next, after, all_cold, harts}
 use Rattle.world_view.specs.HartLaws.{LeftAlone}
+use Rattle.world_view.specs.Laws.{opening_memory}
+use Rattle.world_view.specs.Event.{Storage}
 use Rattle.world_view.proofs.opening.Separate.{Separated, separated}
 use Rattle.world_view.proofs.facts.FactsLaws.{AllBoth, step_keeps_all}
 use Rattle.world_view.proofs.facts.ResidencyLaws.{boot_resident, switched_resident}
@@ -40,6 +42,11 @@ module _ (i : Image) where
   unfolding all_cold with_hart
   storage_cold zero = refl
   storage_cold (suc n) = storage_cold n
+
+  -- memory is as it opens
+  pub opening_memory_is : opening_memory i ≡ (opening i).storage.mem
+  unfolding harts after opening with_hart
+  opening_memory_is = ap (λ (t : Storage). t.mem) (storage_cold (harts_in i.all.schedule))
 
   pub used_cold : (n : ℕ) → (all_cold i n).used ≡ []
   unfolding all_cold with_hart

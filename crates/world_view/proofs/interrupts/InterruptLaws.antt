@@ -1,14 +1,9 @@
 -- Which moments are delivered, when, and in whose slots.
-use Rattle.std.proofs.Common.{◌≡◌, ℕ, suc, ◌+◌, ◌<◌, ◌≤◌, Some, Bool, true, false, length, ◌⊎◌, inl, inr, ap, ◌∙◌, refl, arith}
-use Rattle.std.specs.Prelude.{slice_get}
+use Rattle.std.proofs.Common.{◌≡◌, ℕ, ◌+◌, ◌≤◌, Bool, true, false, length, ◌⊎◌, inl, inr, ap, ◌∙◌, refl, arith}
 use Rattle.std.proofs.lemmas.Option.{slice_get_within}
 use Rattle.tp_base.specs.Act.{either}
-use Rattle.irq_partition.specs.declared.Moment.{Moment}
-use Rattle.irq_partition.specs.Interrupts.{IsBefore}
 use Rattle.hardware_check.specs.Hardware.{Hardware}
-use Rattle.sched_table.specs.Schedule.{entry_of_slot, slot_end}
 use Rattle.image_check.specs.Own.{Own}
-use Rattle.image_check.specs.Image.{Image, own_of}
 use Rattle.call_table.specs.Domain as domain
 use Rattle.call_table.specs.Domain.{Dom, is_running, placed}
 use Rattle.call_table.proofs.ThreadLaws.{delivery_counts, call_counts}
@@ -16,16 +11,11 @@ use Rattle.world_view.specs.Kernel.{estate, layout, opening_dom}
 use Rattle.world_view.specs.Instruction.{stopped, retired_at}
 use Rattle.world_view.specs.Event.{Storage, Event, event, instruction}
 use Rattle.world_view.specs.Event.Event.{Jump, Deliver, Run}
-use Rattle.world_view.specs.Machine.{setting, Local, paid, delivered, happened, step, part_of, switch, whole, dom_of}
-use Rattle.world_view.specs.Relations.{IsDomain}
-use Rattle.world_view.specs.Laws.{local_in, world_in}
-use Rattle.world_view.specs.Interrupts.{owner, delivered_in, IsDue}
-use Rattle.world_view.proofs.opening.Separate.{Separated}
-use Rattle.world_view.proofs.steps.Fuel.{one_more_by}
+use Rattle.world_view.specs.Machine.{setting, Local, paid, delivered, happened, step}
+use Rattle.world_view.specs.Interrupts.{IsDue}
 use Rattle.world_view.proofs.steps.CodeLaws.{step-due}
 use Rattle.world_view.proofs.actions.InstructionLaws.{leaves, noted_delivered}
 use Rattle.world_view.proofs.steps.EventLaws.{due_moment, moment_due, Fits, event_fits}
-use Rattle.world_view.proofs.runs.DomainLaws.{always}
 
 -- ---- an event
 
@@ -77,42 +67,13 @@ module _ (p : Hardware) (o : Own) where
       let one = next.0 in
       omega (arith, below, one)
 
--- ---- a whole run
+-- ---- as it opens
 
-module _ (i : Image) (r : Separated i) where
-  pub due_in : (k n : ℕ) → (delivered_in i k (suc n) ≡ delivered_in i k n)
-      ⊎ ((delivered_in i k (suc n) ≡ delivered_in i k n + 1) × IsDue (owner i k) (delivered_in i k n) (local_in i k n).clock)
-  due_in k n =
-      let p = i.all.hardware in
-      let end = slot_end i.all.schedule k in
-      one_more_by (setting p (owner i k) false) end (Delivers p (owner i k))
-      (λ s below. step_delivers p (owner i k) end s) (λ s over. inl refl) n
-      (part_of 0 (entry_of_slot i.all.schedule k).domain (switch i k (whole i k)))
-
-  pub prompt_in : (k n : ℕ) → is_running (local_in i k n).dom.status ≡ true
-      → (local_in i k n).clock < slot_end i.all.schedule k
-      → IsDue (owner i k) (delivered_in i k n) (local_in i k n).clock → delivered_in i k (suc n) ≡ delivered_in i k n + 1
-  prompt_in k n =
-      let p = i.all.hardware in
-      let end = slot_end i.all.schedule k in
-      one_more_by (setting p (owner i k) false) end
-      (λ (s t : Local). is_running s.dom.status ≡ true → s.clock < end
-      → IsDue (owner i k) s.dom.delivered s.clock → t.dom.delivered ≡ s.dom.delivered + 1)
-      (λ s below runs _ due. step_prompt p (owner i k) end s runs due) (λ s over runs below due. absurd (omega (arith, over, below))) n
-      (part_of 0 (entry_of_slot i.all.schedule k).domain (switch i k (whole i k)))
-
-  none_first : (o : Own) → (opening_dom i.all.hardware o).delivered ≤ length o.moments
+module _ (p : Hardware) where
+  pub none_first : (o : Own) → AreFew p o o (opening_dom p o)
   unfolding opening_dom domain.dom_at_entry
   none_first o = omega arith
 
-  pub few_in : (k n d : ℕ) → IsDomain i d
-      → (dom_of (world_in i k n) d).delivered ≤ length (own_of i d).moments
-  few_in k n d is =
-      always i r (λ (o : Own) (x : Dom). x.delivered ≤ length o.moments) none_first
-      (λ o end s few. few_after i.all.hardware o s (step (setting i.all.hardware o false) end s)
-      (step_delivers i.all.hardware o end s) few) k n d is
-
-  -- moments ascend
-  pub ascending : (d m n : ℕ) (x y : Moment) → m < n → slice_get (own_of i d).moments m ≡ Some x
-      → slice_get (own_of i d).moments n ≡ Some y → IsBefore x y
-  ascending d m n x y less first second = (r.sound d).moments.ascend m n x y less first second
+  pub few_stay : (o : Own) (end : ℕ) (s : Local) → AreFew p o o s.dom
+      → AreFew p o o (step (setting p o false) end s).dom
+  few_stay o end s few = few_after p o s (step (setting p o false) end s) (step_delivers p o end s) few

@@ -1,5 +1,5 @@
 -- Whose turn it is at each moment, and what wakes a thread that waits.
-use Rattle.std.proofs.Common.{◌≡◌, ◌≢◌, ℕ, suc, ◌+◌, ◌<◌, true, false, true≢false, List, Some, ◌⊎◌, inl, inr, ap, sym, ◌∙◌, refl, subst}
+use Rattle.std.proofs.Common.{◌≡◌, ◌≢◌, ℕ, ◌+◌, ◌<◌, true, false, true≢false, List, Some, ◌⊎◌, inl, inr, ap, sym, ◌∙◌, refl, subst}
 use Rattle.std.specs.Prelude.{slice_get}
 use Rattle.std.proofs.lemmas.Bool.{cases_eq}
 use Rattle.tp_base.specs.Act.{either, give}
@@ -12,9 +12,7 @@ use Rattle.thread_set.specs.Threads as threads
 use Rattle.thread_set.specs.Threads.{Threads, thread_at, waits_for, with_current}
 use Rattle.thread_set.proofs.Changes.{opening-eight}
 use Rattle.hardware_check.specs.Hardware.{Hardware}
-use Rattle.sched_table.specs.Schedule.{entry_of_slot, slot_end}
 use Rattle.image_check.specs.Own.{Own}
-use Rattle.image_check.specs.Image.{Image}
 use Rattle.call_table.specs.Domain as domain
 use Rattle.call_table.specs.Domain.{Dom, is_running, placed, exited}
 use Rattle.call_table.specs.Claims.{Estate}
@@ -26,15 +24,9 @@ use Rattle.world_view.specs.Kernel.{estate, layout, opening_dom}
 use Rattle.world_view.specs.Instruction.{stopped, retired_at}
 use Rattle.world_view.specs.Event.{Storage, Event, event, noted, instruction}
 use Rattle.world_view.specs.Event.Event.{Jump, Deliver, Run}
-use Rattle.world_view.specs.Machine.{setting, Local, paid, delivered, happened, step, part_of, switch, whole, dom_of}
-use Rattle.world_view.specs.Relations.{IsDomain}
-use Rattle.world_view.specs.Laws.{local_in, world_in}
-use Rattle.world_view.specs.Interrupts.{owner, Delivers}
-use Rattle.world_view.proofs.opening.Separate.{Separated}
-use Rattle.world_view.proofs.steps.Fuel.{one_more_by}
+use Rattle.world_view.specs.Machine.{setting, Local, paid, delivered, happened, step}
 use Rattle.world_view.proofs.actions.InstructionLaws.{leaves, noted_threads}
 use Rattle.world_view.proofs.steps.EventLaws.{due_moment, Fits, event_fits}
-use Rattle.world_view.proofs.runs.DomainLaws.{always, always_running}
 
 -- ---- an instruction
 
@@ -113,7 +105,7 @@ module _ (p : Hardware) (o : Own) where
   happened_turn s (Deliver line) fits h = delivery_turn s.dom line h
   happened_turn s Run fits h = (instruction_goes_on s.clock s.dom s.storage h fits).turn
 
-  step_turn : (end : ℕ) (s : Local) → HasTurn s.dom.threads
+  pub step_turn : (end : ℕ) (s : Local) → HasTurn s.dom.threads
       → HasTurn (step (setting p o false) end s).dom.threads
   unfolding step
   step_turn end s h = happened_turn s (event o s.clock end s.dom) (event_fits o s.clock s.dom end) h
@@ -146,32 +138,12 @@ module _ (p : Hardware) (o : Own) where
         | inr (inr ended) ↦ inr (inr (inr ended))
       ]
 
-  step_wakes : (end u line : ℕ) (s : Local) → Wakes u line s (step (setting p o false) end s)
+  pub step_wakes : (end u line : ℕ) (s : Local) → Wakes u line s (step (setting p o false) end s)
   unfolding step
   step_wakes end u line s = happened_wakes u line s (event o s.clock end s.dom) (event_fits o s.clock s.dom end)
 
--- ---- a whole run
+-- ---- as it opens
 
-module _ (i : Image) (r : Separated i) where
-  first_turn : (o : Own) → HasTurn (opening_dom i.all.hardware o).threads
-  unfolding opening_dom domain.dom_at_entry threads.threads_at_entry
-  first_turn o = record { eight = opening-eight o.entry; ready = λ t below is. refl }
-
-  pub turn_in : (k n d : ℕ) → IsDomain i d → HasTurn (dom_of (world_in i k n) d).threads
-  turn_in k n d is = always i r (λ (o : Own) (x : Dom). HasTurn x.threads) first_turn (step_turn i.all.hardware) k n d is
-
-  running_turn : (k n : ℕ) → HasTurn (local_in i k n).dom.threads
-  running_turn k n = always_running i r (λ (o : Own) (x : Dom). HasTurn x.threads) first_turn (step_turn i.all.hardware) k n
-
-  pub wakes_in : (k n t line : ℕ) → t < 8
-      → waits_for line (thread_at (local_in i k n).dom.threads t).state ≡ true
-      → (thread_at (local_in i k (suc n)).dom.threads t ≡ thread_at (local_in i k n).dom.threads t)
-      ⊎ (Delivers i k n line
-      ⊎ (Signals (estate i.all.hardware (owner i k)) (local_in i k n).dom line
-      ⊎ (is_running (local_in i k (suc n)).dom.status ≢ true)))
-  wakes_in k n t line =
-      let p = i.all.hardware in
-      let end = slot_end i.all.schedule k in
-      one_more_by (setting p (owner i k) false) end (Wakes p (owner i k) t line)
-      (λ s below. step_wakes p (owner i k) end t line s) (λ s over h below waits. inl refl) n
-      (part_of 0 (entry_of_slot i.all.schedule k).domain (switch i k (whole i k))) (running_turn k n)
+pub first_turn : (p : Hardware) (o : Own) → HasTurn (opening_dom p o).threads
+unfolding opening_dom domain.dom_at_entry threads.threads_at_entry
+first_turn p o = record { eight = opening-eight o.entry; ready = λ t below is. refl }

@@ -1,11 +1,12 @@
 -- Walks of a domain's page tables in the memory that the machine opens with.
 use Rattle.std.proofs.Common.{◌≡◌, ◌∙◌, ap, sym, subst, refl, inl, inr, ℕ, ◌+◌, ◌*◌, ◌/◌, ◌^◌, ◌<◌, ◌≤◌, true, false, arith, length}
-use Rattle.std.specs.Prelude.{Some, None, Ok, Err}
+use Rattle.std.specs.Prelude.{Some, None, Result, Ok, Err}
 use Rattle.std.proofs.lemmas.Bool.{cases_Bool}
 use Rattle.tp_base.specs.Table.{empty}
 use Rattle.phys_mem.specs.Mem.{Mem, word}
 use Rattle.sv32_walk.specs.declared.access.Access.{Access}
 use Rattle.sv32_walk.specs.declared.access.WalkFault.TheVariants as fault
+use Rattle.sv32_walk.specs.declared.access.WalkFault.{WalkFault}
 use Rattle.sv32_walk.specs.PageTableEntry.{valid, ppn, vpn_0, vpn_1}
 use Rattle.sv32_walk.specs.Walk.{Walk, walk, last_level}
 use Rattle.sv32_walk.specs.Translation.{first_entry, second_entry, Allows, Points, InPage, small}
@@ -23,7 +24,6 @@ use Rattle.world_view.specs.Opening.{root_entry, rights_in, leaf_with, leaf_entr
 use Rattle.world_view.specs.Kernel.{opening_dom, estate}
 use Rattle.world_view.specs.Machine.{opening, alone_opening, whole_by}
 use Rattle.world_view.specs.Relations.{IsDomain}
-use Rattle.world_view.specs.Laws.{opening_walk}
 use Rattle.world_view.proofs.opening.Counts.{rights_there, rights_region, rights_are_good}
 use Rattle.world_view.proofs.opening.PoolLaws.{own_inside}
 use Rattle.world_view.proofs.opening.Separate.{Separated}
@@ -136,7 +136,11 @@ module _ (i : Image) (r : Separated i) (d : ℕ) (is : IsDomain i d) (va : ℕ) 
   abbrev own : Own
   own = own_of i d
 
-  own_walk : opening_walk i d va a
+  -- in the memory that the machine opens with
+  abbrev pub opened_walk : Result ℕ WalkFault
+  opened_walk = (walk (opening i).storage.mem hardware.frames (root_of hardware own) va a).result
+
+  own_walk : opened_walk
       ≡ (walk (placed hardware own empty) hardware.frames (root_of hardware own) va a).result
   unfolding whole_by alone_opening estate
   own_walk =
@@ -149,15 +153,15 @@ module _ (i : Image) (r : Separated i) (d : ℕ) (is : IsDomain i d) (va : ℕ) 
 
   pub opened_page : (q : ℕ) → va < 2 ^ 32 → rights_in own.segments (va / 4096) ≡ Some q
       → rights_permit q a ≡ true
-      → opening_walk i d va a ≡ Ok (leaf_word (page_frame hardware own (va / 4096)) q)
+      → opened_walk ≡ Ok (leaf_word (page_frame hardware own (va / 4096)) q)
   opened_page q fits e given = own_walk ∙ placed_page hardware own empty (r.sound d) (r.enough d is) va fits a q e given
 
   pub opened_refused : (q : ℕ) → va < 2 ^ 32 → rights_in own.segments (va / 4096) ≡ Some q
-      → rights_permit q a ≡ false → opening_walk i d va a ≡ Err fault.Page
+      → rights_permit q a ≡ false → opened_walk ≡ Err fault.Page
   opened_refused q fits e refused = own_walk ∙ placed_refused hardware own empty (r.sound d) (r.enough d is) va fits a q e refused
 
   pub opened_nowhere : va < 2 ^ 32 → rights_in own.segments (va / 4096) ≡ None
-      → opening_walk i d va a ≡ Err fault.Page
+      → opened_walk ≡ Err fault.Page
   opened_nowhere fits e = own_walk ∙ placed_nowhere hardware own empty (r.sound d) (r.enough d is) va fits a e
 
 -- each page has a frame of its own

@@ -1,21 +1,18 @@
 -- What another party does, or is done for it, leaves a party's frames and sets, where the dirty lines are the other's.
-use Rattle.std.proofs.Common.{◌≡◌, ◌≢◌, ℕ, Bool, true, false, IsTrue, true≢false, sym, ◌∙◌, refl, subst}
-use Rattle.tp_base.specs.Table.{at, put, at-put_other}
+use Rattle.std.proofs.Common.{◌≡◌, ℕ, Bool, true, false, IsTrue, true≢false, sym, ◌∙◌, refl, subst}
 use Rattle.phys_mem.specs.Mem.{Mem, frame_at}
 use Rattle.mem_system.specs.Cost.{Caches}
 use Rattle.mem_system.specs.Operations.{leave, enter}
 use Rattle.hardware_check.specs.Hardware.{Hardware}
 use Rattle.image_check.specs.Own.{Own}
-use Rattle.image_check.specs.Image.{Image, own_of}
 use Rattle.world_view.specs.Frames.{own_frame}
-use Rattle.world_view.specs.Kernel.{layout, no_dom}
+use Rattle.world_view.specs.Kernel.{layout}
 use Rattle.world_view.specs.Cost.{region, own_colour}
-use Rattle.world_view.specs.Machine.{with_hart, caches_of, setting, Local, World, step, steps, enter_part, dom_of, part_of, with_part}
+use Rattle.world_view.specs.Machine.{setting, Local, step, steps, enter_part}
 use Rattle.world_view.specs.EventLaws.{step_touches}
-use Rattle.world_view.specs.Laws.{event_of, PartiesSwapLaw, PartyFramesLaw, OthersStepLaw, OthersLeaveLaw, OthersEnterLaw, PrefetchLaw, FlushLaw, SettledLaw}
-use Rattle.world_view.specs.Relations.{IsDomain, SameFrames, SameSets, SamePart, OwnDirty, AreParties, HasFacts, Untouched}
-use Rattle.world_view.proofs.opening.Separate.{Separated, frames_apart}
-use Rattle.world_view.proofs.opening.OpeningFacts.{parties_of}
+use Rattle.world_view.specs.Laws.{PartiesSwapLaw, PartyFramesLaw, OthersStepLaw, OthersLeaveLaw, OthersEnterLaw, PrefetchLaw, FlushLaw, SettledLaw}
+use Rattle.world_view.specs.Relations.{SameFrames, SameSets, SamePart, OwnDirty, AreParties, HasFacts}
+use Rattle.world_view.proofs.opening.Separate.{frames_apart}
 use Rattle.world_view.proofs.touches.Hierarchies.{some_data}
 use Rattle.world_view.proofs.touches.KernelTouches.{leave_may, enter_may}
 use Rattle.world_view.proofs.touches.CostLaws.{others_touches, prefetch_others, flush_others, settled_own}
@@ -67,16 +64,6 @@ others_steps p o other end n s parties facts dirty =
       step_dirties p other parties.others_kernel false end t holds h.0,
       part_trans p o _ t s (others_step p o other end t parties holds h.0) h.1,
     )) n s facts (dirty, record { frames = λ f own. refl; sets = λ m own. refl })).1
-
--- so another domain's, in the world of all, leaves a domain
-pub others_event : (i : Image) → Separated i → (d e : ℕ) → IsDomain i d → IsDomain i e → d ≢ e
-    → (end : ℕ) (w : World)
-    → HasFacts i.all.hardware (own_of i e) (dom_of w e) w.storage → OwnDirty i.all.hardware (own_of i e) (caches_of 0 w)
-    → Untouched i.all.hardware (own_of i d) d (event_of i e end w) w
-unfolding event_of with_part with_hart at put
-others_event i r d e is ie ne end w facts dirty =
-    let h = others_step i.all.hardware (own_of i d) (own_of i e) end (part_of 0 e w) (parties_of i r d e is ie ne) facts dirty in
-    record { dom = at-put_other no_dom w.doms e d _ ne; part = record { frames = h.frames; sets = h.sets } }
 
 -- ---- phases of a switch
 

@@ -1,6 +1,6 @@
 -- Every clock of a run is far from the end of its range, by the limits of an image and of a run.
 use Rattle.std.specs.Prelude.{if◌then◌else◌}
-use Rattle.std.proofs.Common.{ℕ, zero, suc, Bool, true, false, ◌+◌, ◌*◌, ◌/◌, ◌^◌, ◌<◌, ◌≤◌, arith, mul-le-mul_right}
+use Rattle.std.proofs.Common.{ℕ, zero, suc, Bool, true, false, ◌+◌, ◌*◌, ◌/◌, ◌^◌, ◌<◌, ◌≤◌, subst, arith, mul-le-mul_right}
 use Rattle.std.proofs.lemmas.Nat.{mul-le}
 use Rattle.image_check.proofs.Padded.{few_added}
 use Rattle.pad_bound.specs.Bound.{worst_access, lines_of_shared, most_written, most_dirty, worst_instruction, worst_operation, worst_leave, worst_prefetch, worst_flush, worst_enter, bound_of}
@@ -9,17 +9,18 @@ use Rattle.image_check.specs.Own.{Own}
 use Rattle.image_check.specs.Pads.{again_of}
 use Rattle.cycle_cost.specs.Ranges.{most_access}
 use Rattle.hardware_check.specs.Hardware.{Hardware, IsHardware}
-use Rattle.image_check.specs.Image.{Image, own_of}
-use Rattle.sched_table.specs.Schedule.{entry_of_slot, start, slot_end, last_end}
+use Rattle.image_check.specs.Image.{Image}
+use Rattle.sched_table.specs.Schedule.{IsSchedule, entry_of_slot, last_end, outgoing, on_hart, harts_in}
 use Rattle.sched_table.proofs.Starts.{soon_law}
-use Rattle.world_view.specs.Machine.{part_of, switch_by, switch, whole}
+use Rattle.sched_table.proofs.HartSchedules.{hart_schedule_sound}
+use Rattle.world_view.specs.Machine.{World, caches_of, clock_of, switch_work}
 use Rattle.image_check.specs.Laws.{Runnable}
-use Rattle.world_view.specs.Cost.{}
-use Rattle.world_view.specs.Relations.{own_shape, largest_step, bound, ended_own}
+use Rattle.world_view.specs.Relations.{own_shape, largest_step, bound, ended_own, InTime}
+use Rattle.world_view.specs.Harts.{Harts, image_on, domain_in, start_on, end_on, progress_of, slots_of}
 use Rattle.world_view.specs.Laws.{ClocksFit}
-use Rattle.world_view.proofs.opening.Separate.{separated}
-use Rattle.world_view.proofs.time.ActCosts.{instruction_within}
-use Rattle.world_view.proofs.time.TimeLaws.{steps_soon, switch_ways, used_in_bound, in_time, on_time}
+use Rattle.world_view.proofs.time.TimeLaws.{used_in_bound}
+use Rattle.world_view.proofs.harts.OnHart.{separated_on}
+use Rattle.world_view.proofs.harts.Events.{IsHart}
 
 -- ---- the bound is small
 
@@ -76,50 +77,58 @@ module _ (p : Hardware) (h : IsHardware p) (o : Own) where
   unfolding bound_of
   step_small = let small = bound_small in omega (arith, small)
 
-module _ (i : Image) (r : Runnable i) where
-  -- a slot is at most a million cycles
-  slot_short : (k : ℕ) → (entry_of_slot i.all.schedule k).length ≤ 1000000
-  slot_short k = r.schedule.lengths (_)
+-- ---- the clocks of a hart
 
-  start_soon : (k : ℕ) → start i.all.schedule k ≤ 2000000 * k + 1000000
-  start_soon k = soon_law i.all.schedule k r.schedule
+module _ (i : Image) (r : Runnable i) (h : ℕ) (is : h < harts_in i.all.schedule) where
+  own_schedule : IsSchedule (on_hart i.all.schedule h)
+  own_schedule = hart_schedule_sound i.all.schedule h r.schedule (r.harts.each h is)
+
+  start_soon : (k : ℕ) → start_on i h k ≤ 2000000 * k + 1000000
+  start_soon k = soon_law (on_hart i.all.schedule h) k own_schedule
+
+  -- a slot is at most a million cycles
+  pub end_soon : (k : ℕ) → end_on i h k ≤ 2000000 * k + 2000000
+  end_soon k =
+      let begins = start_soon k in
+      let lasts : (entry_of_slot (on_hart i.all.schedule h) k).length ≤ 1000000 = own_schedule.lengths _ in
+      omega (arith, begins, lasts)
 
   -- the end of the slot before
-  last_end_soon : (k : ℕ) → last_end i.all.schedule k ≤ 2000000 * k + 1000000
+  last_end_soon : (k : ℕ) → last_end (on_hart i.all.schedule h) k ≤ 2000000 * k + 1000000
   last_end_soon zero = omega arith
-  last_end_soon (suc k) =
-      let before = start_soon k in
-      let slot = slot_short k in
-      omega (arith, before, slot)
+  last_end_soon (suc k) = let before = end_soon k in omega (arith, before)
 
-  pub clocks_fit : (k : ℕ) → k ≤ 65536 → ClocksFit i k
-  unfolding switch_by
-  clocks_fit k few =
-      let p = i.all.hardware in
-      let es = i.all.schedule in
-      let w = whole i k in
-      let time = in_time i (separated i r) k in
-      let soon = time.soon in
+  clock_if : (b : Bool) (k : ℕ) (w : World) → k ≤ 65536 → IsHart i b h k w → clock_of h w < 2 ^ 61
+  clock_if true k w few its = let soon = its.soon in let ends = end_soon k in omega (arith, few, soon, ends)
+  clock_if false k w few its =
+      let soon = its.soon in
+      let ended = last_end_soon k in
+      let largest = step_small i.all.hardware r.hardware (ended_own (image_on i h) k) in
+      omega (arith, few, soon, ended, largest)
+
+  pub clock_soon : (s : Harts) → IsHart i (progress_of h s).inside h (slots_of h s) s.world → slots_of h s ≤ 65536
+      → clock_of h s.world < 2 ^ 61
+  clock_soon s its few = clock_if (progress_of h s).inside (slots_of h s) s.world few its
+
+  -- the work of a switch is done by then
+  worked : (k : ℕ) (w : World) → k ≤ 65536 → InTime (image_on i h) h k w
+      → clock_of h w + (switch_work (image_on i h) (outgoing (on_hart i.all.schedule h) k) (domain_in i h k) (caches_of h w)).cost < 2 ^ 62
+  worked k w few time =
+      let used = used_in_bound (image_on i h) (separated_on i r h is) h k w time in
       let last = last_end_soon k in
-      let first = start_soon k in
-      let slot = slot_short k in
-      let largest = step_small p r.hardware (ended_own i k) in
-      let most = bound_small p r.hardware (ended_own i k) in
-      let used = used_in_bound i (separated i r) 0 k w time in
-      let on = on_time i (separated i r) k in
-      let timed = (separated i r).timed in
-      let base = timed.base in
-      let d = (entry_of_slot es k).domain in
-      let begun = part_of 0 d (switch i k w) in
-      let within = instruction_within p (own_of i d) 0 begun.dom begun.storage in
-      let own_step = step_small p r.hardware (own_of i d) in
-      let early : begun.clock < slot_end es k + largest_step p (own_of i d) = omega (arith, on, within, base) in
+      let most = bound_small i.all.hardware r.hardware (ended_own (image_on i h) k) in
+      omega (arith, used, last, most, few)
+
+  pub clocks_fit : (s : Harts) → IsHart i (progress_of h s).inside h (slots_of h s) s.world → slots_of h s ≤ 65536
+      → ClocksFit i h s
+  clocks_fit s its few =
+      let k = slots_of h s in
+      let now = clock_soon s its few in
+      let begins = start_soon k in
+      let ends = end_soon k in
       record {
-        before = omega (arith, soon, last, largest, few);
-        worked = omega (arith, used, last, most, few);
-        begins = omega (arith, first, few);
-        ends = omega (arith, first, slot, few);
-        within = λ n.
-            let clock = (steps_soon p timed (own_of i d) false (slot_end es k) n begun (record { clock = early; ways = switch_ways i 0 k w time.ways })).clock in
-            omega (arith, clock, first, slot, own_step, few);
+        now = omega (arith, now);
+        worked = λ out. worked k s.world few (subst (λ (b : Bool). IsHart i b h k s.world) out its);
+        begins = omega (arith, begins, few);
+        ends = omega (arith, ends, few);
       }

@@ -27,9 +27,8 @@ use Rattle.world_view.specs.Machine.{with_hart, caches_of, clock_of, setting, Lo
 use Rattle.world_view.specs.Used.{largest_of}
 use Rattle.world_view.specs.Relations.{own_shape, largest_step, bound, ended_own, InTime, AllWithinPads}
 use Rattle.world_view.proofs.opening.Separate.{Separated}
-use Rattle.world_view.specs.Laws.{local_in}
 use Rattle.world_view.specs.EventLaws.{EndsBy, next_instruction, StepCostLaw, PlainCostLaw}
-use Rattle.world_view.proofs.steps.Fuel.{IsTimed, StaysWithin, event_within, step_later, steps_by, one_more_by}
+use Rattle.world_view.proofs.steps.Fuel.{IsTimed, StaysWithin, event_within, step_later, steps_by}
 use Rattle.world_view.proofs.time.ActCosts.{instruction_within, delivery_within, plain_within}
 use Rattle.world_view.proofs.runs.SwitchParts.{all_touches, switch_is, caches-with, clock-with}
 use Rattle.world_view.proofs.facts.KernelSets.{leave_any, who_leaves, any_sharing, between_clean, between_dirty}
@@ -232,37 +231,6 @@ module _ (i : Image) (r : Separated i) where
   pub on_time : (k : ℕ) → clock_of 0 (switch i k (whole i k)) ≡ start i.all.schedule k
   unfolding switch_by
   on_time k = switch_on_start i r 0 k (whole i k) (r.padded k) (in_time k)
-
-  -- at each moment of a slot
-  soon_in : (k n : ℕ)
-      → IsSoon i.all.hardware r.timed (own_of i (entry_of_slot i.all.schedule k).domain) false
-      (slot_end i.all.schedule k) (local_in i k n)
-  soon_in k n =
-      let d = (entry_of_slot i.all.schedule k).domain in
-      steps_soon i.all.hardware r.timed (own_of i d) false (slot_end i.all.schedule k) n
-      (part_of 0 d (switch i k (whole i k))) (begins_soon k (in_time k))
-
-  Timely : ℕ → Local → Local → Type 0
-  Timely k s t =
-      let end = slot_end i.all.schedule k in
-      s.clock < end → HasWays (hierarchy i.all.hardware) s.caches
-      → EndsBy i.all.hardware (own_of i (entry_of_slot i.all.schedule k).domain) s.clock end
-      (event (own_of i (entry_of_slot i.all.schedule k).domain) s.clock end s.dom) t.clock
-
-  pub slot_costs : (k n : ℕ) → (local_in i k n).clock < slot_end i.all.schedule k →
-      let s = local_in i k n in
-      let end = slot_end i.all.schedule k in
-      EndsBy i.all.hardware (own_of i (entry_of_slot i.all.schedule k).domain) s.clock end
-      (event (own_of i (entry_of_slot i.all.schedule k).domain) s.clock end s.dom)
-      (local_in i k (suc n)).clock
-  unfolding Timely
-  slot_costs k n below =
-      let p = i.all.hardware in
-      let o = own_of i (entry_of_slot i.all.schedule k).domain in
-      let end = slot_end i.all.schedule k in
-      one_more_by (setting p o false) end (Timely k) (λ s early _ ways. step_costs p o false end s ways)
-      (λ s past early ways. absurd (omega (arith, past, early)))
-      n (part_of 0 (entry_of_slot i.all.schedule k).domain (switch i k (whole i k))) below (soon_in k n).ways
 
 pub within_append : (es : List Entry) (us vs : List (ℕ × ℕ)) → AllWithinPads es us → AllWithinPads es vs
     → AllWithinPads es (us ++ vs)

@@ -12,16 +12,14 @@ use Rattle.tp_answer.specs.Runs.{report}
 use Rattle.tp_answer.specs.declared.status.Status.TheVariants.{Done}
 use Rattle.tp_answer.specs.TopCall.{Delivers}
 use Rattle.tp_answer.proofs.Answers.{delivered, nothing_held}
-use Rattle.tp_answer.proofs.Runs.{after_one, after_many}
+use Rattle.tp_answer.proofs.Runs.{of_one_hart}
 use Rattle.tp_run.proofs.run.run_image.Goals as goal
 
 pub returns-then-has_one_hart : goal.returns-then-has_one_hart
-unfolding report machine.report
 returns-then-has_one_hart g c =
     let i = image_from c.args.image.now in
     let one = eqb-true (harts_in i.all.schedule) 1 (sym c.has_one_hart.ensures.value ∙ c.if-has_one_hart.true) in
-    let same : machine.report i c.args.slots ≡ report i c.args.choice c.args.slots =
-    ap (λ (w : World). report_of i w) (sym (after_one i c.args.choice c.args.slots one)) in
+    let same = of_one_hart i c.args.choice c.args.slots c.runnable.ensures.runnable one in
     record {
       delivers =
           subst (λ (t : List ℕ). Delivers (Done, t) c.run_machine.result (state g.K.Sink c.args.out.now)
@@ -39,15 +37,10 @@ of_parts t c n = report_of (image_from t) (ran (image_from t) c n)
 pub returns-in-Ok : goal.returns-in-Ok
 unfolding report
 returns-in-Ok g c =
-    let i = image_from c.args.image.now in
     let r = c.in-Ok.run' in
-    let is = sym c.has_one_hart.ensures.value ∙ c.if-has_one_hart.false in
-    let many : harts_in i.all.schedule ≢ 1 = λ e. true≢false (sym (eq-eqb (harts_in i.all.schedule) 1 e) ∙ is) in
-    let own : of_parts r.record_of r.choice r.slots ≡ of_parts c.args.image.now c.args.choice c.args.slots =
+    let same : of_parts r.record_of r.choice r.slots ≡ report (image_from c.args.image.now) c.args.choice c.args.slots =
     ap (λ (t : text.Raw). of_parts t r.choice r.slots) c.in-Ok.ensures.image
     ∙ ap₂ (λ (x : Choice) (n : ℕ). of_parts c.args.image.now x n) c.in-Ok.ensures.choice c.in-Ok.ensures.slots in
-    let same : of_parts r.record_of r.choice r.slots ≡ report i c.args.choice c.args.slots =
-    own ∙ ap (λ (w : World). report_of i w) (sym (after_many i c.args.choice c.args.slots many)) in
     let old = state g.K.Sink c.args.out.now in
     let new = state g.K.Sink c.write_report.new.out in
     record {

@@ -1,5 +1,7 @@
-use Rattle.world_view.proofs.opening.Separate.{separated}
-use Rattle.world_view.proofs.time.TimeLaws.{step_costs, plain_costs, slot_costs}
+use Rattle.world_view.specs.Harts.{harts}
+use Rattle.world_view.proofs.time.TimeLaws.{step_costs, plain_costs}
+use Rattle.world_view.proofs.harts.Isolation.{running}
+use Rattle.world_view.proofs.harts.Always.{slot_costs}
 use Rattle.world_view.proofs.laws.costs.Goals as goal
 
 pub returns-clause-step : goal.returns-clause-step
@@ -9,4 +11,4 @@ pub returns-clause-plain : goal.returns-clause-plain
 returns-clause-plain c = plain_costs
 
 pub returns-clause-in_slots : goal.returns-clause-in_slots
-returns-clause-in_slots c i k n r below = slot_costs i (separated i r) k n below
+returns-clause-in_slots c i h order r below is within = slot_costs i r h is (harts i order) (running i r order below) within

@@ -1,5 +1,7 @@
-use Rattle.world_view.proofs.opening.Separate.{separated}
-use Rattle.world_view.proofs.runs.PartyLaws.{others_step, others_leave, others_enter, prefetch_leaves, flush_leaves, settled, others_event}
+use Rattle.world_view.specs.Harts.{harts}
+use Rattle.world_view.proofs.runs.PartyLaws.{others_step, others_leave, others_enter, prefetch_leaves, flush_leaves, settled}
+use Rattle.world_view.proofs.harts.Isolation.{running}
+use Rattle.world_view.proofs.harts.Always.{others_event}
 use Rattle.world_view.proofs.laws.others_events.Goals as goal
 
 pub returns : goal.returns
@@ -10,5 +12,5 @@ returns c = record {
   prefetch = prefetch_leaves;
   flush = flush_leaves;
   settled = settled;
-  event = λ i d e end w r is ie ne facts dirty. others_event i (separated i r) d e is ie ne end w facts dirty;
+  event = λ i h order r below is. others_event i r h is (harts i order) (running i r order below);
 }

@@ -1,6 +1,7 @@
-use Rattle.world_view.proofs.opening.Separate.{separated}
-use Rattle.world_view.proofs.facts.ResidencyLaws.{always_resident}
+use Rattle.world_view.specs.Harts.{harts}
+use Rattle.world_view.proofs.harts.Isolation.{running}
+use Rattle.world_view.proofs.harts.Always.{resident}
 use Rattle.world_view.proofs.laws.residency.Goals as goal
 
 pub returns : goal.returns
-returns c = record { resident = λ i k n r. always_resident i (separated i r) k n }
+returns c = record { resident = λ i h order r below is. resident i r h is (harts i order) (running i r order below) }
