@@ -1,0 +1,10 @@
+pub mod Steps
+pub mod Ahead
+pub mod Commuting
+pub mod First
+pub mod Slots
+pub mod Sorted
+pub mod Ends
+pub mod Drawn
+pub mod Small
+pub mod Two
